@@ -1,0 +1,36 @@
+ghost use Rattle.std.specs.Prelude.{◌≡◌};
+ghost use Rattle.ptu_units.specs.Kind.{code_of, kind_of};
+
+/// A kind of message that a grandmaster grants by unicast negotiation, in the order in which kinds are listed
+/// (IEEE 1588-2019 clause 16.1.1).
+#[derive(Clone, Copy, Debug, PartialEq, Eq, PartialOrd, Ord, Hash)]
+pub enum Kind {
+    Announce,
+    Sync,
+    DelayResp,
+}
+
+impl Kind {
+    /// The kind with this messageType, or `None` where no kind has it (IEEE 1588-2019 table 36).
+    pub fn of(code: u8) -> Option<Kind>
+        ensures { result ≡ kind_of code }
+    {
+        match code {
+            11 => Some(Kind::Announce),
+            0 => Some(Kind::Sync),
+            9 => Some(Kind::DelayResp),
+            _ => None,
+        }
+    }
+
+    /// The messageType of the kind (IEEE 1588-2019 table 36).
+    pub fn code(self) -> u8
+        ensures { result ≡ code_of self }
+    {
+        match self {
+            Kind::Announce => 11,
+            Kind::Sync => 0,
+            Kind::DelayResp => 9,
+        }
+    }
+}

@@ -1,0 +1,16 @@
+//! What every layer counts in: kinds of message, logarithms of intervals, moments and timestamps.
+#![tactic(auto)]
+
+mod kind;
+mod log;
+mod moment;
+mod stamp;
+pub mod timescale;
+
+pub use kind::Kind;
+pub use log::{Log, period, rate};
+pub use moment::Moment;
+pub use stamp::Stamp;
+
+#[cfg(test)]
+mod tests;

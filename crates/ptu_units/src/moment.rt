@@ -1,0 +1,43 @@
+ghost use Rattle.std.specs.Prelude.{◌≡◌, ◌<◌, ◌^◌};
+ghost use Rattle.std.specs.Option.{SomeIff};
+
+use std::marker::Model;
+
+/// A moment in whole nanoseconds from a stated zero, below 2^62. A clause sees it as that number.
+#[derive(Clone, Copy, Debug, PartialEq, Eq, PartialOrd, Ord, Hash)]
+pub struct Moment {
+    nanos: u64,
+}
+
+impl Model for Moment {
+    ghost use Rattle.std.specs.Prelude.{ℕ, ◌<◌, ◌^◌};
+
+    ghost Value = { ℕ };
+
+    ghost view = { λ m. m.nanos };
+
+    ghost invariant = { λ m. m.nanos < 2 ^ 62 };
+
+    ghost inverse = { λ n. record { nanos = n } };
+}
+
+impl Moment {
+    /// The moment of this many nanoseconds, or `None` from 2^62 on.
+    pub fn of(nanos: u64) -> Option<Moment>
+        ensures { SomeIff result (nanos < 2 ^ 62) nanos }
+    {
+        if nanos < 1 << 62 {
+            Some(Moment { nanos })
+        } else {
+            None
+        }
+    }
+
+    /// The nanoseconds from zero, below 2^62.
+    pub fn nanos(self) -> u64
+        ensures value { result ≡ self }
+        ensures below { result < 2 ^ 62 }
+    {
+        self.nanos
+    }
+}
