@@ -3,12 +3,14 @@
 
 mod kind;
 mod log;
+mod memory;
 mod moment;
 mod stamp;
 pub mod timescale;
 
 pub use kind::Kind;
 pub use log::{Log, period, rate};
+pub use memory::OutOfMemory;
 pub use moment::Moment;
 pub use stamp::Stamp;
 
