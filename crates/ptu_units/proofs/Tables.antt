@@ -1,5 +1,5 @@
 -- What the tables of rates and periods have at the place of a logarithm.
-use Rattle.std.proofs.Common.{◌≡◌, ℕ, suc, zero, ◌*◌, List, [], ◌∷◌, get_or, refl, arith, ℤ, pos, negsuc}
+use Rattle.std.proofs.Common.{◌≡◌, ◌≤◌, ℕ, suc, zero, ◌*◌, List, [], ◌∷◌, get_or, refl, arith, ℤ, pos, negsuc}
 use Rattle.std.proofs.lemmas.Int.{ints}
 use Rattle.ptu_units.specs.Log.{IsLog, place_of, rate_of, period_of}
 
@@ -56,3 +56,35 @@ rate-mul-period (negsuc (suc (suc (suc (suc zero))))) r = refl
 rate-mul-period (negsuc (suc (suc (suc (suc (suc zero)))))) r = refl
 rate-mul-period (negsuc (suc (suc (suc (suc (suc (suc zero))))))) r = refl
 rate-mul-period (negsuc (suc (suc (suc (suc (suc (suc (suc n)))))))) r = absurd (omega (arith, ints, r.least))
+
+pub rate_range : (l : ℤ) → IsLog l → (1 ≤ rate_of l) × (rate_of l ≤ 2048)
+rate_range (pos zero) r = (omega arith, omega arith)
+rate_range (pos (suc zero)) r = (omega arith, omega arith)
+rate_range (pos (suc (suc zero))) r = (omega arith, omega arith)
+rate_range (pos (suc (suc (suc zero)))) r = (omega arith, omega arith)
+rate_range (pos (suc (suc (suc (suc zero))))) r = (omega arith, omega arith)
+rate_range (pos (suc (suc (suc (suc (suc n)))))) r = absurd (omega (arith, ints, r.greatest))
+rate_range (negsuc zero) r = (omega arith, omega arith)
+rate_range (negsuc (suc zero)) r = (omega arith, omega arith)
+rate_range (negsuc (suc (suc zero))) r = (omega arith, omega arith)
+rate_range (negsuc (suc (suc (suc zero)))) r = (omega arith, omega arith)
+rate_range (negsuc (suc (suc (suc (suc zero))))) r = (omega arith, omega arith)
+rate_range (negsuc (suc (suc (suc (suc (suc zero)))))) r = (omega arith, omega arith)
+rate_range (negsuc (suc (suc (suc (suc (suc (suc zero))))))) r = (omega arith, omega arith)
+rate_range (negsuc (suc (suc (suc (suc (suc (suc (suc n)))))))) r = absurd (omega (arith, ints, r.least))
+
+pub period_range : (l : ℤ) → IsLog l → (7812500 ≤ period_of l) × (period_of l ≤ 16000000000)
+period_range (pos zero) r = (omega arith, omega arith)
+period_range (pos (suc zero)) r = (omega arith, omega arith)
+period_range (pos (suc (suc zero))) r = (omega arith, omega arith)
+period_range (pos (suc (suc (suc zero)))) r = (omega arith, omega arith)
+period_range (pos (suc (suc (suc (suc zero))))) r = (omega arith, omega arith)
+period_range (pos (suc (suc (suc (suc (suc n)))))) r = absurd (omega (arith, ints, r.greatest))
+period_range (negsuc zero) r = (omega arith, omega arith)
+period_range (negsuc (suc zero)) r = (omega arith, omega arith)
+period_range (negsuc (suc (suc zero))) r = (omega arith, omega arith)
+period_range (negsuc (suc (suc (suc zero)))) r = (omega arith, omega arith)
+period_range (negsuc (suc (suc (suc (suc zero))))) r = (omega arith, omega arith)
+period_range (negsuc (suc (suc (suc (suc (suc zero)))))) r = (omega arith, omega arith)
+period_range (negsuc (suc (suc (suc (suc (suc (suc zero))))))) r = (omega arith, omega arith)
+period_range (negsuc (suc (suc (suc (suc (suc (suc (suc n)))))))) r = absurd (omega (arith, ints, r.least))

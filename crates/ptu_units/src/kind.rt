@@ -1,4 +1,4 @@
-ghost use Rattle.std.specs.Prelude.{◌≡◌};
+ghost use Rattle.std.specs.Prelude.{◌≡◌, ◌<◌};
 ghost use Rattle.ptu_units.specs.Kind.{code_of, kind_of};
 
 /// A kind of message that a grandmaster grants by unicast negotiation, in the order in which kinds are listed
@@ -25,7 +25,8 @@ impl Kind {
 
     /// The messageType of the kind (IEEE 1588-2019 table 36).
     pub fn code(self) -> u8
-        ensures { result ≡ code_of self }
+        ensures code { result ≡ code_of self }
+        ensures four_bits { result < 16 }
     {
         match self {
             Kind::Announce => 11,

@@ -1,4 +1,4 @@
-ghost use Rattle.std.specs.Prelude.{◌≡◌, ◌*◌};
+ghost use Rattle.std.specs.Prelude.{◌≡◌, ◌*◌, ◌≤◌};
 ghost use Rattle.std.specs.Option.{SomeIff};
 ghost use Rattle.ptu_units.specs.Log.{IsLog, IsLogOf, place_of, rate_of, period_of};
 
@@ -80,7 +80,8 @@ impl Log {
 
 /// The rate of a message with this logarithm, in sixteenths of a message per second.
 pub fn rate(log: Log) -> u64
-    ensures { result ≡ rate_of log }
+    ensures rate { result ≡ rate_of log }
+    ensures range { (1 ≤ result) × (result ≤ 2048) }
 {
     RATES[log.place()]
 }
@@ -88,6 +89,7 @@ pub fn rate(log: Log) -> u64
 /// The mean interval of this logarithm, in nanoseconds.
 pub fn period(log: Log) -> u64
     ensures period { result ≡ period_of log }
+    ensures range { (7812500 ≤ result) × (result ≤ 16000000000) }
     // What a message pays at its rate over its period is the same for every logarithm.
     ensures payment { rate_of log * period_of log ≡ 16 * 1000000000 }
 {

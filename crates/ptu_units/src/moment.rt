@@ -1,4 +1,4 @@
-ghost use Rattle.std.specs.Prelude.{◌≡◌, ◌<◌, ◌^◌};
+ghost use Rattle.std.specs.Prelude.{◌≡◌, ◌<◌, ◌^◌, max};
 ghost use Rattle.std.specs.Option.{SomeIff};
 
 use std::marker::Model;
@@ -39,5 +39,25 @@ impl Moment {
         ensures below { result < 2 ^ 62 }
     {
         self.nanos
+    }
+
+    /// The later of the two moments.
+    pub fn latest(self, other: Moment) -> Moment
+        ensures { result ≡ max self other }
+    {
+        if self.nanos < other.nanos {
+            other
+        } else {
+            self
+        }
+    }
+}
+
+/// The zero that moments count from.
+impl Default for Moment {
+    ghost is_default = { λ m. m ≡ 0 };
+
+    fn default() -> Moment {
+        Moment { nanos: 0 }
     }
 }
