@@ -1,0 +1,154 @@
+ghost use Rattle.std.specs.Prelude.{◌≡◌, ◌<◌, ◌≤◌, ◌^◌, ◌-◌, ◌==◌, length, take, drop, slice_get, Some, None, IfSome, MatchOption, option_and_then, pos, negsuc};
+ghost use Rattle.std.specs.List.{slice_split};
+ghost use Rattle.ptu_lines.specs.Words.{value_of, number_of, number_within, has_sign, int_within, log_within, ip_of, clock_of, octets_of};
+
+use crate::line_words::{part, parts};
+
+/// The most digits of a NUM.
+const MOST_DIGITS: usize = 19;
+
+// The number that digits of this base write, in either case.
+fn value(word: &[u8], base: u32) -> Option<u64>
+    requires low { 2 ≤ base }
+    requires high { base ≤ 16 }
+    requires fits { base ^ length word.now ≤ 2 ^ 64 }
+    ensures { result ≡ value_of base word.now }
+{
+    let mut value = 0;
+    for octet in word {
+        let digit = char::from(*octet).to_digit(base)?;
+        value = value * u64::from(base) + u64::from(digit);
+    }
+    Some(value)
+}
+
+// NUM, without a further range.
+fn plain_number(word: &[u8]) -> Option<u64>
+    ensures { result ≡ number_of word.now }
+{
+    match word {
+        [] => None,
+        [b'0', _, ..] => None,
+        _ if word.len() > MOST_DIGITS => None,
+        _ => value(word, 10),
+    }
+}
+
+/// NUM: the number that a word writes in decimal digits, at most 19 of them and without a leading 0 unless it is `0`,
+/// or `None` where the word is of another form or the number is not from `least` to `greatest`.
+pub fn number(word: &[u8], least: u64, greatest: u64) -> Option<u64>
+    ensures { result ≡ number_within word.now least greatest }
+{
+    let value = plain_number(word)?;
+    if least <= value && value <= greatest {
+        Some(value)
+    } else {
+        None
+    }
+}
+
+// The number from 0 to 255 at this place between dots.
+fn byte_at(word: &[u8], place: usize) -> Option<u32>
+    ensures value { result ≡ option_and_then (λ text. number_within text 0 255) (slice_get (slice_split (λ octet. octet == 46) word.now) place) }
+    ensures below { IfSome result (λ byte. byte < 256) }
+{
+    let byte = number(part(word, b'.', place)?, 0, 255)?;
+    Some(byte as u32)
+}
+
+/// IP: four NUM from 0 to 255, joined by dots, the first of them the highest octet of the address, or `None` where the
+/// word is of another form.
+pub fn ip(word: &[u8]) -> Option<u32>
+    ensures { result ≡ ip_of word.now }
+{
+    if parts(word, b'.') != 4 {
+        return None;
+    }
+    let a = byte_at(word, 0)?;
+    let b = byte_at(word, 1)?;
+    let c = byte_at(word, 2)?;
+    let d = byte_at(word, 3)?;
+    Some(((a * 256 + b) * 256 + c) * 256 + d)
+}
+
+/// CLOCK: the number that 16 hexadecimal digits of either case write, or `None` where the word is of another form.
+pub fn clock(word: &[u8]) -> Option<u64>
+    ensures { result ≡ clock_of word.now }
+{
+    if word.len() != 16 {
+        return None;
+    }
+    value(word, 16)
+}
+
+/// HEX: how many octets the word writes, put at the front of `out`, or `None` where the word is of another form: an even
+/// number of hexadecimal digits of either case, for 1 to 2048 octets, or `-` for none. After `None` the content of `out`
+/// is not said.
+pub fn octets(word: &[u8], out: &mut [u8; 2048]) -> Option<usize>
+    ensures form { MatchOption (octets_of word.now) (result ≡ None) (λ octets. result ≡ Some (length octets)) }
+    ensures octets { IfSome (octets_of word.now) (λ octets. take (length octets) out.new ≡ octets) }
+    ensures rest { IfSome result (λ n. drop n out.new ≡ drop n out.old) }
+    ensures within { IfSome result (λ n. n ≤ 2048) }
+{
+    if matches!(word, [b'-']) {
+        return Some(0);
+    }
+    let count = word.len() / 2;
+    if word.is_empty() || word.len() > 4096 {
+        return None;
+    }
+    hex::decode_to_slice(word, &mut out[..count]).ok()?;
+    Some(count)
+}
+
+fn is_signed(word: &[u8]) -> bool
+    ensures { result ≡ has_sign word.now }
+{
+    !word.is_empty() && word[0] == b'-'
+}
+
+fn negative(size: u64) -> i8
+    requires some { 0 < size }
+    requires fits { size ≤ 128 }
+    ensures { result ≡ negsuc (size - 1) }
+{
+    (-(size as i16)) as i8
+}
+
+fn positive(size: u64) -> i8
+    requires { size ≤ 127 }
+    ensures { result ≡ pos size }
+{
+    size as i8
+}
+
+// LOG, where it is from -128 to 127.
+fn plain_log(word: &[u8]) -> Option<i8>
+    ensures { result ≡ log_within word.now (negsuc 127) (pos 127) }
+{
+    if is_signed(word) {
+        let size = number(&word[1..], 1, 128)?;
+        Some(negative(size))
+    } else {
+        let size = number(word, 0, 127)?;
+        Some(positive(size))
+    }
+}
+
+fn in_range(value: i8, least: i8, greatest: i8) -> Option<i8>
+    ensures { result ≡ int_within least greatest value }
+{
+    if least <= value && value <= greatest {
+        Some(value)
+    } else {
+        None
+    }
+}
+
+/// LOG: a NUM, or `-` and a NUM that is not 0, or `None` where the word is of another form or the number is not from
+/// `least` to `greatest`.
+pub fn log(word: &[u8], least: i8, greatest: i8) -> Option<i8>
+    ensures { result ≡ log_within word.now least greatest }
+{
+    in_range(plain_log(word)?, least, greatest)
+}

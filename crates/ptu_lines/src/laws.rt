@@ -1,0 +1,51 @@
+//! What the definitions of lines and words mean, for every script and every word.
+ghost use Rattle.std.specs.Prelude.{◌≡◌, ◌↔◌, ◌<◌, ◌≤◌, ◌^◌, ℕ, ℤ, negsuc, Some, None, List, [], ◌∷◌, ◌++◌, length, count_by, ◌+◌, ◌==◌, unsigned_abs, decimal, codes};
+ghost use Rattle.std.specs.Fmt.{signed_decimal};
+ghost use Rattle.std.specs.List.{join_with_byte, flat_map};
+ghost use Rattle.ptu_lines.specs.Script.{HasNoEnd, pieces, script_lines, Whole, Refused};
+ghost use Rattle.ptu_lines.specs.Words.{words_of, number_of, log_of, ip_of, clock_of, octets_of};
+
+use crate::cause::LineCause;
+
+/// A script is cut after each 0A and nowhere else, and nothing of it is lost.
+pub fn pieces_of_a_script()
+    ensures whole { (script : List ℕ) → flat_map (λ piece. piece) (pieces script) ≡ script }
+    ensures ended { (text rest : List ℕ) → HasNoEnd text → pieces (text ++ 10 ∷ rest) ≡ (text ++ 10 ∷ []) ∷ pieces rest }
+    ensures last { (octet : ℕ) (text : List ℕ) → HasNoEnd (octet ∷ text) → pieces (octet ∷ text) ≡ (octet ∷ text) ∷ [] }
+{}
+
+/// Small scripts, line by line.
+pub fn lines_of_scripts()
+    ensures nothing { script_lines [] ≡ [] }
+    ensures one { script_lines (codes "turn") ≡ Whole (codes "turn") ∷ [] }
+    ensures ended { script_lines (codes "turn\n") ≡ Whole (codes "turn") ∷ [] }
+    ensures empty { script_lines (codes "\n#\n") ≡ Whole [] ∷ Whole (codes "#") ∷ [] }
+    ensures refused { script_lines (codes "a\n\tb\nc") ≡ Whole (codes "a") ∷ Refused LineCause.Text ∷ [] }
+{}
+
+/// The words of a line, joined by single spaces, are the line, and there is one more of them than it has spaces.
+pub fn words_of_a_line()
+    ensures joined { (line : List ℕ) → join_with_byte 32 (words_of line) ≡ line }
+    ensures count { (line : List ℕ) → length (words_of line) ≡ count_by (λ octet. octet == 32) line + 1 }
+{}
+
+/// NUM is what a number below 10^19 is printed as, and LOG is what a signed number is printed as.
+pub fn numbers_of_words()
+    ensures number { (word : List ℕ) (n : ℕ) → (number_of word ≡ Some n) ↔ ((word ≡ decimal n) × (n < 10 ^ 19)) }
+    ensures log { (word : List ℕ) (z : ℤ) → (log_of word ≡ Some z) ↔ ((word ≡ signed_decimal z) × (unsigned_abs z < 10 ^ 19)) }
+{}
+
+/// Words of each form, and words of none.
+pub fn forms_of_words()
+    ensures zero { number_of (codes "0") ≡ Some 0 }
+    ensures leading_zero { number_of (codes "07") ≡ None }
+    ensures log { log_of (codes "-7") ≡ Some (negsuc 6) }
+    ensures log_zero { log_of (codes "-0") ≡ None }
+    ensures ip { ip_of (codes "10.0.0.9") ≡ Some 0x0A000009 }
+    ensures ip_range { ip_of (codes "10.0.0.256") ≡ None }
+    ensures ip_parts { ip_of (codes "10.0.9") ≡ None }
+    ensures clock { clock_of (codes "00000000000000aF") ≡ Some 175 }
+    ensures octets { octets_of (codes "00fF") ≡ Some (0 ∷ 255 ∷ []) }
+    ensures no_octets { octets_of (codes "-") ≡ Some [] }
+    ensures odd_octets { octets_of (codes "00f") ≡ None }
+{}

@@ -1,0 +1,21 @@
+//! Scripts read line by line, and the forms of their words.
+#![tactic(auto)]
+
+mod cause;
+mod fault;
+mod forms;
+pub mod laws;
+mod line_buffer;
+mod line_reader;
+mod line_words;
+mod lines;
+
+pub use cause::LineCause;
+pub use fault::LinesFault;
+pub use forms::{clock, ip, log, number, octets};
+pub use line_reader::LineReader;
+pub use line_words::{word, words};
+pub use lines::Lines;
+
+#[cfg(test)]
+mod tests;

@@ -1,0 +1,133 @@
+ghost use Rattle.std.specs.Prelude.{◌≡◌, ◌<◌, ◌≤◌, ◌+◌, ◌-◌, ◌++◌, ℕ, [], List, length, take, drop, IfOk, OnErr, IfSome, IfNone, position, slice_range};
+ghost use Rattle.std.specs.Io.KnownBytes.{IsAtEnd, prepend_known};
+ghost use Rattle.ptu_outside.specs.Faults.{HasRisen};
+ghost use Rattle.ptu_lines.specs.Script.{is_end};
+
+use ptu_outside::{Failed, Source};
+use ptu_units::OutOfMemory;
+use std::alloc::Global;
+use std::marker::Model;
+
+/// The most octets of a line, its 0A not counted.
+pub const LONGEST_LINE: usize = 8192;
+
+/// The size of the buffer.
+const SIZE: usize = 65536;
+
+/// The one buffer of a reader of lines: the line that was given last, and the octets that were read ahead. A clause sees
+/// it as these two.
+#[derive(Drop)]
+pub struct LineBuffer {
+    octets: Vec<u8>,
+    text: usize,
+    text_end: usize,
+    start: usize,
+    end: usize,
+}
+
+impl Model for LineBuffer {
+    ghost use Rattle.std.specs.Prelude.{◌≡◌, ◌≤◌, length, slice_range};
+    ghost use Rattle.ptu_lines.specs.Reading.{Held};
+
+    ghost Value = { Held };
+
+    ghost view = { λ b. record { text = slice_range b.octets.items b.text b.text_end; waiting = slice_range b.octets.items b.start b.end } };
+
+    ghost invariant = { λ b. (b.text ≤ b.text_end) × (b.text_end ≤ length b.octets.items) × (b.start ≤ b.end) × (b.end ≤ length b.octets.items) × (length b.octets.items ≡ 65536) };
+}
+
+// Moves the octets from `start` to `end` to the front.
+fn move_to_front(octets: &mut Vec<u8>, start: usize, end: usize)
+    requires order { start ≤ end }
+    requires within { end ≤ length octets.old.items }
+    ensures front { take (end - start) octets.new.items ≡ slice_range octets.old.items start end }
+    ensures length { length octets.new.items ≡ length octets.old.items }
+{
+    octets.copy_within(start..end, 0);
+}
+
+// Reads once, at most `limit` octets, from the place `at` on.
+fn read_behind<S: Source>(
+    source: &mut S,
+    octets: &mut [u8],
+    at: usize,
+    limit: usize,
+) -> Result<usize, Failed>
+    requires room { at < length octets.old }
+    requires some { 0 < limit }
+    ensures within { IfOk result (λ n. n ≤ limit) }
+    ensures fits { IfOk result (λ n. at + n ≤ length octets.new) }
+    ensures front { take at octets.new ≡ take at octets.old }
+    ensures read { IfOk result (λ n. S.left source.old ≡ prepend_known (slice_range octets.new at (at + n)) (S.left source.new)) }
+    ensures end { IfOk result (λ n. n ≡ 0 → IsAtEnd (S.left source.new)) }
+    ensures left { OnErr result (S.left source.new ≡ S.left source.old) }
+    ensures risen { OnErr result (HasRisen (S.faults source.old) (S.faults source.new)) }
+    ensures no_fall { S.faults source.old ≤ S.faults source.new }
+{
+    let room = limit.min(octets.len() - at);
+    source.read(&mut octets[at..at + room])
+}
+
+impl LineBuffer {
+    /// An empty buffer, which a reader of lines takes.
+    pub fn new(alloc: Global) -> Result<LineBuffer, OutOfMemory>
+        ensures { IfOk result (λ buffer. buffer ≡ record { text = []; waiting = [] }) }
+    {
+        Ok(LineBuffer {
+            octets: vec![in alloc; 0; SIZE]?,
+            text: 0,
+            text_end: 0,
+            start: 0,
+            end: 0,
+        })
+    }
+
+    /// The text of the line that was given last.
+    pub(crate) fn text(&self) -> &[u8]
+        ensures { result.now ≡ self.now.text }
+    {
+        &self.octets[self.text..self.text_end]
+    }
+
+    /// The octets that wait.
+    pub(crate) fn waiting(&self) -> &[u8]
+        ensures { result.now ≡ self.now.waiting }
+    {
+        &self.octets[self.start..self.end]
+    }
+
+    /// Takes a line of `size` octets from the front of those that wait; the first `text` of them are its text.
+    pub(crate) fn take_line(&mut self, text: usize, size: usize)
+        requires within { text ≤ size }
+        requires waits { size ≤ length self.old.waiting }
+        ensures { self.new ≡ record { text = take text self.old.waiting; waiting = drop size self.old.waiting } }
+    {
+        self.text = self.start;
+        self.text_end = self.start + text;
+        self.start += size;
+    }
+
+    /// Reads once, at most `limit` octets, behind those that wait. The last line's text is gone afterwards.
+    pub(crate) fn fill<S: Source>(&mut self, source: &mut S, limit: usize) -> Result<usize, Failed>
+        requires few { length self.old.waiting ≤ LONGEST_LINE }
+        requires some { 0 < limit }
+        ensures within { IfOk result (λ n. n ≤ limit) }
+        ensures read { IfOk result (λ n. (octets : List ℕ) × (length octets ≡ n)
+            × (self.new.waiting ≡ self.old.waiting ++ octets)
+            × (S.left source.old ≡ prepend_known octets (S.left source.new))) }
+        ensures end { IfOk result (λ n. n ≡ 0 → IsAtEnd (S.left source.new)) }
+        ensures kept { OnErr result (self.new.waiting ≡ self.old.waiting) }
+        ensures left { OnErr result (S.left source.new ≡ S.left source.old) }
+        ensures risen { OnErr result (HasRisen (S.faults source.old) (S.faults source.new)) }
+        ensures no_fall { S.faults source.old ≤ S.faults source.new }
+    {
+        if self.start >= LONGEST_LINE {
+            move_to_front(&mut self.octets, self.start, self.end);
+            self.end -= self.start;
+            self.start = 0;
+        }
+        let taken = read_behind(source, &mut self.octets, self.end, limit)?;
+        self.end += taken;
+        Ok(taken)
+    }
+}
