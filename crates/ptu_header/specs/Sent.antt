@@ -1,0 +1,27 @@
+-- The octets of a header as they are sent.
+use Rattle.std.specs.Prelude.{ℕ, ◌==◌, if◌then◌else◌, List, [], ◌∷◌, ◌++◌}
+use Rattle.std.specs.Int.{w16, w64, to_be_bytes, cast_unsigned}
+use Rattle.ptu_header.specs.declared.header.Header.{Header}
+
+-- the controlField of a messageType: Sync, Delay_Req, Follow_Up and Delay_Resp have their own (IEEE 1588-2019 clause 13.3.2)
+abbrev pub control_of : ℕ → ℕ
+control_of message_type =
+    if message_type == 0 then 0
+    else if message_type == 1 then 1
+    else if message_type == 8 then 2
+    else if message_type == 9 then 3
+    else 5
+
+-- majorSdoId 0, minorVersionPTP 1, versionPTP 2, minorSdoId 0, messageTypeSpecific 0 and logMessageInterval 7F
+abbrev pub sent_header : Header → ℕ → List ℕ
+sent_header header n =
+    header.message_type ∷ 0x12 ∷ []
+    ++ to_be_bytes w16 n
+    ++ header.domain ∷ 0 ∷ []
+    ++ to_be_bytes w16 header.flags
+    ++ to_be_bytes w64 (cast_unsigned w64 header.correction)
+    ++ 0 ∷ 0 ∷ 0 ∷ 0 ∷ []
+    ++ to_be_bytes w64 header.source.clock
+    ++ to_be_bytes w16 header.source.port
+    ++ to_be_bytes w16 header.sequence
+    ++ control_of header.message_type ∷ 0x7f ∷ []

@@ -1,0 +1,52 @@
+ghost use Rattle.std.specs.Prelude.{Some};
+ghost use Rattle.ptu_header.specs.HeaderFault.{text_of};
+
+use std::error::Error;
+use std::fmt;
+
+/// Why the octets of a datagram begin with no header: the first cause that applies, in the order of the variants.
+#[derive(Clone, Copy, Debug, PartialEq, Eq, Hash)]
+pub enum HeaderFault {
+    /// There are fewer than the 34 octets of a header.
+    Short {
+        /// How many there are.
+        have: usize,
+    },
+    /// The versionPTP is not 2.
+    Version {
+        /// The versionPTP that was found.
+        found: u8,
+    },
+    /// The majorSdoId is not 0.
+    Sdo {
+        /// The majorSdoId that was found.
+        found: u8,
+    },
+    /// The messageLength is below 34, or above the number of octets.
+    Length {
+        /// The messageLength.
+        said: usize,
+        /// How many octets there are.
+        have: usize,
+    },
+}
+
+impl fmt::Display for HeaderFault {
+    ghost output = { λ f. Some (text_of f) };
+
+    fn fmt<W: fmt::Write>(&self, f: &mut fmt::Formatter<W>) -> fmt::Result {
+        match *self {
+            HeaderFault::Short { have } => write!(
+                f,
+                "{have} octets are fewer than the 34 of a header"
+            ),
+            HeaderFault::Version { found } => write!(f, "versionPTP is {found} and not 2"),
+            HeaderFault::Sdo { found } => write!(f, "majorSdoId is {found} and not 0"),
+            HeaderFault::Length { said, have } => {
+                write!(f, "messageLength is {said} and not from 34 to {have}")
+            }
+        }
+    }
+}
+
+impl Error for HeaderFault {}

@@ -1,0 +1,18 @@
+//! The common header of every message: its 34 octets read and written (IEEE 1588-2019 clause 13.3).
+#![tactic(auto)]
+
+mod fault;
+mod fields;
+mod header;
+mod laws;
+mod reading;
+mod writing;
+
+pub use fault::HeaderFault;
+pub use header::{Header, PortIdentity};
+pub use laws::{one_reading, sample_headers, sent_is_read, twos_complement};
+pub use reading::read_header;
+pub use writing::write_header;
+
+#[cfg(test)]
+mod tests;

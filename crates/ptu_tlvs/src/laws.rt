@@ -1,0 +1,46 @@
+//! Laws of the definitions that the contracts of this crate cite: each is the contract of a function that does nothing.
+
+ghost use Rattle.std.specs.Prelude.{◌≡◌, ◌⊎◌, ◌<◌, ◌≤◌, ◌^◌, ◌++◌, ◌+ℤ◌, ℕ, ℤ, pos, List, All, length};
+ghost use Rattle.std.specs.Int.{w8, cast_signed, cast_unsigned};
+ghost use Rattle.std.specs.Int.RustNames.{FitsSigned};
+ghost use Rattle.ptu_tlvs.specs.Tlv.{HasWidths, SpellsTlv, BeginsWithTlv, AlwaysBeginsWithTlv};
+ghost use Rattle.ptu_tlvs.specs.TlvFault.{HasTlvFault};
+ghost use Rattle.ptu_tlvs.specs.Sent.{IsSendable, sent_tlv};
+ghost use Rattle.ptu_tlvs.specs.Samples.{TlvsAreSpelled, FaultsAreFound, TlvsAreSent};
+ghost use Rattle.ptu_tlvs.specs.declared.tlv.Tlv.{Tlv};
+ghost use Rattle.ptu_tlvs.specs.declared.fault.TlvFault.{TlvFault};
+
+/// Every list of octets begins with one TLV of one size, or has one fault, and never both.
+pub fn one_reading()
+    ensures one_or_other { (octets : List ℕ) →
+        ((v : Tlv) × (size : ℕ) × BeginsWithTlv octets v size) ⊎ ((f : TlvFault) × HasTlvFault octets f) }
+    ensures never_both { (octets : List ℕ) (v : Tlv) (size : ℕ) (f : TlvFault) →
+        BeginsWithTlv octets v size → HasTlvFault octets f → ⊥ }
+    ensures one_tlv { (octets : List ℕ) (v v' : Tlv) (size size' : ℕ) →
+        BeginsWithTlv octets v size → BeginsWithTlv octets v' size' → (v ≡ v') × (size ≡ size') }
+    ensures one_fault { (octets : List ℕ) (f f' : TlvFault) → HasTlvFault octets f → HasTlvFault octets f' → f ≡ f' }
+{}
+
+/// Octets spell only TLVs whose fields fit them. What spells a TLV begins whatever it stands before, and each TLV that
+/// is sent is read.
+pub fn sent_is_read()
+    ensures widths { (octets : List ℕ) (v : Tlv) → All (λ o. o < 256) octets → SpellsTlv octets v → HasWidths v }
+    ensures begins { (front : List ℕ) (v : Tlv) → SpellsTlv front v → AlwaysBeginsWithTlv front v }
+    ensures again { (v : Tlv) → HasWidths v → IsSendable v → SpellsTlv (sent_tlv v) v }
+{}
+
+/// A logInterMessagePeriod is two's complement of 8 bits, and what is written is what is read.
+pub fn twos_complement()
+    ensures low { (n : ℕ) → n < 2 ^ 7 → cast_signed w8 n ≡ pos n }
+    ensures high { (n : ℕ) → 2 ^ 7 ≤ n → n < 2 ^ 8 → cast_signed w8 n +ℤ pos (2 ^ 8) ≡ pos n }
+    ensures read_again { (z : ℤ) → FitsSigned w8 z → cast_signed w8 (cast_unsigned w8 z) ≡ z }
+    ensures written_again { (n : ℕ) → n < 2 ^ 8 → cast_unsigned w8 (cast_signed w8 n) ≡ n }
+    ensures fits { (z : ℤ) → FitsSigned w8 z → cast_unsigned w8 z < 2 ^ 8 }
+{}
+
+/// The definitions at TLVs that were made out by hand.
+pub fn sample_tlvs()
+    ensures spelled { TlvsAreSpelled }
+    ensures faulty { FaultsAreFound }
+    ensures sent { TlvsAreSent }
+{}

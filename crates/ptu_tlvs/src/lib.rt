@@ -1,0 +1,18 @@
+//! The four TLVs of unicast negotiation: their octets read and written (IEEE 1588-2019 clauses 14.1 and 16.1.4).
+#![tactic(auto)]
+
+mod fault;
+mod fields;
+mod laws;
+mod reading;
+mod tlv;
+mod writing;
+
+pub use fault::TlvFault;
+pub use laws::{one_reading, sample_tlvs, sent_is_read, twos_complement};
+pub use reading::next_tlv;
+pub use tlv::{Ask, Tlv};
+pub use writing::write_tlv;
+
+#[cfg(test)]
+mod tests;

@@ -1,0 +1,31 @@
+/// What is asked for, or granted: messages of a kind, how often and for how long
+/// (IEEE 1588-2019 clause 16.1.4.1).
+#[derive(Clone, Copy, Debug, PartialEq, Eq, Hash)]
+pub struct Ask {
+    /// The messageType of the kind, of 4 bits.
+    pub code: u8,
+    /// The logInterMessagePeriod: the logarithm to base 2 of the mean interval in seconds.
+    pub log: i8,
+    /// The durationField, in seconds.
+    pub seconds: u32,
+}
+
+/// A TLV as a Signaling message carries it (IEEE 1588-2019 clauses 14.1 and 16.1.4).
+#[derive(Clone, Copy, Debug, PartialEq, Eq, Hash)]
+pub enum Tlv {
+    /// REQUEST_UNICAST_TRANSMISSION.
+    Request(Ask),
+    /// GRANT_UNICAST_TRANSMISSION, with R, which invites a renewal. A denial has the duration 0.
+    Grant(Ask, bool),
+    /// CANCEL_UNICAST_TRANSMISSION of the kind with this messageType.
+    Cancel(u8),
+    /// ACKNOWLEDGE_CANCEL_UNICAST_TRANSMISSION of the kind with this messageType.
+    Ack(u8),
+    /// A TLV of another type, whose value is not read.
+    Other {
+        /// The tlvType.
+        tlv_type: u16,
+        /// The lengthField, in octets.
+        length: u16,
+    },
+}
