@@ -1,0 +1,119 @@
+-- Chains, earliest moments and sequence numbers after a grant and after a message.
+use Rattle.std.proofs.Common.{◌≡◌, ◌≢◌, ◌∙◌, ℕ, ◌+◌, ◌%◌, ◌<◌, max, ◌++◌, List, [], ◌∷◌, length, Bool, true, false, not, cond, refl, sym, ap, arith, Option, Some, None, ℤ, ltb}
+use Rattle.std.specs.List.{find}
+use Rattle.std.specs.Option.{option_map_or}
+use Rattle.std.specs.Ordering.{int_eq}
+use Rattle.std.proofs.lemmas.Bool.{lt-ltb, and_from, and_right, and_left, false_from_ne_true}
+use Rattle.std.proofs.lemmas.Bool.Decides.{Decides-int_eq}
+use Rattle.ptu_units.specs.declared.kind.Kind.{Kind}
+use Rattle.ptu_units.specs.declared.kind.Kind.TheVariants.{Announce, Sync, DelayResp}
+use Rattle.ptu_units.specs.Log.{period_of}
+use Rattle.ptu_history.specs.declared.client.Client.{Client}
+use Rattle.ptu_history.specs.History.{Record, Granted, Short, Ended, Capacity, Shed, Looked, Sent, is_decision, moment_of, trail}
+use Rattle.ptu_history.specs.Live.{is_live, last_decision, live}
+use Rattle.ptu_history.specs.Runs.{follows, continues, first_of_run, sent_in_run, root, chain, sequence_number, sent_in_chain}
+use Rattle.ptu_history.specs.Lawful.{earliest, earliest_of, last_period, period_of_last}
+use Rattle.ptu_history.proofs.Keys.{same_lease-refl}
+use Rattle.ptu_history.proofs.Trails.{trail-push_own}
+use Rattle.ptu_history.proofs.Pacing.{earliest_credited-cons}
+
+-- the period of a grant that is the last decision
+period_of_decision : (rs : List Record) (m : ℕ) (c : Client) (k : Kind) (l : ℤ) (u : ℕ) → find is_decision rs ≡ Some (Granted m c k l u) → period_of_last rs ≡ period_of l
+period_of_decision [] m c k l u e = absurd (cc)
+period_of_decision (Granted n c' k' l' u' ∷ rs) m c k l u e = let same : l' ≡ l = cc in ap period_of same
+period_of_decision (Short n c' ∷ rs) m c k l u e = period_of_decision rs m c k l u e
+period_of_decision (Ended n c' k' ∷ rs) m c k l u e = absurd (cc)
+period_of_decision (Capacity n capacity ∷ rs) m c k l u e = period_of_decision rs m c k l u e
+period_of_decision (Shed n c' k' ∷ rs) m c k l u e = absurd (cc)
+period_of_decision (Looked n j ∷ rs) m c k l u e = period_of_decision rs m c k l u e
+period_of_decision (Sent n c' k' ∷ rs) m c k l u e = period_of_decision rs m c k l u e
+
+pub last_period-granted : (history : List Record) (m : ℕ) (c : Client) (k : Kind) (l : ℤ) (u : ℕ) → last_decision history c k ≡ Some (Granted m c k l u) → last_period history c k ≡ period_of l
+unfolding last_period last_decision
+last_period-granted history m c k l u e = period_of_decision (trail history c k) m c k l u e
+
+-- a grant that does not follow on does not continue a chain
+not_continues : (n : ℕ) (c : Client) (k : Kind) (l : ℤ) (u : ℕ) (d : Option Record) → is_live n d ≡ false → continues (Granted n c k l u) d ≡ false
+not_continues n c k l u None e = refl
+not_continues n c k l u (Some (Granted m c' k' l' u')) e = and_left (ltb n u') (int_eq l l') e
+not_continues n c k l u (Some r) e = refl
+
+module _ (history : List Record) (n : ℕ) (c : Client) (k : Kind) (l : ℤ) (u : ℕ) where
+  trail_granted : trail (history ++ Granted n c k l u ∷ []) c k ≡ Granted n c k l u ∷ trail history c k
+  trail_granted = trail-push_own history (Granted n c k l u) c k (same_lease-refl c k)
+
+  pub chain_is : (b : Bool) → continues (Granted n c k l u) (last_decision history c k) ≡ b → chain (history ++ Granted n c k l u ∷ []) c k ≡ cond b (chain history c k) n
+  unfolding chain last_decision
+  chain_is b e = rw trail_granted (rw e (at b))
+    where
+      at : (b : Bool) → option_map_or moment_of (cond (not b) (Some (Granted n c k l u)) (first_of_run continues (trail history c k))) 0 ≡ cond b (option_map_or moment_of (first_of_run continues (trail history c k)) 0) n
+      at true = refl
+      at false = refl
+
+  earliest_is : (b : Bool) → continues (Granted n c k l u) (last_decision history c k) ≡ b → earliest (history ++ Granted n c k l u ∷ []) c k ≡ earliest_of k (period_of l) (cond b (chain history c k) n) (cond b (sent_in_chain history c k) [])
+  unfolding earliest last_period chain sent_in_chain last_decision
+  earliest_is b e = rw trail_granted (rw e (at b))
+    where
+      at : (b : Bool) → earliest_of k (period_of l) (option_map_or moment_of (cond (not b) (Some (Granted n c k l u)) (first_of_run continues (trail history c k))) 0) (cond b (sent_in_run continues (trail history c k)) [])
+          ≡ earliest_of k (period_of l) (cond b (option_map_or moment_of (first_of_run continues (trail history c k)) 0) n) (cond b (sent_in_run continues (trail history c k)) [])
+      at true = refl
+      at false = refl
+
+  pub sequence_is : (b : Bool) → live history n c k ≡ b → sequence_number (history ++ Granted n c k l u ∷ []) c k ≡ cond b (sequence_number history c k) 0
+  unfolding sequence_number live last_decision
+  sequence_is b e = rw trail_granted (rw e (at b))
+    where
+      at : (b : Bool) → length (cond b (sent_in_run follows (trail history c k)) []) % 65536 ≡ cond b (length (sent_in_run follows (trail history c k)) % 65536) 0
+      at true = refl
+      at false = refl
+
+  pub root_is : (b : Bool) → live history n c k ≡ b → root (history ++ Granted n c k l u ∷ []) c k ≡ cond b (root history c k) (Some (Granted n c k l u))
+  unfolding root live last_decision
+  root_is b e = rw trail_granted (rw e (at b))
+    where
+      at : (b : Bool) → cond (not b) (Some (Granted n c k l u)) (first_of_run follows (trail history c k)) ≡ cond b (first_of_run follows (trail history c k)) (Some (Granted n c k l u))
+      at true = refl
+      at false = refl
+
+  pub first_continues : live history n c k ≡ false → continues (Granted n c k l u) (last_decision history c k) ≡ false
+  unfolding live
+  first_continues e = not_continues n c k l u (last_decision history c k) e
+
+  pub same_continues : (m v : ℕ) → last_decision history c k ≡ Some (Granted m c k l v) → n < v → continues (Granted n c k l u) (last_decision history c k) ≡ true
+  same_continues m v e lt = ap (λ d. continues (Granted n c k l u) d) e ∙ and_from (ltb n v) (int_eq l l) (lt-ltb n v lt) ((Decides-int_eq l l).1 refl)
+
+  pub other_continues : (m : ℕ) (l' : ℤ) (v : ℕ) → last_decision history c k ≡ Some (Granted m c k l' v) → l ≢ l' → continues (Granted n c k l u) (last_decision history c k) ≡ false
+  other_continues m l' v e differ = ap (λ d. continues (Granted n c k l u) d) e ∙ and_right (ltb n v) (int_eq l l') (false_from_ne_true (int_eq l l') (λ h. differ ((Decides-int_eq l l').0 h)))
+
+  pub earliest_new : continues (Granted n c k l u) (last_decision history c k) ≡ false → earliest (history ++ Granted n c k l u ∷ []) c k ≡ n + period_of l
+  earliest_new e = earliest_is false e ∙ at k
+    where
+      at : (k : Kind) → earliest_of k (period_of l) n [] ≡ n + period_of l
+      at Announce = refl
+      at Sync = refl
+      at DelayResp = omega arith
+
+  pub earliest_same : (m v : ℕ) → last_decision history c k ≡ Some (Granted m c k l v) → n < v → earliest (history ++ Granted n c k l u ∷ []) c k ≡ earliest history c k
+  unfolding earliest
+  earliest_same m v e lt = earliest_is true (same_continues m v e lt) ∙ ap (λ p. earliest_of k p (chain history c k) (sent_in_chain history c k)) (sym (last_period-granted history m c k l v e))
+
+module _ (history : List Record) (t : ℕ) (c : Client) (k : Kind) where
+  trail_sent : trail (history ++ Sent t c k ∷ []) c k ≡ Sent t c k ∷ trail history c k
+  trail_sent = trail-push_own history (Sent t c k) c k (same_lease-refl c k)
+
+  pub earliest_sent : earliest (history ++ Sent t c k ∷ []) c k ≡ earliest_of k (last_period history c k) (chain history c k) (t ∷ sent_in_chain history c k)
+  unfolding earliest last_period chain sent_in_chain
+  earliest_sent = rw trail_sent
+
+  pub sequence_sent : sequence_number (history ++ Sent t c k ∷ []) c k ≡ (sequence_number history c k + 1) % 65536
+  unfolding sequence_number
+  sequence_sent = rw trail_sent (omega arith)
+
+  pub live_sent : (x : ℕ) → live (history ++ Sent t c k ∷ []) x c k ≡ live history x c k
+  unfolding live last_decision
+  live_sent x = rw trail_sent
+
+pub earliest_delay : (history : List Record) (t : ℕ) (c : Client) →
+    earliest (history ++ Sent t c DelayResp ∷ []) c DelayResp ≡ max (earliest history c DelayResp + last_period history c DelayResp) t
+unfolding earliest
+earliest_delay history t c = earliest_sent history t c DelayResp ∙ earliest_credited-cons (last_period history c DelayResp) (chain history c DelayResp) t (sent_in_chain history c DelayResp)

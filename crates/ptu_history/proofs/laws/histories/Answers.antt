@@ -1,0 +1,10 @@
+use Rattle.ptu_history.proofs.Histories.{history-event, history-none, outcomes-event, outcomes-none}
+use Rattle.ptu_history.proofs.laws.histories.Goals as goal
+
+pub returns : goal.returns
+returns _ = record {
+  none = history-none;
+  event = history-event;
+  no_outcome = outcomes-none;
+  outcome = outcomes-event;
+}

@@ -1,0 +1,30 @@
+use Rattle.std.proofs.Common.{◌≡◌, ℕ, [], refl}
+use Rattle.ptu_history.specs.History.{capacity_in_force}
+use Rattle.ptu_history.specs.Moments.{book_moment, table_moment}
+use Rattle.ptu_history.proofs.Capacities.{budget-same, capacity_in_force-changed, capacity_in_force-unchanged}
+use Rattle.ptu_history.proofs.Moments.{book_moment-push, table_moment-push}
+use Rattle.ptu_history.proofs.laws.kept_numbers.Goals as goal
+
+no_book : book_moment [] ≡ 0
+unfolding book_moment
+no_book = refl
+
+no_table : (j : ℕ) → table_moment [] j ≡ 0
+unfolding table_moment
+no_table j = refl
+
+no_change : (opening : ℕ) → capacity_in_force opening [] ≡ opening
+unfolding capacity_in_force
+no_change opening = refl
+
+pub returns : goal.returns
+returns _ = record {
+  no_book = no_book;
+  book = book_moment-push;
+  no_table = no_table;
+  table = table_moment-push;
+  opening = no_change;
+  changed = capacity_in_force-changed;
+  unchanged = capacity_in_force-unchanged;
+  constant_budget = budget-same;
+}

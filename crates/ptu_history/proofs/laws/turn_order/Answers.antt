@@ -1,0 +1,26 @@
+use Rattle.std.proofs.Common.{ℕ, List}
+use Rattle.std.specs.List.{filter}
+use Rattle.std.specs.List.Sorted.{IsPermutation, IsSorted}
+use Rattle.ptu_history.specs.History.{Record}
+use Rattle.ptu_history.specs.Live.{live_grants}
+use Rattle.ptu_history.specs.Step.{due_grants, is_due, turn_cmp}
+use Rattle.ptu_history.proofs.Order.{IsAsymmetric-total, IsPermutation-in_order, IsSorted-in_order, turn_cmp-total}
+use Rattle.ptu_history.proofs.Orders.{due_grants-distinct, due_grants-members, due_grants-only}
+use Rattle.ptu_history.proofs.laws.turn_order.Goals as goal
+
+permutes : (history : List Record) (x j : ℕ) → IsPermutation (filter (is_due history x j) (live_grants history x)) (due_grants history x j)
+unfolding due_grants
+permutes history x j = IsPermutation-in_order (turn_cmp history) (filter (is_due history x j) (live_grants history x))
+
+ordered : (history : List Record) (x j : ℕ) → IsSorted (turn_cmp history) (due_grants history x j)
+unfolding due_grants
+ordered history x j = IsSorted-in_order (turn_cmp history) (IsAsymmetric-total (turn_cmp history) (turn_cmp-total history)) (filter (is_due history x j) (live_grants history x))
+
+pub returns : goal.returns
+returns _ = record {
+  permutes = permutes;
+  members = due_grants-members;
+  ordered = ordered;
+  distinct = due_grants-distinct;
+  only = due_grants-only;
+}

@@ -1,0 +1,11 @@
+pub mod Client
+pub mod Order
+pub mod History
+pub mod Moments
+pub mod Live
+pub mod Runs
+pub mod Lawful
+pub mod Verdict
+pub mod Step
+pub mod Held
+pub mod Examples

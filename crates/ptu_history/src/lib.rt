@@ -1,0 +1,12 @@
+//! A grandmaster's history: what it decided and sent, moment by moment, and the definitions that every contract of
+//! a grandmaster cites, with the laws that show that they mean what they should.
+#![tactic(auto)]
+
+mod client;
+pub mod examples;
+pub mod laws;
+
+pub use client::{Client, table_of};
+
+#[cfg(test)]
+mod tests;

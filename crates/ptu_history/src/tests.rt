@@ -1,0 +1,54 @@
+ghost use Rattle.std.specs.Prelude.{◌≡◌};
+ghost use Rattle.ptu_history.specs.Client.{client_cmp, kind_cmp, same_client, same_kind};
+
+use super::*;
+use ptu_units::Kind;
+use std::cmp::Ordering;
+
+fn client(ip: u32, clock: u64, port: u16) -> Client {
+    Client { ip, clock, port }
+}
+
+// The derived orders and comparisons are those of the definitions.
+fn compare(a: &Client, b: &Client) -> Ordering
+    ensures { result ≡ client_cmp a.now b.now }
+{
+    a.cmp(b)
+}
+
+fn is_same(a: &Client, b: &Client) -> bool
+    ensures { result ≡ same_client a.now b.now }
+{
+    a == b
+}
+
+fn compare_kinds(a: Kind, b: Kind) -> Ordering
+    ensures { result ≡ kind_cmp a b }
+{
+    a.cmp(&b)
+}
+
+fn is_same_kind(a: Kind, b: Kind) -> bool
+    ensures { result ≡ same_kind a b }
+{
+    a == b
+}
+
+#[test]
+fn tables(rt: HostRuntime) {
+    assert_eq!(rt; table_of(&client(0x0a00_0111, 0x0a00_0000_0000_0011, 1)), 2);
+    assert_eq!(rt; table_of(&client(0x0a00_0112, 0x0a00_0000_0000_0012, 1)), 3);
+    // 255 + 65535
+    assert_eq!(rt; table_of(&client(0, u64::MAX, u16::MAX)), 2);
+}
+
+#[test]
+fn clients_in_order(rt: HostRuntime) {
+    let middle = client(5, 5, 5);
+    assert_eq!(rt; compare(&middle, &client(6, 0, 0)), Ordering::Less);
+    assert_eq!(rt; compare(&middle, &client(5, 4, 9)), Ordering::Greater);
+    assert_eq!(rt; compare(&middle, &client(5, 5, 6)), Ordering::Less);
+    assert!(rt; is_same(&middle, &client(5, 5, 5)));
+    assert_eq!(rt; compare_kinds(Kind::Sync, Kind::DelayResp), Ordering::Less);
+    assert!(rt; !is_same_kind(Kind::Announce, Kind::Sync));
+}

@@ -1,0 +1,341 @@
+-- The payments of each client and kind lie one after the other in held time, before their messages.
+use Rattle.std.proofs.Common.{◌≡◌, ◌∙◌, ℕ, suc, ◌+◌, ◌<◌, ◌≤◌, max, ◌++◌, List, [], ◌∷◌, Bool, true, false, cond, leb, ltb, refl, sym, ap, subst, arith, Some, ℤ, append_assoc}
+use Rattle.std.specs.List.{All, AllPairs}
+use Rattle.std.specs.Prelude.{int_le, pos, T}
+use Rattle.std.proofs.lemmas.Bool.{and_parts, false≢true, leb-true, ltb-true, ltb-false}
+use Rattle.std.proofs.lemmas.List.{append-nil}
+use Rattle.std.proofs.lemmas.List.Elements.{All-nil, All-push, All-weaker}
+use Rattle.std.proofs.lemmas.List.Kept.{AllPairs-cons}
+use Rattle.ptu_units.specs.declared.kind.Kind.{Kind}
+use Rattle.ptu_units.specs.Log.{IsLogOf, least_log, period_of}
+use Rattle.ptu_history.specs.declared.client.Client.{Client}
+use Rattle.ptu_history.specs.Client.{same_lease, table_of}
+use Rattle.ptu_history.specs.History.{Record, Granted, Short, Ended, Capacity, Shed, Looked, Sent, concerns, decides, is_decision, moment_of, trail}
+use Rattle.ptu_history.specs.Moments.{table_moment, table_part}
+use Rattle.ptu_history.specs.Live.{last_decision, live}
+use Rattle.ptu_history.specs.Runs.{chain, continues}
+use Rattle.ptu_history.specs.Lawful.{earliest, last_period, lawful}
+use Rattle.ptu_history.specs.Verdict.{Config, is_log_of}
+use Rattle.ptu_history.specs.Step.{Event, history}
+use Rattle.ptu_history.specs.Held.{Payment, payment, payments, payments_after}
+use Rattle.ptu_history.proofs.Keys.{eq-eqb-table, same_lease-sym, same_lease-true}
+use Rattle.ptu_history.proofs.Moments.{table_moment-push}
+use Rattle.ptu_history.proofs.Standing.{last_pushed}
+use Rattle.ptu_history.proofs.Strangers.{chain-push, earliest-push}
+use Rattle.ptu_history.proofs.Renewals.{chain_is, earliest_new, earliest_same, last_period-granted}
+use Rattle.ptu_laws.specs.Paid.{IsBefore, IsPaid, is_held_at}
+use Rattle.ptu_laws.proofs.Followed.{AllMayFollow, MayFollow, by_following, by_records, may-at, may-front, may-history, may-rest}
+use Rattle.ptu_laws.proofs.HeldTime.{held_at-new, held_at-push}
+use Rattle.ptu_laws.proofs.Paced.{Continued, LiveGrant, chain-sent, continued, earliest-sent_le, is-message, live-grant}
+
+-- a payment, as it is kept from record to record: its message is not after the moment of its table
+pub record IsSettled (history : List Record) (log : ℤ) (p : Payment) : Type 0 where
+  pub in_range : is_log_of p.kind log ≡ true
+  pub period : p.start + period_of log ≡ p.end
+  pub in_time : p.end ≤ p.at
+  pub by_table : p.at ≤ table_moment history (table_of p.client)
+  pub held : (x : ℕ) → p.start ≤ x → x < p.end → is_held_at history p.client p.kind log x ≡ true
+
+-- it is settled at some logarithm
+abbrev pub IsSettledAny : List Record → Payment → Type 0
+IsSettledAny history p = (l : ℤ) × IsSettled history l p
+
+-- what is kept for a client and kind whose last decision is a grant: the time since the chain began is held, and what
+-- was paid is a period before the earliest lawful moment
+pub record IsPaced (history : List Record) (c : Client) (k : Kind) (l : ℤ) (u : ℕ) : Type 0 where
+  pub in_range : is_log_of k l ≡ true
+  pub first : chain history c k + period_of l ≤ earliest history c k
+  pub held : (x : ℕ) → chain history c k ≤ x → x < u → is_held_at history c k l x ≡ true
+  pub paid : All (λ p. same_lease c k p.client p.kind ≡ true → p.end + period_of l ≤ earliest history c k) (payments history)
+
+pub record IsSound (history : List Record) : Type 0 where
+  pub paced : (c : Client) (k : Kind) (n : ℕ) (l : ℤ) (u : ℕ) → last_decision history c k ≡ Some (Granted n c k l u) → IsPaced history c k l u
+  pub settled : All (IsSettledAny history) (payments history)
+  pub apart : AllPairs IsBefore (payments history)
+
+pub payments_after-append : (before xs ys : List Record) → payments_after before (xs ++ ys) ≡ payments_after before xs ++ payments_after (before ++ xs) ys
+unfolding payments_after
+payments_after-append before [] ys = ap (λ h. payments_after h ys) (sym (append-nil before))
+payments_after-append before (Sent x c k ∷ xs) ys =
+    ap (λ ps. payment before x c k ∷ ps) (payments_after-append (before ++ Sent x c k ∷ []) xs ys ∙ ap (λ h. payments_after (before ++ Sent x c k ∷ []) xs ++ payments_after h ys) (append_assoc before (Sent x c k ∷ []) xs))
+payments_after-append before (Granted n c k l u ∷ xs) ys = payments_after-append (before ++ Granted n c k l u ∷ []) xs ys ∙ ap (λ h. payments_after (before ++ Granted n c k l u ∷ []) xs ++ payments_after h ys) (append_assoc before (Granted n c k l u ∷ []) xs)
+payments_after-append before (r ∷ xs) ys = payments_after-append (before ++ r ∷ []) xs ys ∙ ap (λ h. payments_after (before ++ r ∷ []) xs ++ payments_after h ys) (append_assoc before (r ∷ []) xs)
+
+-- a record of another sort has no payment
+pub payments-other : (history : List Record) (r : Record) → payments_after history (r ∷ []) ≡ [] → payments (history ++ r ∷ []) ≡ payments history
+unfolding payments
+payments-other history r none = payments_after-append [] history (r ∷ []) ∙ ap (λ ps. payments_after [] history ++ ps) none ∙ append-nil (payments_after [] history)
+
+-- a message adds its payment
+pub payments-sent : (history : List Record) (x : ℕ) (c : Client) (k : Kind) → payments (history ++ Sent x c k ∷ []) ≡ payments history ++ payment history x c k ∷ []
+unfolding payments payments_after
+payments-sent history x c k = payments_after-append [] history (Sent x c k ∷ [])
+
+-- what holds of all payments after one more record
+all_payments : (P : Payment → Type 0) (history : List Record) (r : Record) → All P (payments history) → ((x : ℕ) (c : Client) (k : Kind) → r ≡ Sent x c k → P (payment history x c k)) → All P (payments (history ++ r ∷ []))
+unfolding payments_after
+all_payments P history (Sent x c k) old new = subst (λ ps. All P ps) (sym (payments-sent history x c k)) (All-push P (payments history) (payment history x c k) old (new x c k refl))
+all_payments P history (Granted n c k l u) old new = subst (λ ps. All P ps) (sym (payments-other history (Granted n c k l u) refl)) old
+all_payments P history (Short n c) old new = subst (λ ps. All P ps) (sym (payments-other history (Short n c) refl)) old
+all_payments P history (Ended n c k) old new = subst (λ ps. All P ps) (sym (payments-other history (Ended n c k) refl)) old
+all_payments P history (Capacity n capacity) old new = subst (λ ps. All P ps) (sym (payments-other history (Capacity n capacity) refl)) old
+all_payments P history (Shed n c k) old new = subst (λ ps. All P ps) (sym (payments-other history (Shed n c k) refl)) old
+all_payments P history (Looked n j) old new = subst (λ ps. All P ps) (sym (payments-other history (Looked n j) refl)) old
+
+pub pairs_head : {A : Type 0} (R : A → A → Type 0) (x : A) (xs : List A) → AllPairs R (x ∷ xs) → All (R x) xs
+pairs_head R x xs pairs = λ i d lt. pairs 0 (suc i) d (omega arith) (omega arith)
+
+pub pairs_tail : {A : Type 0} (R : A → A → Type 0) (x : A) (xs : List A) → AllPairs R (x ∷ xs) → AllPairs R xs
+pairs_tail R x xs pairs = λ i j d before within. pairs (suc i) (suc j) d (omega arith) (omega arith)
+
+pairs_push : {A : Type 0} (R : A → A → Type 0) (xs : List A) (y : A) → AllPairs R xs → All (λ x. R x y) xs → AllPairs R (xs ++ y ∷ [])
+pairs_push R [] y pairs all = AllPairs-cons R y [] (All-nil (R y)) pairs
+pairs_push R (x ∷ xs) y pairs all =
+    AllPairs-cons R x (xs ++ y ∷ []) (All-push (R x) xs y (pairs_head R x xs pairs) (all 0 x (omega arith)))
+    (pairs_push R xs y (pairs_tail R x xs pairs) (λ i d lt. all (suc i) d (omega arith)))
+
+pairs_payments : (history : List Record) (r : Record) → AllPairs IsBefore (payments history) → ((x : ℕ) (c : Client) (k : Kind) → r ≡ Sent x c k → All (λ p. IsBefore p (payment history x c k)) (payments history)) → AllPairs IsBefore (payments (history ++ r ∷ []))
+unfolding payments_after
+pairs_payments history (Sent x c k) old new = subst (λ ps. AllPairs IsBefore ps) (sym (payments-sent history x c k)) (pairs_push IsBefore (payments history) (payment history x c k) old (new x c k refl))
+pairs_payments history (Granted n c k l u) old new = subst (λ ps. AllPairs IsBefore ps) (sym (payments-other history (Granted n c k l u) refl)) old
+pairs_payments history (Short n c) old new = subst (λ ps. AllPairs IsBefore ps) (sym (payments-other history (Short n c) refl)) old
+pairs_payments history (Ended n c k) old new = subst (λ ps. AllPairs IsBefore ps) (sym (payments-other history (Ended n c k) refl)) old
+pairs_payments history (Capacity n capacity) old new = subst (λ ps. AllPairs IsBefore ps) (sym (payments-other history (Capacity n capacity) refl)) old
+pairs_payments history (Shed n c k) old new = subst (λ ps. AllPairs IsBefore ps) (sym (payments-other history (Shed n c k) refl)) old
+pairs_payments history (Looked n j) old new = subst (λ ps. AllPairs IsBefore ps) (sym (payments-other history (Looked n j) refl)) old
+
+-- a decision is not before the moment of its client's table
+decided-after : (history : List Record) (r : Record) (c : Client) (k : Kind) → MayFollow history r → decides c k r ≡ true → table_moment history (table_of c) ≤ moment_of r
+decided-after history (Granted n d j l u) c k may own = subst (λ e. table_moment history (table_of e) ≤ n) (sym (same_lease-true c k d j own).0) may.0
+decided-after history (Short n d) c k may own = absurd (false≢true own)
+decided-after history (Ended n d j) c k may own = subst (λ e. table_moment history (table_of e) ≤ n) (sym (same_lease-true c k d j own).0) may
+decided-after history (Capacity n capacity) c k may own = absurd (false≢true own)
+decided-after history (Shed n d j) c k may own = subst (λ e. table_moment history (table_of e) ≤ n) (sym (same_lease-true c k d j own).0) may
+decided-after history (Looked n j) c k may own = absurd (false≢true own)
+decided-after history (Sent n d j) c k may own = absurd (false≢true own)
+
+undecided : (c : Client) (k : Kind) (r : Record) → concerns c k r ≡ false → decides c k r ≡ false
+undecided c k r other = at (is_decision r)
+  where
+    at : (b : Bool) → cond b (concerns c k r) false ≡ false
+    at true = other
+    at false = refl
+
+table_moment-grows : (history : List Record) (r : Record) (j : ℕ) → table_moment history j ≤ table_moment (history ++ r ∷ []) j
+table_moment-grows history r j = let e : table_moment (history ++ r ∷ []) j ≡ max (table_moment history j) (table_part j r) = table_moment-push history r j in omega arith
+
+module _ (history : List Record) where
+  -- a payment stays made
+  settled-kept : (r : Record) → MayFollow history r → (l : ℤ) (p : Payment) → IsSettled history l p → IsSettled (history ++ r ∷ []) l p
+  settled-kept r may l p was =
+      record {
+        in_range = was.in_range;
+        period = was.period;
+        in_time = was.in_time;
+        by_table = omega (arith, was.by_table, table_moment-grows history r (table_of p.client));
+        held = λ x from to. held_at-push p.client p.kind l x history r
+            (λ own. omega (arith, to, was.in_time, was.by_table, decided-after history r p.client p.kind may own)) (was.held x from to);
+      }
+
+  table_moment-sent : (x : ℕ) (c : Client) (k : Kind) → x ≤ table_moment (history ++ Sent x c k ∷ []) (table_of c)
+  table_moment-sent x c k =
+      let part : table_part (table_of c) (Sent x c k) ≡ x = ap (λ b. cond b x 0) (eq-eqb-table c) in
+      let e : table_moment (history ++ Sent x c k ∷ []) (table_of c) ≡ max (table_moment history (table_of c)) (table_part (table_of c) (Sent x c k)) = table_moment-push history (Sent x c k) (table_of c) in
+      omega arith
+
+  module _ (sound : IsSound history) (x : ℕ) (c : Client) (k : Kind) (is : lawful history x c k ≡ true) where
+    at_grant : LiveGrant history x c k
+    unfolding lawful
+    at_grant = live-grant history x c k (and_parts (live history x c k) (leb (earliest history c k) x) is).0
+
+    due : earliest history c k ≤ x
+    unfolding lawful
+    due = leb-true (earliest history c k) x (and_parts (live history x c k) (leb (earliest history c k) x) is).1
+
+    -- the payment of a new message
+    new-settled : IsSettled (history ++ Sent x c k ∷ []) at_grant.log (payment history x c k)
+    new-settled =
+        let g : LiveGrant history x c k = at_grant in
+        let paced : IsPaced history c k g.log g.until = sound.paced c k g.start g.log g.until g.last in
+        let p : last_period history c k ≡ period_of g.log = last_period-granted history g.start c k g.log g.until g.last in
+        let first : chain history c k + period_of g.log ≤ earliest history c k = paced.first in
+        let on_time : earliest history c k ≤ x = due in
+        record {
+          in_range = paced.in_range;
+          period = omega (arith, p, first);
+          in_time = on_time;
+          by_table = table_moment-sent x c k;
+          held = λ y from to. held_at-push c k g.log y history (Sent x c k) (λ own. absurd (false≢true own))
+              (paced.held y (omega (arith, p, first, from)) (omega (arith, to, on_time, g.before)));
+        }
+
+    new-apart : All (λ p. IsBefore p (payment history x c k)) (payments history)
+    new-apart =
+        let g : LiveGrant history x c k = at_grant in
+        let paced : IsPaced history c k g.log g.until = sound.paced c k g.start g.log g.until g.last in
+        let e : last_period history c k ≡ period_of g.log = last_period-granted history g.start c k g.log g.until g.last in
+        All-weaker (λ p. same_lease c k p.client p.kind ≡ true → p.end + period_of g.log ≤ earliest history c k) (λ p. IsBefore p (payment history x c k))
+        (λ p was same. omega (arith, e, was (same_lease-sym c k p.client p.kind ∙ same))) (payments history) paced.paid
+
+    -- after a message
+    paced-sent : (n : ℕ) (l : ℤ) (u : ℕ) → last_decision history c k ≡ Some (Granted n c k l u) → IsPaced (history ++ Sent x c k ∷ []) c k l u
+    paced-sent n l u last =
+        let paced : IsPaced history c k l u = sound.paced c k n l u last in
+        let same : chain (history ++ Sent x c k ∷ []) c k ≡ chain history c k = chain-sent history x c k in
+        let later : earliest history c k + last_period history c k ≤ earliest (history ++ Sent x c k ∷ []) c k = earliest-sent_le history x c k due in
+        let p : last_period history c k ≡ period_of l = last_period-granted history n c k l u last in
+        record {
+          in_range = paced.in_range;
+          first = omega (arith, paced.first, same, later, p);
+          held = λ y from to. held_at-push c k l y history (Sent x c k) (λ own. absurd (false≢true own)) (paced.held y (omega (arith, from, same)) to);
+          paid = all_payments (λ q. same_lease c k q.client q.kind ≡ true → q.end + period_of l ≤ earliest (history ++ Sent x c k ∷ []) c k) history (Sent x c k)
+              (All-weaker (λ q. same_lease c k q.client q.kind ≡ true → q.end + period_of l ≤ earliest history c k) (λ q. same_lease c k q.client q.kind ≡ true → q.end + period_of l ≤ earliest (history ++ Sent x c k ∷ []) c k)
+              (λ q was same. omega (arith, was same, later)) (payments history) paced.paid)
+              (λ y d j e own. at_new y d j e own);
+        }
+      where
+        at_new : (y : ℕ) (d : Client) (j : Kind) → Sent x c k ≡ Sent y d j → same_lease c k d j ≡ true → earliest history d j + period_of l ≤ earliest (history ++ Sent x c k ∷ []) c k
+        at_new y d j e own =
+            let later : earliest history c k + last_period history c k ≤ earliest (history ++ Sent x c k ∷ []) c k = earliest-sent_le history x c k due in
+            let p : last_period history c k ≡ period_of l = last_period-granted history n c k l u last in
+            let is : (c ≡ d) × (k ≡ j) = same_lease-true c k d j own in
+            let here : earliest history c k ≡ earliest history d j = ap (λ b. earliest history b k) is.0 ∙ ap (λ i. earliest history d i) is.1 in
+            omega (arith, later, p, here)
+
+  -- after a record that concerns another
+  paced-other : (r : Record) (c : Client) (k : Kind) (l : ℤ) (u : ℕ) → concerns c k r ≡ false → IsPaced history c k l u → IsPaced (history ++ r ∷ []) c k l u
+  paced-other r c k l u other paced =
+      let same : chain (history ++ r ∷ []) c k ≡ chain history c k = chain-push history r c k other in
+      let next : earliest (history ++ r ∷ []) c k ≡ earliest history c k = earliest-push history r c k other in
+      record {
+        in_range = paced.in_range;
+        first = omega (arith, paced.first, same, next);
+        held = λ x from to. held_at-push c k l x history r (λ own. absurd (false≢true (sym (undecided c k r other) ∙ own))) (paced.held x (omega (arith, from, same)) to);
+        paid = all_payments (λ p. same_lease c k p.client p.kind ≡ true → p.end + period_of l ≤ earliest (history ++ r ∷ []) c k) history r
+            (All-weaker (λ p. same_lease c k p.client p.kind ≡ true → p.end + period_of l ≤ earliest history c k) (λ p. same_lease c k p.client p.kind ≡ true → p.end + period_of l ≤ earliest (history ++ r ∷ []) c k)
+            (λ p was same. omega (arith, was same, next)) (payments history) paced.paid)
+            (λ x d j e own. absurd (false≢true (sym other ∙ ap (λ s. concerns c k s) e ∙ own)));
+      }
+
+  -- after a grant
+  paced-granted : IsSound history → (n : ℕ) (c : Client) (k : Kind) (l : ℤ) (u : ℕ) → MayFollow history (Granted n c k l u) → IsPaced (history ++ Granted n c k l u ∷ []) c k l u
+  paced-granted sound n c k l u may = at (continues (Granted n c k l u) (last_decision history c k)) refl
+    where
+      r : Record
+      r = Granted n c k l u
+
+      no_message : (P : Type 0) (x : ℕ) (d : Client) (j : Kind) → Granted n c k l u ≡ Sent x d j → P
+      no_message P x d j e = absurd (cc)
+
+      at : (b : Bool) → continues (Granted n c k l u) (last_decision history c k) ≡ b → IsPaced (history ++ Granted n c k l u ∷ []) c k l u
+      at true e =
+          let g : Continued history n c k l = continued history n c k l u e in
+          let paced : IsPaced history c k l g.until = sound.paced c k g.start l g.until g.last in
+          let same : chain (history ++ Granted n c k l u ∷ []) c k ≡ chain history c k = chain_is history n c k l u true e in
+          let next : earliest (history ++ Granted n c k l u ∷ []) c k ≡ earliest history c k = earliest_same history n c k l u g.start g.until g.last g.before in
+          record {
+            in_range = may.1;
+            first = omega (arith, paced.first, same, next);
+            held = λ x from to. by_moment x (ltb x n) refl (omega (arith, from, same)) to g paced;
+            paid = all_payments (λ p. same_lease c k p.client p.kind ≡ true → p.end + period_of l ≤ earliest (history ++ Granted n c k l u ∷ []) c k) history (Granted n c k l u)
+                (All-weaker (λ p. same_lease c k p.client p.kind ≡ true → p.end + period_of l ≤ earliest history c k) (λ p. same_lease c k p.client p.kind ≡ true → p.end + period_of l ≤ earliest (history ++ Granted n c k l u ∷ []) c k)
+                (λ p was same. omega (arith, was same, next)) (payments history) paced.paid)
+                (λ x d j e own. no_message _ x d j e);
+          }
+        where
+          by_moment : (x : ℕ) (b : Bool) → ltb x n ≡ b → chain history c k ≤ x → x < u → (g : Continued history n c k l) → IsPaced history c k l g.until → is_held_at (history ++ Granted n c k l u ∷ []) c k l x ≡ true
+          by_moment x true before from to g paced =
+              let early : x < n = ltb-true x n before in
+              held_at-push c k l x history (Granted n c k l u) (λ own. early) (paced.held x from (omega (arith, early, g.before)))
+          by_moment x false before from to g paced = held_at-new c k l x history n u (ltb-false x n before) to
+      at false e =
+          let first : chain (history ++ Granted n c k l u ∷ []) c k ≡ n = chain_is history n c k l u false e in
+          let next : earliest (history ++ Granted n c k l u ∷ []) c k ≡ n + period_of l = earliest_new history n c k l u e in
+          record {
+            in_range = may.1;
+            first = omega (arith, first, next);
+            held = λ x from to. held_at-new c k l x history n u (omega (arith, from, first)) to;
+            paid = all_payments (λ p. same_lease c k p.client p.kind ≡ true → p.end + period_of l ≤ earliest (history ++ Granted n c k l u ∷ []) c k) history (Granted n c k l u)
+                (All-weaker (IsSettledAny history) (λ p. same_lease c k p.client p.kind ≡ true → p.end + period_of l ≤ earliest (history ++ Granted n c k l u ∷ []) c k)
+                (λ p was own.
+                let here : table_moment history (table_of c) ≡ table_moment history (table_of p.client) = ap (λ d. table_moment history (table_of d)) (same_lease-true c k p.client p.kind own).0 in
+                omega (arith, was.1.in_time, was.1.by_table, here, may.0, next)) (payments history) sound.settled)
+                (λ x d j e own. no_message _ x d j e);
+          }
+
+  -- each record that may follow keeps all of it
+  pub sound-push : (r : Record) → MayFollow history r → IsSound history → IsSound (history ++ r ∷ [])
+  sound-push r may sound =
+      record {
+        paced = λ c k n l u last. by_decision c k n l u (decides c k r) refl (sym (last_pushed history r c k) ∙ last);
+        settled = all_payments (IsSettledAny (history ++ r ∷ [])) history r
+            (All-weaker (IsSettledAny history) (IsSettledAny (history ++ r ∷ [])) (λ p was. (was.0, settled-kept r may was.0 p was.1)) (payments history) sound.settled)
+            (λ x c k e.
+            let is : lawful history x c k ≡ true = subst (λ s. MayFollow history s) e may in
+            subst (λ s. IsSettledAny (history ++ s ∷ []) (payment history x c k)) (sym e) ((at_grant sound x c k is).log, new-settled sound x c k is));
+        apart = pairs_payments history r sound.apart (λ x c k e. new-apart sound x c k (subst (λ s. MayFollow history s) e may));
+      }
+    where
+      by_concern : (c : Client) (k : Kind) (n : ℕ) (l : ℤ) (u : ℕ) (b : Bool) → concerns c k r ≡ b → decides c k r ≡ false → last_decision history c k ≡ Some (Granted n c k l u) → IsPaced (history ++ r ∷ []) c k l u
+      by_concern c k n l u true own other last =
+          let m : (x : ℕ) × (r ≡ Sent x c k) = is-message c k r own other in
+          subst (λ s. IsPaced (history ++ s ∷ []) c k l u) (sym m.1) (paced-sent sound m.0 c k (subst (λ s. MayFollow history s) m.1 may) n l u last)
+      by_concern c k n l u false own other last = paced-other r c k l u own (sound.paced c k n l u last)
+
+      by_decision : (c : Client) (k : Kind) (n : ℕ) (l : ℤ) (u : ℕ) (b : Bool) → decides c k r ≡ b → cond b (Some r) (last_decision history c k) ≡ Some (Granted n c k l u) → IsPaced (history ++ r ∷ []) c k l u
+      by_decision c k n l u true own is =
+          let same : r ≡ Granted n c k l u = cc in
+          subst (λ s. IsPaced (history ++ s ∷ []) c k l u) (sym same) (paced-granted sound n c k l u (subst (λ s. MayFollow history s) same may))
+      by_decision c k n l u false other is = by_concern c k n l u (concerns c k r) refl other is
+
+nothing_last : (c : Client) (k : Kind) (n : ℕ) (l : ℤ) (u : ℕ) → last_decision [] c k ≡ Some (Granted n c k l u) → IsPaced [] c k l u
+unfolding last_decision trail
+nothing_last c k n l u e = absurd (cc)
+
+nothing-sound : IsSound []
+unfolding payments payments_after
+nothing-sound = record { paced = nothing_last; settled = All-nil (IsSettledAny []); apart = λ i j d before within. absurd (omega arith) }
+
+pub sound-history : (config : Config) (events : List (ℕ × Event)) → IsSound (history config events)
+sound-history = by_records IsSound nothing-sound (λ before r may sound. sound-push before r may sound)
+
+-- the range of a logarithm, as a test and as a fact
+to_T : (b : Bool) → b ≡ true → T b
+to_T true e = tt
+to_T false e = absurd (false≢true e)
+
+log_range : (k : Kind) (l : ℤ) → is_log_of k l ≡ true → IsLogOf k l
+log_range k l e =
+    let parts : (int_le (least_log k) l ≡ true) × (int_le l (pos 4) ≡ true) = and_parts (int_le (least_log k) l) (int_le l (pos 4)) e in
+    (record { le = to_T (int_le (least_log k) l) parts.0 }, record { le = to_T (int_le l (pos 4)) parts.1 })
+
+from_settled : (history : List Record) (l : ℤ) (p : Payment) → IsSettled history l p → IsPaid history l p
+from_settled history l p is = record { in_range = log_range p.kind l is.in_range; period = is.period; in_time = is.in_time; held = is.held }
+
+pub payments-paid : (config : Config) (events : List (ℕ × Event)) → All (λ p. (l : ℤ) × IsPaid (history config events) l p) (payments (history config events))
+payments-paid config events =
+    All-weaker (IsSettledAny (history config events)) (λ p. (l : ℤ) × IsPaid (history config events) l p)
+    (λ p is. (is.0, from_settled (history config events) is.0 p is.1)) (payments (history config events)) (sound-history config events).settled
+
+-- a message is paid at the logarithm of the grant that is live at it
+pub message-paid : (config : Config) (events : List (ℕ × Event)) (before after : List Record) (x : ℕ) (c : Client) (k : Kind) → history config events ≡ before ++ Sent x c k ∷ after →
+    (n : ℕ) × (l : ℤ) × (u : ℕ) × (last_decision before c k ≡ Some (Granted n c k l u)) × (x < u) × IsPaid (history config events) l (payment before x c k)
+message-paid config events before after x c k is =
+    let all : AllMayFollow [] (before ++ Sent x c k ∷ after) = subst (λ h. AllMayFollow [] h) is (may-history config events) in
+    let sound : IsSound before = by_following IsSound (λ h r may was. sound-push h r may was) [] before (may-front [] before (Sent x c k ∷ after) all) nothing-sound in
+    let good : lawful before x c k ≡ true = may-at [] before (Sent x c k) after all in
+    let g : LiveGrant before x c k = at_grant before sound x c k good in
+    let rest : AllMayFollow (before ++ Sent x c k ∷ []) after = (may-rest [] before (Sent x c k ∷ after) all).1 in
+    let kept : IsSettled ((before ++ Sent x c k ∷ []) ++ after) g.log (payment before x c k)
+    = by_following (λ h. IsSettled h g.log (payment before x c k)) (λ h r may was. settled-kept h r may g.log (payment before x c k) was) (before ++ Sent x c k ∷ []) after rest (new-settled before sound x c k good) in (
+      g.start,
+      g.log,
+      g.until,
+      g.last,
+      g.before,
+      from_settled (history config events) g.log (payment before x c k)
+          (subst (λ h. IsSettled h g.log (payment before x c k)) (append_assoc before (Sent x c k ∷ []) after ∙ sym is) kept),
+    )
+
+pub payments-apart : (config : Config) (events : List (ℕ × Event)) → AllPairs IsBefore (payments (history config events))
+payments-apart config events = (sound-history config events).apart

@@ -1,0 +1,4 @@
+pub mod Granted
+pub mod Paid
+pub mod Changes
+pub mod Part

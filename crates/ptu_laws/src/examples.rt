@@ -1,0 +1,25 @@
+//! Short histories, on which the laws show. The function does nothing: its contract is the examples.
+
+ghost use Rattle.std.specs.Prelude.{◌≡◌, ℕ, ◌*◌, List, [], ◌∷◌, pos};
+ghost use Rattle.ptu_units.specs.declared.kind.Kind.TheVariants.{Announce};
+ghost use Rattle.ptu_history.specs.History.{Granted, Capacity, Shed};
+ghost use Rattle.ptu_history.specs.Step.{Request, Resize, history};
+ghost use Rattle.ptu_history.specs.Held.{budget, count, force, held};
+ghost use Rattle.ptu_history.specs.Examples.{ask_of, config_of, first_client, lower_capacity, second_client, seconds, sync_and_turns};
+
+/// What the laws say of short lists of events.
+pub fn examples()
+    // a Sync a second at capacity 16, with a turn at each whole second
+    ensures budget_is_used_wholly { let after = history (config_of 16 300) (sync_and_turns (1 ∷ 2 ∷ 3 ∷ 4 ∷ 5 ∷ 6 ∷ 7 ∷ 8 ∷ 9 ∷ 10 ∷ [])) in
+        count after (seconds 10) * (16 * 1000000000) ≡ budget 16 after (seconds 10) }
+    ensures turns_backwards_send_one { let after = history (config_of 16 300) (sync_and_turns (10 ∷ 9 ∷ 8 ∷ 7 ∷ 6 ∷ 5 ∷ 4 ∷ 3 ∷ 2 ∷ 1 ∷ [])) in
+        count after (seconds 10) ≡ 1 }
+    ensures lower_capacity_sheds_the_newest { history (config_of 16 300)
+        ((0, Request first_client (ask_of Announce (pos 1)))
+        ∷ (seconds 1, Request second_client (ask_of Announce (pos 1))) ∷ (seconds 2, Resize 8) ∷ [])
+        ≡ Granted 0 first_client Announce (pos 1) (seconds 300)
+        ∷ Granted (seconds 1) second_client Announce (pos 1) (seconds 301)
+        ∷ Capacity (seconds 2) 8 ∷ Shed (seconds 2) second_client Announce ∷ [] }
+    ensures lower_capacity_is_held_wholly { let after = history (config_of 16 300) lower_capacity in
+        held after (seconds 2) ≡ force 16 after (seconds 2) }
+{}
