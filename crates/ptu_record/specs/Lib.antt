@@ -1,0 +1,13 @@
+pub mod Lists
+pub mod Quality
+pub mod Record
+pub mod Judges
+pub mod Marks
+pub mod SignalFails
+pub mod OutageEnds
+pub mod Selection
+pub mod Wants
+pub mod Grants
+pub mod Asks
+pub mod Tick
+pub mod Examples

@@ -1,0 +1,16 @@
+//! What a slave took and did, and what follows from it: its judges' answers, signal fails, the choice of a
+//! master, and when it asks. The definitions stand in `specs/`; the layers above meet them by code.
+#![tactic(auto)]
+
+pub mod examples;
+pub mod laws;
+mod quality;
+mod rule;
+mod wants;
+
+pub use quality::{Quality, quality_of};
+pub use rule::Rule;
+pub use wants::{Wants, receipt_timeout};
+
+#[cfg(test)]
+mod tests;

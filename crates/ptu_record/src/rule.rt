@@ -1,0 +1,8 @@
+/// How a judge finds a master unusable.
+#[derive(Clone, Copy, Debug, PartialEq, Eq, Hash)]
+pub enum Rule {
+    /// Where the operator said so last.
+    Flag,
+    /// There, and where at least so many of the last sixteen Syncs are missing.
+    Gap(u8),
+}

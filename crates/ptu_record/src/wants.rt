@@ -1,0 +1,38 @@
+ghost use Rattle.std.specs.Prelude.{◌≡◌, ◌*◌};
+ghost use Rattle.ptu_units.specs.Log.{period_of};
+ghost use Rattle.ptu_record.specs.Wants.{wanted_log};
+
+use ptu_units::{Kind, Log, period};
+
+/// What a slave requests of each of its masters.
+#[derive(Clone, Copy, Debug, PartialEq, Eq, Hash)]
+pub struct Wants {
+    /// The logarithm of the Announce interval.
+    pub announce: Log,
+    /// The logarithm of the Sync interval.
+    pub sync: Log,
+    /// The logarithm of the Delay_Req interval, where Delay_Resp is requested.
+    pub delay: Option<Log>,
+    /// The duration of each grant that is asked for, in seconds.
+    pub seconds: u32,
+}
+
+impl Wants {
+    /// The logarithm that is requested of a kind, or `None` where the kind is not requested.
+    pub fn log(&self, kind: Kind) -> Option<Log>
+        ensures { result ≡ wanted_log self.now kind }
+    {
+        match kind {
+            Kind::Announce => Some(self.announce),
+            Kind::Sync => Some(self.sync),
+            Kind::DelayResp => self.delay,
+        }
+    }
+}
+
+/// The receipt timeout of so many periods of a logarithm, in nanoseconds.
+pub fn receipt_timeout(periods: u8, log: Log) -> u64
+    ensures { result ≡ periods * period_of log }
+{
+    periods as u64 * period(log)
+}
