@@ -1,0 +1,11 @@
+mod Lists
+mod Profiles
+mod Requests
+mod Decided
+mod Datagrams
+mod Writing
+mod Outcomes
+mod Underway
+mod Whole
+mod Takings
+mod Kept

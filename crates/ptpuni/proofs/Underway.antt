@@ -1,0 +1,126 @@
+-- A replay that is under way: what was written, and the report of the lines that are left, are the report of all.
+use Rattle.std.proofs.Common.{◌≡◌, ◌∙◌, ℕ, ◌+◌, ◌++◌, List, [], ◌∷◌, Option, Some, None, refl, sym, ap, subst, append_assoc}
+use Rattle.std.specs.Prelude.{IfSome}
+use Rattle.std.proofs.lemmas.List.{append-nil}
+use Rattle.std.proofs.lemmas.List.Concat.{flat_map-append}
+use Rattle.ptu_lines.specs.Script.{ScriptLine, Whole, Refused}
+use Rattle.ptu_history.specs.History.{Record}
+use Rattle.ptpuni.specs.declared.grandmaster.Grandmaster.{Grandmaster}
+use Rattle.ptpuni.specs.declared.leases.Leases.{Leases}
+use Rattle.ptpuni.specs.declared.script.Asked.{Asked}
+use Rattle.ptpuni.specs.declared.ending.Ending.{Ending}
+use Rattle.ptpuni.specs.Decision.{StandsFor}
+use Rattle.ptpuni.specs.Ending.{is_whole_ending}
+use Rattle.ptpuni.specs.Forms.{asked_in}
+use Rattle.ptpuni.specs.Next.{IsRequest, IsRefused}
+use Rattle.ptpuni.specs.Outcome.{report_text}
+use Rattle.ptpuni.specs.Report.{ReportLine, Granted, Short, Send, BadForm, End, text_of}
+use Rattle.ptpuni.specs.Replay.{report_at, report_after, request_lines, history_with, is_whole}
+use Rattle.ptpuni.specs.Written.{HasWritten, HasWrittenPart, HasReported}
+use Rattle.ptpuni.proofs.Writing.{whole_then, then_part, part_then}
+
+-- of the lines `all` that were to come at first, these are left
+pub record Progress (gm : Grandmaster) (leases : Leases) (count datagrams : ℕ) (left : Option (List ScriptLine)) (first_told told : Option (List ℕ)) (all : List ScriptLine) : Type 0 where
+  pub history : List Record
+  pub rest : List ScriptLine
+  pub done : List ℕ
+  pub stands : StandsFor leases history
+  pub left_is : left ≡ Some rest
+  pub written : HasWritten first_told told done
+  pub texts : report_text (report_after gm [] 1 0 all) ≡ done ++ report_text (report_after gm history count datagrams rest)
+  pub endings : is_whole (report_after gm [] 1 0 all) ≡ is_whole (report_after gm history count datagrams rest)
+
+-- a report is never empty
+one_at_least : (gm : Grandmaster) (history : List Record) (count datagrams : ℕ) (rest : List ScriptLine) → (line : ReportLine) × (lines : List ReportLine) × (report_after gm history count datagrams rest ≡ line ∷ lines)
+one_at_least gm history count datagrams [] = (End count datagrams, [], refl)
+one_at_least gm history count datagrams (Refused cause ∷ rest) = (BadForm (count + 1), [], refl)
+one_at_least gm history count datagrams (Whole text ∷ rest) = at (asked_in gm text) (λ a. one_at_least gm (history_with gm history a) (count + 1) (datagrams + 1) rest)
+  where
+    ahead : (a : Asked) (first : List ReportLine) → (line : ReportLine) × (lines : List ReportLine) × (report_after gm (history_with gm history a) (count + 1) (datagrams + 1) rest ≡ line ∷ lines)
+        → (line : ReportLine) × (lines : List ReportLine) × (first ++ report_after gm (history_with gm history a) (count + 1) (datagrams + 1) rest ≡ line ∷ lines)
+    ahead a [] h = h
+    ahead a (x ∷ xs) h = (x, xs ++ report_after gm (history_with gm history a) (count + 1) (datagrams + 1) rest, refl)
+
+    at : (o : Option Asked) → ((a : Asked) → (line : ReportLine) × (lines : List ReportLine) × (report_after gm (history_with gm history a) (count + 1) (datagrams + 1) rest ≡ line ∷ lines))
+        → (line : ReportLine) × (lines : List ReportLine) × (report_at (count + 1) o (λ a. request_lines gm history (count + 1) (datagrams + 1) a ++ report_after gm (history_with gm history a) (count + 1) (datagrams + 1) rest) ≡ line ∷ lines)
+    at None ih = (BadForm (count + 1), [], refl)
+    at (Some a) ih = ahead a (request_lines gm history (count + 1) (datagrams + 1) a) (ih a)
+
+is_whole-cons : (x y : ReportLine) (ys : List ReportLine) → is_whole (x ∷ y ∷ ys) ≡ is_whole (y ∷ ys)
+is_whole-cons (Granted n k l at until) y ys = refl
+is_whole-cons (Short n k l at others rate capacity) y ys = refl
+is_whole-cons (Send n d from to octets) y ys = refl
+is_whole-cons (BadForm n) y ys = refl
+is_whole-cons (End lines datagrams) y ys = refl
+
+is_whole-append : (xs : List ReportLine) (y : ReportLine) (ys : List ReportLine) → is_whole (xs ++ y ∷ ys) ≡ is_whole (y ∷ ys)
+is_whole-append [] y ys = refl
+is_whole-append (x ∷ []) y ys = is_whole-cons x y ys
+is_whole-append (x ∷ x' ∷ xs) y ys = is_whole-cons x x' (xs ++ y ∷ ys) ∙ is_whole-append (x' ∷ xs) y ys
+
+module _ (gm : Grandmaster) (leases : Leases) (count datagrams : ℕ) (left : Option (List ScriptLine)) (first_told told : Option (List ℕ)) (all : List ScriptLine) (p : Progress gm leases count datagrams left first_told told all) where
+  -- what was written so far is a front of the report
+  pub so_far : HasWrittenPart first_told told (report_text (report_after gm [] 1 0 all))
+  so_far = record { front = p.done; rest = report_text (report_after gm p.history count datagrams p.rest); parts = p.texts; written = p.written }
+
+  -- the lines that are left begin with the request
+  begins : (asked : Asked) (new : Option (List ScriptLine)) → IsRequest gm asked left new → (rest : List ScriptLine) × (new ≡ Some rest)
+      × (report_after gm p.history count datagrams p.rest ≡ request_lines gm p.history (count + 1) (datagrams + 1) asked ++ report_after gm (history_with gm p.history asked) (count + 1) (datagrams + 1) rest)
+  begins asked None r = absurd (let e : Some p.rest ≡ None = sym p.left_is ∙ r.next in cc)
+  begins asked (Some rest) r =
+      let is : p.rest ≡ Whole r.text ∷ rest = (let e : Some p.rest ≡ Some (Whole r.text ∷ rest) = sym p.left_is ∙ r.next in cc) in (
+        rest,
+        refl,
+        ap (report_after gm p.history count datagrams) is
+            ∙ ap (λ o. report_at (count + 1) o (λ a. request_lines gm p.history (count + 1) (datagrams + 1) a ++ report_after gm (history_with gm p.history a) (count + 1) (datagrams + 1) rest)) r.form,
+      )
+
+  module _ (asked : Asked) (new : Option (List ScriptLine)) (r : IsRequest gm asked left new) where
+    -- one request more
+    pub one_more : (leases' : Leases) (told' : Option (List ℕ)) → StandsFor leases' (history_with gm p.history asked) → HasWritten told told' (report_text (request_lines gm p.history (count + 1) (datagrams + 1) asked))
+        → Progress gm leases' (count + 1) (datagrams + 1) new first_told told' all
+    one_more leases' told' stands written =
+        let b = begins asked new r in
+        let lines = request_lines gm p.history (count + 1) (datagrams + 1) asked in
+        let later = report_after gm (history_with gm p.history asked) (count + 1) (datagrams + 1) b.0 in
+        let n = one_at_least gm (history_with gm p.history asked) (count + 1) (datagrams + 1) b.0 in
+        record {
+          history = history_with gm p.history asked;
+          rest = b.0;
+          done = p.done ++ report_text lines;
+          stands = stands;
+          left_is = b.1;
+          written = whole_then first_told told told' p.done (report_text lines) p.written written;
+          texts = p.texts ∙ ap (λ x. p.done ++ report_text x) b.2 ∙ ap (λ x. p.done ++ x) (flat_map-append text_of lines later) ∙ sym (append_assoc p.done (report_text lines) (report_text later));
+          endings = p.endings ∙ ap is_whole b.2 ∙ ap (λ x. is_whole (lines ++ x)) n.2 ∙ is_whole-append lines n.0 n.1 ∙ ap is_whole (sym n.2);
+        }
+
+    -- a request that was written in part
+    pub in_part : (told' : Option (List ℕ)) → HasWrittenPart told told' (report_text (request_lines gm p.history (count + 1) (datagrams + 1) asked)) → HasWrittenPart first_told told' (report_text (report_after gm [] 1 0 all))
+    in_part told' written =
+        let b = begins asked new r in
+        let lines = request_lines gm p.history (count + 1) (datagrams + 1) asked in
+        let later = report_after gm (history_with gm p.history asked) (count + 1) (datagrams + 1) b.0 in
+        let texts : report_text (report_after gm [] 1 0 all) ≡ p.done ++ (report_text lines ++ report_text later) = p.texts ∙ ap (λ x. p.done ++ report_text x) b.2 ∙ ap (λ x. p.done ++ x) (flat_map-append text_of lines later) in
+        subst (λ t. HasWrittenPart first_told told' t) (sym texts) (then_part first_told told told' p.done (report_text lines ++ report_text later) p.written (part_then told told' (report_text lines) (report_text later) written))
+
+  module _ (line : ReportLine) (last : report_after gm p.history count datagrams p.rest ≡ line ∷ []) where
+    texts_end : report_text (report_after gm [] 1 0 all) ≡ p.done ++ text_of line
+    texts_end = p.texts ∙ ap (λ x. p.done ++ report_text x) last ∙ ap (λ x. p.done ++ x) (append-nil (text_of line))
+
+    -- the last line
+    pub ended : (told' : Option (List ℕ)) (ending : Ending) → HasWritten told told' (text_of line) → is_whole (line ∷ []) ≡ is_whole_ending ending → HasReported first_told told' (report_after gm [] 1 0 all) ending
+    ended told' ending written ends = record {
+      written = subst (λ t. HasWritten first_told told' t) (sym texts_end) (whole_then first_told told told' p.done (text_of line) p.written written);
+      ends = p.endings ∙ ap is_whole last ∙ ends;
+    }
+
+    pub ended_in_part : (told' : Option (List ℕ)) → HasWrittenPart told told' (text_of line) → HasWrittenPart first_told told' (report_text (report_after gm [] 1 0 all))
+    ended_in_part told' written = subst (λ t. HasWrittenPart first_told told' t) (sym texts_end) (then_part first_told told told' p.done (text_of line) p.written written)
+
+  -- the line is refused, or there is none
+  pub refused : IfSome left (IsRefused gm) → report_after gm p.history count datagrams p.rest ≡ BadForm (count + 1) ∷ []
+  refused h = (subst (λ o. IfSome o (IsRefused gm)) p.left_is h) p.history count datagrams
+
+  pub at_end : IfSome left (λ lines. lines ≡ []) → report_after gm p.history count datagrams p.rest ≡ End count datagrams ∷ []
+  at_end h = ap (report_after gm p.history count datagrams) (subst (λ o. IfSome o (λ lines. lines ≡ [])) p.left_is h)

@@ -1,0 +1,17 @@
+pub mod Words
+pub mod Report
+pub mod Leases
+pub mod Decision
+pub mod Answer
+pub mod Datagram
+pub mod Reply
+pub mod Outcome
+pub mod Written
+pub mod Forms
+pub mod Replay
+pub mod Next
+pub mod Ending
+pub mod First
+pub mod Taking
+pub mod Kept
+pub mod Run

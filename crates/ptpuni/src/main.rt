@@ -1,0 +1,67 @@
+//! A PTP unicast grandmaster and its slaves (IEEE 1588-2019 clause 16.1, ITU-T G.8265.1).
+//!
+//! `ptpuni replay` reads a script from standard input and writes a report of every decision and datagram to standard
+//! output.
+#![tactic(auto)]
+
+mod answering;
+mod datagram;
+mod ending;
+mod first;
+mod grandmaster;
+mod leases;
+mod next;
+mod replay;
+mod reply;
+mod report;
+mod request;
+mod run;
+mod script;
+mod stop;
+mod text;
+
+use ptu_outside::{StdSink, StdSource};
+use run::{OUT_OF_MEMORY, USAGE};
+use std::alloc::{AllocError, Global};
+use std::env::Env;
+use std::process::ExitCode;
+use std::{env, io};
+
+const USAGE_TEXT: &str = "usage: ptpuni replay";
+
+// The words after the program's name.
+fn words_of<R: Env + AllocGlobal>(rt: &R) -> io::Result<Vec<String>> {
+    let mut words = Vec::new(rt.alloc());
+    for word in env::args(rt)?.skip(1) {
+        words.push(word)?;
+    }
+    Ok(words)
+}
+
+// The words as text.
+fn texts_of(alloc: Global, words: &[String]) -> Result<Vec<&str>, AllocError> {
+    let mut texts = Vec::with_capacity(alloc, words.len())?;
+    for word in words {
+        texts.push(word.as_str())?;
+    }
+    Ok(texts)
+}
+
+fn main(rt: HostRuntime) -> ExitCode {
+    let Ok(words) = words_of(&rt) else {
+        return ExitCode::from(OUT_OF_MEMORY);
+    };
+    let Ok(texts) = texts_of(rt.alloc(), &words) else {
+        return ExitCode::from(OUT_OF_MEMORY);
+    };
+    let mut source = StdSource::new(rt.stdin());
+    let mut sink = StdSink::new(rt.stdout());
+    let status = run::run(rt.alloc(), &texts, &mut source, &mut sink);
+    if status == USAGE {
+        let _ = eprintln!(rt; "{USAGE_TEXT}");
+    }
+    ExitCode::from(status)
+}
+
+#[cfg(test)]
+mod tests;

@@ -1,0 +1,71 @@
+//! What the program does: the words of its command line, and the status that it ends with.
+
+ghost use Rattle.std.specs.Prelude.{◌≡◌, ◌≢◌, ◌↔◌, ℕ, List, true, false, map, Contains};
+ghost use Rattle.ptu_lines.specs.Script.{script_lines};
+ghost use Rattle.ptu_outside.specs.Faults.{HasRisen};
+ghost use Rattle.ptpuni.specs.declared.grandmaster.Grandmaster.{Grandmaster};
+ghost use Rattle.ptpuni.specs.declared.script.Asked.{Asked};
+ghost use Rattle.ptpuni.specs.Outcome.{report_text};
+ghost use Rattle.ptpuni.specs.Replay.{report};
+ghost use Rattle.ptpuni.specs.Kept.{Hands, IsKept};
+ghost use Rattle.ptpuni.specs.Written.{HasWrittenPart};
+ghost use Rattle.ptpuni.specs.Run.{statuses, is_replay, HasReplayed};
+
+use crate::ending::Ending;
+use crate::replay::replay;
+use crate::stop::Stop;
+use ptu_outside::{Sink, Source};
+use std::alloc::Global;
+
+/// The words are those of no command.
+pub const USAGE: u8 = 64;
+
+/// A line of the script is not of the form.
+pub const BAD_LINE: u8 = 65;
+
+/// The source failed.
+pub const SOURCE_FAULT: u8 = 66;
+
+/// The sink failed.
+pub const SINK_FAULT: u8 = 67;
+
+/// No memory was found.
+pub const OUT_OF_MEMORY: u8 = 71;
+
+/// Does all that the program does, with the words after its name, and gives the status that it ends with: 0 where the
+/// source was read to its end and the whole output was written, or one of the numbers above.
+#[tactic(auto, using(crate::proofs::Kept::is_kept))]
+pub fn run<S: Source, K: Sink>(alloc: Global, words: &[&str], source: &mut S, sink: &mut K) -> u8
+    ensures statuses { Contains statuses result }
+
+    // The words are those of no command, and then nothing was read or written.
+    ensures usage { (result ≡ USAGE) ↔ (is_replay (map (λ w. w.now) words.now) ≡ false) }
+    ensures untouched { result ≡ USAGE → (source.new ≡ source.old) × (sink.new ≡ sink.old) }
+
+    // The whole report was written, and the status says how it ends.
+    ensures report { (script before : List ℕ) → S.left source.old ≡ Some script → K.written sink.old ≡ Some before
+        → is_replay (map (λ w. w.now) words.now) ≡ true → (HasRisen (S.faults source.old) (S.faults source.new) → ⊥)
+        → (HasRisen (K.faults sink.old) (K.faults sink.new) → ⊥) → result ≢ OUT_OF_MEMORY
+        → HasReplayed script before (S.left source.new) (K.written sink.new) result }
+
+    // The grandmaster of the script that is read keeps to its capacity, and decides each request by the room for it.
+    ensures kept { (script : List ℕ) → S.left source.old ≡ Some script → (gm : Grandmaster) (asks : List Asked)
+        → Hands gm asks (script_lines script) → IsKept gm script asks }
+
+    // A fault is answered only where there was one, and what was written then is a front of the report.
+    ensures source_fault { result ≡ SOURCE_FAULT → HasRisen (S.faults source.old) (S.faults source.new) }
+    ensures sink_fault { result ≡ SINK_FAULT → HasRisen (K.faults sink.old) (K.faults sink.new) }
+    ensures front { (script : List ℕ) → S.left source.old ≡ Some script → is_replay (map (λ w. w.now) words.now) ≡ true
+        → HasWrittenPart (K.written sink.old) (K.written sink.new) (report_text (report script)) }
+{
+    if words.len() != 1 || words[0] != "replay" {
+        return USAGE;
+    }
+    match replay(alloc, source, sink) {
+        Ok(Ending::Whole) => 0,
+        Ok(Ending::Refused) => BAD_LINE,
+        Err(Stop::Read) => SOURCE_FAULT,
+        Err(Stop::Write) => SINK_FAULT,
+        Err(Stop::OutOfMemory) => OUT_OF_MEMORY,
+    }
+}
