@@ -5,6 +5,7 @@ mod Decided
 mod Datagrams
 mod Writing
 mod Outcomes
+mod Reached
 mod Underway
 mod Whole
 mod Takings

@@ -1,8 +1,12 @@
 -- A replay that is under way: what was written, and the report of the lines that are left, are the report of all.
-use Rattle.std.proofs.Common.{◌≡◌, ◌∙◌, ℕ, ◌+◌, ◌++◌, List, [], ◌∷◌, Option, Some, None, refl, sym, ap, subst, append_assoc}
+use Rattle.std.proofs.Common.{◌≡◌, ◌∙◌, ℕ, ◌+◌, ◌≤◌, ◌++◌, List, [], ◌∷◌, Option, Some, None, refl, sym, ap, subst, append_assoc, arith}
 use Rattle.std.specs.Prelude.{IfSome}
 use Rattle.std.proofs.lemmas.List.{append-nil}
+use Rattle.std.specs.List.{filter}
 use Rattle.std.proofs.lemmas.List.Concat.{flat_map-append}
+use Rattle.std.proofs.lemmas.List.Elements.{filter-append}
+use Rattle.std.specs.Io.KnownBytes.{prepend_known}
+use Rattle.ptu_lines.specs.declared.line_reader.LineReader.{LineReader}
 use Rattle.ptu_lines.specs.Script.{ScriptLine, Whole, Refused}
 use Rattle.ptu_history.specs.History.{Record}
 use Rattle.ptpuni.specs.declared.grandmaster.Grandmaster.{Grandmaster}
@@ -14,10 +18,13 @@ use Rattle.ptpuni.specs.Ending.{is_whole_ending}
 use Rattle.ptpuni.specs.Forms.{asked_in}
 use Rattle.ptpuni.specs.Next.{IsRequest, IsRefused}
 use Rattle.ptpuni.specs.Outcome.{report_text}
-use Rattle.ptpuni.specs.Report.{ReportLine, Granted, Short, Send, BadForm, End, text_of}
+use Rattle.ptpuni.specs.Report.{ReportLine, Granted, Short, Send, BadForm, End, is_up_to, text_of}
 use Rattle.ptpuni.specs.Replay.{report_at, report_after, request_lines, history_with, is_whole}
-use Rattle.ptpuni.specs.Written.{HasWritten, HasWrittenPart, HasReported}
+use Rattle.ptpuni.specs.Taking.{Gives, LeavesNoLine}
+use Rattle.ptpuni.specs.Written.{HasReported, HasWritten, HasWrittenAllMore, HasWrittenPart}
 use Rattle.ptpuni.proofs.Writing.{whole_then, then_part, part_then}
+use Rattle.ptpuni.proofs.Reached.{left_beyond, request_reached}
+use Rattle.ptpuni.proofs.Takings.{ends_in-append, prepend_known-append}
 
 -- of the lines `all` that were to come at first, these are left
 pub record Progress (gm : Grandmaster) (leases : Leases) (count datagrams : ℕ) (left : Option (List ScriptLine)) (first_told told : Option (List ℕ)) (all : List ScriptLine) : Type 0 where
@@ -29,6 +36,7 @@ pub record Progress (gm : Grandmaster) (leases : Leases) (count datagrams : ℕ)
   pub written : HasWritten first_told told done
   pub texts : report_text (report_after gm [] 1 0 all) ≡ done ++ report_text (report_after gm history count datagrams rest)
   pub endings : is_whole (report_after gm [] 1 0 all) ≡ is_whole (report_after gm history count datagrams rest)
+  pub reached : (most : ℕ) → count ≤ most → report_text (filter (is_up_to most) (report_after gm [] 1 0 all)) ≡ done ++ report_text (filter (is_up_to most) (report_after gm history count datagrams rest))
 
 -- a report is never empty
 one_at_least : (gm : Grandmaster) (history : List Record) (count datagrams : ℕ) (rest : List ScriptLine) → (line : ReportLine) × (lines : List ReportLine) × (report_after gm history count datagrams rest ≡ line ∷ lines)
@@ -63,6 +71,22 @@ module _ (gm : Grandmaster) (leases : Leases) (count datagrams : ℕ) (left : Op
   pub so_far : HasWrittenPart first_told told (report_text (report_after gm [] 1 0 all))
   so_far = record { front = p.done; rest = report_text (report_after gm p.history count datagrams p.rest); parts = p.texts; written = p.written }
 
+  -- what was written so far is all that the report has of the lines that were reached
+  pub all_reached : HasWritten first_told told (report_text (filter (is_up_to count) (report_after gm [] 1 0 all)))
+  all_reached =
+      let is : report_text (filter (is_up_to count) (report_after gm [] 1 0 all)) ≡ p.done = p.reached count (omega arith) ∙ ap (λ x. p.done ++ report_text x) (left_beyond count gm p.history count datagrams p.rest (omega arith)) ∙ append-nil p.done in
+      subst (λ t. HasWritten first_told told t) (sym is) p.written
+
+  -- so it is where the source fails, of the octets that were taken
+  pub all_read : {a b c : Option (List ℕ)} (r s : LineReader) → Gives a b r s → s.number ≡ count → LeavesNoLine b c s → HasWrittenAllMore a c first_told told r (report_after gm [] 1 0 all)
+  all_read {c = c} r s gives number none = record {
+    octets = gives.octets ++ none.octets;
+    taken = gives.taken ∙ ap (prepend_known gives.octets) none.taken ∙ prepend_known-append c gives.octets none.octets;
+    most = count;
+    ends = omega (arith, gives.ends, none.ends, number, ends_in-append r.buffer.waiting (gives.octets ++ none.octets), ends_in-append gives.octets none.octets, ends_in-append r.buffer.waiting gives.octets, ends_in-append s.buffer.waiting none.octets);
+    written = all_reached;
+  }
+
   -- the lines that are left begin with the request
   begins : (asked : Asked) (new : Option (List ScriptLine)) → IsRequest gm asked left new → (rest : List ScriptLine) × (new ≡ Some rest)
       × (report_after gm p.history count datagrams p.rest ≡ request_lines gm p.history (count + 1) (datagrams + 1) asked ++ report_after gm (history_with gm p.history asked) (count + 1) (datagrams + 1) rest)
@@ -93,6 +117,12 @@ module _ (gm : Grandmaster) (leases : Leases) (count datagrams : ℕ) (left : Op
           written = whole_then first_told told told' p.done (report_text lines) p.written written;
           texts = p.texts ∙ ap (λ x. p.done ++ report_text x) b.2 ∙ ap (λ x. p.done ++ x) (flat_map-append text_of lines later) ∙ sym (append_assoc p.done (report_text lines) (report_text later));
           endings = p.endings ∙ ap is_whole b.2 ∙ ap (λ x. is_whole (lines ++ x)) n.2 ∙ is_whole-append lines n.0 n.1 ∙ ap is_whole (sym n.2);
+          reached = λ most le. p.reached most (omega (arith, le))
+              ∙ ap (λ x. p.done ++ report_text (filter (is_up_to most) x)) b.2
+              ∙ ap (λ x. p.done ++ report_text x) (filter-append (is_up_to most) lines later)
+              ∙ ap (λ x. p.done ++ report_text (x ++ filter (is_up_to most) later)) (request_reached most gm p.history (count + 1) (datagrams + 1) asked le)
+              ∙ ap (λ x. p.done ++ x) (flat_map-append text_of lines (filter (is_up_to most) later))
+              ∙ sym (append_assoc p.done (report_text lines) (report_text (filter (is_up_to most) later)));
         }
 
     -- a request that was written in part

@@ -7,7 +7,7 @@ use Rattle.ptpuni.specs.Written.{HasWritten, HasWrittenPart}
 abbrev Told : Type 0
 Told = Option (List ℕ)
 
-append_known-nil : (told : Told) → append_known told [] ≡ told
+pub append_known-nil : (told : Told) → append_known told [] ≡ told
 append_known-nil None = refl
 append_known-nil (Some xs) = ap (λ (ys : List ℕ). Some ys) (append-nil xs)
 

@@ -1,5 +1,5 @@
 -- The lines of a report, and how each is written.
-use Rattle.std.specs.Prelude.{ℕ, ℤ, List, [], ◌∷◌, codes}
+use Rattle.std.specs.Prelude.{ℕ, ℤ, Bool, false, List, [], ◌∷◌, codes, nat_le}
 use Rattle.std.specs.Fmt.{decimal, signed_decimal}
 use Rattle.hex.specs.Hex.{encode_lower}
 use Rattle.ptu_units.specs.declared.kind.Kind.{Kind}
@@ -29,3 +29,11 @@ text_of (Send number datagram from to octets) =
     line_of (decimal number) (codes "send" ∷ decimal datagram ∷ address_text from ∷ address_text to ∷ codes "general" ∷ encode_lower octets ∷ [])
 text_of (BadForm number) = line_of (decimal number) (codes "bad" ∷ codes "form" ∷ [])
 text_of (End lines datagrams) = line_of (codes "end") (decimal lines ∷ decimal datagrams ∷ [])
+
+-- the line is of one of the script's first so many lines
+abbrev pub is_up_to : ℕ → ReportLine → Bool
+is_up_to most (Granted number kind log at until) = nat_le number most
+is_up_to most (Short number kind log at others rate capacity) = nat_le number most
+is_up_to most (Send number datagram from to octets) = nat_le number most
+is_up_to most (BadForm number) = nat_le number most
+is_up_to most (End lines datagrams) = false

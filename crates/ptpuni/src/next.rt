@@ -3,7 +3,7 @@
 ghost use Rattle.std.specs.Prelude.{◌≡◌, ◌<◌, ◌≤◌, ◌+◌, IfOk, IfErr, OnErr, IsErrOf};
 ghost use Rattle.std.specs.Io.KnownBytes.{IsAtEnd};
 ghost use Rattle.ptu_outside.specs.Faults.{HasRisen};
-ghost use Rattle.ptpuni.specs.Taking.{Takes};
+ghost use Rattle.ptpuni.specs.Taking.{Gives, LeavesNoLine, Takes};
 ghost use Rattle.ptu_lines.specs.Lines.{lines_left, octets_taken};
 ghost use Rattle.ptpuni.specs.Datagram.{IsWithinProfile};
 ghost use Rattle.ptpuni.specs.Next.{IsNext, asks_within, is_more, is_end};
@@ -40,6 +40,8 @@ pub fn next_line<S: Source>(
     ensures cause { IfErr result (λ stop. stop ≡ Stop.Read) }
     ensures risen { OnErr result (HasRisen (S.faults lines.old.source.now) (S.faults lines.new.source.now)) }
     ensures taken { Takes (S.left lines.old.source.now) (S.left lines.new.source.now) (octets_taken lines.old.reader) (octets_taken lines.new.reader) }
+    ensures gives { IfOk result (λ next. is_more next → Gives (S.left lines.old.source.now) (S.left lines.new.source.now) lines.old.reader lines.new.reader) }
+    ensures stopped { OnErr result (LeavesNoLine (S.left lines.old.source.now) (S.left lines.new.source.now) lines.old.reader) }
     ensures bounded { octets_taken lines.new.reader ≤ 67108865 }
     ensures no_fall { S.faults lines.old.source.now ≤ S.faults lines.new.source.now }
 {

@@ -7,7 +7,7 @@ ghost use Rattle.ptu_history.specs.History.{Record};
 ghost use Rattle.ptpuni.specs.Decision.{StandsFor};
 ghost use Rattle.ptpuni.specs.Outcome.{report_text};
 ghost use Rattle.ptpuni.specs.Replay.{request_lines, history_with, report_after, report};
-ghost use Rattle.ptpuni.specs.Written.{HasWritten, HasWrittenPart, HasReported};
+ghost use Rattle.ptpuni.specs.Written.{HasReported, HasWritten, HasWrittenAllMore, HasWrittenAllRead, HasWrittenPart};
 ghost use Rattle.ptu_lines.specs.Script.{ScriptLine};
 ghost use Rattle.ptu_lines.specs.Lines.{lines_left, octets_taken};
 ghost use Rattle.std.specs.Io.KnownBytes.{IsAtEnd, prepend_known};
@@ -82,6 +82,8 @@ fn requests<S: Source, K: Sink>(
         → HasReported (K.written sink.old) (K.written sink.new) (report_after gm.now [] 1 0 left) ending) }
     ensures part { OnErr result ((left : List ScriptLine) → lines_left S.left lines.old ≡ Some left
         → HasWrittenPart (K.written sink.old) (K.written sink.new) (report_text (report_after gm.now [] 1 0 left))) }
+    ensures all_read { IsErrOf result Stop.Read → (left : List ScriptLine) → lines_left S.left lines.old ≡ Some left
+        → HasWrittenAllMore (S.left lines.old.source.now) (S.left lines.new.source.now) (K.written sink.old) (K.written sink.new) lines.old.reader (report_after gm.now [] 1 0 left) }
     ensures end { IfOk result (λ ending. ending ≡ Ending.Whole → IsAtEnd (S.left lines.new.source.now)) }
     ensures read { IsErrOf result Stop.Read → HasRisen (S.faults lines.old.source.now) (S.faults lines.new.source.now) }
     ensures write { IsErrOf result Stop.Write → HasRisen (K.faults sink.old) (K.faults sink.new) }
@@ -129,6 +131,9 @@ pub fn replay<S: Source, K: Sink>(
     // What was written when it stopped is a front of the report.
     ensures part { OnErr result ((script : List ℕ) → S.left source.old ≡ Some script
         → HasWrittenPart (K.written sink.old) (K.written sink.new) (report_text (report script))) }
+    // Where the source failed, all was written that the report has of the lines that were read whole.
+    ensures all_read { IsErrOf result Stop.Read → (script : List ℕ) → S.left source.old ≡ Some script
+        → HasWrittenAllRead (S.left source.old) (S.left source.new) (K.written sink.old) (K.written sink.new) (report script) }
     // It takes at most 67108865 octets, and a source that tells goes on telling.
     ensures taken { OnOk result ((octets : List ℕ) × (S.left source.old ≡ prepend_known octets (S.left source.new)) × (length octets ≤ 67108865)) }
     ensures read { IsErrOf result Stop.Read → HasRisen (S.faults source.old) (S.faults source.new) }

@@ -8,7 +8,7 @@ ghost use Rattle.ptpuni.specs.declared.script.Asked.{Asked};
 ghost use Rattle.ptpuni.specs.Outcome.{report_text};
 ghost use Rattle.ptpuni.specs.Replay.{report};
 ghost use Rattle.ptpuni.specs.Kept.{Hands, IsKept};
-ghost use Rattle.ptpuni.specs.Written.{HasWrittenPart};
+ghost use Rattle.ptpuni.specs.Written.{HasWrittenAllRead, HasWrittenPart};
 ghost use Rattle.ptpuni.specs.Run.{statuses, is_replay, HasReplayed};
 
 use crate::ending::Ending;
@@ -57,6 +57,9 @@ pub fn run<S: Source, K: Sink>(alloc: Global, words: &[&str], source: &mut S, si
     ensures sink_fault { result ≡ SINK_FAULT → HasRisen (K.faults sink.old) (K.faults sink.new) }
     ensures front { (script : List ℕ) → S.left source.old ≡ Some script → is_replay (map (λ w. w.now) words.now) ≡ true
         → HasWrittenPart (K.written sink.old) (K.written sink.new) (report_text (report script)) }
+    // Where the source failed, that is all that the report has of the lines that were read whole.
+    ensures all_read { result ≡ SOURCE_FAULT → (script : List ℕ) → S.left source.old ≡ Some script
+        → HasWrittenAllRead (S.left source.old) (S.left source.new) (K.written sink.old) (K.written sink.new) (report script) }
 {
     if words.len() != 1 || words[0] != "replay" {
         return USAGE;

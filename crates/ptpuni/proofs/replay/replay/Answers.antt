@@ -1,5 +1,5 @@
-use Rattle.std.proofs.Common.{◌≡◌, ◌∙◌, sym, ap, subst, arith, length, refl, rules, ℕ, ◌≤◌, List}
-use Rattle.std.specs.Prelude.{OnOk}
+use Rattle.std.proofs.Common.{◌≡◌, ◌∙◌, sym, ap, subst, arith, length, refl, rules, ℕ, ◌≤◌, List, Some}
+use Rattle.std.specs.Prelude.{IsErrOf, OnOk}
 use Rattle.std.specs.Io.KnownBytes.{prepend_known}
 use Rattle.std.specs.Option.{option_map}
 use Rattle.std.proofs.lemmas.Result.{err_from_is_err_and, IfOk-weaker, on_err_weaker}
@@ -9,10 +9,11 @@ use Rattle.ptpuni.specs.Ending.{is_whole_ending}
 use Rattle.ptpuni.specs.Outcome.{report_text}
 use Rattle.ptpuni.specs.Report.{BadForm, End, text_of}
 use Rattle.ptpuni.specs.Replay.{report}
-use Rattle.ptpuni.specs.Written.{HasReported, HasWrittenPart}
+use Rattle.ptpuni.specs.declared.stop.Stop.TheVariants as stops
+use Rattle.ptpuni.specs.Written.{HasReported, HasWrittenAllMore, HasWrittenAllRead, HasWrittenPart}
 use Rattle.ptpuni.proofs.Writing.{nothing}
 use Rattle.ptpuni.proofs.Takings.{Takes-then, all_taken, on_any}
-use Rattle.ptpuni.proofs.Whole.{set_up, refused, empty, one_line, one_part}
+use Rattle.ptpuni.proofs.Whole.{all_from_first, empty, none_read, one_line, one_part, refused, set_up}
 use Rattle.ptpuni.proofs.replay.replay.Goals as goal
 
 pub returns-in-Setup-clause-whole : goal.returns-in-Setup-clause-whole
@@ -84,4 +85,25 @@ returns-in-Setup-clause-taken g c =
     let first : g.S.Source.left c.in_ok-lines.lines.source.now ≡ g.S.Source.left c.args.source.now = ap g.S.Source.left c.in_ok-lines.ensures.source in
     let known = rw first at (all_taken (g.S.Source.left c.requests.new.lines.source.now) t none (c.requests.ensures.bounded c.in_ok-first.ensures.bounded) refl) in
     let told : OnOk c.requests.result ((x : List ℕ) × (g.S.Source.left c.args.source.now ≡ prepend_known x (g.S.Source.left c.requests.new.lines.source.now)) × (length x ≤ 67108865)) = on_any c.requests.result known in
+    search rules
+
+pub returns-in-Setup-clause-all_read : goal.returns-in-Setup-clause-all_read
+returns-in-Setup-clause-all_read g c =
+    let f = rw c.in-Setup.is at c.in_ok-first.ensures.first in
+    let gives = rw c.in-Setup.is at c.in_ok-first.ensures.gives in
+    let first : g.S.Source.left c.in_ok-lines.lines.source.now ≡ g.S.Source.left c.args.source.now = ap g.S.Source.left c.in_ok-lines.ensures.source in
+    let told : IsErrOf c.requests.result stops.Read → (script : List ℕ) → g.S.Source.left c.args.source.now ≡ Some script
+    → HasWrittenAllRead (g.S.Source.left c.args.source.now) (g.S.Source.left c.requests.new.lines.source.now) (g.K.Sink.written c.args.sink.now) (g.K.Sink.written c.requests.new.sink) (report script)
+    = λ e script t.
+    let s = set_up script (lines_left g.S.Source.left c.in_ok-lines.lines) (c.in_ok-lines.ensures.lines ∙ ap (option_map script_lines) t) c.in-Setup.gm (lines_left g.S.Source.left c.first_line.new.lines) f in
+    let more = subst (λ lines. HasWrittenAllMore (g.S.Source.left c.first_line.new.lines.source.now) (g.S.Source.left c.requests.new.lines.source.now) (g.K.Sink.written c.args.sink.now) (g.K.Sink.written c.requests.new.sink) c.first_line.new.lines.reader lines) s.2 (c.requests.ensures.all_read e s.0 s.1) in
+    rw first at (all_from_first c.in_ok-lines.lines.reader c.first_line.new.lines.reader (report script) c.in_ok-lines.ensures.fresh (gives tt) more)
+    in
+    search rules
+
+pub returns-in_err-first-clause-all_read : goal.returns-in_err-first-clause-all_read
+returns-in_err-first-clause-all_read g c =
+    let first : g.S.Source.left c.in_ok-lines.lines.source.now ≡ g.S.Source.left c.args.source.now = ap g.S.Source.left c.in_ok-lines.ensures.source in
+    let told : (script : List ℕ) → HasWrittenAllRead (g.S.Source.left c.args.source.now) (g.S.Source.left c.first_line.new.lines.source.now) (g.K.Sink.written c.args.sink.now) (g.K.Sink.written c.args.sink.now) (report script)
+    = λ script. rw first at (none_read (g.K.Sink.written c.args.sink.now) c.in_ok-lines.lines.reader script c.in_ok-lines.ensures.fresh c.in_err-first.ensures.stopped) in
     search rules

@@ -6,14 +6,18 @@ use Rattle.ptpuni.specs.Ending.{is_whole_ending}
 use Rattle.ptpuni.specs.Report.{BadForm, End, text_of}
 use Rattle.ptpuni.specs.Replay.{request_lines}
 use Rattle.ptpuni.specs.Written.{HasWritten, HasWrittenPart}
-use Rattle.ptpuni.proofs.Takings.{Takes-then}
-use Rattle.ptpuni.proofs.Underway.{Progress, so_far, one_more, in_part, ended, ended_in_part, refused, at_end}
+use Rattle.ptpuni.proofs.Takings.{Gives-then, Takes-then}
+use Rattle.ptpuni.proofs.Underway.{Progress, all_read, so_far, one_more, in_part, ended, ended_in_part, refused, at_end}
 use Rattle.ptpuni.proofs.replay.requests.Goals as goal
 
 pub returns-in_err-next-clause-part : goal.returns-in_err-next-clause-part
 returns-in_err-next-clause-part g c =
     let p = err_from_is_err_and c.from_residual.result c.from_residual.ensures.1 in
     rw p.1 (λ all told. so_far _ _ _ _ _ _ _ _ (c.script.invariant.progress all told))
+
+pub returns-in_err-next-clause-all_read : goal.returns-in_err-next-clause-all_read
+returns-in_err-next-clause-all_read g c _ all told =
+    all_read _ _ _ _ _ _ _ _ (c.script.invariant.progress all told) c.args.lines.now.reader c.script.lines.reader c.script.invariant.gives c.script.invariant.count c.in_err-next.ensures.stopped
 
 pub script-preserved : goal.script-preserved
 script-preserved g c =
@@ -27,6 +31,7 @@ script-preserved g c =
       source_no_fall = omega arith;
       sink_no_fall = omega arith;
       taken = Takes-then c.script.invariant.taken c.in_ok-next.ensures.taken;
+      gives = Gives-then c.script.invariant.gives (rw c.in-Request.is at c.in_ok-next.ensures.gives tt);
       bounded = λ h. c.in_ok-next.ensures.bounded;
       progress = λ all told.
           let p = c.script.invariant.progress all told in
