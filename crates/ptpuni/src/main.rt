@@ -20,6 +20,9 @@ mod script;
 mod stop;
 mod text;
 
+ghost use Rattle.std.specs.Prelude.{◌≡◌, IfOk, map};
+ghost use Rattle.std.specs.String.{string_bytes};
+
 use ptu_outside::{StdSink, StdSource};
 use run::{OUT_OF_MEMORY, USAGE};
 use std::alloc::{AllocError, Global};
@@ -39,7 +42,9 @@ fn words_of<R: Env + AllocGlobal>(rt: &R) -> io::Result<Vec<String>> {
 }
 
 // The words as text.
-fn texts_of(alloc: Global, words: &[String]) -> Result<Vec<&str>, AllocError> {
+fn texts_of(alloc: Global, words: &[String]) -> Result<Vec<&str>, AllocError>
+    ensures { IfOk result (λ texts. map (λ t. t.now) texts.items ≡ map string_bytes words.now) }
+{
     let mut texts = Vec::with_capacity(alloc, words.len())?;
     for word in words {
         texts.push(word.as_str())?;
