@@ -170,6 +170,19 @@ fn refused_renewal(rt: HostRuntime) -> Result<(), Fail> {
 }
 
 #[test]
+fn own_request_as_the_grant_expires(rt: HostRuntime) -> Result<(), Fail> {
+    let alloc = rt.alloc();
+    let mut script = gm(alloc, 8, 60)?;
+    script.push_str(ask(alloc, 0, A, ANNOUNCE_1)?.as_str())?;
+    script.push_str(ask(alloc, 60_000_000_000, A, ANNOUNCE_1)?.as_str())?;
+    let (status, text) = ran(alloc, &["replay"], script.as_str(), None, None)?;
+    assert_eq!(rt; status, 0);
+    let again = "3 granted announce 1 at 60000000000 until 120000000000\n";
+    assert!(rt; text.as_str().contains(again));
+    Ok(())
+}
+
+#[test]
 fn request_as_the_grant_expires(rt: HostRuntime) -> Result<(), Fail> {
     let alloc = rt.alloc();
     let mut script = gm(alloc, 8, 60)?;
