@@ -3,7 +3,7 @@ use Rattle.std.specs.Prelude.{◌≡◌, ◌≢◌, ℕ, ◌<◌, ◌≤◌, ◌
 use Rattle.std.specs.Fmt.{decimal}
 use Rattle.ptu_header.specs.declared.fault.HeaderFault.{HeaderFault}
 use Rattle.ptu_header.specs.declared.fault.HeaderFault.TheVariants.{Short, Version, Sdo, Length}
-use Rattle.ptu_header.specs.Number.{number_at, high_nibble_at, low_nibble_at}
+use Rattle.ptu_octets.specs.Number.{number_at, high_nibble_at, low_nibble_at}
 
 -- the first fault that applies, with its numbers: each case says that those before it don't apply
 abbrev pub HasHeaderFault : List ℕ → HeaderFault → Type 0

@@ -1,5 +1,5 @@
-pub mod Number
 pub mod Header
 pub mod HeaderFault
+pub mod Reading
 pub mod Sent
 pub mod Samples

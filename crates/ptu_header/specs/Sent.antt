@@ -1,7 +1,13 @@
 -- The octets of a header as they are sent.
 use Rattle.std.specs.Prelude.{ℕ, ◌==◌, if◌then◌else◌, List, [], ◌∷◌, ◌++◌}
-use Rattle.std.specs.Int.{w16, w64, to_be_bytes, cast_unsigned}
+use Rattle.std.specs.Int.{w64}
+use Rattle.ptu_octets.specs.Number.{octets_of, signed_octets}
 use Rattle.ptu_header.specs.declared.header.Header.{Header}
+use Rattle.ptu_header.specs.declared.header.PortIdentity.{PortIdentity}
+
+-- the ten octets of a port identity
+abbrev pub sent_identity : PortIdentity → List ℕ
+sent_identity identity = octets_of 8 identity.clock ++ octets_of 2 identity.port
 
 -- the controlField of a messageType: Sync, Delay_Req, Follow_Up and Delay_Resp have their own (IEEE 1588-2019 clause 13.3.2)
 abbrev pub control_of : ℕ → ℕ
@@ -16,12 +22,11 @@ control_of message_type =
 abbrev pub sent_header : Header → ℕ → List ℕ
 sent_header header n =
     header.message_type ∷ 0x12 ∷ []
-    ++ to_be_bytes w16 n
+    ++ octets_of 2 n
     ++ header.domain ∷ 0 ∷ []
-    ++ to_be_bytes w16 header.flags
-    ++ to_be_bytes w64 (cast_unsigned w64 header.correction)
+    ++ octets_of 2 header.flags
+    ++ signed_octets w64 header.correction
     ++ 0 ∷ 0 ∷ 0 ∷ 0 ∷ []
-    ++ to_be_bytes w64 header.source.clock
-    ++ to_be_bytes w16 header.source.port
-    ++ to_be_bytes w16 header.sequence
+    ++ sent_identity header.source
+    ++ octets_of 2 header.sequence
     ++ control_of header.message_type ∷ 0x7f ∷ []

@@ -1,3 +1,7 @@
+ghost use Rattle.std.specs.Prelude.{◌≡◌, ◌+◌, ◌≤◌, length};
+
+use ptu_octets::{u16_at, u64_at};
+
 /// The identity of a port: of the clock that it belongs to, and its number there (IEEE 1588-2019 clause 5.3.5).
 #[derive(Clone, Copy, Debug, PartialEq, Eq, PartialOrd, Ord, Hash)]
 pub struct PortIdentity {
@@ -5,6 +9,32 @@ pub struct PortIdentity {
     pub clock: u64,
     /// The portNumber.
     pub port: u16,
+}
+
+impl PortIdentity {
+    ghost use Rattle.ptu_header.specs.Header.{identity_at, HasIdentityWidths};
+    ghost use Rattle.ptu_header.specs.Sent.{sent_identity};
+
+    /// The identity in the ten octets from a place on.
+    pub fn at(octets: &[u8], place: usize) -> PortIdentity
+        requires { place + 10 ≤ length octets.now }
+        ensures { result ≡ identity_at octets.now place }
+    {
+        PortIdentity {
+            clock: u64_at(octets, place),
+            port: u16_at(octets, place + 8),
+        }
+    }
+
+    /// Its ten octets.
+    pub fn octets(self) -> [u8; 10]
+        ensures octets { result ≡ sent_identity self }
+        ensures widths { HasIdentityWidths self }
+    {
+        let [a, b, c, d, e, f, g, h] = self.clock.to_be_bytes();
+        let [i, j] = self.port.to_be_bytes();
+        [a, b, c, d, e, f, g, h, i, j]
+    }
 }
 
 /// What is kept of the common header of a message (IEEE 1588-2019 clause 13.3.2).

@@ -1,10 +1,9 @@
 //! Laws of the definitions that the contracts of this crate cite: each is the contract of a function that does nothing.
 
-ghost use Rattle.std.specs.Prelude.{◌≡◌, ◌⊎◌, ◌<◌, ◌≤◌, ◌^◌, ◌+ℤ◌, ℕ, ℤ, pos, List, All};
-ghost use Rattle.std.specs.Int.{w64, cast_signed, cast_unsigned};
-ghost use Rattle.std.specs.Int.RustNames.{FitsSigned};
+ghost use Rattle.std.specs.Prelude.{◌≡◌, ◌⊎◌, ◌↔◌, ◌<◌, ◌≤◌, ◌^◌, ℕ, List, All, Ok, Err};
 ghost use Rattle.ptu_header.specs.Header.{HasWidths, SpellsHeader, AlwaysSpellsHeader};
 ghost use Rattle.ptu_header.specs.HeaderFault.{HasHeaderFault};
+ghost use Rattle.ptu_header.specs.Reading.{header_in};
 ghost use Rattle.ptu_header.specs.Sent.{sent_header};
 ghost use Rattle.ptu_header.specs.Samples.{HeadersAreSpelled, FaultsAreFound, HeadersAreSent};
 ghost use Rattle.ptu_header.specs.declared.header.Header.{Header};
@@ -27,13 +26,12 @@ pub fn sent_is_read()
     ensures again { (h : Header) (n : ℕ) → HasWidths h → 34 ≤ n → n < 2 ^ 16 → AlwaysSpellsHeader (sent_header h n) h n }
 {}
 
-/// A correctionField is two's complement of 64 bits, and what is written is what is read.
-pub fn twos_complement()
-    ensures low { (n : ℕ) → n < 2 ^ 63 → cast_signed w64 n ≡ pos n }
-    ensures high { (n : ℕ) → 2 ^ 63 ≤ n → n < 2 ^ 64 → cast_signed w64 n +ℤ pos (2 ^ 64) ≡ pos n }
-    ensures read_again { (z : ℤ) → FitsSigned w64 z → cast_signed w64 (cast_unsigned w64 z) ≡ z }
-    ensures written_again { (n : ℕ) → n < 2 ^ 64 → cast_unsigned w64 (cast_signed w64 n) ≡ n }
-    ensures fits { (z : ℤ) → FitsSigned w64 z → cast_unsigned w64 z < 2 ^ 64 }
+/// The reading of octets and the relations on them say the same.
+pub fn reading_is_spelling()
+    ensures found { (octets : List ℕ) (h : Header) (n : ℕ) → (header_in octets ≡ Ok (h, n))
+        ↔ SpellsHeader octets h n }
+    ensures refused { (octets : List ℕ) (f : HeaderFault) → (header_in octets ≡ Err f)
+        ↔ HasHeaderFault octets f }
 {}
 
 /// The definitions at headers that were made out by hand.

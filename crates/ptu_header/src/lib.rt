@@ -2,7 +2,6 @@
 #![tactic(auto)]
 
 mod fault;
-mod fields;
 mod header;
 mod laws;
 mod reading;
@@ -10,7 +9,7 @@ mod writing;
 
 pub use fault::HeaderFault;
 pub use header::{Header, PortIdentity};
-pub use laws::{one_reading, sample_headers, sent_is_read, twos_complement};
+pub use laws::{one_reading, reading_is_spelling, sample_headers, sent_is_read};
 pub use reading::read_header;
 pub use writing::write_header;
 

@@ -1,12 +1,13 @@
 ghost use Rattle.std.specs.Prelude.{◌≡◌, ◌↔◌, ℕ, ◌≤◌, length, IsErr, IfOk, IfErr, MatchResult};
-ghost use Rattle.ptu_header.specs.Header.{BeginsMessage, KeepsFields, SpellsHeader};
+ghost use Rattle.ptu_header.specs.Header.{BeginsMessage, SpellsHeader, header_at};
 ghost use Rattle.ptu_header.specs.HeaderFault.{HasHeaderFault};
+ghost use Rattle.ptu_header.specs.Reading.{header_in};
 ghost use Rattle.ptu_header.specs.declared.header.Header.{Header};
 ghost use Rattle.ptu_header.specs.declared.fault.HeaderFault.{HeaderFault};
 
 use crate::fault::HeaderFault;
-use crate::fields::{u16_at, u64_at};
 use crate::header::{Header, PortIdentity};
+use ptu_octets::{high_nibble, i64_at, low_nibble, u16_at};
 
 /// How many octets a header has.
 const HEADER_LENGTH: usize = 34;
@@ -22,11 +23,11 @@ fn message_length(bytes: &[u8]) -> Result<u16, HeaderFault>
     if have < HEADER_LENGTH {
         return Err(HeaderFault::Short { have });
     }
-    let version = bytes[1] & 0x0f;
+    let version = low_nibble(bytes, 1);
     if version != VERSION {
         return Err(HeaderFault::Version { found: version });
     }
-    let sdo = bytes[0] >> 4;
+    let sdo = high_nibble(bytes, 0);
     if sdo != 0 {
         return Err(HeaderFault::Sdo { found: sdo });
     }
@@ -41,17 +42,14 @@ fn message_length(bytes: &[u8]) -> Result<u16, HeaderFault>
 // The fields that are kept, each from its octets.
 fn kept_fields(bytes: &[u8]) -> Header
     requires { 34 ≤ length bytes.now }
-    ensures { KeepsFields bytes.now result }
+    ensures { result ≡ header_at bytes.now }
 {
     Header {
-        message_type: bytes[0] & 0x0f,
+        message_type: low_nibble(bytes, 0),
         domain: bytes[4],
         flags: u16_at(bytes, 6),
-        correction: u64_at(bytes, 8).cast_signed(),
-        source: PortIdentity {
-            clock: u64_at(bytes, 20),
-            port: u16_at(bytes, 28),
-        },
+        correction: i64_at(bytes, 8),
+        source: PortIdentity::at(bytes, 20),
         sequence: u16_at(bytes, 30),
     }
 }
@@ -66,6 +64,9 @@ pub fn read_header(bytes: &[u8]) -> Result<(Header, u16), HeaderFault>
     // What is spelled so is read, and the fault that is there is answered.
     ensures read { (h : Header) (n : ℕ) → SpellsHeader bytes.now h n → result ≡ Ok (h, n) }
     ensures refused { (f : HeaderFault) → HasHeaderFault bytes.now f → result ≡ Err f }
+
+    // It is what the reading of the octets finds.
+    ensures value { result ≡ header_in bytes.now }
 
     // A fault comes exactly where nothing is spelled.
     ensures nothing { IsErr result ↔ ((h : Header) (n : ℕ) → SpellsHeader bytes.now h n → ⊥) }

@@ -36,8 +36,7 @@ fn sent(header: Header, length: u16) -> [u8; 34]
     octets[4] = header.domain;
     octets[6..8].copy_from_slice(&header.flags.to_be_bytes());
     octets[8..16].copy_from_slice(&header.correction.cast_unsigned().to_be_bytes());
-    octets[20..28].copy_from_slice(&header.source.clock.to_be_bytes());
-    octets[28..30].copy_from_slice(&header.source.port.to_be_bytes());
+    octets[20..30].copy_from_slice(&header.source.octets());
     octets[30..32].copy_from_slice(&header.sequence.to_be_bytes());
     octets[32] = control(header.message_type);
     octets[33] = SENT_INTERVAL;

@@ -1,17 +1,18 @@
--- Every list of octets begins with one TLV, or has one fault.
-use Rattle.std.proofs.Common.{◌≡◌, ℕ, ne_eqb, ◌+◌, ◌-◌, ◌<◌, ◌≤◌, ◌⊎◌, inl, inr, false, List, length, take, refl, sym, ap, ◌∙◌, arith}
-use Rattle.std.specs.Prelude.{slice_index, ◌==◌, ◌%◌, if◌then◌else◌}
-use Rattle.std.specs.Int.{w8, cast_signed}
-use Rattle.std.proofs.lemmas.Bool.{cases_lt, cases_eq}
-use Rattle.std.proofs.lemmas.List.{length-take-le, get_or-take}
+-- Reading finds the TLV that octets begin with, or the fault that they have; and there is always one of the two.
+use Rattle.std.proofs.Common.{◌≡◌, ℕ, ne_eqb, ◌+◌, ◌-◌, ◌<◌, ◌≤◌, ◌⊎◌, inl, inr, false, List, length, take, Result, Ok, Err, refl, sym, ap, subst, ◌∙◌, arith}
+use Rattle.std.specs.Prelude.{◌==◌}
+use Rattle.std.proofs.lemmas.Bool.{cases_lt, cases_eq, le-ltb, lt-ltb}
+use Rattle.std.proofs.lemmas.List.{length-take-le}
+use Rattle.ptu_octets.specs.Number.{number_at, high_nibble_at}
+use Rattle.ptu_octets.proofs.Numbers.{number_at-take}
 use Rattle.ptu_tlvs.specs.declared.tlv.Ask.{Ask}
 use Rattle.ptu_tlvs.specs.declared.tlv.Tlv.{Tlv}
 use Rattle.ptu_tlvs.specs.declared.tlv.Tlv.TheVariants.{Request, Grant, Cancel, Ack, Other}
 use Rattle.ptu_tlvs.specs.declared.fault.TlvFault.{TlvFault}
 use Rattle.ptu_tlvs.specs.declared.fault.TlvFault.TheVariants.{Short, Overrun, Length}
-use Rattle.ptu_tlvs.specs.Number.{number_at, high_nibble_at}
-use Rattle.ptu_tlvs.specs.Tlv.{HasHead, KeepsAsk, SpellsTlv, BeginsWithTlv}
+use Rattle.ptu_tlvs.specs.Tlv.{HasHead, IsFirst, SpellsTlv, BeginsWithTlv, ask_at, renewal_at}
 use Rattle.ptu_tlvs.specs.TlvFault.{HasOtherLength, HasTlvFault}
+use Rattle.ptu_tlvs.specs.Reading.{whole_in, tlv_in}
 
 -- ---- the head of a front is the head of the whole
 
@@ -20,12 +21,10 @@ pub record HeadIsTaken (size : ℕ) (octets : List ℕ) : Type 0 where
   pub n : number_at (take size octets) 2 2 ≡ number_at octets 2 2
 
 head_is_taken : (size : ℕ) (octets : List ℕ) → 4 ≤ size → HeadIsTaken size octets
-head_is_taken size octets le =
-    let g0 = get_or-take size octets 0 0 (omega arith) in
-    let g1 = get_or-take size octets 1 0 (omega arith) in
-    let g2 = get_or-take size octets 2 0 (omega arith) in
-    let g3 = get_or-take size octets 3 0 (omega arith) in
-    record { kind = omega (arith, g0, g1); n = omega (arith, g2, g3) }
+head_is_taken size octets le = record {
+  kind = number_at-take size octets 0 2 (omega arith);
+  n = number_at-take size octets 2 2 (omega arith);
+}
 
 -- ---- the tlvType and the lengthField of a TLV
 
@@ -50,13 +49,6 @@ head_of octets (Cancel code) h = h.0
 head_of octets (Ack code) h = h.0
 head_of octets (Other kind n) h = h.0
 
-not_other_length : (octets : List ℕ) (tlv : Tlv) → SpellsTlv octets tlv → HasOtherLength (type_of tlv) (length_of tlv) → ⊥
-not_other_length octets (Request ask) h other = grind arith
-not_other_length octets (Grant ask invited) h other = grind arith
-not_other_length octets (Cancel code) h other = grind arith
-not_other_length octets (Ack code) h other = grind arith
-not_other_length octets (Other kind n) h other = grind arith
-
 -- where a TLV begins the octets, its size and head are theirs
 record Heads (octets : List ℕ) (tlv : Tlv) (count : ℕ) : Type 0 where
   kind : type_of tlv ≡ number_at octets 0 2
@@ -72,54 +64,67 @@ heads octets tlv size h =
     let taken = head_is_taken size octets le in
     record { kind = head.tlv_type ∙ taken.kind; n = head.length_field ∙ taken.n; size = omega (arith, head.length_field ∙ taken.n) }
 
-pub never_both : (octets : List ℕ) (tlv : Tlv) (size : ℕ) (fault : TlvFault) → BeginsWithTlv octets tlv size → HasTlvFault octets fault → ⊥
-never_both octets tlv size (Short have) h f = let e = heads octets tlv size h in omega (arith, e.size, h.within, f.0, f.1)
-never_both octets tlv size (Overrun said have) h f = let e = heads octets tlv size h in omega (arith, e.size, h.within, f.0, f.1, f.2)
-never_both octets tlv size (Length kind said) h f =
-    let e = heads octets tlv size h in
-    let same_kind : kind ≡ type_of tlv = f.1 ∙ sym e.kind in
-    let same_n : said ≡ length_of tlv = f.2 ∙ sym e.n in
-    not_other_length (take size octets) tlv h.spelled (rw (← same_kind, ← same_n) f.3)
+-- ---- the reading finds what is spelled
 
--- ---- one TLV
+abbrev found : Tlv → ℕ → Result (Tlv × ℕ) TlvFault
+found tlv size = Ok (tlv, size)
 
-abbrev ask_of : List ℕ → Ask
-ask_of octets = record { code = high_nibble_at octets 4; log = cast_signed w8 (slice_index octets 5); seconds = number_at octets 6 4 }
+abbrev refused : TlvFault → Result (Tlv × ℕ) TlvFault
+refused fault = Err fault
 
--- the TLV of the known type or another
-abbrev tlv_of : ℕ → List ℕ → Tlv
-tlv_of kind octets =
-    if kind == 4 then Request (ask_of octets)
-    else if kind == 5 then Grant (ask_of octets) (slice_index octets 11 % 2 == 1)
-    else if kind == 6 then Cancel (high_nibble_at octets 4)
-    else if kind == 7 then Ack (high_nibble_at octets 4)
-    else Other kind (number_at octets 2 2)
-
-ask_is : (octets : List ℕ) (ask : Ask) → KeepsAsk octets ask → ask ≡ ask_of octets
-ask_is octets ask h = rw (← h.code, ← h.log, ← h.seconds) refl
-
-other_is : (octets : List ℕ) (kind n : ℕ) → n ≡ number_at octets 2 2 → (kind < 4) ⊎ (7 < kind) → Other kind n ≡ tlv_of kind octets
-other_is octets kind n e outside =
+other_in : (kind n : ℕ) (octets : List ℕ) → (kind < 4) ⊎ (7 < kind) → whole_in kind n octets ≡ found (Other kind n) (4 + n)
+other_in kind n octets outside =
     let is_not : (k : ℕ) → 4 ≤ k → k ≤ 7 → (kind == k) ≡ false = λ k lo hi. ne_eqb kind k (elim outside [ inl lt ↦ omega arith | inr gt ↦ omega arith ]) in
-    rw (is_not 4 (omega arith) (omega arith), is_not 5 (omega arith) (omega arith), is_not 6 (omega arith) (omega arith), is_not 7 (omega arith) (omega arith)) (ap (Other kind) e)
+    rw (is_not 4 (omega arith) (omega arith), is_not 5 (omega arith) (omega arith), is_not 6 (omega arith) (omega arith), is_not 7 (omega arith) (omega arith)) refl
 
-tlv_is : (octets : List ℕ) (tlv : Tlv) → SpellsTlv octets tlv → tlv ≡ tlv_of (type_of tlv) octets
-tlv_is octets (Request ask) h = ap Request (ask_is octets ask h.1)
-tlv_is octets (Grant ask invited) h = let a = ask_is octets ask h.1 in let r = h.2 in cc
-tlv_is octets (Cancel code) h = ap Cancel h.1
-tlv_is octets (Ack code) h = ap Ack h.1
-tlv_is octets (Other kind n) h = other_is octets kind n h.0.length_field h.1
+whole_is : (octets : List ℕ) (tlv : Tlv) → SpellsTlv octets tlv → whole_in (type_of tlv) (length_of tlv) octets ≡ found tlv (4 + length_of tlv)
+whole_is octets (Request ask) h = ap (λ (a : Ask). found (Request a) 10) (sym h.1)
+whole_is octets (Grant ask invited) h = let a = sym h.1 in let r = sym h.2 in λ i. found (Grant (a i) (r i)) 12
+whole_is octets (Cancel code) h = ap (λ (c : ℕ). found (Cancel c) 6) (sym h.1)
+whole_is octets (Ack code) h = ap (λ (c : ℕ). found (Ack c) 6) (sym h.1)
+whole_is octets (Other kind n) h = other_in kind n octets h.1
 
-pub one_tlv : (octets : List ℕ) (v v' : Tlv) (size size' : ℕ) → BeginsWithTlv octets v size → BeginsWithTlv octets v' size' → (v ≡ v') × (size ≡ size')
-one_tlv octets v v' size size' h h' =
-    let e = heads octets v size h in
-    let e' = heads octets v' size' h' in
-    let same : size ≡ size' = omega (arith, e.size, e'.size) in
-    let front : take size octets ≡ take size' octets = ap (λ (n : ℕ). take n octets) same in
-    let kinds : type_of v ≡ type_of v' = e.kind ∙ sym e'.kind in
-    let a = tlv_is (take size octets) v h.spelled in
-    let b = tlv_is (take size' octets) v' h'.spelled in
-    (a ∙ ap (λ (n : ℕ). tlv_of n (take size octets)) kinds ∙ ap (tlv_of (type_of v')) front ∙ sym b, same)
+pub tlv_in-spelled : (octets : List ℕ) (tlv : Tlv) (size : ℕ) → BeginsWithTlv octets tlv size → tlv_in octets ≡ Ok (tlv, size)
+unfolding tlv_in
+tlv_in-spelled octets tlv size h =
+    let e = heads octets tlv size h in
+    let n : ℕ = number_at octets 2 2 in
+    let long : 4 ≤ length octets = omega (arith, e.size, h.within) in
+    let within : 4 + n ≤ length octets = omega (arith, e.size, h.within) in
+    let front : SpellsTlv (take (4 + n) octets) tlv = subst (λ (k : ℕ). SpellsTlv (take k octets) tlv) e.size h.spelled in
+    let whole : whole_in (number_at octets 0 2) n (take (4 + n) octets) ≡ found tlv (4 + n) =
+    subst (λ (k : ℕ). whole_in k n (take (4 + n) octets) ≡ found tlv (4 + n)) e.kind (
+    subst (λ (k : ℕ). whole_in (type_of tlv) k (take (4 + n) octets) ≡ found tlv (4 + k)) e.n (whole_is (take (4 + n) octets) tlv front)
+    ) in
+    rw (le-ltb _ _ long, le-ltb _ _ within) (whole ∙ ap (found tlv) (sym e.size))
+
+-- ---- and the fault that is there
+
+known_refused : (t n : ℕ) (octets : List ℕ) → HasOtherLength t n → whole_in t n octets ≡ refused (Length t n)
+known_refused t n octets (inl h) = rw (h.0, ne_eqb n 6 h.1) refl
+known_refused t n octets (inr (inl h)) = rw (h.0, ne_eqb n 8 h.1) refl
+known_refused t n octets (inr (inr (inl h))) = rw (h.0, ne_eqb n 2 h.1) refl
+known_refused t n octets (inr (inr (inr h))) = rw (h.0, ne_eqb n 2 h.1) refl
+
+pub tlv_in-faulty : (octets : List ℕ) (fault : TlvFault) → HasTlvFault octets fault → tlv_in octets ≡ Err fault
+unfolding tlv_in
+tlv_in-faulty octets (Short have) h =
+    let short : length octets < 4 = omega (arith, h.0, h.1) in
+    rw (lt-ltb _ _ short) (ap (λ (k : ℕ). refused (Short k)) (sym h.0))
+tlv_in-faulty octets (Overrun said have) h =
+    let long : 4 ≤ length octets = omega (arith, h.0) in
+    let over : length octets < 4 + number_at octets 2 2 = omega (arith, h.0, h.1, h.2) in
+    let have-is : length octets - 4 ≡ have = omega (arith, h.0) in
+    let said-is = sym h.1 in
+    rw (le-ltb _ _ long, lt-ltb _ _ over) (λ i. refused (Overrun (said-is i) (have-is i)))
+tlv_in-faulty octets (Length t said) h =
+    let n : ℕ = number_at octets 2 2 in
+    let within : 4 + n ≤ length octets = omega (arith, h.0, h.2) in
+    let long : 4 ≤ length octets = omega arith in
+    let other : HasOtherLength (number_at octets 0 2) n = rw (← h.1, ← h.2) h.3 in
+    let t-is = sym h.1 in
+    let said-is = sym h.2 in
+    rw (le-ltb _ _ long, le-ltb _ _ within) (known_refused (number_at octets 0 2) n (take (4 + n) octets) other ∙ λ i. refused (Length (t-is i) (said-is i)))
 
 -- ---- a TLV or a fault
 
@@ -134,8 +139,8 @@ module _ (octets : List ℕ) (within : 4 + number_at octets 2 2 ≤ length octet
   begun : (tlv : Tlv) → SpellsTlv (take (4 + number_at octets 2 2) octets) tlv → IsRead octets ⊎ IsFaulty octets
   begun tlv spelled = inl (tlv, 4 + number_at octets 2 2, record { within = within; spelled = spelled })
 
-  refused : HasOtherLength (number_at octets 0 2) (number_at octets 2 2) → IsRead octets ⊎ IsFaulty octets
-  refused other = inr (Length (number_at octets 0 2) (number_at octets 2 2), (within, refl, refl, other))
+  turned_down : HasOtherLength (number_at octets 0 2) (number_at octets 2 2) → IsRead octets ⊎ IsFaulty octets
+  turned_down other = inr (Length (number_at octets 0 2) (number_at octets 2 2), (within, refl, refl, other))
 
   head : (kind n : ℕ) → number_at octets 0 2 ≡ kind → number_at octets 2 2 ≡ n → HasHead (take (4 + number_at octets 2 2) octets) kind n
   head kind n k e =
@@ -145,31 +150,28 @@ module _ (octets : List ℕ) (within : 4 + number_at octets 2 2 ≤ length octet
   front : List ℕ
   front = take (4 + number_at octets 2 2) octets
 
-  keeps : KeepsAsk front (ask_of front)
-  keeps = record { code = refl; log = refl; seconds = refl }
-
   by_type : IsRead octets ⊎ IsFaulty octets
   unfolding front
   by_type =
       elim (cases_eq (number_at octets 0 2) 4) [
         | inl k ↦ elim (cases_eq (number_at octets 2 2) 6) [
-          | inl n ↦ begun (Request (ask_of front)) (head 4 6 k n, keeps)
-          | inr other ↦ refused (inl (k, other))
+          | inl n ↦ begun (Request (ask_at front)) (head 4 6 k n, refl)
+          | inr other ↦ turned_down (inl (k, other))
         ]
         | inr not_4 ↦ elim (cases_eq (number_at octets 0 2) 5) [
           | inl k ↦ elim (cases_eq (number_at octets 2 2) 8) [
-            | inl n ↦ begun (Grant (ask_of front) (slice_index front 11 % 2 == 1)) (head 5 8 k n, keeps, refl)
-            | inr other ↦ refused (inr (inl (k, other)))
+            | inl n ↦ begun (Grant (ask_at front) (renewal_at front)) (head 5 8 k n, refl, refl)
+            | inr other ↦ turned_down (inr (inl (k, other)))
           ]
           | inr not_5 ↦ elim (cases_eq (number_at octets 0 2) 6) [
             | inl k ↦ elim (cases_eq (number_at octets 2 2) 2) [
               | inl n ↦ begun (Cancel (high_nibble_at front 4)) (head 6 2 k n, refl)
-              | inr other ↦ refused (inr (inr (inl (k, other))))
+              | inr other ↦ turned_down (inr (inr (inl (k, other))))
             ]
             | inr not_6 ↦ elim (cases_eq (number_at octets 0 2) 7) [
               | inl k ↦ elim (cases_eq (number_at octets 2 2) 2) [
                 | inl n ↦ begun (Ack (high_nibble_at front 4)) (head 7 2 k n, refl)
-                | inr other ↦ refused (inr (inr (inr (k, other))))
+                | inr other ↦ turned_down (inr (inr (inr (k, other))))
               ]
               | inr not_7 ↦ begun (Other (number_at octets 0 2) (number_at octets 2 2)) (head (number_at octets 0 2) (number_at octets 2 2) refl refl, grind arith)
             ]
@@ -186,3 +188,51 @@ one_or_other octets =
         | inr within ↦ by_type octets within
       ]
     ]
+
+-- ---- and nothing else
+
+pub found_is : (octets : List ℕ) (tlv : Tlv) (size : ℕ) → tlv_in octets ≡ Ok (tlv, size) → BeginsWithTlv octets tlv size
+found_is octets tlv size e =
+    elim (one_or_other octets) [
+      | inl h ↦
+          let same : found h.0 h.1 ≡ found tlv size = sym (tlv_in-spelled octets h.0 h.1 h.2) ∙ e in
+          let parts : (h.0, h.1) ≡ (tlv, size) = cc in
+          subst (λ (x : Tlv × ℕ). BeginsWithTlv octets x.0 x.1) parts h.2
+      | inr f ↦ let other = tlv_in-faulty octets f.0 f.1 in absurd cc
+    ]
+
+pub refused_is : (octets : List ℕ) (fault : TlvFault) → tlv_in octets ≡ Err fault → HasTlvFault octets fault
+refused_is octets fault e =
+    elim (one_or_other octets) [
+      | inl h ↦ let other = tlv_in-spelled octets h.0 h.1 h.2 in absurd cc
+      | inr f ↦
+          let same : refused f.0 ≡ refused fault = sym (tlv_in-faulty octets f.0 f.1) ∙ e in
+          let it : f.0 ≡ fault = cc in
+          subst (HasTlvFault octets) it f.1
+    ]
+
+pub never_both : (octets : List ℕ) (tlv : Tlv) (size : ℕ) (fault : TlvFault) → BeginsWithTlv octets tlv size → HasTlvFault octets fault → ⊥
+never_both octets tlv size fault h f =
+    let a = tlv_in-spelled octets tlv size h in
+    let b = tlv_in-faulty octets fault f in
+    absurd cc
+
+pub one_tlv : (octets : List ℕ) (v v' : Tlv) (size size' : ℕ) → BeginsWithTlv octets v size → BeginsWithTlv octets v' size' → (v ≡ v') × (size ≡ size')
+one_tlv octets v v' size size' h h' =
+    let a = tlv_in-spelled octets v size h in
+    let b = tlv_in-spelled octets v' size' h' in
+    let same : found v size ≡ found v' size' = sym a ∙ b in
+    let parts : (v, size) ≡ (v', size') = cc in
+    (ap (λ (x : Tlv × ℕ). x.0) parts, ap (λ (x : Tlv × ℕ). x.1) parts)
+
+-- ---- a fault of the first TLV is a fault of the octets
+
+pub fault_of_first : (octets front : List ℕ) (fault : TlvFault) → IsFirst octets front → HasTlvFault front fault → HasTlvFault octets fault
+fault_of_first octets front (Short have) first h = absurd (omega (arith, first.whole, h.0, h.1))
+fault_of_first octets front (Overrun said have) first h = absurd (omega (arith, first.whole, h.0, h.1, h.2))
+fault_of_first octets front (Length t said) first h =
+    let le : 4 ≤ length front = omega (arith, first.whole) in
+    let head = head_is_taken (length front) octets le in
+    let t-is : t ≡ number_at octets 0 2 = h.1 ∙ (rw (← first.taken) at head.kind) in
+    let said-is : said ≡ number_at octets 2 2 = h.2 ∙ (rw (← first.taken) at head.n) in
+    (omega (arith, h.0, first.within), t-is, said-is, h.3)

@@ -1,5 +1,5 @@
-pub mod Number
 pub mod Tlv
 pub mod TlvFault
+pub mod Reading
 pub mod Sent
 pub mod Samples

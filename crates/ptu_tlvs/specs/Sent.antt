@@ -1,6 +1,7 @@
 -- The octets of a TLV as they are sent.
 use Rattle.std.specs.Prelude.{ℕ, ◌*◌, ◌<◌, List, [], ◌∷◌, ◌++◌}
-use Rattle.std.specs.Int.{w8, w32, to_be_bytes, cast_unsigned, from_bool}
+use Rattle.std.specs.Int.{w8, cast_unsigned, from_bool}
+use Rattle.ptu_octets.specs.Number.{octets_of}
 use Rattle.ptu_tlvs.specs.declared.tlv.Ask.{Ask}
 use Rattle.ptu_tlvs.specs.declared.tlv.Tlv.{Tlv}
 use Rattle.ptu_tlvs.specs.declared.tlv.Tlv.TheVariants.{Request, Grant, Cancel, Ack, Other}
@@ -15,7 +16,7 @@ IsSendable (Other t n) = ⊥
 
 -- the code octet, the logInterMessagePeriod and the durationField
 abbrev pub sent_ask : Ask → List ℕ
-sent_ask ask = 16 * ask.code ∷ cast_unsigned w8 ask.log ∷ to_be_bytes w32 ask.seconds
+sent_ask ask = 16 * ask.code ∷ cast_unsigned w8 ask.log ∷ octets_of 4 ask.seconds
 
 -- type, length and value, reserved bits 0; no other type is sent
 abbrev pub sent_tlv : Tlv → List ℕ

@@ -1,11 +1,11 @@
 -- The TLVs of unicast negotiation, and the octets that spell them (IEEE 1588-2019 clauses 14.1 and 16.1.4).
-use Rattle.std.specs.Prelude.{◌≡◌, ℕ, ◌+◌, ◌%◌, ◌^◌, ◌<◌, ◌≤◌, ◌==◌, ◌⊎◌, List, ◌++◌, length, slice_index, take}
+use Rattle.std.specs.Prelude.{◌≡◌, ℕ, ◌+◌, ◌%◌, ◌^◌, ◌<◌, ◌≤◌, ◌==◌, ◌⊎◌, Bool, List, ◌++◌, length, slice_index, take}
 use Rattle.std.specs.Int.{w8, cast_signed}
 use Rattle.std.specs.Int.RustNames.{FitsSigned}
+use Rattle.ptu_octets.specs.Number.{number_at, high_nibble_at}
 use Rattle.ptu_tlvs.specs.declared.tlv.Ask.{Ask}
 use Rattle.ptu_tlvs.specs.declared.tlv.Tlv.{Tlv}
 use Rattle.ptu_tlvs.specs.declared.tlv.Tlv.TheVariants.{Request, Grant, Cancel, Ack, Other}
-use Rattle.ptu_tlvs.specs.Number.{number_at, high_nibble_at}
 
 -- each field is a number of as many bits as the octets have for it
 pub record HasAskWidths (ask : Ask) : Type 0 where
@@ -31,17 +31,19 @@ pub record HasHead (octets : List ℕ) (t n : ℕ) : Type 0 where
   pub tlv_type : t ≡ number_at octets 0 2
   pub length_field : n ≡ number_at octets 2 2
 
--- the value begins with the code, in the higher half of its octet, the logInterMessagePeriod and the durationField
-pub record KeepsAsk (octets : List ℕ) (ask : Ask) : Type 0 where
-  pub code : ask.code ≡ high_nibble_at octets 4
-  pub log : ask.log ≡ cast_signed w8 (slice_index octets 5)
-  pub seconds : ask.seconds ≡ number_at octets 6 4
+-- what the value begins with: the code, in the higher half of its octet, the logInterMessagePeriod and the durationField
+abbrev pub ask_at : List ℕ → Ask
+ask_at octets =
+    record { code = high_nibble_at octets 4; log = cast_signed w8 (slice_index octets 5); seconds = number_at octets 6 4 }
+
+-- R, the lowest bit of the last octet of a grant
+abbrev pub renewal_at : List ℕ → Bool
+renewal_at octets = slice_index octets 11 % 2 == 1
 
 -- the octets spell the TLV, no more and no fewer; reserved bits, and the value of another type, are free
 abbrev pub SpellsTlv : List ℕ → Tlv → Type 0
-SpellsTlv octets (Request ask) = HasHead octets 4 6 × KeepsAsk octets ask
-SpellsTlv octets (Grant ask invited) =
-    HasHead octets 5 8 × KeepsAsk octets ask × (invited ≡ (slice_index octets 11 % 2 == 1))
+SpellsTlv octets (Request ask) = HasHead octets 4 6 × (ask ≡ ask_at octets)
+SpellsTlv octets (Grant ask invited) = HasHead octets 5 8 × (ask ≡ ask_at octets) × (invited ≡ renewal_at octets)
 SpellsTlv octets (Cancel code) = HasHead octets 6 2 × (code ≡ high_nibble_at octets 4)
 SpellsTlv octets (Ack code) = HasHead octets 7 2 × (code ≡ high_nibble_at octets 4)
 SpellsTlv octets (Other t n) = HasHead octets t n × ((t < 4) ⊎ (7 < t))

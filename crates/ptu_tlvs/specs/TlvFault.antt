@@ -3,7 +3,7 @@ use Rattle.std.specs.Prelude.{◌≡◌, ◌≢◌, ℕ, ◌+◌, ◌<◌, ◌�
 use Rattle.std.specs.Fmt.{decimal}
 use Rattle.ptu_tlvs.specs.declared.fault.TlvFault.{TlvFault}
 use Rattle.ptu_tlvs.specs.declared.fault.TlvFault.TheVariants.{Short, Overrun, Length}
-use Rattle.ptu_tlvs.specs.Number.{number_at}
+use Rattle.ptu_octets.specs.Number.{number_at}
 
 -- the tlvType t is a known one, and n is not its lengthField
 abbrev pub HasOtherLength : ℕ → ℕ → Type 0

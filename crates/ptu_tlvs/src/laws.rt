@@ -1,10 +1,9 @@
 //! Laws of the definitions that the contracts of this crate cite: each is the contract of a function that does nothing.
 
-ghost use Rattle.std.specs.Prelude.{◌≡◌, ◌⊎◌, ◌<◌, ◌≤◌, ◌^◌, ◌++◌, ◌+ℤ◌, ℕ, ℤ, pos, List, All, length};
-ghost use Rattle.std.specs.Int.{w8, cast_signed, cast_unsigned};
-ghost use Rattle.std.specs.Int.RustNames.{FitsSigned};
+ghost use Rattle.std.specs.Prelude.{◌≡◌, ◌⊎◌, ◌↔◌, ◌<◌, ℕ, List, All, Ok, Err};
 ghost use Rattle.ptu_tlvs.specs.Tlv.{HasWidths, SpellsTlv, BeginsWithTlv, AlwaysBeginsWithTlv};
 ghost use Rattle.ptu_tlvs.specs.TlvFault.{HasTlvFault};
+ghost use Rattle.ptu_tlvs.specs.Reading.{tlv_in};
 ghost use Rattle.ptu_tlvs.specs.Sent.{IsSendable, sent_tlv};
 ghost use Rattle.ptu_tlvs.specs.Samples.{TlvsAreSpelled, FaultsAreFound, TlvsAreSent};
 ghost use Rattle.ptu_tlvs.specs.declared.tlv.Tlv.{Tlv};
@@ -29,13 +28,12 @@ pub fn sent_is_read()
     ensures again { (v : Tlv) → HasWidths v → IsSendable v → SpellsTlv (sent_tlv v) v }
 {}
 
-/// A logInterMessagePeriod is two's complement of 8 bits, and what is written is what is read.
-pub fn twos_complement()
-    ensures low { (n : ℕ) → n < 2 ^ 7 → cast_signed w8 n ≡ pos n }
-    ensures high { (n : ℕ) → 2 ^ 7 ≤ n → n < 2 ^ 8 → cast_signed w8 n +ℤ pos (2 ^ 8) ≡ pos n }
-    ensures read_again { (z : ℤ) → FitsSigned w8 z → cast_signed w8 (cast_unsigned w8 z) ≡ z }
-    ensures written_again { (n : ℕ) → n < 2 ^ 8 → cast_unsigned w8 (cast_signed w8 n) ≡ n }
-    ensures fits { (z : ℤ) → FitsSigned w8 z → cast_unsigned w8 z < 2 ^ 8 }
+/// The reading of octets and the relations on them say the same.
+pub fn reading_is_spelling()
+    ensures found { (octets : List ℕ) (v : Tlv) (size : ℕ) → (tlv_in octets ≡ Ok (v, size))
+        ↔ BeginsWithTlv octets v size }
+    ensures refused { (octets : List ℕ) (f : TlvFault) → (tlv_in octets ≡ Err f)
+        ↔ HasTlvFault octets f }
 {}
 
 /// The definitions at TLVs that were made out by hand.

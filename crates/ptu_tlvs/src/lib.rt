@@ -2,14 +2,13 @@
 #![tactic(auto)]
 
 mod fault;
-mod fields;
 mod laws;
 mod reading;
 mod tlv;
 mod writing;
 
 pub use fault::TlvFault;
-pub use laws::{one_reading, sample_tlvs, sent_is_read, twos_complement};
+pub use laws::{one_reading, reading_is_spelling, sample_tlvs, sent_is_read};
 pub use reading::next_tlv;
 pub use tlv::{Ask, Tlv};
 pub use writing::write_tlv;

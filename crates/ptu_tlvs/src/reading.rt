@@ -1,13 +1,13 @@
 ghost use Rattle.std.specs.Prelude.{◌≡◌, ◌↔◌, ◌+◌, ◌≤◌, ℕ, length, IsErr, IfOk, IfErr, MatchResult};
-ghost use Rattle.ptu_tlvs.specs.Number.{number_at};
-ghost use Rattle.ptu_tlvs.specs.Tlv.{IsWhole, IsFirst, KeepsAsk, SpellsTlv, BeginsWithTlv};
+ghost use Rattle.ptu_tlvs.specs.Tlv.{IsWhole, IsFirst, ask_at, SpellsTlv, BeginsWithTlv};
 ghost use Rattle.ptu_tlvs.specs.TlvFault.{HasTlvFault};
+ghost use Rattle.ptu_tlvs.specs.Reading.{tlv_in};
 ghost use Rattle.ptu_tlvs.specs.declared.tlv.Tlv.{Tlv};
 ghost use Rattle.ptu_tlvs.specs.declared.fault.TlvFault.{TlvFault};
 
 use crate::fault::TlvFault;
-use crate::fields::{u16_at, u32_at};
 use crate::tlv::{Ask, Tlv};
+use ptu_octets::{high_nibble, u16_at, u32_at};
 
 // How many octets a tlvType and a lengthField have.
 const HEAD: usize = 4;
@@ -39,10 +39,10 @@ fn first(bytes: &[u8]) -> Result<&[u8], TlvFault>
 // What is asked for in the value of a REQUEST or a GRANT.
 fn ask_of(octets: &[u8]) -> Ask
     requires { 10 ≤ length octets.now }
-    ensures { KeepsAsk octets.now result }
+    ensures { result ≡ ask_at octets.now }
 {
     Ask {
-        code: octets[4] >> 4,
+        code: high_nibble(octets, 4),
         log: octets[5].cast_signed(),
         seconds: u32_at(octets, 6),
     }
@@ -58,8 +58,8 @@ fn tlv_of(octets: &[u8]) -> Result<Tlv, TlvFault>
     match (tlv_type, length) {
         (REQUEST, 6) => Ok(Tlv::Request(ask_of(octets))),
         (GRANT, 8) => Ok(Tlv::Grant(ask_of(octets), octets[11] & 1 == 1)),
-        (CANCEL, 2) => Ok(Tlv::Cancel(octets[4] >> 4)),
-        (ACKNOWLEDGE, 2) => Ok(Tlv::Ack(octets[4] >> 4)),
+        (CANCEL, 2) => Ok(Tlv::Cancel(high_nibble(octets, 4))),
+        (ACKNOWLEDGE, 2) => Ok(Tlv::Ack(high_nibble(octets, 4))),
         (REQUEST..=ACKNOWLEDGE, _) => Err(TlvFault::Length {
             tlv_type,
             said: usize::from(length),
@@ -78,6 +78,9 @@ pub fn next_tlv(bytes: &[u8]) -> Result<(Tlv, usize), TlvFault>
     // What is spelled so is read, and the fault that is there is answered.
     ensures read { (v : Tlv) (size : ℕ) → BeginsWithTlv bytes.now v size → result ≡ Ok (v, size) }
     ensures refused { (f : TlvFault) → HasTlvFault bytes.now f → result ≡ Err f }
+
+    // It is what the reading of the octets finds.
+    ensures value { result ≡ tlv_in bytes.now }
 
     // A fault comes exactly where nothing is spelled, and what is read is never empty.
     ensures nothing { IsErr result ↔ ((v : Tlv) (size : ℕ) → BeginsWithTlv bytes.now v size → ⊥) }
