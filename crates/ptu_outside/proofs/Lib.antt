@@ -1,1 +1,4 @@
+pub mod Handing
 pub mod Told
+pub mod Slots
+pub mod Telling

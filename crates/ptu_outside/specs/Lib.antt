@@ -1,2 +1,11 @@
+pub mod Ends
 pub mod Faults
+pub mod Handing
 pub mod Memory
+pub mod Telling
+pub mod Departure
+pub mod Clocks
+pub mod MemoryPort
+pub mod MemoryClock
+pub mod MemoryHost
+pub mod Standard

@@ -1,19 +1,41 @@
 //! The outside as traits: what input and output are to the rest, with values in memory and over std.
 #![tactic(auto)]
 
+mod arrival;
+mod channel;
+mod clock;
+mod datagram;
 mod failed;
+mod host;
+mod mem_clock;
+mod mem_host;
+mod mem_port;
 mod mem_sink;
 mod mem_source;
+mod opened;
+mod port;
 mod sink;
 mod source;
 mod standard;
 
+pub use arrival::Arrival;
+pub use channel::Channel;
+pub use clock::Clock;
+pub use datagram::Datagram;
 pub use failed::Failed;
+pub use host::Host;
+pub use mem_clock::MemClock;
+pub use mem_host::MemHost;
+pub use mem_port::MemPort;
 pub use mem_sink::MemSink;
 pub use mem_source::MemSource;
+pub use opened::Opened;
+pub use port::Port;
 pub use sink::{Sink, write_whole};
 pub use source::Source;
 pub use standard::{StdSink, StdSource};
 
+#[cfg(test)]
+mod port_tests;
 #[cfg(test)]
 mod tests;

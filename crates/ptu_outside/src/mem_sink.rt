@@ -1,6 +1,7 @@
-ghost use Rattle.std.specs.Prelude.{◌≡◌, ◌<◌, ◌≤◌, ◌+◌, [], Some, length, take, IfOk, OnOk, OnErr, IsErr, IsOk, is_err, if◌then◌else◌, Contains};
+ghost use Rattle.std.specs.Prelude.{◌≡◌, ◌<◌, ◌≤◌, ◌+◌, [], ◌∷◌, Some, None, length, take, IfOk, OnOk, OnErr, IsErr, IsOk, is_err, if◌then◌else◌, Contains};
 ghost use Rattle.std.specs.Io.KnownBytes.{append_known};
 ghost use Rattle.ptu_outside.specs.Faults.{HasRisen, one_more};
+ghost use Rattle.ptu_outside.specs.Handing.{Grows};
 
 use crate::failed::Failed;
 use crate::sink::Sink;
@@ -8,7 +9,8 @@ use ptu_units::OutOfMemory;
 use std::alloc::Global;
 use std::marker::Model;
 
-/// Octets in memory that were written, which fails at the listed calls. It always tells what was written.
+/// Octets in memory that were written, which fails at the listed calls. It always tells what was
+/// written, and not in which pieces.
 #[derive(Drop)]
 pub struct MemSink {
     bytes: Vec<u8>,
@@ -23,7 +25,13 @@ impl Model for MemSink {
 
     ghost Value = { MemoryOutput };
 
-    ghost view = { λ k. record { bytes = k.bytes.items; room = vec_capacity k.bytes; fails = k.fails.items; calls = k.calls; faults = k.faults } };
+    ghost view = { λ k. record {
+      bytes = k.bytes.items;
+      room = vec_capacity k.bytes;
+      fails = k.fails.items;
+      calls = k.calls;
+      faults = k.faults;
+    } };
 }
 
 impl MemSink {
@@ -43,8 +51,12 @@ impl MemSink {
     }
 
     /// Makes room for this many octets more. Writes within it fail only where they are listed.
+    ///
+    /// # Errors
+    /// `OutOfMemory`, only where that room was missing.
     pub fn reserve(&mut self, octets: usize) -> Result<(), OutOfMemory>
         ensures room { OnOk result (length self.old.bytes + octets ≤ self.new.room) }
+        ensures full { OnErr result (self.old.room < length self.old.bytes + octets) }
         ensures no_loss { self.old.room ≤ self.new.room }
         ensures same { self.new ≡ record self.old { room = self.new.room } }
     {
@@ -71,21 +83,27 @@ impl MemSink {
 impl Sink for MemSink {
     ghost written = { λ k. Some k.bytes };
 
+    ghost handed = { λ _. None };
+
     ghost faults = { λ k. k.faults };
 
     fn write(&mut self, piece: &[u8]) -> Result<usize, Failed>
         ensures within { IfOk result (λ n. n ≤ length piece.now) }
         ensures some { IfOk result (λ n. 0 < length piece.now → 0 < n) }
-        ensures taken { IfOk result (λ n. Some self.new.bytes ≡ append_known (Some self.old.bytes) (take n piece.now)) }
+        ensures taken { IfOk result (λ n.
+            Some self.new.bytes ≡ append_known (Some self.old.bytes) (take n piece.now)) }
         ensures kept { OnErr result (Some self.new.bytes ≡ Some self.old.bytes) }
+        ensures handed { Grows None None (piece.now ∷ []) }
         ensures risen { OnErr result (HasRisen self.old.faults self.new.faults) }
+        ensures still { OnOk result (self.new.faults ≡ self.old.faults) }
         ensures no_fall { self.old.faults ≤ self.new.faults }
         // It fails at the listed calls, and at others only past its room. Else it takes the piece whole.
         ensures listed { Contains self.old.fails self.new.calls → IsErr result }
         ensures fits { ¬ Contains self.old.fails self.new.calls
             → length self.old.bytes + length piece.now ≤ self.old.room → IsOk result }
         ensures whole { IfOk result (λ n. n ≡ length piece.now) }
-        ensures faults { self.new.faults ≡ (if is_err result then one_more self.old.faults else self.old.faults) }
+        ensures faults { self.new.faults
+            ≡ (if is_err result then one_more self.old.faults else self.old.faults) }
         ensures calls { self.new.calls ≡ one_more self.old.calls }
         ensures fails { self.new.fails ≡ self.old.fails }
         ensures room { self.old.room ≤ self.new.room }

@@ -1,12 +1,14 @@
-ghost use Rattle.std.specs.Prelude.{◌≡◌, ◌<◌, ◌≤◌, ◌↔◌, Some, length, take, min, IfOk, OnErr, IsErr, is_err, if◌then◌else◌, Contains};
+ghost use Rattle.std.specs.Prelude.{◌≡◌, ◌<◌, ◌≤◌, ◌↔◌, ◌==◌, ◌&&◌, false, Some, None, length, take, min, nat_lt, IfOk, OnOk, OnErr, IsErr, is_err, if◌then◌else◌, Contains};
 ghost use Rattle.std.specs.Io.KnownBytes.{IsAtEnd, prepend_known};
+ghost use Rattle.ptu_outside.specs.Ends.{CountsEnd};
 ghost use Rattle.ptu_outside.specs.Faults.{HasRisen, one_more};
 
 use crate::failed::Failed;
 use crate::source::Source;
 use std::marker::Model;
 
-/// Octets in memory to be read, which fails at the listed calls. It always tells what is left.
+/// Octets in memory to be read, which fails at the listed calls. It always tells what is left, and
+/// not how it was read at its end.
 #[derive(Drop)]
 pub struct MemSource {
     bytes: Vec<u8>,
@@ -22,7 +24,12 @@ impl Model for MemSource {
 
     ghost Value = { MemoryInput };
 
-    ghost view = { λ s. record { left = drop s.at s.bytes.items; fails = s.fails.items; calls = s.calls; faults = s.faults } };
+    ghost view = { λ s. record {
+      left = drop s.at s.bytes.items;
+      fails = s.fails.items;
+      calls = s.calls;
+      faults = s.faults;
+    } };
 
     ghost invariant = { λ s. s.at ≤ length s.bytes.items };
 }
@@ -30,7 +37,8 @@ impl Model for MemSource {
 impl MemSource {
     /// A source of these octets, whose calls with these numbers, from 1, are to fail.
     pub fn new(bytes: Vec<u8>, fails: Vec<u64>) -> MemSource
-        ensures { result ≡ record { left = bytes.items; fails = fails.items; calls = 0; faults = 0 } }
+        ensures { result
+            ≡ record { left = bytes.items; fails = fails.items; calls = 0; faults = 0 } }
     {
         MemSource {
             bytes,
@@ -55,19 +63,27 @@ fn copy_front(from: &[u8], to: &mut [u8]) -> usize
 impl Source for MemSource {
     ghost left = { λ s. Some s.left };
 
+    ghost ends = { λ _. None };
+
     ghost faults = { λ s. s.faults };
 
     fn read(&mut self, buf: &mut [u8]) -> Result<usize, Failed>
         ensures within { IfOk result (λ n. n ≤ length buf.new) }
-        ensures taken { IfOk result (λ n. Some self.old.left ≡ prepend_known (take n buf.new) (Some self.new.left)) }
+        ensures taken { IfOk result (λ n.
+            Some self.old.left ≡ prepend_known (take n buf.new) (Some self.new.left)) }
         ensures end { IfOk result (λ n. n ≡ 0 → 0 < length buf.new → IsAtEnd (Some self.new.left)) }
+        ensures ends { IfOk result
+            (λ n. CountsEnd (n == 0 && nat_lt 0 (length buf.new)) None None) }
         ensures kept { OnErr result (Some self.new.left ≡ Some self.old.left) }
+        ensures no_end { OnErr result (CountsEnd false None None) }
         ensures risen { OnErr result (HasRisen self.old.faults self.new.faults) }
+        ensures still { OnOk result (self.new.faults ≡ self.old.faults) }
         ensures no_fall { self.old.faults ≤ self.new.faults }
         // It fails exactly at the listed calls, and else gives as much as fits.
         ensures listed { IsErr result ↔ Contains self.old.fails self.new.calls }
         ensures fills { IfOk result (λ n. n ≡ min (length buf.new) (length self.old.left)) }
-        ensures faults { self.new.faults ≡ (if is_err result then one_more self.old.faults else self.old.faults) }
+        ensures faults { self.new.faults
+            ≡ (if is_err result then one_more self.old.faults else self.old.faults) }
         ensures calls { self.new.calls ≡ one_more self.old.calls }
         ensures fails { self.new.fails ≡ self.old.fails }
     {

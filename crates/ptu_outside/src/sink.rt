@@ -1,6 +1,7 @@
-ghost use Rattle.std.specs.Prelude.{◌≡◌, ◌<◌, ◌≤◌, ℕ, List, Option, length, take, IfOk, OnOk, OnErr};
+ghost use Rattle.std.specs.Prelude.{◌≡◌, ◌<◌, ◌≤◌, ◌∷◌, [], ℕ, List, Option, length, take, IfOk, OnOk, OnErr};
 ghost use Rattle.std.specs.Io.KnownBytes.{append_known};
 ghost use Rattle.ptu_outside.specs.Faults.{HasRisen};
+ghost use Rattle.ptu_outside.specs.Handing.{Grows, HasPut, HasPutFront};
 
 use crate::failed::Failed;
 
@@ -8,6 +9,9 @@ use crate::failed::Failed;
 pub trait Sink {
     /// The octets that were written, where the sink tells them.
     ghost written: { Self → Option (List ℕ) };
+
+    /// The pieces that it was handed, one for each call, where the sink tells them.
+    ghost handed: { Self → Option (List (List ℕ)) };
 
     /// How many faults there have been.
     ghost faults: { Self → ℕ };
@@ -19,22 +23,26 @@ pub trait Sink {
         // What was taken was added. A sink tells after a call exactly where it told before.
         ensures taken { IfOk result (λ n. written self.new ≡ append_known (written self.old) (take n piece.now)) }
         ensures kept { OnErr result (written self.new ≡ written self.old) }
+        // Whatever became of it, it was handed this piece.
+        ensures handed { Grows (handed self.old) (handed self.new) (piece.now ∷ []) }
+        // The count of faults rises exactly where the call fails.
         ensures risen { OnErr result (HasRisen (faults self.old) (faults self.new)) }
+        ensures still { OnOk result (faults self.new ≡ faults self.old) }
         ensures no_fall { faults self.old ≤ faults self.new };
 }
 
-/// Hands the piece to the sink, and its rest again until all is taken. A fault ends it at once.
-pub fn write_whole<K: Sink>(sink: &mut K, piece: &[u8]) -> Result<(), Failed>
-    ensures whole { OnOk result (K.written sink.new ≡ append_known (K.written sink.old) piece.now) }
-    // A front of the piece was taken, and not all of it.
-    ensures part { OnErr result ((n : ℕ) × (n < length piece.now)
-        × (K.written sink.new ≡ append_known (K.written sink.old) (take n piece.now))) }
+/// Hands the text to the sink in one piece, and its rest again until all is taken. A fault ends it
+/// at once.
+pub fn write_whole<K: Sink>(sink: &mut K, text: &[u8]) -> Result<(), Failed>
+    ensures whole { OnOk result (HasPut K.written K.handed sink.old sink.new (text.now ∷ [])) }
+    ensures part { OnErr result (HasPutFront K.written K.handed sink.old sink.new text.now) }
     ensures risen { OnErr result (HasRisen (K.faults sink.old) (K.faults sink.new)) }
+    ensures still { OnOk result (K.faults sink.new ≡ K.faults sink.old) }
     ensures no_fall { K.faults sink.old ≤ K.faults sink.new }
 {
     let mut at = 0;
-    while at < piece.len() {
-        at += sink.write(&piece[at..])?;
+    while at < text.len() {
+        at += sink.write(&text[at..])?;
     }
     Ok(())
 }

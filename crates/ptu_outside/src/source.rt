@@ -1,5 +1,6 @@
-ghost use Rattle.std.specs.Prelude.{◌≡◌, ◌<◌, ◌≤◌, ℕ, List, Option, length, take, IfOk, OnErr};
+ghost use Rattle.std.specs.Prelude.{◌≡◌, ◌<◌, ◌≤◌, ◌==◌, ◌&&◌, ℕ, List, Option, false, length, take, nat_lt, IfOk, OnOk, OnErr};
 ghost use Rattle.std.specs.Io.KnownBytes.{IsAtEnd, prepend_known};
+ghost use Rattle.ptu_outside.specs.Ends.{CountsEnd};
 ghost use Rattle.ptu_outside.specs.Faults.{HasRisen};
 
 use crate::failed::Failed;
@@ -9,16 +10,26 @@ pub trait Source {
     /// The octets that are left, where the source tells them.
     ghost left: { Self → Option (List ℕ) };
 
+    /// How many reads have found the end of input or come behind it, where the source tells that.
+    ghost ends: { Self → Option ℕ };
+
     /// How many faults there have been.
     ghost faults: { Self → ℕ };
 
     /// Takes octets into the front of `buf`, and gives how many. With a `buf` that is not empty, 0 is the end of input.
     fn read(&mut self, buf: &mut [u8]) -> Result<usize, Failed>
         ensures within { IfOk result (λ n. n ≤ length buf.new) }
-        // What was left is what was taken and what is left now. A source tells after a call exactly where it told before.
+        // What was left is what was taken and what is left now. A source tells after a call exactly
+        // where it told before.
         ensures taken { IfOk result (λ n. left self.old ≡ prepend_known (take n buf.new) (left self.new)) }
         ensures end { IfOk result (λ n. n ≡ 0 → 0 < length buf.new → IsAtEnd (left self.new)) }
+        ensures ends { IfOk result (λ n. CountsEnd (n == 0 && nat_lt 0 (length buf.new))
+            (ends self.old) (ends self.new)) }
+        // After a fault nothing was taken.
         ensures kept { OnErr result (left self.new ≡ left self.old) }
+        ensures no_end { OnErr result (CountsEnd false (ends self.old) (ends self.new)) }
+        // The count of faults rises exactly where the call fails.
         ensures risen { OnErr result (HasRisen (faults self.old) (faults self.new)) }
+        ensures still { OnOk result (faults self.new ≡ faults self.old) }
         ensures no_fall { faults self.old ≤ faults self.new };
 }

@@ -1,21 +1,35 @@
-ghost use Rattle.std.specs.Prelude.{◌≡◌, None};
+ghost use Rattle.std.specs.Prelude.{◌≡◌, ◌<◌, ◌≤◌, ◌==◌, ◌&&◌, ◌∷◌, [], None, false, length, nat_lt, take, IfOk, OnOk, OnErr};
+ghost use Rattle.std.specs.Io.KnownBytes.{IsAtEnd, ReadConsumes, WriteAppends, append_known, prepend_known};
+ghost use Rattle.ptu_outside.specs.Ends.{CountsEnd};
+ghost use Rattle.ptu_outside.specs.Faults.{HasRisen};
+ghost use Rattle.ptu_outside.specs.Handing.{Grows};
 
 use crate::failed::Failed;
 use crate::sink::Sink;
 use crate::source::Source;
 use std::io::{ErrorKind, Read, Write};
+use std::marker::Model;
 
-/// A source over a reader of std. It tells nothing of content.
+/// A source over a reader of std. As a source it tells nothing of content; what the reader tells is
+/// said of `read`.
 #[derive(Drop)]
 pub struct StdSource<R> {
     reader: R,
     faults: u64,
 }
 
+impl<R> Model for StdSource<R> {
+    ghost use Rattle.ptu_outside.specs.Standard.{Over};
+
+    ghost Value = { Over R };
+
+    ghost view = { λ s. record { inner = s.reader; faults = s.faults } };
+}
+
 impl<R: Read + Drop> StdSource<R> {
     /// A source over this reader.
     pub fn new(reader: R) -> StdSource<R>
-        ensures { result.faults ≡ 0 }
+        ensures { result ≡ record { inner = reader; faults = 0 } }
     {
         StdSource { reader, faults: 0 }
     }
@@ -24,13 +38,28 @@ impl<R: Read + Drop> StdSource<R> {
 impl<R: Read + Drop> Source for StdSource<R> {
     ghost left = { λ _. None };
 
+    ghost ends = { λ _. None };
+
     ghost faults = { λ s. s.faults };
 
     /// A read that was interrupted is tried again.
-    fn read(&mut self, buf: &mut [u8]) -> Result<usize, Failed> {
+    fn read(&mut self, buf: &mut [u8]) -> Result<usize, Failed>
+        ensures within { IfOk result (λ n. n ≤ length buf.new) }
+        ensures taken { IfOk result (λ n. None ≡ prepend_known (take n buf.new) None) }
+        ensures end { IfOk result (λ n. n ≡ 0 → 0 < length buf.new → IsAtEnd None) }
+        ensures ends { IfOk result
+            (λ n. CountsEnd (n == 0 && nat_lt 0 (length buf.new)) None None) }
+        ensures no_end { OnErr result (CountsEnd false None None) }
+        ensures risen { OnErr result (HasRisen self.old.faults self.new.faults) }
+        ensures still { OnOk result (self.new.faults ≡ self.old.faults) }
+        ensures no_fall { self.old.faults ≤ self.new.faults }
+        // What the reader had is what was taken and what it has now.
+        ensures read { ReadConsumes (R.remaining self.old.inner)
+            (R.remaining self.new.inner) result buf.new }
+    {
         for _ in 0..u64::MAX {
             match self.reader.read(buf) {
-                Ok(taken) => return Ok(taken),
+                Ok(octets) => return Ok(octets),
                 Err(error) if error.kind() == ErrorKind::Interrupted => {}
                 Err(_) => break,
             }
@@ -40,18 +69,27 @@ impl<R: Read + Drop> Source for StdSource<R> {
     }
 }
 
-/// A sink over a writer of std. It tells nothing of content, and never flushes: a writer that holds octets back is
-/// flushed by whoever made it.
+/// A sink over a writer of std. As a sink it tells nothing of content; what the writer tells is
+/// said of `write`. It never flushes: a writer that holds octets back is flushed by whoever made
+/// it.
 #[derive(Drop)]
 pub struct StdSink<W> {
     writer: W,
     faults: u64,
 }
 
+impl<W> Model for StdSink<W> {
+    ghost use Rattle.ptu_outside.specs.Standard.{Over};
+
+    ghost Value = { Over W };
+
+    ghost view = { λ k. record { inner = k.writer; faults = k.faults } };
+}
+
 impl<W: Write + Drop> StdSink<W> {
     /// A sink over this writer.
     pub fn new(writer: W) -> StdSink<W>
-        ensures { result.faults ≡ 0 }
+        ensures { result ≡ record { inner = writer; faults = 0 } }
     {
         StdSink { writer, faults: 0 }
     }
@@ -60,10 +98,23 @@ impl<W: Write + Drop> StdSink<W> {
 impl<W: Write + Drop> Sink for StdSink<W> {
     ghost written = { λ _. None };
 
+    ghost handed = { λ _. None };
+
     ghost faults = { λ k. k.faults };
 
     /// A write that was interrupted is tried again. A writer that takes nothing of a piece is a fault.
-    fn write(&mut self, piece: &[u8]) -> Result<usize, Failed> {
+    fn write(&mut self, piece: &[u8]) -> Result<usize, Failed>
+        ensures within { IfOk result (λ n. n ≤ length piece.now) }
+        ensures some { IfOk result (λ n. 0 < length piece.now → 0 < n) }
+        ensures taken { IfOk result (λ n. None ≡ append_known None (take n piece.now)) }
+        ensures handed { Grows None None (piece.now ∷ []) }
+        ensures risen { OnErr result (HasRisen self.old.faults self.new.faults) }
+        ensures still { OnOk result (self.new.faults ≡ self.old.faults) }
+        ensures no_fall { self.old.faults ≤ self.new.faults }
+        // What was taken was added to what the writer holds.
+        ensures wrote { WriteAppends (W.contents self.old.inner)
+            (W.contents self.new.inner) result piece.now }
+    {
         for _ in 0..u64::MAX {
             match self.writer.write(piece) {
                 Ok(0) if !piece.is_empty() => break,

@@ -1,4 +1,8 @@
+ghost use Rattle.std.specs.Prelude.{◌≡◌, ◌++◌, IsTrue, ◌∷◌, [], Some, None, map, IfOk, if◌then◌else◌};
+ghost use Rattle.ptu_outside.specs.Handing.{Grows};
+
 use super::*;
+use std::alloc::{AllocError, Global};
 use std::io;
 use std::io::{ErrorKind, Read, Write};
 use std::test::Fail;
@@ -27,6 +31,64 @@ fn a_sink_keeps_what_is_written_and_fails_where_listed(rt: HostRuntime) -> Resul
     assert_eq!(rt; write_whole(&mut sink, b"ef"), Ok(()));
     assert_eq!(rt; sink.bytes(), b"abef".as_slice());
     assert_eq!(rt; sink.into_bytes().as_slice(), b"abef".as_slice());
+    Ok(())
+}
+
+// A sink that takes two octets a call at most, and tells its pieces as long as there is memory for
+// them.
+#[derive(Drop)]
+struct Pieces {
+    alloc: Global,
+    pieces: Vec<Vec<u8>>,
+    is_telling: bool,
+}
+
+fn copy_of(alloc: Global, piece: &[u8]) -> Result<Vec<u8>, AllocError>
+    ensures { IfOk result (λ copy. copy.items ≡ piece.now) }
+{
+    Vec::from_slice(alloc, piece)
+}
+
+// Whether there was memory to keep it.
+fn keep(alloc: Global, pieces: &mut Vec<Vec<u8>>, piece: &[u8]) -> bool
+    ensures { IsTrue result → map (λ p. p.items) pieces.new.items
+        ≡ map (λ p. p.items) pieces.old.items ++ piece.now ∷ [] }
+{
+    match copy_of(alloc, piece) {
+        Ok(copy) => pieces.push(copy).is_ok(),
+        Err(_) => false,
+    }
+}
+
+impl Sink for Pieces {
+    ghost written = { λ _. None };
+
+    ghost handed = { λ k. if k.is_telling then Some (map (λ p. p.items) k.pieces.items) else None };
+
+    ghost faults = { λ _. 0 };
+
+    fn write(&mut self, piece: &[u8]) -> Result<usize, Failed> {
+        let is_kept = keep(self.alloc, &mut self.pieces, piece);
+        self.is_telling = self.is_telling && is_kept;
+        Ok(piece.len().min(2))
+    }
+}
+
+#[test]
+fn a_text_is_handed_over_whole_and_then_what_is_left_of_it(rt: HostRuntime) -> Result<(), Fail> {
+    let alloc = rt.alloc();
+    let mut sink = Pieces {
+        alloc,
+        pieces: Vec::new(alloc),
+        is_telling: true,
+    };
+    assert_eq!(rt; write_whole(&mut sink, b"abcde"), Ok(()));
+    assert_eq!(rt; write_whole(&mut sink, b""), Ok(()));
+    assert!(rt; sink.is_telling);
+    assert_eq!(rt; sink.pieces.len(), 3);
+    assert_eq!(rt; sink.pieces[0].as_slice(), b"abcde".as_slice());
+    assert_eq!(rt; sink.pieces[1].as_slice(), b"cde".as_slice());
+    assert_eq!(rt; sink.pieces[2].as_slice(), b"e".as_slice());
     Ok(())
 }
 

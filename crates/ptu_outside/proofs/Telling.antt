@@ -1,0 +1,35 @@
+-- Content that is told or not, after several calls.
+use Rattle.std.proofs.Common.{◌≡◌, List, [], ◌++◌, Option, Some, None, IsSome, refl, ap, ◌∙◌, append_assoc}
+use Rattle.std.proofs.lemmas.List.{append-nil}
+use Rattle.ptu_outside.specs.Telling.{IfTold, append_told}
+
+pub IfTold-refl : {A : Type 0} (told : Option A) → IfTold told told
+IfTold-refl None = tt
+IfTold-refl (Some x) = refl
+
+pub IfTold-trans : {A : Type 0} (told old new : Option A) → IfTold old told → IfTold new old → IfTold new told
+IfTold-trans told old None first second = tt
+IfTold-trans told None (Some x) first second = absurd (cc second)
+IfTold-trans told (Some y) (Some x) first second = first ∙ second
+
+pub append_told-nil : {A : Type 0} (told : Option (List A)) → append_told told [] ≡ told
+append_told-nil None = refl
+append_told-nil (Some xs) = ap Some (append-nil xs)
+
+pub append_told-append : {A : Type 0} (told : Option (List A)) (xs ys : List A) → append_told (append_told told xs) ys ≡ append_told told (xs ++ ys)
+append_told-append None xs ys = refl
+append_told-append (Some zs) xs ys = ap Some (append_assoc zs xs ys)
+
+-- what was added by one call and by the next
+pub IfTold-append : {A : Type 0} (start old new : Option (List A)) (xs ys : List A) → IfTold old (append_told start xs) → IfTold new (append_told old ys)
+    → IfTold new (append_told start (xs ++ ys))
+IfTold-append start old None xs ys first second = tt
+IfTold-append start None (Some zs) xs ys first second = absurd (cc second)
+IfTold-append start (Some ws) (Some zs) xs ys first second =
+    rw (← append_told-append start xs ys, first) second
+
+-- what is told now was told before
+pub told_before : {A : Type 0} (old new : Option (List A)) (xs : List A) → IfTold new (append_told old xs) → IsSome new → IsSome old
+told_before old None xs h is = absurd (cc is)
+told_before None (Some zs) xs h is = absurd (cc h)
+told_before (Some ws) (Some zs) xs h is = refl

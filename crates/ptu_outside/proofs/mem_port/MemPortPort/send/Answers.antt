@@ -1,0 +1,18 @@
+use Rattle.std.proofs.Common.{◌≤◌, ◌+◌, length, rules}
+use Rattle.std.specs.Vec.{vec_capacity}
+use Rattle.std.proofs.lemmas.List.{length-map}
+use Rattle.ptu_outside.specs.MemoryPort.{departure_of}
+use Rattle.ptu_outside.proofs.Slots.{octets_of-departures}
+use Rattle.ptu_outside.proofs.mem_port.MemPortPort.send.Goals.{then-contains-via-then-contains, then-contains-via-else-contains+then-is_err}
+use Rattle.ptu_outside.proofs.mem_port.MemPortPort.send.Goals as goal
+
+pub returns-then-contains-clause-fits : goal.returns-then-contains-clause-fits
+returns-then-contains-clause-fits c =
+    elim c.then-contains.branch [
+      | then-contains-via-then-contains w ↦ λ unlisted slots octets. absurd (unlisted (search rules))
+      | then-contains-via-else-contains+then-is_err w ↦ λ unlisted slots octets.
+          let inside = c.self.inside in
+          let one : length inside.slots.items + 1 ≤ vec_capacity inside.slots = rw (← c.self.view_is, length-map inside.slots.items (departure_of inside.octets.items)) at slots in
+          let fits : length inside.octets.items + length c.args.bytes.now ≤ vec_capacity inside.octets = rw (← c.self.view_is, octets_of-departures inside.octets.items inside.slots.items c.self.invariant.0) at octets in
+          let done = w.add.ensures.fits one fits in search rules
+    ]

@@ -1,0 +1,12 @@
+-- What a host in memory holds.
+use Rattle.std.specs.Prelude.{ℕ, Option}
+use Rattle.ptu_outside.specs.declared.opened.Opened.{Opened}
+use Rattle.ptu_outside.specs.MemoryPort.{MemoryPort}
+use Rattle.ptu_outside.specs.MemoryClock.{MemoryClock}
+
+-- the ports and clocks that it will open, those that it was given back last, and how many faults
+-- there have been
+pub record MemoryHost : Type 0 where
+  pub opening : Option (Opened MemoryPort MemoryClock)
+  pub back : Option (Opened MemoryPort MemoryClock)
+  pub faults : ℕ

@@ -1,0 +1,40 @@
+-- What a port in memory holds.
+use Rattle.std.specs.Prelude.{ℕ, ◌≡◌, ◌≤◌, ◌-◌, List, length, map, sum_by, slice_range}
+use Rattle.std.specs.List.{AllByRecursion}
+use Rattle.ptu_outside.specs.declared.arrival.Arrival.{Arrival}
+use Rattle.ptu_outside.specs.declared.mem_port.Slot.{Slot}
+use Rattle.ptu_outside.specs.Departure.{Departure}
+
+-- the datagrams that were sent, with the room in all for datagrams and for their octets; those that
+-- wait; for each kind of call, which are to fail and how many there have been; and the faults
+pub record MemoryPort : Type 0 where
+  pub sent : List Departure
+  pub datagrams : ℕ
+  pub octets : ℕ
+  pub waiting : List Arrival
+  pub failing_sends : List ℕ
+  pub failing_receives : List ℕ
+  pub sends : ℕ
+  pub receives : ℕ
+  pub faults : ℕ
+
+-- how many octets the datagrams have together
+abbrev pub octets_of : List Departure → ℕ
+octets_of sent = sum_by (λ d. length d.bytes) sent
+
+-- no datagram that waits is longer than a datagram may be
+abbrev pub FitAll : List Arrival → Type 0
+FitAll arrivals = AllByRecursion (λ (a : Arrival). length a.bytes ≤ 2048) arrivals
+
+-- the datagrams whose octets stand one behind the other
+abbrev pub departure_of : List ℕ → Slot → Departure
+departure_of octets slot =
+    record { ip = slot.ip; channel = slot.channel; bytes = slice_range octets slot.start slot.end }
+
+abbrev pub departures : List ℕ → List Slot → List Departure
+departures octets slots = map (departure_of octets) slots
+
+-- each slot is a range of the octets, and together they are as long as these
+pub record IsLaidOut (octets : List ℕ) (slots : List Slot) : Type 0 where
+  pub within : AllByRecursion (λ (s : Slot). (s.start ≤ s.end) × (s.end ≤ length octets)) slots
+  pub whole : sum_by (λ (s : Slot). s.end - s.start) slots ≡ length octets

@@ -1,0 +1,43 @@
+ghost use Rattle.std.specs.Prelude.{◌≡◌, ℕ, Option, Some, IfOk, OnOk, OnErr, IfSome};
+ghost use Rattle.ptu_outside.specs.declared.opened.Opened.{Opened};
+ghost use Rattle.ptu_outside.specs.Faults.{HasRisen, HasNotFallen};
+ghost use Rattle.ptu_outside.specs.Telling.{IfTold};
+
+use crate::clock::Clock;
+use crate::failed::Failed;
+use crate::opened::Opened;
+use crate::port::Port;
+
+/// Where ports and clocks are opened and given back.
+pub trait Host {
+    type P: Port + Send;
+
+    type C: Clock + Send;
+
+    /// The ports and clocks that it will open, where it tells them.
+    ghost opening: { Self → Option (Opened Self.P Self.C) };
+
+    /// The ports and clocks that it was given back last, where there were any and it tells them.
+    ghost back: { Self → Option (Opened Self.P Self.C) };
+
+    /// How many faults there have been.
+    ghost faults: { Self → ℕ };
+
+    /// Opens six ports and six clocks at this IPv4 address (its first octet the highest). Port 4
+    /// receives at the UDP port number of the general channel, port 5 at that of the event channel.
+    fn open(
+        &mut self,
+        ip: u32,
+        event_port: u16,
+        general_port: u16,
+    ) -> Result<Opened<Self::P, Self::C>, Failed>
+        ensures opened { IfOk result (λ ports. IfSome (opening self.old) (λ told. ports ≡ told)) }
+        ensures risen { OnErr result (HasRisen (faults self.old) (faults self.new)) }
+        ensures quiet { OnOk result (faults self.new ≡ faults self.old) }
+        ensures no_fall { HasNotFallen (faults self.old) (faults self.new) };
+
+    /// Takes ports and clocks back.
+    fn close(&mut self, opened: Opened<Self::P, Self::C>)
+        ensures back { IfTold (back self.new) (Some opened) }
+        ensures quiet { faults self.new ≡ faults self.old };
+}

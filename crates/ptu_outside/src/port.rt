@@ -1,0 +1,52 @@
+ghost use Rattle.std.specs.Prelude.{◌≡◌, ◌≤◌, ℕ, List, [], ◌∷◌, Option, take, IfOk, OnOk, OnErr, IfSome, IfNone};
+ghost use Rattle.ptu_outside.specs.declared.arrival.Arrival.{Arrival};
+ghost use Rattle.ptu_outside.specs.Departure.{Departure};
+ghost use Rattle.ptu_outside.specs.Faults.{HasRisen, HasNotFallen};
+ghost use Rattle.ptu_outside.specs.Telling.{IfTold, IsFirstTold, IsEmptyTold, append_told, rest_told};
+
+use crate::channel::Channel;
+use crate::failed::Failed;
+
+/// Where datagrams are sent and received.
+pub trait Port: Drop {
+    /// The datagrams that were sent, in order, where the port tells them.
+    ghost sent: { Self → Option (List Departure) };
+
+    /// The datagrams that wait to be received, in order, where the port tells them.
+    ghost waiting: { Self → Option (List Arrival) };
+
+    /// How many faults there have been.
+    ghost faults: { Self → ℕ };
+
+    /// Hands the datagram over whole, to this IPv4 address (its first octet the highest) on this
+    /// channel.
+    fn send(&mut self, ip: u32, channel: Channel, bytes: &[u8]) -> Result<(), Failed>
+        // What was sent, where it is still told, has this datagram at its end, and is as before
+        // after a fault.
+        ensures handed { OnOk result (IfTold (sent self.new) (append_told (sent self.old)
+            (record { ip = ip; channel = channel; bytes = bytes.now } ∷ []))) }
+        ensures kept { OnErr result (IfTold (sent self.new) (sent self.old)) }
+        ensures waiting { waiting self.new ≡ waiting self.old }
+        ensures risen { OnErr result (HasRisen (faults self.old) (faults self.new)) }
+        ensures quiet { OnOk result (faults self.new ≡ faults self.old) }
+        ensures no_fall { HasNotFallen (faults self.old) (faults self.new) };
+
+    /// Takes the first datagram that waits: the sender's IPv4 address and the length. The datagram
+    /// is that many octets from the front of `buf`. `None` where none waits.
+    fn receive(&mut self, buf: &mut [u8; 2048]) -> Result<Option<(u32, usize)>, Failed>
+        ensures within { IfOk result (λ got. IfSome got (λ a. a.1 ≤ 2048)) }
+        ensures first { IfOk result (λ got. IfSome got (λ a. IsFirstTold (waiting self.old)
+            (record { ip = a.0; bytes = take a.1 buf.new }))) }
+        ensures nothing { IfOk result (λ got. IfNone got (IsEmptyTold (waiting self.old))) }
+        // What waits, where it is still told, has lost its first, and is as before after `None` and
+        // a fault.
+        ensures rest { IfOk result (λ got. IfSome got (λ a.
+            IfTold (waiting self.new) (rest_told (waiting self.old)))) }
+        ensures left { IfOk result (λ got. IfNone got
+            (IfTold (waiting self.new) (waiting self.old))) }
+        ensures kept { OnErr result (IfTold (waiting self.new) (waiting self.old)) }
+        ensures sent { sent self.new ≡ sent self.old }
+        ensures risen { OnErr result (HasRisen (faults self.old) (faults self.new)) }
+        ensures quiet { OnOk result (faults self.new ≡ faults self.old) }
+        ensures no_fall { HasNotFallen (faults self.old) (faults self.new) };
+}

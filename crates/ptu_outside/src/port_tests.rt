@@ -1,0 +1,113 @@
+ghost use Rattle.std.specs.Prelude.{◌≡◌, length, IfOk};
+
+use super::*;
+use ptu_units::Moment;
+use std::alloc::Global;
+use std::test::Fail;
+
+fn send_to<P: Port>(port: &mut P, bytes: &[u8]) -> Result<(), Failed> {
+    port.send(0x0a00_0001, Channel::General, bytes)
+}
+
+#[test]
+fn a_port_keeps_what_is_sent_and_fails_where_listed(rt: HostRuntime) -> Result<(), Fail> {
+    let alloc = rt.alloc();
+    let mut port = MemPort::new(alloc, Vec::new(alloc), vec![in alloc; 2]?, Vec::new(alloc));
+    assert_eq!(rt; port.reserve(2, 5), Ok(()));
+    assert_eq!(rt; send_to(&mut port, b"ab"), Ok(()));
+    assert_eq!(rt; send_to(&mut port, b"x"), Err(Failed));
+    assert_eq!(rt; port.send(7, Channel::Event, b"cde"), Ok(()));
+    let first = port.sent(0).ok_or("first")?;
+    assert_eq!(rt; (first.0, first.1), (0x0a00_0001, Channel::General));
+    assert_eq!(rt; first.2, b"ab".as_slice());
+    let second = port.sent(1).ok_or("second")?;
+    assert_eq!(rt; (second.0, second.1), (7, Channel::Event));
+    assert_eq!(rt; second.2, b"cde".as_slice());
+    assert!(rt; port.sent(2).is_none());
+    port.clear();
+    assert!(rt; port.sent(0).is_none());
+    Ok(())
+}
+
+fn arrival(alloc: Global, ip: u32, bytes: &[u8; 2]) -> Result<Arrival, Fail>
+    ensures { IfOk result (λ a. length a.bytes ≡ 2) }
+{
+    let bytes = Datagram::new(bytes.to_vec(alloc)?);
+    Ok(Arrival { ip, bytes })
+}
+
+#[test]
+fn a_port_gives_what_waits_in_order(rt: HostRuntime) -> Result<(), Fail> {
+    let alloc = rt.alloc();
+    let waiting = vec![in alloc; arrival(alloc, 1, b"ab")?, arrival(alloc, 2, b"cd")?]?;
+    let mut port = MemPort::new(alloc, waiting, Vec::new(alloc), vec![in alloc; 2]?);
+    let mut buf = [0; 2048];
+    assert_eq!(rt; port.receive(&mut buf), Ok(Some((1, 2))));
+    assert_eq!(rt; buf[..2], b"ab"[..]);
+    assert_eq!(rt; port.receive(&mut buf), Err(Failed));
+    assert_eq!(rt; port.receive(&mut buf), Ok(Some((2, 2))));
+    assert_eq!(rt; buf[..2], b"cd"[..]);
+    assert_eq!(rt; port.receive(&mut buf), Ok(None));
+    Ok(())
+}
+
+fn nanos<C: Clock>(clock: &mut C) -> u64 {
+    clock.now().nanos()
+}
+
+#[test]
+fn a_clock_answers_its_last_moment_again(rt: HostRuntime) -> Result<(), Fail> {
+    let alloc = rt.alloc();
+    let five = Moment::of(5).ok_or("five")?;
+    let three = Moment::of(3).ok_or("three")?;
+    let mut clock = MemClock::new(vec![in alloc; five, three]?);
+    assert_eq!(rt; nanos(&mut clock), 5);
+    assert_eq!(rt; nanos(&mut clock), 3);
+    assert_eq!(rt; nanos(&mut clock), 3);
+    let mut empty = MemClock::new(Vec::new(alloc));
+    assert_eq!(rt; nanos(&mut empty), 0);
+    Ok(())
+}
+
+fn port(alloc: Global) -> MemPort {
+    MemPort::new(alloc, Vec::new(alloc), Vec::new(alloc), Vec::new(alloc))
+}
+
+fn clock(alloc: Global) -> MemClock {
+    MemClock::new(Vec::new(alloc))
+}
+
+fn ports(alloc: Global) -> Opened<MemPort, MemClock> {
+    Opened {
+        p0: port(alloc),
+        p1: port(alloc),
+        p2: port(alloc),
+        p3: port(alloc),
+        p4: port(alloc),
+        p5: port(alloc),
+        c0: clock(alloc),
+        c1: clock(alloc),
+        c2: clock(alloc),
+        c3: clock(alloc),
+        c4: clock(alloc),
+        c5: clock(alloc),
+    }
+}
+
+fn open_and_close<H: Host>(host: &mut H) -> Result<(), Failed> {
+    let opened = host.open(0x7f00_0001, 319, 320)?;
+    host.close(opened);
+    Ok(())
+}
+
+#[test]
+fn a_host_opens_once_and_takes_back(rt: HostRuntime) -> Result<(), Fail> {
+    let mut host = MemHost::new(ports(rt.alloc()), false);
+    assert!(rt; host.back().is_none());
+    assert!(rt; open_and_close(&mut host).is_ok());
+    assert!(rt; host.back().is_some());
+    assert!(rt; open_and_close(&mut host).is_err());
+    let mut failing = MemHost::new(ports(rt.alloc()), true);
+    assert!(rt; open_and_close(&mut failing).is_err());
+    Ok(())
+}
