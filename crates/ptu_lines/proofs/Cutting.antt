@@ -9,9 +9,10 @@ use Rattle.std.specs.List.{flat_map, list_all, onto_first, position, position_or
 use Rattle.std.specs.Option.{option_map}
 use Rattle.ptu_lines.specs.declared.cause.LineCause.{LineCause}
 use Rattle.ptu_lines.specs.declared.cause.LineCause.TheVariants.{Size, Long, Text}
-use Rattle.ptu_lines.specs.Script.{is_end, HasNoEnd, is_plain, pieces, text_of, cause_of, passes_limit, Whole, Refused, lines_from, line_then}
+use Rattle.ptu_lines.specs.Script.{is_end, HasNoEnd, AreEnded, AreLines, is_plain, pieces, text_of, cause_of, passes_limit, Whole, Refused, lines_from, line_then}
 use Rattle.std.specs.Io.KnownBytes.{IsAtEnd, prepend_known}
-use Rattle.ptu_lines.specs.Reading.{lines_to_come, known_of, IsEnough, IsOfReading}
+use Rattle.ptu_lines.specs.Reading.{lines_to_come, known_of, AgreesOnEnd, IsEnough, IsOfReading}
+use Rattle.ptu_lines.proofs.Ranges.{length-least, take-least}
 
 -- these octets before the first of the pieces
 abbrev glue : List ℕ → List (List ℕ) → List (List ℕ)
@@ -225,14 +226,14 @@ pub text_of-known_open : (waiting : List ℕ) → None ≡ position is_end (take
 text_of-known_open waiting none = text_of-whole (take 8193 waiting) (HasNoEnd-from_position _ (sym none))
 
 -- so many octets wait, and so many are left, that what is known of the next line decides it
-pub decides : (before : ℕ) (waiting : List ℕ) (place : Option ℕ) (left : Option (List ℕ)) (after : List ℕ)
-    → place ≡ position is_end (take 8193 waiting) → IfNone place (IsEnough before waiting left) → before ≤ 67108864
+pub decides : (before : ℕ) (waiting : List ℕ) (place : Option ℕ) (is_ended : Bool) (left : Option (List ℕ)) (after : List ℕ)
+    → place ≡ position is_end (take 8193 waiting) → IfNone place (IsEnough before waiting is_ended) → AgreesOnEnd is_ended left → before ≤ 67108864
     → left ≡ Some after → 0 < length (known_of place waiting) → Decides before (known_of place waiting) waiting after
-decides before waiting (Some at) left after found enough le told some =
+decides before waiting (Some at) is_ended left after found enough in_step le told some =
     let e = ends_at waiting at found in
     subst (λ known. Decides before known waiting after) (sym (known-ended waiting at e))
     (subst (λ ws. Decides before (e.line ++ 10 ∷ []) ws after) (sym e.is) (decides-line before e.line e.rest after e.no_end))
-decides before waiting None left after found enough le told some =
+decides before waiting None is_ended left after found enough in_step le told some =
     let no_end = HasNoEnd-from_position (take 8193 waiting) (sym found) in
     let whole : take 8193 waiting ++ drop 8193 waiting ≡ waiting = take-append-drop 8193 waiting in
     let long : 8193 ≤ length waiting → Decides before (take 8193 waiting) waiting after =
@@ -247,7 +248,7 @@ decides before waiting None left after found enough le told some =
             | inr rest ↦ elim rest [
               | inl limit ↦ subst (λ ws. Decides before (take 8193 waiting) ws after) whole
                   (decides-limit before (take 8193 waiting) (drop 8193 waiting) after no_end le (ap (λ ws. before + length ws) all ∙ limit) (omega (arith, ap length all)))
-              | inr end ↦ at_end (take 8193 waiting) waiting after no_end all (subst IsAtEnd told end) some
+              | inr end ↦ at_end (take 8193 waiting) waiting after no_end all (subst IsAtEnd told (in_step end)) some
             ]
           ]
     ]
@@ -338,14 +339,14 @@ pieces-whole (x ∷ xs) = elim (is_end x) as (λ b. flat_map (λ p. p) (cond b (
 pub pieces-last : (x : ℕ) (xs : List ℕ) → HasNoEnd (x ∷ xs) → pieces (x ∷ xs) ≡ (x ∷ xs) ∷ []
 pieces-last x xs h = ap pieces (sym (append-nil (x ∷ xs))) ∙ (pieces-append (x ∷ xs) [] h ∙ glue-nil x xs)
 
--- where nothing is known of a next line, the source is at its end
-pub at_end-nothing : (before : ℕ) (waiting : List ℕ) (place : Option ℕ) (left : Option (List ℕ)) → place ≡ position is_end (take 8193 waiting)
-    → IfNone place (IsEnough before waiting left) → before ≤ 67108864 → length (known_of place waiting) ≡ 0 → (waiting ≡ []) × IsAtEnd left
-at_end-nothing before waiting (Some at) left found enough le none =
+-- where nothing is known of a next line, nothing waits, and the source's end was found
+pub at_end-nothing : (before : ℕ) (waiting : List ℕ) (place : Option ℕ) (is_ended : Bool) → place ≡ position is_end (take 8193 waiting)
+    → IfNone place (IsEnough before waiting is_ended) → before ≤ 67108864 → length (known_of place waiting) ≡ 0 → (waiting ≡ []) × (is_ended ≡ true)
+at_end-nothing before waiting (Some at) is_ended found enough le none =
     absurd (let size = length-known_ended waiting at (ends_at waiting at found) in omega arith)
-at_end-nothing before waiting None left found enough le none =
+at_end-nothing before waiting None is_ended found enough le none =
     let zero : length waiting ≡ 0 = omega (arith, length-take 8193 waiting) in
-    let end : IsAtEnd left = elim enough [
+    let end : is_ended ≡ true = elim enough [
       | inl many ↦ absurd (omega arith)
       | inr rest ↦ elim rest [ inl limit ↦ absurd (omega arith) | inr end ↦ end ]
     ] in
@@ -355,21 +356,33 @@ pub to_come-end : (before : ℕ) (waiting : List ℕ) (left : Option (List ℕ))
 to_come-end before waiting None e end = tt
 to_come-end before waiting (Some after) e end = rw (e, end) refl
 
--- the line that was taken, and what waits after it
-pub taken-line : (before : ℕ) (waiting : List ℕ) (place : Option ℕ) → place ≡ position is_end (take 8193 waiting)
-    → (length (text_of (known_of place waiting)) ≤ 8192)
-    → (waiting ≡ text_of (known_of place waiting) ++ 10 ∷ drop (length (known_of place waiting)) waiting)
-    ⊎ ((waiting ≡ text_of (known_of place waiting)) × (drop (length (known_of place waiting)) waiting ≡ []))
-taken-line before waiting (Some at) found short =
+-- what is known of a line is a line, or a front of one
+pub known-is_line : (waiting : List ℕ) (place : Option ℕ) → place ≡ position is_end (take 8193 waiting) → AreLines (known_of place waiting ∷ [])
+known-is_line waiting (Some at) found = let e = ends_at waiting at found in ((e.line, e.no_end, inl (known-ended waiting at e)), tt)
+known-is_line waiting None found = ((take 8193 waiting, HasNoEnd-from_position (take 8193 waiting) (sym found), inr refl), tt)
+
+-- a line that is not refused ends with a 0A, unless the end of input cuts it off
+pub known-is_ended : (before : ℕ) (waiting : List ℕ) (place : Option ℕ) (is_ended : Bool) → place ≡ position is_end (take 8193 waiting)
+    → IfNone place (IsEnough before waiting is_ended) → before ≤ 67108864 → cause_of before (known_of place waiting) ≡ None
+    → is_ended ≡ false → AreEnded (known_of place waiting ∷ [])
+known-is_ended before waiting (Some at) is_ended found enough le none not_end =
     let e = ends_at waiting at found in
-    let known = known-ended waiting at e in
-    let text : text_of (known_of (Some at) waiting) ≡ e.line = ap text_of known ∙ text_of-line e.line [] e.no_end in
-    let rest : drop (length (known_of (Some at) waiting)) waiting ≡ e.rest =
-    ap (λ k. drop (length k) waiting) known ∙ (ap (drop (length (e.line ++ 10 ∷ []))) (e.is ∙ sym (append_assoc e.line (10 ∷ []) e.rest))
-    ∙ drop_at (e.line ++ 10 ∷ []) e.rest _ refl) in
-    inl (e.is ∙ (ap (λ t. t ++ 10 ∷ e.rest) (sym text) ∙ ap (λ r. text_of (known_of (Some at) waiting) ++ 10 ∷ r) (sym rest)))
-taken-line before waiting None found short =
-    let text = text_of-known_open waiting found in
-    let few : length waiting ≤ 8193 = omega (arith, length-take 8193 waiting, ap length text) in
-    let whole : take 8193 waiting ≡ waiting = take_all 8193 waiting few in
-    inr (sym (text ∙ whole), drop_all _ waiting (omega (arith, ap length whole)))
+    ((e.line, e.no_end, known-ended waiting at e), tt)
+known-is_ended before waiting None is_ended found enough le none not_end =
+    let known = take 8193 waiting in
+    let short : length known ≤ 8192 = omega (arith, (cause_of-none before known none).0, ap length (text_of-known_open waiting found)) in
+    let few : length waiting ≤ 8192 = omega (arith, length-take 8193 waiting) in
+    let size : length known ≡ length waiting = ap length (take_all 8193 waiting (omega arith)) in
+    elim enough [
+      | inl many ↦ absurd (omega arith)
+      | inr rest ↦ elim rest [
+        | inl limit ↦
+            let refused : cause_of before known ≡ Some Size = ap (cause_of before) (sym (append-nil known)) ∙ cause-limit before known [] le (omega arith) (omega arith) in
+            absurd (let never : None ≡ Some Size = sym none ∙ refused in cc)
+        | inr end ↦ absurd (let never : true ≡ false = sym end ∙ not_end in cc)
+      ]
+    ]
+
+pub take-length_of_known : (place : Option ℕ) (waiting : List ℕ) → take (length (known_of place waiting)) waiting ≡ known_of place waiting
+take-length_of_known None waiting = ap (λ n. take n waiting) (sym (length-least 8193 waiting)) ∙ take-least 8193 waiting
+take-length_of_known (Some at) waiting = ap (λ n. take n waiting) (sym (length-least (at + 1) waiting)) ∙ take-least (at + 1) waiting

@@ -1,26 +1,30 @@
--- What a reader of lines keeps while it only reads on.
-use Rattle.std.proofs.Common.{◌≡◌, ℕ, ◌≤◌, List, [], ◌++◌, Option, refl, ap, sym, ◌∙◌, append_assoc, arith}
+-- What a buffer keeps while only more is read into it.
+use Rattle.std.proofs.Common.{◌≡◌, ℕ, List, [], ◌++◌, Option, refl, ap, sym, ◌∙◌, append_assoc}
+use Rattle.std.specs.Prelude.{IsTrue}
 use Rattle.std.proofs.lemmas.List.{append-nil}
 use Rattle.std.specs.Io.KnownBytes.{prepend_known}
 use Rattle.ptu_outside.proofs.Told.{prepend_known-nil, prepend_known-append}
-use Rattle.ptu_lines.specs.declared.line_reader.LineReader.{LineReader}
+use Rattle.ptu_lines.specs.Reading.{Held, AgreesOnEnd, IsReadToEnd}
 
-pub record HasRead {S : Type 0} (left : S → Option (List ℕ)) (faults : S → ℕ) (old new : LineReader) (from to : S) : Type 0 where
-  pub before : new.before ≡ old.before
-  pub number : new.number ≡ old.number
+pub record HasRead {S : Type 0} (left : S → Option (List ℕ)) (ends : S → Option ℕ) (faults : S → ℕ) (old new : Held) (from to : S) : Type 0 where
   pub octets : List ℕ
-  pub waiting : new.buffer.waiting ≡ old.buffer.waiting ++ octets
+  pub waiting : new.waiting ≡ old.waiting ++ octets
   pub told : left from ≡ prepend_known octets (left to)
-  pub no_fall : faults from ≤ faults to
+  pub in_step : AgreesOnEnd new.is_ended (left to)
+  pub stays : IsTrue old.is_ended → IsTrue new.is_ended
+  pub ends_so : IsReadToEnd old.is_ended (ends from) → IsReadToEnd new.is_ended (ends to)
+  pub still : faults to ≡ faults from
 
-pub HasRead-start : {S : Type 0} (left : S → Option (List ℕ)) (faults : S → ℕ) (reader : LineReader) (source : S) → HasRead left faults reader reader source source
-HasRead-start left faults reader source = record {
-  before = refl;
-  number = refl;
+pub HasRead-start : {S : Type 0} (left : S → Option (List ℕ)) (ends : S → Option ℕ) (faults : S → ℕ) (buffer : Held) (source : S)
+    → AgreesOnEnd buffer.is_ended (left source) → HasRead left ends faults buffer buffer source source
+HasRead-start left ends faults buffer source in_step = record {
   octets = [];
-  waiting = sym (append-nil reader.buffer.waiting);
+  waiting = sym (append-nil buffer.waiting);
   told = sym (prepend_known-nil (left source));
-  no_fall = omega arith;
+  in_step = in_step;
+  stays = λ h. h;
+  ends_so = λ h. h;
+  still = refl;
 }
 
 -- more octets, read behind those

@@ -1,7 +1,9 @@
 pub mod Addresses
 pub mod Cutting
 pub mod Digits
+pub mod Giving
 pub mod HasRead
 pub mod Logs
+pub mod NextLine
 pub mod Numbers
 pub mod Ranges

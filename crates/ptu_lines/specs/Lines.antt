@@ -1,20 +1,22 @@
--- A reader of lines, as its callers see it.
-use Rattle.std.specs.Prelude.{◌≡◌, ℕ, ◌+◌, List, [], length, Option}
+-- The lines of a source, as their callers see them.
+use Rattle.std.specs.Prelude.{◌≡◌}
+use Rattle.std.specs.Borrow.{MutBor}
 use Rattle.ptu_lines.specs.declared.line_reader.LineReader.{LineReader}
 use Rattle.ptu_lines.specs.declared.lines.Lines.{Lines}
-use Rattle.ptu_lines.specs.Script.{ScriptLine}
-use Rattle.ptu_lines.specs.Reading.{lines_to_come}
+use Rattle.ptu_lines.specs.Reading.{Reader}
 
--- it has read nothing
-pub record IsFresh (reader : LineReader) : Type 0 where
-  pub waiting : reader.buffer.waiting ≡ []
-  pub before : reader.before ≡ 0
-  pub number : reader.number ≡ 0
+-- the reader
+abbrev pub reader_of : {S : Type 0} → Lines S LineReader → Reader
+reader_of lines = lines.reader
 
--- how many octets it has taken from its source
-abbrev pub octets_taken : LineReader → ℕ
-octets_taken reader = reader.before + length reader.buffer.waiting
+-- the source, as it is now
+abbrev pub source_of : {S : Type 0} → Lines S LineReader → S
+source_of lines = lines.source.now
 
--- the lines that are still to be given, where the source tells what is left
-abbrev pub lines_left : {S : Type 0} → (S → Option (List ℕ)) → Lines S LineReader → Option (List ScriptLine)
-lines_left left lines = lines_to_come lines.reader.before lines.reader.buffer.waiting (left lines.source.now)
+-- they are the lines of this source
+abbrev pub AreLinesOf : {S : Type 0} → MutBor S → Lines S LineReader → Type 0
+AreLinesOf source lines = lines.source.ghost_name ≡ source.ghost_name
+
+-- they are the lines of one source
+abbrev pub HaveOneSource : {S : Type 0} → Lines S LineReader → Lines S LineReader → Type 0
+HaveOneSource lines others = lines.source.ghost_name ≡ others.source.ghost_name

@@ -1,5 +1,5 @@
 -- A script cut into its lines. The limits and causes are the project's own choice.
-use Rattle.std.specs.Prelude.{◌≡◌, ℕ, ◌+◌, min, nat_le, nat_lt, Bool, false, not, ◌&&◌, ◌==◌, if◌then◌else◌, List, [], ◌∷◌, length, take_while, Option, Some, None}
+use Rattle.std.specs.Prelude.{◌≡◌, ◌⊎◌, ℕ, ◌+◌, min, nat_le, nat_lt, Bool, false, not, ◌&&◌, ◌==◌, if◌then◌else◌, List, [], ◌∷◌, ◌++◌, length, take_while, Option, Some, None}
 use Rattle.std.specs.List.{list_all, onto_first}
 use Rattle.ptu_lines.specs.declared.cause.LineCause.{LineCause}
 use Rattle.ptu_lines.specs.declared.cause.LineCause.TheVariants.{Size, Long, Text}
@@ -12,6 +12,16 @@ is_end octet = octet == 10
 abbrev pub HasNoEnd : List ℕ → Type 0
 HasNoEnd [] = Unit {0}
 HasNoEnd (octet ∷ rest) = (is_end octet ≡ false) × HasNoEnd rest
+
+-- each of these is a line, with or without the 0A at its end
+abbrev pub AreLines : List (List ℕ) → Type 0
+AreLines [] = Unit {0}
+AreLines (line ∷ lines) = ((text : List ℕ) × HasNoEnd text × ((line ≡ text ++ 10 ∷ []) ⊎ (line ≡ text))) × AreLines lines
+
+-- each of these is a line with the 0A at its end
+abbrev pub AreEnded : List (List ℕ) → Type 0
+AreEnded [] = Unit {0}
+AreEnded (line ∷ lines) = ((text : List ℕ) × HasNoEnd text × (line ≡ text ++ 10 ∷ [])) × AreEnded lines
 
 -- the octets of each line, cut after each 0A; the last line may lack it
 abbrev pub pieces : List ℕ → List (List ℕ)

@@ -1,8 +1,9 @@
 //! What the definitions of lines and words mean, for every script and every word.
-ghost use Rattle.std.specs.Prelude.{◌≡◌, ◌↔◌, ◌<◌, ◌≤◌, ◌^◌, ℕ, ℤ, negsuc, Some, None, List, [], ◌∷◌, ◌++◌, length, count_by, ◌+◌, ◌==◌, unsigned_abs, decimal, codes};
+ghost use Rattle.std.specs.Prelude.{◌≡◌, ◌↔◌, ◌<◌, ◌≤◌, ◌^◌, ℕ, ℤ, negsuc, Option, Some, None, List, [], ◌∷◌, ◌++◌, length, count_by, ◌+◌, ◌==◌, unsigned_abs, decimal, codes, option_map};
 ghost use Rattle.std.specs.Fmt.{signed_decimal};
 ghost use Rattle.std.specs.List.{join_with_byte, flat_map};
 ghost use Rattle.ptu_lines.specs.Script.{HasNoEnd, pieces, script_lines, Whole, Refused};
+ghost use Rattle.ptu_lines.specs.Reading.{Reader, IsFresh, lines_left};
 ghost use Rattle.ptu_lines.specs.Words.{words_of, number_of, log_of, ip_of, clock_of, octets_of};
 
 use crate::cause::LineCause;
@@ -12,6 +13,12 @@ pub fn pieces_of_a_script()
     ensures whole { (script : List ℕ) → flat_map (λ piece. piece) (pieces script) ≡ script }
     ensures ended { (text rest : List ℕ) → HasNoEnd text → pieces (text ++ 10 ∷ rest) ≡ (text ++ 10 ∷ []) ∷ pieces rest }
     ensures last { (octet : ℕ) (text : List ℕ) → HasNoEnd (octet ∷ text) → pieces (octet ∷ text) ≡ (octet ∷ text) ∷ [] }
+{}
+
+/// What a reader that has read nothing gives is the lines of all that its source has left.
+pub fn lines_of_a_fresh_reader()
+    ensures { (reader : Reader) (left : Option (List ℕ)) → IsFresh reader
+        → lines_left reader left ≡ option_map script_lines left }
 {}
 
 /// Small scripts, line by line.

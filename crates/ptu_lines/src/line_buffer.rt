@@ -1,7 +1,9 @@
-ghost use Rattle.std.specs.Prelude.{◌≡◌, ◌<◌, ◌≤◌, ◌+◌, ◌-◌, ◌++◌, ℕ, [], List, length, take, drop, IfOk, OnErr, IfSome, IfNone, position, slice_range};
+ghost use Rattle.std.specs.Prelude.{◌≡◌, ◌<◌, ◌≤◌, ◌+◌, ◌-◌, ◌++◌, ◌==◌, ℕ, [], List, false, true, length, take, drop, IfOk, OnOk, OnErr, IfSome, IfNone, IsTrue, position, slice_range};
 ghost use Rattle.std.specs.Io.KnownBytes.{IsAtEnd, prepend_known};
+ghost use Rattle.ptu_outside.specs.Ends.{CountsEnd};
 ghost use Rattle.ptu_outside.specs.Faults.{HasRisen};
 ghost use Rattle.ptu_lines.specs.Script.{is_end};
+ghost use Rattle.ptu_lines.specs.Reading.{AgreesOnEnd, IsReadToEnd};
 
 use ptu_outside::{Failed, Source};
 use ptu_units::OutOfMemory;
@@ -14,8 +16,8 @@ pub const LONGEST_LINE: usize = 8192;
 /// The size of the buffer.
 const SIZE: usize = 65536;
 
-/// The one buffer of a reader of lines: the line that was given last, and the octets that were read ahead. A clause sees
-/// it as these two.
+/// The one buffer of a reader of lines: the line that was given last, the octets that were read
+/// ahead, and whether the source's end was found. A clause sees it as these three.
 #[derive(Drop)]
 pub struct LineBuffer {
     octets: Vec<u8>,
@@ -23,6 +25,7 @@ pub struct LineBuffer {
     text_end: usize,
     start: usize,
     end: usize,
+    is_ended: bool,
 }
 
 impl Model for LineBuffer {
@@ -31,9 +34,14 @@ impl Model for LineBuffer {
 
     ghost Value = { Held };
 
-    ghost view = { λ b. record { text = slice_range b.octets.items b.text b.text_end; waiting = slice_range b.octets.items b.start b.end } };
+    ghost view = { λ b. record {
+      text = slice_range b.octets.items b.text b.text_end;
+      waiting = slice_range b.octets.items b.start b.end;
+      is_ended = b.is_ended;
+    } };
 
-    ghost invariant = { λ b. (b.text ≤ b.text_end) × (b.text_end ≤ length b.octets.items) × (b.start ≤ b.end) × (b.end ≤ length b.octets.items) × (length b.octets.items ≡ 65536) };
+    ghost invariant = { λ b. (b.text ≤ b.text_end) × (b.text_end ≤ length b.octets.items)
+        × (b.start ≤ b.end) × (b.end ≤ length b.octets.items) × (length b.octets.items ≡ 65536) };
 }
 
 // Moves the octets from `start` to `end` to the front.
@@ -58,10 +66,14 @@ fn read_behind<S: Source>(
     ensures within { IfOk result (λ n. n ≤ limit) }
     ensures fits { IfOk result (λ n. at + n ≤ length octets.new) }
     ensures front { take at octets.new ≡ take at octets.old }
-    ensures read { IfOk result (λ n. S.left source.old ≡ prepend_known (slice_range octets.new at (at + n)) (S.left source.new)) }
+    ensures read { IfOk result (λ n. S.left source.old
+        ≡ prepend_known (slice_range octets.new at (at + n)) (S.left source.new)) }
     ensures end { IfOk result (λ n. n ≡ 0 → IsAtEnd (S.left source.new)) }
+    ensures ends { IfOk result (λ n. CountsEnd (n == 0) (S.ends source.old) (S.ends source.new)) }
     ensures left { OnErr result (S.left source.new ≡ S.left source.old) }
+    ensures no_end { OnErr result (CountsEnd false (S.ends source.old) (S.ends source.new)) }
     ensures risen { OnErr result (HasRisen (S.faults source.old) (S.faults source.new)) }
+    ensures still { OnOk result (S.faults source.new ≡ S.faults source.old) }
     ensures no_fall { S.faults source.old ≤ S.faults source.new }
 {
     let room = limit.min(octets.len() - at);
@@ -71,7 +83,8 @@ fn read_behind<S: Source>(
 impl LineBuffer {
     /// An empty buffer, which a reader of lines takes.
     pub fn new(alloc: Global) -> Result<LineBuffer, OutOfMemory>
-        ensures { IfOk result (λ buffer. buffer ≡ record { text = []; waiting = [] }) }
+        ensures { IfOk result (λ buffer.
+            buffer ≡ record { text = []; waiting = []; is_ended = false }) }
     {
         Ok(LineBuffer {
             octets: vec![in alloc; 0; SIZE]?,
@@ -79,6 +92,7 @@ impl LineBuffer {
             text_end: 0,
             start: 0,
             end: 0,
+            is_ended: false,
         })
     }
 
@@ -100,27 +114,42 @@ impl LineBuffer {
     pub(crate) fn take_line(&mut self, text: usize, size: usize)
         requires within { text ≤ size }
         requires waits { size ≤ length self.old.waiting }
-        ensures { self.new ≡ record { text = take text self.old.waiting; waiting = drop size self.old.waiting } }
+        ensures { self.new ≡ record {
+          text = take text self.old.waiting;
+          waiting = drop size self.old.waiting;
+          is_ended = self.old.is_ended;
+        } }
     {
         self.text = self.start;
         self.text_end = self.start + text;
         self.start += size;
     }
 
-    /// Reads once, at most `limit` octets, behind those that wait. The last line's text is gone afterwards.
+    /// Reads once, at most `limit` octets, behind those that wait, and gives how many; behind the
+    /// end it reads no more. The last line's text is gone after a read.
     pub(crate) fn fill<S: Source>(&mut self, source: &mut S, limit: usize) -> Result<usize, Failed>
         requires few { length self.old.waiting ≤ LONGEST_LINE }
         requires some { 0 < limit }
+        requires in_step { AgreesOnEnd self.old.is_ended (S.left source.old) }
+        ensures in_step { AgreesOnEnd self.new.is_ended (S.left source.new) }
         ensures within { IfOk result (λ n. n ≤ limit) }
         ensures read { IfOk result (λ n. (octets : List ℕ) × (length octets ≡ n)
             × (self.new.waiting ≡ self.old.waiting ++ octets)
             × (S.left source.old ≡ prepend_known octets (S.left source.new))) }
-        ensures end { IfOk result (λ n. n ≡ 0 → IsAtEnd (S.left source.new)) }
+        ensures end { IfOk result (λ n. n ≡ 0 → IsTrue self.new.is_ended) }
+        ensures stays { IsTrue self.old.is_ended → IsTrue self.new.is_ended }
+        ensures ends { IsReadToEnd self.old.is_ended (S.ends source.old)
+            → IsReadToEnd self.new.is_ended (S.ends source.new) }
         ensures kept { OnErr result (self.new.waiting ≡ self.old.waiting) }
+        ensures no_end { OnErr result (self.new.is_ended ≡ false) }
         ensures left { OnErr result (S.left source.new ≡ S.left source.old) }
         ensures risen { OnErr result (HasRisen (S.faults source.old) (S.faults source.new)) }
+        ensures still { OnOk result (S.faults source.new ≡ S.faults source.old) }
         ensures no_fall { S.faults source.old ≤ S.faults source.new }
     {
+        if self.is_ended {
+            return Ok(0);
+        }
         if self.start >= LONGEST_LINE {
             move_to_front(&mut self.octets, self.start, self.end);
             self.end -= self.start;
@@ -128,6 +157,7 @@ impl LineBuffer {
         }
         let taken = read_behind(source, &mut self.octets, self.end, limit)?;
         self.end += taken;
+        self.is_ended = taken == 0;
         Ok(taken)
     }
 }

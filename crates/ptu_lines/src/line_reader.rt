@@ -1,9 +1,9 @@
-ghost use Rattle.std.specs.Prelude.{◌≡◌, ◌<◌, ◌≤◌, ◌+◌, ◌++◌, ℕ, List, [], ◌∷◌, Some, None, length, take, IfOk, IfErr, IfSome, IfNone, OnSome, OnOk, OnErr, IsErrOf, position, option_map};
+ghost use Rattle.std.specs.Prelude.{◌≡◌, ◌<◌, ◌≤◌, ◌+◌, ◌++◌, ℕ, List, Some, None, false, length, take, IfOk, IfNone, OnSome, OnOk, OnErr, IsTrue, position};
 ghost use Rattle.std.specs.List.{list_all, AllPass};
 ghost use Rattle.std.specs.Io.KnownBytes.{IsAtEnd, prepend_known};
 ghost use Rattle.ptu_outside.specs.Faults.{HasRisen};
-ghost use Rattle.ptu_lines.specs.Script.{Whole, is_end, is_plain, cause_of, text_of};
-ghost use Rattle.ptu_lines.specs.Reading.{known_of, lines_to_come, IsEnough, IsRefusalOf, TakesLine};
+ghost use Rattle.ptu_lines.specs.Script.{is_end, is_plain, cause_of, text_of};
+ghost use Rattle.ptu_lines.specs.Reading.{known_of, octets_taken, AgreesOnEnd, CountsRead, HasNext, IsEnough, IsFresh, IsReadToEnd};
 
 use crate::cause::LineCause;
 use crate::fault::LinesFault;
@@ -11,20 +11,37 @@ use crate::line_buffer::{LONGEST_LINE, LineBuffer};
 use ptu_outside::{Failed, Source};
 use ptu_units::OutOfMemory;
 use std::alloc::Global;
+use std::marker::Model;
 
 /// The most octets of a script.
 pub const LONGEST_SCRIPT: usize = 67_108_864;
 
-/// What a reader of lines holds beside its source: the one buffer, how many octets stood before those that wait in it,
-/// and the number of the line that was given last.
+/// A reader of lines, beside its source: the one buffer, how many octets stood before those that
+/// wait in it, and the number of the line that was given last. It has to be handed the same source
+/// at each call.
 #[derive(Drop)]
 pub struct LineReader {
     buffer: LineBuffer,
     before: usize,
     number: u64,
-    ghost numbered: { number ≤ before },
-    ghost within: { before ≤ 67108864 },
-    ghost read: { before + length buffer.waiting ≤ 67108865 },
+}
+
+impl Model for LineReader {
+    ghost use Rattle.std.specs.Prelude.{◌≤◌, ◌+◌, length};
+    ghost use Rattle.ptu_lines.specs.Reading.{Reader};
+
+    ghost Value = { Reader };
+
+    ghost view = { λ r. record {
+      number = r.number;
+      text = r.buffer.text;
+      before = r.before;
+      waiting = r.buffer.waiting;
+      is_ended = r.buffer.is_ended;
+    } };
+
+    ghost invariant = { λ r. (r.number ≤ r.before) × (r.before ≤ 67108864)
+        × (r.before + length r.buffer.waiting ≤ 67108865) };
 }
 
 // The place of the first 0A.
@@ -93,9 +110,50 @@ fn end_past(waiting: &[u8], searched: usize) -> Option<usize>
     Some(searched + place)
 }
 
-impl LineReader {
-    ghost use Rattle.ptu_lines.specs.Lines.{IsFresh, octets_taken};
+// Reads on until the next line's 0A is there, and gives its place, or until enough of the line is
+// there without it.
+fn find_end<S: Source>(
+    buffer: &mut LineBuffer,
+    before: usize,
+    source: &mut S,
+) -> Result<Option<usize>, Failed>
+    requires before { before ≤ LONGEST_SCRIPT }
+    requires within { before + length buffer.old.waiting ≤ 67108865 }
+    requires in_step { AgreesOnEnd buffer.old.is_ended (S.left source.old) }
+    ensures in_step { AgreesOnEnd buffer.new.is_ended (S.left source.new) }
+    ensures within { before + length buffer.new.waiting ≤ 67108865 }
+    ensures read { (octets : List ℕ) × (buffer.new.waiting ≡ buffer.old.waiting ++ octets)
+        × (S.left source.old ≡ prepend_known octets (S.left source.new)) }
+    ensures place { IfOk result (λ place. place ≡ position is_end (take 8193 buffer.new.waiting)) }
+    ensures enough { IfOk result (λ place. IfNone place
+        (IsEnough before buffer.new.waiting buffer.new.is_ended)) }
+    ensures unended { OnErr result (position is_end buffer.new.waiting ≡ None) }
+    ensures no_end { OnErr result (buffer.new.is_ended ≡ false) }
+    ensures stays { IsTrue buffer.old.is_ended → IsTrue buffer.new.is_ended }
+    ensures ends { IsReadToEnd buffer.old.is_ended (S.ends source.old)
+        → IsReadToEnd buffer.new.is_ended (S.ends source.new) }
+    ensures risen { OnErr result (HasRisen (S.faults source.old) (S.faults source.new)) }
+    ensures still { OnOk result (S.faults source.new ≡ S.faults source.old) }
+    ensures no_fall { S.faults source.old ≤ S.faults source.new }
+{
+    let mut searched = 0;
+    loop {
+        if let Some(place) = end_past(buffer.waiting(), searched) {
+            return Ok(Some(place));
+        }
+        searched = buffer.waiting().len();
+        let taken = before + searched;
+        if searched > LONGEST_LINE || taken > LONGEST_SCRIPT {
+            return Ok(None);
+        }
+        let limit = LONGEST_SCRIPT + 1 - taken;
+        if buffer.fill(source, limit)? == 0 {
+            return Ok(None);
+        }
+    }
+}
 
+impl LineReader {
     /// A reader that has read nothing. It makes the one buffer.
     pub fn new(alloc: Global) -> Result<LineReader, OutOfMemory>
         ensures { IfOk result IsFresh }
@@ -107,59 +165,27 @@ impl LineReader {
         })
     }
 
-    // Reads on until the next line's 0A is there, and gives its place, or until enough of the line is there without it.
-    fn find_end<S: Source>(&mut self, source: &mut S) -> Result<Option<usize>, Failed>
-        ensures before { self.new.before ≡ self.old.before }
-        ensures number { self.new.number ≡ self.old.number }
-        ensures read { (octets : List ℕ) × (self.new.buffer.waiting ≡ self.old.buffer.waiting ++ octets)
-            × (S.left source.old ≡ prepend_known octets (S.left source.new)) }
-        ensures place { IfOk result (λ place. place ≡ position is_end (take 8193 self.new.buffer.waiting)) }
-        ensures enough { IfOk result (λ place. IfNone place (IsEnough self.new.before self.new.buffer.waiting (S.left source.new))) }
-        ensures unended { OnErr result (position is_end self.new.buffer.waiting ≡ None) }
-        ensures risen { OnErr result (HasRisen (S.faults source.old) (S.faults source.new)) }
-        ensures no_fall { S.faults source.old ≤ S.faults source.new }
-    {
-        let mut searched = 0;
-        loop {
-            if let Some(place) = end_past(self.buffer.waiting(), searched) {
-                return Ok(Some(place));
-            }
-            searched = self.buffer.waiting().len();
-            let taken = self.before + searched;
-            if searched > LONGEST_LINE || taken > LONGEST_SCRIPT {
-                return Ok(None);
-            }
-            let limit = LONGEST_SCRIPT + 1 - taken;
-            if self.buffer.fill(source, limit)? == 0 {
-                return Ok(None);
-            }
-        }
-    }
-
-    /// The number of the next line, from 1, whose text is then `text`, or `None` at the source's end.
+    /// The number of the next line, from 1, whose text is then `text`, or `None` at the source's
+    /// end. It takes at most 67108865 octets in all calls together, and reads nothing behind the
+    /// end.
     ///
     /// # Errors
     /// `Line` where the line is refused, and `Read` where the source failed.
     pub fn next<S: Source>(&mut self, source: &mut S) -> Result<Option<u64>, LinesFault>
-        ensures line { IfOk result (λ given. OnSome given (lines_to_come self.old.before self.old.buffer.waiting (S.left source.old)
-            ≡ option_map (λ lines. Whole self.new.buffer.text ∷ lines) (lines_to_come self.new.before self.new.buffer.waiting (S.left source.new)))) }
-        ensures number { IfOk result (λ given. IfSome given (λ number. (number ≡ self.old.number + 1) × (self.new.number ≡ number))) }
-        ensures end { IfOk result (λ given. IfNone given (IfSome (lines_to_come self.old.before self.old.buffer.waiting (S.left source.old)) (λ lines. lines ≡ []))) }
-        ensures read_whole { IfOk result (λ given. IfNone given (IsAtEnd (S.left source.new))) }
-        ensures refused { IfErr result (λ fault. IsRefusalOf fault (self.old.number + 1) (lines_to_come self.old.before self.old.buffer.waiting (S.left source.old))) }
-        ensures risen { IsErrOf result LinesFault.Read → HasRisen (S.faults source.old) (S.faults source.new) }
-        ensures no_fall { S.faults source.old ≤ S.faults source.new }
-        // It took octets from the source, at most 67108865 in all since the first call.
-        ensures taken { (octets : List ℕ) × (S.left source.old ≡ prepend_known octets (S.left source.new))
-            × (octets_taken self.old + length octets ≡ octets_taken self.new) }
+        requires in_step { AgreesOnEnd self.old.is_ended (S.left source.old) }
+        ensures in_step { AgreesOnEnd self.new.is_ended (S.left source.new) }
+        ensures next { HasNext result self.old self.new (S.left source.old) (S.left source.new) }
         ensures bounded { octets_taken self.new ≤ 67108865 }
-        // The line was taken from the front of the octets; at a fault of the source no whole line was among them.
-        ensures cut { (octets : List ℕ) × (S.left source.old ≡ prepend_known octets (S.left source.new))
-            × TakesLine result (self.old.buffer.waiting ++ octets) self.new.buffer.text self.new.buffer.waiting }
+        ensures few { self.new.number ≤ 67108864 }
         // What it gives is plain text of at most 8192 octets, also where the source does not tell.
-        ensures plain { IfOk result (λ given. OnSome given ((length self.new.buffer.text ≤ 8192) × AllPass is_plain self.new.buffer.text)) }
+        ensures plain { IfOk result (λ given. OnSome given
+            ((length self.new.text ≤ 8192) × AllPass is_plain self.new.text)) }
+        ensures ends { IsReadToEnd self.old.is_ended (S.ends source.old)
+            → IsReadToEnd self.new.is_ended (S.ends source.new) }
+        ensures faults { CountsRead result (S.faults source.old) (S.faults source.new) }
+        ensures no_fall { S.faults source.old ≤ S.faults source.new }
     {
-        let end = self.find_end(source)?;
+        let end = find_end(&mut self.buffer, self.before, source)?;
         let waiting = self.buffer.waiting();
         let (text, size) = extent(waiting, end);
         if size == 0 {
@@ -177,7 +203,7 @@ impl LineReader {
 
     /// The text of the line that `next` gave last, without its 0A.
     pub fn text(&self) -> &[u8]
-        ensures { result.now ≡ self.now.buffer.text }
+        ensures { result.now ≡ self.now.text }
     {
         self.buffer.text()
     }

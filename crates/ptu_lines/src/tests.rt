@@ -1,4 +1,6 @@
 ghost use Rattle.std.specs.Prelude.{◌<◌, None};
+ghost use Rattle.ptu_lines.specs.Lines.{reader_of, source_of};
+ghost use Rattle.ptu_lines.specs.Reading.{AgreesOnEnd};
 
 use super::*;
 use ptu_outside::{Failed, MemSource, Source};
@@ -16,6 +18,8 @@ struct Pieces {
 impl Source for Pieces {
     ghost left = { λ _. None };
 
+    ghost ends = { λ _. None };
+
     ghost faults = { λ p. p.source.faults };
 
     fn read(&mut self, buf: &mut [u8]) -> Result<usize, Failed> {
@@ -28,7 +32,9 @@ impl Source for Pieces {
 fn record<S: Source>(
     alloc: Global,
     lines: &mut Lines<'_, S>,
-) -> Result<(Vec<u8>, Option<LinesFault>), AllocError> {
+) -> Result<(Vec<u8>, Option<LinesFault>), AllocError>
+    requires { AgreesOnEnd (reader_of lines.old).is_ended (S.left (source_of lines.old)) }
+{
     let mut texts = Vec::new(alloc);
     for _ in 0..u64::MAX {
         match lines.next() {
@@ -44,7 +50,10 @@ fn record<S: Source>(
 }
 
 // The number of the last line, and what ended the reading.
-fn last_number<S: Source>(lines: &mut Lines<'_, S>) -> (u64, Option<LinesFault>) {
+fn last_number<S: Source>(lines: &mut Lines<'_, S>) -> (u64, Option<LinesFault>)
+    requires { AgreesOnEnd (reader_of lines.old).is_ended (S.left (source_of lines.old)) }
+    ensures { AgreesOnEnd (reader_of lines.new).is_ended (S.left (source_of lines.new)) }
+{
     let mut last = 0;
     for _ in 0..u64::MAX {
         match lines.next() {
@@ -91,6 +100,19 @@ fn a_failed_read_comes_after_the_lines_read_whole(rt: HostRuntime) -> Result<(),
         let mut source = Pieces { source, size: 3 };
         let mut lines = Lines::new(alloc, &mut source)?;
         assert_eq!(rt; last_number(&mut lines), (whole, Some(LinesFault::Read)));
+    }
+    Ok(())
+}
+
+#[test]
+fn nothing_is_read_behind_the_end(rt: HostRuntime) -> Result<(), Fail> {
+    let alloc = rt.alloc();
+    // The first read gives all, the second finds the end, and a third one would fail.
+    for text in ["gm 1\nlast", "gm 1\nlast\n"] {
+        let mut source = MemSource::new(text.as_bytes().to_vec(alloc)?, vec![in alloc; 3]?);
+        let mut lines = Lines::new(alloc, &mut source)?;
+        assert_eq!(rt; last_number(&mut lines), (2, None));
+        assert_eq!(rt; lines.next(), Ok(None));
     }
     Ok(())
 }

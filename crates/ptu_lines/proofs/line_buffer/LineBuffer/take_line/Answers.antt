@@ -11,4 +11,5 @@ returns c =
     let len : length c.args.self.now.waiting ≡ b.end - b.start =
     ap length (sym waits) ∙ length-between_places b.octets.items b.start b.end c.self.invariant.2 c.self.invariant.3 in
     omega arith in
-    rw (← waits, take-range b.octets.items b.start b.end c.args.text (omega arith), drop-range b.octets.items b.start b.end c.args.size fits) refl
+    let ended : b.is_ended ≡ c.args.self.now.is_ended = ap (λ held. held.is_ended) c.self.view_is in
+    rw (← waits, ← ended, take-range b.octets.items b.start b.end c.args.text (omega arith), drop-range b.octets.items b.start b.end c.args.size fits) refl
