@@ -1,0 +1,47 @@
+-- What is wrong with octets that spell no message.
+use Rattle.std.specs.Prelude.{◌≡◌, ℕ, ◌<◌, ◌≤◌, List, ◌++◌, length, slice_range, codes}
+use Rattle.std.specs.Fmt.{decimal}
+use Rattle.ptu_header.specs.declared.header.Header.{Header}
+use Rattle.ptu_header.specs.Header.{SpellsHeader}
+use Rattle.ptu_header.specs.HeaderFault as headers
+use Rattle.ptu_tlvs.specs.declared.tlv.Tlv.{Tlv}
+use Rattle.ptu_tlvs.specs.TlvFault as tlvs
+use Rattle.ptu_messages.specs.declared.fault.MessageFault.{MessageFault}
+use Rattle.ptu_messages.specs.declared.fault.MessageFault.TheVariants as faults
+use Rattle.ptu_messages.specs.Message.{least_length}
+use Rattle.ptu_messages.specs.Tlvs.{AreSpelled}
+
+-- a Signaling of n octets, long enough for its targetPortIdentity, begins the octets
+pub record IsSignaling (octets : List ℕ) (n : ℕ) : Type 0 where
+  pub header : Header
+  pub spelled : SpellsHeader octets header n
+  pub message_type : header.message_type ≡ 12
+  pub least : 44 ≤ n
+
+-- the TLVs of a Signaling of n octets are spelled up to octet `at`, and it does not end there
+pub record Reaches (octets : List ℕ) (n at : ℕ) (tlvs : List Tlv) : Type 0 where
+  pub signaling : IsSignaling octets n
+  pub behind : 44 ≤ at
+  pub within : at < n
+  pub spelled : AreSpelled (slice_range octets 44 at) tlvs
+
+-- the first fault that applies, with its numbers; places count from the first octet of the message
+abbrev pub HasMessageFault : List ℕ → MessageFault → Type 0
+HasMessageFault octets (faults.Header fault) = headers.HasHeaderFault octets fault
+HasMessageFault octets (faults.Body said need) =
+    (header : Header) × SpellsHeader octets header said × (need ≡ least_length header.message_type) × (said < need)
+HasMessageFault octets (faults.TooMany at) =
+    (n : ℕ) × (before : List Tlv) × Reaches octets n at before × (length before ≡ 32)
+HasMessageFault octets (faults.Tlv at fault) =
+    (n : ℕ) × (before : List Tlv) × Reaches octets n at before × (length before < 32)
+    × tlvs.HasTlvFault (slice_range octets at n) fault
+HasMessageFault octets faults.OutOfMemory = ⊥
+
+-- what a person is told of it
+abbrev pub text_of : MessageFault → List ℕ
+text_of (faults.Header fault) = headers.text_of fault
+text_of (faults.Body said need) =
+    codes "messageLength is " ++ (decimal said ++ (codes " and below the " ++ (decimal need ++ codes " of its messageType")))
+text_of (faults.TooMany at) = codes "a 33rd TLV begins at octet " ++ decimal at
+text_of (faults.Tlv at fault) = codes "TLV at octet " ++ (decimal at ++ (codes ": " ++ tlvs.text_of fault))
+text_of faults.OutOfMemory = codes "out of memory"

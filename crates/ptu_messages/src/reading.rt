@@ -1,0 +1,129 @@
+ghost use Rattle.std.specs.Prelude.{◌≡◌, ◌↔◌, ◌⊎◌, ◌≤◌, ℕ, List, length, slice_range, IfOk, IfErr};
+ghost use Rattle.ptu_messages.specs.Message.{least_length, SpellsMessage};
+ghost use Rattle.ptu_messages.specs.MessageFault.{HasMessageFault, IsSignaling};
+ghost use Rattle.ptu_messages.specs.Reading.{tlvs_in, body_in, message_in};
+ghost use Rattle.ptu_messages.specs.Outcome.{Gives};
+ghost use Rattle.ptu_messages.specs.declared.message.Message.{Message};
+ghost use Rattle.ptu_messages.specs.declared.fault.MessageFault.{MessageFault};
+
+use crate::announcing::announce;
+use crate::fault::MessageFault;
+use crate::message::{Body, Message};
+use crate::stamps::stamp;
+use crate::tlv_list::TlvList;
+use ptu_header::{PortIdentity, read_header};
+use ptu_tlvs::{Tlv, next_tlv};
+use std::alloc::Global;
+
+/// How many TLVs a Signaling is read with at most.
+const MOST_TLVS: usize = 32;
+
+// The least messageLength of a messageType.
+fn least(message_type: u8) -> usize
+    ensures { result ≡ least_length message_type }
+{
+    match message_type {
+        0 | 1 | 8 | 12 => 44,
+        9 => 54,
+        11 => 64,
+        _ => 34,
+    }
+}
+
+// The TLVs from octet 44 to `end`.
+fn read_tlvs(alloc: Global, bytes: &[u8], end: usize) -> Result<Vec<Tlv>, MessageFault>
+    requires behind { 44 ≤ end }
+    requires within { end ≤ length bytes.now }
+    ensures { Gives (λ tlvs. tlvs.items) result (tlvs_in 32 44 (slice_range bytes.now 44 end)) }
+{
+    let Ok(mut tlvs) = Vec::with_capacity(alloc, MOST_TLVS) else {
+        return Err(MessageFault::OutOfMemory);
+    };
+    let mut at = 44;
+    while at < end {
+        if tlvs.len() == MOST_TLVS {
+            return Err(MessageFault::TooMany { at });
+        }
+        let (tlv, size) = match next_tlv(&bytes[at..end]) {
+            Ok(read) => read,
+            Err(fault) => return Err(MessageFault::Tlv { at, fault }),
+        };
+        if tlvs.push(tlv).is_err() {
+            return Err(MessageFault::OutOfMemory);
+        }
+        at += size;
+    }
+    Ok(tlvs)
+}
+
+// The body behind the header of a message of `said` octets.
+#[tactic(auto, unfolding(crate::specs::Reading::body_in))]
+fn read_body(
+    alloc: Global,
+    bytes: &[u8],
+    said: usize,
+    message_type: u8,
+) -> Result<Body, MessageFault>
+    requires least { least_length message_type ≤ said }
+    requires within { said ≤ length bytes.now }
+    ensures value { Gives (λ body. body) result (body_in bytes.now said message_type) }
+    ensures memory { result ≡ Err MessageFault.OutOfMemory → message_type ≡ 12 }
+{
+    match message_type {
+        0 => Ok(Body::Sync(stamp(bytes, 34))),
+        1 => Ok(Body::DelayReq(stamp(bytes, 34))),
+        8 => Ok(Body::FollowUp(stamp(bytes, 34))),
+        9 => Ok(Body::DelayResp(stamp(bytes, 34), PortIdentity::at(bytes, 44))),
+        11 => Ok(Body::Announce(announce(bytes))),
+        12 => {
+            let tlvs = read_tlvs(alloc, bytes, said)?;
+            Ok(Body::Signaling(PortIdentity::at(bytes, 34), TlvList::new(tlvs)))
+        }
+        _ => Ok(Body::Ignored),
+    }
+}
+
+// The message, or its first fault.
+fn read(alloc: Global, bytes: &[u8]) -> Result<Message, MessageFault>
+    ensures value { Gives (λ message. message) result (message_in bytes.now) }
+    ensures memory { result ≡ Err MessageFault.OutOfMemory → (n : ℕ) × IsSignaling bytes.now n }
+{
+    let (header, length) = match read_header(bytes) {
+        Ok(read) => read,
+        Err(fault) => return Err(MessageFault::Header(fault)),
+    };
+    let said = usize::from(length);
+    let need = least(header.message_type);
+    if said < need {
+        return Err(MessageFault::Body { said, need });
+    }
+    let body = read_body(alloc, bytes, said, header.message_type)?;
+    Ok(Message { header, body })
+}
+
+/// The message that the octets of a datagram spell, whatever stands behind its messageLength. The
+/// fault is the first that applies (IEEE 1588-2019 clause 13).
+///
+/// # Errors
+/// `OutOfMemory` comes for the list of TLVs alone; all else says what is wrong with the octets.
+pub fn read_message(alloc: Global, bytes: &[u8]) -> Result<Message, MessageFault>
+    // What is read is spelled so, and the fault that is answered is there.
+    ensures spelled { IfOk result (λ message. SpellsMessage bytes.now message) }
+    ensures faulty { IfErr result
+        (λ f. (f ≡ MessageFault.OutOfMemory) ⊎ HasMessageFault bytes.now f) }
+
+    // What is spelled so is read, and the fault that is there is answered, unless memory was
+    // wanted.
+    ensures read { (m : Message) → SpellsMessage bytes.now m
+        → (result ≡ Ok m) ⊎ (result ≡ Err MessageFault.OutOfMemory) }
+    ensures refused { (f : MessageFault) → HasMessageFault bytes.now f
+        → (result ≡ Err f) ⊎ (result ≡ Err MessageFault.OutOfMemory) }
+
+    // Memory is wanted for the TLVs of a Signaling alone.
+    ensures memory { result ≡ Err MessageFault.OutOfMemory → (n : ℕ) × IsSignaling bytes.now n }
+
+    // It is what the reading of the octets finds.
+    ensures value { (result ≡ message_in bytes.now) ⊎ (result ≡ Err MessageFault.OutOfMemory) }
+{
+    read(alloc, bytes)
+}
