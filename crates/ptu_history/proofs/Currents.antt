@@ -9,11 +9,11 @@ use Rattle.std.proofs.lemmas.List.Folds.{list_any-append}
 use Rattle.ptu_units.specs.declared.kind.Kind.{Kind}
 use Rattle.ptu_history.specs.declared.client.Client.{Client}
 use Rattle.ptu_history.specs.Client.{same_lease}
-use Rattle.ptu_history.specs.History.{Record, Granted, Short, Ended, Capacity, Shed, Looked, Sent, concerns, decides, is_decision, trail}
+use Rattle.ptu_history.specs.History.{Record, Granted, Short, Ended, Capacity, Shed, Looked, Sent, concerns, decides, is_decision, lease_records}
 use Rattle.ptu_history.specs.Live.{Grant, is_live, is_live_of, last_decision, live, standing, without}
 use Rattle.ptu_history.proofs.Keys.{same_lease-true, same_lease-sym}
 use Rattle.ptu_history.proofs.Lists.{by_push, filter-all, or-false, list_any-filter, list_any-filter_none}
-use Rattle.ptu_history.proofs.Trails.{last_decision-append, last_decision-one}
+use Rattle.ptu_history.proofs.LeaseRecords.{last_decision-append, last_decision-one}
 
 -- a later record decides on the client and kind of the grant
 abbrev pub is_decided : List Record → Grant → Bool
@@ -105,7 +105,7 @@ decides_alike c k g r e =
     ap (λ d. decides d g.kind r) (sym is.0) ∙ ap (λ j. decides c j r) (sym is.1)
 
 live_nothing : (x : ℕ) (c : Client) (k : Kind) → is_live x (last_decision [] c k) ≡ list_any (is_live_of x c k) (standing [])
-unfolding last_decision trail standing
+unfolding last_decision lease_records standing
 live_nothing x c k = refl
 
 -- a grant of the client and kind is live where one stands that is

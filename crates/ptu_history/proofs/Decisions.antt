@@ -5,15 +5,15 @@ use Rattle.std.specs.Option.{option_or}
 use Rattle.std.proofs.lemmas.Bool.{or_parts}
 use Rattle.ptu_units.specs.declared.kind.Kind.{Kind}
 use Rattle.ptu_history.specs.declared.client.Client.{Client}
-use Rattle.ptu_history.specs.History.{Record, Granted, Ended, Shed, decides, concerns, trail}
+use Rattle.ptu_history.specs.History.{Record, Granted, Ended, Shed, decides, concerns, lease_records}
 use Rattle.ptu_history.specs.Live.{is_live, last_decision, live}
 use Rattle.ptu_history.specs.Runs.{root, chain, sequence_number, sent_in_chain}
 use Rattle.ptu_history.specs.Lawful.{earliest, last_period, lawful}
 use Rattle.ptu_history.proofs.Keys.{same_lease-refl}
-use Rattle.ptu_history.proofs.Trails.{last_decision-append, last_decision-one, trail-stranger}
+use Rattle.ptu_history.proofs.LeaseRecords.{last_decision-append, last_decision-one, lease_records-stranger}
 
 nothing_decided : (c : Client) (k : Kind) → last_decision [] c k ≡ None
-unfolding last_decision trail
+unfolding last_decision lease_records
 nothing_decided c k = refl
 
 pub last_decision-none : (history : List Record) (c : Client) (k : Kind) → list_any (decides c k) history ≡ false → last_decision history c k ≡ None
@@ -54,19 +54,19 @@ live-undecided history c k x none = ap (λ d. is_live x d) (last_decision-none h
 -- a record that does not concern the client and kind, wherever it stands
 pub live-stranger : (before : List Record) (r : Record) (after : List Record) (x : ℕ) (c : Client) (k : Kind) → concerns c k r ≡ false → live (before ++ r ∷ after) x c k ≡ live (before ++ after) x c k
 unfolding live last_decision
-live-stranger before r after x c k stranger = rw (trail-stranger before r after c k stranger)
+live-stranger before r after x c k stranger = rw (lease_records-stranger before r after c k stranger)
 
 pub chain-stranger : (before : List Record) (r : Record) (after : List Record) (c : Client) (k : Kind) → concerns c k r ≡ false → chain (before ++ r ∷ after) c k ≡ chain (before ++ after) c k
 unfolding chain
-chain-stranger before r after c k stranger = rw (trail-stranger before r after c k stranger)
+chain-stranger before r after c k stranger = rw (lease_records-stranger before r after c k stranger)
 
 pub earliest-stranger : (before : List Record) (r : Record) (after : List Record) (c : Client) (k : Kind) → concerns c k r ≡ false → earliest (before ++ r ∷ after) c k ≡ earliest (before ++ after) c k
 unfolding earliest last_period chain sent_in_chain
-earliest-stranger before r after c k stranger = rw (trail-stranger before r after c k stranger)
+earliest-stranger before r after c k stranger = rw (lease_records-stranger before r after c k stranger)
 
 pub sequence_number-stranger : (before : List Record) (r : Record) (after : List Record) (c : Client) (k : Kind) → concerns c k r ≡ false → sequence_number (before ++ r ∷ after) c k ≡ sequence_number (before ++ after) c k
 unfolding sequence_number
-sequence_number-stranger before r after c k stranger = rw (trail-stranger before r after c k stranger)
+sequence_number-stranger before r after c k stranger = rw (lease_records-stranger before r after c k stranger)
 
 pub lawful-stranger : (before : List Record) (r : Record) (after : List Record) (x : ℕ) (c : Client) (k : Kind) → concerns c k r ≡ false → lawful (before ++ r ∷ after) x c k ≡ lawful (before ++ after) x c k
 unfolding lawful
@@ -74,4 +74,4 @@ lawful-stranger before r after x c k stranger = rw (live-stranger before r after
 
 pub root-stranger : (before : List Record) (r : Record) (after : List Record) (c : Client) (k : Kind) → concerns c k r ≡ false → root (before ++ r ∷ after) c k ≡ root (before ++ after) c k
 unfolding root
-root-stranger before r after c k stranger = rw (trail-stranger before r after c k stranger)
+root-stranger before r after c k stranger = rw (lease_records-stranger before r after c k stranger)

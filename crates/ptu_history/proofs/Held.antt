@@ -10,10 +10,11 @@ use Rattle.std.proofs.lemmas.List.Sums.{sum_by-cons}
 use Rattle.ptu_units.specs.declared.kind.Kind.{Kind}
 use Rattle.ptu_units.specs.Log.{rate_of}
 use Rattle.ptu_history.specs.declared.client.Client.{Client}
-use Rattle.ptu_history.specs.History.{Record, Granted, Short, Ended, Capacity, Shed, Looked, Sent, decides, moment_of, capacity_in_force, is_change}
+use Rattle.ptu_history.specs.History.{Record, Granted, Short, Ended, Capacity, Shed, Looked, Sent, concerns, decides, is_decision, moment_of, capacity_in_force, is_change}
 use Rattle.ptu_history.specs.Moments.{book_moment, book_part, greatest_by}
 use Rattle.ptu_history.specs.Live.{Grant, live_grants, standing}
 use Rattle.ptu_history.specs.Verdict.{rate_sum}
+use Rattle.ptu_history.proofs.Capacities.{capacity_in_force-unchanged}
 use Rattle.ptu_history.specs.Held.{Term, end_of, force, held, is_by, is_in_term, terms}
 
 -- the rate of a term where the moment is in it
@@ -205,3 +206,44 @@ force-before opening history r x before =
     ap (λ rs. capacity_in_force opening rs) (filter-append (is_by x) history (r ∷ [])
     ∙ ap (λ b. filter (is_by x) history ++ cond b (r ∷ []) []) (lt-leb (moment_of r) x before)
     ∙ append-nil (filter (is_by x) history))
+
+-- a record that is no decision leaves all terms, and one that changes no capacity what is in force
+terms-one : (r : Record) → is_decision r ≡ false → terms (r ∷ []) ≡ []
+unfolding terms
+terms-one (Granted n c k l u) quiet = absurd (true≢false quiet)
+terms-one (Short n c) quiet = refl
+terms-one (Ended n c k) quiet = refl
+terms-one (Capacity n capacity) quiet = refl
+terms-one (Shed n c k) quiet = refl
+terms-one (Looked n j) quiet = refl
+terms-one (Sent n c k) quiet = refl
+
+find-quiet : (c : Client) (k : Kind) (history : List Record) (r : Record) → is_decision r ≡ false → find (decides c k) (history ++ r ∷ []) ≡ find (decides c k) history
+find-quiet c k history r quiet =
+    find-append (decides c k) history (r ∷ [])
+    ∙ ap (λ b. option_or (find (decides c k) history) (cond (cond b (concerns c k r) false) (Some r) None)) quiet
+    ∙ at (find (decides c k) history)
+  where
+    at : (o : Option Record) → option_or o None ≡ o
+    at None = refl
+    at (Some s) = refl
+
+terms-quiet : (history : List Record) (r : Record) → is_decision r ≡ false → terms (history ++ r ∷ []) ≡ terms history
+unfolding terms
+terms-quiet [] r quiet = terms-one r quiet
+terms-quiet (Granted n c k l u ∷ history) r quiet =
+    ap (λ d. record { client = c; kind = k; log = l; start = n; end = end_of u d } ∷ terms (history ++ r ∷ [])) (find-quiet c k history r quiet)
+    ∙ ap (λ ts. record { client = c; kind = k; log = l; start = n; end = end_of u (find (decides c k) history) } ∷ ts) (terms-quiet history r quiet)
+terms-quiet (s ∷ history) r quiet = terms-quiet history r quiet
+
+pub held-quiet : (history : List Record) (r : Record) (x : ℕ) → is_decision r ≡ false → held (history ++ r ∷ []) x ≡ held history x
+unfolding held
+held-quiet history r x quiet = ap (λ ts. sum_by (λ t. rate_of t.log) (filter (is_in_term x) ts)) (terms-quiet history r quiet)
+
+pub force-quiet : (opening : ℕ) (history : List Record) (r : Record) (x : ℕ) → is_change r ≡ false → force opening (history ++ r ∷ []) x ≡ force opening history x
+unfolding force
+force-quiet opening history r x same = ap (λ rs. capacity_in_force opening rs) (filter-append (is_by x) history (r ∷ [])) ∙ at (is_by x r)
+  where
+    at : (b : Bool) → capacity_in_force opening (filter (is_by x) history ++ cond b (r ∷ []) []) ≡ capacity_in_force opening (filter (is_by x) history)
+    at true = capacity_in_force-unchanged opening (filter (is_by x) history) r same
+    at false = ap (λ rs. capacity_in_force opening rs) (append-nil (filter (is_by x) history))

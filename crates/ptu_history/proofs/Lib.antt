@@ -1,6 +1,7 @@
 pub mod Keys
 pub mod Lists
-pub mod Trails
+pub mod Members
+pub mod LeaseRecords
 pub mod Currents
 pub mod Moments
 pub mod Pacing
@@ -14,5 +15,11 @@ pub mod Unique
 pub mod Orders
 pub mod Held
 pub mod Strangers
+pub mod LiveGrants
+pub mod Alike
+pub mod AfterSteps
+pub mod Rates
+pub mod Counts
+pub mod PaymentLists
 pub mod Histories
 pub mod Runs

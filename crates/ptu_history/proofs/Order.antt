@@ -15,7 +15,8 @@ use Rattle.ptu_history.specs.Live.{Grant}
 use Rattle.ptu_history.specs.Lawful.{earliest}
 use Rattle.ptu_history.specs.Order.{in_order, insert_in_order}
 use Rattle.ptu_history.specs.Verdict.{rate_sum}
-use Rattle.ptu_history.specs.Step.{shed_prefix, shed_cmp, turn_cmp}
+use Rattle.ptu_history.specs.Turns.{turn_cmp}
+use Rattle.ptu_history.specs.Shedding.{shed_prefix, shed_cmp}
 
 -- the rest fits
 pub shed_prefix-rest : (capacity : ℕ) (grants : List Grant) → (rest : List Grant) × (shed_prefix capacity grants ++ rest ≡ grants) × (rate_sum rest ≤ capacity)

@@ -1,23 +1,25 @@
 -- The orders of a turn and of a shedding, by their members.
-use Rattle.std.proofs.Common.{◌≡◌, ◌∙◌, ◌↔◌, ℕ, ◌<◌, List, Bool, true, false, ◌&&◌, cond, eqb, ltb, leb, refl, sym, ap}
-use Rattle.std.specs.List.{Contains, filter}
+use Rattle.std.proofs.Common.{◌≡◌, ◌≢◌, ◌∙◌, ◌↔◌, ℕ, ◌<◌, List, Bool, true, false, ◌&&◌, cond, eqb, ltb, leb, refl, sym, ap, get_or}
+use Rattle.std.specs.List.{All, Contains, filter}
 use Rattle.std.specs.List.Sorted.{IsSorted}
 use Rattle.std.specs.Cmp.{IsTotalOrder}
 use Rattle.std.specs.Ordering.{nat_cmp, ordering_then}
 use Rattle.std.specs.declared.cmp.Ordering.{Ordering}
 use Rattle.std.specs.declared.cmp.Ordering.TheVariants.{Less, Equal, Greater}
-use Rattle.std.proofs.lemmas.Bool.{and_from, and_parts, lt-ltb, ltb-true, true≢false}
-use Rattle.std.proofs.lemmas.List.Elements.{All-contains}
+use Rattle.std.proofs.lemmas.Bool.{and_from, and_parts, eq-eqb, eqb-true, false≢true, lt-ltb, ltb-true, true≢false}
+use Rattle.std.proofs.lemmas.List.Elements.{All-contains, Contains-get_or}
 use Rattle.std.proofs.lemmas.List.Kept.{AllPairs-filter}
 use Rattle.std.proofs.lemmas.List.Sorted.{Contains-permutation, IsPermutation-sym}
 use Rattle.ptu_units.specs.declared.kind.Kind.{Kind}
+use Rattle.ptu_units.specs.declared.kind.Kind.TheVariants.{Announce, Sync, DelayResp}
 use Rattle.ptu_history.specs.declared.client.Client.{Client}
 use Rattle.ptu_history.specs.Client.{client_cmp, kind_cmp, kind_place, same_client, same_kind, same_lease, table_of}
 use Rattle.ptu_history.specs.Order.{in_order}
 use Rattle.ptu_history.specs.History.{Record}
 use Rattle.ptu_history.specs.Live.{Grant, IsDistinctByLease, IsLastDecision, is_live, live, live_grants, standing}
 use Rattle.ptu_history.specs.Lawful.{earliest, lawful}
-use Rattle.ptu_history.specs.Step.{due_grants, is_due, is_turned, shed_cmp, shed_order, turn_cmp}
+use Rattle.ptu_history.specs.Turns.{due_grants, is_due, is_turned, turn_cmp}
+use Rattle.ptu_history.specs.Shedding.{shed_cmp, shed_order}
 use Rattle.ptu_history.proofs.Keys.{same_lease-sym}
 use Rattle.ptu_history.proofs.Order.{IsAsymmetric-total, IsPermutation-in_order, IsSorted-in_order, shed_cmp-total, turn_cmp-total}
 use Rattle.ptu_history.proofs.Standing.{Contains-filter, standing-distinct, standing-last, standing-member}
@@ -36,7 +38,7 @@ standing_last history g h = All-contains (IsLastDecision history) (standing hist
 last_standing : (history : List Record) (g : Grant) → IsLastDecision history g → Contains (standing history) g
 last_standing history g e = standing-member g.start g.client g.kind g.log g.until history e
 
-live_members : (history : List Record) (x : ℕ) (g : Grant) → Contains (live_grants history x) g ↔ (IsLastDecision history g × (x < g.until))
+pub live_members : (history : List Record) (x : ℕ) (g : Grant) → Contains (live_grants history x) g ↔ (IsLastDecision history g × (x < g.until))
 unfolding live_grants
 live_members history x g = (
   λ h. let both : Contains (standing history) g × (ltb x g.until ≡ true) = Contains-from_filter (λ g. ltb x g.until) (standing history) g h in
@@ -44,7 +46,7 @@ live_members history x g = (
   λ h. Contains-filter (λ (g : Grant). ltb x g.until) (standing history) g (last_standing history g h.0) (lt-ltb x g.until h.1),
 )
 
-live_distinct : (history : List Record) (x : ℕ) → IsDistinctByLease (live_grants history x)
+pub live_distinct : (history : List Record) (x : ℕ) → IsDistinctByLease (live_grants history x)
 unfolding live_grants
 live_distinct history x = AllPairs-filter Differ (λ g. ltb x g.until) (standing history) (standing-distinct history)
 
@@ -152,3 +154,24 @@ unfolding due_grants
 due_grants-only history x j grants same sorted distinct =
     only_in_order (turn_cmp history) (turn_cmp-total history) (turn_differ history) (filter (is_due history x j) (live_grants history x)) grants (due_distinct history x j)
     (λ g. (λ h. (due_members history x j g).1 ((same g).0 h), λ h. (same g).1 ((due_members history x j g).0 h))) sorted distinct
+
+-- a turn sends messages of clients of its table alone
+pub due_grants-table : (history : List Record) (x j : ℕ) → All (λ g. table_of g.client ≡ j) (due_grants history x j)
+due_grants-table history x j = λ i d lt.
+    let g : Grant = get_or (due_grants history x j) i d in
+    let due : is_due history x j g ≡ true = ((due_grants-members history x j g).0 (Contains-get_or (due_grants history x j) i d lt)).1 in
+    eqb-true (table_of g.client) j (and_parts (is_turned g.kind) (eqb (table_of g.client) j) (and_parts (is_turned g.kind && eqb (table_of g.client) j) (lawful history x g.client g.kind) due).0).1
+
+turned_kind : (k : Kind) → (is_turned k ≡ true) ↔ (k ≢ DelayResp)
+turned_kind Announce = (λ e h. absurd (cc), λ _. refl)
+turned_kind Sync = (λ e h. absurd (cc), λ _. refl)
+turned_kind DelayResp = (λ e _. false≢true e, λ differ. absurd (differ refl))
+
+pub is_due-parts : (history : List Record) (x j : ℕ) (g : Grant) → (is_due history x j g ≡ true) ↔ ((g.kind ≢ DelayResp) × (table_of g.client ≡ j) × (lawful history x g.client g.kind ≡ true))
+is_due-parts history x j g = (
+  λ e. let both : (is_turned g.kind && eqb (table_of g.client) j ≡ true) × (lawful history x g.client g.kind ≡ true) = and_parts (is_turned g.kind && eqb (table_of g.client) j) (lawful history x g.client g.kind) e in
+      let own : (is_turned g.kind ≡ true) × (eqb (table_of g.client) j ≡ true) = and_parts (is_turned g.kind) (eqb (table_of g.client) j) both.0 in
+      ((turned_kind g.kind).0 own.0, eqb-true (table_of g.client) j own.1, both.1),
+  λ h. and_from (is_turned g.kind && eqb (table_of g.client) j) (lawful history x g.client g.kind)
+      (and_from (is_turned g.kind) (eqb (table_of g.client) j) ((turned_kind g.kind).1 h.0) (eq-eqb (table_of g.client) j h.1)) h.2,
+)

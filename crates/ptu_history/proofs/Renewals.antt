@@ -9,12 +9,12 @@ use Rattle.ptu_units.specs.declared.kind.Kind.{Kind}
 use Rattle.ptu_units.specs.declared.kind.Kind.TheVariants.{Announce, Sync, DelayResp}
 use Rattle.ptu_units.specs.Log.{period_of}
 use Rattle.ptu_history.specs.declared.client.Client.{Client}
-use Rattle.ptu_history.specs.History.{Record, Granted, Short, Ended, Capacity, Shed, Looked, Sent, is_decision, moment_of, trail}
+use Rattle.ptu_history.specs.History.{Record, Granted, Short, Ended, Capacity, Shed, Looked, Sent, is_decision, moment_of, lease_records}
 use Rattle.ptu_history.specs.Live.{is_live, last_decision, live}
 use Rattle.ptu_history.specs.Runs.{follows, continues, first_of_run, sent_in_run, root, chain, sequence_number, sent_in_chain}
 use Rattle.ptu_history.specs.Lawful.{earliest, earliest_of, last_period, period_of_last}
 use Rattle.ptu_history.proofs.Keys.{same_lease-refl}
-use Rattle.ptu_history.proofs.Trails.{trail-push_own}
+use Rattle.ptu_history.proofs.LeaseRecords.{lease_records-push_own}
 use Rattle.ptu_history.proofs.Pacing.{earliest_credited-cons}
 
 -- the period of a grant that is the last decision
@@ -30,7 +30,7 @@ period_of_decision (Sent n c' k' ∷ rs) m c k l u e = period_of_decision rs m c
 
 pub last_period-granted : (history : List Record) (m : ℕ) (c : Client) (k : Kind) (l : ℤ) (u : ℕ) → last_decision history c k ≡ Some (Granted m c k l u) → last_period history c k ≡ period_of l
 unfolding last_period last_decision
-last_period-granted history m c k l u e = period_of_decision (trail history c k) m c k l u e
+last_period-granted history m c k l u e = period_of_decision (lease_records history c k) m c k l u e
 
 -- a grant that does not follow on does not continue a chain
 not_continues : (n : ℕ) (c : Client) (k : Kind) (l : ℤ) (u : ℕ) (d : Option Record) → is_live n d ≡ false → continues (Granted n c k l u) d ≡ false
@@ -39,39 +39,39 @@ not_continues n c k l u (Some (Granted m c' k' l' u')) e = and_left (ltb n u') (
 not_continues n c k l u (Some r) e = refl
 
 module _ (history : List Record) (n : ℕ) (c : Client) (k : Kind) (l : ℤ) (u : ℕ) where
-  trail_granted : trail (history ++ Granted n c k l u ∷ []) c k ≡ Granted n c k l u ∷ trail history c k
-  trail_granted = trail-push_own history (Granted n c k l u) c k (same_lease-refl c k)
+  lease_records_granted : lease_records (history ++ Granted n c k l u ∷ []) c k ≡ Granted n c k l u ∷ lease_records history c k
+  lease_records_granted = lease_records-push_own history (Granted n c k l u) c k (same_lease-refl c k)
 
   pub chain_is : (b : Bool) → continues (Granted n c k l u) (last_decision history c k) ≡ b → chain (history ++ Granted n c k l u ∷ []) c k ≡ cond b (chain history c k) n
   unfolding chain last_decision
-  chain_is b e = rw trail_granted (rw e (at b))
+  chain_is b e = rw lease_records_granted (rw e (at b))
     where
-      at : (b : Bool) → option_map_or moment_of (cond (not b) (Some (Granted n c k l u)) (first_of_run continues (trail history c k))) 0 ≡ cond b (option_map_or moment_of (first_of_run continues (trail history c k)) 0) n
+      at : (b : Bool) → option_map_or moment_of (cond (not b) (Some (Granted n c k l u)) (first_of_run continues (lease_records history c k))) 0 ≡ cond b (option_map_or moment_of (first_of_run continues (lease_records history c k)) 0) n
       at true = refl
       at false = refl
 
   earliest_is : (b : Bool) → continues (Granted n c k l u) (last_decision history c k) ≡ b → earliest (history ++ Granted n c k l u ∷ []) c k ≡ earliest_of k (period_of l) (cond b (chain history c k) n) (cond b (sent_in_chain history c k) [])
   unfolding earliest last_period chain sent_in_chain last_decision
-  earliest_is b e = rw trail_granted (rw e (at b))
+  earliest_is b e = rw lease_records_granted (rw e (at b))
     where
-      at : (b : Bool) → earliest_of k (period_of l) (option_map_or moment_of (cond (not b) (Some (Granted n c k l u)) (first_of_run continues (trail history c k))) 0) (cond b (sent_in_run continues (trail history c k)) [])
-          ≡ earliest_of k (period_of l) (cond b (option_map_or moment_of (first_of_run continues (trail history c k)) 0) n) (cond b (sent_in_run continues (trail history c k)) [])
+      at : (b : Bool) → earliest_of k (period_of l) (option_map_or moment_of (cond (not b) (Some (Granted n c k l u)) (first_of_run continues (lease_records history c k))) 0) (cond b (sent_in_run continues (lease_records history c k)) [])
+          ≡ earliest_of k (period_of l) (cond b (option_map_or moment_of (first_of_run continues (lease_records history c k)) 0) n) (cond b (sent_in_run continues (lease_records history c k)) [])
       at true = refl
       at false = refl
 
   pub sequence_is : (b : Bool) → live history n c k ≡ b → sequence_number (history ++ Granted n c k l u ∷ []) c k ≡ cond b (sequence_number history c k) 0
   unfolding sequence_number live last_decision
-  sequence_is b e = rw trail_granted (rw e (at b))
+  sequence_is b e = rw lease_records_granted (rw e (at b))
     where
-      at : (b : Bool) → length (cond b (sent_in_run follows (trail history c k)) []) % 65536 ≡ cond b (length (sent_in_run follows (trail history c k)) % 65536) 0
+      at : (b : Bool) → length (cond b (sent_in_run follows (lease_records history c k)) []) % 65536 ≡ cond b (length (sent_in_run follows (lease_records history c k)) % 65536) 0
       at true = refl
       at false = refl
 
   pub root_is : (b : Bool) → live history n c k ≡ b → root (history ++ Granted n c k l u ∷ []) c k ≡ cond b (root history c k) (Some (Granted n c k l u))
   unfolding root live last_decision
-  root_is b e = rw trail_granted (rw e (at b))
+  root_is b e = rw lease_records_granted (rw e (at b))
     where
-      at : (b : Bool) → cond (not b) (Some (Granted n c k l u)) (first_of_run follows (trail history c k)) ≡ cond b (first_of_run follows (trail history c k)) (Some (Granted n c k l u))
+      at : (b : Bool) → cond (not b) (Some (Granted n c k l u)) (first_of_run follows (lease_records history c k)) ≡ cond b (first_of_run follows (lease_records history c k)) (Some (Granted n c k l u))
       at true = refl
       at false = refl
 
@@ -98,20 +98,20 @@ module _ (history : List Record) (n : ℕ) (c : Client) (k : Kind) (l : ℤ) (u 
   earliest_same m v e lt = earliest_is true (same_continues m v e lt) ∙ ap (λ p. earliest_of k p (chain history c k) (sent_in_chain history c k)) (sym (last_period-granted history m c k l v e))
 
 module _ (history : List Record) (t : ℕ) (c : Client) (k : Kind) where
-  trail_sent : trail (history ++ Sent t c k ∷ []) c k ≡ Sent t c k ∷ trail history c k
-  trail_sent = trail-push_own history (Sent t c k) c k (same_lease-refl c k)
+  lease_records_sent : lease_records (history ++ Sent t c k ∷ []) c k ≡ Sent t c k ∷ lease_records history c k
+  lease_records_sent = lease_records-push_own history (Sent t c k) c k (same_lease-refl c k)
 
   pub earliest_sent : earliest (history ++ Sent t c k ∷ []) c k ≡ earliest_of k (last_period history c k) (chain history c k) (t ∷ sent_in_chain history c k)
   unfolding earliest last_period chain sent_in_chain
-  earliest_sent = rw trail_sent
+  earliest_sent = rw lease_records_sent
 
   pub sequence_sent : sequence_number (history ++ Sent t c k ∷ []) c k ≡ (sequence_number history c k + 1) % 65536
   unfolding sequence_number
-  sequence_sent = rw trail_sent (omega arith)
+  sequence_sent = rw lease_records_sent (omega arith)
 
   pub live_sent : (x : ℕ) → live (history ++ Sent t c k ∷ []) x c k ≡ live history x c k
   unfolding live last_decision
-  live_sent x = rw trail_sent
+  live_sent x = rw lease_records_sent
 
 pub earliest_delay : (history : List Record) (t : ℕ) (c : Client) →
     earliest (history ++ Sent t c DelayResp ∷ []) c DelayResp ≡ max (earliest history c DelayResp + last_period history c DelayResp) t

@@ -8,11 +8,11 @@ use Rattle.std.proofs.lemmas.List.Kept.{AllPairs-cons}
 use Rattle.ptu_units.specs.declared.kind.Kind.{Kind}
 use Rattle.ptu_history.specs.declared.client.Client.{Client}
 use Rattle.ptu_history.specs.Client.{same_lease}
-use Rattle.ptu_history.specs.History.{Record, Granted, decides, trail}
+use Rattle.ptu_history.specs.History.{Record, Granted, decides, lease_records}
 use Rattle.ptu_history.specs.Live.{Grant, IsLastDecision, last_decision, standing}
 use Rattle.ptu_history.proofs.Keys.{same_lease-refl, same_lease-true}
 use Rattle.ptu_history.proofs.Lists.{by_push, or-false}
-use Rattle.ptu_history.proofs.Trails.{last_decision-append, last_decision-one}
+use Rattle.ptu_history.proofs.LeaseRecords.{last_decision-append, last_decision-one}
 use Rattle.ptu_history.proofs.Decisions.{last_decision-decided}
 use Rattle.ptu_history.proofs.Currents.{standing-append, standing-granted}
 
@@ -79,7 +79,7 @@ module _ (n : ℕ) (c : Client) (k : Kind) (l : ℤ) (u : ℕ) where
   here = record { start = n; client = c; kind = k; log = l; until = u }
 
   none_last : last_decision [] c k ≡ Some (Granted n c k l u) → Contains (standing []) here
-  unfolding last_decision trail
+  unfolding last_decision lease_records
   none_last e = absurd (cc)
 
   pub standing-member : (history : List Record) → last_decision history c k ≡ Some (Granted n c k l u) → Contains (standing history) (record { start = n; client = c; kind = k; log = l; until = u })

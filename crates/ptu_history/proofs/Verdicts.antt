@@ -1,5 +1,5 @@
 -- The verdict by its cases, and the records that it leaves.
-use Rattle.std.proofs.Common.{◌≡◌, ◌∙◌, ℕ, ◌+◌, ◌*◌, ◌<◌, ◌≤◌, ◌++◌, List, [], Bool, true, false, cond, leb, ltb, refl, ap, Some, None, Ok, Err, Result, ℤ, pos}
+use Rattle.std.proofs.Common.{◌≡◌, ◌∙◌, ℕ, ◌+◌, ◌*◌, ◌<◌, ◌≤◌, ◌++◌, List, [], Bool, true, false, cond, eqb, leb, ltb, max, refl, ap, Some, None, Ok, Err, Result, ℤ, pos}
 use Rattle.std.specs.Prelude.{IsOk, IsErr, int_le, T}
 use Rattle.std.proofs.lemmas.Bool.{le-leb, lt-leb, lt-ltb, le-ltb, and_from, and_parts, false_from_ne_true, false≢true}
 use Rattle.ptu_units.specs.declared.kind.Kind.{Kind}
@@ -9,34 +9,32 @@ use Rattle.ptu_history.specs.declared.client.Client.{Client}
 use Rattle.ptu_history.specs.Client.{table_of}
 use Rattle.ptu_history.specs.History.{Record, Granted, Short, capacity_in_force}
 use Rattle.ptu_history.specs.Moments.{book_moment, table_moment}
-use Rattle.ptu_history.specs.Verdict as on
-use Rattle.ptu_history.specs.Verdict.{Config, Ask, OutsideCause, OutsideCode, OutsideLog, OutsideDuration, Verdict, granted_seconds, is_log_of, others, profile, profile_of, verdict, verdict_of, verdict_within}
+use Rattle.ptu_history.specs.Verdict.{Config, Ask, OutsideCause, OutsideCode, OutsideLog, OutsideDuration, Verdict, granted_seconds, is_log_of, others, profile, profile_of, verdict, verdict_of, verdict_within, GrantedFor, ShortOf, Outside}
 use Rattle.ptu_history.specs.Step.{verdict_records}
-use Rattle.ptu_history.proofs.Keys.{eq-eqb-table}
-use Rattle.ptu_history.proofs.Moments.{book_moment-one, table_moment-one}
+use Rattle.ptu_history.proofs.Moments.{book_moment-push, table_moment-push}
 
 pub verdict-within : (config : Config) (history : List Record) (n : ℕ) (c : Client) (k : Kind) (ask : Ask) → profile ask ≡ Ok k → verdict config history n c ask ≡ verdict_within config history n c k ask
 unfolding verdict
 verdict-within config history n c k ask e = ap (λ p. verdict_of p config history n c ask) e
 
-pub verdict-outside : (config : Config) (history : List Record) (n : ℕ) (c : Client) (cause : OutsideCause) (ask : Ask) → profile ask ≡ Err cause → verdict config history n c ask ≡ on.Outside cause
+pub verdict-outside : (config : Config) (history : List Record) (n : ℕ) (c : Client) (cause : OutsideCause) (ask : Ask) → profile ask ≡ Err cause → verdict config history n c ask ≡ Outside cause
 unfolding verdict
 verdict-outside config history n c cause ask e = ap (λ p. verdict_of p config history n c ask) e
 
 module _ (config : Config) (history : List Record) (n : ℕ) (c : Client) (k : Kind) (ask : Ask) where
   grant : Verdict
-  grant = on.Granted k ask.log (granted_seconds config ask) (n + granted_seconds config ask * 1000000000)
+  grant = GrantedFor k ask.log (granted_seconds config ask) (n + granted_seconds config ask * 1000000000)
 
   shortage : Verdict
-  shortage = on.Short k ask.log (others history n c k) (rate_of ask.log) (capacity_in_force config.capacity history)
+  shortage = ShortOf k ask.log (others history n c k) (rate_of ask.log) (capacity_in_force config.capacity history)
 
   pub verdict-granted : profile ask ≡ Ok k → others history n c k + rate_of ask.log ≤ capacity_in_force config.capacity history →
-      verdict config history n c ask ≡ on.Granted k ask.log (granted_seconds config ask) (n + granted_seconds config ask * 1000000000)
+      verdict config history n c ask ≡ GrantedFor k ask.log (granted_seconds config ask) (n + granted_seconds config ask * 1000000000)
   unfolding grant shortage
   verdict-granted e fits = verdict-within config history n c k ask e ∙ ap (λ b. cond b grant shortage) (le-leb (others history n c k + rate_of ask.log) (capacity_in_force config.capacity history) fits)
 
   pub verdict-short : profile ask ≡ Ok k → capacity_in_force config.capacity history < others history n c k + rate_of ask.log →
-      verdict config history n c ask ≡ on.Short k ask.log (others history n c k) (rate_of ask.log) (capacity_in_force config.capacity history)
+      verdict config history n c ask ≡ ShortOf k ask.log (others history n c k) (rate_of ask.log) (capacity_in_force config.capacity history)
   unfolding grant shortage
   verdict-short e over = verdict-within config history n c k ask e ∙ ap (λ b. cond b grant shortage) (lt-leb (others history n c k + rate_of ask.log) (capacity_in_force config.capacity history) over)
 
@@ -76,27 +74,28 @@ profile-within ask k e is enough =
     ∙ ap (λ b. cond b (Err OutsideDuration) (Ok k)) (le-ltb ask.seconds 60 enough)
 
 -- a verdict within the profile leaves one record at the moment
-pub book_moment-verdict : (config : Config) (history : List Record) (x : ℕ) (c : Client) (ask : Ask) → IsOk (profile ask) → book_moment history ≤ x → book_moment (history ++ verdict_records x c (verdict config history x c ask)) ≡ x
+pub book_moment-verdict : (config : Config) (history : List Record) (x : ℕ) (c : Client) (ask : Ask) → IsOk (profile ask) → book_moment (history ++ verdict_records x c (verdict config history x c ask)) ≡ max (book_moment history) x
 unfolding verdict
-book_moment-verdict config history x c ask ok le = at (profile ask) ok
+book_moment-verdict config history x c ask ok = at (profile ask) ok
   where
-    one : (k : Kind) (b : Bool) → book_moment (history ++ verdict_records x c (cond b (on.Granted k ask.log (granted_seconds config ask) (x + granted_seconds config ask * 1000000000)) (on.Short k ask.log (others history x c k) (rate_of ask.log) (capacity_in_force config.capacity history)))) ≡ x
-    one k true = book_moment-one history (Granted x c k ask.log (x + granted_seconds config ask * 1000000000)) le refl
-    one k false = book_moment-one history (Short x c) le refl
+    one : (k : Kind) (b : Bool) → book_moment (history ++ verdict_records x c (cond b (GrantedFor k ask.log (granted_seconds config ask) (x + granted_seconds config ask * 1000000000)) (ShortOf k ask.log (others history x c k) (rate_of ask.log) (capacity_in_force config.capacity history)))) ≡ max (book_moment history) x
+    one k true = book_moment-push history (Granted x c k ask.log (x + granted_seconds config ask * 1000000000))
+    one k false = book_moment-push history (Short x c)
 
-    at : (p : Result Kind OutsideCause) → IsOk p → book_moment (history ++ verdict_records x c (verdict_of p config history x c ask)) ≡ x
+    at : (p : Result Kind OutsideCause) → IsOk p → book_moment (history ++ verdict_records x c (verdict_of p config history x c ask)) ≡ max (book_moment history) x
     at (Ok k) ok = one k (leb (others history x c k + rate_of ask.log) (capacity_in_force config.capacity history))
     at (Err cause) ok = absurd (false≢true ok)
 
-pub table_moment-verdict : (config : Config) (history : List Record) (x : ℕ) (c : Client) (ask : Ask) → IsOk (profile ask) → table_moment history (table_of c) ≤ x → table_moment (history ++ verdict_records x c (verdict config history x c ask)) (table_of c) ≡ x
+pub table_moment-verdict : (config : Config) (history : List Record) (x j : ℕ) (c : Client) (ask : Ask) → IsOk (profile ask) →
+    table_moment (history ++ verdict_records x c (verdict config history x c ask)) j ≡ max (table_moment history j) (cond (eqb (table_of c) j) x 0)
 unfolding verdict
-table_moment-verdict config history x c ask ok le = at (profile ask) ok
+table_moment-verdict config history x j c ask ok = at (profile ask) ok
   where
-    one : (k : Kind) (b : Bool) → table_moment (history ++ verdict_records x c (cond b (on.Granted k ask.log (granted_seconds config ask) (x + granted_seconds config ask * 1000000000)) (on.Short k ask.log (others history x c k) (rate_of ask.log) (capacity_in_force config.capacity history)))) (table_of c) ≡ x
-    one k true = table_moment-one history (Granted x c k ask.log (x + granted_seconds config ask * 1000000000)) (table_of c) le (eq-eqb-table c)
-    one k false = table_moment-one history (Short x c) (table_of c) le (eq-eqb-table c)
+    one : (k : Kind) (b : Bool) → table_moment (history ++ verdict_records x c (cond b (GrantedFor k ask.log (granted_seconds config ask) (x + granted_seconds config ask * 1000000000)) (ShortOf k ask.log (others history x c k) (rate_of ask.log) (capacity_in_force config.capacity history)))) j ≡ max (table_moment history j) (cond (eqb (table_of c) j) x 0)
+    one k true = table_moment-push history (Granted x c k ask.log (x + granted_seconds config ask * 1000000000)) j
+    one k false = table_moment-push history (Short x c) j
 
-    at : (p : Result Kind OutsideCause) → IsOk p → table_moment (history ++ verdict_records x c (verdict_of p config history x c ask)) (table_of c) ≡ x
+    at : (p : Result Kind OutsideCause) → IsOk p → table_moment (history ++ verdict_records x c (verdict_of p config history x c ask)) j ≡ max (table_moment history j) (cond (eqb (table_of c) j) x 0)
     at (Ok k) ok = one k (leb (others history x c k + rate_of ask.log) (capacity_in_force config.capacity history))
     at (Err cause) ok = absurd (false≢true ok)
 

@@ -12,7 +12,9 @@ same_client a b = a.ip == b.ip && a.clock == b.clock && a.port == b.port
 
 -- by address, then clock identity, then port number
 abbrev pub client_cmp : Client → Client → Ordering
-client_cmp a b = ordering_then (nat_cmp a.ip b.ip) (ordering_then (nat_cmp a.clock b.clock) (nat_cmp a.port b.port))
+client_cmp a b =
+    ordering_then (nat_cmp a.ip b.ip)
+    (ordering_then (nat_cmp a.clock b.clock) (nat_cmp a.port b.port))
 
 -- the place of a kind in the order of kinds
 abbrev pub kind_place : Kind → ℕ

@@ -1,11 +1,11 @@
--- What is held of the capacity at each moment, what a message pays, and what all messages may pay (the project's own
--- choice).
-use Rattle.std.specs.Prelude.{ℕ, zero, suc, ◌+◌, ◌-◌, min, Bool, true, false, ◌&&◌, List, [], ◌∷◌, ◌++◌, Option, Some, None, ℤ, nat_lt, nat_le}
+-- What is held of the capacity at each moment, what a message pays, and what all messages may pay
+-- (the project's own choice).
+use Rattle.std.specs.Prelude.{ℕ, zero, suc, ◌+◌, ◌-◌, min, Bool, ◌&&◌, List, [], ◌∷◌, ◌++◌, Option, Some, None, ℤ, nat_lt, nat_le}
 use Rattle.std.specs.List.{filter, find, sum_by, count_by}
 use Rattle.ptu_units.specs.declared.kind.Kind.{Kind}
 use Rattle.ptu_units.specs.Log.{rate_of}
 use Rattle.ptu_history.specs.declared.client.Client.{Client}
-use Rattle.ptu_history.specs.History.{Record, Granted, Sent, moment_of, decides, capacity_in_force}
+use Rattle.ptu_history.specs.History.{Record, Granted, Sent, moment_of, decides, capacity_in_force, is_sent}
 use Rattle.ptu_history.specs.Lawful.{last_period, earliest}
 
 -- the time that a grant holds: from `start`, included, to `end`, excluded
@@ -16,7 +16,8 @@ pub record Term : Type 0 where
   pub start : ℕ
   pub end : ℕ
 
--- a grant's end: the lesser of its `until` and the moment of the next decision on its client and kind
+-- a grant's end: the lesser of its `until` and the moment of the next decision on its client and
+-- kind
 abbrev pub end_of : ℕ → Option Record → ℕ
 end_of until None = until
 end_of until (Some next) = min until (moment_of next)
@@ -25,7 +26,8 @@ end_of until (Some next) = min until (moment_of next)
 unfoldable pub terms : List Record → List Term
 terms [] = []
 terms (Granted n c k l u ∷ history) =
-    record { client = c; kind = k; log = l; start = n; end = end_of u (find (decides c k) history) } ∷ terms history
+    record { client = c; kind = k; log = l; start = n; end = end_of u (find (decides c k) history) }
+    ∷ terms history
 terms (_ ∷ history) = terms history
 
 -- the moment is in the term
@@ -57,7 +59,8 @@ pub record Payment : Type 0 where
   pub start : ℕ
   pub end : ℕ
 
--- the payment of a message that is sent at the moment, after the history: the last period before the earliest moment
+-- the payment of a message that is sent at the moment, after the history: the last period before
+-- the earliest moment
 abbrev pub payment : List Record → ℕ → Client → Kind → Payment
 payment history x c k =
     record {
@@ -71,17 +74,13 @@ payment history x c k =
 -- the payments of the messages of the second list, which follows the first
 unfoldable pub payments_after : List Record → List Record → List Payment
 payments_after before [] = []
-payments_after before (Sent x c k ∷ history) = payment before x c k ∷ payments_after (before ++ Sent x c k ∷ []) history
+payments_after before (Sent x c k ∷ history) =
+    payment before x c k ∷ payments_after (before ++ Sent x c k ∷ []) history
 payments_after before (r ∷ history) = payments_after (before ++ r ∷ []) history
 
 -- the payments of all messages, the oldest first
 unfoldable pub payments : List Record → List Payment
 payments history = payments_after [] history
-
--- the record is a message
-abbrev pub is_sent : Record → Bool
-is_sent (Sent x c k) = true
-is_sent _ = false
 
 -- how many messages were sent up to the moment
 unfoldable pub count : List Record → ℕ → ℕ

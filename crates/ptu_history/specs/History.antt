@@ -1,5 +1,5 @@
--- What a grandmaster decided and sent, from the front: the first record is the oldest (the project's own choice; the
--- decisions are those of IEEE 1588-2019 clause 16.1).
+-- What a grandmaster decided and sent, from the front: the first record is the oldest (the
+-- project's own choice; the decisions are those of IEEE 1588-2019 clause 16.1).
 use Rattle.std.specs.Prelude.{ℕ, Bool, true, false, List, [], ◌∷◌, reverse, ℤ, cond}
 use Rattle.std.specs.List.{filter}
 use Rattle.ptu_units.specs.declared.kind.Kind.{Kind}
@@ -20,7 +20,8 @@ pub data Record : Type 0 where
   Shed : (at : ℕ) (client : Client) (kind : Kind) → Record
   -- the table took a turn or a Delay_Req
   Looked : (at table : ℕ) → Record
-  -- a timing message of the kind was handed to the port for the client, whether or not the send failed
+  -- a timing message of the kind was handed to the port for the client, whether or not the send
+  -- failed
   Sent : (at : ℕ) (client : Client) (kind : Kind) → Record
 
 -- the moment of a record
@@ -53,8 +54,13 @@ abbrev pub decides : Client → Kind → Record → Bool
 decides c k r = cond (is_decision r) (concerns c k r) false
 
 -- what concerns the client and kind, the latest record first
-unfoldable pub trail : List Record → Client → Kind → List Record
-trail history c k = reverse (filter (concerns c k) history)
+unfoldable pub lease_records : List Record → Client → Kind → List Record
+lease_records history c k = reverse (filter (concerns c k) history)
+
+-- the record is a message
+abbrev pub is_sent : Record → Bool
+is_sent (Sent x c k) = true
+is_sent _ = false
 
 -- the record changes the capacity
 abbrev pub is_change : Record → Bool

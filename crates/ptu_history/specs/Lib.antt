@@ -6,6 +6,11 @@ pub mod Live
 pub mod Runs
 pub mod Lawful
 pub mod Verdict
+pub mod Events
+pub mod Turns
+pub mod Shedding
 pub mod Step
+pub mod Core
 pub mod Held
+pub mod Counts
 pub mod Examples

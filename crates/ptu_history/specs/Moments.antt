@@ -1,5 +1,6 @@
 -- The moments below which no step is taken (the project's own choice).
-use Rattle.std.specs.Prelude.{ℕ, max, Bool, false, List, [], ◌∷◌, ◌==◌, if◌then◌else◌}
+use Rattle.std.specs.Prelude.{ℕ, ◌≤◌, max, Bool, false, List, [], ◌∷◌, ◌==◌, if◌then◌else◌}
+use Rattle.std.specs.List.{All, Contains}
 use Rattle.ptu_history.specs.Client.{table_of}
 use Rattle.ptu_history.specs.History.{Record, Granted, Short, Ended, Capacity, Shed, Looked, Sent, moment_of}
 
@@ -7,6 +8,11 @@ use Rattle.ptu_history.specs.History.{Record, Granted, Short, Ended, Capacity, S
 abbrev pub greatest_by : {A : Type 0} → (A → ℕ) → List A → ℕ
 greatest_by f [] = 0
 greatest_by f (x ∷ xs) = max (f x) (greatest_by f xs)
+
+-- the value is one of these, and none is greater
+pub record IsGreatest (n : ℕ) (values : List ℕ) : Type 0 where
+  pub one_of : Contains values n
+  pub at_most : All (λ m. m ≤ n) values
 
 -- the moment of a record that counts for the book: all but the tables' own
 abbrev pub book_part : Record → ℕ
@@ -28,7 +34,8 @@ is_of_table j (Sent x c k) = table_of c == j
 abbrev pub table_part : ℕ → Record → ℕ
 table_part j r = if is_of_table j r then moment_of r else 0
 
--- the greatest moment of an ask within the profile, a cancel, a change of capacity or a shedding, or 0
+-- the greatest moment of an ask within the profile, a cancel, a change of capacity or a shedding,
+-- or 0
 unfoldable pub book_moment : List Record → ℕ
 book_moment history = greatest_by book_part history
 

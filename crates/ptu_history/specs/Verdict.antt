@@ -1,15 +1,17 @@
--- The answer to a REQUEST_UNICAST_TRANSMISSION (IEEE 1588-2019 clause 16.1.4.1; the limits are the project's own choice).
-use Rattle.std.specs.Prelude.{ℕ, ◌+◌, ◌*◌, min, Bool, ◌&&◌, List, Option, Some, None, Result, Ok, Err, ℤ, pos, nat_lt, nat_le, int_le, if◌then◌else◌}
-use Rattle.std.specs.List.{sum_by}
+-- The answer to a REQUEST_UNICAST_TRANSMISSION (IEEE 1588-2019 clause 16.1.4.1; the limits are the
+-- project's own choice).
+use Rattle.std.specs.Prelude.{ℕ, ◌+◌, ◌*◌, min, Bool, ◌&&◌, List, Option, Some, None, Result, Ok, Err, ℤ, pos, nat_lt, nat_le, int_le, ◌==◌, if◌then◌else◌}
+use Rattle.std.specs.List.{filter, sum_by}
 use Rattle.ptu_units.specs.declared.kind.Kind.{Kind}
 use Rattle.ptu_units.specs.Kind.{kind_of}
 use Rattle.ptu_units.specs.Log.{least_log, rate_of}
 use Rattle.ptu_history.specs.declared.client.Client.{Client}
-use Rattle.ptu_history.specs.History.{Record, capacity_in_force}
-use Rattle.ptu_history.specs.Live.{Grant, live_grants, without}
+use Rattle.ptu_history.specs.Client.{table_of}
+use Rattle.ptu_history.specs.History.{Record, Granted, capacity_in_force}
+use Rattle.ptu_history.specs.Live.{Grant, last_decision, live_grants, without}
 
--- what a grandmaster is opened with: the longest duration that it grants, in seconds, and its capacity, in sixteenths
--- of a message per second
+-- what a grandmaster is opened with: the longest duration that it grants, in seconds, and its
+-- capacity, in sixteenths of a message per second
 pub record Config : Type 0 where
   pub max_duration : ℕ
   pub capacity : ℕ
@@ -29,9 +31,9 @@ pub data OutsideCause : Type 0 where
 -- the decision on an ask
 pub data Verdict : Type 0 where
   -- granted for so many seconds, until that moment
-  Granted : (kind : Kind) (log : ℤ) (seconds until : ℕ) → Verdict
+  GrantedFor : (kind : Kind) (log : ℤ) (seconds until : ℕ) → Verdict
   -- the rates of the other live grants and its own are above the capacity in force
-  Short : (kind : Kind) (log : ℤ) (others rate capacity : ℕ) → Verdict
+  ShortOf : (kind : Kind) (log : ℤ) (others rate capacity : ℕ) → Verdict
   Outside : (cause : OutsideCause) → Verdict
 
 -- the logarithm is in the range of the kind
@@ -42,10 +44,12 @@ is_log_of k l = int_le (least_log k) l && int_le l (pos 4)
 abbrev pub profile_of : Option Kind → Ask → Result Kind OutsideCause
 profile_of None ask = Err OutsideCode
 profile_of (Some k) ask =
-    if is_log_of k ask.log then (if nat_lt ask.seconds 60 then Err OutsideDuration else Ok k) else Err OutsideLog
+    if is_log_of k ask.log
+    then (if nat_lt ask.seconds 60 then Err OutsideDuration else Ok k)
+    else Err OutsideLog
 
--- the kind that an ask within the profile is for, or the first cause why it is outside: its code is no kind, its
--- logarithm is outside the kind's range, its duration is below 60 s
+-- the kind that an ask within the profile is for, or the first cause why it is outside: its code is
+-- no kind, its logarithm is outside the kind's range, its duration is below 60 s
 abbrev pub profile : Ask → Result Kind OutsideCause
 profile ask = profile_of (kind_of ask.code) ask
 
@@ -53,9 +57,23 @@ profile ask = profile_of (kind_of ask.code) ask
 abbrev pub rate_sum : List Grant → ℕ
 rate_sum grants = sum_by (λ g. rate_of g.log) grants
 
--- the sum of the rates of the grants that are live at the moment, but for that of the client and kind
+-- the sum of the rates of the grants that are live at the moment, but for that of the client and
+-- kind
 unfoldable pub others : List Record → ℕ → Client → Kind → ℕ
 others history n c k = rate_sum (without c k (live_grants history n))
+
+-- the rate of a decision that is a grant which is live at the moment, or 0
+abbrev pub live_rate : ℕ → Option Record → ℕ
+live_rate x (Some (Granted n c k l u)) = if nat_lt x u then rate_of l else 0
+live_rate x _ = 0
+
+-- the rate of the grant of the client and kind that is live at the moment, or 0 where none is
+unfoldable pub own_rate : List Record → ℕ → Client → Kind → ℕ
+own_rate history n c k = live_rate n (last_decision history c k)
+
+-- the sum of the rates of the grants of the table's clients that are live at the moment
+unfoldable pub table_rates : List Record → ℕ → ℕ → ℕ
+table_rates history n j = rate_sum (filter (λ g. table_of g.client == j) (live_grants history n))
 
 -- the duration that is granted, in seconds
 abbrev pub granted_seconds : Config → Ask → ℕ
@@ -65,8 +83,10 @@ granted_seconds config ask = min ask.seconds config.max_duration
 abbrev pub verdict_within : Config → List Record → ℕ → Client → Kind → Ask → Verdict
 verdict_within config history n c k ask =
     if nat_le (others history n c k + rate_of ask.log) (capacity_in_force config.capacity history)
-    then Granted k ask.log (granted_seconds config ask) (n + granted_seconds config ask * 1000000000)
-    else Short k ask.log (others history n c k) (rate_of ask.log) (capacity_in_force config.capacity history)
+    then GrantedFor k ask.log (granted_seconds config ask)
+    (n + granted_seconds config ask * 1000000000)
+    else ShortOf k ask.log (others history n c k) (rate_of ask.log)
+    (capacity_in_force config.capacity history)
 
 -- the verdict on an ask of this profile
 abbrev pub verdict_of : Result Kind OutsideCause → Config → List Record → ℕ → Client → Ask → Verdict

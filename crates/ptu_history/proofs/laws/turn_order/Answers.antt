@@ -3,9 +3,9 @@ use Rattle.std.specs.List.{filter}
 use Rattle.std.specs.List.Sorted.{IsPermutation, IsSorted}
 use Rattle.ptu_history.specs.History.{Record}
 use Rattle.ptu_history.specs.Live.{live_grants}
-use Rattle.ptu_history.specs.Step.{due_grants, is_due, turn_cmp}
+use Rattle.ptu_history.specs.Turns.{due_grants, is_due, turn_cmp}
 use Rattle.ptu_history.proofs.Order.{IsAsymmetric-total, IsPermutation-in_order, IsSorted-in_order, turn_cmp-total}
-use Rattle.ptu_history.proofs.Orders.{due_grants-distinct, due_grants-members, due_grants-only}
+use Rattle.ptu_history.proofs.Orders.{due_grants-distinct, due_grants-members, due_grants-only, is_due-parts}
 use Rattle.ptu_history.proofs.laws.turn_order.Goals as goal
 
 permutes : (history : List Record) (x j : ℕ) → IsPermutation (filter (is_due history x j) (live_grants history x)) (due_grants history x j)
@@ -18,6 +18,7 @@ ordered history x j = IsSorted-in_order (turn_cmp history) (IsAsymmetric-total (
 
 pub returns : goal.returns
 returns _ = record {
+  due = is_due-parts;
   permutes = permutes;
   members = due_grants-members;
   ordered = ordered;

@@ -7,17 +7,17 @@ use Rattle.std.proofs.lemmas.List.Elements.{filter-append}
 use Rattle.std.proofs.lemmas.List.Folds.{find-append}
 use Rattle.ptu_units.specs.declared.kind.Kind.{Kind}
 use Rattle.ptu_history.specs.declared.client.Client.{Client}
-use Rattle.ptu_history.specs.History.{Record, concerns, decides, is_decision, trail}
+use Rattle.ptu_history.specs.History.{Record, concerns, decides, is_decision, lease_records}
 use Rattle.ptu_history.specs.Live.{last_decision}
 
-pub trail-append : (history more : List Record) (c : Client) (k : Kind) → trail (history ++ more) c k ≡ trail more c k ++ trail history c k
-unfolding trail
-trail-append history more c k =
+pub lease_records-append : (history more : List Record) (c : Client) (k : Kind) → lease_records (history ++ more) c k ≡ lease_records more c k ++ lease_records history c k
+unfolding lease_records
+lease_records-append history more c k =
     ap reverse (filter-append (concerns c k) history more) ∙ reverse-append (filter (concerns c k) history) (filter (concerns c k) more)
 
-pub trail-push : (history : List Record) (r : Record) (c : Client) (k : Kind) → trail (history ++ r ∷ []) c k ≡ cond (concerns c k r) (r ∷ trail history c k) (trail history c k)
-unfolding trail
-trail-push history r c k =
+pub lease_records-push : (history : List Record) (r : Record) (c : Client) (k : Kind) → lease_records (history ++ r ∷ []) c k ≡ cond (concerns c k r) (r ∷ lease_records history c k) (lease_records history c k)
+unfolding lease_records
+lease_records-push history r c k =
     ap reverse (filter-append (concerns c k) history (r ∷ [])) ∙ at (concerns c k r)
   where
     at : (b : Bool) → reverse (filter (concerns c k) history ++ cond b (r ∷ []) []) ≡ cond b (r ∷ reverse (filter (concerns c k) history)) (reverse (filter (concerns c k) history))
@@ -25,13 +25,13 @@ trail-push history r c k =
     at false = ap reverse (append-nil (filter (concerns c k) history))
 
 -- a record that concerns them
-pub trail-push_own : (history : List Record) (r : Record) (c : Client) (k : Kind) → concerns c k r ≡ true → trail (history ++ r ∷ []) c k ≡ r ∷ trail history c k
-trail-push_own history r c k own = trail-push history r c k ∙ ap (λ b. cond b (r ∷ trail history c k) (trail history c k)) own
+pub lease_records-push_own : (history : List Record) (r : Record) (c : Client) (k : Kind) → concerns c k r ≡ true → lease_records (history ++ r ∷ []) c k ≡ r ∷ lease_records history c k
+lease_records-push_own history r c k own = lease_records-push history r c k ∙ ap (λ b. cond b (r ∷ lease_records history c k) (lease_records history c k)) own
 
 -- a record that does not, wherever it stands
-pub trail-stranger : (history : List Record) (r : Record) (more : List Record) (c : Client) (k : Kind) → concerns c k r ≡ false → trail (history ++ r ∷ more) c k ≡ trail (history ++ more) c k
-unfolding trail
-trail-stranger history r more c k stranger =
+pub lease_records-stranger : (history : List Record) (r : Record) (more : List Record) (c : Client) (k : Kind) → concerns c k r ≡ false → lease_records (history ++ r ∷ more) c k ≡ lease_records (history ++ more) c k
+unfolding lease_records
+lease_records-stranger history r more c k stranger =
     ap reverse (filter-append (concerns c k) history (r ∷ more)
     ∙ ap (λ b. filter (concerns c k) history ++ cond b (r ∷ filter (concerns c k) more) (filter (concerns c k) more)) stranger
     ∙ sym (filter-append (concerns c k) history more))
@@ -39,10 +39,10 @@ trail-stranger history r more c k stranger =
 pub last_decision-append : (history more : List Record) (c : Client) (k : Kind) → last_decision (history ++ more) c k ≡ option_or (last_decision more c k) (last_decision history c k)
 unfolding last_decision
 last_decision-append history more c k =
-    ap (λ rs. find is_decision rs) (trail-append history more c k) ∙ find-append is_decision (trail more c k) (trail history c k)
+    ap (λ rs. find is_decision rs) (lease_records-append history more c k) ∙ find-append is_decision (lease_records more c k) (lease_records history c k)
 
 pub last_decision-one : (r : Record) (c : Client) (k : Kind) → last_decision (r ∷ []) c k ≡ cond (decides c k r) (Some r) None
-unfolding last_decision trail
+unfolding last_decision lease_records
 last_decision-one r c k = at (concerns c k r) (is_decision r) refl
   where
     at : (b d : Bool) → is_decision r ≡ d → find is_decision (reverse (cond b (r ∷ []) [])) ≡ cond (cond d b false) (Some r) None
