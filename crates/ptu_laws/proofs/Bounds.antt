@@ -9,17 +9,19 @@ use Rattle.std.proofs.lemmas.List.Sums.{sum_by-cons}
 use Rattle.ptu_units.specs.declared.kind.Kind.{Kind}
 use Rattle.ptu_history.specs.declared.client.Client.{Client}
 use Rattle.ptu_history.specs.Client.{table_of}
-use Rattle.ptu_history.specs.History.{Record, Granted, Short, Ended, Capacity, Shed, Looked, Sent, capacity_in_force, is_change, moment_of}
+use Rattle.ptu_history.specs.History.{Record, Granted, Short, Ended, Capacity, Shed, Looked, Sent, capacity_in_force, is_change, is_sent, moment_of}
 use Rattle.ptu_history.specs.Moments.{book_moment, book_part, greatest_by, table_moment, table_part}
 use Rattle.ptu_history.specs.Live.{Grant}
 use Rattle.ptu_history.specs.Verdict.{Config}
-use Rattle.ptu_history.specs.Step.{Event, Request, Cancel, Turn, DelayReq, Resize, book_step_moment, core_moment, core_step, history, shed_grants, shed_record, table_step_moment}
-use Rattle.ptu_history.specs.Held.{budget, count, force, is_by, is_sent, payment, payments, payments_after}
+use Rattle.ptu_history.specs.Events.{Event, Request, Cancel, Turn, DelayReq, Resize}
+use Rattle.ptu_history.specs.Shedding.{shed_grants, shed_record}
+use Rattle.ptu_history.specs.Core.{book_step_moment, core_moment, core_step, core_history, table_step_moment}
+use Rattle.ptu_history.specs.Held.{budget, count, force, is_by, payment, payments, payments_after}
 use Rattle.ptu_history.proofs.Lists.{by_push}
 use Rattle.ptu_history.proofs.Histories.{history-event, history-none}
 use Rattle.ptu_laws.specs.Changes.{IsUpTo}
 use Rattle.ptu_laws.proofs.Budget.{count-within, step_unchanged}
-use Rattle.ptu_laws.proofs.Payments.{payments_after-append}
+use Rattle.ptu_history.proofs.PaymentLists.{payments_after-append}
 use Rattle.ptu_laws.proofs.Steps.{AllAt, book_part-le, step-at, table_part-le}
 
 -- the front of a list, and its last
@@ -32,14 +34,14 @@ all_front P (y ∷ xs) x all =
 -- what each event keeps, of events that have a property
 by_events_of : (config : Config) (Q : ℕ × Event → Type 0) (P : Record → Type 0) →
     ((before : List Record) (e : ℕ × Event) → Q e → All P before → All P (core_step config before e.0 e.1).records) →
-    (events : List (ℕ × Event)) → All Q events → All P (history config events)
-by_events_of config Q P kept = by_push (λ es. All Q es → All P (history config es)) (λ _. subst (λ h. All P h) (sym (history-none config)) (All-nil P)) step
+    (events : List (ℕ × Event)) → All Q events → All P (core_history config events)
+by_events_of config Q P kept = by_push (λ es. All Q es → All P (core_history config es)) (λ _. subst (λ h. All P h) (sym (history-none config)) (All-nil P)) step
   where
-    step : (es : List (ℕ × Event)) (e : ℕ × Event) → (All Q es → All P (history config es)) → All Q (es ++ e ∷ []) → All P (history config (es ++ e ∷ []))
+    step : (es : List (ℕ × Event)) (e : ℕ × Event) → (All Q es → All P (core_history config es)) → All Q (es ++ e ∷ []) → All P (core_history config (es ++ e ∷ []))
     step es e ih all =
         let parts : All Q es × Q e = all_front Q es e all in
         subst (λ h. All P h) (sym (history-event config es e.0 e.1))
-        (All-append P (history config es) (core_step config (history config es) e.0 e.1).records (ih parts.0) (kept (history config es) e parts.1 (ih parts.0)))
+        (All-append P (core_history config es) (core_step config (core_history config es) e.0 e.1).records (ih parts.0) (kept (core_history config es) e parts.1 (ih parts.0)))
 
 -- the record is not after the moment
 abbrev IsBy : ℕ → Record → Type 0
@@ -76,7 +78,7 @@ at_within n x [] le at = All-nil (IsBy n)
 at_within n x (r ∷ rs) le at = All-cons (IsBy n) r rs (omega (arith, le, at.0)) (at_within n x rs le at.1)
 
 -- no record is after all the moments that are handed
-pub moments-handed : (config : Config) (events : List (ℕ × Event)) (n : ℕ) → All (λ e. e.0 ≤ n) events → All (λ r. moment_of r ≤ n) (history config events)
+pub moments-handed : (config : Config) (events : List (ℕ × Event)) (n : ℕ) → All (λ e. e.0 ≤ n) events → All (λ r. moment_of r ≤ n) (core_history config events)
 moments-handed config events n =
     by_events_of config (λ e. e.0 ≤ n) (IsBy n)
     (λ before e le all. at_within n (core_moment before e.0 e.1) (core_step config before e.0 e.1).records (core_within n e.0 e.1 before le all) (step-at config before (core_moment before e.0 e.1) e.1)) events
@@ -115,7 +117,7 @@ step_up_to config most before t (Resize capacity) is =
     All-cons (RecordUpTo most) (Capacity x capacity) (map (shed_record x) (shed_grants before x capacity)) is
     (others_up_to most (map (shed_record x) (shed_grants before x capacity)) (sheds_up_to most x (shed_grants before x capacity)))
 
-history_up_to : (config : Config) (events : List (ℕ × Event)) (most : ℕ) → All (λ e. IsUpTo most e.1) events → All (RecordUpTo most) (history config events)
+history_up_to : (config : Config) (events : List (ℕ × Event)) (most : ℕ) → All (λ e. IsUpTo most e.1) events → All (RecordUpTo most) (core_history config events)
 history_up_to config events most =
     by_events_of config (λ e. IsUpTo most e.1) (RecordUpTo most) (λ before e is all. step_up_to config most before e.0 e.1 is) events
 
@@ -139,9 +141,9 @@ budget_up_to most opening history (suc n) le all =
     omega (arith, next, budget_up_to most opening history n le all, force_up_to most opening history n le all)
 
 -- all messages up to a moment, where no capacity is above this one
-pub count-up_to : (config : Config) (events : List (ℕ × Event)) (most n : ℕ) → config.capacity ≤ most → All (λ e. IsUpTo most e.1) events → count (history config events) n * (16 * 1000000000) ≤ most * n
+pub count-up_to : (config : Config) (events : List (ℕ × Event)) (most n : ℕ) → config.capacity ≤ most → All (λ e. IsUpTo most e.1) events → count (core_history config events) n * (16 * 1000000000) ≤ most * n
 count-up_to config events most n le all =
-    omega (arith, count-within config events n, budget_up_to most config.capacity (history config events) n le (history_up_to config events most all))
+    omega (arith, count-within config events n, budget_up_to most config.capacity (core_history config events) n le (history_up_to config events most all))
 
 -- all messages are counted where none is after the moment
 count_all : (n : ℕ) (history : List Record) → All (IsBy n) history → count history n ≡ count_by is_sent history
@@ -159,12 +161,12 @@ count_all n (r ∷ history) all =
     at false = refl
 
 -- all messages
-pub sent-up_to : (config : Config) (events : List (ℕ × Event)) (most n : ℕ) → config.capacity ≤ most → All (λ e. IsUpTo most e.1) events → All (λ e. e.0 ≤ n) events → count_by is_sent (history config events) * (16 * 1000000000) ≤ most * n
+pub sent-up_to : (config : Config) (events : List (ℕ × Event)) (most n : ℕ) → config.capacity ≤ most → All (λ e. IsUpTo most e.1) events → All (λ e. e.0 ≤ n) events → count_by is_sent (core_history config events) * (16 * 1000000000) ≤ most * n
 sent-up_to config events most n le all handed =
-    subst (λ m. m * (16 * 1000000000) ≤ most * n) (count_all n (history config events) (moments-handed config events n handed)) (count-up_to config events most n le all)
+    subst (λ m. m * (16 * 1000000000) ≤ most * n) (count_all n (core_history config events) (moments-handed config events n handed)) (count-up_to config events most n le all)
 
-pub count_quotient : (config : Config) (events : List (ℕ × Event)) (most n : ℕ) → config.capacity ≤ most → All (λ e. IsUpTo most e.1) events → count (history config events) n ≤ most * n / (16 * 1000000000)
-count_quotient config events most n le all = le-div (count (history config events) n) (most * n) (16 * 1000000000) (omega arith) (count-up_to config events most n le all)
+pub count_quotient : (config : Config) (events : List (ℕ × Event)) (most n : ℕ) → config.capacity ≤ most → All (λ e. IsUpTo most e.1) events → count (core_history config events) n ≤ most * n / (16 * 1000000000)
+count_quotient config events most n le all = le-div (count (core_history config events) n) (most * n) (16 * 1000000000) (omega arith) (count-up_to config events most n le all)
 
 -- a message has its payment among all
 pub payment-there : (history before after : List Record) (x : ℕ) (c : Client) (k : Kind) → history ≡ before ++ Sent x c k ∷ after → Contains (payments history) (payment before x c k)

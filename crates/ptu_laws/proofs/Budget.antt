@@ -6,17 +6,22 @@ use Rattle.std.proofs.lemmas.List.Elements.{All-head, All-tail}
 use Rattle.std.proofs.lemmas.List.Folds.{list_any-append}
 use Rattle.std.proofs.lemmas.List.Sums.{sum_by-cons}
 use Rattle.ptu_history.specs.declared.client.Client.{Client}
-use Rattle.ptu_history.specs.History.{Record, Granted, Sent, is_change}
+use Rattle.ptu_history.specs.History.{Record, Granted, Sent, is_change, is_sent}
 use Rattle.ptu_history.specs.Live.{Grant}
-use Rattle.ptu_history.specs.Verdict as on
-use Rattle.ptu_history.specs.Verdict.{Config, Verdict, verdict}
-use Rattle.ptu_history.specs.Step.{Event, Request, Cancel, Turn, DelayReq, Resize, Answer, Answered, NoGrant, TooSoon, answer_records, core_moment, core_step, delay_answer, due_grants, history, sent_record, verdict_records}
-use Rattle.ptu_history.specs.Held.{Payment, budget, count, force, held, is_by, is_sent, payment, payments, payments_after}
+use Rattle.ptu_history.specs.Verdict.{Config, Verdict, verdict, GrantedFor, ShortOf, Outside}
+use Rattle.ptu_history.specs.Events.{Event, Request, Cancel, Turn, DelayReq, Resize, Answer, Answered, NoGrant, TooSoon}
+use Rattle.ptu_history.specs.Turns.{due_grants, sent_record}
+use Rattle.ptu_history.specs.Step.{answer_records, delay_answer, verdict_records}
+use Rattle.ptu_history.specs.Core.{core_moment, core_step, core_history}
+use Rattle.ptu_history.specs.Held.{Payment, budget, count, force, held, is_by, payment, payments, payments_after}
 use Rattle.ptu_history.proofs.Lists.{by_push}
 use Rattle.ptu_history.proofs.Capacities.{budget-same}
 use Rattle.ptu_history.proofs.Histories.{history-event, history-none}
 use Rattle.ptu_laws.specs.Changes.{is_resize}
-use Rattle.ptu_laws.proofs.Capacity.{held-within}
+use Rattle.ptu_laws.specs.Sound.{IsSound}
+use Rattle.ptu_laws.proofs.Capacity.{held-sound}
+use Rattle.ptu_laws.proofs.Followed.{AllMayFollow}
+use Rattle.ptu_laws.proofs.Stands.{follow-stand, sound-core, stand-from}
 use Rattle.ptu_laws.proofs.Covered.{IsPaidAny, is_in_payment, paid-within, weight, weight-whole}
 use Rattle.ptu_laws.proofs.Payments.{payments-apart, payments-paid}
 use Rattle.ptu_laws.proofs.Sums.{sum-exchange, sum_below, sum_below-le, sum_whole}
@@ -64,17 +69,20 @@ all_whole history n (p ∷ ps) paid =
         let none : ◌≡◌ {A = ℕ} (cond (leb p.at n) 1 0) 0 = ap (λ b. cond {A = ℕ} b 1 0) e in
         omega (arith, ih, none, sum_by-cons (λ (p : Payment). cond (leb p.at n) 1 0) p ps, sum_by-cons (λ p. sum_below n (part p)) p ps)
 
-pub count-within : (config : Config) (events : List (ℕ × Event)) (n : ℕ) → count (history config events) n * (16 * 1000000000) ≤ budget config.capacity (history config events) n
+pub count-sound : (opening : ℕ) (history : List Record) → IsSound opening history → (n : ℕ) → count history n * (16 * 1000000000) ≤ budget opening history n
 unfolding count payments
-count-within config events n =
-    let h : List Record = history config events in
+count-sound opening h sound n =
+    let follow : AllMayFollow [] h = follow-stand opening [] h (stand-from opening h sound) in
     let counted : sum_by (λ r. cond (is_sent r && is_by n r) 1 0) h ≡ sum_by (λ (p : Payment). cond (leb p.at n) 1 0) (payments h) = count-payments n [] h in
-    let paid : sum_by (λ (p : Payment). cond (leb p.at n) 1 0) (payments h) * (16 * 1000000000) ≤ sum_by (λ p. sum_below n (part p)) (payments h) = all_whole h n (payments h) (payments-paid config events) in
+    let paid : sum_by (λ (p : Payment). cond (leb p.at n) 1 0) (payments h) * (16 * 1000000000) ≤ sum_by (λ p. sum_below n (part p)) (payments h) = all_whole h n (payments h) (payments-paid h follow) in
     let exchanged : sum_by (λ p. sum_below n (part p)) (payments h) ≡ sum_below n (λ x. sum_by (λ p. part p x) (payments h)) = sum-exchange part n (payments h) in
     let held_is : sum_below n (λ x. sum_by (λ p. part p x) (payments h)) ≤ sum_below n (held h)
-    = sum_below-le (λ x. sum_by (λ p. part p x) (payments h)) (held h) (λ x. paid-within h x (payments-paid config events) (payments-apart config events)) n in
-    let in_force : sum_below n (held h) ≤ sum_below n (force config.capacity h) = sum_below-le (held h) (force config.capacity h) (held-within config events) n in
-    omega (arith, counted, paid, exchanged, held_is, in_force, budget-sum config.capacity h n)
+    = sum_below-le (λ x. sum_by (λ p. part p x) (payments h)) (held h) (λ x. paid-within h x (payments-paid h follow) (payments-apart h follow)) n in
+    let in_force : sum_below n (held h) ≤ sum_below n (force opening h) = sum_below-le (held h) (force opening h) (held-sound opening h sound) n in
+    omega (arith, counted, paid, exchanged, held_is, in_force, budget-sum opening h n)
+
+pub count-within : (config : Config) (events : List (ℕ × Event)) (n : ℕ) → count (core_history config events) n * (16 * 1000000000) ≤ budget config.capacity (core_history config events) n
+count-within config events = count-sound config.capacity (core_history config events) (sound-core config events)
 
 -- no record of another event changes the capacity
 map_unchanged : (x : ℕ) (gs : List Grant) → list_any is_change (map (sent_record x) gs) ≡ false
@@ -82,9 +90,9 @@ map_unchanged x [] = refl
 map_unchanged x (g ∷ gs) = map_unchanged x gs
 
 verdict_unchanged : (x : ℕ) (c : Client) (v : Verdict) → list_any is_change (verdict_records x c v) ≡ false
-verdict_unchanged x c (on.Granted k l seconds until) = refl
-verdict_unchanged x c (on.Short k l others rate capacity) = refl
-verdict_unchanged x c (on.Outside cause) = refl
+verdict_unchanged x c (GrantedFor k l seconds until) = refl
+verdict_unchanged x c (ShortOf k l others rate capacity) = refl
+verdict_unchanged x c (Outside cause) = refl
 
 answer_unchanged : (x : ℕ) (c : Client) (a : Answer) → list_any is_change (answer_records x c a) ≡ false
 answer_unchanged x c Answered = refl
@@ -98,18 +106,18 @@ step_unchanged config before t (Turn j) other = map_unchanged (core_moment befor
 step_unchanged config before t (DelayReq c) other = answer_unchanged (core_moment before t (DelayReq c)) c (delay_answer before (core_moment before t (DelayReq c)) c)
 step_unchanged config before t (Resize capacity) other = absurd (true≢false other)
 
-pub history-unchanged : (config : Config) (events : List (ℕ × Event)) → list_any (λ e. is_resize e.1) events ≡ false → list_any is_change (history config events) ≡ false
-history-unchanged config = by_push (λ es. list_any (λ e. is_resize e.1) es ≡ false → list_any is_change (history config es) ≡ false) (λ _. ap (λ h. list_any is_change h) (history-none config)) step
+pub history-unchanged : (config : Config) (events : List (ℕ × Event)) → list_any (λ e. is_resize e.1) events ≡ false → list_any is_change (core_history config events) ≡ false
+history-unchanged config = by_push (λ es. list_any (λ e. is_resize e.1) es ≡ false → list_any is_change (core_history config es) ≡ false) (λ _. ap (λ h. list_any is_change h) (history-none config)) step
   where
-    step : (es : List (ℕ × Event)) (e : ℕ × Event) → (list_any (λ e. is_resize e.1) es ≡ false → list_any is_change (history config es) ≡ false) → list_any (λ e. is_resize e.1) (es ++ e ∷ []) ≡ false → list_any is_change (history config (es ++ e ∷ [])) ≡ false
+    step : (es : List (ℕ × Event)) (e : ℕ × Event) → (list_any (λ e. is_resize e.1) es ≡ false → list_any is_change (core_history config es) ≡ false) → list_any (λ e. is_resize e.1) (es ++ e ∷ []) ≡ false → list_any is_change (core_history config (es ++ e ∷ [])) ≡ false
     step es e ih none =
         let parts : (list_any (λ (e : ℕ × Event). is_resize e.1) es ≡ false) × ((is_resize e.1 || false) ≡ false)
         = or_parts (list_any (λ (e : ℕ × Event). is_resize e.1) es) (is_resize e.1 || false) (sym (list_any-append (λ (e : ℕ × Event). is_resize e.1) es (e ∷ [])) ∙ none) in
         ap (λ h. list_any is_change h) (history-event config es e.0 e.1)
-        ∙ list_any-append is_change (history config es) (core_step config (history config es) e.0 e.1).records
-        ∙ or_from (list_any is_change (history config es)) (list_any is_change (core_step config (history config es) e.0 e.1).records) (ih parts.0)
-        (step_unchanged config (history config es) e.0 e.1 (or_parts (is_resize e.1) false parts.1).0)
+        ∙ list_any-append is_change (core_history config es) (core_step config (core_history config es) e.0 e.1).records
+        ∙ or_from (list_any is_change (core_history config es)) (list_any is_change (core_step config (core_history config es) e.0 e.1).records) (ih parts.0)
+        (step_unchanged config (core_history config es) e.0 e.1 (or_parts (is_resize e.1) false parts.1).0)
 
-pub count-constant : (config : Config) (events : List (ℕ × Event)) (n : ℕ) → list_any (λ e. is_resize e.1) events ≡ false → count (history config events) n * (16 * 1000000000) ≤ config.capacity * n
+pub count-constant : (config : Config) (events : List (ℕ × Event)) (n : ℕ) → list_any (λ e. is_resize e.1) events ≡ false → count (core_history config events) n * (16 * 1000000000) ≤ config.capacity * n
 count-constant config events n none =
-    omega (arith, count-within config events n, budget-same config.capacity (history config events) n (history-unchanged config events none))
+    omega (arith, count-within config events n, budget-same config.capacity (core_history config events) n (history-unchanged config events none))

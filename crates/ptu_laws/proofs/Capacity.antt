@@ -1,31 +1,30 @@
--- What is held at a moment is at most the capacity in force there.
-use Rattle.std.proofs.Common.{◌≡◌, ◌∙◌, ℕ, ◌+◌, ◌*◌, ◌<◌, ◌≤◌, ◌++◌, List, [], ◌∷◌, map, Bool, true, false, not, cond, leb, ltb, refl, sym, ap, subst, arith, ℤ, Result, Ok, Err, append_assoc}
-use Rattle.std.specs.List.{All, filter, list_any, sum_by}
-use Rattle.std.proofs.lemmas.Bool.{lt-ltb, ltb-true, ltb-false, leb-true, or_left, or_right, false≢true}
+-- What is held at a moment is at most the capacity in force there, for every sound list of records.
+use Rattle.std.proofs.Common.{◌≡◌, ◌∙◌, ◌⊎◌, inl, inr, ℕ, ◌+◌, ◌<◌, ◌≤◌, max, ◌++◌, List, [], ◌∷◌, Bool, true, false, not, cond, eqb, ltb, refl, sym, ap, subst, arith, ℤ, append_assoc}
+use Rattle.std.specs.List.{filter}
+use Rattle.std.proofs.lemmas.Bool.{eqb-true, lt-ltb, ltb-true, ltb-false}
 use Rattle.std.proofs.lemmas.List.{append-nil}
-use Rattle.std.proofs.lemmas.List.Elements.{All-cons, All-head, All-nil, All-tail, All-weaker, filter-append}
-use Rattle.std.proofs.lemmas.List.Sorted.{sum_by-IsPermutation}
-use Rattle.std.proofs.lemmas.List.Sums.{sum_by-append, sum_by-cons, sum_by-le-sum_by}
+use Rattle.std.proofs.lemmas.List.Elements.{filter-append}
+use Rattle.std.proofs.lemmas.List.Sums.{sum_by-append, sum_by-cons}
 use Rattle.ptu_units.specs.declared.kind.Kind.{Kind}
 use Rattle.ptu_units.specs.Log.{rate_of}
 use Rattle.ptu_history.specs.declared.client.Client.{Client}
 use Rattle.ptu_history.specs.Client.{same_lease}
-use Rattle.ptu_history.specs.History.{Record, Granted, Short, Ended, Capacity, Looked, capacity_in_force, decides, is_change, is_decision}
+use Rattle.ptu_history.specs.History.{Record, Granted, Short, Ended, Capacity, Shed, Looked, Sent, capacity_in_force, is_change, is_decision, moment_of}
 use Rattle.ptu_history.specs.Moments.{book_moment}
 use Rattle.ptu_history.specs.Live.{Grant, live_grants, standing, without}
-use Rattle.ptu_history.specs.Verdict as on
-use Rattle.ptu_history.specs.Verdict.{Config, Ask, OutsideCause, others, profile, rate_sum, verdict, verdict_of, verdict_within, granted_seconds}
-use Rattle.ptu_history.specs.Step.{Event, Request, Cancel, Turn, DelayReq, Resize, Answer, Answered, NoGrant, TooSoon, answer_records, core_moment, delay_answer, due_grants, history, sent_record, shed_grants, shed_order, shed_prefix, shed_record, step, verdict_records}
+use Rattle.ptu_history.specs.Verdict.{Config, others, rate_sum}
+use Rattle.ptu_history.specs.Events.{Event}
+use Rattle.ptu_history.specs.Core.{core_history}
 use Rattle.ptu_history.specs.Held.{force, held, terms}
 use Rattle.ptu_history.proofs.Lists.{filter-comm}
-use Rattle.ptu_history.proofs.Keys.{same_lease-refl}
-use Rattle.ptu_history.proofs.Capacities.{capacity_in_force-append, capacity_in_force-unchanged}
-use Rattle.ptu_history.proofs.Currents.{standing-append, standing-ended, standing-granted, standing-undecided}
-use Rattle.ptu_history.proofs.Held.{held-now, held-before, force-now, force-before}
-use Rattle.ptu_history.proofs.Order.{IsPermutation-in_order, shed_prefix-rest}
-use Rattle.ptu_laws.proofs.Steps.{AllAt, book_moment-at, by_events, core_moment-book, step-at}
-use Rattle.ptu_history.specs.Order.{in_order}
-use Rattle.ptu_history.specs.Step.{shed_cmp}
+use Rattle.ptu_history.proofs.Capacities.{capacity_in_force-changed, capacity_in_force-unchanged}
+use Rattle.ptu_history.proofs.Currents.{standing-ended, standing-granted, standing-shed}
+use Rattle.ptu_history.proofs.Held.{held-now, held-before, held-quiet, force-now, force-before, force-quiet}
+use Rattle.ptu_history.proofs.Moments.{book_moment-push}
+use Rattle.ptu_laws.specs.Sound.{IsSound, MayStand, sheds_at}
+use Rattle.ptu_laws.proofs.Rests.{rate_sum-filter, rate_sum-filter_le}
+use Rattle.ptu_laws.proofs.Stands.{AllStand, sound-core, stand-from}
+use Rattle.ptu_laws.proofs.Steps.{AllAt, book_moment-at}
 
 -- before records of a later moment, what is held and what is in force stay
 held-before_all : (x y : ℕ) (rs history : List Record) → AllAt y rs → x < y → held (history ++ rs) x ≡ held history x
@@ -41,25 +40,6 @@ force-before_all opening x y (r ∷ rs) history at before =
     ap (λ h. force opening h x) (sym (append_assoc history (r ∷ []) rs))
     ∙ force-before_all opening x y rs (history ++ r ∷ []) at.1 before
     ∙ force-before opening history r x (subst (λ m. x < m) (sym at.0) before)
-
--- fewer grants have no larger sum
-rate_sum-filter_le : (p q : Grant → Bool) → ((g : Grant) → p g ≡ true → q g ≡ true) → (gs : List Grant) → rate_sum (filter p gs) ≤ rate_sum (filter q gs)
-rate_sum-filter_le p q fewer [] = omega arith
-rate_sum-filter_le p q fewer (g ∷ gs) = at (p g) (q g) (fewer g) (rate_sum-filter_le p q fewer gs)
-  where
-    at : (a b : Bool) → (a ≡ true → b ≡ true) → rate_sum (filter p gs) ≤ rate_sum (filter q gs) → rate_sum (cond a (g ∷ filter p gs) (filter p gs)) ≤ rate_sum (cond b (g ∷ filter q gs) (filter q gs))
-    at true true f ih = omega (arith, sum_by-cons (λ (g : Grant). rate_of g.log) g (filter p gs), sum_by-cons (λ (g : Grant). rate_of g.log) g (filter q gs), ih)
-    at true false f ih = absurd (false≢true (f refl))
-    at false true f ih = omega (arith, sum_by-cons (λ (g : Grant). rate_of g.log) g (filter q gs), ih)
-    at false false f ih = ih
-
-rate_sum-filter : (p : Grant → Bool) (gs : List Grant) → rate_sum (filter p gs) ≤ rate_sum gs
-rate_sum-filter p [] = omega arith
-rate_sum-filter p (g ∷ gs) = at (p g) (rate_sum-filter p gs)
-  where
-    at : (b : Bool) → rate_sum (filter p gs) ≤ rate_sum gs → rate_sum (cond b (g ∷ filter p gs) (filter p gs)) ≤ rate_sum (g ∷ gs)
-    at true ih = omega (arith, sum_by-cons (λ (g : Grant). rate_of g.log) g (filter p gs), sum_by-cons (λ (g : Grant). rate_of g.log) g gs, ih)
-    at false ih = omega (arith, sum_by-cons (λ (g : Grant). rate_of g.log) g gs, ih)
 
 -- later no more is live
 live-later : (history : List Record) (x y : ℕ) → x ≤ y → rate_sum (live_grants history y) ≤ rate_sum (live_grants history x)
@@ -91,28 +71,6 @@ kept opening y rs history at past within fits x = by_moment (ltb x y) refl
 fits_now : (opening x : ℕ) (history : List Record) → IsWithin opening history → book_moment history ≤ x → Fits opening history x
 fits_now opening x history within past = omega (arith, held-now history x past, force-now opening history x past, within x)
 
--- records that are neither decisions nor changes of capacity
-abbrev AreQuiet : List Record → Type 0
-AreQuiet [] = Unit {0}
-AreQuiet (r ∷ rs) = (is_decision r ≡ false) × (is_change r ≡ false) × AreQuiet rs
-
-fits-quiet : (opening x : ℕ) (rs history : List Record) → AreQuiet rs → Fits opening history x → Fits opening (history ++ rs) x
-unfolding live_grants
-fits-quiet opening x [] history quiet fits = subst (λ h. Fits opening h x) (sym (append-nil history)) fits
-fits-quiet opening x (r ∷ rs) history quiet fits =
-    subst (λ h. Fits opening h x) (append_assoc history (r ∷ []) rs)
-    (fits-quiet opening x rs (history ++ r ∷ []) quiet.2
-    (omega (arith, ap (λ gs. rate_sum (filter (λ g. ltb x g.until) gs)) (standing-undecided history r quiet.0), capacity_in_force-unchanged opening history r quiet.1, fits)))
-
-sent_quiet : (x : ℕ) (gs : List Grant) → AreQuiet (map (sent_record x) gs)
-sent_quiet x [] = tt
-sent_quiet x (g ∷ gs) = (refl, refl, sent_quiet x gs)
-
-answer_quiet : (x : ℕ) (c : Client) (a : Answer) → AreQuiet (answer_records x c a)
-answer_quiet x c Answered = (refl, refl, tt)
-answer_quiet x c NoGrant = tt
-answer_quiet x c (TooSoon earliest) = tt
-
 -- a grant beside the others
 fits-granted : (opening n : ℕ) (c : Client) (k : Kind) (l : ℤ) (u : ℕ) (history : List Record) → others history n c k + rate_of l ≤ capacity_in_force opening history →
     Fits opening (history ++ Granted n c k l u ∷ []) n
@@ -141,112 +99,113 @@ fits-ended opening n c k history fits =
       fits,
     )
 
--- nothing of a shedding stands
-standing-sheds : (x : ℕ) (gs : List Grant) → standing (map (shed_record x) gs) ≡ []
-unfolding standing
-standing-sheds x [] = refl
-standing-sheds x (g ∷ gs) = standing-sheds x gs
+-- a shedding takes away
+fits-shed : (opening n : ℕ) (c : Client) (k : Kind) (history : List Record) → Fits opening history n → Fits opening (history ++ Shed n c k ∷ []) n
+unfolding live_grants
+fits-shed opening n c k history fits =
+    let p : Grant → Bool = λ g. ltb n g.until in
+    let q : Grant → Bool = λ g. not (same_lease c k g.client g.kind) in
+    omega (
+      arith,
+      ap (λ gs. rate_sum (filter p gs)) (standing-shed history n c k) ∙ ap rate_sum (filter-comm p q (standing history)),
+      rate_sum-filter q (filter p (standing history)),
+      capacity_in_force-unchanged opening history (Shed n c k) refl,
+      fits,
+    )
 
-standing-change : (x capacity : ℕ) (gs : List Grant) → standing (Capacity x capacity ∷ map (shed_record x) gs) ≡ []
-unfolding standing
-standing-change x capacity gs = standing-sheds x gs
+-- a change whose sheddings are still to come: before its moment all is well, and what they leave fits
+record IsChanging (opening : ℕ) (history : List Record) (x : ℕ) (rest : List Record) : Type 0 where
+  pub earlier : (y : ℕ) → y < x → held history y ≤ force opening history y
+  pub past : book_moment history ≤ x
+  pub fits : rate_sum (live_grants (history ++ sheds_at x rest) x) ≤ capacity_in_force opening history
 
-capacity-sheds : (capacity x : ℕ) (gs : List Grant) → capacity_in_force capacity (map (shed_record x) gs) ≡ capacity
-unfolding capacity_in_force
-capacity-sheds capacity x [] = refl
-capacity-sheds capacity x (g ∷ gs) = capacity-sheds capacity x gs
-
-capacity-change : (opening x capacity : ℕ) (history : List Record) (gs : List Grant) → capacity_in_force opening (history ++ Capacity x capacity ∷ map (shed_record x) gs) ≡ capacity
-unfolding capacity_in_force
-capacity-change opening x capacity history gs = capacity_in_force-append opening history (Capacity x capacity ∷ map (shed_record x) gs) ∙ capacity-sheds capacity x gs
-
--- the rate of a grant that a change of capacity leaves
-left_part : List Record → Grant → ℕ
-left_part more g = cond (not (list_any (decides g.client g.kind) more)) (rate_of g.log) 0
-
-sum-left : (more : List Record) (gs : List Grant) → rate_sum (filter (λ g. not (list_any (decides g.client g.kind) more)) gs) ≡ sum_by (left_part more) gs
-unfolding left_part
-sum-left more [] = refl
-sum-left more (g ∷ gs) = at (not (list_any (decides g.client g.kind) more)) (sum-left more gs) ∙ sym (sum_by-cons (left_part more) g gs)
+-- it is over where no shedding comes
+changed : (opening x : ℕ) (history rest : List Record) → sheds_at x rest ≡ [] → IsChanging opening history x rest → IsWithin opening history
+changed opening x history rest none is y = by_moment (ltb y x) refl
   where
-    at : (b : Bool) → rate_sum (filter (λ g. not (list_any (decides g.client g.kind) more)) gs) ≡ sum_by (left_part more) gs →
-        rate_sum (cond b (g ∷ filter (λ g. not (list_any (decides g.client g.kind) more)) gs) (filter (λ g. not (list_any (decides g.client g.kind) more)) gs)) ≡ cond b (rate_of g.log) 0 + sum_by (left_part more) gs
-    at true ih = sum_by-cons (λ (g : Grant). rate_of g.log) g (filter (λ g. not (list_any (decides g.client g.kind) more)) gs) ∙ ap (λ n. rate_of g.log + n) ih
-    at false ih = omega (arith, ih)
+    by_moment : (b : Bool) → ltb y x ≡ b → held history y ≤ force opening history y
+    by_moment true e = is.earlier y (ltb-true y x e)
+    by_moment false e =
+        let after : x ≤ y = ltb-false y x e in
+        let here : rate_sum (live_grants (history ++ sheds_at x rest) x) ≡ rate_sum (live_grants history x) = ap (λ rs. rate_sum (live_grants (history ++ rs) x)) none ∙ ap (λ h. rate_sum (live_grants h x)) (append-nil history) in
+        omega (arith, here, is.past, held-now history y (omega (arith, is.past)), force-now opening history y (omega (arith, is.past)), live-later history x y after, is.fits)
 
-left_part-le : (more : List Record) (g : Grant) → left_part more g ≤ rate_of g.log
-unfolding left_part
-left_part-le more g = at (not (list_any (decides g.client g.kind) more))
+-- what is kept from record to record
+abbrev IsKept : ℕ → List Record → List Record → Type 0
+IsKept opening history rest = IsWithin opening history ⊎ ((x : ℕ) × IsChanging opening history x rest)
+
+quiet-within : (opening : ℕ) (history : List Record) (r : Record) → is_decision r ≡ false → is_change r ≡ false → IsWithin opening history → IsWithin opening (history ++ r ∷ [])
+quiet-within opening history r quiet same within x = omega (arith, held-quiet history r x quiet, force-quiet opening history r x same, within x)
+
+one-within : (opening : ℕ) (history : List Record) (r : Record) → book_moment history ≤ moment_of r → IsWithin opening history → Fits opening (history ++ r ∷ []) (moment_of r) → IsWithin opening (history ++ r ∷ [])
+one-within opening history r past within fits = kept opening (moment_of r) (r ∷ []) history (refl, tt) past within fits
+
+stand-within : (opening : ℕ) (history : List Record) (r : Record) (rest : List Record) → MayStand opening history r rest → IsWithin opening history → IsKept opening (history ++ r ∷ []) rest
+stand-within opening history (Granted n c k l u) rest may within =
+    inl (one-within opening history (Granted n c k l u) may.0.0 within (fits-granted opening n c k l u history may.2))
+stand-within opening history (Short n c) rest may within = inl (quiet-within opening history (Short n c) refl refl within)
+stand-within opening history (Ended n c k) rest may within =
+    inl (one-within opening history (Ended n c k) may.0 within (fits-ended opening n c k history (fits_now opening n history within may.0)))
+stand-within opening history (Capacity x capacity) rest may within =
+    inr (
+      x,
+      record {
+        earlier = λ y before. omega (arith, held-before history (Capacity x capacity) y before, force-before opening history (Capacity x capacity) y before, within y);
+        past = book_moment-at x (Capacity x capacity ∷ []) history (refl, tt) may.0;
+        fits =
+            let e : rate_sum (live_grants ((history ++ Capacity x capacity ∷ []) ++ sheds_at x rest) x) ≡ rate_sum (live_grants (history ++ Capacity x capacity ∷ sheds_at x rest) x) = ap (λ h. rate_sum (live_grants h x)) (append_assoc history (Capacity x capacity ∷ []) (sheds_at x rest)) in
+            omega (arith, e, may.1, capacity_in_force-changed opening history x capacity);
+      },
+    )
+stand-within opening history (Shed x c k) rest may within =
+    inl (one-within opening history (Shed x c k) may.0 within (fits-shed opening x c k history (fits_now opening x history within may.0)))
+stand-within opening history (Looked x j) rest may within = inl (quiet-within opening history (Looked x j) refl refl within)
+stand-within opening history (Sent x c k) rest may within = inl (quiet-within opening history (Sent x c k) refl refl within)
+
+-- one shedding of a change
+changing-on : (opening x y : ℕ) (c : Client) (k : Kind) (history rest : List Record) → eqb y x ≡ true → IsChanging opening history x (Shed y c k ∷ rest) → IsChanging opening (history ++ Shed y c k ∷ []) x rest
+changing-on opening x y c k history rest now is =
+    let same : y ≡ x = eqb-true y x now in
+    record {
+      earlier = λ z before. omega (arith, held-before history (Shed y c k) z (omega (arith, same)), force-before opening history (Shed y c k) z (omega (arith, same)), is.earlier z before);
+      past = let e : book_moment (history ++ Shed y c k ∷ []) ≡ max (book_moment history) y = book_moment-push history (Shed y c k) in omega (arith, is.past);
+      fits =
+          let e : rate_sum (live_grants ((history ++ Shed y c k ∷ []) ++ sheds_at x rest) x) ≡ rate_sum (live_grants (history ++ cond (eqb y x) (Shed y c k ∷ sheds_at x rest) []) x)
+          = ap (λ h. rate_sum (live_grants h x)) (append_assoc history (Shed y c k ∷ []) (sheds_at x rest)) ∙ ap (λ b. rate_sum (live_grants (history ++ cond b (Shed y c k ∷ sheds_at x rest) []) x)) (sym now) in
+          omega (arith, e, is.fits, capacity_in_force-unchanged opening history (Shed y c k) refl);
+    }
+
+stand-kept : (opening : ℕ) (history : List Record) (r : Record) (rest : List Record) → MayStand opening history r rest → IsKept opening history (r ∷ rest) → IsKept opening (history ++ r ∷ []) rest
+stand-kept opening history r rest may (inl within) = stand-within opening history r rest may within
+stand-kept opening history (Shed y c k) rest may (inr (x, is)) = at (eqb y x) refl
   where
-    at : (b : Bool) → cond b (rate_of g.log) 0 ≤ rate_of g.log
-    at true = omega arith
-    at false = omega arith
+    at : (b : Bool) → eqb y x ≡ b → IsKept opening (history ++ Shed y c k ∷ []) rest
+    at true now = inr (x, changing-on opening x y c k history rest now is)
+    at false later =
+        stand-within opening history (Shed y c k) rest may
+        (changed opening x history (Shed y c k ∷ rest) (ap (λ b. cond b (Shed y c k ∷ sheds_at x rest) []) later) is)
+stand-kept opening history (Granted n c k l u) rest may (inr (x, is)) = stand-within opening history (Granted n c k l u) rest may (changed opening x history (Granted n c k l u ∷ rest) refl is)
+stand-kept opening history (Short n c) rest may (inr (x, is)) = stand-within opening history (Short n c) rest may (changed opening x history (Short n c ∷ rest) refl is)
+stand-kept opening history (Ended n c k) rest may (inr (x, is)) = stand-within opening history (Ended n c k) rest may (changed opening x history (Ended n c k ∷ rest) refl is)
+stand-kept opening history (Capacity n capacity) rest may (inr (x, is)) = stand-within opening history (Capacity n capacity) rest may (changed opening x history (Capacity n capacity ∷ rest) refl is)
+stand-kept opening history (Looked n j) rest may (inr (x, is)) = stand-within opening history (Looked n j) rest may (changed opening x history (Looked n j ∷ rest) refl is)
+stand-kept opening history (Sent n c k) rest may (inr (x, is)) = stand-within opening history (Sent n c k) rest may (changed opening x history (Sent n c k ∷ rest) refl is)
 
-abbrev IsDecided : List Record → Grant → Type 0
-IsDecided more g = list_any (decides g.client g.kind) more ≡ true
+kept-end : (opening : ℕ) (history : List Record) → IsKept opening history [] → IsWithin opening history
+kept-end opening history (inl within) = within
+kept-end opening history (inr (x, is)) = changed opening x history [] refl is
 
-sheds_decide : (x : ℕ) (gs : List Grant) → All (IsDecided (map (shed_record x) gs)) gs
-sheds_decide x [] = All-nil (IsDecided [])
-sheds_decide x (g ∷ gs) =
-    All-cons (IsDecided (map (shed_record x) (g ∷ gs))) g gs
-    (or_left (same_lease g.client g.kind g.client g.kind) (list_any (decides g.client g.kind) (map (shed_record x) gs)) (same_lease-refl g.client g.kind))
-    (All-weaker (IsDecided (map (shed_record x) gs)) (IsDecided (map (shed_record x) (g ∷ gs)))
-    (λ h e. or_right (decides h.client h.kind (shed_record x g)) (list_any (decides h.client h.kind) (map (shed_record x) gs)) e) gs (sheds_decide x gs))
-
-nothing_left : (more : List Record) (gs : List Grant) → All (IsDecided more) gs → sum_by (left_part more) gs ≡ 0
-unfolding left_part
-nothing_left more [] all = refl
-nothing_left more (g ∷ gs) all =
-    sum_by-cons (left_part more) g gs
-    ∙ ap (λ b. cond (not b) (rate_of g.log) 0 + sum_by (left_part more) gs) (All-head (IsDecided more) g gs all)
-    ∙ (omega (arith, nothing_left more gs (All-tail (IsDecided more) g gs all)))
-
--- what is left after a shedding fits
-fits-change : (opening x capacity : ℕ) (history : List Record) → Fits opening (history ++ Capacity x capacity ∷ map (shed_record x) (shed_grants history x capacity)) x
-unfolding live_grants shed_grants shed_order
-fits-change opening x capacity history =
-    let order : List Grant = in_order shed_cmp (filter (λ g. ltb x g.until) (standing history)) in
-    let shed : List Grant = shed_prefix capacity order in
-    let more : List Record = Capacity x capacity ∷ map (shed_record x) shed in
-    let rest : (rest : List Grant) × (shed ++ rest ≡ order) × (rate_sum rest ≤ capacity) = shed_prefix-rest capacity order in
-    let p : Grant → Bool = λ g. ltb x g.until in
-    let q : Grant → Bool = λ g. not (list_any (decides g.client g.kind) more) in
-    let is : rate_sum (filter p (standing (history ++ more))) ≡ sum_by (left_part more) (shed ++ rest.0)
-    = ap (λ gs. rate_sum (filter p gs)) (standing-append history more ∙ ap (λ gs. filter q (standing history) ++ gs) (standing-change x capacity shed) ∙ append-nil (filter q (standing history)))
-    ∙ ap rate_sum (filter-comm p q (standing history))
-    ∙ sum-left more (filter p (standing history))
-    ∙ sym (sum_by-IsPermutation (left_part more) (filter p (standing history)) order (IsPermutation-in_order shed_cmp (filter p (standing history))))
-    ∙ ap (λ gs. sum_by (left_part more) gs) (sym rest.1) in
-    let gone : sum_by (left_part more) shed ≡ 0 = nothing_left more shed (sheds_decide x shed) in
-    omega (arith, is, sum_by-append (left_part more) shed rest.0, gone, sum_by-le-sum_by (left_part more) (λ (g : Grant). rate_of g.log) rest.0 (left_part-le more), rest.2, capacity-change opening x capacity history shed)
-
--- an ask
-fits-verdict : (config : Config) (history : List Record) (x : ℕ) (c : Client) (ask : Ask) → Fits config.capacity history x → Fits config.capacity (history ++ verdict_records x c (verdict config history x c ask)) x
-unfolding verdict
-fits-verdict config history x c ask fits = at (profile ask)
-  where
-    room : (k : Kind) (b : Bool) → leb (others history x c k + rate_of ask.log) (capacity_in_force config.capacity history) ≡ b →
-        Fits config.capacity (history ++ verdict_records x c (cond b (on.Granted k ask.log (granted_seconds config ask) (x + granted_seconds config ask * 1000000000)) (on.Short k ask.log (others history x c k) (rate_of ask.log) (capacity_in_force config.capacity history)))) x
-    room k true e = fits-granted config.capacity x c k ask.log (x + granted_seconds config ask * 1000000000) history (leb-true _ _ e)
-    room k false e = fits-quiet config.capacity x (Short x c ∷ []) history (refl, refl, tt) fits
-
-    at : (p : Result Kind OutsideCause) → Fits config.capacity (history ++ verdict_records x c (verdict_of p config history x c ask)) x
-    at (Err cause) = fits-quiet config.capacity x [] history tt fits
-    at (Ok k) = room k (leb (others history x c k + rate_of ask.log) (capacity_in_force config.capacity history)) refl
-
-fits-step : (config : Config) (history : List Record) (x : ℕ) (event : Event) → Fits config.capacity history x → Fits config.capacity (history ++ (step config history x event).records) x
-fits-step config history x (Request c ask) fits = fits-verdict config history x c ask fits
-fits-step config history x (Cancel c k) fits = fits-ended config.capacity x c k history fits
-fits-step config history x (Turn j) fits = fits-quiet config.capacity x (Looked x j ∷ map (sent_record x) (due_grants history x j)) history (refl, refl, sent_quiet x (due_grants history x j)) fits
-fits-step config history x (DelayReq c) fits = fits-quiet config.capacity x (Looked x _ ∷ answer_records x c (delay_answer history x c)) history (refl, refl, answer_quiet x c (delay_answer history x c)) fits
-fits-step config history x (Resize capacity) fits = fits-change config.capacity x capacity history
+kept-all : (opening : ℕ) (rest history : List Record) → AllStand opening history rest → IsKept opening history rest → IsWithin opening (history ++ rest)
+kept-all opening [] history all is = subst (λ h. IsWithin opening h) (sym (append-nil history)) (kept-end opening history is)
+kept-all opening (r ∷ rest) history all is =
+    subst (λ h. IsWithin opening h) (append_assoc history (r ∷ []) rest) (kept-all opening rest (history ++ r ∷ []) all.1 (stand-kept opening history r rest all.0 is))
 
 nothing_held : (opening : ℕ) → IsWithin opening []
 unfolding held terms
 nothing_held opening x = omega arith
 
-pub held-within : (config : Config) (events : List (ℕ × Event)) (x : ℕ) → held (history config events) x ≤ force config.capacity (history config events) x
-held-within config =
-    by_events config (IsWithin config.capacity) (nothing_held config.capacity)
-    (λ before t event within. kept config.capacity (core_moment before t event) (step config before (core_moment before t event) event).records before (step-at config before (core_moment before t event) event)
-    (core_moment-book before t event) within (fits-step config before (core_moment before t event) event (fits_now config.capacity (core_moment before t event) before within (core_moment-book before t event))))
+pub held-sound : (opening : ℕ) (history : List Record) → IsSound opening history → (x : ℕ) → held history x ≤ force opening history x
+held-sound opening history sound = kept-all opening history [] (stand-from opening history sound) (inl (nothing_held opening))
+
+pub held-within : (config : Config) (events : List (ℕ × Event)) (x : ℕ) → held (core_history config events) x ≤ force config.capacity (core_history config events) x
+held-within config events = held-sound config.capacity (core_history config events) (sound-core config events)

@@ -1,4 +1,7 @@
 pub mod Steps
+pub mod Rests
+pub mod Stands
+pub mod Timely
 pub mod Capacity
 pub mod Verdicts
 pub mod Followed

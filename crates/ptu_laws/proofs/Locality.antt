@@ -10,13 +10,16 @@ use Rattle.ptu_units.specs.declared.kind.Kind.TheVariants.{DelayResp}
 use Rattle.ptu_history.specs.declared.client.Client.{Client}
 use Rattle.ptu_history.specs.Client.{client_cmp, kind_cmp, same_lease, table_of}
 use Rattle.ptu_history.specs.Order.{in_order}
-use Rattle.ptu_history.specs.History.{Record, Granted, Short, Ended, Capacity, Shed, Looked, Sent, concerns, decides, is_decision, moment_of, trail}
+use Rattle.ptu_history.specs.History.{Record, Granted, Short, Ended, Capacity, Shed, Looked, Sent, concerns, decides, is_decision, moment_of, lease_records}
 use Rattle.ptu_history.specs.Moments.{book_moment, greatest_by, is_of_table, table_moment, table_part}
 use Rattle.ptu_history.specs.Live.{Grant, last_decision, live, live_grants, standing}
 use Rattle.ptu_history.specs.Runs.{chain, sent_in_chain, sequence_number}
 use Rattle.ptu_history.specs.Lawful.{earliest, last_period, lawful}
 use Rattle.ptu_history.specs.Verdict.{Config}
-use Rattle.ptu_history.specs.Step.{Turn, DelayReq, Turned, Responded, answer_records, core_step, delay_answer, due_grants, is_due, is_turned, message_of, sent_record, step, table_step_moment, turn_cmp}
+use Rattle.ptu_history.specs.Events.{Turn, DelayReq, Turned, Responded}
+use Rattle.ptu_history.specs.Turns.{due_grants, is_due, is_turned, message_of, sent_record, turn_cmp}
+use Rattle.ptu_history.specs.Step.{answer_records, delay_answer, step}
+use Rattle.ptu_history.specs.Core.{core_step, table_step_moment}
 use Rattle.ptu_history.proofs.Keys.{same_lease-true}
 use Rattle.ptu_history.proofs.Lists.{filter-comm, list_any-filter}
 use Rattle.ptu_history.proofs.Order.{IsPermutation-in_order}
@@ -36,22 +39,22 @@ concerns-part c k (Shed n d j) own = own_client c d k j own
 concerns-part c k (Looked n i) own = absurd (false≢true own)
 concerns-part c k (Sent n d j) own = own_client c d k j own
 
-trail-part : (history : List Record) (c : Client) (k : Kind) → trail (part_of_clients (table_of c) history) c k ≡ trail history c k
-unfolding trail
-trail-part history c k = ap reverse (filter-wider (concerns c k) (is_of_clients (table_of c)) (concerns-part c k) history)
+lease_records-part : (history : List Record) (c : Client) (k : Kind) → lease_records (part_of_clients (table_of c) history) c k ≡ lease_records history c k
+unfolding lease_records
+lease_records-part history c k = ap reverse (filter-wider (concerns c k) (is_of_clients (table_of c)) (concerns-part c k) history)
 
 module _ (history : List Record) (c : Client) (k : Kind) where
   earliest-part : earliest (part_of_clients (table_of c) history) c k ≡ earliest history c k
   unfolding earliest last_period chain sent_in_chain
-  earliest-part = rw (trail-part history c k)
+  earliest-part = rw (lease_records-part history c k)
 
   sequence-part : sequence_number (part_of_clients (table_of c) history) c k ≡ sequence_number history c k
   unfolding sequence_number
-  sequence-part = rw (trail-part history c k)
+  sequence-part = rw (lease_records-part history c k)
 
   live-part : (x : ℕ) → live (part_of_clients (table_of c) history) x c k ≡ live history x c k
   unfolding live last_decision
-  live-part x = rw (trail-part history c k)
+  live-part x = rw (lease_records-part history c k)
 
   lawful-part : (x : ℕ) → lawful (part_of_clients (table_of c) history) x c k ≡ lawful history x c k
   unfolding lawful

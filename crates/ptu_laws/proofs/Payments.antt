@@ -1,39 +1,40 @@
 -- The payments of each client and kind lie one after the other in held time, before their messages.
 use Rattle.std.proofs.Common.{◌≡◌, ◌∙◌, ℕ, suc, ◌+◌, ◌<◌, ◌≤◌, max, ◌++◌, List, [], ◌∷◌, Bool, true, false, cond, leb, ltb, refl, sym, ap, subst, arith, Some, ℤ, append_assoc}
 use Rattle.std.specs.List.{All, AllPairs}
-use Rattle.std.specs.Prelude.{int_le, pos, T}
 use Rattle.std.proofs.lemmas.Bool.{and_parts, false≢true, leb-true, ltb-true, ltb-false}
-use Rattle.std.proofs.lemmas.List.{append-nil}
 use Rattle.std.proofs.lemmas.List.Elements.{All-nil, All-push, All-weaker}
 use Rattle.std.proofs.lemmas.List.Kept.{AllPairs-cons}
 use Rattle.ptu_units.specs.declared.kind.Kind.{Kind}
-use Rattle.ptu_units.specs.Log.{IsLogOf, least_log, period_of}
+use Rattle.ptu_units.specs.Log.{period_of}
 use Rattle.ptu_history.specs.declared.client.Client.{Client}
-use Rattle.ptu_history.specs.Client.{same_lease, table_of}
-use Rattle.ptu_history.specs.History.{Record, Granted, Short, Ended, Capacity, Shed, Looked, Sent, concerns, decides, is_decision, moment_of, trail}
-use Rattle.ptu_history.specs.Moments.{table_moment, table_part}
+use Rattle.ptu_history.specs.Client.{same_lease}
+use Rattle.ptu_history.specs.History.{Record, Granted, Short, Ended, Capacity, Shed, Looked, Sent, concerns, decides, is_decision, moment_of, lease_records}
 use Rattle.ptu_history.specs.Live.{last_decision, live}
 use Rattle.ptu_history.specs.Runs.{chain, continues}
 use Rattle.ptu_history.specs.Lawful.{earliest, last_period, lawful}
-use Rattle.ptu_history.specs.Verdict.{Config, is_log_of}
-use Rattle.ptu_history.specs.Step.{Event, history}
+use Rattle.ptu_history.specs.Verdict.{is_log_of}
 use Rattle.ptu_history.specs.Held.{Payment, payment, payments, payments_after}
-use Rattle.ptu_history.proofs.Keys.{eq-eqb-table, same_lease-sym, same_lease-true}
-use Rattle.ptu_history.proofs.Moments.{table_moment-push}
+use Rattle.ptu_history.proofs.PaymentLists.{payments-other, payments-sent}
+use Rattle.ptu_history.proofs.Keys.{same_lease-refl, same_lease-sym, same_lease-true}
+use Rattle.ptu_history.proofs.Lists.{greatest_by-push}
 use Rattle.ptu_history.proofs.Standing.{last_pushed}
 use Rattle.ptu_history.proofs.Strangers.{chain-push, earliest-push}
 use Rattle.ptu_history.proofs.Renewals.{chain_is, earliest_new, earliest_same, last_period-granted}
+use Rattle.ptu_laws.specs.Sound.{last_sent, sent_part}
 use Rattle.ptu_laws.specs.Paid.{IsBefore, IsPaid, is_held_at}
-use Rattle.ptu_laws.proofs.Followed.{AllMayFollow, MayFollow, by_following, by_records, may-at, may-front, may-history, may-rest}
+use Rattle.ptu_laws.proofs.Followed.{AllMayFollow, MayFollow, by_following, may-at, may-front, may-rest, own_sent}
+use Rattle.ptu_laws.proofs.Stands.{log_range}
 use Rattle.ptu_laws.proofs.HeldTime.{held_at-new, held_at-push}
-use Rattle.ptu_laws.proofs.Paced.{Continued, LiveGrant, chain-sent, continued, earliest-sent_le, is-message, live-grant}
+use Rattle.ptu_history.proofs.AfterSteps.{chain-sent}
+use Rattle.ptu_history.proofs.LiveGrants.{Continued, LiveGrant, continued, live-grant}
+use Rattle.ptu_laws.proofs.Paced.{earliest-sent_le, is-message}
 
--- a payment, as it is kept from record to record: its message is not after the moment of its table
+-- a payment, as it is kept from record to record: its message is not after the last message of its client and kind
 pub record IsSettled (history : List Record) (log : ℤ) (p : Payment) : Type 0 where
   pub in_range : is_log_of p.kind log ≡ true
   pub period : p.start + period_of log ≡ p.end
   pub in_time : p.end ≤ p.at
-  pub by_table : p.at ≤ table_moment history (table_of p.client)
+  pub by_last : p.at ≤ last_sent history p.client p.kind
   pub held : (x : ℕ) → p.start ≤ x → x < p.end → is_held_at history p.client p.kind log x ≡ true
 
 -- it is settled at some logarithm
@@ -48,28 +49,10 @@ pub record IsPaced (history : List Record) (c : Client) (k : Kind) (l : ℤ) (u 
   pub held : (x : ℕ) → chain history c k ≤ x → x < u → is_held_at history c k l x ≡ true
   pub paid : All (λ p. same_lease c k p.client p.kind ≡ true → p.end + period_of l ≤ earliest history c k) (payments history)
 
-pub record IsSound (history : List Record) : Type 0 where
+pub record KeepsPayments (history : List Record) : Type 0 where
   pub paced : (c : Client) (k : Kind) (n : ℕ) (l : ℤ) (u : ℕ) → last_decision history c k ≡ Some (Granted n c k l u) → IsPaced history c k l u
   pub settled : All (IsSettledAny history) (payments history)
   pub apart : AllPairs IsBefore (payments history)
-
-pub payments_after-append : (before xs ys : List Record) → payments_after before (xs ++ ys) ≡ payments_after before xs ++ payments_after (before ++ xs) ys
-unfolding payments_after
-payments_after-append before [] ys = ap (λ h. payments_after h ys) (sym (append-nil before))
-payments_after-append before (Sent x c k ∷ xs) ys =
-    ap (λ ps. payment before x c k ∷ ps) (payments_after-append (before ++ Sent x c k ∷ []) xs ys ∙ ap (λ h. payments_after (before ++ Sent x c k ∷ []) xs ++ payments_after h ys) (append_assoc before (Sent x c k ∷ []) xs))
-payments_after-append before (Granted n c k l u ∷ xs) ys = payments_after-append (before ++ Granted n c k l u ∷ []) xs ys ∙ ap (λ h. payments_after (before ++ Granted n c k l u ∷ []) xs ++ payments_after h ys) (append_assoc before (Granted n c k l u ∷ []) xs)
-payments_after-append before (r ∷ xs) ys = payments_after-append (before ++ r ∷ []) xs ys ∙ ap (λ h. payments_after (before ++ r ∷ []) xs ++ payments_after h ys) (append_assoc before (r ∷ []) xs)
-
--- a record of another sort has no payment
-pub payments-other : (history : List Record) (r : Record) → payments_after history (r ∷ []) ≡ [] → payments (history ++ r ∷ []) ≡ payments history
-unfolding payments
-payments-other history r none = payments_after-append [] history (r ∷ []) ∙ ap (λ ps. payments_after [] history ++ ps) none ∙ append-nil (payments_after [] history)
-
--- a message adds its payment
-pub payments-sent : (history : List Record) (x : ℕ) (c : Client) (k : Kind) → payments (history ++ Sent x c k ∷ []) ≡ payments history ++ payment history x c k ∷ []
-unfolding payments payments_after
-payments-sent history x c k = payments_after-append [] history (Sent x c k ∷ [])
 
 -- what holds of all payments after one more record
 all_payments : (P : Payment → Type 0) (history : List Record) (r : Record) → All P (payments history) → ((x : ℕ) (c : Client) (k : Kind) → r ≡ Sent x c k → P (payment history x c k)) → All P (payments (history ++ r ∷ []))
@@ -104,13 +87,13 @@ pairs_payments history (Capacity n capacity) old new = subst (λ ps. AllPairs Is
 pairs_payments history (Shed n c k) old new = subst (λ ps. AllPairs IsBefore ps) (sym (payments-other history (Shed n c k) refl)) old
 pairs_payments history (Looked n j) old new = subst (λ ps. AllPairs IsBefore ps) (sym (payments-other history (Looked n j) refl)) old
 
--- a decision is not before the moment of its client's table
-decided-after : (history : List Record) (r : Record) (c : Client) (k : Kind) → MayFollow history r → decides c k r ≡ true → table_moment history (table_of c) ≤ moment_of r
-decided-after history (Granted n d j l u) c k may own = subst (λ e. table_moment history (table_of e) ≤ n) (sym (same_lease-true c k d j own).0) may.0
+-- a decision is not before the messages of its client and kind
+decided-after : (history : List Record) (r : Record) (c : Client) (k : Kind) → MayFollow history r → decides c k r ≡ true → last_sent history c k ≤ moment_of r
+decided-after history (Granted n d j l u) c k may own = own_sent history n c d k j own may.0
 decided-after history (Short n d) c k may own = absurd (false≢true own)
-decided-after history (Ended n d j) c k may own = subst (λ e. table_moment history (table_of e) ≤ n) (sym (same_lease-true c k d j own).0) may
+decided-after history (Ended n d j) c k may own = own_sent history n c d k j own may
 decided-after history (Capacity n capacity) c k may own = absurd (false≢true own)
-decided-after history (Shed n d j) c k may own = subst (λ e. table_moment history (table_of e) ≤ n) (sym (same_lease-true c k d j own).0) may
+decided-after history (Shed n d j) c k may own = own_sent history n c d k j own may
 decided-after history (Looked n j) c k may own = absurd (false≢true own)
 decided-after history (Sent n d j) c k may own = absurd (false≢true own)
 
@@ -121,8 +104,9 @@ undecided c k r other = at (is_decision r)
     at true = other
     at false = refl
 
-table_moment-grows : (history : List Record) (r : Record) (j : ℕ) → table_moment history j ≤ table_moment (history ++ r ∷ []) j
-table_moment-grows history r j = let e : table_moment (history ++ r ∷ []) j ≡ max (table_moment history j) (table_part j r) = table_moment-push history r j in omega arith
+last_sent-push : (history : List Record) (r : Record) (c : Client) (k : Kind) → last_sent (history ++ r ∷ []) c k ≡ max (last_sent history c k) (sent_part c k r)
+unfolding last_sent
+last_sent-push history r c k = greatest_by-push (sent_part c k) history r
 
 module _ (history : List Record) where
   -- a payment stays made
@@ -132,18 +116,18 @@ module _ (history : List Record) where
         in_range = was.in_range;
         period = was.period;
         in_time = was.in_time;
-        by_table = omega (arith, was.by_table, table_moment-grows history r (table_of p.client));
+        by_last = (let e : last_sent (history ++ r ∷ []) p.client p.kind ≡ max (last_sent history p.client p.kind) (sent_part p.client p.kind r) = last_sent-push history r p.client p.kind in omega (arith, was.by_last));
         held = λ x from to. held_at-push p.client p.kind l x history r
-            (λ own. omega (arith, to, was.in_time, was.by_table, decided-after history r p.client p.kind may own)) (was.held x from to);
+            (λ own. omega (arith, to, was.in_time, was.by_last, decided-after history r p.client p.kind may own)) (was.held x from to);
       }
 
-  table_moment-sent : (x : ℕ) (c : Client) (k : Kind) → x ≤ table_moment (history ++ Sent x c k ∷ []) (table_of c)
-  table_moment-sent x c k =
-      let part : table_part (table_of c) (Sent x c k) ≡ x = ap (λ b. cond b x 0) (eq-eqb-table c) in
-      let e : table_moment (history ++ Sent x c k ∷ []) (table_of c) ≡ max (table_moment history (table_of c)) (table_part (table_of c) (Sent x c k)) = table_moment-push history (Sent x c k) (table_of c) in
+  last_sent-own : (x : ℕ) (c : Client) (k : Kind) → x ≤ last_sent (history ++ Sent x c k ∷ []) c k
+  last_sent-own x c k =
+      let part : sent_part c k (Sent x c k) ≡ x = ap (λ b. cond b x 0) (same_lease-refl c k) in
+      let e : last_sent (history ++ Sent x c k ∷ []) c k ≡ max (last_sent history c k) (sent_part c k (Sent x c k)) = last_sent-push history (Sent x c k) c k in
       omega arith
 
-  module _ (sound : IsSound history) (x : ℕ) (c : Client) (k : Kind) (is : lawful history x c k ≡ true) where
+  module _ (sound : KeepsPayments history) (x : ℕ) (c : Client) (k : Kind) (is : lawful history x c k ≡ true) where
     at_grant : LiveGrant history x c k
     unfolding lawful
     at_grant = live-grant history x c k (and_parts (live history x c k) (leb (earliest history c k) x) is).0
@@ -164,7 +148,7 @@ module _ (history : List Record) where
           in_range = paced.in_range;
           period = omega (arith, p, first);
           in_time = on_time;
-          by_table = table_moment-sent x c k;
+          by_last = last_sent-own x c k;
           held = λ y from to. held_at-push c k g.log y history (Sent x c k) (λ own. absurd (false≢true own))
               (paced.held y (omega (arith, p, first, from)) (omega (arith, to, on_time, g.before)));
         }
@@ -218,7 +202,7 @@ module _ (history : List Record) where
       }
 
   -- after a grant
-  paced-granted : IsSound history → (n : ℕ) (c : Client) (k : Kind) (l : ℤ) (u : ℕ) → MayFollow history (Granted n c k l u) → IsPaced (history ++ Granted n c k l u ∷ []) c k l u
+  paced-granted : KeepsPayments history → (n : ℕ) (c : Client) (k : Kind) (l : ℤ) (u : ℕ) → MayFollow history (Granted n c k l u) → IsPaced (history ++ Granted n c k l u ∷ []) c k l u
   paced-granted sound n c k l u may = at (continues (Granted n c k l u) (last_decision history c k)) refl
     where
       r : Record
@@ -258,13 +242,14 @@ module _ (history : List Record) where
             paid = all_payments (λ p. same_lease c k p.client p.kind ≡ true → p.end + period_of l ≤ earliest (history ++ Granted n c k l u ∷ []) c k) history (Granted n c k l u)
                 (All-weaker (IsSettledAny history) (λ p. same_lease c k p.client p.kind ≡ true → p.end + period_of l ≤ earliest (history ++ Granted n c k l u ∷ []) c k)
                 (λ p was own.
-                let here : table_moment history (table_of c) ≡ table_moment history (table_of p.client) = ap (λ d. table_moment history (table_of d)) (same_lease-true c k p.client p.kind own).0 in
-                omega (arith, was.1.in_time, was.1.by_table, here, may.0, next)) (payments history) sound.settled)
+                let is : (c ≡ p.client) × (k ≡ p.kind) = same_lease-true c k p.client p.kind own in
+                let here : last_sent history c k ≡ last_sent history p.client p.kind = ap (λ d. last_sent history d k) is.0 ∙ ap (λ j. last_sent history p.client j) is.1 in
+                omega (arith, was.1.in_time, was.1.by_last, here, may.0, next)) (payments history) sound.settled)
                 (λ x d j e own. no_message _ x d j e);
           }
 
   -- each record that may follow keeps all of it
-  pub sound-push : (r : Record) → MayFollow history r → IsSound history → IsSound (history ++ r ∷ [])
+  pub sound-push : (r : Record) → MayFollow history r → KeepsPayments history → KeepsPayments (history ++ r ∷ [])
   sound-push r may sound =
       record {
         paced = λ c k n l u last. by_decision c k n l u (decides c k r) refl (sym (last_pushed history r c k) ∙ last);
@@ -289,53 +274,45 @@ module _ (history : List Record) where
       by_decision c k n l u false other is = by_concern c k n l u (concerns c k r) refl other is
 
 nothing_last : (c : Client) (k : Kind) (n : ℕ) (l : ℤ) (u : ℕ) → last_decision [] c k ≡ Some (Granted n c k l u) → IsPaced [] c k l u
-unfolding last_decision trail
+unfolding last_decision lease_records
 nothing_last c k n l u e = absurd (cc)
 
-nothing-sound : IsSound []
+nothing-sound : KeepsPayments []
 unfolding payments payments_after
 nothing-sound = record { paced = nothing_last; settled = All-nil (IsSettledAny []); apart = λ i j d before within. absurd (omega arith) }
-
-pub sound-history : (config : Config) (events : List (ℕ × Event)) → IsSound (history config events)
-sound-history = by_records IsSound nothing-sound (λ before r may sound. sound-push before r may sound)
-
--- the range of a logarithm, as a test and as a fact
-to_T : (b : Bool) → b ≡ true → T b
-to_T true e = tt
-to_T false e = absurd (false≢true e)
-
-log_range : (k : Kind) (l : ℤ) → is_log_of k l ≡ true → IsLogOf k l
-log_range k l e =
-    let parts : (int_le (least_log k) l ≡ true) × (int_le l (pos 4) ≡ true) = and_parts (int_le (least_log k) l) (int_le l (pos 4)) e in
-    (record { le = to_T (int_le (least_log k) l) parts.0 }, record { le = to_T (int_le l (pos 4)) parts.1 })
 
 from_settled : (history : List Record) (l : ℤ) (p : Payment) → IsSettled history l p → IsPaid history l p
 from_settled history l p is = record { in_range = log_range p.kind l is.in_range; period = is.period; in_time = is.in_time; held = is.held }
 
-pub payments-paid : (config : Config) (events : List (ℕ × Event)) → All (λ p. (l : ℤ) × IsPaid (history config events) l p) (payments (history config events))
-payments-paid config events =
-    All-weaker (IsSettledAny (history config events)) (λ p. (l : ℤ) × IsPaid (history config events) l p)
-    (λ p is. (is.0, from_settled (history config events) is.0 p is.1)) (payments (history config events)) (sound-history config events).settled
+-- what each record of a list has of those before it pays for all
+module _ (history : List Record) (follow : AllMayFollow [] history) where
+  keeps-payments : KeepsPayments history
+  keeps-payments = by_following KeepsPayments (λ h r may was. sound-push h r may was) [] history follow nothing-sound
 
--- a message is paid at the logarithm of the grant that is live at it
-pub message-paid : (config : Config) (events : List (ℕ × Event)) (before after : List Record) (x : ℕ) (c : Client) (k : Kind) → history config events ≡ before ++ Sent x c k ∷ after →
-    (n : ℕ) × (l : ℤ) × (u : ℕ) × (last_decision before c k ≡ Some (Granted n c k l u)) × (x < u) × IsPaid (history config events) l (payment before x c k)
-message-paid config events before after x c k is =
-    let all : AllMayFollow [] (before ++ Sent x c k ∷ after) = subst (λ h. AllMayFollow [] h) is (may-history config events) in
-    let sound : IsSound before = by_following IsSound (λ h r may was. sound-push h r may was) [] before (may-front [] before (Sent x c k ∷ after) all) nothing-sound in
-    let good : lawful before x c k ≡ true = may-at [] before (Sent x c k) after all in
-    let g : LiveGrant before x c k = at_grant before sound x c k good in
-    let rest : AllMayFollow (before ++ Sent x c k ∷ []) after = (may-rest [] before (Sent x c k ∷ after) all).1 in
-    let kept : IsSettled ((before ++ Sent x c k ∷ []) ++ after) g.log (payment before x c k)
-    = by_following (λ h. IsSettled h g.log (payment before x c k)) (λ h r may was. settled-kept h r may g.log (payment before x c k) was) (before ++ Sent x c k ∷ []) after rest (new-settled before sound x c k good) in (
-      g.start,
-      g.log,
-      g.until,
-      g.last,
-      g.before,
-      from_settled (history config events) g.log (payment before x c k)
-          (subst (λ h. IsSettled h g.log (payment before x c k)) (append_assoc before (Sent x c k ∷ []) after ∙ sym is) kept),
-    )
+  pub payments-paid : All (λ p. (l : ℤ) × IsPaid history l p) (payments history)
+  payments-paid =
+      All-weaker (IsSettledAny history) (λ p. (l : ℤ) × IsPaid history l p)
+      (λ p is. (is.0, from_settled history is.0 p is.1)) (payments history) keeps-payments.settled
 
-pub payments-apart : (config : Config) (events : List (ℕ × Event)) → AllPairs IsBefore (payments (history config events))
-payments-apart config events = (sound-history config events).apart
+  pub payments-apart : AllPairs IsBefore (payments history)
+  payments-apart = keeps-payments.apart
+
+  -- a message is paid at the logarithm of the grant that is live at it
+  pub message-paid : (before after : List Record) (x : ℕ) (c : Client) (k : Kind) → history ≡ before ++ Sent x c k ∷ after →
+      (n : ℕ) × (l : ℤ) × (u : ℕ) × (last_decision before c k ≡ Some (Granted n c k l u)) × (x < u) × IsPaid history l (payment before x c k)
+  message-paid before after x c k is =
+      let all : AllMayFollow [] (before ++ Sent x c k ∷ after) = subst (λ h. AllMayFollow [] h) is follow in
+      let sound : KeepsPayments before = by_following KeepsPayments (λ h r may was. sound-push h r may was) [] before (may-front [] before (Sent x c k ∷ after) all) nothing-sound in
+      let good : lawful before x c k ≡ true = may-at [] before (Sent x c k) after all in
+      let g : LiveGrant before x c k = at_grant before sound x c k good in
+      let rest : AllMayFollow (before ++ Sent x c k ∷ []) after = (may-rest [] before (Sent x c k ∷ after) all).1 in
+      let kept : IsSettled ((before ++ Sent x c k ∷ []) ++ after) g.log (payment before x c k)
+      = by_following (λ h. IsSettled h g.log (payment before x c k)) (λ h r may was. settled-kept h r may g.log (payment before x c k) was) (before ++ Sent x c k ∷ []) after rest (new-settled before sound x c k good) in (
+        g.start,
+        g.log,
+        g.until,
+        g.last,
+        g.before,
+        from_settled history g.log (payment before x c k)
+            (subst (λ h. IsSettled h g.log (payment before x c k)) (append_assoc before (Sent x c k ∷ []) after ∙ sym is) kept),
+      )

@@ -6,9 +6,12 @@ use Rattle.ptu_history.specs.Client.{table_of}
 use Rattle.ptu_history.specs.History.{Record, Granted, Short, Ended, Capacity, Shed, Looked, Sent, moment_of}
 use Rattle.ptu_history.specs.Moments.{book_moment, book_part, is_of_table, table_moment, table_part}
 use Rattle.ptu_history.specs.Live.{Grant}
-use Rattle.ptu_history.specs.Verdict as on
-use Rattle.ptu_history.specs.Verdict.{Config, Verdict, verdict}
-use Rattle.ptu_history.specs.Step.{Event, Request, Cancel, Turn, DelayReq, Resize, Answer, Answered, NoGrant, TooSoon, answer_records, core_moment, core_step, delay_answer, due_grants, history, sent_record, shed_grants, shed_record, step, verdict_records}
+use Rattle.ptu_history.specs.Verdict.{Config, Verdict, verdict, GrantedFor, ShortOf, Outside}
+use Rattle.ptu_history.specs.Events.{Event, Request, Cancel, Turn, DelayReq, Resize, Answer, Answered, NoGrant, TooSoon}
+use Rattle.ptu_history.specs.Turns.{due_grants, sent_record}
+use Rattle.ptu_history.specs.Shedding.{shed_grants, shed_record}
+use Rattle.ptu_history.specs.Step.{answer_records, delay_answer, step, verdict_records}
+use Rattle.ptu_history.specs.Core.{core_moment, core_step, core_history}
 use Rattle.ptu_history.proofs.Lists.{by_push}
 use Rattle.ptu_history.proofs.Histories.{history-event, history-none}
 use Rattle.ptu_history.proofs.Moments.{book_moment-push, book_step_moment-bounds, table_moment-push, table_step_moment-bounds}
@@ -23,9 +26,9 @@ map_at x to is [] = tt
 map_at x to is (g ∷ gs) = (is g, map_at x to is gs)
 
 verdict_at : (x : ℕ) (c : Client) (v : Verdict) → AllAt x (verdict_records x c v)
-verdict_at x c (on.Granted k l seconds until) = (refl, tt)
-verdict_at x c (on.Short k l others rate capacity) = (refl, tt)
-verdict_at x c (on.Outside cause) = tt
+verdict_at x c (GrantedFor k l seconds until) = (refl, tt)
+verdict_at x c (ShortOf k l others rate capacity) = (refl, tt)
+verdict_at x c (Outside cause) = tt
 
 answer_at : (x : ℕ) (c : Client) (a : Answer) → AllAt x (answer_records x c a)
 answer_at x c Answered = (refl, tt)
@@ -81,7 +84,7 @@ core_moment-book history t (Resize capacity) = (book_step_moment-bounds history 
 -- what holds of the empty history and is kept by each event holds of every history
 pub by_events : (config : Config) (P : List Record → Type 0) → P [] →
     ((before : List Record) (t : ℕ) (event : Event) → P before → P (before ++ (core_step config before t event).records)) →
-    (events : List (ℕ × Event)) → P (history config events)
+    (events : List (ℕ × Event)) → P (core_history config events)
 by_events config P start kept events =
-    by_push (λ es. P (history config es)) (subst P (sym (history-none config)) start)
-    (λ es e p. subst P (sym (history-event config es e.0 e.1)) (kept (history config es) e.0 e.1 p)) events
+    by_push (λ es. P (core_history config es)) (subst P (sym (history-none config)) start)
+    (λ es e p. subst P (sym (history-event config es e.0 e.1)) (kept (core_history config es) e.0 e.1 p)) events

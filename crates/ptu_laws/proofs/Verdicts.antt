@@ -5,18 +5,18 @@ use Rattle.ptu_units.specs.declared.kind.Kind.{Kind}
 use Rattle.ptu_units.specs.Log.{rate_of}
 use Rattle.ptu_history.specs.declared.client.Client.{Client}
 use Rattle.ptu_history.specs.History.{Record, capacity_in_force}
-use Rattle.ptu_history.specs.Verdict as on
-use Rattle.ptu_history.specs.Verdict.{Config, Ask, Verdict, granted_seconds, others, profile, verdict, verdict_within}
-use Rattle.ptu_history.specs.Step.{Event, Request, Outcome, Decided, core_moment, core_step, history, history_after, outcomes, outcomes_after}
+use Rattle.ptu_history.specs.Verdict.{Config, Ask, Verdict, granted_seconds, others, profile, verdict, GrantedFor, ShortOf}
+use Rattle.ptu_history.specs.Events.{Event, Request, Outcome, Decided}
+use Rattle.ptu_history.specs.Core.{core_moment, core_step, core_history, history_after, core_outcomes, outcomes_after}
 use Rattle.ptu_history.proofs.Verdicts.{verdict-within}
 use Rattle.ptu_laws.specs.Granted.{is_granted, is_short}
 
 module _ (config : Config) (before : List Record) (x : ℕ) (c : Client) (k : Kind) (ask : Ask) (within : profile ask ≡ Ok k) where
   grant : Verdict
-  grant = on.Granted k ask.log (granted_seconds config ask) (x + granted_seconds config ask * 1000000000)
+  grant = GrantedFor k ask.log (granted_seconds config ask) (x + granted_seconds config ask * 1000000000)
 
   shortage : Verdict
-  shortage = on.Short k ask.log (others before x c k) (rate_of ask.log) (capacity_in_force config.capacity before)
+  shortage = ShortOf k ask.log (others before x c k) (rate_of ask.log) (capacity_in_force config.capacity before)
 
   pub granted_where_room : (is_granted (verdict config before x c ask) ≡ true) ↔ (others before x c k + rate_of ask.log ≤ capacity_in_force config.capacity before)
   unfolding grant shortage
@@ -49,7 +49,7 @@ outcomes_at config before (e ∷ events) t event more =
     (rest.0, ap (λ os. (core_moment before e.0 e.1, (core_step config before e.0 e.1).outcome) ∷ os) rest.1)
 
 pub outcome-at : (config : Config) (events : List (ℕ × Event)) (t : ℕ) (c : Client) (ask : Ask) (more : List (ℕ × Event)) →
-    (later : List (ℕ × Outcome)) × (outcomes config (events ++ (t, Request c ask) ∷ more)
-    ≡ outcomes config events ++ (core_moment (history config events) t (Request c ask), Decided (verdict config (history config events) (core_moment (history config events) t (Request c ask)) c ask)) ∷ later)
-unfolding outcomes history
+    (later : List (ℕ × Outcome)) × (core_outcomes config (events ++ (t, Request c ask) ∷ more)
+    ≡ core_outcomes config events ++ (core_moment (core_history config events) t (Request c ask), Decided (verdict config (core_history config events) (core_moment (core_history config events) t (Request c ask)) c ask)) ∷ later)
+unfolding core_outcomes core_history
 outcome-at config events t c ask more = outcomes_at config [] events t (Request c ask) more

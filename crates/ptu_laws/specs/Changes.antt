@@ -1,6 +1,6 @@
 -- Events that change the capacity (the project's own choice).
 use Rattle.std.specs.Prelude.{ℕ, ◌≤◌, Bool, true, false}
-use Rattle.ptu_history.specs.Step.{Event, Resize}
+use Rattle.ptu_history.specs.Events.{Event, Resize}
 
 -- the event changes the capacity
 abbrev pub is_resize : Event → Bool

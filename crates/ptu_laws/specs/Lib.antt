@@ -2,3 +2,4 @@ pub mod Granted
 pub mod Paid
 pub mod Changes
 pub mod Part
+pub mod Sound

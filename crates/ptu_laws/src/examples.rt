@@ -1,25 +1,42 @@
-//! Short histories, on which the laws show. The function does nothing: its contract is the examples.
+//! Short histories, on which the laws show. The function does nothing: its contract is the
+//! examples.
 
 ghost use Rattle.std.specs.Prelude.{◌≡◌, ℕ, ◌*◌, List, [], ◌∷◌, pos};
-ghost use Rattle.ptu_units.specs.declared.kind.Kind.TheVariants.{Announce};
-ghost use Rattle.ptu_history.specs.History.{Granted, Capacity, Shed};
-ghost use Rattle.ptu_history.specs.Step.{Request, Resize, history};
+ghost use Rattle.ptu_units.specs.declared.kind.Kind.TheVariants.{Announce, Sync};
+ghost use Rattle.ptu_history.specs.History.{Granted, Ended, Capacity, Shed, Sent};
+ghost use Rattle.ptu_history.specs.Events.{Request, Resize};
+ghost use Rattle.ptu_history.specs.Core.{core_history};
 ghost use Rattle.ptu_history.specs.Held.{budget, count, force, held};
-ghost use Rattle.ptu_history.specs.Examples.{ask_of, config_of, first_client, lower_capacity, second_client, seconds, sync_and_turns};
+ghost use Rattle.ptu_history.specs.Examples.{ask_of, config_of, first_client, lower_capacity, second_client, seconds, sync_and_turns, third_client};
+ghost use Rattle.ptu_laws.specs.Sound.{IsSound};
 
 /// What the laws say of short lists of events.
 pub fn examples()
     // a Sync a second at capacity 16, with a turn at each whole second
-    ensures budget_is_used_wholly { let after = history (config_of 16 300) (sync_and_turns (1 ∷ 2 ∷ 3 ∷ 4 ∷ 5 ∷ 6 ∷ 7 ∷ 8 ∷ 9 ∷ 10 ∷ [])) in
+    ensures budget_is_used_wholly { let after = core_history (config_of 16 300)
+        (sync_and_turns (1 ∷ 2 ∷ 3 ∷ 4 ∷ 5 ∷ 6 ∷ 7 ∷ 8 ∷ 9 ∷ 10 ∷ [])) in
         count after (seconds 10) * (16 * 1000000000) ≡ budget 16 after (seconds 10) }
-    ensures turns_backwards_send_one { let after = history (config_of 16 300) (sync_and_turns (10 ∷ 9 ∷ 8 ∷ 7 ∷ 6 ∷ 5 ∷ 4 ∷ 3 ∷ 2 ∷ 1 ∷ [])) in
+    ensures turns_backwards_send_one { let after = core_history (config_of 16 300)
+        (sync_and_turns (10 ∷ 9 ∷ 8 ∷ 7 ∷ 6 ∷ 5 ∷ 4 ∷ 3 ∷ 2 ∷ 1 ∷ [])) in
         count after (seconds 10) ≡ 1 }
-    ensures lower_capacity_sheds_the_newest { history (config_of 16 300)
+    ensures lower_capacity_sheds_the_newest { core_history (config_of 16 300)
         ((0, Request first_client (ask_of Announce (pos 1)))
         ∷ (seconds 1, Request second_client (ask_of Announce (pos 1))) ∷ (seconds 2, Resize 8) ∷ [])
         ≡ Granted 0 first_client Announce (pos 1) (seconds 300)
         ∷ Granted (seconds 1) second_client Announce (pos 1) (seconds 301)
         ∷ Capacity (seconds 2) 8 ∷ Shed (seconds 2) second_client Announce ∷ [] }
-    ensures lower_capacity_is_held_wholly { let after = history (config_of 16 300) lower_capacity in
+    ensures lower_capacity_is_held_wholly { let after = core_history
+        (config_of 16 300) lower_capacity in
         held after (seconds 2) ≡ force 16 after (seconds 2) }
+    // a decision behind a later message of another client of its table
+    ensures sound_beside_another_client { IsSound 32
+        (Granted 0 first_client Sync (pos 0) (seconds 300)
+        ∷ Granted 0 third_client Sync (pos 0) (seconds 300) ∷ Sent (seconds 2) third_client Sync
+        ∷ Ended (seconds 1) first_client Sync ∷ []) }
+    ensures decision_behind_its_own_message { ¬ IsSound 32
+        (Granted 0 first_client Sync (pos 0) (seconds 300) ∷ Sent (seconds 2) first_client Sync
+        ∷ Ended (seconds 1) first_client Sync ∷ []) }
+    ensures message_without_a_grant { ¬ IsSound 32 (Sent 0 first_client Sync ∷ []) }
+    ensures change_that_leaves_too_much { ¬ IsSound 16
+        (Granted 0 first_client Sync (pos 0) (seconds 300) ∷ Capacity (seconds 1) 8 ∷ []) }
 {}

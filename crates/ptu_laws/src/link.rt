@@ -1,21 +1,22 @@
 ghost use Rattle.std.specs.Prelude.{◌≡◌, ℕ, ◌*◌, ◌/◌, ◌^◌, ◌≤◌, List};
 ghost use Rattle.std.specs.List.{All};
 ghost use Rattle.ptu_history.specs.Verdict.{Config};
-ghost use Rattle.ptu_history.specs.Step.{Event, history};
+ghost use Rattle.ptu_history.specs.Events.{Event};
+ghost use Rattle.ptu_history.specs.Core.{core_history};
 ghost use Rattle.ptu_history.specs.Held.{count};
 ghost use Rattle.ptu_laws.specs.Changes.{IsUpTo};
 
 use ptu_units::Moment;
 
-/// The most timing messages that a grandmaster sends up to a moment whose capacity, in sixteenths of a message per
-/// second, is never above this one: what a link has to carry.
+/// The most timing messages that a grandmaster sends up to a moment whose capacity, in sixteenths
+/// of a message per second, is never above this one: what a link has to carry.
 #[tactic(auto, using(crate::proofs::Bounds::count_quotient))]
 pub fn most_messages(capacity: u64, moment: Moment) -> u64
     requires { capacity ≤ 2 ^ 24 }
     ensures value { result ≡ capacity * moment / (16 * 1000000000) }
     ensures most { (config : Config) (events : List (ℕ × Event)) →
         config.capacity ≤ capacity → All (λ e. IsUpTo capacity e.1) events →
-        count (history config events) moment ≤ result }
+        count (core_history config events) moment ≤ result }
 {
     (capacity as u128 * moment.nanos() as u128 / 16_000_000_000) as u64
 }
