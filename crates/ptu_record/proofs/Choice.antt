@@ -5,6 +5,7 @@ use Rattle.std.proofs.lemmas.Bool.Decides.{nat_tests}
 use Rattle.std.specs.Prelude.{slice_index, IsTrue}
 use Rattle.std.specs.List.{list_all, find, range_with_len}
 use Rattle.ptu_record.specs.Lists.{places}
+use Rattle.ptu_record.specs.Quality.{is_usable, level_of}
 use Rattle.ptu_record.specs.Record.{Record}
 use Rattle.ptu_record.specs.SignalFails.{Timeouts}
 use Rattle.ptu_record.specs.Selection.{level, is_better, is_candidate, IsBest, IsSelected, is_best, selected_master}
@@ -192,3 +193,8 @@ pub same_choice : (timeouts : Timeouts) (priorities : List ℕ) (L M : Record) (
 same_choice timeouts priorities L M t u alike levels =
     one_choice timeouts priorities M u (selected_master timeouts priorities L t) (selected_master timeouts priorities M u)
     (carried timeouts priorities L M t u alike levels (selected_master timeouts priorities L t) (selected_is timeouts priorities L t)) (selected_is timeouts priorities M u)
+
+-- ---- which classes may be selected
+
+pub usable_classes : (class : ℕ) → is_usable (level_of class) ≡ (eqb class 84 || eqb class 90 || eqb class 96 || eqb class 104)
+usable_classes class = grind (arith, nat_tests)

@@ -1,15 +1,15 @@
 -- The outage ends of a master's record with one entry more.
-use Rattle.std.proofs.Common.{arith, ◌≡◌, ℕ, ◌+◌, ◌<◌, ◌≤◌, Bool, true, false, cond, not, ◌&&◌, List, [], ◌∷◌, ◌++◌, map, Option, Some, None, refl, ap, sym, ◌∙◌, ltb}
+use Rattle.std.proofs.Common.{arith, ◌≡◌, ℕ, ◌+◌, ◌<◌, ◌≤◌, Bool, true, false, cond, not, ◌&&◌, List, [], ◌∷◌, ◌++◌, map, max, Option, Some, None, refl, ap, sym, subst, ◌∙◌, ltb, inl, inr, ◌⊎◌, append_assoc}
 use Rattle.std.proofs.lemmas.Bool.{ltb-true, ltb-false, lt-ltb, le-ltb}
 use Rattle.std.proofs.lemmas.List.{append-nil}
 use Rattle.std.proofs.lemmas.List.Elements.{filter-append}
 use Rattle.std.specs.List.{list_any, filter, filter_map}
 use Rattle.std.specs.Option.{option_map, option_to_list, unwrap_or}
-use Rattle.ptu_record.specs.Lists.{newest_of, last, neighbours, latest_of, later_of}
-use Rattle.ptu_record.specs.Record.{Entry, Record, Announce, Sync, Resp, Told, Judge, Judged, Asked, Granted, Denied, Cancelled, Probed, Signalled, Stopped, Event}
+use Rattle.ptu_record.specs.Lists.{newest_of, last, maximum, neighbours, latest_of, later_of}
+use Rattle.ptu_record.specs.Record.{Entry, Record, moment_of, Announce, Sync, Resp, Told, Judge, Judged, Asked, Granted, Denied, Cancelled, Probed, Signalled, Stopped, Event}
 use Rattle.ptu_record.specs.SignalFails.{is_unusable, Timeouts, is_lost, announce_moment, sync_moment, resp_moment, judgement, announces, syncs, resps, judgements, late_moments, cleared_moments, outage_ends, is_waiting}
 use Rattle.ptu_record.specs.OutageEnds.{late_at, end_at, is_within}
-use Rattle.ptu_record.proofs.ListLaws.{last-filter_map, beside, neighbours-push, filter_map-push, latest_of-append, latest_of-option, later_of-none, later_of-comm, later_of-assoc, any_within}
+use Rattle.ptu_record.proofs.ListLaws.{last-filter_map, beside, neighbours-push, filter_map-push, latest_of-append, latest_of-option, maximum-append, later_of-none, later_of-comm, later_of-assoc, any_within}
 
 map-append : {A B : Type 0} (f : A → B) (xs ys : List A) → map f (xs ++ ys) ≡ map f xs ++ map f ys
 map-append f [] ys = refl
@@ -61,7 +61,7 @@ delay_none : (delay before : Option ℕ) → delay_part delay before None ≡ No
 delay_none None before = refl
 delay_none (Some timeout) before = refl
 
--- the same for a judge's answers
+-- the same for what a judge finds
 abbrev cleared_at : Option (ℕ × Bool) → ℕ × Bool → Option ℕ
 cleared_at None j = None
 cleared_at (Some i) j = cond (i.1 && not j.1) (Some j.0) None
@@ -189,3 +189,74 @@ is_unusable-push L e = ap (λ o. unwrap_or (option_map (λ (j : ℕ × Bool). j.
     pick : (o : Option (ℕ × Bool)) → unwrap_or (option_map (λ (j : ℕ × Bool). j.1) (newest_of o (last (judgements L)))) false ≡ unwrap_or (option_map (λ (j : ℕ × Bool). j.1) o) (is_unusable L)
     pick None = refl
     pick (Some j) = refl
+
+-- ---- moments that do not fall
+
+cond_some : (b : Bool) (at : ℕ) → (cond b (Some at) None ≡ None) ⊎ (cond b (Some at) None ≡ Some at)
+cond_some true at = inr refl
+cond_some false at = inl refl
+
+late_some : (timeout : ℕ) (o : Option ℕ) (at : ℕ) → (late_at timeout o at ≡ None) ⊎ (late_at timeout o at ≡ Some at)
+late_some timeout None at = inl refl
+late_some timeout (Some before) at = cond_some (ltb (before + timeout) at) at
+
+-- an outage ends at the moment of the entry
+end_at_moment : (timeouts : Timeouts) (L : Record) (e : Entry) → (end_at timeouts L e ≡ None) ⊎ (end_at timeouts L e ≡ Some (moment_of e))
+end_at_moment timeouts L (Announce at master class) = late_some timeouts.announce (last (announces L)) at
+end_at_moment timeouts L (Sync at master number) = late_some timeouts.sync (last (syncs L)) at
+end_at_moment timeouts L (Resp at master number) = delayed timeouts.delay
+  where
+    delayed : (delay : Option ℕ) → (unwrap_or (option_map (λ timeout. late_at timeout (last (resps L)) at) delay) None ≡ None)
+        ⊎ (unwrap_or (option_map (λ timeout. late_at timeout (last (resps L)) at) delay) None ≡ Some at)
+    delayed None = inl refl
+    delayed (Some timeout) = late_some timeout (last (resps L)) at
+end_at_moment timeouts L (Judged at master now) = cond_some (is_unusable L && not now) at
+end_at_moment timeouts L (Told at master now) = inl refl
+end_at_moment timeouts L (Judge at master rule) = inl refl
+end_at_moment timeouts L (Asked at master kind) = inl refl
+end_at_moment timeouts L (Granted at master kind seconds) = inl refl
+end_at_moment timeouts L (Denied at master kind) = inl refl
+end_at_moment timeouts L (Cancelled at master kind) = inl refl
+end_at_moment timeouts L (Probed at master) = inl refl
+end_at_moment timeouts L (Signalled at master) = inl refl
+end_at_moment timeouts L (Stopped at) = inl refl
+end_at_moment timeouts L (Event at) = inl refl
+
+-- no outage ends after the greatest moment of the record
+pub record IsUpTo (timeouts : Timeouts) (L : Record) : Type 0 where
+  pub up_to : unwrap_or (latest_of (outage_ends timeouts L)) 0 ≤ maximum (map moment_of L)
+
+up_to_nil : (timeouts : Timeouts) → IsUpTo timeouts []
+up_to_nil timeouts = record { up_to = subst (λ o. unwrap_or o 0 ≤ 0) (sym (none timeouts.delay)) (omega arith) }
+  where
+    none : (delay : Option ℕ) → latest_of ([] ++ [] ++ unwrap_or (option_map (λ timeout. late_moments timeout []) delay) [] ++ []) ≡ None
+    none None = refl
+    none (Some timeout) = refl
+
+up_to_push : (timeouts : Timeouts) (L : Record) (e : Entry) → IsUpTo timeouts L → IsUpTo timeouts (L ++ e ∷ [])
+up_to_push timeouts L e h = record {
+  up_to = subst (λ o. unwrap_or o 0 ≤ maximum (map moment_of (L ++ e ∷ []))) (sym (latest_end_more timeouts L e))
+      (joined (latest_of (outage_ends timeouts L)) (end_at timeouts L e) (maximum (map moment_of L)) (maximum (map moment_of (L ++ e ∷ []))) h.up_to (end_at_moment timeouts L e)
+      (ap maximum (map-append moment_of L (e ∷ [])) ∙ maximum-append (map moment_of L) (moment_of e ∷ [])));
+}
+  where
+    joined : (a b : Option ℕ) (g n : ℕ) → unwrap_or a 0 ≤ g → (b ≡ None) ⊎ (b ≡ Some (moment_of e)) → n ≡ max g (max (moment_of e) 0) → unwrap_or (later_of a b) 0 ≤ n
+    joined a b g n below (inl none) is = rw none (subst (λ o. unwrap_or o 0 ≤ n) (sym (later_of-none a)) (omega arith))
+    joined None b g n below (inr some) is = rw some (omega arith)
+    joined (Some a) b g n below (inr some) is = rw some (omega arith)
+
+up_to_more : (timeouts : Timeouts) (M L : Record) → IsUpTo timeouts L → IsUpTo timeouts (L ++ M)
+up_to_more timeouts [] L h = subst (IsUpTo timeouts) (sym (append-nil L)) h
+up_to_more timeouts (e ∷ M) L h = subst (IsUpTo timeouts) (append_assoc L (e ∷ []) M) (up_to_more timeouts M (L ++ e ∷ []) (up_to_push timeouts L e h))
+
+-- an entry that is not before the others brings the greatest end, if it brings one
+pub latest_end_in_order : (timeouts : Timeouts) (L : Record) (e : Entry) → maximum (map moment_of L) ≤ moment_of e
+    → latest_of (outage_ends timeouts (L ++ e ∷ [])) ≡ newest_of (end_at timeouts L e) (latest_of (outage_ends timeouts L))
+latest_end_in_order timeouts L e above =
+    latest_end_more timeouts L e
+    ∙ newest (latest_of (outage_ends timeouts L)) (end_at timeouts L e) (maximum (map moment_of L)) (up_to_more timeouts L [] (up_to_nil timeouts)).up_to above (end_at_moment timeouts L e)
+  where
+    newest : (a b : Option ℕ) (g : ℕ) → unwrap_or a 0 ≤ g → g ≤ moment_of e → (b ≡ None) ⊎ (b ≡ Some (moment_of e)) → later_of a b ≡ newest_of b a
+    newest a b g below not_before (inl none) = rw none (later_of-none a)
+    newest None b g below not_before (inr some) = rw some refl
+    newest (Some a) b g below not_before (inr some) = rw some (ap Some (omega arith))

@@ -1,11 +1,11 @@
--- What a judge answers, with one entry more.
-use Rattle.std.proofs.Common.{◌≡◌, ℕ, Bool, true, false, cond, [], ◌∷◌, ◌++◌, Option, Some, None, refl, ap, ◌∙◌}
+-- What a judge finds, with one entry more.
+use Rattle.std.proofs.Common.{◌≡◌, Bool, true, false, cond, [], ◌∷◌, ◌++◌, Option, Some, None, refl, ap, ◌∙◌}
 use Rattle.std.specs.List.{filter_map}
 use Rattle.std.specs.Option.{option_to_list, unwrap_or}
 use Rattle.ptu_record.specs.declared.rule.Rule.{Rule}
 use Rattle.ptu_record.specs.Lists.{last, since_last, newest_of}
-use Rattle.ptu_record.specs.Record.{Entry, Record, record_of}
-use Rattle.ptu_record.specs.Judges.{is_judge, rule_given, told_flag, sync_number, rule_in_force, flag, numbers, answer, IsAnswer, IsJudgedAfter, judged_after}
+use Rattle.ptu_record.specs.Record.{Entry, Record}
+use Rattle.ptu_record.specs.Judges.{is_judge, rule_given, told_flag, sync_number, rule_in_force, flag, numbers, assessment, IsAssessment}
 use Rattle.ptu_record.proofs.ListLaws.{last-filter_map, filter_map-push, since_last-push}
 
 newest_of-or : {A : Type 0} (new old : Option A) (x : A) → unwrap_or (newest_of new old) x ≡ unwrap_or new (unwrap_or old x)
@@ -30,16 +30,12 @@ flag-push L e = ap (λ w. unwrap_or (last (filter_map told_flag w)) false) (sinc
     pick true = refl
     pick false = ap (λ o. unwrap_or o false) (last-filter_map told_flag (since_last is_judge L) e) ∙ newest_of-or (told_flag e) (last (filter_map told_flag (since_last is_judge L))) false
 
--- what the rule in force answers is an answer
-pub answer_is : (opening : Option Rule) (rule : Rule) (L : Record) → rule_in_force opening L ≡ Some rule → IsAnswer opening L (answer rule L)
-answer_is opening rule L is = rw is refl
+-- what the rule in force finds may be found, and by a judge of a rule nothing else
+pub ruled : (opening : Option Rule) (rule : Rule) (L : Record) → rule_in_force opening L ≡ Some rule → IsAssessment opening L (assessment rule L)
+ruled opening rule L is = rw is refl
 
-pub judged_after_is : (opening : Option Rule) (rule : Rule) (m : ℕ) (L : Record) (e : Entry) → rule_in_force opening (record_of m (L ++ e ∷ [])) ≡ Some rule
-    → IsJudgedAfter opening m L e (judged_after rule m L e)
-judged_after_is opening rule m L e is = (answer rule (record_of m (L ++ e ∷ [])), answer_is opening rule (record_of m (L ++ e ∷ [])) is, refl)
+pub one_assessment : (opening : Option Rule) (rule : Rule) (L : Record) (unusable : Bool) → rule_in_force opening L ≡ Some rule → IsAssessment opening L unusable → unusable ≡ assessment rule L
+one_assessment opening rule L unusable is h = rw is at h
 
-pub answer_of : (opening : Option Rule) (rule : Rule) (L : Record) (unusable : Bool) → rule_in_force opening L ≡ Some rule → IsAnswer opening L unusable → unusable ≡ answer rule L
-answer_of opening rule L unusable is h = rw is at h
-
-pub any_answer : (opening : Option Rule) (L : Record) (unusable : Bool) → rule_in_force opening L ≡ None → IsAnswer opening L unusable
-any_answer opening L unusable is = rw is tt
+pub any_assessment : (opening : Option Rule) (L : Record) (unusable : Bool) → rule_in_force opening L ≡ None → IsAssessment opening L unusable
+any_assessment opening L unusable is = rw is tt

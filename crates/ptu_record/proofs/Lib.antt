@@ -6,3 +6,6 @@ pub mod Shown
 pub mod Others
 pub mod Judgements
 pub mod Requests
+pub mod KindStates
+pub mod StepParts
+pub mod OwnParts

@@ -1,6 +1,7 @@
 -- What concerns one master, and the moment of an event, with one entry more.
-use Rattle.std.proofs.Common.{List, eqb, ◌≢◌, ◌≡◌, ℕ, ◌≤◌, max, Bool, true, false, cond, [], ◌∷◌, ◌++◌, map, refl, ap, sym, ◌∙◌, arith}
-use Rattle.std.specs.List.{AllByRecursion}
+use Rattle.std.proofs.Common.{List, eqb, ◌≢◌, ◌≡◌, ℕ, ◌≤◌, max, Bool, true, false, cond, [], ◌∷◌, ◌++◌, map, refl, ap, sym, subst, ◌∙◌, arith}
+use Rattle.std.specs.List.{AllByRecursion, flat_map}
+use Rattle.std.proofs.lemmas.Grind.{flat_map-append}
 use Rattle.std.proofs.lemmas.Bool.{ne_eqb, false≢true, eqb-true}
 use Rattle.std.proofs.lemmas.List.{append-nil}
 use Rattle.std.proofs.lemmas.List.Elements.{filter-append}
@@ -9,7 +10,8 @@ use Rattle.ptu_record.specs.Record.{Entry, Record, Announce, Sync, Resp, Told, J
 use Rattle.ptu_units.specs.declared.kind.Kind.{Kind}
 use Rattle.ptu_record.specs.declared.wants.Wants.{Wants}
 use Rattle.ptu_record.specs.Asks.{due_kinds}
-use Rattle.ptu_record.specs.Tick.{is_stop, asks_at, is_probe_due, requests_to}
+use Rattle.ptu_record.specs.Grants.{live_kinds}
+use Rattle.ptu_record.specs.Tick.{Requests, Cancels, DelayReq, sending_entries, one_signaling, is_stop, is_probe_due, signaling_number, delay_req_number, requests_to, cancels_to}
 use Rattle.ptu_record.proofs.ListLaws.{maximum-append}
 
 pub record_of-push : (m : ℕ) (L : Record) (e : Entry) → record_of m (L ++ e ∷ []) ≡ cond (concerns m e) (record_of m L ++ e ∷ []) (record_of m L)
@@ -72,16 +74,26 @@ asked_one : (m n x : ℕ) (ks : List Kind) → eqb n m ≡ false → AllByRecurs
 asked_one m n x [] other = tt
 asked_one m n x (k ∷ ks) other = (other, asked_one m n x ks other)
 
-asks_one : (m n x : ℕ) (ks : List Kind) → eqb n m ≡ false → AllByRecursion (λ e. concerns m e ≡ false) (asks_at x n ks)
-asks_one m n x [] other = tt
-asks_one m n x (k ∷ ks) other = (other, asked_one m n x (k ∷ ks) other)
+asks_one : (m n number x : ℕ) (ks : List Kind) → eqb n m ≡ false → AllByRecursion (λ e. concerns m e ≡ false) (flat_map (sending_entries x) (one_signaling (Requests n number) ks))
+asks_one m n number x [] other = tt
+asks_one m n number x (k ∷ ks) other = all-append m (Signalled x n ∷ map (Asked x n) (k ∷ ks)) [] (other, asked_one m n x (k ∷ ks) other) tt
 
-probe_one : (m n x : ℕ) (b : Bool) → eqb n m ≡ false → AllByRecursion (λ e. concerns m e ≡ false) (cond b (Probed x n ∷ []) [])
-probe_one m n x true other = (other, tt)
-probe_one m n x false other = tt
+probe_one : (m n number x : ℕ) (b : Bool) → eqb n m ≡ false → AllByRecursion (λ e. concerns m e ≡ false) (flat_map (sending_entries x) (cond b (DelayReq n number ∷ []) []))
+probe_one m n number x true other = (other, tt)
+probe_one m n number x false other = tt
 
-pub requests_one : (wants : Wants) (m n : ℕ) (L : Record) (x : ℕ) → m ≢ n → AllByRecursion (λ e. concerns m e ≡ false) (requests_to wants L x n)
+cancels_one : (m n number x : ℕ) (ks : List Kind) → eqb n m ≡ false → AllByRecursion (λ e. concerns m e ≡ false) (flat_map (sending_entries x) (one_signaling (Cancels n number) ks))
+cancels_one m n number x [] other = tt
+cancels_one m n number x (k ∷ ks) other = (other, tt)
+
+pub requests_one : (wants : Wants) (m n : ℕ) (L : Record) (x : ℕ) → m ≢ n → AllByRecursion (λ e. concerns m e ≡ false) (flat_map (sending_entries x) (requests_to wants L x n))
 requests_one wants m n L x differ =
     let other : eqb n m ≡ false = ne_eqb n m (λ e. differ (sym e)) in
-    all-append m (asks_at x n (due_kinds wants (record_of n L) x)) (cond (is_probe_due wants (record_of n L) x) (Probed x n ∷ []) [])
-    (asks_one m n x (due_kinds wants (record_of n L) x) other) (probe_one m n x (is_probe_due wants (record_of n L) x) other)
+    let asks = one_signaling (Requests n (signaling_number (record_of n L))) (due_kinds wants (record_of n L) x) in
+    let probes = cond (is_probe_due wants (record_of n L) x) (DelayReq n (delay_req_number (record_of n L)) ∷ []) [] in
+    subst (AllByRecursion (λ e. concerns m e ≡ false)) (sym (flat_map-append (sending_entries x) asks probes))
+    (all-append m (flat_map (sending_entries x) asks) (flat_map (sending_entries x) probes)
+    (asks_one m n (signaling_number (record_of n L)) x (due_kinds wants (record_of n L) x) other) (probe_one m n (delay_req_number (record_of n L)) x (is_probe_due wants (record_of n L) x) other))
+
+pub cancels_to_one : (m n : ℕ) (L : Record) (x : ℕ) → m ≢ n → AllByRecursion (λ e. concerns m e ≡ false) (flat_map (sending_entries x) (cancels_to L x n))
+cancels_to_one m n L x differ = cancels_one m n (signaling_number (record_of n L)) x (live_kinds (record_of n L) x) (ne_eqb n m (λ e. differ (sym e)))

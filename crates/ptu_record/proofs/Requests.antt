@@ -15,7 +15,7 @@ use Rattle.ptu_record.specs.Record.{record_of, Entry, Record, Asked, Granted, De
 use Rattle.ptu_record.specs.Wants.{is_kind}
 use Rattle.ptu_record.specs.Grants.{grant_change, grant_changes, grant, is_live, is_live_at, fresh_start, run_start}
 use Rattle.ptu_record.specs.Asks.{ask_moment, is_answer, refusal_moment, open_asks, refusals, pause, ask_gate, refusal_gate, renewal_gate, gates, gate, is_due}
-use Rattle.ptu_record.specs.Tick.{is_signalled, is_probed, signaling_number, delay_req_number, is_stop, tick_requests}
+use Rattle.ptu_record.specs.Tick.{is_signalled, is_probed, signaling_number, delay_req_number, is_stop, tick_sendings}
 use Rattle.ptu_record.proofs.Others.{record_of-push}
 use Rattle.ptu_record.proofs.ListLaws.{last-push, last-filter_map, filter_map-push, since_last-push}
 
@@ -43,7 +43,7 @@ pub grant_stopped : (k : Kind) (L : Record) (at : ℕ) → grant k (L ++ Stopped
 grant_stopped k L at = grant-push k L (Stopped at)
 
 -- behind a first member the last one is there
-last_or-some : {A : Type 0} (a : A) (xs : List A) → last_or (Some a) xs ≡ Some (unwrap_or (last_or None xs) a)
+pub last_or-some : {A : Type 0} (a : A) (xs : List A) → last_or (Some a) xs ≡ Some (unwrap_or (last_or None xs) a)
 last_or-some a [] = refl
 last_or-some a (x ∷ xs) = last_or-some x xs ∙ ap (λ o. Some (unwrap_or o a)) (sym (last_or-some x xs))
 
@@ -172,7 +172,7 @@ gates_kept k L e t no_change no_answer no_ask no_refusal = simp (same_grant, sam
 
 -- ---- the gate
 
-due_of : (t : ℕ) (xs : List ℕ) → leb (maximum xs) t ≡ list_all (λ g. leb g t) xs
+pub due_of : (t : ℕ) (xs : List ℕ) → leb (maximum xs) t ≡ list_all (λ g. leb g t) xs
 due_of t [] = le-leb 0 t (omega arith)
 due_of t (x ∷ xs) = both x (maximum xs) t ∙ ap (λ b. leb x t && b) (due_of t xs)
   where
@@ -254,7 +254,7 @@ delay_req_number-push L e = ap (λ n. n % 65536) (count-push is_probed L e) ∙ 
 
 -- ---- after the stop
 
-pub silent : (wants : Wants) (masters : ℕ) (L M : Record) (at t : ℕ) → tick_requests wants masters (L ++ Stopped at ∷ M) t ≡ []
+pub silent : (wants : Wants) (masters : ℕ) (L M : Record) (at t : ℕ) → tick_sendings wants masters (L ++ Stopped at ∷ M) t ≡ []
 silent wants masters L M at t = cond-true _ _ _ (list_any-append is_stop L (Stopped at ∷ M) ∙ or_right (list_any is_stop L) true refl)
 
 pub stopped_everywhere : (k : Kind) (m : ℕ) (L : Record) (at t : ℕ) → is_live k (record_of m (L ++ Stopped at ∷ [])) t ≡ false

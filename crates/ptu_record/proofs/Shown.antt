@@ -7,7 +7,7 @@ use Rattle.std.specs.List.{range_with_len, fold, AllByRecursion}
 use Rattle.ptu_record.specs.Lists.{maximum, places}
 use Rattle.ptu_record.specs.declared.rule.Rule.TheVariants.{Gap}
 use Rattle.ptu_record.specs.Record.{Record}
-use Rattle.ptu_record.specs.Judges.{answer, flag, numbers, distance, first_position, next_positions, positions, is_clear, clear_places}
+use Rattle.ptu_record.specs.Judges.{assessment, flag, numbers, distance, first_position, next_positions, positions, is_clear, clear_places}
 use Rattle.ptu_record.specs.Marks.{Marks, fresh_marks, marks_up, marks_at, marks_after, clear_count, marks_of}
 use Rattle.ptu_record.proofs.Positions.{first_clear, clear_again_of, clear_ahead_of, clear_behind_of, clear_afresh_of, top_ahead_of, top_behind_of, top_afresh_of, ahead_arrives, first_number, IsPlaced, placed_is, positions_are, positions-push}
 
@@ -196,5 +196,5 @@ clear_count_is (p ∷ ps) = counted (is_clear (p ∷ ps)) 0 16 ∙ sym (length-f
     counted : (test : ℕ → Bool) (a n : ℕ) → count_by (λ mark. not mark) (map (λ i. not (test i)) (range_with_len a n)) ≡ count_by test (range_with_len a n)
     counted test a n = counted_from test a n 0
 
-pub answer_by_marks : (n : ℕ) (L : Record) → answer (Gap n) L ≡ (flag L || leb n (clear_count (marks_of (positions (numbers L)))))
-answer_by_marks n L = ap (λ c. flag L || leb n c) (sym (clear_count_is (positions (numbers L))))
+pub assessment_by_marks : (n : ℕ) (L : Record) → assessment (Gap n) L ≡ (flag L || leb n (clear_count (marks_of (positions (numbers L)))))
+assessment_by_marks n L = ap (λ c. flag L || leb n c) (sym (clear_count_is (positions (numbers L))))

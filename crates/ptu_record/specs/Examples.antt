@@ -1,14 +1,14 @@
 -- Records to compute on: what slaves took and did in some small cases. Moments are in nanoseconds.
-use Rattle.std.specs.Prelude.{ℕ, ◌+◌, ◌*◌, true, false, List, [], ◌∷◌, ◌++◌, map, filter, fold, Option, Some, None, nat_le, pos}
+use Rattle.std.specs.Prelude.{ℕ, ◌+◌, ◌*◌, true, false, not, List, [], ◌∷◌, ◌++◌, map, filter, fold, replicate, Option, Some, None, is_some, nat_le, ℤ, pos}
 use Rattle.std.specs.List.{range_with_len}
 use Rattle.ptu_units.specs.declared.kind.Kind.{Kind}
 use Rattle.ptu_record.specs.declared.rule.Rule.TheVariants.{Flag, Gap}
 use Rattle.ptu_record.specs.declared.wants.Wants.{Wants}
 use Rattle.ptu_record.specs.Record.{Record, Announce, Sync, Resp, Told, Judge, Judged, Asked, Granted, Denied, Cancelled, Probed, Signalled, moment_of}
-use Rattle.ptu_record.specs.Judges.{judged_after}
+use Rattle.ptu_record.specs.SignalFails.{Timeouts, judgement}
 use Rattle.ptu_record.specs.Selection.{selected_master}
 use Rattle.ptu_record.specs.Wants.{timeouts_of}
-use Rattle.ptu_record.specs.Tick.{tick_requests}
+use Rattle.ptu_record.specs.Step.{SlaveEvent, SlaveSetup, TakeSync, ReplaceJudge, Tick, slave_step}
 
 -- a second in nanoseconds
 abbrev pub second : ℕ
@@ -61,13 +61,21 @@ tied_masters = message_pair 0 0 84 ++ message_pair 0 1 84 ++ Announce second 0 1
 
 -- ---- a judge of gaps
 
--- an Announce and a Sync of number 0, then Syncs of 5 and 3, each with the answer of a judge who bears three clear places and no more
+-- the record once these events, each handed its moment, have come to a slave whose judges have rules
+abbrev pub record_after : SlaveSetup → Record → List (ℕ × SlaveEvent) → Record
+record_after setup L events = fold (λ M p. M ++ (slave_step setup M p.0 p.1).entries) L events
+
+-- one master, whose judge bears three clear places and no more
+abbrev pub gap_setup : SlaveSetup
+gap_setup = record { wants = slow_wants; openings = Some (Gap 4) ∷ [] }
+
+-- an Announce and a Sync of number 0, then Syncs of 5 and 3
 abbrev pub gaps : Record
-gaps = fold (judged_after (Gap 4) 0) (Announce 0 0 84 ∷ []) (Sync 0 0 0 ∷ Sync second 0 5 ∷ Sync (2 * second) 0 3 ∷ [])
+gaps = record_after gap_setup (Announce 0 0 84 ∷ []) ((0, TakeSync 0 0) ∷ (second, TakeSync 0 5) ∷ (2 * second, TakeSync 0 3) ∷ [])
 
 -- at the second Sync a judge takes over who asks the operator alone
 abbrev pub replaced_judge : Record
-replaced_judge = judged_after Flag 0 (record_until second gaps) (Judge second 0 (Some Flag))
+replaced_judge = record_after gap_setup (record_until second gaps) ((second, ReplaceJudge 0 (Some Flag)) ∷ [])
 
 -- the choice at t without waiting
 abbrev pub prompt_choice : Record → ℕ → Option ℕ
@@ -79,9 +87,40 @@ prompt_choice L t = selected_master (timeouts_of slow_wants 3 3 3 0) (1 ∷ []) 
 abbrev pub plain_wants : Wants
 plain_wants = record { announce = pos 1; sync = pos 0; delay = None; seconds = 300 }
 
--- the record once ticks at these moments have sent to one master that never answers
+-- Announce and Sync at logarithm 4, Delay_Resp at logarithm 0
+abbrev pub measuring_wants : Wants
+measuring_wants = record { announce = pos 4; sync = pos 4; delay = Some (pos 0); seconds = 300 }
+
+-- slaves with so many masters, whose judges ask the operator alone
+abbrev pub plain_setup : ℕ → SlaveSetup
+plain_setup masters = record { wants = plain_wants; openings = replicate masters (Some Flag) }
+
+abbrev pub measuring_setup : ℕ → SlaveSetup
+measuring_setup masters = record { wants = measuring_wants; openings = replicate masters (Some Flag) }
+
+-- one judge asks the operator alone, and the other bears no clear place
+abbrev pub two_judges : SlaveSetup
+two_judges = record { wants = plain_wants; openings = Some Flag ∷ Some (Gap 1) ∷ [] }
+
+-- Delay_Resp at another logarithm
+abbrev pub measuring_at : ℤ → Wants
+measuring_at log = record { announce = pos 4; sync = pos 4; delay = Some log; seconds = 300 }
+
+-- three periods of each kind as timeouts, 6 s for Announce and 3 s for Sync, and a minute of waiting
+abbrev pub prompt_timeouts : Timeouts
+prompt_timeouts = timeouts_of plain_wants 3 3 3 60
+
+-- the moments of the first six asks without an answer
+abbrev pub six_asks : List ℕ
+six_asks = 0 ∷ second ∷ 2 * second ∷ 62 * second ∷ 63 * second ∷ 64 * second ∷ []
+
+-- what a tick handed t enters after the record, but for what the judges find
+abbrev pub tick_requests : SlaveSetup → Record → ℕ → Record
+tick_requests setup L t = filter (λ e. not (is_some (judgement e))) (slave_step setup L t Tick).entries
+
+-- the record once ticks at these moments have come to a slave whose one master never answers
 abbrev pub ticked_record : List ℕ → Record
-ticked_record moments = fold (λ L t. L ++ tick_requests plain_wants 1 L t) [] moments
+ticked_record moments = filter (λ e. not (is_some (judgement e))) (record_after (plain_setup 1) [] (map (λ t. (t, Tick)) moments))
 
 -- asked at 0 and answered a second later with 300 s, or with none
 abbrev pub answered_ask : Record
@@ -91,10 +130,6 @@ abbrev pub denied_ask : Record
 denied_ask = Asked 0 0 Kind.Announce ∷ Denied second 0 Kind.Announce ∷ []
 
 -- ---- Delay_Req
-
--- Announce and Sync at logarithm 4, Delay_Resp at logarithm 0
-abbrev pub measuring_wants : Wants
-measuring_wants = record { announce = pos 4; sync = pos 4; delay = Some (pos 0); seconds = 300 }
 
 -- Delay_Resp is granted for a minute at 0 and renewed at 30 s; then it is cancelled at 40 s and granted again at 50 s
 abbrev pub renewed_grant : Record

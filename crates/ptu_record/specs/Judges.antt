@@ -1,11 +1,11 @@
--- What a judge answers whether its master is unusable. The two rules are this project's own choice; the sequenceId of Sync messages is that of IEEE 1588-2019 clause 7.3.7.
+-- Whether a judge finds its master unusable. The two rules are this project's own choice; the sequenceId of Sync messages is that of IEEE 1588-2019 clause 7.3.7.
 -- A record is the record of one master, but in the last section.
-use Rattle.std.specs.Prelude.{◌≡◌, ℕ, ◌+◌, ◌-◌, ◌%◌, Bool, true, false, not, ◌&&◌, ◌||◌, cond, List, [], ◌∷◌, ◌++◌, length, map, filter, filter_map, fold, Option, Some, None, unwrap_or, MatchOption, ⊤, ◌==◌, nat_lt, nat_le}
-use Rattle.std.specs.List.{list_any, enumerate_from, AllZip}
+use Rattle.std.specs.Prelude.{◌≡◌, ℕ, ◌+◌, ◌-◌, ◌%◌, Bool, true, false, not, ◌&&◌, ◌||◌, cond, List, [], ◌∷◌, ◌++◌, length, filter, filter_map, fold, slice_index_or, Option, Some, None, unwrap_or, option_map, MatchOption, ⊤, ◌==◌, nat_lt, nat_le}
+use Rattle.std.specs.List.{list_any, AllZip}
 use Rattle.ptu_record.specs.declared.rule.Rule.{Rule}
 use Rattle.ptu_record.specs.declared.rule.Rule.TheVariants.{Flag, Gap}
 use Rattle.ptu_record.specs.Lists.{last, maximum, since_last, places}
-use Rattle.ptu_record.specs.Record.{Entry, Record, record_of, moment_of, Sync, Told, Judge, Judged}
+use Rattle.ptu_record.specs.Record.{Entry, Record, record_of, Sync, Told, Judge}
 
 -- a judge takes over here
 abbrev pub is_judge : Entry → Bool
@@ -36,7 +36,7 @@ flag L = unwrap_or (last (filter_map told_flag (since_last is_judge L))) false
 abbrev pub numbers : Record → List ℕ
 numbers L = filter_map sync_number (since_last is_judge L)
 
--- the position of a first Sync is its own number. Positions are counted from 65536 on, so that those of Syncs that come late to it are numbers too
+-- the position of a first Sync is its own number and 65536 more, so that the positions up to 15 behind it are numbers too
 abbrev pub first_position : ℕ → ℕ
 first_position number = 65536 + number
 
@@ -66,30 +66,25 @@ is_clear (first ∷ ps) i = nat_lt (first + i) (maximum (first ∷ ps)) && not (
 abbrev pub clear_places : List ℕ → List ℕ
 clear_places ps = filter (is_clear ps) (places 16)
 
--- what a judge of the rule answers after the record: what the operator said last; for a judge of gaps also that so many places are clear
-abbrev pub answer : Rule → Record → Bool
-answer Flag L = flag L
-answer (Gap n) L = flag L || nat_le n (length (clear_places (positions (numbers L))))
+-- what a judge of the rule finds after the record: what the operator said last; for a judge of gaps also that so many places are clear
+abbrev pub assessment : Rule → Record → Bool
+assessment Flag L = flag L
+assessment (Gap n) L = flag L || nat_le n (length (clear_places (positions (numbers L))))
 
--- the answer may be that of the judge in force; one of a maker's own may answer anything
-abbrev pub IsAnswer : Option Rule → Record → Bool → Type 0
-IsAnswer opening L unusable = MatchOption (rule_in_force opening L) ⊤ (λ rule. unusable ≡ answer rule L)
+-- the judge in force may find this; one of a maker's own may find anything
+abbrev pub IsAssessment : Option Rule → Record → Bool → Type 0
+IsAssessment opening L unusable = MatchOption (rule_in_force opening L) ⊤ (λ rule. unusable ≡ assessment rule L)
 
 -- ---- in the record of all masters
 
--- the record once an accepted Sync, an operator's word or a judge that takes over was entered, and then the answer of the master's judge
-abbrev pub IsJudgedAfter : Option Rule → ℕ → Record → Entry → Record → Type 0
-IsJudgedAfter opening m L e after =
-    (unusable : Bool) × IsAnswer opening (record_of m (L ++ e ∷ [])) unusable × (after ≡ L ++ e ∷ Judged (moment_of e) m unusable ∷ [])
+-- the rule of the master's first judge, where it has one
+abbrev pub opening_of : List (Option Rule) → ℕ → Option Rule
+opening_of openings m = slice_index_or openings m None
 
--- that record, for a judge of this rule
-abbrev pub judged_after : Rule → ℕ → Record → Entry → Record
-judged_after rule m L e = L ++ e ∷ Judged (moment_of e) m (answer rule (record_of m (L ++ e ∷ []))) ∷ []
+-- each may be what the judge of its master finds, in the order of these masters
+abbrev pub AreAssessments : List (Option Rule) → Record → List ℕ → List Bool → Type 0
+AreAssessments openings L masters assessments = AllZip (λ m a. IsAssessment (opening_of openings m) (record_of m L) a) masters assessments
 
--- the answers of all judges at a tick, in the order of masters
-abbrev pub tick_judgements : ℕ → List Bool → Record
-tick_judgements x answers = map (λ a. Judged x a.0 a.1) (enumerate_from 0 answers)
-
--- each answer may be that of its master's judge
-abbrev pub AreAnswers : List (Option Rule) → Record → List Bool → Type 0
-AreAnswers openings L answers = AllZip (λ opening a. IsAnswer opening (record_of a.0 L) a.1) openings (enumerate_from 0 answers)
+-- what a judge finds whose rule is known; of another judge, that the master is usable
+abbrev pub ruled_assessment : List (Option Rule) → Record → ℕ → Bool
+ruled_assessment openings L m = unwrap_or (option_map (λ rule. assessment rule (record_of m L)) (rule_in_force (opening_of openings m) (record_of m L))) false

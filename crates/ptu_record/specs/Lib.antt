@@ -9,5 +9,7 @@ pub mod Selection
 pub mod Wants
 pub mod Grants
 pub mod Asks
+pub mod Kept
 pub mod Tick
+pub mod Step
 pub mod Examples

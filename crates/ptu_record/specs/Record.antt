@@ -16,7 +16,7 @@ pub data Entry : Type 0 where
   Told : (at master : ℕ) → (unusable : Bool) → Entry
   -- a judge took over; one of a maker's own has no rule
   Judge : (at master : ℕ) → (rule : Option Rule) → Entry
-  -- the master's judge answered whether it is unusable
+  -- the master's judge found whether it is unusable
   Judged : (at master : ℕ) → (unusable : Bool) → Entry
   -- a REQUEST was sent, or failed to be sent (clause 16.1.4.1)
   Asked : (at master : ℕ) → Kind → Entry

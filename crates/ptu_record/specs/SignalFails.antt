@@ -30,12 +30,12 @@ abbrev pub resp_moment : Entry → Option ℕ
 resp_moment (Resp at master number) = Some at
 resp_moment e = None
 
--- a judge's answer with its moment
+-- what a judge found, with its moment
 abbrev pub judgement : Entry → Option (ℕ × Bool)
 judgement (Judged at master unusable) = Some (at, unusable)
 judgement e = None
 
--- the moments of the accepted Announces, Syncs and Delay_Resps, and the judges' answers
+-- the moments of the accepted Announces, Syncs and Delay_Resps, and what the judges found
 abbrev pub announces : Record → List ℕ
 announces L = filter_map announce_moment L
 
@@ -64,7 +64,7 @@ loss_sync timeouts L t = is_lost timeouts.sync t (last (syncs L))
 abbrev pub loss_delay : Timeouts → Record → ℕ → Bool
 loss_delay timeouts L t = unwrap_or (option_map (λ timeout. is_lost timeout t (last (resps L))) timeouts.delay) false
 
--- the last answer of its judge was so
+-- its judge found so last
 abbrev pub is_unusable : Record → Bool
 is_unusable L = unwrap_or (option_map (λ j. j.1) (last (judgements L))) false
 
@@ -72,9 +72,9 @@ is_unusable L = unwrap_or (option_map (λ j. j.1) (last (judgements L))) false
 abbrev pub late_moments : ℕ → List ℕ → List ℕ
 late_moments timeout moments = map (λ p. p.1) (filter (λ p. nat_lt (p.0 + timeout) p.1) (neighbours moments))
 
--- the moments at which the judge's answer changed from unusable to usable
+-- the moments at which what the judge found changed from unusable to usable
 abbrev pub cleared_moments : List (ℕ × Bool) → List ℕ
-cleared_moments answers = map (λ p. p.1.0) (filter (λ p. p.0.1 && not p.1.1) (neighbours answers))
+cleared_moments found = map (λ p. p.1.0) (filter (λ p. p.0.1 && not p.1.1) (neighbours found))
 
 -- the moments at which an outage ended; the first message ever ends none
 abbrev pub outage_ends : Timeouts → Record → List ℕ

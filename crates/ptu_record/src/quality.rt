@@ -1,7 +1,8 @@
 ghost use Rattle.std.specs.Prelude.{◌≡◌, Some, nat_lt};
 ghost use Rattle.ptu_record.specs.Quality.{class_of, is_usable, level_of, rank_of};
 
-/// A quality level of Option I, best first: QL-PRC, QL-SSU-A, QL-SSU-B, QL-SEC and QL-DNU (G.8265.1).
+/// A quality level of Option I, best first: QL-PRC, QL-SSU-A, QL-SSU-B, QL-SEC and QL-DNU
+/// (G.8265.1).
 #[derive(Clone, Copy, Debug, PartialEq, Eq, PartialOrd, Ord, Hash)]
 pub enum Quality {
     Prc,

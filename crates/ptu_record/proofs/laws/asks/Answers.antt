@@ -2,6 +2,8 @@ use Rattle.ptu_record.specs.Record.{Granted, Denied, Cancelled}
 use Rattle.ptu_record.specs.Asks.{refusal_moment}
 use Rattle.ptu_record.proofs.ListLaws.{last-filter_map}
 use Rattle.ptu_record.proofs.Requests.{is_kind-self, answered_none, open_asks-push, asked_more, count_more, last_ask_more, gates_kept, second_after_ask, minute_after_third, minute_after_denial, minute_after_cancel, half_of_grant}
+use Rattle.ptu_record.specs.Asks.{gates}
+use Rattle.ptu_record.proofs.KindStates.{gate-kept, kind_state-push, maximum_all, maximum_any}
 use Rattle.ptu_record.proofs.laws.asks.Goals as goal
 
 pub returns-clause-asks_more : goal.returns-clause-asks_more
@@ -45,3 +47,15 @@ returns-clause-answered_by_denial c = λ k L at m. answered_none k L (Denied at 
 
 pub returns-clause-answered_by_cancel : goal.returns-clause-answered_by_cancel
 returns-clause-answered_by_cancel c = λ k L at m. answered_none k L (Cancelled at m k) (is_kind-self k)
+
+pub returns-clause-kept_more : goal.returns-clause-kept_more
+returns-clause-kept_more c = kind_state-push
+
+pub returns-clause-kept_gate : goal.returns-clause-kept_gate
+returns-clause-kept_gate c = gate-kept
+
+pub returns-clause-gate_is_there : goal.returns-clause-gate_is_there
+returns-clause-gate_is_there c = λ k L t. maximum_any (gates k L t)
+
+pub returns-clause-gate_is_greatest : goal.returns-clause-gate_is_greatest
+returns-clause-gate_is_greatest c = λ k L t. maximum_all (gates k L t)

@@ -1,6 +1,7 @@
 use Rattle.std.proofs.Common.{ap}
 use Rattle.ptu_record.specs.Grants.{is_live_at}
 use Rattle.ptu_record.proofs.Requests.{grant-push, grant_given, grant_cancelled, grant_stopped, run_granted, run_kept, run_begun, is_kind-self, is_kind-same}
+use Rattle.ptu_record.proofs.KindStates.{all_cancelled, stop_as_cancels}
 use Rattle.ptu_record.proofs.laws.grants.Goals as goal
 
 pub returns-clause-grant_more : goal.returns-clause-grant_more
@@ -29,3 +30,9 @@ returns-clause-same_kind c = is_kind-self
 
 pub returns-clause-one_kind : goal.returns-clause-one_kind
 returns-clause-one_kind c = is_kind-same
+
+pub returns-clause-stop_as_cancels : goal.returns-clause-stop_as_cancels
+returns-clause-stop_as_cancels c = stop_as_cancels
+
+pub returns-clause-all_cancelled : goal.returns-clause-all_cancelled
+returns-clause-all_cancelled c = all_cancelled

@@ -1,4 +1,4 @@
-use Rattle.ptu_record.proofs.Judgements.{numbers-push, flag-push, rule_in_force-push, judged_after_is, answer_of, any_answer}
+use Rattle.ptu_record.proofs.Judgements.{numbers-push, flag-push, rule_in_force-push, ruled, one_assessment, any_assessment}
 use Rattle.ptu_record.proofs.laws.judges.Goals as goal
 
 pub returns-clause-numbers_more : goal.returns-clause-numbers_more
@@ -10,11 +10,11 @@ returns-clause-flag_more c = flag-push
 pub returns-clause-rule_more : goal.returns-clause-rule_more
 returns-clause-rule_more c = rule_in_force-push
 
-pub returns-clause-judged_after : goal.returns-clause-judged_after
-returns-clause-judged_after c = judged_after_is
+pub returns-clause-ruled : goal.returns-clause-ruled
+returns-clause-ruled c = ruled
 
-pub returns-clause-answer : goal.returns-clause-answer
-returns-clause-answer c = answer_of
+pub returns-clause-one_assessment : goal.returns-clause-one_assessment
+returns-clause-one_assessment c = one_assessment
 
-pub returns-clause-any_answer : goal.returns-clause-any_answer
-returns-clause-any_answer c = any_answer
+pub returns-clause-any_assessment : goal.returns-clause-any_assessment
+returns-clause-any_assessment c = any_assessment

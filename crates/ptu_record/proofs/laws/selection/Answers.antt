@@ -1,4 +1,4 @@
-use Rattle.ptu_record.proofs.Choice.{selected_is, one_choice, one_best, chosen_best, chosen_none, none_chosen, is_better-trans, same_choice}
+use Rattle.ptu_record.proofs.Choice.{selected_is, one_choice, one_best, chosen_best, chosen_none, none_chosen, is_better-trans, same_choice, usable_classes}
 use Rattle.ptu_record.proofs.laws.selection.Goals as goal
 
 pub returns-clause-selected : goal.returns-clause-selected
@@ -24,3 +24,6 @@ returns-clause-better_than_better c = is_better-trans
 
 pub returns-clause-same_choice : goal.returns-clause-same_choice
 returns-clause-same_choice c = same_choice
+
+pub returns-clause-usable_classes : goal.returns-clause-usable_classes
+returns-clause-usable_classes c = usable_classes

@@ -1,6 +1,7 @@
 use Rattle.ptu_record.specs.SignalFails.{announce_moment, announced_class, sync_moment, resp_moment, judgement}
 use Rattle.ptu_record.proofs.ListLaws.{last-filter_map}
-use Rattle.ptu_record.proofs.Ends.{latest_end_more, is_waiting_by_latest, loss_stays, waiting_stays_over, is_unusable-push}
+use Rattle.ptu_record.proofs.Ends.{latest_end_more, is_waiting_by_latest, loss_stays, waiting_stays_over, is_unusable-push, latest_end_in_order}
+use Rattle.ptu_record.proofs.KindStates.{latest_all, latest_any}
 use Rattle.ptu_record.proofs.laws.signal_fails.Goals as goal
 
 pub returns-clause-announce_more : goal.returns-clause-announce_more
@@ -32,3 +33,12 @@ returns-clause-over_stays c = waiting_stays_over
 
 pub returns-clause-unusable_more : goal.returns-clause-unusable_more
 returns-clause-unusable_more c = is_unusable-push
+
+pub returns-clause-end_is_there : goal.returns-clause-end_is_there
+returns-clause-end_is_there c = latest_any
+
+pub returns-clause-end_is_greatest : goal.returns-clause-end_is_greatest
+returns-clause-end_is_greatest c = latest_all
+
+pub returns-clause-end_in_order : goal.returns-clause-end_in_order
+returns-clause-end_in_order c = latest_end_in_order
