@@ -1,0 +1,8 @@
+/// The kinds for which a master is to be asked.
+#[derive(Clone, Copy, Debug, PartialEq, Eq, Hash)]
+pub struct Due {
+    pub announce: bool,
+    pub sync: bool,
+    /// Never set where Delay_Resp is not requested.
+    pub delay: bool,
+}

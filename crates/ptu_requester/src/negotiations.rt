@@ -1,0 +1,93 @@
+//! The negotiations of all kinds with one master.
+
+ghost use Rattle.std.specs.Prelude.{◌≡◌, ℕ, ◌++◌, ◌∷◌, [], All, IfOk, vec_len};
+ghost use Rattle.ptu_record.specs.Record.{Record};
+ghost use Rattle.ptu_record.specs.Grants.{is_live, run_start};
+ghost use Rattle.ptu_record.specs.Asks.{due_kinds};
+ghost use Rattle.ptu_requester.specs.Due.{kinds_of};
+ghost use Rattle.ptu_requester.specs.Negotiation.{entry_of};
+ghost use Rattle.ptu_requester.specs.Requester.{AreKept};
+
+use crate::due::Due;
+use crate::negotiation::{Change, Negotiation};
+use ptu_record::Wants;
+use ptu_units::{Kind, Moment};
+use std::alloc::{AllocError, Global};
+
+/// What is kept of one master.
+#[derive(Clone, Copy, Debug)]
+pub struct Negotiations {
+    pub announce: Negotiation,
+    pub sync: Negotiation,
+    pub delay: Negotiation,
+}
+
+impl Negotiations {
+    /// Those of a master of which nothing happened yet.
+    pub fn new() -> Negotiations
+        ensures { AreKept [] result }
+    {
+        Negotiations {
+            announce: Negotiation::new(),
+            sync: Negotiation::new(),
+            delay: Negotiation::new(),
+        }
+    }
+
+    /// Those of so many masters of which nothing happened yet.
+    pub fn of_masters(alloc: Global, masters: usize) -> Result<Vec<Negotiations>, AllocError>
+        ensures kept { IfOk result (λ all. All (AreKept []) all.items) }
+        ensures count { IfOk result (λ all. vec_len all ≡ masters) }
+    {
+        (0..masters).map(|_| Negotiations::new()).collect(alloc)
+    }
+
+    /// Enters a change of the kind at a moment.
+    pub fn enter(&mut self, t: Moment, kind: Kind, change: Change)
+        ensures { (L : Record) (m : ℕ) → AreKept L self.old →
+            AreKept (L ++ entry_of change t m kind ∷ []) self.new }
+    {
+        match kind {
+            Kind::Announce => self.announce.enter(t, change),
+            Kind::Sync => self.sync.enter(t, change),
+            Kind::DelayResp => self.delay.enter(t, change),
+        }
+    }
+
+    /// The kinds that are requested and to be asked for at a moment.
+    pub fn due(&self, wants: &Wants, t: Moment) -> Due
+        ensures { (L : Record) → AreKept L self.now →
+            kinds_of result ≡ due_kinds wants.now L t }
+    {
+        Due {
+            announce: self.announce.is_due(t),
+            sync: self.sync.is_due(t),
+            delay: match wants.delay {
+                Some(_) => self.delay.is_due(t),
+                None => false,
+            },
+        }
+    }
+
+    /// Whether the grant of the kind is live at a moment.
+    pub fn is_live(&self, t: Moment, kind: Kind) -> bool
+        ensures { (L : Record) → AreKept L self.now → result ≡ is_live kind L t }
+    {
+        match kind {
+            Kind::Announce => self.announce.is_live(t),
+            Kind::Sync => self.sync.is_live(t),
+            Kind::DelayResp => self.delay.is_live(t),
+        }
+    }
+
+    /// When the last run of grants of the kind began.
+    pub fn run_start(&self, kind: Kind) -> Option<Moment>
+        ensures { (L : Record) → AreKept L self.now → result ≡ run_start kind L }
+    {
+        match kind {
+            Kind::Announce => self.announce.run_start,
+            Kind::Sync => self.sync.run_start,
+            Kind::DelayResp => self.delay.run_start,
+        }
+    }
+}
