@@ -1,0 +1,13 @@
+//! Which of its masters a slave selects: the eligible one of the best quality level, then of the
+//! lowest priority number, then of the earliest place (G.8265.1).
+#![tactic(auto)]
+
+mod candidate;
+pub mod laws;
+mod master;
+mod selector;
+
+pub use selector::Selector;
+
+#[cfg(test)]
+mod tests;

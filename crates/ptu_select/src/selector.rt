@@ -1,0 +1,142 @@
+ghost use Rattle.std.specs.Prelude.{◌≡◌, ℕ, ◌<◌, ◌^◌, List, ◌++◌, ◌∷◌, [], length, IfOk};
+ghost use Rattle.std.specs.Option.{ForSome};
+ghost use Rattle.ptu_record.specs.Record.{Record, record_of, Announce, Sync, Resp, Judged};
+ghost use Rattle.ptu_record.specs.SignalFails.{Timeouts};
+ghost use Rattle.ptu_record.specs.Selection.{selected_master};
+ghost use Rattle.ptu_fails.specs.WatchState.{state_at};
+ghost use Rattle.ptu_select.specs.Candidate.{best_of};
+ghost use Rattle.ptu_select.specs.Selecting.{SelectsBy};
+
+use crate::candidate::{Candidate, better_of};
+use crate::master::WatchedMaster;
+use ptu_fails::{Watch, WatchState};
+use ptu_units::{Moment, OutOfMemory};
+use std::alloc::Global;
+use std::marker::Model;
+
+/// The watches over all masters of one slave, with their priority numbers. No call but `new` needs
+/// memory. Which records of the slave a selector stands for is said by `SelectsBy`.
+#[derive(Debug, Drop)]
+pub struct Selector {
+    masters: Vec<WatchedMaster>,
+}
+
+impl Model for Selector {
+    ghost use Rattle.std.specs.Prelude.{List};
+    ghost use Rattle.ptu_select.specs.declared.master.WatchedMaster.{WatchedMaster};
+
+    ghost Value = { List WatchedMaster };
+
+    ghost view = { λ s. s.masters.items };
+}
+
+impl Selector {
+    /// A selector for a slave of which nothing is recorded, with a master for each priority number,
+    /// and with the receipt timeouts of Announce, Sync and, where it is requested, Delay_Resp, and
+    /// the wait to restore, all in nanoseconds.
+    pub fn new(
+        alloc: Global,
+        ta: u64,
+        ts: u64,
+        td: Option<u64>,
+        wait: u64,
+        priorities: &[u8],
+    ) -> Result<Selector, OutOfMemory>
+        requires announce { ta < 2 ^ 62 }
+        requires sync { ts < 2 ^ 62 }
+        requires delay { ForSome td (λ timeout. timeout < 2 ^ 62) }
+        requires wait { wait < 2 ^ 62 }
+        ensures masters { IfOk result (λ s. length s ≡ length priorities.now) }
+        ensures empty { IfOk result (λ s. SelectsBy s
+            (record { announce = ta; sync = ts; delay = td; wait = wait }) priorities.now []) }
+    {
+        let watch = Watch::new(ta, ts, td, wait);
+        let mut masters = Vec::with_capacity(alloc, priorities.len())?;
+        for &priority in priorities {
+            masters.push(WatchedMaster { watch, priority })?;
+        }
+        Ok(Selector { masters })
+    }
+
+    /// Enters an accepted Announce of the master at a place, with its clockClass.
+    pub fn announce(&mut self, t: Moment, master: usize, class: u8)
+        requires { master < length self.old }
+        ensures masters { length self.new ≡ length self.old }
+        ensures entered { (timeouts : Timeouts) (priorities : List ℕ) (L : Record) →
+            SelectsBy self.old timeouts priorities L →
+            SelectsBy self.new timeouts priorities (L ++ Announce t master class ∷ []) }
+    {
+        let watched = &mut self.masters[master];
+        watched.watch.announce(t, class);
+    }
+
+    /// Enters an accepted Sync of the master at a place, whatever its sequenceId.
+    pub fn sync(&mut self, t: Moment, master: usize)
+        requires { master < length self.old }
+        ensures masters { length self.new ≡ length self.old }
+        ensures entered { (timeouts : Timeouts) (priorities : List ℕ) (L : Record) (number : ℕ) →
+            SelectsBy self.old timeouts priorities L →
+            SelectsBy self.new timeouts priorities (L ++ Sync t master number ∷ []) }
+    {
+        let watched = &mut self.masters[master];
+        watched.watch.sync(t);
+    }
+
+    /// Enters an accepted Delay_Resp of the master at a place, whatever its sequenceId.
+    pub fn resp(&mut self, t: Moment, master: usize)
+        requires { master < length self.old }
+        ensures masters { length self.new ≡ length self.old }
+        ensures entered { (timeouts : Timeouts) (priorities : List ℕ) (L : Record) (number : ℕ) →
+            SelectsBy self.old timeouts priorities L →
+            SelectsBy self.new timeouts priorities (L ++ Resp t master number ∷ []) }
+    {
+        let watched = &mut self.masters[master];
+        watched.watch.resp(t);
+    }
+
+    /// Enters what the judge of the master at a place finds.
+    pub fn flag(&mut self, t: Moment, master: usize, unusable: bool)
+        requires { master < length self.old }
+        ensures masters { length self.new ≡ length self.old }
+        ensures entered { (timeouts : Timeouts) (priorities : List ℕ) (L : Record) →
+            SelectsBy self.old timeouts priorities L →
+            SelectsBy self.new timeouts priorities (L ++ Judged t master unusable ∷ []) }
+    {
+        let watched = &mut self.masters[master];
+        watched.watch.flag(t, unusable);
+    }
+
+    /// The state of the master at a place at a moment, which need not be after the last entry.
+    pub fn state(&self, t: Moment, master: usize) -> WatchState
+        requires { master < length self.now }
+        ensures { (timeouts : Timeouts) (priorities : List ℕ) (L : Record) →
+            SelectsBy self.now timeouts priorities L →
+            result ≡ state_at timeouts (record_of master L) t }
+    {
+        self.masters[master].watch.state(t)
+    }
+
+    /// The place of the selected master at a moment, which need not be after the last entry; `None`
+    /// exactly where no master is eligible.
+    pub fn select(&mut self, t: Moment) -> Option<usize>
+        ensures same { self.new ≡ self.old }
+        ensures selected { (timeouts : Timeouts) (priorities : List ℕ) (L : Record) →
+            SelectsBy self.old timeouts priorities L →
+            result ≡ selected_master timeouts priorities L t }
+    {
+        let best = best_candidate(&self.masters, t);
+        best.map(|best| best.place)
+    }
+}
+
+// The best of the masters that may be selected at the moment.
+fn best_candidate(masters: &[WatchedMaster], t: Moment) -> Option<Candidate>
+    ensures { result ≡ best_of t masters.now }
+{
+    masters
+        .iter()
+        .enumerate()
+        .fold(None, |best, (place, master)| {
+            better_of(best, master.candidate(place, t))
+        })
+}
