@@ -1,0 +1,7 @@
+use Rattle.std.proofs.Common.{subst, sym}
+use Rattle.ptu_judges.specs.Held.{StandsFor}
+use Rattle.ptu_judges.proofs.tests.ask.Goals as goal
+
+pub returns-clause-stands : goal.returns-clause-stands
+returns-clause-stands g c =
+    λ opening L m s. c.assess.ensures.1.0 opening L m (subst (λ p. StandsFor opening L ((goal.Judge-dyn g p).held p.1)) (sym c.deref_box_mut-1.ensures.value.1) s)

@@ -1,0 +1,54 @@
+-- What a judge keeps of the record of its master.
+use Rattle.std.specs.Prelude.{◌≡◌, ℕ, Bool, false, List, Option, Some, IfSome}
+use Rattle.std.specs.List.{AllByRecursion}
+use Rattle.ptu_record.specs.declared.rule.Rule.{Rule}
+use Rattle.ptu_record.specs.declared.rule.Rule.TheVariants.{Flag, Gap}
+use Rattle.ptu_record.specs.Record.{Record}
+use Rattle.ptu_record.specs.Judges.{flag, numbers, positions, rule_in_force}
+use Rattle.ptu_record.specs.Marks.{Marks, fresh_marks, marks_of}
+
+-- its rule, where it has one; the greatest sequenceId with the sixteen marks behind it; and the
+-- operator's last word
+pub record Held : Type 0 where
+  pub rule : Option Rule
+  pub marks : Marks
+  pub flag : Bool
+
+-- a judge of this rule that nothing was told to
+abbrev pub fresh : Rule → Held
+fresh rule = record { rule = Some rule; marks = fresh_marks; flag = false }
+
+-- what a judge of the rule Flag holds: it was told this last
+abbrev pub flag_held : Bool → Held
+flag_held unusable = record { rule = Some Flag; marks = fresh_marks; flag = unusable }
+
+-- a judge of gaps: how many missing Syncs it does not bear, its marks, and what it was told last
+pub record Gaps : Type 0 where
+  pub missing : ℕ
+  pub marks : Marks
+  pub flag : Bool
+
+abbrev pub gaps_held : Gaps → Held
+gaps_held gaps = record { rule = Some (Gap gaps.missing); marks = gaps.marks; flag = gaps.flag }
+
+-- it is fresh where it has a rule
+abbrev pub IsFresh : Held → Type 0
+IsFresh held = IfSome held.rule (λ rule. held ≡ fresh rule)
+
+-- what a judge of the rule has to keep of the record: the operator's last word since it took over; a
+-- judge of gaps also which places the Syncs since then leave clear
+abbrev pub Keeps : Rule → Record → Held → Type 0
+Keeps Flag L held = held.flag ≡ flag L
+Keeps (Gap n) L held = (held.flag ≡ flag L) × (held.marks ≡ marks_of (positions (numbers L)))
+
+-- a judge stands for the record of its master: it has the rule that is in force there, and keeps what
+-- a judge of this rule has to
+pub record StandsFor (opening : Option Rule) (L : Record) (held : Held) : Type 0 where
+  pub rule : held.rule ≡ rule_in_force opening L
+  pub keeps : IfSome held.rule (λ rule. Keeps rule L held)
+
+-- what the judges of a stock hold: all are fresh, those of the first list of the rule Flag, those of
+-- the second of Gap 4
+pub record IsStock (flags gaps : List Held) : Type 0 where
+  pub flags_fresh : AllByRecursion (λ held. held ≡ fresh Flag) flags
+  pub gaps_fresh : AllByRecursion (λ held. held ≡ fresh (Gap 4)) gaps

@@ -1,0 +1,42 @@
+ghost use Rattle.std.specs.Prelude.{◌≡◌, ℕ, [], ◌∷◌, ◌++◌, Option};
+ghost use Rattle.ptu_record.specs.declared.rule.Rule.{Rule};
+ghost use Rattle.ptu_record.specs.Record.{Record, Sync, Told, Judged};
+ghost use Rattle.ptu_record.specs.Judges.{IsAssessment};
+ghost use Rattle.ptu_judges.specs.Held.{Held, StandsFor};
+
+use ptu_record::Rule;
+use ptu_units::Moment;
+
+/// Who finds whether a master is unusable. A judge that has a rule finds what its rule says; of one
+/// that has none, only its answers are known. No call changes the rule.
+pub trait Judge: Drop {
+    /// What it keeps of the record of its master.
+    ghost held: { Self → Held };
+
+    /// Its rule, where it has one.
+    fn rule(&self) -> Option<Rule>
+        ensures { result ≡ (held self.now).rule };
+
+    /// A Sync with this sequenceId was accepted from its master.
+    fn heard(&mut self, t: Moment, seq: u16)
+        ensures stands { (opening : Option Rule) (L : Record) (m : ℕ) →
+            StandsFor opening L (held self.old) →
+            StandsFor opening (L ++ Sync t m seq ∷ []) (held self.new) }
+        ensures rule { (held self.new).rule ≡ (held self.old).rule };
+
+    /// The operator said that its master is unusable, or that it is not.
+    fn told(&mut self, t: Moment, unusable: bool)
+        ensures stands { (opening : Option Rule) (L : Record) (m : ℕ) →
+            StandsFor opening L (held self.old) →
+            StandsFor opening (L ++ Told t m unusable ∷ []) (held self.new) }
+        ensures rule { (held self.new).rule ≡ (held self.old).rule };
+
+    /// Whether its master is unusable.
+    fn assess(&mut self, t: Moment) -> bool
+        ensures assessed { (opening : Option Rule) (L : Record) →
+            StandsFor opening L (held self.old) → IsAssessment opening L result }
+        ensures stands { (opening : Option Rule) (L : Record) (m : ℕ) →
+            StandsFor opening L (held self.old) →
+            StandsFor opening (L ++ Judged t m result ∷ []) (held self.new) }
+        ensures rule { (held self.new).rule ≡ (held self.old).rule };
+}
