@@ -1,0 +1,16 @@
+-- The masters of the values read so far, followed by those of the values that are left.
+use Rattle.std.proofs.Common.{List, ◌++◌, Option, option_map}
+use Rattle.std.specs.Prelude.{option_and_then}
+use Rattle.toml.specs.declared.value.Value.{Value}
+use Rattle.toml.specs.Data.{as_table}
+use Rattle.toml.specs.View.{view, items_view}
+use Rattle.ptu_config.specs.declared.master.MasterSetting.{MasterSetting}
+use Rattle.ptu_config.specs.Masters.{master_of, masters_of}
+
+-- what one value is
+abbrev pub master_at : Value → Option MasterSetting
+master_at value = option_and_then master_of (as_table (view value))
+
+-- these masters, followed by those of these values
+abbrev pub followed : List MasterSetting → List Value → Option (List MasterSetting)
+followed done values = option_map (λ rest. done ++ rest) (masters_of (items_view values))

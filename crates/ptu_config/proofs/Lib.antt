@@ -1,0 +1,6 @@
+pub mod Texts
+pub mod Names
+pub mod Rounds
+pub mod EachMaster
+pub mod Readings
+pub mod KeyNames

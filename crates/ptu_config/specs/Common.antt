@@ -1,0 +1,20 @@
+-- What each field of the settings of both nodes stands for.
+use Rattle.std.specs.Prelude.{◌≤◌, List, [], ◌∷◌}
+use Rattle.ptu_config.specs.declared.key.Key.{Key}
+use Rattle.ptu_config.specs.declared.key.Key.TheVariants.{Ip, EventPort, GeneralPort, Clock, Port, Domain, Rounds}
+use Rattle.ptu_config.specs.declared.common.Common.{Common}
+use Rattle.ptu_config.specs.Rules.{Value, number}
+
+-- each setting of both nodes with its value, in the order of the settings
+abbrev pub common_entries : Common → List (Key × Value)
+common_entries c = (Ip, number c.ip) ∷ (EventPort, number c.event_port)
+    ∷ (GeneralPort, number c.general_port) ∷ (Clock, number c.clock) ∷ (Port, number c.port)
+    ∷ (Domain, number c.domain) ∷ (Rounds, number c.rounds) ∷ []
+
+-- the settings of both nodes are within their ranges
+pub record IsCommonInRange (c : Common) : Type 0 where
+  pub event_port : 1 ≤ c.event_port
+  pub general_port : 1 ≤ c.general_port
+  pub port : (1 ≤ c.port) × (c.port ≤ 65534)
+  pub domain : (4 ≤ c.domain) × (c.domain ≤ 23)
+  pub rounds : 1 ≤ c.rounds

@@ -1,0 +1,50 @@
+-- Small documents to compute on.
+use Rattle.std.specs.Prelude.{ℕ, false, List, codes, ℤ, pos, None}
+use Rattle.toml.specs.Data.{Data, string, integer, array, table, item, no_items, Members, member, no_members}
+use Rattle.ptu_config.specs.declared.settings.GmSettings.{GmSettings}
+
+-- the required settings of a grandmaster, line by line
+abbrev pub gm_text : List ℕ
+gm_text = codes "ip = \"127.0.0.1\"\nclock = \"0a00000000000001\"\ncapacity = 8\nrounds = 1\n"
+
+-- the document of a grandmaster with this capacity
+abbrev pub gm_document : ℤ → Members
+gm_document capacity =
+    member (codes "capacity") (integer capacity)
+    (member (codes "clock") (string (codes "0a00000000000001"))
+    (member (codes "ip") (string (codes "127.0.0.1"))
+    (member (codes "rounds") (integer (pos 1)) no_members)))
+
+-- the settings of that document with the capacity 8
+abbrev pub gm_defaults : GmSettings
+gm_defaults = record {
+  ip = 2130706433;
+  event_port = 319;
+  general_port = 320;
+  clock = 720575940379279361;
+  port = 1;
+  domain = 4;
+  rounds = 1;
+  class = 84;
+  capacity = 8;
+  max_duration = 1000;
+  epoch = 0;
+  senders = 0;
+  change_round = 0;
+  new_capacity = None;
+  two_step = false;
+}
+
+-- that document with one member more
+abbrev pub gm_with : List ℕ → Data → Members
+gm_with name value = member name value (gm_document (pos 8))
+
+-- the table of a master with this address, and its judge
+abbrev pub master_table : List ℕ → List ℕ → Data
+master_table ip judge =
+    table (member (codes "ip") (string ip) (member (codes "judge") (string judge) no_members))
+
+-- two masters, of which the first has this address
+abbrev pub two_masters : List ℕ → Data
+two_masters ip = array (item (master_table ip (codes "gap"))
+    (item (master_table (codes "10.0.0.1") (codes "flag")) no_items))

@@ -1,0 +1,9 @@
+pub mod Key
+pub mod Forms
+pub mod Masters
+pub mod Rules
+pub mod Documents
+pub mod Entries
+pub mod Common
+pub mod Limits
+pub mod Examples

@@ -1,0 +1,102 @@
+-- The table of all settings: the form of each, its range, and what it is where its key is not
+-- there. They are this project's own choice.
+use Rattle.std.specs.Prelude.{ℕ, suc, ◌-◌, ◌^◌, if◌then◌else◌, Bool, true, false, List, [], ◌∷◌, ◌++◌, Option, Some, None, option_map, ℤ, pos, negsuc}
+use Rattle.toml.specs.Data.{Data, Members, as_bool, integer, get_member}
+use Rattle.ptu_config.specs.declared.key.Key.{Key}
+use Rattle.ptu_config.specs.declared.key.Key.TheVariants.{Ip, EventPort, GeneralPort, Clock, Port, Domain, Rounds, Class, Capacity, MaxDuration, Epoch, Senders, ChangeRound, NewCapacity, TwoStep, WaitToRestore, AnnounceTimeout, SyncTimeout, DelayTimeout, LogAnnounce, LogSync, LogDelay, Duration, Masters}
+use Rattle.ptu_config.specs.declared.master.MasterSetting.{MasterSetting}
+use Rattle.ptu_config.specs.Key.{name_of}
+use Rattle.ptu_config.specs.Forms.{address_in, identity_in, whole_in, signed_in, given}
+use Rattle.ptu_config.specs.Masters.{masters_in}
+
+-- what a setting is
+pub data Value : Type 0 where
+  number : ℕ → Value
+  logarithm : ℤ → Value
+  truth : Bool → Value
+  masters : List MasterSetting → Value
+  nothing : Value
+
+-- the form of a setting: a text that is an address or a clock identity, a whole number from the one
+-- to the other, a logarithm from the one to the other, a truth value, or the masters
+pub data Form : Type 0 where
+  address : Form
+  identity : Form
+  whole : ℕ → ℕ → Form
+  log : ℤ → ℤ → Form
+  boolean : Form
+  master_tables : Form
+
+-- a setting is required, or has a value where its key is not there, or is required exactly where
+-- the whole number of another key is above 0, and else is nothing where its own key is not there
+pub data Rule : Type 0 where
+  required : Form → Rule
+  optional : Form → Value → Rule
+  required_with : Key → Form → Rule
+
+abbrev pub rule_of : Key → Rule
+rule_of Ip = required address
+rule_of EventPort = optional (whole 1 65535) (number 319)
+rule_of GeneralPort = optional (whole 1 65535) (number 320)
+rule_of Clock = required identity
+rule_of Port = optional (whole 1 65534) (number 1)
+rule_of Domain = optional (whole 4 23) (number 4)
+rule_of Rounds = required (whole 1 4294967295)
+rule_of Class = optional (whole 0 255) (number 84)
+rule_of Capacity = required (whole 1 16777216)
+rule_of MaxDuration = optional (whole 60 1000) (number 1000)
+rule_of Epoch = optional (whole 0 (2 ^ 47 - 1)) (number 0)
+rule_of Senders = optional (whole 0 4) (number 0)
+rule_of ChangeRound = optional (whole 0 4294967295) (number 0)
+rule_of NewCapacity = required_with ChangeRound (whole 1 16777216)
+rule_of TwoStep = optional boolean (truth false)
+rule_of WaitToRestore = optional (whole 0 720) (number 300)
+rule_of AnnounceTimeout = optional (whole 2 10) (number 3)
+rule_of SyncTimeout = optional (whole 2 10) (number 3)
+rule_of DelayTimeout = optional (whole 2 10) (number 3)
+rule_of LogAnnounce = optional (log (negsuc 2) (pos 4)) (logarithm (pos 1))
+rule_of LogSync = optional (log (negsuc 6) (pos 4)) (logarithm (negsuc 3))
+rule_of LogDelay = optional (log (negsuc 6) (pos 4)) nothing
+rule_of Duration = optional (whole 60 1000) (number 300)
+rule_of Masters = required master_tables
+
+-- the settings of both, in their order
+abbrev pub common_keys : List Key
+common_keys = Ip ∷ EventPort ∷ GeneralPort ∷ Clock ∷ Port ∷ Domain ∷ Rounds ∷ []
+
+-- the settings of a grandmaster, in their order
+abbrev pub gm_keys : List Key
+gm_keys = common_keys
+    ++ Class ∷ Capacity ∷ MaxDuration ∷ Epoch ∷ Senders ∷ ChangeRound ∷ NewCapacity ∷ TwoStep ∷ []
+
+-- the settings of a slave, in their order
+abbrev pub slave_keys : List Key
+slave_keys = common_keys
+    ++ WaitToRestore ∷ AnnounceTimeout ∷ SyncTimeout ∷ DelayTimeout ∷ LogAnnounce ∷ LogSync
+    ∷ LogDelay ∷ Duration ∷ Masters ∷ []
+
+-- what a value of a document is, by its form
+abbrev pub value_of : Form → Data → Option Value
+value_of address value = option_map number (address_in value)
+value_of identity value = option_map number (identity_in value)
+value_of (whole least greatest) value = option_map number (whole_in least greatest value)
+value_of (log least greatest) value = option_map logarithm (signed_in least greatest value)
+value_of boolean value = option_map truth (as_bool value)
+value_of master_tables value = option_map masters (masters_in value)
+
+-- the value is a whole number above 0
+abbrev pub is_above_zero : Option Data → Bool
+is_above_zero (Some (integer (pos (suc n)))) = true
+is_above_zero _ = false
+
+-- what a document with this value at a setting's key says of it: nothing at all where it is
+-- required and not there, of another type or out of range
+abbrev pub read_by : Rule → Members → Option Data → Option Value
+read_by (required form) document found = given (value_of form) None found
+read_by (optional form otherwise) document found = given (value_of form) (Some otherwise) found
+read_by (required_with key form) document found = given (value_of form)
+    (if is_above_zero (get_member (name_of key) document) then None else Some nothing) found
+
+-- what a document says of a setting
+unfoldable pub setting_of : Members → Key → Option Value
+setting_of document key = read_by (rule_of key) document (get_member (name_of key) document)

@@ -1,0 +1,79 @@
+//! What the definitions of the settings mean. Each clause is a law or a small case; the bodies are
+//! empty.
+ghost use Rattle.std.specs.Prelude.{◌≡◌, ◌<◌, ℕ, true, false, Bool, List, [], ◌∷◌, map, Some, None, IsSome, ℤ, pos, negsuc, codes};
+ghost use Rattle.std.specs.List.{AllByRecursion};
+ghost use Rattle.toml.specs.Data.{Members, integer, string, no_members, array, no_items};
+ghost use Rattle.toml.specs.Parse.{parse_document};
+ghost use Rattle.ptu_config.specs.declared.key.Key.{Key};
+ghost use Rattle.ptu_config.specs.declared.settings.GmSettings.{GmSettings};
+ghost use Rattle.ptu_config.specs.declared.settings.SlaveSettings.{SlaveSettings};
+ghost use Rattle.ptu_config.specs.Key.{name_of};
+ghost use Rattle.ptu_config.specs.Forms.{address_in, identity_in};
+ghost use Rattle.ptu_config.specs.Masters.{masters_in};
+ghost use Rattle.ptu_config.specs.Rules.{Value, gm_keys, slave_keys, setting_of, number, nothing};
+ghost use Rattle.ptu_config.specs.Documents.{Reads, Says, document_of, refusal_of, table_refusal};
+ghost use Rattle.ptu_config.specs.Entries.{gm_entries, slave_entries};
+ghost use Rattle.ptu_config.specs.Examples.{gm_text, gm_document, gm_defaults, gm_with, two_masters};
+
+use crate::fault::SettingFault;
+use crate::key::Key;
+use crate::master::MasterSetting;
+
+/// No two settings have one name, and the fields of the settings of a node stand for its settings,
+/// in the order in which these are tested.
+pub fn names()
+    ensures apart { (key other : Key) → name_of key ≡ name_of other → key ≡ other }
+    ensures gm { (s : GmSettings) → map (λ entry. entry.0) (gm_entries s) ≡ gm_keys }
+    ensures slave { (s : SlaveSettings) → map (λ entry. entry.0) (slave_entries s) ≡ slave_keys }
+{}
+
+/// Octets say at most one value of each setting, and where nothing speaks against them they say one
+/// of each.
+pub fn readings()
+    ensures one_reading { (octets : List ℕ) (entries others : List (Key × Value)) →
+        map (λ entry. entry.0) entries ≡ map (λ entry. entry.0) others →
+        Reads octets entries → Reads octets others → entries ≡ others }
+    ensures whole { (keys : List Key) (octets : List ℕ) → refusal_of keys octets ≡ None →
+        (document : Members) × (document_of octets ≡ Some document) ×
+        AllByRecursion (λ key. IsSome (setting_of document key)) keys }
+{}
+
+/// The text of the required settings of a grandmaster.
+pub fn text_of_a_grandmaster()
+    ensures { parse_document gm_text ≡ Some (gm_document (pos 8)) }
+{}
+
+/// The required settings of a grandmaster alone, and with a fault.
+#[tactic(auto, unfolding(crate::specs::Rules::setting_of))]
+pub fn settings_of_a_grandmaster()
+    ensures accepted { table_refusal gm_keys (gm_document (pos 8)) ≡ None }
+    ensures values { Says (gm_document (pos 8)) (gm_entries gm_defaults) }
+    ensures no_capacity { table_refusal gm_keys (gm_document (pos 0))
+        ≡ Some (SettingFault.Bad Key.Capacity) }
+    ensures below_zero { table_refusal gm_keys (gm_document (negsuc 7))
+        ≡ Some (SettingFault.Bad Key.Capacity) }
+    ensures nothing { table_refusal gm_keys no_members ≡ Some (SettingFault.Bad Key.Ip) }
+    ensures unknown { table_refusal gm_keys (gm_with (codes "size") (integer (pos 1)))
+        ≡ Some SettingFault.Unknown }
+    ensures of_the_other { table_refusal gm_keys (gm_with (codes "duration") (integer (pos 60)))
+        ≡ Some SettingFault.Unknown }
+    ensures of_a_slave { table_refusal slave_keys (gm_document (pos 8))
+        ≡ Some SettingFault.Unknown }
+    ensures needed { table_refusal gm_keys (gm_with (codes "change_round") (integer (pos 2)))
+        ≡ Some (SettingFault.Bad Key.NewCapacity) }
+    ensures no_change { table_refusal gm_keys (gm_with (codes "change_round") (integer (pos 0)))
+        ≡ None }
+    ensures other_type { table_refusal gm_keys (gm_with (codes "two_step") (integer (pos 1)))
+        ≡ Some (SettingFault.Bad Key.TwoStep) }
+    ensures no_delay_resp { setting_of no_members Key.LogDelay ≡ Some nothing }
+{}
+
+/// Arrays of masters.
+pub fn masters_of_a_slave()
+    ensures two { masters_in (two_masters (codes "10.0.0.2")) ≡
+        Some (record { ip = 167772162; priority = 128; gap = true }
+        ∷ record { ip = 167772161; priority = 128; gap = false } ∷ []) }
+    ensures one_address { masters_in (two_masters (codes "10.0.0.1")) ≡ None }
+    ensures none { masters_in (array no_items) ≡ None }
+    ensures no_array { masters_in (string (codes "10.0.0.1")) ≡ None }
+{}

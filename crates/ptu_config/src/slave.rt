@@ -1,0 +1,94 @@
+//! The settings of a slave.
+ghost use Rattle.std.specs.Prelude.{◌≡◌, ◌⊎◌, None, Some, IfOk, IfErr, OnOk, option_map};
+ghost use Rattle.toml.specs.View.{table_view};
+ghost use Rattle.ptu_config.specs.Rules.{slave_keys};
+ghost use Rattle.ptu_config.specs.Documents.{Reads, Refuses, Says, first_bad, refusal_of};
+ghost use Rattle.ptu_config.specs.Entries.{slave_entries};
+ghost use Rattle.ptu_config.specs.Limits.{IsSlaveInRange};
+ghost use Rattle.ptu_config.specs.declared.fault.SettingFault.TheVariants.{OutOfMemory as NoMemory};
+
+use crate::common::common_of;
+use crate::document::document;
+use crate::fault::SettingFault;
+use crate::key::Key;
+use crate::master_tables::master_list;
+use crate::settings::SlaveSettings;
+use crate::values::{log, log_or, whole_or};
+use ptu_units::Kind;
+use std::alloc::Global;
+use toml::Table;
+
+/// The settings of a slave, in their order.
+const SLAVE_KEYS: [Key; 16] = [
+    Key::Ip,
+    Key::EventPort,
+    Key::GeneralPort,
+    Key::Clock,
+    Key::Port,
+    Key::Domain,
+    Key::Rounds,
+    Key::WaitToRestore,
+    Key::AnnounceTimeout,
+    Key::SyncTimeout,
+    Key::DelayTimeout,
+    Key::LogAnnounce,
+    Key::LogSync,
+    Key::LogDelay,
+    Key::Duration,
+    Key::Masters,
+];
+
+// The settings that a table says, or the first of them that is bad.
+fn slave_of(alloc: Global, table: &Table) -> Result<SlaveSettings, SettingFault>
+    ensures said { IfOk result (λ settings. Says (table_view table.now) (slave_entries settings)) }
+    ensures in_range { IfOk result IsSlaveInRange }
+    ensures none_bad { OnOk result (first_bad slave_keys (table_view table.now) ≡ None) }
+    ensures bad { IfErr result (λ fault. (fault ≡ NoMemory) ⊎
+        (option_map SettingFault.Bad (first_bad slave_keys (table_view table.now)) ≡ Some fault)) }
+{
+    let common = common_of(table)?;
+    let wait_to_restore = whole_or(table, Key::WaitToRestore, 0, 720, 300)? as u32;
+    let announce_timeout = whole_or(table, Key::AnnounceTimeout, 2, 10, 3)? as u8;
+    let sync_timeout = whole_or(table, Key::SyncTimeout, 2, 10, 3)? as u8;
+    let delay_timeout = whole_or(table, Key::DelayTimeout, 2, 10, 3)? as u8;
+    let log_announce = log_or(table, Key::LogAnnounce, Kind::Announce, 1)?;
+    let log_sync = log_or(table, Key::LogSync, Kind::Sync, -4)?;
+    let log_delay = log(table, Key::LogDelay, Kind::DelayResp)?;
+    let duration = whole_or(table, Key::Duration, 60, 1000, 300)? as u32;
+    let masters = master_list(alloc, table)?;
+    Ok(SlaveSettings {
+        ip: common.ip,
+        event_port: common.event_port,
+        general_port: common.general_port,
+        clock: common.clock,
+        port: common.port,
+        domain: common.domain,
+        rounds: common.rounds,
+        wait_to_restore,
+        announce_timeout,
+        sync_timeout,
+        delay_timeout,
+        log_announce,
+        log_sync,
+        log_delay,
+        duration,
+        masters,
+    })
+}
+
+/// The settings of a slave's daemon that these octets are, a TOML document of at most 65536
+/// octets.
+///
+/// # Errors
+/// The first of `Size`, `Text`, `Unknown` and `Bad` that applies, with the first bad setting in the
+/// order of `Key`; or `OutOfMemory`.
+pub fn slave_settings(alloc: Global, bytes: &[u8]) -> Result<SlaveSettings, SettingFault>
+    // The document says just these values, and nothing speaks against it.
+    ensures read { IfOk result (λ settings. Reads bytes.now (slave_entries settings)) }
+    ensures in_range { IfOk result IsSlaveInRange }
+    ensures accepted { OnOk result (refusal_of slave_keys bytes.now ≡ None) }
+    ensures refused { IfErr result (Refuses slave_keys bytes.now) }
+{
+    let table = document(alloc, bytes, &SLAVE_KEYS)?;
+    slave_of(alloc, &table)
+}
