@@ -1,0 +1,194 @@
+//! The driver: lines are read and reported one after the other.
+
+ghost use Rattle.std.specs.Prelude.{◌≡◌, ◌≢◌, ◌≤◌, ◌+◌, ℕ, List, [], ◌∷◌, Some, length, map, option_map, IfOk, IfErr, OnOk, OnErr, IfNone, IfSome, IsErrOf};
+ghost use Rattle.std.specs.Io.KnownBytes.{IsAtEnd, prepend_known};
+ghost use Rattle.std.specs.String.{string_bytes};
+ghost use Rattle.ptu_outside.specs.Ends.{StopsAtEnd};
+ghost use Rattle.ptu_outside.specs.Handing.{HasPut, HasPutPart};
+ghost use Rattle.ptu_lines.specs.Script.{ScriptLine, script_lines};
+ghost use Rattle.ptu_lines.specs.Reading.{octets_taken, lines_left, AgreesOnEnd, Gives, IsReadToEnd, IsStopped};
+ghost use Rattle.ptu_report.specs.Rules.{closing, texts_of, texts_until};
+ghost use Rattle.ptu_report.specs.Stops.{CountsRead, CountsWrite};
+ghost use Rattle.ptu_report.specs.Reported.{HasReported, HasReportedAllRead};
+ghost use Rattle.ptu_report.specs.Step.{texts_taken, cause_taken, is_whole, HasStepped};
+
+use crate::ending::Ending;
+use crate::reporter::Reporter;
+use crate::stop::Stop;
+use crate::taken::Taken;
+use ptu_lines::{LineReader, LinesFault};
+use ptu_outside::{Sink, Source, write_whole};
+use std::alloc::Global;
+
+// Hands a text to the sink in one piece, and its rest again until all is taken.
+fn put<K: Sink>(sink: &mut K, text: &str) -> Result<(), Stop>
+    ensures whole { OnOk result (HasPut K.written K.handed sink.old sink.new (text.now ∷ [])) }
+    ensures part { OnErr result (HasPutPart K.written K.handed sink.old sink.new (text.now ∷ [])) }
+    ensures cause { IfErr result (λ stop. stop ≡ Stop.Write) }
+    ensures counts { CountsWrite result (K.faults sink.old) (K.faults sink.new) }
+{
+    match write_whole(sink, text.as_bytes()) {
+        Ok(()) => Ok(()),
+        Err(_) => Err(Stop::Write),
+    }
+}
+
+// One text after the other.
+fn put_all<K: Sink>(sink: &mut K, texts: &[String]) -> Result<(), Stop>
+    ensures whole { OnOk result (HasPut K.written K.handed sink.old sink.new
+        (map string_bytes texts.now)) }
+    ensures part { OnErr result (HasPutPart K.written K.handed sink.old sink.new
+        (map string_bytes texts.now)) }
+    ensures cause { IfErr result (λ stop. stop ≡ Stop.Write) }
+    ensures counts { CountsWrite result (K.faults sink.old) (K.faults sink.new) }
+{
+    for text in texts {
+        put(sink, text.as_str())?;
+    }
+    Ok(())
+}
+
+// The texts of a line, or the cause of its refusal, which is not written here.
+fn put_taken<C: Drop, K: Sink>(sink: &mut K, taken: Taken<C>) -> Result<Option<C>, Stop>
+    ensures whole { OnOk result (HasPut K.written K.handed sink.old sink.new (texts_taken taken)) }
+    ensures refused { IfOk result (λ refused. refused ≡ cause_taken taken) }
+    ensures part { OnErr result
+        (HasPutPart K.written K.handed sink.old sink.new (texts_taken taken)) }
+    ensures cause { IfErr result (λ stop. stop ≡ Stop.Write) }
+    ensures counts { CountsWrite result (K.faults sink.old) (K.faults sink.new) }
+{
+    match taken {
+        Taken::Given(texts) => {
+            put_all(sink, &texts)?;
+            Ok(None)
+        }
+        Taken::Refused(cause) => Ok(Some(cause)),
+    }
+}
+
+// Names a line as refused, which ends the output.
+fn refuse<R: Reporter, K: Sink>(
+    alloc: Global,
+    sink: &mut K,
+    number: u64,
+    cause: R::Cause,
+) -> Result<Ending<R::Cause>, Stop>
+    ensures ending { IfOk result (λ ending. ending ≡ Ending.Refused number cause) }
+    ensures whole { OnOk result (HasPut K.written K.handed sink.old sink.new
+        (R.rules.refusal number cause ∷ [])) }
+    ensures part { OnErr result (HasPutPart K.written K.handed sink.old sink.new
+        (R.rules.refusal number cause ∷ [])) }
+    ensures cause { IfErr result (λ stop. stop ≢ Stop.Read) }
+    ensures counts { CountsWrite result (K.faults sink.old) (K.faults sink.new) }
+{
+    let text = R::refusal(alloc, number, &cause)?;
+    put(sink, text.as_str())?;
+    Ok(Ending::Refused { number, cause })
+}
+
+// Reads one line more and reports it; or the end, or a refused line, which is the last one.
+fn one_line<R: Reporter, S: Source, K: Sink>(
+    alloc: Global,
+    reporter: &mut R,
+    reader: &mut LineReader,
+    lines: u64,
+    source: &mut S,
+    sink: &mut K,
+) -> Result<Option<Ending<R::Cause>>, Stop>
+    requires lines { reader.old.number ≡ lines }
+    requires few { lines ≤ 67108864 }
+    requires in_step { AgreesOnEnd reader.old.is_ended (S.left source.old) }
+    ensures in_step { AgreesOnEnd reader.new.is_ended (S.left source.new) }
+    ensures stepped { IfOk result
+        (λ ended. (meaning : R.Meaning) → R.stands_for reporter.old meaning
+        → HasStepped K.written K.handed sink.old sink.new R.rules meaning reader.old reader.new
+        (S.left source.old) (S.left source.new) (R.stands_for reporter.new) ended) }
+    ensures number { IfOk result (λ ended. IfNone ended (reader.new.number ≡ lines + 1)) }
+    ensures end { IfOk result (λ ended. IfSome ended (λ ending. is_whole ending
+        → IsAtEnd (S.left source.new))) }
+    ensures part { OnErr result ((meaning : R.Meaning) → R.stands_for reporter.old meaning
+        → (left : List ScriptLine) → lines_left reader.old (S.left source.old) ≡ Some left
+        → HasPutPart K.written K.handed sink.old sink.new
+        (texts_until R.rules (closing R.rules) meaning reader.old.number left)) }
+    ensures stopped { IsErrOf result Stop.Read
+        → IsStopped reader.old reader.new (S.left source.old) (S.left source.new) }
+    ensures nothing { IsErrOf result Stop.Read → sink.new ≡ sink.old }
+    ensures gives { (given : List (List ℕ))
+        × Gives reader.old reader.new (S.left source.old) (S.left source.new) given }
+    ensures bounded { octets_taken reader.new ≤ 67108865 }
+    ensures few { reader.new.number ≤ 67108864 }
+    ensures ends { IsReadToEnd reader.old.is_ended (S.ends source.old)
+        → IsReadToEnd reader.new.is_ended (S.ends source.new) }
+    ensures source_counts { CountsRead result (S.faults source.old) (S.faults source.new) }
+    ensures sink_counts { CountsWrite result (K.faults sink.old) (K.faults sink.new) }
+{
+    match reader.next(source) {
+        Ok(Some(number)) => {
+            let taken = reporter.take(alloc, number, reader.text())?;
+            match put_taken(sink, taken)? {
+                None => Ok(None),
+                Some(cause) => Ok(Some(refuse::<R, K>(alloc, sink, number, cause)?)),
+            }
+        }
+        Ok(None) => {
+            let taken = reporter.close(alloc, lines)?;
+            match put_taken(sink, taken)? {
+                None => Ok(Some(Ending::Whole { lines })),
+                Some(cause) => Ok(Some(refuse::<R, K>(alloc, sink, lines + 1, cause)?)),
+            }
+        }
+        Err(LinesFault::Line { number, cause }) => {
+            let cause = R::cause_of(cause);
+            Ok(Some(refuse::<R, K>(alloc, sink, number, cause)?))
+        }
+        Err(LinesFault::Read) => Err(Stop::Read),
+    }
+}
+
+/// Reports the lines that the source has left, one after the other, up to the first that is
+/// refused: what the rules of the reporter say of each is handed to the sink before the next is
+/// read, each text in one piece, and its rest again until all is taken. At most 67108865 octets are
+/// read, and nothing behind the end.
+///
+/// # Errors
+/// `Read` exactly where the source failed, `Write` exactly where the sink failed, and
+/// `OutOfMemory`. No clause says what the reporter is then.
+pub fn report<R: Reporter, S: Source, K: Sink>(
+    alloc: Global,
+    reporter: &mut R,
+    source: &mut S,
+    sink: &mut K,
+) -> Result<Ending<R::Cause>, Stop>
+    // The whole output was put, and the answer says how it ends.
+    ensures whole { IfOk result (λ ending. (meaning : R.Meaning) → R.stands_for reporter.old meaning
+        → (input : List ℕ) → S.left source.old ≡ Some input
+        → HasReported K.written K.handed sink.old sink.new R.rules meaning
+        (script_lines input) ending) }
+    ensures end { IfOk result (λ ending. is_whole ending → IsAtEnd (S.left source.new)) }
+    // What was put when it stopped is a front of the output.
+    ensures part { OnErr result ((meaning : R.Meaning) → R.stands_for reporter.old meaning
+        → (input : List ℕ) → S.left source.old ≡ Some input
+        → HasPutPart K.written K.handed sink.old sink.new
+        (texts_of R.rules meaning (script_lines input))) }
+    // Where the source failed, that is all that belongs to the lines that were read whole.
+    ensures all_read { IsErrOf result Stop.Read
+        → (meaning : R.Meaning) → R.stands_for reporter.old meaning
+        → HasReportedAllRead K.written K.handed sink.old sink.new R.rules meaning
+        (S.left source.old) (S.left source.new) }
+    ensures taken { (octets : List ℕ)
+        × (S.left source.old ≡ prepend_known octets (S.left source.new))
+        × (length octets ≤ 67108865) }
+    ensures ends { StopsAtEnd (S.ends source.old) (S.ends source.new) }
+    // A fault always shows.
+    ensures source_counts { CountsRead result (S.faults source.old) (S.faults source.new) }
+    ensures sink_counts { CountsWrite result (K.faults sink.old) (K.faults sink.new) }
+{
+    let mut reader = LineReader::new(alloc)?;
+    let mut lines = 0;
+    'lines: loop {
+        if let Some(ending) = one_line(alloc, reporter, &mut reader, lines, source, sink)? {
+            return Ok(ending);
+        }
+        lines += 1;
+    }
+}

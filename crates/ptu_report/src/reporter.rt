@@ -1,0 +1,54 @@
+ghost use Rattle.std.specs.Prelude.{◌≡◌, ◌≤◌, IfOk, length};
+ghost use Rattle.std.specs.List.{AllPass};
+ghost use Rattle.std.specs.String.{string_bytes};
+ghost use Rattle.ptu_lines.specs.Script.{is_plain};
+ghost use Rattle.ptu_report.specs.Rules.{Rules, IsOutcome};
+
+use crate::taken::Taken;
+use ptu_lines::LineCause;
+use ptu_units::OutOfMemory;
+use std::alloc::Global;
+
+/// A program over lines: each line is refused, or it gives texts of output and changes the state. A
+/// value is a state.
+pub trait Reporter {
+    /// What a state means, as clauses see a value of this type. No program ever has one.
+    type Meaning;
+
+    /// Why a line is refused.
+    type Cause: Drop;
+
+    /// What the program does, over meanings.
+    ghost rules: { Rules Self.Meaning Self.Cause };
+
+    /// The state has this meaning. It may have several.
+    ghost stands_for: { Self → Self.Meaning → Type 0 };
+
+    /// Takes the line with this number, from 1.
+    fn take(
+        &mut self,
+        alloc: Global,
+        number: u64,
+        line: &[u8],
+    ) -> Result<Taken<Self::Cause>, OutOfMemory>
+        requires first { 1 ≤ number }
+        requires last { number ≤ 67108864 }
+        requires short { length line.now ≤ 8192 }
+        requires plain { AllPass is_plain line.now }
+        ensures { IfOk result (λ taken. (meaning : Self.Meaning) → stands_for self.old meaning
+            → IsOutcome (rules.step meaning number line.now) (stands_for self.new) taken) };
+
+    /// Ends the output, after so many lines.
+    fn close(&mut self, alloc: Global, lines: u64) -> Result<Taken<Self::Cause>, OutOfMemory>
+        requires { lines ≤ 67108864 }
+        ensures { IfOk result (λ taken. (meaning : Self.Meaning) → stands_for self.old meaning
+            → IsOutcome (rules.close meaning lines) (stands_for self.new) taken) };
+
+    /// The text that names the line with this number as refused.
+    fn refusal(alloc: Global, number: u64, cause: &Self::Cause) -> Result<String, OutOfMemory>
+        ensures { IfOk result (λ text. string_bytes text ≡ rules.refusal number cause.now) };
+
+    /// The cause of a line that the reader of lines refuses.
+    fn cause_of(cause: LineCause) -> Self::Cause
+        ensures { result ≡ rules.cause_of cause };
+}
