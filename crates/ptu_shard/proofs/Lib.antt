@@ -1,0 +1,8 @@
+pub mod RowLists
+pub mod Standing
+pub mod Handing
+pub mod Passing
+pub mod Sorting
+pub mod Spending
+pub mod Turns
+pub mod Responses

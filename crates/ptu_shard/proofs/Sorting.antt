@@ -1,0 +1,138 @@
+-- Rows in the order of sending: a list of rows without two of one client and kind has one such order.
+use Rattle.std.proofs.Common.{◌≡◌, ◌∙◌, ℕ, zero, suc, ◌+◌, ◌<◌, ◌≤◌, List, [], ◌∷◌, length, get_or, Bool, true, false, ◌&&◌, cond, eqb, ltb, refl, sym, ap, subst, map, arith}
+use Rattle.std.specs.Cmp.{IsTotalOrder}
+use Rattle.std.specs.Ordering.{is_lt, nat_cmp, ordering_then}
+use Rattle.std.specs.declared.cmp.Ordering.{Ordering}
+use Rattle.std.specs.declared.cmp.Ordering.TheVariants.{Less, Equal, Greater}
+use Rattle.std.specs.List.{AllPairs, Contains, filter, sum_by}
+use Rattle.std.specs.List.Sorted.{IsPermutation, IsSorted}
+use Rattle.std.proofs.lemmas.Bool.{false_from_ne_true, true≢false, and_from}
+use Rattle.std.proofs.lemmas.Cmp.{nat_cmp_total, on_total, then_total}
+use Rattle.std.proofs.lemmas.List.Elements.{All-contains}
+use Rattle.std.proofs.lemmas.List.Kept.{AllPairs-filter, IsSortedBy-filter}
+use Rattle.std.proofs.lemmas.List.Sorted.{Contains-permutation, IsPermutation-sym, ranks_by, sum_by-IsPermutation}
+use Rattle.std.proofs.lemmas.List.Sums.{sum_by-cons}
+use Rattle.ptu_units.specs.declared.kind.Kind.{Kind}
+use Rattle.ptu_history.specs.declared.client.Client.{Client}
+use Rattle.ptu_history.specs.Client.{client_cmp, kind_cmp, kind_place, same_client, same_kind, same_lease}
+use Rattle.ptu_history.specs.Order.{in_order}
+use Rattle.ptu_history.proofs.Keys.{same_lease-refl, same_lease-true}
+use Rattle.ptu_history.proofs.Order.{IsAsymmetric-total, IsPermutation-in_order, IsSorted-in_order}
+use Rattle.ptu_history.proofs.Standing.{Contains-filter}
+use Rattle.ptu_history.proofs.Unique.{Apart, Apart-from_pairs, Contains-cons_cases, Contains-first, Contains-from_filter, Contains-later, Rises-from_sorted, Rises-unique, pairs_from_Apart}
+use Rattle.ptu_shard.specs.declared.lease.Row.{Row}
+use Rattle.ptu_shard.specs.Row.{is_row_of}
+use Rattle.ptu_shard.specs.Turn.{due_rows, is_due_row, row_cmp}
+use Rattle.ptu_shard.proofs.RowLists.{Differ}
+
+-- how many rows there are of a client and kind
+abbrev copies : Client → Kind → List Row → ℕ
+copies c k rows = sum_by (λ row. cond (is_row_of c k row) 1 0) rows
+
+copies-cons : (c : Client) (k : Kind) (x : Row) (xs : List Row) → copies c k (x ∷ xs) ≡ cond (is_row_of c k x) 1 0 + copies c k xs
+copies-cons c k x xs = sum_by-cons (λ row. cond (is_row_of c k row) 1 0) x xs
+
+copies_none : (c : Client) (k : Kind) (xs : List Row) → ((z : Row) → Contains xs z → is_row_of c k z ≡ false) → copies c k xs ≡ 0
+copies_none c k [] none = refl
+copies_none c k (x ∷ xs) none =
+    copies-cons c k x xs ∙ ap (λ b. cond b 1 0 + copies c k xs) (none x (Contains-first x xs))
+    ∙ (let rest : copies c k xs ≡ 0 = copies_none c k xs (λ z h. none z (Contains-later x xs z h)) in omega arith)
+
+copies_some : (c : Client) (k : Kind) (xs : List Row) (z : Row) → Contains xs z → is_row_of c k z ≡ true → 1 ≤ copies c k xs
+copies_some c k [] z (i, lt, e) own = absurd (omega arith)
+copies_some c k (x ∷ xs) z (zero, lt, e) own =
+    let first : ◌≡◌ {A = ℕ} (cond (is_row_of c k x) 1 0) 1 = ap (λ row. cond (is_row_of c k row) 1 0) e ∙ ap (λ b. cond b 1 0) own in
+    omega (arith, copies-cons c k x xs, first)
+copies_some c k (x ∷ xs) z (suc i, lt, e) own =
+    let rest : 1 ≤ copies c k xs = copies_some c k xs z (i, omega arith, e) own in
+    omega (arith, copies-cons c k x xs, rest)
+
+once_from_apart : (rows : List Row) → Apart Differ rows → (c : Client) (k : Kind) → copies c k rows ≤ 1
+once_from_apart [] apart c k = omega arith
+once_from_apart (x ∷ xs) apart c k = at (is_row_of c k x) refl (once_from_apart xs apart.1 c k)
+  where
+    at : (b : Bool) → is_row_of c k x ≡ b → copies c k xs ≤ 1 → copies c k (x ∷ xs) ≤ 1
+    at true own ih =
+        let same = same_lease-true c k x.client x.kind own in
+        let c_is : c ≡ x.client = same.0 in
+        let k_is : k ≡ x.kind = same.1 in
+        let none : copies c k xs ≡ 0 = copies_none c k xs (λ z h.
+        ap (λ d. same_lease d k z.client z.kind) c_is ∙ ap (λ j. same_lease x.client j z.client z.kind) k_is ∙ apart.0 z h) in
+        let first : ◌≡◌ {A = ℕ} (cond (is_row_of c k x) 1 0) 1 = ap (λ b. cond b 1 0) own in
+        omega (arith, copies-cons c k x xs, first)
+    at false own ih =
+        let first : ◌≡◌ {A = ℕ} (cond (is_row_of c k x) 1 0) 0 = ap (λ b. cond b 1 0) own in
+        omega (arith, copies-cons c k x xs, first)
+
+apart_from_once : (rows : List Row) → ((c : Client) (k : Kind) → copies c k rows ≤ 1) → Apart Differ rows
+apart_from_once [] once = tt
+apart_from_once (x ∷ xs) once = (
+  λ z h. false_from_ne_true (is_row_of x.client x.kind z) (λ own.
+      let one : 1 ≤ copies x.client x.kind xs = copies_some x.client x.kind xs z h own in
+      let first : ◌≡◌ {A = ℕ} (cond (is_row_of x.client x.kind x) 1 0) 1 = ap (λ b. cond b 1 0) (same_lease-refl x.client x.kind) in
+      absurd (omega (arith, copies-cons x.client x.kind x xs, first, once x.client x.kind))),
+  apart_from_once xs (λ c k. omega (arith, copies-cons c k x xs, once c k)),
+)
+
+-- it does not matter in which order they stand
+pub distinct_permuted : (xs ys : List Row) → IsPermutation xs ys → AllPairs Differ xs → AllPairs Differ ys
+distinct_permuted xs ys h pairs =
+    pairs_from_Apart Differ ys (apart_from_once ys (λ c k.
+    let one : copies c k ys ≡ copies c k xs = sum_by-IsPermutation (λ row. cond (is_row_of c k row) 1 0) xs ys h in
+    omega (arith, once_from_apart xs (Apart-from_pairs Differ xs pairs) c k)))
+
+client_cmp-total : IsTotalOrder client_cmp
+client_cmp-total = then_total (on_total (λ (c : Client). c.ip) nat_cmp_total) (then_total (on_total (λ (c : Client). c.clock) nat_cmp_total) (on_total (λ (c : Client). c.port) nat_cmp_total))
+
+kind_cmp-total : IsTotalOrder kind_cmp
+kind_cmp-total = on_total kind_place nat_cmp_total
+
+pub row_cmp-total : IsTotalOrder row_cmp
+row_cmp-total =
+    then_total (on_total (λ (row : Row). row.lease.edge) nat_cmp_total)
+    (then_total (on_total (λ (row : Row). row.client) client_cmp-total) (on_total (λ (row : Row). row.kind) kind_cmp-total))
+
+-- where the order ties, the client and kind are one
+tie_of_numbers : (a b : ℕ) → nat_cmp a b ≡ Equal → eqb a b ≡ true
+tie_of_numbers a b e = at (ltb a b) (eqb a b) e
+  where
+    at : (s t : Bool) → cond s Less (cond t Equal Greater) ≡ Equal → t ≡ true
+    at true t e = absurd (cc)
+    at false true e = refl
+    at false false e = absurd (cc)
+
+both_tie : (a b : Ordering) → ordering_then a b ≡ Equal → (a ≡ Equal) × (b ≡ Equal)
+both_tie Less b e = absurd (cc)
+both_tie Equal b e = (refl, e)
+both_tie Greater b e = absurd (cc)
+
+pub row_cmp-differ : (a b : Row) → Differ a b → row_cmp a b ≡ Equal → ⊥
+row_cmp-differ a b differ e =
+    let rest = (both_tie (nat_cmp a.lease.edge b.lease.edge) (ordering_then (client_cmp a.client b.client) (kind_cmp a.kind b.kind)) e).1 in
+    let keys = both_tie (client_cmp a.client b.client) (kind_cmp a.kind b.kind) rest in
+    let ip = both_tie (nat_cmp a.client.ip b.client.ip) (ordering_then (nat_cmp a.client.clock b.client.clock) (nat_cmp a.client.port b.client.port)) keys.0 in
+    let clock = both_tie (nat_cmp a.client.clock b.client.clock) (nat_cmp a.client.port b.client.port) ip.1 in
+    true≢false (sym (and_from (same_client a.client b.client) (same_kind a.kind b.kind)
+    (and_from (eqb a.client.ip b.client.ip && eqb a.client.clock b.client.clock) (eqb a.client.port b.client.port)
+    (and_from (eqb a.client.ip b.client.ip) (eqb a.client.clock b.client.clock) (tie_of_numbers a.client.ip b.client.ip ip.0) (tie_of_numbers a.client.clock b.client.clock clock.0))
+    (tie_of_numbers a.client.port b.client.port clock.1))
+    (tie_of_numbers (kind_place a.kind) (kind_place b.kind) keys.1)) ∙ differ)
+
+-- of a sorted list, what passes is what passes of any list with the same rows, in order
+pub passed_in_order : (p : Row → Bool) (xs ys : List Row) → IsPermutation xs ys → AllPairs Differ xs → IsSorted row_cmp ys → filter p ys ≡ in_order row_cmp (filter p xs)
+passed_in_order p xs ys moved pairs sorted =
+    Rises-unique row_cmp row_cmp-total (filter p ys) (in_order row_cmp (filter p xs))
+    (Rises-from_sorted row_cmp row_cmp-total Differ row_cmp-differ (filter p ys)
+    (IsSortedBy-filter (λ a b. is_lt (row_cmp a b)) (ranks_by row_cmp-total (λ row. row)) p ys sorted)
+    (Apart-from_pairs Differ (filter p ys) (AllPairs-filter Differ p ys (distinct_permuted xs ys moved pairs))))
+    (Rises-from_sorted row_cmp row_cmp-total Differ row_cmp-differ (in_order row_cmp (filter p xs))
+    (IsSorted-in_order row_cmp (IsAsymmetric-total row_cmp row_cmp-total) (filter p xs))
+    (Apart-from_pairs Differ (in_order row_cmp (filter p xs))
+    (distinct_permuted (filter p xs) (in_order row_cmp (filter p xs)) (IsPermutation-in_order row_cmp (filter p xs)) (AllPairs-filter Differ p xs pairs))))
+    (λ z h.
+    let both : Contains ys z × (p z ≡ true) = Contains-from_filter p ys z h in
+    Contains-permutation (filter p xs) (in_order row_cmp (filter p xs)) z (IsPermutation-in_order row_cmp (filter p xs))
+    (Contains-filter p xs z (Contains-permutation ys xs z (IsPermutation-sym xs ys moved) both.0) both.1))
+    (λ z h.
+    let both : Contains xs z × (p z ≡ true) = Contains-from_filter p xs z (Contains-permutation (in_order row_cmp (filter p xs)) (filter p xs) z (IsPermutation-sym (filter p xs) (in_order row_cmp (filter p xs)) (IsPermutation-in_order row_cmp (filter p xs))) h) in
+    Contains-filter p ys z (Contains-permutation xs ys z moved both.0) both.1)

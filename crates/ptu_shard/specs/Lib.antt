@@ -1,0 +1,8 @@
+pub mod Config
+pub mod HandsOver
+pub mod Messages
+pub mod Answered
+pub mod Row
+pub mod Turn
+pub mod Table
+pub mod Lends

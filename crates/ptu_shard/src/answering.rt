@@ -1,0 +1,66 @@
+//! The answer to a Delay_Req, over rows in a plain vector.
+
+ghost use Rattle.std.specs.Prelude.{◌≡◌, vec_capacity, vec_len};
+ghost use Rattle.ptu_shard.specs.Answered.{answer_by, failed_by, met_by, moment_of_answer, responses, sent_by};
+ghost use Rattle.ptu_shard.specs.Config.{IsWithinLimits};
+ghost use Rattle.ptu_shard.specs.HandsOver.{HandsOver};
+ghost use Rattle.ptu_shard.specs.Messages.{response_of};
+ghost use Rattle.ptu_shard.specs.Turn.{is_answering_row, spent_where};
+
+use crate::answered::Answered;
+use crate::config::GmConfig;
+use crate::lease::{Lease, Row};
+use crate::sending::send_response;
+use ptu_header::Header;
+use ptu_history::Client;
+use ptu_outside::Port;
+use ptu_units::Moment;
+
+/// Answers a Delay_Req of the client, whose lease of Delay_Resps this is, if there is one.
+pub(crate) fn answer_request<P: Port>(
+    port: &mut P,
+    config: &GmConfig,
+    at: Moment,
+    client: &Client,
+    request: &Header,
+    lease: Option<Lease>,
+) -> Answered
+    requires { IsWithinLimits config.now }
+    ensures at { moment_of_answer result ≡ at }
+    ensures answer { met_by result ≡ answer_by at lease }
+    ensures sends { HandsOver (P.sent port.old) (P.sent port.new) (P.faults port.old)
+        (P.faults port.new)
+        (responses (met_by result) (response_of config.now at client.now request.now))
+        (sent_by result) (failed_by result) }
+    ensures waiting { P.waiting port.new ≡ P.waiting port.old }
+{
+    let Some(lease) = lease else {
+        return Answered::NoGrant { at };
+    };
+    if lease.until <= at.nanos() {
+        return Answered::NoGrant { at };
+    }
+    if at.nanos() < lease.edge {
+        return Answered::TooSoon {
+            at,
+            earliest: lease.edge,
+        };
+    }
+    match send_response(port, config, at, client, request) {
+        Ok(()) => Answered::Sent { at },
+        Err(_) => Answered::Failed { at },
+    }
+}
+
+/// The row that answers a Delay_Req of the client, if one does, spends a period and a sequence
+/// number.
+pub(crate) fn spend_answering(rows: &mut Vec<Row>, at: Moment, client: &Client)
+    ensures items { rows.new.items
+        ≡ spent_where (is_answering_row at client.now) at rows.old.items }
+    ensures room { vec_capacity rows.new ≡ vec_capacity rows.old }
+    ensures bound { vec_len rows.new ≡ vec_len rows.old }
+{
+    for row in rows.iter_mut() {
+        row.spend_if_answering(at, client);
+    }
+}

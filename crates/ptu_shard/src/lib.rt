@@ -1,0 +1,22 @@
+//! A table of leases: it keeps what a grandmaster granted to the clients of one of its four tables,
+//! and sends them their timing messages, each in its own period.
+#![tactic(auto)]
+
+mod answered;
+mod answering;
+mod config;
+pub mod laws;
+mod lease;
+mod messages;
+mod rows;
+mod sending;
+mod shard;
+mod turning;
+
+pub use answered::{Answered, Turned};
+pub use config::GmConfig;
+pub use lease::{Lease, Row};
+pub use shard::Shard;
+
+#[cfg(test)]
+mod tests;

@@ -1,0 +1,104 @@
+//! The timing messages of a grandmaster (IEEE 1588-2019 clause 13).
+
+ghost use Rattle.std.specs.Prelude.{◌≡◌, [], ◌∷◌, List, true, OnOk, OnErr};
+ghost use Rattle.ptu_history.specs.Turns.{is_turned};
+ghost use Rattle.ptu_messages.specs.Sent.{IsFixed};
+ghost use Rattle.ptu_outside.specs.Faults.{HasRisen, HasNotFallen};
+ghost use Rattle.ptu_outside.specs.Telling.{IfTold, append_told};
+ghost use Rattle.ptu_shard.specs.Config.{IsWithinLimits};
+ghost use Rattle.ptu_shard.specs.Messages.{announce_of, header_of, message_of_response, message_of_turn, octets_sent};
+
+use crate::config::GmConfig;
+use ptu_header::Header;
+use ptu_messages::{AnnounceBody, Body, Message, write_fixed};
+use ptu_outside::{Channel, Failed, Port};
+use ptu_units::timescale::stamp;
+use ptu_units::{Kind, Moment};
+
+/// The flagField of every message: unicastFlag alone.
+const FLAGS: u16 = 0x0400;
+
+/// The messageType of a Delay_Resp.
+const DELAY_RESP: u8 = 9;
+
+// The header of a message of this type.
+fn header(config: &GmConfig, message_type: u8, correction: i64, sequence: u16) -> Header
+    ensures { result ≡ header_of config.now message_type correction sequence }
+{
+    Header {
+        message_type,
+        domain: config.domain,
+        flags: FLAGS,
+        correction,
+        source: config.identity,
+        sequence,
+    }
+}
+
+// The body of an Announce, whose timescale is the grandmaster's own.
+fn announce(config: &GmConfig, at: Moment) -> AnnounceBody
+    requires { IsWithinLimits config.now }
+    ensures { result ≡ announce_of config.now at }
+{
+    AnnounceBody {
+        origin: stamp(config.epoch, at),
+        utc_offset: 0,
+        priority1: 128,
+        class: config.class,
+        accuracy: 0xfe,
+        variance: 0xffff,
+        priority2: 128,
+        grandmaster: config.identity.clock,
+        steps: 0,
+        time_source: 0xa0,
+    }
+}
+
+/// The message of a kind that a turn sends.
+pub(crate) fn turn_message(config: &GmConfig, at: Moment, kind: Kind, sequence: u16) -> Message
+    requires limits { IsWithinLimits config.now }
+    ensures message { result ≡ message_of_turn config.now at kind sequence }
+    ensures fixed { is_turned kind ≡ true → IsFixed result }
+{
+    Message {
+        header: header(config, kind.code(), 0, sequence),
+        body: match kind {
+            Kind::Announce => Body::Announce(announce(config, at)),
+            Kind::Sync => Body::Sync(stamp(config.epoch, at)),
+            Kind::DelayResp => Body::Ignored,
+        },
+    }
+}
+
+/// The Delay_Resp that answers a Delay_Req with this header.
+pub(crate) fn response_message(config: &GmConfig, at: Moment, request: &Header) -> Message
+    requires { IsWithinLimits config.now }
+    ensures message { result ≡ message_of_response config.now at request.now }
+    ensures fixed { IsFixed result }
+{
+    Message {
+        header: header(config, DELAY_RESP, request.correction, request.sequence),
+        body: Body::DelayResp(stamp(config.epoch, at), request.source),
+    }
+}
+
+/// Hands a message to the port, to this IPv4 address on this channel.
+pub(crate) fn send_fixed<P: Port>(
+    port: &mut P,
+    ip: u32,
+    channel: Channel,
+    message: &Message,
+) -> Result<(), Failed>
+    requires { IsFixed message.now }
+    ensures handed { OnOk result (IfTold (P.sent port.new) (append_told (P.sent port.old)
+        (record { ip = ip; channel = channel; bytes = octets_sent message.now } ∷ []))) }
+    ensures kept { OnErr result (IfTold (P.sent port.new) (P.sent port.old)) }
+    ensures waiting { P.waiting port.new ≡ P.waiting port.old }
+    ensures risen { OnErr result (HasRisen (P.faults port.old) (P.faults port.new)) }
+    ensures quiet { OnOk result (P.faults port.new ≡ P.faults port.old) }
+    ensures no_fall { HasNotFallen (P.faults port.old) (P.faults port.new) }
+{
+    let mut octets = [0; 64];
+    let size = write_fixed(message, &mut octets);
+    port.send(ip, channel, &octets[..size])
+}

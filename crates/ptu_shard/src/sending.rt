@@ -1,0 +1,69 @@
+//! Timing messages as they are handed to a port.
+
+ghost use Rattle.std.specs.Prelude.{◌≡◌, ◌∷◌, [], List, true, OnOk, OnErr};
+ghost use Rattle.ptu_outside.specs.Faults.{HasRisen, HasNotFallen};
+ghost use Rattle.ptu_outside.specs.Telling.{IfTold, append_told};
+ghost use Rattle.ptu_history.specs.Turns.{is_turned};
+ghost use Rattle.ptu_shard.specs.Config.{IsWithinLimits};
+ghost use Rattle.ptu_shard.specs.Messages.{channel_of, departure_of, response_of};
+ghost use Rattle.ptu_shard.specs.Turn.{message_of_row};
+
+use crate::config::GmConfig;
+use crate::lease::Row;
+use crate::messages::{response_message, send_fixed, turn_message};
+use ptu_header::Header;
+use ptu_history::Client;
+use ptu_outside::{Channel, Failed, Port};
+use ptu_units::{Kind, Moment};
+
+// The channel of a kind (IEEE 1588-2019 annex C).
+fn channel(kind: Kind) -> Channel
+    ensures { result ≡ channel_of kind }
+{
+    match kind {
+        Kind::Sync => Channel::Event,
+        Kind::Announce | Kind::DelayResp => Channel::General,
+    }
+}
+
+/// Hands the next message of the row to the port.
+pub(crate) fn send_message<P: Port>(
+    port: &mut P,
+    config: &GmConfig,
+    at: Moment,
+    row: &Row,
+) -> Result<(), Failed>
+    requires limits { IsWithinLimits config.now }
+    requires turned { is_turned row.now.kind ≡ true }
+    ensures handed { OnOk result (IfTold (P.sent port.new) (append_told (P.sent port.old)
+        (departure_of config.now at (message_of_row row.now) ∷ []))) }
+    ensures kept { OnErr result (IfTold (P.sent port.new) (P.sent port.old)) }
+    ensures waiting { P.waiting port.new ≡ P.waiting port.old }
+    ensures risen { OnErr result (HasRisen (P.faults port.old) (P.faults port.new)) }
+    ensures quiet { OnOk result (P.faults port.new ≡ P.faults port.old) }
+    ensures no_fall { HasNotFallen (P.faults port.old) (P.faults port.new) }
+{
+    let message = turn_message(config, at, row.kind, row.lease.seq);
+    send_fixed(port, row.client.ip, channel(row.kind), &message)
+}
+
+/// Hands the answer to a Delay_Req of the client to the port.
+pub(crate) fn send_response<P: Port>(
+    port: &mut P,
+    config: &GmConfig,
+    at: Moment,
+    client: &Client,
+    request: &Header,
+) -> Result<(), Failed>
+    requires { IsWithinLimits config.now }
+    ensures handed { OnOk result (IfTold (P.sent port.new) (append_told (P.sent port.old)
+        (response_of config.now at client.now request.now ∷ []))) }
+    ensures kept { OnErr result (IfTold (P.sent port.new) (P.sent port.old)) }
+    ensures waiting { P.waiting port.new ≡ P.waiting port.old }
+    ensures risen { OnErr result (HasRisen (P.faults port.old) (P.faults port.new)) }
+    ensures quiet { OnOk result (P.faults port.new ≡ P.faults port.old) }
+    ensures no_fall { HasNotFallen (P.faults port.old) (P.faults port.new) }
+{
+    let message = response_message(config, at, request);
+    send_fixed(port, client.ip, Channel::General, &message)
+}
