@@ -8,8 +8,9 @@ use Rattle.ptu_history.specs.History as records
 use Rattle.ptu_history.specs.Live.{Grant}
 use Rattle.ptu_history.specs.Verdict.{Config, Ask, OutsideCause, OutsideDuration, OutsideLog, rate_sum, profile, profile_of, verdict, verdict_of, is_log_of}
 use Rattle.ptu_history.specs.Verdict as verdicts
-use Rattle.ptu_history.specs.Step.{core_step, table_step_moment, verdict_records}
-use Rattle.ptu_history.specs.Step as steps
+use Rattle.ptu_history.specs.Step.{verdict_records}
+use Rattle.ptu_history.specs.Core.{table_step_moment}
+use Rattle.ptu_history.specs.Events as events
 use Rattle.ptpuni.specs.declared.request.Request.{Request}
 use Rattle.ptpuni.specs.declared.leases.Decision.{Decision}
 use Rattle.ptpuni.specs.declared.leases.Decision.TheVariants.{Granted, Short}
@@ -43,8 +44,8 @@ module _ (capacity max_duration handed b at : ℕ) (r : Request) (old new : List
   -- the verdict, by what the rates of the other grants and the capacity are
   abbrev decision_at : ℕ → ℕ → verdicts.Verdict
   decision_at o top = cond (nat_le (o + rate_of r.log) top)
-      (verdicts.Granted r.kind r.log (min r.seconds max_duration) (at + min r.seconds max_duration * 1000000000))
-      (verdicts.Short r.kind r.log o (rate_of r.log) top)
+      (verdicts.GrantedFor r.kind r.log (min r.seconds max_duration) (at + min r.seconds max_duration * 1000000000))
+      (verdicts.ShortOf r.kind r.log o (rate_of r.log) top)
 
   verdict_at : verdict config history at r.client (ask_of r) ≡ decision_at (rate_sum (beside at r old)) capacity
   unfolding verdict
@@ -53,27 +54,27 @@ module _ (capacity max_duration handed b at : ℕ) (r : Request) (old new : List
       ∙ ap (λ o. decision_at o (capacity_in_force capacity history)) (others_is b old history h at le r.client r.kind)
       ∙ ap (decision_at (rate_sum (beside at r old))) (h.capacity capacity)
 
-  granted_at : rate_sum (beside at r old) + rate_of r.log ≤ capacity → verdict config history at r.client (ask_of r) ≡ verdicts.Granted r.kind r.log (min r.seconds max_duration) (at + min r.seconds max_duration * 1000000000)
-  granted_at fits = verdict_at ∙ ap (λ t. cond t (verdicts.Granted r.kind r.log (min r.seconds max_duration) (at + min r.seconds max_duration * 1000000000)) (verdicts.Short r.kind r.log (rate_sum (beside at r old)) (rate_of r.log) capacity)) (le-leb (rate_sum (beside at r old) + rate_of r.log) capacity fits)
+  granted_at : rate_sum (beside at r old) + rate_of r.log ≤ capacity → verdict config history at r.client (ask_of r) ≡ verdicts.GrantedFor r.kind r.log (min r.seconds max_duration) (at + min r.seconds max_duration * 1000000000)
+  granted_at fits = verdict_at ∙ ap (λ t. cond t (verdicts.GrantedFor r.kind r.log (min r.seconds max_duration) (at + min r.seconds max_duration * 1000000000)) (verdicts.ShortOf r.kind r.log (rate_sum (beside at r old)) (rate_of r.log) capacity)) (le-leb (rate_sum (beside at r old) + rate_of r.log) capacity fits)
 
-  short_at : capacity < rate_sum (beside at r old) + rate_of r.log → verdict config history at r.client (ask_of r) ≡ verdicts.Short r.kind r.log (rate_sum (beside at r old)) (rate_of r.log) capacity
-  short_at full = verdict_at ∙ ap (λ t. cond t (verdicts.Granted r.kind r.log (min r.seconds max_duration) (at + min r.seconds max_duration * 1000000000)) (verdicts.Short r.kind r.log (rate_sum (beside at r old)) (rate_of r.log) capacity)) (lt-leb (rate_sum (beside at r old) + rate_of r.log) capacity full)
+  short_at : capacity < rate_sum (beside at r old) + rate_of r.log → verdict config history at r.client (ask_of r) ≡ verdicts.ShortOf r.kind r.log (rate_sum (beside at r old)) (rate_of r.log) capacity
+  short_at full = verdict_at ∙ ap (λ t. cond t (verdicts.GrantedFor r.kind r.log (min r.seconds max_duration) (at + min r.seconds max_duration * 1000000000)) (verdicts.ShortOf r.kind r.log (rate_sum (beside at r old)) (rate_of r.log) capacity)) (lt-leb (rate_sum (beside at r old) + rate_of r.log) capacity full)
 
   -- the event at that moment
-  taken_is : (v : verdicts.Verdict) → verdict config history at r.client (ask_of r) ≡ v → ((taken capacity max_duration history handed r).outcome ≡ steps.Decided v) × ((taken capacity max_duration history handed r).records ≡ verdict_records at r.client v)
+  taken_is : (v : verdicts.Verdict) → verdict config history at r.client (ask_of r) ≡ v → ((taken capacity max_duration history handed r).outcome ≡ events.Decided v) × ((taken capacity max_duration history handed r).records ≡ verdict_records at r.client v)
   taken_is v e = (
-    ap (λ x. steps.Decided (verdict config history x r.client (ask_of r))) x_is ∙ ap steps.Decided e,
+    ap (λ x. events.Decided (verdict config history x r.client (ask_of r))) x_is ∙ ap events.Decided e,
     ap (λ x. verdict_records x r.client (verdict config history x r.client (ask_of r))) x_is ∙ ap (verdict_records at r.client) e,
   )
 
   pub is_decided : (d : Decision) → Answers capacity at max_duration r old new d → IsDecided capacity max_duration handed r history d new
   is_decided (Granted at' seconds until) a =
-      let e = taken_is (verdicts.Granted r.kind r.log (min r.seconds max_duration) (at + min r.seconds max_duration * 1000000000)) (granted_at a.fits) in
+      let e = taken_is (verdicts.GrantedFor r.kind r.log (min r.seconds max_duration) (at + min r.seconds max_duration * 1000000000)) (granted_at a.fits) in
       let lasts_on : at < until = omega (arith, a.until_is, a.seconds_is, profiled.seconds, long) in
       let after = after_granted b old history h at le r.client r.kind r.log until lasts_on in
       let until_at : until ≡ at + min r.seconds max_duration * 1000000000 = a.until_is ∙ ap (λ s. at + s * 1000000000) a.seconds_is in
       record {
-        outcome = ap (λ s. steps.Decided (verdicts.Granted r.kind r.log s until)) a.seconds_is ∙ ap (λ u. steps.Decided (verdicts.Granted r.kind r.log (min r.seconds max_duration) u)) until_at ∙ sym e.0;
+        outcome = ap (λ s. events.Decided (verdicts.GrantedFor r.kind r.log s until)) a.seconds_is ∙ ap (λ u. events.Decided (verdicts.GrantedFor r.kind r.log (min r.seconds max_duration) u)) until_at ∙ sym e.0;
         moment = a.at_is ∙ sym x_is;
         stands = subst (λ x. Holds x new (history ++ (taken capacity max_duration history handed r).records)) (sym a.at_is)
             (subst (λ gs. Holds at gs (history ++ (taken capacity max_duration history handed r).records)) (sym a.replaced)
@@ -81,10 +82,10 @@ module _ (capacity max_duration handed b at : ℕ) (r : Request) (old new : List
       }
   is_decided (Short at' others rate) a =
       let full : capacity < rate_sum (beside at r old) + rate_of r.log = omega (arith, a.full, a.others_is, a.rate_is) in
-      let e = taken_is (verdicts.Short r.kind r.log (rate_sum (beside at r old)) (rate_of r.log) capacity) (short_at full) in
+      let e = taken_is (verdicts.ShortOf r.kind r.log (rate_sum (beside at r old)) (rate_of r.log) capacity) (short_at full) in
       let after = after_short b old history h at le r.client in
       record {
-        outcome = ap (λ o. steps.Decided (verdicts.Short r.kind r.log o rate capacity)) a.others_is ∙ ap (λ n. steps.Decided (verdicts.Short r.kind r.log (rate_sum (beside at r old)) n capacity)) a.rate_is ∙ sym e.0;
+        outcome = ap (λ o. events.Decided (verdicts.ShortOf r.kind r.log o rate capacity)) a.others_is ∙ ap (λ n. events.Decided (verdicts.ShortOf r.kind r.log (rate_sum (beside at r old)) n capacity)) a.rate_is ∙ sym e.0;
         moment = a.at_is ∙ sym x_is;
         stands = subst (λ x. Holds x new (history ++ (taken capacity max_duration history handed r).records)) (sym a.at_is)
             (subst (λ gs. Holds at gs (history ++ (taken capacity max_duration history handed r).records)) (sym a.kept)

@@ -1,26 +1,28 @@
 -- What a grandmaster keeps to, from the laws of its history.
-use Rattle.std.proofs.Common.{◌≡◌, ◌∙◌, ◌↔◌, ℕ, ◌+◌, ◌≤◌, ◌++◌, List, [], ◌∷◌, length, map, Option, Some, None, Bool, true, false, cond, refl, sym, ap, subst, arith, append_assoc, Ok, Err}
+use Rattle.std.proofs.Common.{◌≡◌, ◌∙◌, ◌↔◌, ℕ, ◌+◌, ◌<◌, ◌≤◌, ◌++◌, List, [], ◌∷◌, length, map, Option, Some, None, Bool, true, false, cond, refl, sym, ap, subst, arith, append_assoc, Ok, Err}
 use Rattle.std.specs.Prelude.{IfSome, IsTrue, ◌-◌, ◌^◌, ◌&&◌, ◌==◌, codes, nat_lt, slice_range}
 use Rattle.std.proofs.lemmas.Bool.{ltb-false}
 use Rattle.std.specs.List.{list_any}
 use Rattle.ptu_units.specs.declared.kind.Kind.{Kind}
 use Rattle.ptu_units.specs.Kind.{kind_of}
 use Rattle.ptu_header.specs.declared.header.Header.{Header}
+use Rattle.ptu_header.specs.Header.{identity_at}
 use Rattle.ptu_tlvs.specs.declared.tlv.Ask.{Ask}
 use Rattle.ptu_lines.specs.Script.{ScriptLine, Whole, Refused, script_lines}
 use Rattle.ptu_history.specs.declared.client.Client.{Client}
 use Rattle.ptu_history.specs.History.{Record, is_change}
 use Rattle.ptu_history.specs.Verdict.{OutsideLog, OutsideDuration, profile_of, is_log_of}
-use Rattle.ptu_history.specs.Step.{Event, history, history_after}
+use Rattle.ptu_history.specs.Events.{Event}
+use Rattle.ptu_history.specs.Core.{core_history, history_after}
 use Rattle.ptu_history.proofs.Capacities.{capacity_in_force-same, force-same}
 use Rattle.ptu_laws.specs.Changes.{is_resize}
-use Rattle.ptu_laws.specs.Granted.{is_granted}
+use Rattle.ptu_laws.specs.Granted.{is_granted, is_short}
 use Rattle.ptu_laws.proofs.Budget.{history-unchanged}
 use Rattle.ptu_laws.proofs.Capacity.{held-within}
-use Rattle.ptu_laws.proofs.Verdicts.{granted_where_room}
+use Rattle.ptu_laws.proofs.Verdicts.{granted_where_room, short_where_no_room}
 use Rattle.ptpuni.specs.declared.grandmaster.Grandmaster.{Grandmaster}
 use Rattle.ptpuni.specs.declared.script.Asked.{Asked}
-use Rattle.ptpuni.specs.Datagram.{◌>>=◌, IsWithinProfile, ask_in, header_in, identity_at, is_request_header, is_target, request_behind, request_for, request_in, within_profile}
+use Rattle.ptpuni.specs.Datagram.{◌>>=◌, IsWithinProfile, found_ask, found_header, is_request_header, is_target, request_behind, request_for, request_in, within_profile}
 use Rattle.ptpuni.specs.Decision.{ask_of, event_of}
 use Rattle.ptpuni.specs.Forms.{asked_by, asked_fields, asked_in, ip_at_word, is_line_of, number_at_word, octets_at_word}
 use Rattle.ptpuni.specs.Kept.{Hands, IsDecidedByRoom, IsKept, asks_from, asks_of, config_of, history_of, lines_after, moment_after, rates_beside, verdict_after}
@@ -66,10 +68,10 @@ asked_within client sequence ask = by_kind client sequence ask (kind_of ask.code
 -- the request of a datagram is within the profile
 in_datagram : (gm : Grandmaster) (from : ℕ) (octets : List ℕ) → IfSome (request_in gm from octets) IsWithinProfile
 unfolding request_in
-in_datagram gm from octets = if_found IsWithinProfile (header_in octets) (request_behind gm from octets)
+in_datagram gm from octets = if_found IsWithinProfile (found_header octets) (request_behind gm from octets)
     (λ h. if_either IsWithinProfile (is_request_header gm.domain h && is_target gm.identity (identity_at octets 34))
-    (ask_in (slice_range octets 44 54) >>= within_profile (client_of from h) h.0.sequence)
-    (if_found IsWithinProfile (ask_in (slice_range octets 44 54)) (within_profile (client_of from h) h.0.sequence)
+    (found_ask (slice_range octets 44 54) >>= within_profile (client_of from h) h.0.sequence)
+    (if_found IsWithinProfile (found_ask (slice_range octets 44 54)) (within_profile (client_of from h) h.0.sequence)
     (asked_within (client_of from h) h.0.sequence)))
 
 abbrev P : Asked → Type 0
@@ -153,7 +155,7 @@ unfolding history_of
 in_force gm asks = history-unchanged (config_of gm) (map event_at asks) (no_change asks)
 
 lines_is : (gm : Grandmaster) (before : List Asked) (a : Asked) → request_lines gm (history_after (config_of gm) [] (map event_at before)) (1 + length before + 1) (0 + length before + 1) a ≡ lines_after gm before a
-unfolding request_lines history history_of
+unfolding request_lines core_history history_of
 lines_is gm before a =
     ap (λ k. request_lines gm (history_after (config_of gm) [] (map event_at before)) k (0 + length before + 1) a) (let e : 1 + length before + 1 ≡ length before + 2 = omega arith in e)
     ∙ ap (λ k. request_lines gm (history_after (config_of gm) [] (map event_at before)) (length before + 2) k a) (let e : 0 + length before + 1 ≡ length before + 1 = omega arith in e)
@@ -177,4 +179,6 @@ module _ (gm : Grandmaster) (script : List ℕ) (asks : List Asked) where
             shown = ap report_of is ∙ ap (λ o. report_by o rest) h.0 ∙ s.report_is ∙ ap (λ ls. s.earlier ++ (ls ++ s.later)) (lines_is gm before a);
             granted = subst (λ top. IsTrue (is_granted (verdict_after gm before a)) ↔ (rates_beside gm before a ≤ top)) (capacity_in_force-same gm.capacity (history_of gm before) (in_force gm before))
                 (granted_where_room (config_of gm) (history_of gm before) (moment_after gm before a) a.request.client a.request.kind (ask_of a.request) (profile_is a.request s.within));
+            denied = subst (λ top. IsTrue (is_short (verdict_after gm before a)) ↔ (top < rates_beside gm before a)) (capacity_in_force-same gm.capacity (history_of gm before) (in_force gm before))
+                (short_where_no_room (config_of gm) (history_of gm before) (moment_after gm before a) a.request.client a.request.kind (ask_of a.request) (profile_is a.request s.within));
           }

@@ -10,3 +10,4 @@ mod Underway
 mod Whole
 mod Takings
 mod Kept
+mod Replayed

@@ -6,7 +6,7 @@ use Rattle.std.proofs.lemmas.List.Elements.{filter-append}
 use Rattle.ptu_lines.specs.Script.{ScriptLine, Whole, Refused}
 use Rattle.ptu_history.specs.History.{Record}
 use Rattle.ptu_history.specs.Verdict as verdicts
-use Rattle.ptu_history.specs.Step.{Outcome, Decided, Cancelled, Turned, Responded, Resized}
+use Rattle.ptu_history.specs.Events.{Outcome, Decided, Cancelled, Turned, Responded, Resized}
 use Rattle.ptpuni.specs.declared.grandmaster.Grandmaster.{Grandmaster}
 use Rattle.ptpuni.specs.declared.request.Request.{Request}
 use Rattle.ptpuni.specs.declared.script.Asked.{Asked}
@@ -27,8 +27,8 @@ not_one : (p : ReportLine → Bool) (a : ReportLine) → p a ≡ false → filte
 not_one p a e = ap (λ t. cond t (a ∷ []) []) e
 
 outcome_reached : (most : ℕ) (gm : Grandmaster) (n d : ℕ) (r : Request) (at : ℕ) (o : Outcome) → n ≤ most → filter (is_up_to most) (outcome_lines gm n d r at o) ≡ outcome_lines gm n d r at o
-outcome_reached most gm n d r at (Decided (verdicts.Granted k l seconds until)) le = both (is_up_to most) (Granted n k l at until) (Send n d gm.ip r.client.ip (reply_octets gm r (grant_tlv r seconds))) (le-leb n most le) (le-leb n most le)
-outcome_reached most gm n d r at (Decided (verdicts.Short k l others rate capacity)) le = both (is_up_to most) (Short n k l at others rate capacity) (Send n d gm.ip r.client.ip (reply_octets gm r (denial_tlv r))) (le-leb n most le) (le-leb n most le)
+outcome_reached most gm n d r at (Decided (verdicts.GrantedFor k l seconds until)) le = both (is_up_to most) (Granted n k l at until) (Send n d gm.ip r.client.ip (reply_octets gm r (grant_tlv r seconds))) (le-leb n most le) (le-leb n most le)
+outcome_reached most gm n d r at (Decided (verdicts.ShortOf k l others rate capacity)) le = both (is_up_to most) (Short n k l at others rate capacity) (Send n d gm.ip r.client.ip (reply_octets gm r (denial_tlv r))) (le-leb n most le) (le-leb n most le)
 outcome_reached most gm n d r at (Decided (verdicts.Outside cause)) le = refl
 outcome_reached most gm n d r at (Cancelled ended) le = refl
 outcome_reached most gm n d r at (Turned sent) le = refl
@@ -36,8 +36,8 @@ outcome_reached most gm n d r at (Responded met) le = refl
 outcome_reached most gm n d r at (Resized shed) le = refl
 
 outcome_beyond : (most : ℕ) (gm : Grandmaster) (n d : ℕ) (r : Request) (at : ℕ) (o : Outcome) → most < n → filter (is_up_to most) (outcome_lines gm n d r at o) ≡ []
-outcome_beyond most gm n d r at (Decided (verdicts.Granted k l seconds until)) lt = neither (is_up_to most) (Granted n k l at until) (Send n d gm.ip r.client.ip (reply_octets gm r (grant_tlv r seconds))) (lt-leb n most lt) (lt-leb n most lt)
-outcome_beyond most gm n d r at (Decided (verdicts.Short k l others rate capacity)) lt = neither (is_up_to most) (Short n k l at others rate capacity) (Send n d gm.ip r.client.ip (reply_octets gm r (denial_tlv r))) (lt-leb n most lt) (lt-leb n most lt)
+outcome_beyond most gm n d r at (Decided (verdicts.GrantedFor k l seconds until)) lt = neither (is_up_to most) (Granted n k l at until) (Send n d gm.ip r.client.ip (reply_octets gm r (grant_tlv r seconds))) (lt-leb n most lt) (lt-leb n most lt)
+outcome_beyond most gm n d r at (Decided (verdicts.ShortOf k l others rate capacity)) lt = neither (is_up_to most) (Short n k l at others rate capacity) (Send n d gm.ip r.client.ip (reply_octets gm r (denial_tlv r))) (lt-leb n most lt) (lt-leb n most lt)
 outcome_beyond most gm n d r at (Decided (verdicts.Outside cause)) lt = refl
 outcome_beyond most gm n d r at (Cancelled ended) lt = refl
 outcome_beyond most gm n d r at (Turned sent) lt = refl

@@ -10,7 +10,7 @@ use Rattle.ptu_history.specs.History.{Record, Granted, Short, Capacity, capacity
 use Rattle.ptu_history.specs.Moments.{book_moment, table_moment}
 use Rattle.ptu_history.specs.Live.{Grant, standing, live_grants, without}
 use Rattle.ptu_history.specs.Verdict.{rate_sum, others}
-use Rattle.ptu_history.specs.Step.{table_step_moment}
+use Rattle.ptu_history.specs.Core.{table_step_moment}
 use Rattle.ptu_history.proofs.Currents.{standing-granted, standing-undecided}
 use Rattle.ptu_history.proofs.Moments.{book_moment-one, table_moment-push}
 

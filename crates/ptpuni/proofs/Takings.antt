@@ -6,9 +6,9 @@ use Rattle.std.specs.Io.KnownBytes.{prepend_known}
 use Rattle.std.specs.List.{AllPass}
 use Rattle.std.proofs.lemmas.List.Elements.{All-head, All-tail}
 use Rattle.std.proofs.lemmas.List.Sums.{sum_by-append, sum_by-cons}
-use Rattle.ptu_lines.specs.declared.line_reader.LineReader.{LineReader}
+use Rattle.ptu_lines.specs.Reading.{Reader, Gives, octets_taken, IsGiven, IsStopped}
 use Rattle.ptu_lines.specs.Script.{HasNoEnd, is_end, is_plain}
-use Rattle.ptpuni.specs.Taking.{Gives, LeavesNoLine, Takes, ends_in}
+use Rattle.ptpuni.specs.Taking.{GivesEach, LeavesNoLine, Takes, ends_in}
 
 prepend_known-nil : (told : Option (List ℕ)) → told ≡ prepend_known [] told
 prepend_known-nil None = refl
@@ -49,50 +49,37 @@ ends_in-none (x ∷ xs) h =
     let none : one_end x ≡ 0 = ap (λ b. cond {A = ℕ} b 1 0) h.0 in
     omega (arith, sum_by-cons one_end x xs, none, ends_in-none xs h.1)
 
-plain_no_end : (x : ℕ) → is_plain x ≡ true → one_end x ≡ 0
-plain_no_end x plain = by (x == 10) refl
-  where
-    by : (b : Bool) → (x == 10) ≡ b → cond {A = ℕ} b 1 0 ≡ 0
-    by true e = absurd (omega (arith, eqb-true x 10 e, leb-true 32 x (and_parts (nat_le 32 x) (nat_le x 126) plain).0))
-    by false e = refl
-
-ends_in-plain : (xs : List ℕ) → AllPass is_plain xs → ends_in xs ≡ 0
-ends_in-plain [] h = refl
-ends_in-plain (x ∷ xs) h =
-    omega (arith, sum_by-cons one_end x xs, plain_no_end x (All-head (λ x. is_plain x ≡ true) x xs h), ends_in-plain xs (All-tail (λ x. is_plain x ≡ true) x xs h))
-
-pub Gives-none : (told : Option (List ℕ)) (reader : LineReader) → Gives told told reader reader
-Gives-none told reader = record {
+pub GivesEach-none : (told : Option (List ℕ)) (reader : Reader) → GivesEach told told reader reader
+GivesEach-none told reader = record {
   octets = [];
   taken = prepend_known-nil told;
-  ends = omega (arith, ends_in-append reader.buffer.waiting []);
+  ends = omega (arith, ends_in-append reader.waiting []);
 }
 
-pub Gives-then : {a b c : Option (List ℕ)} {r s t : LineReader} → Gives a b r s → Gives b c s t → Gives a c r t
-Gives-then {c = c} {r = r} {s = s} p q = record {
+pub GivesEach-then : {a b c : Option (List ℕ)} {r s t : Reader} → GivesEach a b r s → GivesEach b c s t → GivesEach a c r t
+GivesEach-then {c = c} {r = r} {s = s} p q = record {
   octets = p.octets ++ q.octets;
   taken = p.taken ∙ ap (prepend_known p.octets) q.taken ∙ prepend_known-append c p.octets q.octets;
-  ends = omega (arith, p.ends, q.ends, ends_in-append r.buffer.waiting (p.octets ++ q.octets), ends_in-append p.octets q.octets, ends_in-append r.buffer.waiting p.octets, ends_in-append s.buffer.waiting q.octets);
+  ends = omega (arith, p.ends, q.ends, ends_in-append r.waiting (p.octets ++ q.octets), ends_in-append p.octets q.octets, ends_in-append r.waiting p.octets, ends_in-append s.waiting q.octets);
 }
 
--- what a line that is given takes
-pub gives_line : (waiting text rest : List ℕ) → (waiting ≡ text ++ 10 ∷ rest) ⊎ ((waiting ≡ text) × (rest ≡ [])) → AllPass is_plain text → ends_in waiting ≤ 1 + ends_in rest
-gives_line waiting text rest (inl e) plain =
-    omega (arith, ap ends_in e, ends_in-append text (10 ∷ rest), ends_in-plain text plain, sum_by-cons one_end 10 rest)
-gives_line waiting text rest (inr e) plain = omega (arith, ap ends_in e.0, ends_in-plain text plain)
+-- no more octets were taken than those of a call
+pub takes : {r s : Reader} {old new : Option (List ℕ)} {lines : List (List ℕ)} → Gives r s old new lines → Takes old new (octets_taken r) (octets_taken s)
+takes g = record { octets = g.octets; taken = g.taken; count = g.count }
+
+-- a line has one end at most
+one_at_most : (line : List ℕ) → (text : List ℕ) × HasNoEnd text × ((line ≡ text ++ 10 ∷ []) ⊎ (line ≡ text)) → ends_in line ≤ 1
+one_at_most line (text, none, inl e) = omega (arith, ap ends_in e, ends_in-append text (10 ∷ []), ends_in-none text none, sum_by-cons one_end 10 [])
+one_at_most line (text, none, inr e) = omega (arith, ap ends_in e, ends_in-none text none)
 
 -- a call that gave a line
-pub gives : {old new : Option (List ℕ)} (r s : LineReader) (text : List ℕ)
-    → (octets : List ℕ) × (old ≡ prepend_known octets new) × ((r.buffer.waiting ++ octets ≡ text ++ 10 ∷ s.buffer.waiting) ⊎ ((r.buffer.waiting ++ octets ≡ text) × (s.buffer.waiting ≡ [])))
-    → s.number ≡ r.number + 1 → AllPass is_plain text → Gives old new r s
-gives r s text cut number plain = record {
-  octets = cut.0;
-  taken = cut.1;
-  ends = omega (arith, number, gives_line (r.buffer.waiting ++ cut.0) text s.buffer.waiting cut.2 plain);
+pub gives : {number : ℕ} {r s : Reader} {old new : Option (List ℕ)} → IsGiven number r s old new → GivesEach old new r s
+gives {r = r} {s = s} g = record {
+  octets = g.gives.octets;
+  taken = g.gives.taken;
+  ends = omega (arith, g.gives.number, ap ends_in g.gives.cut, ends_in-append (g.line ++ []) s.waiting, ends_in-append g.line [], one_at_most g.line g.gives.each.0);
 }
 
 -- a call at which the source failed
-pub leaves : {old new : Option (List ℕ)} (r s : LineReader)
-    → (octets : List ℕ) × (old ≡ prepend_known octets new) × ((s.buffer.waiting ≡ r.buffer.waiting ++ octets) × HasNoEnd (r.buffer.waiting ++ octets))
-    → LeavesNoLine old new r
-leaves r s cut = record { octets = cut.0; taken = cut.1; ends = ends_in-none (r.buffer.waiting ++ cut.0) cut.2.1 }
+pub leaves : {r s : Reader} {old new : Option (List ℕ)} → IsStopped r s old new → LeavesNoLine old new r
+leaves {r = r} {s = s} g = record { octets = g.gives.octets; taken = g.gives.taken; ends = ap ends_in g.gives.cut ∙ ends_in-none s.waiting g.unended }

@@ -1,15 +1,17 @@
 -- The request that a datagram asks for, where it is a Signaling message with one REQUEST within the profile and no other
 -- TLV.
-use Rattle.std.specs.Prelude.{ℕ, ◌+◌, ◌-◌, ◌^◌, ◌≤◌, Bool, ◌&&◌, ◌||◌, ◌==◌, if◌then◌else◌, List, length, nat_le, slice_index, Option, Some, None, Result, Ok, Err, slice_range}
-use Rattle.std.specs.Int.{w8, w64, cast_signed}
+use Rattle.std.specs.Prelude.{ℕ, ◌-◌, ◌^◌, ◌≤◌, Bool, ◌&&◌, ◌||◌, ◌==◌, if◌then◌else◌, List, Option, Some, None, Result, Ok, Err, slice_range}
+use Rattle.std.specs.Result.{result_ok}
 use Rattle.ptu_units.specs.declared.kind.Kind.{Kind}
 use Rattle.ptu_units.specs.Log.{IsLogOf}
 use Rattle.ptu_header.specs.declared.header.Header.{Header}
 use Rattle.ptu_header.specs.declared.header.PortIdentity.{PortIdentity}
-use Rattle.ptu_header.specs.Number.{number_at, high_nibble_at, low_nibble_at}
+use Rattle.ptu_header.specs.Header.{identity_at}
+use Rattle.ptu_header.specs.Reading.{header_in}
 use Rattle.ptu_tlvs.specs.declared.tlv.Ask.{Ask}
 use Rattle.ptu_tlvs.specs.declared.tlv.Tlv.{Tlv}
 use Rattle.ptu_tlvs.specs.declared.tlv.Tlv.TheVariants as tlvs
+use Rattle.ptu_tlvs.specs.Reading.{tlv_in}
 use Rattle.ptu_history.specs.declared.client.Client.{Client}
 use Rattle.ptu_history.specs.Verdict.{OutsideCause, profile}
 use Rattle.ptpuni.specs.declared.request.Request.{Request}
@@ -20,43 +22,18 @@ abbrev pub ◌>>=◌ : {A B : Type 0} → Option A → (A → Option B) → Opti
 (Some x) >>= f = f x
 None >>= f = None
 
--- the port identity in the ten octets from a place on
-abbrev pub identity_at : List ℕ → ℕ → PortIdentity
-identity_at octets place = record { clock = number_at octets place 8; port = number_at octets (place + 8) 2 }
-
--- the header whose fields stand in the octets
-abbrev pub header_at : List ℕ → Header
-header_at octets =
-    record {
-      message_type = low_nibble_at octets 0;
-      domain = slice_index octets 4;
-      flags = number_at octets 6 2;
-      correction = cast_signed w64 (number_at octets 8 8);
-      source = identity_at octets 20;
-      sequence = number_at octets 30 2;
-    }
-
--- the octets begin with a message of versionPTP 2 and majorSdoId 0, and have all of it
-abbrev pub begins_message : List ℕ → Bool
-begins_message octets =
-    nat_le 34 (length octets) && low_nibble_at octets 1 == 2 && high_nibble_at octets 0 == 0
-    && nat_le 34 (number_at octets 2 2) && nat_le (number_at octets 2 2) (length octets)
-
 -- the header that the octets begin with and the messageLength
-unfoldable pub header_in : List ℕ → Option (Header × ℕ)
-header_in octets = if begins_message octets then Some (header_at octets, number_at octets 2 2) else None
+abbrev pub found_header : List ℕ → Option (Header × ℕ)
+found_header octets = result_ok (header_in octets)
 
 -- what a REQUEST asks for
 abbrev pub requested_by : Tlv → Option Ask
 requested_by (tlvs.Request ask) = Some ask
 requested_by _ = None
 
--- what is asked for by the ten octets of a TLV, if it is a REQUEST
-unfoldable pub ask_in : List ℕ → Option Ask
-ask_in octets =
-    if number_at octets 0 2 == 4 && number_at octets 2 2 == 6
-    then Some (record { code = high_nibble_at octets 4; log = cast_signed w8 (slice_index octets 5); seconds = number_at octets 6 4 })
-    else None
+-- what is asked for by the TLV that the octets begin with, if it is a REQUEST
+abbrev pub found_ask : List ℕ → Option Ask
+found_ask octets = result_ok (tlv_in octets) >>= λ read. requested_by read.0
 
 -- a targetPortIdentity matches where each of its parts is the own or all ones
 abbrev pub is_target : PortIdentity → PortIdentity → Bool
@@ -86,10 +63,10 @@ is_request_header domain (header, n) = n == 54 && header.message_type == 12 && h
 abbrev pub request_behind : Grandmaster → ℕ → List ℕ → Header × ℕ → Option Request
 request_behind gm from octets header =
     if is_request_header gm.domain header && is_target gm.identity (identity_at octets 34)
-    then (ask_in (slice_range octets 44 54) >>= within_profile (record { ip = from; clock = header.0.source.clock; port = header.0.source.port }) header.0.sequence)
+    then (found_ask (slice_range octets 44 54) >>= within_profile (record { ip = from; clock = header.0.source.clock; port = header.0.source.port }) header.0.sequence)
     else None
 
 -- the request of a datagram that came from the address: a Signaling message of 54 octets in the grandmaster's domain and
 -- for its port, whose one TLV is a REQUEST within the profile
 unfoldable pub request_in : Grandmaster → ℕ → List ℕ → Option Request
-request_in gm from octets = header_in octets >>= request_behind gm from octets
+request_in gm from octets = found_header octets >>= request_behind gm from octets

@@ -4,7 +4,8 @@ use Rattle.ptu_history.specs.History.{Record, capacity_in_force}
 use Rattle.ptu_history.specs.Moments.{book_moment, table_moment}
 use Rattle.ptu_history.specs.Live.{live_grants}
 use Rattle.ptu_history.specs.Verdict as verdicts
-use Rattle.ptu_history.specs.Step as steps
+use Rattle.ptu_history.specs.Events as events
+use Rattle.ptu_history.specs.Core.{core_moment, core_step}
 use Rattle.ptu_units.specs.Kind.{code_of}
 use Rattle.ptpuni.specs.declared.request.Request.{Request}
 use Rattle.ptpuni.specs.declared.leases.Decision.{Decision}
@@ -17,22 +18,22 @@ abbrev pub ask_of : Request → verdicts.Ask
 ask_of r = record { code = code_of r.kind; log = r.log; seconds = r.seconds }
 
 -- the request as an event
-abbrev pub event_of : Request → steps.Event
-event_of r = steps.Request r.client (ask_of r)
+abbrev pub event_of : Request → events.Event
+event_of r = events.Request r.client (ask_of r)
 
 -- what the request that is handed the moment does to the history
-abbrev pub taken : ℕ → ℕ → List Record → ℕ → Request → steps.Taken
+abbrev pub taken : ℕ → ℕ → List Record → ℕ → Request → events.Taken
 taken capacity max_duration history handed r =
-    steps.core_step (record { max_duration = max_duration; capacity = capacity }) history handed (event_of r)
+    core_step (record { max_duration = max_duration; capacity = capacity }) history handed (event_of r)
 
 -- the moment at which it is decided
 abbrev pub moment_taken : List Record → ℕ → Request → ℕ
-moment_taken history handed r = steps.core_moment history handed (event_of r)
+moment_taken history handed r = core_moment history handed (event_of r)
 
 -- what the decision says of the request
-abbrev pub outcome_of : Request → ℕ → Decision → steps.Outcome
-outcome_of r capacity (Granted at seconds until) = steps.Decided (verdicts.Granted r.kind r.log seconds until)
-outcome_of r capacity (Short at others rate) = steps.Decided (verdicts.Short r.kind r.log others rate capacity)
+abbrev pub outcome_of : Request → ℕ → Decision → events.Outcome
+outcome_of r capacity (Granted at seconds until) = events.Decided (verdicts.GrantedFor r.kind r.log seconds until)
+outcome_of r capacity (Short at others rate) = events.Decided (verdicts.ShortOf r.kind r.log others rate capacity)
 
 abbrev pub decision_moment : Decision → ℕ
 decision_moment (Granted at seconds until) = at

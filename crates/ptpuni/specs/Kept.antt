@@ -1,12 +1,13 @@
 -- What a grandmaster keeps to in every script that asks it for grants, and where the report says so.
-use Rattle.std.specs.Prelude.{◌≡◌, ◌↔◌, ℕ, ◌+◌, ◌≤◌, List, [], ◌∷◌, ◌++◌, length, map, Option, Some, None, IsTrue}
+use Rattle.std.specs.Prelude.{◌≡◌, ◌↔◌, ℕ, ◌+◌, ◌<◌, ◌≤◌, List, [], ◌∷◌, ◌++◌, length, map, Option, Some, None, IsTrue}
 use Rattle.ptu_units.specs.Log.{rate_of}
 use Rattle.ptu_lines.specs.Script.{ScriptLine, Whole, Refused}
 use Rattle.ptu_history.specs.History.{Record}
 use Rattle.ptu_history.specs.Held.{held}
 use Rattle.ptu_history.specs.Verdict.{Config, Verdict, others, verdict}
-use Rattle.ptu_history.specs.Step.{Decided, history}
-use Rattle.ptu_laws.specs.Granted.{is_granted}
+use Rattle.ptu_history.specs.Events.{Decided}
+use Rattle.ptu_history.specs.Core.{core_history}
+use Rattle.ptu_laws.specs.Granted.{is_granted, is_short}
 use Rattle.ptpuni.specs.declared.grandmaster.Grandmaster.{Grandmaster}
 use Rattle.ptpuni.specs.declared.script.Asked.{Asked}
 use Rattle.ptpuni.specs.Decision.{ask_of, event_of, moment_taken}
@@ -38,7 +39,7 @@ config_of gm = record { max_duration = gm.max_duration; capacity = gm.capacity }
 
 -- its history after these requests
 unfoldable pub history_of : Grandmaster → List Asked → List Record
-history_of gm asks = history (config_of gm) (map (λ a. (a.at, event_of a.request)) asks)
+history_of gm asks = core_history (config_of gm) (map (λ a. (a.at, event_of a.request)) asks)
 
 -- the moment at which the next request is decided
 abbrev pub moment_after : Grandmaster → List Asked → Asked → ℕ
@@ -59,13 +60,14 @@ abbrev pub lines_after : Grandmaster → List Asked → Asked → List ReportLin
 lines_after gm before a =
     outcome_lines gm (length before + 2) (length before + 1) a.request (moment_after gm before a) (Decided (verdict_after gm before a))
 
--- the report says how the request after these was decided, and it was granted exactly where its rate fits beside those
--- of the other live grants
+-- the report says how the request after these was decided: it was granted exactly where its rate fits beside those of
+-- the other live grants, and else denied, so that none is outside the profile
 pub record IsDecidedByRoom (gm : Grandmaster) (script : List ℕ) (before : List Asked) (a : Asked) : Type 0 where
   pub earlier : List ReportLine
   pub later : List ReportLine
   pub shown : report script ≡ earlier ++ (lines_after gm before a ++ later)
   pub granted : IsTrue (is_granted (verdict_after gm before a)) ↔ (rates_beside gm before a ≤ gm.capacity)
+  pub denied : IsTrue (is_short (verdict_after gm before a)) ↔ (gm.capacity < rates_beside gm before a)
 
 -- of a script that hands the grandmaster these requests: at every moment the rates that are held sum to at most the
 -- capacity, and each request is decided by the room for it

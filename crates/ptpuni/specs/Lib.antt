@@ -13,5 +13,6 @@ pub mod Next
 pub mod Ending
 pub mod First
 pub mod Taking
+pub mod Stops
 pub mod Kept
 pub mod Run

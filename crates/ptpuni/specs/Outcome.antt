@@ -1,7 +1,7 @@
 -- The lines of the report that a decided request gives.
-use Rattle.std.specs.Prelude.{ℕ, List, [], ◌∷◌}
+use Rattle.std.specs.Prelude.{ℕ, List, [], ◌∷◌, map}
 use Rattle.std.specs.List.{flat_map}
-use Rattle.ptu_history.specs.Step.{Outcome, Decided}
+use Rattle.ptu_history.specs.Events.{Outcome, Decided}
 use Rattle.ptu_history.specs.Verdict as verdicts
 use Rattle.ptu_tlvs.specs.declared.tlv.Tlv.{Tlv}
 use Rattle.ptpuni.specs.declared.leases.Decision.{Decision}
@@ -13,11 +13,15 @@ use Rattle.ptpuni.specs.Report.{ReportLine, Granted, Short, Send, text_of}
 
 -- the decision, and the reply as the datagram of this number
 abbrev pub outcome_lines : Grandmaster → ℕ → ℕ → Request → ℕ → Outcome → List ReportLine
-outcome_lines gm number datagram r at (Decided (verdicts.Granted k l seconds until)) =
+outcome_lines gm number datagram r at (Decided (verdicts.GrantedFor k l seconds until)) =
     Granted number k l at until ∷ Send number datagram gm.ip r.client.ip (reply_octets gm r (grant_tlv r seconds)) ∷ []
-outcome_lines gm number datagram r at (Decided (verdicts.Short k l others rate capacity)) =
+outcome_lines gm number datagram r at (Decided (verdicts.ShortOf k l others rate capacity)) =
     Short number k l at others rate capacity ∷ Send number datagram gm.ip r.client.ip (reply_octets gm r (denial_tlv r)) ∷ []
 outcome_lines gm number datagram r at _ = []
+
+-- the text of each of these lines
+abbrev pub texts_of : List ReportLine → List (List ℕ)
+texts_of lines = map text_of lines
 
 -- the octets of these lines
 abbrev pub report_text : List ReportLine → List ℕ

@@ -1,8 +1,7 @@
 -- The Signaling message that answers a request.
 use Rattle.std.specs.Prelude.{ℕ, true, false, List, ◌++◌, pos}
-use Rattle.std.specs.Int.{w16, w64, to_be_bytes}
 use Rattle.ptu_header.specs.declared.header.Header.{Header}
-use Rattle.ptu_header.specs.Sent.{sent_header}
+use Rattle.ptu_header.specs.Sent.{sent_header, sent_identity}
 use Rattle.ptu_tlvs.specs.declared.tlv.Ask.{Ask}
 use Rattle.ptu_tlvs.specs.declared.tlv.Tlv.{Tlv}
 use Rattle.ptu_tlvs.specs.declared.tlv.Tlv.TheVariants as tlvs
@@ -31,4 +30,4 @@ reply_header gm r =
 -- the header, the client's port identity as target, and the one TLV
 unfoldable pub reply_octets : Grandmaster → Request → Tlv → List ℕ
 reply_octets gm r tlv =
-    sent_header (reply_header gm r) 56 ++ to_be_bytes w64 r.client.clock ++ to_be_bytes w16 r.client.port ++ sent_tlv tlv
+    sent_header (reply_header gm r) 56 ++ sent_identity (record { clock = r.client.clock; port = r.client.port }) ++ sent_tlv tlv

@@ -1,7 +1,9 @@
 -- What a run of the program answers.
-use Rattle.std.specs.Prelude.{◌≡◌, ℕ, Bool, false, if◌then◌else◌, List, [], ◌∷◌, ◌++◌, codes, Option, Some}
+use Rattle.std.specs.Prelude.{◌≡◌, ℕ, Bool, false, if◌then◌else◌, List, [], ◌∷◌, codes, Option}
+use Rattle.std.specs.Io.KnownBytes.{IsAtEnd, append_known}
+use Rattle.ptu_outside.specs.Handing.{HasPut}
 use Rattle.std.specs.Str.{bytes_eq}
-use Rattle.ptpuni.specs.Outcome.{report_text}
+use Rattle.ptpuni.specs.Outcome.{report_text, texts_of}
 use Rattle.ptpuni.specs.Replay.{report, is_whole}
 
 -- the statuses that there are
@@ -17,9 +19,10 @@ is_replay _ = false
 abbrev pub status_of_report : List ℕ → ℕ
 status_of_report script = if is_whole (report script) then 0 else 65
 
--- after the replay of the script the sink tells its report behind what it told before; the status says how the report
--- ends, and with 0 the source was read to its end
-pub record HasReplayed (script before : List ℕ) (left written : Option (List ℕ)) (status : ℕ) : Type 0 where
-  pub report_is : written ≡ Some (before ++ report_text (report script))
+-- after the replay of the script its report was written behind what was written before, each line handed over in one
+-- piece; the status says how the report ends, and with 0 the source was read to its end
+pub record HasReplayed {K : Type 0} (written : K → Option (List ℕ)) (handed : K → Option (List (List ℕ))) (old new : K) (script : List ℕ) (left : Option (List ℕ)) (status : ℕ) : Type 0 where
+  pub report_is : written new ≡ append_known (written old) (report_text (report script))
+  pub in_pieces : HasPut written handed old new (texts_of (report script))
   pub status_is : status ≡ status_of_report script
-  pub read_whole : status ≡ 0 → left ≡ Some []
+  pub read_whole : status ≡ 0 → IsAtEnd left

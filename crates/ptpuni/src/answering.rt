@@ -1,13 +1,12 @@
 //! A decided request in the report: its line, and the reply that is sent.
 
-ghost use Rattle.std.specs.Prelude.{◌≡◌, ◌≢◌, ◌<◌, ◌≤◌, ◌++◌, ℕ, List, [], ◌∷◌, length, take, IfOk, OnOk, OnErr, IfErr, IsErrOf};
+ghost use Rattle.std.specs.Prelude.{◌≡◌, ◌≢◌, [], ◌∷◌, IfOk, OnOk, OnErr, IfErr};
 ghost use Rattle.std.specs.String.{string_bytes};
-ghost use Rattle.std.specs.Io.KnownBytes.{append_known};
-ghost use Rattle.ptu_outside.specs.Faults.{HasRisen};
+ghost use Rattle.ptu_outside.specs.Handing.{HasPut, HasPutPart};
 ghost use Rattle.ptu_tlvs.specs.Sent.{IsSendable};
-ghost use Rattle.ptpuni.specs.Outcome.{decided_lines, report_text, decision_line, answer_to};
+ghost use Rattle.ptpuni.specs.Outcome.{decided_lines, texts_of, decision_line, answer_to};
 ghost use Rattle.ptpuni.specs.Report.{text_of};
-ghost use Rattle.ptpuni.specs.Written.{HasWritten, HasWrittenPart};
+ghost use Rattle.ptpuni.specs.Stops.{CountsWrite};
 
 use crate::grandmaster::Grandmaster;
 use crate::leases::Decision;
@@ -19,13 +18,12 @@ use ptu_outside::{Sink, write_whole};
 use ptu_tlvs::Tlv;
 use std::alloc::{AllocError, Global};
 
-/// Hands a line to the sink, and its rest again until all is taken.
+/// Hands a line to the sink in one piece, and its rest again until all is taken.
 pub fn put<K: Sink>(sink: &mut K, line: &str) -> Result<(), Stop>
-    ensures whole { OnOk result (HasWritten (K.written sink.old) (K.written sink.new) line.now) }
-    ensures part { OnErr result (HasWrittenPart (K.written sink.old) (K.written sink.new) line.now) }
-    ensures risen { OnErr result (HasRisen (K.faults sink.old) (K.faults sink.new)) }
+    ensures whole { OnOk result (HasPut K.written K.handed sink.old sink.new (line.now ∷ [])) }
+    ensures part { OnErr result (HasPutPart K.written K.handed sink.old sink.new (line.now ∷ [])) }
     ensures cause { IfErr result (λ stop. stop ≡ Stop.Write) }
-    ensures no_fall { K.faults sink.old ≤ K.faults sink.new }
+    ensures counts { CountsWrite result (K.faults sink.old) (K.faults sink.new) }
 {
     match write_whole(sink, line.as_bytes()) {
         Ok(()) => Ok(()),
@@ -41,7 +39,8 @@ fn line_of(
     request: &Request,
     decision: &Decision,
 ) -> Result<String, AllocError>
-    ensures { IfOk result (λ text. string_bytes text ≡ text_of (decision_line gm.now number request.now decision.now)) }
+    ensures { IfOk result (λ text. string_bytes text
+        ≡ text_of (decision_line gm.now number request.now decision.now)) }
 {
     match *decision {
         Decision::Granted { at, until, .. } => {
@@ -80,7 +79,9 @@ fn lines_of(
     request: &Request,
     decision: &Decision,
 ) -> Result<(String, String), AllocError>
-    ensures { IfOk result (λ lines. report_text (decided_lines gm.now number datagram request.now decision.now) ≡ string_bytes lines.0 ++ string_bytes lines.1) }
+    ensures { IfOk result (λ lines. texts_of
+        (decided_lines gm.now number datagram request.now decision.now)
+        ≡ string_bytes lines.0 ∷ string_bytes lines.1 ∷ []) }
 {
     let line = line_of(alloc, gm, number, request, decision)?;
     let answer = answer_of(request, decision);
@@ -91,16 +92,15 @@ fn lines_of(
 
 // Hands one line to the sink, and then the other.
 fn put_both<K: Sink>(sink: &mut K, first: &str, second: &str) -> Result<(), Stop>
-    ensures whole { OnOk result (HasWritten (K.written sink.old) (K.written sink.new) (first.now ++ second.now)) }
-    ensures part { OnErr result (HasWrittenPart (K.written sink.old) (K.written sink.new) (first.now ++ second.now)) }
-    ensures risen { OnErr result (HasRisen (K.faults sink.old) (K.faults sink.new)) }
+    ensures whole { OnOk result (HasPut K.written K.handed sink.old sink.new
+        (first.now ∷ second.now ∷ [])) }
+    ensures part { OnErr result (HasPutPart K.written K.handed sink.old sink.new
+        (first.now ∷ second.now ∷ [])) }
     ensures cause { IfErr result (λ stop. stop ≡ Stop.Write) }
-    ensures no_fall { K.faults sink.old ≤ K.faults sink.new }
+    ensures counts { CountsWrite result (K.faults sink.old) (K.faults sink.new) }
 {
-    match put(sink, first) {
-        Ok(()) => put(sink, second),
-        Err(stop) => Err(stop),
-    }
+    put(sink, first)?;
+    put(sink, second)
 }
 
 /// Writes the decision and the reply, which is the datagram of this number.
@@ -113,11 +113,12 @@ pub fn write_decision<K: Sink>(
     decision: &Decision,
     sink: &mut K,
 ) -> Result<(), Stop>
-    ensures whole { OnOk result (HasWritten (K.written sink.old) (K.written sink.new) (report_text (decided_lines gm.now number datagram request.now decision.now))) }
-    ensures part { OnErr result (HasWrittenPart (K.written sink.old) (K.written sink.new) (report_text (decided_lines gm.now number datagram request.now decision.now))) }
-    ensures risen { IsErrOf result Stop.Write → HasRisen (K.faults sink.old) (K.faults sink.new) }
+    ensures whole { OnOk result (HasPut K.written K.handed sink.old sink.new
+        (texts_of (decided_lines gm.now number datagram request.now decision.now))) }
+    ensures part { OnErr result (HasPutPart K.written K.handed sink.old sink.new
+        (texts_of (decided_lines gm.now number datagram request.now decision.now))) }
     ensures cause { IfErr result (λ stop. stop ≢ Stop.Read) }
-    ensures no_fall { K.faults sink.old ≤ K.faults sink.new }
+    ensures counts { CountsWrite result (K.faults sink.old) (K.faults sink.new) }
 {
     let (line, sending) = lines_of(alloc, gm, number, datagram, request, decision)?;
     put_both(sink, line.as_str(), sending.as_str())

@@ -1,7 +1,8 @@
 //! The request that a datagram asks for.
 
 ghost use Rattle.std.specs.Prelude.{◌≡◌, ◌≤◌, length, IfSome};
-ghost use Rattle.ptpuni.specs.Datagram.{header_in, ask_in, requested_by, is_target, identity_at, within_profile, request_in, IsWithinProfile};
+ghost use Rattle.ptpuni.specs.Datagram.{found_header, found_ask, requested_by, is_target, within_profile, request_in, IsWithinProfile};
+ghost use Rattle.ptu_header.specs.Header.{identity_at};
 
 use crate::grandmaster::Grandmaster;
 use crate::request::Request;
@@ -18,7 +19,7 @@ const REQUEST_LENGTH: u16 = 54;
 
 // The header that the octets begin with, and the messageLength.
 fn header_of(octets: &[u8]) -> Option<(Header, u16)>
-    ensures value { result ≡ header_in octets.now }
+    ensures value { result ≡ found_header octets.now }
     ensures within { IfSome result (λ read. read.1 ≤ length octets.now) }
 {
     read_header(octets).ok()
@@ -34,10 +35,9 @@ fn requested(tlv: &Tlv) -> Option<Ask>
     }
 }
 
-// What is asked for by a TLV of ten octets, if it is a REQUEST.
+// What is asked for by the TLV that the octets begin with, if it is a REQUEST.
 fn ask_of(octets: &[u8]) -> Option<Ask>
-    requires { length octets.now ≡ 10 }
-    ensures { result ≡ ask_in octets.now }
+    ensures { result ≡ found_ask octets.now }
 {
     let (tlv, _) = next_tlv(octets).ok()?;
     requested(&tlv)
@@ -48,13 +48,7 @@ fn target_of(octets: &[u8]) -> PortIdentity
     requires { 44 ≤ length octets.now }
     ensures { result ≡ identity_at octets.now 34 }
 {
-    PortIdentity {
-        clock: u64::from_be_bytes([
-            octets[34], octets[35], octets[36], octets[37], octets[38], octets[39], octets[40],
-            octets[41],
-        ]),
-        port: u16::from_be_bytes([octets[42], octets[43]]),
-    }
+    PortIdentity::at(octets, 34)
 }
 
 // Whether a targetPortIdentity matches: each of its parts is the own or all ones.

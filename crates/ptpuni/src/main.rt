@@ -20,17 +20,30 @@ mod script;
 mod stop;
 mod text;
 
-ghost use Rattle.std.specs.Prelude.{◌≡◌, IfOk, map};
+ghost use Rattle.std.specs.Prelude.{◌≡◌, ◌≢◌, IfOk, map};
 ghost use Rattle.std.specs.String.{string_bytes};
 
 use ptu_outside::{StdSink, StdSource};
 use run::{OUT_OF_MEMORY, USAGE};
 use std::alloc::{AllocError, Global};
 use std::env::Env;
+use std::io::ErrorKind;
 use std::process::ExitCode;
 use std::{env, io};
 
 const USAGE_TEXT: &str = "usage: ptpuni replay";
+
+// The status of a run whose words can't be had: one that is not UTF-8 makes a faulty command line.
+fn status_without_words(kind: ErrorKind) -> u8
+    ensures usage { kind ≡ ErrorKind.InvalidData → result ≡ USAGE }
+    ensures memory { kind ≢ ErrorKind.InvalidData → result ≡ OUT_OF_MEMORY }
+{
+    if kind == ErrorKind::InvalidData {
+        USAGE
+    } else {
+        OUT_OF_MEMORY
+    }
+}
 
 // The words after the program's name.
 fn words_of<R: Env + AllocGlobal>(rt: &R) -> io::Result<Vec<String>> {
@@ -52,16 +65,21 @@ fn texts_of(alloc: Global, words: &[String]) -> Result<Vec<&str>, AllocError>
     Ok(texts)
 }
 
-fn main(rt: HostRuntime) -> ExitCode {
-    let Ok(words) = words_of(&rt) else {
-        return ExitCode::from(OUT_OF_MEMORY);
-    };
-    let Ok(texts) = texts_of(rt.alloc(), &words) else {
-        return ExitCode::from(OUT_OF_MEMORY);
+// Runs the words over standard input and output.
+fn status_of(rt: &HostRuntime, words: &[String]) -> u8 {
+    let Ok(texts) = texts_of(rt.alloc(), words) else {
+        return OUT_OF_MEMORY;
     };
     let mut source = StdSource::new(rt.stdin());
     let mut sink = StdSink::new(rt.stdout());
-    let status = run::run(rt.alloc(), &texts, &mut source, &mut sink);
+    run::run(rt.alloc(), &texts, &mut source, &mut sink)
+}
+
+fn main(rt: HostRuntime) -> ExitCode {
+    let status = match words_of(&rt) {
+        Ok(words) => status_of(&rt, &words),
+        Err(error) => status_without_words(error.kind()),
+    };
     if status == USAGE {
         let _ = eprintln!(rt; "{USAGE_TEXT}");
     }

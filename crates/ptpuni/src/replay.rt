@@ -1,18 +1,20 @@
 //! The replay of a script.
 
-ghost use Rattle.std.specs.Prelude.{◌≡◌, ◌≢◌, ◌<◌, ◌≤◌, ◌+◌, ◌++◌, ℕ, List, [], ◌∷◌, length, IfOk, OnOk, OnErr, IfErr, IsErrOf};
-ghost use Rattle.ptu_outside.specs.Faults.{HasRisen};
-ghost use Rattle.ptpuni.specs.Taking.{Takes};
-ghost use Rattle.ptu_history.specs.History.{Record};
-ghost use Rattle.ptpuni.specs.Decision.{StandsFor};
-ghost use Rattle.ptpuni.specs.Outcome.{report_text};
-ghost use Rattle.ptpuni.specs.Replay.{request_lines, history_with, report_after, report};
-ghost use Rattle.ptpuni.specs.Written.{HasReported, HasWritten, HasWrittenAllMore, HasWrittenAllRead, HasWrittenPart};
-ghost use Rattle.ptu_lines.specs.Script.{ScriptLine};
-ghost use Rattle.ptu_lines.specs.Lines.{lines_left, octets_taken};
+ghost use Rattle.std.specs.Prelude.{◌≡◌, ◌≢◌, ◌≤◌, ℕ, List, [], ◌∷◌, length, IfOk, OnOk, OnErr, IfErr, IsErrOf};
 ghost use Rattle.std.specs.Io.KnownBytes.{IsAtEnd, prepend_known};
-ghost use Rattle.ptpuni.specs.Forms.{IsWithinLimits};
+ghost use Rattle.ptu_outside.specs.Ends.{StopsAtEnd};
+ghost use Rattle.ptu_outside.specs.Handing.{HasPut, HasPutPart};
+ghost use Rattle.ptu_lines.specs.Script.{ScriptLine};
+ghost use Rattle.ptu_lines.specs.Reading.{octets_taken, lines_left, AgreesOnEnd, IsReadToEnd};
+ghost use Rattle.ptu_history.specs.History.{Record};
 ghost use Rattle.ptpuni.specs.Datagram.{IsWithinProfile};
+ghost use Rattle.ptpuni.specs.Decision.{StandsFor};
+ghost use Rattle.ptpuni.specs.Forms.{IsWithinLimits};
+ghost use Rattle.ptpuni.specs.Outcome.{texts_of};
+ghost use Rattle.ptpuni.specs.Replay.{request_lines, history_with, report_after, report};
+ghost use Rattle.ptpuni.specs.Stops.{CountsRead, CountsWrite};
+ghost use Rattle.ptpuni.specs.Taking.{Takes};
+ghost use Rattle.ptpuni.specs.Written.{HasReported, HasWrittenAllMore, HasWrittenAllRead};
 
 use crate::answering::{put, write_decision};
 use crate::ending::Ending;
@@ -23,7 +25,7 @@ use crate::next::{Next, next_line};
 use crate::report::{bad_line, end_line};
 use crate::script::Asked;
 use crate::stop::Stop;
-use ptu_lines::Lines;
+use ptu_lines::LineReader;
 use ptu_outside::{Sink, Source};
 use std::alloc::Global;
 
@@ -40,15 +42,17 @@ fn answer<K: Sink>(
     requires limits { IsWithinLimits gm.now }
     requires profile { IsWithinProfile asked.now.request }
     requires capacity { leases.old.capacity ≡ gm.now.capacity }
-    ensures stands { OnOk result ((history : List Record) → StandsFor leases.old history → StandsFor leases.new (history_with gm.now history asked.now)) }
+    ensures stands { OnOk result ((history : List Record) → StandsFor leases.old history
+        → StandsFor leases.new (history_with gm.now history asked.now)) }
     ensures whole { OnOk result ((history : List Record) → StandsFor leases.old history
-        → HasWritten (K.written sink.old) (K.written sink.new) (report_text (request_lines gm.now history number datagram asked.now))) }
+        → HasPut K.written K.handed sink.old sink.new
+        (texts_of (request_lines gm.now history number datagram asked.now))) }
     ensures part { OnErr result ((history : List Record) → StandsFor leases.old history
-        → HasWrittenPart (K.written sink.old) (K.written sink.new) (report_text (request_lines gm.now history number datagram asked.now))) }
+        → HasPutPart K.written K.handed sink.old sink.new
+        (texts_of (request_lines gm.now history number datagram asked.now))) }
     ensures capacity { leases.new.capacity ≡ leases.old.capacity }
-    ensures risen { IsErrOf result Stop.Write → HasRisen (K.faults sink.old) (K.faults sink.new) }
     ensures cause { IfErr result (λ stop. stop ≢ Stop.Read) }
-    ensures no_fall { K.faults sink.old ≤ K.faults sink.new }
+    ensures counts { CountsWrite result (K.faults sink.old) (K.faults sink.new) }
 {
     let decision = leases.decide(gm.max_duration, asked.at, &asked.request)?;
     write_decision(alloc, gm, number, datagram, &asked.request, &decision, sink)
@@ -56,47 +60,54 @@ fn answer<K: Sink>(
 
 // Hands the last line to the sink.
 fn finish<K: Sink>(sink: &mut K, line: &str, ending: Ending) -> Result<Ending, Stop>
-    ensures whole { IfOk result (λ e. (e ≡ ending) × HasWritten (K.written sink.old) (K.written sink.new) line.now) }
-    ensures part { OnErr result (HasWrittenPart (K.written sink.old) (K.written sink.new) line.now) }
-    ensures risen { OnErr result (HasRisen (K.faults sink.old) (K.faults sink.new)) }
+    ensures whole { IfOk result (λ e.
+        (e ≡ ending) × HasPut K.written K.handed sink.old sink.new (line.now ∷ [])) }
+    ensures part { OnErr result (HasPutPart K.written K.handed sink.old sink.new (line.now ∷ [])) }
     ensures cause { IfErr result (λ stop. stop ≡ Stop.Write) }
-    ensures no_fall { K.faults sink.old ≤ K.faults sink.new }
+    ensures counts { CountsWrite result (K.faults sink.old) (K.faults sink.new) }
 {
-    match put(sink, line) {
-        Ok(()) => Ok(ending),
-        Err(stop) => Err(stop),
-    }
+    put(sink, line)?;
+    Ok(ending)
 }
 
 // Replays the lines after the setup line.
 fn requests<S: Source, K: Sink>(
     alloc: Global,
     gm: &Grandmaster,
-    lines: &mut Lines<'_, S>,
+    reader: &mut LineReader,
+    source: &mut S,
     sink: &mut K,
 ) -> Result<Ending, Stop>
     requires limits { IsWithinLimits gm.now }
-    requires first { lines.old.reader.number ≡ 1 }
-    ensures same { lines.new.source.ghost_name ≡ lines.old.source.ghost_name }
-    ensures whole { IfOk result (λ ending. (left : List ScriptLine) → lines_left S.left lines.old ≡ Some left
-        → HasReported (K.written sink.old) (K.written sink.new) (report_after gm.now [] 1 0 left) ending) }
-    ensures part { OnErr result ((left : List ScriptLine) → lines_left S.left lines.old ≡ Some left
-        → HasWrittenPart (K.written sink.old) (K.written sink.new) (report_text (report_after gm.now [] 1 0 left))) }
-    ensures all_read { IsErrOf result Stop.Read → (left : List ScriptLine) → lines_left S.left lines.old ≡ Some left
-        → HasWrittenAllMore (S.left lines.old.source.now) (S.left lines.new.source.now) (K.written sink.old) (K.written sink.new) lines.old.reader (report_after gm.now [] 1 0 left) }
-    ensures end { IfOk result (λ ending. ending ≡ Ending.Whole → IsAtEnd (S.left lines.new.source.now)) }
-    ensures read { IsErrOf result Stop.Read → HasRisen (S.faults lines.old.source.now) (S.faults lines.new.source.now) }
-    ensures write { IsErrOf result Stop.Write → HasRisen (K.faults sink.old) (K.faults sink.new) }
-    ensures taken { Takes (S.left lines.old.source.now) (S.left lines.new.source.now) (octets_taken lines.old.reader) (octets_taken lines.new.reader) }
-    ensures bounded { octets_taken lines.old.reader ≤ 67108865 → octets_taken lines.new.reader ≤ 67108865 }
-    ensures source_no_fall { S.faults lines.old.source.now ≤ S.faults lines.new.source.now }
-    ensures sink_no_fall { K.faults sink.old ≤ K.faults sink.new }
+    requires first { reader.old.number ≡ 1 }
+    requires in_step { AgreesOnEnd reader.old.is_ended (S.left source.old) }
+    ensures whole { IfOk result (λ ending. (left : List ScriptLine)
+        → lines_left reader.old (S.left source.old) ≡ Some left
+        → HasReported K.written K.handed sink.old sink.new
+        (report_after gm.now [] 1 0 left) ending) }
+    ensures part { OnErr result ((left : List ScriptLine)
+        → lines_left reader.old (S.left source.old) ≡ Some left
+        → HasPutPart K.written K.handed sink.old sink.new
+        (texts_of (report_after gm.now [] 1 0 left))) }
+    ensures all_read { IsErrOf result Stop.Read → (left : List ScriptLine)
+        → lines_left reader.old (S.left source.old) ≡ Some left
+        → HasWrittenAllMore K.written K.handed sink.old sink.new (S.left source.old)
+        (S.left source.new)
+        reader.old (report_after gm.now [] 1 0 left) }
+    ensures end { IfOk result (λ ending. ending ≡ Ending.Whole → IsAtEnd (S.left source.new)) }
+    ensures taken { Takes (S.left source.old) (S.left source.new)
+        (octets_taken reader.old) (octets_taken reader.new) }
+    ensures bounded { octets_taken reader.new ≤ 67108865 }
+    ensures ends { IsReadToEnd reader.old.is_ended (S.ends source.old)
+        → IsReadToEnd reader.new.is_ended (S.ends source.new) }
+    ensures source_counts { CountsRead result (S.faults source.old) (S.faults source.new) }
+    ensures sink_counts { CountsWrite result (K.faults sink.old) (K.faults sink.new) }
 {
     let mut leases = Leases::new(alloc, gm.capacity);
     let mut count = 1;
     let mut datagrams = 0;
     'script: loop {
-        let next = next_line(gm, lines, count)?;
+        let next = next_line(gm, reader, source, count)?;
         match next {
             Next::Request { number, asked } => {
                 count = number;
@@ -119,30 +130,38 @@ fn requests<S: Source, K: Sink>(
 /// rest again until all is taken.
 ///
 /// # Errors
-/// `Read` where the source failed, `Write` where the sink failed, and `OutOfMemory`.
+/// `Read` exactly where the source failed, `Write` exactly where the sink failed, and
+/// `OutOfMemory`.
 pub fn replay<S: Source, K: Sink>(
     alloc: Global,
     source: &mut S,
     sink: &mut K,
 ) -> Result<Ending, Stop>
     ensures whole { IfOk result (λ ending. (script : List ℕ) → S.left source.old ≡ Some script
-        → HasReported (K.written sink.old) (K.written sink.new) (report script) ending) }
+        → HasReported K.written K.handed sink.old sink.new (report script) ending) }
     ensures end { IfOk result (λ ending. ending ≡ Ending.Whole → IsAtEnd (S.left source.new)) }
     // What was written when it stopped is a front of the report.
     ensures part { OnErr result ((script : List ℕ) → S.left source.old ≡ Some script
-        → HasWrittenPart (K.written sink.old) (K.written sink.new) (report_text (report script))) }
-    // Where the source failed, all was written that the report has of the lines that were read whole.
+        → HasPutPart K.written K.handed sink.old sink.new (texts_of (report script))) }
+    // Where the source failed, at least all was written that the report has of the lines that were
+    // read whole.
     ensures all_read { IsErrOf result Stop.Read → (script : List ℕ) → S.left source.old ≡ Some script
-        → HasWrittenAllRead (S.left source.old) (S.left source.new) (K.written sink.old) (K.written sink.new) (report script) }
-    // It takes at most 67108865 octets, and a source that tells goes on telling.
-    ensures taken { OnOk result ((octets : List ℕ) × (S.left source.old ≡ prepend_known octets (S.left source.new)) × (length octets ≤ 67108865)) }
-    ensures read { IsErrOf result Stop.Read → HasRisen (S.faults source.old) (S.faults source.new) }
-    ensures write { IsErrOf result Stop.Write → HasRisen (K.faults sink.old) (K.faults sink.new) }
+        → HasWrittenAllRead K.written K.handed sink.old sink.new
+        (S.left source.old) (S.left source.new) (report script) }
+    // It takes at most 67108865 octets, whatever it answers, and nothing behind the end; a source
+    // that tells goes on telling.
+    ensures taken { (octets : List ℕ)
+        × (S.left source.old ≡ prepend_known octets (S.left source.new))
+        × (length octets ≤ 67108865) }
+    ensures ends { StopsAtEnd (S.ends source.old) (S.ends source.new) }
+    // A fault always shows.
+    ensures source_counts { CountsRead result (S.faults source.old) (S.faults source.new) }
+    ensures sink_counts { CountsWrite result (K.faults sink.old) (K.faults sink.new) }
 {
-    let mut lines = Lines::new(alloc, source)?;
-    let first = first_line(&mut lines)?;
+    let mut reader = LineReader::new(alloc)?;
+    let first = first_line(&mut reader, source)?;
     match first {
-        First::Setup(gm) => requests(alloc, &gm, &mut lines, sink),
+        First::Setup(gm) => requests(alloc, &gm, &mut reader, source, sink),
         First::Refused => {
             let line = bad_line(alloc, 1)?;
             finish(sink, line.as_str(), Ending::Refused)

@@ -1,15 +1,18 @@
 //! What the program does: the words of its command line, and the status that it ends with.
 
-ghost use Rattle.std.specs.Prelude.{◌≡◌, ◌≢◌, ◌↔◌, ℕ, List, true, false, map, Contains};
-ghost use Rattle.ptu_lines.specs.Script.{script_lines};
+ghost use Rattle.std.specs.Prelude.{◌≡◌, ◌≢◌, ◌⊎◌, ◌≤◌, ◌↔◌, ℕ, List, true, false, length, map, Contains};
+ghost use Rattle.std.specs.Io.KnownBytes.{prepend_known};
+ghost use Rattle.ptu_outside.specs.Ends.{StopsAtEnd};
 ghost use Rattle.ptu_outside.specs.Faults.{HasRisen};
+ghost use Rattle.ptu_outside.specs.Handing.{HasPutPart};
+ghost use Rattle.ptu_lines.specs.Script.{script_lines};
 ghost use Rattle.ptpuni.specs.declared.grandmaster.Grandmaster.{Grandmaster};
 ghost use Rattle.ptpuni.specs.declared.script.Asked.{Asked};
-ghost use Rattle.ptpuni.specs.Outcome.{report_text};
-ghost use Rattle.ptpuni.specs.Replay.{report};
 ghost use Rattle.ptpuni.specs.Kept.{Hands, IsKept};
-ghost use Rattle.ptpuni.specs.Written.{HasWrittenAllRead, HasWrittenPart};
+ghost use Rattle.ptpuni.specs.Outcome.{texts_of};
+ghost use Rattle.ptpuni.specs.Replay.{report};
 ghost use Rattle.ptpuni.specs.Run.{statuses, is_replay, HasReplayed};
+ghost use Rattle.ptpuni.specs.Written.{HasWrittenAllRead};
 
 use crate::ending::Ending;
 use crate::replay::replay;
@@ -42,24 +45,42 @@ pub fn run<S: Source, K: Sink>(alloc: Global, words: &[&str], source: &mut S, si
     ensures usage { (result ≡ USAGE) ↔ (is_replay (map (λ w. w.now) words.now) ≡ false) }
     ensures untouched { result ≡ USAGE → (source.new ≡ source.old) × (sink.new ≡ sink.old) }
 
-    // The whole report was written, and the status says how it ends.
-    ensures report { (script before : List ℕ) → S.left source.old ≡ Some script → K.written sink.old ≡ Some before
-        → is_replay (map (λ w. w.now) words.now) ≡ true → (HasRisen (S.faults source.old) (S.faults source.new) → ⊥)
+    // The whole report was written, and the status says how it ends: where neither side failed and
+    // memory was found,
+    ensures report { (script : List ℕ) → S.left source.old ≡ Some script
+        → is_replay (map (λ w. w.now) words.now) ≡ true
+        → (HasRisen (S.faults source.old) (S.faults source.new) → ⊥)
         → (HasRisen (K.faults sink.old) (K.faults sink.new) → ⊥) → result ≢ OUT_OF_MEMORY
-        → HasReplayed script before (S.left source.new) (K.written sink.new) result }
+        → HasReplayed K.written K.handed sink.old sink.new script (S.left source.new) result }
+    // and wherever 0 or 65 is answered, whatever the counts did.
+    ensures answered { (result ≡ 0) ⊎ (result ≡ BAD_LINE)
+        → (script : List ℕ) → S.left source.old ≡ Some script
+        → HasReplayed K.written K.handed sink.old sink.new script (S.left source.new) result }
 
     // The grandmaster of the script that is read keeps to its capacity, and decides each request by the room for it.
-    ensures kept { (script : List ℕ) → S.left source.old ≡ Some script → (gm : Grandmaster) (asks : List Asked)
-        → Hands gm asks (script_lines script) → IsKept gm script asks }
+    ensures kept { (script : List ℕ) → S.left source.old ≡ Some script → (gm : Grandmaster)
+        (asks : List Asked) → Hands gm asks (script_lines script) → IsKept gm script asks }
 
-    // A fault is answered only where there was one, and what was written then is a front of the report.
+    // A fault is answered exactly where there was one, and what was written then is a front of the
+    // report.
     ensures source_fault { result ≡ SOURCE_FAULT → HasRisen (S.faults source.old) (S.faults source.new) }
+    ensures source_still { result ≢ SOURCE_FAULT → S.faults source.new ≡ S.faults source.old }
     ensures sink_fault { result ≡ SINK_FAULT → HasRisen (K.faults sink.old) (K.faults sink.new) }
-    ensures front { (script : List ℕ) → S.left source.old ≡ Some script → is_replay (map (λ w. w.now) words.now) ≡ true
-        → HasWrittenPart (K.written sink.old) (K.written sink.new) (report_text (report script)) }
-    // Where the source failed, that is all that the report has of the lines that were read whole.
+    ensures sink_still { result ≢ SINK_FAULT → K.faults sink.new ≡ K.faults sink.old }
+    ensures front { (script : List ℕ) → S.left source.old ≡ Some script
+        → is_replay (map (λ w. w.now) words.now) ≡ true
+        → HasPutPart K.written K.handed sink.old sink.new (texts_of (report script)) }
+    // Where the source failed, that is at least all that the report has of the lines that were read
+    // whole.
     ensures all_read { result ≡ SOURCE_FAULT → (script : List ℕ) → S.left source.old ≡ Some script
-        → HasWrittenAllRead (S.left source.old) (S.left source.new) (K.written sink.old) (K.written sink.new) (report script) }
+        → HasWrittenAllRead K.written K.handed sink.old sink.new
+        (S.left source.old) (S.left source.new) (report script) }
+
+    // At most 67108865 octets are read, and nothing behind the end.
+    ensures taken { (octets : List ℕ)
+        × (S.left source.old ≡ prepend_known octets (S.left source.new))
+        × (length octets ≤ 67108865) }
+    ensures ends { StopsAtEnd (S.ends source.old) (S.ends source.new) }
 {
     if words.len() != 1 || words[0] != "replay" {
         return USAGE;

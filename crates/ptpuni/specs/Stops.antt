@@ -1,0 +1,19 @@
+-- Counts of faults of a run that may stop.
+use Rattle.std.specs.Prelude.{◌≡◌, ℕ, Result, Ok, Err}
+use Rattle.ptu_outside.specs.Faults.{HasRisen}
+use Rattle.ptpuni.specs.declared.stop.Stop.{Stop}
+use Rattle.ptpuni.specs.declared.stop.Stop.TheVariants.{Read, Write, OutOfMemory}
+
+-- the source's count rises exactly where the run stops since the source failed
+abbrev pub CountsRead : {A : Type 0} → Result A Stop → ℕ → ℕ → Type 0
+CountsRead (Ok x) old new = new ≡ old
+CountsRead (Err Read) old new = HasRisen old new
+CountsRead (Err Write) old new = new ≡ old
+CountsRead (Err OutOfMemory) old new = new ≡ old
+
+-- the sink's count rises exactly where the run stops since the sink failed
+abbrev pub CountsWrite : {A : Type 0} → Result A Stop → ℕ → ℕ → Type 0
+CountsWrite (Ok x) old new = new ≡ old
+CountsWrite (Err Read) old new = new ≡ old
+CountsWrite (Err Write) old new = HasRisen old new
+CountsWrite (Err OutOfMemory) old new = new ≡ old
