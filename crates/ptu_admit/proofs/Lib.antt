@@ -1,2 +1,4 @@
 pub mod Sums
 pub mod Grants
+pub mod Lending
+pub mod StepMoments
