@@ -11,6 +11,7 @@ use Rattle.ptu_history.specs.Live.{Grant, IsLastDecision, last_decision, live_gr
 use Rattle.ptu_history.specs.Verdict.{rate_sum, table_rates}
 use Rattle.ptu_history.proofs.Capacities.{capacity_in_force-unchanged}
 use Rattle.ptu_history.proofs.Keys.{same_lease-true}
+use Rattle.ptu_history.proofs.Moments.{book_moment-one}
 use Rattle.ptu_history.proofs.Rates.{table_below}
 use Rattle.ptu_history.proofs.Standing.{last_pushed}
 use Rattle.ptu_shard.specs.declared.lease.Row.{Row}
@@ -243,3 +244,55 @@ at_back opening m before t after capacity total history s = record {
 pub none_elsewhere : (lent : List Lent) (m : ℕ) → rates_elsewhere lent [] m ≡ 0
 unfolding rates_elsewhere live_grants standing
 none_elsewhere lent m = refl
+
+pub of_granted : (n : ℕ) (c : Client) (k : Kind) (l : ℤ) (u : ℕ) → IsOfTable (table_of c) (Granted n c k l u)
+of_granted n c k l u = record {
+  only = λ d i e. ap table_of (same_lease-true d i c k e).0;
+  part = λ i other. ap (λ b. cond b n 0) other;
+  unchanged = refl;
+}
+
+pub of_short : (n : ℕ) (c : Client) → IsOfTable (table_of c) (Short n c)
+of_short n c = record {
+  only = λ d i e. absurd (false≢true e);
+  part = λ i other. ap (λ b. cond b n 0) other;
+  unchanged = refl;
+}
+
+pub of_ended : (n : ℕ) (c : Client) (k : Kind) → IsOfTable (table_of c) (Ended n c k)
+of_ended n c k = record {
+  only = λ d i e. ap table_of (same_lease-true d i c k e).0;
+  part = λ i other. ap (λ b. cond b n 0) other;
+  unchanged = refl;
+}
+
+pub of_shed : (n : ℕ) (c : Client) (k : Kind) → IsOfTable (table_of c) (Shed n c k)
+of_shed n c k = record {
+  only = λ d i e. ap table_of (same_lease-true d i c k e).0;
+  part = λ i other. ap (λ b. cond b n 0) other;
+  unchanged = refl;
+}
+
+-- a decision on one of the lent tables, by the state before it and the table and book after it
+pub record IsTaken (opening b n : ℕ) (t t' : Lent) (rest : List Lent) (capacity total : ℕ) (book : KeptBook) (history : List Record) (r : Record) : Type 0 where
+  pub before : AreAt opening b (t ∷ rest) capacity total history
+  pub le : b ≤ n
+  pub now : book_moment history ≤ n
+  pub same : t'.index ≡ t.index
+  pub of : IsOfTable t.index r
+  pub at : moment_of r ≡ n
+  pub part : book_part r ≡ moment_of r
+  pub apart : is_lent t.index rest ≡ false
+  pub stands : StandsAt n t.index t'.rows t'.moment (history ++ r ∷ [])
+  pub sum : book.total + share_of t.rows ≡ total + share_of t'.rows
+  pub moment_is : book.moment ≡ n
+  pub capacity_is : book.capacity ≡ capacity
+
+pub taken : (opening b n : ℕ) (t t' : Lent) (rest : List Lent) (capacity total : ℕ) (book : KeptBook) (history : List Record) (r : Record) →
+    IsTaken opening b n t t' rest capacity total book history r → StandFor opening (t' ∷ rest) book (history ++ r ∷ [])
+taken opening b n t t' rest capacity total book history r is =
+    stand_for opening n (t' ∷ rest) book (history ++ r ∷ [])
+    (subst (λ c. AreAt opening n (t' ∷ rest) c book.total (history ++ r ∷ [])) (sym is.capacity_is)
+    (one_record opening b n t t' rest capacity total book.total history r is.before is.le is.same is.of is.apart is.stands is.sum))
+    (book_moment-one history r (let now = is.now in let at = is.at in omega arith) is.part ∙ is.at)
+    is.moment_is

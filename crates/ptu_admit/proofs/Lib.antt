@@ -2,3 +2,4 @@ pub mod Sums
 pub mod Grants
 pub mod Lending
 pub mod StepMoments
+pub mod RowKeys

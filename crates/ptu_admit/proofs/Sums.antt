@@ -147,3 +147,7 @@ kept_rate-permuted c k xs ys h dx dy = omega (
   share_of-permuted xs ys h,
   share_of-filter-permuted (λ row. not (is_row_of c k row)) xs ys h,
 )
+
+-- what is left of a table holds no more
+pub share_of-left : (p : Row → Bool) (xs ys : List Row) → IsPermutation (filter p xs) ys → share_of ys ≤ share_of xs
+share_of-left p xs ys h = omega (arith, share_of-permuted (filter p xs) ys h, rows.share_of-filter-le p xs)

@@ -1,4 +1,4 @@
-ghost use Rattle.std.specs.Prelude.{◌≡◌, ◌≤◌, List, []};
+ghost use Rattle.std.specs.Prelude.{◌≡◌, ◌≤◌, ◌+◌, ◌-◌, List, []};
 ghost use Rattle.ptu_admit.specs.Book.{IsCapacity};
 ghost use Rattle.ptu_admit.specs.Lent.{EachStandsAt, Lent, StandFor, shares};
 
@@ -65,5 +65,21 @@ impl Book {
         ensures { result ≡ self.now.moment }
     {
         self.moment
+    }
+
+    // The share of a table went from the one to the other.
+    pub(crate) fn settle(&mut self, before: u64, after: u64)
+        requires held { before ≤ self.old.total }
+        requires fits { after ≤ before + (self.old.capacity - self.old.total) }
+        ensures { self.new ≡ record self.old { total = self.old.total - before + after } }
+    {
+        self.total = self.total - before + after;
+    }
+
+    // A decision was taken at the moment.
+    pub(crate) fn reach(&mut self, at: Moment)
+        ensures { self.new ≡ record self.old { moment = at } }
+    {
+        self.moment = at;
     }
 }

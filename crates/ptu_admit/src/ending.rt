@@ -13,6 +13,7 @@ ghost use Rattle.ptu_admit.specs.Rows.{has_live_row};
 ghost use Rattle.ptu_admit.specs.Tables.{IsSwept, KeepsPort};
 
 use crate::book::Book;
+use crate::sweeping::{latest_of, sweep_all};
 use ptu_history::Client;
 use ptu_outside::Port;
 use ptu_shard::Shard;
@@ -58,7 +59,12 @@ pub fn cancel<P: Port>(
         (history ++ (step opened history result.at (Cancel client.now kind)).records) }
 {
     let at = t.latest(book.now().latest(shard.moment()));
-    Cancelled { at, ended: false }
+    let before = shard.held();
+    shard.sweep(at);
+    let ended = shard.remove(client, kind);
+    book.settle(before, shard.held());
+    book.reach(at);
+    Cancelled { at, ended }
 }
 
 /// Drops the rows of four tables, in order of index, whose grants are over at the greatest of the

@@ -9,6 +9,7 @@ mod ending;
 pub mod laws;
 mod resizing;
 mod shed_list;
+mod sweeping;
 mod verdict;
 
 pub use asking::{decide_all, decide_one};
