@@ -90,3 +90,8 @@ moment_for t book c lent = max t (max book.moment (moment_of_lent (table_of c) l
 abbrev pub moment_for_all : ℕ → KeptBook → List Lent → ℕ
 moment_for_all t book [] = max t book.moment
 moment_for_all t book (l ∷ lent) = max l.moment (moment_for_all t book lent)
+
+-- the rows of the lent table of this index
+abbrev pub rows_of_lent : ℕ → List Lent → List Row
+rows_of_lent j [] = []
+rows_of_lent j (t ∷ lent) = if t.index == j then t.rows else rows_of_lent j lent

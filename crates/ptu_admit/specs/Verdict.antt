@@ -1,9 +1,9 @@
 -- What is answered to a REQUEST_UNICAST_TRANSMISSION (IEEE 1588-2019 clause 16.1.4.1).
-use Rattle.std.specs.Prelude.{◌≡◌, ℕ, ◌+◌, ◌*◌, Option, Some, None, Result, Ok, Err, ℤ, nat_le, if◌then◌else◌}
+use Rattle.std.specs.Prelude.{◌≡◌, ℕ, ◌+◌, ◌*◌, min, Option, Some, None, Result, Ok, Err, ℤ, nat_le, if◌then◌else◌}
 use Rattle.ptu_units.specs.declared.kind.Kind.{Kind}
 use Rattle.ptu_units.specs.Log.{rate_of}
 use Rattle.ptu_history.specs.Verdict as history
-use Rattle.ptu_history.specs.Verdict.{Config, GrantedFor, OutsideCause, OutsideCode, OutsideDuration, OutsideLog, ShortOf, granted_seconds, profile}
+use Rattle.ptu_history.specs.Verdict.{Config, GrantedFor, OutsideCause, OutsideCode, OutsideDuration, OutsideLog, ShortOf, profile}
 use Rattle.ptu_tlvs.specs.declared.tlv.Ask.{Ask}
 use Rattle.ptu_shard.specs.declared.config.GmConfig.{GmConfig}
 use Rattle.ptu_admit.specs.Terms.{Lack, Terms}
@@ -38,14 +38,18 @@ IsAt n (Granted grant) = grant.at ≡ n
 IsAt n (Short shortage) = shortage.at ≡ n
 IsAt n (Outside cause) = Unit {0}
 
--- the verdict at the moment on an ask of this profile, under a capacity in force, where the rates of the other live
--- grants are these, by the kind that is asked for
+-- the verdict at the moment on an ask within the profile, under a capacity in force, beside other live grants with
+-- these rates
+abbrev pub verdict_on : Config → ℕ → ℕ → Kind → ℤ → ℕ → history.Verdict
+verdict_on config others n k l seconds =
+    if nat_le (others + rate_of l) config.capacity
+    then GrantedFor k l (min seconds config.max_duration) (n + min seconds config.max_duration * 1000000000)
+    else ShortOf k l others (rate_of l) config.capacity
+
+-- the verdict at the moment on an ask of this profile, by the rates of the other live grants for each kind
 abbrev pub verdict_by : Result Kind OutsideCause → Config → (Kind → ℕ) → ℕ → history.Ask → history.Verdict
 verdict_by (Err cause) config others n ask = history.Outside cause
-verdict_by (Ok k) config others n ask =
-    if nat_le (others k + rate_of ask.log) config.capacity
-    then GrantedFor k ask.log (granted_seconds config ask) (n + granted_seconds config ask * 1000000000)
-    else ShortOf k ask.log (others k) (rate_of ask.log) config.capacity
+verdict_by (Ok k) config others n ask = verdict_on config (others k) n k ask.log ask.seconds
 
 -- the verdict at the moment on an ask
 abbrev pub verdict_beside : Config → (Kind → ℕ) → ℕ → history.Ask → history.Verdict

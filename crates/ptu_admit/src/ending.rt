@@ -84,4 +84,7 @@ pub fn finish<P: Port>(
     ensures book { book.new ≡ record book.old {
       total = shares (four s0.new s1.new s2.new s3.new);
     } }
-{}
+{
+    let at = latest_of(s0, s1, s2, s3, book, Moment::default());
+    sweep_all(s0, s1, s2, s3, book, at);
+}

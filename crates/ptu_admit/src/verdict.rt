@@ -1,5 +1,6 @@
 ghost use Rattle.std.specs.Prelude.{◌≡◌, ◌<◌, ◌+◌, ◌*◌};
 
+use crate::profile::Wanted;
 use ptu_units::{Kind, Log, Moment};
 use std::marker::Model;
 
@@ -49,6 +50,21 @@ impl Model for Grant {
 }
 
 impl Grant {
+    // A grant of what was wanted, for so many seconds from the moment on.
+    pub(crate) fn new(wanted: Wanted, at: Moment, seconds: u32, until: u64) -> Grant
+        requires { until ≡ at + seconds * 1000000000 }
+        ensures { result ≡ record {
+            kind = wanted.kind; log = wanted.log; at = at; seconds = seconds; until = until } }
+    {
+        Grant {
+            kind: wanted.kind,
+            log: wanted.log,
+            at,
+            seconds,
+            until,
+        }
+    }
+
     /// The kind that is granted.
     pub fn kind(&self) -> Kind
         ensures { result ≡ self.now.kind }
@@ -112,6 +128,22 @@ impl Model for Shortage {
 }
 
 impl Shortage {
+    // What is short of what was wanted, beside other live grants with these rates.
+    pub(crate) fn new(wanted: Wanted, at: Moment, others: u64, rate: u64, capacity: u64) -> Shortage
+        requires { capacity < others + rate }
+        ensures { result ≡ record { kind = wanted.kind; log = wanted.log; at = at;
+            others = others; rate = rate; capacity = capacity } }
+    {
+        Shortage {
+            kind: wanted.kind,
+            log: wanted.log,
+            at,
+            others,
+            rate,
+            capacity,
+        }
+    }
+
     /// The kind that was asked for.
     pub fn kind(&self) -> Kind
         ensures { result ≡ self.now.kind }
