@@ -3,3 +3,4 @@ pub mod Grants
 pub mod Lending
 pub mod StepMoments
 pub mod RowKeys
+pub mod Leasing
