@@ -54,7 +54,7 @@ pub each_later : (b n : ℕ) (lent : List Lent) (history : List Record) → b �
 each_later b n [] history le s = tt
 each_later b n (t ∷ lent) history le s = (stands_later b n t.index t.rows t.moment history le s.0, each_later b n lent history le s.1)
 
-elsewhere-later : (lent : List Lent) (history : List Record) (b n : ℕ) → b ≤ n → rates_elsewhere lent history n ≤ rates_elsewhere lent history b
+pub elsewhere-later : (lent : List Lent) (history : List Record) (b n : ℕ) → b ≤ n → rates_elsewhere lent history n ≤ rates_elsewhere lent history b
 elsewhere-later lent history b n le = elsewhere-within lent lent history history n b (λ g e last before. (e, last, omega arith))
 
 pub later : (opening b n : ℕ) (lent : List Lent) (capacity total : ℕ) (history : List Record) → b ≤ n → AreAt opening b lent capacity total history → AreAt opening n lent capacity total history
@@ -74,7 +74,7 @@ pub record IsOfTable (j : ℕ) (r : Record) : Type 0 where
 not_only : (j : ℕ) (r : Record) → IsOfTable j r → (d : Client) (i : Kind) → eqb j (table_of d) ≡ false → concerns d i r ≡ false
 not_only j r of d i other = false_from_ne_true (concerns d i r) (λ yes. true≢false (sym (eq-eqb j (table_of d) (sym (of.only d i yes))) ∙ other))
 
-same_false : (j i : ℕ) → eqb i j ≡ false → eqb j i ≡ false
+pub same_false : (j i : ℕ) → eqb i j ≡ false → eqb j i ≡ false
 same_false j i e = false_from_ne_true (eqb j i) (λ yes. true≢false (sym (eq-eqb i j (sym (eqb-true j i yes))) ∙ e))
 
 or_first : (a b : Bool) → (a || b) ≡ false → (a ≡ false) × (b ≡ false)
@@ -82,7 +82,7 @@ or_first true b e = absurd (true≢false e)
 or_first false b e = (refl, e)
 
 -- other tables pass it
-each_passes : (n j : ℕ) (r : Record) (lent : List Lent) (history : List Record) → IsOfTable j r → is_lent j lent ≡ false → EachStandsAt n lent history → EachStandsAt n lent (history ++ r ∷ [])
+pub each_passes : (n j : ℕ) (r : Record) (lent : List Lent) (history : List Record) → IsOfTable j r → is_lent j lent ≡ false → EachStandsAt n lent history → EachStandsAt n lent (history ++ r ∷ [])
 each_passes n j r [] history of none s = tt
 each_passes n j r (t ∷ lent) history of none s =
     let apart : (eqb t.index j ≡ false) × (is_lent j lent ≡ false) = or_first (eqb t.index j) (is_lent j lent) none in
@@ -296,3 +296,8 @@ taken opening b n t t' rest capacity total book history r is =
     (one_record opening b n t t' rest capacity total book.total history r is.before is.le is.same is.of is.apart is.stands is.sum))
     (book_moment-one history r (let now = is.now in let at = is.at in omega arith) is.part ∙ is.at)
     is.moment_is
+
+-- where every table is lent there is nothing elsewhere
+pub nothing_elsewhere : (lent : List Lent) (history : List Record) (n : ℕ) → ((c : Client) → is_lent (table_of c) lent ≡ true) → rates_elsewhere lent history n ≡ 0
+nothing_elsewhere lent history n all =
+    omega (arith, none_elsewhere lent n, elsewhere-within lent lent history [] n n (λ g e last before. absurd (false≢true (sym (ap not (all g.client)) ∙ e))))

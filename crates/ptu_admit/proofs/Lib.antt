@@ -4,3 +4,4 @@ pub mod Lending
 pub mod StepMoments
 pub mod RowKeys
 pub mod Leasing
+pub mod Verdicts

@@ -10,7 +10,7 @@ ghost use Rattle.ptu_shard.specs.Row.{IsDistinctByLease, share_of};
 ghost use Rattle.ptu_shard.specs.Table.{StandsBeside};
 ghost use Rattle.ptu_admit.specs.Rows.{kept_rate};
 ghost use Rattle.ptu_admit.specs.Tables.{KeepsPort};
-ghost use Rattle.ptu_admit.specs.Verdict.{IsAt, config_of, verdict_of, verdict_on};
+ghost use Rattle.ptu_admit.specs.Verdict.{IsAt, OnOutside, config_of, verdict_of, verdict_on};
 
 use crate::book::Book;
 use crate::profile::Wanted;
@@ -131,6 +131,7 @@ pub(crate) fn decide_swept<P: Port>(
         (book.old.total - kept_rate client.now wanted.kind shard.old.rows)
         at wanted.kind wanted.log wanted.seconds }
     ensures at { IsAt at result }
+    ensures within { OnOutside result ⊥ }
     ensures moments { (shard.new.moment ≡ at) × (book.new.moment ≡ at) }
     ensures capacity { book.new.capacity ≡ book.old.capacity }
     ensures total { book.new.total + share_of shard.old.rows
