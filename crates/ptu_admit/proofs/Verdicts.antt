@@ -1,6 +1,6 @@
 -- Verdicts by the rates of the other live grants.
 use Rattle.std.proofs.Common.{◌≡◌, ◌∙◌, ◌⊎◌, inl, inr, ℕ, zero, suc, ◌+◌, ◌-◌, ◌<◌, ◌≤◌, max, ◌++◌, List, [], ◌∷◌, append-nil, Bool, true, false, not, ◌||◌, cond, eqb, ltb, leb, refl, sym, ap, subst, arith, Ok, Err, Result, ℤ}
-use Rattle.std.specs.List.{filter}
+use Rattle.std.specs.Prelude.{IsOk}
 use Rattle.std.specs.List.Sorted.{IsPermutation}
 use Rattle.std.proofs.lemmas.Bool.{eq-eqb, eqb-true}
 use Rattle.std.proofs.lemmas.List.Kept.{AllPairs-filter}
@@ -14,6 +14,7 @@ use Rattle.ptu_history.specs.Live.{live_grants}
 use Rattle.ptu_history.specs.Verdict as history
 use Rattle.ptu_history.specs.Verdict.{Config, OutsideCause, others, own_rate, profile, rate_sum, table_rates, verdict}
 use Rattle.ptu_history.specs.Step.{verdict_records}
+use Rattle.ptu_history.proofs.Capacities.{capacity_in_force-unchanged}
 use Rattle.ptu_history.proofs.Verdicts.{verdict-outside}
 use Rattle.ptu_history.proofs.Rates.{rates-own, rates-tables, table_below}
 use Rattle.ptu_shard.specs.declared.config.GmConfig.{GmConfig}
@@ -175,3 +176,12 @@ four_stand opening n a b c d book h each now moment capacity total =
       others = omega (arith, nothing_elsewhere (four a b c d) h n (all_lent a b c d));
       whole = λ _. total;
     }) now moment
+
+-- a verdict changes no capacity
+pub capacity-verdict : (opening : ℕ) (h : List Record) (n : ℕ) (c : Client) (v : history.Verdict) → capacity_in_force opening (h ++ verdict_records n c v) ≡ capacity_in_force opening h
+capacity-verdict opening h n c (history.GrantedFor k l seconds u) = capacity_in_force-unchanged opening h (Granted n c k l u) refl
+capacity-verdict opening h n c (history.ShortOf k l others rate capacity) = capacity_in_force-unchanged opening h (Short n c) refl
+capacity-verdict opening h n c (history.Outside cause) = ap (λ h'. capacity_in_force opening h') (append-nil h)
+
+pub ok_profile : (ask : history.Ask) (k : Kind) → profile ask ≡ Ok k → IsOk (profile ask)
+ok_profile ask k e = subst (λ (p : Result Kind OutsideCause). IsOk p) (sym e) refl
