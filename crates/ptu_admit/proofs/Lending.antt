@@ -95,13 +95,16 @@ each_passes n j r (t ∷ lent) history of none s =
     )
 
 -- so do the grants of the clients of other tables
-last_passes : (j : ℕ) (r : Record) (history : List Record) (g : Grant) → IsOfTable j r → eqb j (table_of g.client) ≡ false → IsLastDecision (history ++ r ∷ []) g → IsLastDecision history g
+pub last_passes : (j : ℕ) (r : Record) (history : List Record) (g : Grant) → IsOfTable j r → eqb j (table_of g.client) ≡ false → IsLastDecision (history ++ r ∷ []) g → IsLastDecision history g
 last_passes j r history g of other last =
     sym (last_pushed history r g.client g.kind ∙ ap (λ b. cond b (Some r) (last_decision history g.client g.kind)) (undecided (is_decision r))) ∙ last
   where
     undecided : (d : Bool) → cond d (concerns g.client g.kind r) false ≡ false
     undecided true = not_only j r of g.client g.kind other
     undecided false = refl
+
+pub elsewhere_apart : (t : Lent) (rest : List Lent) (g : Grant) → is_elsewhere (t ∷ rest) g ≡ true → eqb t.index (table_of g.client) ≡ false
+elsewhere_apart t rest g e = (or_first (eqb t.index (table_of g.client)) (is_lent (table_of g.client) rest) (not-true (is_lent (table_of g.client) (t ∷ rest)) e)).0
 
 -- one more record, of one of the lent tables
 module _ (opening b n : ℕ) (t t' : Lent) (rest : List Lent) (capacity total total' : ℕ) (history : List Record) (r : Record)
@@ -110,7 +113,7 @@ module _ (opening b n : ℕ) (t t' : Lent) (rest : List Lent) (capacity total to
   elsewhere_same g e = ap (λ i. not (eqb i (table_of g.client) || is_lent (table_of g.client) rest)) (sym same) ∙ e
 
   elsewhere_other : (g : Grant) → is_elsewhere (t' ∷ rest) g ≡ true → eqb t.index (table_of g.client) ≡ false
-  elsewhere_other g e = (or_first (eqb t.index (table_of g.client)) (is_lent (table_of g.client) rest) (not-true (is_lent (table_of g.client) (t ∷ rest)) (elsewhere_same g e))).0
+  elsewhere_other g e = elsewhere_apart t rest g (elsewhere_same g e)
 
   pub one_record : is_lent t.index rest ≡ false → StandsAt n t.index t'.rows t'.moment (history ++ r ∷ []) → total' + share_of t.rows ≡ total + share_of t'.rows →
       AreAt opening n (t' ∷ rest) capacity total' (history ++ r ∷ [])

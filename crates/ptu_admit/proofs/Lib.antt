@@ -5,3 +5,4 @@ pub mod StepMoments
 pub mod RowKeys
 pub mod Leasing
 pub mod Verdicts
+pub mod Sendings
