@@ -28,8 +28,9 @@ use Rattle.ptu_shard.proofs.RowLists.{IsPresent, lease_cases, present_some, shar
 use Rattle.ptu_shard.proofs.Standing.{granted_row, stands_swept}
 use Rattle.ptu_shard.proofs.Turns.{live_kept}
 use Rattle.ptu_admit.specs.Lent.{Lent, is_elsewhere, is_lent, rates_elsewhere}
+use Rattle.ptu_admit.specs.Newest.{grant_of}
 use Rattle.ptu_admit.specs.Rows.{kept_rate, live_rows}
-use Rattle.ptu_admit.proofs.Sums.{Contains-from_map, Contains-map, IsMapped, distinct_grants, grant_of, rate, rate_sum-within, share_of-grants, share_of-without}
+use Rattle.ptu_admit.proofs.Sums.{Contains-from_map, Contains-map, IsMapped, distinct_grants, rate, rate_sum-within, share_of-grants, share_of-without}
 
 apart_filter : (p : Grant → Bool) (history : List Record) (x : ℕ) → Apart Differ (filter p (live_grants history x))
 apart_filter p history x = Apart-from_pairs Differ (filter p (live_grants history x)) (AllPairs-filter Differ p (live_grants history x) (live_distinct history x))

@@ -22,6 +22,7 @@ use Rattle.ptu_shard.specs.declared.lease.Row.{Row}
 use Rattle.ptu_shard.specs.declared.lease.Lease.{Lease}
 use Rattle.ptu_shard.specs.Row.{IsDistinctByLease, is_row_of, lease_of, share_of, without_row}
 use Rattle.ptu_shard.proofs.RowLists as rows
+use Rattle.ptu_admit.specs.Newest.{grant_of}
 use Rattle.ptu_admit.specs.Rows.{kept_rate}
 
 abbrev pub rate : Grant → ℕ
@@ -29,10 +30,6 @@ rate g = rate_of g.log
 
 abbrev pub row_rate : Row → ℕ
 row_rate row = rate_of row.lease.log
-
--- the grant of which a row is kept
-abbrev pub grant_of : Row → Grant
-grant_of row = record { start = row.lease.start; client = row.client; kind = row.kind; log = row.lease.log; until = row.lease.until }
 
 member-le : (gs : List Grant) (g : Grant) → Contains gs g → rate_of g.log ≤ rate_sum gs
 member-le [] g (i, lt, h) = absurd (omega arith)

@@ -4,4 +4,5 @@ pub mod Verdict
 pub mod Rows
 pub mod Lent
 pub mod Tables
+pub mod Newest
 pub mod Shed

@@ -82,4 +82,14 @@ impl Book {
     {
         self.moment = at;
     }
+
+    // The capacity was changed by a decision at the moment.
+    pub(crate) fn change(&mut self, capacity: u64, at: Moment)
+        requires range { IsCapacity capacity }
+        requires fits { self.old.total ≤ capacity }
+        ensures { self.new ≡ record self.old { capacity = capacity; moment = at } }
+    {
+        self.capacity = capacity;
+        self.moment = at;
+    }
 }

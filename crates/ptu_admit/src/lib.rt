@@ -8,9 +8,11 @@ mod closed;
 mod ending;
 mod granting;
 pub mod laws;
+mod newest;
 mod profile;
 mod resizing;
 mod shed_list;
+mod shedding;
 mod sweeping;
 mod verdict;
 

@@ -13,6 +13,8 @@ ghost use Rattle.ptu_admit.specs.Tables.{KeepsPort};
 
 use crate::book::Book;
 use crate::shed_list::ShedList;
+use crate::shedding::shed_above;
+use crate::sweeping::{latest_of, sweep_all};
 use ptu_outside::Port;
 use ptu_shard::Shard;
 use ptu_units::{Moment, OutOfMemory};
@@ -64,5 +66,14 @@ pub fn resize<P: Port>(
         IfOk result (λ r. StandFor opened.capacity (four s0.new s1.new s2.new s3.new) book.new
         (history ++ (step opened history r.at (Resize capacity)).records)) }
 {
-    Err(OutOfMemory)
+    let at = latest_of(s0, s1, s2, s3, book, t);
+    let rows = s0.count() + s1.count() + s2.count() + s3.count();
+    let mut list = Vec::with_capacity(alloc, rows)?;
+    sweep_all(s0, s1, s2, s3, book, at);
+    shed_above(s0, s1, s2, s3, book, at, capacity, &mut list);
+    book.change(capacity, at);
+    Ok(Resized {
+        at,
+        shed: ShedList::new(list),
+    })
 }
