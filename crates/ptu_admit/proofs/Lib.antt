@@ -6,3 +6,4 @@ pub mod RowKeys
 pub mod Leasing
 pub mod Verdicts
 pub mod Sendings
+pub mod Newer

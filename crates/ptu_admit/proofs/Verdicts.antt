@@ -8,7 +8,7 @@ use Rattle.ptu_units.specs.declared.kind.Kind.{Kind}
 use Rattle.ptu_units.specs.Log.{rate_of}
 use Rattle.ptu_history.specs.declared.client.Client.{Client}
 use Rattle.ptu_history.specs.Client.{table_of}
-use Rattle.ptu_history.specs.History.{Record, Granted, Short, capacity_in_force}
+use Rattle.ptu_history.specs.History.{Record, Granted, Shed, Short, capacity_in_force}
 use Rattle.ptu_history.specs.Moments.{book_moment}
 use Rattle.ptu_history.specs.Live.{live_grants}
 use Rattle.ptu_history.specs.Verdict as history
@@ -28,7 +28,7 @@ use Rattle.ptu_admit.specs.Rows.{kept_rate, live_rows}
 use Rattle.ptu_admit.specs.Tables.{IsSwept}
 use Rattle.ptu_admit.specs.Verdict.{config_of, verdict_beside, verdict_by, verdict_on}
 use Rattle.ptu_admit.proofs.Grants.{elsewhere-fewer, elsewhere-none, live_others-own, live_share, without_live-le}
-use Rattle.ptu_admit.proofs.Lending.{all_lent, each_passes, elsewhere-later, nothing_elsewhere, of_granted, of_short, one_lent, same_false, stand_for, stands_later}
+use Rattle.ptu_admit.proofs.Lending.{all_lent, each_passes, elsewhere-later, nothing_elsewhere, of_granted, of_shed, of_short, one_lent, same_false, stand_for, stands_later}
 use Rattle.ptu_admit.proofs.Sums.{kept_rate-permuted, share_of-permuted, share_of-without}
 
 module _ (opening n : ℕ) (config : GmConfig) (h : List Record) (c : Client) (ask : history.Ask) where
@@ -185,3 +185,8 @@ capacity-verdict opening h n c (history.Outside cause) = ap (λ h'. capacity_in_
 
 pub ok_profile : (ask : history.Ask) (k : Kind) → profile ask ≡ Ok k → IsOk (profile ask)
 ok_profile ask k e = subst (λ (p : Result Kind OutsideCause). IsOk p) (sym e) refl
+
+-- another table passes a shedding
+pub passes_shed : (b n i : ℕ) (xs : List Row) (moment : ℕ) (h : List Record) (c : Client) (k : Kind) → StandsAt b i xs moment h → eqb (table_of c) i ≡ false → StandsAt b i xs moment (h ++ Shed n c k ∷ [])
+passes_shed b n i xs moment h c k s other =
+    (each_passes b (table_of c) (Shed n c k) (record { index = i; rows = xs; moment = moment } ∷ []) h (of_shed n c k) (not_lent c i other) (s, tt)).0
