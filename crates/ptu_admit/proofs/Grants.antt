@@ -57,7 +57,7 @@ same_grant a b s c k l u =
 
 module _ (book j : ℕ) (xs : List Row) (moment : ℕ) (history : List Record) (x : ℕ) (s : StandsAt book j xs moment history) (reached : (book ≤ x) ⊎ (moment ≤ x)) where
   -- the row of a grant of the table that is live
-  row_of_live : (g : Grant) → IsLastDecision history g → x < g.until → table_of g.client ≡ j → IsMapped grant_of (live_rows x xs) g
+  pub row_of_live : (g : Grant) → IsLastDecision history g → x < g.until → table_of g.client ≡ j → IsMapped grant_of (live_rows x xs) g
   row_of_live g last before own = at (lease_cases (lease_of g.client g.kind xs))
     where
       missed : (book ≤ x) ⊎ (moment ≤ x) → (g.until ≤ book) × (g.until ≤ moment) → ⊥

@@ -7,3 +7,4 @@ pub mod Leasing
 pub mod Verdicts
 pub mod Sendings
 pub mod Newer
+pub mod ShedOrder

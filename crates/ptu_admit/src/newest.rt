@@ -4,6 +4,7 @@ ghost use Rattle.std.specs.Prelude.{◌≡◌, None, map};
 ghost use Rattle.std.specs.List.{fold};
 ghost use Rattle.std.specs.Ordering.{is_lt};
 ghost use Rattle.ptu_history.specs.Shedding.{shed_cmp};
+ghost use Rattle.ptu_shard.specs.Row.{IsDistinctByLease};
 ghost use Rattle.ptu_admit.specs.Lent.{four};
 ghost use Rattle.ptu_admit.specs.Newest.{all_found, found_in, grant_of, newer as newer_of};
 
@@ -42,7 +43,8 @@ fn newer(best: Option<Found>, other: Found) -> Option<Found>
 
 // The newest of the best so far and the rows of a table.
 fn newest_in<P: Port>(shard: &Shard<P>, table: usize, best: Option<Found>) -> Option<Found>
-    ensures { result ≡ fold newer_of best (map (found_in table) shard.now.rows) }
+    ensures newest { result ≡ fold newer_of best (map (found_in table) shard.now.rows) }
+    ensures distinct { IsDistinctByLease shard.now.rows }
 {
     let mut newest = best;
     for index in 0..shard.count() {
@@ -60,7 +62,10 @@ pub(crate) fn newest_of<P: Port>(
     s2: &Shard<P>,
     s3: &Shard<P>,
 ) -> Option<Found>
-    ensures { result ≡ fold newer_of None (all_found (four s0.now s1.now s2.now s3.now)) }
+    ensures newest { result
+        ≡ fold newer_of None (all_found (four s0.now s1.now s2.now s3.now)) }
+    ensures distinct { IsDistinctByLease s0.now.rows × IsDistinctByLease s1.now.rows
+        × IsDistinctByLease s2.now.rows × IsDistinctByLease s3.now.rows }
 {
     let newest = newest_in(s0, 0, None);
     let newest = newest_in(s1, 1, newest);
