@@ -8,3 +8,4 @@ pub mod Verdicts
 pub mod Sendings
 pub mod Newer
 pub mod ShedOrder
+pub mod ShedLoop
