@@ -74,7 +74,7 @@ kept_rate-member xs row distinct h = at (lease_cases (lease_of row.client row.ki
         let one : p.row ≡ row = same_row row.client row.kind xs (Apart-from_pairs Differ xs distinct) p.row row p.contained h p.own (same_lease-refl row.client row.kind) in
         ap (λ o. option_map_or (λ (lease : Lease). rate_of lease.log) o 0) e ∙ ap (λ (lease : Lease). rate_of lease.log) (sym p.lease_is) ∙ ap (λ (x : Row). rate_of x.lease.log) one
 
-length-filter-le : (p : Row → Bool) (xs : List Row) → length (filter p xs) ≤ length xs
+pub length-filter-le : (p : Row → Bool) (xs : List Row) → length (filter p xs) ≤ length xs
 length-filter-le p [] = omega arith
 length-filter-le p (x ∷ xs) = at (p x) (length-filter-le p xs)
   where

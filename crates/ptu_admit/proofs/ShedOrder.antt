@@ -99,7 +99,7 @@ module _ (h : List Record) (n : ℕ) (g : Grant) (last : IsLastDecision h g) (be
 
 -- all rows are live at the moment
 abbrev pub AllLive : {P : Type 0} → ℕ → Kept P → Kept P → Kept P → Kept P → Type 0
-AllLive n a b c d = (j : ℕ) (row : Row) → Contains (rows_of_lent j (four a b c d)) row → n < row.lease.until
+AllLive n a b c d = (j : ℕ) (row : Row) → j < 4 → Contains (rows_of_lent j (four a b c d)) row → n < row.lease.until
 
 all_pass : (p : Row → Bool) (xs : List Row) → ((row : Row) → Contains xs row → p row ≡ true) → filter p xs ≡ xs
 all_pass p [] each = refl
@@ -142,10 +142,10 @@ module _ {P : Type 0} (n : ℕ) (a b c d : Kept P) (h : List Record) (s : EachSt
         live_share n 1 b.rows b.moment h n s.1.0 (inl (omega arith)) distinct.second,
         live_share n 2 c.rows c.moment h n s.1.1.0 (inl (omega arith)) distinct.third,
         live_share n 3 d.rows d.moment h n s.1.1.1.0 (inl (omega arith)) distinct.fourth,
-        ap share_of (live_all n a.rows (λ row i. lasts 0 row i)),
-        ap share_of (live_all n b.rows (λ row i. lasts 1 row i)),
-        ap share_of (live_all n c.rows (λ row i. lasts 2 row i)),
-        ap share_of (live_all n d.rows (λ row i. lasts 3 row i)),
+        ap share_of (live_all n a.rows (λ row i. lasts 0 row (omega arith) i)),
+        ap share_of (live_all n b.rows (λ row i. lasts 1 row (omega arith) i)),
+        ap share_of (live_all n c.rows (λ row i. lasts 2 row (omega arith) i)),
+        ap share_of (live_all n d.rows (λ row i. lasts 3 row (omega arith) i)),
       )
 
   -- a grant that is live has a row that is found
@@ -248,7 +248,7 @@ shed_next n capacity a b c d h f s distinct lasts e above =
     let newest : IsNewest None (all_found (four a b c d)) f = newest_is None (all_found (four a b c d)) f e in
     let rest : List Grant = shed_order (h ++ Shed n f.row.client f.row.kind ∷ []) n in
     let order : grant_of f.row ∷ rest ≡ shed_order h n =
-    order_front h n (grant_of f.row) last (lasts f.table f.row p.contained) (λ m is before.
+    order_front h n (grant_of f.row) last (lasts f.table f.row p.place p.contained) (λ m is before.
         let found : (o : Found) × Contains (all_found (four a b c d)) o × (grant_of o.row ≡ m) = found_of n a b c d h s m is before in
         ap (λ x. is_lt (shed_cmp x (grant_of f.row))) (sym found.2) ∙ newest.first found.0 found.1) in
     let over : capacity < rate_sum (grant_of f.row ∷ rest) = let same = ap rate_sum order in omega (arith, same, order-is n a b c d h s distinct lasts) in

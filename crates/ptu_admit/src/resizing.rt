@@ -8,6 +8,7 @@ ghost use Rattle.ptu_history.specs.Shedding.{shed_grants};
 ghost use Rattle.ptu_history.specs.Step.{step};
 ghost use Rattle.ptu_admit.specs.Book.{IsCapacity};
 ghost use Rattle.ptu_admit.specs.Lent.{StandFor, four, moment_for_all, shares};
+ghost use Rattle.ptu_admit.specs.Newest.{rows_in};
 ghost use Rattle.ptu_admit.specs.Shed.{shed_of};
 ghost use Rattle.ptu_admit.specs.Tables.{KeepsPort};
 
@@ -67,8 +68,7 @@ pub fn resize<P: Port>(
         (history ++ (step opened history r.at (Resize capacity)).records)) }
 {
     let at = latest_of(s0, s1, s2, s3, book, t);
-    let rows = s0.count() + s1.count() + s2.count() + s3.count();
-    let mut list = Vec::with_capacity(alloc, rows)?;
+    let mut list = Vec::with_capacity(alloc, count_rows(s0, s1, s2, s3, book))?;
     sweep_all(s0, s1, s2, s3, book, at);
     shed_above(s0, s1, s2, s3, book, at, capacity, &mut list);
     book.change(capacity, at);
@@ -76,4 +76,20 @@ pub fn resize<P: Port>(
         at,
         shed: ShedList::new(list),
     })
+}
+
+// How many rows four tables have.
+fn count_rows<P: Port>(
+    s0: &Shard<P>,
+    s1: &Shard<P>,
+    s2: &Shard<P>,
+    s3: &Shard<P>,
+    book: &Book,
+) -> usize
+    requires { book.now.total ≡ shares (four s0.now s1.now s2.now s3.now) }
+    ensures { result ≡ rows_in (four s0.now s1.now s2.now s3.now) }
+{
+    // Each row has a rate of at least 1, so that there are no more than the total says.
+    let _total = book.total();
+    s0.count() + s1.count() + s2.count() + s3.count()
 }

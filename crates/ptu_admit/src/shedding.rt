@@ -88,7 +88,7 @@ pub(crate) fn shed_above<P: Port>(
     requires sum { book.old.total ≡ shares (four s0.old s1.old s2.old s3.old) }
     requires reached { (s0.old.moment ≡ at) × (s1.old.moment ≡ at)
         × (s2.old.moment ≡ at) × (s3.old.moment ≡ at) }
-    requires live { (j : ℕ) (row : KeptRow) →
+    requires live { (j : ℕ) (row : KeptRow) → j < 4 →
         Contains (rows_of_lent j (four s0.old s1.old s2.old s3.old)) row → at < row.lease.until }
     requires empty { list.old.items ≡ [] }
     requires room { rows_in (four s0.old s1.old s2.old s3.old) ≤ vec_capacity list.old }
