@@ -22,7 +22,7 @@ use Rattle.ptu_history.proofs.Unique.{Apart, Apart-from_pairs, Contains-from_fil
 use Rattle.ptu_shard.specs.declared.lease.Lease.{Lease}
 use Rattle.ptu_shard.specs.declared.lease.Row.{Row}
 use Rattle.ptu_shard.specs.Row.{IsDistinctByLease, is_row_of, lease_of, share_of, without_row}
-use Rattle.ptu_shard.specs.Table.{StandsAt}
+use Rattle.ptu_shard.specs.Table.{Kept, StandsAt}
 use Rattle.ptu_shard.proofs.RowLists as rows
 use Rattle.ptu_shard.proofs.RowLists.{IsPresent, lease_cases, present_some, share_of-filter-le}
 use Rattle.ptu_shard.proofs.Standing.{granted_row, stands_swept}
@@ -30,7 +30,8 @@ use Rattle.ptu_shard.proofs.Turns.{live_kept}
 use Rattle.ptu_admit.specs.Lent.{Lent, is_elsewhere, is_lent, rates_elsewhere}
 use Rattle.ptu_admit.specs.Newest.{grant_of}
 use Rattle.ptu_admit.specs.Rows.{kept_rate, live_rows}
-use Rattle.ptu_admit.proofs.Sums.{Contains-from_map, Contains-map, IsMapped, distinct_grants, rate, rate_sum-within, share_of-grants, share_of-without}
+use Rattle.ptu_admit.specs.Tables.{IsSwept}
+use Rattle.ptu_admit.proofs.Sums.{Contains-from_map, Contains-map, IsMapped, distinct_grants, rate, rate_sum-within, share_of-grants, share_of-permuted, share_of-without}
 
 apart_filter : (p : Grant → Bool) (history : List Record) (x : ℕ) → Apart Differ (filter p (live_grants history x))
 apart_filter p history x = Apart-from_pairs Differ (filter p (live_grants history x)) (AllPairs-filter Differ p (live_grants history x) (live_distinct history x))
@@ -84,10 +85,10 @@ module _ (book j : ℕ) (xs : List Row) (moment : ℕ) (history : List Record) (
   table_rates-le =
       let within : rate_sum (filter (in_table j) (live_grants history x)) ≤ rate_sum (map grant_of (live_rows x xs)) =
       rate_sum-within (filter (in_table j) (live_grants history x)) (map grant_of (live_rows x xs)) (apart_filter (in_table j) history x) (λ g h.
-          let both : Contains (live_grants history x) g × (in_table j g ≡ true) = Contains-from_filter (in_table j) (live_grants history x) g h in
-          let is : IsLastDecision history g × (x < g.until) = (live_members history x g).0 both.0 in
-          let m : IsMapped grant_of (live_rows x xs) g = row_of_live g is.0 is.1 (eqb-true (table_of g.client) j both.1) in
-          subst (λ z. Contains (map grant_of (live_rows x xs)) z) m.is (Contains-map grant_of (live_rows x xs) m.from m.contained)) in
+      let both : Contains (live_grants history x) g × (in_table j g ≡ true) = Contains-from_filter (in_table j) (live_grants history x) g h in
+      let is : IsLastDecision history g × (x < g.until) = (live_members history x g).0 both.0 in
+      let m : IsMapped grant_of (live_rows x xs) g = row_of_live g is.0 is.1 (eqb-true (table_of g.client) j both.1) in
+      subst (λ z. Contains (map grant_of (live_rows x xs)) z) m.is (Contains-map grant_of (live_rows x xs) m.from m.contained)) in
       omega (arith, within, share_of-grants (live_rows x xs))
 
   -- where no two rows are of one client and kind, just that
@@ -96,14 +97,14 @@ module _ (book j : ℕ) (xs : List Row) (moment : ℕ) (history : List Record) (
   live_share distinct =
       let within : rate_sum (map grant_of (live_rows x xs)) ≤ rate_sum (filter (in_table j) (live_grants history x)) =
       rate_sum-within (map grant_of (live_rows x xs)) (filter (in_table j) (live_grants history x))
-          (distinct_grants (live_rows x xs) (AllPairs-filter rows.Differ (is_live_row x) xs distinct)) (λ g h.
-          let m : IsMapped grant_of (live_rows x xs) g = Contains-from_map grant_of (live_rows x xs) g h in
-          let both : Contains xs m.from × (is_live_row x m.from ≡ true) = Contains-from_filter (is_live_row x) xs m.from m.contained in
-          let kept = s.kept m.from both.0 in
-          subst (λ z. Contains (filter (in_table j) (live_grants history x)) z) m.is
-              (Contains-filter (in_table j) (live_grants history x) (grant_of m.from)
-              ((live_members history x (grant_of m.from)).1 (kept.1.granted, ltb-true x m.from.lease.until both.1))
-              (eq-eqb (table_of m.from.client) j kept.0))) in
+      (distinct_grants (live_rows x xs) (AllPairs-filter rows.Differ (is_live_row x) xs distinct)) (λ g h.
+      let m : IsMapped grant_of (live_rows x xs) g = Contains-from_map grant_of (live_rows x xs) g h in
+      let both : Contains xs m.from × (is_live_row x m.from ≡ true) = Contains-from_filter (is_live_row x) xs m.from m.contained in
+      let kept = s.kept m.from both.0 in
+      subst (λ z. Contains (filter (in_table j) (live_grants history x)) z) m.is
+      (Contains-filter (in_table j) (live_grants history x) (grant_of m.from)
+      ((live_members history x (grant_of m.from)).1 (kept.1.granted, ltb-true x m.from.lease.until both.1))
+      (eq-eqb (table_of m.from.client) j kept.0))) in
       omega (arith, within, share_of-grants (live_rows x xs), table_rates-le)
 
   reached_swept : (book ≤ x) ⊎ (moment ≤ x) → (max book x ≤ x) ⊎ (max moment x ≤ x)
@@ -149,14 +150,14 @@ module _ (history : List Record) (x j : ℕ) (p q : Grant → Bool) (other : (g 
       let all : List Grant = filter p (live_grants history x) in
       let own : rate_sum (filter (in_table j) (filter p (live_grants history x))) ≤ rate_sum (filter (in_table j) (live_grants history x)) =
       rate_sum-within (filter (in_table j) (filter p (live_grants history x))) (filter (in_table j) (live_grants history x)) (apart_twice p (in_table j) history x) (λ g h.
-          let a : Contains (filter p (live_grants history x)) g × (in_table j g ≡ true) = Contains-from_filter (in_table j) (filter p (live_grants history x)) g h in
-          let b : Contains (live_grants history x) g × (p g ≡ true) = Contains-from_filter p (live_grants history x) g a.0 in
-          Contains-filter (in_table j) (live_grants history x) g b.0 a.1) in
+      let a : Contains (filter p (live_grants history x)) g × (in_table j g ≡ true) = Contains-from_filter (in_table j) (filter p (live_grants history x)) g h in
+      let b : Contains (live_grants history x) g × (p g ≡ true) = Contains-from_filter p (live_grants history x) g a.0 in
+      Contains-filter (in_table j) (live_grants history x) g b.0 a.1) in
       let rest : rate_sum (filter (λ g. not (in_table j g)) (filter p (live_grants history x))) ≤ rate_sum (filter q (live_grants history x)) =
       rate_sum-within (filter (λ g. not (in_table j g)) (filter p (live_grants history x))) (filter q (live_grants history x)) (apart_twice p (λ g. not (in_table j g)) history x) (λ g h.
-          let a : Contains (filter p (live_grants history x)) g × (not (in_table j g) ≡ true) = Contains-from_filter (λ g. not (in_table j g)) (filter p (live_grants history x)) g h in
-          let b : Contains (live_grants history x) g × (p g ≡ true) = Contains-from_filter p (live_grants history x) g a.0 in
-          Contains-filter q (live_grants history x) g b.0 (other g b.1 (not-true (in_table j g) a.1))) in
+      let a : Contains (filter p (live_grants history x)) g × (not (in_table j g) ≡ true) = Contains-from_filter (λ g. not (in_table j g)) (filter p (live_grants history x)) g h in
+      let b : Contains (live_grants history x) g × (p g ≡ true) = Contains-from_filter p (live_grants history x) g a.0 in
+      Contains-filter q (live_grants history x) g b.0 (other g b.1 (not-true (in_table j g) a.1))) in
       omega (arith, own, rest, sum_by-filter_both (in_table j) (λ g. not (in_table j g)) (λ _. refl) rate (filter p (live_grants history x)))
 
 -- what is live elsewhere, after another history and at another moment
@@ -166,10 +167,10 @@ pub elsewhere-within : (lent lent' : List Lent) (history history' : List Record)
 unfolding rates_elsewhere
 elsewhere-within lent lent' history history' x x' each =
     rate_sum-within (filter (is_elsewhere lent) (live_grants history x)) (filter (is_elsewhere lent') (live_grants history' x')) (apart_filter (is_elsewhere lent) history x) (λ g h.
-        let both : Contains (live_grants history x) g × (is_elsewhere lent g ≡ true) = Contains-from_filter (is_elsewhere lent) (live_grants history x) g h in
-        let is : IsLastDecision history g × (x < g.until) = (live_members history x g).0 both.0 in
-        let then : (is_elsewhere lent' g ≡ true) × IsLastDecision history' g × (x' < g.until) = each g both.1 is.0 is.1 in
-        Contains-filter (is_elsewhere lent') (live_grants history' x') g ((live_members history' x' g).1 (then.1, then.2)) then.0)
+    let both : Contains (live_grants history x) g × (is_elsewhere lent g ≡ true) = Contains-from_filter (is_elsewhere lent) (live_grants history x) g h in
+    let is : IsLastDecision history g × (x < g.until) = (live_members history x g).0 both.0 in
+    let then : (is_elsewhere lent' g ≡ true) × IsLastDecision history' g × (x' < g.until) = each g both.1 is.0 is.1 in
+    Contains-filter (is_elsewhere lent') (live_grants history' x') g ((live_members history' x' g).1 (then.1, then.2)) then.0)
 
 -- one table fewer is lent
 pub elsewhere-fewer : (lent lent' : List Lent) (j : ℕ) (history : List Record) (x : ℕ) →
@@ -182,3 +183,9 @@ elsewhere-fewer lent lent' j history x other = rates-one_table history x j (is_e
 pub elsewhere-none : (history : List Record) (x : ℕ) → rates_elsewhere [] history x ≡ rate_sum (live_grants history x)
 unfolding rates_elsewhere
 elsewhere-none history x = ap rate_sum (filter-all (live_grants history x))
+
+-- what is left of a table after a sweep
+pub swept_share : {P : Type 0} (book j : ℕ) (old new : Kept P) (history : List Record) (x : ℕ) → StandsAt book j old.rows old.moment history → book ≤ x → IsDistinctByLease old.rows → IsSwept x old new →
+    share_of new.rows ≡ table_rates history x j
+swept_share book j old new history x s le distinct swept =
+    share_of-permuted (live_rows x old.rows) new.rows swept.rows ∙ live_share book j old.rows old.moment history x s (inl le) distinct

@@ -125,8 +125,11 @@ module _ (opening b n : ℕ) (t t' : Lent) (rest : List Lent) (capacity total to
     capacity_is = s.capacity_is ∙ sym (capacity_in_force-unchanged opening history r of.unchanged);
     others =
         let h = s.others in
-        omega (arith, elsewhere-within (t' ∷ rest) (t ∷ rest) (history ++ r ∷ []) history n b (λ g e last before.
-            (elsewhere_same g e, last_passes t.index r history g of (elsewhere_other g e) last, omega arith)));
+        omega (
+          arith,
+          elsewhere-within (t' ∷ rest) (t ∷ rest) (history ++ r ∷ []) history n b (λ g e last before.
+              (elsewhere_same g e, last_passes t.index r history g of (elsewhere_other g e) last, omega arith)),
+        );
     whole = λ all. let h : total ≡ share_of t.rows + shares rest = s.whole (λ c. ap (λ i. eqb i (table_of c) || is_lent (table_of c) rest) (sym same) ∙ all c) in omega arith;
   }
 
@@ -153,9 +156,13 @@ module _ {P : Type 0} (opening m n : ℕ) (a b c d a' b' c' d' : Kept P) (capaci
   four_swept = record {
     tables = (
       to_n 0 a' (swept_stands m n 0 a a' history sa s.tables.0),
-      (to_n 1 b' (swept_stands m n 1 b b' history sb s.tables.1.0),
-      (to_n 2 c' (swept_stands m n 2 c c' history sc s.tables.1.1.0),
-      (to_n 3 d' (swept_stands m n 3 d d' history sd s.tables.1.1.1.0), tt))),
+      (
+        to_n 1 b' (swept_stands m n 1 b b' history sb s.tables.1.0),
+        (
+          to_n 2 c' (swept_stands m n 2 c c' history sc s.tables.1.1.0),
+          (to_n 3 d' (swept_stands m n 3 d d' history sd s.tables.1.1.1.0), tt),
+        ),
+      ),
     );
     capacity_is = s.capacity_is;
     others =

@@ -62,7 +62,7 @@ module _ (opening j : ℕ) (rows spent : List Row) (moment after : ℕ) (rest : 
       let enough : share_of rows + shares rest + rates_elsewhere (old ∷ rest) history (book_moment history) ≤ book.total = s.others in
       let less : rates_elsewhere (new ∷ rest) (history ++ more) (book_moment history) ≤ rates_elsewhere (old ∷ rest) history (book_moment history) =
       elsewhere-within (new ∷ rest) (old ∷ rest) (history ++ more) history (book_moment history) (book_moment history) (λ g e last before.
-          (e, other_decisions j more history g of (elsewhere_apart new rest g e) last, before)) in
+      (e, other_decisions j more history g of (elsewhere_apart new rest g e) last, before)) in
       record {
         tables = (stands, subst (λ m. EachStandsAt m rest (history ++ more)) (sym now) (other_tables (book_moment history) j more rest history of none s.tables.1));
         moment = s.moment ∙ sym now;

@@ -81,11 +81,11 @@ module _ {P : Type 0} (n capacity : ℕ) (a b c d a' b' c' d' a'' b'' c'' d'' : 
     enough = let le = s.enough in omega arith;
     stands = λ h st.
         subst (λ h'. EachStandsAt n (four a'' b'' c'' d'') h') (history_more h)
-            (stands n n (h ++ map (shed_at n) list) (s.stands h st)
-            (let e : a'.moment ≡ n = s.t0.moment ∙ reached.0 in omega arith)
-            (let e : b'.moment ≡ n = s.t1.moment ∙ reached.1 in omega arith)
-            (let e : c'.moment ≡ n = s.t2.moment ∙ reached.2 in omega arith)
-            (let e : d'.moment ≡ n = s.t3.moment ∙ reached.3 in omega arith));
+        (stands n n (h ++ map (shed_at n) list) (s.stands h st)
+        (let e : a'.moment ≡ n = s.t0.moment ∙ reached.0 in omega arith)
+        (let e : b'.moment ≡ n = s.t1.moment ∙ reached.1 in omega arith)
+        (let e : c'.moment ≡ n = s.t2.moment ∙ reached.2 in omega arith)
+        (let e : d'.moment ≡ n = s.t3.moment ∙ reached.3 in omega arith));
     shed = λ h st.
         s.shed h st
         ∙ ap (λ gs. list ++ map shed_of gs) (shed_next n capacity a' b' c' d' (h ++ map (shed_at n) list) f (s.stands h st) distinct (still_live lasts) newest above)
@@ -119,9 +119,13 @@ swept_rows n old new swept = omega (arith, length_permutation (live_rows n old.r
 pub passes_change : {P : Type 0} (n capacity : ℕ) (a b c d : Kept P) (h : List Record) → EachStandsAt n (four a b c d) h → EachStandsAt n (four a b c d) (h ++ Capacity n capacity ∷ [])
 passes_change n capacity a b c d h s = (
   pass 0 a.rows a.moment s.0,
-  (pass 1 b.rows b.moment s.1.0,
-  (pass 2 c.rows c.moment s.1.1.0,
-  (pass 3 d.rows d.moment s.1.1.1.0, tt))),
+  (
+    pass 1 b.rows b.moment s.1.0,
+    (
+      pass 2 c.rows c.moment s.1.1.0,
+      (pass 3 d.rows d.moment s.1.1.1.0, tt),
+    ),
+  ),
 )
   where
     pass : (j : ℕ) (xs : List Row) (moment : ℕ) → StandsAt n j xs moment h → StandsAt n j xs moment (h ++ Capacity n capacity ∷ [])

@@ -83,11 +83,11 @@ module _ (h : List Record) (n : ℕ) (g : Grant) (last : IsLastDecision h g) (be
         λ i. from m (Contains-cons_cases g (shed_order after n) m i),
         λ both. to m (same_lease m.client m.kind g.client g.kind) refl both,
       ))
-          (sorted_front g (shed_order after n) (λ m i. let is : IsLastDecision after m × (n < m.until) = (shed_order-members after n m).0 i in least m (other_last m is.0).1 is.1) (order_sorted after n))
-          (pairs_from_Apart Differ (g ∷ shed_order after n) (
-            λ m i. same_lease-sym g.client g.kind m.client m.kind ∙ (other_last m ((shed_order-members after n m).0 i).0).0,
-            Apart-from_pairs Differ (shed_order after n) (shed_order-distinct after n),
-          ))
+      (sorted_front g (shed_order after n) (λ m i. let is : IsLastDecision after m × (n < m.until) = (shed_order-members after n m).0 i in least m (other_last m is.0).1 is.1) (order_sorted after n))
+      (pairs_from_Apart Differ (g ∷ shed_order after n) (
+        λ m i. same_lease-sym g.client g.kind m.client m.kind ∙ (other_last m ((shed_order-members after n m).0 i).0).0,
+        Apart-from_pairs Differ (shed_order after n) (shed_order-distinct after n),
+      ))
     where
       from : (m : Grant) → (g ≡ m) ⊎ Contains (shed_order after n) m → IsLastDecision h m × (n < m.until)
       from m (inl e) = subst (λ m. IsLastDecision h m × (n < m.until)) e (last, before)
@@ -162,30 +162,27 @@ module _ {P : Type 0} (n : ℕ) (a b c d : Kept P) (h : List Record) (s : EachSt
           let r : IsMapped grant_of a.rows m = in_rows 0 a.rows a.moment s.0 own in
           (found_in 0 r.from, Contains-append_left (map (found_in 0) a.rows) (all_found (lent_as 1 b ∷ lent_as 2 c ∷ lent_as 3 d ∷ [])) (found_in 0 r.from) (Contains-map (found_in 0) a.rows r.from r.contained), r.is)
       at (suc zero) own lt =
-          let r : IsMapped grant_of b.rows m = in_rows 1 b.rows b.moment s.1.0 own in
-          (
+          let r : IsMapped grant_of b.rows m = in_rows 1 b.rows b.moment s.1.0 own in (
             found_in 1 r.from,
             Contains-append_right (map (found_in 0) a.rows) (all_found (lent_as 1 b ∷ lent_as 2 c ∷ lent_as 3 d ∷ [])) (found_in 1 r.from)
-            (Contains-append_left (map (found_in 1) b.rows) (all_found (lent_as 2 c ∷ lent_as 3 d ∷ [])) (found_in 1 r.from) (Contains-map (found_in 1) b.rows r.from r.contained)),
+                (Contains-append_left (map (found_in 1) b.rows) (all_found (lent_as 2 c ∷ lent_as 3 d ∷ [])) (found_in 1 r.from) (Contains-map (found_in 1) b.rows r.from r.contained)),
             r.is,
           )
       at (suc (suc zero)) own lt =
-          let r : IsMapped grant_of c.rows m = in_rows 2 c.rows c.moment s.1.1.0 own in
-          (
+          let r : IsMapped grant_of c.rows m = in_rows 2 c.rows c.moment s.1.1.0 own in (
             found_in 2 r.from,
             Contains-append_right (map (found_in 0) a.rows) (all_found (lent_as 1 b ∷ lent_as 2 c ∷ lent_as 3 d ∷ [])) (found_in 2 r.from)
-            (Contains-append_right (map (found_in 1) b.rows) (all_found (lent_as 2 c ∷ lent_as 3 d ∷ [])) (found_in 2 r.from)
-            (Contains-append_left (map (found_in 2) c.rows) (all_found (lent_as 3 d ∷ [])) (found_in 2 r.from) (Contains-map (found_in 2) c.rows r.from r.contained))),
+                (Contains-append_right (map (found_in 1) b.rows) (all_found (lent_as 2 c ∷ lent_as 3 d ∷ [])) (found_in 2 r.from)
+                (Contains-append_left (map (found_in 2) c.rows) (all_found (lent_as 3 d ∷ [])) (found_in 2 r.from) (Contains-map (found_in 2) c.rows r.from r.contained))),
             r.is,
           )
       at (suc (suc (suc zero))) own lt =
-          let r : IsMapped grant_of d.rows m = in_rows 3 d.rows d.moment s.1.1.1.0 own in
-          (
+          let r : IsMapped grant_of d.rows m = in_rows 3 d.rows d.moment s.1.1.1.0 own in (
             found_in 3 r.from,
             Contains-append_right (map (found_in 0) a.rows) (all_found (lent_as 1 b ∷ lent_as 2 c ∷ lent_as 3 d ∷ [])) (found_in 3 r.from)
-            (Contains-append_right (map (found_in 1) b.rows) (all_found (lent_as 2 c ∷ lent_as 3 d ∷ [])) (found_in 3 r.from)
-            (Contains-append_right (map (found_in 2) c.rows) (all_found (lent_as 3 d ∷ [])) (found_in 3 r.from)
-            (Contains-append_left (map (found_in 3) d.rows) [] (found_in 3 r.from) (Contains-map (found_in 3) d.rows r.from r.contained)))),
+                (Contains-append_right (map (found_in 1) b.rows) (all_found (lent_as 2 c ∷ lent_as 3 d ∷ [])) (found_in 3 r.from)
+                (Contains-append_right (map (found_in 2) c.rows) (all_found (lent_as 3 d ∷ [])) (found_in 3 r.from)
+                (Contains-append_left (map (found_in 3) d.rows) [] (found_in 3 r.from) (Contains-map (found_in 3) d.rows r.from r.contained)))),
             r.is,
           )
       at (suc (suc (suc (suc j)))) own lt = absurd (omega arith)
@@ -249,8 +246,8 @@ shed_next n capacity a b c d h f s distinct lasts e above =
     let rest : List Grant = shed_order (h ++ Shed n f.row.client f.row.kind ∷ []) n in
     let order : grant_of f.row ∷ rest ≡ shed_order h n =
     order_front h n (grant_of f.row) last (lasts f.table f.row p.place p.contained) (λ m is before.
-        let found : (o : Found) × Contains (all_found (four a b c d)) o × (grant_of o.row ≡ m) = found_of n a b c d h s m is before in
-        ap (λ x. is_lt (shed_cmp x (grant_of f.row))) (sym found.2) ∙ newest.first found.0 found.1) in
+    let found : (o : Found) × Contains (all_found (four a b c d)) o × (grant_of o.row ≡ m) = found_of n a b c d h s m is before in
+    ap (λ x. is_lt (shed_cmp x (grant_of f.row))) (sym found.2) ∙ newest.first found.0 found.1) in
     let over : capacity < rate_sum (grant_of f.row ∷ rest) = let same = ap rate_sum order in omega (arith, same, order-is n a b c d h s distinct lasts) in
     ap (λ gs. shed_prefix capacity gs) (sym order)
     ∙ ap (λ b. cond b [] (grant_of f.row ∷ shed_prefix capacity rest)) (lt-leb (rate_sum (grant_of f.row ∷ rest)) capacity over)

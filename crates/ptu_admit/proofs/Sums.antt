@@ -44,9 +44,9 @@ pub rate_sum-within : (xs ys : List Grant) → Apart Differ xs → ((g : Grant) 
 rate_sum-within [] ys apart inside = omega arith
 rate_sum-within (x ∷ xs) ys apart inside =
     let own : rate_of x.log ≤ rate_sum (filter (is_of x.client x.kind) ys) =
-        member-le (filter (is_of x.client x.kind) ys) x (Contains-filter (is_of x.client x.kind) ys x (inside x (Contains-first x xs)) (same_lease-refl x.client x.kind)) in
+    member-le (filter (is_of x.client x.kind) ys) x (Contains-filter (is_of x.client x.kind) ys x (inside x (Contains-first x xs)) (same_lease-refl x.client x.kind)) in
     let ih : rate_sum xs ≤ rate_sum (without x.client x.kind ys) = rate_sum-within xs (without x.client x.kind ys) apart.1 (λ g h.
-        Contains-filter (λ g. not (is_of x.client x.kind g)) ys g (inside g (Contains-later x xs g h)) (ap not (apart.0 g h))) in
+    Contains-filter (λ g. not (is_of x.client x.kind g)) ys g (inside g (Contains-later x xs g h)) (ap not (apart.0 g h))) in
     omega (arith, own, ih, sum_by-cons rate x xs, sum_by-filter_both (is_of x.client x.kind) (λ g. not (is_of x.client x.kind g)) (λ _. refl) rate ys)
 
 pub Contains-map : {A B : Type 0} (f : A → B) (xs : List A) (x : A) → Contains xs x → Contains (map f xs) (f x)

@@ -4,7 +4,7 @@ ghost use Rattle.std.specs.Prelude.{◌≡◌, ℕ, ◌+◌, ◌≤◌, max, fal
 ghost use Rattle.ptu_history.specs.Client.{table_of as table_of_client};
 ghost use Rattle.ptu_history.specs.History.{Record};
 ghost use Rattle.ptu_history.specs.Live.{live};
-ghost use Rattle.ptu_history.specs.Verdict.{Config};
+ghost use Rattle.ptu_history.specs.Verdict.{Config, table_rates};
 ghost use Rattle.ptu_history.specs.Events.{Cancel};
 ghost use Rattle.ptu_history.specs.Step.{step};
 ghost use Rattle.ptu_shard.specs.Row.{share_of};
@@ -84,6 +84,16 @@ pub fn finish<P: Port>(
     ensures book { book.new ≡ record book.old {
       total = shares (four s0.new s1.new s2.new s3.new);
     } }
+    // Each share is what the clients of the table hold at that moment, after each history that the
+    // tables and the book stand for.
+    ensures rates { (opening : ℕ) (history : List Record) →
+        let lent = four s0.old s1.old s2.old s3.old in
+        StandFor opening lent book.old history →
+        (let n = moment_for_all 0 book.old lent in
+        (share_of s0.new.rows ≡ table_rates history n 0)
+        × (share_of s1.new.rows ≡ table_rates history n 1)
+        × (share_of s2.new.rows ≡ table_rates history n 2)
+        × (share_of s3.new.rows ≡ table_rates history n 3)) }
 {
     let at = latest_of(s0, s1, s2, s3, book, Moment::default());
     sweep_all(s0, s1, s2, s3, book, at);

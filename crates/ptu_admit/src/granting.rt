@@ -90,8 +90,13 @@ pub(crate) fn grant<P: Port>(
     requires fits { book.old.total - kept_rate client.now wanted.kind shard.old.rows
         + rate_of wanted.log ≤ book.old.capacity }
     ensures granted { let seconds = min wanted.seconds config.now.max_duration in
-        result ≡ record { kind = wanted.kind; log = wanted.log; at = at; seconds = seconds;
-            until = at + seconds * 1000000000 } }
+        result ≡ record {
+          kind = wanted.kind;
+          log = wanted.log;
+          at = at;
+          seconds = seconds;
+          until = at + seconds * 1000000000;
+        } }
     ensures moments { (shard.new.moment ≡ at) × (book.new.moment ≡ at) }
     ensures capacity { book.new.capacity ≡ book.old.capacity }
     ensures total { book.new.total + share_of shard.old.rows
@@ -107,7 +112,11 @@ pub(crate) fn grant<P: Port>(
     let until = at.nanos() + u64::from(seconds) * NANOS_PER_SECOND;
     shard.sweep(at);
     let former = shard.lease(client, wanted.kind);
-    shard.put(*client, wanted.kind, next_lease(former, at, wanted.log, until));
+    shard.put(
+        *client,
+        wanted.kind,
+        next_lease(former, at, wanted.log, until),
+    );
     book.settle(before, shard.held());
     book.reach(at);
     Grant::new(wanted, at, seconds, until)

@@ -27,7 +27,8 @@ fn drop_in<P: Port>(shard: &mut Shard<P>, book: &mut Book, row: &Row)
     ensures fewer { length shard.new.rows + 1 ≤ length shard.old.rows }
     ensures share { share_of shard.new.rows + rate_of row.now.lease.log ≡ share_of shard.old.rows }
     ensures book { book.new ≡ record book.old {
-        total = book.old.total - rate_of row.now.lease.log } }
+      total = book.old.total - rate_of row.now.lease.log;
+    } }
     ensures stands { (b j n : ℕ) (history : List Record) → StandsBeside b j shard.old history →
         n ≤ shard.old.moment →
         StandsBeside b j shard.new (history ++ ShedRecord n row.now.client row.now.kind ∷ []) }
@@ -58,7 +59,8 @@ fn drop_found<P: Port>(
         ≤ rows_in (four s0.old s1.old s2.old s3.old) }
     ensures less { book.new.total + rate_of found.now.row.lease.log ≡ book.old.total }
     ensures book { book.new ≡ record book.old {
-        total = shares (four s0.new s1.new s2.new s3.new) } }
+      total = shares (four s0.new s1.new s2.new s3.new);
+    } }
     ensures stands { (b n : ℕ) (history : List Record) →
         EachStandsAt b (four s0.old s1.old s2.old s3.old) history →
         n ≤ s0.old.moment → n ≤ s1.old.moment → n ≤ s2.old.moment → n ≤ s3.old.moment →
@@ -98,7 +100,8 @@ pub(crate) fn shed_above<P: Port>(
     ensures t3 { IsThinned s3.old s3.new }
     ensures within { book.new.total ≤ capacity }
     ensures book { book.new ≡ record book.old {
-        total = shares (four s0.new s1.new s2.new s3.new) } }
+      total = shares (four s0.new s1.new s2.new s3.new);
+    } }
     ensures stands { (history : List Record) →
         EachStandsAt at (four s0.old s1.old s2.old s3.old) history →
         EachStandsAt at (four s0.new s1.new s2.new s3.new)

@@ -34,7 +34,8 @@ fn sweep_one<P: Port>(shard: &mut Shard<P>, book: &mut Book, at: Moment)
     ensures swept { IsSwept at shard.old shard.new }
     ensures less { share_of shard.new.rows ≤ share_of shard.old.rows }
     ensures book { book.new ≡ record book.old {
-        total = book.old.total - share_of shard.old.rows + share_of shard.new.rows } }
+      total = book.old.total - share_of shard.old.rows + share_of shard.new.rows;
+    } }
     ensures distinct { IsDistinctByLease shard.old.rows × IsDistinctByLease shard.new.rows }
 {
     let before = shard.held();
@@ -57,7 +58,8 @@ pub(crate) fn sweep_all<P: Port>(
     ensures s2 { IsSwept at s2.old s2.new }
     ensures s3 { IsSwept at s3.old s3.new }
     ensures book { book.new ≡ record book.old {
-        total = shares (four s0.new s1.new s2.new s3.new) } }
+      total = shares (four s0.new s1.new s2.new s3.new);
+    } }
     ensures before { IsDistinctByLease s0.old.rows × IsDistinctByLease s1.old.rows
         × IsDistinctByLease s2.old.rows × IsDistinctByLease s3.old.rows }
     ensures after { IsDistinctByLease s0.new.rows × IsDistinctByLease s1.new.rows

@@ -54,7 +54,12 @@ impl Grant {
     pub(crate) fn new(wanted: Wanted, at: Moment, seconds: u32, until: u64) -> Grant
         requires { until ≡ at + seconds * 1000000000 }
         ensures { result ≡ record {
-            kind = wanted.kind; log = wanted.log; at = at; seconds = seconds; until = until } }
+          kind = wanted.kind;
+          log = wanted.log;
+          at = at;
+          seconds = seconds;
+          until = until;
+        } }
     {
         Grant {
             kind: wanted.kind,
@@ -131,8 +136,14 @@ impl Shortage {
     // What is short of what was wanted, beside other live grants with these rates.
     pub(crate) fn new(wanted: Wanted, at: Moment, others: u64, rate: u64, capacity: u64) -> Shortage
         requires { capacity < others + rate }
-        ensures { result ≡ record { kind = wanted.kind; log = wanted.log; at = at;
-            others = others; rate = rate; capacity = capacity } }
+        ensures { result ≡ record {
+          kind = wanted.kind;
+          log = wanted.log;
+          at = at;
+          others = others;
+          rate = rate;
+          capacity = capacity;
+        } }
     {
         Shortage {
             kind: wanted.kind,

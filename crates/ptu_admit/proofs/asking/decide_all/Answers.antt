@@ -15,7 +15,7 @@ use Rattle.ptu_admit.proofs.asking.decide_all.Goals as goal
 pub returns-in-Err-clause-verdict : goal.returns-in-Err-clause-verdict
 returns-in-Err-clause-verdict g c = λ opening h s.
     sym (verdict-outside (config_of opening c.args.config.now) h (moment_for c.args.t c.args.book.now c.args.client.now (four c.args.s0.now c.args.s1.now c.args.s2.now c.args.s3.now)) c.args.client.now
-        (cause_of c.in-Err.outside) (ask_of c.args.ask.now) c.in-Err.ensures.outside)
+    (cause_of c.in-Err.outside) (ask_of c.args.ask.now) c.in-Err.ensures.outside)
 
 pub returns-in-Err-clause-stands : goal.returns-in-Err-clause-stands
 returns-in-Err-clause-stands g c = λ opening h s.
@@ -41,7 +41,7 @@ returns-clause-answer g c =
     c.decide_among.ensures.answer
     ∙ ap (λ b. verdict_on (config_of b.capacity config) (b.total - kept_rate client w.kind own) at w.kind w.log w.seconds) c.sweep_all.ensures.book
     ∙ ap (λ o. verdict_on (config_of top config) o at w.kind w.log w.seconds) (others_swept at client w.kind c.args.s0.now c.args.s1.now c.args.s2.now c.args.s3.now c.sweep_all.new.s0 c.sweep_all.new.s1 c.sweep_all.new.s2 c.sweep_all.new.s3
-        c.sweep_all.ensures.s0 c.sweep_all.ensures.s1 c.sweep_all.ensures.s2 c.sweep_all.ensures.s3 old new)
+    c.sweep_all.ensures.s0 c.sweep_all.ensures.s1 c.sweep_all.ensures.s2 c.sweep_all.ensures.s3 old new)
     ∙ ap (λ m. verdict_on (config_of top config) (live_others m lent client w.kind) m w.kind w.log w.seconds) at_is
     ∙ ap (λ l. verdict_on (config_of top config) (live_others n lent client w.kind) n w.kind l w.seconds) c.in-Ok.ensures.within.1
     ∙ ap (λ d. verdict_on (config_of top config) (live_others n lent client w.kind) n w.kind c.args.ask.now.log d) c.in-Ok.ensures.within.2
@@ -57,7 +57,7 @@ returns-clause-verdict g c = λ opening h s.
     record { first = c.sweep_all.ensures.before.0; second = c.sweep_all.ensures.before.1; third = c.sweep_all.ensures.before.2; fourth = c.sweep_all.ensures.before.3 } in
     returns-clause-answer g c
     ∙ verdict-same c.args.config.now n c.args.book.now.capacity (capacity_in_force opening h) (live_others n lent client) (λ k. others h n client k) (ask_of c.args.ask.now) s.capacity
-        (λ k. others-is (book_moment h) n h client k c.args.s0.now c.args.s1.now c.args.s2.now c.args.s3.now s.tables le old)
+    (λ k. others-is (book_moment h) n h client k c.args.s0.now c.args.s1.now c.args.s2.now c.args.s3.now s.tables le old)
     ∙ sym (verdict-beside opening n c.args.config.now h client (ask_of c.args.ask.now))
 
 pub returns-clause-stands : goal.returns-clause-stands
@@ -77,9 +77,9 @@ returns-clause-stands g c = λ opening h s.
     ap (λ m. verdict_records m client (verdict_of c.decide_among.result)) at_is ∙ ap (λ v. verdict_records n client v) (returns-clause-verdict g c opening h s) in
     let each : EachStandsAt at (four c.decide_among.new.s0 c.decide_among.new.s1 c.decide_among.new.s2 c.decide_among.new.s3) (h ++ verdict_records n client (verdict config h n client ask)) =
     subst (λ rs. EachStandsAt at (four c.decide_among.new.s0 c.decide_among.new.s1 c.decide_among.new.s2 c.decide_among.new.s3) (h ++ rs)) records_are
-        (c.decide_among.ensures.stands at h swept.tables (omega arith)) in
+    (c.decide_among.ensures.stands at h swept.tables (omega arith)) in
     four_stand opening at c.decide_among.new.s0 c.decide_among.new.s1 c.decide_among.new.s2 c.decide_among.new.s3 c.decide_among.new.book (h ++ verdict_records n client (verdict config h n client ask)) each
-        (book_moment-verdict config h n client ask (ok_profile ask c.in-Ok.wanted.kind c.in-Ok.ensures.within.0) ∙ (let now = s.moment in omega (arith, at_is)))
-        c.decide_among.ensures.moments.0
-        (c.decide_among.ensures.capacity ∙ ap (λ b. b.capacity) c.sweep_all.ensures.book ∙ s.capacity ∙ sym (capacity-verdict opening h n client (verdict config h n client ask)))
-        c.decide_among.ensures.total
+    (book_moment-verdict config h n client ask (ok_profile ask c.in-Ok.wanted.kind c.in-Ok.ensures.within.0) ∙ (let now = s.moment in omega (arith, at_is)))
+    c.decide_among.ensures.moments.0
+    (c.decide_among.ensures.capacity ∙ ap (λ b. b.capacity) c.sweep_all.ensures.book ∙ s.capacity ∙ sym (capacity-verdict opening h n client (verdict config h n client ask)))
+    c.decide_among.ensures.total

@@ -15,7 +15,7 @@ use Rattle.ptu_admit.proofs.asking.decide_one.Goals as goal
 pub returns-in-Err-clause-verdict : goal.returns-in-Err-clause-verdict
 returns-in-Err-clause-verdict g c = λ opening rest history s.
     sym (verdict-outside (config_of opening c.args.config.now) history (max c.args.t (max c.args.book.now.moment c.args.shard.now.moment)) c.args.client.now
-        (cause_of c.in-Err.outside) (ask_of c.args.ask.now) c.in-Err.ensures.outside)
+    (cause_of c.in-Err.outside) (ask_of c.args.ask.now) c.in-Err.ensures.outside)
 
 pub returns-in-Err-clause-stands : goal.returns-in-Err-clause-stands
 returns-in-Err-clause-stands g c = λ opening rest history s none.
@@ -63,18 +63,18 @@ returns-clause-stands g c = λ opening rest history s none.
     ∙ ap (λ z. Granted n client c.grant.result.kind z c.grant.result.until ∷ []) (sym (ap (λ t. t.log) parts))
     ∙ ap (λ v. verdict_records n client v) (returns-clause-verdict g c opening rest history s) in
     subst (λ rs. StandFor opening (table_for client c.grant.new.shard ∷ rest) c.grant.new.book (history ++ rs)) record_is
-        (taken opening (book_moment history) c.latest-at.result (table_for client c.args.shard.now) (table_for client c.grant.new.shard) rest
-        c.args.book.now.capacity c.args.book.now.total c.grant.new.book history (Granted c.latest-at.result client k l c.grant.result.until) (record {
-          before = are_at opening (table_for client c.args.shard.now ∷ rest) c.args.book.now history s;
-          le = le;
-          now = le;
-          same = refl;
-          of = of_granted c.latest-at.result client k l c.grant.result.until;
-          at = refl;
-          part = refl;
-          apart = none;
-          stands = c.grant.ensures.stands (book_moment history) (table_of client) history s.tables.0 refl le;
-          sum = c.grant.ensures.total;
-          moment_is = c.grant.ensures.moments.1;
-          capacity_is = c.grant.ensures.capacity;
-        }))
+    (taken opening (book_moment history) c.latest-at.result (table_for client c.args.shard.now) (table_for client c.grant.new.shard) rest
+    c.args.book.now.capacity c.args.book.now.total c.grant.new.book history (Granted c.latest-at.result client k l c.grant.result.until) (record {
+      before = are_at opening (table_for client c.args.shard.now ∷ rest) c.args.book.now history s;
+      le = le;
+      now = le;
+      same = refl;
+      of = of_granted c.latest-at.result client k l c.grant.result.until;
+      at = refl;
+      part = refl;
+      apart = none;
+      stands = c.grant.ensures.stands (book_moment history) (table_of client) history s.tables.0 refl le;
+      sum = c.grant.ensures.total;
+      moment_is = c.grant.ensures.moments.1;
+      capacity_is = c.grant.ensures.capacity;
+    }))

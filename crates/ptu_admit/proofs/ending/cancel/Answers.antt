@@ -41,9 +41,9 @@ returns-clause-stands g c = λ opened rest history s none.
     let after = history ++ Ended n c.args.client.now c.args.kind ∷ [] in
     let stands : StandsAt n j c.remove-ended.new.self.rows c.remove-ended.new.self.moment after =
     subst (λ m. StandsAt m j c.remove-ended.new.self.rows c.remove-ended.new.self.moment after) top
-        (c.remove-ended.ensures.ended (max (book_moment history) n) j n history (c.sweep.ensures.stands (book_moment history) j history s.tables.0) (omega (arith, c.sweep.ensures.moment))) in
+    (c.remove-ended.ensures.ended (max (book_moment history) n) j n history (c.sweep.ensures.stands (book_moment history) j history s.tables.0) (omega (arith, c.sweep.ensures.moment))) in
     taken opened.capacity (book_moment history) n (table_for c.args.client.now c.args.shard.now) (table_for c.args.client.now c.remove-ended.new.self) rest
-        c.args.book.now.capacity c.args.book.now.total c.reach.new.self history (Ended n c.args.client.now c.args.kind) (record {
+    c.args.book.now.capacity c.args.book.now.total c.reach.new.self history (Ended n c.args.client.now c.args.kind) (record {
       before = are_at opened.capacity (table_for c.args.client.now c.args.shard.now ∷ rest) c.args.book.now history s;
       le = le;
       now = le;

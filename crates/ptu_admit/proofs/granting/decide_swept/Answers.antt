@@ -12,5 +12,5 @@ returns-else-others-rate-clause-stands g c = λ b j history s own le.
     let reached : table_part j (Short n c.args.client.now) ≤ c.args.shard.now.moment =
     let at_most : table_part j (Short n c.args.client.now) ≤ n = table_part-le j (Short n c.args.client.now) in omega (arith, c.requires.reached) in
     stands_elsewhere n j c.args.shard.now.moment history c.args.shard.now.rows
-        (stands_later b n j c.args.shard.now.rows c.args.shard.now.moment history le s)
-        (Short n c.args.client.now) (λ d i e. refl) reached
+    (stands_later b n j c.args.shard.now.rows c.args.shard.now.moment history le s)
+    (Short n c.args.client.now) (λ d i e. refl) reached

@@ -68,6 +68,6 @@ returns-clause-stands g c = λ b j history s own le.
     ∙ ap (λ z. Granted n client kind z lease.until) c.next_lease.ensures.granted.1
     ∙ ap (λ m. Granted n client kind l m) until_is in
     subst (λ r. StandsAt n j c.put.new.self.rows c.put.new.self.moment (history ++ r ∷ [])) one
-        (c.put.ensures.stands n j history now own
-        (let start : lease.start ≡ n = c.next_lease.ensures.granted.0 in omega (arith, c.sweep.ensures.moment))
-        (subst (λ r. IsLeaseOf (history ++ r ∷ []) client kind lease) (sym one) is))
+    (c.put.ensures.stands n j history now own
+    (let start : lease.start ≡ n = c.next_lease.ensures.granted.0 in omega (arith, c.sweep.ensures.moment))
+    (subst (λ r. IsLeaseOf (history ++ r ∷ []) client kind lease) (sym one) is))

@@ -57,7 +57,7 @@ returns-clause-stands g c = λ opened h s.
     let each : EachStandsAt at (four c.shed_above.new.s0 c.shed_above.new.s1 c.shed_above.new.s2 c.shed_above.new.s3) (h ++ Capacity at capacity ∷ map (shed_record at) (shed_grants h at capacity)) =
     subst (λ h'. EachStandsAt at (four c.shed_above.new.s0 c.shed_above.new.s1 c.shed_above.new.s2 c.shed_above.new.s3) h') records_are (c.shed_above.ensures.stands (h ++ Capacity at capacity ∷ []) changed) in
     four_stand opened.capacity at c.shed_above.new.s0 c.shed_above.new.s1 c.shed_above.new.s2 c.shed_above.new.s3 c.change.new.self (h ++ Capacity at capacity ∷ map (shed_record at) (shed_grants h at capacity)) each
-        (book_moment-resized h at capacity (shed_grants h at capacity) ∙ (omega arith))
-        (ap (λ (k : KeptBook). k.moment) c.change.ensures)
-        (ap (λ (k : KeptBook). k.capacity) c.change.ensures ∙ sym (capacity_changed opened.capacity h at capacity (shed_grants h at capacity)))
-        (ap (λ (k : KeptBook). k.total) c.change.ensures ∙ ap (λ (k : KeptBook). k.total) c.shed_above.ensures.book)
+    (book_moment-resized h at capacity (shed_grants h at capacity) ∙ (omega arith))
+    (ap (λ (k : KeptBook). k.moment) c.change.ensures)
+    (ap (λ (k : KeptBook). k.capacity) c.change.ensures ∙ sym (capacity_changed opened.capacity h at capacity (shed_grants h at capacity)))
+    (ap (λ (k : KeptBook). k.total) c.change.ensures ∙ ap (λ (k : KeptBook). k.total) c.shed_above.ensures.book)

@@ -30,19 +30,19 @@ above-preserved g c =
     let next : SoFar c.args.at c.args.capacity c.args.s0.now c.args.s1.now c.args.s2.now c.args.s3.now c.drop_found.new.s0 c.drop_found.new.s1 c.drop_found.new.s2 c.drop_found.new.s3
     c.args.book.now c.drop_found.new.book (c.above.list.items ++ value ∷ []) (vec_len c.above.list + 1) (vec_capacity c.push.new.self) =
     one_shed c.args.at c.args.capacity c.args.s0.now c.args.s1.now c.args.s2.now c.args.s3.now c.above.s0 c.above.s1 c.above.s2 c.above.s3 c.drop_found.new.s0 c.drop_found.new.s1 c.drop_found.new.s2 c.drop_found.new.s3
-        c.args.book.now c.above.book c.drop_found.new.book c.above.list.items (vec_len c.above.list) (vec_capacity c.above.list) (vec_capacity c.push.new.self) c.in-Some.found c.above.invariant
-        c.requires.live c.requires.reached (sym c.newest_of.ensures.newest ∙ c.in-Some.is) distinct above
-        c.drop_found.ensures.t0 c.drop_found.ensures.t1 c.drop_found.ensures.t2 c.drop_found.ensures.t3 c.drop_found.ensures.fewer c.drop_found.ensures.book c.push.ensures.capacity c.drop_found.ensures.stands in
+    c.args.book.now c.above.book c.drop_found.new.book c.above.list.items (vec_len c.above.list) (vec_capacity c.above.list) (vec_capacity c.push.new.self) c.in-Some.found c.above.invariant
+    c.requires.live c.requires.reached (sym c.newest_of.ensures.newest ∙ c.in-Some.is) distinct above
+    c.drop_found.ensures.t0 c.drop_found.ensures.t1 c.drop_found.ensures.t2 c.drop_found.ensures.t3 c.drop_found.ensures.fewer c.drop_found.ensures.book c.push.ensures.capacity c.drop_found.ensures.stands in
     subst (λ items. SoFar c.args.at c.args.capacity c.args.s0.now c.args.s1.now c.args.s2.now c.args.s3.now c.drop_found.new.s0 c.drop_found.new.s1 c.drop_found.new.s2 c.drop_found.new.s3
-        c.args.book.now c.drop_found.new.book items (vec_len c.push.new.self) (vec_capacity c.push.new.self)) (sym items_are)
-        (subst (λ len. SoFar c.args.at c.args.capacity c.args.s0.now c.args.s1.now c.args.s2.now c.args.s3.now c.drop_found.new.s0 c.drop_found.new.s1 c.drop_found.new.s2 c.drop_found.new.s3
-        c.args.book.now c.drop_found.new.book (c.above.list.items ++ value ∷ []) len (vec_capacity c.push.new.self)) (sym len_is) next)
+    c.args.book.now c.drop_found.new.book items (vec_len c.push.new.self) (vec_capacity c.push.new.self)) (sym items_are)
+    (subst (λ len. SoFar c.args.at c.args.capacity c.args.s0.now c.args.s1.now c.args.s2.now c.args.s3.now c.drop_found.new.s0 c.drop_found.new.s1 c.drop_found.new.s2 c.drop_found.new.s3
+    c.args.book.now c.drop_found.new.book (c.above.list.items ++ value ∷ []) len (vec_capacity c.push.new.self)) (sym len_is) next)
 
 pub returns-after-above-clause-shed : goal.returns-after-above-clause-shed
 returns-after-above-clause-shed g c = λ h st.
     let total_is : c.above.book.total ≡ shares (four c.above.s0 c.above.s1 c.above.s2 c.above.s3) = ap (λ (k : KeptBook). k.total) c.above.invariant.book_is in
     all_shed c.args.at c.args.capacity c.args.s0.now c.args.s1.now c.args.s2.now c.args.s3.now c.above.s0 c.above.s1 c.above.s2 c.above.s3 c.args.book.now c.above.book c.above.list.items
-        (vec_len c.above.list) (vec_capacity c.above.list) c.above.invariant (omega (arith, c.above-test.false, c.total.ensures.value)) h st
+    (vec_len c.above.list) (vec_capacity c.above.list) c.above.invariant (omega (arith, c.above-test.false, c.total.ensures.value)) h st
 
 pub returns-in_default-clause-within : goal.returns-in_default-clause-within
 returns-in_default-clause-within g c =
