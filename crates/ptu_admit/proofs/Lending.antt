@@ -1,14 +1,13 @@
 -- What lent tables and a book stand for, from one step to the next.
-use Rattle.std.proofs.Common.{◌≡◌, ◌∙◌, ◌⊎◌, inl, inr, ℕ, ◌+◌, ◌*◌, ◌<◌, ◌≤◌, max, ◌++◌, List, [], ◌∷◌, Bool, true, false, not, ◌||◌, cond, eqb, leb, ltb, refl, sym, ap, subst, arith, ℤ, Some, None}
-use Rattle.std.specs.List.{Contains, filter}
-use Rattle.std.proofs.lemmas.Bool.{eq-eqb, eqb-true, false_from_ne_true, false≢true, not-true, or_parts, true≢false}
+use Rattle.std.proofs.Common.{◌≡◌, ◌∙◌, inl, ℕ, ◌+◌, ◌<◌, ◌≤◌, max, ◌++◌, List, [], ◌∷◌, Bool, true, false, not, ◌||◌, cond, eqb, ltb, refl, sym, ap, subst, arith, ℤ, Some}
+use Rattle.std.proofs.lemmas.Bool.{eq-eqb, eqb-true, false_from_ne_true, false≢true, not-true, true≢false}
 use Rattle.ptu_units.specs.declared.kind.Kind.{Kind}
 use Rattle.ptu_history.specs.declared.client.Client.{Client}
-use Rattle.ptu_history.specs.Client.{same_lease, table_of}
-use Rattle.ptu_history.specs.History.{Record, Granted, Short, Ended, Shed, Capacity, capacity_in_force, concerns, decides, is_change, is_decision, moment_of}
-use Rattle.ptu_history.specs.Moments.{book_moment, book_part, is_of_table, table_part}
+use Rattle.ptu_history.specs.Client.{table_of}
+use Rattle.ptu_history.specs.History.{Record, Granted, Short, Ended, Shed, capacity_in_force, concerns, is_change, is_decision, moment_of}
+use Rattle.ptu_history.specs.Moments.{book_moment, book_part, table_part}
 use Rattle.ptu_history.specs.Live.{Grant, IsLastDecision, last_decision, live_grants, standing}
-use Rattle.ptu_history.specs.Verdict.{rate_sum, table_rates}
+use Rattle.ptu_history.specs.Verdict.{table_rates}
 use Rattle.ptu_history.proofs.Capacities.{capacity_in_force-unchanged}
 use Rattle.ptu_history.proofs.Keys.{same_lease-true}
 use Rattle.ptu_history.proofs.Moments.{book_moment-one}
@@ -20,7 +19,7 @@ use Rattle.ptu_shard.specs.Table.{Kept, StandsAt}
 use Rattle.ptu_shard.proofs.RowLists.{same_permuted, share_of-filter-le}
 use Rattle.ptu_shard.proofs.Standing.{stands_elsewhere, stands_same, stands_swept}
 use Rattle.ptu_admit.specs.Book.{KeptBook}
-use Rattle.ptu_admit.specs.Lent.{EachStandsAt, Lent, StandFor, four, is_elsewhere, is_lent, lent_as, rates_elsewhere, shares}
+use Rattle.ptu_admit.specs.Lent.{EachStandsAt, Lent, StandFor, four, is_elsewhere, is_lent, rates_elsewhere, shares}
 use Rattle.ptu_admit.specs.Rows.{live_rows}
 use Rattle.ptu_admit.specs.Tables.{IsSwept}
 use Rattle.ptu_admit.proofs.Grants.{elsewhere-fewer, elsewhere-within, table_rates-le}

@@ -1,16 +1,15 @@
 -- Lent tables and a book after a turn, or a Delay_Req, of one of the tables.
-use Rattle.std.proofs.Common.{◌≡◌, ◌∙◌, ℕ, ◌+◌, ◌<◌, ◌≤◌, max, ◌++◌, List, [], ◌∷◌, map, get_or, append_assoc, append-nil, Bool, true, false, cond, eqb, refl, sym, ap, subst, arith}
-use Rattle.std.specs.List.{All, list_any, sum_by}
+use Rattle.std.proofs.Common.{◌≡◌, ◌∙◌, ℕ, ◌+◌, ◌≤◌, max, ◌++◌, List, [], ◌∷◌, map, append_assoc, append-nil, Bool, true, false, cond, eqb, refl, sym, ap, subst, arith}
+use Rattle.std.specs.List.{All, list_any}
 use Rattle.std.specs.List.Sorted.{IsPermutation}
 use Rattle.std.proofs.lemmas.Bool.{false≢true}
 use Rattle.std.proofs.lemmas.List.Elements.{All-head, All-tail}
 use Rattle.std.proofs.lemmas.List.Sums.{sum_by-cons}
 use Rattle.ptu_units.specs.declared.kind.Kind.{Kind}
 use Rattle.ptu_units.specs.declared.kind.Kind.TheVariants.{DelayResp}
-use Rattle.ptu_units.specs.Log.{rate_of}
 use Rattle.ptu_history.specs.declared.client.Client.{Client}
 use Rattle.ptu_history.specs.Client.{table_of}
-use Rattle.ptu_history.specs.History.{Record, Looked, Sent, capacity_in_force, is_change}
+use Rattle.ptu_history.specs.History.{Record, Looked, Sent, is_change}
 use Rattle.ptu_history.specs.Moments.{book_moment, book_part, greatest_by}
 use Rattle.ptu_history.specs.Events.{Answer, Answered, NoGrant, TooSoon}
 use Rattle.ptu_history.specs.Live.{Grant, IsLastDecision}
@@ -25,7 +24,7 @@ use Rattle.ptu_shard.specs.Row.{share_of}
 use Rattle.ptu_shard.specs.Table.{StandsAt}
 use Rattle.ptu_shard.specs.Turn.{spent_row, spent_where}
 use Rattle.ptu_admit.specs.Book.{KeptBook}
-use Rattle.ptu_admit.specs.Lent.{EachStandsAt, Lent, StandFor, is_elsewhere, is_lent, rates_elsewhere, shares}
+use Rattle.ptu_admit.specs.Lent.{EachStandsAt, Lent, StandFor, is_lent, rates_elsewhere, shares}
 use Rattle.ptu_admit.proofs.Grants.{elsewhere-within}
 use Rattle.ptu_admit.proofs.Lending.{IsOfTable, each_passes, elsewhere_apart, last_passes}
 use Rattle.ptu_admit.proofs.Sums.{row_rate, share_of-permuted}

@@ -1,5 +1,5 @@
 -- Grants that are shed one by one.
-use Rattle.std.proofs.Common.{◌≡◌, ◌∙◌, ℕ, zero, suc, ◌+◌, ◌<◌, ◌≤◌, ◌++◌, List, [], ◌∷◌, length, ltb, map, append_assoc, append-nil, refl, sym, ap, subst, arith, Option, Some, None}
+use Rattle.std.proofs.Common.{◌≡◌, ◌∙◌, ℕ, zero, suc, ◌+◌, ◌<◌, ◌≤◌, ◌++◌, List, [], ◌∷◌, length, ltb, map, append_assoc, append-nil, refl, sym, ap, subst, arith, Some, None}
 use Rattle.std.specs.List.{Contains, filter, fold}
 use Rattle.std.proofs.lemmas.Bool.{ltb-true}
 use Rattle.std.proofs.lemmas.List.{map-append}
@@ -19,11 +19,11 @@ use Rattle.ptu_shard.proofs.Standing.{stands_elsewhere}
 use Rattle.ptu_admit.specs.Book.{KeptBook}
 use Rattle.ptu_admit.specs.declared.newest.Found.{Found}
 use Rattle.ptu_admit.specs.declared.shed_list.Shed.{Shed as Answer}
-use Rattle.ptu_admit.specs.Lent.{EachStandsAt, four, rows_of_lent, shares}
-use Rattle.ptu_admit.specs.Newest.{IsThinned, all_found, grant_of, newer, rows_in, shed_at}
+use Rattle.ptu_admit.specs.Lent.{EachStandsAt, four, shares}
+use Rattle.ptu_admit.specs.Newest.{IsThinned, all_found, newer, rows_in, shed_at}
 use Rattle.ptu_admit.specs.Shed.{shed_of}
 use Rattle.ptu_admit.specs.Rows.{live_rows}
-use Rattle.ptu_admit.specs.Tables.{IsSwept, KeepsPort}
+use Rattle.ptu_admit.specs.Tables.{IsSwept}
 use Rattle.ptu_admit.proofs.RowKeys.{length-filter-le}
 use Rattle.ptu_admit.proofs.ShedOrder.{AllLive, shed_next, shed_no_more}
 use Rattle.ptu_admit.proofs.Verdicts.{FourDistinct}

@@ -1,38 +1,32 @@
 -- The order of shedding, grant by grant.
-use Rattle.std.proofs.Common.{◌≡◌, ◌∙◌, ◌↔◌, ◌⊎◌, inl, inr, ℕ, zero, suc, ◌+◌, ◌<◌, ◌≤◌, ◌++◌, List, [], ◌∷◌, length, get_or, map, append_assoc, append-nil, Bool, true, false, not, cond, eqb, leb, ltb, refl, sym, ap, subst, arith, Option, Some, None, ℤ}
+use Rattle.std.proofs.Common.{◌≡◌, ◌∙◌, ◌⊎◌, inl, inr, ℕ, zero, suc, ◌+◌, ◌<◌, ◌≤◌, ◌++◌, List, [], ◌∷◌, get_or, map, Bool, true, false, cond, ltb, refl, sym, ap, subst, arith, Some, None}
 use Rattle.std.specs.List.{Contains, filter, fold}
 use Rattle.std.specs.List.Sorted.{IsSorted}
 use Rattle.std.specs.Ordering.{is_lt}
-use Rattle.std.proofs.lemmas.Bool.{false_from_ne_true, le-leb, lt-leb, lt-ltb, ltb-true, true≢false}
+use Rattle.std.proofs.lemmas.Bool.{le-leb, lt-leb, lt-ltb}
 use Rattle.std.proofs.lemmas.List.Elements.{Contains-append_cases, Contains-append_left, Contains-append_right}
 use Rattle.std.proofs.lemmas.List.Sorted.{sum_by-IsPermutation}
-use Rattle.std.proofs.lemmas.List.Sums.{sum_by-cons}
-use Rattle.ptu_units.specs.declared.kind.Kind.{Kind}
-use Rattle.ptu_units.specs.Log.{rate_of}
-use Rattle.ptu_history.specs.declared.client.Client.{Client}
 use Rattle.ptu_history.specs.Client.{same_lease, table_of}
-use Rattle.ptu_history.specs.History.{Record, Granted, Shed, Capacity}
-use Rattle.ptu_history.specs.Live.{Grant, IsDistinctByLease, IsLastDecision, last_decision, live_grants}
+use Rattle.ptu_history.specs.History.{Record, Granted, Shed}
+use Rattle.ptu_history.specs.Live.{Grant, IsLastDecision, last_decision, live_grants}
 use Rattle.ptu_history.specs.Order.{in_order}
-use Rattle.ptu_history.specs.Verdict.{rate_sum, table_rates}
+use Rattle.ptu_history.specs.Verdict.{rate_sum}
 use Rattle.ptu_history.specs.Shedding.{shed_cmp, shed_order, shed_prefix}
-use Rattle.ptu_history.proofs.Keys.{same_lease-refl, same_lease-sym, same_lease-true}
+use Rattle.ptu_history.proofs.Keys.{same_lease-sym, same_lease-true}
 use Rattle.ptu_history.proofs.Members.{Differ}
 use Rattle.ptu_history.proofs.Order.{IsAsymmetric-total, IsPermutation-in_order, IsSorted-in_order, shed_cmp-total}
-use Rattle.ptu_history.proofs.Orders.{live_members, shed_order-distinct, shed_order-members, shed_order-only}
+use Rattle.ptu_history.proofs.Orders.{shed_order-distinct, shed_order-members, shed_order-only}
 use Rattle.ptu_history.proofs.Rates.{rates-tables, table_below}
 use Rattle.ptu_history.proofs.Standing.{last_pushed}
-use Rattle.ptu_history.proofs.Unique.{Apart, Apart-from_pairs, Contains-cons_cases, Contains-first, Contains-from_filter, Contains-later, pairs_from_Apart}
+use Rattle.ptu_history.proofs.Unique.{Apart-from_pairs, Contains-cons_cases, Contains-first, Contains-from_filter, Contains-later, pairs_from_Apart}
 use Rattle.ptu_shard.specs.declared.lease.Row.{Row}
 use Rattle.ptu_shard.specs.Row.{share_of}
 use Rattle.ptu_shard.specs.Table.{Kept, StandsAt}
 use Rattle.ptu_shard.proofs.RowLists.{share_of-filter-le}
 use Rattle.ptu_admit.specs.declared.newest.Found.{Found}
-use Rattle.ptu_admit.specs.declared.shed_list.Shed.{Shed as Answer}
 use Rattle.ptu_admit.specs.Lent.{EachStandsAt, Lent, four, lent_as, rows_of_lent, shares}
-use Rattle.ptu_admit.specs.Newest.{all_found, found_in, grant_of, newer, shed_at}
+use Rattle.ptu_admit.specs.Newest.{all_found, found_in, grant_of, newer}
 use Rattle.ptu_admit.specs.Rows.{live_rows}
-use Rattle.ptu_admit.specs.Shed.{shed_of}
 use Rattle.ptu_admit.proofs.Grants.{live_share, row_of_live, table_rates-le}
 use Rattle.ptu_admit.proofs.Newer.{IsNewest, newest_is, none_found}
 use Rattle.ptu_admit.proofs.Sums.{Contains-from_map, Contains-map, IsMapped, rate}

@@ -1,12 +1,11 @@
 -- The moments of steps, by the tables and by the history.
-use Rattle.std.proofs.Common.{◌≡◌, ◌∙◌, ℕ, ◌≤◌, max, List, [], ◌∷◌, Bool, true, false, ◌||◌, cond, eqb, refl, sym, ap, subst, arith}
+use Rattle.std.proofs.Common.{◌≡◌, ◌∙◌, ℕ, ◌≤◌, max, List, [], ◌∷◌, Bool, true, false, ◌||◌, cond, eqb, refl, ap, subst, arith}
 use Rattle.std.proofs.lemmas.Bool.{eqb-true, false≢true}
 use Rattle.ptu_history.specs.declared.client.Client.{Client}
 use Rattle.ptu_history.specs.Client.{table_of}
 use Rattle.ptu_history.specs.History.{Record}
 use Rattle.ptu_history.specs.Moments.{book_moment, table_moment}
 use Rattle.ptu_history.specs.Core.{book_step_moment, table_step_moment}
-use Rattle.ptu_shard.specs.Table.{StandsAt}
 use Rattle.ptu_admit.specs.Book.{KeptBook}
 use Rattle.ptu_admit.specs.Lent.{EachStandsAt, Lent, StandFor, is_lent, moment_for, moment_for_all, moment_of_lent}
 

@@ -1,11 +1,10 @@
 -- Sums of rates over lists of grants and of rows.
-use Rattle.std.proofs.Common.{◌≡◌, ◌∙◌, ◌⊎◌, inl, inr, ℕ, ◌+◌, ◌≤◌, List, [], ◌∷◌, map, Bool, true, false, not, cond, refl, sym, ap, subst, arith, Some, None, Option}
+use Rattle.std.proofs.Common.{◌≡◌, ◌∙◌, ◌⊎◌, inl, inr, ℕ, ◌+◌, ◌≤◌, List, [], ◌∷◌, map, Bool, true, false, not, cond, refl, sym, ap, subst, arith, Some}
 use Rattle.std.specs.List.{Contains, filter, find, sum_by}
 use Rattle.std.specs.List.Sorted.{IsPermutation}
 use Rattle.std.specs.Option.{option_map, option_map_or}
 use Rattle.std.proofs.lemmas.Bool.{true≢false}
 use Rattle.std.proofs.lemmas.List.Filters.{sum_by-filter_both}
-use Rattle.std.proofs.lemmas.List.Kept.{AllPairs-filter}
 use Rattle.std.proofs.lemmas.List.Sorted.{sum_by-IsPermutation}
 use Rattle.std.proofs.lemmas.List.Sums.{sum_by-cons}
 use Rattle.ptu_units.specs.declared.kind.Kind.{Kind}
@@ -17,10 +16,10 @@ use Rattle.ptu_history.specs.Verdict.{rate_sum}
 use Rattle.ptu_history.proofs.Keys.{same_lease-refl, same_lease-true}
 use Rattle.ptu_history.proofs.Members.{Differ}
 use Rattle.ptu_history.proofs.Standing.{Contains-filter}
-use Rattle.ptu_history.proofs.Unique.{Apart, Apart-from_pairs, Contains-cons_cases, Contains-first, Contains-from_filter, Contains-later}
+use Rattle.ptu_history.proofs.Unique.{Apart, Apart-from_pairs, Contains-cons_cases, Contains-first, Contains-later}
 use Rattle.ptu_shard.specs.declared.lease.Row.{Row}
 use Rattle.ptu_shard.specs.declared.lease.Lease.{Lease}
-use Rattle.ptu_shard.specs.Row.{IsDistinctByLease, is_row_of, lease_of, share_of, without_row}
+use Rattle.ptu_shard.specs.Row.{IsDistinctByLease, is_row_of, share_of, without_row}
 use Rattle.ptu_shard.proofs.RowLists as rows
 use Rattle.ptu_admit.specs.Newest.{grant_of}
 use Rattle.ptu_admit.specs.Rows.{kept_rate}

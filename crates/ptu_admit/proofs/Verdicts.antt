@@ -1,16 +1,14 @@
 -- Verdicts by the rates of the other live grants.
-use Rattle.std.proofs.Common.{◌≡◌, ◌∙◌, ◌⊎◌, inl, inr, ℕ, zero, suc, ◌+◌, ◌-◌, ◌<◌, ◌≤◌, max, ◌++◌, List, [], ◌∷◌, append-nil, Bool, true, false, not, ◌||◌, cond, eqb, ltb, leb, refl, sym, ap, subst, arith, Ok, Err, Result, ℤ}
+use Rattle.std.proofs.Common.{◌≡◌, ◌∙◌, inl, ℕ, zero, suc, ◌+◌, ◌-◌, ◌<◌, ◌≤◌, ◌++◌, List, [], ◌∷◌, append-nil, Bool, true, false, not, ◌||◌, cond, eqb, ltb, refl, sym, ap, subst, arith, Ok, Err, Result}
 use Rattle.std.specs.Prelude.{IsOk}
 use Rattle.std.specs.List.Sorted.{IsPermutation}
 use Rattle.std.proofs.lemmas.Bool.{eq-eqb, eqb-true}
 use Rattle.std.proofs.lemmas.List.Kept.{AllPairs-filter}
 use Rattle.ptu_units.specs.declared.kind.Kind.{Kind}
-use Rattle.ptu_units.specs.Log.{rate_of}
 use Rattle.ptu_history.specs.declared.client.Client.{Client}
 use Rattle.ptu_history.specs.Client.{table_of}
 use Rattle.ptu_history.specs.History.{Record, Granted, Shed, Short, capacity_in_force}
 use Rattle.ptu_history.specs.Moments.{book_moment}
-use Rattle.ptu_history.specs.Live.{live_grants}
 use Rattle.ptu_history.specs.Verdict as history
 use Rattle.ptu_history.specs.Verdict.{Config, OutsideCause, others, own_rate, profile, rate_sum, table_rates, verdict}
 use Rattle.ptu_history.specs.Step.{verdict_records}
@@ -19,7 +17,7 @@ use Rattle.ptu_history.proofs.Verdicts.{verdict-outside}
 use Rattle.ptu_history.proofs.Rates.{rates-own, rates-tables, table_below}
 use Rattle.ptu_shard.specs.declared.config.GmConfig.{GmConfig}
 use Rattle.ptu_shard.specs.declared.lease.Row.{Row}
-use Rattle.ptu_shard.specs.Row.{IsDistinctByLease, is_row_of, share_of, without_row}
+use Rattle.ptu_shard.specs.Row.{IsDistinctByLease, share_of, without_row}
 use Rattle.ptu_shard.specs.Table.{Kept, StandsAt}
 use Rattle.ptu_shard.proofs.RowLists as rows
 use Rattle.ptu_admit.specs.Book.{KeptBook}

@@ -1,6 +1,6 @@
 -- The order in which a change of capacity looks at the rows of lent tables.
-use Rattle.std.specs.Prelude.{◌≡◌, ℕ, ◌+◌, ◌≤◌, List, [], ◌∷◌, ◌++◌, map, length, Option, Some, None, if◌then◌else◌}
-use Rattle.std.specs.List.{Contains, fold}
+use Rattle.std.specs.Prelude.{◌≡◌, ℕ, ◌+◌, List, [], ◌∷◌, ◌++◌, map, length, Option, Some, None, if◌then◌else◌}
+use Rattle.std.specs.List.{Contains}
 use Rattle.std.specs.Ordering.{is_lt}
 use Rattle.ptu_history.specs.History.{Record, Shed}
 use Rattle.ptu_history.specs.Live.{Grant}
@@ -15,7 +15,13 @@ use Rattle.ptu_admit.specs.Tables.{KeepsPort}
 -- the grant of which a row is kept
 abbrev pub grant_of : Row → Grant
 grant_of row =
-    record { start = row.lease.start; client = row.client; kind = row.kind; log = row.lease.log; until = row.lease.until }
+    record {
+      start = row.lease.start;
+      client = row.client;
+      kind = row.kind;
+      log = row.lease.log;
+      until = row.lease.until;
+    }
 
 -- the row, in the table of this index
 abbrev pub found_in : ℕ → Row → Found

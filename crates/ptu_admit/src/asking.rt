@@ -26,10 +26,13 @@ use ptu_tlvs::Ask;
 use ptu_units::{Moment, rate};
 
 /// Decides an ask over the client's table alone, at the greatest of `t`, the book's moment and the
-/// table's, where the total shows that it fits: the rows of the other tables count with all that
-/// they hold. `None` exactly where the total, less what the client's own row of the kind holds, plus
-/// the rate of the ask, is above the capacity. Then the ask may still fit beside what is live, and
-/// all four tables have to be looked at.
+/// table's, where the total shows that it fits. `None` exactly where the total, less what the
+/// client's own row of the kind holds, plus the rate of the ask, is above the capacity.
+///
+/// The total counts every row, also one whose grant is over, so that it is at least what is live.
+/// What fits by the total fits beside the other live grants too, and is granted. What does not fit
+/// by the total may still fit beside what is live: `decide_all` decides it anew over four swept
+/// tables.
 pub fn decide_one<P: Port>(
     shard: &mut Shard<P>,
     book: &mut Book,
@@ -86,9 +89,9 @@ pub fn decide_one<P: Port>(
     Some(Verdict::Granted(grant(shard, book, config, at, client, wanted)))
 }
 
-/// Decides an ask over all four tables, in order of index, at the greatest of `t`, the book's moment
-/// and that of the client's table. The grants that are over at that moment go first, so that the
-/// total is the sum of the rates of the live ones.
+/// Decides an ask over all four tables, in order of index, at the greatest of `t`, the book's
+/// moment and that of the client's table. The rows of grants that are over at that moment go first,
+/// so that the total is the sum of the rates of the live ones.
 pub fn decide_all<P: Port>(
     s0: &mut Shard<P>,
     s1: &mut Shard<P>,

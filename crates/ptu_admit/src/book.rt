@@ -6,8 +6,8 @@ use ptu_units::Moment;
 use std::marker::Model;
 
 /// The book beside four tables: the capacity in force, in sixteenths of a message per second, the
-/// greatest moment at which an ask, a cancel or a change of capacity was decided, and the total: the
-/// sum of the rates of all rows of the four tables. The total is at most the capacity.
+/// greatest moment at which an ask, a cancel or a change of capacity was decided, and the total,
+/// which is the sum of the rates of all rows of the four tables. The total is at most the capacity.
 #[derive(Clone, Debug, PartialEq, Eq, Drop)]
 pub struct Book {
     capacity: u64,

@@ -62,8 +62,8 @@ pub fn live_shares()
         (book ≤ x) ⊎ (moment ≤ x) → share_of (live_rows x rows) ≡ table_rates history x j }
 {}
 
-/// After a turn of a lent table, or a Delay_Req of one of its clients, the tables and the book stand
-/// for the history with it, as the table does.
+/// After a turn of a lent table, or a Delay_Req of one of its clients, the tables and the book
+/// stand for the history with it, as the table does.
 pub fn sendings()
     ensures turn { (opening x : ℕ) (opened : Config) (test : Row → Bool) (j moment after : ℕ)
         (rows spent : List Row) (rest : List Lent) (book : KeptBook) (history : List Record) →

@@ -75,8 +75,8 @@ fn drop_found<P: Port>(
     }
 }
 
-/// Sheds the newest grants of four tables that were swept at the moment, one by one, until the rates
-/// of the rest sum to at most the capacity, and lists them in this order.
+/// Sheds the newest grants of four tables that were swept at the moment, one by one, until the
+/// rates of the rest sum to at most the capacity, and lists them in this order.
 pub(crate) fn shed_above<P: Port>(
     s0: &mut Shard<P>,
     s1: &mut Shard<P>,

@@ -42,11 +42,23 @@ impl Model for Grant {
 
     ghost Value = { Terms };
 
-    ghost view = { λ g. record { kind = g.kind; log = g.log; at = g.at; seconds = g.seconds; until = g.until } };
+    ghost view = { λ g. record {
+      kind = g.kind;
+      log = g.log;
+      at = g.at;
+      seconds = g.seconds;
+      until = g.until;
+    } };
 
     ghost invariant = { λ g. g.until ≡ g.at + g.seconds * 1000000000 };
 
-    ghost inverse = { λ g. record { kind = g.kind; log = g.log; at = g.at; seconds = g.seconds; until = g.until } };
+    ghost inverse = { λ g. record {
+      kind = g.kind;
+      log = g.log;
+      at = g.at;
+      seconds = g.seconds;
+      until = g.until;
+    } };
 }
 
 impl Grant {
@@ -125,11 +137,25 @@ impl Model for Shortage {
 
     ghost Value = { Lack };
 
-    ghost view = { λ s. record { kind = s.kind; log = s.log; at = s.at; others = s.others; rate = s.rate; capacity = s.capacity } };
+    ghost view = { λ s. record {
+      kind = s.kind;
+      log = s.log;
+      at = s.at;
+      others = s.others;
+      rate = s.rate;
+      capacity = s.capacity;
+    } };
 
     ghost invariant = { λ s. s.capacity < s.others + s.rate };
 
-    ghost inverse = { λ s. record { kind = s.kind; log = s.log; at = s.at; others = s.others; rate = s.rate; capacity = s.capacity } };
+    ghost inverse = { λ s. record {
+      kind = s.kind;
+      log = s.log;
+      at = s.at;
+      others = s.others;
+      rate = s.rate;
+      capacity = s.capacity;
+    } };
 }
 
 impl Shortage {

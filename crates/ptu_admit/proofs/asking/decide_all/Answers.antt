@@ -1,11 +1,11 @@
-use Rattle.std.proofs.Common.{◌≡◌, ◌∙◌, ◌+◌, ◌-◌, ◌≤◌, ◌++◌, List, ℕ, max, Ok, ap, arith, refl, subst, sym}
-use Rattle.ptu_history.specs.History.{Record, capacity_in_force}
+use Rattle.std.proofs.Common.{◌≡◌, ◌∙◌, ◌-◌, ◌≤◌, ◌++◌, ℕ, max, ap, arith, subst, sym}
+use Rattle.ptu_history.specs.History.{capacity_in_force}
 use Rattle.ptu_history.specs.Moments.{book_moment}
 use Rattle.ptu_history.specs.Client.{table_of}
 use Rattle.ptu_history.specs.Verdict.{others, verdict}
 use Rattle.ptu_history.specs.Step.{verdict_records}
 use Rattle.ptu_history.proofs.Verdicts.{book_moment-verdict, verdict-outside}
-use Rattle.ptu_admit.specs.Lent.{EachStandsAt, StandFor, four, live_others, moment_for, rows_of_lent, shares}
+use Rattle.ptu_admit.specs.Lent.{EachStandsAt, four, live_others, moment_for, rows_of_lent}
 use Rattle.ptu_admit.specs.Rows.{kept_rate}
 use Rattle.ptu_admit.specs.Verdict.{ask_of, cause_of, config_of, verdict_by, verdict_of, verdict_on}
 use Rattle.ptu_admit.proofs.Lending.{are_at, four_swept}

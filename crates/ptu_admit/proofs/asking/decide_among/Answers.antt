@@ -1,4 +1,4 @@
-use Rattle.std.proofs.Common.{◌≡◌, ◌∙◌, ◌≤◌, ap, arith, eqb, refl, sym}
+use Rattle.std.proofs.Common.{◌≡◌, ◌∙◌, ap, arith, eqb, sym}
 use Rattle.ptu_history.specs.Client.{table_of}
 use Rattle.ptu_admit.specs.Verdict.{verdict_of}
 use Rattle.ptu_admit.proofs.Verdicts.{passes_verdict}

@@ -1,4 +1,4 @@
-use Rattle.std.proofs.Common.{◌≡◌, ◌∙◌, ◌≤◌, ℕ, ap, arith, max, subst}
+use Rattle.std.proofs.Common.{◌≡◌, ◌∙◌, ◌≤◌, ℕ, ap, arith}
 use Rattle.ptu_history.specs.Moments.{book_moment}
 use Rattle.ptu_history.specs.Verdict.{table_rates}
 use Rattle.ptu_admit.specs.Lent.{four, moment_for_all}

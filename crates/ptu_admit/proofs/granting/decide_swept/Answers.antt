@@ -1,5 +1,4 @@
-use Rattle.std.proofs.Common.{◌≡◌, ◌≤◌, arith, refl}
-use Rattle.ptu_history.specs.Client.{table_of}
+use Rattle.std.proofs.Common.{◌≤◌, arith, refl}
 use Rattle.ptu_history.specs.History.{Short}
 use Rattle.ptu_history.specs.Moments.{table_part}
 use Rattle.ptu_shard.proofs.Standing.{stands_elsewhere, table_part-le}

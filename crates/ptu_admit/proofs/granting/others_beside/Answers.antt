@@ -1,4 +1,4 @@
-use Rattle.std.proofs.Common.{◌≡◌, ◌∙◌, ap, arith, sym, Some}
+use Rattle.std.proofs.Common.{◌∙◌, ap, arith, sym}
 use Rattle.std.specs.Option.{option_map_or}
 use Rattle.ptu_units.specs.Log.{rate_of}
 use Rattle.ptu_shard.specs.declared.lease.Lease.{Lease}

@@ -1,9 +1,4 @@
-use Rattle.std.proofs.Common.{◌≡◌, ◌∙◌, ◌+◌, ◌<◌, ap, length, map, sym, take, arith, List, ℕ, Some, None, Option}
-use Rattle.std.specs.List.{fold}
-use Rattle.std.specs.Prelude.{slice_get}
-use Rattle.std.proofs.lemmas.Option.{slice_get-get_or}
-use Rattle.ptu_shard.specs.declared.lease.Row.{Row}
-use Rattle.ptu_admit.specs.declared.newest.Found.{Found}
+use Rattle.std.proofs.Common.{◌∙◌, ap, sym, arith}
 use Rattle.ptu_admit.specs.Newest.{found_in, newer}
 use Rattle.ptu_admit.proofs.Newer.{got_within, newest_next}
 use Rattle.ptu_admit.proofs.newest.newest_in.Goals as goal

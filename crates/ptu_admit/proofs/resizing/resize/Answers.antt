@@ -1,16 +1,14 @@
-use Rattle.std.proofs.Common.{◌≡◌, ◌∙◌, ◌+◌, ◌<◌, ◌≤◌, ◌++◌, ◌∷◌, [], List, ℕ, ap, arith, map, max, refl, subst, sym}
-use Rattle.ptu_history.specs.History.{Capacity, Record, capacity_in_force}
+use Rattle.std.proofs.Common.{◌≡◌, ◌∙◌, ◌≤◌, ◌++◌, ◌∷◌, [], List, ℕ, ap, arith, map, subst, sym}
+use Rattle.ptu_history.specs.History.{Capacity}
 use Rattle.ptu_history.specs.Moments.{book_moment}
-use Rattle.ptu_history.specs.Shedding.{shed_grants, shed_order, shed_prefix, shed_record}
+use Rattle.ptu_history.specs.Shedding.{shed_grants, shed_record}
 use Rattle.ptu_history.proofs.Moments.{book_moment-resized}
 use Rattle.ptu_admit.specs.Book.{KeptBook}
 use Rattle.ptu_admit.specs.declared.shed_list.Shed.{Shed}
-use Rattle.ptu_admit.specs.Lent.{EachStandsAt, StandFor, four, shares}
+use Rattle.ptu_admit.specs.Lent.{EachStandsAt, four}
 use Rattle.ptu_admit.specs.Newest.{shed_at}
-use Rattle.ptu_admit.specs.Shed.{shed_of}
 use Rattle.ptu_admit.proofs.Lending.{are_at, four_swept}
-use Rattle.ptu_admit.proofs.RowKeys.{length-share}
-use Rattle.ptu_admit.proofs.ShedLoop.{all_live, capacity_changed, order_changed, passes_change, records_changed, swept_rows}
+use Rattle.ptu_admit.proofs.ShedLoop.{all_live, capacity_changed, passes_change, records_changed, swept_rows}
 use Rattle.ptu_admit.proofs.Verdicts.{four_stand}
 use Rattle.ptu_admit.proofs.resizing.resize.Goals as goal
 

@@ -1,4 +1,4 @@
-use Rattle.std.proofs.Common.{◌≡◌, ◌∙◌, ap, arith, eqb, subst, sym}
+use Rattle.std.proofs.Common.{◌≡◌, ap, arith, eqb, subst}
 use Rattle.std.specs.List.{Contains}
 use Rattle.ptu_history.specs.Client.{table_of}
 use Rattle.ptu_admit.specs.Lent.{four, rows_of_lent}

@@ -1,9 +1,9 @@
-use Rattle.std.proofs.Common.{◌≡◌, ◌∙◌, ◌+◌, ◌-◌, ◌≤◌, ap, arith, length, not, ℕ}
+use Rattle.std.proofs.Common.{◌≡◌, ◌∙◌, ◌+◌, ◌-◌, ap, arith, not, ℕ}
 use Rattle.std.proofs.lemmas.List.Sorted.{length_permutation}
 use Rattle.ptu_units.specs.Log.{rate_of}
 use Rattle.ptu_history.proofs.Keys.{same_lease-refl}
 use Rattle.ptu_history.proofs.Unique.{Contains-from_filter}
-use Rattle.ptu_shard.specs.Row.{is_row_of, share_of, without_row}
+use Rattle.ptu_shard.specs.Row.{is_row_of, without_row}
 use Rattle.ptu_shard.proofs.RowLists.{same_permuted}
 use Rattle.ptu_admit.proofs.RowKeys.{kept_rate-member, length-filter-lt}
 use Rattle.ptu_admit.proofs.Sums.{share_of-left, share_of-permuted, share_of-without}

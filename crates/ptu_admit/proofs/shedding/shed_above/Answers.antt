@@ -1,10 +1,8 @@
-use Rattle.std.proofs.Common.{◌≡◌, ◌∙◌, ◌+◌, ◌<◌, ◌≤◌, ◌++◌, ◌∷◌, [], List, ℕ, Some, None, ap, arith, cond, refl, subst, sym, true}
+use Rattle.std.proofs.Common.{◌≡◌, ◌∙◌, ◌+◌, ◌<◌, ◌++◌, ◌∷◌, [], ap, arith, cond, subst, sym, true}
 use Rattle.std.specs.Prelude.{is_ok, vec_capacity, vec_len}
-use Rattle.std.specs.List.{fold}
 use Rattle.ptu_admit.specs.Book.{KeptBook}
 use Rattle.ptu_admit.specs.declared.shed_list.Shed.{Shed}
 use Rattle.ptu_admit.specs.Lent.{four, shares}
-use Rattle.ptu_admit.specs.Newest.{all_found, newer}
 use Rattle.ptu_admit.proofs.ShedLoop.{SoFar, all_shed, one_shed}
 use Rattle.ptu_admit.proofs.ShedOrder.{newest_placed, none_held}
 use Rattle.ptu_admit.proofs.Verdicts.{FourDistinct}
