@@ -1,6 +1,6 @@
 //! The grants of a grandmaster that are live, and the decision on one more request.
 
-ghost use Rattle.std.specs.Prelude.{◌≡◌, ◌+◌, ◌*◌, ◌<◌, ◌≤◌, ◌^◌, map, nat_lt, not, IfOk};
+ghost use Rattle.std.specs.Prelude.{◌≡◌, ◌+◌, ◌*◌, ◌<◌, ◌≤◌, ◌^◌, map, nat_lt, not, IfOk, OnErr, length, vec_capacity};
 ghost use Rattle.std.specs.List.{filter};
 ghost use Rattle.ptu_history.specs.Client.{same_lease};
 ghost use Rattle.ptu_history.specs.Live.{without};
@@ -64,7 +64,7 @@ pub struct Leases {
 }
 
 impl Leases {
-    ghost use Rattle.std.specs.Prelude.{◌≡◌, ◌≤◌, ◌<◌, ◌^◌, ◌++◌, List, IfOk, OnOk, [], OnErr};
+    ghost use Rattle.std.specs.Prelude.{◌≡◌, ◌≤◌, ◌<◌, ◌^◌, ◌++◌, List, IfOk, OnOk, [], OnErr, length, vec_capacity};
     ghost use Rattle.ptu_history.specs.History.{Record};
     ghost use Rattle.ptpuni.specs.Decision.{StandsFor, taken, moment_taken, outcome_of, decision_moment};
 
@@ -82,6 +82,9 @@ impl Leases {
     }
 
     /// Decides a request that is handed the moment. It acts at no earlier moment than the one before.
+    ///
+    /// # Errors
+    /// `OutOfMemory`, only where there was no room for one more lease.
     pub fn decide(
         &mut self,
         max_duration: u32,
@@ -97,6 +100,8 @@ impl Leases {
         ensures stands { OnOk result ((history : List Record) → StandsFor self.old history →
             StandsFor self.new (history ++ (taken self.old.capacity max_duration history handed request.now).records)) }
         ensures capacity { self.new.capacity ≡ self.old.capacity }
+        ensures full { OnErr result
+            (vec_capacity self.old.live ≤ length self.old.live.items) }
     {
         let at = handed.latest(self.moment);
         let decision = answer(&mut self.live, self.capacity, at, max_duration, request)?;
@@ -118,6 +123,7 @@ fn answer(
     requires duration { (60 ≤ max_duration) × (max_duration ≤ 1000) }
     ensures answers { IfOk result (Answers capacity at max_duration request.now (map grant_of live.old.items) (map grant_of live.new.items)) }
     ensures within { rate_sum (map grant_of live.new.items) ≤ capacity }
+    ensures full { OnErr result (vec_capacity live.old ≤ length live.old.items) }
 {
     sweep(live, at);
     let others = others(live, &request.client, request.kind);
@@ -154,7 +160,9 @@ fn others(leases: &[Lease], client: &Client, kind: Kind) -> u64
 
 // Drops the leases that are over at the moment.
 fn sweep(leases: &mut Vec<Lease>, at: Moment)
-    ensures { map grant_of leases.new.items ≡ filter (λ g. nat_lt at g.until) (map grant_of leases.old.items) }
+    ensures live { map grant_of leases.new.items ≡ filter (λ g. nat_lt at g.until) (map grant_of leases.old.items) }
+    ensures room { (vec_capacity leases.new ≡ vec_capacity leases.old)
+        × (length leases.new.items ≤ length leases.old.items) }
 {
     let now = at.nanos();
     leases.retain(|lease| now < lease.until);
@@ -162,7 +170,9 @@ fn sweep(leases: &mut Vec<Lease>, at: Moment)
 
 // Drops the lease of the client and kind, if there is one.
 fn remove(leases: &mut Vec<Lease>, client: &Client, kind: Kind)
-    ensures { map grant_of leases.new.items ≡ without client.now kind (map grant_of leases.old.items) }
+    ensures rest { map grant_of leases.new.items ≡ without client.now kind (map grant_of leases.old.items) }
+    ensures room { (vec_capacity leases.new ≡ vec_capacity leases.old)
+        × (length leases.new.items ≤ length leases.old.items) }
 {
     leases.retain(|lease| lease.is_other(client, kind));
 }

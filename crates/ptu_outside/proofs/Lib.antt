@@ -2,3 +2,4 @@ pub mod Handing
 pub mod Told
 pub mod Slots
 pub mod Telling
+pub mod HandsOver

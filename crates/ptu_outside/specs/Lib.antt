@@ -9,3 +9,4 @@ pub mod MemoryPort
 pub mod MemoryClock
 pub mod MemoryHost
 pub mod Standard
+pub mod HandsOver

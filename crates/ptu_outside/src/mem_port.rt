@@ -1,4 +1,4 @@
-ghost use Rattle.std.specs.Prelude.{◌≡◌, ◌<◌, ◌≤◌, ◌+◌, ◌↔◌, [], ◌∷◌, ◌++◌, Some, length, take, drop, slice_get, vec_len, vec_capacity, IfOk, OnOk, OnErr, IfSome, IfNone, IsErr, IsOk, is_err, MatchOption, if◌then◌else◌, Contains};
+ghost use Rattle.std.specs.Prelude.{◌≡◌, ◌<◌, ◌≤◌, ◌+◌, ◌⊎◌, ◌↔◌, [], ◌∷◌, ◌++◌, Some, length, take, drop, slice_get, vec_len, vec_capacity, IfOk, OnOk, OnErr, IfSome, IfNone, IsErr, IsOk, is_err, MatchOption, if◌then◌else◌, Contains};
 ghost use Rattle.ptu_outside.specs.Departure.{Departure};
 ghost use Rattle.ptu_outside.specs.Faults.{HasRisen, HasNotFallen, one_more};
 ghost use Rattle.ptu_outside.specs.MemoryPort.{IsLaidOut, FitAll, departures, octets_of};
@@ -90,9 +90,14 @@ impl MemPort {
 
     /// Makes room for this many datagrams more, and for this many octets in them. Sends within it
     /// fail only where they are listed.
+    ///
+    /// # Errors
+    /// `OutOfMemory`, only where that room was missing.
     pub fn reserve(&mut self, messages: usize, octets: usize) -> Result<(), OutOfMemory>
         ensures datagrams { OnOk result (length self.old.sent + messages ≤ self.new.datagrams) }
         ensures octets { OnOk result (octets_of self.old.sent + octets ≤ self.new.octets) }
+        ensures full { OnErr result ((self.old.datagrams < length self.old.sent + messages)
+            ⊎ (self.old.octets < octets_of self.old.sent + octets)) }
         ensures no_loss { (self.old.datagrams ≤ self.new.datagrams)
             × (self.old.octets ≤ self.new.octets) }
         ensures same { self.new

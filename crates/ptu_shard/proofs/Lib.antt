@@ -1,6 +1,5 @@
 pub mod RowLists
 pub mod Standing
-pub mod Handing
 pub mod Passing
 pub mod Sorting
 pub mod Spending

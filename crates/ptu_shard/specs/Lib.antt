@@ -1,5 +1,4 @@
 pub mod Config
-pub mod HandsOver
 pub mod Messages
 pub mod Answered
 pub mod Row

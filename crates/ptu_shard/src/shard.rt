@@ -1,4 +1,4 @@
-ghost use Rattle.std.specs.Prelude.{◌≡◌, ◌<◌, ◌≤◌, ◌+◌, ◌^◌, ℕ, max, [], ◌∷◌, ◌++◌, List, map, OnOk, length, is_some, slice_get, nat_lt};
+ghost use Rattle.std.specs.Prelude.{◌≡◌, ◌<◌, ◌≤◌, ◌+◌, ◌^◌, ℕ, max, [], ◌∷◌, ◌++◌, List, map, OnErr, OnOk, length, is_some, slice_get, nat_lt};
 ghost use Rattle.std.specs.Borrow.{sem};
 ghost use Rattle.std.specs.List.{filter};
 ghost use Rattle.std.specs.List.Sorted.{IsPermutation};
@@ -12,7 +12,7 @@ ghost use Rattle.ptu_history.specs.Turns.{due_grants, message_of};
 ghost use Rattle.ptu_units.specs.declared.kind.Kind.TheVariants.{DelayResp};
 ghost use Rattle.ptu_shard.specs.Answered.{answer_by, failed_by, met_by, moment_of_answer, responses, sent_by};
 ghost use Rattle.ptu_shard.specs.Config.{IsWithinLimits};
-ghost use Rattle.ptu_shard.specs.HandsOver.{HandsOver};
+ghost use Rattle.ptu_outside.specs.HandsOver.{HandsOver};
 ghost use Rattle.ptu_shard.specs.Lends.{LendsPort};
 ghost use Rattle.ptu_shard.specs.Messages.{departure_of, response_of};
 ghost use Rattle.ptu_shard.specs.Row.{IsDistinctByLease, lease_of, share_of, without_row};
@@ -77,8 +77,12 @@ impl<P: Port> Shard<P> {
     }
 
     /// Makes room for so many rows more.
+    ///
+    /// # Errors
+    /// `OutOfMemory`, only where that room was missing.
     pub fn reserve(&mut self, count: usize) -> Result<(), OutOfMemory>
         ensures spare { OnOk result (count ≤ self.new.spare) }
+        ensures full { OnErr result (self.old.spare < count) }
         // Leases, share, moment and port are as before, after a refusal too.
         ensures no_loss { self.old.spare ≤ self.new.spare }
         ensures rows { IsPermutation self.old.rows self.new.rows }

@@ -6,13 +6,13 @@ use Rattle.ptpuni.proofs.leases.answer.Goals as goal
 
 pub others-others-requires : goal.others-others-requires
 others-others-requires c =
-    let swept = ap rate_sum c.sweep.ensures in
+    let swept = ap rate_sum c.sweep.ensures.live in
     let live = ap (λ ls. rate_sum (map grant_of ls)) c.deref.ensures.value in
     omega (arith, swept, live, rate_sum-filter-le (λ g. nat_lt c.args.at g.until) (map grant_of c.args.live.now.items), c.requires.within, c.requires.limit)
 
 pub overflow_add-others : goal.overflow_add-others
 overflow_add-others c =
-    let swept = ap rate_sum c.sweep.ensures in
+    let swept = ap rate_sum c.sweep.ensures.live in
     let live = ap (λ ls. rate_sum (map grant_of ls)) c.deref.ensures.value in
     omega (
       arith,
@@ -28,5 +28,5 @@ overflow_add-others c =
 
 pub returns-then-others-rate-clause-within : goal.returns-then-others-rate-clause-within
 returns-then-others-rate-clause-within c =
-    let swept = ap rate_sum c.sweep.ensures in
+    let swept = ap rate_sum c.sweep.ensures.live in
     omega (arith, swept, rate_sum-filter-le (λ g. nat_lt c.args.at g.until) (map grant_of c.args.live.now.items), c.requires.within)

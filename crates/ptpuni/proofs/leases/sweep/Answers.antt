@@ -4,7 +4,7 @@ use Rattle.ptpuni.specs.Leases.{grant_of}
 use Rattle.ptpuni.proofs.Lists.{filter-map}
 use Rattle.ptpuni.proofs.leases.sweep.Goals as goal
 
-pub returns : goal.returns
-returns c =
+pub returns-clause-live : goal.returns-clause-live
+returns-clause-live c =
     ap (map grant_of) (filter_same _ (λ l. nat_lt c.args.at l.until) _ (λ x b f t. search rules) _ _ c.retain.ensures.filtered)
     ∙ sym (filter-map grant_of (λ g. nat_lt c.args.at g.until) c.args.leases.now.items)

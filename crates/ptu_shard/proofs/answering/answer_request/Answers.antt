@@ -1,6 +1,6 @@
 use Rattle.std.proofs.Common.{[]}
 use Rattle.ptu_shard.specs.Messages.{response_of}
-use Rattle.ptu_shard.proofs.Handing.{hands_failed, hands_none, hands_sent}
+use Rattle.ptu_outside.proofs.HandsOver.{hands_failed, hands_none, hands_sent}
 use Rattle.ptu_shard.proofs.answering.answer_request.Goals as goal
 
 pub returns-in-Ok-clause-sends : goal.returns-in-Ok-clause-sends

@@ -5,7 +5,7 @@ use Rattle.ptu_outside.specs.Departure.{Departure}
 use Rattle.ptu_shard.specs.declared.lease.Row.{Row}
 use Rattle.ptu_shard.specs.Messages.{departure_of}
 use Rattle.ptu_shard.specs.Turn.{is_due_row, message_of_row}
-use Rattle.ptu_shard.proofs.Handing.{hands_none, hands_sent, hands_failed}
+use Rattle.ptu_outside.proofs.HandsOver.{hands_none, hands_sent, hands_failed}
 use Rattle.ptu_shard.proofs.Passing.{length-passed, passed_more, passed_same}
 use Rattle.ptu_shard.proofs.turning.send_due.Goals as goal
 use Rattle.ptu_shard.proofs.turning.send_due.Goals.{then-is_due+in-Ok, then-is_due+in-Err, else-is_due}

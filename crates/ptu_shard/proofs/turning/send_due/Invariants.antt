@@ -1,6 +1,6 @@
 use Rattle.std.proofs.Common.{◌≡◌, map, take}
 use Rattle.std.specs.List.{filter}
-use Rattle.ptu_shard.specs.HandsOver.{HandsOver}
+use Rattle.ptu_outside.specs.HandsOver.{HandsOver}
 use Rattle.ptu_shard.specs.Messages.{departure_of}
 use Rattle.ptu_shard.specs.Turn.{is_due_row, message_of_row}
 use Rattle.ptu_shard.proofs.turning.send_due.Given as goal

@@ -5,7 +5,7 @@ use Rattle.std.proofs.lemmas.List.{append-nil}
 use Rattle.ptu_outside.specs.Departure.{Departure}
 use Rattle.ptu_outside.specs.Faults.{HasRisen, HasRisenBy, HasNotFallen}
 use Rattle.ptu_outside.specs.Telling.{IfTold, append_told}
-use Rattle.ptu_shard.specs.HandsOver.{HandsOver, SentOf}
+use Rattle.ptu_outside.specs.HandsOver.{HandsOver, SentOf}
 
 told_none : (before : Option (List Departure)) → IfTold before (append_told before [])
 told_none None = tt
