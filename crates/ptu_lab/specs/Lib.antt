@@ -1,0 +1,6 @@
+pub mod Causes
+pub mod Answers
+pub mod Datagram
+pub mod Shown
+pub mod Lines
+pub mod Samples
