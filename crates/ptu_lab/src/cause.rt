@@ -4,8 +4,8 @@ ghost use Rattle.ptu_lab.specs.Causes.{cause_text, line_cause};
 use ptu_lines::LineCause;
 use std::fmt;
 
-/// Why a line is refused: the first that applies. `Size`, `Long` and `Text` are those of the reader of
-/// lines. It displays as in the line of output that names it.
+/// Why a line is refused: the first that applies. `Size`, `Long` and `Text` are those of the reader
+/// of lines. It displays as in the line of output that names it.
 #[derive(Clone, Copy, Debug, PartialEq, Eq, Hash)]
 pub enum Cause {
     /// Octet 67108865 of the input is among the first 8193 octets of the line, its 0A counted.

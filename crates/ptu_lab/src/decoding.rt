@@ -44,7 +44,8 @@ fn add_datagram(
     bytes: &[u8],
     texts: &mut Texts,
 ) -> Result<(), OutOfMemory>
-    ensures { OnOk result (texts.new ≡ texts.old ++ numbered number (datagram_text bytes.now) ∷ []) }
+    ensures { OnOk result
+        (texts.new ≡ texts.old ++ numbered number (datagram_text bytes.now) ∷ []) }
 {
     match read_message(alloc, bytes) {
         Ok(message) => {
@@ -108,11 +109,11 @@ impl Reporter for Decoder {
     }
 }
 
-/// Decodes the datagrams that stand in the lines that the source has left, each in hexadecimal digits,
-/// up to the first line that is refused, and answers the number of lines. An empty line and one that
-/// begins with `#` do nothing but count. Each line of output is handed to the sink in one piece, and
-/// its rest again until all is taken, before the next line is read. At most 67108865 octets are read,
-/// and nothing behind the end.
+/// Decodes the datagrams that stand in the lines that the source has left, each in hexadecimal
+/// digits, up to the first line that is refused, and answers the number of lines. An empty line and
+/// one that begins with `#` do nothing but count. Each line of output is handed to the sink in one
+/// piece, and its rest again until all is taken, before the next line is read. At most 67108865
+/// octets are read, and nothing behind the end.
 ///
 /// # Errors
 /// `Line` exactly where a line is refused, after the line of output that names it was written; its

@@ -21,11 +21,26 @@ fn shown(
 }
 
 // A REQUEST of Announce; a Sync; a Delay_Resp; a CANCEL; and several TLVs with octets behind them.
-const REQUEST: &str = "0c120036040004000000000000000000000000000a0000000000001100010000057fffffffffffffffffffff00040006b0010000012c";
-const SYNC: &str = "0012002c040004000000000000000000000000000a0000000000000100010000007f00000000000100000000";
-const RESPONSE: &str = "09120036040004000000000000000000000000000a0000000000000100010007037f00000000000a000000000a000000000000110001";
-const CANCEL: &str = "0c120032040004000000000000000000000000000a0000000000001100010001057fffffffffffffffffffff00060002b000";
-const SEVERAL: &str = "0c120050040004000000000000000000000000000a0000000000001100010000057fffffffffffffffffffff30000002abcd00040006b0010000012c0004000600000000012c0004000690000000012cdead";
+const REQUEST: &str = "\
+    0c120036040004000000000000000000000000000a0000000000001100010000057fffffffffffff\
+    ffffffff00040006b0010000012c";
+
+const SYNC: &str = "\
+    0012002c040004000000000000000000000000000a0000000000000100010000007f000000000001\
+    00000000";
+
+const RESPONSE: &str = "\
+    09120036040004000000000000000000000000000a0000000000000100010007037f00000000000a\
+    000000000a000000000000110001";
+
+const CANCEL: &str = "\
+    0c120032040004000000000000000000000000000a0000000000001100010001057fffffffffffff\
+    ffffffff00060002b000";
+
+const SEVERAL: &str = "\
+    0c120050040004000000000000000000000000000a0000000000001100010000057fffffffffffff\
+    ffffffff30000002abcd00040006b0010000012c0004000600000000012c0004000690000000012c\
+    dead";
 
 #[test]
 fn datagrams_are_decoded_line_by_line(rt: HostRuntime) -> Result<(), Fail> {
@@ -33,7 +48,8 @@ fn datagrams_are_decoded_line_by_line(rt: HostRuntime) -> Result<(), Fail> {
     for (datagram, line) in [
         (
             REQUEST,
-            "signaling length 54 domain 4 from 0a00000000000011/1 seq 0 to ffffffffffffffff/65535 request 11 1 300",
+            "signaling length 54 domain 4 from 0a00000000000011/1 seq 0 to \
+             ffffffffffffffff/65535 request 11 1 300",
         ),
         (
             SYNC,
@@ -41,15 +57,19 @@ fn datagrams_are_decoded_line_by_line(rt: HostRuntime) -> Result<(), Fail> {
         ),
         (
             RESPONSE,
-            "delay_resp length 54 domain 4 from 0a00000000000001/1 seq 7 stamp 10 0 to 0a00000000000011/1",
+            "delay_resp length 54 domain 4 from 0a00000000000001/1 seq 7 stamp 10 0 to \
+             0a00000000000011/1",
         ),
         (
             CANCEL,
-            "signaling length 50 domain 4 from 0a00000000000011/1 seq 1 to ffffffffffffffff/65535 cancel 11",
+            "signaling length 50 domain 4 from 0a00000000000011/1 seq 1 to \
+             ffffffffffffffff/65535 cancel 11",
         ),
         (
             SEVERAL,
-            "signaling length 80 domain 4 from 0a00000000000011/1 seq 0 to ffffffffffffffff/65535 other 12288 2 request 11 1 300 request 0 0 300 request 9 0 300",
+            "signaling length 80 domain 4 from 0a00000000000011/1 seq 0 to \
+             ffffffffffffffff/65535 other 12288 2 request 11 1 300 request 0 0 300 request 9 0 \
+             300",
         ),
     ] {
         let wanted = format!(in alloc; "1 {line}\nend 1\n")?;

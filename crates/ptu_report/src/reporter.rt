@@ -23,7 +23,8 @@ pub trait Reporter {
     /// The state has this meaning. It may have several.
     ghost stands_for: { Self → Self.Meaning → Type 0 };
 
-    /// Takes the line with this number, from 1: adds its texts, or answers the cause of its refusal.
+    /// Takes the line with this number, from 1: adds its texts, or answers the cause of its
+    /// refusal.
     fn take(
         &mut self,
         alloc: Global,
