@@ -2,7 +2,7 @@
 use Rattle.std.proofs.Common.{◌≡◌, ℕ, List, Option, sym, ap, arith, Bool}
 use Rattle.std.specs.Prelude.{if◌then◌else◌}
 use Rattle.std.specs.Io.KnownBytes.{IsAtEnd}
-use Rattle.ptpuni.specs.declared.command.Command.{Command}
+use Rattle.ptu_words.specs.declared.command.Command.{Command}
 use Rattle.ptpuni.specs.declared.ending.Ending.TheVariants.{Whole, Refused}
 use Rattle.ptpuni.specs.Run.{HasOutput, HasRun}
 

@@ -1,15 +1,14 @@
 -- What a run of the program answers.
-use Rattle.std.specs.Prelude.{◌≡◌, ℕ, Bool, true, false, if◌then◌else◌, List, [], ◌∷◌, codes, Option, Some, None}
+use Rattle.std.specs.Prelude.{◌≡◌, ℕ, Bool, true, false, if◌then◌else◌, List, [], ◌∷◌, Option}
 use Rattle.std.specs.Io.KnownBytes.{IsAtEnd, append_known}
-use Rattle.std.specs.Str.{bytes_eq}
 use Rattle.ptu_outside.specs.Handing.{HasPut, joined}
 use Rattle.ptu_report.specs.declared.ending.Ending as endings
 use Rattle.ptu_report.specs.declared.ending.Ending.TheVariants as shown_endings
 use Rattle.ptu_report.specs.Reported.{HasReportedAllRead}
 use Rattle.ptu_lab.specs.declared.cause.Cause.{Cause}
 use Rattle.ptu_lab.specs.Shown.{show_rules, shown_ending, shown_lines}
-use Rattle.ptpuni.specs.declared.command.Command.{Command}
-use Rattle.ptpuni.specs.declared.command.Command.TheVariants.{Replay, Show}
+use Rattle.ptu_words.specs.declared.command.Command.{Command}
+use Rattle.ptu_words.specs.declared.command.Command.TheVariants.{Replay, Show}
 use Rattle.ptpuni.specs.declared.ending.Ending.{Ending}
 use Rattle.ptpuni.specs.Ending.{is_whole_ending}
 use Rattle.ptpuni.specs.Outcome.{texts_of}
@@ -19,14 +18,6 @@ use Rattle.ptpuni.specs.Written.{HasWrittenAllRead}
 -- the statuses that there are
 abbrev pub statuses : List ℕ
 statuses = 0 ∷ 64 ∷ 65 ∷ 66 ∷ 67 ∷ 71 ∷ []
-
--- the command whose name is the one word
-abbrev pub command_of : List (List ℕ) → Option Command
-command_of (word ∷ []) =
-    if bytes_eq word (codes "replay") then Some Replay
-    else if bytes_eq word (codes "show") then Some Show
-    else None
-command_of _ = None
 
 -- the output of a command for an input, line by line
 abbrev pub output_of : Command → List ℕ → List (List ℕ)

@@ -6,7 +6,6 @@
 #![tactic(auto)]
 
 mod answering;
-mod command;
 mod datagram;
 mod ending;
 mod first;
@@ -27,14 +26,13 @@ ghost use Rattle.std.specs.Prelude.{◌≡◌, ◌≢◌, IfOk, map};
 ghost use Rattle.std.specs.String.{string_bytes};
 
 use ptu_outside::{StdSink, StdSource};
+use ptu_words::USAGE_TEXT;
 use run::{OUT_OF_MEMORY, USAGE};
 use std::alloc::{AllocError, Global};
 use std::env::Env;
 use std::io::ErrorKind;
 use std::process::ExitCode;
 use std::{env, io};
-
-const USAGE_TEXT: &str = "usage: ptpuni replay | show";
 
 // The status of a run whose words can't be had: one that is not UTF-8 makes a faulty command line.
 fn status_without_words(kind: ErrorKind) -> u8

@@ -7,12 +7,12 @@ ghost use Rattle.ptu_outside.specs.Handing.{HasPutPart};
 ghost use Rattle.ptpuni.specs.Run.{output_of, HasOutput, HasReadAll};
 ghost use Rattle.ptpuni.specs.Stops.{CountsRead, CountsWrite};
 
-use crate::command::Command;
 use crate::ending::Ending;
 use crate::replay::replay;
 use crate::stop::Stop;
 use ptu_lab::{LabFault, show};
 use ptu_outside::{Sink, Source};
+use ptu_words::Command;
 use std::alloc::Global;
 
 // Decodes datagrams.
