@@ -1,5 +1,5 @@
 -- What a run answers once its output is written.
-use Rattle.std.proofs.Common.{◌≡◌, ℕ, List, Option, sym, ap, arith, Bool}
+use Rattle.std.proofs.Common.{ℕ, List, Option, sym, ap, arith, Bool}
 use Rattle.std.specs.Prelude.{if◌then◌else◌}
 use Rattle.std.specs.Io.KnownBytes.{IsAtEnd}
 use Rattle.ptu_words.specs.declared.command.Command.{Command}

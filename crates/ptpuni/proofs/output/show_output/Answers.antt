@@ -1,4 +1,4 @@
-use Rattle.std.proofs.Common.{◌∙◌, ap, sym}
+use Rattle.std.proofs.Common.{ap, sym}
 use Rattle.ptpuni.specs.Run.{is_shown_whole}
 use Rattle.ptpuni.proofs.output.show_output.Goals as goal
 

@@ -1,4 +1,4 @@
-use Rattle.std.proofs.Common.{◌≡◌, ◌∙◌, List, ℕ, Option, Some, None, map, sym, subst}
+use Rattle.std.proofs.Common.{◌≡◌, ◌∙◌, List, ℕ, Some, None, map, sym, subst}
 use Rattle.ptu_outside.proofs.Handing.{HasPutPart-none}
 use Rattle.ptu_words.specs.declared.command.Command.{Command}
 use Rattle.ptu_words.specs.CommandLine.{IsRefused, command_of}
