@@ -5,7 +5,7 @@ use Rattle.ptu_outside.specs.Handing.{HasPut, joined}
 use Rattle.ptu_report.specs.declared.ending.Ending as endings
 use Rattle.ptu_report.specs.declared.ending.Ending.TheVariants as shown_endings
 use Rattle.ptu_report.specs.Reported.{HasReportedAllRead}
-use Rattle.ptu_lab.specs.declared.cause.Cause.{Cause}
+use Rattle.ptu_script.specs.declared.cause.Cause.{Cause}
 use Rattle.ptu_lab.specs.Shown.{show_rules, shown_ending, shown_lines}
 use Rattle.ptu_words.specs.declared.command.Command.{Command}
 use Rattle.ptu_words.specs.declared.command.Command.TheVariants.{Replay, Show}

@@ -3,7 +3,7 @@ use Rattle.std.specs.Prelude.{◌≡◌, ℕ, Result, Ok, Err}
 use Rattle.ptu_outside.specs.Faults.{HasRisen}
 use Rattle.ptu_report.specs.declared.ending.Ending.{Ending}
 use Rattle.ptu_report.specs.declared.ending.Ending.TheVariants as endings
-use Rattle.ptu_lab.specs.declared.cause.Cause.{Cause}
+use Rattle.ptu_script.specs.declared.cause.Cause.{Cause}
 use Rattle.ptu_lab.specs.declared.fault.LabFault.{LabFault}
 use Rattle.ptu_lab.specs.declared.fault.LabFault.TheVariants.{Line, Read, Write, OutOfMemory}
 

@@ -1,4 +1,3 @@
-pub mod Causes
 pub mod Answers
 pub mod Datagram
 pub mod Shown

@@ -3,7 +3,7 @@ use Rattle.std.specs.Prelude.{◌≡◌, [], ◌++◌, ◌∷◌, codes, take}
 use Rattle.hex.specs.Hex.{encode_lower}
 use Rattle.ptu_messages.specs.Samples.{announce, delay_req, delay_resp}
 use Rattle.ptu_report.specs.declared.ending.Ending.TheVariants.{Whole, Refused}
-use Rattle.ptu_lab.specs.declared.cause.Cause.TheVariants.{Field, Text}
+use Rattle.ptu_script.specs.declared.cause.Cause.TheVariants.{Field, Text}
 use Rattle.ptu_lab.specs.Datagram.{datagram_text}
 use Rattle.ptu_lab.specs.Shown.{shown, shown_ending}
 

@@ -3,11 +3,11 @@ ghost use Rattle.std.specs.Io.KnownBytes.{IsAtEnd, prepend_known};
 ghost use Rattle.ptu_outside.specs.Ends.{StopsAtEnd};
 ghost use Rattle.ptu_outside.specs.Handing.{HasPutPart};
 ghost use Rattle.ptu_report.specs.Reported.{HasReportedAllRead};
+ghost use Rattle.ptu_script.specs.Command.{is_comment};
 ghost use Rattle.ptu_lab.specs.Answers.{CountsRead, CountsWrite, IfWritten};
 ghost use Rattle.ptu_lab.specs.Datagram.{datagram_text};
-ghost use Rattle.ptu_lab.specs.Shown.{is_skipped, numbered, shown_lines, show_rules, HasShown};
+ghost use Rattle.ptu_lab.specs.Shown.{numbered, shown_lines, show_rules, HasShown};
 
-use crate::cause::Cause;
 use crate::datagram::MessageText;
 use crate::fault::LabFault;
 use crate::lines::ShowLine;
@@ -16,6 +16,7 @@ use ptu_messages::{MessageFault, read_message};
 use ptu_octets::u16_at;
 use ptu_outside::{Sink, Source};
 use ptu_report::{Ending, Reporter, Stop, Texts, report};
+use ptu_script::Cause;
 use ptu_texts::FaultText;
 use ptu_units::OutOfMemory;
 use std::alloc::Global;
@@ -27,8 +28,8 @@ struct Decoder {
 }
 
 // Whether a line is empty or begins with `#`.
-fn skips(line: &[u8]) -> bool
-    ensures { result ≡ is_skipped line.now }
+fn is_comment_line(line: &[u8]) -> bool
+    ensures { result ≡ is_comment line.now }
 {
     match line {
         [] => true,
@@ -79,7 +80,7 @@ impl Reporter for Decoder {
         line: &[u8],
         texts: &mut Texts,
     ) -> Result<Option<Cause>, OutOfMemory> {
-        if skips(line) {
+        if is_comment_line(line) {
             return Ok(None);
         }
         let Some(count) = octets(line, &mut self.room) else {
@@ -105,7 +106,7 @@ impl Reporter for Decoder {
     }
 
     fn cause_of(cause: LineCause) -> Cause {
-        Cause::of_line(cause)
+        Cause::from(cause)
     }
 }
 

@@ -1,4 +1,4 @@
-use crate::cause::Cause;
+use ptu_script::Cause;
 use std::error::Error;
 use std::fmt;
 

@@ -1,8 +1,8 @@
 ghost use Rattle.std.specs.Prelude.{Some};
 ghost use Rattle.ptu_lab.specs.Lines.{line_text};
 
-use crate::cause::Cause;
 use crate::datagram::MessageText;
+use ptu_script::Cause;
 use ptu_texts::FaultText;
 use std::fmt;
 
