@@ -1,5 +1,5 @@
 -- Datagrams and inputs that were made out by hand, and what is shown of them.
-use Rattle.std.specs.Prelude.{◌≡◌, [], ◌++◌, ◌∷◌, codes, take}
+use Rattle.std.specs.Prelude.{◌≡◌, [], ◌++◌, codes, take}
 use Rattle.hex.specs.Hex.{encode_lower}
 use Rattle.ptu_messages.specs.Samples.{announce, delay_req, delay_resp}
 use Rattle.ptu_report.specs.declared.ending.Ending.TheVariants.{Whole, Refused}
