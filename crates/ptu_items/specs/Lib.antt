@@ -1,0 +1,4 @@
+pub mod Items
+pub mod Replies
+pub mod Deciding
+pub mod Samples
