@@ -1,14 +1,15 @@
 -- What `show` writes for an input: a line for each datagram, up to the first line that is refused or to the end.
-use Rattle.std.specs.Prelude.{◌≡◌, ℕ, if◌then◌else◌, List, [], ◌∷◌, ◌++◌, codes, Option, Some, None}
+use Rattle.std.specs.Prelude.{◌≡◌, ◌⊎◌, ℕ, if◌then◌else◌, List, [], ◌∷◌, ◌++◌, codes, Option, Some, None}
 use Rattle.std.specs.Fmt.{decimal}
 use Rattle.std.specs.Io.KnownBytes.{append_known}
 use Rattle.ptu_outside.specs.Handing.{HasPut, joined}
 use Rattle.ptu_lines.specs.Script.{script_lines}
 use Rattle.ptu_lines.specs.Words.{octets_of}
 use Rattle.ptu_report.specs.declared.ending.Ending.{Ending}
+use Rattle.ptu_report.specs.declared.ending.Ending.TheVariants as endings
 use Rattle.ptu_report.specs.Rules.{Rules, Outcome, Goes, Refuses, ending_of, texts_of}
 use Rattle.ptu_script.specs.declared.cause.Cause.{Cause}
-use Rattle.ptu_script.specs.declared.cause.Cause.TheVariants.{Field}
+use Rattle.ptu_script.specs.declared.cause.Cause.TheVariants.{Size, Long, Text, Field}
 use Rattle.ptu_script.specs.Cause.{cause_of_line, text_of}
 use Rattle.ptu_script.specs.Command.{is_comment}
 use Rattle.ptu_lab.specs.Datagram.{datagram_text}
@@ -57,3 +58,8 @@ pub record HasShown {K : Type 0} (written : K → Option (List ℕ)) (handed : K
   pub written_is : written new ≡ append_known (written old) (shown input)
   pub in_pieces : HasPut written handed old new (shown_lines input)
   pub ends : ending ≡ shown_ending input
+
+-- no line is refused but for these causes
+abbrev pub HasShowCause : Ending Cause → Type 0
+HasShowCause (endings.Whole lines) = Unit {0}
+HasShowCause (endings.Refused number cause) = (cause ≡ Size) ⊎ (cause ≡ Long) ⊎ (cause ≡ Text) ⊎ (cause ≡ Field 1)

@@ -6,7 +6,7 @@ ghost use Rattle.ptu_report.specs.Reported.{HasReportedAllRead};
 ghost use Rattle.ptu_script.specs.Command.{is_comment};
 ghost use Rattle.ptu_lab.specs.Answers.{CountsRead, CountsWrite, IfWritten};
 ghost use Rattle.ptu_lab.specs.Datagram.{datagram_text};
-ghost use Rattle.ptu_lab.specs.Shown.{numbered, shown_lines, show_rules, HasShown};
+ghost use Rattle.ptu_lab.specs.Shown.{numbered, shown_lines, show_rules, HasShowCause, HasShown};
 
 use crate::datagram::MessageText;
 use crate::fault::LabFault;
@@ -128,6 +128,8 @@ pub fn show<S: Source, K: Sink>(
     // The whole output was written, and the answer says how it ends.
     ensures whole { (input : List ℕ) → S.left source.old ≡ Some input → IfWritten result
         (λ ending. HasShown K.written K.handed sink.old sink.new input ending) }
+    ensures causes { (input : List ℕ) → S.left source.old ≡ Some input
+        → IfWritten result HasShowCause }
     ensures end { OnOk result (IsAtEnd (S.left source.new)) }
     // What was written is a front of the output, whatever is answered.
     ensures front { (input : List ℕ) → S.left source.old ≡ Some input

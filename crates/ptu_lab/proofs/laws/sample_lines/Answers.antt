@@ -9,7 +9,11 @@ use Rattle.ptu_lab.proofs.laws.sample_lines.Goals as goal
 
 pub returns-clause-datagrams : goal.returns-clause-datagrams
 unfolding digits encode_with header_in tlv_in tlvs_in body_in message_in datagram_text
-returns-clause-datagrams c = (refl, refl, refl, refl, refl)
+returns-clause-datagrams c = (refl, refl, refl, refl, refl, refl, refl, refl)
+
+pub returns-clause-tlvs : goal.returns-clause-tlvs
+unfolding digits
+returns-clause-tlvs c = (refl, refl, refl, refl, refl, refl)
 
 pub returns-clause-inputs : goal.returns-clause-inputs
 unfolding digits encode_with decode_pairs header_in tlv_in tlvs_in body_in message_in datagram_text
