@@ -1,0 +1,11 @@
+use crate::item::Items;
+use ptu_header::Header;
+
+/// What a grandmaster hears in a datagram.
+#[derive(Debug, Drop)]
+pub enum Heard {
+    /// A Delay_Req with this header (IEEE 1588-2019 clause 13.6).
+    DelayReq(Header),
+    /// A Signaling with this header, and its items (IEEE 1588-2019 clause 13.12).
+    Asks(Header, Items),
+}

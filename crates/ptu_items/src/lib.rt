@@ -1,0 +1,16 @@
+//! What a datagram asks of a grandmaster, and the Signaling messages with which it answers and
+//! cancels (IEEE 1588-2019 clause 16.1).
+#![tactic(auto)]
+
+mod heard;
+mod item;
+mod listening;
+mod reason;
+mod replying;
+
+pub use heard::Heard;
+pub use item::{Item, Items};
+pub use listening::{asks_of, hear};
+pub use reason::GmReason;
+pub use replying::{cancel_of, write_reply};
+
