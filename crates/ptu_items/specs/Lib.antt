@@ -1,3 +1,4 @@
 pub mod Items
 pub mod Replies
 pub mod Deciding
+pub mod Samples

@@ -4,6 +4,7 @@
 
 mod heard;
 mod item;
+pub mod laws;
 mod listening;
 mod reason;
 mod replying;
@@ -14,3 +15,5 @@ pub use listening::{asks_of, hear};
 pub use reason::GmReason;
 pub use replying::{cancel_of, write_reply};
 
+#[cfg(test)]
+mod tests;

@@ -82,11 +82,5 @@ pub fn cancel_of(
         clock: client.clock,
         port: client.port,
     };
-    write_reply(
-        config,
-        &target,
-        sequence,
-        &[Tlv::Cancel(kind.code())],
-        out,
-    )
+    write_reply(config, &target, sequence, &[Tlv::Cancel(kind.code())], out)
 }
