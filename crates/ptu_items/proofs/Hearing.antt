@@ -1,27 +1,25 @@
 -- What is heard in octets, by the message that they spell.
-use Rattle.std.proofs.Common.{◌≡◌, ◌≢◌, ℕ, ◌+◌, ◌<◌, ◌≤◌, List, [], ◌∷◌, length, get_or, Bool, true, false, Result, Ok, Err, refl, sym, ap, subst, ◌∙◌, arith}
-use Rattle.std.specs.Prelude.{◌==◌, slice_range, IfOk, IfErr, if◌then◌else◌}
+use Rattle.std.proofs.Common.{◌≡◌, ◌≢◌, ℕ, ◌<◌, ◌≤◌, List, get_or, Bool, true, false, Result, Ok, Err, refl, sym, ap, subst, ◌∙◌}
+use Rattle.std.specs.Prelude.{◌==◌, slice_range, IfOk, if◌then◌else◌}
 use Rattle.std.specs.Result.{OnErr}
 use Rattle.ptu_units.specs.declared.memory.OutOfMemory.{OutOfMemory}
 use Rattle.ptu_header.specs.declared.header.Header.{Header}
-use Rattle.ptu_header.specs.declared.header.PortIdentity.{PortIdentity}
-use Rattle.ptu_tlvs.specs.declared.tlv.Tlv.{Tlv}
 use Rattle.ptu_messages.specs.declared.message.Body.{Body}
 use Rattle.ptu_messages.specs.declared.message.Body.TheVariants as body
 use Rattle.ptu_messages.specs.declared.message.Message.{Message}
 use Rattle.ptu_messages.specs.declared.fault.MessageFault.{MessageFault}
 use Rattle.ptu_messages.specs.declared.fault.MessageFault.TheVariants as faults
 use Rattle.ptu_messages.specs.Message.{SpellsMessage, least_length}
-use Rattle.ptu_messages.specs.MessageFault.{HasMessageFault, IsSignaling}
+use Rattle.ptu_messages.specs.MessageFault.{IsSignaling}
 use Rattle.ptu_messages.specs.Reading.{message_in}
-use Rattle.ptu_messages.proofs.Readings.{found_is, refused_is, message_in-spelled, message_in-faulty}
+use Rattle.ptu_messages.proofs.Readings.{found_is, refused_is}
 use Rattle.ptu_shard.specs.declared.config.GmConfig.{GmConfig}
 use Rattle.ptu_items.specs.declared.item.Item.{Item}
 use Rattle.ptu_items.specs.declared.reason.GmReason.{GmReason}
 use Rattle.ptu_items.specs.declared.reason.GmReason.TheVariants as reasons
 use Rattle.ptu_items.specs.declared.heard.Heard.{Heard}
 use Rattle.ptu_items.specs.declared.heard.Heard.TheVariants as heard
-use Rattle.ptu_items.specs.Items.{AreAnswerable, HasTlvs, IsAnswerable, heard_by, heard_in, in_domain, is_for, items_among, items_by, items_in, with_items}
+use Rattle.ptu_items.specs.Items.{AreAnswerable, HasTlvs, IsAnswerable, heard_by, heard_in, is_for, items_among, items_by, items_in, with_items}
 use Rattle.ptu_items.proofs.Octets.{AreOctets, answerable_among, are_octets, part_octets}
 
 -- ---- by the message that was read

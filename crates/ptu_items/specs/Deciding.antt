@@ -1,6 +1,6 @@
 -- What the items of a datagram come to: the events that they are, what a history becomes by them, and what answers them
 -- (IEEE 1588-2019 clause 16.1; the moments are the project's own choice).
-use Rattle.std.specs.Prelude.{ℕ, List, [], ◌∷◌, ◌++◌, map, filter_map, Option, Some, None, option_map, Result, Ok, Err}
+use Rattle.std.specs.Prelude.{ℕ, List, [], ◌∷◌, ◌++◌, map, filter_map, Option, Some, option_map, Result, Ok, Err}
 use Rattle.std.specs.Option.{option_map_or}
 use Rattle.ptu_units.specs.Kind.{kind_of}
 use Rattle.ptu_header.specs.declared.header.Header.{Header}

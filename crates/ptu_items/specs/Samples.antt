@@ -10,12 +10,11 @@ use Rattle.ptu_history.specs.declared.client.Client.{Client}
 use Rattle.ptu_history.specs.Events as events
 use Rattle.ptu_shard.specs.declared.config.GmConfig.{GmConfig}
 use Rattle.ptu_shard.specs.Messages.{octets_sent}
-use Rattle.ptu_items.specs.declared.item.Item.{Item}
 use Rattle.ptu_items.specs.declared.item.Item.TheVariants.{Request, Cancel}
 use Rattle.ptu_items.specs.declared.reason.GmReason.TheVariants as reason
 use Rattle.ptu_items.specs.declared.heard.Heard.TheVariants as heard
 use Rattle.ptu_items.specs.Items.{heard_in, items_in}
-use Rattle.ptu_items.specs.Replies.{cancel_to, cancels_to, denial_of, grant_of, signaling_of}
+use Rattle.ptu_items.specs.Replies.{cancel_to, denial_of, grant_of, signaling_of}
 use Rattle.ptu_items.specs.Deciding.{answers_to, events_of_items, opened_with}
 
 -- a grandmaster in domain 4 that grants 300 s at most

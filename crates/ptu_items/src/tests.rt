@@ -55,7 +55,9 @@ fn datagrams_are_heard(rt: HostRuntime) -> Result<(), Fail> {
         }
         Heard::DelayReq(_) => return Err(Fail::new("a Signaling is no Delay_Req")),
     }
-    datagram[4] = 5;
+    if let Some(domain) = datagram.get_mut(4) {
+        *domain = 5;
+    }
     assert_eq!(rt;
         asks_of(alloc, &CONFIG, &datagram)?.err(),
         Some(GmReason::Domain(5))
