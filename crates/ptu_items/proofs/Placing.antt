@@ -8,7 +8,7 @@ use Rattle.ptu_history.specs.Verdict.{Config}
 use Rattle.ptu_history.specs.Events.{Event}
 use Rattle.ptu_history.specs.Core.{core_step, history_after}
 use Rattle.ptu_items.specs.declared.item.Item.{Item}
-use Rattle.ptu_items.specs.Deciding.{answer_to, answers_to, event_of, events_of_items, item_records, placed}
+use Rattle.ptu_items.specs.Deciding.{decision_of, decisions_of, event_of, events_of_items, item_records, placed}
 use Rattle.std.specs.Option.{option_map_or}
 
 pub placed-none : (opened : Config) (history : List Record) (t : ℕ) (c : Client) → placed opened history t c [] ≡ []
@@ -38,8 +38,8 @@ module _ (opened : Config) (t : ℕ) where
       ap (λ ps. (history, i) ∷ ps) (placed-push (history ++ item_records opened history t c i) c items item
       ∙ ap (λ h. placed opened (history ++ item_records opened history t c i) t c items ++ (h, item) ∷ []) (sym (history_after-items history c i items)))
 
-  pub answers_to-push : (history : List Record) (c : Client) (items : List Item) (item : Item)
-      → answers_to opened history t c (items ++ item ∷ [])
-      ≡ answers_to opened history t c items ++ answer_to opened (history_after opened history (events_of_items t c items)) t c item ∷ []
-  answers_to-push history c items item =
-      ap (map (λ p. answer_to opened p.0 t c p.1)) (placed-push history c items item) ∙ map-append _ (placed opened history t c items) _
+  pub decisions_of-push : (history : List Record) (c : Client) (items : List Item) (item : Item)
+      → decisions_of opened history t c (items ++ item ∷ [])
+      ≡ decisions_of opened history t c items ++ decision_of opened (history_after opened history (events_of_items t c items)) t c item ∷ []
+  decisions_of-push history c items item =
+      ap (map (λ p. decision_of opened p.0 t c p.1)) (placed-push history c items item) ∙ map-append _ (placed opened history t c items) _

@@ -1,6 +1,6 @@
 -- What the items of a datagram come to: the events that they are, what a history becomes by them, and what answers them
 -- (IEEE 1588-2019 clause 16.1; the moments are the project's own choice).
-use Rattle.std.specs.Prelude.{ℕ, List, [], ◌∷◌, ◌++◌, map, filter_map, Option, Some, option_map, Result, Ok, Err}
+use Rattle.std.specs.Prelude.{ℕ, List, [], ◌∷◌, ◌++◌, map, filter_map, Bool, Option, Some, None, option_map, Result, Ok, Err}
 use Rattle.std.specs.Option.{option_map_or}
 use Rattle.ptu_units.specs.Kind.{kind_of}
 use Rattle.ptu_header.specs.declared.header.Header.{Header}
@@ -12,9 +12,11 @@ use Rattle.ptu_history.specs.Client.{table_of}
 use Rattle.ptu_history.specs.History.{Record}
 use Rattle.ptu_history.specs.Verdict as verdicts
 use Rattle.ptu_history.specs.Verdict.{Config, Verdict, GrantedFor, ShortOf, Outside, verdict}
+use Rattle.ptu_history.specs.Live.{live}
 use Rattle.ptu_history.specs.Events as events
 use Rattle.ptu_history.specs.Events.{Event}
 use Rattle.ptu_history.specs.Core.{core_step, table_step_moment}
+use Rattle.ptu_outside.specs.Departure.{Departure}
 use Rattle.ptu_shard.specs.declared.config.GmConfig.{GmConfig}
 use Rattle.ptu_items.specs.declared.item.Item.{Item}
 use Rattle.ptu_items.specs.declared.item.Item.TheVariants.{Request, Cancel}
@@ -22,7 +24,7 @@ use Rattle.ptu_items.specs.declared.reason.GmReason.{GmReason}
 use Rattle.ptu_items.specs.declared.heard.Heard.{Heard}
 use Rattle.ptu_items.specs.declared.heard.Heard.TheVariants as heard
 use Rattle.ptu_items.specs.Items.{heard_in}
-use Rattle.ptu_items.specs.Replies.{grant_of, denial_of}
+use Rattle.ptu_items.specs.Replies.{denial_of, grant_of, reply_to}
 
 -- the client of a message with this header, which came from the address
 abbrev pub client_of : ℕ → Header → Client
@@ -69,18 +71,45 @@ placed opened history t c (item ∷ items) =
 abbrev pub item_moment : List Record → ℕ → Client → ℕ
 item_moment history t c = table_step_moment history t (table_of c)
 
+-- what an item comes to
+pub data Decision : Type 0 where
+  -- a REQUEST: its verdict, and the moment of that; an ask outside the profile is decided at none
+  Judged : (ask : Ask) (at : Option ℕ) (verdict : Verdict) → Decision
+  -- a CANCEL: when it was decided, and whether it ended a live grant; none of these of a code that is no kind
+  Ended : (code : ℕ) (answer : Option (ℕ × Bool)) → Decision
+
+-- the moment, where the ask is within the profile
+abbrev pub moment_of_verdict : ℕ → Verdict → Option ℕ
+moment_of_verdict x (GrantedFor k l seconds until) = Some x
+moment_of_verdict x (ShortOf k l others rate capacity) = Some x
+moment_of_verdict x (Outside cause) = None
+
+-- what an item of the client comes to at the moment, after the history
+abbrev pub decision_at : Config → List Record → ℕ → Client → Item → Decision
+decision_at opened history x c (Request ask) =
+    Judged ask (moment_of_verdict x (verdict opened history x c (asked_by ask))) (verdict opened history x c (asked_by ask))
+decision_at opened history x c (Cancel code) = Ended code (option_map (λ k. (x, live history x c k)) (kind_of code))
+
+-- likewise, where it is handed the moment
+abbrev pub decision_of : Config → List Record → ℕ → Client → Item → Decision
+decision_of opened history t c item = decision_at opened history (item_moment history t c) c item
+
+-- what items of the client come to, in order, where they are handed the moment, after the history
+abbrev pub decisions_of : Config → List Record → ℕ → Client → List Item → List Decision
+decisions_of opened history t c items = map (λ p. decision_of opened p.0 t c p.1) (placed opened history t c items)
+
 -- what answers an ask, by its verdict
 abbrev pub answer_by : Ask → Verdict → Tlv
 answer_by ask (GrantedFor k l seconds until) = grant_of ask seconds
 answer_by ask (ShortOf k l others rate capacity) = denial_of ask
 answer_by ask (Outside cause) = denial_of ask
 
--- what answers an item of the client that is handed the moment, after the history
-abbrev pub answer_to : Config → List Record → ℕ → Client → Item → Tlv
-answer_to opened history t c (Request ask) =
-    answer_by ask (verdict opened history (item_moment history t c) c (asked_by ask))
-answer_to opened history t c (Cancel code) = Ack code
+-- what answers an item, by what it came to
+abbrev pub answer_to : Decision → Tlv
+answer_to (Judged ask at verdict) = answer_by ask verdict
+answer_to (Ended code answer) = Ack code
 
--- what answers the items of the client, in their order
-abbrev pub answers_to : Config → List Record → ℕ → Client → List Item → List Tlv
-answers_to opened history t c items = map (λ p. answer_to opened p.0 t c p.1) (placed opened history t c items)
+-- the reply to items of the client that came from the address with this header, handed the moment, after the history
+abbrev pub reply_after : GmConfig → Config → List Record → ℕ → ℕ → Header → List Item → Departure
+reply_after config opened history t from header items =
+    reply_to config from header (map answer_to (decisions_of opened history t (client_of from header) items))

@@ -47,8 +47,12 @@ identity_of c = record { clock = c.clock; port = c.port }
 abbrev pub cancel_to : GmConfig → Client → Kind → ℕ → Departure
 cancel_to config c k sequence = signaling_to config c.ip (identity_of c) sequence (Cancel (code_of k) ∷ [])
 
--- the CANCELs of grants that were shed, in order; so many were shed before
-abbrev pub cancels_to : GmConfig → ℕ → List live.Grant → List Departure
+-- the client and kind of a grant
+abbrev pub lease_of : live.Grant → Client × Kind
+lease_of g = (g.client, g.kind)
+
+-- the CANCELs to these clients, each for its kind, in order; so many were sent before
+abbrev pub cancels_to : GmConfig → ℕ → List (Client × Kind) → List Departure
 cancels_to config before [] = []
-cancels_to config before (g ∷ grants) =
-    cancel_to config g.client g.kind (before % 65536) ∷ cancels_to config (before + 1) grants
+cancels_to config before (lease ∷ leases) =
+    cancel_to config lease.0 lease.1 (before % 65536) ∷ cancels_to config (before + 1) leases

@@ -1,5 +1,5 @@
 -- Datagrams that were made out by hand, field by field, and what the definitions say of them.
-use Rattle.std.specs.Prelude.{◌≡◌, ℕ, List, [], ◌∷◌, ◌++◌, take, slice_set, negsuc, pos, Ok, Err}
+use Rattle.std.specs.Prelude.{◌≡◌, ℕ, List, [], ◌∷◌, ◌++◌, map, take, slice_set, negsuc, pos, Ok, Err}
 use Rattle.ptu_units.specs.declared.kind.Kind.TheVariants as kind
 use Rattle.ptu_tlvs.specs.declared.tlv.Ask.{Ask}
 use Rattle.ptu_tlvs.specs.declared.tlv.Tlv.TheVariants as tlv
@@ -14,8 +14,8 @@ use Rattle.ptu_items.specs.declared.item.Item.TheVariants.{Request, Cancel}
 use Rattle.ptu_items.specs.declared.reason.GmReason.TheVariants as reason
 use Rattle.ptu_items.specs.declared.heard.Heard.TheVariants as heard
 use Rattle.ptu_items.specs.Items.{heard_in, items_in}
-use Rattle.ptu_items.specs.Replies.{cancel_to, denial_of, grant_of, signaling_of}
-use Rattle.ptu_items.specs.Deciding.{answers_to, events_of_items, opened_with}
+use Rattle.ptu_items.specs.Replies.{cancel_to, cancels_to, denial_of, grant_of, signaling_of}
+use Rattle.ptu_items.specs.Deciding.{answer_to, decisions_of, events_of_items, opened_with}
 
 -- a grandmaster in domain 4 that grants 300 s at most
 abbrev pub gm : GmConfig
@@ -73,11 +73,12 @@ RepliesAreSent =
     × (octets_sent (signaling_of gm messages.client 0 (denial_of (record { code = 0; log = negsuc 6; seconds = 300 }) ∷ []))
     ≡ from_grandmaster 56 0x11 (0 ∷ 5 ∷ 0 ∷ 8 ∷ 0 ∷ 0xf9 ∷ 0 ∷ 0 ∷ 0 ∷ 0 ∷ 0 ∷ 0 ∷ []))
     × ((cancel_to gm second kind.Announce 0).bytes ≡ from_grandmaster 50 0x12 (0 ∷ 6 ∷ 0 ∷ 2 ∷ 0xb0 ∷ 0 ∷ []))
-    × ((cancel_to gm second kind.Announce 0).ip ≡ second.ip)
+    × (map (λ d. d.ip) (cancels_to gm 65535 ((second, kind.Announce) ∷ (first, kind.Sync) ∷ [])) ≡ second.ip ∷ first.ip ∷ [])
+    × (cancels_to gm 65536 ((second, kind.Announce) ∷ []) ≡ cancel_to gm second kind.Announce 0 ∷ [])
 
 -- items are decided one after the other, and a CANCEL of a code that is no kind is answered too
 abbrev pub ItemsAreAnswered : Type 0
 ItemsAreAnswered =
-    (answers_to (opened_with 24 gm) [] 0 first (Request (ask 11 1) ∷ Request (ask 0 0) ∷ Request (ask 9 0) ∷ Cancel 3 ∷ [])
+    (map answer_to (decisions_of (opened_with 24 gm) [] 0 first (Request (ask 11 1) ∷ Request (ask 0 0) ∷ Request (ask 9 0) ∷ Cancel 3 ∷ []))
     ≡ grant_of (ask 11 1) 300 ∷ grant_of (ask 0 0) 300 ∷ denial_of (ask 9 0) ∷ tlv.Ack 3 ∷ [])
     × (events_of_items 7 first (Cancel 11 ∷ Cancel 3 ∷ []) ≡ (7, events.Cancel first kind.Announce) ∷ [])

@@ -14,7 +14,7 @@ ghost use Rattle.ptu_shard.specs.declared.config.GmConfig.{GmConfig};
 ghost use Rattle.ptu_items.specs.declared.item.Item.{Item};
 ghost use Rattle.ptu_items.specs.declared.reason.GmReason.{GmReason};
 ghost use Rattle.ptu_items.specs.Items.{heard_by, heard_in, items_by, items_in};
-ghost use Rattle.ptu_items.specs.Deciding.{answer_to, answers_to, events_of_items, placed};
+ghost use Rattle.ptu_items.specs.Deciding.{decision_of, decisions_of, events_of_items, placed};
 ghost use Rattle.ptu_items.specs.Samples.{DatagramsAreHeard, DelayReqsAreHeard, ItemsAreAnswered, RepliesAreSent};
 
 /// What is heard in a datagram goes by the message that its octets spell, or the fault that they
@@ -38,11 +38,11 @@ pub fn decided_in_order()
         placed opened history t c (items ++ item ∷ [])
         ≡ placed opened history t c items
         ++ (history_after opened history (events_of_items t c items), item) ∷ [] }
-    ensures answer { (opened : Config) (history : List Record) (t : ℕ) (c : Client)
+    ensures decision { (opened : Config) (history : List Record) (t : ℕ) (c : Client)
         (items : List Item) (item : Item) →
-        answers_to opened history t c (items ++ item ∷ [])
-        ≡ answers_to opened history t c items
-        ++ answer_to opened (history_after opened history (events_of_items t c items)) t c item
+        decisions_of opened history t c (items ++ item ∷ [])
+        ≡ decisions_of opened history t c items
+        ++ decision_of opened (history_after opened history (events_of_items t c items)) t c item
         ∷ [] }
 {}
 

@@ -1,4 +1,4 @@
-use Rattle.ptu_items.proofs.Placing.{answers_to-push, placed-none, placed-push}
+use Rattle.ptu_items.proofs.Placing.{decisions_of-push, placed-none, placed-push}
 use Rattle.ptu_items.proofs.laws.decided_in_order.Goals as goal
 
 pub returns-clause-none : goal.returns-clause-none
@@ -7,5 +7,5 @@ returns-clause-none c = placed-none
 pub returns-clause-one_more : goal.returns-clause-one_more
 returns-clause-one_more c = λ opened history t client items item. placed-push opened t history client items item
 
-pub returns-clause-answer : goal.returns-clause-answer
-returns-clause-answer c = λ opened history t client items item. answers_to-push opened t history client items item
+pub returns-clause-decision : goal.returns-clause-decision
+returns-clause-decision c = λ opened history t client items item. decisions_of-push opened t history client items item

@@ -22,7 +22,7 @@ returns-clause-delay_reqs c = (refl, refl, refl)
 
 pub returns-clause-sent : goal.returns-clause-sent
 unfolding octets_sent
-returns-clause-sent c = (refl, refl, refl, refl)
+returns-clause-sent c = (refl, refl, refl, refl, refl)
 
 pub returns-clause-answered : goal.returns-clause-answered
 unfolding placed verdict others live_grants standing capacity_in_force table_step_moment book_moment table_moment lease_records last_decision
