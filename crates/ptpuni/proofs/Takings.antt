@@ -1,13 +1,10 @@
 -- Octets that are taken one after the other.
-use Rattle.std.proofs.Common.{◌≡◌, ◌∙◌, ℕ, ◌+◌, Bool, true, false, cond, List, [], ◌∷◌, ◌++◌, length, refl, sym, ap, append_assoc, Option, Some, None, arith, length-append, ◌≤◌, ◌⊎◌, inl, inr, Result, Ok, Err}
-use Rattle.std.specs.Prelude.{OnOk, nat_le, ◌==◌}
-use Rattle.std.proofs.lemmas.Bool.{and_parts, eqb-true, leb-true}
+use Rattle.std.proofs.Common.{◌≡◌, ◌∙◌, ℕ, ◌+◌, cond, List, [], ◌∷◌, ◌++◌, length, refl, sym, ap, append_assoc, Option, Some, None, arith, length-append, ◌≤◌, ◌⊎◌, inl, inr, Result, Ok, Err}
+use Rattle.std.specs.Prelude.{OnOk}
 use Rattle.std.specs.Io.KnownBytes.{prepend_known}
-use Rattle.std.specs.List.{AllPass}
-use Rattle.std.proofs.lemmas.List.Elements.{All-head, All-tail}
 use Rattle.std.proofs.lemmas.List.Sums.{sum_by-append, sum_by-cons}
 use Rattle.ptu_lines.specs.Reading.{Reader, Gives, octets_taken, IsGiven, IsStopped}
-use Rattle.ptu_lines.specs.Script.{HasNoEnd, is_end, is_plain}
+use Rattle.ptu_lines.specs.Script.{HasNoEnd, is_end}
 use Rattle.ptpuni.specs.Taking.{GivesEach, LeavesNoLine, Takes, ends_in}
 
 prepend_known-nil : (told : Option (List ℕ)) → told ≡ prepend_known [] told

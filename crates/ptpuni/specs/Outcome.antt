@@ -1,6 +1,5 @@
 -- The lines of the report that a decided request gives.
 use Rattle.std.specs.Prelude.{ℕ, List, [], ◌∷◌, map}
-use Rattle.std.specs.List.{flat_map}
 use Rattle.ptu_history.specs.Events.{Outcome, Decided}
 use Rattle.ptu_history.specs.Verdict as verdicts
 use Rattle.ptu_tlvs.specs.declared.tlv.Tlv.{Tlv}
@@ -22,10 +21,6 @@ outcome_lines gm number datagram r at _ = []
 -- the text of each of these lines
 abbrev pub texts_of : List ReportLine → List (List ℕ)
 texts_of lines = map text_of lines
-
--- the octets of these lines
-abbrev pub report_text : List ReportLine → List ℕ
-report_text lines = flat_map text_of lines
 
 -- the line that says how a request was decided
 abbrev pub decision_line : Grandmaster → ℕ → Request → Decision → ReportLine

@@ -1,7 +1,8 @@
 //! A PTP unicast grandmaster and its slaves (IEEE 1588-2019 clause 16.1, ITU-T G.8265.1).
 //!
-//! `ptpuni replay` reads a script from standard input and writes a report of every decision and datagram to standard
-//! output.
+//! `ptpuni replay` reads a script from standard input and writes a report of every decision and
+//! datagram to standard output. `ptpuni show` decodes the datagrams that stand in the lines of standard
+//! input.
 #![tactic(auto)]
 
 mod answering;
@@ -11,6 +12,7 @@ mod first;
 mod grandmaster;
 mod leases;
 mod next;
+mod output;
 mod replay;
 mod reply;
 mod report;
@@ -24,14 +26,13 @@ ghost use Rattle.std.specs.Prelude.{◌≡◌, ◌≢◌, IfOk, map};
 ghost use Rattle.std.specs.String.{string_bytes};
 
 use ptu_outside::{StdSink, StdSource};
+use ptu_words::USAGE_TEXT;
 use run::{OUT_OF_MEMORY, USAGE};
 use std::alloc::{AllocError, Global};
 use std::env::Env;
 use std::io::ErrorKind;
 use std::process::ExitCode;
 use std::{env, io};
-
-const USAGE_TEXT: &str = "usage: ptpuni replay";
 
 // The status of a run whose words can't be had: one that is not UTF-8 makes a faulty command line.
 fn status_without_words(kind: ErrorKind) -> u8

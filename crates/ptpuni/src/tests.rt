@@ -248,6 +248,26 @@ fn words_of_no_command(rt: HostRuntime) -> Result<(), Fail> {
     assert!(rt; refuses(alloc, &["load", "0"])?);
     assert!(rt; refuses(alloc, &["load", "2001"])?);
     assert!(rt; refuses(alloc, &["walk"])?);
+    assert!(rt; refuses(alloc, &["show", "show"])?);
+    Ok(())
+}
+
+#[test]
+fn datagrams_are_shown(rt: HostRuntime) -> Result<(), Fail> {
+    let alloc = rt.alloc();
+    for (input, output, wanted) in [
+        (
+            "0012002c040004000000000000000000000000000a000000000000010001\
+             0000007f00000000000100000000",
+            "1 sync length 44 domain 4 from 0a00000000000001/1 seq 0 stamp 1 0\nend 1\n",
+            0,
+        ),
+        ("0c1\n", "1 bad field 1\n", 65),
+    ] {
+        let (status, text) = ran(alloc, &["show"], input, None, None)?;
+        assert_eq!(rt; status, wanted);
+        assert_eq!(rt; text.as_str(), output);
+    }
     Ok(())
 }
 

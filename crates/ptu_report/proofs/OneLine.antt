@@ -1,5 +1,5 @@
 -- What one line of the input, or its end, makes a program write.
-use Rattle.std.proofs.Common.{◌≡◌, ◌∙◌, ℕ, ◌+◌, List, [], ◌∷◌, ◌++◌, map, Option, Some, None, refl, sym, ap, subst}
+use Rattle.std.proofs.Common.{◌≡◌, ◌∙◌, ℕ, ◌+◌, List, [], ◌∷◌, ◌++◌, Option, Some, None, refl, sym, ap, subst}
 use Rattle.std.specs.Prelude.{IfSome}
 use Rattle.std.specs.Option.{option_map}
 use Rattle.std.specs.Io.KnownBytes.{IsAtEnd}
@@ -11,10 +11,8 @@ use Rattle.ptu_lines.specs.Script.{ScriptLine, Whole, Refused, lines_from, piece
 use Rattle.ptu_lines.specs.Reading.{Reader, IsAllGiven, IsGiven, IsRefused, lines_left}
 use Rattle.ptu_report.specs.declared.ending.Ending.{Ending}
 use Rattle.ptu_report.specs.declared.ending.Ending.TheVariants as endings
-use Rattle.ptu_report.specs.declared.taken.Taken.{Taken}
-use Rattle.ptu_report.specs.declared.taken.Taken.TheVariants as takens
 use Rattle.ptu_report.specs.Rules.{Rules, Outcome, Goes, Refuses, IsOutcome, closing, ending_after, ending_at, texts_at, texts_until}
-use Rattle.ptu_report.specs.Step.{HasEnded, HasGone, cause_taken, texts_taken}
+use Rattle.ptu_report.specs.Step.{HasEnded, HasGone, texts_taken}
 use Rattle.ptu_report.proofs.Underway.{left_behind}
 
 -- at its end a script has no line left
@@ -30,33 +28,33 @@ none_left from to left left' lines g told = by left' g.end (sym told ∙ g.gives
 
 module _ {K : Type 0} (written : K → Option (List ℕ)) (handed : K → Option (List (List ℕ))) {M C : Type 0} (rules : Rules M C) (stands : M → Type 0) where
   -- a part of the texts that were taken is a part of the output
-  pub part_at : (old new : K) (number : ℕ) (o : Outcome M C) (taken : Taken C) (later : M → List (List ℕ)) → IsOutcome o stands taken → HasPutPart written handed old new (texts_taken taken)
+  pub part_at : (old new : K) (number : ℕ) (o : Outcome M C) (given : List (List ℕ)) (taken : Option C) (later : M → List (List ℕ)) → IsOutcome o stands given taken → HasPutPart written handed old new (texts_taken given taken)
       → HasPutPart written handed old new (texts_at rules number o later)
-  part_at old new number (Goes after texts) (takens.Given given) later h part =
+  part_at old new number (Goes after texts) given None later h part =
       HasPutPart-append written handed old new texts (later after) (subst (HasPutPart written handed old new) h.1 part)
-  part_at old new number (Goes after texts) (takens.Refused found) later h part = absurd h
-  part_at old new number (Refuses cause) (takens.Given given) later h part = absurd h
-  part_at old new number (Refuses cause) (takens.Refused found) later h part = HasPutPart-append written handed old new [] (rules.refusal number cause ∷ []) part
+  part_at old new number (Goes after texts) given (Some found) later h part = absurd h
+  part_at old new number (Refuses cause) given None later h part = absurd h
+  part_at old new number (Refuses cause) given (Some found) later h part = HasPutPart-append written handed old new [] (rules.refusal number cause ∷ []) part
 
   -- so it is where the text that names the refused line is written in part
-  pub refused_part_at : (old mid new : K) (number : ℕ) (o : Outcome M C) (taken : Taken C) (cause : C) (later : M → List (List ℕ)) → IsOutcome o stands taken → cause_taken taken ≡ Some cause
-      → HasPut written handed old mid (texts_taken taken) → HasPutPart written handed mid new (rules.refusal number cause ∷ []) → HasPutPart written handed old new (texts_at rules number o later)
-  refused_part_at old mid new number (Goes after texts) (takens.Given given) cause later h e put part = absurd (let never : None ≡ Some cause = e in cc)
-  refused_part_at old mid new number (Goes after texts) (takens.Refused found) cause later h e put part = absurd h
-  refused_part_at old mid new number (Refuses found) (takens.Given given) cause later h e put part = absurd h
-  refused_part_at old mid new number (Refuses found) (takens.Refused found') cause later h e put part =
+  pub refused_part_at : (old mid new : K) (number : ℕ) (o : Outcome M C) (given : List (List ℕ)) (taken : Option C) (cause : C) (later : M → List (List ℕ)) → IsOutcome o stands given taken → taken ≡ Some cause
+      → HasPut written handed old mid (texts_taken given taken) → HasPutPart written handed mid new (rules.refusal number cause ∷ []) → HasPutPart written handed old new (texts_at rules number o later)
+  refused_part_at old mid new number (Goes after texts) given None cause later h e put part = absurd (let never : None ≡ Some cause = e in cc)
+  refused_part_at old mid new number (Goes after texts) given (Some found) cause later h e put part = absurd h
+  refused_part_at old mid new number (Refuses found) given None cause later h e put part = absurd h
+  refused_part_at old mid new number (Refuses found) given (Some found') cause later h e put part =
       let same : found' ≡ cause = (let eq : Some found' ≡ Some cause = e in cc) in
       HasPut-part written handed old mid new [] (rules.refusal number found ∷ []) put
       (subst (λ x. HasPutPart written handed mid new (rules.refusal number x ∷ [])) (sym same ∙ h) part)
 
   -- where the line is refused, the text that names it ends the output
-  pub refused_at : (old mid new : K) (number : ℕ) (o : Outcome M C) (taken : Taken C) (cause : C) (later : M → List (List ℕ)) (then : M → Ending C) → IsOutcome o stands taken → cause_taken taken ≡ Some cause
-      → HasPut written handed old mid (texts_taken taken) → HasPut written handed mid new (rules.refusal number cause ∷ [])
+  pub refused_at : (old mid new : K) (number : ℕ) (o : Outcome M C) (given : List (List ℕ)) (taken : Option C) (cause : C) (later : M → List (List ℕ)) (then : M → Ending C) → IsOutcome o stands given taken → taken ≡ Some cause
+      → HasPut written handed old mid (texts_taken given taken) → HasPut written handed mid new (rules.refusal number cause ∷ [])
       → HasPut written handed old new (texts_at rules number o later) × (endings.Refused number cause ≡ ending_at number o then)
-  refused_at old mid new number (Goes after texts) (takens.Given given) cause later then h e put last = absurd (let never : None ≡ Some cause = e in cc)
-  refused_at old mid new number (Goes after texts) (takens.Refused found) cause later then h e put last = absurd h
-  refused_at old mid new number (Refuses found) (takens.Given given) cause later then h e put last = absurd h
-  refused_at old mid new number (Refuses found) (takens.Refused found') cause later then h e put last =
+  refused_at old mid new number (Goes after texts) given None cause later then h e put last = absurd (let never : None ≡ Some cause = e in cc)
+  refused_at old mid new number (Goes after texts) given (Some found) cause later then h e put last = absurd h
+  refused_at old mid new number (Refuses found) given None cause later then h e put last = absurd h
+  refused_at old mid new number (Refuses found) given (Some found') cause later then h e put last =
       let same : found' ≡ cause = (let eq : Some found' ≡ Some cause = e in cc) in (
         HasPut-append written handed old mid new [] (rules.refusal number found ∷ []) put
             (subst (λ x. HasPut written handed mid new (rules.refusal number x ∷ [])) (sym same ∙ h) last),
@@ -64,22 +62,22 @@ module _ {K : Type 0} (written : K → Option (List ℕ)) (handed : K → Option
       )
 
   -- at the end
-  pub closed_at : (old new : K) (number : ℕ) (o : Outcome M C) (taken : Taken C) (whole : Ending C) → IsOutcome o stands taken → cause_taken taken ≡ None → HasPut written handed old new (texts_taken taken)
+  pub closed_at : (old new : K) (number : ℕ) (o : Outcome M C) (given : List (List ℕ)) (taken : Option C) (whole : Ending C) → IsOutcome o stands given taken → taken ≡ None → HasPut written handed old new (texts_taken given taken)
       → HasPut written handed old new (texts_at rules number o (λ after. [])) × (whole ≡ ending_at number o (λ after. whole))
-  closed_at old new number (Goes after texts) (takens.Given given) whole h e put = (subst (HasPut written handed old new) (h.1 ∙ sym (append-nil texts)) put, refl)
-  closed_at old new number (Goes after texts) (takens.Refused found) whole h e put = absurd h
-  closed_at old new number (Refuses cause) (takens.Given given) whole h e put = absurd h
-  closed_at old new number (Refuses cause) (takens.Refused found) whole h e put = absurd (let never : Some found ≡ None = e in cc)
+  closed_at old new number (Goes after texts) given None whole h e put = (subst (HasPut written handed old new) (h.1 ∙ sym (append-nil texts)) put, refl)
+  closed_at old new number (Goes after texts) given (Some found) whole h e put = absurd h
+  closed_at old new number (Refuses cause) given None whole h e put = absurd h
+  closed_at old new number (Refuses cause) given (Some found) whole h e put = absurd (let never : Some found ≡ None = e in cc)
 
   module _ (m : M) (from to : Reader) (left left' : Option (List ℕ)) where
     -- a line was given, and the program goes on
-    pub goes : (number : ℕ) (old new : K) (taken : Taken C) → IsGiven number from to left left' → IsOutcome (rules.step m number to.text) stands taken → cause_taken taken ≡ None
-        → HasPut written handed old new (texts_taken taken) → HasGone written handed old new rules m from to left left' stands
-    goes number old new taken g = by (rules.step m number to.text) refl taken
+    pub goes : (number : ℕ) (old new : K) (given : List (List ℕ)) (taken : Option C) → IsGiven number from to left left' → IsOutcome (rules.step m number to.text) stands given taken → taken ≡ None
+        → HasPut written handed old new (texts_taken given taken) → HasGone written handed old new rules m from to left left' stands
+    goes number old new given taken g = by (rules.step m number to.text) refl given taken
       where
-        by : (o : Outcome M C) → rules.step m number to.text ≡ o → (taken : Taken C) → IsOutcome o stands taken → cause_taken taken ≡ None
-            → HasPut written handed old new (texts_taken taken) → HasGone written handed old new rules m from to left left' stands
-        by (Goes after texts) e (takens.Given given) h none put = record {
+        by : (o : Outcome M C) → rules.step m number to.text ≡ o → (given : List (List ℕ)) (taken : Option C) → IsOutcome o stands given taken → taken ≡ None
+            → HasPut written handed old new (texts_taken given taken) → HasGone written handed old new rules m from to left left' stands
+        by (Goes after texts) e given None h none put = record {
           line = g.line;
           gives = g.gives;
           after = after;
@@ -88,9 +86,9 @@ module _ {K : Type 0} (written : K → Option (List ℕ)) (handed : K → Option
           stands_after = h.0;
           put = subst (HasPut written handed old new) h.1 put;
         }
-        by (Goes after texts) e (takens.Refused found) h none put = absurd h
-        by (Refuses cause) e (takens.Given given) h none put = absurd h
-        by (Refuses cause) e (takens.Refused found) h none put = absurd (let never : Some found ≡ None = none in cc)
+        by (Goes after texts) e given (Some found) h none put = absurd h
+        by (Refuses cause) e given None h none put = absurd h
+        by (Refuses cause) e given (Some found) h none put = absurd (let never : Some found ≡ None = none in cc)
 
     module _ (lines : List ScriptLine) (told : lines_left from left ≡ Some lines) where
       -- the first of the lines that are left is the one that was given
@@ -99,31 +97,31 @@ module _ {K : Type 0} (written : K → Option (List ℕ)) (handed : K → Option
           let b = left_behind (Whole (text_of g.line) ∷ []) (lines_left to left') lines (sym told ∙ g.gives.told) in
           (b.0, b.2 ∙ ap (λ t. Whole t ∷ b.0) g.text)
 
-      pub line_in_part : (number : ℕ) (old new : K) (taken : Taken C) → IsGiven number from to left left' → IsOutcome (rules.step m number to.text) stands taken → HasPutPart written handed old new (texts_taken taken)
+      pub line_in_part : (number : ℕ) (old new : K) (given : List (List ℕ)) (taken : Option C) → IsGiven number from to left left' → IsOutcome (rules.step m number to.text) stands given taken → HasPutPart written handed old new (texts_taken given taken)
           → HasPutPart written handed old new (texts_until rules (closing rules) m from.number lines)
-      line_in_part number old new taken g h part =
+      line_in_part number old new given taken g h part =
           let f = first_line number g in
           subst (λ ls. HasPutPart written handed old new (texts_until rules (closing rules) m from.number ls)) (sym f.1)
-          (part_at old new (from.number + 1) (rules.step m (from.number + 1) to.text) taken (λ after. texts_until rules (closing rules) after (from.number + 1) f.0)
-          (subst (λ n. IsOutcome (rules.step m n to.text) stands taken) g.number_is h) part)
+          (part_at old new (from.number + 1) (rules.step m (from.number + 1) to.text) given taken (λ after. texts_until rules (closing rules) after (from.number + 1) f.0)
+          (subst (λ n. IsOutcome (rules.step m n to.text) stands given taken) g.number_is h) part)
 
-      pub line_refused_in_part : (number : ℕ) (old mid new : K) (taken : Taken C) (cause : C) → IsGiven number from to left left' → IsOutcome (rules.step m number to.text) stands taken → cause_taken taken ≡ Some cause
-          → HasPut written handed old mid (texts_taken taken) → HasPutPart written handed mid new (rules.refusal number cause ∷ [])
+      pub line_refused_in_part : (number : ℕ) (old mid new : K) (given : List (List ℕ)) (taken : Option C) (cause : C) → IsGiven number from to left left' → IsOutcome (rules.step m number to.text) stands given taken → taken ≡ Some cause
+          → HasPut written handed old mid (texts_taken given taken) → HasPutPart written handed mid new (rules.refusal number cause ∷ [])
           → HasPutPart written handed old new (texts_until rules (closing rules) m from.number lines)
-      line_refused_in_part number old mid new taken cause g h e put part =
+      line_refused_in_part number old mid new given taken cause g h e put part =
           let f = first_line number g in
           subst (λ ls. HasPutPart written handed old new (texts_until rules (closing rules) m from.number ls)) (sym f.1)
-          (refused_part_at old mid new (from.number + 1) (rules.step m (from.number + 1) to.text) taken cause (λ after. texts_until rules (closing rules) after (from.number + 1) f.0)
-          (subst (λ n. IsOutcome (rules.step m n to.text) stands taken) g.number_is h) e put (subst (λ n. HasPutPart written handed mid new (rules.refusal n cause ∷ [])) g.number_is part))
+          (refused_part_at old mid new (from.number + 1) (rules.step m (from.number + 1) to.text) given taken cause (λ after. texts_until rules (closing rules) after (from.number + 1) f.0)
+          (subst (λ n. IsOutcome (rules.step m n to.text) stands given taken) g.number_is h) e put (subst (λ n. HasPutPart written handed mid new (rules.refusal n cause ∷ [])) g.number_is part))
 
-      pub line_refused : (number : ℕ) (old mid new : K) (taken : Taken C) (cause : C) (ending : Ending C) → IsGiven number from to left left' → IsOutcome (rules.step m number to.text) stands taken → cause_taken taken ≡ Some cause
-          → HasPut written handed old mid (texts_taken taken) → HasPut written handed mid new (rules.refusal number cause ∷ []) → ending ≡ endings.Refused number cause
+      pub line_refused : (number : ℕ) (old mid new : K) (given : List (List ℕ)) (taken : Option C) (cause : C) (ending : Ending C) → IsGiven number from to left left' → IsOutcome (rules.step m number to.text) stands given taken → taken ≡ Some cause
+          → HasPut written handed old mid (texts_taken given taken) → HasPut written handed mid new (rules.refusal number cause ∷ []) → ending ≡ endings.Refused number cause
           → HasEnded written handed old new rules m from to left left' ending lines
-      line_refused number old mid new taken cause ending g h e put last is =
+      line_refused number old mid new given taken cause ending g h e put last is =
           let f = first_line number g in
-          let r = refused_at old mid new (from.number + 1) (rules.step m (from.number + 1) to.text) taken cause (λ after. texts_until rules (closing rules) after (from.number + 1) f.0)
+          let r = refused_at old mid new (from.number + 1) (rules.step m (from.number + 1) to.text) given taken cause (λ after. texts_until rules (closing rules) after (from.number + 1) f.0)
           (λ after. ending_after rules after (from.number + 1) f.0)
-          (subst (λ n. IsOutcome (rules.step m n to.text) stands taken) g.number_is h) e put (subst (λ n. HasPut written handed mid new (rules.refusal n cause ∷ [])) g.number_is last) in
+          (subst (λ n. IsOutcome (rules.step m n to.text) stands given taken) g.number_is h) e put (subst (λ n. HasPut written handed mid new (rules.refusal n cause ∷ [])) g.number_is last) in
           record {
             put = subst (λ ls. HasPut written handed old new (texts_until rules (closing rules) m from.number ls)) (sym f.1) r.0;
             ends = is ∙ (ap (λ n. endings.Refused n cause) g.number_is ∙ (r.1 ∙ ap (ending_after rules m from.number) (sym f.1)));
@@ -152,35 +150,35 @@ module _ {K : Type 0} (written : K → Option (List ℕ)) (handed : K → Option
         nothing : lines ≡ []
         nothing = none_left from to left left' lines g told
 
-        pub end_in_part : (old new : K) (taken : Taken C) → IsOutcome (rules.close m count) stands taken → HasPutPart written handed old new (texts_taken taken)
+        pub end_in_part : (old new : K) (given : List (List ℕ)) (taken : Option C) → IsOutcome (rules.close m count) stands given taken → HasPutPart written handed old new (texts_taken given taken)
             → HasPutPart written handed old new (texts_until rules (closing rules) m from.number lines)
-        end_in_part old new taken h part =
+        end_in_part old new given taken h part =
             subst (λ ls. HasPutPart written handed old new (texts_until rules (closing rules) m from.number ls)) (sym nothing)
-            (part_at old new (from.number + 1) (rules.close m from.number) taken (λ after. []) (subst (λ n. IsOutcome (rules.close m n) stands taken) (sym same) h) part)
+            (part_at old new (from.number + 1) (rules.close m from.number) given taken (λ after. []) (subst (λ n. IsOutcome (rules.close m n) stands given taken) (sym same) h) part)
 
-        pub end_refused_in_part : (old mid new : K) (taken : Taken C) (cause : C) → IsOutcome (rules.close m count) stands taken → cause_taken taken ≡ Some cause
-            → HasPut written handed old mid (texts_taken taken) → HasPutPart written handed mid new (rules.refusal (count + 1) cause ∷ [])
+        pub end_refused_in_part : (old mid new : K) (given : List (List ℕ)) (taken : Option C) (cause : C) → IsOutcome (rules.close m count) stands given taken → taken ≡ Some cause
+            → HasPut written handed old mid (texts_taken given taken) → HasPutPart written handed mid new (rules.refusal (count + 1) cause ∷ [])
             → HasPutPart written handed old new (texts_until rules (closing rules) m from.number lines)
-        end_refused_in_part old mid new taken cause h e put part =
+        end_refused_in_part old mid new given taken cause h e put part =
             subst (λ ls. HasPutPart written handed old new (texts_until rules (closing rules) m from.number ls)) (sym nothing)
-            (refused_part_at old mid new (from.number + 1) (rules.close m from.number) taken cause (λ after. []) (subst (λ n. IsOutcome (rules.close m n) stands taken) (sym same) h) e put
+            (refused_part_at old mid new (from.number + 1) (rules.close m from.number) given taken cause (λ after. []) (subst (λ n. IsOutcome (rules.close m n) stands given taken) (sym same) h) e put
             (subst (λ n. HasPutPart written handed mid new (rules.refusal (n + 1) cause ∷ [])) (sym same) part))
 
-        pub end_refused : (old mid new : K) (taken : Taken C) (cause : C) (ending : Ending C) → IsOutcome (rules.close m count) stands taken → cause_taken taken ≡ Some cause
-            → HasPut written handed old mid (texts_taken taken) → HasPut written handed mid new (rules.refusal (count + 1) cause ∷ []) → ending ≡ endings.Refused (count + 1) cause
+        pub end_refused : (old mid new : K) (given : List (List ℕ)) (taken : Option C) (cause : C) (ending : Ending C) → IsOutcome (rules.close m count) stands given taken → taken ≡ Some cause
+            → HasPut written handed old mid (texts_taken given taken) → HasPut written handed mid new (rules.refusal (count + 1) cause ∷ []) → ending ≡ endings.Refused (count + 1) cause
             → HasEnded written handed old new rules m from to left left' ending lines
-        end_refused old mid new taken cause ending h e put last is =
-            let r = refused_at old mid new (from.number + 1) (rules.close m from.number) taken cause (λ after. []) (λ after. endings.Whole from.number)
-            (subst (λ n. IsOutcome (rules.close m n) stands taken) (sym same) h) e put (subst (λ n. HasPut written handed mid new (rules.refusal (n + 1) cause ∷ [])) (sym same) last) in
+        end_refused old mid new given taken cause ending h e put last is =
+            let r = refused_at old mid new (from.number + 1) (rules.close m from.number) given taken cause (λ after. []) (λ after. endings.Whole from.number)
+            (subst (λ n. IsOutcome (rules.close m n) stands given taken) (sym same) h) e put (subst (λ n. HasPut written handed mid new (rules.refusal (n + 1) cause ∷ [])) (sym same) last) in
             record {
               put = subst (λ ls. HasPut written handed old new (texts_until rules (closing rules) m from.number ls)) (sym nothing) r.0;
               ends = is ∙ (ap (λ n. endings.Refused (n + 1) cause) (sym same) ∙ (r.1 ∙ ap (ending_after rules m from.number) (sym nothing)));
             }
 
-        pub end_whole : (old new : K) (taken : Taken C) → IsOutcome (rules.close m count) stands taken → cause_taken taken ≡ None → HasPut written handed old new (texts_taken taken)
+        pub end_whole : (old new : K) (given : List (List ℕ)) (taken : Option C) → IsOutcome (rules.close m count) stands given taken → taken ≡ None → HasPut written handed old new (texts_taken given taken)
             → HasEnded written handed old new rules m from to left left' (endings.Whole count) lines
-        end_whole old new taken h e put =
-            let r = closed_at old new (from.number + 1) (rules.close m from.number) taken (endings.Whole from.number) (subst (λ n. IsOutcome (rules.close m n) stands taken) (sym same) h) e put in
+        end_whole old new given taken h e put =
+            let r = closed_at old new (from.number + 1) (rules.close m from.number) given taken (endings.Whole from.number) (subst (λ n. IsOutcome (rules.close m n) stands given taken) (sym same) h) e put in
             record {
               put = subst (λ ls. HasPut written handed old new (texts_until rules (closing rules) m from.number ls)) (sym nothing) r.0;
               ends = ap endings.Whole (sym same) ∙ (r.1 ∙ ap (ending_after rules m from.number) (sym nothing));

@@ -1,12 +1,9 @@
 -- What a program over lines does, and its output for all the lines of an input.
-use Rattle.std.specs.Prelude.{◌≡◌, ℕ, ◌+◌, List, [], ◌∷◌, ◌++◌, map, Option, Some, None}
-use Rattle.std.specs.String.{string_bytes}
+use Rattle.std.specs.Prelude.{◌≡◌, ℕ, ◌+◌, List, [], ◌∷◌, ◌++◌, Option, Some, None}
 use Rattle.ptu_lines.specs.declared.cause.LineCause.{LineCause}
 use Rattle.ptu_lines.specs.Script.{ScriptLine, Whole, Refused}
 use Rattle.ptu_report.specs.declared.ending.Ending.{Ending}
 use Rattle.ptu_report.specs.declared.ending.Ending.TheVariants as endings
-use Rattle.ptu_report.specs.declared.taken.Taken.{Taken}
-use Rattle.ptu_report.specs.declared.taken.Taken.TheVariants as takens
 
 -- what a line does: it is refused for a cause, or there is a new meaning, and texts of output
 pub data Outcome (M C : Type 0) : Type 0 where
@@ -21,12 +18,12 @@ pub record Rules (M C : Type 0) : Type 0 where
   pub refusal : ℕ → C → List ℕ
   pub cause_of : LineCause → C
 
--- what was taken is the outcome, and the new state stands for the new meaning
-abbrev pub IsOutcome : {M C : Type 0} → Outcome M C → (M → Type 0) → Taken C → Type 0
-IsOutcome (Goes m texts) stands (takens.Given given) = stands m × (map string_bytes given.items ≡ texts)
-IsOutcome (Refuses cause) stands (takens.Refused found) = found ≡ cause
-IsOutcome (Goes m texts) stands (takens.Refused found) = ⊥
-IsOutcome (Refuses cause) stands (takens.Given given) = ⊥
+-- these texts, or this cause of a refusal, are the outcome, and the new state stands for the new meaning
+abbrev pub IsOutcome : {M C : Type 0} → Outcome M C → (M → Type 0) → List (List ℕ) → Option C → Type 0
+IsOutcome (Goes m texts) stands given None = stands m × (given ≡ texts)
+IsOutcome (Refuses cause) stands given (Some found) = found ≡ cause
+IsOutcome (Goes m texts) stands given (Some found) = ⊥
+IsOutcome (Refuses cause) stands given None = ⊥
 
 -- the texts of an outcome at the line with this number, and of what comes later
 abbrev pub texts_at : {M C : Type 0} → Rules M C → ℕ → Outcome M C → (M → List (List ℕ)) → List (List ℕ)

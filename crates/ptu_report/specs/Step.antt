@@ -1,24 +1,16 @@
 -- What one line of the input was to a program over lines.
-use Rattle.std.specs.Prelude.{◌≡◌, ℕ, ◌+◌, List, [], ◌∷◌, map, Option, Some, None}
-use Rattle.std.specs.String.{string_bytes}
+use Rattle.std.specs.Prelude.{◌≡◌, ℕ, ◌+◌, List, [], ◌∷◌, Option, Some, None}
 use Rattle.ptu_outside.specs.Handing.{HasPut}
 use Rattle.ptu_lines.specs.Script.{ScriptLine, text_of}
 use Rattle.ptu_lines.specs.Reading.{Reader, Gives, lines_left}
 use Rattle.ptu_report.specs.declared.ending.Ending.{Ending}
 use Rattle.ptu_report.specs.declared.ending.Ending.TheVariants as endings
-use Rattle.ptu_report.specs.declared.taken.Taken.{Taken}
-use Rattle.ptu_report.specs.declared.taken.Taken.TheVariants as takens
 use Rattle.ptu_report.specs.Rules.{Rules, Goes, closing, texts_until, ending_after}
 
--- the texts that were taken
-abbrev pub texts_taken : {C : Type 0} → Taken C → List (List ℕ)
-texts_taken (takens.Given given) = map string_bytes given.items
-texts_taken (takens.Refused cause) = []
-
--- the cause, where it is a refusal
-abbrev pub cause_taken : {C : Type 0} → Taken C → Option C
-cause_taken (takens.Given given) = None
-cause_taken (takens.Refused cause) = Some cause
+-- the texts of a line that is not refused
+abbrev pub texts_taken : {C : Type 0} → List (List ℕ) → Option C → List (List ℕ)
+texts_taken given None = given
+texts_taken given (Some cause) = []
 
 -- it is the whole one
 abbrev pub is_whole : {C : Type 0} → Ending C → Type 0

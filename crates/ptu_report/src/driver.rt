@@ -10,12 +10,12 @@ ghost use Rattle.ptu_lines.specs.Reading.{octets_taken, lines_left, AgreesOnEnd,
 ghost use Rattle.ptu_report.specs.Rules.{closing, texts_of, texts_until};
 ghost use Rattle.ptu_report.specs.Stops.{CountsRead, CountsWrite};
 ghost use Rattle.ptu_report.specs.Reported.{HasReported, HasReportedAllRead};
-ghost use Rattle.ptu_report.specs.Step.{texts_taken, cause_taken, is_whole, HasStepped};
+ghost use Rattle.ptu_report.specs.Step.{texts_taken, is_whole, HasStepped};
 
 use crate::ending::Ending;
 use crate::reporter::Reporter;
 use crate::stop::Stop;
-use crate::taken::Taken;
+use crate::texts::Texts;
 use ptu_lines::{LineReader, LinesFault};
 use ptu_outside::{Sink, Source, write_whole};
 use std::alloc::Global;
@@ -48,30 +48,27 @@ fn put_all<K: Sink>(sink: &mut K, texts: &[String]) -> Result<(), Stop>
     Ok(())
 }
 
-// The texts of a line, or the cause of its refusal, which is not written here.
-fn put_taken<C: Drop, K: Sink>(sink: &mut K, taken: Taken<C>) -> Result<Option<C>, Stop>
-    ensures whole { OnOk result (HasPut K.written K.handed sink.old sink.new (texts_taken taken)) }
-    ensures refused { IfOk result (λ refused. refused ≡ cause_taken taken) }
-    ensures part { OnErr result
-        (HasPutPart K.written K.handed sink.old sink.new (texts_taken taken)) }
+// The texts of a line that is not refused.
+fn put_taken<C, K: Sink>(sink: &mut K, texts: &Texts, refused: &Option<C>) -> Result<(), Stop>
+    ensures whole { OnOk result (HasPut K.written K.handed sink.old sink.new
+        (texts_taken texts.now refused.now)) }
+    ensures part { OnErr result (HasPutPart K.written K.handed sink.old sink.new
+        (texts_taken texts.now refused.now)) }
     ensures cause { IfErr result (λ stop. stop ≡ Stop.Write) }
     ensures counts { CountsWrite result (K.faults sink.old) (K.faults sink.new) }
 {
-    match taken {
-        Taken::Given(texts) => {
-            put_all(sink, &texts)?;
-            Ok(None)
-        }
-        Taken::Refused(cause) => Ok(Some(cause)),
+    match refused {
+        None => put_all(sink, texts.list()),
+        Some(_) => Ok(()),
     }
 }
 
 // Names a line as refused, which ends the output.
 fn refuse<R: Reporter, K: Sink>(
-    alloc: Global,
     sink: &mut K,
     number: u64,
     cause: R::Cause,
+    texts: &mut Texts,
 ) -> Result<Ending<R::Cause>, Stop>
     ensures ending { IfOk result (λ ending. ending ≡ Ending.Refused number cause) }
     ensures whole { OnOk result (HasPut K.written K.handed sink.old sink.new
@@ -81,8 +78,9 @@ fn refuse<R: Reporter, K: Sink>(
     ensures cause { IfErr result (λ stop. stop ≢ Stop.Read) }
     ensures counts { CountsWrite result (K.faults sink.old) (K.faults sink.new) }
 {
-    let text = R::refusal(alloc, number, &cause)?;
-    put(sink, text.as_str())?;
+    texts.clear();
+    R::refuse(number, &cause, texts)?;
+    put_all(sink, texts.list())?;
     Ok(Ending::Refused { number, cause })
 }
 
@@ -94,6 +92,7 @@ fn one_line<R: Reporter, S: Source, K: Sink>(
     lines: u64,
     source: &mut S,
     sink: &mut K,
+    texts: &mut Texts,
 ) -> Result<Option<Ending<R::Cause>>, Stop>
     requires lines { reader.old.number ≡ lines }
     requires few { lines ≤ 67108864 }
@@ -124,22 +123,26 @@ fn one_line<R: Reporter, S: Source, K: Sink>(
 {
     match reader.next(source) {
         Ok(Some(number)) => {
-            let taken = reporter.take(alloc, number, reader.text())?;
-            match put_taken(sink, taken)? {
+            texts.clear();
+            let refused = reporter.take(alloc, number, reader.text(), texts)?;
+            put_taken(sink, texts, &refused)?;
+            match refused {
                 None => Ok(None),
-                Some(cause) => Ok(Some(refuse::<R, K>(alloc, sink, number, cause)?)),
+                Some(cause) => Ok(Some(refuse::<R, K>(sink, number, cause, texts)?)),
             }
         }
         Ok(None) => {
-            let taken = reporter.close(alloc, lines)?;
-            match put_taken(sink, taken)? {
+            texts.clear();
+            let refused = reporter.close(alloc, lines, texts)?;
+            put_taken(sink, texts, &refused)?;
+            match refused {
                 None => Ok(Some(Ending::Whole { lines })),
-                Some(cause) => Ok(Some(refuse::<R, K>(alloc, sink, lines + 1, cause)?)),
+                Some(cause) => Ok(Some(refuse::<R, K>(sink, lines + 1, cause, texts)?)),
             }
         }
         Err(LinesFault::Line { number, cause }) => {
             let cause = R::cause_of(cause);
-            Ok(Some(refuse::<R, K>(alloc, sink, number, cause)?))
+            Ok(Some(refuse::<R, K>(sink, number, cause, texts)?))
         }
         Err(LinesFault::Read) => Err(Stop::Read),
     }
@@ -184,9 +187,19 @@ pub fn report<R: Reporter, S: Source, K: Sink>(
     ensures sink_counts { CountsWrite result (K.faults sink.old) (K.faults sink.new) }
 {
     let mut reader = LineReader::new(alloc)?;
+    let mut texts = Texts::new(alloc);
     let mut lines = 0;
     'lines: loop {
-        if let Some(ending) = one_line(alloc, reporter, &mut reader, lines, source, sink)? {
+        let ended = one_line(
+            alloc,
+            reporter,
+            &mut reader,
+            lines,
+            source,
+            sink,
+            &mut texts,
+        )?;
+        if let Some(ending) = ended {
             return Ok(ending);
         }
         lines += 1;

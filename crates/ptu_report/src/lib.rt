@@ -5,13 +5,13 @@ mod driver;
 mod ending;
 mod reporter;
 mod stop;
-mod taken;
+mod texts;
 
 pub use driver::report;
 pub use ending::Ending;
 pub use reporter::Reporter;
 pub use stop::Stop;
-pub use taken::Taken;
+pub use texts::Texts;
 
 #[cfg(test)]
 mod tests;

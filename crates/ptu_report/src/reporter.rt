@@ -1,10 +1,9 @@
-ghost use Rattle.std.specs.Prelude.{◌≡◌, ◌≤◌, IfOk, length};
+ghost use Rattle.std.specs.Prelude.{◌≡◌, ◌≤◌, ◌∷◌, [], IfOk, OnOk, length};
 ghost use Rattle.std.specs.List.{AllPass};
-ghost use Rattle.std.specs.String.{string_bytes};
 ghost use Rattle.ptu_lines.specs.Script.{is_plain};
 ghost use Rattle.ptu_report.specs.Rules.{Rules, IsOutcome};
 
-use crate::taken::Taken;
+use crate::texts::Texts;
 use ptu_lines::LineCause;
 use ptu_units::OutOfMemory;
 use std::alloc::Global;
@@ -24,29 +23,40 @@ pub trait Reporter {
     /// The state has this meaning. It may have several.
     ghost stands_for: { Self → Self.Meaning → Type 0 };
 
-    /// Takes the line with this number, from 1.
+    /// Takes the line with this number, from 1: adds its texts, or answers the cause of its
+    /// refusal.
     fn take(
         &mut self,
         alloc: Global,
         number: u64,
         line: &[u8],
-    ) -> Result<Taken<Self::Cause>, OutOfMemory>
+        texts: &mut Texts,
+    ) -> Result<Option<Self::Cause>, OutOfMemory>
         requires first { 1 ≤ number }
         requires last { number ≤ 67108864 }
         requires short { length line.now ≤ 8192 }
         requires plain { AllPass is_plain line.now }
-        ensures { IfOk result (λ taken. (meaning : Self.Meaning) → stands_for self.old meaning
-            → IsOutcome (rules.step meaning number line.now) (stands_for self.new) taken) };
+        requires empty { texts.old ≡ [] }
+        ensures { IfOk result (λ refused. (meaning : Self.Meaning) → stands_for self.old meaning
+            → IsOutcome (rules.step meaning number line.now) (stands_for self.new) texts.new
+            refused) };
 
     /// Ends the output, after so many lines.
-    fn close(&mut self, alloc: Global, lines: u64) -> Result<Taken<Self::Cause>, OutOfMemory>
-        requires { lines ≤ 67108864 }
-        ensures { IfOk result (λ taken. (meaning : Self.Meaning) → stands_for self.old meaning
-            → IsOutcome (rules.close meaning lines) (stands_for self.new) taken) };
+    fn close(
+        &mut self,
+        alloc: Global,
+        lines: u64,
+        texts: &mut Texts,
+    ) -> Result<Option<Self::Cause>, OutOfMemory>
+        requires last { lines ≤ 67108864 }
+        requires empty { texts.old ≡ [] }
+        ensures { IfOk result (λ refused. (meaning : Self.Meaning) → stands_for self.old meaning
+            → IsOutcome (rules.close meaning lines) (stands_for self.new) texts.new refused) };
 
-    /// The text that names the line with this number as refused.
-    fn refusal(alloc: Global, number: u64, cause: &Self::Cause) -> Result<String, OutOfMemory>
-        ensures { IfOk result (λ text. string_bytes text ≡ rules.refusal number cause.now) };
+    /// Adds the text that names the line with this number as refused.
+    fn refuse(number: u64, cause: &Self::Cause, texts: &mut Texts) -> Result<(), OutOfMemory>
+        requires { texts.old ≡ [] }
+        ensures { OnOk result (texts.new ≡ rules.refusal number cause.now ∷ []) };
 
     /// The cause of a line that the reader of lines refuses.
     fn cause_of(cause: LineCause) -> Self::Cause

@@ -1,6 +1,5 @@
-ghost use Rattle.std.specs.Prelude.{◌≡◌, ◌++◌, ◌∷◌, [], IfOk, codes, length, nat_lt, if◌then◌else◌};
+ghost use Rattle.std.specs.Prelude.{◌++◌, ◌∷◌, [], Some, codes, length, nat_lt, if◌then◌else◌};
 ghost use Rattle.std.specs.Fmt.{decimal};
-ghost use Rattle.std.specs.String.{string_bytes};
 ghost use Rattle.ptu_lines.specs.declared.cause.LineCause.TheVariants.{Word};
 ghost use Rattle.ptu_report.specs.Rules.{Rules, Goes, Refuses};
 
@@ -8,28 +7,29 @@ use super::*;
 use ptu_lines::LineCause;
 use ptu_outside::{MemSink, MemSource};
 use ptu_units::OutOfMemory;
-use std::alloc::{AllocError, Global};
+use std::alloc::Global;
+use std::fmt;
 use std::test::Fail;
 
 // The number of each line, and a closing line; a line of three octets or more is refused.
 #[derive(Drop)]
 struct Short;
 
-// The number, and then this text.
-fn numbered(alloc: Global, number: u64, text: &str) -> Result<String, AllocError>
-    ensures { IfOk result (λ line. string_bytes line ≡ decimal number ++ text.now) }
-{
-    let mut line = number.to_string(alloc)?;
-    line.push_str(text)?;
-    Ok(line)
+// A number, and then this text.
+#[derive(Clone, Copy)]
+struct Numbered {
+    number: u64,
+    text: &'static str,
 }
 
-fn alone(alloc: Global, text: String) -> Result<Vec<String>, AllocError>
-    ensures { IfOk result (λ texts. texts.items ≡ text ∷ []) }
-{
-    let mut texts = Vec::new(alloc);
-    texts.push(text)?;
-    Ok(texts)
+impl fmt::Display for Numbered {
+    ghost output = { λ n. Some (decimal n.number ++ n.text.now) };
+
+    fn fmt<W: fmt::Write>(&self, f: &mut fmt::Formatter<W>) -> fmt::Result {
+        let number = self.number;
+        let text = self.text;
+        write!(f, "{number}{text}")
+    }
 }
 
 impl Reporter for Short {
@@ -50,26 +50,36 @@ impl Reporter for Short {
 
     fn take(
         &mut self,
-        alloc: Global,
+        _: Global,
         number: u64,
         line: &[u8],
-    ) -> Result<Taken<LineCause>, OutOfMemory> {
-        if line.len() < 3 {
-            let text = numbered(alloc, number, "\n")?;
-            Ok(Taken::Given(alone(alloc, text)?))
-        } else {
-            Ok(Taken::Refused(LineCause::Word))
+        texts: &mut Texts,
+    ) -> Result<Option<LineCause>, OutOfMemory> {
+        if line.len() >= 3 {
+            return Ok(Some(LineCause::Word));
         }
+        let text = "\n";
+        texts.add(&Numbered { number, text })?;
+        Ok(None)
     }
 
-    fn close(&mut self, alloc: Global, lines: u64) -> Result<Taken<LineCause>, OutOfMemory> {
-        let text = numbered(alloc, lines, " in all\n")?;
-        Ok(Taken::Given(alone(alloc, text)?))
+    fn close(
+        &mut self,
+        _: Global,
+        lines: u64,
+        texts: &mut Texts,
+    ) -> Result<Option<LineCause>, OutOfMemory> {
+        let text = " in all\n";
+        texts.add(&Numbered {
+            number: lines,
+            text,
+        })?;
+        Ok(None)
     }
 
-    fn refusal(alloc: Global, number: u64, _: &LineCause) -> Result<String, OutOfMemory> {
-        let text = numbered(alloc, number, " bad\n")?;
-        Ok(text)
+    fn refuse(number: u64, _: &LineCause, texts: &mut Texts) -> Result<(), OutOfMemory> {
+        let text = " bad\n";
+        texts.add(&Numbered { number, text })
     }
 
     fn cause_of(cause: LineCause) -> LineCause {

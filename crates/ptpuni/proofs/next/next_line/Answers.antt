@@ -1,4 +1,4 @@
-use Rattle.ptpuni.proofs.Takings.{gives, leaves, takes}
+use Rattle.ptpuni.proofs.Takings.{gives, leaves}
 use Rattle.ptpuni.proofs.next.next_line.Goals as goal
 
 pub returns-in-Some-clause-gives : goal.returns-in-Some-clause-gives

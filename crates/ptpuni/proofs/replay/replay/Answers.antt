@@ -1,10 +1,8 @@
-use Rattle.std.proofs.Common.{◌≡◌, ◌∙◌, sym, ap, subst, arith, length, refl, rules, ℕ, ◌≤◌, List, Some}
-use Rattle.std.specs.Prelude.{IsErrOf, OnOk}
-use Rattle.std.specs.Io.KnownBytes.{prepend_known}
+use Rattle.std.proofs.Common.{◌≡◌, ◌∙◌, sym, ap, subst, arith, length, refl}
 use Rattle.std.specs.Option.{option_map}
 use Rattle.std.proofs.lemmas.Result.{err_from_is_err_and, IfOk-weaker, on_err_weaker}
 use Rattle.ptu_lines.specs.Script.{script_lines}
-use Rattle.ptu_outside.specs.Handing.{HasPut, HasPutPart}
+use Rattle.ptu_outside.specs.Handing.{HasPutPart}
 use Rattle.ptu_outside.proofs.Handing.{HasPutPart-none}
 use Rattle.ptu_lines.specs.Reading.{lines_left, octets_taken}
 use Rattle.ptu_lines.proofs.Giving.{fresh_lines}
@@ -12,9 +10,8 @@ use Rattle.ptpuni.specs.Ending.{is_whole_ending}
 use Rattle.ptpuni.specs.Outcome.{texts_of}
 use Rattle.ptpuni.specs.Report.{BadForm, End, text_of}
 use Rattle.ptpuni.specs.Replay.{report}
-use Rattle.ptpuni.specs.declared.stop.Stop.TheVariants as stops
-use Rattle.ptpuni.specs.Written.{HasReported, HasWrittenAllMore, HasWrittenAllRead}
-use Rattle.ptpuni.proofs.Takings.{Takes-then, all_taken, on_any}
+use Rattle.ptpuni.specs.Written.{HasReported, HasWrittenAllMore}
+use Rattle.ptpuni.proofs.Takings.{Takes-then, all_taken}
 use Rattle.ptpuni.proofs.Whole.{all_from_first, empty, none_read, one_line, one_part, refused, set_up}
 use Rattle.ptpuni.proofs.replay.replay.Goals as goal
 

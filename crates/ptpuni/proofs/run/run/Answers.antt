@@ -1,34 +1,41 @@
-use Rattle.std.proofs.Common.{refl}
-use Rattle.ptu_outside.proofs.Handing.{HasPutPart-whole}
-use Rattle.ptpuni.proofs.Replayed.{whole, refused}
+use Rattle.std.proofs.Common.{◌≡◌, ◌∙◌, List, ℕ, Some, None, map, sym, subst}
+use Rattle.ptu_outside.proofs.Handing.{HasPutPart-none}
+use Rattle.ptu_words.specs.declared.command.Command.{Command}
+use Rattle.ptu_words.specs.CommandLine.{IsRefused, command_of}
+use Rattle.ptu_words.proofs.Matching.{refused, unnamed}
+use Rattle.ptpuni.specs.Run.{HasRun}
 use Rattle.ptpuni.proofs.run.run.Goals as goal
 
-pub returns-in-Ok-Whole-clause-report : goal.returns-in-Ok-Whole-clause-report
-returns-in-Ok-Whole-clause-report g c = λ script told _ _ _ _.
-    let e = rw c.in-Ok-Whole.field-0-is at c.in-Ok-Whole.ensures in
-    whole g.K.Sink.written g.K.Sink.handed _ _ script _ (e.whole script told) (e.end refl)
+-- words that ask for a command are not refused, and ask for no other
+not_refused : (words : List (List ℕ)) (command : Command) → Some command ≡ command_of words → IsRefused words → ⊥
+not_refused words command e h = let never : Some command ≡ None = e ∙ refused words h in absurd (cc)
 
-pub returns-in-Ok-Whole-clause-answered : goal.returns-in-Ok-Whole-clause-answered
-returns-in-Ok-Whole-clause-answered g c = λ _ script told.
-    let e = rw c.in-Ok-Whole.field-0-is at c.in-Ok-Whole.ensures in
-    whole g.K.Sink.written g.K.Sink.handed _ _ script _ (e.whole script told) (e.end refl)
+one_command : (words : List (List ℕ)) (found command : Command) → Some found ≡ command_of words → command_of words ≡ Some command → found ≡ command
+one_command words found command e h = let same : Some found ≡ Some command = e ∙ h in cc
 
-pub returns-in-Ok-Whole-clause-front : goal.returns-in-Ok-Whole-clause-front
-returns-in-Ok-Whole-clause-front g c = λ script told _.
-    let e = rw c.in-Ok-Whole.field-0-is at c.in-Ok-Whole.ensures in
-    HasPutPart-whole g.K.Sink.written g.K.Sink.handed _ _ _ (e.whole script told).put
+pub returns-in-Ok-Some-clause-refused : goal.returns-in-Ok-Some-clause-refused
+returns-in-Ok-Some-clause-refused g c = λ h.
+    absurd (not_refused (map (λ w. w.now) c.args.words.now) c.in-Ok-Some.command (sym c.in-Ok-Some.field-0-is ∙ c.in-Ok-Some.ensures) h)
 
-pub returns-in-Ok-Refused-clause-report : goal.returns-in-Ok-Refused-clause-report
-returns-in-Ok-Refused-clause-report g c = λ script told _ _ _ _.
-    let e = rw c.in-Ok-Refused.field-0-is at c.in-Ok-Refused.ensures in
-    refused g.K.Sink.written g.K.Sink.handed _ _ script _ (e.whole script told)
+pub returns-in-Ok-Some-clause-untouched : goal.returns-in-Ok-Some-clause-untouched
+returns-in-Ok-Some-clause-untouched g c = λ h.
+    absurd (not_refused (map (λ w. w.now) c.args.words.now) c.in-Ok-Some.command (sym c.in-Ok-Some.field-0-is ∙ c.in-Ok-Some.ensures) h)
 
-pub returns-in-Ok-Refused-clause-answered : goal.returns-in-Ok-Refused-clause-answered
-returns-in-Ok-Refused-clause-answered g c = λ _ script told.
-    let e = rw c.in-Ok-Refused.field-0-is at c.in-Ok-Refused.ensures in
-    refused g.K.Sink.written g.K.Sink.handed _ _ script _ (e.whole script told)
+pub returns-in-Ok-Some-clause-output : goal.returns-in-Ok-Some-clause-output
+returns-in-Ok-Some-clause-output g c = λ command is input told still_source still_sink memory.
+    subst (λ k. HasRun g.K.Sink.written g.K.Sink.handed c.args.sink.now c.run_command.new.sink k input (g.S.Source.left c.run_command.new.source) c.run_command.result)
+    (one_command (map (λ w. w.now) c.args.words.now) c.in-Ok-Some.command command (sym c.in-Ok-Some.field-0-is ∙ c.in-Ok-Some.ensures) is)
+    (c.run_command.ensures.output input told still_source still_sink memory)
 
-pub returns-in-Ok-Refused-clause-front : goal.returns-in-Ok-Refused-clause-front
-returns-in-Ok-Refused-clause-front g c = λ script told _.
-    let e = rw c.in-Ok-Refused.field-0-is at c.in-Ok-Refused.ensures in
-    HasPutPart-whole g.K.Sink.written g.K.Sink.handed _ _ _ (e.whole script told).put
+pub returns-in-Ok-Some-clause-answered : goal.returns-in-Ok-Some-clause-answered
+returns-in-Ok-Some-clause-answered g c = λ ended command is input told.
+    subst (λ k. HasRun g.K.Sink.written g.K.Sink.handed c.args.sink.now c.run_command.new.sink k input (g.S.Source.left c.run_command.new.source) c.run_command.result)
+    (one_command (map (λ w. w.now) c.args.words.now) c.in-Ok-Some.command command (sym c.in-Ok-Some.field-0-is ∙ c.in-Ok-Some.ensures) is)
+    (c.run_command.ensures.answered ended input told)
+
+pub returns-in-Ok-None-clause-usage : goal.returns-in-Ok-None-clause-usage
+returns-in-Ok-None-clause-usage g c = λ _.
+    unnamed (map (λ w. w.now) c.args.words.now) (sym (sym c.in-Ok-None.field-0-is ∙ c.in-Ok-None.ensures))
+
+pub returns-in-Err-clause-front : goal.returns-in-Err-clause-front
+returns-in-Err-clause-front g c = λ command is input told. HasPutPart-none g.K.Sink.written g.K.Sink.handed c.args.sink.now _

@@ -1,4 +1,4 @@
-use Rattle.std.proofs.Common.{◌≡◌, ◌∙◌, ◌+◌, ◌<◌, ◌≤◌, ◌++◌, ℕ, List, suc, length, map, take, drop, get_or, refl, sym, ap, subst, add-one, [], ◌∷◌, arith}
+use Rattle.std.proofs.Common.{◌≡◌, ◌∙◌, ◌+◌, ◌<◌, ◌++◌, ℕ, List, suc, length, map, take, drop, get_or, refl, sym, ap, subst, add-one, [], ◌∷◌, arith}
 use Rattle.std.specs.String.{string_bytes}
 use Rattle.std.proofs.Math.Seq.{take-suc, drop-cons}
 use Rattle.std.proofs.lemmas.List.{map-append, take_all, take-append-drop}

@@ -1,4 +1,4 @@
-use Rattle.std.proofs.Common.{◌≡◌, ◌∙◌, Bool, true, false, Err, refl, sym, ap, subst, [], ◌++◌, arith}
+use Rattle.std.proofs.Common.{◌≡◌, ◌∙◌, true, false, Err, refl, sym, ap, subst, [], ◌++◌, arith}
 use Rattle.std.proofs.lemmas.Result.{err_from_is_err_and}
 use Rattle.ptu_outside.proofs.Handing.{HasPutPart-none}
 use Rattle.ptu_lines.proofs.Giving.{Gives-append, Gives-none}
@@ -28,7 +28,7 @@ lines-init g c =
 
 pub lines-preserved : goal.lines-preserved
 lines-preserved g c =
-    let one = c.in_ok-ending.ensures in
+    let one = c.in_ok-ended.ensures in
     let number = rw c.in_default.is at one.number in
     record {
       number = number;
@@ -44,33 +44,33 @@ lines-preserved g c =
           (rw c.in_default.is at (one.stepped p.after p.stands_now));
     }
 
-pub returns-in_err-ending-clause-part : goal.returns-in_err-ending-clause-part
-returns-in_err-ending-clause-part g c =
-    let e = err_from_is_err_and c.from_residual-in_err-ending.result c.from_residual-in_err-ending.ensures.1 in
+pub returns-in_err-ended-clause-part : goal.returns-in_err-ended-clause-part
+returns-in_err-ended-clause-part g c =
+    let e = err_from_is_err_and c.from_residual-in_err-ended.result c.from_residual-in_err-ended.ensures.1 in
     rw e.1 (λ m st input told.
     let p = c.lines.invariant.progress m st in
-    in_part g.K.Sink.written g.K.Sink.handed g.R.Reporter.rules (g.R.Reporter.stands_for c.lines.reporter) m c.in_ok-reader.reader c.lines.reader (g.S.Source.left c.args.source.now) (g.S.Source.left c.lines.source) c.args.sink.now c.lines.sink c.in_ok-reader.ensures p input told c.one_line.new.sink (c.in_err-ending.ensures.part p.after p.stands_now))
+    in_part g.K.Sink.written g.K.Sink.handed g.R.Reporter.rules (g.R.Reporter.stands_for c.lines.reporter) m c.in_ok-reader.reader c.lines.reader (g.S.Source.left c.args.source.now) (g.S.Source.left c.lines.source) c.args.sink.now c.lines.sink c.in_ok-reader.ensures p input told c.one_line.new.sink (c.in_err-ended.ensures.part p.after p.stands_now))
 
-pub returns-in_err-ending-clause-all_read : goal.returns-in_err-ending-clause-all_read
-returns-in_err-ending-clause-all_read g c = λ h m st.
-    let e = err_from_is_err_and c.from_residual-in_err-ending.result c.from_residual-in_err-ending.ensures.1 in
+pub returns-in_err-ended-clause-all_read : goal.returns-in_err-ended-clause-all_read
+returns-in_err-ended-clause-all_read g c = λ h m st.
+    let e = err_from_is_err_and c.from_residual-in_err-ended.result c.from_residual-in_err-ended.ensures.1 in
     let failed = rw (e.1, e.2) at h in
-    let read : c.in_err-ending.field-0.0 ≡ Read = cc failed in
+    let read : c.in_err-ended.field-0.0 ≡ Read = cc failed in
     let p = c.lines.invariant.progress m st in
-    subst (λ k. HasReportedAllRead g.K.Sink.written g.K.Sink.handed c.args.sink.now k g.R.Reporter.rules m (g.S.Source.left c.args.source.now) (g.S.Source.left c.one_line.new.source)) (sym (c.in_err-ending.ensures.nothing (ap (λ s. Err s) read)))
-    (all_read g.K.Sink.written g.K.Sink.handed g.R.Reporter.rules (g.R.Reporter.stands_for c.lines.reporter) m c.in_ok-reader.reader c.lines.reader (g.S.Source.left c.args.source.now) (g.S.Source.left c.lines.source) c.args.sink.now c.lines.sink c.in_ok-reader.ensures p c.one_line.new.reader (g.S.Source.left c.one_line.new.source) (c.in_err-ending.ensures.stopped (ap (λ s. Err s) read)))
+    subst (λ k. HasReportedAllRead g.K.Sink.written g.K.Sink.handed c.args.sink.now k g.R.Reporter.rules m (g.S.Source.left c.args.source.now) (g.S.Source.left c.one_line.new.source)) (sym (c.in_err-ended.ensures.nothing (ap (λ s. Err s) read)))
+    (all_read g.K.Sink.written g.K.Sink.handed g.R.Reporter.rules (g.R.Reporter.stands_for c.lines.reporter) m c.in_ok-reader.reader c.lines.reader (g.S.Source.left c.args.source.now) (g.S.Source.left c.lines.source) c.args.sink.now c.lines.sink c.in_ok-reader.ensures p c.one_line.new.reader (g.S.Source.left c.one_line.new.source) (c.in_err-ended.ensures.stopped (ap (λ s. Err s) read)))
 
-pub returns-in_err-ending-clause-taken : goal.returns-in_err-ending-clause-taken
-returns-in_err-ending-clause-taken g c =
-    few_taken c.in_ok-reader.reader c.one_line.new.reader (g.S.Source.left c.args.source.now) (g.S.Source.left c.one_line.new.source) (c.lines.invariant.gives.0 ++ c.in_err-ending.ensures.gives.0) c.in_ok-reader.ensures
-    (Gives-append c.in_ok-reader.reader c.lines.reader c.one_line.new.reader (g.S.Source.left c.args.source.now) (g.S.Source.left c.lines.source) (g.S.Source.left c.one_line.new.source) c.lines.invariant.gives.0 c.in_err-ending.ensures.gives.0 c.lines.invariant.gives.1 c.in_err-ending.ensures.gives.1) c.in_err-ending.ensures.bounded
+pub returns-in_err-ended-clause-taken : goal.returns-in_err-ended-clause-taken
+returns-in_err-ended-clause-taken g c =
+    few_taken c.in_ok-reader.reader c.one_line.new.reader (g.S.Source.left c.args.source.now) (g.S.Source.left c.one_line.new.source) (c.lines.invariant.gives.0 ++ c.in_err-ended.ensures.gives.0) c.in_ok-reader.ensures
+    (Gives-append c.in_ok-reader.reader c.lines.reader c.one_line.new.reader (g.S.Source.left c.args.source.now) (g.S.Source.left c.lines.source) (g.S.Source.left c.one_line.new.source) c.lines.invariant.gives.0 c.in_err-ended.ensures.gives.0 c.lines.invariant.gives.1 c.in_err-ended.ensures.gives.1) c.in_err-ended.ensures.bounded
 
 pub returns-in-Some-clause-whole : goal.returns-in-Some-clause-whole
 returns-in-Some-clause-whole g c = λ m st input told.
     let p = c.lines.invariant.progress m st in
-    ended g.K.Sink.written g.K.Sink.handed g.R.Reporter.rules (g.R.Reporter.stands_for c.lines.reporter) m c.in_ok-reader.reader c.lines.reader (g.S.Source.left c.args.source.now) (g.S.Source.left c.lines.source) c.args.sink.now c.lines.sink c.in_ok-reader.ensures p input told c.one_line.new.reader (g.S.Source.left c.one_line.new.source) c.one_line.new.sink c.in-Some.ending (rw c.in-Some.is at (c.in_ok-ending.ensures.stepped p.after p.stands_now))
+    ended g.K.Sink.written g.K.Sink.handed g.R.Reporter.rules (g.R.Reporter.stands_for c.lines.reporter) m c.in_ok-reader.reader c.lines.reader (g.S.Source.left c.args.source.now) (g.S.Source.left c.lines.source) c.args.sink.now c.lines.sink c.in_ok-reader.ensures p input told c.one_line.new.reader (g.S.Source.left c.one_line.new.source) c.one_line.new.sink c.in-Some.ending (rw c.in-Some.is at (c.in_ok-ended.ensures.stepped p.after p.stands_now))
 
 pub returns-in-Some-clause-taken : goal.returns-in-Some-clause-taken
 returns-in-Some-clause-taken g c =
-    few_taken c.in_ok-reader.reader c.one_line.new.reader (g.S.Source.left c.args.source.now) (g.S.Source.left c.one_line.new.source) (c.lines.invariant.gives.0 ++ c.in_ok-ending.ensures.gives.0) c.in_ok-reader.ensures
-    (Gives-append c.in_ok-reader.reader c.lines.reader c.one_line.new.reader (g.S.Source.left c.args.source.now) (g.S.Source.left c.lines.source) (g.S.Source.left c.one_line.new.source) c.lines.invariant.gives.0 c.in_ok-ending.ensures.gives.0 c.lines.invariant.gives.1 c.in_ok-ending.ensures.gives.1) c.in_ok-ending.ensures.bounded
+    few_taken c.in_ok-reader.reader c.one_line.new.reader (g.S.Source.left c.args.source.now) (g.S.Source.left c.one_line.new.source) (c.lines.invariant.gives.0 ++ c.in_ok-ended.ensures.gives.0) c.in_ok-reader.ensures
+    (Gives-append c.in_ok-reader.reader c.lines.reader c.one_line.new.reader (g.S.Source.left c.args.source.now) (g.S.Source.left c.lines.source) (g.S.Source.left c.one_line.new.source) c.lines.invariant.gives.0 c.in_ok-ended.ensures.gives.0 c.lines.invariant.gives.1 c.in_ok-ended.ensures.gives.1) c.in_ok-ended.ensures.bounded

@@ -1,0 +1,11 @@
+pub mod Sums
+pub mod Grants
+pub mod Lending
+pub mod StepMoments
+pub mod RowKeys
+pub mod Leasing
+pub mod Verdicts
+pub mod Sendings
+pub mod Newer
+pub mod ShedOrder
+pub mod ShedLoop

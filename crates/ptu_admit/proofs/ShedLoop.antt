@@ -1,0 +1,153 @@
+-- Grants that are shed one by one.
+use Rattle.std.proofs.Common.{◌≡◌, ◌∙◌, ℕ, zero, suc, ◌+◌, ◌<◌, ◌≤◌, ◌++◌, List, [], ◌∷◌, length, ltb, map, append_assoc, append-nil, refl, sym, ap, subst, arith, Some, None}
+use Rattle.std.specs.List.{Contains, filter, fold}
+use Rattle.std.proofs.lemmas.Bool.{ltb-true}
+use Rattle.std.proofs.lemmas.List.{map-append}
+use Rattle.std.proofs.lemmas.List.Sorted.{length_permutation}
+use Rattle.ptu_history.specs.Live.{Grant, live_grants}
+use Rattle.ptu_history.specs.History.{Record, Capacity, Shed, capacity_in_force}
+use Rattle.ptu_history.specs.Order.{in_order}
+use Rattle.ptu_history.specs.Shedding.{shed_cmp, shed_grants, shed_order, shed_prefix, shed_record}
+use Rattle.ptu_history.proofs.AfterSteps.{capacity_in_force-sheds}
+use Rattle.ptu_history.proofs.Capacities.{capacity_in_force-append}
+use Rattle.ptu_history.proofs.Currents.{standing-undecided}
+use Rattle.ptu_history.proofs.Unique.{Contains-from_filter}
+use Rattle.ptu_shard.specs.declared.lease.Row.{Row}
+use Rattle.ptu_shard.specs.Table.{Kept, StandsAt}
+use Rattle.ptu_shard.proofs.RowLists.{same_permuted}
+use Rattle.ptu_shard.proofs.Standing.{stands_elsewhere}
+use Rattle.ptu_admit.specs.Book.{KeptBook}
+use Rattle.ptu_admit.specs.declared.newest.Found.{Found}
+use Rattle.ptu_admit.specs.declared.shed_list.Shed.{Shed as Answer}
+use Rattle.ptu_admit.specs.Lent.{EachStandsAt, four, shares}
+use Rattle.ptu_admit.specs.Newest.{IsThinned, all_found, newer, rows_in, shed_at}
+use Rattle.ptu_admit.specs.Shed.{shed_of}
+use Rattle.ptu_admit.specs.Rows.{live_rows}
+use Rattle.ptu_admit.specs.Tables.{IsSwept}
+use Rattle.ptu_admit.proofs.RowKeys.{length-filter-le}
+use Rattle.ptu_admit.proofs.ShedOrder.{AllLive, shed_next, shed_no_more}
+use Rattle.ptu_admit.proofs.Verdicts.{FourDistinct}
+
+-- what was shed so far, and what is still to be shed, is all that is shed
+pub record SoFar {P : Type 0} (at capacity : ℕ) (a b c d a' b' c' d' : Kept P) (book book' : KeptBook) (list : List Answer) (len room : ℕ) : Type 0 where
+  pub t0 : IsThinned a a'
+  pub t1 : IsThinned b b'
+  pub t2 : IsThinned c c'
+  pub t3 : IsThinned d d'
+  pub book_is : book' ≡ record book { total = shares (four a' b' c' d') }
+  pub enough : len + rows_in (four a' b' c' d') ≤ room
+  pub stands : (history : List Record) → EachStandsAt at (four a b c d) history → EachStandsAt at (four a' b' c' d') (history ++ map (shed_at at) list)
+  pub shed : (history : List Record) → EachStandsAt at (four a b c d) history →
+      map shed_of (shed_prefix capacity (shed_order history at)) ≡ list ++ map shed_of (shed_prefix capacity (shed_order (history ++ map (shed_at at) list) at))
+
+thinned_more : {P : Type 0} (a b c : Kept P) → IsThinned a b → IsThinned b c → IsThinned a c
+thinned_more a b c s t = record {
+  members = λ row h. s.members row (t.members row h);
+  moment = t.moment ∙ s.moment;
+  keeps = record { port = t.keeps.port ∙ s.keeps.port; spare = let x = s.keeps.spare in let y = t.keeps.spare in omega arith };
+}
+
+module _ {P : Type 0} (n capacity : ℕ) (a b c d a' b' c' d' a'' b'' c'' d'' : Kept P) (book book' book'' : KeptBook) (list : List Answer) (len room room' : ℕ) (f : Found)
+    (s : SoFar n capacity a b c d a' b' c' d' book book' list len room) where
+  still_live : AllLive n a b c d → AllLive n a' b' c' d'
+  still_live lasts zero row lt h = lasts 0 row lt (s.t0.members row h)
+  still_live lasts (suc zero) row lt h = lasts 1 row lt (s.t1.members row h)
+  still_live lasts (suc (suc zero)) row lt h = lasts 2 row lt (s.t2.members row h)
+  still_live lasts (suc (suc (suc zero))) row lt h = lasts 3 row lt (s.t3.members row h)
+  still_live lasts (suc (suc (suc (suc j)))) row lt h = absurd (omega arith)
+
+  abbrev answer : Answer
+  answer = record { client = f.row.client; kind = f.row.kind; log = f.row.lease.log }
+
+  abbrev more : List Answer
+  more = list ++ answer ∷ []
+
+  history_more : (h : List Record) → (h ++ map (shed_at n) list) ++ Shed n f.row.client f.row.kind ∷ [] ≡ h ++ map (shed_at n) more
+  history_more h = append_assoc h (map (shed_at n) list) (shed_at n answer ∷ []) ∙ ap (λ rs. h ++ rs) (sym (map-append (shed_at n) list (answer ∷ [])))
+
+  pub one_shed : AllLive n a b c d → (a.moment ≡ n) × (b.moment ≡ n) × (c.moment ≡ n) × (d.moment ≡ n) →
+      fold newer None (all_found (four a' b' c' d')) ≡ Some f → FourDistinct a' b' c' d' → capacity < shares (four a' b' c' d') →
+      IsThinned a' a'' → IsThinned b' b'' → IsThinned c' c'' → IsThinned d' d'' →
+      rows_in (four a'' b'' c'' d'') + 1 ≤ rows_in (four a' b' c' d') → book'' ≡ record book' { total = shares (four a'' b'' c'' d'') } → room ≤ room' →
+      ((b m : ℕ) (h : List Record) → EachStandsAt b (four a' b' c' d') h → m ≤ a'.moment → m ≤ b'.moment → m ≤ c'.moment → m ≤ d'.moment →
+      EachStandsAt b (four a'' b'' c'' d'') (h ++ Shed m f.row.client f.row.kind ∷ [])) →
+      SoFar n capacity a b c d a'' b'' c'' d'' book book'' more (len + 1) room'
+  one_shed lasts reached newest distinct above t0 t1 t2 t3 fewer book_is room_more stands = record {
+    t0 = thinned_more a a' a'' s.t0 t0;
+    t1 = thinned_more b b' b'' s.t1 t1;
+    t2 = thinned_more c c' c'' s.t2 t2;
+    t3 = thinned_more d d' d'' s.t3 t3;
+    book_is = book_is ∙ ap (λ (k : KeptBook). record k { total = shares (four a'' b'' c'' d'') }) s.book_is;
+    enough = let le = s.enough in omega arith;
+    stands = λ h st.
+        subst (λ h'. EachStandsAt n (four a'' b'' c'' d'') h') (history_more h)
+        (stands n n (h ++ map (shed_at n) list) (s.stands h st)
+        (let e : a'.moment ≡ n = s.t0.moment ∙ reached.0 in omega arith)
+        (let e : b'.moment ≡ n = s.t1.moment ∙ reached.1 in omega arith)
+        (let e : c'.moment ≡ n = s.t2.moment ∙ reached.2 in omega arith)
+        (let e : d'.moment ≡ n = s.t3.moment ∙ reached.3 in omega arith));
+    shed = λ h st.
+        s.shed h st
+        ∙ ap (λ gs. list ++ map shed_of gs) (shed_next n capacity a' b' c' d' (h ++ map (shed_at n) list) f (s.stands h st) distinct (still_live lasts) newest above)
+        ∙ sym (append_assoc list (answer ∷ []) (map shed_of (shed_prefix capacity (shed_order ((h ++ map (shed_at n) list) ++ Shed n f.row.client f.row.kind ∷ []) n))))
+        ∙ ap (λ h'. more ++ map shed_of (shed_prefix capacity (shed_order h' n))) (history_more h);
+  }
+
+-- at the end all is shed
+pub all_shed : {P : Type 0} (n capacity : ℕ) (a b c d a' b' c' d' : Kept P) (book book' : KeptBook) (list : List Answer) (len room : ℕ) → SoFar n capacity a b c d a' b' c' d' book book' list len room →
+    shares (four a' b' c' d') ≤ capacity → (h : List Record) → EachStandsAt n (four a b c d) h → list ≡ map shed_of (shed_prefix capacity (shed_order h n))
+all_shed n capacity a b c d a' b' c' d' book book' list len room s le h st =
+    sym (s.shed h st ∙ ap (λ gs. list ++ map shed_of gs) (shed_no_more n capacity a' b' c' d' (h ++ map (shed_at n) list) (s.stands h st) le) ∙ append-nil list)
+
+swept_live : {P : Type 0} (n : ℕ) (old new : Kept P) → IsSwept n old new → (row : Row) → Contains new.rows row → n < row.lease.until
+swept_live n old new swept row h =
+    ltb-true n row.lease.until (Contains-from_filter (λ (row : Row). ltb n row.lease.until) old.rows row ((same_permuted (live_rows n old.rows) new.rows swept.rows).from row h)).1
+
+-- after a sweep all rows are live
+pub all_live : {P : Type 0} (n : ℕ) (a b c d a' b' c' d' : Kept P) → IsSwept n a a' → IsSwept n b b' → IsSwept n c c' → IsSwept n d d' → AllLive n a' b' c' d'
+all_live n a b c d a' b' c' d' sa sb sc sd zero row lt h = swept_live n a a' sa row h
+all_live n a b c d a' b' c' d' sa sb sc sd (suc zero) row lt h = swept_live n b b' sb row h
+all_live n a b c d a' b' c' d' sa sb sc sd (suc (suc zero)) row lt h = swept_live n c c' sc row h
+all_live n a b c d a' b' c' d' sa sb sc sd (suc (suc (suc zero))) row lt h = swept_live n d d' sd row h
+all_live n a b c d a' b' c' d' sa sb sc sd (suc (suc (suc (suc j)))) row lt h = absurd (omega arith)
+
+-- a sweep leaves no more rows
+pub swept_rows : {P : Type 0} (n : ℕ) (old new : Kept P) → IsSwept n old new → length new.rows ≤ length old.rows
+swept_rows n old new swept = omega (arith, length_permutation (live_rows n old.rows) new.rows swept.rows, length-filter-le (λ row. ltb n row.lease.until) old.rows)
+
+-- a change of capacity passes the tables
+pub passes_change : {P : Type 0} (n capacity : ℕ) (a b c d : Kept P) (h : List Record) → EachStandsAt n (four a b c d) h → EachStandsAt n (four a b c d) (h ++ Capacity n capacity ∷ [])
+passes_change n capacity a b c d h s = (
+  pass 0 a.rows a.moment s.0,
+  (
+    pass 1 b.rows b.moment s.1.0,
+    (
+      pass 2 c.rows c.moment s.1.1.0,
+      (pass 3 d.rows d.moment s.1.1.1.0, tt),
+    ),
+  ),
+)
+  where
+    pass : (j : ℕ) (xs : List Row) (moment : ℕ) → StandsAt n j xs moment h → StandsAt n j xs moment (h ++ Capacity n capacity ∷ [])
+    pass j xs moment st = stands_elsewhere n j moment h xs st (Capacity n capacity) (λ d i own. refl) (omega arith)
+
+-- it leaves what is shed
+pub order_changed : (h : List Record) (n capacity : ℕ) → shed_order (h ++ Capacity n capacity ∷ []) n ≡ shed_order h n
+unfolding shed_order live_grants
+order_changed h n capacity = ap (λ gs. in_order shed_cmp (filter (λ g. ltb n g.until) gs)) (standing-undecided h (Capacity n capacity) refl)
+
+sheds_are : (n : ℕ) (gs : List Grant) → map (shed_at n) (map shed_of gs) ≡ map (shed_record n) gs
+sheds_are n [] = refl
+sheds_are n (g ∷ gs) = ap (λ rs. shed_record n g ∷ rs) (sheds_are n gs)
+
+-- the records of a change
+pub records_changed : (h : List Record) (n capacity : ℕ) (list : List Answer) → list ≡ map shed_of (shed_prefix capacity (shed_order h n)) →
+    (h ++ Capacity n capacity ∷ []) ++ map (shed_at n) list ≡ h ++ Capacity n capacity ∷ map (shed_record n) (shed_grants h n capacity)
+unfolding shed_grants
+records_changed h n capacity list e =
+    append_assoc h (Capacity n capacity ∷ []) (map (shed_at n) list)
+    ∙ ap (λ rs. h ++ Capacity n capacity ∷ rs) (ap (map (shed_at n)) e ∙ sheds_are n (shed_prefix capacity (shed_order h n)))
+
+pub capacity_changed : (opening : ℕ) (h : List Record) (n capacity : ℕ) (gs : List Grant) → capacity_in_force opening (h ++ Capacity n capacity ∷ map (shed_record n) gs) ≡ capacity
+unfolding capacity_in_force
+capacity_changed opening h n capacity gs = capacity_in_force-append opening h (Capacity n capacity ∷ map (shed_record n) gs) ∙ capacity_in_force-sheds capacity n gs

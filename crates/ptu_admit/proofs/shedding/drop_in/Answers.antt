@@ -1,0 +1,56 @@
+use Rattle.std.proofs.Common.{◌≡◌, ◌∙◌, ◌+◌, ◌-◌, ap, arith, not, ℕ}
+use Rattle.std.proofs.lemmas.List.Sorted.{length_permutation}
+use Rattle.ptu_units.specs.Log.{rate_of}
+use Rattle.ptu_history.proofs.Keys.{same_lease-refl}
+use Rattle.ptu_history.proofs.Unique.{Contains-from_filter}
+use Rattle.ptu_shard.specs.Row.{is_row_of, without_row}
+use Rattle.ptu_shard.proofs.RowLists.{same_permuted}
+use Rattle.ptu_admit.proofs.RowKeys.{kept_rate-member, length-filter-lt}
+use Rattle.ptu_admit.proofs.Sums.{share_of-left, share_of-permuted, share_of-without}
+use Rattle.ptu_admit.proofs.shedding.drop_in.Goals as goal
+
+pub settle-requires-clause-fits : goal.settle-requires-clause-fits
+settle-requires-clause-fits g c =
+    omega (
+      arith,
+      c.held.ensures.share,
+      c.held-before.ensures.share,
+      share_of-left (λ row. not (is_row_of c.args.row.now.client c.args.row.now.kind row)) c.args.shard.now.rows c.remove.new.self.rows c.remove.ensures.rows,
+    )
+
+pub returns-clause-thinned : goal.returns-clause-thinned
+returns-clause-thinned g c =
+    let client = c.args.row.now.client in
+    let kind = c.args.row.now.kind in
+    record {
+      members = λ row h.
+          (Contains-from_filter (λ row. not (is_row_of client kind row)) c.args.shard.now.rows row
+          ((same_permuted (without_row client kind c.args.shard.now.rows) c.remove.new.self.rows c.remove.ensures.rows).from row h)).0;
+      moment = c.remove.ensures.moment;
+      keeps = record { port = c.remove.ensures.port; spare = omega (arith, c.remove.ensures.spare) };
+    }
+
+pub returns-clause-fewer : goal.returns-clause-fewer
+returns-clause-fewer g c =
+    let client = c.args.row.now.client in
+    let kind = c.args.row.now.kind in
+    omega (
+      arith,
+      length_permutation (without_row client kind c.args.shard.now.rows) c.remove.new.self.rows c.remove.ensures.rows,
+      length-filter-lt (λ row. not (is_row_of client kind row)) c.args.shard.now.rows c.args.row.now c.requires.contained (ap not (same_lease-refl client kind)),
+    )
+
+pub returns-clause-share : goal.returns-clause-share
+returns-clause-share g c =
+    omega (
+      arith,
+      share_of-permuted (without_row c.args.row.now.client c.args.row.now.kind c.args.shard.now.rows) c.remove.new.self.rows c.remove.ensures.rows,
+      share_of-without c.args.row.now.client c.args.row.now.kind c.args.shard.now.rows c.held-before.ensures.distinct,
+      kept_rate-member c.args.shard.now.rows c.args.row.now c.held-before.ensures.distinct c.requires.contained,
+    )
+
+pub returns-clause-book : goal.returns-clause-book
+returns-clause-book g c =
+    let less : c.args.book.now.total - c.held-before.result + c.held.result ≡ c.args.book.now.total - rate_of c.args.row.now.lease.log =
+    omega (arith, returns-clause-share g c, c.held.ensures.share, c.held-before.ensures.share, c.requires.share) in
+    c.settle.ensures ∙ ap (λ (t : ℕ). record c.args.book.now { total = t }) less

@@ -1,0 +1,95 @@
+ghost use Rattle.std.specs.Prelude.{◌≡◌, ◌≤◌, ◌+◌, ◌-◌, List, []};
+ghost use Rattle.ptu_admit.specs.Book.{IsCapacity};
+ghost use Rattle.ptu_admit.specs.Lent.{EachStandsAt, Lent, StandFor, shares};
+
+use ptu_units::Moment;
+use std::marker::Model;
+
+/// The book beside four tables: the capacity in force, in sixteenths of a message per second, the
+/// greatest moment at which an ask, a cancel or a change of capacity was decided, and the total,
+/// which is the sum of the rates of all rows of the four tables. The total is at most the capacity.
+#[derive(Clone, Debug, PartialEq, Eq, Drop)]
+pub struct Book {
+    capacity: u64,
+    moment: Moment,
+    total: u64,
+}
+
+impl Model for Book {
+    ghost use Rattle.std.specs.Prelude.{◌≤◌};
+    ghost use Rattle.ptu_admit.specs.Book.{IsCapacity, KeptBook};
+
+    ghost Value = { KeptBook };
+
+    ghost view = { λ b. record { capacity = b.capacity; moment = b.moment; total = b.total } };
+
+    ghost invariant = { λ b. (b.total ≤ b.capacity) × IsCapacity b.capacity };
+
+    ghost inverse = { λ b. record { capacity = b.capacity; moment = b.moment; total = b.total } };
+}
+
+impl Book {
+    /// The book of four tables without rows, at moment 0.
+    pub fn new(capacity: u64) -> Book
+        requires { IsCapacity capacity }
+        ensures kept { result ≡ record { capacity = capacity; moment = 0; total = 0 } }
+        // Beside tables that stand for the empty history and have no rows, it stands for that.
+        ensures stands { (lent : List Lent) → EachStandsAt 0 lent [] → shares lent ≡ 0 →
+            StandFor capacity lent result [] }
+    {
+        Book {
+            capacity,
+            moment: Moment::default(),
+            total: 0,
+        }
+    }
+
+    /// The capacity in force, in sixteenths of a message per second.
+    pub fn capacity(&self) -> u64
+        ensures value { result ≡ self.now.capacity }
+        ensures range { IsCapacity result }
+    {
+        self.capacity
+    }
+
+    /// The sum of the rates of all rows of the four tables, in sixteenths of a message per second.
+    pub fn total(&self) -> u64
+        ensures value { result ≡ self.now.total }
+        ensures within { result ≤ self.now.capacity }
+    {
+        self.total
+    }
+
+    /// The greatest moment at which an ask, a cancel or a change of capacity was decided.
+    pub fn now(&self) -> Moment
+        ensures { result ≡ self.now.moment }
+    {
+        self.moment
+    }
+
+    // The share of a table went from the one to the other.
+    pub(crate) fn settle(&mut self, before: u64, after: u64)
+        requires held { before ≤ self.old.total }
+        requires fits { after ≤ before + (self.old.capacity - self.old.total) }
+        ensures { self.new ≡ record self.old { total = self.old.total - before + after } }
+    {
+        self.total = self.total - before + after;
+    }
+
+    // A decision was taken at the moment.
+    pub(crate) fn reach(&mut self, at: Moment)
+        ensures { self.new ≡ record self.old { moment = at } }
+    {
+        self.moment = at;
+    }
+
+    // The capacity was changed by a decision at the moment.
+    pub(crate) fn change(&mut self, capacity: u64, at: Moment)
+        requires range { IsCapacity capacity }
+        requires fits { self.old.total ≤ capacity }
+        ensures { self.new ≡ record self.old { capacity = capacity; moment = at } }
+    {
+        self.capacity = capacity;
+        self.moment = at;
+    }
+}

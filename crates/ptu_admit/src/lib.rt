@@ -1,0 +1,28 @@
+//! Admission: what four tables of leases and one book decide together on asks, cancels and changes
+//! of capacity.
+#![tactic(auto)]
+
+mod asking;
+mod book;
+mod closed;
+mod ending;
+mod granting;
+pub mod laws;
+mod newest;
+mod profile;
+mod resizing;
+mod shed_list;
+mod shedding;
+mod sweeping;
+mod verdict;
+
+pub use asking::{decide_all, decide_one};
+pub use book::Book;
+pub use closed::Closed;
+pub use ending::{Cancelled, cancel, finish};
+pub use resizing::{Resized, resize};
+pub use shed_list::{Shed, ShedList};
+pub use verdict::{Grant, Outside, Shortage, Verdict};
+
+#[cfg(test)]
+mod tests;

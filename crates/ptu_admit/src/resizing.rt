@@ -1,0 +1,95 @@
+//! Changes of capacity.
+
+ghost use Rattle.std.specs.Prelude.{◌≡◌, ℕ, ◌+◌, ◌≤◌, max, List, map, ◌++◌, IfOk, OnErr, OnOk};
+ghost use Rattle.ptu_history.specs.History.{Record};
+ghost use Rattle.ptu_history.specs.Verdict.{Config};
+ghost use Rattle.ptu_history.specs.Events.{Resize};
+ghost use Rattle.ptu_history.specs.Shedding.{shed_grants};
+ghost use Rattle.ptu_history.specs.Step.{step};
+ghost use Rattle.ptu_admit.specs.Book.{IsCapacity};
+ghost use Rattle.ptu_admit.specs.Lent.{StandFor, four, moment_for_all, shares};
+ghost use Rattle.ptu_admit.specs.Newest.{rows_in};
+ghost use Rattle.ptu_admit.specs.Shed.{shed_of};
+ghost use Rattle.ptu_admit.specs.Tables.{KeepsPort};
+
+use crate::book::Book;
+use crate::shed_list::ShedList;
+use crate::shedding::shed_above;
+use crate::sweeping::{latest_of, sweep_all};
+use ptu_outside::Port;
+use ptu_shard::Shard;
+use ptu_units::{Moment, OutOfMemory};
+use std::alloc::Global;
+
+/// What a change of capacity did.
+#[derive(Drop)]
+pub struct Resized {
+    /// When it was decided.
+    pub at: Moment,
+    /// The grants that were shed, in order.
+    pub shed: ShedList,
+}
+
+/// Changes the capacity in force to this many sixteenths of a message per second, over four tables
+/// in order of index, at the greatest of `t`, the book's moment and the tables'. Where the live
+/// grants are above it, the newest are shed until the rest fits. Room for the list of these is made
+/// first; where there is none, nothing has changed.
+pub fn resize<P: Port>(
+    alloc: Global,
+    s0: &mut Shard<P>,
+    s1: &mut Shard<P>,
+    s2: &mut Shard<P>,
+    s3: &mut Shard<P>,
+    book: &mut Book,
+    t: Moment,
+    capacity: u64,
+) -> Result<Resized, OutOfMemory>
+    requires capacity { IsCapacity capacity }
+    requires sum { book.old.total ≡ shares (four s0.old s1.old s2.old s3.old) }
+    ensures at { IfOk result (λ r. r.at
+        ≡ moment_for_all t book.old (four s0.old s1.old s2.old s3.old)) }
+    ensures unchanged { OnErr result ((s0.new ≡ s0.old) × (s1.new ≡ s1.old)
+        × (s2.new ≡ s2.old) × (s3.new ≡ s3.old) × (book.new ≡ book.old)) }
+    ensures moments { IfOk result (λ r. (book.new.moment ≡ r.at) × (s0.new.moment ≡ r.at)
+        × (s1.new.moment ≡ r.at) × (s2.new.moment ≡ r.at) × (s3.new.moment ≡ r.at)) }
+    ensures capacity { OnOk result (book.new.capacity ≡ capacity) }
+    // The total changes as the sum of the shares does.
+    ensures total { book.new.total ≡ shares (four s0.new s1.new s2.new s3.new) }
+    ensures keeps { KeepsPort 0 s0.old s0.new × KeepsPort 0 s1.old s1.new
+        × KeepsPort 0 s2.old s2.new × KeepsPort 0 s3.old s3.new }
+    // What is shed is what is shed after each history that the tables and the book stand for, and
+    // they go on with the change.
+    ensures shed { (opening : ℕ) (history : List Record) →
+        StandFor opening (four s0.old s1.old s2.old s3.old) book.old history →
+        IfOk result (λ r. r.shed ≡ map shed_of (shed_grants history r.at capacity)) }
+    ensures stands { (opened : Config) (history : List Record) →
+        StandFor opened.capacity (four s0.old s1.old s2.old s3.old) book.old history →
+        IfOk result (λ r. StandFor opened.capacity (four s0.new s1.new s2.new s3.new) book.new
+        (history ++ (step opened history r.at (Resize capacity)).records)) }
+{
+    let at = latest_of(s0, s1, s2, s3, book, t);
+    let mut list = Vec::with_capacity(alloc, count_rows(s0, s1, s2, s3, book))?;
+    sweep_all(s0, s1, s2, s3, book, at);
+    shed_above(s0, s1, s2, s3, book, at, capacity, &mut list);
+    book.change(capacity, at);
+    Ok(Resized {
+        at,
+        shed: ShedList::new(list),
+    })
+}
+
+// How many rows four tables have.
+fn count_rows<P: Port>(
+    s0: &Shard<P>,
+    s1: &Shard<P>,
+    s2: &Shard<P>,
+    s3: &Shard<P>,
+    book: &Book,
+) -> usize
+    requires { book.now.total ≡ shares (four s0.now s1.now s2.now s3.now) }
+    ensures { result ≡ rows_in (four s0.now s1.now s2.now s3.now) }
+{
+    // Each row has a rate of at least 1, so that there are no more than the total says.
+    let _total = book.total();
+    s0.count() + s1.count() + s2.count() + s3.count()
+}

@@ -1,0 +1,125 @@
+//! Grants that a change of capacity sheds go from four tables that are lent beside the book.
+
+ghost use Rattle.std.specs.Prelude.{◌≡◌, ℕ, ◌+◌, ◌-◌, ◌<◌, ◌≤◌, List, [], ◌∷◌, ◌++◌, map, length, vec_capacity, vec_len};
+ghost use Rattle.std.specs.List.{Contains};
+ghost use Rattle.ptu_units.specs.Log.{rate_of};
+ghost use Rattle.ptu_history.specs.History.{Record, Shed as ShedRecord};
+ghost use Rattle.ptu_history.specs.Shedding.{shed_order, shed_prefix};
+ghost use Rattle.ptu_shard.specs.declared.lease.Row.{Row as KeptRow};
+ghost use Rattle.ptu_shard.specs.Row.{share_of};
+ghost use Rattle.ptu_shard.specs.Table.{StandsBeside};
+ghost use Rattle.ptu_admit.specs.Lent.{EachStandsAt, four, rows_of_lent, shares};
+ghost use Rattle.ptu_admit.specs.Newest.{IsThinned, rows_in, shed_at};
+ghost use Rattle.ptu_admit.specs.Shed.{shed_of};
+
+use crate::book::Book;
+use crate::newest::{Found, newest_of};
+use crate::shed_list::Shed;
+use ptu_outside::Port;
+use ptu_shard::{Row, Shard};
+use ptu_units::Moment;
+
+// Drops a row of one table.
+fn drop_in<P: Port>(shard: &mut Shard<P>, book: &mut Book, row: &Row)
+    requires contained { Contains shard.old.rows row.now }
+    requires share { share_of shard.old.rows ≤ book.old.total }
+    ensures thinned { IsThinned shard.old shard.new }
+    ensures fewer { length shard.new.rows + 1 ≤ length shard.old.rows }
+    ensures share { share_of shard.new.rows + rate_of row.now.lease.log ≡ share_of shard.old.rows }
+    ensures book { book.new ≡ record book.old {
+      total = book.old.total - rate_of row.now.lease.log;
+    } }
+    ensures stands { (b j n : ℕ) (history : List Record) → StandsBeside b j shard.old history →
+        n ≤ shard.old.moment →
+        StandsBeside b j shard.new (history ++ ShedRecord n row.now.client row.now.kind ∷ []) }
+{
+    let before = shard.held();
+    shard.remove(&row.client, row.kind);
+    book.settle(before, shard.held());
+}
+
+// Drops a row of the table that it was found in.
+fn drop_found<P: Port>(
+    s0: &mut Shard<P>,
+    s1: &mut Shard<P>,
+    s2: &mut Shard<P>,
+    s3: &mut Shard<P>,
+    book: &mut Book,
+    found: &Found,
+)
+    requires place { found.now.table < 4 }
+    requires contained { Contains
+        (rows_of_lent found.now.table (four s0.old s1.old s2.old s3.old)) found.now.row }
+    requires sum { book.old.total ≡ shares (four s0.old s1.old s2.old s3.old) }
+    ensures t0 { IsThinned s0.old s0.new }
+    ensures t1 { IsThinned s1.old s1.new }
+    ensures t2 { IsThinned s2.old s2.new }
+    ensures t3 { IsThinned s3.old s3.new }
+    ensures fewer { rows_in (four s0.new s1.new s2.new s3.new) + 1
+        ≤ rows_in (four s0.old s1.old s2.old s3.old) }
+    ensures less { book.new.total + rate_of found.now.row.lease.log ≡ book.old.total }
+    ensures book { book.new ≡ record book.old {
+      total = shares (four s0.new s1.new s2.new s3.new);
+    } }
+    ensures stands { (b n : ℕ) (history : List Record) →
+        EachStandsAt b (four s0.old s1.old s2.old s3.old) history →
+        n ≤ s0.old.moment → n ≤ s1.old.moment → n ≤ s2.old.moment → n ≤ s3.old.moment →
+        EachStandsAt b (four s0.new s1.new s2.new s3.new)
+        (history ++ ShedRecord n found.now.row.client found.now.row.kind ∷ []) }
+{
+    match found.table {
+        0 => drop_in(s0, book, &found.row),
+        1 => drop_in(s1, book, &found.row),
+        2 => drop_in(s2, book, &found.row),
+        _ => drop_in(s3, book, &found.row),
+    }
+}
+
+/// Sheds the newest grants of four tables that were swept at the moment, one by one, until the
+/// rates of the rest sum to at most the capacity, and lists them in this order.
+pub(crate) fn shed_above<P: Port>(
+    s0: &mut Shard<P>,
+    s1: &mut Shard<P>,
+    s2: &mut Shard<P>,
+    s3: &mut Shard<P>,
+    book: &mut Book,
+    at: Moment,
+    capacity: u64,
+    list: &mut Vec<Shed>,
+)
+    requires sum { book.old.total ≡ shares (four s0.old s1.old s2.old s3.old) }
+    requires reached { (s0.old.moment ≡ at) × (s1.old.moment ≡ at)
+        × (s2.old.moment ≡ at) × (s3.old.moment ≡ at) }
+    requires live { (j : ℕ) (row : KeptRow) → j < 4 →
+        Contains (rows_of_lent j (four s0.old s1.old s2.old s3.old)) row → at < row.lease.until }
+    requires empty { list.old.items ≡ [] }
+    requires room { rows_in (four s0.old s1.old s2.old s3.old) ≤ vec_capacity list.old }
+    ensures t0 { IsThinned s0.old s0.new }
+    ensures t1 { IsThinned s1.old s1.new }
+    ensures t2 { IsThinned s2.old s2.new }
+    ensures t3 { IsThinned s3.old s3.new }
+    ensures within { book.new.total ≤ capacity }
+    ensures book { book.new ≡ record book.old {
+      total = shares (four s0.new s1.new s2.new s3.new);
+    } }
+    ensures stands { (history : List Record) →
+        EachStandsAt at (four s0.old s1.old s2.old s3.old) history →
+        EachStandsAt at (four s0.new s1.new s2.new s3.new)
+        (history ++ map (shed_at at) list.new.items) }
+    ensures shed { (history : List Record) →
+        EachStandsAt at (four s0.old s1.old s2.old s3.old) history →
+        list.new.items ≡ map shed_of (shed_prefix capacity (shed_order history at)) }
+{
+    'above: while book.total() > capacity {
+        let Some(found) = newest_of(s0, s1, s2, s3) else {
+            break;
+        };
+        drop_found(s0, s1, s2, s3, book, &found);
+        // A push fails only at a full vector, and this one has room for all rows.
+        let _ = list.push(Shed {
+            client: found.row.client,
+            kind: found.row.kind,
+            log: found.row.lease.log,
+        });
+    }
+}

@@ -1,0 +1,476 @@
+ghost use Rattle.std.specs.Prelude.{◌≡◌};
+ghost use Rattle.ptu_shard.specs.Config.{IsWithinLimits};
+ghost use Rattle.ptu_admit.specs.Lent.{four, shares};
+
+use super::*;
+use ptu_header::PortIdentity;
+use ptu_history::Client;
+use ptu_outside::MemPort;
+use ptu_shard::{GmConfig, Shard};
+use ptu_tlvs::Ask;
+use ptu_units::{Kind, Moment};
+use std::alloc::Global;
+use std::process::Abort;
+use std::test::Fail;
+
+const SECOND: u64 = 1_000_000_000;
+
+// Client A is of table 2, client B of table 3.
+const A: Client = Client {
+    ip: 0x0a00_0111,
+    clock: 0x0a00_0000_0000_0011,
+    port: 1,
+};
+
+const B: Client = Client {
+    ip: 0x0a00_0112,
+    clock: 0x0a00_0000_0000_0012,
+    port: 1,
+};
+
+const ANNOUNCE: u8 = 11;
+
+const SYNC: u8 = 0;
+
+const CONFIG: GmConfig = GmConfig {
+    identity: PortIdentity {
+        clock: 0x0a00_0000_0000_0001,
+        port: 1,
+    },
+    domain: 4,
+    class: 84,
+    max_duration: 300,
+    epoch: 0,
+};
+
+// What a verdict says, in numbers.
+#[derive(Clone, Copy, Debug, PartialEq, Eq)]
+enum Told {
+    Granted {
+        at: u64,
+        until: u64,
+    },
+    Short {
+        at: u64,
+        others: u64,
+        rate: u64,
+        capacity: u64,
+    },
+    Outside(Outside),
+}
+
+fn numbers_of(verdict: &Verdict) -> Told {
+    match verdict {
+        Verdict::Granted(grant) => Told::Granted {
+            at: grant.at().nanos(),
+            until: grant.until(),
+        },
+        Verdict::Short(shortage) => Told::Short {
+            at: shortage.at().nanos(),
+            others: shortage.others(),
+            rate: shortage.rate(),
+            capacity: shortage.capacity(),
+        },
+        Verdict::Outside(outside) => Told::Outside(*outside),
+    }
+}
+
+// Four tables and a book.
+#[derive(Drop)]
+struct Site {
+    s0: Shard<MemPort>,
+    s1: Shard<MemPort>,
+    s2: Shard<MemPort>,
+    s3: Shard<MemPort>,
+    book: Book,
+}
+
+fn table(alloc: Global) -> Result<Shard<MemPort>, Fail> {
+    let mut port = MemPort::new(alloc, Vec::new(alloc), Vec::new(alloc), Vec::new(alloc));
+    port.reserve(4, 4 * 64)?;
+    let mut shard = Shard::new(alloc, port);
+    shard.reserve(4)?;
+    Ok(shard)
+}
+
+fn open_site(rt: &impl Abort, alloc: Global, capacity: u64) -> Result<Site, Fail> {
+    assert!(rt; 1 <= capacity && capacity <= 16_777_216);
+    Ok(Site {
+        s0: table(alloc)?,
+        s1: table(alloc)?,
+        s2: table(alloc)?,
+        s3: table(alloc)?,
+        book: Book::new(capacity),
+    })
+}
+
+fn moment(nanos: u64) -> Result<Moment, Fail> {
+    Ok(Moment::of(nanos).ok_or("a moment is below 2^62")?)
+}
+
+// The shares sum to the total.
+fn check_sum(rt: &impl Abort, site: &Site)
+    ensures { site.now.book.total ≡ shares (four site.now.s0 site.now.s1 site.now.s2 site.now.s3) }
+{
+    let held = [
+        site.s0.held(),
+        site.s1.held(),
+        site.s2.held(),
+        site.s3.held(),
+    ];
+    assert!(rt; held[0] < SECOND && held[1] < SECOND && held[2] < SECOND && held[3] < SECOND);
+    assert_eq!(rt; site.book.total(), held[0] + held[1] + held[2] + held[3]);
+}
+
+fn config_of(max_duration: u32) -> GmConfig
+    ensures { IsWithinLimits result }
+{
+    if max_duration == 60 {
+        GmConfig {
+            max_duration,
+            ..CONFIG
+        }
+    } else {
+        CONFIG
+    }
+}
+
+// What may happen to a grandmaster, and what it answers.
+#[derive(Clone, Copy, Debug, PartialEq, Eq)]
+enum Step {
+    // The client asks for Announces, or for Syncs, at a logarithm, for 300 seconds.
+    Announce(u64, Client, i8, Told),
+    Sync(u64, Client, i8, Told),
+    // Its capacity is changed, and this client's grant is shed.
+    Change(u64, u64, Option<Client>),
+    // Table 2 takes a turn, which sends so many messages.
+    Turn(u64, u64),
+}
+
+fn ask_all(
+    rt: &impl Abort,
+    site: &mut Site,
+    config: &GmConfig,
+    t: u64,
+    client: &Client,
+    code: u8,
+    log: i8,
+) -> Result<Verdict, Fail>
+    requires { IsWithinLimits config.now }
+{
+    let ask = Ask {
+        code,
+        log,
+        seconds: 300,
+    };
+    site.s0.reserve(1)?;
+    site.s1.reserve(1)?;
+    site.s2.reserve(1)?;
+    site.s3.reserve(1)?;
+    check_sum(rt, site);
+    let t = moment(t)?;
+    let Site {
+        s0,
+        s1,
+        s2,
+        s3,
+        book,
+    } = site;
+    Ok(decide_all(s0, s1, s2, s3, book, config, t, client, &ask))
+}
+
+fn change(
+    rt: &impl Abort,
+    alloc: Global,
+    site: &mut Site,
+    t: u64,
+    capacity: u64,
+) -> Result<Resized, Fail> {
+    assert!(rt; 1 <= capacity && capacity <= 16_777_216);
+    check_sum(rt, site);
+    Ok(resize(
+        alloc,
+        &mut site.s0,
+        &mut site.s1,
+        &mut site.s2,
+        &mut site.s3,
+        &mut site.book,
+        moment(t)?,
+        capacity,
+    )?)
+}
+
+fn take_step(
+    rt: &impl Abort,
+    alloc: Global,
+    site: &mut Site,
+    config: &GmConfig,
+    step: &Step,
+) -> Result<(), Fail>
+    requires { IsWithinLimits config.now }
+{
+    match *step {
+        Step::Announce(t, client, log, told) => {
+            let verdict = ask_all(rt, site, config, t, &client, ANNOUNCE, log)?;
+            assert_eq!(rt; numbers_of(&verdict), told);
+        }
+        Step::Sync(t, client, log, told) => {
+            let verdict = ask_all(rt, site, config, t, &client, SYNC, log)?;
+            assert_eq!(rt; numbers_of(&verdict), told);
+        }
+        Step::Change(t, capacity, shed) => {
+            let resized = change(rt, alloc, site, t, capacity)?;
+            assert_eq!(rt; resized.at, moment(t)?);
+            assert_eq!(rt; resized.shed.list().first().map(|shed| shed.client), shed);
+        }
+        Step::Turn(t, sent) => {
+            assert_eq!(rt; site.s2.turn(config, moment(t)?).sent, sent);
+        }
+    }
+    Ok(())
+}
+
+// A grandmaster with this capacity and longest duration takes the steps.
+fn take_steps(
+    rt: &impl Abort,
+    alloc: Global,
+    capacity: u64,
+    max_duration: u32,
+    steps: &[Step],
+) -> Result<(), Fail> {
+    let config = config_of(max_duration);
+    let mut site = open_site(rt, alloc, capacity)?;
+    for step in steps {
+        take_step(rt, alloc, &mut site, &config, step)?;
+    }
+    Ok(())
+}
+
+// Exactly full.
+const EXACTLY_FULL: [Step; 1] = [Step::Sync(
+    0,
+    A,
+    -7,
+    Told::Granted {
+        at: 0,
+        until: 300 * SECOND,
+    },
+)];
+
+// One short.
+const ONE_SHORT: [Step; 1] = [Step::Sync(
+    0,
+    A,
+    -7,
+    Told::Short {
+        at: 0,
+        others: 0,
+        rate: 2048,
+        capacity: 2047,
+    },
+)];
+
+// A renewal in a full table.
+const FULL: [Step; 3] = [
+    Step::Announce(
+        0,
+        A,
+        1,
+        Told::Granted {
+            at: 0,
+            until: 300 * SECOND,
+        },
+    ),
+    Step::Announce(
+        5 * SECOND,
+        A,
+        1,
+        Told::Granted {
+            at: 5 * SECOND,
+            until: 305 * SECOND,
+        },
+    ),
+    Step::Announce(
+        5 * SECOND,
+        B,
+        4,
+        Told::Short {
+            at: 5 * SECOND,
+            others: 8,
+            rate: 1,
+            capacity: 8,
+        },
+    ),
+];
+
+// A refused renewal leaves the former grant.
+const REFUSED: [Step; 4] = [
+    Step::Announce(
+        0,
+        A,
+        1,
+        Told::Granted {
+            at: 0,
+            until: 300 * SECOND,
+        },
+    ),
+    Step::Announce(
+        0,
+        B,
+        1,
+        Told::Granted {
+            at: 0,
+            until: 300 * SECOND,
+        },
+    ),
+    Step::Announce(
+        10 * SECOND,
+        A,
+        0,
+        Told::Short {
+            at: 10 * SECOND,
+            others: 8,
+            rate: 16,
+            capacity: 16,
+        },
+    ),
+    Step::Turn(10 * SECOND, 1),
+];
+
+// At the moment at which a grant is over, the next one finds none live.
+const OVER: [Step; 4] = [
+    Step::Announce(
+        0,
+        A,
+        1,
+        Told::Granted {
+            at: 0,
+            until: 60 * SECOND,
+        },
+    ),
+    Step::Announce(
+        60 * SECOND,
+        A,
+        1,
+        Told::Granted {
+            at: 60 * SECOND,
+            until: 120 * SECOND,
+        },
+    ),
+    Step::Turn(61_999_999_999, 0),
+    Step::Turn(62 * SECOND, 1),
+];
+
+// A lower capacity sheds the newest grant.
+const LOWER: [Step; 6] = [
+    Step::Announce(
+        0,
+        A,
+        1,
+        Told::Granted {
+            at: 0,
+            until: 300 * SECOND,
+        },
+    ),
+    Step::Announce(
+        SECOND,
+        B,
+        1,
+        Told::Granted {
+            at: SECOND,
+            until: 301 * SECOND,
+        },
+    ),
+    Step::Change(2 * SECOND, 8, Some(B)),
+    Step::Announce(
+        2 * SECOND,
+        B,
+        1,
+        Told::Short {
+            at: 2 * SECOND,
+            others: 8,
+            rate: 8,
+            capacity: 8,
+        },
+    ),
+    Step::Change(3 * SECOND, 16, None),
+    Step::Announce(
+        0,
+        B,
+        1,
+        Told::Granted {
+            at: 3 * SECOND,
+            until: 303 * SECOND,
+        },
+    ),
+];
+
+#[test]
+fn worked_rows(rt: HostRuntime) -> Result<(), Fail> {
+    take_steps(&rt, rt.alloc(), 2048, 300, &EXACTLY_FULL)?;
+    take_steps(&rt, rt.alloc(), 2047, 300, &ONE_SHORT)?;
+    take_steps(&rt, rt.alloc(), 8, 300, &FULL)?;
+    take_steps(&rt, rt.alloc(), 16, 300, &REFUSED)?;
+    take_steps(&rt, rt.alloc(), 8, 60, &OVER)?;
+    take_steps(&rt, rt.alloc(), 16, 300, &LOWER)?;
+    Ok(())
+}
+
+#[test]
+fn one_table_alone(rt: HostRuntime) -> Result<(), Fail> {
+    let ask = Ask {
+        code: ANNOUNCE,
+        log: 1,
+        seconds: 300,
+    };
+    let mut site = open_site(&rt, rt.alloc(), 8)?;
+    site.s2.reserve(1)?;
+    site.s3.reserve(1)?;
+    check_sum(&rt, &site);
+    let first = decide_one(
+        &mut site.s2,
+        &mut site.book,
+        &CONFIG,
+        Moment::default(),
+        &A,
+        &ask,
+    );
+    assert_eq!(rt;
+        first.map(|verdict| numbers_of(&verdict)),
+        Some(Told::Granted {
+            at: 0,
+            until: 300 * SECOND,
+        })
+    );
+    check_sum(&rt, &site);
+    let second = decide_one(
+        &mut site.s3,
+        &mut site.book,
+        &CONFIG,
+        Moment::default(),
+        &B,
+        &ask,
+    );
+    assert_eq!(rt; second, None);
+    check_sum(&rt, &site);
+    assert!(rt;
+        cancel(
+            &mut site.s2,
+            &mut site.book,
+            moment(SECOND)?,
+            &A,
+            Kind::Announce
+        )
+        .ended
+    );
+    check_sum(&rt, &site);
+    finish(
+        &mut site.s0,
+        &mut site.s1,
+        &mut site.s2,
+        &mut site.s3,
+        &mut site.book,
+    );
+    assert_eq!(rt; site.book.total(), 0);
+    Ok(())
+}

@@ -1,0 +1,5 @@
+pub mod Answers
+pub mod Datagram
+pub mod Shown
+pub mod Lines
+pub mod Samples

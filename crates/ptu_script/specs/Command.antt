@@ -1,0 +1,151 @@
+-- What a line of a script commands, or why it is refused. The forms are the project's own choice.
+use Rattle.std.specs.Prelude.{ℕ, ◌-◌, ◌^◌, Bool, true, ◌==◌, if◌then◌else◌, List, [], ◌∷◌, length, Option, Some, None, Result, Ok, Err, unwrap_or}
+use Rattle.std.specs.List.{list_any}
+use Rattle.ptu_units.specs.declared.kind.Kind.TheVariants as kinds
+use Rattle.ptu_lines.specs.Words.{words_of, word_of, ip_of, clock_of, octets_of}
+use Rattle.ptu_script.specs.declared.cause.Cause.{Cause}
+use Rattle.ptu_script.specs.declared.cause.Cause.TheVariants.{Word, Count}
+use Rattle.ptu_script.specs.declared.command.GrandmasterSetup.{GrandmasterSetup}
+use Rattle.ptu_script.specs.declared.command.SlaveSetup.{SlaveSetup}
+use Rattle.ptu_script.specs.declared.command.Command.{Command}
+use Rattle.ptu_script.specs.declared.command.Command.TheVariants as commands
+use Rattle.ptu_script.specs.declared.verb.Verb.{Verb}
+use Rattle.ptu_script.specs.declared.verb.Verb.TheVariants.{Gm, Slave, Master, Rx, Deliver, Turn, Tick, Flag, Judge, Stop, Class, Capacity}
+use Rattle.ptu_script.specs.Verb.{verb_named, counts_of}
+use Rattle.ptu_script.specs.Fields.{◌>>=◌, field, from_to, log_of_kind, delay_log, rule_named, truth_of}
+
+-- T: a moment in nanoseconds
+abbrev pub moment_of : List ℕ → Option ℕ
+moment_of = from_to 0 (2 ^ 62 - 1)
+
+-- gm IP CLOCK PORT DOMAIN CLASS CAPACITY MAX
+unfoldable pub grandmaster_in : List ℕ → Result GrandmasterSetup Cause
+grandmaster_in line = do
+  ip ← field 2 ip_of line
+  clock ← field 3 clock_of line
+  port ← field 4 (from_to 1 65534) line
+  domain ← field 5 (from_to 4 23) line
+  class ← field 6 (from_to 0 255) line
+  capacity ← field 7 (from_to 1 16777216) line
+  max_duration ← field 8 (from_to 60 1000) line
+  Ok (record { ip = ip; clock = clock; port = port; domain = domain; class = class; capacity = capacity; max_duration = max_duration })
+
+-- the word TD, which a line of 12 words lacks
+abbrev pub delay_timeout_in : List ℕ → Result ℕ Cause
+delay_timeout_in line = if length (words_of line) == 12 then Ok 3 else field 13 (from_to 2 10) line
+
+-- slave IP CLOCK PORT DOMAIN WAIT TA TS LA LS LD DUR, and TD where there is a 13th word
+unfoldable pub slave_in : List ℕ → Result SlaveSetup Cause
+slave_in line = do
+  ip ← field 2 ip_of line
+  clock ← field 3 clock_of line
+  port ← field 4 (from_to 1 65534) line
+  domain ← field 5 (from_to 4 23) line
+  wait ← field 6 (from_to 0 720) line
+  announce_timeout ← field 7 (from_to 2 10) line
+  sync_timeout ← field 8 (from_to 2 10) line
+  announce ← field 9 (log_of_kind kinds.Announce) line
+  sync ← field 10 (log_of_kind kinds.Sync) line
+  delay ← field 11 delay_log line
+  seconds ← field 12 (from_to 60 1000) line
+  delay_timeout ← delay_timeout_in line
+  Ok (record {
+    ip = ip;
+    clock = clock;
+    port = port;
+    domain = domain;
+    wait = wait;
+    announce_timeout = announce_timeout;
+    sync_timeout = sync_timeout;
+    delay_timeout = delay_timeout;
+    wants = record { announce = announce; sync = sync; delay = delay; seconds = seconds };
+  })
+
+-- T NODE FROM
+abbrev pub handed_in : List ℕ → Result (ℕ × ℕ × ℕ) Cause
+handed_in line = do
+  at ← field 2 moment_of line
+  node ← field 3 ip_of line
+  from ← field 4 ip_of line
+  Ok (at, node, from)
+
+-- what stands behind the first word, by the form of its line
+unfoldable pub fields_in : Verb → List ℕ → Result Command Cause
+fields_in Gm line = do
+  setup ← grandmaster_in line
+  Ok (commands.Grandmaster setup)
+fields_in Slave line = do
+  setup ← slave_in line
+  Ok (commands.Slave setup)
+fields_in Master line = do
+  slave ← field 2 ip_of line
+  ip ← field 3 ip_of line
+  priority ← field 4 (from_to 0 255) line
+  rule ← field 5 rule_named line
+  Ok (commands.Master slave ip priority rule)
+fields_in Rx line = do
+  at ← field 2 moment_of line
+  node ← field 3 ip_of line
+  from ← field 4 ip_of line
+  octets ← field 5 octets_of line
+  Ok (commands.Receive at node from octets)
+fields_in Deliver line = do
+  at ← field 2 moment_of line
+  number ← field 3 (from_to 0 (2 ^ 64 - 1)) line
+  Ok (commands.Deliver at number)
+fields_in Turn line = do
+  at ← field 2 moment_of line
+  grandmaster ← field 3 ip_of line
+  table ← field 4 (from_to 0 3) line
+  Ok (commands.Turn at grandmaster table)
+fields_in Tick line = do
+  at ← field 2 moment_of line
+  slave ← field 3 ip_of line
+  Ok (commands.Tick at slave)
+fields_in Flag line = do
+  at ← field 2 moment_of line
+  slave ← field 3 ip_of line
+  master ← field 4 ip_of line
+  unusable ← field 5 truth_of line
+  Ok (commands.Flag at slave master unusable)
+fields_in Judge line = do
+  at ← field 2 moment_of line
+  slave ← field 3 ip_of line
+  master ← field 4 ip_of line
+  rule ← field 5 rule_named line
+  Ok (commands.Judge at slave master rule)
+fields_in Stop line = do
+  at ← field 2 moment_of line
+  slave ← field 3 ip_of line
+  Ok (commands.Stop at slave)
+fields_in Class line = do
+  grandmaster ← field 2 ip_of line
+  class ← field 3 (from_to 0 255) line
+  Ok (commands.Class grandmaster class)
+fields_in Capacity line = do
+  at ← field 2 moment_of line
+  grandmaster ← field 3 ip_of line
+  capacity ← field 4 (from_to 1 16777216) line
+  Ok (commands.Capacity at grandmaster capacity)
+
+-- the line has one of these numbers of words
+abbrev pub has_count : List ℕ → List ℕ → Bool
+has_count counts line = list_any (λ count. count == length (words_of line)) counts
+
+-- the command of a line that begins with this word
+abbrev pub command_by : Option Verb → List ℕ → Result Command Cause
+command_by None line = Err Word
+command_by (Some verb) line = if has_count (counts_of verb) line then fields_in verb line else Err Count
+
+-- a line without octets, or one that begins with `#`, commands nothing
+abbrev pub is_comment : List ℕ → Bool
+is_comment [] = true
+is_comment (octet ∷ rest) = octet == 35
+
+-- what a line commands, where it commands anything, or why it is refused
+unfoldable pub command_of : List ℕ → Result (Option Command) Cause
+command_of line =
+    if is_comment line then Ok None
+    else do
+      command ← command_by (verb_named (unwrap_or (word_of line 1) [])) line
+      Ok (Some command)

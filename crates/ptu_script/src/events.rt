@@ -1,0 +1,158 @@
+//! The lines that are events.
+ghost use Rattle.std.specs.Prelude.{◌≡◌, IfOk};
+ghost use Rattle.ptu_script.specs.Command.{fields_in, handed_in};
+ghost use Rattle.ptu_script.specs.Limits.{IsWithinLimits};
+ghost use Rattle.ptu_script.specs.declared.verb.Verb.TheVariants as verbs;
+
+use crate::cause::Cause;
+use crate::command::Command;
+use crate::fields::{ip_field, moment_field, number_field, octets_field, rule_field, truth_field};
+use ptu_outside::Datagram;
+use ptu_units::{Moment, OutOfMemory};
+use std::alloc::Global;
+
+/// A datagram that was sent is handed to its node.
+#[tactic(auto, unfolding(crate::specs::Command::fields_in))]
+pub fn deliver(line: &[u8]) -> Result<Command, Cause>
+    ensures value { result ≡ fields_in verbs.Deliver line.now }
+    ensures within { IfOk result IsWithinLimits }
+{
+    let at = moment_field(line, 2)?;
+    let number = number_field(line, 3, 0, u64::MAX)?;
+    Ok(Command::Deliver { at, number })
+}
+
+/// A table takes a turn.
+#[tactic(auto, unfolding(crate::specs::Command::fields_in))]
+pub fn turn(line: &[u8]) -> Result<Command, Cause>
+    ensures value { result ≡ fields_in verbs.Turn line.now }
+    ensures within { IfOk result IsWithinLimits }
+{
+    let at = moment_field(line, 2)?;
+    let grandmaster = ip_field(line, 3)?;
+    let table = number_field(line, 4, 0, 3)?;
+    Ok(Command::Turn {
+        at,
+        grandmaster,
+        table: table as usize,
+    })
+}
+
+/// A slave takes a tick.
+#[tactic(auto, unfolding(crate::specs::Command::fields_in))]
+pub fn tick(line: &[u8]) -> Result<Command, Cause>
+    ensures value { result ≡ fields_in verbs.Tick line.now }
+    ensures within { IfOk result IsWithinLimits }
+{
+    let at = moment_field(line, 2)?;
+    let slave = ip_field(line, 3)?;
+    Ok(Command::Tick { at, slave })
+}
+
+/// The operator speaks of a master.
+#[tactic(auto, unfolding(crate::specs::Command::fields_in))]
+pub fn flag(line: &[u8]) -> Result<Command, Cause>
+    ensures value { result ≡ fields_in verbs.Flag line.now }
+    ensures within { IfOk result IsWithinLimits }
+{
+    let at = moment_field(line, 2)?;
+    let slave = ip_field(line, 3)?;
+    let master = ip_field(line, 4)?;
+    let unusable = truth_field(line, 5)?;
+    Ok(Command::Flag {
+        at,
+        slave,
+        master,
+        unusable,
+    })
+}
+
+/// A judge is replaced.
+#[tactic(auto, unfolding(crate::specs::Command::fields_in))]
+pub fn judge(line: &[u8]) -> Result<Command, Cause>
+    ensures value { result ≡ fields_in verbs.Judge line.now }
+    ensures within { IfOk result IsWithinLimits }
+{
+    let at = moment_field(line, 2)?;
+    let slave = ip_field(line, 3)?;
+    let master = ip_field(line, 4)?;
+    let rule = rule_field(line, 5)?;
+    Ok(Command::Judge {
+        at,
+        slave,
+        master,
+        rule,
+    })
+}
+
+/// A slave stops.
+#[tactic(auto, unfolding(crate::specs::Command::fields_in))]
+pub fn stop(line: &[u8]) -> Result<Command, Cause>
+    ensures value { result ≡ fields_in verbs.Stop line.now }
+    ensures within { IfOk result IsWithinLimits }
+{
+    let at = moment_field(line, 2)?;
+    let slave = ip_field(line, 3)?;
+    Ok(Command::Stop { at, slave })
+}
+
+/// The class of a grandmaster changes.
+#[tactic(auto, unfolding(crate::specs::Command::fields_in))]
+pub fn class(line: &[u8]) -> Result<Command, Cause>
+    ensures value { result ≡ fields_in verbs.Class line.now }
+    ensures within { IfOk result IsWithinLimits }
+{
+    let grandmaster = ip_field(line, 2)?;
+    let class = number_field(line, 3, 0, 255)?;
+    Ok(Command::Class {
+        grandmaster,
+        class: class as u8,
+    })
+}
+
+/// The capacity of a grandmaster changes.
+#[tactic(auto, unfolding(crate::specs::Command::fields_in))]
+pub fn capacity(line: &[u8]) -> Result<Command, Cause>
+    ensures value { result ≡ fields_in verbs.Capacity line.now }
+    ensures within { IfOk result IsWithinLimits }
+{
+    let at = moment_field(line, 2)?;
+    let grandmaster = ip_field(line, 3)?;
+    let capacity = number_field(line, 4, 1, 16_777_216)?;
+    Ok(Command::Capacity {
+        at,
+        grandmaster,
+        capacity,
+    })
+}
+
+// The words T, NODE and FROM.
+fn handed(line: &[u8]) -> Result<(Moment, u32, u32), Cause>
+    ensures { result ≡ handed_in line.now }
+{
+    let at = moment_field(line, 2)?;
+    let node = ip_field(line, 3)?;
+    let from = ip_field(line, 4)?;
+    Ok((at, node, from))
+}
+
+/// A datagram is handed to a node.
+#[tactic(auto, unfolding(crate::specs::Command::fields_in))]
+pub fn rx(alloc: Global, line: &[u8]) -> Result<Result<Command, Cause>, OutOfMemory>
+    ensures value { IfOk result (λ read. read ≡ fields_in verbs.Rx line.now) }
+    ensures within { IfOk result (λ read. IfOk read IsWithinLimits) }
+{
+    let (at, node, from) = match handed(line) {
+        Ok(words) => words,
+        Err(cause) => return Ok(Err(cause)),
+    };
+    match octets_field(alloc, line, 5)? {
+        Ok(octets) => Ok(Ok(Command::Receive {
+            at,
+            node,
+            from,
+            octets,
+        })),
+        Err(cause) => Ok(Err(cause)),
+    }
+}

@@ -1,0 +1,19 @@
+//! The lines of a script: what each of them commands, or why it is refused.
+#![tactic(auto)]
+
+mod cause;
+mod command;
+mod events;
+pub mod examples;
+mod fields;
+mod reading;
+mod setups;
+mod verb;
+
+pub use cause::Cause;
+pub use command::{Command, GrandmasterSetup, SlaveSetup};
+pub use reading::read_command;
+pub use verb::Verb;
+
+#[cfg(test)]
+mod tests;

@@ -1,0 +1,5 @@
+pub mod Config
+pub mod Sending
+pub mod Reception
+pub mod Heard
+pub mod Examples

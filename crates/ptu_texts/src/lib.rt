@@ -1,0 +1,16 @@
+//! How values stand in lines of output: each is a type with `Display`, whose text its contract
+//! knows.
+#![tactic(auto)]
+
+mod faults;
+mod laws;
+mod names;
+mod octets;
+
+pub use faults::FaultText;
+pub use laws::sample_texts;
+pub use names::{AddressText, ClockText, IdentityText, KindText, LogText};
+pub use octets::OctetsText;
+
+#[cfg(test)]
+mod tests;

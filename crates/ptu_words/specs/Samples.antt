@@ -1,0 +1,17 @@
+-- Words that were made out by hand.
+use Rattle.std.specs.Prelude.{◌≡◌, [], ◌∷◌, codes, Some, None}
+use Rattle.ptu_words.specs.declared.command.Command.TheVariants.{Replay, Show}
+use Rattle.ptu_words.specs.CommandLine.{command_of}
+
+-- one command is asked for, with nothing behind it; help and version are refused
+abbrev pub WordsAreRead : Type 0
+WordsAreRead =
+    (command_of (codes "replay" ∷ []) ≡ Some Replay)
+    × (command_of (codes "show" ∷ []) ≡ Some Show)
+    × (command_of [] ≡ None)
+    × (command_of (codes "replay" ∷ codes "x" ∷ []) ≡ None)
+    × (command_of (codes "walk" ∷ []) ≡ None)
+    × (command_of (codes "help" ∷ []) ≡ None)
+    × (command_of (codes "--help" ∷ []) ≡ None)
+    × (command_of (codes "show" ∷ codes "-h" ∷ []) ≡ None)
+    × (command_of (codes "--version" ∷ []) ≡ None)

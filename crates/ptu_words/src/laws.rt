@@ -1,0 +1,17 @@
+//! Laws of the definitions that the contracts of this crate cite: each is the contract of a
+//! function that does nothing.
+
+ghost use Rattle.std.specs.Prelude.{◌≡◌, ◌↔◌, List};
+ghost use Rattle.clap.specs.Words.{Text};
+ghost use Rattle.ptu_words.specs.CommandLine.{command_of, IsRefused};
+ghost use Rattle.ptu_words.specs.Samples.{WordsAreRead};
+
+/// Words have a command exactly where the command line matches them.
+pub fn matched_words()
+    ensures { (words : List Text) → (command_of words ≡ None) ↔ IsRefused words }
+{}
+
+/// What words that were made out by hand ask for.
+pub fn sample_words()
+    ensures { WordsAreRead }
+{}

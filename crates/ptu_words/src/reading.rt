@@ -1,0 +1,54 @@
+ghost use Rattle.std.specs.Prelude.{◌≡◌, ◌≢◌, IfOk, map, option_and_then};
+ghost use Rattle.clap.specs.Words.{app_of, subcommand_name_of};
+ghost use Rattle.ptu_words.specs.CommandLine.{command_line, command_named, command_of};
+
+use crate::command::Command;
+use clap::error::ErrorKind;
+use ptu_units::OutOfMemory;
+use std::alloc::{AllocError, Global};
+
+// The command line.
+fn whole_line<'a>(alloc: Global) -> Result<clap::Command<'a>, AllocError>
+    ensures { IfOk result (λ line. app_of line ≡ command_line) }
+{
+    let replay = clap::Command::new(alloc, "replay");
+    let show = clap::Command::new(alloc, "show");
+    let program = clap::Command::new(alloc, "ptpuni")
+        .no_binary_name(true)
+        .subcommand_required(true)
+        .disable_help_subcommand(true);
+    let line = program.subcommand(replay)?;
+    line.subcommand(show)
+}
+
+// What matches ask for.
+fn command_in(matches: &clap::ArgMatches) -> Option<Command>
+    ensures { result ≡ option_and_then command_named (subcommand_name_of matches.now) }
+{
+    Command::named(matches.subcommand_name()?)
+}
+
+// What words ask for that are refused: nothing.
+fn unmatched(kind: ErrorKind) -> Result<Option<Command>, OutOfMemory>
+    ensures { IfOk result (λ found. (found ≡ None) × (kind ≢ ErrorKind.OutOfMemory)) }
+{
+    match kind {
+        ErrorKind::OutOfMemory => Err(OutOfMemory),
+        _ => Ok(None),
+    }
+}
+
+/// What the words after the program's name ask for, or `None` where the command line does not match
+/// them.
+///
+/// # Errors
+/// `OutOfMemory`.
+pub fn read_words(alloc: Global, words: &[&str]) -> Result<Option<Command>, OutOfMemory>
+    ensures { IfOk result (λ found. found ≡ command_of (map (λ w. w.now) words.now)) }
+{
+    let line = whole_line(alloc)?;
+    match line.try_get_matches_from(words) {
+        Ok(matches) => Ok(command_in(&matches)),
+        Err(error) => unmatched(error.kind()),
+    }
+}

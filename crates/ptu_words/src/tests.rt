@@ -1,0 +1,17 @@
+use super::*;
+use ptu_units::OutOfMemory;
+
+#[test]
+fn words_are_read(rt: HostRuntime) -> Result<(), OutOfMemory> {
+    let alloc = rt.alloc();
+    for (words, wanted) in [
+        (["replay"].as_slice(), Some(Command::Replay)),
+        (["show"].as_slice(), Some(Command::Show)),
+        (["show", "x"].as_slice(), None),
+        (["help"].as_slice(), None),
+        ([].as_slice(), None),
+    ] {
+        assert_eq!(rt; read_words(alloc, words)?, wanted);
+    }
+    Ok(())
+}
