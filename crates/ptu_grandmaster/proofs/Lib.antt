@@ -1,0 +1,9 @@
+pub mod OneTable
+pub mod AllTables
+pub mod Unchanged
+pub mod After
+pub mod Progress
+pub mod Answering
+pub mod Heard
+pub mod Closes
+pub mod Cancelling

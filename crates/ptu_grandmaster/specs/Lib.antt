@@ -1,0 +1,6 @@
+pub mod Gm
+pub mod Deciding
+pub mod Outcomes
+pub mod Taking
+pub mod Changed
+pub mod Lends

@@ -1,0 +1,21 @@
+//! A grandmaster: a datagram in, decisions and datagrams out. It keeps four tables of leases, one
+//! book, and the port of its Signaling messages.
+#![tactic(auto)]
+
+mod closing;
+mod deciding;
+mod gm;
+mod outcome;
+mod replying;
+mod resizing;
+mod taking;
+mod turning;
+
+pub use gm::Gm;
+pub use outcome::{Outcome, Outcomes, Reply, Taken};
+pub use ptu_items::{GmReason, Item, Items, asks_of, cancel_of};
+pub use replying::reply_of;
+pub use resizing::Changed;
+
+#[cfg(test)]
+mod tests;

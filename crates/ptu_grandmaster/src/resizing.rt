@@ -1,0 +1,147 @@
+//! Changes of capacity.
+
+ghost use Rattle.std.specs.Prelude.{◌≡◌, ◌+◌, ◌%◌, ℕ, List, [], ◌∷◌, ◌++◌, map, length, IfOk, OnErr, OnOk};
+ghost use Rattle.ptu_outside.specs.Faults.{HasNotFallen, HasRisen};
+ghost use Rattle.ptu_outside.specs.HandsOver.{HandsOver};
+ghost use Rattle.ptu_outside.specs.Telling.{IfTold, append_told};
+ghost use Rattle.ptu_history.specs.Core.{book_step_moment, core_step};
+ghost use Rattle.ptu_history.specs.Events as events;
+ghost use Rattle.ptu_history.specs.History.{Record};
+ghost use Rattle.ptu_history.specs.Shedding.{shed_grants};
+ghost use Rattle.ptu_admit.specs.Book.{IsCapacity};
+ghost use Rattle.ptu_admit.specs.Lent.{moment_for_all};
+ghost use Rattle.ptu_admit.specs.Shed.{shed_of};
+ghost use Rattle.ptu_items.specs.Deciding.{opened_with};
+ghost use Rattle.ptu_items.specs.Replies.{cancel_to, cancels_to};
+ghost use Rattle.ptu_grandmaster.specs.Changed.{leases_shed};
+ghost use Rattle.ptu_grandmaster.specs.Gm.{StandsFor, tables};
+
+use crate::gm::Gm;
+use ptu_admit::{Shed, ShedList, resize};
+use ptu_items::cancel_of;
+use ptu_outside::{Channel, Failed, Port};
+use ptu_shard::GmConfig;
+use ptu_units::{Moment, OutOfMemory};
+
+/// What a change of capacity did.
+#[derive(Drop)]
+pub struct Changed {
+    /// When it was decided.
+    pub at: Moment,
+    /// The grants that were shed, in order.
+    pub shed: ShedList,
+    /// How many CANCELs were sent.
+    pub sent: u64,
+    /// How many sends of a CANCEL failed.
+    pub failed: u64,
+}
+
+// Hands the CANCEL of a grant that was shed to the port.
+fn send_cancel<P: Port>(
+    port: &mut P,
+    config: &GmConfig,
+    sequence: u16,
+    shed: &Shed,
+) -> Result<(), Failed>
+    ensures handed { OnOk result (IfTold (P.sent port.new) (append_told (P.sent port.old)
+        (cancel_to config.now shed.now.client shed.now.kind sequence ∷ []))) }
+    ensures kept { OnErr result (IfTold (P.sent port.new) (P.sent port.old)) }
+    ensures waiting { P.waiting port.new ≡ P.waiting port.old }
+    ensures risen { OnErr result (HasRisen (P.faults port.old) (P.faults port.new)) }
+    ensures quiet { OnOk result (P.faults port.new ≡ P.faults port.old) }
+    ensures no_fall { HasNotFallen (P.faults port.old) (P.faults port.new) }
+{
+    let mut out = [0; 428];
+    let size = cancel_of(config, &shed.client, shed.kind, sequence, &mut out);
+    port.send(shed.client.ip, Channel::General, &out[..size])
+}
+
+// Hands the CANCELs of these grants to the port, in order, numbered from `first` on. Gives how many
+// were sent and how many sends failed.
+fn send_cancels<P: Port>(port: &mut P, config: &GmConfig, first: u16, shed: &[Shed]) -> (u64, u64)
+    ensures sends { HandsOver (P.sent port.old) (P.sent port.new) (P.faults port.old)
+        (P.faults port.new) (cancels_to config.now first (leases_shed shed.now))
+        result.0 result.1 }
+    ensures count { result.0 + result.1 ≡ length shed.now }
+    ensures waiting { P.waiting port.new ≡ P.waiting port.old }
+{
+    let mut sequence = first;
+    let mut sent = 0;
+    let mut failed = 0;
+    for grant in shed {
+        match send_cancel(port, config, sequence, grant) {
+            Ok(()) => sent += 1,
+            Err(_) => failed += 1,
+        }
+        sequence = sequence.wrapping_add(1);
+    }
+    (sent, failed)
+}
+
+// The sequenceId that comes so many after this one.
+fn later(sequence: u16, count: u64) -> u16
+    ensures { result ≡ (sequence + count) % 65536 }
+{
+    sequence.wrapping_add((count % 65536) as u16)
+}
+
+impl<P: Port> Gm<P> {
+    /// Changes the capacity in force to this many sixteenths of a message per second, at the core's
+    /// moment for `t`. Where the live grants are above it, the newest are shed until the rest fits,
+    /// each with a CANCEL to its client. The CANCELs of a grandmaster are numbered from 0, failed
+    /// ones too.
+    ///
+    /// # Errors
+    /// After `OutOfMemory` nothing has changed, and nothing was sent.
+    pub fn set_capacity(&mut self, t: Moment, capacity: u64) -> Result<Changed, OutOfMemory>
+        requires { IsCapacity capacity }
+        ensures unchanged { OnErr result (self.new ≡ self.old) }
+        ensures at { IfOk result (λ c. c.at
+            ≡ moment_for_all t self.old.book (tables self.old)) }
+        // The CANCELs of the grants that are shed are handed to the reply port, in order.
+        ensures sends { IfOk result (λ c. HandsOver (P.sent self.old.reply)
+            (P.sent self.new.reply) (P.faults self.old.reply) (P.faults self.new.reply)
+            (cancels_to self.old.config self.old.sequence (leases_shed c.shed)) c.sent c.failed) }
+        ensures count { IfOk result (λ c. c.sent + c.failed ≡ length c.shed) }
+        ensures waiting { P.waiting self.new.reply ≡ P.waiting self.old.reply }
+        ensures ports { (self.new.s0.port ≡ self.old.s0.port) × (self.new.s1.port ≡ self.old.s1.port)
+            × (self.new.s2.port ≡ self.old.s2.port) × (self.new.s3.port ≡ self.old.s3.port) }
+        ensures config { self.new.config ≡ self.old.config }
+        // They are those of the core's change after each history that the grandmaster stands for,
+        // which goes on with it.
+        ensures shed { (opening : ℕ) (history : List Record) →
+            StandsFor opening self.old history → IfOk result (λ c.
+            (c.at ≡ book_step_moment history t)
+            × (c.shed ≡ map shed_of (shed_grants history c.at capacity))) }
+        ensures stands { (opening : ℕ) (history : List Record) →
+            StandsFor opening self.old history → IfOk result (λ c.
+            StandsFor opening self.new (history
+            ++ (core_step (opened_with opening self.old.config) history t
+            (events.Resize capacity)).records)) }
+    {
+        let resized = resize(
+            self.alloc,
+            &mut self.s0,
+            &mut self.s1,
+            &mut self.s2,
+            &mut self.s3,
+            &mut self.book,
+            t,
+            capacity,
+        )?;
+        let shed = resized.shed;
+        let (sent, failed) = send_cancels(
+            &mut self.reply,
+            &self.config,
+            self.sequence,
+            shed.list(),
+        );
+        self.sequence = later(self.sequence, sent + failed);
+        Ok(Changed {
+            at: resized.at,
+            shed,
+            sent,
+            failed,
+        })
+    }
+}

@@ -1,0 +1,155 @@
+use super::*;
+use ptu_admit::{Cancelled, Verdict};
+use ptu_header::PortIdentity;
+use ptu_outside::{Channel, MemPort};
+use ptu_shard::{GmConfig, Turned};
+use ptu_units::Moment;
+use std::alloc::Global;
+use std::process::Abort;
+use std::test::Fail;
+
+const SECOND: u64 = 1_000_000_000;
+
+const CONFIG: GmConfig = GmConfig {
+    identity: PortIdentity {
+        clock: 0x0a00_0000_0000_0001,
+        port: 1,
+    },
+    domain: 4,
+    class: 84,
+    max_duration: 300,
+    epoch: 0,
+};
+
+/// The addresses of two clients, one of table 2 and one of table 3.
+const FIRST: u32 = 0x0a00_0111;
+
+const SECOND_CLIENT: u32 = 0x0a00_0112;
+
+/// A REQUEST of Announce at logarithm 1, and of Sync at logarithm 0, for 300 s.
+const ANNOUNCE: &str = "00040006b0010000012c";
+
+const SYNC: &str = "0004000600000000012c";
+
+fn moment(nanos: u64) -> Result<Moment, Fail> {
+    Ok(Moment::of(nanos).ok_or("a moment is below 2^62")?)
+}
+
+// A Signaling of so many octets of the client at this address to every port, with these TLVs.
+fn signaling(alloc: Global, from: u32, octets: u8, tlvs: &str) -> Result<Vec<u8>, Fail> {
+    let mut bytes = hex::decode(
+        alloc,
+        "0c120036040004000000000000000000000000000a000000000000110001\
+         0000057fffffffffffffffffffff",
+    )?;
+    if let Some(length) = bytes.get_mut(3) {
+        *length = octets;
+    }
+    if let Some(clock) = bytes.get_mut(27) {
+        *clock = (from % 256) as u8;
+    }
+    bytes.extend_from_slice(&hex::decode(alloc, tlvs)?)?;
+    Ok(bytes)
+}
+
+// A port with room, that fails at the listed sends.
+fn port(alloc: Global, fails: Vec<u64>) -> Result<MemPort, Fail> {
+    let mut port = MemPort::new(alloc, Vec::new(alloc), fails, Vec::new(alloc));
+    port.reserve(8, 8 * 64)?;
+    Ok(port)
+}
+
+// A grandmaster of capacity 16, whose port 2 fails at the listed sends.
+fn grandmaster(alloc: Global, fails: Vec<u64>) -> Result<Gm<MemPort>, Fail> {
+    let p0 = port(alloc, Vec::new(alloc))?;
+    let p1 = port(alloc, Vec::new(alloc))?;
+    let p2 = port(alloc, fails)?;
+    let p3 = port(alloc, Vec::new(alloc))?;
+    let reply = port(alloc, Vec::new(alloc))?;
+    Ok(Gm::new(alloc, CONFIG, 16, p0, p1, p2, p3, reply))
+}
+
+#[test]
+fn a_grant_is_sent_cancelled_and_closed(rt: HostRuntime) -> Result<(), Fail> {
+    let alloc = rt.alloc();
+    let mut gm = grandmaster(alloc, vec![in alloc; 1]?)?;
+    let asked = gm.take(moment(0)?, FIRST, &signaling(alloc, FIRST, 54, SYNC)?)?;
+    assert!(rt; matches!(&asked, Taken::Asked(_, Reply::Sent)));
+    assert_eq!(rt; gm.count(2), 1);
+    // A failed send spends its period. The moment of each turn, what is sent and what fails.
+    for (at, sent, failed) in [(SECOND, 0, 1), (1_999_999_999, 0, 0), (2 * SECOND, 1, 0)] {
+        let at = moment(at)?;
+        assert_eq!(rt; gm.turn(2, at), Turned { at, sent, failed });
+    }
+    // A CANCEL with an early moment, twice: its code is no kind, and Sync.
+    for (tlvs, answer) in [
+        ("000600023000", None),
+        (
+            "000600020000",
+            Some(Cancelled {
+                at: moment(2 * SECOND)?,
+                ended: true,
+            }),
+        ),
+    ] {
+        match gm.take(moment(SECOND)?, FIRST, &signaling(alloc, FIRST, 50, tlvs)?)? {
+            Taken::Asked(outcomes, Reply::Sent) => {
+                let Some(Outcome::Cancel(_, found)) = outcomes.list().first() else {
+                    return Err(Fail::new("a CANCEL has its answer"));
+                };
+                assert_eq!(rt; *found, answer);
+            }
+            _ => return Err(Fail::new("a CANCEL is answered")),
+        }
+    }
+    assert_eq!(rt; gm.turn(2, moment(7 * SECOND)?).sent, 0);
+    let reply = hex::decode(
+        alloc,
+        "0c120038040004000000000000000000000000000a0000000000000100010000\
+         057f0a0000000000001100010005000800000000012c0001",
+    )?;
+    assert_eq!(rt;
+        gm.ports(4).sent(0),
+        Some((FIRST, Channel::General, reply.as_slice()))
+    );
+    let (closed, _) = gm.close();
+    assert_eq!(rt; (closed.granted, closed.refused, closed.total), (1, 0, 0));
+    Ok(())
+}
+
+#[test]
+fn a_lower_capacity_sheds_the_newest(rt: HostRuntime) -> Result<(), Fail> {
+    let alloc = rt.alloc();
+    let mut gm = grandmaster(alloc, Vec::new(alloc))?;
+    gm.set_class(90);
+    gm.take(moment(0)?, FIRST, &signaling(alloc, FIRST, 54, ANNOUNCE)?)?;
+    let request = signaling(alloc, SECOND_CLIENT, 54, ANNOUNCE)?;
+    gm.take(moment(SECOND)?, SECOND_CLIENT, &request)?;
+    let changed = gm.set_capacity(moment(2 * SECOND)?, 8)?;
+    assert_eq!(rt;
+        (changed.shed.list().len(), changed.sent, changed.failed),
+        (1, 1, 0)
+    );
+    let cancel = hex::decode(
+        alloc,
+        "0c120032040004000000000000000000000000000a000000000000010001\
+         0000057f0a00000000000012000100060002b000",
+    )?;
+    assert_eq!(rt;
+        gm.ports(4).sent(2),
+        Some((SECOND_CLIENT, Channel::General, cancel.as_slice()))
+    );
+    match gm.take(moment(2 * SECOND)?, SECOND_CLIENT, &request)? {
+        Taken::Asked(outcomes, _) => assert!(rt;
+            matches!(
+                outcomes.list().first(),
+                Some(Outcome::Verdict(_, Verdict::Short(_)))
+            )
+        ),
+        _ => return Err(Fail::new("a Signaling is answered")),
+    }
+    let (closed, _) = gm.close();
+    assert_eq!(rt; closed.counts, [0, 0, 8, 0]);
+    assert_eq!(rt; (closed.granted, closed.refused), (2, 1));
+    Ok(())
+}
