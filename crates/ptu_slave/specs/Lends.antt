@@ -1,0 +1,2 @@
+-- Lends
+use Rattle.std.specs.Borrow.{Fml, Lends, MutBor, RattleType}

@@ -1,0 +1,6 @@
+//! A slave.
+#![tactic(auto)]
+
+mod slave;
+
+pub use slave::{Core, Slave};

@@ -1,0 +1,4 @@
+pub mod Config
+pub mod Sending
+pub mod Reception
+pub mod Heard

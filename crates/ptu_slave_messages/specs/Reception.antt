@@ -1,0 +1,61 @@
+-- Which datagrams a slave takes, and why it ignores the others. The order of the reasons is this project's own choice.
+use Rattle.std.specs.Prelude.{ℕ, Bool, true, false, not, ◌&&◌, ◌||◌, ◌==◌, if◌then◌else◌, List, Option, Some, None, Result, Ok, Err}
+use Rattle.ptu_header.specs.declared.header.PortIdentity.{PortIdentity}
+use Rattle.ptu_messages.specs.declared.message.Body.{Body}
+use Rattle.ptu_messages.specs.declared.message.Body.TheVariants.{DelayReq, DelayResp, Signaling, Ignored}
+use Rattle.ptu_messages.specs.declared.message.Message.{Message}
+use Rattle.ptu_messages.specs.Reading.{message_in}
+use Rattle.ptu_messages.specs.declared.fault.MessageFault.{MessageFault}
+use Rattle.ptu_slave_messages.specs.declared.config.Master.{Master}
+use Rattle.ptu_slave_messages.specs.declared.config.SlaveConfig.{SlaveConfig}
+use Rattle.ptu_slave_messages.specs.declared.reason.SlaveReason.{SlaveReason}
+use Rattle.ptu_slave_messages.specs.declared.reason.SlaveReason.TheVariants.{Fault, UnknownType, Other, Stranger, Domain, Target}
+use Rattle.ptu_slave_messages.specs.Config.{place_of}
+use Rattle.ptu_slave_messages.specs.Sending.{all_ones}
+
+-- the message is of a type that this project does not know
+abbrev pub is_unknown : Body → Bool
+is_unknown Ignored = true
+is_unknown body = false
+
+-- the one type that is known and not for a slave
+abbrev pub is_delay_req : Body → Bool
+is_delay_req (DelayReq stamp) = true
+is_delay_req body = false
+
+abbrev pub is_same : PortIdentity → PortIdentity → Bool
+is_same a b = (a.clock == b.clock) && (a.port == b.port)
+
+-- a targetPortIdentity matches where each part is the own one or all ones
+abbrev pub is_target : PortIdentity → PortIdentity → Bool
+is_target own target =
+    ((target.clock == own.clock) || (target.clock == all_ones.clock)) && ((target.port == own.port) || (target.port == all_ones.port))
+
+-- a Signaling is for the slave by its target, a Delay_Resp by whose Delay_Req it answers, and other messages always
+abbrev pub is_for : PortIdentity → Body → Bool
+is_for own (Signaling target tlvs) = is_target own target
+is_for own (DelayResp stamp requester) = is_same requester own
+is_for own body = true
+
+-- what a message of the master at this place is to the slave: taken, or ignored for the first reason that applies
+abbrev pub from_master : SlaveConfig → Message → Option ℕ → Result (ℕ × Message) SlaveReason
+from_master config message None = Err Stranger
+from_master config message (Some m) =
+    if not (message.header.domain == config.domain) then Err (Domain message.header.domain)
+    else if not (is_for config.identity message.body) then Err Target
+    else Ok (m, message)
+
+-- the same of a message that was read, whoever sent it
+abbrev pub of_message : SlaveConfig → List Master → ℕ → Message → Result (ℕ × Message) SlaveReason
+of_message config masters ip message =
+    if is_unknown message.body then Err (UnknownType message.header.message_type)
+    else if is_delay_req message.body then Err (Other message.header.message_type)
+    else from_master config message (place_of masters ip)
+
+abbrev pub of_reading : SlaveConfig → List Master → ℕ → Result Message MessageFault → Result (ℕ × Message) SlaveReason
+of_reading config masters ip (Err fault) = Err (Fault fault)
+of_reading config masters ip (Ok message) = of_message config masters ip message
+
+-- what a datagram from this IPv4 address is to the slave: a message of the master at a place, or the first reason to ignore it
+abbrev pub reception : SlaveConfig → List Master → ℕ → List ℕ → Result (ℕ × Message) SlaveReason
+reception config masters ip octets = of_reading config masters ip (message_in octets)

@@ -1,0 +1,108 @@
+-- What a slave sends to its masters, as datagrams (IEEE 1588-2019 clauses 13.6, 13.12 and 16.1.4).
+use Rattle.std.specs.Prelude.{ℕ, List, [], ◌∷◌, ◌++◌, map, filter, Option, option_map, option_to_list, unwrap_or, Bool, pos}
+use Rattle.ptu_units.specs.declared.kind.Kind.{Kind}
+use Rattle.ptu_units.specs.declared.kind.Kind.TheVariants.{Announce, Sync, DelayResp}
+use Rattle.ptu_units.specs.Kind.{code_of, kinds}
+use Rattle.ptu_header.specs.declared.header.Header.{Header}
+use Rattle.ptu_header.specs.declared.header.PortIdentity.{PortIdentity}
+use Rattle.ptu_tlvs.specs.declared.tlv.Tlv.{Tlv}
+use Rattle.ptu_tlvs.specs.declared.tlv.Tlv.TheVariants as tlv
+use Rattle.ptu_messages.specs.declared.message.Body.TheVariants as body
+use Rattle.ptu_messages.specs.declared.message.Message.{Message}
+use Rattle.ptu_messages.specs.Sent.{sent_message, signaling}
+use Rattle.ptu_outside.specs.declared.channel.Channel.{Channel}
+use Rattle.ptu_outside.specs.declared.channel.Channel.TheVariants.{Event, General}
+use Rattle.ptu_outside.specs.Departure.{Departure}
+use Rattle.ptu_record.specs.declared.wants.Wants.{Wants}
+use Rattle.ptu_record.specs.Tick.{Sending, Requests, Cancels, Acknowledgements, DelayReq, one_signaling}
+use Rattle.ptu_record.specs.Wants.{wanted_log}
+use Rattle.ptu_slave_messages.specs.declared.config.Master.{Master}
+use Rattle.ptu_slave_messages.specs.declared.config.SlaveConfig.{SlaveConfig}
+use Rattle.ptu_slave_messages.specs.declared.kinds.Kinds.{Kinds}
+use Rattle.ptu_slave_messages.specs.declared.plan.Asks.{Asks}
+use Rattle.ptu_slave_messages.specs.declared.plan.Ends.{Ends}
+use Rattle.ptu_slave_messages.specs.Config.{address_of}
+
+-- ---- messages
+
+-- the header of a message of this type: own domain and identity, and the unicastFlag alone of the flags
+abbrev pub header_of : SlaveConfig → ℕ → ℕ → Header
+header_of config message_type sequence =
+    record {
+      message_type = message_type;
+      domain = config.domain;
+      flags = 0x0400;
+      correction = pos 0;
+      source = config.identity;
+      sequence = sequence;
+    }
+
+-- the targetPortIdentity of a Signaling that is no reply: every port of every clock
+abbrev pub all_ones : PortIdentity
+all_ones = record { clock = 0xffffffffffffffff; port = 0xffff }
+
+-- the REQUEST of a kind that the slave wants
+abbrev pub request_of : Wants → Kind → Tlv
+request_of wants k =
+    tlv.Request (record { code = code_of k; log = unwrap_or (wanted_log wants k) (pos 0); seconds = wants.seconds })
+
+-- the CANCEL of a kind
+abbrev pub cancel_of : Kind → Tlv
+cancel_of k = tlv.Cancel (code_of k)
+
+-- the message of a sending; a Signaling has this target, and a Delay_Req, with the timestamp 0, has none
+abbrev pub message_of : SlaveConfig → PortIdentity → Sending → Message
+message_of config target (Requests m number ks) = signaling (header_of config 12 number) target (map (request_of config.wants) ks)
+message_of config target (Cancels m number ks) = signaling (header_of config 12 number) target (map cancel_of ks)
+message_of config target (Acknowledgements m number codes) = signaling (header_of config 12 number) target (map tlv.Ack codes)
+message_of config target (DelayReq m number) =
+    record { header = header_of config 1 number; body = body.DelayReq (record { seconds = 0; nanos = 0 }) }
+
+-- ---- datagrams
+
+-- the channel of a sending (IEEE 1588-2019 annex C)
+abbrev pub channel_of : Sending → Channel
+channel_of (Requests m number ks) = General
+channel_of (Cancels m number ks) = General
+channel_of (Acknowledgements m number codes) = General
+channel_of (DelayReq m number) = Event
+
+-- the place of the master that it is sent to
+abbrev pub receiver : Sending → ℕ
+receiver (Requests m number ks) = m
+receiver (Cancels m number ks) = m
+receiver (Acknowledgements m number codes) = m
+receiver (DelayReq m number) = m
+
+-- the octets of a message as they are sent
+unfoldable pub octets_sent : Message → List ℕ
+octets_sent message = sent_message message
+
+-- the datagram of a sending, to this IPv4 address
+abbrev pub departure_to : SlaveConfig → ℕ → PortIdentity → Sending → Departure
+departure_to config ip target sending =
+    record { ip = ip; channel = channel_of sending; bytes = octets_sent (message_of config target sending) }
+
+-- the datagram of a sending to one of these masters
+abbrev pub departure_of : SlaveConfig → List Master → PortIdentity → Sending → Departure
+departure_of config masters target sending = departure_to config (address_of masters (receiver sending)) target sending
+
+-- ---- what is made up for one master
+
+-- the kinds that are among these, in their order
+abbrev pub is_among : Kinds → Kind → Bool
+is_among some Announce = some.announce
+is_among some Sync = some.sync
+is_among some DelayResp = some.delay
+
+abbrev pub kinds_in : Kinds → List Kind
+kinds_in some = filter (is_among some) kinds
+
+-- what a tick sends to the master at a place
+abbrev pub ask_sendings : ℕ → Asks → List Sending
+ask_sendings m asks =
+    one_signaling (Requests m asks.number) (kinds_in asks.kinds) ++ option_to_list (option_map (DelayReq m) asks.delay_req)
+
+-- what the stop sends to the master at a place
+abbrev pub end_sendings : ℕ → Ends → List Sending
+end_sendings m ends = one_signaling (Cancels m ends.number) (kinds_in ends.kinds)

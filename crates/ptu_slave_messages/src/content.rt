@@ -1,0 +1,27 @@
+use crate::signal::SignalList;
+use ptu_header::PortIdentity;
+use ptu_messages::TlvList;
+
+/// What a slave needs of a message that it takes.
+#[derive(Debug, Drop)]
+pub struct Taken {
+    /// The place of the master that sent it.
+    pub master: usize,
+    /// The sourcePortIdentity.
+    pub source: PortIdentity,
+    /// The sequenceId.
+    pub sequence: u16,
+    pub content: Content,
+}
+
+/// The same of its body.
+#[derive(Debug, Drop)]
+pub enum Content {
+    /// With its clockClass.
+    Announce(u8),
+    Sync,
+    FollowUp,
+    DelayResp,
+    /// What a Signaling says, and the ACKNOWLEDGE_CANCELs that answer it.
+    Signals(SignalList, TlvList),
+}

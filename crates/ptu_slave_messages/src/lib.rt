@@ -1,0 +1,27 @@
+//! The datagrams of a slave: what it sends to its masters, and what it makes of those that it is
+//! sent (IEEE 1588-2019 clauses 13 and 16.1).
+#![tactic(auto)]
+
+mod config;
+mod content;
+mod heard;
+mod kinds;
+mod plan;
+mod reason;
+mod receiving;
+mod sending;
+mod signal;
+mod signaling;
+mod sorting;
+mod tally;
+
+pub use config::{Master, SlaveConfig};
+pub use content::{Content, Taken};
+pub use heard::{Heard, HeardReply};
+pub use kinds::Kinds;
+pub use plan::{Asks, Ends};
+pub use reason::SlaveReason;
+pub use receiving::receive;
+pub use sending::{send_asks, send_ends, send_reply};
+pub use signal::{Signal, SignalList};
+pub use tally::Tally;

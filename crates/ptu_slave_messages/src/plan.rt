@@ -1,0 +1,21 @@
+use crate::kinds::Kinds;
+
+/// What a tick sends to one master.
+#[derive(Clone, Copy, Debug, PartialEq, Eq, Hash)]
+pub struct Asks {
+    /// The kinds that a Signaling asks for; none is sent where there are none.
+    pub kinds: Kinds,
+    /// The sequenceId of that Signaling.
+    pub number: u16,
+    /// The sequenceId of a Delay_Req, where one is sent.
+    pub delay_req: Option<u16>,
+}
+
+/// What the stop sends to one master.
+#[derive(Clone, Copy, Debug, PartialEq, Eq, Hash)]
+pub struct Ends {
+    /// The kinds that a Signaling cancels; none is sent where there are none.
+    pub kinds: Kinds,
+    /// The sequenceId of that Signaling.
+    pub number: u16,
+}

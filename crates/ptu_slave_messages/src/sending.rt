@@ -1,0 +1,161 @@
+//! What a slave sends, as it is handed to a port.
+
+ghost use Rattle.std.specs.Prelude.{◌≡◌, ◌+◌, ◌≤◌, ◌∷◌, [], ℕ, List, map, length, All, option_map, option_to_list};
+ghost use Rattle.ptu_header.specs.declared.header.PortIdentity.{PortIdentity};
+ghost use Rattle.ptu_messages.specs.Sent.{signaling};
+ghost use Rattle.ptu_outside.specs.HandsOver.{HandsOver};
+ghost use Rattle.ptu_record.specs.Step.{one_reply};
+ghost use Rattle.ptu_record.specs.Tick.{Requests, Cancels, DelayReq, one_signaling};
+ghost use Rattle.ptu_tlvs.specs.Sent.{IsSendable};
+ghost use Rattle.ptu_tlvs.specs.declared.tlv.Tlv.TheVariants.{Ack};
+ghost use Rattle.ptu_slave_messages.specs.Heard.{failed_by, sent_by};
+ghost use Rattle.ptu_slave_messages.specs.Sending.{all_ones, ask_sendings, departure_to, end_sendings, header_of, kinds_in, octets_sent};
+
+use crate::config::SlaveConfig;
+use crate::heard::HeardReply;
+use crate::kinds::Kinds;
+use crate::plan::{Asks, Ends};
+use crate::signaling::{ALL_ONES, SIGNALING, delay_req, header, put_cancels, put_requests};
+use crate::tally::Tally;
+use ptu_header::PortIdentity;
+use ptu_messages::{write_fixed, write_signaling};
+use ptu_outside::{Channel, Port};
+use ptu_tlvs::Tlv;
+
+// Hands a Signaling with these TLVs to the port.
+fn send_signaling<P: Port>(
+    port: &mut P,
+    config: &SlaveConfig,
+    ip: u32,
+    target: &PortIdentity,
+    number: u16,
+    tlvs: &[Tlv],
+) -> Tally
+    requires few { length tlvs.now ≤ 32 }
+    requires sendable { All IsSendable tlvs.now }
+    ensures sends { HandsOver (P.sent port.old) (P.sent port.new) (P.faults port.old)
+        (P.faults port.new)
+        (record {
+          ip = ip;
+          channel = Channel.General;
+          bytes = octets_sent (signaling (header_of config.now 12 number) target.now tlvs.now);
+        } ∷ [])
+        result.sent result.failed }
+    ensures waiting { P.waiting port.new ≡ P.waiting port.old }
+{
+    let mut octets = [0; 428];
+    let size = write_signaling(
+        &header(config, SIGNALING, number),
+        target,
+        tlvs,
+        &mut octets,
+    );
+    Tally::of(port.send(ip, Channel::General, &octets[..size]))
+}
+
+// Hands a Signaling with a REQUEST for each of the kinds to the port, where there are some.
+fn send_requests<P: Port>(
+    port: &mut P,
+    config: &SlaveConfig,
+    ip: u32,
+    number: u16,
+    kinds: Kinds,
+) -> Tally
+    ensures sends { (m : ℕ) → HandsOver (P.sent port.old) (P.sent port.new) (P.faults port.old)
+        (P.faults port.new)
+        (map (departure_to config.now ip all_ones)
+        (one_signaling (Requests m number) (kinds_in kinds)))
+        result.sent result.failed }
+    ensures waiting { P.waiting port.new ≡ P.waiting port.old }
+    ensures few { result.sent + result.failed ≤ 1 }
+{
+    let mut tlvs = [Tlv::Ack(0); 3];
+    let count = put_requests(&mut tlvs, &config.wants, kinds);
+    if count == 0 {
+        return Tally::none();
+    }
+    send_signaling(port, config, ip, &ALL_ONES, number, &tlvs[..count])
+}
+
+// Hands a Delay_Req to the port, where one has a number.
+fn send_delay_req<P: Port>(
+    port: &mut P,
+    config: &SlaveConfig,
+    ip: u32,
+    number: Option<u16>,
+) -> Tally
+    ensures sends { (m : ℕ) → HandsOver (P.sent port.old) (P.sent port.new) (P.faults port.old)
+        (P.faults port.new)
+        (map (departure_to config.now ip all_ones)
+        (option_to_list (option_map (DelayReq m) number)))
+        result.sent result.failed }
+    ensures waiting { P.waiting port.new ≡ P.waiting port.old }
+    ensures few { result.sent + result.failed ≤ 1 }
+{
+    let Some(number) = number else {
+        return Tally::none();
+    };
+    let mut octets = [0; 64];
+    let size = write_fixed(&delay_req(config, number), &mut octets);
+    Tally::of(port.send(ip, Channel::Event, &octets[..size]))
+}
+
+/// Hands to the port what a tick sends to one master: the Signaling, and then the Delay_Req.
+pub fn send_asks<P: Port>(port: &mut P, config: &SlaveConfig, ip: u32, asks: &Asks) -> Tally
+    ensures sends { (m : ℕ) → HandsOver (P.sent port.old) (P.sent port.new) (P.faults port.old)
+        (P.faults port.new)
+        (map (departure_to config.now ip all_ones) (ask_sendings m asks.now))
+        result.sent result.failed }
+    ensures waiting { P.waiting port.new ≡ P.waiting port.old }
+    ensures few { result.sent + result.failed ≤ 2 }
+{
+    let asked = send_requests(port, config, ip, asks.number, asks.kinds);
+    let probed = send_delay_req(port, config, ip, asks.delay_req);
+    asked.and(probed)
+}
+
+/// Hands to the port what the stop sends to one master.
+pub fn send_ends<P: Port>(port: &mut P, config: &SlaveConfig, ip: u32, ends: &Ends) -> Tally
+    ensures sends { (m : ℕ) → HandsOver (P.sent port.old) (P.sent port.new) (P.faults port.old)
+        (P.faults port.new)
+        (map (departure_to config.now ip all_ones) (end_sendings m ends.now))
+        result.sent result.failed }
+    ensures waiting { P.waiting port.new ≡ P.waiting port.old }
+    ensures few { result.sent + result.failed ≤ 1 }
+{
+    let mut tlvs = [Tlv::Ack(0); 3];
+    let count = put_cancels(&mut tlvs, ends.kinds);
+    if count == 0 {
+        return Tally::none();
+    }
+    send_signaling(port, config, ip, &ALL_ONES, ends.number, &tlvs[..count])
+}
+
+/// Hands the reply to a Signaling with this sequenceId and sourcePortIdentity to the port, where it
+/// has an ACKNOWLEDGE_CANCEL.
+pub fn send_reply<P: Port>(
+    port: &mut P,
+    config: &SlaveConfig,
+    ip: u32,
+    target: &PortIdentity,
+    number: u16,
+    acks: &[Tlv],
+) -> HeardReply
+    requires few { length acks.now ≤ 32 }
+    requires sendable { All IsSendable acks.now }
+    ensures sends { (m : ℕ) (codes : List ℕ) → acks.now ≡ map Ack codes →
+        HandsOver (P.sent port.old) (P.sent port.new) (P.faults port.old) (P.faults port.new)
+        (map (departure_to config.now ip target.now) (one_reply m number codes))
+        (sent_by result) (failed_by result) }
+    ensures waiting { P.waiting port.new ≡ P.waiting port.old }
+{
+    if acks.is_empty() {
+        return HeardReply::Nothing;
+    }
+    let tally = send_signaling(port, config, ip, target, number, acks);
+    if tally.failed == 0 {
+        HeardReply::Sent
+    } else {
+        HeardReply::Failed
+    }
+}
