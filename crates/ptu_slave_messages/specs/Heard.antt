@@ -1,14 +1,16 @@
 -- What a message that a slave takes is to it: an event, and what its caller is told of it (IEEE 1588-2019 clauses 13 and 16.1).
-use Rattle.std.specs.Prelude.{ℕ, cond, ◌==◌, List, [], ◌∷◌, map, filter_map, Option, Some, None, option_map, Result, Ok, Err}
+use Rattle.std.specs.Prelude.{ℕ, ⊤, cond, ◌==◌, ◌≤◌, List, [], ◌∷◌, All, length, filter_map, Option, Some, None, option_map, Result, Ok, Err}
 use Rattle.ptu_units.specs.declared.kind.Kind.{Kind}
 use Rattle.ptu_header.specs.declared.header.PortIdentity.{PortIdentity}
 use Rattle.ptu_tlvs.specs.declared.tlv.Tlv.{Tlv}
 use Rattle.ptu_tlvs.specs.declared.tlv.Tlv.TheVariants as tlv
+use Rattle.ptu_tlvs.specs.Sent.{IsSendable}
 use Rattle.ptu_messages.specs.declared.message.Body.{Body}
 use Rattle.ptu_messages.specs.declared.message.Body.TheVariants as body
 use Rattle.ptu_messages.specs.declared.message.Message.{Message}
 use Rattle.ptu_record.specs.declared.wants.Wants.{Wants}
-use Rattle.ptu_record.specs.Step.{Signal as Said, GrantTlv, CancelTlv, AckTlv, SlaveEvent, TakeAnnounce, TakeSync, TakeFollowUp, TakeDelayResp, TakeSignaling, cancel_code, wanted_kind}
+use Rattle.ptu_record.specs.Step.{Signal as Said, GrantTlv, CancelTlv, AckTlv, SlaveEvent, TakeAnnounce, TakeSync, TakeFollowUp, TakeDelayResp, TakeSignaling, cancel_code, one_reply, wanted_kind}
+use Rattle.ptu_record.specs.Tick.{Sending}
 use Rattle.ptu_slave_messages.specs.declared.content.Content.{Content}
 use Rattle.ptu_slave_messages.specs.declared.content.Content.TheVariants as content
 use Rattle.ptu_slave_messages.specs.declared.content.Taken.{Taken}
@@ -41,16 +43,28 @@ event_of m message = elim message.body as (λ _. SlaveEvent) [
   | body.Ignored ↦ TakeFollowUp m
 ]
 
+-- what answers it: one reply to the CANCELs of a Signaling
+abbrev pub replies_to : ℕ → Message → List Sending
+replies_to m message = elim message.body as (λ _. List Sending) [
+  | body.Signaling target tlvs ↦ one_reply m message.header.sequence (filter_map cancel_code (filter_map said_by tlvs))
+  | _ ↦ []
+]
+
 -- ---- what the caller is told
 
--- a GRANT of a kind that the slave requests, a denial where it is for 0 seconds; and each CANCEL and ACKNOWLEDGE_CANCEL
-abbrev pub told_of : Wants → Said → Option Signal
-told_of wants (GrantTlv code seconds) = option_map (λ k. cond (seconds == 0) (Denial k) (Grant k seconds)) (wanted_kind wants code)
-told_of wants (CancelTlv code) = Some (Cancel code)
-told_of wants (AckTlv code) = Some (Ack code)
+-- a GRANT is told where the slave requests its kind, as a denial where it is for 0 seconds
+abbrev pub grant_signal : ℕ → Kind → Signal
+grant_signal seconds k = cond (seconds == 0) (Denial k) (Grant k seconds)
+
+-- what is told of a TLV: of a GRANT of another kind, of a REQUEST, and of a TLV of another type nothing
+abbrev pub signal_by : Wants → Tlv → Option Signal
+signal_by wants (tlv.Grant ask invited) = option_map (grant_signal ask.seconds) (wanted_kind wants ask.code)
+signal_by wants (tlv.Cancel code) = Some (Cancel code)
+signal_by wants (tlv.Ack code) = Some (Ack code)
+signal_by wants v = None
 
 abbrev pub signals_of : Wants → List Tlv → List Signal
-signals_of wants tlvs = filter_map (told_of wants) (filter_map said_by tlvs)
+signals_of wants tlvs = filter_map (signal_by wants) tlvs
 
 -- of a message at the moment x
 abbrev pub heard_of : Wants → ℕ → HeardReply → ℕ × Message → Heard
@@ -92,9 +106,23 @@ reply_by (x ∷ xs) = Sent
 
 -- ---- what is kept of a message between reading and taking it
 
--- the ACKNOWLEDGE_CANCELs that answer the TLVs of a Signaling
+-- the ACKNOWLEDGE_CANCEL that answers a TLV
+abbrev pub ack_by : Tlv → Option Tlv
+ack_by (tlv.Cancel code) = Some (tlv.Ack code)
+ack_by v = None
+
 abbrev pub acks_of : List Tlv → List Tlv
-acks_of tlvs = map tlv.Ack (filter_map cancel_code (filter_map said_by tlvs))
+acks_of tlvs = filter_map ack_by tlvs
+
+-- it is the body of a Signaling
+abbrev pub HasTlvs : Body → Type 0
+HasTlvs (body.Signaling target tlvs) = ⊤
+HasTlvs b = ⊥
+
+-- they fit a Signaling, and can be sent
+abbrev pub FitsReply : Content → Type 0
+FitsReply (content.Signals list acks) = (length acks ≤ 32) × All IsSendable acks
+FitsReply c = ⊤
 
 abbrev pub content_of : Wants → Body → Content
 content_of wants (body.Announce announce) = content.Announce announce.class

@@ -37,24 +37,29 @@ is_for own (Signaling target tlvs) = is_target own target
 is_for own (DelayResp stamp requester) = is_same requester own
 is_for own body = true
 
--- what a message of the master at this place is to the slave: taken, or ignored for the first reason that applies
-abbrev pub from_master : SlaveConfig → Message → Option ℕ → Result (ℕ × Message) SlaveReason
+-- of a message of the master at this place: the place, or the first reason to ignore it
+abbrev pub from_master : SlaveConfig → Message → Option ℕ → Result ℕ SlaveReason
 from_master config message None = Err Stranger
 from_master config message (Some m) =
     if not (message.header.domain == config.domain) then Err (Domain message.header.domain)
     else if not (is_for config.identity message.body) then Err Target
-    else Ok (m, message)
+    else Ok m
 
--- the same of a message that was read, whoever sent it
-abbrev pub of_message : SlaveConfig → List Master → ℕ → Message → Result (ℕ × Message) SlaveReason
-of_message config masters ip message =
+-- the same of a message, whoever sent it
+abbrev pub sender_of : SlaveConfig → List Master → ℕ → Message → Result ℕ SlaveReason
+sender_of config masters ip message =
     if is_unknown message.body then Err (UnknownType message.header.message_type)
     else if is_delay_req message.body then Err (Other message.header.message_type)
     else from_master config message (place_of masters ip)
 
+-- each with the message
+abbrev pub beside : Message → Result ℕ SlaveReason → Result (ℕ × Message) SlaveReason
+beside message (Err reason) = Err reason
+beside message (Ok m) = Ok (m, message)
+
 abbrev pub of_reading : SlaveConfig → List Master → ℕ → Result Message MessageFault → Result (ℕ × Message) SlaveReason
 of_reading config masters ip (Err fault) = Err (Fault fault)
-of_reading config masters ip (Ok message) = of_message config masters ip message
+of_reading config masters ip (Ok message) = beside message (sender_of config masters ip message)
 
 -- what a datagram from this IPv4 address is to the slave: a message of the master at a place, or the first reason to ignore it
 abbrev pub reception : SlaveConfig → List Master → ℕ → List ℕ → Result (ℕ × Message) SlaveReason

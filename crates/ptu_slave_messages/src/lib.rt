@@ -21,7 +21,7 @@ pub use heard::{Heard, HeardReply};
 pub use kinds::Kinds;
 pub use plan::{Asks, Ends};
 pub use reason::SlaveReason;
-pub use receiving::receive;
+pub use receiving::{receive, requested};
 pub use sending::{send_asks, send_ends, send_reply};
 pub use signal::{Signal, SignalList};
 pub use tally::Tally;

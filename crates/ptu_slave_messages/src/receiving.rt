@@ -1,23 +1,24 @@
 //! A datagram as a slave receives it.
 
-ghost use Rattle.std.specs.Prelude.{◌≡◌, ◌≤◌, ℕ, List, Ok, length, map, All, IfOk, IsErr, filter_map};
+ghost use Rattle.std.specs.Prelude.{◌≡◌, ℕ, IfOk, IsErr};
 ghost use Rattle.ptu_messages.specs.Message.{SpellsMessage};
 ghost use Rattle.ptu_messages.specs.MessageFault.{IsSignaling};
 ghost use Rattle.ptu_messages.specs.Reading.{message_in};
-ghost use Rattle.ptu_tlvs.specs.Sent.{IsSendable};
-ghost use Rattle.ptu_slave_messages.specs.Heard.{acks_of, content_of, said_by, signals_of, taken_of, taken_or_not, told_of};
+ghost use Rattle.ptu_messages.specs.declared.message.Body.{Body};
+ghost use Rattle.ptu_record.specs.Step.{wanted_kind};
+ghost use Rattle.ptu_slave_messages.specs.Heard.{FitsReply, HasTlvs, ack_by, acks_of, content_of, grant_signal, signal_by, signals_of, taken_or_not};
 ghost use Rattle.ptu_slave_messages.specs.Reception.{reception};
 
 use crate::config::{Master, SlaveConfig};
 use crate::content::{Content, Taken};
 use crate::reason::SlaveReason;
 use crate::signal::{Signal, SignalList};
-use crate::sorting::sort;
+use crate::sorting::sender;
 use ptu_messages::{Body, Message, MessageFault, TlvList, read_message};
 use ptu_record::Wants;
 use ptu_tlvs::Tlv;
 use ptu_units::{Kind, OutOfMemory};
-use std::alloc::Global;
+use std::alloc::{AllocError, Global};
 
 // What the octets spell.
 fn read(alloc: Global, bytes: &[u8]) -> Result<Result<Message, MessageFault>, OutOfMemory>
@@ -32,19 +33,34 @@ fn read(alloc: Global, bytes: &[u8]) -> Result<Result<Message, MessageFault>, Ou
     }
 }
 
-// What a TLV tells the slave's caller.
+/// The kind with this messageType, where the slave requests it.
+pub fn requested(wants: &Wants, code: u8) -> Option<Kind>
+    ensures { result ≡ wanted_kind wants.now code }
+{
+    let kind = Kind::of(code)?;
+    match wants.log(kind) {
+        Some(_) => Some(kind),
+        None => None,
+    }
+}
+
+// A GRANT of a kind for so many seconds.
+fn grant(seconds: u32, kind: Kind) -> Signal
+    ensures { result ≡ grant_signal seconds kind }
+{
+    if seconds == 0 {
+        Signal::Denial(kind)
+    } else {
+        Signal::Grant(kind, seconds)
+    }
+}
+
+// What is told of a TLV.
 fn signal(wants: &Wants, tlv: &Tlv) -> Option<Signal>
+    ensures { result ≡ signal_by wants.now tlv.now }
 {
     match *tlv {
-        Tlv::Grant(ask, _) => {
-            let kind = Kind::of(ask.code)?;
-            wants.log(kind)?;
-            if ask.seconds == 0 {
-                Some(Signal::Denial(kind))
-            } else {
-                Some(Signal::Grant(kind, ask.seconds))
-            }
-        }
+        Tlv::Grant(ask, _) => requested(wants, ask.code).map(|kind| grant(ask.seconds, kind)),
         Tlv::Cancel(code) => Some(Signal::Cancel(code)),
         Tlv::Ack(code) => Some(Signal::Ack(code)),
         Tlv::Request(_) | Tlv::Other { .. } => None,
@@ -53,6 +69,7 @@ fn signal(wants: &Wants, tlv: &Tlv) -> Option<Signal>
 
 // The ACKNOWLEDGE_CANCEL that answers a TLV.
 fn ack(tlv: &Tlv) -> Option<Tlv>
+    ensures { result ≡ ack_by tlv.now }
 {
     match *tlv {
         Tlv::Cancel(code) => Some(Tlv::Ack(code)),
@@ -60,27 +77,35 @@ fn ack(tlv: &Tlv) -> Option<Tlv>
     }
 }
 
-// What a Signaling says, and what answers it.
-fn signals(alloc: Global, wants: &Wants, tlvs: &[Tlv]) -> Result<(SignalList, TlvList), OutOfMemory>
-    ensures signals { IfOk result (λ both. both.0 ≡ signals_of wants.now tlvs.now) }
-    ensures acks { IfOk result (λ both. both.1 ≡ acks_of tlvs.now) }
+// What is told of the TLVs of a Signaling.
+fn signals(alloc: Global, wants: &Wants, tlvs: &[Tlv]) -> Result<Vec<Signal>, AllocError>
+    ensures { IfOk result (λ list. list.items ≡ signals_of wants.now tlvs.now) }
 {
-    let list = tlvs.iter().filter_map(|tlv| signal(wants, tlv)).collect(alloc)?;
-    let acks = tlvs.iter().filter_map(|tlv| ack(tlv)).collect(alloc)?;
-    Ok((SignalList::new(list), TlvList::new(acks)))
+    tlvs.iter()
+        .filter_map(|tlv| signal(wants, tlv))
+        .collect(alloc)
+}
+
+// What answers them.
+fn acks(alloc: Global, tlvs: &[Tlv]) -> Result<Vec<Tlv>, AllocError>
+    ensures { IfOk result (λ acks. acks.items ≡ acks_of tlvs.now) }
+{
+    tlvs.iter().filter_map(ack).collect(alloc)
 }
 
 // What is kept of a body.
 fn content(alloc: Global, wants: &Wants, body: &Body) -> Result<Content, OutOfMemory>
-    ensures { IfOk result (λ content. content ≡ content_of wants.now body.now) }
+    ensures content { IfOk result (λ content. content ≡ content_of wants.now body.now) }
+    ensures memory { IsErr result → HasTlvs body.now }
 {
     Ok(match body {
         Body::Announce(announce) => Content::Announce(announce.class),
         Body::Sync(_) => Content::Sync,
         Body::DelayResp(..) => Content::DelayResp,
         Body::Signaling(_, tlvs) => {
-            let (list, acks) = signals(alloc, wants, tlvs.list())?;
-            Content::Signals(list, acks)
+            let list = signals(alloc, wants, tlvs.list())?;
+            let acks = acks(alloc, tlvs.list())?;
+            Content::Signals(SignalList::new(list), TlvList::new(acks))
         }
         Body::FollowUp(_) | Body::DelayReq(_) | Body::Ignored => Content::FollowUp,
     })
@@ -100,14 +125,15 @@ pub fn receive(
 ) -> Result<Result<Taken, SlaveReason>, OutOfMemory>
     ensures answer { IfOk result (λ answer. answer ≡
         taken_or_not config.now.wants (reception config.now masters.now from bytes.now)) }
+    ensures reply { IfOk result (λ answer. IfOk answer (λ taken. FitsReply taken.content)) }
     ensures memory { IsErr result → (n : ℕ) × IsSignaling bytes.now n }
 {
     let message = match read(alloc, bytes)? {
         Ok(message) => message,
         Err(fault) => return Ok(Err(SlaveReason::Fault(fault))),
     };
-    let (master, message) = match sort(config, masters, from, message) {
-        Ok(taken) => taken,
+    let master = match sender(config, masters, from, &message) {
+        Ok(master) => master,
         Err(reason) => return Ok(Err(reason)),
     };
     let content = content(alloc, &config.wants, &message.body)?;

@@ -22,6 +22,19 @@ use ptu_messages::{write_fixed, write_signaling};
 use ptu_outside::{Channel, Port};
 use ptu_tlvs::Tlv;
 
+// Hands a datagram to the port.
+fn hand<P: Port>(port: &mut P, ip: u32, channel: Channel, bytes: &[u8]) -> Tally
+    ensures sends { HandsOver (P.sent port.old) (P.sent port.new) (P.faults port.old)
+        (P.faults port.new) (record { ip = ip; channel = channel; bytes = bytes.now } ∷ [])
+        result.sent result.failed }
+    ensures waiting { P.waiting port.new ≡ P.waiting port.old }
+{
+    match port.send(ip, channel, bytes) {
+        Ok(()) => Tally { sent: 1, failed: 0 },
+        Err(_) => Tally { sent: 0, failed: 1 },
+    }
+}
+
 // Hands a Signaling with these TLVs to the port.
 fn send_signaling<P: Port>(
     port: &mut P,
@@ -50,7 +63,7 @@ fn send_signaling<P: Port>(
         tlvs,
         &mut octets,
     );
-    Tally::of(port.send(ip, Channel::General, &octets[..size]))
+    hand(port, ip, Channel::General, &octets[..size])
 }
 
 // Hands a Signaling with a REQUEST for each of the kinds to the port, where there are some.
@@ -97,7 +110,7 @@ fn send_delay_req<P: Port>(
     };
     let mut octets = [0; 64];
     let size = write_fixed(&delay_req(config, number), &mut octets);
-    Tally::of(port.send(ip, Channel::Event, &octets[..size]))
+    hand(port, ip, Channel::Event, &octets[..size])
 }
 
 /// Hands to the port what a tick sends to one master: the Signaling, and then the Delay_Req.

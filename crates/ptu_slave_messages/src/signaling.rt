@@ -1,9 +1,8 @@
 //! The messages that a slave sends (IEEE 1588-2019 clauses 13.6 and 16.1.4).
 
-ghost use Rattle.std.specs.Prelude.{◌≡◌, ◌+◌, ◌<◌, ◌++◌, ◌∷◌, [], List, cond, take, map, All};
+ghost use Rattle.std.specs.Prelude.{◌≡◌, ◌+◌, ◌<◌, ◌++◌, ◌∷◌, [], List, cond, take, map};
 ghost use Rattle.ptu_messages.specs.Sent.{IsFixed};
 ghost use Rattle.ptu_record.specs.Tick.{DelayReq};
-ghost use Rattle.ptu_tlvs.specs.Sent.{IsSendable};
 ghost use Rattle.ptu_slave_messages.specs.Sending.{all_ones, cancel_of, header_of, kinds_in, message_of, request_of};
 
 use crate::config::SlaveConfig;
@@ -101,7 +100,6 @@ fn put_each(tlvs: &mut [Tlv; 3], kinds: Kinds, announce: Tlv, sync: Tlv, delay: 
 pub(crate) fn put_requests(tlvs: &mut [Tlv; 3], wants: &Wants, kinds: Kinds) -> usize
     ensures few { result < 4 }
     ensures tlvs { take result tlvs.new ≡ map (request_of wants.now) (kinds_in kinds) }
-    ensures sendable { All IsSendable (take result tlvs.new) }
 {
     put_each(
         tlvs,
@@ -116,7 +114,6 @@ pub(crate) fn put_requests(tlvs: &mut [Tlv; 3], wants: &Wants, kinds: Kinds) -> 
 pub(crate) fn put_cancels(tlvs: &mut [Tlv; 3], kinds: Kinds) -> usize
     ensures few { result < 4 }
     ensures tlvs { take result tlvs.new ≡ map cancel_of (kinds_in kinds) }
-    ensures sendable { All IsSendable (take result tlvs.new) }
 {
     put_each(
         tlvs,

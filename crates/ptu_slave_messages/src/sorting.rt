@@ -2,7 +2,7 @@
 
 ghost use Rattle.std.specs.Prelude.{◌≡◌};
 ghost use Rattle.ptu_slave_messages.specs.Config.{place_of};
-ghost use Rattle.ptu_slave_messages.specs.Reception.{is_delay_req, is_for, is_target, is_unknown, of_message};
+ghost use Rattle.ptu_slave_messages.specs.Reception.{is_delay_req, is_for, is_target, is_unknown, sender_of};
 
 use crate::config::{Master, SlaveConfig};
 use crate::reason::SlaveReason;
@@ -50,15 +50,14 @@ fn is_of_delay_req(body: &Body) -> bool
     matches!(body, Body::DelayReq(_))
 }
 
-/// The place of the master that sent the message, with the message, or the first reason to ignore
-/// it.
-pub(crate) fn sort(
+/// The place of the master that sent the message, or the first reason to ignore it.
+pub(crate) fn sender(
     config: &SlaveConfig,
     masters: &[Master],
     from: u32,
-    message: Message,
-) -> Result<(usize, Message), SlaveReason>
-    ensures { result ≡ of_message config.now masters.now from message }
+    message: &Message,
+) -> Result<usize, SlaveReason>
+    ensures { result ≡ sender_of config.now masters.now from message.now }
 {
     if is_of_unknown_type(&message.body) {
         return Err(SlaveReason::UnknownType(message.header.message_type));
@@ -75,5 +74,5 @@ pub(crate) fn sort(
     if !suits(config.identity, &message.body) {
         return Err(SlaveReason::Target);
     }
-    Ok((master, message))
+    Ok(master)
 }

@@ -1,6 +1,4 @@
-ghost use Rattle.std.specs.Prelude.{◌≡◌, ◌+◌, ◌<◌, ◌^◌, is_ok, if◌then◌else◌};
-
-use ptu_outside::Failed;
+ghost use Rattle.std.specs.Prelude.{◌≡◌, ◌+◌, ◌<◌, ◌^◌};
 
 /// How many datagrams were sent, and how many failed to be sent.
 #[derive(Clone, Copy, Debug, PartialEq, Eq, Hash)]
@@ -15,17 +13,6 @@ impl Tally {
         ensures { result ≡ record { sent = 0; failed = 0 } }
     {
         Tally { sent: 0, failed: 0 }
-    }
-
-    /// One datagram was, with this answer.
-    pub fn of(answer: Result<(), Failed>) -> Tally
-        ensures { result ≡ (if is_ok answer then record { sent = 1; failed = 0 }
-            else record { sent = 0; failed = 1 }) }
-    {
-        match answer {
-            Ok(()) => Tally { sent: 1, failed: 0 },
-            Err(_) => Tally { sent: 0, failed: 1 },
-        }
     }
 
     /// Both together.

@@ -1,0 +1,19 @@
+use Rattle.std.proofs.Common.{◌++◌, map, subst, sym}
+use Rattle.std.proofs.lemmas.List.{map-append}
+use Rattle.std.specs.Option.{option_map, option_to_list}
+use Rattle.ptu_outside.specs.HandsOver.{HandsOver}
+use Rattle.ptu_record.specs.Tick.{Requests, DelayReq, one_signaling}
+use Rattle.ptu_slave_messages.specs.Sending.{all_ones, departure_to, kinds_in}
+use Rattle.ptu_slave_messages.proofs.Handing.{hands_both}
+use Rattle.ptu_slave_messages.proofs.sending.send_asks.Goals as goal
+
+pub returns-clause-sends : goal.returns-clause-sends
+returns-clause-sends g c = λ m.
+    let f = departure_to c.args.config.now c.args.ip all_ones in
+    let asks = one_signaling (Requests m c.args.asks.now.number) (kinds_in c.args.asks.now.kinds) in
+    let probes = option_to_list (option_map (DelayReq m) c.args.asks.now.delay_req) in
+    rw (c.and.ensures, map-append f asks probes)
+    (hands_both (g.P.Port.sent c.args.port.now) (g.P.Port.sent c.send_requests-asked.new.port) (g.P.Port.sent c.send_delay_req-probed.new.port)
+    (g.P.Port.faults c.args.port.now) (g.P.Port.faults c.send_requests-asked.new.port) (g.P.Port.faults c.send_delay_req-probed.new.port)
+    (map f asks) (map f probes) c.send_requests-asked.result.sent c.send_requests-asked.result.failed c.send_delay_req-probed.result.sent c.send_delay_req-probed.result.failed
+    (c.send_requests-asked.ensures.sends m) (c.send_delay_req-probed.ensures.sends m))
