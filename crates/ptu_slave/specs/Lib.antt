@@ -1,2 +1,4 @@
+pub mod Kept
+pub mod Standing
+pub mod Parts
 pub mod Node
-pub mod Lends

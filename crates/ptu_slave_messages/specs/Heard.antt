@@ -1,5 +1,5 @@
 -- What a message that a slave takes is to it: an event, and what its caller is told of it (IEEE 1588-2019 clauses 13 and 16.1).
-use Rattle.std.specs.Prelude.{ℕ, ⊤, cond, ◌==◌, ◌≤◌, List, [], ◌∷◌, All, length, filter_map, Option, Some, None, option_map, Result, Ok, Err}
+use Rattle.std.specs.Prelude.{ℕ, ⊤, cond, ◌==◌, ◌≤◌, List, [], ◌∷◌, All, length, map, filter_map, Option, Some, None, option_map, Result, Ok, Err}
 use Rattle.ptu_units.specs.declared.kind.Kind.{Kind}
 use Rattle.ptu_header.specs.declared.header.PortIdentity.{PortIdentity}
 use Rattle.ptu_tlvs.specs.declared.tlv.Tlv.{Tlv}
@@ -8,9 +8,12 @@ use Rattle.ptu_tlvs.specs.Sent.{IsSendable}
 use Rattle.ptu_messages.specs.declared.message.Body.{Body}
 use Rattle.ptu_messages.specs.declared.message.Body.TheVariants as body
 use Rattle.ptu_messages.specs.declared.message.Message.{Message}
+use Rattle.ptu_outside.specs.Departure.{Departure}
 use Rattle.ptu_record.specs.declared.wants.Wants.{Wants}
 use Rattle.ptu_record.specs.Step.{Signal as Said, GrantTlv, CancelTlv, AckTlv, SlaveEvent, TakeAnnounce, TakeSync, TakeFollowUp, TakeDelayResp, TakeSignaling, cancel_code, one_reply, wanted_kind}
 use Rattle.ptu_record.specs.Tick.{Sending}
+use Rattle.ptu_slave_messages.specs.declared.config.Master.{Master}
+use Rattle.ptu_slave_messages.specs.declared.config.SlaveConfig.{SlaveConfig}
 use Rattle.ptu_slave_messages.specs.declared.content.Content.{Content}
 use Rattle.ptu_slave_messages.specs.declared.content.Content.TheVariants as content
 use Rattle.ptu_slave_messages.specs.declared.content.Taken.{Taken}
@@ -21,6 +24,7 @@ use Rattle.ptu_slave_messages.specs.declared.heard.HeardReply.TheVariants.{Sent,
 use Rattle.ptu_slave_messages.specs.declared.reason.SlaveReason.{SlaveReason}
 use Rattle.ptu_slave_messages.specs.declared.signal.Signal.{Signal}
 use Rattle.ptu_slave_messages.specs.declared.signal.Signal.TheVariants.{Grant, Denial, Cancel, Ack}
+use Rattle.ptu_slave_messages.specs.Sending.{departure_of}
 
 -- ---- the event
 
@@ -49,6 +53,15 @@ replies_to m message = elim message.body as (λ _. List Sending) [
   | body.Signaling target tlvs ↦ one_reply m message.header.sequence (filter_map cancel_code (filter_map said_by tlvs))
   | _ ↦ []
 ]
+
+-- the datagrams of the reply to a message
+abbrev pub reply_datagrams : SlaveConfig → List Master → ℕ × Message → List Departure
+reply_datagrams config masters (m, message) = map (departure_of config masters message.header.source) (replies_to m message)
+
+-- the same of a datagram, by what it is to the slave
+abbrev pub replies_in : SlaveConfig → List Master → Result (ℕ × Message) SlaveReason → List Departure
+replies_in config masters (Err reason) = []
+replies_in config masters (Ok taken) = reply_datagrams config masters taken
 
 -- ---- what the caller is told
 

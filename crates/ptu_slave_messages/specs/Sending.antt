@@ -1,5 +1,5 @@
 -- What a slave sends to its masters, as datagrams (IEEE 1588-2019 clauses 13.6, 13.12 and 16.1.4).
-use Rattle.std.specs.Prelude.{ℕ, List, [], ◌∷◌, ◌++◌, map, filter, Option, option_map, option_to_list, unwrap_or, Bool, pos}
+use Rattle.std.specs.Prelude.{ℕ, List, [], ◌∷◌, ◌++◌, map, filter, Option, option_map, option_to_list, unwrap_or, Bool, true, false, pos}
 use Rattle.ptu_units.specs.declared.kind.Kind.{Kind}
 use Rattle.ptu_units.specs.declared.kind.Kind.TheVariants.{Announce, Sync, DelayResp}
 use Rattle.ptu_units.specs.Kind.{code_of, kinds}
@@ -19,8 +19,8 @@ use Rattle.ptu_record.specs.Wants.{wanted_log}
 use Rattle.ptu_slave_messages.specs.declared.config.Master.{Master}
 use Rattle.ptu_slave_messages.specs.declared.config.SlaveConfig.{SlaveConfig}
 use Rattle.ptu_slave_messages.specs.declared.kinds.Kinds.{Kinds}
-use Rattle.ptu_slave_messages.specs.declared.plan.Asks.{Asks}
-use Rattle.ptu_slave_messages.specs.declared.plan.Ends.{Ends}
+use Rattle.ptu_slave_messages.specs.declared.plan.TickPlan.{TickPlan}
+use Rattle.ptu_slave_messages.specs.declared.plan.StopPlan.{StopPlan}
 use Rattle.ptu_slave_messages.specs.Config.{address_of}
 
 -- ---- messages
@@ -98,11 +98,15 @@ is_among some DelayResp = some.delay
 abbrev pub kinds_in : Kinds → List Kind
 kinds_in some = filter (is_among some) kinds
 
+abbrev pub are_some : List Kind → Bool
+are_some [] = false
+are_some (k ∷ ks) = true
+
 -- what a tick sends to the master at a place
-abbrev pub ask_sendings : ℕ → Asks → List Sending
-ask_sendings m asks =
-    one_signaling (Requests m asks.number) (kinds_in asks.kinds) ++ option_to_list (option_map (DelayReq m) asks.delay_req)
+abbrev pub tick_plan : ℕ → TickPlan → List Sending
+tick_plan m plan =
+    one_signaling (Requests m plan.number) (kinds_in plan.kinds) ++ option_to_list (option_map (DelayReq m) plan.delay_req)
 
 -- what the stop sends to the master at a place
-abbrev pub end_sendings : ℕ → Ends → List Sending
-end_sendings m ends = one_signaling (Cancels m ends.number) (kinds_in ends.kinds)
+abbrev pub stop_plan : ℕ → StopPlan → List Sending
+stop_plan m plan = one_signaling (Cancels m plan.number) (kinds_in plan.kinds)

@@ -2,7 +2,7 @@ use crate::kinds::Kinds;
 
 /// What a tick sends to one master.
 #[derive(Clone, Copy, Debug, PartialEq, Eq, Hash)]
-pub struct Asks {
+pub struct TickPlan {
     /// The kinds that a Signaling asks for; none is sent where there are none.
     pub kinds: Kinds,
     /// The sequenceId of that Signaling.
@@ -13,7 +13,7 @@ pub struct Asks {
 
 /// What the stop sends to one master.
 #[derive(Clone, Copy, Debug, PartialEq, Eq, Hash)]
-pub struct Ends {
+pub struct StopPlan {
     /// The kinds that a Signaling cancels; none is sent where there are none.
     pub kinds: Kinds,
     /// The sequenceId of that Signaling.

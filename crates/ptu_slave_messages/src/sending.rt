@@ -9,12 +9,12 @@ ghost use Rattle.ptu_record.specs.Tick.{Requests, Cancels, DelayReq, one_signali
 ghost use Rattle.ptu_tlvs.specs.Sent.{IsSendable};
 ghost use Rattle.ptu_tlvs.specs.declared.tlv.Tlv.TheVariants.{Ack};
 ghost use Rattle.ptu_slave_messages.specs.Heard.{failed_by, sent_by};
-ghost use Rattle.ptu_slave_messages.specs.Sending.{all_ones, ask_sendings, departure_to, end_sendings, header_of, kinds_in, octets_sent};
+ghost use Rattle.ptu_slave_messages.specs.Sending.{all_ones, tick_plan, departure_to, stop_plan, header_of, kinds_in, octets_sent};
 
 use crate::config::SlaveConfig;
 use crate::heard::HeardReply;
 use crate::kinds::Kinds;
-use crate::plan::{Asks, Ends};
+use crate::plan::{TickPlan, StopPlan};
 use crate::signaling::{ALL_ONES, SIGNALING, delay_req, header, put_cancels, put_requests};
 use crate::tally::Tally;
 use ptu_header::PortIdentity;
@@ -114,34 +114,34 @@ fn send_delay_req<P: Port>(
 }
 
 /// Hands to the port what a tick sends to one master: the Signaling, and then the Delay_Req.
-pub fn send_asks<P: Port>(port: &mut P, config: &SlaveConfig, ip: u32, asks: &Asks) -> Tally
+pub fn send_tick<P: Port>(port: &mut P, config: &SlaveConfig, ip: u32, plan: &TickPlan) -> Tally
     ensures sends { (m : ℕ) → HandsOver (P.sent port.old) (P.sent port.new) (P.faults port.old)
         (P.faults port.new)
-        (map (departure_to config.now ip all_ones) (ask_sendings m asks.now))
+        (map (departure_to config.now ip all_ones) (tick_plan m plan.now))
         result.sent result.failed }
     ensures waiting { P.waiting port.new ≡ P.waiting port.old }
     ensures few { result.sent + result.failed ≤ 2 }
 {
-    let asked = send_requests(port, config, ip, asks.number, asks.kinds);
-    let probed = send_delay_req(port, config, ip, asks.delay_req);
+    let asked = send_requests(port, config, ip, plan.number, plan.kinds);
+    let probed = send_delay_req(port, config, ip, plan.delay_req);
     asked.and(probed)
 }
 
 /// Hands to the port what the stop sends to one master.
-pub fn send_ends<P: Port>(port: &mut P, config: &SlaveConfig, ip: u32, ends: &Ends) -> Tally
+pub fn send_stop<P: Port>(port: &mut P, config: &SlaveConfig, ip: u32, plan: &StopPlan) -> Tally
     ensures sends { (m : ℕ) → HandsOver (P.sent port.old) (P.sent port.new) (P.faults port.old)
         (P.faults port.new)
-        (map (departure_to config.now ip all_ones) (end_sendings m ends.now))
+        (map (departure_to config.now ip all_ones) (stop_plan m plan.now))
         result.sent result.failed }
     ensures waiting { P.waiting port.new ≡ P.waiting port.old }
     ensures few { result.sent + result.failed ≤ 1 }
 {
     let mut tlvs = [Tlv::Ack(0); 3];
-    let count = put_cancels(&mut tlvs, ends.kinds);
+    let count = put_cancels(&mut tlvs, plan.kinds);
     if count == 0 {
         return Tally::none();
     }
-    send_signaling(port, config, ip, &ALL_ONES, ends.number, &tlvs[..count])
+    send_signaling(port, config, ip, &ALL_ONES, plan.number, &tlvs[..count])
 }
 
 /// Hands the reply to a Signaling with this sequenceId and sourcePortIdentity to the port, where it

@@ -2,8 +2,8 @@ use Rattle.std.proofs.Common.{sym, subst, All}
 use Rattle.ptu_tlvs.specs.Sent.{IsSendable}
 use Rattle.ptu_slave_messages.specs.Sending.{kinds_in}
 use Rattle.ptu_slave_messages.proofs.Codes.{cancels_sendable}
-use Rattle.ptu_slave_messages.proofs.sending.send_ends.Goals as goal
+use Rattle.ptu_slave_messages.proofs.sending.send_stop.Goals as goal
 
 pub send_signaling-requires-clause-sendable : goal.send_signaling-requires-clause-sendable
 send_signaling-requires-clause-sendable g c =
-    subst (All IsSendable) (sym c.put_cancels-count.ensures.tlvs) (cancels_sendable (kinds_in c.args.ends.now.kinds))
+    subst (All IsSendable) (sym c.put_cancels-count.ensures.tlvs) (cancels_sendable (kinds_in c.args.plan.now.kinds))

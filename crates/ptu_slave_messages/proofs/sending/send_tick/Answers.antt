@@ -5,13 +5,13 @@ use Rattle.ptu_outside.specs.HandsOver.{HandsOver}
 use Rattle.ptu_record.specs.Tick.{Requests, DelayReq, one_signaling}
 use Rattle.ptu_slave_messages.specs.Sending.{all_ones, departure_to, kinds_in}
 use Rattle.ptu_slave_messages.proofs.Handing.{hands_both}
-use Rattle.ptu_slave_messages.proofs.sending.send_asks.Goals as goal
+use Rattle.ptu_slave_messages.proofs.sending.send_tick.Goals as goal
 
 pub returns-clause-sends : goal.returns-clause-sends
 returns-clause-sends g c = λ m.
     let f = departure_to c.args.config.now c.args.ip all_ones in
-    let asks = one_signaling (Requests m c.args.asks.now.number) (kinds_in c.args.asks.now.kinds) in
-    let probes = option_to_list (option_map (DelayReq m) c.args.asks.now.delay_req) in
+    let asks = one_signaling (Requests m c.args.plan.now.number) (kinds_in c.args.plan.now.kinds) in
+    let probes = option_to_list (option_map (DelayReq m) c.args.plan.now.delay_req) in
     rw (c.and.ensures, map-append f asks probes)
     (hands_both (g.P.Port.sent c.args.port.now) (g.P.Port.sent c.send_requests-asked.new.port) (g.P.Port.sent c.send_delay_req-probed.new.port)
     (g.P.Port.faults c.args.port.now) (g.P.Port.faults c.send_requests-asked.new.port) (g.P.Port.faults c.send_delay_req-probed.new.port)

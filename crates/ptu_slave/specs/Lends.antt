@@ -1,2 +1,0 @@
--- Lends
-use Rattle.std.specs.Borrow.{Fml, Lends, MutBor, RattleType}
