@@ -87,13 +87,15 @@ impl<P: Port> Slave<P> {
         bytes: &[u8],
     ) -> Result<Heard, OutOfMemory>
         ensures memory { IsErr result → (n : ℕ) × IsSignaling bytes.now n }
-        ensures unchanged { IsErr result → self.new ≡ self.old }
+        ensures unchanged { IsErr result → (self.new.core ≡ self.old.core)
+            × (self.new.judges ≡ self.old.judges) × (self.new.port ≡ self.old.port) }
         ensures answer { IfOk result (λ heard. heard ≡ answer_of self.old.core.config.wants
             (max t self.old.core.moment) (reply_in heard)
             (reception self.old.core.config self.old.core.masters from bytes.now)) }
         ensures ignored { (reason : SlaveReason) →
             reception self.old.core.config self.old.core.masters from bytes.now ≡ Err reason →
-            self.new ≡ self.old }
+            (self.new.core ≡ self.old.core)
+            × (self.new.judges ≡ self.old.judges) × (self.new.port ≡ self.old.port) }
         ensures steps { (m : ℕ) (message : Message) →
             reception self.old.core.config self.old.core.masters from bytes.now ≡ Ok (m, message) →
             IsOk result → (openings : List (Option Rule)) (L : Record) →
@@ -214,7 +216,8 @@ impl<P: Port> Slave<P> {
             StandsFor openings self.old.core (map (λ j. held j) self.old.judges.items) L →
             result ≡ selected_master (timeouts self.old.core.config)
             (priorities self.old.core.masters) L (event_moment L t) }
-        ensures unchanged { self.new ≡ self.old }
+        ensures unchanged { (self.new.core ≡ self.old.core)
+            × (self.new.judges ≡ self.old.judges) × (self.new.port ≡ self.old.port) }
     {
         self.core.selected(t)
     }

@@ -1,0 +1,5 @@
+pub mod Masters
+pub mod Quiet
+pub mod Entering
+pub mod Stepping
+pub mod Assessing
