@@ -1,5 +1,5 @@
 -- Judges that are told and asked, one by one.
-use Rattle.std.proofs.Common.{◌≡◌, ℕ, zero, suc, ◌+◌, ◌<◌, Bool, List, [], ◌∷◌, ◌++◌, map, length, Option, Some, refl, ap, sym, subst, ◌∙◌, arith, get_or, set, append_assoc, false, ◌≤◌, length-append}
+use Rattle.std.proofs.Common.{◌≡◌, ℕ, zero, suc, ◌+◌, ◌<◌, Bool, List, [], ◌∷◌, ◌++◌, map, length, Option, Some, refl, ap, sym, subst, ◌∙◌, arith, get_or, set, append_assoc, false, ◌≤◌, length-append, add-one}
 use Rattle.std.proofs.lemmas.Bool.{ne_eqb}
 use Rattle.std.proofs.lemmas.List.{append-nil, get_or-set_same, length-map, length-set, map-set}
 use Rattle.std.specs.List.{AllByRecursion, AllZip, range_with_len, slice_get, zip}
@@ -73,7 +73,7 @@ anew_at f xs x m j y news unusable within fresh asked = record {
 
 -- one place more, and what is found there
 places-more : (a n : ℕ) → range_with_len a (n + 1) ≡ range_with_len a n ++ (a + n) ∷ []
-places-more a n = subst (λ k. range_with_len a k ≡ range_with_len a n ++ (a + n) ∷ []) (omega arith) (by a n)
+places-more a n = ap (range_with_len a) (add-one n) ∙ by a n
   where
     by : (a n : ℕ) → range_with_len a (suc n) ≡ range_with_len a n ++ (a + n) ∷ []
     by a zero = ap (λ k. k ∷ []) (omega arith)
@@ -142,3 +142,6 @@ one_more_judged n x olds mids news old mid new bs b all one long selects rest = 
   where
     joined : (L : Record) → (L ++ judged_entries x (places n) bs) ++ Judged x n b ∷ [] ≡ L ++ judged_entries x (places (n + 1)) (bs ++ b ∷ [])
     joined L = append_assoc L (judged_entries x (places n) bs) (Judged x n b ∷ []) ∙ ap (λ w. L ++ w) (sym (entries-more x n bs b all.many))
+
+pub all_judged : (m n x : ℕ) (olds news : List Held) (old new : Kept) → m ≡ n → (bs : List Bool) × AllJudged m x olds news old new bs → (bs : List Bool) × AllJudged n x olds news old new bs
+all_judged m n x olds news old new same judged = subst (λ k. (bs : List Bool) × AllJudged k x olds news old new bs) same judged

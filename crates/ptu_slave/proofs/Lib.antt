@@ -3,3 +3,5 @@ pub mod Quiet
 pub mod Entering
 pub mod Stepping
 pub mod Assessing
+pub mod Happening
+pub mod Signals

@@ -14,6 +14,10 @@ use Rattle.ptu_slave.specs.Standing.{Each}
 abbrev pub IsOf : ℕ → Entry → Type 0
 IsOf m e = (n : ℕ) → concerns n e ≡ eqb m n
 
+pub all_append : (P : Entry → Type 0) (es fs : Record) → AllByRecursion P es → AllByRecursion P fs → AllByRecursion P (es ++ fs)
+all_append P [] fs f g = g
+all_append P (e ∷ es) fs f g = (f.0, all_append P es fs f.1 g)
+
 pub own_of : (m : ℕ) (L E : Record) → AllByRecursion (IsOf m) E → record_of m (L ++ E) ≡ record_of m L ++ E
 own_of m L [] all = ap (record_of m) (append-nil L) ∙ sym (append-nil (record_of m L))
 own_of m L (e ∷ E) all =

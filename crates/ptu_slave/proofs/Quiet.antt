@@ -1,5 +1,6 @@
 -- Entries that leave a part of a slave as it is.
-use Rattle.std.proofs.Common.{◌≡◌, ℕ, ◌+◌, ◌%◌, Bool, true, false, cond, List, [], ◌∷◌, ◌++◌, Option, Some, None, refl, ap, sym, subst, ◌∙◌}
+use Rattle.std.proofs.Common.{◌≡◌, ℕ, ◌+◌, ◌%◌, Bool, true, false, cond, List, [], ◌∷◌, ◌++◌, Option, Some, None, refl, ap, sym, subst, ◌∙◌, append_assoc}
+use Rattle.std.proofs.lemmas.List.{append-nil}
 use Rattle.std.specs.List.{AllByRecursion}
 use Rattle.ptu_record.specs.declared.rule.Rule.{Rule}
 use Rattle.ptu_record.specs.Lists.{last, newest_of}
@@ -34,6 +35,11 @@ count_kept counters own e quiet h = record {
   delay_req = h.delay_req ∙ sym (delay_req_number-push own e ∙ ap (λ b. cond b ((delay_req_number own + 1) % 65536) (delay_req_number own)) quiet.no_delay_req);
   probed = h.probed ∙ sym (last-filter_map probe_moment own e ∙ ap (λ o. newest_of o (last (probes own))) quiet.no_moment);
 }
+
+-- more of one master's own
+pub counts_one : (counters : Counters) (own M : Record) → AllByRecursion Uncounted M → CountFor counters own → CountFor counters (own ++ M)
+counts_one counters own [] all h = subst (CountFor counters) (sym (append-nil own)) h
+counts_one counters own (e ∷ M) all h = subst (CountFor counters) (append_assoc own (e ∷ []) M) (counts_one counters (own ++ e ∷ []) M all.1 (count_kept counters own e all.0 h))
 
 pub counts_kept : (counters : List Counters) (L M : Record) → AllByRecursion Uncounted M → Each (λ m. CountFor) counters L → Each (λ m. CountFor) counters (L ++ M)
 counts_kept counters L M all each = each_kept (λ m. CountFor) Uncounted counters (λ m x own e quiet h. count_kept x own e quiet h) L M all each

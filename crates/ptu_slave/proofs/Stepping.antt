@@ -21,7 +21,6 @@ pub record Moves (old new : Kept) (at : ℕ) : Type 0 where
   pub config : new.config ≡ old.config
   pub masters : new.masters ≡ old.masters
   pub moment : new.moment ≡ at
-  pub wants : new.requester.wants ≡ old.requester.wants
 
 pub same_of : (old new : Kept) (at : ℕ) → Moves old new at → IsSame old new
 same_of old new at moves = record { config = moves.config; masters = moves.masters }
@@ -71,7 +70,6 @@ step_of openings old new judges news L t at e assessments h is moves still long 
     told_all = λ going. ap (λ w. w ++ E) (h.told_all (sym still ∙ going));
     grants = subst (λ n. SameGrants n new.moment (h.told ++ E) (L ++ E)) (ap length (sym moves.masters))
         (grants_more (length old.masters) old.moment new.moment h.told L E (later t old.moment new.moment (moves.moment ∙ is)) h.grants);
-    wants = moves.wants ∙ h.wants ∙ ap (λ c. c.wants) (sym moves.config);
     each_judged = long ∙ h.each_judged ∙ ap length (sym moves.masters);
     each_opening = h.each_opening ∙ ap length (sym moves.masters);
   };

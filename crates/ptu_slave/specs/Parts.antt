@@ -1,5 +1,5 @@
 -- What the parts of a slave do in an event.
-use Rattle.std.specs.Prelude.{◌≡◌, ℕ, Bool, cond, List, [], ◌∷◌, ◌++◌, map, flat_map, filter_map, length, Option, Some, None, option_map}
+use Rattle.std.specs.Prelude.{◌≡◌, ℕ, Bool, true, false, cond, List, [], ◌∷◌, ◌++◌, map, flat_map, filter_map, length, Option, Some, None, option_map}
 use Rattle.ptu_units.specs.declared.kind.Kind.{Kind}
 use Rattle.ptu_record.specs.declared.rule.Rule.{Rule}
 use Rattle.ptu_record.specs.declared.wants.Wants.{Wants}
@@ -52,6 +52,13 @@ pub record AllJudged (masters x : ℕ) (olds news : List Held) (old new : Kept) 
 pub record AllAsked (masters x : ℕ) (old new : Kept) (sendings : List Sending) : Type 0 where
   pub stated : (L : Record) → Asks old L L → sendings ≡ flat_map (requests_to old.config.wants L x) (places masters)
   pub asks : (L : Record) → Asks old L L → Asks new (L ++ flat_map (sending_entries x) sendings) (L ++ flat_map (sending_entries x) sendings)
+  pub rest : new ≡ record old { requester = new.requester; counters = new.counters }
+
+-- what a tick at x sends; nothing after a stop
+pub record Ticks (x : ℕ) (old new : Kept) (sendings : List Sending) : Type 0 where
+  pub stated : (L : Record) → old.stopped ≡ false → Asks old L L → sendings ≡ flat_map (requests_to old.config.wants L x) (places (length old.masters))
+  pub silent : old.stopped ≡ true → sendings ≡ []
+  pub asks : (told L : Record) → (old.stopped ≡ false → told ≡ L) → Asks old told L → Asks new (told ++ flat_map (sending_entries x) sendings) (L ++ flat_map (sending_entries x) sendings)
   pub rest : new ≡ record old { requester = new.requester; counters = new.counters }
 
 -- to the master a Signaling with a CANCEL for each grant that its requester holds for live

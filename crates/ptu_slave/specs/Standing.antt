@@ -59,7 +59,6 @@ pub record StandsFor (openings : List (Option Rule)) (kept : Kept) (judges : Lis
   pub stopped : kept.stopped ≡ list_any is_stop L
   pub told_all : kept.stopped ≡ false → told ≡ L
   pub grants : SameGrants (length kept.masters) kept.moment told L
-  pub wants : kept.requester.wants ≡ kept.config.wants
   pub each_judged : length judges ≡ length kept.masters
   pub each_opening : length openings ≡ length kept.masters
 

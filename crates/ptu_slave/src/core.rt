@@ -1,4 +1,6 @@
-ghost use Rattle.std.specs.Prelude.{◌≡◌, ℕ, ◌<◌, ◌≤◌, max, List, [], ◌∷◌, ◌++◌, length, map, flat_map, filter_map, IfOk, true, false};
+ghost use Rattle.std.specs.Prelude.{◌≡◌, ℕ, ◌<◌, ◌≤◌, max, List, [], ◌∷◌, ◌++◌, length, map, flat_map, filter_map, IfOk, All, vec_len, ◌*◌, ◌^◌, true, false};
+ghost use Rattle.std.specs.Option.{ForSome};
+ghost use Rattle.ptu_units.specs.Log.{period_of};
 ghost use Rattle.ptu_record.specs.Record.{Record, record_of, Announce, Sync, Resp, Judged, Cancelled};
 ghost use Rattle.ptu_record.specs.Grants.{live_kinds};
 ghost use Rattle.ptu_record.specs.Selection.{selected_master};
@@ -7,18 +9,17 @@ ghost use Rattle.ptu_slave_messages.specs.Config.{AreMasters, IsWithinLimits, ad
 ghost use Rattle.ptu_requester.specs.Due as due;
 ghost use Rattle.ptu_select.specs.Selecting.{SelectsBy};
 ghost use Rattle.ptu_slave_messages.specs.Sending.{kinds_in, stop_plan, tick_plan};
-ghost use Rattle.ptu_slave.specs.Kept.{Kept};
+ghost use Rattle.ptu_slave.specs.Kept.{CountFor, Kept};
 ghost use Rattle.ptu_slave.specs.Parts.{cancels_by, signal_entry};
 ghost use Rattle.ptu_slave.specs.Standing.{Asks, Selects};
 
 use crate::asking::{ask_each, end_each, enter_each, is_probe_due, live};
 use crate::counters::Counters;
-use ptu_record::receipt_timeout;
 use ptu_requester::{Due, Requester};
 use ptu_select::Selector;
 use ptu_slave_messages::{Kinds, Master, Signal, SlaveConfig, StopPlan, TickPlan};
-use ptu_units::{Moment, OutOfMemory};
-use std::alloc::Global;
+use ptu_units::{Log, Moment, OutOfMemory, period};
+use std::alloc::{AllocError, Global};
 use std::marker::Model;
 
 /// Nanoseconds in a second.
@@ -55,7 +56,34 @@ impl Model for Core {
     ghost invariant = { λ c. (length c.masters.items ≤ 16)
         × (length c.requester.masters ≡ length c.masters.items)
         × (length c.selector ≡ length c.masters.items)
-        × (length c.counters.items ≡ length c.masters.items) };
+        × (length c.counters.items ≡ length c.masters.items)
+        × (c.requester.wants ≡ c.config.wants) };
+}
+
+// A receipt timeout of so many periods, in nanoseconds.
+fn timeout(periods: u8, log: Log) -> u64
+    ensures value { result ≡ periods * period_of log }
+    ensures below { result < 2 ^ 62 }
+{
+    periods as u64 * period(log)
+}
+
+// That of Delay_Resps, where they are requested.
+fn delay_timeout(config: &SlaveConfig) -> Option<u64>
+    ensures value { result ≡ (timeouts config.now).delay }
+    ensures below { ForSome result (λ timeout. timeout < 2 ^ 62) }
+{
+    match config.wants.delay {
+        Some(log) => Some(timeout(config.delay_timeout, log)),
+        None => None,
+    }
+}
+
+// The priority numbers of the masters.
+fn priorities_of(alloc: Global, masters: &[Master]) -> Result<Vec<u8>, AllocError>
+    ensures { IfOk result (λ list. list.items ≡ priorities masters.now) }
+{
+    masters.iter().map(|master| master.priority).collect(alloc)
 }
 
 // The selector of a slave that nothing happened to.
@@ -69,15 +97,20 @@ fn new_selector(
     ensures selects { IfOk result (λ s. SelectsBy s
         (timeouts config.now) (priorities masters.now) []) }
 {
-    let wants = &config.wants;
-    let ta = receipt_timeout(config.announce_timeout, wants.announce);
-    let ts = receipt_timeout(config.sync_timeout, wants.sync);
-    let td = wants
-        .delay
-        .map(|log| receipt_timeout(config.delay_timeout, log));
+    let ta = timeout(config.announce_timeout, config.wants.announce);
+    let ts = timeout(config.sync_timeout, config.wants.sync);
+    let td = delay_timeout(config);
     let wait = config.wait as u64 * SECOND;
-    let priorities: Vec<u8> = masters.iter().map(|master| master.priority).collect(alloc)?;
+    let priorities = priorities_of(alloc, masters)?;
     Selector::new(alloc, ta, ts, td, wait, &priorities)
+}
+
+// The counters of so many masters that nothing was sent to.
+fn new_counters(alloc: Global, masters: usize) -> Result<Vec<Counters>, AllocError>
+    ensures counted { IfOk result (λ all. All (λ counters. CountFor counters []) all.items) }
+    ensures count { IfOk result (λ all. vec_len all ≡ masters) }
+{
+    (0..masters).map(|_| Counters::new()).collect(alloc)
 }
 
 impl Core {
@@ -91,16 +124,13 @@ impl Core {
         requires masters { AreMasters masters.items }
         ensures config { IfOk result (λ c. c.config ≡ config) }
         ensures masters { IfOk result (λ c. c.masters ≡ masters.items) }
-        ensures wants { IfOk result (λ c. c.requester.wants ≡ config.wants) }
         ensures fresh { IfOk result (λ c. (c.moment ≡ 0) × (c.stopped ≡ false)) }
         ensures asks { IfOk result (λ c. Asks c [] []) }
         ensures selects { IfOk result (λ c. Selects c []) }
     {
         let requester = Requester::new(alloc, config.wants, masters.len())?;
         let selector = new_selector(alloc, &config, &masters)?;
-        let counters = (0..masters.len())
-            .map(|_| Counters::new())
-            .collect(alloc)?;
+        let counters = new_counters(alloc, masters.len())?;
         Ok(Core {
             config,
             masters,
@@ -218,7 +248,6 @@ impl Core {
           requester = self.new.requester;
           counters = self.new.counters;
         } }
-        ensures wants { self.new.requester.wants ≡ self.old.requester.wants }
     {
         enter_each(
             &mut self.requester,
@@ -231,8 +260,7 @@ impl Core {
 
     /// Makes up what a tick sends to the master, and enters it.
     pub(crate) fn ask(&mut self, at: Moment, master: usize) -> TickPlan
-        requires master { master < length self.old.masters }
-        requires wants { self.old.requester.wants ≡ self.old.config.wants }
+        requires { master < length self.old.masters }
         ensures stated { (L : Record) → Asks self.old L L →
             tick_plan master result ≡ requests_to self.old.config.wants L at master }
         ensures asks { (L : Record) → Asks self.old L L →
@@ -242,7 +270,6 @@ impl Core {
           requester = self.new.requester;
           counters = self.new.counters;
         } }
-        ensures same_wants { self.new.requester.wants ≡ self.old.requester.wants }
     {
         let due = self.requester.due(at, master);
         let kinds = kinds_due(due);
@@ -271,7 +298,6 @@ impl Core {
           requester = self.new.requester;
           counters = self.new.counters;
         } }
-        ensures same_wants { self.new.requester.wants ≡ self.old.requester.wants }
     {
         let kinds = live(&self.requester, at, master);
         let number = self.counters[master].signal(at, kinds.any());

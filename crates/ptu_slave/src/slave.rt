@@ -23,11 +23,11 @@ use crate::events::{
 };
 use crate::judging::judge_all;
 use crate::ticked::Ticked;
-use crate::ticks::{ask_all, end_all};
+use crate::ticks::{end_all, tick_all};
 use ptu_judges::Judge;
 use ptu_outside::Port;
 use ptu_slave_messages::{
-    Content, Heard, Master, SlaveConfig, Tally, Taken, receive, send_reply,
+    Content, Heard, Master, SlaveConfig, Taken, receive, send_reply,
 };
 use ptu_units::{Moment, OutOfMemory};
 use std::alloc::Global;
@@ -236,14 +236,6 @@ impl<P: Port> Slave<P> {
         let Slave { port, .. } = self;
         port
     }
-}
-
-// What a tick sends, which is nothing after a stop.
-fn tick_all<P: Port>(core: &mut Core, port: &mut P, at: Moment) -> Tally {
-    if core.is_stopped() {
-        return Tally::none();
-    }
-    ask_all(core, port, at)
 }
 
 // A message of a master.
