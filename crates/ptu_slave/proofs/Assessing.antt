@@ -72,7 +72,7 @@ anew_at f xs x m j y news unusable within fresh asked = record {
 -- ---- all of them
 
 -- one place more, and what is found there
-places-more : (a n : ℕ) → range_with_len a (n + 1) ≡ range_with_len a n ++ (a + n) ∷ []
+pub places-more : (a n : ℕ) → range_with_len a (n + 1) ≡ range_with_len a n ++ (a + n) ∷ []
 places-more a n = ap (range_with_len a) (add-one n) ∙ by a n
   where
     by : (a n : ℕ) → range_with_len a (suc n) ≡ range_with_len a n ++ (a + n) ∷ []

@@ -5,3 +5,4 @@ pub mod Stepping
 pub mod Assessing
 pub mod Happening
 pub mod Signals
+pub mod Sendings

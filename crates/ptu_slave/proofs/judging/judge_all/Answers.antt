@@ -23,4 +23,5 @@ loop-master-preserved g c = record {
 
 pub returns-clause-judged : goal.returns-clause-judged
 returns-clause-judged g c =
-    all_judged c.loop-master.master _ c.args.at _ _ _ _ ? c.loop-master.invariant.judged
+    all_judged c.loop-master.master (length c.args.core.now.masters) c.args.at _ _ c.args.core.now c.loop-master.core
+    (omega (arith, c.requires, c.loop-master-test.false, c.loop-master.auto.master-end, c.len-master-end.ensures)) c.loop-master.invariant.judged
