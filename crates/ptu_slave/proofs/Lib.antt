@@ -6,3 +6,5 @@ pub mod Assessing
 pub mod Happening
 pub mod Signals
 pub mod Sendings
+pub mod Ticking
+pub mod Stopping

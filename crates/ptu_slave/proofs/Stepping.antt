@@ -30,7 +30,7 @@ pub moment_is : (openings : List (Option Rule)) (old : Kept) (judges : List Held
 moment_is openings old judges L t h = ap (max t) h.moment
 
 -- the moment of the record with the entries of the event
-moment_after : (setup : SlaveSetup) (assessments : List Bool) (L : Record) (t at : ℕ) (e : SlaveEvent) → at ≡ event_moment L t
+pub moment_after : (setup : SlaveSetup) (assessments : List Bool) (L : Record) (t at : ℕ) (e : SlaveEvent) → at ≡ event_moment L t
     → at ≡ maximum (map moment_of (L ++ (step_by setup assessments L t e).entries))
 moment_after setup assessments L t at e is =
     least at (event_moment L t) (maximum (map moment_of (L ++ (step_by setup assessments L t e).entries))) is (step_moment setup assessments L t 0 e)
