@@ -8,3 +8,4 @@ pub mod Signals
 pub mod Sendings
 pub mod Ticking
 pub mod Stopping
+pub mod Hearing

@@ -9,7 +9,7 @@ ghost use Rattle.ptu_record.specs.Selection.{selected_master};
 ghost use Rattle.ptu_record.specs.Step.{ReplaceJudge, Stop, TellFlag, Tick, sendings};
 ghost use Rattle.ptu_judges.specs.Held.{IsFresh};
 ghost use Rattle.ptu_slave_messages.specs.Config.{AreMasters, IsWithinLimits, priorities, timeouts};
-ghost use Rattle.ptu_slave_messages.specs.Heard.{answer_of, event_of, failed_by, heard_of, replies_in, replies_to, reply_in, sent_by, taken_of};
+ghost use Rattle.ptu_slave_messages.specs.Heard.{FitsReply, answer_of, event_of, failed_by, heard_of, replies_in, reply_datagrams, reply_in, sent_by, taken_of};
 ghost use Rattle.ptu_slave_messages.specs.Reception.{reception};
 ghost use Rattle.ptu_slave_messages.specs.Sending.{all_ones, departure_of};
 ghost use Rattle.ptu_slave_messages.specs.declared.reason.SlaveReason.{SlaveReason};
@@ -238,14 +238,36 @@ impl<P: Port> Slave<P> {
     }
 }
 
-// A message of a master.
+// Takes a message of a master.
 fn hear<P: Port>(
     core: &mut Core,
     judges: &mut Vec<Box<dyn Judge>>,
     port: &mut P,
     t: Moment,
     taken: Taken,
-) -> Heard {
+) -> Heard
+    requires master { taken.master < length core.old.masters }
+    requires judges { length judges.old.items ≡ length core.old.masters }
+    requires reply { FitsReply taken.content }
+    ensures heard { (message : Message) →
+        taken ≡ taken_of core.old.config.wants (taken.master, message) →
+        result ≡ heard_of core.old.config.wants (max t core.old.moment) (reply_in result)
+        (taken.master, message) }
+    ensures steps { (message : Message) →
+        taken ≡ taken_of core.old.config.wants (taken.master, message) →
+        (openings : List (Option Rule)) (L : Record) →
+        StandsFor openings core.old (map (λ j. held j) judges.old.items) L →
+        Steps openings core.old core.new (map (λ j. held j) judges.new.items) L t
+        (event_of taken.master message) }
+    ensures sends { (message : Message) →
+        taken ≡ taken_of core.old.config.wants (taken.master, message) →
+        HandsOver (P.sent port.old) (P.sent port.new) (P.faults port.old) (P.faults port.new)
+        (reply_datagrams core.old.config core.old.masters (taken.master, message))
+        (sent_by (reply_in result)) (failed_by (reply_in result)) }
+    ensures waiting { P.waiting port.new ≡ P.waiting port.old }
+    ensures same { IsSame core.old core.new }
+    ensures judges { length judges.new.items ≡ length judges.old.items }
+{
     let Taken {
         master,
         source,
