@@ -4,7 +4,7 @@ use Rattle.std.proofs.lemmas.List.{length-map}
 use Rattle.std.proofs.lemmas.List.Elements.{recursion_from_All}
 use Rattle.std.proofs.lemmas.Option.{same_Some}
 use Rattle.std.specs.List.{AllByRecursion, filter_map, slice_get}
-use Rattle.std.specs.Prelude.{slice_index_or}
+use Rattle.std.specs.Prelude.{Result, Ok, Err}
 use Rattle.ptu_header.specs.declared.header.Header.{Header}
 use Rattle.ptu_header.specs.declared.header.PortIdentity.{PortIdentity}
 use Rattle.ptu_tlvs.specs.declared.tlv.Tlv.{Tlv}
@@ -24,9 +24,11 @@ use Rattle.ptu_slave_messages.specs.declared.config.Master.{Master}
 use Rattle.ptu_slave_messages.specs.declared.config.SlaveConfig.{SlaveConfig}
 use Rattle.ptu_slave_messages.specs.declared.content.Content.{Content}
 use Rattle.ptu_slave_messages.specs.declared.content.Content.TheVariants as content
+use Rattle.ptu_slave_messages.specs.declared.content.Taken.{Taken}
+use Rattle.ptu_slave_messages.specs.declared.reason.SlaveReason.{SlaveReason}
 use Rattle.ptu_slave_messages.specs.declared.signal.Signal.{Signal}
 use Rattle.ptu_slave_messages.specs.Config.{address_of}
-use Rattle.ptu_slave_messages.specs.Heard.{acks_of, content_of, event_of, replies_to, reply_datagrams, said_by, signals_of}
+use Rattle.ptu_slave_messages.specs.Heard.{acks_of, content_of, event_of, replies_to, reply_datagrams, said_by, signals_of, taken_of, taken_or_not}
 use Rattle.ptu_slave_messages.specs.Sending.{departure_of, departure_to}
 use Rattle.ptu_slave.specs.Kept.{Kept}
 use Rattle.ptu_slave.specs.Standing.{Asks, Each, Judge, Selects, StandsFor}
@@ -115,3 +117,35 @@ stands_fresh f xs core fresh many moment stopped asks selects = record {
   each_judged = length-map xs f ∙ many;
   each_opening = length-map xs (λ j. (f j).rule) ∙ many;
 }
+
+-- ---- datagrams
+
+-- what is taken is a message of the master
+pub record IsTaken (wants : Wants) (r : Result (ℕ × Message) SlaveReason) (taken : Taken) : Type 0 where
+  pub message : Message
+  pub received : r ≡ Ok (taken.master, message)
+  pub kept : taken ≡ taken_of wants (taken.master, message)
+
+pub taken_from : (wants : Wants) (r : Result (ℕ × Message) SlaveReason) (taken : Taken) → Ok taken ≡ taken_or_not wants r → IsTaken wants r taken
+taken_from wants (Err reason) taken is = absurd (cc is)
+taken_from wants (Ok (m, message)) taken is = record {
+  message = message;
+  received = ap (λ n. Ok (n, message)) (sym master);
+  kept = subst (λ n. taken ≡ taken_of wants (n, message)) (sym master) same;
+}
+  where
+    same : taken ≡ taken_of wants (m, message)
+    same = cc is
+
+    master : taken.master ≡ m
+    master = ap (λ (k : Taken). k.master) same
+
+pub same_taken : (wants : Wants) (r : Result (ℕ × Message) SlaveReason) (taken : Taken) (m : ℕ) (message : Message) → r ≡ Ok (m, message) → Ok taken ≡ taken_or_not wants r
+    → (taken.master ≡ m) × (taken ≡ taken_of wants (taken.master, message))
+same_taken wants r taken m message received is = (master, subst (λ n. taken ≡ taken_of wants (n, message)) (sym master) same)
+  where
+    same : taken ≡ taken_of wants (m, message)
+    same = let e : Ok taken ≡ Ok (taken_of wants (m, message)) = is ∙ ap (taken_or_not wants) received in cc e
+
+    master : taken.master ≡ m
+    master = ap (λ (k : Taken). k.master) same
