@@ -18,3 +18,6 @@ pub use ptu_slave_messages::{
 };
 pub use slave::Slave;
 pub use ticked::Ticked;
+
+#[cfg(test)]
+mod tests;

@@ -2,3 +2,4 @@ pub mod Config
 pub mod Sending
 pub mod Reception
 pub mod Heard
+pub mod Examples
