@@ -104,7 +104,7 @@ fits_reply os wants message each spelled = pick message.body spelled.body
     pick (body.Signaling target tlvs) is = (
       (let most : length tlvs ≤ 32 = is.1.few in omega (arith, few tlvs)),
       All-from_recursion IsSendable (filter_map ack_by tlvs)
-      (acks (slice_range os 44 spelled.n) tlvs (taken (spelled.n - 44) (drop 44 os) (dropped 44 os (octets os each))) is.1.spelled),
+          (acks (slice_range os 44 spelled.n) tlvs (taken (spelled.n - 44) (drop 44 os) (dropped 44 os (octets os each))) is.1.spelled),
     )
     pick body.Ignored is = tt
 

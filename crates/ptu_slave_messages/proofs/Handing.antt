@@ -1,5 +1,5 @@
 -- Datagrams that are handed to a port in two parts.
-use Rattle.std.proofs.Common.{◌≡◌, ◌∙◌, ◌⊎◌, inl, inr, ℕ, ◌+◌, ◌-◌, ◌^◌, ◌<◌, ◌≤◌, ◌++◌, List, [], ◌∷◌, length, Bool, true, false, refl, sym, ap, subst, arith, append_assoc, length-append, Option, Some, None}
+use Rattle.std.proofs.Common.{◌≡◌, ◌∙◌, inl, inr, ℕ, ◌+◌, ◌-◌, ◌^◌, ◌≤◌, ◌++◌, List, [], ◌∷◌, length, Bool, true, false, refl, sym, ap, subst, arith, append_assoc, length-append, Option, Some, None}
 use Rattle.std.specs.List.{items_where_true}
 use Rattle.ptu_outside.specs.Departure.{Departure}
 use Rattle.ptu_outside.specs.Faults.{HasRisen, HasRisenBy, HasNotFallen}

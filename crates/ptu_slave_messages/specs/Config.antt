@@ -1,5 +1,5 @@
 -- What a slave is set up with, its limits (the project's own choice), and its masters.
-use Rattle.std.specs.Prelude.{◌≡◌, ◌≢◌, ℕ, ◌≤◌, List, length, map, slice_index, position, Option, ◌==◌}
+use Rattle.std.specs.Prelude.{◌≢◌, ℕ, ◌≤◌, List, length, map, slice_index, position, Option, ◌==◌}
 use Rattle.std.specs.List.{AllPairs}
 use Rattle.ptu_units.specs.declared.kind.Kind.TheVariants.{Announce}
 use Rattle.ptu_units.specs.Log.{IsLogOf}

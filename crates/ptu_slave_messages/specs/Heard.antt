@@ -1,7 +1,6 @@
 -- What a message that a slave takes is to it: an event, and what its caller is told of it (IEEE 1588-2019 clauses 13 and 16.1).
 use Rattle.std.specs.Prelude.{ℕ, ⊤, cond, ◌==◌, ◌≤◌, List, [], ◌∷◌, All, length, map, filter_map, Option, Some, None, option_map, Result, Ok, Err}
 use Rattle.ptu_units.specs.declared.kind.Kind.{Kind}
-use Rattle.ptu_header.specs.declared.header.PortIdentity.{PortIdentity}
 use Rattle.ptu_tlvs.specs.declared.tlv.Tlv.{Tlv}
 use Rattle.ptu_tlvs.specs.declared.tlv.Tlv.TheVariants as tlv
 use Rattle.ptu_tlvs.specs.Sent.{IsSendable}

@@ -1,5 +1,5 @@
 -- What a slave sends to its masters, as datagrams (IEEE 1588-2019 clauses 13.6, 13.12 and 16.1.4).
-use Rattle.std.specs.Prelude.{ℕ, List, [], ◌∷◌, ◌++◌, map, filter, Option, option_map, option_to_list, unwrap_or, Bool, true, false, pos}
+use Rattle.std.specs.Prelude.{ℕ, List, [], ◌∷◌, ◌++◌, map, filter, option_map, option_to_list, unwrap_or, Bool, true, false, pos}
 use Rattle.ptu_units.specs.declared.kind.Kind.{Kind}
 use Rattle.ptu_units.specs.declared.kind.Kind.TheVariants.{Announce, Sync, DelayResp}
 use Rattle.ptu_units.specs.Kind.{code_of, kinds}

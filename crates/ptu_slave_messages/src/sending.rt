@@ -14,7 +14,7 @@ ghost use Rattle.ptu_slave_messages.specs.Sending.{all_ones, tick_plan, departur
 use crate::config::SlaveConfig;
 use crate::heard::HeardReply;
 use crate::kinds::Kinds;
-use crate::plan::{TickPlan, StopPlan};
+use crate::plan::{StopPlan, TickPlan};
 use crate::signaling::{ALL_ONES, SIGNALING, delay_req, header, put_cancels, put_requests};
 use crate::tally::Tally;
 use ptu_header::PortIdentity;

@@ -1,4 +1,4 @@
-use Rattle.std.proofs.Common.{[], ◌∷◌, ap, ◌∙◌, map, subst}
+use Rattle.std.proofs.Common.{[], ◌∷◌, ap, ◌∙◌, subst}
 use Rattle.ptu_messages.specs.Sent.{sent_message}
 use Rattle.ptu_outside.specs.declared.channel.Channel.TheVariants.{Event}
 use Rattle.ptu_outside.specs.HandsOver.{HandsOver}

@@ -1,7 +1,6 @@
-use Rattle.std.proofs.Common.{◌++◌, map, subst, sym}
+use Rattle.std.proofs.Common.{map}
 use Rattle.std.proofs.lemmas.List.{map-append}
 use Rattle.std.specs.Option.{option_map, option_to_list}
-use Rattle.ptu_outside.specs.HandsOver.{HandsOver}
 use Rattle.ptu_record.specs.Tick.{Requests, DelayReq, one_signaling}
 use Rattle.ptu_slave_messages.specs.Sending.{all_ones, departure_to, kinds_in}
 use Rattle.ptu_slave_messages.proofs.Handing.{hands_both}
