@@ -249,13 +249,7 @@ impl Core {
           counters = self.new.counters;
         } }
     {
-        enter_each(
-            &mut self.requester,
-            &self.config.wants,
-            at,
-            master,
-            signals,
-        );
+        enter_each(&mut self.requester, &self.config.wants, at, master, signals);
     }
 
     /// Makes up what a tick sends to the master, and enters it.

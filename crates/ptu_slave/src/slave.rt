@@ -26,9 +26,7 @@ use crate::ticked::Ticked;
 use crate::ticks::{end_all, tick_all};
 use ptu_judges::Judge;
 use ptu_outside::Port;
-use ptu_slave_messages::{
-    Content, Heard, Master, SlaveConfig, Taken, receive, send_reply,
-};
+use ptu_slave_messages::{Content, Heard, Master, SlaveConfig, Taken, receive, send_reply};
 use ptu_units::{Moment, OutOfMemory};
 use std::alloc::Global;
 
@@ -113,13 +111,7 @@ impl<P: Port> Slave<P> {
     {
         let received = receive(alloc, self.core.config(), self.core.masters(), from, bytes)?;
         match received {
-            Ok(taken) => Ok(hear(
-                &mut self.core,
-                &mut self.judges,
-                &mut self.port,
-                t,
-                taken,
-            )),
+            Ok(taken) => Ok(hear(&mut self.core, &mut self.judges, &mut self.port, t, taken)),
             Err(reason) => Ok(Heard::Ignored(reason)),
         }
     }

@@ -1,15 +1,19 @@
 //! Worked rows, whose octets, moments and answers were made out by hand.
-ghost use Rattle.std.specs.Prelude.{◌≤◌, IfOk};
+ghost use Rattle.std.specs.Prelude.{◌≤◌, IfOk, None, false};
+ghost use Rattle.ptu_record.specs.Marks.{fresh_marks};
 ghost use Rattle.ptu_slave_messages.specs.Config.{IsWithinLimits};
+ghost use Rattle.ptu_slave.specs.Kept.{IsSame};
 
 use super::*;
 use ptu_header::PortIdentity;
-use ptu_judges::{FlagJudge, Judge};
+use ptu_judges::{FlagJudge, GapJudge, Judge};
 use ptu_outside::{Channel, MemPort};
-use ptu_record::{Wants};
+use ptu_record::{Rule, Wants};
 use ptu_units::{Kind, Log, Moment};
 use std::alloc::Global;
+use std::cell::Cell;
 use std::process::Abort;
+use std::rc::Rc;
 use std::test::Fail;
 
 const SECOND: u64 = 1_000_000_000;
@@ -21,8 +25,10 @@ const FIRST: u32 = 0x0a00_0001;
 // clock 0a00000000000021.
 const ANNOUNCE: &str = "0b120040040004000000000000000000000000000a0000000000000100010000057f\
      00000000000000000000000000805400ffff800a000000000000010000a0";
+
 const SYNC: &str = "0012002c040004000000000000000000000000000a0000000000000100010000007f\
      00000000000000000000";
+
 const DELAY_RESP: &str = "09120036040004000000000000000000000000000a0000000000000100010000037f\
      000000000000000000000a000000000000210001";
 
@@ -86,11 +92,16 @@ fn play(
     slave: &mut Slave<MemPort>,
     nanos: u64,
     row: Row,
-) -> Result<(), Fail> {
+) -> Result<(), Fail>
+    ensures { IsSame slave.old.core slave.new.core }
+{
     let at = Moment::of(nanos).ok_or("below 2^62")?;
     let (master, octets) = match row {
         Row::Announce(master, class) => {
-            (master, datagram(alloc, ANNOUNCE, &[(27, master), (48, class)])?)
+            (
+                master,
+                datagram(alloc, ANNOUNCE, &[(27, master), (48, class)])?,
+            )
         }
         Row::Sync(master, seq) => (master, datagram(alloc, SYNC, &[(27, master), (31, seq)])?),
         Row::DelayResp(master) => (master, datagram(alloc, DELAY_RESP, &[])?),
@@ -108,7 +119,12 @@ fn asks_without_an_answer(rt: HostRuntime) -> Result<(), Fail> {
     let alloc = rt.alloc();
     let mut port = MemPort::new(alloc, Vec::new(alloc), Vec::new(alloc), Vec::new(alloc));
     port.reserve(4, 4 * 64)?;
-    let masters = vec![in alloc; Master { ip: FIRST, priority: 1 }]?;
+    let masters = vec![in alloc;
+        Master {
+            ip: FIRST,
+            priority: 1
+        },
+    ]?;
     let mut judges: Vec<Box<dyn Judge>> = Vec::new(alloc);
     judges.push(Box::new(alloc, FlagJudge::new())?)?;
     let mut slave = Slave::new(alloc, config(1, 0, false, 300)?, masters, judges, port)?;
@@ -124,7 +140,15 @@ fn asks_without_an_answer(rt: HostRuntime) -> Result<(), Fail> {
     for (nanos, sent) in ticks {
         let at = Moment::of(nanos).ok_or("below 2^62")?;
         let ticked = slave.tick(at);
-        assert_eq!(rt; ticked, Ticked { at, sent, failed: 0 }, "at {nanos}");
+        assert_eq!(rt;
+            ticked,
+            Ticked {
+                at,
+                sent,
+                failed: 0
+            },
+            "at {nanos}"
+        );
         assert_eq!(rt; slave.selected(at), None);
     }
     let port = slave.into_port();
@@ -138,4 +162,204 @@ fn asks_without_an_answer(rt: HostRuntime) -> Result<(), Fail> {
         Some((FIRST, Channel::General, last.as_slice()))
     );
     Ok(())
+}
+
+// Plays rows at their moments.
+fn play_all(
+    rt: &impl Abort,
+    alloc: Global,
+    slave: &mut Slave<MemPort>,
+    rows: &[(u64, Row)],
+) -> Result<(), Fail> {
+    for &(nanos, row) in rows {
+        play(rt, alloc, slave, nanos, row)?;
+    }
+    Ok(())
+}
+
+// A port at which nothing waits, without room.
+fn quiet_port(alloc: Global) -> MemPort {
+    MemPort::new(alloc, Vec::new(alloc), Vec::new(alloc), Vec::new(alloc))
+}
+
+#[test]
+fn a_master_is_lost_and_restored(rt: HostRuntime) -> Result<(), Fail> {
+    let alloc = rt.alloc();
+    let masters = vec![in alloc;
+        Master {
+            ip: FIRST,
+            priority: 1
+        },
+        Master {
+            ip: FIRST + 1,
+            priority: 1
+        },
+    ]?;
+    let mut judges: Vec<Box<dyn Judge>> = Vec::new(alloc);
+    judges.push(Box::new(alloc, FlagJudge::new())?)?;
+    judges.push(Box::new(alloc, FlagJudge::new())?)?;
+    let config = config(4, 4, false, 60)?;
+    let mut slave = Slave::new(alloc, config, masters, judges, quiet_port(alloc))?;
+    play_all(
+        &rt,
+        alloc,
+        &mut slave,
+        &[
+            (0, Row::Announce(1, 84)),
+            (0, Row::Sync(1, 0)),
+            (0, Row::Announce(2, 90)),
+            (0, Row::Sync(2, 0)),
+            (48 * SECOND, Row::Announce(1, 84)),
+            (48 * SECOND, Row::Sync(1, 0)),
+            (48 * SECOND, Row::Announce(2, 90)),
+            (48 * SECOND, Row::Sync(2, 0)),
+            (48 * SECOND, Row::Selects(Some(0))),
+            (96 * SECOND, Row::Announce(2, 90)),
+            (96 * SECOND, Row::Sync(2, 0)),
+            (96 * SECOND, Row::Selects(Some(0))),
+            (96 * SECOND + 1, Row::Selects(Some(1))),
+            (100 * SECOND, Row::Announce(1, 84)),
+            (100 * SECOND, Row::Sync(1, 0)),
+            (100 * SECOND, Row::Selects(Some(1))),
+            (140 * SECOND, Row::Announce(1, 84)),
+            (140 * SECOND, Row::Sync(1, 0)),
+            (140 * SECOND, Row::Announce(2, 90)),
+            (140 * SECOND, Row::Sync(2, 0)),
+            (160 * SECOND - 1, Row::Selects(Some(1))),
+            (160 * SECOND, Row::Selects(Some(0))),
+            // Both at the same level, and then at QL-DNU.
+            (161 * SECOND, Row::Announce(2, 84)),
+            (161 * SECOND, Row::Selects(Some(0))),
+            (162 * SECOND, Row::Announce(1, 110)),
+            (162 * SECOND, Row::Announce(2, 110)),
+            (162 * SECOND, Row::Selects(None)),
+        ],
+    )
+}
+
+#[test]
+fn delay_resps_are_lost_and_restored(rt: HostRuntime) -> Result<(), Fail> {
+    let alloc = rt.alloc();
+    let masters = vec![in alloc;
+        Master {
+            ip: FIRST,
+            priority: 1
+        },
+    ]?;
+    let mut judges: Vec<Box<dyn Judge>> = Vec::new(alloc);
+    judges.push(Box::new(alloc, FlagJudge::new())?)?;
+    let config = config(4, 4, true, 60)?;
+    let mut slave = Slave::new(alloc, config, masters, judges, quiet_port(alloc))?;
+    play_all(
+        &rt,
+        alloc,
+        &mut slave,
+        &[
+            (0, Row::Announce(1, 84)),
+            (0, Row::Sync(1, 0)),
+            (0, Row::Selects(None)),
+            (SECOND, Row::DelayResp(1)),
+            (SECOND, Row::Selects(Some(0))),
+            (4 * SECOND, Row::Selects(Some(0))),
+            (4 * SECOND + 1, Row::Selects(None)),
+        ],
+    )?;
+    // From 5 s on a Delay_Resp comes every three seconds.
+    for third in 0..20 {
+        if third == 12 {
+            play(&rt, alloc, &mut slave, 40 * SECOND, Row::Announce(1, 84))?;
+            play(&rt, alloc, &mut slave, 40 * SECOND, Row::Sync(1, 0))?;
+        }
+        play(
+            &rt,
+            alloc,
+            &mut slave,
+            (5 + 3 * third) * SECOND,
+            Row::DelayResp(1),
+        )?;
+    }
+    play_all(
+        &rt,
+        alloc,
+        &mut slave,
+        &[
+            (65 * SECOND - 1, Row::Selects(None)),
+            (65 * SECOND, Row::DelayResp(1)),
+            (65 * SECOND, Row::Selects(Some(0))),
+        ],
+    )
+}
+
+// A judge of another's making, which tells when it is dropped.
+struct Own {
+    dropped: Rc<Cell<bool>>,
+}
+
+impl Drop for Own {
+    fn drop(self) {
+        let Own { dropped } = self;
+        dropped.set(true);
+    }
+}
+
+impl Judge for Own {
+    ghost held = { λ _. record { rule = None; marks = fresh_marks; flag = false } };
+
+    fn rule(&self) -> Option<Rule> {
+        None
+    }
+
+    fn heard(&mut self, t: Moment, seq: u16) {
+        let _ = (t, seq);
+    }
+
+    fn told(&mut self, t: Moment, unusable: bool) {
+        let _ = (t, unusable);
+    }
+
+    fn assess(&mut self, t: Moment) -> bool {
+        t.nanos() >= 2 * SECOND
+    }
+}
+
+#[test]
+fn judges_are_asked_and_replaced(rt: HostRuntime) -> Result<(), Fail> {
+    let alloc = rt.alloc();
+    let masters = vec![in alloc;
+        Master {
+            ip: FIRST,
+            priority: 1
+        },
+    ]?;
+    let dropped = Rc::new(alloc, Cell::new(false))?;
+    let own = Own {
+        dropped: dropped.clone()?,
+    };
+    let mut judges: Vec<Box<dyn Judge>> = Vec::new(alloc);
+    judges.push(Box::new(alloc, own)?)?;
+    let config = config(4, 4, false, 0)?;
+    let mut slave = Slave::new(alloc, config, masters, judges, quiet_port(alloc))?;
+    play(&rt, alloc, &mut slave, 0, Row::Announce(1, 84))?;
+    play(&rt, alloc, &mut slave, SECOND, Row::Sync(1, 0))?;
+    play(&rt, alloc, &mut slave, SECOND, Row::Selects(Some(0)))?;
+    play(&rt, alloc, &mut slave, 2 * SECOND, Row::Sync(1, 1))?;
+    play(&rt, alloc, &mut slave, 2 * SECOND, Row::Selects(None))?;
+    assert!(rt; !dropped.get());
+    let gap: Box<dyn Judge> = Box::new(alloc, GapJudge::new(4))?;
+    slave.set_judge(Moment::of(2 * SECOND).ok_or("below 2^62")?, 0, gap);
+    assert!(rt; dropped.get());
+    play_all(
+        &rt,
+        alloc,
+        &mut slave,
+        &[
+            (2 * SECOND, Row::Selects(Some(0))),
+            (2 * SECOND, Row::Sync(1, 0)),
+            (2 * SECOND, Row::Selects(Some(0))),
+            (3 * SECOND, Row::Sync(1, 5)),
+            (3 * SECOND, Row::Selects(None)),
+            (4 * SECOND, Row::Sync(1, 3)),
+            (4 * SECOND, Row::Selects(Some(0))),
+        ],
+    )
 }

@@ -15,9 +15,11 @@ judged-requires g c =
 
 pub loop-master-preserved : goal.loop-master-preserved
 loop-master-preserved g c = record {
-  judged = (c.loop-master.invariant.judged.0 ++ c.judge_one-unusable.result ∷ [],
-      one_more_judged c.loop-master.master c.args.at _ _ _ c.args.core.now c.loop-master.core c.judged.new.self c.loop-master.invariant.judged.0 c.judge_one-unusable.result
-      c.loop-master.invariant.judged.1 c.judge_one-unusable.ensures.asked (same_length _ _ _ c.judge_one-unusable.ensures.length) c.judged.ensures.selects c.judged.ensures.rest);
+  judged = (
+    c.loop-master.invariant.judged.0 ++ c.judge_one-unusable.result ∷ [],
+    one_more_judged c.loop-master.master c.args.at _ _ _ c.args.core.now c.loop-master.core c.judged.new.self c.loop-master.invariant.judged.0 c.judge_one-unusable.result
+        c.loop-master.invariant.judged.1 c.judge_one-unusable.ensures.asked (same_length _ _ _ c.judge_one-unusable.ensures.length) c.judged.ensures.selects c.judged.ensures.rest,
+  );
   long = c.judge_one-unusable.ensures.length ∙ c.loop-master.invariant.long;
 }
 

@@ -10,8 +10,10 @@ use Rattle.ptu_slave.proofs.slave.hear.Goals as goal
 
 pub returns-in-Sync-clause-steps : goal.returns-in-Sync-clause-steps
 returns-in-Sync-clause-steps g c = λ message is openings L h.
-    rw (event_sync c.args.core.now.config.wants c.args.taken.master message (sym (ap (λ (k : Taken). k.content) is) ∙ c.in-Sync.is),
-    ← ap (λ (k : Taken). k.sequence) is)
+    rw (
+      event_sync c.args.core.now.config.wants c.args.taken.master message (sym (ap (λ (k : Taken). k.content) is) ∙ c.in-Sync.is),
+      ← ap (λ (k : Taken). k.sequence) is,
+    )
     (c.take_sync-at.ensures.steps openings L h)
 
 pub returns-in-Signals-clause-steps : goal.returns-in-Signals-clause-steps

@@ -8,7 +8,8 @@ returns-then-is_stopped-clause-sends g c = rw c.none.ensures
     ([], ticks_stopped c.args.at c.args.core.now (sym c.is_stopped.ensures ∙ c.if-is_stopped.true), hands_none (g.P.Port.sent c.args.port.now) (g.P.Port.faults c.args.port.now))
 
 pub returns-clause-sends : goal.returns-clause-sends
-returns-clause-sends g c =
-    (c.ask_all.ensures.sends.0,
-    ticks_going _ c.args.at c.args.core.now c.ask_all.new.core c.ask_all.ensures.sends.0 refl (sym c.is_stopped.ensures ∙ c.if-is_stopped.false) c.ask_all.ensures.sends.1,
-    c.ask_all.ensures.sends.2)
+returns-clause-sends g c = (
+  c.ask_all.ensures.sends.0,
+  ticks_going _ c.args.at c.args.core.now c.ask_all.new.core c.ask_all.ensures.sends.0 refl (sym c.is_stopped.ensures ∙ c.if-is_stopped.false) c.ask_all.ensures.sends.1,
+  c.ask_all.ensures.sends.2,
+)

@@ -16,9 +16,9 @@ returns-clause-stated c =
     rw (← c.self.view_is) (λ L h.
     let own = record_of c.args.master L in
     let counted : CountFor c.index_mut-counters.result.now own =
-        h.counters.of_master c.args.master c.index_mut-counters.result.now
-        (slice_get_read c.self.inside.counters.items (length c.self.inside.counters.items) c.args.master c.index_mut-counters.result.now refl
-        (subst (λ n. c.args.master < n) (sym c.self.invariant.3) within) c.index_mut-counters.ensures.value) in
+    h.counters.of_master c.args.master c.index_mut-counters.result.now
+    (slice_get_read c.self.inside.counters.items (length c.self.inside.counters.items) c.args.master c.index_mut-counters.result.now refl
+    (subst (λ n. c.args.master < n) (sym c.self.invariant.3) within) c.index_mut-counters.ensures.value) in
     plan_stated c.self.inside.config.wants L c.args.at c.args.master (kinds_in c.kinds_due-kinds.result) c.signal-number.result c.is_probe_due-is_probed.result c.probe-delay_req.result
     (c.kinds_due-kinds.ensures ∙ c.due-due.ensures L h.requester ∙ ap (λ wants. due_kinds wants own c.args.at) c.self.invariant.4)
     (c.signal-number.ensures.number own counted)
@@ -33,8 +33,8 @@ returns-clause-asks c =
     rw (← c.self.view_is) (λ L h.
     let own = record_of c.args.master L in
     let counted : CountFor c.index_mut-counters.result.now own =
-        h.counters.of_master c.args.master c.index_mut-counters.result.now
-        (slice_get_read c.self.inside.counters.items (length c.self.inside.counters.items) c.args.master c.index_mut-counters.result.now refl inside c.index_mut-counters.ensures.value) in
+    h.counters.of_master c.args.master c.index_mut-counters.result.now
+    (slice_get_read c.self.inside.counters.items (length c.self.inside.counters.items) c.args.master c.index_mut-counters.result.now refl inside c.index_mut-counters.ensures.value) in
     rw (plan_entries c.args.at c.args.master (kinds_in c.kinds_due-kinds.result) c.signal-number.result
     (delay_req_number (own ++ cond c.any.result (Signalled c.args.at c.args.master ∷ []) [])) c.is_probe_due-is_probed.result c.probe-delay_req.result
     (c.probe-delay_req.ensures.number (own ++ cond c.any.result (Signalled c.args.at c.args.master ∷ []) []) (c.signal-number.ensures.counted own c.args.master counted)))

@@ -14,9 +14,9 @@ returns-clause-stated c =
     let within : c.args.master < length c.self.inside.masters.items = rw (← c.self.view_is) at c.requires in
     rw (← c.self.view_is) (λ told L h.
     let counted : CountFor c.index_mut.result.now (record_of c.args.master L) =
-        h.counters.of_master c.args.master c.index_mut.result.now
-        (slice_get_read c.self.inside.counters.items (length c.self.inside.counters.items) c.args.master c.index_mut.result.now refl
-        (subst (λ n. c.args.master < n) (sym c.self.invariant.3) within) c.index_mut.ensures.value) in
+    h.counters.of_master c.args.master c.index_mut.result.now
+    (slice_get_read c.self.inside.counters.items (length c.self.inside.counters.items) c.args.master c.index_mut.result.now refl
+    (subst (λ n. c.args.master < n) (sym c.self.invariant.3) within) c.index_mut.ensures.value) in
     ap₂ (λ n ks. one_signaling (Cancels c.args.master n) ks) (c.signal-number.ensures.number (record_of c.args.master L) counted) (c.live-kinds.ensures told h.requester))
 
 pub returns-clause-asks : goal.returns-clause-asks
@@ -26,8 +26,8 @@ returns-clause-asks c =
     rw (← c.self.view_is) (λ told L h.
     let own = record_of c.args.master L in
     let counted : CountFor c.index_mut.result.now own =
-        h.counters.of_master c.args.master c.index_mut.result.now
-        (slice_get_read c.self.inside.counters.items (length c.self.inside.counters.items) c.args.master c.index_mut.result.now refl inside c.index_mut.ensures.value) in
+    h.counters.of_master c.args.master c.index_mut.result.now
+    (slice_get_read c.self.inside.counters.items (length c.self.inside.counters.items) c.args.master c.index_mut.result.now refl inside c.index_mut.ensures.value) in
     record {
       requester = subst (λ ks. StandsFor c.end_each.new.requester (told ++ map (Cancelled c.args.at c.args.master) ks)) (c.live-kinds.ensures told h.requester) (c.end_each.ensures.ended told h.requester);
       counters = rw (cancel_entries c.args.at c.args.master c.signal-number.result (kinds_in c.live-kinds.result))
