@@ -1,0 +1,197 @@
+-- What is sent to one master after the other.
+use Rattle.std.proofs.Common.{◌≡◌, ◌≢◌, ℕ, zero, suc, ◌+◌, ◌≤◌, Bool, true, false, cond, List, [], ◌∷◌, ◌++◌, map, length, Option, Some, None, refl, ap, ap₂, sym, subst, ◌∙◌, arith, append_assoc, add-one}
+use Rattle.std.proofs.lemmas.Bool.{ne_eqb, false≢true}
+use Rattle.std.proofs.lemmas.Grind.{flat_map-append}
+use Rattle.std.proofs.lemmas.List.{append-nil, map-append}
+use Rattle.std.specs.List.{AllByRecursion, flat_map, range_with_len}
+use Rattle.std.specs.Option.{option_map, option_to_list}
+use Rattle.ptu_units.specs.declared.kind.Kind.{Kind}
+use Rattle.ptu_outside.specs.Departure.{Departure}
+use Rattle.ptu_outside.specs.HandsOver.{HandsOver}
+use Rattle.ptu_record.specs.declared.wants.Wants.{Wants}
+use Rattle.ptu_record.specs.Lists.{places}
+use Rattle.ptu_record.specs.Record.{Entry, Record, concerns, record_of, Asked, Cancelled, Probed, Signalled}
+use Rattle.ptu_record.specs.Asks.{due_kinds}
+use Rattle.ptu_record.specs.Grants.{live_kinds}
+use Rattle.ptu_record.specs.Tick.{Acknowledgements, Cancels, DelayReq, Requests, Sending, delay_req_number, is_probe_due, one_signaling, requests_to, sending_entries, signaling_number}
+use Rattle.ptu_record.proofs.Others.{record_of-others, requests_one}
+use Rattle.ptu_record.proofs.StepParts.{asked_all}
+use Rattle.ptu_requester.specs.Requester.{all_cancels}
+use Rattle.ptu_requester.proofs.Stops.{all_cancels-before, all_cancels-next}
+use Rattle.ptu_slave_messages.specs.declared.config.Master.{Master}
+use Rattle.ptu_slave_messages.specs.declared.config.SlaveConfig.{SlaveConfig}
+use Rattle.ptu_slave_messages.specs.declared.plan.StopPlan.{StopPlan}
+use Rattle.ptu_slave_messages.specs.declared.plan.TickPlan.{TickPlan}
+use Rattle.ptu_slave_messages.specs.Config.{address_of}
+use Rattle.ptu_slave_messages.specs.Sending.{all_ones, are_some, departure_of, departure_to, kinds_in, stop_plan, tick_plan}
+use Rattle.ptu_slave_messages.proofs.Handing.{hands_both}
+use Rattle.ptu_slave.specs.Kept.{Kept}
+use Rattle.ptu_slave.specs.Parts.{AllAsked, AllEnded, Ticks, cancels_by}
+use Rattle.ptu_slave.specs.Standing.{Asks}
+use Rattle.ptu_slave.proofs.Assessing.{places-more}
+use Rattle.ptu_slave.proofs.Entering.{cancel_entries}
+use Rattle.ptu_slave.proofs.Masters.{all_append}
+
+-- ---- lists over places
+
+-- one place more
+each-more : (f : ℕ → List Sending) (n : ℕ) → flat_map f (places (n + 1)) ≡ flat_map f (places n) ++ f n
+each-more f n =
+    ap (flat_map f) (places-more 0 n) ∙ flat_map-append f (places n) ((0 + n) ∷ []) ∙ ap (λ w. flat_map f (places n) ++ w) (append-nil (f (0 + n)))
+    ∙ ap (λ k. flat_map f (places n) ++ f k) (omega arith)
+
+-- what is sent to the places before does not concern a master
+earlier : (x m : ℕ) (f : ℕ → List Sending) → ((n : ℕ) → m ≢ n → AllByRecursion (λ e. concerns m e ≡ false) (flat_map (sending_entries x) (f n)))
+    → (a n : ℕ) → a + n ≤ m → AllByRecursion (λ e. concerns m e ≡ false) (flat_map (sending_entries x) (flat_map f (range_with_len a n)))
+earlier x m f others a zero le = tt
+earlier x m f others a (suc n) le =
+    subst (AllByRecursion (λ e. concerns m e ≡ false)) (sym (flat_map-append (sending_entries x) (f a) (flat_map f (range_with_len (a + 1) n))))
+    (all_append (λ e. concerns m e ≡ false) (flat_map (sending_entries x) (f a)) (flat_map (sending_entries x) (flat_map f (range_with_len (a + 1) n)))
+    (others a (λ same. absurd (omega arith))) (earlier x m f others (a + 1) n (omega arith)))
+
+own_same : (x m : ℕ) (f : ℕ → List Sending) (L : Record) → ((n : ℕ) → m ≢ n → AllByRecursion (λ e. concerns m e ≡ false) (flat_map (sending_entries x) (f n)))
+    → record_of m (L ++ flat_map (sending_entries x) (flat_map f (places m))) ≡ record_of m L
+own_same x m f L others = record_of-others m L (flat_map (sending_entries x) (flat_map f (places m))) (earlier x m f others 0 m (omega arith))
+
+joined : (x : ℕ) (L : Record) (ss more : List Sending) → (L ++ flat_map (sending_entries x) ss) ++ flat_map (sending_entries x) more ≡ L ++ flat_map (sending_entries x) (ss ++ more)
+joined x L ss more = append_assoc L (flat_map (sending_entries x) ss) (flat_map (sending_entries x) more) ∙ ap (λ w. L ++ w) (sym (flat_map-append (sending_entries x) ss more))
+
+-- ---- a tick
+
+pub none_asked : (x : ℕ) (kept : Kept) → AllAsked 0 x kept kept []
+none_asked x kept = record {
+  stated = λ L h. refl;
+  asks = λ L h. subst (λ w. Asks kept w w) (sym (append-nil L)) h;
+  rest = refl;
+}
+
+requests_same : (wants : Wants) (L M : Record) (x m : ℕ) → record_of m M ≡ record_of m L → requests_to wants M x m ≡ requests_to wants L x m
+requests_same wants L M x m same =
+    ap (λ own. one_signaling (Requests m (signaling_number own)) (due_kinds wants own x) ++ cond (is_probe_due wants own x) (DelayReq m (delay_req_number own) ∷ []) []) same
+
+pub one_more_asked : (n x : ℕ) (old mid new : Kept) (ss more : List Sending) → AllAsked n x old mid ss
+    → ((L : Record) → Asks mid L L → more ≡ requests_to mid.config.wants L x n)
+    → ((L : Record) → Asks mid L L → Asks new (L ++ flat_map (sending_entries x) more) (L ++ flat_map (sending_entries x) more))
+    → new ≡ record mid { requester = new.requester; counters = new.counters } → AllAsked (n + 1) x old new (ss ++ more)
+one_more_asked n x old mid new ss more all stated asks rest = record {
+  stated = λ L h. ap₂ (λ v w. v ++ w) (all.stated L h) (one L h) ∙ sym (each-more (requests_to old.config.wants L x) n);
+  asks = λ L h. subst (λ w. Asks new w w) (joined x L ss more) (asks (L ++ flat_map (sending_entries x) ss) (all.asks L h));
+  rest = rest ∙ ap (λ (k : Kept). record k { requester = new.requester; counters = new.counters }) all.rest;
+}
+  where
+    one : (L : Record) → Asks old L L → more ≡ requests_to old.config.wants L x n
+    one L h =
+        stated (L ++ flat_map (sending_entries x) ss) (all.asks L h)
+        ∙ ap (λ (k : Kept). requests_to k.config.wants (L ++ flat_map (sending_entries x) ss) x n) all.rest
+        ∙ requests_same old.config.wants L (L ++ flat_map (sending_entries x) ss) x n
+        (ap (λ w. record_of n (L ++ flat_map (sending_entries x) w)) (all.stated L h)
+        ∙ own_same x n (requests_to old.config.wants L x) L (λ m differ. requests_one old.config.wants n m L x differ))
+
+pub ticks_going : (n x : ℕ) (old new : Kept) (ss : List Sending) → n ≡ length old.masters → old.stopped ≡ false → AllAsked n x old new ss → Ticks x old new ss
+ticks_going n x old new ss all_of going all = record {
+  stated = λ L still h. all.stated L h ∙ ap (λ k. flat_map (requests_to old.config.wants L x) (places k)) all_of;
+  silent = λ stopped. absurd (false≢true (sym going ∙ stopped));
+  asks = λ told L same h. subst (λ w. Asks new (w ++ flat_map (sending_entries x) ss) (L ++ flat_map (sending_entries x) ss)) (sym (same going)) (all.asks L (subst (λ w. Asks old w L) (same going) h));
+  rest = all.rest;
+}
+
+pub ticks_stopped : (x : ℕ) (old : Kept) → old.stopped ≡ true → Ticks x old old []
+ticks_stopped x old stopped = record {
+  stated = λ L still h. absurd (false≢true (sym still ∙ stopped));
+  silent = λ s. refl;
+  asks = λ told L same h. subst (λ w. Asks old w (L ++ [])) (sym (append-nil told)) (subst (Asks old told) (sym (append-nil L)) h);
+  rest = refl;
+}
+
+-- ---- the stop
+
+signalled_one : (m n x : ℕ) (b : Bool) → m ≢ n → AllByRecursion (λ e. concerns m e ≡ false) (cond b (Signalled x n ∷ []) [])
+signalled_one m n x true differ = (ne_eqb n m (λ same. differ (sym same)), tt)
+signalled_one m n x false differ = tt
+
+cancels_one : (told L : Record) (x m n : ℕ) → m ≢ n → AllByRecursion (λ e. concerns m e ≡ false) (flat_map (sending_entries x) (cancels_by told L x n))
+cancels_one told L x m n differ =
+    subst (AllByRecursion (λ e. concerns m e ≡ false)) (sym (cancel_entries x n (signaling_number (record_of n L)) (live_kinds (record_of n told) x)))
+    (signalled_one m n x (are_some (live_kinds (record_of n told) x)) differ)
+
+pub none_ended : (x : ℕ) (kept : Kept) → AllEnded 0 x kept kept []
+none_ended x kept = record {
+  stated = λ told L h. refl;
+  asks = λ told L h. subst (λ w. Asks kept w (L ++ [])) (sym (append-nil told)) (subst (Asks kept told) (sym (append-nil L)) h);
+  rest = refl;
+}
+
+pub one_more_ended : (n x : ℕ) (old mid new : Kept) (ss more : List Sending) → AllEnded n x old mid ss
+    → ((told L : Record) → Asks mid told L → more ≡ cancels_by told L x n)
+    → ((told L : Record) → Asks mid told L → Asks new (told ++ map (Cancelled x n) (live_kinds (record_of n told) x)) (L ++ flat_map (sending_entries x) more))
+    → new ≡ record mid { requester = new.requester; counters = new.counters } → AllEnded (n + 1) x old new (ss ++ more)
+one_more_ended n x old mid new ss more all stated asks rest = record {
+  stated = λ told L h. ap₂ (λ v w. v ++ w) (all.stated told L h) (one told L h) ∙ sym (each-more (cancels_by told L x) n);
+  asks = λ told L h. subst (λ w. Asks new (told ++ all_cancels (n + 1) told x) w) (joined x L ss more)
+      (subst (λ w. Asks new w ((L ++ flat_map (sending_entries x) ss) ++ flat_map (sending_entries x) more)) (cancelled told)
+      (asks (told ++ all_cancels n told x) (L ++ flat_map (sending_entries x) ss) (all.asks told L h)));
+  rest = rest ∙ ap (λ (k : Kept). record k { requester = new.requester; counters = new.counters }) all.rest;
+}
+  where
+    cancelled : (told : Record) → (told ++ all_cancels n told x) ++ map (Cancelled x n) (live_kinds (record_of n (told ++ all_cancels n told x)) x) ≡ told ++ all_cancels (n + 1) told x
+    cancelled told =
+        ap (λ own. (told ++ all_cancels n told x) ++ map (Cancelled x n) (live_kinds own x)) (all_cancels-before told x n n (omega arith))
+        ∙ append_assoc told (all_cancels n told x) (map (Cancelled x n) (live_kinds (record_of n told) x)) ∙ ap (λ w. told ++ w) (sym (all_cancels-next told x n))
+
+    one : (told L : Record) → Asks old told L → more ≡ cancels_by told L x n
+    one told L h =
+        stated (told ++ all_cancels n told x) (L ++ flat_map (sending_entries x) ss) (all.asks told L h)
+        ∙ ap₂ (λ a b. one_signaling (Cancels n (signaling_number a)) (live_kinds b x))
+        (ap (λ w. record_of n (L ++ flat_map (sending_entries x) w)) (all.stated told L h) ∙ own_same x n (cancels_by told L x) L (λ m differ. cancels_one told L x n m differ))
+        (all_cancels-before told x n n (omega arith))
+
+pub all_ended : (m n x : ℕ) (old new : Kept) (ss : List Sending) → m ≡ n → AllEnded m x old new ss → AllEnded n x old new ss
+all_ended m n x old new ss same all = subst (λ k. AllEnded k x old new ss) same all
+
+-- ---- datagrams
+
+-- a plan goes to its master
+tick_departures : (config : SlaveConfig) (masters : List Master) (m number : ℕ) (ks : List Kind) (d : Option ℕ)
+    → map (departure_to config (address_of masters m) all_ones) (one_signaling (Requests m number) ks ++ option_to_list (option_map (DelayReq m) d))
+    ≡ map (departure_of config masters all_ones) (one_signaling (Requests m number) ks ++ option_to_list (option_map (DelayReq m) d))
+tick_departures config masters m number [] None = refl
+tick_departures config masters m number [] (Some n) = refl
+tick_departures config masters m number (k ∷ ks) None = refl
+tick_departures config masters m number (k ∷ ks) (Some n) = refl
+
+stop_departures : (config : SlaveConfig) (masters : List Master) (m number : ℕ) (ks : List Kind)
+    → map (departure_to config (address_of masters m) all_ones) (one_signaling (Cancels m number) ks) ≡ map (departure_of config masters all_ones) (one_signaling (Cancels m number) ks)
+stop_departures config masters m number [] = refl
+stop_departures config masters m number (k ∷ ks) = refl
+
+module _ (before middle after : Option (List Departure)) (old now new : ℕ) (core mid : Kept) (m ip : ℕ) (config : SlaveConfig) (ss : List Sending) (sent failed more worse : ℕ)
+    (first : config ≡ mid.config) (second : ip ≡ address_of mid.masters m) (same : mid.config ≡ core.config) (masters : mid.masters ≡ core.masters)
+    (hands : HandsOver before middle old now (map (departure_of core.config core.masters all_ones) ss) sent failed) where
+  pub hands_tick : (plan : TickPlan) → ((n : ℕ) → HandsOver middle after now new (map (departure_to config ip all_ones) (tick_plan n plan)) more worse)
+      → HandsOver before after old new (map (departure_of core.config core.masters all_ones) (ss ++ tick_plan m plan)) (sent + more) (failed + worse)
+  hands_tick plan next =
+      subst (λ ds. HandsOver before after old new ds (sent + more) (failed + worse)) (sym (map-append (departure_of core.config core.masters all_ones) ss (tick_plan m plan)))
+      (hands_both before middle after old now new (map (departure_of core.config core.masters all_ones) ss) (map (departure_of core.config core.masters all_ones) (tick_plan m plan)) sent failed more worse hands
+      (subst (λ ds. HandsOver middle after now new ds more worse)
+      (ap₂ (λ c i. map (departure_to c i all_ones) (tick_plan m plan)) (first ∙ same) (second ∙ ap (λ ms. address_of ms m) masters) ∙ tick_departures core.config core.masters m plan.number (kinds_in plan.kinds) plan.delay_req)
+      (next m)))
+
+  pub hands_stop : (plan : StopPlan) → ((n : ℕ) → HandsOver middle after now new (map (departure_to config ip all_ones) (stop_plan n plan)) more worse)
+      → HandsOver before after old new (map (departure_of core.config core.masters all_ones) (ss ++ stop_plan m plan)) (sent + more) (failed + worse)
+  hands_stop plan next =
+      subst (λ ds. HandsOver before after old new ds (sent + more) (failed + worse)) (sym (map-append (departure_of core.config core.masters all_ones) ss (stop_plan m plan)))
+      (hands_both before middle after old now new (map (departure_of core.config core.masters all_ones) ss) (map (departure_of core.config core.masters all_ones) (stop_plan m plan)) sent failed more worse hands
+      (subst (λ ds. HandsOver middle after now new ds more worse)
+      (ap₂ (λ c i. map (departure_to c i all_ones) (stop_plan m plan)) (first ∙ same) (second ∙ ap (λ ms. address_of ms m) masters) ∙ stop_departures core.config core.masters m plan.number (kinds_in plan.kinds))
+      (next m)))
+
+-- ---- what is entered of what is sent
+
+pub sent_all : (P : Entry → Type 0) (x : ℕ) → ((m : ℕ) → P (Signalled x m)) → ((m : ℕ) (k : Kind) → P (Asked x m k)) → ((m : ℕ) → P (Probed x m))
+    → (ss : List Sending) → AllByRecursion P (flat_map (sending_entries x) ss)
+sent_all P x signalled asked probed [] = tt
+sent_all P x signalled asked probed (Requests m number ks ∷ ss) =
+    all_append P (Signalled x m ∷ map (Asked x m) ks) (flat_map (sending_entries x) ss) (signalled m, asked_all P x m (asked m) ks) (sent_all P x signalled asked probed ss)
+sent_all P x signalled asked probed (Cancels m number ks ∷ ss) = (signalled m, sent_all P x signalled asked probed ss)
+sent_all P x signalled asked probed (Acknowledgements m number codes ∷ ss) = sent_all P x signalled asked probed ss
+sent_all P x signalled asked probed (DelayReq m number ∷ ss) = (probed m, sent_all P x signalled asked probed ss)

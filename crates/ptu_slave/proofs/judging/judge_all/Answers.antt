@@ -1,0 +1,29 @@
+use Rattle.std.proofs.Common.{[], ◌∷◌, ◌++◌, ◌≡◌, ◌∙◌, ◌<◌, length, refl, sym, ap, subst, arith}
+use Rattle.ptu_slave.specs.Kept.{Kept}
+use Rattle.ptu_slave.proofs.Assessing.{all_judged, none_judged, one_more_judged}
+use Rattle.ptu_slave.proofs.Happening.{same_length}
+use Rattle.ptu_slave.proofs.judging.judge_all.Goals as goal
+
+pub loop-master-init : goal.loop-master-init
+loop-master-init g c = record { judged = ([], none_judged c.args.at _ c.args.core.now); long = refl }
+
+pub judged-requires : goal.judged-requires
+judged-requires g c =
+    let all = c.loop-master.invariant.judged.1 in
+    let same : length c.loop-master.core.masters ≡ length c.args.core.now.masters = ap (λ (k : Kept). length k.masters) all.rest in
+    omega (arith, same, c.requires, c.loop-master-test.true, c.len-master-end.ensures)
+
+pub loop-master-preserved : goal.loop-master-preserved
+loop-master-preserved g c = record {
+  judged = (
+    c.loop-master.invariant.judged.0 ++ c.judge_one-unusable.result ∷ [],
+    one_more_judged c.loop-master.master c.args.at _ _ _ c.args.core.now c.loop-master.core c.judged.new.self c.loop-master.invariant.judged.0 c.judge_one-unusable.result
+        c.loop-master.invariant.judged.1 c.judge_one-unusable.ensures.asked (same_length _ _ _ c.judge_one-unusable.ensures.length) c.judged.ensures.selects c.judged.ensures.rest,
+  );
+  long = c.judge_one-unusable.ensures.length ∙ c.loop-master.invariant.long;
+}
+
+pub returns-clause-judged : goal.returns-clause-judged
+returns-clause-judged g c =
+    all_judged c.loop-master.master (length c.args.core.now.masters) c.args.at _ _ c.args.core.now c.loop-master.core
+    (omega (arith, c.requires, c.loop-master-test.false, c.loop-master.auto.master-end, c.len-master-end.ensures)) c.loop-master.invariant.judged

@@ -1,0 +1,24 @@
+use Rattle.std.proofs.Common.{◌≡◌, ◌∙◌, Ok, List, ap₂, subst, sym}
+use Rattle.ptu_outside.specs.HandsOver.{HandsOver}
+use Rattle.ptu_slave_messages.specs.declared.config.Master.{Master}
+use Rattle.ptu_slave_messages.specs.declared.config.SlaveConfig.{SlaveConfig}
+use Rattle.ptu_slave_messages.specs.Heard.{failed_by, replies_in, reply_in, sent_by, taken_or_not}
+use Rattle.ptu_slave_messages.specs.Reception.{reception}
+use Rattle.ptu_slave.proofs.Hearing.{same_taken, taken_from}
+use Rattle.ptu_slave.proofs.slave.Slave.take.Goals as goal
+
+pub returns-in-Ok-clause-steps : goal.returns-in-Ok-clause-steps
+returns-in-Ok-clause-steps g c = λ m message received ok openings L h.
+    let answer = sym c.in-Ok.is ∙ c.in_ok-received.ensures.answer
+    ∙ ap₂ (λ (config : SlaveConfig) (masters : List Master). taken_or_not config.wants (reception config masters c.args.from c.args.bytes.now)) c.config.ensures c.masters.ensures.masters in
+    let is = same_taken c.args.self.now.core.config.wants (reception c.args.self.now.core.config c.args.self.now.core.masters c.args.from c.args.bytes.now) c.in-Ok.taken m message received answer in
+    rw (← is.0) (c.hear.ensures.steps message is.1 openings L h)
+
+pub returns-in-Ok-clause-sends : goal.returns-in-Ok-clause-sends
+returns-in-Ok-clause-sends g c =
+    let answer = sym c.in-Ok.is ∙ c.in_ok-received.ensures.answer
+    ∙ ap₂ (λ (config : SlaveConfig) (masters : List Master). taken_or_not config.wants (reception config masters c.args.from c.args.bytes.now)) c.config.ensures c.masters.ensures.masters in
+    let is = taken_from c.args.self.now.core.config.wants (reception c.args.self.now.core.config c.args.self.now.core.masters c.args.from c.args.bytes.now) c.in-Ok.taken answer in
+    subst (λ r. HandsOver (g.P.Port.sent c.args.self.now.port) (g.P.Port.sent c.hear.new.port) (g.P.Port.faults c.args.self.now.port) (g.P.Port.faults c.hear.new.port)
+    (replies_in c.args.self.now.core.config c.args.self.now.core.masters r) (sent_by (reply_in c.hear.result)) (failed_by (reply_in c.hear.result)))
+    (sym is.received) (c.hear.ensures.sends is.message is.kept)

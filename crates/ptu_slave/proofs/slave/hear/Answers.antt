@@ -1,0 +1,33 @@
+use Rattle.std.proofs.Common.{◌≡◌, ◌∙◌, ap, map, subst, sym}
+use Rattle.std.specs.List.{filter_map}
+use Rattle.ptu_outside.specs.HandsOver.{HandsOver}
+use Rattle.ptu_record.specs.Step.{TakeSync, cancel_code}
+use Rattle.ptu_slave_messages.specs.declared.content.Taken.{Taken}
+use Rattle.ptu_slave_messages.specs.Config.{address_of}
+use Rattle.ptu_slave_messages.specs.Heard.{failed_by, said_by, sent_by}
+use Rattle.ptu_slave.proofs.Hearing.{acks_are, event_sync, reply_is, said_in}
+use Rattle.ptu_slave.proofs.slave.hear.Goals as goal
+
+pub returns-in-Sync-clause-steps : goal.returns-in-Sync-clause-steps
+returns-in-Sync-clause-steps g c = λ message is openings L h.
+    rw (
+      event_sync c.args.core.now.config.wants c.args.taken.master message (sym (ap (λ (k : Taken). k.content) is) ∙ c.in-Sync.is),
+      ← ap (λ (k : Taken). k.sequence) is,
+    )
+    (c.take_sync-at.ensures.steps openings L h)
+
+pub returns-in-Signals-clause-steps : goal.returns-in-Signals-clause-steps
+returns-in-Signals-clause-steps g c = λ message is openings L h.
+    let said = said_in c.args.core.now.config.wants c.args.taken.master message c.in-Signals.list c.in-Signals.acks (sym (ap (λ (k : Taken). k.content) is) ∙ c.in-Signals.is) in
+    rw said.event (c.take_signaling-at.ensures.steps openings _ L message.header.sequence said.tlvs (c.list.ensures ∙ said.list) h)
+
+pub returns-in-Signals-clause-sends : goal.returns-in-Signals-clause-sends
+returns-in-Signals-clause-sends g c = λ message is.
+    let said = said_in c.args.core.now.config.wants c.args.taken.master message c.in-Signals.list c.in-Signals.acks (sym (ap (λ (k : Taken). k.content) is) ∙ c.in-Signals.is) in
+    let codes = filter_map cancel_code (filter_map said_by said.tlvs) in
+    subst (λ ds. HandsOver (g.P.Port.sent c.args.port.now) (g.P.Port.sent c.send_reply-reply.new.port) (g.P.Port.faults c.args.port.now) (g.P.Port.faults c.send_reply-reply.new.port) ds
+    (sent_by c.send_reply-reply.result) (failed_by c.send_reply-reply.result))
+    (reply_is c.args.core.now.config c.config.result.now c.args.core.now.masters c.args.taken.master c.address-ip.result c.args.taken.sequence c.args.taken.source codes message
+    (c.config.ensures ∙ c.take_signaling-at.ensures.same.config) (c.address-ip.ensures ∙ ap (λ ms. address_of ms c.args.taken.master) c.take_signaling-at.ensures.same.masters)
+    (ap (λ (k : Taken). k.source) is) (ap (λ (k : Taken). k.sequence) is) said.replies)
+    (c.send_reply-reply.ensures.sends c.args.taken.master codes (c.list-in-Signals.ensures ∙ said.acks ∙ acks_are said.tlvs))

@@ -1,0 +1,158 @@
+//! What a slave asks its masters for, over a requester and counters.
+
+ghost use Rattle.std.specs.Prelude.{◌≡◌, ℕ, ◌<◌, ◌^◌, List, [], ◌∷◌, ◌++◌, cond, map, length, filter_map, option_to_list};
+ghost use Rattle.ptu_units.specs.Log.{period_of};
+ghost use Rattle.ptu_record.specs.Lists.{maximum};
+ghost use Rattle.ptu_record.specs.Record.{Record, record_of, Asked, Cancelled};
+ghost use Rattle.ptu_record.specs.Grants.{live_kinds};
+ghost use Rattle.ptu_record.specs.Tick.{is_probe_due};
+ghost use Rattle.ptu_requester.specs.Requester.{StandsFor};
+ghost use Rattle.ptu_slave_messages.specs.Sending.{kinds_in};
+ghost use Rattle.ptu_slave.specs.Kept.{CountFor};
+ghost use Rattle.ptu_slave.specs.Parts.{signal_entry};
+
+use crate::counters::Counters;
+use ptu_record::Wants;
+use ptu_requester::Requester;
+use ptu_slave_messages::{Kinds, Signal, requested};
+use ptu_units::{Kind, Moment, period};
+
+// The later of two moments in nanoseconds, or 0 where there is none.
+fn later(a: Option<Moment>, b: Option<Moment>) -> u64
+    ensures later { result ≡ maximum (option_to_list a ++ option_to_list b) }
+    ensures below { result < 2 ^ 62 }
+{
+    match (a, b) {
+        (None, None) => 0,
+        (Some(a), None) => a.nanos(),
+        (None, Some(b)) => b.nanos(),
+        (Some(a), Some(b)) => a.latest(b).nanos(),
+    }
+}
+
+/// Whether a tick sends the master a Delay_Req.
+pub(crate) fn is_probe_due(
+    requester: &Requester,
+    wants: &Wants,
+    counters: &Counters,
+    at: Moment,
+    master: usize,
+) -> bool
+    requires { master < length requester.now.masters }
+    ensures { (L : Record) → StandsFor requester.now L →
+        CountFor counters.now (record_of master L) →
+        result ≡ is_probe_due wants.now (record_of master L) at }
+{
+    let Some(log) = wants.delay else {
+        return false;
+    };
+    if !requester.live(at, master, Kind::DelayResp) {
+        return false;
+    }
+    let start = requester.run_start(master, Kind::DelayResp);
+    later(counters.probed, start) + period(log) <= at.nanos()
+}
+
+// Enters an ask of one kind, where it is sent.
+fn ask(requester: &mut Requester, at: Moment, master: usize, kind: Kind, is_sent: bool)
+    requires { master < length requester.old.masters }
+    ensures asked { (L : Record) → StandsFor requester.old L →
+        StandsFor requester.new (L ++ cond is_sent (Asked at master kind ∷ []) []) }
+    ensures wants { requester.new.wants ≡ requester.old.wants }
+    ensures masters { length requester.new.masters ≡ length requester.old.masters }
+{
+    if is_sent {
+        requester.asked(at, master, kind);
+    }
+}
+
+/// Enters an ask of each of the kinds.
+pub(crate) fn ask_each(requester: &mut Requester, at: Moment, master: usize, kinds: Kinds)
+    requires { master < length requester.old.masters }
+    ensures asked { (L : Record) → StandsFor requester.old L →
+        StandsFor requester.new (L ++ map (Asked at master) (kinds_in kinds)) }
+    ensures wants { requester.new.wants ≡ requester.old.wants }
+    ensures masters { length requester.new.masters ≡ length requester.old.masters }
+{
+    ask(requester, at, master, Kind::Announce, kinds.announce);
+    ask(requester, at, master, Kind::Sync, kinds.sync);
+    ask(requester, at, master, Kind::DelayResp, kinds.delay);
+}
+
+/// The kinds whose grants are live.
+pub(crate) fn live(requester: &Requester, at: Moment, master: usize) -> Kinds
+    requires { master < length requester.now.masters }
+    ensures { (L : Record) → StandsFor requester.now L →
+        kinds_in result ≡ live_kinds (record_of master L) at }
+{
+    Kinds {
+        announce: requester.live(at, master, Kind::Announce),
+        sync: requester.live(at, master, Kind::Sync),
+        delay: requester.live(at, master, Kind::DelayResp),
+    }
+}
+
+// Enters that one kind is cancelled, where it is.
+fn end(requester: &mut Requester, at: Moment, master: usize, kind: Kind, is_sent: bool)
+    requires { master < length requester.old.masters }
+    ensures ended { (L : Record) → StandsFor requester.old L →
+        StandsFor requester.new (L ++ cond is_sent (Cancelled at master kind ∷ []) []) }
+    ensures wants { requester.new.wants ≡ requester.old.wants }
+    ensures masters { length requester.new.masters ≡ length requester.old.masters }
+{
+    if is_sent {
+        requester.cancelled(at, master, kind);
+    }
+}
+
+/// Enters that each of the kinds is cancelled.
+pub(crate) fn end_each(requester: &mut Requester, at: Moment, master: usize, kinds: Kinds)
+    requires { master < length requester.old.masters }
+    ensures ended { (L : Record) → StandsFor requester.old L →
+        StandsFor requester.new (L ++ map (Cancelled at master) (kinds_in kinds)) }
+    ensures wants { requester.new.wants ≡ requester.old.wants }
+    ensures masters { length requester.new.masters ≡ length requester.old.masters }
+{
+    end(requester, at, master, Kind::Announce, kinds.announce);
+    end(requester, at, master, Kind::Sync, kinds.sync);
+    end(requester, at, master, Kind::DelayResp, kinds.delay);
+}
+
+// Enters what a master said by one TLV.
+fn enter(requester: &mut Requester, wants: &Wants, at: Moment, master: usize, signal: Signal)
+    requires { master < length requester.old.masters }
+    ensures entered { (L : Record) → StandsFor requester.old L → StandsFor requester.new
+        (L ++ option_to_list (signal_entry wants.now at master signal)) }
+    ensures wants { requester.new.wants ≡ requester.old.wants }
+    ensures masters { length requester.new.masters ≡ length requester.old.masters }
+{
+    match signal {
+        Signal::Grant(kind, seconds) => requester.answered(at, master, kind, seconds),
+        Signal::Denial(kind) => requester.answered(at, master, kind, 0),
+        Signal::Cancel(code) => {
+            if let Some(kind) = requested(wants, code) {
+                requester.cancelled(at, master, kind);
+            }
+        }
+        Signal::Ack(_) => {}
+    }
+}
+
+/// Enters what a master said by a Signaling, TLV by TLV.
+pub(crate) fn enter_each(
+    requester: &mut Requester,
+    wants: &Wants,
+    at: Moment,
+    master: usize,
+    signals: &[Signal],
+)
+    requires { master < length requester.old.masters }
+    ensures entered { (L : Record) → StandsFor requester.old L → StandsFor requester.new
+        (L ++ filter_map (signal_entry wants.now at master) signals.now) }
+    ensures wants { requester.new.wants ≡ requester.old.wants }
+    ensures masters { length requester.new.masters ≡ length requester.old.masters }
+{
+    for signal in signals {
+        enter(requester, wants, at, master, *signal);
+    }
+}

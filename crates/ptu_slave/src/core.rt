@@ -1,0 +1,312 @@
+ghost use Rattle.std.specs.Prelude.{◌≡◌, ℕ, ◌<◌, ◌≤◌, max, List, [], ◌∷◌, ◌++◌, length, map, flat_map, filter_map, IfOk, All, vec_len, ◌*◌, ◌^◌, true, false};
+ghost use Rattle.std.specs.Option.{ForSome};
+ghost use Rattle.ptu_units.specs.Log.{period_of};
+ghost use Rattle.ptu_record.specs.Record.{Record, record_of, Announce, Sync, Resp, Judged, Cancelled};
+ghost use Rattle.ptu_record.specs.Grants.{live_kinds};
+ghost use Rattle.ptu_record.specs.Selection.{selected_master};
+ghost use Rattle.ptu_record.specs.Tick.{requests_to, sending_entries};
+ghost use Rattle.ptu_slave_messages.specs.Config.{AreMasters, IsWithinLimits, address_of, priorities, timeouts};
+ghost use Rattle.ptu_requester.specs.Due as due;
+ghost use Rattle.ptu_select.specs.Selecting.{SelectsBy};
+ghost use Rattle.ptu_slave_messages.specs.Sending.{kinds_in, stop_plan, tick_plan};
+ghost use Rattle.ptu_slave.specs.Kept.{CountFor, Kept};
+ghost use Rattle.ptu_slave.specs.Parts.{cancels_by, signal_entry};
+ghost use Rattle.ptu_slave.specs.Standing.{Asks, Selects};
+
+use crate::asking::{ask_each, end_each, enter_each, is_probe_due, live};
+use crate::counters::Counters;
+use ptu_requester::{Due, Requester};
+use ptu_select::Selector;
+use ptu_slave_messages::{Kinds, Master, Signal, SlaveConfig, StopPlan, TickPlan};
+use ptu_units::{Log, Moment, OutOfMemory, period};
+use std::alloc::{AllocError, Global};
+use std::marker::Model;
+
+/// Nanoseconds in a second.
+const SECOND: u64 = 1_000_000_000;
+
+/// What a slave keeps beside its judges and its port.
+#[derive(Drop)]
+pub struct Core {
+    config: SlaveConfig,
+    masters: Vec<Master>,
+    requester: Requester,
+    selector: Selector,
+    counters: Vec<Counters>,
+    moment: Moment,
+    stopped: bool,
+}
+
+impl Model for Core {
+    ghost use Rattle.std.specs.Prelude.{◌≡◌, ◌≤◌, length};
+    ghost use Rattle.ptu_slave.specs.Kept.{Kept};
+
+    ghost Value = { Kept };
+
+    ghost view = { λ c. record {
+      config = c.config;
+      masters = c.masters.items;
+      requester = c.requester;
+      selector = c.selector;
+      counters = c.counters.items;
+      moment = c.moment;
+      stopped = c.stopped;
+    } };
+
+    ghost invariant = { λ c. (length c.masters.items ≤ 16)
+        × (length c.requester.masters ≡ length c.masters.items)
+        × (length c.selector ≡ length c.masters.items)
+        × (length c.counters.items ≡ length c.masters.items)
+        × (c.requester.wants ≡ c.config.wants) };
+}
+
+// A receipt timeout of so many periods, in nanoseconds.
+fn timeout(periods: u8, log: Log) -> u64
+    ensures value { result ≡ periods * period_of log }
+    ensures below { result < 2 ^ 62 }
+{
+    periods as u64 * period(log)
+}
+
+// That of Delay_Resps, where they are requested.
+fn delay_timeout(config: &SlaveConfig) -> Option<u64>
+    ensures value { result ≡ (timeouts config.now).delay }
+    ensures below { ForSome result (λ timeout. timeout < 2 ^ 62) }
+{
+    match config.wants.delay {
+        Some(log) => Some(timeout(config.delay_timeout, log)),
+        None => None,
+    }
+}
+
+// The priority numbers of the masters.
+fn priorities_of(alloc: Global, masters: &[Master]) -> Result<Vec<u8>, AllocError>
+    ensures { IfOk result (λ list. list.items ≡ priorities masters.now) }
+{
+    masters.iter().map(|master| master.priority).collect(alloc)
+}
+
+// The selector of a slave that nothing happened to.
+fn new_selector(
+    alloc: Global,
+    config: &SlaveConfig,
+    masters: &[Master],
+) -> Result<Selector, OutOfMemory>
+    requires { IsWithinLimits config.now }
+    ensures masters { IfOk result (λ s. length s ≡ length masters.now) }
+    ensures selects { IfOk result (λ s. SelectsBy s
+        (timeouts config.now) (priorities masters.now) []) }
+{
+    let ta = timeout(config.announce_timeout, config.wants.announce);
+    let ts = timeout(config.sync_timeout, config.wants.sync);
+    let td = delay_timeout(config);
+    let wait = config.wait as u64 * SECOND;
+    let priorities = priorities_of(alloc, masters)?;
+    Selector::new(alloc, ta, ts, td, wait, &priorities)
+}
+
+// The counters of so many masters that nothing was sent to.
+fn new_counters(alloc: Global, masters: usize) -> Result<Vec<Counters>, AllocError>
+    ensures counted { IfOk result (λ all. All (λ counters. CountFor counters []) all.items) }
+    ensures count { IfOk result (λ all. vec_len all ≡ masters) }
+{
+    (0..masters).map(|_| Counters::new()).collect(alloc)
+}
+
+impl Core {
+    /// That of a slave of which nothing is recorded.
+    pub(crate) fn new(
+        alloc: Global,
+        config: SlaveConfig,
+        masters: Vec<Master>,
+    ) -> Result<Core, OutOfMemory>
+        requires limits { IsWithinLimits config }
+        requires masters { AreMasters masters.items }
+        ensures config { IfOk result (λ c. c.config ≡ config) }
+        ensures masters { IfOk result (λ c. c.masters ≡ masters.items) }
+        ensures fresh { IfOk result (λ c. (c.moment ≡ 0) × (c.stopped ≡ false)) }
+        ensures asks { IfOk result (λ c. Asks c [] []) }
+        ensures selects { IfOk result (λ c. Selects c []) }
+    {
+        let requester = Requester::new(alloc, config.wants, masters.len())?;
+        let selector = new_selector(alloc, &config, &masters)?;
+        let counters = new_counters(alloc, masters.len())?;
+        Ok(Core {
+            config,
+            masters,
+            requester,
+            selector,
+            counters,
+            moment: Moment::default(),
+            stopped: false,
+        })
+    }
+
+    /// What the slave is set up with.
+    pub(crate) fn config(&self) -> &SlaveConfig
+        ensures { result.now ≡ self.now.config }
+    {
+        &self.config
+    }
+
+    /// Its masters.
+    pub(crate) fn masters(&self) -> &[Master]
+        ensures masters { result.now ≡ self.now.masters }
+        ensures few { length result.now ≤ 16 }
+    {
+        &self.masters
+    }
+
+    /// The IPv4 address of a master.
+    pub(crate) fn address(&self, master: usize) -> u32
+        requires { master < length self.now.masters }
+        ensures { result ≡ address_of self.now.masters master }
+    {
+        self.masters[master].ip
+    }
+
+    /// Whether the slave has stopped.
+    pub(crate) fn is_stopped(&self) -> bool
+        ensures { result ≡ self.now.stopped }
+    {
+        self.stopped
+    }
+
+    /// The moment of an event that is handed `t`.
+    pub(crate) fn begin(&mut self, t: Moment) -> Moment
+        ensures at { result ≡ max t self.old.moment }
+        ensures rest { self.new ≡ record self.old { moment = result } }
+    {
+        self.moment = t.latest(self.moment);
+        self.moment
+    }
+
+    /// The slave stops.
+    pub(crate) fn stop(&mut self)
+        ensures { self.new ≡ record self.old { stopped = true } }
+    {
+        self.stopped = true;
+    }
+
+    /// An Announce of the master with this clockClass was accepted.
+    pub(crate) fn announce(&mut self, at: Moment, master: usize, class: u8)
+        requires { master < length self.old.masters }
+        ensures selects { (L : Record) → Selects self.old L →
+            Selects self.new (L ++ Announce at master class ∷ []) }
+        ensures rest { self.new ≡ record self.old { selector = self.new.selector } }
+    {
+        self.selector.announce(at, master, class);
+    }
+
+    /// A Sync of the master was accepted, whatever its sequenceId.
+    pub(crate) fn sync(&mut self, at: Moment, master: usize)
+        requires { master < length self.old.masters }
+        ensures selects { (L : Record) (number : ℕ) → Selects self.old L →
+            Selects self.new (L ++ Sync at master number ∷ []) }
+        ensures rest { self.new ≡ record self.old { selector = self.new.selector } }
+    {
+        self.selector.sync(at, master);
+    }
+
+    /// A Delay_Resp of the master was accepted, whatever its sequenceId.
+    pub(crate) fn resp(&mut self, at: Moment, master: usize)
+        requires { master < length self.old.masters }
+        ensures selects { (L : Record) (number : ℕ) → Selects self.old L →
+            Selects self.new (L ++ Resp at master number ∷ []) }
+        ensures rest { self.new ≡ record self.old { selector = self.new.selector } }
+    {
+        self.selector.resp(at, master);
+    }
+
+    /// The judge of the master found whether it is unusable.
+    pub(crate) fn judged(&mut self, at: Moment, master: usize, unusable: bool)
+        requires { master < length self.old.masters }
+        ensures selects { (L : Record) → Selects self.old L →
+            Selects self.new (L ++ Judged at master unusable ∷ []) }
+        ensures rest { self.new ≡ record self.old { selector = self.new.selector } }
+    {
+        self.selector.flag(at, master, unusable);
+    }
+
+    /// The master that is selected at a moment, and that of the slave where it is later.
+    pub(crate) fn selected(&mut self, t: Moment) -> Option<usize>
+        ensures same { self.new ≡ self.old }
+        ensures selected { (L : Record) → Selects self.old L →
+            result ≡ selected_master (timeouts self.old.config) (priorities self.old.masters) L
+            (max t self.old.moment) }
+    {
+        self.selector.select(t.latest(self.moment))
+    }
+
+    /// What the master said by a Signaling.
+    pub(crate) fn hear(&mut self, at: Moment, master: usize, signals: &[Signal])
+        requires { master < length self.old.masters }
+        ensures asks { (told L : Record) → Asks self.old told L →
+            let entries = filter_map (signal_entry self.old.config.wants at master) signals.now in
+            Asks self.new (told ++ entries) (L ++ entries) }
+        ensures rest { self.new ≡ record self.old {
+          requester = self.new.requester;
+          counters = self.new.counters;
+        } }
+    {
+        enter_each(&mut self.requester, &self.config.wants, at, master, signals);
+    }
+
+    /// Makes up what a tick sends to the master, and enters it.
+    pub(crate) fn ask(&mut self, at: Moment, master: usize) -> TickPlan
+        requires { master < length self.old.masters }
+        ensures stated { (L : Record) → Asks self.old L L →
+            tick_plan master result ≡ requests_to self.old.config.wants L at master }
+        ensures asks { (L : Record) → Asks self.old L L →
+            let entries = flat_map (sending_entries at) (tick_plan master result) in
+            Asks self.new (L ++ entries) (L ++ entries) }
+        ensures rest { self.new ≡ record self.old {
+          requester = self.new.requester;
+          counters = self.new.counters;
+        } }
+    {
+        let due = self.requester.due(at, master);
+        let kinds = kinds_due(due);
+        let counters = &mut self.counters[master];
+        let is_probed = is_probe_due(&self.requester, &self.config.wants, counters, at, master);
+        let number = counters.signal(at, kinds.any());
+        let delay_req = counters.probe(at, is_probed);
+        ask_each(&mut self.requester, at, master, kinds);
+        TickPlan {
+            kinds,
+            number,
+            delay_req,
+        }
+    }
+
+    /// Makes up what the stop sends to the master, and enters it; the requester is told that each
+    /// live grant is cancelled.
+    pub(crate) fn end(&mut self, at: Moment, master: usize) -> StopPlan
+        requires { master < length self.old.masters }
+        ensures stated { (told L : Record) → Asks self.old told L →
+            stop_plan master result ≡ cancels_by told L at master }
+        ensures asks { (told L : Record) → Asks self.old told L → Asks self.new
+            (told ++ map (Cancelled at master) (live_kinds (record_of master told) at))
+            (L ++ flat_map (sending_entries at) (stop_plan master result)) }
+        ensures rest { self.new ≡ record self.old {
+          requester = self.new.requester;
+          counters = self.new.counters;
+        } }
+    {
+        let kinds = live(&self.requester, at, master);
+        let number = self.counters[master].signal(at, kinds.any());
+        end_each(&mut self.requester, at, master, kinds);
+        StopPlan { kinds, number }
+    }
+}
+
+// The kinds for which the master is to be asked.
+fn kinds_due(wanted: Due) -> Kinds
+    ensures { kinds_in result ≡ due.kinds_of wanted }
+{
+    Kinds {
+        announce: wanted.announce,
+        sync: wanted.sync,
+        delay: wanted.delay,
+    }
+}

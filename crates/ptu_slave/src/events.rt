@@ -1,0 +1,150 @@
+//! The events of a slave that send nothing but a reply.
+
+ghost use Rattle.std.specs.Prelude.{◌≡◌, ℕ, ◌<◌, max, List, map, filter_map, length, Option};
+ghost use Rattle.ptu_record.specs.declared.rule.Rule.{Rule};
+ghost use Rattle.ptu_record.specs.Record.{Record};
+ghost use Rattle.ptu_record.specs.Step.{TakeAnnounce, TakeSync, TakeFollowUp, TakeDelayResp, TakeSignaling, TellFlag, ReplaceJudge};
+ghost use Rattle.ptu_tlvs.specs.declared.tlv.Tlv.{Tlv};
+ghost use Rattle.ptu_judges.specs.Held.{Held, IsFresh};
+ghost use Rattle.ptu_slave_messages.specs.Heard.{signals_of, said_by};
+ghost use Rattle.ptu_slave.specs.Kept.{IsSame};
+ghost use Rattle.ptu_slave.specs.Standing.{StandsFor, Steps};
+
+use crate::core::Core;
+use crate::judging::{judge_anew, judge_flag, judge_sync};
+use ptu_judges::Judge;
+use ptu_slave_messages::Signal;
+use ptu_units::Moment;
+
+/// An Announce of the master with this clockClass.
+pub(crate) fn take_announce(core: &mut Core, t: Moment, master: usize, class: u8) -> Moment
+    requires { master < length core.old.masters }
+    ensures at { result ≡ max t core.old.moment }
+    ensures same { IsSame core.old core.new }
+    ensures steps { (openings : List (Option Rule)) (judges : List Held) (L : Record) →
+        StandsFor openings core.old judges L →
+        Steps openings core.old core.new judges L t (TakeAnnounce master class) }
+{
+    let at = core.begin(t);
+    core.announce(at, master, class);
+    at
+}
+
+/// A Follow_Up of the master.
+pub(crate) fn take_follow_up(core: &mut Core, t: Moment, master: usize) -> Moment
+    requires { master < length core.old.masters }
+    ensures at { result ≡ max t core.old.moment }
+    ensures same { IsSame core.old core.new }
+    ensures steps { (openings : List (Option Rule)) (judges : List Held) (L : Record) →
+        StandsFor openings core.old judges L →
+        Steps openings core.old core.new judges L t (TakeFollowUp master) }
+{
+    let _ = master;
+    core.begin(t)
+}
+
+/// A Delay_Resp of the master with this sequenceId.
+pub(crate) fn take_delay_resp(core: &mut Core, t: Moment, master: usize, seq: u16) -> Moment
+    requires { master < length core.old.masters }
+    ensures at { result ≡ max t core.old.moment }
+    ensures same { IsSame core.old core.new }
+    ensures steps { (openings : List (Option Rule)) (judges : List Held) (L : Record) →
+        StandsFor openings core.old judges L →
+        Steps openings core.old core.new judges L t (TakeDelayResp master seq) }
+{
+    let _ = seq;
+    let at = core.begin(t);
+    core.resp(at, master);
+    at
+}
+
+/// A Signaling of the master, by what it says.
+pub(crate) fn take_signaling(
+    core: &mut Core,
+    t: Moment,
+    master: usize,
+    signals: &[Signal],
+) -> Moment
+    requires { master < length core.old.masters }
+    ensures at { result ≡ max t core.old.moment }
+    ensures same { IsSame core.old core.new }
+    ensures steps { (openings : List (Option Rule)) (judges : List Held) (L : Record) (number : ℕ)
+        (tlvs : List Tlv) → signals.now ≡ signals_of core.old.config.wants tlvs →
+        StandsFor openings core.old judges L →
+        Steps openings core.old core.new judges L t
+        (TakeSignaling master number (filter_map said_by tlvs)) }
+{
+    let at = core.begin(t);
+    core.hear(at, master, signals);
+    at
+}
+
+/// A Sync of the master with this sequenceId.
+pub(crate) fn take_sync(
+    core: &mut Core,
+    judges: &mut Vec<Box<dyn Judge>>,
+    t: Moment,
+    master: usize,
+    seq: u16,
+) -> Moment
+    requires master { master < length core.old.masters }
+    requires judges { length judges.old.items ≡ length core.old.masters }
+    ensures at { result ≡ max t core.old.moment }
+    ensures same { IsSame core.old core.new }
+    ensures judges { length judges.new.items ≡ length judges.old.items }
+    ensures steps { (openings : List (Option Rule)) (L : Record) →
+        StandsFor openings core.old (map (λ j. held j) judges.old.items) L →
+        Steps openings core.old core.new (map (λ j. held j) judges.new.items) L t
+        (TakeSync master seq) }
+{
+    let at = core.begin(t);
+    core.sync(at, master);
+    let unusable = judge_sync(judges, at, master, seq);
+    core.judged(at, master, unusable);
+    at
+}
+
+/// The operator says whether the master is unusable.
+pub(crate) fn tell_flag(
+    core: &mut Core,
+    judges: &mut Vec<Box<dyn Judge>>,
+    t: Moment,
+    master: usize,
+    unusable: bool,
+)
+    requires master { master < length core.old.masters }
+    requires judges { length judges.old.items ≡ length core.old.masters }
+    ensures same { IsSame core.old core.new }
+    ensures judges { length judges.new.items ≡ length judges.old.items }
+    ensures steps { (openings : List (Option Rule)) (L : Record) →
+        StandsFor openings core.old (map (λ j. held j) judges.old.items) L →
+        Steps openings core.old core.new (map (λ j. held j) judges.new.items) L t
+        (TellFlag master unusable) }
+{
+    let at = core.begin(t);
+    let found = judge_flag(judges, at, master, unusable);
+    core.judged(at, master, found);
+}
+
+/// Another judge takes over the master; the former one is dropped.
+pub(crate) fn replace_judge(
+    core: &mut Core,
+    judges: &mut Vec<Box<dyn Judge>>,
+    t: Moment,
+    master: usize,
+    judge: Box<dyn Judge>,
+)
+    requires master { master < length core.old.masters }
+    requires judges { length judges.old.items ≡ length core.old.masters }
+    requires fresh { IsFresh (held judge) }
+    ensures same { IsSame core.old core.new }
+    ensures judges { length judges.new.items ≡ length judges.old.items }
+    ensures steps { (openings : List (Option Rule)) (L : Record) →
+        StandsFor openings core.old (map (λ j. held j) judges.old.items) L →
+        Steps openings core.old core.new (map (λ j. held j) judges.new.items) L t
+        (ReplaceJudge master (held judge).rule) }
+{
+    let at = core.begin(t);
+    let unusable = judge_anew(judges, at, master, judge);
+    core.judged(at, master, unusable);
+}

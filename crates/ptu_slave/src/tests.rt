@@ -1,0 +1,351 @@
+//! Worked rows, whose octets, moments and answers were made out by hand.
+ghost use Rattle.std.specs.Prelude.{◌≤◌, IfOk, None, false};
+ghost use Rattle.ptu_record.specs.Marks.{fresh_marks};
+ghost use Rattle.ptu_slave_messages.specs.Config.{IsWithinLimits};
+ghost use Rattle.ptu_slave.specs.Kept.{IsSame};
+
+use super::*;
+use ptu_header::PortIdentity;
+use ptu_judges::{FlagJudge, GapJudge, Judge};
+use ptu_outside::{Channel, MemPort};
+use ptu_record::{Rule, Wants};
+use ptu_units::{Kind, Log, Moment};
+use std::alloc::Global;
+use std::cell::Cell;
+use std::process::Abort;
+use std::rc::Rc;
+use std::test::Fail;
+
+const SECOND: u64 = 1_000_000_000;
+
+/// The addresses of the masters begin with this one.
+const FIRST: u32 = 0x0a00_0001;
+
+// An Announce and a Sync of port 1 of the clock 0a00000000000001, and a Delay_Resp to port 1 of the
+// clock 0a00000000000021.
+const ANNOUNCE: &str = "0b120040040004000000000000000000000000000a0000000000000100010000057f\
+     00000000000000000000000000805400ffff800a000000000000010000a0";
+
+const SYNC: &str = "0012002c040004000000000000000000000000000a0000000000000100010000007f\
+     00000000000000000000";
+
+const DELAY_RESP: &str = "09120036040004000000000000000000000000000a0000000000000100010000037f\
+     000000000000000000000a000000000000210001";
+
+// The slave 0a00000000000021 that requests Announce and Sync at these logarithms, and Delay_Resp at
+// 0 where it is to.
+fn config(announce: i8, sync: i8, delay: bool, wait: u32) -> Result<SlaveConfig, Fail>
+    requires { wait ≤ 720 }
+    ensures { IfOk result IsWithinLimits }
+{
+    Ok(SlaveConfig {
+        identity: PortIdentity {
+            clock: 0x0a00_0000_0000_0021,
+            port: 1,
+        },
+        domain: 4,
+        wants: Wants {
+            announce: Log::of(Kind::Announce, announce).ok_or("in range")?,
+            sync: Log::of(Kind::Sync, sync).ok_or("in range")?,
+            delay: if delay {
+                Log::of(Kind::DelayResp, 0)
+            } else {
+                None
+            },
+            seconds: 300,
+        },
+        announce_timeout: 3,
+        sync_timeout: 3,
+        delay_timeout: 3,
+        wait,
+    })
+}
+
+// What happens to a slave, or is found of it; a master is named by the last octet of its address.
+#[derive(Clone, Copy)]
+enum Row {
+    /// An Announce of this clockClass comes.
+    Announce(u8, u8),
+    /// A Sync of this sequenceId comes.
+    Sync(u8, u8),
+    /// A Delay_Resp comes.
+    DelayResp(u8),
+    /// This place is selected.
+    Selects(Option<usize>),
+}
+
+// The octets with some of them replaced.
+fn datagram(alloc: Global, text: &str, changes: &[(usize, u8)]) -> Result<Vec<u8>, Fail> {
+    let mut octets = hex::decode(alloc, text)?;
+    for &(place, octet) in changes {
+        if let Some(old) = octets.get_mut(place) {
+            *old = octet;
+        }
+    }
+    Ok(octets)
+}
+
+// Plays a row at a moment.
+fn play(
+    rt: &impl Abort,
+    alloc: Global,
+    slave: &mut Slave<MemPort>,
+    nanos: u64,
+    row: Row,
+) -> Result<(), Fail>
+    ensures { IsSame slave.old.core slave.new.core }
+{
+    let at = Moment::of(nanos).ok_or("below 2^62")?;
+    let (master, octets) = match row {
+        Row::Announce(master, class) => {
+            (
+                master,
+                datagram(alloc, ANNOUNCE, &[(27, master), (48, class)])?,
+            )
+        }
+        Row::Sync(master, seq) => (master, datagram(alloc, SYNC, &[(27, master), (31, seq)])?),
+        Row::DelayResp(master) => (master, datagram(alloc, DELAY_RESP, &[])?),
+        Row::Selects(place) => {
+            assert_eq!(rt; slave.selected(at), place, "at {nanos}");
+            return Ok(());
+        }
+    };
+    slave.take(alloc, at, FIRST - 1 + u32::from(master), &octets)?;
+    Ok(())
+}
+
+#[test]
+fn asks_without_an_answer(rt: HostRuntime) -> Result<(), Fail> {
+    let alloc = rt.alloc();
+    let mut port = MemPort::new(alloc, Vec::new(alloc), Vec::new(alloc), Vec::new(alloc));
+    port.reserve(4, 4 * 64)?;
+    let masters = vec![in alloc;
+        Master {
+            ip: FIRST,
+            priority: 1
+        },
+    ]?;
+    let mut judges: Vec<Box<dyn Judge>> = Vec::new(alloc);
+    judges.push(Box::new(alloc, FlagJudge::new())?)?;
+    let mut slave = Slave::new(alloc, config(1, 0, false, 300)?, masters, judges, port)?;
+    // The moment of each tick, and how many datagrams it sends.
+    let ticks = [
+        (0, 1),
+        (SECOND, 1),
+        (2 * SECOND, 1),
+        (3 * SECOND, 0),
+        (61_999_999_999, 0),
+        (62 * SECOND, 1),
+    ];
+    for (nanos, sent) in ticks {
+        let at = Moment::of(nanos).ok_or("below 2^62")?;
+        let ticked = slave.tick(at);
+        assert_eq!(rt;
+            ticked,
+            Ticked {
+                at,
+                sent,
+                failed: 0
+            },
+            "at {nanos}"
+        );
+        assert_eq!(rt; slave.selected(at), None);
+    }
+    let port = slave.into_port();
+    let last = hex::decode(
+        alloc,
+        "0c120040040004000000000000000000000000000a0000000000002100010003057f\
+         ffffffffffffffffffff00040006b0010000012c0004000600000000012c",
+    )?;
+    assert_eq!(rt;
+        port.sent(3),
+        Some((FIRST, Channel::General, last.as_slice()))
+    );
+    Ok(())
+}
+
+// Plays rows at their moments.
+fn play_all(
+    rt: &impl Abort,
+    alloc: Global,
+    slave: &mut Slave<MemPort>,
+    rows: &[(u64, Row)],
+) -> Result<(), Fail> {
+    for &(nanos, row) in rows {
+        play(rt, alloc, slave, nanos, row)?;
+    }
+    Ok(())
+}
+
+// A port at which nothing waits, without room.
+fn quiet_port(alloc: Global) -> MemPort {
+    MemPort::new(alloc, Vec::new(alloc), Vec::new(alloc), Vec::new(alloc))
+}
+
+#[test]
+fn a_master_is_lost_and_restored(rt: HostRuntime) -> Result<(), Fail> {
+    let alloc = rt.alloc();
+    let masters = vec![in alloc;
+        Master {
+            ip: FIRST,
+            priority: 1
+        },
+    ]?;
+    let mut judges: Vec<Box<dyn Judge>> = Vec::new(alloc);
+    judges.push(Box::new(alloc, FlagJudge::new())?)?;
+    let config = config(4, 4, false, 60)?;
+    let mut slave = Slave::new(alloc, config, masters, judges, quiet_port(alloc))?;
+    play_all(
+        &rt,
+        alloc,
+        &mut slave,
+        &[
+            (0, Row::Announce(1, 84)),
+            (0, Row::Sync(1, 0)),
+            (48 * SECOND, Row::Announce(1, 84)),
+            (48 * SECOND, Row::Sync(1, 0)),
+            (48 * SECOND, Row::Selects(Some(0))),
+            (96 * SECOND, Row::Selects(Some(0))),
+            (96 * SECOND + 1, Row::Selects(None)),
+            (100 * SECOND, Row::Announce(1, 84)),
+            (100 * SECOND, Row::Sync(1, 0)),
+            (100 * SECOND, Row::Selects(None)),
+            // A stranger changes nothing.
+            (110 * SECOND, Row::Announce(2, 110)),
+            (140 * SECOND, Row::Announce(1, 84)),
+            (140 * SECOND, Row::Sync(1, 0)),
+            (160 * SECOND - 1, Row::Selects(None)),
+            (160 * SECOND, Row::Selects(Some(0))),
+            // QL-DNU is never selected.
+            (161 * SECOND, Row::Announce(1, 110)),
+            (161 * SECOND, Row::Selects(None)),
+        ],
+    )
+}
+
+#[test]
+fn delay_resps_are_lost_and_restored(rt: HostRuntime) -> Result<(), Fail> {
+    let alloc = rt.alloc();
+    let masters = vec![in alloc;
+        Master {
+            ip: FIRST,
+            priority: 1
+        },
+    ]?;
+    let mut judges: Vec<Box<dyn Judge>> = Vec::new(alloc);
+    judges.push(Box::new(alloc, FlagJudge::new())?)?;
+    let config = config(4, 4, true, 60)?;
+    let mut slave = Slave::new(alloc, config, masters, judges, quiet_port(alloc))?;
+    play_all(
+        &rt,
+        alloc,
+        &mut slave,
+        &[
+            (0, Row::Announce(1, 84)),
+            (0, Row::Sync(1, 0)),
+            (0, Row::Selects(None)),
+            (SECOND, Row::DelayResp(1)),
+            (SECOND, Row::Selects(Some(0))),
+            (4 * SECOND, Row::Selects(Some(0))),
+            (4 * SECOND + 1, Row::Selects(None)),
+        ],
+    )?;
+    // From 5 s on a Delay_Resp comes every three seconds.
+    for third in 0..20 {
+        if third == 12 {
+            play(&rt, alloc, &mut slave, 40 * SECOND, Row::Announce(1, 84))?;
+            play(&rt, alloc, &mut slave, 40 * SECOND, Row::Sync(1, 0))?;
+        }
+        play(
+            &rt,
+            alloc,
+            &mut slave,
+            (5 + 3 * third) * SECOND,
+            Row::DelayResp(1),
+        )?;
+    }
+    play_all(
+        &rt,
+        alloc,
+        &mut slave,
+        &[
+            (65 * SECOND - 1, Row::Selects(None)),
+            (65 * SECOND, Row::DelayResp(1)),
+            (65 * SECOND, Row::Selects(Some(0))),
+        ],
+    )
+}
+
+// A judge of another's making, which tells when it is dropped.
+struct Own {
+    dropped: Rc<Cell<bool>>,
+}
+
+impl Drop for Own {
+    fn drop(self) {
+        let Own { dropped } = self;
+        dropped.set(true);
+    }
+}
+
+impl Judge for Own {
+    ghost held = { λ _. record { rule = None; marks = fresh_marks; flag = false } };
+
+    fn rule(&self) -> Option<Rule> {
+        None
+    }
+
+    fn heard(&mut self, t: Moment, seq: u16) {
+        let _ = (t, seq);
+    }
+
+    fn told(&mut self, t: Moment, unusable: bool) {
+        let _ = (t, unusable);
+    }
+
+    fn assess(&mut self, t: Moment) -> bool {
+        t.nanos() >= 2 * SECOND
+    }
+}
+
+#[test]
+fn judges_are_asked_and_replaced(rt: HostRuntime) -> Result<(), Fail> {
+    let alloc = rt.alloc();
+    let masters = vec![in alloc;
+        Master {
+            ip: FIRST,
+            priority: 1
+        },
+    ]?;
+    let dropped = Rc::new(alloc, Cell::new(false))?;
+    let own = Own {
+        dropped: dropped.clone()?,
+    };
+    let mut judges: Vec<Box<dyn Judge>> = Vec::new(alloc);
+    judges.push(Box::new(alloc, own)?)?;
+    let config = config(4, 4, false, 0)?;
+    let mut slave = Slave::new(alloc, config, masters, judges, quiet_port(alloc))?;
+    play(&rt, alloc, &mut slave, 0, Row::Announce(1, 84))?;
+    play(&rt, alloc, &mut slave, SECOND, Row::Sync(1, 0))?;
+    play(&rt, alloc, &mut slave, SECOND, Row::Selects(Some(0)))?;
+    play(&rt, alloc, &mut slave, 2 * SECOND, Row::Sync(1, 1))?;
+    play(&rt, alloc, &mut slave, 2 * SECOND, Row::Selects(None))?;
+    assert!(rt; !dropped.get());
+    let gap: Box<dyn Judge> = Box::new(alloc, GapJudge::new(4))?;
+    slave.set_judge(Moment::of(2 * SECOND).ok_or("below 2^62")?, 0, gap);
+    assert!(rt; dropped.get());
+    play_all(
+        &rt,
+        alloc,
+        &mut slave,
+        &[
+            (2 * SECOND, Row::Selects(Some(0))),
+            (2 * SECOND, Row::Sync(1, 0)),
+            (2 * SECOND, Row::Selects(Some(0))),
+            (3 * SECOND, Row::Sync(1, 5)),
+            (3 * SECOND, Row::Selects(None)),
+            (4 * SECOND, Row::Sync(1, 3)),
+            (4 * SECOND, Row::Selects(Some(0))),
+        ],
+    )
+}
