@@ -10,8 +10,8 @@ ghost use Rattle.ptu_slave_messages.specs.Heard.{signals_of, said_by};
 ghost use Rattle.ptu_slave.specs.Kept.{IsSame};
 ghost use Rattle.ptu_slave.specs.Standing.{StandsFor, Steps};
 
-use crate::core::Core;
 use crate::judging::{judge_anew, judge_flag, judge_sync};
+use crate::node::Core;
 use ptu_judges::Judge;
 use ptu_slave_messages::Signal;
 use ptu_units::Moment;

@@ -8,7 +8,7 @@ ghost use Rattle.ptu_record.specs.Judges.{IsAssessment};
 ghost use Rattle.ptu_judges.specs.Held.{IsFresh, StandsFor};
 ghost use Rattle.ptu_slave.specs.Parts.{AllJudged, OneAsked, OneJudged};
 
-use crate::core::Core;
+use crate::node::Core;
 use ptu_judges::Judge;
 use ptu_units::Moment;
 

@@ -3,16 +3,16 @@
 #![tactic(auto)]
 
 mod asking;
-mod core;
 mod counters;
 mod events;
 mod judging;
+mod node;
 mod slave;
 mod ticked;
 mod ticks;
 
-pub use core::Core;
 pub use counters::Counters;
+pub use node::Core;
 pub use ptu_slave_messages::{
     Heard, HeardReply, Master, Signal, SignalList, SlaveConfig, SlaveReason,
 };

@@ -16,12 +16,12 @@ ghost use Rattle.ptu_slave_messages.specs.declared.reason.SlaveReason.{SlaveReas
 ghost use Rattle.ptu_slave.specs.Kept.{IsSame};
 ghost use Rattle.ptu_slave.specs.Standing.{StandsFor, Steps, setup_of};
 
-use crate::core::Core;
 use crate::events::{
     replace_judge, take_announce, take_delay_resp, take_follow_up, take_signaling, take_sync,
     tell_flag,
 };
 use crate::judging::judge_all;
+use crate::node::Core;
 use crate::ticked::Ticked;
 use crate::ticks::{end_all, tick_all};
 use ptu_judges::Judge;

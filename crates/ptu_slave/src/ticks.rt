@@ -6,7 +6,7 @@ ghost use Rattle.ptu_record.specs.Tick.{Sending};
 ghost use Rattle.ptu_slave_messages.specs.Sending.{all_ones, departure_of};
 ghost use Rattle.ptu_slave.specs.Parts.{AllAsked, AllEnded, Ticks};
 
-use crate::core::Core;
+use crate::node::Core;
 use ptu_outside::Port;
 use ptu_slave_messages::{Tally, send_stop, send_tick};
 use ptu_units::Moment;

@@ -8,7 +8,7 @@ use Rattle.ptu_slave_messages.specs.Sending.{are_some, kinds_in}
 use Rattle.ptu_slave.specs.Kept.{CountFor}
 use Rattle.ptu_slave.specs.Standing.{Asks}
 use Rattle.ptu_slave.proofs.Entering.{asks_planned, plan_entries, plan_stated, same_delay_req}
-use Rattle.ptu_slave.proofs.core.Core.ask.Goals as goal
+use Rattle.ptu_slave.proofs.node.Core.ask.Goals as goal
 
 pub returns-clause-stated : goal.returns-clause-stated
 returns-clause-stated c =

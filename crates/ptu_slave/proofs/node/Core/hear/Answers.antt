@@ -1,6 +1,6 @@
 use Rattle.ptu_slave.proofs.Entering.{uncounted_signals}
 use Rattle.ptu_slave.proofs.Quiet.{counts_kept}
-use Rattle.ptu_slave.proofs.core.Core.hear.Goals as goal
+use Rattle.ptu_slave.proofs.node.Core.hear.Goals as goal
 
 pub returns-clause-asks : goal.returns-clause-asks
 returns-clause-asks c = rw (← c.self.view_is) (λ told L h. record {
