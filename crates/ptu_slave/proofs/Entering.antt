@@ -8,12 +8,11 @@ use Rattle.std.specs.List.{AllByRecursion, cons_option, filter_map, flat_map, sl
 use Rattle.std.specs.Option.{option_map, option_to_list}
 use Rattle.ptu_units.specs.declared.kind.Kind.{Kind}
 use Rattle.ptu_units.specs.declared.kind.Kind.TheVariants.{Announce, Sync, DelayResp}
-use Rattle.ptu_record.specs.Lists.{last, newest_of}
 use Rattle.ptu_record.specs.declared.wants.Wants.{Wants}
 use Rattle.ptu_record.specs.Asks.{due_kinds}
 use Rattle.ptu_record.specs.Record.{Entry, Record, record_of, Asked, Cancelled, Denied, Granted, Probed, Signalled}
 use Rattle.ptu_record.specs.Step.{wanted_kind}
-use Rattle.ptu_record.specs.Tick.{Cancels, DelayReq, Requests, Sending, delay_req_number, is_probe_due, one_signaling, requests_to, probe_moment, probes, sending_entries, signaling_number}
+use Rattle.ptu_record.specs.Tick.{Cancels, DelayReq, Requests, delay_req_number, is_probe_due, one_signaling, requests_to, probe_moment, sending_entries, signaling_number}
 use Rattle.ptu_record.proofs.ListLaws.{last-filter_map}
 use Rattle.ptu_record.proofs.Requests.{delay_req_number-push, signaling_number-push}
 use Rattle.ptu_slave_messages.specs.declared.kinds.Kinds.{Kinds}

@@ -1,16 +1,14 @@
 -- The events of a slave, by what its parts do.
-use Rattle.std.proofs.Common.{◌≡◌, ℕ, max, Bool, false, List, [], ◌∷◌, ◌++◌, length, map, Option, refl, ap, sym, subst, ◌∙◌}
+use Rattle.std.proofs.Common.{◌≡◌, ℕ, max, Bool, List, [], ◌∷◌, ◌++◌, length, map, Option, refl, ap, sym, subst, ◌∙◌}
 use Rattle.std.proofs.lemmas.List.{length-map}
-use Rattle.std.specs.List.{AllByRecursion, filter_map}
 use Rattle.ptu_record.specs.declared.rule.Rule.{Rule}
-use Rattle.ptu_record.specs.Record.{Entry, Record, event_moment, record_of, Announce, Event, Judge as J, Judged, Resp, Sync as S, Told as T}
-use Rattle.ptu_record.specs.Judges.{IsAssessment, opening_of}
+use Rattle.ptu_record.specs.Record.{Entry, Record, Announce, Event, Judge as J, Judged, Resp, Sync as S, Told as T}
 use Rattle.ptu_record.specs.Step.{SlaveEvent, TakeAnnounce, TakeDelayResp, TakeFollowUp, TakeSync, TellFlag, ReplaceJudge}
 use Rattle.ptu_judges.specs.Held.{Held}
 use Rattle.ptu_slave.specs.Kept.{Kept}
 use Rattle.ptu_slave.specs.Parts.{OneJudged}
-use Rattle.ptu_slave.specs.Standing.{Asks, Judge, Selects, StandsFor, Steps, setup_of}
-use Rattle.ptu_slave.proofs.Quiet.{Unasked, Uncounted, Untold, asks_kept, judge_kept, selects_kept}
+use Rattle.ptu_slave.specs.Standing.{Asks, Selects, StandsFor, Steps}
+use Rattle.ptu_slave.proofs.Quiet.{Unasked, asks_kept, judge_kept, selects_kept}
 use Rattle.ptu_slave.proofs.Stepping.{Entered, Moves, step_of}
 
 -- the slave is as before, but for its moment and its selector

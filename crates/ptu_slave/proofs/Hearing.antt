@@ -1,5 +1,5 @@
 -- What a message is, by what is kept of it; and a slave before its first event.
-use Rattle.std.proofs.Common.{◌≡◌, ℕ, zero, suc, ◌<◌, ◌≤◌, false, List, [], ◌∷◌, ◌++◌, All, length, map, Option, Some, None, refl, ap, ap₂, sym, subst, ◌∙◌}
+use Rattle.std.proofs.Common.{◌≡◌, ℕ, zero, suc, false, List, [], ◌∷◌, All, length, map, Some, refl, ap, sym, subst, ◌∙◌}
 use Rattle.std.proofs.lemmas.List.{length-map}
 use Rattle.std.proofs.lemmas.List.Elements.{recursion_from_All}
 use Rattle.std.proofs.lemmas.Option.{same_Some}
@@ -12,9 +12,7 @@ use Rattle.ptu_tlvs.specs.declared.tlv.Tlv.TheVariants as tlv
 use Rattle.ptu_messages.specs.declared.message.Body.{Body}
 use Rattle.ptu_messages.specs.declared.message.Body.TheVariants as body
 use Rattle.ptu_messages.specs.declared.message.Message.{Message}
-use Rattle.ptu_record.specs.declared.rule.Rule.{Rule}
 use Rattle.ptu_record.specs.declared.wants.Wants.{Wants}
-use Rattle.ptu_record.specs.Record.{Record}
 use Rattle.ptu_record.specs.Judges.{opening_of}
 use Rattle.ptu_record.specs.Step.{TakeSignaling, TakeSync, cancel_code, one_reply}
 use Rattle.ptu_judges.specs.Held.{Held, IsFresh}
@@ -22,7 +20,6 @@ use Rattle.ptu_judges.specs.Held as judge
 use Rattle.ptu_judges.proofs.Holding.{fresh_stands}
 use Rattle.ptu_slave_messages.specs.declared.config.Master.{Master}
 use Rattle.ptu_slave_messages.specs.declared.config.SlaveConfig.{SlaveConfig}
-use Rattle.ptu_slave_messages.specs.declared.content.Content.{Content}
 use Rattle.ptu_slave_messages.specs.declared.content.Content.TheVariants as content
 use Rattle.ptu_slave_messages.specs.declared.content.Taken.{Taken}
 use Rattle.ptu_slave_messages.specs.declared.reason.SlaveReason.{SlaveReason}
@@ -31,7 +28,7 @@ use Rattle.ptu_slave_messages.specs.Config.{address_of}
 use Rattle.ptu_slave_messages.specs.Heard.{acks_of, content_of, event_of, replies_to, reply_datagrams, said_by, signals_of, taken_of, taken_or_not}
 use Rattle.ptu_slave_messages.specs.Sending.{departure_of, departure_to}
 use Rattle.ptu_slave.specs.Kept.{Kept}
-use Rattle.ptu_slave.specs.Standing.{Asks, Each, Judge, Selects, StandsFor}
+use Rattle.ptu_slave.specs.Standing.{Asks, Selects, StandsFor}
 
 -- ---- messages
 

@@ -1,5 +1,5 @@
 -- A Signaling that a slave takes.
-use Rattle.std.proofs.Common.{◌≡◌, ℕ, max, Bool, true, false, cond, ◌||◌, List, [], ◌∷◌, ◌++◌, length, map, Option, Some, None, refl, ap, ap₂, sym, subst, ◌∙◌, eqb}
+use Rattle.std.proofs.Common.{◌≡◌, ℕ, max, Bool, true, false, cond, ◌||◌, List, [], ◌∷◌, ◌++◌, Option, Some, None, refl, ap, sym, subst, ◌∙◌, eqb}
 use Rattle.std.proofs.lemmas.List.{append-nil}
 use Rattle.std.specs.List.{AllByRecursion, cons_option, filter_map, flat_map, list_any}
 use Rattle.std.specs.Option.{option_map}
@@ -21,8 +21,7 @@ use Rattle.ptu_slave_messages.specs.Heard.{grant_signal, said_by, signals_of}
 use Rattle.ptu_slave.specs.Kept.{Kept}
 use Rattle.ptu_slave.specs.Parts.{signal_entry}
 use Rattle.ptu_slave.specs.Standing.{Asks, Selects, StandsFor, Steps, setup_of}
-use Rattle.ptu_slave.proofs.Happening.{Begun}
-use Rattle.ptu_slave.proofs.Quiet.{Unasked, Untold, asks_kept, judge_kept, selects_kept}
+use Rattle.ptu_slave.proofs.Quiet.{Untold, asks_kept, judge_kept, selects_kept}
 use Rattle.ptu_slave.proofs.Stepping.{Moves, step_of}
 
 -- an event of which nothing else is entered

@@ -1,33 +1,24 @@
 -- A tick of a slave.
-use Rattle.std.proofs.Common.{◌≡◌, ℕ, zero, suc, ◌+◌, ◌<◌, ◌≤◌, max, Bool, true, false, cond, ◌||◌, List, [], ◌∷◌, ◌++◌, map, length, Option, Some, None, refl, ap, ap₂, sym, subst, ◌∙◌, arith, append_assoc}
-use Rattle.std.proofs.lemmas.Bool.{false≢true, or_right}
+use Rattle.std.proofs.Common.{◌≡◌, ℕ, max, Bool, true, false, cond, List, [], ◌∷◌, ◌++◌, length, Option, refl, ap, sym, subst, ◌∙◌, append_assoc}
 use Rattle.std.proofs.lemmas.List.{append-nil}
-use Rattle.std.proofs.lemmas.List.Elements.{filter_map-append}
-use Rattle.std.proofs.lemmas.List.Folds.{list_any-append}
-use Rattle.std.specs.List.{AllByRecursion, AllZip, cons_option, filter_map, flat_map, list_any, range_with_len}
-use Rattle.std.specs.Option.{unwrap_or}
-use Rattle.ptu_units.specs.declared.kind.Kind.{Kind}
-use Rattle.ptu_units.specs.declared.kind.Kind.TheVariants.{Announce, Sync, DelayResp}
+use Rattle.std.specs.List.{AllByRecursion, flat_map}
 use Rattle.ptu_record.specs.declared.rule.Rule.{Rule}
-use Rattle.ptu_record.specs.Lists.{last, maximum, places}
-use Rattle.ptu_record.specs.Record.{Entry, Record, concerns, event_moment, moment_of, record_of, Asked, Event, Probed, Signalled, Stopped}
-use Rattle.ptu_record.specs.Grants.{grant_change, is_live, is_live_at, live_kinds}
+use Rattle.ptu_record.specs.Lists.{places}
+use Rattle.ptu_record.specs.Record.{Entry, Record, Event}
 use Rattle.ptu_record.specs.Judges.{AreAssessments}
-use Rattle.ptu_record.specs.Tick.{Cancels, Sending, cancels_to, is_stop, one_signaling, requests_to, sending_entries, signaling_number, stop_sendings, tick_sendings}
-use Rattle.ptu_record.specs.Step.{SlaveSetup, Stop, Tick, entries_by, judged_entries, master_count, or_event, sendings, step_by}
-use Rattle.ptu_record.proofs.StepParts.{judged_all, record_of-append}
+use Rattle.ptu_record.specs.Tick.{Sending, is_stop, requests_to, sending_entries}
+use Rattle.ptu_record.specs.Step.{Tick, entries_by, judged_entries, or_event, sendings}
+use Rattle.ptu_record.proofs.StepParts.{judged_all}
 use Rattle.ptu_fails.specs.Watched.{is_watched}
-use Rattle.ptu_requester.specs.Requester.{all_cancels}
-use Rattle.ptu_requester.proofs.Stops.{stop_lifted}
 use Rattle.ptu_judges.specs.Held.{Held}
-use Rattle.ptu_slave.specs.Kept.{CountFor, Kept}
-use Rattle.ptu_slave.specs.Parts.{AllEnded, AllJudged, Ticks, cancels_by}
-use Rattle.ptu_slave.specs.Standing.{Asks, Each, Judge, SameGrants, Selects, StandsFor, Steps, setup_of}
+use Rattle.ptu_slave.specs.Kept.{Kept}
+use Rattle.ptu_slave.specs.Parts.{AllJudged, Ticks}
+use Rattle.ptu_slave.specs.Standing.{Asks, Judge, Selects, StandsFor, Steps, setup_of}
 use Rattle.ptu_slave.proofs.Masters.{all_append}
-use Rattle.ptu_slave.proofs.Quiet.{Unasked, Uncounted, Untold, asks_kept, counts_kept, judge_kept, selects_kept}
+use Rattle.ptu_slave.proofs.Quiet.{Unasked, Untold, asks_kept, judge_kept, selects_kept}
 use Rattle.ptu_slave.proofs.Sendings.{sent_all}
 use Rattle.ptu_slave.proofs.Signals.{asks_or_event, none_stop}
-use Rattle.ptu_slave.proofs.Stepping.{Moves, moment_after, moment_is, step_of}
+use Rattle.ptu_slave.proofs.Stepping.{Moves, step_of}
 
 -- ---- an event of which nothing else is entered
 

@@ -1,13 +1,13 @@
 -- A slave node as a function: what each event makes of its record, and what it sends. Where each judge has a rule there is
 -- one step, so a record and what the node was handed decide all that it does.
-use Rattle.std.specs.Prelude.{◌≡◌, ℕ, List, [], map, Option, Some, None, Result, Ok, Err}
+use Rattle.std.specs.Prelude.{ℕ, List, [], map, Option, Result, Ok, Err}
 use Rattle.ptu_header.specs.declared.header.PortIdentity.{PortIdentity}
 use Rattle.ptu_messages.specs.declared.message.Message.{Message}
 use Rattle.ptu_outside.specs.Departure.{Departure}
 use Rattle.ptu_record.specs.declared.rule.Rule.{Rule}
 use Rattle.ptu_record.specs.Record.{Record, event_moment}
 use Rattle.ptu_record.specs.Selection.{selected_master}
-use Rattle.ptu_record.specs.Step.{SlaveEvent, SlaveSetup, Tick, Stop, TellFlag, ReplaceJudge, slave_step}
+use Rattle.ptu_record.specs.Step.{SlaveEvent, SlaveSetup, slave_step}
 use Rattle.ptu_slave_messages.specs.declared.config.Master.{Master}
 use Rattle.ptu_slave_messages.specs.declared.config.SlaveConfig.{SlaveConfig}
 use Rattle.ptu_slave_messages.specs.declared.heard.Heard.{Heard}

@@ -15,7 +15,6 @@ use Rattle.ptu_judges.specs.Held.{Held}
 use Rattle.ptu_judges.specs.Held as judge
 use Rattle.ptu_slave_messages.specs.declared.config.SlaveConfig.{SlaveConfig}
 use Rattle.ptu_slave_messages.specs.Config.{priorities, timeouts}
-use Rattle.ptu_slave.specs.declared.counters.Counters.{Counters}
 use Rattle.ptu_slave.specs.Kept.{CountFor, Kept}
 
 -- what is kept of each master is what a fact says of it and of the master's record

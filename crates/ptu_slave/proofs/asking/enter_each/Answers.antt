@@ -1,4 +1,4 @@
-use Rattle.std.proofs.Common.{◌≡◌, ◌∙◌, ◌++◌, ◌+◌, [], ◌∷◌, ap, sym, subst, get_or, take, append_assoc}
+use Rattle.std.proofs.Common.{◌∙◌, ◌++◌, ap, sym, subst, get_or, take, append_assoc}
 use Rattle.std.proofs.lemmas.List.{take_all, take_more}
 use Rattle.std.specs.List.{filter_map}
 use Rattle.std.specs.Option.{option_to_list}

@@ -1,4 +1,4 @@
-use Rattle.std.proofs.Common.{[], ◌∷◌, ◌++◌, ◌≡◌, ◌∙◌, ap, subst, append_assoc}
+use Rattle.std.proofs.Common.{[], ◌∷◌, ◌++◌, ◌∙◌, ap, subst, append_assoc}
 use Rattle.ptu_record.specs.Record.{Judged, Sync}
 use Rattle.ptu_slave.specs.Kept.{Kept}
 use Rattle.ptu_slave.specs.Standing.{Selects}

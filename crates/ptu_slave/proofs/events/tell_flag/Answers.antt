@@ -1,4 +1,4 @@
-use Rattle.std.proofs.Common.{[], ◌∷◌, ◌++◌, ◌≡◌, ◌∙◌, refl, subst, append_assoc}
+use Rattle.std.proofs.Common.{[], ◌∷◌, ◌++◌, refl, subst, append_assoc}
 use Rattle.ptu_record.specs.Record.{Judged, Told}
 use Rattle.ptu_slave.specs.Standing.{Selects}
 use Rattle.ptu_slave.proofs.Happening.{begun_by, same_length, selects_begun, told_flag}

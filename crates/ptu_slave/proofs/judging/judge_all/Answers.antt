@@ -1,4 +1,4 @@
-use Rattle.std.proofs.Common.{[], ◌∷◌, ◌++◌, ◌≡◌, ◌∙◌, ◌<◌, length, refl, sym, ap, subst, arith}
+use Rattle.std.proofs.Common.{[], ◌∷◌, ◌++◌, ◌≡◌, ◌∙◌, length, refl, ap, arith}
 use Rattle.ptu_slave.specs.Kept.{Kept}
 use Rattle.ptu_slave.proofs.Assessing.{all_judged, none_judged, one_more_judged}
 use Rattle.ptu_slave.proofs.Happening.{same_length}

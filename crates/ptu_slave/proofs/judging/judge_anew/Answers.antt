@@ -1,4 +1,4 @@
-use Rattle.std.proofs.Common.{subst, sym, set, length, ◌<◌}
+use Rattle.std.proofs.Common.{subst, sym, set, ◌<◌}
 use Rattle.std.proofs.lemmas.List.{length-set}
 use Rattle.ptu_slave.proofs.Assessing.{anew_at, asked_at}
 use Rattle.ptu_slave.proofs.judging.judge_anew.Goals as goal

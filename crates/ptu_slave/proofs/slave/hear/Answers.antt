@@ -1,7 +1,7 @@
-use Rattle.std.proofs.Common.{◌≡◌, ◌∙◌, ap, map, subst, sym}
+use Rattle.std.proofs.Common.{◌∙◌, ap, subst, sym}
 use Rattle.std.specs.List.{filter_map}
 use Rattle.ptu_outside.specs.HandsOver.{HandsOver}
-use Rattle.ptu_record.specs.Step.{TakeSync, cancel_code}
+use Rattle.ptu_record.specs.Step.{cancel_code}
 use Rattle.ptu_slave_messages.specs.declared.content.Taken.{Taken}
 use Rattle.ptu_slave_messages.specs.Config.{address_of}
 use Rattle.ptu_slave_messages.specs.Heard.{failed_by, said_by, sent_by}

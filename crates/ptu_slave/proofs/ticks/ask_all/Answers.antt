@@ -1,8 +1,7 @@
-use Rattle.std.proofs.Common.{[], ◌++◌, ◌≡◌, ◌∙◌, ◌<◌, ◌≤◌, ◌+◌, length, refl, sym, ap, subst, arith}
+use Rattle.std.proofs.Common.{[], ◌++◌, ◌≡◌, ◌∙◌, refl, ap, arith}
 use Rattle.ptu_outside.proofs.HandsOver.{hands_none}
 use Rattle.ptu_slave_messages.specs.Sending.{tick_plan}
 use Rattle.ptu_slave.specs.Kept.{Kept}
-use Rattle.ptu_slave.specs.Parts.{AllAsked}
 use Rattle.ptu_slave.proofs.Sendings.{hands_tick, none_asked, one_more_asked}
 use Rattle.ptu_slave.proofs.ticks.ask_all.Goals as goal
 

@@ -1,8 +1,7 @@
-use Rattle.std.proofs.Common.{[], ◌++◌, ◌≡◌, ◌∙◌, ◌<◌, ◌≤◌, ◌+◌, length, refl, sym, ap, subst, arith}
+use Rattle.std.proofs.Common.{[], ◌++◌, ◌≡◌, ◌∙◌, refl, ap, arith}
 use Rattle.ptu_outside.proofs.HandsOver.{hands_none}
 use Rattle.ptu_slave_messages.specs.Sending.{stop_plan}
 use Rattle.ptu_slave.specs.Kept.{Kept}
-use Rattle.ptu_slave.specs.Parts.{AllEnded}
 use Rattle.ptu_slave.proofs.Sendings.{hands_stop, none_ended, one_more_ended}
 use Rattle.ptu_slave.proofs.ticks.end_all.Goals as goal
 

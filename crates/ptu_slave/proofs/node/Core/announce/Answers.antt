@@ -1,4 +1,3 @@
-use Rattle.ptu_slave_messages.specs.Config.{priorities, timeouts}
 use Rattle.ptu_slave.proofs.node.Core.announce.Goals as goal
 
 pub returns-clause-selects : goal.returns-clause-selects

@@ -1,12 +1,10 @@
-use Rattle.std.proofs.Common.{◌≡◌, ◌∙◌, ◌++◌, [], ◌∷◌, ◌<◌, cond, length, Some, None, refl, sym, ap, subst}
+use Rattle.std.proofs.Common.{◌∙◌, ◌++◌, [], ◌∷◌, ◌<◌, cond, length, Some, None, refl, sym, ap, subst}
 use Rattle.std.proofs.lemmas.Option.{slice_get_read}
-use Rattle.std.specs.List.{flat_map}
 use Rattle.ptu_record.specs.Asks.{due_kinds}
-use Rattle.ptu_record.specs.Record.{Record, record_of, Signalled}
+use Rattle.ptu_record.specs.Record.{record_of, Signalled}
 use Rattle.ptu_record.specs.Tick.{delay_req_number}
-use Rattle.ptu_slave_messages.specs.Sending.{are_some, kinds_in}
+use Rattle.ptu_slave_messages.specs.Sending.{kinds_in}
 use Rattle.ptu_slave.specs.Kept.{CountFor}
-use Rattle.ptu_slave.specs.Standing.{Asks}
 use Rattle.ptu_slave.proofs.Entering.{asks_planned, plan_entries, plan_stated, same_delay_req}
 use Rattle.ptu_slave.proofs.node.Core.ask.Goals as goal
 

@@ -1,4 +1,4 @@
-use Rattle.std.proofs.Common.{◌≡◌, ◌∙◌, ◌++◌, [], ◌∷◌, ◌<◌, cond, length, map, refl, sym, ap₂, subst}
+use Rattle.std.proofs.Common.{◌++◌, [], ◌∷◌, ◌<◌, cond, length, map, refl, sym, ap₂, subst}
 use Rattle.std.proofs.lemmas.Option.{slice_get_read}
 use Rattle.ptu_record.specs.Record.{record_of, Cancelled, Signalled}
 use Rattle.ptu_record.specs.Tick.{Cancels, one_signaling}

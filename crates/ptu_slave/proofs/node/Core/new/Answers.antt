@@ -1,4 +1,3 @@
-use Rattle.std.proofs.Common.{◌∙◌, sym, arith}
 use Rattle.ptu_slave.proofs.Entering.{fresh_counters}
 use Rattle.ptu_slave.proofs.node.Core.new.Goals as goal
 

@@ -1,4 +1,4 @@
-use Rattle.std.proofs.Common.{subst, sym, ap, ◌∙◌, ◌≡◌}
+use Rattle.std.proofs.Common.{ap, ◌∙◌}
 use Rattle.ptu_record.specs.Selection.{selected_master}
 use Rattle.ptu_slave_messages.specs.Config.{priorities, timeouts}
 use Rattle.ptu_slave.proofs.Stepping.{moment_is}

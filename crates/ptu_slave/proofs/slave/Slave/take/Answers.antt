@@ -1,4 +1,4 @@
-use Rattle.std.proofs.Common.{◌≡◌, ◌∙◌, Ok, List, ap₂, subst, sym}
+use Rattle.std.proofs.Common.{◌∙◌, List, ap₂, subst, sym}
 use Rattle.ptu_outside.specs.HandsOver.{HandsOver}
 use Rattle.ptu_slave_messages.specs.declared.config.Master.{Master}
 use Rattle.ptu_slave_messages.specs.declared.config.SlaveConfig.{SlaveConfig}
