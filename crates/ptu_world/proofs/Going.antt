@@ -1,0 +1,135 @@
+-- What a command makes of the grandmaster that it addresses, and that it leaves the other nodes as they are.
+use Rattle.std.proofs.Common.{◌≡◌, ◌∙◌, ℕ, List, [], ◌∷◌, length, Option, Some, None, option_map, Result, Ok, Err, IfOk, Bool, true, false, cond, eqb, leb, refl, sym, ap, subst, is_some, eq-eqb, eqb-true}
+use Rattle.ptu_history.specs.Core.{history_after}
+use Rattle.ptu_history.specs.Events as events
+use Rattle.ptu_history.specs.Events.{Event}
+use Rattle.ptu_items.specs.declared.heard.Heard as gm_heard
+use Rattle.ptu_items.specs.declared.heard.Heard.TheVariants.{DelayReq, Asks}
+use Rattle.ptu_items.specs.declared.reason.GmReason.{GmReason}
+use Rattle.ptu_items.specs.Items.{heard_in}
+use Rattle.ptu_items.specs.Deciding.{events_heard, events_of_datagram}
+use Rattle.ptu_record.specs.declared.rule.Rule.{Rule}
+use Rattle.ptu_record.specs.Step as slave_events
+use Rattle.ptu_slave_messages.specs.Config.{place_of}
+use Rattle.ptu_script.specs.declared.cause.Cause.{Cause}
+use Rattle.ptu_script.specs.declared.cause.Cause.TheVariants as causes
+use Rattle.ptu_script.specs.Fields.{◌>>=◌}
+use Rattle.ptu_script.specs.declared.command.Command.{Command}
+use Rattle.ptu_script.specs.declared.command.Command.TheVariants as commands
+use Rattle.ptu_report_lines.specs.declared.sent.Sent.{Sent}
+use Rattle.ptu_world.specs.Deeds.{Grandmaster, Slave, Node, IsGrandmaster, IsSlave, Deed}
+use Rattle.ptu_world.specs.Grandmasters as gm
+use Rattle.ptu_world.specs.Slaves as slaves
+use Rattle.ptu_world.specs.Promises.{GoesOn, Handed, addressed, delivery, handed_by}
+use Rattle.ptu_world.specs.World.{World, Stock, Done, add_master, at_grandmaster, datagram_deed, datagram_numbered, delivered_to, done_by, grandmaster_at, grandmaster_by, new_grandmaster, new_slave, or_cause, place_in, placed, quietly, set_up, slave_at, step, stock_without, with_master}
+use Rattle.ptu_world.proofs.Limits.{ok_bound}
+use Rattle.ptu_world.proofs.Steps.{AllStand, found_slave}
+use Rattle.ptu_world.proofs.Deciding.{taken_by}
+
+placed-there : (ip : ℕ) (node : Node) (nodes : ℕ → Option Node) → placed ip node nodes ip ≡ Some node
+placed-there ip node nodes = ap (λ b. cond b (Some node) (nodes ip)) (eq-eqb ip ip refl)
+
+abbrev gone : Grandmaster → List (ℕ × Event) → Grandmaster
+gone g taken = record g { past = history_after (gm.opening g) g.past taken }
+
+heard_node : (g : Grandmaster) (t from : ℕ) (heard : Result gm_heard.Heard GmReason) → (gm.heard_deed g t from heard).node ≡ IsGrandmaster (gone g (events_heard t from heard))
+unfolding history_after
+heard_node g t from (Err reason) = refl
+heard_node g t from (Ok (DelayReq header)) = refl
+heard_node g t from (Ok (Asks header items)) = refl
+
+pub datagram_goes : (w : World) (command : Command) (d : Handed) (g : Grandmaster) → handed_by w command ≡ Some d → w.nodes d.node ≡ Some (IsGrandmaster g)
+    → GoesOn w command d.node g (events_of_datagram g.config d.at d.from d.octets)
+datagram_goes w command d g handed node = record {
+  done = done_by w d.node (datagram_deed (IsGrandmaster g) d.at d.from d.octets);
+  step = taken_by w command d (IsGrandmaster g) handed node;
+  node = placed-there d.node _ w.nodes ∙ ap Some (heard_node g d.at d.from (heard_in g.config d.octets));
+}
+
+module _ (w : World) (ip : ℕ) (g : Grandmaster) (node : w.nodes ip ≡ Some (IsGrandmaster g)) where
+  at_it : (deed : Grandmaster → Deed) → ◌≡◌ {A = Result Done Cause} (at_grandmaster w ip deed) (Ok (done_by w ip (deed g)))
+  at_it deed = ap (λ o. grandmaster_by o >>= λ x. Ok (done_by w ip (deed x))) node
+
+  pub turn_goes : (t table : ℕ) → GoesOn w (commands.Turn t ip table) ip g ((t, events.Turn table) ∷ [])
+  unfolding step
+  turn_goes t table = record { done = done_by w ip (gm.turn_deed g t table); step = at_it (λ x. gm.turn_deed x t table); node = placed-there ip _ w.nodes }
+
+  pub capacity_goes : (t capacity : ℕ) → GoesOn w (commands.Capacity t ip capacity) ip g ((t, events.Resize capacity) ∷ [])
+  unfolding step
+  capacity_goes t capacity = record { done = done_by w ip (gm.capacity_deed g t capacity); step = at_it (λ x. gm.capacity_deed x t capacity); node = placed-there ip _ w.nodes }
+
+  pub class_goes : (class : ℕ) → (done : Done) × (step w (commands.Class ip class) ≡ Ok done) × (done.world.nodes ip ≡ Some (IsGrandmaster (record g { config = record (g.config) { class = class } })))
+  unfolding step
+  class_goes class = (done_by w ip (gm.class_deed g class), at_it (λ x. gm.class_deed x class), placed-there ip _ w.nodes)
+
+-- ---- the other nodes
+
+module _ (w : World) (all : AllStand w.nodes) (a : ℕ) where
+  abbrev Stays : World → Type 0
+  Stays v = v.nodes a ≡ w.nodes a
+
+  abbrev Left : Done → Type 0
+  Left done = Stays done.world
+
+  placed-other : (ip : ℕ) (node : Node) → (Some ip ≡ Some a → ⊥) → placed ip node w.nodes a ≡ w.nodes a
+  placed-other ip node ne = by (eqb a ip) refl
+    where
+      by : (b : Bool) → eqb a ip ≡ b → cond b (Some node) (w.nodes a) ≡ w.nodes a
+      by true e = absurd (ne (ap Some (sym (eqb-true a ip e))))
+      by false e = refl
+
+  quiet_leaves : (made : Result World Cause) → IfOk made Stays → IfOk (quietly made) Left
+  quiet_leaves (Ok v) e = e
+  quiet_leaves (Err cause) e = tt
+
+  set_up_leaves : (ip : ℕ) (node : Node) → (Some ip ≡ Some a → ⊥) → IfOk (quietly (set_up w ip node)) Left
+  set_up_leaves ip node ne = quiet_leaves (set_up w ip node) (by w.has_begun (is_some (w.nodes ip)))
+    where
+      by : (b c : Bool) → IfOk (cond b (Err causes.Order) (cond c (Err causes.Node) (Ok (record w { nodes = placed ip node w.nodes })))) Stays
+      by true c = tt
+      by false true = tt
+      by false false = placed-other ip node ne
+
+  abbrev with_stock : Slave → ℕ → ℕ → Rule → Stock → World
+  with_stock s ip priority rule stock = record w { nodes = placed s.ip (IsSlave (with_master ip priority rule s)) w.nodes; stock = stock }
+
+  master_leaves : (s : Slave) (ip priority : ℕ) (rule : Rule) → (Some s.ip ≡ Some a → ⊥) → IfOk (quietly (add_master w s ip priority rule)) Left
+  master_leaves s ip priority rule ne = quiet_leaves (add_master w s ip priority rule) (by (is_some (place_of (s.opened.masters) ip)) (leb 16 (length (s.opened.masters))))
+    where
+      by : (b c : Bool) → IfOk (cond b (Err causes.Node) (cond c (Err causes.Full) (stock_without rule w.stock >>= λ stock. Ok (with_stock s ip priority rule stock)))) Stays
+      by true c = tt
+      by false true = tt
+      by false false = ok_bound Stays (stock_without rule w.stock) (λ stock. Ok (with_stock s ip priority rule stock)) (λ stock _. placed-other s.ip (IsSlave (with_master ip priority rule s)) ne)
+
+  delivered_leaves : (t : ℕ) (sent : Sent) (o : Option Node) → (Some sent.to ≡ Some a → ⊥) → Left (delivered_to w t sent o)
+  delivered_leaves t sent None ne = refl
+  delivered_leaves t sent (Some node) ne = placed-other sent.to (datagram_deed node t sent.from sent.octets).node ne
+
+  deliver_leaves : (t : ℕ) (o : Option Sent) → (option_map (λ (d : Handed). d.node) (option_map (delivery t) o) ≡ Some a → ⊥) → IfOk (or_cause causes.Number o >>= λ sent. Ok (delivered_to w t sent (w.nodes sent.to))) Left
+  deliver_leaves t None ne = tt
+  deliver_leaves t (Some sent) ne = delivered_leaves t sent (w.nodes sent.to) ne
+
+  step_leaves : (command : Command) → (addressed w command ≡ Some a → ⊥) → IfOk (step w command) Left
+  unfolding step
+  step_leaves (commands.Grandmaster setup) ne = set_up_leaves setup.ip (new_grandmaster setup) ne
+  step_leaves (commands.Slave setup) ne = set_up_leaves setup.ip (new_slave setup) ne
+  step_leaves (commands.Master slave ip priority rule) ne = by w.has_begun
+    where
+      by : (b : Bool) → IfOk (cond b (Err causes.Order) (slave_at w slave >>= λ s. quietly (add_master w s ip priority rule))) Left
+      by true = tt
+      by false = ok_bound Left (slave_at w slave) _ (λ s e. master_leaves s ip priority rule (λ same. ne (ap Some (sym (found_slave w.nodes all slave s e)) ∙ same)))
+  step_leaves (commands.Receive t ip from octets) ne = ok_bound Left (or_cause causes.Node (w.nodes ip)) (λ node. Ok (done_by w ip (datagram_deed node t from octets)))
+      (λ node e. placed-other ip (datagram_deed node t from octets).node ne)
+  step_leaves (commands.Deliver t number) ne = deliver_leaves t (datagram_numbered number w.sent) ne
+  step_leaves (commands.Turn t ip table) ne = ok_bound Left (grandmaster_at w ip) (λ g. Ok (done_by w ip (gm.turn_deed g t table))) (λ g e. placed-other ip (gm.turn_deed g t table).node ne)
+  step_leaves (commands.Tick t ip) ne = ok_bound Left (slave_at w ip) (λ s. Ok (done_by w ip (slaves.plain_deed s t slave_events.Tick))) (λ s e. placed-other ip (slaves.plain_deed s t slave_events.Tick).node ne)
+  step_leaves (commands.Flag t ip master unusable) ne = ok_bound Left (slave_at w ip) _ (λ s e. ok_bound Left (place_in s master)
+      (λ m. Ok (done_by w ip (slaves.plain_deed s t (slave_events.TellFlag m unusable)))) (λ m _. placed-other ip (slaves.plain_deed s t (slave_events.TellFlag m unusable)).node ne))
+  step_leaves (commands.Judge t ip master rule) ne = ok_bound Left (slave_at w ip) _ (λ s e. ok_bound Left (place_in s master) _ (λ m _. ok_bound Left (stock_without rule w.stock)
+      (λ stock. Ok (done_by (record w { stock = stock }) ip (slaves.plain_deed s t (slave_events.ReplaceJudge m (Some rule))))) (λ stock _. placed-other ip (slaves.plain_deed s t (slave_events.ReplaceJudge m (Some rule))).node ne)))
+  step_leaves (commands.Stop t ip) ne = ok_bound Left (slave_at w ip) (λ s. Ok (done_by w ip (slaves.plain_deed s t slave_events.Stop))) (λ s e. placed-other ip (slaves.plain_deed s t slave_events.Stop).node ne)
+  step_leaves (commands.Class ip class) ne = ok_bound Left (grandmaster_at w ip) (λ g. Ok (done_by w ip (gm.class_deed g class))) (λ g e. placed-other ip (gm.class_deed g class).node ne)
+  step_leaves (commands.Capacity t ip capacity) ne = ok_bound Left (grandmaster_at w ip) (λ g. Ok (done_by w ip (gm.capacity_deed g t capacity))) (λ g e. placed-other ip (gm.capacity_deed g t capacity).node ne)
+
+  pub others_stay : (command : Command) (done : Done) → step w command ≡ Ok done → (addressed w command ≡ Some a → ⊥) → done.world.nodes a ≡ w.nodes a
+  others_stay command done e ne = subst (λ r. IfOk r Left) e (step_leaves command ne)

@@ -1,0 +1,111 @@
+-- What a line commands is within the limits of a script.
+use Rattle.std.proofs.Common.{◌≡◌, ℕ, ◌≤◌, ◌&&◌, List, Option, Some, None, Result, Ok, Err, IfOk, IfSome, ◌-◌, ◌^◌, Bool, true, false, cond, leb, refl, subst, option_and_then, leb-true}
+use Rattle.std.proofs.lemmas.Bool.{and_parts}
+use Rattle.ptu_lines.specs.Words.{within, number_of, word_of, ip_of, clock_of, octets_of}
+use Rattle.ptu_script.specs.declared.cause.Cause.{Cause}
+use Rattle.ptu_script.specs.declared.command.Command.{Command}
+use Rattle.ptu_script.specs.declared.command.Command.TheVariants as commands
+use Rattle.ptu_script.specs.declared.command.GrandmasterSetup.{GrandmasterSetup}
+use Rattle.ptu_script.specs.declared.verb.Verb.{Verb}
+use Rattle.ptu_script.specs.declared.verb.Verb.TheVariants.{Gm, Slave, Master, Rx, Deliver, Turn, Tick, Flag, Judge, Stop, Class, Capacity}
+use Rattle.ptu_script.specs.Command.{command_by, command_of, fields_in, grandmaster_in, has_count, is_comment, moment_of, slave_in}
+use Rattle.ptu_script.specs.Fields.{◌>>=◌, field, from_to, or_field, rule_named, truth_of}
+use Rattle.ptu_script.specs.Limits.{IsGrandmasterWithin}
+use Rattle.ptu_script.specs.Verb.{counts_of}
+
+-- ---- what is found through another
+
+pub ok_bound : {A B : Type 0} (Q : B → Type 0) (r : Result A Cause) (f : A → Result B Cause) → ((x : A) → r ≡ Ok x → IfOk (f x) Q) → IfOk (r >>= f) Q
+ok_bound Q (Ok x) f g = g x refl
+ok_bound Q (Err cause) f g = tt
+
+pub ok_either : {A : Type 0} (Q : A → Type 0) (b : Bool) (r s : Result A Cause) → (b ≡ true → IfOk r Q) → (b ≡ false → IfOk s Q) → IfOk (cond b r s) Q
+ok_either Q true r s f g = f refl
+ok_either Q false r s f g = g refl
+
+-- ---- numbers
+
+within_are : (least greatest n : ℕ) (b : Bool) → leb least n && leb n greatest ≡ b → IfSome (cond b (Some n) None) (λ m. (least ≤ m) × (m ≤ greatest))
+within_are least greatest n true e = let p = and_parts (leb least n) (leb n greatest) e in (leb-true least n p.0, leb-true n greatest p.1)
+within_are least greatest n false e = tt
+
+from_to_are : (least greatest : ℕ) (word : List ℕ) → IfSome (from_to least greatest word) (λ m. (least ≤ m) × (m ≤ greatest))
+from_to_are least greatest word = by (number_of word)
+  where
+    by : (o : Option ℕ) → IfSome (option_and_then (within least greatest) o) (λ m. (least ≤ m) × (m ≤ greatest))
+    by None = tt
+    by (Some n) = within_are least greatest n (leb least n && leb n greatest) refl
+
+field_are : (P : ℕ → Type 0) (k : ℕ) (form : List ℕ → Option ℕ) (line : List ℕ) → ((word : List ℕ) → IfSome (form word) P) → IfOk (field k form line) P
+field_are P k form line h = by (word_of line k)
+  where
+    found : (o : Option ℕ) → IfSome o P → IfOk (or_field k o) P
+    found None h = tt
+    found (Some n) h = h
+
+    by : (o : Option (List ℕ)) → IfOk (or_field k (option_and_then form o)) P
+    by None = tt
+    by (Some word) = found (form word) (h word)
+
+number_is : (least greatest k n : ℕ) (line : List ℕ) → field k (from_to least greatest) line ≡ Ok n → (least ≤ n) × (n ≤ greatest)
+number_is least greatest k n line e =
+    subst (λ r. IfOk r (λ m. (least ≤ m) × (m ≤ greatest))) e (field_are (λ m. (least ≤ m) × (m ≤ greatest)) k (from_to least greatest) line (from_to_are least greatest))
+
+-- ---- commands
+
+-- a grandmaster's numbers are within their limits, and so is a capacity
+abbrev pub IsWithin : Command → Type 0
+IsWithin (commands.Grandmaster setup) = IsGrandmasterWithin setup
+IsWithin (commands.Capacity at ip capacity) = (1 ≤ capacity) × (capacity ≤ 16777216)
+IsWithin _ = Unit {0}
+
+grandmaster_within : (line : List ℕ) → IfOk (grandmaster_in line) IsGrandmasterWithin
+unfolding grandmaster_in
+grandmaster_within line =
+    let P = IsGrandmasterWithin in
+    ok_bound P (field 2 ip_of line) _ (λ ip _.
+    ok_bound P (field 3 clock_of line) _ (λ clock _.
+    ok_bound P (field 4 (from_to 1 65534) line) _ (λ port is_port.
+    ok_bound P (field 5 (from_to 4 23) line) _ (λ domain is_domain.
+    ok_bound P (field 6 (from_to 0 255) line) _ (λ class _.
+    ok_bound P (field 7 (from_to 1 16777216) line) _ (λ capacity is_capacity.
+    ok_bound P (field 8 (from_to 60 1000) line) _ (λ longest is_longest.
+    record {
+      port = number_is 1 65534 4 port line is_port;
+      domain = number_is 4 23 5 domain line is_domain;
+      capacity = number_is 1 16777216 7 capacity line is_capacity;
+      max_duration = number_is 60 1000 8 longest line is_longest;
+    })))))))
+
+fields_within : (verb : Verb) (line : List ℕ) → IfOk (fields_in verb line) IsWithin
+unfolding fields_in
+fields_within Gm line = by (grandmaster_in line) (grandmaster_within line)
+  where
+    by : (r : Result GrandmasterSetup Cause) → IfOk r IsGrandmasterWithin → IfOk (r >>= λ setup. Ok (commands.Grandmaster setup)) IsWithin
+    by (Ok setup) h = h
+    by (Err cause) h = tt
+fields_within Slave line = ok_bound IsWithin (slave_in line) _ (λ x0 _. tt)
+fields_within Master line = ok_bound IsWithin (field 2 ip_of line) _ (λ x0 _. ok_bound IsWithin (field 3 ip_of line) _ (λ x1 _. ok_bound IsWithin (field 4 (from_to 0 255) line) _ (λ x2 _. ok_bound IsWithin (field 5 rule_named line) _ (λ x3 _. tt))))
+fields_within Rx line = ok_bound IsWithin (field 2 moment_of line) _ (λ x0 _. ok_bound IsWithin (field 3 ip_of line) _ (λ x1 _. ok_bound IsWithin (field 4 ip_of line) _ (λ x2 _. ok_bound IsWithin (field 5 octets_of line) _ (λ x3 _. tt))))
+fields_within Deliver line = ok_bound IsWithin (field 2 moment_of line) _ (λ x0 _. ok_bound IsWithin (field 3 (from_to 0 (2 ^ 64 - 1)) line) _ (λ x1 _. tt))
+fields_within Turn line = ok_bound IsWithin (field 2 moment_of line) _ (λ x0 _. ok_bound IsWithin (field 3 ip_of line) _ (λ x1 _. ok_bound IsWithin (field 4 (from_to 0 3) line) _ (λ x2 _. tt)))
+fields_within Tick line = ok_bound IsWithin (field 2 moment_of line) _ (λ x0 _. ok_bound IsWithin (field 3 ip_of line) _ (λ x1 _. tt))
+fields_within Flag line = ok_bound IsWithin (field 2 moment_of line) _ (λ x0 _. ok_bound IsWithin (field 3 ip_of line) _ (λ x1 _. ok_bound IsWithin (field 4 ip_of line) _ (λ x2 _. ok_bound IsWithin (field 5 truth_of line) _ (λ x3 _. tt))))
+fields_within Judge line = ok_bound IsWithin (field 2 moment_of line) _ (λ x0 _. ok_bound IsWithin (field 3 ip_of line) _ (λ x1 _. ok_bound IsWithin (field 4 ip_of line) _ (λ x2 _. ok_bound IsWithin (field 5 rule_named line) _ (λ x3 _. tt))))
+fields_within Stop line = ok_bound IsWithin (field 2 moment_of line) _ (λ x0 _. ok_bound IsWithin (field 3 ip_of line) _ (λ x1 _. tt))
+fields_within Class line = ok_bound IsWithin (field 2 ip_of line) _ (λ x0 _. ok_bound IsWithin (field 3 (from_to 0 255) line) _ (λ x1 _. tt))
+fields_within Capacity line = ok_bound IsWithin (field 2 moment_of line) _ (λ x0 _. ok_bound IsWithin (field 3 ip_of line) _ (λ x1 _.
+    ok_bound IsWithin (field 4 (from_to 1 16777216) line) _ (λ capacity e. number_is 1 16777216 4 capacity line e)))
+
+by_verb : (verb : Option Verb) (line : List ℕ) → IfOk (command_by verb line) IsWithin
+by_verb None line = tt
+by_verb (Some verb) line = ok_either IsWithin (has_count (counts_of verb) line) (fields_in verb line) _ (λ _. fields_within verb line) (λ _. tt)
+
+-- what a line commands is within its limits
+pub command_within : (line : List ℕ) → IfOk (command_of line) (λ o. IfSome o IsWithin)
+unfolding command_of
+command_within line = ok_either (λ o. IfSome o IsWithin) (is_comment line) (Ok None) _ (λ _. tt) (λ _. by _ (by_verb _ line))
+  where
+    by : (r : Result Command Cause) → IfOk r IsWithin → IfOk (r >>= λ command. Ok (Some command)) (λ o. IfSome o IsWithin)
+    by (Ok command) h = h
+    by (Err cause) h = tt

@@ -1,0 +1,298 @@
+-- The messages of a grandmaster's history are the datagrams that it sent.
+use Rattle.std.proofs.Common.{◌≡◌, ◌∙◌, ℕ, ◌+◌, ◌++◌, List, [], ◌∷◌, map, Option, Some, None, option_map, Result, Ok, Err, IfOk, Bool, true, false, cond, eqb, leb, length, refl, sym, ap, subst, is_some, filter_map, append-nil, eq-eqb, eqb-true, ne_eqb}
+use Rattle.std.specs.List.{cons_option}
+use Rattle.std.specs.Option.{option_map_or}
+use Rattle.std.proofs.lemmas.List.Elements.{filter_map-append}
+use Rattle.ptu_units.specs.declared.kind.Kind.{Kind}
+use Rattle.ptu_units.specs.declared.kind.Kind.TheVariants as kinds
+use Rattle.ptu_units.specs.Kind.{code_of, kind_of}
+use Rattle.ptu_header.specs.declared.header.Header.{Header}
+use Rattle.ptu_outside.specs.Departure.{Departure}
+use Rattle.ptu_history.specs.declared.client.Client.{Client}
+use Rattle.ptu_history.specs.Core.{core_moment, core_step, history_after}
+use Rattle.ptu_history.specs.Counts.{counts}
+use Rattle.ptu_history.specs.Events as events
+use Rattle.ptu_history.specs.Events.{Answer, Event}
+use Rattle.ptu_history.specs.History.{Record}
+use Rattle.ptu_history.specs.Live.{Grant}
+use Rattle.ptu_history.specs.Shedding.{shed_grants, shed_record}
+use Rattle.ptu_history.specs.Step.{answer_records, delay_answer, verdict_records}
+use Rattle.ptu_history.specs.Turns.{due_grants, message_of, sent_record}
+use Rattle.ptu_history.specs.Verdict.{Config, Verdict, GrantedFor, ShortOf, Outside, verdict}
+use Rattle.ptu_shard.specs.declared.config.GmConfig.{GmConfig}
+use Rattle.ptu_shard.specs.Answered.{responses}
+use Rattle.ptu_shard.specs.Messages.{departure_of, octets_sent, response_of}
+use Rattle.ptu_items.specs.declared.item.Item.{Item}
+use Rattle.ptu_items.specs.declared.item.Item.TheVariants as items
+use Rattle.ptu_items.specs.declared.heard.Heard as gm_heard
+use Rattle.ptu_items.specs.declared.heard.Heard.TheVariants.{DelayReq, Asks}
+use Rattle.ptu_items.specs.declared.reason.GmReason.{GmReason}
+use Rattle.ptu_items.specs.Items.{heard_in}
+use Rattle.ptu_items.specs.Deciding.{asked_by, client_of, events_of_items, item_moment, item_records}
+use Rattle.ptu_items.specs.Replies.{cancels_to, lease_of}
+use Rattle.ptu_items.proofs.Placing.{history_after-items}
+use Rattle.ptu_record.specs.declared.rule.Rule.{Rule}
+use Rattle.ptu_record.specs.Step as slave_events
+use Rattle.ptu_slave_messages.specs.Config.{place_of}
+use Rattle.ptu_slave_messages.specs.declared.heard.Heard as slave_heard
+use Rattle.ptu_slave_messages.specs.declared.heard.Heard.TheVariants as slave_heards
+use Rattle.ptu_script.specs.declared.cause.Cause.{Cause}
+use Rattle.ptu_script.specs.declared.cause.Cause.TheVariants as causes
+use Rattle.ptu_script.specs.Fields.{◌>>=◌}
+use Rattle.ptu_script.specs.declared.command.Command.{Command}
+use Rattle.ptu_script.specs.declared.command.Command.TheVariants as commands
+use Rattle.ptu_report_lines.specs.declared.sent.Sent.{Sent}
+use Rattle.ptu_world.specs.Deeds.{Grandmaster, Slave, Node, IsGrandmaster, IsSlave, Deed}
+use Rattle.ptu_world.specs.Grandmasters as gm
+use Rattle.ptu_world.specs.SlaveNode as slave
+use Rattle.ptu_world.specs.Slaves as slaves
+use Rattle.ptu_world.specs.Promises.{message_in, timing_from, timing_to}
+use Rattle.ptu_world.specs.World.{World, Stock, Done, add_master, at_grandmaster, datagram_deed, datagram_numbered, delivered_to, done_by, grandmaster_by, new_grandmaster, new_slave, or_cause, place_in, placed, quietly, sent_from, set_up, slave_at, step, stock_without, with_master}
+use Rattle.ptu_world.proofs.Limits.{ok_bound}
+
+abbrev heads : List Departure → List (ℕ × ℕ)
+heads sends = filter_map (λ (d : Departure). timing_to d.ip d.bytes) sends
+
+abbrev pub messages : List Record → List (ℕ × ℕ)
+messages history = filter_map message_in history
+
+-- ---- what an event appends, and what it sends
+
+-- nothing is sent, and nothing is recorded as sent
+no_more : (history records : List Record) → messages records ≡ [] → messages (history ++ records) ≡ messages history
+no_more history records e = filter_map-append message_in history records ∙ ap (λ ms. messages history ++ ms) e ∙ append-nil (messages history)
+
+turn_sends : (config : GmConfig) (past : List Record) (x : ℕ) (due : List Grant) → messages (map (sent_record x) due) ≡ heads (map (λ g. departure_of config x (message_of past g)) due)
+unfolding octets_sent
+turn_sends config past x [] = refl
+turn_sends config past x (g ∷ due) = by g.kind (turn_sends config past x due)
+  where
+    by : (k : Kind) → messages (map (sent_record x) due) ≡ heads (map (λ g. departure_of config x (message_of past g)) due)
+        → (g.client.ip, code_of k) ∷ messages (map (sent_record x) due)
+        ≡ cons_option (timing_to g.client.ip (departure_of config x (record { client = g.client; kind = k; sequence = (message_of past g).sequence })).bytes)
+        (heads (map (λ g. departure_of config x (message_of past g)) due))
+    by kinds.Announce e = ap (λ ms. (g.client.ip, 11) ∷ ms) e
+    by kinds.Sync e = ap (λ ms. (g.client.ip, 0) ∷ ms) e
+    by kinds.DelayResp e = ap (λ ms. (g.client.ip, 9) ∷ ms) e
+
+delay_sends : (config : GmConfig) (x : ℕ) (c : Client) (header : Header) (answer : Answer) → messages (answer_records x c answer) ≡ heads (responses answer (response_of config x c header))
+unfolding octets_sent
+delay_sends config x c header events.Answered = refl
+delay_sends config x c header events.NoGrant = refl
+delay_sends config x c header (events.TooSoon earliest) = refl
+
+verdict_sends : (x : ℕ) (c : Client) (v : Verdict) → messages (verdict_records x c v) ≡ []
+verdict_sends x c (GrantedFor k l seconds until) = refl
+verdict_sends x c (ShortOf k l others rate capacity) = refl
+verdict_sends x c (Outside cause) = refl
+
+item_sends : (opened : Config) (history : List Record) (t : ℕ) (c : Client) (item : Item) → messages (item_records opened history t c item) ≡ []
+item_sends opened history t c (items.Request ask) = verdict_sends (item_moment history t c) c (verdict opened history (item_moment history t c) c (asked_by ask))
+item_sends opened history t c (items.Cancel code) = by (kind_of code)
+  where
+    by : (o : Option Kind) → messages (option_map_or (λ e. (core_step opened history t e).records) (option_map (events.Cancel c) o) []) ≡ []
+    by None = refl
+    by (Some k) = refl
+
+items_send : (opened : Config) (history : List Record) (t : ℕ) (c : Client) (list : List Item) → messages (history_after opened history (events_of_items t c list)) ≡ messages history
+unfolding history_after
+items_send opened history t c [] = refl
+items_send opened history t c (item ∷ list) =
+    ap messages (history_after-items opened t history c item list)
+    ∙ items_send opened (history ++ item_records opened history t c item) t c list
+    ∙ no_more history (item_records opened history t c item) (item_sends opened history t c item)
+
+replies_send : (g : Grandmaster) (t from : ℕ) (header : Header) (list : List Item) → heads (gm.replies g t from header list) ≡ []
+unfolding octets_sent
+replies_send g t from header [] = refl
+replies_send g t from header (item ∷ list) = refl
+
+shed_sends : (x : ℕ) (shed : List Grant) → messages (map (shed_record x) shed) ≡ []
+shed_sends x [] = refl
+shed_sends x (g ∷ shed) = shed_sends x shed
+
+cancels_send : (config : GmConfig) (before : ℕ) (leases : List (Client × Kind)) → heads (cancels_to config before leases) ≡ []
+unfolding octets_sent
+cancels_send config before [] = refl
+cancels_send config before (lease ∷ leases) = cancels_send config (before + 1) leases
+
+-- what is sent is what is recorded
+abbrev Tells : Grandmaster → List Departure → Node → Type 0
+Tells g sends (IsGrandmaster new) = messages new.past ≡ messages g.past ++ heads sends
+Tells g sends (IsSlave s) = ⊥
+
+abbrev IsTold : Grandmaster → Deed → Type 0
+IsTold g deed = Tells g deed.sends deed.node
+
+same_told : (g : Grandmaster) → messages g.past ≡ messages g.past ++ []
+same_told g = sym (append-nil (messages g.past))
+
+heard_told : (g : Grandmaster) (t from : ℕ) (heard : Result gm_heard.Heard GmReason) → IsTold g (gm.heard_deed g t from heard)
+unfolding history_after
+heard_told g t from (Err reason) = same_told g
+heard_told g t from (Ok (DelayReq header)) =
+    let c = client_of from header in
+    let x = core_moment g.past t (events.DelayReq c) in
+    filter_map-append message_in g.past _ ∙ ap (λ ms. messages g.past ++ ms) (delay_sends g.config x c header (delay_answer g.past x c))
+heard_told g t from (Ok (Asks header list)) =
+    items_send (gm.opening g) g.past t (client_of from header) list ∙ sym (ap (λ ms. messages g.past ++ ms) (replies_send g t from header list) ∙ append-nil (messages g.past))
+
+turn_told : (g : Grandmaster) (t j : ℕ) → IsTold g (gm.turn_deed g t j)
+unfolding history_after
+turn_told g t j =
+    let x = core_moment g.past t (events.Turn j) in
+    filter_map-append message_in g.past _ ∙ ap (λ ms. messages g.past ++ ms) (turn_sends g.config g.past x (due_grants g.past x j))
+
+capacity_told : (g : Grandmaster) (t capacity : ℕ) → IsTold g (gm.capacity_deed g t capacity)
+unfolding history_after
+capacity_told g t capacity =
+    let x = core_moment g.past t (events.Resize capacity) in
+    let shed = shed_grants g.past x capacity in
+    no_more g.past _ (shed_sends x shed)
+    ∙ sym (ap (λ ms. messages g.past ++ ms) (cancels_send g.config (counts g.past).shed (map lease_of shed)) ∙ append-nil (messages g.past))
+
+-- ---- the world
+
+-- of the node at an address: where there is none, none sent a message from it; a grandmaster sent those of its history
+abbrev pub SentBy : ℕ → List Sent → Option Node → Type 0
+SentBy ip sent None = filter_map (timing_from ip) sent ≡ []
+SentBy ip sent (Some (IsGrandmaster g)) = filter_map (timing_from ip) sent ≡ messages g.past
+SentBy ip sent (Some (IsSlave s)) = Unit {0}
+
+abbrev pub AllSent : World → Type 0
+AllSent w = (ip : ℕ) → SentBy ip w.sent (w.nodes ip)
+
+abbrev pub Fine : Done → Type 0
+Fine done = AllSent done.world
+
+from_it : (ip : ℕ) (sends : List Departure) (b : Bool) → eqb ip ip ≡ b → b ≡ true → filter_map (timing_from ip) (map (sent_from ip) sends) ≡ heads sends
+from_it ip [] b e t = refl
+from_it ip (d ∷ sends) b e t =
+    ap (λ c. cons_option (cond c (timing_to d.ip d.bytes) None) (filter_map (timing_from ip) (map (sent_from ip) sends))) (e ∙ t)
+    ∙ ap (λ hs. cons_option (timing_to d.ip d.bytes) hs) (from_it ip sends b e t)
+
+from_other : (a ip : ℕ) (sends : List Departure) → eqb ip a ≡ false → filter_map (timing_from a) (map (sent_from ip) sends) ≡ []
+from_other a ip [] e = refl
+from_other a ip (d ∷ sends) e =
+    ap (λ c. cons_option (cond c (timing_to d.ip d.bytes) None) (filter_map (timing_from a) (map (sent_from ip) sends))) e ∙ from_other a ip sends e
+
+elsewhere : (a ip : ℕ) (sent : List Sent) (sends : List Departure) (o : Option Node) → eqb ip a ≡ false → SentBy a sent o → SentBy a (sent ++ map (sent_from ip) sends) o
+elsewhere a ip sent sends None e s = filter_map-append (timing_from a) sent _ ∙ ap (λ ms. filter_map (timing_from a) sent ++ ms) (from_other a ip sends e) ∙ append-nil _ ∙ s
+elsewhere a ip sent sends (Some (IsGrandmaster g)) e s = filter_map-append (timing_from a) sent _ ∙ ap (λ ms. filter_map (timing_from a) sent ++ ms) (from_other a ip sends e) ∙ append-nil _ ∙ s
+elsewhere a ip sent sends (Some (IsSlave x)) e s = tt
+
+told_at : (ip : ℕ) (sent : List Sent) (g : Grandmaster) (sends : List Departure) (node : Node) → filter_map (timing_from ip) sent ≡ messages g.past → Tells g sends node
+    → SentBy ip (sent ++ map (sent_from ip) sends) (Some node)
+told_at ip sent g sends (IsGrandmaster new) s t =
+    filter_map-append (timing_from ip) sent _ ∙ ap (λ ms. filter_map (timing_from ip) sent ++ ms) (from_it ip sends (eqb ip ip) refl (eq-eqb ip ip refl))
+    ∙ ap (λ ms. ms ++ heads sends) s ∙ sym t
+told_at ip sent g sends (IsSlave x) s t = absurd t
+
+module _ (nodes : ℕ → Option Node) (sent : List Sent) (all : (ip : ℕ) → SentBy ip sent (nodes ip)) where
+  -- more is sent from one address
+  more : (ip : ℕ) (node : Node) (sends : List Departure) → SentBy ip (sent ++ map (sent_from ip) sends) (Some node) → (a : ℕ) → SentBy a (sent ++ map (sent_from ip) sends) (placed ip node nodes a)
+  more ip node sends s a = by (eqb a ip) refl
+    where
+      by : (b : Bool) → eqb a ip ≡ b → SentBy a (sent ++ map (sent_from ip) sends) (cond b (Some node) (nodes a))
+      by true e = subst (λ x. SentBy x (sent ++ map (sent_from ip) sends) (Some node)) (sym (eqb-true a ip e)) s
+      by false e = elsewhere a ip sent sends (nodes a) (ne_eqb ip a (λ same. absurd (let f : eqb a ip ≡ true = eq-eqb a ip (sym same) in cc))) (all a)
+
+  -- one node is another
+  instead : (ip : ℕ) (node : Node) → SentBy ip sent (Some node) → (a : ℕ) → SentBy a sent (placed ip node nodes a)
+  instead ip node s a = by (eqb a ip) refl
+    where
+      by : (b : Bool) → eqb a ip ≡ b → SentBy a sent (cond b (Some node) (nodes a))
+      by true e = subst (λ x. SentBy x sent (Some node)) (sym (eqb-true a ip e)) s
+      by false e = all a
+
+slave_sent : (ip t : ℕ) (s : Slave) (deed : slave.Deed) (heard : slave_heard.Heard) (sent : List Sent) → SentBy ip sent (Some (slaves.heard_deed s t deed heard).node)
+slave_sent ip t s deed (slave_heards.Ignored reason) sent = tt
+slave_sent ip t s deed (slave_heards.Announce x m class) sent = tt
+slave_sent ip t s deed (slave_heards.Sync x m number) sent = tt
+slave_sent ip t s deed (slave_heards.FollowUp x m) sent = tt
+slave_sent ip t s deed (slave_heards.DelayResp x m number) sent = tt
+slave_sent ip t s deed (slave_heards.Signals x m list reply) sent = tt
+
+given_sent : (ip t from : ℕ) (octets : List ℕ) (node : Node) (sent : List Sent) → SentBy ip sent (Some node)
+    → SentBy ip (sent ++ map (sent_from ip) (datagram_deed node t from octets).sends) (Some (datagram_deed node t from octets).node)
+given_sent ip t from octets (IsGrandmaster g) sent s = told_at ip sent g _ _ s (heard_told g t from (heard_in g.config octets))
+given_sent ip t from octets (IsSlave x) sent s = slave_sent ip t x (slave.datagram_deed x.opened x.taken t from octets) (slave.datagram_heard x.opened x.taken t from octets) _
+
+found_sent : (ip : ℕ) (sent : List Sent) (g : Grandmaster) (o : Option Node) → SentBy ip sent o → grandmaster_by o ≡ Ok g → filter_map (timing_from ip) sent ≡ messages g.past
+found_sent ip sent g None s e = absurd cc
+found_sent ip sent g (Some (IsSlave x)) s e = absurd cc
+found_sent ip sent g (Some (IsGrandmaster x)) s e = s ∙ ap (λ y. messages y.past) (let same : x ≡ g = cc in same)
+
+nobody_sent : (ip : ℕ) (sent : List Sent) (o : Option Node) → SentBy ip sent o → is_some o ≡ false → filter_map (timing_from ip) sent ≡ []
+nobody_sent ip sent None s e = s
+nobody_sent ip sent (Some node) s e = absurd cc
+
+abbrev InWorld : World → Type 0
+InWorld w = AllSent w
+
+module _ (w : World) (all : AllSent w) where
+  set_up_sent : (ip : ℕ) (node : Node) → (filter_map (timing_from ip) w.sent ≡ [] → SentBy ip w.sent (Some node)) → IfOk (quietly (set_up w ip node)) Fine
+  set_up_sent ip node new = ok_bound Fine (set_up w ip node) _ (λ made e. subst (λ r. IfOk r InWorld) e (by w.has_begun (is_some (w.nodes ip)) refl))
+    where
+      by : (a b : Bool) → is_some (w.nodes ip) ≡ b → IfOk (cond a (Err causes.Order) (cond b (Err causes.Node) (Ok (record w { nodes = placed ip node w.nodes })))) InWorld
+      by true b e = tt
+      by false true e = tt
+      by false false e = instead w.nodes w.sent all ip node (new (nobody_sent ip w.sent (w.nodes ip) (all ip) e))
+
+  abbrev with_stock : Slave → ℕ → ℕ → Rule → Stock → World
+  with_stock s ip priority rule stock = record w { nodes = placed s.ip (IsSlave (with_master ip priority rule s)) w.nodes; stock = stock }
+
+  abbrev joined : Slave → ℕ → ℕ → Rule → Result World Cause
+  joined s ip priority rule = stock_without rule w.stock >>= λ stock. Ok (with_stock s ip priority rule stock)
+
+  added_sent : (s : Slave) (ip priority : ℕ) (rule : Rule) (a b : Bool) → IfOk (cond a (Err causes.Node) (cond b (Err causes.Full) (joined s ip priority rule))) InWorld
+  added_sent s ip priority rule true b = tt
+  added_sent s ip priority rule false true = tt
+  added_sent s ip priority rule false false = ok_bound InWorld (stock_without rule w.stock) (λ stock. Ok (with_stock s ip priority rule stock))
+      (λ stock _. instead w.nodes w.sent all s.ip (IsSlave (with_master ip priority rule s)) tt)
+
+  master_sent : (s : Slave) (ip priority : ℕ) (rule : Rule) → IfOk (quietly (add_master w s ip priority rule)) Fine
+  master_sent s ip priority rule = ok_bound Fine (add_master w s ip priority rule) _ (λ made e. subst (λ r. IfOk r InWorld) e
+      (added_sent s ip priority rule (is_some (place_of (s.opened.masters) ip)) (leb 16 (length (s.opened.masters)))))
+
+  at_grandmaster_sent : (ip : ℕ) (deed : Grandmaster → Deed) → ((g : Grandmaster) → IsTold g (deed g)) → IfOk (at_grandmaster w ip deed) Fine
+  at_grandmaster_sent ip deed told = ok_bound Fine (grandmaster_by (w.nodes ip)) (λ g. Ok (done_by w ip (deed g)))
+      (λ g e. more w.nodes w.sent all ip (deed g).node (deed g).sends (told_at ip w.sent g (deed g).sends (deed g).node (found_sent ip w.sent g (w.nodes ip) (all ip) e) (told g)))
+
+  plain_sent : (ip : ℕ) (s : Slave) (t : ℕ) (e : slave_events.SlaveEvent) → AllSent (done_by w ip (slaves.plain_deed s t e)).world
+  plain_sent ip s t e = more w.nodes w.sent all ip (slaves.plain_deed s t e).node (slaves.plain_deed s t e).sends tt
+
+  given_more : (t ip from : ℕ) (octets : List ℕ) (node : Node) → SentBy ip w.sent (Some node) → AllSent (done_by w ip (datagram_deed node t from octets)).world
+  given_more t ip from octets node s = more w.nodes w.sent all ip (datagram_deed node t from octets).node (datagram_deed node t from octets).sends (given_sent ip t from octets node w.sent s)
+
+  delivered_sent : (t : ℕ) (sent : Sent) → Fine (delivered_to w t sent (w.nodes sent.to))
+  delivered_sent t sent = by (w.nodes sent.to) (all sent.to)
+    where
+      by : (o : Option Node) → SentBy sent.to w.sent o → Fine (delivered_to w t sent o)
+      by None s = all
+      by (Some node) s = given_more t sent.to sent.from sent.octets node s
+
+  received_sent : (t ip from : ℕ) (octets : List ℕ) (o : Option Node) → SentBy ip w.sent o → IfOk (or_cause causes.Node o >>= λ node. Ok (done_by w ip (datagram_deed node t from octets))) Fine
+  received_sent t ip from octets None s = tt
+  received_sent t ip from octets (Some node) s = given_more t ip from octets node s
+
+  pub step_sent : (command : Command) → IfOk (step w command) Fine
+  unfolding step
+  step_sent (commands.Grandmaster setup) = set_up_sent setup.ip (new_grandmaster setup) (λ none. none)
+  step_sent (commands.Slave setup) = set_up_sent setup.ip (new_slave setup) (λ none. tt)
+  step_sent (commands.Master slave ip priority rule) = by w.has_begun
+    where
+      by : (b : Bool) → IfOk (cond b (Err causes.Order) (slave_at w slave >>= λ s. quietly (add_master w s ip priority rule))) Fine
+      by true = tt
+      by false = ok_bound Fine (slave_at w slave) _ (λ s e. master_sent s ip priority rule)
+  step_sent (commands.Receive t ip from octets) = received_sent t ip from octets (w.nodes ip) (all ip)
+  step_sent (commands.Deliver t number) = ok_bound Fine (or_cause causes.Number (datagram_numbered number w.sent)) (λ sent. Ok (delivered_to w t sent (w.nodes sent.to))) (λ sent e. delivered_sent t sent)
+  step_sent (commands.Turn t ip table) = at_grandmaster_sent ip (λ g. gm.turn_deed g t table) (λ g. turn_told g t table)
+  step_sent (commands.Tick t ip) = ok_bound Fine (slave_at w ip) (λ s. Ok (done_by w ip (slaves.plain_deed s t slave_events.Tick))) (λ s e. plain_sent ip s t slave_events.Tick)
+  step_sent (commands.Flag t ip master unusable) = ok_bound Fine (slave_at w ip) _ (λ s e. ok_bound Fine (place_in s master)
+      (λ m. Ok (done_by w ip (slaves.plain_deed s t (slave_events.TellFlag m unusable)))) (λ m _. plain_sent ip s t (slave_events.TellFlag m unusable)))
+  step_sent (commands.Judge t ip master rule) = ok_bound Fine (slave_at w ip) _ (λ s e. ok_bound Fine (place_in s master) _ (λ m _. ok_bound Fine (stock_without rule w.stock)
+      (λ stock. Ok (done_by (record w { stock = stock }) ip (slaves.plain_deed s t (slave_events.ReplaceJudge m (Some rule))))) (λ stock _. plain_sent ip s t (slave_events.ReplaceJudge m (Some rule)))))
+  step_sent (commands.Stop t ip) = ok_bound Fine (slave_at w ip) (λ s. Ok (done_by w ip (slaves.plain_deed s t slave_events.Stop))) (λ s e. plain_sent ip s t slave_events.Stop)
+  step_sent (commands.Class ip class) = at_grandmaster_sent ip (λ g. gm.class_deed g class) (λ g. same_told g)
+  step_sent (commands.Capacity t ip capacity) = at_grandmaster_sent ip (λ g. gm.capacity_deed g t capacity) (λ g. capacity_told g t capacity)

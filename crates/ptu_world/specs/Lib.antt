@@ -1,0 +1,11 @@
+pub mod SlaveNode
+pub mod Deeds
+pub mod Grandmasters
+pub mod Slaves
+pub mod World
+pub mod Report
+pub mod Samples
+pub mod Facts
+pub mod Reached
+pub mod Promises
+pub mod Sayings

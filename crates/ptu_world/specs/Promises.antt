@@ -1,0 +1,194 @@
+-- What every grandmaster of a script keeps to. The budget and the payments are the project's own choice; requests are those
+-- of IEEE 1588-2019 clause 16.1.
+use Rattle.std.specs.Prelude.{◌≡◌, ◌↔◌, ℕ, ◌+◌, ◌*◌, ◌%◌, ◌<◌, ◌≤◌, false, ◌==◌, if◌then◌else◌, filter_map, slice_index, List, [], ◌∷◌, ◌++◌, length, ℤ, Option, Some, None, option_map, Ok, Err, IsTrue}
+use Rattle.std.specs.List.{AllPairs, Contains}
+use Rattle.ptu_units.specs.declared.kind.Kind.{Kind}
+use Rattle.ptu_units.specs.Kind.{code_of}
+use Rattle.ptu_units.specs.Log.{rate_of}
+use Rattle.ptu_header.specs.declared.header.Header.{Header}
+use Rattle.ptu_tlvs.specs.declared.tlv.Ask.{Ask}
+use Rattle.ptu_tlvs.specs.declared.tlv.Tlv.{Tlv}
+use Rattle.ptu_history.specs.declared.client.Client.{Client}
+use Rattle.ptu_history.specs.Core.{core_history, history_after}
+use Rattle.ptu_history.specs.Events.{Event}
+use Rattle.ptu_history.specs.Held.{budget, count, force, held, payment, payments}
+use Rattle.ptu_history.specs.History.{Record, Granted, Sent, capacity_in_force}
+use Rattle.ptu_history.specs.Live.{last_decision, live}
+use Rattle.ptu_history.specs.Verdict.{Config, Verdict, Outside, OutsideCause, granted_seconds, others, profile, verdict}
+use Rattle.ptu_laws.specs.Granted.{is_granted, is_short}
+use Rattle.ptu_laws.specs.Paid.{IsBefore, IsPaid}
+use Rattle.ptu_shard.specs.Config.{IsWithinLimits}
+use Rattle.ptu_items.specs.declared.item.Item.{Item}
+use Rattle.ptu_items.specs.declared.item.Item.TheVariants as items
+use Rattle.ptu_items.specs.declared.heard.Heard.TheVariants as heard
+use Rattle.ptu_items.specs.Items.{heard_in}
+use Rattle.ptu_items.specs.Deciding.{answer_by, asked_by, client_of, events_of_items, item_moment}
+use Rattle.ptu_items.specs.Replies.{denial_of, grant_of, reply_to}
+use Rattle.ptu_script.specs.declared.command.Command.{Command}
+use Rattle.ptu_script.specs.declared.command.Command.TheVariants as commands
+use Rattle.ptu_report_lines.specs.declared.sent.Sent as sending
+use Rattle.ptu_report_lines.specs.declared.statement.Statement.{Statement}
+use Rattle.ptu_report_lines.specs.declared.statement.Statement.TheVariants.{Decided}
+use Rattle.ptu_world.specs.Deeds.{Grandmaster, IsGrandmaster}
+use Rattle.ptu_world.specs.Grandmasters.{opening, verdict_said}
+use Rattle.ptu_world.specs.World.{World, Done, datagram_numbered, sent_from, step}
+
+-- ---- capacity, payment and budget
+
+-- a grandmaster stands at its address, within its limits, and its history is that of some events
+pub record IsRun (ip : ℕ) (gm : Grandmaster) : Type 0 where
+  pub address : gm.ip ≡ ip
+  pub config : IsWithinLimits gm.config
+  pub capacity : (1 ≤ gm.capacity) × (gm.capacity ≤ 16777216)
+  pub events : List (ℕ × Event)
+  pub past : gm.past ≡ core_history (opening gm) events
+
+-- a message stands in a history, behind these records
+abbrev pub IsSentAfter : List Record → List Record → ℕ → Client → Kind → Type 0
+IsSentAfter history before x c k = (after : List Record) × (history ≡ before ++ Sent x c k ∷ after)
+
+-- a message is sent inside a grant that is live at its moment, and pays with one whole period of held time, its own
+pub record PaysItsPeriod (history before : List Record) (x : ℕ) (c : Client) (k : Kind) : Type 0 where
+  pub live : IsTrue (live before x c k)
+  pub start : ℕ
+  pub log : ℤ
+  pub until : ℕ
+  pub grant : last_decision before c k ≡ Some (Granted start c k log until)
+  pub inside : (start ≤ x) × (x < until)
+  pub paid : IsPaid history log (payment before x c k)
+  pub own : Contains (payments history) (payment before x c k)
+
+-- of a grandmaster that is opened with this, at every moment: the rates that are held sum to at most the capacity in
+-- force; each message pays its period, and no two of one client and kind pay with the same time; and the messages so far,
+-- at sixteen seconds of one sixteenth each, are at most the budget
+pub record KeepsPromises (config : Config) (history : List Record) : Type 0 where
+  pub within : (x : ℕ) → held history x ≤ force config.capacity history x
+  pub paid : (before : List Record) (x : ℕ) (c : Client) (k : Kind) → IsSentAfter history before x c k → PaysItsPeriod history before x c k
+  pub apart : AllPairs IsBefore (payments history)
+  pub budget : (x : ℕ) → count history x * (16 * 1000000000) ≤ budget config.capacity history x
+
+-- ---- messages
+
+-- the messageType of a datagram: the low four bits of its first octet (IEEE 1588-2019 clause 13.3.2)
+abbrev pub type_of : List ℕ → ℕ
+type_of octets = slice_index octets 0 % 16
+
+-- of a datagram to an address: that and its messageType, but nothing of a Signaling
+abbrev pub timing_to : ℕ → List ℕ → Option (ℕ × ℕ)
+timing_to ip octets = if type_of octets == 12 then None else Some (ip, type_of octets)
+
+-- likewise, where the node at this address sent it
+abbrev pub timing_from : ℕ → sending.Sent → Option (ℕ × ℕ)
+timing_from ip sent = if sent.from == ip then timing_to sent.to sent.octets else None
+
+-- of a record of a message: the address of its client, and the messageType of its kind
+abbrev pub message_in : Record → Option (ℕ × ℕ)
+message_in (Sent x c k) = Some (c.ip, code_of k)
+message_in _ = None
+
+-- the messages in a grandmaster's history are, one for one and in order, the datagrams that it sent but for Signaling
+abbrev pub AreMessagesSent : World → ℕ → Grandmaster → Type 0
+AreMessagesSent w ip gm = filter_map (timing_from ip) w.sent ≡ filter_map message_in gm.past
+
+-- ---- datagrams
+
+-- a datagram that is handed to the node at an address, as from another
+pub record Handed : Type 0 where
+  pub at : ℕ
+  pub node : ℕ
+  pub from : ℕ
+  pub octets : List ℕ
+
+-- that which was sent is handed to the address that it was sent to, with the octets that were sent
+abbrev pub delivery : ℕ → sending.Sent → Handed
+delivery t sent = record { at = t; node = sent.to; from = sent.from; octets = sent.octets }
+
+-- the datagram that a command hands to a node
+abbrev pub handed_by : World → Command → Option Handed
+handed_by w (commands.Receive t ip from octets) = Some (record { at = t; node = ip; from = from; octets = octets })
+handed_by w (commands.Deliver t number) = option_map (delivery t) (datagram_numbered number w.sent)
+handed_by w _ = None
+
+-- ---- events
+
+-- a command is taken, and makes the grandmaster at an address go on with these events
+pub record GoesOn (w : World) (command : Command) (ip : ℕ) (gm : Grandmaster) (events : List (ℕ × Event)) : Type 0 where
+  pub done : Done
+  pub step : step w command ≡ Ok done
+  pub node : done.world.nodes ip ≡ Some (IsGrandmaster (record gm { past = history_after (opening gm) gm.past events }))
+
+-- the address of the node that a command sets up, changes or hands something to
+abbrev pub addressed : World → Command → Option ℕ
+addressed w (commands.Grandmaster setup) = Some setup.ip
+addressed w (commands.Slave setup) = Some setup.ip
+addressed w (commands.Master slave ip priority rule) = Some slave
+addressed w (commands.Turn t ip table) = Some ip
+addressed w (commands.Tick t ip) = Some ip
+addressed w (commands.Flag t ip master unusable) = Some ip
+addressed w (commands.Judge t ip master rule) = Some ip
+addressed w (commands.Stop t ip) = Some ip
+addressed w (commands.Class ip class) = Some ip
+addressed w (commands.Capacity t ip capacity) = Some ip
+addressed w command = option_map (λ d. d.node) (handed_by w command)
+
+-- ---- requests
+
+-- a REQUEST in a Signaling to a grandmaster, with the items before and behind it
+pub record Request : Type 0 where
+  pub gm : Grandmaster
+  pub handed : Handed
+  pub header : Header
+  pub before : List Item
+  pub ask : Ask
+  pub behind : List Item
+
+-- the command hands it to the grandmaster
+pub record IsHanded (w : World) (command : Command) (r : Request) : Type 0 where
+  pub handed : handed_by w command ≡ Some r.handed
+  pub node : w.nodes r.handed.node ≡ Some (IsGrandmaster r.gm)
+  pub heard : heard_in r.gm.config r.handed.octets ≡ Ok (heard.Asks r.header (r.before ++ items.Request r.ask ∷ r.behind))
+
+abbrev pub client : Request → Client
+client r = client_of r.handed.from r.header
+
+-- the history after the items before it
+abbrev pub history : Request → List Record
+history r = history_after (opening r.gm) r.gm.past (events_of_items r.handed.at (client r) r.before)
+
+abbrev pub moment : Request → ℕ
+moment r = item_moment (history r) r.handed.at (client r)
+
+abbrev pub decision : Request → Verdict
+decision r = verdict (opening r.gm) (history r) (moment r) (client r) (asked_by r.ask)
+
+-- the rates of the other live grants and its own, where it is for this kind
+abbrev pub rates_with : Request → Kind → ℕ
+rates_with r k = others (history r) (moment r) (client r) k + rate_of r.ask.log
+
+abbrev pub capacity_then : Request → ℕ
+capacity_then r = capacity_in_force r.gm.capacity (history r)
+
+-- the command is taken, the grandmaster goes on with all the items, and the decision is said, and stands in the one reply, at the place of the REQUEST among the items
+pub record IsAnswered (w : World) (command : Command) (r : Request) : Type 0 where
+  pub done : Done
+  pub step : step w command ≡ Ok done
+  pub kept : done.world.nodes r.handed.node ≡ Some (IsGrandmaster (record (r.gm) { past = history_after (opening r.gm) r.gm.past (events_of_items r.handed.at (client r) (r.before ++ items.Request r.ask ∷ r.behind)) }))
+  pub said_before : List Statement
+  pub said_behind : List Statement
+  pub said : done.said ≡ said_before ++ Decided (verdict_said r.ask (moment r) (decision r)) ∷ said_behind
+  pub said_place : length said_before ≡ length r.before
+  pub answers_before : List Tlv
+  pub answers_behind : List Tlv
+  pub sent : done.world.sent ≡ w.sent ++ sent_from r.handed.node (reply_to r.gm.config r.handed.from r.header (answers_before ++ answer_by r.ask (decision r) ∷ answers_behind)) ∷ []
+  pub answer_place : length answers_before ≡ length r.before
+  pub answers : length (answers_before ++ answer_by r.ask (decision r) ∷ answers_behind) ≡ length (r.before ++ items.Request r.ask ∷ r.behind)
+
+-- a REQUEST within the profile is granted exactly where its rate fits beside the other live grants, for the lesser of what
+-- it asks for and the longest duration, and else answered with the duration zero; so is one outside the profile
+pub record IsDecidedByRoom (r : Request) : Type 0 where
+  pub granted : (k : Kind) → profile (asked_by r.ask) ≡ Ok k → IsTrue (is_granted (decision r)) ↔ (rates_with r k ≤ capacity_then r)
+  pub short : (k : Kind) → profile (asked_by r.ask) ≡ Ok k → IsTrue (is_short (decision r)) ↔ (capacity_then r < rates_with r k)
+  pub outside : (cause : OutsideCause) → profile (asked_by r.ask) ≡ Err cause → decision r ≡ Outside cause
+  pub answer : IsTrue (is_granted (decision r)) → answer_by r.ask (decision r) ≡ grant_of r.ask (granted_seconds (opening r.gm) (asked_by r.ask))
+  pub duration : IsTrue (is_granted (decision r)) → 60 ≤ granted_seconds (opening r.gm) (asked_by r.ask)
+  pub denial : is_granted (decision r) ≡ false → answer_by r.ask (decision r) ≡ denial_of r.ask
