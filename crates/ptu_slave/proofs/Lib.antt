@@ -9,3 +9,5 @@ pub mod Sendings
 pub mod Ticking
 pub mod Stopping
 pub mod Hearing
+pub mod Ruled
+pub mod Nodes

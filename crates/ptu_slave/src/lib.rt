@@ -6,6 +6,7 @@ mod asking;
 mod counters;
 mod events;
 mod judging;
+pub mod laws;
 mod node;
 mod slave;
 mod ticked;

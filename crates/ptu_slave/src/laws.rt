@@ -1,0 +1,36 @@
+//! What holds of every slave. Each clause is a law of the definitions; the bodies are empty.
+ghost use Rattle.std.specs.Prelude.{◌≡◌, ◌<◌, ℕ, List, ◌++◌, length, map, Option, IsSome};
+ghost use Rattle.std.specs.List.{AllByRecursion};
+ghost use Rattle.ptu_record.specs.declared.rule.Rule.{Rule};
+ghost use Rattle.ptu_record.specs.Record.{Record, event_moment};
+ghost use Rattle.ptu_record.specs.Step.{SlaveEvent, Tick, judged_masters, sendings, slave_step};
+ghost use Rattle.ptu_judges.specs.Held.{Held};
+ghost use Rattle.ptu_slave.specs.Kept.{Kept};
+ghost use Rattle.ptu_slave_messages.specs.Heard.{replies_in};
+ghost use Rattle.ptu_slave_messages.specs.Reception.{reception};
+ghost use Rattle.ptu_slave_messages.specs.Sending.{all_ones, departure_of};
+ghost use Rattle.ptu_slave.specs.Node.{Node, datagram_deed, deed};
+ghost use Rattle.ptu_slave.specs.Standing.{StandsFor, Steps, setup_of};
+
+/// Where each judge has a rule, a step is the one step of the event.
+pub fn ruled_judges()
+    ensures { (openings : List (Option Rule)) (old new : Kept) (judges : List Held) (L : Record)
+        (t : ℕ) (e : SlaveEvent) → AllByRecursion (λ held. IsSome held.rule) judges →
+        AllByRecursion (λ m. m < length judges) (judged_masters (length openings) e) →
+        Steps openings old new judges L t e → StandsFor openings new judges
+        (L ++ (slave_step (setup_of old.config openings) L t e).entries) }
+{}
+
+/// What a slave replies to a datagram is what its node's step says, and the node's entries are those
+/// of the one step.
+pub fn nodes()
+    ensures replies { (node : Node) (L : Record) (t ip : ℕ) (octets : List ℕ) →
+        replies_in node.config node.masters (reception node.config node.masters ip octets)
+        ≡ (datagram_deed node L t ip octets).datagrams }
+    ensures ticks { (node : Node) (L : Record) (t : ℕ) → (deed node L t Tick).datagrams ≡
+        map (departure_of node.config node.masters all_ones)
+        (sendings (setup_of node.config node.openings) L (event_moment L t) Tick) }
+    ensures entries { (node : Node) (L : Record) (t : ℕ) (e : SlaveEvent) →
+        (deed node L t e).entries
+        ≡ (slave_step (setup_of node.config node.openings) L t e).entries }
+{}
