@@ -7,3 +7,4 @@ pub mod Answering
 pub mod Heard
 pub mod Closes
 pub mod Cancelling
+pub mod Followed

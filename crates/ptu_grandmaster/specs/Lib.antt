@@ -3,4 +3,5 @@ pub mod Deciding
 pub mod Outcomes
 pub mod Taking
 pub mod Changed
+pub mod Driven
 pub mod Lends

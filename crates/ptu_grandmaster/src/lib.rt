@@ -4,6 +4,7 @@
 
 mod closing;
 mod deciding;
+mod driving;
 mod gm;
 mod outcome;
 mod replying;
@@ -11,6 +12,7 @@ mod resizing;
 mod taking;
 mod turning;
 
+pub use driving::{Driven, GmEvent, drive};
 pub use gm::Gm;
 pub use outcome::{Outcome, Outcomes, Reply, Taken};
 pub use ptu_items::{GmReason, Item, Items, asks_of, cancel_of};

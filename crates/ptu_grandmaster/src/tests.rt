@@ -1,7 +1,7 @@
 use super::*;
 use ptu_admit::{Cancelled, Verdict};
 use ptu_header::PortIdentity;
-use ptu_outside::{Channel, MemPort};
+use ptu_outside::{Channel, Datagram, MemPort};
 use ptu_shard::{GmConfig, Turned};
 use ptu_units::Moment;
 use std::alloc::Global;
@@ -151,5 +151,39 @@ fn a_lower_capacity_sheds_the_newest(rt: HostRuntime) -> Result<(), Fail> {
     let (closed, _) = gm.close();
     assert_eq!(rt; closed.counts, [0, 0, 8, 0]);
     assert_eq!(rt; (closed.granted, closed.refused), (2, 1));
+    Ok(())
+}
+
+// How many messages are sent where a grant of Sync at logarithm 0 is followed by two turns.
+fn sent_in_turns(alloc: Global, first: u64, second: u64) -> Result<u64, Fail> {
+    let bytes = Datagram::new(signaling(alloc, FIRST, 54, SYNC)?);
+    let events = [
+        GmEvent::Take {
+            t: moment(0)?,
+            from: FIRST,
+            bytes,
+        },
+        GmEvent::Turn {
+            t: moment(first)?,
+            table: 2,
+        },
+        GmEvent::Turn {
+            t: moment(second)?,
+            table: 2,
+        },
+    ];
+    let p0 = port(alloc, Vec::new(alloc))?;
+    let p1 = port(alloc, Vec::new(alloc))?;
+    let p2 = port(alloc, Vec::new(alloc))?;
+    let p3 = port(alloc, Vec::new(alloc))?;
+    let reply = port(alloc, Vec::new(alloc))?;
+    Ok(drive(alloc, CONFIG, 16, p0, p1, p2, p3, reply, &events)?.sent)
+}
+
+#[test]
+fn each_message_takes_its_own_period(rt: HostRuntime) -> Result<(), Fail> {
+    for (first, second, sent) in [(SECOND, 2 * SECOND, 2), (2 * SECOND, SECOND, 1)] {
+        assert_eq!(rt; sent_in_turns(rt.alloc(), first, second)?, sent);
+    }
     Ok(())
 }

@@ -1,0 +1,6 @@
+use Rattle.std.proofs.Common.{take}
+use Rattle.ptu_grandmaster.proofs.Followed.{Follows}
+use Rattle.ptu_grandmaster.proofs.driving.drive.Given as goal
+
+abbrev pub invariant-loop-event : goal.invariant-loop-event
+invariant-loop-event g l = Follows l.fn.config l.capacity (take l.event-index l.events) l.gm l.sent
