@@ -52,37 +52,37 @@ fn signaling(alloc: Global, from: u32, octets: u8, tlvs: &str) -> Result<Vec<u8>
     Ok(bytes)
 }
 
-// A port with room, that fails at the listed sends.
-fn port(alloc: Global, fails: Vec<u64>) -> Result<MemPort, Fail> {
-    let mut port = MemPort::new(alloc, Vec::new(alloc), fails, Vec::new(alloc));
-    port.reserve(8, 8 * 64)?;
-    Ok(port)
+// A port that fails at the listed sends.
+fn port(alloc: Global, fails: Vec<u64>) -> MemPort {
+    MemPort::new(alloc, Vec::new(alloc), fails, Vec::new(alloc))
 }
 
 // A grandmaster of capacity 16, whose port 2 fails at the listed sends.
-fn grandmaster(alloc: Global, fails: Vec<u64>) -> Result<Gm<MemPort>, Fail> {
-    let p0 = port(alloc, Vec::new(alloc))?;
-    let p1 = port(alloc, Vec::new(alloc))?;
-    let p2 = port(alloc, fails)?;
-    let p3 = port(alloc, Vec::new(alloc))?;
-    let reply = port(alloc, Vec::new(alloc))?;
-    Ok(Gm::new(alloc, CONFIG, 16, p0, p1, p2, p3, reply))
+fn grandmaster(alloc: Global, fails: Vec<u64>) -> Gm<MemPort> {
+    let p0 = port(alloc, Vec::new(alloc));
+    let p1 = port(alloc, Vec::new(alloc));
+    let p2 = port(alloc, fails);
+    let p3 = port(alloc, Vec::new(alloc));
+    let reply = port(alloc, Vec::new(alloc));
+    Gm::new(alloc, CONFIG, 16, p0, p1, p2, p3, reply)
 }
 
-#[test]
-fn a_grant_is_sent_cancelled_and_closed(rt: HostRuntime) -> Result<(), Fail> {
-    let alloc = rt.alloc();
-    let mut gm = grandmaster(alloc, vec![in alloc; 1]?)?;
+// A grant of Sync is sent in its periods, of which a failed send spends one, until it is cancelled.
+fn assert_sent_and_cancelled(
+    rt: &impl Abort,
+    alloc: Global,
+    gm: &mut Gm<MemPort>,
+) -> Result<(), Fail> {
     let asked = gm.take(moment(0)?, FIRST, &signaling(alloc, FIRST, 54, SYNC)?)?;
     assert!(rt; matches!(&asked, Taken::Asked(_, Reply::Sent)));
     assert_eq!(rt; gm.count(2), 1);
-    // A failed send spends its period. The moment of each turn, what is sent and what fails.
+    // The moment of each turn, how many messages are sent, and how many sends fail.
     for (at, sent, failed) in [(SECOND, 0, 1), (1_999_999_999, 0, 0), (2 * SECOND, 1, 0)] {
         let at = moment(at)?;
         assert_eq!(rt; gm.turn(2, at), Turned { at, sent, failed });
     }
-    // A CANCEL with an early moment, twice: its code is no kind, and Sync.
-    for (tlvs, answer) in [
+    // CANCELs with an early moment, of a code that is no kind, and of Sync.
+    let answers = [
         ("000600023000", None),
         (
             "000600020000",
@@ -91,16 +91,16 @@ fn a_grant_is_sent_cancelled_and_closed(rt: HostRuntime) -> Result<(), Fail> {
                 ended: true,
             }),
         ),
-    ] {
-        match gm.take(moment(SECOND)?, FIRST, &signaling(alloc, FIRST, 50, tlvs)?)? {
-            Taken::Asked(outcomes, Reply::Sent) => {
-                let Some(Outcome::Cancel(_, found)) = outcomes.list().first() else {
-                    return Err(Fail::new("a CANCEL has its answer"));
-                };
-                assert_eq!(rt; *found, answer);
-            }
-            _ => return Err(Fail::new("a CANCEL is answered")),
-        }
+    ];
+    for (tlvs, answer) in answers {
+        let taken = gm.take(moment(SECOND)?, FIRST, &signaling(alloc, FIRST, 50, tlvs)?)?;
+        let Taken::Asked(outcomes, Reply::Sent) = &taken else {
+            return Err(Fail::new("a CANCEL is answered"));
+        };
+        let Some(Outcome::Cancel(_, found)) = outcomes.list().first() else {
+            return Err(Fail::new("a CANCEL has its answer"));
+        };
+        assert_eq!(rt; *found, answer);
     }
     assert_eq!(rt; gm.turn(2, moment(7 * SECOND)?).sent, 0);
     let reply = hex::decode(
@@ -112,15 +112,21 @@ fn a_grant_is_sent_cancelled_and_closed(rt: HostRuntime) -> Result<(), Fail> {
         gm.ports(4).sent(0),
         Some((FIRST, Channel::General, reply.as_slice()))
     );
-    let (closed, _) = gm.close();
-    assert_eq!(rt; (closed.granted, closed.refused, closed.total), (1, 0, 0));
     Ok(())
 }
 
 #[test]
-fn a_lower_capacity_sheds_the_newest(rt: HostRuntime) -> Result<(), Fail> {
+fn a_grant_is_sent_cancelled_and_closed(rt: HostRuntime) -> Result<(), Fail> {
     let alloc = rt.alloc();
-    let mut gm = grandmaster(alloc, Vec::new(alloc))?;
+    let mut gm = grandmaster(alloc, vec![in alloc; 1]?);
+    let done = assert_sent_and_cancelled(&rt, alloc, &mut gm);
+    let (closed, _) = gm.close();
+    assert_eq!(rt; (closed.granted, closed.refused, closed.total), (1, 0, 0));
+    done
+}
+
+// A lower capacity sheds the newer of two grants, and its client asks in vain.
+fn assert_shed(rt: &impl Abort, alloc: Global, gm: &mut Gm<MemPort>) -> Result<(), Fail> {
     gm.set_class(90);
     gm.take(moment(0)?, FIRST, &signaling(alloc, FIRST, 54, ANNOUNCE)?)?;
     let request = signaling(alloc, SECOND_CLIENT, 54, ANNOUNCE)?;
@@ -139,51 +145,57 @@ fn a_lower_capacity_sheds_the_newest(rt: HostRuntime) -> Result<(), Fail> {
         gm.ports(4).sent(2),
         Some((SECOND_CLIENT, Channel::General, cancel.as_slice()))
     );
-    match gm.take(moment(2 * SECOND)?, SECOND_CLIENT, &request)? {
-        Taken::Asked(outcomes, _) => assert!(rt;
-            matches!(
-                outcomes.list().first(),
-                Some(Outcome::Verdict(_, Verdict::Short(_)))
-            )
-        ),
-        _ => return Err(Fail::new("a Signaling is answered")),
-    }
-    let (closed, _) = gm.close();
-    assert_eq!(rt; closed.counts, [0, 0, 8, 0]);
-    assert_eq!(rt; (closed.granted, closed.refused), (2, 1));
+    let taken = gm.take(moment(2 * SECOND)?, SECOND_CLIENT, &request)?;
+    let Taken::Asked(outcomes, Reply::Sent) = &taken else {
+        return Err(Fail::new("a Signaling is answered"));
+    };
+    assert!(rt;
+        matches!(
+            outcomes.list().first(),
+            Some(Outcome::Verdict(_, Verdict::Short(_)))
+        )
+    );
     Ok(())
 }
 
+#[test]
+fn a_lower_capacity_sheds_the_newest(rt: HostRuntime) -> Result<(), Fail> {
+    let alloc = rt.alloc();
+    let mut gm = grandmaster(alloc, Vec::new(alloc));
+    let done = assert_shed(&rt, alloc, &mut gm);
+    let (closed, _) = gm.close();
+    assert_eq!(rt; closed.counts, [0, 0, 8, 0]);
+    assert_eq!(rt; (closed.granted, closed.refused), (2, 1));
+    done
+}
+
 // How many messages are sent where a grant of Sync at logarithm 0 is followed by two turns.
-fn sent_in_turns(alloc: Global, first: u64, second: u64) -> Result<u64, Fail> {
+fn sent_in_turns(alloc: Global, first: Moment, second: Moment) -> Result<u64, Fail> {
     let bytes = Datagram::new(signaling(alloc, FIRST, 54, SYNC)?);
     let events = [
         GmEvent::Take {
-            t: moment(0)?,
+            t: Moment::default(),
             from: FIRST,
             bytes,
         },
+        GmEvent::Turn { t: first, table: 2 },
         GmEvent::Turn {
-            t: moment(first)?,
-            table: 2,
-        },
-        GmEvent::Turn {
-            t: moment(second)?,
+            t: second,
             table: 2,
         },
     ];
-    let p0 = port(alloc, Vec::new(alloc))?;
-    let p1 = port(alloc, Vec::new(alloc))?;
-    let p2 = port(alloc, Vec::new(alloc))?;
-    let p3 = port(alloc, Vec::new(alloc))?;
-    let reply = port(alloc, Vec::new(alloc))?;
+    let p0 = port(alloc, Vec::new(alloc));
+    let p1 = port(alloc, Vec::new(alloc));
+    let p2 = port(alloc, Vec::new(alloc));
+    let p3 = port(alloc, Vec::new(alloc));
+    let reply = port(alloc, Vec::new(alloc));
     Ok(drive(alloc, CONFIG, 16, p0, p1, p2, p3, reply, &events)?.sent)
 }
 
 #[test]
 fn each_message_takes_its_own_period(rt: HostRuntime) -> Result<(), Fail> {
-    for (first, second, sent) in [(SECOND, 2 * SECOND, 2), (2 * SECOND, SECOND, 1)] {
-        assert_eq!(rt; sent_in_turns(rt.alloc(), first, second)?, sent);
-    }
+    let (early, late) = (moment(SECOND)?, moment(2 * SECOND)?);
+    assert_eq!(rt; sent_in_turns(rt.alloc(), early, late)?, 2);
+    assert_eq!(rt; sent_in_turns(rt.alloc(), late, early)?, 1);
     Ok(())
 }
