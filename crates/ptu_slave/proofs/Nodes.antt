@@ -11,7 +11,7 @@ use Rattle.ptu_slave_messages.specs.declared.reason.SlaveReason.{SlaveReason}
 use Rattle.ptu_slave_messages.specs.Heard.{event_of, replies_in, replies_to}
 use Rattle.ptu_slave_messages.specs.Reception.{reception}
 use Rattle.ptu_slave_messages.specs.Sending.{departure_of}
-use Rattle.ptu_slave.specs.Node.{Node, datagram_deed, node_setup, reception_deed}
+use Rattle.ptu_slave_messages.specs.Node.{Node, datagram_deed, node_setup, reception_deed}
 
 replies : (node : Node) (L : Record) (t m : ℕ) (header : Header) (b : Body)
     → replies_to m (record { header = header; body = b }) ≡ (slave_step (node_setup node) L t (event_of m (record { header = header; body = b }))).sendings

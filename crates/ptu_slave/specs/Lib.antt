@@ -1,4 +1,3 @@
 pub mod Kept
 pub mod Standing
 pub mod Parts
-pub mod Node

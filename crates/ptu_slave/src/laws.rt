@@ -9,7 +9,7 @@ ghost use Rattle.ptu_slave.specs.Kept.{Kept};
 ghost use Rattle.ptu_slave_messages.specs.Heard.{replies_in};
 ghost use Rattle.ptu_slave_messages.specs.Reception.{reception};
 ghost use Rattle.ptu_slave_messages.specs.Sending.{all_ones, departure_of};
-ghost use Rattle.ptu_slave.specs.Node.{Node, datagram_deed, deed};
+ghost use Rattle.ptu_slave_messages.specs.Node.{Node, datagram_deed, deed};
 ghost use Rattle.ptu_slave.specs.Standing.{StandsFor, Steps, setup_of};
 
 /// Where each judge has a rule, a step is the one step of the event.

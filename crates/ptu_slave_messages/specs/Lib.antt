@@ -3,3 +3,4 @@ pub mod Sending
 pub mod Reception
 pub mod Heard
 pub mod Examples
+pub mod Node

@@ -34,26 +34,26 @@ use Rattle.ptu_report_lines.specs.declared.statement.Statement.TheVariants.{Deci
 use Rattle.ptu_world.specs.Deeds.{Grandmaster, Node, IsGrandmaster, Deed}
 use Rattle.ptu_world.specs.Grandmasters as gm
 use Rattle.ptu_world.specs.Promises.{Handed, IsAnswered, IsDecidedByRoom, IsHanded, IsRun, Request, client, decision, delivery, handed_by, history, moment}
-use Rattle.ptu_world.specs.World.{World, Done, datagram_deed, datagram_numbered, delivered_to, done_by, or_cause, sending_said, sent_from, step}
+use Rattle.ptu_world.specs.World.{World, Done, datagram_deed, datagram_numbered, delivered_to, done_by, or_cause, sending_said, sent_from, step, node_at}
 
 -- ---- the command that hands it over
 
 -- a command that hands a datagram to a node makes it take the datagram
-pub taken_by : (w : World) (command : Command) (d : Handed) (node : Node) → handed_by w command ≡ Some d → w.nodes d.node ≡ Some node
+pub taken_by : (w : World) (command : Command) (d : Handed) (node : Node) → handed_by w command ≡ Some d → node_at w.nodes d.node ≡ Some node
     → step w command ≡ Ok (done_by w d.node (datagram_deed node d.at d.from d.octets))
 unfolding step
 taken_by w (commands.Receive t ip from octets) d node e n =
     let same : d ≡ record { at = t; node = ip; from = from; octets = octets } = cc in
-    subst (λ x. w.nodes x.node ≡ Some node → or_cause causes.Node (w.nodes ip) >>= (λ y. Ok (done_by w ip (datagram_deed y t from octets))) ≡ Ok (done_by w x.node (datagram_deed node x.at x.from x.octets))) (sym same)
+    subst (λ x. w.nodes x.node ≡ Some node → or_cause causes.Node (node_at w.nodes ip) >>= (λ y. Ok (done_by w ip (datagram_deed y t from octets))) ≡ Ok (done_by w x.node (datagram_deed node x.at x.from x.octets))) (sym same)
     (λ m. ap (λ o. or_cause causes.Node o >>= (λ y. Ok (done_by w ip (datagram_deed y t from octets)))) m) n
 taken_by w (commands.Deliver t number) d node e n = by (datagram_numbered number w.sent) e
   where
     by : (o : Option Sent) → option_map (delivery t) o ≡ Some d
-        → ◌≡◌ {A = Result Done Cause} (or_cause causes.Number o >>= (λ sent. Ok (delivered_to w t sent (w.nodes sent.to)))) (Ok (done_by w d.node (datagram_deed node d.at d.from d.octets)))
+        → ◌≡◌ {A = Result Done Cause} (or_cause causes.Number o >>= (λ sent. Ok (delivered_to w t sent (node_at w.nodes sent.to)))) (Ok (done_by w d.node (datagram_deed node d.at d.from d.octets)))
     by None e = absurd cc
     by (Some sent) e =
         let same : d ≡ delivery t sent = cc in
-        subst (λ x. w.nodes x.node ≡ Some node → ◌≡◌ {A = Result Done Cause} (Ok (delivered_to w t sent (w.nodes sent.to))) (Ok (done_by w x.node (datagram_deed node x.at x.from x.octets)))) (sym same)
+        subst (λ x. w.nodes x.node ≡ Some node → ◌≡◌ {A = Result Done Cause} (Ok (delivered_to w t sent (node_at w.nodes sent.to))) (Ok (done_by w x.node (datagram_deed node x.at x.from x.octets)))) (sym same)
         (λ m. ap {B = Result Done Cause} (λ o. Ok (delivered_to w t sent o)) m) n
 taken_by w (commands.Grandmaster setup) d node e n = absurd cc
 taken_by w (commands.Slave setup) d node e n = absurd cc
@@ -144,7 +144,7 @@ module _ (w : World) (command : Command) (r : Request) (is : IsHanded w command 
   is_answered = record {
     done = done_by w r.handed.node heard_done;
     step = taken;
-    kept = ap (λ b. cond b (Some heard_done.node) (w.nodes r.handed.node)) (eq-eqb r.handed.node r.handed.node refl);
+    kept = ap (λ b. cond b (Some heard_done.node) (node_at w.nodes r.handed.node)) (eq-eqb r.handed.node r.handed.node refl);
     said_before = map gm.decision_said first;
     said_behind = map gm.decision_said later ++ sendings;
     said = append-nil (map gm.decision_said (decisions_of opened r.gm.past r.handed.at (client r) all_items) ++ sendings)

@@ -21,13 +21,13 @@ use Rattle.ptu_world.specs.Deeds.{Grandmaster, Slave, Node, IsGrandmaster, IsSla
 use Rattle.ptu_world.specs.Grandmasters as gm
 use Rattle.ptu_world.specs.Slaves as slaves
 use Rattle.ptu_world.specs.Promises.{GoesOn, Handed, addressed, delivery, handed_by}
-use Rattle.ptu_world.specs.World.{World, Stock, Done, add_master, at_grandmaster, datagram_deed, datagram_numbered, delivered_to, done_by, grandmaster_at, grandmaster_by, new_grandmaster, new_slave, or_cause, place_in, placed, quietly, set_up, slave_at, step, stock_without, with_master}
+use Rattle.ptu_world.specs.World.{World, Stock, Done, add_master, at_grandmaster, datagram_deed, datagram_numbered, delivered_to, done_by, grandmaster_at, grandmaster_by, new_grandmaster, new_slave, or_cause, place_in, placed, quietly, set_up, slave_at, step, stock_without, with_master, node_at, Nodes}
 use Rattle.ptu_world.proofs.Limits.{ok_bound}
 use Rattle.ptu_world.proofs.Steps.{AllStand, found_slave}
 use Rattle.ptu_world.proofs.Deciding.{taken_by}
 
-placed-there : (ip : ℕ) (node : Node) (nodes : ℕ → Option Node) → placed ip node nodes ip ≡ Some node
-placed-there ip node nodes = ap (λ b. cond b (Some node) (nodes ip)) (eq-eqb ip ip refl)
+placed-there : (ip : ℕ) (node : Node) (nodes : Nodes) → node_at (placed ip node nodes) ip ≡ Some node
+placed-there ip node nodes = ap (λ b. cond b (Some node) (node_at nodes ip)) (eq-eqb ip ip refl)
 
 abbrev gone : Grandmaster → List (ℕ × Event) → Grandmaster
 gone g taken = record g { past = history_after (gm.opening g) g.past taken }
@@ -38,7 +38,7 @@ heard_node g t from (Err reason) = refl
 heard_node g t from (Ok (DelayReq header)) = refl
 heard_node g t from (Ok (Asks header items)) = refl
 
-pub datagram_goes : (w : World) (command : Command) (d : Handed) (g : Grandmaster) → handed_by w command ≡ Some d → w.nodes d.node ≡ Some (IsGrandmaster g)
+pub datagram_goes : (w : World) (command : Command) (d : Handed) (g : Grandmaster) → handed_by w command ≡ Some d → node_at w.nodes d.node ≡ Some (IsGrandmaster g)
     → GoesOn w command d.node g (events_of_datagram g.config d.at d.from d.octets)
 datagram_goes w command d g handed node = record {
   done = done_by w d.node (datagram_deed (IsGrandmaster g) d.at d.from d.octets);
@@ -46,7 +46,7 @@ datagram_goes w command d g handed node = record {
   node = placed-there d.node _ w.nodes ∙ ap Some (heard_node g d.at d.from (heard_in g.config d.octets));
 }
 
-module _ (w : World) (ip : ℕ) (g : Grandmaster) (node : w.nodes ip ≡ Some (IsGrandmaster g)) where
+module _ (w : World) (ip : ℕ) (g : Grandmaster) (node : node_at w.nodes ip ≡ Some (IsGrandmaster g)) where
   at_it : (deed : Grandmaster → Deed) → ◌≡◌ {A = Result Done Cause} (at_grandmaster w ip deed) (Ok (done_by w ip (deed g)))
   at_it deed = ap (λ o. grandmaster_by o >>= λ x. Ok (done_by w ip (deed x))) node
 
@@ -58,7 +58,7 @@ module _ (w : World) (ip : ℕ) (g : Grandmaster) (node : w.nodes ip ≡ Some (I
   unfolding step
   capacity_goes t capacity = record { done = done_by w ip (gm.capacity_deed g t capacity); step = at_it (λ x. gm.capacity_deed x t capacity); node = placed-there ip _ w.nodes }
 
-  pub class_goes : (class : ℕ) → (done : Done) × (step w (commands.Class ip class) ≡ Ok done) × (done.world.nodes ip ≡ Some (IsGrandmaster (record g { config = record (g.config) { class = class } })))
+  pub class_goes : (class : ℕ) → (done : Done) × (step w (commands.Class ip class) ≡ Ok done) × (node_at done.world.nodes ip ≡ Some (IsGrandmaster (record g { config = record (g.config) { class = class } })))
   unfolding step
   class_goes class = (done_by w ip (gm.class_deed g class), at_it (λ x. gm.class_deed x class), placed-there ip _ w.nodes)
 
@@ -66,15 +66,15 @@ module _ (w : World) (ip : ℕ) (g : Grandmaster) (node : w.nodes ip ≡ Some (I
 
 module _ (w : World) (all : AllStand w.nodes) (a : ℕ) where
   abbrev Stays : World → Type 0
-  Stays v = v.nodes a ≡ w.nodes a
+  Stays v = node_at v.nodes a ≡ node_at w.nodes a
 
   abbrev Left : Done → Type 0
   Left done = Stays done.world
 
-  placed-other : (ip : ℕ) (node : Node) → (Some ip ≡ Some a → ⊥) → placed ip node w.nodes a ≡ w.nodes a
+  placed-other : (ip : ℕ) (node : Node) → (Some ip ≡ Some a → ⊥) → node_at (placed ip node w.nodes) a ≡ node_at w.nodes a
   placed-other ip node ne = by (eqb a ip) refl
     where
-      by : (b : Bool) → eqb a ip ≡ b → cond b (Some node) (w.nodes a) ≡ w.nodes a
+      by : (b : Bool) → eqb a ip ≡ b → cond b (Some node) (node_at w.nodes a) ≡ node_at w.nodes a
       by true e = absurd (ne (ap Some (sym (eqb-true a ip e))))
       by false e = refl
 
@@ -83,7 +83,7 @@ module _ (w : World) (all : AllStand w.nodes) (a : ℕ) where
   quiet_leaves (Err cause) e = tt
 
   set_up_leaves : (ip : ℕ) (node : Node) → (Some ip ≡ Some a → ⊥) → IfOk (quietly (set_up w ip node)) Left
-  set_up_leaves ip node ne = quiet_leaves (set_up w ip node) (by w.has_begun (is_some (w.nodes ip)))
+  set_up_leaves ip node ne = quiet_leaves (set_up w ip node) (by w.has_begun (is_some (node_at w.nodes ip)))
     where
       by : (b c : Bool) → IfOk (cond b (Err causes.Order) (cond c (Err causes.Node) (Ok (record w { nodes = placed ip node w.nodes })))) Stays
       by true c = tt
@@ -105,9 +105,9 @@ module _ (w : World) (all : AllStand w.nodes) (a : ℕ) where
   delivered_leaves t sent None ne = refl
   delivered_leaves t sent (Some node) ne = placed-other sent.to (datagram_deed node t sent.from sent.octets).node ne
 
-  deliver_leaves : (t : ℕ) (o : Option Sent) → (option_map (λ (d : Handed). d.node) (option_map (delivery t) o) ≡ Some a → ⊥) → IfOk (or_cause causes.Number o >>= λ sent. Ok (delivered_to w t sent (w.nodes sent.to))) Left
+  deliver_leaves : (t : ℕ) (o : Option Sent) → (option_map (λ (d : Handed). d.node) (option_map (delivery t) o) ≡ Some a → ⊥) → IfOk (or_cause causes.Number o >>= λ sent. Ok (delivered_to w t sent (node_at w.nodes sent.to))) Left
   deliver_leaves t None ne = tt
-  deliver_leaves t (Some sent) ne = delivered_leaves t sent (w.nodes sent.to) ne
+  deliver_leaves t (Some sent) ne = delivered_leaves t sent (node_at w.nodes sent.to) ne
 
   step_leaves : (command : Command) → (addressed w command ≡ Some a → ⊥) → IfOk (step w command) Left
   unfolding step
@@ -118,7 +118,7 @@ module _ (w : World) (all : AllStand w.nodes) (a : ℕ) where
       by : (b : Bool) → IfOk (cond b (Err causes.Order) (slave_at w slave >>= λ s. quietly (add_master w s ip priority rule))) Left
       by true = tt
       by false = ok_bound Left (slave_at w slave) _ (λ s e. master_leaves s ip priority rule (λ same. ne (ap Some (sym (found_slave w.nodes all slave s e)) ∙ same)))
-  step_leaves (commands.Receive t ip from octets) ne = ok_bound Left (or_cause causes.Node (w.nodes ip)) (λ node. Ok (done_by w ip (datagram_deed node t from octets)))
+  step_leaves (commands.Receive t ip from octets) ne = ok_bound Left (or_cause causes.Node (node_at w.nodes ip)) (λ node. Ok (done_by w ip (datagram_deed node t from octets)))
       (λ node e. placed-other ip (datagram_deed node t from octets).node ne)
   step_leaves (commands.Deliver t number) ne = deliver_leaves t (datagram_numbered number w.sent) ne
   step_leaves (commands.Turn t ip table) ne = ok_bound Left (grandmaster_at w ip) (λ g. Ok (done_by w ip (gm.turn_deed g t table))) (λ g e. placed-other ip (gm.turn_deed g t table).node ne)
@@ -131,5 +131,5 @@ module _ (w : World) (all : AllStand w.nodes) (a : ℕ) where
   step_leaves (commands.Class ip class) ne = ok_bound Left (grandmaster_at w ip) (λ g. Ok (done_by w ip (gm.class_deed g class))) (λ g e. placed-other ip (gm.class_deed g class).node ne)
   step_leaves (commands.Capacity t ip capacity) ne = ok_bound Left (grandmaster_at w ip) (λ g. Ok (done_by w ip (gm.capacity_deed g t capacity))) (λ g e. placed-other ip (gm.capacity_deed g t capacity).node ne)
 
-  pub others_stay : (command : Command) (done : Done) → step w command ≡ Ok done → (addressed w command ≡ Some a → ⊥) → done.world.nodes a ≡ w.nodes a
+  pub others_stay : (command : Command) (done : Done) → step w command ≡ Ok done → (addressed w command ≡ Some a → ⊥) → node_at done.world.nodes a ≡ node_at w.nodes a
   others_stay command done e ne = subst (λ r. IfOk r Left) e (step_leaves command ne)

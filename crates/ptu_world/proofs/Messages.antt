@@ -44,10 +44,10 @@ use Rattle.ptu_script.specs.declared.command.Command.TheVariants as commands
 use Rattle.ptu_report_lines.specs.declared.sent.Sent.{Sent}
 use Rattle.ptu_world.specs.Deeds.{Grandmaster, Slave, Node, IsGrandmaster, IsSlave, Deed}
 use Rattle.ptu_world.specs.Grandmasters as gm
-use Rattle.ptu_world.specs.SlaveNode as slave
+use Rattle.ptu_slave_messages.specs.Node as slave
 use Rattle.ptu_world.specs.Slaves as slaves
 use Rattle.ptu_world.specs.Promises.{message_in, timing_from, timing_to}
-use Rattle.ptu_world.specs.World.{World, Stock, Done, add_master, at_grandmaster, datagram_deed, datagram_numbered, delivered_to, done_by, grandmaster_by, new_grandmaster, new_slave, or_cause, place_in, placed, quietly, sent_from, set_up, slave_at, step, stock_without, with_master}
+use Rattle.ptu_world.specs.World.{World, Stock, Done, add_master, at_grandmaster, datagram_deed, datagram_numbered, delivered_to, done_by, grandmaster_by, new_grandmaster, new_slave, or_cause, place_in, placed, quietly, sent_from, set_up, slave_at, step, stock_without, with_master, node_at, Nodes}
 use Rattle.ptu_world.proofs.Limits.{ok_bound}
 
 abbrev heads : List Departure → List (ℕ × ℕ)
@@ -160,7 +160,7 @@ SentBy ip sent (Some (IsGrandmaster g)) = filter_map (timing_from ip) sent ≡ m
 SentBy ip sent (Some (IsSlave s)) = Unit {0}
 
 abbrev pub AllSent : World → Type 0
-AllSent w = (ip : ℕ) → SentBy ip w.sent (w.nodes ip)
+AllSent w = (ip : ℕ) → SentBy ip w.sent (node_at w.nodes ip)
 
 abbrev pub Fine : Done → Type 0
 Fine done = AllSent done.world
@@ -188,20 +188,20 @@ told_at ip sent g sends (IsGrandmaster new) s t =
     ∙ ap (λ ms. ms ++ heads sends) s ∙ sym t
 told_at ip sent g sends (IsSlave x) s t = absurd t
 
-module _ (nodes : ℕ → Option Node) (sent : List Sent) (all : (ip : ℕ) → SentBy ip sent (nodes ip)) where
+module _ (nodes : Nodes) (sent : List Sent) (all : (ip : ℕ) → SentBy ip sent (node_at nodes ip)) where
   -- more is sent from one address
-  more : (ip : ℕ) (node : Node) (sends : List Departure) → SentBy ip (sent ++ map (sent_from ip) sends) (Some node) → (a : ℕ) → SentBy a (sent ++ map (sent_from ip) sends) (placed ip node nodes a)
+  more : (ip : ℕ) (node : Node) (sends : List Departure) → SentBy ip (sent ++ map (sent_from ip) sends) (Some node) → (a : ℕ) → SentBy a (sent ++ map (sent_from ip) sends) (node_at (placed ip node nodes) a)
   more ip node sends s a = by (eqb a ip) refl
     where
-      by : (b : Bool) → eqb a ip ≡ b → SentBy a (sent ++ map (sent_from ip) sends) (cond b (Some node) (nodes a))
+      by : (b : Bool) → eqb a ip ≡ b → SentBy a (sent ++ map (sent_from ip) sends) (cond b (Some node) (node_at nodes a))
       by true e = subst (λ x. SentBy x (sent ++ map (sent_from ip) sends) (Some node)) (sym (eqb-true a ip e)) s
-      by false e = elsewhere a ip sent sends (nodes a) (ne_eqb ip a (λ same. absurd (let f : eqb a ip ≡ true = eq-eqb a ip (sym same) in cc))) (all a)
+      by false e = elsewhere a ip sent sends (node_at nodes a) (ne_eqb ip a (λ same. absurd (let f : eqb a ip ≡ true = eq-eqb a ip (sym same) in cc))) (all a)
 
   -- one node is another
-  instead : (ip : ℕ) (node : Node) → SentBy ip sent (Some node) → (a : ℕ) → SentBy a sent (placed ip node nodes a)
+  instead : (ip : ℕ) (node : Node) → SentBy ip sent (Some node) → (a : ℕ) → SentBy a sent (node_at (placed ip node nodes) a)
   instead ip node s a = by (eqb a ip) refl
     where
-      by : (b : Bool) → eqb a ip ≡ b → SentBy a sent (cond b (Some node) (nodes a))
+      by : (b : Bool) → eqb a ip ≡ b → SentBy a sent (cond b (Some node) (node_at nodes a))
       by true e = subst (λ x. SentBy x sent (Some node)) (sym (eqb-true a ip e)) s
       by false e = all a
 
@@ -232,12 +232,12 @@ InWorld w = AllSent w
 
 module _ (w : World) (all : AllSent w) where
   set_up_sent : (ip : ℕ) (node : Node) → (filter_map (timing_from ip) w.sent ≡ [] → SentBy ip w.sent (Some node)) → IfOk (quietly (set_up w ip node)) Fine
-  set_up_sent ip node new = ok_bound Fine (set_up w ip node) _ (λ made e. subst (λ r. IfOk r InWorld) e (by w.has_begun (is_some (w.nodes ip)) refl))
+  set_up_sent ip node new = ok_bound Fine (set_up w ip node) _ (λ made e. subst (λ r. IfOk r InWorld) e (by w.has_begun (is_some (node_at w.nodes ip)) refl))
     where
-      by : (a b : Bool) → is_some (w.nodes ip) ≡ b → IfOk (cond a (Err causes.Order) (cond b (Err causes.Node) (Ok (record w { nodes = placed ip node w.nodes })))) InWorld
+      by : (a b : Bool) → is_some (node_at w.nodes ip) ≡ b → IfOk (cond a (Err causes.Order) (cond b (Err causes.Node) (Ok (record w { nodes = placed ip node w.nodes })))) InWorld
       by true b e = tt
       by false true e = tt
-      by false false e = instead w.nodes w.sent all ip node (new (nobody_sent ip w.sent (w.nodes ip) (all ip) e))
+      by false false e = instead w.nodes w.sent all ip node (new (nobody_sent ip w.sent (node_at w.nodes ip) (all ip) e))
 
   abbrev with_stock : Slave → ℕ → ℕ → Rule → Stock → World
   with_stock s ip priority rule stock = record w { nodes = placed s.ip (IsSlave (with_master ip priority rule s)) w.nodes; stock = stock }
@@ -256,8 +256,8 @@ module _ (w : World) (all : AllSent w) where
       (added_sent s ip priority rule (is_some (place_of (s.opened.masters) ip)) (leb 16 (length (s.opened.masters)))))
 
   at_grandmaster_sent : (ip : ℕ) (deed : Grandmaster → Deed) → ((g : Grandmaster) → IsTold g (deed g)) → IfOk (at_grandmaster w ip deed) Fine
-  at_grandmaster_sent ip deed told = ok_bound Fine (grandmaster_by (w.nodes ip)) (λ g. Ok (done_by w ip (deed g)))
-      (λ g e. more w.nodes w.sent all ip (deed g).node (deed g).sends (told_at ip w.sent g (deed g).sends (deed g).node (found_sent ip w.sent g (w.nodes ip) (all ip) e) (told g)))
+  at_grandmaster_sent ip deed told = ok_bound Fine (grandmaster_by (node_at w.nodes ip)) (λ g. Ok (done_by w ip (deed g)))
+      (λ g e. more w.nodes w.sent all ip (deed g).node (deed g).sends (told_at ip w.sent g (deed g).sends (deed g).node (found_sent ip w.sent g (node_at w.nodes ip) (all ip) e) (told g)))
 
   plain_sent : (ip : ℕ) (s : Slave) (t : ℕ) (e : slave_events.SlaveEvent) → AllSent (done_by w ip (slaves.plain_deed s t e)).world
   plain_sent ip s t e = more w.nodes w.sent all ip (slaves.plain_deed s t e).node (slaves.plain_deed s t e).sends tt
@@ -265,8 +265,8 @@ module _ (w : World) (all : AllSent w) where
   given_more : (t ip from : ℕ) (octets : List ℕ) (node : Node) → SentBy ip w.sent (Some node) → AllSent (done_by w ip (datagram_deed node t from octets)).world
   given_more t ip from octets node s = more w.nodes w.sent all ip (datagram_deed node t from octets).node (datagram_deed node t from octets).sends (given_sent ip t from octets node w.sent s)
 
-  delivered_sent : (t : ℕ) (sent : Sent) → Fine (delivered_to w t sent (w.nodes sent.to))
-  delivered_sent t sent = by (w.nodes sent.to) (all sent.to)
+  delivered_sent : (t : ℕ) (sent : Sent) → Fine (delivered_to w t sent (node_at w.nodes sent.to))
+  delivered_sent t sent = by (node_at w.nodes sent.to) (all sent.to)
     where
       by : (o : Option Node) → SentBy sent.to w.sent o → Fine (delivered_to w t sent o)
       by None s = all
@@ -285,8 +285,8 @@ module _ (w : World) (all : AllSent w) where
       by : (b : Bool) → IfOk (cond b (Err causes.Order) (slave_at w slave >>= λ s. quietly (add_master w s ip priority rule))) Fine
       by true = tt
       by false = ok_bound Fine (slave_at w slave) _ (λ s e. master_sent s ip priority rule)
-  step_sent (commands.Receive t ip from octets) = received_sent t ip from octets (w.nodes ip) (all ip)
-  step_sent (commands.Deliver t number) = ok_bound Fine (or_cause causes.Number (datagram_numbered number w.sent)) (λ sent. Ok (delivered_to w t sent (w.nodes sent.to))) (λ sent e. delivered_sent t sent)
+  step_sent (commands.Receive t ip from octets) = received_sent t ip from octets (node_at w.nodes ip) (all ip)
+  step_sent (commands.Deliver t number) = ok_bound Fine (or_cause causes.Number (datagram_numbered number w.sent)) (λ sent. Ok (delivered_to w t sent (node_at w.nodes sent.to))) (λ sent e. delivered_sent t sent)
   step_sent (commands.Turn t ip table) = at_grandmaster_sent ip (λ g. gm.turn_deed g t table) (λ g. turn_told g t table)
   step_sent (commands.Tick t ip) = ok_bound Fine (slave_at w ip) (λ s. Ok (done_by w ip (slaves.plain_deed s t slave_events.Tick))) (λ s e. plain_sent ip s t slave_events.Tick)
   step_sent (commands.Flag t ip master unusable) = ok_bound Fine (slave_at w ip) _ (λ s e. ok_bound Fine (place_in s master)

@@ -12,7 +12,7 @@ use Rattle.ptu_script.specs.declared.command.Command.TheVariants as commands
 use Rattle.ptu_script.specs.Command.{command_of}
 use Rattle.ptu_report_lines.specs.declared.sent.Sent.{Sent}
 use Rattle.ptu_report_lines.specs.declared.statement.Statement.{Statement}
-use Rattle.ptu_world.specs.World.{World, Stock, Done, datagram_numbered, delivered_to, opening, or_cause, step}
+use Rattle.ptu_world.specs.World.{World, Stock, Done, datagram_numbered, delivered_to, opening, or_cause, step, node_at}
 use Rattle.ptu_world.specs.Reached.{Leads, Reaches, done_by_line, said_of}
 use Rattle.ptu_world.specs.Sayings.{IsDelivered, moment_handed, numbered, sent_in}
 use Rattle.ptu_world.proofs.Steps.{AllStand}
@@ -86,13 +86,13 @@ found_number number sent s = by (eqb number 0) refl
     by false f e = subst (λ m. Contains (numbered 1 sent) (m, s)) (positive number (eqb-false number 0 f)) (at_number 1 sent (number - 1) s e)
 
 delivers_by : (w : World) (t number : ℕ) (done : Done) (o : Option Sent) → datagram_numbered number w.sent ≡ o
-    → ◌≡◌ {A = Result Done Cause} (or_cause causes.Number o >>= (λ sent. Ok (delivered_to w t sent (w.nodes sent.to)))) (Ok done)
+    → ◌≡◌ {A = Result Done Cause} (or_cause causes.Number o >>= (λ sent. Ok (delivered_to w t sent (node_at w.nodes sent.to)))) (Ok done)
     → IsDelivered w t number (numbered 1 w.sent) done
 delivers_by w t number done None found e = absurd cc
 delivers_by w t number done (Some sent) found e = record {
   sent = sent;
   numbered = found_number number w.sent sent found;
-  hands = (let same : delivered_to w t sent (w.nodes sent.to) ≡ done = cc in sym same);
+  hands = (let same : delivered_to w t sent (node_at w.nodes sent.to) ≡ done = cc in sym same);
 }
 
 pub delivers : (stock : Stock) (script : List ℕ) (w : World) (r : Reaches stock script w) (t number : ℕ) (done : Done) → step w (commands.Deliver t number) ≡ Ok done

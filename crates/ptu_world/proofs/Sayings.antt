@@ -32,10 +32,10 @@ use Rattle.ptu_report_lines.specs.declared.statement.Statement.{Statement}
 use Rattle.ptu_report_lines.specs.declared.statement.Statement.TheVariants as statements
 use Rattle.ptu_world.specs.Deeds.{Grandmaster, Slave, Node, IsGrandmaster, IsSlave, Deed}
 use Rattle.ptu_world.specs.Grandmasters as gm
-use Rattle.ptu_world.specs.SlaveNode as slave
+use Rattle.ptu_slave_messages.specs.Node as slave
 use Rattle.ptu_world.specs.Slaves as slaves
 use Rattle.ptu_world.specs.Sayings.{IsBestChoice, NamesSelection, is_event, moment_handed, numbered, selected_in, sent_in, slave_of}
-use Rattle.ptu_world.specs.World.{World, Stock, Done, add_master, datagram_deed, datagram_numbered, delivered_to, done_by, grandmaster_at, new_grandmaster, new_slave, or_cause, place_in, placed, quietly, sending_said, sent_from, set_up, slave_at, step, stock_without, with_master}
+use Rattle.ptu_world.specs.World.{World, Stock, Done, add_master, datagram_deed, datagram_numbered, delivered_to, done_by, grandmaster_at, new_grandmaster, new_slave, or_cause, place_in, placed, quietly, sending_said, sent_from, set_up, slave_at, step, stock_without, with_master, node_at}
 use Rattle.ptu_world.specs.Promises.{Handed, handed_by}
 use Rattle.ptu_world.proofs.Deciding.{taken_by}
 use Rattle.ptu_world.proofs.Limits.{ok_bound}
@@ -156,7 +156,7 @@ module _ (w : World) (all : AllStand w.nodes) where
   quiet_says t (Err cause) e = tt
 
   set_up_says : (t ip : ℕ) (node : Node) → IfOk (quietly (set_up w ip node)) (SaysSo t)
-  set_up_says t ip node = quiet_says t (set_up w ip node) (by w.has_begun (is_some (w.nodes ip)))
+  set_up_says t ip node = quiet_says t (set_up w ip node) (by w.has_begun (is_some (node_at w.nodes ip)))
     where
       by : (a b : Bool) → IfOk (cond a (Err causes.Order) (cond b (Err causes.Node) (Ok (record w { nodes = placed ip node w.nodes })))) (λ v. v.sent ≡ w.sent)
       by true b = tt
@@ -187,10 +187,10 @@ module _ (w : World) (all : AllStand w.nodes) where
       by : (b : Bool) → IfOk (cond b (Err causes.Order) (slave_at w slave >>= λ s. quietly (add_master w s ip priority rule))) (SaysSo 0)
       by true = tt
       by false = ok_bound (SaysSo 0) (slave_at w slave) _ (λ s e. master_says 0 s ip priority rule)
-  step_says (commands.Receive t ip from octets) = ok_bound (SaysSo t) (or_cause causes.Node (w.nodes ip)) (λ node. Ok (done_by w ip (datagram_deed node t from octets)))
-      (λ node e. does t ip (datagram_deed node t from octets) (datagram_says ip t from octets node (there causes.Node (w.nodes ip) (StandsAt ip) (all ip) node e)))
-  step_says (commands.Deliver t number) = ok_bound (SaysSo t) (or_cause causes.Number (datagram_numbered number w.sent)) (λ sent. Ok (delivered_to w t sent (w.nodes sent.to)))
-      (λ sent e. delivered_says t sent (w.nodes sent.to) (all sent.to))
+  step_says (commands.Receive t ip from octets) = ok_bound (SaysSo t) (or_cause causes.Node (node_at w.nodes ip)) (λ node. Ok (done_by w ip (datagram_deed node t from octets)))
+      (λ node e. does t ip (datagram_deed node t from octets) (datagram_says ip t from octets node (there causes.Node (node_at w.nodes ip) (StandsAt ip) (all ip) node e)))
+  step_says (commands.Deliver t number) = ok_bound (SaysSo t) (or_cause causes.Number (datagram_numbered number w.sent)) (λ sent. Ok (delivered_to w t sent (node_at w.nodes sent.to)))
+      (λ sent e. delivered_says t sent (node_at w.nodes sent.to) (all sent.to))
   step_says (commands.Turn t ip table) = ok_bound (SaysSo t) (grandmaster_at w ip) (λ g. Ok (done_by w ip (gm.turn_deed g t table))) (λ g e. does t ip (gm.turn_deed g t table) (Quiet refl refl))
   step_says (commands.Tick t ip) = ok_bound (SaysSo t) (slave_at w ip) (λ s. Ok (done_by w ip (slaves.plain_deed s t slave_events.Tick)))
       (λ s e. does t ip (slaves.plain_deed s t slave_events.Tick) (plain_says ip s t slave_events.Tick (found_slave w.nodes all ip s e)))
@@ -251,7 +251,7 @@ step_numbers w t done (Does stock ip deed says is) =
 abbrev chosen : Slave → ℕ → Option ℕ
 chosen s t = option_map (address_of (s.opened.masters)) (slave.node_selection s.opened s.taken t)
 
-pub best_choice : (w : World) (t ip : ℕ) (s : Slave) → w.nodes ip ≡ Some (IsSlave s) → IsBestChoice w t ip (chosen s t)
+pub best_choice : (w : World) (t ip : ℕ) (s : Slave) → node_at w.nodes ip ≡ Some (IsSlave s) → IsBestChoice w t ip (chosen s t)
 best_choice w t ip s node = record {
   slave = s;
   node = node;
@@ -279,7 +279,7 @@ does_best : (w : World) (ip t : ℕ) (deed : Deed) → Says ip t deed → placed
 does_best w ip t deed (Quiet plain none) = none_best (done_by w ip deed).world t (done_by w ip deed).said (behind t deed (length w.sent) (map (sent_from ip) deed.sends) plain ∙ ap (filter_map selected_in) none)
 does_best w ip t deed (Selecting s at plain node added) =
     let v : World = (done_by w ip deed).world in
-    let there : v.nodes ip ≡ Some (IsSlave s) = ap (λ b. cond b (Some deed.node) (w.nodes ip)) (eq-eqb ip ip refl) ∙ ap Some node in
+    let there : node_at v.nodes ip ≡ Some (IsSlave s) = ap (λ b. cond b (Some deed.node) (node_at w.nodes ip)) (eq-eqb ip ip refl) ∙ ap Some node in
     subst (All (λ p. IsBestChoice v t p.0 p.1)) (sym (behind t deed (length w.sent) (map (sent_from ip) deed.sends) plain ∙ ap (filter_map selected_in) added))
     (All-cons (λ p. IsBestChoice v t p.0 p.1) (s.ip, chosen s t) [] (subst (λ a. IsBestChoice v t a (chosen s t)) (sym at) (best_choice v t ip s there)) (All-nil (λ p. IsBestChoice v t p.0 p.1)))
 
@@ -337,7 +337,7 @@ module _ (w : World) (all : AllStand w.nodes) where
   pub event_names : (command : Command) (done : Done) (ip : ℕ) → slave_of command ≡ Some ip → step w command ≡ Ok done → NamesSelection ip done.said
   event_names command done ip of e = subst (λ r. IfOk r (Names ip)) e (event_selects command ip of)
 
-  pub datagram_names : (command : Command) (done : Done) (d : Handed) (s : Slave) → handed_by w command ≡ Some d → w.nodes d.node ≡ Some (IsSlave s)
+  pub datagram_names : (command : Command) (done : Done) (d : Handed) (s : Slave) → handed_by w command ≡ Some d → node_at w.nodes d.node ≡ Some (IsSlave s)
       → is_event (slave.datagram_heard s.opened s.taken d.at d.from d.octets) ≡ true → step w command ≡ Ok done → NamesSelection d.node done.said
   datagram_names command done d s handed node event e =
       let made : step w command ≡ Ok (done_by w d.node (datagram_deed (IsSlave s) d.at d.from d.octets)) = taken_by w command d (IsSlave s) handed node in

@@ -6,7 +6,7 @@ use Rattle.ptu_script.specs.declared.command.Command.{Command}
 use Rattle.ptu_script.specs.Command.{command_of}
 use Rattle.ptu_world.specs.Deeds.{Grandmaster, IsGrandmaster}
 use Rattle.ptu_world.specs.Promises.{AreMessagesSent, IsRun}
-use Rattle.ptu_world.specs.World.{World, Stock, Done, opening, step}
+use Rattle.ptu_world.specs.World.{World, Stock, Done, opening, step, node_at}
 use Rattle.ptu_world.specs.Reached.{Leads, Reaches, done_by_line}
 use Rattle.ptu_world.proofs.Limits.{IsWithin, command_within}
 use Rattle.ptu_world.proofs.Steps.{AllStand, found, step_stands}
@@ -31,10 +31,10 @@ module _ (P : World → Type 0) (keeps : (w : World) (command : Command) → IsW
 pub all_stand : (stock : Stock) (script : List ℕ) (w : World) → Reaches stock script w → AllStand w.nodes
 all_stand stock script w r = reached_keep (λ v. AllStand v.nodes) (λ v command limits all. step_stands v all command limits) stock script w (λ ip. tt) r
 
-pub grandmaster_runs : (stock : Stock) (script : List ℕ) (w : World) (ip : ℕ) (gm : Grandmaster) → Reaches stock script w → w.nodes ip ≡ Some (IsGrandmaster gm) → IsRun ip gm
+pub grandmaster_runs : (stock : Stock) (script : List ℕ) (w : World) (ip : ℕ) (gm : Grandmaster) → Reaches stock script w → node_at w.nodes ip ≡ Some (IsGrandmaster gm) → IsRun ip gm
 grandmaster_runs stock script w ip gm r e = found w.nodes (all_stand stock script w r) ip (IsGrandmaster gm) e
 
-pub messages_sent : (stock : Stock) (script : List ℕ) (w : World) (ip : ℕ) (gm : Grandmaster) → Reaches stock script w → w.nodes ip ≡ Some (IsGrandmaster gm) → AreMessagesSent w ip gm
+pub messages_sent : (stock : Stock) (script : List ℕ) (w : World) (ip : ℕ) (gm : Grandmaster) → Reaches stock script w → node_at w.nodes ip ≡ Some (IsGrandmaster gm) → AreMessagesSent w ip gm
 messages_sent stock script w ip gm r e = subst (λ o. SentBy ip w.sent o) e (reached_keep AllSent (λ v command limits all. step_sent v all command) stock script w (λ a. refl) r ip)
 
 -- each node stands at its address after a line too

@@ -22,10 +22,10 @@ use Rattle.ptu_script.specs.Limits.{IsGrandmasterWithin}
 use Rattle.ptu_report_lines.specs.declared.sent.Sent.{Sent}
 use Rattle.ptu_world.specs.Deeds.{Grandmaster, Slave, Node, IsGrandmaster, IsSlave, Deed}
 use Rattle.ptu_world.specs.Grandmasters as gm
-use Rattle.ptu_world.specs.SlaveNode as slave
+use Rattle.ptu_slave_messages.specs.Node as slave
 use Rattle.ptu_world.specs.Slaves as slaves
 use Rattle.ptu_world.specs.Promises.{IsRun}
-use Rattle.ptu_world.specs.World.{World, Stock, Done, add_master, at_grandmaster, at_slave, datagram_deed, datagram_numbered, delivered_to, done_by, grandmaster_by, new_grandmaster, new_slave, or_cause, place_in, placed, quietly, set_up, slave_at, slave_by, step, stock_without, with_master}
+use Rattle.ptu_world.specs.World.{World, Stock, Done, add_master, at_grandmaster, at_slave, datagram_deed, datagram_numbered, delivered_to, done_by, grandmaster_by, new_grandmaster, new_slave, or_cause, place_in, placed, quietly, set_up, slave_at, slave_by, step, stock_without, with_master, node_at, Nodes}
 use Rattle.ptu_world.proofs.Limits.{IsWithin, ok_bound, ok_either}
 
 -- what is kept of the node at an address
@@ -34,8 +34,8 @@ StandsAt ip (IsGrandmaster gm) = IsRun ip gm
 StandsAt ip (IsSlave s) = s.ip ≡ ip
 
 -- of each node
-abbrev pub AllStand : (ℕ → Option Node) → Type 0
-AllStand nodes = (ip : ℕ) → IfSome (nodes ip) (StandsAt ip)
+abbrev pub AllStand : Nodes → Type 0
+AllStand nodes = (ip : ℕ) → IfSome (node_at nodes ip) (StandsAt ip)
 
 abbrev InWorld : World → Type 0
 InWorld w = AllStand w.nodes
@@ -98,27 +98,27 @@ pub there : {A : Type 0} (cause : Cause) (o : Option A) (P : A → Type 0) → I
 there cause None P h x e = absurd cc
 there cause (Some y) P h x e = subst P (let same : y ≡ x = cc in same) h
 
-module _ (nodes : ℕ → Option Node) (all : AllStand nodes) where
+module _ (nodes : Nodes) (all : AllStand nodes) where
   pub placed_stand : (ip : ℕ) (node : Node) → StandsAt ip node → AllStand (placed ip node nodes)
   placed_stand ip node stands a = by (eqb a ip) refl
     where
-      by : (b : Bool) → eqb a ip ≡ b → IfSome (cond b (Some node) (nodes a)) (StandsAt a)
+      by : (b : Bool) → eqb a ip ≡ b → IfSome (cond b (Some node) (node_at nodes a)) (StandsAt a)
       by true e = subst (λ x. StandsAt x node) (sym (eqb-true a ip e)) stands
       by false e = all a
 
-  pub found : (ip : ℕ) (node : Node) → nodes ip ≡ Some node → StandsAt ip node
+  pub found : (ip : ℕ) (node : Node) → node_at nodes ip ≡ Some node → StandsAt ip node
   found ip node e = subst (λ o. IfSome o (StandsAt ip)) e (all ip)
 
-  found_grandmaster : (ip : ℕ) (g : Grandmaster) → grandmaster_by (nodes ip) ≡ Ok g → IsRun ip g
-  found_grandmaster ip g = by (nodes ip) (all ip)
+  found_grandmaster : (ip : ℕ) (g : Grandmaster) → grandmaster_by (node_at nodes ip) ≡ Ok g → IsRun ip g
+  found_grandmaster ip g = by (node_at nodes ip) (all ip)
     where
       by : (o : Option Node) → IfSome o (StandsAt ip) → grandmaster_by o ≡ Ok g → IsRun ip g
       by None s e = absurd cc
       by (Some (IsSlave x)) s e = absurd cc
       by (Some (IsGrandmaster x)) s e = subst (λ y. IsRun ip y) (let same : x ≡ g = cc in same) s
 
-  pub found_slave : (ip : ℕ) (x : Slave) → slave_by (nodes ip) ≡ Ok x → x.ip ≡ ip
-  found_slave ip x = by (nodes ip) (all ip)
+  pub found_slave : (ip : ℕ) (x : Slave) → slave_by (node_at nodes ip) ≡ Ok x → x.ip ≡ ip
+  found_slave ip x = by (node_at nodes ip) (all ip)
     where
       by : (o : Option Node) → IfSome o (StandsAt ip) → slave_by o ≡ Ok x → x.ip ≡ ip
       by None s e = absurd cc
@@ -128,7 +128,7 @@ module _ (nodes : ℕ → Option Node) (all : AllStand nodes) where
 module _ (w : World) (all : AllStand w.nodes) where
   set_up_stand : (ip : ℕ) (node : Node) → StandsAt ip node → IfOk (quietly (set_up w ip node)) Stand
   set_up_stand ip node stands = ok_bound Stand (set_up w ip node) _ (λ made e. subst (λ r. IfOk r InWorld) e
-      (ok_either InWorld w.has_begun _ _ (λ _. tt) (λ _. ok_either InWorld (is_some (w.nodes ip)) _ _ (λ _. tt) (λ _. placed_stand w.nodes all ip node stands))))
+      (ok_either InWorld w.has_begun _ _ (λ _. tt) (λ _. ok_either InWorld (is_some (node_at w.nodes ip)) _ _ (λ _. tt) (λ _. placed_stand w.nodes all ip node stands))))
 
   abbrev with_stock : Slave → ℕ → ℕ → Rule → Stock → World
   with_stock s ip priority rule stock = record w { nodes = placed s.ip (IsSlave (with_master ip priority rule s)) w.nodes; stock = stock }
@@ -147,15 +147,15 @@ module _ (w : World) (all : AllStand w.nodes) where
       (added s ip priority rule (is_some (place_of (s.opened.masters) ip)) (leb 16 (length (s.opened.masters)))))
 
   at_grandmaster_stand : (ip : ℕ) (deed : Grandmaster → Deed) → ((g : Grandmaster) → IsRun ip g → StandsAt ip (deed g).node) → IfOk (at_grandmaster w ip deed) Stand
-  at_grandmaster_stand ip deed keeps = ok_bound Stand (grandmaster_by (w.nodes ip)) _ (λ g e. placed_stand w.nodes all ip (deed g).node (keeps g (found_grandmaster w.nodes all ip g e)))
+  at_grandmaster_stand ip deed keeps = ok_bound Stand (grandmaster_by (node_at w.nodes ip)) _ (λ g e. placed_stand w.nodes all ip (deed g).node (keeps g (found_grandmaster w.nodes all ip g e)))
 
   at_slave_stand : (ip : ℕ) (deed : Slave → Deed) → ((s : Slave) → s.ip ≡ ip → StandsAt ip (deed s).node) → IfOk (at_slave w ip deed) Stand
-  at_slave_stand ip deed keeps = ok_bound Stand (slave_by (w.nodes ip)) _ (λ s e. placed_stand w.nodes all ip (deed s).node (keeps s (found_slave w.nodes all ip s e)))
+  at_slave_stand ip deed keeps = ok_bound Stand (slave_by (node_at w.nodes ip)) _ (λ s e. placed_stand w.nodes all ip (deed s).node (keeps s (found_slave w.nodes all ip s e)))
 
-  delivered : (t : ℕ) (sent : Sent) → Stand (delivered_to w t sent (w.nodes sent.to))
-  delivered t sent = by (w.nodes sent.to) refl
+  delivered : (t : ℕ) (sent : Sent) → Stand (delivered_to w t sent (node_at w.nodes sent.to))
+  delivered t sent = by (node_at w.nodes sent.to) refl
     where
-      by : (o : Option Node) → w.nodes sent.to ≡ o → Stand (delivered_to w t sent o)
+      by : (o : Option Node) → node_at w.nodes sent.to ≡ o → Stand (delivered_to w t sent o)
       by None e = all
       by (Some node) e = placed_stand w.nodes all sent.to _ (given sent.to t sent.from sent.octets node (found w.nodes all sent.to node e))
 
@@ -168,9 +168,9 @@ module _ (w : World) (all : AllStand w.nodes) where
       by : (b : Bool) → IfOk (cond b (Err causes.Order) (slave_at w slave >>= λ s. quietly (add_master w s ip priority rule))) Stand
       by true = tt
       by false = ok_bound Stand (slave_at w slave) _ (λ s e. master_stand s ip priority rule)
-  step_stands (commands.Receive t ip from octets) limits = ok_bound Stand (or_cause causes.Node (w.nodes ip)) (λ node. Ok (done_by w ip (datagram_deed node t from octets)))
-      (λ node e. placed_stand w.nodes all ip (datagram_deed node t from octets).node (given ip t from octets node (there causes.Node (w.nodes ip) (StandsAt ip) (all ip) node e)))
-  step_stands (commands.Deliver t number) limits = ok_bound Stand (or_cause causes.Number (datagram_numbered number w.sent)) (λ sent. Ok (delivered_to w t sent (w.nodes sent.to)))
+  step_stands (commands.Receive t ip from octets) limits = ok_bound Stand (or_cause causes.Node (node_at w.nodes ip)) (λ node. Ok (done_by w ip (datagram_deed node t from octets)))
+      (λ node e. placed_stand w.nodes all ip (datagram_deed node t from octets).node (given ip t from octets node (there causes.Node (node_at w.nodes ip) (StandsAt ip) (all ip) node e)))
+  step_stands (commands.Deliver t number) limits = ok_bound Stand (or_cause causes.Number (datagram_numbered number w.sent)) (λ sent. Ok (delivered_to w t sent (node_at w.nodes sent.to)))
       (λ sent e. delivered t sent)
   step_stands (commands.Turn t ip table) limits = at_grandmaster_stand ip (λ g. gm.turn_deed g t table) (λ g run. gone_on ip g _ run)
   step_stands (commands.Tick t ip) limits = at_slave_stand ip (λ s. slaves.plain_deed s t slave_events.Tick) (λ s is. is)

@@ -4,7 +4,7 @@ use Rattle.ptu_outside.specs.Departure.{Departure}
 use Rattle.ptu_history.specs.History as history
 use Rattle.ptu_shard.specs.declared.config.GmConfig.{GmConfig}
 use Rattle.ptu_record.specs.Record as entries
-use Rattle.ptu_world.specs.SlaveNode as slave
+use Rattle.ptu_slave_messages.specs.Node as slave
 use Rattle.ptu_report_lines.specs.declared.statement.Statement.{Statement}
 
 -- its address, its configuration with the clockClass as it stands, the capacity that it was opened with, and its history

@@ -1,4 +1,3 @@
-pub mod SlaveNode
 pub mod Deeds
 pub mod Grandmasters
 pub mod Slaves

@@ -31,7 +31,7 @@ use Rattle.ptu_report_lines.specs.declared.statement.Statement.{Statement}
 use Rattle.ptu_report_lines.specs.declared.statement.Statement.TheVariants.{Decided}
 use Rattle.ptu_world.specs.Deeds.{Grandmaster, IsGrandmaster}
 use Rattle.ptu_world.specs.Grandmasters.{opening, verdict_said}
-use Rattle.ptu_world.specs.World.{World, Done, datagram_numbered, sent_from, step}
+use Rattle.ptu_world.specs.World.{World, Done, datagram_numbered, sent_from, step, node_at}
 
 -- ---- capacity, payment and budget
 
@@ -115,7 +115,7 @@ handed_by w _ = None
 pub record GoesOn (w : World) (command : Command) (ip : ℕ) (gm : Grandmaster) (events : List (ℕ × Event)) : Type 0 where
   pub done : Done
   pub step : step w command ≡ Ok done
-  pub node : done.world.nodes ip ≡ Some (IsGrandmaster (record gm { past = history_after (opening gm) gm.past events }))
+  pub node : node_at done.world.nodes ip ≡ Some (IsGrandmaster (record gm { past = history_after (opening gm) gm.past events }))
 
 -- the address of the node that a command sets up, changes or hands something to
 abbrev pub addressed : World → Command → Option ℕ
@@ -145,7 +145,7 @@ pub record Request : Type 0 where
 -- the command hands it to the grandmaster
 pub record IsHanded (w : World) (command : Command) (r : Request) : Type 0 where
   pub handed : handed_by w command ≡ Some r.handed
-  pub node : w.nodes r.handed.node ≡ Some (IsGrandmaster r.gm)
+  pub node : node_at w.nodes r.handed.node ≡ Some (IsGrandmaster r.gm)
   pub heard : heard_in r.gm.config r.handed.octets ≡ Ok (heard.Asks r.header (r.before ++ items.Request r.ask ∷ r.behind))
 
 abbrev pub client : Request → Client
@@ -172,7 +172,7 @@ capacity_then r = capacity_in_force r.gm.capacity (history r)
 pub record IsAnswered (w : World) (command : Command) (r : Request) : Type 0 where
   pub done : Done
   pub step : step w command ≡ Ok done
-  pub kept : done.world.nodes r.handed.node ≡ Some (IsGrandmaster (record (r.gm) { past = history_after (opening r.gm) r.gm.past (events_of_items r.handed.at (client r) (r.before ++ items.Request r.ask ∷ r.behind)) }))
+  pub kept : node_at done.world.nodes r.handed.node ≡ Some (IsGrandmaster (record (r.gm) { past = history_after (opening r.gm) r.gm.past (events_of_items r.handed.at (client r) (r.before ++ items.Request r.ask ∷ r.behind)) }))
   pub said_before : List Statement
   pub said_behind : List Statement
   pub said : done.said ≡ said_before ++ Decided (verdict_said r.ask (moment r) (decision r)) ∷ said_behind

@@ -12,7 +12,7 @@ use Rattle.ptu_report_lines.specs.declared.sent.Sent as sending
 use Rattle.ptu_report_lines.specs.declared.statement.Statement.{Statement}
 use Rattle.ptu_report_lines.specs.declared.statement.Statement.TheVariants.{Sent, Selected}
 use Rattle.ptu_world.specs.Deeds.{Slave, IsSlave}
-use Rattle.ptu_world.specs.World.{World, Done, delivered_to}
+use Rattle.ptu_world.specs.World.{World, Done, delivered_to, node_at}
 
 -- ---- datagrams
 
@@ -31,7 +31,7 @@ numbered number (sent ∷ rest) = (number, sent) ∷ numbered (number + 1) rest
 pub record IsDelivered (w : World) (t number : ℕ) (said : List (ℕ × sending.Sent)) (done : Done) : Type 0 where
   pub sent : sending.Sent
   pub numbered : Contains said (number, sent)
-  pub hands : done ≡ delivered_to w t sent (w.nodes sent.to)
+  pub hands : done ≡ delivered_to w t sent (node_at w.nodes sent.to)
 
 -- ---- selections
 
@@ -73,7 +73,7 @@ NamesSelection ip said = (named : Option ℕ) × (filter_map selected_in said �
 -- its last event, or it is none, and none is eligible (G.8265.1)
 pub record IsBestChoice (w : World) (t ip : ℕ) (named : Option ℕ) : Type 0 where
   pub slave : Slave
-  pub node : w.nodes ip ≡ Some (IsSlave slave)
+  pub node : node_at w.nodes ip ≡ Some (IsSlave slave)
   pub choice : Option ℕ
   pub best : IsSelected (timeouts slave.opened.config) (priorities slave.opened.masters) slave.taken (event_moment slave.taken t) choice
   pub names : named ≡ option_map (address_of slave.opened.masters) choice

@@ -9,7 +9,7 @@ use Rattle.ptu_slave_messages.specs.declared.reason.SlaveReason.TheVariants as i
 use Rattle.ptu_slave_messages.specs.declared.signal.Signal.{Signal}
 use Rattle.ptu_slave_messages.specs.declared.signal.Signal.TheVariants as signals
 use Rattle.ptu_slave_messages.specs.Config.{address_of}
-use Rattle.ptu_world.specs.SlaveNode as slave
+use Rattle.ptu_slave_messages.specs.Node as slave
 use Rattle.ptu_report_lines.specs.declared.hearing.Hearing.TheVariants as hearings
 use Rattle.ptu_report_lines.specs.declared.reason.Reason.{Reason}
 use Rattle.ptu_report_lines.specs.declared.reason.Reason.TheVariants as reasons

@@ -25,16 +25,20 @@ pub record Stock : Type 0 where
   pub flags : ℕ
   pub gaps : ℕ
 
--- the node at each address, the datagrams that were sent, in order, the judges that are left, and whether there was an event
+-- nodes with their addresses, of which those that were placed last stand first
+abbrev pub Nodes : Type 0
+Nodes = List (ℕ × Node)
+
+-- the nodes, the datagrams that were sent, in order, the judges that are left, and whether there was an event
 pub record World : Type 0 where
-  pub nodes : ℕ → Option Node
+  pub nodes : Nodes
   pub sent : List Sent
   pub stock : Stock
   pub has_begun : Bool
 
 -- the world before the first line
 abbrev pub opening : Stock → World
-opening stock = record { nodes = λ ip. None; sent = []; stock = stock; has_begun = false }
+opening stock = record { nodes = []; sent = []; stock = stock; has_begun = false }
 
 -- what a command makes of the world, and what is said of it
 pub record Done : Type 0 where
@@ -43,9 +47,14 @@ pub record Done : Type 0 where
 
 -- ---- nodes, judges and datagrams
 
+-- the node at an address: the one that was placed there last
+abbrev pub node_at : Nodes → ℕ → Option Node
+node_at [] a = None
+node_at ((ip, node) ∷ rest) a = if a == ip then Some node else node_at rest a
+
 -- the nodes with this one at the address
-abbrev pub placed : ℕ → Node → (ℕ → Option Node) → ℕ → Option Node
-placed ip node nodes a = if a == ip then Some node else nodes a
+abbrev pub placed : ℕ → Node → Nodes → Nodes
+placed ip node nodes = (ip, node) ∷ nodes
 
 abbrev pub judges_of : Rule → Stock → ℕ
 judges_of rules.Flag stock = stock.flags
@@ -76,14 +85,14 @@ grandmaster_by (Some (IsGrandmaster found)) = Ok found
 grandmaster_by _ = Err causes.Node
 
 abbrev pub grandmaster_at : World → ℕ → Result Grandmaster Cause
-grandmaster_at w ip = grandmaster_by (w.nodes ip)
+grandmaster_at w ip = grandmaster_by (node_at w.nodes ip)
 
 abbrev pub slave_by : Option Node → Result Slave Cause
 slave_by (Some (IsSlave found)) = Ok found
 slave_by _ = Err causes.Node
 
 abbrev pub slave_at : World → ℕ → Result Slave Cause
-slave_at w ip = slave_by (w.nodes ip)
+slave_at w ip = slave_by (node_at w.nodes ip)
 
 abbrev pub or_cause : {A : Type 0} → Cause → Option A → Result A Cause
 or_cause cause None = Err cause
@@ -147,7 +156,7 @@ with_master ip priority rule s = record s {
 abbrev pub set_up : World → ℕ → Node → Result World Cause
 set_up w ip node =
     if w.has_begun then Err causes.Order
-    else if is_some (w.nodes ip) then Err causes.Node
+    else if is_some (node_at w.nodes ip) then Err causes.Node
     else Ok (record w { nodes = placed ip node w.nodes })
 
 -- another master of a slave, of which it has at most 16
@@ -208,11 +217,11 @@ step w (commands.Master slave ip priority rule) =
       s ← slave_at w slave
       quietly (add_master w s ip priority rule)
 step w (commands.Receive t ip from octets) = do
-  node ← or_cause causes.Node (w.nodes ip)
+  node ← or_cause causes.Node (node_at w.nodes ip)
   Ok (done_by w ip (datagram_deed node t from octets))
 step w (commands.Deliver t number) = do
   sent ← or_cause causes.Number (datagram_numbered number w.sent)
-  Ok (delivered_to w t sent (w.nodes sent.to))
+  Ok (delivered_to w t sent (node_at w.nodes sent.to))
 step w (commands.Turn t ip table) = at_grandmaster w ip (λ found. gm.turn_deed found t table)
 step w (commands.Tick t ip) = at_slave w ip (λ s. slaves.plain_deed s t slave_events.Tick)
 step w (commands.Flag t ip master unusable) = do

@@ -16,9 +16,9 @@ ghost use Rattle.ptu_report_lines.specs.declared.report_line.ReportLine.{ReportL
 ghost use Rattle.ptu_report_lines.specs.declared.statement.Statement.TheVariants.{Bad};
 ghost use Rattle.ptu_world.specs.Deeds.{Grandmaster, Slave, IsGrandmaster, IsSlave};
 ghost use Rattle.ptu_world.specs.Grandmasters as gm;
-ghost use Rattle.ptu_world.specs.World.{World, Stock, Done, opening, step};
+ghost use Rattle.ptu_world.specs.World.{World, Stock, Done, opening, step, node_at};
 ghost use Rattle.ptu_world.specs.Sayings.{IsBestChoice, IsDelivered, NamesSelection, is_event, slave_of, moment_handed, numbered, selected_in, sent_in};
-ghost use Rattle.ptu_world.specs.SlaveNode.{datagram_heard};
+ghost use Rattle.ptu_slave_messages.specs.Node.{datagram_heard};
 ghost use Rattle.ptu_world.specs.Report.{report_lines};
 ghost use Rattle.ptu_world.specs.Facts.{world_of};
 ghost use Rattle.ptu_world.specs.Reached.{Reaches, done_by_line, said_of};
@@ -56,12 +56,12 @@ pub fn reached_worlds()
 /// its own inside a live grant, and the messages up to every moment are within the budget.
 pub fn grandmasters()
     ensures run { (stock : Stock) (script : List ℕ) (w : World) (ip : ℕ) (g : Grandmaster) →
-        Reaches stock script w → w.nodes ip ≡ Some (IsGrandmaster g) → IsRun ip g }
+        Reaches stock script w → node_at w.nodes ip ≡ Some (IsGrandmaster g) → IsRun ip g }
     ensures promises { (stock : Stock) (script : List ℕ) (w : World) (ip : ℕ) (g : Grandmaster) →
-        Reaches stock script w → w.nodes ip ≡ Some (IsGrandmaster g) →
+        Reaches stock script w → node_at w.nodes ip ≡ Some (IsGrandmaster g) →
         KeepsPromises (gm.opening g) g.past }
     ensures messages { (stock : Stock) (script : List ℕ) (w : World) (ip : ℕ) (g : Grandmaster) →
-        Reaches stock script w → w.nodes ip ≡ Some (IsGrandmaster g) → AreMessagesSent w ip g }
+        Reaches stock script w → node_at w.nodes ip ≡ Some (IsGrandmaster g) → AreMessagesSent w ip g }
 {}
 
 /// A grandmaster goes on with the events of each datagram that it is handed, with its turns and
@@ -71,26 +71,26 @@ pub fn events()
     ensures datagram { (stock : Stock) (script : List ℕ) (w : World) (command : Command)
         (d : Handed) (g : Grandmaster) →
         Reaches stock script w → handed_by w command ≡ Some d →
-        w.nodes d.node ≡ Some (IsGrandmaster g) →
+        node_at w.nodes d.node ≡ Some (IsGrandmaster g) →
         GoesOn w command d.node g (events_of_datagram g.config d.at d.from d.octets) }
     ensures turn { (stock : Stock) (script : List ℕ) (w : World) (ip : ℕ) (g : Grandmaster)
         (t table : ℕ) →
-        Reaches stock script w → w.nodes ip ≡ Some (IsGrandmaster g) →
+        Reaches stock script w → node_at w.nodes ip ≡ Some (IsGrandmaster g) →
         GoesOn w (commands.Turn t ip table) ip g ((t, events.Turn table) ∷ []) }
     ensures capacity { (stock : Stock) (script : List ℕ) (w : World) (ip : ℕ) (g : Grandmaster)
         (t capacity : ℕ) →
-        Reaches stock script w → w.nodes ip ≡ Some (IsGrandmaster g) →
+        Reaches stock script w → node_at w.nodes ip ≡ Some (IsGrandmaster g) →
         GoesOn w (commands.Capacity t ip capacity) ip g ((t, events.Resize capacity) ∷ []) }
     ensures class { (stock : Stock) (script : List ℕ) (w : World) (ip : ℕ) (g : Grandmaster)
         (class : ℕ) →
-        Reaches stock script w → w.nodes ip ≡ Some (IsGrandmaster g) →
+        Reaches stock script w → node_at w.nodes ip ≡ Some (IsGrandmaster g) →
         (done : Done) × (step w (commands.Class ip class) ≡ Ok done)
-        × (done.world.nodes ip
+        × (node_at done.world.nodes ip
         ≡ Some (IsGrandmaster (record g { config = record (g.config) { class = class } }))) }
     ensures others { (stock : Stock) (script : List ℕ) (w : World) (command : Command) (done : Done)
         (ip : ℕ) →
         Reaches stock script w → step w command ≡ Ok done → addressed w command ≢ Some ip →
-        done.world.nodes ip ≡ w.nodes ip }
+        node_at done.world.nodes ip ≡ node_at w.nodes ip }
 {}
 
 /// Each REQUEST that a datagram brings to a grandmaster, first or repeated, is decided by the room
@@ -131,7 +131,7 @@ pub fn selections()
     ensures datagram { (stock : Stock) (script : List ℕ) (w : World) (command : Command)
         (done : Done) (d : Handed) (s : Slave) →
         Reaches stock script w → handed_by w command ≡ Some d →
-        w.nodes d.node ≡ Some (IsSlave s) →
+        node_at w.nodes d.node ≡ Some (IsSlave s) →
         is_event (datagram_heard s.opened s.taken d.at d.from d.octets) ≡ true →
         step w command ≡ Ok done → NamesSelection d.node done.said }
 {}
