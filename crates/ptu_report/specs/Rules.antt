@@ -50,6 +50,22 @@ texts_of rules m lines = texts_until rules (closing rules) m 0 lines
 abbrev pub texts_of_lines : {M C : Type 0} → Rules M C → M → List ScriptLine → List (List ℕ)
 texts_of_lines rules m lines = texts_until rules (λ after count. []) m 0 lines
 
+-- the meaning that an outcome leads on to, where it is no refusal
+abbrev pub meaning_at : {M C : Type 0} → Outcome M C → (M → Option M) → Option M
+meaning_at (Refuses cause) later = None
+meaning_at (Goes m texts) later = later m
+
+-- the meaning at the end of the lines that are left, after so many, where none of them is refused
+abbrev pub meaning_after : {M C : Type 0} → Rules M C → M → ℕ → List ScriptLine → Option M
+meaning_after rules m before [] = meaning_at (rules.close m before) Some
+meaning_after rules m before (Refused cause ∷ rest) = None
+meaning_after rules m before (Whole text ∷ rest) =
+    meaning_at (rules.step m (before + 1) text) (λ after. meaning_after rules after (before + 1) rest)
+
+-- the meaning at the end of all lines
+abbrev pub meaning_of : {M C : Type 0} → Rules M C → M → List ScriptLine → Option M
+meaning_of rules m lines = meaning_after rules m 0 lines
+
 -- how it ends at an outcome
 abbrev pub ending_at : {M C : Type 0} → ℕ → Outcome M C → (M → Ending C) → Ending C
 ending_at number (Refuses cause) later = endings.Refused number cause

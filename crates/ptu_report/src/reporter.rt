@@ -20,7 +20,7 @@ pub trait Reporter {
     /// What the program does, over meanings.
     ghost rules: { Rules Self.Meaning Self.Cause };
 
-    /// The state has this meaning. It may have several.
+    /// The state has this meaning. It may have several; one that has none is taken nowhere.
     ghost stands_for: { Self → Self.Meaning → Type 0 };
 
     /// Takes the line with this number, from 1: adds its texts, or answers the cause of its
@@ -32,6 +32,7 @@ pub trait Reporter {
         line: &[u8],
         texts: &mut Texts,
     ) -> Result<Option<Self::Cause>, OutOfMemory>
+        requires means { (meaning : Self.Meaning) × stands_for self.old meaning }
         requires first { 1 ≤ number }
         requires last { number ≤ 67108864 }
         requires short { length line.now ≤ 8192 }
@@ -48,6 +49,7 @@ pub trait Reporter {
         lines: u64,
         texts: &mut Texts,
     ) -> Result<Option<Self::Cause>, OutOfMemory>
+        requires means { (meaning : Self.Meaning) × stands_for self.old meaning }
         requires last { lines ≤ 67108864 }
         requires empty { texts.old ≡ [] }
         ensures { IfOk result (λ refused. (meaning : Self.Meaning) → stands_for self.old meaning

@@ -6,6 +6,7 @@ ghost use Rattle.ptu_units.specs.declared.kind.Kind.TheVariants as kinds;
 ghost use Rattle.ptu_lines.specs.Words.{word_of, int_within, ip_of, clock_of, octets_of};
 ghost use Rattle.ptu_script.specs.Fields.{or_field, field, from_to, log_of_kind, delay_log, rule_named, truth_of};
 ghost use Rattle.ptu_script.specs.Command.{moment_of};
+ghost use Rattle.ptu_script.specs.Limits.{IsNamed};
 
 use crate::cause::Cause;
 use ptu_lines::{clock, ip, log, number, octets, word};
@@ -126,7 +127,8 @@ pub fn delay_log_field(line: &[u8], k: u8) -> Result<Option<Log>, Cause>
 }
 
 fn rule_of(word: &[u8]) -> Option<Rule>
-    ensures { result ≡ rule_named word.now }
+    ensures value { result ≡ rule_named word.now }
+    ensures within { IfSome result IsNamed }
 {
     if word == "flag".as_bytes() {
         Some(Rule::Flag)
@@ -138,14 +140,16 @@ fn rule_of(word: &[u8]) -> Option<Rule>
 }
 
 fn rule_at(line: &[u8], k: u8) -> Option<Rule>
-    ensures { result ≡ option_and_then rule_named (word_of line.now k) }
+    ensures value { result ≡ option_and_then rule_named (word_of line.now k) }
+    ensures within { IfSome result IsNamed }
 {
     rule_of(word(line, usize::from(k))?)
 }
 
 /// The rule of a judge.
 pub fn rule_field(line: &[u8], k: u8) -> Result<Rule, Cause>
-    ensures { result ≡ field k rule_named line.now }
+    ensures value { result ≡ field k rule_named line.now }
+    ensures within { IfOk result IsNamed }
 {
     or_outside(rule_at(line, k), k)
 }

@@ -143,14 +143,14 @@ impl Core {
     }
 
     /// What the slave is set up with.
-    pub(crate) fn config(&self) -> &SlaveConfig
+    pub fn config(&self) -> &SlaveConfig
         ensures { result.now ≡ self.now.config }
     {
         &self.config
     }
 
     /// Its masters.
-    pub(crate) fn masters(&self) -> &[Master]
+    pub fn masters(&self) -> &[Master]
         ensures masters { result.now ≡ self.now.masters }
         ensures few { length result.now ≤ 16 }
     {

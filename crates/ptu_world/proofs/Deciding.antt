@@ -44,7 +44,7 @@ pub taken_by : (w : World) (command : Command) (d : Handed) (node : Node) → ha
 unfolding step
 taken_by w (commands.Receive t ip from octets) d node e n =
     let same : d ≡ record { at = t; node = ip; from = from; octets = octets } = cc in
-    subst (λ x. w.nodes x.node ≡ Some node → or_cause causes.Node (node_at w.nodes ip) >>= (λ y. Ok (done_by w ip (datagram_deed y t from octets))) ≡ Ok (done_by w x.node (datagram_deed node x.at x.from x.octets))) (sym same)
+    subst (λ x. node_at w.nodes x.node ≡ Some node → or_cause causes.Node (node_at w.nodes ip) >>= (λ y. Ok (done_by w ip (datagram_deed y t from octets))) ≡ Ok (done_by w x.node (datagram_deed node x.at x.from x.octets))) (sym same)
     (λ m. ap (λ o. or_cause causes.Node o >>= (λ y. Ok (done_by w ip (datagram_deed y t from octets)))) m) n
 taken_by w (commands.Deliver t number) d node e n = by (datagram_numbered number w.sent) e
   where
@@ -53,7 +53,7 @@ taken_by w (commands.Deliver t number) d node e n = by (datagram_numbered number
     by None e = absurd cc
     by (Some sent) e =
         let same : d ≡ delivery t sent = cc in
-        subst (λ x. w.nodes x.node ≡ Some node → ◌≡◌ {A = Result Done Cause} (Ok (delivered_to w t sent (node_at w.nodes sent.to))) (Ok (done_by w x.node (datagram_deed node x.at x.from x.octets)))) (sym same)
+        subst (λ x. node_at w.nodes x.node ≡ Some node → ◌≡◌ {A = Result Done Cause} (Ok (delivered_to w t sent (node_at w.nodes sent.to))) (Ok (done_by w x.node (datagram_deed node x.at x.from x.octets)))) (sym same)
         (λ m. ap {B = Result Done Cause} (λ o. Ok (delivered_to w t sent o)) m) n
 taken_by w (commands.Grandmaster setup) d node e n = absurd cc
 taken_by w (commands.Slave setup) d node e n = absurd cc

@@ -44,13 +44,21 @@ report stock script = map line_text (report_lines stock script)
 
 -- ---- how many asks it says were granted, and were short
 
+abbrev pub is_granted : Statement → Bool
+is_granted (Decided (decisions.Granted k log x until)) = true
+is_granted _ = false
+
+abbrev pub is_short : Statement → Bool
+is_short (Decided (decisions.Short k log x others rate capacity)) = true
+is_short _ = false
+
 abbrev pub is_granted_line : ReportLine → Bool
-is_granted_line (At number (Decided (decisions.Granted k log x until))) = true
-is_granted_line _ = false
+is_granted_line (At number statement) = is_granted statement
+is_granted_line (End lines datagrams) = false
 
 abbrev pub is_short_line : ReportLine → Bool
-is_short_line (At number (Decided (decisions.Short k log x others rate capacity))) = true
-is_short_line _ = false
+is_short_line (At number statement) = is_short statement
+is_short_line (End lines datagrams) = false
 
 abbrev pub granted_count : List ReportLine → ℕ
 granted_count lines = count_by is_granted_line lines
@@ -60,26 +68,43 @@ short_count lines = count_by is_short_line lines
 
 -- ---- the same as rules of a program over lines
 
+-- a world, and of how many asks it was said on the way to it that they were granted, and that they were short
+pub record Course : Type 0 where
+  pub world : World
+  pub granted : ℕ
+  pub short : ℕ
+
+abbrev pub course_opening : Stock → Course
+course_opening stock = record { world = opening stock; granted = 0; short = 0 }
+
+-- the course with what a command makes of its world
+abbrev pub course_after : Course → Done → Course
+course_after c done = record {
+  world = done.world;
+  granted = c.granted + count_by is_granted done.said;
+  short = c.short + count_by is_short done.said;
+}
+
 -- the text of what is said of the script's line with this number
 abbrev pub text_at : ℕ → Statement → List ℕ
 text_at number statement = line_text (At number statement)
 
 -- what the line with this number is, by what its command makes of the world
-abbrev pub outcome_by : ℕ → Result Done Cause → Outcome World Cause
-outcome_by number (Ok done) = Goes done.world (map (text_at number) done.said)
-outcome_by number (Err cause) = Refuses cause
+abbrev pub outcome_by : Course → ℕ → Result Done Cause → Outcome Course Cause
+outcome_by c number (Ok done) = Goes (course_after c done) (map (text_at number) done.said)
+outcome_by c number (Err cause) = Refuses cause
 
 -- the same by what the line commands
-abbrev pub outcome_by_line : World → ℕ → Result (Option Command) Cause → Outcome World Cause
-outcome_by_line w number (Ok None) = Goes w []
-outcome_by_line w number (Ok (Some command)) = outcome_by number (step w command)
-outcome_by_line w number (Err cause) = Refuses cause
+abbrev pub outcome_by_line : Course → ℕ → Result (Option Command) Cause → Outcome Course Cause
+outcome_by_line c number (Ok None) = Goes c []
+outcome_by_line c number (Ok (Some command)) = outcome_by c number (step c.world command)
+outcome_by_line c number (Err cause) = Refuses cause
 
 -- what a replay does: with each line, at the end, and with a line that is refused
-unfoldable pub rules : Rules World Cause
+unfoldable pub rules : Rules Course Cause
 rules = record {
-  step = λ w number line. outcome_by_line w number (command_of line);
-  close = λ w lines. Goes w (line_text (End lines (length w.sent)) ∷ []);
+  step = λ c number line. outcome_by_line c number (command_of line);
+  close = λ c lines. Goes c (line_text (End lines (length c.world.sent)) ∷ []);
   refusal = λ number cause. text_at number (Bad cause);
   cause_of = cause_of_line;
 }

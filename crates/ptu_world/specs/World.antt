@@ -170,13 +170,17 @@ add_master w s ip priority rule =
 
 -- ---- events
 
--- the world after what the node at the address does, and what is said: of the event, of each datagram, and behind them
+-- what is said of what the node at the address does, where these were sent before: of the event, of each datagram, and behind
+-- them
+abbrev pub said_by : List Sent → ℕ → Deed → List Statement
+said_by sent ip deed = deed.said ++ sending_said (length sent) (map (sent_from ip) deed.sends) ++ deed.added
+
+-- the world after what the node at the address does, and what is said of it
 abbrev pub done_by : World → ℕ → Deed → Done
 done_by w ip deed =
-    let new = map (sent_from ip) deed.sends in
     record {
-      world = record w { nodes = placed ip deed.node w.nodes; sent = w.sent ++ new; has_begun = true };
-      said = deed.said ++ sending_said (length w.sent) new ++ deed.added;
+      world = record w { nodes = placed ip deed.node w.nodes; sent = w.sent ++ map (sent_from ip) deed.sends; has_begun = true };
+      said = said_by w.sent ip deed;
     }
 
 abbrev pub datagram_deed : Node → ℕ → ℕ → List ℕ → Deed

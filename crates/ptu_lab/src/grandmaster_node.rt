@@ -1,0 +1,148 @@
+ghost use Rattle.std.specs.Prelude.{◌≡◌, ◌≤◌, ◌<◌, IfOk, [], ◌∷◌, ◌++◌};
+ghost use Rattle.ptu_admit.specs.Book.{IsCapacity};
+ghost use Rattle.ptu_script.specs.Limits.{IsGrandmasterWithin};
+ghost use Rattle.ptu_world.specs.Deeds.{Grandmaster};
+ghost use Rattle.ptu_world.specs.Grandmasters.{capacity_deed, class_deed, datagram_deed, turn_deed};
+ghost use Rattle.ptu_world.specs.World.{new_grandmaster};
+ghost use Rattle.ptu_lab.specs.Standing.{IsGrandmasterNode, StandsAsGrandmaster};
+ghost use Rattle.ptu_lab.specs.Doing.{HasDone};
+
+use crate::tally::Tally;
+use ptu_grandmaster::Gm;
+use ptu_outside::MemPort;
+use ptu_report::Texts;
+use ptu_report_lines::Sent;
+use ptu_script::GrandmasterSetup;
+use ptu_shard::GmConfig;
+use ptu_header::PortIdentity;
+use ptu_units::{Moment, OutOfMemory};
+use std::alloc::Global;
+
+/// A grandmaster of a script: it stands in the lab with ports in memory, in which nothing stands
+/// between events.
+#[derive(Drop)]
+pub struct GrandmasterNode {
+    /// Its IPv4 address, its first octet the highest.
+    pub ip: u32,
+    /// The grandmaster.
+    pub gm: Gm<MemPort>,
+}
+
+impl GrandmasterNode {
+    /// The grandmaster that a line sets up. Its timescale begins at 0.
+    pub fn new(alloc: Global, setup: &GrandmasterSetup) -> GrandmasterNode
+        requires { IsGrandmasterWithin setup.now }
+        ensures ip { result.ip ≡ setup.now.ip }
+        ensures stands { StandsAsGrandmaster result (new_grandmaster setup.now) }
+    {
+        let config = GmConfig {
+            identity: PortIdentity {
+                clock: setup.clock,
+                port: setup.port,
+            },
+            domain: setup.domain,
+            class: setup.class,
+            max_duration: setup.max_duration,
+            epoch: 0,
+        };
+        let gm = Gm::new(
+            alloc,
+            config,
+            setup.capacity,
+            idle_port(alloc),
+            idle_port(alloc),
+            idle_port(alloc),
+            idle_port(alloc),
+            idle_port(alloc),
+        );
+        GrandmasterNode { ip: setup.ip, gm }
+    }
+
+    /// Takes a datagram that came from this IPv4 address: what it comes to and what is sent is added
+    /// to the texts of the script's line of this number, and what is sent to that which was sent
+    /// before.
+    ///
+    /// # Errors
+    /// `OutOfMemory`, also where room for what it sends was not found.
+    pub fn receive(
+        &mut self,
+        alloc: Global,
+        at: Moment,
+        from: u32,
+        octets: &[u8],
+        line: u64,
+        texts: &mut Texts,
+        sent: &mut Vec<Sent>,
+    ) -> Result<Tally, OutOfMemory>
+        ensures ip { self.new.ip ≡ self.old.ip }
+        ensures done { IfOk result (λ tally. (g : Grandmaster) → IsGrandmasterNode self.old g →
+            HasDone (StandsAsGrandmaster self.new) self.old.ip line
+            (datagram_deed g at from octets.now) sent.old.items sent.new.items texts.old texts.new
+            tally.granted tally.short) }
+    {
+        let _ = (alloc, at, from, octets, line, texts, sent);
+        Err(OutOfMemory)
+    }
+
+    /// A table, from 0 to 3, takes a turn.
+    ///
+    /// # Errors
+    /// `OutOfMemory`, also where room for what it sends was not found.
+    pub fn turn(
+        &mut self,
+        alloc: Global,
+        at: Moment,
+        table: usize,
+        line: u64,
+        texts: &mut Texts,
+        sent: &mut Vec<Sent>,
+    ) -> Result<(), OutOfMemory>
+        requires { table < 4 }
+        ensures ip { self.new.ip ≡ self.old.ip }
+        ensures done { IfOk result (λ _. (g : Grandmaster) → IsGrandmasterNode self.old g →
+            HasDone (StandsAsGrandmaster self.new) self.old.ip line (turn_deed g at table)
+            sent.old.items sent.new.items texts.old texts.new 0 0) }
+    {
+        let _ = (alloc, at, table, line, texts, sent);
+        Err(OutOfMemory)
+    }
+
+    /// Its capacity changes to this many sixteenths of a message per second.
+    ///
+    /// # Errors
+    /// `OutOfMemory`, also where room for what it sends was not found.
+    pub fn set_capacity(
+        &mut self,
+        alloc: Global,
+        at: Moment,
+        capacity: u64,
+        line: u64,
+        texts: &mut Texts,
+        sent: &mut Vec<Sent>,
+    ) -> Result<(), OutOfMemory>
+        requires { IsCapacity capacity }
+        ensures ip { self.new.ip ≡ self.old.ip }
+        ensures done { IfOk result (λ _. (g : Grandmaster) → IsGrandmasterNode self.old g →
+            HasDone (StandsAsGrandmaster self.new) self.old.ip line (capacity_deed g at capacity)
+            sent.old.items sent.new.items texts.old texts.new 0 0) }
+    {
+        let _ = (alloc, at, capacity, line, texts, sent);
+        Err(OutOfMemory)
+    }
+
+    /// Its clockClass changes. Nothing is said of it.
+    pub fn set_class(&mut self, class: u8)
+        ensures ip { self.new.ip ≡ self.old.ip }
+        ensures done { (g : Grandmaster) → IsGrandmasterNode self.old g →
+            StandsAsGrandmaster self.new (class_deed g class).node }
+    {
+        self.gm.set_class(class);
+    }
+}
+
+// A port in memory, at which nothing waits and no call is to fail.
+fn idle_port(alloc: Global) -> MemPort
+    ensures { result.sent ≡ [] }
+{
+    MemPort::new(alloc, Vec::new(alloc), Vec::new(alloc), Vec::new(alloc))
+}
