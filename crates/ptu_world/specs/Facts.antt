@@ -10,6 +10,7 @@ use Rattle.ptu_script.specs.declared.cause.Cause.{Cause}
 use Rattle.ptu_script.specs.declared.command.Command.{Command}
 use Rattle.ptu_script.specs.Command.{command_of}
 use Rattle.ptu_world.specs.World.{World, Stock, Done, opening, step}
+use Rattle.ptu_world.specs.Report.{Course, granted_count, report_lines, short_count}
 
 -- the world that a command leads on to; where it is refused, that before it
 abbrev pub world_by : World → Result Done Cause → (World → World) → World
@@ -37,3 +38,9 @@ world_of stock script = world_after (opening stock) (script_lines script)
 abbrev pub EndsBy : Ending Cause → World → List ReportLine → Type 0
 EndsBy (endings.Whole lines) w report = (front : List ReportLine) × (report ≡ front ++ End lines (length w.sent) ∷ [])
 EndsBy (endings.Refused number cause) w report = (front : List ReportLine) × (report ≡ front ++ At number (Bad cause) ∷ [])
+
+-- at the end of a script the course has the world, and the counts of the report
+pub record AreCounted (stock : Stock) (script : List ℕ) (c : Course) : Type 0 where
+  pub world : c.world ≡ world_of stock script
+  pub granted : c.granted ≡ granted_count (report_lines stock script)
+  pub short : c.short ≡ short_count (report_lines stock script)
