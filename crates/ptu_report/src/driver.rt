@@ -94,6 +94,7 @@ fn one_line<R: Reporter, S: Source, K: Sink>(
     sink: &mut K,
     texts: &mut Texts,
 ) -> Result<Option<Ending<R::Cause>>, Stop>
+    requires means { (meaning : R.Meaning) × R.stands_for reporter.old meaning }
     requires lines { reader.old.number ≡ lines }
     requires few { lines ≤ 67108864 }
     requires in_step { AgreesOnEnd reader.old.is_ended (S.left source.old) }
@@ -162,6 +163,7 @@ pub fn report<R: Reporter, S: Source, K: Sink>(
     source: &mut S,
     sink: &mut K,
 ) -> Result<Ending<R::Cause>, Stop>
+    requires means { (meaning : R.Meaning) × R.stands_for reporter.old meaning }
     // The whole output was put, and the answer says how it ends.
     ensures whole { IfOk result (λ ending. (meaning : R.Meaning) → R.stands_for reporter.old meaning
         → (input : List ℕ) → S.left source.old ≡ Some input

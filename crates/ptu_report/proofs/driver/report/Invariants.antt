@@ -6,6 +6,7 @@ use Rattle.ptu_report.proofs.driver.report.Given as goal
 abbrev pub invariant-lines : goal.invariant-lines
 invariant-lines g l = record {
   number : l.reader.number ≡ l.lines;
+  means : (m : _) × g.R.Reporter.stands_for l.reporter m;
   few : l.lines ≤ 67108864;
   in_step : AgreesOnEnd l.reader.is_ended (g.S.Source.left l.source);
   source_still : g.S.Source.faults l.source ≡ g.S.Source.faults l.initial.source;
