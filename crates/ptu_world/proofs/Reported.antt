@@ -1,7 +1,8 @@
 -- The report is what the driver makes of the rules, it ends as the driver says, and its counts are those of the course.
 use Rattle.std.proofs.Common.{◌≡◌, ℕ, ◌+◌, List, [], ◌∷◌, ◌++◌, Option, Some, None, IfSome, Result, Ok, Err, refl, sym, ◌∙◌, ap, append_assoc, arith}
-use Rattle.std.specs.Prelude.{map}
+use Rattle.std.specs.Prelude.{map, if◌then◌else◌}
 use Rattle.std.specs.List.{count_by}
+use Rattle.std.proofs.lemmas.List.Sums.{sum_by-cons}
 use Rattle.ptu_lines.specs.Script.{ScriptLine, Whole, Refused, script_lines}
 use Rattle.ptu_report.specs.Rules.{closing, ending_after, ending_at, meaning_after, meaning_at, meaning_of, texts_at, texts_until, texts_of, ending_of}
 use Rattle.ptu_report.specs.declared.ending.Ending.{Ending}
@@ -14,7 +15,7 @@ use Rattle.ptu_report_lines.specs.declared.report_line.ReportLine.TheVariants.{A
 use Rattle.ptu_report_lines.specs.declared.statement.Statement.{Statement}
 use Rattle.ptu_report_lines.specs.Report.{line_text}
 use Rattle.ptu_world.specs.World.{World, Stock, Done, opening, step}
-use Rattle.ptu_world.specs.Report.{Course, course_after, course_opening, granted_count, is_granted, is_short, lines_by, lines_by_line, lines_from, outcome_by, outcome_by_line, report, report_lines, rules, short_count, text_at}
+use Rattle.ptu_world.specs.Report.{Course, course_after, course_opening, granted_count, is_granted, is_granted_line, is_short, is_short_line, lines_by, lines_by_line, lines_from, outcome_by, outcome_by_line, report, report_lines, rules, short_count, text_at}
 use Rattle.ptu_world.specs.Facts.{AreCounted, EndsBy, world_after, world_by, world_by_line, world_of}
 
 -- ---- the texts
@@ -78,11 +79,19 @@ ends_of_rules stock script = ends_from (script_lines script) (course_opening sto
 
 granted_said : (number : ℕ) (said : List Statement) (more : List ReportLine) → granted_count (map (At number) said ++ more) ≡ count_by is_granted said + granted_count more
 granted_said number [] more = omega arith
-granted_said number (s ∷ said) more = let rest = granted_said number said more in omega (arith, rest)
+granted_said number (s ∷ said) more =
+    let rest = granted_said number said more in
+    let own : count_by is_granted (s ∷ said) ≡ (if is_granted s then 1 else 0) + count_by is_granted said = sum_by-cons (λ x. if is_granted x then 1 else 0) s said in
+    let all : granted_count (map (At number) (s ∷ said) ++ more) ≡ (if is_granted s then 1 else 0) + granted_count (map (At number) said ++ more) = sum_by-cons (λ x. if is_granted_line x then 1 else 0) (At number s) (map (At number) said ++ more) in
+    omega (arith, rest, own, all)
 
 short_said : (number : ℕ) (said : List Statement) (more : List ReportLine) → short_count (map (At number) said ++ more) ≡ count_by is_short said + short_count more
 short_said number [] more = omega arith
-short_said number (s ∷ said) more = let rest = short_said number said more in omega (arith, rest)
+short_said number (s ∷ said) more =
+    let rest = short_said number said more in
+    let own : count_by is_short (s ∷ said) ≡ (if is_short s then 1 else 0) + count_by is_short said = sum_by-cons (λ x. if is_short x then 1 else 0) s said in
+    let all : short_count (map (At number) (s ∷ said) ++ more) ≡ (if is_short s then 1 else 0) + short_count (map (At number) said ++ more) = sum_by-cons (λ x. if is_short_line x then 1 else 0) (At number s) (map (At number) said ++ more) in
+    omega (arith, rest, own, all)
 
 -- the course comes to this from another, over these lines of the report
 abbrev Comes : Option Course → Course → World → List ReportLine → Type 0
