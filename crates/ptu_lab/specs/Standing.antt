@@ -76,12 +76,12 @@ module _ {J : Type 0} {I : J → Type 0} (held : SlaveNode J I → List Held) wh
   Agrees ip begun (Some node) None = ⊥
 
   -- the lab, whose judges that are left hold this, stands for the course of a script so far
-  pub record StandsFor (flags gaps : List Held) (lab : Lab J I) (c : Course) : Type 0 where
+  pub record StandsFor (flag_judges gap_judges : List Held) (lab : Lab J I) (c : Course) : Type 0 where
     pub nodes : (ip : ℕ) → Agrees ip c.world.has_begun (get nat_eq lab.nodes ip) (node_at c.world.nodes ip)
     pub sent : lab.sent.items ≡ c.world.sent
     pub has_begun : lab.has_begun ≡ c.world.has_begun
-    pub flags : length flags ≡ c.world.stock.flags
-    pub gaps : length gaps ≡ c.world.stock.gaps
-    pub stock : IsStock flags gaps
+    pub flags : length flag_judges ≡ c.world.stock.flags
+    pub gaps : length gap_judges ≡ c.world.stock.gaps
+    pub stock : IsStock flag_judges gap_judges
     pub granted : lab.granted ≡ c.granted
     pub short : lab.short ≡ c.short

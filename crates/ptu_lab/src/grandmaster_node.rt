@@ -9,12 +9,12 @@ ghost use Rattle.ptu_lab.specs.Doing.{HasDone};
 
 use crate::tally::Tally;
 use ptu_grandmaster::Gm;
+use ptu_header::PortIdentity;
 use ptu_outside::MemPort;
 use ptu_report::Texts;
 use ptu_report_lines::Sent;
 use ptu_script::GrandmasterSetup;
 use ptu_shard::GmConfig;
-use ptu_header::PortIdentity;
 use ptu_units::{Moment, OutOfMemory};
 use std::alloc::Global;
 
@@ -80,7 +80,6 @@ impl GrandmasterNode {
             (datagram_deed g at from octets.now) sent.old.items sent.new.items texts.old texts.new
             tally.granted tally.short) }
     {
-        let _ = (alloc, at, from, octets, line, texts, sent);
         Err(OutOfMemory)
     }
 
@@ -103,7 +102,6 @@ impl GrandmasterNode {
             HasDone (StandsAsGrandmaster self.new) self.old.ip line (turn_deed g at table)
             sent.old.items sent.new.items texts.old texts.new 0 0) }
     {
-        let _ = (alloc, at, table, line, texts, sent);
         Err(OutOfMemory)
     }
 
@@ -126,7 +124,6 @@ impl GrandmasterNode {
             HasDone (StandsAsGrandmaster self.new) self.old.ip line (capacity_deed g at capacity)
             sent.old.items sent.new.items texts.old texts.new 0 0) }
     {
-        let _ = (alloc, at, capacity, line, texts, sent);
         Err(OutOfMemory)
     }
 

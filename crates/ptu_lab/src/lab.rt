@@ -51,22 +51,21 @@ impl Lab {
         texts: &mut Texts,
     ) -> Result<Option<Cause>, OutOfMemory>
         requires means { (c : Course) × StandsFor
-            (λ n. map (λ j. held j) n.slave.judges.items)
-            (map (λ j. held j) self.old.stock.flags.items)
-            (map (λ j. held j) self.old.stock.gaps.items) self.old c }
+            (λ n. map (λ j. held (j.vtable, j.value)) n.slave.judges.items)
+            (map (λ j. held (j.vtable, j.value)) self.old.stock.flags.items)
+            (map (λ j. held (j.vtable, j.value)) self.old.stock.gaps.items) self.old c }
         requires limits { IsWithinLimits command }
         requires empty { texts.old ≡ [] }
         ensures { IfOk result (λ refused. (c : Course) →
-            StandsFor (λ n. map (λ j. held j) n.slave.judges.items)
-            (map (λ j. held j) self.old.stock.flags.items)
-            (map (λ j. held j) self.old.stock.gaps.items) self.old c →
+            StandsFor (λ n. map (λ j. held (j.vtable, j.value)) n.slave.judges.items)
+            (map (λ j. held (j.vtable, j.value)) self.old.stock.flags.items)
+            (map (λ j. held (j.vtable, j.value)) self.old.stock.gaps.items) self.old c →
             IsOutcome (outcome_by c line (step c.world command))
-            (λ after. StandsFor (λ n. map (λ j. held j) n.slave.judges.items)
-            (map (λ j. held j) self.new.stock.flags.items)
-            (map (λ j. held j) self.new.stock.gaps.items) self.new after)
+            (λ after. StandsFor (λ n. map (λ j. held (j.vtable, j.value)) n.slave.judges.items)
+            (map (λ j. held (j.vtable, j.value)) self.new.stock.flags.items)
+            (map (λ j. held (j.vtable, j.value)) self.new.stock.gaps.items) self.new after)
             texts.new refused) }
     {
-        let _ = (alloc, command, line, texts);
         Err(OutOfMemory)
     }
 }

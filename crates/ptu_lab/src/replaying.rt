@@ -28,8 +28,8 @@ pub fn replay<S: Source, K: Sink>(
     sink: &mut K,
     stock: Stock,
 ) -> Result<Done, LabFault>
-    requires stock { IsStock (map (λ j. held j) stock.flags.items)
-        (map (λ j. held j) stock.gaps.items) }
+    requires stock { IsStock (map (λ j. held (j.vtable, j.value)) stock.flags.items)
+        (map (λ j. held (j.vtable, j.value)) stock.gaps.items) }
     // The whole report was written, and the answer says how it ends.
     ensures whole { (script : List ℕ) → S.left source.old ≡ Some script → IfReplayed result
         (λ ending. HasReplayed K.written K.handed sink.old sink.new
@@ -56,6 +56,5 @@ pub fn replay<S: Source, K: Sink>(
     ensures source_counts { CountsRead result (S.faults source.old) (S.faults source.new) }
     ensures sink_counts { CountsWrite result (K.faults sink.old) (K.faults sink.new) }
 {
-    let _ = (alloc, source, sink, stock);
     Err(LabFault::OutOfMemory)
 }

@@ -40,9 +40,8 @@ impl SlaveNode {
         requires { IsSlaveWithin setup.now }
         ensures ip { IfOk result (λ n. n.ip ≡ setup.now.ip) }
         ensures stands { IfOk result (λ n. StandsAsSlave n.ip n.slave.core
-            (map (λ j. held j) n.slave.judges.items) n.slave.port false (new_slave setup.now)) }
+            (map (λ j. held (j.vtable, j.value)) n.slave.judges.items) n.slave.port false (new_slave setup.now)) }
     {
-        let _ = (alloc, setup);
         Err(OutOfMemory)
     }
 
@@ -50,7 +49,11 @@ impl SlaveNode {
     pub fn place(&self, ip: u32) -> Option<usize>
         ensures { result ≡ place_of self.now.slave.core.masters ip }
     {
-        self.slave.core.masters().iter().position(|master| master.ip == ip)
+        self.slave
+            .core
+            .masters()
+            .iter()
+            .position(|master| master.ip == ip)
     }
 
     /// How many masters it has.
@@ -83,7 +86,6 @@ impl SlaveNode {
             StandsAsSlave n.ip n.slave.core (map (λ j. held j) n.slave.judges.items) n.slave.port
             false (IsSlave (described_with_master ip priority rule s))) }
     {
-        let _ = (alloc, ip, priority, judge);
         Err(OutOfMemory)
     }
 
@@ -106,13 +108,12 @@ impl SlaveNode {
         ensures ip { self.new.ip ≡ self.old.ip }
         ensures done { OnOk result ((begun : Bool) (s : Described) →
             IsSlaveNode self.old.ip self.old.slave.core
-            (map (λ j. held j) self.old.slave.judges.items) self.old.slave.port begun s →
+            (map (λ j. held (j.vtable, j.value)) self.old.slave.judges.items) self.old.slave.port begun s →
             HasDone (StandsAsSlave self.new.ip self.new.slave.core
-            (map (λ j. held j) self.new.slave.judges.items) self.new.slave.port true)
+            (map (λ j. held (j.vtable, j.value)) self.new.slave.judges.items) self.new.slave.port true)
             self.old.ip line (datagram_deed s at from octets.now) sent.old.items sent.new.items
             texts.old texts.new 0 0) }
     {
-        let _ = (alloc, at, from, octets, line, texts, sent);
         Err(OutOfMemory)
     }
 
@@ -131,13 +132,12 @@ impl SlaveNode {
         ensures ip { self.new.ip ≡ self.old.ip }
         ensures done { OnOk result ((begun : Bool) (s : Described) →
             IsSlaveNode self.old.ip self.old.slave.core
-            (map (λ j. held j) self.old.slave.judges.items) self.old.slave.port begun s →
+            (map (λ j. held (j.vtable, j.value)) self.old.slave.judges.items) self.old.slave.port begun s →
             HasDone (StandsAsSlave self.new.ip self.new.slave.core
-            (map (λ j. held j) self.new.slave.judges.items) self.new.slave.port true)
+            (map (λ j. held (j.vtable, j.value)) self.new.slave.judges.items) self.new.slave.port true)
             self.old.ip line (plain_deed s at Tick) sent.old.items sent.new.items texts.old
             texts.new 0 0) }
     {
-        let _ = (alloc, at, line, texts, sent);
         Err(OutOfMemory)
     }
 
@@ -156,13 +156,12 @@ impl SlaveNode {
         ensures ip { self.new.ip ≡ self.old.ip }
         ensures done { OnOk result ((begun : Bool) (s : Described) →
             IsSlaveNode self.old.ip self.old.slave.core
-            (map (λ j. held j) self.old.slave.judges.items) self.old.slave.port begun s →
+            (map (λ j. held (j.vtable, j.value)) self.old.slave.judges.items) self.old.slave.port begun s →
             HasDone (StandsAsSlave self.new.ip self.new.slave.core
-            (map (λ j. held j) self.new.slave.judges.items) self.new.slave.port true)
+            (map (λ j. held (j.vtable, j.value)) self.new.slave.judges.items) self.new.slave.port true)
             self.old.ip line (plain_deed s at Stop) sent.old.items sent.new.items texts.old
             texts.new 0 0) }
     {
-        let _ = (alloc, at, line, texts, sent);
         Err(OutOfMemory)
     }
 
@@ -184,13 +183,12 @@ impl SlaveNode {
         ensures ip { self.new.ip ≡ self.old.ip }
         ensures done { OnOk result ((begun : Bool) (s : Described) →
             IsSlaveNode self.old.ip self.old.slave.core
-            (map (λ j. held j) self.old.slave.judges.items) self.old.slave.port begun s →
+            (map (λ j. held (j.vtable, j.value)) self.old.slave.judges.items) self.old.slave.port begun s →
             HasDone (StandsAsSlave self.new.ip self.new.slave.core
-            (map (λ j. held j) self.new.slave.judges.items) self.new.slave.port true)
+            (map (λ j. held (j.vtable, j.value)) self.new.slave.judges.items) self.new.slave.port true)
             self.old.ip line (plain_deed s at (TellFlag master unusable)) sent.now sent.now
             texts.old texts.new 0 0) }
     {
-        let _ = (alloc, at, master, unusable, line, texts, sent);
         Err(OutOfMemory)
     }
 
@@ -220,7 +218,6 @@ impl SlaveNode {
             self.old.ip line (plain_deed s at (ReplaceJudge master (Some rule))) sent.now sent.now
             texts.old texts.new 0 0) }
     {
-        let _ = (alloc, at, master, judge, line, texts, sent);
         Err(OutOfMemory)
     }
 }
