@@ -1,9 +1,10 @@
 -- The command line, and what its words ask for.
-use Rattle.std.specs.Prelude.{◌≢◌, true, if◌then◌else◌, List, [], ◌∷◌, codes, Option, Some, None, option_and_then}
+use Rattle.std.specs.Prelude.{◌≢◌, ◌⊎◌, Bool, true, false, not, ◌&&◌, is_some, IsTrue, if◌then◌else◌, List, [], ◌∷◌, codes, Option, Some, None, option_and_then, option_map}
 use Rattle.std.specs.Str.{bytes_eq}
-use Rattle.clap.specs.Words.{App, Kinds, Row, Text, fault_of, new_app, subcommand_of, with_subcommand}
+use Rattle.clap.specs.Words.{App, Kinds, Row, Text, fault_of, first_of, new_app, new_rule, subcommand_of, with_rule, with_subcommand}
+use Rattle.ptu_lines.specs.Words.{number_within}
 use Rattle.ptu_words.specs.declared.command.Command.{Command}
-use Rattle.ptu_words.specs.declared.command.Command.TheVariants.{Replay, Show}
+use Rattle.ptu_words.specs.declared.command.Command.TheVariants.{Replay, Show, Load}
 
 -- the program, whose words begin behind its name, with a required subcommand
 abbrev pub program : App
@@ -12,25 +13,45 @@ program =
       top = record (new_app (codes "ptpuni")).top { no_binary_name = true; subcommand_required = true; disable_help_subcommand = true };
     }
 
--- its command line: a subcommand for each command, without arguments
-abbrev pub command_line : App
-command_line = with_subcommand (with_subcommand program (new_app (codes "replay")).top) (new_app (codes "show")).top
+-- `load` has one value, which is required
+abbrev pub load_line : App
+load_line = with_rule (new_app (codes "load")) (record (new_rule (codes "N")) { required = true })
 
--- the command of a name
-abbrev pub command_named : Text → Option Command
-command_named name =
+-- its command line: a subcommand for each command, without further arguments
+abbrev pub command_line : App
+command_line =
+    with_subcommand (with_subcommand (with_subcommand program (new_app (codes "replay")).top) (new_app (codes "show")).top) load_line.top
+
+-- a load of the number that the value writes, from 1 to 2000
+abbrev pub load_of : Option Text → Option Command
+load_of None = None
+load_of (Some value) = option_map Load (number_within value 1 2000)
+
+-- the command of a name, with this value
+abbrev pub command_named : Text → Option Text → Option Command
+command_named name value =
     if bytes_eq name (codes "replay") then Some Replay
     else if bytes_eq name (codes "show") then Some Show
+    else if bytes_eq name (codes "load") then load_of value
     else None
 
+-- that of a subcommand with these arguments
+abbrev pub command_by : Text × List Row → Option Command
+command_by (name, rows) = command_named name (first_of (codes "N") rows)
+
 abbrev pub command_after : Kinds → Option (Text × List Row) → Option Command
-command_after [] subcommand = option_and_then (λ (name, rows). command_named name) subcommand
+command_after [] subcommand = option_and_then command_by subcommand
 command_after (fault ∷ faults) subcommand = None
 
 -- the command that the words ask for, where the command line matches them
 unfoldable pub command_of : List Text → Option Command
 command_of words = command_after (fault_of command_line words) (subcommand_of command_line words)
 
--- the command line does not match the words
+-- a load of no number in the range
+abbrev pub is_out_of_range : Option (Text × List Row) → Bool
+is_out_of_range None = false
+is_out_of_range (Some (name, rows)) = bytes_eq name (codes "load") && not (is_some (load_of (first_of (codes "N") rows)))
+
+-- the command line does not match the words, or it does, and they ask for a load of no number in the range
 abbrev pub IsRefused : List Text → Type 0
-IsRefused words = fault_of command_line words ≢ []
+IsRefused words = (fault_of command_line words ≢ []) ⊎ IsTrue (is_out_of_range (subcommand_of command_line words))

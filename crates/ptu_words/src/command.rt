@@ -1,5 +1,7 @@
-ghost use Rattle.std.specs.Prelude.{◌≡◌};
-ghost use Rattle.ptu_words.specs.CommandLine.{command_named};
+ghost use Rattle.std.specs.Prelude.{◌≡◌, option_map};
+ghost use Rattle.ptu_words.specs.CommandLine.{command_named, load_of};
+
+use ptu_lines::number;
 
 /// What the words ask the program for.
 #[derive(Clone, Copy, Debug, PartialEq, Eq, Hash)]
@@ -8,17 +10,29 @@ pub enum Command {
     Replay,
     /// Decode datagrams.
     Show,
+    /// Make and replay a load of so many clients, from 1 to 2000.
+    Load(u64),
+}
+
+// A load of the number that the value writes.
+fn load(value: Option<&str>) -> Option<Command>
+    ensures { result ≡ load_of (option_map (λ v. v.now) value.entry) }
+{
+    let number = number(value?.as_bytes(), 1, 2000)?;
+    Some(Command::Load(number))
 }
 
 impl Command {
-    /// The command of this name.
-    pub fn named(name: &str) -> Option<Command>
-        ensures { result ≡ command_named name.now }
+    /// The command of this name, with this value where it has one.
+    pub fn named(name: &str, value: Option<&str>) -> Option<Command>
+        ensures { result ≡ command_named name.now (option_map (λ v. v.now) value.entry) }
     {
         if name == "replay" {
             Some(Command::Replay)
         } else if name == "show" {
             Some(Command::Show)
+        } else if name == "load" {
+            load(value)
         } else {
             None
         }

@@ -1,8 +1,9 @@
 ghost use Rattle.std.specs.Prelude.{◌≡◌, ◌≢◌, IfOk, map, option_and_then};
-ghost use Rattle.clap.specs.Words.{app_of, subcommand_name_of};
-ghost use Rattle.ptu_words.specs.CommandLine.{command_line, command_named, command_of};
+ghost use Rattle.clap.specs.Words.{app_of, subcommand_rows_of};
+ghost use Rattle.ptu_words.specs.CommandLine.{command_by, command_line, command_of};
 
 use crate::command::Command;
+use clap::Arg;
 use clap::error::ErrorKind;
 use ptu_units::OutOfMemory;
 use std::alloc::{AllocError, Global};
@@ -13,19 +14,23 @@ fn whole_line<'a>(alloc: Global) -> Result<clap::Command<'a>, AllocError>
 {
     let replay = clap::Command::new(alloc, "replay");
     let show = clap::Command::new(alloc, "show");
+    let number = Arg::new(alloc, "N").required(true);
+    let load = clap::Command::new(alloc, "load").arg(number)?;
     let program = clap::Command::new(alloc, "ptpuni")
         .no_binary_name(true)
         .subcommand_required(true)
         .disable_help_subcommand(true);
     let line = program.subcommand(replay)?;
-    line.subcommand(show)
+    let line = line.subcommand(show)?;
+    line.subcommand(load)
 }
 
 // What matches ask for.
 fn command_in(matches: &clap::ArgMatches) -> Option<Command>
-    ensures { result ≡ option_and_then command_named (subcommand_name_of matches.now) }
+    ensures { result ≡ option_and_then command_by (subcommand_rows_of matches.now) }
 {
-    Command::named(matches.subcommand_name()?)
+    let (name, found) = matches.subcommand()?;
+    Command::named(name, found.get_str("N"))
 }
 
 // What words ask for that are refused: nothing.

@@ -7,6 +7,8 @@ fn words_are_read(rt: HostRuntime) -> Result<(), OutOfMemory> {
     for (words, wanted) in [
         (["replay"].as_slice(), Some(Command::Replay)),
         (["show"].as_slice(), Some(Command::Show)),
+        (["load", "5"].as_slice(), Some(Command::Load(5))),
+        (["load", "2001"].as_slice(), None),
         (["show", "x"].as_slice(), None),
         (["help"].as_slice(), None),
         ([].as_slice(), None),

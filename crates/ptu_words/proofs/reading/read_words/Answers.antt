@@ -1,12 +1,12 @@
 use Rattle.std.proofs.Common.{◌≡◌, ◌≢◌, ◌∙◌, List, [], inl, inr, sym, ap, map, subst}
 use Rattle.std.proofs.lemmas.Result.{IfOk-weaker}
-use Rattle.std.specs.Prelude.{option_and_then, option_map}
+use Rattle.std.specs.Prelude.{option_and_then}
 use Rattle.clap.specs.Kinds.{HasKind, IsAmong}
 use Rattle.clap.specs.declared.error.Error.{Error}
 use Rattle.clap.specs.declared.error.kind.ErrorKind.TheVariants.{OutOfMemory}
-use Rattle.clap.specs.Words.{Kinds, Text, app_of, kind_of, fault_of, is_simple, is_simple_and_free, subcommand_name_of, subcommand_of, subcommand_rows_of}
-use Rattle.ptu_words.specs.CommandLine.{command_line, command_named}
-use Rattle.ptu_words.proofs.Matching.{asked, first_parts, free, refused, simple}
+use Rattle.clap.specs.Words.{Kinds, Text, app_of, kind_of, fault_of, is_simple, is_simple_and_free, subcommand_of, subcommand_rows_of}
+use Rattle.ptu_words.specs.CommandLine.{command_by, command_line}
+use Rattle.ptu_words.proofs.Matching.{asked, free, simple, unmatched}
 use Rattle.ptu_words.proofs.reading.read_words.Goals as goal
 
 pub returns-in-Ok : goal.returns-in-Ok
@@ -17,8 +17,7 @@ returns-in-Ok c =
     let rows : subcommand_rows_of m ≡ subcommand_of command_line words =
     (c.in-Ok.ensures.matches (ap is_simple is ∙ simple)).1 ∙ ap (λ a. subcommand_of a words) is in
     let matched : fault_of command_line words ≡ [] = sym (ap (λ a. fault_of a words) is) ∙ c.in-Ok.ensures.kinds (ap is_simple_and_free is ∙ free) in
-    let name : option_map (λ p. p.0) (subcommand_rows_of m) ≡ subcommand_name_of m = first_parts _ _ _ in
-    c.command_in.ensures ∙ (ap (option_and_then command_named) (sym name ∙ ap (option_map (λ p. p.0)) rows) ∙ asked words matched)
+    c.command_in.ensures ∙ (ap (option_and_then command_by) rows ∙ asked words matched)
 
 -- the error has a kind that comes of the words
 has_kind : (kinds : Kinds) (error : Error) → HasKind kinds error → kind_of error ≢ OutOfMemory → kinds ≢ []
@@ -34,4 +33,4 @@ returns-in-Err c =
     let is : app_of c.in_ok-line.line ≡ command_line = c.in_ok-line.ensures in
     let kinds = c.in-Err.ensures.kinds (ap is_simple_and_free is ∙ free) in
     IfOk-weaker c.unmatched.result _ _ (λ found h.
-    h.0 ∙ sym (refused words (subst (λ a. fault_of a words ≢ []) is (has_kind _ c.in-Err.error kinds (λ memory. h.1 (c.kind.ensures ∙ memory)))))) c.unmatched.ensures
+    h.0 ∙ sym (unmatched words (subst (λ a. fault_of a words ≢ []) is (has_kind _ c.in-Err.error kinds (λ memory. h.1 (c.kind.ensures ∙ memory)))))) c.unmatched.ensures

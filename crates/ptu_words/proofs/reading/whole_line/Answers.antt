@@ -1,0 +1,17 @@
+use Rattle.std.proofs.Common.{rules, ◌≡◌, ◌∙◌, ap, ap₂, codes, true}
+use Rattle.std.proofs.lemmas.Result.{IfOk-weaker}
+use Rattle.clap.specs.Words.{App, Rule, app_of, new_app, new_rule, rule_of, with_rule, with_subcommand}
+use Rattle.ptu_words.specs.CommandLine.{load_line, program}
+use Rattle.ptu_words.proofs.reading.whole_line.Goals as goal
+
+pub returns : goal.returns
+returns c =
+    let rule : rule_of c.required-number.result ≡ record (new_rule (codes "N")) { required = true } =
+    ap rule_of c.required-number.ensures ∙ ap (λ (r : Rule). record r { required = true }) c.new.ensures.rule in
+    let load : app_of c.in_ok-load.load ≡ load_line = c.in_ok-load.ensures.shape (search rules) ∙ ap₂ with_rule c.new-2.ensures.app rule in
+    let start : app_of c.disable_help_subcommand-program.result ≡ program = search rules in
+    let first : app_of c.in_ok-line.line ≡ with_subcommand program (new_app (codes "replay")).top =
+    c.in_ok-line.ensures.shape c.new-replay.ensures.local ∙ ap₂ with_subcommand start (ap (λ (a : App). a.top) c.new-replay.ensures.app) in
+    let second : app_of c.in_ok-line-2.line ≡ with_subcommand (with_subcommand program (new_app (codes "replay")).top) (new_app (codes "show")).top =
+    c.in_ok-line-2.ensures.shape c.new-show.ensures.local ∙ ap₂ with_subcommand first (ap (λ (a : App). a.top) c.new-show.ensures.app) in
+    IfOk-weaker c.subcommand-3.result _ _ (λ line added. added.shape (search rules) ∙ ap₂ with_subcommand second (ap (λ (a : App). a.top) load)) c.subcommand-3.ensures
