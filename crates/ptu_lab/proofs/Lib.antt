@@ -1,2 +1,3 @@
 pub mod ShowCauses
 pub mod HandedOver
+pub mod GrandmasterPorts

@@ -7,6 +7,7 @@ mod decoding;
 mod done;
 mod fault;
 mod grandmaster_node;
+mod grandmaster_ports;
 mod handing;
 mod lab;
 mod laws;
