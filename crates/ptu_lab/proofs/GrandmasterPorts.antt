@@ -14,10 +14,10 @@ use Rattle.ptu_lab.specs.GrandmasterPorts.{GoesOn, HasHanded, in_ports}
 
 -- ---- a port is lent
 
-abbrev table_by : Bool → Bool → Bool → KeptGm MemoryPort → Kept MemoryPort
+abbrev pub table_by : Bool → Bool → Bool → KeptGm MemoryPort → Kept MemoryPort
 table_by zero one two gm = cond zero gm.s0 (cond one gm.s1 (cond two gm.s2 gm.s3))
 
-abbrev with_by : Bool → Bool → Bool → Kept MemoryPort → KeptGm MemoryPort → KeptGm MemoryPort
+abbrev pub with_by : Bool → Bool → Bool → Kept MemoryPort → KeptGm MemoryPort → KeptGm MemoryPort
 with_by zero one two table gm =
     cond zero (record gm { s0 = table }) (cond one (record gm { s1 = table }) (cond two (record gm { s2 = table }) (record gm { s3 = table })))
 

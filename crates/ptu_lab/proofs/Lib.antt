@@ -1,3 +1,5 @@
 pub mod ShowCauses
 pub mod HandedOver
 pub mod GrandmasterPorts
+pub mod GrandmasterDone
+pub mod GrandmasterTurns

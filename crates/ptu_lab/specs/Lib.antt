@@ -7,3 +7,4 @@ pub mod Standing
 pub mod Doing
 pub mod Replayed
 pub mod GrandmasterPorts
+pub mod GrandmasterStatements

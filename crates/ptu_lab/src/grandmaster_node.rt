@@ -7,6 +7,7 @@ ghost use Rattle.ptu_world.specs.World.{new_grandmaster};
 ghost use Rattle.ptu_lab.specs.Standing.{IsGrandmasterNode, StandsAsGrandmaster};
 ghost use Rattle.ptu_lab.specs.Doing.{HasDone};
 
+use crate::grandmaster_ports::{hand_over_all, reserve};
 use crate::tally::Tally;
 use ptu_grandmaster::Gm;
 use ptu_header::PortIdentity;
@@ -17,6 +18,9 @@ use ptu_script::GrandmasterSetup;
 use ptu_shard::GmConfig;
 use ptu_units::{Moment, OutOfMemory};
 use std::alloc::Global;
+
+/// How many octets a datagram of a turn has at most: those of an Announce.
+const ANNOUNCE: usize = 64;
 
 /// A grandmaster of a script: it stands in the lab with ports in memory, in which nothing stands
 /// between events.
@@ -102,7 +106,18 @@ impl GrandmasterNode {
             HasDone (StandsAsGrandmaster self.new) self.old.ip line (turn_deed g at table)
             sent.old.items sent.new.items texts.old texts.new 0 0) }
     {
-        Err(OutOfMemory)
+        let datagrams = self.gm.count(table);
+        reserve(
+            &mut self.gm,
+            table,
+            datagrams,
+            datagrams.saturating_mul(ANNOUNCE),
+        )?;
+        let turned = self.gm.turn(table, at);
+        if turned.failed > 0 {
+            return Err(OutOfMemory);
+        }
+        hand_over_all(alloc, &mut self.gm, self.ip, line, texts, sent)
     }
 
     /// Its capacity changes to this many sixteenths of a message per second.

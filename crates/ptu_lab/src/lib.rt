@@ -8,6 +8,7 @@ mod done;
 mod fault;
 mod grandmaster_node;
 mod grandmaster_ports;
+mod grandmaster_statements;
 mod handing;
 mod lab;
 mod laws;
