@@ -1,6 +1,6 @@
 //! What is said of what a grandmaster of a script answered.
 
-ghost use Rattle.std.specs.Prelude.{◌≡◌, ◌+◌, ◌++◌, ◌∷◌, [], map, IfOk, OnOk};
+ghost use Rattle.std.specs.Prelude.{◌≡◌, ◌+◌, ◌++◌, ◌∷◌, [], map, IfOk, OnOk, if◌then◌else◌};
 ghost use Rattle.std.specs.List.{count_by};
 ghost use Rattle.ptu_units.specs.Kind.{kind_of};
 ghost use Rattle.ptu_admit.specs.Verdict.{cause_of};
@@ -107,5 +107,95 @@ fn decision(outcome: &Outcome) -> Decision
         },
         Outcome::Verdict(ask, Verdict::Outside(cause)) => outside(ask, cause),
         Outcome::Cancel(code, answer) => ending(code, answer),
+    }
+}
+
+// The tally with a decision more.
+fn count(tally: Tally, decision: &Decision) -> Result<Tally, OutOfMemory>
+    ensures granted { IfOk result (λ more. more.granted
+        ≡ tally.granted + (if is_granted (statements.Decided decision.now) then 1 else 0)) }
+    ensures short { IfOk result (λ more. more.short
+        ≡ tally.short + (if is_short (statements.Decided decision.now) then 1 else 0)) }
+{
+    match decision {
+        Decision::Granted { .. } => Ok(Tally {
+            granted: tally.granted.checked_add(1).ok_or(OutOfMemory)?,
+            ..tally
+        }),
+        Decision::Short { .. } => Ok(Tally {
+            short: tally.short.checked_add(1).ok_or(OutOfMemory)?,
+            ..tally
+        }),
+        _ => Ok(tally),
+    }
+}
+
+// Adds the texts of what the items of a Signaling came to, and counts them.
+fn say_outcomes(outcomes: &[Outcome], line: u64, texts: &mut Texts) -> Result<Tally, OutOfMemory>
+    ensures says { OnOk result
+        (texts.new ≡ texts.old ++ map (text_at line) (outcomes_said outcomes.now)) }
+    ensures granted { IfOk result
+        (λ tally. tally.granted ≡ count_by is_granted (outcomes_said outcomes.now)) }
+    ensures short { IfOk result
+        (λ tally. tally.short ≡ count_by is_short (outcomes_said outcomes.now)) }
+{
+    let mut tally = Tally {
+        granted: 0,
+        short: 0,
+    };
+    for outcome in outcomes {
+        let decision = decision(outcome);
+        tally = count(tally, &decision)?;
+        say(Statement::Decided(decision), line, texts)?;
+    }
+    Ok(tally)
+}
+
+/// Adds the texts of the grants that were shed, in order.
+///
+/// # Errors
+/// `OutOfMemory`.
+pub fn say_shed(shed: &[Shed], line: u64, texts: &mut Texts) -> Result<(), OutOfMemory>
+    ensures { OnOk result (texts.new ≡ texts.old ++ map (text_at line) (map shed_seen shed.now)) }
+{
+    for grant in shed {
+        let statement = Statement::Shed {
+            kind: grant.kind,
+            log: grant.log,
+            client: grant.client,
+        };
+        say(statement, line, texts)?;
+    }
+    Ok(())
+}
+
+/// Adds the texts of what a datagram came to, and counts them.
+///
+/// # Errors
+/// `OutOfMemory`, also where a send failed.
+pub fn say_taken(taken: &Taken, line: u64, texts: &mut Texts) -> Result<Tally, OutOfMemory>
+    ensures says { OnOk result
+        (texts.new ≡ texts.old ++ map (text_at line) (taken_said taken.now)) }
+    ensures granted { IfOk result
+        (λ tally. tally.granted ≡ count_by is_granted (taken_said taken.now)) }
+    ensures short { IfOk result
+        (λ tally. tally.short ≡ count_by is_short (taken_said taken.now)) }
+    ensures sent { OnOk result (IsSent taken.now) }
+{
+    let none = Tally {
+        granted: 0,
+        short: 0,
+    };
+    match taken {
+        Taken::Delay(Answered::Failed { .. }) | Taken::Asked(_, Reply::Failed) => Err(OutOfMemory),
+        Taken::Ignored(ignored) => {
+            say(Statement::Ignored(reason(*ignored)), line, texts)?;
+            Ok(none)
+        }
+        Taken::Delay(answered) => {
+            say(answer(*answered), line, texts)?;
+            Ok(none)
+        }
+        Taken::Asked(outcomes, _) => say_outcomes(outcomes.list(), line, texts),
     }
 }
