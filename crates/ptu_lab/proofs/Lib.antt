@@ -3,3 +3,4 @@ pub mod HandedOver
 pub mod GrandmasterPorts
 pub mod GrandmasterDone
 pub mod GrandmasterTurns
+pub mod GrandmasterChanges

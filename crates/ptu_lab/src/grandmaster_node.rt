@@ -8,12 +8,13 @@ ghost use Rattle.ptu_lab.specs.Standing.{IsGrandmasterNode, StandsAsGrandmaster}
 ghost use Rattle.ptu_lab.specs.Doing.{HasDone};
 
 use crate::grandmaster_ports::{hand_over_all, reserve};
+use crate::grandmaster_statements::{say, say_shed};
 use crate::tally::Tally;
 use ptu_grandmaster::Gm;
 use ptu_header::PortIdentity;
 use ptu_outside::MemPort;
 use ptu_report::Texts;
-use ptu_report_lines::Sent;
+use ptu_report_lines::{Sent, Statement};
 use ptu_script::GrandmasterSetup;
 use ptu_shard::GmConfig;
 use ptu_units::{Moment, OutOfMemory};
@@ -21,6 +22,12 @@ use std::alloc::Global;
 
 /// How many octets a datagram of a turn has at most: those of an Announce.
 const ANNOUNCE: usize = 64;
+
+/// How many octets a Signaling has at most.
+const SIGNALING: usize = 428;
+
+/// The index of the port of a grandmaster's Signaling messages.
+const SIGNALING_PORT: usize = 4;
 
 /// A grandmaster of a script: it stands in the lab with ports in memory, in which nothing stands
 /// between events.
@@ -60,6 +67,12 @@ impl GrandmasterNode {
             idle_port(alloc),
         );
         GrandmasterNode { ip: setup.ip, gm }
+    }
+
+    // How many rows its tables keep.
+    fn count(&self) -> usize {
+        let tables = self.gm.count(0).saturating_add(self.gm.count(1));
+        tables.saturating_add(self.gm.count(2).saturating_add(self.gm.count(3)))
     }
 
     /// Takes a datagram that came from this IPv4 address: what it comes to and what is sent is added
@@ -139,7 +152,25 @@ impl GrandmasterNode {
             HasDone (StandsAsGrandmaster self.new) self.old.ip line (capacity_deed g at capacity)
             sent.old.items sent.new.items texts.old texts.new 0 0) }
     {
-        Err(OutOfMemory)
+        let cancels = self.count();
+        reserve(
+            &mut self.gm,
+            SIGNALING_PORT,
+            cancels,
+            cancels.saturating_mul(SIGNALING),
+        )?;
+        let changed = self.gm.set_capacity(at, capacity)?;
+        if changed.failed > 0 {
+            return Err(OutOfMemory);
+        }
+        let statement = Statement::Capacity {
+            grandmaster: self.ip,
+            capacity,
+            at: changed.at,
+        };
+        say(statement, line, texts)?;
+        say_shed(changed.shed.list(), line, texts)?;
+        hand_over_all(alloc, &mut self.gm, self.ip, line, texts, sent)
     }
 
     /// Its clockClass changes. Nothing is said of it.
