@@ -4,3 +4,4 @@ pub mod GrandmasterPorts
 pub mod GrandmasterDone
 pub mod GrandmasterTurns
 pub mod GrandmasterChanges
+pub mod GrandmasterReceipts

@@ -7,8 +7,10 @@ ghost use Rattle.ptu_world.specs.World.{new_grandmaster};
 ghost use Rattle.ptu_lab.specs.Standing.{IsGrandmasterNode, StandsAsGrandmaster};
 ghost use Rattle.ptu_lab.specs.Doing.{HasDone};
 
-use crate::grandmaster_ports::{hand_over_all, reserve};
-use crate::grandmaster_statements::{say, say_shed};
+use crate::grandmaster_ports::{
+    ANNOUNCE, SIGNALING, SIGNALING_PORT, hand_over_all, reserve, reserve_replies,
+};
+use crate::grandmaster_statements::{say, say_shed, say_taken};
 use crate::tally::Tally;
 use ptu_grandmaster::Gm;
 use ptu_header::PortIdentity;
@@ -19,15 +21,6 @@ use ptu_script::GrandmasterSetup;
 use ptu_shard::GmConfig;
 use ptu_units::{Moment, OutOfMemory};
 use std::alloc::Global;
-
-/// How many octets a datagram of a turn has at most: those of an Announce.
-const ANNOUNCE: usize = 64;
-
-/// How many octets a Signaling has at most.
-const SIGNALING: usize = 428;
-
-/// The index of the port of a grandmaster's Signaling messages.
-const SIGNALING_PORT: usize = 4;
 
 /// A grandmaster of a script: it stands in the lab with ports in memory, in which nothing stands
 /// between events.
@@ -97,7 +90,11 @@ impl GrandmasterNode {
             (datagram_deed g at from octets.now) sent.old.items sent.new.items texts.old texts.new
             tally.granted tally.short) }
     {
-        Err(OutOfMemory)
+        reserve_replies(&mut self.gm)?;
+        let taken = self.gm.take(at, from, octets)?;
+        let tally = say_taken(&taken, line, texts)?;
+        hand_over_all(alloc, &mut self.gm, self.ip, line, texts, sent)?;
+        Ok(tally)
     }
 
     /// A table, from 0 to 3, takes a turn.

@@ -13,6 +13,18 @@ use ptu_report_lines::Sent;
 use ptu_units::OutOfMemory;
 use std::alloc::Global;
 
+/// How many octets an Announce has, which no datagram of a turn is above.
+pub const ANNOUNCE: usize = 64;
+
+/// How many octets a Delay_Resp has.
+const DELAY_RESP: usize = 54;
+
+/// How many octets a Signaling has at most.
+pub const SIGNALING: usize = 428;
+
+/// The index of the port of a grandmaster's Signaling messages. Those of its tables are below it.
+pub const SIGNALING_PORT: usize = 4;
+
 /// Makes room in the port of this index for this many datagrams more, and for this many octets in
 /// them.
 ///
@@ -29,6 +41,21 @@ pub fn reserve(
     ensures idle { AreIdle gm.old → AreIdle gm.new }
 {
     gm.ports(port).reserve(datagrams, octets)
+}
+
+/// Makes room for the one datagram that may answer another: a Delay_Resp in the port of each table,
+/// or a Signaling in its own.
+///
+/// # Errors
+/// `OutOfMemory`.
+pub fn reserve_replies(gm: &mut Gm<MemPort>) -> Result<(), OutOfMemory>
+    ensures goes_on { GoesOn gm.old gm.new }
+    ensures idle { AreIdle gm.old → AreIdle gm.new }
+{
+    for table in 0..SIGNALING_PORT {
+        reserve(gm, table, 1, DELAY_RESP)?;
+    }
+    reserve(gm, SIGNALING_PORT, 1, SIGNALING)
 }
 
 // Hands over what stands in the port of this index, and clears it.
