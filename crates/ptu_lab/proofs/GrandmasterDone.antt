@@ -1,5 +1,5 @@
 -- That a node of the lab has done what a deed says.
-use Rattle.std.proofs.Common.{◌≡◌, ◌∙◌, ℕ, ◌+◌, ◌≤◌, List, [], ◌∷◌, ◌++◌, Bool, true, false, cond, length, map, refl, sym, ap, subst, arith, append_assoc, length-append, Some, Result, Ok, Err}
+use Rattle.std.proofs.Common.{◌≡◌, ◌∙◌, ℕ, ◌+◌, ◌≤◌, List, [], ◌∷◌, ◌++◌, Bool, true, false, cond, length, map, refl, sym, ap, arith, append_assoc, Some, Result, Ok, Err}
 use Rattle.std.specs.Result.{OnOk}
 use Rattle.std.specs.List.{count_by, items_where_true}
 use Rattle.std.proofs.lemmas.List.{append-nil, map-append}
@@ -14,8 +14,7 @@ use Rattle.ptu_report_lines.specs.declared.statement.Statement.{Statement}
 use Rattle.ptu_report_lines.specs.declared.statement.Statement.TheVariants as statements
 use Rattle.ptu_world.specs.Deeds.{Deed, Grandmaster, Node}
 use Rattle.ptu_world.specs.Report.{is_granted, is_short, text_at}
-use Rattle.ptu_world.specs.World.{said_by, sending_said, sent_from}
-use Rattle.ptu_lab.specs.declared.grandmaster_node.GrandmasterNode.{GrandmasterNode}
+use Rattle.ptu_world.specs.World.{sending_said, sent_from}
 use Rattle.ptu_lab.specs.Doing.{HasDone}
 use Rattle.ptu_lab.specs.GrandmasterPorts.{GoesOn, HasHanded}
 use Rattle.ptu_lab.specs.Standing.{AreIdle, IsGrandmasterNode}

@@ -4,9 +4,8 @@ use Rattle.std.proofs.lemmas.List.{map-append}
 use Rattle.ptu_outside.specs.Departure.{Departure}
 use Rattle.ptu_outside.specs.MemoryPort.{MemoryPort}
 use Rattle.ptu_shard.specs.Table.{Kept}
-use Rattle.ptu_grandmaster.specs.Gm.{KeptGm, StandsFor, port_at, with_port}
+use Rattle.ptu_grandmaster.specs.Gm.{KeptGm, port_at, with_port}
 use Rattle.ptu_report_lines.specs.declared.sent.Sent.{Sent}
-use Rattle.ptu_report_lines.specs.declared.statement.Statement.{Statement}
 use Rattle.ptu_report_lines.specs.declared.statement.Statement.TheVariants as statements
 use Rattle.ptu_world.specs.Report.{text_at}
 use Rattle.ptu_world.specs.World.{sending_said, sent_from}

@@ -1,6 +1,5 @@
 -- That a grandmaster of the lab has taken a datagram.
 use Rattle.std.proofs.Common.{◌≡◌, ◌∙◌, ◌↔◌, ℕ, List, [], ◌∷◌, ◌++◌, map, refl, sym, ap, ap₂, subst, Some, Result, Ok, Err}
-use Rattle.std.proofs.lemmas.List.{append-nil}
 use Rattle.std.proofs.lemmas.Simd.{map-map}
 use Rattle.std.specs.List.{count_by}
 use Rattle.ptu_outside.specs.Departure.{Departure}
@@ -22,13 +21,12 @@ use Rattle.ptu_items.specs.declared.reason.GmReason.{GmReason}
 use Rattle.ptu_items.specs.Deciding.{answer_to, client_of, decisions_of, events_heard, events_of_datagram, opened_with}
 use Rattle.ptu_items.specs.Items.{heard_in}
 use Rattle.ptu_items.specs.Replies.{reply_to}
-use Rattle.ptu_grandmaster.specs.declared.outcome.Outcome.{Outcome}
 use Rattle.ptu_grandmaster.specs.declared.outcome.Reply.{Reply}
 use Rattle.ptu_grandmaster.specs.declared.outcome.Reply.TheVariants as sending
 use Rattle.ptu_grandmaster.specs.declared.outcome.Taken.{Taken}
 use Rattle.ptu_grandmaster.specs.declared.outcome.Taken.TheVariants.{Ignored, Delay, Asked}
 use Rattle.ptu_grandmaster.specs.Gm.{KeptGm, StandsFor, table_at, with_table}
-use Rattle.ptu_grandmaster.specs.Outcomes.{answers_seen, decision_seen, decisions_seen}
+use Rattle.ptu_grandmaster.specs.Outcomes.{answers_seen, decision_seen}
 use Rattle.ptu_grandmaster.specs.Taking.{ComesTo, IsAnswerTo, OnAsked, OnDelay, OnIgnored, Replies, Responds}
 use Rattle.ptu_report_lines.specs.declared.sent.Sent.{Sent}
 use Rattle.ptu_report_lines.specs.declared.statement.Statement.TheVariants as statements

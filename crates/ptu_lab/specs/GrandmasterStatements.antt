@@ -1,5 +1,5 @@
 -- What is said of what a grandmaster of the lab answered.
-use Rattle.std.specs.Prelude.{ℕ, List, [], ◌∷◌, map}
+use Rattle.std.specs.Prelude.{List, [], ◌∷◌, map}
 use Rattle.ptu_shard.specs.declared.answered.Answered.{Answered}
 use Rattle.ptu_shard.specs.declared.answered.Answered.TheVariants as answers
 use Rattle.ptu_shard.specs.Answered.{met_by, moment_of_answer}
