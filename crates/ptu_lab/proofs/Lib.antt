@@ -1,1 +1,7 @@
 pub mod ShowCauses
+pub mod HandedOver
+pub mod GrandmasterPorts
+pub mod GrandmasterDone
+pub mod GrandmasterTurns
+pub mod GrandmasterChanges
+pub mod GrandmasterReceipts

@@ -7,12 +7,16 @@ ghost use Rattle.ptu_world.specs.World.{new_grandmaster};
 ghost use Rattle.ptu_lab.specs.Standing.{IsGrandmasterNode, StandsAsGrandmaster};
 ghost use Rattle.ptu_lab.specs.Doing.{HasDone};
 
+use crate::grandmaster_ports::{
+    ANNOUNCE, SIGNALING, SIGNALING_PORT, hand_over_all, reserve, reserve_replies,
+};
+use crate::grandmaster_statements::{say, say_shed, say_taken};
 use crate::tally::Tally;
 use ptu_grandmaster::Gm;
 use ptu_header::PortIdentity;
 use ptu_outside::MemPort;
 use ptu_report::Texts;
-use ptu_report_lines::Sent;
+use ptu_report_lines::{Sent, Statement};
 use ptu_script::GrandmasterSetup;
 use ptu_shard::GmConfig;
 use ptu_units::{Moment, OutOfMemory};
@@ -58,6 +62,12 @@ impl GrandmasterNode {
         GrandmasterNode { ip: setup.ip, gm }
     }
 
+    // How many rows its tables keep.
+    fn count(&self) -> usize {
+        let tables = self.gm.count(0).saturating_add(self.gm.count(1));
+        tables.saturating_add(self.gm.count(2).saturating_add(self.gm.count(3)))
+    }
+
     /// Takes a datagram that came from this IPv4 address: what it comes to and what is sent is added
     /// to the texts of the script's line of this number, and what is sent to that which was sent
     /// before.
@@ -80,7 +90,11 @@ impl GrandmasterNode {
             (datagram_deed g at from octets.now) sent.old.items sent.new.items texts.old texts.new
             tally.granted tally.short) }
     {
-        Err(OutOfMemory)
+        reserve_replies(&mut self.gm)?;
+        let taken = self.gm.take(at, from, octets)?;
+        let tally = say_taken(&taken, line, texts)?;
+        hand_over_all(alloc, &mut self.gm, self.ip, line, texts, sent)?;
+        Ok(tally)
     }
 
     /// A table, from 0 to 3, takes a turn.
@@ -102,7 +116,18 @@ impl GrandmasterNode {
             HasDone (StandsAsGrandmaster self.new) self.old.ip line (turn_deed g at table)
             sent.old.items sent.new.items texts.old texts.new 0 0) }
     {
-        Err(OutOfMemory)
+        let datagrams = self.gm.count(table);
+        reserve(
+            &mut self.gm,
+            table,
+            datagrams,
+            datagrams.saturating_mul(ANNOUNCE),
+        )?;
+        let turned = self.gm.turn(table, at);
+        if turned.failed > 0 {
+            return Err(OutOfMemory);
+        }
+        hand_over_all(alloc, &mut self.gm, self.ip, line, texts, sent)
     }
 
     /// Its capacity changes to this many sixteenths of a message per second.
@@ -124,7 +149,25 @@ impl GrandmasterNode {
             HasDone (StandsAsGrandmaster self.new) self.old.ip line (capacity_deed g at capacity)
             sent.old.items sent.new.items texts.old texts.new 0 0) }
     {
-        Err(OutOfMemory)
+        let cancels = self.count();
+        reserve(
+            &mut self.gm,
+            SIGNALING_PORT,
+            cancels,
+            cancels.saturating_mul(SIGNALING),
+        )?;
+        let changed = self.gm.set_capacity(at, capacity)?;
+        if changed.failed > 0 {
+            return Err(OutOfMemory);
+        }
+        let statement = Statement::Capacity {
+            grandmaster: self.ip,
+            capacity,
+            at: changed.at,
+        };
+        say(statement, line, texts)?;
+        say_shed(changed.shed.list(), line, texts)?;
+        hand_over_all(alloc, &mut self.gm, self.ip, line, texts, sent)
     }
 
     /// Its clockClass changes. Nothing is said of it.

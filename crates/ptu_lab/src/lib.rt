@@ -7,6 +7,8 @@ mod decoding;
 mod done;
 mod fault;
 mod grandmaster_node;
+mod grandmaster_ports;
+mod grandmaster_statements;
 mod handing;
 mod lab;
 mod laws;
