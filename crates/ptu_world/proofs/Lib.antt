@@ -9,4 +9,4 @@ pub mod Messages
 pub mod Sayings
 pub mod Numbering
 pub mod Going
-mod Headline
+pub mod Headline

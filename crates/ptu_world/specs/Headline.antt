@@ -27,31 +27,28 @@ pub record HasGrandmaster (stock : Stock) (script : List ℕ) (w : World) (ip : 
   pub node : node_at w.nodes ip ≡ Some (IsGrandmaster g)
 
 -- at every moment the granted rates of each grandmaster sum to at most its capacity, which is that in force
-abbrev pub WithinCapacity : Stock → List ℕ → Type 0
-WithinCapacity stock script =
-    (w : World) (ip : ℕ) (g : Grandmaster) → HasGrandmaster stock script w ip g → (x : ℕ) → held g.past x ≤ force g.capacity g.past x
+pub record WithinCapacity (stock : Stock) (script : List ℕ) : Type 0 where
+  pub within : (w : World) (ip : ℕ) (g : Grandmaster) → HasGrandmaster stock script w ip g → (x : ℕ) → held g.past x ≤ force g.capacity g.past x
 
 -- each REQUEST that a datagram brings to a grandmaster is granted exactly where its rate fits beside the other live grants,
--- and else answered with the duration zero; the report and the reply say so (IEEE 1588-2019 clause 16.1)
-abbrev pub DecidesByRoom : Stock → List ℕ → Type 0
-DecidesByRoom stock script =
-    (w : World) (command : Command) (r : Request) → Reaches stock script w → IsHanded w command r → IsAnswered w command r × IsDecidedByRoom r
+-- and else answered with the duration zero, and the report and the reply say so (IEEE 1588-2019 clause 16.1)
+pub record DecidesByRoom (stock : Stock) (script : List ℕ) : Type 0 where
+  pub answered : (w : World) (command : Command) (r : Request) → Reaches stock script w → IsHanded w command r → IsAnswered w command r
+  pub decided : (w : World) (command : Command) (r : Request) → Reaches stock script w → IsHanded w command r → IsDecidedByRoom r
 
--- each message of a grandmaster takes one whole period of its own inside a live grant: no two of one client and kind take
+-- each message of a grandmaster takes one whole period of its own inside a live grant; no two of one client and kind take
 -- the same time; and the messages of its history are the datagrams that it sent
-pub record TakesOwnPeriods (w : World) (ip : ℕ) (g : Grandmaster) : Type 0 where
-  pub paid : (before : List Record) (x : ℕ) (c : Client) (k : Kind) → IsSentAfter g.past before x c k → PaysItsPeriod g.past before x c k
-  pub apart : AllPairs IsBefore (payments g.past)
-  pub sent : AreMessagesSent w ip g
-
-abbrev pub PaysPeriods : Stock → List ℕ → Type 0
-PaysPeriods stock script = (w : World) (ip : ℕ) (g : Grandmaster) → HasGrandmaster stock script w ip g → TakesOwnPeriods w ip g
+pub record PaysPeriods (stock : Stock) (script : List ℕ) : Type 0 where
+  pub paid : (w : World) (ip : ℕ) (g : Grandmaster) → HasGrandmaster stock script w ip g
+      → (before : List Record) (x : ℕ) (c : Client) (k : Kind) → IsSentAfter g.past before x c k → PaysItsPeriod g.past before x c k
+  pub apart : (w : World) (ip : ℕ) (g : Grandmaster) → HasGrandmaster stock script w ip g → AllPairs IsBefore (payments g.past)
+  pub sent : (w : World) (ip : ℕ) (g : Grandmaster) → HasGrandmaster stock script w ip g → AreMessagesSent w ip g
 
 -- up to every moment the messages of each grandmaster, at sixteen seconds of one sixteenth each, are at most its capacity
 -- summed over the nanoseconds before it
-abbrev pub WithinBudget : Stock → List ℕ → Type 0
-WithinBudget stock script =
-    (w : World) (ip : ℕ) (g : Grandmaster) → HasGrandmaster stock script w ip g → (x : ℕ) → count g.past x * (16 * 1000000000) ≤ budget g.capacity g.past x
+pub record WithinBudget (stock : Stock) (script : List ℕ) : Type 0 where
+  pub within : (w : World) (ip : ℕ) (g : Grandmaster) → HasGrandmaster stock script w ip g
+      → (x : ℕ) → count g.past x * (16 * 1000000000) ≤ budget g.capacity g.past x
 
 -- each slave selects its best eligible master: each line that names a selection names that, by the slave's record, and each
 -- event of a slave has one such line (G.8265.1)
