@@ -1,13 +1,1 @@
-mod Lists
-mod Profiles
-mod Requests
-mod Decided
-mod Datagrams
-mod Writing
-mod Outcomes
-mod Reached
-mod Underway
-mod Whole
-mod Takings
-mod Kept
-mod Replayed
+mod Answered

@@ -1,30 +1,17 @@
 //! A PTP unicast grandmaster and its slaves (IEEE 1588-2019 clause 16.1, ITU-T G.8265.1).
 //!
-//! `ptpuni replay` reads a script from standard input and writes a report of every decision and
-//! datagram to standard output. `ptpuni show` decodes the datagrams that stand in the lines of standard
+//! `ptpuni replay` reads a script of grandmasters and slaves from standard input, runs them in
+//! memory, and writes a report of every decision and datagram to standard output. `ptpuni show` decodes the datagrams that stand in the lines of standard
 //! input.
 #![tactic(auto)]
 
-mod answering;
-mod datagram;
-mod ending;
-mod first;
-mod grandmaster;
-mod leases;
-mod next;
-mod output;
-mod replay;
-mod reply;
-mod report;
-mod request;
 mod run;
-mod script;
-mod stop;
-mod text;
 
 ghost use Rattle.std.specs.Prelude.{◌≡◌, ◌≢◌, IfOk, map};
 ghost use Rattle.std.specs.String.{string_bytes};
+ghost use Rattle.ptu_judges.specs.Held.{IsStock};
 
+use ptu_judges::{FlagJudge, GapJudge, Stock};
 use ptu_outside::{StdSink, StdSource};
 use ptu_words::USAGE_TEXT;
 use run::{OUT_OF_MEMORY, USAGE};
@@ -67,18 +54,37 @@ fn texts_of(alloc: Global, words: &[String]) -> Result<Vec<&str>, AllocError>
 }
 
 // Runs the words over standard input and output.
-fn status_of(rt: &HostRuntime, words: &[String]) -> u8 {
+fn status_of(rt: &HostRuntime, words: &[String], stock: Stock) -> u8
+    requires { IsStock (map (λ j. held (j.vtable, j.value)) stock.flags.items)
+        (map (λ j. held (j.vtable, j.value)) stock.gaps.items) }
+{
     let Ok(texts) = texts_of(rt.alloc(), words) else {
         return OUT_OF_MEMORY;
     };
     let mut source = StdSource::new(rt.stdin());
     let mut sink = StdSink::new(rt.stdout());
-    run::run(rt.alloc(), &texts, &mut source, &mut sink)
+    run::run(rt.alloc(), &texts, &mut source, &mut sink, stock)
 }
 
 fn main(rt: HostRuntime) -> ExitCode {
+    let alloc = rt.alloc();
+    let mut stock = Stock {
+        flags: Vec::new(alloc),
+        gaps: Vec::new(alloc),
+    };
+    for _ in 0..64 {
+        let (Ok(flag), Ok(gap)) = (
+            Box::new(alloc, FlagJudge::new()),
+            Box::new(alloc, GapJudge::new(4)),
+        ) else {
+            return ExitCode::from(OUT_OF_MEMORY);
+        };
+        if stock.flags.push(flag).is_err() || stock.gaps.push(gap).is_err() {
+            return ExitCode::from(OUT_OF_MEMORY);
+        }
+    }
     let status = match words_of(&rt) {
-        Ok(words) => status_of(&rt, &words),
+        Ok(words) => status_of(&rt, &words, stock),
         Err(error) => status_without_words(error.kind()),
     };
     if status == USAGE {
@@ -87,5 +93,5 @@ fn main(rt: HostRuntime) -> ExitCode {
     ExitCode::from(status)
 }
 
-#[cfg(test)]
-mod tests;
+
+

@@ -1,21 +1,18 @@
 //! What the program does: the words of its command line, and the status that it ends with.
 
-ghost use Rattle.std.specs.Prelude.{◌≡◌, ◌≢◌, ◌⊎◌, ◌≤◌, ℕ, List, length, map, Contains};
+ghost use Rattle.std.specs.Prelude.{◌≡◌, ◌≢◌, ◌⊎◌, ◌≤◌, ℕ, List, Some, length, map, Contains};
 ghost use Rattle.std.specs.Io.KnownBytes.{prepend_known};
 ghost use Rattle.ptu_outside.specs.Ends.{StopsAtEnd};
 ghost use Rattle.ptu_outside.specs.Faults.{HasRisen};
 ghost use Rattle.ptu_outside.specs.Handing.{HasPutPart};
-ghost use Rattle.ptu_lines.specs.Script.{script_lines};
-ghost use Rattle.ptpuni.specs.declared.grandmaster.Grandmaster.{Grandmaster};
-ghost use Rattle.ptpuni.specs.declared.script.Asked.{Asked};
-ghost use Rattle.ptpuni.specs.Kept.{Hands, IsKept};
+ghost use Rattle.ptu_judges.specs.Held.{IsStock};
 ghost use Rattle.ptu_words.specs.CommandLine.{command_of, IsRefused};
 ghost use Rattle.ptu_words.specs.declared.command.Command.{Command};
-ghost use Rattle.ptpuni.specs.Run.{output_of, statuses, HasReadAll, HasRun};
+ghost use Rattle.ptu_world.specs.Headline.{DecidesByRoom, PaysPeriods, SaysSo, SelectsBest, WithinBudget, WithinCapacity};
+ghost use Rattle.ptu_world.specs.Report.{report_lines};
+ghost use Rattle.ptpuni.specs.Run.{output_of, status_of_answer, statuses, stock_of, HasReadAll, HasRun, IsStatusOf};
 
-use crate::ending::Ending;
-use crate::output::write_output;
-use crate::stop::Stop;
+use ptu_lab::{LabFault, Stock, replay, show};
 use ptu_outside::{Sink, Source};
 use ptu_words::{Command, read_words};
 use std::alloc::Global;
@@ -35,22 +32,40 @@ pub const SINK_FAULT: u8 = 67;
 /// No memory was found.
 pub const OUT_OF_MEMORY: u8 = 71;
 
+// The status of an answer.
+fn status_of<A: Drop>(answer: Result<A, LabFault>) -> u8
+    ensures { result ≡ status_of_answer answer }
+{
+    match answer {
+        Ok(_) => 0,
+        Err(LabFault::Line { .. }) => BAD_LINE,
+        Err(LabFault::Read) => SOURCE_FAULT,
+        Err(LabFault::Write) => SINK_FAULT,
+        Err(LabFault::OutOfMemory) => OUT_OF_MEMORY,
+    }
+}
+
 // Runs a command.
 fn run_command<S: Source, K: Sink>(
     alloc: Global,
     command: Command,
     source: &mut S,
     sink: &mut K,
+    stock: Stock,
 ) -> u8
+    requires stock { IsStock (map (λ j. held (j.vtable, j.value)) stock.flags.items)
+        (map (λ j. held (j.vtable, j.value)) stock.gaps.items) }
     ensures statuses { Contains statuses result }
     ensures other { result ≢ USAGE }
     ensures output { (input : List ℕ) → S.left source.old ≡ Some input
         → (HasRisen (S.faults source.old) (S.faults source.new) → ⊥)
         → (HasRisen (K.faults sink.old) (K.faults sink.new) → ⊥) → result ≢ OUT_OF_MEMORY
-        → HasRun K.written K.handed sink.old sink.new command input (S.left source.new) result }
+        → HasRun K.written K.handed sink.old sink.new
+        (stock_of stock.flags.items stock.gaps.items) command input (S.left source.new) result }
     ensures answered { (result ≡ 0) ⊎ (result ≡ BAD_LINE)
         → (input : List ℕ) → S.left source.old ≡ Some input
-        → HasRun K.written K.handed sink.old sink.new command input (S.left source.new) result }
+        → HasRun K.written K.handed sink.old sink.new
+        (stock_of stock.flags.items stock.gaps.items) command input (S.left source.new) result }
     ensures source_fault { result ≡ SOURCE_FAULT
         → HasRisen (S.faults source.old) (S.faults source.new) }
     ensures source_still { result ≢ SOURCE_FAULT → S.faults source.new ≡ S.faults source.old }
@@ -58,29 +73,44 @@ fn run_command<S: Source, K: Sink>(
         → HasRisen (K.faults sink.old) (K.faults sink.new) }
     ensures sink_still { result ≢ SINK_FAULT → K.faults sink.new ≡ K.faults sink.old }
     ensures front { (input : List ℕ) → S.left source.old ≡ Some input
-        → HasPutPart K.written K.handed sink.old sink.new (output_of command input) }
-    ensures all_read { result ≡ SOURCE_FAULT → (input : List ℕ) → S.left source.old ≡ Some input
-        → HasReadAll K.written K.handed sink.old sink.new command input
+        → HasPutPart K.written K.handed sink.old sink.new
+        (output_of (stock_of stock.flags.items stock.gaps.items) command input) }
+    ensures all_read { result ≡ SOURCE_FAULT
+        → HasReadAll K.written K.handed sink.old sink.new
+        (stock_of stock.flags.items stock.gaps.items) command
         (S.left source.old) (S.left source.new) }
     ensures taken { (octets : List ℕ)
         × (S.left source.old ≡ prepend_known octets (S.left source.new))
         × (length octets ≤ 67108865) }
     ensures ends { StopsAtEnd (S.ends source.old) (S.ends source.new) }
 {
-    match write_output(alloc, command, source, sink) {
-        Ok(Ending::Whole) => 0,
-        Ok(Ending::Refused) => BAD_LINE,
-        Err(Stop::Read) => SOURCE_FAULT,
-        Err(Stop::Write) => SINK_FAULT,
-        Err(Stop::OutOfMemory) => OUT_OF_MEMORY,
+    match command {
+        Command::Replay => status_of(replay(alloc, source, sink, stock)),
+        Command::Show => status_of(show(alloc, source, sink)),
     }
 }
 
 /// Does all that the program does, with the words after its name, and gives the status that it ends
 /// with: 0 where the source was read to its end and the whole output was written, or one of the
-/// numbers above.
-#[tactic(auto, using(crate::proofs::Kept::is_kept))]
-pub fn run<S: Source, K: Sink>(alloc: Global, words: &[&str], source: &mut S, sink: &mut K) -> u8
+/// numbers above. The judges of the slaves of a script are taken from the stock, which is to be
+/// fresh.
+#[tactic(auto, using(
+    ptu_world::proofs::Headline::within_capacity,
+    ptu_world::proofs::Headline::decides_by_room,
+    ptu_world::proofs::Headline::pays_periods,
+    ptu_world::proofs::Headline::within_budget,
+    ptu_world::proofs::Headline::selects_best,
+    ptu_world::proofs::Headline::says_so
+))]
+pub fn run<S: Source, K: Sink>(
+    alloc: Global,
+    words: &[&str],
+    source: &mut S,
+    sink: &mut K,
+    stock: Stock,
+) -> u8
+    requires stock { IsStock (map (λ j. held (j.vtable, j.value)) stock.flags.items)
+        (map (λ j. held (j.vtable, j.value)) stock.gaps.items) }
     ensures statuses { Contains statuses result }
 
     // The command line does not match the words, by the meaning that clap gives it, and then nothing
@@ -91,23 +121,45 @@ pub fn run<S: Source, K: Sink>(alloc: Global, words: &[&str], source: &mut S, si
     ensures untouched { IsRefused (map (λ w. w.now) words.now)
         → (source.new ≡ source.old) × (sink.new ≡ sink.old) }
 
-    // The whole output of the command that the words ask for was written, and the status says how it ends: where neither
-    // side failed and memory was found,
+    // The whole output of the command that the words ask for was written, and the status says how it
+    // ends: where neither side failed and memory was found,
     ensures output { (command : Command) → command_of (map (λ w. w.now) words.now) ≡ Some command
         → (input : List ℕ) → S.left source.old ≡ Some input
         → (HasRisen (S.faults source.old) (S.faults source.new) → ⊥)
         → (HasRisen (K.faults sink.old) (K.faults sink.new) → ⊥) → result ≢ OUT_OF_MEMORY
-        → HasRun K.written K.handed sink.old sink.new command input (S.left source.new) result }
+        → HasRun K.written K.handed sink.old sink.new
+        (stock_of stock.flags.items stock.gaps.items) command input (S.left source.new) result }
     // and wherever 0 or 65 is answered, whatever the counts did.
     ensures answered { (result ≡ 0) ⊎ (result ≡ BAD_LINE)
         → (command : Command) → command_of (map (λ w. w.now) words.now) ≡ Some command
         → (input : List ℕ) → S.left source.old ≡ Some input
-        → HasRun K.written K.handed sink.old sink.new command input (S.left source.new) result }
+        → HasRun K.written K.handed sink.old sink.new
+        (stock_of stock.flags.items stock.gaps.items) command input (S.left source.new) result }
 
-    // The grandmaster of the script that is read keeps to its capacity, and decides each request by
-    // the room for it.
-    ensures kept { (script : List ℕ) → S.left source.old ≡ Some script → (gm : Grandmaster)
-        (asks : List Asked) → Hands gm asks (script_lines script) → IsKept gm script asks }
+    // The headline, of the script that is read. Granted rates never sum above capacity.
+    ensures within_capacity { (script : List ℕ) → S.left source.old ≡ Some script
+        → WithinCapacity (stock_of stock.flags.items stock.gaps.items) script }
+    // A request is granted exactly where its rate fits beside the other live grants.
+    ensures granted_by_room { (script : List ℕ) → S.left source.old ≡ Some script
+        → DecidesByRoom (stock_of stock.flags.items stock.gaps.items) script }
+    // Every message takes a period of its own inside a live grant,
+    ensures own_periods { (script : List ℕ) → S.left source.old ≡ Some script
+        → PaysPeriods (stock_of stock.flags.items stock.gaps.items) script }
+    // and all of them are within the budget.
+    ensures within_budget { (script : List ℕ) → S.left source.old ≡ Some script
+        → WithinBudget (stock_of stock.flags.items stock.gaps.items) script }
+    // Each slave selects its best eligible master.
+    ensures best_master { (script : List ℕ) → S.left source.old ≡ Some script
+        → SelectsBest (stock_of stock.flags.items stock.gaps.items) script }
+    // The report says so, line by line,
+    ensures says_so { (script : List ℕ) → S.left source.old ≡ Some script
+        → SaysSo (stock_of stock.flags.items stock.gaps.items) script }
+    // and the status is 0 exactly where its last line is `end`; then the source was read to its end.
+    ensures status { (result ≡ 0) ⊎ (result ≡ BAD_LINE)
+        → command_of (map (λ w. w.now) words.now) ≡ Some Command.Replay
+        → (script : List ℕ) → S.left source.old ≡ Some script
+        → IsStatusOf (report_lines (stock_of stock.flags.items stock.gaps.items) script)
+        (S.left source.new) result }
 
     // A fault is answered exactly where there was one, and what was written is a front of the output,
     // whatever is answered.
@@ -119,12 +171,13 @@ pub fn run<S: Source, K: Sink>(alloc: Global, words: &[&str], source: &mut S, si
     ensures sink_still { result ≢ SINK_FAULT → K.faults sink.new ≡ K.faults sink.old }
     ensures front { (command : Command) → command_of (map (λ w. w.now) words.now) ≡ Some command
         → (input : List ℕ) → S.left source.old ≡ Some input
-        → HasPutPart K.written K.handed sink.old sink.new (output_of command input) }
-    // Where the source failed, that is all that the output has of the lines that were read whole.
+        → HasPutPart K.written K.handed sink.old sink.new
+        (output_of (stock_of stock.flags.items stock.gaps.items) command input) }
+    // Where the source failed, that is all that belongs to the lines that were read whole.
     ensures all_read { result ≡ SOURCE_FAULT
         → (command : Command) → command_of (map (λ w. w.now) words.now) ≡ Some command
-        → (input : List ℕ) → S.left source.old ≡ Some input
-        → HasReadAll K.written K.handed sink.old sink.new command input
+        → HasReadAll K.written K.handed sink.old sink.new
+        (stock_of stock.flags.items stock.gaps.items) command
         (S.left source.old) (S.left source.new) }
 
     // At most 67108865 octets are read, and nothing behind the end.
@@ -134,7 +187,7 @@ pub fn run<S: Source, K: Sink>(alloc: Global, words: &[&str], source: &mut S, si
     ensures ends { StopsAtEnd (S.ends source.old) (S.ends source.new) }
 {
     match read_words(alloc, words) {
-        Ok(Some(command)) => run_command(alloc, command, source, sink),
+        Ok(Some(command)) => run_command(alloc, command, source, sink, stock),
         Ok(None) => USAGE,
         Err(_) => OUT_OF_MEMORY,
     }

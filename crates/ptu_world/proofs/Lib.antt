@@ -9,3 +9,4 @@ pub mod Messages
 pub mod Sayings
 pub mod Numbering
 pub mod Going
+pub mod Headline

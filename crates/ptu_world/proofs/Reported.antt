@@ -14,7 +14,7 @@ use Rattle.ptu_report_lines.specs.declared.report_line.ReportLine.{ReportLine}
 use Rattle.ptu_report_lines.specs.declared.report_line.ReportLine.TheVariants.{At}
 use Rattle.ptu_report_lines.specs.declared.statement.Statement.{Statement}
 use Rattle.ptu_report_lines.specs.Report.{line_text}
-use Rattle.ptu_world.specs.World.{World, Stock, Done, opening, step}
+use Rattle.ptu_world.specs.World.{World, Stock, Done, step}
 use Rattle.ptu_world.specs.Report.{Course, course_after, course_opening, granted_count, is_granted, is_granted_line, is_short, is_short_line, lines_by, lines_by_line, lines_from, outcome_by, outcome_by_line, report, report_lines, rules, short_count, text_at}
 use Rattle.ptu_world.specs.Facts.{AreCounted, EndsBy, world_after, world_by, world_by_line, world_of}
 

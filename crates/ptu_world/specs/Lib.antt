@@ -8,3 +8,4 @@ pub mod Facts
 pub mod Reached
 pub mod Promises
 pub mod Sayings
+pub mod Headline

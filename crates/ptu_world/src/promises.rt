@@ -21,8 +21,23 @@ ghost use Rattle.ptu_world.specs.Sayings.{IsBestChoice, IsDelivered, NamesSelect
 ghost use Rattle.ptu_slave_messages.specs.Node.{datagram_heard};
 ghost use Rattle.ptu_world.specs.Report.{report_lines};
 ghost use Rattle.ptu_world.specs.Facts.{world_of};
+ghost use Rattle.ptu_world.specs.Headline.{DecidesByRoom, PaysPeriods, SaysSo, SelectsBest, WithinBudget, WithinCapacity};
 ghost use Rattle.ptu_world.specs.Reached.{Reaches, done_by_line, said_of};
 ghost use Rattle.ptu_world.specs.Promises.{AreMessagesSent, GoesOn, Handed, addressed, handed_by, IsAnswered, IsDecidedByRoom, IsHanded, IsRun, KeepsPromises, Request};
+
+/// The headline: over every script, at every moment the granted rates of each grandmaster sum to at
+/// most its capacity; each REQUEST that a datagram brings is granted exactly where its rate fits
+/// beside the other live grants, and else answered with the duration zero; each message takes a
+/// period of its own inside a live grant, and all messages are within the budget; each slave selects
+/// its best eligible master; and the report says so of each line that is taken.
+pub fn headline()
+    ensures within_capacity { (stock : Stock) (script : List ℕ) → WithinCapacity stock script }
+    ensures granted_by_room { (stock : Stock) (script : List ℕ) → DecidesByRoom stock script }
+    ensures own_periods { (stock : Stock) (script : List ℕ) → PaysPeriods stock script }
+    ensures within_budget { (stock : Stock) (script : List ℕ) → WithinBudget stock script }
+    ensures best_master { (stock : Stock) (script : List ℕ) → SelectsBest stock script }
+    ensures says_so { (stock : Stock) (script : List ℕ) → SaysSo stock script }
+{}
 
 /// A script reaches the world before its first line, and with each one that is not refused the
 /// world after it; what is said there is what the report says of this line, with its number. The

@@ -1,9 +1,12 @@
 use Rattle.std.proofs.Common.{◌≡◌, ◌∙◌, List, ℕ, Some, None, map, sym, subst}
 use Rattle.ptu_outside.proofs.Handing.{HasPutPart-none}
 use Rattle.ptu_words.specs.declared.command.Command.{Command}
+use Rattle.ptu_words.specs.declared.command.Command.TheVariants.{Replay}
 use Rattle.ptu_words.specs.CommandLine.{IsRefused, command_of}
 use Rattle.ptu_words.proofs.Matching.{refused, unnamed}
-use Rattle.ptpuni.specs.Run.{HasRun}
+use Rattle.ptu_world.specs.Report.{report_lines}
+use Rattle.ptpuni.specs.Run.{HasRun, stock_of}
+use Rattle.ptpuni.proofs.Answered.{zero_at_end}
 use Rattle.ptpuni.proofs.run.run.Goals as goal
 
 -- words that ask for a command are not refused, and ask for no other
@@ -23,15 +26,24 @@ returns-in-Ok-Some-clause-untouched g c = λ h.
 
 pub returns-in-Ok-Some-clause-output : goal.returns-in-Ok-Some-clause-output
 returns-in-Ok-Some-clause-output g c = λ command is input told still_source still_sink memory.
-    subst (λ k. HasRun g.K.Sink.written g.K.Sink.handed c.args.sink.now c.run_command.new.sink k input (g.S.Source.left c.run_command.new.source) c.run_command.result)
+    subst (λ k. HasRun g.K.Sink.written g.K.Sink.handed c.args.sink.now c.run_command.new.sink (stock_of c.args.stock.flags.items c.args.stock.gaps.items) k input (g.S.Source.left c.run_command.new.source) c.run_command.result)
     (one_command (map (λ w. w.now) c.args.words.now) c.in-Ok-Some.command command (sym c.in-Ok-Some.field-0-is ∙ c.in-Ok-Some.ensures) is)
     (c.run_command.ensures.output input told still_source still_sink memory)
 
 pub returns-in-Ok-Some-clause-answered : goal.returns-in-Ok-Some-clause-answered
 returns-in-Ok-Some-clause-answered g c = λ ended command is input told.
-    subst (λ k. HasRun g.K.Sink.written g.K.Sink.handed c.args.sink.now c.run_command.new.sink k input (g.S.Source.left c.run_command.new.source) c.run_command.result)
+    subst (λ k. HasRun g.K.Sink.written g.K.Sink.handed c.args.sink.now c.run_command.new.sink (stock_of c.args.stock.flags.items c.args.stock.gaps.items) k input (g.S.Source.left c.run_command.new.source) c.run_command.result)
     (one_command (map (λ w. w.now) c.args.words.now) c.in-Ok-Some.command command (sym c.in-Ok-Some.field-0-is ∙ c.in-Ok-Some.ensures) is)
     (c.run_command.ensures.answered ended input told)
+
+pub returns-in-Ok-Some-clause-status : goal.returns-in-Ok-Some-clause-status
+returns-in-Ok-Some-clause-status g c = λ ended is script told.
+    let stock = stock_of c.args.stock.flags.items c.args.stock.gaps.items in
+    let run : HasRun g.K.Sink.written g.K.Sink.handed c.args.sink.now c.run_command.new.sink stock Replay script (g.S.Source.left c.run_command.new.source) c.run_command.result =
+    subst (λ k. HasRun g.K.Sink.written g.K.Sink.handed c.args.sink.now c.run_command.new.sink stock k script (g.S.Source.left c.run_command.new.source) c.run_command.result)
+    (one_command (map (λ w. w.now) c.args.words.now) c.in-Ok-Some.command Replay (sym c.in-Ok-Some.field-0-is ∙ c.in-Ok-Some.ensures) is)
+    (c.run_command.ensures.answered ended script told) in
+    zero_at_end (report_lines stock script) (g.S.Source.left c.run_command.new.source) c.run_command.result run.status_is run.read_whole
 
 pub returns-in-Ok-None-clause-usage : goal.returns-in-Ok-None-clause-usage
 returns-in-Ok-None-clause-usage g c = λ _.

@@ -1,43 +1,35 @@
-use Rattle.std.proofs.Common.{lit<, refl}
-use Rattle.ptu_outside.proofs.Handing.{HasPutPart-whole}
-use Rattle.ptpuni.proofs.Replayed.{whole, refused}
+use Rattle.std.proofs.Common.{sym, subst}
+use Rattle.std.specs.Prelude.{◌≡◌, ◌⊎◌, Contains}
+use Rattle.ptpuni.specs.Run.{HasRun, stock_of, statuses}
+use Rattle.ptpuni.proofs.Answered.{by_counts, by_status, is_status, replayed, shown}
 use Rattle.ptpuni.proofs.run.run_command.Goals as goal
 
-pub returns-in-Ok-Whole-clause-output : goal.returns-in-Ok-Whole-clause-output
-returns-in-Ok-Whole-clause-output g c = λ input told _ _ _.
-    let e = rw c.in-Ok-Whole.field-0-is at c.in-Ok-Whole.ensures in
-    whole g.K.Sink.written g.K.Sink.handed _ _ _ input _ (e.whole input told) (e.end refl)
+pub returns-in-Replay-clause-statuses : goal.returns-in-Replay-clause-statuses
+returns-in-Replay-clause-statuses g c = rw c.status_of.ensures (is_status c.replay.result)
 
-pub returns-in-Ok-Whole-clause-answered : goal.returns-in-Ok-Whole-clause-answered
-returns-in-Ok-Whole-clause-answered g c = λ _ input told.
-    let e = rw c.in-Ok-Whole.field-0-is at c.in-Ok-Whole.ensures in
-    whole g.K.Sink.written g.K.Sink.handed _ _ _ input _ (e.whole input told) (e.end refl)
+pub returns-in-Replay-clause-output : goal.returns-in-Replay-clause-output
+returns-in-Replay-clause-output g c = λ input told still_source still_sink memory.
+    let is = by_counts c.replay.result _ _ _ _ c.replay.ensures.source_counts c.replay.ensures.sink_counts still_source still_sink (rw c.status_of.ensures at memory) in
+    rw (c.status_of.ensures, c.in-Replay.is)
+    (replayed g.K.Sink.written g.K.Sink.handed c.args.sink.now c.replay.new.sink (stock_of c.args.stock.flags.items c.args.stock.gaps.items) input (g.S.Source.left c.replay.new.source) c.replay.result is (c.replay.ensures.whole input told) c.replay.ensures.end)
 
-pub returns-in-Ok-Whole-clause-front : goal.returns-in-Ok-Whole-clause-front
-returns-in-Ok-Whole-clause-front g c = λ input told.
-    let e = rw c.in-Ok-Whole.field-0-is at c.in-Ok-Whole.ensures in
-    HasPutPart-whole g.K.Sink.written g.K.Sink.handed _ _ _ (e.whole input told).put
+pub returns-in-Replay-clause-answered : goal.returns-in-Replay-clause-answered
+returns-in-Replay-clause-answered g c = λ ended input told.
+    let is = by_status c.replay.result (rw c.status_of.ensures at ended) in
+    rw (c.status_of.ensures, c.in-Replay.is)
+    (replayed g.K.Sink.written g.K.Sink.handed c.args.sink.now c.replay.new.sink (stock_of c.args.stock.flags.items c.args.stock.gaps.items) input (g.S.Source.left c.replay.new.source) c.replay.result is (c.replay.ensures.whole input told) c.replay.ensures.end)
 
-pub returns-in-Ok-Refused-clause-output : goal.returns-in-Ok-Refused-clause-output
-returns-in-Ok-Refused-clause-output g c = λ input told _ _ _.
-    let e = rw c.in-Ok-Refused.field-0-is at c.in-Ok-Refused.ensures in
-    refused g.K.Sink.written g.K.Sink.handed _ _ _ input _ (e.whole input told)
+pub returns-in-Show-clause-statuses : goal.returns-in-Show-clause-statuses
+returns-in-Show-clause-statuses g c = rw c.status_of-in-Show.ensures (is_status c.show.result)
 
-pub returns-in-Ok-Refused-clause-answered : goal.returns-in-Ok-Refused-clause-answered
-returns-in-Ok-Refused-clause-answered g c = λ _ input told.
-    let e = rw c.in-Ok-Refused.field-0-is at c.in-Ok-Refused.ensures in
-    refused g.K.Sink.written g.K.Sink.handed _ _ _ input _ (e.whole input told)
+pub returns-in-Show-clause-output : goal.returns-in-Show-clause-output
+returns-in-Show-clause-output g c = λ input told still_source still_sink memory.
+    let is = by_counts c.show.result _ _ _ _ c.show.ensures.source_counts c.show.ensures.sink_counts still_source still_sink (rw c.status_of-in-Show.ensures at memory) in
+    rw (c.status_of-in-Show.ensures, c.in-Show.is)
+    (shown g.K.Sink.written g.K.Sink.handed c.args.sink.now c.show.new.sink (stock_of c.args.stock.flags.items c.args.stock.gaps.items) input (g.S.Source.left c.show.new.source) c.show.result is (c.show.ensures.whole input told) c.show.ensures.end)
 
-pub returns-in-Ok-Refused-clause-front : goal.returns-in-Ok-Refused-clause-front
-returns-in-Ok-Refused-clause-front g c = λ input told.
-    let e = rw c.in-Ok-Refused.field-0-is at c.in-Ok-Refused.ensures in
-    HasPutPart-whole g.K.Sink.written g.K.Sink.handed _ _ _ (e.whole input told).put
-
-pub returns-in-Ok-Refused-clause-statuses : goal.returns-in-Ok-Refused-clause-statuses
-returns-in-Ok-Refused-clause-statuses g c = (2, lit< tt, refl)
-
-pub returns-in-Err-Read-clause-statuses : goal.returns-in-Err-Read-clause-statuses
-returns-in-Err-Read-clause-statuses g c = (3, lit< tt, refl)
-
-pub returns-in-Err-Write-clause-statuses : goal.returns-in-Err-Write-clause-statuses
-returns-in-Err-Write-clause-statuses g c = (4, lit< tt, refl)
+pub returns-in-Show-clause-answered : goal.returns-in-Show-clause-answered
+returns-in-Show-clause-answered g c = λ ended input told.
+    let is = by_status c.show.result (rw c.status_of-in-Show.ensures at ended) in
+    rw (c.status_of-in-Show.ensures, c.in-Show.is)
+    (shown g.K.Sink.written g.K.Sink.handed c.args.sink.now c.show.new.sink (stock_of c.args.stock.flags.items c.args.stock.gaps.items) input (g.S.Source.left c.show.new.source) c.show.result is (c.show.ensures.whole input told) c.show.ensures.end)

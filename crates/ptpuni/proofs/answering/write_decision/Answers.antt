@@ -1,8 +1,0 @@
-use Rattle.std.proofs.lemmas.Result.{err_from_is_err_and}
-use Rattle.ptu_outside.proofs.Handing.{HasPutPart-none}
-use Rattle.ptpuni.proofs.answering.write_decision.Goals as goal
-
-pub returns-in_err-line-clause-part : goal.returns-in_err-line-clause-part
-returns-in_err-line-clause-part g c =
-    let p = err_from_is_err_and c.from_residual.result c.from_residual.ensures.1 in
-    rw p.1 (HasPutPart-none g.K.Sink.written g.K.Sink.handed c.args.sink.now _)

@@ -1,0 +1,46 @@
+-- Every script keeps to the headline.
+use Rattle.std.proofs.Common.{ℕ, List}
+use Rattle.ptu_world.specs.Deeds.{Grandmaster}
+use Rattle.ptu_world.specs.Grandmasters.{opening}
+use Rattle.ptu_world.specs.Promises.{KeepsPromises}
+use Rattle.ptu_world.specs.Headline.{DecidesByRoom, HasGrandmaster, PaysPeriods, SaysSo, SelectsBest, WithinBudget, WithinCapacity}
+use Rattle.ptu_world.specs.Sayings.{moment_handed}
+use Rattle.ptu_world.specs.World.{World, Stock}
+use Rattle.ptu_world.proofs.Deciding.{is_answered, is_decided}
+use Rattle.ptu_world.proofs.Promising.{run_keeps}
+use Rattle.ptu_world.proofs.Reporting.{ended, next, refused, said}
+use Rattle.ptu_world.proofs.Sayings.{datagram_names, event_names, says_of, step_best}
+use Rattle.ptu_world.proofs.Standing.{all_stand, grandmaster_runs, messages_sent}
+
+module _ (stock : Stock) (script : List ℕ) (w : World) (ip : ℕ) (g : Grandmaster) (h : HasGrandmaster stock script w ip g) where
+  keeps : KeepsPromises (opening g) g.past
+  keeps = run_keeps ip g (grandmaster_runs stock script w ip g h.reached h.node)
+
+pub within_capacity : (stock : Stock) (script : List ℕ) → WithinCapacity stock script
+within_capacity stock script = record { within = λ w ip g h. (keeps stock script w ip g h).within }
+
+pub decides_by_room : (stock : Stock) (script : List ℕ) → DecidesByRoom stock script
+decides_by_room stock script = record {
+  answered = λ w command r reaches handed. is_answered w command r handed;
+  decided = λ w command r reaches handed. is_decided r.handed.node r (grandmaster_runs stock script w r.handed.node r.gm reaches handed.node);
+}
+
+pub pays_periods : (stock : Stock) (script : List ℕ) → PaysPeriods stock script
+pays_periods stock script = record {
+  paid = λ w ip g h. (keeps stock script w ip g h).paid;
+  apart = λ w ip g h. (keeps stock script w ip g h).apart;
+  sent = λ w ip g h. messages_sent stock script w ip g h.reached h.node;
+}
+
+pub within_budget : (stock : Stock) (script : List ℕ) → WithinBudget stock script
+within_budget stock script = record { within = λ w ip g h. (keeps stock script w ip g h).budget }
+
+pub selects_best : (stock : Stock) (script : List ℕ) → SelectsBest stock script
+selects_best stock script = record {
+  best = λ w command done reaches e. step_best w (moment_handed command) done (says_of w (all_stand stock script w reaches) command done e);
+  event = λ w command done ip reaches of e. event_names w (all_stand stock script w reaches) command done ip of e;
+  datagram = λ w command done d s reaches handed node event e. datagram_names w (all_stand stock script w reaches) command done d s handed node event e;
+}
+
+pub says_so : (stock : Stock) (script : List ℕ) → SaysSo stock script
+says_so stock script = record { said = said stock script; leads_on = next stock script; refused = refused stock script; ended = ended stock script }

@@ -1,0 +1,77 @@
+-- The headline: what every script keeps to, in each world that it reaches, and that the report says so.
+use Rattle.std.specs.Prelude.{◌≡◌, ℕ, ◌+◌, ◌*◌, ◌≤◌, true, filter_map, List, [], ◌∷◌, ◌++◌, length, map, Some, Ok, Err}
+use Rattle.std.specs.List.{All, AllPairs}
+use Rattle.ptu_units.specs.declared.kind.Kind.{Kind}
+use Rattle.ptu_history.specs.declared.client.Client.{Client}
+use Rattle.ptu_history.specs.Held.{budget, count, force, held, payments}
+use Rattle.ptu_history.specs.History.{Record}
+use Rattle.ptu_laws.specs.Paid.{IsBefore}
+use Rattle.ptu_lines.specs.Script.{ScriptLine, Whole}
+use Rattle.ptu_script.specs.declared.cause.Cause.{Cause}
+use Rattle.ptu_script.specs.declared.command.Command.{Command}
+use Rattle.ptu_script.specs.Command.{command_of}
+use Rattle.ptu_report_lines.specs.declared.report_line.ReportLine.{ReportLine}
+use Rattle.ptu_report_lines.specs.declared.report_line.ReportLine.TheVariants.{At, End}
+use Rattle.ptu_report_lines.specs.declared.statement.Statement.TheVariants.{Bad}
+use Rattle.ptu_slave_messages.specs.Node.{datagram_heard}
+use Rattle.ptu_world.specs.Deeds.{Grandmaster, Slave, IsGrandmaster, IsSlave}
+use Rattle.ptu_world.specs.World.{World, Stock, Done, node_at, step}
+use Rattle.ptu_world.specs.Report.{report_lines}
+use Rattle.ptu_world.specs.Reached.{Reaches, done_by_line}
+use Rattle.ptu_world.specs.Promises.{AreMessagesSent, Handed, IsAnswered, IsDecidedByRoom, IsHanded, IsSentAfter, PaysItsPeriod, Request, handed_by}
+use Rattle.ptu_world.specs.Sayings.{IsBestChoice, NamesSelection, is_event, moment_handed, selected_in, slave_of}
+
+-- the script reaches the world, in which this grandmaster stands at the address
+pub record HasGrandmaster (stock : Stock) (script : List ℕ) (w : World) (ip : ℕ) (g : Grandmaster) : Type 0 where
+  pub reached : Reaches stock script w
+  pub node : node_at w.nodes ip ≡ Some (IsGrandmaster g)
+
+-- at every moment the granted rates of each grandmaster sum to at most its capacity, which is that in force
+pub record WithinCapacity (stock : Stock) (script : List ℕ) : Type 0 where
+  pub within : (w : World) (ip : ℕ) (g : Grandmaster) → HasGrandmaster stock script w ip g → (x : ℕ) → held g.past x ≤ force g.capacity g.past x
+
+-- each REQUEST that a datagram brings to a grandmaster is granted exactly where its rate fits beside the other live grants,
+-- and else answered with the duration zero, and the report and the reply say so (IEEE 1588-2019 clause 16.1)
+pub record DecidesByRoom (stock : Stock) (script : List ℕ) : Type 0 where
+  pub answered : (w : World) (command : Command) (r : Request) → Reaches stock script w → IsHanded w command r → IsAnswered w command r
+  pub decided : (w : World) (command : Command) (r : Request) → Reaches stock script w → IsHanded w command r → IsDecidedByRoom r
+
+-- each message of a grandmaster takes one whole period of its own inside a live grant; no two of one client and kind take
+-- the same time; and the messages of its history are the datagrams that it sent
+pub record PaysPeriods (stock : Stock) (script : List ℕ) : Type 0 where
+  pub paid : (w : World) (ip : ℕ) (g : Grandmaster) → HasGrandmaster stock script w ip g
+      → (before : List Record) (x : ℕ) (c : Client) (k : Kind) → IsSentAfter g.past before x c k → PaysItsPeriod g.past before x c k
+  pub apart : (w : World) (ip : ℕ) (g : Grandmaster) → HasGrandmaster stock script w ip g → AllPairs IsBefore (payments g.past)
+  pub sent : (w : World) (ip : ℕ) (g : Grandmaster) → HasGrandmaster stock script w ip g → AreMessagesSent w ip g
+
+-- up to every moment the messages of each grandmaster, at sixteen seconds of one sixteenth each, are at most its capacity
+-- summed over the nanoseconds before it
+pub record WithinBudget (stock : Stock) (script : List ℕ) : Type 0 where
+  pub within : (w : World) (ip : ℕ) (g : Grandmaster) → HasGrandmaster stock script w ip g
+      → (x : ℕ) → count g.past x * (16 * 1000000000) ≤ budget g.capacity g.past x
+
+-- each slave selects its best eligible master: each line that names a selection names that, by the slave's record, and each
+-- event of a slave has one such line (G.8265.1)
+pub record SelectsBest (stock : Stock) (script : List ℕ) : Type 0 where
+  pub best : (w : World) (command : Command) (done : Done) → Reaches stock script w → step w command ≡ Ok done
+      → All (λ p. IsBestChoice done.world (moment_handed command) p.0 p.1) (filter_map selected_in done.said)
+  pub event : (w : World) (command : Command) (done : Done) (ip : ℕ) → Reaches stock script w → slave_of command ≡ Some ip → step w command ≡ Ok done
+      → NamesSelection ip done.said
+  pub datagram : (w : World) (command : Command) (done : Done) (d : Handed) (s : Slave) → Reaches stock script w → handed_by w command ≡ Some d
+      → node_at w.nodes d.node ≡ Some (IsSlave s) → is_event (datagram_heard s.opened s.taken d.at d.from d.octets) ≡ true → step w command ≡ Ok done
+      → NamesSelection d.node done.said
+
+-- what is said at a line that is taken stands in the report, with the number of the line, and the line leads on to a world
+-- that the script reaches; the report ends with the line that names a refused one, or, when all lines were taken, with
+-- their number and that of the datagrams
+pub record SaysSo (stock : Stock) (script : List ℕ) : Type 0 where
+  pub said : (w : World) (r : Reaches stock script w) (text : List ℕ) (rest : List ScriptLine) (done : Done) → r.left ≡ Whole text ∷ rest
+      → done_by_line w (command_of text) ≡ Ok done
+      → (first later : List ReportLine) × (report_lines stock script ≡ first ++ (map (At (length r.taken + 1)) done.said ++ later))
+  pub leads_on : (w : World) (r : Reaches stock script w) (text : List ℕ) (rest : List ScriptLine) (done : Done) → r.left ≡ Whole text ∷ rest
+      → done_by_line w (command_of text) ≡ Ok done → Reaches stock script done.world
+  pub refused : (w : World) (r : Reaches stock script w) (text : List ℕ) (rest : List ScriptLine) (cause : Cause) → r.left ≡ Whole text ∷ rest
+      → done_by_line w (command_of text) ≡ Err cause
+      → (first : List ReportLine) × (report_lines stock script ≡ first ++ At (length r.taken + 1) (Bad cause) ∷ [])
+  pub ended : (w : World) (r : Reaches stock script w) → r.left ≡ []
+      → (first : List ReportLine) × (report_lines stock script ≡ first ++ End (length r.taken) (length w.sent) ∷ [])
