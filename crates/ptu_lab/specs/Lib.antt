@@ -6,3 +6,6 @@ pub mod Samples
 pub mod Standing
 pub mod Doing
 pub mod Replayed
+pub mod Generated
+pub mod LoadSamples
+pub mod Load
