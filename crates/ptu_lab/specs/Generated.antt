@@ -49,7 +49,7 @@ abbrev pub client_header : ℕ → Header
 client_header i = record { message_type = 12; domain = 4; flags = 0x0400; correction = pos 0; source = client_identity i; sequence = 0 }
 
 -- client i asks for Sync for 300 s at this logarithm
-abbrev pub request_of : ℕ → ℤ → List ℕ
+unfoldable pub request_of : ℕ → ℤ → List ℕ
 request_of i log = sent_message (signaling (client_header i) all_ports (Request (record { code = 0; log = log; seconds = 300 }) ∷ []))
 
 -- ---- the lines
@@ -84,7 +84,7 @@ abbrev pub turn_lines_at : ℕ → List (List ℕ)
 turn_lines_at k = map (turn_text (k * 1000000000)) (range_with_len 0 4)
 
 -- in these many seconds, from the first on
-abbrev pub turn_lines : ℕ → List (List ℕ)
+unfoldable pub turn_lines : ℕ → List (List ℕ)
 turn_lines seconds = flat_map turn_lines_at (range_with_len 1 seconds)
 
 -- the lines of the script of n clients, each with its 0A; there is capacity for 16 messages a second of each

@@ -62,6 +62,7 @@ fn log_from(x: u64) -> i8
 
 // Writes the Signaling in which a client asks for Sync at this logarithm for 300 s to the front of
 // `out`, and answers its size in octets.
+#[tactic(auto, unfolding(crate::specs::Generated::request_of))]
 fn write_request(client: u64, log: i8, out: &mut [u8; 428]) -> usize
     requires { client < 2000 }
     ensures size { result ≤ 428 }
