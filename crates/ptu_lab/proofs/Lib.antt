@@ -1,2 +1,3 @@
 pub mod ShowCauses
 pub mod LoadWriting
+pub mod LoadCounts

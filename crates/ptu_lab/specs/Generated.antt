@@ -92,7 +92,7 @@ abbrev pub generated_lines : ℕ → List (List ℕ)
 generated_lines n = grandmaster_text (16 * n) ∷ ask_lines n ++ turn_lines 8
 
 -- the script
-abbrev pub generated : ℕ → List ℕ
+unfoldable pub generated : ℕ → List ℕ
 generated n = joined (generated_lines n)
 
 -- ---- why it is not written

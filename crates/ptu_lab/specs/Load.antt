@@ -17,7 +17,7 @@ abbrev pub no_stock : Stock
 no_stock = record { flags = 0; gaps = 0 }
 
 -- the numbers of the report on a script without slaves: its lines and the datagrams sent, and its counts of `granted` and `short` lines
-abbrev pub numbers_of : List ℕ → Done
+unfoldable pub numbers_of : List ℕ → Done
 numbers_of script = record {
   lines = length (script_lines script);
   datagrams = length (world_of no_stock script).sent;
@@ -34,11 +34,15 @@ summary_data done = object
     (member (codes "refused") (number (unsigned done.refused))
     no_members))))
 
--- its compact text, and the 0A of its line
-abbrev pub summary_text : Done → List ℕ
-summary_text done =
+-- its compact text
+unfoldable pub object_text : Done → List ℕ
+object_text done =
     codes "{\"datagrams\":" ++ (decimal done.datagrams ++ (codes ",\"granted\":" ++ (decimal done.granted
-    ++ (codes ",\"lines\":" ++ (decimal done.lines ++ (codes ",\"refused\":" ++ (decimal done.refused ++ codes "}\n")))))))
+    ++ (codes ",\"lines\":" ++ (decimal done.lines ++ (codes ",\"refused\":" ++ (decimal done.refused ++ codes "}")))))))
+
+-- the line of it
+abbrev pub summary_text : Done → List ℕ
+summary_text done = object_text done ++ codes "\n"
 
 -- what a load of n clients writes
 abbrev pub summary : ℕ → List ℕ
@@ -46,7 +50,7 @@ summary n = summary_text (numbers_of (generated n))
 
 -- why no summary of the script is written: its report ends with a line that is refused, the sink failed, or memory was wanted
 abbrev pub HasLoadCause : List ℕ → LabFault → Type 0
-HasLoadCause script (faults.Line number cause) = EndsBy (Refused number cause) (world_of no_stock script) (report_lines no_stock script)
+HasLoadCause script (faults.Line line cause) = EndsBy (Refused line cause) (world_of no_stock script) (report_lines no_stock script)
 HasLoadCause script faults.Read = ⊥
 HasLoadCause script faults.Write = Unit {0}
 HasLoadCause script faults.OutOfMemory = Unit {0}

@@ -9,7 +9,7 @@ ghost use Rattle.ptu_outside.specs.Faults.{HasRisen};
 ghost use Rattle.ptu_outside.specs.Handing.{Grows, HasPut, HasPutPart};
 ghost use Rattle.ptu_lab.specs.Answers.{CountsWrite};
 ghost use Rattle.ptu_lab.specs.Generated.{IsWriteOrMemory, generated};
-ghost use Rattle.ptu_lab.specs.Load.{HasLoadCause, numbers_of, summary, summary_data, summary_text};
+ghost use Rattle.ptu_lab.specs.Load.{HasLoadCause, numbers_of, object_text, summary, summary_data, summary_text};
 
 use crate::done::Done;
 use crate::fault::LabFault;
@@ -101,7 +101,7 @@ fn summary_value(alloc: Global, done: Done) -> Result<Value, AllocError>
 
 // Its compact text.
 fn summary_object(alloc: Global, done: Done) -> Result<String, AllocError>
-    ensures { IfOk result (λ text. string_bytes text ++ codes "\n" ≡ summary_text done) }
+    ensures { IfOk result (λ text. string_bytes text ≡ object_text done) }
 {
     let value = summary_value(alloc, done)?;
     value.to_string(alloc)

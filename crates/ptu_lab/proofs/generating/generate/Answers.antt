@@ -29,6 +29,7 @@ returns-clause-whole g c =
     c.put_turns.ensures.whole
 
 pub returns-clause-written : goal.returns-clause-written
+unfolding generated
 returns-clause-written g c =
     on_ok (HasPut g.K.Sink.written g.K.Sink.handed c.args.sink.now c.put_turns.new.sink (generated_lines c.args.number))
     (g.K.Sink.written c.put_turns.new.sink ≡ append_known (g.K.Sink.written c.args.sink.now) (generated c.args.number)) c.put_turns.result
