@@ -9,3 +9,4 @@ pub mod Replayed
 pub mod Generated
 pub mod LoadSamples
 pub mod Load
+pub mod SummarySamples

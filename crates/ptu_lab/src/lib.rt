@@ -22,10 +22,12 @@ pub use done::Done;
 pub use fault::LabFault;
 pub use generating::{LoadLine, generate, sample_loads};
 pub use laws::sample_lines;
-pub use loading::load;
+pub use loading::{load, sample_summaries};
 pub use ptu_judges::Stock;
 pub use ptu_script::Cause;
 pub use replaying::replay;
 
+#[cfg(test)]
+mod load_tests;
 #[cfg(test)]
 mod tests;

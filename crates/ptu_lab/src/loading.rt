@@ -9,6 +9,7 @@ ghost use Rattle.ptu_outside.specs.Faults.{HasRisen};
 ghost use Rattle.ptu_outside.specs.Handing.{Grows, HasPut, HasPutPart};
 ghost use Rattle.ptu_lab.specs.Answers.{CountsWrite};
 ghost use Rattle.ptu_lab.specs.Generated.{IsWriteOrMemory, generated};
+ghost use Rattle.ptu_lab.specs.SummarySamples.{FiveClients, OneClient};
 ghost use Rattle.ptu_lab.specs.Load.{HasLoadCause, numbers_of, object_text, summary, summary_data, summary_text};
 
 use crate::done::Done;
@@ -141,3 +142,9 @@ pub fn load<K: Sink>(alloc: Global, number: u64, sink: &mut K) -> Result<(), Lab
         Err(_) => Err(LabFault::OutOfMemory),
     }
 }
+
+/// What loads of few clients write.
+pub fn sample_summaries()
+    ensures one { OneClient }
+    ensures five { FiveClients }
+{}
