@@ -6,7 +6,6 @@ use Rattle.std.specs.List.{flat_map, range_with_len}
 use Rattle.hex.specs.Hex.{encode_lower}
 use Rattle.ptu_header.specs.declared.header.Header.{Header}
 use Rattle.ptu_header.specs.declared.header.PortIdentity.{PortIdentity}
-use Rattle.ptu_tlvs.specs.declared.tlv.Ask.{Ask}
 use Rattle.ptu_tlvs.specs.declared.tlv.Tlv.TheVariants.{Request}
 use Rattle.ptu_messages.specs.Sent.{sent_message, signaling}
 use Rattle.ptu_outside.specs.Handing.{joined}

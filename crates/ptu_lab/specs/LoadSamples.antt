@@ -1,5 +1,5 @@
 -- What the script of a load is, at numbers that were made out by hand.
-use Rattle.std.specs.Prelude.{◌≡◌, ℕ, ◌+◌, ◌/◌, [], ◌∷◌, ◌++◌, codes, drop, length, map, pos, negsuc, take}
+use Rattle.std.specs.Prelude.{◌≡◌, ℕ, ◌+◌, ◌/◌, [], ◌∷◌, codes, drop, length, map, pos, negsuc, take}
 use Rattle.std.specs.List.{range_with_len}
 use Rattle.ptu_lab.specs.Generated.{client_text, generated_lines, log_of_client, request_of, x_at}
 

@@ -20,11 +20,19 @@ use std::fmt;
 #[derive(Clone, Copy)]
 pub enum LoadLine<'a> {
     /// The grandmaster, with this capacity.
-    Grandmaster { capacity: u64 },
+    Grandmaster {
+        capacity: u64,
+    },
     /// The client with this number, from 0, hands in this datagram.
-    Client { number: u64, datagram: OctetsText<'a> },
+    Client {
+        number: u64,
+        datagram: OctetsText<'a>,
+    },
     /// A table takes a turn at this moment, in nanoseconds.
-    Turn { moment: u64, table: u64 },
+    Turn {
+        moment: u64,
+        table: u64,
+    },
 }
 
 impl fmt::Display for LoadLine<'_> {

@@ -63,9 +63,15 @@ fn the_greatest_script_has_its_lines(rt: HostRuntime) -> Result<(), Fail> {
 fn loads_write_their_numbers(rt: HostRuntime) -> Result<(), Fail> {
     let alloc = rt.alloc();
     let one = loaded(alloc, 1)?;
-    assert_eq!(rt; one.as_str(), "{\"datagrams\":5,\"granted\":1,\"lines\":34,\"refused\":0}\n");
+    assert_eq!(rt;
+        one.as_str(),
+        "{\"datagrams\":5,\"granted\":1,\"lines\":34,\"refused\":0}\n"
+    );
     let five = loaded(alloc, 5)?;
-    assert_eq!(rt; five.as_str(), "{\"datagrams\":25,\"granted\":4,\"lines\":38,\"refused\":1}\n");
+    assert_eq!(rt;
+        five.as_str(),
+        "{\"datagrams\":25,\"granted\":4,\"lines\":38,\"refused\":1}\n"
+    );
     Ok(())
 }
 

@@ -23,7 +23,7 @@ returns-clause-whole g c =
     let H = g.K.Sink.handed in
     let n = c.args.number in
     let first = HasPut-append W H c.args.sink.now c.put_line.new.sink c.put_clients.new.sink (grandmaster_text (16 * n) ∷ []) (ask_lines n)
-        c.in_ok-put_line.ensures.whole c.in_ok-put_clients.ensures.whole in
+    c.in_ok-put_line.ensures.whole c.in_ok-put_clients.ensures.whole in
     on_ok (HasPut W H c.put_clients.new.sink c.put_turns.new.sink (turn_lines 8)) (HasPut W H c.args.sink.now c.put_turns.new.sink (generated_lines n)) c.put_turns.result
     (HasPut-append W H c.args.sink.now c.put_clients.new.sink c.put_turns.new.sink (grandmaster_text (16 * n) ∷ ask_lines n) (turn_lines 8) first)
     c.put_turns.ensures.whole
@@ -42,7 +42,7 @@ returns-clause-front g c =
     let n = c.args.number in
     let lines = grandmaster_text (16 * n) ∷ ask_lines n in
     let first = HasPut-append W H c.args.sink.now c.put_line.new.sink c.put_clients.new.sink (grandmaster_text (16 * n) ∷ []) (ask_lines n)
-        c.in_ok-put_line.ensures.whole c.in_ok-put_clients.ensures.whole in
+    c.in_ok-put_line.ensures.whole c.in_ok-put_clients.ensures.whole in
     ok_or_err (HasPut W H c.put_clients.new.sink c.put_turns.new.sink (turn_lines 8)) (HasPutPart W H c.put_clients.new.sink c.put_turns.new.sink (turn_lines 8))
     (HasPutPart W H c.args.sink.now c.put_turns.new.sink (generated_lines n)) c.put_turns.result
     (λ put. HasPut-part W H c.args.sink.now c.put_clients.new.sink c.put_turns.new.sink lines (turn_lines 8) first

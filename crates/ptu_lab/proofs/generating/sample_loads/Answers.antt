@@ -1,6 +1,5 @@
-use Rattle.std.proofs.Common.{◌≡◌, ◌∙◌, ℕ, ◌+◌, suc, List, length, ◌++◌, refl, ap, arith}
+use Rattle.std.proofs.Common.{◌∙◌, ◌+◌, suc, refl, ap, arith}
 use Rattle.std.specs.Fmt.{digits}
-use Rattle.std.specs.List.{range_with_len}
 use Rattle.std.proofs.lemmas.List.{length-append}
 use Rattle.std.proofs.lemmas.List.FromFn.{length-map-range_with_len}
 use Rattle.hex.specs.Hex.{encode_with}
