@@ -5,3 +5,5 @@ pub mod GrandmasterDone
 pub mod GrandmasterTurns
 pub mod GrandmasterChanges
 pub mod GrandmasterReceipts
+pub mod LoadWriting
+pub mod LoadCounts

@@ -8,3 +8,7 @@ pub mod Doing
 pub mod Replayed
 pub mod GrandmasterPorts
 pub mod GrandmasterStatements
+pub mod Generated
+pub mod LoadSamples
+pub mod Load
+pub mod SummarySamples

@@ -6,6 +6,7 @@ mod datagram;
 mod decoding;
 mod done;
 mod fault;
+mod generating;
 mod grandmaster_node;
 mod grandmaster_ports;
 mod grandmaster_statements;
@@ -13,6 +14,7 @@ mod handing;
 mod lab;
 mod laws;
 mod lines;
+mod loading;
 mod replaying;
 mod slave_node;
 mod tally;
@@ -20,10 +22,14 @@ mod tally;
 pub use decoding::show;
 pub use done::Done;
 pub use fault::LabFault;
+pub use generating::{LoadLine, generate, sample_loads};
 pub use laws::sample_lines;
+pub use loading::{load, sample_summaries};
 pub use ptu_judges::Stock;
 pub use ptu_script::Cause;
 pub use replaying::replay;
 
+#[cfg(test)]
+mod load_tests;
 #[cfg(test)]
 mod tests;

@@ -1,0 +1,13 @@
+use Rattle.std.proofs.Common.{refl}
+use Rattle.ptu_lab.proofs.LoadCounts.{causes, numbers}
+use Rattle.ptu_lab.proofs.loading.replayed.Goals as goal
+
+pub returns-clause-numbers : goal.returns-clause-numbers
+returns-clause-numbers c =
+    numbers _ _ _ _ c.args.octets.now _ c.replay.result (rw (c.new.ensures.items, c.new-2.ensures.items) refl) (c.replay.ensures.whole c.args.octets.now refl)
+    (c.replay.ensures.counts c.args.octets.now refl)
+
+pub returns-clause-cause : goal.returns-clause-cause
+returns-clause-cause c =
+    causes _ _ _ _ c.args.octets.now _ c.replay.result (rw (c.new.ensures.items, c.new-2.ensures.items) refl) (c.replay.ensures.whole c.args.octets.now refl)
+    c.replay.ensures.source_counts
