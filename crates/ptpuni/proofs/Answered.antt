@@ -1,12 +1,11 @@
 -- What a status says of the answer that it stands for.
-use Rattle.std.proofs.Common.{◌≡◌, ◌∙◌, ℕ, ◌++◌, arith, lit<, Bool, true, false, List, [], ◌∷◌, Option, Result, Ok, Err, refl, sym, ap, subst, inl, inr}
+use Rattle.std.proofs.Common.{◌≡◌, ◌∙◌, ℕ, ◌++◌, arith, lit<, Bool, true, false, List, [], ◌∷◌, Option, Result, Ok, Err, refl, sym, ap, inl, inr}
 use Rattle.std.specs.Prelude.{◌≢◌, ◌⊎◌, Contains, OnOk, if◌then◌else◌}
 use Rattle.std.specs.Io.KnownBytes.{IsAtEnd}
 use Rattle.ptu_outside.specs.Faults.{HasRisen}
 use Rattle.ptu_report.specs.declared.ending.Ending.TheVariants.{Whole, Refused}
 use Rattle.ptu_report_lines.specs.declared.report_line.ReportLine.{ReportLine}
 use Rattle.ptu_report_lines.specs.declared.report_line.ReportLine.TheVariants.{At, End}
-use Rattle.ptu_report_lines.specs.declared.statement.Statement.TheVariants.{Bad}
 use Rattle.ptu_world.specs.World.{World, Stock}
 use Rattle.ptu_world.specs.Facts.{EndsBy, world_of}
 use Rattle.ptu_world.specs.Report.{report_lines}

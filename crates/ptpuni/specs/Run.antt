@@ -7,7 +7,7 @@ use Rattle.ptu_report.specs.declared.ending.Ending.TheVariants.{Whole, Refused}
 use Rattle.ptu_report.specs.Reported.{HasReportedAllRead}
 use Rattle.ptu_script.specs.declared.cause.Cause.{Cause}
 use Rattle.ptu_report_lines.specs.declared.report_line.ReportLine.{ReportLine}
-use Rattle.ptu_report_lines.specs.declared.report_line.ReportLine.TheVariants.{At, End}
+use Rattle.ptu_report_lines.specs.declared.report_line.ReportLine.TheVariants.{End}
 use Rattle.ptu_world.specs.World.{Stock}
 use Rattle.ptu_world.specs.Report.{course_opening, report, report_lines, rules}
 use Rattle.ptu_lab.specs.declared.fault.LabFault.{LabFault}

@@ -7,11 +7,11 @@
 
 mod run;
 
-ghost use Rattle.std.specs.Prelude.{◌≡◌, ◌≢◌, IfOk, map};
+ghost use Rattle.std.specs.Prelude.{◌≡◌, ◌≢◌, IfOk, OnOk, map};
 ghost use Rattle.std.specs.String.{string_bytes};
-ghost use Rattle.ptu_judges.specs.Held.{IsStock};
+ghost use Rattle.ptu_judges.specs.Held.{IsStock, fresh};
 
-use ptu_judges::{FlagJudge, GapJudge, Stock};
+use ptu_judges::{FlagJudge, GapJudge, Judge, Rule, Stock};
 use ptu_outside::{StdSink, StdSource};
 use ptu_words::USAGE_TEXT;
 use run::{OUT_OF_MEMORY, USAGE};
@@ -66,6 +66,24 @@ fn status_of(rt: &HostRuntime, words: &[String], stock: Stock) -> u8
     run::run(rt.alloc(), &texts, &mut source, &mut sink, stock)
 }
 
+// Puts a judge of each rule into the stock.
+fn add_judges(
+    stock: &mut Stock,
+    flag: Box<dyn Judge>,
+    gap: Box<dyn Judge>,
+) -> Result<(), AllocError>
+    requires flag { held flag ≡ fresh Rule.Flag }
+    requires gap { held gap ≡ fresh (Rule.Gap 4) }
+    requires stock { IsStock (map (λ j. held j) stock.old.flags.items)
+        (map (λ j. held j) stock.old.gaps.items) }
+    ensures { OnOk result (IsStock (map (λ j. held j) stock.new.flags.items)
+        (map (λ j. held j) stock.new.gaps.items)) }
+{
+    stock.flags.push(flag)?;
+    stock.gaps.push(gap)?;
+    Ok(())
+}
+
 fn main(rt: HostRuntime) -> ExitCode {
     let alloc = rt.alloc();
     let mut stock = Stock {
@@ -73,13 +91,12 @@ fn main(rt: HostRuntime) -> ExitCode {
         gaps: Vec::new(alloc),
     };
     for _ in 0..64 {
-        let (Ok(flag), Ok(gap)) = (
-            Box::new(alloc, FlagJudge::new()),
-            Box::new(alloc, GapJudge::new(4)),
-        ) else {
+        let flag = Box::new(alloc, FlagJudge::new());
+        let gap = Box::new(alloc, GapJudge::new(4));
+        let (Ok(flag), Ok(gap)) = (flag, gap) else {
             return ExitCode::from(OUT_OF_MEMORY);
         };
-        if stock.flags.push(flag).is_err() || stock.gaps.push(gap).is_err() {
+        if add_judges(&mut stock, flag, gap).is_err() {
             return ExitCode::from(OUT_OF_MEMORY);
         }
     }
@@ -93,5 +110,5 @@ fn main(rt: HostRuntime) -> ExitCode {
     ExitCode::from(status)
 }
 
-
-
+#[cfg(test)]
+mod tests;

@@ -1,6 +1,4 @@
-use Rattle.std.proofs.Common.{sym, subst}
-use Rattle.std.specs.Prelude.{◌≡◌, ◌⊎◌, Contains}
-use Rattle.ptpuni.specs.Run.{HasRun, stock_of, statuses}
+use Rattle.ptpuni.specs.Run.{stock_of}
 use Rattle.ptpuni.proofs.Answered.{by_counts, by_status, is_status, replayed, shown}
 use Rattle.ptpuni.proofs.run.run_command.Goals as goal
 

@@ -1,0 +1,10 @@
+use Rattle.std.proofs.Common.{map}
+use Rattle.ptu_judges.specs.Held.{IsStock}
+use Rattle.ptpuni.specs.contracts.add_judges as count
+use Rattle.ptpuni.proofs.main.OwnLists as own
+use Rattle.ptpuni.proofs.main.Given as goal
+
+abbrev pub invariant-loop : goal.invariant-loop
+invariant-loop l =
+    IsStock (map (λ j. (count.dyn-1.members (count.dyn-1-ghosts (own.own-1, own.lawful-own-1)) (j.vtable, j.value)).held j.value) l.stock.flags.items)
+    (map (λ j. (count.dyn-1.members (count.dyn-1-ghosts (own.own-1, own.lawful-own-1)) (j.vtable, j.value)).held j.value) l.stock.gaps.items)

@@ -1,0 +1,173 @@
+//! Runs over memory: each output and each status was made out by hand.
+
+ghost use Rattle.std.specs.Prelude.{map};
+ghost use Rattle.ptu_judges.specs.Held.{IsStock};
+
+use crate::run::run;
+use ptu_judges::{FlagJudge, Stock};
+use ptu_outside::{MemSink, MemSource};
+use std::alloc::Global;
+use std::test::Fail;
+
+// A client asks a grandmaster for Announces at the logarithm 1.
+const ONE_ASK: &str = "\
+    gm 10.0.0.1 0a00000000000001 1 4 84 8 300\n\
+    rx 0 10.0.0.1 10.0.1.17 0c120036040004000000000000000000000000000a0000000000001100010000057f\
+    ffffffffffffffffffff00040006b0010000012c\n";
+
+const ONE_GRANT: &str = "\
+    2 granted announce 1 at 0 until 300000000000\n\
+    2 send 1 10.0.0.1 10.0.1.17 general 0c120038040004000000000000000000000000000a00000000000001\
+    00010000057f0a00000000000011000100050008b0010000012c0001\n\
+    end 2 1\n";
+
+// A slave asks a grandmaster, hears its messages and selects it.
+const BOTH_ENDS: &str = "\
+    gm 10.0.0.1 0a00000000000001 1 4 84 2048 300\n\
+    slave 10.0.1.17 0a00000000000011 1 4 300 3 3 1 0 - 300\n\
+    master 10.0.1.17 10.0.0.1 1 flag\n\
+    tick 0 10.0.1.17\n\
+    deliver 1000000 1\n\
+    deliver 2000000 2\n\
+    turn 2001000000 10.0.0.1 2\n\
+    deliver 2002000000 3\n\
+    deliver 2003000000 4\n";
+
+const SELECTED: &str = "\
+    4 send 1 10.0.1.17 10.0.0.1 general 0c120040040004000000000000000000000000000a00000000000011\
+    00010000057fffffffffffffffffffff00040006b0010000012c0004000600000000012c\n\
+    4 selected 10.0.1.17 none\n\
+    5 granted announce 1 at 1000000 until 300001000000\n\
+    5 granted sync 0 at 1000000 until 300001000000\n\
+    5 send 2 10.0.0.1 10.0.1.17 general 0c120044040004000000000000000000000000000a00000000000001\
+    00010000057f0a00000000000011000100050008b0010000012c00010005000800000000012c0001\n\
+    6 grant announce 300\n\
+    6 grant sync 300\n\
+    6 selected 10.0.1.17 none\n\
+    7 send 3 10.0.0.1 10.0.1.17 event 0012002c040004000000000000000000000000000a0000000000000100\
+    010000007f000000000002000f4240\n\
+    7 send 4 10.0.0.1 10.0.1.17 general 0b120040040004000000000000000000000000000a00000000000001\
+    00010000057f000000000002000f42400000008054feffff800a000000000000010000a0\n\
+    8 heard sync 10.0.0.1 seq 0 at 2002000000\n\
+    8 selected 10.0.1.17 none\n\
+    9 heard announce 10.0.0.1 class 84 at 2003000000\n\
+    9 selected 10.0.1.17 10.0.0.1\n\
+    end 9 4\n";
+
+// A stock without judges.
+fn no_judges(alloc: Global) -> Stock
+    ensures { IsStock (map (λ j. held (j.vtable, j.value)) result.flags.items)
+        (map (λ j. held (j.vtable, j.value)) result.gaps.items) }
+{
+    Stock {
+        flags: Vec::new(alloc),
+        gaps: Vec::new(alloc),
+    }
+}
+
+// What a run over memory answers and writes, with a read and a write that fail; none has the number
+// 0.
+fn ran(
+    alloc: Global,
+    words: &[&str],
+    input: &str,
+    failing_read: u64,
+    failing_write: u64,
+    stock: Stock,
+) -> Result<(u8, String), Fail>
+    requires { IsStock (map (λ j. held (j.vtable, j.value)) stock.flags.items)
+        (map (λ j. held (j.vtable, j.value)) stock.gaps.items) }
+{
+    let bytes = Vec::from_slice(alloc, input.as_bytes())?;
+    let mut source = MemSource::new(bytes, vec![in alloc; failing_read]?);
+    let mut sink = MemSink::new(alloc, vec![in alloc; failing_write]?);
+    let status = run(alloc, words, &mut source, &mut sink, stock);
+    let text = String::from_utf8(sink.into_bytes())
+        .ok()
+        .ok_or("plain text")?;
+    Ok((status, text))
+}
+
+// The number of lines of a text.
+fn lines_in(text: &str) -> usize {
+    text.as_bytes().iter().filter(|b| **b == b'\n').count()
+}
+
+#[test]
+fn each_read_fails_in_turn(rt: HostRuntime) -> Result<(), Fail> {
+    let alloc = rt.alloc();
+    for (script, report) in [(ONE_ASK, ONE_GRANT), (BOTH_ENDS, SELECTED)] {
+        let whole = lines_in(report);
+        // The first read gives the script, the second its end.
+        for (read, status, lines) in [(1, 66, 0), (2, 66, whole.saturating_sub(1)), (3, 0, whole)] {
+            let mut stock = no_judges(alloc);
+            stock.flags.push(Box::new(alloc, FlagJudge::new())?)?;
+            let (found, text) = ran(alloc, &["replay"], script, read, 0, stock)?;
+            assert_eq!(rt; found, status);
+            assert!(rt; report.starts_with(text.as_str()), "{text}");
+            assert_eq!(rt; lines_in(text.as_str()), lines);
+        }
+    }
+    Ok(())
+}
+
+#[test]
+fn each_write_fails_in_turn(rt: HostRuntime) -> Result<(), Fail> {
+    let alloc = rt.alloc();
+    for (script, report) in [(ONE_ASK, ONE_GRANT), (BOTH_ENDS, SELECTED)] {
+        let whole = lines_in(report);
+        for lines in 0..=whole {
+            let mut stock = no_judges(alloc);
+            stock.flags.push(Box::new(alloc, FlagJudge::new())?)?;
+            let write = lines as u64 + 1;
+            let (found, text) = ran(alloc, &["replay"], script, 0, write, stock)?;
+            assert_eq!(rt; found, if lines < whole { 67 } else { 0 });
+            assert!(rt; report.starts_with(text.as_str()), "{text}");
+            assert_eq!(rt; lines_in(text.as_str()), lines);
+        }
+    }
+    Ok(())
+}
+
+// Whether the words are refused before anything is read or written.
+fn refuses(alloc: Global, words: &[&str]) -> Result<bool, Fail> {
+    let (status, text) = ran(alloc, words, ONE_ASK, 1, 1, no_judges(alloc))?;
+    Ok(status == 64 && text.is_empty())
+}
+
+#[test]
+fn words_of_no_command(rt: HostRuntime) -> Result<(), Fail> {
+    let alloc = rt.alloc();
+    assert!(rt; refuses(alloc, &[])?);
+    assert!(rt; refuses(alloc, &["replay", "x"])?);
+    assert!(rt; refuses(alloc, &["load", "0"])?);
+    assert!(rt; refuses(alloc, &["load", "2001"])?);
+    assert!(rt; refuses(alloc, &["walk"])?);
+    Ok(())
+}
+
+#[test]
+fn datagrams_are_shown(rt: HostRuntime) -> Result<(), Fail> {
+    let alloc = rt.alloc();
+    for (input, output, status) in [
+        (
+            "0c120036040004000000000000000000000000000a0000000000001100010000057f\
+             ffffffffffffffffffff00040006b0010000012c\n",
+            "1 signaling length 54 domain 4 from 0a00000000000011/1 seq 0 to \
+             ffffffffffffffff/65535 request 11 1 300\nend 1\n",
+            0,
+        ),
+        (
+            "0012002c040004000000000000000000000000000a000000000000010001\
+             0000007f00000000000100000000",
+            "1 sync length 44 domain 4 from 0a00000000000001/1 seq 0 stamp 1 0\nend 1\n",
+            0,
+        ),
+        ("0c1\n", "1 bad field 1\n", 65),
+    ] {
+        let (found, text) = ran(alloc, &["show"], input, 0, 0, no_judges(alloc))?;
+        assert_eq!(rt; found, status);
+        assert_eq!(rt; text.as_str(), output);
+    }
+    Ok(())
+}
