@@ -26,4 +26,6 @@ pub use ptu_script::Cause;
 pub use replaying::replay;
 
 #[cfg(test)]
+mod grandmaster_tests;
+#[cfg(test)]
 mod tests;
