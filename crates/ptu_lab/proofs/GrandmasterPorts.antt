@@ -32,15 +32,6 @@ goes_on_by false false false false port gm = record { config = refl; stands = λ
 pub goes_on_lent : (i : ℕ) (port : MemoryPort) (gm : KeptGm MemoryPort) → GoesOn gm (with_port i port gm)
 goes_on_lent i port gm = goes_on_by (i == 4) (i == 0) (i == 1) (i == 2) port gm
 
-pub goes_on_self : (gm : KeptGm MemoryPort) → GoesOn gm gm
-goes_on_self gm = record { config = refl; stands = λ opening history h. h }
-
-pub goes_on_more : (old now new : KeptGm MemoryPort) → GoesOn old now → GoesOn now new → GoesOn old new
-goes_on_more old now new first second = record {
-  config = second.config ∙ first.config;
-  stands = λ opening history h. second.stands opening history (first.stands opening history h);
-}
-
 -- ---- datagrams are handed over
 
 sending_said-append : (before : ℕ) (xs ys : List Sent) → sending_said before (xs ++ ys) ≡ sending_said before xs ++ sending_said (before + length xs) ys

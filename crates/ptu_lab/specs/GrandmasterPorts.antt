@@ -1,7 +1,7 @@
 -- The ports of a grandmaster of the lab, and what was handed to them.
-use Rattle.std.specs.Prelude.{◌≡◌, ℕ, List, ◌++◌, length, map}
+use Rattle.std.specs.Prelude.{◌≡◌, ℕ, ◌+◌, ◌≤◌, List, ◌++◌, length, map}
 use Rattle.ptu_outside.specs.Departure.{Departure}
-use Rattle.ptu_outside.specs.MemoryPort.{MemoryPort}
+use Rattle.ptu_outside.specs.MemoryPort.{MemoryPort, octets_of}
 use Rattle.ptu_history.specs.History.{Record}
 use Rattle.ptu_grandmaster.specs.Gm.{KeptGm, StandsFor}
 use Rattle.ptu_report_lines.specs.declared.sent.Sent.{Sent}
@@ -17,6 +17,10 @@ pub record HasHanded (ip line : ℕ) (handed : List Departure) (sent sent' : Lis
 -- the datagrams that stand in the ports, by port
 abbrev pub in_ports : KeptGm MemoryPort → List Departure
 in_ports gm = gm.s0.port.sent ++ gm.s1.port.sent ++ gm.s2.port.sent ++ gm.s3.port.sent ++ gm.reply.sent
+
+-- there is room for so many datagrams more, and for so many octets in them
+abbrev pub HasRoom : ℕ → ℕ → MemoryPort → Type 0
+HasRoom datagrams octets port = (length port.sent + datagrams ≤ port.datagrams) × (octets_of port.sent + octets ≤ port.octets)
 
 -- it has the configuration that it had, and stands for each history that it stood for
 pub record GoesOn (old new : KeptGm MemoryPort) : Type 0 where

@@ -68,9 +68,9 @@ impl GrandmasterNode {
         tables.saturating_add(self.gm.count(2).saturating_add(self.gm.count(3)))
     }
 
-    /// Takes a datagram that came from this IPv4 address: what it comes to and what is sent is added
-    /// to the texts of the script's line of this number, and what is sent to that which was sent
-    /// before.
+    /// Takes a datagram that came from this IPv4 address: what it comes to and what is sent is
+    /// added to the texts of the script's line of this number, and what is sent to that which was
+    /// sent before.
     ///
     /// # Errors
     /// `OutOfMemory`, also where room for what it sends was not found.

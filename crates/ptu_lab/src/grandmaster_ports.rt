@@ -2,7 +2,7 @@
 
 ghost use Rattle.std.specs.Prelude.{◌≡◌, ◌<◌, [], OnOk};
 ghost use Rattle.ptu_grandmaster.specs.Gm.{port_at, with_port};
-ghost use Rattle.ptu_lab.specs.GrandmasterPorts.{GoesOn, HasHanded, in_ports};
+ghost use Rattle.ptu_lab.specs.GrandmasterPorts.{GoesOn, HasHanded, HasRoom, in_ports};
 ghost use Rattle.ptu_lab.specs.Standing.{AreIdle};
 
 use crate::handing::hand_over;
@@ -37,6 +37,8 @@ pub fn reserve(
     octets: usize,
 ) -> Result<(), OutOfMemory>
     requires { port < 5 }
+    ensures room { OnOk result (HasRoom datagrams octets (port_at port gm.new)) }
+    ensures rest { gm.new ≡ with_port port (port_at port gm.new) gm.old }
     ensures goes_on { GoesOn gm.old gm.new }
     ensures idle { AreIdle gm.old → AreIdle gm.new }
 {
@@ -49,12 +51,16 @@ pub fn reserve(
 /// # Errors
 /// `OutOfMemory`.
 pub fn reserve_replies(gm: &mut Gm<MemPort>) -> Result<(), OutOfMemory>
+    ensures tables { OnOk result ((HasRoom 1 54 gm.new.s0.port) × (HasRoom 1 54 gm.new.s1.port)
+        × (HasRoom 1 54 gm.new.s2.port) × (HasRoom 1 54 gm.new.s3.port)) }
+    ensures reply { OnOk result (HasRoom 1 428 gm.new.reply) }
     ensures goes_on { GoesOn gm.old gm.new }
     ensures idle { AreIdle gm.old → AreIdle gm.new }
 {
-    for table in 0..SIGNALING_PORT {
-        reserve(gm, table, 1, DELAY_RESP)?;
-    }
+    reserve(gm, 0, 1, DELAY_RESP)?;
+    reserve(gm, 1, 1, DELAY_RESP)?;
+    reserve(gm, 2, 1, DELAY_RESP)?;
+    reserve(gm, 3, 1, DELAY_RESP)?;
     reserve(gm, SIGNALING_PORT, 1, SIGNALING)
 }
 

@@ -77,7 +77,8 @@ fn outside(ask: Ask, cause: Outside) -> Decision
 
 // What a CANCEL of this messageType came to.
 fn ending(code: u8, answer: Option<Cancelled>) -> Decision
-    ensures { statements.Decided result ≡ decision_said (decision_seen (Outcome.Cancel code answer)) }
+    ensures { statements.Decided result
+        ≡ decision_said (decision_seen (Outcome.Cancel code answer)) }
 {
     match (Kind::of(code), answer) {
         (Some(kind), Some(Cancelled { at, ended: true })) => Decision::Cancelled { kind, at },

@@ -1,18 +1,17 @@
 ghost use Rattle.std.specs.Prelude.{◌≡◌, ◌+◌, ◌++◌, ◌∷◌, [], length, map, OnOk};
-ghost use Rattle.ptu_outside.specs.Departure.{Departure};
 ghost use Rattle.ptu_report_lines.specs.declared.statement.Statement.TheVariants as statements;
 ghost use Rattle.ptu_world.specs.Report.{text_at};
 ghost use Rattle.ptu_world.specs.World.{sending_said, sent_from};
 
-use ptu_outside::{Channel, Datagram, MemPort};
+use ptu_outside::{Datagram, MemPort};
 use ptu_report::Texts;
 use ptu_report_lines::{ReportLine, Sent, Statement};
 use ptu_units::OutOfMemory;
 use std::alloc::Global;
 
 /// Adds the datagrams that the node at this address has handed to its port to those that were sent
-/// before, and to the texts of the script's line of this number that each was sent, with its number;
-/// then the port is cleared.
+/// before, and to the texts of the script's line of this number that each was sent, with its
+/// number; then the port is cleared.
 ///
 /// # Errors
 /// `OutOfMemory`.

@@ -31,5 +31,10 @@ pub use replaying::replay;
 
 #[cfg(test)]
 mod load_tests;
+mod grandmaster_tests;
 #[cfg(test)]
 mod tests;
+#[cfg(test)]
+mod replay_slave_tests;
+#[cfg(test)]
+mod replay_tests;

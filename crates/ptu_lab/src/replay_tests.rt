@@ -1,0 +1,514 @@
+//! Worked scripts with their reports, which were made out by hand from the formats.
+
+ghost use Rattle.std.specs.Prelude.{map};
+ghost use Rattle.ptu_judges.specs.Held.{IsStock};
+
+use super::*;
+use ptu_outside::{MemSink, MemSource};
+use std::alloc::Global;
+use std::test::Fail;
+
+// What is answered and written for a script in memory.
+pub(crate) fn replayed(
+    alloc: Global,
+    script: &str,
+    stock: Stock,
+) -> Result<(Result<Done, LabFault>, String), Fail>
+    requires { IsStock (map (λ j. held (j.vtable, j.value)) stock.flags.items)
+        (map (λ j. held (j.vtable, j.value)) stock.gaps.items) }
+{
+    let bytes = Vec::from_slice(alloc, script.as_bytes())?;
+    let mut source = MemSource::new(bytes, Vec::new(alloc));
+    let mut sink = MemSink::new(alloc, Vec::new(alloc));
+    let answer = replay(alloc, &mut source, &mut sink, stock);
+    let text = String::from_utf8(sink.into_bytes())
+        .ok()
+        .ok_or("plain text")?;
+    Ok((answer, text))
+}
+
+// A stock without judges.
+pub(crate) fn no_judges(alloc: Global) -> Stock
+    ensures { IsStock (map (λ j. held (j.vtable, j.value)) result.flags.items)
+        (map (λ j. held (j.vtable, j.value)) result.gaps.items) }
+{
+    Stock {
+        flags: Vec::new(alloc),
+        gaps: Vec::new(alloc),
+    }
+}
+
+// A renewal in a full table, and a request that does not fit.
+const FULL_TABLE: &str = "\
+    gm 10.0.0.1 0a00000000000001 1 4 84 8 300\n\
+    rx 0 10.0.0.1 10.0.1.17 0c120036040004000000000000000000000000000a0000000000001100010000057f\
+    ffffffffffffffffffff00040006b0010000012c\n\
+    rx 5000000000 10.0.0.1 10.0.1.17 0c120036040004000000000000000000000000000a00000000000011000\
+    10000057fffffffffffffffffffff00040006b0010000012c\n\
+    rx 5000000000 10.0.0.1 10.0.1.18 0c120036040004000000000000000000000000000a00000000000012000\
+    10000057fffffffffffffffffffff00040006b0040000012c\n";
+
+#[test]
+fn grandmasters(rt: HostRuntime) -> Result<(), Fail> {
+    let alloc = rt.alloc();
+    for (script, report) in [
+        // Ordinary ask.
+        (
+            "\
+                gm 10.0.0.1 0a00000000000001 1 4 84 8 300\n\
+                rx 0 10.0.0.1 10.0.1.17 0c120036040004000000000000000000000000000a00000000000011\
+                00010000057fffffffffffffffffffff00040006b0010000012c\n",
+            "\
+                2 granted announce 1 at 0 until 300000000000\n\
+                2 send 1 10.0.0.1 10.0.1.17 general 0c120038040004000000000000000000000000000a00\
+                00000000000100010000057f0a00000000000011000100050008b0010000012c0001\n\
+                end 2 1\n",
+        ),
+        // Exactly full.
+        (
+            "\
+                gm 10.0.0.1 0a00000000000001 1 4 84 2048 300\n\
+                rx 0 10.0.0.1 10.0.1.17 0c120036040004000000000000000000000000000a00000000000011\
+                00010000057fffffffffffffffffffff0004000600f90000012c\n",
+            "\
+                2 granted sync -7 at 0 until 300000000000\n\
+                2 send 1 10.0.0.1 10.0.1.17 general 0c120038040004000000000000000000000000000a00\
+                00000000000100010000057f0a0000000000001100010005000800f90000012c0001\n\
+                end 2 1\n",
+        ),
+        // One short.
+        (
+            "\
+                gm 10.0.0.1 0a00000000000001 1 4 84 2047 300\n\
+                rx 0 10.0.0.1 10.0.1.17 0c120036040004000000000000000000000000000a00000000000011\
+                00010000057fffffffffffffffffffff0004000600f90000012c\n",
+            "\
+                2 short sync -7 at 0 others 0 rate 2048 capacity 2047\n\
+                2 send 1 10.0.0.1 10.0.1.17 general 0c120038040004000000000000000000000000000a00\
+                00000000000100010000057f0a0000000000001100010005000800f9000000000000\n\
+                end 2 1\n",
+        ),
+        // Repeat in a full table.
+        (
+            "\
+                gm 10.0.0.1 0a00000000000001 1 4 84 8 300\n\
+                rx 0 10.0.0.1 10.0.1.17 0c120036040004000000000000000000000000000a00000000000011\
+                00010000057fffffffffffffffffffff00040006b0010000012c\n\
+                rx 5000000000 10.0.0.1 10.0.1.17 0c120036040004000000000000000000000000000a00000\
+                00000001100010000057fffffffffffffffffffff00040006b0010000012c\n\
+                rx 5000000000 10.0.0.1 10.0.1.18 0c120036040004000000000000000000000000000a00000\
+                00000001200010000057fffffffffffffffffffff00040006b0040000012c\n",
+            "\
+                2 granted announce 1 at 0 until 300000000000\n\
+                2 send 1 10.0.0.1 10.0.1.17 general 0c120038040004000000000000000000000000000a00\
+                00000000000100010000057f0a00000000000011000100050008b0010000012c0001\n\
+                3 granted announce 1 at 5000000000 until 305000000000\n\
+                3 send 2 10.0.0.1 10.0.1.17 general 0c120038040004000000000000000000000000000a00\
+                00000000000100010000057f0a00000000000011000100050008b0010000012c0001\n\
+                4 short announce 4 at 5000000000 others 8 rate 1 capacity 8\n\
+                4 send 3 10.0.0.1 10.0.1.18 general 0c120038040004000000000000000000000000000a00\
+                00000000000100010000057f0a00000000000012000100050008b004000000000000\n\
+                end 4 3\n",
+        ),
+        // Refused renewal.
+        (
+            "\
+                gm 10.0.0.1 0a00000000000001 1 4 84 16 300\n\
+                rx 0 10.0.0.1 10.0.1.17 0c120036040004000000000000000000000000000a00000000000011\
+                00010000057fffffffffffffffffffff00040006b0010000012c\n\
+                rx 0 10.0.0.1 10.0.1.18 0c120036040004000000000000000000000000000a00000000000012\
+                00010000057fffffffffffffffffffff00040006b0010000012c\n\
+                rx 10000000000 10.0.0.1 10.0.1.17 0c120036040004000000000000000000000000000a0000\
+                000000001100010000057fffffffffffffffffffff00040006b0000000012c\n\
+                turn 10000000000 10.0.0.1 2\n",
+            "\
+                2 granted announce 1 at 0 until 300000000000\n\
+                2 send 1 10.0.0.1 10.0.1.17 general 0c120038040004000000000000000000000000000a00\
+                00000000000100010000057f0a00000000000011000100050008b0010000012c0001\n\
+                3 granted announce 1 at 0 until 300000000000\n\
+                3 send 2 10.0.0.1 10.0.1.18 general 0c120038040004000000000000000000000000000a00\
+                00000000000100010000057f0a00000000000012000100050008b0010000012c0001\n\
+                4 short announce 0 at 10000000000 others 8 rate 16 capacity 16\n\
+                4 send 3 10.0.0.1 10.0.1.17 general 0c120038040004000000000000000000000000000a00\
+                00000000000100010000057f0a00000000000011000100050008b000000000000000\n\
+                5 send 4 10.0.0.1 10.0.1.17 general 0b120040040004000000000000000000000000000a00\
+                00000000000100010000057f00000000000a000000000000008054feffff800a0000000000000100\
+                00a0\n\
+                end 5 4\n",
+        ),
+        // Moment of expiry.
+        (
+            "\
+                gm 10.0.0.1 0a00000000000001 1 4 84 8 60\n\
+                rx 0 10.0.0.1 10.0.1.17 0c120036040004000000000000000000000000000a00000000000011\
+                00010000057fffffffffffffffffffff00040006b0010000012c\n\
+                rx 60000000000 10.0.0.1 10.0.1.17 0c120036040004000000000000000000000000000a0000\
+                000000001100010000057fffffffffffffffffffff00040006b0010000012c\n\
+                turn 61999999999 10.0.0.1 2\n\
+                turn 62000000000 10.0.0.1 2\n",
+            "\
+                2 granted announce 1 at 0 until 60000000000\n\
+                2 send 1 10.0.0.1 10.0.1.17 general 0c120038040004000000000000000000000000000a00\
+                00000000000100010000057f0a00000000000011000100050008b0010000003c0001\n\
+                3 granted announce 1 at 60000000000 until 120000000000\n\
+                3 send 2 10.0.0.1 10.0.1.17 general 0c120038040004000000000000000000000000000a00\
+                00000000000100010000057f0a00000000000011000100050008b0010000003c0001\n\
+                5 send 3 10.0.0.1 10.0.1.17 general 0b120040040004000000000000000000000000000a00\
+                00000000000100010000057f00000000003e000000000000008054feffff800a0000000000000100\
+                00a0\n\
+                end 5 3\n",
+        ),
+        // Three denials.
+        (
+            "\
+                gm 10.0.0.1 0a00000000000001 1 4 84 2048 300\n\
+                rx 0 10.0.0.1 10.0.1.17 0c12004a040004000000000000000000000000000a00000000000011\
+                00010000057fffffffffffffffffffff00040006b0fc0000012c0004000600000000003b00040006\
+                30000000012c\n",
+            "\
+                2 outside log announce -4\n\
+                2 outside duration sync 0 59\n\
+                2 outside type 3\n\
+                2 send 1 10.0.0.1 10.0.1.17 general 0c120050040004000000000000000000000000000a00\
+                00000000000100010000057f0a00000000000011000100050008b0fc000000000000000500080000\
+                000000000000000500083000000000000000\n\
+                end 2 1\n",
+        ),
+        // Long duration.
+        (
+            "\
+                gm 10.0.0.1 0a00000000000001 1 4 84 8 1000\n\
+                rx 0 10.0.0.1 10.0.1.17 0c120036040004000000000000000000000000000a00000000000011\
+                00010000057fffffffffffffffffffff00040006b00100000e10\n",
+            "\
+                2 granted announce 1 at 0 until 1000000000000\n\
+                2 send 1 10.0.0.1 10.0.1.17 general 0c120038040004000000000000000000000000000a00\
+                00000000000100010000057f0a00000000000011000100050008b001000003e80001\n\
+                end 2 1\n",
+        ),
+        // Edge of pacing, and late turns.
+        (
+            "\
+                gm 10.0.0.1 0a00000000000001 1 4 84 16 300\n\
+                rx 0 10.0.0.1 10.0.1.17 0c120036040004000000000000000000000000000a00000000000011\
+                00010000057fffffffffffffffffffff0004000600000000012c\n\
+                turn 999999999 10.0.0.1 2\n\
+                turn 1000000000 10.0.0.1 2\n\
+                turn 11000000000 10.0.0.1 2\n\
+                turn 11999999999 10.0.0.1 2\n\
+                turn 12000000000 10.0.0.1 2\n",
+            "\
+                2 granted sync 0 at 0 until 300000000000\n\
+                2 send 1 10.0.0.1 10.0.1.17 general 0c120038040004000000000000000000000000000a00\
+                00000000000100010000057f0a0000000000001100010005000800000000012c0001\n\
+                4 send 2 10.0.0.1 10.0.1.17 event 0012002c040004000000000000000000000000000a0000\
+                000000000100010000007f00000000000100000000\n\
+                5 send 3 10.0.0.1 10.0.1.17 event 0012002c040004000000000000000000000000000a0000\
+                000000000100010001007f00000000000b00000000\n\
+                7 send 4 10.0.0.1 10.0.1.17 event 0012002c040004000000000000000000000000000a0000\
+                000000000100010002007f00000000000c00000000\n\
+                end 7 4\n",
+        ),
+        // Credit of two.
+        (
+            "\
+                gm 10.0.0.1 0a00000000000001 1 4 84 16 300\n\
+                rx 0 10.0.0.1 10.0.1.17 0c120036040004000000000000000000000000000a00000000000011\
+                00010000057fffffffffffffffffffff0004000690000000012c\n\
+                rx 10000000000 10.0.0.1 10.0.1.17 0112002c040004000000000000000000000000000a0000\
+                000000001100010007017f00000000000000000000\n\
+                rx 10999999999 10.0.0.1 10.0.1.17 0112002c040004000000000000000000000000000a0000\
+                000000001100010007017f00000000000000000000\n\
+                rx 10999999999 10.0.0.1 10.0.1.17 0112002c040004000000000000000000000000000a0000\
+                000000001100010007017f00000000000000000000\n",
+            "\
+                2 granted delay_resp 0 at 0 until 300000000000\n\
+                2 send 1 10.0.0.1 10.0.1.17 general 0c120038040004000000000000000000000000000a00\
+                00000000000100010000057f0a0000000000001100010005000890000000012c0001\n\
+                3 answered at 10000000000\n\
+                3 send 2 10.0.0.1 10.0.1.17 general 09120036040004000000000000000000000000000a00\
+                00000000000100010007037f00000000000a000000000a000000000000110001\n\
+                4 answered at 10999999999\n\
+                4 send 3 10.0.0.1 10.0.1.17 general 09120036040004000000000000000000000000000a00\
+                00000000000100010007037f00000000000a3b9ac9ff0a000000000000110001\n\
+                5 silent soon at 10999999999 earliest 11000000000\n\
+                end 5 3\n",
+        ),
+        // No grant of Delay_Resp.
+        (
+            "\
+                gm 10.0.0.1 0a00000000000001 1 4 84 16 300\n\
+                rx 0 10.0.0.1 10.0.1.17 0112002c040004000000000000000000000000000a00000000000011\
+                00010007017f00000000000000000000\n",
+            "\
+                2 silent nogrant at 0\n\
+                end 2 0\n",
+        ),
+        // Cancelled twice.
+        (
+            "\
+                gm 10.0.0.1 0a00000000000001 1 4 84 8 300\n\
+                rx 0 10.0.0.1 10.0.1.17 0c120036040004000000000000000000000000000a00000000000011\
+                00010000057fffffffffffffffffffff00040006b0010000012c\n\
+                rx 5000000000 10.0.0.1 10.0.1.17 0c120032040004000000000000000000000000000a00000\
+                00000001100010001057fffffffffffffffffffff00060002b000\n\
+                rx 6000000000 10.0.0.1 10.0.1.17 0c120032040004000000000000000000000000000a00000\
+                00000001100010001057fffffffffffffffffffff00060002b000\n\
+                turn 7000000000 10.0.0.1 2\n",
+            "\
+                2 granted announce 1 at 0 until 300000000000\n\
+                2 send 1 10.0.0.1 10.0.1.17 general 0c120038040004000000000000000000000000000a00\
+                00000000000100010000057f0a00000000000011000100050008b0010000012c0001\n\
+                3 cancelled announce at 5000000000\n\
+                3 send 2 10.0.0.1 10.0.1.17 general 0c120032040004000000000000000000000000000a00\
+                00000000000100010001057f0a00000000000011000100070002b000\n\
+                4 nothing announce at 6000000000\n\
+                4 send 3 10.0.0.1 10.0.1.17 general 0c120032040004000000000000000000000000000a00\
+                00000000000100010001057f0a00000000000011000100070002b000\n\
+                end 5 3\n",
+        ),
+        // Cancel with an early moment.
+        (
+            "\
+                gm 10.0.0.1 0a00000000000001 1 4 84 16 300\n\
+                rx 0 10.0.0.1 10.0.1.17 0c120036040004000000000000000000000000000a00000000000011\
+                00010000057fffffffffffffffffffff0004000600000000012c\n\
+                turn 5000000000 10.0.0.1 2\n\
+                rx 3000000000 10.0.0.1 10.0.1.17 0c120032040004000000000000000000000000000a00000\
+                00000001100010001057fffffffffffffffffffff000600020000\n",
+            "\
+                2 granted sync 0 at 0 until 300000000000\n\
+                2 send 1 10.0.0.1 10.0.1.17 general 0c120038040004000000000000000000000000000a00\
+                00000000000100010000057f0a0000000000001100010005000800000000012c0001\n\
+                3 send 2 10.0.0.1 10.0.1.17 event 0012002c040004000000000000000000000000000a0000\
+                000000000100010000007f00000000000500000000\n\
+                4 cancelled sync at 5000000000\n\
+                4 send 3 10.0.0.1 10.0.1.17 general 0c120032040004000000000000000000000000000a00\
+                00000000000100010001057f0a000000000000110001000700020000\n\
+                end 4 3\n",
+        ),
+        // Several TLVs.
+        (
+            "\
+                gm 10.0.0.1 0a00000000000001 1 4 84 2048 300\n\
+                rx 0 10.0.0.1 10.0.1.17 0c120050040004000000000000000000000000000a00000000000011\
+                00010000057fffffffffffffffffffff30000002abcd00040006b0010000012c0004000600000000\
+                012c0004000690000000012cdead\n",
+            "\
+                2 granted announce 1 at 0 until 300000000000\n\
+                2 granted sync 0 at 0 until 300000000000\n\
+                2 granted delay_resp 0 at 0 until 300000000000\n\
+                2 send 1 10.0.0.1 10.0.1.17 general 0c120050040004000000000000000000000000000a00\
+                00000000000100010000057f0a00000000000011000100050008b0010000012c0001000500080000\
+                0000012c00010005000890000000012c0001\n\
+                end 2 1\n",
+        ),
+        // Refused datagrams.
+        (
+            "\
+                gm 10.0.0.1 0a00000000000001 1 4 84 8 300\n\
+                rx 0 10.0.0.1 10.0.1.17 0c120036040004000000000000000000000000000a00000000000011\
+                0001000005\n\
+                rx 0 10.0.0.1 10.0.1.17 0c120037040004000000000000000000000000000a00000000000011\
+                00010000057fffffffffffffffffffff00040006b0010000012c\n\
+                rx 0 10.0.0.1 10.0.1.17 0c110036040004000000000000000000000000000a00000000000011\
+                00010000057fffffffffffffffffffff00040006b0010000012c\n\
+                rx 0 10.0.0.1 10.0.1.17 0c12002b040004000000000000000000000000000a00000000000011\
+                00010000057fffffffffffffffffffff00040006b0010000012c\n\
+                rx 0 10.0.0.1 10.0.1.17 0c120035040004000000000000000000000000000a00000000000011\
+                00010000057fffffffffffffffffffff00040006b0010000012c\n\
+                rx 0 10.0.0.1 10.0.1.17 0c120036040004000000000000000000000000000a00000000000011\
+                00010000057fffffffffffffffffffff00040005b0010000012c\n\
+                rx 0 10.0.0.1 10.0.1.17 0c120036050004000000000000000000000000000a00000000000011\
+                00010000057fffffffffffffffffffff00040006b0010000012c\n\
+                rx 0 10.0.0.1 10.0.1.17 0c1200b0040004000000000000000000000000000a00000000000011\
+                00010000057fffffffffffffffffffff300000003000000030000000300000003000000030000000\
+                30000000300000003000000030000000300000003000000030000000300000003000000030000000\
+                30000000300000003000000030000000300000003000000030000000300000003000000030000000\
+                30000000300000003000000030000000300000003000000030000000\n",
+            "\
+                2 ignored fault short 33\n\
+                3 ignored fault length 55 54\n\
+                4 ignored fault version 1\n\
+                5 ignored fault body 43 44\n\
+                6 ignored fault tlv 44 overrun 6 5\n\
+                7 ignored fault tlv 44 length 4 5\n\
+                8 ignored domain 5\n\
+                9 ignored fault toomany 172\n\
+                end 9 0\n",
+        ),
+        // Lower capacity sheds the newest.
+        (
+            "\
+                gm 10.0.0.1 0a00000000000001 1 4 84 16 300\n\
+                rx 0 10.0.0.1 10.0.1.17 0c120036040004000000000000000000000000000a00000000000011\
+                00010000057fffffffffffffffffffff00040006b0010000012c\n\
+                rx 1000000000 10.0.0.1 10.0.1.18 0c120036040004000000000000000000000000000a00000\
+                00000001200010000057fffffffffffffffffffff00040006b0010000012c\n\
+                capacity 2000000000 10.0.0.1 8\n\
+                rx 2000000000 10.0.0.1 10.0.1.18 0c120036040004000000000000000000000000000a00000\
+                00000001200010000057fffffffffffffffffffff00040006b0010000012c\n\
+                capacity 3000000000 10.0.0.1 16\n\
+                rx 0 10.0.0.1 10.0.1.18 0c120036040004000000000000000000000000000a00000000000012\
+                00010000057fffffffffffffffffffff00040006b0010000012c\n",
+            "\
+                2 granted announce 1 at 0 until 300000000000\n\
+                2 send 1 10.0.0.1 10.0.1.17 general 0c120038040004000000000000000000000000000a00\
+                00000000000100010000057f0a00000000000011000100050008b0010000012c0001\n\
+                3 granted announce 1 at 1000000000 until 301000000000\n\
+                3 send 2 10.0.0.1 10.0.1.18 general 0c120038040004000000000000000000000000000a00\
+                00000000000100010000057f0a00000000000012000100050008b0010000012c0001\n\
+                4 capacity 10.0.0.1 8 at 2000000000\n\
+                4 shed announce 1 10.0.1.18 0a00000000000012/1\n\
+                4 send 3 10.0.0.1 10.0.1.18 general 0c120032040004000000000000000000000000000a00\
+                00000000000100010000057f0a00000000000012000100060002b000\n\
+                5 short announce 1 at 2000000000 others 8 rate 8 capacity 8\n\
+                5 send 4 10.0.0.1 10.0.1.18 general 0c120038040004000000000000000000000000000a00\
+                00000000000100010000057f0a00000000000012000100050008b001000000000000\n\
+                6 capacity 10.0.0.1 16 at 3000000000\n\
+                7 granted announce 1 at 3000000000 until 303000000000\n\
+                7 send 5 10.0.0.1 10.0.1.18 general 0c120038040004000000000000000000000000000a00\
+                00000000000100010000057f0a00000000000012000100050008b0010000012c0001\n\
+                end 7 5\n",
+        ),
+        // Another clockClass.
+        (
+            "\
+                gm 10.0.0.1 0a00000000000001 1 4 84 16 300\n\
+                rx 0 10.0.0.1 10.0.1.17 0c120036040004000000000000000000000000000a00000000000011\
+                00010000057fffffffffffffffffffff00040006b0000000012c\n\
+                class 10.0.0.1 96\n\
+                turn 1000000000 10.0.0.1 2\n",
+            "\
+                2 granted announce 0 at 0 until 300000000000\n\
+                2 send 1 10.0.0.1 10.0.1.17 general 0c120038040004000000000000000000000000000a00\
+                00000000000100010000057f0a00000000000011000100050008b0000000012c0001\n\
+                4 send 2 10.0.0.1 10.0.1.17 general 0b120040040004000000000000000000000000000a00\
+                00000000000100010000057f000000000001000000000000008060feffff800a0000000000000100\
+                00a0\n\
+                end 4 2\n",
+        ),
+    ] {
+        let (_, text) = replayed(alloc, script, no_judges(alloc))?;
+        assert_eq!(rt; text.as_str(), report);
+    }
+    Ok(())
+}
+
+#[test]
+fn the_answer_has_the_numbers_of_the_report(rt: HostRuntime) -> Result<(), Fail> {
+    let alloc = rt.alloc();
+    let (answer, _) = replayed(alloc, FULL_TABLE, no_judges(alloc))?;
+    let wanted = Done {
+        lines: 4,
+        datagrams: 3,
+        granted: 2,
+        refused: 1,
+    };
+    assert_eq!(rt; answer, Ok(wanted));
+    Ok(())
+}
+
+// The grandmaster that lines are refused behind.
+const SET_UP: &str = "gm 10.0.0.1 0a00000000000001 1 4 84 8 300\n";
+
+#[test]
+fn lines_are_refused(rt: HostRuntime) -> Result<(), Fail> {
+    let alloc = rt.alloc();
+    for (lines, report) in [
+        ("deliver 0 1\n", "2 bad number\n"),
+        (
+            "class 10.0.0.1 90\ngm 10.0.0.1 0a00000000000001 1 4 84 8 300\n",
+            "3 bad order\n",
+        ),
+        ("rx 0 10.0.0.1 10.0.1.17 0c1\n", "2 bad field 5\n"),
+        (
+            "rx 0 10.0.0.1 10.0.1.17 -\n",
+            "2 ignored fault short 0\nend 2 0\n",
+        ),
+        ("turn 0 10.0.0.1 4\n", "2 bad field 4\n"),
+        ("turn 0 10.0.0.1\n", "2 bad count\n"),
+        ("turn  0 10.0.0.1 0\n", "2 bad count\n"),
+        ("turn 4611686018427387904 10.0.0.1 0\n", "2 bad field 2\n"),
+        ("turn 01 10.0.0.1 0\n", "2 bad field 2\n"),
+        ("class 10.0.0.1 256\n", "2 bad field 3\n"),
+        ("walk\n", "2 bad word\n"),
+        (
+            "gm 10.0.0.1 0a00000000000001 1 4 84 8 300\n",
+            "2 bad node\n",
+        ),
+        ("tick 0 10.0.0.1\n", "2 bad node\n"),
+        ("\t\n", "2 bad text\n"),
+        ("deliver 0 0\n", "2 bad number\n"),
+        ("# note\n", "end 2 0\n"),
+        (
+            "\
+                slave 10.0.2.1 0a00000000000021 1 4 60 3 3 4 4 - 300\n\
+                master 10.0.2.1 10.0.0.1 1 flag\n",
+            "3 bad stock\n",
+        ),
+    ] {
+        let script = format!(in alloc; "{SET_UP}{lines}")?;
+        let (_, text) = replayed(alloc, script.as_str(), no_judges(alloc))?;
+        assert_eq!(rt; text.as_str(), report);
+    }
+    Ok(())
+}
+
+#[test]
+fn scripts_without_a_grandmaster(rt: HostRuntime) -> Result<(), Fail> {
+    let alloc = rt.alloc();
+    for (script, report) in [("", "end 0 0\n"), ("turn 0 10.0.0.9 0\n", "1 bad node\n")] {
+        let (_, text) = replayed(alloc, script, no_judges(alloc))?;
+        assert_eq!(rt; text.as_str(), report);
+    }
+    Ok(())
+}
+
+// A datagram with four TLVs and two octets behind it.
+const SEVERAL: &str = "\
+    0c120050040004000000000000000000000000000a0000000000001100010000057fffffffffffffffff\
+    ffff30000002abcd00040006b0010000012c0004000600000000012c0004000690000000012cdead";
+
+// The script that hands over each front of the datagram, from none of its octets to all of them.
+fn fronts(alloc: Global) -> Result<String, Fail> {
+    let mut script = format!(in alloc; "gm 10.0.0.1 0a00000000000001 1 4 84 2048 300\n")?;
+    script.push_str("rx 0 10.0.0.1 10.0.1.17 -\n")?;
+    for octets in 1..=82 {
+        let front = SEVERAL.get(..2 * octets).ok_or("a front of digits")?;
+        script.push_str("rx 0 10.0.0.1 10.0.1.17 ")?;
+        script.push_str(front)?;
+        script.push_str("\n")?;
+    }
+    Ok(script)
+}
+
+// What is said of a front that is cut off.
+fn said_of_cut(alloc: Global, octets: usize) -> Result<String, Fail> {
+    let line = octets + 2;
+    if octets < 34 {
+        Ok(format!(in alloc; "{line} ignored fault short {octets}\n")?)
+    } else {
+        Ok(format!(in alloc; "{line} ignored fault length 80 {octets}\n")?)
+    }
+}
+
+#[test]
+fn cut_datagrams(rt: HostRuntime) -> Result<(), Fail> {
+    let alloc = rt.alloc();
+    let mut cut = String::new(alloc);
+    for octets in 0..80 {
+        cut.push_str(said_of_cut(alloc, octets)?.as_str())?;
+    }
+    let script = fronts(alloc)?;
+    let (answer, text) = replayed(alloc, script.as_str(), no_judges(alloc))?;
+    assert!(rt; text.starts_with(cut.as_str()), "{text}");
+    let wanted = Done {
+        lines: 84,
+        datagrams: 3,
+        granted: 9,
+        refused: 0,
+    };
+    assert_eq!(rt; answer, Ok(wanted));
+    Ok(())
+}
