@@ -21,4 +21,6 @@ pub use slave::Slave;
 pub use ticked::Ticked;
 
 #[cfg(test)]
+mod pair_tests;
+#[cfg(test)]
 mod tests;

@@ -16,10 +16,10 @@ use std::process::Abort;
 use std::rc::Rc;
 use std::test::Fail;
 
-const SECOND: u64 = 1_000_000_000;
+pub(crate) const SECOND: u64 = 1_000_000_000;
 
 /// The addresses of the masters begin with this one.
-const FIRST: u32 = 0x0a00_0001;
+pub(crate) const FIRST: u32 = 0x0a00_0001;
 
 // An Announce and a Sync of port 1 of the clock 0a00000000000001, and a Delay_Resp to port 1 of the
 // clock 0a00000000000021.
@@ -34,7 +34,7 @@ const DELAY_RESP: &str = "09120036040004000000000000000000000000000a000000000000
 
 // The slave 0a00000000000021 that requests Announce and Sync at these logarithms, and Delay_Resp at
 // 0 where it is to.
-fn config(announce: i8, sync: i8, delay: bool, wait: u32) -> Result<SlaveConfig, Fail>
+pub(crate) fn config(announce: i8, sync: i8, delay: bool, wait: u32) -> Result<SlaveConfig, Fail>
     requires { wait ≤ 720 }
     ensures { IfOk result IsWithinLimits }
 {
@@ -63,7 +63,7 @@ fn config(announce: i8, sync: i8, delay: bool, wait: u32) -> Result<SlaveConfig,
 
 // What happens to a slave, or is found of it; a master is named by the last octet of its address.
 #[derive(Clone, Copy)]
-enum Row {
+pub(crate) enum Row {
     /// An Announce of this clockClass comes.
     Announce(u8, u8),
     /// A Sync of this sequenceId comes.
@@ -165,7 +165,7 @@ fn asks_without_an_answer(rt: HostRuntime) -> Result<(), Fail> {
 }
 
 // Plays rows at their moments.
-fn play_all(
+pub(crate) fn play_all(
     rt: &impl Abort,
     alloc: Global,
     slave: &mut Slave<MemPort>,
@@ -178,7 +178,7 @@ fn play_all(
 }
 
 // A port at which nothing waits, without room.
-fn quiet_port(alloc: Global) -> MemPort {
+pub(crate) fn quiet_port(alloc: Global) -> MemPort {
     MemPort::new(alloc, Vec::new(alloc), Vec::new(alloc), Vec::new(alloc))
 }
 

@@ -1,0 +1,87 @@
+//! Two masters of one slave, whose octets, moments and answers were made out by hand.
+ghost use Rattle.std.specs.Prelude.{◌≡◌, ◌+◌, All, OnOk, length};
+ghost use Rattle.ptu_judges.specs.Held.{IsFresh};
+
+use super::*;
+use crate::tests::{FIRST, Row, SECOND, config, play_all, quiet_port};
+use ptu_judges::{FlagJudge, Judge};
+use std::alloc::Global;
+use std::process::Abort;
+use std::test::Fail;
+
+// Adds a fresh judge.
+fn add_judge(judges: &mut Vec<Box<dyn Judge>>, judge: Box<dyn Judge>) -> Result<(), Fail>
+    requires fresh { IsFresh (held judge) }
+    requires all_fresh { All (λ j. IsFresh (held j)) judges.old.items }
+    ensures all_fresh { OnOk result (All (λ j. IsFresh (held j)) judges.new.items) }
+    ensures many { OnOk result (length judges.new.items ≡ length judges.old.items + 1) }
+{
+    judges.push(judge)?;
+    Ok(())
+}
+
+// Plays rows of two masters of equal priority, at the greatest intervals and with a minute to wait
+// after a loss.
+fn play_pair(rt: &impl Abort, alloc: Global, rows: &[(u64, Row)]) -> Result<(), Fail> {
+    let masters = vec![in alloc;
+        Master {
+            ip: FIRST,
+            priority: 1
+        },
+        Master {
+            ip: FIRST + 1,
+            priority: 1
+        },
+    ]?;
+    let mut judges: Vec<Box<dyn Judge>> = Vec::new(alloc);
+    add_judge(&mut judges, Box::new(alloc, FlagJudge::new())?)?;
+    add_judge(&mut judges, Box::new(alloc, FlagJudge::new())?)?;
+    let config = config(4, 4, false, 60)?;
+    let mut slave = Slave::new(alloc, config, masters, judges, quiet_port(alloc))?;
+    play_all(rt, alloc, &mut slave, rows)
+}
+
+#[test]
+fn the_first_of_two_is_lost_and_restored(rt: HostRuntime) -> Result<(), Fail> {
+    let rows = [
+        (0, Row::Announce(1, 84)),
+        (0, Row::Sync(1, 0)),
+        (0, Row::Announce(2, 90)),
+        (0, Row::Sync(2, 0)),
+        (48 * SECOND, Row::Announce(1, 84)),
+        (48 * SECOND, Row::Sync(1, 0)),
+        (48 * SECOND, Row::Announce(2, 90)),
+        (48 * SECOND, Row::Sync(2, 0)),
+        (48 * SECOND, Row::Selects(Some(0))),
+        (96 * SECOND, Row::Announce(2, 90)),
+        (96 * SECOND, Row::Sync(2, 0)),
+        (96 * SECOND, Row::Selects(Some(0))),
+        (96 * SECOND + 1, Row::Selects(Some(1))),
+        (100 * SECOND, Row::Announce(1, 84)),
+        (100 * SECOND, Row::Sync(1, 0)),
+        (100 * SECOND, Row::Selects(Some(1))),
+        (140 * SECOND, Row::Announce(1, 84)),
+        (140 * SECOND, Row::Sync(1, 0)),
+        (140 * SECOND, Row::Announce(2, 90)),
+        (140 * SECOND, Row::Sync(2, 0)),
+        (160 * SECOND - 1, Row::Selects(Some(1))),
+        (160 * SECOND, Row::Selects(Some(0))),
+    ];
+    play_pair(&rt, rt.alloc(), &rows)
+}
+
+#[test]
+fn of_equal_masters_the_first_is_selected(rt: HostRuntime) -> Result<(), Fail> {
+    let rows = [
+        (0, Row::Announce(1, 84)),
+        (0, Row::Sync(1, 0)),
+        (0, Row::Announce(2, 84)),
+        (0, Row::Sync(2, 0)),
+        (0, Row::Selects(Some(0))),
+        // None of QL-DNU is selected.
+        (SECOND, Row::Announce(1, 110)),
+        (SECOND, Row::Announce(2, 110)),
+        (SECOND, Row::Selects(None)),
+    ];
+    play_pair(&rt, rt.alloc(), &rows)
+}
