@@ -105,13 +105,13 @@ module _ {K : Type 0} (written : K → Option (List ℕ)) (handed : K → Option
     output_is = h.written_is;
     in_pieces = h.in_pieces;
     status_is = sym (ap by_end (ended done.lines (world_of stock input) (report_lines stock input) h.ends));
-    read_whole = λ e. end;
+    read_whole = λ reads e. end;
   }
   replayed (Err (Line number cause)) is h end = record {
     output_is = h.written_is;
     in_pieces = h.in_pieces;
     status_is = sym (ap by_end (refused number cause (world_of stock input) (report_lines stock input) h.ends));
-    read_whole = λ e. absurd (omega (arith, e));
+    read_whole = λ reads e. absurd (omega (arith, e));
   }
   replayed (Err Read) is h end = absurd is
   replayed (Err Write) is h end = absurd is
@@ -123,13 +123,13 @@ module _ {K : Type 0} (written : K → Option (List ℕ)) (handed : K → Option
     output_is = h.written_is;
     in_pieces = h.in_pieces;
     status_is = ap (λ e. by_end (is_whole e)) h.ends;
-    read_whole = λ e. end;
+    read_whole = λ reads e. end;
   }
   shown (Err (Line number cause)) is h end = record {
     output_is = h.written_is;
     in_pieces = h.in_pieces;
     status_is = ap (λ e. by_end (is_whole e)) h.ends;
-    read_whole = λ e. absurd (omega (arith, e));
+    read_whole = λ reads e. absurd (omega (arith, e));
   }
   shown (Err Read) is h end = absurd is
   shown (Err Write) is h end = absurd is

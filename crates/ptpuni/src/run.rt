@@ -1,18 +1,18 @@
 //! What the program does: the words of its command line, and the status that it ends with.
 
-ghost use Rattle.std.specs.Prelude.{◌≡◌, ◌≢◌, ◌⊎◌, ◌≤◌, ℕ, List, Some, length, map, Contains};
+ghost use Rattle.std.specs.Prelude.{◌≡◌, ◌≢◌, ◌⊎◌, ◌≤◌, [], ◌∷◌, ℕ, List, Some, length, map, Contains};
 ghost use Rattle.std.specs.Io.KnownBytes.{prepend_known};
 ghost use Rattle.ptu_outside.specs.Ends.{StopsAtEnd};
 ghost use Rattle.ptu_outside.specs.Faults.{HasRisen};
-ghost use Rattle.ptu_outside.specs.Handing.{HasPutPart};
+ghost use Rattle.ptu_outside.specs.Handing.{HasPut, HasPutPart};
 ghost use Rattle.ptu_judges.specs.Held.{IsStock};
-ghost use Rattle.ptu_words.specs.CommandLine.{command_of, IsRefused};
+ghost use Rattle.ptu_words.specs.CommandLine.{command_of, IsInRange, IsRefused};
 ghost use Rattle.ptu_words.specs.declared.command.Command.{Command};
 ghost use Rattle.ptu_world.specs.Headline.{DecidesByRoom, PaysPeriods, SaysSo, SelectsBest, WithinBudget, WithinCapacity};
 ghost use Rattle.ptu_world.specs.Report.{report_lines};
-ghost use Rattle.ptpuni.specs.Run.{output_of, status_of_answer, statuses, stock_of, HasReadAll, HasRun, IsStatusOf};
+ghost use Rattle.ptpuni.specs.Run.{output_of, status_of_answer, status_of_load, statuses, stock_of, HasLoaded, HasReadAll, HasRun, IsStatusOf};
 
-use ptu_lab::{LabFault, Stock, replay, show};
+use ptu_lab::{LabFault, Stock, load, replay, show};
 use ptu_outside::{Sink, Source};
 use ptu_words::{Command, read_words};
 use std::alloc::Global;
@@ -45,6 +45,17 @@ fn status_of<A: Drop>(answer: Result<A, LabFault>) -> u8
     }
 }
 
+// The status of what a load answers, which reads nothing.
+fn status_of_summary(answer: Result<(), LabFault>) -> u8
+    ensures { result ≡ status_of_load answer }
+{
+    match answer {
+        Ok(()) => 0,
+        Err(LabFault::Write) => SINK_FAULT,
+        Err(_) => OUT_OF_MEMORY,
+    }
+}
+
 // Runs a command.
 fn run_command<S: Source, K: Sink>(
     alloc: Global,
@@ -55,6 +66,7 @@ fn run_command<S: Source, K: Sink>(
 ) -> u8
     requires stock { IsStock (map (λ j. held (j.vtable, j.value)) stock.flags.items)
         (map (λ j. held (j.vtable, j.value)) stock.gaps.items) }
+    requires range { IsInRange command }
     ensures statuses { Contains statuses result }
     ensures other { result ≢ USAGE }
     ensures output { (input : List ℕ) → S.left source.old ≡ Some input
@@ -66,6 +78,8 @@ fn run_command<S: Source, K: Sink>(
         → (input : List ℕ) → S.left source.old ≡ Some input
         → HasRun K.written K.handed sink.old sink.new
         (stock_of stock.flags.items stock.gaps.items) command input (S.left source.new) result }
+    ensures loaded { (number : ℕ) → command ≡ Command.Load number →
+        HasLoaded K.written K.handed sink.old sink.new source.old source.new number result }
     ensures source_fault { result ≡ SOURCE_FAULT
         → HasRisen (S.faults source.old) (S.faults source.new) }
     ensures source_still { result ≢ SOURCE_FAULT → S.faults source.new ≡ S.faults source.old }
@@ -87,12 +101,13 @@ fn run_command<S: Source, K: Sink>(
     match command {
         Command::Replay => status_of(replay(alloc, source, sink, stock)),
         Command::Show => status_of(show(alloc, source, sink)),
+        Command::Load(number) => status_of_summary(load(alloc, number, sink)),
     }
 }
 
 /// Does all that the program does, with the words after its name, and gives the status that it ends
-/// with: 0 where the source was read to its end and the whole output was written, or one of the
-/// numbers above. The judges of the slaves of a script are taken from the stock, which is to be
+/// with: 0 where the source was read to its end (but by a load, which reads nothing) and the whole
+/// output was written, or one of the numbers above. The judges of the slaves of a script are taken from the stock, which is to be
 /// fresh.
 #[tactic(auto, using(ptu_world::proofs::Headline::within_capacity, ptu_world::proofs::Headline::decides_by_room, ptu_world::proofs::Headline::pays_periods, ptu_world::proofs::Headline::within_budget, ptu_world::proofs::Headline::selects_best, ptu_world::proofs::Headline::says_so))]
 pub fn run<S: Source, K: Sink>(
@@ -128,6 +143,11 @@ pub fn run<S: Source, K: Sink>(
         → (input : List ℕ) → S.left source.old ≡ Some input
         → HasRun K.written K.handed sink.old sink.new
         (stock_of stock.flags.items stock.gaps.items) command input (S.left source.new) result }
+
+    // A load writes its one line, whatever the source is, which it does not read.
+    ensures loaded { (number : ℕ)
+        → command_of (map (λ w. w.now) words.now) ≡ Some (Command.Load number)
+        → HasLoaded K.written K.handed sink.old sink.new source.old source.new number result }
 
     // The headline, of the script that is read. Granted rates never sum above capacity.
     ensures within_capacity { (script : List ℕ) → S.left source.old ≡ Some script

@@ -1,5 +1,5 @@
 -- The command line, and what its words ask for.
-use Rattle.std.specs.Prelude.{◌≢◌, ◌⊎◌, Bool, true, false, not, ◌&&◌, is_some, IsTrue, if◌then◌else◌, List, [], ◌∷◌, codes, Option, Some, None, option_and_then, option_map}
+use Rattle.std.specs.Prelude.{◌≢◌, ◌⊎◌, ◌≤◌, Bool, true, false, not, ◌&&◌, is_some, IsTrue, if◌then◌else◌, List, [], ◌∷◌, codes, Option, Some, None, option_and_then, option_map}
 use Rattle.std.specs.Str.{bytes_eq}
 use Rattle.clap.specs.Words.{App, Kinds, Row, Text, fault_of, first_of, new_app, new_rule, subcommand_of, with_rule, with_subcommand}
 use Rattle.ptu_lines.specs.Words.{number_within}
@@ -26,6 +26,12 @@ command_line =
 abbrev pub load_of : Option Text → Option Command
 load_of None = None
 load_of (Some value) = option_map Load (number_within value 1 2000)
+
+-- where it has a number, that is in its range
+abbrev pub IsInRange : Command → Type 0
+IsInRange Replay = Unit {0}
+IsInRange Show = Unit {0}
+IsInRange (Load number) = (1 ≤ number) × (number ≤ 2000)
 
 -- the command of a name, with this value
 abbrev pub command_named : Text → Option Text → Option Command

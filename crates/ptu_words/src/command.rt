@@ -1,5 +1,5 @@
-ghost use Rattle.std.specs.Prelude.{◌≡◌, option_map};
-ghost use Rattle.ptu_words.specs.CommandLine.{command_named, load_of};
+ghost use Rattle.std.specs.Prelude.{◌≡◌, ◌≤◌, IfSome, option_map};
+ghost use Rattle.ptu_words.specs.CommandLine.{IsInRange, command_named, load_of};
 
 use ptu_lines::number;
 
@@ -16,7 +16,8 @@ pub enum Command {
 
 // A load of the number that the value writes.
 fn load(value: Option<&str>) -> Option<Command>
-    ensures { result ≡ load_of (option_map (λ v. v.now) value.entry) }
+    ensures load { result ≡ load_of (option_map (λ v. v.now) value.entry) }
+    ensures range { IfSome result IsInRange }
 {
     let number = number(value?.as_bytes(), 1, 2000)?;
     Some(Command::Load(number))
@@ -25,7 +26,8 @@ fn load(value: Option<&str>) -> Option<Command>
 impl Command {
     /// The command of this name, with this value where it has one.
     pub fn named(name: &str, value: Option<&str>) -> Option<Command>
-        ensures { result ≡ command_named name.now (option_map (λ v. v.now) value.entry) }
+        ensures command { result ≡ command_named name.now (option_map (λ v. v.now) value.entry) }
+        ensures range { IfSome result IsInRange }
     {
         if name == "replay" {
             Some(Command::Replay)

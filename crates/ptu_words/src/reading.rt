@@ -1,6 +1,6 @@
-ghost use Rattle.std.specs.Prelude.{◌≡◌, ◌≢◌, IfOk, map, option_and_then};
+ghost use Rattle.std.specs.Prelude.{◌≡◌, ◌≢◌, IfOk, IfSome, map, option_and_then};
 ghost use Rattle.clap.specs.Words.{app_of, subcommand_rows_of};
-ghost use Rattle.ptu_words.specs.CommandLine.{command_by, command_line, command_of};
+ghost use Rattle.ptu_words.specs.CommandLine.{IsInRange, command_by, command_line, command_of};
 
 use crate::command::Command;
 use clap::Arg;
@@ -27,7 +27,8 @@ fn whole_line<'a>(alloc: Global) -> Result<clap::Command<'a>, AllocError>
 
 // What matches ask for.
 fn command_in(matches: &clap::ArgMatches) -> Option<Command>
-    ensures { result ≡ option_and_then command_by (subcommand_rows_of matches.now) }
+    ensures command { result ≡ option_and_then command_by (subcommand_rows_of matches.now) }
+    ensures range { IfSome result IsInRange }
 {
     let (name, found) = matches.subcommand()?;
     Command::named(name, found.get_str("N"))
@@ -49,7 +50,9 @@ fn unmatched(kind: ErrorKind) -> Result<Option<Command>, OutOfMemory>
 /// # Errors
 /// `OutOfMemory`.
 pub fn read_words(alloc: Global, words: &[&str]) -> Result<Option<Command>, OutOfMemory>
-    ensures { IfOk result (λ found. found ≡ command_of (map (λ w. w.now) words.now)) }
+    ensures command { IfOk result
+        (λ found. found ≡ command_of (map (λ w. w.now) words.now)) }
+    ensures range { IfOk result (λ found. IfSome found IsInRange) }
 {
     let line = whole_line(alloc)?;
     match line.try_get_matches_from(words) {

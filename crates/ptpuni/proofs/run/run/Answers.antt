@@ -1,4 +1,4 @@
-use Rattle.std.proofs.Common.{◌≡◌, ◌∙◌, List, ℕ, Some, None, map, sym, subst}
+use Rattle.std.proofs.Common.{◌≡◌, ◌∙◌, List, ℕ, Some, None, map, refl, sym, subst}
 use Rattle.ptu_outside.proofs.Handing.{HasPutPart-none}
 use Rattle.ptu_words.specs.declared.command.Command.{Command}
 use Rattle.ptu_words.specs.declared.command.Command.TheVariants.{Replay}
@@ -43,7 +43,7 @@ returns-in-Ok-Some-clause-status g c = λ ended is script told.
     subst (λ k. HasRun g.K.Sink.written g.K.Sink.handed c.args.sink.now c.run_command.new.sink stock k script (g.S.Source.left c.run_command.new.source) c.run_command.result)
     (one_command (map (λ w. w.now) c.args.words.now) c.in-Ok-Some.command Replay (sym c.in-Ok-Some.field-0-is ∙ c.in-Ok-Some.ensures) is)
     (c.run_command.ensures.answered ended script told) in
-    zero_at_end (report_lines stock script) (g.S.Source.left c.run_command.new.source) c.run_command.result run.status_is run.read_whole
+    zero_at_end (report_lines stock script) (g.S.Source.left c.run_command.new.source) c.run_command.result run.status_is (run.read_whole refl)
 
 pub returns-in-Ok-None-clause-usage : goal.returns-in-Ok-None-clause-usage
 returns-in-Ok-None-clause-usage g c = λ _.

@@ -9,15 +9,15 @@ use Rattle.ptu_words.specs.CommandLine.{command_by, command_line}
 use Rattle.ptu_words.proofs.Matching.{asked, free, simple, unmatched}
 use Rattle.ptu_words.proofs.reading.read_words.Goals as goal
 
-pub returns-in-Ok : goal.returns-in-Ok
-returns-in-Ok c =
+pub returns-in-Ok-clause-command : goal.returns-in-Ok-clause-command
+returns-in-Ok-clause-command c =
     let words : List Text = map (λ w. w.now) c.args.words.now in
     let m = c.in-Ok.matches in
     let is : app_of c.in_ok-line.line ≡ command_line = c.in_ok-line.ensures in
     let rows : subcommand_rows_of m ≡ subcommand_of command_line words =
     (c.in-Ok.ensures.matches (ap is_simple is ∙ simple)).1 ∙ ap (λ a. subcommand_of a words) is in
     let matched : fault_of command_line words ≡ [] = sym (ap (λ a. fault_of a words) is) ∙ c.in-Ok.ensures.kinds (ap is_simple_and_free is ∙ free) in
-    c.command_in.ensures ∙ (ap (option_and_then command_by) rows ∙ asked words matched)
+    c.command_in.ensures.command ∙ (ap (option_and_then command_by) rows ∙ asked words matched)
 
 -- the error has a kind that comes of the words
 has_kind : (kinds : Kinds) (error : Error) → HasKind kinds error → kind_of error ≢ OutOfMemory → kinds ≢ []
@@ -27,8 +27,8 @@ has_kind kinds error h other none =
       | inr among ↦ subst (IsAmong (kind_of error)) none among
     ]
 
-pub returns-in-Err : goal.returns-in-Err
-returns-in-Err c =
+pub returns-in-Err-clause-command : goal.returns-in-Err-clause-command
+returns-in-Err-clause-command c =
     let words : List Text = map (λ w. w.now) c.args.words.now in
     let is : app_of c.in_ok-line.line ≡ command_line = c.in_ok-line.ensures in
     let kinds = c.in-Err.ensures.kinds (ap is_simple_and_free is ∙ free) in
