@@ -1,3 +1,9 @@
 pub mod ShowCauses
 pub mod LoadWriting
 pub mod LoadCounts
+pub mod LoadLines
+pub mod LoadGoing
+pub mod LoadWords
+pub mod LoadRequests
+pub mod LoadCommands
+pub mod LoadWhole
