@@ -7,3 +7,9 @@ pub mod GrandmasterChanges
 pub mod GrandmasterReceipts
 pub mod LoadWriting
 pub mod LoadCounts
+pub mod LoadLines
+pub mod LoadGoing
+pub mod LoadWords
+pub mod LoadRequests
+pub mod LoadCommands
+pub mod LoadWhole

@@ -3,16 +3,20 @@
 use Rattle.std.proofs.Common.{◌≡◌, ◌∙◌, ◌⊎◌, ℕ, ◌+◌, List, [], ◌∷◌, ◌++◌, map, length, Option, Some, None, Result, Ok, Err, IfOk, IfErr, refl, sym, ap, subst, inl, inr, arith}
 use Rattle.ptu_lines.specs.Script.{ScriptLine, Whole, Refused, script_lines}
 use Rattle.ptu_report.specs.declared.ending.Ending.TheVariants as endings
+use Rattle.ptu_report.specs.Rules.{ending_of}
 use Rattle.ptu_script.specs.declared.cause.Cause.{Cause}
 use Rattle.ptu_script.specs.declared.command.Command.{Command}
 use Rattle.ptu_script.specs.Command.{command_of}
 use Rattle.ptu_report_lines.specs.declared.report_line.ReportLine.{ReportLine}
 use Rattle.ptu_report_lines.specs.declared.report_line.ReportLine.TheVariants.{At, End}
 use Rattle.ptu_report_lines.specs.declared.statement.Statement.{Statement}
+use Rattle.ptu_report_lines.specs.declared.statement.Statement.TheVariants.{Bad}
 use Rattle.ptu_world.specs.World.{World, Stock, Done, opening, step}
-use Rattle.ptu_world.specs.Report.{lines_by, lines_by_line, lines_from}
-use Rattle.ptu_lab.specs.Answers.{CountsRead}
-use Rattle.ptu_lab.specs.Load.{HasLoadCause, no_stock, numbers_of}
+use Rattle.ptu_world.specs.Facts.{EndsBy, world_of}
+use Rattle.ptu_world.specs.Report.{course_opening, lines_by, lines_by_line, lines_from, report_lines, rules}
+use Rattle.ptu_world.proofs.Reported.{ends_of_rules}
+use Rattle.ptu_lab.specs.Answers.{CountsRead, CountsWrite}
+use Rattle.ptu_lab.specs.Load.{no_stock, numbers_of}
 use Rattle.ptu_lab.specs.Replayed.{AreCounts, HasReplayed, IfReplayed}
 use Rattle.ptu_lab.specs.declared.done.Done.{Done as Answer}
 use Rattle.ptu_lab.specs.declared.fault.LabFault.{LabFault}
@@ -70,6 +74,31 @@ counts_all w lines front n d is = by_cases (counts_from lines w 0)
     by_cases (inl e) = let same : Some n ≡ Some (0 + length lines) = sym found ∙ e in let value : n ≡ 0 + length lines = cc in omega (arith, value)
     by_cases (inr e) = let same : Some n ≡ None = sym found ∙ e in absurd cc
 
+-- ---- the end
+
+last_of : ReportLine → List ReportLine → ReportLine
+last_of line [] = line
+last_of line (next ∷ later) = last_of next later
+
+last_of-push : (line : ReportLine) (front : List ReportLine) (last : ReportLine) → last_of line (front ++ last ∷ []) ≡ last
+unfolding last_of
+last_of-push line [] last = refl
+last_of-push line (next ∷ front) last = last_of-push next front last
+
+-- a report that ends with its `end` line ends with no line that is refused
+not_refused : (stock : Stock) (script : List ℕ) (count number : ℕ) (cause : Cause) → ending_of rules (course_opening stock) (script_lines script) ≡ endings.Whole count
+    → EndsBy (endings.Refused number cause) (world_of stock script) (report_lines stock script) → ⊥
+not_refused stock script count number cause whole refused =
+    let w = world_of stock script in
+    let lines = report_lines stock script in
+    let ends : EndsBy (endings.Whole count) w lines = subst (λ e. EndsBy e w lines) whole (ends_of_rules stock script) in
+    let end = End count (length w.sent) in
+    let bad = At number (Bad cause) in
+    let one : last_of end lines ≡ end = ap (last_of end) ends.1 ∙ last_of-push end ends.0 end in
+    let other : last_of end lines ≡ bad = ap (last_of end) refused.1 ∙ last_of-push end refused.0 bad in
+    let never : end ≡ bad = sym one ∙ other in
+    absurd cc
+
 -- ---- the answer
 
 module _ {K : Type 0} (W : K → Option (List ℕ)) (H : K → Option (List (List ℕ))) (old new : K) (script : List ℕ) where
@@ -83,11 +112,12 @@ module _ {K : Type 0} (W : K → Option (List ℕ)) (H : K → Option (List (Lis
   numbers stock (Ok done) e r counts = numbers_are done (subst (λ s. HasReplayed W H old new s script (endings.Whole done.lines)) e r) (subst (λ s. AreCounts s script done) e counts)
   numbers stock (Err fault) e r counts = tt
 
-  pub causes : (stock : Stock) (answer : Result Answer LabFault) → stock ≡ no_stock → IfReplayed answer (HasReplayed W H old new stock script)
-      → CountsRead answer 0 0 → IfErr answer (HasLoadCause script)
-  causes stock (Ok done) e r still = tt
-  causes stock (Err (Line number cause)) e r still = (subst (λ s. HasReplayed W H old new s script (endings.Refused number cause)) e r).ends
-  causes stock (Err Read) e r (inl risen) = absurd (omega (arith, risen))
-  causes stock (Err Read) e r (inr end) = absurd (omega (arith, end))
-  causes stock (Err Write) e r still = tt
-  causes stock (Err OutOfMemory) e r still = tt
+  pub causes : (stock : Stock) (answer : Result Answer LabFault) (count : ℕ) → ending_of rules (course_opening stock) (script_lines script) ≡ endings.Whole count
+      → IfReplayed answer (HasReplayed W H old new stock script) → CountsRead answer 0 0 → CountsWrite answer 0 0 → IfErr answer (λ fault. fault ≡ OutOfMemory)
+  causes stock (Ok done) count whole r reads writes = tt
+  causes stock (Err (Line number cause)) count whole r reads writes = absurd (not_refused stock script count number cause whole r.ends)
+  causes stock (Err Read) count whole r (inl risen) writes = absurd (omega (arith, risen))
+  causes stock (Err Read) count whole r (inr end) writes = absurd (omega (arith, end))
+  causes stock (Err Write) count whole r reads (inl risen) = absurd (omega (arith, risen))
+  causes stock (Err Write) count whole r reads (inr end) = absurd (omega (arith, end))
+  causes stock (Err OutOfMemory) count whole r reads writes = refl

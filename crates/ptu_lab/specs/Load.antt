@@ -1,15 +1,14 @@
 -- What a load writes: one line with the numbers of the report on the generated script, as a compact JSON object.
-use Rattle.std.specs.Prelude.{ℕ, List, ◌++◌, codes, length}
+use Rattle.std.specs.Prelude.{◌≡◌, ℕ, ◌+◌, ◌≤◌, List, ◌++◌, codes, length}
 use Rattle.std.specs.Fmt.{decimal}
 use Rattle.serde_json.specs.Data.{Data, number, unsigned, object, member, no_members}
 use Rattle.ptu_lines.specs.Script.{script_lines}
-use Rattle.ptu_report.specs.declared.ending.Ending.TheVariants.{Refused}
+use Rattle.ptu_report.specs.declared.ending.Ending.TheVariants.{Whole}
+use Rattle.ptu_report.specs.Rules.{ending_of}
 use Rattle.ptu_world.specs.World.{Stock}
-use Rattle.ptu_world.specs.Facts.{EndsBy, world_of}
-use Rattle.ptu_world.specs.Report.{granted_count, report_lines, short_count}
+use Rattle.ptu_world.specs.Facts.{world_of}
+use Rattle.ptu_world.specs.Report.{course_opening, granted_count, report_lines, rules, short_count}
 use Rattle.ptu_lab.specs.declared.done.Done.{Done}
-use Rattle.ptu_lab.specs.declared.fault.LabFault.{LabFault}
-use Rattle.ptu_lab.specs.declared.fault.LabFault.TheVariants as faults
 use Rattle.ptu_lab.specs.Generated.{generated}
 
 -- a stock without judges
@@ -48,9 +47,6 @@ summary_text done = object_text done ++ codes "\n"
 abbrev pub summary : ℕ → List ℕ
 summary n = summary_text (numbers_of (generated n))
 
--- why no summary of the script is written: its report ends with a line that is refused, the sink failed, or memory was wanted
-abbrev pub HasLoadCause : List ℕ → LabFault → Type 0
-HasLoadCause script (faults.Line line cause) = EndsBy (Refused line cause) (world_of no_stock script) (report_lines no_stock script)
-HasLoadCause script faults.Read = ⊥
-HasLoadCause script faults.Write = Unit {0}
-HasLoadCause script faults.OutOfMemory = Unit {0}
+-- whatever judges there are, no line of the script of a load is refused: its n + 33 lines are replayed to the end
+abbrev pub LoadsAreWhole : Type 0
+LoadsAreWhole = (stock : Stock) (n : ℕ) → 1 ≤ n → n ≤ 2000 → ending_of rules (course_opening stock) (script_lines (generated n)) ≡ Whole (n + 33)

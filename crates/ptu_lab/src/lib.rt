@@ -24,7 +24,7 @@ pub use done::Done;
 pub use fault::LabFault;
 pub use generating::{LoadLine, generate, sample_loads};
 pub use laws::sample_lines;
-pub use loading::{load, sample_summaries};
+pub use loading::{load, sample_summaries, whole_loads};
 pub use ptu_judges::Stock;
 pub use ptu_script::Cause;
 pub use replaying::replay;

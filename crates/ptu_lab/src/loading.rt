@@ -10,7 +10,7 @@ ghost use Rattle.ptu_outside.specs.Handing.{Grows, HasPut, HasPutPart};
 ghost use Rattle.ptu_lab.specs.Answers.{CountsWrite};
 ghost use Rattle.ptu_lab.specs.Generated.{IsWriteOrMemory, generated};
 ghost use Rattle.ptu_lab.specs.SummarySamples.{FiveClients, OneClient};
-ghost use Rattle.ptu_lab.specs.Load.{HasLoadCause, numbers_of, object_text, summary, summary_data, summary_text};
+ghost use Rattle.ptu_lab.specs.Load.{LoadsAreWhole, numbers_of, object_text, summary, summary_data, summary_text};
 
 use crate::done::Done;
 use crate::fault::LabFault;
@@ -77,8 +77,9 @@ fn script_of(alloc: Global, number: u64) -> Result<Vec<u8>, LabFault>
 // What the script comes to, without judges.
 fn replayed(alloc: Global, octets: &[u8]) -> Result<Done, LabFault>
     ensures numbers { IfOk result (λ done. done ≡ numbers_of octets.now) }
-    ensures cause { IfErr result (HasLoadCause octets.now) }
-    ensures no_write { IfErr result (λ fault. fault ≢ LabFault.Write) }
+    // No line of the script of a load is refused.
+    ensures cause { (n : ℕ) → 1 ≤ n → n ≤ 2000 → octets.now ≡ generated n
+        → IfErr result (λ fault. fault ≡ LabFault.OutOfMemory) }
 {
     let mut source = ScriptSource { left: octets };
     let stock = Stock {
@@ -121,8 +122,7 @@ fn summary_line(alloc: Global, done: Done) -> Result<String, AllocError>
 /// compact JSON object. It is handed to the sink in one piece, and its rest again until all is taken.
 ///
 /// # Errors
-/// `Line` only where the replay of the script answers it, and then nothing was written; `Write`
-/// exactly where the sink failed, and `OutOfMemory`; never `Read`.
+/// `Write` exactly where the sink failed, and `OutOfMemory`; never `Line` or `Read`.
 pub fn load<K: Sink>(alloc: Global, number: u64, sink: &mut K) -> Result<(), LabFault>
     requires least { 1 ≤ number }
     requires most { number ≤ 2000 }
@@ -131,7 +131,7 @@ pub fn load<K: Sink>(alloc: Global, number: u64, sink: &mut K) -> Result<(), Lab
     ensures written { OnOk result
         (K.written sink.new ≡ append_known (K.written sink.old) (summary number)) }
     ensures front { HasPutPart K.written K.handed sink.old sink.new (summary number ∷ []) }
-    ensures cause { IfErr result (HasLoadCause (generated number)) }
+    ensures cause { IfErr result IsWriteOrMemory }
     ensures nothing { IfErr result (λ fault. fault ≢ LabFault.Write → sink.new ≡ sink.old) }
     ensures counts { CountsWrite result (K.faults sink.old) (K.faults sink.new) }
 {
@@ -142,6 +142,11 @@ pub fn load<K: Sink>(alloc: Global, number: u64, sink: &mut K) -> Result<(), Lab
         Err(_) => Err(LabFault::OutOfMemory),
     }
 }
+
+/// The script of a load is replayed to its end.
+pub fn whole_loads()
+    ensures { LoadsAreWhole }
+{}
 
 /// What loads of few clients write.
 pub fn sample_summaries()

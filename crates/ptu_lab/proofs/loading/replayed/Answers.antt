@@ -1,5 +1,7 @@
-use Rattle.std.proofs.Common.{refl}
+use Rattle.std.proofs.Common.{◌+◌, refl, subst}
+use Rattle.ptu_report.specs.declared.ending.Ending.TheVariants as endings
 use Rattle.ptu_lab.proofs.LoadCounts.{causes, numbers}
+use Rattle.ptu_lab.proofs.LoadWhole.{whole_script}
 use Rattle.ptu_lab.proofs.loading.replayed.Goals as goal
 
 pub returns-clause-numbers : goal.returns-clause-numbers
@@ -8,6 +10,6 @@ returns-clause-numbers c =
     (c.replay.ensures.counts c.args.octets.now refl)
 
 pub returns-clause-cause : goal.returns-clause-cause
-returns-clause-cause c =
-    causes _ _ _ _ c.args.octets.now _ c.replay.result (rw (c.new.ensures.items, c.new-2.ensures.items) refl) (c.replay.ensures.whole c.args.octets.now refl)
-    c.replay.ensures.source_counts
+returns-clause-cause c = λ n least most is.
+    causes _ _ _ _ c.args.octets.now _ c.replay.result (n + 33) (whole_script c.args.octets.now _ n least most is) (c.replay.ensures.whole c.args.octets.now refl)
+    c.replay.ensures.source_counts c.replay.ensures.sink_counts
