@@ -1,8 +1,8 @@
 //! A PTP unicast grandmaster and its slaves (IEEE 1588-2019 clause 16.1, ITU-T G.8265.1).
 //!
 //! `ptpuni replay` reads a script of grandmasters and slaves from standard input, runs them in
-//! memory, and writes a report of every decision and datagram to standard output. `ptpuni show` decodes the datagrams that stand in the lines of standard
-//! input.
+//! memory, and writes a report of every decision and datagram to standard output. `ptpuni show`
+//! decodes the datagrams that stand in the lines of standard input.
 #![tactic(auto)]
 
 mod run;

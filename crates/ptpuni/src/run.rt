@@ -109,7 +109,7 @@ fn run_command<S: Source, K: Sink>(
 /// with: 0 where the source was read to its end (but by a load, which reads nothing) and the whole
 /// output was written, or one of the numbers above. The judges of the slaves of a script are taken from the stock, which is to be
 /// fresh.
-#[tactic(auto, using(ptu_world::proofs::Headline::within_capacity, ptu_world::proofs::Headline::decides_by_room, ptu_world::proofs::Headline::pays_periods, ptu_world::proofs::Headline::within_budget, ptu_world::proofs::Headline::selects_best, ptu_world::proofs::Headline::says_so))]
+#[tactic(auto, using(ptu_world::proofs::Headline::headline))]
 pub fn run<S: Source, K: Sink>(
     alloc: Global,
     words: &[&str],

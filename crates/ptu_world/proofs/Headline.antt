@@ -44,3 +44,6 @@ selects_best stock script = record {
 
 pub says_so : (stock : Stock) (script : List ℕ) → SaysSo stock script
 says_so stock script = record { said = said stock script; leads_on = next stock script; refused = refused stock script; ended = ended stock script }
+
+-- all of it
+pub ruleset headline = (within_capacity, decides_by_room, pays_periods, within_budget, selects_best, says_so)
