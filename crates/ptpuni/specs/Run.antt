@@ -29,12 +29,6 @@ status_of_answer (Err Read) = 66
 status_of_answer (Err Write) = 67
 status_of_answer (Err OutOfMemory) = 71
 
--- the status of what a load answers
-abbrev pub status_of_load : Result (Unit {0}) LabFault → ℕ
-status_of_load (Ok x) = 0
-status_of_load (Err Write) = 67
-status_of_load (Err fault) = 71
-
 -- the numbers of judges of each rule that are handed in
 abbrev pub stock_of : {A : Type 0} → List A → List A → Stock
 stock_of flags gaps = record { flags = length flags; gaps = length gaps }

@@ -10,7 +10,7 @@ ghost use Rattle.ptu_words.specs.CommandLine.{command_of, IsInRange, IsRefused};
 ghost use Rattle.ptu_words.specs.declared.command.Command.{Command};
 ghost use Rattle.ptu_world.specs.Headline.{DecidesByRoom, PaysPeriods, SaysSo, SelectsBest, WithinBudget, WithinCapacity};
 ghost use Rattle.ptu_world.specs.Report.{report_lines};
-ghost use Rattle.ptpuni.specs.Run.{output_of, status_of_answer, status_of_load, statuses, stock_of, HasLoaded, HasReadAll, HasRun, IsStatusOf};
+ghost use Rattle.ptpuni.specs.Run.{output_of, status_of_answer, statuses, stock_of, HasLoaded, HasReadAll, HasRun, IsStatusOf};
 
 use ptu_lab::{LabFault, Stock, load, replay, show};
 use ptu_outside::{Sink, Source};
@@ -42,17 +42,6 @@ fn status_of<A: Drop>(answer: Result<A, LabFault>) -> u8
         Err(LabFault::Read) => SOURCE_FAULT,
         Err(LabFault::Write) => SINK_FAULT,
         Err(LabFault::OutOfMemory) => OUT_OF_MEMORY,
-    }
-}
-
-// The status of what a load answers, which reads nothing.
-fn status_of_summary(answer: Result<(), LabFault>) -> u8
-    ensures { result ≡ status_of_load answer }
-{
-    match answer {
-        Ok(()) => 0,
-        Err(LabFault::Write) => SINK_FAULT,
-        Err(_) => OUT_OF_MEMORY,
     }
 }
 
@@ -101,7 +90,7 @@ fn run_command<S: Source, K: Sink>(
     match command {
         Command::Replay => status_of(replay(alloc, source, sink, stock)),
         Command::Show => status_of(show(alloc, source, sink)),
-        Command::Load(number) => status_of_summary(load(alloc, number, sink)),
+        Command::Load(number) => status_of(load(alloc, number, sink)),
     }
 }
 

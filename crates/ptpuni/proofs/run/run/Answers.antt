@@ -1,7 +1,7 @@
-use Rattle.std.proofs.Common.{◌≡◌, ◌∙◌, List, ℕ, Some, None, map, refl, sym, subst}
+use Rattle.std.proofs.Common.{inr, arith, ◌≡◌, ◌∙◌, List, ℕ, Some, None, map, refl, sym, subst}
 use Rattle.ptu_outside.proofs.Handing.{HasPutPart-none}
 use Rattle.ptu_words.specs.declared.command.Command.{Command}
-use Rattle.ptu_words.specs.declared.command.Command.TheVariants.{Replay}
+use Rattle.ptu_words.specs.declared.command.Command.TheVariants.{Load, Replay}
 use Rattle.ptu_words.specs.CommandLine.{IsRefused, command_of}
 use Rattle.ptu_words.proofs.Matching.{refused, unnamed}
 use Rattle.ptu_world.specs.Report.{report_lines}
@@ -18,22 +18,22 @@ one_command words found command e h = let same : Some found ≡ Some command = e
 
 pub returns-in-Ok-Some-clause-refused : goal.returns-in-Ok-Some-clause-refused
 returns-in-Ok-Some-clause-refused g c = λ h.
-    absurd (not_refused (map (λ w. w.now) c.args.words.now) c.in-Ok-Some.command (sym c.in-Ok-Some.field-0-is ∙ c.in-Ok-Some.ensures) h)
+    absurd (not_refused (map (λ w. w.now) c.args.words.now) c.in-Ok-Some.command (sym c.in-Ok-Some.field-0-is ∙ c.in-Ok-Some.ensures.command) h)
 
 pub returns-in-Ok-Some-clause-untouched : goal.returns-in-Ok-Some-clause-untouched
 returns-in-Ok-Some-clause-untouched g c = λ h.
-    absurd (not_refused (map (λ w. w.now) c.args.words.now) c.in-Ok-Some.command (sym c.in-Ok-Some.field-0-is ∙ c.in-Ok-Some.ensures) h)
+    absurd (not_refused (map (λ w. w.now) c.args.words.now) c.in-Ok-Some.command (sym c.in-Ok-Some.field-0-is ∙ c.in-Ok-Some.ensures.command) h)
 
 pub returns-in-Ok-Some-clause-output : goal.returns-in-Ok-Some-clause-output
 returns-in-Ok-Some-clause-output g c = λ command is input told still_source still_sink memory.
     subst (λ k. HasRun g.K.Sink.written g.K.Sink.handed c.args.sink.now c.run_command.new.sink (stock_of c.args.stock.flags.items c.args.stock.gaps.items) k input (g.S.Source.left c.run_command.new.source) c.run_command.result)
-    (one_command (map (λ w. w.now) c.args.words.now) c.in-Ok-Some.command command (sym c.in-Ok-Some.field-0-is ∙ c.in-Ok-Some.ensures) is)
+    (one_command (map (λ w. w.now) c.args.words.now) c.in-Ok-Some.command command (sym c.in-Ok-Some.field-0-is ∙ c.in-Ok-Some.ensures.command) is)
     (c.run_command.ensures.output input told still_source still_sink memory)
 
 pub returns-in-Ok-Some-clause-answered : goal.returns-in-Ok-Some-clause-answered
 returns-in-Ok-Some-clause-answered g c = λ ended command is input told.
     subst (λ k. HasRun g.K.Sink.written g.K.Sink.handed c.args.sink.now c.run_command.new.sink (stock_of c.args.stock.flags.items c.args.stock.gaps.items) k input (g.S.Source.left c.run_command.new.source) c.run_command.result)
-    (one_command (map (λ w. w.now) c.args.words.now) c.in-Ok-Some.command command (sym c.in-Ok-Some.field-0-is ∙ c.in-Ok-Some.ensures) is)
+    (one_command (map (λ w. w.now) c.args.words.now) c.in-Ok-Some.command command (sym c.in-Ok-Some.field-0-is ∙ c.in-Ok-Some.ensures.command) is)
     (c.run_command.ensures.answered ended input told)
 
 pub returns-in-Ok-Some-clause-status : goal.returns-in-Ok-Some-clause-status
@@ -41,13 +41,27 @@ returns-in-Ok-Some-clause-status g c = λ ended is script told.
     let stock = stock_of c.args.stock.flags.items c.args.stock.gaps.items in
     let run : HasRun g.K.Sink.written g.K.Sink.handed c.args.sink.now c.run_command.new.sink stock Replay script (g.S.Source.left c.run_command.new.source) c.run_command.result =
     subst (λ k. HasRun g.K.Sink.written g.K.Sink.handed c.args.sink.now c.run_command.new.sink stock k script (g.S.Source.left c.run_command.new.source) c.run_command.result)
-    (one_command (map (λ w. w.now) c.args.words.now) c.in-Ok-Some.command Replay (sym c.in-Ok-Some.field-0-is ∙ c.in-Ok-Some.ensures) is)
+    (one_command (map (λ w. w.now) c.args.words.now) c.in-Ok-Some.command Replay (sym c.in-Ok-Some.field-0-is ∙ c.in-Ok-Some.ensures.command) is)
     (c.run_command.ensures.answered ended script told) in
     zero_at_end (report_lines stock script) (g.S.Source.left c.run_command.new.source) c.run_command.result run.status_is (run.read_whole refl)
 
 pub returns-in-Ok-None-clause-usage : goal.returns-in-Ok-None-clause-usage
 returns-in-Ok-None-clause-usage g c = λ _.
-    unnamed (map (λ w. w.now) c.args.words.now) (sym (sym c.in-Ok-None.field-0-is ∙ c.in-Ok-None.ensures))
+    unnamed (map (λ w. w.now) c.args.words.now) (sym (sym c.in-Ok-None.field-0-is ∙ c.in-Ok-None.ensures.command))
 
 pub returns-in-Err-clause-front : goal.returns-in-Err-clause-front
 returns-in-Err-clause-front g c = λ command is input told. HasPutPart-none g.K.Sink.written g.K.Sink.handed c.args.sink.now _
+
+pub returns-in-Ok-Some-clause-loaded : goal.returns-in-Ok-Some-clause-loaded
+returns-in-Ok-Some-clause-loaded g c = λ number is.
+    c.run_command.ensures.loaded number
+    (one_command (map (λ w. w.now) c.args.words.now) c.in-Ok-Some.command (Load number) (sym c.in-Ok-Some.field-0-is ∙ c.in-Ok-Some.ensures.command) is)
+
+pub returns-in-Err-clause-loaded : goal.returns-in-Err-clause-loaded
+returns-in-Err-clause-loaded g c = λ number is. record {
+  unread = refl;
+  statuses = inr (inr refl);
+  whole = λ e. absurd (omega (arith, e));
+  line = λ e. absurd (omega (arith, e));
+  front = HasPutPart-none g.K.Sink.written g.K.Sink.handed c.args.sink.now _;
+}

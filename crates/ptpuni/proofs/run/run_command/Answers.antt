@@ -1,5 +1,6 @@
 use Rattle.ptpuni.specs.Run.{stock_of}
 use Rattle.ptpuni.proofs.Answered.{by_counts, by_status, is_status, replayed, shown}
+use Rattle.ptpuni.proofs.Loaded.{has_loaded, loaded}
 use Rattle.ptpuni.proofs.run.run_command.Goals as goal
 
 pub returns-in-Replay-clause-statuses : goal.returns-in-Replay-clause-statuses
@@ -31,3 +32,6 @@ returns-in-Show-clause-answered g c = λ ended input told.
     let is = by_status c.show.result (rw c.status_of-in-Show.ensures at ended) in
     rw (c.status_of-in-Show.ensures, c.in-Show.is)
     (shown g.K.Sink.written g.K.Sink.handed c.args.sink.now c.show.new.sink (stock_of c.args.stock.flags.items c.args.stock.gaps.items) input (g.S.Source.left c.show.new.source) c.show.result is (c.show.ensures.whole input told) c.show.ensures.end)
+
+pub returns-in-Load-clause-statuses : goal.returns-in-Load-clause-statuses
+returns-in-Load-clause-statuses g c = rw c.status_of-in-Load.ensures (is_status c.load.result)
