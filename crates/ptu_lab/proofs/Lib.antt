@@ -1,1 +1,2 @@
 pub mod ShowCauses
+pub mod SlaveEvents

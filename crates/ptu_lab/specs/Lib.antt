@@ -6,3 +6,5 @@ pub mod Samples
 pub mod Standing
 pub mod Doing
 pub mod Replayed
+pub mod SlaveHeard
+pub mod SlaveWords

@@ -13,6 +13,7 @@ mod laws;
 mod lines;
 mod replaying;
 mod slave_node;
+mod slave_saying;
 mod tally;
 
 pub use decoding::show;
