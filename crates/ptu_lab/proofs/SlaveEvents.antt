@@ -5,7 +5,7 @@ use Rattle.std.proofs.lemmas.List.{append-nil, map-append}
 use Rattle.std.proofs.lemmas.List.Sums.{sum_by-cons}
 use Rattle.std.specs.List.{AllByRecursion, count_by, items_where_true, range_with_len}
 use Rattle.std.specs.Option.{option_map}
-use Rattle.std.specs.Prelude.{IsSome}
+use Rattle.std.specs.Prelude.{IfSome, IsSome, OnOk, Result, Ok, Err}
 use Rattle.ptu_outside.specs.Departure.{Departure}
 use Rattle.ptu_outside.specs.HandsOver.{HandsOver}
 use Rattle.ptu_outside.specs.MemoryPort.{MemoryPort}
@@ -13,6 +13,8 @@ use Rattle.ptu_record.specs.declared.rule.Rule.{Rule}
 use Rattle.ptu_record.specs.Lists.{places}
 use Rattle.ptu_record.specs.Record.{Record, event_moment}
 use Rattle.ptu_record.specs.Selection.{selected_master}
+use Rattle.ptu_record.specs.SignalFails.{Timeouts}
+use Rattle.ptu_record.proofs.Choice.{chosen_best}
 use Rattle.ptu_record.specs.Step.{ReplaceJudge, SlaveEvent, judged_masters, sendings, slave_step}
 use Rattle.ptu_judges.specs.Held.{Held}
 use Rattle.ptu_slave_messages.specs.declared.config.Master.{Master}
@@ -182,3 +184,40 @@ event_done ip line t new news after last s said deed sent sent' texts middle tex
 
     all : AllByRecursion IsOther (said ++ sends_said ++ added)
     all = all_append (said ++ sends_said) added (all_append said sends_said others (sends_other (length sent) (map (sent_from ip) deed.datagrams))) ((refl, refl), tt)
+
+-- what follows from what three clauses say of an `Ok`
+pub on_ok_each : {T E A B C D : Type 0} (r : Result T E) → (A → B → C → D) → OnOk r A → OnOk r B → OnOk r C → OnOk r D
+on_ok_each (Ok x) f a b c = f a b c
+on_ok_each (Err x) f a b c = tt
+
+-- the same of what is kept, and is the same, at the end
+pub ended : (ip ip' line t : ℕ) (new kept : Kept) (news judges : List Held) (after last : MemoryPort) (s : Slave) (said : List Statement) (deed : Deed)
+    (sent sent' : List Sent) (texts middle texts' : List (List ℕ)) → ip' ≡ ip → kept ≡ new → judges ≡ news → HasStepped ip new news after s deed
+    → AllByRecursion IsOther said → middle ≡ texts ++ map (text_at line) said → IsIdle last → sent' ≡ sent ++ map (sent_from ip) after.sent
+    → ((openings : List (Option Rule)) (L : Record) → StandsFor openings new news L
+    → texts' ≡ middle ++ map (text_at line) (sending_said (length sent) (map (sent_from ip) after.sent) ++ selection_by ip new L t ∷ []))
+    → HasDone (StandsAsSlave ip' kept judges last true) ip line (event_deed s t said deed) sent sent' texts texts' 0 0
+ended ip ip' line t new kept news judges after last s said deed sent sent' texts middle texts' same_ip same_kept same_judges h others before idle sends says =
+    subst (λ a. HasDone (StandsAsSlave a kept judges last true) ip line (event_deed s t said deed) sent sent' texts texts' 0 0) (sym same_ip)
+    (subst (λ k. HasDone (StandsAsSlave ip k judges last true) ip line (event_deed s t said deed) sent sent' texts texts' 0 0) (sym same_kept)
+    (subst (λ js. HasDone (StandsAsSlave ip new js last true) ip line (event_deed s t said deed) sent sent' texts texts' 0 0) (sym same_judges)
+    (event_done ip line t new news after last s said deed sent sent' texts middle texts' h idle others before sends says)))
+
+-- where nothing is sent
+pub quietly_ended : (ip ip' line t : ℕ) (new kept : Kept) (news judges : List Held) (before after last : MemoryPort) (s : Slave) (deed : Deed)
+    (sent : List Sent) (texts texts' : List (List ℕ)) → ip' ≡ ip → kept ≡ new → judges ≡ news → HasStepped ip new news after s deed
+    → after ≡ before → last ≡ after → IsIdle before
+    → ((openings : List (Option Rule)) (L : Record) → StandsFor openings new news L → texts' ≡ texts ++ text_at line (selection_by ip new L t) ∷ [])
+    → HasDone (StandsAsSlave ip' kept judges last true) ip line (event_deed s t [] deed) sent sent texts texts' 0 0
+quietly_ended ip ip' line t new kept news judges before after last s deed sent texts texts' same_ip same_kept same_judges h still kept_port idle says =
+    ended ip ip' line t new kept news judges after last s [] deed sent sent texts texts texts' same_ip same_kept same_judges h tt (sym (append-nil texts))
+    (ap (λ (p : MemoryPort). p.sent) kept_port ∙ none) (sym (ap (λ ds. sent ++ map (sent_from ip) ds) none ∙ append-nil sent))
+    (λ openings L stands. says openings L stands ∙ ap (λ ds. texts ++ map (text_at line) (sending_said (length sent) (map (sent_from ip) ds) ++ selection_by ip new L t ∷ [])) (sym none))
+  where
+    none : after.sent ≡ []
+    none = ap (λ (p : MemoryPort). p.sent) still ∙ idle
+
+-- the master that is selected stands in the list
+pub chosen_within : (timeouts : Timeouts) (priorities : List ℕ) (L : Record) (t : ℕ) (o : Option ℕ) → o ≡ selected_master timeouts priorities L t → IfSome o (λ m. m < length priorities)
+chosen_within timeouts priorities L t None is = tt
+chosen_within timeouts priorities L t (Some m) is = (chosen_best timeouts priorities L t m (sym is)).within

@@ -1,9 +1,9 @@
-ghost use Rattle.std.specs.Prelude.{◌≡◌, ◌<◌, ℕ, Bool, true, false, List, [], ◌∷◌, ◌++◌, length, map, Option, None, Some, IfOk, OnOk};
+ghost use Rattle.std.specs.Prelude.{◌≡◌, ◌<◌, ℕ, Bool, true, false, List, [], ◌∷◌, ◌++◌, length, map, Option, None, Some, option_map, IfOk, IfSome, OnOk};
 ghost use Rattle.ptu_record.specs.declared.rule.Rule.{Rule};
 ghost use Rattle.ptu_record.specs.Record.{Record};
 ghost use Rattle.ptu_record.specs.Step.{ReplaceJudge, Stop, TellFlag, Tick};
 ghost use Rattle.ptu_judges.specs.Held.{fresh};
-ghost use Rattle.ptu_slave_messages.specs.Config.{IsWithinLimits, place_of};
+ghost use Rattle.ptu_slave_messages.specs.Config.{IsWithinLimits, address_of, place_of};
 ghost use Rattle.ptu_slave_messages.specs.Node as node;
 ghost use Rattle.ptu_slave_messages.specs.Node.{datagram_heard};
 ghost use Rattle.ptu_slave.specs.Standing.{StandsFor};
@@ -429,7 +429,15 @@ fn selected(slave: &mut Slave<MemPort>, at: Moment) -> Option<u32>
     ensures judges { slave.new.judges ≡ slave.old.judges }
     ensures port { slave.new.port ≡ slave.old.port }
 {
-    let place = slave.selected(at)?;
-    let master = slave.core.masters().get(place)?;
+    let place = slave.selected(at);
+    address(slave.core.masters(), place)
+}
+
+// The address of the master at the place.
+fn address(masters: &[Master], place: Option<usize>) -> Option<u32>
+    ensures { IfSome place (λ m. m < length masters.now) →
+        result ≡ option_map (address_of masters.now) place }
+{
+    let master = masters.get(place?)?;
     Some(master.ip)
 }
