@@ -1,2 +1,3 @@
 pub mod ShowCauses
 pub mod SlaveEvents
+pub mod SlaveMasters

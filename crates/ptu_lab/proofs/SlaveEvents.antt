@@ -16,7 +16,7 @@ use Rattle.ptu_record.specs.Selection.{selected_master}
 use Rattle.ptu_record.specs.SignalFails.{Timeouts}
 use Rattle.ptu_record.proofs.Choice.{chosen_best}
 use Rattle.ptu_record.specs.Step.{ReplaceJudge, SlaveEvent, judged_masters, sendings, slave_step}
-use Rattle.ptu_judges.specs.Held.{Held}
+use Rattle.ptu_judges.specs.Held.{Held, IsFresh, fresh}
 use Rattle.ptu_slave_messages.specs.declared.config.Master.{Master}
 use Rattle.ptu_slave_messages.specs.declared.config.SlaveConfig.{SlaveConfig}
 use Rattle.ptu_slave_messages.specs.Config.{AreMasters, IsWithinLimits, address_of, priorities, timeouts}
@@ -205,11 +205,11 @@ ended ip ip' line t new kept news judges after last s said deed sent sent' texts
 
 -- where nothing is sent
 pub quietly_ended : (ip ip' line t : ℕ) (new kept : Kept) (news judges : List Held) (before after last : MemoryPort) (s : Slave) (deed : Deed)
-    (sent : List Sent) (texts texts' : List (List ℕ)) → ip' ≡ ip → kept ≡ new → judges ≡ news → HasStepped ip new news after s deed
+    (sent : List Sent) (texts texts' : List (List ℕ)) → ip' ≡ ip → kept ≡ new → HasStepped ip new news after s deed → judges ≡ news
     → after ≡ before → last ≡ after → IsIdle before
     → ((openings : List (Option Rule)) (L : Record) → StandsFor openings new news L → texts' ≡ texts ++ text_at line (selection_by ip new L t) ∷ [])
     → HasDone (StandsAsSlave ip' kept judges last true) ip line (event_deed s t [] deed) sent sent texts texts' 0 0
-quietly_ended ip ip' line t new kept news judges before after last s deed sent texts texts' same_ip same_kept same_judges h still kept_port idle says =
+quietly_ended ip ip' line t new kept news judges before after last s deed sent texts texts' same_ip same_kept h same_judges still kept_port idle says =
     ended ip ip' line t new kept news judges after last s [] deed sent sent texts texts texts' same_ip same_kept same_judges h tt (sym (append-nil texts))
     (ap (λ (p : MemoryPort). p.sent) kept_port ∙ none) (sym (ap (λ ds. sent ++ map (sent_from ip) ds) none ∙ append-nil sent))
     (λ openings L stands. says openings L stands ∙ ap (λ ds. texts ++ map (text_at line) (sending_said (length sent) (map (sent_from ip) ds) ++ selection_by ip new L t ∷ [])) (sym none))
@@ -221,3 +221,21 @@ quietly_ended ip ip' line t new kept news judges before after last s deed sent t
 pub chosen_within : (timeouts : Timeouts) (priorities : List ℕ) (L : Record) (t : ℕ) (o : Option ℕ) → o ≡ selected_master timeouts priorities L t → IfSome o (λ m. m < length priorities)
 chosen_within timeouts priorities L t None is = tt
 chosen_within timeouts priorities L t (Some m) is = (chosen_best timeouts priorities L t m (sym is)).within
+
+-- a fresh judge of this rule took over
+pub replaced : (ip : ℕ) (old new : Kept) (judges news : List Held) (judge : Held) (before after : MemoryPort) (begun : Bool) (s : Slave) (t m : ℕ) (rule : Rule)
+    → judge ≡ fresh rule → IsSlaveNode ip old judges before begun s → m < length old.masters → IsSame old new
+    → Steps s.opened.openings old new news s.taken t (ReplaceJudge m judge.rule) → after ≡ before → HasStepped ip new news after s (deed s.opened s.taken t (ReplaceJudge m (Some rule)))
+replaced ip old new judges news judge before after begun s t m rule is h within same steps still =
+    stepped ip old new judges news before after begun s t (ReplaceJudge m (Some rule)) (deed s.opened s.taken t (ReplaceJudge m (Some rule))) h (λ n other. absurd (cc other)) (within, tt) same
+    (subst (λ (j : Held). Steps s.opened.openings old new news s.taken t (ReplaceJudge m j.rule)) is steps) refl
+    (ap (λ (p : MemoryPort). p.sent) still ∙ h.idle)
+
+-- a judge that is fresh
+pub fresh_is : (held : Held) (rule : Rule) → held ≡ fresh rule → IsFresh held
+fresh_is held rule is = subst IsFresh (sym is) refl
+
+-- each master has a priority
+pub priorities_many : (masters : List Master) → length (priorities masters) ≡ length masters
+priorities_many [] = refl
+priorities_many (m ∷ masters) = ap (λ n. suc n) (priorities_many masters)
