@@ -1,3 +1,4 @@
 pub mod ShowCauses
 pub mod SlaveEvents
 pub mod SlaveMasters
+pub mod SlaveHearing
