@@ -1,5 +1,5 @@
 -- What a slave of the lab heard, and what it does of it.
-use Rattle.std.proofs.Common.{◌≡◌, ◌≢◌, ℕ, suc, ◌+◌, ◌<◌, max, Bool, true, false, cond, List, [], ◌∷◌, ◌++◌, length, map, Option, Some, None, Ok, Err, refl, ap, ap₂, sym, subst, ◌∙◌, arith}
+use Rattle.std.proofs.Common.{◌≡◌, ◌≢◌, ℕ, suc, ◌+◌, ◌<◌, max, Bool, true, false, List, [], ◌∷◌, ◌++◌, length, map, Option, Some, None, Ok, Err, refl, ap, ap₂, sym, subst, ◌∙◌, arith}
 use Rattle.std.proofs.lemmas.Bool.{false≢true}
 use Rattle.std.proofs.lemmas.List.{append-nil}
 use Rattle.std.proofs.lemmas.List.Quantifiers.{position-Some}
@@ -47,7 +47,7 @@ use Rattle.ptu_lab.specs.Doing.{HasDone}
 use Rattle.ptu_lab.specs.Standing.{IsIdle, IsSlaveNode, StandsAsSlave}
 use Rattle.ptu_lab.specs.SlaveHeard.{IsOfOne, is_ignored, is_unsent}
 use Rattle.ptu_lab.specs.SlaveWords.{HasStepped, selection_by}
-use Rattle.ptu_lab.proofs.SlaveEvents.{IsOther, all_sent, ended, on_ok_each, stepped}
+use Rattle.ptu_lab.proofs.SlaveEvents.{IsOther, all_sent, ended, stepped}
 
 -- ---- the reply
 
@@ -123,7 +123,7 @@ from_place : (config : SlaveConfig) (masters : List Master) (ip n : ℕ) (messag
 from_place config masters ip n message None at is = absurd (cc is)
 from_place config masters ip n message (Some k) at is =
     let here : (if not (is_for config.identity message.body) then Err Target else Ok k) ≡ Ok n =
-        past (not (message.header.domain == config.domain)) (Domain message.header.domain) (if not (is_for config.identity message.body) then Err Target else Ok k) n is in
+    past (not (message.header.domain == config.domain)) (Domain message.header.domain) (if not (is_for config.identity message.body) then Err Target else Ok k) n is in
     let taken : Ok k ≡ Ok n = past (not (is_for config.identity message.body)) Target (Ok k) n here in
     let same : k ≡ n = cc taken in
     subst (λ i. i < length masters) same (position-Some (λ (master : Master). master.ip == ip) masters k (record { ip = 0; priority = 0 }) at).0
@@ -132,7 +132,7 @@ from_beside : (config : SlaveConfig) (masters : List Master) (ip m : ℕ) (read 
 from_beside config masters ip m read message (Err reason) sender is = absurd (cc is)
 from_beside config masters ip m read message (Ok n) sender is =
     let known : (if is_delay_req read.body then Err (Other read.header.message_type) else from_master config read (place_of masters ip)) ≡ Ok n =
-        past (is_unknown read.body) (UnknownType read.header.message_type) (if is_delay_req read.body then Err (Other read.header.message_type) else from_master config read (place_of masters ip)) n sender in
+    past (is_unknown read.body) (UnknownType read.header.message_type) (if is_delay_req read.body then Err (Other read.header.message_type) else from_master config read (place_of masters ip)) n sender in
     subst (λ i. i < length masters) (ap first is)
     (from_place config masters ip n read (place_of masters ip) refl (past (is_delay_req read.body) (Other read.header.message_type) (from_master config read (place_of masters ip)) n known))
   where

@@ -57,7 +57,8 @@ impl SlaveNode {
         requires { IsSlaveWithin setup.now }
         ensures ip { IfOk result (λ n. n.ip ≡ setup.now.ip) }
         ensures stands { IfOk result (λ n. StandsAsSlave n.ip n.slave.core
-            (map (λ j. held (j.vtable, j.value)) n.slave.judges.items) n.slave.port false (new_slave setup.now)) }
+            (map (λ j. held (j.vtable, j.value)) n.slave.judges.items)
+            n.slave.port false (new_slave setup.now)) }
     {
         let port = MemPort::new(alloc, Vec::new(alloc), Vec::new(alloc), Vec::new(alloc));
         let config = config_of(setup);
@@ -121,9 +122,9 @@ impl SlaveNode {
         Ok(SlaveNode { ip: own, slave })
     }
 
-    /// Takes a datagram that came from this IPv4 address: what it comes to, what is sent and what the
-    /// slave then selects is added to the texts of the script's line of this number, and what is sent
-    /// to that which was sent before.
+    /// Takes a datagram that came from this IPv4 address: what it comes to, what is sent and what
+    /// the slave then selects is added to the texts of the script's line of this number, and what
+    /// is sent to that which was sent before.
     ///
     /// # Errors
     /// `OutOfMemory`, also where room for what it sends was not found.
@@ -140,9 +141,11 @@ impl SlaveNode {
         ensures ip { self.new.ip ≡ self.old.ip }
         ensures done { OnOk result ((begun : Bool) (s : Described) →
             IsSlaveNode self.old.ip self.old.slave.core
-            (map (λ j. held (j.vtable, j.value)) self.old.slave.judges.items) self.old.slave.port begun s →
+            (map (λ j. held (j.vtable, j.value)) self.old.slave.judges.items)
+            self.old.slave.port begun s →
             HasDone (StandsAsSlave self.new.ip self.new.slave.core
-            (map (λ j. held (j.vtable, j.value)) self.new.slave.judges.items) self.new.slave.port true)
+            (map (λ j. held (j.vtable, j.value)) self.new.slave.judges.items)
+            self.new.slave.port true)
             self.old.ip line (datagram_deed s at from octets.now) sent.old.items sent.new.items
             texts.old texts.new 0 0) }
     {
@@ -169,9 +172,11 @@ impl SlaveNode {
         ensures ip { self.new.ip ≡ self.old.ip }
         ensures done { OnOk result ((begun : Bool) (s : Described) →
             IsSlaveNode self.old.ip self.old.slave.core
-            (map (λ j. held (j.vtable, j.value)) self.old.slave.judges.items) self.old.slave.port begun s →
+            (map (λ j. held (j.vtable, j.value)) self.old.slave.judges.items)
+            self.old.slave.port begun s →
             HasDone (StandsAsSlave self.new.ip self.new.slave.core
-            (map (λ j. held (j.vtable, j.value)) self.new.slave.judges.items) self.new.slave.port true)
+            (map (λ j. held (j.vtable, j.value)) self.new.slave.judges.items)
+            self.new.slave.port true)
             self.old.ip line (plain_deed s at Tick) sent.old.items sent.new.items texts.old
             texts.new 0 0) }
     {
@@ -194,9 +199,11 @@ impl SlaveNode {
         ensures ip { self.new.ip ≡ self.old.ip }
         ensures done { OnOk result ((begun : Bool) (s : Described) →
             IsSlaveNode self.old.ip self.old.slave.core
-            (map (λ j. held (j.vtable, j.value)) self.old.slave.judges.items) self.old.slave.port begun s →
+            (map (λ j. held (j.vtable, j.value)) self.old.slave.judges.items)
+            self.old.slave.port begun s →
             HasDone (StandsAsSlave self.new.ip self.new.slave.core
-            (map (λ j. held (j.vtable, j.value)) self.new.slave.judges.items) self.new.slave.port true)
+            (map (λ j. held (j.vtable, j.value)) self.new.slave.judges.items)
+            self.new.slave.port true)
             self.old.ip line (plain_deed s at Stop) sent.old.items sent.new.items texts.old
             texts.new 0 0) }
     {
@@ -222,9 +229,11 @@ impl SlaveNode {
         ensures ip { self.new.ip ≡ self.old.ip }
         ensures done { OnOk result ((begun : Bool) (s : Described) →
             IsSlaveNode self.old.ip self.old.slave.core
-            (map (λ j. held (j.vtable, j.value)) self.old.slave.judges.items) self.old.slave.port begun s →
+            (map (λ j. held (j.vtable, j.value)) self.old.slave.judges.items)
+            self.old.slave.port begun s →
             HasDone (StandsAsSlave self.new.ip self.new.slave.core
-            (map (λ j. held (j.vtable, j.value)) self.new.slave.judges.items) self.new.slave.port true)
+            (map (λ j. held (j.vtable, j.value)) self.new.slave.judges.items)
+            self.new.slave.port true)
             self.old.ip line (plain_deed s at (TellFlag master unusable)) sent.now sent.now
             texts.old texts.new 0 0) }
     {
@@ -294,12 +303,7 @@ impl SlaveNode {
     }
 
     // Says what the slave selects.
-    fn say_selected(
-        &mut self,
-        at: Moment,
-        line: u64,
-        texts: &mut Texts,
-    ) -> Result<(), OutOfMemory>
+    fn say_selected(&mut self, at: Moment, line: u64, texts: &mut Texts) -> Result<(), OutOfMemory>
         ensures ip { self.new.ip ≡ self.old.ip }
         ensures core { self.new.slave.core ≡ self.old.slave.core }
         ensures judges { self.new.slave.judges ≡ self.old.slave.judges }

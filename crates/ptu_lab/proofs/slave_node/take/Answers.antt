@@ -1,4 +1,4 @@
-use Rattle.std.proofs.Common.{◌∙◌, ap, map, refl, sym}
+use Rattle.std.proofs.Common.{◌∙◌, ap, refl, sym}
 use Rattle.ptu_outside.specs.MemoryPort.{MemoryPort}
 use Rattle.ptu_slave_messages.specs.Heard.{reply_in}
 use Rattle.ptu_lab.proofs.SlaveHearing.{answer_within, datagram_stepped, heard_datagram, none_failed}

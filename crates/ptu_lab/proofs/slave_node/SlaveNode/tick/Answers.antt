@@ -1,4 +1,4 @@
-use Rattle.std.proofs.Common.{[], refl, sym}
+use Rattle.std.proofs.Common.{[], sym}
 use Rattle.std.proofs.lemmas.List.{append-nil}
 use Rattle.ptu_record.specs.Step.{Tick}
 use Rattle.ptu_slave_messages.specs.Node.{deed}

@@ -1,4 +1,4 @@
-use Rattle.std.proofs.Common.{◌∙◌, ◌∷◌, ◌++◌, List, [], ap, subst, sym}
+use Rattle.std.proofs.Common.{◌∙◌, ◌∷◌, ◌++◌, [], ap, subst, sym}
 use Rattle.ptu_slave_messages.specs.declared.config.Master.{Master}
 use Rattle.ptu_slave_messages.specs.Config.{AreMasters}
 use Rattle.ptu_lab.proofs.SlaveMasters.{fresh_pushed, master_added, masters_more}
