@@ -13,3 +13,6 @@ pub mod LoadWords
 pub mod LoadRequests
 pub mod LoadCommands
 pub mod LoadWhole
+pub mod SlaveEvents
+pub mod SlaveMasters
+pub mod SlaveHearing

@@ -12,3 +12,5 @@ pub mod Generated
 pub mod LoadSamples
 pub mod Load
 pub mod SummarySamples
+pub mod SlaveHeard
+pub mod SlaveWords

@@ -17,6 +17,7 @@ mod lines;
 mod loading;
 mod replaying;
 mod slave_node;
+mod slave_saying;
 mod tally;
 
 pub use decoding::show;

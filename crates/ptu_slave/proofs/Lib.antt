@@ -11,3 +11,4 @@ pub mod Stopping
 pub mod Hearing
 pub mod Ruled
 pub mod Nodes
+pub mod Staying

@@ -1,26 +1,24 @@
 -- Where each judge has a rule there is one step.
-use Rattle.std.proofs.Common.{◌≡◌, ℕ, zero, suc, ◌<◌, max, Bool, true, false, cond, List, [], ◌∷◌, ◌++◌, length, Option, Some, None, refl, ap, ap₂, sym, subst, ◌∙◌, arith, get_or}
-use Rattle.std.proofs.lemmas.Bool.{false≢true}
+use Rattle.std.proofs.Common.{◌≡◌, ℕ, zero, suc, ◌<◌, Bool, true, false, cond, List, [], ◌∷◌, ◌++◌, length, Option, Some, None, refl, ap, sym, subst, ◌∙◌, arith}
 use Rattle.std.proofs.lemmas.List.{append-nil}
 use Rattle.std.proofs.lemmas.List.Elements.{filter_map-append}
-use Rattle.std.specs.List.{AllByRecursion, cons_option, filter_map, flat_map, range_with_len, slice_get}
+use Rattle.std.specs.List.{AllByRecursion, cons_option, filter_map, flat_map, slice_get}
 use Rattle.std.specs.Option.{unwrap_or}
-use Rattle.std.specs.Prelude.{IsSome, is_some}
+use Rattle.std.specs.Prelude.{IsSome}
 use Rattle.ptu_record.specs.declared.rule.Rule.{Rule}
-use Rattle.ptu_record.specs.Lists.{last, places}
-use Rattle.ptu_record.specs.Record.{Entry, Record, concerns, event_moment, record_of, Event}
+use Rattle.ptu_record.specs.Lists.{last}
+use Rattle.ptu_record.specs.Record.{Record, concerns, event_moment, record_of}
 use Rattle.ptu_record.specs.Judges.{opening_of, rule_given, rule_in_force}
 use Rattle.ptu_record.specs.Tick.{sending_entries}
-use Rattle.ptu_record.specs.Step.{SlaveEvent, TakeAnnounce, TakeSync, TakeFollowUp, TakeDelayResp, TakeSignaling, TellFlag, ReplaceJudge, Tick, Stop, SlaveSetup, IsStep, SlaveStep, entries_by, judged_entries, judged_masters, judged_record, master_count, or_event, own_entries, sendings, slave_step, step_by, stop_entry}
+use Rattle.ptu_record.specs.Step.{SlaveEvent, TakeAnnounce, TakeSync, TakeFollowUp, TakeDelayResp, TakeSignaling, TellFlag, ReplaceJudge, Tick, Stop, SlaveSetup, SlaveStep, entries_by, judged_entries, judged_masters, judged_record, master_count, or_event, own_entries, sendings, slave_step, stop_entry}
 use Rattle.ptu_record.proofs.StepParts.{judged_all, one_step, record_of-append}
 use Rattle.ptu_judges.specs.Held.{Held}
 use Rattle.ptu_slave.specs.Kept.{Kept}
 use Rattle.ptu_slave.specs.Standing.{StandsFor, Steps, setup_of}
-use Rattle.ptu_slave.proofs.Masters.{all_append}
 use Rattle.ptu_slave.proofs.Sendings.{sent_all}
 
 -- entries that give no rule
-rules : (m : ℕ) (A M : Record) → AllByRecursion (λ e. rule_given e ≡ None) M → filter_map rule_given (record_of m (A ++ M)) ≡ filter_map rule_given (record_of m A)
+pub rules : (m : ℕ) (A M : Record) → AllByRecursion (λ e. rule_given e ≡ None) M → filter_map rule_given (record_of m (A ++ M)) ≡ filter_map rule_given (record_of m A)
 rules m A M none =
     ap (filter_map rule_given) (record_of-append m A M) ∙ filter_map-append rule_given (record_of m A) (record_of m M)
     ∙ ap (λ w. filter_map rule_given (record_of m A) ++ w) (of_none M none) ∙ append-nil (filter_map rule_given (record_of m A))
@@ -49,7 +47,7 @@ no_stop_rule x Tick = tt
 no_stop_rule x Stop = (refl, tt)
 
 -- after an event the rule in force is that which its judges had before them
-same_rules : (setup : SlaveSetup) (assessments : List Bool) (L : Record) (x m : ℕ) (e : SlaveEvent)
+pub same_rules : (setup : SlaveSetup) (assessments : List Bool) (L : Record) (x m : ℕ) (e : SlaveEvent)
     → filter_map rule_given (record_of m (L ++ entries_by setup assessments L x e)) ≡ filter_map rule_given (record_of m (judged_record setup L x e))
 same_rules setup assessments L x m e =
     ap (filter_map rule_given) (record_of-append m L (or_event x W)) ∙ filter_map-append rule_given (record_of m L) (record_of m (or_event x W))
@@ -72,7 +70,7 @@ same_rules setup assessments L x m e =
     W = own ++ J ++ S ++ stop_entry x e
 
 -- a member in range
-in_range : (xs : List Held) (m : ℕ) → m < length xs → AllByRecursion (λ h. IsSome h.rule) xs → (h : Held) × (slice_get xs m ≡ Some h) × IsSome h.rule
+pub in_range : (xs : List Held) (m : ℕ) → m < length xs → AllByRecursion (λ h. IsSome h.rule) xs → (h : Held) × (slice_get xs m ≡ Some h) × IsSome h.rule
 in_range [] m within all = absurd (omega arith)
 in_range (x ∷ xs) zero within all = (x, refl, all.0)
 in_range (x ∷ xs) (suc m) within all = in_range xs m (omega arith) all.1

@@ -1,9 +1,9 @@
 //! What holds of every slave. Each clause is a law of the definitions; the bodies are empty.
-ghost use Rattle.std.specs.Prelude.{◌≡◌, ◌<◌, ℕ, List, ◌++◌, length, map, Option, IsSome};
+ghost use Rattle.std.specs.Prelude.{◌≡◌, ◌≢◌, ◌<◌, ℕ, List, ◌++◌, length, map, Option, None, IsSome};
 ghost use Rattle.std.specs.List.{AllByRecursion};
 ghost use Rattle.ptu_record.specs.declared.rule.Rule.{Rule};
 ghost use Rattle.ptu_record.specs.Record.{Record, event_moment};
-ghost use Rattle.ptu_record.specs.Step.{SlaveEvent, Tick, judged_masters, sendings, slave_step};
+ghost use Rattle.ptu_record.specs.Step.{ReplaceJudge, SlaveEvent, Tick, judged_masters, sendings, slave_step};
 ghost use Rattle.ptu_judges.specs.Held.{Held};
 ghost use Rattle.ptu_slave.specs.Kept.{Kept};
 ghost use Rattle.ptu_slave_messages.specs.Heard.{replies_in};
@@ -19,6 +19,14 @@ pub fn ruled_judges()
         AllByRecursion (λ m. m < length judges) (judged_masters (length openings) e) →
         Steps openings old new judges L t e → StandsFor openings new judges
         (L ++ (slave_step (setup_of old.config openings) L t e).entries) }
+{}
+
+/// Where each judge has a rule it is so after an event, unless a judge without one takes over.
+pub fn rules_stay()
+    ensures { (openings : List (Option Rule)) (old new : Kept) (judges news : List Held)
+        (L : Record) (t : ℕ) (e : SlaveEvent) → ((m : ℕ) → e ≢ ReplaceJudge m None) →
+        AllByRecursion (λ held. IsSome held.rule) judges → StandsFor openings old judges L →
+        Steps openings old new news L t e → AllByRecursion (λ held. IsSome held.rule) news }
 {}
 
 /// What a slave replies to a datagram is what its node's step says, and the node's entries are those

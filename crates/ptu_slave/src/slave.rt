@@ -64,6 +64,7 @@ impl<P: Port> Slave<P> {
         requires fresh { All (λ j. IsFresh (held j)) judges.items }
         ensures config { IfOk result (λ s. s.core.config ≡ config) }
         ensures masters { IfOk result (λ s. s.core.masters ≡ masters.items) }
+        ensures judges { IfOk result (λ s. s.judges ≡ judges) }
         ensures port { IfOk result (λ s. s.port ≡ port) }
         ensures stands { IfOk result (λ s. StandsFor (map (λ j. (held j).rule) judges.items)
             s.core (map (λ j. held j) s.judges.items) []) }

@@ -1,0 +1,10 @@
+use crate::slave_node::SlaveNode;
+use ptu_judges::FlagJudge;
+use ptu_record::Wants;
+use ptu_report::Texts;
+use ptu_report_lines::Sent;
+use ptu_script::SlaveSetup;
+use ptu_units::{Log, Moment};
+use std::alloc::Global;
+use std::process::Abort;
+use std::test::Fail;
