@@ -1,12 +1,12 @@
 //! Runs over memory: each output and each status was made out by hand.
 
-ghost use Rattle.std.specs.Prelude.{map};
-ghost use Rattle.ptu_judges.specs.Held.{IsStock};
+ghost use Rattle.std.specs.Prelude.{◌≡◌, IfOk, map};
+ghost use Rattle.ptu_judges.specs.Held.{IsStock, fresh};
 
 use crate::run::run;
-use ptu_judges::{FlagJudge, Stock};
+use ptu_judges::{FlagJudge, Judge, Rule, Stock};
 use ptu_outside::{MemSink, MemSource};
-use std::alloc::Global;
+use std::alloc::{AllocError, Global};
 use std::test::Fail;
 
 // A client asks a grandmaster for Announces at the logarithm 1.
@@ -65,6 +65,17 @@ fn no_judges(alloc: Global) -> Stock
     }
 }
 
+// A stock with this judge alone.
+fn one_judge(alloc: Global, flag: Box<dyn Judge>) -> Result<Stock, AllocError>
+    requires { held flag ≡ fresh Rule.Flag }
+    ensures { IfOk result (λ stock. IsStock (map (λ j. held j) stock.flags.items)
+        (map (λ j. held j) stock.gaps.items)) }
+{
+    let mut stock = no_judges(alloc);
+    stock.flags.push(flag)?;
+    Ok(stock)
+}
+
 // What a run over memory answers and writes, with a read and a write that fail; none has the number
 // 0.
 fn ran(
@@ -100,8 +111,7 @@ fn each_read_fails_in_turn(rt: HostRuntime) -> Result<(), Fail> {
         let whole = lines_in(report);
         // The first read gives the script, the second its end.
         for (read, status, lines) in [(1, 66, 0), (2, 66, whole.saturating_sub(1)), (3, 0, whole)] {
-            let mut stock = no_judges(alloc);
-            stock.flags.push(Box::new(alloc, FlagJudge::new())?)?;
+            let stock = one_judge(alloc, Box::new(alloc, FlagJudge::new())?)?;
             let (found, text) = ran(alloc, &["replay"], script, read, 0, stock)?;
             assert_eq!(rt; found, status);
             assert!(rt; report.starts_with(text.as_str()), "{text}");
@@ -117,9 +127,8 @@ fn each_write_fails_in_turn(rt: HostRuntime) -> Result<(), Fail> {
     for (script, report) in [(ONE_ASK, ONE_GRANT), (BOTH_ENDS, SELECTED)] {
         let whole = lines_in(report);
         for lines in 0..=whole {
-            let mut stock = no_judges(alloc);
-            stock.flags.push(Box::new(alloc, FlagJudge::new())?)?;
-            let write = lines as u64 + 1;
+            let stock = one_judge(alloc, Box::new(alloc, FlagJudge::new())?)?;
+            let write = (lines as u64).saturating_add(1);
             let (found, text) = ran(alloc, &["replay"], script, 0, write, stock)?;
             assert_eq!(rt; found, if lines < whole { 67 } else { 0 });
             assert!(rt; report.starts_with(text.as_str()), "{text}");
