@@ -20,7 +20,7 @@ mod tally;
 pub use decoding::show;
 pub use done::Done;
 pub use fault::LabFault;
-pub use generating::{LoadLine, generate, sample_loads};
+pub use generating::{generate, sample_loads};
 pub use laws::sample_lines;
 pub use loading::{load, sample_summaries};
 pub use ptu_judges::Stock;

@@ -1,16 +1,15 @@
 //! The load: a generated script is replayed, and what it came to is written.
 
-ghost use Rattle.std.specs.Prelude.{◌≡◌, ◌≢◌, ◌≤◌, ◌<◌, ◌==◌, ◌&&◌, ◌++◌, ◌∷◌, [], ℕ, List, Some, None, false, length, take, codes, nat_lt, IfOk, OnOk, OnErr, IfErr};
-ghost use Rattle.std.specs.Io.KnownBytes.{IsAtEnd, append_known, prepend_known};
+ghost use Rattle.std.specs.Prelude.{◌≡◌, ◌≢◌, ◌≤◌, ◌∷◌, [], Some, None, IfOk, IfErr, OnOk};
+ghost use Rattle.std.specs.Io.KnownBytes.{append_known};
 ghost use Rattle.std.specs.String.{string_bytes};
 ghost use Rattle.serde_json.specs.View.{view};
-ghost use Rattle.ptu_outside.specs.Ends.{CountsEnd};
-ghost use Rattle.ptu_outside.specs.Faults.{HasRisen};
-ghost use Rattle.ptu_outside.specs.Handing.{Grows, HasPut, HasPutPart};
+ghost use Rattle.ptu_outside.specs.Handing.{HasPut, HasPutPart};
 ghost use Rattle.ptu_lab.specs.Answers.{CountsWrite};
-ghost use Rattle.ptu_lab.specs.Generated.{IsWriteOrMemory, generated};
+ghost use Rattle.ptu_lab.specs.Generated.{generated};
+ghost use Rattle.ptu_lab.specs.Load.{HasLoadCause, numbers_of, object_text, summary, summary_data};
+ghost use Rattle.ptu_lab.specs.Load.{summary_text};
 ghost use Rattle.ptu_lab.specs.SummarySamples.{FiveClients, OneClient};
-ghost use Rattle.ptu_lab.specs.Load.{HasLoadCause, numbers_of, object_text, summary, summary_data, summary_text};
 
 use crate::done::Done;
 use crate::fault::LabFault;
@@ -117,12 +116,13 @@ fn summary_line(alloc: Global, done: Done) -> Result<String, AllocError>
     Ok(text)
 }
 
-/// Replays the script of this many clients, and writes one line: the numbers of the report as a
-/// compact JSON object. It is handed to the sink in one piece, and its rest again until all is taken.
+/// Replays the script that `generate` writes for this many clients, and writes one line: the numbers
+/// of the report as a compact JSON object. It is handed to the sink in one piece, and its rest again
+/// until all is taken.
 ///
 /// # Errors
-/// `Line` only where the replay of the script answers it, and then nothing was written; `Write`
-/// exactly where the sink failed, and `OutOfMemory`; never `Read`.
+/// `Write` exactly where the sink failed, and `OutOfMemory`; never `Read`. `Line` only where the
+/// report on the script ends with a refused line, and nothing is written then.
 pub fn load<K: Sink>(alloc: Global, number: u64, sink: &mut K) -> Result<(), LabFault>
     requires least { 1 ≤ number }
     requires most { number ≤ 2000 }
@@ -143,7 +143,7 @@ pub fn load<K: Sink>(alloc: Global, number: u64, sink: &mut K) -> Result<(), Lab
     }
 }
 
-/// What loads of few clients write.
+/// What loads of one client and of five write.
 pub fn sample_summaries()
     ensures one { OneClient }
     ensures five { FiveClients }
