@@ -1,11 +1,14 @@
 //! The script that a load replays.
 
-ghost use Rattle.std.specs.Prelude.{◌≡◌, ◌≤◌, ◌<◌, ◌+◌, ◌*◌, ◌^◌, ◌∷◌, [], ℕ, Some, length, take, OnOk, OnErr, IfErr};
+ghost use Rattle.std.specs.Prelude.{◌≡◌, ◌≤◌, ◌<◌, ◌^◌, ◌∷◌, [], Some, take, IfErr, OnErr, OnOk};
 ghost use Rattle.std.specs.Io.KnownBytes.{append_known};
 ghost use Rattle.ptu_outside.specs.Handing.{HasPut, HasPutPart};
 ghost use Rattle.ptu_lab.specs.Answers.{CountsWrite};
+ghost use Rattle.ptu_lab.specs.Generated.{IsWriteOrMemory, client_text, load_text};
+ghost use Rattle.ptu_lab.specs.Generated.{ask_lines, turn_lines, turn_lines_at};
+ghost use Rattle.ptu_lab.specs.Generated.{generated, generated_lines};
+ghost use Rattle.ptu_lab.specs.Generated.{log_by, number_after, request_of};
 ghost use Rattle.ptu_lab.specs.LoadSamples.{LinesAre, LinesAreCounted, LogarithmsAre, QuotientsAre};
-ghost use Rattle.ptu_lab.specs.Generated.{IsWriteOrMemory, ask_lines, generated, generated_lines, client_text, load_text, log_by, number_after, request_of, turn_lines, turn_lines_at};
 
 use crate::fault::LabFault;
 use ptu_header::{Header, PortIdentity};
@@ -217,7 +220,7 @@ pub fn generate<K: Sink>(alloc: Global, number: u64, sink: &mut K) -> Result<(),
     put_turns(alloc, sink)
 }
 
-/// The definitions at numbers that were made out by hand, and how many lines there are.
+/// The script at numbers that were made out by hand, and how many lines it has.
 pub fn sample_loads()
     ensures quotients { QuotientsAre }
     ensures logarithms { LogarithmsAre }

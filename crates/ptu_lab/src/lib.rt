@@ -23,7 +23,7 @@ mod tally;
 pub use decoding::show;
 pub use done::Done;
 pub use fault::LabFault;
-pub use generating::{LoadLine, generate, sample_loads};
+pub use generating::{generate, sample_loads};
 pub use laws::sample_lines;
 pub use loading::{load, sample_summaries, whole_loads};
 pub use ptu_judges::Stock;
@@ -31,8 +31,9 @@ pub use ptu_script::Cause;
 pub use replaying::replay;
 
 #[cfg(test)]
-mod load_tests;
 mod grandmaster_tests;
+#[cfg(test)]
+mod load_tests;
 #[cfg(test)]
 mod tests;
 #[cfg(test)]

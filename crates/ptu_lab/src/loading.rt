@@ -1,12 +1,10 @@
 //! The load: a generated script is replayed, and what it came to is written.
 
-ghost use Rattle.std.specs.Prelude.{◌≡◌, ◌≢◌, ◌≤◌, ◌<◌, ◌==◌, ◌&&◌, ◌++◌, ◌∷◌, [], ℕ, List, Some, None, false, length, take, codes, nat_lt, IfOk, OnOk, OnErr, IfErr};
-ghost use Rattle.std.specs.Io.KnownBytes.{IsAtEnd, append_known, prepend_known};
+ghost use Rattle.std.specs.Prelude.{◌≡◌, ◌≢◌, ◌≤◌, ◌∷◌, [], Some, None, IfOk, IfErr, OnOk};
+ghost use Rattle.std.specs.Io.KnownBytes.{append_known};
 ghost use Rattle.std.specs.String.{string_bytes};
 ghost use Rattle.serde_json.specs.View.{view};
-ghost use Rattle.ptu_outside.specs.Ends.{CountsEnd};
-ghost use Rattle.ptu_outside.specs.Faults.{HasRisen};
-ghost use Rattle.ptu_outside.specs.Handing.{Grows, HasPut, HasPutPart};
+ghost use Rattle.ptu_outside.specs.Handing.{HasPut, HasPutPart};
 ghost use Rattle.ptu_lab.specs.Answers.{CountsWrite};
 ghost use Rattle.ptu_lab.specs.Generated.{IsWriteOrMemory, generated};
 ghost use Rattle.ptu_lab.specs.SummarySamples.{FiveClients, OneClient};
@@ -118,8 +116,9 @@ fn summary_line(alloc: Global, done: Done) -> Result<String, AllocError>
     Ok(text)
 }
 
-/// Replays the script of this many clients, and writes one line: the numbers of the report as a
-/// compact JSON object. It is handed to the sink in one piece, and its rest again until all is taken.
+/// Replays the script that `generate` writes for this many clients, and writes one line: the numbers
+/// of the report as a compact JSON object. It is handed to the sink in one piece, and its rest again
+/// until all is taken.
 ///
 /// # Errors
 /// `Write` exactly where the sink failed, and `OutOfMemory`; never `Line` or `Read`.
