@@ -119,7 +119,8 @@ fn summary_line(alloc: Global, done: Done) -> Result<String, AllocError>
 }
 
 /// Replays the script of this many clients, and writes one line: the numbers of the report as a
-/// compact JSON object. It is handed to the sink in one piece, and its rest again until all is taken.
+/// compact JSON object. It is handed to the sink in one piece, and its rest again until all is
+/// taken.
 ///
 /// # Errors
 /// `Write` exactly where the sink failed, and `OutOfMemory`; never `Line` or `Read`.
