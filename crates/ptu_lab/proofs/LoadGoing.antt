@@ -1,16 +1,15 @@
 -- A script goes on to its end where its first line sets up a grandmaster at 10.0.0.1, and each later one is taken wherever one stands there.
-use Rattle.std.proofs.Common.{◌≡◌, ◌∙◌, ℕ, ◌+◌, List, [], ◌∷◌, length, map, Some, Result, Ok, Err, refl, ap, arith}
+use Rattle.std.proofs.Common.{◌≡◌, ◌∙◌, ℕ, ◌+◌, List, [], ◌∷◌, length, map, Some, Ok, refl, ap, arith}
 use Rattle.std.specs.List.{AllByRecursion}
 use Rattle.ptu_lines.specs.Script.{Whole}
 use Rattle.ptu_report.specs.declared.ending.Ending.TheVariants as endings
-use Rattle.ptu_report.specs.Rules.{ending_after, ending_at, Goes}
-use Rattle.ptu_script.specs.declared.command.GrandmasterSetup.{GrandmasterSetup}
+use Rattle.ptu_report.specs.Rules.{ending_after, ending_at}
 use Rattle.ptu_script.specs.declared.command.Command.{Command}
 use Rattle.ptu_script.specs.declared.command.Command.TheVariants as commands
 use Rattle.ptu_script.specs.Command.{command_of}
 use Rattle.ptu_world.specs.Deeds.{Grandmaster, IsGrandmaster}
 use Rattle.ptu_world.specs.World.{World, Stock, Done, node_at, opening, step}
-use Rattle.ptu_world.specs.Report.{Course, course_after, course_opening, outcome_by, outcome_by_line, rules, text_at}
+use Rattle.ptu_world.specs.Report.{Course, course_after, course_opening, outcome_by, outcome_by_line, rules}
 use Rattle.ptu_world.proofs.Going.{datagram_goes, turn_goes}
 
 -- the address 10.0.0.1

@@ -1,9 +1,7 @@
 -- The words of the lines of a load, and what they are in the forms of their places.
-use Rattle.std.proofs.Common.{◌≡◌, ◌∙◌, ℕ, zero, suc, ◌+◌, ◌*◌, ◌/◌, ◌%◌, ◌^◌, ◌<◌, ◌≤◌, nat_le, nat_lt, ◌==◌, ◌&&◌, Bool, true, false, List, [], ◌∷◌, ◌++◌, length, map, slice_index, codes, Option, Some, None, Ok, refl, sym, ap, decimal, arith}
-use Rattle.std.specs.Char.{digit_value}
+use Rattle.std.proofs.Common.{◌≡◌, ◌∙◌, ℕ, suc, ◌+◌, ◌*◌, ◌/◌, ◌%◌, ◌^◌, ◌<◌, ◌≤◌, nat_le, nat_lt, ◌==◌, true, false, List, [], ◌∷◌, ◌++◌, length, map, slice_index, codes, Some, refl, sym, ap, decimal, arith}
 use Rattle.std.specs.List.{AllByRecursion, list_all, onto_first, slice_split}
 use Rattle.std.specs.Option.{option_and_then}
-use Rattle.std.specs.Result.{result_ok}
 use Rattle.std.specs.Str.Parse.{digits_value, AllDigits}
 use Rattle.std.proofs.lemmas.Bool.{le-leb, lt-ltb}
 use Rattle.std.proofs.lemmas.Bool.Decides.{nat_tests}
@@ -13,7 +11,7 @@ use Rattle.std.proofs.lemmas.Str.Parse.{IsNumeralModel, digit_from_value}
 use Rattle.hex.specs.Hex.{IsBytes, encode_lower, encode_with, hex_digit_value, lower_digits}
 use Rattle.hex.proofs.HexLemmas.{IsDigits-lower_digits, decode_of-encode_lower, length-encode_with}
 use Rattle.ptu_lines.specs.Script.{is_plain}
-use Rattle.ptu_lines.specs.Words.{address_of, ip_of, is_dash, number_within, octets_of, within, words_of}
+use Rattle.ptu_lines.specs.Words.{address_of, ip_of, number_within, octets_of, within, words_of}
 use Rattle.ptu_lines.proofs.Numbers.{number_of-decimal}
 
 -- octets from `0` to `f`, among which the digits of both bases are
@@ -62,6 +60,7 @@ from_digits (x ∷ xs) h = let at = digit_from_value x h.0 in ((omega (arith, at
 pub decimal_glyphs : (n : ℕ) → n < 2 ^ 64 → AreGlyphs (decimal n)
 decimal_glyphs n fits = from_digits (decimal n) (digits_decimal numerals n fits)
 
+-- a number is read where it was written
 pub decimal_within : (n least greatest : ℕ) → least ≤ n → n ≤ greatest → n < 10 ^ 19 → number_within (decimal n) least greatest ≡ Some n
 decimal_within n least greatest low high small =
     let a : nat_le least n ≡ true = le-leb least n low in
@@ -84,6 +83,7 @@ octets_glyphs (x ∷ xs) h =
     let second = glyph_range (slice_index lower_digits (x % 16)) (x % 16) (IsDigits-lower_digits (x % 16) low) in
     (first, (second, octets_glyphs xs (λ k. h (suc k))))
 
+-- they are read where they were written
 pub octets_read : (xs : List ℕ) → IsBytes xs → 1 ≤ length xs → length xs ≤ 2048 → octets_of (encode_lower xs) ≡ Some xs
 octets_read xs h some few =
     let size = length-encode_with lower_digits xs in
@@ -111,8 +111,8 @@ pub client_words : (a b o : List ℕ) → AreGlyphs a → AreGlyphs b → AreGly
 client_words a b o h k l =
     let last : slice_split (λ octet. octet == 32) (codes " " ++ o) ≡ [] ∷ o ∷ [] = ap (λ ws. [] ∷ ws) (split_alone 32 (omega arith) o l) in
     let second : slice_split (λ octet. octet == 32) (b ++ (codes " " ++ o)) ≡ b ∷ o ∷ [] = split_before 32 (omega arith) b (codes " " ++ o) (o ∷ []) k last in
-    let first : slice_split (λ octet. octet == 32) (a ++ (codes "." ++ (b ++ (codes " " ++ o)))) ≡ (a ++ (codes "." ++ b)) ∷ o ∷ []
-        = split_behind 32 (omega arith) a (codes "." ++ (b ++ (codes " " ++ o))) (codes "." ++ b) (o ∷ []) h (ap (onto_first 46) second) in
+    let first : slice_split (λ octet. octet == 32) (a ++ (codes "." ++ (b ++ (codes " " ++ o)))) ≡ (a ++ (codes "." ++ b)) ∷ o ∷ [] =
+    split_behind 32 (omega arith) a (codes "." ++ (b ++ (codes " " ++ o))) (codes "." ++ b) (o ∷ []) h (ap (onto_first 46) second) in
     ap (λ ws. codes "rx" ∷ codes "0" ∷ codes "10.0.0.1" ∷ onto_first 49 (onto_first 48 (onto_first 46 (onto_first 49 (onto_first 46 ws))))) first
 
 -- the address 10.1.a.b
@@ -120,8 +120,8 @@ pub address_read : (a b : ℕ) → a ≤ 255 → b ≤ 255 → ip_of (codes "10.
 address_read a b h k =
     let glyphs = decimal_glyphs a (omega (arith, h)) in
     let last : slice_split (λ octet. octet == 46) (codes "." ++ decimal b) ≡ [] ∷ decimal b ∷ [] = ap (λ ws. [] ∷ ws) (split_alone 46 (omega arith) (decimal b) (decimal_glyphs b (omega (arith, k)))) in
-    let parts : slice_split (λ octet. octet == 46) (codes "10.1." ++ (decimal a ++ (codes "." ++ decimal b))) ≡ codes "10" ∷ codes "1" ∷ decimal a ∷ decimal b ∷ []
-        = ap (λ ws. codes "10" ∷ codes "1" ∷ ws) (split_before 46 (omega arith) (decimal a) (codes "." ++ decimal b) (decimal b ∷ []) glyphs last) in
+    let parts : slice_split (λ octet. octet == 46) (codes "10.1." ++ (decimal a ++ (codes "." ++ decimal b))) ≡ codes "10" ∷ codes "1" ∷ decimal a ∷ decimal b ∷ [] =
+    ap (λ ws. codes "10" ∷ codes "1" ∷ ws) (split_before 46 (omega arith) (decimal a) (codes "." ++ decimal b) (decimal b ∷ []) glyphs last) in
     let third : number_within (decimal a) 0 255 ≡ Some a = decimal_within a 0 255 (omega arith) h (omega (arith, h)) in
     let fourth : number_within (decimal b) 0 255 ≡ Some b = decimal_within b 0 255 (omega arith) k (omega (arith, k)) in
     ap (λ ws. address_of (map (λ part. number_within part 0 255) ws)) parts

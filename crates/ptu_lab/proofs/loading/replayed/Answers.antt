@@ -1,5 +1,4 @@
-use Rattle.std.proofs.Common.{◌+◌, refl, subst}
-use Rattle.ptu_report.specs.declared.ending.Ending.TheVariants as endings
+use Rattle.std.proofs.Common.{◌+◌, refl}
 use Rattle.ptu_lab.proofs.LoadCounts.{causes, numbers}
 use Rattle.ptu_lab.proofs.LoadWhole.{whole_script}
 use Rattle.ptu_lab.proofs.loading.replayed.Goals as goal
