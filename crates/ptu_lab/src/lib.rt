@@ -35,8 +35,10 @@ mod grandmaster_tests;
 #[cfg(test)]
 mod load_tests;
 #[cfg(test)]
-mod tests;
-#[cfg(test)]
 mod replay_slave_tests;
 #[cfg(test)]
 mod replay_tests;
+#[cfg(test)]
+mod slave_tests;
+#[cfg(test)]
+mod tests;
