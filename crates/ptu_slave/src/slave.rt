@@ -22,6 +22,7 @@ use crate::events::{
 };
 use crate::judging::judge_all;
 use crate::node::Core;
+use crate::porting::HasPort;
 use crate::ticked::Ticked;
 use crate::ticks::{end_all, tick_all};
 use ptu_judges::Judge;
@@ -215,19 +216,22 @@ impl<P: Port> Slave<P> {
         self.core.selected(t)
     }
 
-    /// The port.
-    pub fn port(&mut self) -> &mut P
-        ensures { result.now ≡ self.old.port }
-    {
-        &mut self.port
-    }
-
     /// The port, as it is. The rest is dropped.
     pub fn into_port(self) -> P
         ensures { result ≡ self.port }
     {
         let Slave { port, .. } = self;
         port
+    }
+}
+
+impl<P: Port> HasPort<P> for Slave<P> {
+    ghost port_of = { λ s. s.port };
+
+    ghost with_port = { λ s p. record s { port = p } };
+
+    fn port(&mut self) -> &mut P {
+        &mut self.port
     }
 }
 
