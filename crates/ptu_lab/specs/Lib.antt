@@ -6,3 +6,4 @@ pub mod Samples
 pub mod Standing
 pub mod Doing
 pub mod Replayed
+pub mod LabSteps

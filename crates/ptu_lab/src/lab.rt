@@ -1,8 +1,9 @@
-ghost use Rattle.std.specs.Prelude.{◌≡◌, ◌<◌, ℕ, [], map, IfOk};
+ghost use Rattle.std.specs.Prelude.{◌≡◌, ◌<◌, ℕ, [], map, length, IfOk};
+ghost use Rattle.ptu_judges.specs.Held.{IsStock};
 ghost use Rattle.ptu_report.specs.Rules.{IsOutcome};
 ghost use Rattle.ptu_script.specs.Limits.{IsWithinLimits};
 ghost use Rattle.ptu_world.specs.World.{step};
-ghost use Rattle.ptu_world.specs.Report.{Course, outcome_by};
+ghost use Rattle.ptu_world.specs.Report.{Course, course_opening, outcome_by};
 ghost use Rattle.ptu_lab.specs.Standing.{StandsFor};
 
 use crate::grandmaster_node::GrandmasterNode;
@@ -38,6 +39,25 @@ pub struct Lab {
 }
 
 impl Lab {
+    /// The lab before the first line of a script: no node stands in it.
+    pub fn new(alloc: Global, stock: Stock) -> Lab
+        requires { IsStock (map (λ j. held (j.vtable, j.value)) stock.flags.items)
+            (map (λ j. held (j.vtable, j.value)) stock.gaps.items) }
+        ensures opening { StandsFor (λ n. map (λ j. held (j.vtable, j.value)) n.slave.judges.items)
+            (map (λ j. held (j.vtable, j.value)) result.stock.flags.items)
+            (map (λ j. held (j.vtable, j.value)) result.stock.gaps.items) result (course_opening
+            (record { flags = length stock.flags.items; gaps = length stock.gaps.items })) }
+    {
+        Lab {
+            nodes: HashMap::new(alloc),
+            sent: Vec::new(alloc),
+            stock,
+            has_begun: false,
+            granted: 0,
+            short: 0,
+        }
+    }
+
     /// Does what the script's line of this number commands, and adds what is said of it; or answers
     /// why it is refused.
     ///
@@ -66,6 +86,47 @@ impl Lab {
             (map (λ j. held (j.vtable, j.value)) self.new.stock.gaps.items) self.new after)
             texts.new refused) }
     {
-        Err(OutOfMemory)
+        match command {
+            Command::Grandmaster(setup) => self.set_up_grandmaster(alloc, &setup),
+            Command::Slave(setup) => self.set_up_slave(alloc, &setup),
+            Command::Master {
+                slave,
+                ip,
+                priority,
+                rule,
+            } => self.add_master(alloc, slave, ip, priority, rule),
+            Command::Receive {
+                at,
+                node,
+                from,
+                octets,
+            } => self.receive(alloc, at, node, from, octets.bytes(), line, texts),
+            Command::Deliver { at, number } => self.deliver(alloc, at, number, line, texts),
+            Command::Turn {
+                at,
+                grandmaster,
+                table,
+            } => self.turn(alloc, at, grandmaster, table, line, texts),
+            Command::Tick { at, slave } => self.tick(alloc, at, slave, line, texts),
+            Command::Flag {
+                at,
+                slave,
+                master,
+                unusable,
+            } => self.flag(alloc, at, slave, master, unusable, line, texts),
+            Command::Judge {
+                at,
+                slave,
+                master,
+                rule,
+            } => self.replace_judge(alloc, at, slave, master, rule, line, texts),
+            Command::Stop { at, slave } => self.stop(alloc, at, slave, line, texts),
+            Command::Class { grandmaster, class } => Ok(self.set_class(grandmaster, class)),
+            Command::Capacity {
+                at,
+                grandmaster,
+                capacity,
+            } => self.set_capacity(alloc, at, grandmaster, capacity, line, texts),
+        }
     }
 }

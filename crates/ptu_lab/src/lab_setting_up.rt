@@ -1,0 +1,134 @@
+//! The lab's nodes are set up.
+ghost use Rattle.std.specs.Prelude.{◌≡◌, ℕ, [], map, false, IfOk};
+ghost use Rattle.ptu_script.specs.Limits.{IsGrandmasterWithin, IsNamed, IsSlaveWithin};
+ghost use Rattle.ptu_script.specs.declared.command.Command.TheVariants as commands;
+ghost use Rattle.ptu_world.specs.Deeds as world;
+ghost use Rattle.ptu_world.specs.Report.{Course};
+ghost use Rattle.ptu_lab.specs.LabSteps.{HasSetUp, HasStepped};
+ghost use Rattle.ptu_lab.specs.Standing.{StandsAs, StandsFor};
+
+use crate::grandmaster_node::GrandmasterNode;
+use crate::lab::{Lab, Node};
+use crate::lab_stock::take_judge;
+use crate::slave_node::SlaveNode;
+use ptu_judges::Rule;
+use ptu_script::{Cause, GrandmasterSetup, SlaveSetup};
+use ptu_units::OutOfMemory;
+use std::alloc::Global;
+
+impl Lab {
+    // A new node at an address that no other has, before the first event.
+    fn set_up(&mut self, ip: u32, node: Node) -> Result<Option<Cause>, OutOfMemory>
+        ensures { IfOk result (λ refused. (w : world.Node) →
+            StandsAs (λ n. map (λ j. held (j.vtable, j.value)) n.slave.judges.items) ip false node w
+            → HasSetUp
+            (StandsFor (λ n. map (λ j. held (j.vtable, j.value)) n.slave.judges.items)
+            (map (λ j. held (j.vtable, j.value)) self.old.stock.flags.items)
+            (map (λ j. held (j.vtable, j.value)) self.old.stock.gaps.items) self.old)
+            (StandsFor (λ n. map (λ j. held (j.vtable, j.value)) n.slave.judges.items)
+            (map (λ j. held (j.vtable, j.value)) self.new.stock.flags.items)
+            (map (λ j. held (j.vtable, j.value)) self.new.stock.gaps.items) self.new)
+            ip w refused) }
+    {
+        if self.has_begun {
+            return Ok(Some(Cause::Order));
+        }
+        if self.nodes.contains_key(&ip) {
+            return Ok(Some(Cause::Node));
+        }
+        self.nodes.insert(ip, node)?;
+        Ok(None)
+    }
+
+    /// A grandmaster is set up.
+    ///
+    /// # Errors
+    /// `OutOfMemory`.
+    pub fn set_up_grandmaster(
+        &mut self,
+        alloc: Global,
+        setup: &GrandmasterSetup,
+    ) -> Result<Option<Cause>, OutOfMemory>
+        requires limits { IsGrandmasterWithin setup.now }
+        ensures { IfOk result (λ refused. (line : ℕ) → HasStepped line
+            (StandsFor (λ n. map (λ j. held (j.vtable, j.value)) n.slave.judges.items)
+            (map (λ j. held (j.vtable, j.value)) self.old.stock.flags.items)
+            (map (λ j. held (j.vtable, j.value)) self.old.stock.gaps.items) self.old)
+            (StandsFor (λ n. map (λ j. held (j.vtable, j.value)) n.slave.judges.items)
+            (map (λ j. held (j.vtable, j.value)) self.new.stock.flags.items)
+            (map (λ j. held (j.vtable, j.value)) self.new.stock.gaps.items) self.new)
+            [] (commands.Grandmaster setup.now) refused) }
+    {
+        let node = GrandmasterNode::new(alloc, setup);
+        self.set_up(setup.ip, Node::Grandmaster(node))
+    }
+
+    /// A slave without masters is set up.
+    ///
+    /// # Errors
+    /// `OutOfMemory`.
+    pub fn set_up_slave(
+        &mut self,
+        alloc: Global,
+        setup: &SlaveSetup,
+    ) -> Result<Option<Cause>, OutOfMemory>
+        requires limits { IsSlaveWithin setup.now }
+        ensures { IfOk result (λ refused. (line : ℕ) → HasStepped line
+            (StandsFor (λ n. map (λ j. held (j.vtable, j.value)) n.slave.judges.items)
+            (map (λ j. held (j.vtable, j.value)) self.old.stock.flags.items)
+            (map (λ j. held (j.vtable, j.value)) self.old.stock.gaps.items) self.old)
+            (StandsFor (λ n. map (λ j. held (j.vtable, j.value)) n.slave.judges.items)
+            (map (λ j. held (j.vtable, j.value)) self.new.stock.flags.items)
+            (map (λ j. held (j.vtable, j.value)) self.new.stock.gaps.items) self.new)
+            [] (commands.Slave setup.now) refused) }
+    {
+        let node = SlaveNode::new(alloc, setup)?;
+        self.set_up(setup.ip, Node::Slave(node))
+    }
+
+    /// The slave at an address gets a master at the end of its list, with a judge of the rule.
+    ///
+    /// # Errors
+    /// `OutOfMemory`.
+    pub fn add_master(
+        &mut self,
+        alloc: Global,
+        slave: u32,
+        ip: u32,
+        priority: u8,
+        rule: Rule,
+    ) -> Result<Option<Cause>, OutOfMemory>
+        requires means { (c : Course) × StandsFor
+            (λ n. map (λ j. held (j.vtable, j.value)) n.slave.judges.items)
+            (map (λ j. held (j.vtable, j.value)) self.old.stock.flags.items)
+            (map (λ j. held (j.vtable, j.value)) self.old.stock.gaps.items) self.old c }
+        requires named { IsNamed rule }
+        ensures { IfOk result (λ refused. (line : ℕ) → HasStepped line
+            (StandsFor (λ n. map (λ j. held (j.vtable, j.value)) n.slave.judges.items)
+            (map (λ j. held (j.vtable, j.value)) self.old.stock.flags.items)
+            (map (λ j. held (j.vtable, j.value)) self.old.stock.gaps.items) self.old)
+            (StandsFor (λ n. map (λ j. held (j.vtable, j.value)) n.slave.judges.items)
+            (map (λ j. held (j.vtable, j.value)) self.new.stock.flags.items)
+            (map (λ j. held (j.vtable, j.value)) self.new.stock.gaps.items) self.new)
+            [] (commands.Master slave ip priority rule) refused) }
+    {
+        if self.has_begun {
+            return Ok(Some(Cause::Order));
+        }
+        let Some(Node::Slave(node)) = self.nodes.remove(&slave) else {
+            return Ok(Some(Cause::Node));
+        };
+        if node.place(ip).is_some() {
+            return Ok(Some(Cause::Node));
+        }
+        if node.masters() >= 16 {
+            return Ok(Some(Cause::Full));
+        }
+        let Some(judge) = take_judge(&mut self.stock, rule) else {
+            return Ok(Some(Cause::Stock));
+        };
+        let node = node.with_master(alloc, ip, priority, judge)?;
+        self.nodes.insert(slave, Node::Slave(node))?;
+        Ok(None)
+    }
+}

@@ -1,0 +1,26 @@
+//! Judges are taken from a stock.
+ghost use Rattle.std.specs.Prelude.{map};
+ghost use Rattle.std.specs.Option.{MatchOption};
+ghost use Rattle.ptu_judges.specs.Held.{IsStock};
+ghost use Rattle.ptu_script.specs.Limits.{IsNamed};
+ghost use Rattle.ptu_lab.specs.LabSteps.{HasNone, HasTaken};
+
+use ptu_judges::{Judge, Rule, Stock};
+
+/// Takes the last judge of a rule that a script can name; `None` where none is left.
+pub fn take_judge(stock: &mut Stock, rule: Rule) -> Option<Box<dyn Judge>>
+    requires stock { IsStock (map (λ j. held j) stock.old.flags.items)
+        (map (λ j. held j) stock.old.gaps.items) }
+    requires named { IsNamed rule }
+    ensures { MatchOption result
+        (HasNone rule (map (λ j. held j) stock.old.flags.items)
+        (map (λ j. held j) stock.old.gaps.items))
+        (λ judge. HasTaken rule (map (λ j. held j) stock.old.flags.items)
+        (map (λ j. held j) stock.old.gaps.items) (map (λ j. held j) stock.new.flags.items)
+        (map (λ j. held j) stock.new.gaps.items) (held judge)) }
+{
+    match rule {
+        Rule::Flag => stock.flags.pop(),
+        Rule::Gap(_) => stock.gaps.pop(),
+    }
+}
