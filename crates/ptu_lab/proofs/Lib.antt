@@ -1,1 +1,3 @@
 pub mod ShowCauses
+pub mod LabNodes
+pub mod LabCommands

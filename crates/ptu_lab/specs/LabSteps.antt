@@ -6,9 +6,12 @@ use Rattle.ptu_report.specs.Rules.{IsOutcome}
 use Rattle.ptu_script.specs.declared.cause.Cause.{Cause}
 use Rattle.ptu_script.specs.declared.cause.Cause.TheVariants as causes
 use Rattle.ptu_script.specs.declared.command.Command.{Command}
-use Rattle.ptu_world.specs.Deeds.{Node, Deed}
-use Rattle.ptu_world.specs.World.{Done, Stock, World, done_by, node_at, quietly, set_up, step, stock_without}
+use Rattle.ptu_script.specs.Fields.{◌>>=◌}
+use Rattle.ptu_report_lines.specs.declared.sent.Sent.{Sent}
+use Rattle.ptu_world.specs.Deeds.{Deed, Grandmaster, Node, Slave}
+use Rattle.ptu_world.specs.World.{Done, Stock, World, done_by, grandmaster_by, node_at, place_in, quietly, set_up, slave_by, step, stock_without}
 use Rattle.ptu_world.specs.Report.{Course, course_after, outcome_by, text_at}
+use Rattle.ptu_lab.specs.Doing.{HasDone}
 
 -- whatever the course was, a lab that stood for it has come to stand for what the command makes of it, and has added the texts
 -- to the script's line of this number; or this is why it is refused
@@ -40,3 +43,40 @@ pub record HasTaken (rule : Rule) (flags gaps flags' gaps' : List Held) (judge :
 -- no judge of the rule was left
 abbrev pub HasNone : Rule → List Held → List Held → Type 0
 HasNone rule flags gaps = stock_without rule (stock_of flags gaps) ≡ Err causes.Stock
+
+-- ---- what one node does
+
+-- what a node does at an event of grandmasters, at one of slaves, and at one that concerns a master of a slave; or why not
+abbrev pub of_grandmaster : (Grandmaster → Deed) → Node → Result Deed Cause
+of_grandmaster deed w = do
+  found ← grandmaster_by (Some w)
+  Ok (deed found)
+
+abbrev pub of_slave : (Slave → Deed) → Node → Result Deed Cause
+of_slave deed w = do
+  found ← slave_by (Some w)
+  Ok (deed found)
+
+abbrev pub of_master : ℕ → (Slave → ℕ → Deed) → Node → Result Deed Cause
+of_master master deed w = do
+  found ← slave_by (Some w)
+  place ← place_in found master
+  Ok (deed found place)
+
+module _ (is_node : Node → Type 0) (ip line : ℕ) (sent sent' : List Sent) (texts texts' : List (List ℕ)) where
+  -- the node at the address did the deed, and nothing was decided; or this is why it is refused
+  abbrev pub HasActed : Result Deed Cause → Option Cause → Type 0
+  HasActed (Ok deed) None = HasDone is_node ip line deed sent sent' texts texts' 0 0
+  HasActed (Err cause) (Some found) = found ≡ cause
+  HasActed (Ok deed) (Some found) = ⊥
+  HasActed (Err cause) None = ⊥
+
+  -- the same of an event for which a judge is taken from the stock: of it these are left
+  abbrev pub HasActedWithJudge : (flags gaps : List Held) → Result Deed Cause → Result Stock Cause → Option Cause → Type 0
+  HasActedWithJudge flags gaps (Ok deed) (Ok left) None =
+      HasDone is_node ip line deed sent sent' texts texts' 0 0 × (left ≡ stock_of flags gaps) × IsStock flags gaps
+  HasActedWithJudge flags gaps (Ok deed) (Err cause) (Some found) = found ≡ cause
+  HasActedWithJudge flags gaps (Err cause) left (Some found) = found ≡ cause
+  HasActedWithJudge flags gaps (Ok deed) (Ok left) (Some found) = ⊥
+  HasActedWithJudge flags gaps (Ok deed) (Err cause) None = ⊥
+  HasActedWithJudge flags gaps (Err cause) left None = ⊥

@@ -1,52 +1,24 @@
 //! Datagrams are handed to the lab's nodes.
-ghost use Rattle.std.specs.Prelude.{◌≡◌, ℕ, Bool, [], true, map, IfOk};
+ghost use Rattle.std.specs.Prelude.{◌≡◌, ◌+◌, [], map, IfOk};
 ghost use Rattle.ptu_script.specs.declared.command.Command.TheVariants as commands;
-ghost use Rattle.ptu_world.specs.Deeds as world;
 ghost use Rattle.ptu_world.specs.Report.{Course};
 ghost use Rattle.ptu_world.specs.World.{datagram_deed, node_at};
-ghost use Rattle.ptu_lab.specs.Doing.{HasDone};
 ghost use Rattle.ptu_lab.specs.LabSteps.{HasHanded, HasStepped};
-ghost use Rattle.ptu_lab.specs.Standing.{StandsAs, StandsFor};
+ghost use Rattle.ptu_lab.specs.Standing.{StandsFor};
 
-use crate::lab::{Lab, Node};
-use crate::tally::Tally;
+use crate::lab::Lab;
 use ptu_report::Texts;
-use ptu_report_lines::{ReportLine, Sent, Statement};
+use ptu_report_lines::{ReportLine, Statement};
 use ptu_script::Cause;
 use ptu_units::{Moment, OutOfMemory};
 use ptu_world::finding::datagram_of;
 use std::alloc::Global;
 
-impl Node {
-    // Takes a datagram that came from an address.
-    fn receive(
-        &mut self,
-        alloc: Global,
-        at: Moment,
-        from: u32,
-        octets: &[u8],
-        line: u64,
-        texts: &mut Texts,
-        sent: &mut Vec<Sent>,
-    ) -> Result<Tally, OutOfMemory>
-        ensures { IfOk result (λ tally. (ip : ℕ) (begun : Bool) (w : world.Node) →
-            StandsAs (λ n. map (λ j. held (j.vtable, j.value)) n.slave.judges.items) ip begun
-            self.old w → HasDone
-            (StandsAs (λ n. map (λ j. held (j.vtable, j.value)) n.slave.judges.items) ip true
-            self.new) ip line (datagram_deed w at from octets.now) sent.old.items sent.new.items
-            texts.old texts.new tally.granted tally.short) }
-    {
-        match self {
-            Node::Grandmaster(node) => node.receive(alloc, at, from, octets, line, texts, sent),
-            Node::Slave(node) => {
-                node.receive(alloc, at, from, octets, line, texts, sent)?;
-                Ok(Tally {
-                    granted: 0,
-                    short: 0,
-                })
-            }
-        }
-    }
+// The sum, for which there is always room: a script has at most 2^26 octets.
+fn sum(so_far: u64, more: u64) -> Result<u64, OutOfMemory>
+    ensures { IfOk result (λ n. n ≡ so_far + more) }
+{
+    so_far.checked_add(more).ok_or(OutOfMemory)
 }
 
 impl Lab {
@@ -72,14 +44,16 @@ impl Lab {
             (map (λ j. held (j.vtable, j.value)) self.new.stock.gaps.items) self.new)
             texts.new ip (λ w. datagram_deed w at from octets.now) (node_at c.world.nodes ip) found) }
     {
-        let Some(node) = self.nodes.get_mut(&ip) else {
-            return Ok(false);
-        };
-        let tally = node.receive(alloc, at, from, octets, line, texts, &mut self.sent)?;
-        self.granted = self.granted.checked_add(tally.granted).ok_or(OutOfMemory)?;
-        self.short = self.short.checked_add(tally.short).ok_or(OutOfMemory)?;
-        self.has_begun = true;
-        Ok(true)
+        match self.nodes.get_mut(&ip) {
+            None => Ok(false),
+            Some(node) => {
+                let tally = node.receive(alloc, at, from, octets, line, texts, &mut self.sent)?;
+                self.granted = sum(self.granted, tally.granted)?;
+                self.short = sum(self.short, tally.short)?;
+                self.has_begun = true;
+                Ok(true)
+            }
+        }
     }
 
     /// A datagram is handed to the node at an address, as from another.

@@ -5,7 +5,7 @@ ghost use Rattle.ptu_script.specs.declared.command.Command.TheVariants as comman
 ghost use Rattle.ptu_lab.specs.LabSteps.{HasStepped};
 ghost use Rattle.ptu_lab.specs.Standing.{StandsFor};
 
-use crate::lab::{Lab, Node};
+use crate::lab::Lab;
 use ptu_report::Texts;
 use ptu_script::Cause;
 use ptu_units::{Moment, OutOfMemory};
@@ -36,12 +36,14 @@ impl Lab {
             (map (λ j. held (j.vtable, j.value)) self.new.stock.gaps.items) self.new)
             texts.new (commands.Turn at grandmaster table)) }
     {
-        let Some(Node::Grandmaster(node)) = self.nodes.get_mut(&grandmaster) else {
-            return Ok(Some(Cause::Node));
-        };
-        node.turn(alloc, at, table, line, texts, &mut self.sent)?;
-        self.has_begun = true;
-        Ok(None)
+        match self.nodes.get_mut(&grandmaster) {
+            None => Ok(Some(Cause::Node)),
+            Some(node) => {
+                let refused = node.turn(alloc, at, table, line, texts, &mut self.sent)?;
+                self.has_begun = true;
+                Ok(refused)
+            }
+        }
     }
 
     /// The clockClass of the grandmaster at an address changes. Nothing is said of it.
@@ -55,12 +57,14 @@ impl Lab {
             (map (λ j. held (j.vtable, j.value)) self.new.stock.gaps.items) self.new)
             [] (commands.Class grandmaster class) result }
     {
-        let Some(Node::Grandmaster(node)) = self.nodes.get_mut(&grandmaster) else {
-            return Some(Cause::Node);
-        };
-        node.set_class(class);
-        self.has_begun = true;
-        None
+        match self.nodes.get_mut(&grandmaster) {
+            None => Some(Cause::Node),
+            Some(node) => {
+                let refused = node.set_class(class);
+                self.has_begun = true;
+                refused
+            }
+        }
     }
 
     /// The capacity of the grandmaster at an address changes to this many sixteenths of a message
@@ -88,11 +92,13 @@ impl Lab {
             (map (λ j. held (j.vtable, j.value)) self.new.stock.gaps.items) self.new)
             texts.new (commands.Capacity at grandmaster capacity)) }
     {
-        let Some(Node::Grandmaster(node)) = self.nodes.get_mut(&grandmaster) else {
-            return Ok(Some(Cause::Node));
-        };
-        node.set_capacity(alloc, at, capacity, line, texts, &mut self.sent)?;
-        self.has_begun = true;
-        Ok(None)
+        match self.nodes.get_mut(&grandmaster) {
+            None => Ok(Some(Cause::Node)),
+            Some(node) => {
+                let refused = node.set_capacity(alloc, at, capacity, line, texts, &mut self.sent)?;
+                self.has_begun = true;
+                Ok(refused)
+            }
+        }
     }
 }

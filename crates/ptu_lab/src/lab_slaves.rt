@@ -6,8 +6,7 @@ ghost use Rattle.ptu_world.specs.Report.{Course};
 ghost use Rattle.ptu_lab.specs.LabSteps.{HasStepped};
 ghost use Rattle.ptu_lab.specs.Standing.{StandsFor};
 
-use crate::lab::{Lab, Node};
-use crate::lab_stock::take_judge;
+use crate::lab::Lab;
 use ptu_judges::Rule;
 use ptu_report::Texts;
 use ptu_script::Cause;
@@ -37,12 +36,14 @@ impl Lab {
             (map (λ j. held (j.vtable, j.value)) self.new.stock.gaps.items) self.new)
             texts.new (commands.Tick at slave)) }
     {
-        let Some(Node::Slave(node)) = self.nodes.get_mut(&slave) else {
-            return Ok(Some(Cause::Node));
-        };
-        node.tick(alloc, at, line, texts, &mut self.sent)?;
-        self.has_begun = true;
-        Ok(None)
+        match self.nodes.get_mut(&slave) {
+            None => Ok(Some(Cause::Node)),
+            Some(node) => {
+                let refused = node.tick(alloc, at, line, texts, &mut self.sent)?;
+                self.has_begun = true;
+                Ok(refused)
+            }
+        }
     }
 
     /// The slave at an address stops.
@@ -67,12 +68,14 @@ impl Lab {
             (map (λ j. held (j.vtable, j.value)) self.new.stock.gaps.items) self.new)
             texts.new (commands.Stop at slave)) }
     {
-        let Some(Node::Slave(node)) = self.nodes.get_mut(&slave) else {
-            return Ok(Some(Cause::Node));
-        };
-        node.stop(alloc, at, line, texts, &mut self.sent)?;
-        self.has_begun = true;
-        Ok(None)
+        match self.nodes.get_mut(&slave) {
+            None => Ok(Some(Cause::Node)),
+            Some(node) => {
+                let refused = node.stop(alloc, at, line, texts, &mut self.sent)?;
+                self.has_begun = true;
+                Ok(refused)
+            }
+        }
     }
 
     /// The operator says to the slave at an address whether its master is unusable.
@@ -99,15 +102,14 @@ impl Lab {
             (map (λ j. held (j.vtable, j.value)) self.new.stock.gaps.items) self.new)
             texts.new (commands.Flag at slave master unusable)) }
     {
-        let Some(Node::Slave(node)) = self.nodes.get_mut(&slave) else {
-            return Ok(Some(Cause::Node));
-        };
-        let Some(place) = node.place(master) else {
-            return Ok(Some(Cause::Node));
-        };
-        node.flag(alloc, at, place, unusable, line, texts, &self.sent)?;
-        self.has_begun = true;
-        Ok(None)
+        match self.nodes.get_mut(&slave) {
+            None => Ok(Some(Cause::Node)),
+            Some(node) => {
+                let refused = node.flag(alloc, at, master, unusable, line, texts, &self.sent)?;
+                self.has_begun = true;
+                Ok(refused)
+            }
+        }
     }
 
     /// The judge of a master of the slave at an address is replaced by one of the rule.
@@ -139,17 +141,16 @@ impl Lab {
             (map (λ j. held (j.vtable, j.value)) self.new.stock.gaps.items) self.new)
             texts.new (commands.Judge at slave master rule)) }
     {
-        let Some(Node::Slave(node)) = self.nodes.get_mut(&slave) else {
-            return Ok(Some(Cause::Node));
-        };
-        let Some(place) = node.place(master) else {
-            return Ok(Some(Cause::Node));
-        };
-        let Some(judge) = take_judge(&mut self.stock, rule) else {
-            return Ok(Some(Cause::Stock));
-        };
-        node.set_judge(alloc, at, place, judge, line, texts, &self.sent)?;
-        self.has_begun = true;
-        Ok(None)
+        match self.nodes.get_mut(&slave) {
+            None => Ok(Some(Cause::Node)),
+            Some(node) => {
+                let stock = &mut self.stock;
+                let sent = &self.sent;
+                let refused =
+                    node.replace_judge(alloc, at, master, rule, stock, line, texts, sent)?;
+                self.has_begun = true;
+                Ok(refused)
+            }
+        }
     }
 }

@@ -11,6 +11,7 @@ mod handing;
 mod lab;
 mod lab_deliveries;
 mod lab_grandmasters;
+mod lab_nodes;
 mod lab_setting_up;
 mod lab_slaves;
 mod lab_stock;

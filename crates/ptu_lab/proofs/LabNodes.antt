@@ -1,0 +1,192 @@
+-- The lab's nodes agree with those of a world, and so does the lab with a course.
+use Rattle.std.proofs.Common.{◌≡◌, ◌∙◌, ℕ, ◌+◌, ◌++◌, Bool, true, false, cond, eqb, List, [], map, length, Option, Some, None, Result, Ok, Err, refl, sym, ap, subst, eqb-true, eq-eqb, arith, append_assoc, zero-add}
+use Rattle.std.specs.Prelude.{nat_eq}
+use Rattle.std.specs.List.{count_by}
+use Rattle.std.specs.HashMap.{HashMap, get}
+use Rattle.ptu_judges.specs.Held.{Held, IsStock}
+use Rattle.ptu_report_lines.specs.declared.sent.Sent.{Sent}
+use Rattle.ptu_report_lines.specs.declared.statement.Statement.{Statement}
+use Rattle.ptu_world.specs.Deeds as world
+use Rattle.ptu_world.specs.Deeds.{Deed}
+use Rattle.ptu_world.specs.Slaves as slaves
+use Rattle.ptu_record.specs.declared.rule.Rule.{Rule}
+use Rattle.ptu_slave_messages.specs.Config.{place_of}
+use Rattle.ptu_world.specs.World.{Done, Nodes, World, datagram_deed, done_by, node_at, or_cause, placed, said_by, sent_from, stock_without}
+use Rattle.ptu_world.specs.Report.{Course, course_after, is_granted, is_short, outcome_by, text_at}
+use Rattle.ptu_report.specs.Rules.{IsOutcome}
+use Rattle.ptu_script.specs.declared.cause.Cause.{Cause}
+use Rattle.ptu_script.specs.declared.cause.Cause.TheVariants as causes
+use Rattle.ptu_script.specs.Fields.{◌>>=◌}
+use Rattle.ptu_lab.specs.declared.slave_node.SlaveNode.{SlaveNode}
+use Rattle.ptu_lab.specs.declared.lab.Node.{Node}
+use Rattle.ptu_lab.specs.declared.lab.Node.TheVariants as nodes
+use Rattle.ptu_lab.specs.declared.lab.Lab.{Lab}
+use Rattle.ptu_lab.specs.Doing.{HasDone}
+use Rattle.ptu_lab.specs.Standing.{Agrees, IsSlaveNode, StandsAs, StandsAsSlave, StandsFor}
+use Rattle.ptu_lab.specs.LabSteps.{HasActed, HasActedWithJudge, HasTaken, of_master, of_slave, stock_of}
+use Rattle.ptu_lab.proofs.LabCommands.{after_deed, at_found, at_node}
+
+module _ {J : Type 0} {I : J → Type 0} (held : SlaveNode J I → List Held) where
+  -- after the first event too
+  pub begun_later : (ip : ℕ) (begun : Bool) (node : Node J I) (w : world.Node) → StandsAs held ip begun node w → StandsAs held ip true node w
+  begun_later ip begun (nodes.Grandmaster node) w h = h
+  begun_later ip begun (nodes.Slave node) (world.IsGrandmaster g) h = h
+  begun_later ip begun (nodes.Slave node) (world.IsSlave s) h = (h.0, record {
+    address = h.1.address;
+    config = h.1.config;
+    masters = h.1.masters;
+    limits = h.1.limits;
+    distinct = h.1.distinct;
+    stands = h.1.stands;
+    ruled = h.1.ruled;
+    fresh = λ e. absurd cc;
+    idle = h.1.idle;
+  })
+
+  pub agrees_later : (ip : ℕ) (begun : Bool) (found : Option (Node J I)) (w : Option world.Node) → Agrees held ip begun found w → Agrees held ip true found w
+  agrees_later ip begun None None h = tt
+  agrees_later ip begun None (Some w) h = h
+  agrees_later ip begun (Some node) None h = h
+  agrees_later ip begun (Some node) (Some w) h = begun_later ip begun node w h
+
+  -- one address has another node
+  pub placed_agree : {S : Type 0} (m n : HashMap ℕ (Node J I) S) (others : Nodes) (begun : Bool) (ip : ℕ) (node : Node J I) (w : world.Node)
+      → ((q : ℕ) → Agrees held q begun (get nat_eq m q) (node_at others q))
+      → ((q : ℕ) → get nat_eq n q ≡ cond (nat_eq ip q) (Some node) (get nat_eq m q))
+      → StandsAs held ip begun node w
+      → (q : ℕ) → Agrees held q begun (get nat_eq n q) (node_at (placed ip w others) q)
+  placed_agree m n others begun ip node w all changed stands q = rw (changed q) (by (eqb ip q) refl (eqb q ip) refl)
+    where
+      by : (b : Bool) → eqb ip q ≡ b → (d : Bool) → eqb q ip ≡ d → Agrees held q begun (cond b (Some node) (get nat_eq m q)) (cond d (Some w) (node_at others q))
+      by true e true d = subst (λ a. StandsAs held a begun node w) (eqb-true ip q e) stands
+      by false e false d = all q
+      by true e false d = absurd (let same : eqb q ip ≡ true = eq-eqb q ip (sym (eqb-true ip q e)) in cc)
+      by false e true d = absurd (let same : eqb ip q ≡ true = eq-eqb ip q (sym (eqb-true q ip d)) in cc)
+
+  -- the lab whose node at the address did its deed stands for the course behind it
+  pub deed_stands : (flags gaps : List Held) (lab lab' : Lab J I) (c : Course) (ip line : ℕ) (node : Node J I) (deed : Deed) (texts texts' : List (List ℕ)) (granted short : ℕ)
+      → StandsFor held flags gaps lab c
+      → HasDone (StandsAs held ip true node) ip line deed lab.sent.items lab'.sent.items texts texts' granted short
+      → texts ≡ []
+      → ((q : ℕ) → get nat_eq lab'.nodes q ≡ cond (nat_eq ip q) (Some node) (get nat_eq lab.nodes q))
+      → lab'.has_begun ≡ true
+      → lab'.granted ≡ lab.granted + granted
+      → lab'.short ≡ lab.short + short
+      → StandsFor held flags gaps lab' (course_after c (done_by c.world ip deed)) × (texts' ≡ map (text_at line) (done_by c.world ip deed).said)
+  deed_stands flags gaps lab lab' c ip line node deed texts texts' granted short stands done none changed begun grants shorts =
+      (record {
+        nodes = placed_agree lab.nodes lab'.nodes c.world.nodes true ip node deed.node (λ q. agrees_later q c.world.has_begun (get nat_eq lab.nodes q) (node_at c.world.nodes q) (stands.nodes q)) changed done.node;
+        sent = done.sends ∙ ap (λ s. s ++ map (sent_from ip) deed.sends) stands.sent;
+        has_begun = begun;
+        flags = stands.flags;
+        gaps = stands.gaps;
+        stock = stands.stock;
+        granted = grants ∙ (ap (λ n. n + granted) stands.granted ∙ ap (λ n. c.granted + n) (done.grants ∙ ap (λ s. count_by is_granted (said_by s ip deed)) stands.sent));
+        short = shorts ∙ (ap (λ n. n + short) stands.short ∙ ap (λ n. c.short + n) (done.shortages ∙ ap (λ s. count_by is_short (said_by s ip deed)) stands.sent));
+      }, done.says ∙ (ap (λ t. t ++ map (text_at line) (said_by lab.sent.items ip deed)) none ∙ ap (λ s. map (text_at line) (said_by s ip deed)) stands.sent))
+
+
+
+  -- ---- an event at a node
+
+  -- no node is found
+  pub nobody : (flags gaps : List Held) (lab : Lab J I) (c : Course) (ip line : ℕ) (act : world.Node → Result Deed Cause) (made : Result Done Cause) (after : Course → Type 0) (given : List (List ℕ))
+      → StandsFor held flags gaps lab c
+      → get nat_eq lab.nodes ip ≡ None
+      → made ≡ at_node c.world ip act
+      → IsOutcome (outcome_by c line made) after given (Some causes.Node)
+  nobody flags gaps lab c ip line act made after given stands found is = rw is (by (node_at c.world.nodes ip) (rw (sym found) (stands.nodes ip)))
+    where
+      by : (o : Option world.Node) → Agrees held ip c.world.has_begun None o → IsOutcome (outcome_by c line (at_found c.world ip act o)) after given (Some causes.Node)
+      by None h = refl
+      by (Some w) h = absurd h
+
+  -- it is found, and acts or refuses
+  pub acted_stands : (flags gaps : List Held) (lab lab' : Lab J I) (c : Course) (ip line : ℕ) (old new : Node J I) (act : world.Node → Result Deed Cause) (texts texts' : List (List ℕ)) (made : Result Done Cause) (refused : Option Cause)
+      → StandsFor held flags gaps lab c
+      → get nat_eq lab.nodes ip ≡ Some old
+      → ((a : ℕ) (begun : Bool) (w : world.Node) → StandsAs held a begun old w → HasActed (StandsAs held a true new) a line lab.sent.items lab'.sent.items texts texts' (act w) refused)
+      → made ≡ at_node c.world ip act
+      → texts ≡ []
+      → ((q : ℕ) → get nat_eq lab'.nodes q ≡ cond (nat_eq ip q) (Some new) (get nat_eq lab.nodes q))
+      → lab'.has_begun ≡ true
+      → lab'.granted ≡ lab.granted
+      → lab'.short ≡ lab.short
+      → IsOutcome (outcome_by c line made) (StandsFor held flags gaps lab') texts' refused
+  acted_stands flags gaps lab lab' c ip line old new act texts texts' made refused stands found acted is none changed begun grants shorts =
+      rw is (by (node_at c.world.nodes ip) (rw (sym found) (stands.nodes ip)))
+    where
+      decided : (r : Result Deed Cause) (answer : Option Cause) → HasActed (StandsAs held ip true new) ip line lab.sent.items lab'.sent.items texts texts' r answer
+          → IsOutcome (outcome_by c line (after_deed c.world ip r)) (StandsFor held flags gaps lab') texts' answer
+      decided (Ok deed) None h =
+          let no_grant : lab'.granted ≡ lab.granted + 0 = omega (arith, grants) in
+          let no_short : lab'.short ≡ lab.short + 0 = omega (arith, shorts) in
+          deed_stands flags gaps lab lab' c ip line new deed texts texts' 0 0 stands h none changed begun no_grant no_short
+      decided (Ok deed) (Some cause) h = absurd h
+      decided (Err e) None h = absurd h
+      decided (Err e) (Some cause) h = h
+
+      by : (o : Option world.Node) → Agrees held ip c.world.has_begun (Some old) o → IsOutcome (outcome_by c line (at_found c.world ip act o)) (StandsFor held flags gaps lab') texts' refused
+      by None h = absurd h
+      by (Some w) h = decided (act w) refused (acted ip c.world.has_begun w h)
+
+  -- ---- a slave
+
+  -- its deed was done where it stands
+  slave_did : (ip line : ℕ) (old new : SlaveNode J I) (deed : Deed) (sent sent' : List Sent) (texts texts' : List (List ℕ)) → old.ip ≡ ip → new.ip ≡ old.ip
+      → HasDone (StandsAsSlave new.ip new.slave.core (held new) new.slave.port true) old.ip line deed sent sent' texts texts' 0 0
+      → HasDone (StandsAs held ip true (nodes.Slave new)) ip line deed sent sent' texts texts' 0 0
+  slave_did ip line old new deed sent sent' texts texts' address same done = record {
+    node = (same ∙ address, done.node);
+    sends = subst (λ a. sent' ≡ sent ++ map (sent_from a) deed.sends) address done.sends;
+    says = subst (λ a. texts' ≡ texts ++ map (text_at line) (said_by sent a deed)) address done.says;
+    grants = subst (λ a. 0 ≡ count_by is_granted (said_by sent a deed)) address done.grants;
+    shortages = subst (λ a. 0 ≡ count_by is_short (said_by sent a deed)) address done.shortages;
+  }
+
+  pub slave_receives : (old new : SlaveNode J I) (line t from : ℕ) (octets : List ℕ) (sent sent' : List Sent) (texts texts' : List (List ℕ))
+      → new.ip ≡ old.ip
+      → ((begun : Bool) (s : world.Slave) → IsSlaveNode old.ip old.slave.core (held old) old.slave.port begun s
+        → HasDone (StandsAsSlave new.ip new.slave.core (held new) new.slave.port true) old.ip line (slaves.datagram_deed s t from octets) sent sent' texts texts' 0 0)
+      → (ip : ℕ) (begun : Bool) (w : world.Node) → StandsAs held ip begun (nodes.Slave old) w
+      → HasDone (StandsAs held ip true (nodes.Slave new)) ip line (datagram_deed w t from octets) sent sent' texts texts' 0 0
+  slave_receives old new line t from octets sent sent' texts texts' same done ip begun (world.IsGrandmaster g) h = absurd h.1
+  slave_receives old new line t from octets sent sent' texts texts' same done ip begun (world.IsSlave s) h =
+      slave_did ip line old new (slaves.datagram_deed s t from octets) sent sent' texts texts' h.0 same (done begun s h.1)
+
+  pub slave_acts : (old new : SlaveNode J I) (line : ℕ) (deed : world.Slave → Deed) (sent sent' : List Sent) (texts texts' : List (List ℕ))
+      → new.ip ≡ old.ip
+      → ((begun : Bool) (s : world.Slave) → IsSlaveNode old.ip old.slave.core (held old) old.slave.port begun s
+        → HasDone (StandsAsSlave new.ip new.slave.core (held new) new.slave.port true) old.ip line (deed s) sent sent' texts texts' 0 0)
+      → (ip : ℕ) (begun : Bool) (w : world.Node) → StandsAs held ip begun (nodes.Slave old) w
+      → HasActed (StandsAs held ip true (nodes.Slave new)) ip line sent sent' texts texts' (of_slave deed w) None
+  slave_acts old new line deed sent sent' texts texts' same done ip begun (world.IsGrandmaster g) h = absurd h.1
+  slave_acts old new line deed sent sent' texts texts' same done ip begun (world.IsSlave s) h = slave_did ip line old new (deed s) sent sent' texts texts' h.0 same (done begun s h.1)
+
+  -- an event that concerns a master at a place of its list
+  pub master_acts : (old new : SlaveNode J I) (line master place : ℕ) (deed : world.Slave → ℕ → Deed) (sent sent' : List Sent) (texts texts' : List (List ℕ))
+      → place_of old.slave.core.masters master ≡ Some place
+      → new.ip ≡ old.ip
+      → ((begun : Bool) (s : world.Slave) → IsSlaveNode old.ip old.slave.core (held old) old.slave.port begun s
+        → HasDone (StandsAsSlave new.ip new.slave.core (held new) new.slave.port true) old.ip line (deed s place) sent sent' texts texts' 0 0)
+      → (ip : ℕ) (begun : Bool) (w : world.Node) → StandsAs held ip begun (nodes.Slave old) w
+      → HasActed (StandsAs held ip true (nodes.Slave new)) ip line sent sent' texts texts' (of_master master deed w) None
+  master_acts old new line master place deed sent sent' texts texts' found same done ip begun (world.IsGrandmaster g) h = absurd h.1
+  master_acts old new line master place deed sent sent' texts texts' found same done ip begun (world.IsSlave s) h =
+      let here : place_of s.opened.masters master ≡ Some place = ap (λ masters. place_of masters master) h.1.masters ∙ found in
+      rw here (slave_did ip line old new (deed s place) sent sent' texts texts' h.0 same (done begun s h.1))
+
+  -- and another judge takes over there
+  pub judge_acts : (old new : SlaveNode J I) (line master place : ℕ) (deed : world.Slave → ℕ → Deed) (sent sent' : List Sent) (texts texts' : List (List ℕ))
+      (rule : Rule) (flags gaps flags' gaps' : List Held) (judge : Held)
+      → place_of old.slave.core.masters master ≡ Some place
+      → new.ip ≡ old.ip
+      → HasTaken rule flags gaps flags' gaps' judge
+      → ((begun : Bool) (s : world.Slave) → IsSlaveNode old.ip old.slave.core (held old) old.slave.port begun s
+        → HasDone (StandsAsSlave new.ip new.slave.core (held new) new.slave.port true) old.ip line (deed s place) sent sent' texts texts' 0 0)
+      → (ip : ℕ) (begun : Bool) (w : world.Node) → StandsAs held ip begun (nodes.Slave old) w
+      → HasActedWithJudge (StandsAs held ip true (nodes.Slave new)) ip line sent sent' texts texts' flags' gaps' (of_master master deed w) (stock_without rule (stock_of flags gaps)) None
+  judge_acts old new line master place deed sent sent' texts texts' rule flags gaps flags' gaps' judge found same taken done ip begun (world.IsGrandmaster g) h = absurd h.1
+  judge_acts old new line master place deed sent sent' texts texts' rule flags gaps flags' gaps' judge found same taken done ip begun (world.IsSlave s) h =
+      let here : place_of s.opened.masters master ≡ Some place = ap (λ masters. place_of masters master) h.1.masters ∙ found in
+      rw (here, taken.left) (slave_did ip line old new (deed s place) sent sent' texts texts' h.0 same (done begun s h.1), refl, taken.stock)
