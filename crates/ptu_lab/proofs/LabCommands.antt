@@ -10,7 +10,7 @@ use Rattle.ptu_script.specs.declared.command.Command.TheVariants as commands
 use Rattle.ptu_world.specs.Deeds.{Deed, Grandmaster, IsGrandmaster, IsSlave, Node, Slave}
 use Rattle.ptu_world.specs.Grandmasters.{capacity_deed, class_deed, turn_deed}
 use Rattle.ptu_world.specs.Slaves.{plain_deed}
-use Rattle.ptu_world.specs.World.{Done, World, done_by, grandmaster_by, node_at, or_cause, place_in, slave_by, step, stock_without}
+use Rattle.ptu_world.specs.World.{Done, Stock, World, done_by, grandmaster_by, node_at, or_cause, place_in, slave_by, step, stock_without}
 use Rattle.ptu_lab.specs.LabSteps.{of_grandmaster, of_master, of_slave}
 
 -- the world after what the node at the address does
@@ -27,6 +27,21 @@ at_found w ip act found = do
 
 abbrev pub at_node : World → ℕ → (Node → Result Deed Cause) → Result Done Cause
 at_node w ip act = at_found w ip act (node_at w.nodes ip)
+
+-- the same of an event for which a judge is taken from the stock
+abbrev pub after_judged : World → ℕ → Result Deed Cause → Result Stock Cause → Result Done Cause
+after_judged w ip made taken = do
+  deed ← made
+  stock ← taken
+  Ok (done_by (record w { stock = stock }) ip deed)
+
+abbrev pub at_found_with_judge : World → ℕ → Rule → (Node → Result Deed Cause) → Option Node → Result Done Cause
+at_found_with_judge w ip rule act found = do
+  node ← or_cause causes.Node found
+  after_judged w ip (act node) (stock_without rule w.stock)
+
+abbrev pub at_node_with_judge : World → ℕ → Rule → (Node → Result Deed Cause) → Result Done Cause
+at_node_with_judge w ip rule act = at_found_with_judge w ip rule act (node_at w.nodes ip)
 
 -- ---- by the kind of the node
 
@@ -53,7 +68,25 @@ by_master w ip master deed None = refl
 by_master w ip master deed (Some (IsGrandmaster g)) = refl
 by_master w ip master deed (Some (IsSlave s)) = placed_master w ip s deed (place_of (s.opened.masters) master)
 
+placed_judge : (w : World) (ip : ℕ) (s : Slave) (rule : Rule) (deed : Slave → ℕ → Deed) (place : Option ℕ)
+    → (or_cause causes.Node place >>= λ m. stock_without rule w.stock >>= λ stock. Ok (done_by (record w { stock = stock }) ip (deed s m)))
+    ≡ after_judged w ip (or_cause causes.Node place >>= λ m. Ok (deed s m)) (stock_without rule w.stock)
+placed_judge w ip s rule deed None = refl
+placed_judge w ip s rule deed (Some m) = refl
+
+by_judge : (w : World) (ip master : ℕ) (rule : Rule) (deed : Slave → ℕ → Deed) (o : Option Node)
+    → (slave_by o >>= λ s. place_in s master >>= λ m. stock_without rule w.stock >>= λ stock. Ok (done_by (record w { stock = stock }) ip (deed s m)))
+    ≡ at_found_with_judge w ip rule (of_master master deed) o
+by_judge w ip master rule deed None = refl
+by_judge w ip master rule deed (Some (IsGrandmaster g)) = refl
+by_judge w ip master rule deed (Some (IsSlave s)) = placed_judge w ip s rule deed (place_of (s.opened.masters) master)
+
 -- ---- the commands
+
+pub judge_is : (w : World) (t ip master : ℕ) (rule : Rule)
+    → step w (commands.Judge t ip master rule) ≡ at_node_with_judge w ip rule (of_master master (λ s m. plain_deed s t (slave_events.ReplaceJudge m (Some rule))))
+unfolding step
+judge_is w t ip master rule = by_judge w ip master rule (λ s m. plain_deed s t (slave_events.ReplaceJudge m (Some rule))) (node_at w.nodes ip)
 
 pub turn_is : (w : World) (t ip table : ℕ) → step w (commands.Turn t ip table) ≡ at_node w ip (of_grandmaster (λ g. turn_deed g t table))
 unfolding step

@@ -1,5 +1,5 @@
 -- The lab's nodes agree with those of a world, and so does the lab with a course.
-use Rattle.std.proofs.Common.{◌≡◌, ◌∙◌, ℕ, ◌+◌, ◌++◌, Bool, true, false, cond, eqb, List, [], map, length, Option, Some, None, Result, Ok, Err, refl, sym, ap, subst, eqb-true, eq-eqb, arith, append_assoc, zero-add}
+use Rattle.std.proofs.Common.{◌≡◌, ◌∙◌, ℕ, ◌+◌, ◌++◌, Bool, true, false, cond, eqb, List, [], map, length, Option, Some, None, Result, Ok, Err, refl, sym, ap, ap₂, subst, eqb-true, eq-eqb, arith, append_assoc, zero-add}
 use Rattle.std.specs.Prelude.{nat_eq}
 use Rattle.std.specs.List.{count_by}
 use Rattle.std.specs.HashMap.{HashMap, get}
@@ -11,7 +11,7 @@ use Rattle.ptu_world.specs.Deeds.{Deed}
 use Rattle.ptu_world.specs.Slaves as slaves
 use Rattle.ptu_record.specs.declared.rule.Rule.{Rule}
 use Rattle.ptu_slave_messages.specs.Config.{place_of}
-use Rattle.ptu_world.specs.World.{Done, Nodes, World, datagram_deed, done_by, node_at, or_cause, placed, said_by, sent_from, stock_without}
+use Rattle.ptu_world.specs.World.{Done, Nodes, Stock, World, datagram_deed, done_by, node_at, or_cause, placed, said_by, sent_from, stock_without}
 use Rattle.ptu_world.specs.Report.{Course, course_after, is_granted, is_short, outcome_by, text_at}
 use Rattle.ptu_report.specs.Rules.{IsOutcome}
 use Rattle.ptu_script.specs.declared.cause.Cause.{Cause}
@@ -24,7 +24,7 @@ use Rattle.ptu_lab.specs.declared.lab.Lab.{Lab}
 use Rattle.ptu_lab.specs.Doing.{HasDone}
 use Rattle.ptu_lab.specs.Standing.{Agrees, IsSlaveNode, StandsAs, StandsAsSlave, StandsFor}
 use Rattle.ptu_lab.specs.LabSteps.{HasActed, HasActedWithJudge, HasTaken, of_master, of_slave, stock_of}
-use Rattle.ptu_lab.proofs.LabCommands.{after_deed, at_found, at_node}
+use Rattle.ptu_lab.proofs.LabCommands.{after_deed, after_judged, at_found, at_found_with_judge, at_node, at_node_with_judge}
 
 module _ {J : Type 0} {I : J → Type 0} (held : SlaveNode J I → List Held) where
   -- after the first event too
@@ -129,6 +129,66 @@ module _ {J : Type 0} {I : J → Type 0} (held : SlaveNode J I → List Held) wh
       by : (o : Option world.Node) → Agrees held ip c.world.has_begun (Some old) o → IsOutcome (outcome_by c line (at_found c.world ip act o)) (StandsFor held flags gaps lab') texts' refused
       by None h = absurd h
       by (Some w) h = decided (act w) refused (acted ip c.world.has_begun w h)
+
+  -- it is found, and takes a judge from the stock
+  pub judged_stands : (flags gaps flags' gaps' : List Held) (lab lab' : Lab J I) (c : Course) (ip line : ℕ) (old new : Node J I) (rule : Rule) (act : world.Node → Result Deed Cause)
+      (texts texts' : List (List ℕ)) (made : Result Done Cause) (refused : Option Cause)
+      → StandsFor held flags gaps lab c
+      → get nat_eq lab.nodes ip ≡ Some old
+      → ((a : ℕ) (begun : Bool) (w : world.Node) → StandsAs held a begun old w
+        → HasActedWithJudge (StandsAs held a true new) a line lab.sent.items lab'.sent.items texts texts' flags' gaps' (act w) (stock_without rule (stock_of flags gaps)) refused)
+      → made ≡ at_node_with_judge c.world ip rule act
+      → texts ≡ []
+      → ((q : ℕ) → get nat_eq lab'.nodes q ≡ cond (nat_eq ip q) (Some new) (get nat_eq lab.nodes q))
+      → lab'.has_begun ≡ true
+      → lab'.granted ≡ lab.granted
+      → lab'.short ≡ lab.short
+      → IsOutcome (outcome_by c line made) (StandsFor held flags' gaps' lab') texts' refused
+  judged_stands flags gaps flags' gaps' lab lab' c ip line old new rule act texts texts' made refused stands found acted is none changed begun grants shorts =
+      rw is (by (node_at c.world.nodes ip) (rw (sym found) (stands.nodes ip)))
+    where
+      stock_is : stock_of flags gaps ≡ c.world.stock
+      stock_is = ap₂ (λ f g. record { flags = f; gaps = g }) stands.flags stands.gaps
+
+      decided : (r : Result Deed Cause) (s : Result Stock Cause) (answer : Option Cause)
+          → HasActedWithJudge (StandsAs held ip true new) ip line lab.sent.items lab'.sent.items texts texts' flags' gaps' r s answer
+          → IsOutcome (outcome_by c line (after_judged c.world ip r s)) (StandsFor held flags' gaps' lab') texts' answer
+      decided (Ok deed) (Ok left) None h =
+          let no_grant : lab'.granted ≡ lab.granted + 0 = omega (arith, grants) in
+          let no_short : lab'.short ≡ lab.short + 0 = omega (arith, shorts) in
+          let p = deed_stands flags gaps lab lab' c ip line new deed texts texts' 0 0 stands h.0 none changed begun no_grant no_short in
+          (record {
+            nodes = p.0.nodes;
+            sent = p.0.sent;
+            has_begun = p.0.has_begun;
+            flags = sym (ap (λ s. s.flags) h.1);
+            gaps = sym (ap (λ s. s.gaps) h.1);
+            stock = h.2;
+            granted = p.0.granted;
+            short = p.0.short;
+          }, p.1)
+      decided (Ok deed) (Ok left) (Some cause) h = absurd h
+      decided (Ok deed) (Err e) None h = absurd h
+      decided (Ok deed) (Err e) (Some cause) h = h
+      decided (Err e) s None h = absurd h
+      decided (Err e) s (Some cause) h = h
+
+      by : (o : Option world.Node) → Agrees held ip c.world.has_begun (Some old) o
+          → IsOutcome (outcome_by c line (at_found_with_judge c.world ip rule act o)) (StandsFor held flags' gaps' lab') texts' refused
+      by None h = absurd h
+      by (Some w) h = decided (act w) (stock_without rule c.world.stock) refused (subst (λ s. HasActedWithJudge (StandsAs held ip true new) ip line lab.sent.items lab'.sent.items texts texts' flags' gaps' (act w) (stock_without rule s) refused) stock_is (acted ip c.world.has_begun w h))
+
+  -- no node is found for it
+  pub nobody_judged : (flags gaps : List Held) (lab : Lab J I) (c : Course) (ip line : ℕ) (rule : Rule) (act : world.Node → Result Deed Cause) (made : Result Done Cause) (after : Course → Type 0) (given : List (List ℕ))
+      → StandsFor held flags gaps lab c
+      → get nat_eq lab.nodes ip ≡ None
+      → made ≡ at_node_with_judge c.world ip rule act
+      → IsOutcome (outcome_by c line made) after given (Some causes.Node)
+  nobody_judged flags gaps lab c ip line rule act made after given stands found is = rw is (by (node_at c.world.nodes ip) (rw (sym found) (stands.nodes ip)))
+    where
+      by : (o : Option world.Node) → Agrees held ip c.world.has_begun None o → IsOutcome (outcome_by c line (at_found_with_judge c.world ip rule act o)) after given (Some causes.Node)
+      by None h = refl
+      by (Some w) h = absurd h
 
   -- ---- a slave
 

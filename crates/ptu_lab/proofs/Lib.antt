@@ -1,3 +1,4 @@
 pub mod ShowCauses
 pub mod LabNodes
 pub mod LabCommands
+pub mod LabStock
