@@ -1,5 +1,5 @@
 -- The lab's nodes agree with those of a world, and so does the lab with a course.
-use Rattle.std.proofs.Common.{◌≡◌, ◌∙◌, ℕ, ◌+◌, ◌++◌, Bool, true, false, cond, eqb, List, [], map, length, Option, Some, None, Result, Ok, Err, refl, sym, ap, ap₂, subst, eqb-true, eq-eqb, arith, append_assoc, zero-add}
+use Rattle.std.proofs.Common.{◌≡◌, ◌∙◌, ℕ, ◌+◌, ◌++◌, Bool, true, false, cond, eqb, List, [], map, length, Option, Some, None, Result, Ok, Err, IfOk, refl, sym, ap, ap₂, subst, eqb-true, eq-eqb, arith, append_assoc, zero-add}
 use Rattle.std.specs.Prelude.{nat_eq}
 use Rattle.std.specs.List.{count_by}
 use Rattle.std.specs.HashMap.{HashMap, get}
@@ -25,6 +25,11 @@ use Rattle.ptu_lab.specs.Doing.{HasDone}
 use Rattle.ptu_lab.specs.Standing.{Agrees, IsSlaveNode, StandsAs, StandsAsSlave, StandsFor}
 use Rattle.ptu_lab.specs.LabSteps.{HasActed, HasActedWithJudge, HasTaken, of_master, of_slave, stock_of}
 use Rattle.ptu_lab.proofs.LabCommands.{after_deed, after_judged, at_found, at_found_with_judge, at_node, at_node_with_judge}
+
+-- what follows from a fact on what was answered
+pub ok_also : {A E : Type 0} (r : Result A E) (P Q : A → Type 0) → IfOk r P → ((x : A) → P x → Q x) → IfOk r Q
+ok_also (Ok x) P Q p also = also x p
+ok_also (Err e) P Q p also = tt
 
 module _ {J : Type 0} {I : J → Type 0} (held : SlaveNode J I → List Held) where
   -- after the first event too
