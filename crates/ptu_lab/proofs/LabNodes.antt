@@ -1,5 +1,5 @@
 -- The lab's nodes agree with those of a world, and so does the lab with a course.
-use Rattle.std.proofs.Common.{◌≡◌, ◌∙◌, ℕ, ◌+◌, ◌++◌, Bool, true, false, cond, eqb, List, [], map, length, Option, Some, None, Result, Ok, Err, IfOk, refl, sym, ap, ap₂, subst, eqb-true, eq-eqb, arith, append_assoc, zero-add}
+use Rattle.std.proofs.Common.{◌≡◌, ◌∙◌, ℕ, ◌+◌, ◌++◌, Bool, true, false, cond, eqb, List, [], ◌∷◌, map, length, Option, Some, None, Result, Ok, Err, IfOk, option_map, refl, sym, ap, ap₂, subst, eqb-true, eq-eqb, arith, append_assoc, zero-add}
 use Rattle.std.specs.Prelude.{nat_eq}
 use Rattle.std.specs.List.{count_by}
 use Rattle.std.specs.HashMap.{HashMap, get}
@@ -11,11 +11,13 @@ use Rattle.ptu_world.specs.Deeds.{Deed}
 use Rattle.ptu_world.specs.Slaves as slaves
 use Rattle.ptu_record.specs.declared.rule.Rule.{Rule}
 use Rattle.ptu_slave_messages.specs.Config.{place_of}
-use Rattle.ptu_world.specs.World.{Done, Nodes, Stock, World, datagram_deed, done_by, node_at, or_cause, placed, said_by, sent_from, stock_without}
+use Rattle.ptu_world.specs.World.{Done, Nodes, Stock, World, datagram_deed, datagram_numbered, delivered_to, done_by, node_at, or_cause, placed, said_by, sent_from, step, stock_without}
 use Rattle.ptu_world.specs.Report.{Course, course_after, is_granted, is_short, outcome_by, text_at}
 use Rattle.ptu_report.specs.Rules.{IsOutcome}
 use Rattle.ptu_script.specs.declared.cause.Cause.{Cause}
 use Rattle.ptu_script.specs.declared.cause.Cause.TheVariants as causes
+use Rattle.ptu_script.specs.declared.command.Command.TheVariants as commands
+use Rattle.ptu_report_lines.specs.declared.statement.Statement.TheVariants as statements
 use Rattle.ptu_script.specs.Fields.{◌>>=◌}
 use Rattle.ptu_lab.specs.declared.slave_node.SlaveNode.{SlaveNode}
 use Rattle.ptu_lab.specs.declared.lab.Node.{Node}
@@ -23,7 +25,7 @@ use Rattle.ptu_lab.specs.declared.lab.Node.TheVariants as nodes
 use Rattle.ptu_lab.specs.declared.lab.Lab.{Lab}
 use Rattle.ptu_lab.specs.Doing.{HasDone}
 use Rattle.ptu_lab.specs.Standing.{Agrees, IsSlaveNode, StandsAs, StandsAsSlave, StandsFor}
-use Rattle.ptu_lab.specs.LabSteps.{HasActed, HasActedWithJudge, HasTaken, of_master, of_slave, stock_of}
+use Rattle.ptu_lab.specs.LabSteps.{HasActed, HasHanded, HasActedWithJudge, HasTaken, of_master, of_slave, stock_of}
 use Rattle.ptu_lab.proofs.LabCommands.{after_deed, after_judged, at_found, at_found_with_judge, at_node, at_node_with_judge}
 
 -- what follows from a fact on what was answered
@@ -255,3 +257,109 @@ module _ {J : Type 0} {I : J → Type 0} (held : SlaveNode J I → List Held) wh
   judge_acts old new line master place deed sent sent' texts texts' rule flags gaps flags' gaps' judge found same taken done ip begun (world.IsSlave s) h =
       let here : place_of s.opened.masters master ≡ Some place = ap (λ masters. place_of masters master) h.1.masters ∙ found in
       rw (here, taken.left) (slave_did ip line old new (deed s place) sent sent' texts texts' h.0 same (done begun s h.1), refl, taken.stock)
+
+  -- ---- datagrams
+
+  -- none is found that it could be handed to
+  pub handed_none : (flags gaps : List Held) (lab lab' : Lab J I) (c : Course) (ip line : ℕ) (deed : world.Node → Deed) (texts : List (List ℕ))
+      → StandsFor held flags gaps lab c
+      → get nat_eq lab.nodes ip ≡ None
+      → texts ≡ []
+      → lab' ≡ lab
+      → HasHanded line c (StandsFor held flags gaps lab') texts ip deed (node_at c.world.nodes ip) false
+  handed_none flags gaps lab lab' c ip line deed texts stands found none same = by (node_at c.world.nodes ip) (rw (sym found) (stands.nodes ip))
+    where
+      by : (o : Option world.Node) → Agrees held ip c.world.has_begun None o → HasHanded line c (StandsFor held flags gaps lab') texts ip deed o false
+      by None h = (refl, subst (λ l. StandsFor held flags gaps l c) (sym same) stands, none)
+      by (Some w) h = absurd h
+
+  -- the node that is found takes it
+  pub handed_stands : (flags gaps : List Held) (lab lab' : Lab J I) (c : Course) (ip line : ℕ) (old new : Node J I) (deed : world.Node → Deed) (texts texts' : List (List ℕ)) (granted short : ℕ)
+      → StandsFor held flags gaps lab c
+      → get nat_eq lab.nodes ip ≡ Some old
+      → ((a : ℕ) (begun : Bool) (w : world.Node) → StandsAs held a begun old w → HasDone (StandsAs held a true new) a line (deed w) lab.sent.items lab'.sent.items texts texts' granted short)
+      → texts ≡ []
+      → ((q : ℕ) → get nat_eq lab'.nodes q ≡ cond (nat_eq ip q) (Some new) (get nat_eq lab.nodes q))
+      → lab'.has_begun ≡ true
+      → lab'.granted ≡ lab.granted + granted
+      → lab'.short ≡ lab.short + short
+      → HasHanded line c (StandsFor held flags gaps lab') texts' ip deed (node_at c.world.nodes ip) true
+  handed_stands flags gaps lab lab' c ip line old new deed texts texts' granted short stands found done none changed begun grants shorts =
+      by (node_at c.world.nodes ip) (rw (sym found) (stands.nodes ip))
+    where
+      by : (o : Option world.Node) → Agrees held ip c.world.has_begun (Some old) o → HasHanded line c (StandsFor held flags gaps lab') texts' ip deed o true
+      by None h = absurd h
+      by (Some w) h =
+          let p = deed_stands flags gaps lab lab' c ip line new (deed w) texts texts' granted short stands (done ip c.world.has_begun w h) none changed begun grants shorts in
+          (refl, p.0, p.1)
+
+  -- a datagram that was sent comes to nobody
+  pub delivered_nobody : (flags gaps : List Held) (lab lab' : Lab J I) (c : Course) (line t number : ℕ) (sent : Sent) (texts texts' : List (List ℕ)) (found : Bool)
+      → datagram_numbered number c.world.sent ≡ Some sent
+      → HasHanded line c (StandsFor held flags gaps lab) texts sent.to (λ w. datagram_deed w t sent.from sent.octets) (node_at c.world.nodes sent.to) found
+      → found ≡ false
+      → lab' ≡ record lab { has_begun = true }
+      → texts' ≡ texts ++ text_at line statements.Nobody ∷ []
+      → IsOutcome (outcome_by c line (step c.world (commands.Deliver t number))) (StandsFor held flags gaps lab') texts' None
+  unfolding step
+  delivered_nobody flags gaps lab lab' c line t number sent texts texts' found numbered handed not_found same more = rw numbered (by (node_at c.world.nodes sent.to) handed)
+    where
+      by : (o : Option world.Node) → HasHanded line c (StandsFor held flags gaps lab) texts sent.to (λ w. datagram_deed w t sent.from sent.octets) o found
+          → IsOutcome (outcome_by c line (Ok (delivered_to c.world t sent o))) (StandsFor held flags gaps lab') texts' None
+      by None h = rw same
+          (record {
+            nodes = λ q. agrees_later q c.world.has_begun (get nat_eq lab.nodes q) (node_at c.world.nodes q) (h.1.nodes q);
+            sent = h.1.sent;
+            has_begun = refl;
+            flags = h.1.flags;
+            gaps = h.1.gaps;
+            stock = h.1.stock;
+            granted = (let none : lab.granted ≡ c.granted + 0 = omega (arith, h.1.granted) in none);
+            short = (let none : lab.short ≡ c.short + 0 = omega (arith, h.1.short) in none);
+          }, more ∙ ap (λ l. l ++ text_at line statements.Nobody ∷ []) h.2)
+      by (Some w) h = absurd (let no : false ≡ true = sym not_found ∙ h.0 in cc)
+
+-- it is handed to the node of its address
+pub delivered_there : (line t number : ℕ) (c : Course) (after : Course → Type 0) (sent : Sent) (texts : List (List ℕ)) (found : Bool)
+    → datagram_numbered number c.world.sent ≡ Some sent
+    → HasHanded line c after texts sent.to (λ w. datagram_deed w t sent.from sent.octets) (node_at c.world.nodes sent.to) found
+    → found ≡ true
+    → IsOutcome (outcome_by c line (step c.world (commands.Deliver t number))) after texts None
+unfolding step
+delivered_there line t number c after sent texts found numbered handed is_found = rw numbered (by (node_at c.world.nodes sent.to) handed)
+  where
+    by : (o : Option world.Node) → HasHanded line c after texts sent.to (λ w. datagram_deed w t sent.from sent.octets) o found
+        → IsOutcome (outcome_by c line (Ok (delivered_to c.world t sent o))) after texts None
+    by None h = absurd (let no : true ≡ false = sym is_found ∙ h.0 in cc)
+    by (Some w) h = (h.1, h.2)
+
+-- no datagram has the number
+pub not_delivered : (line t number : ℕ) (c : Course) (after : Course → Type 0) (texts : List (List ℕ)) → datagram_numbered number c.world.sent ≡ None
+    → IsOutcome (outcome_by c line (step c.world (commands.Deliver t number))) after texts (Some causes.Number)
+unfolding step
+not_delivered line t number c after texts none = rw none refl
+
+-- one that is handed to a node as from an address is received there, or no node is there
+pub received_there : (line t ip from : ℕ) (octets : List ℕ) (c : Course) (after : Course → Type 0) (texts : List (List ℕ)) (found : Bool)
+    → HasHanded line c after texts ip (λ w. datagram_deed w t from octets) (node_at c.world.nodes ip) found
+    → found ≡ true
+    → IsOutcome (outcome_by c line (step c.world (commands.Receive t ip from octets))) after texts None
+unfolding step
+received_there line t ip from octets c after texts found handed is_found = by (node_at c.world.nodes ip) handed
+  where
+    by : (o : Option world.Node) → HasHanded line c after texts ip (λ w. datagram_deed w t from octets) o found
+        → IsOutcome (outcome_by c line (or_cause causes.Node o >>= λ node. Ok (done_by c.world ip (datagram_deed node t from octets)))) after texts None
+    by None h = absurd (let no : true ≡ false = sym is_found ∙ h.0 in cc)
+    by (Some w) h = (h.1, h.2)
+
+pub received_nowhere : (line t ip from : ℕ) (octets : List ℕ) (c : Course) (after : Course → Type 0) (texts : List (List ℕ)) (found : Bool)
+    → HasHanded line c after texts ip (λ w. datagram_deed w t from octets) (node_at c.world.nodes ip) found
+    → found ≡ false
+    → IsOutcome (outcome_by c line (step c.world (commands.Receive t ip from octets))) after texts (Some causes.Node)
+unfolding step
+received_nowhere line t ip from octets c after texts found handed not_found = by (node_at c.world.nodes ip) handed
+  where
+    by : (o : Option world.Node) → HasHanded line c after texts ip (λ w. datagram_deed w t from octets) o found
+        → IsOutcome (outcome_by c line (or_cause causes.Node o >>= λ node. Ok (done_by c.world ip (datagram_deed node t from octets)))) after texts (Some causes.Node)
+    by None h = refl
+    by (Some w) h = absurd (let no : false ≡ true = sym not_found ∙ h.0 in cc)

@@ -109,19 +109,21 @@ impl Lab {
             (map (λ j. held (j.vtable, j.value)) self.new.stock.gaps.items) self.new)
             texts.new (commands.Deliver at number)) }
     {
-        let Some(sent) = datagram_of(&self.sent, number) else {
-            return Ok(Some(Cause::Number));
+        let sent = match datagram_of(&self.sent, number) {
+            None => return Ok(Some(Cause::Number)),
+            Some(sent) => sent,
         };
         let (to, from) = (sent.to, sent.from);
         let octets = Vec::from_slice(alloc, sent.octets.bytes())?;
-        if !self.hand(alloc, at, to, from, &octets, line, texts)? {
-            self.has_begun = true;
-            let statement = Statement::Nobody;
-            texts.add(&ReportLine::At {
-                number: line,
-                statement,
-            })?;
+        if self.hand(alloc, at, to, from, &octets, line, texts)? {
+            return Ok(None);
         }
+        self.has_begun = true;
+        let statement = Statement::Nobody;
+        texts.add(&ReportLine::At {
+            number: line,
+            statement,
+        })?;
         Ok(None)
     }
 }
