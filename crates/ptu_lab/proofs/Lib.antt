@@ -2,3 +2,4 @@ pub mod ShowCauses
 pub mod LabNodes
 pub mod LabCommands
 pub mod LabStock
+pub mod LabMasters

@@ -11,6 +11,8 @@ use Rattle.ptu_report_lines.specs.declared.sent.Sent.{Sent}
 use Rattle.ptu_world.specs.Deeds.{Deed, Grandmaster, Node, Slave}
 use Rattle.ptu_world.specs.World.{Done, Stock, World, done_by, grandmaster_by, node_at, place_in, quietly, set_up, slave_by, step, stock_without}
 use Rattle.ptu_world.specs.Report.{Course, course_after, outcome_by, text_at}
+use Rattle.ptu_lab.specs.declared.lab.Node.{Node as LabNode}
+use Rattle.ptu_lab.specs.declared.lab.Node.TheVariants as nodes
 use Rattle.ptu_lab.specs.Doing.{HasDone}
 
 -- whatever the course was, a lab that stood for it has come to stand for what the command makes of it, and has added the texts
@@ -80,3 +82,9 @@ module _ (is_node : Node → Type 0) (ip line : ℕ) (sent sent' : List Sent) (t
   HasActedWithJudge flags gaps (Ok deed) (Ok left) (Some found) = ⊥
   HasActedWithJudge flags gaps (Ok deed) (Err cause) None = ⊥
   HasActedWithJudge flags gaps (Err cause) left None = ⊥
+
+-- what is found at an address is no slave
+abbrev pub IsNoSlave : {J : Type 0} {I : J → Type 0} → Option (LabNode J I) → Type 0
+IsNoSlave None = Unit {0}
+IsNoSlave (Some (nodes.Grandmaster node)) = Unit {0}
+IsNoSlave (Some (nodes.Slave node)) = ⊥

@@ -1,10 +1,13 @@
 //! The lab's nodes are set up.
-ghost use Rattle.std.specs.Prelude.{◌≡◌, ℕ, [], map, false, IfOk};
+ghost use Rattle.std.specs.Prelude.{◌≡◌, ℕ, [], map, false, cond, nat_eq, Some, None, IfOk};
+ghost use Rattle.std.specs.Option.{MatchOption};
+ghost use Rattle.std.specs.HashMap.{get};
 ghost use Rattle.ptu_script.specs.Limits.{IsGrandmasterWithin, IsNamed, IsSlaveWithin};
 ghost use Rattle.ptu_script.specs.declared.command.Command.TheVariants as commands;
 ghost use Rattle.ptu_world.specs.Deeds as world;
 ghost use Rattle.ptu_world.specs.Report.{Course};
-ghost use Rattle.ptu_lab.specs.LabSteps.{HasSetUp, HasStepped};
+ghost use Rattle.ptu_lab.specs.declared.lab.Node.TheVariants as described;
+ghost use Rattle.ptu_lab.specs.LabSteps.{HasSetUp, HasStepped, IsNoSlave};
 ghost use Rattle.ptu_lab.specs.Standing.{StandsAs, StandsFor};
 
 use crate::grandmaster_node::GrandmasterNode;
@@ -15,6 +18,20 @@ use ptu_judges::Rule;
 use ptu_script::{Cause, GrandmasterSetup, SlaveSetup};
 use ptu_units::OutOfMemory;
 use std::alloc::Global;
+use std::collections::HashMap;
+
+// Takes the slave at an address out, if one is there; what else is there is lost.
+fn take_slave(nodes: &mut HashMap<u32, Node>, ip: u32) -> Option<SlaveNode>
+    ensures found { MatchOption result (IsNoSlave (get nat_eq nodes.old ip))
+        (λ node. get nat_eq nodes.old ip ≡ Some (described.Slave node)) }
+    ensures others { (q : ℕ) → get nat_eq nodes.new q
+        ≡ cond (nat_eq ip q) None (get nat_eq nodes.old q) }
+{
+    match nodes.remove(&ip) {
+        None | Some(Node::Grandmaster(_)) => None,
+        Some(Node::Slave(node)) => Some(node),
+    }
+}
 
 impl Lab {
     // A new node at an address that no other has, before the first event.
@@ -115,8 +132,9 @@ impl Lab {
         if self.has_begun {
             return Ok(Some(Cause::Order));
         }
-        let Some(Node::Slave(node)) = self.nodes.remove(&slave) else {
-            return Ok(Some(Cause::Node));
+        let node = match take_slave(&mut self.nodes, slave) {
+            None => return Ok(Some(Cause::Node)),
+            Some(node) => node,
         };
         if node.place(ip).is_some() {
             return Ok(Some(Cause::Node));
@@ -124,8 +142,9 @@ impl Lab {
         if node.masters() >= 16 {
             return Ok(Some(Cause::Full));
         }
-        let Some(judge) = take_judge(&mut self.stock, rule) else {
-            return Ok(Some(Cause::Stock));
+        let judge = match take_judge(&mut self.stock, rule) {
+            None => return Ok(Some(Cause::Stock)),
+            Some(judge) => judge,
         };
         let node = node.with_master(alloc, ip, priority, judge)?;
         self.nodes.insert(slave, Node::Slave(node))?;
