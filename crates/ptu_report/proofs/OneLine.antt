@@ -11,8 +11,8 @@ use Rattle.ptu_lines.specs.Script.{ScriptLine, Whole, Refused, lines_from, piece
 use Rattle.ptu_lines.specs.Reading.{Reader, IsAllGiven, IsGiven, IsRefused, lines_left}
 use Rattle.ptu_report.specs.declared.ending.Ending.{Ending}
 use Rattle.ptu_report.specs.declared.ending.Ending.TheVariants as endings
-use Rattle.ptu_report.specs.Rules.{Rules, Outcome, Goes, Refuses, IsOutcome, closing, ending_after, ending_at, texts_at, texts_until}
-use Rattle.ptu_report.specs.Step.{HasEnded, HasGone, texts_taken}
+use Rattle.ptu_report.specs.Rules.{Rules, Outcome, Goes, Refuses, IsOutcome, closing, ending_after, ending_at, meaning_after, meaning_at, texts_at, texts_until}
+use Rattle.ptu_report.specs.Step.{HasEnded, HasGone, is_whole, texts_taken}
 use Rattle.ptu_report.proofs.Underway.{left_behind}
 
 -- at its end a script has no line left
@@ -69,6 +69,16 @@ module _ {K : Type 0} (written : K → Option (List ℕ)) (handed : K → Option
   closed_at old new number (Refuses cause) given None whole h e put = absurd h
   closed_at old new number (Refuses cause) given (Some found) whole h e put = absurd (let never : Some found ≡ None = e in cc)
 
+  -- what the state stands for then
+  pub meaning_closed_at : (o : Outcome M C) (given : List (List ℕ)) (taken : Option C) → IsOutcome o stands given taken → IfSome (meaning_at o Some) stands
+  meaning_closed_at (Goes after texts) given None h = h.0
+  meaning_closed_at (Goes after texts) given (Some found) h = absurd h
+  meaning_closed_at (Refuses cause) given taken h = tt
+
+  -- a refused line is no whole ending
+  never_whole : (ending : Ending C) (number : ℕ) (cause : C) → ending ≡ endings.Refused number cause → is_whole ending → ⊥
+  never_whole ending number cause is whole = subst is_whole is whole
+
   module _ (m : M) (from to : Reader) (left left' : Option (List ℕ)) where
     -- a line was given, and the program goes on
     pub goes : (number : ℕ) (old new : K) (given : List (List ℕ)) (taken : Option C) → IsGiven number from to left left' → IsOutcome (rules.step m number to.text) stands given taken → taken ≡ None
@@ -116,7 +126,7 @@ module _ {K : Type 0} (written : K → Option (List ℕ)) (handed : K → Option
 
       pub line_refused : (number : ℕ) (old mid new : K) (given : List (List ℕ)) (taken : Option C) (cause : C) (ending : Ending C) → IsGiven number from to left left' → IsOutcome (rules.step m number to.text) stands given taken → taken ≡ Some cause
           → HasPut written handed old mid (texts_taken given taken) → HasPut written handed mid new (rules.refusal number cause ∷ []) → ending ≡ endings.Refused number cause
-          → HasEnded written handed old new rules m from to left left' ending lines
+          → HasEnded written handed old new rules m from to left left' stands ending lines
       line_refused number old mid new given taken cause ending g h e put last is =
           let f = first_line number g in
           let r = refused_at old mid new (from.number + 1) (rules.step m (from.number + 1) to.text) given taken cause (λ after. texts_until rules (closing rules) after (from.number + 1) f.0)
@@ -125,6 +135,7 @@ module _ {K : Type 0} (written : K → Option (List ℕ)) (handed : K → Option
           record {
             put = subst (λ ls. HasPut written handed old new (texts_until rules (closing rules) m from.number ls)) (sym f.1) r.0;
             ends = is ∙ (ap (λ n. endings.Refused n cause) g.number_is ∙ (r.1 ∙ ap (ending_after rules m from.number) (sym f.1)));
+            last = λ whole. absurd (never_whole ending number cause is whole);
           }
 
       -- the reader refused the line
@@ -132,11 +143,12 @@ module _ {K : Type 0} (written : K → Option (List ℕ)) (handed : K → Option
       refused_line number cause g = subst (λ o. IfSome o (λ ls. ls ≡ Refused cause ∷ [])) told g.told
 
       pub reading_refused : (number : ℕ) (cause : LineCause) (found : C) (old new : K) (ending : Ending C) → IsRefused number cause from to left left' → found ≡ rules.cause_of cause
-          → HasPut written handed old new (rules.refusal number found ∷ []) → ending ≡ endings.Refused number found → HasEnded written handed old new rules m from to left left' ending lines
+          → HasPut written handed old new (rules.refusal number found ∷ []) → ending ≡ endings.Refused number found → HasEnded written handed old new rules m from to left left' stands ending lines
       reading_refused number cause found old new ending g same last is = record {
         put = subst (λ ls. HasPut written handed old new (texts_until rules (closing rules) m from.number ls)) (sym (refused_line number cause g))
             (subst (λ n. HasPut written handed old new (rules.refusal n (rules.cause_of cause) ∷ [])) g.number_is (subst (λ x. HasPut written handed old new (rules.refusal number x ∷ [])) same last));
         ends = is ∙ (ap (endings.Refused number) same ∙ (ap (λ n. endings.Refused n (rules.cause_of cause)) g.number_is ∙ ap (ending_after rules m from.number) (sym (refused_line number cause g))));
+        last = λ whole. absurd (never_whole ending number found is whole);
       }
 
       pub reading_refused_in_part : (number : ℕ) (cause : LineCause) (found : C) (old new : K) → IsRefused number cause from to left left' → found ≡ rules.cause_of cause
@@ -166,20 +178,23 @@ module _ {K : Type 0} (written : K → Option (List ℕ)) (handed : K → Option
 
         pub end_refused : (old mid new : K) (given : List (List ℕ)) (taken : Option C) (cause : C) (ending : Ending C) → IsOutcome (rules.close m count) stands given taken → taken ≡ Some cause
             → HasPut written handed old mid (texts_taken given taken) → HasPut written handed mid new (rules.refusal (count + 1) cause ∷ []) → ending ≡ endings.Refused (count + 1) cause
-            → HasEnded written handed old new rules m from to left left' ending lines
+            → HasEnded written handed old new rules m from to left left' stands ending lines
         end_refused old mid new given taken cause ending h e put last is =
             let r = refused_at old mid new (from.number + 1) (rules.close m from.number) given taken cause (λ after. []) (λ after. endings.Whole from.number)
             (subst (λ n. IsOutcome (rules.close m n) stands given taken) (sym same) h) e put (subst (λ n. HasPut written handed mid new (rules.refusal (n + 1) cause ∷ [])) (sym same) last) in
             record {
               put = subst (λ ls. HasPut written handed old new (texts_until rules (closing rules) m from.number ls)) (sym nothing) r.0;
               ends = is ∙ (ap (λ n. endings.Refused (n + 1) cause) (sym same) ∙ (r.1 ∙ ap (ending_after rules m from.number) (sym nothing)));
+              last = λ whole. absurd (never_whole ending (count + 1) cause is whole);
             }
 
         pub end_whole : (old new : K) (given : List (List ℕ)) (taken : Option C) → IsOutcome (rules.close m count) stands given taken → taken ≡ None → HasPut written handed old new (texts_taken given taken)
-            → HasEnded written handed old new rules m from to left left' (endings.Whole count) lines
+            → HasEnded written handed old new rules m from to left left' stands (endings.Whole count) lines
         end_whole old new given taken h e put =
             let r = closed_at old new (from.number + 1) (rules.close m from.number) given taken (endings.Whole from.number) (subst (λ n. IsOutcome (rules.close m n) stands given taken) (sym same) h) e put in
             record {
               put = subst (λ ls. HasPut written handed old new (texts_until rules (closing rules) m from.number ls)) (sym nothing) r.0;
               ends = ap endings.Whole (sym same) ∙ (r.1 ∙ ap (ending_after rules m from.number) (sym nothing));
+              last = λ whole. subst (λ ls. IfSome (meaning_after rules m from.number ls) stands) (sym nothing)
+                  (meaning_closed_at (rules.close m from.number) given taken (subst (λ n. IsOutcome (rules.close m n) stands given taken) (sym same) h));
             }

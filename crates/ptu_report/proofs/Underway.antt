@@ -1,5 +1,6 @@
 -- A program over lines that is under way: what was put, and the output for the lines that are left, are the whole one.
 use Rattle.std.proofs.Common.{◌≡◌, ◌∙◌, ℕ, ◌+◌, ◌≤◌, List, [], ◌∷◌, ◌++◌, length, map, Option, Some, None, refl, sym, ap, subst, append_assoc, length-append, arith}
+use Rattle.std.specs.Prelude.{IfSome}
 use Rattle.std.specs.Option.{option_map}
 use Rattle.std.specs.Io.KnownBytes.{prepend_known}
 use Rattle.std.proofs.lemmas.List.{append-nil, map-append}
@@ -9,9 +10,9 @@ use Rattle.ptu_lines.specs.Script.{ScriptLine, Whole, script_lines, text_of}
 use Rattle.ptu_lines.specs.Reading.{Reader, Gives, IsFresh, IsStopped, lines_left, octets_taken}
 use Rattle.ptu_lines.proofs.Giving.{Gives-append, Gives-none, fresh_lines}
 use Rattle.ptu_report.specs.declared.ending.Ending.{Ending}
-use Rattle.ptu_report.specs.Rules.{Rules, Goes, closing, ending_after, ending_at, ending_of, texts_at, texts_of, texts_of_lines, texts_until}
+use Rattle.ptu_report.specs.Rules.{Rules, Goes, closing, ending_after, ending_at, ending_of, meaning_after, meaning_at, meaning_of, texts_at, texts_of, texts_of_lines, texts_until}
 use Rattle.ptu_report.specs.Reported.{HasReported, HasReportedAllRead, whole_lines}
-use Rattle.ptu_report.specs.Step.{HasEnded, HasGone}
+use Rattle.ptu_report.specs.Step.{HasEnded, HasGone, is_whole}
 use Rattle.ptu_report.proofs.WholeLines.{whole_are}
 
 -- lines that were given
@@ -23,9 +24,10 @@ module _ {M C : Type 0} (rules : Rules M C) where
   pub record Ran (first : M) (lines : List (List ℕ)) (after : M) (texts : List (List ℕ)) : Type 0 where
     pub whole : (last : M → ℕ → List (List ℕ)) (rest : List ScriptLine) → texts_until rules last first 0 (given lines ++ rest) ≡ texts ++ texts_until rules last after (length lines) rest
     pub ends : (rest : List ScriptLine) → ending_after rules first 0 (given lines ++ rest) ≡ ending_after rules after (length lines) rest
+    pub means : (rest : List ScriptLine) → meaning_after rules first 0 (given lines ++ rest) ≡ meaning_after rules after (length lines) rest
 
   pub Ran-start : (first : M) → Ran first [] first []
-  Ran-start first = record { whole = λ last rest. refl; ends = λ rest. refl }
+  Ran-start first = record { whole = λ last rest. refl; ends = λ rest. refl; means = λ rest. refl }
 
   pub Ran-more : (first : M) (lines : List (List ℕ)) (m : M) (texts : List (List ℕ)) (line : List ℕ) (after : M) (more : List (List ℕ)) → Ran first lines m texts
       → rules.step m (length lines + 1) (text_of line) ≡ Goes after more → Ran first (lines ++ line ∷ []) after (texts ++ more)
@@ -39,6 +41,10 @@ module _ {M C : Type 0} (rules : Rules M C) where
         ap (ending_after rules first 0) (behind rest) ∙ (ran.ends (Whole (text_of line) ∷ rest)
         ∙ (ap (λ o. ending_at (length lines + 1) o (λ m'. ending_after rules m' (length lines + 1) rest)) step
         ∙ ap (λ n. ending_after rules after n rest) count));
+    means = λ rest.
+        ap (meaning_after rules first 0) (behind rest) ∙ (ran.means (Whole (text_of line) ∷ rest)
+        ∙ (ap (λ o. meaning_at o (λ m'. meaning_after rules m' (length lines + 1) rest)) step
+        ∙ ap (λ n. meaning_after rules after n rest) count));
   }
     where
       behind : (rest : List ScriptLine) → given (lines ++ line ∷ []) ++ rest ≡ given lines ++ (Whole (text_of line) ∷ rest)
@@ -108,14 +114,22 @@ module _ {K : Type 0} (written : K → Option (List ℕ)) (handed : K → Option
       texts_are = ap (texts_of rules first) behind.2 ∙ (p.ran.whole (closing rules) behind.0 ∙ ap (λ n. p.texts ++ texts_until rules (closing rules) p.after n behind.0) (sym number_is))
 
       -- the output was put to its end
-      pub ended : (to : Reader) (left'' : Option (List ℕ)) (next : K) (ending : Ending C) → ((lines : List ScriptLine) → lines_left now left' ≡ Some lines → HasEnded written handed sink next rules p.after now to left' left'' ending lines)
+      pub ended : (stands' : M → Type 0) (to : Reader) (left'' : Option (List ℕ)) (next : K) (ending : Ending C) → ((lines : List ScriptLine) → lines_left now left' ≡ Some lines → HasEnded written handed sink next rules p.after now to left' left'' stands' ending lines)
           → HasReported written handed old next rules first (script_lines input) ending
-      ended to left'' next ending e =
+      ended stands' to left'' next ending e =
           let end = e behind.0 behind.1 in
           record {
             put = subst (HasPut written handed old next) (sym texts_are) (HasPut-append written handed old sink next p.texts (texts_until rules (closing rules) p.after now.number behind.0) p.put end.put);
             ends = end.ends ∙ (ap (λ n. ending_after rules p.after n behind.0) number_is ∙ (sym (p.ran.ends behind.0) ∙ ap (ending_of rules first) (sym behind.2)));
           }
+
+      -- and the state stands for what all lines lead to
+      pub means_last : (stands' : M → Type 0) (to : Reader) (left'' : Option (List ℕ)) (next : K) (ending : Ending C) → ((lines : List ScriptLine) → lines_left now left' ≡ Some lines → HasEnded written handed sink next rules p.after now to left' left'' stands' ending lines)
+          → is_whole ending → IfSome (meaning_of rules first (script_lines input)) stands'
+      means_last stands' to left'' next ending e whole =
+          let is : meaning_of rules first (script_lines input) ≡ meaning_after rules p.after now.number behind.0 =
+          ap (meaning_of rules first) behind.2 ∙ (p.ran.means behind.0 ∙ ap (λ n. meaning_after rules p.after n behind.0) (sym number_is)) in
+          subst (λ o. IfSome o stands') (sym is) ((e behind.0 behind.1).last whole)
 
       -- and where it stopped before
       pub in_part : (next : K) → ((lines : List ScriptLine) → lines_left now left' ≡ Some lines → HasPutPart written handed sink next (texts_until rules (closing rules) p.after now.number lines))

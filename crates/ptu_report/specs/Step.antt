@@ -1,11 +1,11 @@
 -- What one line of the input was to a program over lines.
-use Rattle.std.specs.Prelude.{◌≡◌, ℕ, ◌+◌, List, [], ◌∷◌, Option, Some, None}
+use Rattle.std.specs.Prelude.{◌≡◌, ℕ, ◌+◌, List, [], ◌∷◌, Option, Some, None, IfSome}
 use Rattle.ptu_outside.specs.Handing.{HasPut}
 use Rattle.ptu_lines.specs.Script.{ScriptLine, text_of}
 use Rattle.ptu_lines.specs.Reading.{Reader, Gives, lines_left}
 use Rattle.ptu_report.specs.declared.ending.Ending.{Ending}
 use Rattle.ptu_report.specs.declared.ending.Ending.TheVariants as endings
-use Rattle.ptu_report.specs.Rules.{Rules, Goes, closing, texts_until, ending_after}
+use Rattle.ptu_report.specs.Rules.{Rules, Goes, closing, texts_until, ending_after, meaning_after}
 
 -- the texts of a line that is not refused
 abbrev pub texts_taken : {C : Type 0} → List (List ℕ) → Option C → List (List ℕ)
@@ -28,12 +28,14 @@ module _ {K : Type 0} (written : K → Option (List ℕ)) (handed : K → Option
     pub stands_after : stands after
     pub put : HasPut written handed old new texts
 
-  -- the output of the lines that were left was put to its end
-  pub record HasEnded (ending : Ending C) (lines : List ScriptLine) : Type 0 where
+  -- the output of the lines that were left was put to its end, and where none of them is refused, the state stands for the
+  -- meaning that they lead to
+  pub record HasEnded (stands : M → Type 0) (ending : Ending C) (lines : List ScriptLine) : Type 0 where
     pub put : HasPut written handed old new (texts_until rules (closing rules) m from.number lines)
     pub ends : ending ≡ ending_after rules m from.number lines
+    pub last : is_whole ending → IfSome (meaning_after rules m from.number lines) stands
 
   -- one line more, or the end
   abbrev pub HasStepped : (M → Type 0) → Option (Ending C) → Type 0
   HasStepped stands None = HasGone stands
-  HasStepped stands (Some ending) = (lines : List ScriptLine) → lines_left from left ≡ Some lines → HasEnded ending lines
+  HasStepped stands (Some ending) = (lines : List ScriptLine) → lines_left from left ≡ Some lines → HasEnded stands ending lines

@@ -7,7 +7,7 @@ ghost use Rattle.ptu_outside.specs.Ends.{StopsAtEnd};
 ghost use Rattle.ptu_outside.specs.Handing.{HasPut, HasPutPart};
 ghost use Rattle.ptu_lines.specs.Script.{ScriptLine, script_lines};
 ghost use Rattle.ptu_lines.specs.Reading.{octets_taken, lines_left, AgreesOnEnd, Gives, IsReadToEnd, IsStopped};
-ghost use Rattle.ptu_report.specs.Rules.{closing, texts_of, texts_until};
+ghost use Rattle.ptu_report.specs.Rules.{closing, meaning_of, texts_of, texts_until};
 ghost use Rattle.ptu_report.specs.Stops.{CountsRead, CountsWrite};
 ghost use Rattle.ptu_report.specs.Reported.{HasReported, HasReportedAllRead};
 ghost use Rattle.ptu_report.specs.Step.{texts_taken, is_whole, HasStepped};
@@ -156,7 +156,7 @@ fn one_line<R: Reporter, S: Source, K: Sink>(
 ///
 /// # Errors
 /// `Read` exactly where the source failed, `Write` exactly where the sink failed, and
-/// `OutOfMemory`. No clause says what the reporter is then.
+/// `OutOfMemory`. No clause says what the reporter is then, nor after a line that was refused.
 pub fn report<R: Reporter, S: Source, K: Sink>(
     alloc: Global,
     reporter: &mut R,
@@ -170,6 +170,11 @@ pub fn report<R: Reporter, S: Source, K: Sink>(
         → HasReported K.written K.handed sink.old sink.new R.rules meaning
         (script_lines input) ending) }
     ensures end { IfOk result (λ ending. is_whole ending → IsAtEnd (S.left source.new)) }
+    // The reporter then stands for what all lines lead to.
+    ensures last { IfOk result (λ ending. is_whole ending
+        → (meaning : R.Meaning) → R.stands_for reporter.old meaning
+        → (input : List ℕ) → S.left source.old ≡ Some input
+        → IfSome (meaning_of R.rules meaning (script_lines input)) (R.stands_for reporter.new)) }
     // What was put when it stopped is a front of the output.
     ensures part { OnErr result ((meaning : R.Meaning) → R.stands_for reporter.old meaning
         → (input : List ℕ) → S.left source.old ≡ Some input

@@ -4,7 +4,7 @@ use Rattle.ptu_outside.proofs.Handing.{HasPutPart-none}
 use Rattle.ptu_lines.proofs.Giving.{Gives-append, Gives-none}
 use Rattle.ptu_report.specs.declared.stop.Stop.TheVariants.{Read}
 use Rattle.ptu_report.specs.Reported.{HasReportedAllRead}
-use Rattle.ptu_report.proofs.Underway.{Progress-start, all_read, ended, few_taken, in_part, one_more}
+use Rattle.ptu_report.proofs.Underway.{Progress-start, all_read, ended, few_taken, in_part, means_last, one_more}
 use Rattle.ptu_report.proofs.driver.report.Goals as goal
 
 pub returns-in_err-reader-clause-part : goal.returns-in_err-reader-clause-part
@@ -71,7 +71,12 @@ returns-in_err-ended-clause-taken g c =
 pub returns-in-Some-clause-whole : goal.returns-in-Some-clause-whole
 returns-in-Some-clause-whole g c = λ m st input told.
     let p = c.lines.invariant.progress m st in
-    ended g.K.Sink.written g.K.Sink.handed g.R.Reporter.rules (g.R.Reporter.stands_for c.lines.reporter) m c.in_ok-reader.reader c.lines.reader (g.S.Source.left c.args.source.now) (g.S.Source.left c.lines.source) c.args.sink.now c.lines.sink c.in_ok-reader.ensures p input told c.one_line.new.reader (g.S.Source.left c.one_line.new.source) c.one_line.new.sink c.in-Some.ending (rw c.in-Some.is at (c.in_ok-ended.ensures.stepped p.after p.stands_now))
+    ended g.K.Sink.written g.K.Sink.handed g.R.Reporter.rules (g.R.Reporter.stands_for c.lines.reporter) m c.in_ok-reader.reader c.lines.reader (g.S.Source.left c.args.source.now) (g.S.Source.left c.lines.source) c.args.sink.now c.lines.sink c.in_ok-reader.ensures p input told (g.R.Reporter.stands_for c.one_line.new.reporter) c.one_line.new.reader (g.S.Source.left c.one_line.new.source) c.one_line.new.sink c.in-Some.ending (rw c.in-Some.is at (c.in_ok-ended.ensures.stepped p.after p.stands_now))
+
+pub returns-in-Some-clause-last : goal.returns-in-Some-clause-last
+returns-in-Some-clause-last g c = λ whole m st input told.
+    let p = c.lines.invariant.progress m st in
+    means_last g.K.Sink.written g.K.Sink.handed g.R.Reporter.rules (g.R.Reporter.stands_for c.lines.reporter) m c.in_ok-reader.reader c.lines.reader (g.S.Source.left c.args.source.now) (g.S.Source.left c.lines.source) c.args.sink.now c.lines.sink c.in_ok-reader.ensures p input told (g.R.Reporter.stands_for c.one_line.new.reporter) c.one_line.new.reader (g.S.Source.left c.one_line.new.source) c.one_line.new.sink c.in-Some.ending (rw c.in-Some.is at (c.in_ok-ended.ensures.stepped p.after p.stands_now)) whole
 
 pub returns-in-Some-clause-taken : goal.returns-in-Some-clause-taken
 returns-in-Some-clause-taken g c =
