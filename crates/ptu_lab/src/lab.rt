@@ -7,6 +7,7 @@ ghost use Rattle.ptu_world.specs.Report.{Course, course_opening, outcome_by};
 ghost use Rattle.ptu_lab.specs.Standing.{StandsFor};
 
 use crate::grandmaster_node::GrandmasterNode;
+use crate::lab_stock::Reserve;
 use crate::slave_node::SlaveNode;
 use ptu_judges::Stock;
 use ptu_report::Texts;
@@ -29,7 +30,8 @@ pub struct Lab {
     pub nodes: HashMap<u32, Node>,
     /// The datagrams that were sent, in order.
     pub sent: Vec<Sent>,
-    pub stock: Stock,
+    /// The judges that are left.
+    pub stock: Reserve,
     /// Whether there was an event.
     pub has_begun: bool,
     /// Of how many asks it was said that they were granted.
@@ -41,17 +43,20 @@ pub struct Lab {
 impl Lab {
     /// The lab before the first line of a script: no node stands in it.
     pub fn new(alloc: Global, stock: Stock) -> Lab
-        requires { IsStock (map (λ j. held (j.vtable, j.value)) stock.flags.items)
-            (map (λ j. held (j.vtable, j.value)) stock.gaps.items) }
-        ensures opening { StandsFor (λ n. map (λ j. held (j.vtable, j.value)) n.slave.judges.items)
-            (map (λ j. held (j.vtable, j.value)) result.stock.flags.items)
-            (map (λ j. held (j.vtable, j.value)) result.stock.gaps.items) result (course_opening
+        requires { IsStock (map (λ j. held j) stock.flags.items)
+            (map (λ j. held j) stock.gaps.items) }
+        ensures opening { StandsFor (λ n. map (λ j. held j) n.slave.judges.items)
+            (map (λ j. held j) result.stock.flags.items)
+            (map (λ j. held j) result.stock.gaps.items) result (course_opening
             (record { flags = length stock.flags.items; gaps = length stock.gaps.items })) }
     {
         Lab {
             nodes: HashMap::new(alloc),
             sent: Vec::new(alloc),
-            stock,
+            stock: Reserve {
+                flags: stock.flags,
+                gaps: stock.gaps,
+            },
             has_begun: false,
             granted: 0,
             short: 0,
@@ -71,19 +76,19 @@ impl Lab {
         texts: &mut Texts,
     ) -> Result<Option<Cause>, OutOfMemory>
         requires means { (c : Course) × StandsFor
-            (λ n. map (λ j. held (j.vtable, j.value)) n.slave.judges.items)
-            (map (λ j. held (j.vtable, j.value)) self.old.stock.flags.items)
-            (map (λ j. held (j.vtable, j.value)) self.old.stock.gaps.items) self.old c }
+            (λ n. map (λ j. held j) n.slave.judges.items)
+            (map (λ j. held j) self.old.stock.flags.items)
+            (map (λ j. held j) self.old.stock.gaps.items) self.old c }
         requires limits { IsWithinLimits command }
         requires empty { texts.old ≡ [] }
         ensures { IfOk result (λ refused. (c : Course) →
-            StandsFor (λ n. map (λ j. held (j.vtable, j.value)) n.slave.judges.items)
-            (map (λ j. held (j.vtable, j.value)) self.old.stock.flags.items)
-            (map (λ j. held (j.vtable, j.value)) self.old.stock.gaps.items) self.old c →
+            StandsFor (λ n. map (λ j. held j) n.slave.judges.items)
+            (map (λ j. held j) self.old.stock.flags.items)
+            (map (λ j. held j) self.old.stock.gaps.items) self.old c →
             IsOutcome (outcome_by c line (step c.world command))
-            (λ after. StandsFor (λ n. map (λ j. held (j.vtable, j.value)) n.slave.judges.items)
-            (map (λ j. held (j.vtable, j.value)) self.new.stock.flags.items)
-            (map (λ j. held (j.vtable, j.value)) self.new.stock.gaps.items) self.new after)
+            (λ after. StandsFor (λ n. map (λ j. held j) n.slave.judges.items)
+            (map (λ j. held j) self.new.stock.flags.items)
+            (map (λ j. held j) self.new.stock.gaps.items) self.new after)
             texts.new refused) }
     {
         match command {

@@ -35,13 +35,13 @@ impl Lab {
     ) -> Result<bool, OutOfMemory>
         requires empty { texts.old ≡ [] }
         ensures { IfOk result (λ found. (c : Course) →
-            StandsFor (λ n. map (λ j. held (j.vtable, j.value)) n.slave.judges.items)
-            (map (λ j. held (j.vtable, j.value)) self.old.stock.flags.items)
-            (map (λ j. held (j.vtable, j.value)) self.old.stock.gaps.items) self.old c
+            StandsFor (λ n. map (λ j. held j) n.slave.judges.items)
+            (map (λ j. held j) self.old.stock.flags.items)
+            (map (λ j. held j) self.old.stock.gaps.items) self.old c
             → HasHanded line c
-            (StandsFor (λ n. map (λ j. held (j.vtable, j.value)) n.slave.judges.items)
-            (map (λ j. held (j.vtable, j.value)) self.new.stock.flags.items)
-            (map (λ j. held (j.vtable, j.value)) self.new.stock.gaps.items) self.new)
+            (StandsFor (λ n. map (λ j. held j) n.slave.judges.items)
+            (map (λ j. held j) self.new.stock.flags.items)
+            (map (λ j. held j) self.new.stock.gaps.items) self.new)
             texts.new ip (λ w. datagram_deed w at from octets.now) (node_at c.world.nodes ip) found) }
     {
         match self.nodes.get_mut(&ip) {
@@ -72,12 +72,12 @@ impl Lab {
     ) -> Result<Option<Cause>, OutOfMemory>
         requires empty { texts.old ≡ [] }
         ensures { IfOk result (HasStepped line
-            (StandsFor (λ n. map (λ j. held (j.vtable, j.value)) n.slave.judges.items)
-            (map (λ j. held (j.vtable, j.value)) self.old.stock.flags.items)
-            (map (λ j. held (j.vtable, j.value)) self.old.stock.gaps.items) self.old)
-            (StandsFor (λ n. map (λ j. held (j.vtable, j.value)) n.slave.judges.items)
-            (map (λ j. held (j.vtable, j.value)) self.new.stock.flags.items)
-            (map (λ j. held (j.vtable, j.value)) self.new.stock.gaps.items) self.new)
+            (StandsFor (λ n. map (λ j. held j) n.slave.judges.items)
+            (map (λ j. held j) self.old.stock.flags.items)
+            (map (λ j. held j) self.old.stock.gaps.items) self.old)
+            (StandsFor (λ n. map (λ j. held j) n.slave.judges.items)
+            (map (λ j. held j) self.new.stock.flags.items)
+            (map (λ j. held j) self.new.stock.gaps.items) self.new)
             texts.new (commands.Receive at ip from octets.now)) }
     {
         if self.hand(alloc, at, ip, from, octets, line, texts)? {
@@ -101,12 +101,12 @@ impl Lab {
     ) -> Result<Option<Cause>, OutOfMemory>
         requires empty { texts.old ≡ [] }
         ensures { IfOk result (HasStepped line
-            (StandsFor (λ n. map (λ j. held (j.vtable, j.value)) n.slave.judges.items)
-            (map (λ j. held (j.vtable, j.value)) self.old.stock.flags.items)
-            (map (λ j. held (j.vtable, j.value)) self.old.stock.gaps.items) self.old)
-            (StandsFor (λ n. map (λ j. held (j.vtable, j.value)) n.slave.judges.items)
-            (map (λ j. held (j.vtable, j.value)) self.new.stock.flags.items)
-            (map (λ j. held (j.vtable, j.value)) self.new.stock.gaps.items) self.new)
+            (StandsFor (λ n. map (λ j. held j) n.slave.judges.items)
+            (map (λ j. held j) self.old.stock.flags.items)
+            (map (λ j. held j) self.old.stock.gaps.items) self.old)
+            (StandsFor (λ n. map (λ j. held j) n.slave.judges.items)
+            (map (λ j. held j) self.new.stock.flags.items)
+            (map (λ j. held j) self.new.stock.gaps.items) self.new)
             texts.new (commands.Deliver at number)) }
     {
         let sent = match datagram_of(&self.sent, number) {

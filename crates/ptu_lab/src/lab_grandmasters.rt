@@ -28,12 +28,12 @@ impl Lab {
         requires table { table < 4 }
         requires empty { texts.old ≡ [] }
         ensures { IfOk result (HasStepped line
-            (StandsFor (λ n. map (λ j. held (j.vtable, j.value)) n.slave.judges.items)
-            (map (λ j. held (j.vtable, j.value)) self.old.stock.flags.items)
-            (map (λ j. held (j.vtable, j.value)) self.old.stock.gaps.items) self.old)
-            (StandsFor (λ n. map (λ j. held (j.vtable, j.value)) n.slave.judges.items)
-            (map (λ j. held (j.vtable, j.value)) self.new.stock.flags.items)
-            (map (λ j. held (j.vtable, j.value)) self.new.stock.gaps.items) self.new)
+            (StandsFor (λ n. map (λ j. held j) n.slave.judges.items)
+            (map (λ j. held j) self.old.stock.flags.items)
+            (map (λ j. held j) self.old.stock.gaps.items) self.old)
+            (StandsFor (λ n. map (λ j. held j) n.slave.judges.items)
+            (map (λ j. held j) self.new.stock.flags.items)
+            (map (λ j. held j) self.new.stock.gaps.items) self.new)
             texts.new (commands.Turn at grandmaster table)) }
     {
         match self.nodes.get_mut(&grandmaster) {
@@ -49,12 +49,12 @@ impl Lab {
     /// The clockClass of the grandmaster at an address changes. Nothing is said of it.
     pub fn set_class(&mut self, grandmaster: u32, class: u8) -> Option<Cause>
         ensures { (line : ℕ) → HasStepped line
-            (StandsFor (λ n. map (λ j. held (j.vtable, j.value)) n.slave.judges.items)
-            (map (λ j. held (j.vtable, j.value)) self.old.stock.flags.items)
-            (map (λ j. held (j.vtable, j.value)) self.old.stock.gaps.items) self.old)
-            (StandsFor (λ n. map (λ j. held (j.vtable, j.value)) n.slave.judges.items)
-            (map (λ j. held (j.vtable, j.value)) self.new.stock.flags.items)
-            (map (λ j. held (j.vtable, j.value)) self.new.stock.gaps.items) self.new)
+            (StandsFor (λ n. map (λ j. held j) n.slave.judges.items)
+            (map (λ j. held j) self.old.stock.flags.items)
+            (map (λ j. held j) self.old.stock.gaps.items) self.old)
+            (StandsFor (λ n. map (λ j. held j) n.slave.judges.items)
+            (map (λ j. held j) self.new.stock.flags.items)
+            (map (λ j. held j) self.new.stock.gaps.items) self.new)
             [] (commands.Class grandmaster class) result }
     {
         match self.nodes.get_mut(&grandmaster) {
@@ -84,12 +84,12 @@ impl Lab {
         requires capacity { IsCapacity capacity }
         requires empty { texts.old ≡ [] }
         ensures { IfOk result (HasStepped line
-            (StandsFor (λ n. map (λ j. held (j.vtable, j.value)) n.slave.judges.items)
-            (map (λ j. held (j.vtable, j.value)) self.old.stock.flags.items)
-            (map (λ j. held (j.vtable, j.value)) self.old.stock.gaps.items) self.old)
-            (StandsFor (λ n. map (λ j. held (j.vtable, j.value)) n.slave.judges.items)
-            (map (λ j. held (j.vtable, j.value)) self.new.stock.flags.items)
-            (map (λ j. held (j.vtable, j.value)) self.new.stock.gaps.items) self.new)
+            (StandsFor (λ n. map (λ j. held j) n.slave.judges.items)
+            (map (λ j. held j) self.old.stock.flags.items)
+            (map (λ j. held j) self.old.stock.gaps.items) self.old)
+            (StandsFor (λ n. map (λ j. held j) n.slave.judges.items)
+            (map (λ j. held j) self.new.stock.flags.items)
+            (map (λ j. held j) self.new.stock.gaps.items) self.new)
             texts.new (commands.Capacity at grandmaster capacity)) }
     {
         match self.nodes.get_mut(&grandmaster) {

@@ -14,9 +14,9 @@ ghost use Rattle.ptu_lab.specs.LabSteps.{HasActed, HasActedWithJudge, of_grandma
 ghost use Rattle.ptu_lab.specs.Standing.{StandsAs};
 
 use crate::lab::Node;
-use crate::lab_stock::take_judge;
+use crate::lab_stock::{Reserve, take_judge};
 use crate::tally::Tally;
-use ptu_judges::{Rule, Stock};
+use ptu_judges::Rule;
 use ptu_report::Texts;
 use ptu_report_lines::Sent;
 use ptu_script::Cause;
@@ -221,25 +221,25 @@ impl Node {
         at: Moment,
         master: u32,
         rule: Rule,
-        stock: &mut Stock,
+        stock: &mut Reserve,
         line: u64,
         texts: &mut Texts,
         sent: &[Sent],
     ) -> Result<Option<Cause>, OutOfMemory>
-        requires stock { IsStock (map (λ j. held (j.vtable, j.value)) stock.old.flags.items)
-            (map (λ j. held (j.vtable, j.value)) stock.old.gaps.items) }
+        requires stock { IsStock (map (λ j. held j) stock.old.flags.items)
+            (map (λ j. held j) stock.old.gaps.items) }
         requires named { IsNamed rule }
         ensures { IfOk result (λ refused. (ip : ℕ) (begun : Bool) (w : world.Node) →
-            StandsAs (λ n. map (λ j. held (j.vtable, j.value)) n.slave.judges.items) ip begun self.old w
+            StandsAs (λ n. map (λ j. held j) n.slave.judges.items) ip begun self.old w
             → HasActedWithJudge (StandsAs
-            (λ n. map (λ j. held (j.vtable, j.value)) n.slave.judges.items) ip true self.new)
+            (λ n. map (λ j. held j) n.slave.judges.items) ip true self.new)
             ip line sent.now sent.now texts.old texts.new
-            (map (λ j. held (j.vtable, j.value)) stock.new.flags.items)
-            (map (λ j. held (j.vtable, j.value)) stock.new.gaps.items)
+            (map (λ j. held j) stock.new.flags.items)
+            (map (λ j. held j) stock.new.gaps.items)
             (of_master master (λ s m. plain_deed s at (ReplaceJudge m (Some rule))) w)
             (stock_without rule (stock_of
-            (map (λ j. held (j.vtable, j.value)) stock.old.flags.items)
-            (map (λ j. held (j.vtable, j.value)) stock.old.gaps.items))) refused) }
+            (map (λ j. held j) stock.old.flags.items)
+            (map (λ j. held j) stock.old.gaps.items))) refused) }
     {
         let Node::Slave(node) = self else {
             return Ok(Some(Cause::Node));

@@ -37,14 +37,14 @@ impl Lab {
     // A new node at an address that no other has, before the first event.
     fn set_up(&mut self, ip: u32, node: Node) -> Result<Option<Cause>, OutOfMemory>
         ensures { IfOk result (λ refused. (w : world.Node) →
-            StandsAs (λ n. map (λ j. held (j.vtable, j.value)) n.slave.judges.items) ip false node w
+            StandsAs (λ n. map (λ j. held j) n.slave.judges.items) ip false node w
             → HasSetUp
-            (StandsFor (λ n. map (λ j. held (j.vtable, j.value)) n.slave.judges.items)
-            (map (λ j. held (j.vtable, j.value)) self.old.stock.flags.items)
-            (map (λ j. held (j.vtable, j.value)) self.old.stock.gaps.items) self.old)
-            (StandsFor (λ n. map (λ j. held (j.vtable, j.value)) n.slave.judges.items)
-            (map (λ j. held (j.vtable, j.value)) self.new.stock.flags.items)
-            (map (λ j. held (j.vtable, j.value)) self.new.stock.gaps.items) self.new)
+            (StandsFor (λ n. map (λ j. held j) n.slave.judges.items)
+            (map (λ j. held j) self.old.stock.flags.items)
+            (map (λ j. held j) self.old.stock.gaps.items) self.old)
+            (StandsFor (λ n. map (λ j. held j) n.slave.judges.items)
+            (map (λ j. held j) self.new.stock.flags.items)
+            (map (λ j. held j) self.new.stock.gaps.items) self.new)
             ip w refused) }
     {
         if self.has_begun {
@@ -68,12 +68,12 @@ impl Lab {
     ) -> Result<Option<Cause>, OutOfMemory>
         requires limits { IsGrandmasterWithin setup.now }
         ensures { IfOk result (λ refused. (line : ℕ) → HasStepped line
-            (StandsFor (λ n. map (λ j. held (j.vtable, j.value)) n.slave.judges.items)
-            (map (λ j. held (j.vtable, j.value)) self.old.stock.flags.items)
-            (map (λ j. held (j.vtable, j.value)) self.old.stock.gaps.items) self.old)
-            (StandsFor (λ n. map (λ j. held (j.vtable, j.value)) n.slave.judges.items)
-            (map (λ j. held (j.vtable, j.value)) self.new.stock.flags.items)
-            (map (λ j. held (j.vtable, j.value)) self.new.stock.gaps.items) self.new)
+            (StandsFor (λ n. map (λ j. held j) n.slave.judges.items)
+            (map (λ j. held j) self.old.stock.flags.items)
+            (map (λ j. held j) self.old.stock.gaps.items) self.old)
+            (StandsFor (λ n. map (λ j. held j) n.slave.judges.items)
+            (map (λ j. held j) self.new.stock.flags.items)
+            (map (λ j. held j) self.new.stock.gaps.items) self.new)
             [] (commands.Grandmaster setup.now) refused) }
     {
         let node = GrandmasterNode::new(alloc, setup);
@@ -91,12 +91,12 @@ impl Lab {
     ) -> Result<Option<Cause>, OutOfMemory>
         requires limits { IsSlaveWithin setup.now }
         ensures { IfOk result (λ refused. (line : ℕ) → HasStepped line
-            (StandsFor (λ n. map (λ j. held (j.vtable, j.value)) n.slave.judges.items)
-            (map (λ j. held (j.vtable, j.value)) self.old.stock.flags.items)
-            (map (λ j. held (j.vtable, j.value)) self.old.stock.gaps.items) self.old)
-            (StandsFor (λ n. map (λ j. held (j.vtable, j.value)) n.slave.judges.items)
-            (map (λ j. held (j.vtable, j.value)) self.new.stock.flags.items)
-            (map (λ j. held (j.vtable, j.value)) self.new.stock.gaps.items) self.new)
+            (StandsFor (λ n. map (λ j. held j) n.slave.judges.items)
+            (map (λ j. held j) self.old.stock.flags.items)
+            (map (λ j. held j) self.old.stock.gaps.items) self.old)
+            (StandsFor (λ n. map (λ j. held j) n.slave.judges.items)
+            (map (λ j. held j) self.new.stock.flags.items)
+            (map (λ j. held j) self.new.stock.gaps.items) self.new)
             [] (commands.Slave setup.now) refused) }
     {
         let node = SlaveNode::new(alloc, setup)?;
@@ -116,17 +116,17 @@ impl Lab {
         rule: Rule,
     ) -> Result<Option<Cause>, OutOfMemory>
         requires means { (c : Course) × StandsFor
-            (λ n. map (λ j. held (j.vtable, j.value)) n.slave.judges.items)
-            (map (λ j. held (j.vtable, j.value)) self.old.stock.flags.items)
-            (map (λ j. held (j.vtable, j.value)) self.old.stock.gaps.items) self.old c }
+            (λ n. map (λ j. held j) n.slave.judges.items)
+            (map (λ j. held j) self.old.stock.flags.items)
+            (map (λ j. held j) self.old.stock.gaps.items) self.old c }
         requires named { IsNamed rule }
         ensures { IfOk result (λ refused. (line : ℕ) → HasStepped line
-            (StandsFor (λ n. map (λ j. held (j.vtable, j.value)) n.slave.judges.items)
-            (map (λ j. held (j.vtable, j.value)) self.old.stock.flags.items)
-            (map (λ j. held (j.vtable, j.value)) self.old.stock.gaps.items) self.old)
-            (StandsFor (λ n. map (λ j. held (j.vtable, j.value)) n.slave.judges.items)
-            (map (λ j. held (j.vtable, j.value)) self.new.stock.flags.items)
-            (map (λ j. held (j.vtable, j.value)) self.new.stock.gaps.items) self.new)
+            (StandsFor (λ n. map (λ j. held j) n.slave.judges.items)
+            (map (λ j. held j) self.old.stock.flags.items)
+            (map (λ j. held j) self.old.stock.gaps.items) self.old)
+            (StandsFor (λ n. map (λ j. held j) n.slave.judges.items)
+            (map (λ j. held j) self.new.stock.flags.items)
+            (map (λ j. held j) self.new.stock.gaps.items) self.new)
             [] (commands.Master slave ip priority rule) refused) }
     {
         if self.has_begun {

@@ -28,12 +28,12 @@ impl Lab {
     ) -> Result<Option<Cause>, OutOfMemory>
         requires empty { texts.old ≡ [] }
         ensures { IfOk result (HasStepped line
-            (StandsFor (λ n. map (λ j. held (j.vtable, j.value)) n.slave.judges.items)
-            (map (λ j. held (j.vtable, j.value)) self.old.stock.flags.items)
-            (map (λ j. held (j.vtable, j.value)) self.old.stock.gaps.items) self.old)
-            (StandsFor (λ n. map (λ j. held (j.vtable, j.value)) n.slave.judges.items)
-            (map (λ j. held (j.vtable, j.value)) self.new.stock.flags.items)
-            (map (λ j. held (j.vtable, j.value)) self.new.stock.gaps.items) self.new)
+            (StandsFor (λ n. map (λ j. held j) n.slave.judges.items)
+            (map (λ j. held j) self.old.stock.flags.items)
+            (map (λ j. held j) self.old.stock.gaps.items) self.old)
+            (StandsFor (λ n. map (λ j. held j) n.slave.judges.items)
+            (map (λ j. held j) self.new.stock.flags.items)
+            (map (λ j. held j) self.new.stock.gaps.items) self.new)
             texts.new (commands.Tick at slave)) }
     {
         match self.nodes.get_mut(&slave) {
@@ -60,12 +60,12 @@ impl Lab {
     ) -> Result<Option<Cause>, OutOfMemory>
         requires empty { texts.old ≡ [] }
         ensures { IfOk result (HasStepped line
-            (StandsFor (λ n. map (λ j. held (j.vtable, j.value)) n.slave.judges.items)
-            (map (λ j. held (j.vtable, j.value)) self.old.stock.flags.items)
-            (map (λ j. held (j.vtable, j.value)) self.old.stock.gaps.items) self.old)
-            (StandsFor (λ n. map (λ j. held (j.vtable, j.value)) n.slave.judges.items)
-            (map (λ j. held (j.vtable, j.value)) self.new.stock.flags.items)
-            (map (λ j. held (j.vtable, j.value)) self.new.stock.gaps.items) self.new)
+            (StandsFor (λ n. map (λ j. held j) n.slave.judges.items)
+            (map (λ j. held j) self.old.stock.flags.items)
+            (map (λ j. held j) self.old.stock.gaps.items) self.old)
+            (StandsFor (λ n. map (λ j. held j) n.slave.judges.items)
+            (map (λ j. held j) self.new.stock.flags.items)
+            (map (λ j. held j) self.new.stock.gaps.items) self.new)
             texts.new (commands.Stop at slave)) }
     {
         match self.nodes.get_mut(&slave) {
@@ -94,12 +94,12 @@ impl Lab {
     ) -> Result<Option<Cause>, OutOfMemory>
         requires empty { texts.old ≡ [] }
         ensures { IfOk result (HasStepped line
-            (StandsFor (λ n. map (λ j. held (j.vtable, j.value)) n.slave.judges.items)
-            (map (λ j. held (j.vtable, j.value)) self.old.stock.flags.items)
-            (map (λ j. held (j.vtable, j.value)) self.old.stock.gaps.items) self.old)
-            (StandsFor (λ n. map (λ j. held (j.vtable, j.value)) n.slave.judges.items)
-            (map (λ j. held (j.vtable, j.value)) self.new.stock.flags.items)
-            (map (λ j. held (j.vtable, j.value)) self.new.stock.gaps.items) self.new)
+            (StandsFor (λ n. map (λ j. held j) n.slave.judges.items)
+            (map (λ j. held j) self.old.stock.flags.items)
+            (map (λ j. held j) self.old.stock.gaps.items) self.old)
+            (StandsFor (λ n. map (λ j. held j) n.slave.judges.items)
+            (map (λ j. held j) self.new.stock.flags.items)
+            (map (λ j. held j) self.new.stock.gaps.items) self.new)
             texts.new (commands.Flag at slave master unusable)) }
     {
         match self.nodes.get_mut(&slave) {
@@ -127,18 +127,18 @@ impl Lab {
         texts: &mut Texts,
     ) -> Result<Option<Cause>, OutOfMemory>
         requires means { (c : Course) × StandsFor
-            (λ n. map (λ j. held (j.vtable, j.value)) n.slave.judges.items)
-            (map (λ j. held (j.vtable, j.value)) self.old.stock.flags.items)
-            (map (λ j. held (j.vtable, j.value)) self.old.stock.gaps.items) self.old c }
+            (λ n. map (λ j. held j) n.slave.judges.items)
+            (map (λ j. held j) self.old.stock.flags.items)
+            (map (λ j. held j) self.old.stock.gaps.items) self.old c }
         requires named { IsNamed rule }
         requires empty { texts.old ≡ [] }
         ensures { IfOk result (HasStepped line
-            (StandsFor (λ n. map (λ j. held (j.vtable, j.value)) n.slave.judges.items)
-            (map (λ j. held (j.vtable, j.value)) self.old.stock.flags.items)
-            (map (λ j. held (j.vtable, j.value)) self.old.stock.gaps.items) self.old)
-            (StandsFor (λ n. map (λ j. held (j.vtable, j.value)) n.slave.judges.items)
-            (map (λ j. held (j.vtable, j.value)) self.new.stock.flags.items)
-            (map (λ j. held (j.vtable, j.value)) self.new.stock.gaps.items) self.new)
+            (StandsFor (λ n. map (λ j. held j) n.slave.judges.items)
+            (map (λ j. held j) self.old.stock.flags.items)
+            (map (λ j. held j) self.old.stock.gaps.items) self.old)
+            (StandsFor (λ n. map (λ j. held j) n.slave.judges.items)
+            (map (λ j. held j) self.new.stock.flags.items)
+            (map (λ j. held j) self.new.stock.gaps.items) self.new)
             texts.new (commands.Judge at slave master rule)) }
     {
         match self.nodes.get_mut(&slave) {

@@ -1,4 +1,4 @@
-ghost use Rattle.std.specs.Prelude.{◌≡◌, ◌≤◌, ℕ, List, length, map, Some, OnOk, OnErr, IfOk, IsErrOf};
+ghost use Rattle.std.specs.Prelude.{◌≡◌, ◌≤◌, ℕ, List, [], ◌∷◌, length, map, Some, OnOk, OnErr, IfOk, IsErrOf};
 ghost use Rattle.std.specs.Io.KnownBytes.{IsAtEnd, prepend_known};
 ghost use Rattle.ptu_outside.specs.Ends.{StopsAtEnd};
 ghost use Rattle.ptu_outside.specs.Handing.{HasPutPart};
@@ -73,13 +73,18 @@ impl Reporter for Lab {
     }
 
     #[tactic(auto, unfolding(ptu_world::specs::Report::rules))]
-    fn refuse(number: u64, cause: &Cause, texts: &mut Texts) -> Result<(), OutOfMemory> {
+    fn refuse(number: u64, cause: &Cause, texts: &mut Texts) -> Result<(), OutOfMemory>
+        requires { texts.old ≡ [] }
+        ensures { OnOk result (texts.new ≡ rules.refusal number cause.now ∷ []) }
+    {
         let statement = Statement::Bad(*cause);
         texts.add(&ReportLine::At { number, statement })
     }
 
     #[tactic(auto, unfolding(ptu_world::specs::Report::rules))]
-    fn cause_of(cause: LineCause) -> Cause {
+    fn cause_of(cause: LineCause) -> Cause
+        ensures { result ≡ rules.cause_of cause }
+    {
         Cause::from(cause)
     }
 }
