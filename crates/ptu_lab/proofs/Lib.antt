@@ -3,3 +3,4 @@ pub mod LabNodes
 pub mod LabCommands
 pub mod LabStock
 pub mod LabMasters
+pub mod LabReplaying
