@@ -16,3 +16,8 @@ pub mod LoadWhole
 pub mod SlaveEvents
 pub mod SlaveMasters
 pub mod SlaveHearing
+pub mod LabNodes
+pub mod LabCommands
+pub mod LabStock
+pub mod LabMasters
+pub mod LabReplaying

@@ -14,3 +14,4 @@ pub mod Load
 pub mod SummarySamples
 pub mod SlaveHeard
 pub mod SlaveWords
+pub mod LabSteps

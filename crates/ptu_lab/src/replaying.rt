@@ -1,4 +1,4 @@
-ghost use Rattle.std.specs.Prelude.{◌≡◌, ◌≤◌, ℕ, List, length, map, Some, OnOk, OnErr, IfOk, IsErrOf};
+ghost use Rattle.std.specs.Prelude.{◌≡◌, ◌≤◌, ℕ, List, [], ◌∷◌, length, map, Some, OnOk, OnErr, IfOk, IsErrOf};
 ghost use Rattle.std.specs.Io.KnownBytes.{IsAtEnd, prepend_known};
 ghost use Rattle.ptu_outside.specs.Ends.{StopsAtEnd};
 ghost use Rattle.ptu_outside.specs.Handing.{HasPutPart};
@@ -7,12 +7,87 @@ ghost use Rattle.ptu_report.specs.Reported.{HasReportedAllRead};
 ghost use Rattle.ptu_world.specs.Report.{course_opening, report, rules};
 ghost use Rattle.ptu_lab.specs.Answers.{CountsRead, CountsWrite};
 ghost use Rattle.ptu_lab.specs.Replayed.{AreCounts, HasReplayed, IfReplayed};
+ghost use Rattle.ptu_lab.specs.Standing.{StandsFor};
 
 use crate::done::Done;
 use crate::fault::LabFault;
-use ptu_judges::Stock;
+use crate::lab::Lab;
+use ptu_judges::{Judge, Stock};
+use ptu_lines::LineCause;
 use ptu_outside::{Sink, Source};
+use ptu_report::{Ending, Reporter, Stop, Texts, report};
+use ptu_report_lines::{ReportLine, Statement};
+use ptu_script::{Cause, read_command};
+use ptu_units::OutOfMemory;
 use std::alloc::Global;
+use std::marker::Model;
+
+/// What a lab means: the course of a script so far. No program ever has one.
+pub struct CourseSoFar;
+
+impl Model for CourseSoFar {
+    ghost use Rattle.ptu_world.specs.Report.{Course, course_opening};
+
+    ghost Value = { Course };
+
+    ghost view = { λ _. course_opening (record { flags = 0; gaps = 0 }) };
+}
+
+impl Reporter for Lab {
+    type Meaning = CourseSoFar;
+
+    type Cause = Cause;
+
+    ghost rules = { rules };
+
+    ghost stands_for = { λ lab course.
+        StandsFor (λ n. map (λ j. (Judge-box j).held j.value) n.slave.judges.items)
+        (map (λ j. (Judge-box j).held j.value) lab.stock.flags.items)
+        (map (λ j. (Judge-box j).held j.value) lab.stock.gaps.items) lab course };
+
+    #[tactic(auto, unfolding(ptu_world::specs::Report::rules))]
+    fn take(
+        &mut self,
+        alloc: Global,
+        number: u64,
+        line: &[u8],
+        texts: &mut Texts,
+    ) -> Result<Option<Cause>, OutOfMemory> {
+        match read_command(alloc, line)? {
+            Ok(None) => Ok(None),
+            Ok(Some(command)) => self.step(alloc, command, number, texts),
+            Err(cause) => Ok(Some(cause)),
+        }
+    }
+
+    #[tactic(auto, unfolding(ptu_world::specs::Report::rules))]
+    fn close(
+        &mut self,
+        _: Global,
+        lines: u64,
+        texts: &mut Texts,
+    ) -> Result<Option<Cause>, OutOfMemory> {
+        let datagrams = self.sent.len() as u64;
+        texts.add(&ReportLine::End { lines, datagrams })?;
+        Ok(None)
+    }
+
+    #[tactic(auto, unfolding(ptu_world::specs::Report::rules))]
+    fn refuse(number: u64, cause: &Cause, texts: &mut Texts) -> Result<(), OutOfMemory>
+        requires { texts.old ≡ [] }
+        ensures { OnOk result (texts.new ≡ rules.refusal number cause.now ∷ []) }
+    {
+        let statement = Statement::Bad(*cause);
+        texts.add(&ReportLine::At { number, statement })
+    }
+
+    #[tactic(auto, unfolding(ptu_world::specs::Report::rules))]
+    fn cause_of(cause: LineCause) -> Cause
+        ensures { result ≡ rules.cause_of cause }
+    {
+        Cause::from(cause)
+    }
+}
 
 /// Replays the script that the source has left: its nodes take their datagrams, turns and ticks, and
 /// each line of the report is handed to the sink in one piece, and its rest again until all is taken,
@@ -56,5 +131,17 @@ pub fn replay<S: Source, K: Sink>(
     ensures source_counts { CountsRead result (S.faults source.old) (S.faults source.new) }
     ensures sink_counts { CountsWrite result (K.faults sink.old) (K.faults sink.new) }
 {
-    Err(LabFault::OutOfMemory)
+    let mut lab = Lab::new(alloc, stock);
+    match report(alloc, &mut lab, source, sink) {
+        Ok(Ending::Whole { lines }) => Ok(Done {
+            lines,
+            datagrams: lab.sent.len() as u64,
+            granted: lab.granted,
+            refused: lab.short,
+        }),
+        Ok(Ending::Refused { number, cause }) => Err(LabFault::Line { number, cause }),
+        Err(Stop::Read) => Err(LabFault::Read),
+        Err(Stop::Write) => Err(LabFault::Write),
+        Err(Stop::OutOfMemory) => Err(LabFault::OutOfMemory),
+    }
 }

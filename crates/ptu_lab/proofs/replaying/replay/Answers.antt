@@ -1,5 +1,39 @@
-use Rattle.ptu_outside.proofs.Handing.{HasPutPart-none}
+use Rattle.std.proofs.Common.{◌∙◌, length, map, subst, refl}
+use Rattle.ptu_outside.specs.Handing.{HasPutPart}
+use Rattle.ptu_outside.proofs.Handing.{HasPutPart-whole}
+use Rattle.ptu_world.specs.Report.{course_opening}
+use Rattle.ptu_world.proofs.Reported.{texts_of_rules}
+use Rattle.ptu_lab.proofs.LabReplaying.{counted, replayed}
 use Rattle.ptu_lab.proofs.replaying.replay.Goals as goal
 
+pub returns-in-Ok-Whole-clause-whole : goal.returns-in-Ok-Whole-clause-whole
+returns-in-Ok-Whole-clause-whole g c = λ script told.
+    replayed g.K.Sink.written g.K.Sink.handed c.args.sink.now c.report.new.sink (record { flags = length c.args.stock.flags.items; gaps = length c.args.stock.gaps.items }) script _ (rw c.in-Ok-Whole.field-0-is at (c.in-Ok-Whole.ensures.whole (course_opening (record { flags = length c.args.stock.flags.items; gaps = length c.args.stock.gaps.items })) c.new-lab.ensures.opening script told))
+
+pub returns-in-Ok-Whole-clause-front : goal.returns-in-Ok-Whole-clause-front
+returns-in-Ok-Whole-clause-front g c = λ script told.
+    HasPutPart-whole g.K.Sink.written g.K.Sink.handed c.args.sink.now c.report.new.sink _ (replayed g.K.Sink.written g.K.Sink.handed c.args.sink.now c.report.new.sink (record { flags = length c.args.stock.flags.items; gaps = length c.args.stock.gaps.items }) script _ (c.in-Ok-Whole.ensures.whole (course_opening (record { flags = length c.args.stock.flags.items; gaps = length c.args.stock.gaps.items })) c.new-lab.ensures.opening script told)).in_pieces
+
+pub returns-in-Ok-Refused-clause-whole : goal.returns-in-Ok-Refused-clause-whole
+returns-in-Ok-Refused-clause-whole g c = λ script told.
+    replayed g.K.Sink.written g.K.Sink.handed c.args.sink.now c.report.new.sink (record { flags = length c.args.stock.flags.items; gaps = length c.args.stock.gaps.items }) script _ (rw c.in-Ok-Refused.field-0-is at (c.in-Ok-Refused.ensures.whole (course_opening (record { flags = length c.args.stock.flags.items; gaps = length c.args.stock.gaps.items })) c.new-lab.ensures.opening script told))
+
+pub returns-in-Ok-Refused-clause-front : goal.returns-in-Ok-Refused-clause-front
+returns-in-Ok-Refused-clause-front g c = λ script told.
+    HasPutPart-whole g.K.Sink.written g.K.Sink.handed c.args.sink.now c.report.new.sink _ (replayed g.K.Sink.written g.K.Sink.handed c.args.sink.now c.report.new.sink (record { flags = length c.args.stock.flags.items; gaps = length c.args.stock.gaps.items }) script _ (c.in-Ok-Refused.ensures.whole (course_opening (record { flags = length c.args.stock.flags.items; gaps = length c.args.stock.gaps.items })) c.new-lab.ensures.opening script told)).in_pieces
+
+pub returns-in-Err-Read-clause-front : goal.returns-in-Err-Read-clause-front
+returns-in-Err-Read-clause-front g c = λ script told. subst (HasPutPart g.K.Sink.written g.K.Sink.handed c.args.sink.now c.report.new.sink) (texts_of_rules (record { flags = length c.args.stock.flags.items; gaps = length c.args.stock.gaps.items }) script) (c.in-Err-Read.ensures.part (course_opening (record { flags = length c.args.stock.flags.items; gaps = length c.args.stock.gaps.items })) c.new-lab.ensures.opening script told)
+
+pub returns-in-Err-Write-clause-front : goal.returns-in-Err-Write-clause-front
+returns-in-Err-Write-clause-front g c = λ script told. subst (HasPutPart g.K.Sink.written g.K.Sink.handed c.args.sink.now c.report.new.sink) (texts_of_rules (record { flags = length c.args.stock.flags.items; gaps = length c.args.stock.gaps.items }) script) (c.in-Err-Write.ensures.part (course_opening (record { flags = length c.args.stock.flags.items; gaps = length c.args.stock.gaps.items })) c.new-lab.ensures.opening script told)
+
 pub returns-clause-front : goal.returns-clause-front
-returns-clause-front g c = λ script told. HasPutPart-none g.K.Sink.written g.K.Sink.handed c.args.sink.now _
+returns-clause-front g c = λ script told. subst (HasPutPart g.K.Sink.written g.K.Sink.handed c.args.sink.now c.report.new.sink) (texts_of_rules (record { flags = length c.args.stock.flags.items; gaps = length c.args.stock.gaps.items }) script) (c.in-Err-OutOfMemory.ensures.part (course_opening (record { flags = length c.args.stock.flags.items; gaps = length c.args.stock.gaps.items })) c.new-lab.ensures.opening script told)
+
+pub returns-in-Ok-Whole-clause-counts : goal.returns-in-Ok-Whole-clause-counts
+returns-in-Ok-Whole-clause-counts g c = λ script told.
+    let reported = rw c.in-Ok-Whole.field-0-is at (c.in-Ok-Whole.ensures.whole (course_opening (record { flags = length c.args.stock.flags.items; gaps = length c.args.stock.gaps.items })) c.new-lab.ensures.opening script told) in
+    let last = rw c.in-Ok-Whole.field-0-is at c.in-Ok-Whole.ensures.last in
+    counted (λ n. map (λ j. (goal.Judge-dyn g (j.vtable, j.value)).held j.value) n.slave.judges.items) _ _ c.report.new.reporter (record { flags = length c.args.stock.flags.items; gaps = length c.args.stock.gaps.items }) script c.in-Ok-Whole.lines _
+    (last tt (course_opening (record { flags = length c.args.stock.flags.items; gaps = length c.args.stock.gaps.items })) c.new-lab.ensures.opening script told) reported.ends (c.len.ensures ∙ c.report.new.reporter.sent.ok.0) refl refl

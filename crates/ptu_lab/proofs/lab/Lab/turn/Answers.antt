@@ -1,0 +1,16 @@
+use Rattle.std.proofs.Common.{[], true, refl, sym, rules}
+use Rattle.ptu_world.specs.Grandmasters.{turn_deed}
+use Rattle.ptu_lab.specs.LabSteps.{of_grandmaster}
+use Rattle.ptu_lab.proofs.LabCommands.{turn_is}
+use Rattle.ptu_lab.proofs.LabNodes.{acted_stands, nobody}
+use Rattle.ptu_lab.proofs.lab.Lab.turn.Goals as goal
+
+pub returns-in-None : goal.returns-in-None
+returns-in-None g c = λ course stands.
+    nobody _ _ _ _ course c.args.grandmaster c.args.line (of_grandmaster (λ g. turn_deed g c.args.at c.args.table)) _ _ _ stands (sym c.in-None.ensures.value) (turn_is course.world c.args.at c.args.grandmaster c.args.table)
+
+pub returns-in_ok-refused-in-Some : goal.returns-in_ok-refused-in-Some
+returns-in_ok-refused-in-Some g c = λ course stands.
+    acted_stands _ _ _ _ _ course c.args.grandmaster c.args.line c.in-Some.node.now c.turn.new.self
+    (of_grandmaster (λ g. turn_deed g c.args.at c.args.table)) c.args.texts.now _ _ _ stands (sym c.in-Some.ensures.value) (λ a begun w is. c.in_ok-refused-in-Some.ensures a begun w is)
+    (turn_is course.world c.args.at c.args.grandmaster c.args.table) c.requires.empty ((c.get_mut.follows.holds c.turn.new.self).3 (search rules)).0 refl refl refl
