@@ -25,4 +25,6 @@ pub use ptu_script::Cause;
 pub use replaying::replay;
 
 #[cfg(test)]
+mod slave_tests;
+#[cfg(test)]
 mod tests;
