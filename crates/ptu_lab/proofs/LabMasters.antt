@@ -1,9 +1,9 @@
 -- A slave of the lab gets a master, or why it does not.
-use Rattle.std.proofs.Common.{◌≡◌, ◌∙◌, ℕ, ◌+◌, ◌++◌, Bool, true, false, cond, List, [], ◌∷◌, length, Option, Some, None, Result, Ok, Err, is_some, refl, sym, ap, ap₂, subst, arith}
+use Rattle.std.proofs.Common.{◌≡◌, ◌∙◌, ℕ, ◌+◌, Bool, true, false, cond, List, [], length, Option, Some, None, Result, Ok, Err, is_some, refl, sym, ap, ap₂, subst, arith}
 use Rattle.std.specs.Prelude.{if◌then◌else◌, nat_eq, nat_le}
 use Rattle.std.specs.HashMap.{get}
 use Rattle.ptu_record.specs.declared.rule.Rule.{Rule}
-use Rattle.ptu_judges.specs.Held.{Held, IsStock, fresh}
+use Rattle.ptu_judges.specs.Held.{Held, fresh}
 use Rattle.ptu_slave_messages.specs.Config.{place_of}
 use Rattle.ptu_report.specs.Rules.{IsOutcome}
 use Rattle.ptu_script.specs.Fields.{◌>>=◌}
@@ -18,7 +18,7 @@ use Rattle.ptu_lab.specs.declared.lab.Node.{Node}
 use Rattle.ptu_lab.specs.declared.lab.Node.TheVariants as nodes
 use Rattle.ptu_lab.specs.declared.lab.Lab.{Lab}
 use Rattle.ptu_lab.specs.LabSteps.{HasTaken, IsNoSlave, stock_of}
-use Rattle.ptu_lab.specs.Standing.{Agrees, IsSlaveNode, StandsAs, StandsAsSlave, StandsFor}
+use Rattle.ptu_lab.specs.Standing.{Agrees, IsSlaveNode, StandsAsSlave, StandsFor}
 use Rattle.ptu_lab.proofs.LabNodes.{placed_agree}
 
 -- ---- what the command makes of a world
@@ -129,7 +129,7 @@ module _ {J : Type 0} {I : J → Type 0} (held : SlaveNode J I → List Held) (f
         → HasTaken rule flags gaps flags' gaps' judge
         → new.ip ≡ node.ip
         → ((s : world.Slave) (r : Rule) → IsSlaveNode node.ip node.slave.core (held node) node.slave.port false s → judge ≡ fresh r
-          → StandsAsSlave new.ip new.slave.core (held new) new.slave.port false (world.IsSlave (with_master ip priority r s)))
+        → StandsAsSlave new.ip new.slave.core (held new) new.slave.port false (world.IsSlave (with_master ip priority r s)))
         → ((q : ℕ) → get nat_eq lab'.nodes q ≡ cond (nat_eq slave q) (Some (nodes.Slave new)) (get nat_eq lab.nodes q))
         → lab'.sent ≡ lab.sent
         → lab'.has_begun ≡ lab.has_begun
@@ -140,17 +140,21 @@ module _ {J : Type 0} {I : J → Type 0} (held : SlaveNode J I → List Held) (f
         let at = slave_found node found in
         let not_begun : c.world.has_begun ≡ false = sym stands.has_begun ∙ begun in
         let here : at.slave_is.ip ≡ slave = at.stands_as.address ∙ at.address in
-        rw (made_is false false (Ok (stock_of flags' gaps')) other full taken.left)
-        (record {
-          nodes = subst (λ a. (q : ℕ) → Agrees held q c.world.has_begun (get nat_eq lab'.nodes q) (node_at (placed a (world.IsSlave (with_master ip priority rule at.slave_is)) c.world.nodes) q)) (sym here)
-            (placed_agree held lab.nodes lab'.nodes c.world.nodes c.world.has_begun slave (nodes.Slave new) (world.IsSlave (with_master ip priority rule at.slave_is)) stands.nodes changed
-            (same ∙ at.address, subst (λ b. StandsAsSlave new.ip new.slave.core (held new) new.slave.port b (world.IsSlave (with_master ip priority rule at.slave_is))) (sym not_begun)
-            (more at.slave_is rule (subst (λ b. IsSlaveNode node.ip node.slave.core (held node) node.slave.port b at.slave_is) not_begun at.stands_as) taken.is_fresh)));
-          sent = ap (λ v. v.items) sent ∙ stands.sent;
-          has_begun = begins ∙ stands.has_begun;
-          flags = refl;
-          gaps = refl;
-          stock = taken.stock;
-          granted = (let none : lab'.granted ≡ c.granted + 0 = omega (arith, grants, stands.granted) in none);
-          short = (let none : lab'.short ≡ c.short + 0 = omega (arith, shorts, stands.short) in none);
-        }, refl)
+        rw (made_is false false (Ok (stock_of flags' gaps')) other full taken.left) (
+          record {
+            nodes = subst (λ a. (q : ℕ) → Agrees held q c.world.has_begun (get nat_eq lab'.nodes q) (node_at (placed a (world.IsSlave (with_master ip priority rule at.slave_is)) c.world.nodes) q)) (sym here)
+                (placed_agree held lab.nodes lab'.nodes c.world.nodes c.world.has_begun slave (nodes.Slave new) (world.IsSlave (with_master ip priority rule at.slave_is)) stands.nodes changed (
+                  same ∙ at.address,
+                  subst (λ b. StandsAsSlave new.ip new.slave.core (held new) new.slave.port b (world.IsSlave (with_master ip priority rule at.slave_is))) (sym not_begun)
+                      (more at.slave_is rule (subst (λ b. IsSlaveNode node.ip node.slave.core (held node) node.slave.port b at.slave_is) not_begun at.stands_as) taken.is_fresh),
+                ));
+            sent = ap (λ v. v.items) sent ∙ stands.sent;
+            has_begun = begins ∙ stands.has_begun;
+            flags = refl;
+            gaps = refl;
+            stock = taken.stock;
+            granted = (let none : lab'.granted ≡ c.granted + 0 = omega (arith, grants, stands.granted) in none);
+            short = (let none : lab'.short ≡ c.short + 0 = omega (arith, shorts, stands.short) in none);
+          },
+          refl,
+        )

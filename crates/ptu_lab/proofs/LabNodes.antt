@@ -1,17 +1,16 @@
 -- The lab's nodes agree with those of a world, and so does the lab with a course.
-use Rattle.std.proofs.Common.{◌≡◌, ◌∙◌, ℕ, ◌+◌, ◌++◌, Bool, true, false, cond, eqb, List, [], ◌∷◌, map, length, Option, Some, None, Result, Ok, Err, IfOk, option_map, refl, sym, ap, ap₂, subst, eqb-true, eq-eqb, arith, append_assoc, zero-add}
+use Rattle.std.proofs.Common.{◌≡◌, ◌∙◌, ℕ, ◌+◌, ◌++◌, Bool, true, false, cond, eqb, List, [], ◌∷◌, map, Option, Some, None, Result, Ok, Err, IfOk, refl, sym, ap, ap₂, subst, eqb-true, eq-eqb, arith}
 use Rattle.std.specs.Prelude.{nat_eq}
 use Rattle.std.specs.List.{count_by}
 use Rattle.std.specs.HashMap.{HashMap, get}
-use Rattle.ptu_judges.specs.Held.{Held, IsStock}
+use Rattle.ptu_judges.specs.Held.{Held}
 use Rattle.ptu_report_lines.specs.declared.sent.Sent.{Sent}
-use Rattle.ptu_report_lines.specs.declared.statement.Statement.{Statement}
 use Rattle.ptu_world.specs.Deeds as world
 use Rattle.ptu_world.specs.Deeds.{Deed}
 use Rattle.ptu_world.specs.Slaves as slaves
 use Rattle.ptu_record.specs.declared.rule.Rule.{Rule}
 use Rattle.ptu_slave_messages.specs.Config.{place_of}
-use Rattle.ptu_world.specs.World.{Done, Nodes, Stock, World, datagram_deed, datagram_numbered, delivered_to, done_by, node_at, or_cause, placed, said_by, sent_from, step, stock_without}
+use Rattle.ptu_world.specs.World.{Done, Nodes, Stock, datagram_deed, datagram_numbered, delivered_to, done_by, node_at, or_cause, placed, said_by, sent_from, step, stock_without}
 use Rattle.ptu_world.specs.Report.{Course, course_after, is_granted, is_short, outcome_by, text_at}
 use Rattle.ptu_report.specs.Rules.{IsOutcome}
 use Rattle.ptu_script.specs.declared.cause.Cause.{Cause}
@@ -38,17 +37,20 @@ module _ {J : Type 0} {I : J → Type 0} (held : SlaveNode J I → List Held) wh
   pub begun_later : (ip : ℕ) (begun : Bool) (node : Node J I) (w : world.Node) → StandsAs held ip begun node w → StandsAs held ip true node w
   begun_later ip begun (nodes.Grandmaster node) w h = h
   begun_later ip begun (nodes.Slave node) (world.IsGrandmaster g) h = h
-  begun_later ip begun (nodes.Slave node) (world.IsSlave s) h = (h.0, record {
-    address = h.1.address;
-    config = h.1.config;
-    masters = h.1.masters;
-    limits = h.1.limits;
-    distinct = h.1.distinct;
-    stands = h.1.stands;
-    ruled = h.1.ruled;
-    fresh = λ e. absurd cc;
-    idle = h.1.idle;
-  })
+  begun_later ip begun (nodes.Slave node) (world.IsSlave s) h = (
+    h.0,
+    record {
+      address = h.1.address;
+      config = h.1.config;
+      masters = h.1.masters;
+      limits = h.1.limits;
+      distinct = h.1.distinct;
+      stands = h.1.stands;
+      ruled = h.1.ruled;
+      fresh = λ e. absurd cc;
+      idle = h.1.idle;
+    },
+  )
 
   pub agrees_later : (ip : ℕ) (begun : Bool) (found : Option (Node J I)) (w : Option world.Node) → Agrees held ip begun found w → Agrees held ip true found w
   agrees_later ip begun None None h = tt
@@ -80,19 +82,19 @@ module _ {J : Type 0} {I : J → Type 0} (held : SlaveNode J I → List Held) wh
       → lab'.granted ≡ lab.granted + granted
       → lab'.short ≡ lab.short + short
       → StandsFor held flags gaps lab' (course_after c (done_by c.world ip deed)) × (texts' ≡ map (text_at line) (done_by c.world ip deed).said)
-  deed_stands flags gaps lab lab' c ip line node deed texts texts' granted short stands done none changed begun grants shorts =
-      (record {
-        nodes = placed_agree lab.nodes lab'.nodes c.world.nodes true ip node deed.node (λ q. agrees_later q c.world.has_begun (get nat_eq lab.nodes q) (node_at c.world.nodes q) (stands.nodes q)) changed done.node;
-        sent = done.sends ∙ ap (λ s. s ++ map (sent_from ip) deed.sends) stands.sent;
-        has_begun = begun;
-        flags = stands.flags;
-        gaps = stands.gaps;
-        stock = stands.stock;
-        granted = grants ∙ (ap (λ n. n + granted) stands.granted ∙ ap (λ n. c.granted + n) (done.grants ∙ ap (λ s. count_by is_granted (said_by s ip deed)) stands.sent));
-        short = shorts ∙ (ap (λ n. n + short) stands.short ∙ ap (λ n. c.short + n) (done.shortages ∙ ap (λ s. count_by is_short (said_by s ip deed)) stands.sent));
-      }, done.says ∙ (ap (λ t. t ++ map (text_at line) (said_by lab.sent.items ip deed)) none ∙ ap (λ s. map (text_at line) (said_by s ip deed)) stands.sent))
-
-
+  deed_stands flags gaps lab lab' c ip line node deed texts texts' granted short stands done none changed begun grants shorts = (
+    record {
+      nodes = placed_agree lab.nodes lab'.nodes c.world.nodes true ip node deed.node (λ q. agrees_later q c.world.has_begun (get nat_eq lab.nodes q) (node_at c.world.nodes q) (stands.nodes q)) changed done.node;
+      sent = done.sends ∙ ap (λ s. s ++ map (sent_from ip) deed.sends) stands.sent;
+      has_begun = begun;
+      flags = stands.flags;
+      gaps = stands.gaps;
+      stock = stands.stock;
+      granted = grants ∙ (ap (λ n. n + granted) stands.granted ∙ ap (λ n. c.granted + n) (done.grants ∙ ap (λ s. count_by is_granted (said_by s ip deed)) stands.sent));
+      short = shorts ∙ (ap (λ n. n + short) stands.short ∙ ap (λ n. c.short + n) (done.shortages ∙ ap (λ s. count_by is_short (said_by s ip deed)) stands.sent));
+    },
+    done.says ∙ (ap (λ t. t ++ map (text_at line) (said_by lab.sent.items ip deed)) none ∙ ap (λ s. map (text_at line) (said_by s ip deed)) stands.sent),
+  )
 
   -- ---- an event at a node
 
@@ -143,7 +145,7 @@ module _ {J : Type 0} {I : J → Type 0} (held : SlaveNode J I → List Held) wh
       → StandsFor held flags gaps lab c
       → get nat_eq lab.nodes ip ≡ Some old
       → ((a : ℕ) (begun : Bool) (w : world.Node) → StandsAs held a begun old w
-        → HasActedWithJudge (StandsAs held a true new) a line lab.sent.items lab'.sent.items texts texts' flags' gaps' (act w) (stock_without rule (stock_of flags gaps)) refused)
+      → HasActedWithJudge (StandsAs held a true new) a line lab.sent.items lab'.sent.items texts texts' flags' gaps' (act w) (stock_without rule (stock_of flags gaps)) refused)
       → made ≡ at_node_with_judge c.world ip rule act
       → texts ≡ []
       → ((q : ℕ) → get nat_eq lab'.nodes q ≡ cond (nat_eq ip q) (Some new) (get nat_eq lab.nodes q))
@@ -163,17 +165,19 @@ module _ {J : Type 0} {I : J → Type 0} (held : SlaveNode J I → List Held) wh
       decided (Ok deed) (Ok left) None h =
           let no_grant : lab'.granted ≡ lab.granted + 0 = omega (arith, grants) in
           let no_short : lab'.short ≡ lab.short + 0 = omega (arith, shorts) in
-          let p = deed_stands flags gaps lab lab' c ip line new deed texts texts' 0 0 stands h.0 none changed begun no_grant no_short in
-          (record {
-            nodes = p.0.nodes;
-            sent = p.0.sent;
-            has_begun = p.0.has_begun;
-            flags = sym (ap (λ s. s.flags) h.1);
-            gaps = sym (ap (λ s. s.gaps) h.1);
-            stock = h.2;
-            granted = p.0.granted;
-            short = p.0.short;
-          }, p.1)
+          let p = deed_stands flags gaps lab lab' c ip line new deed texts texts' 0 0 stands h.0 none changed begun no_grant no_short in (
+            record {
+              nodes = p.0.nodes;
+              sent = p.0.sent;
+              has_begun = p.0.has_begun;
+              flags = sym (ap (λ s. s.flags) h.1);
+              gaps = sym (ap (λ s. s.gaps) h.1);
+              stock = h.2;
+              granted = p.0.granted;
+              short = p.0.short;
+            },
+            p.1,
+          )
       decided (Ok deed) (Ok left) (Some cause) h = absurd h
       decided (Ok deed) (Err e) None h = absurd h
       decided (Ok deed) (Err e) (Some cause) h = h
@@ -214,7 +218,7 @@ module _ {J : Type 0} {I : J → Type 0} (held : SlaveNode J I → List Held) wh
   pub slave_receives : (old new : SlaveNode J I) (line t from : ℕ) (octets : List ℕ) (sent sent' : List Sent) (texts texts' : List (List ℕ))
       → new.ip ≡ old.ip
       → ((begun : Bool) (s : world.Slave) → IsSlaveNode old.ip old.slave.core (held old) old.slave.port begun s
-        → HasDone (StandsAsSlave new.ip new.slave.core (held new) new.slave.port true) old.ip line (slaves.datagram_deed s t from octets) sent sent' texts texts' 0 0)
+      → HasDone (StandsAsSlave new.ip new.slave.core (held new) new.slave.port true) old.ip line (slaves.datagram_deed s t from octets) sent sent' texts texts' 0 0)
       → (ip : ℕ) (begun : Bool) (w : world.Node) → StandsAs held ip begun (nodes.Slave old) w
       → HasDone (StandsAs held ip true (nodes.Slave new)) ip line (datagram_deed w t from octets) sent sent' texts texts' 0 0
   slave_receives old new line t from octets sent sent' texts texts' same done ip begun (world.IsGrandmaster g) h = absurd h.1
@@ -224,7 +228,7 @@ module _ {J : Type 0} {I : J → Type 0} (held : SlaveNode J I → List Held) wh
   pub slave_acts : (old new : SlaveNode J I) (line : ℕ) (deed : world.Slave → Deed) (sent sent' : List Sent) (texts texts' : List (List ℕ))
       → new.ip ≡ old.ip
       → ((begun : Bool) (s : world.Slave) → IsSlaveNode old.ip old.slave.core (held old) old.slave.port begun s
-        → HasDone (StandsAsSlave new.ip new.slave.core (held new) new.slave.port true) old.ip line (deed s) sent sent' texts texts' 0 0)
+      → HasDone (StandsAsSlave new.ip new.slave.core (held new) new.slave.port true) old.ip line (deed s) sent sent' texts texts' 0 0)
       → (ip : ℕ) (begun : Bool) (w : world.Node) → StandsAs held ip begun (nodes.Slave old) w
       → HasActed (StandsAs held ip true (nodes.Slave new)) ip line sent sent' texts texts' (of_slave deed w) None
   slave_acts old new line deed sent sent' texts texts' same done ip begun (world.IsGrandmaster g) h = absurd h.1
@@ -235,7 +239,7 @@ module _ {J : Type 0} {I : J → Type 0} (held : SlaveNode J I → List Held) wh
       → place_of old.slave.core.masters master ≡ Some place
       → new.ip ≡ old.ip
       → ((begun : Bool) (s : world.Slave) → IsSlaveNode old.ip old.slave.core (held old) old.slave.port begun s
-        → HasDone (StandsAsSlave new.ip new.slave.core (held new) new.slave.port true) old.ip line (deed s place) sent sent' texts texts' 0 0)
+      → HasDone (StandsAsSlave new.ip new.slave.core (held new) new.slave.port true) old.ip line (deed s place) sent sent' texts texts' 0 0)
       → (ip : ℕ) (begun : Bool) (w : world.Node) → StandsAs held ip begun (nodes.Slave old) w
       → HasActed (StandsAs held ip true (nodes.Slave new)) ip line sent sent' texts texts' (of_master master deed w) None
   master_acts old new line master place deed sent sent' texts texts' found same done ip begun (world.IsGrandmaster g) h = absurd h.1
@@ -250,7 +254,7 @@ module _ {J : Type 0} {I : J → Type 0} (held : SlaveNode J I → List Held) wh
       → new.ip ≡ old.ip
       → HasTaken rule flags gaps flags' gaps' judge
       → ((begun : Bool) (s : world.Slave) → IsSlaveNode old.ip old.slave.core (held old) old.slave.port begun s
-        → HasDone (StandsAsSlave new.ip new.slave.core (held new) new.slave.port true) old.ip line (deed s place) sent sent' texts texts' 0 0)
+      → HasDone (StandsAsSlave new.ip new.slave.core (held new) new.slave.port true) old.ip line (deed s place) sent sent' texts texts' 0 0)
       → (ip : ℕ) (begun : Bool) (w : world.Node) → StandsAs held ip begun (nodes.Slave old) w
       → HasActedWithJudge (StandsAs held ip true (nodes.Slave new)) ip line sent sent' texts texts' flags' gaps' (of_master master deed w) (stock_without rule (stock_of flags gaps)) None
   judge_acts old new line master place deed sent sent' texts texts' rule flags gaps flags' gaps' judge found same taken done ip begun (world.IsGrandmaster g) h = absurd h.1
@@ -306,17 +310,19 @@ module _ {J : Type 0} {I : J → Type 0} (held : SlaveNode J I → List Held) wh
     where
       by : (o : Option world.Node) → HasHanded line c (StandsFor held flags gaps lab) texts sent.to (λ w. datagram_deed w t sent.from sent.octets) o found
           → IsOutcome (outcome_by c line (Ok (delivered_to c.world t sent o))) (StandsFor held flags gaps lab') texts' None
-      by None h = rw same
-          (record {
-            nodes = λ q. agrees_later q c.world.has_begun (get nat_eq lab.nodes q) (node_at c.world.nodes q) (h.1.nodes q);
-            sent = h.1.sent;
-            has_begun = refl;
-            flags = h.1.flags;
-            gaps = h.1.gaps;
-            stock = h.1.stock;
-            granted = (let none : lab.granted ≡ c.granted + 0 = omega (arith, h.1.granted) in none);
-            short = (let none : lab.short ≡ c.short + 0 = omega (arith, h.1.short) in none);
-          }, more ∙ ap (λ l. l ++ text_at line statements.Nobody ∷ []) h.2)
+      by None h = rw same (
+        record {
+          nodes = λ q. agrees_later q c.world.has_begun (get nat_eq lab.nodes q) (node_at c.world.nodes q) (h.1.nodes q);
+          sent = h.1.sent;
+          has_begun = refl;
+          flags = h.1.flags;
+          gaps = h.1.gaps;
+          stock = h.1.stock;
+          granted = (let none : lab.granted ≡ c.granted + 0 = omega (arith, h.1.granted) in none);
+          short = (let none : lab.short ≡ c.short + 0 = omega (arith, h.1.short) in none);
+        },
+        more ∙ ap (λ l. l ++ text_at line statements.Nobody ∷ []) h.2,
+      )
       by (Some w) h = absurd (let no : false ≡ true = sym not_found ∙ h.0 in cc)
 
 -- it is handed to the node of its address

@@ -146,8 +146,9 @@ impl Lab {
             Some(node) => {
                 let stock = &mut self.stock;
                 let sent = &self.sent;
-                let refused =
-                    node.replace_judge(alloc, at, master, rule, stock, line, texts, sent)?;
+                let refused = node.replace_judge(
+                    alloc, at, master, rule, stock, line, texts, sent,
+                )?;
                 self.has_begun = true;
                 Ok(refused)
             }
