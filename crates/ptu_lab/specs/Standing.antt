@@ -10,7 +10,7 @@ use Rattle.ptu_grandmaster.specs.Gm as gm
 use Rattle.ptu_slave.specs.Kept.{Kept}
 use Rattle.ptu_slave.specs.Standing as slave
 use Rattle.ptu_world.specs.Deeds as world
-use Rattle.ptu_world.specs.World.{node_at}
+use Rattle.ptu_world.specs.World.{Nodes, node_at}
 use Rattle.ptu_world.specs.Report.{Course}
 use Rattle.ptu_lab.specs.declared.grandmaster_node.GrandmasterNode.{GrandmasterNode}
 use Rattle.ptu_lab.specs.declared.slave_node.SlaveNode.{SlaveNode}
