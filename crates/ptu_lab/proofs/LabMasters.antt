@@ -1,9 +1,9 @@
 -- A slave of the lab gets a master, or why it does not.
-use Rattle.std.proofs.Common.{◌≡◌, ◌∙◌, ℕ, ◌+◌, ◌++◌, Bool, true, false, cond, List, [], ◌∷◌, length, Option, Some, None, Result, Ok, Err, is_some, refl, sym, ap, ap₂, subst, arith}
+use Rattle.std.proofs.Common.{◌≡◌, ◌∙◌, ℕ, ◌+◌, Bool, true, false, cond, List, [], length, Option, Some, None, Result, Ok, Err, is_some, refl, sym, ap, ap₂, subst, arith}
 use Rattle.std.specs.Prelude.{if◌then◌else◌, nat_eq, nat_le}
 use Rattle.std.specs.HashMap.{get}
 use Rattle.ptu_record.specs.declared.rule.Rule.{Rule}
-use Rattle.ptu_judges.specs.Held.{Held, IsStock, fresh}
+use Rattle.ptu_judges.specs.Held.{Held, fresh}
 use Rattle.ptu_slave_messages.specs.Config.{place_of}
 use Rattle.ptu_report.specs.Rules.{IsOutcome}
 use Rattle.ptu_script.specs.Fields.{◌>>=◌}
@@ -18,7 +18,7 @@ use Rattle.ptu_lab.specs.declared.lab.Node.{Node}
 use Rattle.ptu_lab.specs.declared.lab.Node.TheVariants as nodes
 use Rattle.ptu_lab.specs.declared.lab.Lab.{Lab}
 use Rattle.ptu_lab.specs.LabSteps.{HasTaken, IsNoSlave, stock_of}
-use Rattle.ptu_lab.specs.Standing.{Agrees, IsSlaveNode, StandsAs, StandsAsSlave, StandsFor}
+use Rattle.ptu_lab.specs.Standing.{Agrees, IsSlaveNode, StandsAsSlave, StandsFor}
 use Rattle.ptu_lab.proofs.LabNodes.{placed_agree}
 
 -- ---- what the command makes of a world

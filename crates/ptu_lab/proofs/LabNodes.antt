@@ -1,17 +1,16 @@
 -- The lab's nodes agree with those of a world, and so does the lab with a course.
-use Rattle.std.proofs.Common.{◌≡◌, ◌∙◌, ℕ, ◌+◌, ◌++◌, Bool, true, false, cond, eqb, List, [], ◌∷◌, map, length, Option, Some, None, Result, Ok, Err, IfOk, option_map, refl, sym, ap, ap₂, subst, eqb-true, eq-eqb, arith, append_assoc, zero-add}
+use Rattle.std.proofs.Common.{◌≡◌, ◌∙◌, ℕ, ◌+◌, ◌++◌, Bool, true, false, cond, eqb, List, [], ◌∷◌, map, Option, Some, None, Result, Ok, Err, IfOk, refl, sym, ap, ap₂, subst, eqb-true, eq-eqb, arith}
 use Rattle.std.specs.Prelude.{nat_eq}
 use Rattle.std.specs.List.{count_by}
 use Rattle.std.specs.HashMap.{HashMap, get}
-use Rattle.ptu_judges.specs.Held.{Held, IsStock}
+use Rattle.ptu_judges.specs.Held.{Held}
 use Rattle.ptu_report_lines.specs.declared.sent.Sent.{Sent}
-use Rattle.ptu_report_lines.specs.declared.statement.Statement.{Statement}
 use Rattle.ptu_world.specs.Deeds as world
 use Rattle.ptu_world.specs.Deeds.{Deed}
 use Rattle.ptu_world.specs.Slaves as slaves
 use Rattle.ptu_record.specs.declared.rule.Rule.{Rule}
 use Rattle.ptu_slave_messages.specs.Config.{place_of}
-use Rattle.ptu_world.specs.World.{Done, Nodes, Stock, World, datagram_deed, datagram_numbered, delivered_to, done_by, node_at, or_cause, placed, said_by, sent_from, step, stock_without}
+use Rattle.ptu_world.specs.World.{Done, Nodes, Stock, datagram_deed, datagram_numbered, delivered_to, done_by, node_at, or_cause, placed, said_by, sent_from, step, stock_without}
 use Rattle.ptu_world.specs.Report.{Course, course_after, is_granted, is_short, outcome_by, text_at}
 use Rattle.ptu_report.specs.Rules.{IsOutcome}
 use Rattle.ptu_script.specs.declared.cause.Cause.{Cause}

@@ -1,10 +1,9 @@
 -- A judge is taken from the end of a list of the stock.
-use Rattle.std.proofs.Common.{◌≡◌, ◌∙◌, ℕ, ◌+◌, ◌-◌, ◌++◌, List, [], ◌∷◌, map, length, Option, Some, None, option_to_list, MatchOption, Ok, Bool, false, eqb, refl, sym, ap, subst, arith, length-append, append-nil, ne_eqb}
+use Rattle.std.proofs.Common.{◌≡◌, ◌∙◌, ℕ, ◌+◌, ◌-◌, ◌++◌, List, [], ◌∷◌, map, length, Option, Some, None, option_to_list, MatchOption, Ok, false, eqb, refl, sym, ap, subst, arith, length-append, ne_eqb}
 use Rattle.std.specs.List.{AllByRecursion}
 use Rattle.std.proofs.lemmas.List.{length-map}
 use Rattle.ptu_record.specs.declared.rule.Rule.TheVariants.{Flag, Gap}
 use Rattle.ptu_judges.specs.Held.{Held, IsStock, fresh}
-use Rattle.ptu_world.specs.World.{Stock}
 use Rattle.ptu_lab.specs.LabSteps.{HasNone, HasTaken}
 
 module _ {A : Type 0} (f : A → Held) where

@@ -9,7 +9,7 @@ use Rattle.ptu_script.specs.declared.command.Command.{Command}
 use Rattle.ptu_script.specs.Fields.{◌>>=◌}
 use Rattle.ptu_report_lines.specs.declared.sent.Sent.{Sent}
 use Rattle.ptu_world.specs.Deeds.{Deed, Grandmaster, Node, Slave}
-use Rattle.ptu_world.specs.World.{Done, Stock, World, done_by, grandmaster_by, node_at, place_in, quietly, set_up, slave_by, step, stock_without}
+use Rattle.ptu_world.specs.World.{Stock, done_by, grandmaster_by, place_in, quietly, set_up, slave_by, step, stock_without}
 use Rattle.ptu_world.specs.Report.{Course, course_after, outcome_by, text_at}
 use Rattle.ptu_lab.specs.declared.lab.Node.{Node as LabNode}
 use Rattle.ptu_lab.specs.declared.lab.Node.TheVariants as nodes

@@ -42,7 +42,8 @@ impl Lab {
             (StandsFor (λ n. map (λ j. held j) n.slave.judges.items)
             (map (λ j. held j) self.new.stock.flags.items)
             (map (λ j. held j) self.new.stock.gaps.items) self.new)
-            texts.new ip (λ w. datagram_deed w at from octets.now) (node_at c.world.nodes ip) found) }
+            texts.new ip (λ w. datagram_deed w at from octets.now) (node_at c.world.nodes ip)
+            found) }
     {
         match self.nodes.get_mut(&ip) {
             None => Ok(false),

@@ -10,7 +10,8 @@ ghost use Rattle.ptu_world.specs.Grandmasters.{capacity_deed, class_deed, turn_d
 ghost use Rattle.ptu_world.specs.Slaves.{plain_deed};
 ghost use Rattle.ptu_world.specs.World.{datagram_deed, stock_without};
 ghost use Rattle.ptu_lab.specs.Doing.{HasDone};
-ghost use Rattle.ptu_lab.specs.LabSteps.{HasActed, HasActedWithJudge, of_grandmaster, of_master, of_slave, stock_of};
+ghost use Rattle.ptu_lab.specs.LabSteps.{HasActed, HasActedWithJudge, stock_of};
+ghost use Rattle.ptu_lab.specs.LabSteps.{of_grandmaster, of_master, of_slave};
 ghost use Rattle.ptu_lab.specs.Standing.{StandsAs};
 
 use crate::lab::Node;
@@ -40,8 +41,10 @@ impl Node {
         sent: &mut Vec<Sent>,
     ) -> Result<Tally, OutOfMemory>
         ensures { IfOk result (λ tally. (ip : ℕ) (begun : Bool) (w : world.Node) →
-            StandsAs (λ n. map (λ j. held (j.vtable, j.value)) n.slave.judges.items) ip begun self.old w
-            → HasDone (StandsAs (λ n. map (λ j. held (j.vtable, j.value)) n.slave.judges.items) ip true self.new)
+            StandsAs (λ n. map (λ j. held (j.vtable, j.value)) n.slave.judges.items) ip begun
+            self.old w
+            → HasDone (StandsAs
+            (λ n. map (λ j. held (j.vtable, j.value)) n.slave.judges.items) ip true self.new)
             ip line (datagram_deed w at from octets.now) sent.old.items sent.new.items texts.old
             texts.new tally.granted tally.short) }
     {
@@ -72,9 +75,12 @@ impl Node {
     ) -> Result<Option<Cause>, OutOfMemory>
         requires table { table < 4 }
         ensures { IfOk result (λ refused. (ip : ℕ) (begun : Bool) (w : world.Node) →
-            StandsAs (λ n. map (λ j. held (j.vtable, j.value)) n.slave.judges.items) ip begun self.old w
-            → HasActed (StandsAs (λ n. map (λ j. held (j.vtable, j.value)) n.slave.judges.items) ip true self.new)
-            ip line sent.old.items sent.new.items texts.old texts.new (of_grandmaster (λ g. turn_deed g at table) w) refused) }
+            StandsAs (λ n. map (λ j. held (j.vtable, j.value)) n.slave.judges.items) ip begun
+            self.old w
+            → HasActed (StandsAs
+            (λ n. map (λ j. held (j.vtable, j.value)) n.slave.judges.items) ip true self.new)
+            ip line sent.old.items sent.new.items texts.old texts.new
+            (of_grandmaster (λ g. turn_deed g at table) w) refused) }
     {
         match self {
             Node::Grandmaster(node) => {
@@ -87,9 +93,12 @@ impl Node {
 
     /// The clockClass changes, if this is a grandmaster. Nothing is said of it.
     pub fn set_class(&mut self, class: u8) -> Option<Cause>
-        ensures { (line : ℕ) (sent : List described.Sent) (texts : List (List ℕ)) (ip : ℕ) (begun : Bool) (w : world.Node) →
-            StandsAs (λ n. map (λ j. held (j.vtable, j.value)) n.slave.judges.items) ip begun self.old w
-            → HasActed (StandsAs (λ n. map (λ j. held (j.vtable, j.value)) n.slave.judges.items) ip true self.new)
+        ensures { (line : ℕ) (sent : List described.Sent) (texts : List (List ℕ)) (ip : ℕ)
+            (begun : Bool) (w : world.Node) →
+            StandsAs (λ n. map (λ j. held (j.vtable, j.value)) n.slave.judges.items) ip begun
+            self.old w
+            → HasActed (StandsAs
+            (λ n. map (λ j. held (j.vtable, j.value)) n.slave.judges.items) ip true self.new)
             ip line sent sent texts texts (of_grandmaster (λ g. class_deed g class) w) result }
     {
         match self {
@@ -116,9 +125,12 @@ impl Node {
     ) -> Result<Option<Cause>, OutOfMemory>
         requires capacity { IsCapacity capacity }
         ensures { IfOk result (λ refused. (ip : ℕ) (begun : Bool) (w : world.Node) →
-            StandsAs (λ n. map (λ j. held (j.vtable, j.value)) n.slave.judges.items) ip begun self.old w
-            → HasActed (StandsAs (λ n. map (λ j. held (j.vtable, j.value)) n.slave.judges.items) ip true self.new)
-            ip line sent.old.items sent.new.items texts.old texts.new (of_grandmaster (λ g. capacity_deed g at capacity) w) refused) }
+            StandsAs (λ n. map (λ j. held (j.vtable, j.value)) n.slave.judges.items) ip begun
+            self.old w
+            → HasActed (StandsAs
+            (λ n. map (λ j. held (j.vtable, j.value)) n.slave.judges.items) ip true self.new)
+            ip line sent.old.items sent.new.items texts.old texts.new
+            (of_grandmaster (λ g. capacity_deed g at capacity) w) refused) }
     {
         match self {
             Node::Grandmaster(node) => {
@@ -142,9 +154,12 @@ impl Node {
         sent: &mut Vec<Sent>,
     ) -> Result<Option<Cause>, OutOfMemory>
         ensures { IfOk result (λ refused. (ip : ℕ) (begun : Bool) (w : world.Node) →
-            StandsAs (λ n. map (λ j. held (j.vtable, j.value)) n.slave.judges.items) ip begun self.old w
-            → HasActed (StandsAs (λ n. map (λ j. held (j.vtable, j.value)) n.slave.judges.items) ip true self.new)
-            ip line sent.old.items sent.new.items texts.old texts.new (of_slave (λ s. plain_deed s at Tick) w) refused) }
+            StandsAs (λ n. map (λ j. held (j.vtable, j.value)) n.slave.judges.items) ip begun
+            self.old w
+            → HasActed (StandsAs
+            (λ n. map (λ j. held (j.vtable, j.value)) n.slave.judges.items) ip true self.new)
+            ip line sent.old.items sent.new.items texts.old texts.new
+            (of_slave (λ s. plain_deed s at Tick) w) refused) }
     {
         match self {
             Node::Slave(node) => {
@@ -168,9 +183,12 @@ impl Node {
         sent: &mut Vec<Sent>,
     ) -> Result<Option<Cause>, OutOfMemory>
         ensures { IfOk result (λ refused. (ip : ℕ) (begun : Bool) (w : world.Node) →
-            StandsAs (λ n. map (λ j. held (j.vtable, j.value)) n.slave.judges.items) ip begun self.old w
-            → HasActed (StandsAs (λ n. map (λ j. held (j.vtable, j.value)) n.slave.judges.items) ip true self.new)
-            ip line sent.old.items sent.new.items texts.old texts.new (of_slave (λ s. plain_deed s at Stop) w) refused) }
+            StandsAs (λ n. map (λ j. held (j.vtable, j.value)) n.slave.judges.items) ip begun
+            self.old w
+            → HasActed (StandsAs
+            (λ n. map (λ j. held (j.vtable, j.value)) n.slave.judges.items) ip true self.new)
+            ip line sent.old.items sent.new.items texts.old texts.new
+            (of_slave (λ s. plain_deed s at Stop) w) refused) }
     {
         match self {
             Node::Slave(node) => {
@@ -196,9 +214,12 @@ impl Node {
         sent: &[Sent],
     ) -> Result<Option<Cause>, OutOfMemory>
         ensures { IfOk result (λ refused. (ip : ℕ) (begun : Bool) (w : world.Node) →
-            StandsAs (λ n. map (λ j. held (j.vtable, j.value)) n.slave.judges.items) ip begun self.old w
-            → HasActed (StandsAs (λ n. map (λ j. held (j.vtable, j.value)) n.slave.judges.items) ip true self.new)
-            ip line sent.now sent.now texts.old texts.new (of_master master (λ s m. plain_deed s at (TellFlag m unusable)) w) refused) }
+            StandsAs (λ n. map (λ j. held (j.vtable, j.value)) n.slave.judges.items) ip begun
+            self.old w
+            → HasActed (StandsAs
+            (λ n. map (λ j. held (j.vtable, j.value)) n.slave.judges.items) ip true self.new)
+            ip line sent.now sent.now texts.old texts.new
+            (of_master master (λ s m. plain_deed s at (TellFlag m unusable)) w) refused) }
     {
         let Node::Slave(node) = self else {
             return Ok(Some(Cause::Node));

@@ -89,14 +89,15 @@ impl Reporter for Lab {
     }
 }
 
-/// Replays the script that the source has left: its nodes take their datagrams, turns and ticks, and
-/// each line of the report is handed to the sink in one piece, and its rest again until all is taken,
-/// before the next line of the script is read. The judges of slaves are taken from the stock. At most
-/// 67108865 octets are read, and nothing behind the end.
+/// Replays the script that the source has left: its nodes take their datagrams, turns and ticks,
+/// and each line of the report is handed to the sink in one piece, and its rest again until all is
+/// taken, before the next line of the script is read. The judges of slaves are taken from the
+/// stock. At most 67108865 octets are read, and nothing behind the end.
 ///
 /// # Errors
 /// `Line` exactly where a line is refused, after the line of the report that names it was written.
-/// `Read` exactly where the source failed, `Write` exactly where the sink failed, and `OutOfMemory`.
+/// `Read` exactly where the source failed, `Write` exactly where the sink failed, and
+/// `OutOfMemory`.
 pub fn replay<S: Source, K: Sink>(
     alloc: Global,
     source: &mut S,

@@ -1,4 +1,4 @@
-use Rattle.std.proofs.Common.{◌≡◌, ◌∙◌, ◌<◌, ℕ, Bool, true, false, cond, length, is_some, map, Option, Some, None, refl, sym, ap, subst, arith, le-leb, leb}
+use Rattle.std.proofs.Common.{◌≡◌, ◌∙◌, ◌<◌, ℕ, false, is_some, map, refl, sym, ap, le-leb, leb}
 use Rattle.std.specs.Prelude.{nat_eq}
 use Rattle.std.proofs.lemmas.Bool.{lt-leb}
 use Rattle.ptu_lab.proofs.LabMasters.{added, has_it, is_full, means, no_judge, no_slave, put_back, too_late}

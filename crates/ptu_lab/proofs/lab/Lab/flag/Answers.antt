@@ -1,4 +1,4 @@
-use Rattle.std.proofs.Common.{[], true, map, refl, sym, subst, rules}
+use Rattle.std.proofs.Common.{true, map, refl, sym, subst, rules}
 use Rattle.ptu_record.specs.Step.{TellFlag}
 use Rattle.ptu_world.specs.Slaves.{plain_deed}
 use Rattle.ptu_lab.specs.LabSteps.{HasActed, of_master}

@@ -1,4 +1,4 @@
-use Rattle.std.proofs.Common.{[], true, refl, sym, rules}
+use Rattle.std.proofs.Common.{refl, sym, rules}
 use Rattle.ptu_world.specs.Grandmasters.{capacity_deed}
 use Rattle.ptu_lab.specs.LabSteps.{of_grandmaster}
 use Rattle.ptu_lab.proofs.LabCommands.{capacity_is}
