@@ -96,8 +96,8 @@ fn run_command<S: Source, K: Sink>(
 
 /// Does all that the program does, with the words after its name, and gives the status that it ends
 /// with: 0 where the source was read to its end (but by a load, which reads nothing) and the whole
-/// output was written, or one of the numbers above. The judges of the slaves of a script are taken from the stock, which is to be
-/// fresh.
+/// output was written, or one of the numbers above. The judges of the slaves of a script are taken
+/// from the stock, which is to be fresh.
 #[tactic(auto, using(ptu_world::proofs::Headline::headline))]
 pub fn run<S: Source, K: Sink>(
     alloc: Global,
@@ -110,16 +110,16 @@ pub fn run<S: Source, K: Sink>(
         (map (λ j. held (j.vtable, j.value)) stock.gaps.items) }
     ensures statuses { Contains statuses result }
 
-    // The command line does not match the words, by the meaning that clap gives it, and then nothing
-    // was read or written.
+    // The command line does not match the words, by the meaning that clap gives it, and then
+    // nothing was read or written.
     ensures usage { result ≡ USAGE → IsRefused (map (λ w. w.now) words.now) }
     ensures refused { IsRefused (map (λ w. w.now) words.now)
         → (result ≡ USAGE) ⊎ (result ≡ OUT_OF_MEMORY) }
     ensures untouched { IsRefused (map (λ w. w.now) words.now)
         → (source.new ≡ source.old) × (sink.new ≡ sink.old) }
 
-    // The whole output of the command that the words ask for was written, and the status says how it
-    // ends: where neither side failed and memory was found,
+    // The whole output of the command that the words ask for was written, and the status says how
+    // it ends: where neither side failed and memory was found,
     ensures output { (command : Command) → command_of (map (λ w. w.now) words.now) ≡ Some command
         → (input : List ℕ) → S.left source.old ≡ Some input
         → (HasRisen (S.faults source.old) (S.faults source.new) → ⊥)
@@ -156,15 +156,16 @@ pub fn run<S: Source, K: Sink>(
     // The report says so, line by line,
     ensures says_so { (script : List ℕ) → S.left source.old ≡ Some script
         → SaysSo (stock_of stock.flags.items stock.gaps.items) script }
-    // and the status is 0 exactly where its last line is `end`; then the source was read to its end.
+    // and the status is 0 exactly where its last line is `end`; then the source was read to its
+    // end.
     ensures status { (result ≡ 0) ⊎ (result ≡ BAD_LINE)
         → command_of (map (λ w. w.now) words.now) ≡ Some Command.Replay
         → (script : List ℕ) → S.left source.old ≡ Some script
         → IsStatusOf (report_lines (stock_of stock.flags.items stock.gaps.items) script)
         (S.left source.new) result }
 
-    // A fault is answered exactly where there was one, and what was written is a front of the output,
-    // whatever is answered.
+    // A fault is answered exactly where there was one, and what was written is a front of the
+    // output, whatever is answered.
     ensures source_fault { result ≡ SOURCE_FAULT
         → HasRisen (S.faults source.old) (S.faults source.new) }
     ensures source_still { result ≢ SOURCE_FAULT → S.faults source.new ≡ S.faults source.old }

@@ -1,5 +1,5 @@
-//! A lab for scripts and datagrams in text: `replay` runs the nodes of a script and reports what they
-//! do, `show` decodes datagrams, line by line.
+//! A lab for scripts and datagrams in text: `replay` runs the nodes of a script and reports what
+//! they do, `show` decodes datagrams, line by line.
 #![tactic(auto)]
 
 mod datagram;

@@ -116,9 +116,9 @@ fn summary_line(alloc: Global, done: Done) -> Result<String, AllocError>
     Ok(text)
 }
 
-/// Replays the script that `generate` writes for this many clients, and writes one line: the numbers
-/// of the report as a compact JSON object. It is handed to the sink in one piece, and its rest again
-/// until all is taken.
+/// Replays the script that `generate` writes for this many clients, and writes one line: the
+/// numbers of the report as a compact JSON object. It is handed to the sink in one piece, and its
+/// rest again until all is taken.
 ///
 /// # Errors
 /// `Write` exactly where the sink failed, and `OutOfMemory`; never `Line` or `Read`.

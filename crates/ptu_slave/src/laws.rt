@@ -29,8 +29,8 @@ pub fn rules_stay()
         Steps openings old new news L t e → AllByRecursion (λ held. IsSome held.rule) news }
 {}
 
-/// What a slave replies to a datagram is what its node's step says, and the node's entries are those
-/// of the one step.
+/// What a slave replies to a datagram is what its node's step says, and the node's entries are
+/// those of the one step.
 pub fn nodes()
     ensures replies { (node : Node) (L : Record) (t ip : ℕ) (octets : List ℕ) →
         replies_in node.config node.masters (reception node.config node.masters ip octets)

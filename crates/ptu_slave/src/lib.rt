@@ -1,5 +1,5 @@
-//! A slave: it asks its masters for unicast transmission, hears them, lets its judges find which are
-//! unusable, and selects the best (IEEE 1588-2019 clause 16.1, G.8265.1).
+//! A slave: it asks its masters for unicast transmission, hears them, lets its judges find which
+//! are unusable, and selects the best (IEEE 1588-2019 clause 16.1, G.8265.1).
 #![tactic(auto)]
 
 mod asking;

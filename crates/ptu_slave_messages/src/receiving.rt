@@ -23,7 +23,8 @@ use std::alloc::{AllocError, Global};
 // What the octets spell.
 fn read(alloc: Global, bytes: &[u8]) -> Result<Result<Message, MessageFault>, OutOfMemory>
     ensures value { IfOk result (λ found. found ≡ message_in bytes.now) }
-    ensures spelled { IfOk result (λ found. IfOk found (λ message. SpellsMessage bytes.now message)) }
+    ensures spelled { IfOk result
+        (λ found. IfOk found (λ message. SpellsMessage bytes.now message)) }
     ensures memory { IsErr result → (n : ℕ) × IsSignaling bytes.now n }
 {
     match read_message(alloc, bytes) {

@@ -9,9 +9,11 @@ pub fn short_scripts()
     ensures comment { report no_judges (codes "# nothing\n\n") ≡ lines_of (codes "end 2 0" ∷ []) }
     ensures no_node { report no_judges (codes "turn 0 10.0.0.9 0")
         ≡ lines_of (codes "1 bad node" ∷ []) }
-    ensures no_datagram { report no_judges (script_of (gm (codes "8 300") ∷ codes "deliver 0 1" ∷ []))
+    ensures no_datagram { report no_judges (script_of (gm (codes "8 300") ∷ codes "deliver 0 1"
+        ∷ []))
         ≡ lines_of (codes "2 bad number" ∷ []) }
-    ensures datagram_zero { report no_judges (script_of (gm (codes "8 300") ∷ codes "deliver 0 0" ∷ []))
+    ensures datagram_zero { report no_judges (script_of (gm (codes "8 300")
+        ∷ codes "deliver 0 0" ∷ []))
         ≡ lines_of (codes "2 bad number" ∷ []) }
     ensures set_up_late { report no_judges (script_of (gm (codes "8 300")
         ∷ codes "class 10.0.0.1 90" ∷ gm (codes "8 300") ∷ []))

@@ -1,4 +1,5 @@
-//! What the report on a script is to the driver of programs over lines, by a function without a body.
+//! What the report on a script is to the driver of programs over lines, by a function without a
+//! body.
 ghost use Rattle.std.specs.Prelude.{◌≡◌, ℕ, List, IfSome};
 ghost use Rattle.ptu_lines.specs.Script.{script_lines};
 ghost use Rattle.ptu_report.specs.Rules.{ending_of, meaning_of, texts_of};
@@ -12,7 +13,8 @@ pub fn report_by_rules()
     ensures texts { (stock : Stock) (script : List ℕ) →
         texts_of rules (course_opening stock) (script_lines script) ≡ report stock script }
     ensures ending { (stock : Stock) (script : List ℕ) →
-        EndsBy (ending_of rules (course_opening stock) (script_lines script)) (world_of stock script)
+        EndsBy (ending_of rules (course_opening stock) (script_lines script))
+        (world_of stock script)
         (report_lines stock script) }
     ensures counts { (stock : Stock) (script : List ℕ) →
         IfSome (meaning_of rules (course_opening stock) (script_lines script))

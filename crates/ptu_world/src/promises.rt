@@ -28,8 +28,8 @@ ghost use Rattle.ptu_world.specs.Promises.{AreMessagesSent, GoesOn, Handed, addr
 /// The headline: over every script, at every moment the granted rates of each grandmaster sum to at
 /// most its capacity; each REQUEST that a datagram brings is granted exactly where its rate fits
 /// beside the other live grants, and else answered with the duration zero; each message takes a
-/// period of its own inside a live grant, and all messages are within the budget; each slave selects
-/// its best eligible master; and the report says so of each line that is taken.
+/// period of its own inside a live grant, and all messages are within the budget; each slave
+/// selects its best eligible master; and the report says so of each line that is taken.
 pub fn headline()
     ensures within_capacity { (stock : Stock) (script : List ℕ) → WithinCapacity stock script }
     ensures granted_by_room { (stock : Stock) (script : List ℕ) → DecidesByRoom stock script }
@@ -76,7 +76,8 @@ pub fn grandmasters()
         Reaches stock script w → node_at w.nodes ip ≡ Some (IsGrandmaster g) →
         KeepsPromises (gm.opening g) g.past }
     ensures messages { (stock : Stock) (script : List ℕ) (w : World) (ip : ℕ) (g : Grandmaster) →
-        Reaches stock script w → node_at w.nodes ip ≡ Some (IsGrandmaster g) → AreMessagesSent w ip g }
+        Reaches stock script w → node_at w.nodes ip ≡ Some (IsGrandmaster g)
+        → AreMessagesSent w ip g }
 {}
 
 /// A grandmaster goes on with the events of each datagram that it is handed, with its turns and
@@ -128,7 +129,8 @@ pub fn datagrams()
     ensures delivered { (stock : Stock) (script : List ℕ) (w : World) (r : Reaches stock script w)
         (t number : ℕ) (done : Done) →
         step w (Deliver t number) ≡ Ok done →
-        IsDelivered w t number (filter_map sent_in (said_of (opening stock) r.taken w r.leads)) done }
+        IsDelivered w t number
+        (filter_map sent_in (said_of (opening stock) r.taken w r.leads)) done }
 {}
 
 /// Each line of the report that names a slave's selection names its best eligible master by its
