@@ -1,0 +1,5 @@
+use Rattle.ptu_shared.proofs.changing.cancel_one.Goals as goal
+
+pub returns-clause-stands : goal.returns-clause-stands
+returns-clause-stands g c = λ opened rest history standing alone. c.cancel-cancelled.ensures.stands opened rest history
+    (rw (c.audit_table.ensures.table, c.audit_table.ensures.desk.0) standing) alone
