@@ -20,3 +20,6 @@ pub use closing::CloseFault;
 pub use rates::Rates;
 pub use seat::Seat;
 pub use shared::Shared;
+
+#[cfg(test)]
+mod tests;

@@ -99,9 +99,9 @@ impl<P: Port + Send, L: Rates, G: Ledger, R: Ledger> Shared<P, L, G, R> {
     ///
     /// # Errors
     /// After `OutOfMemory` the seat is as before.
-    pub fn admit<W: Wait>(
+    pub fn admit(
         &self,
-        rt: &W,
+        rt: &impl Wait,
         seat: &mut Seat<G, R>,
         config: &GmConfig,
         t: Moment,
@@ -123,9 +123,9 @@ impl<P: Port + Send, L: Rates, G: Ledger, R: Ledger> Shared<P, L, G, R> {
     }
 
     // Decides an ask under the lock of the client's table and the book's, if that is enough.
-    fn admit_by_one<W: Wait>(
+    fn admit_by_one(
         &self,
-        rt: &W,
+        rt: &impl Wait,
         seat: &mut Seat<G, R>,
         config: &GmConfig,
         t: Moment,
@@ -146,9 +146,9 @@ impl<P: Port + Send, L: Rates, G: Ledger, R: Ledger> Shared<P, L, G, R> {
     }
 
     // Decides an ask under the locks of all tables and the book's.
-    fn admit_by_all<W: Wait>(
+    fn admit_by_all(
         &self,
-        rt: &W,
+        rt: &impl Wait,
         seat: &mut Seat<G, R>,
         config: &GmConfig,
         t: Moment,
@@ -179,7 +179,7 @@ impl<P: Port + Send, L: Rates, G: Ledger, R: Ledger> Shared<P, L, G, R> {
     }
 
     /// Ends the client's grant of the kind at a moment that is not before `t`.
-    pub fn cancel<W: Wait>(&self, rt: &W, t: Moment, client: &Client, kind: Kind) -> Cancelled
+    pub fn cancel(&self, rt: &impl Wait, t: Moment, client: &Client, kind: Kind) -> Cancelled
         ensures { t ≤ result.at }
     {
         let mut table = self.table(table_of(client)).lock(rt);
@@ -192,7 +192,7 @@ impl<P: Port + Send, L: Rates, G: Ledger, R: Ledger> Shared<P, L, G, R> {
     ///
     /// # Errors
     /// After `OutOfMemory` nothing has changed.
-    pub fn resize<W: Wait>(&self, rt: &W, t: Moment, capacity: u64) -> Result<Resized, OutOfMemory>
+    pub fn resize(&self, rt: &impl Wait, t: Moment, capacity: u64) -> Result<Resized, OutOfMemory>
         requires ledger { L.parts ≡ 4 }
         requires capacity { IsCapacity capacity }
         requires most { capacity ≤ L.most }
@@ -209,7 +209,7 @@ impl<P: Port + Send, L: Rates, G: Ledger, R: Ledger> Shared<P, L, G, R> {
     }
 
     /// A turn of the table of this index, at a moment that is not before `t`.
-    pub fn turn<W: Wait>(&self, rt: &W, config: &GmConfig, table: usize, t: Moment) -> Turned
+    pub fn turn(&self, rt: &impl Wait, config: &GmConfig, table: usize, t: Moment) -> Turned
         requires limits { IsWithinLimits config.now }
         requires table { table < 4 }
         ensures { t ≤ result.at }
@@ -218,9 +218,9 @@ impl<P: Port + Send, L: Rates, G: Ledger, R: Ledger> Shared<P, L, G, R> {
     }
 
     /// Answers a Delay_Req of the client at a moment that is not before `t`.
-    pub fn answer_delay<W: Wait>(
+    pub fn answer_delay(
         &self,
-        rt: &W,
+        rt: &impl Wait,
         config: &GmConfig,
         t: Moment,
         client: &Client,
