@@ -1,5 +1,5 @@
 -- What answers a Delay_Req where the table stands behind a lock.
-use Rattle.std.specs.Prelude.{ℕ, ◌<◌}
+use Rattle.std.specs.Prelude.{◌<◌}
 use Rattle.ptu_shard.specs.declared.answered.Answered.{Answered}
 use Rattle.ptu_shard.specs.declared.answered.Answered.TheVariants.{Sent, Failed, NoGrant, TooSoon}
 

@@ -50,6 +50,7 @@ pub(crate) fn ask_one<P: Port, L: Rates, G: Ledger, R: Ledger>(
     ensures desk { IfSome result (λ v. counting v
         (record { granted = desk.old.granted; refused = desk.old.refused })
         ≡ record { granted = desk.new.granted; refused = desk.new.refused }) }
+    ensures port { table.new.shard.port ≡ table.old.shard.port }
     ensures none { IfNone result ((table.new.shard ≡ table.old.shard)
         × (desk.new.book ≡ desk.old.book) × (seat.new ≡ seat.old)) }
     ensures stands { (opening : ℕ) (rest : List Lent) (history : List Record) →
@@ -102,6 +103,9 @@ pub(crate) fn ask_all<P: Port, L: Rates, G: Ledger, R: Ledger>(
     ensures desk { counting result
         (record { granted = desk.old.granted; refused = desk.old.refused })
         ≡ record { granted = desk.new.granted; refused = desk.new.refused } }
+    ensures ports { (t0.new.shard.port ≡ t0.old.shard.port)
+        × (t1.new.shard.port ≡ t1.old.shard.port) × (t2.new.shard.port ≡ t2.old.shard.port)
+        × (t3.new.shard.port ≡ t3.old.shard.port) }
     ensures stands { (opening : ℕ) (history : List Record) →
         let lent = four t0.old.shard t1.old.shard t2.old.shard t3.old.shard in
         StandFor opening lent desk.old.book history →

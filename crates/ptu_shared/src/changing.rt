@@ -36,6 +36,7 @@ pub(crate) fn cancel_one<P: Port, L: Rates, G: Ledger, R: Ledger>(
         ≡ has_live_row result.at client.now kind table.old.shard.rows }
     ensures desk { (desk.new.granted ≡ desk.old.granted)
         × (desk.new.refused ≡ desk.old.refused) }
+    ensures port { table.new.shard.port ≡ table.old.shard.port }
     ensures stands { (opened : Config) (rest : List Lent) (history : List Record) →
         StandFor opened.capacity (table_for client.now table.old.shard ∷ rest)
         desk.old.book history →
@@ -72,6 +73,9 @@ pub(crate) fn resize_all<P: Port, L: Rates, G: Ledger, R: Ledger>(
         × (t3.new.shard ≡ t3.old.shard) × (desk.new.book ≡ desk.old.book)) }
     ensures desk { (desk.new.granted ≡ desk.old.granted)
         × (desk.new.refused ≡ desk.old.refused) }
+    ensures ports { (t0.new.shard.port ≡ t0.old.shard.port)
+        × (t1.new.shard.port ≡ t1.old.shard.port) × (t2.new.shard.port ≡ t2.old.shard.port)
+        × (t3.new.shard.port ≡ t3.old.shard.port) }
     ensures shed { (opening : ℕ) (history : List Record) →
         StandFor opening (four t0.old.shard t1.old.shard t2.old.shard t3.old.shard)
         desk.old.book history →

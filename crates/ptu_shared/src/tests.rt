@@ -1,6 +1,5 @@
-ghost use Rattle.std.specs.Prelude.{◌≡◌, ◌≤◌, ◌<◌, ◌^◌, IfOk, replicate};
+ghost use Rattle.std.specs.Prelude.{◌≡◌, ◌≤◌, ◌<◌, None};
 ghost use Rattle.ptu_admit.specs.Book.{IsCapacity};
-ghost use Rattle.ptu_shared.specs.Seats.{no_verdicts};
 
 use super::*;
 use ptu_admit::{Closed, Verdict};

@@ -1,5 +1,5 @@
 -- The verdict was found at the greatest of three moments, under the capacity of the book.
-use Rattle.std.proofs.Common.{◌≡◌, ◌≤◌, ◌∙◌, refl, sym, arith, rules}
+use Rattle.std.proofs.Common.{arith}
 use Rattle.ptu_shared.proofs.Verdicts.{answers_ask}
 use Rattle.ptu_shared.proofs.asking.ask_all.Goals as goal
 
