@@ -119,7 +119,8 @@ fn close_tables<P: Port, L: Rates, G: Ledger, R: Ledger>(
     mut desk: Desk<L, G, R>,
 ) -> Closed<P>
     requires { L.parts ≡ 4 }
-    ensures counts { let n = moment_for_all 0 desk.book (four t0.shard t1.shard t2.shard t3.shard) in
+    ensures counts { let n = moment_for_all 0 desk.book
+        (four t0.shard t1.shard t2.shard t3.shard) in
         result.counts
         ≡ share_of (live_rows n t0.shard.rows) ∷ share_of (live_rows n t1.shard.rows)
         ∷ share_of (live_rows n t2.shard.rows) ∷ share_of (live_rows n t3.shard.rows) ∷ [] }
@@ -156,8 +157,8 @@ fn is_settled<L: Rates, G: Ledger, R: Ledger>(desk: &Desk<L, G, R>, sums: (u64, 
 
 impl<P: Port + Send, L: Rates, G: Ledger, R: Ledger> Shared<P, L, G, R> {
     /// Closes the tables, where these seats have counted what the book has: what each table holds
-    /// at the greatest of the five moments, how many asks were granted and how many refused, and the
-    /// ports as they are. It waits for nobody.
+    /// at the greatest of the five moments, how many asks were granted and how many refused, and
+    /// the ports as they are. It waits for nobody.
     ///
     /// # Errors
     /// A `CloseFault` exactly where the seats' sums differ from the book's two counts. All seats

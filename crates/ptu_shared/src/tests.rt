@@ -405,6 +405,7 @@ fn shedding<L: Rates, G: Ledger, R: Ledger, W: Wait + Abort>(
         × (R.parts ≡ L.seats) }
     requires capacity { IsCapacity capacity }
     requires most { capacity ≤ L.most }
+    requires enough { 8 ≤ capacity }
     requires seats { L.seats ≡ 1 }
 {
     let (shared, mut seats) = open::<L, G, R>(alloc, rates, granted, refused, capacity, 1)?;
