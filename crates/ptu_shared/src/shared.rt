@@ -26,9 +26,9 @@ use std::sync::{Mutex, Wait};
 /// The four tables of a grandmaster and its book, each behind a lock of its own.
 ///
 /// Whenever a table's lock is got, its share is the sum of the rates of its leases. Whenever the
-/// book's is got, its total is at most the capacity in force, and it is that of the ledger of rates,
-/// whose parts stand beside the tables: with all five locks it is the sum of the shares. A call that
-/// takes a lock may wait for other threads, and nothing is promised of how long.
+/// book's is got, its total is at most the capacity in force, and it is that of the ledger of
+/// rates, whose parts stand beside the tables: with all five locks it is the sum of the shares. A
+/// call that takes a lock may wait for other threads, and nothing is promised of how long.
 #[derive(Drop)]
 pub struct Shared<P: Port + Send, L: Rates, G: Ledger, R: Ledger> {
     pub(crate) alloc: Global,
@@ -43,9 +43,10 @@ impl<P: Port + Send, L: Rates, G: Ledger, R: Ledger> Shared<P, L, G, R> {
     /// Four tables without grants, of this capacity in sixteenths of a message per second, at
     /// moment 0, whose messages go by these ports, and all seats from which asks are counted.
     ///
-    /// The blanks become the ledgers: that of rates has four parts, and those of granted and refused
-    /// asks have one for each seat. A caller makes the three and calls a function that is generic
-    /// over the ledgers, with `Brand` for each; whatever holds a share lives inside that call.
+    /// The blanks become the ledgers: that of rates has four parts, and those of granted and
+    /// refused asks have one for each seat. A caller makes the three and calls a function that is
+    /// generic over the ledgers, with `Brand` for each; whatever holds a share lives inside that
+    /// call.
     ///
     /// # Errors
     /// `OutOfMemory`, with the ports and the blanks dropped.

@@ -420,6 +420,88 @@ fn a_lower_capacity_sheds_the_newest(rt: HostRuntime) -> Result<(), Fail> {
     shedding::<Brand, Brand, Brand, HostRuntime>(&rt, rt.alloc(), rates, granted, refused, 16)
 }
 
+// The client asks for Announces from a seat of its own, which is handed back.
+fn ask_from<L: Rates, G: Ledger, R: Ledger, W: Wait + Abort>(
+    rt: &W,
+    shared: &Shared<MemPort, L, G, R>,
+    mut seat: Seat<G, R>,
+    client: &Client,
+) -> (Told, Seat<G, R>)
+    requires { L.parts ≡ 4 }
+{
+    let told = ask(rt, shared, &mut seat, 0, client, ANNOUNCE, 1);
+    (told, seat)
+}
+
+// Two threads ask for what is there once, each from its own seat. Gives the answers.
+fn ask_at_once<L, G, R, W>(
+    rt: &W,
+    shared: &Shared<MemPort, L, G, R>,
+    seats: &mut Vec<Seat<G, R>>,
+) -> (Told, Told)
+where
+    L: Rates + Sync,
+    G: Ledger + Sync,
+    R: Ledger + Sync,
+    W: Wait + Abort + Threads + Sync,
+    requires { L.parts ≡ 4 }
+{
+    let first = seats.pop().expect(rt, "there are two seats");
+    let second = seats.pop().expect(rt, "there are two seats");
+    let (a, b) = thread::join(
+        rt,
+        move ||
+            requires { L.parts ≡ 4 }
+        { ask_from(rt, shared, first, &A) },
+        move ||
+            requires { L.parts ≡ 4 }
+        { ask_from(rt, shared, second, &B) },
+    );
+    seats.push(a.1).expect(rt, "there is room");
+    seats.push(b.1).expect(rt, "there is room");
+    (a.0, b.0)
+}
+
+fn two_seats<L, G, R, W>(
+    rt: &W,
+    alloc: Global,
+    rates: Blank,
+    granted: Blank,
+    refused: Blank,
+    capacity: u64,
+) -> Result<(), Fail>
+where
+    L: Rates + Sync,
+    G: Ledger + Sync,
+    R: Ledger + Sync,
+    W: Wait + Abort + Threads + Sync,
+    requires rates { (rates.name ≡ L.name) × (rates.parts ≡ L.parts) × (L.parts ≡ 4) }
+    requires granted { (granted.name ≡ G.name) × (granted.parts ≡ G.parts)
+        × (G.parts ≡ L.seats) }
+    requires refused { (refused.name ≡ R.name) × (refused.parts ≡ R.parts)
+        × (R.parts ≡ L.seats) }
+    requires capacity { IsCapacity capacity }
+    requires most { capacity ≤ L.most }
+    requires seats { L.seats ≡ 2 }
+{
+    let (shared, mut seats) = open::<L, G, R>(alloc, rates, granted, refused, capacity, 2)?;
+    let granted = Told::Granted {
+        at: 0,
+        until: 300_000_000_000,
+    };
+    let (a, b) = ask_at_once(rt, &shared, &mut seats);
+    assert!(rt; (a == granted) != (b == granted));
+    let closed = close_all(rt, shared, seats);
+    assert_eq!(rt; (closed.total, closed.granted, closed.refused), (8, 1, 1));
+    Ok(())
+}
+
+#[test]
+fn one_of_two_threads_is_short(rt: HostRuntime) -> Result<(), Fail> {
+    let (rates, granted, refused) = (Blank::new(4), Blank::new(2), Blank::new(2));
+    two_seats::<Brand, Brand, Brand, HostRuntime>(&rt, rt.alloc(), rates, granted, refused, 8)
+}
+
 // Where the port of a table is held in a send.
 #[derive(Drop)]
 struct Gate {
