@@ -158,7 +158,7 @@ fn is_settled<L: Rates, G: Ledger, R: Ledger>(desk: &Desk<L, G, R>, sums: (u64, 
 impl<P: Port + Send, L: Rates, G: Ledger, R: Ledger> Shared<P, L, G, R> {
     /// Closes the tables, where these seats have counted what the book has: what each table holds
     /// at the greatest of the five moments, how many asks were granted and how many refused, and
-    /// the ports as they are. It waits for nobody.
+    /// the ports as they are. It waits for nobody and takes no memory.
     ///
     /// # Errors
     /// A `CloseFault` exactly where the seats' sums differ from the book's two counts. All seats

@@ -194,7 +194,7 @@ fn open<L: Rates, G: Ledger, R: Ledger>(
     )?)
 }
 
-// A is granted what is there, and B is short.
+// A is granted what is there, and B is short. An ask outside the profile is not counted.
 fn ask_for_both<L: Rates, G: Ledger, R: Ledger, W: Wait + Abort>(
     rt: &W,
     shared: &Shared<MemPort, L, G, R>,
@@ -269,7 +269,7 @@ fn a_close_wants_every_seat(rt: HostRuntime) -> Result<(), Fail> {
     admission::<Brand, Brand, Brand, HostRuntime>(&rt, rt.alloc(), rates, granted, refused, 8)
 }
 
-// What a Delay_Req of A meets, and where it is too soon, from when on it is not.
+// What a Delay_Req of A meets.
 fn delay<L: Rates, G: Ledger, R: Ledger, W: Wait + Abort>(
     rt: &W,
     shared: &Shared<MemPort, L, G, R>,
