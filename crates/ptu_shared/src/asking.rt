@@ -6,6 +6,7 @@ ghost use Rattle.ptu_history.specs.Client.{table_of as table_of_client};
 ghost use Rattle.ptu_history.specs.History.{Record};
 ghost use Rattle.ptu_history.specs.Events.{Request};
 ghost use Rattle.ptu_history.specs.Step.{step};
+ghost use Rattle.ptu_history.specs.Verdict.{verdict as verdict_after};
 ghost use Rattle.ptu_shard.specs.Config.{IsWithinLimits};
 ghost use Rattle.ptu_admit.specs.Lent.{Lent, StandFor, four, is_lent, live_others, moment_for, table_for};
 ghost use Rattle.ptu_admit.specs.Rows.{kept_rate};
@@ -53,6 +54,11 @@ pub(crate) fn ask_one<P: Port, L: Rates, G: Ledger, R: Ledger>(
     ensures port { table.new.shard.port ≡ table.old.shard.port }
     ensures none { IfNone result ((table.new.shard ≡ table.old.shard)
         × (desk.new.book ≡ desk.old.book) × (seat.new ≡ seat.old)) }
+    ensures outcome { (opening : ℕ) (rest : List Lent) (history : List Record) →
+        StandFor opening (table_for client.now table.old.shard ∷ rest) desk.old.book history →
+        IfSome result (λ v. verdict_of v
+        ≡ verdict_after (config_of opening config.now) history
+        (max t (max desk.old.book.moment table.old.shard.moment)) client.now (ask_of ask.now)) }
     ensures stands { (opening : ℕ) (rest : List Lent) (history : List Record) →
         StandFor opening (table_for client.now table.old.shard ∷ rest) desk.old.book history →
         is_lent (table_of_client client.now) rest ≡ false →
@@ -106,6 +112,11 @@ pub(crate) fn ask_all<P: Port, L: Rates, G: Ledger, R: Ledger>(
     ensures ports { (t0.new.shard.port ≡ t0.old.shard.port)
         × (t1.new.shard.port ≡ t1.old.shard.port) × (t2.new.shard.port ≡ t2.old.shard.port)
         × (t3.new.shard.port ≡ t3.old.shard.port) }
+    ensures outcome { (opening : ℕ) (history : List Record) →
+        let lent = four t0.old.shard t1.old.shard t2.old.shard t3.old.shard in
+        StandFor opening lent desk.old.book history →
+        verdict_of result ≡ verdict_after (config_of opening config.now) history
+        (moment_for t desk.old.book client.now lent) client.now (ask_of ask.now) }
     ensures stands { (opening : ℕ) (history : List Record) →
         let lent = four t0.old.shard t1.old.shard t2.old.shard t3.old.shard in
         StandFor opening lent desk.old.book history →

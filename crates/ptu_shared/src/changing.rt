@@ -3,6 +3,7 @@
 ghost use Rattle.std.specs.Prelude.{◌≡◌, ℕ, ◌+◌, ◌≤◌, max, false, List, ◌∷◌, ◌++◌, map, IfOk, OnErr};
 ghost use Rattle.ptu_history.specs.Client.{table_of as table_of_client};
 ghost use Rattle.ptu_history.specs.History.{Record};
+ghost use Rattle.ptu_history.specs.Live.{live};
 ghost use Rattle.ptu_history.specs.Verdict.{Config};
 ghost use Rattle.ptu_history.specs.Events.{Cancel, Resize};
 ghost use Rattle.ptu_history.specs.Shedding.{shed_grants};
@@ -37,6 +38,9 @@ pub(crate) fn cancel_one<P: Port, L: Rates, G: Ledger, R: Ledger>(
     ensures desk { (desk.new.granted ≡ desk.old.granted)
         × (desk.new.refused ≡ desk.old.refused) }
     ensures port { table.new.shard.port ≡ table.old.shard.port }
+    ensures live { (opening : ℕ) (rest : List Lent) (history : List Record) →
+        StandFor opening (table_for client.now table.old.shard ∷ rest) desk.old.book history →
+        result.ended ≡ live history result.at client.now kind }
     ensures stands { (opened : Config) (rest : List Lent) (history : List Record) →
         StandFor opened.capacity (table_for client.now table.old.shard ∷ rest)
         desk.old.book history →

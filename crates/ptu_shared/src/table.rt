@@ -5,7 +5,8 @@ ghost use Rattle.ptu_history.specs.Client.{table_of};
 ghost use Rattle.ptu_history.specs.History.{Record};
 ghost use Rattle.ptu_history.specs.Verdict.{Config};
 ghost use Rattle.ptu_history.specs.Events.{DelayReq, Turn};
-ghost use Rattle.ptu_history.specs.Step.{step};
+ghost use Rattle.ptu_history.specs.Step.{delay_answer, step};
+ghost use Rattle.ptu_history.specs.Turns.{due_grants, message_of};
 ghost use Rattle.ptu_shard.specs.Answered.{failed_by, met_by, moment_of_answer, responses, sent_by};
 ghost use Rattle.ptu_shard.specs.Config.{IsWithinLimits};
 ghost use Rattle.ptu_shard.specs.Messages.{departure_of, response_of};
@@ -69,6 +70,11 @@ impl<P: Port, L: Ledger> Table<P, L> {
             (map (departure_of config.now result.at)
             (due_messages result.at self.old.shard.rows))
             result.sent result.failed }
+        ensures waiting { P.waiting self.new.shard.port ≡ P.waiting self.old.shard.port }
+        ensures messages { (j : ℕ) (history : List Record) →
+            StandsFor j self.old.shard history →
+            due_messages result.at self.old.shard.rows
+            ≡ map (message_of history) (due_grants history result.at j) }
         ensures stands { (opened : Config) (j : ℕ) (history : List Record)
             → StandsFor j self.old.shard history →
             StandsFor j self.new.shard
@@ -94,6 +100,10 @@ impl<P: Port, L: Ledger> Table<P, L> {
             (responses (met_by result)
             (response_of config.now self.new.shard.moment client.now request.now))
             (sent_by result) (failed_by result) }
+        ensures waiting { P.waiting self.new.shard.port ≡ P.waiting self.old.shard.port }
+        ensures met { (history : List Record) →
+            StandsFor (table_of client.now) self.old.shard history →
+            met_by result ≡ delay_answer history self.new.shard.moment client.now }
         ensures stands { (opened : Config) (history : List Record) →
             StandsFor (table_of client.now) self.old.shard history →
             StandsFor (table_of client.now) self.new.shard
