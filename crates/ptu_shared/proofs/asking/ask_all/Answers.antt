@@ -1,0 +1,7 @@
+-- The verdict was found at the greatest of three moments, under the capacity of the book.
+use Rattle.std.proofs.Common.{arith}
+use Rattle.ptu_shared.proofs.Verdicts.{answers_ask}
+use Rattle.ptu_shared.proofs.asking.ask_all.Goals as goal
+
+pub returns-clause-verdict : goal.returns-clause-verdict
+returns-clause-verdict g c = answers_ask g.L.Rates.most c.args.config.now c.args.t _ _ c.args.ask.now (omega arith) (omega arith) _ c.decide_all-verdict.result c.decide_all-verdict.ensures.at c.decide_all-verdict.ensures.answer

@@ -1,0 +1,11 @@
+use Rattle.ptu_shared.proofs.Shares.{same_four, swept_share}
+use Rattle.ptu_shared.proofs.closing.close_tables.Goals as goal
+
+pub returns-clause-counts : goal.returns-clause-counts
+returns-clause-counts g c =
+    let swept = c.finish_all.ensures.swept in
+    same_four _ _ _ _ _ _ _ _
+    (swept_share _ c.args.t0.shard c.finish_all.new.t0.shard _ swept.0 c.held.ensures.share)
+    (swept_share _ c.args.t1.shard c.finish_all.new.t1.shard _ swept.1 c.held-2.ensures.share)
+    (swept_share _ c.args.t2.shard c.finish_all.new.t2.shard _ swept.2 c.held-3.ensures.share)
+    (swept_share _ c.args.t3.shard c.finish_all.new.t3.shard _ swept.3 c.held-4.ensures.share)

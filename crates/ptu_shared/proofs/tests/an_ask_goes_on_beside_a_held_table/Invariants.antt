@@ -1,0 +1,13 @@
+use Rattle.ptu_shared.proofs.tests.an_ask_goes_on_beside_a_held_table.Given as goal
+
+abbrev pub ghosts-hold_beside_an_ask-L-Ledger : goal.ghosts-hold_beside_an_ask-L-Ledger
+ghosts-hold_beside_an_ask-L-Ledger g a = record { name = a.rates.name; parts = a.rates.parts }
+
+abbrev pub ghosts-hold_beside_an_ask-L-Rates : goal.ghosts-hold_beside_an_ask-L-Rates
+ghosts-hold_beside_an_ask-L-Rates g a = record { most = a.capacity; seats = 1 }
+
+abbrev pub ghosts-hold_beside_an_ask-G-Ledger : goal.ghosts-hold_beside_an_ask-G-Ledger
+ghosts-hold_beside_an_ask-G-Ledger g a = record { name = a.granted.name; parts = a.granted.parts }
+
+abbrev pub ghosts-hold_beside_an_ask-R-Ledger : goal.ghosts-hold_beside_an_ask-R-Ledger
+ghosts-hold_beside_an_ask-R-Ledger g a = record { name = a.refused.name; parts = a.refused.parts }

@@ -1,0 +1,13 @@
+use Rattle.ptu_shared.proofs.tests.one_of_two_threads_is_short.Given as goal
+
+abbrev pub ghosts-two_seats-L-Ledger : goal.ghosts-two_seats-L-Ledger
+ghosts-two_seats-L-Ledger g a = record { name = a.rates.name; parts = a.rates.parts }
+
+abbrev pub ghosts-two_seats-L-Rates : goal.ghosts-two_seats-L-Rates
+ghosts-two_seats-L-Rates g a = record { most = a.capacity; seats = 2 }
+
+abbrev pub ghosts-two_seats-G-Ledger : goal.ghosts-two_seats-G-Ledger
+ghosts-two_seats-G-Ledger g a = record { name = a.granted.name; parts = a.granted.parts }
+
+abbrev pub ghosts-two_seats-R-Ledger : goal.ghosts-two_seats-R-Ledger
+ghosts-two_seats-R-Ledger g a = record { name = a.refused.name; parts = a.refused.parts }

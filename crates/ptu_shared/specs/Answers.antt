@@ -1,0 +1,35 @@
+-- Which answers an ask may be given where the tables stand behind locks (IEEE 1588-2019 clause 16.1.4.1).
+use Rattle.std.specs.Prelude.{◌≡◌, ℕ, ◌+◌, ◌*◌, ◌≤◌, ◌<◌, min, Ok, Err}
+use Rattle.ptu_units.specs.Log.{rate_of}
+use Rattle.ptu_history.specs.Verdict.{profile}
+use Rattle.ptu_tlvs.specs.declared.tlv.Ask.{Ask}
+use Rattle.ptu_shard.specs.declared.config.GmConfig.{GmConfig}
+use Rattle.ptu_admit.specs.declared.verdict.Verdict.{Verdict}
+use Rattle.ptu_admit.specs.declared.verdict.Verdict.TheVariants.{Granted, Short, Outside}
+use Rattle.ptu_admit.specs.Terms.{Lack, Terms}
+use Rattle.ptu_admit.specs.Verdict.{ask_of, cause_of}
+
+-- a grant of what was asked for, for the lesser of the asked and the longest duration, from a moment on that is not
+-- before the one that was handed in
+pub record GrantsAsk (config : GmConfig) (t : ℕ) (ask : Ask) (grant : Terms) : Type 0 where
+  pub profile : profile (ask_of ask) ≡ Ok grant.kind
+  pub log : grant.log ≡ ask.log
+  pub seconds : grant.seconds ≡ min ask.seconds config.max_duration
+  pub at : t ≤ grant.at
+  pub until : grant.until ≡ grant.at + grant.seconds * 1000000000
+
+-- the rate that was asked for does not fit under a capacity, which is at most the greatest that may come into force, at
+-- a moment that is not before the one that was handed in
+pub record LacksAsk (most t : ℕ) (ask : Ask) (lack : Lack) : Type 0 where
+  pub profile : profile (ask_of ask) ≡ Ok lack.kind
+  pub log : lack.log ≡ ask.log
+  pub rate : lack.rate ≡ rate_of ask.log
+  pub at : t ≤ lack.at
+  pub capacity : lack.capacity ≤ most
+  pub above : lack.capacity < lack.others + lack.rate
+
+-- the verdict answers the ask that is handed this moment, where no greater capacity than `most` comes into force
+abbrev pub AnswersAsk : ℕ → GmConfig → ℕ → Ask → Verdict → Type 0
+AnswersAsk most config t ask (Granted grant) = GrantsAsk config t ask grant
+AnswersAsk most config t ask (Short shortage) = LacksAsk most t ask shortage
+AnswersAsk most config t ask (Outside cause) = profile (ask_of ask) ≡ Err (cause_of cause)

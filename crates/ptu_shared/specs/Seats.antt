@@ -1,0 +1,27 @@
+-- What a seat has counted.
+use Rattle.std.specs.Prelude.{ℕ, ◌+◌, List}
+use Rattle.std.specs.List.{sum_by}
+use Rattle.ptu_admit.specs.declared.verdict.Verdict.{Verdict}
+use Rattle.ptu_admit.specs.declared.verdict.Verdict.TheVariants.{Granted, Short, Outside}
+
+-- how many asks were granted, and how many within the profile did not fit
+pub record Counts : Type 0 where
+  pub granted : ℕ
+  pub refused : ℕ
+
+-- nothing was asked
+abbrev pub no_verdicts : Counts
+no_verdicts = record { granted = 0; refused = 0 }
+
+-- the counts with one verdict more; an ask outside the profile is not counted
+abbrev pub counting : Verdict → Counts → Counts
+counting (Granted grant) counts = record counts { granted = counts.granted + 1 }
+counting (Short shortage) counts = record counts { refused = counts.refused + 1 }
+counting (Outside cause) counts = counts
+
+-- the sums over several seats
+abbrev pub granted_in : List Counts → ℕ
+granted_in seats = sum_by (λ seat. seat.granted) seats
+
+abbrev pub refused_in : List Counts → ℕ
+refused_in seats = sum_by (λ seat. seat.refused) seats

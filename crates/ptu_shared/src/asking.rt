@@ -1,0 +1,153 @@
+//! Asks, on the values that the locks lend.
+
+ghost use Rattle.std.specs.Prelude.{◌≡◌, ℕ, ◌-◌, ◌≤◌, ◌<◌, ◌^◌, max, false, List, ◌∷◌, ◌++◌, IfSome, IfNone, OnSome};
+ghost use Rattle.std.specs.Option.{option_map};
+ghost use Rattle.ptu_history.specs.Client.{table_of as table_of_client};
+ghost use Rattle.ptu_history.specs.History.{Record};
+ghost use Rattle.ptu_history.specs.Events.{Request};
+ghost use Rattle.ptu_history.specs.Step.{step};
+ghost use Rattle.ptu_history.specs.Verdict.{verdict as verdict_after};
+ghost use Rattle.ptu_shard.specs.Config.{IsWithinLimits};
+ghost use Rattle.ptu_admit.specs.Lent.{Lent, StandFor, four, is_lent, live_others, moment_for, table_for};
+ghost use Rattle.ptu_admit.specs.Rows.{kept_rate};
+ghost use Rattle.ptu_admit.specs.Verdict.{IsAt, ask_of, config_of, unless_short, verdict_beside, verdict_of};
+ghost use Rattle.ptu_shared.specs.Answers.{AnswersAsk};
+ghost use Rattle.ptu_shared.specs.Seats.{counting};
+
+use crate::desk::{Desk, audit_table, audit_tables};
+use crate::rates::{Rates, move_rate};
+use crate::seat::Seat;
+use crate::table::Table;
+use ptu_admit::{Verdict, decide_all, decide_one};
+use ptu_history::Client;
+use ptu_outside::Port;
+use ptu_shard::GmConfig;
+use ptu_tlvs::Ask;
+use ptu_units::Moment;
+use std::sync::ledger::Ledger;
+
+// Decides an ask by `decide_one`, under the client's table and the book. `None` where that is, and
+// then nothing has changed.
+pub(crate) fn ask_one<P: Port, L: Rates, G: Ledger, R: Ledger>(
+    table: &mut Table<P, L>,
+    desk: &mut Desk<L, G, R>,
+    seat: &mut Seat<G, R>,
+    config: &GmConfig,
+    t: Moment,
+    client: &Client,
+    ask: &Ask,
+) -> Option<Verdict>
+    requires limits { IsWithinLimits config.now }
+    requires counts { (seat.old.granted < 2 ^ 48) × (seat.old.refused < 2 ^ 48) }
+    requires room { 0 < table.old.shard.spare }
+    ensures answer { option_map verdict_of result
+        ≡ unless_short (verdict_beside (config_of desk.old.book.capacity config.now)
+        (λ k. desk.old.book.total - kept_rate client.now k table.old.shard.rows)
+        (max t (max desk.old.book.moment table.old.shard.moment)) (ask_of ask.now)) }
+    ensures at { IfSome result
+        (IsAt (max t (max desk.old.book.moment table.old.shard.moment))) }
+    ensures verdict { IfSome result (AnswersAsk L.most config.now t ask.now) }
+    ensures seat { IfSome result (λ v. seat.new ≡ counting v seat.old) }
+    ensures desk { IfSome result (λ v. counting v
+        (record { granted = desk.old.granted; refused = desk.old.refused })
+        ≡ record { granted = desk.new.granted; refused = desk.new.refused }) }
+    ensures port { table.new.shard.port ≡ table.old.shard.port }
+    ensures none { IfNone result ((table.new.shard ≡ table.old.shard)
+        × (desk.new.book ≡ desk.old.book) × (seat.new ≡ seat.old)) }
+    ensures outcome { (opening : ℕ) (rest : List Lent) (history : List Record) →
+        StandFor opening (table_for client.now table.old.shard ∷ rest) desk.old.book history →
+        IfSome result (λ v. verdict_of v
+        ≡ verdict_after (config_of opening config.now) history
+        (max t (max desk.old.book.moment table.old.shard.moment)) client.now (ask_of ask.now)) }
+    ensures stands { (opening : ℕ) (rest : List Lent) (history : List Record) →
+        StandFor opening (table_for client.now table.old.shard ∷ rest) desk.old.book history →
+        is_lent (table_of_client client.now) rest ≡ false →
+        OnSome result
+        (StandFor opening (table_for client.now table.new.shard ∷ rest) desk.new.book (history
+        ++ (step (config_of opening config.now) history
+        (max t (max desk.old.book.moment table.old.shard.moment))
+        (Request client.now (ask_of ask.now))).records)) }
+{
+    audit_table(table, desk);
+    let before = table.shard.held();
+    let verdict = decide_one(&mut table.shard, &mut desk.book, config, t, client, ask);
+    move_rate(&mut desk.rates, &mut table.part, before, table.shard.held());
+    if let Some(verdict) = &verdict {
+        desk.count(seat, verdict);
+    }
+    verdict
+}
+
+// Decides an ask by `decide_all`, under all four tables, in order of index, and the book.
+pub(crate) fn ask_all<P: Port, L: Rates, G: Ledger, R: Ledger>(
+    t0: &mut Table<P, L>,
+    t1: &mut Table<P, L>,
+    t2: &mut Table<P, L>,
+    t3: &mut Table<P, L>,
+    desk: &mut Desk<L, G, R>,
+    seat: &mut Seat<G, R>,
+    config: &GmConfig,
+    t: Moment,
+    client: &Client,
+    ask: &Ask,
+) -> Verdict
+    requires ledger { L.parts ≡ 4 }
+    requires limits { IsWithinLimits config.now }
+    requires counts { (seat.old.granted < 2 ^ 48) × (seat.old.refused < 2 ^ 48) }
+    requires room { (table_of_client client.now ≡ 0 → 0 < t0.old.shard.spare)
+        × (table_of_client client.now ≡ 1 → 0 < t1.old.shard.spare)
+        × (table_of_client client.now ≡ 2 → 0 < t2.old.shard.spare)
+        × (table_of_client client.now ≡ 3 → 0 < t3.old.shard.spare) }
+    ensures answer { let lent = four t0.old.shard t1.old.shard t2.old.shard t3.old.shard in
+        let n = moment_for t desk.old.book client.now lent in
+        verdict_of result ≡ verdict_beside (config_of desk.old.book.capacity config.now)
+        (live_others n lent client.now) n (ask_of ask.now) }
+    ensures at { IsAt (moment_for t desk.old.book client.now
+        (four t0.old.shard t1.old.shard t2.old.shard t3.old.shard)) result }
+    ensures verdict { AnswersAsk L.most config.now t ask.now result }
+    ensures seat { seat.new ≡ counting result seat.old }
+    ensures desk { counting result
+        (record { granted = desk.old.granted; refused = desk.old.refused })
+        ≡ record { granted = desk.new.granted; refused = desk.new.refused } }
+    ensures ports { (t0.new.shard.port ≡ t0.old.shard.port)
+        × (t1.new.shard.port ≡ t1.old.shard.port) × (t2.new.shard.port ≡ t2.old.shard.port)
+        × (t3.new.shard.port ≡ t3.old.shard.port) }
+    ensures outcome { (opening : ℕ) (history : List Record) →
+        let lent = four t0.old.shard t1.old.shard t2.old.shard t3.old.shard in
+        StandFor opening lent desk.old.book history →
+        verdict_of result ≡ verdict_after (config_of opening config.now) history
+        (moment_for t desk.old.book client.now lent) client.now (ask_of ask.now) }
+    ensures stands { (opening : ℕ) (history : List Record) →
+        let lent = four t0.old.shard t1.old.shard t2.old.shard t3.old.shard in
+        StandFor opening lent desk.old.book history →
+        StandFor opening (four t0.new.shard t1.new.shard t2.new.shard t3.new.shard)
+        desk.new.book (history
+        ++ (step (config_of opening config.now) history
+        (moment_for t desk.old.book client.now lent)
+        (Request client.now (ask_of ask.now))).records) }
+{
+    audit_tables(t0, t1, t2, t3, desk);
+    let before = (
+        t0.shard.held(),
+        t1.shard.held(),
+        t2.shard.held(),
+        t3.shard.held(),
+    );
+    let verdict = decide_all(
+        &mut t0.shard,
+        &mut t1.shard,
+        &mut t2.shard,
+        &mut t3.shard,
+        &mut desk.book,
+        config,
+        t,
+        client,
+        ask,
+    );
+    move_rate(&mut desk.rates, &mut t0.part, before.0, t0.shard.held());
+    move_rate(&mut desk.rates, &mut t1.part, before.1, t1.shard.held());
+    move_rate(&mut desk.rates, &mut t2.part, before.2, t2.shard.held());
+    move_rate(&mut desk.rates, &mut t3.part, before.3, t3.shard.held());
+    desk.count(seat, &verdict);
+    verdict
+}

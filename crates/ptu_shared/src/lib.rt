@@ -1,0 +1,25 @@
+//! Tables of leases under locks: threads ask, cancel, take turns and answer Delay_Reqs on the
+//! tables of one grandmaster, and what they are granted stays within the capacity in force.
+//!
+//! Each table stands behind a lock of its own, and the book behind a fifth. What is done under them
+//! is done by `ptu_shard` and `ptu_admit` on the values that the locks lend. Locks are taken by
+//! index of table, and the book's last. Three ledgers tie what stands behind different locks: one
+//! of the tables' shares, and two of the verdicts that each seat has counted.
+#![tactic(auto)]
+
+mod asking;
+mod changing;
+mod closing;
+mod desk;
+mod rates;
+mod seat;
+mod shared;
+mod table;
+
+pub use closing::CloseFault;
+pub use rates::Rates;
+pub use seat::Seat;
+pub use shared::Shared;
+
+#[cfg(test)]
+mod tests;

@@ -1,0 +1,242 @@
+ghost use Rattle.std.specs.Prelude.{◌≡◌, ◌≤◌, ◌<◌, ◌^◌, IfNone, IfOk, IfSome, OnErr, replicate};
+ghost use Rattle.ptu_shard.specs.Answered.{moment_of_answer};
+ghost use Rattle.ptu_shard.specs.Config.{IsWithinLimits};
+ghost use Rattle.ptu_admit.specs.Book.{IsCapacity};
+ghost use Rattle.ptu_shared.specs.Answers.{AnswersAsk};
+ghost use Rattle.ptu_shared.specs.Delays.{IsLaterIfTooSoon};
+ghost use Rattle.ptu_shared.specs.Seats.{counting, no_verdicts};
+
+use crate::asking::{ask_all, ask_one};
+use crate::changing::{cancel_one, resize_all};
+use crate::desk::{Desk, open_desk};
+use crate::rates::Rates;
+use crate::seat::Seat;
+use crate::table::Table;
+use ptu_admit::{Cancelled, Resized, Verdict};
+use ptu_header::Header;
+use ptu_history::{Client, table_of};
+use ptu_outside::Port;
+use ptu_shard::{Answered, GmConfig, Turned};
+use ptu_tlvs::Ask;
+use ptu_units::{Kind, Moment, OutOfMemory};
+use std::alloc::Global;
+use std::sync::ledger::{Blank, Ledger};
+use std::sync::{Mutex, Wait};
+
+/// The four tables of a grandmaster and its book, each behind a lock of its own.
+///
+/// Whenever a table's lock is got, its share is the sum of the rates of its leases. Whenever the
+/// book's is got, its total is at most the capacity in force, and it is that of the ledger of
+/// rates, whose parts stand beside the tables: with all five locks it is the sum of the shares. A
+/// call that takes a lock may wait for other threads, and nothing is promised of how long.
+#[derive(Drop)]
+pub struct Shared<P: Port + Send, L: Rates, G: Ledger, R: Ledger> {
+    pub(crate) alloc: Global,
+    pub(crate) t0: Mutex<Table<P, L>>,
+    pub(crate) t1: Mutex<Table<P, L>>,
+    pub(crate) t2: Mutex<Table<P, L>>,
+    pub(crate) t3: Mutex<Table<P, L>>,
+    pub(crate) desk: Mutex<Desk<L, G, R>>,
+}
+
+impl<P: Port + Send, L: Rates, G: Ledger, R: Ledger> Shared<P, L, G, R> {
+    /// Four tables without grants, of this capacity in sixteenths of a message per second, at
+    /// moment 0, whose messages go by these ports, and all seats from which asks are counted.
+    ///
+    /// The blanks become the ledgers: that of rates has four parts, and those of granted and
+    /// refused asks have one for each seat. A caller makes the three and calls a function that is
+    /// generic over the ledgers, with `Brand` for each; whatever holds a share lives inside that
+    /// call.
+    ///
+    /// # Errors
+    /// `OutOfMemory`, with the ports and the blanks dropped.
+    pub fn new(
+        alloc: Global,
+        rates: Blank,
+        granted: Blank,
+        refused: Blank,
+        capacity: u64,
+        seats: usize,
+        p0: P,
+        p1: P,
+        p2: P,
+        p3: P,
+    ) -> Result<(Shared<P, L, G, R>, Vec<Seat<G, R>>), OutOfMemory>
+        requires rates { (rates.name ≡ L.name) × (rates.parts ≡ L.parts) × (L.parts ≡ 4) }
+        requires granted { (granted.name ≡ G.name) × (granted.parts ≡ G.parts)
+            × (G.parts ≡ L.seats) }
+        requires refused { (refused.name ≡ R.name) × (refused.parts ≡ R.parts)
+            × (R.parts ≡ L.seats) }
+        requires capacity { IsCapacity capacity }
+        requires most { capacity ≤ L.most }
+        requires seats { (1 ≤ seats) × (seats ≤ 64) × (seats ≡ L.seats) }
+        ensures seats { IfOk result (λ made. made.1.items ≡ replicate seats no_verdicts) }
+    {
+        let (rates, mut part) = rates.open::<L>();
+        let part3 = part.split_off(1, 0);
+        let part2 = part.split_off(1, 0);
+        let part1 = part.split_off(1, 0);
+        let (desk, given) = open_desk(alloc, rates, granted, refused, capacity, seats)?;
+        let shared = Shared {
+            alloc,
+            t0: Mutex::new(Table::new(alloc, p0, part)),
+            t1: Mutex::new(Table::new(alloc, p1, part1)),
+            t2: Mutex::new(Table::new(alloc, p2, part2)),
+            t3: Mutex::new(Table::new(alloc, p3, part3)),
+            desk: Mutex::new(desk),
+        };
+        Ok((shared, given))
+    }
+
+    // The lock of the table of this index.
+    fn table(&self, index: usize) -> &Mutex<Table<P, L>> {
+        match index {
+            0 => &self.t0,
+            1 => &self.t1,
+            2 => &self.t2,
+            _ => &self.t3,
+        }
+    }
+
+    /// Decides an ask of the client at a moment that is not before `t`, and counts it at the seat.
+    /// It is decided over the client's table alone where the total shows that it fits, and else
+    /// over all four.
+    ///
+    /// # Errors
+    /// After `OutOfMemory` the seat is as before.
+    pub fn admit(
+        &self,
+        rt: &impl Wait,
+        seat: &mut Seat<G, R>,
+        config: &GmConfig,
+        t: Moment,
+        client: &Client,
+        ask: &Ask,
+    ) -> Result<Verdict, OutOfMemory>
+        requires ledger { L.parts ≡ 4 }
+        requires limits { IsWithinLimits config.now }
+        requires counts { (seat.old.granted < 2 ^ 48) × (seat.old.refused < 2 ^ 48) }
+        ensures verdict { IfOk result (AnswersAsk L.most config.now t ask.now) }
+        // The granted count rises by 1 exactly at Granted, the refused count exactly at Short.
+        ensures seat { IfOk result (λ v. seat.new ≡ counting v seat.old) }
+        ensures unchanged { OnErr result (seat.new ≡ seat.old) }
+    {
+        match self.admit_by_one(rt, seat, config, t, client, ask)? {
+            Some(verdict) => Ok(verdict),
+            None => self.admit_by_all(rt, seat, config, t, client, ask),
+        }
+    }
+
+    // Decides an ask under the lock of the client's table and the book's, if that is enough.
+    fn admit_by_one(
+        &self,
+        rt: &impl Wait,
+        seat: &mut Seat<G, R>,
+        config: &GmConfig,
+        t: Moment,
+        client: &Client,
+        ask: &Ask,
+    ) -> Result<Option<Verdict>, OutOfMemory>
+        requires limits { IsWithinLimits config.now }
+        requires counts { (seat.old.granted < 2 ^ 48) × (seat.old.refused < 2 ^ 48) }
+        ensures verdict { IfOk result (λ o. IfSome o (AnswersAsk L.most config.now t ask.now)) }
+        ensures seat { IfOk result (λ o. IfSome o (λ v. seat.new ≡ counting v seat.old)) }
+        ensures none { IfOk result (λ o. IfNone o (seat.new ≡ seat.old)) }
+        ensures unchanged { OnErr result (seat.new ≡ seat.old) }
+    {
+        let mut table = self.table(table_of(client)).lock(rt);
+        table.reserve()?;
+        let mut desk = self.desk.lock(rt);
+        Ok(ask_one(&mut table, &mut desk, seat, config, t, client, ask))
+    }
+
+    // Decides an ask under the locks of all tables and the book's.
+    fn admit_by_all(
+        &self,
+        rt: &impl Wait,
+        seat: &mut Seat<G, R>,
+        config: &GmConfig,
+        t: Moment,
+        client: &Client,
+        ask: &Ask,
+    ) -> Result<Verdict, OutOfMemory>
+        requires ledger { L.parts ≡ 4 }
+        requires limits { IsWithinLimits config.now }
+        requires counts { (seat.old.granted < 2 ^ 48) × (seat.old.refused < 2 ^ 48) }
+        ensures verdict { IfOk result (AnswersAsk L.most config.now t ask.now) }
+        ensures seat { IfOk result (λ v. seat.new ≡ counting v seat.old) }
+        ensures unchanged { OnErr result (seat.new ≡ seat.old) }
+    {
+        let mut t0 = self.t0.lock(rt);
+        let mut t1 = self.t1.lock(rt);
+        let mut t2 = self.t2.lock(rt);
+        let mut t3 = self.t3.lock(rt);
+        match table_of(client) {
+            0 => t0.reserve()?,
+            1 => t1.reserve()?,
+            2 => t2.reserve()?,
+            _ => t3.reserve()?,
+        }
+        let mut desk = self.desk.lock(rt);
+        Ok(ask_all(
+            &mut t0, &mut t1, &mut t2, &mut t3, &mut desk, seat, config, t, client, ask,
+        ))
+    }
+
+    /// Ends the client's grant of the kind at a moment that is not before `t`.
+    pub fn cancel(&self, rt: &impl Wait, t: Moment, client: &Client, kind: Kind) -> Cancelled
+        ensures { t ≤ result.at }
+    {
+        let mut table = self.table(table_of(client)).lock(rt);
+        let mut desk = self.desk.lock(rt);
+        cancel_one(&mut table, &mut desk, t, client, kind)
+    }
+
+    /// Changes the capacity in force to this many sixteenths of a message per second, at a moment
+    /// that is not before `t`. Where the live grants are above it, the newest are shed.
+    ///
+    /// # Errors
+    /// After `OutOfMemory` nothing has changed.
+    pub fn resize(&self, rt: &impl Wait, t: Moment, capacity: u64) -> Result<Resized, OutOfMemory>
+        requires ledger { L.parts ≡ 4 }
+        requires capacity { IsCapacity capacity }
+        requires most { capacity ≤ L.most }
+        ensures { IfOk result (λ r. t ≤ r.at) }
+    {
+        let mut t0 = self.t0.lock(rt);
+        let mut t1 = self.t1.lock(rt);
+        let mut t2 = self.t2.lock(rt);
+        let mut t3 = self.t3.lock(rt);
+        let mut desk = self.desk.lock(rt);
+        resize_all(
+            self.alloc, &mut t0, &mut t1, &mut t2, &mut t3, &mut desk, t, capacity,
+        )
+    }
+
+    /// A turn of the table of this index, at a moment that is not before `t`.
+    pub fn turn(&self, rt: &impl Wait, config: &GmConfig, table: usize, t: Moment) -> Turned
+        requires limits { IsWithinLimits config.now }
+        requires table { table < 4 }
+        ensures { t ≤ result.at }
+    {
+        self.table(table).lock(rt).turn(config, t)
+    }
+
+    /// Answers a Delay_Req of the client at a moment that is not before `t`.
+    pub fn answer_delay(
+        &self,
+        rt: &impl Wait,
+        config: &GmConfig,
+        t: Moment,
+        client: &Client,
+        request: &Header,
+    ) -> Answered
+        requires { IsWithinLimits config.now }
+        ensures at { t ≤ moment_of_answer result }
+        ensures earliest { IsLaterIfTooSoon result }
+    {
+        self.table(table_of(client))
+            .lock(rt)
+            .answer_delay(config, t, client, request)
+    }
+}

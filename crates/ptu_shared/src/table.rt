@@ -1,0 +1,122 @@
+ghost use Rattle.std.specs.Prelude.{◌≡◌, ◌≤◌, ℕ, [], ◌++◌, List, OnErr, OnOk, map, max};
+ghost use Rattle.std.specs.List.Sorted.{IsPermutation};
+ghost use Rattle.ptu_outside.specs.HandsOver.{HandsOver};
+ghost use Rattle.ptu_history.specs.Client.{table_of};
+ghost use Rattle.ptu_history.specs.History.{Record};
+ghost use Rattle.ptu_history.specs.Verdict.{Config};
+ghost use Rattle.ptu_history.specs.Events.{DelayReq, Turn};
+ghost use Rattle.ptu_history.specs.Step.{delay_answer, step};
+ghost use Rattle.ptu_history.specs.Turns.{due_grants, message_of};
+ghost use Rattle.ptu_shard.specs.Answered.{failed_by, met_by, moment_of_answer, responses, sent_by};
+ghost use Rattle.ptu_shard.specs.Config.{IsWithinLimits};
+ghost use Rattle.ptu_shard.specs.Messages.{departure_of, response_of};
+ghost use Rattle.ptu_shard.specs.Row.{share_of};
+ghost use Rattle.ptu_shard.specs.Table.{StandsBeside, StandsFor};
+ghost use Rattle.ptu_shard.specs.Turn.{due_messages};
+ghost use Rattle.ptu_shared.specs.Delays.{IsLaterIfTooSoon};
+
+use ptu_header::Header;
+use ptu_history::Client;
+use ptu_outside::Port;
+use ptu_shard::{Answered, GmConfig, Shard, Turned};
+use ptu_units::{Moment, OutOfMemory};
+use std::alloc::Global;
+use std::sync::ledger::{Ledger, Share};
+
+// A table of leases beside one part of the ledger of rates, whose amount is the table's share.
+#[derive(Drop)]
+pub(crate) struct Table<P: Port, L: Ledger> {
+    pub shard: Shard<P>,
+    pub part: Share<L>,
+    ghost one: { part.parts ≡ 1 },
+    ghost same: { part.amount ≡ share_of shard.rows },
+}
+
+impl<P: Port, L: Ledger> Table<P, L> {
+    // A table without rows, with a part that has no amount.
+    pub fn new(alloc: Global, port: P, part: Share<L>) -> Table<P, L>
+        requires parts { part.parts ≡ 1 }
+        requires amount { part.amount ≡ 0 }
+        ensures rows { result.shard.rows ≡ [] }
+        ensures port { result.shard.port ≡ port }
+        ensures stands { (j : ℕ) → StandsFor j result.shard [] }
+    {
+        Table {
+            shard: Shard::new(alloc, port),
+            part,
+        }
+    }
+
+    // Makes room for one row more. What the table stands for is as before, after a refusal too.
+    pub fn reserve(&mut self) -> Result<(), OutOfMemory>
+        ensures spare { OnOk result (1 ≤ self.new.shard.spare) }
+        ensures rows { IsPermutation self.old.shard.rows self.new.shard.rows }
+        ensures moment { self.new.shard.moment ≡ self.old.shard.moment }
+        ensures port { self.new.shard.port ≡ self.old.shard.port }
+        ensures stands { (book j : ℕ) (history : List Record) →
+            StandsBeside book j self.old.shard history
+            → StandsBeside book j self.new.shard history }
+    {
+        self.shard.reserve(1)
+    }
+
+    // A turn, by `Shard::turn`.
+    pub fn turn(&mut self, config: &GmConfig, t: Moment) -> Turned
+        requires { IsWithinLimits config.now }
+        ensures at { result.at ≡ max t self.old.shard.moment }
+        ensures moment { self.new.shard.moment ≡ result.at }
+        ensures sends { HandsOver (P.sent self.old.shard.port) (P.sent self.new.shard.port)
+            (P.faults self.old.shard.port) (P.faults self.new.shard.port)
+            (map (departure_of config.now result.at)
+            (due_messages result.at self.old.shard.rows))
+            result.sent result.failed }
+        ensures waiting { P.waiting self.new.shard.port ≡ P.waiting self.old.shard.port }
+        ensures messages { (j : ℕ) (history : List Record) →
+            StandsFor j self.old.shard history →
+            due_messages result.at self.old.shard.rows
+            ≡ map (message_of history) (due_grants history result.at j) }
+        ensures stands { (opened : Config) (j : ℕ) (history : List Record)
+            → StandsFor j self.old.shard history →
+            StandsFor j self.new.shard
+            (history ++ (step opened history result.at (Turn j)).records) }
+    {
+        self.shard.turn(config, t)
+    }
+
+    // The answer to a Delay_Req, by `Shard::answer_delay`.
+    pub fn answer_delay(
+        &mut self,
+        config: &GmConfig,
+        t: Moment,
+        client: &Client,
+        request: &Header,
+    ) -> Answered
+        requires { IsWithinLimits config.now }
+        ensures at { moment_of_answer result ≡ max t self.old.shard.moment }
+        ensures moment { self.new.shard.moment ≡ max t self.old.shard.moment }
+        ensures earliest { IsLaterIfTooSoon result }
+        ensures sends { HandsOver (P.sent self.old.shard.port) (P.sent self.new.shard.port)
+            (P.faults self.old.shard.port) (P.faults self.new.shard.port)
+            (responses (met_by result)
+            (response_of config.now self.new.shard.moment client.now request.now))
+            (sent_by result) (failed_by result) }
+        ensures waiting { P.waiting self.new.shard.port ≡ P.waiting self.old.shard.port }
+        ensures met { (history : List Record) →
+            StandsFor (table_of client.now) self.old.shard history →
+            met_by result ≡ delay_answer history self.new.shard.moment client.now }
+        ensures stands { (opened : Config) (history : List Record) →
+            StandsFor (table_of client.now) self.old.shard history →
+            StandsFor (table_of client.now) self.new.shard
+            (history ++ (step opened history self.new.shard.moment (DelayReq client.now)).records) }
+    {
+        self.shard.answer_delay(config, t, client, request)
+    }
+
+    // The port, as it is. The rest is dropped.
+    pub fn into_port(self) -> P
+        ensures { result ≡ self.shard.port }
+    {
+        let Table { shard, part: _ } = self;
+        shard.into_port()
+    }
+}

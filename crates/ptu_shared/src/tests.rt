@@ -1,0 +1,751 @@
+ghost use Rattle.std.specs.Prelude.{◌≡◌, ◌≤◌, ◌<◌, None};
+ghost use Rattle.ptu_admit.specs.Book.{IsCapacity};
+
+use super::*;
+use ptu_admit::{Closed, Verdict};
+use ptu_header::{Header, PortIdentity};
+use ptu_history::Client;
+use ptu_outside::{Channel, Failed, MemPort, Port};
+use ptu_shard::{Answered, GmConfig};
+use ptu_tlvs::Ask;
+use ptu_units::{Kind, Moment};
+use std::alloc::Global;
+use std::marker::Brand;
+use std::process::Abort;
+use std::sync::Wait;
+use std::sync::atomic::{AtomicU64, Ordering};
+use std::sync::ledger::{Blank, Ledger};
+use std::test::Fail;
+use std::thread::{self, Threads};
+
+// A client of table 0 and one of table 1; A is of table 2, and B of table 3.
+const ZERO: Client = Client {
+    ip: 0x0a00_0103,
+    clock: 0x0a00_0000_0000_0003,
+    port: 1,
+};
+
+const ONE: Client = Client {
+    ip: 0x0a00_0104,
+    clock: 0x0a00_0000_0000_0004,
+    port: 1,
+};
+
+const A: Client = Client {
+    ip: 0x0a00_0111,
+    clock: 0x0a00_0000_0000_0011,
+    port: 1,
+};
+
+const B: Client = Client {
+    ip: 0x0a00_0112,
+    clock: 0x0a00_0000_0000_0012,
+    port: 1,
+};
+
+const CONFIG: GmConfig = GmConfig {
+    identity: PortIdentity {
+        clock: 0x0a00_0000_0000_0001,
+        port: 1,
+    },
+    domain: 4,
+    class: 84,
+    max_duration: 300,
+    epoch: 0,
+};
+
+// The header of a Delay_Req of client A.
+const DELAY_REQ: Header = Header {
+    message_type: 1,
+    domain: 4,
+    flags: 0x0400,
+    correction: 0,
+    source: PortIdentity {
+        clock: 0x0a00_0000_0000_0011,
+        port: 1,
+    },
+    sequence: 7,
+};
+
+// How often a port that is held, or who waits for it, looks whether it goes on.
+const LOOKS: u64 = 1_000_000_000;
+
+const ANNOUNCE: u8 = 11;
+
+const SYNC: u8 = 0;
+
+const DELAY_RESP: u8 = 9;
+
+// What a verdict says, in numbers.
+#[derive(Clone, Copy, Debug, PartialEq, Eq)]
+enum Told {
+    Granted {
+        at: u64,
+        until: u64,
+    },
+    Short {
+        at: u64,
+        others: u64,
+        rate: u64,
+        capacity: u64,
+    },
+    Outside,
+}
+
+fn numbers_of(verdict: &Verdict) -> Told {
+    match verdict {
+        Verdict::Granted(grant) => Told::Granted {
+            at: grant.at().nanos(),
+            until: grant.until(),
+        },
+        Verdict::Short(shortage) => Told::Short {
+            at: shortage.at().nanos(),
+            others: shortage.others(),
+            rate: shortage.rate(),
+            capacity: shortage.capacity(),
+        },
+        Verdict::Outside(_) => Told::Outside,
+    }
+}
+
+fn moment(rt: &impl Abort, nanos: u64) -> Moment {
+    Moment::of(nanos).expect(rt, "a moment is below 2^62")
+}
+
+// The client asks for the kind of this code at a logarithm, for 300 seconds.
+fn ask<P: Port + Send, L: Rates, G: Ledger, R: Ledger, W: Wait + Abort>(
+    rt: &W,
+    shared: &Shared<P, L, G, R>,
+    seat: &mut Seat<G, R>,
+    t: u64,
+    client: &Client,
+    code: u8,
+    log: i8,
+) -> Told
+    requires { L.parts ≡ 4 }
+{
+    assert!(rt; seat.granted() < 1 << 48 && seat.refused() < 1 << 48);
+    let ask = Ask {
+        code,
+        log,
+        seconds: 300,
+    };
+    let verdict = shared.admit(rt, seat, &CONFIG, moment(rt, t), client, &ask);
+    numbers_of(&verdict.expect(rt, "memory is found"))
+}
+
+fn turn<P: Port + Send, L: Rates, G: Ledger, R: Ledger, W: Wait + Abort>(
+    rt: &W,
+    shared: &Shared<P, L, G, R>,
+    table: usize,
+    t: u64,
+) -> (u64, u64)
+    requires { table < 4 }
+{
+    let turned = shared.turn(rt, &CONFIG, table, moment(rt, t));
+    (turned.sent, turned.failed)
+}
+
+fn check_closed<P: Drop>(
+    rt: &impl Abort,
+    closed: &Closed<P>,
+    counts: [u64; 4],
+    granted: u64,
+    refused: u64,
+) {
+    assert_eq!(rt; closed.counts, counts);
+    assert!(rt; counts[0] < 1 << 32 && counts[1] < 1 << 32);
+    assert!(rt; counts[2] < 1 << 32 && counts[3] < 1 << 32);
+    assert_eq!(rt; closed.total, counts[0] + counts[1] + counts[2] + counts[3]);
+    assert_eq!(rt; (closed.granted, closed.refused), (granted, refused));
+}
+
+// A port in memory with room.
+fn roomy(alloc: Global) -> Result<MemPort, Fail> {
+    let mut port = MemPort::new(alloc, Vec::new(alloc), Vec::new(alloc), Vec::new(alloc));
+    port.reserve(4, 4 * 64)?;
+    Ok(port)
+}
+
+// Shared tables over ports in memory.
+fn open<L: Rates, G: Ledger, R: Ledger>(
+    alloc: Global,
+    rates: Blank,
+    granted: Blank,
+    refused: Blank,
+    capacity: u64,
+    seats: usize,
+) -> Result<(Shared<MemPort, L, G, R>, Vec<Seat<G, R>>), Fail>
+    requires rates { (rates.name ≡ L.name) × (rates.parts ≡ L.parts) × (L.parts ≡ 4) }
+    requires granted { (granted.name ≡ G.name) × (granted.parts ≡ G.parts)
+        × (G.parts ≡ L.seats) }
+    requires refused { (refused.name ≡ R.name) × (refused.parts ≡ R.parts)
+        × (R.parts ≡ L.seats) }
+    requires capacity { IsCapacity capacity }
+    requires most { capacity ≤ L.most }
+    requires seats { (1 ≤ seats) × (seats ≤ 64) × (seats ≡ L.seats) }
+{
+    let p0 = roomy(alloc)?;
+    let p1 = roomy(alloc)?;
+    let p2 = roomy(alloc)?;
+    let p3 = roomy(alloc)?;
+    Ok(Shared::new(
+        alloc, rates, granted, refused, capacity, seats, p0, p1, p2, p3,
+    )?)
+}
+
+// A is granted what is there, and B is short. An ask outside the profile is not counted.
+fn ask_for_both<L: Rates, G: Ledger, R: Ledger, W: Wait + Abort>(
+    rt: &W,
+    shared: &Shared<MemPort, L, G, R>,
+    seats: &mut [Seat<G, R>],
+)
+    requires { L.parts ≡ 4 }
+{
+    assert_eq!(rt; seats.len(), 1);
+    let seat = &mut seats[0];
+    let granted = Told::Granted {
+        at: 0,
+        until: 300_000_000_000,
+    };
+    assert_eq!(rt; ask(rt, shared, seat, 0, &A, ANNOUNCE, 1), granted);
+    let short = Told::Short {
+        at: 0,
+        others: 8,
+        rate: 1,
+        capacity: 8,
+    };
+    assert_eq!(rt; ask(rt, shared, seat, 0, &B, ANNOUNCE, 4), short);
+    assert_eq!(rt; ask(rt, shared, seat, 0, &B, 3, 4), Told::Outside);
+    assert_eq!(rt; (seat.granted(), seat.refused()), (1, 1));
+}
+
+// Closes with no seat, which is refused, and then with the seats.
+fn close_twice<L: Rates, G: Ledger, R: Ledger, W: Wait + Abort>(
+    rt: &W,
+    shared: Shared<MemPort, L, G, R>,
+    seats: Vec<Seat<G, R>>,
+    none: Vec<Seat<G, R>>,
+)
+    requires { (L.parts ≡ 4) × (G.parts ≡ L.seats) × (R.parts ≡ L.seats) }
+{
+    let Err(fault) = shared.close(none) else {
+        panic!(rt; "a seat is missing")
+    };
+    assert_eq!(rt; (fault.granted, fault.refused), (1, 1));
+    assert_eq!(rt; (fault.seats_granted, fault.seats_refused), (0, 0));
+    let Ok(closed) = fault.shared.close(seats) else {
+        panic!(rt; "no seat is missing")
+    };
+    check_closed(rt, &closed, [0, 0, 8, 0], 1, 1);
+}
+
+fn admission<L: Rates, G: Ledger, R: Ledger, W: Wait + Abort>(
+    rt: &W,
+    alloc: Global,
+    rates: Blank,
+    granted: Blank,
+    refused: Blank,
+    capacity: u64,
+) -> Result<(), Fail>
+    requires rates { (rates.name ≡ L.name) × (rates.parts ≡ L.parts) × (L.parts ≡ 4) }
+    requires granted { (granted.name ≡ G.name) × (granted.parts ≡ G.parts)
+        × (G.parts ≡ L.seats) }
+    requires refused { (refused.name ≡ R.name) × (refused.parts ≡ R.parts)
+        × (R.parts ≡ L.seats) }
+    requires capacity { IsCapacity capacity }
+    requires most { capacity ≤ L.most }
+    requires seats { L.seats ≡ 1 }
+{
+    let (shared, mut seats) = open::<L, G, R>(alloc, rates, granted, refused, capacity, 1)?;
+    ask_for_both(rt, &shared, seats.as_mut_slice());
+    close_twice(rt, shared, seats, Vec::new(alloc));
+    Ok(())
+}
+
+#[test]
+fn a_close_wants_every_seat(rt: HostRuntime) -> Result<(), Fail> {
+    let (rates, granted, refused) = (Blank::new(4), Blank::new(1), Blank::new(1));
+    admission::<Brand, Brand, Brand, HostRuntime>(&rt, rt.alloc(), rates, granted, refused, 8)
+}
+
+// What a Delay_Req of A meets.
+fn delay<L: Rates, G: Ledger, R: Ledger, W: Wait + Abort>(
+    rt: &W,
+    shared: &Shared<MemPort, L, G, R>,
+    t: u64,
+) -> Answered {
+    shared.answer_delay(rt, &CONFIG, moment(rt, t), &A, &DELAY_REQ)
+}
+
+fn call_in_order<L: Rates, G: Ledger, R: Ledger, W: Wait + Abort>(
+    rt: &W,
+    shared: &Shared<MemPort, L, G, R>,
+    seats: &mut [Seat<G, R>],
+)
+    requires { L.parts ≡ 4 }
+{
+    assert_eq!(rt; seats.len(), 1);
+    let seat = &mut seats[0];
+    let two = moment(rt, 2_000_000_000);
+    let three = moment(rt, 3_000_000_000);
+    let granted = Told::Granted {
+        at: 0,
+        until: 300_000_000_000,
+    };
+    assert_eq!(rt; ask(rt, shared, seat, 0, &A, ANNOUNCE, 1), granted);
+    assert_eq!(rt; turn(rt, shared, 2, 2_000_000_000), (1, 0));
+    assert_eq!(rt;
+        delay(rt, shared, 2_000_000_000),
+        Answered::NoGrant { at: two }
+    );
+    let granted = Told::Granted {
+        at: 2_000_000_000,
+        until: 302_000_000_000,
+    };
+    assert_eq!(rt;
+        ask(rt, shared, seat, 2_000_000_000, &A, DELAY_RESP, 0),
+        granted
+    );
+    assert_eq!(rt;
+        delay(rt, shared, 3_000_000_000),
+        Answered::Sent { at: three }
+    );
+    let soon = Answered::TooSoon {
+        at: three,
+        earliest: 4_000_000_000,
+    };
+    assert_eq!(rt; delay(rt, shared, 3_000_000_000), soon);
+    assert!(rt; shared.cancel(rt, three, &A, Kind::Announce).ended);
+    assert!(rt; !shared.cancel(rt, three, &A, Kind::Announce).ended);
+    assert_eq!(rt; turn(rt, shared, 2, 9_000_000_000), (0, 0));
+}
+
+fn close_all<L: Rates, G: Ledger, R: Ledger, W: Wait + Abort>(
+    rt: &W,
+    shared: Shared<MemPort, L, G, R>,
+    seats: Vec<Seat<G, R>>,
+) -> Closed<MemPort>
+    requires { (L.parts ≡ 4) × (G.parts ≡ L.seats) × (R.parts ≡ L.seats) }
+{
+    match shared.close(seats) {
+        Ok(closed) => closed,
+        Err(_) => panic!(rt; "no seat is missing"),
+    }
+}
+
+fn order<L: Rates, G: Ledger, R: Ledger, W: Wait + Abort>(
+    rt: &W,
+    alloc: Global,
+    rates: Blank,
+    granted: Blank,
+    refused: Blank,
+    capacity: u64,
+) -> Result<(), Fail>
+    requires rates { (rates.name ≡ L.name) × (rates.parts ≡ L.parts) × (L.parts ≡ 4) }
+    requires granted { (granted.name ≡ G.name) × (granted.parts ≡ G.parts)
+        × (G.parts ≡ L.seats) }
+    requires refused { (refused.name ≡ R.name) × (refused.parts ≡ R.parts)
+        × (R.parts ≡ L.seats) }
+    requires capacity { IsCapacity capacity }
+    requires most { capacity ≤ L.most }
+    requires seats { L.seats ≡ 1 }
+{
+    let (shared, mut seats) = open::<L, G, R>(alloc, rates, granted, refused, capacity, 1)?;
+    call_in_order(rt, &shared, seats.as_mut_slice());
+    check_closed(rt, &close_all(rt, shared, seats), [0, 0, 16, 0], 2, 0);
+    Ok(())
+}
+
+#[test]
+fn calls_in_order(rt: HostRuntime) -> Result<(), Fail> {
+    let (rates, granted, refused) = (Blank::new(4), Blank::new(1), Blank::new(1));
+    order::<Brand, Brand, Brand, HostRuntime>(&rt, rt.alloc(), rates, granted, refused, 24)
+}
+
+fn lower_capacity<L: Rates, G: Ledger, R: Ledger, W: Wait + Abort>(
+    rt: &W,
+    shared: &Shared<MemPort, L, G, R>,
+    seats: &mut [Seat<G, R>],
+)
+    requires ledger { L.parts ≡ 4 }
+    requires most { 8 ≤ L.most }
+{
+    assert_eq!(rt; seats.len(), 1);
+    let seat = &mut seats[0];
+    let granted = Told::Granted {
+        at: 1_000_000_000,
+        until: 301_000_000_000,
+    };
+    assert_eq!(rt;
+        ask(rt, shared, seat, 1_000_000_000, &A, ANNOUNCE, 1),
+        granted
+    );
+    assert_eq!(rt; ask(rt, shared, seat, 0, &B, ANNOUNCE, 1), granted);
+    let resized = shared.resize(rt, moment(rt, 2_000_000_000), 8);
+    let resized = resized.expect(rt, "memory is found");
+    assert_eq!(rt; resized.at, moment(rt, 2_000_000_000));
+    let shed = resized.shed.list();
+    assert_eq!(rt; shed.len(), 1);
+    assert_eq!(rt; (shed[0].client, shed[0].kind), (B, Kind::Announce));
+}
+
+fn shedding<L: Rates, G: Ledger, R: Ledger, W: Wait + Abort>(
+    rt: &W,
+    alloc: Global,
+    rates: Blank,
+    granted: Blank,
+    refused: Blank,
+    capacity: u64,
+) -> Result<(), Fail>
+    requires rates { (rates.name ≡ L.name) × (rates.parts ≡ L.parts) × (L.parts ≡ 4) }
+    requires granted { (granted.name ≡ G.name) × (granted.parts ≡ G.parts)
+        × (G.parts ≡ L.seats) }
+    requires refused { (refused.name ≡ R.name) × (refused.parts ≡ R.parts)
+        × (R.parts ≡ L.seats) }
+    requires capacity { IsCapacity capacity }
+    requires most { capacity ≤ L.most }
+    requires enough { 8 ≤ capacity }
+    requires seats { L.seats ≡ 1 }
+{
+    let (shared, mut seats) = open::<L, G, R>(alloc, rates, granted, refused, capacity, 1)?;
+    lower_capacity(rt, &shared, seats.as_mut_slice());
+    check_closed(rt, &close_all(rt, shared, seats), [0, 0, 8, 0], 2, 0);
+    Ok(())
+}
+
+#[test]
+fn a_lower_capacity_sheds_the_newest(rt: HostRuntime) -> Result<(), Fail> {
+    let (rates, granted, refused) = (Blank::new(4), Blank::new(1), Blank::new(1));
+    shedding::<Brand, Brand, Brand, HostRuntime>(&rt, rt.alloc(), rates, granted, refused, 16)
+}
+
+// The client asks for Announces from a seat of its own, which is handed back.
+fn ask_from<L: Rates, G: Ledger, R: Ledger, W: Wait + Abort>(
+    rt: &W,
+    shared: &Shared<MemPort, L, G, R>,
+    mut seat: Seat<G, R>,
+    client: &Client,
+) -> (Told, Seat<G, R>)
+    requires { L.parts ≡ 4 }
+{
+    let told = ask(rt, shared, &mut seat, 0, client, ANNOUNCE, 1);
+    (told, seat)
+}
+
+// Two threads ask for what is there once, each from its own seat. Gives the answers.
+fn ask_at_once<L, G, R, W>(
+    rt: &W,
+    shared: &Shared<MemPort, L, G, R>,
+    seats: &mut Vec<Seat<G, R>>,
+) -> (Told, Told)
+where
+    L: Rates + Sync,
+    G: Ledger + Sync,
+    R: Ledger + Sync,
+    W: Wait + Abort + Threads + Sync,
+    requires { L.parts ≡ 4 }
+{
+    let first = seats.pop().expect(rt, "there are two seats");
+    let second = seats.pop().expect(rt, "there are two seats");
+    let (a, b) = thread::join(
+        rt,
+        move ||
+            requires { L.parts ≡ 4 }
+        { ask_from(rt, shared, first, &A) },
+        move ||
+            requires { L.parts ≡ 4 }
+        { ask_from(rt, shared, second, &B) },
+    );
+    seats.push(a.1).expect(rt, "there is room");
+    seats.push(b.1).expect(rt, "there is room");
+    (a.0, b.0)
+}
+
+fn two_seats<L, G, R, W>(
+    rt: &W,
+    alloc: Global,
+    rates: Blank,
+    granted: Blank,
+    refused: Blank,
+    capacity: u64,
+) -> Result<(), Fail>
+where
+    L: Rates + Sync,
+    G: Ledger + Sync,
+    R: Ledger + Sync,
+    W: Wait + Abort + Threads + Sync,
+    requires rates { (rates.name ≡ L.name) × (rates.parts ≡ L.parts) × (L.parts ≡ 4) }
+    requires granted { (granted.name ≡ G.name) × (granted.parts ≡ G.parts)
+        × (G.parts ≡ L.seats) }
+    requires refused { (refused.name ≡ R.name) × (refused.parts ≡ R.parts)
+        × (R.parts ≡ L.seats) }
+    requires capacity { IsCapacity capacity }
+    requires most { capacity ≤ L.most }
+    requires seats { L.seats ≡ 2 }
+{
+    let (shared, mut seats) = open::<L, G, R>(alloc, rates, granted, refused, capacity, 2)?;
+    let granted = Told::Granted {
+        at: 0,
+        until: 300_000_000_000,
+    };
+    let (a, b) = ask_at_once(rt, &shared, &mut seats);
+    assert!(rt; (a == granted) != (b == granted));
+    let closed = close_all(rt, shared, seats);
+    assert_eq!(rt; (closed.total, closed.granted, closed.refused), (8, 1, 1));
+    Ok(())
+}
+
+#[test]
+fn one_of_two_threads_is_short(rt: HostRuntime) -> Result<(), Fail> {
+    let (rates, granted, refused) = (Blank::new(4), Blank::new(2), Blank::new(2));
+    two_seats::<Brand, Brand, Brand, HostRuntime>(&rt, rt.alloc(), rates, granted, refused, 8)
+}
+
+// Where the port of a table is held in a send.
+#[derive(Drop)]
+struct Gate {
+    // A send has begun.
+    entered: AtomicU64,
+    // The send may go on.
+    opened: AtomicU64,
+    // The limit of looks was reached.
+    late: AtomicU64,
+}
+
+fn closed_gate() -> Gate {
+    Gate {
+        entered: AtomicU64::new(0),
+        opened: AtomicU64::new(0),
+        late: AtomicU64::new(0),
+    }
+}
+
+impl Gate {
+    fn open(&self) {
+        self.opened.store(1, Ordering::SeqCst);
+    }
+
+    // Looks at the flag until it is set or the limit is reached.
+    fn await_flag(&self, flag: &AtomicU64) {
+        for _ in 0..LOOKS {
+            if flag.load(Ordering::SeqCst) == 1 {
+                return;
+            }
+        }
+        self.late.store(1, Ordering::SeqCst);
+    }
+
+    fn is_late(&self) -> bool {
+        self.late.load(Ordering::SeqCst) == 1
+    }
+}
+
+// A port that sends nothing, and is held in each send where it has a gate.
+#[derive(Drop)]
+struct HeldPort<'a> {
+    gate: Option<&'a Gate>,
+}
+
+impl Port for HeldPort<'_> {
+    ghost sent = { λ _. None };
+
+    ghost waiting = { λ _. None };
+
+    ghost faults = { λ _. 0 };
+
+    fn send(&mut self, _ip: u32, _channel: Channel, _bytes: &[u8]) -> Result<(), Failed> {
+        if let Some(gate) = self.gate {
+            gate.entered.store(1, Ordering::SeqCst);
+            gate.await_flag(&gate.opened);
+        }
+        Ok(())
+    }
+
+    fn receive(&mut self, _buf: &mut [u8; 2048]) -> Result<Option<(u32, usize)>, Failed> {
+        Ok(None)
+    }
+}
+
+// A turn of table 0, which is held in its send.
+fn turn_held<L: Rates, G: Ledger, R: Ledger, W: Wait + Abort>(
+    rt: &W,
+    shared: &Shared<HeldPort<'_>, L, G, R>,
+) -> (u64, u64) {
+    turn(rt, shared, 0, 1_000_000_000)
+}
+
+// While table 0 is held, a turn of table 1 returns; then table 0 goes on.
+fn turn_beside<L: Rates, G: Ledger, R: Ledger, W: Wait + Abort>(
+    rt: &W,
+    shared: &Shared<HeldPort<'_>, L, G, R>,
+    gate: &Gate,
+) -> (u64, u64) {
+    gate.await_flag(&gate.entered);
+    let turned = turn(rt, shared, 1, 1_000_000_000);
+    gate.open();
+    turned
+}
+
+// While table 0 is held, a client of table 1 asks and is granted; then table 0 goes on.
+fn ask_beside<L: Rates, G: Ledger, R: Ledger, W: Wait + Abort>(
+    rt: &W,
+    shared: &Shared<HeldPort<'_>, L, G, R>,
+    gate: &Gate,
+    mut seat: Seat<G, R>,
+) -> Told
+    requires { L.parts ≡ 4 }
+{
+    gate.await_flag(&gate.entered);
+    let told = ask(rt, shared, &mut seat, 1_000_000_000, &ONE, ANNOUNCE, 1);
+    gate.open();
+    told
+}
+
+// Shared tables whose table 0 has this gate; clients of tables 0 and 1 were granted Syncs.
+fn open_held<'a, L: Rates, G: Ledger, R: Ledger, W: Wait + Abort>(
+    rt: &W,
+    alloc: Global,
+    rates: Blank,
+    granted: Blank,
+    refused: Blank,
+    capacity: u64,
+    gate: &'a Gate,
+) -> Result<(Shared<HeldPort<'a>, L, G, R>, Seat<G, R>), Fail>
+    requires rates { (rates.name ≡ L.name) × (rates.parts ≡ L.parts) × (L.parts ≡ 4) }
+    requires granted { (granted.name ≡ G.name) × (granted.parts ≡ G.parts)
+        × (G.parts ≡ L.seats) }
+    requires refused { (refused.name ≡ R.name) × (refused.parts ≡ R.parts)
+        × (R.parts ≡ L.seats) }
+    requires capacity { IsCapacity capacity }
+    requires most { capacity ≤ L.most }
+    requires seats { L.seats ≡ 1 }
+{
+    let p0 = HeldPort { gate: Some(gate) };
+    let p1 = HeldPort { gate: None };
+    let p2 = HeldPort { gate: None };
+    let p3 = HeldPort { gate: None };
+    let (shared, mut seats) = Shared::new(
+        alloc, rates, granted, refused, capacity, 1, p0, p1, p2, p3,
+    )?;
+    let mut seat = seats.pop().expect(rt, "there is a seat");
+    let granted = Told::Granted {
+        at: 0,
+        until: 300_000_000_000,
+    };
+    assert_eq!(rt; ask(rt, &shared, &mut seat, 0, &ZERO, SYNC, 0), granted);
+    assert_eq!(rt; ask(rt, &shared, &mut seat, 0, &ONE, SYNC, 0), granted);
+    Ok((shared, seat))
+}
+
+// Table 0 is held in a turn, and beside it table 1 takes a turn.
+fn hold_beside_a_turn<L, G, R, W>(
+    rt: &W,
+    alloc: Global,
+    rates: Blank,
+    granted: Blank,
+    refused: Blank,
+    capacity: u64,
+    gate: &Gate,
+) -> Result<(), Fail>
+where
+    L: Rates + Sync,
+    G: Ledger + Sync,
+    R: Ledger + Sync,
+    W: Wait + Abort + Threads + Sync,
+    requires rates { (rates.name ≡ L.name) × (rates.parts ≡ L.parts) × (L.parts ≡ 4) }
+    requires granted { (granted.name ≡ G.name) × (granted.parts ≡ G.parts)
+        × (G.parts ≡ L.seats) }
+    requires refused { (refused.name ≡ R.name) × (refused.parts ≡ R.parts)
+        × (R.parts ≡ L.seats) }
+    requires capacity { IsCapacity capacity }
+    requires most { capacity ≤ L.most }
+    requires seats { L.seats ≡ 1 }
+{
+    let (shared, _seat) = open_held::<L, G, R, W>(
+        rt, alloc, rates, granted, refused, capacity, gate,
+    )?;
+    let lent = &shared;
+    let (first, second) = thread::join(
+        rt,
+        move || turn_held(rt, lent),
+        move || turn_beside(rt, lent, gate),
+    );
+    assert_eq!(rt; (first, second), ((1, 0), (1, 0)));
+    assert!(rt; !gate.is_late());
+    Ok(())
+}
+
+// Table 0 is held in a turn, and beside it a client of table 1 asks.
+fn hold_beside_an_ask<L, G, R, W>(
+    rt: &W,
+    alloc: Global,
+    rates: Blank,
+    granted: Blank,
+    refused: Blank,
+    capacity: u64,
+    gate: &Gate,
+) -> Result<(), Fail>
+where
+    L: Rates + Sync,
+    G: Ledger + Sync,
+    R: Ledger + Sync,
+    W: Wait + Abort + Threads + Sync,
+    requires rates { (rates.name ≡ L.name) × (rates.parts ≡ L.parts) × (L.parts ≡ 4) }
+    requires granted { (granted.name ≡ G.name) × (granted.parts ≡ G.parts)
+        × (G.parts ≡ L.seats) }
+    requires refused { (refused.name ≡ R.name) × (refused.parts ≡ R.parts)
+        × (R.parts ≡ L.seats) }
+    requires capacity { IsCapacity capacity }
+    requires most { capacity ≤ L.most }
+    requires seats { L.seats ≡ 1 }
+{
+    let (shared, seat) = open_held::<L, G, R, W>(
+        rt, alloc, rates, granted, refused, capacity, gate,
+    )?;
+    let lent = &shared;
+    let (first, second) = thread::join(
+        rt,
+        move || turn_held(rt, lent),
+        move ||
+            requires { L.parts ≡ 4 }
+        { ask_beside(rt, lent, gate, seat) },
+    );
+    let granted = Told::Granted {
+        at: 1_000_000_000,
+        until: 301_000_000_000,
+    };
+    assert_eq!(rt; (first, second), ((1, 0), granted));
+    assert!(rt; !gate.is_late());
+    Ok(())
+}
+
+#[test]
+fn a_turn_goes_on_beside_a_held_table(rt: HostRuntime) -> Result<(), Fail> {
+    let (rates, granted, refused) = (Blank::new(4), Blank::new(1), Blank::new(1));
+    let gate = closed_gate();
+    hold_beside_a_turn::<Brand, Brand, Brand, HostRuntime>(
+        &rt,
+        rt.alloc(),
+        rates,
+        granted,
+        refused,
+        64,
+        &gate,
+    )
+}
+
+#[test]
+fn an_ask_goes_on_beside_a_held_table(rt: HostRuntime) -> Result<(), Fail> {
+    let (rates, granted, refused) = (Blank::new(4), Blank::new(1), Blank::new(1));
+    let gate = closed_gate();
+    hold_beside_an_ask::<Brand, Brand, Brand, HostRuntime>(
+        &rt,
+        rt.alloc(),
+        rates,
+        granted,
+        refused,
+        64,
+        &gate,
+    )
+}
