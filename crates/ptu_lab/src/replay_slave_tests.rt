@@ -10,15 +10,23 @@ use ptu_judges::{FlagJudge, GapJudge, Judge};
 use std::alloc::AllocFailed;
 use std::test::Fail;
 
-// Puts a judge of the rule Flag into the stock.
-fn add_flag(stock: &mut Stock, judge: Box<dyn Judge>) -> Result<(), AllocFailed<Box<dyn Judge>>>
-    requires fresh { held judge ≡ fresh Rule.Flag }
+// Puts two judges of the rule Flag and one of the rule Gap into the stock.
+fn add_judges(
+    stock: &mut Stock,
+    first: Box<dyn Judge>,
+    second: Box<dyn Judge>,
+    gap: Box<dyn Judge>,
+) -> Result<(), AllocFailed<Box<dyn Judge>>>
+    requires flags { (held first ≡ fresh Rule.Flag) × (held second ≡ fresh Rule.Flag) }
+    requires gap { held gap ≡ fresh (Rule.Gap 4) }
     requires stock { IsStock (map (λ j. held j) stock.old.flags.items)
         (map (λ j. held j) stock.old.gaps.items) }
     ensures { OnOk result (IsStock (map (λ j. held j) stock.new.flags.items)
         (map (λ j. held j) stock.new.gaps.items)) }
 {
-    stock.flags.push(judge)?;
+    stock.flags.push(first)?;
+    stock.flags.push(second)?;
+    stock.gaps.push(gap)?;
     Ok(())
 }
 
@@ -307,9 +315,10 @@ fn slaves_select(rt: HostRuntime) -> Result<(), Fail> {
         ),
     ] {
         let mut stock = no_judges(alloc);
-        add_flag(&mut stock, Box::new(alloc, FlagJudge::new())?)?;
-        add_flag(&mut stock, Box::new(alloc, FlagJudge::new())?)?;
-        stock.gaps.push(Box::new(alloc, GapJudge::new(4))?)?;
+        let first = Box::new(alloc, FlagJudge::new())?;
+        let second = Box::new(alloc, FlagJudge::new())?;
+        let gap = Box::new(alloc, GapJudge::new(4))?;
+        add_judges(&mut stock, first, second, gap)?;
         let (_, text) = replayed(alloc, script, stock)?;
         assert_eq!(rt; text.as_str(), report);
     }
@@ -406,9 +415,10 @@ fn slaves_ask(rt: HostRuntime) -> Result<(), Fail> {
         ),
     ] {
         let mut stock = no_judges(alloc);
-        add_flag(&mut stock, Box::new(alloc, FlagJudge::new())?)?;
-        add_flag(&mut stock, Box::new(alloc, FlagJudge::new())?)?;
-        stock.gaps.push(Box::new(alloc, GapJudge::new(4))?)?;
+        let first = Box::new(alloc, FlagJudge::new())?;
+        let second = Box::new(alloc, FlagJudge::new())?;
+        let gap = Box::new(alloc, GapJudge::new(4))?;
+        add_judges(&mut stock, first, second, gap)?;
         let (_, text) = replayed(alloc, script, stock)?;
         assert_eq!(rt; text.as_str(), report);
     }

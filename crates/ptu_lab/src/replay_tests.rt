@@ -485,7 +485,7 @@ fn fronts(alloc: Global) -> Result<String, Fail> {
 
 // What is said of a front that is cut off.
 fn said_of_cut(alloc: Global, octets: usize) -> Result<String, Fail> {
-    let line = octets + 2;
+    let line = octets.saturating_add(2);
     if octets < 34 {
         Ok(format!(in alloc; "{line} ignored fault short {octets}\n")?)
     } else {
