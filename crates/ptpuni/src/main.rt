@@ -14,12 +14,15 @@ ghost use Rattle.ptu_judges.specs.Held.{IsStock, fresh};
 use ptu_judges::{FlagJudge, GapJudge, Judge, Rule, Stock};
 use ptu_outside::{StdSink, StdSource};
 use ptu_words::USAGE_TEXT;
-use run::{OUT_OF_MEMORY, USAGE};
+use run::{OUT_OF_MEMORY, SINK_FAULT, USAGE};
 use std::alloc::{AllocError, Global};
 use std::env::Env;
-use std::io::ErrorKind;
+use std::io::{BufWriter, ErrorKind, IsTerminal, Write};
 use std::process::ExitCode;
 use std::{env, io};
+
+// So many octets of output are handed on at once.
+const BLOCK: usize = 65536;
 
 // The status of a run whose words can't be had: one that is not UTF-8 makes a faulty command line.
 fn status_without_words(kind: ErrorKind) -> u8
@@ -53,7 +56,33 @@ fn texts_of(alloc: Global, words: &[String]) -> Result<Vec<&str>, AllocError>
     Ok(texts)
 }
 
-// Runs the words over standard input and output.
+// Runs the words over standard input and this writer.
+fn run_over<W: Write + Drop>(rt: &HostRuntime, words: &[&str], writer: W, stock: Stock) -> u8
+    requires { IsStock (map (λ j. held (j.vtable, j.value)) stock.flags.items)
+        (map (λ j. held (j.vtable, j.value)) stock.gaps.items) }
+{
+    let mut source = StdSource::new(rt.stdin());
+    let mut sink = StdSink::new(writer);
+    run::run(rt.alloc(), words, &mut source, &mut sink, stock)
+}
+
+// The same over standard output, which gets the output block by block. What a run leaves in the
+// last block is handed on whatever the run came to.
+fn run_in_blocks(rt: &HostRuntime, words: &[&str], stock: Stock) -> u8
+    requires { IsStock (map (λ j. held (j.vtable, j.value)) stock.flags.items)
+        (map (λ j. held (j.vtable, j.value)) stock.gaps.items) }
+{
+    let Ok(mut blocks) = BufWriter::with_capacity(rt.alloc(), BLOCK, rt.stdout()) else {
+        return OUT_OF_MEMORY;
+    };
+    let status = run_over(rt, words, &mut blocks, stock);
+    match blocks.flush() {
+        Ok(()) => status,
+        Err(_) => SINK_FAULT,
+    }
+}
+
+// Runs the words over standard input and output, line by line where a person looks on.
 fn status_of(rt: &HostRuntime, words: &[String], stock: Stock) -> u8
     requires { IsStock (map (λ j. held (j.vtable, j.value)) stock.flags.items)
         (map (λ j. held (j.vtable, j.value)) stock.gaps.items) }
@@ -61,9 +90,12 @@ fn status_of(rt: &HostRuntime, words: &[String], stock: Stock) -> u8
     let Ok(texts) = texts_of(rt.alloc(), words) else {
         return OUT_OF_MEMORY;
     };
-    let mut source = StdSource::new(rt.stdin());
-    let mut sink = StdSink::new(rt.stdout());
-    run::run(rt.alloc(), &texts, &mut source, &mut sink, stock)
+    let output = rt.stdout();
+    if output.is_terminal() {
+        run_over(rt, &texts, output, stock)
+    } else {
+        run_in_blocks(rt, &texts, stock)
+    }
 }
 
 // Puts a judge of each rule into the stock.
