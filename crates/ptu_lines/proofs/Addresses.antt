@@ -1,37 +1,39 @@
--- An address by its four parts.
-use Rattle.std.proofs.Common.{◌≡◌, ℕ, ◌+◌, ◌*◌, List, [], ◌∷◌, length, Option, Some, None, refl, map, ◌==◌, arith}
-use Rattle.std.specs.List.{slice_get, slice_split}
-use Rattle.std.specs.Option.{option_and_then, option_map}
+-- An address by its parts: where they are not four, there is none.
+use Rattle.std.proofs.Common.{◌≡◌, ◌<◌, ◌==◌, ℕ, Bool, List, [], ◌∷◌, length, map, Option, Some, None, refl, ap, ◌∙◌, arith}
+use Rattle.std.specs.List.{slice_split}
+use Rattle.std.proofs.lemmas.List.Splits.{length-slice_split}
 use Rattle.ptu_lines.specs.Words.{number_within, address_of, ip_of}
 
--- four numbers as one, where each is there
-abbrev pub joined : Option ℕ → Option ℕ → Option ℕ → Option ℕ → Option ℕ
-joined a b c d =
-    option_and_then (λ w. option_and_then (λ x. option_and_then (λ y. option_map (λ z. ((w * 256 + x) * 256 + y) * 256 + z) d) c) b) a
+three_numbers : (a b c : Option ℕ) → address_of (a ∷ b ∷ c ∷ []) ≡ None
+three_numbers None b c = refl
+three_numbers (Some a) None c = refl
+three_numbers (Some a) (Some b) None = refl
+three_numbers (Some a) (Some b) (Some c) = refl
 
-address_of-joined : (a b c d : Option ℕ) → address_of (a ∷ b ∷ c ∷ d ∷ []) ≡ joined a b c d
-address_of-joined None b c d = refl
-address_of-joined (Some a) None c d = refl
-address_of-joined (Some a) (Some b) None d = refl
-address_of-joined (Some a) (Some b) (Some c) None = refl
-address_of-joined (Some a) (Some b) (Some c) (Some d) = refl
+five_numbers : (a b c d e : Option ℕ) (more : List (Option ℕ)) → address_of (a ∷ b ∷ c ∷ d ∷ e ∷ more) ≡ None
+five_numbers None b c d e more = refl
+five_numbers (Some a) None c d e more = refl
+five_numbers (Some a) (Some b) None d e more = refl
+five_numbers (Some a) (Some b) (Some c) None e more = refl
+five_numbers (Some a) (Some b) (Some c) (Some d) e more = refl
 
--- the number at a place
-abbrev pub at_place : (List ℕ → Option ℕ) → List (List ℕ) → ℕ → Option ℕ
-at_place f parts place = option_and_then f (slice_get parts place)
+-- the numbers between the dots
+abbrev byte_of : List ℕ → Option ℕ
+byte_of part = number_within part 0 255
 
-abbrev pub byte_of : List ℕ → ℕ → Option ℕ
-byte_of word place = at_place (λ part. number_within part 0 255) (slice_split (λ octet. octet == 46) word) place
+abbrev pub is_dot : ℕ → Bool
+is_dot octet = octet == 46
 
-address-parts : (f : List ℕ → Option ℕ) (parts : List (List ℕ)) → length parts ≡ 4
-    → address_of (map f parts) ≡ joined (at_place f parts 0) (at_place f parts 1) (at_place f parts 2) (at_place f parts 3)
-address-parts f [] e = absurd (omega arith)
-address-parts f (p ∷ []) e = absurd (omega arith)
-address-parts f (p ∷ q ∷ []) e = absurd (omega arith)
-address-parts f (p ∷ q ∷ r ∷ []) e = absurd (omega arith)
-address-parts f (p ∷ q ∷ r ∷ s ∷ []) e = address_of-joined (f p) (f q) (f r) (f s)
-address-parts f (p ∷ q ∷ r ∷ s ∷ t ∷ more) e = absurd (omega arith)
+-- with two dots
+pub ip_of-three : (word a b c : List ℕ) → slice_split is_dot word ≡ a ∷ b ∷ c ∷ [] → ip_of word ≡ None
+ip_of-three word a b c e = ap (λ parts. address_of (map byte_of parts)) e ∙ three_numbers (byte_of a) (byte_of b) (byte_of c)
 
-pub ip_of-joined : (word : List ℕ) → length (slice_split (λ octet. octet == 46) word) ≡ 4
-    → ip_of word ≡ joined (byte_of word 0) (byte_of word 1) (byte_of word 2) (byte_of word 3)
-ip_of-joined word four = address-parts (λ part. number_within part 0 255) (slice_split (λ octet. octet == 46) word) four
+more_parts : (a b c d : List ℕ) (rest : List (List ℕ)) → 0 < length rest → address_of (map byte_of (a ∷ b ∷ c ∷ d ∷ rest)) ≡ None
+more_parts a b c d [] some = absurd (omega (arith, some))
+more_parts a b c d (e ∷ more) some = five_numbers (byte_of a) (byte_of b) (byte_of c) (byte_of d) (byte_of e) (map byte_of more)
+
+-- with more than three
+pub ip_of-more : (word a b c d rest : List ℕ) → slice_split is_dot word ≡ a ∷ b ∷ c ∷ d ∷ slice_split is_dot rest → ip_of word ≡ None
+ip_of-more word a b c d rest e =
+    ap (λ parts. address_of (map byte_of parts)) e
+    ∙ more_parts a b c d (slice_split is_dot rest) (omega (arith, length-slice_split is_dot rest))

@@ -7,3 +7,4 @@ pub mod Logs
 pub mod NextLine
 pub mod Numbers
 pub mod Ranges
+pub mod Separators

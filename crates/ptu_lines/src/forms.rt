@@ -1,8 +1,8 @@
-ghost use Rattle.std.specs.Prelude.{◌≡◌, ◌<◌, ◌≤◌, ◌^◌, ◌-◌, ◌==◌, length, take, drop, slice_get, Some, None, IfSome, MatchOption, option_and_then, pos, negsuc};
+ghost use Rattle.std.specs.Prelude.{◌≡◌, ◌<◌, ◌≤◌, ◌^◌, ◌-◌, ◌==◌, ◌∷◌, [], length, take, drop, Some, None, IfNone, IfSome, MatchOption, option_and_then, pos, negsuc};
 ghost use Rattle.std.specs.List.{slice_split};
 ghost use Rattle.ptu_lines.specs.Words.{value_of, number_of, number_within, has_sign, int_within, log_within, ip_of, clock_of, octets_of};
 
-use crate::line_words::{part, parts};
+use crate::line_words::cut;
 
 /// The most digits of a NUM.
 const MOST_DIGITS: usize = 19;
@@ -47,13 +47,28 @@ pub fn number(word: &[u8], least: u64, greatest: u64) -> Option<u64>
     }
 }
 
-// The number from 0 to 255 at this place between dots.
-fn byte_at(word: &[u8], place: usize) -> Option<u32>
-    ensures value { result ≡ option_and_then (λ text. number_within text 0 255) (slice_get (slice_split (λ octet. octet == 46) word.now) place) }
+// A number from 0 to 255.
+fn byte(word: &[u8]) -> Option<u32>
+    ensures value { result ≡ number_within word.now 0 255 }
     ensures below { IfSome result (λ byte. byte < 256) }
 {
-    let byte = number(part(word, b'.', place)?, 0, 255)?;
+    let byte = number(word, 0, 255)?;
     Some(byte as u32)
+}
+
+// The four parts that three dots separate.
+fn four_parts(word: &[u8]) -> Option<(&[u8], &[u8], &[u8], &[u8])>
+    ensures none { IfNone result (ip_of word.now ≡ None) }
+    ensures parts { IfSome result (λ parts. slice_split (λ octet. octet == 46) word.now
+        ≡ parts.0.now ∷ parts.1.now ∷ parts.2.now ∷ parts.3.now ∷ []) }
+{
+    let (first, rest) = cut(word, b'.')?;
+    let (second, rest) = cut(rest, b'.')?;
+    let (third, fourth) = cut(rest, b'.')?;
+    match cut(fourth, b'.') {
+        Some(_) => None,
+        None => Some((first, second, third, fourth)),
+    }
 }
 
 /// IP: four NUM from 0 to 255, joined by dots, the first of them the highest octet of the address, or `None` where the
@@ -61,13 +76,8 @@ fn byte_at(word: &[u8], place: usize) -> Option<u32>
 pub fn ip(word: &[u8]) -> Option<u32>
     ensures { result ≡ ip_of word.now }
 {
-    if parts(word, b'.') != 4 {
-        return None;
-    }
-    let a = byte_at(word, 0)?;
-    let b = byte_at(word, 1)?;
-    let c = byte_at(word, 2)?;
-    let d = byte_at(word, 3)?;
+    let (a, b, c, d) = four_parts(word)?;
+    let (a, b, c, d) = (byte(a)?, byte(b)?, byte(c)?, byte(d)?);
     Some(((a * 256 + b) * 256 + c) * 256 + d)
 }
 

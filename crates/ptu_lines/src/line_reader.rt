@@ -8,6 +8,7 @@ ghost use Rattle.ptu_lines.specs.Reading.{known_of, octets_taken, AgreesOnEnd, C
 use crate::cause::LineCause;
 use crate::fault::LinesFault;
 use crate::line_buffer::{LONGEST_LINE, LineBuffer};
+use memchr::memchr;
 use ptu_outside::{Failed, Source};
 use ptu_units::OutOfMemory;
 use std::alloc::Global;
@@ -48,14 +49,18 @@ impl Model for LineReader {
 fn first_end(octets: &[u8]) -> Option<usize>
     ensures { result ≡ position is_end octets.now }
 {
-    octets.iter().position(|octet| *octet == b'\n')
+    memchr(b'\n', octets)
 }
 
 // Whether all octets are from 20 to 7E (hexadecimal).
 fn is_plain_text(text: &[u8]) -> bool
     ensures { result ≡ list_all is_plain text.now }
 {
-    text.iter().all(|octet| 0x20 <= *octet && *octet <= 0x7E)
+    let mut is_plain = true;
+    for octet in text {
+        is_plain &= 0x20 <= *octet && *octet <= 0x7E;
+    }
+    is_plain
 }
 
 // Why a line is refused, if it is: so many octets stand before it, and the first `text` of its own are its text.

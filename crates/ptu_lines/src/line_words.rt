@@ -1,27 +1,51 @@
-ghost use Rattle.std.specs.Prelude.{◌≡◌, ◌<◌, ◌≤◌, ◌^◌, ◌==◌, length, count_by, slice_get, take, Some, None, option_map, IfNone, IfSome};
+ghost use Rattle.std.specs.Prelude.{◌≡◌, ◌<◌, ◌∷◌, [], ◌==◌, length, slice_get, IfNone, IfSome};
 ghost use Rattle.std.specs.List.{slice_split};
 ghost use Rattle.std.specs.Option.{option_copied};
-ghost use Rattle.ptu_lines.specs.Words.{words_of, word_of, value_of, number_within, log_within, ip_of, clock_of, octets_of};
+ghost use Rattle.ptu_lines.specs.Words.{words_of, word_of};
 
-fn occurrences(text: &[u8], wanted: u8) -> usize
-    ensures count { result ≡ count_by (λ octet. octet == wanted) text.now }
-    ensures bound { result ≤ length text.now }
+use memchr::memchr;
+
+// What stands before the first separator and what stands behind it, where there is one.
+pub(crate) fn cut(text: &[u8], separator: u8) -> Option<(&[u8], &[u8])>
+    ensures none { IfNone result
+        (slice_split (λ octet. octet == separator) text.now ≡ text.now ∷ []) }
+    ensures parts { IfSome result (λ parts. slice_split (λ octet. octet == separator) text.now
+        ≡ parts.0.now ∷ slice_split (λ octet. octet == separator) parts.1.now) }
+    ensures shorter { IfSome result (λ parts. length parts.1.now < length text.now) }
 {
-    text.iter().filter(|octet| **octet == wanted).count()
+    match memchr(separator, text) {
+        Some(end) => Some((&text[..end], &text[end + 1..])),
+        None => None,
+    }
 }
 
 // How many parts this octet separates.
-pub(crate) fn parts(text: &[u8], separator: u8) -> usize
+fn parts(text: &[u8], separator: u8) -> usize
     ensures { result ≡ length (slice_split (λ octet. octet == separator) text.now) }
 {
-    occurrences(text, separator) + 1
+    let mut count = 1;
+    let mut rest = text;
+    while let Some((_, behind)) = cut(rest, separator) {
+        count += 1;
+        rest = behind;
+    }
+    count
 }
 
 // The part with this place, from 0.
-pub(crate) fn part(text: &[u8], separator: u8, place: usize) -> Option<&[u8]>
-    ensures { option_copied result ≡ slice_get (slice_split (λ octet. octet == separator) text.now) place }
+fn part(text: &[u8], separator: u8, place: usize) -> Option<&[u8]>
+    ensures { option_copied result
+        ≡ slice_get (slice_split (λ octet. octet == separator) text.now) place }
 {
-    text.split(|octet| *octet == separator).nth(place)
+    let mut rest = text;
+    for _ in 0..place {
+        let (_, behind) = cut(rest, separator)?;
+        rest = behind;
+    }
+    match cut(rest, separator) {
+        Some((front, _)) => Some(front),
+        None => Some(rest),
+    }
 }
 
 /// The number of words of a line: what stands between its spaces, so that an empty line is one empty word.
