@@ -156,3 +156,18 @@ fn the_state_of_one_master(rt: HostRuntime) {
     assert_eq!(rt; selector.state(at(&rt, SECOND), 1), unusable);
     assert!(rt; selector.state(at(&rt, SECOND), 0).loss_announce);
 }
+
+#[test]
+fn ten_million_looks_at_one_choice(rt: HostRuntime) {
+    let timeout = 48 * SECOND;
+    let priorities = [0; 20000];
+    let mut selector = Selector::new(rt.alloc(), timeout, timeout, None, 0, &priorities).expect(
+        &rt, "memory",
+    );
+    let start = at(&rt, 0);
+    selector.announce(start, 7, 84);
+    selector.sync(start, 7);
+    for _ in 0..10_000_000 {
+        assert_eq!(rt; selector.select(start), Some(7));
+    }
+}
