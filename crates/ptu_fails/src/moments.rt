@@ -1,5 +1,5 @@
 //! Comparisons of moments that may not be there yet.
-ghost use Rattle.std.specs.Prelude.{◌≡◌, ◌<◌, ◌^◌, cond, false, not, ◌&&◌, option_map, unwrap_or};
+ghost use Rattle.std.specs.Prelude.{◌≡◌, ◌≢◌, ℕ, ◌<◌, ◌≤◌, ◌^◌, ◌-◌, cond, false, not, ◌&&◌, option_map, unwrap_or};
 ghost use Rattle.std.specs.Option.{ForSome};
 ghost use Rattle.ptu_record.specs.Lists.{later_of};
 ghost use Rattle.ptu_record.specs.OutageEnds.{is_within, late_at};
@@ -77,5 +77,52 @@ pub fn later_moment(one: Option<Moment>, other: Option<Moment>) -> Option<Moment
         (Some(one), Some(other)) => Some(one.latest(other)),
         (one, None) => one,
         (None, other) => other,
+    }
+}
+
+// The first moment after `t` at which a message is lost that is not lost at `t`, where none comes;
+// `u64::MAX` where there is no such moment.
+pub fn loss_after(last: Option<Moment>, timeout: u64, t: Moment) -> u64
+    requires { timeout < 2 ^ 62 }
+    ensures later { t < result }
+    ensures before { (x : ℕ) → t ≤ x → x < result →
+        is_lost_at timeout x last ≡ is_lost_at timeout t last }
+    ensures there { result < 2 ^ 64 - 1 →
+        is_lost_at timeout result last ≢ is_lost_at timeout t last }
+{
+    match last {
+        Some(at) if t.nanos() <= at.nanos() + timeout => at.nanos() + timeout + 1,
+        _ => u64::MAX,
+    }
+}
+
+// The same where there is a timeout; without one nothing is ever lost.
+pub fn delay_loss_after(last: Option<Moment>, timeout: Option<u64>, t: Moment) -> u64
+    requires { ForSome timeout (λ timeout. timeout < 2 ^ 62) }
+    ensures later { t < result }
+    ensures before { (x : ℕ) → t ≤ x → x < result →
+        unwrap_or (option_map (λ n. is_lost_at n x last) timeout) false
+        ≡ unwrap_or (option_map (λ n. is_lost_at n t last) timeout) false }
+    ensures there { result < 2 ^ 64 - 1 →
+        unwrap_or (option_map (λ n. is_lost_at n result last) timeout) false
+        ≢ unwrap_or (option_map (λ n. is_lost_at n t last) timeout) false }
+{
+    match timeout {
+        Some(timeout) => loss_after(last, timeout, t),
+        None => u64::MAX,
+    }
+}
+
+// The first moment after `t` at which what is awaited at `t` is no longer; `u64::MAX` where nothing
+// is.
+pub fn awaited_until(end: Option<Moment>, wait: u64, t: Moment) -> u64
+    requires { wait < 2 ^ 62 }
+    ensures later { t < result }
+    ensures before { (x : ℕ) → t ≤ x → x < result → is_within wait x end ≡ is_within wait t end }
+    ensures there { result < 2 ^ 64 - 1 → is_within wait result end ≢ is_within wait t end }
+{
+    match end {
+        Some(end) if t.nanos() < end.nanos() + wait => end.nanos() + wait,
+        _ => u64::MAX,
     }
 }

@@ -1,4 +1,4 @@
-ghost use Rattle.std.specs.Prelude.{◌≡◌, ℕ, ◌<◌, ◌^◌, ◌++◌, ◌∷◌, []};
+ghost use Rattle.std.specs.Prelude.{◌≡◌, ◌≢◌, ℕ, ◌<◌, ◌≤◌, ◌^◌, ◌-◌, ◌++◌, ◌∷◌, []};
 ghost use Rattle.std.specs.Option.{ForSome};
 ghost use Rattle.ptu_record.specs.Record.{Record, Announce, Sync, Resp, Judged};
 ghost use Rattle.ptu_record.specs.SignalFails.{Timeouts};
@@ -6,7 +6,8 @@ ghost use Rattle.ptu_fails.specs.Watched.{StandsFor};
 ghost use Rattle.ptu_fails.specs.WatchState.{state_at, state_of};
 
 use crate::moments::{
-    cleared_moment, is_awaited, is_delay_lost, is_lost, late_delay, late_moment, later_moment,
+    awaited_until, cleared_moment, delay_loss_after, is_awaited, is_delay_lost, is_lost,
+    late_delay, late_moment, later_moment, loss_after,
 };
 use crate::state::WatchState;
 use ptu_record::{Quality, quality_of};
@@ -152,5 +153,19 @@ impl Watch {
             waiting: is_awaited(self.ended, self.wait, t),
             quality: self.quality,
         }
+    }
+    /// The first moment after `t` at which the state is another one than at `t`, where nothing more
+    /// is entered, in nanoseconds; `u64::MAX` where there is no such moment. Then an Announce, Sync
+    /// or Delay_Resp is lost that was not, or the waiting ends.
+    pub fn next_change(&self, t: Moment) -> u64
+        ensures later { t < result }
+        ensures before { (x : ℕ) → t ≤ x → x < result → state_of self.now x ≡ state_of self.now t }
+        ensures there { result < 2 ^ 64 - 1 → state_of self.now result ≢ state_of self.now t }
+    {
+        let announce = loss_after(self.announced, self.announce_timeout, t);
+        let sync = loss_after(self.synced, self.sync_timeout, t);
+        let delay = delay_loss_after(self.responded, self.delay_timeout, t);
+        let waiting = awaited_until(self.ended, self.wait, t);
+        announce.min(sync).min(delay.min(waiting))
     }
 }

@@ -1,2 +1,3 @@
 pub mod Candidate
+pub mod Choice
 pub mod Selecting

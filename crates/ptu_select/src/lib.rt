@@ -3,6 +3,7 @@
 #![tactic(auto)]
 
 mod candidate;
+mod choice;
 pub mod laws;
 mod master;
 mod selector;

@@ -4,10 +4,9 @@ ghost use Rattle.ptu_record.specs.Record.{Record, record_of, Announce, Sync, Res
 ghost use Rattle.ptu_record.specs.SignalFails.{Timeouts};
 ghost use Rattle.ptu_record.specs.Selection.{selected_master};
 ghost use Rattle.ptu_fails.specs.WatchState.{state_at};
-ghost use Rattle.ptu_select.specs.Candidate.{best_of};
 ghost use Rattle.ptu_select.specs.Selecting.{SelectsBy};
 
-use crate::candidate::{Candidate, better_of};
+use crate::choice::{Choice, choice_at};
 use crate::master::WatchedMaster;
 use ptu_fails::{Watch, WatchState};
 use ptu_units::{Moment, OutOfMemory};
@@ -15,19 +14,25 @@ use std::alloc::Global;
 use std::marker::Model;
 
 /// The watches over all masters of one slave, with their priority numbers. No call but `new` needs
-/// memory. Which records of the slave a selector stands for is said by `SelectsBy`.
+/// memory. Which records of the slave a selector stands for is said by `SelectsBy`. The last choice
+/// is kept with the moments for which it stands; every entry drops it.
 #[derive(Debug, Drop)]
 pub struct Selector {
     masters: Vec<WatchedMaster>,
+    kept: Option<Choice>,
 }
 
 impl Model for Selector {
     ghost use Rattle.std.specs.Prelude.{List};
+    ghost use Rattle.std.specs.Option.{ForSome};
+    ghost use Rattle.ptu_select.specs.Choice.{Stands};
     ghost use Rattle.ptu_select.specs.declared.master.WatchedMaster.{WatchedMaster};
 
     ghost Value = { List WatchedMaster };
 
     ghost view = { λ s. s.masters.items };
+
+    ghost invariant = { λ s. ForSome s.kept (λ kept. Stands s.masters.items kept) };
 }
 
 impl Selector {
@@ -55,7 +60,10 @@ impl Selector {
         for &priority in priorities {
             masters.push(WatchedMaster { watch, priority })?;
         }
-        Ok(Selector { masters })
+        Ok(Selector {
+            masters,
+            kept: None,
+        })
     }
 
     /// Enters an accepted Announce of the master at a place, with its clockClass.
@@ -66,6 +74,7 @@ impl Selector {
             SelectsBy self.old timeouts priorities L →
             SelectsBy self.new timeouts priorities (L ++ Announce t master class ∷ []) }
     {
+        self.kept = None; // The level or a loss may be another one.
         let watched = &mut self.masters[master];
         watched.watch.announce(t, class);
     }
@@ -78,6 +87,7 @@ impl Selector {
             SelectsBy self.old timeouts priorities L →
             SelectsBy self.new timeouts priorities (L ++ Sync t master number ∷ []) }
     {
+        self.kept = None; // The loss of Sync may have ended.
         let watched = &mut self.masters[master];
         watched.watch.sync(t);
     }
@@ -90,6 +100,7 @@ impl Selector {
             SelectsBy self.old timeouts priorities L →
             SelectsBy self.new timeouts priorities (L ++ Resp t master number ∷ []) }
     {
+        self.kept = None; // The loss of Delay_Resp may have ended.
         let watched = &mut self.masters[master];
         watched.watch.resp(t);
     }
@@ -102,6 +113,7 @@ impl Selector {
             SelectsBy self.old timeouts priorities L →
             SelectsBy self.new timeouts priorities (L ++ Judged t master unusable ∷ []) }
     {
+        self.kept = None; // It may be unusable, or waiting.
         let watched = &mut self.masters[master];
         watched.watch.flag(t, unusable);
     }
@@ -124,19 +136,8 @@ impl Selector {
             SelectsBy self.old timeouts priorities L →
             result ≡ selected_master timeouts priorities L t }
     {
-        let best = best_candidate(&self.masters, t);
-        best.map(|best| best.place)
+        let choice = choice_at(self.kept, &self.masters, t);
+        self.kept = Some(choice);
+        choice.place
     }
-}
-
-// The best of the masters that may be selected at the moment.
-fn best_candidate(masters: &[WatchedMaster], t: Moment) -> Option<Candidate>
-    ensures { result ≡ best_of t masters.now }
-{
-    masters
-        .iter()
-        .enumerate()
-        .fold(None, |best, (place, master)| {
-            better_of(best, master.candidate(place, t))
-        })
 }

@@ -156,3 +156,74 @@ fn the_state_of_one_master(rt: HostRuntime) {
     assert_eq!(rt; selector.state(at(&rt, SECOND), 1), unusable);
     assert!(rt; selector.state(at(&rt, SECOND), 0).loss_announce);
 }
+
+// The selector hears what came from a second on and up to another.
+fn take_between(
+    rt: &impl Abort,
+    selector: &mut Selector,
+    masters: usize,
+    pairs: &[Pair],
+    from: u64,
+    to: u64,
+)
+    requires { length selector.old ≡ masters }
+    ensures { length selector.new ≡ masters }
+{
+    for &pair in pairs {
+        if from <= pair.second && pair.second <= to {
+            take(rt, selector, masters, pair);
+        }
+    }
+}
+
+#[test]
+fn a_kept_choice_is_that_of_a_fresh_look(rt: HostRuntime) {
+    let pairs = [
+        heard(0, 0, 84),
+        heard(0, 1, 90),
+        heard(48, 1, 90),
+        heard(50, 0, 84),
+        heard(98, 0, 110),
+    ];
+    let priorities = [1, 1];
+    let timeout = 48 * SECOND;
+    let mut selector = Selector::new(
+        rt.alloc(),
+        timeout,
+        timeout,
+        None,
+        60 * SECOND,
+        &priorities,
+    ).expect(&rt, "memory");
+    let mut from = 0;
+    for nanos in [
+        0,
+        48_000_000_000,
+        48_000_000_001,
+        50_000_000_000,
+        96_000_000_000,
+        96_000_000_001,
+        98_000_000_001,
+    ] {
+        take_between(&rt, &mut selector, 2, &pairs, from, nanos / SECOND);
+        from = nanos / SECOND + 1;
+        let fresh = choice(&rt, rt.alloc(), &priorities, &pairs, nanos);
+        assert_eq!(rt; selector.select(at(&rt, nanos)), fresh);
+        assert_eq!(rt; selector.select(at(&rt, nanos)), fresh);
+    }
+}
+
+#[test]
+fn ten_million_looks_at_one_choice(rt: HostRuntime) {
+    let timeout = 48 * SECOND;
+    let priorities = [0; 20000];
+    let mut selector = Selector::new(rt.alloc(), timeout, timeout, None, 0, &priorities).expect(
+        &rt, "memory",
+    );
+    let start = at(&rt, 0);
+    selector.announce(start, 7, 84);
+    selector.sync(start, 7);
+    for _ in 0..10_000_000 {
+        assert_eq!(rt; selector.select(start), Some(7));
+    }
+}

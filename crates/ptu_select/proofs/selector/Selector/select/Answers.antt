@@ -1,4 +1,4 @@
-use Rattle.std.proofs.Common.{◌≡◌, ◌∙◌, ap, rules}
+use Rattle.std.proofs.Common.{◌∙◌, ap, sym}
 use Rattle.std.specs.Option.{option_map}
 use Rattle.ptu_select.specs.declared.candidate.Candidate.{Candidate}
 use Rattle.ptu_select.specs.Candidate.{best_of}
@@ -7,6 +7,6 @@ use Rattle.ptu_select.proofs.selector.Selector.select.Goals as goal
 
 pub returns-clause-selected : goal.returns-clause-selected
 returns-clause-selected c = λ timeouts priorities L h.
-    let place : c.map.result ≡ option_map (λ (best : Candidate). best.place) c.best_candidate-best.result = search rules in
-    place ∙ ap (option_map (λ (best : Candidate). best.place)) (c.best_candidate-best.ensures ∙ ap (best_of c.args.t) (c.deref.ensures.value ∙ c.self.view_is))
+    sym (c.choice_at-choice.ensures.stands c.args.t c.choice_at-choice.ensures.from c.choice_at-choice.ensures.until)
+    ∙ ap (λ masters. option_map (λ (best : Candidate). best.place) (best_of c.args.t masters)) (c.deref.ensures.value ∙ c.self.view_is)
     ∙ best_is_selected c.args.self.now timeouts priorities L c.args.t h
