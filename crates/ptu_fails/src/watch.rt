@@ -154,6 +154,7 @@ impl Watch {
             quality: self.quality,
         }
     }
+
     /// The first moment after `t` at which the state is another one than at `t`, where nothing more
     /// is entered, in nanoseconds; `u64::MAX` where there is no such moment. Then an Announce, Sync
     /// or Delay_Resp is lost that was not, or the waiting ends.
