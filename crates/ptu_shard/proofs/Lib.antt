@@ -5,3 +5,7 @@ pub mod Sorting
 pub mod Spending
 pub mod Turns
 pub mod Responses
+pub mod Members
+pub mod Keyed
+pub mod Dues
+pub mod Ends

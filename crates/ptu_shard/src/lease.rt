@@ -1,10 +1,10 @@
-ghost use Rattle.std.specs.Prelude.{◌≡◌, ◌≤◌, if◌then◌else◌};
+ghost use Rattle.std.specs.Prelude.{◌≡◌, ◌<◌, ◌≤◌, if◌then◌else◌, true};
+ghost use Rattle.ptu_history.specs.Turns.{is_turned};
 ghost use Rattle.ptu_shard.specs.Row.{is_row_of};
-ghost use Rattle.ptu_shard.specs.Turn.{is_lawful_row, is_due_row, is_answering_row, row_cmp, spent_row};
+ghost use Rattle.ptu_shard.specs.Turn.{is_lawful_row, is_due_row, is_answering_row, spent_row};
 
 use ptu_history::Client;
 use ptu_units::{Kind, Log, Moment, period};
-use std::cmp::Ordering;
 
 /// What a table keeps of a grant.
 #[derive(Clone, Copy, Debug, PartialEq, Eq)]
@@ -59,19 +59,11 @@ impl Row {
         self.is_of(client, Kind::DelayResp) && self.is_lawful(at)
     }
 
-    // The order in which a turn sends.
-    pub(crate) fn sending_order(&self, other: &Row) -> Ordering
-        ensures { result ≡ row_cmp self.now other.now }
-    {
-        let by_edge = self.lease.edge.cmp(&other.lease.edge);
-        let by_client = self.client.cmp(&other.client);
-        by_edge.then(by_client.then(self.kind.cmp(&other.kind)))
-    }
-
     // Spends a period and a sequence number, for a message at the moment.
     pub(crate) fn spend(&mut self, at: Moment)
         requires { self.old.lease.edge ≤ at }
-        ensures { self.new ≡ spent_row at self.old }
+        ensures row { self.new ≡ spent_row at self.old }
+        ensures later { is_turned self.old.kind ≡ true → at < self.new.lease.edge }
     {
         let period = period(self.lease.log);
         self.lease.edge = match self.kind {
@@ -79,15 +71,6 @@ impl Row {
             Kind::DelayResp => (self.lease.edge + period).max(at.nanos()),
         };
         self.lease.seq = self.lease.seq.wrapping_add(1);
-    }
-
-    // Spends them where a turn at the moment sends a message of the row.
-    pub(crate) fn spend_if_due(&mut self, at: Moment)
-        ensures { self.new ≡ (if is_due_row at self.old then spent_row at self.old else self.old) }
-    {
-        if self.is_due(at) {
-            self.spend(at);
-        }
     }
 
     // Spends them where a Delay_Req of the client at the moment is answered by the row.
