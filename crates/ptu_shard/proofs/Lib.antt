@@ -9,3 +9,5 @@ pub mod Members
 pub mod Keyed
 pub mod Dues
 pub mod Ends
+pub mod Keys
+pub mod Spent

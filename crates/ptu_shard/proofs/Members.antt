@@ -1,11 +1,11 @@
 -- Rows by their members: lists without two rows of one client and kind are given by what is in them, up to order.
-use Rattle.std.proofs.Common.{◌≡◌, ◌∙◌, ◌⊎◌, inl, inr, ℕ, zero, suc, ◌+◌, ◌<◌, ◌≤◌, List, [], ◌∷◌, length, get_or, Bool, true, false, not, cond, refl, sym, ap, ap₂, subst, map, arith, Option, Some, None}
+use Rattle.std.proofs.Common.{◌≡◌, ◌∙◌, ◌⊎◌, inl, inr, ℕ, zero, suc, ◌+◌, ◌<◌, ◌≤◌, List, [], ◌∷◌, length, get_or, Bool, true, false, not, cond, refl, sym, ap, ap₂, subst, map, arith, Option, Some, None, IfSome}
 use Rattle.std.specs.List.{AllPairs, Contains, filter, find}
 use Rattle.std.specs.List.Sorted.{IsPermutation}
 use Rattle.std.specs.Option.{option_map}
 use Rattle.std.proofs.lemmas.Bool.{not-true, true≢false}
 use Rattle.std.proofs.lemmas.List.Kept.{AllPairs-filter}
-use Rattle.std.proofs.lemmas.List.Sorted.{Contains-permutation, IsPermutation-sym, IsPermutation-trans}
+use Rattle.std.proofs.lemmas.List.Sorted.{Contains-permutation, IsPermutation-sym, IsPermutation-trans, sum_by-IsPermutation}
 use Rattle.std.proofs.lemmas.List.Sums.{sum_by-cons}
 use Rattle.ptu_units.specs.declared.kind.Kind.{Kind}
 use Rattle.ptu_units.specs.Log.{rate_of}
@@ -49,13 +49,13 @@ same_rows xs ys px py same =
 -- two rows of one client and kind are one
 pub one_row : (rows : List Row) → Apart Differ rows → (a b : Row) → Contains rows a → Contains rows b → same_lease a.client a.kind b.client b.kind ≡ true → a ≡ b
 one_row [] apart a b (i, lt, e) k same = absurd (omega arith)
-one_row (r ∷ rows) apart a b h k same = at (Contains-cons_cases r rows a h) (Contains-cons_cases r rows b k)
+one_row (r ∷ rows) apart a b h k same = at (Contains-cons_cases r rows a h) (Contains-cons_cases r rows b k) (λ m n. one_row rows apart.1 a b m n same)
   where
-    at : (r ≡ a) ⊎ Contains rows a → (r ≡ b) ⊎ Contains rows b → a ≡ b
-    at (inl e) (inl f) = sym e ∙ f
-    at (inl e) (inr m) = absurd (true≢false (sym same ∙ ap (λ (x : Row). same_lease x.client x.kind b.client b.kind) (sym e) ∙ apart.0 b m))
-    at (inr m) (inl f) = absurd (true≢false (sym same ∙ same_lease-sym a.client a.kind b.client b.kind ∙ ap (λ (x : Row). same_lease x.client x.kind a.client a.kind) (sym f) ∙ apart.0 a m))
-    at (inr m) (inr n) = one_row rows apart.1 a b m n same
+    at : (r ≡ a) ⊎ Contains rows a → (r ≡ b) ⊎ Contains rows b → (Contains rows a → Contains rows b → a ≡ b) → a ≡ b
+    at (inl e) (inl f) later = sym e ∙ f
+    at (inl e) (inr m) later = absurd (true≢false (sym same ∙ ap (λ (x : Row). same_lease x.client x.kind b.client b.kind) (sym e) ∙ apart.0 b m))
+    at (inr m) (inl f) later = absurd (true≢false (sym same ∙ same_lease-sym a.client a.kind b.client b.kind ∙ ap (λ (x : Row). same_lease x.client x.kind a.client a.kind) (sym f) ∙ apart.0 a m))
+    at (inr m) (inr n) later = later m n
 
 -- the row that is kept of a client and kind
 pub kept_row : (c : Client) (k : Kind) (rows : List Row) (lease : Lease) → lease_of c k rows ≡ Some lease → Contains rows (record { client = c; kind = k; lease = lease })
@@ -98,13 +98,13 @@ share_without c k (r ∷ rows) lease apart e = at (is_row_of c k r) refl (presen
     at : (b : Bool) → is_row_of c k r ≡ b → IsPresent c k (r ∷ rows) lease → (lease_of c k rows ≡ Some lease → share_of (without_row c k rows) + rate_of lease.log ≡ share_of rows) →
         share_of (cond (not b) (r ∷ without_row c k rows) (without_row c k rows)) + rate_of lease.log ≡ share_of (r ∷ rows)
     at true own p later =
-        let same : r.lease ≡ lease = own_lease own e in
+        let same : r.lease ≡ lease = first_lease own e in
         let rest : share_of (without_row c k rows) ≡ share_of rows = ap share_of (without_missing c k rows (missing_below c k r rows apart own)) in
         let rate : rate_of r.lease.log ≡ rate_of lease.log = ap (λ (l : Lease). rate_of l.log) same in
         omega (arith, first, rest, rate)
       where
-        own_lease : is_row_of c k r ≡ true → lease_of c k (r ∷ rows) ≡ Some lease → r.lease ≡ lease
-        own_lease own e = let f : Some r.lease ≡ Some lease = sym (ap (λ b. option_map (λ (row : Row). row.lease) (cond b (Some r) (find (is_row_of c k) rows))) own) ∙ e in cc
+        first_lease : is_row_of c k r ≡ true → lease_of c k (r ∷ rows) ≡ Some lease → r.lease ≡ lease
+        first_lease own e = let f : Some r.lease ≡ Some lease = sym (ap (λ b. option_map (λ (row : Row). row.lease) (cond b (Some r) (find (is_row_of c k) rows))) own) ∙ e in cc
     at false other p later =
         let e' : lease_of c k rows ≡ Some lease = sym (ap (λ b. option_map (λ (row : Row). row.lease) (cond b (Some r) (find (is_row_of c k) rows))) other) ∙ e in
         let ih : share_of (without_row c k rows) + rate_of lease.log ≡ share_of rows = later e' in
@@ -181,3 +181,19 @@ module _ (c : Client) (k : Kind) (old new : List Row) (before : Apart Differ old
           let is : row ≡ z = λ i. record { client = same.0 i; kind = same.1 i; lease = l i } in
           subst (Contains (row ∷ without_row c k old)) is (Contains-first row (without_row c k old))
       from z h false other = Contains-later row (without_row c k old) z (was (Some lease) get z h other)
+
+-- the shares after it
+pub share_put : (c : Client) (k : Kind) (lease : Lease) (old new : List Row) → IsPermutation (record { client = c; kind = k; lease = lease } ∷ without_row c k old) new →
+    share_of new ≡ rate_of lease.log + share_of (without_row c k old)
+share_put c k lease old new put =
+    sum_by-IsPermutation (λ (row : Row). rate_of row.lease.log) (record { client = c; kind = k; lease = lease } ∷ without_row c k old) new put
+    ∙ sum_by-cons (λ (row : Row). rate_of row.lease.log) (record { client = c; kind = k; lease = lease }) (without_row c k old)
+
+pub share_dropped : (c : Client) (k : Kind) (old new : List Row) → IsPermutation (without_row c k old) new → share_of new ≡ share_of (without_row c k old)
+share_dropped c k old new dropped = sum_by-IsPermutation (λ (row : Row). rate_of row.lease.log) (without_row c k old) new dropped
+
+pub share_after : (c : Client) (k : Kind) (old new : List Row) → Apart Differ old → IsPermutation (without_row c k old) new → (o : Option Lease) → o ≡ lease_of c k old →
+    IfSome o (λ lease. share_of new + rate_of lease.log ≡ share_of old)
+share_after c k old new apart dropped None is = tt
+share_after c k old new apart dropped (Some lease) is =
+    omega (arith, share_dropped c k old new dropped, share_without c k old lease apart (sym is))

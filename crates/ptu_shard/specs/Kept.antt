@@ -17,7 +17,7 @@ rows_of entries = map row_of entries
 -- its entry in the queue, and for as many rows as `room` there is room without memory, twice that in the queues
 pub record IsKept (rows : List Row) (spare share moment room : ℕ) (edges ends : Queued) : Type 0 where
   pub distinct : IsDistinctByLease rows
-  pub share : share ≡ share_of rows
+  pub held : share ≡ share_of rows
   pub due : HasEdges moment rows edges.entries
   pub over : HasEnds rows ends.entries
   pub within : length rows ≤ room

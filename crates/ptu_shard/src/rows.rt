@@ -1,8 +1,10 @@
 //! Rows by client and kind.
 
-ghost use Rattle.std.specs.Prelude.{◌≡◌, ◌<◌, ◌≤◌, ◌+◌, ◌*◌, ◌^◌, [], ◌∷◌, false, length, nat_lt, slice_get, true, IfNone, IfSome};
+ghost use Rattle.std.specs.Prelude.{◌≡◌, ◌<◌, ◌≤◌, ◌+◌, ◌*◌, ◌^◌, [], ◌∷◌, false, if◌then◌else◌, length, map, nat_lt, slice_get, true, IfNone, IfSome};
 ghost use Rattle.std.specs.List.{Contains, filter};
 ghost use Rattle.std.specs.List.Sorted.{IsPermutation};
+ghost use Rattle.std.specs.Option.{option_map};
+ghost use Rattle.ptu_units.specs.declared.kind.Kind.TheVariants.{DelayResp};
 ghost use Rattle.indexmap.specs.IndexMap.{spare};
 ghost use Rattle.ptu_units.specs.Log.{rate_of};
 ghost use Rattle.ptu_shard.specs.Kept.{rows_of};
@@ -38,6 +40,21 @@ pub(crate) fn find_lease(
     rows.get(&key).copied()
 }
 
+/// The row of the client and kind, if there is one.
+fn find_row(rows: &IndexMap<Key, Lease>, client: Client, kind: Kind) -> Option<Row>
+    ensures kept { IfSome result (λ row. Contains (rows_of rows.now.entries) row
+        × (row.client ≡ client) × (row.kind ≡ kind)) }
+    ensures lease { option_map (λ row. row.lease) result
+        ≡ lease_of client kind (rows_of rows.now.entries) }
+{
+    let lease = find_lease(rows, &client, kind)?;
+    Some(Row {
+        client,
+        kind,
+        lease,
+    })
+}
+
 /// The row at a place.
 pub(crate) fn row_at(rows: &IndexMap<Key, Lease>, index: usize) -> Option<Row>
     ensures { result ≡ slice_get (rows_of rows.now.entries) index }
@@ -69,10 +86,11 @@ pub(crate) fn put_row(rows: &mut IndexMap<Key, Lease>, row: Row) -> u64
         client: row.client,
         kind: row.kind,
     };
-    // It fails only where there is no room, and there is.
     match rows.insert(key, row.lease) {
         Ok(Some(lease)) => rate(lease.log),
-        _ => 0,
+        Ok(None) => 0,
+        // It fails only where there is no room, and there is.
+        Err(_) => 0,
     }
 }
 
@@ -102,30 +120,32 @@ pub(crate) fn drop_row(
 }
 
 /// Drops the row of the entry's client and kind, where it is over at the moment. Gives its rate.
-pub(crate) fn drop_over(rows: &mut IndexMap<Key, Lease>, at: Moment, entry: &Entry) -> u64
-    requires { entry.now.moment ≤ at }
+pub(crate) fn drop_over(rows: &mut IndexMap<Key, Lease>, at: Moment, entry: Entry) -> u64
+    requires { entry.moment ≤ at }
     ensures live { IsPermutation
         (filter (λ row. nat_lt at row.lease.until) (rows_of rows.old.entries))
         (filter (λ row. nat_lt at row.lease.until) (rows_of rows.new.entries)) }
     ensures left { (row : Row) → Contains (rows_of rows.new.entries) row
-        → Contains (rows_of rows.old.entries) row × (end_entry row ≡ entry.now → ⊥) }
+        → Contains (rows_of rows.old.entries) row × (end_entry row ≡ entry → ⊥) }
     ensures distinct { IsDistinctByLease (rows_of rows.new.entries) }
     ensures share { share_of (rows_of rows.new.entries) + result
         ≡ share_of (rows_of rows.old.entries) }
     ensures count { length rows.new.entries ≤ length rows.old.entries }
     ensures spare { spare rows.old ≤ spare rows.new }
 {
-    match find_lease(rows, &entry.client, entry.kind) {
-        Some(lease) if lease.until <= at.nanos() => {
-            drop_row(rows, &entry.client, entry.kind);
-            rate(lease.log)
-        }
-        _ => 0,
+    let _count = rows.len();
+    let Some(lease) = find_lease(rows, &entry.client, entry.kind) else {
+        return 0;
+    };
+    if at.nanos() < lease.until {
+        return 0;
     }
+    drop_row(rows, &entry.client, entry.kind);
+    rate(lease.log)
 }
 
-/// Makes this the lease of the client and kind, which have a row.
-fn write_lease(rows: &mut IndexMap<Key, Lease>, row: Row)
+/// Makes this row the one of its client and kind, which have one.
+fn write_row(rows: &mut IndexMap<Key, Lease>, row: Row)
     ensures rows { rows_of rows.new.entries ≡ map
         (λ r. if is_row_of row.client row.kind r then row else r) (rows_of rows.old.entries) }
     ensures distinct { IsDistinctByLease (rows_of rows.old.entries) }
@@ -143,31 +163,29 @@ fn write_lease(rows: &mut IndexMap<Key, Lease>, row: Row)
 
 /// Where the row of the entry's client and kind is due at the moment, by just this entry, it spends
 /// a period and a sequence number. Gives the row as it was before.
-pub(crate) fn spend_due(rows: &mut IndexMap<Key, Lease>, at: Moment, entry: &Entry) -> Option<Row>
+pub(crate) fn spend_due(rows: &mut IndexMap<Key, Lease>, at: Moment, entry: Entry) -> Option<Row>
     ensures due { IfSome result (λ row. Contains (rows_of rows.old.entries) row
-        × (edge_entry row ≡ entry.now) × (is_due_row at row ≡ true)) }
+        × (edge_entry row ≡ entry) × (is_due_row at row ≡ true)) }
     ensures spent { IfSome result (λ row. rows_of rows.new.entries
         ≡ spent_where (is_row_of row.client row.kind) at (rows_of rows.old.entries)) }
     ensures later { IfSome result (λ row. is_due_row at (spent_row at row) ≡ false) }
     ensures none { IfNone result ((row : Row) → Contains (rows_of rows.old.entries) row
-        → edge_entry row ≡ entry.now → is_due_row at row ≡ false) }
+        → edge_entry row ≡ entry → is_due_row at row ≡ false) }
     ensures same { IfNone result (rows_of rows.new.entries ≡ rows_of rows.old.entries) }
     ensures distinct { IsDistinctByLease (rows_of rows.old.entries) }
     ensures spare { spare rows.new ≡ spare rows.old }
 {
     let _count = rows.len();
-    let lease = find_lease(rows, &entry.client, entry.kind)?;
-    let row = Row {
-        client: entry.client,
-        kind: entry.kind,
-        lease,
+    let Some(row) = find_row(rows, entry.client, entry.kind) else {
+        return None;
     };
-    if lease.edge != entry.moment || !row.is_due(at) {
+    if row.lease.edge != entry.moment {
         return None;
     }
-    let mut spent = row;
-    spent.spend(at);
-    write_lease(rows, spent);
+    if !row.is_due(at) {
+        return None;
+    }
+    write_row(rows, row.spent(at));
     Some(row)
 }
 
@@ -176,22 +194,20 @@ pub(crate) fn spend_due(rows: &mut IndexMap<Key, Lease>, at: Moment, entry: &Ent
 pub(crate) fn spend_answering(
     rows: &mut IndexMap<Key, Lease>,
     at: Moment,
-    client: &Client,
+    client: Client,
 ) -> Option<Lease>
-    ensures lease { result ≡ lease_of client.now DelayResp (rows_of rows.old.entries) }
+    ensures lease { result ≡ lease_of client DelayResp (rows_of rows.old.entries) }
     ensures rows { rows_of rows.new.entries
-        ≡ spent_where (is_answering_row at client.now) at (rows_of rows.old.entries) }
+        ≡ spent_where (is_answering_row at client) at (rows_of rows.old.entries) }
     ensures spare { spare rows.new ≡ spare rows.old }
 {
     let _count = rows.len();
-    let lease = find_lease(rows, client, Kind::DelayResp)?;
-    let row = Row {
-        client: *client,
-        kind: Kind::DelayResp,
-        lease,
+    let Some(row) = find_row(rows, client, Kind::DelayResp) else {
+        return None;
     };
-    let mut spent = row;
-    spent.spend_if_answering(at, client);
-    write_lease(rows, spent);
-    Some(lease)
+    if !row.is_lawful(at) {
+        return Some(row.lease);
+    }
+    write_row(rows, row.spent(at));
+    Some(row.lease)
 }

@@ -303,7 +303,7 @@ impl<P: Port> Shard<P> {
             (history ++ (step opened history self.new.moment (DelayReq client.now)).records) }
     {
         let at = t.latest(self.moment);
-        let lease = spend_answering(&mut self.rows, at, client);
+        let lease = spend_answering(&mut self.rows, at, *client);
         self.moment = at;
         answer_request(&mut self.port, config, at, client, request, lease)
     }

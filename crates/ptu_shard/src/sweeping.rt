@@ -36,7 +36,7 @@ pub(crate) fn drop_ended(
     ensures capacity { ends.new.capacity ≡ ends.old.capacity }
 {
     while let Some(entry) = ends.pop_until(at) {
-        share -= drop_over(rows, at, &entry);
+        share -= drop_over(rows, at, entry);
     }
     share
 }

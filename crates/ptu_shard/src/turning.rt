@@ -37,10 +37,8 @@ fn next_due(rows: &mut IndexMap<Key, Lease>, edges: &mut Queue, at: Moment) -> O
     ensures capacity { edges.old.capacity ≤ edges.new.capacity }
 {
     while let Some(entry) = edges.pop_until(at) {
-        if let Some(row) = spend_due(rows, at, &entry) {
-            let mut spent = row;
-            spent.spend(at);
-            edges.push(edge_of(&spent));
+        if let Some(row) = spend_due(rows, at, entry) {
+            edges.push(edge_of(&row.spent(at)));
             return Some(row);
         }
     }
