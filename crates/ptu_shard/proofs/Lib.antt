@@ -11,3 +11,5 @@ pub mod Dues
 pub mod Ends
 pub mod Keys
 pub mod Spent
+pub mod Heap
+pub mod SoFar
