@@ -13,3 +13,4 @@ pub mod Keys
 pub mod Spent
 pub mod Heap
 pub mod SoFar
+pub mod Filling

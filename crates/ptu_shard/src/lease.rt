@@ -37,11 +37,18 @@ impl Row {
         at.nanos() < self.lease.until && self.lease.edge <= at.nanos()
     }
 
+    // Whether turns send its messages.
+    pub(crate) fn is_turned(&self) -> bool
+        ensures { result ≡ is_turned self.now.kind }
+    {
+        self.kind != Kind::DelayResp
+    }
+
     // Whether a turn at the moment sends a message of the row.
     pub(crate) fn is_due(&self, at: Moment) -> bool
         ensures { result ≡ is_due_row at self.now }
     {
-        self.kind != Kind::DelayResp && self.is_lawful(at)
+        self.is_turned() && self.is_lawful(at)
     }
 
     // The row after a message at the moment, which spends a period and a sequence number.

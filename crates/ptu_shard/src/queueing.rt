@@ -11,7 +11,6 @@ use crate::lease::{Lease, Row};
 use crate::queue::{Entry, Queue};
 use crate::rows::{Key, row_at};
 use indexmap::IndexMap;
-use ptu_units::Kind;
 
 /// The entry of a row in the queue of what is due.
 pub(crate) fn edge_of(row: &Row) -> Entry
@@ -45,7 +44,7 @@ fn fill_edges(edges: &mut Queue, rows: &IndexMap<Key, Lease>)
     edges.clear();
     for index in 0..rows.len() {
         if let Some(row) = row_at(rows, index) {
-            if row.kind != Kind::DelayResp {
+            if row.is_turned() {
                 edges.push(edge_of(&row));
             }
         }
@@ -76,7 +75,7 @@ pub(crate) fn put_edge(edges: &mut Queue, rows: &IndexMap<Key, Lease>, row: &Row
         Contains edges.old.entries (edge_entry r) → Contains edges.new.entries (edge_entry r) }
     ensures capacity { edges.old.capacity ≤ edges.new.capacity }
 {
-    if row.kind == Kind::DelayResp {
+    if !row.is_turned() {
         return;
     }
     if edges.is_full() {
