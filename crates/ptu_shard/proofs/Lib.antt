@@ -14,3 +14,4 @@ pub mod Spent
 pub mod Heap
 pub mod SoFar
 pub mod Filling
+pub mod Keeping

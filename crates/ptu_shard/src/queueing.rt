@@ -1,15 +1,19 @@
 //! Rows in the two queues of a table. Where a queue is full it is filled anew from the rows, so that
 //! no memory is taken, and entries that no row has any more are gone.
 
-ghost use Rattle.std.specs.Prelude.{◌≡◌, ◌<◌, ◌≤◌, ◌+◌, ◌⊎◌, true, length};
+ghost use Rattle.std.specs.Prelude.{◌≡◌, ◌<◌, ◌≤◌, ◌+◌, ◌∷◌, ℕ, length, true};
 ghost use Rattle.std.specs.List.{Contains};
+ghost use Rattle.std.specs.List.Sorted.{IsPermutation};
+ghost use Rattle.indexmap.specs.IndexMap.{spare};
+ghost use Rattle.ptu_units.specs.Log.{rate_of};
 ghost use Rattle.ptu_history.specs.Turns.{is_turned};
 ghost use Rattle.ptu_shard.specs.Kept.{rows_of};
-ghost use Rattle.ptu_shard.specs.Queue.{HasEnds, edge_entry, end_entry};
+ghost use Rattle.ptu_shard.specs.Queue.{HasEdges, HasEnds, edge_entry, end_entry};
+ghost use Rattle.ptu_shard.specs.Row.{IsDistinctByLease, share_of, without_row};
 
 use crate::lease::{Lease, Row};
 use crate::queue::{Entry, Queue};
-use crate::rows::{Key, row_at};
+use crate::rows::{Key, put_row, row_at};
 use indexmap::IndexMap;
 
 /// The entry of a row in the queue of what is due.
@@ -99,4 +103,37 @@ pub(crate) fn put_end(ends: &mut Queue, rows: &IndexMap<Key, Lease>, row: &Row)
     } else {
         ends.push(end_of(row));
     }
+}
+
+/// Makes this row the one of its client and kind, with its entries in both queues. There is room for
+/// it, so that no memory is taken. Gives the rate of the lease that it replaces.
+pub(crate) fn keep_row(
+    rows: &mut IndexMap<Key, Lease>,
+    edges: &mut Queue,
+    ends: &mut Queue,
+    row: Row,
+) -> u64
+    requires spare { 0 < spare rows.old }
+    requires edge_room { length rows.old.entries < edges.old.capacity }
+    requires end_room { length rows.old.entries < ends.old.capacity }
+    ensures rows { IsPermutation
+        (row ∷ without_row row.client row.kind (rows_of rows.old.entries))
+        (rows_of rows.new.entries) }
+    ensures distinct { IsDistinctByLease (rows_of rows.new.entries) }
+    ensures share { share_of (rows_of rows.new.entries) + result
+        ≡ share_of (rows_of rows.old.entries) + rate_of row.lease.log }
+    ensures count { length rows.old.entries ≤ length rows.new.entries }
+    ensures bound { length rows.new.entries ≤ length rows.old.entries + 1 }
+    ensures spare { spare rows.old ≤ spare rows.new + 1 }
+    ensures edges { (moment : ℕ) → HasEdges moment (rows_of rows.old.entries) edges.old.entries
+        → HasEdges moment (rows_of rows.new.entries) edges.new.entries }
+    ensures ends { HasEnds (rows_of rows.old.entries) ends.old.entries
+        → HasEnds (rows_of rows.new.entries) ends.new.entries }
+    ensures edge_capacity { edges.old.capacity ≤ edges.new.capacity }
+    ensures end_capacity { ends.old.capacity ≤ ends.new.capacity }
+{
+    let replaced = put_row(rows, row);
+    put_edge(edges, rows, &row);
+    put_end(ends, rows, &row);
+    replaced
 }

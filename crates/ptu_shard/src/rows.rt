@@ -109,6 +109,7 @@ pub(crate) fn drop_row(
     ensures share { IfSome result (λ lease. share_of (rows_of rows.new.entries) + rate_of lease.log
         ≡ share_of (rows_of rows.old.entries)) }
     ensures count { length rows.new.entries ≤ length rows.old.entries }
+    ensures bound { IfNone result (length rows.new.entries ≡ length rows.old.entries) }
     ensures spare { spare rows.old ≤ spare rows.new }
 {
     let _count = rows.len();

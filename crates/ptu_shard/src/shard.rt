@@ -1,4 +1,4 @@
-ghost use Rattle.std.specs.Prelude.{◌≡◌, ◌<◌, ◌≤◌, ◌+◌, ◌^◌, ℕ, max, [], ◌∷◌, ◌++◌, List, map, OnErr, OnOk, length, is_some, slice_get, nat_lt};
+ghost use Rattle.std.specs.Prelude.{◌≡◌, ◌<◌, ◌≤◌, ◌+◌, ◌*◌, ◌^◌, ℕ, IfOk, max, [], ◌∷◌, ◌++◌, List, map, OnErr, OnOk, length, is_some, slice_get, nat_lt};
 ghost use Rattle.std.specs.Borrow.{sem};
 ghost use Rattle.std.specs.List.{filter};
 ghost use Rattle.std.specs.List.Sorted.{IsPermutation};
@@ -24,8 +24,8 @@ use crate::answering::answer_request;
 use crate::config::GmConfig;
 use crate::lease::{Lease, Row};
 use crate::queue::Queue;
-use crate::queueing::{put_edge, put_end};
-use crate::rows::{Key, drop_row, find_lease, put_row, row_at, spend_answering};
+use crate::queueing::keep_row;
+use crate::rows::{Key, drop_row, find_lease, row_at, spend_answering};
 use crate::sweeping::drop_ended;
 use crate::turning::send_due;
 use indexmap::IndexMap;
@@ -70,6 +70,14 @@ impl<P: Port> Model for Shard<P> {
     ghost invariant = { λ s. IsKept (rows_of s.rows.entries) (spare_of s.rows) s.share s.moment s.room s.edges s.ends };
 }
 
+// For how many entries a queue has room: twice as many as there may be rows, so that it is seldom
+// filled anew.
+fn twice(room: usize) -> Result<usize, OutOfMemory>
+    ensures { IfOk result (λ n. n ≡ 2 * room) }
+{
+    Ok(room.checked_mul(2).ok_or(OutOfMemory)?)
+}
+
 impl<P: Port> Shard<P> {
     /// A table without rows, with share and moment 0, that hands its messages to this port.
     pub fn new(alloc: Global, port: P) -> Shard<P>
@@ -109,7 +117,7 @@ impl<P: Port> Shard<P> {
         }
         self.rows.reserve(count)?;
         let room = self.rows.capacity();
-        let entries = room.checked_mul(2).ok_or(OutOfMemory)?;
+        let entries = twice(room)?;
         self.edges.reserve(entries)?;
         self.ends.reserve(entries)?;
         self.room = room;
@@ -180,11 +188,9 @@ impl<P: Port> Shard<P> {
             kind,
             lease,
         };
-        let replaced = put_row(&mut self.rows, row);
+        let replaced = keep_row(&mut self.rows, &mut self.edges, &mut self.ends, row);
         self.share = self.share + rate(lease.log) - replaced;
         self.room = self.room.min(self.rows.capacity());
-        put_edge(&mut self.edges, &self.rows, &row);
-        put_end(&mut self.ends, &self.rows, &row);
     }
 
     /// Drops the row of the client and kind. False where no such row is kept.
