@@ -183,13 +183,14 @@ impl<P: Port> Shard<P> {
             → lease.start ≤ self.old.moment →
             IsLeaseOf after client kind lease → StandsBeside book j self.new after }
     {
+        let added = rate(lease.log);
         let row = Row {
             client,
             kind,
             lease,
         };
         let replaced = keep_row(&mut self.rows, &mut self.edges, &mut self.ends, row);
-        self.share = self.share + rate(lease.log) - replaced;
+        self.share = self.share + added - replaced;
         self.room = self.room.min(self.rows.capacity());
     }
 
