@@ -1,6 +1,5 @@
 -- What is due, by the entries of rows in a queue.
-use Rattle.std.proofs.Common.{◌≡◌, ◌∙◌, ◌⊎◌, inl, inr, ℕ, ◌<◌, ◌≤◌, List, [], ◌∷◌, Bool, true, false, ◌&&◌, cond, ltb, leb, refl, sym, ap, ap₂, subst, map, arith}
-use Rattle.std.specs.Cmp.{IsTotalOrder}
+use Rattle.std.proofs.Common.{◌≡◌, ◌∙◌, ◌⊎◌, inl, inr, ℕ, ◌<◌, ◌≤◌, List, [], ◌∷◌, Bool, true, false, ◌&&◌, cond, ltb, leb, refl, sym, ap, ap₂, subst, arith}
 use Rattle.std.specs.List.{All, AllPairs, Contains, filter}
 use Rattle.std.specs.List.Sorted.{IsPermutation}
 use Rattle.std.specs.Ordering.{is_lt, ordering_reverse}
@@ -15,7 +14,7 @@ use Rattle.ptu_history.specs.Client.{same_lease}
 use Rattle.ptu_history.specs.Turns.{is_turned}
 use Rattle.ptu_history.proofs.Keys.{same_lease-refl}
 use Rattle.ptu_history.proofs.Standing.{Contains-filter}
-use Rattle.ptu_history.proofs.Unique.{Apart, Apart-from_pairs, Contains-cons_cases, Contains-first, Contains-from_filter, Contains-later, Rises-unique, pairs_from_Apart}
+use Rattle.ptu_history.proofs.Unique.{Apart-from_pairs, Contains-cons_cases, Contains-first, Contains-from_filter, Contains-later, Rises-unique}
 use Rattle.ptu_shard.specs.declared.lease.Row.{Row}
 use Rattle.ptu_shard.specs.declared.queue.Entry.{Entry}
 use Rattle.ptu_shard.specs.Queue.{HasEdges, IsNoneBelow, edge_entry, entry_cmp}

@@ -1,5 +1,5 @@
 -- What the fields of a table say of its rows, after what is done with them.
-use Rattle.std.proofs.Common.{◌≡◌, ◌∙◌, ◌⊎◌, inl, inr, ℕ, ◌+◌, ◌*◌, ◌<◌, ◌≤◌, List, [], ◌∷◌, length, Bool, true, false, ◌&&◌, cond, refl, sym, ap, subst, arith}
+use Rattle.std.proofs.Common.{◌≡◌, ◌∙◌, ◌⊎◌, inl, inr, ℕ, ◌+◌, ◌*◌, ◌<◌, ◌≤◌, List, ◌∷◌, length, Bool, true, false, cond, refl, sym, ap, subst, arith}
 use Rattle.std.specs.List.{Contains}
 use Rattle.std.specs.List.Sorted.{IsPermutation}
 use Rattle.std.proofs.lemmas.Bool.{and_parts, true≢false}
@@ -15,7 +15,7 @@ use Rattle.ptu_shard.specs.declared.lease.Row.{Row}
 use Rattle.ptu_shard.specs.declared.queue.Entry.{Entry}
 use Rattle.ptu_shard.specs.declared.lease.Lease.{Lease}
 use Rattle.ptu_shard.specs.declared.rows.Key.{Key}
-use Rattle.ptu_shard.specs.Kept.{IsKept, row_of, rows_of}
+use Rattle.ptu_shard.specs.Fields.{AreFields, row_of, rows_of}
 use Rattle.ptu_shard.specs.Queue.{HasEdges, HasEnds, Queued, edge_entry, end_entry}
 use Rattle.ptu_shard.specs.Row.{is_row_of, without_row}
 use Rattle.ptu_shard.specs.Turn.{is_answering_row, is_lawful_row, spent_row, spent_where}
@@ -81,11 +81,11 @@ module _ (row : Row) (rows new : List Row) (put : IsPermutation (row ∷ without
       at (inr k) = kept z h (has z k)
 
 -- the same rows, with more room
-pub kept_more : (rows new : List Row) (spare spare' share moment room room' : ℕ) (edges edges' ends ends' : Queued) → IsKept rows spare share moment room edges ends → rows ≡ new →
+pub kept_more : (rows new : List Row) (spare spare' share moment room room' : ℕ) (edges edges' ends ends' : Queued) → AreFields rows spare share moment room edges ends → rows ≡ new →
     edges'.entries ≡ edges.entries → ends'.entries ≡ ends.entries → room ≤ room' → room' ≤ length rows + spare' → 2 * room' ≤ edges'.capacity → 2 * room' ≤ ends'.capacity →
-    IsKept new spare' share moment room' edges' ends'
+    AreFields new spare' share moment room' edges' ends'
 kept_more rows new spare spare' share moment room room' edges edges' ends ends' kept same edge_same end_same more fits edge_room end_room =
-    subst (λ l. IsKept l spare' share moment room' edges' ends') same (record {
+    subst (λ l. AreFields l spare' share moment room' edges' ends') same (record {
       distinct = kept.distinct;
       held = kept.held;
       due = subst (HasEdges moment rows) (sym edge_same) kept.due;

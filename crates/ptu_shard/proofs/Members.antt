@@ -1,6 +1,6 @@
 -- Rows by their members: lists without two rows of one client and kind are given by what is in them, up to order.
-use Rattle.std.proofs.Common.{◌≡◌, ◌∙◌, ◌⊎◌, inl, inr, ℕ, zero, suc, ◌+◌, ◌<◌, ◌≤◌, List, [], ◌∷◌, length, get_or, Bool, true, false, not, cond, refl, sym, ap, ap₂, subst, map, arith, Option, Some, None, IfSome}
-use Rattle.std.specs.List.{AllPairs, Contains, filter, find}
+use Rattle.std.proofs.Common.{◌≡◌, ◌∙◌, ◌⊎◌, inl, inr, ◌+◌, List, [], ◌∷◌, Bool, true, false, not, cond, refl, sym, ap, ap₂, subst, map, arith, Option, Some, None, IfSome}
+use Rattle.std.specs.List.{AllPairs, Contains, find}
 use Rattle.std.specs.List.Sorted.{IsPermutation}
 use Rattle.std.specs.Option.{option_map}
 use Rattle.std.proofs.lemmas.Bool.{not-true, true≢false}
@@ -20,7 +20,7 @@ use Rattle.ptu_shard.specs.declared.lease.Lease.{Lease}
 use Rattle.ptu_shard.specs.declared.lease.Row.{Row}
 use Rattle.ptu_shard.specs.Row.{is_row_of, lease_of, share_of, without_row}
 use Rattle.ptu_shard.specs.Turn.{row_cmp}
-use Rattle.ptu_shard.proofs.RowLists.{Differ, HasSameMembers, IsMissing, IsPresent, missing_none, none_missing, present_some}
+use Rattle.ptu_shard.proofs.RowLists.{Differ, HasSameMembers, IsMissing, IsPresent, missing_none, present_some}
 use Rattle.ptu_shard.proofs.Sorting.{distinct_permuted, row_cmp-differ, row_cmp-total}
 
 -- put in order, they rise

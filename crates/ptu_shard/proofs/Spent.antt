@@ -1,13 +1,12 @@
 -- One row that is written after a message.
-use Rattle.std.proofs.Common.{◌≡◌, ◌∙◌, ℕ, ◌<◌, List, Bool, true, false, ◌&&◌, cond, refl, sym, ap, ap₂, subst, map, None}
-use Rattle.std.specs.List.{AllPairs, Contains}
-use Rattle.ptu_units.specs.declared.kind.Kind.{Kind}
+use Rattle.std.proofs.Common.{◌≡◌, ◌∙◌, ℕ, List, Bool, true, false, ◌&&◌, cond, refl, sym, ap, ap₂, subst, map, None}
+use Rattle.std.specs.List.{Contains}
 use Rattle.ptu_units.specs.declared.kind.Kind.TheVariants.{DelayResp}
 use Rattle.ptu_history.specs.declared.client.Client.{Client}
 use Rattle.ptu_history.specs.Client.{same_lease}
 use Rattle.std.proofs.lemmas.Bool.{true≢false}
 use Rattle.ptu_history.proofs.Keys.{same_lease-refl}
-use Rattle.ptu_history.proofs.Unique.{Apart, Apart-from_pairs}
+use Rattle.ptu_history.proofs.Unique.{Apart}
 use Rattle.ptu_shard.specs.declared.lease.Row.{Row}
 use Rattle.ptu_shard.specs.declared.queue.Entry.{Entry}
 use Rattle.ptu_shard.specs.Queue.{edge_entry}

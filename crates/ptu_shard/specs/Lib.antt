@@ -6,4 +6,4 @@ pub mod Turn
 pub mod Table
 pub mod Lends
 pub mod Queue
-pub mod Kept
+pub mod Fields

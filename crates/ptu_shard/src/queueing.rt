@@ -7,7 +7,7 @@ ghost use Rattle.std.specs.List.Sorted.{IsPermutation};
 ghost use Rattle.indexmap.specs.IndexMap.{spare};
 ghost use Rattle.ptu_units.specs.Log.{rate_of};
 ghost use Rattle.ptu_history.specs.Turns.{is_turned};
-ghost use Rattle.ptu_shard.specs.Kept.{rows_of};
+ghost use Rattle.ptu_shard.specs.Fields.{rows_of};
 ghost use Rattle.ptu_shard.specs.Queue.{HasEdges, HasEnds, edge_entry, end_entry};
 ghost use Rattle.ptu_shard.specs.Row.{IsDistinctByLease, share_of, without_row};
 

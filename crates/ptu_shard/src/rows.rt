@@ -7,7 +7,7 @@ ghost use Rattle.std.specs.Option.{option_map};
 ghost use Rattle.ptu_units.specs.declared.kind.Kind.TheVariants.{DelayResp};
 ghost use Rattle.indexmap.specs.IndexMap.{spare};
 ghost use Rattle.ptu_units.specs.Log.{rate_of};
-ghost use Rattle.ptu_shard.specs.Kept.{rows_of};
+ghost use Rattle.ptu_shard.specs.Fields.{rows_of};
 ghost use Rattle.ptu_shard.specs.Queue.{edge_entry, end_entry};
 ghost use Rattle.ptu_shard.specs.Row.{IsDistinctByLease, is_row_of, lease_of, share_of, without_row};
 ghost use Rattle.ptu_shard.specs.Turn.{is_answering_row, is_due_row, spent_row, spent_where};
@@ -26,11 +26,7 @@ pub(crate) struct Key {
 }
 
 /// The lease of the client and kind, if a row has one.
-pub(crate) fn find_lease(
-    rows: &IndexMap<Key, Lease>,
-    client: &Client,
-    kind: Kind,
-) -> Option<Lease>
+pub(crate) fn find_lease(rows: &IndexMap<Key, Lease>, client: &Client, kind: Kind) -> Option<Lease>
     ensures { result ≡ lease_of client.now kind (rows_of rows.now.entries) }
 {
     let key = Key {

@@ -55,7 +55,7 @@ pub struct Shard<P: Port> {
 impl<P: Port> Model for Shard<P> {
     ghost use Rattle.std.specs.Prelude.{◌-◌, length};
     ghost use Rattle.indexmap.specs.IndexMap.{spare as spare_of};
-    ghost use Rattle.ptu_shard.specs.Kept.{IsKept, rows_of};
+    ghost use Rattle.ptu_shard.specs.Fields.{AreFields, rows_of};
     ghost use Rattle.ptu_shard.specs.Table.{Kept};
 
     ghost Value = { Kept P };
@@ -67,7 +67,7 @@ impl<P: Port> Model for Shard<P> {
       port = s.port;
     } };
 
-    ghost invariant = { λ s. IsKept (rows_of s.rows.entries) (spare_of s.rows) s.share s.moment s.room s.edges s.ends };
+    ghost invariant = { λ s. AreFields (rows_of s.rows.entries) (spare_of s.rows) s.share s.moment s.room s.edges s.ends };
 }
 
 // For how many entries a queue has room: twice as many as there may be rows, so that it is seldom
@@ -263,13 +263,7 @@ impl<P: Port> Shard<P> {
             StandsFor j self.new (history ++ (step opened history result.at (Turn j)).records) }
     {
         let at = t.latest(self.moment);
-        let (sent, failed) = send_due(
-            &mut self.rows,
-            &mut self.edges,
-            &mut self.port,
-            config,
-            at,
-        );
+        let (sent, failed) = send_due(&mut self.rows, &mut self.edges, &mut self.port, config, at);
         self.moment = at;
         Turned { at, sent, failed }
     }

@@ -4,7 +4,7 @@ ghost use Rattle.std.specs.Prelude.{◌≡◌, ◌<◌, ◌≤◌, ◌+◌, ◌^
 ghost use Rattle.std.specs.List.{filter};
 ghost use Rattle.std.specs.List.Sorted.{IsPermutation};
 ghost use Rattle.indexmap.specs.IndexMap.{spare};
-ghost use Rattle.ptu_shard.specs.Kept.{rows_of};
+ghost use Rattle.ptu_shard.specs.Fields.{rows_of};
 ghost use Rattle.ptu_shard.specs.Queue.{HasEnds};
 ghost use Rattle.ptu_shard.specs.Row.{IsDistinctByLease, share_of};
 

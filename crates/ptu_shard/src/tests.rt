@@ -268,7 +268,11 @@ fn same_step(
 ) -> Result<(), Fail> {
     assert!(rt; step < 400);
     let now = u64::from(step) * SECOND;
-    let kind = if step % 2 == 0 { Kind::Announce } else { Kind::Sync };
+    let kind = if step % 2 == 0 {
+        Kind::Announce
+    } else {
+        Kind::Sync
+    };
     let row = row_of(step * 7 % 11, kind, (step % 5) as i8 - 1, now + SECOND)?;
     keep(rt, shard, &row)?;
     plain_put(rows, &row)?;
@@ -300,7 +304,10 @@ fn same_steps(
         assert_eq!(rt; shard.lease(&row.client, row.kind), Some(row.lease));
     }
     for index in 0..ips.len() {
-        assert_eq!(rt; shard.port().sent(index).map(|sent| sent.0), Some(ips[index]));
+        assert_eq!(rt;
+            shard.port().sent(index).map(|sent| sent.0),
+            Some(ips[index])
+        );
     }
     assert!(rt; shard.port().sent(ips.len()).is_none());
     Ok(())

@@ -4,7 +4,7 @@ ghost use Rattle.std.specs.Prelude.{◌≡◌, ◌<◌, ◌≤◌, [], ◌∷◌
 ghost use Rattle.indexmap.specs.IndexMap.{spare};
 ghost use Rattle.ptu_outside.specs.HandsOver.{HandsOver};
 ghost use Rattle.ptu_shard.specs.Config.{IsWithinLimits};
-ghost use Rattle.ptu_shard.specs.Kept.{rows_of};
+ghost use Rattle.ptu_shard.specs.Fields.{rows_of};
 ghost use Rattle.ptu_shard.specs.Messages.{departure_of};
 ghost use Rattle.ptu_shard.specs.Queue.{HasEdges};
 ghost use Rattle.ptu_shard.specs.Row.{IsDistinctByLease};

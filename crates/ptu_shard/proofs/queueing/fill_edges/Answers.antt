@@ -1,10 +1,10 @@
-use Rattle.std.proofs.Common.{◌≡◌, ◌∙◌, sym, arith, true, false, length, take, subst}
+use Rattle.std.proofs.Common.{◌≡◌, ◌∙◌, sym, arith, true, subst}
 use Rattle.std.specs.List.{Contains}
 use Rattle.std.proofs.lemmas.Bool.{true≢false}
 use Rattle.std.proofs.lemmas.List.{length-map, take_all}
 use Rattle.std.proofs.lemmas.List.Sorted.{length_permutation}
 use Rattle.ptu_history.specs.Turns.{is_turned}
-use Rattle.ptu_shard.specs.Kept.{row_of, rows_of}
+use Rattle.ptu_shard.specs.Fields.{row_of, rows_of}
 use Rattle.ptu_shard.specs.Queue.{edge_entry}
 use Rattle.ptu_shard.specs.declared.lease.Row.{Row}
 use Rattle.ptu_shard.proofs.Filling.{filled, none_within, passed}

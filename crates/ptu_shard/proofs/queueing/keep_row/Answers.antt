@@ -1,5 +1,4 @@
-use Rattle.std.proofs.Common.{◌≡◌, ◌∙◌, arith}
-use Rattle.ptu_shard.specs.Kept.{rows_of}
+use Rattle.ptu_shard.specs.Fields.{rows_of}
 use Rattle.ptu_shard.proofs.Keeping.{edges_put, ends_put}
 use Rattle.ptu_shard.proofs.queueing.keep_row.Goals as goal
 

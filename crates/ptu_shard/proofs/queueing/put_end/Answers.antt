@@ -1,4 +1,3 @@
-use Rattle.std.proofs.Common.{arith}
 use Rattle.ptu_shard.specs.Queue.{end_entry}
 use Rattle.ptu_shard.proofs.Filling.{one_put, own_put}
 use Rattle.ptu_shard.proofs.queueing.put_end.Goals as goal

@@ -1,7 +1,6 @@
-use Rattle.std.proofs.Common.{◌≡◌, ◌∙◌, sym, ap, arith, Some, None, subst, ◌<◌, refl}
+use Rattle.std.proofs.Common.{◌≡◌, ◌∙◌, sym, ap, arith, Some, None, refl}
 use Rattle.ptu_history.proofs.Unique.{pairs_from_Apart}
-use Rattle.ptu_shard.specs.Kept.{rows_of}
-use Rattle.ptu_shard.specs.Row.{lease_of}
+use Rattle.ptu_shard.specs.Fields.{rows_of}
 use Rattle.ptu_shard.specs.declared.lease.Lease.{Lease}
 use Rattle.ptu_shard.proofs.RowLists.{Differ}
 use Rattle.ptu_shard.proofs.Keyed.{apart_keys}
@@ -24,10 +23,10 @@ pub returns-then-nanos-lease-clause-left : goal.returns-then-nanos-lease-clause-
 returns-then-nanos-lease-clause-left c =
     left_same c.args.at (rows_of c.args.rows.now.entries) (returns-then-nanos-lease-clause-distinct c) c.args.entry c.requires
     (λ lease found.
-        let e : Some c.in-Some.lease ≡ Some lease = c.in-Some.ensures ∙ found in
-        let l : c.in-Some.lease ≡ lease = cc in
-        let u = ap (λ (l : Lease). l.until) l in
-        omega (arith, u, c.if-nanos-lease.true, c.nanos.ensures.value))
+    let e : Some c.in-Some.lease ≡ Some lease = c.in-Some.ensures ∙ found in
+    let l : c.in-Some.lease ≡ lease = cc in
+    let u = ap (λ (l : Lease). l.until) l in
+    omega (arith, u, c.if-nanos-lease.true, c.nanos.ensures.value))
 
 pub returns-clause-live : goal.returns-clause-live
 returns-clause-live c =

@@ -1,11 +1,8 @@
-use Rattle.std.proofs.Common.{◌≡◌, ◌∙◌, sym, ap, arith, Option, Some, None}
+use Rattle.std.proofs.Common.{◌∙◌, None}
 use Rattle.ptu_history.proofs.Unique.{pairs_from_Apart}
-use Rattle.ptu_units.specs.Log.{rate_of}
-use Rattle.ptu_shard.specs.Kept.{rows_of}
-use Rattle.ptu_shard.specs.Row.{lease_of, share_of}
-use Rattle.ptu_shard.specs.declared.lease.Lease.{Lease}
+use Rattle.ptu_shard.specs.Fields.{rows_of}
 use Rattle.ptu_shard.specs.declared.rows.Key.{Key}
-use Rattle.ptu_shard.proofs.RowLists.{Differ, missing_none}
+use Rattle.ptu_shard.proofs.RowLists.{Differ}
 use Rattle.ptu_shard.proofs.Keyed.{apart_keys, found_is, leases_after}
 use Rattle.ptu_shard.proofs.Keys.{key_eq}
 use Rattle.ptu_shard.proofs.Members.{rows_dropped, share_after}

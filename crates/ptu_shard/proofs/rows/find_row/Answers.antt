@@ -1,5 +1,5 @@
 use Rattle.std.proofs.Common.{◌∙◌, sym, refl}
-use Rattle.ptu_shard.specs.Kept.{rows_of}
+use Rattle.ptu_shard.specs.Fields.{rows_of}
 use Rattle.ptu_shard.proofs.Members.{kept_row}
 use Rattle.ptu_shard.proofs.rows.find_row.Goals as goal
 

@@ -1,6 +1,6 @@
 use Rattle.std.proofs.Common.{◌≡◌, ◌∙◌, sym, ap, arith, Some, None}
 use Rattle.ptu_history.proofs.Unique.{pairs_from_Apart}
-use Rattle.ptu_shard.specs.Kept.{rows_of}
+use Rattle.ptu_shard.specs.Fields.{rows_of}
 use Rattle.ptu_shard.specs.Row.{lease_of, share_of}
 use Rattle.ptu_shard.specs.declared.rows.Key.{Key}
 use Rattle.ptu_shard.proofs.RowLists.{Differ, missing_none}

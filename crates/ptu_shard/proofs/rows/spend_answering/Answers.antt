@@ -1,5 +1,5 @@
 use Rattle.std.proofs.Common.{◌∙◌, sym}
-use Rattle.ptu_shard.specs.Kept.{rows_of}
+use Rattle.ptu_shard.specs.Fields.{rows_of}
 use Rattle.ptu_shard.proofs.Keyed.{apart_keys}
 use Rattle.ptu_shard.proofs.Keys.{key_eq}
 use Rattle.ptu_shard.proofs.Spent.{answering_early, answering_none, answering_now, written_spent}

@@ -1,6 +1,6 @@
-use Rattle.std.proofs.Common.{◌≡◌, ◌∙◌, sym, ap, arith, false}
+use Rattle.std.proofs.Common.{◌≡◌, ◌∙◌, sym, ap, false}
 use Rattle.ptu_history.proofs.Unique.{pairs_from_Apart}
-use Rattle.ptu_shard.specs.Kept.{rows_of}
+use Rattle.ptu_shard.specs.Fields.{rows_of}
 use Rattle.ptu_shard.specs.Turn.{is_due_row}
 use Rattle.ptu_shard.specs.declared.lease.Row.{Row}
 use Rattle.ptu_shard.specs.declared.queue.Entry.{Entry}

@@ -1,7 +1,7 @@
 use Rattle.std.proofs.Common.{◌≡◌, ◌≤◌, length, nat_lt}
 use Rattle.std.specs.List.{filter}
 use Rattle.std.specs.List.Sorted.{IsPermutation}
-use Rattle.ptu_shard.specs.Kept.{rows_of}
+use Rattle.ptu_shard.specs.Fields.{rows_of}
 use Rattle.ptu_shard.specs.Queue.{HasEnds}
 use Rattle.ptu_shard.specs.Row.{IsDistinctByLease, share_of}
 use Rattle.ptu_shard.specs.declared.lease.Row.{Row}

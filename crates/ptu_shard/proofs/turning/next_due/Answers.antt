@@ -1,8 +1,8 @@
-use Rattle.std.proofs.Common.{◌≡◌, ◌∙◌, ◌∷◌, sym, ap, subst, arith}
+use Rattle.std.proofs.Common.{◌∙◌, ◌∷◌, sym, ap, subst, arith}
 use Rattle.std.specs.List.{AllPairs, Contains}
 use Rattle.std.specs.List.Sorted.{IsPermutation}
 use Rattle.std.proofs.lemmas.List.Sorted.{length_permutation}
-use Rattle.ptu_shard.specs.Kept.{rows_of}
+use Rattle.ptu_shard.specs.Fields.{rows_of}
 use Rattle.ptu_shard.specs.Queue.{HasEdges, edge_entry}
 use Rattle.ptu_shard.specs.Row.{is_row_of}
 use Rattle.ptu_shard.specs.Turn.{due_rows, is_due_row, spent_where}

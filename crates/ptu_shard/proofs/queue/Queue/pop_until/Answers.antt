@@ -1,5 +1,4 @@
-use Rattle.std.proofs.Common.{◌≡◌, ◌∙◌, sym, ap, subst, arith, map, heap_items}
-use Rattle.std.specs.List.{All}
+use Rattle.std.proofs.Common.{arith, map, heap_items}
 use Rattle.std.proofs.lemmas.List.Sorted.{IsPermutation-map}
 use Rattle.std.specs.declared.cmp.Reverse.{Reverse}
 use Rattle.ptu_shard.specs.declared.queue.Entry.{Entry}

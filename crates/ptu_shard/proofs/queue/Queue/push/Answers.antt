@@ -1,4 +1,4 @@
-use Rattle.std.proofs.Common.{◌≡◌, ◌<◌, sym, ap, arith, map, IsOk, heap_items, heap_len, length}
+use Rattle.std.proofs.Common.{◌<◌, arith, map, IsOk, heap_items, length}
 use Rattle.std.specs.BinaryHeap.{heap_capacity}
 use Rattle.std.proofs.lemmas.List.{length-map}
 use Rattle.std.proofs.lemmas.List.Sorted.{IsPermutation-map}

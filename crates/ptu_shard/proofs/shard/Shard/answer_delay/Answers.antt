@@ -1,11 +1,11 @@
-use Rattle.std.proofs.Common.{◌≡◌, ◌∙◌, ◌++◌, ◌∷◌, length, sym, ap, arith, max, refl, subst}
+use Rattle.std.proofs.Common.{◌≡◌, ◌∙◌, ◌++◌, ◌∷◌, sym, ap, arith, max, refl, subst}
 use Rattle.std.specs.List.{AllPairs}
 use Rattle.std.proofs.lemmas.List.{length-map}
 use Rattle.ptu_history.specs.Client.{table_of}
 use Rattle.ptu_history.specs.History.{Looked}
 use Rattle.ptu_history.specs.Moments.{book_moment}
 use Rattle.ptu_history.specs.Step.{answer_records, delay_answer}
-use Rattle.ptu_shard.specs.Kept.{row_of, rows_of}
+use Rattle.ptu_shard.specs.Fields.{row_of, rows_of}
 use Rattle.ptu_shard.specs.Queue.{HasEdges, HasEnds}
 use Rattle.ptu_shard.specs.Row.{share_of}
 use Rattle.ptu_shard.specs.Turn.{is_answering_row}

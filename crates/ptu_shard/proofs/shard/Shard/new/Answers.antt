@@ -1,4 +1,4 @@
-use Rattle.std.proofs.Common.{◌≡◌, ◌≤◌, sym, ap, arith, []}
+use Rattle.std.proofs.Common.{arith}
 use Rattle.ptu_history.specs.Moments.{book_moment, table_moment}
 use Rattle.ptu_history.specs.Live.{last_decision}
 use Rattle.ptu_history.specs.History.{lease_records}

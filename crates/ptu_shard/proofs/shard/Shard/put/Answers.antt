@@ -1,7 +1,7 @@
-use Rattle.std.proofs.Common.{◌≡◌, ◌∙◌, ◌≤◌, ◌+◌, ◌-◌, ◌<◌, length, sym, ap, arith, ◌∷◌, [], ◌++◌, refl}
+use Rattle.std.proofs.Common.{◌-◌, ◌<◌, length, arith, ◌∷◌, [], ◌++◌, refl}
 use Rattle.std.proofs.lemmas.List.{length-map}
 use Rattle.ptu_history.specs.History.{Granted}
-use Rattle.ptu_shard.specs.Kept.{row_of, rows_of}
+use Rattle.ptu_shard.specs.Fields.{row_of, rows_of}
 use Rattle.ptu_shard.specs.Row.{without_row}
 use Rattle.ptu_shard.specs.declared.lease.Row.{Row}
 use Rattle.ptu_shard.proofs.RowLists.{same_permuted}

@@ -1,9 +1,9 @@
-use Rattle.std.proofs.Common.{◌≡◌, ◌∙◌, sym, ap, arith, nat_lt, max}
-use Rattle.std.specs.List.{Contains, filter}
+use Rattle.std.proofs.Common.{◌≡◌, arith, nat_lt, max}
+use Rattle.std.specs.List.{filter}
 use Rattle.std.proofs.lemmas.List.{length-map}
 use Rattle.std.proofs.lemmas.List.Sorted.{Contains-permutation, IsPermutation-sym}
 use Rattle.ptu_history.proofs.Unique.{Contains-from_filter}
-use Rattle.ptu_shard.specs.Kept.{row_of, rows_of}
+use Rattle.ptu_shard.specs.Fields.{row_of, rows_of}
 use Rattle.ptu_shard.specs.declared.lease.Row.{Row}
 use Rattle.ptu_shard.proofs.Keeping.{edges_fewer}
 use Rattle.ptu_shard.proofs.RowLists.{same_permuted}

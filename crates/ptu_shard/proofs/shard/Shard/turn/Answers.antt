@@ -6,11 +6,10 @@ use Rattle.ptu_history.specs.Events.{Turn}
 use Rattle.ptu_history.specs.Step.{step}
 use Rattle.ptu_history.specs.Turns.{due_grants}
 use Rattle.ptu_history.proofs.Moments.{book_moment-none, greatest-sent}
-use Rattle.ptu_shard.specs.Kept.{row_of, rows_of}
+use Rattle.ptu_shard.specs.Fields.{row_of, rows_of}
 use Rattle.ptu_shard.specs.Queue.{HasEnds}
 use Rattle.ptu_shard.specs.Row.{share_of}
-use Rattle.ptu_shard.specs.Turn.{is_due_row, spent_row}
-use Rattle.ptu_shard.specs.declared.lease.Row.{Row}
+use Rattle.ptu_shard.specs.Turn.{is_due_row}
 use Rattle.ptu_shard.proofs.Keeping.{ends_spent, length-spent}
 use Rattle.ptu_shard.proofs.RowLists.{Differ}
 use Rattle.ptu_shard.proofs.Spending.{distinct_spent, share_of-spent}

@@ -15,7 +15,7 @@ rows_of entries = map row_of entries
 
 -- what the fields of a table say of its rows: `share` is their sum of rates, each that is due or over at some moment has
 -- its entry in the queue, and for as many rows as `room` there is room without memory, twice that in the queues
-pub record IsKept (rows : List Row) (spare share moment room : ℕ) (edges ends : Queued) : Type 0 where
+pub record AreFields (rows : List Row) (spare share moment room : ℕ) (edges ends : Queued) : Type 0 where
   pub distinct : IsDistinctByLease rows
   pub held : share ≡ share_of rows
   pub due : HasEdges moment rows edges.entries
