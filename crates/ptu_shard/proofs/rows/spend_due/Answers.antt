@@ -23,7 +23,7 @@ returns-then-row-entry-clause-none c = λ z h same.
     let is : c.in-Some.row ≡ z = by_entry c.args.at (rows_of c.args.rows.now.entries) (apart_keys _ key_eq c.args.rows.now.entries c.len-count.ensures.unique) c.args.entry c.in-Some.row z kept.0 kept.1 kept.2 h same in
     let edge = ap (λ (row : Row). row.lease.edge) is in
     let moment = ap (λ (e : Entry). e.moment) same in
-    absurd (c.if-row-entry.true (edge ∙ moment))
+    absurd (omega (arith, c.if-row-entry.true, edge, moment))
 
 pub returns-then-row-entry-clause-distinct : goal.returns-then-row-entry-clause-distinct
 returns-then-row-entry-clause-distinct c = pairs_from_Apart Differ _ (apart_keys _ key_eq c.args.rows.now.entries c.len-count.ensures.unique)
