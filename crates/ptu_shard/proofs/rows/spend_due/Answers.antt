@@ -1,4 +1,4 @@
-use Rattle.std.proofs.Common.{◌≡◌, ◌∙◌, sym, ap, false}
+use Rattle.std.proofs.Common.{◌≡◌, arith, ◌∙◌, sym, ap, false}
 use Rattle.ptu_history.proofs.Unique.{pairs_from_Apart}
 use Rattle.ptu_shard.specs.Fields.{rows_of}
 use Rattle.ptu_shard.specs.Turn.{is_due_row}
