@@ -1,4 +1,5 @@
-//! Rows by client and kind.
+//! Rows by client and kind. Where a call asks for the count and does not use it, that is for what
+//! `len` says of every map: no two keys are equal.
 
 ghost use Rattle.std.specs.Prelude.{◌≡◌, ◌<◌, ◌≤◌, ◌+◌, ◌*◌, ◌^◌, [], ◌∷◌, false, if◌then◌else◌, length, map, nat_lt, slice_get, true, IfNone, IfSome};
 ghost use Rattle.std.specs.List.{Contains, filter};
