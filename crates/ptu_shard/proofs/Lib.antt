@@ -1,7 +1,16 @@
 pub mod RowLists
 pub mod Standing
-pub mod Passing
 pub mod Sorting
 pub mod Spending
 pub mod Turns
 pub mod Responses
+pub mod Members
+pub mod Keyed
+pub mod Dues
+pub mod Ends
+pub mod Keys
+pub mod Spent
+pub mod Heap
+pub mod SoFar
+pub mod Filling
+pub mod Keeping

@@ -1,9 +1,8 @@
 -- What a Delay_Req meets, by the rows.
-use Rattle.std.proofs.Common.{◌≡◌, ◌∙◌, ◌⊎◌, inl, inr, ℕ, ◌+◌, ◌<◌, ◌≤◌, ◌++◌, List, [], ◌∷◌, Bool, true, false, ◌&&◌, not, cond, ltb, leb, refl, sym, ap, ap₂, subst, arith, append_assoc, Option, Some, None}
+use Rattle.std.proofs.Common.{◌≡◌, ◌∙◌, inr, ℕ, ◌≤◌, ◌++◌, List, [], ◌∷◌, Bool, true, false, ◌&&◌, cond, ltb, leb, refl, sym, ap, ap₂, subst, arith, append_assoc, Option, Some, None}
 use Rattle.std.specs.List.{Contains}
 use Rattle.std.specs.Option.{option_map_or}
 use Rattle.std.proofs.lemmas.Bool.{leb-true, ltb-true}
-use Rattle.ptu_units.specs.declared.kind.Kind.{Kind}
 use Rattle.ptu_units.specs.declared.kind.Kind.TheVariants.{DelayResp}
 use Rattle.ptu_history.specs.declared.client.Client.{Client}
 use Rattle.ptu_history.specs.Client.{table_of}
@@ -19,7 +18,7 @@ use Rattle.ptu_shard.specs.declared.lease.Lease.{Lease}
 use Rattle.ptu_shard.specs.declared.lease.Row.{Row}
 use Rattle.ptu_shard.specs.Answered.{answer_by}
 use Rattle.ptu_shard.specs.Row.{is_row_of, lease_of}
-use Rattle.ptu_shard.specs.Table.{IsLeaseOf, StandsAt}
+use Rattle.ptu_shard.specs.Table.{StandsAt}
 use Rattle.ptu_shard.specs.Turn.{is_answering_row, is_lawful_row, spent_where}
 use Rattle.ptu_shard.proofs.RowLists.{IsPresent, present_some}
 use Rattle.ptu_shard.proofs.Spending.{spent_agree, spent_none, stands_looked, stands_sent}

@@ -1,29 +1,22 @@
 -- Members, filters and sums of rows.
-use Rattle.std.proofs.Common.{◌≡◌, ◌∙◌, ◌⊎◌, inl, inr, ℕ, zero, suc, ◌+◌, ◌<◌, ◌≤◌, ◌++◌, List, [], ◌∷◌, length, get_or, Bool, true, false, not, cond, refl, sym, ap, subst, map, arith, Option, Some, None}
-use Rattle.std.specs.List.{AllPairs, Contains, filter, find}
+use Rattle.std.proofs.Common.{◌≡◌, ◌⊎◌, inl, inr, ◌≤◌, List, [], ◌∷◌, Bool, true, false, not, cond, refl, subst, arith, Option, Some, None}
+use Rattle.std.specs.List.{Contains, filter, find}
 use Rattle.std.specs.List.Sorted.{IsPermutation}
 use Rattle.std.specs.Option.{option_map}
-use Rattle.std.proofs.lemmas.Bool.{not-true, true≢false}
-use Rattle.std.proofs.lemmas.List.Elements.{Contains-push_cases}
+use Rattle.std.proofs.lemmas.Bool.{true≢false}
 use Rattle.std.proofs.lemmas.List.Filters.{sum_by-filter_both}
-use Rattle.std.proofs.lemmas.List.Kept.{AllPairs-filter}
-use Rattle.std.proofs.lemmas.List.Sums.{sum_by-append}
 use Rattle.std.proofs.lemmas.List.Sorted.{Contains-permutation, IsPermutation-sym}
 use Rattle.ptu_units.specs.declared.kind.Kind.{Kind}
 use Rattle.ptu_units.specs.Log.{rate_of}
 use Rattle.ptu_history.specs.declared.client.Client.{Client}
 use Rattle.ptu_history.specs.Client.{same_lease}
-use Rattle.ptu_history.proofs.Keys.{same_lease-sym}
-use Rattle.ptu_history.proofs.Unique.{Apart, Apart-from_pairs, Contains-cons_cases, Contains-first, Contains-from_filter, Contains-later, pairs_from_Apart}
+use Rattle.ptu_history.proofs.Unique.{Contains-cons_cases, Contains-first, Contains-later}
 use Rattle.ptu_shard.specs.declared.lease.Lease.{Lease}
 use Rattle.ptu_shard.specs.declared.lease.Row.{Row}
-use Rattle.ptu_shard.specs.Row.{is_row_of, lease_of, share_of, without_row}
+use Rattle.ptu_shard.specs.Row.{is_row_of, lease_of, share_of}
 
 pub share_of-filter-le : (p : Row → Bool) (rows : List Row) → share_of (filter p rows) ≤ share_of rows
 share_of-filter-le p rows = omega (arith, sum_by-filter_both p (λ row. not (p row)) (λ _. refl) (λ (row : Row). rate_of row.lease.log) rows)
-
-pub share_of-push : (rows : List Row) (row : Row) → share_of (rows ++ row ∷ []) ≡ share_of rows + rate_of row.lease.log
-share_of-push rows row = sum_by-append (λ (row : Row). rate_of row.lease.log) rows (row ∷ []) ∙ (omega arith)
 
 -- the two rows are of different clients or kinds
 abbrev pub Differ : Row → Row → Type 0
@@ -84,25 +77,3 @@ same_permuted xs ys h = record {
   to = λ row. Contains-permutation xs ys row h;
   from = λ row. Contains-permutation ys xs row (IsPermutation-sym xs ys h);
 }
-
-apart_push : (xs : List Row) (y : Row) → Apart Differ xs → ((x : Row) → Contains xs x → Differ x y) → Apart Differ (xs ++ y ∷ [])
-apart_push [] y apart each = (λ z h. absurd (let lt : h.0 < 0 = h.1 in omega arith), tt)
-apart_push (x ∷ xs) y apart each = (
-  λ z h. at z (Contains-push_cases xs y z h),
-  apart_push xs y apart.1 (λ z h. each z (Contains-later x xs z h)),
-)
-  where
-    at : (z : Row) → Contains xs z ⊎ (y ≡ z) → Differ x z
-    at z (inl h) = apart.0 z h
-    at z (inr e) = subst (λ z. Differ x z) e (each x (Contains-first x xs))
-
-abbrev other : Row → Row → Bool
-other row x = not (is_row_of row.client row.kind x)
-
--- one row of a client and kind in the place of another
-pub distinct_put : (rows : List Row) (row : Row) → AllPairs Differ rows → AllPairs Differ (without_row row.client row.kind rows ++ row ∷ [])
-distinct_put rows row pairs =
-    pairs_from_Apart Differ (without_row row.client row.kind rows ++ row ∷ [])
-    (apart_push (without_row row.client row.kind rows) row
-    (Apart-from_pairs Differ (without_row row.client row.kind rows) (AllPairs-filter Differ (other row) rows pairs))
-    (λ x h. same_lease-sym x.client x.kind row.client row.kind ∙ not-true (is_row_of row.client row.kind x) (Contains-from_filter (other row) rows x h).1))

@@ -1,28 +1,23 @@
 -- Rows in the order of sending: a list of rows without two of one client and kind has one such order.
-use Rattle.std.proofs.Common.{◌≡◌, ◌∙◌, ℕ, zero, suc, ◌+◌, ◌<◌, ◌≤◌, List, [], ◌∷◌, length, get_or, Bool, true, false, ◌&&◌, cond, eqb, ltb, refl, sym, ap, subst, map, arith}
+use Rattle.std.proofs.Common.{◌≡◌, ◌∙◌, ℕ, zero, suc, ◌+◌, ◌≤◌, List, [], ◌∷◌, Bool, true, false, ◌&&◌, cond, eqb, ltb, refl, sym, ap, arith}
 use Rattle.std.specs.Cmp.{IsTotalOrder}
-use Rattle.std.specs.Ordering.{is_lt, nat_cmp, ordering_then}
+use Rattle.std.specs.Ordering.{nat_cmp, ordering_then}
 use Rattle.std.specs.declared.cmp.Ordering.{Ordering}
 use Rattle.std.specs.declared.cmp.Ordering.TheVariants.{Less, Equal, Greater}
-use Rattle.std.specs.List.{AllPairs, Contains, filter, sum_by}
-use Rattle.std.specs.List.Sorted.{IsPermutation, IsSorted}
+use Rattle.std.specs.List.{AllPairs, Contains, sum_by}
+use Rattle.std.specs.List.Sorted.{IsPermutation}
 use Rattle.std.proofs.lemmas.Bool.{false_from_ne_true, true≢false, and_from}
 use Rattle.std.proofs.lemmas.Cmp.{nat_cmp_total, on_total, then_total}
-use Rattle.std.proofs.lemmas.List.Elements.{All-contains}
-use Rattle.std.proofs.lemmas.List.Kept.{AllPairs-filter, IsSortedBy-filter}
-use Rattle.std.proofs.lemmas.List.Sorted.{Contains-permutation, IsPermutation-sym, ranks_by, sum_by-IsPermutation}
+use Rattle.std.proofs.lemmas.List.Sorted.{sum_by-IsPermutation}
 use Rattle.std.proofs.lemmas.List.Sums.{sum_by-cons}
 use Rattle.ptu_units.specs.declared.kind.Kind.{Kind}
 use Rattle.ptu_history.specs.declared.client.Client.{Client}
 use Rattle.ptu_history.specs.Client.{client_cmp, kind_cmp, kind_place, same_client, same_kind, same_lease}
-use Rattle.ptu_history.specs.Order.{in_order}
 use Rattle.ptu_history.proofs.Keys.{same_lease-refl, same_lease-true}
-use Rattle.ptu_history.proofs.Order.{IsAsymmetric-total, IsPermutation-in_order, IsSorted-in_order}
-use Rattle.ptu_history.proofs.Standing.{Contains-filter}
-use Rattle.ptu_history.proofs.Unique.{Apart, Apart-from_pairs, Contains-cons_cases, Contains-first, Contains-from_filter, Contains-later, Rises-from_sorted, Rises-unique, pairs_from_Apart}
+use Rattle.ptu_history.proofs.Unique.{Apart, Apart-from_pairs, Contains-first, Contains-later, pairs_from_Apart}
 use Rattle.ptu_shard.specs.declared.lease.Row.{Row}
 use Rattle.ptu_shard.specs.Row.{is_row_of}
-use Rattle.ptu_shard.specs.Turn.{due_rows, is_due_row, row_cmp}
+use Rattle.ptu_shard.specs.Turn.{row_cmp}
 use Rattle.ptu_shard.proofs.RowLists.{Differ}
 
 -- how many rows there are of a client and kind
@@ -117,22 +112,3 @@ row_cmp-differ a b differ e =
     (and_from (eqb a.client.ip b.client.ip) (eqb a.client.clock b.client.clock) (tie_of_numbers a.client.ip b.client.ip ip.0) (tie_of_numbers a.client.clock b.client.clock clock.0))
     (tie_of_numbers a.client.port b.client.port clock.1))
     (tie_of_numbers (kind_place a.kind) (kind_place b.kind) keys.1)) ∙ differ)
-
--- of a sorted list, what passes is what passes of any list with the same rows, in order
-pub passed_in_order : (p : Row → Bool) (xs ys : List Row) → IsPermutation xs ys → AllPairs Differ xs → IsSorted row_cmp ys → filter p ys ≡ in_order row_cmp (filter p xs)
-passed_in_order p xs ys moved pairs sorted =
-    Rises-unique row_cmp row_cmp-total (filter p ys) (in_order row_cmp (filter p xs))
-    (Rises-from_sorted row_cmp row_cmp-total Differ row_cmp-differ (filter p ys)
-    (IsSortedBy-filter (λ a b. is_lt (row_cmp a b)) (ranks_by row_cmp-total (λ row. row)) p ys sorted)
-    (Apart-from_pairs Differ (filter p ys) (AllPairs-filter Differ p ys (distinct_permuted xs ys moved pairs))))
-    (Rises-from_sorted row_cmp row_cmp-total Differ row_cmp-differ (in_order row_cmp (filter p xs))
-    (IsSorted-in_order row_cmp (IsAsymmetric-total row_cmp row_cmp-total) (filter p xs))
-    (Apart-from_pairs Differ (in_order row_cmp (filter p xs))
-    (distinct_permuted (filter p xs) (in_order row_cmp (filter p xs)) (IsPermutation-in_order row_cmp (filter p xs)) (AllPairs-filter Differ p xs pairs))))
-    (λ z h.
-    let both : Contains ys z × (p z ≡ true) = Contains-from_filter p ys z h in
-    Contains-permutation (filter p xs) (in_order row_cmp (filter p xs)) z (IsPermutation-in_order row_cmp (filter p xs))
-    (Contains-filter p xs z (Contains-permutation ys xs z (IsPermutation-sym xs ys moved) both.0) both.1))
-    (λ z h.
-    let both : Contains xs z × (p z ≡ true) = Contains-from_filter p xs z (Contains-permutation (in_order row_cmp (filter p xs)) (filter p xs) z (IsPermutation-sym (filter p xs) (in_order row_cmp (filter p xs)) (IsPermutation-in_order row_cmp (filter p xs))) h) in
-    Contains-filter p ys z (Contains-permutation xs ys z moved both.0) both.1)

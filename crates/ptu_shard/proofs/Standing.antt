@@ -1,16 +1,14 @@
 -- What rows stand for, after one more record and after what is done with them.
-use Rattle.std.proofs.Common.{◌≡◌, ◌≢◌, ◌∙◌, ◌⊎◌, inl, inr, ℕ, ◌+◌, ◌<◌, ◌≤◌, max, ◌++◌, List, [], ◌∷◌, Bool, true, false, not, cond, leb, ltb, eqb, refl, sym, ap, subst, arith, Some, None, ℤ}
+use Rattle.std.proofs.Common.{◌≡◌, ◌∙◌, ◌⊎◌, inl, inr, ℕ, ◌≤◌, max, ◌++◌, List, [], ◌∷◌, Bool, true, false, not, cond, leb, ltb, refl, sym, ap, subst, arith, Some, None, ℤ}
 use Rattle.std.specs.List.{Contains, filter}
-use Rattle.std.proofs.lemmas.Bool.{false_from_ne_true, true≢false, lt-ltb, not-true}
+use Rattle.std.proofs.lemmas.Bool.{false_from_ne_true, true≢false, not-true}
 use Rattle.ptu_units.specs.declared.kind.Kind.{Kind}
 use Rattle.ptu_history.specs.declared.client.Client.{Client}
 use Rattle.ptu_history.specs.Client.{same_lease, table_of}
-use Rattle.ptu_history.specs.History.{Record, Granted, Ended, Shed, concerns, decides, is_decision, moment_of}
+use Rattle.ptu_history.specs.History.{Record, Granted, concerns, is_decision, moment_of}
 use Rattle.ptu_history.specs.Moments.{is_of_table, table_moment, table_part}
 use Rattle.ptu_history.specs.Live.{last_decision}
-use Rattle.ptu_history.specs.Runs.{sequence_number}
-use Rattle.ptu_history.specs.Lawful.{earliest}
-use Rattle.ptu_history.proofs.Keys.{same_lease-refl, same_lease-sym, same_lease-true}
+use Rattle.ptu_history.proofs.Keys.{same_lease-sym, same_lease-true}
 use Rattle.ptu_history.proofs.Moments.{table_moment-push}
 use Rattle.ptu_history.proofs.Standing.{Contains-filter, last_pushed}
 use Rattle.ptu_history.proofs.Strangers.{earliest-push, sequence_number-push}

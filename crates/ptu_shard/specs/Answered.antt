@@ -1,5 +1,5 @@
 -- What answers a Delay_Req.
-use Rattle.std.specs.Prelude.{ℕ, Bool, List, [], ◌∷◌, Option, Some, None, nat_le, nat_lt, if◌then◌else◌}
+use Rattle.std.specs.Prelude.{ℕ, List, [], ◌∷◌, Option, Some, None, nat_le, nat_lt, if◌then◌else◌}
 use Rattle.ptu_history.specs.Events as step
 use Rattle.ptu_history.specs.Events.{Answer}
 use Rattle.ptu_outside.specs.Departure.{Departure}

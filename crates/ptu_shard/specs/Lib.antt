@@ -5,3 +5,5 @@ pub mod Row
 pub mod Turn
 pub mod Table
 pub mod Lends
+pub mod Queue
+pub mod Fields

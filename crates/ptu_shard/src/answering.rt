@@ -1,15 +1,14 @@
-//! The answer to a Delay_Req, over rows in a plain vector.
+//! The answer to a Delay_Req.
 
-ghost use Rattle.std.specs.Prelude.{◌≡◌, vec_capacity, vec_len};
+ghost use Rattle.std.specs.Prelude.{◌≡◌};
 ghost use Rattle.ptu_shard.specs.Answered.{answer_by, failed_by, met_by, moment_of_answer, responses, sent_by};
 ghost use Rattle.ptu_shard.specs.Config.{IsWithinLimits};
 ghost use Rattle.ptu_outside.specs.HandsOver.{HandsOver};
 ghost use Rattle.ptu_shard.specs.Messages.{response_of};
-ghost use Rattle.ptu_shard.specs.Turn.{is_answering_row, spent_where};
 
 use crate::answered::Answered;
 use crate::config::GmConfig;
-use crate::lease::{Lease, Row};
+use crate::lease::Lease;
 use crate::sending::send_response;
 use ptu_header::Header;
 use ptu_history::Client;
@@ -49,18 +48,5 @@ pub(crate) fn answer_request<P: Port>(
     match send_response(port, config, at, client, request) {
         Ok(()) => Answered::Sent { at },
         Err(_) => Answered::Failed { at },
-    }
-}
-
-/// The row that answers a Delay_Req of the client, if one does, spends a period and a sequence
-/// number.
-pub(crate) fn spend_answering(rows: &mut Vec<Row>, at: Moment, client: &Client)
-    ensures items { rows.new.items
-        ≡ spent_where (is_answering_row at client.now) at rows.old.items }
-    ensures room { vec_capacity rows.new ≡ vec_capacity rows.old }
-    ensures bound { vec_len rows.new ≡ vec_len rows.old }
-{
-    for row in rows.iter_mut() {
-        row.spend_if_answering(at, client);
     }
 }

@@ -1,10 +1,9 @@
-ghost use Rattle.std.specs.Prelude.{◌≡◌, ◌≤◌, if◌then◌else◌};
-ghost use Rattle.ptu_shard.specs.Row.{is_row_of};
-ghost use Rattle.ptu_shard.specs.Turn.{is_lawful_row, is_due_row, is_answering_row, row_cmp, spent_row};
+ghost use Rattle.std.specs.Prelude.{◌≡◌, ◌<◌, ◌≤◌, true};
+ghost use Rattle.ptu_history.specs.Turns.{is_turned};
+ghost use Rattle.ptu_shard.specs.Turn.{is_lawful_row, is_due_row, spent_row};
 
 use ptu_history::Client;
 use ptu_units::{Kind, Log, Moment, period};
-use std::cmp::Ordering;
 
 /// What a table keeps of a grant.
 #[derive(Clone, Copy, Debug, PartialEq, Eq)]
@@ -31,13 +30,6 @@ pub struct Row {
 }
 
 impl Row {
-    // Whether the row is of this client and kind.
-    pub(crate) fn is_of(&self, client: &Client, kind: Kind) -> bool
-        ensures { result ≡ is_row_of client.now kind self.now }
-    {
-        *client == self.client && kind == self.kind
-    }
-
     // Whether a message of the row is lawful at the moment.
     pub(crate) fn is_lawful(&self, at: Moment) -> bool
         ensures { result ≡ is_lawful_row at self.now }
@@ -45,58 +37,40 @@ impl Row {
         at.nanos() < self.lease.until && self.lease.edge <= at.nanos()
     }
 
+    // Whether turns send its messages.
+    pub(crate) fn is_turned(&self) -> bool
+        ensures { result ≡ is_turned self.now.kind }
+    {
+        self.kind != Kind::DelayResp
+    }
+
     // Whether a turn at the moment sends a message of the row.
     pub(crate) fn is_due(&self, at: Moment) -> bool
         ensures { result ≡ is_due_row at self.now }
     {
-        self.kind != Kind::DelayResp && self.is_lawful(at)
+        self.is_turned() && self.is_lawful(at)
     }
 
-    // Whether a Delay_Req of the client at the moment is answered by the row.
-    pub(crate) fn is_answering(&self, at: Moment, client: &Client) -> bool
-        ensures { result ≡ is_answering_row at client.now self.now }
-    {
-        self.is_of(client, Kind::DelayResp) && self.is_lawful(at)
-    }
-
-    // The order in which a turn sends.
-    pub(crate) fn sending_order(&self, other: &Row) -> Ordering
-        ensures { result ≡ row_cmp self.now other.now }
-    {
-        let by_edge = self.lease.edge.cmp(&other.lease.edge);
-        let by_client = self.client.cmp(&other.client);
-        by_edge.then(by_client.then(self.kind.cmp(&other.kind)))
-    }
-
-    // Spends a period and a sequence number, for a message at the moment.
-    pub(crate) fn spend(&mut self, at: Moment)
-        requires { self.old.lease.edge ≤ at }
-        ensures { self.new ≡ spent_row at self.old }
+    // The row after a message at the moment, which spends a period and a sequence number.
+    pub(crate) fn spent(&self, at: Moment) -> Row
+        requires { self.now.lease.edge ≤ at }
+        ensures row { result ≡ spent_row at self.now }
+        ensures later { is_turned self.now.kind ≡ true → at < result.lease.edge }
     {
         let period = period(self.lease.log);
-        self.lease.edge = match self.kind {
+        let edge = match self.kind {
             Kind::Announce | Kind::Sync => at.nanos() + period,
             Kind::DelayResp => (self.lease.edge + period).max(at.nanos()),
         };
-        self.lease.seq = self.lease.seq.wrapping_add(1);
-    }
-
-    // Spends them where a turn at the moment sends a message of the row.
-    pub(crate) fn spend_if_due(&mut self, at: Moment)
-        ensures { self.new ≡ (if is_due_row at self.old then spent_row at self.old else self.old) }
-    {
-        if self.is_due(at) {
-            self.spend(at);
-        }
-    }
-
-    // Spends them where a Delay_Req of the client at the moment is answered by the row.
-    pub(crate) fn spend_if_answering(&mut self, at: Moment, client: &Client)
-        ensures { self.new ≡ (if is_answering_row at client.now self.old
-            then spent_row at self.old else self.old) }
-    {
-        if self.is_answering(at, client) {
-            self.spend(at);
+        let seq = self.lease.seq.wrapping_add(1);
+        Row {
+            client: self.client,
+            kind: self.kind,
+            lease: Lease {
+                edge,
+                seq,
+                ..self.lease
+            },
         }
     }
 }

@@ -8,9 +8,12 @@ mod config;
 pub mod laws;
 mod lease;
 mod messages;
+mod queue;
+mod queueing;
 mod rows;
 mod sending;
 mod shard;
+mod sweeping;
 mod turning;
 
 pub use answered::{Answered, Turned};

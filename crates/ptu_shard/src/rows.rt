@@ -1,57 +1,210 @@
-//! Rows in a plain vector: each call goes over all of them.
+//! Rows by client and kind.
 
-ghost use Rattle.std.specs.Prelude.{◌≡◌, ◌<◌, ◌≤◌, ◌+◌, ◌^◌, [], ◌∷◌, ◌++◌, nat_lt, vec_capacity, vec_len};
-ghost use Rattle.std.specs.List.{filter};
-ghost use Rattle.ptu_shard.specs.Row.{lease_of, share_of, without_row};
+ghost use Rattle.std.specs.Prelude.{◌≡◌, ◌<◌, ◌≤◌, ◌+◌, ◌*◌, ◌^◌, [], ◌∷◌, false, if◌then◌else◌, length, map, nat_lt, slice_get, true, IfNone, IfSome};
+ghost use Rattle.std.specs.List.{Contains, filter};
+ghost use Rattle.std.specs.List.Sorted.{IsPermutation};
+ghost use Rattle.std.specs.Option.{option_map};
+ghost use Rattle.ptu_units.specs.declared.kind.Kind.TheVariants.{DelayResp};
+ghost use Rattle.indexmap.specs.IndexMap.{spare};
+ghost use Rattle.ptu_units.specs.Log.{rate_of};
+ghost use Rattle.ptu_shard.specs.Fields.{rows_of};
+ghost use Rattle.ptu_shard.specs.Queue.{edge_entry, end_entry};
+ghost use Rattle.ptu_shard.specs.Row.{IsDistinctByLease, is_row_of, lease_of, share_of, without_row};
+ghost use Rattle.ptu_shard.specs.Turn.{is_answering_row, is_due_row, spent_row, spent_where};
 
 use crate::lease::{Lease, Row};
+use crate::queue::Entry;
+use indexmap::IndexMap;
 use ptu_history::Client;
 use ptu_units::{Kind, Moment, rate};
 
+/// What a lease is found by.
+#[derive(Clone, Copy, Debug, PartialEq, Eq, Hash)]
+pub(crate) struct Key {
+    pub(crate) client: Client,
+    pub(crate) kind: Kind,
+}
+
 /// The lease of the client and kind, if a row has one.
-pub(crate) fn find_lease(rows: &[Row], client: &Client, kind: Kind) -> Option<Lease>
-    ensures { result ≡ lease_of client.now kind rows.now }
+pub(crate) fn find_lease(rows: &IndexMap<Key, Lease>, client: &Client, kind: Kind) -> Option<Lease>
+    ensures { result ≡ lease_of client.now kind (rows_of rows.now.entries) }
 {
-    rows.iter()
-        .find(|row| row.is_of(client, kind))
-        .map(|row| row.lease)
+    let key = Key {
+        client: *client,
+        kind,
+    };
+    rows.get(&key).copied()
 }
 
-/// The sum of the rates, in sixteenths of a message per second.
-pub(crate) fn sum_of_rates(rows: &[Row]) -> u64
-    requires { share_of rows.now < 2 ^ 64 }
-    ensures { result ≡ share_of rows.now }
+/// The row of the client and kind, if there is one.
+fn find_row(rows: &IndexMap<Key, Lease>, client: Client, kind: Kind) -> Option<Row>
+    ensures kept { IfSome result (λ row. Contains (rows_of rows.now.entries) row
+        × (row.client ≡ client) × (row.kind ≡ kind)) }
+    ensures lease { option_map (λ row. row.lease) result
+        ≡ lease_of client kind (rows_of rows.now.entries) }
 {
-    rows.iter().map(|row| rate(row.lease.log)).sum()
+    let lease = find_lease(rows, &client, kind)?;
+    Some(Row {
+        client,
+        kind,
+        lease,
+    })
 }
 
-/// Drops the row of the client and kind, if there is one.
-pub(crate) fn drop_row(rows: &mut Vec<Row>, client: &Client, kind: Kind)
-    ensures items { rows.new.items ≡ without_row client.now kind rows.old.items }
-    ensures room { vec_capacity rows.new ≡ vec_capacity rows.old }
-    ensures bound { vec_len rows.new ≤ vec_len rows.old }
+/// The row at a place.
+pub(crate) fn row_at(rows: &IndexMap<Key, Lease>, index: usize) -> Option<Row>
+    ensures { result ≡ slice_get (rows_of rows.now.entries) index }
 {
-    rows.retain(|row| !row.is_of(client, kind));
+    let (key, lease) = rows.get_index(index)?;
+    Some(Row {
+        client: key.client,
+        kind: key.kind,
+        lease: *lease,
+    })
 }
 
 /// Makes this row the one of its client and kind. There is room for it, so that no memory is taken.
-pub(crate) fn put_row(rows: &mut Vec<Row>, row: Row)
-    requires { vec_len rows.old < vec_capacity rows.old }
-    ensures items { rows.new.items ≡ without_row row.client row.kind rows.old.items ++ row ∷ [] }
-    ensures room { vec_capacity rows.old ≤ vec_capacity rows.new }
-    ensures bound { vec_len rows.new ≤ vec_len rows.old + 1 }
+/// Gives the rate of the lease that it replaces.
+pub(crate) fn put_row(rows: &mut IndexMap<Key, Lease>, row: Row) -> u64
+    requires { 0 < spare rows.old }
+    ensures rows { IsPermutation
+        (row ∷ without_row row.client row.kind (rows_of rows.old.entries))
+        (rows_of rows.new.entries) }
+    ensures distinct { IsDistinctByLease (rows_of rows.new.entries) }
+    ensures share { share_of (rows_of rows.new.entries) + result
+        ≡ share_of (rows_of rows.old.entries) + rate_of row.lease.log }
+    ensures count { length rows.old.entries ≤ length rows.new.entries }
+    ensures bound { length rows.new.entries ≤ length rows.old.entries + 1 }
+    ensures spare { spare rows.old ≤ spare rows.new + 1 }
 {
-    drop_row(rows, &row.client, row.kind);
-    // A push fails only at a full vector, and this one has room.
-    let _ = rows.push(row);
+    let _count = rows.len();
+    let key = Key {
+        client: row.client,
+        kind: row.kind,
+    };
+    match rows.insert(key, row.lease) {
+        Ok(Some(lease)) => rate(lease.log),
+        Ok(None) => 0,
+        // It fails only where there is no room, and there is.
+        Err(_) => 0,
+    }
 }
 
-/// Drops the rows whose grants are over at the moment.
-pub(crate) fn drop_over(rows: &mut Vec<Row>, at: Moment)
-    ensures items { rows.new.items ≡ filter (λ row. nat_lt at row.lease.until) rows.old.items }
-    ensures room { vec_capacity rows.new ≡ vec_capacity rows.old }
-    ensures bound { vec_len rows.new ≤ vec_len rows.old }
+/// Drops the row of the client and kind. Gives its lease, if there is one.
+pub(crate) fn drop_row(
+    rows: &mut IndexMap<Key, Lease>,
+    client: &Client,
+    kind: Kind,
+) -> Option<Lease>
+    ensures found { result ≡ lease_of client.now kind (rows_of rows.old.entries) }
+    ensures rows { IsPermutation (without_row client.now kind (rows_of rows.old.entries))
+        (rows_of rows.new.entries) }
+    ensures distinct { IsDistinctByLease (rows_of rows.new.entries) }
+    ensures none { IfNone result
+        (share_of (rows_of rows.new.entries) ≡ share_of (rows_of rows.old.entries)) }
+    ensures share { IfSome result (λ lease. share_of (rows_of rows.new.entries) + rate_of lease.log
+        ≡ share_of (rows_of rows.old.entries)) }
+    ensures count { length rows.new.entries ≤ length rows.old.entries }
+    ensures bound { IfNone result (length rows.new.entries ≡ length rows.old.entries) }
+    ensures spare { spare rows.old ≤ spare rows.new }
 {
-    let now = at.nanos();
-    rows.retain(|row| now < row.lease.until);
+    let _count = rows.len();
+    let key = Key {
+        client: *client,
+        kind,
+    };
+    rows.swap_remove(&key)
+}
+
+/// Drops the row of the entry's client and kind, where it is over at the moment. Gives its rate.
+pub(crate) fn drop_over(rows: &mut IndexMap<Key, Lease>, at: Moment, entry: Entry) -> u64
+    requires { entry.moment ≤ at }
+    ensures live { IsPermutation
+        (filter (λ row. nat_lt at row.lease.until) (rows_of rows.old.entries))
+        (filter (λ row. nat_lt at row.lease.until) (rows_of rows.new.entries)) }
+    ensures left { (row : Row) → Contains (rows_of rows.new.entries) row
+        → Contains (rows_of rows.old.entries) row × (end_entry row ≡ entry → ⊥) }
+    ensures distinct { IsDistinctByLease (rows_of rows.new.entries) }
+    ensures share { share_of (rows_of rows.new.entries) + result
+        ≡ share_of (rows_of rows.old.entries) }
+    ensures count { length rows.new.entries ≤ length rows.old.entries }
+    ensures spare { spare rows.old ≤ spare rows.new }
+{
+    let _count = rows.len();
+    let Some(lease) = find_lease(rows, &entry.client, entry.kind) else {
+        return 0;
+    };
+    if at.nanos() < lease.until {
+        return 0;
+    }
+    drop_row(rows, &entry.client, entry.kind);
+    rate(lease.log)
+}
+
+/// Makes this row the one of its client and kind, which have one.
+fn write_row(rows: &mut IndexMap<Key, Lease>, row: Row)
+    ensures rows { rows_of rows.new.entries ≡ map
+        (λ r. if is_row_of row.client row.kind r then row else r) (rows_of rows.old.entries) }
+    ensures distinct { IsDistinctByLease (rows_of rows.old.entries) }
+    ensures spare { spare rows.new ≡ spare rows.old }
+{
+    let _count = rows.len();
+    let key = Key {
+        client: row.client,
+        kind: row.kind,
+    };
+    if let Some(lease) = rows.get_mut(&key) {
+        *lease = row.lease;
+    }
+}
+
+/// Where the row of the entry's client and kind is due at the moment, by just this entry, it spends
+/// a period and a sequence number. Gives the row as it was before.
+pub(crate) fn spend_due(rows: &mut IndexMap<Key, Lease>, at: Moment, entry: Entry) -> Option<Row>
+    ensures due { IfSome result (λ row. Contains (rows_of rows.old.entries) row
+        × (edge_entry row ≡ entry) × (is_due_row at row ≡ true)) }
+    ensures spent { IfSome result (λ row. rows_of rows.new.entries
+        ≡ spent_where (is_row_of row.client row.kind) at (rows_of rows.old.entries)) }
+    ensures later { IfSome result (λ row. is_due_row at (spent_row at row) ≡ false) }
+    ensures none { IfNone result ((row : Row) → Contains (rows_of rows.old.entries) row
+        → edge_entry row ≡ entry → is_due_row at row ≡ false) }
+    ensures same { IfNone result (rows_of rows.new.entries ≡ rows_of rows.old.entries) }
+    ensures distinct { IsDistinctByLease (rows_of rows.old.entries) }
+    ensures spare { spare rows.new ≡ spare rows.old }
+{
+    let _count = rows.len();
+    let Some(row) = find_row(rows, entry.client, entry.kind) else {
+        return None;
+    };
+    if row.lease.edge != entry.moment {
+        return None;
+    }
+    if !row.is_due(at) {
+        return None;
+    }
+    write_row(rows, row.spent(at));
+    Some(row)
+}
+
+/// The row that answers a Delay_Req of the client, if one does, spends a period and a sequence
+/// number. Gives the lease of its Delay_Resps as it was before.
+pub(crate) fn spend_answering(
+    rows: &mut IndexMap<Key, Lease>,
+    at: Moment,
+    client: Client,
+) -> Option<Lease>
+    ensures lease { result ≡ lease_of client DelayResp (rows_of rows.old.entries) }
+    ensures rows { rows_of rows.new.entries
+        ≡ spent_where (is_answering_row at client) at (rows_of rows.old.entries) }
+    ensures spare { spare rows.new ≡ spare rows.old }
+{
+    let _count = rows.len();
+    let Some(row) = find_row(rows, client, Kind::DelayResp) else {
+        return None;
+    };
+    if !row.is_lawful(at) {
+        return Some(row.lease);
+    }
+    write_row(rows, row.spent(at));
+    Some(row.lease)
 }

@@ -1,4 +1,4 @@
-ghost use Rattle.std.specs.Prelude.{◌≡◌, ◌<◌, ◌≤◌, ◌+◌, ◌^◌, ℕ, max, [], ◌∷◌, ◌++◌, List, map, OnErr, OnOk, length, is_some, slice_get, nat_lt};
+ghost use Rattle.std.specs.Prelude.{◌≡◌, ◌<◌, ◌≤◌, ◌+◌, ◌*◌, ◌^◌, ℕ, IfOk, max, [], ◌∷◌, ◌++◌, List, map, OnErr, OnOk, length, is_some, slice_get, nat_lt};
 ghost use Rattle.std.specs.Borrow.{sem};
 ghost use Rattle.std.specs.List.{filter};
 ghost use Rattle.std.specs.List.Sorted.{IsPermutation};
@@ -20,11 +20,15 @@ ghost use Rattle.ptu_shard.specs.Table.{IsLeaseOf, StandsBeside, StandsFor};
 ghost use Rattle.ptu_shard.specs.Turn.{is_answering_row, is_due_row, due_messages, spent_where};
 
 use crate::answered::{Answered, Turned};
-use crate::answering::{answer_request, spend_answering};
+use crate::answering::answer_request;
 use crate::config::GmConfig;
 use crate::lease::{Lease, Row};
-use crate::rows::{drop_over, drop_row, find_lease, put_row, sum_of_rates};
-use crate::turning::{send_due, spend_due};
+use crate::queue::Queue;
+use crate::queueing::keep_row;
+use crate::rows::{Key, drop_row, find_lease, row_at, spend_answering};
+use crate::sweeping::drop_ended;
+use crate::turning::send_due;
+use indexmap::IndexMap;
 use ptu_header::Header;
 use ptu_history::Client;
 use ptu_outside::Port;
@@ -37,27 +41,41 @@ use std::marker::Model;
 /// at which a step was taken on it.
 #[derive(Drop)]
 pub struct Shard<P: Port> {
-    rows: Vec<Row>,
+    rows: IndexMap<Key, Lease>,
     share: u64,
+    // When each row of Announce and Sync is next due, and when each row is over.
+    edges: Queue,
+    ends: Queue,
+    // For how many rows there is room.
+    room: usize,
     moment: Moment,
     port: P,
 }
 
 impl<P: Port> Model for Shard<P> {
-    ghost use Rattle.std.specs.Prelude.{◌≡◌, ◌-◌, vec_capacity, vec_len};
-    ghost use Rattle.ptu_shard.specs.Row.{IsDistinctByLease, share_of};
+    ghost use Rattle.std.specs.Prelude.{◌-◌, length};
+    ghost use Rattle.indexmap.specs.IndexMap.{spare as spare_of};
+    ghost use Rattle.ptu_shard.specs.Fields.{AreFields, rows_of};
     ghost use Rattle.ptu_shard.specs.Table.{Kept};
 
     ghost Value = { Kept P };
 
     ghost view = { λ s. record {
-      rows = s.rows.items;
+      rows = rows_of s.rows.entries;
       moment = s.moment;
-      spare = vec_capacity s.rows - vec_len s.rows;
+      spare = s.room - length s.rows.entries;
       port = s.port;
     } };
 
-    ghost invariant = { λ s. (s.share ≡ share_of s.rows.items) × IsDistinctByLease s.rows.items };
+    ghost invariant = { λ s. AreFields (rows_of s.rows.entries) (spare_of s.rows) s.share s.moment s.room s.edges s.ends };
+}
+
+// For how many entries a queue has room: twice as many as there may be rows, so that it is seldom
+// filled anew.
+fn twice(room: usize) -> Result<usize, OutOfMemory>
+    ensures { IfOk result (λ n. n ≡ 2 * room) }
+{
+    Ok(room.checked_mul(2).ok_or(OutOfMemory)?)
 }
 
 impl<P: Port> Shard<P> {
@@ -69,8 +87,11 @@ impl<P: Port> Shard<P> {
         ensures stands { (j : ℕ) → StandsFor j result [] }
     {
         Shard {
-            rows: Vec::new(alloc),
+            rows: IndexMap::new(alloc),
             share: 0,
+            edges: Queue::new(alloc),
+            ends: Queue::new(alloc),
+            room: 0,
             moment: Moment::default(),
             port,
         }
@@ -91,7 +112,15 @@ impl<P: Port> Shard<P> {
         ensures stands { (book j : ℕ) (history : List Record) →
             StandsBeside book j self.old history → StandsBeside book j self.new history }
     {
+        if count <= self.room - self.rows.len() {
+            return Ok(());
+        }
         self.rows.reserve(count)?;
+        let room = self.rows.capacity();
+        let entries = twice(room)?;
+        self.edges.reserve(entries)?;
+        self.ends.reserve(entries)?;
+        self.room = room;
         Ok(())
     }
 
@@ -132,7 +161,7 @@ impl<P: Port> Shard<P> {
     pub fn row(&self, index: usize) -> Option<Row>
         ensures { result ≡ slice_get self.now.rows index }
     {
-        self.rows.get(index).copied()
+        row_at(&self.rows, index)
     }
 
     /// Makes this lease the one of the client and kind.
@@ -154,15 +183,15 @@ impl<P: Port> Shard<P> {
             → lease.start ≤ self.old.moment →
             IsLeaseOf after client kind lease → StandsBeside book j self.new after }
     {
-        put_row(
-            &mut self.rows,
-            Row {
-                client,
-                kind,
-                lease,
-            },
-        );
-        self.share = sum_of_rates(&self.rows);
+        let added = rate(lease.log);
+        let row = Row {
+            client,
+            kind,
+            lease,
+        };
+        let replaced = keep_row(&mut self.rows, &mut self.edges, &mut self.ends, row);
+        self.share = self.share + added - replaced;
+        self.room = self.room.min(self.rows.capacity());
     }
 
     /// Drops the row of the client and kind. False where no such row is kept.
@@ -183,10 +212,12 @@ impl<P: Port> Shard<P> {
             n ≤ self.old.moment
             → StandsBeside book j self.new (history ++ Shed n client.now kind ∷ []) }
     {
-        let found = find_lease(&self.rows, client, kind).is_some();
-        drop_row(&mut self.rows, client, kind);
-        self.share = sum_of_rates(&self.rows);
-        found
+        let Some(lease) = drop_row(&mut self.rows, client, kind) else {
+            return false;
+        };
+        self.share -= rate(lease.log);
+        self.room = self.room.min(self.rows.capacity());
+        true
     }
 
     /// Drops the rows whose grants are over at the moment, and makes the moment the table's where
@@ -201,8 +232,8 @@ impl<P: Port> Shard<P> {
         ensures stands { (book j : ℕ) (history : List Record) →
             StandsBeside book j self.old history → StandsBeside (max book n) j self.new history }
     {
-        drop_over(&mut self.rows, n);
-        self.share = sum_of_rates(&self.rows);
+        self.share = drop_ended(&mut self.rows, &mut self.ends, n, self.share);
+        self.room = self.room.min(self.rows.capacity());
         self.moment = self.moment.latest(n);
     }
 
@@ -232,9 +263,7 @@ impl<P: Port> Shard<P> {
             StandsFor j self.new (history ++ (step opened history result.at (Turn j)).records) }
     {
         let at = t.latest(self.moment);
-        self.rows.sort_unstable_by(|a, b| a.sending_order(b));
-        let (sent, failed) = send_due(&self.rows, &mut self.port, config, at);
-        spend_due(&mut self.rows, at);
+        let (sent, failed) = send_due(&mut self.rows, &mut self.edges, &mut self.port, config, at);
         self.moment = at;
         Turned { at, sent, failed }
     }
@@ -275,8 +304,7 @@ impl<P: Port> Shard<P> {
             (history ++ (step opened history self.new.moment (DelayReq client.now)).records) }
     {
         let at = t.latest(self.moment);
-        let lease = find_lease(&self.rows, client, Kind::DelayResp);
-        spend_answering(&mut self.rows, at, client);
+        let lease = spend_answering(&mut self.rows, at, *client);
         self.moment = at;
         answer_request(&mut self.port, config, at, client, request, lease)
     }

@@ -177,3 +177,148 @@ fn a_failed_send_spends_its_period(rt: HostRuntime) -> Result<(), Fail> {
     );
     Ok(())
 }
+
+// A row of the client of this number, granted at 0 for 300 s.
+fn row_of(number: u32, kind: Kind, log: i8, edge: u64) -> Result<Row, Fail> {
+    Ok(Row {
+        client: client_of(number),
+        kind,
+        lease: Lease {
+            log: Log::of(kind, log).ok_or("the logarithm is in the range of every kind")?,
+            start: Moment::default(),
+            until: 300 * SECOND,
+            edge,
+            seq: 0,
+        },
+    })
+}
+
+fn client_of(number: u32) -> Client {
+    Client {
+        ip: number,
+        clock: 17,
+        port: 1,
+    }
+}
+
+// Makes room for a row and puts it.
+fn keep(rt: &impl Abort, shard: &mut Shard<MemPort>, row: &Row) -> Result<(), Fail> {
+    shard.reserve(1)?;
+    assert!(rt; shard.held() < 1 << 40);
+    assert!(rt; rate(row.lease.log) <= 2048);
+    shard.put(row.client, row.kind, row.lease);
+    Ok(())
+}
+
+// A turn costs nothing where nothing is due: ten million of them over 20000 leases.
+fn idle_turns(rt: &impl Abort, shard: &mut Shard<MemPort>) -> Result<(), Fail> {
+    for number in 0..20_000 {
+        keep(rt, shard, &row_of(number, Kind::Announce, 4, 16 * SECOND)?)?;
+    }
+    assert_eq!(rt; shard.count(), 20_000);
+    for at in 1..10_000_001 {
+        let turned = shard.turn(&CONFIG, moment(at)?);
+        assert_eq!(rt; turned.sent, 0);
+    }
+    Ok(())
+}
+
+#[test]
+fn idle_turns_do_not_look_at_every_lease(rt: HostRuntime) -> Result<(), Fail> {
+    let alloc = rt.alloc();
+    let port = MemPort::new(alloc, Vec::new(alloc), Vec::new(alloc), Vec::new(alloc));
+    let mut shard = Shard::new(alloc, port);
+    idle_turns(&rt, &mut shard)
+}
+
+// The plain table goes over all of its rows at every call.
+fn plain_put(rows: &mut Vec<Row>, row: &Row) -> Result<(), Fail> {
+    plain_remove(rows, &row.client, row.kind);
+    rows.push(*row)?;
+    Ok(())
+}
+
+fn plain_remove(rows: &mut Vec<Row>, client: &Client, kind: Kind) {
+    rows.retain(|row| row.client != *client || row.kind != kind);
+}
+
+fn plain_sweep(rows: &mut Vec<Row>, at: Moment) {
+    rows.retain(|row| at.nanos() < row.lease.until);
+}
+
+fn plain_turn(rows: &mut Vec<Row>, at: Moment, ips: &mut Vec<u32>) -> Result<(), Fail> {
+    rows.sort_unstable_by_key(|row| (row.lease.edge, row.client, row.kind));
+    for row in rows.iter_mut() {
+        if row.is_due(at) {
+            ips.push(row.client.ip)?;
+            *row = row.spent(at);
+        }
+    }
+    Ok(())
+}
+
+// The same events at both: a grant or a renewal at another logarithm each second, and cancels,
+// sweeps and turns among them.
+fn same_step(
+    rt: &impl Abort,
+    shard: &mut Shard<MemPort>,
+    rows: &mut Vec<Row>,
+    ips: &mut Vec<u32>,
+    step: u32,
+) -> Result<(), Fail> {
+    assert!(rt; step < 400);
+    let now = u64::from(step) * SECOND;
+    let kind = if step % 2 == 0 {
+        Kind::Announce
+    } else {
+        Kind::Sync
+    };
+    let row = row_of(step * 7 % 11, kind, (step % 5) as i8 - 1, now + SECOND)?;
+    keep(rt, shard, &row)?;
+    plain_put(rows, &row)?;
+    if step % 13 == 0 {
+        let other = client_of(step % 11);
+        shard.remove(&other, Kind::Sync);
+        plain_remove(rows, &other, Kind::Sync);
+    }
+    if step % 29 == 0 {
+        shard.sweep(moment(now)?);
+        plain_sweep(rows, moment(now)?);
+    }
+    shard.turn(&CONFIG, moment(now)?);
+    plain_turn(rows, moment(now)?, ips)
+}
+
+fn same_steps(
+    rt: &impl Abort,
+    shard: &mut Shard<MemPort>,
+    rows: &mut Vec<Row>,
+    ips: &mut Vec<u32>,
+) -> Result<(), Fail> {
+    shard.port().reserve(1000, 1000 * 64)?;
+    for step in 0..400 {
+        same_step(rt, shard, rows, ips, step)?;
+        assert_eq!(rt; shard.count(), rows.len());
+    }
+    for row in rows.iter() {
+        assert_eq!(rt; shard.lease(&row.client, row.kind), Some(row.lease));
+    }
+    for index in 0..ips.len() {
+        assert_eq!(rt;
+            shard.port().sent(index).map(|sent| sent.0),
+            Some(ips[index])
+        );
+    }
+    assert!(rt; shard.port().sent(ips.len()).is_none());
+    Ok(())
+}
+
+#[test]
+fn a_plain_table_does_the_same(rt: HostRuntime) -> Result<(), Fail> {
+    let alloc = rt.alloc();
+    let port = MemPort::new(alloc, Vec::new(alloc), Vec::new(alloc), Vec::new(alloc));
+    let mut shard = Shard::new(alloc, port);
+    let mut rows = Vec::new(alloc);
+    let mut ips = Vec::new(alloc);
+    same_steps(&rt, &mut shard, &mut rows, &mut ips)
+}

@@ -1,54 +1,80 @@
-//! A turn over rows in a plain vector.
+//! A turn: what is due is taken from the queue, sent, and put back at its next moment.
 
-ghost use Rattle.std.specs.Prelude.{◌≡◌, map, vec_capacity, vec_len};
-ghost use Rattle.std.specs.List.{filter};
-ghost use Rattle.ptu_shard.specs.Config.{IsWithinLimits};
+ghost use Rattle.std.specs.Prelude.{◌≡◌, ◌<◌, ◌≤◌, [], ◌∷◌, map, true, IfNone, IfSome};
+ghost use Rattle.indexmap.specs.IndexMap.{spare};
 ghost use Rattle.ptu_outside.specs.HandsOver.{HandsOver};
+ghost use Rattle.ptu_shard.specs.Config.{IsWithinLimits};
+ghost use Rattle.ptu_shard.specs.Fields.{rows_of};
 ghost use Rattle.ptu_shard.specs.Messages.{departure_of};
-ghost use Rattle.ptu_shard.specs.Turn.{is_due_row, message_of_row, spent_where};
+ghost use Rattle.ptu_shard.specs.Queue.{HasEdges};
+ghost use Rattle.ptu_shard.specs.Row.{IsDistinctByLease};
+ghost use Rattle.ptu_shard.specs.Turn.{due_messages, due_rows, is_due_row, spent_where};
+ghost use Rattle.ptu_history.specs.Turns.{is_turned};
 
 use crate::config::GmConfig;
-use crate::lease::Row;
+use crate::lease::{Lease, Row};
+use crate::queue::Queue;
+use crate::queueing::edge_of;
+use crate::rows::{Key, spend_due};
 use crate::sending::send_message;
+use indexmap::IndexMap;
 use ptu_outside::Port;
 use ptu_units::Moment;
 
-/// Hands the message of each row that is due to the port, in the order of the rows. Gives how many
-/// were sent and how many sends failed.
+/// The next row that is due at the moment, as it was before it spends a period and a sequence
+/// number. Its entry goes back at its next moment.
+fn next_due(rows: &mut IndexMap<Key, Lease>, edges: &mut Queue, at: Moment) -> Option<Row>
+    requires { HasEdges at (rows_of rows.old.entries) edges.old.entries }
+    ensures due { IfSome result (λ row. due_rows at (rows_of rows.old.entries)
+        ≡ row ∷ due_rows at (rows_of rows.new.entries)) }
+    ensures turned { IfSome result (λ row. is_turned row.kind ≡ true) }
+    ensures none { IfNone result (due_rows at (rows_of rows.old.entries) ≡ []) }
+    ensures same { IfNone result (rows_of rows.new.entries ≡ rows_of rows.old.entries) }
+    ensures spent { spent_where (is_due_row at) at (rows_of rows.new.entries)
+        ≡ spent_where (is_due_row at) at (rows_of rows.old.entries) }
+    ensures edges { HasEdges at (rows_of rows.new.entries) edges.new.entries }
+    ensures spare { spare rows.new ≡ spare rows.old }
+    ensures capacity { edges.old.capacity ≤ edges.new.capacity }
+{
+    while let Some(entry) = edges.pop_until(at) {
+        if let Some(row) = spend_due(rows, at, entry) {
+            edges.push(edge_of(&row.spent(at)));
+            return Some(row);
+        }
+    }
+    None
+}
+
+/// Hands the message of each row that is due to the port, in order, and each such row spends a
+/// period and a sequence number. Gives how many were sent and how many sends failed.
 pub(crate) fn send_due<P: Port>(
-    rows: &[Row],
+    rows: &mut IndexMap<Key, Lease>,
+    edges: &mut Queue,
     port: &mut P,
     config: &GmConfig,
     at: Moment,
 ) -> (u64, u64)
-    requires { IsWithinLimits config.now }
+    requires limits { IsWithinLimits config.now }
+    requires edges { HasEdges at (rows_of rows.old.entries) edges.old.entries }
     ensures sends { HandsOver (P.sent port.old) (P.sent port.new) (P.faults port.old)
         (P.faults port.new)
-        (map (λ row. departure_of config.now at (message_of_row row))
-        (filter (is_due_row at) rows.now))
+        (map (departure_of config.now at) (due_messages at (rows_of rows.old.entries)))
         result.0 result.1 }
     ensures waiting { P.waiting port.new ≡ P.waiting port.old }
+    ensures rows { rows_of rows.new.entries
+        ≡ spent_where (is_due_row at) at (rows_of rows.old.entries) }
+    ensures edges { HasEdges at (rows_of rows.new.entries) edges.new.entries }
+    ensures spare { spare rows.new ≡ spare rows.old }
+    ensures capacity { edges.old.capacity ≤ edges.new.capacity }
 {
+    let _count = rows.len();
     let mut sent = 0;
     let mut failed = 0;
-    for row in rows {
-        if row.is_due(at) {
-            match send_message(port, config, at, row) {
-                Ok(()) => sent += 1,
-                Err(_) => failed += 1,
-            }
+    while let Some(row) = next_due(rows, edges, at) {
+        match send_message(port, config, at, &row) {
+            Ok(()) => sent += 1,
+            Err(_) => failed += 1,
         }
     }
     (sent, failed)
-}
-
-/// Each row that is due spends a period and a sequence number.
-pub(crate) fn spend_due(rows: &mut Vec<Row>, at: Moment)
-    ensures items { rows.new.items ≡ spent_where (is_due_row at) at rows.old.items }
-    ensures room { vec_capacity rows.new ≡ vec_capacity rows.old }
-    ensures bound { vec_len rows.new ≡ vec_len rows.old }
-{
-    for row in rows.iter_mut() {
-        row.spend_if_due(at);
-    }
 }

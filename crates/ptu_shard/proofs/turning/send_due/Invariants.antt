@@ -1,13 +1,20 @@
-use Rattle.std.proofs.Common.{◌≡◌, map, take}
-use Rattle.std.specs.List.{filter}
-use Rattle.ptu_outside.specs.HandsOver.{HandsOver}
-use Rattle.ptu_shard.specs.Messages.{departure_of}
-use Rattle.ptu_shard.specs.Turn.{is_due_row, message_of_row}
+use Rattle.std.proofs.Common.{◌≡◌, ◌≤◌, length}
+use Rattle.ptu_shard.specs.Fields.{rows_of}
+use Rattle.ptu_shard.specs.Queue.{HasEdges}
+use Rattle.ptu_shard.specs.Turn.{due_rows, is_due_row, spent_where}
+use Rattle.indexmap.specs.IndexMap.{spare}
+use Rattle.ptu_shard.proofs.SoFar.{HasSent}
 use Rattle.ptu_shard.proofs.turning.send_due.Given as goal
 
 abbrev pub invariant-loop-row : goal.invariant-loop-row
 invariant-loop-row g l = record {
-  sends : HandsOver (g.P.Port.sent l.initial.port) (g.P.Port.sent l.port) (g.P.Port.faults l.initial.port) (g.P.Port.faults l.port)
-      (map (λ row. departure_of l.fn.config l.fn.at (message_of_row row)) (filter (is_due_row l.fn.at) (take l.row-index l.rows))) l.sent l.failed;
+  sends : HasSent g.P.Port.sent g.P.Port.faults l.fn.config l.at (rows_of l.initial.rows.entries) (rows_of l.rows.entries) l.initial.port l.port l.sent l.failed;
+  spent : spent_where (is_due_row l.at) l.at (rows_of l.rows.entries) ≡ spent_where (is_due_row l.at) l.at (rows_of l.initial.rows.entries);
+  edges : HasEdges l.at (rows_of l.rows.entries) l.edges.entries;
   waiting : g.P.Port.waiting l.port ≡ g.P.Port.waiting l.initial.port;
+  spare : spare l.rows ≡ spare l.initial.rows;
+  capacity : l.initial.edges.capacity ≤ l.edges.capacity;
 }
+
+abbrev pub decreases-loop-row : goal.decreases-loop-row
+decreases-loop-row g l = length (due_rows l.at (rows_of l.rows.entries))

@@ -1,0 +1,69 @@
+-- The least entry of a heap.
+use Rattle.std.proofs.Common.{◌≡◌, ◌∙◌, ℕ, ◌<◌, ◌≤◌, List, Bool, true, false, cond, eqb, ltb, refl, sym, ap, subst, map, arith, Result, Ok, Err, IsOk, OnOk}
+use Rattle.std.specs.BinaryHeap.{IsHeap, IsUpperBound}
+use Rattle.std.specs.List.{All}
+use Rattle.std.specs.Ordering.{is_lt, nat_cmp, ordering_then}
+use Rattle.std.specs.declared.cmp.Ordering.{Ordering}
+use Rattle.std.specs.declared.cmp.Ordering.TheVariants.{Less, Equal, Greater}
+use Rattle.std.specs.declared.cmp.Reverse.{Reverse}
+use Rattle.std.proofs.lemmas.Bool.{false≢true, true≢false}
+use Rattle.std.proofs.lemmas.List.Elements.{All-from_recursion, All-map, All-weaker}
+use Rattle.ptu_units.specs.declared.kind.Kind.{Kind}
+use Rattle.ptu_units.specs.declared.kind.Kind.TheVariants.{Announce, Sync, DelayResp}
+use Rattle.ptu_units.specs.contracts.kind.KindOrd.TheImpl as kinds
+use Rattle.ptu_history.specs.Client.{client_cmp, kind_cmp}
+use Rattle.ptu_shard.specs.declared.queue.Entry.{Entry}
+use Rattle.ptu_shard.specs.contracts.queue.EntryOrd.TheImpl as entries
+use Rattle.ptu_shard.specs.Queue.{IsNoneBelow, entry_cmp}
+
+kind_cmp_is : (j k : Kind) → kinds.cmp-value.it j k ≡ kind_cmp j k
+kind_cmp_is Announce Announce = refl
+kind_cmp_is Announce Sync = refl
+kind_cmp_is Announce DelayResp = refl
+kind_cmp_is Sync Announce = refl
+kind_cmp_is Sync Sync = refl
+kind_cmp_is Sync DelayResp = refl
+kind_cmp_is DelayResp Announce = refl
+kind_cmp_is DelayResp Sync = refl
+kind_cmp_is DelayResp DelayResp = refl
+
+entry_cmp_is : (a b : Entry) → entries.cmp-value.it a b ≡ entry_cmp a b
+entry_cmp_is a b = ap (λ o. ordering_then (nat_cmp a.moment b.moment) (ordering_then (client_cmp a.client b.client) o)) (kind_cmp_is a.kind b.kind)
+
+-- the order of the heap, by its code and by its definition
+abbrev pub by_code : Reverse Entry → Reverse Entry → Ordering
+by_code a b = entries.cmp-value.it b.0 a.0
+
+abbrev pub by_entry : Reverse Entry → Reverse Entry → Ordering
+by_entry a b = entry_cmp b.0 a.0
+
+code_is : by_code ≡ by_entry
+code_is = λ i a b. entry_cmp_is b.0 a.0 i
+
+pub heap_by_code : (xs : List (Reverse Entry)) → IsHeap by_entry xs → IsHeap by_code xs
+heap_by_code xs h = subst (λ R. IsHeap R xs) (sym code_is) h
+
+pub heap_by_entry : (xs : List (Reverse Entry)) → IsHeap by_code xs → IsHeap by_entry xs
+heap_by_entry xs h = subst (λ R. IsHeap R xs) code_is h
+
+-- no entry is below the first
+pub none_below : (x : Reverse Entry) (xs : List (Reverse Entry)) → IsUpperBound by_code x xs → IsNoneBelow x.0 (map (λ (r : Reverse Entry). r.0) xs)
+none_below x xs h =
+    All-map (λ f. is_lt (entry_cmp f x.0) ≡ false) (λ (r : Reverse Entry). r.0) xs
+    (All-from_recursion (λ y. is_lt (entry_cmp y.0 x.0) ≡ false) xs (subst (λ R. IsUpperBound R x xs) code_is h))
+
+not_before : (f e : Entry) → is_lt (entry_cmp f e) ≡ false → e.moment ≤ f.moment
+not_before f e h = at (ltb f.moment e.moment) refl
+  where
+    at : (b : Bool) → ltb f.moment e.moment ≡ b → e.moment ≤ f.moment
+    at true lt = absurd (true≢false (sym (ap (λ b. is_lt (ordering_then (cond b Less (cond (eqb f.moment e.moment) Equal Greater)) (ordering_then (client_cmp f.client e.client) (kind_cmp f.kind e.kind)))) lt) ∙ h))
+    at false ge = grind arith
+
+-- where it is later, all are
+pub all_later : (n : ℕ) (e : Entry) (entries : List Entry) → n < e.moment → IsNoneBelow e entries → All (λ f. n < f.moment) entries
+all_later n e entries later h =
+    All-weaker (λ f. is_lt (entry_cmp f e) ≡ false) (λ f. n < f.moment) (λ f below. let le : e.moment ≤ f.moment = not_before f e below in omega (arith, le, later)) entries h
+
+pub on_ok : {A E P : Type 0} (r : Result A E) → IsOk r → OnOk r P → P
+on_ok (Ok x) is p = p
+on_ok (Err e) is p = absurd (false≢true is)

@@ -1,0 +1,70 @@
+-- One row that is written after a message.
+use Rattle.std.proofs.Common.{◌≡◌, ◌∙◌, ℕ, List, Bool, true, false, ◌&&◌, cond, refl, sym, ap, ap₂, subst, map, None}
+use Rattle.std.specs.List.{Contains}
+use Rattle.ptu_units.specs.declared.kind.Kind.TheVariants.{DelayResp}
+use Rattle.ptu_history.specs.declared.client.Client.{Client}
+use Rattle.ptu_history.specs.Client.{same_lease}
+use Rattle.std.proofs.lemmas.Bool.{true≢false}
+use Rattle.ptu_history.proofs.Keys.{same_lease-refl}
+use Rattle.ptu_history.proofs.Unique.{Apart}
+use Rattle.ptu_shard.specs.declared.lease.Row.{Row}
+use Rattle.ptu_shard.specs.declared.queue.Entry.{Entry}
+use Rattle.ptu_shard.specs.Queue.{edge_entry}
+use Rattle.ptu_shard.specs.Row.{is_row_of, lease_of}
+use Rattle.ptu_shard.specs.Turn.{is_answering_row, is_lawful_row, spent_row, spent_where}
+use Rattle.ptu_shard.proofs.RowLists.{Differ, missing_none}
+use Rattle.ptu_shard.proofs.Spending.{spent_agree}
+use Rattle.ptu_shard.proofs.Members.{map_agree, map_same, one_row}
+
+module _ (x : ℕ) (rows : List Row) (apart : Apart Differ rows) where
+  pub written_spent : (r s : Row) → Contains rows r → s ≡ spent_row x r →
+      map (λ z. cond (is_row_of s.client s.kind z) s z) rows ≡ spent_where (is_row_of r.client r.kind) x rows
+  written_spent r s kept is =
+      subst (λ s. map (λ z. cond (is_row_of s.client s.kind z) s z) rows ≡ spent_where (is_row_of r.client r.kind) x rows) (sym is)
+      (map_agree (λ z. cond (is_row_of r.client r.kind z) (spent_row x r) z) (λ z. cond (is_row_of r.client r.kind z) (spent_row x z) z) rows
+      (λ z h. at z h (is_row_of r.client r.kind z) refl))
+    where
+      at : (z : Row) → Contains rows z → (b : Bool) → is_row_of r.client r.kind z ≡ b → cond b (spent_row x r) z ≡ cond b (spent_row x z) z
+      at z h true own = ap (spent_row x) (one_row rows apart r z kept h own)
+      at z h false other = refl
+
+  -- a row by its entry
+  pub by_entry : (e : Entry) (r z : Row) → Contains rows r → r.client ≡ e.client → r.kind ≡ e.kind → Contains rows z → edge_entry z ≡ e → r ≡ z
+  by_entry e r z kept client kind h same =
+      let c_is : r.client ≡ z.client = client ∙ sym (ap (λ (e : Entry). e.client) same) in
+      let k_is : r.kind ≡ z.kind = kind ∙ sym (ap (λ (e : Entry). e.kind) same) in
+      one_row rows apart r z kept h (ap₂ (λ d k. same_lease d k z.client z.kind) c_is k_is ∙ same_lease-refl z.client z.kind)
+
+  pub no_entry : (e : Entry) → lease_of e.client e.kind rows ≡ None → (z : Row) → Contains rows z → edge_entry z ≡ e → ⊥
+  no_entry e none z h same =
+      let c_is : e.client ≡ z.client = sym (ap (λ (e : Entry). e.client) same) in
+      let k_is : e.kind ≡ z.kind = sym (ap (λ (e : Entry). e.kind) same) in
+      true≢false (sym (ap₂ (λ d k. same_lease d k z.client z.kind) c_is k_is ∙ same_lease-refl z.client z.kind) ∙ missing_none e.client e.kind rows none z h)
+
+  -- a Delay_Req where no row is of the client
+  pub answering_none : (c : Client) → lease_of c DelayResp rows ≡ None → rows ≡ spent_where (is_answering_row x c) x rows
+  answering_none c none =
+      sym (map_same (λ z. cond (is_answering_row x c z) (spent_row x z) z) rows
+      (λ z h. ap (λ b. cond (b && is_lawful_row x z) (spent_row x z) z) (missing_none c DelayResp rows none z h)))
+
+  module _ (c : Client) (r : Row) (kept : Contains rows r) (client : r.client ≡ c) (kind : r.kind ≡ DelayResp) where
+    own_is : (z : Row) → Contains rows z → is_row_of c DelayResp z ≡ true → r ≡ z
+    own_is z h own = one_row rows apart r z kept h (ap₂ (λ d k. same_lease d k z.client z.kind) client kind ∙ own)
+
+    -- where none is lawful yet, or the lease is over
+    pub answering_early : is_lawful_row x r ≡ false → rows ≡ spent_where (is_answering_row x c) x rows
+    answering_early early = sym (map_same (λ z. cond (is_answering_row x c z) (spent_row x z) z) rows (λ z h. at z h (is_row_of c DelayResp z) refl))
+      where
+        at : (z : Row) → Contains rows z → (b : Bool) → is_row_of c DelayResp z ≡ b → cond (b && is_lawful_row x z) (spent_row x z) z ≡ z
+        at z h true own = ap (λ b. cond b (spent_row x z) z) (sym (ap (is_lawful_row x) (own_is z h own)) ∙ early)
+        at z h false other = refl
+
+    -- where one is lawful
+    pub answering_now : is_lawful_row x r ≡ true → spent_where (is_row_of r.client r.kind) x rows ≡ spent_where (is_answering_row x c) x rows
+    answering_now lawful =
+        spent_agree (is_row_of r.client r.kind) (is_answering_row x c) x rows
+        (λ z h. ap₂ (λ d k. same_lease d k z.client z.kind) client kind ∙ at z h (is_row_of c DelayResp z) refl)
+      where
+        at : (z : Row) → Contains rows z → (b : Bool) → is_row_of c DelayResp z ≡ b → b ≡ (b && is_lawful_row x z)
+        at z h true own = sym (sym (ap (is_lawful_row x) (own_is z h own)) ∙ lawful)
+        at z h false other = refl

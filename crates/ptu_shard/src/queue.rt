@@ -1,0 +1,107 @@
+//! Queues of moments: when a row is next due, and when it is over.
+
+ghost use Rattle.std.specs.Prelude.{◌≡◌, ◌<◌, ◌≤◌, [], ◌∷◌, length, nat_le, IfNone, IfSome, OnOk, OnErr};
+ghost use Rattle.std.specs.List.{All};
+ghost use Rattle.std.specs.List.Sorted.{IsPermutation};
+ghost use Rattle.std.specs.Ordering.{is_lt};
+ghost use Rattle.ptu_shard.specs.Queue.{IsNoneBelow, entry_cmp};
+
+use ptu_history::Client;
+use ptu_units::{Kind, Moment, OutOfMemory};
+use std::alloc::Global;
+use std::cmp::Reverse;
+use std::collections::BinaryHeap;
+use std::marker::Model;
+
+/// A client and kind at a moment, in nanoseconds. Entries are ordered by moment, then client, then
+/// kind.
+#[derive(Clone, Copy, Debug, PartialEq, Eq, PartialOrd, Ord)]
+pub(crate) struct Entry {
+    pub(crate) moment: u64,
+    pub(crate) client: Client,
+    pub(crate) kind: Kind,
+}
+
+/// Entries, of which the least is taken first.
+#[derive(Drop)]
+pub(crate) struct Queue {
+    heap: BinaryHeap<Reverse<Entry>>,
+}
+
+impl Model for Queue {
+    ghost use Rattle.std.specs.Prelude.{map};
+    ghost use Rattle.std.specs.BinaryHeap.{IsHeap, heap_capacity, heap_items};
+    ghost use Rattle.ptu_shard.specs.Queue.{Queued, entry_cmp};
+
+    ghost Value = { Queued };
+
+    ghost view = { λ q. record {
+      entries = map (λ r. r.0) (heap_items q.heap);
+      capacity = heap_capacity q.heap;
+    } };
+
+    ghost invariant = { λ q. IsHeap (λ a b. entry_cmp b.0 a.0) (heap_items q.heap) };
+}
+
+impl Queue {
+    pub(crate) fn new(alloc: Global) -> Queue
+        ensures { result.entries ≡ [] }
+    {
+        Queue {
+            heap: BinaryHeap::new(alloc),
+        }
+    }
+
+    /// Makes room for so many entries in all.
+    pub(crate) fn reserve(&mut self, count: usize) -> Result<(), OutOfMemory>
+        ensures room { OnOk result (count ≤ self.new.capacity) }
+        ensures capacity { self.old.capacity ≤ self.new.capacity }
+        ensures entries { self.new.entries ≡ self.old.entries }
+    {
+        let more = count.saturating_sub(self.heap.len());
+        self.heap.reserve_exact(more)?;
+        Ok(())
+    }
+
+    /// Whether there is no room for an entry more.
+    pub(crate) fn is_full(&self) -> bool
+        ensures { result ≡ nat_le self.now.capacity (length self.now.entries) }
+    {
+        self.heap.capacity() <= self.heap.len()
+    }
+
+    /// Adds an entry. There is room for it, so that no memory is taken.
+    pub(crate) fn push(&mut self, entry: Entry)
+        requires { length self.old.entries < self.old.capacity }
+        ensures entries { IsPermutation (entry ∷ self.old.entries) self.new.entries }
+        ensures capacity { self.old.capacity ≤ self.new.capacity }
+    {
+        // A push fails only at a full heap, and this one has room.
+        let _ = self.heap.push(Reverse(entry));
+    }
+
+    /// Takes the least entry, where it is not after the moment.
+    pub(crate) fn pop_until(&mut self, at: Moment) -> Option<Entry>
+        ensures taken { IfSome result (λ e. IsPermutation self.old.entries (e ∷ self.new.entries)) }
+        ensures reached { IfSome result (λ e. e.moment ≤ at) }
+        ensures least { IfSome result (λ e. IsNoneBelow e self.new.entries) }
+        ensures room { IfSome result (λ e. length self.new.entries < self.new.capacity) }
+        ensures later { IfNone result (All (λ e. at < e.moment) self.old.entries) }
+        ensures kept { IfNone result (self.new.entries ≡ self.old.entries) }
+        ensures capacity { self.new.capacity ≡ self.old.capacity }
+    {
+        let first = self.heap.peek()?;
+        if at.nanos() < first.0.moment {
+            return None;
+        }
+        let first = self.heap.pop()?;
+        Some(first.0)
+    }
+
+    pub(crate) fn clear(&mut self)
+        ensures entries { self.new.entries ≡ [] }
+        ensures capacity { self.new.capacity ≡ self.old.capacity }
+    {
+        self.heap.clear();
+    }
+}
