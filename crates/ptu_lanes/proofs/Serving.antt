@@ -1,6 +1,6 @@
 -- What a lane has served, call by call.
-use Rattle.std.proofs.Common.{◌≡◌, ◌∙◌, ◌⊎◌, inl, inr, ℕ, suc, ◌+◌, ◌-◌, ◌*◌, ◌^◌, ◌≤◌, ◌<◌, ◌++◌, List, [], ◌∷◌, length, length-append, map, take, drop, refl, sym, ap, subst, append_assoc, arith, Option, Some, None, Result, Ok, Err}
-use Rattle.std.specs.Prelude.{IfSome}
+use Rattle.std.proofs.Common.{◌≡◌, ◌∙◌, ◌⊎◌, inl, inr, ℕ, suc, zero, ◌+◌, ◌-◌, ◌*◌, ◌^◌, ◌≤◌, ◌<◌, ◌++◌, List, [], ◌∷◌, length, length-append, map, take, drop, refl, sym, ap, subst, append_assoc, arith, Option, Some, None, Result, Ok, Err}
+use Rattle.std.specs.Prelude.{IfOk, IfSome}
 use Rattle.std.specs.List.{All, flat_map}
 use Rattle.std.proofs.lemmas.List.{append-nil, length-map, map-append, take_all}
 use Rattle.std.proofs.lemmas.List.Elements.{All-append, All-cons, All-nil}
@@ -11,6 +11,8 @@ use Rattle.std.proofs.Math.Seq.{drop-append_seam, take-append_seam}
 use Rattle.ptu_outside.specs.declared.arrival.Arrival.{Arrival}
 use Rattle.ptu_outside.specs.Departure.{Departure}
 use Rattle.ptu_outside.specs.Faults.{HasRisen, HasRisenBy, HasNotFallen}
+use Rattle.ptu_outside.specs.HandsOver.{HandsOver}
+use Rattle.ptu_outside.proofs.HandsOver.{hands_none}
 use Rattle.ptu_outside.specs.Telling.{IfTold, IsFirstTold, append_told, rest_told}
 use Rattle.ptu_outside.proofs.Telling.{IfTold-append, IfTold-refl, append_told-nil}
 use Rattle.ptu_outside.proofs.Told.{HasRisenBy-after, HasRisenBy-before}
@@ -21,10 +23,11 @@ use Rattle.ptu_shared.specs.Seats.{Counts}
 use Rattle.ptu_items.specs.declared.heard.Heard.{Heard}
 use Rattle.ptu_items.specs.declared.heard.Heard.TheVariants as heard
 use Rattle.ptu_items.specs.declared.reason.GmReason.{GmReason}
-use Rattle.ptu_items.specs.Items.{heard_in}
-use Rattle.ptu_lanes.specs.Answers.{asks_among, grants_among}
-use Rattle.ptu_lanes.specs.Rounds.{Exchange, HasReplied, HasServed, IsAnswered, IsRound, asks_in, datagrams, grants_in, items_of, replies, reply_if_any, reply_in, reply_with}
-use Rattle.ptu_lanes.proofs.Items.{asks-le}
+use Rattle.ptu_items.specs.declared.item.Item.{Item}
+use Rattle.ptu_items.specs.Items.{heard_in, items_in}
+use Rattle.ptu_lanes.specs.Answers.{HasAnswered, asks_among, grants_among}
+use Rattle.ptu_lanes.specs.Rounds.{Exchange, HasReplied, HasServed, IsAnswered, IsRound, asks_in, datagrams, found_items, grants_in, items_of, replies, reply_if_any, reply_in, reply_with}
+use Rattle.ptu_lanes.proofs.Items.{answered_none, asks-le, heard_items, items_heard}
 
 -- ---- counts of faults
 
@@ -134,7 +137,7 @@ one_reply config from (Ok (heard.DelayReq header)) answers = omega arith
 one_reply config from (Err reason) answers = omega arith
 
 no_failure : (failed old new : ℕ) → HasRisenBy failed old new → ¬ HasRisen old new → failed ≡ 0
-no_failure 0 old new risen same = refl
+no_failure zero old new risen same = refl
 no_failure (suc n) old new (inl a) same = absurd (same (inl (omega arith)))
 no_failure (suc n) old new (inr a) same = absurd (same (inr a))
 
@@ -202,3 +205,36 @@ round_is config exchanges waiting (Some later) before after faults now old new a
     either : IsOver exchanges (Some later) faults now → (length (datagrams exchanges) ≡ 64) ⊎ (later ≡ [])
     either (inl many) = inl (size ∙ many)
     either (inr none) = inr (none same)
+
+-- ---- one datagram, by what is heard in it
+
+-- the fact on what was answered, from two facts
+pub both_ok : {A E : Type 0} (r : Result A E) (P Q R : A → Type 0) → ((x : A) → P x → Q x → R x) → IfOk r P → IfOk r Q → IfOk r R
+both_ok (Ok x) P Q R makes p q = makes x p q
+both_ok (Err e) P Q R makes p q = tt
+
+pub replied_is : (config : GmConfig) (from : ℕ) (octets : List ℕ) (header : Header) (items : List Item) (answers : List Tlv) (before after : Option (List Departure)) (faults now : ℕ) (old new : Counts) (asks sent failed : ℕ) →
+    heard_in config octets ≡ Ok (heard.Asks header items) → length items ≤ 32 → HasAnswered config items answers old new →
+    HandsOver before after faults now (reply_if_any config from header answers) sent failed → new.granted + new.refused ≡ old.granted + old.refused + asks →
+    HasReplied config (record { datagram = record { ip = from; bytes = octets }; answers = answers }) before after faults now old new asks sent failed
+replied_is config from octets header items answers before after faults now old new asks sent failed found few answered hands asks_are =
+    let same : items ≡ found_items (items_in config octets) = sym (ap heard_items found) ∙ items_heard config octets in
+    record {
+      answered = subst (λ is. HasAnswered config is answers old new) same answered;
+      asks_are = asks_are;
+      few = subst (λ is. length is ≤ 32) same few;
+      hands = subst (λ h. HandsOver before after faults now (reply_with config from h answers) sent failed) (sym found) hands;
+    }
+
+-- a datagram in which no Signaling is heard has no items, and no reply
+pub ignored_is : (config : GmConfig) (from : ℕ) (octets : List ℕ) (found : Result Heard GmReason) (before : Option (List Departure)) (faults : ℕ) (counts : Counts) →
+    heard_in config octets ≡ found → heard_items found ≡ [] → reply_with config from found [] ≡ [] →
+    HasReplied config (record { datagram = record { ip = from; bytes = octets }; answers = [] }) before before faults faults counts counts 0 0 0
+ignored_is config from octets found before faults counts is none quiet =
+    let same : [] ≡ found_items (items_in config octets) = sym none ∙ sym (ap heard_items is) ∙ items_heard config octets in
+    record {
+      answered = subst (λ items. HasAnswered config items [] counts counts) same (answered_none config counts);
+      asks_are = omega arith;
+      few = subst (λ items. length items ≤ 32) same (omega arith);
+      hands = subst (λ ds. HandsOver before before faults faults ds 0 0) (sym (ap (λ h. reply_with config from h []) is ∙ quiet)) (hands_none before faults);
+    }

@@ -10,7 +10,7 @@ ghost use Rattle.ptu_grandmaster.specs.Outcomes.{answers_seen, decision_seen, it
 ghost use Rattle.ptu_lanes.specs.Answers.{HasAnswered};
 ghost use Rattle.ptu_lanes.specs.Rounds.{HasReplied, reply_if_any};
 
-use crate::rounds::Control;
+use crate::rounds::{Control, IDLE};
 use ptu_grandmaster::{Outcome, Outcomes, reply_of};
 use ptu_header::Header;
 use ptu_history::Client;
@@ -200,6 +200,7 @@ pub(crate) fn answer_datagram<P: Port + Send, L: Rates, G: Ledger, R: Ledger>(
             &header,
             items.list(),
         ),
-        Ok(Heard::DelayReq(_)) | Err(_) => Ok(Control::default()),
+        Ok(Heard::DelayReq(_)) => Ok(IDLE),
+        Err(_) => Ok(IDLE),
     }
 }

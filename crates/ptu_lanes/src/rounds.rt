@@ -18,7 +18,7 @@ use std::sync::ledger::Ledger;
 const MOST_DATAGRAMS: u64 = 64;
 
 /// What a lane did that takes Signaling.
-#[derive(Clone, Copy, Debug, Default, PartialEq, Eq)]
+#[derive(Clone, Copy, Debug, PartialEq, Eq)]
 pub struct Control {
     /// How many asks within the profile were decided.
     pub asks: u64,
@@ -27,6 +27,13 @@ pub struct Control {
     /// How many sends and receives failed.
     pub failed: u64,
 }
+
+// Nothing was done.
+pub(crate) const IDLE: Control = Control {
+    asks: 0,
+    sent: 0,
+    failed: 0,
+};
 
 // Takes the first datagram that waits, if one does, and answers it at a new moment of the clock.
 // Gives what was done, and whether there may be more to take.
@@ -60,13 +67,10 @@ fn take_one<P: Port + Send, C: Clock, L: Rates, G: Ledger, R: Ledger>(
             let answered = answer_datagram(rt, alloc, shared, seat, config, port, t, from, bytes)?;
             Ok((answered, true))
         }
-        Ok(None) => Ok((Control::default(), false)),
+        Ok(None) => Ok((IDLE, false)),
         Err(_) => {
-            let control = Control {
-                failed: 1,
-                ..Control::default()
-            };
-            Ok((control, false))
+            let failed = Control { failed: 1, ..IDLE };
+            Ok((failed, false))
         }
     }
 }
@@ -106,7 +110,7 @@ pub fn control_round<P: Port + Send, C: Clock, L: Rates, G: Ledger, R: Ledger>(
         HasRisenBy c.failed (P.faults port.old) (P.faults port.new)) }
     ensures no_fall { IfOk result (λ c. HasNotFallen (P.faults port.old) (P.faults port.new)) }
 {
-    let mut control = Control::default();
+    let mut control = IDLE;
     let mut buffer = [0; 2048];
     for _i in 0..MOST_DATAGRAMS {
         let (one, goes_on) =
