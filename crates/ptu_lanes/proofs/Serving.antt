@@ -238,3 +238,34 @@ ignored_is config from octets found before faults counts is none quiet =
       few = subst (λ items. length items ≤ 32) same (omega arith);
       hands = subst (λ ds. HandsOver before before faults faults ds 0 0) (sym (ap (λ h. reply_with config from h []) is ∙ quiet)) (hands_none before faults);
     }
+
+-- a datagram that was received, and then answered
+pub served_received : (config : GmConfig) (e : Exchange) (waiting middle left : Option (List Arrival)) (before between after : Option (List Departure)) (faults risen now : ℕ) (old new : Counts) (asks sent failed : ℕ) →
+    IsFirstTold waiting e.datagram → IfTold middle (rest_told waiting) → between ≡ before → risen ≡ faults → left ≡ middle →
+    HasReplied config e between after risen now old new asks sent failed →
+    HasServed config (e ∷ []) waiting left before after faults now old new asks sent failed
+served_received config e waiting middle left before between after faults risen now old new asks sent failed first rest same_sent same_faults same_left r =
+    served_one config e waiting left before after faults now old new asks sent failed first (subst (λ l. IfTold l (rest_told waiting)) (sym same_left) rest)
+    (subst (λ b. HasReplied config e b after faults now old new asks sent failed) same_sent
+    (subst (λ n. HasReplied config e between after n now old new asks sent failed) same_faults r))
+
+-- a receive that gave nothing
+pub served_nothing : (config : GmConfig) (waiting left : Option (List Arrival)) (before after : Option (List Departure)) (faults now failed : ℕ) (counts : Counts) →
+    IfTold left waiting → after ≡ before → HasRisenBy failed faults now → HasNotFallen faults now →
+    HasServed config [] waiting left before after faults now counts counts 0 0 failed
+served_nothing config waiting left before after faults now failed counts kept same risen no_fall =
+    subst (λ a. HasServed config [] waiting left before a faults now counts counts 0 0 failed) (sym same)
+    (served_none config waiting left before faults now failed counts kept risen no_fall)
+
+-- a round that ends before it took 64 datagrams, since nothing waits after the last ones that it took, or a fault came
+pub round_over : (config : GmConfig) (xs ys : List Exchange) (waiting middle left : Option (List Arrival)) (before between after : Option (List Departure)) (faults risen now : ℕ)
+    (old seat new : Counts) (asks sent failed asks2 sent2 failed2 : ℕ) →
+    HasServed config xs waiting middle before between faults risen old seat asks sent failed →
+    HasServed config ys middle left between after risen now seat new asks2 sent2 failed2 →
+    length xs + length ys ≤ 64 → (¬ HasRisen risen now → IfSome left (λ later. later ≡ [])) →
+    ¬ HasRisen faults now → IfSome left (λ later. IsRound config waiting later before after old.granted new.granted (asks + asks2) (sent + sent2))
+round_over config xs ys waiting middle left before between after faults risen now old seat new asks sent failed asks2 sent2 failed2 p q few over =
+    round_is config (xs ++ ys) waiting left before after faults now old new (asks + asks2) (sent + sent2) (failed + failed2)
+    (served-append config xs ys waiting middle left before between after faults risen now old seat new asks sent failed asks2 sent2 failed2 p q)
+    (omega (arith, few, length-append xs ys))
+    (inr (λ same. over (λ rises. same (HasRisenBy-before 1 faults risen now p.no_fall.0 rises))))
