@@ -7,5 +7,5 @@ mod rounds;
 
 pub use rounds::{Control, control_round};
 
-
-
+#[cfg(test)]
+mod tests;

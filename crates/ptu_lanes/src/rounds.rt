@@ -113,8 +113,7 @@ pub fn control_round<P: Port + Send, C: Clock, L: Rates, G: Ledger, R: Ledger>(
     let mut control = IDLE;
     let mut buffer = [0; 2048];
     for _i in 0..MOST_DATAGRAMS {
-        let (one, goes_on) =
-            take_one(rt, alloc, shared, seat, config, port, clock, &mut buffer)?;
+        let (one, goes_on) = take_one(rt, alloc, shared, seat, config, port, clock, &mut buffer)?;
         control.asks += one.asks;
         control.sent += one.sent;
         control.failed += one.failed;

@@ -18,9 +18,11 @@ returns-in-Ok-Asks-clause-replied g c =
     )) c.answer_signaling.ensures.answered c.answer_signaling.ensures.asks
 
 pub returns-in-Ok-DelayReq-clause-replied : goal.returns-in-Ok-DelayReq-clause-replied
-returns-in-Ok-DelayReq-clause-replied g c =
-    ([], ignored_is c.args.config.now c.args.from c.args.bytes.now _ _ _ _
-      (sym c.in_ok-header.ensures.heard ∙ c.in-Ok-DelayReq.is ∙ ap (λ (h : Heard). Ok h) c.in-Ok-DelayReq.field-0-is) refl refl)
+returns-in-Ok-DelayReq-clause-replied g c = (
+  [],
+  ignored_is c.args.config.now c.args.from c.args.bytes.now _ _ _ _
+      (sym c.in_ok-header.ensures.heard ∙ c.in-Ok-DelayReq.is ∙ ap (λ (h : Heard). Ok h) c.in-Ok-DelayReq.field-0-is) refl refl,
+)
 
 pub returns-in-Err-clause-replied : goal.returns-in-Err-clause-replied
 returns-in-Err-clause-replied g c =

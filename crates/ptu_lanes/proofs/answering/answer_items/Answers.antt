@@ -19,5 +19,5 @@ loop-item-preserved g c =
     let items : c.push.new.self.items ≡ c.loop-item.outcomes.items ++ outcome ∷ [] = c.in_ok-push.ensures.items in
     let IsDone : List Item → Type 0 = λ done. Decided c.args.config.now done c.args.seat.now c.answer_item.new.seat (c.loop-item.outcomes.items ++ outcome ∷ []) in
     rw items (subst IsDone (sym (take_more c.args.items.now i _ c.loop-item-test.true))
-        (one_more c.args.config.now (take i c.args.items.now) _ c.args.seat.now c.loop-item.seat c.answer_item.new.seat c.loop-item.outcomes.items outcome
-        c.loop-item.invariant c.in_ok-answer_item.ensures.item c.in_ok-answer_item.ensures.answered))
+    (one_more c.args.config.now (take i c.args.items.now) _ c.args.seat.now c.loop-item.seat c.answer_item.new.seat c.loop-item.outcomes.items outcome
+    c.loop-item.invariant c.in_ok-answer_item.ensures.item c.in_ok-answer_item.ensures.answered))

@@ -11,9 +11,12 @@ returns-in_ok-answered-in-Ok-Some-clause-served g c =
     let e : Exchange = record {
       datagram = record { ip = c.in-Ok-Some.from; bytes = take c.in-Ok-Some.size c.receive.new.buf };
       answers = replied.0;
-    } in
-    (e ∷ [], refl, served_received c.args.config.now e _ _ _ _ _ _ _ _ _ _ _ _ _ _
-      (rw c.in-Ok-Some.field-0-is at received.first) (rw c.in-Ok-Some.field-0-is at received.rest) received.sent received.quiet c.in_ok-answered-in-Ok-Some.ensures.waiting replied.1)
+    } in (
+      e ∷ [],
+      refl,
+      served_received c.args.config.now e _ _ _ _ _ _ _ _ _ _ _ _ _ _
+          (rw c.in-Ok-Some.field-0-is at received.first) (rw c.in-Ok-Some.field-0-is at received.rest) received.sent received.quiet c.in_ok-answered-in-Ok-Some.ensures.waiting replied.1,
+    )
 
 pub returns-in-Ok-None-clause-served : goal.returns-in-Ok-None-clause-served
 returns-in-Ok-None-clause-served g c =
