@@ -4,8 +4,6 @@ use Rattle.std.specs.Prelude.{◌==◌, if◌then◌else◌, Bool}
 use Rattle.std.proofs.lemmas.List.{map-append}
 use Rattle.std.proofs.lemmas.List.Sums.{sum_by-append, sum_by-cons}
 use Rattle.ptu_header.specs.declared.header.Header.{Header}
-use Rattle.ptu_outside.specs.Departure.{Departure}
-use Rattle.ptu_outside.specs.declared.arrival.Arrival.{Arrival}
 use Rattle.ptu_history.specs.Verdict.{profile}
 use Rattle.ptu_tlvs.specs.declared.tlv.Tlv.{Tlv}
 use Rattle.ptu_messages.specs.declared.message.Body.{Body}
@@ -22,11 +20,11 @@ use Rattle.ptu_items.specs.declared.item.Item.TheVariants.{Request, Cancel}
 use Rattle.ptu_items.specs.declared.reason.GmReason.{GmReason}
 use Rattle.ptu_items.specs.declared.reason.GmReason.TheVariants as reasons
 use Rattle.ptu_items.specs.Deciding.{answer_to, asked_by}
-use Rattle.ptu_items.specs.Items.{heard_by, heard_in, in_domain, items_by, items_in, of_message, with_items}
+use Rattle.ptu_items.specs.Items.{heard_by, heard_in, items_by, items_in, of_message, with_items}
 use Rattle.ptu_items.specs.Replies.{reply_to}
 use Rattle.ptu_grandmaster.specs.declared.outcome.Outcome.{Outcome}
 use Rattle.ptu_grandmaster.specs.Outcomes.{answers_seen, decision_seen, item_seen}
-use Rattle.ptu_lanes.specs.Answers.{FitEach, Fits, HasAnswered, ask_count, asks_among, grants_among, grant_count, one_if_ok}
+use Rattle.ptu_lanes.specs.Answers.{FitEach, HasAnswered, ask_count, asks_among, grants_among, grant_count, one_if_ok}
 use Rattle.ptu_lanes.specs.Rounds.{found_items, reply_if_any}
 
 fit-append : (config : GmConfig) (xs : List Item) (ts : List Tlv) (ys : List Item) (bs : List Tlv) →

@@ -1,7 +1,6 @@
 -- What a lane has served, call by call.
-use Rattle.std.proofs.Common.{◌≡◌, ◌∙◌, ◌⊎◌, inl, inr, ℕ, suc, zero, ◌+◌, ◌-◌, ◌*◌, ◌^◌, ◌≤◌, ◌<◌, ◌++◌, List, [], ◌∷◌, length, length-append, map, take, drop, refl, sym, ap, subst, append_assoc, arith, Option, Some, None, Result, Ok, Err}
+use Rattle.std.proofs.Common.{◌≡◌, ◌∙◌, ◌⊎◌, inl, inr, ℕ, suc, zero, ◌+◌, ◌-◌, ◌^◌, ◌≤◌, ◌++◌, List, [], ◌∷◌, length, length-append, take, drop, refl, sym, ap, subst, append_assoc, arith, Option, Some, None, Result, Ok, Err}
 use Rattle.std.specs.Prelude.{IfOk, IfSome}
-use Rattle.std.specs.List.{All, flat_map}
 use Rattle.std.proofs.lemmas.List.{append-nil, length-map, map-append, take_all}
 use Rattle.std.proofs.lemmas.List.Elements.{All-append, All-cons, All-nil}
 use Rattle.std.proofs.lemmas.List.Sums.{sum_by-append}
@@ -26,7 +25,7 @@ use Rattle.ptu_items.specs.declared.reason.GmReason.{GmReason}
 use Rattle.ptu_items.specs.declared.item.Item.{Item}
 use Rattle.ptu_items.specs.Items.{heard_in, items_in}
 use Rattle.ptu_lanes.specs.Answers.{HasAnswered, asks_among, grants_among}
-use Rattle.ptu_lanes.specs.Rounds.{Exchange, HasReplied, HasServed, IsAnswered, IsRound, asks_in, datagrams, found_items, grants_in, items_of, replies, reply_if_any, reply_in, reply_with}
+use Rattle.ptu_lanes.specs.Rounds.{Exchange, HasReplied, HasServed, IsAnswered, IsRound, asks_in, datagrams, found_items, items_of, replies, reply_if_any, reply_in, reply_with}
 use Rattle.ptu_lanes.proofs.Items.{answered_none, asks-le, heard_items, items_heard}
 
 -- ---- counts of faults

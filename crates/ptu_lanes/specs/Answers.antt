@@ -1,6 +1,6 @@
 -- What may answer the items of a datagram where the tables stand behind locks, and what is counted of it (IEEE 1588-2019
 -- clause 16.1.4).
-use Rattle.std.specs.Prelude.{◌≡◌, ◌⊎◌, ℕ, ◌+◌, ◌≤◌, min, Bool, false, if◌then◌else◌, List, [], ◌∷◌, Result, Ok, Err, IsOk}
+use Rattle.std.specs.Prelude.{◌≡◌, ◌⊎◌, ℕ, ◌+◌, ◌≤◌, min, if◌then◌else◌, List, [], ◌∷◌, Result, Ok, Err, IsOk}
 use Rattle.std.specs.List.{sum_by}
 use Rattle.ptu_history.specs.Verdict.{profile}
 use Rattle.ptu_tlvs.specs.declared.tlv.Ask.{Ask}

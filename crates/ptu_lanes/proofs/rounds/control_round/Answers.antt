@@ -1,4 +1,4 @@
-use Rattle.std.proofs.Common.{◌≡◌, ◌∙◌, ℕ, ◌+◌, ◌≤◌, ◌++◌, [], length, length-append, refl, ap, inl, inr, arith}
+use Rattle.std.proofs.Common.{◌≡◌, ◌∙◌, ◌++◌, [], length, length-append, refl, inl, arith}
 use Rattle.ptu_lanes.proofs.Serving.{nothing_yet, round_is, round_over, served-append}
 use Rattle.ptu_lanes.proofs.rounds.control_round.Goals as goal
 

@@ -1,4 +1,4 @@
-use Rattle.std.proofs.Common.{◌≡◌, [], ◌∷◌, take, refl, inl, arith}
+use Rattle.std.proofs.Common.{[], ◌∷◌, take, refl, inl, arith}
 use Rattle.ptu_lanes.specs.Rounds.{Exchange}
 use Rattle.ptu_lanes.proofs.Serving.{served_nothing, served_received}
 use Rattle.ptu_lanes.proofs.rounds.take_one.Goals as goal
