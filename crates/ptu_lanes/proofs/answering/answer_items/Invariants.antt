@@ -1,0 +1,6 @@
+use Rattle.std.proofs.Common.{take}
+use Rattle.ptu_lanes.proofs.Items.{Decided}
+use Rattle.ptu_lanes.proofs.answering.answer_items.Given as goal
+
+abbrev pub invariant-loop-item : goal.invariant-loop-item
+invariant-loop-item g l = Decided l.config (take l.item-index l.items) l.initial.seat l.seat l.outcomes.items

@@ -1,0 +1,12 @@
+use Rattle.std.proofs.Common.{◌≡◌, ◌≤◌, List, length}
+use Rattle.ptu_lanes.specs.Rounds.{Exchange, HasServed}
+use Rattle.ptu_lanes.proofs.rounds.control_round.Given as goal
+
+abbrev pub invariant-loop-i : goal.invariant-loop-i
+invariant-loop-i g l = record {
+  exchanges : List Exchange;
+  many : length exchanges ≡ l._i;
+  failed : l.control.failed ≤ l._i;
+  served : HasServed l.config exchanges (g.P.Port.waiting l.initial.port) (g.P.Port.waiting l.port) (g.P.Port.sent l.initial.port) (g.P.Port.sent l.port)
+      (g.P.Port.faults l.initial.port) (g.P.Port.faults l.port) l.initial.seat l.seat l.control.asks l.control.sent l.control.failed;
+}

@@ -1,0 +1,109 @@
+-- What a lane does that takes Signaling: the datagrams that it takes, and the replies that it sends (IEEE 1588-2019 clause
+-- 16.1; that a round takes 64 at most is the project's own choice).
+use Rattle.std.specs.Prelude.{◌≡◌, ℕ, ◌+◌, ◌*◌, ◌≤◌, List, [], ◌∷◌, ◌++◌, length, map, take, drop, Option, Some, Result, Ok, Err, IfSome}
+use Rattle.std.specs.List.{All, flat_map, sum_by}
+use Rattle.ptu_outside.specs.declared.arrival.Arrival.{Arrival}
+use Rattle.ptu_outside.specs.Departure.{Departure}
+use Rattle.ptu_outside.specs.Faults.{HasRisen, HasRisenBy, HasNotFallen}
+use Rattle.ptu_outside.specs.HandsOver.{HandsOver}
+use Rattle.ptu_header.specs.declared.header.Header.{Header}
+use Rattle.ptu_outside.specs.Telling.{IfTold, append_told}
+use Rattle.ptu_tlvs.specs.declared.tlv.Tlv.{Tlv}
+use Rattle.ptu_shard.specs.declared.config.GmConfig.{GmConfig}
+use Rattle.ptu_shared.specs.Seats.{Counts}
+use Rattle.ptu_items.specs.declared.heard.Heard.{Heard}
+use Rattle.ptu_items.specs.declared.heard.Heard.TheVariants as heard
+use Rattle.ptu_items.specs.declared.item.Item.{Item}
+use Rattle.ptu_items.specs.declared.reason.GmReason.{GmReason}
+use Rattle.ptu_items.specs.Items.{heard_in, items_in}
+use Rattle.ptu_items.specs.Replies.{reply_to}
+use Rattle.ptu_lanes.specs.Answers.{FitEach, HasAnswered, asks_among, grants_among}
+
+-- the items that were found; there is none where the datagram is ignored
+abbrev pub found_items : Result (List Item) GmReason → List Item
+found_items (Ok items) = items
+found_items (Err reason) = []
+
+-- the items of a datagram
+abbrev pub items_of : GmConfig → Arrival → List Item
+items_of config datagram = found_items (items_in config datagram.bytes)
+
+-- a datagram that was taken, and what answers its items
+pub record Exchange : Type 0 where
+  pub datagram : Arrival
+  pub answers : List Tlv
+
+-- there is one answer for each item, in order
+abbrev pub IsAnswered : GmConfig → Exchange → Type 0
+IsAnswered config exchange = FitEach config (items_of config exchange.datagram) exchange.answers
+
+-- the reply with these answers to a Signaling with this header; without answers there is none
+abbrev pub reply_if_any : GmConfig → ℕ → Header → List Tlv → List Departure
+reply_if_any config from header [] = []
+reply_if_any config from header (answer ∷ answers) = reply_to config from header (answer ∷ answers) ∷ []
+
+-- likewise to what was heard from the address
+abbrev pub reply_with : GmConfig → ℕ → Result Heard GmReason → List Tlv → List Departure
+reply_with config from (Ok (heard.Asks header items)) answers = reply_if_any config from header answers
+reply_with config from _ answers = []
+
+-- the reply to a datagram
+abbrev pub reply_in : GmConfig → Exchange → List Departure
+reply_in config exchange =
+    reply_with config exchange.datagram.ip (heard_in config exchange.datagram.bytes) exchange.answers
+
+-- the replies, in order
+abbrev pub replies : GmConfig → List Exchange → List Departure
+replies config exchanges = flat_map (reply_in config) exchanges
+
+-- the datagrams, in order
+abbrev pub datagrams : List Exchange → List Arrival
+datagrams exchanges = map (λ e. e.datagram) exchanges
+
+-- how many asks within the profile are in these datagrams
+abbrev pub asks_in : GmConfig → List Arrival → ℕ
+asks_in config arrivals = sum_by (λ d. asks_among (items_of config d)) arrivals
+
+-- how many grants are in the answers
+abbrev pub grants_in : List Exchange → ℕ
+grants_in exchanges = sum_by (λ e. grants_among e.answers) exchanges
+
+-- the items of the exchange's datagram were answered so, and the reply was sent or its send failed: what was sent at the
+-- port, where it tells that, its count of faults, and what the lane's seat has counted, before and after
+pub record HasReplied (config : GmConfig) (exchange : Exchange) (before after : Option (List Departure)) (faults now : ℕ) (old new : Counts) (asks sent failed : ℕ) : Type 0 where
+  pub answered : HasAnswered config (items_of config exchange.datagram) exchange.answers old new
+  pub asks_are : new.granted + new.refused ≡ old.granted + old.refused + asks
+  pub few : length (items_of config exchange.datagram) ≤ 32
+  pub hands : HandsOver before after faults now (reply_in config exchange) sent failed
+
+-- a lane has had these exchanges: what waited at its port and what was sent there, where it tells that, the port's count of
+-- faults, and what its seat has counted, before and after; so many asks were decided, so many replies were sent, and so many
+-- calls of the port failed
+pub record HasServed (config : GmConfig) (exchanges : List Exchange) (waiting left : Option (List Arrival)) (before after : Option (List Departure)) (faults now : ℕ) (old new : Counts) (asks sent failed : ℕ) : Type 0 where
+  pub given : IfSome left (λ later. waiting ≡ Some (datagrams exchanges ++ later))
+  pub answered : All (IsAnswered config) exchanges
+  pub granted : new.granted ≡ old.granted + grants_in exchanges
+  pub refused : old.refused ≤ new.refused
+  pub counted : new.granted + new.refused ≡ old.granted + old.refused + asks
+  pub asks_are : asks ≡ asks_in config (datagrams exchanges)
+  pub few : asks ≤ 32 * length exchanges
+  pub at_most : sent ≤ length exchanges
+  pub risen : HasRisenBy failed faults now
+  pub no_fall : HasNotFallen faults now
+  -- where the count did not rise, each reply was sent
+  pub sent_are : ¬ HasRisen faults now → sent ≡ length (replies config exchanges)
+  pub told : ¬ HasRisen faults now → IfTold after (append_told before (replies config exchanges))
+
+-- a round at a port that tells what waits: it took the first 64 datagrams, or all where there are fewer, and sent one reply
+-- for each that has an item, in order, and nothing else
+pub record IsRound (config : GmConfig) (waiting : Option (List Arrival)) (left : List Arrival) (before after : Option (List Departure)) (granted now asks sent : ℕ) : Type 0 where
+  pub waited : List Arrival
+  pub all : waiting ≡ Some waited
+  pub exchanges : List Exchange
+  pub first : datagrams exchanges ≡ take 64 waited
+  pub rest : left ≡ drop 64 waited
+  pub answered : All (IsAnswered config) exchanges
+  pub told : IfTold after (append_told before (replies config exchanges))
+  pub sent_are : sent ≡ length (replies config exchanges)
+  pub asks_are : asks ≡ asks_in config (take 64 waited)
+  pub granted_are : now ≡ granted + grants_in exchanges

@@ -1,0 +1,206 @@
+//! Answers to the datagrams that a lane takes.
+
+ghost use Rattle.std.specs.Prelude.{◌≡◌, ◌+◌, ◌^◌, ◌<◌, ◌≤◌, List, [], ◌∷◌, length, map, IfOk};
+ghost use Rattle.ptu_outside.specs.HandsOver.{HandsOver};
+ghost use Rattle.ptu_shard.specs.Config.{IsWithinLimits};
+ghost use Rattle.ptu_tlvs.specs.declared.tlv.Tlv.{Tlv};
+ghost use Rattle.ptu_items.specs.Deciding.{answer_to, client_of};
+ghost use Rattle.ptu_items.specs.Items.{AreAnswerable};
+ghost use Rattle.ptu_grandmaster.specs.Outcomes.{answers_seen, decision_seen, item_seen};
+ghost use Rattle.ptu_lanes.specs.Answers.{HasAnswered};
+ghost use Rattle.ptu_lanes.specs.Rounds.{HasReplied, reply_if_any};
+
+use crate::rounds::{Control, IDLE};
+use ptu_grandmaster::{Outcome, Outcomes, reply_of};
+use ptu_header::Header;
+use ptu_history::Client;
+use ptu_items::{Heard, Item, hear};
+use ptu_outside::{Channel, Port};
+use ptu_shard::GmConfig;
+use ptu_shared::{Rates, Seat, Shared};
+use ptu_units::{Kind, Moment, OutOfMemory};
+use std::alloc::Global;
+use std::sync::Wait;
+use std::sync::ledger::Ledger;
+
+// Ends the client's grant of the kind with this messageType, if a kind has it.
+fn end<P: Port + Send, L: Rates, G: Ledger, R: Ledger>(
+    rt: &impl Wait,
+    shared: &Shared<P, L, G, R>,
+    t: Moment,
+    client: &Client,
+    code: u8,
+) -> Outcome
+    ensures item { item_seen result ≡ Item.Cancel code }
+    ensures answer { answer_to (decision_seen result) ≡ Tlv.Ack code }
+{
+    let cancelled = match Kind::of(code) {
+        Some(kind) => Some(shared.cancel(rt, t, client, kind)),
+        None => None,
+    };
+    Outcome::Cancel(code, cancelled)
+}
+
+// Decides an item of the client at the shared tables.
+fn answer_item<P: Port + Send, L: Rates, G: Ledger, R: Ledger>(
+    rt: &impl Wait,
+    shared: &Shared<P, L, G, R>,
+    seat: &mut Seat<G, R>,
+    config: &GmConfig,
+    t: Moment,
+    client: &Client,
+    item: Item,
+) -> Result<Outcome, OutOfMemory>
+    requires ledger { L.parts ≡ 4 }
+    requires limits { IsWithinLimits config.now }
+    requires counts { (seat.old.granted < 2 ^ 48) × (seat.old.refused < 2 ^ 48) }
+    ensures item { IfOk result (λ o. item_seen o ≡ item) }
+    ensures answered { IfOk result (λ o. HasAnswered config.now (item ∷ [])
+        (answer_to (decision_seen o) ∷ []) seat.old seat.new) }
+{
+    match item {
+        Item::Request(ask) => {
+            let verdict = shared.admit(rt, seat, config, t, client, &ask)?;
+            Ok(Outcome::Verdict(ask, verdict))
+        }
+        Item::Cancel(code) => Ok(end(rt, shared, t, client, code)),
+    }
+}
+
+// Decides the items of the client at the shared tables, in order.
+fn answer_items<P: Port + Send, L: Rates, G: Ledger, R: Ledger>(
+    rt: &impl Wait,
+    alloc: Global,
+    shared: &Shared<P, L, G, R>,
+    seat: &mut Seat<G, R>,
+    config: &GmConfig,
+    t: Moment,
+    client: &Client,
+    items: &[Item],
+) -> Result<Outcomes, OutOfMemory>
+    requires ledger { L.parts ≡ 4 }
+    requires limits { IsWithinLimits config.now }
+    requires few { length items.now ≤ 32 }
+    requires counts { (seat.old.granted + 32 ≤ 2 ^ 48) × (seat.old.refused + 32 ≤ 2 ^ 48) }
+    ensures items { IfOk result (λ os. map item_seen os ≡ items.now) }
+    ensures answered { IfOk result (λ os.
+        HasAnswered config.now items.now (answers_seen os) seat.old seat.new) }
+{
+    let mut outcomes = Vec::new(alloc);
+    for item in items {
+        outcomes.push(answer_item(rt, shared, seat, config, t, client, *item)?)?;
+    }
+    Ok(Outcomes::new(outcomes))
+}
+
+// The client of a message with this header, which came from this IPv4 address.
+fn client(from: u32, header: &Header) -> Client
+    ensures { result ≡ client_of from header.now }
+{
+    Client {
+        ip: from,
+        clock: header.source.clock,
+        port: header.source.port,
+    }
+}
+
+// Sends the reply to a Signaling with this header, which came from this IPv4 address. Without
+// outcomes there is none. Gives how many were sent and how many sends failed.
+fn send_reply<P: Port>(
+    port: &mut P,
+    config: &GmConfig,
+    from: u32,
+    header: &Header,
+    outcomes: &Outcomes,
+) -> (u64, u64)
+    requires { AreAnswerable (map item_seen outcomes.now) }
+    ensures sends { HandsOver (P.sent port.old) (P.sent port.new) (P.faults port.old)
+        (P.faults port.new) (reply_if_any config.now from header.now (answers_seen outcomes.now))
+        result.0 result.1 }
+    ensures waiting { P.waiting port.new ≡ P.waiting port.old }
+{
+    if outcomes.list().is_empty() {
+        return (0, 0);
+    }
+    let mut out = [0; 428];
+    let size = reply_of(config, &header.source, header.sequence, outcomes, &mut out);
+    match port.send(from, Channel::General, &out[..size]) {
+        Ok(()) => (1, 0),
+        Err(_) => (0, 1),
+    }
+}
+
+// Answers a Signaling with this header: all its items, and then one reply.
+fn answer_signaling<P: Port + Send, L: Rates, G: Ledger, R: Ledger>(
+    rt: &impl Wait,
+    alloc: Global,
+    shared: &Shared<P, L, G, R>,
+    seat: &mut Seat<G, R>,
+    config: &GmConfig,
+    port: &mut P,
+    t: Moment,
+    from: u32,
+    header: &Header,
+    items: &[Item],
+) -> Result<Control, OutOfMemory>
+    requires ledger { L.parts ≡ 4 }
+    requires limits { IsWithinLimits config.now }
+    requires answerable { AreAnswerable items.now }
+    requires counts { (seat.old.granted + 32 ≤ 2 ^ 48) × (seat.old.refused + 32 ≤ 2 ^ 48) }
+    ensures answered { IfOk result (λ c. (answers : List Tlv)
+        × HasAnswered config.now items.now answers seat.old seat.new
+        × HandsOver (P.sent port.old) (P.sent port.new) (P.faults port.old) (P.faults port.new)
+        (reply_if_any config.now from header.now answers) c.sent c.failed) }
+    ensures asks { IfOk result (λ c. seat.new.granted + seat.new.refused
+        ≡ seat.old.granted + seat.old.refused + c.asks) }
+    ensures waiting { P.waiting port.new ≡ P.waiting port.old }
+{
+    let before = seat.granted() + seat.refused();
+    let client = client(from, header);
+    let outcomes = answer_items(rt, alloc, shared, seat, config, t, &client, items)?;
+    let (sent, failed) = send_reply(port, config, from, header, &outcomes);
+    Ok(Control {
+        asks: seat.granted() + seat.refused() - before,
+        sent,
+        failed,
+    })
+}
+
+// Answers a datagram that came from this IPv4 address. Whatever is no Signaling is ignored.
+pub(crate) fn answer_datagram<P: Port + Send, L: Rates, G: Ledger, R: Ledger>(
+    rt: &impl Wait,
+    alloc: Global,
+    shared: &Shared<P, L, G, R>,
+    seat: &mut Seat<G, R>,
+    config: &GmConfig,
+    port: &mut P,
+    t: Moment,
+    from: u32,
+    bytes: &[u8],
+) -> Result<Control, OutOfMemory>
+    requires ledger { L.parts ≡ 4 }
+    requires limits { IsWithinLimits config.now }
+    requires counts { (seat.old.granted + 32 ≤ 2 ^ 48) × (seat.old.refused + 32 ≤ 2 ^ 48) }
+    ensures replied { IfOk result (λ c. (answers : List Tlv) × HasReplied config.now
+        (record { datagram = record { ip = from; bytes = bytes.now }; answers = answers })
+        (P.sent port.old) (P.sent port.new) (P.faults port.old) (P.faults port.new)
+        seat.old seat.new c.asks c.sent c.failed) }
+    ensures waiting { P.waiting port.new ≡ P.waiting port.old }
+{
+    match hear(alloc, config, bytes)? {
+        Ok(Heard::Asks(header, items)) => answer_signaling(
+            rt,
+            alloc,
+            shared,
+            seat,
+            config,
+            port,
+            t,
+            from,
+            &header,
+            items.list(),
+        ),
+        Ok(Heard::DelayReq(_)) => Ok(IDLE),
+        Err(_) => Ok(IDLE),
+    }
+}

@@ -1,0 +1,174 @@
+ghost use Rattle.std.specs.Prelude.{◌≡◌, ◌≤◌, length, IfOk};
+ghost use Rattle.ptu_admit.specs.Book.{IsCapacity};
+
+use super::*;
+use ptu_header::PortIdentity;
+use ptu_outside::{Arrival, Channel, Datagram, MemClock, MemPort};
+use ptu_shard::GmConfig;
+use ptu_shared::{Rates, Seat, Shared};
+use std::alloc::Global;
+use std::marker::Brand;
+use std::process::Abort;
+use std::sync::Wait;
+use std::sync::ledger::{Blank, Ledger};
+use std::test::Fail;
+
+const CONFIG: GmConfig = GmConfig {
+    identity: PortIdentity {
+        clock: 0x0a00_0000_0000_0001,
+        port: 1,
+    },
+    domain: 4,
+    class: 84,
+    max_duration: 300,
+    epoch: 0,
+};
+
+// The address of a client.
+const CLIENT: u32 = 0x0a00_0111;
+
+// Its REQUEST of Announce at logarithm 1 for 300 s, to every port.
+const REQUEST: &str = "0c120036040004000000000000000000000000000a000000000000110001\
+                       0000057fffffffffffffffffffff00040006b0010000012c";
+
+// Its Signaling without TLVs.
+const EMPTY: &str = "0c12002c040004000000000000000000000000000a000000000000110001\
+                     0000057fffffffffffffffffffff";
+
+// The grant of what it asks for.
+const GRANT: &str = "0c120038040004000000000000000000000000000a0000000000000100010000\
+                     057f0a00000000000011000100050008b0010000012c0001";
+
+fn arrival(alloc: Global, datagram: &str) -> Result<Arrival, Fail>
+    ensures { IfOk result (λ a. length a.bytes ≤ 2048) }
+{
+    let bytes = hex::decode(alloc, datagram)?;
+    if bytes.len() > 2048 {
+        return Err(Fail::new("a datagram has at most 2048 octets"));
+    }
+    Ok(Arrival {
+        ip: CLIENT,
+        bytes: Datagram::new(bytes),
+    })
+}
+
+// A port at which the Signaling without TLVs waits, and then the REQUEST. It fails at the listed
+// sends.
+fn port(alloc: Global, fails: Vec<u64>) -> Result<MemPort, Fail> {
+    let waiting = vec![in alloc; arrival(alloc, EMPTY)?, arrival(alloc, REQUEST)?]?;
+    let mut port = MemPort::new(alloc, waiting, fails, Vec::new(alloc));
+    port.reserve(2, 2 * 64)?;
+    Ok(port)
+}
+
+// Shared tables over ports in memory.
+fn open<L: Rates, G: Ledger, R: Ledger>(
+    alloc: Global,
+    rates: Blank,
+    granted: Blank,
+    refused: Blank,
+    capacity: u64,
+) -> Result<(Shared<MemPort, L, G, R>, Vec<Seat<G, R>>), Fail>
+    requires rates { (rates.name ≡ L.name) × (rates.parts ≡ L.parts) × (L.parts ≡ 4) }
+    requires granted { (granted.name ≡ G.name) × (granted.parts ≡ G.parts)
+        × (G.parts ≡ L.seats) }
+    requires refused { (refused.name ≡ R.name) × (refused.parts ≡ R.parts)
+        × (R.parts ≡ L.seats) }
+    requires capacity { IsCapacity capacity }
+    requires most { capacity ≤ L.most }
+    requires seats { L.seats ≡ 1 }
+{
+    let p0 = MemPort::new(alloc, Vec::new(alloc), Vec::new(alloc), Vec::new(alloc));
+    let p1 = MemPort::new(alloc, Vec::new(alloc), Vec::new(alloc), Vec::new(alloc));
+    let p2 = MemPort::new(alloc, Vec::new(alloc), Vec::new(alloc), Vec::new(alloc));
+    let p3 = MemPort::new(alloc, Vec::new(alloc), Vec::new(alloc), Vec::new(alloc));
+    Ok(Shared::new(alloc, rates, granted, refused, capacity, 1, p0, p1, p2, p3)?)
+}
+
+// A round at this port.
+fn round<L: Rates, G: Ledger, R: Ledger, W: Wait + Abort>(
+    rt: &W,
+    alloc: Global,
+    shared: &Shared<MemPort, L, G, R>,
+    seats: &mut [Seat<G, R>],
+    port: &mut MemPort,
+) -> Control
+    requires { L.parts ≡ 4 }
+{
+    assert_eq!(rt; seats.len(), 1);
+    let seat = &mut seats[0];
+    assert!(rt; seat.granted() <= 1 << 47 && seat.refused() <= 1 << 47);
+    let mut clock = MemClock::new(Vec::new(alloc));
+    let control = control_round(rt, alloc, shared, seat, &CONFIG, port, &mut clock);
+    control.expect(rt, "memory is found")
+}
+
+// The REQUEST is granted, and the Signaling without TLVs gets no reply. Then a send fails.
+fn ask_twice<L: Rates, G: Ledger, R: Ledger, W: Wait + Abort>(
+    rt: &W,
+    alloc: Global,
+    shared: &Shared<MemPort, L, G, R>,
+    seats: &mut [Seat<G, R>],
+    port: &mut MemPort,
+    failing: &mut MemPort,
+    grant: &[u8],
+)
+    requires { L.parts ≡ 4 }
+{
+    let sent = Control {
+        asks: 1,
+        sent: 1,
+        failed: 0,
+    };
+    assert_eq!(rt; round(rt, alloc, shared, seats, port), sent);
+    let reply = port.sent(0).expect(rt, "a reply is sent");
+    assert_eq!(rt; (reply.0, reply.1), (CLIENT, Channel::General));
+    assert_eq!(rt; reply.2, grant);
+    assert!(rt; port.sent(1).is_none());
+    let failed = Control {
+        asks: 1,
+        sent: 0,
+        failed: 1,
+    };
+    assert_eq!(rt; round(rt, alloc, shared, seats, failing), failed);
+    assert!(rt; failing.sent(0).is_none());
+}
+
+fn asking<L: Rates, G: Ledger, R: Ledger, W: Wait + Abort>(
+    rt: &W,
+    alloc: Global,
+    rates: Blank,
+    granted: Blank,
+    refused: Blank,
+    capacity: u64,
+) -> Result<(), Fail>
+    requires rates { (rates.name ≡ L.name) × (rates.parts ≡ L.parts) × (L.parts ≡ 4) }
+    requires granted { (granted.name ≡ G.name) × (granted.parts ≡ G.parts)
+        × (G.parts ≡ L.seats) }
+    requires refused { (refused.name ≡ R.name) × (refused.parts ≡ R.parts)
+        × (R.parts ≡ L.seats) }
+    requires capacity { IsCapacity capacity }
+    requires most { capacity ≤ L.most }
+    requires seats { L.seats ≡ 1 }
+{
+    let grant = hex::decode(alloc, GRANT)?;
+    let mut first = port(alloc, Vec::new(alloc))?;
+    let mut failing = port(alloc, vec![in alloc; 1]?)?;
+    let (shared, mut seats) = open::<L, G, R>(alloc, rates, granted, refused, capacity)?;
+    ask_twice(
+        rt,
+        alloc,
+        &shared,
+        seats.as_mut_slice(),
+        &mut first,
+        &mut failing,
+        &grant,
+    );
+    Ok(())
+}
+
+#[test]
+fn a_request_is_answered_once(rt: HostRuntime) -> Result<(), Fail> {
+    let (rates, granted, refused) = (Blank::new(4), Blank::new(1), Blank::new(1));
+    asking::<Brand, Brand, Brand, HostRuntime>(&rt, rt.alloc(), rates, granted, refused, 8)
+}
