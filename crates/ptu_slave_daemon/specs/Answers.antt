@@ -1,0 +1,29 @@
+-- What each answer of a slave's daemon says.
+use Rattle.std.specs.Prelude.{◌≡◌, ℕ, List, map, Option, Some, IfSome, Result, Ok, Err}
+use Rattle.ptu_outside.specs.declared.opened.Opened.{Opened}
+use Rattle.ptu_outside.specs.Faults.{HasRisen}
+use Rattle.ptu_outside.specs.Telling.{IfTold}
+use Rattle.ptu_rounds.specs.declared.fault.DaemonFault.{DaemonFault}
+use Rattle.ptu_rounds.specs.declared.fault.DaemonFault.TheVariants.{Open, Write, OutOfMemory}
+
+-- the count of faults of the host rose exactly where it opened nothing
+abbrev pub CountsOpen : {A : Type 0} → Result A DaemonFault → ℕ → ℕ → Type 0
+CountsOpen (Ok x) old new = new ≡ old
+CountsOpen (Err Open) old new = HasRisen old new
+CountsOpen (Err Write) old new = new ≡ old
+CountsOpen (Err OutOfMemory) old new = new ≡ old
+
+-- the count of faults of the sink rose exactly where the output was not written
+abbrev pub CountsWrite : {A : Type 0} → Result A DaemonFault → ℕ → ℕ → Type 0
+CountsWrite (Ok x) old new = new ≡ old
+CountsWrite (Err Open) old new = new ≡ old
+CountsWrite (Err Write) old new = HasRisen old new
+CountsWrite (Err OutOfMemory) old new = new ≡ old
+
+-- these were opened, as far as it was told what would be
+abbrev pub WasOpened : {P C : Type 0} → Option (Opened P C) → Opened P C → Type 0
+WasOpened told opened = IfSome told (λ ports. opened ≡ ports)
+
+-- these were given back last, as far as that is told
+abbrev pub WasGivenBack : {P C : Type 0} → Option (Opened P C) → Opened P C → Type 0
+WasGivenBack told opened = IfTold told (Some opened)

@@ -1,0 +1,5 @@
+pub mod Opening
+pub mod Happenings
+pub mod Lines
+pub mod Served
+pub mod Answers

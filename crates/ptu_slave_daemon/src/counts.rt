@@ -1,0 +1,19 @@
+/// How many datagrams were sent, and how many sends and receives failed.
+#[derive(Clone, Copy, Debug, PartialEq, Eq)]
+pub(crate) struct Counts {
+    pub sent: u128,
+    pub failed: u128,
+}
+
+impl Counts {
+    /// Nothing was handed to a port.
+    pub fn new() -> Counts {
+        Counts { sent: 0, failed: 0 }
+    }
+
+    /// Counts so many more.
+    pub fn add(&mut self, sent: u64, failed: u64) {
+        self.sent += sent as u128;
+        self.failed += failed as u128;
+    }
+}
