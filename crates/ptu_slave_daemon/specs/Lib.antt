@@ -3,3 +3,4 @@ pub mod Happenings
 pub mod Lines
 pub mod Served
 pub mod Answers
+pub mod Running

@@ -37,6 +37,10 @@ abbrev pub changes : Option (Option ℕ) → List Selection → List Selection
 changes said [] = []
 changes said (s ∷ later) = cond (is_said said s.master) (changes said later) (s ∷ changes (Some s.master) later)
 
+-- what is written of one more
+abbrev pub said_next : Option (Option ℕ) → Selection → List Selection
+said_next said s = cond (is_said said s.master) [] (s ∷ [])
+
 abbrev pub selected_line : Selection → SlaveLine
 selected_line s = Selected s.round s.master
 

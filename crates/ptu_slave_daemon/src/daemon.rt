@@ -4,43 +4,47 @@ ghost use Rattle.ptu_outside.specs.Handing.{HasPutPart};
 ghost use Rattle.ptu_config.specs.Limits.{IsSlaveInRange};
 ghost use Rattle.ptu_judges.specs.Held.{IsStock};
 ghost use Rattle.ptu_slave_daemon.specs.declared.line.SlaveLine.{SlaveLine};
-ghost use Rattle.ptu_slave_daemon.specs.Answers.{CountsOpen, CountsWrite, WasGivenBack, WasOpened};
+ghost use Rattle.ptu_slave_daemon.specs.Answers.{CountsOpen, CountsWrite, FailsWith, WasGivenBack, WasOpened};
 ghost use Rattle.ptu_slave_daemon.specs.Lines.{texts_of};
 ghost use Rattle.ptu_slave_daemon.specs.Opening.{are_enough};
 ghost use Rattle.ptu_slave_daemon.specs.Served.{AreAside, HasServed};
 
-use crate::counts::Counts;
+use crate::halt::Halt;
 use crate::opening::open_slave;
-use crate::rounds::{finish, run_rounds};
+use crate::rounds::run;
 use ptu_config::SlaveSettings;
 use ptu_judges::Stock;
-use ptu_outside::{Clock, Host, Opened, Port, Sink};
+use ptu_outside::{Clock, Failed, Host, Opened, Port, Sink};
 use ptu_rounds::DaemonFault;
-use ptu_slave::Slave;
+use ptu_units::OutOfMemory;
 use std::alloc::Global;
 
-// The whole run of a slave.
-fn run<P: Port, C: Clock, K: Sink>(
-    alloc: Global,
-    rounds: u32,
-    slave: &mut Slave<P>,
-    event: &mut P,
-    clock: &mut C,
-    sink: &mut K,
-) -> Result<(), DaemonFault> {
-    let mut counts = Counts::new();
-    run_rounds(alloc, rounds, slave, event, clock, &mut counts, sink)?;
-    finish(alloc, rounds, slave, clock, &mut counts, sink)
-}
-
-// The run over ports and clocks that were opened, which are handed back.
+// The run over ports and clocks that were opened, which are handed back, with whether the sink
+// failed.
 fn run_over<P: Port, C: Clock, K: Sink>(
     alloc: Global,
     settings: &SlaveSettings,
     stock: Stock,
     opened: Opened<P, C>,
     sink: &mut K,
-) -> Result<(Opened<P, C>, Result<(), DaemonFault>), DaemonFault> {
+) -> Result<(Opened<P, C>, Result<(), Failed>), OutOfMemory>
+    requires range { IsSlaveInRange settings.now }
+    requires stock { IsStock (map (λ j. held (j.vtable, j.value)) stock.flags.items)
+        (map (λ j. held (j.vtable, j.value)) stock.gaps.items) }
+    requires enough { are_enough settings.now.masters
+        (length stock.flags.items) (length stock.gaps.items) ≡ true }
+    ensures aside { IfOk result (λ pair. AreAside P.sent opened pair.0) }
+    ensures served { IfOk result (λ pair. OnOk pair.1
+        (HasServed P.sent P.waiting P.faults C.moments K.written K.handed
+        settings.now opened pair.0 sink.old sink.new)) }
+    ensures part { IfOk result (λ pair. OnErr pair.1 ((lines : List SlaveLine)
+        × HasPutPart K.written K.handed sink.old sink.new (texts_of lines))) }
+    ensures counts { IfOk result (λ pair. FailsWith pair.1 (K.faults sink.old)
+        (K.faults sink.new)) }
+    ensures stopped { OnErr result ((lines : List SlaveLine)
+        × HasPutPart K.written K.handed sink.old sink.new (texts_of lines)) }
+    ensures still { OnErr result (K.faults sink.new ≡ K.faults sink.old) }
+{
     let Opened {
         p0,
         p1,
@@ -64,6 +68,11 @@ fn run_over<P: Port, C: Clock, K: Sink>(
         &mut c0,
         sink,
     );
+    let written = match answer {
+        Ok(()) => Ok(()),
+        Err(Halt::Write) => Err(Failed),
+        Err(Halt::OutOfMemory) => return Err(OutOfMemory),
+    };
     let back = Opened {
         p0,
         p1,
@@ -78,7 +87,7 @@ fn run_over<P: Port, C: Clock, K: Sink>(
         c4,
         c5,
     };
-    Ok((back, answer))
+    Ok((back, written))
 }
 
 /// Runs a slave with these settings, which are in their ranges, over the ports and clocks of a
@@ -131,10 +140,12 @@ pub fn slave<H: Host, K: Sink>(
     let Ok(opened) = opened else {
         return Err(DaemonFault::Open);
     };
-    let (back, answer) = run_over(alloc, settings, stock, opened, sink)?;
-    if matches!(answer, Err(DaemonFault::OutOfMemory)) {
-        return answer;
-    }
+    let Ok((back, written)) = run_over(alloc, settings, stock, opened, sink) else {
+        return Err(DaemonFault::OutOfMemory);
+    };
     host.close(back);
-    answer
+    match written {
+        Ok(()) => Ok(()),
+        Err(_) => Err(DaemonFault::Write),
+    }
 }

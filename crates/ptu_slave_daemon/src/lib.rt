@@ -5,11 +5,13 @@
 
 mod counts;
 mod daemon;
+mod halt;
 mod line;
 mod opening;
 mod rounds;
 mod steps;
 mod taking;
+mod writing;
 
 pub use daemon::slave;
 pub use line::SlaveLine;

@@ -1,7 +1,12 @@
 //! The slave that settings open.
 
-ghost use Rattle.std.specs.Prelude.{◌≡◌, length};
-ghost use Rattle.ptu_slave_daemon.specs.Opening.{are_enough};
+ghost use Rattle.std.specs.Prelude.{◌≡◌, [], length, map, true, IfOk};
+ghost use Rattle.std.specs.Option.{MatchOption};
+ghost use Rattle.ptu_config.specs.Limits.{IsSlaveInRange};
+ghost use Rattle.ptu_judges.specs.Held.{IsStock, fresh};
+ghost use Rattle.ptu_slave_messages.specs.Config.{IsWithinLimits};
+ghost use Rattle.ptu_slave_daemon.specs.Opening.{HasNone, HasTaken, are_enough, config_of, master_of, node_of, rule_of};
+ghost use Rattle.ptu_slave_daemon.specs.Running.{IsAt};
 
 use ptu_config::{MasterSetting, SlaveSettings};
 use ptu_header::PortIdentity;
@@ -24,7 +29,11 @@ pub fn has_judges(settings: &SlaveSettings, stock: &Stock) -> bool
 }
 
 // What the slave is set up with.
-fn config_of(settings: &SlaveSettings) -> SlaveConfig {
+fn new_config(settings: &SlaveSettings) -> SlaveConfig
+    requires { IsSlaveInRange settings.now }
+    ensures config { result ≡ config_of settings.now }
+    ensures limits { IsWithinLimits result }
+{
     SlaveConfig {
         identity: PortIdentity {
             clock: settings.clock,
@@ -45,7 +54,9 @@ fn config_of(settings: &SlaveSettings) -> SlaveConfig {
 }
 
 // The masters of these settings.
-fn masters_of(alloc: Global, masters: &[MasterSetting]) -> Result<Vec<Master>, OutOfMemory> {
+fn new_masters(alloc: Global, masters: &[MasterSetting]) -> Result<Vec<Master>, OutOfMemory>
+    ensures { IfOk result (λ list. list.items ≡ map master_of masters.now) }
+{
     let mut list = Vec::new(alloc);
     for master in masters {
         list.push(Master {
@@ -57,17 +68,33 @@ fn masters_of(alloc: Global, masters: &[MasterSetting]) -> Result<Vec<Master>, O
 }
 
 // Takes the last judge of a rule from the stock.
-fn take_judge(stock: &mut Stock, gap: bool) -> Option<Box<dyn Judge>> {
+fn take_judge(stock: &mut Stock, gap: bool) -> Option<Box<dyn Judge>>
+    requires { IsStock (map (λ j. held j) stock.old.flags.items)
+        (map (λ j. held j) stock.old.gaps.items) }
+    ensures { MatchOption result
+        (HasNone gap (map (λ j. held j) stock.old.flags.items)
+        (map (λ j. held j) stock.old.gaps.items))
+        (λ judge. HasTaken gap (map (λ j. held j) stock.old.flags.items)
+        (map (λ j. held j) stock.old.gaps.items) (map (λ j. held j) stock.new.flags.items)
+        (map (λ j. held j) stock.new.gaps.items) (held judge)) }
+{
     if gap { stock.gaps.pop() } else { stock.flags.pop() }
 }
 
 // A judge for each master, of the rule that its settings say.
-fn judges_of(
+fn new_judges(
     alloc: Global,
     masters: &[MasterSetting],
     mut stock: Stock,
-) -> Result<Vec<Box<dyn Judge>>, OutOfMemory> {
-    let mut judges = Vec::with_capacity(alloc, masters.len())?;
+) -> Result<Vec<Box<dyn Judge>>, OutOfMemory>
+    requires stock { IsStock (map (λ j. held j) stock.flags.items)
+        (map (λ j. held j) stock.gaps.items) }
+    requires enough { are_enough masters.now
+        (length stock.flags.items) (length stock.gaps.items) ≡ true }
+    ensures { IfOk result (λ judges. map (λ j. held j) judges.items
+        ≡ map (λ m. fresh (rule_of m)) masters.now) }
+{
+    let mut judges = Vec::new(alloc);
     for master in masters {
         if let Some(judge) = take_judge(&mut stock, master.gap) {
             judges.push(judge)?;
@@ -86,8 +113,17 @@ pub(crate) fn open_slave<P: Port>(
     settings: &SlaveSettings,
     stock: Stock,
     port: P,
-) -> Result<Slave<P>, OutOfMemory> {
-    let masters = masters_of(alloc, settings.masters.list())?;
-    let judges = judges_of(alloc, settings.masters.list(), stock)?;
-    Slave::new(alloc, config_of(settings), masters, judges, port)
+) -> Result<Slave<P>, OutOfMemory>
+    requires range { IsSlaveInRange settings.now }
+    requires stock { IsStock (map (λ j. held (j.vtable, j.value)) stock.flags.items)
+        (map (λ j. held (j.vtable, j.value)) stock.gaps.items) }
+    requires enough { are_enough settings.now.masters
+        (length stock.flags.items) (length stock.gaps.items) ≡ true }
+    ensures stands { IfOk result (λ slave. IsAt (node_of settings.now) slave.core
+        (map (λ j. held (j.vtable, j.value)) slave.judges.items) []) }
+    ensures port { IfOk result (λ slave. slave.port ≡ port) }
+{
+    let masters = new_masters(alloc, settings.masters.list())?;
+    let judges = new_judges(alloc, settings.masters.list(), stock)?;
+    Slave::new(alloc, new_config(settings), masters, judges, port)
 }

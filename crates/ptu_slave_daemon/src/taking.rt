@@ -1,5 +1,11 @@
 //! What waits on a channel is taken, at most 64 datagrams a round.
 
+ghost use Rattle.std.specs.Prelude.{◌≡◌, ◌+◌, ℕ, Bool, List, map, IfOk, OnOk};
+ghost use Rattle.ptu_outside.specs.declared.arrival.Arrival.{Arrival};
+ghost use Rattle.ptu_record.specs.Record.{Record};
+ghost use Rattle.ptu_slave_messages.specs.Node.{Node};
+ghost use Rattle.ptu_slave_daemon.specs.Running.{Counted, Grows, HasFailed, IsAt, IsFew, RoundTook, Took, TookOne, view_of};
+
 use crate::counts::Counts;
 use crate::steps::take;
 use ptu_outside::{Clock, Port};
@@ -20,7 +26,22 @@ fn take_general<P: Port, C: Clock>(
     slave: &mut Slave<P>,
     clock: &mut C,
     counts: &mut Counts,
-) -> Result<bool, OutOfMemory> {
+) -> Result<bool, OutOfMemory>
+    requires few { IsFew 1 counts.old }
+    ensures grows { Grows 1 counts.old counts.new }
+    ensures took { IfOk result (λ more. (node : Node) (L : Record) → IsAt node slave.old.core
+        (map (λ j. held (j.vtable, j.value)) slave.old.judges.items) L →
+        (arrivals : List Arrival) × (sent : ℕ) × (failed : ℕ)
+        × Counted sent failed counts.old counts.new
+        × TookOne (P.waiting slave.old.port) (P.waiting slave.new.port)
+        (P.faults slave.old.port) (P.faults slave.new.port) more arrivals
+        × Took node L
+        (view_of P.sent P.faults C.moments slave.old.core
+        (map (λ j. held (j.vtable, j.value)) slave.old.judges.items) slave.old.port clock.old)
+        (view_of P.sent P.faults C.moments slave.new.core
+        (map (λ j. held (j.vtable, j.value)) slave.new.judges.items) slave.new.port clock.new)
+        arrivals sent failed) }
+{
     let mut octets = [0; LONGEST];
     match slave.port.receive(&mut octets) {
         Ok(Some((from, length))) => {
@@ -42,7 +63,25 @@ fn take_event<P: Port, C: Clock>(
     event: &mut P,
     clock: &mut C,
     counts: &mut Counts,
-) -> Result<bool, OutOfMemory> {
+) -> Result<bool, OutOfMemory>
+    requires few { IsFew 1 counts.old }
+    ensures grows { Grows 1 counts.old counts.new }
+    ensures waiting { P.waiting slave.new.port ≡ P.waiting slave.old.port }
+    ensures sent { P.sent event.new ≡ P.sent event.old }
+    ensures took { IfOk result (λ more. (node : Node) (L : Record) → IsAt node slave.old.core
+        (map (λ j. held (j.vtable, j.value)) slave.old.judges.items) L →
+        (arrivals : List Arrival) × (sent : ℕ) × (failed : ℕ) × (event_failed : ℕ)
+        × Counted sent (failed + event_failed) counts.old counts.new
+        × HasFailed (P.faults event.old) (P.faults event.new) event_failed
+        × TookOne (P.waiting event.old) (P.waiting event.new)
+        (P.faults event.old) (P.faults event.new) more arrivals
+        × Took node L
+        (view_of P.sent P.faults C.moments slave.old.core
+        (map (λ j. held (j.vtable, j.value)) slave.old.judges.items) slave.old.port clock.old)
+        (view_of P.sent P.faults C.moments slave.new.core
+        (map (λ j. held (j.vtable, j.value)) slave.new.judges.items) slave.new.port clock.new)
+        arrivals sent failed) }
+{
     let mut octets = [0; LONGEST];
     match event.receive(&mut octets) {
         Ok(Some((from, length))) => {
@@ -66,7 +105,22 @@ pub(crate) fn take_all_general<P: Port, C: Clock>(
     slave: &mut Slave<P>,
     clock: &mut C,
     counts: &mut Counts,
-) -> Result<(), OutOfMemory> {
+) -> Result<(), OutOfMemory>
+    requires few { IsFew 64 counts.old }
+    ensures grows { Grows 64 counts.old counts.new }
+    ensures took { OnOk result ((node : Node) (L : Record) → IsAt node slave.old.core
+        (map (λ j. held (j.vtable, j.value)) slave.old.judges.items) L →
+        (arrivals : List Arrival) × (sent : ℕ) × (failed : ℕ)
+        × Counted sent failed counts.old counts.new
+        × RoundTook (P.waiting slave.old.port) (P.waiting slave.new.port)
+        (P.faults slave.old.port) (P.faults slave.new.port) arrivals
+        × Took node L
+        (view_of P.sent P.faults C.moments slave.old.core
+        (map (λ j. held (j.vtable, j.value)) slave.old.judges.items) slave.old.port clock.old)
+        (view_of P.sent P.faults C.moments slave.new.core
+        (map (λ j. held (j.vtable, j.value)) slave.new.judges.items) slave.new.port clock.new)
+        arrivals sent failed) }
+{
     for _taken in 0..MOST {
         if !take_general(alloc, slave, clock, counts)? {
             break;
@@ -85,7 +139,25 @@ pub(crate) fn take_all_event<P: Port, C: Clock>(
     event: &mut P,
     clock: &mut C,
     counts: &mut Counts,
-) -> Result<(), OutOfMemory> {
+) -> Result<(), OutOfMemory>
+    requires few { IsFew 64 counts.old }
+    ensures grows { Grows 64 counts.old counts.new }
+    ensures waiting { P.waiting slave.new.port ≡ P.waiting slave.old.port }
+    ensures sent { P.sent event.new ≡ P.sent event.old }
+    ensures took { OnOk result ((node : Node) (L : Record) → IsAt node slave.old.core
+        (map (λ j. held (j.vtable, j.value)) slave.old.judges.items) L →
+        (arrivals : List Arrival) × (sent : ℕ) × (failed : ℕ) × (event_failed : ℕ)
+        × Counted sent (failed + event_failed) counts.old counts.new
+        × HasFailed (P.faults event.old) (P.faults event.new) event_failed
+        × RoundTook (P.waiting event.old) (P.waiting event.new)
+        (P.faults event.old) (P.faults event.new) arrivals
+        × Took node L
+        (view_of P.sent P.faults C.moments slave.old.core
+        (map (λ j. held (j.vtable, j.value)) slave.old.judges.items) slave.old.port clock.old)
+        (view_of P.sent P.faults C.moments slave.new.core
+        (map (λ j. held (j.vtable, j.value)) slave.new.judges.items) slave.new.port clock.new)
+        arrivals sent failed) }
+{
     for _taken in 0..MOST {
         if !take_event(alloc, slave, event, clock, counts)? {
             break;
