@@ -17,9 +17,12 @@ pub data Happening : Type 0 where
   -- the stop
   Stops : (at : ℕ) → Happening
 
+abbrev pub arrive : Arrival → ℕ → Happening
+arrive arrival = λ at. Arrives arrival at
+
 -- a round before which there were so many takes what waits on both channels, and then ticks
 abbrev pub round_of : (general event : List Arrival) → (before : ℕ) → List (ℕ → Happening)
-round_of general event before = map Arrives (received_in before general event) ++ Ticks (before + 1) ∷ []
+round_of general event before = map arrive (received_in before general event) ++ Ticks (before + 1) ∷ []
 
 -- all that happens where these wait on the channels: so many rounds, and at the end the stop, each thing at a new moment
 abbrev pub happenings : ℕ → (general event : List Arrival) → List ℕ → List Happening

@@ -12,7 +12,7 @@ use Rattle.ptu_slave.specs.Kept.{Kept}
 use Rattle.ptu_slave.specs.Standing.{StandsFor}
 use Rattle.ptu_rounds.specs.Rounds.{in_rounds, left_after, moments_after, timed}
 use Rattle.ptu_slave_daemon.specs.declared.counts.Counts.{Counts}
-use Rattle.ptu_slave_daemon.specs.Happenings.{Happening, Arrives, Ticks, Stops, Selection, record_after, round_of, selections_in, sent_in}
+use Rattle.ptu_slave_daemon.specs.Happenings.{Happening, Stops, arrive, Selection, record_after, round_of, selections_in, sent_in}
 
 -- ---- counts
 
@@ -65,6 +65,10 @@ AreTimed before after acts hs =
 
 -- ---- the slave
 
+-- each master has a judge
+abbrev pub IsJudged : {A : Type 0} → Kept → List A → Type 0
+IsJudged kept judges = length judges ≡ length kept.masters
+
 -- a slave, of which this is kept and whose judges hold this, stands for the node with this record
 pub record IsAt (node : Node) (kept : Kept) (judges : List Held) (L : Record) : Type 0 where
   pub config : kept.config ≡ node.config
@@ -91,7 +95,7 @@ pub record Ran (node : Node) (L : Record) (old new : View) (acts : List (ℕ →
 
 -- these arrivals were taken, of which no selection came
 abbrev pub Took : Node → Record → View → View → List Arrival → (sent failed : ℕ) → Type 0
-Took node L old new arrivals sent failed = (hs : List Happening) × Ran node L old new (map Arrives arrivals) hs [] sent failed
+Took node L old new arrivals sent failed = (hs : List Happening) × Ran node L old new (map arrive arrivals) hs [] sent failed
 
 -- ---- rounds
 
@@ -131,7 +135,7 @@ pub record RoundsDone (rounds : ℕ) (node : Node) (L : Record) (old new : View)
   pub event_failed : ℕ
   pub failures_are : failures ≡ failed + event_failed
   pub ran : Ran node L old new acts hs selections sent failed
-  pub event : HasFailed event_faults event_faults' event_failed
+  pub event_fails : HasFailed event_faults event_faults' event_failed
   pub as_said : AreRounds rounds general general' event event' old.faults new.faults event_faults event_faults' acts
 
 -- so many rounds were gone through and the slave has stopped
@@ -143,5 +147,5 @@ pub record RunDone (rounds : ℕ) (node : Node) (L : Record) (old new : View)
   pub event_failed : ℕ
   pub failures_are : failures ≡ failed + event_failed
   pub ran : Ran node L old new (acts ++ Stops ∷ []) hs selections sent failed
-  pub event : HasFailed event_faults event_faults' event_failed
+  pub event_fails : HasFailed event_faults event_faults' event_failed
   pub as_said : AreRounds rounds general general' event event' old.faults new.faults event_faults event_faults' acts

@@ -7,9 +7,9 @@ ghost use Rattle.ptu_record.specs.Record.{Record};
 ghost use Rattle.ptu_slave_messages.specs.Node.{Node};
 ghost use Rattle.ptu_slave_daemon.specs.declared.line.SlaveLine.{SlaveLine};
 ghost use Rattle.ptu_slave_daemon.specs.Answers.{Halts};
-ghost use Rattle.ptu_slave_daemon.specs.Happenings.{Arrives, Happening, Selection, Ticks};
+ghost use Rattle.ptu_slave_daemon.specs.Happenings.{Happening, Selection, Ticks, arrive};
 ghost use Rattle.ptu_slave_daemon.specs.Lines.{changes, output, selected_line, texts_of};
-ghost use Rattle.ptu_slave_daemon.specs.Running.{Counted, Grows, HasFailed, IsAt, IsFew, Ran, RoundTook, RoundsDone, RunDone, view_of};
+ghost use Rattle.ptu_slave_daemon.specs.Running.{Counted, Grows, HasFailed, IsAt, IsFew, IsJudged, Ran, RoundTook, RoundsDone, RunDone, view_of};
 
 use crate::counts::Counts;
 use crate::halt::Halt;
@@ -30,6 +30,7 @@ fn happen<P: Port, C: Clock>(
     clock: &mut C,
     counts: &mut Counts,
 ) -> Result<Option<u32>, OutOfMemory>
+    requires judged { IsJudged slave.old.core slave.old.judges.items }
     requires few { IsFew (2 ^ 65) counts.old }
     ensures grows { Grows (2 ^ 65) counts.old counts.new }
     ensures sent { P.sent event.new ≡ P.sent event.old }
@@ -49,7 +50,7 @@ fn happen<P: Port, C: Clock>(
         (map (λ j. held (j.vtable, j.value)) slave.old.judges.items) slave.old.port clock.old)
         (view_of P.sent P.faults C.moments slave.new.core
         (map (λ j. held (j.vtable, j.value)) slave.new.judges.items) slave.new.port clock.new)
-        (map Arrives (arrivals ++ event_arrivals) ++ Ticks round ∷ []) hs
+        (map arrive (arrivals ++ event_arrivals) ++ Ticks round ∷ []) hs
         (record { round = round; master = master } ∷ []) sent failed) }
 {
     take_all_general(alloc, slave, clock, counts)?;
@@ -67,6 +68,7 @@ fn run_rounds<P: Port, C: Clock, K: Sink>(
     counts: &mut Counts,
     sink: &mut K,
 ) -> Result<(), Halt>
+    requires judged { IsJudged slave.old.core slave.old.judges.items }
     requires none { counts.old ≡ record { sent = 0; failed = 0 } }
     ensures few { IsFew (2 ^ 64) counts.new }
     ensures sent { P.sent event.new ≡ P.sent event.old }
@@ -108,6 +110,7 @@ pub(crate) fn run<P: Port, C: Clock, K: Sink>(
     clock: &mut C,
     sink: &mut K,
 ) -> Result<(), Halt>
+    requires judged { IsJudged slave.old.core slave.old.judges.items }
     ensures sent { P.sent event.new ≡ P.sent event.old }
     ensures done { OnOk result ((selections : List Selection) × (sends : ℕ) × (failures : ℕ)
         × HasPut K.written K.handed sink.old sink.new

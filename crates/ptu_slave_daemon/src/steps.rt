@@ -9,7 +9,7 @@ ghost use Rattle.ptu_slave_messages.specs.Config.{address_of, priorities, timeou
 ghost use Rattle.ptu_slave_messages.specs.Heard.{failed_by, reply_in, sent_by};
 ghost use Rattle.ptu_slave_messages.specs.Node.{Node};
 ghost use Rattle.ptu_slave_daemon.specs.Happenings.{Happening, Stops, Ticks};
-ghost use Rattle.ptu_slave_daemon.specs.Running.{Counted, Grows, IsAt, IsFew, Ran, Took, view_of};
+ghost use Rattle.ptu_slave_daemon.specs.Running.{Counted, Grows, IsAt, IsFew, IsJudged, Ran, Took, view_of};
 
 use crate::counts::Counts;
 use ptu_outside::{Clock, Port};
@@ -45,6 +45,7 @@ pub(crate) fn take<P: Port, C: Clock>(
     octets: &[u8],
     counts: &mut Counts,
 ) -> Result<(), OutOfMemory>
+    requires judged { IsJudged slave.old.core slave.old.judges.items }
     requires few { IsFew 1 counts.old }
     ensures grows { Grows 1 counts.old counts.new }
     ensures waiting { P.waiting slave.new.port ≡ P.waiting slave.old.port }
@@ -70,6 +71,7 @@ pub(crate) fn tick<P: Port, C: Clock>(
     clock: &mut C,
     counts: &mut Counts,
 ) -> Option<u32>
+    requires judged { IsJudged slave.old.core slave.old.judges.items }
     requires few { IsFew (2 ^ 64) counts.old }
     ensures grows { Grows (2 ^ 64) counts.old counts.new }
     ensures waiting { P.waiting slave.new.port ≡ P.waiting slave.old.port }
@@ -92,6 +94,7 @@ pub(crate) fn tick<P: Port, C: Clock>(
 
 /// The slave stops.
 pub(crate) fn stop<P: Port, C: Clock>(slave: &mut Slave<P>, clock: &mut C, counts: &mut Counts)
+    requires judged { IsJudged slave.old.core slave.old.judges.items }
     requires few { IsFew (2 ^ 64) counts.old }
     ensures waiting { P.waiting slave.new.port ≡ P.waiting slave.old.port }
     ensures ran { (node : Node) (L : Record) → IsAt node slave.old.core
@@ -112,6 +115,7 @@ pub(crate) fn stop<P: Port, C: Clock>(slave: &mut Slave<P>, clock: &mut C, count
 
 // The address of the master that a slave selects.
 fn selected<P: Port>(slave: &mut Slave<P>, at: Moment) -> Option<u32>
+    requires judged { IsJudged slave.old.core slave.old.judges.items }
     ensures selected { (openings : List (Option Rule)) (L : Record) →
         StandsFor openings slave.old.core
         (map (λ j. held (j.vtable, j.value)) slave.old.judges.items) L →

@@ -4,7 +4,7 @@ ghost use Rattle.std.specs.Prelude.{◌≡◌, ◌+◌, ℕ, Bool, List, map, If
 ghost use Rattle.ptu_outside.specs.declared.arrival.Arrival.{Arrival};
 ghost use Rattle.ptu_record.specs.Record.{Record};
 ghost use Rattle.ptu_slave_messages.specs.Node.{Node};
-ghost use Rattle.ptu_slave_daemon.specs.Running.{Counted, Grows, HasFailed, IsAt, IsFew, RoundTook, Took, TookOne, view_of};
+ghost use Rattle.ptu_slave_daemon.specs.Running.{Counted, Grows, HasFailed, IsAt, IsFew, IsJudged, RoundTook, Took, TookOne, view_of};
 
 use crate::counts::Counts;
 use crate::steps::take;
@@ -27,6 +27,7 @@ fn take_general<P: Port, C: Clock>(
     clock: &mut C,
     counts: &mut Counts,
 ) -> Result<bool, OutOfMemory>
+    requires judged { IsJudged slave.old.core slave.old.judges.items }
     requires few { IsFew 1 counts.old }
     ensures grows { Grows 1 counts.old counts.new }
     ensures took { IfOk result (λ more. (node : Node) (L : Record) → IsAt node slave.old.core
@@ -64,6 +65,7 @@ fn take_event<P: Port, C: Clock>(
     clock: &mut C,
     counts: &mut Counts,
 ) -> Result<bool, OutOfMemory>
+    requires judged { IsJudged slave.old.core slave.old.judges.items }
     requires few { IsFew 1 counts.old }
     ensures grows { Grows 1 counts.old counts.new }
     ensures waiting { P.waiting slave.new.port ≡ P.waiting slave.old.port }
@@ -106,6 +108,7 @@ pub(crate) fn take_all_general<P: Port, C: Clock>(
     clock: &mut C,
     counts: &mut Counts,
 ) -> Result<(), OutOfMemory>
+    requires judged { IsJudged slave.old.core slave.old.judges.items }
     requires few { IsFew 64 counts.old }
     ensures grows { Grows 64 counts.old counts.new }
     ensures took { OnOk result ((node : Node) (L : Record) → IsAt node slave.old.core
@@ -123,7 +126,7 @@ pub(crate) fn take_all_general<P: Port, C: Clock>(
 {
     for _taken in 0..MOST {
         if !take_general(alloc, slave, clock, counts)? {
-            break;
+            return Ok(());
         }
     }
     Ok(())
@@ -140,6 +143,7 @@ pub(crate) fn take_all_event<P: Port, C: Clock>(
     clock: &mut C,
     counts: &mut Counts,
 ) -> Result<(), OutOfMemory>
+    requires judged { IsJudged slave.old.core slave.old.judges.items }
     requires few { IsFew 64 counts.old }
     ensures grows { Grows 64 counts.old counts.new }
     ensures waiting { P.waiting slave.new.port ≡ P.waiting slave.old.port }
@@ -160,7 +164,7 @@ pub(crate) fn take_all_event<P: Port, C: Clock>(
 {
     for _taken in 0..MOST {
         if !take_event(alloc, slave, event, clock, counts)? {
-            break;
+            return Ok(());
         }
     }
     Ok(())
