@@ -111,9 +111,10 @@ fn new_judges(
 {
     let mut judges = Vec::new(alloc);
     for master in masters {
-        if let Some(judge) = take_judge(&mut stock, master.gap) {
-            judges.push(judge)?;
-        }
+        let Some(judge) = take_judge(&mut stock, master.gap) else {
+            unreachable!();
+        };
+        judges.push(judge)?;
     }
     Ok(judges)
 }
