@@ -25,6 +25,10 @@ counted_append a b c s t f g p q = (omega (arith, p.0, q.0), omega (arith, p.1, 
 pub counted_both : (a b c : Counts) (s t f g d e : ℕ) → Counted s (f + d) a b → Counted t (g + e) b c → Counted (s + t) (f + g + (d + e)) a c
 counted_both a b c s t f g d e p q = (omega (arith, p.0, q.0), omega (arith, p.1, q.1))
 
+-- those of a round: of the general channel, of the event channel, and of the tick
+pub counted_round : (a b c d : Counts) (s t u f g h e : ℕ) → Counted s f a b → Counted t (g + e) b c → Counted u h c d → Counted (s + t + u) (f + g + h + e) a d
+counted_round a b c d s t u f g h e p q r = (omega (arith, p.0, q.0, r.0), omega (arith, p.1, q.1, r.1))
+
 -- ---- what waits
 
 pub came_none : (before after : Option (List Arrival)) → IfTold after before → CameFrom before after []
