@@ -6,3 +6,4 @@ pub mod Arrived
 pub mod OneRound
 pub mod Written
 pub mod Judges
+pub mod Ended
