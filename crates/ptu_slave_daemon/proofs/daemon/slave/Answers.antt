@@ -11,5 +11,5 @@ returns-in-Ok-written-clause-served g c = (
   c.in-Ok-run_over.back,
   c.in-Ok.ensures.opened,
   c.close.ensures.back,
-  ?,
+  rw c.in-Ok-written.is at c.in-Ok-run_over.ensures.served,
 )
