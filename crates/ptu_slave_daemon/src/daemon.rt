@@ -60,14 +60,7 @@ fn run_over<P: Port, C: Clock, K: Sink>(
         c5,
     } = opened;
     let mut slave = open_slave(alloc, settings, stock, p4)?;
-    let answer = run(
-        alloc,
-        settings.rounds,
-        &mut slave,
-        &mut p5,
-        &mut c0,
-        sink,
-    );
+    let answer = run(alloc, settings.rounds, &mut slave, &mut p5, &mut c0, sink);
     let written = match answer {
         Ok(()) => Ok(()),
         Err(Halt::Write) => Err(Failed),

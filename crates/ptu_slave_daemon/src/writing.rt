@@ -26,11 +26,7 @@ fn text_of(alloc: Global, line: SlaveLine) -> Result<String, OutOfMemory>
 ///
 /// # Errors
 /// `Write` where the sink failed, and `OutOfMemory`.
-pub(crate) fn write_line<K: Sink>(
-    alloc: Global,
-    sink: &mut K,
-    line: SlaveLine,
-) -> Result<(), Halt>
+pub(crate) fn write_line<K: Sink>(alloc: Global, sink: &mut K, line: SlaveLine) -> Result<(), Halt>
     ensures whole { OnOk result (HasPut K.written K.handed sink.old sink.new
         (texts_of (line ∷ []))) }
     ensures part { OnErr result (HasPutPart K.written K.handed sink.old sink.new

@@ -19,11 +19,11 @@ returns-clause-done g c =
       c.stop.new.counts.sent,
       c.stop.new.counts.failed,
       subst (HasPut g.K.Sink.written g.K.Sink.handed c.args.sink.now c.write_line.new.sink) (sym (map-append line_text lines (line ∷ [])))
-      (HasPut-append g.K.Sink.written g.K.Sink.handed c.args.sink.now c.run_rounds.new.sink c.write_line.new.sink (texts_of lines) (texts_of (line ∷ [])) done.1 put),
+          (HasPut-append g.K.Sink.written g.K.Sink.handed c.args.sink.now c.run_rounds.new.sink c.write_line.new.sink (texts_of lines) (texts_of (line ∷ [])) done.1 put),
       λ node L h.
-      let p = done.2 node L h in
-      let t = c.stop.ensures.ran node (record_after node L p.hs) p.ran.stands in
-      done_run node L _ _ _ _ c.args.rounds _ _ _ _ _ _ done.0 c.run_rounds.new.counts c.stop.new.counts t.2 t.0 t.1 p t.3 c.stop.ensures.waiting t.4,
+          let p = done.2 node L h in
+          let t = c.stop.ensures.ran node (record_after node L p.hs) p.ran.stands in
+          done_run node L _ _ _ _ c.args.rounds _ _ _ _ _ _ done.0 c.run_rounds.new.counts c.stop.new.counts t.2 t.0 t.1 p t.3 c.stop.ensures.waiting t.4,
     )) c.write_line.ensures.whole
 
 pub returns-clause-part : goal.returns-clause-part
@@ -34,5 +34,5 @@ returns-clause-part g c =
     on_err_weaker c.write_line.result (λ part. (
       lines ++ line ∷ [],
       subst (HasPutPart g.K.Sink.written g.K.Sink.handed c.args.sink.now c.write_line.new.sink) (sym (map-append line_text lines (line ∷ [])))
-      (HasPut-part g.K.Sink.written g.K.Sink.handed c.args.sink.now c.run_rounds.new.sink c.write_line.new.sink (texts_of lines) (texts_of (line ∷ [])) done.1 part),
+          (HasPut-part g.K.Sink.written g.K.Sink.handed c.args.sink.now c.run_rounds.new.sink c.write_line.new.sink (texts_of lines) (texts_of (line ∷ [])) done.1 part),
     )) c.write_line.ensures.part

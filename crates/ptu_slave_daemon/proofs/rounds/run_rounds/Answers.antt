@@ -39,13 +39,13 @@ loop-before-preserved g c =
         done.0 ++ s ∷ [],
         sym (said_after-push None done.0 s),
         subst (HasPut g.K.Sink.written g.K.Sink.handed c.args.sink.now c.say.new.sink) (sym (texts-push None done.0 s))
-        (HasPut-append g.K.Sink.written g.K.Sink.handed c.args.sink.now c.loop-before.sink c.say.new.sink (texts_of (map selected_line (changes None done.0)))
-        (texts_of (map selected_line (said_next (said_after None done.0) s))) done.2
-        (subst (λ said. HasPut g.K.Sink.written g.K.Sink.handed c.loop-before.sink c.say.new.sink (texts_of (map selected_line (said_next said s)))) done.1 c.in_ok-say.ensures.whole)),
+            (HasPut-append g.K.Sink.written g.K.Sink.handed c.args.sink.now c.loop-before.sink c.say.new.sink (texts_of (map selected_line (changes None done.0)))
+            (texts_of (map selected_line (said_next (said_after None done.0) s))) done.2
+            (subst (λ said. HasPut g.K.Sink.written g.K.Sink.handed c.loop-before.sink c.say.new.sink (texts_of (map selected_line (said_next said s)))) done.1 c.in_ok-say.ensures.whole)),
         λ node L h.
-        let p = done.3 node L h in
-        let q = c.in-Ok.ensures.ran node (record_after node L p.hs) (c.loop-before.before + 1) p.ran.stands in
-        done_more node L _ _ _ _ c.loop-before.before _ _ _ _ _ _ _ _ done.0 s c.loop-before.counts c.happen.new.counts q.0 q.1 q.2 q.3 q.4 q.5 p q.6 q.7 q.8 q.9 q.10,
+            let p = done.3 node L h in
+            let q = c.in-Ok.ensures.ran node (record_after node L p.hs) (c.loop-before.before + 1) p.ran.stands in
+            done_more node L _ _ _ _ c.loop-before.before _ _ _ _ _ _ _ _ done.0 s c.loop-before.counts c.happen.new.counts q.0 q.1 q.2 q.3 q.4 q.5 p q.6 q.7 q.8 q.9 q.10,
       );
     }
 
@@ -63,7 +63,7 @@ returns-in_err-say-clause-part g c =
     rw p.1 (
       lines ++ line ∷ [],
       subst (HasPutPart g.K.Sink.written g.K.Sink.handed c.args.sink.now c.say.new.sink) (sym (map-append line_text lines (line ∷ [])))
-      (HasPut-part g.K.Sink.written g.K.Sink.handed c.args.sink.now c.loop-before.sink c.say.new.sink (texts_of lines) (texts_of (line ∷ [])) done.2 c.in_err-say.ensures.part),
+          (HasPut-part g.K.Sink.written g.K.Sink.handed c.args.sink.now c.loop-before.sink c.say.new.sink (texts_of lines) (texts_of (line ∷ [])) done.2 c.in_err-say.ensures.part),
     )
 
 pub returns-clause-done : goal.returns-clause-done
