@@ -1,5 +1,5 @@
 -- One round after another.
-use Rattle.std.proofs.Common.{◌≡◌, ◌∙◌, ◌⊎◌, inl, inr, ℕ, zero, suc, ◌+◌, ◌*◌, ◌<◌, ◌≤◌, ◌++◌, List, [], ◌∷◌, length, map, take, drop, refl, sym, ap, ap₂, subst, arith, length-append, append_assoc, Option, Some, None}
+use Rattle.std.proofs.Common.{◌≡◌, ◌∙◌, ◌⊎◌, inl, inr, ℕ, zero, suc, ◌+◌, ◌*◌, ◌<◌, ◌≤◌, ◌++◌, List, [], ◌∷◌, length, map, take, drop, refl, sym, ap, ap₂, subst, arith, add-zero, length-append, append_assoc, Option, Some, None}
 use Rattle.std.proofs.lemmas.List.{append-nil, drop-drop}
 use Rattle.std.proofs.Math.Seq.{drop-cons}
 use Rattle.std.specs.Prelude.{IfSome}
@@ -22,6 +22,18 @@ in_rounds-zero round = refl
 pub in_rounds-suc : (round : ℕ → List (ℕ → Happening)) (n : ℕ) → in_rounds round (suc n) ≡ in_rounds round n ++ round n
 unfolding in_rounds
 in_rounds-suc round n = refl
+
+-- some rounds, and more
+pub in_rounds-add : (round : ℕ → List (ℕ → Happening)) (n m : ℕ) → (rest : List (ℕ → Happening)) × (in_rounds round (n + m) ≡ in_rounds round n ++ rest)
+in_rounds-add round n zero = ([], ap (in_rounds round) (add-zero n) ∙ sym (append-nil (in_rounds round n)))
+in_rounds-add round n (suc m) =
+    let before = in_rounds-add round n m in
+    let one : n + suc m ≡ suc (n + m) = omega arith in
+    (
+      before.0 ++ round (n + m),
+      ap (in_rounds round) one ∙ in_rounds-suc round (n + m) ∙ ap (λ l. l ++ round (n + m)) before.1
+      ∙ append_assoc (in_rounds round n) before.0 (round (n + m)),
+    )
 
 -- a list whose front is a whole round, or all of it
 front : (xs left : List Arrival) (n : ℕ) → length xs ≤ n → (length xs ≡ n) ⊎ (left ≡ []) → (take n (xs ++ left) ≡ xs) × (drop n (xs ++ left) ≡ left)

@@ -78,7 +78,8 @@ pub(crate) fn say<K: Sink>(
         (texts_of (map selected_line
         (said_next said (record { round = round; master = master }))))) }
     ensures part { OnErr result (HasPutPart K.written K.handed sink.old sink.new
-        (texts_of (SlaveLine.Selected round master ∷ []))) }
+        (texts_of (map selected_line
+        (said_next said (record { round = round; master = master }))))) }
     ensures counts { Halts result (K.faults sink.old) (K.faults sink.new) }
 {
     if is_written(said, master) {

@@ -1,4 +1,4 @@
-use Rattle.std.proofs.Common.{[]}
+use Rattle.std.proofs.Common.{[], rules}
 use Rattle.ptu_outside.proofs.Handing.{HasPutPart-none}
 use Rattle.ptu_slave_daemon.proofs.daemon.slave.Goals as goal
 
@@ -10,6 +10,15 @@ returns-in-Ok-written-clause-served g c = (
   c.in-Ok.opened,
   c.in-Ok-run_over.back,
   c.in-Ok.ensures.opened,
-  c.close.ensures.back,
+  search rules,
   rw c.in-Ok-written.is at c.in-Ok-run_over.ensures.served,
+)
+
+pub returns-in-Err-clause-stopped : goal.returns-in-Err-clause-stopped
+returns-in-Err-clause-stopped g c = λ is. (
+  c.in-Ok.opened,
+  c.in-Ok-run_over.back,
+  c.in-Ok.ensures.opened,
+  search rules,
+  rw c.in-Err.is at c.in-Ok-run_over.ensures.front,
 )
