@@ -118,8 +118,8 @@ module _ {P C K : Type 0} (sent : P → Option (List Departure)) (waiting : P �
     aside = aside;
     front = λ general event times tell none.
         let f = front general event times (ap waiting own ∙ tell.general_is) tell.event_is tell.times_are
-            (subst (λ x. IsSome (waiting x)) back tell.general_after) tell.event_after tell.times_after
-            (λ rises. none.1.1.1.1.0 (subst (λ x. HasRisen (faults x) (faults after.p4)) own (subst (λ x. HasRisen (faults p) (faults x)) (sym back) rises))) none.1.1.1.1.1.0 in
+        (subst (λ x. IsSome (waiting x)) back tell.general_after) tell.event_after tell.times_after
+        (λ rises. none.1.1.1.1.0 (subst (λ x. HasRisen (faults x) (faults after.p4)) own (subst (λ x. HasRisen (faults p) (faults x)) (sym back) rises))) none.1.1.1.1.1.0 in
         subst (HasPutPart written handed old new) (sym (ap texts_of f.1 ∙ map-append line_text lines f.0))
         (HasPutPart-append written handed old new (texts_of lines) (texts_of f.0) part);
   }

@@ -76,7 +76,7 @@ module _ (node : Node) (L : Record) (old new : View) (general general' event eve
   front_run rounds selections sends failures r = λ all event_all times is event_is times_are told event_told times_told still event_still. (
     [],
     sym (ap (output_from rounds node L) (run_is rounds selections sends failures all event_all times r is event_is times_are told event_told times_told still event_still))
-    ∙ sym (run_output rounds selections sends failures r still event_still) ∙ sym (append-nil (output rounds (changes None selections) sends failures)),
+        ∙ sym (run_output rounds selections sends failures r still event_still) ∙ sym (append-nil (output rounds (changes None selections) sends failures)),
   )
 
   -- or in the line of a round
@@ -91,18 +91,17 @@ module _ (node : Node) (L : Record) (old new : View) (general general' event eve
       let ks = timed (moments_after (length r.acts) times) later in
       let many : rounds ≡ n + (rounds - n) = omega arith in
       let whole : happenings rounds all event_all times ≡ r.hs ++ ks =
-          ap (λ k. timed times (in_rounds round k ++ Stops ∷ [])) many ∙ ap (λ l. timed times (l ++ Stops ∷ [])) more.1
-          ∙ ap (timed times) (append_assoc (in_rounds round n) more.0 (Stops ∷ [])) ∙ ap (λ l. timed times (l ++ later)) (sym acts)
-          ∙ timed-append times r.acts later
-          ∙ ap (λ l. l ++ ks) (sym (timed_is old.times new.times times r.acts r.hs r.ran.timed times_are times_told)) in
+      ap (λ k. timed times (in_rounds round k ++ Stops ∷ [])) many ∙ ap (λ l. timed times (l ++ Stops ∷ [])) more.1
+      ∙ ap (timed times) (append_assoc (in_rounds round n) more.0 (Stops ∷ [])) ∙ ap (λ l. timed times (l ++ later)) (sym acts)
+      ∙ timed-append times r.acts later
+      ∙ ap (λ l. l ++ ks) (sym (timed_is old.times new.times times r.acts r.hs r.ran.timed times_are times_told)) in
       let others = changes (said_after None selections) (selections_in node (record_after node L r.hs) ks) in
       let written : changes None (selections_in node L (r.hs ++ ks)) ≡ changes None selections ++ others =
-          ap (changes None) (selections_in-append node L r.hs ks ∙ ap (λ ss. ss ++ selections_in node (record_after node L r.hs) ks) r.ran.selects)
-          ∙ changes-append None selections (selections_in node (record_after node L r.hs) ks) in
-      let closing = Closing rounds (length (sent_in node L (r.hs ++ ks))) 0 in
-      (
+      ap (changes None) (selections_in-append node L r.hs ks ∙ ap (λ ss. ss ++ selections_in node (record_after node L r.hs) ks) r.ran.selects)
+      ∙ changes-append None selections (selections_in node (record_after node L r.hs) ks) in
+      let closing = Closing rounds (length (sent_in node L (r.hs ++ ks))) 0 in (
         map selected_line others ++ closing ∷ [],
         ap (output_from rounds node L) whole ∙ ap (λ ss. map selected_line ss ++ closing ∷ []) written
-        ∙ ap (λ l. l ++ closing ∷ []) (map-append selected_line (changes None selections) others)
-        ∙ append_assoc (map selected_line (changes None selections)) (map selected_line others) (closing ∷ []),
+            ∙ ap (λ l. l ++ closing ∷ []) (map-append selected_line (changes None selections) others)
+            ∙ append_assoc (map selected_line (changes None selections)) (map selected_line others) (closing ∷ []),
       )

@@ -28,11 +28,10 @@ pub in_rounds-add : (round : ℕ → List (ℕ → Happening)) (n m : ℕ) → (
 in_rounds-add round n zero = ([], ap (in_rounds round) (add-zero n) ∙ sym (append-nil (in_rounds round n)))
 in_rounds-add round n (suc m) =
     let before = in_rounds-add round n m in
-    let one : n + suc m ≡ suc (n + m) = omega arith in
-    (
+    let one : n + suc m ≡ suc (n + m) = omega arith in (
       before.0 ++ round (n + m),
       ap (in_rounds round) one ∙ in_rounds-suc round (n + m) ∙ ap (λ l. l ++ round (n + m)) before.1
-      ∙ append_assoc (in_rounds round n) before.0 (round (n + m)),
+          ∙ append_assoc (in_rounds round n) before.0 (round (n + m)),
     )
 
 -- a list whose front is a whole round, or all of it

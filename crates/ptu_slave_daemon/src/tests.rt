@@ -162,9 +162,9 @@ fn assert_asked(rt: &impl Abort, alloc: Global, host: &MemHost) -> Result<(), Fa
 #[test]
 fn a_slave_that_hears_nothing_asks_and_selects_none(rt: HostRuntime) -> Result<(), Fail> {
     let alloc = rt.alloc();
+    let stock = one_judge(alloc, Box::new(alloc, FlagJudge::new())?)?;
     let mut host = host(alloc, port(alloc, "", Vec::new(alloc))?, idle(alloc));
     let output = "round 1 selected none\nrounds 1 sent 1 failed 0\n";
-    let stock = one_judge(alloc, Box::new(alloc, FlagJudge::new())?)?;
     assert_output(&rt, alloc, &settings(alloc, 1)?, &mut host, stock, output)?;
     assert_asked(&rt, alloc, &host)
 }
@@ -172,10 +172,10 @@ fn a_slave_that_hears_nothing_asks_and_selects_none(rt: HostRuntime) -> Result<(
 #[test]
 fn a_slave_writes_its_selection_once(rt: HostRuntime) -> Result<(), Fail> {
     let alloc = rt.alloc();
+    let stock = one_judge(alloc, Box::new(alloc, FlagJudge::new())?)?;
     let p4 = port(alloc, ANNOUNCE, Vec::new(alloc))?;
     let mut host = host(alloc, p4, port(alloc, SYNC, Vec::new(alloc))?);
     let output = "round 1 selected 10.0.0.1\nrounds 2 sent 1 failed 0\n";
-    let stock = one_judge(alloc, Box::new(alloc, FlagJudge::new())?)?;
     assert_output(&rt, alloc, &settings(alloc, 2)?, &mut host, stock, output)?;
     assert_asked(&rt, alloc, &host)
 }
@@ -183,10 +183,10 @@ fn a_slave_writes_its_selection_once(rt: HostRuntime) -> Result<(), Fail> {
 #[test]
 fn a_failed_receive_is_counted_and_the_slave_goes_on(rt: HostRuntime) -> Result<(), Fail> {
     let alloc = rt.alloc();
+    let stock = one_judge(alloc, Box::new(alloc, FlagJudge::new())?)?;
     let p4 = port(alloc, ANNOUNCE, vec![in alloc; 1]?)?;
     let mut host = host(alloc, p4, port(alloc, SYNC, Vec::new(alloc))?);
     let output = "round 1 selected none\nround 2 selected 10.0.0.1\nrounds 2 sent 1 failed 1\n";
-    let stock = one_judge(alloc, Box::new(alloc, FlagJudge::new())?)?;
     assert_output(&rt, alloc, &settings(alloc, 2)?, &mut host, stock, output)?;
     assert_asked(&rt, alloc, &host)
 }

@@ -44,17 +44,16 @@ pub returns-clause-stopped : goal.returns-clause-stopped
 returns-clause-stopped g c = λ is.
     let done = c.in_ok-run_rounds.ensures.done in
     let lines = map selected_line (changes None done.0) in
-    let line = Closing c.args.rounds c.stop.new.counts.sent c.stop.new.counts.failed in
-    (
+    let line = Closing c.args.rounds c.stop.new.counts.sent c.stop.new.counts.failed in (
       lines ++ line ∷ [],
       subst (HasPutPart g.K.Sink.written g.K.Sink.handed c.args.sink.now c.write_line.new.sink) (sym (map-append line_text lines (line ∷ [])))
-      (HasPut-part g.K.Sink.written g.K.Sink.handed c.args.sink.now c.run_rounds.new.sink c.write_line.new.sink (texts_of lines) (texts_of (line ∷ [])) done.1
-      (of_err c.write_line.result Write is c.write_line.ensures.part)),
+          (HasPut-part g.K.Sink.written g.K.Sink.handed c.args.sink.now c.run_rounds.new.sink c.write_line.new.sink (texts_of lines) (texts_of (line ∷ [])) done.1
+          (of_err c.write_line.result Write is c.write_line.ensures.part)),
       λ node L h.
-      let p = done.2 node L h in
-      let t = c.stop.ensures.ran node (record_after node L p.hs) p.ran.stands in
-      front_run node L _ _ _ _ _ _ _ _ c.args.rounds done.0 c.stop.new.counts.sent c.stop.new.counts.failed
-      (done_run node L _ _ _ _ c.args.rounds _ _ _ _ _ _ done.0 c.run_rounds.new.counts c.stop.new.counts t.2 t.0 t.1 p t.3 c.stop.ensures.waiting t.4),
+          let p = done.2 node L h in
+          let t = c.stop.ensures.ran node (record_after node L p.hs) p.ran.stands in
+          front_run node L _ _ _ _ _ _ _ _ c.args.rounds done.0 c.stop.new.counts.sent c.stop.new.counts.failed
+          (done_run node L _ _ _ _ c.args.rounds _ _ _ _ _ _ done.0 c.run_rounds.new.counts c.stop.new.counts t.2 t.0 t.1 p t.3 c.stop.ensures.waiting t.4),
     )
 
 -- it failed in the line of a round
