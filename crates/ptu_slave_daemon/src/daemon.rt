@@ -1,11 +1,11 @@
-ghost use Rattle.std.specs.Prelude.{◌≡◌, ◌≢◌, List, length, map, IfOk, OnOk, OnErr, IsErrOf, true};
+ghost use Rattle.std.specs.Prelude.{◌≡◌, ℕ, List, length, map, IfOk, OnOk, OnErr, IsErrOf, true};
 ghost use Rattle.ptu_outside.specs.declared.opened.Opened.{Opened};
 ghost use Rattle.ptu_outside.specs.Handing.{HasPutPart};
 ghost use Rattle.ptu_config.specs.Limits.{IsSlaveInRange};
 ghost use Rattle.ptu_judges.specs.Held.{IsStock};
-ghost use Rattle.ptu_slave_daemon.specs.declared.line.SlaveLine.{SlaveLine};
 ghost use Rattle.ptu_slave_daemon.specs.Answers.{CountsOpen, CountsWrite, FailsWith, WasGivenBack, WasOpened};
-ghost use Rattle.ptu_slave_daemon.specs.Lines.{texts_of};
+ghost use Rattle.ptu_slave_daemon.specs.Happenings.{Selection};
+ghost use Rattle.ptu_slave_daemon.specs.Lines.{output, texts_of};
 ghost use Rattle.ptu_slave_daemon.specs.Opening.{are_enough};
 ghost use Rattle.ptu_slave_daemon.specs.Served.{AreAside, HasServed, HasStopped};
 
@@ -37,15 +37,17 @@ fn run_over<P: Port, C: Clock, K: Sink>(
     ensures served { IfOk result (λ pair. OnOk pair.1
         (HasServed P.sent P.waiting P.faults C.moments K.written K.handed
         settings.now opened pair.0 sink.old sink.new)) }
-    ensures part { IfOk result (λ pair. OnErr pair.1 ((lines : List SlaveLine)
-        × HasPutPart K.written K.handed sink.old sink.new (texts_of lines))) }
+    ensures part { IfOk result (λ pair. OnErr pair.1 ((selections : List Selection) × (sends : ℕ) × (failures : ℕ)
+        × HasPutPart K.written K.handed sink.old sink.new
+        (texts_of (output settings.now.rounds selections sends failures)))) }
     ensures front { IfOk result (λ pair. OnErr pair.1
         (HasStopped P.sent P.waiting P.faults C.moments K.written K.handed
         settings.now opened pair.0 sink.old sink.new)) }
     ensures counts { IfOk result (λ pair. FailsWith pair.1 (K.faults sink.old)
         (K.faults sink.new)) }
-    ensures stopped { OnErr result ((lines : List SlaveLine)
-        × HasPutPart K.written K.handed sink.old sink.new (texts_of lines)) }
+    ensures stopped { OnErr result ((selections : List Selection) × (sends : ℕ) × (failures : ℕ)
+        × HasPutPart K.written K.handed sink.old sink.new
+        (texts_of (output settings.now.rounds selections sends failures))) }
     ensures still { OnErr result (K.faults sink.new ≡ K.faults sink.old) }
 {
     let Opened {
@@ -120,9 +122,11 @@ pub fn slave<H: Host, K: Sink>(
         × HasServed H.P.sent H.P.waiting H.P.faults H.C.moments K.written K.handed
         settings.now before after sink.old sink.new) }
 
-    // What was written when it stopped are lines of this form, the last one in part at most.
-    ensures part { OnErr result ((lines : List SlaveLine)
-        × HasPutPart K.written K.handed sink.old sink.new (texts_of lines)) }
+    // What was written when it stopped is a front of an output of this form: lines of selections,
+    // and the closing line.
+    ensures part { OnErr result ((selections : List Selection) × (sends : ℕ) × (failures : ℕ)
+        × HasPutPart K.written K.handed sink.old sink.new
+        (texts_of (output settings.now.rounds selections sends failures))) }
     // Where nothing was opened nothing is written.
     ensures nothing { IsErrOf result DaemonFault.Open → sink.new ≡ sink.old }
     // Where the sink failed the ports and clocks were given back too; and where they tell all and no

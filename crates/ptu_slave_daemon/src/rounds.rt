@@ -85,8 +85,9 @@ fn run_rounds<P: Port, C: Clock, K: Sink>(
         (P.waiting slave.old.port) (P.waiting slave.new.port)
         (P.waiting event.old) (P.waiting event.new) (P.faults event.old) (P.faults event.new)
         selections counts.new.sent counts.new.failed)) }
-    ensures part { OnErr result ((lines : List SlaveLine)
-        × HasPutPart K.written K.handed sink.old sink.new (texts_of lines)) }
+    ensures part { OnErr result ((selections : List Selection)
+        × HasPutPart K.written K.handed sink.old sink.new
+        (texts_of (map selected_line selections))) }
     ensures stopped { IsErrOf result Halt.Write → (n : ℕ) × (selections : List Selection)
         × (n ≤ rounds) × HasPutPart K.written K.handed sink.old sink.new
         (texts_of (map selected_line (changes None selections)))
@@ -140,8 +141,9 @@ pub(crate) fn run<P: Port, C: Clock, K: Sink>(
         (P.waiting slave.old.port) (P.waiting slave.new.port)
         (P.waiting event.old) (P.waiting event.new) (P.faults event.old) (P.faults event.new)
         selections sends failures)) }
-    ensures part { OnErr result ((lines : List SlaveLine)
-        × HasPutPart K.written K.handed sink.old sink.new (texts_of lines)) }
+    ensures part { OnErr result ((selections : List Selection) × (sends : ℕ) × (failures : ℕ)
+        × HasPutPart K.written K.handed sink.old sink.new
+        (texts_of (output rounds selections sends failures))) }
     ensures stopped { IsErrOf result Halt.Write → (lines : List SlaveLine)
         × HasPutPart K.written K.handed sink.old sink.new (texts_of lines)
         × ((node : Node) (L : Record) → IsAt node slave.old.core

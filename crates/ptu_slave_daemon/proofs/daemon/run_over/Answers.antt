@@ -9,7 +9,7 @@ use Rattle.ptu_slave_daemon.proofs.daemon.run_over.Goals.{in-Ok, in-Err+in-Write
 pub returns-in_err-slave-clause-stopped : goal.returns-in_err-slave-clause-stopped
 returns-in_err-slave-clause-stopped g c =
     let p = err_from_is_err_and c.from_residual.result c.from_residual.ensures.1 in
-    rw p.1 ([], HasPutPart-none g.K.Sink.written g.K.Sink.handed c.args.sink.now [])
+    rw p.1 ([], 0, 0, HasPutPart-none g.K.Sink.written g.K.Sink.handed c.args.sink.now _)
 
 pub returns-clause-served : goal.returns-clause-served
 returns-clause-served g c =

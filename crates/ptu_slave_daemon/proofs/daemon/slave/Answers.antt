@@ -3,7 +3,7 @@ use Rattle.ptu_outside.proofs.Handing.{HasPutPart-none}
 use Rattle.ptu_slave_daemon.proofs.daemon.slave.Goals as goal
 
 pub returns-in_default-clause-part : goal.returns-in_default-clause-part
-returns-in_default-clause-part g c = ([], HasPutPart-none g.K.Sink.written g.K.Sink.handed c.args.sink.now [])
+returns-in_default-clause-part g c = ([], 0, 0, HasPutPart-none g.K.Sink.written g.K.Sink.handed c.args.sink.now _)
 
 pub returns-in-Ok-written-clause-served : goal.returns-in-Ok-written-clause-served
 returns-in-Ok-written-clause-served g c = (

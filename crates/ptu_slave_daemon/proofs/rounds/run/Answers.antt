@@ -2,7 +2,7 @@ use Rattle.std.proofs.Common.{[], ◌∷◌, ◌++◌, ◌∙◌, None, map, sub
 use Rattle.std.proofs.lemmas.List.{map-append}
 use Rattle.std.proofs.lemmas.Result.{err_from_is_err_and, on_err_weaker, on_ok_weaker}
 use Rattle.ptu_outside.specs.Handing.{HasPut, HasPutPart}
-use Rattle.ptu_outside.proofs.Handing.{HasPut-append, HasPut-part}
+use Rattle.ptu_outside.proofs.Handing.{HasPut-append, HasPut-part, HasPutPart-append}
 use Rattle.ptu_slave_daemon.specs.declared.line.SlaveLine.TheVariants.{Closing}
 use Rattle.ptu_slave_daemon.specs.Happenings.{record_after}
 use Rattle.ptu_slave_daemon.specs.Lines.{changes, line_text, selected_line, texts_of}
@@ -34,10 +34,26 @@ returns-clause-part g c =
     let lines = map selected_line (changes None done.0) in
     let line = Closing c.args.rounds c.stop.new.counts.sent c.stop.new.counts.failed in
     on_err_weaker c.write_line.result (λ part. (
-      lines ++ line ∷ [],
+      changes None done.0,
+      c.stop.new.counts.sent,
+      c.stop.new.counts.failed,
       subst (HasPutPart g.K.Sink.written g.K.Sink.handed c.args.sink.now c.write_line.new.sink) (sym (map-append line_text lines (line ∷ [])))
-          (HasPut-part g.K.Sink.written g.K.Sink.handed c.args.sink.now c.run_rounds.new.sink c.write_line.new.sink (texts_of lines) (texts_of (line ∷ [])) done.1 part),
+      (HasPut-part g.K.Sink.written g.K.Sink.handed c.args.sink.now c.run_rounds.new.sink c.write_line.new.sink (texts_of lines) (texts_of (line ∷ [])) done.1 part),
     )) c.write_line.ensures.part
+
+pub returns-in_err-run_rounds-clause-part : goal.returns-in_err-run_rounds-clause-part
+returns-in_err-run_rounds-clause-part g c =
+    let p = err_from_is_err_and c.from_residual.result c.from_residual.ensures.1 in
+    let d = c.in_err-run_rounds.ensures.part in
+    let lines = map selected_line d.0 in
+    let line = Closing c.args.rounds 0 0 in
+    rw p.1 (
+      d.0,
+      0,
+      0,
+      subst (HasPutPart g.K.Sink.written g.K.Sink.handed c.args.sink.now c.run_rounds.new.sink) (sym (map-append line_text lines (line ∷ [])))
+      (HasPutPart-append g.K.Sink.written g.K.Sink.handed c.args.sink.now c.run_rounds.new.sink (texts_of lines) (texts_of (line ∷ [])) d.1),
+    )
 
 -- the sink failed in the closing line
 pub returns-clause-stopped : goal.returns-clause-stopped

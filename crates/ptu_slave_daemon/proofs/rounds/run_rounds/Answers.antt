@@ -51,18 +51,19 @@ loop-before-preserved g c =
 pub returns-in_default-clause-part : goal.returns-in_default-clause-part
 returns-in_default-clause-part g c =
     let done = c.loop-before.invariant.done in
-    (map selected_line (changes None done.0), HasPutPart-whole g.K.Sink.written g.K.Sink.handed c.args.sink.now c.loop-before.sink _ done.2)
+    (changes None done.0, HasPutPart-whole g.K.Sink.written g.K.Sink.handed c.args.sink.now c.loop-before.sink _ done.2)
 
 pub returns-in_err-say-clause-part : goal.returns-in_err-say-clause-part
 returns-in_err-say-clause-part g c =
     let done = c.loop-before.invariant.done in
-    let lines = map selected_line (changes None done.0) in
-    let more = map selected_line (said_next c.loop-before.said (record { round = c.loop-before.before + 1; master = c.in-Ok.master })) in
+    let s : Selection = record { round = c.loop-before.before + 1; master = c.in-Ok.master } in
     let p = err_from_is_err_and c.from_residual.result c.from_residual.ensures.1 in
     rw p.1 (
-      lines ++ more,
-      subst (HasPutPart g.K.Sink.written g.K.Sink.handed c.args.sink.now c.say.new.sink) (sym (map-append line_text lines more))
-          (HasPut-part g.K.Sink.written g.K.Sink.handed c.args.sink.now c.loop-before.sink c.say.new.sink (texts_of lines) (texts_of more) done.2 c.in_err-say.ensures.part),
+      changes None (done.0 ++ s ∷ []),
+      subst (HasPutPart g.K.Sink.written g.K.Sink.handed c.args.sink.now c.say.new.sink) (sym (texts-push None done.0 s))
+      (HasPut-part g.K.Sink.written g.K.Sink.handed c.args.sink.now c.loop-before.sink c.say.new.sink (texts_of (map selected_line (changes None done.0)))
+      (texts_of (map selected_line (said_next (said_after None done.0) s))) done.2
+      (subst (λ said. HasPutPart g.K.Sink.written g.K.Sink.handed c.loop-before.sink c.say.new.sink (texts_of (map selected_line (said_next said s)))) done.1 c.in_err-say.ensures.part)),
     )
 
 pub returns-in_err-say-clause-stopped : goal.returns-in_err-say-clause-stopped
