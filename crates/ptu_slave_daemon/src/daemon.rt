@@ -51,21 +51,13 @@ fn run_over<P: Port, C: Clock, K: Sink>(
     ensures still { OnErr result (K.faults sink.new ≡ K.faults sink.old) }
 {
     let Opened {
-        p0,
-        p1,
-        p2,
-        p3,
         p4,
-        mut p5,
-        mut c0,
-        c1,
-        c2,
-        c3,
-        c4,
-        c5,
+        p5: mut event,
+        c0: mut clock,
+        ..
     } = opened;
     let mut slave = open_slave(alloc, settings, stock, p4)?;
-    let answer = run(alloc, settings.rounds, &mut slave, &mut p5, &mut c0, sink);
+    let answer = run(alloc, settings.rounds, &mut slave, &mut event, &mut clock, sink);
     let written = match answer {
         Ok(()) => Ok(()),
         Err(halt) => match halt {
@@ -74,18 +66,10 @@ fn run_over<P: Port, C: Clock, K: Sink>(
         },
     };
     let back = Opened {
-        p0,
-        p1,
-        p2,
-        p3,
         p4: slave.into_port(),
-        p5,
-        c0,
-        c1,
-        c2,
-        c3,
-        c4,
-        c5,
+        p5: event,
+        c0: clock,
+        ..opened
     };
     Ok((back, written))
 }
