@@ -1,15 +1,14 @@
 -- Datagrams that are taken one after the other.
-use Rattle.std.proofs.Common.{◌≡◌, ◌∙◌, ◌⊎◌, inl, inr, ℕ, ◌+◌, ◌<◌, ◌≤◌, ◌++◌, Bool, true, false, cond, List, [], ◌∷◌, length, map, refl, sym, ap, ap₂, subst, arith, length-append, append_assoc, Option, Some, None}
-use Rattle.std.proofs.lemmas.List.{append-nil, map-append}
-use Rattle.std.specs.Prelude.{IfSome}
+use Rattle.std.proofs.Common.{◌≡◌, ◌∙◌, ◌⊎◌, inl, inr, ℕ, ◌+◌, ◌<◌, ◌++◌, Bool, true, false, cond, List, [], ◌∷◌, length, map, refl, sym, ap, ap₂, subst, arith, length-append, append_assoc, Option, Some, None}
+use Rattle.std.proofs.lemmas.List.{map-append}
 use Rattle.ptu_outside.specs.declared.arrival.Arrival.{Arrival}
 use Rattle.ptu_outside.specs.Faults.{HasNotFallen, HasRisen}
 use Rattle.ptu_outside.specs.Telling.{IfTold, IsEmptyTold, IsFirstTold, rest_told}
 use Rattle.ptu_record.specs.Record.{Record}
 use Rattle.ptu_slave_messages.specs.Node.{Node}
 use Rattle.ptu_slave_daemon.specs.declared.counts.Counts.{Counts}
-use Rattle.ptu_slave_daemon.specs.Happenings.{Happening, arrive, record_after}
-use Rattle.ptu_slave_daemon.specs.Running.{AreTimed, CameFrom, Counted, HasFailed, IsAt, Ran, RoundTook, Took, TookOne, View}
+use Rattle.ptu_slave_daemon.specs.Happenings.{arrive, record_after}
+use Rattle.ptu_slave_daemon.specs.Running.{CameFrom, Counted, HasFailed, IsAt, Ran, RoundTook, Took, TookOne, View}
 use Rattle.ptu_slave_daemon.proofs.Ports.{still_after, still_before}
 use Rattle.ptu_slave_daemon.proofs.Runs.{ran_append, ran_still}
 

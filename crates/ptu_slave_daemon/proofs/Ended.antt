@@ -1,5 +1,5 @@
 -- What a run comes to over the ports and clocks that were opened.
-use Rattle.std.proofs.Common.{◌≡◌, ◌∙◌, ◌⊎◌, inl, inr, ℕ, ◌+◌, ◌≤◌, ◌++◌, List, [], ◌∷◌, length, map, refl, sym, ap, ap₂, subst, arith, add-zero, Option, Some, None}
+use Rattle.std.proofs.Common.{◌≡◌, ◌∙◌, inl, ℕ, ◌+◌, List, [], map, refl, sym, ap, subst, arith, add-zero, Option, None}
 use Rattle.std.proofs.lemmas.List.{map-append}
 use Rattle.std.specs.Prelude.{IsSome}
 use Rattle.ptu_outside.specs.declared.arrival.Arrival.{Arrival}
@@ -8,7 +8,6 @@ use Rattle.ptu_outside.specs.Departure.{Departure}
 use Rattle.ptu_outside.specs.Faults.{HasRisen, HasRisenBy}
 use Rattle.ptu_outside.specs.Handing.{HasPut, HasPutPart}
 use Rattle.ptu_outside.proofs.Handing.{HasPutPart-append}
-use Rattle.ptu_outside.specs.Telling.{IfTold, append_told}
 use Rattle.ptu_judges.specs.Held.{Held}
 use Rattle.ptu_config.specs.declared.settings.SlaveSettings.{SlaveSettings}
 use Rattle.ptu_slave.specs.Kept.{Kept}

@@ -12,7 +12,6 @@ use Rattle.ptu_messages.specs.declared.message.Body.TheVariants as body
 use Rattle.ptu_messages.specs.declared.message.Message.{Message}
 use Rattle.ptu_messages.specs.Reading.{message_in}
 use Rattle.ptu_outside.specs.declared.arrival.Arrival.{Arrival}
-use Rattle.ptu_outside.specs.Departure.{Departure}
 use Rattle.ptu_outside.specs.HandsOver.{HandsOver}
 use Rattle.ptu_record.specs.declared.rule.Rule.{Rule}
 use Rattle.ptu_record.specs.Lists.{places}
@@ -28,7 +27,7 @@ use Rattle.ptu_slave_messages.specs.declared.reason.SlaveReason.{SlaveReason}
 use Rattle.ptu_slave_messages.specs.declared.reason.SlaveReason.TheVariants.{Domain, Other, Target, UnknownType}
 use Rattle.ptu_slave_messages.specs.Config.{address_of, place_of, priorities, timeouts}
 use Rattle.ptu_slave_messages.specs.Heard.{event_of, replies_in}
-use Rattle.ptu_slave_messages.specs.Node.{Deed, Node, datagram_deed, deed, node_selection, node_setup, reception_deed}
+use Rattle.ptu_slave_messages.specs.Node.{Node, datagram_deed, deed, node_selection, node_setup, reception_deed}
 use Rattle.ptu_slave_messages.specs.Reception.{beside, from_master, is_delay_req, is_for, is_unknown, of_reading, reception, sender_of}
 use Rattle.ptu_slave_messages.specs.Sending.{all_ones, departure_of}
 use Rattle.ptu_slave.specs.Kept.{IsSame, Kept}
@@ -37,7 +36,7 @@ use Rattle.ptu_slave.proofs.Nodes.{node_replies}
 use Rattle.ptu_slave.proofs.Ruled.{ruled_step}
 use Rattle.ptu_slave.proofs.Staying.{rules_stay}
 use Rattle.ptu_slave.proofs.Stepping.{moment_is}
-use Rattle.ptu_slave_daemon.specs.Happenings.{Arrives, Stops, Ticks, Happening, Selection, deed_at, entered_at, record_after, selection_at, sent_in}
+use Rattle.ptu_slave_daemon.specs.Happenings.{Arrives, Stops, Ticks}
 use Rattle.ptu_slave_daemon.specs.Running.{AreTimed, IsAt, PortDid, Ran, View}
 use Rattle.ptu_slave_daemon.proofs.Ports.{port_handed}
 

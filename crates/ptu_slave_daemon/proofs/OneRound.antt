@@ -1,17 +1,14 @@
 -- One round after another.
-use Rattle.std.proofs.Common.{◌≡◌, ◌∙◌, ◌⊎◌, inl, inr, ℕ, zero, suc, ◌+◌, ◌*◌, ◌<◌, ◌≤◌, ◌++◌, List, [], ◌∷◌, length, map, take, drop, refl, sym, ap, ap₂, subst, arith, add-zero, length-append, append_assoc, Option, Some, None}
+use Rattle.std.proofs.Common.{◌≡◌, ◌∙◌, ◌⊎◌, inl, inr, ℕ, zero, suc, ◌+◌, ◌*◌, ◌≤◌, ◌++◌, List, [], ◌∷◌, length, map, take, drop, refl, sym, ap, ap₂, subst, arith, add-zero, append_assoc, Option, Some}
 use Rattle.std.proofs.lemmas.List.{append-nil, drop-drop}
-use Rattle.std.proofs.Math.Seq.{drop-cons}
-use Rattle.std.specs.Prelude.{IfSome}
 use Rattle.ptu_outside.specs.declared.arrival.Arrival.{Arrival}
 use Rattle.ptu_outside.specs.Faults.{HasNotFallen, HasRisen}
-use Rattle.ptu_outside.specs.Telling.{IsEmptyTold}
-use Rattle.ptu_rounds.specs.Rounds.{in_rounds, left_after, most, taken_in}
+use Rattle.ptu_rounds.specs.Rounds.{in_rounds, left_after, taken_in}
 use Rattle.ptu_record.specs.Record.{Record}
 use Rattle.ptu_slave_messages.specs.Node.{Node}
 use Rattle.ptu_slave_daemon.specs.declared.counts.Counts.{Counts}
 use Rattle.ptu_slave_daemon.specs.Happenings.{Happening, Selection, Stops, Ticks, arrive, record_after, round_of}
-use Rattle.ptu_slave_daemon.specs.Running.{AreRounds, CameFrom, Counted, HasFailed, IsAt, Ran, RoundTook, RoundsDone, RunDone, View}
+use Rattle.ptu_slave_daemon.specs.Running.{AreRounds, Counted, HasFailed, IsAt, Ran, RoundTook, RoundsDone, RunDone, View}
 use Rattle.ptu_slave_daemon.proofs.Ports.{failed_append, failed_none, still_after, still_before}
 use Rattle.ptu_slave_daemon.proofs.Runs.{ran_append, ran_still}
 

@@ -1,6 +1,5 @@
 -- One run of happenings after another.
-use Rattle.std.proofs.Common.{◌≡◌, ◌∙◌, ℕ, ◌+◌, ◌++◌, List, [], ◌∷◌, refl, sym, ap, ap₂, subst, append_assoc, Option}
-use Rattle.ptu_outside.specs.Departure.{Departure}
+use Rattle.std.proofs.Common.{◌≡◌, ◌∙◌, ℕ, ◌+◌, ◌++◌, List, [], ◌∷◌, refl, sym, ap, ap₂, subst, append_assoc}
 use Rattle.ptu_record.specs.Record.{Record}
 use Rattle.ptu_slave_messages.specs.Node.{Node}
 use Rattle.ptu_slave_daemon.specs.Happenings.{Happening, Selection, deed_at, entered_at, record_after, selection_at, selections_in, sent_in}

@@ -1,6 +1,6 @@
 -- Things that happen each at a new moment.
-use Rattle.std.proofs.Common.{◌≡◌, ◌≢◌, ◌∙◌, ℕ, zero, suc, ◌+◌, ◌++◌, List, [], ◌∷◌, length, map, refl, sym, ap, ap₂, subst, arith, length-append, Option, Some, None}
-use Rattle.std.specs.Prelude.{IfSome, option_map}
+use Rattle.std.proofs.Common.{◌≡◌, ◌≢◌, ◌∙◌, ℕ, zero, suc, ◌+◌, ◌++◌, List, [], ◌∷◌, length, refl, sym, ap, ap₂, arith, length-append, Option, Some, None}
+use Rattle.std.specs.Prelude.{option_map}
 use Rattle.ptu_outside.specs.Clocks.{after_first}
 use Rattle.ptu_outside.specs.Telling.{IfTold, IsFirstTold}
 use Rattle.ptu_rounds.specs.Rounds.{moments_after, next_of, timed}

@@ -1,9 +1,7 @@
 -- The selections that are written, one after the other.
-use Rattle.std.proofs.Common.{◌≡◌, ◌∙◌, ℕ, ◌++◌, Bool, true, false, cond, List, [], ◌∷◌, map, refl, sym, ap, ap₂, subst, arith, append_assoc, Option, Some, None}
-use Rattle.std.proofs.lemmas.Bool.{false≢true}
+use Rattle.std.proofs.Common.{◌≡◌, ◌∙◌, ℕ, ◌++◌, Bool, true, false, cond, List, [], ◌∷◌, map, refl, ap, arith, Option, Some, None}
 use Rattle.std.proofs.lemmas.List.{map-append}
 use Rattle.std.specs.Prelude.{◌==◌}
-use Rattle.ptu_slave_daemon.specs.declared.line.SlaveLine.{SlaveLine}
 use Rattle.ptu_slave_daemon.specs.Happenings.{Selection}
 use Rattle.ptu_slave_daemon.specs.Lines.{changes, is_said, is_same, line_text, said_next, selected_line, texts_of}
 

@@ -1,7 +1,6 @@
 -- What a slave's daemon writes. The words are the project's own choice.
 use Rattle.std.specs.Prelude.{ℕ, Bool, true, false, cond, ◌==◌, List, [], ◌∷◌, ◌++◌, codes, length, map, Option, Some, None}
 use Rattle.std.specs.Fmt.{decimal}
-use Rattle.ptu_outside.specs.declared.arrival.Arrival.{Arrival}
 use Rattle.ptu_record.specs.Record.{Record}
 use Rattle.ptu_slave_messages.specs.Node.{Node}
 use Rattle.ptu_texts.specs.Texts.{address_text}
@@ -9,7 +8,7 @@ use Rattle.ptu_config.specs.declared.settings.SlaveSettings.{SlaveSettings}
 use Rattle.ptu_slave_daemon.specs.declared.line.SlaveLine.{SlaveLine}
 use Rattle.ptu_slave_daemon.specs.declared.line.SlaveLine.TheVariants.{Selected, Closing}
 use Rattle.ptu_slave_daemon.specs.Opening.{node_of}
-use Rattle.ptu_slave_daemon.specs.Happenings.{Happening, Selection, happenings, selections_in, sent_in}
+use Rattle.ptu_slave_daemon.specs.Happenings.{Happening, Selection, selections_in, sent_in}
 
 -- the address of the master that is selected, or `none`
 abbrev pub master_text : Option ℕ → List ℕ
@@ -21,7 +20,8 @@ abbrev pub line_text : SlaveLine → List ℕ
 line_text (Selected round master) =
     codes "round " ++ (decimal round ++ (codes " selected " ++ (master_text master ++ codes "\n")))
 line_text (Closing rounds sent failed) =
-    codes "rounds " ++ (decimal rounds ++ (codes " sent " ++ (decimal sent ++ (codes " failed " ++ (decimal failed ++ codes "\n")))))
+    codes "rounds " ++ (decimal rounds ++ (codes " sent " ++ (decimal sent
+    ++ (codes " failed " ++ (decimal failed ++ codes "\n")))))
 
 -- two selections are of one master, or both of none
 abbrev pub is_same : Option ℕ → Option ℕ → Bool

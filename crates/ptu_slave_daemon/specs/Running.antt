@@ -32,9 +32,10 @@ Counted sent failed old new = (new.sent ≡ old.sent + sent) × (new.failed ≡ 
 
 -- ---- ports
 
--- a port with these counts of faults was handed the datagrams, of which so many were sent, and so many sends and receives
--- failed
-pub record PortDid (before after : Option (List Departure)) (old new : ℕ) (datagrams : List Departure) (sent failed : ℕ) : Type 0 where
+-- a port with these counts of faults was handed the datagrams, of which so many were sent, and so many
+-- sends and receives failed
+pub record PortDid (before after : Option (List Departure)) (old new : ℕ) (datagrams : List Departure) (sent failed : ℕ)
+    : Type 0 where
   pub departures : List Departure
   pub many : length departures ≡ sent
   pub sent_is : IfTold after (append_told before departures)
@@ -43,7 +44,7 @@ pub record PortDid (before after : Option (List Departure)) (old new : ℕ) (dat
   pub all_sent : ¬ HasRisen old new → IfTold after (append_told before datagrams)
   pub all_counted : ¬ HasRisen old new → sent ≡ length datagrams
 
--- of a port with these counts of faults, at which these waited before and wait after, so many receives failed
+-- of a port with these counts of faults so many receives failed
 pub record HasFailed (old new failed : ℕ) : Type 0 where
   pub risen : HasRisenBy failed old new
   pub no_fall : HasNotFallen old new
@@ -52,8 +53,10 @@ pub record HasFailed (old new failed : ℕ) : Type 0 where
 abbrev pub CameFrom : Option (List Arrival) → Option (List Arrival) → List Arrival → Type 0
 CameFrom before after arrivals = IfSome after (λ left. before ≡ Some (arrivals ++ left))
 
--- what a round takes of a port with these counts of faults: 64 datagrams, or all that waited where no receive failed
-pub record RoundTook (before after : Option (List Arrival)) (old new : ℕ) (arrivals : List Arrival) : Type 0 where
+-- what a round takes of a port with these counts of faults: 64 datagrams, or all that waited where no
+-- receive failed
+pub record RoundTook (before after : Option (List Arrival)) (old new : ℕ) (arrivals : List Arrival)
+    : Type 0 where
   pub came : CameFrom before after arrivals
   pub few : length arrivals ≤ 64
   pub whole : ¬ HasRisen old new → (length arrivals ≡ 64) ⊎ IsEmptyTold after
@@ -63,7 +66,8 @@ pub record RoundTook (before after : Option (List Arrival)) (old new : ℕ) (arr
 -- these happened each at a new moment of a clock that told these moments before, and tells these after
 abbrev pub AreTimed : Option (List ℕ) → Option (List ℕ) → List (ℕ → Happening) → List Happening → Type 0
 AreTimed before after acts hs =
-    IfSome after (λ later. (times : List ℕ) × (before ≡ Some times) × (hs ≡ timed times acts) × (later ≡ moments_after (length acts) times))
+    IfSome after (λ later. (times : List ℕ) × (before ≡ Some times) × (hs ≡ timed times acts)
+    × (later ≡ moments_after (length acts) times))
 
 -- ---- the slave
 
@@ -89,7 +93,8 @@ pub record View : Type 0 where
 
 -- from the record L on these happened to the slave: it stands for the record after them, its port was handed what is sent
 -- then, and it selected this
-pub record Ran (node : Node) (L : Record) (old new : View) (acts : List (ℕ → Happening)) (hs : List Happening) (selections : List Selection) (sent failed : ℕ) : Type 0 where
+pub record Ran (node : Node) (L : Record) (old new : View) (acts : List (ℕ → Happening)) (hs : List Happening)
+    (selections : List Selection) (sent failed : ℕ) : Type 0 where
   pub timed : AreTimed old.times new.times acts hs
   pub stands : IsAt node new.kept new.judges (record_after node L hs)
   pub port : PortDid old.sent new.sent old.faults new.faults (sent_in node L hs) sent failed
@@ -97,23 +102,28 @@ pub record Ran (node : Node) (L : Record) (old new : View) (acts : List (ℕ →
 
 -- these arrivals were taken, of which no selection came
 abbrev pub Took : Node → Record → View → View → List Arrival → (sent failed : ℕ) → Type 0
-Took node L old new arrivals sent failed = (hs : List Happening) × Ran node L old new (map arrive arrivals) hs [] sent failed
+Took node L old new arrivals sent failed =
+    (hs : List Happening) × Ran node L old new (map arrive arrivals) hs [] sent failed
 
 -- ---- rounds
 
 -- after so many rounds, where no port has failed and all is still told, what happened is what the rounds say of all that
 -- waited, and what waits is the rest
-abbrev pub AreRounds : ℕ → (general general' event event' : Option (List Arrival)) → (faults faults' event_faults event_faults' : ℕ) → List (ℕ → Happening) → Type 0
+abbrev pub AreRounds : ℕ → (general general' event event' : Option (List Arrival))
+    → (faults faults' event_faults event_faults' : ℕ) → List (ℕ → Happening) → Type 0
 AreRounds rounds general general' event event' faults faults' event_faults event_faults' acts =
-    ¬ HasRisen faults faults' → ¬ HasRisen event_faults event_faults' → (left : List Arrival) (event_left : List Arrival)
+    ¬ HasRisen faults faults' → ¬ HasRisen event_faults event_faults'
+    → (left : List Arrival) (event_left : List Arrival)
     → general' ≡ Some left → event' ≡ Some event_left
     → (all : List Arrival) × (event_all : List Arrival) × (general ≡ Some all) × (event ≡ Some event_all)
-    × (acts ≡ in_rounds (round_of all event_all) rounds) × (left ≡ left_after rounds all) × (event_left ≡ left_after rounds event_all)
+    × (acts ≡ in_rounds (round_of all event_all) rounds)
+    × (left ≡ left_after rounds all) × (event_left ≡ left_after rounds event_all)
 
 -- ---- as the code sees it
 
 -- the view of a slave that keeps and holds this, with its port and the clock
-abbrev pub view_of : {P C : Type 0} → (P → Option (List Departure)) → (P → ℕ) → (C → Option (List ℕ)) → Kept → List Held → P → C → View
+abbrev pub view_of : {P C : Type 0} → (P → Option (List Departure)) → (P → ℕ) → (C → Option (List ℕ))
+    → Kept → List Held → P → C → View
 view_of sent faults moments kept judges port clock = record {
   kept = kept;
   judges = judges;
@@ -130,7 +140,8 @@ pub record TookOne (before after : Option (List Arrival)) (old new : ℕ) (more 
 
 -- so many rounds were gone through, which began at the record L, and after which this was selected
 pub record RoundsDone (rounds : ℕ) (node : Node) (L : Record) (old new : View)
-    (general general' event event' : Option (List Arrival)) (event_faults event_faults' : ℕ) (selections : List Selection) (sent failures : ℕ) : Type 0 where
+    (general general' event event' : Option (List Arrival)) (event_faults event_faults' : ℕ)
+    (selections : List Selection) (sent failures : ℕ) : Type 0 where
   pub acts : List (ℕ → Happening)
   pub hs : List Happening
   pub failed : ℕ
@@ -142,7 +153,8 @@ pub record RoundsDone (rounds : ℕ) (node : Node) (L : Record) (old new : View)
 
 -- so many rounds were gone through and the slave has stopped
 pub record RunDone (rounds : ℕ) (node : Node) (L : Record) (old new : View)
-    (general general' event event' : Option (List Arrival)) (event_faults event_faults' : ℕ) (selections : List Selection) (sent failures : ℕ) : Type 0 where
+    (general general' event event' : Option (List Arrival)) (event_faults event_faults' : ℕ)
+    (selections : List Selection) (sent failures : ℕ) : Type 0 where
   pub acts : List (ℕ → Happening)
   pub hs : List Happening
   pub failed : ℕ

@@ -57,7 +57,14 @@ fn run_over<P: Port, C: Clock, K: Sink>(
         ..
     } = opened;
     let mut slave = open_slave(alloc, settings, stock, p4)?;
-    let answer = run(alloc, settings.rounds, &mut slave, &mut event, &mut clock, sink);
+    let answer = run(
+        alloc,
+        settings.rounds,
+        &mut slave,
+        &mut event,
+        &mut clock,
+        sink,
+    );
     let written = match answer {
         Ok(()) => Ok(()),
         Err(halt) => match halt {

@@ -1,4 +1,4 @@
-use Rattle.std.proofs.Common.{[], ◌∙◌, Err, ap, map, refl, sym}
+use Rattle.std.proofs.Common.{[], ◌∙◌, Err, ap, map, refl}
 use Rattle.std.proofs.lemmas.Result.{err_from_is_err_and}
 use Rattle.ptu_outside.proofs.Handing.{HasPutPart-none}
 use Rattle.ptu_slave_daemon.specs.Opening.{node_of}

@@ -1,4 +1,4 @@
-use Rattle.std.proofs.Common.{[], ◌∷◌, ◌++◌, ◌∙◌, None, map, subst, sym}
+use Rattle.std.proofs.Common.{[], ◌∷◌, ◌++◌, None, map, subst, sym}
 use Rattle.std.proofs.lemmas.List.{map-append}
 use Rattle.std.proofs.lemmas.Result.{err_from_is_err_and, on_err_weaker, on_ok_weaker}
 use Rattle.ptu_outside.specs.Handing.{HasPut, HasPutPart}
@@ -38,7 +38,7 @@ returns-clause-part g c =
       c.stop.new.counts.sent,
       c.stop.new.counts.failed,
       subst (HasPutPart g.K.Sink.written g.K.Sink.handed c.args.sink.now c.write_line.new.sink) (sym (map-append line_text lines (line ∷ [])))
-      (HasPut-part g.K.Sink.written g.K.Sink.handed c.args.sink.now c.run_rounds.new.sink c.write_line.new.sink (texts_of lines) (texts_of (line ∷ [])) done.1 part),
+          (HasPut-part g.K.Sink.written g.K.Sink.handed c.args.sink.now c.run_rounds.new.sink c.write_line.new.sink (texts_of lines) (texts_of (line ∷ [])) done.1 part),
     )) c.write_line.ensures.part
 
 pub returns-in_err-run_rounds-clause-part : goal.returns-in_err-run_rounds-clause-part
@@ -52,7 +52,7 @@ returns-in_err-run_rounds-clause-part g c =
       0,
       0,
       subst (HasPutPart g.K.Sink.written g.K.Sink.handed c.args.sink.now c.run_rounds.new.sink) (sym (map-append line_text lines (line ∷ [])))
-      (HasPutPart-append g.K.Sink.written g.K.Sink.handed c.args.sink.now c.run_rounds.new.sink (texts_of lines) (texts_of (line ∷ [])) d.1),
+          (HasPutPart-append g.K.Sink.written g.K.Sink.handed c.args.sink.now c.run_rounds.new.sink (texts_of lines) (texts_of (line ∷ [])) d.1),
     )
 
 -- the sink failed in the closing line

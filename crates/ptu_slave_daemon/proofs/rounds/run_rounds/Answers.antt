@@ -1,11 +1,10 @@
-use Rattle.std.proofs.Common.{[], ◌∷◌, ◌++◌, ◌+◌, ◌*◌, ◌^◌, ◌≤◌, ◌≡◌, ◌∙◌, None, Some, ap, arith, map, refl, subst, sym}
-use Rattle.std.proofs.lemmas.List.{map-append}
+use Rattle.std.proofs.Common.{[], ◌∷◌, ◌++◌, ◌+◌, ◌≡◌, ◌∙◌, None, ap, arith, map, refl, subst, sym}
 use Rattle.std.proofs.lemmas.Result.{err_from_is_err_and}
 use Rattle.ptu_outside.specs.Handing.{HasPut, HasPutPart}
 use Rattle.ptu_outside.proofs.Handing.{HasPut-append, HasPut-none, HasPut-part, HasPutPart-whole}
 use Rattle.ptu_slave_daemon.specs.declared.counts.Counts.{Counts}
 use Rattle.ptu_slave_daemon.specs.Happenings.{Selection, record_after}
-use Rattle.ptu_slave_daemon.specs.Lines.{changes, line_text, said_next, selected_line, texts_of}
+use Rattle.ptu_slave_daemon.specs.Lines.{changes, said_next, selected_line, texts_of}
 use Rattle.ptu_slave_daemon.proofs.OneRound.{done_more, done_none}
 use Rattle.ptu_slave_daemon.proofs.Written.{said_after, said_after-push, texts-push}
 use Rattle.ptu_slave_daemon.proofs.rounds.run_rounds.Goals as goal
@@ -61,9 +60,9 @@ returns-in_err-say-clause-part g c =
     rw p.1 (
       changes None (done.0 ++ s ∷ []),
       subst (HasPutPart g.K.Sink.written g.K.Sink.handed c.args.sink.now c.say.new.sink) (sym (texts-push None done.0 s))
-      (HasPut-part g.K.Sink.written g.K.Sink.handed c.args.sink.now c.loop-before.sink c.say.new.sink (texts_of (map selected_line (changes None done.0)))
-      (texts_of (map selected_line (said_next (said_after None done.0) s))) done.2
-      (subst (λ said. HasPutPart g.K.Sink.written g.K.Sink.handed c.loop-before.sink c.say.new.sink (texts_of (map selected_line (said_next said s)))) done.1 c.in_err-say.ensures.part)),
+          (HasPut-part g.K.Sink.written g.K.Sink.handed c.args.sink.now c.loop-before.sink c.say.new.sink (texts_of (map selected_line (changes None done.0)))
+          (texts_of (map selected_line (said_next (said_after None done.0) s))) done.2
+          (subst (λ said. HasPutPart g.K.Sink.written g.K.Sink.handed c.loop-before.sink c.say.new.sink (texts_of (map selected_line (said_next said s)))) done.1 c.in_err-say.ensures.part)),
     )
 
 pub returns-in_err-say-clause-stopped : goal.returns-in_err-say-clause-stopped

@@ -1,4 +1,4 @@
-use Rattle.std.proofs.Common.{◌≡◌, ℕ, ◌*◌, ◌^◌, ◌≤◌, List, None, map}
+use Rattle.std.proofs.Common.{◌≡◌, ◌*◌, ◌^◌, ◌≤◌, List, None, map}
 use Rattle.ptu_outside.specs.Handing.{HasPut}
 use Rattle.ptu_record.specs.Record.{Record}
 use Rattle.ptu_slave_messages.specs.Node.{Node}

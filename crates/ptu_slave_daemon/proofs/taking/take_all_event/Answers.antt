@@ -1,4 +1,4 @@
-use Rattle.std.proofs.Common.{[], ◌++◌, ◌+◌, ◌≡◌, ◌<◌, ◌≤◌, ◌∙◌, ap₂, arith, length, length-append, refl}
+use Rattle.std.proofs.Common.{[], ◌++◌, ◌+◌, ◌≡◌, ◌<◌, ◌∙◌, ap₂, arith, length, length-append, refl}
 use Rattle.ptu_outside.proofs.Telling.{IfTold-refl}
 use Rattle.ptu_slave_daemon.specs.Happenings.{record_after}
 use Rattle.ptu_slave_daemon.proofs.Arrived.{came_append, came_none, counted_both, counted_none, one_length, round_full, round_short, took_append, took_none}

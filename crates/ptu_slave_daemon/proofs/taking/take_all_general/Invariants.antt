@@ -2,7 +2,7 @@ use Rattle.std.proofs.Common.{◌≡◌, ℕ, List, map, length}
 use Rattle.ptu_outside.specs.declared.arrival.Arrival.{Arrival}
 use Rattle.ptu_record.specs.Record.{Record}
 use Rattle.ptu_slave_messages.specs.Node.{Node}
-use Rattle.ptu_slave_daemon.specs.Running.{CameFrom, Counted, Grows, IsAt, IsJudged, Took, view_of}
+use Rattle.ptu_slave_daemon.specs.Running.{CameFrom, Counted, Grows, IsAt, Took, view_of}
 use Rattle.ptu_slave_daemon.proofs.taking.take_all_general.Given as goal
 
 abbrev pub invariant-loop-taken : goal.invariant-loop-taken

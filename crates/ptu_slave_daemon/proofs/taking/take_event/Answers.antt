@@ -1,7 +1,5 @@
-use Rattle.std.proofs.Common.{[], ◌∷◌, refl, ap, ◌∙◌, sym, subst, take, add-zero, ◌+◌}
-use Rattle.ptu_outside.specs.Telling.{IfTold, rest_told}
+use Rattle.std.proofs.Common.{[], ◌∷◌, refl, ap, ◌∙◌, sym, take, add-zero, ◌+◌}
 use Rattle.ptu_slave_daemon.specs.declared.counts.Counts.{Counts}
-use Rattle.ptu_slave_daemon.specs.Running.{view_of}
 use Rattle.ptu_slave_daemon.proofs.Arrived.{counted_none, none_came, none_received, one_came, took_none}
 use Rattle.ptu_slave_daemon.proofs.Ports.{failed_none, failed_once}
 use Rattle.ptu_slave_daemon.proofs.taking.take_event.Goals as goal
