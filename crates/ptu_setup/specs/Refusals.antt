@@ -1,5 +1,5 @@
 -- Why a program refuses settings, and by which line of output.
-use Rattle.std.specs.Prelude.{◌≡◌, ◌≤◌, ℕ, suc, Bool, true, false, not, ◌||◌, nat_lt, if◌then◌else◌, List, ◌++◌, length, filter, codes, Option, Some, None}
+use Rattle.std.specs.Prelude.{◌≡◌, ◌≤◌, ℕ, suc, Bool, true, false, not, ◌||◌, nat_lt, if◌then◌else◌, List, ◌++◌, count_by, codes, Option, Some, None}
 use Rattle.toml.specs.Data.{Members}
 use Rattle.ptu_config.specs.declared.key.Key.TheVariants.{Senders, TwoStep, Masters}
 use Rattle.ptu_config.specs.declared.fault.SettingFault.{SettingFault}
@@ -73,22 +73,22 @@ gm_refusal octets = or_later (refusal_of gm_keys octets) (unserved (document_of 
 
 -- ---- a slave
 
--- the masters that are judged by the gaps between their Syncs, and those that are not
-abbrev pub by_gaps : List MasterSetting → List MasterSetting
-by_gaps list = filter (λ (m : MasterSetting). m.gap) list
+-- how many masters are judged by the gaps between their Syncs, and how many are not
+abbrev pub by_gaps : List MasterSetting → ℕ
+by_gaps list = count_by (λ (m : MasterSetting). m.gap) list
 
-abbrev pub by_flags : List MasterSetting → List MasterSetting
-by_flags list = filter (λ (m : MasterSetting). not m.gap) list
+abbrev pub by_flags : List MasterSetting → ℕ
+by_flags list = count_by (λ (m : MasterSetting). not m.gap) list
 
 -- there are as many judges of flags and of gaps as these masters want
 pub record HasJudges (flags gaps : ℕ) (list : List MasterSetting) : Type 0 where
-  pub enough_flags : length (by_flags list) ≤ flags
-  pub enough_gaps : length (by_gaps list) ≤ gaps
+  pub enough_flags : by_flags list ≤ flags
+  pub enough_gaps : by_gaps list ≤ gaps
 
 -- the masters want more judges of a rule than there are
 abbrev pub is_short : ℕ → ℕ → Option Value → Bool
 is_short flags gaps (Some (masters list)) =
-    nat_lt flags (length (by_flags list)) || nat_lt gaps (length (by_gaps list))
+    nat_lt flags (by_flags list) || nat_lt gaps (by_gaps list)
 is_short flags gaps _ = false
 
 abbrev pub unjudged : ℕ → ℕ → Option Members → Option RefusalLine

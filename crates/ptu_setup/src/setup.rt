@@ -1,16 +1,16 @@
 //! The settings that a source has left.
 
-ghost use Rattle.std.specs.Prelude.{◌≡◌, ℕ, List, Some, length, filter, IfOk, IfErr};
+ghost use Rattle.std.specs.Prelude.{◌≡◌, ℕ, List, Some, IfOk, IfErr};
 ghost use Rattle.ptu_outside.specs.Ends.{StopsAtEnd};
 ghost use Rattle.ptu_config.specs.Entries.{gm_entries, slave_entries};
 ghost use Rattle.ptu_config.specs.Limits.{IsGmInRange, IsSlaveInRange};
 ghost use Rattle.ptu_setup.specs.Reading.{Answers, CountsRead, HasSetUp, HasTakenSome, IsNoFailure};
-ghost use Rattle.ptu_setup.specs.Refusals.{gm_refusal, slave_refusal, HasJudges, IsServed};
+ghost use Rattle.ptu_setup.specs.Refusals.{by_flags, by_gaps, gm_refusal, slave_refusal, HasJudges, IsServed};
 
 use crate::fault::SetupFault;
 use crate::octets::read_octets;
 use crate::refusal::RefusalLine;
-use ptu_config::{GmSettings, Key, SlaveSettings, gm_settings, slave_settings};
+use ptu_config::{GmSettings, Key, MasterSetting, SlaveSettings, gm_settings, slave_settings};
 use ptu_outside::Source;
 use std::alloc::Global;
 
@@ -31,6 +31,20 @@ fn gm_of(alloc: Global, octets: &[u8]) -> Result<GmSettings, SetupFault>
     Ok(settings)
 }
 
+// How many masters are judged by the gaps between their Syncs.
+fn count_by_gaps(masters: &[MasterSetting]) -> usize
+    ensures { result ≡ by_gaps masters.now }
+{
+    masters.iter().filter(|m| m.gap).count()
+}
+
+// How many are not.
+fn count_by_flags(masters: &[MasterSetting]) -> usize
+    ensures { result ≡ by_flags masters.now }
+{
+    masters.iter().filter(|m| !m.gap).count()
+}
+
 // The settings of a slave that the octets are, where there are judges enough for its masters.
 fn slave_of(
     alloc: Global,
@@ -44,9 +58,8 @@ fn slave_of(
     ensures cause { IfErr result IsNoFailure }
 {
     let settings = slave_settings(alloc, octets)?;
-    let by_gaps = settings.masters.list().iter().filter(|m| m.gap).count();
-    let by_flags = settings.masters.list().iter().filter(|m| !m.gap).count();
-    if flags < by_flags || gaps < by_gaps {
+    let masters = settings.masters.list();
+    if flags < count_by_flags(masters) || gaps < count_by_gaps(masters) {
         return Err(SetupFault::Refused(RefusalLine::Bad(Key::Masters)));
     }
     Ok(settings)
