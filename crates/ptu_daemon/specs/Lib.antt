@@ -1,0 +1,4 @@
+pub mod Events
+pub mod Sends
+pub mod Served
+pub mod Serving

@@ -1,0 +1,67 @@
+-- The datagrams that events make a grandmaster send, by port: ports 0 to 3 are those of its tables, and port 4 is that of its
+-- Signaling messages.
+use Rattle.std.specs.Prelude.{ℕ, ◌==◌, if◌then◌else◌, List, [], ◌∷◌, ◌++◌, map, Result, Ok, Err}
+use Rattle.ptu_outside.specs.Departure.{Departure}
+use Rattle.ptu_history.specs.Client.{table_of}
+use Rattle.ptu_history.specs.Core.{core_moment, history_after}
+use Rattle.ptu_history.specs.Counts.{counts}
+use Rattle.ptu_history.specs.Events as events
+use Rattle.ptu_history.specs.History.{Record}
+use Rattle.ptu_history.specs.Shedding.{shed_grants}
+use Rattle.ptu_history.specs.Step.{delay_answer}
+use Rattle.ptu_history.specs.Turns.{due_grants, message_of}
+use Rattle.ptu_shard.specs.declared.config.GmConfig.{GmConfig}
+use Rattle.ptu_shard.specs.Answered.{responses}
+use Rattle.ptu_shard.specs.Messages.{departure_of, response_of}
+use Rattle.ptu_items.specs.declared.heard.Heard.{Heard}
+use Rattle.ptu_items.specs.declared.heard.Heard.TheVariants as heard
+use Rattle.ptu_items.specs.declared.reason.GmReason.{GmReason}
+use Rattle.ptu_items.specs.Items.{heard_in}
+use Rattle.ptu_items.specs.Deciding.{client_of, opened_with, reply_after}
+use Rattle.ptu_items.specs.Replies.{cancels_to, lease_of}
+use Rattle.ptu_grandmaster.specs.declared.driving.GmEvent.{GmEvent}
+use Rattle.ptu_grandmaster.specs.declared.driving.GmEvent.TheVariants.{Take, Turn, Class, Capacity}
+use Rattle.ptu_grandmaster.specs.Driven.{events_of}
+
+-- the grandmaster's configuration, the capacity that it was opened with, and its history
+pub record Standing : Type 0 where
+  pub config : GmConfig
+  pub opening : ℕ
+  pub past : List Record
+
+-- of datagrams that go by one port, those that go by the port of this index
+abbrev pub by : ℕ → ℕ → List Departure → List Departure
+by i port datagrams = if i == port then datagrams else []
+
+-- what it heard from the address at the moment makes it send by the port of this index: a Delay_Resp where one is lawful, or
+-- one reply to items
+abbrev pub heard_sends : Standing → ℕ → ℕ → ℕ → Result Heard GmReason → List Departure
+heard_sends gm i t from (Err reason) = []
+heard_sends gm i t from (Ok (heard.DelayReq header)) =
+    let c = client_of from header in
+    let x = core_moment gm.past t (events.DelayReq c) in
+    by i (table_of c) (responses (delay_answer gm.past x c) (response_of gm.config x c header))
+heard_sends gm i t from (Ok (heard.Asks header [])) = []
+heard_sends gm i t from (Ok (heard.Asks header items)) =
+    by i 4 (reply_after gm.config (opened_with gm.opening gm.config) gm.past t from header items ∷ [])
+
+-- the event makes it send by the port of this index
+abbrev pub event_sends : Standing → ℕ → GmEvent → List Departure
+event_sends gm i (Take t from octets) = heard_sends gm i t from (heard_in gm.config octets)
+event_sends gm i (Turn t j) =
+    let x = core_moment gm.past t (events.Turn j) in
+    by i j (map (λ g. departure_of gm.config x (message_of gm.past g)) (due_grants gm.past x j))
+event_sends gm i (Class class) = []
+event_sends gm i (Capacity t capacity) =
+    let x = core_moment gm.past t (events.Resize capacity) in
+    by i 4 (cancels_to gm.config (counts gm.past).shed (map lease_of (shed_grants gm.past x capacity)))
+
+-- it after the event; none of these events changes its class
+abbrev pub standing_after : Standing → GmEvent → Standing
+standing_after gm event =
+    record gm { past = history_after (opened_with gm.opening gm.config) gm.past (events_of gm.config event) }
+
+-- the events, one after the other, make it send by the port of this index
+unfoldable pub sends_by : Standing → ℕ → List GmEvent → List Departure
+sends_by gm i [] = []
+sends_by gm i (event ∷ later) = event_sends gm i event ++ sends_by (standing_after gm event) i later

@@ -1,0 +1,57 @@
+-- What a served grandmaster sends, and its last line (the project's own choice).
+use Rattle.std.specs.Prelude.{ℕ, ◌+◌, List, [], ◌++◌, length, codes, decimal}
+use Rattle.ptu_outside.specs.Departure.{Departure}
+use Rattle.ptu_history.specs.Core.{book_step_moment}
+use Rattle.ptu_history.specs.Counts.{counts}
+use Rattle.ptu_history.specs.History.{Record}
+use Rattle.ptu_history.specs.Verdict.{table_rates}
+use Rattle.ptu_grandmaster.specs.Driven.{driven_history}
+use Rattle.ptu_grandmaster.specs.Gm.{counted}
+use Rattle.ptu_config.specs.declared.settings.GmSettings.{GmSettings}
+use Rattle.ptu_daemon.specs.Events.{Given, config_of, served_events}
+use Rattle.ptu_daemon.specs.Sends.{sends_by}
+
+-- the numbers of the last line: how many sends succeeded, how many sends and receives failed, how many asks were granted and
+-- how many within the profile did not fit, and the rates of the grants that are live at the greatest moment, in sixteenths of
+-- a message per second
+pub record Said : Type 0 where
+  pub sent : ℕ
+  pub failed : ℕ
+  pub granted : ℕ
+  pub refused : ℕ
+  pub held : ℕ
+
+-- the last line
+unfoldable pub closing_line : ℕ → Said → List ℕ
+closing_line rounds said =
+    codes "rounds " ++ (decimal rounds ++ (codes " sent " ++ (decimal said.sent ++ (codes " failed " ++ (decimal said.failed
+    ++ (codes " granted " ++ (decimal said.granted ++ (codes " refused " ++ (decimal said.refused ++ (codes " held "
+    ++ (decimal said.held ++ codes "\n")))))))))))
+
+-- the history of the rounds
+abbrev pub served_history : GmSettings → Given → List Record
+served_history settings given = driven_history (config_of settings) settings.capacity (served_events settings given)
+
+-- what the port of this index is sent, from 0 to 4
+abbrev pub served_by : GmSettings → Given → ℕ → List Departure
+served_by settings given i =
+    sends_by (record { config = config_of settings; opening = settings.capacity; past = [] }) i (served_events settings given)
+
+-- the sum of the rates of the grants that are live at the greatest moment of the history
+abbrev pub held_by : List Record → ℕ
+held_by history =
+    let x = book_step_moment history 0 in
+    table_rates history x 0 + table_rates history x 1 + table_rates history x 2 + table_rates history x 3
+
+-- the numbers of the last line, where nothing failed
+abbrev pub served_said : GmSettings → Given → Said
+served_said settings given =
+    let history = served_history settings given in
+    let many : ℕ → ℕ = λ i. length (served_by settings given i) in
+    record {
+      sent = many 0 + many 1 + many 2 + many 3 + many 4;
+      failed = 0;
+      granted = counted (counts history).granted;
+      refused = counted (counts history).short;
+      held = held_by history;
+    }

@@ -1,0 +1,53 @@
+-- What a call that serves has done with the ports and clocks that it opened.
+use Rattle.std.specs.Prelude.{◌≡◌, ℕ, List, map, Option, Some, IsSome, IfSome}
+use Rattle.ptu_outside.specs.declared.clock.Clock.{Ghosts as Clocks}
+use Rattle.ptu_outside.specs.declared.opened.Opened.{Opened}
+use Rattle.ptu_outside.specs.declared.port.Port.{Ghosts as Ports}
+use Rattle.ptu_outside.specs.Departure.{Departure}
+use Rattle.ptu_outside.specs.Telling.{IfTold, append_told}
+use Rattle.ptu_config.specs.declared.settings.GmSettings.{GmSettings}
+use Rattle.ptu_rounds.specs.Ports.{HaveNotRisen, HaveRisenBy, WereSent, ports_of, senders_of}
+use Rattle.ptu_daemon.specs.Events.{Given}
+use Rattle.ptu_daemon.specs.Served.{Said, served_by, served_said}
+
+-- the ports and clocks tell that this is given, and still tell it when they are given back
+pub record IsGiven {P C : Type 0} (ports : Ports P) (clocks : Clocks C) (opened closed : Opened P C) (given : Given) : Type 0 where
+  pub general : ports.waiting opened.p4 ≡ Some given.general
+  pub event : ports.waiting opened.p5 ≡ Some given.event
+  pub moments : clocks.moments opened.c0 ≡ Some given.moments
+  pub general_still : IsSome (ports.waiting closed.p4)
+  pub event_still : IsSome (ports.waiting closed.p5)
+  pub moments_still : IsSome (clocks.moments closed.c0)
+
+-- what the port was sent, where it still tells it, grew by these datagrams
+abbrev pub WasSent : {P : Type 0} → Ports P → P → P → List Departure → Type 0
+WasSent ports old new datagrams = IfTold (ports.sent new) (append_told (ports.sent old) datagrams)
+
+-- each port was sent what is served for what is given, and the numbers of the last line are those of this
+pub record AreServed {P C : Type 0} (ports : Ports P) (settings : GmSettings) (given : Given) (opened closed : Opened P C) (said : Said) : Type 0 where
+  pub p0 : WasSent ports opened.p0 closed.p0 (served_by settings given 0)
+  pub p1 : WasSent ports opened.p1 closed.p1 (served_by settings given 1)
+  pub p2 : WasSent ports opened.p2 closed.p2 (served_by settings given 2)
+  pub p3 : WasSent ports opened.p3 closed.p3 (served_by settings given 3)
+  pub p4 : WasSent ports opened.p4 closed.p4 (served_by settings given 4)
+  pub p5 : ports.sent closed.p5 ≡ ports.sent opened.p5
+  pub line : said ≡ served_said settings given
+
+-- the counts of faults of all six ports
+abbrev pub faults_of : {P C : Type 0} → Ports P → Opened P C → List ℕ
+faults_of ports opened = map ports.faults (ports_of opened)
+
+-- a host that told that it opens `opening` tells that it was given `back`: between these the ports and clocks served, and
+-- this was said of it
+pub record HasServed {P C : Type 0} (ports : Ports P) (clocks : Clocks C) (settings : GmSettings) (opening back : Option (Opened P C)) (said : Said) : Type 0 where
+  pub opened : Opened P C
+  pub closed : Opened P C
+  pub opens : IfSome opening (λ told. opened ≡ told)
+  pub gives_back : IfTold back (Some closed)
+  -- what failed is at most what the counts of faults rose by together, and what was sent is the number of datagrams that
+  -- ports 0 to 4 were sent, whatever the counts did
+  pub failed : HaveRisenBy said.failed (faults_of ports opened) (faults_of ports closed)
+  pub sent : WereSent said.sent (map ports.sent (senders_of opened)) (map ports.sent (senders_of closed))
+  -- where no count rose, it is what is served
+  pub served : (given : Given) → IsGiven ports clocks opened closed given →
+      HaveNotRisen (faults_of ports opened) (faults_of ports closed) → AreServed ports settings given opened closed said

@@ -1,0 +1,121 @@
+ghost use Rattle.std.specs.Prelude.{◌≡◌, ◌≤◌, ◌∷◌, [], None, take, IfOk, OnOk, OnErr, IfSome, IfNone};
+ghost use Rattle.ptu_outside.specs.Faults.{HasNotFallen, HasRisen};
+ghost use Rattle.ptu_outside.specs.Telling.{IfTold, IsEmptyTold, IsFirstTold, append_told, rest_told};
+
+use ptu_outside::{Channel, Failed, Port};
+use std::io::ErrorKind;
+use std::marker::Model;
+use std::net::{Ipv4Addr, Net, SocketAddr, SocketAddrV4, UdpSocket};
+use std::time::{Clock, Duration};
+use std::{io, thread};
+
+/// For how many microseconds a port rests that finds nothing waiting. The system may make up to 50 more of it.
+const REST: u64 = 120;
+
+/// The UDP port numbers of the two channels.
+#[derive(Clone, Copy, Debug, PartialEq, Eq)]
+pub(crate) struct Numbers {
+    pub event: u16,
+    pub general: u16,
+}
+
+/// A UDP socket as a port. No call of it waits, but for a short rest where the port rests and nothing is there to
+/// receive.
+#[derive(Drop)]
+pub struct UdpPort<R> {
+    runtime: R,
+    socket: UdpSocket,
+    numbers: Numbers,
+    rests: bool,
+    faults: u64,
+}
+
+impl<R> Model for UdpPort<R> {
+    ghost use Rattle.std.specs.Prelude.{ℕ};
+
+    ghost Value = { ℕ };
+
+    ghost view = { λ p. p.faults };
+}
+
+impl<R: Net + Clock + Drop> UdpPort<R> {
+    // A port at this address and UDP port number, 0 being one that is free. It sends to these numbers, and rests where
+    // it is to.
+    pub(crate) fn open(
+        runtime: R,
+        address: SocketAddrV4,
+        numbers: Numbers,
+        rests: bool,
+    ) -> io::Result<UdpPort<R>> {
+        let socket = UdpSocket::bind(&runtime, SocketAddr::V4(address))?;
+        socket.set_nonblocking(true)?;
+        Ok(UdpPort {
+            runtime,
+            socket,
+            numbers,
+            rests,
+            faults: 0,
+        })
+    }
+
+    // Nothing is there to receive.
+    fn rest(&self) {
+        if self.rests {
+            thread::sleep(&self.runtime, Duration::from_micros(REST));
+        }
+    }
+}
+
+impl<R> UdpPort<R> {
+    // Counts a fault.
+    fn fail(&mut self) -> Failed
+        ensures risen { HasRisen self.old self.new }
+        ensures no_fall { HasNotFallen self.old self.new }
+    {
+        self.faults = self.faults.saturating_add(1);
+        Failed
+    }
+}
+
+impl<R: Net + Clock + Drop> Port for UdpPort<R> {
+    ghost sent = { λ _. None };
+
+    ghost waiting = { λ _. None };
+
+    ghost faults = { λ p. p };
+
+    /// A send that was interrupted is tried again.
+    fn send(&mut self, ip: u32, channel: Channel, bytes: &[u8]) -> Result<(), Failed> {
+        let number = match channel {
+            Channel::Event => self.numbers.event,
+            Channel::General => self.numbers.general,
+        };
+        let to = SocketAddr::V4(SocketAddrV4::new(Ipv4Addr::from(ip), number));
+        for _ in 0..u64::MAX {
+            match self.socket.send_to(bytes, to) {
+                Ok(taken) if taken == bytes.len() => return Ok(()),
+                Err(error) if error.kind() == ErrorKind::Interrupted => {}
+                Ok(_) | Err(_) => break,
+            }
+        }
+        Err(self.fail())
+    }
+
+    /// A receive that was interrupted is tried again.
+    fn receive(&mut self, buf: &mut [u8; 2048]) -> Result<Option<(u32, usize)>, Failed> {
+        for _ in 0..u64::MAX {
+            match self.socket.recv_from(buf) {
+                Ok((length, SocketAddr::V4(from))) => {
+                    return Ok(Some((from.ip().to_bits(), length)));
+                }
+                Err(error) if error.kind() == ErrorKind::WouldBlock => {
+                    self.rest();
+                    return Ok(None);
+                }
+                Err(error) if error.kind() == ErrorKind::Interrupted => {}
+                Ok(_) | Err(_) => break,
+            }
+        }
+        Err(self.fail())
+    }
+}
