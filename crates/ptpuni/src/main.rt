@@ -2,10 +2,13 @@
 //!
 //! `ptpuni replay` reads a script of grandmasters and slaves from standard input, runs them in
 //! memory, and writes a report of every decision and datagram to standard output. `ptpuni show`
-//! decodes the datagrams that stand in the lines of standard input.
+//! decodes the datagrams that stand in the lines of standard input. `ptpuni serve` reads settings and
+//! serves a grandmaster over UDP.
 #![tactic(auto)]
 
+mod daemons;
 mod run;
+mod status;
 
 ghost use Rattle.std.specs.Prelude.{◌≡◌, ◌≢◌, IfOk, OnOk, map};
 ghost use Rattle.std.specs.String.{string_bytes};
@@ -13,8 +16,9 @@ ghost use Rattle.ptu_judges.specs.Held.{IsStock, fresh};
 
 use ptu_judges::{FlagJudge, GapJudge, Judge, Rule, Stock};
 use ptu_outside::{StdSink, StdSource};
+use ptu_udp::UdpHost;
 use ptu_words::USAGE_TEXT;
-use run::{OUT_OF_MEMORY, USAGE};
+use status::{OUT_OF_MEMORY, USAGE};
 use std::alloc::{AllocError, Global};
 use std::env::Env;
 use std::io::ErrorKind;
@@ -53,7 +57,7 @@ fn texts_of(alloc: Global, words: &[String]) -> Result<Vec<&str>, AllocError>
     Ok(texts)
 }
 
-// Runs the words over standard input and output.
+// Runs the words over standard input and output, and UDP.
 fn status_of(rt: &HostRuntime, words: &[String], stock: Stock) -> u8
     requires { IsStock (map (λ j. held (j.vtable, j.value)) stock.flags.items)
         (map (λ j. held (j.vtable, j.value)) stock.gaps.items) }
@@ -63,7 +67,15 @@ fn status_of(rt: &HostRuntime, words: &[String], stock: Stock) -> u8
     };
     let mut source = StdSource::new(rt.stdin());
     let mut sink = StdSink::new(rt.stdout());
-    run::run(rt.alloc(), &texts, &mut source, &mut sink, stock)
+    let mut host = UdpHost::new(*rt);
+    run::run(
+        rt.alloc(),
+        &texts,
+        &mut source,
+        &mut sink,
+        &mut host,
+        stock,
+    )
 }
 
 // Puts a judge of each rule into the stock.
@@ -110,5 +122,7 @@ fn main(rt: HostRuntime) -> ExitCode {
     ExitCode::from(status)
 }
 
+#[cfg(test)]
+mod daemon_tests;
 #[cfg(test)]
 mod tests;
