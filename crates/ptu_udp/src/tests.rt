@@ -16,7 +16,7 @@ fn a_datagram_of_port_0_comes_to_port_4(rt: HostRuntime) {
         if let Ok(Some((from, length))) = opened.p4.receive(&mut buf) {
             assert_eq!(rt; from, LOOPBACK);
             assert_eq!(rt; length, 8);
-            assert_eq!(rt; buf[..8], b"eight by");
+            assert!(rt; buf[..8].iter().eq(b"eight by".iter()));
             host.close(opened);
             return;
         }

@@ -1,4 +1,6 @@
-ghost use Rattle.std.specs.Prelude.{◌≡◌, None};
+ghost use Rattle.std.specs.Prelude.{◌≡◌, None, Some, IfOk, IfSome, OnOk, OnErr};
+ghost use Rattle.ptu_outside.specs.Faults.{HasNotFallen, HasRisen};
+ghost use Rattle.ptu_outside.specs.Telling.{IfTold};
 
 use crate::sys_clock::SysClock;
 use crate::udp_port::{Numbers, UdpPort};
@@ -26,7 +28,7 @@ impl<R> Model for UdpHost<R> {
     ghost view = { λ h. h.faults };
 }
 
-impl<R: Net + Clock + Copy + Send> UdpHost<R> {
+impl<R: Net + Clock + Copy> UdpHost<R> {
     /// A host over this runtime.
     pub fn new(runtime: R) -> UdpHost<R> {
         UdpHost { runtime, faults: 0 }
@@ -73,7 +75,12 @@ impl<R: Net + Clock + Copy + Send> Host for UdpHost<R> {
         ip: u32,
         event_port: u16,
         general_port: u16,
-    ) -> Result<Opened<UdpPort<R>, SysClock<R>>, Failed> {
+    ) -> Result<Opened<UdpPort<R>, SysClock<R>>, Failed>
+        ensures opened { IfOk result (λ ports. IfSome None (λ told. ports ≡ told)) }
+        ensures risen { OnErr result (HasRisen self.old self.new) }
+        ensures quiet { OnOk result (self.new ≡ self.old) }
+        ensures no_fall { HasNotFallen self.old self.new }
+    {
         let numbers = Numbers {
             event: event_port,
             general: general_port,
@@ -88,7 +95,10 @@ impl<R: Net + Clock + Copy + Send> Host for UdpHost<R> {
     }
 
     /// Closes the sockets.
-    fn close(&mut self, opened: Opened<UdpPort<R>, SysClock<R>>) {
+    fn close(&mut self, opened: Opened<UdpPort<R>, SysClock<R>>)
+        ensures back { IfTold None (Some opened) }
+        ensures quiet { self.new ≡ self.old }
+    {
         let _ = opened;
     }
 }
