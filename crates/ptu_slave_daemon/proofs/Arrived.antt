@@ -1,0 +1,108 @@
+-- Datagrams that are taken one after the other.
+use Rattle.std.proofs.Common.{◌≡◌, ◌∙◌, ◌⊎◌, inl, inr, ℕ, ◌+◌, ◌<◌, ◌≤◌, ◌++◌, Bool, true, false, cond, List, [], ◌∷◌, length, map, refl, sym, ap, ap₂, subst, arith, length-append, append_assoc, Option, Some, None}
+use Rattle.std.proofs.lemmas.List.{append-nil, map-append}
+use Rattle.std.specs.Prelude.{IfSome}
+use Rattle.ptu_outside.specs.declared.arrival.Arrival.{Arrival}
+use Rattle.ptu_outside.specs.Faults.{HasNotFallen, HasRisen}
+use Rattle.ptu_outside.specs.Telling.{IfTold, IsEmptyTold, IsFirstTold, rest_told}
+use Rattle.ptu_record.specs.Record.{Record}
+use Rattle.ptu_slave_messages.specs.Node.{Node}
+use Rattle.ptu_slave_daemon.specs.declared.counts.Counts.{Counts}
+use Rattle.ptu_slave_daemon.specs.Happenings.{Happening, arrive, record_after}
+use Rattle.ptu_slave_daemon.specs.Running.{AreTimed, CameFrom, Counted, HasFailed, IsAt, Ran, RoundTook, Took, TookOne, View}
+use Rattle.ptu_slave_daemon.proofs.Ports.{still_after, still_before}
+use Rattle.ptu_slave_daemon.proofs.Runs.{ran_append, ran_still}
+
+-- ---- counts
+
+pub counted_none : (counts : Counts) → Counted 0 0 counts counts
+counted_none counts = (omega arith, omega arith)
+
+pub counted_append : (a b c : Counts) (s t f g : ℕ) → Counted s f a b → Counted t g b c → Counted (s + t) (f + g) a c
+counted_append a b c s t f g p q = (omega (arith, p.0, q.0), omega (arith, p.1, q.1))
+
+-- ---- what waits
+
+pub came_none : (before after : Option (List Arrival)) → IfTold after before → CameFrom before after []
+came_none before None same = tt
+came_none before (Some left) same = same
+
+pub came_append : (before now after : Option (List Arrival)) (xs ys : List Arrival) → CameFrom before now xs → CameFrom now after ys → CameFrom before after (xs ++ ys)
+came_append before now None xs ys p q = tt
+came_append before None (Some left) xs ys p q = absurd (cc q)
+came_append before (Some middle) (Some left) xs ys p q =
+    let same : middle ≡ ys ++ left = cc q in
+    p ∙ ap (λ l. Some (xs ++ l)) same ∙ ap Some (sym (append_assoc xs ys left))
+
+-- the first was taken off
+pub came_first : (before after : Option (List Arrival)) (arrival : Arrival) → IsFirstTold before arrival → IfTold after (rest_told before) → CameFrom before after (arrival ∷ [])
+came_first before None arrival first rest = tt
+came_first None (Some left) arrival first rest = absurd (cc rest)
+came_first (Some []) (Some left) arrival first rest = absurd (cc first)
+came_first (Some (x ∷ xs)) (Some left) arrival first rest =
+    let is : x ≡ arrival = cc first in
+    let others : xs ≡ left = cc rest in
+    ap₂ (λ y ys. Some (y ∷ ys)) is others
+
+pub empty_later : (before after : Option (List Arrival)) → IfTold after before → IsEmptyTold before → IsEmptyTold after
+empty_later before None same none = tt
+empty_later None (Some left) same none = absurd (cc same)
+empty_later (Some list) (Some left) same none = let is : list ≡ left = cc same in sym is ∙ none
+
+-- ---- one datagram
+
+pub one_came : (before after : Option (List Arrival)) (old new : ℕ) (arrival : Arrival) → IsFirstTold before arrival → IfTold after (rest_told before)
+    → TookOne before after old new true (arrival ∷ [])
+one_came before after old new arrival first rest = record { came = came_first before after arrival first rest; many = refl; none = λ no. absurd (cc no) }
+
+pub none_came : (before after : Option (List Arrival)) (old new : ℕ) → IfTold after before → IsEmptyTold before → TookOne before after old new false []
+none_came before after old new same none = record { came = came_none before after same; many = refl; none = λ no still. empty_later before after same none }
+
+pub none_received : (before after : Option (List Arrival)) (old new : ℕ) → IfTold after before → HasRisen old new → TookOne before after old new false []
+none_received before after old new same rises = record { came = came_none before after same; many = refl; none = λ no still. absurd (still rises) }
+
+-- ---- several
+
+module _ (node : Node) where
+  pub took_none : (L : Record) (old new : View) (failed : ℕ) → IsAt node old.kept old.judges L → new.kept ≡ old.kept → new.judges ≡ old.judges → new.sent ≡ old.sent → new.times ≡ old.times
+      → HasFailed old.faults new.faults failed → Took node L old new [] 0 failed
+  took_none L old new failed h kept judges sent times fails = ([], ran_still node L old new failed h kept judges sent times fails)
+
+  -- and more by the record after them
+  pub took_append : (L : Record) (old now new : View) (xs ys : List Arrival) (s t f g : ℕ) → (p : Took node L old now xs s f)
+      → Took node (record_after node L p.0) now new ys t g → Took node L old new (xs ++ ys) (s + t) (f + g)
+  took_append L old now new xs ys s t f g p q = (
+    p.0 ++ q.0,
+    subst (λ acts. Ran node L old new acts (p.0 ++ q.0) [] (s + t) (f + g)) (sym (map-append arrive xs ys))
+    (ran_append node L old now new (map arrive xs) (map arrive ys) p.0 q.0 [] [] s t f g p.1 q.1),
+  )
+
+-- 64 of them
+pub round_full : (before after : Option (List Arrival)) (old new : ℕ) (xs : List Arrival) → CameFrom before after xs → length xs ≡ 64 → RoundTook before after old new xs
+round_full before after old new xs came many = record { came = came; few = omega (arith, many); whole = λ still. inl many }
+
+-- fewer, and then none was received
+pub round_short : (before now after : Option (List Arrival)) (old mid new : ℕ) (xs ys : List Arrival) → CameFrom before now xs → length xs < 64 → HasNotFallen old mid
+    → TookOne now after mid new false ys → RoundTook before after old new (xs ++ ys)
+round_short before now after old mid new xs ys came few keeps one = record {
+  came = came_append before now after xs ys came one.came;
+  few = let none : length ys ≡ 0 = one.many in omega (arith, few, none, length-append xs ys);
+  whole = λ still. inr (one.none refl (still_after old mid new keeps still));
+}
+
+-- while other things happen
+pub round_later : (before after later : Option (List Arrival)) (old mid new : ℕ) (xs : List Arrival) → RoundTook before after old mid xs → later ≡ after → HasNotFallen mid new
+    → RoundTook before later old new xs
+round_later before after later old mid new xs took same keeps = record {
+  came = subst (λ w. CameFrom before w xs) (sym same) took.came;
+  few = took.few;
+  whole = λ still. subst (λ w. (length xs ≡ 64) ⊎ IsEmptyTold w) (sym same) (took.whole (still_before old mid new keeps still));
+}
+
+pub round_behind : (before now after : Option (List Arrival)) (old mid new : ℕ) (xs : List Arrival) → now ≡ before → HasNotFallen old mid → RoundTook now after mid new xs
+    → RoundTook before after old new xs
+round_behind before now after old mid new xs same keeps took = record {
+  came = subst (λ w. CameFrom w after xs) same took.came;
+  few = took.few;
+  whole = λ still. took.whole (still_after old mid new keeps still);
+}

@@ -1,0 +1,203 @@
+-- The masters and judges of a slave that settings open.
+use Rattle.std.proofs.Common.{◌≡◌, ◌≢◌, ◌∙◌, ℕ, zero, suc, ◌+◌, ◌-◌, ◌<◌, ◌≤◌, ◌++◌, Bool, true, false, not, cond, ◌&&◌, ◌||◌, eq-eqb, List, [], ◌∷◌, map, length, drop, take, get_or, Option, Some, None, option_to_list, MatchOption, refl, sym, ap, ap₂, subst, arith, length-append}
+use Rattle.std.specs.List.{All, AllByRecursion, AllPairs, count_by, list_any}
+use Rattle.std.specs.Prelude.{IsSome, nat_le, ◌==◌}
+use Rattle.std.proofs.lemmas.Bool.{false≢true}
+use Rattle.std.proofs.lemmas.Bool.Decides.{nat_tests}
+use Rattle.std.proofs.lemmas.List.{length-map, map-append}
+use Rattle.std.proofs.lemmas.List.Kept.{AllPairs-cons}
+use Rattle.std.proofs.lemmas.List.Elements.{All-from_recursion}
+use Rattle.std.proofs.lemmas.List.Sums.{sum_by-cons}
+use Rattle.ptu_record.specs.declared.rule.Rule.{Rule}
+use Rattle.ptu_record.specs.declared.rule.Rule.TheVariants.{Flag, Gap}
+use Rattle.ptu_judges.specs.Held.{Held, IsFresh, IsStock, fresh}
+use Rattle.ptu_config.specs.declared.master.MasterSetting.{MasterSetting}
+use Rattle.ptu_config.specs.declared.settings.SlaveSettings.{SlaveSettings}
+use Rattle.ptu_config.specs.Masters.{are_distinct, are_masters}
+use Rattle.ptu_slave_messages.specs.declared.config.Master.{Master}
+use Rattle.ptu_slave_messages.specs.Config.{AreMasters}
+use Rattle.ptu_slave.specs.Kept.{Kept}
+use Rattle.ptu_slave.specs.Standing.{StandsFor}
+use Rattle.ptu_slave_daemon.specs.Opening.{HasNone, HasTaken, are_enough, config_of, master_of, node_of, rule_of}
+use Rattle.ptu_slave_daemon.specs.Running.{IsAt}
+
+-- ---- masters
+
+and_both : (a b : Bool) → (a && b) ≡ true → (a ≡ true) × (b ≡ true)
+and_both true b is = (refl, is)
+and_both false b is = absurd (false≢true is)
+
+not_true : (a : Bool) → not a ≡ true → a ≡ false
+not_true true is = absurd (false≢true is)
+not_true false is = refl
+
+-- no later master has the address
+none_later : (ip : ℕ) (rest : List MasterSetting) → list_any (λ other. other.ip == ip) rest ≡ false → AllByRecursion (λ (b : Master). ip ≢ b.ip) (map master_of rest)
+none_later ip [] none = tt
+none_later ip (x ∷ rest) none = pick (x.ip == ip) refl none
+  where
+    pick : (b : Bool) → (x.ip == ip) ≡ b → (b || list_any (λ other. other.ip == ip) rest) ≡ false → AllByRecursion (λ (b : Master). ip ≢ b.ip) (map master_of (x ∷ rest))
+    pick true is no = absurd (false≢true (sym no))
+    pick false is no = (λ same. false≢true (sym is ∙ eq-eqb x.ip ip (sym same)), none_later ip rest no)
+
+distinct : (masters : List MasterSetting) → are_distinct masters ≡ true → AllPairs (λ a b. a.ip ≢ b.ip) (map master_of masters)
+distinct [] is = λ i j d lt within. absurd (omega arith)
+distinct (m ∷ masters) is =
+    let parts = and_both (not (list_any (λ other. other.ip == m.ip) masters)) (are_distinct masters) is in
+    AllPairs-cons (λ a b. a.ip ≢ b.ip) (master_of m) (map master_of masters)
+    (All-from_recursion (λ b. m.ip ≢ b.ip) (map master_of masters) (none_later m.ip masters (not_true (list_any (λ other. other.ip == m.ip) masters) parts.0)))
+    (distinct masters parts.1)
+
+length-same : {A B : Type 0} (f : A → B) (xs : List A) → length (map f xs) ≡ length xs
+length-same f [] = refl
+length-same f (x ∷ xs) = ap (λ n. suc n) (length-same f xs)
+
+le_is : (m n : ℕ) → nat_le m n ≡ true → m ≤ n
+le_is m n is = grind (arith, nat_tests)
+
+pub masters_are : (settings : SlaveSettings) → are_masters settings.masters ≡ true → AreMasters (map master_of settings.masters)
+masters_are settings is =
+    let parts = and_both (nat_le 1 (length settings.masters) && nat_le (length settings.masters) 16) (are_distinct settings.masters) is in
+    let many = and_both (nat_le 1 (length settings.masters)) (nat_le (length settings.masters) 16) parts.0 in
+    record {
+      few = subst (λ n. n ≤ 16) (sym (length-same master_of settings.masters)) (le_is (length settings.masters) 16 many.1);
+      distinct = distinct settings.masters parts.1;
+    }
+
+-- ---- the stock
+
+-- so many judges are enough for these masters
+pub record Enough (masters : List MasterSetting) (flags gaps : ℕ) : Type 0 where
+  pub flags_are : count_by (λ m. not m.gap) masters ≤ flags
+  pub gaps_are : count_by (λ m. m.gap) masters ≤ gaps
+
+pub enough_is : (masters : List MasterSetting) (flags gaps : ℕ) → are_enough masters flags gaps ≡ true → Enough masters flags gaps
+enough_is masters flags gaps is =
+    let parts = and_both (nat_le (count_by (λ m. not m.gap) masters) flags) (nat_le (count_by (λ m. m.gap) masters) gaps) is in
+    record {
+      flags_are = le_is (count_by (λ m. not m.gap) masters) flags parts.0;
+      gaps_are = le_is (count_by (λ m. m.gap) masters) gaps parts.1;
+    }
+
+counted : (p : MasterSetting → Bool) (m : MasterSetting) (masters : List MasterSetting) → count_by p (m ∷ masters) ≡ cond (p m) 1 0 + count_by p masters
+counted p m masters = sum_by-cons (λ x. cond (p x) 1 0) m masters
+
+-- there is a judge for the first of them
+pub enough_first : (m : MasterSetting) (masters : List MasterSetting) (flags gaps : List Held) → Enough (m ∷ masters) (length flags) (length gaps) → HasNone m.gap flags gaps → ⊥
+enough_first m masters flags gaps enough none = pick m.gap refl none
+  where
+    pick : (b : Bool) → m.gap ≡ b → HasNone b flags gaps → ⊥
+    pick true is none =
+        let one : cond m.gap 1 0 ≡ 1 = ap (λ b. cond b 1 0) is in
+        omega (arith, one, none, enough.gaps_are, counted (λ m. m.gap) m masters)
+    pick false is none =
+        let one : cond (not m.gap) 1 0 ≡ 1 = ap (λ b. cond (not b) 1 0) is in
+        omega (arith, one, none, enough.flags_are, counted (λ m. not m.gap) m masters)
+
+-- and then enough are left for the others
+pub enough_rest : (m : MasterSetting) (masters : List MasterSetting) (flags gaps flags' gaps' : List Held) (judge : Held) → Enough (m ∷ masters) (length flags) (length gaps)
+    → HasTaken m.gap flags gaps flags' gaps' judge → Enough masters (length flags') (length gaps')
+enough_rest m masters flags gaps flags' gaps' judge enough taken = pick m.gap refl taken
+  where
+    pick : (b : Bool) → m.gap ≡ b → HasTaken b flags gaps flags' gaps' judge → Enough masters (length flags') (length gaps')
+    pick true is taken =
+        let one : cond m.gap 1 0 ≡ 1 = ap (λ b. cond b 1 0) is in
+        let none : cond (not m.gap) 1 0 ≡ 0 = ap (λ b. cond (not b) 1 0) is in
+        record {
+          flags_are = omega (arith, none, taken.flags_left, enough.flags_are, counted (λ m. not m.gap) m masters);
+          gaps_are = omega (arith, one, taken.gaps_left, enough.gaps_are, counted (λ m. m.gap) m masters);
+        }
+    pick false is taken =
+        let one : cond (not m.gap) 1 0 ≡ 1 = ap (λ b. cond (not b) 1 0) is in
+        let none : cond m.gap 1 0 ≡ 0 = ap (λ b. cond b 1 0) is in
+        record {
+          flags_are = omega (arith, one, taken.flags_left, enough.flags_are, counted (λ m. not m.gap) m masters);
+          gaps_are = omega (arith, none, taken.gaps_left, enough.gaps_are, counted (λ m. m.gap) m masters);
+        }
+
+module _ {A : Type 0} (f : A → Held) where
+  all_but_last : (P : Held → Type 0) (xs : List A) (x : A) → AllByRecursion P (map f (xs ++ x ∷ [])) → AllByRecursion P (map f xs) × P (f x)
+  all_but_last P [] x h = (tt, h.0)
+  all_but_last P (y ∷ ys) x h = let rest = all_but_last P ys x h.1 in ((h.0, rest.0), rest.1)
+
+  one_less : (xs : List A) (x : A) → length (map f (xs ++ x ∷ [])) ≡ length (map f xs) + 1
+  one_less xs x = length-same f (xs ++ x ∷ []) ∙ (length-append xs (x ∷ []) ∙ ap (λ n. n + 1) (sym (length-same f xs)))
+
+  empty : (old : List A) (n : ℕ) → n ≡ length old → n ≡ 0 → length (map f old) ≡ 0
+  empty old n many none = length-same f old ∙ (sym many ∙ none)
+
+  pub took_flag : (old new other : List A) (found : Option A) (n m : ℕ) → old ≡ new ++ option_to_list found → n ≡ length old
+      → MatchOption found ((n ≡ 0) × (m ≡ 0)) (λ _. m + 1 ≡ n) → IsStock (map f old) (map f other)
+      → MatchOption found (HasNone false (map f old) (map f other)) (λ judge. HasTaken false (map f old) (map f other) (map f new) (map f other) (f judge))
+  took_flag old new other None n m is many count stock = empty old n many count.0
+  took_flag old new other (Some judge) n m is many count stock =
+      let parts = all_but_last (λ held. held ≡ fresh Flag) new judge (subst (λ l. AllByRecursion (λ held. held ≡ fresh Flag) (map f l)) is stock.flags_fresh) in
+      record {
+        is_fresh = parts.1;
+        flags_left = sym (ap (λ l. length (map f l)) is ∙ one_less new judge);
+        gaps_left = omega arith;
+        stock = record { flags_fresh = parts.0; gaps_fresh = stock.gaps_fresh };
+      }
+
+  pub took_gap : (old new other : List A) (found : Option A) (n m : ℕ) → old ≡ new ++ option_to_list found → n ≡ length old
+      → MatchOption found ((n ≡ 0) × (m ≡ 0)) (λ _. m + 1 ≡ n) → IsStock (map f other) (map f old)
+      → MatchOption found (HasNone true (map f other) (map f old)) (λ judge. HasTaken true (map f other) (map f old) (map f other) (map f new) (f judge))
+  took_gap old new other None n m is many count stock = empty old n many count.0
+  took_gap old new other (Some judge) n m is many count stock =
+      let parts = all_but_last (λ held. held ≡ fresh (Gap 4)) new judge (subst (λ l. AllByRecursion (λ held. held ≡ fresh (Gap 4)) (map f l)) is stock.gaps_fresh) in
+      record {
+        is_fresh = parts.1;
+        flags_left = omega arith;
+        gaps_left = sym (ap (λ l. length (map f l)) is ∙ one_less new judge);
+        stock = record { flags_fresh = stock.flags_fresh; gaps_fresh = parts.0 };
+      }
+
+  -- ---- the judges of the masters
+
+  -- the judge of each master is fresh
+  abbrev pub AreFresh : List A → List MasterSetting → Type 0
+  AreFresh judges masters = map f judges ≡ map (λ m. fresh (rule_of m)) masters
+
+  pub fresh_more : (judges : List A) (judge : A) (masters : List MasterSetting) (m : MasterSetting) → AreFresh judges masters → f judge ≡ fresh (rule_of m)
+      → AreFresh (judges ++ judge ∷ []) (masters ++ m ∷ [])
+  fresh_more judges judge masters m are is =
+      map-append f judges (judge ∷ []) ∙ ap₂ (λ l h. l ++ h ∷ []) are is ∙ sym (map-append (λ m. fresh (rule_of m)) masters (m ∷ []))
+
+  rules_are : (judges : List A) (masters : List MasterSetting) → AreFresh judges masters → map (λ j. (f j).rule) judges ≡ map (λ m. Some (rule_of m)) masters
+  rules_are [] [] are = refl
+  rules_are [] (m ∷ masters) are = absurd (cc are)
+  rules_are (j ∷ judges) [] are = absurd (cc are)
+  rules_are (j ∷ judges) (m ∷ masters) are =
+      let first : f j ≡ fresh (rule_of m) = cc are in
+      let rest : map f judges ≡ map (λ m. fresh (rule_of m)) masters = cc are in
+      ap₂ (λ r rs. r ∷ rs) (ap (λ (h : Held). h.rule) first) (rules_are judges masters rest)
+
+  all_ruled : (masters : List MasterSetting) → AllByRecursion (λ held. IsSome held.rule) (map (λ m. fresh (rule_of m)) masters)
+  all_ruled [] = tt
+  all_ruled (m ∷ masters) = (refl, all_ruled masters)
+
+  all_fresh : (masters : List MasterSetting) → AllByRecursion IsFresh (map (λ m. fresh (rule_of m)) masters)
+  all_fresh [] = tt
+  all_fresh (m ∷ masters) = (refl, all_fresh masters)
+
+  by_index : (xs : List A) → AllByRecursion IsFresh (map f xs) → All (λ x. IsFresh (f x)) xs
+  by_index [] all k d lt = absurd (omega arith)
+  by_index (x ∷ xs) all zero d lt = all.0
+  by_index (x ∷ xs) all (suc k) d lt = by_index xs all.1 k d (omega arith)
+
+  pub judges_fresh : (judges : List A) (masters : List MasterSetting) → AreFresh judges masters → All (λ j. IsFresh (f j)) judges
+  judges_fresh judges masters are = by_index judges (subst (AllByRecursion IsFresh) (sym are) (all_fresh masters))
+
+  pub judges_many : (judges : List A) (masters : List MasterSetting) (list : List Master) → AreFresh judges masters → list ≡ map master_of masters → length judges ≡ length list
+  judges_many judges masters list are is =
+      sym (length-same f judges) ∙ ap length are ∙ length-same (λ m. fresh (rule_of m)) masters ∙ sym (ap length is ∙ length-same master_of masters)
+
+  -- the slave stands for the node that the settings open
+  pub opened_at : (settings : SlaveSettings) (judges news : List A) (kept : Kept) (list : List Master) → AreFresh judges settings.masters → news ≡ judges → kept.config ≡ config_of settings
+      → list ≡ map master_of settings.masters → kept.masters ≡ list → StandsFor (map (λ j. (f j).rule) judges) kept (map f news) [] → IsAt (node_of settings) kept (map f news) []
+  opened_at settings judges news kept list are same config masters kept_masters stands = record {
+    config = config;
+    masters = kept_masters ∙ masters;
+    stands = subst (λ openings. StandsFor openings kept (map f news) []) (rules_are judges settings.masters are) stands;
+    ruled = subst (AllByRecursion (λ held. IsSome held.rule)) (sym (ap (map f) same ∙ are)) (all_ruled settings.masters);
+  }

@@ -1,0 +1,91 @@
+-- One round after another.
+use Rattle.std.proofs.Common.{◌≡◌, ◌∙◌, ◌⊎◌, inl, inr, ℕ, zero, suc, ◌+◌, ◌*◌, ◌<◌, ◌≤◌, ◌++◌, List, [], ◌∷◌, length, map, take, drop, refl, sym, ap, ap₂, subst, arith, length-append, append_assoc, Option, Some, None}
+use Rattle.std.proofs.lemmas.List.{append-nil, drop-drop}
+use Rattle.std.proofs.Math.Seq.{drop-cons}
+use Rattle.std.specs.Prelude.{IfSome}
+use Rattle.ptu_outside.specs.declared.arrival.Arrival.{Arrival}
+use Rattle.ptu_outside.specs.Faults.{HasNotFallen, HasRisen}
+use Rattle.ptu_outside.specs.Telling.{IsEmptyTold}
+use Rattle.ptu_rounds.specs.Rounds.{in_rounds, left_after, most, taken_in}
+use Rattle.ptu_slave_daemon.specs.Happenings.{Happening, Ticks, arrive, round_of}
+use Rattle.ptu_slave_daemon.specs.Running.{AreRounds, CameFrom, RoundTook}
+use Rattle.ptu_slave_daemon.proofs.Ports.{still_after, still_before}
+
+pub in_rounds-zero : (round : ℕ → List (ℕ → Happening)) → in_rounds round 0 ≡ []
+unfolding in_rounds
+in_rounds-zero round = refl
+
+pub in_rounds-suc : (round : ℕ → List (ℕ → Happening)) (n : ℕ) → in_rounds round (suc n) ≡ in_rounds round n ++ round n
+unfolding in_rounds
+in_rounds-suc round n = refl
+
+-- a list whose front is a whole round, or all of it
+front : (xs left : List Arrival) (n : ℕ) → length xs ≤ n → (length xs ≡ n) ⊎ (left ≡ []) → (take n (xs ++ left) ≡ xs) × (drop n (xs ++ left) ≡ left)
+front [] left n few (inl many) = (ap (λ k. take k left) (sym many), ap (λ k. drop k left) (sym many))
+front [] left n few (inr none) = (ap (take n) none ∙ none_taken n, ap (drop n) none ∙ none_left n ∙ sym none)
+  where
+    none_taken : (n : ℕ) → take {A = Arrival} n [] ≡ []
+    none_taken zero = refl
+    none_taken (suc n) = refl
+
+    none_left : (n : ℕ) → drop {A = Arrival} n [] ≡ []
+    none_left zero = refl
+    none_left (suc n) = refl
+front (x ∷ xs) left zero few whole = absurd (omega (arith, few))
+front (x ∷ xs) left (suc n) few whole =
+    let rest = front xs left n (omega (arith, few)) (less whole) in
+    (ap (λ l. x ∷ l) rest.0, rest.1)
+  where
+    less : (length (x ∷ xs) ≡ suc n) ⊎ (left ≡ []) → (length xs ≡ n) ⊎ (left ≡ [])
+    less (inl many) = inl (omega (arith, many))
+    less (inr none) = inr none
+
+-- what is left on the channel, when a round has taken this of what was left before it
+round_is : (all xs left : List Arrival) (n : ℕ) → length xs ≤ 64 → (length xs ≡ 64) ⊎ (left ≡ []) → xs ++ left ≡ left_after n all
+    → (xs ≡ taken_in n all) × (left ≡ left_after (n + 1) all)
+round_is all xs left n few whole is =
+    let parts = front xs left 64 few whole in
+    (
+      sym parts.0 ∙ ap (take 64) is,
+      sym parts.1 ∙ ap (drop 64) is ∙ drop-drop 64 (64 * n) all ∙ ap (λ k. drop k all) (omega arith),
+    )
+
+took_whole : (before : Option (List Arrival)) (old new : ℕ) (xs left : List Arrival) → RoundTook before (Some left) old new xs → ¬ HasRisen old new → (length xs ≡ 64) ⊎ (left ≡ [])
+took_whole before old new xs left took still = took.whole still
+
+module _ (general event : Option (List Arrival)) where
+  pub rounds_none : (general' event' : Option (List Arrival)) (faults faults' event_faults event_faults' : ℕ) → general' ≡ general → event' ≡ event
+      → AreRounds 0 general general' event event' faults faults' event_faults event_faults' []
+  rounds_none general' event' faults faults' event_faults event_faults' same event_same = λ still event_still left event_left is event_is. (
+    left,
+    event_left,
+    sym same ∙ is,
+    sym event_same ∙ event_is,
+    sym (in_rounds-zero (round_of left event_left)),
+    refl,
+    refl,
+  )
+
+  pub rounds_more : (n : ℕ) (general' general'' event' event'' : Option (List Arrival)) (faults faults' faults'' event_faults event_faults' event_faults'' : ℕ)
+      (acts : List (ℕ → Happening)) (xs ys : List Arrival) → HasNotFallen faults faults' → HasNotFallen faults' faults'' → HasNotFallen event_faults event_faults' → HasNotFallen event_faults' event_faults''
+      → AreRounds n general general' event event' faults faults' event_faults event_faults' acts
+      → RoundTook general' general'' faults' faults'' xs → RoundTook event' event'' event_faults' event_faults'' ys
+      → AreRounds (n + 1) general general'' event event'' faults faults'' event_faults event_faults'' (acts ++ (map arrive (xs ++ ys) ++ Ticks (n + 1) ∷ []))
+  rounds_more n general' general'' event' event'' faults faults' faults'' event_faults event_faults' event_faults'' acts xs ys keeps keeps' event_keeps event_keeps' rounds took event_took =
+      λ still event_still left event_left is event_is.
+      let took' : RoundTook general' (Some left) faults' faults'' xs = subst (λ w. RoundTook general' w faults' faults'' xs) is took in
+      let event_took' : RoundTook event' (Some event_left) event_faults' event_faults'' ys = subst (λ w. RoundTook event' w event_faults' event_faults'' ys) event_is event_took in
+      let before = rounds (still_before faults faults' faults'' keeps' still) (still_before event_faults event_faults' event_faults'' event_keeps' event_still)
+          (xs ++ left) (ys ++ event_left) took'.came event_took'.came in
+      let one = round_is before.0 xs left n took'.few (took'.whole (still_after faults faults' faults'' keeps still)) before.5 in
+      let event_one = round_is before.1 ys event_left n event_took'.few (event_took'.whole (still_after event_faults event_faults' event_faults'' event_keeps event_still)) before.6 in
+      (
+        before.0,
+        before.1,
+        before.2,
+        before.3,
+        ap₂ (λ l m. l ++ m) before.4 (ap₂ (λ l m. map arrive (l ++ m) ++ Ticks (n + 1) ∷ []) one.0 event_one.0)
+        ∙ sym (in_rounds-suc (round_of before.0 before.1) n) ∙ ap (in_rounds (round_of before.0 before.1)) (omega arith),
+        one.1,
+        event_one.1,
+      )

@@ -1,0 +1,51 @@
+-- The selections that are written, one after the other.
+use Rattle.std.proofs.Common.{◌≡◌, ◌∙◌, ℕ, ◌++◌, Bool, true, false, cond, List, [], ◌∷◌, map, refl, sym, ap, ap₂, subst, arith, append_assoc, Option, Some, None}
+use Rattle.std.proofs.lemmas.Bool.{false≢true}
+use Rattle.std.proofs.lemmas.List.{map-append}
+use Rattle.std.specs.Prelude.{◌==◌}
+use Rattle.ptu_slave_daemon.specs.declared.line.SlaveLine.{SlaveLine}
+use Rattle.ptu_slave_daemon.specs.Happenings.{Selection}
+use Rattle.ptu_slave_daemon.specs.Lines.{changes, is_said, is_same, line_text, said_next, selected_line, texts_of}
+
+-- what was written last once these selections were made
+abbrev pub said_after : Option (Option ℕ) → List Selection → Option (Option ℕ)
+said_after said [] = said
+said_after said (s ∷ later) = said_after (Some s.master) later
+
+same_is : (a b : Option ℕ) → is_same a b ≡ true → a ≡ b
+same_is None None is = refl
+same_is None (Some b) is = absurd (cc is)
+same_is (Some a) None is = absurd (cc is)
+same_is (Some a) (Some b) is = ap Some (numbers a b is)
+  where
+    numbers : (a b : ℕ) → (a == b) ≡ true → a ≡ b
+    numbers a b is = grind arith
+
+said_is : (said : Option (Option ℕ)) (master : Option ℕ) → is_said said master ≡ true → said ≡ Some master
+said_is None master is = absurd (cc is)
+said_is (Some last) master is = ap Some (same_is last master is)
+
+pub said_after-push : (said : Option (Option ℕ)) (ss : List Selection) (s : Selection) → said_after said (ss ++ s ∷ []) ≡ Some s.master
+said_after-push said [] s = refl
+said_after-push said (x ∷ ss) s = said_after-push (Some x.master) ss s
+
+-- one more
+pub changes-push : (said : Option (Option ℕ)) (ss : List Selection) (s : Selection) → changes said (ss ++ s ∷ []) ≡ changes said ss ++ said_next (said_after said ss) s
+changes-push said [] s = pick (is_said said s.master)
+  where
+    pick : (b : Bool) → cond b (changes said []) (s ∷ changes (Some s.master) []) ≡ cond b [] (s ∷ [])
+    pick true = refl
+    pick false = refl
+changes-push said (x ∷ ss) s = pick (is_said said x.master) refl
+  where
+    pick : (b : Bool) → is_said said x.master ≡ b
+        → cond b (changes said (ss ++ s ∷ [])) (x ∷ changes (Some x.master) (ss ++ s ∷ [])) ≡ cond b (changes said ss) (x ∷ changes (Some x.master) ss) ++ said_next (said_after (Some x.master) ss) s
+    pick true is = changes-push said ss s ∙ ap (λ w. changes said ss ++ said_next (said_after w ss) s) (said_is said x.master is)
+    pick false is = ap (λ l. x ∷ l) (changes-push (Some x.master) ss s)
+
+pub texts-push : (said : Option (Option ℕ)) (ss : List Selection) (s : Selection)
+    → texts_of (map selected_line (changes said (ss ++ s ∷ []))) ≡ texts_of (map selected_line (changes said ss)) ++ texts_of (map selected_line (said_next (said_after said ss) s))
+texts-push said ss s =
+    ap (λ l. texts_of (map selected_line l)) (changes-push said ss s)
+    ∙ ap texts_of (map-append selected_line (changes said ss) (said_next (said_after said ss) s))
+    ∙ map-append line_text (map selected_line (changes said ss)) (map selected_line (said_next (said_after said ss) s))

@@ -1,0 +1,21 @@
+use Rattle.std.proofs.Common.{[], ◌∷◌, refl}
+use Rattle.ptu_slave_messages.specs.Heard.{failed_by, reply_in, sent_by}
+use Rattle.ptu_slave_daemon.specs.Happenings.{Arrives}
+use Rattle.ptu_slave_daemon.proofs.Events.{ran_taken}
+use Rattle.ptu_slave_daemon.proofs.Times.{timed_one}
+use Rattle.ptu_slave_daemon.proofs.steps.take.Goals as goal
+
+pub returns-clause-ran : goal.returns-clause-ran
+returns-clause-ran g c = λ node L h. (
+  sent_by (reply_in c.in_ok-heard.heard),
+  failed_by (reply_in c.in_ok-heard.heard),
+  c.count_reply.ensures.counted,
+  (
+    Arrives (record { ip = c.args.from; bytes = c.args.octets.now }) c.now-at.result ∷ [],
+    ran_taken node L _ _ c.now-at.result h c.take.ensures.same (record { ip = c.args.from; bytes = c.args.octets.now }) _ _
+    (timed_one _ _ c.now-at.result (λ at. Arrives (record { ip = c.args.from; bytes = c.args.octets.now }) at) (g.met.C.Clock.never_empty c.args.clock.now) c.now-at.ensures.first c.now-at.ensures.rest)
+    (λ reason is. ((c.take.ensures.ignored reason is).0, rw (c.take.ensures.ignored reason is).1))
+    (λ m message is. c.in_ok-heard.ensures.steps m message is refl node.openings L h.stands)
+    c.in_ok-heard.ensures.sends,
+  ),
+)

@@ -1,0 +1,70 @@
+-- What happens to a slave's daemon, and what its slave does then.
+use Rattle.std.specs.Prelude.{ℕ, ◌+◌, List, [], ◌∷◌, ◌++◌, map, Option, option_map}
+use Rattle.ptu_outside.specs.declared.arrival.Arrival.{Arrival}
+use Rattle.ptu_outside.specs.Departure.{Departure}
+use Rattle.ptu_record.specs.Record.{Record}
+use Rattle.ptu_record.specs.Step.{Stop, Tick}
+use Rattle.ptu_slave_messages.specs.Config.{address_of}
+use Rattle.ptu_slave_messages.specs.Node.{Deed, Node, datagram_deed, deed, node_selection}
+use Rattle.ptu_rounds.specs.Rounds.{in_rounds, received_in, timed}
+
+-- what may happen to it, at a moment of its clock
+pub data Happening : Type 0 where
+  -- a datagram that waited is taken
+  Arrives : (arrival : Arrival) (at : ℕ) → Happening
+  -- the tick of the round with this number, from 1
+  Ticks : (round at : ℕ) → Happening
+  -- the stop
+  Stops : (at : ℕ) → Happening
+
+abbrev pub arrive : Arrival → ℕ → Happening
+arrive arrival = λ at. Arrives arrival at
+
+-- a round before which there were so many takes what waits on both channels, and then ticks
+abbrev pub round_of : (general event : List Arrival) → (before : ℕ) → List (ℕ → Happening)
+round_of general event before = map arrive (received_in before general event) ++ Ticks (before + 1) ∷ []
+
+-- all that happens where these wait on the channels: so many rounds, and at the end the stop, each thing at a new moment
+abbrev pub happenings : ℕ → (general event : List Arrival) → List ℕ → List Happening
+happenings rounds general event moments = timed moments (in_rounds (round_of general event) rounds ++ Stops ∷ [])
+
+-- ---- what the slave does
+
+-- at one of them, after this record
+abbrev pub deed_at : Node → Record → Happening → Deed
+deed_at node L (Arrives arrival at) = datagram_deed node L at arrival.ip arrival.bytes
+deed_at node L (Ticks round at) = deed node L at Tick
+deed_at node L (Stops at) = deed node L at Stop
+
+-- the record after it
+abbrev pub entered_at : Node → Record → Happening → Record
+entered_at node L h = L ++ (deed_at node L h).entries
+
+-- the record after all of them
+abbrev pub record_after : Node → Record → List Happening → Record
+record_after node L [] = L
+record_after node L (h ∷ later) = record_after node (entered_at node L h) later
+
+-- the datagrams that are sent
+abbrev pub sent_in : Node → Record → List Happening → List Departure
+sent_in node L [] = []
+sent_in node L (h ∷ later) = (deed_at node L h).datagrams ++ sent_in node (entered_at node L h) later
+
+-- ---- what it selects
+
+-- a round, and the address of the master that is selected then
+pub record Selection : Type 0 where
+  pub round : ℕ
+  pub master : Option ℕ
+
+-- at a tick, by the record after it
+abbrev pub selection_at : Node → Record → Happening → List Selection
+selection_at node L (Ticks round at) =
+    record { round = round; master = option_map (address_of node.masters) (node_selection node L at) } ∷ []
+selection_at node L h = []
+
+-- at all ticks
+abbrev pub selections_in : Node → Record → List Happening → List Selection
+selections_in node L [] = []
+selections_in node L (h ∷ later) =
+    selection_at node (entered_at node L h) h ++ selections_in node (entered_at node L h) later

@@ -1,0 +1,57 @@
+-- What a slave's daemon writes. The words are the project's own choice.
+use Rattle.std.specs.Prelude.{ℕ, Bool, true, false, cond, ◌==◌, List, [], ◌∷◌, ◌++◌, codes, length, map, Option, Some, None}
+use Rattle.std.specs.Fmt.{decimal}
+use Rattle.ptu_outside.specs.declared.arrival.Arrival.{Arrival}
+use Rattle.ptu_texts.specs.Texts.{address_text}
+use Rattle.ptu_config.specs.declared.settings.SlaveSettings.{SlaveSettings}
+use Rattle.ptu_slave_daemon.specs.declared.line.SlaveLine.{SlaveLine}
+use Rattle.ptu_slave_daemon.specs.declared.line.SlaveLine.TheVariants.{Selected, Closing}
+use Rattle.ptu_slave_daemon.specs.Opening.{node_of}
+use Rattle.ptu_slave_daemon.specs.Happenings.{Happening, Selection, happenings, selections_in, sent_in}
+
+-- the address of the master that is selected, or `none`
+abbrev pub master_text : Option ℕ → List ℕ
+master_text None = codes "none"
+master_text (Some ip) = address_text ip
+
+-- a line, with the 0A at its end
+abbrev pub line_text : SlaveLine → List ℕ
+line_text (Selected round master) =
+    codes "round " ++ (decimal round ++ (codes " selected " ++ (master_text master ++ codes "\n")))
+line_text (Closing rounds sent failed) =
+    codes "rounds " ++ (decimal rounds ++ (codes " sent " ++ (decimal sent ++ (codes " failed " ++ (decimal failed ++ codes "\n")))))
+
+-- two selections are of one master, or both of none
+abbrev pub is_same : Option ℕ → Option ℕ → Bool
+is_same None None = true
+is_same (Some a) (Some b) = a == b
+is_same _ _ = false
+
+-- this was written last
+abbrev pub is_said : Option (Option ℕ) → Option ℕ → Bool
+is_said None master = false
+is_said (Some last) master = is_same last master
+
+-- the selections that are written: the first, and each that differs from the last one written, where one was
+abbrev pub changes : Option (Option ℕ) → List Selection → List Selection
+changes said [] = []
+changes said (s ∷ later) = cond (is_said said s.master) (changes said later) (s ∷ changes (Some s.master) later)
+
+-- what is written of one more
+abbrev pub said_next : Option (Option ℕ) → Selection → List Selection
+said_next said s = cond (is_said said s.master) [] (s ∷ [])
+
+abbrev pub selected_line : Selection → SlaveLine
+selected_line s = Selected s.round s.master
+
+-- the whole output: the selections that are written, and the closing line
+abbrev pub output : ℕ → List Selection → (sent failed : ℕ) → List SlaveLine
+output rounds selections sent failed = map selected_line selections ++ Closing rounds sent failed ∷ []
+
+-- that of a daemon with these settings to which all this happens, where no port fails
+abbrev pub output_of : SlaveSettings → List Happening → List SlaveLine
+output_of s hs =
+    output s.rounds (changes None (selections_in (node_of s) [] hs)) (length (sent_in (node_of s) [] hs)) 0
+
+abbrev pub texts_of : List SlaveLine → List (List ℕ)
+texts_of lines = map line_text lines

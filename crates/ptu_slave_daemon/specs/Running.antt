@@ -1,0 +1,151 @@
+-- What a slave's daemon did so far, whatever its ports tell.
+use Rattle.std.specs.Prelude.{◌≡◌, ◌⊎◌, ℕ, ◌+◌, ◌<◌, ◌≤◌, ◌^◌, Bool, false, cond, List, [], ◌∷◌, ◌++◌, length, map, Option, Some, IsSome, IfSome}
+use Rattle.std.specs.List.{AllByRecursion}
+use Rattle.ptu_outside.specs.declared.arrival.Arrival.{Arrival}
+use Rattle.ptu_outside.specs.Departure.{Departure}
+use Rattle.ptu_outside.specs.Faults.{HasNotFallen, HasRisen, HasRisenBy}
+use Rattle.ptu_outside.specs.Telling.{IfTold, IsEmptyTold, append_told}
+use Rattle.ptu_record.specs.Record.{Record}
+use Rattle.ptu_judges.specs.Held.{Held}
+use Rattle.ptu_slave_messages.specs.Node.{Node}
+use Rattle.ptu_slave.specs.Kept.{Kept}
+use Rattle.ptu_slave.specs.Standing.{StandsFor}
+use Rattle.ptu_rounds.specs.Rounds.{in_rounds, left_after, moments_after, timed}
+use Rattle.ptu_slave_daemon.specs.declared.counts.Counts.{Counts}
+use Rattle.ptu_slave_daemon.specs.Happenings.{Happening, Stops, arrive, Selection, record_after, round_of, selections_in, sent_in}
+
+-- ---- counts
+
+-- so many more can be counted
+abbrev pub IsFew : ℕ → Counts → Type 0
+IsFew n counts = (counts.sent + n < 2 ^ 128) × (counts.failed + n < 2 ^ 128)
+
+-- at most so many were counted
+abbrev pub Grows : ℕ → Counts → Counts → Type 0
+Grows n old new = (new.sent ≤ old.sent + n) × (new.failed ≤ old.failed + n)
+
+-- so many were counted
+abbrev pub Counted : (sent failed : ℕ) → Counts → Counts → Type 0
+Counted sent failed old new = (new.sent ≡ old.sent + sent) × (new.failed ≡ old.failed + failed)
+
+-- ---- ports
+
+-- a port with these counts of faults was handed the datagrams, of which so many were sent, and so many sends and receives
+-- failed
+pub record PortDid (before after : Option (List Departure)) (old new : ℕ) (datagrams : List Departure) (sent failed : ℕ) : Type 0 where
+  pub departures : List Departure
+  pub many : length departures ≡ sent
+  pub sent_is : IfTold after (append_told before departures)
+  pub risen : HasRisenBy failed old new
+  pub no_fall : HasNotFallen old new
+  pub all_sent : ¬ HasRisen old new → IfTold after (append_told before datagrams)
+  pub all_counted : ¬ HasRisen old new → sent ≡ length datagrams
+
+-- of a port with these counts of faults, at which these waited before and wait after, so many receives failed
+pub record HasFailed (old new failed : ℕ) : Type 0 where
+  pub risen : HasRisenBy failed old new
+  pub no_fall : HasNotFallen old new
+
+-- these came from a port at which these waited before, and wait after
+abbrev pub CameFrom : Option (List Arrival) → Option (List Arrival) → List Arrival → Type 0
+CameFrom before after arrivals = IfSome after (λ left. before ≡ Some (arrivals ++ left))
+
+-- what a round takes of a port with these counts of faults: 64 datagrams, or all that waited where no receive failed
+pub record RoundTook (before after : Option (List Arrival)) (old new : ℕ) (arrivals : List Arrival) : Type 0 where
+  pub came : CameFrom before after arrivals
+  pub few : length arrivals ≤ 64
+  pub whole : ¬ HasRisen old new → (length arrivals ≡ 64) ⊎ IsEmptyTold after
+
+-- ---- moments
+
+-- these happened each at a new moment of a clock that told these moments before, and tells these after
+abbrev pub AreTimed : Option (List ℕ) → Option (List ℕ) → List (ℕ → Happening) → List Happening → Type 0
+AreTimed before after acts hs =
+    IfSome after (λ later. (times : List ℕ) × (before ≡ Some times) × (hs ≡ timed times acts) × (later ≡ moments_after (length acts) times))
+
+-- ---- the slave
+
+-- each master has a judge
+abbrev pub IsJudged : {A : Type 0} → Kept → List A → Type 0
+IsJudged kept judges = length judges ≡ length kept.masters
+
+-- a slave, of which this is kept and whose judges hold this, stands for the node with this record
+pub record IsAt (node : Node) (kept : Kept) (judges : List Held) (L : Record) : Type 0 where
+  pub config : kept.config ≡ node.config
+  pub masters : kept.masters ≡ node.masters
+  pub stands : StandsFor node.openings kept judges L
+  pub ruled : AllByRecursion (λ held. IsSome held.rule) judges
+
+-- a slave with its port and the clock, as they are seen: what is kept and held, what the port was sent, its faults, and the
+-- moments to come
+pub record View : Type 0 where
+  pub kept : Kept
+  pub judges : List Held
+  pub sent : Option (List Departure)
+  pub faults : ℕ
+  pub times : Option (List ℕ)
+
+-- from the record L on these happened to the slave: it stands for the record after them, its port was handed what is sent
+-- then, and it selected this
+pub record Ran (node : Node) (L : Record) (old new : View) (acts : List (ℕ → Happening)) (hs : List Happening) (selections : List Selection) (sent failed : ℕ) : Type 0 where
+  pub timed : AreTimed old.times new.times acts hs
+  pub stands : IsAt node new.kept new.judges (record_after node L hs)
+  pub port : PortDid old.sent new.sent old.faults new.faults (sent_in node L hs) sent failed
+  pub selects : selections_in node L hs ≡ selections
+
+-- these arrivals were taken, of which no selection came
+abbrev pub Took : Node → Record → View → View → List Arrival → (sent failed : ℕ) → Type 0
+Took node L old new arrivals sent failed = (hs : List Happening) × Ran node L old new (map arrive arrivals) hs [] sent failed
+
+-- ---- rounds
+
+-- after so many rounds, where no port has failed and all is still told, what happened is what the rounds say of all that
+-- waited, and what waits is the rest
+abbrev pub AreRounds : ℕ → (general general' event event' : Option (List Arrival)) → (faults faults' event_faults event_faults' : ℕ) → List (ℕ → Happening) → Type 0
+AreRounds rounds general general' event event' faults faults' event_faults event_faults' acts =
+    ¬ HasRisen faults faults' → ¬ HasRisen event_faults event_faults' → (left : List Arrival) (event_left : List Arrival)
+    → general' ≡ Some left → event' ≡ Some event_left
+    → (all : List Arrival) × (event_all : List Arrival) × (general ≡ Some all) × (event ≡ Some event_all)
+    × (acts ≡ in_rounds (round_of all event_all) rounds) × (left ≡ left_after rounds all) × (event_left ≡ left_after rounds event_all)
+
+-- ---- as the code sees it
+
+-- the view of a slave that keeps and holds this, with its port and the clock
+abbrev pub view_of : {P C : Type 0} → (P → Option (List Departure)) → (P → ℕ) → (C → Option (List ℕ)) → Kept → List Held → P → C → View
+view_of sent faults moments kept judges port clock = record {
+  kept = kept;
+  judges = judges;
+  sent = sent port;
+  faults = faults port;
+  times = moments clock;
+}
+
+-- one datagram was taken of a port, or none, and then none waited or a receive failed
+pub record TookOne (before after : Option (List Arrival)) (old new : ℕ) (more : Bool) (arrivals : List Arrival) : Type 0 where
+  pub came : CameFrom before after arrivals
+  pub many : length arrivals ≡ cond more 1 0
+  pub none : more ≡ false → ¬ HasRisen old new → IsEmptyTold after
+
+-- so many rounds were gone through, which began at the record L, and after which this was selected
+pub record RoundsDone (rounds : ℕ) (node : Node) (L : Record) (old new : View)
+    (general general' event event' : Option (List Arrival)) (event_faults event_faults' : ℕ) (selections : List Selection) (sent failures : ℕ) : Type 0 where
+  pub acts : List (ℕ → Happening)
+  pub hs : List Happening
+  pub failed : ℕ
+  pub event_failed : ℕ
+  pub failures_are : failures ≡ failed + event_failed
+  pub ran : Ran node L old new acts hs selections sent failed
+  pub event_fails : HasFailed event_faults event_faults' event_failed
+  pub as_said : AreRounds rounds general general' event event' old.faults new.faults event_faults event_faults' acts
+
+-- so many rounds were gone through and the slave has stopped
+pub record RunDone (rounds : ℕ) (node : Node) (L : Record) (old new : View)
+    (general general' event event' : Option (List Arrival)) (event_faults event_faults' : ℕ) (selections : List Selection) (sent failures : ℕ) : Type 0 where
+  pub acts : List (ℕ → Happening)
+  pub hs : List Happening
+  pub failed : ℕ
+  pub event_failed : ℕ
+  pub failures_are : failures ≡ failed + event_failed
+  pub ran : Ran node L old new (acts ++ Stops ∷ []) hs selections sent failed
+  pub event_fails : HasFailed event_faults event_faults' event_failed
+  pub as_said : AreRounds rounds general general' event event' old.faults new.faults event_faults event_faults' acts

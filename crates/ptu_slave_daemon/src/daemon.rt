@@ -1,0 +1,151 @@
+ghost use Rattle.std.specs.Prelude.{◌≡◌, ◌≢◌, List, length, map, Err, OnOk, OnErr, IsErrOf, true};
+ghost use Rattle.ptu_outside.specs.declared.opened.Opened.{Opened};
+ghost use Rattle.ptu_outside.specs.Handing.{HasPutPart};
+ghost use Rattle.ptu_config.specs.Limits.{IsSlaveInRange};
+ghost use Rattle.ptu_judges.specs.Held.{IsStock};
+ghost use Rattle.ptu_slave_daemon.specs.declared.line.SlaveLine.{SlaveLine};
+ghost use Rattle.ptu_slave_daemon.specs.Answers.{CountsOpen, CountsWrite, FailsWith, WasGivenBack, WasOpened};
+ghost use Rattle.ptu_slave_daemon.specs.Lines.{texts_of};
+ghost use Rattle.ptu_slave_daemon.specs.Opening.{are_enough};
+ghost use Rattle.ptu_slave_daemon.specs.Served.{AreAside, HasServed};
+
+use crate::halt::Halt;
+use crate::opening::open_slave;
+use crate::rounds::run;
+use ptu_config::SlaveSettings;
+use ptu_judges::Stock;
+use ptu_outside::{Clock, Failed, Host, Opened, Port, Sink};
+use ptu_rounds::DaemonFault;
+use ptu_units::OutOfMemory;
+use std::alloc::Global;
+
+// The run over ports and clocks that were opened, which are handed back, with whether the sink
+// failed.
+fn run_over<P: Port, C: Clock, K: Sink>(
+    alloc: Global,
+    settings: &SlaveSettings,
+    stock: Stock,
+    opened: Opened<P, C>,
+    sink: &mut K,
+) -> Result<(Opened<P, C>, Result<(), Failed>), OutOfMemory>
+    requires range { IsSlaveInRange settings.now }
+    requires stock { IsStock (map (λ j. held (j.vtable, j.value)) stock.flags.items)
+        (map (λ j. held (j.vtable, j.value)) stock.gaps.items) }
+    requires enough { are_enough settings.now.masters
+        (length stock.flags.items) (length stock.gaps.items) ≡ true }
+    ensures aside { IfOk result (λ pair. AreAside P.sent opened pair.0) }
+    ensures served { IfOk result (λ pair. OnOk pair.1
+        (HasServed P.sent P.waiting P.faults C.moments K.written K.handed
+        settings.now opened pair.0 sink.old sink.new)) }
+    ensures part { IfOk result (λ pair. OnErr pair.1 ((lines : List SlaveLine)
+        × HasPutPart K.written K.handed sink.old sink.new (texts_of lines))) }
+    ensures counts { IfOk result (λ pair. FailsWith pair.1 (K.faults sink.old)
+        (K.faults sink.new)) }
+    ensures stopped { OnErr result ((lines : List SlaveLine)
+        × HasPutPart K.written K.handed sink.old sink.new (texts_of lines)) }
+    ensures still { OnErr result (K.faults sink.new ≡ K.faults sink.old) }
+{
+    let Opened {
+        p0,
+        p1,
+        p2,
+        p3,
+        p4,
+        mut p5,
+        mut c0,
+        c1,
+        c2,
+        c3,
+        c4,
+        c5,
+    } = opened;
+    let mut slave = open_slave(alloc, settings, stock, p4)?;
+    let answer = run(
+        alloc,
+        settings.rounds,
+        &mut slave,
+        &mut p5,
+        &mut c0,
+        sink,
+    );
+    let written = match answer {
+        Ok(()) => Ok(()),
+        Err(Halt::Write) => Err(Failed),
+        Err(Halt::OutOfMemory) => return Err(OutOfMemory),
+    };
+    let back = Opened {
+        p0,
+        p1,
+        p2,
+        p3,
+        p4: slave.into_port(),
+        p5,
+        c0,
+        c1,
+        c2,
+        c3,
+        c4,
+        c5,
+    };
+    Ok((back, written))
+}
+
+/// Runs a slave with these settings, which are in their ranges, over the ports and clocks of a
+/// host, and writes to the sink. In a round it takes up to 64 datagrams of the general channel and
+/// then as many of the event channel, and ticks; a failed send or receive is counted, and it goes
+/// on. At the end it stops, and writes its closing line. The judges are taken from the stock, which
+/// is fresh and has one of the stated rule for every master.
+///
+/// # Errors
+/// `Open` where the host opened nothing, and then nothing is written; `Write` where the sink
+/// failed; `OutOfMemory`. Ports and clocks are given back to the host but after `OutOfMemory`,
+/// before which they are dropped.
+pub fn slave<H: Host, K: Sink>(
+    alloc: Global,
+    settings: &SlaveSettings,
+    host: &mut H,
+    sink: &mut K,
+    stock: Stock,
+) -> Result<(), DaemonFault>
+    requires range { IsSlaveInRange settings.now }
+    requires stock { IsStock (map (λ j. held (j.vtable, j.value)) stock.flags.items)
+        (map (λ j. held (j.vtable, j.value)) stock.gaps.items) }
+    requires enough { are_enough settings.now.masters
+        (length stock.flags.items) (length stock.gaps.items) ≡ true }
+
+    // The slave ran over the ports and clocks that the host opened, which were given back to it:
+    // what port 4 was sent, and what was written, are those of the rounds where all is told and no
+    // port failed; and whatever the ports did the closing line was written last, with the rounds of
+    // the settings, and with numbers that the ports bear out.
+    ensures served { OnOk result ((before : Opened H.P H.C) × (after : Opened H.P H.C)
+        × WasOpened (H.opening host.old) before × WasGivenBack (H.back host.new) after
+        × HasServed H.P.sent H.P.waiting H.P.faults H.C.moments K.written K.handed
+        settings.now before after sink.old sink.new) }
+
+    // What was written when it stopped are lines of this form, the last one in part at most.
+    ensures part { OnErr result ((lines : List SlaveLine)
+        × HasPutPart K.written K.handed sink.old sink.new (texts_of lines)) }
+    // Where nothing was opened nothing is written.
+    ensures nothing { IsErrOf result DaemonFault.Open → sink.new ≡ sink.old }
+    // Where the sink failed the ports and clocks were given back too.
+    ensures returned { IsErrOf result DaemonFault.Write
+        → (before : Opened H.P H.C) × (after : Opened H.P H.C)
+        × WasOpened (H.opening host.old) before × WasGivenBack (H.back host.new) after
+        × AreAside H.P.sent before after }
+    // A fault always shows, and want of memory is none.
+    ensures host_counts { CountsOpen result (H.faults host.old) (H.faults host.new) }
+    ensures sink_counts { CountsWrite result (K.faults sink.old) (K.faults sink.new) }
+{
+    let opened = host.open(settings.ip, settings.event_port, settings.general_port);
+    let Ok(opened) = opened else {
+        return Err(DaemonFault::Open);
+    };
+    let Ok((back, written)) = run_over(alloc, settings, stock, opened, sink) else {
+        return Err(DaemonFault::OutOfMemory);
+    };
+    host.close(back);
+    match written {
+        Ok(()) => Ok(()),
+        Err(_) => Err(DaemonFault::Write),
+    }
+}

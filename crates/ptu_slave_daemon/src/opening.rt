@@ -1,0 +1,129 @@
+//! The slave that settings open.
+
+ghost use Rattle.std.specs.Prelude.{◌≡◌, [], length, map, true, IfOk};
+ghost use Rattle.std.specs.Option.{MatchOption};
+ghost use Rattle.ptu_config.specs.Limits.{IsSlaveInRange};
+ghost use Rattle.ptu_judges.specs.Held.{IsStock, fresh};
+ghost use Rattle.ptu_slave_messages.specs.Config.{IsWithinLimits};
+ghost use Rattle.ptu_slave_daemon.specs.Opening.{HasNone, HasTaken, are_enough, config_of, master_of, node_of, rule_of};
+ghost use Rattle.ptu_slave_daemon.specs.Running.{IsAt};
+
+use ptu_config::{MasterSetting, SlaveSettings};
+use ptu_header::PortIdentity;
+use ptu_judges::{Judge, Stock};
+use ptu_outside::Port;
+use ptu_record::Wants;
+use ptu_slave::{Master, Slave, SlaveConfig};
+use ptu_units::OutOfMemory;
+use std::alloc::Global;
+
+/// Whether the stock has a judge of the stated rule for every master of these settings.
+pub fn has_judges(settings: &SlaveSettings, stock: &Stock) -> bool
+    ensures { result ≡ are_enough settings.now.masters
+        (length stock.now.flags.items) (length stock.now.gaps.items) }
+{
+    let masters = settings.masters.list();
+    let gaps = masters.iter().filter(|master| master.gap).count();
+    let flags = masters.iter().filter(|master| !master.gap).count();
+    flags <= stock.flags.len() && gaps <= stock.gaps.len()
+}
+
+// What the slave is set up with.
+fn new_config(settings: &SlaveSettings) -> SlaveConfig
+    requires { IsSlaveInRange settings.now }
+    ensures config { result ≡ config_of settings.now }
+    ensures limits { IsWithinLimits result }
+{
+    SlaveConfig {
+        identity: PortIdentity {
+            clock: settings.clock,
+            port: settings.port,
+        },
+        domain: settings.domain,
+        wants: Wants {
+            announce: settings.log_announce,
+            sync: settings.log_sync,
+            delay: settings.log_delay,
+            seconds: settings.duration,
+        },
+        announce_timeout: settings.announce_timeout,
+        sync_timeout: settings.sync_timeout,
+        delay_timeout: settings.delay_timeout,
+        wait: settings.wait_to_restore,
+    }
+}
+
+// The masters of these settings.
+fn new_masters(alloc: Global, masters: &[MasterSetting]) -> Result<Vec<Master>, OutOfMemory>
+    ensures { IfOk result (λ list. list.items ≡ map master_of masters.now) }
+{
+    let mut list = Vec::new(alloc);
+    for master in masters {
+        list.push(Master {
+            ip: master.ip,
+            priority: master.priority,
+        })?;
+    }
+    Ok(list)
+}
+
+// Takes the last judge of a rule from the stock.
+fn take_judge(stock: &mut Stock, gap: bool) -> Option<Box<dyn Judge>>
+    requires { IsStock (map (λ j. held j) stock.old.flags.items)
+        (map (λ j. held j) stock.old.gaps.items) }
+    ensures { MatchOption result
+        (HasNone gap (map (λ j. held j) stock.old.flags.items)
+        (map (λ j. held j) stock.old.gaps.items))
+        (λ judge. HasTaken gap (map (λ j. held j) stock.old.flags.items)
+        (map (λ j. held j) stock.old.gaps.items) (map (λ j. held j) stock.new.flags.items)
+        (map (λ j. held j) stock.new.gaps.items) (held judge)) }
+{
+    if gap { stock.gaps.pop() } else { stock.flags.pop() }
+}
+
+// A judge for each master, of the rule that its settings say.
+fn new_judges(
+    alloc: Global,
+    masters: &[MasterSetting],
+    mut stock: Stock,
+) -> Result<Vec<Box<dyn Judge>>, OutOfMemory>
+    requires stock { IsStock (map (λ j. held j) stock.flags.items)
+        (map (λ j. held j) stock.gaps.items) }
+    requires enough { are_enough masters.now
+        (length stock.flags.items) (length stock.gaps.items) ≡ true }
+    ensures { IfOk result (λ judges. map (λ j. held j) judges.items
+        ≡ map (λ m. fresh (rule_of m)) masters.now) }
+{
+    let mut judges = Vec::new(alloc);
+    for master in masters {
+        if let Some(judge) = take_judge(&mut stock, master.gap) {
+            judges.push(judge)?;
+        }
+    }
+    Ok(judges)
+}
+
+/// The slave that these settings open, with judges of the stock, which hands its messages to this
+/// port.
+///
+/// # Errors
+/// `OutOfMemory`.
+pub(crate) fn open_slave<P: Port>(
+    alloc: Global,
+    settings: &SlaveSettings,
+    stock: Stock,
+    port: P,
+) -> Result<Slave<P>, OutOfMemory>
+    requires range { IsSlaveInRange settings.now }
+    requires stock { IsStock (map (λ j. held (j.vtable, j.value)) stock.flags.items)
+        (map (λ j. held (j.vtable, j.value)) stock.gaps.items) }
+    requires enough { are_enough settings.now.masters
+        (length stock.flags.items) (length stock.gaps.items) ≡ true }
+    ensures stands { IfOk result (λ slave. IsAt (node_of settings.now) slave.core
+        (map (λ j. held (j.vtable, j.value)) slave.judges.items) []) }
+    ensures port { IfOk result (λ slave. slave.port ≡ port) }
+{
+    let masters = new_masters(alloc, settings.masters.list())?;
+    let judges = new_judges(alloc, settings.masters.list(), stock)?;
+    Slave::new(alloc, new_config(settings), masters, judges, port)
+}

@@ -1,0 +1,141 @@
+//! The rounds of a slave's daemon.
+
+ghost use Rattle.std.specs.Prelude.{◌≡◌, ◌+◌, ◌*◌, ◌^◌, ℕ, List, [], ◌∷◌, ◌++◌, map, IfOk, OnOk, OnErr, None};
+ghost use Rattle.ptu_outside.specs.declared.arrival.Arrival.{Arrival};
+ghost use Rattle.ptu_outside.specs.Handing.{HasPut, HasPutPart};
+ghost use Rattle.ptu_record.specs.Record.{Record};
+ghost use Rattle.ptu_slave_messages.specs.Node.{Node};
+ghost use Rattle.ptu_slave_daemon.specs.declared.line.SlaveLine.{SlaveLine};
+ghost use Rattle.ptu_slave_daemon.specs.Answers.{Halts};
+ghost use Rattle.ptu_slave_daemon.specs.Happenings.{Happening, Selection, Ticks, arrive};
+ghost use Rattle.ptu_slave_daemon.specs.Lines.{changes, output, selected_line, texts_of};
+ghost use Rattle.ptu_slave_daemon.specs.Running.{Counted, Grows, HasFailed, IsAt, IsFew, IsJudged, Ran, RoundTook, RoundsDone, RunDone, view_of};
+
+use crate::counts::Counts;
+use crate::halt::Halt;
+use crate::line::SlaveLine;
+use crate::steps::{stop, tick};
+use crate::taking::{take_all_event, take_all_general};
+use crate::writing::{say, write_line};
+use ptu_outside::{Clock, Port, Sink};
+use ptu_slave::Slave;
+use ptu_units::OutOfMemory;
+use std::alloc::Global;
+
+// What happens to the slave in a round; what it selects at its end.
+fn happen<P: Port, C: Clock>(
+    alloc: Global,
+    slave: &mut Slave<P>,
+    event: &mut P,
+    clock: &mut C,
+    counts: &mut Counts,
+) -> Result<Option<u32>, OutOfMemory>
+    requires judged { IsJudged slave.old.core slave.old.judges.items }
+    requires few { IsFew (2 ^ 65) counts.old }
+    ensures grows { Grows (2 ^ 65) counts.old counts.new }
+    ensures sent { P.sent event.new ≡ P.sent event.old }
+    ensures ran { IfOk result (λ master. (node : Node) (L : Record) (round : ℕ) →
+        IsAt node slave.old.core
+        (map (λ j. held (j.vtable, j.value)) slave.old.judges.items) L →
+        (arrivals : List Arrival) × (event_arrivals : List Arrival) × (hs : List Happening)
+        × (sent : ℕ) × (failed : ℕ) × (event_failed : ℕ)
+        × Counted sent (failed + event_failed) counts.old counts.new
+        × HasFailed (P.faults event.old) (P.faults event.new) event_failed
+        × RoundTook (P.waiting slave.old.port) (P.waiting slave.new.port)
+        (P.faults slave.old.port) (P.faults slave.new.port) arrivals
+        × RoundTook (P.waiting event.old) (P.waiting event.new)
+        (P.faults event.old) (P.faults event.new) event_arrivals
+        × Ran node L
+        (view_of P.sent P.faults C.moments slave.old.core
+        (map (λ j. held (j.vtable, j.value)) slave.old.judges.items) slave.old.port clock.old)
+        (view_of P.sent P.faults C.moments slave.new.core
+        (map (λ j. held (j.vtable, j.value)) slave.new.judges.items) slave.new.port clock.new)
+        (map arrive (arrivals ++ event_arrivals) ++ Ticks round ∷ []) hs
+        (record { round = round; master = master } ∷ []) sent failed) }
+{
+    take_all_general(alloc, slave, clock, counts)?;
+    take_all_event(alloc, slave, event, clock, counts)?;
+    Ok(tick(slave, clock, counts))
+}
+
+// All rounds, with the lines of the selections.
+fn run_rounds<P: Port, C: Clock, K: Sink>(
+    alloc: Global,
+    rounds: u32,
+    slave: &mut Slave<P>,
+    event: &mut P,
+    clock: &mut C,
+    counts: &mut Counts,
+    sink: &mut K,
+) -> Result<(), Halt>
+    requires judged { IsJudged slave.old.core slave.old.judges.items }
+    requires none { counts.old ≡ record { sent = 0; failed = 0 } }
+    ensures few { IsFew (2 ^ 64) counts.new }
+    ensures sent { P.sent event.new ≡ P.sent event.old }
+    ensures done { OnOk result ((selections : List Selection)
+        × HasPut K.written K.handed sink.old sink.new
+        (texts_of (map selected_line (changes None selections)))
+        × ((node : Node) (L : Record) → IsAt node slave.old.core
+        (map (λ j. held (j.vtable, j.value)) slave.old.judges.items) L →
+        RoundsDone rounds node L
+        (view_of P.sent P.faults C.moments slave.old.core
+        (map (λ j. held (j.vtable, j.value)) slave.old.judges.items) slave.old.port clock.old)
+        (view_of P.sent P.faults C.moments slave.new.core
+        (map (λ j. held (j.vtable, j.value)) slave.new.judges.items) slave.new.port clock.new)
+        (P.waiting slave.old.port) (P.waiting slave.new.port)
+        (P.waiting event.old) (P.waiting event.new) (P.faults event.old) (P.faults event.new)
+        selections counts.new.sent counts.new.failed)) }
+    ensures part { OnErr result ((lines : List SlaveLine)
+        × HasPutPart K.written K.handed sink.old sink.new (texts_of lines)) }
+    ensures counts { Halts result (K.faults sink.old) (K.faults sink.new) }
+{
+    let mut said = None;
+    for before in 0..rounds {
+        let master = happen(alloc, slave, event, clock, counts)?;
+        say(alloc, sink, before + 1, said, master)?;
+        said = Some(master);
+    }
+    Ok(())
+}
+
+/// The whole run of a slave: all rounds, the stop after them, and the closing line.
+///
+/// # Errors
+/// `Write` where the sink failed, and `OutOfMemory`.
+pub(crate) fn run<P: Port, C: Clock, K: Sink>(
+    alloc: Global,
+    rounds: u32,
+    slave: &mut Slave<P>,
+    event: &mut P,
+    clock: &mut C,
+    sink: &mut K,
+) -> Result<(), Halt>
+    requires judged { IsJudged slave.old.core slave.old.judges.items }
+    ensures sent { P.sent event.new ≡ P.sent event.old }
+    ensures done { OnOk result ((selections : List Selection) × (sends : ℕ) × (failures : ℕ)
+        × HasPut K.written K.handed sink.old sink.new
+        (texts_of (output rounds (changes None selections) sends failures))
+        × ((node : Node) (L : Record) → IsAt node slave.old.core
+        (map (λ j. held (j.vtable, j.value)) slave.old.judges.items) L →
+        RunDone rounds node L
+        (view_of P.sent P.faults C.moments slave.old.core
+        (map (λ j. held (j.vtable, j.value)) slave.old.judges.items) slave.old.port clock.old)
+        (view_of P.sent P.faults C.moments slave.new.core
+        (map (λ j. held (j.vtable, j.value)) slave.new.judges.items) slave.new.port clock.new)
+        (P.waiting slave.old.port) (P.waiting slave.new.port)
+        (P.waiting event.old) (P.waiting event.new) (P.faults event.old) (P.faults event.new)
+        selections sends failures)) }
+    ensures part { OnErr result ((lines : List SlaveLine)
+        × HasPutPart K.written K.handed sink.old sink.new (texts_of lines)) }
+    ensures counts { Halts result (K.faults sink.old) (K.faults sink.new) }
+{
+    let mut counts = Counts::new();
+    run_rounds(alloc, rounds, slave, event, clock, &mut counts, sink)?;
+    stop(slave, clock, &mut counts);
+    let line = SlaveLine::Closing {
+        rounds,
+        sent: counts.sent,
+        failed: counts.failed,
+    };
+    write_line(alloc, sink, line)
+}

@@ -1,0 +1,171 @@
+//! What waits on a channel is taken, at most 64 datagrams a round.
+
+ghost use Rattle.std.specs.Prelude.{◌≡◌, ◌+◌, ℕ, Bool, List, map, IfOk, OnOk};
+ghost use Rattle.ptu_outside.specs.declared.arrival.Arrival.{Arrival};
+ghost use Rattle.ptu_record.specs.Record.{Record};
+ghost use Rattle.ptu_slave_messages.specs.Node.{Node};
+ghost use Rattle.ptu_slave_daemon.specs.Running.{Counted, Grows, HasFailed, IsAt, IsFew, IsJudged, RoundTook, Took, TookOne, view_of};
+
+use crate::counts::Counts;
+use crate::steps::take;
+use ptu_outside::{Clock, Port};
+use ptu_slave::Slave;
+use ptu_units::OutOfMemory;
+use std::alloc::Global;
+
+/// So many datagrams of a channel a round takes at most.
+const MOST: usize = 64;
+
+/// So many octets a datagram has at most.
+const LONGEST: usize = 2048;
+
+// Takes the next datagram of the general channel, which comes by the slave's own port; false where
+// none is received.
+fn take_general<P: Port, C: Clock>(
+    alloc: Global,
+    slave: &mut Slave<P>,
+    clock: &mut C,
+    counts: &mut Counts,
+) -> Result<bool, OutOfMemory>
+    requires judged { IsJudged slave.old.core slave.old.judges.items }
+    requires few { IsFew 1 counts.old }
+    ensures grows { Grows 1 counts.old counts.new }
+    ensures took { IfOk result (λ more. (node : Node) (L : Record) → IsAt node slave.old.core
+        (map (λ j. held (j.vtable, j.value)) slave.old.judges.items) L →
+        (arrivals : List Arrival) × (sent : ℕ) × (failed : ℕ)
+        × Counted sent failed counts.old counts.new
+        × TookOne (P.waiting slave.old.port) (P.waiting slave.new.port)
+        (P.faults slave.old.port) (P.faults slave.new.port) more arrivals
+        × Took node L
+        (view_of P.sent P.faults C.moments slave.old.core
+        (map (λ j. held (j.vtable, j.value)) slave.old.judges.items) slave.old.port clock.old)
+        (view_of P.sent P.faults C.moments slave.new.core
+        (map (λ j. held (j.vtable, j.value)) slave.new.judges.items) slave.new.port clock.new)
+        arrivals sent failed) }
+{
+    let mut octets = [0; LONGEST];
+    match slave.port.receive(&mut octets) {
+        Ok(Some((from, length))) => {
+            take(alloc, slave, clock, from, &octets[..length], counts)?;
+            Ok(true)
+        }
+        Ok(None) => Ok(false),
+        Err(_) => {
+            counts.add(0, 1);
+            Ok(false)
+        }
+    }
+}
+
+// Takes the next datagram of the event channel; false where none is received.
+fn take_event<P: Port, C: Clock>(
+    alloc: Global,
+    slave: &mut Slave<P>,
+    event: &mut P,
+    clock: &mut C,
+    counts: &mut Counts,
+) -> Result<bool, OutOfMemory>
+    requires judged { IsJudged slave.old.core slave.old.judges.items }
+    requires few { IsFew 1 counts.old }
+    ensures grows { Grows 1 counts.old counts.new }
+    ensures waiting { P.waiting slave.new.port ≡ P.waiting slave.old.port }
+    ensures sent { P.sent event.new ≡ P.sent event.old }
+    ensures took { IfOk result (λ more. (node : Node) (L : Record) → IsAt node slave.old.core
+        (map (λ j. held (j.vtable, j.value)) slave.old.judges.items) L →
+        (arrivals : List Arrival) × (sent : ℕ) × (failed : ℕ) × (event_failed : ℕ)
+        × Counted sent (failed + event_failed) counts.old counts.new
+        × HasFailed (P.faults event.old) (P.faults event.new) event_failed
+        × TookOne (P.waiting event.old) (P.waiting event.new)
+        (P.faults event.old) (P.faults event.new) more arrivals
+        × Took node L
+        (view_of P.sent P.faults C.moments slave.old.core
+        (map (λ j. held (j.vtable, j.value)) slave.old.judges.items) slave.old.port clock.old)
+        (view_of P.sent P.faults C.moments slave.new.core
+        (map (λ j. held (j.vtable, j.value)) slave.new.judges.items) slave.new.port clock.new)
+        arrivals sent failed) }
+{
+    let mut octets = [0; LONGEST];
+    match event.receive(&mut octets) {
+        Ok(Some((from, length))) => {
+            take(alloc, slave, clock, from, &octets[..length], counts)?;
+            Ok(true)
+        }
+        Ok(None) => Ok(false),
+        Err(_) => {
+            counts.add(0, 1);
+            Ok(false)
+        }
+    }
+}
+
+/// Takes what waits on the general channel, up to 64 datagrams.
+///
+/// # Errors
+/// `OutOfMemory`.
+pub(crate) fn take_all_general<P: Port, C: Clock>(
+    alloc: Global,
+    slave: &mut Slave<P>,
+    clock: &mut C,
+    counts: &mut Counts,
+) -> Result<(), OutOfMemory>
+    requires judged { IsJudged slave.old.core slave.old.judges.items }
+    requires few { IsFew 64 counts.old }
+    ensures grows { Grows 64 counts.old counts.new }
+    ensures took { OnOk result ((node : Node) (L : Record) → IsAt node slave.old.core
+        (map (λ j. held (j.vtable, j.value)) slave.old.judges.items) L →
+        (arrivals : List Arrival) × (sent : ℕ) × (failed : ℕ)
+        × Counted sent failed counts.old counts.new
+        × RoundTook (P.waiting slave.old.port) (P.waiting slave.new.port)
+        (P.faults slave.old.port) (P.faults slave.new.port) arrivals
+        × Took node L
+        (view_of P.sent P.faults C.moments slave.old.core
+        (map (λ j. held (j.vtable, j.value)) slave.old.judges.items) slave.old.port clock.old)
+        (view_of P.sent P.faults C.moments slave.new.core
+        (map (λ j. held (j.vtable, j.value)) slave.new.judges.items) slave.new.port clock.new)
+        arrivals sent failed) }
+{
+    for _taken in 0..MOST {
+        if !take_general(alloc, slave, clock, counts)? {
+            return Ok(());
+        }
+    }
+    Ok(())
+}
+
+/// Takes what waits on the event channel, up to 64 datagrams.
+///
+/// # Errors
+/// `OutOfMemory`.
+pub(crate) fn take_all_event<P: Port, C: Clock>(
+    alloc: Global,
+    slave: &mut Slave<P>,
+    event: &mut P,
+    clock: &mut C,
+    counts: &mut Counts,
+) -> Result<(), OutOfMemory>
+    requires judged { IsJudged slave.old.core slave.old.judges.items }
+    requires few { IsFew 64 counts.old }
+    ensures grows { Grows 64 counts.old counts.new }
+    ensures waiting { P.waiting slave.new.port ≡ P.waiting slave.old.port }
+    ensures sent { P.sent event.new ≡ P.sent event.old }
+    ensures took { OnOk result ((node : Node) (L : Record) → IsAt node slave.old.core
+        (map (λ j. held (j.vtable, j.value)) slave.old.judges.items) L →
+        (arrivals : List Arrival) × (sent : ℕ) × (failed : ℕ) × (event_failed : ℕ)
+        × Counted sent (failed + event_failed) counts.old counts.new
+        × HasFailed (P.faults event.old) (P.faults event.new) event_failed
+        × RoundTook (P.waiting event.old) (P.waiting event.new)
+        (P.faults event.old) (P.faults event.new) arrivals
+        × Took node L
+        (view_of P.sent P.faults C.moments slave.old.core
+        (map (λ j. held (j.vtable, j.value)) slave.old.judges.items) slave.old.port clock.old)
+        (view_of P.sent P.faults C.moments slave.new.core
+        (map (λ j. held (j.vtable, j.value)) slave.new.judges.items) slave.new.port clock.new)
+        arrivals sent failed) }
+{
+    for _taken in 0..MOST {
+        if !take_event(alloc, slave, event, clock, counts)? {
+            return Ok(());
+        }
+    }
+    Ok(())
+}

@@ -1,0 +1,167 @@
+//! Rows whose outputs were made out by hand.
+
+use super::*;
+use ptu_config::{MasterList, MasterSetting, SlaveSettings};
+use ptu_judges::{FlagJudge, Judge, Stock};
+use ptu_outside::{Arrival, Channel, Datagram, MemClock, MemHost, MemPort, MemSink, Opened};
+use ptu_units::{Kind, Log, Moment};
+use std::alloc::{AllocError, Global};
+use std::process::Abort;
+use std::test::Fail;
+
+/// The master 10.0.0.1.
+const MASTER: u32 = 0x0a00_0001;
+
+/// An Announce of class 84 and a Sync of port 1 of the clock 0a00000000000001.
+const ANNOUNCE: &str = "0b120040040004000000000000000000000000000a0000000000000100010000057f\
+     00000000000000000000000000805400ffff800a000000000000010000a0";
+
+const SYNC: &str = "0012002c040004000000000000000000000000000a0000000000000100010000007f\
+     00000000000000000000";
+
+/// What asks for Announce at logarithm 1 and for Sync at logarithm -4.
+const ASK: &str = "0c120040040004000000000000000000000000000a0000000000001100010000057f\
+     ffffffffffffffffffff00040006b0010000012c0004000600fc0000012c";
+
+// A slave of the one master.
+fn settings(alloc: Global, rounds: u32) -> Result<SlaveSettings, Fail> {
+    let masters = vec![in alloc;
+        MasterSetting {
+            ip: MASTER,
+            priority: 128,
+            gap: false,
+        },
+    ]?;
+    Ok(SlaveSettings {
+        ip: 0x7f00_0001,
+        event_port: 319,
+        general_port: 320,
+        clock: 0x0a00_0000_0000_0011,
+        port: 1,
+        domain: 4,
+        rounds,
+        wait_to_restore: 300,
+        announce_timeout: 3,
+        sync_timeout: 3,
+        delay_timeout: 3,
+        log_announce: Log::of(Kind::Announce, 1).ok_or("in range")?,
+        log_sync: Log::of(Kind::Sync, -4).ok_or("in range")?,
+        log_delay: None,
+        duration: 300,
+        masters: MasterList::new(masters),
+    })
+}
+
+// One judge.
+fn stock(alloc: Global) -> Result<Stock, AllocError> {
+    let mut flags: Vec<Box<dyn Judge>> = Vec::new(alloc);
+    flags.push(Box::new(alloc, FlagJudge::new())?)?;
+    Ok(Stock {
+        flags,
+        gaps: Vec::new(alloc),
+    })
+}
+
+// What waits where this datagram has come from the master, if there is one.
+fn waiting(alloc: Global, text: &str) -> Result<Vec<Arrival>, Fail> {
+    let mut list = Vec::new(alloc);
+    if !text.is_empty() {
+        list.push(Arrival {
+            ip: MASTER,
+            bytes: Datagram::new(hex::decode(alloc, text)?),
+        })?;
+    }
+    Ok(list)
+}
+
+// A port at which nothing waits.
+fn idle(alloc: Global) -> MemPort {
+    MemPort::new(alloc, Vec::new(alloc), Vec::new(alloc), Vec::new(alloc))
+}
+
+// A clock that tells 0.
+fn clock(alloc: Global) -> MemClock {
+    MemClock::new(Vec::new(alloc))
+}
+
+// A host with these ports 4 and 5.
+fn host(alloc: Global, p4: MemPort, p5: MemPort) -> MemHost {
+    let opened = Opened {
+        p0: idle(alloc),
+        p1: idle(alloc),
+        p2: idle(alloc),
+        p3: idle(alloc),
+        p4,
+        p5,
+        c0: clock(alloc),
+        c1: clock(alloc),
+        c2: clock(alloc),
+        c3: clock(alloc),
+        c4: clock(alloc),
+        c5: clock(alloc),
+    };
+    MemHost::new(opened, false)
+}
+
+// A port by which one datagram may be sent, at which this one waits.
+fn port(alloc: Global, text: &str, failing: Vec<u64>) -> Result<MemPort, Fail> {
+    let mut port = MemPort::new(alloc, waiting(alloc, text)?, Vec::new(alloc), failing);
+    port.reserve(1, 64)?;
+    Ok(port)
+}
+
+// Runs a slave for so many rounds, and compares what it writes.
+fn assert_output(
+    rt: &impl Abort,
+    alloc: Global,
+    rounds: u32,
+    host: &mut MemHost,
+    output: &str,
+) -> Result<(), Fail> {
+    let settings = settings(alloc, rounds)?;
+    let stock = stock(alloc)?;
+    let mut sink = MemSink::new(alloc, Vec::new(alloc));
+    sink.reserve(128)?;
+    assert!(rt; has_judges(&settings, &stock));
+    assert_eq!(rt; slave(alloc, &settings, host, &mut sink, stock), Ok(()));
+    assert_eq!(rt; sink.bytes(), output.as_bytes());
+    Ok(())
+}
+
+// Compares what was sent by port 4 with the ask alone.
+fn assert_asked(rt: &impl Abort, alloc: Global, host: &MemHost) -> Result<(), Fail> {
+    let ask = hex::decode(alloc, ASK)?;
+    let back = host.back().ok_or("given back")?;
+    assert_eq!(rt; back.p4.sent(0), Some((MASTER, Channel::General, ask.as_slice())));
+    assert!(rt; back.p4.sent(1).is_none());
+    Ok(())
+}
+
+#[test]
+fn a_slave_that_hears_nothing_asks_and_selects_none(rt: HostRuntime) -> Result<(), Fail> {
+    let alloc = rt.alloc();
+    let mut host = host(alloc, port(alloc, "", Vec::new(alloc))?, idle(alloc));
+    let output = "round 1 selected none\nrounds 1 sent 1 failed 0\n";
+    assert_output(&rt, alloc, 1, &mut host, output)?;
+    assert_asked(&rt, alloc, &host)
+}
+
+#[test]
+fn a_slave_writes_its_selection_once(rt: HostRuntime) -> Result<(), Fail> {
+    let alloc = rt.alloc();
+    let p4 = port(alloc, ANNOUNCE, Vec::new(alloc))?;
+    let mut host = host(alloc, p4, port(alloc, SYNC, Vec::new(alloc))?);
+    let output = "round 1 selected 10.0.0.1\nrounds 2 sent 1 failed 0\n";
+    assert_output(&rt, alloc, 2, &mut host, output)?;
+    assert_asked(&rt, alloc, &host)
+}
+
+#[test]
+fn a_failed_receive_is_counted_and_the_slave_goes_on(rt: HostRuntime) -> Result<(), Fail> {
+    let alloc = rt.alloc();
+    let p4 = port(alloc, ANNOUNCE, vec![in alloc; 1]?)?;
+    let mut host = host(alloc, p4, port(alloc, SYNC, Vec::new(alloc))?);
+    let output = "round 1 selected none\nround 2 selected 10.0.0.1\nrounds 2 sent 1 failed 1\n";
+    assert_output(&rt, alloc, 2, &mut host, output)?;
+    assert_asked(&rt, alloc, &host)
+}
