@@ -3,19 +3,24 @@ use Rattle.std.specs.Prelude.{◌≡◌, ◌⊎◌, ℕ, List, [], ◌∷◌, Op
 use Rattle.ptu_outside.specs.declared.clock.Clock.{Ghosts as Clocks}
 use Rattle.ptu_outside.specs.declared.opened.Opened.{Opened}
 use Rattle.ptu_outside.specs.declared.port.Port.{Ghosts as Ports}
-use Rattle.ptu_outside.specs.Handing.{HasPut, HasPutFront}
+use Rattle.ptu_outside.specs.Handing.{HasPut, HasPutFront, HasPutPart}
 use Rattle.ptu_config.specs.declared.key.Key.{Key}
 use Rattle.ptu_config.specs.declared.settings.GmSettings.{GmSettings}
-use Rattle.ptu_config.specs.Entries.{gm_entries}
+use Rattle.ptu_config.specs.declared.settings.SlaveSettings.{SlaveSettings}
+use Rattle.ptu_config.specs.Entries.{gm_entries, slave_entries}
 use Rattle.ptu_config.specs.Rules.{Value}
 use Rattle.ptu_setup.specs.declared.fault.SetupFault.TheVariants.{Refused}
 use Rattle.ptu_setup.specs.declared.refusal.RefusalLine.{RefusalLine}
 use Rattle.ptu_setup.specs.Reading.{Answers, HasSetUp, HasTakenSome}
-use Rattle.ptu_setup.specs.Refusals.{gm_refusal, refusal_text}
+use Rattle.ptu_setup.specs.Refusals.{gm_refusal, refusal_text, slave_refusal}
 use Rattle.ptu_rounds.specs.declared.fault.DaemonFault.{DaemonFault}
 use Rattle.ptu_rounds.specs.declared.fault.DaemonFault.TheVariants.{Open, Write, OutOfMemory}
 use Rattle.ptu_daemon.specs.Served.{Said, closing_line}
 use Rattle.ptu_daemon.specs.Serving.{HasServed}
+use Rattle.ptu_slave_daemon.specs.declared.line.SlaveLine.{SlaveLine}
+use Rattle.ptu_slave_daemon.specs.Answers.{WasGivenBack, WasOpened}
+use Rattle.ptu_slave_daemon.specs.Lines.{texts_of}
+use Rattle.ptu_slave_daemon.specs.Served.{AreAside, HasServed as HasFollowed}
 
 -- the status of what a daemon answers
 abbrev pub status_of_daemon : {A : Type 0} → Result A DaemonFault → ℕ
@@ -88,3 +93,27 @@ module _ {K P C : Type 0} (ports : Ports P) (clocks : Clocks C) (written : K →
   abbrev pub HasRunServe : {H : Type 0} → Option (List ℕ) → Option (List ℕ) → H → H → ℕ → Type 0
   HasRunServe left left' host host' status =
       HasRunDaemon gm_entries gm_refusal left left' written handed old new host host' ServedWhole ServedInPart (λ settings. new ≡ old) status
+
+-- ---- the word `slave`
+
+module _ {K P C : Type 0} (ports : Ports P) (clocks : Clocks C) (written : K → Option (List ℕ)) (handed : K → Option (List (List ℕ)))
+    (old new : K) (opening back : Option (Opened P C)) where
+  -- a slave of these settings ran over the ports and clocks that were opened and are given back, and its output was written whole
+  abbrev pub FollowedWhole : SlaveSettings → Type 0
+  FollowedWhole settings = (before : Opened P C) × (after : Opened P C) × WasOpened opening before × WasGivenBack back after
+      × HasFollowed ports.sent ports.waiting ports.faults clocks.moments written handed settings before after old new
+
+  -- lines of its form were written, the last one in part at most
+  abbrev pub WroteLines : Type 0
+  WroteLines = (lines : List SlaveLine) × HasPutPart written handed old new (texts_of lines)
+
+  -- that is all, and the ports and clocks are given back
+  abbrev pub FollowedInPart : Type 0
+  FollowedInPart = WroteLines × ((before : Opened P C) × (after : Opened P C) × WasOpened opening before × WasGivenBack back after
+      × AreAside ports.sent before after)
+
+  -- a run with the word `slave` ended with this status, with so many judges of flags and of gaps
+  abbrev pub HasRunSlave : {H : Type 0} → ℕ → ℕ → Option (List ℕ) → Option (List ℕ) → H → H → ℕ → Type 0
+  HasRunSlave flags gaps left left' host host' status =
+      HasRunDaemon slave_entries (slave_refusal flags gaps) left left' written handed old new host host'
+      FollowedWhole (λ settings. FollowedInPart) (λ settings. WroteLines) status

@@ -10,10 +10,10 @@ ghost use Rattle.ptu_words.specs.CommandLine.{command_of, IsInRange, IsRefused};
 ghost use Rattle.ptu_words.specs.declared.command.Command.{Command};
 ghost use Rattle.ptu_world.specs.Headline.{DecidesByRoom, PaysPeriods, SaysSo, SelectsBest, WithinBudget, WithinCapacity};
 ghost use Rattle.ptu_world.specs.Report.{report_lines};
-ghost use Rattle.ptpuni.specs.Daemons.{HasRunServe};
+ghost use Rattle.ptpuni.specs.Daemons.{HasRunServe, HasRunSlave};
 ghost use Rattle.ptpuni.specs.Run.{output_of, statuses, stock_of, HasLoaded, HasReadAll, HasRun, IsOfLab, IsStatusOf};
 
-use crate::daemons::run_serve;
+use crate::daemons::{run_serve, run_slave};
 use crate::status::{BAD_LINE, HOST_FAULT, OUT_OF_MEMORY, SINK_FAULT, SOURCE_FAULT, USAGE, status_of};
 use ptu_lab::{Stock, load, replay, show};
 use ptu_outside::{Host, Sink, Source};
@@ -48,6 +48,10 @@ fn run_command<S: Source, K: Sink, H: Host>(
     ensures served { command ≡ Command.Serve → HasRunServe H.P.Port H.C.Clock K.written K.handed
         sink.old sink.new (H.opening host.old) (H.back host.new)
         (S.left source.old) (S.left source.new) host.old host.new result }
+    ensures followed { command ≡ Command.Slave → HasRunSlave H.P.Port H.C.Clock K.written K.handed
+        sink.old sink.new (H.opening host.old) (H.back host.new)
+        (length stock.flags.items) (length stock.gaps.items)
+        (S.left source.old) (S.left source.new) host.old host.new result }
     ensures unused { IsOfLab command → host.new ≡ host.old }
     ensures source_fault { result ≡ SOURCE_FAULT
         → HasRisen (S.faults source.old) (S.faults source.new) }
@@ -74,7 +78,7 @@ fn run_command<S: Source, K: Sink, H: Host>(
         Command::Show => status_of(show(alloc, source, sink)),
         Command::Load(number) => status_of(load(alloc, number, sink)),
         Command::Serve => run_serve(alloc, source, sink, host),
-        Command::Slave => OUT_OF_MEMORY,
+        Command::Slave => run_slave(alloc, source, sink, host, stock),
     }
 }
 
@@ -149,12 +153,18 @@ pub fn run<S: Source, K: Sink, H: Host>(
         → IsStatusOf (report_lines (stock_of stock.flags.items stock.gaps.items) script)
         (S.left source.new) result }
 
-    // The words `serve`: the settings that the source has left are refused by one line, or a grandmaster of
+    // The word `serve`: the settings that the source has left are refused by one line, or a grandmaster of
     // these is served over the host, whatever its ports do, and its one line written.
     ensures served { command_of (map (λ w. w.now) words.now) ≡ Some Command.Serve
         → HasRunServe H.P.Port H.C.Clock K.written K.handed sink.old sink.new
         (H.opening host.old) (H.back host.new) (S.left source.old) (S.left source.new)
         host.old host.new result }
+    // The word `slave`: likewise, with as many judges as the stock has.
+    ensures followed { command_of (map (λ w. w.now) words.now) ≡ Some Command.Slave
+        → HasRunSlave H.P.Port H.C.Clock K.written K.handed sink.old sink.new
+        (H.opening host.old) (H.back host.new)
+        (length stock.flags.items) (length stock.gaps.items)
+        (S.left source.old) (S.left source.new) host.old host.new result }
     // The other words leave the host as it is.
     ensures unused { (command : Command) → command_of (map (λ w. w.now) words.now) ≡ Some command
         → IsOfLab command → host.new ≡ host.old }

@@ -25,13 +25,13 @@ returns-in-Ok-Some-clause-untouched g c = λ h.
     absurd (not_refused (map (λ w. w.now) c.args.words.now) c.in-Ok-Some.command (sym c.in-Ok-Some.field-0-is ∙ c.in-Ok-Some.ensures.command) h)
 
 pub returns-in-Ok-Some-clause-output : goal.returns-in-Ok-Some-clause-output
-returns-in-Ok-Some-clause-output g c = λ command is input told still_source still_sink memory.
+returns-in-Ok-Some-clause-output g c = λ command is lab input told still_source still_sink memory.
     subst (λ k. HasRun g.K.Sink.written g.K.Sink.handed c.args.sink.now c.run_command.new.sink (stock_of c.args.stock.flags.items c.args.stock.gaps.items) k input (g.S.Source.left c.run_command.new.source) c.run_command.result)
     (one_command (map (λ w. w.now) c.args.words.now) c.in-Ok-Some.command command (sym c.in-Ok-Some.field-0-is ∙ c.in-Ok-Some.ensures.command) is)
     (c.run_command.ensures.output input told still_source still_sink memory)
 
 pub returns-in-Ok-Some-clause-answered : goal.returns-in-Ok-Some-clause-answered
-returns-in-Ok-Some-clause-answered g c = λ ended command is input told.
+returns-in-Ok-Some-clause-answered g c = λ ended command is lab input told.
     subst (λ k. HasRun g.K.Sink.written g.K.Sink.handed c.args.sink.now c.run_command.new.sink (stock_of c.args.stock.flags.items c.args.stock.gaps.items) k input (g.S.Source.left c.run_command.new.source) c.run_command.result)
     (one_command (map (λ w. w.now) c.args.words.now) c.in-Ok-Some.command command (sym c.in-Ok-Some.field-0-is ∙ c.in-Ok-Some.ensures.command) is)
     (c.run_command.ensures.answered ended input told)
@@ -50,7 +50,7 @@ returns-in-Ok-None-clause-usage g c = λ _.
     unnamed (map (λ w. w.now) c.args.words.now) (sym (sym c.in-Ok-None.field-0-is ∙ c.in-Ok-None.ensures.command))
 
 pub returns-in-Err-clause-front : goal.returns-in-Err-clause-front
-returns-in-Err-clause-front g c = λ command is input told. HasPutPart-none g.K.Sink.written g.K.Sink.handed c.args.sink.now _
+returns-in-Err-clause-front g c = λ command is lab input told. HasPutPart-none g.K.Sink.written g.K.Sink.handed c.args.sink.now _
 
 pub returns-in-Ok-Some-clause-loaded : goal.returns-in-Ok-Some-clause-loaded
 returns-in-Ok-Some-clause-loaded g c = λ number is.
