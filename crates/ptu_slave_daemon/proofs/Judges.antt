@@ -34,11 +34,12 @@ not_true false is = refl
 -- no later master has the address
 none_later : (ip : ℕ) (rest : List MasterSetting) → list_any (λ other. other.ip == ip) rest ≡ false → AllByRecursion (λ (b : Master). ip ≢ b.ip) (map master_of rest)
 none_later ip [] none = tt
-none_later ip (x ∷ rest) none = pick (x.ip == ip) refl none
+none_later ip (x ∷ rest) none = pick (x.ip == ip) refl none (none_later ip rest)
   where
-    pick : (b : Bool) → (x.ip == ip) ≡ b → (b || list_any (λ other. other.ip == ip) rest) ≡ false → AllByRecursion (λ (b : Master). ip ≢ b.ip) (map master_of (x ∷ rest))
-    pick true is no = absurd (false≢true (sym no))
-    pick false is no = (λ same. false≢true (sym is ∙ eq-eqb x.ip ip (sym same)), none_later ip rest no)
+    pick : (b : Bool) → (x.ip == ip) ≡ b → (b || list_any (λ other. other.ip == ip) rest) ≡ false
+        → (list_any (λ other. other.ip == ip) rest ≡ false → AllByRecursion (λ (b : Master). ip ≢ b.ip) (map master_of rest)) → AllByRecursion (λ (b : Master). ip ≢ b.ip) (map master_of (x ∷ rest))
+    pick true is other others = absurd (false≢true (sym other))
+    pick false is other others = (λ same. false≢true (sym is ∙ eq-eqb x.ip ip (sym same)), others other)
 
 distinct : (masters : List MasterSetting) → are_distinct masters ≡ true → AllPairs (λ a b. a.ip ≢ b.ip) (map master_of masters)
 distinct [] is = λ i j d lt within. absurd (omega arith)
@@ -79,7 +80,11 @@ enough_is masters flags gaps is =
       gaps_are = le_is (count_by (λ m. m.gap) masters) gaps parts.1;
     }
 
-counted : (p : MasterSetting → Bool) (m : MasterSetting) (masters : List MasterSetting) → count_by p (m ∷ masters) ≡ cond (p m) 1 0 + count_by p masters
+-- what a test counts
+abbrev one_if : Bool → ℕ
+one_if b = cond b 1 0
+
+counted : (p : MasterSetting → Bool) (m : MasterSetting) (masters : List MasterSetting) → count_by p (m ∷ masters) ≡ one_if (p m) + count_by p masters
 counted p m masters = sum_by-cons (λ x. cond (p x) 1 0) m masters
 
 -- there is a judge for the first of them
@@ -88,10 +93,10 @@ enough_first m masters flags gaps enough none = pick m.gap refl none
   where
     pick : (b : Bool) → m.gap ≡ b → HasNone b flags gaps → ⊥
     pick true is none =
-        let one : cond m.gap 1 0 ≡ 1 = ap (λ b. cond b 1 0) is in
+        let one : one_if m.gap ≡ 1 = ap one_if is in
         omega (arith, one, none, enough.gaps_are, counted (λ m. m.gap) m masters)
     pick false is none =
-        let one : cond (not m.gap) 1 0 ≡ 1 = ap (λ b. cond (not b) 1 0) is in
+        let one : one_if (not m.gap) ≡ 1 = ap (λ b. one_if (not b)) is in
         omega (arith, one, none, enough.flags_are, counted (λ m. not m.gap) m masters)
 
 -- and then enough are left for the others
@@ -101,15 +106,15 @@ enough_rest m masters flags gaps flags' gaps' judge enough taken = pick m.gap re
   where
     pick : (b : Bool) → m.gap ≡ b → HasTaken b flags gaps flags' gaps' judge → Enough masters (length flags') (length gaps')
     pick true is taken =
-        let one : cond m.gap 1 0 ≡ 1 = ap (λ b. cond b 1 0) is in
-        let none : cond (not m.gap) 1 0 ≡ 0 = ap (λ b. cond (not b) 1 0) is in
+        let one : one_if m.gap ≡ 1 = ap one_if is in
+        let none : one_if (not m.gap) ≡ 0 = ap (λ b. one_if (not b)) is in
         record {
           flags_are = omega (arith, none, taken.flags_left, enough.flags_are, counted (λ m. not m.gap) m masters);
           gaps_are = omega (arith, one, taken.gaps_left, enough.gaps_are, counted (λ m. m.gap) m masters);
         }
     pick false is taken =
-        let one : cond (not m.gap) 1 0 ≡ 1 = ap (λ b. cond (not b) 1 0) is in
-        let none : cond m.gap 1 0 ≡ 0 = ap (λ b. cond b 1 0) is in
+        let one : one_if (not m.gap) ≡ 1 = ap (λ b. one_if (not b)) is in
+        let none : one_if m.gap ≡ 0 = ap one_if is in
         record {
           flags_are = omega (arith, one, taken.flags_left, enough.flags_are, counted (λ m. not m.gap) m masters);
           gaps_are = omega (arith, none, taken.gaps_left, enough.gaps_are, counted (λ m. m.gap) m masters);

@@ -36,12 +36,13 @@ changes-push said [] s = pick (is_said said s.master)
     pick : (b : Bool) → cond b (changes said []) (s ∷ changes (Some s.master) []) ≡ cond b [] (s ∷ [])
     pick true = refl
     pick false = refl
-changes-push said (x ∷ ss) s = pick (is_said said x.master) refl
+changes-push said (x ∷ ss) s = pick (is_said said x.master) refl (changes-push said ss s) (changes-push (Some x.master) ss s)
   where
-    pick : (b : Bool) → is_said said x.master ≡ b
+    pick : (b : Bool) → is_said said x.master ≡ b → changes said (ss ++ s ∷ []) ≡ changes said ss ++ said_next (said_after said ss) s
+        → changes (Some x.master) (ss ++ s ∷ []) ≡ changes (Some x.master) ss ++ said_next (said_after (Some x.master) ss) s
         → cond b (changes said (ss ++ s ∷ [])) (x ∷ changes (Some x.master) (ss ++ s ∷ [])) ≡ cond b (changes said ss) (x ∷ changes (Some x.master) ss) ++ said_next (said_after (Some x.master) ss) s
-    pick true is = changes-push said ss s ∙ ap (λ w. changes said ss ++ said_next (said_after w ss) s) (said_is said x.master is)
-    pick false is = ap (λ l. x ∷ l) (changes-push (Some x.master) ss s)
+    pick true is same other = same ∙ ap (λ w. changes said ss ++ said_next (said_after w ss) s) (said_is said x.master is)
+    pick false is same other = ap (λ l. x ∷ l) other
 
 pub texts-push : (said : Option (Option ℕ)) (ss : List Selection) (s : Selection)
     → texts_of (map selected_line (changes said (ss ++ s ∷ []))) ≡ texts_of (map selected_line (changes said ss)) ++ texts_of (map selected_line (said_next (said_after said ss) s))

@@ -28,9 +28,9 @@ pub record AreAside {P C : Type 0} (sent : P → Option (List Departure)) (befor
 -- all that waits at ports 4 and 5, and the moments of clock 0, were told, and are told when they are given back
 pub record Tell {P C : Type 0} (waiting : P → Option (List Arrival)) (moments : C → Option (List ℕ))
     (before after : Opened P C) (general event : List Arrival) (times : List ℕ) : Type 0 where
-  pub general : waiting before.p4 ≡ Some general
-  pub event : waiting before.p5 ≡ Some event
-  pub times : moments before.c0 ≡ Some times
+  pub general_is : waiting before.p4 ≡ Some general
+  pub event_is : waiting before.p5 ≡ Some event
+  pub times_are : moments before.c0 ≡ Some times
   pub general_after : IsSome (waiting after.p4)
   pub event_after : IsSome (waiting after.p5)
   pub times_after : IsSome (moments after.c0)

@@ -1,4 +1,4 @@
-ghost use Rattle.std.specs.Prelude.{◌≡◌, ◌≢◌, List, length, map, Err, OnOk, OnErr, IsErrOf, true};
+ghost use Rattle.std.specs.Prelude.{◌≡◌, ◌≢◌, List, length, map, IfOk, OnOk, OnErr, IsErrOf, true};
 ghost use Rattle.ptu_outside.specs.declared.opened.Opened.{Opened};
 ghost use Rattle.ptu_outside.specs.Handing.{HasPutPart};
 ghost use Rattle.ptu_config.specs.Limits.{IsSlaveInRange};

@@ -1,6 +1,7 @@
 //! The slave that settings open.
 
-ghost use Rattle.std.specs.Prelude.{◌≡◌, [], length, map, true, IfOk};
+ghost use Rattle.std.specs.Prelude.{◌≡◌, [], length, map, not, true, IfOk};
+ghost use Rattle.std.specs.List.{count_by};
 ghost use Rattle.std.specs.Option.{MatchOption};
 ghost use Rattle.ptu_config.specs.Limits.{IsSlaveInRange};
 ghost use Rattle.ptu_judges.specs.Held.{IsStock, fresh};
@@ -17,14 +18,28 @@ use ptu_slave::{Master, Slave, SlaveConfig};
 use ptu_units::OutOfMemory;
 use std::alloc::Global;
 
+// How many of these masters are judged by gaps.
+fn count_gaps(masters: &[MasterSetting]) -> usize
+    ensures { result ≡ count_by (λ m. m.gap) masters.now }
+{
+    masters.iter().filter(|master| master.gap).count()
+}
+
+// How many are judged by a flag alone.
+fn count_flags(masters: &[MasterSetting]) -> usize
+    ensures { result ≡ count_by (λ m. not m.gap) masters.now }
+{
+    masters.iter().filter(|master| !master.gap).count()
+}
+
 /// Whether the stock has a judge of the stated rule for every master of these settings.
 pub fn has_judges(settings: &SlaveSettings, stock: &Stock) -> bool
     ensures { result ≡ are_enough settings.now.masters
         (length stock.now.flags.items) (length stock.now.gaps.items) }
 {
     let masters = settings.masters.list();
-    let gaps = masters.iter().filter(|master| master.gap).count();
-    let flags = masters.iter().filter(|master| !master.gap).count();
+    let flags = count_flags(masters);
+    let gaps = count_gaps(masters);
     flags <= stock.flags.len() && gaps <= stock.gaps.len()
 }
 
@@ -96,9 +111,10 @@ fn new_judges(
 {
     let mut judges = Vec::new(alloc);
     for master in masters {
-        if let Some(judge) = take_judge(&mut stock, master.gap) {
-            judges.push(judge)?;
-        }
+        let Some(judge) = take_judge(&mut stock, master.gap) else {
+            unreachable!();
+        };
+        judges.push(judge)?;
     }
     Ok(judges)
 }
