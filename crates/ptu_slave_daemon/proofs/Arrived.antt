@@ -21,6 +21,14 @@ counted_none counts = (omega arith, omega arith)
 pub counted_append : (a b c : Counts) (s t f g : ℕ) → Counted s f a b → Counted t g b c → Counted (s + t) (f + g) a c
 counted_append a b c s t f g p q = (omega (arith, p.0, q.0), omega (arith, p.1, q.1))
 
+-- the failures of two ports
+pub counted_both : (a b c : Counts) (s t f g d e : ℕ) → Counted s (f + d) a b → Counted t (g + e) b c → Counted (s + t) (f + g + (d + e)) a c
+counted_both a b c s t f g d e p q = (omega (arith, p.0, q.0), omega (arith, p.1, q.1))
+
+-- those of a round: of the general channel, of the event channel, and of the tick
+pub counted_round : (a b c d : Counts) (s t u f g h e : ℕ) → Counted s f a b → Counted t (g + e) b c → Counted u h c d → Counted (s + t + u) (f + g + h + e) a d
+counted_round a b c d s t u f g h e p q r = (omega (arith, p.0, q.0, r.0), omega (arith, p.1, q.1, r.1))
+
 -- ---- what waits
 
 pub came_none : (before after : Option (List Arrival)) → IfTold after before → CameFrom before after []
@@ -61,6 +69,13 @@ none_came before after old new same none = record { came = came_none before afte
 pub none_received : (before after : Option (List Arrival)) (old new : ℕ) → IfTold after before → HasRisen old new → TookOne before after old new false []
 none_received before after old new same rises = record { came = came_none before after same; many = refl; none = λ no still. absurd (still rises) }
 
+-- how many one more are
+abbrev one_if : Bool → ℕ
+one_if more = cond more 1 0
+
+pub one_length : (before after : Option (List Arrival)) (old new : ℕ) (more : Bool) (xs : List Arrival) → more ≡ true → TookOne before after old new more xs → length xs ≡ 1
+one_length before after old new more xs is one = one.many ∙ ap one_if is
+
 -- ---- several
 
 module _ (node : Node) where
@@ -82,12 +97,12 @@ pub round_full : (before after : Option (List Arrival)) (old new : ℕ) (xs : Li
 round_full before after old new xs came many = record { came = came; few = omega (arith, many); whole = λ still. inl many }
 
 -- fewer, and then none was received
-pub round_short : (before now after : Option (List Arrival)) (old mid new : ℕ) (xs ys : List Arrival) → CameFrom before now xs → length xs < 64 → HasNotFallen old mid
-    → TookOne now after mid new false ys → RoundTook before after old new (xs ++ ys)
-round_short before now after old mid new xs ys came few keeps one = record {
+pub round_short : (before now after : Option (List Arrival)) (old mid new : ℕ) (more : Bool) (xs ys : List Arrival) → CameFrom before now xs → length xs < 64 → HasNotFallen old mid
+    → more ≡ false → TookOne now after mid new more ys → RoundTook before after old new (xs ++ ys)
+round_short before now after old mid new more xs ys came few keeps none one = record {
   came = came_append before now after xs ys came one.came;
-  few = let none : length ys ≡ 0 = one.many in omega (arith, few, none, length-append xs ys);
-  whole = λ still. inr (one.none refl (still_after old mid new keeps still));
+  few = let empty : length ys ≡ 0 = one.many ∙ ap one_if none in omega (arith, few, empty, length-append xs ys);
+  whole = λ still. inr (one.none none (still_after old mid new keeps still));
 }
 
 -- while other things happen

@@ -1,10 +1,11 @@
 -- The masters and judges of a slave that settings open.
-use Rattle.std.proofs.Common.{◌≡◌, ◌≢◌, ◌∙◌, ℕ, zero, suc, ◌+◌, ◌-◌, ◌<◌, ◌≤◌, ◌++◌, Bool, true, false, not, cond, ◌&&◌, ◌||◌, eq-eqb, List, [], ◌∷◌, map, length, drop, take, get_or, Option, Some, None, option_to_list, MatchOption, refl, sym, ap, ap₂, subst, arith, length-append}
+use Rattle.std.proofs.Common.{◌≡◌, ◌≢◌, ◌∙◌, ℕ, zero, suc, ◌+◌, ◌-◌, ◌<◌, ◌≤◌, ◌++◌, Bool, true, false, not, cond, ◌&&◌, ◌||◌, eq-eqb, add-one, List, [], ◌∷◌, map, length, drop, take, get_or, Option, Some, None, option_to_list, MatchOption, refl, sym, ap, ap₂, subst, arith, length-append}
 use Rattle.std.specs.List.{All, AllByRecursion, AllPairs, count_by, list_any}
 use Rattle.std.specs.Prelude.{IsSome, nat_le, ◌==◌}
 use Rattle.std.proofs.lemmas.Bool.{false≢true}
 use Rattle.std.proofs.lemmas.Bool.Decides.{nat_tests}
-use Rattle.std.proofs.lemmas.List.{length-map, map-append}
+use Rattle.std.proofs.lemmas.List.{map-append, take_more}
+use Rattle.std.proofs.Math.Seq.{drop-cons}
 use Rattle.std.proofs.lemmas.List.Kept.{AllPairs-cons}
 use Rattle.std.proofs.lemmas.List.Elements.{All-from_recursion}
 use Rattle.std.proofs.lemmas.List.Sums.{sum_by-cons}
@@ -167,6 +168,30 @@ module _ {A : Type 0} (f : A → Held) where
       → AreFresh (judges ++ judge ∷ []) (masters ++ m ∷ [])
   fresh_more judges judge masters m are is =
       map-append f judges (judge ∷ []) ∙ ap₂ (λ l h. l ++ h ∷ []) are is ∙ sym (map-append (λ m. fresh (rule_of m)) masters (m ∷ []))
+
+  -- at a master there is a judge
+  first_left : (masters : List MasterSetting) (i : ℕ) (d : MasterSetting) (flags gaps : List A) → i < length masters → Enough (drop i masters) (length flags) (length gaps)
+      → Enough (get_or masters i d ∷ drop (i + 1) masters) (length (map f flags)) (length (map f gaps))
+  first_left masters i d flags gaps lt enough =
+      subst (λ n. Enough (get_or masters i d ∷ drop (i + 1) masters) n (length (map f gaps))) (sym (length-same f flags))
+      (subst (λ n. Enough (get_or masters i d ∷ drop (i + 1) masters) (length flags) n) (sym (length-same f gaps))
+      (subst (λ ms. Enough ms (length flags) (length gaps)) (drop-cons masters i d lt ∙ ap (λ n. get_or masters i d ∷ drop n masters) (sym (add-one i))) enough))
+
+  pub none_missing : (masters : List MasterSetting) (i : ℕ) (d : MasterSetting) (flags gaps : List A) → i < length masters → Enough (drop i masters) (length flags) (length gaps)
+      → HasNone (get_or masters i d).gap (map f flags) (map f gaps) → ⊥
+  none_missing masters i d flags gaps lt enough none =
+      enough_first (get_or masters i d) (drop (i + 1) masters) (map f flags) (map f gaps) (first_left masters i d flags gaps lt enough) none
+
+  pub enough_left : (masters : List MasterSetting) (i : ℕ) (d : MasterSetting) (flags gaps flags' gaps' : List A) (judge : A) → i < length masters → Enough (drop i masters) (length flags) (length gaps)
+      → HasTaken (get_or masters i d).gap (map f flags) (map f gaps) (map f flags') (map f gaps') (f judge) → Enough (drop (i + 1) masters) (length flags') (length gaps')
+  enough_left masters i d flags gaps flags' gaps' judge lt enough taken =
+      subst (λ n. Enough (drop (i + 1) masters) n (length gaps')) (length-same f flags') (subst (λ n. Enough (drop (i + 1) masters) (length (map f flags')) n) (length-same f gaps')
+      (enough_rest (get_or masters i d) (drop (i + 1) masters) (map f flags) (map f gaps) (map f flags') (map f gaps') (f judge) (first_left masters i d flags gaps lt enough) taken))
+
+  pub fresh_next : (judges news : List A) (judge : A) (masters : List MasterSetting) (i : ℕ) (d : MasterSetting) → i < length masters → AreFresh judges (take i masters) → news ≡ judges ++ judge ∷ []
+      → f judge ≡ fresh (rule_of (get_or masters i d)) → AreFresh news (take (i + 1) masters)
+  fresh_next judges news judge masters i d lt are pushed is =
+      ap (map f) pushed ∙ fresh_more judges judge (take i masters) (get_or masters i d) are is ∙ sym (ap (map (λ m. fresh (rule_of m))) (take_more masters i d lt))
 
   rules_are : (judges : List A) (masters : List MasterSetting) → AreFresh judges masters → map (λ j. (f j).rule) judges ≡ map (λ m. Some (rule_of m)) masters
   rules_are [] [] are = refl

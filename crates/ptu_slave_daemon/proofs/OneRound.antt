@@ -7,9 +7,13 @@ use Rattle.ptu_outside.specs.declared.arrival.Arrival.{Arrival}
 use Rattle.ptu_outside.specs.Faults.{HasNotFallen, HasRisen}
 use Rattle.ptu_outside.specs.Telling.{IsEmptyTold}
 use Rattle.ptu_rounds.specs.Rounds.{in_rounds, left_after, most, taken_in}
-use Rattle.ptu_slave_daemon.specs.Happenings.{Happening, Ticks, arrive, round_of}
-use Rattle.ptu_slave_daemon.specs.Running.{AreRounds, CameFrom, RoundTook}
-use Rattle.ptu_slave_daemon.proofs.Ports.{still_after, still_before}
+use Rattle.ptu_record.specs.Record.{Record}
+use Rattle.ptu_slave_messages.specs.Node.{Node}
+use Rattle.ptu_slave_daemon.specs.declared.counts.Counts.{Counts}
+use Rattle.ptu_slave_daemon.specs.Happenings.{Happening, Selection, Stops, Ticks, arrive, record_after, round_of}
+use Rattle.ptu_slave_daemon.specs.Running.{AreRounds, CameFrom, Counted, HasFailed, IsAt, Ran, RoundTook, RoundsDone, RunDone, View}
+use Rattle.ptu_slave_daemon.proofs.Ports.{failed_append, failed_none, still_after, still_before}
+use Rattle.ptu_slave_daemon.proofs.Runs.{ran_append, ran_still}
 
 pub in_rounds-zero : (round : ℕ → List (ℕ → Happening)) → in_rounds round 0 ≡ []
 unfolding in_rounds
@@ -89,3 +93,59 @@ module _ (general event : Option (List Arrival)) where
         one.1,
         event_one.1,
       )
+
+-- ---- with what the slave did
+
+module _ (node : Node) (L : Record) (old : View) (general event : Option (List Arrival)) (event_faults : ℕ) where
+  pub done_none : (sent failures : ℕ) → sent ≡ 0 → failures ≡ 0 → IsAt node old.kept old.judges L → RoundsDone 0 node L old old general general event event event_faults event_faults [] sent failures
+  done_none sent failures none none_failed h = record {
+    acts = [];
+    hs = [];
+    failed = 0;
+    event_failed = 0;
+    failures_are = none_failed;
+    ran = subst (λ n. Ran node L old old [] [] [] n 0) (sym none) (ran_still node L old old 0 h refl refl refl refl (failed_none old.faults old.faults refl));
+    event_fails = failed_none event_faults event_faults refl;
+    as_said = rounds_none general event general event old.faults old.faults event_faults event_faults refl refl;
+  }
+
+  pub done_more : (n : ℕ) (now new : View) (general' general'' event' event'' : Option (List Arrival)) (event_faults' event_faults'' : ℕ) (ss : List Selection) (s : Selection)
+      (before after : Counts) (xs ys : List Arrival) (hs : List Happening) (sent failed event_failed : ℕ)
+      → (p : RoundsDone n node L old now general general' event event' event_faults event_faults' ss before.sent before.failed)
+      → Counted sent (failed + event_failed) before after → HasFailed event_faults' event_faults'' event_failed
+      → RoundTook general' general'' now.faults new.faults xs → RoundTook event' event'' event_faults' event_faults'' ys
+      → Ran node (record_after node L p.hs) now new (map arrive (xs ++ ys) ++ Ticks (n + 1) ∷ []) hs (s ∷ []) sent failed
+      → RoundsDone (n + 1) node L old new general general'' event event'' event_faults event_faults'' (ss ++ s ∷ []) after.sent after.failed
+  done_more n now new general' general'' event' event'' event_faults' event_faults'' ss s before after xs ys hs sent failed event_failed p counted fails took event_took ran = record {
+    acts = p.acts ++ (map arrive (xs ++ ys) ++ Ticks (n + 1) ∷ []);
+    hs = p.hs ++ hs;
+    failed = p.failed + failed;
+    event_failed = p.event_failed + event_failed;
+    failures_are = omega (arith, counted.1, p.failures_are);
+    ran = subst (λ k. Ran node L old new (p.acts ++ (map arrive (xs ++ ys) ++ Ticks (n + 1) ∷ [])) (p.hs ++ hs) (ss ++ s ∷ []) k (p.failed + failed)) (sym counted.0)
+        (ran_append node L old now new p.acts (map arrive (xs ++ ys) ++ Ticks (n + 1) ∷ []) p.hs hs ss (s ∷ []) before.sent sent p.failed failed p.ran ran);
+    event_fails = failed_append event_faults event_faults' event_faults'' p.event_failed event_failed p.event_fails fails;
+    as_said = rounds_more general event n general' general'' event' event'' old.faults now.faults new.faults event_faults event_faults' event_faults'' p.acts xs ys
+        p.ran.port.no_fall ran.port.no_fall p.event_fails.no_fall fails.no_fall p.as_said took event_took;
+  }
+
+  -- and the stop
+  pub done_run : (n : ℕ) (now new : View) (general' general'' event' : Option (List Arrival)) (event_faults' : ℕ) (ss : List Selection)
+      (before after : Counts) (hs : List Happening) (sent failed : ℕ)
+      → (p : RoundsDone n node L old now general general' event event' event_faults event_faults' ss before.sent before.failed)
+      → Counted sent failed before after → general'' ≡ general'
+      → Ran node (record_after node L p.hs) now new (Stops ∷ []) hs [] sent failed
+      → RunDone n node L old new general general'' event event' event_faults event_faults' ss after.sent after.failed
+  done_run n now new general' general'' event' event_faults' ss before after hs sent failed p counted same ran = record {
+    acts = p.acts;
+    hs = p.hs ++ hs;
+    failed = p.failed + failed;
+    event_failed = p.event_failed;
+    failures_are = omega (arith, counted.1, p.failures_are);
+    ran = subst (λ ts. Ran node L old new (p.acts ++ Stops ∷ []) (p.hs ++ hs) ts after.sent (p.failed + failed)) (append-nil ss)
+        (subst (λ k. Ran node L old new (p.acts ++ Stops ∷ []) (p.hs ++ hs) (ss ++ []) k (p.failed + failed)) (sym counted.0)
+        (ran_append node L old now new p.acts (Stops ∷ []) p.hs hs ss [] before.sent sent p.failed failed p.ran ran));
+    event_fails = p.event_fails;
+    as_said = λ still event_still left event_left is event_is.
+        p.as_said (still_before old.faults now.faults new.faults ran.port.no_fall still) event_still left event_left (sym same ∙ is) event_is;
+  }

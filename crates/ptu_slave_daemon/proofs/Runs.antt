@@ -56,3 +56,14 @@ module _ (node : Node) where
         (subst (λ n. PortDid old.sent now.sent old.faults n (sent_in node L hs) s f) (sym faults) p.port);
     selects = p.selects;
   }
+
+  -- what was seen before is the same
+  pub ran_from : (L : Record) (old now new : View) (acts : List (ℕ → Happening)) (hs : List Happening) (ss : List Selection) (s f : ℕ) → now.sent ≡ old.sent → now.faults ≡ old.faults → now.times ≡ old.times
+      → Ran node L now new acts hs ss s f → Ran node L old new acts hs ss s f
+  ran_from L old now new acts hs ss s f sent faults times p = record {
+    timed = subst (λ told. AreTimed told new.times acts hs) times p.timed;
+    stands = p.stands;
+    port = subst (λ told. PortDid told new.sent old.faults new.faults (sent_in node L hs) s f) sent
+        (subst (λ n. PortDid now.sent new.sent n new.faults (sent_in node L hs) s f) faults p.port);
+    selects = p.selects;
+  }

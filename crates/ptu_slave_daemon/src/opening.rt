@@ -141,5 +141,6 @@ pub(crate) fn open_slave<P: Port>(
 {
     let masters = new_masters(alloc, settings.masters.list())?;
     let judges = new_judges(alloc, settings.masters.list(), stock)?;
-    Slave::new(alloc, new_config(settings), masters, judges, port)
+    let slave = Slave::new(alloc, new_config(settings), masters, judges, port)?;
+    Ok(slave)
 }

@@ -91,7 +91,9 @@ fn run_rounds<P: Port, C: Clock, K: Sink>(
 {
     let mut said = None;
     for before in 0..rounds {
-        let master = happen(alloc, slave, event, clock, counts)?;
+        let Ok(master) = happen(alloc, slave, event, clock, counts) else {
+            return Err(Halt::OutOfMemory);
+        };
         say(alloc, sink, before + 1, said, master)?;
         said = Some(master);
     }

@@ -37,7 +37,9 @@ pub(crate) fn write_line<K: Sink>(
         (texts_of (line ∷ []))) }
     ensures counts { Halts result (K.faults sink.old) (K.faults sink.new) }
 {
-    let text = text_of(alloc, line)?;
+    let Ok(text) = text_of(alloc, line) else {
+        return Err(Halt::OutOfMemory);
+    };
     match write_whole(sink, text.as_bytes()) {
         Ok(()) => Ok(()),
         Err(_) => Err(Halt::Write),

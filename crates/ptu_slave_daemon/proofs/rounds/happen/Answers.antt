@@ -1,0 +1,26 @@
+use Rattle.std.proofs.Common.{[], ◌∷◌, ◌++◌, ◌+◌, ◌∙◌, map}
+use Rattle.ptu_slave_daemon.specs.Happenings.{Ticks, arrive, record_after}
+use Rattle.ptu_slave_daemon.proofs.Arrived.{counted_round, round_behind, round_later, took_append}
+use Rattle.ptu_slave_daemon.proofs.Ports.{not_fallen_append}
+use Rattle.ptu_slave_daemon.proofs.Runs.{ran_append}
+use Rattle.ptu_slave_daemon.proofs.rounds.happen.Goals as goal
+
+pub returns-clause-ran : goal.returns-clause-ran
+returns-clause-ran g c = λ node L round h.
+    let p = c.in_ok-take_all_general.ensures.took node L h in
+    let q = c.in_ok-take_all_event.ensures.took node (record_after node L p.5.0) p.5.1.stands in
+    let r = took_append node L _ _ _ p.0 q.0 p.1 q.1 p.2 q.2 p.5 q.7 in
+    let t = c.tick.ensures.ran node (record_after node L r.0) round r.1.stands in
+    (
+      p.0,
+      q.0,
+      r.0 ++ t.2,
+      p.1 + q.1 + t.0,
+      p.2 + q.2 + t.1,
+      q.3,
+      counted_round _ _ _ _ p.1 q.1 t.0 p.2 q.2 t.1 q.3 p.3 q.4 t.3,
+      q.5,
+      round_later _ _ _ _ _ _ p.0 p.4 (c.tick.ensures.waiting ∙ c.take_all_event.ensures.waiting) (not_fallen_append _ _ _ q.7.1.port.no_fall t.4.port.no_fall),
+      q.6,
+      ran_append node L _ _ _ (map arrive (p.0 ++ q.0)) (Ticks round ∷ []) r.0 t.2 [] _ (p.1 + q.1) t.0 (p.2 + q.2) t.1 r.1 t.4,
+    )

@@ -1,0 +1,38 @@
+use Rattle.std.proofs.Common.{[], ◌∷◌, ◌++◌, ◌∙◌, None, map, subst, sym}
+use Rattle.std.proofs.lemmas.List.{map-append}
+use Rattle.std.proofs.lemmas.Result.{on_err_weaker, on_ok_weaker}
+use Rattle.ptu_outside.specs.Handing.{HasPut, HasPutPart}
+use Rattle.ptu_outside.proofs.Handing.{HasPut-append, HasPut-part}
+use Rattle.ptu_slave_daemon.specs.declared.line.SlaveLine.TheVariants.{Closing}
+use Rattle.ptu_slave_daemon.specs.Happenings.{record_after}
+use Rattle.ptu_slave_daemon.specs.Lines.{changes, line_text, selected_line, texts_of}
+use Rattle.ptu_slave_daemon.proofs.OneRound.{done_run}
+use Rattle.ptu_slave_daemon.proofs.rounds.run.Goals as goal
+
+pub returns-clause-done : goal.returns-clause-done
+returns-clause-done g c =
+    let done = c.in_ok-run_rounds.ensures.done in
+    let lines = map selected_line (changes None done.0) in
+    let line = Closing c.args.rounds c.stop.new.counts.sent c.stop.new.counts.failed in
+    on_ok_weaker c.write_line.result (λ put. (
+      done.0,
+      c.stop.new.counts.sent,
+      c.stop.new.counts.failed,
+      subst (HasPut g.K.Sink.written g.K.Sink.handed c.args.sink.now c.write_line.new.sink) (sym (map-append line_text lines (line ∷ [])))
+      (HasPut-append g.K.Sink.written g.K.Sink.handed c.args.sink.now c.run_rounds.new.sink c.write_line.new.sink (texts_of lines) (texts_of (line ∷ [])) done.1 put),
+      λ node L h.
+      let p = done.2 node L h in
+      let t = c.stop.ensures.ran node (record_after node L p.hs) p.ran.stands in
+      done_run node L _ _ _ _ c.args.rounds _ _ _ _ _ _ done.0 c.run_rounds.new.counts c.stop.new.counts t.2 t.0 t.1 p t.3 c.stop.ensures.waiting t.4,
+    )) c.write_line.ensures.whole
+
+pub returns-clause-part : goal.returns-clause-part
+returns-clause-part g c =
+    let done = c.in_ok-run_rounds.ensures.done in
+    let lines = map selected_line (changes None done.0) in
+    let line = Closing c.args.rounds c.stop.new.counts.sent c.stop.new.counts.failed in
+    on_err_weaker c.write_line.result (λ part. (
+      lines ++ line ∷ [],
+      subst (HasPutPart g.K.Sink.written g.K.Sink.handed c.args.sink.now c.write_line.new.sink) (sym (map-append line_text lines (line ∷ [])))
+      (HasPut-part g.K.Sink.written g.K.Sink.handed c.args.sink.now c.run_rounds.new.sink c.write_line.new.sink (texts_of lines) (texts_of (line ∷ [])) done.1 part),
+    )) c.write_line.ensures.part

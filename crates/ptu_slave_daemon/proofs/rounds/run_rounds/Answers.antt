@@ -1,0 +1,73 @@
+use Rattle.std.proofs.Common.{[], ◌∷◌, ◌++◌, ◌+◌, ◌*◌, ◌^◌, ◌≤◌, ◌≡◌, ◌∙◌, None, Some, ap, arith, map, refl, subst, sym}
+use Rattle.std.proofs.lemmas.List.{map-append}
+use Rattle.std.proofs.lemmas.Result.{err_from_is_err_and}
+use Rattle.ptu_outside.specs.Handing.{HasPut, HasPutPart}
+use Rattle.ptu_outside.proofs.Handing.{HasPut-append, HasPut-none, HasPut-part, HasPutPart-whole}
+use Rattle.ptu_slave_daemon.specs.declared.counts.Counts.{Counts}
+use Rattle.ptu_slave_daemon.specs.declared.line.SlaveLine.TheVariants.{Selected}
+use Rattle.ptu_slave_daemon.specs.Happenings.{Selection, record_after}
+use Rattle.ptu_slave_daemon.specs.Lines.{changes, line_text, said_next, selected_line, texts_of}
+use Rattle.ptu_slave_daemon.proofs.OneRound.{done_more, done_none}
+use Rattle.ptu_slave_daemon.proofs.Written.{said_after, said_after-push, texts-push}
+use Rattle.ptu_slave_daemon.proofs.rounds.run_rounds.Goals as goal
+
+pub loop-before-init : goal.loop-before-init
+loop-before-init g c =
+    let none : c.args.counts.now.sent ≡ 0 = ap (λ (k : Counts). k.sent) c.requires.none in
+    let none_failed : c.args.counts.now.failed ≡ 0 = ap (λ (k : Counts). k.failed) c.requires.none in
+    record {
+      few = (omega (arith, none), omega (arith, none_failed));
+      sent = refl;
+      still = refl;
+      done = (
+        [],
+        refl,
+        HasPut-none g.K.Sink.written g.K.Sink.handed c.args.sink.now,
+        λ node L h. done_none node L _ _ _ _ _ _ none none_failed h,
+      );
+    }
+
+pub loop-before-preserved : goal.loop-before-preserved
+loop-before-preserved g c =
+    let done = c.loop-before.invariant.done in
+    let s : Selection = record { round = c.loop-before.before + 1; master = c.in-Ok.master } in
+    record {
+      few = (omega (arith, c.loop-before.invariant.few, c.happen.ensures.grows), omega (arith, c.loop-before.invariant.few, c.happen.ensures.grows));
+      sent = c.happen.ensures.sent ∙ c.loop-before.invariant.sent;
+      still = c.in_ok-say.ensures.counts ∙ c.loop-before.invariant.still;
+      done = (
+        done.0 ++ s ∷ [],
+        sym (said_after-push None done.0 s),
+        subst (HasPut g.K.Sink.written g.K.Sink.handed c.args.sink.now c.say.new.sink) (sym (texts-push None done.0 s))
+        (HasPut-append g.K.Sink.written g.K.Sink.handed c.args.sink.now c.loop-before.sink c.say.new.sink (texts_of (map selected_line (changes None done.0)))
+        (texts_of (map selected_line (said_next (said_after None done.0) s))) done.2
+        (subst (λ said. HasPut g.K.Sink.written g.K.Sink.handed c.loop-before.sink c.say.new.sink (texts_of (map selected_line (said_next said s)))) done.1 c.in_ok-say.ensures.whole)),
+        λ node L h.
+        let p = done.3 node L h in
+        let q = c.in-Ok.ensures.ran node (record_after node L p.hs) (c.loop-before.before + 1) p.ran.stands in
+        done_more node L _ _ _ _ c.loop-before.before _ _ _ _ _ _ _ _ done.0 s c.loop-before.counts c.happen.new.counts q.0 q.1 q.2 q.3 q.4 q.5 p q.6 q.7 q.8 q.9 q.10,
+      );
+    }
+
+pub returns-in_default-clause-part : goal.returns-in_default-clause-part
+returns-in_default-clause-part g c =
+    let done = c.loop-before.invariant.done in
+    (map selected_line (changes None done.0), HasPutPart-whole g.K.Sink.written g.K.Sink.handed c.args.sink.now c.loop-before.sink _ done.2)
+
+pub returns-in_err-say-clause-part : goal.returns-in_err-say-clause-part
+returns-in_err-say-clause-part g c =
+    let done = c.loop-before.invariant.done in
+    let lines = map selected_line (changes None done.0) in
+    let line = Selected (c.loop-before.before + 1) c.in-Ok.master in
+    let p = err_from_is_err_and c.from_residual.result c.from_residual.ensures.1 in
+    rw p.1 (
+      lines ++ line ∷ [],
+      subst (HasPutPart g.K.Sink.written g.K.Sink.handed c.args.sink.now c.say.new.sink) (sym (map-append line_text lines (line ∷ [])))
+      (HasPut-part g.K.Sink.written g.K.Sink.handed c.args.sink.now c.loop-before.sink c.say.new.sink (texts_of lines) (texts_of (line ∷ [])) done.2 c.in_err-say.ensures.part),
+    )
+
+pub returns-clause-done : goal.returns-clause-done
+returns-clause-done g c =
+    let done = c.loop-before.invariant.done in
+    let same : c.args.rounds ≡ c.loop-before.before = omega (arith, c.loop-before-test.false, c.loop-before.auto.before-end) in
+    (done.0, done.2, λ node L h. rw same (done.3 node L h))
