@@ -1,6 +1,6 @@
 -- What a status says of a daemon's run.
 use Rattle.std.proofs.Common.{◌≡◌, ℕ, List, [], ◌∷◌, Option, Some, None, Result, Ok, Err, arith, lit<, refl, sym, ◌∙◌, inl, inr}
-use Rattle.std.specs.Prelude.{◌⊎◌, Contains, IfErr, OnOk}
+use Rattle.std.specs.Prelude.{◌⊎◌, Contains, OnErr, OnOk}
 use Rattle.ptu_outside.specs.Handing.{HasPut, HasPutFront}
 use Rattle.ptu_config.specs.declared.key.Key.{Key}
 use Rattle.ptu_config.specs.Rules.{Value}
@@ -18,6 +18,16 @@ is_daemon_status (Err Open) = (5, lit< tt, refl)
 is_daemon_status (Err Write) = (4, lit< tt, refl)
 is_daemon_status (Err OutOfMemory) = (6, lit< tt, refl)
 
+-- what holds where there is an error
+pub if_on_err : {A E X : Type 0} (r : Result A E) (fault : E) → r ≡ Err fault → OnErr r X → X
+if_on_err (Ok x) fault e h = absurd (let never : Ok x ≡ Err fault = e in cc)
+if_on_err (Err other) fault e h = h
+
+pub is_refused_status : (status : ℕ) → (status ≡ 65) ⊎ (status ≡ 67) ⊎ (status ≡ 71) → Contains statuses status
+is_refused_status status (inl e) = (2, lit< tt, sym e)
+is_refused_status status (inr (inl e)) = (4, lit< tt, sym e)
+is_refused_status status (inr (inr e)) = (6, lit< tt, sym e)
+
 module _ {A K H : Type 0} (entries : A → List (Key × Value)) (refusal : List ℕ → Option RefusalLine) (left left' : Option (List ℕ))
   (written : K → Option (List ℕ)) (handed : K → Option (List (List ℕ))) (old new : K) (host host' : H) (Done Part Stopped : A → Type 0) (taken : HasTakenSome left left') where
   abbrev Ran : ℕ → Type 0
@@ -25,8 +35,8 @@ module _ {A K H : Type 0} (entries : A → List (Key × Value)) (refusal : List 
 
   -- there are settings
   pub ran : (settings : A) → HasSettings entries refusal left left' settings → (r : Result (Unit {0}) DaemonFault)
-      → OnOk r (Done settings) → IfErr r (λ fault. fault ≡ Write → Part settings) → IfErr r (λ fault. fault ≡ Open → new ≡ old)
-      → IfErr r (λ fault. fault ≡ OutOfMemory → Stopped settings) → Ran (status_of_daemon r)
+      → OnOk r (Done settings) → (r ≡ Err Write → Part settings) → (r ≡ Err Open → new ≡ old)
+      → (r ≡ Err OutOfMemory → Stopped settings) → Ran (status_of_daemon r)
   ran settings is (Ok x) whole part opens stops = record {
     taken = taken;
     done = λ e. (settings, is, whole);
