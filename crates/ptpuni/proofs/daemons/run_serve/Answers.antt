@@ -1,8 +1,7 @@
-use Rattle.std.proofs.Common.{lit<, refl, Err}
+use Rattle.std.proofs.Common.{lit<, refl}
 use Rattle.std.proofs.lemmas.Result.{IfErr-at_err}
 use Rattle.ptu_config.specs.Entries.{gm_entries}
 use Rattle.ptu_setup.specs.Refusals.{gm_refusal}
-use Rattle.ptu_rounds.specs.declared.fault.DaemonFault.TheVariants.{Open, Write, OutOfMemory}
 use Rattle.ptpuni.proofs.DaemonRuns.{is_daemon_status, is_refused_status, ran}
 use Rattle.ptpuni.proofs.daemons.run_serve.Goals as goal
 
@@ -12,7 +11,8 @@ returns-in-Ok-clause-statuses g c = rw c.daemon_status.ensures (is_daemon_status
 pub returns-in-Ok-clause-served : goal.returns-in-Ok-clause-served
 returns-in-Ok-clause-served g c =
     rw c.daemon_status.ensures
-    (ran gm_entries gm_refusal _ _ _ _ _ _ _ _ _ _ _ c.gm_setup.ensures.taken c.in-Ok.settings
+    (ran gm_entries gm_refusal (g.S.Source.left c.args.source.now) (g.S.Source.left c.gm_setup.new.source)
+    g.K.Sink.written g.K.Sink.handed c.args.sink.now c.serve.new.sink c.args.host.now c.serve.new.host _ _ _ c.gm_setup.ensures.taken c.in-Ok.settings
     (record { read = c.in-Ok.ensures.set_up; input = c.in-Ok.ensures.answers }) c.serve.result c.serve.ensures.served
     (λ e. IfErr-at_err _ e c.serve.ensures.part refl) (λ e. IfErr-at_err _ e c.serve.ensures.nothing (λ never. cc)) (λ e. IfErr-at_err _ e c.serve.ensures.nothing (λ never. cc)))
 

@@ -1,4 +1,4 @@
-use Rattle.std.proofs.Common.{lit<, length, refl, Err}
+use Rattle.std.proofs.Common.{rules, ◌≡◌, lit<, length, refl}
 use Rattle.ptu_config.specs.Entries.{slave_entries}
 use Rattle.ptu_setup.specs.Refusals.{slave_refusal}
 use Rattle.ptpuni.proofs.DaemonRuns.{if_on_err, is_daemon_status, is_refused_status, ran}
@@ -9,8 +9,11 @@ returns-in-Ok-clause-statuses g c = rw c.daemon_status.ensures (is_daemon_status
 
 pub returns-in-Ok-clause-followed : goal.returns-in-Ok-clause-followed
 returns-in-Ok-clause-followed g c =
-    rw c.daemon_status.ensures
-    (ran slave_entries (slave_refusal (length c.args.stock.flags.items) (length c.args.stock.gaps.items)) _ _ _ _ _ _ _ _ _ _ _ c.slave_setup.ensures.taken c.in-Ok.settings
+    let flags : c.len.result ≡ length c.args.stock.flags.items = search rules in
+    let gaps : c.len-2.result ≡ length c.args.stock.gaps.items = search rules in
+    rw (c.daemon_status.ensures, ← flags, ← gaps)
+    (ran slave_entries (slave_refusal c.len.result c.len-2.result) (g.S.Source.left c.args.source.now) (g.S.Source.left c.slave_setup.new.source)
+    g.K.Sink.written g.K.Sink.handed c.args.sink.now c.slave.new.sink c.args.host.now c.slave.new.host _ _ _ c.slave_setup.ensures.taken c.in-Ok.settings
     (record { read = c.in-Ok.ensures.set_up; input = c.in-Ok.ensures.answers }) c.slave.result c.slave.ensures.served
     (λ e. (if_on_err c.slave.result _ e c.slave.ensures.part, c.slave.ensures.returned e)) c.slave.ensures.nothing (λ e. if_on_err c.slave.result _ e c.slave.ensures.part))
 
