@@ -89,7 +89,7 @@ module _ (node : Node) where
   took_append L old now new xs ys s t f g p q = (
     p.0 ++ q.0,
     subst (λ acts. Ran node L old new acts (p.0 ++ q.0) [] (s + t) (f + g)) (sym (map-append arrive xs ys))
-    (ran_append node L old now new (map arrive xs) (map arrive ys) p.0 q.0 [] [] s t f g p.1 q.1),
+        (ran_append node L old now new (map arrive xs) (map arrive ys) p.0 q.0 [] [] s t f g p.1 q.1),
   )
 
 -- 64 of them

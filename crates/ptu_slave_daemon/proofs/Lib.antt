@@ -6,3 +6,5 @@ pub mod Arrived
 pub mod OneRound
 pub mod Written
 pub mod Judges
+pub mod Fronts
+pub mod Ended

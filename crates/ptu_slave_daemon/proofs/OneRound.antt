@@ -1,5 +1,5 @@
 -- One round after another.
-use Rattle.std.proofs.Common.{◌≡◌, ◌∙◌, ◌⊎◌, inl, inr, ℕ, zero, suc, ◌+◌, ◌*◌, ◌<◌, ◌≤◌, ◌++◌, List, [], ◌∷◌, length, map, take, drop, refl, sym, ap, ap₂, subst, arith, length-append, append_assoc, Option, Some, None}
+use Rattle.std.proofs.Common.{◌≡◌, ◌∙◌, ◌⊎◌, inl, inr, ℕ, zero, suc, ◌+◌, ◌*◌, ◌<◌, ◌≤◌, ◌++◌, List, [], ◌∷◌, length, map, take, drop, refl, sym, ap, ap₂, subst, arith, add-zero, length-append, append_assoc, Option, Some, None}
 use Rattle.std.proofs.lemmas.List.{append-nil, drop-drop}
 use Rattle.std.proofs.Math.Seq.{drop-cons}
 use Rattle.std.specs.Prelude.{IfSome}
@@ -22,6 +22,18 @@ in_rounds-zero round = refl
 pub in_rounds-suc : (round : ℕ → List (ℕ → Happening)) (n : ℕ) → in_rounds round (suc n) ≡ in_rounds round n ++ round n
 unfolding in_rounds
 in_rounds-suc round n = refl
+
+-- some rounds, and more
+pub in_rounds-add : (round : ℕ → List (ℕ → Happening)) (n m : ℕ) → (rest : List (ℕ → Happening)) × (in_rounds round (n + m) ≡ in_rounds round n ++ rest)
+in_rounds-add round n zero = ([], ap (in_rounds round) (add-zero n) ∙ sym (append-nil (in_rounds round n)))
+in_rounds-add round n (suc m) =
+    let before = in_rounds-add round n m in
+    let one : n + suc m ≡ suc (n + m) = omega arith in
+    (
+      before.0 ++ round (n + m),
+      ap (in_rounds round) one ∙ in_rounds-suc round (n + m) ∙ ap (λ l. l ++ round (n + m)) before.1
+      ∙ append_assoc (in_rounds round n) before.0 (round (n + m)),
+    )
 
 -- a list whose front is a whole round, or all of it
 front : (xs left : List Arrival) (n : ℕ) → length xs ≤ n → (length xs ≡ n) ⊎ (left ≡ []) → (take n (xs ++ left) ≡ xs) × (drop n (xs ++ left) ≡ left)
@@ -48,8 +60,7 @@ front (x ∷ xs) left (suc n) few whole =
 round_is : (all xs left : List Arrival) (n : ℕ) → length xs ≤ 64 → (length xs ≡ 64) ⊎ (left ≡ []) → xs ++ left ≡ left_after n all
     → (xs ≡ taken_in n all) × (left ≡ left_after (n + 1) all)
 round_is all xs left n few whole is =
-    let parts = front xs left 64 few whole in
-    (
+    let parts = front xs left 64 few whole in (
       sym parts.0 ∙ ap (take 64) is,
       sym parts.1 ∙ ap (drop 64) is ∙ drop-drop 64 (64 * n) all ∙ ap (λ k. drop k all) (omega arith),
     )
@@ -80,16 +91,15 @@ module _ (general event : Option (List Arrival)) where
       let took' : RoundTook general' (Some left) faults' faults'' xs = subst (λ w. RoundTook general' w faults' faults'' xs) is took in
       let event_took' : RoundTook event' (Some event_left) event_faults' event_faults'' ys = subst (λ w. RoundTook event' w event_faults' event_faults'' ys) event_is event_took in
       let before = rounds (still_before faults faults' faults'' keeps' still) (still_before event_faults event_faults' event_faults'' event_keeps' event_still)
-          (xs ++ left) (ys ++ event_left) took'.came event_took'.came in
+      (xs ++ left) (ys ++ event_left) took'.came event_took'.came in
       let one = round_is before.0 xs left n took'.few (took'.whole (still_after faults faults' faults'' keeps still)) before.5 in
-      let event_one = round_is before.1 ys event_left n event_took'.few (event_took'.whole (still_after event_faults event_faults' event_faults'' event_keeps event_still)) before.6 in
-      (
+      let event_one = round_is before.1 ys event_left n event_took'.few (event_took'.whole (still_after event_faults event_faults' event_faults'' event_keeps event_still)) before.6 in (
         before.0,
         before.1,
         before.2,
         before.3,
         ap₂ (λ l m. l ++ m) before.4 (ap₂ (λ l m. map arrive (l ++ m) ++ Ticks (n + 1) ∷ []) one.0 event_one.0)
-        ∙ sym (in_rounds-suc (round_of before.0 before.1) n) ∙ ap (in_rounds (round_of before.0 before.1)) (omega arith),
+            ∙ sym (in_rounds-suc (round_of before.0 before.1) n) ∙ ap (in_rounds (round_of before.0 before.1)) (omega arith),
         one.1,
         event_one.1,
       )

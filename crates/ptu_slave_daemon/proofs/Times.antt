@@ -47,8 +47,7 @@ timed_more before now None acts more hs ks p q = tt
 timed_more before None (Some later) acts more hs ks p q = absurd (cc (q.1))
 timed_more before (Some middle) (Some later) acts more hs ks p q =
     let same : middle ≡ q.0 = cc (q.1) in
-    let reached : q.0 ≡ moments_after (length acts) p.0 = sym same ∙ p.3 in
-    (
+    let reached : q.0 ≡ moments_after (length acts) p.0 = sym same ∙ p.3 in (
       p.0,
       p.1,
       ap₂ (λ l m. l ++ m) p.2 (q.2 ∙ ap (λ ts. timed ts more) reached) ∙ sym (timed-append p.0 acts more),
@@ -63,8 +62,7 @@ timed_one None (Some later) at act never first rest = absurd (cc rest)
 timed_one (Some []) (Some later) at act never first rest = absurd (never refl)
 timed_one (Some (time ∷ times)) (Some later) at act never first rest =
     let is : time ≡ at = cc first in
-    let left : after_first (time ∷ times) ≡ later = cc rest in
-    (
+    let left : after_first (time ∷ times) ≡ later = cc rest in (
       time ∷ times,
       refl,
       ap (λ t. act t ∷ []) (sym is) ∙ sym (timed-cons (time ∷ times) act [] ∙ ap (λ l. act time ∷ l) (timed-nil (after_first (time ∷ times)))),

@@ -44,6 +44,17 @@ changes-push said (x ∷ ss) s = pick (is_said said x.master) refl (changes-push
     pick true is same other = same ∙ ap (λ w. changes said ss ++ said_next (said_after w ss) s) (said_is said x.master is)
     pick false is same other = ap (λ l. x ∷ l) other
 
+-- a front of the selections, and more
+pub changes-append : (said : Option (Option ℕ)) (ss ts : List Selection) → changes said (ss ++ ts) ≡ changes said ss ++ changes (said_after said ss) ts
+changes-append said [] ts = refl
+changes-append said (x ∷ ss) ts = pick (is_said said x.master) refl (changes-append said ss ts) (changes-append (Some x.master) ss ts)
+  where
+    pick : (b : Bool) → is_said said x.master ≡ b → changes said (ss ++ ts) ≡ changes said ss ++ changes (said_after said ss) ts
+        → changes (Some x.master) (ss ++ ts) ≡ changes (Some x.master) ss ++ changes (said_after (Some x.master) ss) ts
+        → cond b (changes said (ss ++ ts)) (x ∷ changes (Some x.master) (ss ++ ts)) ≡ cond b (changes said ss) (x ∷ changes (Some x.master) ss) ++ changes (said_after (Some x.master) ss) ts
+    pick true is same other = same ∙ ap (λ w. changes said ss ++ changes (said_after w ss) ts) (said_is said x.master is)
+    pick false is same other = ap (λ l. x ∷ l) other
+
 pub texts-push : (said : Option (Option ℕ)) (ss : List Selection) (s : Selection)
     → texts_of (map selected_line (changes said (ss ++ s ∷ []))) ≡ texts_of (map selected_line (changes said ss)) ++ texts_of (map selected_line (said_next (said_after said ss) s))
 texts-push said ss s =

@@ -2,6 +2,8 @@
 use Rattle.std.specs.Prelude.{ℕ, Bool, true, false, cond, ◌==◌, List, [], ◌∷◌, ◌++◌, codes, length, map, Option, Some, None}
 use Rattle.std.specs.Fmt.{decimal}
 use Rattle.ptu_outside.specs.declared.arrival.Arrival.{Arrival}
+use Rattle.ptu_record.specs.Record.{Record}
+use Rattle.ptu_slave_messages.specs.Node.{Node}
 use Rattle.ptu_texts.specs.Texts.{address_text}
 use Rattle.ptu_config.specs.declared.settings.SlaveSettings.{SlaveSettings}
 use Rattle.ptu_slave_daemon.specs.declared.line.SlaveLine.{SlaveLine}
@@ -48,10 +50,14 @@ selected_line s = Selected s.round s.master
 abbrev pub output : ℕ → List Selection → (sent failed : ℕ) → List SlaveLine
 output rounds selections sent failed = map selected_line selections ++ Closing rounds sent failed ∷ []
 
--- that of a daemon with these settings to which all this happens, where no port fails
+-- that of so many rounds in which all this happens to the slave after this record, where no port fails
+abbrev pub output_from : ℕ → Node → Record → List Happening → List SlaveLine
+output_from rounds node L hs =
+    output rounds (changes None (selections_in node L hs)) (length (sent_in node L hs)) 0
+
+-- that of a daemon with these settings
 abbrev pub output_of : SlaveSettings → List Happening → List SlaveLine
-output_of s hs =
-    output s.rounds (changes None (selections_in (node_of s) [] hs)) (length (sent_in (node_of s) [] hs)) 0
+output_of s hs = output_from s.rounds (node_of s) [] hs
 
 abbrev pub texts_of : List SlaveLine → List (List ℕ)
 texts_of lines = map line_text lines

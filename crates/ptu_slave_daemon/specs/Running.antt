@@ -12,7 +12,9 @@ use Rattle.ptu_slave.specs.Kept.{Kept}
 use Rattle.ptu_slave.specs.Standing.{StandsFor}
 use Rattle.ptu_rounds.specs.Rounds.{in_rounds, left_after, moments_after, timed}
 use Rattle.ptu_slave_daemon.specs.declared.counts.Counts.{Counts}
-use Rattle.ptu_slave_daemon.specs.Happenings.{Happening, Stops, arrive, Selection, record_after, round_of, selections_in, sent_in}
+use Rattle.ptu_slave_daemon.specs.declared.line.SlaveLine.{SlaveLine}
+use Rattle.ptu_slave_daemon.specs.Happenings.{Happening, Stops, arrive, Selection, happenings, record_after, round_of, selections_in, sent_in}
+use Rattle.ptu_slave_daemon.specs.Lines.{output_from}
 
 -- ---- counts
 
@@ -149,3 +151,15 @@ pub record RunDone (rounds : ℕ) (node : Node) (L : Record) (old new : View)
   pub ran : Ran node L old new (acts ++ Stops ∷ []) hs selections sent failed
   pub event_fails : HasFailed event_faults event_faults' event_failed
   pub as_said : AreRounds rounds general general' event event' old.faults new.faults event_faults event_faults' acts
+
+-- ---- fronts of the output
+
+-- where no port has failed and all is still told, these lines are a front of the whole output of so many rounds
+abbrev pub IsFront : ℕ → Node → Record → (old new : View) → (general general' event event' : Option (List Arrival))
+    → (event_faults event_faults' : ℕ) → List SlaveLine → Type 0
+IsFront rounds node L old new general general' event event' event_faults event_faults' lines =
+    (all : List Arrival) (event_all : List Arrival) (times : List ℕ)
+    → general ≡ Some all → event ≡ Some event_all → old.times ≡ Some times
+    → IsSome general' → IsSome event' → IsSome new.times
+    → ¬ HasRisen old.faults new.faults → ¬ HasRisen event_faults event_faults'
+    → (rest : List SlaveLine) × (output_from rounds node L (happenings rounds all event_all times) ≡ lines ++ rest)

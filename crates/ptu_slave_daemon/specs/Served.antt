@@ -3,7 +3,7 @@ use Rattle.std.specs.Prelude.{◌≡◌, ℕ, List, [], length, map, Option, Som
 use Rattle.ptu_outside.specs.declared.arrival.Arrival.{Arrival}
 use Rattle.ptu_outside.specs.declared.opened.Opened.{Opened}
 use Rattle.ptu_outside.specs.Departure.{Departure}
-use Rattle.ptu_outside.specs.Handing.{HasPut}
+use Rattle.ptu_outside.specs.Handing.{HasPut, HasPutPart}
 use Rattle.ptu_outside.specs.Telling.{IfTold, append_told}
 use Rattle.ptu_config.specs.declared.settings.SlaveSettings.{SlaveSettings}
 use Rattle.ptu_rounds.specs.Ports.{HaveNotRisen, HaveRisenBy, ports_of}
@@ -60,3 +60,12 @@ module _ {P C K : Type 0} (sent : P → Option (List Departure)) (waiting : P �
     pub exact : (general event : List Arrival) (times : List ℕ) → Tell waiting moments before after general event times
         → HaveNotRisen (map faults (ports_of before)) (map faults (ports_of after))
         → HasDone settings before after old new (happenings settings.rounds general event times)
+
+  -- a daemon with these settings has run over the ports and clocks that were opened until the sink failed, and has given these
+  -- back
+  pub record HasStopped (settings : SlaveSettings) (before after : Opened P C) (old new : K) : Type 0 where
+    pub aside : AreAside sent before after
+    -- where all is told and no port failed, what was written is a front of what the rounds say
+    pub front : (general event : List Arrival) (times : List ℕ) → Tell waiting moments before after general event times
+        → HaveNotRisen (map faults (ports_of before)) (map faults (ports_of after))
+        → HasPutPart written handed old new (texts_of (output_of settings (happenings settings.rounds general event times)))

@@ -7,7 +7,7 @@ ghost use Rattle.ptu_slave_daemon.specs.declared.line.SlaveLine.{SlaveLine};
 ghost use Rattle.ptu_slave_daemon.specs.Answers.{CountsOpen, CountsWrite, FailsWith, WasGivenBack, WasOpened};
 ghost use Rattle.ptu_slave_daemon.specs.Lines.{texts_of};
 ghost use Rattle.ptu_slave_daemon.specs.Opening.{are_enough};
-ghost use Rattle.ptu_slave_daemon.specs.Served.{AreAside, HasServed};
+ghost use Rattle.ptu_slave_daemon.specs.Served.{AreAside, HasServed, HasStopped};
 
 use crate::halt::Halt;
 use crate::opening::open_slave;
@@ -39,6 +39,9 @@ fn run_over<P: Port, C: Clock, K: Sink>(
         settings.now opened pair.0 sink.old sink.new)) }
     ensures part { IfOk result (λ pair. OnErr pair.1 ((lines : List SlaveLine)
         × HasPutPart K.written K.handed sink.old sink.new (texts_of lines))) }
+    ensures front { IfOk result (λ pair. OnErr pair.1
+        (HasStopped P.sent P.waiting P.faults C.moments K.written K.handed
+        settings.now opened pair.0 sink.old sink.new)) }
     ensures counts { IfOk result (λ pair. FailsWith pair.1 (K.faults sink.old)
         (K.faults sink.new)) }
     ensures stopped { OnErr result ((lines : List SlaveLine)
@@ -60,18 +63,13 @@ fn run_over<P: Port, C: Clock, K: Sink>(
         c5,
     } = opened;
     let mut slave = open_slave(alloc, settings, stock, p4)?;
-    let answer = run(
-        alloc,
-        settings.rounds,
-        &mut slave,
-        &mut p5,
-        &mut c0,
-        sink,
-    );
+    let answer = run(alloc, settings.rounds, &mut slave, &mut p5, &mut c0, sink);
     let written = match answer {
         Ok(()) => Ok(()),
-        Err(Halt::Write) => Err(Failed),
-        Err(Halt::OutOfMemory) => return Err(OutOfMemory),
+        Err(halt) => match halt {
+            Halt::Write => Err(Failed),
+            Halt::OutOfMemory => return Err(OutOfMemory),
+        },
     };
     let back = Opened {
         p0,
@@ -127,11 +125,13 @@ pub fn slave<H: Host, K: Sink>(
         × HasPutPart K.written K.handed sink.old sink.new (texts_of lines)) }
     // Where nothing was opened nothing is written.
     ensures nothing { IsErrOf result DaemonFault.Open → sink.new ≡ sink.old }
-    // Where the sink failed the ports and clocks were given back too.
-    ensures returned { IsErrOf result DaemonFault.Write
+    // Where the sink failed the ports and clocks were given back too; and where they tell all and no
+    // port failed, what was written is a front of what the rounds say.
+    ensures stopped { IsErrOf result DaemonFault.Write
         → (before : Opened H.P H.C) × (after : Opened H.P H.C)
         × WasOpened (H.opening host.old) before × WasGivenBack (H.back host.new) after
-        × AreAside H.P.sent before after }
+        × HasStopped H.P.sent H.P.waiting H.P.faults H.C.moments K.written K.handed
+        settings.now before after sink.old sink.new }
     // A fault always shows, and want of memory is none.
     ensures host_counts { CountsOpen result (H.faults host.old) (H.faults host.new) }
     ensures sink_counts { CountsWrite result (K.faults sink.old) (K.faults sink.new) }

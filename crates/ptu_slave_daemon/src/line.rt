@@ -27,7 +27,10 @@ impl fmt::Display for MasterText {
 pub enum SlaveLine {
     /// After this round the master at this IPv4 address is selected, or none, and the line before
     /// did not say so.
-    Selected { round: u32, master: Option<u32> },
+    Selected {
+        round: u32,
+        master: Option<u32>,
+    },
     /// The last line: how many rounds there were, how many datagrams were sent, and how many sends
     /// and receives failed.
     Closing {

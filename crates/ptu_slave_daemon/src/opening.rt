@@ -93,7 +93,11 @@ fn take_judge(stock: &mut Stock, gap: bool) -> Option<Box<dyn Judge>>
         (map (λ j. held j) stock.old.gaps.items) (map (λ j. held j) stock.new.flags.items)
         (map (λ j. held j) stock.new.gaps.items) (held judge)) }
 {
-    if gap { stock.gaps.pop() } else { stock.flags.pop() }
+    if gap {
+        stock.gaps.pop()
+    } else {
+        stock.flags.pop()
+    }
 }
 
 // A judge for each master, of the rule that its settings say.

@@ -1,6 +1,6 @@
 //! The rounds of a slave's daemon.
 
-ghost use Rattle.std.specs.Prelude.{◌≡◌, ◌+◌, ◌*◌, ◌^◌, ℕ, List, [], ◌∷◌, ◌++◌, map, IfOk, OnOk, OnErr, None};
+ghost use Rattle.std.specs.Prelude.{◌≡◌, ◌≤◌, ◌+◌, ◌*◌, ◌^◌, ℕ, List, [], ◌∷◌, ◌++◌, map, IfOk, OnOk, OnErr, IsErrOf, None};
 ghost use Rattle.ptu_outside.specs.declared.arrival.Arrival.{Arrival};
 ghost use Rattle.ptu_outside.specs.Handing.{HasPut, HasPutPart};
 ghost use Rattle.ptu_record.specs.Record.{Record};
@@ -9,7 +9,7 @@ ghost use Rattle.ptu_slave_daemon.specs.declared.line.SlaveLine.{SlaveLine};
 ghost use Rattle.ptu_slave_daemon.specs.Answers.{Halts};
 ghost use Rattle.ptu_slave_daemon.specs.Happenings.{Happening, Selection, Ticks, arrive};
 ghost use Rattle.ptu_slave_daemon.specs.Lines.{changes, output, selected_line, texts_of};
-ghost use Rattle.ptu_slave_daemon.specs.Running.{Counted, Grows, HasFailed, IsAt, IsFew, IsJudged, Ran, RoundTook, RoundsDone, RunDone, view_of};
+ghost use Rattle.ptu_slave_daemon.specs.Running.{Counted, Grows, HasFailed, IsAt, IsFew, IsFront, IsJudged, Ran, RoundTook, RoundsDone, RunDone, view_of};
 
 use crate::counts::Counts;
 use crate::halt::Halt;
@@ -87,6 +87,19 @@ fn run_rounds<P: Port, C: Clock, K: Sink>(
         selections counts.new.sent counts.new.failed)) }
     ensures part { OnErr result ((lines : List SlaveLine)
         × HasPutPart K.written K.handed sink.old sink.new (texts_of lines)) }
+    ensures stopped { IsErrOf result Halt.Write → (n : ℕ) × (selections : List Selection)
+        × (n ≤ rounds) × HasPutPart K.written K.handed sink.old sink.new
+        (texts_of (map selected_line (changes None selections)))
+        × ((node : Node) (L : Record) → IsAt node slave.old.core
+        (map (λ j. held (j.vtable, j.value)) slave.old.judges.items) L →
+        RoundsDone n node L
+        (view_of P.sent P.faults C.moments slave.old.core
+        (map (λ j. held (j.vtable, j.value)) slave.old.judges.items) slave.old.port clock.old)
+        (view_of P.sent P.faults C.moments slave.new.core
+        (map (λ j. held (j.vtable, j.value)) slave.new.judges.items) slave.new.port clock.new)
+        (P.waiting slave.old.port) (P.waiting slave.new.port)
+        (P.waiting event.old) (P.waiting event.new) (P.faults event.old) (P.faults event.new)
+        selections counts.new.sent counts.new.failed) }
     ensures counts { Halts result (K.faults sink.old) (K.faults sink.new) }
 {
     let mut said = None;
@@ -129,6 +142,18 @@ pub(crate) fn run<P: Port, C: Clock, K: Sink>(
         selections sends failures)) }
     ensures part { OnErr result ((lines : List SlaveLine)
         × HasPutPart K.written K.handed sink.old sink.new (texts_of lines)) }
+    ensures stopped { IsErrOf result Halt.Write → (lines : List SlaveLine)
+        × HasPutPart K.written K.handed sink.old sink.new (texts_of lines)
+        × ((node : Node) (L : Record) → IsAt node slave.old.core
+        (map (λ j. held (j.vtable, j.value)) slave.old.judges.items) L →
+        IsFront rounds node L
+        (view_of P.sent P.faults C.moments slave.old.core
+        (map (λ j. held (j.vtable, j.value)) slave.old.judges.items) slave.old.port clock.old)
+        (view_of P.sent P.faults C.moments slave.new.core
+        (map (λ j. held (j.vtable, j.value)) slave.new.judges.items) slave.new.port clock.new)
+        (P.waiting slave.old.port) (P.waiting slave.new.port)
+        (P.waiting event.old) (P.waiting event.new) (P.faults event.old) (P.faults event.new)
+        lines) }
     ensures counts { Halts result (K.faults sink.old) (K.faults sink.new) }
 {
     let mut counts = Counts::new();

@@ -88,8 +88,9 @@ pub(crate) fn tick<P: Port, C: Clock>(
 {
     let at = clock.now();
     let ticked = slave.tick(at);
+    let master = selected(slave, at);
     counts.add(ticked.sent, ticked.failed);
-    selected(slave, at)
+    master
 }
 
 /// The slave stops.

@@ -1,5 +1,11 @@
 //! Rows whose outputs were made out by hand.
 
+ghost use Rattle.std.specs.Prelude.{◌≡◌, ◌≤◌, IfOk, map};
+ghost use Rattle.ptu_outside.specs.MemoryPort.{FitAll};
+ghost use Rattle.ptu_config.specs.Limits.{IsSlaveInRange};
+ghost use Rattle.ptu_judges.specs.Held.{IsStock, fresh};
+ghost use Rattle.ptu_record.specs.declared.rule.Rule.TheVariants.{Flag};
+
 use super::*;
 use ptu_config::{MasterList, MasterSetting, SlaveSettings};
 use ptu_judges::{FlagJudge, Judge, Stock};
@@ -24,7 +30,10 @@ const ASK: &str = "0c120040040004000000000000000000000000000a0000000000001100010
      ffffffffffffffffffff00040006b0010000012c0004000600fc0000012c";
 
 // A slave of the one master.
-fn settings(alloc: Global, rounds: u32) -> Result<SlaveSettings, Fail> {
+fn settings(alloc: Global, rounds: u32) -> Result<SlaveSettings, Fail>
+    requires { 1 ≤ rounds }
+    ensures { IfOk result IsSlaveInRange }
+{
     let masters = vec![in alloc;
         MasterSetting {
             ip: MASTER,
@@ -52,23 +61,30 @@ fn settings(alloc: Global, rounds: u32) -> Result<SlaveSettings, Fail> {
     })
 }
 
-// One judge.
-fn stock(alloc: Global) -> Result<Stock, AllocError> {
-    let mut flags: Vec<Box<dyn Judge>> = Vec::new(alloc);
-    flags.push(Box::new(alloc, FlagJudge::new())?)?;
-    Ok(Stock {
-        flags,
+// A stock with this judge alone.
+fn one_judge(alloc: Global, flag: Box<dyn Judge>) -> Result<Stock, AllocError>
+    requires { held flag ≡ fresh Flag }
+    ensures { IfOk result (λ stock. IsStock (map (λ j. held j) stock.flags.items)
+        (map (λ j. held j) stock.gaps.items)) }
+{
+    let mut stock = Stock {
+        flags: Vec::new(alloc),
         gaps: Vec::new(alloc),
-    })
+    };
+    stock.flags.push(flag)?;
+    Ok(stock)
 }
 
 // What waits where this datagram has come from the master, if there is one.
-fn waiting(alloc: Global, text: &str) -> Result<Vec<Arrival>, Fail> {
+fn waiting(alloc: Global, text: &str) -> Result<Vec<Arrival>, Fail>
+    ensures { IfOk result (λ list. FitAll list.items) }
+{
     let mut list = Vec::new(alloc);
-    if !text.is_empty() {
+    let octets = hex::decode(alloc, text)?;
+    if !octets.is_empty() && octets.len() <= 64 {
         list.push(Arrival {
             ip: MASTER,
-            bytes: Datagram::new(hex::decode(alloc, text)?),
+            bytes: Datagram::new(octets),
         })?;
     }
     Ok(list)
@@ -114,16 +130,19 @@ fn port(alloc: Global, text: &str, failing: Vec<u64>) -> Result<MemPort, Fail> {
 fn assert_output(
     rt: &impl Abort,
     alloc: Global,
-    rounds: u32,
+    settings: &SlaveSettings,
     host: &mut MemHost,
+    stock: Stock,
     output: &str,
-) -> Result<(), Fail> {
-    let settings = settings(alloc, rounds)?;
-    let stock = stock(alloc)?;
+) -> Result<(), Fail>
+    requires range { IsSlaveInRange settings.now }
+    requires stock { IsStock (map (λ j. held (j.vtable, j.value)) stock.flags.items)
+        (map (λ j. held (j.vtable, j.value)) stock.gaps.items) }
+{
     let mut sink = MemSink::new(alloc, Vec::new(alloc));
     sink.reserve(128)?;
-    assert!(rt; has_judges(&settings, &stock));
-    assert_eq!(rt; slave(alloc, &settings, host, &mut sink, stock), Ok(()));
+    assert!(rt; has_judges(settings, &stock));
+    assert_eq!(rt; slave(alloc, settings, host, &mut sink, stock), Ok(()));
     assert_eq!(rt; sink.bytes(), output.as_bytes());
     Ok(())
 }
@@ -132,7 +151,10 @@ fn assert_output(
 fn assert_asked(rt: &impl Abort, alloc: Global, host: &MemHost) -> Result<(), Fail> {
     let ask = hex::decode(alloc, ASK)?;
     let back = host.back().ok_or("given back")?;
-    assert_eq!(rt; back.p4.sent(0), Some((MASTER, Channel::General, ask.as_slice())));
+    assert_eq!(rt;
+        back.p4.sent(0),
+        Some((MASTER, Channel::General, ask.as_slice()))
+    );
     assert!(rt; back.p4.sent(1).is_none());
     Ok(())
 }
@@ -142,7 +164,8 @@ fn a_slave_that_hears_nothing_asks_and_selects_none(rt: HostRuntime) -> Result<(
     let alloc = rt.alloc();
     let mut host = host(alloc, port(alloc, "", Vec::new(alloc))?, idle(alloc));
     let output = "round 1 selected none\nrounds 1 sent 1 failed 0\n";
-    assert_output(&rt, alloc, 1, &mut host, output)?;
+    let stock = one_judge(alloc, Box::new(alloc, FlagJudge::new())?)?;
+    assert_output(&rt, alloc, &settings(alloc, 1)?, &mut host, stock, output)?;
     assert_asked(&rt, alloc, &host)
 }
 
@@ -152,7 +175,8 @@ fn a_slave_writes_its_selection_once(rt: HostRuntime) -> Result<(), Fail> {
     let p4 = port(alloc, ANNOUNCE, Vec::new(alloc))?;
     let mut host = host(alloc, p4, port(alloc, SYNC, Vec::new(alloc))?);
     let output = "round 1 selected 10.0.0.1\nrounds 2 sent 1 failed 0\n";
-    assert_output(&rt, alloc, 2, &mut host, output)?;
+    let stock = one_judge(alloc, Box::new(alloc, FlagJudge::new())?)?;
+    assert_output(&rt, alloc, &settings(alloc, 2)?, &mut host, stock, output)?;
     assert_asked(&rt, alloc, &host)
 }
 
@@ -162,6 +186,7 @@ fn a_failed_receive_is_counted_and_the_slave_goes_on(rt: HostRuntime) -> Result<
     let p4 = port(alloc, ANNOUNCE, vec![in alloc; 1]?)?;
     let mut host = host(alloc, p4, port(alloc, SYNC, Vec::new(alloc))?);
     let output = "round 1 selected none\nround 2 selected 10.0.0.1\nrounds 2 sent 1 failed 1\n";
-    assert_output(&rt, alloc, 2, &mut host, output)?;
+    let stock = one_judge(alloc, Box::new(alloc, FlagJudge::new())?)?;
+    assert_output(&rt, alloc, &settings(alloc, 2)?, &mut host, stock, output)?;
     assert_asked(&rt, alloc, &host)
 }

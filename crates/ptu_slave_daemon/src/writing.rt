@@ -26,11 +26,7 @@ fn text_of(alloc: Global, line: SlaveLine) -> Result<String, OutOfMemory>
 ///
 /// # Errors
 /// `Write` where the sink failed, and `OutOfMemory`.
-pub(crate) fn write_line<K: Sink>(
-    alloc: Global,
-    sink: &mut K,
-    line: SlaveLine,
-) -> Result<(), Halt>
+pub(crate) fn write_line<K: Sink>(alloc: Global, sink: &mut K, line: SlaveLine) -> Result<(), Halt>
     ensures whole { OnOk result (HasPut K.written K.handed sink.old sink.new
         (texts_of (line ∷ []))) }
     ensures part { OnErr result (HasPutPart K.written K.handed sink.old sink.new
@@ -82,7 +78,8 @@ pub(crate) fn say<K: Sink>(
         (texts_of (map selected_line
         (said_next said (record { round = round; master = master }))))) }
     ensures part { OnErr result (HasPutPart K.written K.handed sink.old sink.new
-        (texts_of (SlaveLine.Selected round master ∷ []))) }
+        (texts_of (map selected_line
+        (said_next said (record { round = round; master = master }))))) }
     ensures counts { Halts result (K.faults sink.old) (K.faults sink.new) }
 {
     if is_written(said, master) {

@@ -10,8 +10,7 @@ returns-clause-ran g c = λ node L round h.
     let p = c.in_ok-take_all_general.ensures.took node L h in
     let q = c.in_ok-take_all_event.ensures.took node (record_after node L p.5.0) p.5.1.stands in
     let r = took_append node L _ _ _ p.0 q.0 p.1 q.1 p.2 q.2 p.5 q.7 in
-    let t = c.tick.ensures.ran node (record_after node L r.0) round r.1.stands in
-    (
+    let t = c.tick.ensures.ran node (record_after node L r.0) round r.1.stands in (
       p.0,
       q.0,
       r.0 ++ t.2,

@@ -1,11 +1,13 @@
 use Rattle.std.proofs.Common.{[], ◌∷◌, ◌++◌, ◌∙◌, None, map, subst, sym}
 use Rattle.std.proofs.lemmas.List.{map-append}
-use Rattle.std.proofs.lemmas.Result.{on_err_weaker, on_ok_weaker}
+use Rattle.std.proofs.lemmas.Result.{err_from_is_err_and, on_err_weaker, on_ok_weaker}
 use Rattle.ptu_outside.specs.Handing.{HasPut, HasPutPart}
 use Rattle.ptu_outside.proofs.Handing.{HasPut-append, HasPut-part}
 use Rattle.ptu_slave_daemon.specs.declared.line.SlaveLine.TheVariants.{Closing}
 use Rattle.ptu_slave_daemon.specs.Happenings.{record_after}
 use Rattle.ptu_slave_daemon.specs.Lines.{changes, line_text, selected_line, texts_of}
+use Rattle.ptu_slave_daemon.specs.declared.halt.Halt.TheVariants.{Write}
+use Rattle.ptu_slave_daemon.proofs.Fronts.{front_rounds, front_run, of_err}
 use Rattle.ptu_slave_daemon.proofs.OneRound.{done_run}
 use Rattle.ptu_slave_daemon.proofs.rounds.run.Goals as goal
 
@@ -19,11 +21,11 @@ returns-clause-done g c =
       c.stop.new.counts.sent,
       c.stop.new.counts.failed,
       subst (HasPut g.K.Sink.written g.K.Sink.handed c.args.sink.now c.write_line.new.sink) (sym (map-append line_text lines (line ∷ [])))
-      (HasPut-append g.K.Sink.written g.K.Sink.handed c.args.sink.now c.run_rounds.new.sink c.write_line.new.sink (texts_of lines) (texts_of (line ∷ [])) done.1 put),
+          (HasPut-append g.K.Sink.written g.K.Sink.handed c.args.sink.now c.run_rounds.new.sink c.write_line.new.sink (texts_of lines) (texts_of (line ∷ [])) done.1 put),
       λ node L h.
-      let p = done.2 node L h in
-      let t = c.stop.ensures.ran node (record_after node L p.hs) p.ran.stands in
-      done_run node L _ _ _ _ c.args.rounds _ _ _ _ _ _ done.0 c.run_rounds.new.counts c.stop.new.counts t.2 t.0 t.1 p t.3 c.stop.ensures.waiting t.4,
+          let p = done.2 node L h in
+          let t = c.stop.ensures.ran node (record_after node L p.hs) p.ran.stands in
+          done_run node L _ _ _ _ c.args.rounds _ _ _ _ _ _ done.0 c.run_rounds.new.counts c.stop.new.counts t.2 t.0 t.1 p t.3 c.stop.ensures.waiting t.4,
     )) c.write_line.ensures.whole
 
 pub returns-clause-part : goal.returns-clause-part
@@ -34,5 +36,31 @@ returns-clause-part g c =
     on_err_weaker c.write_line.result (λ part. (
       lines ++ line ∷ [],
       subst (HasPutPart g.K.Sink.written g.K.Sink.handed c.args.sink.now c.write_line.new.sink) (sym (map-append line_text lines (line ∷ [])))
-      (HasPut-part g.K.Sink.written g.K.Sink.handed c.args.sink.now c.run_rounds.new.sink c.write_line.new.sink (texts_of lines) (texts_of (line ∷ [])) done.1 part),
+          (HasPut-part g.K.Sink.written g.K.Sink.handed c.args.sink.now c.run_rounds.new.sink c.write_line.new.sink (texts_of lines) (texts_of (line ∷ [])) done.1 part),
     )) c.write_line.ensures.part
+
+-- the sink failed in the closing line
+pub returns-clause-stopped : goal.returns-clause-stopped
+returns-clause-stopped g c = λ is.
+    let done = c.in_ok-run_rounds.ensures.done in
+    let lines = map selected_line (changes None done.0) in
+    let line = Closing c.args.rounds c.stop.new.counts.sent c.stop.new.counts.failed in
+    (
+      lines ++ line ∷ [],
+      subst (HasPutPart g.K.Sink.written g.K.Sink.handed c.args.sink.now c.write_line.new.sink) (sym (map-append line_text lines (line ∷ [])))
+      (HasPut-part g.K.Sink.written g.K.Sink.handed c.args.sink.now c.run_rounds.new.sink c.write_line.new.sink (texts_of lines) (texts_of (line ∷ [])) done.1
+      (of_err c.write_line.result Write is c.write_line.ensures.part)),
+      λ node L h.
+      let p = done.2 node L h in
+      let t = c.stop.ensures.ran node (record_after node L p.hs) p.ran.stands in
+      front_run node L _ _ _ _ _ _ _ _ c.args.rounds done.0 c.stop.new.counts.sent c.stop.new.counts.failed
+      (done_run node L _ _ _ _ c.args.rounds _ _ _ _ _ _ done.0 c.run_rounds.new.counts c.stop.new.counts t.2 t.0 t.1 p t.3 c.stop.ensures.waiting t.4),
+    )
+
+-- it failed in the line of a round
+pub returns-in_err-run_rounds-clause-stopped : goal.returns-in_err-run_rounds-clause-stopped
+returns-in_err-run_rounds-clause-stopped g c =
+    let p = err_from_is_err_and c.from_residual.result c.from_residual.ensures.1 in
+    rw (p.1, p.2) (λ is.
+    let d = c.in_err-run_rounds.ensures.stopped is in
+    (map selected_line (changes None d.1), d.3, λ node L h. front_rounds node L _ _ _ _ _ _ _ _ d.0 c.args.rounds d.1 _ _ d.2 (d.4 node L h)))

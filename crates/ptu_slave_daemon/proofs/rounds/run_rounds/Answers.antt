@@ -4,7 +4,6 @@ use Rattle.std.proofs.lemmas.Result.{err_from_is_err_and}
 use Rattle.ptu_outside.specs.Handing.{HasPut, HasPutPart}
 use Rattle.ptu_outside.proofs.Handing.{HasPut-append, HasPut-none, HasPut-part, HasPutPart-whole}
 use Rattle.ptu_slave_daemon.specs.declared.counts.Counts.{Counts}
-use Rattle.ptu_slave_daemon.specs.declared.line.SlaveLine.TheVariants.{Selected}
 use Rattle.ptu_slave_daemon.specs.Happenings.{Selection, record_after}
 use Rattle.ptu_slave_daemon.specs.Lines.{changes, line_text, said_next, selected_line, texts_of}
 use Rattle.ptu_slave_daemon.proofs.OneRound.{done_more, done_none}
@@ -39,13 +38,13 @@ loop-before-preserved g c =
         done.0 ++ s ∷ [],
         sym (said_after-push None done.0 s),
         subst (HasPut g.K.Sink.written g.K.Sink.handed c.args.sink.now c.say.new.sink) (sym (texts-push None done.0 s))
-        (HasPut-append g.K.Sink.written g.K.Sink.handed c.args.sink.now c.loop-before.sink c.say.new.sink (texts_of (map selected_line (changes None done.0)))
-        (texts_of (map selected_line (said_next (said_after None done.0) s))) done.2
-        (subst (λ said. HasPut g.K.Sink.written g.K.Sink.handed c.loop-before.sink c.say.new.sink (texts_of (map selected_line (said_next said s)))) done.1 c.in_ok-say.ensures.whole)),
+            (HasPut-append g.K.Sink.written g.K.Sink.handed c.args.sink.now c.loop-before.sink c.say.new.sink (texts_of (map selected_line (changes None done.0)))
+            (texts_of (map selected_line (said_next (said_after None done.0) s))) done.2
+            (subst (λ said. HasPut g.K.Sink.written g.K.Sink.handed c.loop-before.sink c.say.new.sink (texts_of (map selected_line (said_next said s)))) done.1 c.in_ok-say.ensures.whole)),
         λ node L h.
-        let p = done.3 node L h in
-        let q = c.in-Ok.ensures.ran node (record_after node L p.hs) (c.loop-before.before + 1) p.ran.stands in
-        done_more node L _ _ _ _ c.loop-before.before _ _ _ _ _ _ _ _ done.0 s c.loop-before.counts c.happen.new.counts q.0 q.1 q.2 q.3 q.4 q.5 p q.6 q.7 q.8 q.9 q.10,
+            let p = done.3 node L h in
+            let q = c.in-Ok.ensures.ran node (record_after node L p.hs) (c.loop-before.before + 1) p.ran.stands in
+            done_more node L _ _ _ _ c.loop-before.before _ _ _ _ _ _ _ _ done.0 s c.loop-before.counts c.happen.new.counts q.0 q.1 q.2 q.3 q.4 q.5 p q.6 q.7 q.8 q.9 q.10,
       );
     }
 
@@ -58,12 +57,30 @@ pub returns-in_err-say-clause-part : goal.returns-in_err-say-clause-part
 returns-in_err-say-clause-part g c =
     let done = c.loop-before.invariant.done in
     let lines = map selected_line (changes None done.0) in
-    let line = Selected (c.loop-before.before + 1) c.in-Ok.master in
+    let more = map selected_line (said_next c.loop-before.said (record { round = c.loop-before.before + 1; master = c.in-Ok.master })) in
     let p = err_from_is_err_and c.from_residual.result c.from_residual.ensures.1 in
     rw p.1 (
-      lines ++ line ∷ [],
-      subst (HasPutPart g.K.Sink.written g.K.Sink.handed c.args.sink.now c.say.new.sink) (sym (map-append line_text lines (line ∷ [])))
-      (HasPut-part g.K.Sink.written g.K.Sink.handed c.args.sink.now c.loop-before.sink c.say.new.sink (texts_of lines) (texts_of (line ∷ [])) done.2 c.in_err-say.ensures.part),
+      lines ++ more,
+      subst (HasPutPart g.K.Sink.written g.K.Sink.handed c.args.sink.now c.say.new.sink) (sym (map-append line_text lines more))
+      (HasPut-part g.K.Sink.written g.K.Sink.handed c.args.sink.now c.loop-before.sink c.say.new.sink (texts_of lines) (texts_of more) done.2 c.in_err-say.ensures.part),
+    )
+
+pub returns-in_err-say-clause-stopped : goal.returns-in_err-say-clause-stopped
+returns-in_err-say-clause-stopped g c = λ is.
+    let done = c.loop-before.invariant.done in
+    let s : Selection = record { round = c.loop-before.before + 1; master = c.in-Ok.master } in
+    (
+      c.loop-before.before + 1,
+      done.0 ++ s ∷ [],
+      omega (arith, c.loop-before-test.true),
+      subst (HasPutPart g.K.Sink.written g.K.Sink.handed c.args.sink.now c.say.new.sink) (sym (texts-push None done.0 s))
+      (HasPut-part g.K.Sink.written g.K.Sink.handed c.args.sink.now c.loop-before.sink c.say.new.sink (texts_of (map selected_line (changes None done.0)))
+      (texts_of (map selected_line (said_next (said_after None done.0) s))) done.2
+      (subst (λ said. HasPutPart g.K.Sink.written g.K.Sink.handed c.loop-before.sink c.say.new.sink (texts_of (map selected_line (said_next said s)))) done.1 c.in_err-say.ensures.part)),
+      λ node L h.
+      let p = done.3 node L h in
+      let q = c.in-Ok.ensures.ran node (record_after node L p.hs) (c.loop-before.before + 1) p.ran.stands in
+      done_more node L _ _ _ _ c.loop-before.before _ _ _ _ _ _ _ _ done.0 s c.loop-before.counts c.happen.new.counts q.0 q.1 q.2 q.3 q.4 q.5 p q.6 q.7 q.8 q.9 q.10,
     )
 
 pub returns-clause-done : goal.returns-clause-done

@@ -12,6 +12,6 @@ returns-clause-ran g c = λ node L h. (
   Stops c.now-at.result ∷ [],
   (ap (λ (k : Counts). k.sent) c.add.ensures, ap (λ (k : Counts). k.failed) c.add.ensures),
   ran_stopped node L _ _ c.now-at.result h c.stop-stopped.ensures.same c.stop-stopped.result.at c.stop-stopped.result.sent c.stop-stopped.result.failed
-  (timed_one _ _ c.now-at.result (λ at. Stops at) (g.met.C.Clock.never_empty c.args.clock.now) c.now-at.ensures.first c.now-at.ensures.rest)
-  c.stop-stopped.ensures.at (c.stop-stopped.ensures.steps node.openings L h.stands) (c.stop-stopped.ensures.sends node.openings L h.stands),
+      (timed_one _ _ c.now-at.result (λ at. Stops at) (g.met.C.Clock.never_empty c.args.clock.now) c.now-at.ensures.first c.now-at.ensures.rest)
+      c.stop-stopped.ensures.at (c.stop-stopped.ensures.steps node.openings L h.stands) (c.stop-stopped.ensures.sends node.openings L h.stands),
 )

@@ -14,10 +14,10 @@ returns-clause-ran g c = λ node L round h. (
   Ticks round c.now-at.result ∷ [],
   (ap (λ (k : Counts). k.sent) c.add.ensures, ap (λ (k : Counts). k.failed) c.add.ensures),
   ran_view node L _
-  (view_of g.P.Port.sent g.P.Port.faults g.C.Clock.moments c.tick-ticked.new.self.core _ c.tick-ticked.new.self.port c.now-at.new.self)
-  _ _ _ _ _ _ c.selected.ensures.core (rw c.selected.ensures.judges) (ap g.P.Port.sent c.selected.ensures.port) (ap g.P.Port.faults c.selected.ensures.port) refl
-  (ran_ticked node L _ _ c.now-at.result h c.tick-ticked.ensures.same c.tick-ticked.result.at round c.tick-ticked.result.sent c.tick-ticked.result.failed c.selected.result
-  (timed_one _ _ c.now-at.result (λ at. Ticks round at) (g.met.C.Clock.never_empty c.args.clock.now) c.now-at.ensures.first c.now-at.ensures.rest)
-  c.tick-ticked.ensures.at (c.tick-ticked.ensures.steps node.openings L h.stands) (c.tick-ticked.ensures.sends node.openings L h.stands)
-  c.selected.ensures.selected),
+      (view_of g.P.Port.sent g.P.Port.faults g.C.Clock.moments c.tick-ticked.new.self.core _ c.tick-ticked.new.self.port c.now-at.new.self)
+      _ _ _ _ _ _ c.selected-master.ensures.core (rw c.selected-master.ensures.judges) (ap g.P.Port.sent c.selected-master.ensures.port) (ap g.P.Port.faults c.selected-master.ensures.port) refl
+      (ran_ticked node L _ _ c.now-at.result h c.tick-ticked.ensures.same c.tick-ticked.result.at round c.tick-ticked.result.sent c.tick-ticked.result.failed c.selected-master.result
+      (timed_one _ _ c.now-at.result (λ at. Ticks round at) (g.met.C.Clock.never_empty c.args.clock.now) c.now-at.ensures.first c.now-at.ensures.rest)
+      c.tick-ticked.ensures.at (c.tick-ticked.ensures.steps node.openings L h.stands) (c.tick-ticked.ensures.sends node.openings L h.stands)
+      c.selected-master.ensures.selected),
 )

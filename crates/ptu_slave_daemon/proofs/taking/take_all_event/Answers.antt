@@ -30,8 +30,7 @@ loop-taken-preserved g c = record {
   sent = c.take_event.ensures.sent ∙ c.loop-taken.invariant.sent;
   took = λ node L h.
       let p = c.loop-taken.invariant.took node L h in
-      let q = c.in_ok-take_event.ensures.took node (record_after node L p.8.0) p.8.1.stands in
-      (
+      let q = c.in_ok-take_event.ensures.took node (record_after node L p.8.0) p.8.1.stands in (
         p.0 ++ q.0,
         p.1 + q.1,
         p.2 + q.2,
@@ -48,8 +47,7 @@ pub returns-then-not-branch-clause-took : goal.returns-then-not-branch-clause-to
 returns-then-not-branch-clause-took g c = λ node L h.
     let p = c.loop-taken.invariant.took node L h in
     let q = c.in_ok-take_event.ensures.took node (record_after node L p.8.0) p.8.1.stands in
-    let few : length p.0 < 64 = omega (arith, p.7, c.loop-taken-test.true) in
-    (
+    let few : length p.0 < 64 = omega (arith, p.7, c.loop-taken-test.true) in (
       p.0 ++ q.0,
       p.1 + q.1,
       p.2 + q.2,

@@ -24,8 +24,7 @@ loop-taken-preserved g c = record {
   grows = (omega (arith, c.loop-taken.invariant.grows, c.take_general.ensures.grows), omega (arith, c.loop-taken.invariant.grows, c.take_general.ensures.grows));
   took = λ node L h.
       let p = c.loop-taken.invariant.took node L h in
-      let q = c.in_ok-take_general.ensures.took node (record_after node L p.6.0) p.6.1.stands in
-      (
+      let q = c.in_ok-take_general.ensures.took node (record_after node L p.6.0) p.6.1.stands in (
         p.0 ++ q.0,
         p.1 + q.1,
         p.2 + q.2,
@@ -40,8 +39,7 @@ pub returns-then-not-branch-clause-took : goal.returns-then-not-branch-clause-to
 returns-then-not-branch-clause-took g c = λ node L h.
     let p = c.loop-taken.invariant.took node L h in
     let q = c.in_ok-take_general.ensures.took node (record_after node L p.6.0) p.6.1.stands in
-    let few : length p.0 < 64 = omega (arith, p.5, c.loop-taken-test.true) in
-    (
+    let few : length p.0 < 64 = omega (arith, p.5, c.loop-taken-test.true) in (
       p.0 ++ q.0,
       p.1 + q.1,
       p.2 + q.2,

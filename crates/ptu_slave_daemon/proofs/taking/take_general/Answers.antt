@@ -10,8 +10,7 @@ use Rattle.ptu_slave_daemon.proofs.taking.take_general.Goals as goal
 pub returns-in_ok-take-in-Ok-Some-clause-took : goal.returns-in_ok-take-in-Ok-Some-clause-took
 returns-in_ok-take-in-Ok-Some-clause-took g c = λ node L h.
     let e = rw c.in-Ok-Some.field-0-is at c.in-Ok-Some.ensures in
-    let t = c.in_ok-take-in-Ok-Some.ensures.ran node L h in
-    (
+    let t = c.in_ok-take-in-Ok-Some.ensures.ran node L h in (
       record { ip = c.in-Ok-Some.from; bytes = take c.in-Ok-Some.length c.receive.new.buf } ∷ [],
       t.0,
       t.1,
@@ -22,8 +21,7 @@ returns-in_ok-take-in-Ok-Some-clause-took g c = λ node L h.
 
 pub returns-in-Ok-None-clause-took : goal.returns-in-Ok-None-clause-took
 returns-in-Ok-None-clause-took g c = λ node L h.
-    let e = rw c.in-Ok-None.field-0-is at c.in-Ok-None.ensures in
-    (
+    let e = rw c.in-Ok-None.field-0-is at c.in-Ok-None.ensures in (
       [],
       0,
       0,

@@ -1,0 +1,125 @@
+-- What a run comes to over the ports and clocks that were opened.
+use Rattle.std.proofs.Common.{◌≡◌, ◌∙◌, ◌⊎◌, inl, inr, ℕ, ◌+◌, ◌≤◌, ◌++◌, List, [], ◌∷◌, length, map, refl, sym, ap, ap₂, subst, arith, add-zero, Option, Some, None}
+use Rattle.std.proofs.lemmas.List.{map-append}
+use Rattle.std.specs.Prelude.{IsSome}
+use Rattle.ptu_outside.specs.declared.arrival.Arrival.{Arrival}
+use Rattle.ptu_outside.specs.declared.opened.Opened.{Opened}
+use Rattle.ptu_outside.specs.Departure.{Departure}
+use Rattle.ptu_outside.specs.Faults.{HasRisen, HasRisenBy}
+use Rattle.ptu_outside.specs.Handing.{HasPut, HasPutPart}
+use Rattle.ptu_outside.proofs.Handing.{HasPutPart-append}
+use Rattle.ptu_outside.specs.Telling.{IfTold, append_told}
+use Rattle.ptu_judges.specs.Held.{Held}
+use Rattle.ptu_config.specs.declared.settings.SlaveSettings.{SlaveSettings}
+use Rattle.ptu_slave.specs.Kept.{Kept}
+use Rattle.ptu_rounds.specs.Ports.{HaveNotRisen, HaveRisenBy, ports_of}
+use Rattle.ptu_slave_daemon.specs.declared.line.SlaveLine.{SlaveLine}
+use Rattle.ptu_slave_daemon.specs.Happenings.{Selection, happenings}
+use Rattle.ptu_slave_daemon.specs.Lines.{changes, line_text, output, texts_of}
+use Rattle.ptu_slave_daemon.specs.Opening.{node_of}
+use Rattle.ptu_slave_daemon.specs.Running.{IsFront, RunDone, view_of}
+use Rattle.ptu_slave_daemon.specs.Served.{AreAside, HasDone, HasServed, HasStopped, Tell}
+use Rattle.ptu_slave_daemon.proofs.Fronts.{run_is, run_output}
+
+-- a count that stands still has risen by nothing
+risen_none : (n : ℕ) → HasRisenBy 0 n n
+risen_none n = inl (omega arith)
+
+zero_more : (n : ℕ) → n ≡ 0 + n
+zero_more n = omega arith
+
+module _ {P C K : Type 0} (sent : P → Option (List Departure)) (waiting : P → Option (List Arrival)) (faults : P → ℕ)
+    (moments : C → Option (List ℕ)) (written : K → Option (List ℕ)) (handed : K → Option (List (List ℕ))) where
+  module _ (settings : SlaveSettings) (before after : Opened P C) (old new : K) (kept kept' : Kept) (judges judges' : List Held)
+      (selections : List Selection) (sends failures : ℕ) (aside : AreAside sent before after)
+      (put : HasPut written handed old new (texts_of (output settings.rounds (changes None selections) sends failures)))
+      (r : RunDone settings.rounds (node_of settings) [] (view_of sent faults moments kept judges before.p4 before.c0) (view_of sent faults moments kept' judges' after.p4 after.c0)
+      (waiting before.p4) (waiting after.p4) (waiting before.p5) (waiting after.p5) (faults before.p5) (faults after.p5) selections sends failures) where
+    have_failed : HaveRisenBy failures (map faults (ports_of before)) (map faults (ports_of after))
+    have_failed = (
+      0,
+      failures,
+      zero_more failures,
+      subst (λ p. HasRisenBy 0 (faults before.p0) (faults p)) (sym aside.p0) (risen_none (faults before.p0)),
+      (
+        0,
+        failures,
+        zero_more failures,
+        subst (λ p. HasRisenBy 0 (faults before.p1) (faults p)) (sym aside.p1) (risen_none (faults before.p1)),
+        (
+          0,
+          failures,
+          zero_more failures,
+          subst (λ p. HasRisenBy 0 (faults before.p2) (faults p)) (sym aside.p2) (risen_none (faults before.p2)),
+          (
+            0,
+            failures,
+            zero_more failures,
+            subst (λ p. HasRisenBy 0 (faults before.p3) (faults p)) (sym aside.p3) (risen_none (faults before.p3)),
+            (
+              r.failed,
+              r.event_failed,
+              r.failures_are,
+              r.ran.port.risen,
+              (r.event_failed, 0, sym (add-zero r.event_failed), r.event_fails.risen, refl),
+            ),
+          ),
+        ),
+      ),
+    )
+
+    done_as_said : (general event : List Arrival) (times : List ℕ) → Tell waiting moments before after general event times
+        → HaveNotRisen (map faults (ports_of before)) (map faults (ports_of after))
+        → HasDone sent waiting faults moments written handed settings before after old new (happenings settings.rounds general event times)
+    done_as_said general event times tell none = subst (HasDone sent waiting faults moments written handed settings before after old new)
+        (run_is (node_of settings) [] _ _ _ _ _ _ _ _ settings.rounds selections sends failures general event times r tell.general_is tell.event_is tell.times_are
+        tell.general_after tell.event_after tell.times_after none.1.1.1.1.0 none.1.1.1.1.1.0)
+        (record {
+          sends = r.ran.port.all_sent none.1.1.1.1.0;
+          writes = subst (λ lines. HasPut written handed old new (texts_of lines))
+              (run_output (node_of settings) [] _ _ _ _ _ _ _ _ settings.rounds selections sends failures r none.1.1.1.1.0 none.1.1.1.1.1.0) put;
+        })
+
+    pub has_served : HasServed sent waiting faults moments written handed settings before after old new
+    has_served = record {
+      aside = aside;
+      selections = changes None selections;
+      sends = sends;
+      failures = failures;
+      writes = put;
+      departures = r.ran.port.departures;
+      many = r.ran.port.many;
+      sent_is = r.ran.port.sent_is;
+      failed = have_failed;
+      exact = done_as_said;
+    }
+
+  -- the same of the slave's own port, which is port 4
+  pub has_served_by : (settings : SlaveSettings) (before after : Opened P C) (old new : K) (kept kept' : Kept) (judges judges' : List Held) (p q : P)
+      (selections : List Selection) (sends failures : ℕ) → AreAside sent before after → p ≡ before.p4 → after.p4 ≡ q
+      → HasPut written handed old new (texts_of (output settings.rounds (changes None selections) sends failures))
+      → RunDone settings.rounds (node_of settings) [] (view_of sent faults moments kept judges p before.c0) (view_of sent faults moments kept' judges' q after.c0)
+      (waiting p) (waiting q) (waiting before.p5) (waiting after.p5) (faults before.p5) (faults after.p5) selections sends failures
+      → HasServed sent waiting faults moments written handed settings before after old new
+  has_served_by settings before after old new kept kept' judges judges' p q selections sends failures aside own back put r =
+      has_served settings before after old new kept kept' judges judges' selections sends failures aside put
+      (subst (λ x. RunDone settings.rounds (node_of settings) [] (view_of sent faults moments kept judges before.p4 before.c0) (view_of sent faults moments kept' judges' x after.c0)
+      (waiting before.p4) (waiting x) (waiting before.p5) (waiting after.p5) (faults before.p5) (faults after.p5) selections sends failures) (sym back)
+      (subst (λ x. RunDone settings.rounds (node_of settings) [] (view_of sent faults moments kept judges x before.c0) (view_of sent faults moments kept' judges' q after.c0)
+      (waiting x) (waiting q) (waiting before.p5) (waiting after.p5) (faults before.p5) (faults after.p5) selections sends failures) own r))
+
+  -- the sink failed
+  pub has_stopped : (settings : SlaveSettings) (before after : Opened P C) (old new : K) (kept kept' : Kept) (judges judges' : List Held) (p q : P) (lines : List SlaveLine)
+      → AreAside sent before after → p ≡ before.p4 → after.p4 ≡ q → HasPutPart written handed old new (texts_of lines)
+      → IsFront settings.rounds (node_of settings) [] (view_of sent faults moments kept judges p before.c0) (view_of sent faults moments kept' judges' q after.c0)
+      (waiting p) (waiting q) (waiting before.p5) (waiting after.p5) (faults before.p5) (faults after.p5) lines
+      → HasStopped sent waiting faults moments written handed settings before after old new
+  has_stopped settings before after old new kept kept' judges judges' p q lines aside own back part front = record {
+    aside = aside;
+    front = λ general event times tell none.
+        let f = front general event times (ap waiting own ∙ tell.general_is) tell.event_is tell.times_are
+            (subst (λ x. IsSome (waiting x)) back tell.general_after) tell.event_after tell.times_after
+            (λ rises. none.1.1.1.1.0 (subst (λ x. HasRisen (faults x) (faults after.p4)) own (subst (λ x. HasRisen (faults p) (faults x)) (sym back) rises))) none.1.1.1.1.1.0 in
+        subst (HasPutPart written handed old new) (sym (ap texts_of f.1 ∙ map-append line_text lines f.0))
+        (HasPutPart-append written handed old new (texts_of lines) (texts_of f.0) part);
+  }

@@ -1,0 +1,68 @@
+use Rattle.std.proofs.Common.{[], ◌∙◌, Err, ap, map, refl, sym}
+use Rattle.std.proofs.lemmas.Result.{err_from_is_err_and}
+use Rattle.ptu_outside.proofs.Handing.{HasPutPart-none}
+use Rattle.ptu_slave_daemon.specs.Opening.{node_of}
+use Rattle.ptu_slave_daemon.proofs.Ended.{has_served_by, has_stopped}
+use Rattle.ptu_slave_daemon.proofs.daemon.run_over.Goals as goal
+use Rattle.ptu_slave_daemon.proofs.daemon.run_over.Goals.{in-Ok, in-Err+in-Write}
+
+pub returns-in_err-slave-clause-stopped : goal.returns-in_err-slave-clause-stopped
+returns-in_err-slave-clause-stopped g c =
+    let p = err_from_is_err_and c.from_residual.result c.from_residual.ensures.1 in
+    rw p.1 ([], HasPutPart-none g.K.Sink.written g.K.Sink.handed c.args.sink.now [])
+
+pub returns-clause-served : goal.returns-clause-served
+returns-clause-served g c =
+    elim c.match-answer.branch [
+      | in-Ok w ↦
+          let d = w.in-Ok.ensures.done in
+          rw w.written-is
+          (has_served_by g.P.Port.sent g.P.Port.waiting g.P.Port.faults g.C.Clock.moments g.K.Sink.written g.K.Sink.handed c.args.settings.now c.args.opened
+          (record {
+            p0 = c.args.opened.p0;
+            p1 = c.args.opened.p1;
+            p2 = c.args.opened.p2;
+            p3 = c.args.opened.p3;
+            p4 = c.into_port.result;
+            p5 = c.run-answer.new.event;
+            c0 = c.run-answer.new.clock;
+            c1 = c.args.opened.c1;
+            c2 = c.args.opened.c2;
+            c3 = c.args.opened.c3;
+            c4 = c.args.opened.c4;
+            c5 = c.args.opened.c5;
+          })
+          c.args.sink.now c.run-answer.new.sink c.in_ok-slave.slave.core c.run-answer.new.slave.core _ _ c.in_ok-slave.slave.port c.run-answer.new.slave.port d.0 d.1 d.2
+          (record { p0 = refl; p1 = refl; p2 = refl; p3 = refl; p5 = c.run-answer.ensures.sent; c1 = refl; c2 = refl; c3 = refl; c4 = refl; c5 = refl })
+          c.in_ok-slave.ensures.port c.into_port.ensures d.3 (d.4 (node_of c.args.settings.now) [] c.in_ok-slave.ensures.stands))
+      | in-Err+in-Write w ↦ rw w.written-is tt
+    ]
+
+pub returns-clause-front : goal.returns-clause-front
+returns-clause-front g c =
+    elim c.match-answer.branch [
+      | in-Ok w ↦ rw w.written-is tt
+      | in-Err+in-Write w ↦
+          let is = w.in-Err.is ∙ ap Err w.in-Write.is in
+          let d = c.run-answer.ensures.stopped is in
+          rw w.written-is
+          (has_stopped g.P.Port.sent g.P.Port.waiting g.P.Port.faults g.C.Clock.moments g.K.Sink.written g.K.Sink.handed c.args.settings.now c.args.opened
+          (record {
+            p0 = c.args.opened.p0;
+            p1 = c.args.opened.p1;
+            p2 = c.args.opened.p2;
+            p3 = c.args.opened.p3;
+            p4 = c.into_port.result;
+            p5 = c.run-answer.new.event;
+            c0 = c.run-answer.new.clock;
+            c1 = c.args.opened.c1;
+            c2 = c.args.opened.c2;
+            c3 = c.args.opened.c3;
+            c4 = c.args.opened.c4;
+            c5 = c.args.opened.c5;
+          })
+          c.args.sink.now c.run-answer.new.sink c.in_ok-slave.slave.core c.run-answer.new.slave.core
+          (map (λ j. (goal.Judge-dyn g (j.vtable, j.value)).held j.value) c.in_ok-slave.slave.judges.items) (map (λ j. (goal.Judge-dyn g (j.vtable, j.value)).held j.value) c.run-answer.new.slave.judges.items) c.in_ok-slave.slave.port c.run-answer.new.slave.port d.0
+          (record { p0 = refl; p1 = refl; p2 = refl; p3 = refl; p5 = c.run-answer.ensures.sent; c1 = refl; c2 = refl; c3 = refl; c4 = refl; c5 = refl })
+          c.in_ok-slave.ensures.port c.into_port.ensures d.1 (d.2 (node_of c.args.settings.now) [] c.in_ok-slave.ensures.stands))
+    ]
