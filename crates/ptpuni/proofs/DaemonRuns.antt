@@ -29,7 +29,7 @@ is_refused_status status (inr (inl e)) = (4, lit< tt, sym e)
 is_refused_status status (inr (inr e)) = (6, lit< tt, sym e)
 
 module _ {A K H : Type 0} (entries : A → List (Key × Value)) (refusal : List ℕ → Option RefusalLine) (left left' : Option (List ℕ))
-  (written : K → Option (List ℕ)) (handed : K → Option (List (List ℕ))) (old new : K) (host host' : H) (Done Part Stopped : A → Type 0) (taken : HasTakenSome left left') where
+    (written : K → Option (List ℕ)) (handed : K → Option (List (List ℕ))) (old new : K) (host host' : H) (Done Part Stopped : A → Type 0) (taken : HasTakenSome left left') where
   abbrev Ran : ℕ → Type 0
   Ran status = HasRunDaemon entries refusal left left' written handed old new host host' Done Part Stopped status
 

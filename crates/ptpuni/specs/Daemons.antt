@@ -20,7 +20,7 @@ use Rattle.ptu_daemon.specs.Serving.{HasServed}
 use Rattle.ptu_slave_daemon.specs.declared.line.SlaveLine.{SlaveLine}
 use Rattle.ptu_slave_daemon.specs.Answers.{WasGivenBack, WasOpened}
 use Rattle.ptu_slave_daemon.specs.Lines.{texts_of}
-use Rattle.ptu_slave_daemon.specs.Served.{AreAside, HasServed as HasFollowed}
+use Rattle.ptu_slave_daemon.specs.Served.{HasStopped, HasServed as HasFollowed}
 
 -- the status of what a daemon answers
 abbrev pub status_of_daemon : {A : Type 0} → Result A DaemonFault → ℕ
@@ -107,13 +107,13 @@ module _ {K P C : Type 0} (ports : Ports P) (clocks : Clocks C) (written : K →
   abbrev pub WroteLines : Type 0
   WroteLines = (lines : List SlaveLine) × HasPutPart written handed old new (texts_of lines)
 
-  -- that is all, and the ports and clocks are given back
-  abbrev pub FollowedInPart : Type 0
-  FollowedInPart = WroteLines × ((before : Opened P C) × (after : Opened P C) × WasOpened opening before × WasGivenBack back after
-      × AreAside ports.sent before after)
+  -- the slave ran so until the sink failed
+  abbrev pub FollowedInPart : SlaveSettings → Type 0
+  FollowedInPart settings = WroteLines × ((before : Opened P C) × (after : Opened P C) × WasOpened opening before × WasGivenBack back after
+      × HasStopped ports.sent ports.waiting ports.faults clocks.moments written handed settings before after old new)
 
   -- a run with the word `slave` ended with this status, with so many judges of flags and of gaps
   abbrev pub HasRunSlave : {H : Type 0} → ℕ → ℕ → Option (List ℕ) → Option (List ℕ) → H → H → ℕ → Type 0
   HasRunSlave flags gaps left left' host host' status =
       HasRunDaemon slave_entries (slave_refusal flags gaps) left left' written handed old new host host'
-      FollowedWhole (λ settings. FollowedInPart) (λ settings. WroteLines) status
+      FollowedWhole FollowedInPart (λ settings. WroteLines) status

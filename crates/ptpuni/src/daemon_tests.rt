@@ -25,8 +25,8 @@ const ASK: [u8; 54] = [
 // It is granted that.
 const GRANT: [u8; 56] = [
     0x0c, 0x12, 0x00, 0x38, 0x04, 0x00, 0x04, 0x00, 0, 0, 0, 0, 0, 0, 0, 0, 0, 0, 0, 0, 0x0a, 0, 0,
-    0, 0, 0, 0, 1, 0, 1, 0, 0, 5, 0x7f, 0x0a, 0, 0, 0, 0, 0, 0, 0x11, 0, 1, 0, 5, 0, 8, 0xb0, 1,
-    0, 0, 1, 0x2c, 0, 1,
+    0, 0, 0, 0, 1, 0, 1, 0, 0, 5, 0x7f, 0x0a, 0, 0, 0, 0, 0, 0, 0x11, 0, 1, 0, 5, 0, 8, 0xb0, 1, 0,
+    0, 1, 0x2c, 0, 1,
 ];
 
 // A datagram that waits.
@@ -88,11 +88,7 @@ fn is_answered(host: &MemHost, octets: &[u8]) -> bool {
 }
 
 // The word `serve` with these settings, over a host in memory that fails or not.
-fn served(
-    alloc: Global,
-    settings: &str,
-    fails: bool,
-) -> Result<((u8, String), bool), Fail> {
+fn served(alloc: Global, settings: &str, fails: bool) -> Result<((u8, String), bool), Fail> {
     let mut host = MemHost::new(opened_with(alloc, asked_port(alloc)?), fails);
     let found = ran(alloc, "serve", settings, &mut host, no_judges(alloc))?;
     Ok((found, is_answered(&host, &GRANT)))
@@ -102,7 +98,10 @@ fn served(
 fn a_grandmaster_is_served(rt: HostRuntime) -> Result<(), Fail> {
     let alloc = rt.alloc();
     let ((status, text), answered) = served(alloc, SERVE, false)?;
-    assert_eq!(rt; text.as_str(), "rounds 1 sent 1 failed 0 granted 1 refused 0 held 8\n");
+    assert_eq!(rt;
+        text.as_str(),
+        "rounds 1 sent 1 failed 0 granted 1 refused 0 held 8\n"
+    );
     assert_eq!(rt; status, 0);
     assert!(rt; answered);
     Ok(())
@@ -133,7 +132,11 @@ fn settings_are_refused_before_the_host_opens(rt: HostRuntime) -> Result<(), Fai
         assert_eq!(rt; text.as_str(), line);
         assert_eq!(rt; status, 65);
     }
-    let ((status, text), _) = served(alloc, "ip = \"127.0.0.1\"\nclock = \"0a00000000000001\"\ncapacity = 0\nrounds = 1\n", true)?;
+    let ((status, text), _) = served(
+        alloc,
+        "ip = \"127.0.0.1\"\nclock = \"0a00000000000001\"\ncapacity = 0\nrounds = 1\n",
+        true,
+    )?;
     assert_eq!(rt; text.as_str(), "settings bad capacity\n");
     assert_eq!(rt; status, 65);
     Ok(())
@@ -153,7 +156,10 @@ fn a_slave_asks_and_stops(rt: HostRuntime) -> Result<(), Fail> {
     let alloc = rt.alloc();
     let stock = one_judge(alloc, Box::new(alloc, FlagJudge::new())?)?;
     let (status, text) = followed(alloc, stock)?;
-    assert_eq!(rt; text.as_str(), "round 1 selected none\nrounds 1 sent 1 failed 0\n");
+    assert_eq!(rt;
+        text.as_str(),
+        "round 1 selected none\nrounds 1 sent 1 failed 0\n"
+    );
     assert_eq!(rt; status, 0);
     Ok(())
 }

@@ -10,7 +10,9 @@ ghost use Rattle.ptu_setup.specs.Refusals.{refusal_text};
 ghost use Rattle.ptpuni.specs.Daemons.{HasRunServe, HasRunSlave};
 ghost use Rattle.ptpuni.specs.Run.{statuses};
 
-use crate::status::{BAD_LINE, HOST_FAULT, OUT_OF_MEMORY, SINK_FAULT, SOURCE_FAULT, USAGE, daemon_status};
+use crate::status::{
+    BAD_LINE, HOST_FAULT, OUT_OF_MEMORY, SINK_FAULT, SOURCE_FAULT, USAGE, daemon_status,
+};
 use ptu_daemon::serve;
 use ptu_judges::Stock;
 use ptu_outside::{Host, Sink, Source, write_whole};

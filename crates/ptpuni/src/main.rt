@@ -2,8 +2,8 @@
 //!
 //! `ptpuni replay` reads a script of grandmasters and slaves from standard input, runs them in
 //! memory, and writes a report of every decision and datagram to standard output. `ptpuni show`
-//! decodes the datagrams that stand in the lines of standard input. `ptpuni serve` reads settings and
-//! serves a grandmaster over UDP.
+//! decodes the datagrams that stand in the lines of standard input. `ptpuni serve` and
+//! `ptpuni slave` read settings and run a grandmaster and a slave over UDP.
 #![tactic(auto)]
 
 mod daemons;
@@ -68,14 +68,7 @@ fn status_of(rt: &HostRuntime, words: &[String], stock: Stock) -> u8
     let mut source = StdSource::new(rt.stdin());
     let mut sink = StdSink::new(rt.stdout());
     let mut host = UdpHost::new(*rt);
-    run::run(
-        rt.alloc(),
-        &texts,
-        &mut source,
-        &mut sink,
-        &mut host,
-        stock,
-    )
+    run::run(rt.alloc(), &texts, &mut source, &mut sink, &mut host, stock)
 }
 
 // Puts a judge of each rule into the stock.

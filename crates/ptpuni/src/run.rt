@@ -14,7 +14,9 @@ ghost use Rattle.ptpuni.specs.Daemons.{HasRunServe, HasRunSlave};
 ghost use Rattle.ptpuni.specs.Run.{output_of, statuses, stock_of, HasLoaded, HasReadAll, HasRun, IsOfLab, IsStatusOf};
 
 use crate::daemons::{run_serve, run_slave};
-use crate::status::{BAD_LINE, HOST_FAULT, OUT_OF_MEMORY, SINK_FAULT, SOURCE_FAULT, USAGE, status_of};
+use crate::status::{
+    BAD_LINE, HOST_FAULT, OUT_OF_MEMORY, SINK_FAULT, SOURCE_FAULT, USAGE, status_of,
+};
 use ptu_lab::{Stock, load, replay, show};
 use ptu_outside::{Host, Sink, Source};
 use ptu_words::{Command, read_words};
@@ -84,8 +86,8 @@ fn run_command<S: Source, K: Sink, H: Host>(
 
 /// Does all that the program does, with the words after its name, and gives the status that it ends
 /// with: 0 where the source was read to its end (but by a load, which reads nothing) and the whole
-/// output was written, or one of the numbers above. The judges of the slaves of a script are taken
-/// from the stock, which is to be fresh.
+/// output was written, or one of the numbers of `status`. The judges of slaves are taken from the
+/// stock, which is to be fresh.
 #[tactic(auto, using(ptu_world::proofs::Headline::headline))]
 pub fn run<S: Source, K: Sink, H: Host>(
     alloc: Global,
@@ -153,8 +155,8 @@ pub fn run<S: Source, K: Sink, H: Host>(
         → IsStatusOf (report_lines (stock_of stock.flags.items stock.gaps.items) script)
         (S.left source.new) result }
 
-    // The word `serve`: the settings that the source has left are refused by one line, or a grandmaster of
-    // these is served over the host, whatever its ports do, and its one line written.
+    // The word `serve`: the settings that the source has left are refused by one line, or a
+    // grandmaster of these is served over the host, whatever its ports do, and its one line written.
     ensures served { command_of (map (λ w. w.now) words.now) ≡ Some Command.Serve
         → HasRunServe H.P.Port H.C.Clock K.written K.handed sink.old sink.new
         (H.opening host.old) (H.back host.new) (S.left source.old) (S.left source.new)

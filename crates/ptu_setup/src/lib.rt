@@ -1,5 +1,5 @@
-//! The settings of the daemons, as the program takes them: read from a source, at most 65537 octets,
-//! and refused by one line of output.
+//! The settings of the daemons, as the program takes them: read from a source, at most 65537
+//! octets, and refused by one line of output.
 #![tactic(auto)]
 
 mod fault;

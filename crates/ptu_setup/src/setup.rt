@@ -65,15 +65,15 @@ fn slave_of(
     Ok(settings)
 }
 
-/// The settings of a grandmaster's daemon that the source has left, a TOML document of at most 65536
-/// octets. At most 65537 octets are read, and nothing behind the end.
+/// The settings of a grandmaster's daemon that the source has left, a TOML document of at most
+/// 65536 octets. At most 65537 octets are read, and nothing behind the end.
 ///
 /// # Errors
 /// `Refused` by the line of the first cause to refuse them, among which `senders` above 0 and a true
 /// `two_step` come last; `Read` exactly where the source failed; or `OutOfMemory`.
 pub fn gm_setup<S: Source>(alloc: Global, source: &mut S) -> Result<GmSettings, SetupFault>
-    // They were read to the source's end, and say just these values; or so many octets that they are
-    // refused,
+    // They were read to the source's end, and say just these values; or so many octets that they
+    // are refused,
     ensures set_up { HasSetUp gm_entries gm_refusal result (S.left source.old)
         (S.left source.new) }
     // and so it is with all that a source has left that tells it.
