@@ -15,11 +15,19 @@ use Rattle.ptu_lab.specs.declared.fault.LabFault.TheVariants.{Line, Read, Write,
 use Rattle.ptu_lab.specs.Load.{summary}
 use Rattle.ptu_lab.specs.Shown.{show_rules, shown_ending, shown_lines}
 use Rattle.ptu_words.specs.declared.command.Command.{Command}
-use Rattle.ptu_words.specs.declared.command.Command.TheVariants.{Replay, Show, Load}
+use Rattle.ptu_words.specs.declared.command.Command.TheVariants.{Replay, Show, Load, Serve, Slave}
 
 -- the statuses that there are
 abbrev pub statuses : List ℕ
-statuses = 0 ∷ 64 ∷ 65 ∷ 66 ∷ 67 ∷ 71 ∷ []
+statuses = 0 ∷ 64 ∷ 65 ∷ 66 ∷ 67 ∷ 69 ∷ 71 ∷ []
+
+-- the command runs a program of the lab, in memory
+abbrev pub IsOfLab : Command → Type 0
+IsOfLab Replay = Unit {0}
+IsOfLab Show = Unit {0}
+IsOfLab (Load number) = Unit {0}
+IsOfLab Serve = ⊥
+IsOfLab Slave = ⊥
 
 -- the status of what a program of the lab answers
 abbrev pub status_of_answer : {A : Type 0} → Result A LabFault → ℕ
@@ -33,11 +41,13 @@ status_of_answer (Err OutOfMemory) = 71
 abbrev pub stock_of : {A : Type 0} → List A → List A → Stock
 stock_of flags gaps = record { flags = length flags; gaps = length gaps }
 
--- the output of a command for an input, line by line
+-- the output of a program of the lab for an input, line by line
 abbrev pub output_of : Stock → Command → List ℕ → List (List ℕ)
 output_of stock Replay input = report stock input
 output_of stock Show input = shown_lines input
 output_of stock (Load number) input = summary number ∷ []
+output_of stock Serve input = []
+output_of stock Slave input = []
 
 -- ---- the status of a whole output
 
@@ -57,12 +67,16 @@ abbrev pub ends_whole : Stock → Command → List ℕ → Bool
 ends_whole stock Replay input = has_end (report_lines stock input)
 ends_whole stock Show input = is_whole (shown_ending input)
 ends_whole stock (Load number) input = true
+ends_whole stock Serve input = true
+ends_whole stock Slave input = true
 
 -- the command reads the source to its end
 abbrev pub reads : Command → Bool
 reads Replay = true
 reads Show = true
 reads (Load number) = false
+reads Serve = true
+reads Slave = true
 
 -- 0 where the last line of the output is `end`, or the output is that of a load, else 65
 abbrev pub status_of : Stock → Command → List ℕ → ℕ
@@ -89,6 +103,8 @@ module _ {K : Type 0} (written : K → Option (List ℕ)) (handed : K → Option
   HasReadAll Replay left left' = HasReportedAllRead written handed old new rules (course_opening stock) left left'
   HasReadAll Show left left' = HasReportedAllRead written handed old new show_rules tt left left'
   HasReadAll (Load number) left left' = ⊥
+  HasReadAll Serve left left' = ⊥
+  HasReadAll Slave left left' = ⊥
 
 module _ {K : Type 0} (written : K → Option (List ℕ)) (handed : K → Option (List (List ℕ))) (old new : K) where
   -- a load of so many clients wrote its one line and read nothing, or it stopped before that line was whole: the sink failed,

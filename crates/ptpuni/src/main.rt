@@ -2,10 +2,13 @@
 //!
 //! `ptpuni replay` reads a script of grandmasters and slaves from standard input, runs them in
 //! memory, and writes a report of every decision and datagram to standard output. `ptpuni show`
-//! decodes the datagrams that stand in the lines of standard input.
+//! decodes the datagrams that stand in the lines of standard input. `ptpuni serve` and
+//! `ptpuni slave` read settings and run a grandmaster and a slave over UDP.
 #![tactic(auto)]
 
+mod daemons;
 mod run;
+mod status;
 
 ghost use Rattle.std.specs.Prelude.{◌≡◌, ◌≢◌, IfOk, OnOk, map};
 ghost use Rattle.std.specs.String.{string_bytes};
@@ -13,8 +16,9 @@ ghost use Rattle.ptu_judges.specs.Held.{IsStock, fresh};
 
 use ptu_judges::{FlagJudge, GapJudge, Judge, Rule, Stock};
 use ptu_outside::{StdSink, StdSource};
+use ptu_udp::UdpHost;
 use ptu_words::USAGE_TEXT;
-use run::{OUT_OF_MEMORY, SINK_FAULT, USAGE};
+use status::{OUT_OF_MEMORY, SINK_FAULT, USAGE};
 use std::alloc::{AllocError, Global};
 use std::env::Env;
 use std::io::{BufWriter, ErrorKind, IsTerminal, Write};
@@ -56,14 +60,15 @@ fn texts_of(alloc: Global, words: &[String]) -> Result<Vec<&str>, AllocError>
     Ok(texts)
 }
 
-// Runs the words over standard input and this writer.
+// Runs the words over standard input, this writer, and UDP.
 fn run_over<W: Write + Drop>(rt: &HostRuntime, words: &[&str], writer: W, stock: Stock) -> u8
     requires { IsStock (map (λ j. held (j.vtable, j.value)) stock.flags.items)
         (map (λ j. held (j.vtable, j.value)) stock.gaps.items) }
 {
     let mut source = StdSource::new(rt.stdin());
     let mut sink = StdSink::new(writer);
-    run::run(rt.alloc(), words, &mut source, &mut sink, stock)
+    let mut host = UdpHost::new(*rt);
+    run::run(rt.alloc(), words, &mut source, &mut sink, &mut host, stock)
 }
 
 // The same over standard output, which gets the output block by block. What a run leaves in the
@@ -82,7 +87,15 @@ fn run_in_blocks(rt: &HostRuntime, words: &[&str], stock: Stock) -> u8
     }
 }
 
-// Runs the words over standard input and output, line by line where a person looks on.
+// Whether the first word is that of a daemon, whose lines are few and are waited for.
+fn is_daemon(words: &[&str]) -> bool {
+    let Some(word) = words.first() else {
+        return false;
+    };
+    *word == "serve" || *word == "slave"
+}
+
+// Runs the words over standard input and output, line by line where somebody waits for the lines.
 fn status_of(rt: &HostRuntime, words: &[String], stock: Stock) -> u8
     requires { IsStock (map (λ j. held (j.vtable, j.value)) stock.flags.items)
         (map (λ j. held (j.vtable, j.value)) stock.gaps.items) }
@@ -91,7 +104,7 @@ fn status_of(rt: &HostRuntime, words: &[String], stock: Stock) -> u8
         return OUT_OF_MEMORY;
     };
     let output = rt.stdout();
-    if output.is_terminal() {
+    if output.is_terminal() || is_daemon(&texts) {
         run_over(rt, &texts, output, stock)
     } else {
         run_in_blocks(rt, &texts, stock)
@@ -142,5 +155,7 @@ fn main(rt: HostRuntime) -> ExitCode {
     ExitCode::from(status)
 }
 
+#[cfg(test)]
+mod daemon_tests;
 #[cfg(test)]
 mod tests;

@@ -10,47 +10,25 @@ ghost use Rattle.ptu_words.specs.CommandLine.{command_of, IsInRange, IsRefused};
 ghost use Rattle.ptu_words.specs.declared.command.Command.{Command};
 ghost use Rattle.ptu_world.specs.Headline.{DecidesByRoom, PaysPeriods, SaysSo, SelectsBest, WithinBudget, WithinCapacity};
 ghost use Rattle.ptu_world.specs.Report.{report_lines};
-ghost use Rattle.ptpuni.specs.Run.{output_of, status_of_answer, statuses, stock_of, HasLoaded, HasReadAll, HasRun, IsStatusOf};
+ghost use Rattle.ptpuni.specs.Daemons.{HasRunServe, HasRunSlave};
+ghost use Rattle.ptpuni.specs.Run.{output_of, statuses, stock_of, HasLoaded, HasReadAll, HasRun, IsOfLab, IsStatusOf};
 
-use ptu_lab::{LabFault, Stock, load, replay, show};
-use ptu_outside::{Sink, Source};
+use crate::daemons::{run_serve, run_slave};
+use crate::status::{
+    BAD_LINE, HOST_FAULT, OUT_OF_MEMORY, SINK_FAULT, SOURCE_FAULT, USAGE, status_of,
+};
+use ptu_lab::{Stock, load, replay, show};
+use ptu_outside::{Host, Sink, Source};
 use ptu_words::{Command, read_words};
 use std::alloc::Global;
 
-/// The command line does not match the words.
-pub const USAGE: u8 = 64;
-
-/// A line of the input is refused.
-pub const BAD_LINE: u8 = 65;
-
-/// The source failed.
-pub const SOURCE_FAULT: u8 = 66;
-
-/// The sink failed.
-pub const SINK_FAULT: u8 = 67;
-
-/// No memory was found.
-pub const OUT_OF_MEMORY: u8 = 71;
-
-// The status of an answer.
-fn status_of<A: Drop>(answer: Result<A, LabFault>) -> u8
-    ensures { result ≡ status_of_answer answer }
-{
-    match answer {
-        Ok(_) => 0,
-        Err(LabFault::Line { .. }) => BAD_LINE,
-        Err(LabFault::Read) => SOURCE_FAULT,
-        Err(LabFault::Write) => SINK_FAULT,
-        Err(LabFault::OutOfMemory) => OUT_OF_MEMORY,
-    }
-}
-
 // Runs a command.
-fn run_command<S: Source, K: Sink>(
+fn run_command<S: Source, K: Sink, H: Host>(
     alloc: Global,
     command: Command,
     source: &mut S,
     sink: &mut K,
+    host: &mut H,
     stock: Stock,
 ) -> u8
     requires stock { IsStock (map (λ j. held (j.vtable, j.value)) stock.flags.items)
@@ -58,27 +36,37 @@ fn run_command<S: Source, K: Sink>(
     requires range { IsInRange command }
     ensures statuses { Contains statuses result }
     ensures other { result ≢ USAGE }
-    ensures output { (input : List ℕ) → S.left source.old ≡ Some input
+    ensures output { IsOfLab command → (input : List ℕ) → S.left source.old ≡ Some input
         → (HasRisen (S.faults source.old) (S.faults source.new) → ⊥)
         → (HasRisen (K.faults sink.old) (K.faults sink.new) → ⊥) → result ≢ OUT_OF_MEMORY
         → HasRun K.written K.handed sink.old sink.new
         (stock_of stock.flags.items stock.gaps.items) command input (S.left source.new) result }
     ensures answered { (result ≡ 0) ⊎ (result ≡ BAD_LINE)
-        → (input : List ℕ) → S.left source.old ≡ Some input
+        → IsOfLab command → (input : List ℕ) → S.left source.old ≡ Some input
         → HasRun K.written K.handed sink.old sink.new
         (stock_of stock.flags.items stock.gaps.items) command input (S.left source.new) result }
     ensures loaded { (number : ℕ) → command ≡ Command.Load number →
         HasLoaded K.written K.handed sink.old sink.new source.old source.new number result }
+    ensures served { command ≡ Command.Serve → HasRunServe H.P.Port H.C.Clock K.written K.handed
+        sink.old sink.new (H.opening host.old) (H.back host.new)
+        (S.left source.old) (S.left source.new) host.old host.new result }
+    ensures followed { command ≡ Command.Slave → HasRunSlave H.P.Port H.C.Clock K.written K.handed
+        sink.old sink.new (H.opening host.old) (H.back host.new)
+        (length stock.flags.items) (length stock.gaps.items)
+        (S.left source.old) (S.left source.new) host.old host.new result }
+    ensures unused { IsOfLab command → host.new ≡ host.old }
     ensures source_fault { result ≡ SOURCE_FAULT
         → HasRisen (S.faults source.old) (S.faults source.new) }
     ensures source_still { result ≢ SOURCE_FAULT → S.faults source.new ≡ S.faults source.old }
     ensures sink_fault { result ≡ SINK_FAULT
         → HasRisen (K.faults sink.old) (K.faults sink.new) }
     ensures sink_still { result ≢ SINK_FAULT → K.faults sink.new ≡ K.faults sink.old }
-    ensures front { (input : List ℕ) → S.left source.old ≡ Some input
+    ensures host_fault { result ≡ HOST_FAULT
+        → HasRisen (H.faults host.old) (H.faults host.new) }
+    ensures front { IsOfLab command → (input : List ℕ) → S.left source.old ≡ Some input
         → HasPutPart K.written K.handed sink.old sink.new
         (output_of (stock_of stock.flags.items stock.gaps.items) command input) }
-    ensures all_read { result ≡ SOURCE_FAULT
+    ensures all_read { result ≡ SOURCE_FAULT → IsOfLab command
         → HasReadAll K.written K.handed sink.old sink.new
         (stock_of stock.flags.items stock.gaps.items) command
         (S.left source.old) (S.left source.new) }
@@ -91,19 +79,22 @@ fn run_command<S: Source, K: Sink>(
         Command::Replay => status_of(replay(alloc, source, sink, stock)),
         Command::Show => status_of(show(alloc, source, sink)),
         Command::Load(number) => status_of(load(alloc, number, sink)),
+        Command::Serve => run_serve(alloc, source, sink, host),
+        Command::Slave => run_slave(alloc, source, sink, host, stock),
     }
 }
 
 /// Does all that the program does, with the words after its name, and gives the status that it ends
 /// with: 0 where the source was read to its end (but by a load, which reads nothing) and the whole
-/// output was written, or one of the numbers above. The judges of the slaves of a script are taken
-/// from the stock, which is to be fresh.
+/// output was written, or one of the numbers of `status`. The judges of slaves are taken from the
+/// stock, which is to be fresh.
 #[tactic(auto, using(ptu_world::proofs::Headline::headline))]
-pub fn run<S: Source, K: Sink>(
+pub fn run<S: Source, K: Sink, H: Host>(
     alloc: Global,
     words: &[&str],
     source: &mut S,
     sink: &mut K,
+    host: &mut H,
     stock: Stock,
 ) -> u8
     requires stock { IsStock (map (λ j. held (j.vtable, j.value)) stock.flags.items)
@@ -116,12 +107,12 @@ pub fn run<S: Source, K: Sink>(
     ensures refused { IsRefused (map (λ w. w.now) words.now)
         → (result ≡ USAGE) ⊎ (result ≡ OUT_OF_MEMORY) }
     ensures untouched { IsRefused (map (λ w. w.now) words.now)
-        → (source.new ≡ source.old) × (sink.new ≡ sink.old) }
+        → (source.new ≡ source.old) × (sink.new ≡ sink.old) × (host.new ≡ host.old) }
 
     // The whole output of the command that the words ask for was written, and the status says how
     // it ends: where neither side failed and memory was found,
     ensures output { (command : Command) → command_of (map (λ w. w.now) words.now) ≡ Some command
-        → (input : List ℕ) → S.left source.old ≡ Some input
+        → IsOfLab command → (input : List ℕ) → S.left source.old ≡ Some input
         → (HasRisen (S.faults source.old) (S.faults source.new) → ⊥)
         → (HasRisen (K.faults sink.old) (K.faults sink.new) → ⊥) → result ≢ OUT_OF_MEMORY
         → HasRun K.written K.handed sink.old sink.new
@@ -129,7 +120,7 @@ pub fn run<S: Source, K: Sink>(
     // and wherever 0 or 65 is answered, whatever the counts did.
     ensures answered { (result ≡ 0) ⊎ (result ≡ BAD_LINE)
         → (command : Command) → command_of (map (λ w. w.now) words.now) ≡ Some command
-        → (input : List ℕ) → S.left source.old ≡ Some input
+        → IsOfLab command → (input : List ℕ) → S.left source.old ≡ Some input
         → HasRun K.written K.handed sink.old sink.new
         (stock_of stock.flags.items stock.gaps.items) command input (S.left source.new) result }
 
@@ -164,6 +155,22 @@ pub fn run<S: Source, K: Sink>(
         → IsStatusOf (report_lines (stock_of stock.flags.items stock.gaps.items) script)
         (S.left source.new) result }
 
+    // The word `serve`: the settings that the source has left are refused by one line, or a
+    // grandmaster of these is served over the host, whatever its ports do, and its one line written.
+    ensures served { command_of (map (λ w. w.now) words.now) ≡ Some Command.Serve
+        → HasRunServe H.P.Port H.C.Clock K.written K.handed sink.old sink.new
+        (H.opening host.old) (H.back host.new) (S.left source.old) (S.left source.new)
+        host.old host.new result }
+    // The word `slave`: likewise, with as many judges as the stock has.
+    ensures followed { command_of (map (λ w. w.now) words.now) ≡ Some Command.Slave
+        → HasRunSlave H.P.Port H.C.Clock K.written K.handed sink.old sink.new
+        (H.opening host.old) (H.back host.new)
+        (length stock.flags.items) (length stock.gaps.items)
+        (S.left source.old) (S.left source.new) host.old host.new result }
+    // The other words leave the host as it is.
+    ensures unused { (command : Command) → command_of (map (λ w. w.now) words.now) ≡ Some command
+        → IsOfLab command → host.new ≡ host.old }
+
     // A fault is answered exactly where there was one, and what was written is a front of the
     // output, whatever is answered.
     ensures source_fault { result ≡ SOURCE_FAULT
@@ -172,14 +179,16 @@ pub fn run<S: Source, K: Sink>(
     ensures sink_fault { result ≡ SINK_FAULT
         → HasRisen (K.faults sink.old) (K.faults sink.new) }
     ensures sink_still { result ≢ SINK_FAULT → K.faults sink.new ≡ K.faults sink.old }
+    ensures host_fault { result ≡ HOST_FAULT
+        → HasRisen (H.faults host.old) (H.faults host.new) }
     ensures front { (command : Command) → command_of (map (λ w. w.now) words.now) ≡ Some command
-        → (input : List ℕ) → S.left source.old ≡ Some input
+        → IsOfLab command → (input : List ℕ) → S.left source.old ≡ Some input
         → HasPutPart K.written K.handed sink.old sink.new
         (output_of (stock_of stock.flags.items stock.gaps.items) command input) }
     // Where the source failed, that is all that belongs to the lines that were read whole.
     ensures all_read { result ≡ SOURCE_FAULT
         → (command : Command) → command_of (map (λ w. w.now) words.now) ≡ Some command
-        → HasReadAll K.written K.handed sink.old sink.new
+        → IsOfLab command → HasReadAll K.written K.handed sink.old sink.new
         (stock_of stock.flags.items stock.gaps.items) command
         (S.left source.old) (S.left source.new) }
 
@@ -190,7 +199,7 @@ pub fn run<S: Source, K: Sink>(
     ensures ends { StopsAtEnd (S.ends source.old) (S.ends source.new) }
 {
     match read_words(alloc, words) {
-        Ok(Some(command)) => run_command(alloc, command, source, sink, stock),
+        Ok(Some(command)) => run_command(alloc, command, source, sink, host, stock),
         Ok(None) => USAGE,
         Err(_) => OUT_OF_MEMORY,
     }

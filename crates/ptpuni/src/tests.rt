@@ -5,7 +5,7 @@ ghost use Rattle.ptu_judges.specs.Held.{IsStock, fresh};
 
 use crate::run::run;
 use ptu_judges::{FlagJudge, Judge, Rule, Stock};
-use ptu_outside::{MemSink, MemSource};
+use ptu_outside::{MemClock, MemHost, MemPort, MemSink, MemSource, Opened};
 use std::alloc::{AllocError, Global};
 use std::test::Fail;
 
@@ -54,8 +54,8 @@ const SELECTED: &str = "\
     9 selected 10.0.1.17 10.0.0.1\n\
     end 9 4\n";
 
-// A stock without judges.
-fn no_judges(alloc: Global) -> Stock
+/// A stock without judges.
+pub(crate) fn no_judges(alloc: Global) -> Stock
     ensures { IsStock (map (λ j. held (j.vtable, j.value)) result.flags.items)
         (map (λ j. held (j.vtable, j.value)) result.gaps.items) }
 {
@@ -65,8 +65,8 @@ fn no_judges(alloc: Global) -> Stock
     }
 }
 
-// A stock with this judge alone.
-fn one_judge(alloc: Global, flag: Box<dyn Judge>) -> Result<Stock, AllocError>
+/// A stock with this judge alone.
+pub(crate) fn one_judge(alloc: Global, flag: Box<dyn Judge>) -> Result<Stock, AllocError>
     requires { held flag ≡ fresh Rule.Flag }
     ensures { IfOk result (λ stock. IsStock (map (λ j. held j) stock.flags.items)
         (map (λ j. held j) stock.gaps.items)) }
@@ -74,6 +74,34 @@ fn one_judge(alloc: Global, flag: Box<dyn Judge>) -> Result<Stock, AllocError>
     let mut stock = no_judges(alloc);
     stock.flags.push(flag)?;
     Ok(stock)
+}
+
+/// A port in memory at which nothing waits.
+pub(crate) fn port(alloc: Global) -> MemPort {
+    MemPort::new(alloc, Vec::new(alloc), Vec::new(alloc), Vec::new(alloc))
+}
+
+// A clock in memory that stands at 0.
+fn clock(alloc: Global) -> MemClock {
+    MemClock::new(Vec::new(alloc))
+}
+
+/// Six ports and six clocks in memory, of which port 4 is handed in.
+pub(crate) fn opened_with(alloc: Global, p4: MemPort) -> Opened<MemPort, MemClock> {
+    Opened {
+        p0: port(alloc),
+        p1: port(alloc),
+        p2: port(alloc),
+        p3: port(alloc),
+        p4,
+        p5: port(alloc),
+        c0: clock(alloc),
+        c1: clock(alloc),
+        c2: clock(alloc),
+        c3: clock(alloc),
+        c4: clock(alloc),
+        c5: clock(alloc),
+    }
 }
 
 // What a run over memory answers and writes, with a read and a write that fail; none has the number
@@ -92,7 +120,8 @@ fn ran(
     let bytes = Vec::from_slice(alloc, input.as_bytes())?;
     let mut source = MemSource::new(bytes, vec![in alloc; failing_read]?);
     let mut sink = MemSink::new(alloc, vec![in alloc; failing_write]?);
-    let status = run(alloc, words, &mut source, &mut sink, stock);
+    let mut host = MemHost::new(opened_with(alloc, port(alloc)), true);
+    let status = run(alloc, words, &mut source, &mut sink, &mut host, stock);
     let text = String::from_utf8(sink.into_bytes())
         .ok()
         .ok_or("plain text")?;

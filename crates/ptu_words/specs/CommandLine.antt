@@ -4,7 +4,7 @@ use Rattle.std.specs.Str.{bytes_eq}
 use Rattle.clap.specs.Words.{App, Kinds, Row, Text, fault_of, first_of, new_app, new_rule, subcommand_of, with_rule, with_subcommand}
 use Rattle.ptu_lines.specs.Words.{number_within}
 use Rattle.ptu_words.specs.declared.command.Command.{Command}
-use Rattle.ptu_words.specs.declared.command.Command.TheVariants.{Replay, Show, Load}
+use Rattle.ptu_words.specs.declared.command.Command.TheVariants.{Replay, Show, Load, Serve, Slave}
 
 -- the program, whose words begin behind its name, with a required subcommand
 abbrev pub program : App
@@ -17,10 +17,16 @@ program =
 abbrev pub load_line : App
 load_line = with_rule (new_app (codes "load")) (record (new_rule (codes "N")) { required = true })
 
+-- with a subcommand of this name, without arguments of its own
+abbrev pub with_bare : App → Text → App
+with_bare line name = with_subcommand line (new_app name).top
+
 -- its command line: a subcommand for each command, without further arguments
 abbrev pub command_line : App
 command_line =
-    with_subcommand (with_subcommand (with_subcommand program (new_app (codes "replay")).top) (new_app (codes "show")).top) load_line.top
+    with_bare (with_bare
+    (with_subcommand (with_bare (with_bare program (codes "replay")) (codes "show")) load_line.top)
+    (codes "serve")) (codes "slave")
 
 -- a load of the number that the value writes, from 1 to 2000
 abbrev pub load_of : Option Text → Option Command
@@ -32,6 +38,8 @@ abbrev pub IsInRange : Command → Type 0
 IsInRange Replay = Unit {0}
 IsInRange Show = Unit {0}
 IsInRange (Load number) = (1 ≤ number) × (number ≤ 2000)
+IsInRange Serve = Unit {0}
+IsInRange Slave = Unit {0}
 
 -- the command of a name, with this value
 abbrev pub command_named : Text → Option Text → Option Command
@@ -39,6 +47,8 @@ command_named name value =
     if bytes_eq name (codes "replay") then Some Replay
     else if bytes_eq name (codes "show") then Some Show
     else if bytes_eq name (codes "load") then load_of value
+    else if bytes_eq name (codes "serve") then Some Serve
+    else if bytes_eq name (codes "slave") then Some Slave
     else None
 
 -- that of a subcommand with these arguments

@@ -12,6 +12,10 @@ pub enum Command {
     Show,
     /// Make and replay a load of so many clients, from 1 to 2000.
     Load(u64),
+    /// Serve as a grandmaster.
+    Serve,
+    /// Run a slave.
+    Slave,
 }
 
 // A load of the number that the value writes.
@@ -35,6 +39,10 @@ impl Command {
             Some(Command::Show)
         } else if name == "load" {
             load(value)
+        } else if name == "serve" {
+            Some(Command::Serve)
+        } else if name == "slave" {
+            Some(Command::Slave)
         } else {
             None
         }

@@ -14,6 +14,8 @@ fn whole_line<'a>(alloc: Global) -> Result<clap::Command<'a>, AllocError>
 {
     let replay = clap::Command::new(alloc, "replay");
     let show = clap::Command::new(alloc, "show");
+    let serve = clap::Command::new(alloc, "serve");
+    let slave = clap::Command::new(alloc, "slave");
     let number = Arg::new(alloc, "N").required(true);
     let load = clap::Command::new(alloc, "load").arg(number)?;
     let program = clap::Command::new(alloc, "ptpuni")
@@ -22,7 +24,9 @@ fn whole_line<'a>(alloc: Global) -> Result<clap::Command<'a>, AllocError>
         .disable_help_subcommand(true);
     let line = program.subcommand(replay)?;
     let line = line.subcommand(show)?;
-    line.subcommand(load)
+    let line = line.subcommand(load)?;
+    let line = line.subcommand(serve)?;
+    line.subcommand(slave)
 }
 
 // What matches ask for.

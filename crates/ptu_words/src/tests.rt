@@ -8,6 +8,8 @@ fn words_are_read(rt: HostRuntime) -> Result<(), OutOfMemory> {
         (["replay"].as_slice(), Some(Command::Replay)),
         (["show"].as_slice(), Some(Command::Show)),
         (["load", "5"].as_slice(), Some(Command::Load(5))),
+        (["serve"].as_slice(), Some(Command::Serve)),
+        (["slave"].as_slice(), Some(Command::Slave)),
         (["load", "2001"].as_slice(), None),
         (["show", "x"].as_slice(), None),
         (["help"].as_slice(), None),

@@ -5,7 +5,7 @@ use Rattle.ptu_words.specs.declared.command.Command.TheVariants.{Load, Replay}
 use Rattle.ptu_words.specs.CommandLine.{IsRefused, command_of}
 use Rattle.ptu_words.proofs.Matching.{refused, unnamed}
 use Rattle.ptu_world.specs.Report.{report_lines}
-use Rattle.ptpuni.specs.Run.{HasRun, stock_of}
+use Rattle.ptpuni.specs.Run.{HasRun, IsOfLab, stock_of}
 use Rattle.ptpuni.proofs.Answered.{zero_at_end}
 use Rattle.ptpuni.proofs.run.run.Goals as goal
 
@@ -25,24 +25,26 @@ returns-in-Ok-Some-clause-untouched g c = λ h.
     absurd (not_refused (map (λ w. w.now) c.args.words.now) c.in-Ok-Some.command (sym c.in-Ok-Some.field-0-is ∙ c.in-Ok-Some.ensures.command) h)
 
 pub returns-in-Ok-Some-clause-output : goal.returns-in-Ok-Some-clause-output
-returns-in-Ok-Some-clause-output g c = λ command is input told still_source still_sink memory.
+returns-in-Ok-Some-clause-output g c = λ command is lab input told still_source still_sink memory.
+    let same = one_command (map (λ w. w.now) c.args.words.now) c.in-Ok-Some.command command (sym c.in-Ok-Some.field-0-is ∙ c.in-Ok-Some.ensures.command) is in
     subst (λ k. HasRun g.K.Sink.written g.K.Sink.handed c.args.sink.now c.run_command.new.sink (stock_of c.args.stock.flags.items c.args.stock.gaps.items) k input (g.S.Source.left c.run_command.new.source) c.run_command.result)
-    (one_command (map (λ w. w.now) c.args.words.now) c.in-Ok-Some.command command (sym c.in-Ok-Some.field-0-is ∙ c.in-Ok-Some.ensures.command) is)
-    (c.run_command.ensures.output input told still_source still_sink memory)
+    same
+    (c.run_command.ensures.output (subst IsOfLab (sym same) lab) input told still_source still_sink memory)
 
 pub returns-in-Ok-Some-clause-answered : goal.returns-in-Ok-Some-clause-answered
-returns-in-Ok-Some-clause-answered g c = λ ended command is input told.
+returns-in-Ok-Some-clause-answered g c = λ ended command is lab input told.
+    let same = one_command (map (λ w. w.now) c.args.words.now) c.in-Ok-Some.command command (sym c.in-Ok-Some.field-0-is ∙ c.in-Ok-Some.ensures.command) is in
     subst (λ k. HasRun g.K.Sink.written g.K.Sink.handed c.args.sink.now c.run_command.new.sink (stock_of c.args.stock.flags.items c.args.stock.gaps.items) k input (g.S.Source.left c.run_command.new.source) c.run_command.result)
-    (one_command (map (λ w. w.now) c.args.words.now) c.in-Ok-Some.command command (sym c.in-Ok-Some.field-0-is ∙ c.in-Ok-Some.ensures.command) is)
-    (c.run_command.ensures.answered ended input told)
+    same
+    (c.run_command.ensures.answered ended (subst IsOfLab (sym same) lab) input told)
 
 pub returns-in-Ok-Some-clause-status : goal.returns-in-Ok-Some-clause-status
 returns-in-Ok-Some-clause-status g c = λ ended is script told.
     let stock = stock_of c.args.stock.flags.items c.args.stock.gaps.items in
+    let same = one_command (map (λ w. w.now) c.args.words.now) c.in-Ok-Some.command Replay (sym c.in-Ok-Some.field-0-is ∙ c.in-Ok-Some.ensures.command) is in
     let run : HasRun g.K.Sink.written g.K.Sink.handed c.args.sink.now c.run_command.new.sink stock Replay script (g.S.Source.left c.run_command.new.source) c.run_command.result =
     subst (λ k. HasRun g.K.Sink.written g.K.Sink.handed c.args.sink.now c.run_command.new.sink stock k script (g.S.Source.left c.run_command.new.source) c.run_command.result)
-    (one_command (map (λ w. w.now) c.args.words.now) c.in-Ok-Some.command Replay (sym c.in-Ok-Some.field-0-is ∙ c.in-Ok-Some.ensures.command) is)
-    (c.run_command.ensures.answered ended script told) in
+    same (c.run_command.ensures.answered ended (subst IsOfLab (sym same) tt) script told) in
     zero_at_end (report_lines stock script) (g.S.Source.left c.run_command.new.source) c.run_command.result run.status_is (run.read_whole refl)
 
 pub returns-in-Ok-None-clause-usage : goal.returns-in-Ok-None-clause-usage
@@ -50,7 +52,7 @@ returns-in-Ok-None-clause-usage g c = λ _.
     unnamed (map (λ w. w.now) c.args.words.now) (sym (sym c.in-Ok-None.field-0-is ∙ c.in-Ok-None.ensures.command))
 
 pub returns-in-Err-clause-front : goal.returns-in-Err-clause-front
-returns-in-Err-clause-front g c = λ command is input told. HasPutPart-none g.K.Sink.written g.K.Sink.handed c.args.sink.now _
+returns-in-Err-clause-front g c = λ command is lab input told. HasPutPart-none g.K.Sink.written g.K.Sink.handed c.args.sink.now _
 
 pub returns-in-Ok-Some-clause-loaded : goal.returns-in-Ok-Some-clause-loaded
 returns-in-Ok-Some-clause-loaded g c = λ number is.

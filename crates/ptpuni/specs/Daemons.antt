@@ -1,0 +1,119 @@
+-- What a run of a daemon comes to: it reads its settings, opens its ports, and writes its output.
+use Rattle.std.specs.Prelude.{◌≡◌, ◌⊎◌, ℕ, List, [], ◌∷◌, Option, Some, None, Result, Ok, Err}
+use Rattle.ptu_outside.specs.declared.clock.Clock.{Ghosts as Clocks}
+use Rattle.ptu_outside.specs.declared.opened.Opened.{Opened}
+use Rattle.ptu_outside.specs.declared.port.Port.{Ghosts as Ports}
+use Rattle.ptu_outside.specs.Handing.{HasPut, HasPutFront, HasPutPart}
+use Rattle.ptu_config.specs.declared.key.Key.{Key}
+use Rattle.ptu_config.specs.declared.settings.GmSettings.{GmSettings}
+use Rattle.ptu_config.specs.declared.settings.SlaveSettings.{SlaveSettings}
+use Rattle.ptu_config.specs.Entries.{gm_entries, slave_entries}
+use Rattle.ptu_config.specs.Rules.{Value}
+use Rattle.ptu_setup.specs.declared.fault.SetupFault.TheVariants.{Refused}
+use Rattle.ptu_setup.specs.declared.refusal.RefusalLine.{RefusalLine}
+use Rattle.ptu_setup.specs.Reading.{Answers, HasSetUp, HasTakenSome}
+use Rattle.ptu_setup.specs.Refusals.{gm_refusal, refusal_text, slave_refusal}
+use Rattle.ptu_rounds.specs.declared.fault.DaemonFault.{DaemonFault}
+use Rattle.ptu_rounds.specs.declared.fault.DaemonFault.TheVariants.{Open, Write, OutOfMemory}
+use Rattle.ptu_daemon.specs.Served.{Said, closing_line}
+use Rattle.ptu_daemon.specs.Serving.{HasServed}
+use Rattle.ptu_slave_daemon.specs.declared.line.SlaveLine.{SlaveLine}
+use Rattle.ptu_slave_daemon.specs.Answers.{WasGivenBack, WasOpened}
+use Rattle.ptu_slave_daemon.specs.Lines.{texts_of}
+use Rattle.ptu_slave_daemon.specs.Served.{HasStopped, HasServed as HasFollowed}
+
+-- the status of what a daemon answers
+abbrev pub status_of_daemon : {A : Type 0} → Result A DaemonFault → ℕ
+status_of_daemon (Ok x) = 0
+status_of_daemon (Err Open) = 69
+status_of_daemon (Err Write) = 67
+status_of_daemon (Err OutOfMemory) = 71
+
+-- ---- settings, which have these entries and are refused so
+
+module _ {A : Type 0} (entries : A → List (Key × Value)) (refusal : List ℕ → Option RefusalLine) (left left' : Option (List ℕ)) where
+  -- the source had these settings left, which are not refused, and was read to its end
+  pub record HasSettings (settings : A) : Type 0 where
+    pub read : HasSetUp entries refusal (Ok settings) left left'
+    pub input : (input : List ℕ) → left ≡ Some input → Answers entries refusal input (Ok settings)
+
+  -- what the source had left is refused by this line
+  pub record IsRefusedBy (line : RefusalLine) : Type 0 where
+    pub read : HasSetUp entries refusal (Err (Refused line)) left left'
+    pub input : (input : List ℕ) → left ≡ Some input → refusal input ≡ Some line
+
+-- ---- a run
+
+-- A daemon's run ended with this status. `Done` says of settings what the daemon did where it came to its end and its output was
+-- written whole, `Part` what it did where the sink failed, and `Stopped` where no memory was found.
+module _ {A K H : Type 0} (entries : A → List (Key × Value)) (refusal : List ℕ → Option RefusalLine) (left left' : Option (List ℕ))
+    (written : K → Option (List ℕ)) (handed : K → Option (List (List ℕ))) (old new : K) (host host' : H) (Done Part Stopped : A → Type 0) where
+  pub record HasRunDaemon (status : ℕ) : Type 0 where
+    -- at most 65537 octets were taken
+    pub taken : HasTakenSome left left'
+    -- 0: the daemon of the settings came to its end
+    pub done : status ≡ 0 → (settings : A) × HasSettings entries refusal left left' settings × Done settings
+    -- 65: the settings are refused, and the one line that says why was written; nothing was opened
+    pub refused : status ≡ 65 → (line : RefusalLine) × IsRefusedBy entries refusal left left' line
+        × HasPut written handed old new (refusal_text line ∷ []) × (host' ≡ host)
+    -- 66: nothing was opened or written
+    pub unread : status ≡ 66 → (new ≡ old) × (host' ≡ host)
+    -- 67: it was that line that was not written whole, or the output of the daemon
+    pub unwritten : status ≡ 67 → ((line : RefusalLine) × IsRefusedBy entries refusal left left' line
+        × HasPutFront written handed old new (refusal_text line) × (host' ≡ host))
+        ⊎ ((settings : A) × HasSettings entries refusal left left' settings × Part settings)
+    -- 69: there are settings, and nothing was written
+    pub unopened : status ≡ 69 → (settings : A) × HasSettings entries refusal left left' settings × (new ≡ old)
+    -- 71: nothing was written or opened, or the daemon stopped
+    pub wanting : status ≡ 71 → ((new ≡ old) × (host' ≡ host))
+        ⊎ ((settings : A) × HasSettings entries refusal left left' settings × Stopped settings)
+    -- settings that are refused are answered so, before anything is opened
+    pub refuses : (input : List ℕ) → left ≡ Some input → (line : RefusalLine) → refusal input ≡ Some line
+        → (status ≡ 65) ⊎ (status ≡ 66) ⊎ (status ≡ 67) ⊎ (status ≡ 71)
+    -- and others are not
+    pub accepts : (input : List ℕ) → left ≡ Some input → refusal input ≡ None
+        → (status ≡ 0) ⊎ (status ≡ 66) ⊎ (status ≡ 67) ⊎ (status ≡ 69) ⊎ (status ≡ 71)
+
+-- ---- the word `serve`
+
+module _ {K P C : Type 0} (ports : Ports P) (clocks : Clocks C) (written : K → Option (List ℕ)) (handed : K → Option (List (List ℕ)))
+    (old new : K) (opening back : Option (Opened P C)) where
+  -- a grandmaster of these settings was served, over the ports and clocks that were opened and are given back, and the one line
+  -- with its numbers was written
+  abbrev pub ServedWhole : GmSettings → Type 0
+  ServedWhole settings = (said : Said) × HasPut written handed old new (closing_line settings.rounds said ∷ [])
+      × HasServed ports clocks settings opening back said
+
+  -- the line was not written whole
+  abbrev pub ServedInPart : GmSettings → Type 0
+  ServedInPart settings = (said : Said) × HasPutFront written handed old new (closing_line settings.rounds said)
+      × HasServed ports clocks settings opening back said
+
+  -- a run with the word `serve` ended with this status
+  abbrev pub HasRunServe : {H : Type 0} → Option (List ℕ) → Option (List ℕ) → H → H → ℕ → Type 0
+  HasRunServe left left' host host' status =
+      HasRunDaemon gm_entries gm_refusal left left' written handed old new host host' ServedWhole ServedInPart (λ settings. new ≡ old) status
+
+-- ---- the word `slave`
+
+module _ {K P C : Type 0} (ports : Ports P) (clocks : Clocks C) (written : K → Option (List ℕ)) (handed : K → Option (List (List ℕ)))
+    (old new : K) (opening back : Option (Opened P C)) where
+  -- a slave of these settings ran over the ports and clocks that were opened and are given back, and its output was written whole
+  abbrev pub FollowedWhole : SlaveSettings → Type 0
+  FollowedWhole settings = (before : Opened P C) × (after : Opened P C) × WasOpened opening before × WasGivenBack back after
+      × HasFollowed ports.sent ports.waiting ports.faults clocks.moments written handed settings before after old new
+
+  -- lines of its form were written, the last one in part at most
+  abbrev pub WroteLines : Type 0
+  WroteLines = (lines : List SlaveLine) × HasPutPart written handed old new (texts_of lines)
+
+  -- the slave ran so until the sink failed
+  abbrev pub FollowedInPart : SlaveSettings → Type 0
+  FollowedInPart settings = WroteLines × ((before : Opened P C) × (after : Opened P C) × WasOpened opening before × WasGivenBack back after
+      × HasStopped ports.sent ports.waiting ports.faults clocks.moments written handed settings before after old new)
+
+  -- a run with the word `slave` ended with this status, with so many judges of flags and of gaps
+  abbrev pub HasRunSlave : {H : Type 0} → ℕ → ℕ → Option (List ℕ) → Option (List ℕ) → H → H → ℕ → Type 0
+  HasRunSlave flags gaps left left' host host' status =
+      HasRunDaemon slave_entries (slave_refusal flags gaps) left left' written handed old new host host'
+      FollowedWhole FollowedInPart (λ settings. WroteLines) status

@@ -1,0 +1,174 @@
+//! Runs of the daemons over hosts in memory.
+
+ghost use Rattle.std.specs.Prelude.{◌≡◌, IfOk, map, length};
+ghost use Rattle.ptu_judges.specs.Held.{IsStock};
+
+use crate::run::run;
+use crate::tests::{no_judges, one_judge, opened_with, port};
+use ptu_judges::{FlagJudge, Stock};
+use ptu_outside::{Arrival, Channel, Datagram, MemHost, MemPort, MemSink, MemSource};
+use std::alloc::Global;
+use std::test::Fail;
+
+const SERVE: &str = "ip = \"127.0.0.1\"\nclock = \"0a00000000000001\"\ncapacity = 8\nrounds = 1\n";
+
+const SLAVE: &str = "ip = \"127.0.0.1\"\nclock = \"0a00000000000011\"\nrounds = 1\n\
+    [[masters]]\nip = \"10.0.0.1\"\n";
+
+// A client at 10.0.1.17 asks for Announces at the logarithm 1, for 300 s.
+const ASK: [u8; 54] = [
+    0x0c, 0x12, 0x00, 0x36, 0x04, 0x00, 0x04, 0x00, 0, 0, 0, 0, 0, 0, 0, 0, 0, 0, 0, 0, 0x0a, 0, 0,
+    0, 0, 0, 0, 0x11, 0, 1, 0, 0, 5, 0x7f, 0xff, 0xff, 0xff, 0xff, 0xff, 0xff, 0xff, 0xff, 0xff,
+    0xff, 0, 4, 0, 6, 0xb0, 1, 0, 0, 1, 0x2c,
+];
+
+// It is granted that.
+const GRANT: [u8; 56] = [
+    0x0c, 0x12, 0x00, 0x38, 0x04, 0x00, 0x04, 0x00, 0, 0, 0, 0, 0, 0, 0, 0, 0, 0, 0, 0, 0x0a, 0, 0,
+    0, 0, 0, 0, 1, 0, 1, 0, 0, 5, 0x7f, 0x0a, 0, 0, 0, 0, 0, 0, 0x11, 0, 1, 0, 5, 0, 8, 0xb0, 1, 0,
+    0, 1, 0x2c, 0, 1,
+];
+
+// A datagram that waits.
+fn arrival(alloc: Global) -> Result<Arrival, Fail>
+    ensures { IfOk result (λ a. length a.bytes ≡ 54) }
+{
+    let bytes = Datagram::new(ASK.to_vec(alloc)?);
+    Ok(Arrival {
+        ip: 0x0a00_0111,
+        bytes,
+    })
+}
+
+// A port at which the client's question waits, with room for an answer.
+fn asked_port(alloc: Global) -> Result<MemPort, Fail> {
+    let waiting = vec![in alloc; arrival(alloc)?]?;
+    let mut port = MemPort::new(alloc, waiting, Vec::new(alloc), Vec::new(alloc));
+    port.reserve(4, 1024)?;
+    Ok(port)
+}
+
+// A port at which nothing waits, with room for a datagram.
+fn empty_port(alloc: Global) -> Result<MemPort, Fail> {
+    let mut port = port(alloc);
+    port.reserve(4, 1024)?;
+    Ok(port)
+}
+
+// The status and the output of a run over this host.
+fn ran(
+    alloc: Global,
+    word: &str,
+    settings: &str,
+    host: &mut MemHost,
+    stock: Stock,
+) -> Result<(u8, String), Fail>
+    requires { IsStock (map (λ j. held (j.vtable, j.value)) stock.flags.items)
+        (map (λ j. held (j.vtable, j.value)) stock.gaps.items) }
+{
+    let bytes = Vec::from_slice(alloc, settings.as_bytes())?;
+    let mut source = MemSource::new(bytes, Vec::new(alloc));
+    let mut sink = MemSink::new(alloc, Vec::new(alloc));
+    let status = run(alloc, &[word], &mut source, &mut sink, host, stock);
+    let text = String::from_utf8(sink.into_bytes())
+        .ok()
+        .ok_or("plain text")?;
+    Ok((status, text))
+}
+
+// What port 4 was sent first, where it was given back.
+fn is_answered(host: &MemHost, octets: &[u8]) -> bool {
+    match host.back() {
+        Some(ports) => match ports.p4.sent(0) {
+            Some((ip, Channel::General, bytes)) => ip == 0x0a00_0111 && bytes == octets,
+            _ => false,
+        },
+        None => false,
+    }
+}
+
+// The word `serve` with these settings, over a host in memory that fails or not.
+fn served(alloc: Global, settings: &str, fails: bool) -> Result<((u8, String), bool), Fail> {
+    let mut host = MemHost::new(opened_with(alloc, asked_port(alloc)?), fails);
+    let found = ran(alloc, "serve", settings, &mut host, no_judges(alloc))?;
+    Ok((found, is_answered(&host, &GRANT)))
+}
+
+#[test]
+fn a_grandmaster_is_served(rt: HostRuntime) -> Result<(), Fail> {
+    let alloc = rt.alloc();
+    let ((status, text), answered) = served(alloc, SERVE, false)?;
+    assert_eq!(rt;
+        text.as_str(),
+        "rounds 1 sent 1 failed 0 granted 1 refused 0 held 8\n"
+    );
+    assert_eq!(rt; status, 0);
+    assert!(rt; answered);
+    Ok(())
+}
+
+#[test]
+fn a_host_does_not_open(rt: HostRuntime) -> Result<(), Fail> {
+    let ((status, text), _) = served(rt.alloc(), SERVE, true)?;
+    assert_eq!(rt; text.as_str(), "");
+    assert_eq!(rt; status, 69);
+    Ok(())
+}
+
+#[test]
+fn settings_are_refused_before_the_host_opens(rt: HostRuntime) -> Result<(), Fail> {
+    let alloc = rt.alloc();
+    for (more, line) in [
+        ("two_step = true", "settings bad two_step\n"),
+        ("senders = 2", "settings bad senders\n"),
+        ("change_round = 1", "settings bad new_capacity\n"),
+        ("size = 1", "settings unknown\n"),
+        ("capacity = 1", "settings text\n"),
+    ] {
+        let mut settings = String::new(alloc);
+        settings.push_str(SERVE)?;
+        settings.push_str(more)?;
+        let ((status, text), _) = served(alloc, settings.as_str(), true)?;
+        assert_eq!(rt; text.as_str(), line);
+        assert_eq!(rt; status, 65);
+    }
+    let ((status, text), _) = served(
+        alloc,
+        "ip = \"127.0.0.1\"\nclock = \"0a00000000000001\"\ncapacity = 0\nrounds = 1\n",
+        true,
+    )?;
+    assert_eq!(rt; text.as_str(), "settings bad capacity\n");
+    assert_eq!(rt; status, 65);
+    Ok(())
+}
+
+// The word `slave` over a host in memory.
+fn followed(alloc: Global, stock: Stock) -> Result<(u8, String), Fail>
+    requires { IsStock (map (λ j. held (j.vtable, j.value)) stock.flags.items)
+        (map (λ j. held (j.vtable, j.value)) stock.gaps.items) }
+{
+    let mut host = MemHost::new(opened_with(alloc, empty_port(alloc)?), false);
+    ran(alloc, "slave", SLAVE, &mut host, stock)
+}
+
+#[test]
+fn a_slave_asks_and_stops(rt: HostRuntime) -> Result<(), Fail> {
+    let alloc = rt.alloc();
+    let stock = one_judge(alloc, Box::new(alloc, FlagJudge::new())?)?;
+    let (status, text) = followed(alloc, stock)?;
+    assert_eq!(rt;
+        text.as_str(),
+        "round 1 selected none\nrounds 1 sent 1 failed 0\n"
+    );
+    assert_eq!(rt; status, 0);
+    Ok(())
+}
+
+#[test]
+fn a_slave_has_no_judge(rt: HostRuntime) -> Result<(), Fail> {
+    let alloc = rt.alloc();
+    let (status, text) = followed(alloc, no_judges(alloc))?;
+    assert_eq!(rt; text.as_str(), "settings bad masters\n");
+    assert_eq!(rt; status, 65);
+    Ok(())
+}

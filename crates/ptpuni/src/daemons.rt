@@ -1,0 +1,109 @@
+//! The words `serve` and `slave`: settings in, a daemon over the host.
+
+ghost use Rattle.std.specs.Prelude.{◌≡◌, ◌≢◌, ◌⊎◌, ◌∷◌, [], length, map, Contains};
+ghost use Rattle.ptu_outside.specs.Ends.{StopsAtEnd};
+ghost use Rattle.ptu_outside.specs.Faults.{HasRisen};
+ghost use Rattle.ptu_outside.specs.Handing.{HasPut, HasPutFront};
+ghost use Rattle.ptu_judges.specs.Held.{IsStock};
+ghost use Rattle.ptu_setup.specs.Reading.{HasTakenSome};
+ghost use Rattle.ptu_setup.specs.Refusals.{refusal_text};
+ghost use Rattle.ptpuni.specs.Daemons.{HasRunServe, HasRunSlave};
+ghost use Rattle.ptpuni.specs.Run.{statuses};
+
+use crate::status::{
+    BAD_LINE, HOST_FAULT, OUT_OF_MEMORY, SINK_FAULT, SOURCE_FAULT, USAGE, daemon_status,
+};
+use ptu_daemon::serve;
+use ptu_judges::Stock;
+use ptu_outside::{Host, Sink, Source, write_whole};
+use ptu_setup::{RefusalLine, SetupFault, gm_setup, slave_setup};
+use ptu_slave_daemon::slave;
+use std::alloc::Global;
+
+// Writes the line that refuses settings, in one piece.
+fn write_refusal<K: Sink>(alloc: Global, line: RefusalLine, sink: &mut K) -> u8
+    ensures statuses { (result ≡ BAD_LINE) ⊎ (result ≡ SINK_FAULT) ⊎ (result ≡ OUT_OF_MEMORY) }
+    ensures whole { result ≡ BAD_LINE
+        → HasPut K.written K.handed sink.old sink.new (refusal_text line ∷ []) }
+    ensures part { result ≡ SINK_FAULT
+        → HasPutFront K.written K.handed sink.old sink.new (refusal_text line) }
+    ensures nothing { result ≡ OUT_OF_MEMORY → sink.new ≡ sink.old }
+    ensures fault { result ≡ SINK_FAULT → HasRisen (K.faults sink.old) (K.faults sink.new) }
+    ensures still { result ≢ SINK_FAULT → K.faults sink.new ≡ K.faults sink.old }
+{
+    let Ok(text) = format!(in alloc; "{line}") else {
+        return OUT_OF_MEMORY;
+    };
+    match write_whole(sink, text.as_bytes()) {
+        Ok(()) => BAD_LINE,
+        Err(_) => SINK_FAULT,
+    }
+}
+
+/// Serves a grandmaster over the host, by the settings that the source has left, and gives the
+/// status of that.
+pub(crate) fn run_serve<S: Source, K: Sink, H: Host>(
+    alloc: Global,
+    source: &mut S,
+    sink: &mut K,
+    host: &mut H,
+) -> u8
+    ensures statuses { Contains statuses result }
+    ensures other { result ≢ USAGE }
+    ensures served { HasRunServe H.P.Port H.C.Clock K.written K.handed sink.old sink.new
+        (H.opening host.old) (H.back host.new) (S.left source.old) (S.left source.new)
+        host.old host.new result }
+    ensures source_fault { result ≡ SOURCE_FAULT
+        → HasRisen (S.faults source.old) (S.faults source.new) }
+    ensures source_still { result ≢ SOURCE_FAULT → S.faults source.new ≡ S.faults source.old }
+    ensures sink_fault { result ≡ SINK_FAULT
+        → HasRisen (K.faults sink.old) (K.faults sink.new) }
+    ensures sink_still { result ≢ SINK_FAULT → K.faults sink.new ≡ K.faults sink.old }
+    ensures host_fault { result ≡ HOST_FAULT
+        → HasRisen (H.faults host.old) (H.faults host.new) }
+    ensures taken { HasTakenSome (S.left source.old) (S.left source.new) }
+    ensures ends { StopsAtEnd (S.ends source.old) (S.ends source.new) }
+{
+    match gm_setup(alloc, source) {
+        Ok(settings) => daemon_status(serve(alloc, &settings, host, sink)),
+        Err(SetupFault::Refused(line)) => write_refusal(alloc, line, sink),
+        Err(SetupFault::Read) => SOURCE_FAULT,
+        Err(SetupFault::OutOfMemory) => OUT_OF_MEMORY,
+    }
+}
+
+/// Runs a slave over the host, by the settings that the source has left and with judges of the
+/// stock, and gives the status of that.
+pub(crate) fn run_slave<S: Source, K: Sink, H: Host>(
+    alloc: Global,
+    source: &mut S,
+    sink: &mut K,
+    host: &mut H,
+    stock: Stock,
+) -> u8
+    requires stock { IsStock (map (λ j. held (j.vtable, j.value)) stock.flags.items)
+        (map (λ j. held (j.vtable, j.value)) stock.gaps.items) }
+    ensures statuses { Contains statuses result }
+    ensures other { result ≢ USAGE }
+    ensures followed { HasRunSlave H.P.Port H.C.Clock K.written K.handed sink.old sink.new
+        (H.opening host.old) (H.back host.new)
+        (length stock.flags.items) (length stock.gaps.items)
+        (S.left source.old) (S.left source.new) host.old host.new result }
+    ensures source_fault { result ≡ SOURCE_FAULT
+        → HasRisen (S.faults source.old) (S.faults source.new) }
+    ensures source_still { result ≢ SOURCE_FAULT → S.faults source.new ≡ S.faults source.old }
+    ensures sink_fault { result ≡ SINK_FAULT
+        → HasRisen (K.faults sink.old) (K.faults sink.new) }
+    ensures sink_still { result ≢ SINK_FAULT → K.faults sink.new ≡ K.faults sink.old }
+    ensures host_fault { result ≡ HOST_FAULT
+        → HasRisen (H.faults host.old) (H.faults host.new) }
+    ensures taken { HasTakenSome (S.left source.old) (S.left source.new) }
+    ensures ends { StopsAtEnd (S.ends source.old) (S.ends source.new) }
+{
+    match slave_setup(alloc, source, stock.flags.len(), stock.gaps.len()) {
+        Ok(settings) => daemon_status(slave(alloc, &settings, host, sink, stock)),
+        Err(SetupFault::Refused(line)) => write_refusal(alloc, line, sink),
+        Err(SetupFault::Read) => SOURCE_FAULT,
+        Err(SetupFault::OutOfMemory) => OUT_OF_MEMORY,
+    }
+}

@@ -1,0 +1,63 @@
+ghost use Rattle.std.specs.Prelude.{◌≡◌};
+ghost use Rattle.ptu_setup.specs.Refusals.{setup_fault};
+ghost use Rattle.ptu_setup.specs.declared.fault.SetupFault.TheVariants.{OutOfMemory as NoMemory, Read as HasFailed};
+
+use crate::refusal::RefusalLine;
+use ptu_config::SettingFault;
+use ptu_outside::Failed;
+use std::alloc::AllocError;
+use std::error::Error;
+use std::fmt;
+
+/// Why there are no settings.
+#[derive(Clone, Copy, Debug, PartialEq, Eq, Hash)]
+pub enum SetupFault {
+    /// They are refused, by this line of output.
+    Refused(RefusalLine),
+    /// The source failed.
+    Read,
+    /// No memory was found.
+    OutOfMemory,
+}
+
+impl fmt::Display for SetupFault {
+    fn fmt<W: fmt::Write>(&self, f: &mut fmt::Formatter<W>) -> fmt::Result {
+        match self {
+            SetupFault::Refused(_) => f.write_str("the settings are refused"),
+            SetupFault::Read => f.write_str("the source failed"),
+            SetupFault::OutOfMemory => f.write_str("out of memory"),
+        }
+    }
+}
+
+impl Error for SetupFault {}
+
+impl From<Failed> for SetupFault {
+    ghost from_gives = { λ _ fault. fault ≡ HasFailed };
+
+    fn from(_: Failed) -> SetupFault {
+        SetupFault::Read
+    }
+}
+
+impl From<AllocError> for SetupFault {
+    ghost from_gives = { λ _ fault. fault ≡ NoMemory };
+
+    fn from(_: AllocError) -> SetupFault {
+        SetupFault::OutOfMemory
+    }
+}
+
+impl From<SettingFault> for SetupFault {
+    ghost from_gives = { λ refused fault. fault ≡ setup_fault refused };
+
+    fn from(refused: SettingFault) -> SetupFault {
+        match refused {
+            SettingFault::Size => SetupFault::Refused(RefusalLine::Size),
+            SettingFault::Text => SetupFault::Refused(RefusalLine::Text),
+            SettingFault::Unknown => SetupFault::Refused(RefusalLine::Unknown),
+            SettingFault::Bad(key) => SetupFault::Refused(RefusalLine::Bad(key)),
+            SettingFault::OutOfMemory => SetupFault::OutOfMemory,
+        }
+    }
+}
