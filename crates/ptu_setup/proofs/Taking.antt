@@ -53,7 +53,7 @@ module _ {S : Type 0} (left : S → Option (List ℕ)) (ends : S → Option ℕ)
 
   -- octets behind those that were taken
   module _ (from to to' : S) (octets octets' : List ℕ) (count n : ℕ) (t : IsTaking from to octets count) (front : take count octets' ≡ take count octets) (same : length octets' ≡ length octets)
-    (read : left to ≡ prepend_known (slice_range octets' count (count + n)) (left to')) where
+      (read : left to ≡ prepend_known (slice_range octets' count (count + n)) (left to')) where
     pub IsTaking-more : count + n ≤ length octets' → CountsEnd false (ends to) (ends to') → faults to' ≡ faults to → IsTaking from to' octets' (count + n)
     IsTaking-more fits none still = record {
       size = same ∙ t.size;
