@@ -1,0 +1,4 @@
+pub mod Handling
+pub mod Turning
+pub mod Changing
+pub mod Receiving

@@ -2,3 +2,4 @@ pub mod Events
 pub mod Sends
 pub mod Served
 pub mod Serving
+pub mod Ran
