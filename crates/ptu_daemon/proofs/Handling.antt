@@ -41,7 +41,7 @@ still_fallen n = (omega arith, λ end. refl)
 
 -- ---- lengths of what is told
 
-many_none : (told : Option (List Departure)) → IfTold (option_map length told) (option_map (λ list. length list + 0) told)
+pub many_none : (told : Option (List Departure)) → IfTold (option_map length told) (option_map (λ list. length list + 0) told)
 many_none None = tt
 many_none (Some list) = ap Some (omega arith)
 
@@ -65,7 +65,7 @@ many_told (Some xs) (Some ys) sends told =
     let one : xs ++ sends ≡ ys = cc in
     ap Some (sym (length-append xs sends) ∙ ap length one)
 
-told_none : (told : Option (List Departure)) → IfTold told (append_told told [])
+pub told_none : (told : Option (List Departure)) → IfTold told (append_told told [])
 told_none None = tt
 told_none (Some list) = ap Some (append-nil list)
 

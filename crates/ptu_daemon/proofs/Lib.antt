@@ -1,4 +1,5 @@
 pub mod Handling
 pub mod Turning
 pub mod Changing
+pub mod Taking
 pub mod Receiving

@@ -3,6 +3,7 @@
 ghost use Rattle.std.specs.Prelude.{◌≡◌, ◌<◌, IfOk};
 ghost use Rattle.ptu_admit.specs.Book.{IsCapacity};
 ghost use Rattle.ptu_grandmaster.specs.declared.driving.GmEvent.{GmEvent};
+ghost use Rattle.ptu_daemon.specs.Counting.{failed_for, sent_for};
 ghost use Rattle.ptu_daemon.specs.Ran.{Does, IsSmall};
 
 use crate::tally::Tally;
@@ -44,6 +45,8 @@ pub(crate) fn change<P: Port>(
 
 // What was sent for a datagram.
 fn tally_of(taken: &Taken) -> Tally
+    ensures sent { result.sent ≡ sent_for taken.now }
+    ensures failed { result.failed ≡ failed_for taken.now }
     ensures small { IsSmall 1 result }
 {
     match taken {
