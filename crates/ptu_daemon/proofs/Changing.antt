@@ -61,10 +61,12 @@ module _ {P : Type 0} (ports : Ports P) where
   change_does t at capacity sent failed shed old new sends waiting same config found stands = record {
     config = config;
     waiting = waiting;
-    does = λ opening past stood. (stands opening past stood,
-        all_same ports (λ i. by i 4 (cancels_to old.config old.sequence (leases_shed shed))) _ 0 sent failed (five old) (five new)
-        (λ i. ap (by i 4) (sym (are opening past stood)))
-        (reply_handled old new _ sent failed same (hands_handled ports _ _ _ sent failed sends)));
+    does = λ opening past stood. (
+      stands opening past stood,
+      all_same ports (λ i. by i 4 (cancels_to old.config old.sequence (leases_shed shed))) _ 0 sent failed (five old) (five new)
+          (λ i. ap (by i 4) (sym (are opening past stood)))
+          (reply_handled old new _ sent failed same (hands_handled ports _ _ _ sent failed sends)),
+    );
   }
     where
       are : (opening : ℕ) (past : List Record) → StandsFor opening old past →

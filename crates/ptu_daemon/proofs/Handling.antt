@@ -84,6 +84,17 @@ module _ {P : Type 0} (ports : Ports P) where
   pub handled_same : (old new : P) → new ≡ old → Handled ports [] 0 0 old new
   handled_same old new same = subst (λ p. Handled ports [] 0 0 old p) (sym same) (handled_none old)
 
+  -- nothing was sent, and receives may have failed
+  pub handled_idle : (old new : P) (failed : ℕ) → ports.sent new ≡ ports.sent old → HasNotFallen (ports.faults old) (ports.faults new) →
+      HasRisenBy failed (ports.faults old) (ports.faults new) → Handled ports [] 0 failed old new
+  handled_idle old new failed same no_fall risen = record {
+    no_fall = no_fall;
+    risen = risen;
+    many = subst (λ (told : Option (List Departure)). IfTold (option_map length told) (option_map (λ list. length list + 0) (ports.sent old))) (sym same) (many_none (ports.sent old));
+    told = λ still. subst (λ (told : Option (List Departure)). IfTold told (append_told (ports.sent old) [])) (sym same) (told_none (ports.sent old));
+    all = λ still. refl;
+  }
+
   -- one after the other, some of which failed
   pub hands_handled : (old new : P) (sends : List Departure) (sent failed : ℕ) →
       HandsOver (ports.sent old) (ports.sent new) (ports.faults old) (ports.faults new) sends sent failed → Handled ports sends sent failed old new
@@ -123,10 +134,16 @@ module _ {P : Type 0} (ports : Ports P) where
   all_more xs ys zs i s f s' f' [] (p ∷ nows) news both h k = absurd h
   all_more xs ys zs i s f s' f' (p ∷ olds) [] news both h k = absurd h
   all_more xs ys zs i s f s' f' (p ∷ olds) (q ∷ nows) [] both h k = absurd k
-  all_more xs ys zs i s f s' f' (p ∷ olds) (q ∷ nows) (r ∷ news) both (s1, f1, s2, f2, e, e', h, hs) (t1, g1, t2, g2, d, d', k, ks) =
-      (s1 + t1, f1 + g1, s2 + t2, f2 + g2, omega (arith, e, d), omega (arith, e', d'),
-      subst (λ l. Handled ports l (s1 + t1) (f1 + g1) p r) (sym (both i)) (handled_more p q r (xs i) (ys i) s1 f1 t1 g1 h k),
-      all_more xs ys zs (i + 1) s2 f2 t2 g2 olds nows news both hs ks)
+  all_more xs ys zs i s f s' f' (p ∷ olds) (q ∷ nows) (r ∷ news) both (s1, f1, s2, f2, e, e', h, hs) (t1, g1, t2, g2, d, d', k, ks) = (
+    s1 + t1,
+    f1 + g1,
+    s2 + t2,
+    f2 + g2,
+    omega (arith, e, d),
+    omega (arith, e', d'),
+    subst (λ l. Handled ports l (s1 + t1) (f1 + g1) p r) (sym (both i)) (handled_more p q r (xs i) (ys i) s1 f1 t1 g1 h k),
+    all_more xs ys zs (i + 1) s2 f2 t2 g2 olds nows news both hs ks,
+  )
 
   pub all_same : (xs ys : ℕ → List Departure) (i s f : ℕ) (olds news : List P) → ((k : ℕ) → ys k ≡ xs k) → AllHandled ports xs i s f olds news →
       AllHandled ports ys i s f olds news
@@ -143,9 +160,40 @@ module _ {P : Type 0} (ports : Ports P) where
       Handled ports (sends 4) s4 f4 old.reply new.reply →
       sent ≡ s0 + (s1 + (s2 + (s3 + (s4 + 0)))) → failed ≡ f0 + (f1 + (f2 + (f3 + (f4 + 0)))) →
       AllHandled ports sends 0 sent failed (five old) (five new)
-  five_handled sends old new s0 f0 s1 f1 s2 f2 s3 f3 s4 f4 sent failed h0 h1 h2 h3 h4 e e' =
-      (s0, f0, s1 + (s2 + (s3 + (s4 + 0))), f1 + (f2 + (f3 + (f4 + 0))), e, e', h0,
-      (s1, f1, s2 + (s3 + (s4 + 0)), f2 + (f3 + (f4 + 0)), refl, refl, h1,
-      (s2, f2, s3 + (s4 + 0), f3 + (f4 + 0), refl, refl, h2,
-      (s3, f3, s4 + 0, f4 + 0, refl, refl, h3,
-      (s4, f4, 0, 0, refl, refl, h4, (refl, refl))))))
+  five_handled sends old new s0 f0 s1 f1 s2 f2 s3 f3 s4 f4 sent failed h0 h1 h2 h3 h4 e e' = (
+    s0,
+    f0,
+    s1 + (s2 + (s3 + (s4 + 0))),
+    f1 + (f2 + (f3 + (f4 + 0))),
+    e,
+    e',
+    h0,
+    (
+      s1,
+      f1,
+      s2 + (s3 + (s4 + 0)),
+      f2 + (f3 + (f4 + 0)),
+      refl,
+      refl,
+      h1,
+      (
+        s2,
+        f2,
+        s3 + (s4 + 0),
+        f3 + (f4 + 0),
+        refl,
+        refl,
+        h2,
+        (
+          s3,
+          f3,
+          s4 + 0,
+          f4 + 0,
+          refl,
+          refl,
+          h3,
+          (s4, f4, 0, 0, refl, refl, h4, (refl, refl)),
+        ),
+      ),
+    ),
+  )

@@ -2,4 +2,5 @@ pub mod Handling
 pub mod Turning
 pub mod Changing
 pub mod Taking
+pub mod Running
 pub mod Receiving

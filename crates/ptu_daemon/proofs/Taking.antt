@@ -34,7 +34,7 @@ use Rattle.ptu_daemon.specs.Counting.{failed_for, reply_failed, reply_sent, sent
 use Rattle.ptu_daemon.specs.Ran.{AllHandled, Does, Handled, five, standing_as}
 use Rattle.ptu_daemon.specs.Sends.{by, heard_sends}
 use Rattle.ptu_daemon.proofs.Changing.{reply_handled}
-use Rattle.ptu_daemon.proofs.Handling.{all_same, five_handled, handled_same, hands_handled, many_none, many_told, still_fallen, told_none}
+use Rattle.ptu_daemon.proofs.Handling.{all_same, five_handled, handled_idle, handled_same, hands_handled, many_told, still_fallen}
 use Rattle.ptu_daemon.proofs.Turning.{table_handled}
 
 -- a table is one of the four
@@ -79,13 +79,8 @@ module _ {P : Type 0} (ports : Ports P) where
   }
 
   nothing_handled : (old new : P) → ports.sent new ≡ ports.sent old → ports.faults new ≡ ports.faults old → Handled ports [] 0 0 old new
-  nothing_handled old new same quiet = record {
-    no_fall = subst (λ n. HasNotFallen (ports.faults old) n) (sym quiet) (still_fallen (ports.faults old));
-    risen = inl (omega (arith, quiet));
-    many = subst (λ (told : Option (List Departure)). IfTold (option_map length told) (option_map (λ list. length list + 0) (ports.sent old))) (sym same) (many_none (ports.sent old));
-    told = λ still. subst (λ (told : Option (List Departure)). IfTold told (append_told (ports.sent old) [])) (sym same) (told_none (ports.sent old));
-    all = λ still. refl;
-  }
+  nothing_handled old new same quiet =
+      handled_idle ports old new 0 same (subst (λ n. HasNotFallen (ports.faults old) n) (sym quiet) (still_fallen (ports.faults old))) (inl (omega (arith, quiet)))
 
   -- what became of a reply, of which there is none where there is nothing to answer
   reply_of : (reply : Reply) (old new : P) (d : Departure) (sends : List Departure) →
@@ -194,6 +189,8 @@ module _ {P : Type 0} (ports : Ports P) where
   take_does t from octets taken sent failed old new many lost answer ignored delay reply same waiting config comes stands = record {
     config = config;
     waiting = waiting;
-    does = λ opening past stood. (stands opening past stood,
-        rw (many, lost) (taken_sends old new t from opening past (heard_in old.config octets) taken answer ignored delay reply same (comes opening past stood)));
+    does = λ opening past stood. (
+      stands opening past stood,
+      rw (many, lost) (taken_sends old new t from opening past (heard_in old.config octets) taken answer ignored delay reply same (comes opening past stood)),
+    );
   }

@@ -68,10 +68,12 @@ module _ {P : Type 0} (ports : Ports P) where
   turn_does t j at sent failed old new below sends rest messages stands = record {
     config = table_config j old new below rest;
     waiting = ap ports.waiting (table_reply j old new below rest);
-    does = λ opening past stood. (stands opening past stood,
-        all_same ports (λ i. by i j (map (departure_of old.config at) (due_messages at (table_at j old).rows))) _ 0 sent failed (five old) (five new)
-        (λ i. ap (by i j) (sym (are opening past stood)))
-        (table_handled j old new _ sent failed below rest (hands_handled ports _ _ _ sent failed sends)));
+    does = λ opening past stood. (
+      stands opening past stood,
+      all_same ports (λ i. by i j (map (departure_of old.config at) (due_messages at (table_at j old).rows))) _ 0 sent failed (five old) (five new)
+          (λ i. ap (by i j) (sym (are opening past stood)))
+          (table_handled j old new _ sent failed below rest (hands_handled ports _ _ _ sent failed sends)),
+    );
   }
     where
       are : (opening : ℕ) (past : List Record) → StandsFor opening old past →

@@ -12,9 +12,10 @@ use Rattle.ptu_history.specs.History.{Record}
 use Rattle.ptu_grandmaster.specs.declared.driving.GmEvent.{GmEvent}
 use Rattle.ptu_grandmaster.specs.Gm.{KeptGm, StandsFor}
 use Rattle.ptu_config.specs.declared.settings.GmSettings.{GmSettings}
-use Rattle.ptu_rounds.specs.Ports.{HaveNotRisen}
-use Rattle.ptu_rounds.specs.Rounds.{in_rounds, left_after, moments_after, timed}
+use Rattle.ptu_rounds.specs.Rounds.{in_rounds, left_after, moments_after, most, timed}
 use Rattle.ptu_daemon.specs.declared.daemon.Daemon.{Daemon}
+use Rattle.ptu_daemon.specs.declared.next.Next.{Next}
+use Rattle.ptu_daemon.specs.declared.next.Next.TheVariants as nexts
 use Rattle.ptu_daemon.specs.declared.tally.Tally.{Tally}
 use Rattle.ptu_daemon.specs.Events.{Given, Happening, change_in, round_of, taking, turns}
 use Rattle.ptu_daemon.specs.Sends.{Standing, event_sends, sends_by, standing_after}
@@ -111,31 +112,35 @@ abbrev pub port_of : {P C : Type 0} → Channel → Daemon P C → P
 port_of channels.General daemon = daemon.gm.reply
 port_of channels.Event daemon = daemon.event
 
--- where it did not fail, all that waited were received, or as many as a round takes
-abbrev pub Drains : {P : Type 0} → Ports P → P → P → List Arrival → Type 0
-Drains ports old new arrivals =
-    ¬ HasRisen (ports.faults old) (ports.faults new) → IfSome (ports.waiting new)
-    (λ left. (length arrivals ≡ 64) ⊎ ((length arrivals ≤ 64) × (left ≡ [])))
+-- where nothing failed, all that waited were received, or as many as a round takes
+abbrev pub Drains : {P : Type 0} → Ports P → ℕ → P → List Arrival → Type 0
+Drains ports failed new arrivals =
+    failed ≡ 0 → IfSome (ports.waiting new) (λ left. (length arrivals ≡ most) ⊎ ((length arrivals ≤ most) × (left ≡ [])))
+
+-- what came of the next datagram of a channel: it was received and taken, none waited, or the receive failed
+abbrev pub CameTo : {P C : Type 0} → Ports P → Clocks C → Channel → Daemon P C → Daemon P C → Next → Type 0
+CameTo ports clocks channel old new (nexts.Taken tally) =
+    (arrival : Arrival) × Ran ports clocks old new (taking arrival ∷ []) (on_general channel (arrival ∷ [])) (on_event channel (arrival ∷ [])) tally.sent tally.failed
+    × IsSmall 1 tally
+CameTo ports clocks channel old new nexts.Nothing =
+    Ran ports clocks old new [] [] [] 0 0 × IfSome (ports.waiting (port_of channel new)) (λ left. left ≡ [])
+CameTo ports clocks channel old new nexts.Failed = Ran ports clocks old new [] [] [] 0 1
 
 -- the daemon took what waits on one channel
 pub record TookChannel {P C : Type 0} (ports : Ports P) (clocks : Clocks C) (channel : Channel) (old new : Daemon P C) (tally : Tally) : Type 0 where
   pub arrivals : List Arrival
   pub ran : Ran ports clocks old new (map taking arrivals) (on_general channel arrivals) (on_event channel arrivals) tally.sent tally.failed
-  pub drains : Drains ports (port_of channel old) (port_of channel new) arrivals
+  pub drains : Drains ports tally.failed (port_of channel new) arrivals
 
 -- the daemon did a round, before which there were so many
 pub record DidRound {P C : Type 0} (ports : Ports P) (clocks : Clocks C) (settings : GmSettings) (before : ℕ) (old new : Daemon P C) (tally : Tally) : Type 0 where
   pub general : List Arrival
   pub event : List Arrival
   pub ran : Ran ports clocks old new (change_in settings before ++ map taking (general ++ event) ++ turns) general event tally.sent tally.failed
-  pub general_drains : Drains ports old.gm.reply new.gm.reply general
-  pub event_drains : Drains ports old.event new.event event
+  pub general_drains : Drains ports tally.failed new.gm.reply general
+  pub event_drains : Drains ports tally.failed new.event event
 
 -- ---- rounds
-
--- the counts of faults of its six ports
-abbrev pub six_faults : {P C : Type 0} → Ports P → Daemon P C → List ℕ
-six_faults ports daemon = map ports.faults (five daemon.gm) ++ ports.faults daemon.event ∷ []
 
 -- what waits at its two ports
 abbrev pub Waits : {P C : Type 0} → Ports P → Daemon P C → List Arrival → List Arrival → Type 0
@@ -147,7 +152,7 @@ pub record DidRounds {P C : Type 0} (ports : Ports P) (clocks : Clocks C) (setti
   pub general : List Arrival
   pub event : List Arrival
   pub ran : Ran ports clocks old new happenings general event tally.sent tally.failed
-  pub all : (given : Given) (general_left event_left : List Arrival) → HaveNotRisen (six_faults ports old) (six_faults ports new) →
+  pub all : (given : Given) (general_left event_left : List Arrival) → tally.failed ≡ 0 →
       Waits ports old given.general given.event → Waits ports new general_left event_left →
       (happenings ≡ in_rounds (round_of settings given) rounds)
       × (general_left ≡ left_after rounds given.general) × (event_left ≡ left_after rounds given.event)

@@ -3,6 +3,7 @@
 
 mod daemon;
 mod events;
+mod next;
 mod serving;
 mod tally;
 
