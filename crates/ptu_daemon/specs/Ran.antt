@@ -1,9 +1,10 @@
 -- What a part of the daemon has done so far.
-use Rattle.std.specs.Prelude.{◌≡◌, ◌⊎◌, ℕ, ◌+◌, ◌*◌, ◌^◌, ◌≤◌, List, [], ◌∷◌, ◌++◌, length, map, flat_map, Option, Some, IfSome, option_map}
+use Rattle.std.specs.Prelude.{◌≡◌, ◌⊎◌, ℕ, ◌+◌, ◌*◌, ◌^◌, ◌≤◌, List, [], ◌∷◌, ◌++◌, length, map, flat_map, take, Option, Some, None, Result, Ok, Err, IfSome, option_map}
 use Rattle.ptu_outside.specs.declared.arrival.Arrival.{Arrival}
 use Rattle.ptu_outside.specs.declared.channel.Channel.{Channel}
 use Rattle.ptu_outside.specs.declared.channel.Channel.TheVariants as channels
 use Rattle.ptu_outside.specs.declared.clock.Clock.{Ghosts as Clocks}
+use Rattle.ptu_outside.specs.declared.failed.Failed.{Failed}
 use Rattle.ptu_outside.specs.declared.port.Port.{Ghosts as Ports}
 use Rattle.ptu_outside.specs.Departure.{Departure}
 use Rattle.ptu_outside.specs.Faults.{HasNotFallen, HasRisen, HasRisenBy}
@@ -98,6 +99,10 @@ pub record Ran {P C : Type 0} (ports : Ports P) (clocks : Clocks C) (old new : D
 abbrev pub IsSmall : ℕ → Tally → Type 0
 IsSmall steps tally = (tally.sent ≤ steps * 2 ^ 64) × (tally.failed ≤ steps * 2 ^ 64)
 
+-- the datagram that came from the address
+abbrev pub arrived : ℕ → List ℕ → Arrival
+arrived from bytes = record { ip = from; bytes = bytes }
+
 -- of what is received of one channel, that of the general, and of the event channel
 abbrev pub on_general : Channel → List Arrival → List Arrival
 on_general channels.General arrivals = arrivals
@@ -116,6 +121,15 @@ port_of channels.Event daemon = daemon.event
 abbrev pub Drains : {P : Type 0} → Ports P → ℕ → P → List Arrival → Type 0
 Drains ports failed new arrivals =
     failed ≡ 0 → IfSome (ports.waiting new) (λ left. (length arrivals ≡ most) ⊎ ((length arrivals ≤ most) × (left ≡ [])))
+
+-- what a receive of the channel, to these octets, gave
+abbrev pub Received : {P C : Type 0} → Ports P → Clocks C → Channel → Daemon P C → Daemon P C → List ℕ → Result (Option (ℕ × ℕ)) Failed → Type 0
+Received ports clocks channel old new bytes (Ok (Some got)) =
+    (got.1 ≤ 2048)
+    × Ran ports clocks old new [] (on_general channel (arrived got.0 (take got.1 bytes) ∷ [])) (on_event channel (arrived got.0 (take got.1 bytes) ∷ [])) 0 0
+Received ports clocks channel old new bytes (Ok None) =
+    Ran ports clocks old new [] [] [] 0 0 × IfSome (ports.waiting (port_of channel new)) (λ left. left ≡ [])
+Received ports clocks channel old new bytes (Err failed) = Ran ports clocks old new [] [] [] 0 1
 
 -- what came of the next datagram of a channel: it was received and taken, none waited, or the receive failed
 abbrev pub CameTo : {P C : Type 0} → Ports P → Clocks C → Channel → Daemon P C → Daemon P C → Next → Type 0

@@ -1,11 +1,11 @@
 //! A grandmaster with the port of its event channel and its clock, and the rounds that it does.
 
-ghost use Rattle.std.specs.Prelude.{◌≡◌, ◌<◌, ◌≤◌, ◌+◌, ◌^◌, ◌∷◌, [], true, take, IfOk, OnErr, IfSome, IfNone};
+ghost use Rattle.std.specs.Prelude.{◌≡◌, ◌<◌, ◌+◌, ◌^◌, ◌∷◌, [], true, IfOk, IfSome};
 ghost use Rattle.ptu_admit.specs.Book.{IsCapacity};
 ghost use Rattle.ptu_grandmaster.specs.declared.driving.GmEvent.{GmEvent};
 ghost use Rattle.ptu_config.specs.Limits.{IsGmInRange};
 ghost use Rattle.ptu_daemon.specs.Events.{change_in, change_to, taking, turns};
-ghost use Rattle.ptu_daemon.specs.Ran.{CameTo, DidRound, DidRounds, IsSmall, Ran, TookChannel, on_event, on_general, port_of};
+ghost use Rattle.ptu_daemon.specs.Ran.{CameTo, DidRound, DidRounds, IsSmall, Ran, Received, TookChannel, arrived};
 
 use crate::events;
 use crate::next::Next;
@@ -97,7 +97,7 @@ impl<P: Port, C: Clock> Daemon<P, C> {
     // Takes a datagram at a new moment, which came from this IPv4 address.
     fn take(&mut self, from: u32, bytes: &[u8]) -> Result<Tally, OutOfMemory>
         ensures ran { IfOk result (λ tally. Ran P.Port C.Clock self.old self.new
-            (taking (record { ip = from; bytes = bytes.now }) ∷ []) [] [] tally.sent tally.failed) }
+            (taking (arrived from bytes.now) ∷ []) [] [] tally.sent tally.failed) }
         ensures small { IfOk result (λ tally. IsSmall 1 tally) }
     {
         let at = self.clock.now();
@@ -110,16 +110,7 @@ impl<P: Port, C: Clock> Daemon<P, C> {
         channel: Channel,
         buf: &mut [u8; 2048],
     ) -> Result<Option<(u32, usize)>, Failed>
-        ensures within { IfOk result (λ got. IfSome got (λ a. a.1 ≤ 2048)) }
-        ensures given { IfOk result (λ got. IfSome got (λ a.
-            let arrival = record { ip = a.0; bytes = take a.1 buf.new } in
-            Ran P.Port C.Clock self.old self.new [] (on_general channel (arrival ∷ []))
-            (on_event channel (arrival ∷ [])) 0 0)) }
-        ensures nothing { IfOk result (λ got. IfNone got
-            (Ran P.Port C.Clock self.old self.new [] [] [] 0 0)) }
-        ensures empty { IfOk result (λ got. IfNone got
-            (IfSome (P.waiting (port_of channel self.new)) (λ left. left ≡ []))) }
-        ensures failed { OnErr result (Ran P.Port C.Clock self.old self.new [] [] [] 0 1) }
+        ensures { Received P.Port C.Clock channel self.old self.new buf.new result }
     {
         match channel {
             Channel::General => self.gm.ports(SIGNALING_PORT).receive(buf),
