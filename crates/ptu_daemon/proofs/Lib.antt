@@ -4,3 +4,4 @@ pub mod Changing
 pub mod Taking
 pub mod Running
 pub mod Receiving
+pub mod Channels

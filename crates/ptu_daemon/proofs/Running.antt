@@ -190,3 +190,11 @@ module _ {P C : Type 0} (ports : Ports P) (clocks : Clocks C) where
           all_more ports (λ i. sends_by gm i h.events) (λ i. sends_by (standing_as now.gm opening ((after_all gm h.events).past)) i k.events)
           (λ i. sends_by gm i (h.events ++ k.events)) 0 s h.others_failed s' k.others_failed (five old.gm) (five now.gm) (five new.gm)
           (λ i. sends_by-append gm i h.events k.events ∙ ap (λ g. sends_by gm i h.events ++ sends_by g i k.events) (sym is)) one.1 two.1)
+
+  -- the same, said otherwise
+  pub ran_as : (old new : Daemon P C) (xs xs' : List Happening) (gs gs' es es' : List Arrival) (s s' f f' : ℕ) →
+      xs ≡ xs' → gs ≡ gs' → es ≡ es' → s ≡ s' → f ≡ f' → Ran ports clocks old new xs gs es s f → Ran ports clocks old new xs' gs' es' s' f'
+  ran_as old new xs xs' gs gs' es es' s s' f f' a b c d e h =
+      subst (λ x. Ran ports clocks old new x gs' es' s' f') a (subst (λ x. Ran ports clocks old new xs x es' s' f') b
+      (subst (λ x. Ran ports clocks old new xs gs x s' f') c (subst (λ x. Ran ports clocks old new xs gs es x f') d
+      (subst (λ x. Ran ports clocks old new xs gs es s x) e h))))
