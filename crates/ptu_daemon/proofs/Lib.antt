@@ -5,3 +5,5 @@ pub mod Taking
 pub mod Running
 pub mod Receiving
 pub mod Channels
+pub mod Rounds
+pub mod Finishing

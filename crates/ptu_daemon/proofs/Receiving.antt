@@ -67,23 +67,29 @@ module _ {P C : Type 0} (ports : Ports P) (clocks : Clocks C) where
   pub received_general : (old : Daemon P C) (port' : P) (bytes : List ℕ) (result : Result (Option (ℕ × ℕ)) Failed) →
       Receives old.gm.reply port' bytes result →
       Received ports clocks channels.General old (record old { gm = record (old.gm) { reply = port' } }) bytes result
-  received_general old port' bytes (Ok (Some got)) r =
-      (r.within, came_general old port' (arrived got.0 (take got.1 bytes) ∷ []) 0 r.sent r.no_fall (inl (omega (arith, r.quiet)))
-      (gives_one (ports.waiting old.gm.reply) (ports.waiting port') _ r.first r.rest))
-  received_general old port' bytes (Ok None) r =
-      (came_general old port' [] 0 r.sent r.no_fall (inl (omega (arith, r.quiet))) (gives_kept (ports.waiting old.gm.reply) (ports.waiting port') r.left),
-      left_none (ports.waiting old.gm.reply) (ports.waiting port') r.nothing r.left)
+  received_general old port' bytes (Ok (Some got)) r = (
+    r.within,
+    came_general old port' (arrived got.0 (take got.1 bytes) ∷ []) 0 r.sent r.no_fall (inl (omega (arith, r.quiet)))
+        (gives_one (ports.waiting old.gm.reply) (ports.waiting port') _ r.first r.rest),
+  )
+  received_general old port' bytes (Ok None) r = (
+    came_general old port' [] 0 r.sent r.no_fall (inl (omega (arith, r.quiet))) (gives_kept (ports.waiting old.gm.reply) (ports.waiting port') r.left),
+    left_none (ports.waiting old.gm.reply) (ports.waiting port') r.nothing r.left,
+  )
   received_general old port' bytes (Err e) r =
       came_general old port' [] 1 r.sent r.no_fall r.risen (gives_kept (ports.waiting old.gm.reply) (ports.waiting port') r.kept)
 
   pub received_event : (old : Daemon P C) (port' : P) (bytes : List ℕ) (result : Result (Option (ℕ × ℕ)) Failed) →
       Receives old.event port' bytes result →
       Received ports clocks channels.Event old (record old { event = port' }) bytes result
-  received_event old port' bytes (Ok (Some got)) r =
-      (r.within, came_event old port' (arrived got.0 (take got.1 bytes) ∷ []) 0 r.sent r.no_fall (inl (omega (arith, r.quiet)))
-      (gives_one (ports.waiting old.event) (ports.waiting port') _ r.first r.rest))
-  received_event old port' bytes (Ok None) r =
-      (came_event old port' [] 0 r.sent r.no_fall (inl (omega (arith, r.quiet))) (gives_kept (ports.waiting old.event) (ports.waiting port') r.left),
-      left_none (ports.waiting old.event) (ports.waiting port') r.nothing r.left)
+  received_event old port' bytes (Ok (Some got)) r = (
+    r.within,
+    came_event old port' (arrived got.0 (take got.1 bytes) ∷ []) 0 r.sent r.no_fall (inl (omega (arith, r.quiet)))
+        (gives_one (ports.waiting old.event) (ports.waiting port') _ r.first r.rest),
+  )
+  received_event old port' bytes (Ok None) r = (
+    came_event old port' [] 0 r.sent r.no_fall (inl (omega (arith, r.quiet))) (gives_kept (ports.waiting old.event) (ports.waiting port') r.left),
+    left_none (ports.waiting old.event) (ports.waiting port') r.nothing r.left,
+  )
   received_event old port' bytes (Err e) r =
       came_event old port' [] 1 r.sent r.no_fall r.risen (gives_kept (ports.waiting old.event) (ports.waiting port') r.kept)

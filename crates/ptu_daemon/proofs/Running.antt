@@ -60,10 +60,12 @@ takes_more old now None xs ys es fs h k = tt
 takes_more old None (Some left) xs ys es fs h (moments, e, k, l) = absurd (cc)
 takes_more old (Some middle) (Some left) xs ys es fs (moments, e, events, after) (moments', e', events', after') =
     let same : middle ≡ moments' = cc in
-    let is : moments' ≡ moments_after (length xs) moments = sym same ∙ after in
-    (moments, e,
-    ap (λ l. l ++ fs) events ∙ ap (λ l. timed moments xs ++ l) (events' ∙ ap (λ ms. timed ms ys) is) ∙ sym (timed-append moments xs ys),
-    after' ∙ ap (moments_after (length ys)) is ∙ sym (moments_add (length xs) (length ys) moments) ∙ ap (λ n. moments_after n moments) (sym (length-append xs ys)))
+    let is : moments' ≡ moments_after (length xs) moments = sym same ∙ after in (
+      moments,
+      e,
+      ap (λ l. l ++ fs) events ∙ ap (λ l. timed moments xs ++ l) (events' ∙ ap (λ ms. timed ms ys) is) ∙ sym (timed-append moments xs ys),
+      after' ∙ ap (moments_after (length ys)) is ∙ sym (moments_add (length xs) (length ys) moments) ∙ ap (λ n. moments_after n moments) (sym (length-append xs ys)),
+    )
 
 -- ---- what waits
 
@@ -118,10 +120,12 @@ module _ {P C : Type 0} (ports : Ports P) (clocks : Clocks C) where
     event_risen = event_risen;
     others_failed = failed;
     failures = refl;
-    does = λ opening past stood. (stands opening past stood,
-        five_handled ports (λ i. []) old.gm new.gm 0 0 0 0 0 0 0 0 0 failed 0 failed
-        (handled_same ports _ _ (ap (λ g. g.s0.port) same)) (handled_same ports _ _ (ap (λ g. g.s1.port) same)) (handled_same ports _ _ (ap (λ g. g.s2.port) same))
-        (handled_same ports _ _ (ap (λ g. g.s3.port) same)) (handled_idle ports old.gm.reply new.gm.reply failed sent no_fall risen) (omega arith) (omega arith));
+    does = λ opening past stood. (
+      stands opening past stood,
+      five_handled ports (λ i. []) old.gm new.gm 0 0 0 0 0 0 0 0 0 failed 0 failed
+          (handled_same ports _ _ (ap (λ g. g.s0.port) same)) (handled_same ports _ _ (ap (λ g. g.s1.port) same)) (handled_same ports _ _ (ap (λ g. g.s2.port) same))
+          (handled_same ports _ _ (ap (λ g. g.s3.port) same)) (handled_idle ports old.gm.reply new.gm.reply failed sent no_fall risen) (omega arith) (omega arith),
+    );
   }
     where
       stands : (opening : ℕ) (past : List Record) → StandsFor opening old.gm past → StandsFor opening new.gm past
@@ -152,9 +156,11 @@ module _ {P C : Type 0} (ports : Ports P) (clocks : Clocks C) where
     event_risen = inl (omega (arith, ap ports.faults same));
     others_failed = failed;
     failures = omega arith;
-    does = λ opening past stood. ((h.does opening past stood).0,
-        all_same ports (λ i. event_sends (standing_as old.gm opening past) i (happens t)) _ 0 sent failed (five old.gm) (five new.gm)
-        (λ i. append-nil (event_sends (standing_as old.gm opening past) i (happens t))) (h.does opening past stood).1);
+    does = λ opening past stood. (
+      (h.does opening past stood).0,
+      all_same ports (λ i. event_sends (standing_as old.gm opening past) i (happens t)) _ 0 sent failed (five old.gm) (five new.gm)
+          (λ i. append-nil (event_sends (standing_as old.gm opening past) i (happens t))) (h.does opening past stood).1,
+    );
   }
 
   -- one after the other
@@ -184,12 +190,13 @@ module _ {P C : Type 0} (ports : Ports P) (clocks : Clocks C) where
           let one = h.does opening past stood in
           let two = k.does opening ((after_all gm h.events).past) one.0 in
           let is : standing_as now.gm opening ((after_all gm h.events).past) ≡ after_all gm h.events =
-              ap (λ c. record { config = c; opening = opening; past = (after_all gm h.events).past }) h.config ∙ sym (after_is gm h.events) in
-          (subst (λ (after : Standing). StandsFor opening new.gm after.past)
-          (ap (λ g. after_all g k.events) is ∙ sym (after_all-append gm h.events k.events)) two.0,
-          all_more ports (λ i. sends_by gm i h.events) (λ i. sends_by (standing_as now.gm opening ((after_all gm h.events).past)) i k.events)
-          (λ i. sends_by gm i (h.events ++ k.events)) 0 s h.others_failed s' k.others_failed (five old.gm) (five now.gm) (five new.gm)
-          (λ i. sends_by-append gm i h.events k.events ∙ ap (λ g. sends_by gm i h.events ++ sends_by g i k.events) (sym is)) one.1 two.1)
+          ap (λ c. record { config = c; opening = opening; past = (after_all gm h.events).past }) h.config ∙ sym (after_is gm h.events) in (
+            subst (λ (after : Standing). StandsFor opening new.gm after.past)
+                (ap (λ g. after_all g k.events) is ∙ sym (after_all-append gm h.events k.events)) two.0,
+            all_more ports (λ i. sends_by gm i h.events) (λ i. sends_by (standing_as now.gm opening ((after_all gm h.events).past)) i k.events)
+                (λ i. sends_by gm i (h.events ++ k.events)) 0 s h.others_failed s' k.others_failed (five old.gm) (five now.gm) (five new.gm)
+                (λ i. sends_by-append gm i h.events k.events ∙ ap (λ g. sends_by gm i h.events ++ sends_by g i k.events) (sym is)) one.1 two.1,
+          )
 
   -- the same, said otherwise
   pub ran_as : (old new : Daemon P C) (xs xs' : List Happening) (gs gs' es es' : List Arrival) (s s' f f' : ℕ) →

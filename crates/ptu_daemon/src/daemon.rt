@@ -171,7 +171,7 @@ impl<P: Port, C: Clock> Daemon<P, C> {
     {
         let mut tally = Tally::default();
         for before in 0..settings.rounds {
-            tally = tally.plus(self.round(settings, before)?);
+            tally = tally.plus_round(self.round(settings, before)?, before);
         }
         Ok(tally)
     }

@@ -1,6 +1,7 @@
 //! A grandmaster as a daemon: it takes what waits at its ports, and its tables take turns, in rounds.
 #![tactic(auto)]
 
+mod closing;
 mod daemon;
 mod events;
 mod next;

@@ -33,9 +33,10 @@ returns-in-Nothing-clause-took g c =
     (subst (λ next. CameTo g.P.Port g.C.Clock c.args.channel c.loop.self c.take_next.new.self next) c.in-Nothing.is c.in_ok-more.ensures)
 
 pub returns-in-Nothing-clause-small : goal.returns-in-Nothing-clause-small
-returns-in-Nothing-clause-small g c =
-    (few_small c.loop.counter c.loop.tally.sent (omega (arith, c.loop-test.true)) c.loop.invariant.small.0,
-    few_small c.loop.counter c.loop.tally.failed (omega (arith, c.loop-test.true)) c.loop.invariant.small.1)
+returns-in-Nothing-clause-small g c = (
+  few_small c.loop.counter c.loop.tally.sent (omega (arith, c.loop-test.true)) c.loop.invariant.small.0,
+  few_small c.loop.counter c.loop.tally.failed (omega (arith, c.loop-test.true)) c.loop.invariant.small.1,
+)
 
 pub plus-requires-clause-sent : goal.plus-requires-clause-sent
 plus-requires-clause-sent g c = room c.loop.counter c.loop.tally.sent 0 c.loop-test.true c.loop.invariant.small.0 (omega arith)
@@ -51,9 +52,10 @@ returns-in-Failed-clause-took g c =
 
 pub returns-in-Failed-clause-small : goal.returns-in-Failed-clause-small
 returns-in-Failed-clause-small g c =
-    rw (c.plus.ensures)
-    (one_more_or c.loop.counter c.loop.tally.sent c.loop-test.true c.loop.invariant.small.0,
-    one_more c.loop.counter c.loop.tally.failed c.loop-test.true c.loop.invariant.small.1)
+    rw (c.plus.ensures) (
+      one_more_or c.loop.counter c.loop.tally.sent c.loop-test.true c.loop.invariant.small.0,
+      one_more c.loop.counter c.loop.tally.failed c.loop-test.true c.loop.invariant.small.1,
+    )
   where
     one_more_or : (count n : ℕ) → count < 64 → n ≤ count * 2 ^ 64 → n + 0 ≤ 64 * 2 ^ 64
     one_more_or count n few small = omega arith
@@ -70,6 +72,7 @@ returns-clause-took g c =
     (omega (arith, c.loop-test.false, c.loop.auto.counter-end)) c.loop.invariant
 
 pub returns-clause-small : goal.returns-clause-small
-returns-clause-small g c =
-    (few_small c.loop.counter c.loop.tally.sent c.loop.auto.counter-end c.loop.invariant.small.0,
-    few_small c.loop.counter c.loop.tally.failed c.loop.auto.counter-end c.loop.invariant.small.1)
+returns-clause-small g c = (
+  few_small c.loop.counter c.loop.tally.sent c.loop.auto.counter-end c.loop.invariant.small.0,
+  few_small c.loop.counter c.loop.tally.failed c.loop.auto.counter-end c.loop.invariant.small.1,
+)
