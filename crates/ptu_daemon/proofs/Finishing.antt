@@ -145,18 +145,18 @@ module _ {P C : Type 0} (ports : Ports P) (clocks : Clocks C) where
         subst (λ (l : List P). HaveRisenBy said.failed (map ports.faults l) (faults_of ports closed)) opened_are
         (subst (λ (l : List P). HaveRisenBy said.failed (map ports.faults (five gm0 ++ opened.p5 ∷ [])) (map ports.faults l)) closed_are
         (subst (λ n. HaveRisenBy n (map ports.faults (five gm0 ++ opened.p5 ∷ [])) (map ports.faults (five gm1 ++ event ∷ []))) (sym (failed_is ∙ did.ran.failures))
-        (risen_of _ 0 tally.sent did.ran.others_failed did.ran.event_failed (five gm0) (five gm1) opened.p5 event handled did.ran.event_risen)))
+        (risen_of (λ i. sends_by (standing_as gm0 settings.capacity []) i did.ran.events) 0 tally.sent did.ran.others_failed did.ran.event_failed (five gm0) (five gm1) opened.p5 event handled did.ran.event_risen)))
 
     were_sent : WereSent said.sent (map ports.sent (senders_of opened)) (map ports.sent (senders_of closed))
     were_sent =
         subst (λ (l : List P). WereSent said.sent (map ports.sent l) (map ports.sent (senders_of closed))) senders_opened
         (subst (λ (l : List P). WereSent said.sent (map ports.sent (five gm0)) (map ports.sent l)) senders_closed
         (subst (λ n. WereSent n (map ports.sent (five gm0)) (map ports.sent (five gm1))) (sym sent_is)
-        (sent_of _ 0 tally.sent did.ran.others_failed (five gm0) (five gm1) handled)))
+        (sent_of (λ i. sends_by (standing_as gm0 settings.capacity []) i did.ran.events) 0 tally.sent did.ran.others_failed (five gm0) (five gm1) handled)))
 
     module _ (given : Given) (is : IsGiven ports clocks opened closed given) (still : HaveNotRisen (faults_of ports opened) (faults_of ports closed)) where
       none : tally.failed ≡ 0
-      none = sym failed_is ∙ none_together said.failed _ _ risen still
+      none = sym failed_is ∙ none_together said.failed (faults_of ports opened) (faults_of ports closed) risen still
 
       happened : did.happenings ≡ in_rounds (round_of settings given) settings.rounds
       happened =
@@ -188,7 +188,7 @@ module _ {P C : Type 0} (ports : Ports P) (clocks : Clocks C) where
 
       five_sent : SentByFive (λ i. sends_by (standing_as gm0 settings.capacity []) i did.ran.events) gm0 gm1 tally.sent
       five_sent =
-          sent_by_five _ tally.sent did.ran.others_failed gm0 gm1 opened.p5 event handled
+          sent_by_five (λ i. sends_by (standing_as gm0 settings.capacity []) i did.ran.events) tally.sent did.ran.others_failed gm0 gm1 opened.p5 event handled
           (subst (λ (l : List P). HaveNotRisen (map ports.faults l) (map ports.faults (five gm1 ++ event ∷ []))) (sym opened_are)
           (subst (λ (l : List P). HaveNotRisen (faults_of ports opened) (map ports.faults l)) (sym closed_are) still))
 
