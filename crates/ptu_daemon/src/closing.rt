@@ -4,7 +4,8 @@ ghost use Rattle.std.specs.Prelude.{Some, IfOk, ◌≡◌};
 ghost use Rattle.std.specs.String.{string_bytes};
 ghost use Rattle.ptu_daemon.specs.Served.{closing_line, said_by};
 
-use std::alloc::{AllocError, Global};
+use ptu_units::OutOfMemory;
+use std::alloc::Global;
 use std::fmt;
 
 /// The numbers of the last line.
@@ -37,9 +38,9 @@ impl fmt::Display for Closing {
 }
 
 /// The last line.
-pub(crate) fn closing_text(alloc: Global, closing: &Closing) -> Result<String, AllocError>
+pub(crate) fn closing_text(alloc: Global, closing: &Closing) -> Result<String, OutOfMemory>
     ensures { IfOk result (λ text.
         string_bytes text ≡ closing_line closing.now.rounds (said_by closing.now)) }
 {
-    format!(in alloc; "{closing}")
+    Ok(format!(in alloc; "{closing}")?)
 }

@@ -10,3 +10,6 @@ mod tally;
 
 pub use ptu_rounds::DaemonFault;
 pub use serving::serve;
+
+#[cfg(test)]
+mod tests;

@@ -1,6 +1,6 @@
 //! The daemon of a grandmaster, on one thread.
 
-ghost use Rattle.std.specs.Prelude.{◌≡◌, ◌≢◌, ◌∷◌, [], IfOk, IfErr, OnOk};
+ghost use Rattle.std.specs.Prelude.{◌≡◌, ◌≢◌, ◌∷◌, [], IfOk, IfErr, OnOk, OnErr};
 ghost use Rattle.ptu_outside.specs.Faults.{HasRisen};
 ghost use Rattle.ptu_outside.specs.Handing.{HasPut, HasPutFront};
 ghost use Rattle.ptu_shard.specs.Config.{IsWithinLimits};
@@ -108,6 +108,20 @@ fn serve_rounds<P: Port, C: Clock>(
     Ok((back, closing))
 }
 
+// Hands the text to the sink in one piece, and its rest again until all is taken.
+fn put<K: Sink>(sink: &mut K, text: &str) -> Result<(), DaemonFault>
+    ensures whole { OnOk result (HasPut K.written K.handed sink.old sink.new (text.now ∷ [])) }
+    ensures part { OnErr result (HasPutFront K.written K.handed sink.old sink.new text.now) }
+    ensures cause { IfErr result (λ fault. fault ≡ DaemonFault.Write) }
+    ensures risen { OnErr result (HasRisen (K.faults sink.old) (K.faults sink.new)) }
+    ensures still { OnOk result (K.faults sink.new ≡ K.faults sink.old) }
+{
+    match write_whole(sink, text.as_bytes()) {
+        Ok(()) => Ok(()),
+        Err(_) => Err(DaemonFault::Write),
+    }
+}
+
 /// Serves a grandmaster of these settings over the ports and clocks of the host, in rounds, on this thread, and then
 /// writes one line: `rounds R sent S failed F granted G refused U held H`.
 ///
@@ -148,7 +162,7 @@ pub fn serve<H: Host, K: Sink>(
         return Err(DaemonFault::Open);
     };
     let (back, closing) = serve_rounds(alloc, settings, opened)?;
-    let text = closing_text(alloc, &closing).map_err(OutOfMemory::from)?;
+    let text = closing_text(alloc, &closing)?;
     host.close(back);
-    write_whole(sink, text.as_bytes()).map_err(|_| DaemonFault::Write)
+    put(sink, text.as_str())
 }
