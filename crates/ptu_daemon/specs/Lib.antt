@@ -2,3 +2,5 @@ pub mod Events
 pub mod Sends
 pub mod Served
 pub mod Serving
+pub mod Counting
+pub mod Ran

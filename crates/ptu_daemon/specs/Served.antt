@@ -8,6 +8,7 @@ use Rattle.ptu_history.specs.Verdict.{table_rates}
 use Rattle.ptu_grandmaster.specs.Driven.{driven_history}
 use Rattle.ptu_grandmaster.specs.Gm.{counted}
 use Rattle.ptu_config.specs.declared.settings.GmSettings.{GmSettings}
+use Rattle.ptu_daemon.specs.declared.closing.Closing.{Closing}
 use Rattle.ptu_daemon.specs.Events.{Given, config_of, served_events}
 use Rattle.ptu_daemon.specs.Sends.{sends_by}
 
@@ -55,3 +56,13 @@ served_said settings given =
       refused = counted (counts history).short;
       held = held_by history;
     }
+
+-- the numbers of a closing line
+abbrev pub said_by : Closing → Said
+said_by closing = record {
+  sent = closing.sent;
+  failed = closing.failed;
+  granted = closing.granted;
+  refused = closing.refused;
+  held = closing.held;
+}

@@ -37,13 +37,8 @@ pub record AreServed {P C : Type 0} (ports : Ports P) (settings : GmSettings) (g
 abbrev pub faults_of : {P C : Type 0} → Ports P → Opened P C → List ℕ
 faults_of ports opened = map ports.faults (ports_of opened)
 
--- a host that told that it opens `opening` tells that it was given `back`: between these the ports and clocks served, and
--- this was said of it
-pub record HasServed {P C : Type 0} (ports : Ports P) (clocks : Clocks C) (settings : GmSettings) (opening back : Option (Opened P C)) (said : Said) : Type 0 where
-  pub opened : Opened P C
-  pub closed : Opened P C
-  pub opens : IfSome opening (λ told. opened ≡ told)
-  pub gives_back : IfTold back (Some closed)
+-- between these ports and clocks as they were opened, and as they are to be given back, this was said of the serving
+pub record Serves {P C : Type 0} (ports : Ports P) (clocks : Clocks C) (settings : GmSettings) (opened closed : Opened P C) (said : Said) : Type 0 where
   -- what failed is at most what the counts of faults rose by together, and what was sent is the number of datagrams that
   -- ports 0 to 4 were sent, whatever the counts did
   pub failed : HaveRisenBy said.failed (faults_of ports opened) (faults_of ports closed)
@@ -51,3 +46,11 @@ pub record HasServed {P C : Type 0} (ports : Ports P) (clocks : Clocks C) (setti
   -- where no count rose, it is what is served
   pub served : (given : Given) → IsGiven ports clocks opened closed given →
       HaveNotRisen (faults_of ports opened) (faults_of ports closed) → AreServed ports settings given opened closed said
+
+-- likewise, where a host that told that it opens `opening` tells that it was given `back`
+pub record HasServed {P C : Type 0} (ports : Ports P) (clocks : Clocks C) (settings : GmSettings) (opening back : Option (Opened P C)) (said : Said) : Type 0 where
+  pub opened : Opened P C
+  pub closed : Opened P C
+  pub opens : IfSome opening (λ told. opened ≡ told)
+  pub gives_back : IfTold back (Some closed)
+  pub serves : Serves ports clocks settings opened closed said

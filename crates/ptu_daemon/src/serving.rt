@@ -1,16 +1,126 @@
 //! The daemon of a grandmaster, on one thread.
 
-ghost use Rattle.std.specs.Prelude.{◌≡◌, ◌≢◌, ◌∷◌, [], IfErr, OnOk, OnErr};
+ghost use Rattle.std.specs.Prelude.{◌≡◌, ◌≢◌, ◌∷◌, [], IfOk, IfErr, OnOk, OnErr};
 ghost use Rattle.ptu_outside.specs.Faults.{HasRisen};
 ghost use Rattle.ptu_outside.specs.Handing.{HasPut, HasPutFront};
+ghost use Rattle.ptu_shard.specs.Config.{IsWithinLimits};
 ghost use Rattle.ptu_config.specs.Limits.{IsGmInRange};
-ghost use Rattle.ptu_daemon.specs.Served.{Said, closing_line};
-ghost use Rattle.ptu_daemon.specs.Serving.{HasServed};
+ghost use Rattle.ptu_daemon.specs.Events.{config_of};
+ghost use Rattle.ptu_daemon.specs.Served.{Said, closing_line, said_by};
+ghost use Rattle.ptu_daemon.specs.Serving.{HasServed, Serves};
 
+use crate::closing::{Closing, closing_text};
+use crate::daemon::Daemon;
+use ptu_admit::Closed;
 use ptu_config::GmSettings;
-use ptu_outside::{Host, Sink};
+use ptu_grandmaster::Gm;
+use ptu_header::PortIdentity;
+use ptu_outside::{Clock, Host, Opened, Port, Sink, write_whole};
 use ptu_rounds::DaemonFault;
+use ptu_shard::GmConfig;
+use ptu_units::OutOfMemory;
 use std::alloc::Global;
+
+// How the grandmaster is set up.
+fn config(settings: &GmSettings) -> GmConfig
+    requires { IsGmInRange settings.now }
+    ensures is { result ≡ config_of settings.now }
+    ensures limits { IsWithinLimits result }
+{
+    GmConfig {
+        identity: PortIdentity {
+            clock: settings.clock,
+            port: settings.port,
+        },
+        domain: settings.domain,
+        class: settings.class,
+        max_duration: settings.max_duration,
+        epoch: settings.epoch,
+    }
+}
+
+// Serves over these ports and clocks. Gives them back, with the numbers of the last line.
+fn serve_rounds<P: Port, C: Clock>(
+    alloc: Global,
+    settings: &GmSettings,
+    opened: Opened<P, C>,
+) -> Result<(Opened<P, C>, Closing), OutOfMemory>
+    requires { IsGmInRange settings.now }
+    ensures rounds { IfOk result (λ r. r.1.rounds ≡ settings.now.rounds) }
+    ensures serves { IfOk result (λ r.
+        Serves P.Port C.Clock settings.now opened r.0 (said_by r.1)) }
+{
+    let Opened {
+        p0,
+        p1,
+        p2,
+        p3,
+        p4,
+        p5,
+        c0,
+        c1,
+        c2,
+        c3,
+        c4,
+        c5,
+    } = opened;
+    let gm = Gm::new(
+        alloc,
+        config(settings),
+        settings.capacity,
+        p0,
+        p1,
+        p2,
+        p3,
+        p4,
+    );
+    let mut daemon = Daemon {
+        gm,
+        event: p5,
+        clock: c0,
+    };
+    let tally = daemon.rounds(settings)?;
+    let Daemon { gm, event, clock } = daemon;
+    let (closed, reply) = gm.close();
+    let closing = Closing {
+        rounds: settings.rounds,
+        sent: tally.sent,
+        failed: tally.failed,
+        granted: closed.granted,
+        refused: closed.refused,
+        held: closed.total,
+    };
+    let Closed { p0, p1, p2, p3, .. } = closed;
+    let back = Opened {
+        p0,
+        p1,
+        p2,
+        p3,
+        p4: reply,
+        p5: event,
+        c0: clock,
+        c1,
+        c2,
+        c3,
+        c4,
+        c5,
+    };
+    Ok((back, closing))
+}
+
+// Hands the text to the sink in one piece, and its rest again until all is taken.
+fn put<K: Sink>(sink: &mut K, text: &str) -> Result<(), DaemonFault>
+    ensures whole { OnOk result (HasPut K.written K.handed sink.old sink.new (text.now ∷ [])) }
+    ensures part { OnErr result (HasPutFront K.written K.handed sink.old sink.new text.now) }
+    ensures cause { IfErr result (λ fault. fault ≡ DaemonFault.Write) }
+    ensures risen { OnErr result (HasRisen (K.faults sink.old) (K.faults sink.new)) }
+    ensures still { OnOk result (K.faults sink.new ≡ K.faults sink.old) }
+{
+    match write_whole(sink, text.as_bytes()) {
+        Ok(()) => Ok(()),
+        Err(_) => Err(DaemonFault::Write),
+    }
+}
 
 /// Serves a grandmaster of these settings over the ports and clocks of the host, in rounds, on this thread, and then
 /// writes one line: `rounds R sent S failed F granted G refused U held H`.
@@ -48,6 +158,11 @@ pub fn serve<H: Host, K: Sink>(
     ensures still { OnOk result (K.faults sink.new ≡ K.faults sink.old) }
     ensures opens { OnOk result (H.faults host.new ≡ H.faults host.old) }
 {
-    let _ = alloc;
-    Err(DaemonFault::OutOfMemory)
+    let Ok(opened) = host.open(settings.ip, settings.event_port, settings.general_port) else {
+        return Err(DaemonFault::Open);
+    };
+    let (back, closing) = serve_rounds(alloc, settings, opened)?;
+    let text = closing_text(alloc, &closing)?;
+    host.close(back);
+    put(sink, text.as_str())
 }

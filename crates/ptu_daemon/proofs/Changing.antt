@@ -1,0 +1,80 @@
+-- That the capacity has changed.
+use Rattle.std.proofs.Common.{◌≡◌, ◌∙◌, ℕ, ◌+◌, ◌%◌, List, [], ◌∷◌, ◌++◌, map, refl, sym, ap, ap₂, subst, arith}
+use Rattle.std.proofs.lemmas.Simd.{map-map}
+use Rattle.ptu_units.specs.declared.kind.Kind.{Kind}
+use Rattle.ptu_outside.specs.declared.port.Port.{Ghosts as Ports}
+use Rattle.ptu_outside.specs.Departure.{Departure}
+use Rattle.ptu_outside.specs.HandsOver.{HandsOver}
+use Rattle.ptu_history.specs.declared.client.Client.{Client}
+use Rattle.ptu_history.specs.Core.{book_step_moment, core_step, history_after}
+use Rattle.ptu_history.specs.Counts.{counts}
+use Rattle.ptu_history.specs.Events as events
+use Rattle.ptu_history.specs.History.{Record}
+use Rattle.ptu_history.specs.Shedding.{shed_grants}
+use Rattle.ptu_shard.specs.declared.config.GmConfig.{GmConfig}
+use Rattle.ptu_admit.specs.declared.shed_list.Shed.{Shed}
+use Rattle.ptu_admit.specs.Shed.{shed_of}
+use Rattle.ptu_items.specs.Deciding.{opened_with}
+use Rattle.ptu_items.specs.Replies.{cancel_to, cancels_to, lease_of}
+use Rattle.ptu_grandmaster.specs.declared.driving.GmEvent.TheVariants.{Capacity}
+use Rattle.ptu_grandmaster.specs.Changed.{leases_shed}
+use Rattle.ptu_grandmaster.specs.Gm.{KeptGm, StandsFor}
+use Rattle.ptu_daemon.specs.Ran.{AllHandled, Does, Handled, five}
+use Rattle.ptu_daemon.specs.Sends.{by}
+use Rattle.ptu_daemon.proofs.Handling.{all_same, five_handled, handled_same, hands_handled}
+
+-- ---- CANCELs are numbered by the grants that were shed, and the numbers begin again
+
+next_number : (m n : ℕ) → m % 65536 ≡ n % 65536 → (m + 1) % 65536 ≡ (n + 1) % 65536
+next_number m n same = omega arith
+
+cancels_to-same : (config : GmConfig) (m n : ℕ) (leases : List (Client × Kind)) → m % 65536 ≡ n % 65536 → cancels_to config m leases ≡ cancels_to config n leases
+cancels_to-same config m n [] same = refl
+cancels_to-same config m n (lease ∷ leases) same =
+    ap₂ (λ k ds. cancel_to config lease.0 lease.1 k ∷ ds) same (cancels_to-same config (m + 1) (n + 1) leases (next_number m n same))
+
+begins_again : (n : ℕ) → n % 65536 % 65536 ≡ n % 65536
+begins_again n = omega arith
+
+module _ {P : Type 0} (ports : Ports P) where
+  -- the port of the Signaling messages alone was sent something
+  pub reply_handled : (old new : KeptGm P) (sends : List Departure) (sent failed : ℕ) →
+      (new.s0.port ≡ old.s0.port) × (new.s1.port ≡ old.s1.port) × (new.s2.port ≡ old.s2.port) × (new.s3.port ≡ old.s3.port) →
+      Handled ports sends sent failed old.reply new.reply →
+      AllHandled ports (λ i. by i 4 sends) 0 sent failed (five old) (five new)
+  reply_handled old new sends sent failed (p0, p1, p2, p3) h =
+      five_handled ports (λ i. by i 4 sends) old new 0 0 0 0 0 0 0 0 sent failed sent failed
+      (handled_same ports _ _ p0) (handled_same ports _ _ p1) (handled_same ports _ _ p2) (handled_same ports _ _ p3) h (omega arith) (omega arith)
+
+  pub change_does : (t at capacity sent failed : ℕ) (shed : List Shed) (old new : KeptGm P) →
+      HandsOver (ports.sent old.reply) (ports.sent new.reply) (ports.faults old.reply) (ports.faults new.reply)
+      (cancels_to old.config old.sequence (leases_shed shed)) sent failed →
+      ports.waiting new.reply ≡ ports.waiting old.reply →
+      (new.s0.port ≡ old.s0.port) × (new.s1.port ≡ old.s1.port) × (new.s2.port ≡ old.s2.port) × (new.s3.port ≡ old.s3.port) →
+      new.config ≡ old.config →
+      ((opening : ℕ) (history : List Record) → StandsFor opening old history →
+      (at ≡ book_step_moment history t) × (shed ≡ map shed_of (shed_grants history at capacity))) →
+      ((opening : ℕ) (history : List Record) → StandsFor opening old history →
+      StandsFor opening new (history ++ (core_step (opened_with opening old.config) history t (events.Resize capacity)).records)) →
+      Does ports old new (Capacity t capacity) sent failed
+  unfolding history_after
+  change_does t at capacity sent failed shed old new sends waiting same config found stands = record {
+    config = config;
+    waiting = waiting;
+    does = λ opening past stood. (
+      stands opening past stood,
+      all_same ports (λ i. by i 4 (cancels_to old.config old.sequence (leases_shed shed))) _ 0 sent failed (five old) (five new)
+          (λ i. ap (by i 4) (sym (are opening past stood)))
+          (reply_handled old new _ sent failed same (hands_handled ports _ _ _ sent failed sends)),
+    );
+  }
+    where
+      are : (opening : ℕ) (past : List Record) → StandsFor opening old past →
+          cancels_to old.config old.sequence (leases_shed shed)
+          ≡ cancels_to old.config (counts past).shed (map lease_of (shed_grants past (book_step_moment past t) capacity))
+      are opening past stood =
+          ap (λ n. cancels_to old.config n (leases_shed shed)) stood.sequence
+          ∙ cancels_to-same old.config ((counts past).shed % 65536) (counts past).shed (leases_shed shed) (begins_again (counts past).shed)
+          ∙ ap (λ l. cancels_to old.config (counts past).shed (leases_shed l)) (found opening past stood).1
+          ∙ ap (cancels_to old.config (counts past).shed) (map-map (λ (s : Shed). (s.client, s.kind)) shed_of (shed_grants past at capacity))
+          ∙ ap (λ x. cancels_to old.config (counts past).shed (map lease_of (shed_grants past x capacity))) (found opening past stood).0

@@ -1,0 +1,223 @@
+-- What the daemon has served, once all rounds were done and the grandmaster was closed.
+use Rattle.std.proofs.Common.{◌≡◌, ◌∙◌, ℕ, ◌+◌, List, [], ◌∷◌, ◌++◌, length, map, flat_map, Option, Some, None, IsSome, refl, sym, ap, subst, arith}
+use Rattle.std.proofs.lemmas.List.{append-nil}
+use Rattle.ptu_outside.specs.declared.clock.Clock.{Ghosts as Clocks}
+use Rattle.ptu_outside.specs.declared.opened.Opened.{Opened}
+use Rattle.ptu_outside.specs.declared.port.Port.{Ghosts as Ports}
+use Rattle.ptu_outside.specs.Departure.{Departure}
+use Rattle.ptu_outside.specs.Faults.{HasRisen, HasRisenBy}
+use Rattle.ptu_outside.specs.Telling.{IfTold, append_told}
+use Rattle.ptu_history.specs.Core.{book_step_moment, core_history, history_after}
+use Rattle.ptu_history.specs.Counts.{counts}
+use Rattle.ptu_history.specs.History.{Record}
+use Rattle.ptu_history.specs.Verdict.{table_rates}
+use Rattle.ptu_history.proofs.Histories.{history_after-append}
+use Rattle.ptu_items.specs.Deciding.{opened_with}
+use Rattle.ptu_grandmaster.specs.declared.driving.GmEvent.{GmEvent}
+use Rattle.ptu_grandmaster.specs.Driven.{driven_history, events_of}
+use Rattle.ptu_grandmaster.specs.Gm.{KeptGm, StandsFor, counted}
+use Rattle.ptu_config.specs.declared.settings.GmSettings.{GmSettings}
+use Rattle.ptu_rounds.specs.Ports.{HaveNotRisen, HaveRisenBy, WereSent, ports_of, senders_of}
+use Rattle.ptu_rounds.specs.Rounds.{in_rounds, timed}
+use Rattle.ptu_daemon.specs.declared.daemon.Daemon.{Daemon}
+use Rattle.ptu_daemon.specs.declared.tally.Tally.{Tally}
+use Rattle.ptu_daemon.specs.Events.{Given, Happening, config_of, round_of, served_events}
+use Rattle.ptu_daemon.specs.Ran.{AllHandled, DidRounds, Handled, Takes, after_all, five, standing_as}
+use Rattle.ptu_daemon.specs.Sends.{Standing, sends_by, standing_after}
+use Rattle.ptu_daemon.specs.Served.{Said, held_by, served_by, served_history, served_said}
+use Rattle.ptu_daemon.specs.Serving.{AreServed, IsGiven, Serves, WasSent, faults_of}
+use Rattle.ptu_daemon.proofs.Handling.{none_failed}
+
+-- ---- the history of the events
+
+after_all-history : (gm : Standing) (events : List GmEvent) →
+    (after_all gm events).past ≡ history_after (opened_with gm.opening gm.config) gm.past (flat_map (events_of gm.config) events)
+unfolding history_after
+after_all-history gm [] = refl
+after_all-history gm (event ∷ later) =
+    after_all-history (standing_after gm event) later
+    ∙ sym (history_after-append (opened_with gm.opening gm.config) gm.past (events_of gm.config event) (flat_map (events_of gm.config) later))
+
+-- ---- what is told
+
+some_is : {A : Type 0} (told : Option A) → IsSome told → (x : A) × (told ≡ Some x)
+some_is None is = absurd (cc is)
+some_is (Some x) is = (x, refl)
+
+events_are : (old new : Option (List ℕ)) (moments : List ℕ) (happenings : List Happening) (events : List GmEvent) →
+    Takes old new happenings events → old ≡ Some moments → IsSome new → events ≡ timed moments happenings
+events_are old None moments happenings events takes is still = absurd (cc still)
+events_are old (Some left) moments happenings events (moments', is', events_is, left_is) is still =
+    let same : moments' ≡ moments = cc in
+    events_is ∙ ap (λ ms. timed ms happenings) same
+
+said_is : (a b : Said) → a.sent ≡ b.sent → a.failed ≡ b.failed → a.granted ≡ b.granted → a.refused ≡ b.refused → a.held ≡ b.held → a ≡ b
+said_is a b d e f g h =
+    ap (λ x. record { sent = x; failed = a.failed; granted = a.granted; refused = a.refused; held = a.held }) d
+    ∙ ap (λ x. record { sent = b.sent; failed = x; granted = a.granted; refused = a.refused; held = a.held }) e
+    ∙ ap (λ x. record { sent = b.sent; failed = b.failed; granted = x; refused = a.refused; held = a.held }) f
+    ∙ ap (λ x. record { sent = b.sent; failed = b.failed; granted = b.granted; refused = x; held = a.held }) g
+    ∙ ap (λ x. record { sent = b.sent; failed = b.failed; granted = b.granted; refused = b.refused; held = x }) h
+
+none_together : (n : ℕ) (olds news : List ℕ) → HaveRisenBy n olds news → HaveNotRisen olds news → n ≡ 0
+none_together n [] [] h still = h
+none_together n [] (x ∷ news) h still = absurd h
+none_together n (x ∷ olds) [] h still = absurd h
+none_together n (x ∷ olds) (y ∷ news) (first, others, sum, rises, rest) (still, stills) =
+    let a : first ≡ 0 = none_failed first x y rises still in
+    let b : others ≡ 0 = none_together others olds news rest stills in
+    omega (arith, sum)
+
+module _ {P C : Type 0} (ports : Ports P) (clocks : Clocks C) where
+  -- ---- several ports together
+
+  risen_of : (sends : ℕ → List Departure) (i s f n : ℕ) (olds news : List P) (old new : P) → AllHandled ports sends i s f olds news →
+      HasRisenBy n (ports.faults old) (ports.faults new) → HaveRisenBy (f + n) (map ports.faults (olds ++ old ∷ [])) (map ports.faults (news ++ new ∷ []))
+  risen_of sends i s f n [] [] old new h rises = let none : f ≡ 0 = h.1 in (n, 0, omega arith, rises, refl)
+  risen_of sends i s f n [] (q ∷ news) old new h rises = absurd h
+  risen_of sends i s f n (p ∷ olds) [] old new h rises = absurd h
+  risen_of sends i s f n (p ∷ olds) (q ∷ news) old new (s1, f1, s2, f2, e, e', h, hs) rises =
+      (f1, f2 + n, omega (arith, e'), h.risen, risen_of sends (i + 1) s2 f2 n olds news old new hs rises)
+
+  sent_of : (sends : ℕ → List Departure) (i s f : ℕ) (olds news : List P) → AllHandled ports sends i s f olds news →
+      WereSent s (map ports.sent olds) (map ports.sent news)
+  sent_of sends i s f [] [] h = h.0
+  sent_of sends i s f [] (q ∷ news) h = absurd h
+  sent_of sends i s f (p ∷ olds) [] h = absurd h
+  sent_of sends i s f (p ∷ olds) (q ∷ news) (s1, f1, s2, f2, e, e', h, hs) = (s1, s2, e, h.many, sent_of sends (i + 1) s2 f2 olds news hs)
+
+  -- what was sent by each of the five ports, where no count rose
+  record SentByFive (sends : ℕ → List Departure) (old new : KeptGm P) (sent : ℕ) : Type 0 where
+    pub p0 : IfTold (ports.sent new.s0.port) (append_told (ports.sent old.s0.port) (sends 0))
+    pub p1 : IfTold (ports.sent new.s1.port) (append_told (ports.sent old.s1.port) (sends 1))
+    pub p2 : IfTold (ports.sent new.s2.port) (append_told (ports.sent old.s2.port) (sends 2))
+    pub p3 : IfTold (ports.sent new.s3.port) (append_told (ports.sent old.s3.port) (sends 3))
+    pub p4 : IfTold (ports.sent new.reply) (append_told (ports.sent old.reply) (sends 4))
+    pub many : sent ≡ length (sends 0) + length (sends 1) + length (sends 2) + length (sends 3) + length (sends 4)
+
+  sent_by_five : (sends : ℕ → List Departure) (s f : ℕ) (old new : KeptGm P) (a b : P) → AllHandled ports sends 0 s f (five old) (five new) →
+      HaveNotRisen (map ports.faults (five old ++ a ∷ [])) (map ports.faults (five new ++ b ∷ [])) → SentByFive sends old new s
+  sent_by_five sends s f old new a b
+      (s0, f0, t0, g0, d0, e0, h0, (s1, f1, t1, g1, d1, e1, h1, (s2, f2, t2, g2, d2, e2, h2, (s3, f3, t3, g3, d3, e3, h3, (s4, f4, t4, g4, d4, e4, h4, (d5, e5))))))
+      (r0, (r1, (r2, (r3, (r4, r5))))) = record {
+        p0 = h0.told r0;
+        p1 = h1.told r1;
+        p2 = h2.told r2;
+        p3 = h3.told r3;
+        p4 = h4.told r4;
+        many = omega (arith, d0, d1, d2, d3, d4, d5, h0.all r0, h1.all r1, h2.all r2, h3.all r3, h4.all r4);
+      }
+
+  -- ---- all of it
+
+  module _ (settings : GmSettings) (opened closed : Opened P C) (gm0 gm1 : KeptGm P) (event : P) (clock : C) (tally : Tally) (said : Said)
+      (config : gm0.config ≡ config_of settings)
+      (p0 : gm0.s0.port ≡ opened.p0) (p1 : gm0.s1.port ≡ opened.p1) (p2 : gm0.s2.port ≡ opened.p2) (p3 : gm0.s3.port ≡ opened.p3) (p4 : gm0.reply ≡ opened.p4)
+      (stood : StandsFor settings.capacity gm0 [])
+      (did : DidRounds ports clocks settings settings.rounds (record { gm = gm0; event = opened.p5; clock = opened.c0 }) (record { gm = gm1; event = event; clock = clock }) tally)
+      (q0 : closed.p0 ≡ gm1.s0.port) (q1 : closed.p1 ≡ gm1.s1.port) (q2 : closed.p2 ≡ gm1.s2.port) (q3 : closed.p3 ≡ gm1.s3.port) (q4 : closed.p4 ≡ gm1.reply)
+      (q5 : closed.p5 ≡ event) (k0 : closed.c0 ≡ clock)
+      (sent_is : said.sent ≡ tally.sent) (failed_is : said.failed ≡ tally.failed)
+      (rates : (opening : ℕ) (history : List Record) → StandsFor opening gm1 history →
+      let x = book_step_moment history 0 in
+      (said.held ≡ table_rates history x 0 + table_rates history x 1 + table_rates history x 2 + table_rates history x 3)
+      × (said.granted ≡ counted (counts history).granted) × (said.refused ≡ counted (counts history).short)) where
+    gm_is : standing_as gm0 settings.capacity [] ≡ record { config = config_of settings; opening = settings.capacity; past = [] }
+    gm_is = ap (λ c. record { config = c; opening = settings.capacity; past = [] }) config
+
+    handled : AllHandled ports (λ i. sends_by (standing_as gm0 settings.capacity []) i did.ran.events) 0 tally.sent did.ran.others_failed (five gm0) (five gm1)
+    handled = (did.ran.does settings.capacity [] stood).1
+
+    opened_are : five gm0 ++ opened.p5 ∷ [] ≡ ports_of opened
+    opened_are = cc
+
+    closed_are : five gm1 ++ event ∷ [] ≡ ports_of closed
+    closed_are = cc
+
+    senders_opened : five gm0 ≡ senders_of opened
+    senders_opened = cc
+
+    senders_closed : five gm1 ≡ senders_of closed
+    senders_closed = cc
+
+    risen : HaveRisenBy said.failed (faults_of ports opened) (faults_of ports closed)
+    risen =
+        subst (λ (l : List P). HaveRisenBy said.failed (map ports.faults l) (faults_of ports closed)) opened_are
+        (subst (λ (l : List P). HaveRisenBy said.failed (map ports.faults (five gm0 ++ opened.p5 ∷ [])) (map ports.faults l)) closed_are
+        (subst (λ n. HaveRisenBy n (map ports.faults (five gm0 ++ opened.p5 ∷ [])) (map ports.faults (five gm1 ++ event ∷ []))) (sym (failed_is ∙ did.ran.failures))
+        (risen_of (λ i. sends_by (standing_as gm0 settings.capacity []) i did.ran.events) 0 tally.sent did.ran.others_failed did.ran.event_failed (five gm0) (five gm1) opened.p5 event handled did.ran.event_risen)))
+
+    were_sent : WereSent said.sent (map ports.sent (senders_of opened)) (map ports.sent (senders_of closed))
+    were_sent =
+        subst (λ (l : List P). WereSent said.sent (map ports.sent l) (map ports.sent (senders_of closed))) senders_opened
+        (subst (λ (l : List P). WereSent said.sent (map ports.sent (five gm0)) (map ports.sent l)) senders_closed
+        (subst (λ n. WereSent n (map ports.sent (five gm0)) (map ports.sent (five gm1))) (sym sent_is)
+        (sent_of (λ i. sends_by (standing_as gm0 settings.capacity []) i did.ran.events) 0 tally.sent did.ran.others_failed (five gm0) (five gm1) handled)))
+
+    module _ (given : Given) (is : IsGiven ports clocks opened closed given) (still : HaveNotRisen (faults_of ports opened) (faults_of ports closed)) where
+      none : tally.failed ≡ 0
+      none = sym failed_is ∙ none_together said.failed (faults_of ports opened) (faults_of ports closed) risen still
+
+      happened : did.happenings ≡ in_rounds (round_of settings given) settings.rounds
+      happened =
+          let general = some_is (ports.waiting closed.p4) is.general_still in
+          let event_left = some_is (ports.waiting closed.p5) is.event_still in
+          (did.all given general.0 event_left.0 none
+          (ap ports.waiting p4 ∙ is.general, is.event)
+          (ap ports.waiting (sym q4) ∙ general.1, ap ports.waiting (sym q5) ∙ event_left.1)).0
+
+      events : did.ran.events ≡ served_events settings given
+      unfolding served_events
+      events =
+          events_are (clocks.moments opened.c0) (clocks.moments clock) given.moments did.happenings did.ran.events did.ran.takes is.moments
+          (subst (λ c. IsSome (clocks.moments c)) k0 is.moments_still)
+          ∙ ap (timed given.moments) happened
+
+      sends : (i : ℕ) → sends_by (standing_as gm0 settings.capacity []) i did.ran.events ≡ served_by settings given i
+      sends i = ap (λ g. sends_by g i did.ran.events) gm_is ∙ ap (sends_by (record { config = config_of settings; opening = settings.capacity; past = [] }) i) events
+
+      history : (after_all (standing_as gm0 settings.capacity []) did.ran.events).past ≡ served_history settings given
+      unfolding core_history
+      history =
+          ap (λ g. (after_all g did.ran.events).past) gm_is
+          ∙ ap (λ es. (after_all (record { config = config_of settings; opening = settings.capacity; past = [] }) es).past) events
+          ∙ after_all-history (record { config = config_of settings; opening = settings.capacity; past = [] }) (served_events settings given)
+
+      stands : StandsFor settings.capacity gm1 (served_history settings given)
+      stands = subst (λ h. StandsFor settings.capacity gm1 h) history (did.ran.does settings.capacity [] stood).0
+
+      five_sent : SentByFive (λ i. sends_by (standing_as gm0 settings.capacity []) i did.ran.events) gm0 gm1 tally.sent
+      five_sent =
+          sent_by_five (λ i. sends_by (standing_as gm0 settings.capacity []) i did.ran.events) tally.sent did.ran.others_failed gm0 gm1 opened.p5 event handled
+          (subst (λ (l : List P). HaveNotRisen (map ports.faults l) (map ports.faults (five gm1 ++ event ∷ []))) (sym opened_are)
+          (subst (λ (l : List P). HaveNotRisen (faults_of ports opened) (map ports.faults l)) (sym closed_are) still))
+
+      one_sent : (i : ℕ) (old new old' new' : P) → old ≡ old' → new' ≡ new →
+          IfTold (ports.sent new) (append_told (ports.sent old) (sends_by (standing_as gm0 settings.capacity []) i did.ran.events)) →
+          WasSent ports old' new' (served_by settings given i)
+      one_sent i old new old' new' a b h =
+          subst (λ p. WasSent ports p new' (served_by settings given i)) a
+          (subst (λ p. WasSent ports old p (served_by settings given i)) (sym b)
+          (subst (λ l. WasSent ports old new l) (sends i) h))
+
+      are_served : AreServed ports settings given opened closed said
+      are_served = record {
+        p0 = one_sent 0 _ _ _ _ p0 q0 five_sent.p0;
+        p1 = one_sent 1 _ _ _ _ p1 q1 five_sent.p1;
+        p2 = one_sent 2 _ _ _ _ p2 q2 five_sent.p2;
+        p3 = one_sent 3 _ _ _ _ p3 q3 five_sent.p3;
+        p4 = one_sent 4 _ _ _ _ p4 q4 five_sent.p4;
+        p5 = ap ports.sent q5 ∙ did.ran.event_sent;
+        line = said_is said (served_said settings given)
+            (sent_is ∙ five_sent.many ∙ many_are)
+            (failed_is ∙ none)
+            (rates settings.capacity _ stands).1 (rates settings.capacity _ stands).2 (rates settings.capacity _ stands).0;
+      }
+        where
+          many_are : (let n = λ (i : ℕ). length (sends_by (standing_as gm0 settings.capacity []) i did.ran.events) in n 0 + n 1 + n 2 + n 3 + n 4) ≡ (served_said settings given).sent
+          many_are =
+              let e0 = ap length (sends 0) in let e1 = ap length (sends 1) in let e2 = ap length (sends 2) in let e3 = ap length (sends 3) in let e4 = ap length (sends 4) in
+              omega (arith, e0, e1, e2, e3, e4)
+
+    pub serves_of : Serves ports clocks settings opened closed said
+    serves_of = record { failed = risen; sent = were_sent; served = are_served }

@@ -1,0 +1,95 @@
+-- That a datagram was received, or none.
+use Rattle.std.proofs.Common.{◌≡◌, ◌∙◌, inl, ℕ, ◌+◌, ◌≤◌, List, [], ◌∷◌, ◌++◌, length, take, drop, Option, Some, None, Result, Ok, Err, slice_get, refl, sym, ap, subst, arith}
+use Rattle.std.specs.Option.{IfNone, IfSome}
+use Rattle.std.specs.Result.{IfOk, OnErr, OnOk}
+use Rattle.ptu_outside.specs.declared.arrival.Arrival.{Arrival}
+use Rattle.ptu_outside.specs.declared.channel.Channel.TheVariants as channels
+use Rattle.ptu_outside.specs.declared.clock.Clock.{Ghosts as Clocks}
+use Rattle.ptu_outside.specs.declared.failed.Failed.{Failed}
+use Rattle.ptu_outside.specs.declared.port.Port.{Ghosts as Ports}
+use Rattle.ptu_outside.specs.Faults.{HasNotFallen, HasRisen, HasRisenBy}
+use Rattle.ptu_outside.specs.Telling.{IfTold, IsEmptyTold, IsFirstTold, rest_told}
+use Rattle.ptu_grandmaster.specs.Gm.{KeptGm}
+use Rattle.ptu_daemon.specs.declared.daemon.Daemon.{Daemon}
+use Rattle.ptu_daemon.specs.Ran.{Gives, Ran, Received, arrived}
+use Rattle.ptu_daemon.proofs.Handling.{still_fallen}
+use Rattle.ptu_daemon.proofs.Running.{gives_none, ran_quietly}
+
+gives_one : (old new : Option (List Arrival)) (a : Arrival) → IsFirstTold old a → IfTold new (rest_told old) → Gives old new (a ∷ [])
+gives_one old None a first rest = tt
+gives_one None (Some left) a first rest = absurd (cc)
+gives_one (Some []) (Some left) a first rest = absurd (cc)
+gives_one (Some (x ∷ xs)) (Some left) a first rest =
+    let one : x ≡ a = cc in
+    let two : drop 1 (x ∷ xs) ≡ left = cc in
+    ap (λ y. Some (y ∷ xs)) one ∙ ap (λ l. Some (a ∷ l)) two
+
+gives_kept : (old new : Option (List Arrival)) → IfTold new old → Gives old new []
+gives_kept old None kept = tt
+gives_kept old (Some left) kept = kept
+
+left_none : (old new : Option (List Arrival)) → IsEmptyTold old → IfTold new old → IfSome new (λ left. left ≡ [])
+left_none old None empty kept = tt
+left_none None (Some left) empty kept = absurd (cc)
+left_none (Some xs) (Some left) empty kept = let same : xs ≡ left = cc in sym same ∙ empty
+
+module _ {P C : Type 0} (ports : Ports P) (clocks : Clocks C) where
+  -- what one receive of a port does
+  pub record Receives (port port' : P) (bytes : List ℕ) (result : Result (Option (ℕ × ℕ)) Failed) : Type 0 where
+    pub within : IfOk result (λ got. IfSome got (λ a. a.1 ≤ 2048))
+    pub first : IfOk result (λ got. IfSome got (λ a. IsFirstTold (ports.waiting port) (arrived a.0 (take a.1 bytes))))
+    pub nothing : IfOk result (λ got. IfNone got (IsEmptyTold (ports.waiting port)))
+    pub rest : IfOk result (λ got. IfSome got (λ a. IfTold (ports.waiting port') (rest_told (ports.waiting port))))
+    pub left : IfOk result (λ got. IfNone got (IfTold (ports.waiting port') (ports.waiting port)))
+    pub kept : OnErr result (IfTold (ports.waiting port') (ports.waiting port))
+    pub sent : ports.sent port' ≡ ports.sent port
+    pub risen : OnErr result (HasRisen (ports.faults port) (ports.faults port'))
+    pub quiet : OnOk result (ports.faults port' ≡ ports.faults port)
+    pub no_fall : HasNotFallen (ports.faults port) (ports.faults port')
+
+  -- by the port of the general channel
+  came_general : (old : Daemon P C) (port' : P) (general : List Arrival) (failed : ℕ) → ports.sent port' ≡ ports.sent old.gm.reply →
+      HasNotFallen (ports.faults old.gm.reply) (ports.faults port') → HasRisenBy failed (ports.faults old.gm.reply) (ports.faults port') →
+      Gives (ports.waiting old.gm.reply) (ports.waiting port') general →
+      Ran ports clocks old (record old { gm = record (old.gm) { reply = port' } }) [] general [] 0 (failed + 0)
+  came_general old port' general failed sent no_fall risen gives =
+      ran_quietly ports clocks old (record old { gm = record (old.gm) { reply = port' } }) general [] failed 0 refl refl sent no_fall risen
+      refl (still_fallen (ports.faults old.event)) (inl (omega arith)) gives (gives_none (ports.waiting old.event))
+
+  came_event : (old : Daemon P C) (port' : P) (event : List Arrival) (failed : ℕ) → ports.sent port' ≡ ports.sent old.event →
+      HasNotFallen (ports.faults old.event) (ports.faults port') → HasRisenBy failed (ports.faults old.event) (ports.faults port') →
+      Gives (ports.waiting old.event) (ports.waiting port') event →
+      Ran ports clocks old (record old { event = port' }) [] [] event 0 (0 + failed)
+  came_event old port' event failed sent no_fall risen gives =
+      ran_quietly ports clocks old (record old { event = port' }) [] event 0 failed refl refl refl (still_fallen (ports.faults old.gm.reply)) (inl (omega arith))
+      sent no_fall risen (gives_none (ports.waiting old.gm.reply)) gives
+
+  pub received_general : (old : Daemon P C) (port' : P) (bytes : List ℕ) (result : Result (Option (ℕ × ℕ)) Failed) →
+      Receives old.gm.reply port' bytes result →
+      Received ports clocks channels.General old (record old { gm = record (old.gm) { reply = port' } }) bytes result
+  received_general old port' bytes (Ok (Some got)) r = (
+    r.within,
+    came_general old port' (arrived got.0 (take got.1 bytes) ∷ []) 0 r.sent r.no_fall (inl (omega (arith, r.quiet)))
+        (gives_one (ports.waiting old.gm.reply) (ports.waiting port') _ r.first r.rest),
+  )
+  received_general old port' bytes (Ok None) r = (
+    came_general old port' [] 0 r.sent r.no_fall (inl (omega (arith, r.quiet))) (gives_kept (ports.waiting old.gm.reply) (ports.waiting port') r.left),
+    left_none (ports.waiting old.gm.reply) (ports.waiting port') r.nothing r.left,
+  )
+  received_general old port' bytes (Err e) r =
+      came_general old port' [] 1 r.sent r.no_fall r.risen (gives_kept (ports.waiting old.gm.reply) (ports.waiting port') r.kept)
+
+  pub received_event : (old : Daemon P C) (port' : P) (bytes : List ℕ) (result : Result (Option (ℕ × ℕ)) Failed) →
+      Receives old.event port' bytes result →
+      Received ports clocks channels.Event old (record old { event = port' }) bytes result
+  received_event old port' bytes (Ok (Some got)) r = (
+    r.within,
+    came_event old port' (arrived got.0 (take got.1 bytes) ∷ []) 0 r.sent r.no_fall (inl (omega (arith, r.quiet)))
+        (gives_one (ports.waiting old.event) (ports.waiting port') _ r.first r.rest),
+  )
+  received_event old port' bytes (Ok None) r = (
+    came_event old port' [] 0 r.sent r.no_fall (inl (omega (arith, r.quiet))) (gives_kept (ports.waiting old.event) (ports.waiting port') r.left),
+    left_none (ports.waiting old.event) (ports.waiting port') r.nothing r.left,
+  )
+  received_event old port' bytes (Err e) r =
+      came_event old port' [] 1 r.sent r.no_fall r.risen (gives_kept (ports.waiting old.event) (ports.waiting port') r.kept)

@@ -1,0 +1,207 @@
+-- What parts of the daemon have done, one after the other.
+use Rattle.std.proofs.Common.{◌≡◌, ◌∙◌, inl, ℕ, suc, zero, ◌+◌, List, [], ◌∷◌, ◌++◌, length, flat_map, Option, Some, None, slice_get, refl, sym, ap, subst, arith, append_assoc, length-append, Result, Ok, Err}
+use Rattle.std.specs.Result.{IfOk}
+use Rattle.std.specs.Option.{option_map}
+use Rattle.std.proofs.lemmas.List.{append-nil}
+use Rattle.ptu_outside.specs.declared.arrival.Arrival.{Arrival}
+use Rattle.ptu_outside.specs.declared.clock.Clock.{Ghosts as Clocks}
+use Rattle.ptu_outside.specs.declared.port.Port.{Ghosts as Ports}
+use Rattle.ptu_outside.specs.Clocks.{after_first}
+use Rattle.ptu_outside.specs.Faults.{HasNotFallen, HasRisenBy}
+use Rattle.ptu_outside.specs.Telling.{IfTold, IsFirstTold}
+use Rattle.ptu_history.specs.History.{Record}
+use Rattle.ptu_grandmaster.specs.declared.driving.GmEvent.{GmEvent}
+use Rattle.ptu_grandmaster.specs.Gm.{KeptGm, StandsFor}
+use Rattle.ptu_rounds.specs.Rounds.{moments_after, next_of, timed}
+use Rattle.ptu_daemon.specs.declared.daemon.Daemon.{Daemon}
+use Rattle.ptu_daemon.specs.Events.{Happening}
+use Rattle.ptu_daemon.specs.Ran.{AllHandled, Does, Gives, Ran, Takes, after_all, five, standing_as}
+use Rattle.ptu_daemon.specs.Sends.{Standing, event_sends, sends_by, standing_after}
+use Rattle.ptu_daemon.proofs.Handling.{all_more, all_same, five_handled, handled_idle, handled_same, not_fallen_more, risen_more, still_fallen}
+
+pub ok_more : {T E : Type 0} {A B : T → Type 0} (r : Result T E) → ((x : T) → A x → B x) → IfOk r A → IfOk r B
+ok_more (Ok x) f h = f x h
+ok_more (Err e) f h = tt
+
+-- ---- moments
+
+pub moments_add : (m n : ℕ) (moments : List ℕ) → moments_after (m + n) moments ≡ moments_after n (moments_after m moments)
+unfolding moments_after
+moments_add zero n moments =
+    let e : zero + n ≡ n = omega arith in
+    ap (λ k. moments_after k moments) e
+moments_add (suc m) n moments =
+    let e : suc m + n ≡ suc (m + n) = omega arith in
+    ap (λ k. moments_after k moments) e ∙ moments_add m n (after_first moments)
+
+pub timed-append : (moments : List ℕ) (xs ys : List Happening) → timed moments (xs ++ ys) ≡ timed moments xs ++ timed (moments_after (length xs) moments) ys
+unfolding timed moments_after
+timed-append moments [] ys = refl
+timed-append moments (x ∷ xs) ys = ap (λ l. x (next_of moments) ∷ l) (timed-append (after_first moments) xs ys)
+
+pub takes_none : (told : Option (List ℕ)) → Takes told told [] []
+unfolding timed moments_after
+takes_none None = tt
+takes_none (Some moments) = (moments, refl, refl, refl)
+
+takes_one : (old new : Option (List ℕ)) (t : ℕ) (happens : Happening) → IsFirstTold old t → IfTold new (option_map after_first old) →
+    Takes old new (happens ∷ []) (happens t ∷ [])
+unfolding timed moments_after
+takes_one old None t happens first rest = tt
+takes_one None (Some left) t happens first rest = absurd (cc)
+takes_one (Some []) (Some left) t happens first rest = absurd (cc)
+takes_one (Some (m ∷ moments)) (Some left) t happens first rest =
+    let is : m ≡ t = cc in
+    let after : after_first (m ∷ moments) ≡ left = cc in
+    (m ∷ moments, refl, ap (λ x. happens x ∷ []) (sym is), sym after)
+
+takes_more : (old now new : Option (List ℕ)) (xs ys : List Happening) (es fs : List GmEvent) → Takes old now xs es → Takes now new ys fs → Takes old new (xs ++ ys) (es ++ fs)
+takes_more old now None xs ys es fs h k = tt
+takes_more old None (Some left) xs ys es fs h (moments, e, k, l) = absurd (cc)
+takes_more old (Some middle) (Some left) xs ys es fs (moments, e, events, after) (moments', e', events', after') =
+    let same : middle ≡ moments' = cc in
+    let is : moments' ≡ moments_after (length xs) moments = sym same ∙ after in (
+      moments,
+      e,
+      ap (λ l. l ++ fs) events ∙ ap (λ l. timed moments xs ++ l) (events' ∙ ap (λ ms. timed ms ys) is) ∙ sym (timed-append moments xs ys),
+      after' ∙ ap (moments_after (length ys)) is ∙ sym (moments_add (length xs) (length ys) moments) ∙ ap (λ n. moments_after n moments) (sym (length-append xs ys)),
+    )
+
+-- ---- what waits
+
+pub gives_none : (told : Option (List Arrival)) → Gives told told []
+gives_none None = tt
+gives_none (Some left) = refl
+
+gives_more : (old now new : Option (List Arrival)) (xs ys : List Arrival) → Gives old now xs → Gives now new ys → Gives old new (xs ++ ys)
+gives_more old now None xs ys h k = tt
+gives_more old None (Some left) xs ys h k = absurd (cc)
+gives_more old (Some middle) (Some left) xs ys h k =
+    let is : middle ≡ ys ++ left = cc in
+    h ∙ ap (λ l. Some (xs ++ l)) is ∙ ap Some (sym (append_assoc xs ys left))
+
+-- ---- events
+
+pub after_all-append : (gm : Standing) (xs ys : List GmEvent) → after_all gm (xs ++ ys) ≡ after_all (after_all gm xs) ys
+after_all-append gm [] ys = refl
+after_all-append gm (x ∷ xs) ys = after_all-append (standing_after gm x) xs ys
+
+pub after_is : (gm : Standing) (xs : List GmEvent) → after_all gm xs ≡ record gm { past = (after_all gm xs).past }
+after_is gm [] = refl
+after_is gm (x ∷ xs) = after_is (standing_after gm x) xs
+
+pub sends_by-append : (gm : Standing) (i : ℕ) (xs ys : List GmEvent) → sends_by gm i (xs ++ ys) ≡ sends_by gm i xs ++ sends_by (after_all gm xs) i ys
+unfolding sends_by
+sends_by-append gm i [] ys = refl
+sends_by-append gm i (x ∷ xs) ys =
+    ap (λ l. event_sends gm i x ++ l) (sends_by-append (standing_after gm x) i xs ys)
+    ∙ sym (append_assoc (event_sends gm i x) (sends_by (standing_after gm x) i xs) (sends_by (after_all (standing_after gm x) xs) i ys))
+
+module _ {P C : Type 0} (ports : Ports P) (clocks : Clocks C) where
+  -- nothing has happened, but for what the ports received
+  pub ran_quietly : (old new : Daemon P C) (general event : List Arrival) (failed event_failed : ℕ) →
+      new.gm ≡ record (old.gm) { reply = new.gm.reply } → new.clock ≡ old.clock →
+      ports.sent new.gm.reply ≡ ports.sent old.gm.reply → HasNotFallen (ports.faults old.gm.reply) (ports.faults new.gm.reply) →
+      HasRisenBy failed (ports.faults old.gm.reply) (ports.faults new.gm.reply) →
+      ports.sent new.event ≡ ports.sent old.event → HasNotFallen (ports.faults old.event) (ports.faults new.event) →
+      HasRisenBy event_failed (ports.faults old.event) (ports.faults new.event) →
+      Gives (ports.waiting old.gm.reply) (ports.waiting new.gm.reply) general → Gives (ports.waiting old.event) (ports.waiting new.event) event →
+      Ran ports clocks old new [] general event 0 (failed + event_failed)
+  unfolding sends_by
+  ran_quietly old new general event failed event_failed same clock sent no_fall risen event_sent event_no_fall event_risen gives event_gives = record {
+    events = [];
+    config = ap (λ g. g.config) same;
+    takes = subst (λ c. Takes (clocks.moments old.clock) (clocks.moments c) [] []) (sym clock) (takes_none (clocks.moments old.clock));
+    general_given = gives;
+    event_given = event_gives;
+    event_sent = event_sent;
+    event_no_fall = event_no_fall;
+    event_failed = event_failed;
+    event_risen = event_risen;
+    others_failed = failed;
+    failures = refl;
+    does = λ opening past stood. (
+      stands opening past stood,
+      five_handled ports (λ i. []) old.gm new.gm 0 0 0 0 0 0 0 0 0 failed 0 failed
+          (handled_same ports _ _ (ap (λ g. g.s0.port) same)) (handled_same ports _ _ (ap (λ g. g.s1.port) same)) (handled_same ports _ _ (ap (λ g. g.s2.port) same))
+          (handled_same ports _ _ (ap (λ g. g.s3.port) same)) (handled_idle ports old.gm.reply new.gm.reply failed sent no_fall risen) (omega arith) (omega arith),
+    );
+  }
+    where
+      stands : (opening : ℕ) (past : List Record) → StandsFor opening old.gm past → StandsFor opening new.gm past
+      stands opening past stood =
+          subst (λ g. StandsFor opening g past) (sym same) (record { decided = stood.decided; granted = stood.granted; refused = stood.refused; sequence = stood.sequence })
+
+  pub ran_none : (daemon : Daemon P C) → Ran ports clocks daemon daemon [] [] [] 0 0
+  ran_none daemon =
+      ran_quietly daemon daemon [] [] 0 0 refl refl refl (still_fallen (ports.faults daemon.gm.reply)) (inl (omega arith))
+      refl (still_fallen (ports.faults daemon.event)) (inl (omega arith))
+      (gives_none (ports.waiting daemon.gm.reply)) (gives_none (ports.waiting daemon.event))
+
+  -- an event has happened at a new moment
+  pub ran_event : (old new : Daemon P C) (t : ℕ) (happens : Happening) (sent failed : ℕ) →
+      IsFirstTold (clocks.moments old.clock) t → IfTold (clocks.moments new.clock) (option_map after_first (clocks.moments old.clock)) →
+      new.event ≡ old.event → Does ports old.gm new.gm (happens t) sent failed →
+      Ran ports clocks old new (happens ∷ []) [] [] sent failed
+  unfolding sends_by
+  ran_event old new t happens sent failed first rest same h = record {
+    events = happens t ∷ [];
+    config = h.config;
+    takes = takes_one (clocks.moments old.clock) (clocks.moments new.clock) t happens first rest;
+    general_given = subst (λ told. Gives (ports.waiting old.gm.reply) told []) (sym h.waiting) (gives_none (ports.waiting old.gm.reply));
+    event_given = subst (λ p. Gives (ports.waiting old.event) (ports.waiting p) []) (sym same) (gives_none (ports.waiting old.event));
+    event_sent = ap ports.sent same;
+    event_no_fall = subst (λ p. HasNotFallen (ports.faults old.event) (ports.faults p)) (sym same) (still_fallen (ports.faults old.event));
+    event_failed = 0;
+    event_risen = inl (omega (arith, ap ports.faults same));
+    others_failed = failed;
+    failures = omega arith;
+    does = λ opening past stood. (
+      (h.does opening past stood).0,
+      all_same ports (λ i. event_sends (standing_as old.gm opening past) i (happens t)) _ 0 sent failed (five old.gm) (five new.gm)
+          (λ i. append-nil (event_sends (standing_as old.gm opening past) i (happens t))) (h.does opening past stood).1,
+    );
+  }
+
+  -- one after the other
+  pub ran_more : (old now new : Daemon P C) (xs ys : List Happening) (gs gs' es es' : List Arrival) (s f s' f' : ℕ) →
+      Ran ports clocks old now xs gs es s f → Ran ports clocks now new ys gs' es' s' f' →
+      Ran ports clocks old new (xs ++ ys) (gs ++ gs') (es ++ es') (s + s') (f + f')
+  ran_more old now new xs ys gs gs' es es' s f s' f' h k = record {
+    events = h.events ++ k.events;
+    config = k.config ∙ h.config;
+    takes = takes_more (clocks.moments old.clock) (clocks.moments now.clock) (clocks.moments new.clock) xs ys h.events k.events h.takes k.takes;
+    general_given = gives_more (ports.waiting old.gm.reply) (ports.waiting now.gm.reply) (ports.waiting new.gm.reply) gs gs' h.general_given k.general_given;
+    event_given = gives_more (ports.waiting old.event) (ports.waiting now.event) (ports.waiting new.event) es es' h.event_given k.event_given;
+    event_sent = k.event_sent ∙ h.event_sent;
+    event_no_fall = not_fallen_more (ports.faults old.event) (ports.faults now.event) (ports.faults new.event) h.event_no_fall k.event_no_fall;
+    event_failed = h.event_failed + k.event_failed;
+    event_risen = risen_more h.event_failed k.event_failed (ports.faults old.event) (ports.faults now.event) (ports.faults new.event) h.event_risen k.event_risen k.event_no_fall;
+    others_failed = h.others_failed + k.others_failed;
+    failures = omega (arith, h.failures, k.failures);
+    does = both;
+  }
+    where
+      both : (opening : ℕ) (past : List Record) → StandsFor opening old.gm past →
+          StandsFor opening new.gm ((after_all (standing_as old.gm opening past) (h.events ++ k.events)).past)
+          × AllHandled ports (λ i. sends_by (standing_as old.gm opening past) i (h.events ++ k.events)) 0 (s + s') (h.others_failed + k.others_failed) (five old.gm) (five new.gm)
+      both opening past stood =
+          let gm : Standing = standing_as old.gm opening past in
+          let one = h.does opening past stood in
+          let two = k.does opening ((after_all gm h.events).past) one.0 in
+          let is : standing_as now.gm opening ((after_all gm h.events).past) ≡ after_all gm h.events =
+          ap (λ c. record { config = c; opening = opening; past = (after_all gm h.events).past }) h.config ∙ sym (after_is gm h.events) in (
+            subst (λ (after : Standing). StandsFor opening new.gm after.past)
+                (ap (λ g. after_all g k.events) is ∙ sym (after_all-append gm h.events k.events)) two.0,
+            all_more ports (λ i. sends_by gm i h.events) (λ i. sends_by (standing_as now.gm opening ((after_all gm h.events).past)) i k.events)
+                (λ i. sends_by gm i (h.events ++ k.events)) 0 s h.others_failed s' k.others_failed (five old.gm) (five now.gm) (five new.gm)
+                (λ i. sends_by-append gm i h.events k.events ∙ ap (λ g. sends_by gm i h.events ++ sends_by g i k.events) (sym is)) one.1 two.1,
+          )
+
+  -- the same, said otherwise
+  pub ran_as : (old new : Daemon P C) (xs xs' : List Happening) (gs gs' es es' : List Arrival) (s s' f f' : ℕ) →
+      xs ≡ xs' → gs ≡ gs' → es ≡ es' → s ≡ s' → f ≡ f' → Ran ports clocks old new xs gs es s f → Ran ports clocks old new xs' gs' es' s' f'
+  ran_as old new xs xs' gs gs' es es' s s' f f' a b c d e h =
+      subst (λ x. Ran ports clocks old new x gs' es' s' f') a (subst (λ x. Ran ports clocks old new xs x es' s' f') b
+      (subst (λ x. Ran ports clocks old new xs gs x s' f') c (subst (λ x. Ran ports clocks old new xs gs es x f') d
+      (subst (λ x. Ran ports clocks old new xs gs es s x) e h))))

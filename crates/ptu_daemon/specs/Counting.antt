@@ -1,0 +1,29 @@
+-- How many datagrams answered a datagram that was taken.
+use Rattle.std.specs.Prelude.{ℕ}
+use Rattle.ptu_shard.specs.Answered as delays
+use Rattle.ptu_grandmaster.specs.declared.outcome.Reply.{Reply}
+use Rattle.ptu_grandmaster.specs.declared.outcome.Reply.TheVariants.{Sent, Failed, Nothing}
+use Rattle.ptu_grandmaster.specs.declared.outcome.Taken.{Taken}
+use Rattle.ptu_grandmaster.specs.declared.outcome.Taken.TheVariants.{Ignored, Delay, Asked}
+
+abbrev pub reply_sent : Reply → ℕ
+reply_sent Sent = 1
+reply_sent Failed = 0
+reply_sent Nothing = 0
+
+abbrev pub reply_failed : Reply → ℕ
+reply_failed Sent = 0
+reply_failed Failed = 1
+reply_failed Nothing = 0
+
+-- so many were sent
+abbrev pub sent_for : Taken → ℕ
+sent_for (Ignored reason) = 0
+sent_for (Delay answered) = delays.sent_by answered
+sent_for (Asked outcomes reply) = reply_sent reply
+
+-- the sends of so many failed
+abbrev pub failed_for : Taken → ℕ
+failed_for (Ignored reason) = 0
+failed_for (Delay answered) = delays.failed_by answered
+failed_for (Asked outcomes reply) = reply_failed reply

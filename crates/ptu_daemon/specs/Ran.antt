@@ -1,0 +1,172 @@
+-- What a part of the daemon has done so far.
+use Rattle.std.specs.Prelude.{◌≡◌, ◌⊎◌, ℕ, ◌+◌, ◌*◌, ◌^◌, ◌≤◌, List, [], ◌∷◌, ◌++◌, length, map, flat_map, take, Option, Some, None, Result, Ok, Err, IfSome, option_map}
+use Rattle.ptu_outside.specs.declared.arrival.Arrival.{Arrival}
+use Rattle.ptu_outside.specs.declared.channel.Channel.{Channel}
+use Rattle.ptu_outside.specs.declared.channel.Channel.TheVariants as channels
+use Rattle.ptu_outside.specs.declared.clock.Clock.{Ghosts as Clocks}
+use Rattle.ptu_outside.specs.declared.failed.Failed.{Failed}
+use Rattle.ptu_outside.specs.declared.port.Port.{Ghosts as Ports}
+use Rattle.ptu_outside.specs.Departure.{Departure}
+use Rattle.ptu_outside.specs.Faults.{HasNotFallen, HasRisen, HasRisenBy}
+use Rattle.ptu_outside.specs.Telling.{IfTold, append_told}
+use Rattle.ptu_history.specs.History.{Record}
+use Rattle.ptu_grandmaster.specs.declared.driving.GmEvent.{GmEvent}
+use Rattle.ptu_grandmaster.specs.Gm.{KeptGm, StandsFor}
+use Rattle.ptu_config.specs.declared.settings.GmSettings.{GmSettings}
+use Rattle.ptu_rounds.specs.Rounds.{in_rounds, left_after, moments_after, most, timed}
+use Rattle.ptu_daemon.specs.declared.daemon.Daemon.{Daemon}
+use Rattle.ptu_daemon.specs.declared.next.Next.{Next}
+use Rattle.ptu_daemon.specs.declared.next.Next.TheVariants as nexts
+use Rattle.ptu_daemon.specs.declared.tally.Tally.{Tally}
+use Rattle.ptu_daemon.specs.Events.{Given, Happening, change_in, round_of, taking, turns}
+use Rattle.ptu_daemon.specs.Sends.{Standing, event_sends, sends_by, standing_after}
+
+-- ---- one port
+
+-- these datagrams were handed to the port, of which so many were sent, and so many sends or receives failed
+pub record Handled {P : Type 0} (ports : Ports P) (sends : List Departure) (sent failed : ℕ) (old new : P) : Type 0 where
+  pub no_fall : HasNotFallen (ports.faults old) (ports.faults new)
+  pub risen : HasRisenBy failed (ports.faults old) (ports.faults new)
+  pub many : IfTold (option_map length (ports.sent new)) (option_map (λ list. length list + sent) (ports.sent old))
+  pub told : ¬ HasRisen (ports.faults old) (ports.faults new) → IfTold (ports.sent new) (append_told (ports.sent old) sends)
+  pub all : ¬ HasRisen (ports.faults old) (ports.faults new) → sent ≡ length sends
+
+-- likewise of each of these ports, the first of which has the index, together
+abbrev pub AllHandled : {P : Type 0} → Ports P → (ℕ → List Departure) → ℕ → ℕ → ℕ → List P → List P → Type 0
+AllHandled ports sends i sent failed [] [] = (sent ≡ 0) × (failed ≡ 0)
+AllHandled ports sends i sent failed (old ∷ olds) (new ∷ news) =
+    (s : ℕ) × (f : ℕ) × (s' : ℕ) × (f' : ℕ) × (sent ≡ s + s') × (failed ≡ f + f') × Handled ports (sends i) s f old new
+    × AllHandled ports sends (i + 1) s' f' olds news
+AllHandled ports sends i sent failed _ _ = ⊥
+
+-- the port gave these, the first that waited
+abbrev pub Gives : Option (List Arrival) → Option (List Arrival) → List Arrival → Type 0
+Gives old new arrivals = IfSome new (λ left. old ≡ Some (arrivals ++ left))
+
+-- ---- one event
+
+-- the five ports of a grandmaster
+abbrev pub five : {P : Type 0} → KeptGm P → List P
+five gm = gm.s0.port ∷ gm.s1.port ∷ gm.s2.port ∷ gm.s3.port ∷ gm.reply ∷ []
+
+abbrev pub standing_as : {P : Type 0} → KeptGm P → ℕ → List Record → Standing
+standing_as gm opening past = record { config = gm.config; opening = opening; past = past }
+
+-- the grandmaster did the event, by which so many datagrams were sent, and so many sends failed
+pub record Does {P : Type 0} (ports : Ports P) (old new : KeptGm P) (event : GmEvent) (sent failed : ℕ) : Type 0 where
+  pub config : new.config ≡ old.config
+  pub waiting : ports.waiting new.reply ≡ ports.waiting old.reply
+  pub does : (opening : ℕ) (past : List Record) → StandsFor opening old past →
+      let gm = standing_as old opening past in
+      StandsFor opening new ((standing_after gm event).past)
+      × AllHandled ports (λ i. event_sends gm i event) 0 sent failed (five old) (five new)
+
+-- ---- several events
+
+-- the grandmaster after the events
+abbrev pub after_all : Standing → List GmEvent → Standing
+after_all gm [] = gm
+after_all gm (event ∷ later) = after_all (standing_after gm event) later
+
+-- the moments of the clock were taken for what happens, one after the other
+abbrev pub Takes : Option (List ℕ) → Option (List ℕ) → List Happening → List GmEvent → Type 0
+Takes old new happenings events =
+    IfSome new (λ left. (moments : List ℕ) × (old ≡ Some moments) × (events ≡ timed moments happenings)
+    × (left ≡ moments_after (length happenings) moments))
+
+-- this happened, these were received of the two channels, and so many datagrams were sent and so many sends and receives failed
+pub record Ran {P C : Type 0} (ports : Ports P) (clocks : Clocks C) (old new : Daemon P C) (happenings : List Happening) (general event : List Arrival) (sent failed : ℕ) : Type 0 where
+  pub events : List GmEvent
+  pub config : new.gm.config ≡ old.gm.config
+  pub takes : Takes (clocks.moments old.clock) (clocks.moments new.clock) happenings events
+  pub general_given : Gives (ports.waiting old.gm.reply) (ports.waiting new.gm.reply) general
+  pub event_given : Gives (ports.waiting old.event) (ports.waiting new.event) event
+  pub event_sent : ports.sent new.event ≡ ports.sent old.event
+  pub event_no_fall : HasNotFallen (ports.faults old.event) (ports.faults new.event)
+  -- of the failures, those at the port of the event channel
+  pub event_failed : ℕ
+  pub event_risen : HasRisenBy event_failed (ports.faults old.event) (ports.faults new.event)
+  pub others_failed : ℕ
+  pub failures : failed ≡ others_failed + event_failed
+  pub does : (opening : ℕ) (past : List Record) → StandsFor opening old.gm past →
+      let gm = standing_as old.gm opening past in
+      StandsFor opening new.gm ((after_all gm events).past)
+      × AllHandled ports (λ i. sends_by gm i events) 0 sent others_failed (five old.gm) (five new.gm)
+
+-- ---- parts of a round
+
+-- so many steps of the daemon were counted
+abbrev pub IsSmall : ℕ → Tally → Type 0
+IsSmall steps tally = (tally.sent ≤ steps * 2 ^ 64) × (tally.failed ≤ steps * 2 ^ 64)
+
+-- the datagram that came from the address
+abbrev pub arrived : ℕ → List ℕ → Arrival
+arrived from bytes = record { ip = from; bytes = bytes }
+
+-- of what is received of one channel, that of the general, and of the event channel
+abbrev pub on_general : Channel → List Arrival → List Arrival
+on_general channels.General arrivals = arrivals
+on_general channels.Event arrivals = []
+
+abbrev pub on_event : Channel → List Arrival → List Arrival
+on_event channels.General arrivals = []
+on_event channels.Event arrivals = arrivals
+
+-- the port that receives the channel
+abbrev pub port_of : {P C : Type 0} → Channel → Daemon P C → P
+port_of channels.General daemon = daemon.gm.reply
+port_of channels.Event daemon = daemon.event
+
+-- where nothing failed, all that waited were received, or as many as a round takes
+abbrev pub Drains : {P : Type 0} → Ports P → ℕ → P → List Arrival → Type 0
+Drains ports failed new arrivals =
+    failed ≡ 0 → IfSome (ports.waiting new) (λ left. (length arrivals ≡ most) ⊎ ((length arrivals ≤ most) × (left ≡ [])))
+
+-- what a receive of the channel, to these octets, gave
+abbrev pub Received : {P C : Type 0} → Ports P → Clocks C → Channel → Daemon P C → Daemon P C → List ℕ → Result (Option (ℕ × ℕ)) Failed → Type 0
+Received ports clocks channel old new bytes (Ok (Some got)) =
+    (got.1 ≤ 2048)
+    × Ran ports clocks old new [] (on_general channel (arrived got.0 (take got.1 bytes) ∷ [])) (on_event channel (arrived got.0 (take got.1 bytes) ∷ [])) 0 0
+Received ports clocks channel old new bytes (Ok None) =
+    Ran ports clocks old new [] [] [] 0 0 × IfSome (ports.waiting (port_of channel new)) (λ left. left ≡ [])
+Received ports clocks channel old new bytes (Err failed) = Ran ports clocks old new [] [] [] 0 1
+
+-- what came of the next datagram of a channel: it was received and taken, none waited, or the receive failed
+abbrev pub CameTo : {P C : Type 0} → Ports P → Clocks C → Channel → Daemon P C → Daemon P C → Next → Type 0
+CameTo ports clocks channel old new (nexts.Taken tally) =
+    (arrival : Arrival) × Ran ports clocks old new (taking arrival ∷ []) (on_general channel (arrival ∷ [])) (on_event channel (arrival ∷ [])) tally.sent tally.failed
+    × IsSmall 1 tally
+CameTo ports clocks channel old new nexts.Nothing =
+    Ran ports clocks old new [] [] [] 0 0 × IfSome (ports.waiting (port_of channel new)) (λ left. left ≡ [])
+CameTo ports clocks channel old new nexts.Failed = Ran ports clocks old new [] [] [] 0 1
+
+-- the daemon took what waits on one channel
+pub record TookChannel {P C : Type 0} (ports : Ports P) (clocks : Clocks C) (channel : Channel) (old new : Daemon P C) (tally : Tally) : Type 0 where
+  pub arrivals : List Arrival
+  pub ran : Ran ports clocks old new (map taking arrivals) (on_general channel arrivals) (on_event channel arrivals) tally.sent tally.failed
+  pub drains : Drains ports tally.failed (port_of channel new) arrivals
+
+-- the daemon did a round, before which there were so many
+pub record DidRound {P C : Type 0} (ports : Ports P) (clocks : Clocks C) (settings : GmSettings) (before : ℕ) (old new : Daemon P C) (tally : Tally) : Type 0 where
+  pub general : List Arrival
+  pub event : List Arrival
+  pub ran : Ran ports clocks old new (change_in settings before ++ map taking (general ++ event) ++ turns) general event tally.sent tally.failed
+  pub general_drains : Drains ports tally.failed new.gm.reply general
+  pub event_drains : Drains ports tally.failed new.event event
+
+-- ---- rounds
+
+-- what waits at its two ports
+abbrev pub Waits : {P C : Type 0} → Ports P → Daemon P C → List Arrival → List Arrival → Type 0
+Waits ports daemon general event = (ports.waiting daemon.gm.reply ≡ Some general) × (ports.waiting daemon.event ≡ Some event)
+
+-- the daemon did so many rounds
+pub record DidRounds {P C : Type 0} (ports : Ports P) (clocks : Clocks C) (settings : GmSettings) (rounds : ℕ) (old new : Daemon P C) (tally : Tally) : Type 0 where
+  pub happenings : List Happening
+  pub general : List Arrival
+  pub event : List Arrival
+  pub ran : Ran ports clocks old new happenings general event tally.sent tally.failed
+  pub all : (given : Given) (general_left event_left : List Arrival) → tally.failed ≡ 0 →
+      Waits ports old given.general given.event → Waits ports new general_left event_left →
+      (happenings ≡ in_rounds (round_of settings given) rounds)
+      × (general_left ≡ left_after rounds given.general) × (event_left ≡ left_after rounds given.event)

@@ -1,0 +1,178 @@
+//! A grandmaster with the port of its event channel and its clock, and the rounds that it does.
+
+ghost use Rattle.std.specs.Prelude.{◌≡◌, ◌<◌, ◌+◌, ◌^◌, ◌∷◌, [], true, IfOk, IfSome};
+ghost use Rattle.ptu_admit.specs.Book.{IsCapacity};
+ghost use Rattle.ptu_grandmaster.specs.declared.driving.GmEvent.{GmEvent};
+ghost use Rattle.ptu_config.specs.Limits.{IsGmInRange};
+ghost use Rattle.ptu_daemon.specs.Events.{change_in, change_to, taking, turns};
+ghost use Rattle.ptu_daemon.specs.Ran.{CameTo, DidRound, DidRounds, IsSmall, Ran, Received, TookChannel, arrived};
+
+use crate::events;
+use crate::next::Next;
+use crate::tally::Tally;
+use ptu_config::GmSettings;
+use ptu_grandmaster::Gm;
+use ptu_outside::{Channel, Clock, Failed, Port};
+use ptu_units::OutOfMemory;
+
+/// How many datagrams of a channel a round takes at most.
+const MOST: u32 = 64;
+
+/// The index of the port of a grandmaster's Signaling messages, which receives the general channel.
+const SIGNALING_PORT: usize = 4;
+
+/// A grandmaster as a daemon.
+#[derive(Drop)]
+pub(crate) struct Daemon<P: Port, C: Clock> {
+    pub gm: Gm<P>,
+    /// The port of the event channel.
+    pub event: P,
+    /// The clock whose moments the events take.
+    pub clock: C,
+}
+
+// The capacity to which a round changes, before which there were so many, if it changes it.
+fn change_before(settings: &GmSettings, before: u32) -> Option<u64>
+    requires range { IsGmInRange settings.now }
+    requires before { before + 1 < 2 ^ 32 }
+    ensures change { change_in settings.now before ≡ change_to true result }
+    ensures range { IfSome result (λ capacity. IsCapacity capacity) }
+{
+    if settings.change_round == before + 1 {
+        settings.new_capacity
+    } else {
+        None
+    }
+}
+
+impl<P: Port, C: Clock> Daemon<P, C> {
+    // A table, from 0 to 3, takes a turn at a new moment.
+    fn turn(&mut self, table: usize) -> Tally
+        requires { table < 4 }
+        ensures ran { Ran P.Port C.Clock self.old self.new ((λ t. GmEvent.Turn t table) ∷ []) [] []
+            result.sent result.failed }
+        ensures small { IsSmall 1 result }
+    {
+        let at = self.clock.now();
+        events::turn(&mut self.gm, at, table)
+    }
+
+    // All tables take a turn.
+    fn turn_tables(&mut self) -> Tally
+        ensures ran { Ran P.Port C.Clock self.old self.new turns [] [] result.sent result.failed }
+        ensures small { IsSmall 4 result }
+    {
+        let first = self.turn(0);
+        let second = first.plus(self.turn(1));
+        let third = second.plus(self.turn(2));
+        third.plus(self.turn(3))
+    }
+
+    // Changes the capacity at a new moment.
+    fn change(&mut self, capacity: u64) -> Result<Tally, OutOfMemory>
+        requires { IsCapacity capacity }
+        ensures ran { IfOk result (λ tally. Ran P.Port C.Clock self.old self.new
+            ((λ t. GmEvent.Capacity t capacity) ∷ []) [] [] tally.sent tally.failed) }
+        ensures small { IfOk result (λ tally. IsSmall 1 tally) }
+    {
+        let at = self.clock.now();
+        events::change(&mut self.gm, at, capacity)
+    }
+
+    // Begins a round, before which there were so many, with the change of the capacity where it is
+    // the one for it.
+    fn begin(&mut self, settings: &GmSettings, before: u32) -> Result<Tally, OutOfMemory>
+        requires range { IsGmInRange settings.now }
+        requires before { before + 1 < 2 ^ 32 }
+        ensures ran { IfOk result (λ tally. Ran P.Port C.Clock self.old self.new
+            (change_in settings.now before) [] [] tally.sent tally.failed) }
+        ensures small { IfOk result (λ tally. IsSmall 1 tally) }
+    {
+        match change_before(settings, before) {
+            Some(capacity) => self.change(capacity),
+            None => Ok(Tally::default()),
+        }
+    }
+
+    // Takes a datagram at a new moment, which came from this IPv4 address.
+    fn take(&mut self, from: u32, bytes: &[u8]) -> Result<Tally, OutOfMemory>
+        ensures ran { IfOk result (λ tally. Ran P.Port C.Clock self.old self.new
+            (taking (arrived from bytes.now) ∷ []) [] [] tally.sent tally.failed) }
+        ensures small { IfOk result (λ tally. IsSmall 1 tally) }
+    {
+        let at = self.clock.now();
+        events::take(&mut self.gm, at, from, bytes)
+    }
+
+    // Receives the next datagram of the channel.
+    fn receive(
+        &mut self,
+        channel: Channel,
+        buf: &mut [u8; 2048],
+    ) -> Result<Option<(u32, usize)>, Failed>
+        ensures { Received P.Port C.Clock channel self.old self.new buf.new result }
+    {
+        match channel {
+            Channel::General => self.gm.ports(SIGNALING_PORT).receive(buf),
+            Channel::Event => self.event.receive(buf),
+        }
+    }
+
+    // Takes the next datagram of the channel.
+    fn take_next(&mut self, channel: Channel, buf: &mut [u8; 2048]) -> Result<Next, OutOfMemory>
+        ensures { IfOk result (λ next.
+            CameTo P.Port C.Clock channel self.old self.new next) }
+    {
+        match self.receive(channel, buf) {
+            Ok(Some((from, length))) => Ok(Next::Taken(self.take(from, &buf[..length])?)),
+            Ok(None) => Ok(Next::Nothing),
+            Err(Failed) => Ok(Next::Failed),
+        }
+    }
+
+    // Takes what waits on the channel, up to as many as a round takes.
+    fn take_channel(&mut self, channel: Channel) -> Result<Tally, OutOfMemory>
+        ensures took { IfOk result (λ tally.
+            TookChannel P.Port C.Clock channel self.old self.new tally) }
+        ensures small { IfOk result (λ tally. IsSmall 64 tally) }
+    {
+        let mut buf = [0; 2048];
+        let mut tally = Tally::default();
+        for _ in 0..MOST {
+            match self.take_next(channel, &mut buf)? {
+                Next::Taken(more) => tally = tally.plus(more),
+                Next::Nothing => return Ok(tally),
+                Next::Failed => return Ok(tally.plus(Tally { sent: 0, failed: 1 })),
+            }
+        }
+        Ok(tally)
+    }
+
+    // Does a round, before which there were so many.
+    fn round(&mut self, settings: &GmSettings, before: u32) -> Result<Tally, OutOfMemory>
+        requires range { IsGmInRange settings.now }
+        requires before { before + 1 < 2 ^ 32 }
+        ensures did { IfOk result (λ tally.
+            DidRound P.Port C.Clock settings.now before self.old self.new tally) }
+        ensures small { IfOk result (λ tally. IsSmall 256 tally) }
+    {
+        let begun = self.begin(settings, before)?;
+        let general = self.take_channel(Channel::General)?;
+        let event = self.take_channel(Channel::Event)?;
+        let turned = self.turn_tables();
+        Ok(begun.plus(general).plus(event).plus(turned))
+    }
+
+    /// Does all rounds.
+    pub(crate) fn rounds(&mut self, settings: &GmSettings) -> Result<Tally, OutOfMemory>
+        requires range { IsGmInRange settings.now }
+        ensures did { IfOk result (λ tally.
+            DidRounds P.Port C.Clock settings.now settings.now.rounds self.old self.new tally) }
+    {
+        let mut tally = Tally::default();
+        for before in 0..settings.rounds {
+            tally = tally.plus_round(self.round(settings, before)?, before);
+        }
+        Ok(tally)
+    }
+}

@@ -1,0 +1,14 @@
+//! The next datagram of a channel.
+
+use crate::tally::Tally;
+
+/// What came of the next datagram of a channel.
+#[derive(Clone, Copy, Debug, PartialEq, Eq)]
+pub(crate) enum Next {
+    /// It was received and taken, and so much was sent for it.
+    Taken(Tally),
+    /// None waits.
+    Nothing,
+    /// The receive failed.
+    Failed,
+}
