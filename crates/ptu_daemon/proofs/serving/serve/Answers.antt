@@ -17,26 +17,30 @@ pub returns-clause-served : goal.returns-clause-served
 returns-clause-served g c =
     let said = said_by c.in_ok-back.closing in
     let text_is = c.as_str.ensures.value ∙ c.in_ok-text.ensures ∙ ap (λ n. closing_line n said) c.in_ok-back.ensures.rounds in
-    on_ok_more c.put.result (λ put. (said,
-    subst (λ line. HasPut g.K.Sink.written g.K.Sink.handed c.args.sink.now c.put.new.sink (line ∷ [])) text_is put,
-    record {
-      opened = c.in-Ok.opened;
-      closed = c.in_ok-back.back;
-      opens = c.in-Ok.ensures.opened;
-      gives_back = c.close.ensures.back;
-      serves = c.in_ok-back.ensures.serves;
-    })) c.put.ensures.whole
+    on_ok_more c.put.result (λ put. (
+      said,
+      subst (λ line. HasPut g.K.Sink.written g.K.Sink.handed c.args.sink.now c.put.new.sink (line ∷ [])) text_is put,
+      record {
+        opened = c.in-Ok.opened;
+        closed = c.in_ok-back.back;
+        opens = c.in-Ok.ensures.opened;
+        gives_back = c.close.ensures.back;
+        serves = c.in_ok-back.ensures.serves;
+      },
+    )) c.put.ensures.whole
 
 pub returns-clause-part : goal.returns-clause-part
 returns-clause-part g c =
     let said = said_by c.in_ok-back.closing in
     let text_is = c.as_str.ensures.value ∙ c.in_ok-text.ensures ∙ ap (λ n. closing_line n said) c.in_ok-back.ensures.rounds in
-    if_err_more (λ fault. fault ≡ faults.Write) c.put.result (λ put. (said,
-    subst (λ line. HasPutFront g.K.Sink.written g.K.Sink.handed c.args.sink.now c.put.new.sink line) text_is put,
-    record {
-      opened = c.in-Ok.opened;
-      closed = c.in_ok-back.back;
-      opens = c.in-Ok.ensures.opened;
-      gives_back = c.close.ensures.back;
-      serves = c.in_ok-back.ensures.serves;
-    })) c.put.ensures.part
+    if_err_more (λ fault. fault ≡ faults.Write) c.put.result (λ put. (
+      said,
+      subst (λ line. HasPutFront g.K.Sink.written g.K.Sink.handed c.args.sink.now c.put.new.sink line) text_is put,
+      record {
+        opened = c.in-Ok.opened;
+        closed = c.in_ok-back.back;
+        opens = c.in-Ok.ensures.opened;
+        gives_back = c.close.ensures.back;
+        serves = c.in_ok-back.ensures.serves;
+      },
+    )) c.put.ensures.part
