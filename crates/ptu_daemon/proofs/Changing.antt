@@ -1,5 +1,5 @@
 -- That the capacity has changed.
-use Rattle.std.proofs.Common.{◌≡◌, ◌∙◌, ℕ, ◌+◌, ◌%◌, List, [], ◌∷◌, ◌++◌, map, refl, sym, ap, ap₂, subst, arith}
+use Rattle.std.proofs.Common.{◌≡◌, ◌∙◌, ℕ, ◌+◌, ◌%◌, List, [], ◌∷◌, ◌++◌, map, refl, sym, ap, ap₂, arith}
 use Rattle.std.proofs.lemmas.Simd.{map-map}
 use Rattle.ptu_units.specs.declared.kind.Kind.{Kind}
 use Rattle.ptu_outside.specs.declared.port.Port.{Ghosts as Ports}

@@ -1,5 +1,5 @@
 -- That what waits on a channel was taken.
-use Rattle.std.proofs.Common.{◌≡◌, ◌∙◌, ◌⊎◌, inl, inr, ℕ, ◌+◌, ◌*◌, ◌^◌, ◌≤◌, List, [], ◌∷◌, ◌++◌, length, map, Option, Some, None, refl, sym, ap, subst, arith, length-append}
+use Rattle.std.proofs.Common.{◌≡◌, ◌∙◌, ◌⊎◌, inl, inr, ℕ, ◌+◌, ◌≤◌, List, [], ◌∷◌, ◌++◌, length, map, Option, Some, None, refl, sym, ap, arith, length-append}
 use Rattle.std.proofs.lemmas.List.{append-nil, map-append}
 use Rattle.std.specs.Option.{IfSome}
 use Rattle.ptu_outside.specs.declared.arrival.Arrival.{Arrival}
@@ -11,7 +11,7 @@ use Rattle.ptu_daemon.specs.declared.daemon.Daemon.{Daemon}
 use Rattle.ptu_daemon.specs.declared.next.Next.TheVariants as nexts
 use Rattle.ptu_daemon.specs.declared.tally.Tally.{Tally}
 use Rattle.ptu_daemon.specs.Events.{taking}
-use Rattle.ptu_daemon.specs.Ran.{CameTo, Drains, IsSmall, Ran, TookChannel, on_event, on_general, port_of}
+use Rattle.ptu_daemon.specs.Ran.{CameTo, IsSmall, Ran, TookChannel, on_event, on_general, port_of}
 use Rattle.ptu_daemon.proofs.Running.{ran_as, ran_more, ran_none}
 
 general-append : (channel : Channel) (xs ys : List Arrival) → on_general channel xs ++ on_general channel ys ≡ on_general channel (xs ++ ys)

@@ -1,11 +1,10 @@
 -- What the daemon has served, once all rounds were done and the grandmaster was closed.
 use Rattle.std.proofs.Common.{◌≡◌, ◌∙◌, ℕ, ◌+◌, List, [], ◌∷◌, ◌++◌, length, map, flat_map, Option, Some, None, IsSome, refl, sym, ap, subst, arith}
-use Rattle.std.proofs.lemmas.List.{append-nil}
 use Rattle.ptu_outside.specs.declared.clock.Clock.{Ghosts as Clocks}
 use Rattle.ptu_outside.specs.declared.opened.Opened.{Opened}
 use Rattle.ptu_outside.specs.declared.port.Port.{Ghosts as Ports}
 use Rattle.ptu_outside.specs.Departure.{Departure}
-use Rattle.ptu_outside.specs.Faults.{HasRisen, HasRisenBy}
+use Rattle.ptu_outside.specs.Faults.{HasRisenBy}
 use Rattle.ptu_outside.specs.Telling.{IfTold, append_told}
 use Rattle.ptu_history.specs.Core.{book_step_moment, core_history, history_after}
 use Rattle.ptu_history.specs.Counts.{counts}
@@ -14,17 +13,16 @@ use Rattle.ptu_history.specs.Verdict.{table_rates}
 use Rattle.ptu_history.proofs.Histories.{history_after-append}
 use Rattle.ptu_items.specs.Deciding.{opened_with}
 use Rattle.ptu_grandmaster.specs.declared.driving.GmEvent.{GmEvent}
-use Rattle.ptu_grandmaster.specs.Driven.{driven_history, events_of}
+use Rattle.ptu_grandmaster.specs.Driven.{events_of}
 use Rattle.ptu_grandmaster.specs.Gm.{KeptGm, StandsFor, counted}
 use Rattle.ptu_config.specs.declared.settings.GmSettings.{GmSettings}
 use Rattle.ptu_rounds.specs.Ports.{HaveNotRisen, HaveRisenBy, WereSent, ports_of, senders_of}
 use Rattle.ptu_rounds.specs.Rounds.{in_rounds, timed}
-use Rattle.ptu_daemon.specs.declared.daemon.Daemon.{Daemon}
 use Rattle.ptu_daemon.specs.declared.tally.Tally.{Tally}
 use Rattle.ptu_daemon.specs.Events.{Given, Happening, config_of, round_of, served_events}
-use Rattle.ptu_daemon.specs.Ran.{AllHandled, DidRounds, Handled, Takes, after_all, five, standing_as}
+use Rattle.ptu_daemon.specs.Ran.{AllHandled, DidRounds, Takes, after_all, five, standing_as}
 use Rattle.ptu_daemon.specs.Sends.{Standing, sends_by, standing_after}
-use Rattle.ptu_daemon.specs.Served.{Said, held_by, served_by, served_history, served_said}
+use Rattle.ptu_daemon.specs.Served.{Said, served_by, served_history, served_said}
 use Rattle.ptu_daemon.specs.Serving.{AreServed, IsGiven, Serves, WasSent, faults_of}
 use Rattle.ptu_daemon.proofs.Handling.{none_failed}
 

@@ -1,5 +1,5 @@
 -- That a datagram was received, or none.
-use Rattle.std.proofs.Common.{◌≡◌, ◌∙◌, inl, ℕ, ◌+◌, ◌≤◌, List, [], ◌∷◌, ◌++◌, length, take, drop, Option, Some, None, Result, Ok, Err, slice_get, refl, sym, ap, subst, arith}
+use Rattle.std.proofs.Common.{◌≡◌, ◌∙◌, inl, ℕ, ◌+◌, ◌≤◌, List, [], ◌∷◌, take, drop, Option, Some, None, Result, Ok, Err, refl, sym, ap, arith}
 use Rattle.std.specs.Option.{IfNone, IfSome}
 use Rattle.std.specs.Result.{IfOk, OnErr, OnOk}
 use Rattle.ptu_outside.specs.declared.arrival.Arrival.{Arrival}
@@ -9,7 +9,6 @@ use Rattle.ptu_outside.specs.declared.failed.Failed.{Failed}
 use Rattle.ptu_outside.specs.declared.port.Port.{Ghosts as Ports}
 use Rattle.ptu_outside.specs.Faults.{HasNotFallen, HasRisen, HasRisenBy}
 use Rattle.ptu_outside.specs.Telling.{IfTold, IsEmptyTold, IsFirstTold, rest_told}
-use Rattle.ptu_grandmaster.specs.Gm.{KeptGm}
 use Rattle.ptu_daemon.specs.declared.daemon.Daemon.{Daemon}
 use Rattle.ptu_daemon.specs.Ran.{Gives, Ran, Received, arrived}
 use Rattle.ptu_daemon.proofs.Handling.{still_fallen}

@@ -10,8 +10,8 @@ use Rattle.ptu_config.specs.declared.settings.GmSettings.{GmSettings}
 use Rattle.ptu_rounds.specs.Rounds.{in_rounds, left_after, taken_in}
 use Rattle.ptu_daemon.specs.declared.daemon.Daemon.{Daemon}
 use Rattle.ptu_daemon.specs.declared.tally.Tally.{Tally}
-use Rattle.ptu_daemon.specs.Events.{Given, Happening, change_in, round_of, taking, turns}
-use Rattle.ptu_daemon.specs.Ran.{DidRound, DidRounds, Drains, Gives, IsSmall, Ran, TookChannel, Waits}
+use Rattle.ptu_daemon.specs.Events.{Given, change_in, round_of, taking, turns}
+use Rattle.ptu_daemon.specs.Ran.{DidRound, DidRounds, Gives, IsSmall, Ran, TookChannel, Waits}
 use Rattle.ptu_daemon.proofs.Running.{ran_as, ran_more, ran_none}
 
 -- ---- a round takes the next of what waits

@@ -1,5 +1,5 @@
 -- What parts of the daemon have done, one after the other.
-use Rattle.std.proofs.Common.{◌≡◌, ◌∙◌, inl, ℕ, suc, zero, ◌+◌, List, [], ◌∷◌, ◌++◌, length, flat_map, Option, Some, None, slice_get, refl, sym, ap, subst, arith, append_assoc, length-append, Result, Ok, Err}
+use Rattle.std.proofs.Common.{◌≡◌, ◌∙◌, inl, ℕ, suc, zero, ◌+◌, List, [], ◌∷◌, ◌++◌, length, Option, Some, None, refl, sym, ap, subst, arith, append_assoc, length-append, Result, Ok, Err}
 use Rattle.std.specs.Result.{IfOk}
 use Rattle.std.specs.Option.{option_map}
 use Rattle.std.proofs.lemmas.List.{append-nil}
@@ -11,7 +11,7 @@ use Rattle.ptu_outside.specs.Faults.{HasNotFallen, HasRisenBy}
 use Rattle.ptu_outside.specs.Telling.{IfTold, IsFirstTold}
 use Rattle.ptu_history.specs.History.{Record}
 use Rattle.ptu_grandmaster.specs.declared.driving.GmEvent.{GmEvent}
-use Rattle.ptu_grandmaster.specs.Gm.{KeptGm, StandsFor}
+use Rattle.ptu_grandmaster.specs.Gm.{StandsFor}
 use Rattle.ptu_rounds.specs.Rounds.{moments_after, next_of, timed}
 use Rattle.ptu_daemon.specs.declared.daemon.Daemon.{Daemon}
 use Rattle.ptu_daemon.specs.Events.{Happening}

@@ -1,12 +1,11 @@
 -- That a datagram was taken.
-use Rattle.std.proofs.Common.{◌≡◌, ◌∙◌, ◌↔◌, ℕ, ◌+◌, ◌%◌, ◌<◌, ◌==◌, Bool, true, false, if◌then◌else◌, List, [], ◌∷◌, ◌++◌, map, length, refl, sym, ap, ap₂, subst, arith, inl, Option, Some, None, Result, Ok, Err}
+use Rattle.std.proofs.Common.{◌≡◌, ◌↔◌, ℕ, ◌+◌, ◌%◌, ◌<◌, ◌==◌, Bool, true, false, if◌then◌else◌, List, [], ◌∷◌, map, length, refl, sym, ap, ap₂, subst, arith, inl, Option, Some, None, Result, Ok, Err}
 use Rattle.std.specs.Option.{option_map}
 use Rattle.ptu_outside.specs.declared.port.Port.{Ghosts as Ports}
 use Rattle.ptu_outside.specs.Departure.{Departure}
-use Rattle.ptu_outside.specs.Faults.{HasNotFallen, HasRisen, HasRisenBy}
+use Rattle.ptu_outside.specs.Faults.{HasNotFallen, HasRisen}
 use Rattle.ptu_outside.specs.Telling.{IfTold, append_told}
 use Rattle.ptu_header.specs.declared.header.Header.{Header}
-use Rattle.ptu_history.specs.declared.client.Client.{Client}
 use Rattle.ptu_history.specs.Client.{table_of}
 use Rattle.ptu_history.specs.Core.{history_after, table_step_moment}
 use Rattle.ptu_history.specs.History.{Record}
@@ -18,7 +17,7 @@ use Rattle.ptu_items.specs.declared.heard.Heard.{Heard}
 use Rattle.ptu_items.specs.declared.heard.Heard.TheVariants as heard
 use Rattle.ptu_items.specs.declared.item.Item.{Item}
 use Rattle.ptu_items.specs.declared.reason.GmReason.{GmReason}
-use Rattle.ptu_items.specs.Deciding.{answer_to, client_of, decisions_of, events_of_datagram, opened_with, reply_after}
+use Rattle.ptu_items.specs.Deciding.{answer_to, client_of, decisions_of, events_of_datagram, opened_with}
 use Rattle.ptu_items.specs.Items.{heard_in}
 use Rattle.ptu_items.specs.Replies.{reply_to}
 use Rattle.ptu_grandmaster.specs.declared.driving.GmEvent.TheVariants.{Take}

@@ -1,5 +1,5 @@
 -- What a part of the daemon has done so far.
-use Rattle.std.specs.Prelude.{◌≡◌, ◌⊎◌, ℕ, ◌+◌, ◌*◌, ◌^◌, ◌≤◌, List, [], ◌∷◌, ◌++◌, length, map, flat_map, take, Option, Some, None, Result, Ok, Err, IfSome, option_map}
+use Rattle.std.specs.Prelude.{◌≡◌, ◌⊎◌, ℕ, ◌+◌, ◌*◌, ◌^◌, ◌≤◌, List, [], ◌∷◌, ◌++◌, length, map, take, Option, Some, None, Result, Ok, Err, IfSome, option_map}
 use Rattle.ptu_outside.specs.declared.arrival.Arrival.{Arrival}
 use Rattle.ptu_outside.specs.declared.channel.Channel.{Channel}
 use Rattle.ptu_outside.specs.declared.channel.Channel.TheVariants as channels

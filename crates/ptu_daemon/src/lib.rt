@@ -1,4 +1,5 @@
-//! A grandmaster as a daemon: it takes what waits at its ports, and its tables take turns, in rounds.
+//! A grandmaster as a daemon: it takes what waits at its ports, and its tables take turns, in
+//! rounds.
 #![tactic(auto)]
 
 mod closing;

@@ -122,17 +122,18 @@ fn put<K: Sink>(sink: &mut K, text: &str) -> Result<(), DaemonFault>
     }
 }
 
-/// Serves a grandmaster of these settings over the ports and clocks of the host, in rounds, on this thread, and then
-/// writes one line: `rounds R sent S failed F granted G refused U held H`.
+/// Serves a grandmaster of these settings over the ports and clocks of the host, in rounds, on
+/// this thread, and then writes one line: `rounds R sent S failed F granted G refused U held H`.
 ///
-/// A round takes up to 64 datagrams of the general channel, then up to 64 of the event channel, until none waits there or
-/// a receive fails, and then the tables 0 to 3 take a turn. Each of these takes a new moment of clock 0. The round of the
-/// number `change_round` begins with a change of the capacity to `new_capacity`. A send or a receive that fails is counted,
-/// and the daemon goes on. The ports and clocks are given back to the host before the line is written.
+/// A round takes up to 64 datagrams of the general channel, then up to 64 of the event channel,
+/// until none waits there or a receive fails, and then the tables 0 to 3 take a turn. Each of
+/// these takes a new moment of clock 0. The round of the number `change_round` begins with a
+/// change of the capacity to `new_capacity`. A send or a receive that fails is counted, and the
+/// daemon goes on. The ports and clocks are given back to the host before the line is written.
 ///
 /// # Errors
-/// `Open` where the host does not open; `Write` where the sink does not take the line; and `OutOfMemory`, after which the
-/// ports and clocks are dropped.
+/// `Open` where the host does not open; `Write` where the sink does not take the line; and
+/// `OutOfMemory`, after which the ports and clocks are dropped.
 pub fn serve<H: Host, K: Sink>(
     alloc: Global,
     settings: &GmSettings,

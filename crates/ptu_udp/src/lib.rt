@@ -1,5 +1,5 @@
-//! The outside of a daemon over the system: UDP over IPv4 (IEEE 1588-2019 annex C), and the system's clock. They tell
-//! nothing of what was sent or received, and count their faults.
+//! The outside of a daemon over the system: UDP over IPv4 (IEEE 1588-2019 annex C), and the
+//! system's clock. They tell nothing of what was sent or received, and count their faults.
 #![tactic(auto)]
 
 mod sys_clock;

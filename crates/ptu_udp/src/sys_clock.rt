@@ -6,8 +6,8 @@ use std::marker::Model;
 use std::time::Instant;
 use std::{io, time};
 
-/// The system's clock, which counts nanoseconds from its start. Where it cannot be read, it answers its last moment again,
-/// and counts a fault.
+/// The system's clock, which counts nanoseconds from its start. Where it cannot be read, it
+/// answers its last moment again, and counts a fault.
 #[derive(Drop)]
 pub struct SysClock<R> {
     runtime: R,

@@ -10,10 +10,11 @@ use std::marker::Model;
 use std::net::{Ipv4Addr, Net, SocketAddrV4};
 use std::time::{Clock, Instant};
 
-/// Opens UDP sockets at one address: ports 0 to 3 at UDP port numbers that are free, port 4 at that of the general channel
-/// and port 5 at that of the event channel. All six clocks count from the moment of the opening. Of the two ports that
-/// receive, that of the general channel rests where nothing waits, so a round that finds nothing to do takes some 0.2 ms
-/// and next to no work.
+/// Opens UDP sockets at one address: ports 0 to 3 at UDP port numbers that are free, port 4 at
+/// that of the general channel and port 5 at that of the event channel. All six clocks count from
+/// the moment of the opening. Of the two ports that receive, that of the general channel rests
+/// where nothing waits, so a round that finds nothing to do takes some 0.2 ms and next to no
+/// work.
 #[derive(Drop)]
 pub struct UdpHost<R> {
     runtime: R,
@@ -69,7 +70,8 @@ impl<R: Net + Clock + Copy + Send> Host for UdpHost<R> {
 
     ghost faults = { λ h. h };
 
-    /// Fails where the system refuses a socket, as at a port number that another program has, or its clock.
+    /// Fails where the system refuses a socket, as at a port number that another program has, or
+    /// its clock.
     fn open(
         &mut self,
         ip: u32,

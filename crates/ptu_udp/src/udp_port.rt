@@ -9,7 +9,8 @@ use std::net::{Ipv4Addr, Net, SocketAddr, SocketAddrV4, UdpSocket};
 use std::time::{Clock, Duration};
 use std::{io, thread};
 
-/// For how many microseconds a port rests that finds nothing waiting. The system may make up to 50 more of it.
+/// For how many microseconds a port rests that finds nothing waiting. The system may make up to
+/// 50 more of it.
 const REST: u64 = 120;
 
 /// The UDP port numbers of the two channels.
@@ -19,8 +20,8 @@ pub(crate) struct Numbers {
     pub general: u16,
 }
 
-/// A UDP socket as a port. No call of it waits, but for a short rest where the port rests and nothing is there to
-/// receive.
+/// A UDP socket as a port. No call of it waits, but for a short rest where the port rests and
+/// nothing is there to receive.
 #[derive(Drop)]
 pub struct UdpPort<R> {
     runtime: R,
@@ -39,8 +40,8 @@ impl<R> Model for UdpPort<R> {
 }
 
 impl<R: Net + Clock + Drop> UdpPort<R> {
-    // A port at this address and UDP port number, 0 being one that is free. It sends to these numbers, and rests where
-    // it is to.
+    // A port at this address and UDP port number, 0 being one that is free. It sends to these
+    // numbers, and rests where it is to.
     pub(crate) fn open(
         runtime: R,
         address: SocketAddrV4,

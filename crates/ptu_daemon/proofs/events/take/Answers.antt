@@ -1,5 +1,3 @@
-use Rattle.std.proofs.Common.{◌≡◌}
-use Rattle.ptu_daemon.specs.Ran.{Does}
 use Rattle.ptu_daemon.proofs.events.take.Goals as goal
 use Rattle.ptu_daemon.proofs.Taking.{take_does}
 

@@ -1,4 +1,4 @@
-use Rattle.std.proofs.Common.{◌≡◌, ◌∙◌, refl}
+use Rattle.std.proofs.Common.{◌∙◌, refl}
 use Rattle.ptu_daemon.specs.Served.{said_by}
 use Rattle.ptu_daemon.proofs.serving.serve_rounds.Goals as goal
 use Rattle.ptu_daemon.proofs.Finishing.{serves_of}

@@ -1,4 +1,3 @@
-use Rattle.std.proofs.Common.{◌≡◌}
 use Rattle.ptu_daemon.proofs.daemon.Daemon.begin.Goals as goal
 use Rattle.ptu_daemon.proofs.Running.{ran_none}
 

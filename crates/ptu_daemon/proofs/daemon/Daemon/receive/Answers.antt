@@ -1,4 +1,4 @@
-use Rattle.std.proofs.Common.{◌≡◌, subst}
+use Rattle.std.proofs.Common.{subst}
 use Rattle.ptu_daemon.proofs.daemon.Daemon.receive.Goals as goal
 use Rattle.ptu_daemon.proofs.Receiving.{Receives, received_event, received_general}
 

@@ -1,4 +1,4 @@
-use Rattle.std.proofs.Common.{◌≡◌, ◌<◌, ◌≤◌, ◌+◌, ◌*◌, ◌^◌, ℕ, arith, subst}
+use Rattle.std.proofs.Common.{◌≡◌, arith, subst}
 use Rattle.ptu_daemon.specs.Ran.{DidRounds}
 use Rattle.ptu_daemon.proofs.daemon.Daemon.rounds.Goals as goal
 use Rattle.ptu_daemon.proofs.Rounds.{did_more, did_none}

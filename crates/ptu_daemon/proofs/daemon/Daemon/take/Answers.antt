@@ -1,4 +1,4 @@
-use Rattle.std.proofs.Common.{◌≡◌, ◌+◌, List, [], ◌∷◌, ◌++◌, refl, ap, sym, subst, Result, Ok, Err}
+use Rattle.std.proofs.Common.{refl}
 use Rattle.ptu_daemon.proofs.daemon.Daemon.take.Goals as goal
 use Rattle.ptu_daemon.proofs.Running.{ok_more, ran_event}
 

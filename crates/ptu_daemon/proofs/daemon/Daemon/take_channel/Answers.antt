@@ -1,6 +1,5 @@
-use Rattle.std.proofs.Common.{◌≡◌, ◌<◌, ◌≤◌, ◌+◌, ◌*◌, ◌^◌, ℕ, subst, arith}
+use Rattle.std.proofs.Common.{◌<◌, ◌≤◌, ◌+◌, ◌*◌, ◌^◌, ℕ, subst, arith}
 use Rattle.ptu_daemon.specs.Ran.{CameTo}
-use Rattle.ptu_daemon.specs.declared.next.Next.TheVariants as nexts
 use Rattle.ptu_daemon.proofs.daemon.Daemon.take_channel.Goals as goal
 use Rattle.ptu_daemon.proofs.Channels.{taking_more, taking_none, took_failed, took_most, took_nothing}
 

@@ -1,4 +1,4 @@
-use Rattle.std.proofs.Common.{◌≡◌, subst, Ok, Some}
+use Rattle.std.proofs.Common.{subst, Ok, Some}
 use Rattle.ptu_daemon.specs.Ran.{Received}
 use Rattle.ptu_daemon.proofs.daemon.Daemon.take_next.Goals as goal
 use Rattle.ptu_daemon.proofs.Channels.{received_taken}

@@ -1,6 +1,4 @@
-use Rattle.std.proofs.Common.{◌≡◌, refl}
-use Rattle.ptu_grandmaster.specs.declared.driving.GmEvent.{GmEvent}
-use Rattle.ptu_daemon.specs.Ran.{Ran}
+use Rattle.std.proofs.Common.{refl}
 use Rattle.ptu_daemon.proofs.daemon.Daemon.turn.Goals as goal
 use Rattle.ptu_daemon.proofs.Running.{ran_event}
 

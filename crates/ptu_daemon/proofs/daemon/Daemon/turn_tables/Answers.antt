@@ -1,4 +1,4 @@
-use Rattle.std.proofs.Common.{◌≡◌, ◌+◌, List, [], ◌∷◌, ◌++◌, refl, ap, sym, subst, Result, Ok, Err}
+use Rattle.std.proofs.Common.{[]}
 use Rattle.ptu_daemon.proofs.daemon.Daemon.turn_tables.Goals as goal
 use Rattle.ptu_daemon.proofs.Running.{ran_more}
 
