@@ -156,7 +156,7 @@ pub fn run<S: Source, K: Sink, H: Host>(
         (S.left source.new) result }
 
     // The word `serve`: the settings that the source has left are refused by one line, or a
-    // grandmaster of these is served over the host, whatever its ports do, and its one line written.
+    // grandmaster of these is served over the host, whatever its ports do, and its line written.
     ensures served { command_of (map (λ w. w.now) words.now) ≡ Some Command.Serve
         → HasRunServe H.P.Port H.C.Clock K.written K.handed sink.old sink.new
         (H.opening host.old) (H.back host.new) (S.left source.old) (S.left source.new)

@@ -69,8 +69,8 @@ fn slave_of(
 /// 65536 octets. At most 65537 octets are read, and nothing behind the end.
 ///
 /// # Errors
-/// `Refused` by the line of the first cause to refuse them, among which `senders` above 0 and a true
-/// `two_step` come last; `Read` exactly where the source failed; or `OutOfMemory`.
+/// `Refused` by the line of the first cause to refuse them, among which `senders` above 0 and a
+/// true `two_step` come last; `Read` exactly where the source failed; or `OutOfMemory`.
 pub fn gm_setup<S: Source>(alloc: Global, source: &mut S) -> Result<GmSettings, SetupFault>
     // They were read to the source's end, and say just these values; or so many octets that they
     // are refused,
