@@ -18,6 +18,7 @@ pub mod SlaveMasters
 pub mod SlaveHearing
 pub mod LabNodes
 pub mod LabCommands
+pub mod LabSettingUp
 pub mod LabStock
 pub mod LabMasters
 pub mod LabReplaying
