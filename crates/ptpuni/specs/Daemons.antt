@@ -17,9 +17,9 @@ use Rattle.ptu_rounds.specs.declared.fault.DaemonFault.{DaemonFault}
 use Rattle.ptu_rounds.specs.declared.fault.DaemonFault.TheVariants.{Open, Write, OutOfMemory}
 use Rattle.ptu_daemon.specs.Served.{Said, closing_line}
 use Rattle.ptu_daemon.specs.Serving.{HasServed}
-use Rattle.ptu_slave_daemon.specs.declared.line.SlaveLine.{SlaveLine}
 use Rattle.ptu_slave_daemon.specs.Answers.{WasGivenBack, WasOpened}
-use Rattle.ptu_slave_daemon.specs.Lines.{texts_of}
+use Rattle.ptu_slave_daemon.specs.Happenings.{Selection}
+use Rattle.ptu_slave_daemon.specs.Lines.{output, texts_of}
 use Rattle.ptu_slave_daemon.specs.Served.{HasStopped, HasServed as HasFollowed}
 
 -- the status of what a daemon answers
@@ -103,17 +103,18 @@ module _ {K P C : Type 0} (ports : Ports P) (clocks : Clocks C) (written : K →
   FollowedWhole settings = (before : Opened P C) × (after : Opened P C) × WasOpened opening before × WasGivenBack back after
       × HasFollowed ports.sent ports.waiting ports.faults clocks.moments written handed settings before after old new
 
-  -- lines of its form were written, the last one in part at most
-  abbrev pub WroteLines : Type 0
-  WroteLines = (lines : List SlaveLine) × HasPutPart written handed old new (texts_of lines)
+  -- a front of an output of its form was written: selections, and the closing line with the rounds of the settings
+  abbrev pub WroteLines : SlaveSettings → Type 0
+  WroteLines settings = (selections : List Selection) × (sent : ℕ) × (failed : ℕ)
+      × HasPutPart written handed old new (texts_of (output settings.rounds selections sent failed))
 
   -- the slave ran so until the sink failed
   abbrev pub FollowedInPart : SlaveSettings → Type 0
-  FollowedInPart settings = WroteLines × ((before : Opened P C) × (after : Opened P C) × WasOpened opening before × WasGivenBack back after
+  FollowedInPart settings = WroteLines settings × ((before : Opened P C) × (after : Opened P C) × WasOpened opening before × WasGivenBack back after
       × HasStopped ports.sent ports.waiting ports.faults clocks.moments written handed settings before after old new)
 
   -- a run with the word `slave` ended with this status, with so many judges of flags and of gaps
   abbrev pub HasRunSlave : {H : Type 0} → ℕ → ℕ → Option (List ℕ) → Option (List ℕ) → H → H → ℕ → Type 0
   HasRunSlave flags gaps left left' host host' status =
       HasRunDaemon slave_entries (slave_refusal flags gaps) left left' written handed old new host host'
-      FollowedWhole FollowedInPart (λ settings. WroteLines) status
+      FollowedWhole FollowedInPart WroteLines status
