@@ -11,7 +11,7 @@ use std::{io, thread};
 
 /// For how many microseconds a port rests that finds nothing waiting. The system may make up to
 /// 50 more of it.
-const REST: u64 = 120;
+const REST: u64 = 40;
 
 /// The UDP port numbers of the two channels.
 #[derive(Clone, Copy, Debug, PartialEq, Eq)]
