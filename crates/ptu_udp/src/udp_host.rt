@@ -13,7 +13,7 @@ use std::time::{Clock, Instant};
 /// Opens UDP sockets at one address: ports 0 to 3 at UDP port numbers that are free, port 4 at
 /// that of the general channel and port 5 at that of the event channel. All six clocks count from
 /// the moment of the opening. Of the two ports that receive, that of the general channel rests
-/// where nothing waits, so a round that finds nothing to do takes some 0.2 ms and next to no
+/// where nothing waits, so a round that finds nothing to do takes some 0.1 ms and next to no
 /// work.
 #[derive(Drop)]
 pub struct UdpHost<R> {
