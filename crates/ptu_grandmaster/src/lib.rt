@@ -17,7 +17,7 @@ pub use gm::Gm;
 pub use outcome::{Outcome, Outcomes, Reply, Taken};
 pub use ptu_items::{GmReason, Item, Items, asks_of, cancel_of};
 pub use replying::reply_of;
-pub use resizing::Changed;
+pub use resizing::{Changed, send_cancels};
 
 #[cfg(test)]
 mod tests;

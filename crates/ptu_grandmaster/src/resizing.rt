@@ -56,9 +56,15 @@ fn send_cancel<P: Port>(
     port.send(shed.client.ip, Channel::General, &out[..size])
 }
 
-// Hands the CANCELs of these grants to the port, in order, numbered from `first` on. Gives how many
-// were sent and how many sends failed.
-fn send_cancels<P: Port>(port: &mut P, config: &GmConfig, first: u16, shed: &[Shed]) -> (u64, u64)
+/// Hands the CANCELs of these grants to the port, in order, numbered from `first` on, each to its
+/// client on the general channel (IEEE 1588-2019 clause 16.1). Gives how many were sent and how
+/// many sends failed.
+pub fn send_cancels<P: Port>(
+    port: &mut P,
+    config: &GmConfig,
+    first: u16,
+    shed: &[Shed],
+) -> (u64, u64)
     ensures sends { HandsOver (P.sent port.old) (P.sent port.new) (P.faults port.old)
         (P.faults port.new) (cancels_to config.now first (leases_shed shed.now))
         result.0 result.1 }

@@ -1,4 +1,7 @@
 //! Rows by client and kind.
+//!
+//! A function asks for a map's `len` where its proof wants what that call says of the map: no key
+//! stands in it twice.
 
 ghost use Rattle.std.specs.Prelude.{◌≡◌, ◌<◌, ◌≤◌, ◌+◌, ◌*◌, ◌^◌, [], ◌∷◌, false, if◌then◌else◌, length, map, nat_lt, slice_get, true, IfNone, IfSome};
 ghost use Rattle.std.specs.List.{Contains, filter};
