@@ -1,12 +1,10 @@
 -- What a lane has served, call by call.
-use Rattle.std.proofs.Common.{◌≡◌, ◌∙◌, ◌⊎◌, inl, inr, ℕ, suc, zero, ◌+◌, ◌-◌, ◌^◌, ◌≤◌, ◌++◌, List, [], ◌∷◌, length, length-append, take, drop, refl, sym, ap, subst, append_assoc, arith, Option, Some, None, Result, Ok, Err}
+use Rattle.std.proofs.Common.{◌≡◌, ◌∙◌, ◌⊎◌, inl, inr, ℕ, suc, zero, ◌+◌, ◌-◌, ◌^◌, ◌≤◌, ◌++◌, List, [], ◌∷◌, length, length-append, refl, sym, ap, subst, arith, Option, Some, None, Result, Ok, Err}
 use Rattle.std.specs.Prelude.{IfOk, IfSome}
-use Rattle.std.proofs.lemmas.List.{append-nil, length-map, map-append, take_all}
+use Rattle.std.proofs.lemmas.List.{append-nil, length-map, map-append}
 use Rattle.std.proofs.lemmas.List.Elements.{All-append, All-cons, All-nil}
 use Rattle.std.proofs.lemmas.List.Sums.{sum_by-append}
 use Rattle.std.proofs.lemmas.Grind.{flat_map-append}
-use Rattle.std.proofs.Math.ListN.{drop_of_length-le}
-use Rattle.std.proofs.Math.Seq.{drop-append_seam, take-append_seam}
 use Rattle.ptu_outside.specs.declared.arrival.Arrival.{Arrival}
 use Rattle.ptu_outside.specs.Departure.{Departure}
 use Rattle.ptu_outside.specs.Faults.{HasRisen, HasRisenBy, HasNotFallen}
@@ -27,6 +25,7 @@ use Rattle.ptu_items.specs.Items.{heard_in, items_in}
 use Rattle.ptu_lanes.specs.Answers.{HasAnswered, asks_among, grants_among}
 use Rattle.ptu_lanes.specs.Rounds.{Exchange, HasReplied, HasServed, IsAnswered, IsRound, asks_in, datagrams, found_items, items_of, replies, reply_if_any, reply_in, reply_with}
 use Rattle.ptu_lanes.proofs.Items.{answered_none, asks-le, heard_items, items_heard}
+use Rattle.ptu_lanes.proofs.Taking.{first_given, front_is, given_more, kept_is, not_fallen_more, still}
 
 -- ---- counts of faults
 
@@ -34,13 +33,6 @@ risen_more : (old now new n m : ℕ) → HasRisenBy n old now → HasRisenBy m n
 risen_more old now new n m (inl a) (inl b) c = inl (omega arith)
 risen_more old now new n m (inl a) (inr b) c = inr b
 risen_more old now new n m (inr a) b c = inr (subst (λ n. 2 ^ 64 - 1 ≤ n) (sym (c.1 a)) a)
-
-not_fallen_more : (old now new : ℕ) → HasNotFallen old now → HasNotFallen now new → HasNotFallen old new
-not_fallen_more old now new (le, stays) (le', stays') =
-    (omega arith, λ end. let one : now ≡ old = stays end in stays' (subst (λ n. 2 ^ 64 - 1 ≤ n) (sym one) end) ∙ one)
-
-still : (n : ℕ) → HasNotFallen n n
-still n = (omega arith, λ end. refl)
 
 -- ---- nothing was taken
 
@@ -64,10 +56,6 @@ served_none config waiting left before faults now failed counts kept risen no_fa
   sent_are = λ same. refl;
   told = λ same. told_nothing before;
 }
-  where
-    kept_is : (waiting left : Option (List Arrival)) → IfTold left waiting → IfSome left (λ later. waiting ≡ Some ([] ++ later))
-    kept_is waiting None kept = tt
-    kept_is waiting (Some later) kept = kept
 
 pub nothing_yet : (config : GmConfig) (waiting : Option (List Arrival)) (before : Option (List Departure)) (faults : ℕ) (counts : Counts) →
     HasServed config [] waiting waiting before before faults faults counts counts 0 0 0
@@ -75,15 +63,11 @@ nothing_yet config waiting before faults counts = served_none config waiting wai
 
 -- ---- one after the other
 
-given_more : (xs ys : List Exchange) (waiting middle left : Option (List Arrival)) →
+exchanges_more : (xs ys : List Exchange) (waiting middle left : Option (List Arrival)) →
     IfSome middle (λ later. waiting ≡ Some (datagrams xs ++ later)) → IfSome left (λ later. middle ≡ Some (datagrams ys ++ later)) →
     IfSome left (λ later. waiting ≡ Some (datagrams (xs ++ ys) ++ later))
-given_more xs ys waiting middle None first second = tt
-given_more xs ys waiting None (Some later) first second = absurd (cc second)
-given_more xs ys waiting (Some more) (Some later) first second =
-    let is : more ≡ datagrams ys ++ later = cc second in
-    first ∙ ap (λ l. Some (datagrams xs ++ l)) is
-    ∙ ap Some (sym (append_assoc (datagrams xs) (datagrams ys) later) ∙ ap (λ l. l ++ later) (sym (map-append (λ (e : Exchange). e.datagram) xs ys)))
+exchanges_more xs ys waiting middle left first second =
+    rw (map-append (λ (e : Exchange). e.datagram) xs ys) (given_more (datagrams xs) (datagrams ys) waiting middle left first second)
 
 pub served-append : (config : GmConfig) (xs ys : List Exchange) (waiting middle left : Option (List Arrival)) (before between after : Option (List Departure)) (faults risen now : ℕ)
     (old seat new : Counts) (asks sent failed asks2 sent2 failed2 : ℕ) →
@@ -91,7 +75,7 @@ pub served-append : (config : GmConfig) (xs ys : List Exchange) (waiting middle 
     HasServed config ys middle left between after risen now seat new asks2 sent2 failed2 →
     HasServed config (xs ++ ys) waiting left before after faults now old new (asks + asks2) (sent + sent2) (failed + failed2)
 served-append config xs ys waiting middle left before between after faults risen now old seat new asks sent failed asks2 sent2 failed2 p q = record {
-  given = given_more xs ys waiting middle left p.given q.given;
+  given = exchanges_more xs ys waiting middle left p.given q.given;
   answered = All-append (IsAnswered config) xs ys p.answered q.answered;
   granted = let a = p.granted in let b = q.granted in omega (arith, sum_by-append (λ (e : Exchange). grants_among e.answers) xs ys);
   refused = let a = p.refused in let b = q.refused in omega arith;
@@ -115,16 +99,6 @@ served-append config xs ys waiting middle left before between after faults risen
 }
 
 -- ---- one datagram
-
-first_given : (d : Arrival) (waiting left : Option (List Arrival)) → IsFirstTold waiting d → IfTold left (rest_told waiting) →
-    IfSome left (λ later. waiting ≡ Some (d ∷ [] ++ later))
-first_given d waiting None first rest = tt
-first_given d None (Some later) first rest = absurd (cc rest)
-first_given d (Some []) (Some later) first rest = absurd (cc first)
-first_given d (Some (x ∷ xs)) (Some later) first rest =
-    let same : x ≡ d = cc first in
-    let others : xs ≡ later = cc rest in
-    ap Some (ap (λ y. y ∷ xs) same ∙ ap (λ l. d ∷ l) others)
 
 one_if_any : (config : GmConfig) (from : ℕ) (header : Header) (answers : List Tlv) → length (reply_if_any config from header answers) ≤ 1
 one_if_any config from header [] = omega arith
@@ -170,14 +144,6 @@ served_one config e waiting left before after faults now old new asks sent faile
 -- the lane took 64 datagrams, or nothing waits any more
 abbrev pub IsOver : List Exchange → Option (List Arrival) → ℕ → ℕ → Type 0
 IsOver exchanges left faults now = (length exchanges ≡ 64) ⊎ (¬ HasRisen faults now → IfSome left (λ later. later ≡ []))
-
-front_is : (xs : List Arrival) (later : List Arrival) → length xs ≤ 64 → (length xs ≡ 64) ⊎ (later ≡ []) →
-    (xs ≡ take 64 (xs ++ later)) × (later ≡ drop 64 (xs ++ later))
-front_is xs later few (inl many) =
-    (subst (λ n. xs ≡ take n (xs ++ later)) many (sym (take-append_seam xs later)), subst (λ n. later ≡ drop n (xs ++ later)) many (sym (drop-append_seam xs later)))
-front_is xs later few (inr none) =
-    let all : xs ++ later ≡ xs = ap (λ l. xs ++ l) none ∙ append-nil xs in
-    (sym (ap (take 64) all ∙ take_all 64 xs few), none ∙ sym (ap (drop 64) all ∙ drop_of_length-le xs few))
 
 pub round_is : (config : GmConfig) (exchanges : List Exchange) (waiting left : Option (List Arrival)) (before after : Option (List Departure)) (faults now : ℕ) (old new : Counts) (asks sent failed : ℕ) →
     HasServed config exchanges waiting left before after faults now old new asks sent failed → length exchanges ≤ 64 → IsOver exchanges left faults now →

@@ -4,12 +4,13 @@ ghost use Rattle.std.specs.Prelude.{◌≡◌, ◌+◌, ◌^◌, ◌<◌, ◌≤
 ghost use Rattle.ptu_outside.specs.HandsOver.{HandsOver};
 ghost use Rattle.ptu_shard.specs.Config.{IsWithinLimits};
 ghost use Rattle.ptu_tlvs.specs.declared.tlv.Tlv.{Tlv};
-ghost use Rattle.ptu_items.specs.Deciding.{answer_to, client_of};
+ghost use Rattle.ptu_items.specs.Deciding.{answer_to};
 ghost use Rattle.ptu_items.specs.Items.{AreAnswerable};
 ghost use Rattle.ptu_grandmaster.specs.Outcomes.{answers_seen, decision_seen, item_seen};
 ghost use Rattle.ptu_lanes.specs.Answers.{HasAnswered};
 ghost use Rattle.ptu_lanes.specs.Rounds.{HasReplied, reply_if_any};
 
+use crate::client::client;
 use crate::rounds::{Control, IDLE};
 use ptu_grandmaster::{Outcome, Outcomes, reply_of};
 use ptu_header::Header;
@@ -91,17 +92,6 @@ fn answer_items<P: Port + Send, L: Rates, G: Ledger, R: Ledger>(
         outcomes.push(answer_item(rt, shared, seat, config, t, client, *item)?)?;
     }
     Ok(Outcomes::new(outcomes))
-}
-
-// The client of a message with this header, which came from this IPv4 address.
-fn client(from: u32, header: &Header) -> Client
-    ensures { result ≡ client_of from header.now }
-{
-    Client {
-        ip: from,
-        clock: header.source.clock,
-        port: header.source.port,
-    }
 }
 
 // Sends the reply to a Signaling with this header, which came from this IPv4 address. Without

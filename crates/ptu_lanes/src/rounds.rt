@@ -15,7 +15,7 @@ use std::sync::Wait;
 use std::sync::ledger::Ledger;
 
 /// How many datagrams a lane takes in a round at most.
-const MOST_DATAGRAMS: u64 = 64;
+pub(crate) const MOST_DATAGRAMS: u64 = 64;
 
 /// What a lane did that takes Signaling.
 #[derive(Clone, Copy, Debug, PartialEq, Eq)]

@@ -1,0 +1,16 @@
+ghost use Rattle.std.specs.Prelude.{◌≡◌};
+ghost use Rattle.ptu_items.specs.Deciding.{client_of};
+
+use ptu_header::Header;
+use ptu_history::Client;
+
+/// The client of a message with this header, which came from this IPv4 address.
+pub(crate) fn client(from: u32, header: &Header) -> Client
+    ensures { result ≡ client_of from header.now }
+{
+    Client {
+        ip: from,
+        clock: header.source.clock,
+        port: header.source.port,
+    }
+}

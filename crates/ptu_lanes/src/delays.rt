@@ -1,0 +1,131 @@
+//! Rounds of the lane that takes Delay_Reqs.
+
+ghost use Rattle.std.specs.Prelude.{◌≡◌, ◌+◌, ◌≤◌, List, [], ◌++◌, Some, length, false, if◌then◌else◌, IfOk, IfSome};
+ghost use Rattle.ptu_outside.specs.declared.arrival.Arrival.{Arrival};
+ghost use Rattle.ptu_outside.specs.Faults.{HasNotFallen, HasRisen};
+ghost use Rattle.ptu_shard.specs.Config.{IsWithinLimits};
+ghost use Rattle.ptu_lanes.specs.Waiting.{GaveFirst};
+
+use crate::client::client;
+use crate::rounds::MOST_DATAGRAMS;
+use ptu_items::{Heard, hear};
+use ptu_outside::{Clock, Port};
+use ptu_shard::{Answered, GmConfig};
+use ptu_shared::{Rates, Shared};
+use ptu_units::{Moment, OutOfMemory};
+use std::alloc::Global;
+use std::sync::Wait;
+use std::sync::ledger::Ledger;
+
+/// What a lane did that takes Delay_Reqs, or one that turns tables.
+#[derive(Clone, Copy, Debug, Default, PartialEq, Eq)]
+pub struct Sends {
+    /// How many messages were sent.
+    pub sent: u64,
+    /// How many sends and receives failed.
+    pub failed: u64,
+}
+
+// What was sent for a Delay_Req that was answered so.
+fn sends_of(answered: &Answered) -> Sends
+    ensures { result.sent + result.failed ≤ 1 }
+{
+    match answered {
+        Answered::Sent { .. } => Sends { sent: 1, failed: 0 },
+        Answered::Failed { .. } => Sends { sent: 0, failed: 1 },
+        Answered::NoGrant { .. } | Answered::TooSoon { .. } => Sends::default(),
+    }
+}
+
+// Answers a datagram that came from this IPv4 address. Whatever is no Delay_Req is ignored.
+fn answer_delay<P: Port + Send, L: Rates, G: Ledger, R: Ledger>(
+    rt: &impl Wait,
+    alloc: Global,
+    shared: &Shared<P, L, G, R>,
+    config: &GmConfig,
+    t: Moment,
+    from: u32,
+    bytes: &[u8],
+) -> Result<Sends, OutOfMemory>
+    requires { IsWithinLimits config.now }
+    ensures { IfOk result (λ s. s.sent + s.failed ≤ 1) }
+{
+    match hear(alloc, config, bytes)? {
+        Ok(Heard::DelayReq(header)) => {
+            let client = client(from, &header);
+            let answered = shared.answer_delay(rt, config, t, &client, &header);
+            Ok(sends_of(&answered))
+        }
+        Ok(Heard::Asks(..)) | Err(_) => Ok(Sends::default()),
+    }
+}
+
+// Takes the first datagram that waits, if one does, and answers it at a new moment of the clock.
+// Gives what was sent, and whether there may be more to take.
+fn take_one<P: Port + Send, C: Clock, L: Rates, G: Ledger, R: Ledger>(
+    rt: &impl Wait,
+    alloc: Global,
+    shared: &Shared<P, L, G, R>,
+    config: &GmConfig,
+    port: &mut P,
+    clock: &mut C,
+    buffer: &mut [u8; 2048],
+) -> Result<(Sends, bool), OutOfMemory>
+    requires { IsWithinLimits config.now }
+    ensures most { IfOk result (λ r. r.0.sent + r.0.failed ≤ 1) }
+    ensures given { IfOk result (λ r. (taken : List Arrival)
+        × (length taken ≡ (if r.1 then 1 else 0))
+        × IfSome (P.waiting port.new) (λ later. P.waiting port.old ≡ Some (taken ++ later))) }
+    ensures end { IfOk result (λ r. r.1 ≡ false
+        → ¬ HasRisen (P.faults port.old) (P.faults port.new)
+        → IfSome (P.waiting port.new) (λ left. left ≡ [])) }
+    ensures unsent { P.sent port.new ≡ P.sent port.old }
+    ensures no_fall { HasNotFallen (P.faults port.old) (P.faults port.new) }
+{
+    match port.receive(buffer) {
+        Ok(Some((from, size))) => {
+            let t = clock.now();
+            let bytes = &buffer[..size];
+            let sends = answer_delay(rt, alloc, shared, config, t, from, bytes)?;
+            Ok((sends, true))
+        }
+        Ok(None) => Ok((Sends::default(), false)),
+        Err(_) => Ok((Sends { sent: 0, failed: 1 }, false)),
+    }
+}
+
+/// Takes up to 64 datagrams from the port, until none waits or a receive fails, each at a new
+/// moment of the clock. A Delay_Req is answered by its client's table, whose port sends the answer
+/// (IEEE 1588-2019 clause 11.3); all other datagrams are ignored.
+///
+/// # Errors
+/// `OutOfMemory`, with the answers so far, which were sent.
+pub fn delay_round<P: Port + Send, C: Clock, L: Rates, G: Ledger, R: Ledger>(
+    rt: &impl Wait,
+    alloc: Global,
+    shared: &Shared<P, L, G, R>,
+    config: &GmConfig,
+    port: &mut P,
+    clock: &mut C,
+) -> Result<Sends, OutOfMemory>
+    requires { IsWithinLimits config.now }
+    ensures most { IfOk result (λ s. s.sent + s.failed ≤ 64) }
+    // Where the port's count did not rise, these were the first that waited there.
+    ensures round { IfOk result (λ s. ¬ HasRisen (P.faults port.old) (P.faults port.new)
+        → GaveFirst 64 (P.waiting port.old) (P.waiting port.new)) }
+    // The port was sent nothing.
+    ensures unsent { P.sent port.new ≡ P.sent port.old }
+    ensures no_fall { HasNotFallen (P.faults port.old) (P.faults port.new) }
+{
+    let mut sends = Sends::default();
+    let mut buffer = [0; 2048];
+    for _i in 0..MOST_DATAGRAMS {
+        let (one, goes_on) = take_one(rt, alloc, shared, config, port, clock, &mut buffer)?;
+        sends.sent += one.sent;
+        sends.failed += one.failed;
+        if !goes_on {
+            break;
+        }
+    }
+    Ok(sends)
+}

@@ -1,0 +1,33 @@
+//! Rounds of a lane that turns tables.
+
+ghost use Rattle.std.specs.Prelude.{◌≤◌, ◌<◌};
+ghost use Rattle.ptu_shard.specs.Config.{IsWithinLimits};
+
+use crate::delays::Sends;
+use ptu_outside::{Clock, Port};
+use ptu_shard::GmConfig;
+use ptu_shared::{Rates, Shared};
+use std::sync::Wait;
+use std::sync::ledger::Ledger;
+
+/// Turns the tables `j` with `j` mod `lanes` = `lane`, in order of index, each at a new moment of
+/// the clock. What would not fit in 64 bits is not counted.
+pub fn turn_round<P: Port + Send, C: Clock, L: Rates, G: Ledger, R: Ledger>(
+    rt: &impl Wait,
+    shared: &Shared<P, L, G, R>,
+    config: &GmConfig,
+    clock: &mut C,
+    lane: usize,
+    lanes: usize,
+) -> Sends
+    requires limits { IsWithinLimits config.now }
+    requires lanes { (lane < lanes) × (lanes ≤ 4) }
+{
+    let mut sends = Sends::default();
+    for table in (lane..4).step_by(lanes) {
+        let turned = shared.turn(rt, config, table, clock.now());
+        sends.sent = sends.sent.saturating_add(turned.sent);
+        sends.failed = sends.failed.saturating_add(turned.failed);
+    }
+    sends
+}
