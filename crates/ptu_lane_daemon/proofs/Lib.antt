@@ -1,0 +1,2 @@
+mod Controlled
+mod Stretching

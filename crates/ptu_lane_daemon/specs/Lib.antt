@@ -1,0 +1,4 @@
+pub mod Changing
+pub mod Stretches
+pub mod Served
+pub mod Samples

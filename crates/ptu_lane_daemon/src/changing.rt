@@ -1,0 +1,66 @@
+//! The change of capacity of a grandmaster that is served by lanes.
+
+ghost use Rattle.std.specs.Prelude.{◌≡◌, ◌+◌, ◌≤◌, IfOk, IfSome, IsSome, List};
+ghost use Rattle.ptu_outside.specs.Faults.{HasNotFallen, HasRisen};
+ghost use Rattle.ptu_outside.specs.Telling.{IfTold, append_told};
+ghost use Rattle.ptu_units.specs.declared.kind.Kind.{Kind};
+ghost use Rattle.ptu_history.specs.declared.client.Client.{Client};
+ghost use Rattle.ptu_admit.specs.Book.{IsCapacity};
+ghost use Rattle.ptu_items.specs.Replies.{cancels_to};
+ghost use Rattle.ptu_config.specs.Limits.{IsGmInRange};
+ghost use Rattle.ptu_lane_daemon.specs.Changing.{change_of};
+
+use crate::lanes::{ControlLane, Tally};
+use ptu_config::GmSettings;
+use ptu_grandmaster::send_cancels;
+use ptu_outside::{Clock, Port};
+use ptu_shard::GmConfig;
+use ptu_shared::{Rates, Shared};
+use ptu_units::OutOfMemory;
+use std::sync::Wait;
+use std::sync::ledger::Ledger;
+
+/// The capacity to which the settings change, if they do: the round of the change is one of the
+/// rounds.
+pub(crate) fn change(settings: &GmSettings) -> Option<u64>
+    requires { IsGmInRange settings.now }
+    ensures change { result ≡ change_of settings.now }
+    ensures range { IfSome result (λ capacity. IsCapacity capacity) }
+    ensures round { IsSome result → (1 ≤ settings.now.change_round)
+        × (settings.now.change_round ≤ settings.now.rounds) }
+{
+    if 0 < settings.change_round && settings.change_round <= settings.rounds {
+        settings.new_capacity
+    } else {
+        None
+    }
+}
+
+/// Changes the capacity in force at a new moment of the lane's clock, and sends the CANCELs of the
+/// grants that are shed by its port, numbered from 0.
+///
+/// # Errors
+/// `OutOfMemory`, and then nothing has changed.
+pub(crate) fn change_capacity<P: Port + Send, C: Clock, L: Rates, G: Ledger, R: Ledger>(
+    rt: &impl Wait,
+    shared: &Shared<P, L, G, R>,
+    config: &GmConfig,
+    capacity: u64,
+    lane: &mut ControlLane<P, C, G, R>,
+) -> Result<(), OutOfMemory>
+    requires ledger { L.parts ≡ 4 }
+    requires capacity { IsCapacity capacity }
+    requires most { capacity ≤ L.most }
+    ensures sent { IfOk result (λ _. (shed : List (Client × Kind)) ×
+        (¬ HasRisen (P.faults lane.old.port) (P.faults lane.new.port) →
+        IfTold (P.sent lane.new.port)
+        (append_told (P.sent lane.old.port) (cancels_to config.now 0 shed)))) }
+    ensures waiting { P.waiting lane.new.port ≡ P.waiting lane.old.port }
+    ensures seat { lane.new.seat ≡ lane.old.seat }
+    ensures no_fall { HasNotFallen (P.faults lane.old.port) (P.faults lane.new.port) }
+{
+    let resized = shared.resize(rt, lane.clock.now(), capacity)?;
+    let (sent, failed) = send_cancels(&mut lane.port, config, 0, resized.shed.list());
+    lane.tally = lane.tally.plus(sent, failed);
+    Ok(())
+}
