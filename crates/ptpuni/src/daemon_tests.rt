@@ -8,7 +8,9 @@ use crate::tests::{no_judges, one_judge, opened_with, port};
 use ptu_judges::{FlagJudge, Stock};
 use ptu_outside::{Arrival, Channel, Datagram, MemHost, MemPort, MemSink, MemSource};
 use std::alloc::Global;
+use std::sync::Wait;
 use std::test::Fail;
+use std::thread::Threads;
 
 const SERVE: &str = "ip = \"127.0.0.1\"\nclock = \"0a00000000000001\"\ncapacity = 8\nrounds = 1\n";
 
@@ -57,7 +59,7 @@ fn empty_port(alloc: Global) -> Result<MemPort, Fail> {
 
 // The status and the output of a run over this host.
 fn ran(
-    alloc: Global,
+    rt: &(impl AllocGlobal + Threads + Wait + Sync),
     word: &str,
     settings: &str,
     host: &mut MemHost,
@@ -66,10 +68,11 @@ fn ran(
     requires { IsStock (map (λ j. held (j.vtable, j.value)) stock.flags.items)
         (map (λ j. held (j.vtable, j.value)) stock.gaps.items) }
 {
+    let alloc = rt.alloc();
     let bytes = Vec::from_slice(alloc, settings.as_bytes())?;
     let mut source = MemSource::new(bytes, Vec::new(alloc));
     let mut sink = MemSink::new(alloc, Vec::new(alloc));
-    let status = run(alloc, &[word], &mut source, &mut sink, host, stock);
+    let status = run(rt, &[word], &mut source, &mut sink, host, stock);
     let text = String::from_utf8(sink.into_bytes())
         .ok()
         .ok_or("plain text")?;
@@ -88,28 +91,43 @@ fn is_answered(host: &MemHost, octets: &[u8]) -> bool {
 }
 
 // The word `serve` with these settings, over a host in memory that fails or not.
-fn served(alloc: Global, settings: &str, fails: bool) -> Result<((u8, String), bool), Fail> {
+fn served(
+    rt: &(impl AllocGlobal + Threads + Wait + Sync),
+    settings: &str,
+    fails: bool,
+) -> Result<((u8, String), bool), Fail> {
+    let alloc = rt.alloc();
     let mut host = MemHost::new(opened_with(alloc, asked_port(alloc)?), fails);
-    let found = ran(alloc, "serve", settings, &mut host, no_judges(alloc))?;
+    let found = ran(rt, "serve", settings, &mut host, no_judges(alloc))?;
     Ok((found, is_answered(&host, &GRANT)))
+}
+
+// The settings of a grandmaster with these behind them.
+fn settings_with(alloc: Global, more: &str) -> Result<String, Fail> {
+    let mut settings = String::new(alloc);
+    settings.push_str(SERVE)?;
+    settings.push_str(more)?;
+    Ok(settings)
 }
 
 #[test]
 fn a_grandmaster_is_served(rt: HostRuntime) -> Result<(), Fail> {
-    let alloc = rt.alloc();
-    let ((status, text), answered) = served(alloc, SERVE, false)?;
-    assert_eq!(rt;
-        text.as_str(),
-        "rounds 1 sent 1 failed 0 granted 1 refused 0 held 8\n"
-    );
-    assert_eq!(rt; status, 0);
-    assert!(rt; answered);
+    for more in ["", "senders = 2"] {
+        let settings = settings_with(rt.alloc(), more)?;
+        let ((status, text), answered) = served(&rt, settings.as_str(), false)?;
+        assert_eq!(rt;
+            text.as_str(),
+            "rounds 1 sent 1 failed 0 granted 1 refused 0 held 8\n"
+        );
+        assert_eq!(rt; status, 0);
+        assert!(rt; answered);
+    }
     Ok(())
 }
 
 #[test]
 fn a_host_does_not_open(rt: HostRuntime) -> Result<(), Fail> {
-    let ((status, text), _) = served(rt.alloc(), SERVE, true)?;
+    let ((status, text), _) = served(&rt, SERVE, true)?;
     assert_eq!(rt; text.as_str(), "");
     assert_eq!(rt; status, 69);
     Ok(())
@@ -117,23 +135,21 @@ fn a_host_does_not_open(rt: HostRuntime) -> Result<(), Fail> {
 
 #[test]
 fn settings_are_refused_before_the_host_opens(rt: HostRuntime) -> Result<(), Fail> {
-    let alloc = rt.alloc();
     for (more, line) in [
         ("two_step = true", "settings bad two_step\n"),
-        ("senders = 2", "settings bad senders\n"),
+        ("senders = 2\ntwo_step = true", "settings bad two_step\n"),
+        ("senders = 5", "settings bad senders\n"),
         ("change_round = 1", "settings bad new_capacity\n"),
         ("size = 1", "settings unknown\n"),
         ("capacity = 1", "settings text\n"),
     ] {
-        let mut settings = String::new(alloc);
-        settings.push_str(SERVE)?;
-        settings.push_str(more)?;
-        let ((status, text), _) = served(alloc, settings.as_str(), true)?;
+        let settings = settings_with(rt.alloc(), more)?;
+        let ((status, text), _) = served(&rt, settings.as_str(), true)?;
         assert_eq!(rt; text.as_str(), line);
         assert_eq!(rt; status, 65);
     }
     let ((status, text), _) = served(
-        alloc,
+        &rt,
         "ip = \"127.0.0.1\"\nclock = \"0a00000000000001\"\ncapacity = 0\nrounds = 1\n",
         true,
     )?;
@@ -143,19 +159,23 @@ fn settings_are_refused_before_the_host_opens(rt: HostRuntime) -> Result<(), Fai
 }
 
 // The word `slave` over a host in memory.
-fn followed(alloc: Global, stock: Stock) -> Result<(u8, String), Fail>
+fn followed(
+    rt: &(impl AllocGlobal + Threads + Wait + Sync),
+    stock: Stock,
+) -> Result<(u8, String), Fail>
     requires { IsStock (map (λ j. held (j.vtable, j.value)) stock.flags.items)
         (map (λ j. held (j.vtable, j.value)) stock.gaps.items) }
 {
+    let alloc = rt.alloc();
     let mut host = MemHost::new(opened_with(alloc, empty_port(alloc)?), false);
-    ran(alloc, "slave", SLAVE, &mut host, stock)
+    ran(rt, "slave", SLAVE, &mut host, stock)
 }
 
 #[test]
 fn a_slave_asks_and_stops(rt: HostRuntime) -> Result<(), Fail> {
     let alloc = rt.alloc();
     let stock = one_judge(alloc, Box::new(alloc, FlagJudge::new())?)?;
-    let (status, text) = followed(alloc, stock)?;
+    let (status, text) = followed(&rt, stock)?;
     assert_eq!(rt;
         text.as_str(),
         "round 1 selected none\nrounds 1 sent 1 failed 0\n"
@@ -166,8 +186,7 @@ fn a_slave_asks_and_stops(rt: HostRuntime) -> Result<(), Fail> {
 
 #[test]
 fn a_slave_has_no_judge(rt: HostRuntime) -> Result<(), Fail> {
-    let alloc = rt.alloc();
-    let (status, text) = followed(alloc, no_judges(alloc))?;
+    let (status, text) = followed(&rt, no_judges(rt.alloc()))?;
     assert_eq!(rt; text.as_str(), "settings bad masters\n");
     assert_eq!(rt; status, 65);
     Ok(())

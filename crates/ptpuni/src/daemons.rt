@@ -19,6 +19,8 @@ use ptu_outside::{Host, Sink, Source, write_whole};
 use ptu_setup::{RefusalLine, SetupFault, gm_setup, slave_setup};
 use ptu_slave_daemon::slave;
 use std::alloc::Global;
+use std::sync::Wait;
+use std::thread::Threads;
 
 // Writes the line that refuses settings, in one piece.
 fn write_refusal<K: Sink>(alloc: Global, line: RefusalLine, sink: &mut K) -> u8
@@ -42,7 +44,8 @@ fn write_refusal<K: Sink>(alloc: Global, line: RefusalLine, sink: &mut K) -> u8
 
 /// Serves a grandmaster over the host, by the settings that the source has left, and gives the
 /// status of that.
-pub(crate) fn run_serve<S: Source, K: Sink, H: Host>(
+pub(crate) fn run_serve<W: Threads + Wait + Sync, S: Source, K: Sink, H: Host>(
+    rt: &W,
     alloc: Global,
     source: &mut S,
     sink: &mut K,
@@ -61,11 +64,12 @@ pub(crate) fn run_serve<S: Source, K: Sink, H: Host>(
     ensures sink_still { result ≢ SINK_FAULT → K.faults sink.new ≡ K.faults sink.old }
     ensures host_fault { result ≡ HOST_FAULT
         → HasRisen (H.faults host.old) (H.faults host.new) }
+    ensures host_still { result ≢ HOST_FAULT → H.faults host.new ≡ H.faults host.old }
     ensures taken { HasTakenSome (S.left source.old) (S.left source.new) }
     ensures ends { StopsAtEnd (S.ends source.old) (S.ends source.new) }
 {
     match gm_setup(alloc, source) {
-        Ok(settings) => daemon_status(serve(alloc, &settings, host, sink)),
+        Ok(settings) => daemon_status(serve(rt, alloc, &settings, host, sink)),
         Err(SetupFault::Refused(line)) => write_refusal(alloc, line, sink),
         Err(SetupFault::Read) => SOURCE_FAULT,
         Err(SetupFault::OutOfMemory) => OUT_OF_MEMORY,
@@ -97,6 +101,7 @@ pub(crate) fn run_slave<S: Source, K: Sink, H: Host>(
     ensures sink_still { result ≢ SINK_FAULT → K.faults sink.new ≡ K.faults sink.old }
     ensures host_fault { result ≡ HOST_FAULT
         → HasRisen (H.faults host.old) (H.faults host.new) }
+    ensures host_still { result ≢ HOST_FAULT → H.faults host.new ≡ H.faults host.old }
     ensures taken { HasTakenSome (S.left source.old) (S.left source.new) }
     ensures ends { StopsAtEnd (S.ends source.old) (S.ends source.new) }
 {

@@ -15,14 +15,16 @@ ghost use Rattle.std.specs.String.{string_bytes};
 ghost use Rattle.ptu_judges.specs.Held.{IsStock, fresh};
 
 use ptu_judges::{FlagJudge, GapJudge, Judge, Rule, Stock};
-use ptu_outside::{StdSink, StdSource};
+use ptu_outside::{Host, StdSink, StdSource};
 use ptu_udp::UdpHost;
 use ptu_words::USAGE_TEXT;
 use status::{OUT_OF_MEMORY, SINK_FAULT, USAGE};
 use std::alloc::{AllocError, Global};
 use std::env::Env;
-use std::io::{BufWriter, ErrorKind, IsTerminal, Write};
+use std::io::{BufWriter, ErrorKind, IsTerminal, Read, Stdin, Stdout, Write};
 use std::process::ExitCode;
+use std::sync::Wait;
+use std::thread::Threads;
 use std::{env, io};
 
 // So many octets of output are handed on at once.
@@ -60,27 +62,50 @@ fn texts_of(alloc: Global, words: &[String]) -> Result<Vec<&str>, AllocError>
     Ok(texts)
 }
 
-// Runs the words over standard input, this writer, and UDP.
-fn run_over<W: Write + Drop>(rt: &HostRuntime, words: &[&str], writer: W, stock: Stock) -> u8
+// Runs the words over this input, this output, and this host.
+fn run_over<W, I, O, H>(
+    rt: &W,
+    words: &[&str],
+    input: I,
+    output: O,
+    host: &mut H,
+    stock: Stock,
+) -> u8
+where
+    W: AllocGlobal + Threads + Wait + Sync,
+    I: Read + Drop,
+    O: Write + Drop,
+    H: Host,
     requires { IsStock (map (λ j. held (j.vtable, j.value)) stock.flags.items)
         (map (λ j. held (j.vtable, j.value)) stock.gaps.items) }
 {
-    let mut source = StdSource::new(rt.stdin());
-    let mut sink = StdSink::new(writer);
-    let mut host = UdpHost::new(*rt);
-    run::run(rt.alloc(), words, &mut source, &mut sink, &mut host, stock)
+    let mut source = StdSource::new(input);
+    let mut sink = StdSink::new(output);
+    run::run(rt, words, &mut source, &mut sink, host, stock)
 }
 
-// The same over standard output, which gets the output block by block. What a run leaves in the
-// last block is handed on whatever the run came to.
-fn run_in_blocks(rt: &HostRuntime, words: &[&str], stock: Stock) -> u8
+// The same, over an output that gets it block by block. What a run leaves in the last block is
+// handed on whatever the run came to.
+fn run_in_blocks<W, I, O, H>(
+    rt: &W,
+    words: &[&str],
+    input: I,
+    output: O,
+    host: &mut H,
+    stock: Stock,
+) -> u8
+where
+    W: AllocGlobal + Threads + Wait + Sync,
+    I: Read + Drop,
+    O: Write + Drop,
+    H: Host,
     requires { IsStock (map (λ j. held (j.vtable, j.value)) stock.flags.items)
         (map (λ j. held (j.vtable, j.value)) stock.gaps.items) }
 {
-    let Ok(mut blocks) = BufWriter::with_capacity(rt.alloc(), BLOCK, rt.stdout()) else {
+    let Ok(mut blocks) = BufWriter::with_capacity(rt.alloc(), BLOCK, output) else {
         return OUT_OF_MEMORY;
     };
-    let status = run_over(rt, words, &mut blocks, stock);
+    let status = run_over(rt, words, input, &mut blocks, host, stock);
     match blocks.flush() {
         Ok(()) => status,
         Err(_) => SINK_FAULT,
@@ -96,18 +121,27 @@ fn is_daemon(words: &[&str]) -> bool {
 }
 
 // Runs the words over standard input and output, line by line where somebody waits for the lines.
-fn status_of(rt: &HostRuntime, words: &[String], stock: Stock) -> u8
+fn status_of<W, H>(
+    rt: &W,
+    words: &[String],
+    input: Stdin,
+    output: Stdout,
+    host: &mut H,
+    stock: Stock,
+) -> u8
+where
+    W: AllocGlobal + Threads + Wait + Sync,
+    H: Host,
     requires { IsStock (map (λ j. held (j.vtable, j.value)) stock.flags.items)
         (map (λ j. held (j.vtable, j.value)) stock.gaps.items) }
 {
     let Ok(texts) = texts_of(rt.alloc(), words) else {
         return OUT_OF_MEMORY;
     };
-    let output = rt.stdout();
     if output.is_terminal() || is_daemon(&texts) {
-        run_over(rt, &texts, output, stock)
+        run_over(rt, &texts, input, output, host, stock)
     } else {
-        run_in_blocks(rt, &texts, stock)
+        run_in_blocks(rt, &texts, input, output, host, stock)
     }
 }
 
@@ -145,8 +179,9 @@ fn main(rt: HostRuntime) -> ExitCode {
             return ExitCode::from(OUT_OF_MEMORY);
         }
     }
+    let mut host = UdpHost::new(rt);
     let status = match words_of(&rt) {
-        Ok(words) => status_of(&rt, &words, stock),
+        Ok(words) => status_of(&rt, &words, rt.stdin(), rt.stdout(), &mut host, stock),
         Err(error) => status_without_words(error.kind()),
     };
     if status == USAGE {

@@ -21,9 +21,12 @@ use ptu_lab::{Stock, load, replay, show};
 use ptu_outside::{Host, Sink, Source};
 use ptu_words::{Command, read_words};
 use std::alloc::Global;
+use std::sync::Wait;
+use std::thread::Threads;
 
 // Runs a command.
-fn run_command<S: Source, K: Sink, H: Host>(
+fn run_command<W: Threads + Wait + Sync, S: Source, K: Sink, H: Host>(
+    rt: &W,
     alloc: Global,
     command: Command,
     source: &mut S,
@@ -63,6 +66,7 @@ fn run_command<S: Source, K: Sink, H: Host>(
     ensures sink_still { result ≢ SINK_FAULT → K.faults sink.new ≡ K.faults sink.old }
     ensures host_fault { result ≡ HOST_FAULT
         → HasRisen (H.faults host.old) (H.faults host.new) }
+    ensures host_still { result ≢ HOST_FAULT → H.faults host.new ≡ H.faults host.old }
     ensures front { IsOfLab command → (input : List ℕ) → S.left source.old ≡ Some input
         → HasPutPart K.written K.handed sink.old sink.new
         (output_of (stock_of stock.flags.items stock.gaps.items) command input) }
@@ -79,7 +83,7 @@ fn run_command<S: Source, K: Sink, H: Host>(
         Command::Replay => status_of(replay(alloc, source, sink, stock)),
         Command::Show => status_of(show(alloc, source, sink)),
         Command::Load(number) => status_of(load(alloc, number, sink)),
-        Command::Serve => run_serve(alloc, source, sink, host),
+        Command::Serve => run_serve(rt, alloc, source, sink, host),
         Command::Slave => run_slave(alloc, source, sink, host, stock),
     }
 }
@@ -89,8 +93,8 @@ fn run_command<S: Source, K: Sink, H: Host>(
 /// output was written, or one of the numbers of `status`. The judges of slaves are taken from the
 /// stock, which is to be fresh.
 #[tactic(auto, using(ptu_world::proofs::Headline::headline))]
-pub fn run<S: Source, K: Sink, H: Host>(
-    alloc: Global,
+pub fn run<W: AllocGlobal + Threads + Wait + Sync, S: Source, K: Sink, H: Host>(
+    rt: &W,
     words: &[&str],
     source: &mut S,
     sink: &mut K,
@@ -181,6 +185,7 @@ pub fn run<S: Source, K: Sink, H: Host>(
     ensures sink_still { result ≢ SINK_FAULT → K.faults sink.new ≡ K.faults sink.old }
     ensures host_fault { result ≡ HOST_FAULT
         → HasRisen (H.faults host.old) (H.faults host.new) }
+    ensures host_still { result ≢ HOST_FAULT → H.faults host.new ≡ H.faults host.old }
     ensures front { (command : Command) → command_of (map (λ w. w.now) words.now) ≡ Some command
         → IsOfLab command → (input : List ℕ) → S.left source.old ≡ Some input
         → HasPutPart K.written K.handed sink.old sink.new
@@ -198,8 +203,9 @@ pub fn run<S: Source, K: Sink, H: Host>(
         × (length octets ≤ 67108865) }
     ensures ends { StopsAtEnd (S.ends source.old) (S.ends source.new) }
 {
+    let alloc = rt.alloc();
     match read_words(alloc, words) {
-        Ok(Some(command)) => run_command(alloc, command, source, sink, host, stock),
+        Ok(Some(command)) => run_command(rt, alloc, command, source, sink, host, stock),
         Ok(None) => USAGE,
         Err(_) => OUT_OF_MEMORY,
     }

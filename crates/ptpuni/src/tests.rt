@@ -7,7 +7,9 @@ use crate::run::run;
 use ptu_judges::{FlagJudge, Judge, Rule, Stock};
 use ptu_outside::{MemClock, MemHost, MemPort, MemSink, MemSource, Opened};
 use std::alloc::{AllocError, Global};
+use std::sync::Wait;
 use std::test::Fail;
+use std::thread::Threads;
 
 // A client asks a grandmaster for Announces at the logarithm 1.
 const ONE_ASK: &str = "\
@@ -107,7 +109,7 @@ pub(crate) fn opened_with(alloc: Global, p4: MemPort) -> Opened<MemPort, MemCloc
 // What a run over memory answers and writes, with a read and a write that fail; none has the number
 // 0.
 fn ran(
-    alloc: Global,
+    rt: &(impl AllocGlobal + Threads + Wait + Sync),
     words: &[&str],
     input: &str,
     failing_read: u64,
@@ -117,11 +119,12 @@ fn ran(
     requires { IsStock (map (λ j. held (j.vtable, j.value)) stock.flags.items)
         (map (λ j. held (j.vtable, j.value)) stock.gaps.items) }
 {
+    let alloc = rt.alloc();
     let bytes = Vec::from_slice(alloc, input.as_bytes())?;
     let mut source = MemSource::new(bytes, vec![in alloc; failing_read]?);
     let mut sink = MemSink::new(alloc, vec![in alloc; failing_write]?);
     let mut host = MemHost::new(opened_with(alloc, port(alloc)), true);
-    let status = run(alloc, words, &mut source, &mut sink, &mut host, stock);
+    let status = run(rt, words, &mut source, &mut sink, &mut host, stock);
     let text = String::from_utf8(sink.into_bytes())
         .ok()
         .ok_or("plain text")?;
@@ -141,7 +144,7 @@ fn each_read_fails_in_turn(rt: HostRuntime) -> Result<(), Fail> {
         // The first read gives the script, the second its end.
         for (read, status, lines) in [(1, 66, 0), (2, 66, whole.saturating_sub(1)), (3, 0, whole)] {
             let stock = one_judge(alloc, Box::new(alloc, FlagJudge::new())?)?;
-            let (found, text) = ran(alloc, &["replay"], script, read, 0, stock)?;
+            let (found, text) = ran(&rt, &["replay"], script, read, 0, stock)?;
             assert_eq!(rt; found, status);
             assert!(rt; report.starts_with(text.as_str()), "{text}");
             assert_eq!(rt; lines_in(text.as_str()), lines);
@@ -158,7 +161,7 @@ fn each_write_fails_in_turn(rt: HostRuntime) -> Result<(), Fail> {
         for lines in 0..=whole {
             let stock = one_judge(alloc, Box::new(alloc, FlagJudge::new())?)?;
             let write = (lines as u64).saturating_add(1);
-            let (found, text) = ran(alloc, &["replay"], script, 0, write, stock)?;
+            let (found, text) = ran(&rt, &["replay"], script, 0, write, stock)?;
             assert_eq!(rt; found, if lines < whole { 67 } else { 0 });
             assert!(rt; report.starts_with(text.as_str()), "{text}");
             assert_eq!(rt; lines_in(text.as_str()), lines);
@@ -168,19 +171,18 @@ fn each_write_fails_in_turn(rt: HostRuntime) -> Result<(), Fail> {
 }
 
 // Whether the words are refused before anything is read or written.
-fn refuses(alloc: Global, words: &[&str]) -> Result<bool, Fail> {
-    let (status, text) = ran(alloc, words, ONE_ASK, 1, 1, no_judges(alloc))?;
+fn refuses(rt: &(impl AllocGlobal + Threads + Wait + Sync), words: &[&str]) -> Result<bool, Fail> {
+    let (status, text) = ran(rt, words, ONE_ASK, 1, 1, no_judges(rt.alloc()))?;
     Ok(status == 64 && text.is_empty())
 }
 
 #[test]
 fn words_of_no_command(rt: HostRuntime) -> Result<(), Fail> {
-    let alloc = rt.alloc();
-    assert!(rt; refuses(alloc, &[])?);
-    assert!(rt; refuses(alloc, &["replay", "x"])?);
-    assert!(rt; refuses(alloc, &["load", "0"])?);
-    assert!(rt; refuses(alloc, &["load", "2001"])?);
-    assert!(rt; refuses(alloc, &["walk"])?);
+    assert!(rt; refuses(&rt, &[])?);
+    assert!(rt; refuses(&rt, &["replay", "x"])?);
+    assert!(rt; refuses(&rt, &["load", "0"])?);
+    assert!(rt; refuses(&rt, &["load", "2001"])?);
+    assert!(rt; refuses(&rt, &["walk"])?);
     Ok(())
 }
 
@@ -203,7 +205,7 @@ fn datagrams_are_shown(rt: HostRuntime) -> Result<(), Fail> {
         ),
         ("0c1\n", "1 bad field 1\n", 65),
     ] {
-        let (found, text) = ran(alloc, &["show"], input, 0, 0, no_judges(alloc))?;
+        let (found, text) = ran(&rt, &["show"], input, 0, 0, no_judges(alloc))?;
         assert_eq!(rt; found, status);
         assert_eq!(rt; text.as_str(), output);
     }

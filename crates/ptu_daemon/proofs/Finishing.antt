@@ -115,6 +115,7 @@ module _ {P C : Type 0} (ports : Ports P) (clocks : Clocks C) where
       (did : DidRounds ports clocks settings settings.rounds (record { gm = gm0; event = opened.p5; clock = opened.c0 }) (record { gm = gm1; event = event; clock = clock }) tally)
       (q0 : closed.p0 ≡ gm1.s0.port) (q1 : closed.p1 ≡ gm1.s1.port) (q2 : closed.p2 ≡ gm1.s2.port) (q3 : closed.p3 ≡ gm1.s3.port) (q4 : closed.p4 ≡ gm1.reply)
       (q5 : closed.p5 ≡ event) (k0 : closed.c0 ≡ clock)
+      (k1 : closed.c1 ≡ opened.c1) (k2 : closed.c2 ≡ opened.c2) (k3 : closed.c3 ≡ opened.c3) (k4 : closed.c4 ≡ opened.c4) (k5 : closed.c5 ≡ opened.c5)
       (sent_is : said.sent ≡ tally.sent) (failed_is : said.failed ≡ tally.failed)
       (rates : (opening : ℕ) (history : List Record) → StandsFor opening gm1 history →
       let x = book_step_moment history 0 in
@@ -218,4 +219,13 @@ module _ {P C : Type 0} (ports : Ports P) (clocks : Clocks C) where
               omega (arith, e0, e1, e2, e3, e4)
 
     pub serves_of : Serves ports clocks settings opened closed said
-    serves_of = record { failed = risen; sent = were_sent; served = are_served }
+    serves_of = record {
+      failed = risen;
+      sent = were_sent;
+      served = are_served;
+      c1 = k1;
+      c2 = k2;
+      c3 = k3;
+      c4 = k4;
+      c5 = k5;
+    }

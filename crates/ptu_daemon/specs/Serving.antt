@@ -1,5 +1,5 @@
 -- What a call that serves has done with the ports and clocks that it opened.
-use Rattle.std.specs.Prelude.{◌≡◌, ℕ, List, map, Option, Some, IsSome, IfSome}
+use Rattle.std.specs.Prelude.{◌≡◌, ◌≤◌, ℕ, List, map, Option, Some, IsSome, IfSome}
 use Rattle.ptu_outside.specs.declared.clock.Clock.{Ghosts as Clocks}
 use Rattle.ptu_outside.specs.declared.opened.Opened.{Opened}
 use Rattle.ptu_outside.specs.declared.port.Port.{Ghosts as Ports}
@@ -7,7 +7,8 @@ use Rattle.ptu_outside.specs.Departure.{Departure}
 use Rattle.ptu_outside.specs.Telling.{IfTold, append_told}
 use Rattle.ptu_config.specs.declared.settings.GmSettings.{GmSettings}
 use Rattle.ptu_rounds.specs.Ports.{HaveNotRisen, HaveRisenBy, WereSent, ports_of, senders_of}
-use Rattle.ptu_daemon.specs.Events.{Given}
+use Rattle.ptu_lane_daemon.specs.Served.{ServesByLanes}
+use Rattle.ptu_daemon.specs.Events.{Given, config_of}
 use Rattle.ptu_daemon.specs.Served.{Said, served_by, served_said}
 
 -- the ports and clocks tell that this is given, and still tell it when they are given back
@@ -46,11 +47,19 @@ pub record Serves {P C : Type 0} (ports : Ports P) (clocks : Clocks C) (settings
   -- where no count rose, it is what is served
   pub served : (given : Given) → IsGiven ports clocks opened closed given →
       HaveNotRisen (faults_of ports opened) (faults_of ports closed) → AreServed ports settings given opened closed said
+  -- the other clocks are given back as they were opened
+  pub c1 : closed.c1 ≡ opened.c1
+  pub c2 : closed.c2 ≡ opened.c2
+  pub c3 : closed.c3 ≡ opened.c3
+  pub c4 : closed.c4 ≡ opened.c4
+  pub c5 : closed.c5 ≡ opened.c5
 
--- likewise, where a host that told that it opens `opening` tells that it was given `back`
+-- likewise, where a host that told that it opens `opening` tells that it was given `back`: on one thread, or by lanes
 pub record HasServed {P C : Type 0} (ports : Ports P) (clocks : Clocks C) (settings : GmSettings) (opening back : Option (Opened P C)) (said : Said) : Type 0 where
   pub opened : Opened P C
   pub closed : Opened P C
   pub opens : IfSome opening (λ told. opened ≡ told)
   pub gives_back : IfTold back (Some closed)
-  pub serves : Serves ports clocks settings opened closed said
+  pub serves : settings.senders ≡ 0 → Serves ports clocks settings opened closed said
+  pub by_lanes : 1 ≤ settings.senders →
+      ServesByLanes ports settings (config_of settings) opened closed said.granted said.refused said.held

@@ -1,5 +1,5 @@
 //! A grandmaster as a daemon: it takes what waits at its ports, and its tables take turns, in
-//! rounds.
+//! rounds, on one thread or by lanes that work side by side.
 #![tactic(auto)]
 
 mod closing;
@@ -12,5 +12,7 @@ mod tally;
 pub use ptu_rounds::DaemonFault;
 pub use serving::serve;
 
+#[cfg(test)]
+mod lane_tests;
 #[cfg(test)]
 mod tests;

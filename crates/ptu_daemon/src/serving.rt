@@ -1,10 +1,11 @@
-//! The daemon of a grandmaster, on one thread.
+//! The daemon of a grandmaster.
 
-ghost use Rattle.std.specs.Prelude.{◌≡◌, ◌≢◌, ◌∷◌, [], IfOk, IfErr, OnOk, OnErr};
+ghost use Rattle.std.specs.Prelude.{◌≡◌, ◌≢◌, ◌≤◌, ◌∷◌, [], IfOk, IfErr, OnOk, OnErr};
 ghost use Rattle.ptu_outside.specs.Faults.{HasRisen};
 ghost use Rattle.ptu_outside.specs.Handing.{HasPut, HasPutFront};
 ghost use Rattle.ptu_shard.specs.Config.{IsWithinLimits};
 ghost use Rattle.ptu_config.specs.Limits.{IsGmInRange};
+ghost use Rattle.ptu_lane_daemon.specs.Served.{ServesByLanes};
 ghost use Rattle.ptu_daemon.specs.Events.{config_of};
 ghost use Rattle.ptu_daemon.specs.Served.{Said, closing_line, said_by};
 ghost use Rattle.ptu_daemon.specs.Serving.{HasServed, Serves};
@@ -15,11 +16,14 @@ use ptu_admit::Closed;
 use ptu_config::GmSettings;
 use ptu_grandmaster::Gm;
 use ptu_header::PortIdentity;
+use ptu_lane_daemon::serve_lanes;
 use ptu_outside::{Clock, Host, Opened, Port, Sink, write_whole};
 use ptu_rounds::DaemonFault;
 use ptu_shard::GmConfig;
 use ptu_units::OutOfMemory;
 use std::alloc::Global;
+use std::sync::Wait;
+use std::thread::Threads;
 
 // How the grandmaster is set up.
 fn config(settings: &GmSettings) -> GmConfig
@@ -39,7 +43,33 @@ fn config(settings: &GmSettings) -> GmConfig
     }
 }
 
-// Serves over these ports and clocks. Gives them back, with the numbers of the last line.
+// Serves over these ports and clocks by lanes. Gives them back, with the numbers of the last line.
+fn serve_by_lanes<P: Port + Send, C: Clock + Send, W: Threads + Wait + Sync>(
+    rt: &W,
+    alloc: Global,
+    settings: &GmSettings,
+    opened: Opened<P, C>,
+) -> Result<(Opened<P, C>, Closing), OutOfMemory>
+    requires range { IsGmInRange settings.now }
+    requires senders { 1 ≤ settings.now.senders }
+    ensures rounds { IfOk result (λ r. r.1.rounds ≡ settings.now.rounds) }
+    ensures serves { IfOk result (λ r. ServesByLanes P.Port settings.now (config_of settings.now)
+        opened r.0 r.1.granted r.1.refused r.1.held) }
+{
+    let (back, totals) = serve_lanes(rt, alloc, settings, &config(settings), opened)?;
+    let closing = Closing {
+        rounds: settings.rounds,
+        sent: totals.sent,
+        failed: totals.failed,
+        granted: totals.granted,
+        refused: totals.refused,
+        held: totals.held,
+    };
+    Ok((back, closing))
+}
+
+// Serves over these ports and clocks on one thread. Gives them back, with the numbers of the last
+// line.
 fn serve_rounds<P: Port, C: Clock>(
     alloc: Global,
     settings: &GmSettings,
@@ -108,6 +138,29 @@ fn serve_rounds<P: Port, C: Clock>(
     Ok((back, closing))
 }
 
+// Serves over these ports and clocks, on one thread or by lanes. Gives them back, with the numbers
+// of the last line.
+fn serve_over<P: Port + Send, C: Clock + Send, W: Threads + Wait + Sync>(
+    rt: &W,
+    alloc: Global,
+    settings: &GmSettings,
+    opened: Opened<P, C>,
+) -> Result<(Opened<P, C>, Closing), OutOfMemory>
+    requires { IsGmInRange settings.now }
+    ensures rounds { IfOk result (λ r. r.1.rounds ≡ settings.now.rounds) }
+    ensures serves { IfOk result (λ r. settings.now.senders ≡ 0
+        → Serves P.Port C.Clock settings.now opened r.0 (said_by r.1)) }
+    ensures by_lanes { IfOk result (λ r. 1 ≤ settings.now.senders
+        → ServesByLanes P.Port settings.now (config_of settings.now)
+        opened r.0 r.1.granted r.1.refused r.1.held) }
+{
+    if settings.senders == 0 {
+        serve_rounds(alloc, settings, opened)
+    } else {
+        serve_by_lanes(rt, alloc, settings, opened)
+    }
+}
+
 // Hands the text to the sink in one piece, and its rest again until all is taken.
 fn put<K: Sink>(sink: &mut K, text: &str) -> Result<(), DaemonFault>
     ensures whole { OnOk result (HasPut K.written K.handed sink.old sink.new (text.now ∷ [])) }
@@ -122,8 +175,8 @@ fn put<K: Sink>(sink: &mut K, text: &str) -> Result<(), DaemonFault>
     }
 }
 
-/// Serves a grandmaster of these settings over the ports and clocks of the host, in rounds, on
-/// this thread, and then writes one line: `rounds R sent S failed F granted G refused U held H`.
+/// Serves a grandmaster of these settings over the ports and clocks of the host, in rounds, and
+/// then writes one line: `rounds R sent S failed F granted G refused U held H`.
 ///
 /// A round takes up to 64 datagrams of the general channel, then up to 64 of the event channel,
 /// until none waits there or a receive fails, and then the tables 0 to 3 take a turn. Each of
@@ -131,17 +184,21 @@ fn put<K: Sink>(sink: &mut K, text: &str) -> Result<(), DaemonFault>
 /// change of the capacity to `new_capacity`. A send or a receive that fails is counted, and the
 /// daemon goes on. The ports and clocks are given back to the host before the line is written.
 ///
+/// So it is on this thread where `senders` is 0. Else the channels and the tables are served side
+/// by side in each round, by lanes of which `senders` turn the tables, and each lane takes moments
+/// of a clock of its own (`serve_lanes`).
+///
 /// # Errors
 /// `Open` where the host does not open; `Write` where the sink does not take the line; and
 /// `OutOfMemory`, after which the ports and clocks are dropped.
-pub fn serve<H: Host, K: Sink>(
+pub fn serve<W: Threads + Wait + Sync, H: Host, K: Sink>(
+    rt: &W,
     alloc: Global,
     settings: &GmSettings,
     host: &mut H,
     sink: &mut K,
 ) -> Result<(), DaemonFault>
     requires range { IsGmInRange settings.now }
-    requires one_thread { settings.now.senders ≡ 0 }
     // The line was written: its numbers, and what the ports were sent, are those of what is served.
     ensures served { OnOk result ((said : Said)
         × HasPut K.written K.handed sink.old sink.new (closing_line settings.now.rounds said ∷ [])
@@ -158,11 +215,14 @@ pub fn serve<H: Host, K: Sink>(
         → HasRisen (K.faults sink.old) (K.faults sink.new)) }
     ensures still { OnOk result (K.faults sink.new ≡ K.faults sink.old) }
     ensures opens { OnOk result (H.faults host.new ≡ H.faults host.old) }
+    // Every other fault leaves the host's count as it was.
+    ensures host_still { IfErr result (λ fault. fault ≢ DaemonFault.Open
+        → H.faults host.new ≡ H.faults host.old) }
 {
     let Ok(opened) = host.open(settings.ip, settings.event_port, settings.general_port) else {
         return Err(DaemonFault::Open);
     };
-    let (back, closing) = serve_rounds(alloc, settings, opened)?;
+    let (back, closing) = serve_over(rt, alloc, settings, opened)?;
     let text = closing_text(alloc, &closing)?;
     host.close(back);
     put(sink, text.as_str())

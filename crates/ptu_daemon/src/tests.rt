@@ -1,4 +1,4 @@
-ghost use Rattle.std.specs.Prelude.{◌≡◌, IfOk};
+ghost use Rattle.std.specs.Prelude.{IfOk};
 ghost use Rattle.ptu_outside.specs.MemoryPort.{FitAll};
 ghost use Rattle.ptu_config.specs.Limits.{IsGmInRange};
 
@@ -7,7 +7,9 @@ use ptu_config::GmSettings;
 use ptu_outside::{Arrival, Channel, Datagram, MemClock, MemHost, MemPort, MemSink, Opened};
 use std::alloc::Global;
 use std::process::Abort;
+use std::sync::Wait;
 use std::test::Fail;
+use std::thread::Threads;
 
 const SETTINGS: GmSettings = GmSettings {
     ip: 0x7f00_0001,
@@ -99,18 +101,17 @@ fn asked(alloc: Global, sends: &[u64], receives: &[u64]) -> Result<MemPort, Fail
 
 // Serving over this port of the general channel writes this line.
 fn assert_line(
-    rt: &impl Abort,
+    rt: &(impl Abort + Threads + Wait + Sync),
     alloc: Global,
     settings: &GmSettings,
     general: MemPort,
     line: &str,
 ) -> MemHost
     requires range { IsGmInRange settings.now }
-    requires one_thread { settings.now.senders ≡ 0 }
 {
     let mut host = host(alloc, general, false);
     let mut sink = MemSink::new(alloc, Vec::new(alloc));
-    assert!(rt; serve(alloc, settings, &mut host, &mut sink).is_ok());
+    assert!(rt; serve(rt, alloc, settings, &mut host, &mut sink).is_ok());
     assert!(rt; sink.bytes() == line.as_bytes());
     host
 }
@@ -124,6 +125,38 @@ fn an_ask_is_granted(rt: HostRuntime) -> Result<(), Fail> {
     let host = assert_line(&rt, alloc, &SETTINGS, general, line);
     let sent = host.back().and_then(|back| back.p4.sent(0));
     assert!(rt; sent == Some((CLIENT, Channel::General, grant.as_slice())));
+    Ok(())
+}
+
+#[test]
+fn lanes_grant_an_ask(rt: HostRuntime) -> Result<(), Fail> {
+    let alloc = rt.alloc();
+    let grant = hex::decode(alloc, GRANT)?;
+    let general = asked(alloc, &[], &[])?;
+    let settings = GmSettings {
+        senders: 2,
+        ..SETTINGS
+    };
+    let line = "rounds 1 sent 1 failed 0 granted 1 refused 0 held 8\n";
+    let host = assert_line(&rt, alloc, &settings, general, line);
+    let sent = host.back().and_then(|back| back.p4.sent(0));
+    assert!(rt; sent == Some((CLIENT, Channel::General, grant.as_slice())));
+    Ok(())
+}
+
+#[test]
+fn a_change_beside_lanes_sheds_the_grant(rt: HostRuntime) -> Result<(), Fail> {
+    let alloc = rt.alloc();
+    let general = asked(alloc, &[], &[])?;
+    let settings = GmSettings {
+        rounds: 2,
+        change_round: 2,
+        new_capacity: Some(4),
+        senders: 2,
+        ..SETTINGS
+    };
+    let line = "rounds 2 sent 2 failed 0 granted 1 refused 0 held 0\n";
+    let _ = assert_line(&rt, alloc, &settings, general, line);
     Ok(())
 }
 
@@ -169,7 +202,7 @@ fn a_host_that_does_not_open_is_a_fault(rt: HostRuntime) {
     let alloc = rt.alloc();
     let mut host = host(alloc, idle(alloc), true);
     let mut sink = MemSink::new(alloc, Vec::new(alloc));
-    let outcome = serve(alloc, &SETTINGS, &mut host, &mut sink);
+    let outcome = serve(&rt, alloc, &SETTINGS, &mut host, &mut sink);
     assert!(rt; outcome == Err(DaemonFault::Open));
     assert!(rt; sink.bytes().is_empty());
 }

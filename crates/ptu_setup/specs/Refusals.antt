@@ -1,14 +1,14 @@
 -- Why a program refuses settings, and by which line of output.
-use Rattle.std.specs.Prelude.{◌≡◌, ◌≤◌, ℕ, suc, Bool, true, false, not, ◌||◌, nat_lt, if◌then◌else◌, List, ◌++◌, count_by, codes, Option, Some, None}
+use Rattle.std.specs.Prelude.{◌≡◌, ◌≤◌, ℕ, Bool, true, false, not, ◌||◌, nat_lt, if◌then◌else◌, List, ◌++◌, count_by, codes, Option, Some, None}
 use Rattle.toml.specs.Data.{Members}
-use Rattle.ptu_config.specs.declared.key.Key.TheVariants.{Senders, TwoStep, Masters}
+use Rattle.ptu_config.specs.declared.key.Key.TheVariants.{TwoStep, Masters}
 use Rattle.ptu_config.specs.declared.fault.SettingFault.{SettingFault}
 use Rattle.ptu_config.specs.declared.fault.SettingFault.TheVariants as faults
 use Rattle.ptu_config.specs.declared.master.MasterSetting.{MasterSetting}
 use Rattle.ptu_config.specs.declared.settings.GmSettings.{GmSettings}
 use Rattle.ptu_config.specs.Documents.{document_of, refusal_of}
 use Rattle.ptu_config.specs.Key.{name_of}
-use Rattle.ptu_config.specs.Rules.{Value, number, truth, masters, gm_keys, setting_of, slave_keys}
+use Rattle.ptu_config.specs.Rules.{Value, truth, masters, gm_keys, setting_of, slave_keys}
 use Rattle.ptu_setup.specs.declared.fault.SetupFault.{SetupFault}
 use Rattle.ptu_setup.specs.declared.fault.SetupFault.TheVariants.{Refused, OutOfMemory}
 use Rattle.ptu_setup.specs.declared.refusal.RefusalLine.{RefusalLine}
@@ -44,28 +44,19 @@ or_later (Some fault) later = line_of fault
 
 -- ---- a grandmaster
 
--- the value is a number above 0
-abbrev pub is_above_zero : Option Value → Bool
-is_above_zero (Some (number (suc n))) = true
-is_above_zero _ = false
-
 -- the value is true
 abbrev pub is_true : Option Value → Bool
 is_true (Some (truth true)) = true
 is_true _ = false
 
--- no threads send, and no Sync has a Follow_Up: nothing else is served yet
+-- no Sync has a Follow_Up: nothing else is served yet
 pub record IsServed (settings : GmSettings) : Type 0 where
-  pub senders : settings.senders ≡ 0
   pub two_step : settings.two_step ≡ false
 
 -- the line of a document that asks for another thing
 abbrev pub unserved : Option Members → Option RefusalLine
 unserved None = None
-unserved (Some document) =
-    if is_above_zero (setting_of document Senders) then Some (Bad Senders)
-    else if is_true (setting_of document TwoStep) then Some (Bad TwoStep)
-    else None
+unserved (Some document) = if is_true (setting_of document TwoStep) then Some (Bad TwoStep) else None
 
 -- the line by which octets that are to be the settings of a grandmaster are refused
 abbrev pub gm_refusal : List ℕ → Option RefusalLine

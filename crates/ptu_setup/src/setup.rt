@@ -22,9 +22,6 @@ fn gm_of(alloc: Global, octets: &[u8]) -> Result<GmSettings, SetupFault>
     ensures cause { IfErr result IsNoFailure }
 {
     let settings = gm_settings(alloc, octets)?;
-    if settings.senders > 0 {
-        return Err(SetupFault::Refused(RefusalLine::Bad(Key::Senders)));
-    }
     if settings.two_step {
         return Err(SetupFault::Refused(RefusalLine::Bad(Key::TwoStep)));
     }
@@ -69,8 +66,8 @@ fn slave_of(
 /// 65536 octets. At most 65537 octets are read, and nothing behind the end.
 ///
 /// # Errors
-/// `Refused` by the line of the first cause to refuse them, among which `senders` above 0 and a
-/// true `two_step` come last; `Read` exactly where the source failed; or `OutOfMemory`.
+/// `Refused` by the line of the first cause to refuse them, among which a true `two_step` comes
+/// last; `Read` exactly where the source failed; or `OutOfMemory`.
 pub fn gm_setup<S: Source>(alloc: Global, source: &mut S) -> Result<GmSettings, SetupFault>
     // They were read to the source's end, and say just these values; or so many octets that they
     // are refused,

@@ -60,8 +60,21 @@ fn a_grandmaster_is_set_up(rt: HostRuntime) -> Result<(), Fail> {
             0,
             Some(SetupFault::Refused(RefusalLine::Bad(Key::Class))),
         ),
+        ("senders = 2", 0, 0, None),
+        (
+            "senders = 5",
+            0,
+            0,
+            Some(SetupFault::Refused(RefusalLine::Bad(Key::Senders))),
+        ),
         (
             "two_step = true",
+            0,
+            0,
+            Some(SetupFault::Refused(RefusalLine::Bad(Key::TwoStep))),
+        ),
+        (
+            "senders = 2\ntwo_step = true",
             0,
             0,
             Some(SetupFault::Refused(RefusalLine::Bad(Key::TwoStep))),

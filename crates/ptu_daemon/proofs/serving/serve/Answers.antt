@@ -26,6 +26,7 @@ returns-clause-served g c =
         opens = c.in-Ok.ensures.opened;
         gives_back = c.close.ensures.back;
         serves = c.in_ok-back.ensures.serves;
+        by_lanes = c.in_ok-back.ensures.by_lanes;
       },
     )) c.put.ensures.whole
 
@@ -42,5 +43,6 @@ returns-clause-part g c =
         opens = c.in-Ok.ensures.opened;
         gives_back = c.close.ensures.back;
         serves = c.in_ok-back.ensures.serves;
+        by_lanes = c.in_ok-back.ensures.by_lanes;
       },
     )) c.put.ensures.part

@@ -18,5 +18,5 @@ returns-clause-serves g c =
       held = c.close-closed.result.0.total;
     }))
     (made.config ∙ c.config.ensures.is) made.ports.0 made.ports.1 made.ports.2 made.ports.3 made.ports.4 made.stands c.in_ok-tally.ensures.did
-    ended.ports.0 ended.ports.1 ended.ports.2 ended.ports.3 ended.ports.4 refl refl refl refl
+    ended.ports.0 ended.ports.1 ended.ports.2 ended.ports.3 ended.ports.4 refl refl refl refl refl refl refl refl refl
     (λ opening history stood. let r = ended.rates opening history stood in (r.1, r.2, r.3))

@@ -1,9 +1,8 @@
-use Rattle.std.proofs.Common.{rules, ◌≡◌, ◌≤◌, ◌+◌, ◌==◌, ℕ, false, length, take, drop, ◌++◌, sym, ap, ◌∙◌, subst, arith, List, slice_range}
+use Rattle.std.proofs.Common.{rules, ◌≡◌, ◌≤◌, ◌==◌, false, length, take, subst}
 use Rattle.std.proofs.lemmas.Bool.{ne_eqb}
 use Rattle.ptu_lines.proofs.Ranges.{written_over}
 use Rattle.ptu_outside.specs.Ends.{CountsEnd}
 use Rattle.ptu_setup.proofs.Taking.{IsTaking-start, IsTaking-more, IsTaking-end, IsTaking-full, counted_once, not_counted, taken_some}
-use Rattle.ptu_setup.specs.Reading.{HasTaken}
 use Rattle.ptu_setup.proofs.octets.read_octets.Goals as goal
 
 pub loop-count-init : goal.loop-count-init

@@ -1,0 +1,262 @@
+ghost use Rattle.std.specs.Prelude.{◌≡◌, None};
+
+use crate::serve;
+use ptu_config::GmSettings;
+use ptu_outside::{Arrival, Channel, Datagram, Failed, Host, MemClock, MemSink, Opened, Port};
+use ptu_units::Moment;
+use std::alloc::Global;
+use std::process::Abort;
+use std::sync::Wait;
+use std::sync::atomic::{AtomicU64, Ordering};
+use std::test::Fail;
+use std::thread::Threads;
+
+const SETTINGS: GmSettings = GmSettings {
+    ip: 0x7f00_0001,
+    event_port: 319,
+    general_port: 320,
+    clock: 0x0a00_0000_0000_0001,
+    port: 1,
+    domain: 4,
+    rounds: 2,
+    class: 84,
+    capacity: 32,
+    max_duration: 1000,
+    epoch: 0,
+    senders: 2,
+    change_round: 0,
+    new_capacity: None,
+    two_step: false,
+};
+
+// The limit of looks at a count.
+const LOOKS: u64 = 1_000_000_000;
+
+// REQUESTs of Sync at logarithm 0, which is a rate of 16, for 300 s, by a client of table 0 and by
+// one of table 1.
+const OF_TABLE_0: &str = "0c120036040004000000000000000000000000000a0000000000000300010000\
+    057fffffffffffffffffffff0004000600000000012c";
+
+const OF_TABLE_1: &str = "0c120036040004000000000000000000000000000a0000000000000400010000\
+    057fffffffffffffffffffff0004000600000000012c";
+
+// A Delay_Req of the former.
+const DELAY_REQ: &str = "0112002c040004000000000000000000000000000a0000000000000300010000\
+    017f00000000000000000000";
+
+// What lanes have done that work side by side.
+#[derive(Drop)]
+struct Seen {
+    // The datagrams that the port of the event channel gave.
+    given: AtomicU64,
+    // The Syncs that the ports of tables 0 and 1 were sent.
+    of_table_0: AtomicU64,
+    of_table_1: AtomicU64,
+    // The limit of looks was reached.
+    late: AtomicU64,
+}
+
+// Looks at the count until something was counted, or the limit is reached.
+fn await_one(seen: &Seen, count: &AtomicU64) {
+    for _ in 0..LOOKS {
+        if count.load(Ordering::SeqCst) > 0 {
+            return;
+        }
+    }
+    seen.late.store(1, Ordering::SeqCst);
+}
+
+fn count_one(count: &AtomicU64) {
+    count.fetch_add(1, Ordering::SeqCst);
+}
+
+// What is special about a port.
+#[derive(Clone, Copy, PartialEq, Eq)]
+enum Role {
+    // It belongs to table 0: a send waits until the event port gave a datagram and the port of
+    // table 1 was sent one.
+    Held,
+    // It belongs to table 1.
+    Beside,
+    // It receives the event channel, and gives nothing in the first round.
+    Event,
+    Plain,
+}
+
+// A port that counts what it gives and is sent.
+#[derive(Drop)]
+struct LanePort<'a> {
+    seen: &'a Seen,
+    role: Role,
+    // What waits, the first at the end.
+    waiting: Vec<Arrival>,
+    // So many receives give nothing before.
+    pauses: u64,
+}
+
+// Whether the octets are a Sync.
+fn is_sync(bytes: &[u8]) -> bool {
+    bytes.first().is_some_and(|octet| octet & 15 == 0)
+}
+
+impl Port for LanePort<'_> {
+    ghost sent = { λ _. None };
+
+    ghost waiting = { λ _. None };
+
+    ghost faults = { λ _. 0 };
+
+    fn send(&mut self, _ip: u32, _channel: Channel, bytes: &[u8]) -> Result<(), Failed> {
+        let seen = self.seen;
+        if self.role == Role::Held && is_sync(bytes) {
+            await_one(seen, &seen.given);
+            await_one(seen, &seen.of_table_1);
+            count_one(&seen.of_table_0);
+        }
+        if self.role == Role::Beside && is_sync(bytes) {
+            count_one(&seen.of_table_1);
+        }
+        Ok(())
+    }
+
+    fn receive(&mut self, buf: &mut [u8; 2048]) -> Result<Option<(u32, usize)>, Failed> {
+        if self.pauses > 0 {
+            self.pauses -= 1;
+            return Ok(None);
+        }
+        let Some(arrival) = self.waiting.pop() else {
+            return Ok(None);
+        };
+        let bytes = arrival.bytes.bytes();
+        let size = bytes.len().min(2048);
+        buf[..size].copy_from_slice(&bytes[..size]);
+        if self.role == Role::Event {
+            count_one(&self.seen.given);
+        }
+        Ok(Some((arrival.ip, size)))
+    }
+}
+
+// A host that opens these ports and clocks once.
+#[derive(Drop)]
+struct LaneHost<'a> {
+    opened: Option<Opened<LanePort<'a>, MemClock>>,
+    faults: u64,
+}
+
+impl<'a> Host for LaneHost<'a> {
+    type P = LanePort<'a>;
+
+    type C = MemClock;
+
+    ghost opening = { λ _. None };
+
+    ghost back = { λ _. None };
+
+    ghost faults = { λ h. h.faults };
+
+    fn open(
+        &mut self,
+        _ip: u32,
+        _event_port: u16,
+        _general_port: u16,
+    ) -> Result<Opened<LanePort<'a>, MemClock>, Failed> {
+        let opened = self.opened.take();
+        if opened.is_none() {
+            self.faults = self.faults.saturating_add(1);
+        }
+        opened.ok_or(Failed)
+    }
+
+    fn close(&mut self, opened: Opened<LanePort<'a>, MemClock>)
+        ensures quiet { self.new.faults ≡ self.old.faults }
+    {
+        drop(opened);
+    }
+}
+
+fn arrival(alloc: Global, ip: u32, datagram: &str) -> Result<Arrival, Fail> {
+    let bytes = Datagram::new(hex::decode(alloc, datagram)?);
+    Ok(Arrival { ip, bytes })
+}
+
+fn port<'a>(seen: &'a Seen, role: Role, waiting: Vec<Arrival>) -> LanePort<'a> {
+    LanePort {
+        seen,
+        role,
+        waiting,
+        pauses: if role == Role::Event { 1 } else { 0 },
+    }
+}
+
+// A clock at 0.
+fn still(alloc: Global) -> MemClock {
+    MemClock::new(Vec::new(alloc))
+}
+
+// A clock that is read twice at 0, and then at 1 s.
+fn going(alloc: Global) -> Result<MemClock, Fail> {
+    let moments = [0, 0, 1_000_000_000, 1_000_000_000];
+    let mut list = Vec::new(alloc);
+    for moment in moments {
+        list.push(Moment::of(moment).ok_or("a moment is below 2^63")?)?;
+    }
+    Ok(MemClock::new(list))
+}
+
+// A host at whose general channel the two REQUESTs wait, and at whose event channel the Delay_Req.
+fn host(alloc: Global, seen: &Seen) -> Result<LaneHost<'_>, Fail> {
+    let asks = vec![in alloc;
+        arrival(alloc, 0x0a00_0104, OF_TABLE_1)?,
+        arrival(alloc, 0x0a00_0103, OF_TABLE_0)?,
+    ]?;
+    let delay = vec![in alloc; arrival(alloc, 0x0a00_0103, DELAY_REQ)?]?;
+    let opened = Opened {
+        p0: port(seen, Role::Held, Vec::new(alloc)),
+        p1: port(seen, Role::Beside, Vec::new(alloc)),
+        p2: port(seen, Role::Plain, Vec::new(alloc)),
+        p3: port(seen, Role::Plain, Vec::new(alloc)),
+        p4: port(seen, Role::Plain, asks),
+        p5: port(seen, Role::Event, delay),
+        c0: still(alloc),
+        c1: still(alloc),
+        c2: going(alloc)?,
+        c3: going(alloc)?,
+        c4: still(alloc),
+        c5: still(alloc),
+    };
+    Ok(LaneHost {
+        opened: Some(opened),
+        faults: 0,
+    })
+}
+
+// Serving by lanes over the host comes to its end before a limit, and writes this line.
+fn assert_serves(
+    rt: &(impl Abort + Threads + Wait + Sync),
+    alloc: Global,
+    seen: &Seen,
+    line: &str,
+) -> Result<(), Fail> {
+    let mut host = host(alloc, seen)?;
+    let mut sink = MemSink::new(alloc, Vec::new(alloc));
+    assert!(rt; serve(rt, alloc, &SETTINGS, &mut host, &mut sink).is_ok());
+    assert!(rt; sink.bytes() == line.as_bytes());
+    assert!(rt; seen.late.load(Ordering::SeqCst) == 0);
+    Ok(())
+}
+
+#[test]
+fn lanes_run_beside_each_other(rt: HostRuntime) -> Result<(), Fail> {
+    let seen = Seen {
+        given: AtomicU64::new(0),
+        of_table_0: AtomicU64::new(0),
+        of_table_1: AtomicU64::new(0),
+        late: AtomicU64::new(0),
+    };
+    let line = "rounds 2 sent 4 failed 0 granted 2 refused 0 held 32\n";
+    assert_serves(&rt, rt.alloc(), &seen, line)?;
+    assert!(rt; seen.of_table_0.load(Ordering::SeqCst) == 1);
+    assert!(rt; seen.of_table_1.load(Ordering::SeqCst) == 1);
+    Ok(())
+}
