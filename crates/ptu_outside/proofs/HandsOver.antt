@@ -1,101 +1,150 @@
--- One more datagram that is handed to a port.
-use Rattle.std.proofs.Common.{◌≡◌, ◌∙◌, ◌⊎◌, inl, inr, ℕ, suc, ◌+◌, ◌-◌, ◌^◌, ◌<◌, ◌≤◌, ◌++◌, List, [], ◌∷◌, length, Bool, true, false, cond, refl, sym, ap, subst, arith, append_assoc, length-append, Option, Some, None}
-use Rattle.std.specs.List.{items_where_true}
+-- Datagrams that are handed to a port: none, one, and one list after another.
+use Rattle.std.proofs.Common.{◌≡◌, ◌∙◌, ◌⊎◌, inl, inr, ℕ, ◌+◌, ◌-◌, ◌^◌, ◌<◌, ◌≤◌, ◌++◌, List, [], ◌∷◌, length, rules, Result, Ok, Err, Bool, true, false, refl, sym, ap, subst, arith, append_assoc, length-append, Option, Some, None}
+use Rattle.std.specs.List.{AllByRecursion, items_where_true}
 use Rattle.std.proofs.lemmas.List.{append-nil}
+use Rattle.ptu_outside.specs.declared.port.Port.{Ghosts as Ports}
 use Rattle.ptu_outside.specs.Departure.{Departure}
-use Rattle.ptu_outside.specs.Faults.{HasRisen, HasRisenBy, HasNotFallen}
+use Rattle.ptu_outside.specs.Faults.{HasRisen, HasRisenBy, HasRisenJust, HasNotFallen, one_more}
 use Rattle.ptu_outside.specs.Telling.{IfTold, append_told}
-use Rattle.ptu_outside.specs.HandsOver.{HandsOver, SentOf}
+use Rattle.ptu_outside.specs.HandsOver.{HandsOver, SentOf, failed_in, sent_in}
+use Rattle.std.specs.Result.{OnErr, OnOk}
 
 told_none : (before : Option (List Departure)) → IfTold before (append_told before [])
 told_none None = tt
 told_none (Some list) = ap Some (append-nil list)
 
-told_kept : (told : Option (List Departure)) (middle after : Option (List Departure)) → IfTold middle told → IfTold after middle → IfTold after told
-told_kept told middle None first second = tt
-told_kept told None (Some list) first second = absurd (cc)
-told_kept told (Some more) (Some list) first second = cc
-
-told_more : (before middle after : Option (List Departure)) (xs ys : List Departure) → IfTold middle (append_told before xs) → IfTold after (append_told middle ys) → IfTold after (append_told before (xs ++ ys))
-told_more before middle None xs ys first second = tt
-told_more before None (Some list) xs ys first second = absurd (cc)
-told_more None (Some more) (Some list) xs ys first second = absurd (cc)
-told_more (Some least) (Some more) (Some list) xs ys first second =
+told_both : (before middle after : Option (List Departure)) (xs ys : List Departure) → IfTold middle (append_told before xs) → IfTold after (append_told middle ys)
+    → IfTold after (append_told before (xs ++ ys))
+told_both before middle None xs ys first second = tt
+told_both before None (Some list) xs ys first second = absurd (cc)
+told_both None (Some more) (Some list) xs ys first second = absurd (cc)
+told_both (Some least) (Some more) (Some list) xs ys first second =
     let one : least ++ xs ≡ more = cc in
     let two : more ++ ys ≡ list = cc in
     ap Some (sym (append_assoc least xs ys) ∙ ap (λ l. l ++ ys) one ∙ two)
 
-items-push : (which : List Bool) (ds : List Departure) (b : Bool) (d : Departure) → length which ≡ length ds →
-    items_where_true (which ++ b ∷ []) (ds ++ d ∷ []) ≡ items_where_true which ds ++ cond b (d ∷ []) []
-items-push [] [] true d e = refl
-items-push [] [] false d e = refl
-items-push [] (x ∷ ds) b d e = absurd (omega arith)
-items-push (w ∷ which) [] b d e = absurd (omega arith)
-items-push (true ∷ which) (x ∷ ds) b d e = ap (λ l. x ∷ l) (items-push which ds b d (omega arith))
-items-push (false ∷ which) (x ∷ ds) b d e = items-push which ds b d (omega arith)
+told_kept : (before after : Option (List Departure)) → IfTold after before → IfTold after (append_told before [])
+told_kept before None kept = tt
+told_kept None (Some list) kept = absurd (cc)
+told_kept (Some old) (Some list) kept = let one : old ≡ list = cc in ap Some (append-nil old ∙ one)
 
-pub hands_none : (before : Option (List Departure)) (old : ℕ) → HandsOver before before old old [] 0 0
-hands_none before old = record {
-  each = refl;
-  risen = inl (omega arith);
-  no_fall = (omega arith, λ end. refl);
-  some = record { which = []; each = refl; many = refl; told = told_none before };
-  all = λ still. told_none before;
-}
+items-append : (which more : List Bool) (ds es : List Departure) → length which ≡ length ds
+    → items_where_true (which ++ more) (ds ++ es) ≡ items_where_true which ds ++ items_where_true more es
+items-append [] more [] es same = refl
+items-append [] more (d ∷ ds) es same = absurd (omega arith)
+items-append (w ∷ which) more [] es same = absurd (omega arith)
+items-append (true ∷ which) more (d ∷ ds) es same = ap (λ l. d ∷ l) (items-append which more ds es (omega arith))
+items-append (false ∷ which) more (d ∷ ds) es same = items-append which more ds es (omega arith)
 
-pub hands_sent : (before middle after : Option (List Departure)) (old now new : ℕ) (ds : List Departure) (sent failed : ℕ) (d : Departure) →
-    HandsOver before middle old now ds sent failed → IfTold after (append_told middle (d ∷ [])) → new ≡ now →
-    HandsOver before after old new (ds ++ d ∷ []) (sent + 1) failed
-hands_sent before middle after old now new ds sent failed d h told same = record {
-  each = length_more;
-  risen = subst (λ n. HasRisenBy failed old n) (sym same) h.risen;
-  no_fall = subst (λ n. HasNotFallen old n) (sym same) h.no_fall;
-  some = record {
-    which = h.some.which ++ true ∷ [];
-    each = length-append h.some.which (true ∷ []) ∙ ap (λ n. n + 1) h.some.each ∙ sym (length-append ds (d ∷ []));
-    many = ap length items ∙ length-append (items_where_true h.some.which ds) (d ∷ []) ∙ ap (λ n. n + 1) h.some.many;
-    told = subst (λ l. IfTold after (append_told before l)) (sym items) (told_more before middle after (items_where_true h.some.which ds) (d ∷ []) h.some.told told);
-  };
-  all = λ still. told_more before middle after ds (d ∷ []) (h.all (λ rises. still (subst (λ n. HasRisen old n) (sym same) rises))) told;
-}
-  where
-    items : items_where_true (h.some.which ++ true ∷ []) (ds ++ d ∷ []) ≡ items_where_true h.some.which ds ++ d ∷ []
-    items = items-push h.some.which ds true d h.some.each
+risen_both : (old now new f g : ℕ) → HasRisenBy f old now → HasRisenBy g now new → HasNotFallen now new → HasRisenBy (f + g) old new
+risen_both old now new f g (inl a) (inl b) c = inl (omega arith)
+risen_both old now new f g (inl a) (inr b) c = inr b
+risen_both old now new f g (inr a) b c = inr (subst (λ n. 2 ^ 64 - 1 ≤ n) (sym (c.1 a)) a)
 
-    length_more : sent + 1 + failed ≡ length (ds ++ d ∷ [])
-    length_more = let was : sent + failed ≡ length ds = h.each in omega (arith, length-append ds (d ∷ []))
+just_both : (old now new f g : ℕ) → HasRisenJust f old now → HasRisenJust g now new → HasNotFallen now new → HasRisenJust (f + g) old new
+just_both old now new f g (inl a) (inl b) c = inl (omega arith)
+just_both old now new f g (inl a) (inr b) c = inr b
+just_both old now new f g (inr a) b c = inr (subst (λ n. 2 ^ 64 - 1 ≤ n) (sym (c.1 a)) a)
 
-risen_more : (old now new failed : ℕ) → HasRisenBy failed old now → HasRisen now new → HasNotFallen now new → HasRisenBy (failed + 1) old new
-risen_more old now new failed (inl a) (inl b) c = inl (omega arith)
-risen_more old now new failed (inl a) (inr b) c = inr b
-risen_more old now new failed (inr a) b c = inr (subst (λ n. 2 ^ 64 - 1 ≤ n) (sym (c.1 a)) a)
-
-rises_once : (old new failed : ℕ) → HasRisenBy (failed + 1) old new → HasRisen old new
-rises_once old new failed (inl a) = inl (omega arith)
-rises_once old new failed (inr a) = inr a
-
-not_fallen_more : (old now new : ℕ) → HasNotFallen old now → HasNotFallen now new → HasNotFallen old new
-not_fallen_more old now new (le, stays) (le', stays') =
+not_fallen_both : (old now new : ℕ) → HasNotFallen old now → HasNotFallen now new → HasNotFallen old new
+not_fallen_both old now new (le, stays) (le', stays') =
     (omega arith, λ end. let one : now ≡ old = stays end in stays' (subst (λ n. 2 ^ 64 - 1 ≤ n) (sym one) end) ∙ one)
 
-pub hands_failed : (before middle after : Option (List Departure)) (old now new : ℕ) (ds : List Departure) (sent failed : ℕ) (d : Departure) →
-    HandsOver before middle old now ds sent failed → IfTold after middle → HasRisen now new → HasNotFallen now new →
-    HandsOver before after old new (ds ++ d ∷ []) sent (failed + 1)
-hands_failed before middle after old now new ds sent failed d h told rises no_fall = record {
-  each = length_more;
-  risen = risen_more old now new failed h.risen rises no_fall;
-  no_fall = not_fallen_more old now new h.no_fall no_fall;
-  some = record {
-    which = h.some.which ++ false ∷ [];
-    each = length-append h.some.which (false ∷ []) ∙ ap (λ n. n + 1) h.some.each ∙ sym (length-append ds (d ∷ []));
-    many = ap length items ∙ h.some.many;
-    told = subst (λ l. IfTold after (append_told before l)) (sym items) (told_kept (append_told before (items_where_true h.some.which ds)) middle after h.some.told told);
-  };
-  all = λ still. absurd (still (rises_once old new failed (risen_more old now new failed h.risen rises no_fall)));
-}
-  where
-    items : items_where_true (h.some.which ++ false ∷ []) (ds ++ d ∷ []) ≡ items_where_true h.some.which ds
-    items = items-push h.some.which ds false d h.some.each ∙ append-nil (items_where_true h.some.which ds)
+rises_first : (old now new : ℕ) → HasRisen old now → HasNotFallen now new → HasRisen old new
+rises_first old now new (inl a) c = inl (omega (arith, c.0))
+rises_first old now new (inr a) c = inr (subst (λ n. 2 ^ 64 - 1 ≤ n) (sym (c.1 a)) a)
 
-    length_more : sent + (failed + 1) ≡ length (ds ++ d ∷ [])
-    length_more = let was : sent + failed ≡ length ds = h.each in omega (arith, length-append ds (d ∷ []))
+rises_second : (old now new : ℕ) → HasNotFallen old now → HasRisen now new → HasRisen old new
+rises_second old now new c (inl a) = inl (omega (arith, c.0))
+rises_second old now new c (inr a) = inr a
+
+just_once : (old new : ℕ) → new ≡ one_more old → HasRisenJust 1 old new
+just_once old new is = search rules
+
+module _ {P : Type 0} (ports : Ports P) where
+  pub hands_none : (port : P) → HandsOver ports port port [] 0 0
+  hands_none port = record {
+    each = refl;
+    some = record { which = []; each = refl; many = refl; told = told_none (ports.sent port) };
+    all = λ still. told_none (ports.sent port);
+    risen = inl (omega arith);
+    just = λ once. inl (omega arith);
+    quiet = λ none. refl;
+    no_fall = (omega arith, λ end. refl);
+    waiting = refl;
+    goes_on = λ none few. refl;
+  }
+
+  pub hands_sent : (old new : P) (d : Departure) → IfTold (ports.sent new) (append_told (ports.sent old) (d ∷ [])) → ports.faults new ≡ ports.faults old
+      → ports.waiting new ≡ ports.waiting old → (ports.ceases_at d ≡ false → ports.has_ceased new ≡ ports.has_ceased old)
+      → HandsOver ports old new (d ∷ []) 1 0
+  hands_sent old new d handed quiet waiting goes_on = record {
+    each = refl;
+    some = record { which = true ∷ []; each = refl; many = refl; told = handed };
+    all = λ still. handed;
+    risen = inl (omega (arith, quiet));
+    just = λ once. inl (omega (arith, quiet));
+    quiet = λ none. quiet;
+    no_fall = (omega (arith, quiet), λ end. quiet);
+    waiting = waiting;
+    goes_on = λ none few. goes_on few.0;
+  }
+
+  pub hands_failed : (old new : P) (d : Departure) → IfTold (ports.sent new) (ports.sent old) → HasRisen (ports.faults old) (ports.faults new)
+      → (ports.counts_once ≡ true → ports.faults new ≡ one_more (ports.faults old)) → HasNotFallen (ports.faults old) (ports.faults new)
+      → ports.waiting new ≡ ports.waiting old → HandsOver ports old new (d ∷ []) 0 1
+  hands_failed old new d kept risen once no_fall waiting = record {
+    each = refl;
+    some = record { which = false ∷ []; each = refl; many = refl; told = told_kept (ports.sent old) (ports.sent new) kept };
+    all = λ still. absurd (still risen);
+    risen = risen;
+    just = λ counts. just_once (ports.faults old) (ports.faults new) (once counts);
+    quiet = λ none. absurd (omega (arith, none));
+    no_fall = no_fall;
+    waiting = waiting;
+    goes_on = λ none few. absurd (omega (arith, none));
+  }
+
+  -- what the clauses of one send say together
+  pub hands_one : {A E : Type 0} (old new : P) (d : Departure) (result : Result A E)
+      → OnOk result (IfTold (ports.sent new) (append_told (ports.sent old) (d ∷ []))) → OnErr result (IfTold (ports.sent new) (ports.sent old))
+      → ports.waiting new ≡ ports.waiting old → OnErr result (HasRisen (ports.faults old) (ports.faults new))
+      → OnErr result (ports.counts_once ≡ true → ports.faults new ≡ one_more (ports.faults old)) → OnOk result (ports.faults new ≡ ports.faults old)
+      → HasNotFallen (ports.faults old) (ports.faults new) → OnOk result (ports.ceases_at d ≡ false → ports.has_ceased new ≡ ports.has_ceased old)
+      → HandsOver ports old new (d ∷ []) (sent_in result) (failed_in result)
+  hands_one old new d (Ok sent) handed kept waiting risen once quiet no_fall goes_on = hands_sent old new d handed quiet waiting goes_on
+  hands_one old new d (Err failed) handed kept waiting risen once quiet no_fall goes_on = hands_failed old new d kept risen once no_fall waiting
+
+  pub hands-append : (old now new : P) (ds es : List Departure) (sent failed more worse : ℕ)
+      → HandsOver ports old now ds sent failed → HandsOver ports now new es more worse
+      → HandsOver ports old new (ds ++ es) (sent + more) (failed + worse)
+  hands-append old now new ds es sent failed more worse a b = record {
+    each = (let one : sent + failed ≡ length ds = a.each in let two : more + worse ≡ length es = b.each in omega (arith, length-append ds es));
+    some = record {
+      which = a.some.which ++ b.some.which;
+      each = length-append a.some.which b.some.which ∙ ap (λ n. n + length b.some.which) a.some.each ∙ ap (λ n. length ds + n) b.some.each ∙ sym (length-append ds es);
+      many = ap length items ∙ length-append (items_where_true a.some.which ds) (items_where_true b.some.which es) ∙ ap (λ n. n + length (items_where_true b.some.which es)) a.some.many ∙ ap (λ n. sent + n) b.some.many;
+      told = subst (λ l. IfTold (ports.sent new) (append_told (ports.sent old) l)) (sym items)
+          (told_both (ports.sent old) (ports.sent now) (ports.sent new) (items_where_true a.some.which ds) (items_where_true b.some.which es) a.some.told b.some.told);
+    };
+    all = λ still. told_both (ports.sent old) (ports.sent now) (ports.sent new) ds es
+        (a.all (λ rises. still (rises_first (ports.faults old) (ports.faults now) (ports.faults new) rises b.no_fall)))
+        (b.all (λ rises. still (rises_second (ports.faults old) (ports.faults now) (ports.faults new) a.no_fall rises)));
+    risen = risen_both (ports.faults old) (ports.faults now) (ports.faults new) failed worse a.risen b.risen b.no_fall;
+    just = λ once. just_both (ports.faults old) (ports.faults now) (ports.faults new) failed worse (a.just once) (b.just once) b.no_fall;
+    quiet = λ none. b.quiet (omega (arith, none)) ∙ a.quiet (omega (arith, none));
+    no_fall = not_fallen_both (ports.faults old) (ports.faults now) (ports.faults new) a.no_fall b.no_fall;
+    waiting = b.waiting ∙ a.waiting;
+    goes_on = λ none few. b.goes_on (omega (arith, none)) (second ds es few) ∙ a.goes_on (omega (arith, none)) (first ds es few);
+  }
+    where
+      items : items_where_true (a.some.which ++ b.some.which) (ds ++ es) ≡ items_where_true a.some.which ds ++ items_where_true b.some.which es
+      items = items-append a.some.which b.some.which ds es a.some.each
+
+      first : (xs ys : List Departure) → AllByRecursion (λ d. ports.ceases_at d ≡ false) (xs ++ ys) → AllByRecursion (λ d. ports.ceases_at d ≡ false) xs
+      first [] ys few = tt
+      first (x ∷ xs) ys few = (few.0, first xs ys few.1)
+
+      second : (xs ys : List Departure) → AllByRecursion (λ d. ports.ceases_at d ≡ false) (xs ++ ys) → AllByRecursion (λ d. ports.ceases_at d ≡ false) ys
+      second [] ys few = few
+      second (x ∷ xs) ys few = second xs ys few.1

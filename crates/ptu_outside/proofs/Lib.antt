@@ -1,4 +1,4 @@
-pub mod Handing
+pub mod Putting
 pub mod Told
 pub mod Slots
 pub mod Telling

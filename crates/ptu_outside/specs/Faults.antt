@@ -5,6 +5,10 @@ use Rattle.std.specs.Prelude.{ℕ, ◌≡◌, ◌+◌, ◌-◌, ◌^◌, ◌≤�
 abbrev pub HasRisenBy : ℕ → ℕ → ℕ → Type 0
 HasRisenBy n old new = (old + n ≤ new) ⊎ (2 ^ 64 - 1 ≤ new)
 
+-- the count has risen by just n, or to its end
+abbrev pub HasRisenJust : ℕ → ℕ → ℕ → Type 0
+HasRisenJust n old new = (new ≡ old + n) ⊎ (2 ^ 64 - 1 ≤ new)
+
 -- the count has risen
 abbrev pub HasRisen : ℕ → ℕ → Type 0
 HasRisen old new = HasRisenBy 1 old new

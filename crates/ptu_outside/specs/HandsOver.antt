@@ -1,9 +1,19 @@
--- What becomes of datagrams that are handed to a port one after the other.
-use Rattle.std.specs.Prelude.{◌≡◌, ℕ, ◌+◌, Bool, List, Option, length}
-use Rattle.std.specs.List.{items_where_true}
+-- What becomes of datagrams that are handed to a port one after the other, and of the port.
+use Rattle.std.specs.Prelude.{◌≡◌, ℕ, ◌+◌, Bool, true, false, List, Option, Result, Ok, Err, length}
+use Rattle.std.specs.List.{AllByRecursion, items_where_true}
+use Rattle.ptu_outside.specs.declared.port.Port.{Ghosts as Ports}
 use Rattle.ptu_outside.specs.Departure.{Departure}
-use Rattle.ptu_outside.specs.Faults.{HasRisen, HasRisenBy, HasNotFallen}
+use Rattle.ptu_outside.specs.Faults.{HasRisen, HasRisenBy, HasRisenJust, HasNotFallen}
 use Rattle.ptu_outside.specs.Telling.{IfTold, append_told}
+
+-- of one datagram: how many were sent, and how many sends failed
+abbrev pub sent_in : {A E : Type 0} → Result A E → ℕ
+sent_in (Ok sent) = 1
+sent_in (Err failed) = 0
+
+abbrev pub failed_in : {A E : Type 0} → Result A E → ℕ
+failed_in (Ok sent) = 0
+failed_in (Err failed) = 1
 
 -- `which` says of each datagram whether it was sent: it was so of this many, which the port was sent in their order
 pub record SentOf (before after : Option (List Departure)) (datagrams : List Departure) (sent : ℕ) : Type 0 where
@@ -12,12 +22,18 @@ pub record SentOf (before after : Option (List Departure)) (datagrams : List Dep
   pub many : length (items_where_true which datagrams) ≡ sent
   pub told : IfTold after (append_told before (items_where_true which datagrams))
 
--- the datagrams were handed to a port, all of them, in order: this many were sent, and this many sends failed; what
--- the port tells and its count of faults were these before and after
-pub record HandsOver (before after : Option (List Departure)) (old new : ℕ) (datagrams : List Departure) (sent failed : ℕ) : Type 0 where
+-- all of the datagrams were handed to the port, in order: this many were sent, and this many sends failed
+pub record HandsOver {P : Type 0} (ports : Ports P) (old new : P) (datagrams : List Departure) (sent failed : ℕ) : Type 0 where
   pub each : sent + failed ≡ length datagrams
-  pub risen : HasRisenBy failed old new
-  pub no_fall : HasNotFallen old new
-  pub some : SentOf before after datagrams sent
+  pub some : SentOf (ports.sent old) (ports.sent new) datagrams sent
   -- where the count did not rise, all were sent
-  pub all : ¬ HasRisen old new → IfTold after (append_told before datagrams)
+  pub all : ¬ HasRisen (ports.faults old) (ports.faults new) → IfTold (ports.sent new) (append_told (ports.sent old) datagrams)
+  -- each failed send is a fault, and there are no other faults
+  pub risen : HasRisenBy failed (ports.faults old) (ports.faults new)
+  pub just : ports.counts_once ≡ true → HasRisenJust failed (ports.faults old) (ports.faults new)
+  pub quiet : failed ≡ 0 → ports.faults new ≡ ports.faults old
+  pub no_fall : HasNotFallen (ports.faults old) (ports.faults new)
+  -- what waits to be received stays
+  pub waiting : ports.waiting new ≡ ports.waiting old
+  -- and the port goes on to tell, unless a send failed or a datagram was such that it may cease to
+  pub goes_on : failed ≡ 0 → AllByRecursion (λ d. ports.ceases_at d ≡ false) datagrams → ports.has_ceased new ≡ ports.has_ceased old

@@ -1,12 +1,14 @@
 -- What a host in memory holds.
 use Rattle.std.specs.Prelude.{ℕ, Option}
 use Rattle.ptu_outside.specs.declared.opened.Opened.{Opened}
+use Rattle.ptu_outside.specs.declared.endpoint.Endpoint.{Endpoint}
 use Rattle.ptu_outside.specs.MemoryPort.{MemoryPort}
 use Rattle.ptu_outside.specs.MemoryClock.{MemoryClock}
 
--- the ports and clocks that it will open, those that it was given back last, and how many faults
--- there have been
+-- the ports and clocks that it will open, those that it was given back last, where it opened last, and how many
+-- faults there have been
 pub record MemoryHost : Type 0 where
   pub opening : Option (Opened MemoryPort MemoryClock)
   pub back : Option (Opened MemoryPort MemoryClock)
+  pub opened_at : Option Endpoint
   pub faults : ℕ

@@ -2,6 +2,7 @@ ghost use Rattle.std.specs.Prelude.{◌≡◌, Some, None, IfOk, OnOk, OnErr, If
 ghost use Rattle.ptu_outside.specs.Faults.{HasRisen, HasNotFallen, one_more};
 ghost use Rattle.ptu_outside.specs.Telling.{IfTold};
 
+use crate::endpoint::Endpoint;
 use crate::failed::Failed;
 use crate::host::Host;
 use crate::mem_clock::MemClock;
@@ -13,6 +14,7 @@ use std::marker::Model;
 pub struct MemHost {
     opening: Option<Opened<MemPort, MemClock>>,
     back: Option<Opened<MemPort, MemClock>>,
+    opened_at: Option<Endpoint>,
     faults: u64,
 }
 
@@ -21,7 +23,12 @@ impl Model for MemHost {
 
     ghost Value = { MemoryHost };
 
-    ghost view = { λ h. record { opening = h.opening; back = h.back; faults = h.faults } };
+    ghost view = { λ h. record {
+      opening = h.opening;
+      back = h.back;
+      opened_at = h.opened_at;
+      faults = h.faults;
+    } };
 }
 
 impl MemHost {
@@ -30,12 +37,14 @@ impl MemHost {
         ensures { result ≡ record {
           opening = if fails then None else Some opened;
           back = None;
+          opened_at = None;
           faults = 0;
         } }
     {
         MemHost {
             opening: if fails { None } else { Some(opened) },
             back: None,
+            opened_at: None,
             faults: 0,
         }
     }
@@ -46,6 +55,13 @@ impl MemHost {
     {
         self.back.as_ref()
     }
+
+    /// Where it opened last.
+    pub fn opened_at(&self) -> Option<Endpoint>
+        ensures { result ≡ self.now.opened_at }
+    {
+        self.opened_at
+    }
 }
 
 impl Drop for MemHost {
@@ -53,6 +69,7 @@ impl Drop for MemHost {
         let MemHost {
             opening: _,
             back: _,
+            opened_at: _,
             faults: _,
         } = self;
     }
@@ -67,6 +84,8 @@ impl Host for MemHost {
 
     ghost back = { λ h. h.back };
 
+    ghost opened_at = { λ h. h.opened_at };
+
     ghost faults = { λ h. h.faults };
 
     fn open(
@@ -76,6 +95,11 @@ impl Host for MemHost {
         general_port: u16,
     ) -> Result<Opened<MemPort, MemClock>, Failed>
         ensures opened { IfOk result (λ ports. IfSome self.old.opening (λ told. ports ≡ told)) }
+        ensures at { OnOk result (IfTold self.new.opened_at (Some (record {
+          ip = ip;
+          event_port = event_port;
+          general_port = general_port;
+        }))) }
         ensures risen { OnErr result (HasRisen self.old.faults self.new.faults) }
         ensures quiet { OnOk result (self.new.faults ≡ self.old.faults) }
         ensures no_fall { HasNotFallen self.old.faults self.new.faults }
@@ -83,19 +107,30 @@ impl Host for MemHost {
         ensures fails { IsErr result ↔ (self.old.opening ≡ None) }
         ensures once { self.new.opening ≡ None }
         ensures back { self.new.back ≡ self.old.back }
+        ensures opened_at { self.new.opened_at ≡ (if is_err result then self.old.opened_at
+            else Some (record {
+              ip = ip;
+              event_port = event_port;
+              general_port = general_port;
+            })) }
         ensures faults { self.new.faults
             ≡ (if is_err result then one_more self.old.faults else self.old.faults) }
     {
-        let _ = (ip, event_port, general_port);
-        let opened = self.opening.take();
-        if opened.is_none() {
+        let Some(opened) = self.opening.take() else {
             self.faults = self.faults.saturating_add(1);
-        }
-        opened.ok_or(Failed)
+            return Err(Failed);
+        };
+        self.opened_at = Some(Endpoint {
+            ip,
+            event_port,
+            general_port,
+        });
+        Ok(opened)
     }
 
     fn close(&mut self, opened: Opened<MemPort, MemClock>)
         ensures back { IfTold self.new.back (Some opened) }
+        ensures at { self.new.opened_at ≡ self.old.opened_at }
         ensures quiet { self.new.faults ≡ self.old.faults }
         ensures given { self.new ≡ record self.old { back = Some opened } }
     {

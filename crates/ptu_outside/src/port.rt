@@ -1,7 +1,7 @@
-ghost use Rattle.std.specs.Prelude.{◌≡◌, ◌≤◌, ℕ, List, [], ◌∷◌, Option, take, IfOk, OnOk, OnErr, IfSome, IfNone};
+ghost use Rattle.std.specs.Prelude.{◌≡◌, ◌≤◌, ℕ, Bool, true, false, List, [], ◌∷◌, Option, take, IfOk, OnOk, OnErr, IfSome, IfNone};
 ghost use Rattle.ptu_outside.specs.declared.arrival.Arrival.{Arrival};
 ghost use Rattle.ptu_outside.specs.Departure.{Departure};
-ghost use Rattle.ptu_outside.specs.Faults.{HasRisen, HasNotFallen};
+ghost use Rattle.ptu_outside.specs.Faults.{HasRisen, HasNotFallen, one_more};
 ghost use Rattle.ptu_outside.specs.Telling.{IfTold, IsFirstTold, IsEmptyTold, append_told, rest_told};
 
 use crate::channel::Channel;
@@ -18,6 +18,16 @@ pub trait Port: Drop {
     /// How many faults there have been.
     ghost faults: { Self → ℕ };
 
+    /// Whether a call that fails counts as just one fault. It may count as more where it makes
+    /// several calls of another port.
+    ghost counts_once: { Bool } = { true };
+
+    /// Whether the port may cease to tell what was sent once it is handed this datagram.
+    ghost ceases_at: { Departure → Bool } = { λ _. false };
+
+    /// Whether it has been handed such a datagram, or has failed to send one.
+    ghost has_ceased: { Self → Bool } = { λ _. false };
+
     /// Hands the datagram over whole, to this IPv4 address (its first octet the highest) on this
     /// channel.
     fn send(&mut self, ip: u32, channel: Channel, bytes: &[u8]) -> Result<(), Failed>
@@ -28,8 +38,13 @@ pub trait Port: Drop {
         ensures kept { OnErr result (IfTold (sent self.new) (sent self.old)) }
         ensures waiting { waiting self.new ≡ waiting self.old }
         ensures risen { OnErr result (HasRisen (faults self.old) (faults self.new)) }
+        ensures once { OnErr result (counts_once ≡ true
+            → faults self.new ≡ one_more (faults self.old)) }
         ensures quiet { OnOk result (faults self.new ≡ faults self.old) }
-        ensures no_fall { HasNotFallen (faults self.old) (faults self.new) };
+        ensures no_fall { HasNotFallen (faults self.old) (faults self.new) }
+        ensures goes_on { OnOk result (ceases_at
+            (record { ip = ip; channel = channel; bytes = bytes.now }) ≡ false
+            → has_ceased self.new ≡ has_ceased self.old) };
 
     /// Takes the first datagram that waits: the sender's IPv4 address and the length. The datagram
     /// is that many octets from the front of `buf`. `None` where none waits.
@@ -47,6 +62,9 @@ pub trait Port: Drop {
         ensures kept { OnErr result (IfTold (waiting self.new) (waiting self.old)) }
         ensures sent { sent self.new ≡ sent self.old }
         ensures risen { OnErr result (HasRisen (faults self.old) (faults self.new)) }
+        ensures once { OnErr result (counts_once ≡ true
+            → faults self.new ≡ one_more (faults self.old)) }
         ensures quiet { OnOk result (faults self.new ≡ faults self.old) }
-        ensures no_fall { HasNotFallen (faults self.old) (faults self.new) };
+        ensures no_fall { HasNotFallen (faults self.old) (faults self.new) }
+        ensures goes_on { has_ceased self.new ≡ has_ceased self.old };
 }

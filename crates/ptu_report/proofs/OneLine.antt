@@ -5,7 +5,7 @@ use Rattle.std.specs.Option.{option_map}
 use Rattle.std.specs.Io.KnownBytes.{IsAtEnd}
 use Rattle.std.proofs.lemmas.List.{append-nil}
 use Rattle.ptu_outside.specs.Handing.{HasPut, HasPutPart}
-use Rattle.ptu_outside.proofs.Handing.{HasPut-append, HasPut-part, HasPutPart-append}
+use Rattle.ptu_outside.proofs.Putting.{HasPut-append, HasPut-part, HasPutPart-append}
 use Rattle.ptu_lines.specs.declared.cause.LineCause.{LineCause}
 use Rattle.ptu_lines.specs.Script.{ScriptLine, Whole, Refused, lines_from, pieces, text_of}
 use Rattle.ptu_lines.specs.Reading.{Reader, IsAllGiven, IsGiven, IsRefused, lines_left}

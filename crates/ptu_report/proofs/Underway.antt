@@ -5,7 +5,7 @@ use Rattle.std.specs.Option.{option_map}
 use Rattle.std.specs.Io.KnownBytes.{prepend_known}
 use Rattle.std.proofs.lemmas.List.{append-nil, map-append}
 use Rattle.ptu_outside.specs.Handing.{HasPut, HasPutPart}
-use Rattle.ptu_outside.proofs.Handing.{HasPut-append, HasPut-none, HasPut-part}
+use Rattle.ptu_outside.proofs.Putting.{HasPut-append, HasPut-none, HasPut-part}
 use Rattle.ptu_lines.specs.Script.{ScriptLine, Whole, script_lines, text_of}
 use Rattle.ptu_lines.specs.Reading.{Reader, Gives, IsFresh, IsStopped, lines_left, octets_taken}
 use Rattle.ptu_lines.proofs.Giving.{Gives-append, Gives-none, fresh_lines}

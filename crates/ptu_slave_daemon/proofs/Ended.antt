@@ -7,7 +7,7 @@ use Rattle.ptu_outside.specs.declared.opened.Opened.{Opened}
 use Rattle.ptu_outside.specs.Departure.{Departure}
 use Rattle.ptu_outside.specs.Faults.{HasRisen, HasRisenBy}
 use Rattle.ptu_outside.specs.Handing.{HasPut, HasPutPart}
-use Rattle.ptu_outside.proofs.Handing.{HasPutPart-append}
+use Rattle.ptu_outside.proofs.Putting.{HasPutPart-append}
 use Rattle.ptu_judges.specs.Held.{Held}
 use Rattle.ptu_config.specs.declared.settings.SlaveSettings.{SlaveSettings}
 use Rattle.ptu_slave.specs.Kept.{Kept}

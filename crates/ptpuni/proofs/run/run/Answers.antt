@@ -1,5 +1,5 @@
 use Rattle.std.proofs.Common.{inr, arith, ◌≡◌, ◌∙◌, List, ℕ, Some, None, map, refl, sym, subst}
-use Rattle.ptu_outside.proofs.Handing.{HasPutPart-none}
+use Rattle.ptu_outside.proofs.Putting.{HasPutPart-none}
 use Rattle.ptu_words.specs.declared.command.Command.{Command}
 use Rattle.ptu_words.specs.declared.command.Command.TheVariants.{Load, Replay}
 use Rattle.ptu_words.specs.CommandLine.{IsRefused, command_of}

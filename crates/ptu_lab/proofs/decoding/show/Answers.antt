@@ -1,5 +1,5 @@
 use Rattle.std.proofs.Common.{sym, subst}
-use Rattle.ptu_outside.proofs.Handing.{HasPutPart-whole}
+use Rattle.ptu_outside.proofs.Putting.{HasPutPart-whole}
 use Rattle.ptu_lab.specs.Shown.{HasShowCause}
 use Rattle.ptu_lab.proofs.ShowCauses.{shown_ending-causes}
 use Rattle.ptu_lab.proofs.decoding.show.Goals as goal

@@ -1,7 +1,7 @@
 use Rattle.std.proofs.Common.{◌∷◌, ◌++◌, [], ◌*◌, ◌≡◌}
 use Rattle.std.specs.Io.KnownBytes.{append_known}
 use Rattle.ptu_outside.specs.Handing.{HasPut, HasPutPart}
-use Rattle.ptu_outside.proofs.Handing.{HasPut-append, HasPut-part, HasPutPart-append, HasPutPart-whole}
+use Rattle.ptu_outside.proofs.Putting.{HasPut-append, HasPut-part, HasPutPart-append, HasPutPart-whole}
 use Rattle.ptu_lab.specs.Generated.{ask_lines, generated, generated_lines, grandmaster_text, turn_lines}
 use Rattle.ptu_lab.proofs.LoadWriting.{ok_or_err, on_ok}
 use Rattle.ptu_lab.proofs.generating.generate.Goals as goal

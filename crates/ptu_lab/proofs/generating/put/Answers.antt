@@ -1,6 +1,6 @@
 use Rattle.std.proofs.Common.{subst}
 use Rattle.ptu_outside.specs.Handing.{HasPutFront}
-use Rattle.ptu_outside.proofs.Handing.{HasPutPart-front}
+use Rattle.ptu_outside.proofs.Putting.{HasPutPart-front}
 use Rattle.ptu_lab.proofs.generating.put.Goals as goal
 
 pub returns-in-Err-clause-part : goal.returns-in-Err-clause-part

@@ -1,4 +1,4 @@
-use Rattle.ptu_outside.proofs.Handing.{HasPutPart-none}
+use Rattle.ptu_outside.proofs.Putting.{HasPutPart-none}
 use Rattle.ptu_lab.proofs.generating.put_line.Goals as goal
 
 pub returns-in-Err-clause-part : goal.returns-in-Err-clause-part

@@ -4,7 +4,7 @@ use Rattle.std.proofs.lemmas.List.{append-nil}
 use Rattle.std.proofs.lemmas.List.Concat.{flat_map-append}
 use Rattle.std.proofs.lemmas.Result.{err_from_is_err_and}
 use Rattle.ptu_outside.specs.Handing.{HasPut, HasPutPart}
-use Rattle.ptu_outside.proofs.Handing.{HasPut-none}
+use Rattle.ptu_outside.proofs.Putting.{HasPut-none}
 use Rattle.ptu_lab.specs.Generated.{turn_lines, turn_lines_at}
 use Rattle.ptu_lab.proofs.LoadWriting.{wrote_more, wrote_part}
 use Rattle.ptu_lab.proofs.generating.put_turns.Goals as goal

@@ -1,6 +1,6 @@
 use Rattle.std.proofs.Common.{◌≡◌, ◌∷◌, [], subst, rules}
 use Rattle.ptu_outside.specs.Handing.{HasPut, HasPutPart}
-use Rattle.ptu_outside.proofs.Handing.{HasPutPart-none, HasPutPart-whole}
+use Rattle.ptu_outside.proofs.Putting.{HasPutPart-none, HasPutPart-whole}
 use Rattle.ptu_lab.specs.Load.{summary}
 use Rattle.ptu_lab.proofs.LoadWriting.{ok_or_err}
 use Rattle.ptu_lab.proofs.loading.load.Goals as goal

@@ -1,6 +1,6 @@
 use Rattle.std.proofs.Common.{◌∙◌, length, map, subst, refl}
 use Rattle.ptu_outside.specs.Handing.{HasPutPart}
-use Rattle.ptu_outside.proofs.Handing.{HasPutPart-whole}
+use Rattle.ptu_outside.proofs.Putting.{HasPutPart-whole}
 use Rattle.ptu_world.specs.Report.{course_opening}
 use Rattle.ptu_world.proofs.Reported.{texts_of_rules}
 use Rattle.ptu_lab.proofs.LabReplaying.{counted, replayed}

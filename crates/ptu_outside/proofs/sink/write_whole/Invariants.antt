@@ -1,5 +1,5 @@
 use Rattle.std.proofs.Common.{◌≡◌, ◌-◌, length}
-use Rattle.ptu_outside.proofs.Handing.{IsPutting}
+use Rattle.ptu_outside.proofs.Putting.{IsPutting}
 use Rattle.ptu_outside.proofs.sink.write_whole.Given as goal
 
 abbrev pub invariant-loop-at : goal.invariant-loop-at

@@ -1,5 +1,5 @@
 use Rattle.std.proofs.lemmas.Result.{err_from_is_err_and}
-use Rattle.ptu_outside.proofs.Handing.{HasPutPart-none}
+use Rattle.ptu_outside.proofs.Putting.{HasPutPart-none}
 use Rattle.ptu_report.proofs.OneLine.{line_in_part, line_refused, end_in_part, end_refused}
 use Rattle.ptu_report.proofs.driver.one_line.Goals as goal
 

@@ -4,7 +4,7 @@ use Rattle.std.proofs.Math.Seq.{take-suc, drop-cons}
 use Rattle.std.proofs.lemmas.List.{map-append, take_all, take-append-drop}
 use Rattle.std.proofs.lemmas.Result.{err_from_is_err_and}
 use Rattle.ptu_outside.specs.Handing.{HasPut, HasPutPart}
-use Rattle.ptu_outside.proofs.Handing.{HasPut-append, HasPut-none, HasPut-part, HasPutPart-append}
+use Rattle.ptu_outside.proofs.Putting.{HasPut-append, HasPut-none, HasPut-part, HasPutPart-append}
 use Rattle.ptu_report.proofs.driver.put_all.Goals as goal
 
 -- one text more

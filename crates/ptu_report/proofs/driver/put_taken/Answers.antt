@@ -1,4 +1,4 @@
-use Rattle.ptu_outside.proofs.Handing.{HasPut-none}
+use Rattle.ptu_outside.proofs.Putting.{HasPut-none}
 use Rattle.ptu_report.proofs.driver.put_taken.Goals as goal
 
 pub returns-in-Some-clause-whole : goal.returns-in-Some-clause-whole

@@ -1,5 +1,5 @@
 use Rattle.std.proofs.lemmas.Result.{err_from_is_err_and}
-use Rattle.ptu_outside.proofs.Handing.{HasPutPart-none}
+use Rattle.ptu_outside.proofs.Putting.{HasPutPart-none}
 use Rattle.ptu_report.proofs.driver.refuse.Goals as goal
 
 pub returns-in_err-refuse-clause-part : goal.returns-in_err-refuse-clause-part

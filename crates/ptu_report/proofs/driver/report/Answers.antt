@@ -1,6 +1,6 @@
 use Rattle.std.proofs.Common.{◌≡◌, ◌∙◌, true, false, Err, refl, sym, ap, subst, [], ◌++◌, arith}
 use Rattle.std.proofs.lemmas.Result.{err_from_is_err_and}
-use Rattle.ptu_outside.proofs.Handing.{HasPutPart-none}
+use Rattle.ptu_outside.proofs.Putting.{HasPutPart-none}
 use Rattle.ptu_lines.proofs.Giving.{Gives-append, Gives-none}
 use Rattle.ptu_report.specs.declared.stop.Stop.TheVariants.{Read}
 use Rattle.ptu_report.specs.Reported.{HasReportedAllRead}

@@ -1,6 +1,6 @@
 use Rattle.std.proofs.Common.{[], ◌∙◌, Err, ap, map, refl}
 use Rattle.std.proofs.lemmas.Result.{err_from_is_err_and}
-use Rattle.ptu_outside.proofs.Handing.{HasPutPart-none}
+use Rattle.ptu_outside.proofs.Putting.{HasPutPart-none}
 use Rattle.ptu_slave_daemon.specs.Opening.{node_of}
 use Rattle.ptu_slave_daemon.proofs.Ended.{has_served_by, has_stopped}
 use Rattle.ptu_slave_daemon.proofs.daemon.run_over.Goals as goal

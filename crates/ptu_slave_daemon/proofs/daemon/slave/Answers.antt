@@ -1,5 +1,5 @@
 use Rattle.std.proofs.Common.{[], rules}
-use Rattle.ptu_outside.proofs.Handing.{HasPutPart-none}
+use Rattle.ptu_outside.proofs.Putting.{HasPutPart-none}
 use Rattle.ptu_slave_daemon.proofs.daemon.slave.Goals as goal
 
 pub returns-in_default-clause-part : goal.returns-in_default-clause-part

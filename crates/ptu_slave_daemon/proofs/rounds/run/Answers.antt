@@ -2,7 +2,7 @@ use Rattle.std.proofs.Common.{[], ◌∷◌, ◌++◌, None, map, subst, sym}
 use Rattle.std.proofs.lemmas.List.{map-append}
 use Rattle.std.proofs.lemmas.Result.{err_from_is_err_and, on_err_weaker, on_ok_weaker}
 use Rattle.ptu_outside.specs.Handing.{HasPut, HasPutPart}
-use Rattle.ptu_outside.proofs.Handing.{HasPut-append, HasPut-part, HasPutPart-append}
+use Rattle.ptu_outside.proofs.Putting.{HasPut-append, HasPut-part, HasPutPart-append}
 use Rattle.ptu_slave_daemon.specs.declared.line.SlaveLine.TheVariants.{Closing}
 use Rattle.ptu_slave_daemon.specs.Happenings.{record_after}
 use Rattle.ptu_slave_daemon.specs.Lines.{changes, line_text, selected_line, texts_of}

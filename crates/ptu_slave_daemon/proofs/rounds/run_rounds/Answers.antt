@@ -1,7 +1,7 @@
 use Rattle.std.proofs.Common.{[], ◌∷◌, ◌++◌, ◌+◌, ◌≡◌, ◌∙◌, None, ap, arith, map, refl, subst, sym}
 use Rattle.std.proofs.lemmas.Result.{err_from_is_err_and}
 use Rattle.ptu_outside.specs.Handing.{HasPut, HasPutPart}
-use Rattle.ptu_outside.proofs.Handing.{HasPut-append, HasPut-none, HasPut-part, HasPutPart-whole}
+use Rattle.ptu_outside.proofs.Putting.{HasPut-append, HasPut-none, HasPut-part, HasPutPart-whole}
 use Rattle.ptu_slave_daemon.specs.declared.counts.Counts.{Counts}
 use Rattle.ptu_slave_daemon.specs.Happenings.{Selection, record_after}
 use Rattle.ptu_slave_daemon.specs.Lines.{changes, said_next, selected_line, texts_of}

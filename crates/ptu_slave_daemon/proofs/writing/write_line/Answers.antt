@@ -1,6 +1,6 @@
 use Rattle.std.proofs.Common.{subst, [], ◌∷◌, ◌∙◌}
 use Rattle.ptu_outside.specs.Handing.{HasPutPart}
-use Rattle.ptu_outside.proofs.Handing.{HasPutPart-front, HasPutPart-none}
+use Rattle.ptu_outside.proofs.Putting.{HasPutPart-front, HasPutPart-none}
 use Rattle.ptu_slave_daemon.specs.Lines.{texts_of}
 use Rattle.ptu_slave_daemon.proofs.writing.write_line.Goals as goal
 
