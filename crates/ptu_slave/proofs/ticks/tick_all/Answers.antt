@@ -5,7 +5,7 @@ use Rattle.ptu_slave.proofs.ticks.tick_all.Goals as goal
 
 pub returns-then-is_stopped-clause-sends : goal.returns-then-is_stopped-clause-sends
 returns-then-is_stopped-clause-sends g c = rw c.none.ensures
-    ([], ticks_stopped c.args.at c.args.core.now (sym c.is_stopped.ensures ∙ c.if-is_stopped.true), hands_none (g.P.Port.sent c.args.port.now) (g.P.Port.faults c.args.port.now))
+    ([], ticks_stopped c.args.at c.args.core.now (sym c.is_stopped.ensures ∙ c.if-is_stopped.true), hands_none g.P.Port c.args.port.now)
 
 pub returns-clause-sends : goal.returns-clause-sends
 returns-clause-sends g c = (
