@@ -7,6 +7,7 @@ ghost use Rattle.ptu_record.specs.declared.rule.Rule.{Rule};
 ghost use Rattle.ptu_record.specs.Record.{Record, event_moment};
 ghost use Rattle.ptu_record.specs.Selection.{selected_master};
 ghost use Rattle.ptu_record.specs.Step.{ReplaceJudge, Stop, TellFlag, Tick, sendings};
+ghost use Rattle.ptu_record.specs.Tick.{Sending};
 ghost use Rattle.ptu_judges.specs.Held.{IsFresh};
 ghost use Rattle.ptu_slave_messages.specs.Config.{AreMasters, IsWithinLimits, priorities, timeouts};
 ghost use Rattle.ptu_slave_messages.specs.Heard.{FitsReply, answer_of, event_of, failed_by, heard_of, replies_in, reply_datagrams, reply_in, sent_by, taken_of};
