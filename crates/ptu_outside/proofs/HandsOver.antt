@@ -36,6 +36,20 @@ items-append (w ∷ which) more [] es same = absurd (omega arith)
 items-append (true ∷ which) more (d ∷ ds) es same = ap (λ l. d ∷ l) (items-append which more ds es (omega arith))
 items-append (false ∷ which) more (d ∷ ds) es same = items-append which more ds es (omega arith)
 
+items-le : (which : List Bool) (ds : List Departure) → length (items_where_true which ds) ≤ length ds
+items-le [] [] = omega arith
+items-le [] (d ∷ ds) = omega arith
+items-le (w ∷ which) [] = omega arith
+items-le (true ∷ which) (d ∷ ds) = omega (arith, items-le which ds)
+items-le (false ∷ which) (d ∷ ds) = omega (arith, items-le which ds)
+
+items-all : (which : List Bool) (ds : List Departure) → length (items_where_true which ds) ≡ length ds → items_where_true which ds ≡ ds
+items-all [] [] many = refl
+items-all [] (d ∷ ds) many = absurd (omega arith)
+items-all (w ∷ which) [] many = refl
+items-all (true ∷ which) (d ∷ ds) many = ap (λ l. d ∷ l) (items-all which ds (omega arith))
+items-all (false ∷ which) (d ∷ ds) many = absurd (omega (arith, items-le which ds))
+
 risen_both : (old now new f g : ℕ) → HasRisenBy f old now → HasRisenBy g now new → HasNotFallen now new → HasRisenBy (f + g) old new
 risen_both old now new f g (inl a) (inl b) c = inl (omega arith)
 risen_both old now new f g (inl a) (inr b) c = inr b
@@ -114,6 +128,13 @@ module _ {P : Type 0} (ports : Ports P) where
       → HandsOver ports old new (d ∷ []) (sent_in result) (failed_in result)
   hands_one old new d (Ok sent) handed kept waiting risen once quiet no_fall goes_on = hands_sent old new d handed quiet waiting goes_on
   hands_one old new d (Err failed) handed kept waiting risen once quiet no_fall goes_on = hands_failed old new d kept risen once no_fall waiting
+
+  -- where no send failed all were sent
+  pub hands_whole : (old new : P) (ds : List Departure) (sent failed : ℕ) → HandsOver ports old new ds sent failed → failed ≡ 0
+      → IfTold (ports.sent new) (append_told (ports.sent old) ds)
+  hands_whole old new ds sent failed h none =
+      let many : length (items_where_true h.some.which ds) ≡ length ds = omega (arith, none, h.each, h.some.many) in
+      subst (λ l. IfTold (ports.sent new) (append_told (ports.sent old) l)) (items-all h.some.which ds many) h.some.told
 
   pub hands-append : (old now new : P) (ds es : List Departure) (sent failed more worse : ℕ)
       → HandsOver ports old now ds sent failed → HandsOver ports now new es more worse

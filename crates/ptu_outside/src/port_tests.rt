@@ -6,7 +6,7 @@ use std::alloc::Global;
 use std::test::Fail;
 
 fn send_to<P: Port>(port: &mut P, bytes: &[u8]) -> Result<(), Failed> {
-    port.send(0x0a00_0001, Channel::General, bytes)
+    hand(port, 0x0a00_0001, Channel::General, bytes)
 }
 
 #[test]
@@ -15,7 +15,10 @@ fn a_port_keeps_what_is_sent_and_fails_where_listed(rt: HostRuntime) -> Result<(
     let mut port = MemPort::new(alloc, Vec::new(alloc), vec![in alloc; 2]?, Vec::new(alloc));
     assert_eq!(rt; port.reserve(2, 5), Ok(()));
     assert_eq!(rt; send_to(&mut port, b"ab"), Ok(()));
-    assert_eq!(rt; send_to(&mut port, b"x"), Err(Failed));
+    assert_eq!(rt;
+        Sends::of(send_to(&mut port, b"x")),
+        Sends { sent: 0, failed: 1 }
+    );
     assert_eq!(rt; port.send(7, Channel::Event, b"cde"), Ok(()));
     let first = port.sent(0).ok_or("first")?;
     assert_eq!(rt; (first.0, first.1), (0x0a00_0001, Channel::General));
@@ -104,10 +107,18 @@ fn open_and_close<H: Host>(host: &mut H) -> Result<(), Failed> {
 fn a_host_opens_once_and_takes_back(rt: HostRuntime) -> Result<(), Fail> {
     let mut host = MemHost::new(ports(rt.alloc()), false);
     assert!(rt; host.back().is_none());
+    assert_eq!(rt; host.opened_at(), None);
     assert!(rt; open_and_close(&mut host).is_ok());
     assert!(rt; host.back().is_some());
+    let endpoint = Endpoint {
+        ip: 0x7f00_0001,
+        event_port: 319,
+        general_port: 320,
+    };
+    assert_eq!(rt; host.opened_at(), Some(endpoint));
     assert!(rt; open_and_close(&mut host).is_err());
     let mut failing = MemHost::new(ports(rt.alloc()), true);
     assert!(rt; open_and_close(&mut failing).is_err());
+    assert_eq!(rt; failing.opened_at(), None);
     Ok(())
 }
