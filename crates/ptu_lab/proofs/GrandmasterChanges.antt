@@ -5,7 +5,6 @@ use Rattle.std.proofs.lemmas.Simd.{map-map}
 use Rattle.std.specs.List.{count_by}
 use Rattle.ptu_units.specs.declared.kind.Kind.{Kind}
 use Rattle.ptu_outside.specs.Departure.{Departure}
-use Rattle.ptu_outside.specs.HandsOver.{HandsOver}
 use Rattle.ptu_outside.specs.MemoryPort.{MemoryPort}
 use Rattle.ptu_history.specs.declared.client.Client.{Client}
 use Rattle.ptu_history.specs.Core.{book_step_moment, core_step, history_after}
@@ -70,11 +69,9 @@ changes_none : (p : Statement → Bool) (ip capacity x : ℕ) (gs : List Grant) 
 changes_none p ip capacity x gs is_none none_does =
     sum_by-cons (λ s. cond (p s) 1 0) (statements.Capacity ip capacity x) (map shed_said gs) ∙ ap₂ (λ b n. cond b 1 0 + n) is_none (none_counted p gs none_does)
 
-pub change_done : (ip line t capacity : ℕ) (gm0 gm1 gm2 gm3 : KeptGm MemoryPort) (at many failed : ℕ) (shed : List Shed) (sent sent' : List Sent) (texts begun said texts' : List (List ℕ)) (g : Grandmaster) →
+pub change_done : (ip line t capacity : ℕ) (gm0 gm1 gm2 gm3 : KeptGm MemoryPort) (at : ℕ) (shed : List Shed) (sent sent' : List Sent) (texts begun said texts' : List (List ℕ)) (g : Grandmaster) →
     IsGrandmasterNode (record { ip = ip; gm = gm0 }) g → GoesOn gm0 gm1 → (AreIdle gm0 → AreIdle gm1) →
-    HandsOver (Some gm1.reply.sent) (Some gm2.reply.sent) gm1.reply.faults gm2.reply.faults
-    (cancels_to gm1.config gm1.sequence (leases_shed shed)) many failed →
-    failed ≡ 0 →
+    Some (gm1.reply.sent ++ cancels_to gm1.config gm1.sequence (leases_shed shed)) ≡ Some gm2.reply.sent →
     (gm2.s0.port ≡ gm1.s0.port) × (gm2.s1.port ≡ gm1.s1.port) × (gm2.s2.port ≡ gm1.s2.port) × (gm2.s3.port ≡ gm1.s3.port) →
     gm2.config ≡ gm1.config →
     ((opening : ℕ) (history : List Record) → StandsFor opening gm1 history →
@@ -85,7 +82,7 @@ pub change_done : (ip line t capacity : ℕ) (gm0 gm1 gm2 gm3 : KeptGm MemoryPor
     HasHanded ip line (in_ports gm2) sent sent' said texts' → GoesOn gm2 gm3 → AreIdle gm3 →
     HasDone (StandsAsGrandmaster (record { ip = ip; gm = gm3 })) ip line (capacity_deed g t capacity) sent sent' texts texts' 0 0
 unfolding history_after
-change_done ip line t capacity gm0 gm1 gm2 gm3 at many failed shed sent sent' texts begun said texts' g is first idle sends none ports same_config found stands begins says handed last idle' =
+change_done ip line t capacity gm0 gm1 gm2 gm3 at shed sent sent' texts begun said texts' g is first idle sends ports same_config found stands begins says handed last idle' =
     has_done _ ip line (capacity_deed g t capacity) sent sent' texts said texts' 0 0
     (stands_after g ip gm0 gm1 gm2 gm3 _ is first same_config
     (subst (λ (config : GmConfig). StandsFor g.capacity gm2 (g.past ++ (core_step (opened_with g.capacity config) g.past t (events.Resize capacity)).records)) (sym config) (stands g.capacity g.past stood)) last idle')
@@ -105,7 +102,7 @@ change_done ip line t capacity gm0 gm1 gm2 gm3 at many failed shed sent sent' te
     shed_is = (found g.capacity g.past stood).1 ∙ ap (λ x. map shed_of (shed_grants g.past x capacity)) moment
 
     told : gm2.reply.sent ≡ cancels_to gm1.config gm1.sequence (leases_shed shed)
-    told = all_handed _ _ _ _ _ many failed sends none ∙ ap (λ l. l ++ cancels_to gm1.config gm1.sequence (leases_shed shed)) (idle is.idle).4
+    told = all_handed _ _ _ sends ∙ ap (λ l. l ++ cancels_to gm1.config gm1.sequence (leases_shed shed)) (idle is.idle).4
 
     in_ports_are : in_ports gm2 ≡ cancels_to g.config (counts g.past).shed (map lease_of (shed_grants g.past (book_step_moment g.past t) capacity))
     in_ports_are =

@@ -1,11 +1,10 @@
 -- That a node of the lab has done what a deed says.
 use Rattle.std.proofs.Common.{◌≡◌, ◌∙◌, ℕ, ◌+◌, ◌≤◌, List, [], ◌∷◌, ◌++◌, Bool, true, false, cond, length, map, refl, sym, ap, arith, append_assoc, Some, Result, Ok, Err}
 use Rattle.std.specs.Result.{OnOk}
-use Rattle.std.specs.List.{count_by, items_where_true}
+use Rattle.std.specs.List.{count_by}
 use Rattle.std.proofs.lemmas.List.{append-nil, map-append}
 use Rattle.std.proofs.lemmas.List.Sums.{sum_by-cons, sum_by-append}
 use Rattle.ptu_outside.specs.Departure.{Departure}
-use Rattle.ptu_outside.specs.HandsOver.{HandsOver}
 use Rattle.ptu_outside.specs.MemoryPort.{MemoryPort}
 use Rattle.ptu_history.specs.History.{Record}
 use Rattle.ptu_grandmaster.specs.Gm.{KeptGm, StandsFor}
@@ -25,26 +24,9 @@ on_ok_three (Err e) f p q r = tt
 
 -- ---- where no send failed, all was sent
 
-items-le : (which : List Bool) (ds : List Departure) → length (items_where_true which ds) ≤ length ds
-items-le [] ds = omega arith
-items-le (b ∷ which) [] = omega arith
-items-le (true ∷ which) (d ∷ ds) = omega (arith, items-le which ds)
-items-le (false ∷ which) (d ∷ ds) = omega (arith, items-le which ds)
-
-items-all : (which : List Bool) (ds : List Departure) → length (items_where_true which ds) ≡ length ds → items_where_true which ds ≡ ds
-items-all [] [] all = refl
-items-all [] (d ∷ ds) all = absurd (omega arith)
-items-all (b ∷ which) [] all = refl
-items-all (true ∷ which) (d ∷ ds) all = ap (λ l. d ∷ l) (items-all which ds (omega arith))
-items-all (false ∷ which) (d ∷ ds) all = absurd (omega (arith, items-le which ds))
-
-pub all_handed : (before after : List Departure) (old new : ℕ) (ds : List Departure) (sent failed : ℕ) →
-    HandsOver (Some before) (Some after) old new ds sent failed → failed ≡ 0 → after ≡ before ++ ds
-all_handed before after old new ds sent failed h none =
-    let many : length (items_where_true h.some.which ds) ≡ length ds = omega (arith, h.some.many, h.each) in
-    let items : items_where_true h.some.which ds ≡ ds = items-all h.some.which ds many in
-    let told : Some (before ++ items_where_true h.some.which ds) ≡ Some after = h.some.told in
-    cc
+-- what the port tells, where all was sent
+pub all_handed : (before after ds : List Departure) → Some (before ++ ds) ≡ Some after → after ≡ before ++ ds
+all_handed before after ds told = cc
 
 -- ---- what is said of what is sent counts for nothing
 

@@ -3,7 +3,11 @@ use Rattle.std.proofs.Common.{◌≡◌, ◌∙◌, ◌↔◌, ℕ, List, [], �
 use Rattle.std.proofs.lemmas.Simd.{map-map}
 use Rattle.std.specs.List.{count_by}
 use Rattle.ptu_outside.specs.Departure.{Departure}
+use Rattle.ptu_outside.specs.declared.port.Port.{Ghosts as Ports}
+use Rattle.ptu_outside.specs.HandsOver.{HandsOver}
 use Rattle.ptu_outside.specs.MemoryPort.{MemoryPort}
+use Rattle.ptu_outside.specs.Telling.{IfTold, append_told}
+use Rattle.ptu_outside.proofs.HandsOver.{hands_whole}
 use Rattle.ptu_header.specs.declared.header.Header.{Header}
 use Rattle.ptu_history.specs.Client.{table_of}
 use Rattle.ptu_history.specs.Core.{history_after, table_step_moment}
@@ -65,6 +69,13 @@ says_heard g t from _ _ is comes = absurd is
 
 -- ---- what it sends
 
+-- of a port that tells: where no send failed it was sent all
+told_all : (ports : Ports MemoryPort) (tells : (p : MemoryPort) → ports.sent p ≡ Some p.sent) (before after : MemoryPort) (ds : List Departure) (sent failed : ℕ) → HandsOver ports before after ds sent failed → failed ≡ 0
+    → Some (before.sent ++ ds) ≡ Some after.sent
+told_all ports tells before after ds sent failed h none =
+    subst (λ told. IfTold (Some after.sent) (append_told told ds)) (tells before)
+    (subst (λ told. IfTold told (append_told (ports.sent before) ds)) (tells after) (hands_whole ports before after ds sent failed h none))
+
 idle_ports : (gm : KeptGm MemoryPort) → AreIdle gm → in_ports gm ≡ []
 idle_ports gm (e0, e1, e2, e3, e4) = simp (e0, e1, e2, e3, e4)
 
@@ -74,67 +85,63 @@ not_failed (answers.Failed at) is = absurd is
 not_failed (answers.NoGrant at) is = refl
 not_failed (answers.TooSoon at earliest) is = refl
 
-delay_sends : (config : GmConfig) (past : List Record) (t from : ℕ) (header : Header) (answered : Answered) (gm1 gm2 : KeptGm MemoryPort) → AreIdle gm1 → IsAnswerSent answered →
+delay_sends : (ports : Ports MemoryPort) (tells : (p : MemoryPort) → ports.sent p ≡ Some p.sent) (config : GmConfig) (past : List Record) (t from : ℕ) (header : Header) (answered : Answered) (gm1 gm2 : KeptGm MemoryPort) → AreIdle gm1 → IsAnswerSent answered →
     (moment_of_answer answered ≡ table_step_moment past t (table_of (client_of from header)))
     × (met_by answered ≡ delay_answer past (table_step_moment past t (table_of (client_of from header))) (client_of from header)) →
     (let j = table_of (client_of from header) in
-    Responds config (client_of from header) header answered (Some (table_at j gm1).port.sent) (Some (table_at j gm2).port.sent) (table_at j gm1).port.faults (table_at j gm2).port.faults) →
+    Responds ports config (client_of from header) header answered (table_at j gm1).port (table_at j gm2).port) →
     gm2 ≡ with_table (table_of (client_of from header)) (table_at (table_of (client_of from header)) gm2) gm1 →
     in_ports gm2 ≡ responses (delay_answer past (table_step_moment past t (table_of (client_of from header))) (client_of from header))
     (response_of config (table_step_moment past t (table_of (client_of from header))) (client_of from header) header)
-delay_sends config past t from header answered gm1 gm2 idle is comes sends rest =
+delay_sends ports tells config past t from header answered gm1 gm2 idle is comes sends rest =
     let j = table_of (client_of from header) in
     in_ports-table j gm1 gm2 idle rest
-    ∙ all_handed _ _ _ _ _ _ (failed_by answered) sends (not_failed answered is)
+    ∙ all_handed _ _ _ (told_all ports tells _ _ _ _ (failed_by answered) sends (not_failed answered is))
     ∙ ap (λ l. l ++ responses (met_by answered) (response_of config (moment_of_answer answered) (client_of from header) header)) (idle_table j gm1 idle)
     ∙ ap₂ (λ a x. responses a (response_of config x (client_of from header) header)) comes.1 comes.0
 
-reply_sends : (g : Grandmaster) (t from : ℕ) (header : Header) (items : List Item) (answers : Departure) (reply : Reply) (before after : List Departure) (old new : ℕ) →
-    before ≡ [] → IsReplySent reply → (reply ≡ sending.Nothing) ↔ (items ≡ []) → Replies reply (Some before) (Some after) old new answers →
+reply_sends : (ports : Ports MemoryPort) (tells : (p : MemoryPort) → ports.sent p ≡ Some p.sent) (g : Grandmaster) (t from : ℕ) (header : Header) (items : List Item) (answers : Departure) (reply : Reply) (before after : MemoryPort) →
+    before.sent ≡ [] → IsReplySent reply → (reply ≡ sending.Nothing) ↔ (items ≡ []) → Replies ports reply before after answers →
     answers ≡ reply_to g.config from header (map answer_to (decisions_of (opening g) g.past t (client_of from header) items)) →
-    after ≡ replies g t from header items
-reply_sends g t from header [] answers sending.Sent before after old new none is nothing sends same = absurd (cc (nothing.1 refl))
-reply_sends g t from header (item ∷ items) answers sending.Sent before after old new none is nothing sends same =
-    let told : Some (before ++ answers ∷ []) ≡ Some after = sends.0 in
-    let all : after ≡ before ++ answers ∷ [] = cc in
-    all ∙ ap₂ (λ l d. l ++ d ∷ []) none same
-reply_sends g t from header items answers sending.Failed before after old new none is nothing sends same = absurd is
-reply_sends g t from header [] answers sending.Nothing before after old new none is nothing sends same = let kept : Some after ≡ Some before = sends.0 in cc
-reply_sends g t from header (item ∷ items) answers sending.Nothing before after old new none is nothing sends same = absurd (cc (nothing.0 refl))
+    after.sent ≡ replies g t from header items
+reply_sends ports tells g t from header [] answers sending.Sent before after none is nothing sends same = absurd (cc (nothing.1 refl))
+reply_sends ports tells g t from header (item ∷ items) answers sending.Sent before after none is nothing sends same =
+    all_handed _ _ _ (told_all ports tells before after (answers ∷ []) 1 0 sends refl) ∙ ap₂ (λ l d. l ++ d ∷ []) none same
+reply_sends ports tells g t from header items answers sending.Failed before after none is nothing sends same = absurd is
+reply_sends ports tells g t from header [] answers sending.Nothing before after none is nothing sends same = ap (λ (p : MemoryPort). p.sent) sends ∙ none
+reply_sends ports tells g t from header (item ∷ items) answers sending.Nothing before after none is nothing sends same = absurd (cc (nothing.0 refl))
 
-sends_heard : (g : Grandmaster) (t from : ℕ) (h : Result Heard GmReason) (taken : Taken) (gm1 gm2 : KeptGm MemoryPort) → AreIdle gm1 → IsAnswerTo h taken →
+sends_heard : (ports : Ports MemoryPort) (tells : (p : MemoryPort) → ports.sent p ≡ Some p.sent) (g : Grandmaster) (t from : ℕ) (h : Result Heard GmReason) (taken : Taken) (gm1 gm2 : KeptGm MemoryPort) → AreIdle gm1 → IsAnswerTo h taken →
     ComesTo (opening g) g.past t from h taken → IsSent taken →
     OnIgnored taken (gm2 ≡ gm1) →
     OnDelay h taken (λ header answered. let c = client_of from header in let j = table_of c in
-    Responds g.config c header answered (Some (table_at j gm1).port.sent) (Some (table_at j gm2).port.sent) (table_at j gm1).port.faults (table_at j gm2).port.faults
-    × (Some (table_at j gm2).port.waiting ≡ Some (table_at j gm1).port.waiting) × (gm2 ≡ with_table j (table_at j gm2) gm1)) →
+    Responds ports g.config c header answered (table_at j gm1).port (table_at j gm2).port × (gm2 ≡ with_table j (table_at j gm2) gm1)) →
     OnAsked h taken (λ header outcomes reply.
-    Replies reply (Some gm1.reply.sent) (Some gm2.reply.sent) gm1.reply.faults gm2.reply.faults (reply_to g.config from header (answers_seen outcomes))) →
+    Replies ports reply gm1.reply gm2.reply (reply_to g.config from header (answers_seen outcomes))) →
     OnAsked h taken (λ header outcomes reply.
     (gm2.s0.port ≡ gm1.s0.port) × (gm2.s1.port ≡ gm1.s1.port) × (gm2.s2.port ≡ gm1.s2.port) × (gm2.s3.port ≡ gm1.s3.port)) →
     in_ports gm2 ≡ (heard_deed g t from h).sends
-sends_heard g t from (Err reason) (Ignored r) gm1 gm2 idle answer comes is ignored delay reply ports = ap in_ports ignored ∙ idle_ports gm1 idle
-sends_heard g t from (Ok (heard.DelayReq header)) (Delay answered) gm1 gm2 idle answer comes is ignored delay reply ports =
-    delay_sends g.config g.past t from header answered gm1 gm2 idle is comes delay.0 delay.2
-sends_heard g t from (Ok (heard.Asks header items)) (Asked outcomes sent) gm1 gm2 idle answer comes is ignored delay reply ports =
-    in_ports-reply gm1 gm2 idle ports
-    ∙ reply_sends g t from header items (reply_to g.config from header (answers_seen outcomes)) sent gm1.reply.sent gm2.reply.sent gm1.reply.faults gm2.reply.faults idle.4 is answer.1 reply
+sends_heard ports tells g t from (Err reason) (Ignored r) gm1 gm2 idle answer comes is ignored delay reply tables = ap in_ports ignored ∙ idle_ports gm1 idle
+sends_heard ports tells g t from (Ok (heard.DelayReq header)) (Delay answered) gm1 gm2 idle answer comes is ignored delay reply tables =
+    delay_sends ports tells g.config g.past t from header answered gm1 gm2 idle is comes delay.0 delay.1
+sends_heard ports tells g t from (Ok (heard.Asks header items)) (Asked outcomes sent) gm1 gm2 idle answer comes is ignored delay reply tables =
+    in_ports-reply gm1 gm2 idle tables
+    ∙ reply_sends ports tells g t from header items (reply_to g.config from header (answers_seen outcomes)) sent gm1.reply gm2.reply idle.4 is answer.1 reply
     (ap (λ ds. reply_to g.config from header (map answer_to ds)) comes)
-sends_heard g t from _ _ gm1 gm2 idle answer comes is ignored delay reply ports = absurd answer
+sends_heard ports tells g t from _ _ gm1 gm2 idle answer comes is ignored delay reply tables = absurd answer
 
 -- ---- a datagram is taken
 
-module _ (ip line t from : ℕ) (octets : List ℕ) (gm0 gm1 gm2 gm3 : KeptGm MemoryPort) (taken : Taken)
+module _ (ports : Ports MemoryPort) (tells : (p : MemoryPort) → ports.sent p ≡ Some p.sent) (ip line t from : ℕ) (octets : List ℕ) (gm0 gm1 gm2 gm3 : KeptGm MemoryPort) (taken : Taken)
     (sent sent' : List Sent) (texts said texts' : List (List ℕ)) (granted short : ℕ) (g : Grandmaster)
     (is : IsGrandmasterNode (record { ip = ip; gm = gm0 }) g) (first : GoesOn gm0 gm1) (idle : AreIdle gm0 → AreIdle gm1)
     (answer : IsAnswerTo (heard_in gm1.config octets) taken)
     (ignored : OnIgnored taken (gm2 ≡ gm1))
     (delay : OnDelay (heard_in gm1.config octets) taken (λ header answered. let c = client_of from header in let j = table_of c in
-    Responds gm1.config c header answered (Some (table_at j gm1).port.sent) (Some (table_at j gm2).port.sent) (table_at j gm1).port.faults (table_at j gm2).port.faults
-    × (Some (table_at j gm2).port.waiting ≡ Some (table_at j gm1).port.waiting) × (gm2 ≡ with_table j (table_at j gm2) gm1)))
+    Responds ports gm1.config c header answered (table_at j gm1).port (table_at j gm2).port × (gm2 ≡ with_table j (table_at j gm2) gm1)))
     (reply : OnAsked (heard_in gm1.config octets) taken (λ header outcomes reply.
-    Replies reply (Some gm1.reply.sent) (Some gm2.reply.sent) gm1.reply.faults gm2.reply.faults (reply_to gm1.config from header (answers_seen outcomes))))
-    (ports : OnAsked (heard_in gm1.config octets) taken (λ header outcomes reply.
+    Replies ports reply gm1.reply gm2.reply (reply_to gm1.config from header (answers_seen outcomes))))
+    (tables : OnAsked (heard_in gm1.config octets) taken (λ header outcomes reply.
     (gm2.s0.port ≡ gm1.s0.port) × (gm2.s1.port ≡ gm1.s1.port) × (gm2.s2.port ≡ gm1.s2.port) × (gm2.s3.port ≡ gm1.s3.port)))
     (same_config : gm2.config ≡ gm1.config)
     (comes : (opening : ℕ) (history : List Record) → StandsFor opening gm1 history →
@@ -157,7 +164,7 @@ module _ (ip line t from : ℕ) (octets : List ℕ) (gm0 gm1 gm2 gm3 : KeptGm Me
   said_is = says_heard as_kept t from what taken answer (comes g.capacity g.past stood)
 
   sends_are : in_ports gm2 ≡ (heard_deed as_kept t from what).sends
-  sends_are = sends_heard as_kept t from what taken gm1 gm2 (idle is.idle) answer (comes g.capacity g.past stood) is_sent ignored delay reply ports
+  sends_are = sends_heard ports tells as_kept t from what taken gm1 gm2 (idle is.idle) answer (comes g.capacity g.past stood) is_sent ignored delay reply tables
 
   node_is : StandsAsGrandmaster (record { ip = ip; gm = gm3 }) (heard_deed as_kept t from what).node
   node_is =

@@ -3,7 +3,6 @@ use Rattle.std.proofs.Common.{◌≡◌, ◌∙◌, ℕ, ◌==◌, List, [], ◌
 use Rattle.std.proofs.lemmas.List.{append-nil}
 use Rattle.std.proofs.lemmas.Simd.{map-map}
 use Rattle.ptu_outside.specs.Departure.{Departure}
-use Rattle.ptu_outside.specs.HandsOver.{HandsOver}
 use Rattle.ptu_outside.specs.MemoryPort.{MemoryPort}
 use Rattle.ptu_history.specs.Core.{core_step, history_after, table_step_moment}
 use Rattle.ptu_history.specs.Events as events
@@ -55,11 +54,10 @@ idle_table j gm idle = idle_by (j == 0) (j == 1) (j == 2) gm idle
 
 -- ---- a turn
 
-pub turn_done : (ip line t j : ℕ) (gm0 gm1 gm2 gm3 : KeptGm MemoryPort) (at many failed : ℕ) (sent sent' : List Sent) (texts texts' : List (List ℕ)) (g : Grandmaster) →
+pub turn_done : (ip line t j : ℕ) (gm0 gm1 gm2 gm3 : KeptGm MemoryPort) (at : ℕ) (sent sent' : List Sent) (texts texts' : List (List ℕ)) (g : Grandmaster) →
     IsGrandmasterNode (record { ip = ip; gm = gm0 }) g → GoesOn gm0 gm1 → (AreIdle gm0 → AreIdle gm1) →
-    HandsOver (Some (table_at j gm1).port.sent) (Some (table_at j gm2).port.sent) (table_at j gm1).port.faults (table_at j gm2).port.faults
-    (map (departure_of gm1.config at) (due_messages at (table_at j gm1).rows)) many failed →
-    failed ≡ 0 → gm2 ≡ with_table j (table_at j gm2) gm1 →
+    Some ((table_at j gm1).port.sent ++ map (departure_of gm1.config at) (due_messages at (table_at j gm1).rows)) ≡ Some (table_at j gm2).port.sent →
+    gm2 ≡ with_table j (table_at j gm2) gm1 →
     ((opening : ℕ) (history : List Record) → StandsFor opening gm1 history →
     (at ≡ table_step_moment history t j) × (due_messages at (table_at j gm1).rows ≡ map (message_of history) (due_grants history at j))) →
     ((opening : ℕ) (history : List Record) → StandsFor opening gm1 history →
@@ -67,7 +65,7 @@ pub turn_done : (ip line t j : ℕ) (gm0 gm1 gm2 gm3 : KeptGm MemoryPort) (at ma
     HasHanded ip line (in_ports gm2) sent sent' texts texts' → GoesOn gm2 gm3 → AreIdle gm3 →
     HasDone (StandsAsGrandmaster (record { ip = ip; gm = gm3 })) ip line (turn_deed g t j) sent sent' texts texts' 0 0
 unfolding history_after
-turn_done ip line t j gm0 gm1 gm2 gm3 at many failed sent sent' texts texts' g is first idle sends none rest messages stands handed last idle' =
+turn_done ip line t j gm0 gm1 gm2 gm3 at sent sent' texts texts' g is first idle sends rest messages stands handed last idle' =
     has_done _ ip line (turn_deed g t j) sent sent' texts texts texts' 0 0
     (stands_after g ip gm0 gm1 gm2 gm3 _ is first same_config
     (subst (λ (config : GmConfig). StandsFor g.capacity gm2 (g.past ++ (core_step (opened_with g.capacity config) g.past t (events.Turn j)).records)) (sym config) (stands g.capacity g.past stood)) last idle')
@@ -83,7 +81,7 @@ turn_done ip line t j gm0 gm1 gm2 gm3 at many failed sent sent' texts texts' g i
     same_config = ap (λ g. g.config) rest ∙ config_by (j == 0) (j == 1) (j == 2) (table_at j gm2) gm1
 
     told : (table_at j gm2).port.sent ≡ map (departure_of gm1.config at) (due_messages at (table_at j gm1).rows)
-    told = all_handed _ _ _ _ _ many failed sends none ∙ ap (λ l. l ++ map (departure_of gm1.config at) (due_messages at (table_at j gm1).rows)) (idle_table j gm1 (idle is.idle))
+    told = all_handed _ _ _ sends ∙ ap (λ l. l ++ map (departure_of gm1.config at) (due_messages at (table_at j gm1).rows)) (idle_table j gm1 (idle is.idle))
 
     in_ports_are : in_ports gm2 ≡ map (λ m. departure_of g.config (table_step_moment g.past t j) (message_of g.past m)) (due_grants g.past (table_step_moment g.past t j) j)
     in_ports_are =

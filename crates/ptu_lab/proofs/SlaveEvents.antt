@@ -3,11 +3,10 @@ use Rattle.std.proofs.Common.{◌≡◌, ◌≢◌, ℕ, zero, suc, ◌+◌, ◌
 use Rattle.std.proofs.lemmas.Bool.{false≢true}
 use Rattle.std.proofs.lemmas.List.{append-nil, map-append}
 use Rattle.std.proofs.lemmas.List.Sums.{sum_by-cons}
-use Rattle.std.specs.List.{AllByRecursion, count_by, items_where_true, range_with_len}
+use Rattle.std.specs.List.{AllByRecursion, count_by, range_with_len}
 use Rattle.std.specs.Option.{option_map}
 use Rattle.std.specs.Prelude.{IfSome, IsSome, OnOk, Result, Ok, Err}
 use Rattle.ptu_outside.specs.Departure.{Departure}
-use Rattle.ptu_outside.specs.HandsOver.{HandsOver}
 use Rattle.ptu_outside.specs.MemoryPort.{MemoryPort}
 use Rattle.ptu_record.specs.declared.rule.Rule.{Rule}
 use Rattle.ptu_record.specs.Lists.{places}
@@ -15,6 +14,7 @@ use Rattle.ptu_record.specs.Record.{Record, event_moment}
 use Rattle.ptu_record.specs.Selection.{selected_master}
 use Rattle.ptu_record.specs.SignalFails.{Timeouts}
 use Rattle.ptu_record.proofs.Choice.{chosen_best}
+use Rattle.ptu_record.specs.Tick.{Sending}
 use Rattle.ptu_record.specs.Step.{ReplaceJudge, SlaveEvent, judged_masters, sendings, slave_step}
 use Rattle.ptu_judges.specs.Held.{Held, IsFresh, fresh}
 use Rattle.ptu_slave_messages.specs.declared.config.Master.{Master}
@@ -40,28 +40,9 @@ use Rattle.ptu_lab.specs.SlaveWords.{HasStepped, selection_by}
 
 -- ---- what was sent
 
-items-le : (which : List Bool) (ds : List Departure) → length (items_where_true which ds) ≤ length ds
-items-le [] [] = omega arith
-items-le [] (d ∷ ds) = omega arith
-items-le (w ∷ which) [] = omega arith
-items-le (true ∷ which) (d ∷ ds) = omega (arith, items-le which ds)
-items-le (false ∷ which) (d ∷ ds) = omega (arith, items-le which ds)
-
-whole : (which : List Bool) (ds : List Departure) → length which ≡ length ds → length (items_where_true which ds) ≡ length ds → items_where_true which ds ≡ ds
-whole [] [] e f = refl
-whole [] (d ∷ ds) e f = absurd (omega arith)
-whole (w ∷ which) [] e f = absurd (omega arith)
-whole (true ∷ which) (d ∷ ds) e f = ap (λ l. d ∷ l) (whole which ds (omega arith) (omega arith))
-whole (false ∷ which) (d ∷ ds) e f = absurd (omega (arith, items-le which ds))
-
--- where no send failed the port holds all
-pub all_sent : (before after : MemoryPort) (ds : List Departure) (sent failed : ℕ) → before.sent ≡ [] → failed ≡ 0
-    → HandsOver (Some before.sent) (Some after.sent) before.faults after.faults ds sent failed → after.sent ≡ ds
-all_sent before after ds sent failed idle none h =
-    let items = items_where_true h.some.which ds in
-    let told : Some (before.sent ++ items) ≡ Some after.sent = h.some.told in
-    let same : before.sent ++ items ≡ after.sent = cc in
-    sym same ∙ ap (λ l. l ++ items) idle ∙ whole h.some.which ds h.some.each (omega (arith, h.some.many, h.each))
+-- where nothing had been sent the port holds what was handed to it
+pub all_sent : (before after : MemoryPort) (ds : List Departure) → before.sent ≡ [] → Some (before.sent ++ ds) ≡ Some after.sent → after.sent ≡ ds
+all_sent before after ds idle told = let same : before.sent ++ ds ≡ after.sent = cc in sym same ∙ ap (λ l. l ++ ds) idle
 
 -- ---- the node
 
@@ -107,16 +88,17 @@ stepped ip old new judges news before after begun s t e deed h ruled within same
         (subst (λ n. AllByRecursion (λ m. m < length old.masters) (judged_masters n e)) (sym h.stands.each_opening) within)
 
 -- an event that no datagram makes, with room for all that it sends
-pub plain_stepped : (ip : ℕ) (old new : Kept) (judges news : List Held) (before room after : MemoryPort) (begun : Bool) (s : Slave) (t at : ℕ) (e : SlaveEvent) (sent failed : ℕ)
+pub plain_stepped : (ip : ℕ) (old new : Kept) (judges news : List Held) (before room after : MemoryPort) (begun : Bool) (s : Slave) (t at : ℕ) (e : SlaveEvent) (handed : List Sending)
     → IsSlaveNode ip old judges before begun s → ((m : ℕ) → e ≢ ReplaceJudge m None)
     → AllByRecursion (λ m. m < length old.masters) (judged_masters (length old.masters) e) → IsSame old new
-    → Steps s.opened.openings old new news s.taken t e → at ≡ max t old.moment → room.sent ≡ before.sent → failed ≡ 0
-    → HandsOver (Some room.sent) (Some after.sent) room.faults after.faults
-    (map (departure_of old.config old.masters all_ones) (sendings (setup_of old.config s.opened.openings) s.taken at e)) sent failed
+    → Steps s.opened.openings old new news s.taken t e → at ≡ max t old.moment → room.sent ≡ before.sent
+    → Some (room.sent ++ map (departure_of old.config old.masters all_ones) handed) ≡ Some after.sent
+    → handed ≡ sendings (setup_of old.config s.opened.openings) s.taken at e
     → HasStepped ip new news after s (deed s.opened s.taken t e)
-plain_stepped ip old new judges news before room after begun s t at e sent failed h ruled within same steps is kept none hands =
+plain_stepped ip old new judges news before room after begun s t at e handed h ruled within same steps is kept told stated =
     stepped ip old new judges news before after begun s t e (deed s.opened s.taken t e) h ruled within same steps refl
-    (all_sent room after _ sent failed (kept ∙ h.idle) none hands
+    (all_sent room after _ (kept ∙ h.idle) told
+    ∙ ap (map (departure_of old.config old.masters all_ones)) stated
     ∙ ap (λ x. map (departure_of old.config old.masters all_ones) (sendings (setup_of old.config s.opened.openings) s.taken x e)) (is ∙ moment_is s.opened.openings old judges s.taken t h.stands)
     ∙ ap₂ (λ (config : SlaveConfig) (masters : List Master). map (departure_of config masters all_ones) (sendings (setup_of config s.opened.openings) s.taken (event_moment s.taken t) e)) (sym h.config) (sym h.masters))
 

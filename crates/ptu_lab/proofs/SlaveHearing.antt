@@ -11,7 +11,6 @@ use Rattle.ptu_messages.specs.declared.message.Body.{Body}
 use Rattle.ptu_messages.specs.declared.message.Body.TheVariants as body
 use Rattle.ptu_messages.specs.declared.message.Message.{Message}
 use Rattle.ptu_messages.specs.Reading.{message_in}
-use Rattle.ptu_outside.specs.HandsOver.{HandsOver}
 use Rattle.ptu_outside.specs.MemoryPort.{MemoryPort}
 use Rattle.ptu_record.specs.declared.rule.Rule.{Rule}
 use Rattle.ptu_record.specs.declared.wants.Wants.{Wants}
@@ -91,15 +90,15 @@ heard_is node L t x (Ok (m, message)) h at is sent each =
     heard_body node x m message.header message.body h is sent (each ∙ length-same (departure_of node.config node.masters message.header.source) (replies_to m message))
     ∙ ap (λ y. heard_of node.config.wants y (reply_by (replies_to m message)) (m, message)) at
 
-pub heard_datagram : (ip : ℕ) (old : Kept) (judges : List Held) (port before after : MemoryPort) (begun : Bool) (s : Slave) (t from : ℕ) (octets : List ℕ) (h : Heard)
+pub heard_datagram : (ip : ℕ) (old : Kept) (judges : List Held) (port : MemoryPort) (begun : Bool) (s : Slave) (t from : ℕ) (octets : List ℕ) (h : Heard)
     → IsSlaveNode ip old judges port begun s → h ≡ answer_of old.config.wants (max t old.moment) (reply_in h) (reception old.config old.masters from octets)
     → is_unsent (reply_in h) ≡ false
-    → HandsOver (Some before.sent) (Some after.sent) before.faults after.faults (replies_in old.config old.masters (reception old.config old.masters from octets)) (sent_by (reply_in h)) (failed_by (reply_in h))
+    → sent_by (reply_in h) + failed_by (reply_in h) ≡ length (replies_in old.config old.masters (reception old.config old.masters from octets))
     → h ≡ datagram_heard s.opened s.taken t from octets
-heard_datagram ip old judges port before after begun s t from octets h node is sent hands =
+heard_datagram ip old judges port begun s t from octets h node is sent each =
     subst (λ (n : Node). h ≡ datagram_heard n s.taken t from octets) same
     (heard_is (record { config = old.config; masters = old.masters; openings = s.opened.openings }) s.taken t (max t old.moment) (reception old.config old.masters from octets) h
-    (moment_is s.opened.openings old judges s.taken t node.stands) is sent hands.each)
+    (moment_is s.opened.openings old judges s.taken t node.stands) is sent each)
   where
     same : record { config = old.config; masters = old.masters; openings = s.opened.openings } ≡ s.opened
     same = ap₂ (λ (config : SlaveConfig) (masters : List Master). let n : Node = record { config = config; masters = masters; openings = s.opened.openings } in n) (sym node.config) (sym node.masters)
@@ -201,16 +200,16 @@ unstepped ip old new judges news before after begun s h same same_judges sent =
       idle = idle;
     }
 
-pub datagram_stepped : (ip : ℕ) (old new : Kept) (judges news : List Held) (before room after : MemoryPort) (begun : Bool) (s : Slave) (t from : ℕ) (octets : List ℕ) (sent failed : ℕ)
+pub datagram_stepped : (ip : ℕ) (old new : Kept) (judges news : List Held) (before room after : MemoryPort) (begun : Bool) (s : Slave) (t from : ℕ) (octets : List ℕ)
     → IsSlaveNode ip old judges before begun s → IsSame old new
     → ((reason : SlaveReason) → reception old.config old.masters from octets ≡ Err reason → (new ≡ old) × (news ≡ judges))
     → ((m : ℕ) (message : Message) → reception old.config old.masters from octets ≡ Ok (m, message) → Steps s.opened.openings old new news s.taken t (event_of m message))
-    → room.sent ≡ before.sent → failed ≡ 0
-    → HandsOver (Some room.sent) (Some after.sent) room.faults after.faults (replies_in old.config old.masters (reception old.config old.masters from octets)) sent failed
+    → room.sent ≡ before.sent
+    → Some (room.sent ++ replies_in old.config old.masters (reception old.config old.masters from octets)) ≡ Some after.sent
     → HasStepped ip new news after s (datagram_deed s.opened s.taken t from octets)
-datagram_stepped ip old new judges news before room after begun s t from octets sent failed h same ignored steps kept none hands =
+datagram_stepped ip old new judges news before room after begun s t from octets h same ignored steps kept told =
     subst (λ (n : Node). HasStepped ip new news after s (datagram_deed n s.taken t from octets)) same_node
-    (by_reception (reception old.config old.masters from octets) refl (all_sent room after _ sent failed (kept ∙ h.idle) none hands ∙ node_replies node s.taken t from octets))
+    (by_reception (reception old.config old.masters from octets) refl (all_sent room after _ (kept ∙ h.idle) told ∙ node_replies node s.taken t from octets))
   where
     node : Node
     node = record { config = old.config; masters = old.masters; openings = s.opened.openings }

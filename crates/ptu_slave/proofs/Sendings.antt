@@ -24,7 +24,8 @@ use Rattle.ptu_slave_messages.specs.declared.plan.StopPlan.{StopPlan}
 use Rattle.ptu_slave_messages.specs.declared.plan.TickPlan.{TickPlan}
 use Rattle.ptu_slave_messages.specs.Config.{address_of}
 use Rattle.ptu_slave_messages.specs.Sending.{all_ones, are_some, departure_of, departure_to, kinds_in, stop_plan, tick_plan}
-use Rattle.ptu_slave_messages.proofs.Handing.{hands_both}
+use Rattle.ptu_outside.specs.declared.port.Port.{Ghosts as Ports}
+use Rattle.ptu_outside.proofs.HandsOver.{hands-append}
 use Rattle.ptu_slave.specs.Kept.{Kept}
 use Rattle.ptu_slave.specs.Parts.{AllAsked, AllEnded, Ticks, cancels_by}
 use Rattle.ptu_slave.specs.Standing.{Asks}
@@ -164,26 +165,26 @@ stop_departures : (config : SlaveConfig) (masters : List Master) (m number : ℕ
 stop_departures config masters m number [] = refl
 stop_departures config masters m number (k ∷ ks) = refl
 
-module _ (before middle after : Option (List Departure)) (old now new : ℕ) (core mid : Kept) (m ip : ℕ) (config : SlaveConfig) (ss : List Sending) (sent failed more worse : ℕ)
+module _ {P : Type 0} (ports : Ports P) (old now new : P) (core mid : Kept) (m ip : ℕ) (config : SlaveConfig) (ss : List Sending) (sent failed more worse : ℕ)
     (first : config ≡ mid.config) (second : ip ≡ address_of mid.masters m) (same : mid.config ≡ core.config) (masters : mid.masters ≡ core.masters)
-    (hands : HandsOver before middle old now (map (departure_of core.config core.masters all_ones) ss) sent failed) where
-  pub hands_tick : (plan : TickPlan) → ((n : ℕ) → HandsOver middle after now new (map (departure_to config ip all_ones) (tick_plan n plan)) more worse)
-      → HandsOver before after old new (map (departure_of core.config core.masters all_ones) (ss ++ tick_plan m plan)) (sent + more) (failed + worse)
-  hands_tick plan next =
-      subst (λ ds. HandsOver before after old new ds (sent + more) (failed + worse)) (sym (map-append (departure_of core.config core.masters all_ones) ss (tick_plan m plan)))
-      (hands_both before middle after old now new (map (departure_of core.config core.masters all_ones) ss) (map (departure_of core.config core.masters all_ones) (tick_plan m plan)) sent failed more worse hands
-      (subst (λ ds. HandsOver middle after now new ds more worse)
-      (ap₂ (λ c i. map (departure_to c i all_ones) (tick_plan m plan)) (first ∙ same) (second ∙ ap (λ ms. address_of ms m) masters) ∙ tick_departures core.config core.masters m plan.number (kinds_in plan.kinds) plan.delay_req)
-      (next m)))
+    (hands : HandsOver ports old now (map (departure_of core.config core.masters all_ones) ss) sent failed) where
+  -- the datagrams of one master more
+  hands_more : (plan : List Sending) → map (departure_to core.config (address_of core.masters m) all_ones) plan ≡ map (departure_of core.config core.masters all_ones) plan
+      → HandsOver ports now new (map (departure_to config ip all_ones) plan) more worse
+      → HandsOver ports old new (map (departure_of core.config core.masters all_ones) (ss ++ plan)) (sent + more) (failed + worse)
+  hands_more plan is next =
+      subst (λ ds. HandsOver ports old new ds (sent + more) (failed + worse)) (sym (map-append (departure_of core.config core.masters all_ones) ss plan))
+      (hands-append ports old now new _ _ sent failed more worse hands
+      (subst (λ ds. HandsOver ports now new ds more worse)
+      (ap₂ (λ c i. map (departure_to c i all_ones) plan) (first ∙ same) (second ∙ ap (λ ms. address_of ms m) masters) ∙ is) next))
 
-  pub hands_stop : (plan : StopPlan) → ((n : ℕ) → HandsOver middle after now new (map (departure_to config ip all_ones) (stop_plan n plan)) more worse)
-      → HandsOver before after old new (map (departure_of core.config core.masters all_ones) (ss ++ stop_plan m plan)) (sent + more) (failed + worse)
-  hands_stop plan next =
-      subst (λ ds. HandsOver before after old new ds (sent + more) (failed + worse)) (sym (map-append (departure_of core.config core.masters all_ones) ss (stop_plan m plan)))
-      (hands_both before middle after old now new (map (departure_of core.config core.masters all_ones) ss) (map (departure_of core.config core.masters all_ones) (stop_plan m plan)) sent failed more worse hands
-      (subst (λ ds. HandsOver middle after now new ds more worse)
-      (ap₂ (λ c i. map (departure_to c i all_ones) (stop_plan m plan)) (first ∙ same) (second ∙ ap (λ ms. address_of ms m) masters) ∙ stop_departures core.config core.masters m plan.number (kinds_in plan.kinds))
-      (next m)))
+  pub hands_tick : (plan : TickPlan) → ((n : ℕ) → HandsOver ports now new (map (departure_to config ip all_ones) (tick_plan n plan)) more worse)
+      → HandsOver ports old new (map (departure_of core.config core.masters all_ones) (ss ++ tick_plan m plan)) (sent + more) (failed + worse)
+  hands_tick plan next = hands_more (tick_plan m plan) (tick_departures core.config core.masters m plan.number (kinds_in plan.kinds) plan.delay_req) (next m)
+
+  pub hands_stop : (plan : StopPlan) → ((n : ℕ) → HandsOver ports now new (map (departure_to config ip all_ones) (stop_plan n plan)) more worse)
+      → HandsOver ports old new (map (departure_of core.config core.masters all_ones) (ss ++ stop_plan m plan)) (sent + more) (failed + worse)
+  hands_stop plan next = hands_more (stop_plan m plan) (stop_departures core.config core.masters m plan.number (kinds_in plan.kinds)) (next m)
 
 -- ---- what is entered of what is sent
 

@@ -7,6 +7,7 @@ ghost use Rattle.ptu_record.specs.declared.rule.Rule.{Rule};
 ghost use Rattle.ptu_record.specs.Record.{Record, event_moment};
 ghost use Rattle.ptu_record.specs.Selection.{selected_master};
 ghost use Rattle.ptu_record.specs.Step.{ReplaceJudge, Stop, TellFlag, Tick, sendings};
+ghost use Rattle.ptu_record.specs.Tick.{Sending};
 ghost use Rattle.ptu_judges.specs.Held.{IsFresh};
 ghost use Rattle.ptu_slave_messages.specs.Config.{AreMasters, IsWithinLimits, priorities, timeouts};
 ghost use Rattle.ptu_slave_messages.specs.Heard.{FitsReply, answer_of, event_of, failed_by, heard_of, replies_in, reply_datagrams, reply_in, sent_by, taken_of};
@@ -103,12 +104,10 @@ impl<P: Port> Slave<P> {
             Steps openings self.old.core self.new.core (map (λ j. held j) self.new.judges.items)
             L t (event_of m message) }
         ensures sends { IfOk result (λ heard.
-            HandsOver (P.sent self.old.port) (P.sent self.new.port) (P.faults self.old.port)
-            (P.faults self.new.port)
+            HandsOver P.Port self.old.port self.new.port
             (replies_in self.old.core.config self.old.core.masters
             (reception self.old.core.config self.old.core.masters from bytes.now))
             (sent_by (reply_in heard)) (failed_by (reply_in heard))) }
-        ensures waiting { P.waiting self.new.port ≡ P.waiting self.old.port }
         ensures same { IsSame self.old.core self.new.core }
     {
         let received = receive(alloc, self.core.config(), self.core.masters(), from, bytes)?;
@@ -126,23 +125,22 @@ impl<P: Port> Slave<P> {
             StandsFor openings self.old.core (map (λ j. held j) self.old.judges.items) L →
             Steps openings self.old.core self.new.core (map (λ j. held j) self.new.judges.items)
             L t Tick }
-        ensures sends { (openings : List (Option Rule)) (L : Record) →
+        // It hands these to the port; they are those of the step for each record that it stands for.
+        ensures sends { (handed : List Sending) × HandsOver P.Port self.old.port self.new.port
+            (map (departure_of self.old.core.config self.old.core.masters all_ones) handed)
+            result.sent result.failed
+            × ((openings : List (Option Rule)) (L : Record) →
             StandsFor openings self.old.core (map (λ j. held j) self.old.judges.items) L →
-            HandsOver (P.sent self.old.port) (P.sent self.new.port) (P.faults self.old.port)
-            (P.faults self.new.port)
-            (map (departure_of self.old.core.config self.old.core.masters all_ones)
-            (sendings (setup_of self.old.core.config openings) L result.at Tick))
-            result.sent result.failed }
-        ensures waiting { P.waiting self.new.port ≡ P.waiting self.old.port }
+            handed ≡ sendings (setup_of self.old.core.config openings) L result.at Tick) }
         ensures same { IsSame self.old.core self.new.core }
     {
         let at = self.core.begin(t);
         judge_all(&mut self.core, &mut self.judges, at);
-        let tally = tick_all(&mut self.core, &mut self.port, at);
+        let sends = tick_all(&mut self.core, &mut self.port, at);
         Ticked {
             at,
-            sent: tally.sent,
-            failed: tally.failed,
+            sent: sends.sent,
+            failed: sends.failed,
         }
     }
 
@@ -154,24 +152,23 @@ impl<P: Port> Slave<P> {
             StandsFor openings self.old.core (map (λ j. held j) self.old.judges.items) L →
             Steps openings self.old.core self.new.core (map (λ j. held j) self.new.judges.items)
             L t Stop }
-        ensures sends { (openings : List (Option Rule)) (L : Record) →
+        // It hands these to the port; they are those of the step for each record that it stands for.
+        ensures sends { (handed : List Sending) × HandsOver P.Port self.old.port self.new.port
+            (map (departure_of self.old.core.config self.old.core.masters all_ones) handed)
+            result.sent result.failed
+            × ((openings : List (Option Rule)) (L : Record) →
             StandsFor openings self.old.core (map (λ j. held j) self.old.judges.items) L →
-            HandsOver (P.sent self.old.port) (P.sent self.new.port) (P.faults self.old.port)
-            (P.faults self.new.port)
-            (map (departure_of self.old.core.config self.old.core.masters all_ones)
-            (sendings (setup_of self.old.core.config openings) L result.at Stop))
-            result.sent result.failed }
-        ensures waiting { P.waiting self.new.port ≡ P.waiting self.old.port }
+            handed ≡ sendings (setup_of self.old.core.config openings) L result.at Stop) }
         ensures same { IsSame self.old.core self.new.core }
         ensures judges { self.new.judges ≡ self.old.judges }
     {
         let at = self.core.begin(t);
-        let tally = end_all(&mut self.core, &mut self.port, at);
+        let sends = end_all(&mut self.core, &mut self.port, at);
         self.core.stop();
         Ticked {
             at,
-            sent: tally.sent,
-            failed: tally.failed,
+            sent: sends.sent,
+            failed: sends.failed,
         }
     }
 
@@ -258,10 +255,9 @@ fn hear<P: Port>(
         (event_of taken.master message) }
     ensures sends { (message : Message) →
         taken ≡ taken_of core.old.config.wants (taken.master, message) →
-        HandsOver (P.sent port.old) (P.sent port.new) (P.faults port.old) (P.faults port.new)
+        HandsOver P.Port port.old port.new
         (reply_datagrams core.old.config core.old.masters (taken.master, message))
         (sent_by (reply_in result)) (failed_by (reply_in result)) }
-    ensures waiting { P.waiting port.new ≡ P.waiting port.old }
     ensures same { IsSame core.old core.new }
     ensures judges { length judges.new.items ≡ length judges.old.items }
 {

@@ -7,56 +7,53 @@ ghost use Rattle.ptu_slave_messages.specs.Sending.{all_ones, departure_of};
 ghost use Rattle.ptu_slave.specs.Parts.{AllAsked, AllEnded, Ticks};
 
 use crate::node::Core;
-use ptu_outside::Port;
-use ptu_slave_messages::{Tally, send_stop, send_tick};
+use ptu_outside::{Port, Sends};
+use ptu_slave_messages::{send_stop, send_tick};
 use ptu_units::Moment;
 
 // Hands to the port what a tick sends to each master, in their order.
-fn ask_all<P: Port>(core: &mut Core, port: &mut P, at: Moment) -> Tally
+fn ask_all<P: Port>(core: &mut Core, port: &mut P, at: Moment) -> Sends
     ensures sends { (sendings : List Sending) ×
         AllAsked (length core.old.masters) at core.old core.new sendings ×
-        HandsOver (P.sent port.old) (P.sent port.new) (P.faults port.old) (P.faults port.new)
+        HandsOver P.Port port.old port.new
         (map (departure_of core.old.config core.old.masters all_ones) sendings)
         result.sent result.failed }
-    ensures waiting { P.waiting port.new ≡ P.waiting port.old }
 {
-    let mut tally = Tally::none();
+    let mut sends = Sends::none();
     for master in 0..core.masters().len() {
         let plan = core.ask(at, master);
         let sent = send_tick(port, core.config(), core.address(master), &plan);
-        tally = tally.and(sent);
+        sends = sends.and(sent);
     }
-    tally
+    sends
 }
 
 /// Hands to the port what the stop sends to each master, in their order.
-pub(crate) fn end_all<P: Port>(core: &mut Core, port: &mut P, at: Moment) -> Tally
+pub(crate) fn end_all<P: Port>(core: &mut Core, port: &mut P, at: Moment) -> Sends
     ensures sends { (sendings : List Sending) ×
         AllEnded (length core.old.masters) at core.old core.new sendings ×
-        HandsOver (P.sent port.old) (P.sent port.new) (P.faults port.old) (P.faults port.new)
+        HandsOver P.Port port.old port.new
         (map (departure_of core.old.config core.old.masters all_ones) sendings)
         result.sent result.failed }
-    ensures waiting { P.waiting port.new ≡ P.waiting port.old }
 {
-    let mut tally = Tally::none();
+    let mut sends = Sends::none();
     for master in 0..core.masters().len() {
         let plan = core.end(at, master);
         let sent = send_stop(port, core.config(), core.address(master), &plan);
-        tally = tally.and(sent);
+        sends = sends.and(sent);
     }
-    tally
+    sends
 }
 
 /// Hands to the port what a tick sends, which is nothing after a stop.
-pub(crate) fn tick_all<P: Port>(core: &mut Core, port: &mut P, at: Moment) -> Tally
+pub(crate) fn tick_all<P: Port>(core: &mut Core, port: &mut P, at: Moment) -> Sends
     ensures sends { (sendings : List Sending) × Ticks at core.old core.new sendings ×
-        HandsOver (P.sent port.old) (P.sent port.new) (P.faults port.old) (P.faults port.new)
+        HandsOver P.Port port.old port.new
         (map (departure_of core.old.config core.old.masters all_ones) sendings)
         result.sent result.failed }
-    ensures waiting { P.waiting port.new ≡ P.waiting port.old }
 {
     if core.is_stopped() {
-        return Tally::none();
+        return Sends::none();
     }
     ask_all(core, port, at)
 }

@@ -12,7 +12,6 @@ use Rattle.ptu_messages.specs.declared.message.Body.TheVariants as body
 use Rattle.ptu_messages.specs.declared.message.Message.{Message}
 use Rattle.ptu_messages.specs.Reading.{message_in}
 use Rattle.ptu_outside.specs.declared.arrival.Arrival.{Arrival}
-use Rattle.ptu_outside.specs.HandsOver.{HandsOver}
 use Rattle.ptu_record.specs.declared.rule.Rule.{Rule}
 use Rattle.ptu_record.specs.Lists.{places}
 use Rattle.ptu_record.specs.Record.{Record, event_moment}
@@ -38,7 +37,6 @@ use Rattle.ptu_slave.proofs.Staying.{rules_stay}
 use Rattle.ptu_slave.proofs.Stepping.{moment_is}
 use Rattle.ptu_slave_daemon.specs.Happenings.{Arrives, Stops, Ticks}
 use Rattle.ptu_slave_daemon.specs.Running.{AreTimed, IsAt, PortDid, Ran, View}
-use Rattle.ptu_slave_daemon.proofs.Ports.{port_handed}
 
 -- ---- masters
 
@@ -147,12 +145,12 @@ module _ (node : Node) (L : Record) (old new : View) (t : ℕ) (h : IsAt node ol
   pub ran_taken : (arrival : Arrival) (sent failed : ℕ) → AreTimed old.times new.times (Arrives arrival ∷ []) (Arrives arrival t ∷ [])
       → ((reason : SlaveReason) → reception old.kept.config old.kept.masters arrival.ip arrival.bytes ≡ Err reason → (new.kept ≡ old.kept) × (new.judges ≡ old.judges))
       → ((m : ℕ) (message : Message) → reception old.kept.config old.kept.masters arrival.ip arrival.bytes ≡ Ok (m, message) → Steps node.openings old.kept new.kept new.judges L t (event_of m message))
-      → HandsOver old.sent new.sent old.faults new.faults (replies_in old.kept.config old.kept.masters (reception old.kept.config old.kept.masters arrival.ip arrival.bytes)) sent failed
+      → PortDid old.sent new.sent old.faults new.faults (replies_in old.kept.config old.kept.masters (reception old.kept.config old.kept.masters arrival.ip arrival.bytes)) sent failed
       → Ran node L old new (Arrives arrival ∷ []) (Arrives arrival t ∷ []) [] sent failed
   ran_taken arrival sent failed timed ignored steps hands = record {
     timed = timed;
     stands = taken node old.kept new.kept old.judges new.judges L t arrival.ip arrival.bytes h same ignored steps;
-    port = subst (λ ds. PortDid old.sent new.sent old.faults new.faults ds sent failed) datagrams (port_handed old.sent new.sent old.faults new.faults _ sent failed hands);
+    port = subst (λ ds. PortDid old.sent new.sent old.faults new.faults ds sent failed) datagrams hands;
     selects = refl;
   }
     where
@@ -163,11 +161,11 @@ module _ (node : Node) (L : Record) (old new : View) (t : ℕ) (h : IsAt node ol
 
   -- a tick or the stop sends
   handed : (at : ℕ) (e : SlaveEvent) (sent failed : ℕ) → at ≡ max t old.kept.moment
-      → HandsOver old.sent new.sent old.faults new.faults
+      → PortDid old.sent new.sent old.faults new.faults
       (map (departure_of old.kept.config old.kept.masters all_ones) (sendings (setup_of old.kept.config node.openings) L at e)) sent failed
       → PortDid old.sent new.sent old.faults new.faults ((deed node L t e).datagrams ++ []) sent failed
   handed at e sent failed is hands =
-      subst (λ ds. PortDid old.sent new.sent old.faults new.faults ds sent failed) datagrams (port_handed old.sent new.sent old.faults new.faults _ sent failed hands)
+      subst (λ ds. PortDid old.sent new.sent old.faults new.faults ds sent failed) datagrams hands
     where
       datagrams : map (departure_of old.kept.config old.kept.masters all_ones) (sendings (setup_of old.kept.config node.openings) L at e) ≡ (deed node L t e).datagrams ++ []
       datagrams =
@@ -177,7 +175,7 @@ module _ (node : Node) (L : Record) (old new : View) (t : ℕ) (h : IsAt node ol
 
   pub ran_ticked : (at round sent failed : ℕ) (master : Option ℕ) → AreTimed old.times new.times (Ticks round ∷ []) (Ticks round t ∷ []) → at ≡ max t old.kept.moment
       → Steps node.openings old.kept new.kept new.judges L t Tick
-      → HandsOver old.sent new.sent old.faults new.faults
+      → PortDid old.sent new.sent old.faults new.faults
       (map (departure_of old.kept.config old.kept.masters all_ones) (sendings (setup_of old.kept.config node.openings) L at Tick)) sent failed
       → ((openings : List (Option Rule)) (M : Record) → StandsFor openings new.kept new.judges M
       → master ≡ option_map (address_of new.kept.masters) (selected_master (timeouts new.kept.config) (priorities new.kept.masters) M (event_moment M t)))
@@ -201,7 +199,7 @@ module _ (node : Node) (L : Record) (old new : View) (t : ℕ) (h : IsAt node ol
 
   pub ran_stopped : (at sent failed : ℕ) → AreTimed old.times new.times (Stops ∷ []) (Stops t ∷ []) → at ≡ max t old.kept.moment
       → Steps node.openings old.kept new.kept new.judges L t Stop
-      → HandsOver old.sent new.sent old.faults new.faults
+      → PortDid old.sent new.sent old.faults new.faults
       (map (departure_of old.kept.config old.kept.masters all_ones) (sendings (setup_of old.kept.config node.openings) L at Stop)) sent failed
       → Ran node L old new (Stops ∷ []) (Stops t ∷ []) [] sent failed
   ran_stopped at sent failed timed is steps hands = record {

@@ -1,6 +1,7 @@
 -- What became of a port over several calls.
-use Rattle.std.proofs.Common.{◌≡◌, ◌∙◌, inl, inr, ℕ, zero, suc, ◌+◌, ◌-◌, ◌^◌, ◌≤◌, ◌++◌, List, [], refl, sym, ap₂, subst, arith, length-append, Option}
+use Rattle.std.proofs.Common.{◌≡◌, ◌∙◌, inl, inr, ℕ, zero, suc, ◌+◌, ◌-◌, ◌^◌, ◌≤◌, ◌++◌, List, [], map, refl, sym, ap₂, subst, arith, length-append, Option}
 use Rattle.std.specs.List.{items_where_true}
+use Rattle.ptu_outside.specs.declared.port.Port.{Ghosts as Ports}
 use Rattle.ptu_outside.specs.Departure.{Departure}
 use Rattle.ptu_outside.specs.Faults.{HasRisen, HasRisenBy, HasNotFallen}
 use Rattle.ptu_outside.specs.Telling.{IfTold, append_told}
@@ -69,16 +70,24 @@ port_still before after old new failed same h = record {
 }
 
 -- what one call handed over
-pub port_handed : (before after : Option (List Departure)) (old new : ℕ) (ds : List Departure) (sent failed : ℕ) → HandsOver before after old new ds sent failed → PortDid before after old new ds sent failed
-port_handed before after old new ds sent failed h = record {
+pub port_handed : {P : Type 0} (ports : Ports P) (old new : P) (ds : List Departure) (sent failed : ℕ) → HandsOver ports old new ds sent failed
+    → PortDid (ports.sent old) (ports.sent new) (ports.faults old) (ports.faults new) ds sent failed
+port_handed ports old new ds sent failed h = record {
   departures = items_where_true h.some.which ds;
   many = h.some.many;
   sent_is = h.some.told;
   risen = h.risen;
   no_fall = h.no_fall;
   all_sent = h.all;
-  all_counted = λ still. let none : failed ≡ 0 = none_risen failed old new h.risen still in omega (arith, none, h.each);
+  all_counted = λ still. let none : failed ≡ 0 = none_risen failed (ports.faults old) (ports.faults new) h.risen still in omega (arith, none, h.each);
 }
+
+-- what a call handed over, where it is known to be these
+pub port_stated : {P : Type 0} (ports : Ports P) (old new : P) {S : Type 0} (datagram : S → Departure) (handed stated : List S) (sent failed : ℕ)
+    → HandsOver ports old new (map datagram handed) sent failed → handed ≡ stated
+    → PortDid (ports.sent old) (ports.sent new) (ports.faults old) (ports.faults new) (map datagram stated) sent failed
+port_stated ports old new datagram handed stated sent failed h is =
+    port_handed ports old new (map datagram stated) sent failed (subst (λ ss. HandsOver ports old new (map datagram ss) sent failed) is h)
 
 -- one call and the next
 pub port_append : (before now after : Option (List Departure)) (old mid new : ℕ) (ds es : List Departure) (s t f g : ℕ)

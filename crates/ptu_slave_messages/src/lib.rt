@@ -14,7 +14,6 @@ mod sending;
 mod signal;
 mod signaling;
 mod sorting;
-mod tally;
 
 pub use config::{Master, SlaveConfig};
 pub use content::{Content, Taken};
@@ -26,4 +25,3 @@ pub use reason::SlaveReason;
 pub use receiving::{receive, requested};
 pub use sending::{send_reply, send_stop, send_tick};
 pub use signal::{Signal, SignalList};
-pub use tally::Tally;

@@ -16,24 +16,10 @@ use crate::heard::HeardReply;
 use crate::kinds::Kinds;
 use crate::plan::{StopPlan, TickPlan};
 use crate::signaling::{ALL_ONES, SIGNALING, delay_req, header, put_cancels, put_requests};
-use crate::tally::Tally;
 use ptu_header::PortIdentity;
 use ptu_messages::{write_fixed, write_signaling};
-use ptu_outside::{Channel, Port};
+use ptu_outside::{Channel, Port, Sends, hand};
 use ptu_tlvs::Tlv;
-
-// Hands a datagram to the port.
-fn hand<P: Port>(port: &mut P, ip: u32, channel: Channel, bytes: &[u8]) -> Tally
-    ensures sends { HandsOver (P.sent port.old) (P.sent port.new) (P.faults port.old)
-        (P.faults port.new) (record { ip = ip; channel = channel; bytes = bytes.now } ∷ [])
-        result.sent result.failed }
-    ensures waiting { P.waiting port.new ≡ P.waiting port.old }
-{
-    match port.send(ip, channel, bytes) {
-        Ok(()) => Tally { sent: 1, failed: 0 },
-        Err(_) => Tally { sent: 0, failed: 1 },
-    }
-}
 
 // Hands a Signaling with these TLVs to the port.
 fn send_signaling<P: Port>(
@@ -43,18 +29,16 @@ fn send_signaling<P: Port>(
     target: &PortIdentity,
     number: u16,
     tlvs: &[Tlv],
-) -> Tally
+) -> Sends
     requires few { length tlvs.now ≤ 32 }
     requires sendable { All IsSendable tlvs.now }
-    ensures sends { HandsOver (P.sent port.old) (P.sent port.new) (P.faults port.old)
-        (P.faults port.new)
+    ensures sends { HandsOver P.Port port.old port.new
         (record {
           ip = ip;
           channel = Channel.General;
           bytes = octets_sent (signaling (header_of config.now 12 number) target.now tlvs.now);
         } ∷ [])
         result.sent result.failed }
-    ensures waiting { P.waiting port.new ≡ P.waiting port.old }
 {
     let mut octets = [0; 428];
     let size = write_signaling(
@@ -63,7 +47,7 @@ fn send_signaling<P: Port>(
         tlvs,
         &mut octets,
     );
-    hand(port, ip, Channel::General, &octets[..size])
+    Sends::of(hand(port, ip, Channel::General, &octets[..size]))
 }
 
 // Hands a Signaling with a REQUEST for each of the kinds to the port, where there are some.
@@ -73,19 +57,17 @@ fn send_requests<P: Port>(
     ip: u32,
     number: u16,
     kinds: Kinds,
-) -> Tally
-    ensures sends { (m : ℕ) → HandsOver (P.sent port.old) (P.sent port.new) (P.faults port.old)
-        (P.faults port.new)
+) -> Sends
+    ensures sends { (m : ℕ) → HandsOver P.Port port.old port.new
         (map (departure_to config.now ip all_ones)
         (one_signaling (Requests m number) (kinds_in kinds)))
         result.sent result.failed }
-    ensures waiting { P.waiting port.new ≡ P.waiting port.old }
     ensures few { result.sent + result.failed ≤ 1 }
 {
     let mut tlvs = [Tlv::Ack(0); 3];
     let count = put_requests(&mut tlvs, &config.wants, kinds);
     if count == 0 {
-        return Tally::none();
+        return Sends::none();
     }
     send_signaling(port, config, ip, &ALL_ONES, number, &tlvs[..count])
 }
@@ -96,30 +78,26 @@ fn send_delay_req<P: Port>(
     config: &SlaveConfig,
     ip: u32,
     number: Option<u16>,
-) -> Tally
-    ensures sends { (m : ℕ) → HandsOver (P.sent port.old) (P.sent port.new) (P.faults port.old)
-        (P.faults port.new)
+) -> Sends
+    ensures sends { (m : ℕ) → HandsOver P.Port port.old port.new
         (map (departure_to config.now ip all_ones)
         (option_to_list (option_map (DelayReq m) number)))
         result.sent result.failed }
-    ensures waiting { P.waiting port.new ≡ P.waiting port.old }
     ensures few { result.sent + result.failed ≤ 1 }
 {
     let Some(number) = number else {
-        return Tally::none();
+        return Sends::none();
     };
     let mut octets = [0; 64];
     let size = write_fixed(&delay_req(config, number), &mut octets);
-    hand(port, ip, Channel::Event, &octets[..size])
+    Sends::of(hand(port, ip, Channel::Event, &octets[..size]))
 }
 
 /// Hands to the port what a tick sends to one master: the Signaling, and then the Delay_Req.
-pub fn send_tick<P: Port>(port: &mut P, config: &SlaveConfig, ip: u32, plan: &TickPlan) -> Tally
-    ensures sends { (m : ℕ) → HandsOver (P.sent port.old) (P.sent port.new) (P.faults port.old)
-        (P.faults port.new)
+pub fn send_tick<P: Port>(port: &mut P, config: &SlaveConfig, ip: u32, plan: &TickPlan) -> Sends
+    ensures sends { (m : ℕ) → HandsOver P.Port port.old port.new
         (map (departure_to config.now ip all_ones) (tick_plan m plan.now))
         result.sent result.failed }
-    ensures waiting { P.waiting port.new ≡ P.waiting port.old }
     ensures few { result.sent + result.failed ≤ 2 }
 {
     let asked = send_requests(port, config, ip, plan.number, plan.kinds);
@@ -128,18 +106,16 @@ pub fn send_tick<P: Port>(port: &mut P, config: &SlaveConfig, ip: u32, plan: &Ti
 }
 
 /// Hands to the port what the stop sends to one master.
-pub fn send_stop<P: Port>(port: &mut P, config: &SlaveConfig, ip: u32, plan: &StopPlan) -> Tally
-    ensures sends { (m : ℕ) → HandsOver (P.sent port.old) (P.sent port.new) (P.faults port.old)
-        (P.faults port.new)
+pub fn send_stop<P: Port>(port: &mut P, config: &SlaveConfig, ip: u32, plan: &StopPlan) -> Sends
+    ensures sends { (m : ℕ) → HandsOver P.Port port.old port.new
         (map (departure_to config.now ip all_ones) (stop_plan m plan.now))
         result.sent result.failed }
-    ensures waiting { P.waiting port.new ≡ P.waiting port.old }
     ensures few { result.sent + result.failed ≤ 1 }
 {
     let mut tlvs = [Tlv::Ack(0); 3];
     let count = put_cancels(&mut tlvs, plan.kinds);
     if count == 0 {
-        return Tally::none();
+        return Sends::none();
     }
     send_signaling(port, config, ip, &ALL_ONES, plan.number, &tlvs[..count])
 }
@@ -157,16 +133,15 @@ pub fn send_reply<P: Port>(
     requires few { length acks.now ≤ 32 }
     requires sendable { All IsSendable acks.now }
     ensures sends { (m : ℕ) (codes : List ℕ) → acks.now ≡ map Ack codes →
-        HandsOver (P.sent port.old) (P.sent port.new) (P.faults port.old) (P.faults port.new)
+        HandsOver P.Port port.old port.new
         (map (departure_to config.now ip target.now) (one_reply m number codes))
         (sent_by result) (failed_by result) }
-    ensures waiting { P.waiting port.new ≡ P.waiting port.old }
 {
     if acks.is_empty() {
         return HeardReply::Nothing;
     }
-    let tally = send_signaling(port, config, ip, target, number, acks);
-    if tally.failed == 0 {
+    let sends = send_signaling(port, config, ip, target, number, acks);
+    if sends.failed == 0 {
         HeardReply::Sent
     } else {
         HeardReply::Failed

@@ -25,7 +25,7 @@ pub returns-in-Signals-clause-sends : goal.returns-in-Signals-clause-sends
 returns-in-Signals-clause-sends g c = λ message is.
     let said = said_in c.args.core.now.config.wants c.args.taken.master message c.in-Signals.list c.in-Signals.acks (sym (ap (λ (k : Taken). k.content) is) ∙ c.in-Signals.is) in
     let codes = filter_map cancel_code (filter_map said_by said.tlvs) in
-    subst (λ ds. HandsOver (g.P.Port.sent c.args.port.now) (g.P.Port.sent c.send_reply-reply.new.port) (g.P.Port.faults c.args.port.now) (g.P.Port.faults c.send_reply-reply.new.port) ds
+    subst (λ ds. HandsOver g.P.Port c.args.port.now c.send_reply-reply.new.port ds
     (sent_by c.send_reply-reply.result) (failed_by c.send_reply-reply.result))
     (reply_is c.args.core.now.config c.config.result.now c.args.core.now.masters c.args.taken.master c.address-ip.result c.args.taken.sequence c.args.taken.source codes message
     (c.config.ensures ∙ c.take_signaling-at.ensures.same.config) (c.address-ip.ensures ∙ ap (λ ms. address_of ms c.args.taken.master) c.take_signaling-at.ensures.same.masters)

@@ -1,4 +1,4 @@
-use Rattle.std.proofs.Common.{◌≡◌, ◌*◌, ◌+◌, ◌≤◌, List, map}
+use Rattle.std.proofs.Common.{◌*◌, ◌+◌, ◌≤◌, List, map}
 use Rattle.ptu_outside.specs.HandsOver.{HandsOver}
 use Rattle.ptu_record.specs.Tick.{Sending}
 use Rattle.ptu_slave_messages.specs.Sending.{all_ones, departure_of}
@@ -8,8 +8,7 @@ use Rattle.ptu_slave.proofs.ticks.ask_all.Given as goal
 abbrev pub invariant-loop-master : goal.invariant-loop-master
 invariant-loop-master g l = record {
   sends : (sendings : List Sending) × AllAsked l.master l.fn.at l.initial.core l.core sendings
-      × HandsOver (g.P.Port.sent l.initial.port) (g.P.Port.sent l.port) (g.P.Port.faults l.initial.port) (g.P.Port.faults l.port)
-      (map (departure_of l.initial.core.config l.initial.core.masters all_ones) sendings) l.tally.sent l.tally.failed;
-  few : l.tally.sent + l.tally.failed ≤ 2 * l.master;
-  waiting : g.P.Port.waiting l.port ≡ g.P.Port.waiting l.initial.port;
+      × HandsOver g.P.Port l.initial.port l.port
+      (map (departure_of l.initial.core.config l.initial.core.masters all_ones) sendings) l.sends.sent l.sends.failed;
+  few : l.sends.sent + l.sends.failed ≤ 2 * l.master;
 }

@@ -2,6 +2,7 @@ use Rattle.std.proofs.Common.{[], ◌∷◌, refl}
 use Rattle.ptu_slave_messages.specs.Heard.{failed_by, reply_in, sent_by}
 use Rattle.ptu_slave_daemon.specs.Happenings.{Arrives}
 use Rattle.ptu_slave_daemon.proofs.Events.{ran_taken}
+use Rattle.ptu_slave_daemon.proofs.Ports.{port_handed}
 use Rattle.ptu_slave_daemon.proofs.Times.{timed_one}
 use Rattle.ptu_slave_daemon.proofs.steps.take.Goals as goal
 
@@ -16,6 +17,6 @@ returns-clause-ran g c = λ node L h. (
         (timed_one _ _ c.now-at.result (λ at. Arrives (record { ip = c.args.from; bytes = c.args.octets.now }) at) (g.met.C.Clock.never_empty c.args.clock.now) c.now-at.ensures.first c.now-at.ensures.rest)
         (λ reason is. ((c.take.ensures.ignored reason is).0, rw (c.take.ensures.ignored reason is).1))
         (λ m message is. c.in_ok-heard.ensures.steps m message is refl node.openings L h.stands)
-        c.in_ok-heard.ensures.sends,
+        (port_handed g.P.Port _ _ _ _ _ c.in_ok-heard.ensures.sends),
   ),
 )

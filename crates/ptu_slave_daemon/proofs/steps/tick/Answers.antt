@@ -3,6 +3,7 @@ use Rattle.ptu_slave_daemon.specs.declared.counts.Counts.{Counts}
 use Rattle.ptu_slave_daemon.specs.Happenings.{Ticks}
 use Rattle.ptu_slave_daemon.specs.Running.{view_of}
 use Rattle.ptu_slave_daemon.proofs.Events.{ran_ticked}
+use Rattle.ptu_slave_daemon.proofs.Ports.{port_stated}
 use Rattle.ptu_slave_daemon.proofs.Runs.{ran_view}
 use Rattle.ptu_slave_daemon.proofs.Times.{timed_one}
 use Rattle.ptu_slave_daemon.proofs.steps.tick.Goals as goal
@@ -18,6 +19,6 @@ returns-clause-ran g c = λ node L round h. (
       _ _ _ _ _ _ c.selected-master.ensures.core (rw c.selected-master.ensures.judges) (ap g.P.Port.sent c.selected-master.ensures.port) (ap g.P.Port.faults c.selected-master.ensures.port) refl
       (ran_ticked node L _ _ c.now-at.result h c.tick-ticked.ensures.same c.tick-ticked.result.at round c.tick-ticked.result.sent c.tick-ticked.result.failed c.selected-master.result
       (timed_one _ _ c.now-at.result (λ at. Ticks round at) (g.met.C.Clock.never_empty c.args.clock.now) c.now-at.ensures.first c.now-at.ensures.rest)
-      c.tick-ticked.ensures.at (c.tick-ticked.ensures.steps node.openings L h.stands) (c.tick-ticked.ensures.sends node.openings L h.stands)
+      c.tick-ticked.ensures.at (c.tick-ticked.ensures.steps node.openings L h.stands) (port_stated g.P.Port _ _ _ _ _ _ _ c.tick-ticked.ensures.sends.1 (c.tick-ticked.ensures.sends.2 node.openings L h.stands))
       c.selected-master.ensures.selected),
 )

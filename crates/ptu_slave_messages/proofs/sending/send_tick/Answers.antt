@@ -3,7 +3,7 @@ use Rattle.std.proofs.lemmas.List.{map-append}
 use Rattle.std.specs.Option.{option_map, option_to_list}
 use Rattle.ptu_record.specs.Tick.{Requests, DelayReq, one_signaling}
 use Rattle.ptu_slave_messages.specs.Sending.{all_ones, departure_to, kinds_in}
-use Rattle.ptu_slave_messages.proofs.Handing.{hands_both}
+use Rattle.ptu_outside.proofs.HandsOver.{hands-append}
 use Rattle.ptu_slave_messages.proofs.sending.send_tick.Goals as goal
 
 pub returns-clause-sends : goal.returns-clause-sends
@@ -12,7 +12,4 @@ returns-clause-sends g c = λ m.
     let asks = one_signaling (Requests m c.args.plan.now.number) (kinds_in c.args.plan.now.kinds) in
     let probes = option_to_list (option_map (DelayReq m) c.args.plan.now.delay_req) in
     rw (c.and.ensures, map-append f asks probes)
-    (hands_both (g.P.Port.sent c.args.port.now) (g.P.Port.sent c.send_requests-asked.new.port) (g.P.Port.sent c.send_delay_req-probed.new.port)
-    (g.P.Port.faults c.args.port.now) (g.P.Port.faults c.send_requests-asked.new.port) (g.P.Port.faults c.send_delay_req-probed.new.port)
-    (map f asks) (map f probes) c.send_requests-asked.result.sent c.send_requests-asked.result.failed c.send_delay_req-probed.result.sent c.send_delay_req-probed.result.failed
-    (c.send_requests-asked.ensures.sends m) (c.send_delay_req-probed.ensures.sends m))
+    (hands-append g.P.Port _ _ _ (map f asks) (map f probes) _ _ _ _ (c.send_requests-asked.ensures.sends m) (c.send_delay_req-probed.ensures.sends m))

@@ -19,6 +19,6 @@ returns-in-Ok-clause-sends g c =
     let answer = sym c.in-Ok.is ∙ c.in_ok-received.ensures.answer
     ∙ ap₂ (λ (config : SlaveConfig) (masters : List Master). taken_or_not config.wants (reception config masters c.args.from c.args.bytes.now)) c.config.ensures c.masters.ensures.masters in
     let is = taken_from c.args.self.now.core.config.wants (reception c.args.self.now.core.config c.args.self.now.core.masters c.args.from c.args.bytes.now) c.in-Ok.taken answer in
-    subst (λ r. HandsOver (g.P.Port.sent c.args.self.now.port) (g.P.Port.sent c.hear.new.port) (g.P.Port.faults c.args.self.now.port) (g.P.Port.faults c.hear.new.port)
+    subst (λ r. HandsOver g.P.Port c.args.self.now.port c.hear.new.port
     (replies_in c.args.self.now.core.config c.args.self.now.core.masters r) (sent_by (reply_in c.hear.result)) (failed_by (reply_in c.hear.result)))
     (sym is.received) (c.hear.ensures.sends is.message is.kept)
