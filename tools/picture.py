@@ -5,6 +5,8 @@ from __future__ import annotations
 from collections.abc import Iterable, Sequence
 from dataclasses import dataclass, field
 from html import escape
+from itertools import groupby, pairwise
+from math import hypot
 
 WIDTH, LEFT, RIGHT = 960, 150, 24
 INK, FAINT, GRID = "#222222", "#777777", "#e4e4e4"
@@ -24,8 +26,9 @@ STYLE = f"""
   .small {{ font-size: 11px; fill: {FAINT} }} .grid {{ stroke: {GRID} }} .axis {{ stroke: {FAINT} }}
 """
 
+Point = tuple[float, float]
 # Points of a curve of steps: from the first number on it has the second.
-Steps = Sequence[tuple[float, float]]
+Steps = Sequence[Point]
 
 
 def number(value: float) -> str:
@@ -63,19 +66,36 @@ class Axis:
         return self.start + (value - self.least) / span * (self.end - self.start)
 
 
-def thinned(points: list[tuple[float, float]]) -> list[tuple[float, float]]:
+def thinned(points: list[Point]) -> list[Point]:
     """Of the corners in one column of half a pixel: the first, the highest, the lowest and the last."""
-    kept: list[tuple[float, float]] = []
-    column: list[tuple[float, float]] = []
-    for point in [*points, (float("inf"), 0.0)]:
-        if column and int(point[0] * 2 if point[0] < 1e9 else 1e9) != int(column[0][0] * 2):
-            wanted = {0, len(column) - 1}
-            heights = [it[1] for it in column]
-            wanted |= {heights.index(min(heights)), heights.index(max(heights))}
-            kept += [column[it] for it in sorted(wanted)]
-            column = []
-        column.append(point)
-    return kept
+    kept: list[Point] = []
+    for _, column in groupby(points, key=lambda it: int(it[0] * 2)):
+        corners = list(column)
+        heights = [it[1] for it in corners]
+        wanted = {0, heights.index(min(heights)), heights.index(max(heights)), len(corners) - 1}
+        kept += [corners[it] for it in sorted(wanted)]
+    return straightened(kept)
+
+
+def is_near(point: Point, start: Point, end: Point) -> bool:
+    """Whether a point is within half a pixel of the line from the start to the end."""
+    across, up = end[0] - start[0], end[1] - start[1]
+    length = hypot(across, up)
+    if not length:
+        return hypot(point[0] - start[0], point[1] - start[1]) <= 0.5
+    return abs(across * (point[1] - start[1]) - up * (point[0] - start[0])) <= 0.5 * length
+
+
+def straightened(points: list[Point]) -> list[Point]:
+    """Without the corners between two that a straight line joins as well."""
+    kept = points[:1]
+    between: list[Point] = []
+    for start, end in pairwise(points):
+        if len(between) >= 64 or not all(is_near(it, kept[-1], end) for it in between):
+            kept.append(start)
+            between = []
+        between.append(end)
+    return kept + points[-1:] if len(points) > 1 else kept
 
 
 @dataclass(slots=True)
@@ -104,7 +124,7 @@ class Picture:
         self.text(LEFT, self.y, text, "head")
         x = float(WIDTH - RIGHT)
         for colour, name in reversed(list(legend)):
-            x -= 7.2 * len(name)
+            x -= 6.9 * len(name)
             self.text(x, self.y, name)
             self.add(f'<rect x="{x - 16:.1f}" y="{self.y - 9:.1f}" width="11" height="9" fill="{colour}"/>')
             x -= 30
@@ -133,7 +153,7 @@ class Picture:
 
     def steps(self, axis: Axis, steps: Steps, colour: str, filled: bool = False, dashes: str = "") -> None:
         """A curve that stays as it is until its next step, to the end of the time."""
-        corners: list[tuple[float, float]] = []
+        corners: list[Point] = []
         for at, value in [*steps, (self.time.greatest, steps[-1][1] if steps else 0.0)]:
             x, y = self.time.place(at), axis.place(value)
             if corners:
@@ -146,7 +166,7 @@ class Picture:
         places = [(self.time.place(at), axis.place(value)) for at, value in points]
         self.curve(axis, places, colour, False, dashes)
 
-    def curve(self, axis: Axis, places: list[tuple[float, float]], colour: str, filled: bool, dashes: str) -> None:
+    def curve(self, axis: Axis, places: list[Point], colour: str, filled: bool, dashes: str) -> None:
         kept = thinned(places)
         if not kept:
             return
@@ -173,8 +193,9 @@ class Picture:
         self.y += 15
         self.text(LEFT - 6, self.y, f"{name} {number(len(moments))}", "small", "end")
         self.line(LEFT, self.y - 4, WIDTH - RIGHT, self.y - 4, "grid")
-        for x in sorted({round(self.time.place(it), 1) for it in moments}):
-            self.add(f'<rect x="{x - 1:.1f}" y="{self.y - 10:.1f}" width="2" height="11" fill="{colour}"/>')
+        places = sorted({round(self.time.place(it) * 2) / 2 for it in moments})
+        path = "".join(f"M{x:g} {self.y - 10:.1f}v11" for x in places)
+        self.add(f'<path d="{path}" stroke="{colour}" stroke-width="2"/>')
 
     def bars(self, name: str, bars: Iterable[tuple[float, float, str]]) -> None:
         """A row of bars, each from a moment to another in a colour, with the row's name at the left."""
