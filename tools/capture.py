@@ -132,7 +132,7 @@ class Capture:
     def datagram_of(self, moment: int, packet: bytes) -> Datagram | None:
         """The UDP datagram of an IPv4 packet, where it is a whole one."""
         behind = (packet[0] & 15) * 4 if packet else 0
-        if len(packet) < 20 or behind < 20 or packet[9] != 17:
+        if len(packet) < 20 or packet[0] >> 4 != 4 or behind < 20 or packet[9] != 17:
             return None
         if int.from_bytes(packet[6:8]) & 0x3FFF:
             self.left_out["fragments"] += 1
@@ -154,8 +154,8 @@ def ticks_a_second(order: str, options: bytes) -> int:
     while len(options) >= 4:
         code, size = struct.unpack(order + "HH", options[:4])
         if code == 9 and size == 1 and len(options) > 4:
-            power = options[4] & 0x7F
-            return 2**power if options[4] & 0x80 else 10**power
+            base, power = 2 if options[4] & 0x80 else 10, options[4] & 0x7F
+            return int(base**power)
         if code == 0:
             break
         options = options[4 + size + -size % 4 :]

@@ -19,8 +19,9 @@ def rate(log: int) -> float:
 
 @dataclass(slots=True)
 class Lease:
-    """What a client has of one kind. Moments are in nanoseconds; a lease that was ended has an earlier end."""
+    """What a client has of one kind, since a moment. Moments are in nanoseconds."""
 
+    since: int
     log: int = 0
     until: int = 0
     grants: int = 0
@@ -37,10 +38,10 @@ class Lease:
         self.recent.append(moment)
 
     def seen_per_second(self, now: int, window: int) -> float:
-        """Messages a second in the window before now."""
+        """Messages a second in the window before now, or since it began, where that is later."""
         while self.recent and self.recent[0] <= now - window:
             self.recent.popleft()
-        return len(self.recent) * ptp.SECOND / window
+        return len(self.recent) * ptp.SECOND / max(min(window, now - self.since), ptp.SECOND)
 
 
 @dataclass(slots=True)
@@ -56,14 +57,12 @@ class Ledger:
     source: ptp.PortIdentity | None = None
     domain: int | None = None
     clock_class: int | None = None
-    first: int | None = None
     last: int = 0
 
     def take(self, datagram: Datagram) -> None:
         """Takes one datagram; what is neither to nor from the grandmaster is passed over."""
         if self.ip not in (datagram.sender, datagram.receiver):
             return
-        self.first = datagram.moment if self.first is None else self.first
         self.last = max(self.last, datagram.moment)
         try:
             message = ptp.read_message(datagram.octets)
@@ -85,7 +84,7 @@ class Ledger:
                 self.take_answer(owner, tlv, datagram.moment)
         elif message.kind:
             owner = self.owner_of(datagram.receiver, message)
-            self.lease(owner, message.kind).see(datagram.moment)
+            self.lease(owner, message.kind, datagram.moment).see(datagram.moment)
 
     def take_answer(self, owner: Owner, tlv: ptp.Tlv, moment: int) -> None:
         """A TLV of a Signaling that the grandmaster sent to a client."""
@@ -96,7 +95,7 @@ class Ledger:
             self.counts["cancels sent"] += 1
             self.end(owner, kind, moment, "cancelled")
         elif isinstance(tlv, ptp.Grant) and kind:
-            lease = self.lease(owner, kind)
+            lease = self.lease(owner, kind, moment)
             if tlv.seconds:
                 self.counts["grants"] += 1
                 lease.grants += 1
@@ -122,7 +121,7 @@ class Ledger:
                 self.counts["acknowledges received"] += 1
 
     def owner_of(self, receiver: str, message: ptp.Message) -> Owner:
-        """Whose a timing message is: that of its target, where it names one, else the client last seen at the address."""
+        """Whose a timing message is: its target's, where it names one, else the client's that was last seen there."""
         if message.target:
             known = self.by_address.get(receiver)
             if known and known[1] == message.target:
@@ -131,10 +130,10 @@ class Ledger:
             return next(owners, (receiver, message.target))
         return self.by_address.get(receiver, (receiver, ptp.PortIdentity(0, 0)))
 
-    def lease(self, owner: Owner, kind: str) -> Lease:
+    def lease(self, owner: Owner, kind: str, moment: int) -> Lease:
         if owner[1].clock:
             self.by_address.setdefault(owner[0], owner)
-        return self.leases.setdefault(owner, {}).setdefault(kind, Lease())
+        return self.leases.setdefault(owner, {}).setdefault(kind, Lease(moment))
 
     def end(self, owner: Owner, kind: str | None, moment: int, why: str) -> None:
         if kind and (lease := self.leases.get(owner, {}).get(kind)):
@@ -148,7 +147,6 @@ class Ledger:
 
     def snapshot(self, now: int, missed: int = 0) -> dict[str, Any]:
         """All of it at a moment, as it is written in JSON."""
-        window = max(min(self.window, now - (now if self.first is None else self.first)), ptp.SECOND)
         held = self.held(now)
         return {
             "moment": now / ptp.SECOND,
@@ -164,7 +162,7 @@ class Ledger:
                 {
                     "address": owner[0],
                     "identity": str(owner[1]) if owner[1].clock else None,
-                    **{kind: told(kinds[kind], now, window) for kind in ptp.CODES if kind in kinds},
+                    **{kind: told(kinds[kind], now, self.window) for kind in ptp.CODES if kind in kinds},
                 }
                 for owner, kinds in sorted(self.leases.items(), key=by_address)
             ],
@@ -177,8 +175,9 @@ def by_address(item: tuple[Owner, dict[str, Lease]]) -> tuple[list[int], ptp.Por
 
 def told(lease: Lease, now: int, window: int) -> dict[str, Any]:
     is_live = lease.is_live(now)
+    ended = "over" if lease.last_answer == "granted" else lease.last_answer or "not asked"
     return {
-        "state": "granted" if is_live else "over" if lease.last_answer == "granted" else lease.last_answer or "not asked",
+        "state": "granted" if is_live else ended,
         "until": lease.until / ptp.SECOND if lease.until else None,
         "granted_per_second": rate(lease.log) if is_live else 0,
         "seen_per_second": round(lease.seen_per_second(now, window), 3),

@@ -279,8 +279,8 @@ def slaves(table: Table) -> list[Slave]:
 
 
 def link(table: Table, least: int, greatest: int, loss: float, repeat: float) -> Link:
-    both = table.take("delay", delays, (least, greatest))
-    return Link(*both, table.take("loss", share, loss), table.take("repeat", share, repeat))
+    least, greatest = table.take("delay", delays, (least, greatest))
+    return Link(least, greatest, table.take("loss", share, loss), table.take("repeat", share, repeat))
 
 
 def pair(value: Any) -> frozenset[str]:

@@ -117,8 +117,8 @@ def read_tlvs(octets: bytes) -> Iterator[Tlv]:
         code = value[0] >> 4
         if tlv_type in (4, 5):
             log = int.from_bytes(value[1:2], signed=True)
-            of_type = Request if tlv_type == 4 else Grant
-            yield of_type(code, log, int.from_bytes(value[2:6]))
+            seconds = int.from_bytes(value[2:6])
+            yield Request(code, log, seconds) if tlv_type == 4 else Grant(code, log, seconds)
         else:
             yield Cancel(code) if tlv_type == 6 else Acknowledge(code)
 
