@@ -1,0 +1,11 @@
+#!/usr/bin/env bash
+# Tests the tools beside it, without rights and without a network, in less than a minute. What wants the program is
+# skipped where there is none: $PTPUNI, or the proved one in crates/ptpuni/out. The last line is
+# 'N passed, N failed, N skipped'.
+cd "$(dirname "${BASH_SOURCE[0]}")" || exit
+if ! command -v python3 >/dev/null; then
+    echo "skipped: python3 is missing"
+    echo "0 passed, 0 failed, 1 skipped"
+    exit 0
+fi
+exec timeout -k 5 60 python3 -B tests/run.py

@@ -1,0 +1,87 @@
+"""What the tests share: the tools as modules and as commands, the program, and captures that are made."""
+
+from __future__ import annotations
+
+import importlib.util
+import os
+import struct
+import subprocess
+import sys
+import unittest
+from collections.abc import Iterable
+from importlib.machinery import SourceFileLoader
+from ipaddress import IPv4Address
+from pathlib import Path
+from types import ModuleType
+
+TOOLS = Path(__file__).resolve().parent.parent
+EXAMPLES = TOOLS.parent / "examples"
+DATA = Path(__file__).resolve().parent / "data"
+REPORT = DATA / "falling-capacity.report"
+PTP4L = DATA / "ptp4l.pcap"
+
+
+def tool(name: str) -> ModuleType:
+    """A tool's script as a module."""
+    loader = SourceFileLoader(name.replace("-", "_"), str(TOOLS / name))
+    spec = importlib.util.spec_from_loader(loader.name, loader)
+    assert spec
+    module = importlib.util.module_from_spec(spec)
+    sys.modules[loader.name] = module
+    loader.exec_module(module)
+    return module
+
+
+def run(name: str, *words: str | Path, given: bytes = b"") -> subprocess.CompletedProcess[bytes]:
+    """Runs a tool to its end."""
+    command = [sys.executable, "-B", str(TOOLS / name), *map(str, words)]
+    return subprocess.run(command, input=given, capture_output=True, timeout=50)
+
+
+def program() -> Path | None:
+    """The program, where there is one that need not be built first."""
+    found = Path(os.environ.get("PTPUNI") or TOOLS.parent / "crates/ptpuni/out/ptpuni")
+    return found if os.access(found, os.X_OK) else None
+
+
+wants_program = unittest.skipUnless(program(), "no program: $PTPUNI, or crates/ptpuni/out/ptpuni")
+
+
+def ptpuni(word: str, given: bytes) -> bytes:
+    return subprocess.run([str(program()), word], input=given, capture_output=True, timeout=50).stdout
+
+
+def ip_packet(sender: str, receiver: str, port: int, octets: bytes) -> bytes:
+    udp = struct.pack(">HHHH", port, port, len(octets) + 8, 0) + octets
+    addresses = IPv4Address(sender).packed + IPv4Address(receiver).packed
+    return struct.pack(">BBHHHBBH", 0x45, 0, len(udp) + 20, 0, 0, 64, 17, 0) + addresses + udp
+
+
+def ethernet(packet: bytes, tag: bytes = b"") -> bytes:
+    return bytes(12) + tag + b"\x08\x00" + packet
+
+
+def pcap(frames: Iterable[tuple[int, bytes]], order: str = "<", link_type: int = 1, per_second: int = 10**6) -> bytes:
+    """A pcap of frames with moments in nanoseconds."""
+    magic = 0xA1B2C3D4 if per_second == 10**6 else 0xA1B23C4D
+    made = struct.pack(order + "IHHiIII", magic, 2, 4, 0, 0, 65535, link_type)
+    for moment, frame in frames:
+        parts = moment % 10**9 * per_second // 10**9
+        made += struct.pack(order + "IIII", moment // 10**9, parts, len(frame), len(frame)) + frame
+    return made
+
+
+def pcapng(frames: Iterable[tuple[int, bytes]], order: str = "<") -> bytes:
+    """A pcapng of frames with moments in nanoseconds, which it counts in nanoseconds too."""
+
+    def block(block_type: int, body: bytes) -> bytes:
+        size = struct.pack(order + "I", len(body) + 12)
+        return struct.pack(order + "I", block_type) + size + body + size
+
+    option = struct.pack(order + "HHBxxxHH", 9, 1, 9, 0, 0)
+    made = block(0x0A0D0D0A, struct.pack(order + "IHHq", 0x1A2B3C4D, 1, 0, -1))
+    made += block(1, struct.pack(order + "HHI", 1, 0, 0) + option)
+    for moment, frame in frames:
+        head = struct.pack(order + "IIIII", 0, moment >> 32, moment & 0xFFFFFFFF, len(frame), len(frame))
+        made += block(6, head + frame + bytes(-len(frame) % 4))
+    return made

@@ -1,0 +1,223 @@
+"""Scenarios and the scripts that are made from them."""
+
+from __future__ import annotations
+
+import os
+import sys
+import tempfile
+import time
+import unittest
+from pathlib import Path
+
+import plan
+from support import EXAMPLES, TOOLS, program, ptpuni, run, tool, wants_program
+
+scenario = tool("scenario")
+
+SMALL = """
+length = 20
+seed = 3
+delay = [0.001, 0.004]
+
+[[grandmasters]]
+ip = "10.0.0.1"
+capacity = 100
+
+[[slaves]]
+ip = "10.0.1.1"
+count = 2
+spread = 1
+masters = ["10.0.0.1"]
+log_sync = 0
+"""
+
+
+class Plans(unittest.TestCase):
+    def test_small(self) -> None:
+        made = plan.read_plan(SMALL)
+        self.assertEqual((made.length, made.seed, made.tick, made.turn), (20 * 10**9, 3, 10**9, 10**9))
+        self.assertEqual([it.line() for it in made.grandmasters], ["gm 10.0.0.1 0a00fffe0a000001 1 4 84 100 1000"])
+        second = ["slave 10.0.1.2 0a00fffe0a000102 1 4 300 3 3 1 0 - 300 3", "master 10.0.1.2 10.0.0.1 1 flag"]
+        self.assertEqual(made.slaves[1].lines(), second)
+        self.assertEqual([it.start for it in made.slaves], [0, 10**9 // 2])
+        # Table: the last octet of the clock identity plus the port number, modulo 4.
+        self.assertEqual([it.table for it in made.slaves], [2, 3])
+
+    def test_moments_are_exact(self) -> None:
+        made = plan.read_plan(SMALL.replace("length = 20", "length = 4611686017.000000001"))
+        self.assertEqual(made.length, 4611686017000000001)
+
+    def test_refused(self) -> None:
+        slave = '[[slaves]]\nip = "10.0.1.9"\nmasters = ["10.0.0.1"]\n'
+        refused = {
+            SMALL.replace("length = 20", ""): "length: it is required",
+            SMALL.replace("length", "lenght"): "length: it is required",
+            SMALL.replace("seed = 3", "sead = 3"): "sead: there is no such key here",
+            SMALL.replace("capacity = 100", "capacity = 0"): "grandmasters[0].capacity: 0 is no whole number from 1",
+            SMALL.replace("log_sync = 0", "log_sync = 9"): "slaves[0].log_sync: 9 is no whole number from -7 to 4",
+            SMALL.replace("0.001, 0.004", "0.004, 0.001"): "delay: the first is the greater one",
+            SMALL.replace("[0.001, 0.004]", "0"): "delay: it is not above 0",
+            SMALL + 'judge = "gap"': "slaves[0].judge: there is no such key here",
+            SMALL.replace('masters = ["10.0.0.1"]', 'masters = ["10.0.0"]'): "slaves[0].masters[0].ip: '10.0.0' is no",
+            SMALL + slave.replace("1.9", "1.2"): "two nodes have one address",
+            SMALL + '[[outages]]\nnode = "10.0.0.9"\nfrom = 1\nuntil = 2': "outages: 10.0.0.9 is no node's address",
+            SMALL + '[[changes]]\nat = 1\nnode = "10.0.0.1"': "changes[0].node: none of capacity, class",
+            SMALL + '[[changes]]\nat = true\nnode = "10.0.0.1"': "changes[0].at: True is no number of seconds",
+            "length = ": "Invalid value",
+            "length = 1": "at least one grandmaster and one slave",
+        }
+        for text, why in refused.items():
+            with self.assertRaises(plan.PlanError, msg=why) as caught:
+                plan.read_plan(text)
+            self.assertIn(why, str(caught.exception))
+
+    def test_examples(self) -> None:
+        lengths = {it.name: plan.read_plan(it.read_text()).length for it in self.examples()}
+        self.assertEqual(lengths["twenty-slaves.toml"], 3600 * 10**9)
+
+    @staticmethod
+    def examples() -> list[Path]:
+        return [it for it in sorted(EXAMPLES.glob("*.toml")) if "[[grandmasters]]" in it.read_text()]
+
+
+class Runs(unittest.TestCase):
+    """Scripts that are made beside a stand-in, of which it is known what it sends when."""
+
+    def setUp(self) -> None:
+        folder = tempfile.TemporaryDirectory()
+        self.addCleanup(folder.cleanup)
+        self.folder = Path(folder.name)
+
+    def fake(self, how: str) -> Path:
+        made = self.folder / how
+        fake = TOOLS / "tests/fake_replay.py"
+        made.write_text(f"#!/bin/sh\nexec '{sys.executable}' -B '{fake}' {how}\n")
+        made.chmod(0o755)
+        return made
+
+    def make(self, text: str, how: str = "good") -> list[list[str]]:
+        """The words of the script's lines."""
+        file = self.folder / "it.toml"
+        file.write_text(text)
+        ran = run("scenario", file, "--ptpuni", self.fake(how))
+        self.assertEqual(ran.stderr, b"")
+        return [it.split() for it in ran.stdout.decode().splitlines()]
+
+    def moments(self, words: list[list[str]], name: str) -> list[int]:
+        return [int(it[1]) for it in words if it[0] == name]
+
+    def test_events(self) -> None:
+        words = self.make(SMALL)
+        events = [it for it in words if it[0] in ("tick", "turn", "deliver")]
+        moments = [int(it[1]) for it in events]
+        self.assertEqual(moments, sorted(moments))
+        # Two slaves tick every second of 20, the first from 0 and the second from 0.5 s; each datagram is answered.
+        self.assertEqual(len(self.moments(words, "tick")), 21 + 20)
+        self.assertEqual(len(self.moments(words, "turn")), 2 * 20)
+        delivered = [int(it[2]) for it in words if it[0] == "deliver"]
+        self.assertEqual(sorted(delivered), sorted(set(delivered)))
+        # The last tick is at the very end, and what it sends arrives no more.
+        self.assertEqual(len(delivered), 2 * 40)
+
+    def test_delays(self) -> None:
+        words = self.make(SMALL)
+        sent = 0
+        moment_of: dict[int, int] = {}
+        receiver_is_master: dict[int, bool] = {}
+        for it in words:
+            if it[0] == "tick" or (it[0] == "deliver" and receiver_is_master[int(it[2])]):
+                sent += 1
+                moment_of[sent] = int(it[1])
+                receiver_is_master[sent] = it[0] == "tick"
+            if it[0] == "deliver":
+                self.assertIn(int(it[1]) - moment_of[int(it[2])], range(1_000_000, 4_000_001))
+
+    def test_same_seed_same_script(self) -> None:
+        self.assertEqual(self.make(SMALL), self.make(SMALL))
+        self.assertNotEqual(self.make(SMALL), self.make(SMALL.replace("seed = 3", "seed = 4")))
+
+    def test_losses_and_repeats(self) -> None:
+        self.assertEqual(self.moments(self.make(SMALL.replace("seed", "loss = 1\nseed")), "deliver"), [])
+        words = self.make(SMALL.replace("seed", "repeat = 1\nseed"))
+        numbers = [it[2] for it in words if it[0] == "deliver"]
+        self.assertEqual((numbers.count("1"), numbers.count("2")), (2, 2))
+        half = self.moments(self.make(SMALL.replace("seed", "loss = 0.5\nseed")), "deliver")
+        self.assertIn(len(half), range(10, 60))
+
+    def test_a_link_of_its_own(self) -> None:
+        words = self.make(SMALL + '[[links]]\nbetween = ["10.0.1.2", "10.0.0.1"]\nloss = 1\n')
+        self.assertEqual(len(self.moments(words, "deliver")), 2 * 20)
+
+    def test_outages(self) -> None:
+        words = self.make(SMALL + '[[outages]]\nnode = "10.0.0.1"\nfrom = 5\nuntil = 10\n')
+        within = [it for it in self.moments(words, "deliver") if 5 * 10**9 <= it < 10 * 10**9]
+        self.assertEqual(within, [])
+        self.assertEqual(len(self.moments(words, "deliver")), 2 * 30)
+        words = self.make(SMALL + '[[outages]]\nbetween = ["10.0.0.1", "10.0.1.2"]\nfrom = 5\nuntil = 10\n')
+        self.assertEqual(len(self.moments(words, "deliver")), 2 * 35)
+
+    def test_changes(self) -> None:
+        node = '[[changes]]\nnode = "10.0.0.1"\n'
+        slave = '[[changes]]\nnode = "10.0.1.1"\nmaster = "10.0.0.1"\n'
+        words = self.make(
+            SMALL
+            + f"{node}at = 3\ncapacity = 50\n{node}at = 4\nclass = 90\n"
+            + f'{slave}at = 5\nunusable = true\n{slave}at = 6\njudge = "gap"\n'
+            + '[[changes]]\nnode = "10.0.1.2"\nat = 7\nstop = true\n'
+        )
+        for line in (
+            "capacity 3000000000 10.0.0.1 50",
+            "class 10.0.0.1 90",
+            "flag 5000000000 10.0.1.1 10.0.0.1 1",
+            "judge 6000000000 10.0.1.1 10.0.0.1 gap",
+            "stop 7000000000 10.0.1.2",
+        ):
+            self.assertIn(line.split(), words)
+
+    def test_a_slave_that_stops(self) -> None:
+        words = self.make(SMALL.replace("log_sync", "stop = 10\nlog_sync"))
+        self.assertEqual(len(self.moments(words, "tick")), 10 + 10)
+        self.assertEqual(len(self.moments(words, "stop")), 2)
+
+    def test_programs_that_are_no_replay(self) -> None:
+        file = self.folder / "it.toml"
+        file.write_text(SMALL)
+        wanted = {
+            "short": b"ended with status 3 before its script did",
+            "bad": b"refused a line: 5 bad field 3",
+        }
+        for how, why in wanted.items():
+            ran = run("scenario", file, "--ptpuni", self.fake(how))
+            self.assertEqual((ran.returncode, ran.stdout), (70, b""))
+            self.assertIn(why, ran.stderr)
+        ran = run("scenario", file, "--ptpuni", "/nowhere/ptpuni")
+        self.assertIn(b"/nowhere/ptpuni does not start", ran.stderr)
+        ran = run("scenario", "/nowhere/it.toml")
+        self.assertEqual((ran.returncode, ran.stdout), (66, b""))
+        file.write_text("length = 1")
+        self.assertEqual(run("scenario", file).returncode, 65)
+
+
+class WithTheProgram(unittest.TestCase):
+    @wants_program
+    def test_replay_takes_the_script(self) -> None:
+        with tempfile.NamedTemporaryFile(suffix=".toml") as file:
+            file.write(SMALL.encode() + b"log_delay = 0\n")
+            file.flush()
+            began = time.monotonic()
+            ran = run("scenario", file.name, "--ptpuni", program() or "")
+            self.assertLess(time.monotonic() - began, 30)
+        self.assertEqual((ran.returncode, ran.stderr), (0, b""))
+        script = ran.stdout.splitlines()
+        report = ptpuni("replay", ran.stdout).splitlines()
+        self.assertTrue(report[-1].startswith(b"end %d " % len(script)))
+        # Each grant of the two slaves, and messages at the rates granted: 20 s of a Sync a second.
+        self.assertEqual(sum(b" granted " in it for it in report), 6)
+        self.assertIn(sum(b" heard sync " in it for it in report), range(2 * 17, 2 * 20 + 1))
+        self.assertIn(sum(b" heard delay_resp " in it for it in report), range(2 * 15, 2 * 20 + 1))
+        self.assertTrue(any(it.endswith(b"selected 10.0.1.2 10.0.0.1") for it in report))
+
+
+if __name__ == "__main__":
+    os.environ.setdefault("PTPUNI", "ptpuni")
+    unittest.main()
