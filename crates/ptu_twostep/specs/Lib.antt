@@ -1,0 +1,4 @@
+pub mod Steps
+pub mod Pairs
+pub mod Telling
+pub mod Hosts

@@ -1,0 +1,105 @@
+use super::*;
+use ptu_outside::{Channel, Host, MemClock, MemHost, MemPort, Opened, Port};
+use std::alloc::Global;
+use std::test::Fail;
+
+// A Sync in one step.
+const SYNC: [u8; 44] = [
+    0x00, 0x12, 0x00, 0x2c, 0x04, 0x00, 0x04, 0x00, 0, 0, 0, 0, 0, 0, 0, 0, 0, 0, 0, 0, 0x0a, 0, 0,
+    0, 0, 0, 0, 1, 0, 1, 0, 0, 0, 0x7f, 0, 0, 0, 0, 0, 1, 0, 0, 0, 0,
+];
+
+// The Sync that is sent in its place, and its Follow_Up.
+const IN_TWO: [u8; 44] = [
+    0x00, 0x12, 0x00, 0x2c, 0x04, 0x00, 0x06, 0x00, 0, 0, 0, 0, 0, 0, 0, 0, 0, 0, 0, 0, 0x0a, 0, 0,
+    0, 0, 0, 0, 1, 0, 1, 0, 0, 0, 0x7f, 0, 0, 0, 0, 0, 1, 0, 0, 0, 0,
+];
+
+const FOLLOW_UP: [u8; 44] = [
+    0x08, 0x12, 0x00, 0x2c, 0x04, 0x00, 0x04, 0x00, 0, 0, 0, 0, 0, 0, 0, 0, 0, 0, 0, 0, 0x0a, 0, 0,
+    0, 0, 0, 0, 1, 0, 1, 0, 0, 2, 0x7f, 0, 0, 0, 0, 0, 1, 0, 0, 0, 0,
+];
+
+// A port below whose sends with these numbers fail.
+fn below(alloc: Global, failing_sends: Vec<u64>) -> Result<MemPort, Fail> {
+    let mut port = MemPort::new(alloc, Vec::new(alloc), failing_sends, Vec::new(alloc));
+    port.reserve(8, 512)?;
+    Ok(port)
+}
+
+// What the port below was sent at this place.
+fn is_sent(port: &MemPort, index: usize, channel: Channel, octets: &[u8]) -> bool {
+    port.sent(index).is_some_and(|sent| (sent.0, sent.1) == (7, channel) && *sent.2 == *octets)
+}
+
+#[test]
+fn a_sync_is_sent_in_two_steps_and_all_else_as_it_is(rt: HostRuntime) -> Result<(), Fail> {
+    let alloc = rt.alloc();
+    let mut port = TwoStep::new(below(alloc, Vec::new(alloc))?);
+    port.send(7, Channel::Event, &SYNC)?;
+    port.send(7, Channel::General, &SYNC)?;
+    port.send(7, Channel::Event, &SYNC[..43])?;
+    assert!(rt; !port.is_flagged());
+    port.send(7, Channel::Event, &IN_TWO)?;
+    assert!(rt; port.is_flagged());
+    let port = port.into_inner();
+    assert!(rt; is_sent(&port, 0, Channel::Event, &IN_TWO));
+    assert!(rt; is_sent(&port, 1, Channel::General, &FOLLOW_UP));
+    assert!(rt; is_sent(&port, 2, Channel::General, &SYNC));
+    assert!(rt; is_sent(&port, 3, Channel::Event, &SYNC[..43]));
+    assert!(rt; is_sent(&port, 4, Channel::Event, &IN_TWO));
+    assert!(rt; port.sent(5).is_none());
+    Ok(())
+}
+
+#[test]
+fn both_halves_are_handed_over_where_one_fails(rt: HostRuntime) -> Result<(), Fail> {
+    let alloc = rt.alloc();
+    let mut port = TwoStep::new(below(alloc, vec![in alloc; 1]?)?);
+    assert!(rt; port.send(7, Channel::Event, &SYNC).is_err());
+    assert!(rt; port.is_flagged());
+    assert!(rt; is_sent(&port.into_inner(), 0, Channel::General, &FOLLOW_UP));
+    let mut port = TwoStep::new(below(alloc, vec![in alloc; 2]?)?);
+    assert!(rt; port.send(7, Channel::Event, &SYNC).is_err());
+    assert!(rt; port.is_flagged());
+    assert!(rt; is_sent(&port.into_inner(), 0, Channel::Event, &IN_TWO));
+    Ok(())
+}
+
+fn port(alloc: Global) -> MemPort {
+    MemPort::new(alloc, Vec::new(alloc), Vec::new(alloc), Vec::new(alloc))
+}
+
+fn clock(alloc: Global) -> MemClock {
+    MemClock::new(Vec::new(alloc))
+}
+
+#[test]
+fn a_host_gives_the_ports_below_back(rt: HostRuntime) -> Result<(), Fail> {
+    let alloc = rt.alloc();
+    let opened = Opened {
+        p0: port(alloc),
+        p1: port(alloc),
+        p2: below(alloc, Vec::new(alloc))?,
+        p3: port(alloc),
+        p4: port(alloc),
+        p5: port(alloc),
+        c0: clock(alloc),
+        c1: clock(alloc),
+        c2: clock(alloc),
+        c3: clock(alloc),
+        c4: clock(alloc),
+        c5: clock(alloc),
+    };
+    let mut host = MemHost::new(opened, false);
+    let mut two = TwoHost::new(&mut host);
+    let mut opened = two.open(0x7f00_0001, 319, 320)?;
+    opened.p2.send(7, Channel::Event, &SYNC)?;
+    two.close(opened);
+    let back = host.back().ok_or("nothing was given back")?;
+    assert!(rt; is_sent(&back.p2, 0, Channel::Event, &IN_TWO));
+    assert!(rt; is_sent(&back.p2, 1, Channel::General, &FOLLOW_UP));
+    assert!(rt; back.p1.sent(0).is_none());
+    assert_eq!(rt; host.opened_at().map(|at| at.general_port), Some(320));
+    Ok(())
+}

@@ -1,0 +1,127 @@
+ghost use Rattle.std.specs.Prelude.{◌≡◌, Some, option_map, IfOk, IfSome, OnOk, OnErr};
+ghost use Rattle.ptu_outside.specs.Faults.{HasRisen, HasNotFallen};
+ghost use Rattle.ptu_outside.specs.Telling.{IfTold};
+ghost use Rattle.ptu_twostep.specs.Hosts.{below_of, clear, flagged_by, flags_of};
+
+use crate::two_step::TwoStep;
+use ptu_outside::{Failed, Host, Opened};
+
+/// The flags of six ports in two steps.
+#[derive(Clone, Copy, Debug, Default, PartialEq, Eq)]
+pub struct Flags {
+    pub p0: bool,
+    pub p1: bool,
+    pub p2: bool,
+    pub p3: bool,
+    pub p4: bool,
+    pub p5: bool,
+}
+
+/// A host whose ports send each Sync in two steps, over another host. It keeps the flags of the
+/// ports that it was given back last, which are clear before.
+#[derive(Drop)]
+pub struct TwoHost<'a, H: Host> {
+    host: &'a mut H,
+    flags: Flags,
+}
+
+impl<'a, H: Host> TwoHost<'a, H> {
+    /// A host over this one.
+    pub fn new(host: &'a mut H) -> TwoHost<'a, H>
+        ensures same { result.host.ghost_name ≡ host.entry.ghost_name }
+        ensures host { result.host.now ≡ host.old }
+        ensures flags { result.flags ≡ clear }
+    {
+        TwoHost {
+            host,
+            flags: Flags::default(),
+        }
+    }
+}
+
+impl<H: Host> Host for TwoHost<'_, H> {
+    type P = TwoStep<H::P>;
+
+    type C = H::C;
+
+    ghost opening = { λ h. option_map (flagged_by clear) (H.opening h.host.now) };
+
+    ghost back = { λ h. option_map (flagged_by h.flags) (H.back h.host.now) };
+
+    ghost opened_at = { λ h. H.opened_at h.host.now };
+
+    ghost faults = { λ h. H.faults h.host.now };
+
+    ghost name = { λ h. h.host.ghost_name };
+
+    fn open(
+        &mut self,
+        ip: u32,
+        event_port: u16,
+        general_port: u16,
+    ) -> Result<Opened<TwoStep<H::P>, H::C>, Failed>
+        ensures opened { IfOk result (λ ports.
+            IfSome (option_map (flagged_by clear) (H.opening self.old.host.now))
+            (λ told. ports ≡ told)) }
+        ensures at { OnOk result (IfTold (H.opened_at self.new.host.now) (Some (record {
+          ip = ip;
+          event_port = event_port;
+          general_port = general_port;
+        }))) }
+        ensures risen { OnErr result
+            (HasRisen (H.faults self.old.host.now) (H.faults self.new.host.now)) }
+        ensures quiet { OnOk result (H.faults self.new.host.now ≡ H.faults self.old.host.now) }
+        ensures no_fall { HasNotFallen (H.faults self.old.host.now) (H.faults self.new.host.now) }
+        ensures name { self.new.host.ghost_name ≡ self.old.host.ghost_name }
+    {
+        let below = self.host.open(ip, event_port, general_port)?;
+        Ok(Opened {
+            p0: TwoStep::new(below.p0),
+            p1: TwoStep::new(below.p1),
+            p2: TwoStep::new(below.p2),
+            p3: TwoStep::new(below.p3),
+            p4: TwoStep::new(below.p4),
+            p5: TwoStep::new(below.p5),
+            c0: below.c0,
+            c1: below.c1,
+            c2: below.c2,
+            c3: below.c3,
+            c4: below.c4,
+            c5: below.c5,
+        })
+    }
+
+    fn close(&mut self, opened: Opened<TwoStep<H::P>, H::C>)
+        ensures back { IfTold
+            (option_map (flagged_by self.new.flags) (H.back self.new.host.now)) (Some opened) }
+        ensures at { H.opened_at self.new.host.now ≡ H.opened_at self.old.host.now }
+        ensures quiet { H.faults self.new.host.now ≡ H.faults self.old.host.now }
+        ensures name { self.new.host.ghost_name ≡ self.old.host.ghost_name }
+        // It keeps the flags, and gives the ports below back.
+        ensures flags { self.new.flags ≡ flags_of opened }
+        ensures below { IfTold (H.back self.new.host.now) (Some (below_of opened)) }
+    {
+        self.flags = Flags {
+            p0: opened.p0.is_flagged(),
+            p1: opened.p1.is_flagged(),
+            p2: opened.p2.is_flagged(),
+            p3: opened.p3.is_flagged(),
+            p4: opened.p4.is_flagged(),
+            p5: opened.p5.is_flagged(),
+        };
+        self.host.close(Opened {
+            p0: opened.p0.into_inner(),
+            p1: opened.p1.into_inner(),
+            p2: opened.p2.into_inner(),
+            p3: opened.p3.into_inner(),
+            p4: opened.p4.into_inner(),
+            p5: opened.p5.into_inner(),
+            c0: opened.c0,
+            c1: opened.c1,
+            c2: opened.c2,
+            c3: opened.c3,
+            c4: opened.c4,
+            c5: opened.c5,
+        });
+    }
+}
