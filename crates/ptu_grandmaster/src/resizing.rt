@@ -53,12 +53,7 @@ fn send_cancel<P: Port>(
 /// Hands the CANCELs of these grants to the port, in order, numbered from `first` on, each to its
 /// client on the general channel (IEEE 1588-2019 clause 16.1). Gives how many were sent and how
 /// many failed to be.
-pub fn send_cancels<P: Port>(
-    port: &mut P,
-    config: &GmConfig,
-    first: u16,
-    shed: &[Shed],
-) -> Sends
+pub fn send_cancels<P: Port>(port: &mut P, config: &GmConfig, first: u16, shed: &[Shed]) -> Sends
     ensures sends { HandsOver P.Port port.old port.new
         (cancels_to config.now first (leases_shed shed.now)) result.sent result.failed }
     ensures count { result.sent + result.failed ≡ length shed.now }
@@ -122,12 +117,7 @@ impl<P: Port> Gm<P> {
             capacity,
         )?;
         let shed = resized.shed;
-        let sends = send_cancels(
-            &mut self.reply,
-            &self.config,
-            self.sequence,
-            shed.list(),
-        );
+        let sends = send_cancels(&mut self.reply, &self.config, self.sequence, shed.list());
         self.sequence = later(self.sequence, sends.sent + sends.failed);
         Ok(Changed {
             at: resized.at,
