@@ -1,12 +1,10 @@
 -- CANCELs that are handed over one after the other.
-use Rattle.std.proofs.Common.{◌≡◌, ℕ, ◌+◌, ◌-◌, ◌%◌, ◌<◌, ◌≤◌, ◌++◌, List, [], ◌∷◌, length, take, map, refl, sym, ap, subst, ◌∙◌, arith, Option}
+use Rattle.std.proofs.Common.{◌≡◌, ℕ, ◌+◌, ◌-◌, ◌%◌, ◌<◌, ◌≤◌, ◌++◌, List, [], ◌∷◌, length, take, map, refl, sym, ap, subst, ◌∙◌, arith}
 use Rattle.std.proofs.lemmas.List.{length-map, map-append}
 use Rattle.ptu_units.specs.declared.kind.Kind.{Kind}
-use Rattle.ptu_outside.specs.Departure.{Departure}
-use Rattle.ptu_outside.specs.Faults.{HasNotFallen, HasRisen}
+use Rattle.ptu_outside.specs.declared.port.Port.{Ghosts as Ports}
 use Rattle.ptu_outside.specs.HandsOver.{HandsOver}
-use Rattle.ptu_outside.specs.Telling.{IfTold, append_told}
-use Rattle.ptu_outside.proofs.HandsOver.{hands_failed, hands_none, hands_sent}
+use Rattle.ptu_outside.proofs.HandsOver.{hands-append, hands_none}
 use Rattle.ptu_history.specs.declared.client.Client.{Client}
 use Rattle.ptu_shard.specs.declared.config.GmConfig.{GmConfig}
 use Rattle.ptu_admit.specs.declared.shed_list.Shed.{Shed}
@@ -36,8 +34,8 @@ one_cancel config n shed s sequence e =
     (ap (λ k. (n + k) % 65536) (length-map shed (λ s. (s.client, s.kind))) ∙ sym e)
 
 -- so many of the CANCELs were handed over
-pub record Cancels (config : GmConfig) (first : ℕ) (done : List Shed) (before after : Option (List Departure)) (old new : ℕ) (sequence sent failed : ℕ) : Type 0 where
-  pub sends : HandsOver before after old new (cancels_to config first (leases_shed done)) sent failed
+pub record Cancels {P : Type 0} (ports : Ports P) (config : GmConfig) (first : ℕ) (done : List Shed) (old new : P) (sequence sent failed : ℕ) : Type 0 where
+  pub sends : HandsOver ports old new (cancels_to config first (leases_shed done)) sent failed
   pub sequence_is : sequence ≡ (first + length done) % 65536
 
 length-push : (xs : List Shed) (x : Shed) → length (xs ++ x ∷ []) ≡ length xs + 1
@@ -52,26 +50,20 @@ next_sequence first sequence done s e =
     mod_next (first + length done) sequence e
     ∙ ap (λ n. n % 65536) (let l = length-push done s in let m : first + length done + 1 ≡ first + length (done ++ s ∷ []) = omega arith in m)
 
-pub no_cancels : (config : GmConfig) (first : ℕ) (before : Option (List Departure)) (old : ℕ) → first < 65536 → Cancels config first [] before before old old first 0 0
-no_cancels config first before old lt = record { sends = hands_none before old; sequence_is = let e : first ≡ (first + 0) % 65536 = omega arith in e }
+module _ {P : Type 0} (ports : Ports P) (config : GmConfig) (first : ℕ) where
+  pub no_cancels : (port : P) → first < 65536 → Cancels ports config first [] port port first 0 0
+  no_cancels port lt = record { sends = hands_none ports port; sequence_is = let e : first ≡ (first + 0) % 65536 = omega arith in e }
 
-module _ (config : GmConfig) (first : ℕ) (done : List Shed) (s : Shed) (before middle after : Option (List Departure)) (old now new sequence sent failed : ℕ)
-    (c : Cancels config first done before middle old now sequence sent failed) where
-  abbrev one : cancels_to config first (leases_shed (done ++ s ∷ [])) ≡ cancels_to config first (leases_shed done) ++ cancel_to config s.client s.kind sequence ∷ []
-  one = one_cancel config first done s sequence c.sequence_is
-
-  pub cancel_sent : IfTold after (append_told middle (cancel_to config s.client s.kind sequence ∷ [])) → new ≡ now →
-      Cancels config first (done ++ s ∷ []) before after old new ((sequence + 1) % 65536) (sent + 1) failed
-  cancel_sent told quiet = record {
-    sends = subst (λ ds. HandsOver before after old new ds (sent + 1) failed) (sym one)
-        (hands_sent before middle after old now new (cancels_to config first (leases_shed done)) sent failed (cancel_to config s.client s.kind sequence) c.sends told quiet);
+  -- one CANCEL more
+  pub cancels_more : (done : List Shed) (s : Shed) (old now new : P) (sequence sent failed more worse : ℕ) → Cancels ports config first done old now sequence sent failed
+      → HandsOver ports now new (cancel_to config s.client s.kind sequence ∷ []) more worse
+      → Cancels ports config first (done ++ s ∷ []) old new ((sequence + 1) % 65536) (sent + more) (failed + worse)
+  cancels_more done s old now new sequence sent failed more worse c one = record {
+    sends = subst (λ ds. HandsOver ports old new ds (sent + more) (failed + worse)) (sym (one_cancel config first done s sequence c.sequence_is))
+        (hands-append ports old now new (cancels_to config first (leases_shed done)) (cancel_to config s.client s.kind sequence ∷ []) sent failed more worse c.sends one);
     sequence_is = next_sequence first sequence done s c.sequence_is;
   }
 
-  pub cancel_failed : IfTold after middle → HasRisen now new → HasNotFallen now new →
-      Cancels config first (done ++ s ∷ []) before after old new ((sequence + 1) % 65536) sent (failed + 1)
-  cancel_failed told rises no_fall = record {
-    sends = subst (λ ds. HandsOver before after old new ds sent (failed + 1)) (sym one)
-        (hands_failed before middle after old now new (cancels_to config first (leases_shed done)) sent failed (cancel_to config s.client s.kind sequence) c.sends told rises no_fall);
-    sequence_is = next_sequence first sequence done s c.sequence_is;
-  }
+  -- as many as there are grants that were shed
+  pub cancels_many : (done : List Shed) (old new : P) (sequence sent failed : ℕ) → Cancels ports config first done old new sequence sent failed → sent + failed ≡ length done
+  cancels_many done old new sequence sent failed c = c.sends.each ∙ length-cancels config first done

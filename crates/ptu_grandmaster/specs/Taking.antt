@@ -1,9 +1,8 @@
 -- What a grandmaster does with a datagram.
 use Rattle.std.specs.Prelude.{◌≡◌, ◌↔◌, ℕ, List, [], ◌∷◌, map, Option, Result, Ok, Err}
 use Rattle.ptu_outside.specs.Departure.{Departure}
-use Rattle.ptu_outside.specs.Faults.{HasNotFallen, HasRisen}
+use Rattle.ptu_outside.specs.declared.port.Port.{Ghosts as Ports}
 use Rattle.ptu_outside.specs.HandsOver.{HandsOver}
-use Rattle.ptu_outside.specs.Telling.{IfTold, append_told}
 use Rattle.ptu_header.specs.declared.header.Header.{Header}
 use Rattle.ptu_history.specs.declared.client.Client.{Client}
 use Rattle.ptu_history.specs.Client.{table_of}
@@ -46,17 +45,16 @@ ComesTo opened history t from (Ok (heard.Asks header items)) (Asked outcomes rep
     decisions_seen outcomes ≡ decisions_of opened history t (client_of from header) items
 ComesTo opened history t from _ _ = Unit {0}
 
--- what became of the reply, by what the port tells and its count of faults before and after: it was handed over, its send
--- failed, or nothing was sent
-abbrev pub Replies : Reply → Option (List Departure) → Option (List Departure) → ℕ → ℕ → Departure → Type 0
-Replies Sent before after old new departure = IfTold after (append_told before (departure ∷ [])) × (new ≡ old)
-Replies Failed before after old new departure = IfTold after before × HasRisen old new × HasNotFallen old new
-Replies Nothing before after old new departure = (after ≡ before) × (new ≡ old)
+-- what became of the reply, and of the port: it was sent, its send failed, or nothing was handed to the port
+abbrev pub Replies : {P : Type 0} → Ports P → Reply → P → P → Departure → Type 0
+Replies ports Sent old new departure = HandsOver ports old new (departure ∷ []) 1 0
+Replies ports Failed old new departure = HandsOver ports old new (departure ∷ []) 0 1
+Replies ports Nothing old new departure = new ≡ old
 
--- what the port of the client's table tells and its count of faults, before and after a Delay_Req that was answered so
-abbrev pub Responds : GmConfig → Client → Header → Answered → Option (List Departure) → Option (List Departure) → ℕ → ℕ → Type 0
-Responds config c header answered before after old new =
-    HandsOver before after old new (responses (met_by answered) (response_of config (moment_of_answer answered) c header))
+-- what became of the port of the client's table by a Delay_Req that was answered so
+abbrev pub Responds : {P : Type 0} → Ports P → GmConfig → Client → Header → Answered → P → P → Type 0
+Responds ports config c header answered old new =
+    HandsOver ports old new (responses (met_by answered) (response_of config (moment_of_answer answered) c header))
     (sent_by answered) (failed_by answered)
 
 -- the fact on the header and the answer, where a Delay_Req was answered

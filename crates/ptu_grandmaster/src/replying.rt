@@ -14,7 +14,7 @@ use crate::outcome::{Outcome, Outcomes, Reply};
 use ptu_admit::Verdict;
 use ptu_header::{Header, PortIdentity};
 use ptu_items::write_reply;
-use ptu_outside::{Channel, Port};
+use ptu_outside::{Channel, Port, hand};
 use ptu_shard::GmConfig;
 use ptu_tlvs::{Ask, Tlv};
 
@@ -89,18 +89,17 @@ pub(crate) fn send_reply<P: Port>(
     outcomes: &Outcomes,
 ) -> Reply
     requires { AreAnswerable (map item_seen outcomes.now) }
-    ensures replies { Replies result (P.sent port.old) (P.sent port.new) (P.faults port.old)
-        (P.faults port.new) (reply_to config.now from header.now (answers_seen outcomes.now)) }
+    ensures replies { Replies P.Port result port.old port.new
+        (reply_to config.now from header.now (answers_seen outcomes.now)) }
     ensures nothing { (result ≡ Reply.Nothing) ↔ (outcomes.now ≡ []) }
     ensures waiting { P.waiting port.new ≡ P.waiting port.old }
-    ensures untouched { result ≡ Reply.Nothing → port.new ≡ port.old }
 {
     if outcomes.list().is_empty() {
         return Reply::Nothing;
     }
     let mut out = [0; 428];
     let size = reply_of(config, &header.source, header.sequence, outcomes, &mut out);
-    match port.send(from, Channel::General, &out[..size]) {
+    match hand(port, from, Channel::General, &out[..size]) {
         Ok(()) => Reply::Sent,
         Err(_) => Reply::Failed,
     }

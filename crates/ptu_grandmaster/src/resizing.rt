@@ -1,9 +1,7 @@
 //! Changes of capacity.
 
-ghost use Rattle.std.specs.Prelude.{◌≡◌, ◌+◌, ◌%◌, ℕ, List, [], ◌∷◌, ◌++◌, map, length, IfOk, OnErr, OnOk};
-ghost use Rattle.ptu_outside.specs.Faults.{HasNotFallen, HasRisen};
-ghost use Rattle.ptu_outside.specs.HandsOver.{HandsOver};
-ghost use Rattle.ptu_outside.specs.Telling.{IfTold, append_told};
+ghost use Rattle.std.specs.Prelude.{◌≡◌, ◌+◌, ◌%◌, ℕ, List, [], ◌∷◌, ◌++◌, map, length, IfOk, OnErr};
+ghost use Rattle.ptu_outside.specs.HandsOver.{HandsOver, failed_in, sent_in};
 ghost use Rattle.ptu_history.specs.Core.{book_step_moment, core_step};
 ghost use Rattle.ptu_history.specs.Events as events;
 ghost use Rattle.ptu_history.specs.History.{Record};
@@ -19,7 +17,7 @@ ghost use Rattle.ptu_grandmaster.specs.Gm.{StandsFor, tables};
 use crate::gm::Gm;
 use ptu_admit::{Shed, ShedList, resize};
 use ptu_items::cancel_of;
-use ptu_outside::{Channel, Failed, Port};
+use ptu_outside::{Channel, Failed, Port, Sends, hand};
 use ptu_shard::GmConfig;
 use ptu_units::{Moment, OutOfMemory};
 
@@ -43,45 +41,30 @@ fn send_cancel<P: Port>(
     sequence: u16,
     shed: &Shed,
 ) -> Result<(), Failed>
-    ensures handed { OnOk result (IfTold (P.sent port.new) (append_told (P.sent port.old)
-        (cancel_to config.now shed.now.client shed.now.kind sequence ∷ []))) }
-    ensures kept { OnErr result (IfTold (P.sent port.new) (P.sent port.old)) }
-    ensures waiting { P.waiting port.new ≡ P.waiting port.old }
-    ensures risen { OnErr result (HasRisen (P.faults port.old) (P.faults port.new)) }
-    ensures quiet { OnOk result (P.faults port.new ≡ P.faults port.old) }
-    ensures no_fall { HasNotFallen (P.faults port.old) (P.faults port.new) }
+    ensures { HandsOver P.Port port.old port.new
+        (cancel_to config.now shed.now.client shed.now.kind sequence ∷ [])
+        (sent_in result) (failed_in result) }
 {
     let mut out = [0; 428];
     let size = cancel_of(config, &shed.client, shed.kind, sequence, &mut out);
-    port.send(shed.client.ip, Channel::General, &out[..size])
+    hand(port, shed.client.ip, Channel::General, &out[..size])
 }
 
 /// Hands the CANCELs of these grants to the port, in order, numbered from `first` on, each to its
 /// client on the general channel (IEEE 1588-2019 clause 16.1). Gives how many were sent and how
-/// many sends failed.
-pub fn send_cancels<P: Port>(
-    port: &mut P,
-    config: &GmConfig,
-    first: u16,
-    shed: &[Shed],
-) -> (u64, u64)
-    ensures sends { HandsOver (P.sent port.old) (P.sent port.new) (P.faults port.old)
-        (P.faults port.new) (cancels_to config.now first (leases_shed shed.now))
-        result.0 result.1 }
-    ensures count { result.0 + result.1 ≡ length shed.now }
-    ensures waiting { P.waiting port.new ≡ P.waiting port.old }
+/// many failed to be.
+pub fn send_cancels<P: Port>(port: &mut P, config: &GmConfig, first: u16, shed: &[Shed]) -> Sends
+    ensures sends { HandsOver P.Port port.old port.new
+        (cancels_to config.now first (leases_shed shed.now)) result.sent result.failed }
+    ensures count { result.sent + result.failed ≡ length shed.now }
 {
     let mut sequence = first;
-    let mut sent = 0;
-    let mut failed = 0;
+    let mut sends = Sends::none();
     for grant in shed {
-        match send_cancel(port, config, sequence, grant) {
-            Ok(()) => sent += 1,
-            Err(_) => failed += 1,
-        }
+        sends = sends.and(Sends::of(send_cancel(port, config, sequence, grant)));
         sequence = sequence.wrapping_add(1);
     }
-    (sent, failed)
+    sends
 }
 
 // The sequenceId that comes so many after this one.
@@ -105,11 +88,9 @@ impl<P: Port> Gm<P> {
         ensures at { IfOk result (λ c. c.at
             ≡ moment_for_all t self.old.book (tables self.old)) }
         // The CANCELs of the grants that are shed are handed to the reply port, in order.
-        ensures sends { IfOk result (λ c. HandsOver (P.sent self.old.reply)
-            (P.sent self.new.reply) (P.faults self.old.reply) (P.faults self.new.reply)
+        ensures sends { IfOk result (λ c. HandsOver P.Port self.old.reply self.new.reply
             (cancels_to self.old.config self.old.sequence (leases_shed c.shed)) c.sent c.failed) }
         ensures count { IfOk result (λ c. c.sent + c.failed ≡ length c.shed) }
-        ensures waiting { P.waiting self.new.reply ≡ P.waiting self.old.reply }
         ensures ports { (self.new.s0.port ≡ self.old.s0.port) × (self.new.s1.port ≡ self.old.s1.port)
             × (self.new.s2.port ≡ self.old.s2.port) × (self.new.s3.port ≡ self.old.s3.port) }
         ensures config { self.new.config ≡ self.old.config }
@@ -136,18 +117,13 @@ impl<P: Port> Gm<P> {
             capacity,
         )?;
         let shed = resized.shed;
-        let (sent, failed) = send_cancels(
-            &mut self.reply,
-            &self.config,
-            self.sequence,
-            shed.list(),
-        );
-        self.sequence = later(self.sequence, sent + failed);
+        let sends = send_cancels(&mut self.reply, &self.config, self.sequence, shed.list());
+        self.sequence = later(self.sequence, sends.sent + sends.failed);
         Ok(Changed {
             at: resized.at,
             shed,
-            sent,
-            failed,
+            sent: sends.sent,
+            failed: sends.failed,
         })
     }
 }

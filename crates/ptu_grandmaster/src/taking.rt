@@ -70,16 +70,13 @@ impl<P: Port> Gm<P> {
         // changed.
         ensures delay { IfOk result (λ taken. OnDelay (heard_in self.old.config bytes.now) taken
             (λ header answered. let c = client_of from header in let j = table_of c in
-            Responds self.old.config c header answered
-            (P.sent (table_at j self.old).port) (P.sent (table_at j self.new).port)
-            (P.faults (table_at j self.old).port) (P.faults (table_at j self.new).port)
-            × (P.waiting (table_at j self.new).port ≡ P.waiting (table_at j self.old).port)
+            Responds P.Port self.old.config c header answered
+            (table_at j self.old).port (table_at j self.new).port
             × (self.new ≡ with_table j (table_at j self.new) self.old))) }
         // The reply goes by its own port, and no port of a table has changed.
         ensures reply { IfOk result (λ taken. OnAsked (heard_in self.old.config bytes.now) taken
             (λ header outcomes reply.
-            Replies reply (P.sent self.old.reply) (P.sent self.new.reply) (P.faults self.old.reply)
-            (P.faults self.new.reply)
+            Replies P.Port reply self.old.reply self.new.reply
             (reply_to self.old.config from header (answers_seen outcomes)))) }
         ensures ports { IfOk result (λ taken. OnAsked (heard_in self.old.config bytes.now) taken
             (λ header outcomes reply.

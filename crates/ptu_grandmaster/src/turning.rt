@@ -32,11 +32,9 @@ impl<P: Port> Gm<P> {
         ensures at { result.at ≡ max (max t self.old.book.moment) (table_at table self.old).moment }
         // Every lawful message is handed to the table's port, in order, and nothing else.
         ensures sends { let old = table_at table self.old in let new = table_at table self.new in
-            HandsOver (P.sent old.port) (P.sent new.port) (P.faults old.port) (P.faults new.port)
+            HandsOver P.Port old.port new.port
             (map (departure_of self.old.config result.at) (due_messages result.at old.rows))
             result.sent result.failed }
-        ensures waiting { P.waiting (table_at table self.new).port
-            ≡ P.waiting (table_at table self.old).port }
         // Nothing else has changed.
         ensures rest { self.new ≡ with_table table (table_at table self.new) self.old }
         // They are the messages of the core's turn after each history that the grandmaster stands
@@ -65,11 +63,8 @@ impl<P: Port> Gm<P> {
     // client's table.
     pub(crate) fn answer_delay(&mut self, t: Moment, client: &Client, header: &Header) -> Answered
         ensures sends { let j = table_of_client client.now in
-            Responds self.old.config client.now header.now result
-            (P.sent (table_at j self.old).port) (P.sent (table_at j self.new).port)
-            (P.faults (table_at j self.old).port) (P.faults (table_at j self.new).port) }
-        ensures waiting { let j = table_of_client client.now in
-            P.waiting (table_at j self.new).port ≡ P.waiting (table_at j self.old).port }
+            Responds P.Port self.old.config client.now header.now result
+            (table_at j self.old).port (table_at j self.new).port }
         ensures rest { let j = table_of_client client.now in
             self.new ≡ with_table j (table_at j self.new) self.old }
         ensures met { (opening : ℕ) (history : List Record) →

@@ -1,5 +1,5 @@
 -- Datagrams that are handed to a port: none, one, and one list after another.
-use Rattle.std.proofs.Common.{◌≡◌, ◌∙◌, ◌⊎◌, inl, inr, ℕ, ◌+◌, ◌-◌, ◌^◌, ◌<◌, ◌≤◌, ◌++◌, List, [], ◌∷◌, length, rules, Result, Ok, Err, Bool, true, false, refl, sym, ap, subst, arith, append_assoc, length-append, Option, Some, None}
+use Rattle.std.proofs.Common.{◌≡◌, ◌∙◌, ◌⊎◌, inl, inr, ℕ, suc, zero, ◌+◌, ◌-◌, ◌^◌, ◌<◌, ◌≤◌, ◌++◌, List, [], ◌∷◌, length, rules, Result, Ok, Err, Bool, true, false, refl, sym, ap, subst, arith, append_assoc, length-append, Option, Some, None}
 use Rattle.std.specs.List.{AllByRecursion, items_where_true}
 use Rattle.std.proofs.lemmas.List.{append-nil}
 use Rattle.ptu_outside.specs.declared.port.Port.{Ghosts as Ports}
@@ -9,11 +9,11 @@ use Rattle.ptu_outside.specs.Telling.{IfTold, append_told}
 use Rattle.ptu_outside.specs.HandsOver.{HandsOver, SentOf, failed_in, sent_in}
 use Rattle.std.specs.Result.{OnErr, OnOk}
 
-told_none : (before : Option (List Departure)) → IfTold before (append_told before [])
+pub told_none : (before : Option (List Departure)) → IfTold before (append_told before [])
 told_none None = tt
 told_none (Some list) = ap Some (append-nil list)
 
-told_both : (before middle after : Option (List Departure)) (xs ys : List Departure) → IfTold middle (append_told before xs) → IfTold after (append_told middle ys)
+pub told_both : (before middle after : Option (List Departure)) (xs ys : List Departure) → IfTold middle (append_told before xs) → IfTold after (append_told middle ys)
     → IfTold after (append_told before (xs ++ ys))
 told_both before middle None xs ys first second = tt
 told_both before None (Some list) xs ys first second = absurd (cc)
@@ -50,41 +50,81 @@ items-all (w ∷ which) [] many = refl
 items-all (true ∷ which) (d ∷ ds) many = ap (λ l. d ∷ l) (items-all which ds (omega arith))
 items-all (false ∷ which) (d ∷ ds) many = absurd (omega (arith, items-le which ds))
 
-risen_both : (old now new f g : ℕ) → HasRisenBy f old now → HasRisenBy g now new → HasNotFallen now new → HasRisenBy (f + g) old new
+-- which of the datagrams were sent, of some and of those after them
+pub sent_both : (before middle after : Option (List Departure)) (ds es : List Departure) (sent more : ℕ)
+    → SentOf before middle ds sent → SentOf middle after es more → SentOf before after (ds ++ es) (sent + more)
+sent_both before middle after ds es sent more a b = record {
+  which = a.which ++ b.which;
+  each = length-append a.which b.which ∙ ap (λ n. n + length b.which) a.each ∙ ap (λ n. length ds + n) b.each ∙ sym (length-append ds es);
+  many = ap length items ∙ length-append (items_where_true a.which ds) (items_where_true b.which es) ∙ ap (λ n. n + length (items_where_true b.which es)) a.many ∙ ap (λ n. sent + n) b.many;
+  told = subst (λ l. IfTold after (append_told before l)) (sym items)
+      (told_both before middle after (items_where_true a.which ds) (items_where_true b.which es) a.told b.told);
+}
+  where
+    items : items_where_true (a.which ++ b.which) (ds ++ es) ≡ items_where_true a.which ds ++ items_where_true b.which es
+    items = items-append a.which b.which ds es a.each
+
+pub sent_none : (before : Option (List Departure)) → SentOf before before [] 0
+sent_none before = record { which = []; each = refl; many = refl; told = told_none before }
+
+-- none of these datagrams may make a port cease that may at none of all
+first_few : (ceases : Departure → Bool) (xs ys : List Departure) → AllByRecursion (λ d. ceases d ≡ false) (xs ++ ys) → AllByRecursion (λ d. ceases d ≡ false) xs
+first_few ceases [] ys few = tt
+first_few ceases (x ∷ xs) ys few = (few.0, first_few ceases xs ys few.1)
+
+last_few : (ceases : Departure → Bool) (xs ys : List Departure) → AllByRecursion (λ d. ceases d ≡ false) (xs ++ ys) → AllByRecursion (λ d. ceases d ≡ false) ys
+last_few ceases [] ys few = few
+last_few ceases (x ∷ xs) ys few = last_few ceases xs ys few.1
+
+pub goes_on_both : {S : Type 0} (ceases : Departure → Bool) (xs ys : List Departure) (old now new : S)
+    → (AllByRecursion (λ d. ceases d ≡ false) xs → now ≡ old) → (AllByRecursion (λ d. ceases d ≡ false) ys → new ≡ now)
+    → AllByRecursion (λ d. ceases d ≡ false) (xs ++ ys) → new ≡ old
+goes_on_both ceases xs ys old now new a b few = b (last_few ceases xs ys few) ∙ a (first_few ceases xs ys few)
+
+pub risen_both : (old now new f g : ℕ) → HasRisenBy f old now → HasRisenBy g now new → HasNotFallen now new → HasRisenBy (f + g) old new
 risen_both old now new f g (inl a) (inl b) c = inl (omega arith)
 risen_both old now new f g (inl a) (inr b) c = inr b
 risen_both old now new f g (inr a) b c = inr (subst (λ n. 2 ^ 64 - 1 ≤ n) (sym (c.1 a)) a)
 
-just_both : (old now new f g : ℕ) → HasRisenJust f old now → HasRisenJust g now new → HasNotFallen now new → HasRisenJust (f + g) old new
+pub just_both : (old now new f g : ℕ) → HasRisenJust f old now → HasRisenJust g now new → HasNotFallen now new → HasRisenJust (f + g) old new
 just_both old now new f g (inl a) (inl b) c = inl (omega arith)
 just_both old now new f g (inl a) (inr b) c = inr b
 just_both old now new f g (inr a) b c = inr (subst (λ n. 2 ^ 64 - 1 ≤ n) (sym (c.1 a)) a)
 
-not_fallen_both : (old now new : ℕ) → HasNotFallen old now → HasNotFallen now new → HasNotFallen old new
+pub not_fallen_both : (old now new : ℕ) → HasNotFallen old now → HasNotFallen now new → HasNotFallen old new
 not_fallen_both old now new (le, stays) (le', stays') =
     (omega arith, λ end. let one : now ≡ old = stays end in stays' (subst (λ n. 2 ^ 64 - 1 ≤ n) (sym one) end) ∙ one)
 
-rises_first : (old now new : ℕ) → HasRisen old now → HasNotFallen now new → HasRisen old new
+pub rises_first : (old now new : ℕ) → HasRisen old now → HasNotFallen now new → HasRisen old new
 rises_first old now new (inl a) c = inl (omega (arith, c.0))
 rises_first old now new (inr a) c = inr (subst (λ n. 2 ^ 64 - 1 ≤ n) (sym (c.1 a)) a)
 
-rises_second : (old now new : ℕ) → HasNotFallen old now → HasRisen now new → HasRisen old new
+pub rises_second : (old now new : ℕ) → HasNotFallen old now → HasRisen now new → HasRisen old new
 rises_second old now new c (inl a) = inl (omega (arith, c.0))
 rises_second old now new c (inr a) = inr a
 
-just_once : (old new : ℕ) → new ≡ one_more old → HasRisenJust 1 old new
+-- a count that has not risen rose by nothing
+pub none_failed : (n old new : ℕ) → HasRisenBy n old new → ¬ HasRisen old new → n ≡ 0
+none_failed zero old new rises still = refl
+none_failed (suc n) old new (inl a) still = absurd (still (inl (omega arith)))
+none_failed (suc n) old new (inr a) still = absurd (still (inr a))
+
+pub not_fallen_none : (n : ℕ) → HasNotFallen n n
+not_fallen_none n = (omega arith, λ end. refl)
+
+pub just_once : (old new : ℕ) → new ≡ one_more old → HasRisenJust 1 old new
 just_once old new is = search rules
 
 module _ {P : Type 0} (ports : Ports P) where
   pub hands_none : (port : P) → HandsOver ports port port [] 0 0
   hands_none port = record {
     each = refl;
-    some = record { which = []; each = refl; many = refl; told = told_none (ports.sent port) };
+    some = sent_none (ports.sent port);
     all = λ still. told_none (ports.sent port);
     risen = inl (omega arith);
     just = λ once. inl (omega arith);
     quiet = λ none. refl;
-    no_fall = (omega arith, λ end. refl);
+    no_fall = not_fallen_none (ports.faults port);
     waiting = refl;
     goes_on = λ none few. refl;
   }
@@ -141,13 +181,7 @@ module _ {P : Type 0} (ports : Ports P) where
       → HandsOver ports old new (ds ++ es) (sent + more) (failed + worse)
   hands-append old now new ds es sent failed more worse a b = record {
     each = (let one : sent + failed ≡ length ds = a.each in let two : more + worse ≡ length es = b.each in omega (arith, length-append ds es));
-    some = record {
-      which = a.some.which ++ b.some.which;
-      each = length-append a.some.which b.some.which ∙ ap (λ n. n + length b.some.which) a.some.each ∙ ap (λ n. length ds + n) b.some.each ∙ sym (length-append ds es);
-      many = ap length items ∙ length-append (items_where_true a.some.which ds) (items_where_true b.some.which es) ∙ ap (λ n. n + length (items_where_true b.some.which es)) a.some.many ∙ ap (λ n. sent + n) b.some.many;
-      told = subst (λ l. IfTold (ports.sent new) (append_told (ports.sent old) l)) (sym items)
-          (told_both (ports.sent old) (ports.sent now) (ports.sent new) (items_where_true a.some.which ds) (items_where_true b.some.which es) a.some.told b.some.told);
-    };
+    some = sent_both (ports.sent old) (ports.sent now) (ports.sent new) ds es sent more a.some b.some;
     all = λ still. told_both (ports.sent old) (ports.sent now) (ports.sent new) ds es
         (a.all (λ rises. still (rises_first (ports.faults old) (ports.faults now) (ports.faults new) rises b.no_fall)))
         (b.all (λ rises. still (rises_second (ports.faults old) (ports.faults now) (ports.faults new) a.no_fall rises)));
@@ -156,16 +190,5 @@ module _ {P : Type 0} (ports : Ports P) where
     quiet = λ none. b.quiet (omega (arith, none)) ∙ a.quiet (omega (arith, none));
     no_fall = not_fallen_both (ports.faults old) (ports.faults now) (ports.faults new) a.no_fall b.no_fall;
     waiting = b.waiting ∙ a.waiting;
-    goes_on = λ none few. b.goes_on (omega (arith, none)) (second ds es few) ∙ a.goes_on (omega (arith, none)) (first ds es few);
+    goes_on = λ none. goes_on_both ports.ceases_at ds es (ports.has_ceased old) (ports.has_ceased now) (ports.has_ceased new) (a.goes_on (omega (arith, none))) (b.goes_on (omega (arith, none)));
   }
-    where
-      items : items_where_true (a.some.which ++ b.some.which) (ds ++ es) ≡ items_where_true a.some.which ds ++ items_where_true b.some.which es
-      items = items-append a.some.which b.some.which ds es a.some.each
-
-      first : (xs ys : List Departure) → AllByRecursion (λ d. ports.ceases_at d ≡ false) (xs ++ ys) → AllByRecursion (λ d. ports.ceases_at d ≡ false) xs
-      first [] ys few = tt
-      first (x ∷ xs) ys few = (few.0, first xs ys few.1)
-
-      second : (xs ys : List Departure) → AllByRecursion (λ d. ports.ceases_at d ≡ false) (xs ++ ys) → AllByRecursion (λ d. ports.ceases_at d ≡ false) ys
-      second [] ys few = few
-      second (x ∷ xs) ys few = second xs ys few.1

@@ -27,11 +27,9 @@ pub(crate) fn answer_request<P: Port>(
     requires { IsWithinLimits config.now }
     ensures at { moment_of_answer result ≡ at }
     ensures answer { met_by result ≡ answer_by at lease }
-    ensures sends { HandsOver (P.sent port.old) (P.sent port.new) (P.faults port.old)
-        (P.faults port.new)
+    ensures sends { HandsOver P.Port port.old port.new
         (responses (met_by result) (response_of config.now at client.now request.now))
         (sent_by result) (failed_by result) }
-    ensures waiting { P.waiting port.new ≡ P.waiting port.old }
 {
     let Some(lease) = lease else {
         return Answered::NoGrant { at };

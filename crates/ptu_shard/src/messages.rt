@@ -1,17 +1,16 @@
 //! The timing messages of a grandmaster (IEEE 1588-2019 clause 13).
 
-ghost use Rattle.std.specs.Prelude.{◌≡◌, [], ◌∷◌, List, true, OnOk, OnErr};
+ghost use Rattle.std.specs.Prelude.{◌≡◌, [], ◌∷◌, List, true};
 ghost use Rattle.ptu_history.specs.Turns.{is_turned};
 ghost use Rattle.ptu_messages.specs.Sent.{IsFixed};
-ghost use Rattle.ptu_outside.specs.Faults.{HasRisen, HasNotFallen};
-ghost use Rattle.ptu_outside.specs.Telling.{IfTold, append_told};
+ghost use Rattle.ptu_outside.specs.HandsOver.{HandsOver, failed_in, sent_in};
 ghost use Rattle.ptu_shard.specs.Config.{IsWithinLimits};
 ghost use Rattle.ptu_shard.specs.Messages.{announce_of, header_of, message_of_response, message_of_turn, octets_sent};
 
 use crate::config::GmConfig;
 use ptu_header::Header;
 use ptu_messages::{AnnounceBody, Body, Message, write_fixed};
-use ptu_outside::{Channel, Failed, Port};
+use ptu_outside::{Channel, Failed, Port, hand};
 use ptu_units::timescale::stamp;
 use ptu_units::{Kind, Moment};
 
@@ -90,15 +89,11 @@ pub(crate) fn send_fixed<P: Port>(
     message: &Message,
 ) -> Result<(), Failed>
     requires { IsFixed message.now }
-    ensures handed { OnOk result (IfTold (P.sent port.new) (append_told (P.sent port.old)
-        (record { ip = ip; channel = channel; bytes = octets_sent message.now } ∷ []))) }
-    ensures kept { OnErr result (IfTold (P.sent port.new) (P.sent port.old)) }
-    ensures waiting { P.waiting port.new ≡ P.waiting port.old }
-    ensures risen { OnErr result (HasRisen (P.faults port.old) (P.faults port.new)) }
-    ensures quiet { OnOk result (P.faults port.new ≡ P.faults port.old) }
-    ensures no_fall { HasNotFallen (P.faults port.old) (P.faults port.new) }
+    ensures { HandsOver P.Port port.old port.new
+        (record { ip = ip; channel = channel; bytes = octets_sent message.now } ∷ [])
+        (sent_in result) (failed_in result) }
 {
     let mut octets = [0; 64];
     let size = write_fixed(message, &mut octets);
-    port.send(ip, channel, &octets[..size])
+    hand(port, ip, channel, &octets[..size])
 }

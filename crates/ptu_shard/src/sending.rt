@@ -1,8 +1,7 @@
 //! Timing messages as they are handed to a port.
 
-ghost use Rattle.std.specs.Prelude.{◌≡◌, ◌∷◌, [], List, true, OnOk, OnErr};
-ghost use Rattle.ptu_outside.specs.Faults.{HasRisen, HasNotFallen};
-ghost use Rattle.ptu_outside.specs.Telling.{IfTold, append_told};
+ghost use Rattle.std.specs.Prelude.{◌≡◌, ◌∷◌, [], List, true};
+ghost use Rattle.ptu_outside.specs.HandsOver.{HandsOver, failed_in, sent_in};
 ghost use Rattle.ptu_history.specs.Turns.{is_turned};
 ghost use Rattle.ptu_shard.specs.Config.{IsWithinLimits};
 ghost use Rattle.ptu_shard.specs.Messages.{channel_of, departure_of, response_of};
@@ -35,13 +34,9 @@ pub(crate) fn send_message<P: Port>(
 ) -> Result<(), Failed>
     requires limits { IsWithinLimits config.now }
     requires turned { is_turned row.now.kind ≡ true }
-    ensures handed { OnOk result (IfTold (P.sent port.new) (append_told (P.sent port.old)
-        (departure_of config.now at (message_of_row row.now) ∷ []))) }
-    ensures kept { OnErr result (IfTold (P.sent port.new) (P.sent port.old)) }
-    ensures waiting { P.waiting port.new ≡ P.waiting port.old }
-    ensures risen { OnErr result (HasRisen (P.faults port.old) (P.faults port.new)) }
-    ensures quiet { OnOk result (P.faults port.new ≡ P.faults port.old) }
-    ensures no_fall { HasNotFallen (P.faults port.old) (P.faults port.new) }
+    ensures { HandsOver P.Port port.old port.new
+        (departure_of config.now at (message_of_row row.now) ∷ [])
+        (sent_in result) (failed_in result) }
 {
     let message = turn_message(config, at, row.kind, row.lease.seq);
     send_fixed(port, row.client.ip, channel(row.kind), &message)
@@ -56,13 +51,9 @@ pub(crate) fn send_response<P: Port>(
     request: &Header,
 ) -> Result<(), Failed>
     requires { IsWithinLimits config.now }
-    ensures handed { OnOk result (IfTold (P.sent port.new) (append_told (P.sent port.old)
-        (response_of config.now at client.now request.now ∷ []))) }
-    ensures kept { OnErr result (IfTold (P.sent port.new) (P.sent port.old)) }
-    ensures waiting { P.waiting port.new ≡ P.waiting port.old }
-    ensures risen { OnErr result (HasRisen (P.faults port.old) (P.faults port.new)) }
-    ensures quiet { OnOk result (P.faults port.new ≡ P.faults port.old) }
-    ensures no_fall { HasNotFallen (P.faults port.old) (P.faults port.new) }
+    ensures { HandsOver P.Port port.old port.new
+        (response_of config.now at client.now request.now ∷ [])
+        (sent_in result) (failed_in result) }
 {
     let message = response_message(config, at, request);
     send_fixed(port, client.ip, Channel::General, &message)

@@ -245,11 +245,9 @@ impl<P: Port> Shard<P> {
         ensures at { result.at ≡ max t self.old.moment }
         ensures moment { self.new.moment ≡ result.at }
         // Every lawful message is handed to the port, in order, and nothing else.
-        ensures sends { HandsOver (P.sent self.old.port) (P.sent self.new.port)
-            (P.faults self.old.port) (P.faults self.new.port)
+        ensures sends { HandsOver P.Port self.old.port self.new.port
             (map (departure_of config.now result.at) (due_messages result.at self.old.rows))
             result.sent result.failed }
-        ensures waiting { P.waiting self.new.port ≡ P.waiting self.old.port }
         ensures rows { IsPermutation
             (spent_where (is_due_row result.at) result.at self.old.rows) self.new.rows }
         ensures spare { self.old.spare ≤ self.new.spare }
@@ -263,9 +261,13 @@ impl<P: Port> Shard<P> {
             StandsFor j self.new (history ++ (step opened history result.at (Turn j)).records) }
     {
         let at = t.latest(self.moment);
-        let (sent, failed) = send_due(&mut self.rows, &mut self.edges, &mut self.port, config, at);
+        let sends = send_due(&mut self.rows, &mut self.edges, &mut self.port, config, at);
         self.moment = at;
-        Turned { at, sent, failed }
+        Turned {
+            at,
+            sent: sends.sent,
+            failed: sends.failed,
+        }
     }
 
     /// Answers a Delay_Req of the client at the greater of `t` and the table's moment: by one
@@ -283,12 +285,10 @@ impl<P: Port> Shard<P> {
         ensures moment { self.new.moment ≡ max t self.old.moment }
         ensures answer { met_by result
             ≡ answer_by self.new.moment (lease_of client.now DelayResp self.old.rows) }
-        ensures sends { HandsOver (P.sent self.old.port) (P.sent self.new.port)
-            (P.faults self.old.port) (P.faults self.new.port)
+        ensures sends { HandsOver P.Port self.old.port self.new.port
             (responses (met_by result)
             (response_of config.now self.new.moment client.now request.now))
             (sent_by result) (failed_by result) }
-        ensures waiting { P.waiting self.new.port ≡ P.waiting self.old.port }
         ensures rows { IsPermutation
             (spent_where
             (is_answering_row self.new.moment client.now) self.new.moment self.old.rows)

@@ -18,7 +18,7 @@ use crate::queueing::edge_of;
 use crate::rows::{Key, spend_due};
 use crate::sending::send_message;
 use indexmap::IndexMap;
-use ptu_outside::Port;
+use ptu_outside::{Port, Sends};
 use ptu_units::Moment;
 
 /// The next row that is due at the moment, as it was before it spends a period and a sequence
@@ -46,21 +46,19 @@ fn next_due(rows: &mut IndexMap<Key, Lease>, edges: &mut Queue, at: Moment) -> O
 }
 
 /// Hands the message of each row that is due to the port, in order, and each such row spends a
-/// period and a sequence number. Gives how many were sent and how many sends failed.
+/// period and a sequence number. Gives how many were sent and how many failed to be.
 pub(crate) fn send_due<P: Port>(
     rows: &mut IndexMap<Key, Lease>,
     edges: &mut Queue,
     port: &mut P,
     config: &GmConfig,
     at: Moment,
-) -> (u64, u64)
+) -> Sends
     requires limits { IsWithinLimits config.now }
     requires edges { HasEdges at (rows_of rows.old.entries) edges.old.entries }
-    ensures sends { HandsOver (P.sent port.old) (P.sent port.new) (P.faults port.old)
-        (P.faults port.new)
+    ensures sends { HandsOver P.Port port.old port.new
         (map (departure_of config.now at) (due_messages at (rows_of rows.old.entries)))
-        result.0 result.1 }
-    ensures waiting { P.waiting port.new ≡ P.waiting port.old }
+        result.sent result.failed }
     ensures rows { rows_of rows.new.entries
         ≡ spent_where (is_due_row at) at (rows_of rows.old.entries) }
     ensures edges { HasEdges at (rows_of rows.new.entries) edges.new.entries }
@@ -68,13 +66,9 @@ pub(crate) fn send_due<P: Port>(
     ensures capacity { edges.old.capacity ≤ edges.new.capacity }
 {
     let _count = rows.len();
-    let mut sent = 0;
-    let mut failed = 0;
+    let mut sends = Sends::none();
     while let Some(row) = next_due(rows, edges, at) {
-        match send_message(port, config, at, &row) {
-            Ok(()) => sent += 1,
-            Err(_) => failed += 1,
-        }
+        sends = sends.and(Sends::of(send_message(port, config, at, &row)));
     }
-    (sent, failed)
+    sends
 }

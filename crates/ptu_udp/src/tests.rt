@@ -1,25 +1,109 @@
-use crate::UdpHost;
-use ptu_outside::{Channel, Host, Port};
+use crate::{SysClock, UdpHost, UdpPort};
+use ptu_outside::{Channel, Clock, Host, Opened, Port};
+use std::net::Net;
+use std::process::Abort;
+use std::time::{Duration, Instant};
+use std::{thread, time};
 
 const LOOPBACK: u32 = 0x7f00_0001;
+
+// The ports and clocks of this host at the first two UDP port numbers from this one on that are
+// free.
+fn open<R: Net + time::Clock + Copy + Send>(
+    rt: &impl Abort,
+    host: &mut UdpHost<R>,
+    first: u16,
+) -> Opened<UdpPort<R>, SysClock<R>> {
+    for pair in 0..100 {
+        let number = first.saturating_add(2 * pair);
+        if let Ok(opened) = host.open(LOOPBACK, number, number.saturating_add(1)) {
+            return opened;
+        }
+    }
+    panic!(rt; "no port number is free");
+}
+
+// The next datagram that comes to the port: the sender and the length.
+fn next<P: Port>(rt: &impl Abort, port: &mut P, buf: &mut [u8; 2048]) -> (u32, usize) {
+    for _ in 0..10000 {
+        if let Ok(Some(got)) = port.receive(buf) {
+            return got;
+        }
+    }
+    panic!(rt; "nothing came");
+}
 
 #[test]
 fn a_datagram_of_port_0_comes_to_port_4(rt: HostRuntime) {
     let mut host = UdpHost::new(rt);
-    let Ok(mut opened) = host.open(LOOPBACK, 21319, 21320) else {
-        panic!(rt; "the ports are not opened");
-    };
+    let mut opened = open(&rt, &mut host, 21319);
     let sent = opened.p0.send(LOOPBACK, Channel::General, b"eight by");
     assert!(rt; sent.is_ok());
     let mut buf = [0; 2048];
-    for _ in 0..10000 {
-        if let Ok(Some((from, length))) = opened.p4.receive(&mut buf) {
-            assert_eq!(rt; from, LOOPBACK);
-            assert_eq!(rt; length, 8);
-            assert!(rt; buf[..8].iter().eq(b"eight by".iter()));
-            host.close(opened);
-            return;
-        }
+    let (from, length) = next(&rt, &mut opened.p4, &mut buf);
+    assert_eq!(rt; from, LOOPBACK);
+    assert_eq!(rt; length, 8);
+    assert!(rt; buf[..8].iter().eq(b"eight by".iter()));
+    host.close(opened);
+}
+
+// It refuses a port that sends both channels to one number, and a host whose ports 4 and 5 are
+// exchanged.
+#[test]
+fn a_datagram_of_the_event_channel_comes_to_port_5(rt: HostRuntime) {
+    let mut host = UdpHost::new(rt);
+    let mut opened = open(&rt, &mut host, 21519);
+    let sent = opened.p1.send(LOOPBACK, Channel::Event, b"event");
+    assert!(rt; sent.is_ok());
+    let mut buf = [0; 2048];
+    let (from, length) = next(&rt, &mut opened.p5, &mut buf);
+    assert_eq!(rt; from, LOOPBACK);
+    assert_eq!(rt; length, 5);
+    assert!(rt; buf[..5].iter().eq(b"event".iter()));
+    assert_eq!(rt; opened.p4.receive(&mut buf), Ok(None));
+    host.close(opened);
+}
+
+// It refuses a port that hands the front of a longer datagram on as if it were whole, and one that
+// leaves out a datagram of 2048 octets.
+#[test]
+fn a_longer_datagram_is_left_out(rt: HostRuntime) {
+    let mut host = UdpHost::new(rt);
+    let mut opened = open(&rt, &mut host, 21719);
+    for bytes in [&[7; 3000][..], &[8; 2049][..], &[9; 2048][..]] {
+        let sent = opened.p2.send(LOOPBACK, Channel::General, bytes);
+        assert!(rt; sent.is_ok());
     }
-    panic!(rt; "nothing came");
+    let mut buf = [0; 2048];
+    let (_, length) = next(&rt, &mut opened.p4, &mut buf);
+    assert_eq!(rt; length, 2048);
+    assert_eq!(rt; (buf[0], buf[2047]), (9, 9));
+    assert_eq!(rt; opened.p4.receive(&mut buf), Ok(None));
+    host.close(opened);
+}
+
+// It refuses clocks that stand still, clocks of one host with a zero each, and one that counts
+// anything but nanoseconds.
+#[test]
+fn the_clocks_count_nanoseconds_from_one_zero(rt: HostRuntime) {
+    let mut host = UdpHost::new(rt);
+    let mut opened = open(&rt, &mut host, 21919);
+    let mut last = 0;
+    for _ in 0..1000 {
+        let now = opened.c0.now().nanos();
+        let then = opened.c5.now().nanos();
+        assert!(rt; last <= now && now <= then);
+        last = then;
+    }
+    let before = Instant::now(&rt).expect(&rt, "the clock is read");
+    let first = opened.c0.now().nanos();
+    let inside = Instant::now(&rt).expect(&rt, "the clock is read");
+    thread::sleep(&rt, Duration::from_millis(2));
+    let slept = inside.elapsed(&rt).expect(&rt, "the clock is read");
+    let later = opened.c0.now().nanos();
+    let around = before.elapsed(&rt).expect(&rt, "the clock is read");
+    assert!(rt; first < later);
+    let counted = u128::from(later.saturating_sub(first));
+    assert!(rt; slept.as_nanos() <= counted && counted <= around.as_nanos());
+    host.close(opened);
 }

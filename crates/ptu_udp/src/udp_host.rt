@@ -68,6 +68,8 @@ impl<R: Net + Clock + Copy + Send> Host for UdpHost<R> {
 
     ghost back = { λ _. None };
 
+    ghost opened_at = { λ _. None };
+
     ghost faults = { λ h. h };
 
     /// Fails where the system refuses a socket, as at a port number that another program has, or

@@ -1,5 +1,5 @@
 ghost use Rattle.std.specs.Prelude.{◌≡◌, ◌≤◌, ◌∷◌, [], None, take, IfOk, OnOk, OnErr, IfSome, IfNone};
-ghost use Rattle.ptu_outside.specs.Faults.{HasNotFallen, HasRisen};
+ghost use Rattle.ptu_outside.specs.Faults.{HasNotFallen, HasRisen, one_more};
 ghost use Rattle.ptu_outside.specs.Telling.{IfTold, IsEmptyTold, IsFirstTold, append_told, rest_told};
 
 use ptu_outside::{Channel, Failed, Port};
@@ -12,6 +12,13 @@ use std::{io, thread};
 /// For how many microseconds a port rests that finds nothing waiting. The system may make up to
 /// 50 more of it.
 const REST: u64 = 40;
+
+/// How many octets a datagram may have. No message of PTP over UDP and IPv4 that a node takes is
+/// longer.
+const LONGEST: usize = 2048;
+
+/// How many datagrams that are longer a call leaves out before it fails.
+const MOST_LEFT_OUT: u32 = 64;
 
 /// The UDP port numbers of the two channels.
 #[derive(Clone, Copy, Debug, PartialEq, Eq)]
@@ -59,6 +66,20 @@ impl<R: Net + Clock + Drop> UdpPort<R> {
         })
     }
 
+    // The next datagram, or its front where it is longer than `buf`: its length there, and the
+    // sender. A receive that was interrupted is tried again.
+    fn take_next(&self, buf: &mut [u8; 2049]) -> io::Result<(usize, SocketAddr)>
+        ensures within { IfOk result (λ got. got.0 ≤ 2049) }
+    {
+        for _ in 0..u64::MAX {
+            match self.socket.recv_from(buf) {
+                Err(error) if error.kind() == ErrorKind::Interrupted => {}
+                other => return other,
+            }
+        }
+        Err(ErrorKind::Interrupted.into())
+    }
+
     // Nothing is there to receive.
     fn rest(&self) {
         if self.rests {
@@ -71,6 +92,7 @@ impl<R> UdpPort<R> {
     // Counts a fault.
     fn fail(&mut self) -> Failed
         ensures risen { HasRisen self.old self.new }
+        ensures once { self.new ≡ one_more self.old }
         ensures no_fall { HasNotFallen self.old self.new }
     {
         self.faults = self.faults.saturating_add(1);
@@ -102,18 +124,23 @@ impl<R: Net + Clock + Drop> Port for UdpPort<R> {
         Err(self.fail())
     }
 
-    /// A receive that was interrupted is tried again.
+    /// A receive that was interrupted is tried again. A datagram of more than 2048 octets is left
+    /// out, and the next one is taken. After 64 that are left out the call fails.
     fn receive(&mut self, buf: &mut [u8; 2048]) -> Result<Option<(u32, usize)>, Failed> {
-        for _ in 0..u64::MAX {
-            match self.socket.recv_from(buf) {
+        // One octet more tells a longer datagram from one that fits.
+        let mut taken = [0; LONGEST + 1];
+        for _ in 0..MOST_LEFT_OUT {
+            match self.take_next(&mut taken) {
                 Ok((length, SocketAddr::V4(from))) => {
-                    return Ok(Some((from.ip().to_bits(), length)));
+                    if length <= LONGEST {
+                        buf[..length].copy_from_slice(&taken[..length]);
+                        return Ok(Some((from.ip().to_bits(), length)));
+                    }
                 }
                 Err(error) if error.kind() == ErrorKind::WouldBlock => {
                     self.rest();
                     return Ok(None);
                 }
-                Err(error) if error.kind() == ErrorKind::Interrupted => {}
                 Ok(_) | Err(_) => break,
             }
         }

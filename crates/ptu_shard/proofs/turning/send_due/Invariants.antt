@@ -8,10 +8,9 @@ use Rattle.ptu_shard.proofs.turning.send_due.Given as goal
 
 abbrev pub invariant-loop-row : goal.invariant-loop-row
 invariant-loop-row g l = record {
-  sends : HasSent g.P.Port.sent g.P.Port.faults l.fn.config l.at (rows_of l.initial.rows.entries) (rows_of l.rows.entries) l.initial.port l.port l.sent l.failed;
+  sends : HasSent g.P.Port l.fn.config l.at (rows_of l.initial.rows.entries) (rows_of l.rows.entries) l.initial.port l.port l.sends.sent l.sends.failed;
   spent : spent_where (is_due_row l.at) l.at (rows_of l.rows.entries) ≡ spent_where (is_due_row l.at) l.at (rows_of l.initial.rows.entries);
   edges : HasEdges l.at (rows_of l.rows.entries) l.edges.entries;
-  waiting : g.P.Port.waiting l.port ≡ g.P.Port.waiting l.initial.port;
   spare : spare l.rows ≡ spare l.initial.rows;
   capacity : l.initial.edges.capacity ≤ l.edges.capacity;
 }

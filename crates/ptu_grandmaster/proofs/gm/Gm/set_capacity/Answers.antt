@@ -31,8 +31,8 @@ returns-clause-stands g c =
     refl in
     let Stands : ℕ → Type 0 = λ y. StandFor opening (four c.resize.new.s0 c.resize.new.s1 c.resize.new.s2 c.resize.new.s3) c.resize.new.book
     (history ++ (step opened history y (events.Resize c.args.capacity)).records) in
-    let many : c.send_cancels-sent.result.0 + c.send_cancels-sent.result.1 ≡ length (shed_grants history x c.args.capacity) =
-    c.send_cancels-sent.ensures.count ∙ ap length (c.list.ensures ∙ c.in_ok-resized.ensures.shed opening history s.decided) ∙ length-map (shed_grants history at c.args.capacity) shed_of
+    let many : c.send_cancels-sends.result.sent + c.send_cancels-sends.result.failed ≡ length (shed_grants history x c.args.capacity) =
+    c.send_cancels-sends.ensures.count ∙ ap length (c.list.ensures ∙ c.in_ok-resized.ensures.shed opening history s.decided) ∙ length-map (shed_grants history at c.args.capacity) shed_of
     ∙ ap (λ y. length (shed_grants history y c.args.capacity)) is in
     after_change opening _ _ history x c.args.capacity _ (shed_grants history x c.args.capacity) s refl refl c.later-self-inside.ensures many
     (subst Stands is (c.in_ok-resized.ensures.stands opened history s.decided)))
