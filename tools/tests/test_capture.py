@@ -4,6 +4,8 @@ from __future__ import annotations
 
 import io
 import json
+import os
+import subprocess
 import tempfile
 import unittest
 from pathlib import Path
@@ -14,6 +16,7 @@ from support import (
     EXAMPLES,
     PTP4L,
     REPORT,
+    TOOLS,
     ethernet,
     ip_packet,
     pcap,
@@ -163,6 +166,15 @@ class FromPcap(unittest.TestCase):
         self.assertEqual(sum(b" granted " in it for it in report), 3)
         self.assertEqual(sum(b" ignored " in it for it in report), 0)
         self.assertIsNotNone(program())
+
+
+class Scripts(unittest.TestCase):
+    def test_each_tool_is_a_command(self) -> None:
+        for name in ("from-pcap", "observe", "plot", "scenario"):
+            quiet = {**os.environ, "PYTHONDONTWRITEBYTECODE": "1"}
+            ran = subprocess.run([str(TOOLS / name), "--help"], capture_output=True, env=quiet)
+            self.assertEqual((ran.returncode, ran.stderr), (0, b""), name)
+            self.assertTrue(ran.stdout.startswith(f"usage: {name} ".encode()), name)
 
 
 class Observed(unittest.TestCase):
