@@ -4,16 +4,16 @@ from __future__ import annotations
 
 import unittest
 import xml.etree.ElementTree as xml
+from typing import Any
 
 import picture
-import ptp
 from support import EXAMPLES, REPORT, TOOLS, ptpuni, run, tool, wants_program
 
 plot = tool("plot")
 SCRIPT = EXAMPLES / "falling-capacity.script"
 
 
-def story(with_script: bool = True) -> plot.Story:
+def story(with_script: bool = True) -> Any:
     script = plot.read_script(SCRIPT.read_text().splitlines()) if with_script else plot.Script()
     return plot.read_story(REPORT.read_text().splitlines(), script, {})
 
