@@ -6,6 +6,7 @@ import struct
 from collections import Counter
 from collections.abc import Iterator
 from dataclasses import dataclass, field
+from functools import lru_cache
 from typing import BinaryIO
 
 SECOND = 10**9
@@ -19,7 +20,7 @@ class NotACapture(ValueError):
     """Why a file is no capture."""
 
 
-@dataclass(frozen=True, slots=True)
+@dataclass(slots=True)
 class Datagram:
     """A datagram and its moment, in nanoseconds of the clock that the capture was made by."""
 
@@ -145,6 +146,7 @@ class Capture:
         return Datagram(moment, dotted(packet[12:16]), sender_port, dotted(packet[16:20]), receiver_port, octets)
 
 
+@lru_cache(maxsize=65536)
 def dotted(octets: bytes) -> str:
     return ".".join(map(str, octets))
 

@@ -100,11 +100,12 @@ def straightened(points: list[Point]) -> list[Point]:
 
 @dataclass(slots=True)
 class Picture:
-    """A picture that grows downwards."""
+    """A picture that grows downwards. Its curves end at the last moment that is told, a little before its border."""
 
     title: str
     subtitle: str
     time: Axis
+    last: float
     elements: list[str] = field(default_factory=list)
     y: float = 62
 
@@ -152,9 +153,9 @@ class Picture:
         return axis
 
     def steps(self, axis: Axis, steps: Steps, colour: str, filled: bool = False, dashes: str = "") -> None:
-        """A curve that stays as it is until its next step, to the end of the time."""
+        """A curve that stays as it is until its next step, to the last moment."""
         corners: list[Point] = []
-        for at, value in [*steps, (self.time.greatest, steps[-1][1] if steps else 0.0)]:
+        for at, value in [*steps, (self.last, steps[-1][1])] if steps else []:
             x, y = self.time.place(at), axis.place(value)
             if corners:
                 corners.append((x, corners[-1][1]))

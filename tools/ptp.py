@@ -5,6 +5,7 @@ from __future__ import annotations
 import re
 from collections.abc import Iterable, Iterator
 from dataclasses import dataclass
+from typing import NamedTuple
 
 SECOND = 10**9
 CODES = {"announce": 11, "sync": 0, "delay_resp": 9}
@@ -27,8 +28,7 @@ class Refused(ValueError):
 # -- Datagrams (IEEE 1588-2019 clauses 13 and 14) --------------------------------------------------------------------
 
 
-@dataclass(frozen=True, slots=True, order=True)
-class PortIdentity:
+class PortIdentity(NamedTuple):
     """A sourcePortIdentity, or a target."""
 
     clock: int
@@ -67,7 +67,7 @@ class Acknowledge:
 Tlv = Request | Grant | Cancel | Acknowledge
 
 
-@dataclass(frozen=True, slots=True)
+@dataclass(slots=True)
 class Message:
     """A message as far as these tools read it. Fields that its type does not have are None."""
 

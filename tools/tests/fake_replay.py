@@ -1,6 +1,6 @@
 """Stands in for `ptpuni replay` where there is none: each tick of a slave sends a datagram to the first grandmaster,
 which answers each that it is delivered. With the word `short` it ends early, with `bad` it refuses line 5, and with
-`late` it answers only when its input ends."""
+`late` it takes six lines for the whole script."""
 
 import sys
 
@@ -9,7 +9,6 @@ def main() -> None:
     how = sys.argv[1]
     grandmaster = ""
     sent: list[tuple[str, str]] = []
-    late: list[str] = []
     for at, line in enumerate(sys.stdin, 1):
         words = line.split()
         said = []
@@ -28,13 +27,13 @@ def main() -> None:
         for sender, receiver in ways:
             sent.append((sender, receiver))
             said.append(f"{at} send {len(sent)} {sender} {receiver} general 00")
-        if how == "late":
-            late += said
-        else:
-            print(*said, sep="\n", end="\n" if said else "", flush=True)
+        if how == "late" and at == 6:
+            break
+        if said and how != "late":
+            print(*said, sep="\n", flush=True)
         if how == "short" and at == 5:
             sys.exit(3)
-    print(*late, f"end 0 {len(sent)}", sep="\n", flush=True)
+    print(f"end 0 {len(sent)}", flush=True)
 
 
 main()

@@ -3,16 +3,19 @@
 from __future__ import annotations
 
 import importlib.util
+import io
 import os
 import struct
 import subprocess
 import sys
 import unittest
 from collections.abc import Iterable
+from functools import cache
 from importlib.machinery import SourceFileLoader
 from ipaddress import IPv4Address
 from pathlib import Path
 from types import ModuleType
+from unittest import mock
 
 TOOLS = Path(__file__).resolve().parent.parent
 EXAMPLES = TOOLS.parent / "examples"
@@ -21,6 +24,7 @@ REPORT = DATA / "falling-capacity.report"
 PTP4L = DATA / "ptp4l.pcap"
 
 
+@cache
 def tool(name: str) -> ModuleType:
     """A tool's script as a module."""
     loader = SourceFileLoader(name.replace("-", "_"), str(TOOLS / name))
@@ -32,10 +36,31 @@ def tool(name: str) -> ModuleType:
     return module
 
 
+class Stream(io.TextIOWrapper):
+    """A standard stream in memory."""
+
+    def __init__(self, given: bytes = b"") -> None:
+        self.octets = io.BytesIO(given)
+        super().__init__(self.octets, encoding="utf-8")
+
+    def content(self) -> bytes:
+        self.flush()
+        return self.octets.getvalue()
+
+
 def run(name: str, *words: str | Path, given: bytes = b"") -> subprocess.CompletedProcess[bytes]:
-    """Runs a tool to its end."""
-    command = [sys.executable, "-B", str(TOOLS / name), *map(str, words)]
-    return subprocess.run(command, input=given, capture_output=True, timeout=50)
+    """Runs a tool to its end, in this process: to start python so often takes longer than the tests."""
+    argv = [name, *map(str, words)]
+    out, err = Stream(), Stream()
+    with (
+        mock.patch.multiple(sys, argv=argv, stdin=Stream(given), stdout=out, stderr=err),
+        mock.patch("signal.signal"),
+    ):
+        try:
+            status = tool(name).main()
+        except SystemExit as end:
+            status = int(end.code or 0)
+    return subprocess.CompletedProcess(argv, status, out.content(), err.content())
 
 
 def program() -> Path | None:
@@ -64,11 +89,11 @@ def ethernet(packet: bytes, tag: bytes = b"") -> bytes:
 def pcap(frames: Iterable[tuple[int, bytes]], order: str = "<", link_type: int = 1, per_second: int = 10**6) -> bytes:
     """A pcap of frames with moments in nanoseconds."""
     magic = 0xA1B2C3D4 if per_second == 10**6 else 0xA1B23C4D
-    made = struct.pack(order + "IHHiIII", magic, 2, 4, 0, 0, 65535, link_type)
+    made = [struct.pack(order + "IHHiIII", magic, 2, 4, 0, 0, 65535, link_type)]
     for moment, frame in frames:
         parts = moment % 10**9 * per_second // 10**9
-        made += struct.pack(order + "IIII", moment // 10**9, parts, len(frame), len(frame)) + frame
-    return made
+        made.append(struct.pack(order + "IIII", moment // 10**9, parts, len(frame), len(frame)) + frame)
+    return b"".join(made)
 
 
 def pcapng(frames: Iterable[tuple[int, bytes]], order: str = "<") -> bytes:

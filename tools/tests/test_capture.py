@@ -4,16 +4,21 @@ from __future__ import annotations
 
 import io
 import json
+import os
+import subprocess
 import tempfile
 import unittest
 from pathlib import Path
+from typing import Any
 
 import capture
 import ptp
+from ledger import Ledger
 from support import (
     EXAMPLES,
     PTP4L,
     REPORT,
+    TOOLS,
     ethernet,
     ip_packet,
     pcap,
@@ -165,8 +170,17 @@ class FromPcap(unittest.TestCase):
         self.assertIsNotNone(program())
 
 
+class Scripts(unittest.TestCase):
+    def test_each_tool_is_a_command(self) -> None:
+        for name in ("from-pcap", "observe", "plot", "scenario"):
+            quiet = {**os.environ, "PYTHONDONTWRITEBYTECODE": "1"}
+            ran = subprocess.run([str(TOOLS / name), "--help"], capture_output=True, env=quiet)
+            self.assertEqual((ran.returncode, ran.stderr), (0, b""), name)
+            self.assertTrue(ran.stdout.startswith(f"usage: {name} ".encode()), name)
+
+
 class Observed(unittest.TestCase):
-    def observe(self, given: bytes, ip: str, *words: str) -> list[dict[str, object]]:
+    def observe(self, given: bytes, ip: str, *words: str) -> list[dict[str, Any]]:
         ran = run("observe", ip, "--read", "-", "--json", *words, given=given)
         self.assertEqual((ran.returncode, ran.stderr), (0, b""))
         return [json.loads(it) for it in ran.stdout.splitlines()]
@@ -202,6 +216,28 @@ class Observed(unittest.TestCase):
         tail = pcap([(MOMENT + 305 * 10**9, late)], per_second=10**9)[24:]
         last = self.observe(with_end + tail, "10.0.0.1", "--every", "50")[-1]
         self.assertEqual((last["held"], last["clients"][0]["sync"]["state"]), (24, "over"))
+
+    def test_denials_and_cancels(self) -> None:
+        """A denial leaves the former grant as it is; a CANCEL of the client ends its grant, and of no other kind."""
+        seen = Ledger("10.0.0.1", 10 * ptp.SECOND)
+        head, own, ones = "0c120038040004" + "00" * 13, "0a000000000000010001", "ff" * 10
+        client = "0a000000000000110001"
+
+        def signal(second: int, from_master: bool, tlvs: str) -> None:
+            source, target = (own, client) if from_master else (client, ones)
+            octets = bytearray.fromhex(head + source + "0000057f" + target + tlvs)
+            octets[3] = len(octets)
+            ways = ("10.0.0.1", 320, "10.0.1.17", 320) if from_master else ("10.0.1.17", 320, "10.0.0.1", 320)
+            seen.take(capture.Datagram(second * ptp.SECOND, *ways, bytes(octets)))
+
+        signal(1, True, "00050008b0010000012c0001" + "0005000800000000003c0001")
+        self.assertEqual((seen.held(2 * ptp.SECOND), seen.held(61 * ptp.SECOND)), (24, 8))
+        signal(2, True, "00050008b001000000000000")
+        self.assertEqual((seen.held(3 * ptp.SECOND), seen.counts["denials"]), (24, 1))
+        signal(4, False, "00060002b000")
+        self.assertEqual((seen.held(5 * ptp.SECOND), seen.counts["cancels received"]), (16, 1))
+        signal(6, True, "000500080002" + "0000012c0001")
+        self.assertEqual((seen.held(7 * ptp.SECOND), seen.held(306 * ptp.SECOND)), (4, 0))
 
     def test_table(self) -> None:
         table = run("observe", GM, "--read", PTP4L, "--capacity", "640").stdout.decode()

@@ -4,16 +4,16 @@ from __future__ import annotations
 
 import unittest
 import xml.etree.ElementTree as xml
+from typing import Any
 
 import picture
-import ptp
-from support import EXAMPLES, REPORT, run, tool
+from support import EXAMPLES, REPORT, TOOLS, ptpuni, run, tool, wants_program
 
 plot = tool("plot")
 SCRIPT = EXAMPLES / "falling-capacity.script"
 
 
-def story(with_script: bool = True) -> plot.Story:
+def story(with_script: bool = True) -> Any:
     script = plot.read_script(SCRIPT.read_text().splitlines()) if with_script else plot.Script()
     return plot.read_story(REPORT.read_text().splitlines(), script, {})
 
@@ -70,6 +70,19 @@ class Curves(unittest.TestCase):
     def test_ticks(self) -> None:
         self.assertEqual(picture.ticks(0, 10, 5), [0, 2, 4, 6, 8, 10])
         self.assertEqual(picture.ticks(0, 0.03, 4), [0, 0.01, 0.02, 0.03])
+
+
+class Pictures(unittest.TestCase):
+    """The pictures in docs/ are those of the examples."""
+
+    @wants_program
+    def test_stored_pictures(self) -> None:
+        for name in ("falling-capacity", "lost-delay-resp", "two-masters", "under-load"):
+            script = EXAMPLES / f"{name}.script"
+            report = ptpuni("replay", script.read_bytes())
+            drawn = run("plot", "-", "--title", name, "--script", script, given=report).stdout
+            stored = TOOLS.parent / "docs/pictures" / f"{name}.svg"
+            self.assertEqual(drawn.decode(), stored.read_text(), name)
 
 
 class Commands(unittest.TestCase):

@@ -44,8 +44,8 @@ class Plans(unittest.TestCase):
         self.assertEqual([it.table for it in made.slaves], [2, 3])
 
     def test_moments_are_exact(self) -> None:
-        made = plan.read_plan(SMALL.replace("length = 20", "length = 4611686017.000000001"))
-        self.assertEqual(made.length, 4611686017000000001)
+        made = plan.read_plan(SMALL.replace("length = 20", "length = 4611686016.000000001"))
+        self.assertEqual(made.length, 4611686016000000001)
 
     def test_refused(self) -> None:
         slave = '[[slaves]]\nip = "10.0.1.9"\nmasters = ["10.0.0.1"]\n'
@@ -185,6 +185,7 @@ class Runs(unittest.TestCase):
         wanted = {
             "short": b"ended with status 3 before its script did",
             "bad": b"refused a line: 5 bad field 3",
+            "late": b"ended with status 0 before its script did: name a built program",
         }
         for how, why in wanted.items():
             ran = run("scenario", file, "--ptpuni", self.fake(how))
