@@ -3,6 +3,7 @@ ghost use Rattle.ptu_outside.specs.declared.opened.Opened.{Opened};
 ghost use Rattle.ptu_outside.specs.Handing.{HasPutPart};
 ghost use Rattle.ptu_config.specs.Limits.{IsSlaveInRange};
 ghost use Rattle.ptu_judges.specs.Held.{IsStock};
+ghost use Rattle.ptu_rounds.specs.Opening.{OpenedAt};
 ghost use Rattle.ptu_slave_daemon.specs.Answers.{CountsOpen, CountsWrite, FailsWith, WasGivenBack, WasOpened};
 ghost use Rattle.ptu_slave_daemon.specs.Happenings.{Selection};
 ghost use Rattle.ptu_slave_daemon.specs.Lines.{output, texts_of};
@@ -127,6 +128,13 @@ pub fn slave<H: Host, K: Sink>(
         × WasOpened (H.opening host.old) before × WasGivenBack (H.back host.new) after
         × HasStopped H.P.sent H.P.waiting H.P.faults H.C.moments K.written K.handed
         settings.now before after sink.old sink.new }
+    // The host was opened at the settings' address and port numbers, and stands on what it stood on.
+    ensures at { OpenedAt result (H.opened_at host.new) (record {
+      ip = settings.now.ip;
+      event_port = settings.now.event_port;
+      general_port = settings.now.general_port;
+    }) }
+    ensures name { H.name host.new ≡ H.name host.old }
     // A fault always shows, and want of memory is none.
     ensures host_counts { CountsOpen result (H.faults host.old) (H.faults host.new) }
     ensures sink_counts { CountsWrite result (K.faults sink.old) (K.faults sink.new) }
