@@ -13,7 +13,7 @@ from typing import Any
 
 import capture
 import ptp
-from ledger import Ledger
+from ledger import Lease, Ledger
 from support import (
     EXAMPLES,
     PTP4L,
@@ -238,6 +238,15 @@ class Observed(unittest.TestCase):
         self.assertEqual((seen.held(5 * ptp.SECOND), seen.counts["cancels received"]), (16, 1))
         signal(6, True, "000500080002" + "0000012c0001")
         self.assertEqual((seen.held(7 * ptp.SECOND), seen.held(306 * ptp.SECOND)), (4, 0))
+
+    def test_rate_in_the_window(self) -> None:
+        lease = Lease(0)
+        for second in range(1, 31):
+            lease.see(second * ptp.SECOND)
+            if second > 20:
+                lease.see(second * ptp.SECOND + 1)
+        self.assertEqual(lease.seen_per_second(30 * ptp.SECOND + 2, 10 * ptp.SECOND), 2.0)
+        self.assertEqual(lease.seen_per_second(50 * ptp.SECOND, 10 * ptp.SECOND), 0.0)
 
     def test_table(self) -> None:
         table = run("observe", GM, "--read", PTP4L, "--capacity", "640").stdout.decode()

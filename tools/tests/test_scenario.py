@@ -119,6 +119,11 @@ class Runs(unittest.TestCase):
         # The last tick is at the very end, and what it sends arrives no more.
         self.assertEqual(len(delivered), 2 * 40)
 
+    def test_order_where_datagrams_are_long_on_their_way(self) -> None:
+        words = self.make(SMALL.replace("0.001, 0.004", "0.4, 0.9"))
+        moments = [int(it[1]) for it in words if it[0] in ("tick", "turn", "deliver")]
+        self.assertEqual(moments, sorted(moments))
+
     def test_delays(self) -> None:
         words = self.make(SMALL)
         sent = 0
@@ -149,10 +154,15 @@ class Runs(unittest.TestCase):
         self.assertEqual(len(self.moments(words, "deliver")), 2 * 20)
 
     def test_outages(self) -> None:
-        words = self.make(SMALL + '[[outages]]\nnode = "10.0.0.1"\nfrom = 5\nuntil = 10\n')
+        outage = '[[outages]]\nnode = "10.0.0.1"\nfrom = 5\nuntil = 10\n'
+        words = self.make(SMALL + outage)
         within = [it for it in self.moments(words, "deliver") if 5 * 10**9 <= it < 10 * 10**9]
         self.assertEqual(within, [])
         self.assertEqual(len(self.moments(words, "deliver")), 2 * 30)
+        # Also what was sent before it and would arrive in it.
+        words = self.make(SMALL.replace("[0.001, 0.004]", "0.6") + outage)
+        within = [it for it in self.moments(words, "deliver") if 5 * 10**9 <= it < 10 * 10**9]
+        self.assertEqual(within, [])
         words = self.make(SMALL + '[[outages]]\nbetween = ["10.0.0.1", "10.0.1.2"]\nfrom = 5\nuntil = 10\n')
         self.assertEqual(len(self.moments(words, "deliver")), 2 * 35)
 
