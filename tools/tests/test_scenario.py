@@ -2,7 +2,6 @@
 
 from __future__ import annotations
 
-import os
 import sys
 import tempfile
 import time
@@ -228,7 +227,25 @@ class WithTheProgram(unittest.TestCase):
         self.assertIn(sum(b" heard delay_resp " in it for it in report), range(2 * 15, 2 * 20 + 1))
         self.assertTrue(any(it.endswith(b"selected 10.0.1.2 10.0.0.1") for it in report))
 
+    @wants_program
+    def test_what_is_told_between_changes_nothing(self) -> None:
+        """The report that was read while the script was made is that of the script."""
+        read: list[bytes] = []
+
+        class Recorded(scenario.Replay):  # type: ignore[name-defined, misc]
+            def read_lines(self) -> list[bytes]:
+                lines: list[bytes] = super().read_lines()
+                read.extend(lines)
+                return lines
+
+        replay = Recorded(str(program()))
+        self.addCleanup(replay.close)
+        text = SMALL.replace("seed", "loss = 0.1\nrepeat = 0.1\nseed")
+        script = scenario.Scenario(plan.read_plan(text), replay, "it").run()
+        report = ptpuni("replay", "".join(f"{it}\n" for it in script).encode()).splitlines()
+        events = [it.split(b" ", 1)[1] for it in read if b" ignored fault short 0" not in it]
+        self.assertEqual(events[:-1], [it.split(b" ", 1)[1] for it in report[:-1]])
+
 
 if __name__ == "__main__":
-    os.environ.setdefault("PTPUNI", "ptpuni")
     unittest.main()
