@@ -144,6 +144,9 @@ class FromPcap(unittest.TestCase):
         other_domain = bytearray(FRAME)
         other_domain[14 + 28 + 4] = 0
         zero = bytes(other_domain)
+        other_log = bytearray(FRAME)
+        other_log[-5] = 5
+        fast = bytes(other_log)
         refused = [
             (("show", "-"), b"hello", b"it begins with 68656c6c: neither pcap nor pcapng"),
             (("show", "-"), pcap([]), b"no PTP over UDP and IPv4 to port 319 or 320"),
@@ -151,6 +154,7 @@ class FromPcap(unittest.TestCase):
             (("script", "-"), pcap([(MOMENT, FRAME)]), b"nobody grants anything in this capture"),
             (("script", "-", "--gm", "10.0.1.17"), pcap([(MOMENT, zero)]), b"10.0.1.17 is in domain 0"),
             (("script", "-", "--slave", "10.0.0.1"), pcap([(MOMENT, FRAME)]), b"10.0.0.1 asks for nothing"),
+            (("script", "-", "--slave", "10.0.1.17"), pcap([(MOMENT, fast)]), b"asks for announce at the logarithm 5"),
         ]
         for words, given, why in refused:
             ran = run("from-pcap", *words, given=given)
