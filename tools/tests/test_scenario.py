@@ -9,7 +9,7 @@ import unittest
 from pathlib import Path
 
 import plan
-from support import EXAMPLES, TOOLS, program, ptpuni, run, tool, wants_program
+from support import EXAMPLES, TOOLS, program, ptpuni, run, tool, wants_program, wants_terminal
 
 scenario = tool("scenario")
 
@@ -79,6 +79,7 @@ class Plans(unittest.TestCase):
         return [it for it in sorted(EXAMPLES.glob("*.toml")) if "[[grandmasters]]" in it.read_text()]
 
 
+@wants_terminal
 class Runs(unittest.TestCase):
     """Scripts that are made beside a stand-in, of which it is known what it sends when."""
 
@@ -208,6 +209,7 @@ class Runs(unittest.TestCase):
         self.assertEqual(run("scenario", file).returncode, 65)
 
 
+@wants_terminal
 class WithTheProgram(unittest.TestCase):
     @wants_program
     def test_replay_takes_the_script(self) -> None:
