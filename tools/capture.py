@@ -10,7 +10,6 @@ from functools import lru_cache
 from typing import BinaryIO
 
 SECOND = 10**9
-PTP_PORTS = (319, 320)
 ETHERNET, LOOPBACK, RAW, LINUX_SLL, LINUX_SLL2 = 1, 0, (12, 101, 228), 113, 276
 IPV4, IPV6, PTP_ETHERTYPE = 0x0800, 0x86DD, 0x88F7
 VLANS = (0x8100, 0x88A8)
@@ -162,11 +161,3 @@ def ticks_a_second(order: str, options: bytes) -> int:
             break
         options = options[4 + size + -size % 4 :]
     return 10**6
-
-
-def ports(text: str) -> tuple[int, ...]:
-    """The UDP ports of event and of general messages, from the command line."""
-    found = tuple(int(it) for it in text.split(","))
-    if not found or not all(0 < it < 65536 for it in found):
-        raise ValueError
-    return found

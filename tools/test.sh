@@ -1,7 +1,7 @@
 #!/usr/bin/env bash
 # Tests the tools beside it, without rights and without a network, in less than a minute. What wants the program is
-# skipped where there is none: $PTPUNI, or the proved one in crates/ptpuni/out. The last line is
-# 'N passed, N failed, N skipped'.
+# skipped where none is built: it is $PTPUNI, or the proved one in crates/ptpuni/out, or the one that ./ptpuni keeps.
+# The last line is 'N passed, N failed, N skipped'.
 cd "$(dirname "${BASH_SOURCE[0]}")" || exit
 if ! command -v python3 >/dev/null; then
     echo "skipped: python3 is missing"

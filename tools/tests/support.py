@@ -5,6 +5,7 @@ from __future__ import annotations
 import importlib.util
 import io
 import os
+import pty
 import struct
 import subprocess
 import sys
@@ -63,13 +64,27 @@ def run(name: str, *words: str | Path, given: bytes = b"") -> subprocess.Complet
     return subprocess.CompletedProcess(argv, status, out.content(), err.content())
 
 
+@cache
 def program() -> Path | None:
     """The program, where there is one that need not be built first."""
-    found = Path(os.environ.get("PTPUNI") or TOOLS.parent / "crates/ptpuni/out/ptpuni")
-    return found if os.access(found, os.X_OK) else None
+    built = [TOOLS.parent / it for it in ("crates/ptpuni/out/ptpuni", "out/checked/ptpuni")]
+    named = os.environ.get("PTPUNI")
+    found = (it for it in ([Path(named)] if named else built) if os.access(it, os.X_OK))
+    return next(found, None)
 
 
-wants_program = unittest.skipUnless(program(), "no program: $PTPUNI, or crates/ptpuni/out/ptpuni")
+def has_terminal() -> bool:
+    """Whether a pseudo-terminal is to be had."""
+    try:
+        for it in pty.openpty():
+            os.close(it)
+    except OSError:
+        return False
+    return True
+
+
+wants_terminal = unittest.skipUnless(has_terminal(), "no pseudo-terminal is to be had")
+wants_program = unittest.skipUnless(program(), "no program is built, and $PTPUNI names none")
 
 
 def ptpuni(word: str, given: bytes) -> bytes:

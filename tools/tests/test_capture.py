@@ -13,7 +13,7 @@ from typing import Any
 
 import capture
 import ptp
-from ledger import Ledger
+from ledger import Lease, Ledger
 from support import (
     EXAMPLES,
     PTP4L,
@@ -144,6 +144,9 @@ class FromPcap(unittest.TestCase):
         other_domain = bytearray(FRAME)
         other_domain[14 + 28 + 4] = 0
         zero = bytes(other_domain)
+        other_log = bytearray(FRAME)
+        other_log[-5] = 5
+        fast = bytes(other_log)
         refused = [
             (("show", "-"), b"hello", b"it begins with 68656c6c: neither pcap nor pcapng"),
             (("show", "-"), pcap([]), b"no PTP over UDP and IPv4 to port 319 or 320"),
@@ -151,6 +154,7 @@ class FromPcap(unittest.TestCase):
             (("script", "-"), pcap([(MOMENT, FRAME)]), b"nobody grants anything in this capture"),
             (("script", "-", "--gm", "10.0.1.17"), pcap([(MOMENT, zero)]), b"10.0.1.17 is in domain 0"),
             (("script", "-", "--slave", "10.0.0.1"), pcap([(MOMENT, FRAME)]), b"10.0.0.1 asks for nothing"),
+            (("script", "-", "--slave", "10.0.1.17"), pcap([(MOMENT, fast)]), b"asks for announce at the logarithm 5"),
         ]
         for words, given, why in refused:
             ran = run("from-pcap", *words, given=given)
@@ -238,6 +242,15 @@ class Observed(unittest.TestCase):
         self.assertEqual((seen.held(5 * ptp.SECOND), seen.counts["cancels received"]), (16, 1))
         signal(6, True, "000500080002" + "0000012c0001")
         self.assertEqual((seen.held(7 * ptp.SECOND), seen.held(306 * ptp.SECOND)), (4, 0))
+
+    def test_rate_in_the_window(self) -> None:
+        lease = Lease(0)
+        for second in range(1, 31):
+            lease.see(second * ptp.SECOND)
+            if second > 20:
+                lease.see(second * ptp.SECOND + 1)
+        self.assertEqual(lease.seen_per_second(30 * ptp.SECOND + 2, 10 * ptp.SECOND), 2.0)
+        self.assertEqual(lease.seen_per_second(50 * ptp.SECOND, 10 * ptp.SECOND), 0.0)
 
     def test_table(self) -> None:
         table = run("observe", GM, "--read", PTP4L, "--capacity", "640").stdout.decode()

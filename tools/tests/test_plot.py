@@ -56,6 +56,15 @@ class Stories(unittest.TestCase):
         self.assertEqual(master.held()[0], (0.001, 24))
         self.assertEqual([value for _, value in renewed.held()], [24, 24, 0])
 
+    def test_a_cancel_ends_its_grant(self) -> None:
+        lines = [it for it in REPORT.read_text().splitlines() if it.split()[0] == "10"]
+        reply = next(it for it in lines if " send 2 " in it)
+        cancelled = ["11 cancelled sync at 5000000000", reply.replace("10 send 2 ", "11 send 2 ", 1)]
+        lines = [it.replace("10 send 2 ", "10 send 1 ", 1) for it in lines]
+        master = plot.read_story([*lines, *cancelled, "end 11 2"], plot.Script(), {}).grandmasters["10.0.0.1"]
+        self.assertEqual(master.held(), [(0.001, 24), (5.0, 8), (300.001, 0)])
+        self.assertEqual(master.marks["cancelled"], [5.0])
+
     def test_messages_of_a_rate(self) -> None:
         self.assertEqual(plot.summed([(0.0, 16.0), (10.0, 32.0)], 20.0), [(0.0, 0.0), (10.0, 10.0), (20.0, 30.0)])
 
@@ -63,9 +72,9 @@ class Stories(unittest.TestCase):
 class Curves(unittest.TestCase):
     def test_thinned_keeps_what_is_seen(self) -> None:
         flat = [(0.1 * it, 5.0) for it in range(2000)]
-        peak = [*flat[:1000], (100.0, 0.0), *flat[1001:]]
+        peak = [*flat[:1002], (100.2, 0.0), *flat[1003:]]
         self.assertLess(len(picture.thinned(flat)), 40)
-        self.assertIn((100.0, 0.0), picture.thinned(peak))
+        self.assertIn((100.2, 0.0), picture.thinned(peak))
 
     def test_ticks(self) -> None:
         self.assertEqual(picture.ticks(0, 10, 5), [0, 2, 4, 6, 8, 10])

@@ -2,7 +2,6 @@
 
 from __future__ import annotations
 
-import os
 import sys
 import tempfile
 import time
@@ -10,7 +9,7 @@ import unittest
 from pathlib import Path
 
 import plan
-from support import EXAMPLES, TOOLS, program, ptpuni, run, tool, wants_program
+from support import EXAMPLES, TOOLS, program, ptpuni, run, tool, wants_program, wants_terminal
 
 scenario = tool("scenario")
 
@@ -80,6 +79,7 @@ class Plans(unittest.TestCase):
         return [it for it in sorted(EXAMPLES.glob("*.toml")) if "[[grandmasters]]" in it.read_text()]
 
 
+@wants_terminal
 class Runs(unittest.TestCase):
     """Scripts that are made beside a stand-in, of which it is known what it sends when."""
 
@@ -119,6 +119,11 @@ class Runs(unittest.TestCase):
         # The last tick is at the very end, and what it sends arrives no more.
         self.assertEqual(len(delivered), 2 * 40)
 
+    def test_order_where_datagrams_are_long_on_their_way(self) -> None:
+        words = self.make(SMALL.replace("0.001, 0.004", "0.4, 0.9"))
+        moments = [int(it[1]) for it in words if it[0] in ("tick", "turn", "deliver")]
+        self.assertEqual(moments, sorted(moments))
+
     def test_delays(self) -> None:
         words = self.make(SMALL)
         sent = 0
@@ -149,10 +154,15 @@ class Runs(unittest.TestCase):
         self.assertEqual(len(self.moments(words, "deliver")), 2 * 20)
 
     def test_outages(self) -> None:
-        words = self.make(SMALL + '[[outages]]\nnode = "10.0.0.1"\nfrom = 5\nuntil = 10\n')
+        outage = '[[outages]]\nnode = "10.0.0.1"\nfrom = 5\nuntil = 10\n'
+        words = self.make(SMALL + outage)
         within = [it for it in self.moments(words, "deliver") if 5 * 10**9 <= it < 10 * 10**9]
         self.assertEqual(within, [])
         self.assertEqual(len(self.moments(words, "deliver")), 2 * 30)
+        # Also what was sent before it and would arrive in it.
+        words = self.make(SMALL.replace("[0.001, 0.004]", "0.6") + outage)
+        within = [it for it in self.moments(words, "deliver") if 5 * 10**9 <= it < 10 * 10**9]
+        self.assertEqual(within, [])
         words = self.make(SMALL + '[[outages]]\nbetween = ["10.0.0.1", "10.0.1.2"]\nfrom = 5\nuntil = 10\n')
         self.assertEqual(len(self.moments(words, "deliver")), 2 * 35)
 
@@ -199,6 +209,7 @@ class Runs(unittest.TestCase):
         self.assertEqual(run("scenario", file).returncode, 65)
 
 
+@wants_terminal
 class WithTheProgram(unittest.TestCase):
     @wants_program
     def test_replay_takes_the_script(self) -> None:
@@ -218,7 +229,25 @@ class WithTheProgram(unittest.TestCase):
         self.assertIn(sum(b" heard delay_resp " in it for it in report), range(2 * 15, 2 * 20 + 1))
         self.assertTrue(any(it.endswith(b"selected 10.0.1.2 10.0.0.1") for it in report))
 
+    @wants_program
+    def test_what_is_told_between_changes_nothing(self) -> None:
+        """The report that was read while the script was made is that of the script."""
+        read: list[bytes] = []
+
+        class Recorded(scenario.Replay):  # type: ignore[name-defined, misc]
+            def read_lines(self) -> list[bytes]:
+                lines: list[bytes] = super().read_lines()
+                read.extend(lines)
+                return lines
+
+        replay = Recorded(str(program()))
+        self.addCleanup(replay.close)
+        text = SMALL.replace("seed", "loss = 0.1\nrepeat = 0.1\nseed")
+        script = scenario.Scenario(plan.read_plan(text), replay, "it").run()
+        report = ptpuni("replay", "".join(f"{it}\n" for it in script).encode()).splitlines()
+        events = [it.split(b" ", 1)[1] for it in read if b" ignored fault short 0" not in it]
+        self.assertEqual(events[:-1], [it.split(b" ", 1)[1] for it in report[:-1]])
+
 
 if __name__ == "__main__":
-    os.environ.setdefault("PTPUNI", "ptpuni")
     unittest.main()

@@ -1,0 +1,47 @@
+"""Words of the command line that more than one tool takes, as types of argparse."""
+
+from __future__ import annotations
+
+from argparse import ArgumentTypeError
+from collections.abc import Callable
+from ipaddress import AddressValueError, IPv4Address
+
+GREATEST_CAPACITY = 16777216
+PTP_PORTS = (319, 320)
+
+
+def address(text: str) -> str:
+    try:
+        return str(IPv4Address(text))
+    except AddressValueError:
+        raise ArgumentTypeError(f"{text!r} is no IPv4 address") from None
+
+
+def whole(least: int, greatest: int) -> Callable[[str], int]:
+    """A whole number in a range."""
+
+    def read(text: str) -> int:
+        if not text.isascii() or not text.isdigit() or not least <= int(text) <= greatest:
+            raise ArgumentTypeError(f"{text!r} is no whole number from {least} to {greatest}")
+        return int(text)
+
+    return read
+
+
+capacity = whole(1, GREATEST_CAPACITY)
+port = whole(1, 65535)
+
+
+def ports(text: str) -> tuple[int, ...]:
+    """UDP ports, with commas between."""
+    return tuple(port(it) for it in text.split(","))
+
+
+def seconds(text: str) -> float:
+    try:
+        value = float(text)
+    except ValueError:
+        value = 0.0
+    if not 1e-9 <= value <= 1e9:
+        raise ArgumentTypeError(f"{text!r} is no number of seconds above 0")
+    return value
