@@ -65,12 +65,10 @@ impl<P: Port, L: Ledger> Table<P, L> {
         requires { IsWithinLimits config.now }
         ensures at { result.at ≡ max t self.old.shard.moment }
         ensures moment { self.new.shard.moment ≡ result.at }
-        ensures sends { HandsOver (P.sent self.old.shard.port) (P.sent self.new.shard.port)
-            (P.faults self.old.shard.port) (P.faults self.new.shard.port)
+        ensures sends { HandsOver P.Port self.old.shard.port self.new.shard.port
             (map (departure_of config.now result.at)
             (due_messages result.at self.old.shard.rows))
             result.sent result.failed }
-        ensures waiting { P.waiting self.new.shard.port ≡ P.waiting self.old.shard.port }
         ensures messages { (j : ℕ) (history : List Record) →
             StandsFor j self.old.shard history →
             due_messages result.at self.old.shard.rows
@@ -95,12 +93,10 @@ impl<P: Port, L: Ledger> Table<P, L> {
         ensures at { moment_of_answer result ≡ max t self.old.shard.moment }
         ensures moment { self.new.shard.moment ≡ max t self.old.shard.moment }
         ensures earliest { IsLaterIfTooSoon result }
-        ensures sends { HandsOver (P.sent self.old.shard.port) (P.sent self.new.shard.port)
-            (P.faults self.old.shard.port) (P.faults self.new.shard.port)
+        ensures sends { HandsOver P.Port self.old.shard.port self.new.shard.port
             (responses (met_by result)
             (response_of config.now self.new.shard.moment client.now request.now))
             (sent_by result) (failed_by result) }
-        ensures waiting { P.waiting self.new.shard.port ≡ P.waiting self.old.shard.port }
         ensures met { (history : List Record) →
             StandsFor (table_of client.now) self.old.shard history →
             met_by result ≡ delay_answer history self.new.shard.moment client.now }
