@@ -1,6 +1,24 @@
 //! Three rounds of a grandmaster that is served by lanes, by each number of lanes that turn tables,
 //! without a fault, with one of a port, or with a change of the capacity: what each port was sent,
-//! the line, and what each clock has left.
+//! the line, and what each clock has left. No clause sees what is done behind the locks, so each of
+//! these wrong bodies is refused here, and each was seen to be:
+//!
+//! - A lane turns only the first of its tables, or only tables 0 and 1; two lanes turn the same
+//!   ones; no table turns where 1, 2, 3 or 4 lanes do. (The lines, and the Syncs by their seconds.)
+//! - A CANCEL is acknowledged and ends nothing. (The same REQUEST before and after it.)
+//! - A grant is kept under another client or address than the datagram's: the octets of the address
+//!   backwards, a neighbour's address, another clock identity or port number. (The addresses of the
+//!   Syncs, their tables, and the Delay_Resp.)
+//! - A lane never reads its clock, or takes one moment for a whole round; the capacity changes at
+//!   another moment. (The seconds in Syncs and Delay_Resps, the order of the CANCELs, and what the
+//!   clocks have left.)
+//! - CANCELs go to other clients, name other kinds, or come in another order. (Port 4.) Only 32 of
+//!   more are sent; the capacity is cut to 16 bits. (`a_change_sheds_forty_grants`.) A change is not
+//!   made where nothing was granted yet. (`Change::First`.)
+//! - Failed sends or receives of a lane are not counted, nor failed CANCELs; a lane is left out of
+//!   the sums. (The lines.)
+//! - Ports or clocks are taken for one another, at the opening or at the close; a table is handed
+//!   out for another. (The ports, and what the clocks have left.)
 
 ghost use Rattle.std.specs.Prelude.{◌≤◌};
 ghost use Rattle.ptu_config.specs.Limits.{IsGmInRange};
@@ -62,9 +80,10 @@ const THREE: Peer = Peer {
     identity: "0a000000000000120001",
 };
 
-// Another client of table 1, at 10.1.2.3, whose octets are another address backwards.
+// Another client of table 1, at 10.0.0.9, whose octets are another address backwards, and which is
+// the least address.
 const LATE: Peer = Peer {
-    ip: 0x0a01_0203,
+    ip: 0x0a00_0009,
     identity: "0a000000000000080001",
 };
 
@@ -266,10 +285,10 @@ fn delay_req(alloc: Global, source: &str) -> Result<String, Fail> {
     )?)
 }
 
-// The digits of the Delay_Resp at 6 s.
+// The digits of the Delay_Resp at 7 s.
 fn delay_resp(alloc: Global, to: &str) -> Result<String, Fail> {
     Ok(format!(in alloc;
-        "0912003604000400000000000000000000000000{MASTER}0007037f00000000000600000000{to}"
+        "0912003604000400000000000000000000000000{MASTER}0007037f00000000000700000000{to}"
     )?)
 }
 
@@ -300,14 +319,14 @@ fn general(alloc: Global, fault: Fault) -> Result<Vec<Given>, Fail> {
     Ok(gives)
 }
 
-// What the event channel gives: in round 2 a Delay_Req with a grant and one without.
+// What the event channel gives: in round 2 a Delay_Req without a grant and one with it.
 fn event(alloc: Global, fault: Fault) -> Result<Vec<Given>, Fail> {
     let three = delay_req(alloc, THREE.identity)?;
     let neighbour = delay_req(alloc, NEIGHBOUR.identity)?;
     Ok(vec![in alloc;
         pause(fault, 5),
-        arriving(alloc, THREE.ip, three.as_str())?,
         arriving(alloc, NEIGHBOUR.ip, neighbour.as_str())?,
+        arriving(alloc, THREE.ip, three.as_str())?,
     ]?)
 }
 

@@ -22,4 +22,6 @@ pub use seat::Seat;
 pub use shared::Shared;
 
 #[cfg(test)]
+mod held_tests;
+#[cfg(test)]
 mod tests;
