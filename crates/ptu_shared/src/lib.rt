@@ -11,6 +11,7 @@ mod asking;
 mod changing;
 mod closing;
 mod desk;
+mod place;
 mod rates;
 mod seat;
 mod shared;
