@@ -1,8 +1,8 @@
 ghost use Rattle.std.specs.Prelude.{◌≡◌, None};
 
-use crate::serve;
+use crate::staged::{Given, OnceHost, StagedPort, arriving, assert_said};
 use ptu_config::GmSettings;
-use ptu_outside::{Arrival, Channel, Datagram, Failed, Host, MemClock, MemSink, Opened, Port};
+use ptu_outside::{Channel, Failed, MemClock, Opened, Port};
 use ptu_units::Moment;
 use std::alloc::Global;
 use std::process::Abort;
@@ -78,7 +78,7 @@ enum Role {
     Held,
     // It belongs to table 1.
     Beside,
-    // It receives the event channel, and gives nothing in the first round.
+    // It receives the event channel.
     Event,
     Plain,
 }
@@ -88,10 +88,7 @@ enum Role {
 struct LanePort<'a> {
     seen: &'a Seen,
     role: Role,
-    // What waits, the first at the end.
-    waiting: Vec<Arrival>,
-    // So many receives give nothing before.
-    pauses: u64,
+    port: StagedPort,
 }
 
 // Whether the octets are a Sync.
@@ -106,7 +103,7 @@ impl Port for LanePort<'_> {
 
     ghost faults = { λ _. 0 };
 
-    fn send(&mut self, _ip: u32, _channel: Channel, bytes: &[u8]) -> Result<(), Failed> {
+    fn send(&mut self, ip: u32, channel: Channel, bytes: &[u8]) -> Result<(), Failed> {
         let seen = self.seen;
         if self.role == Role::Held && is_sync(bytes) {
             await_one(seen, &seen.given);
@@ -116,76 +113,23 @@ impl Port for LanePort<'_> {
         if self.role == Role::Beside && is_sync(bytes) {
             count_one(&seen.of_table_1);
         }
-        Ok(())
+        self.port.send(ip, channel, bytes)
     }
 
     fn receive(&mut self, buf: &mut [u8; 2048]) -> Result<Option<(u32, usize)>, Failed> {
-        if self.pauses > 0 {
-            self.pauses -= 1;
-            return Ok(None);
-        }
-        let Some(arrival) = self.waiting.pop() else {
-            return Ok(None);
-        };
-        let bytes = arrival.bytes.bytes();
-        let size = bytes.len().min(2048);
-        buf[..size].copy_from_slice(&bytes[..size]);
-        if self.role == Role::Event {
+        let given = self.port.receive(buf)?;
+        if given.is_some() && self.role == Role::Event {
             count_one(&self.seen.given);
         }
-        Ok(Some((arrival.ip, size)))
+        Ok(given)
     }
 }
 
-// A host that opens these ports and clocks once.
-#[derive(Drop)]
-struct LaneHost<'a> {
-    opened: Option<Opened<LanePort<'a>, MemClock>>,
-    faults: u64,
-}
-
-impl<'a> Host for LaneHost<'a> {
-    type P = LanePort<'a>;
-
-    type C = MemClock;
-
-    ghost opening = { λ _. None };
-
-    ghost back = { λ _. None };
-
-    ghost faults = { λ h. h.faults };
-
-    fn open(
-        &mut self,
-        _ip: u32,
-        _event_port: u16,
-        _general_port: u16,
-    ) -> Result<Opened<LanePort<'a>, MemClock>, Failed> {
-        let opened = self.opened.take();
-        if opened.is_none() {
-            self.faults = self.faults.saturating_add(1);
-        }
-        opened.ok_or(Failed)
-    }
-
-    fn close(&mut self, opened: Opened<LanePort<'a>, MemClock>)
-        ensures quiet { self.new.faults ≡ self.old.faults }
-    {
-        drop(opened);
-    }
-}
-
-fn arrival(alloc: Global, ip: u32, datagram: &str) -> Result<Arrival, Fail> {
-    let bytes = Datagram::new(hex::decode(alloc, datagram)?);
-    Ok(Arrival { ip, bytes })
-}
-
-fn port<'a>(seen: &'a Seen, role: Role, waiting: Vec<Arrival>) -> LanePort<'a> {
+fn port<'a>(alloc: Global, seen: &'a Seen, role: Role, gives: Vec<Given>) -> LanePort<'a> {
     LanePort {
         seen,
         role,
-        waiting,
-        pauses: if role == Role::Event { 1 } else { 0 },
+        port: StagedPort::new(alloc, gives, Vec::new(alloc)),
     }
 }
 
@@ -204,20 +148,21 @@ fn going(alloc: Global) -> Result<MemClock, Fail> {
     Ok(MemClock::new(list))
 }
 
-// A host at whose general channel the two REQUESTs wait, and at whose event channel the Delay_Req.
-fn host(alloc: Global, seen: &Seen) -> Result<LaneHost<'_>, Fail> {
+// A host at whose general channel the two REQUESTs wait, and at whose event channel the Delay_Req
+// comes in the second round.
+fn host(alloc: Global, seen: &Seen) -> Result<OnceHost<LanePort<'_>>, Fail> {
     let asks = vec![in alloc;
-        arrival(alloc, 0x0a00_0104, OF_TABLE_1)?,
-        arrival(alloc, 0x0a00_0103, OF_TABLE_0)?,
+        arriving(alloc, 0x0a00_0103, OF_TABLE_0)?,
+        arriving(alloc, 0x0a00_0104, OF_TABLE_1)?,
     ]?;
-    let delay = vec![in alloc; arrival(alloc, 0x0a00_0103, DELAY_REQ)?]?;
+    let delay = vec![in alloc; Given::Nothing, arriving(alloc, 0x0a00_0103, DELAY_REQ)?]?;
     let opened = Opened {
-        p0: port(seen, Role::Held, Vec::new(alloc)),
-        p1: port(seen, Role::Beside, Vec::new(alloc)),
-        p2: port(seen, Role::Plain, Vec::new(alloc)),
-        p3: port(seen, Role::Plain, Vec::new(alloc)),
-        p4: port(seen, Role::Plain, asks),
-        p5: port(seen, Role::Event, delay),
+        p0: port(alloc, seen, Role::Held, Vec::new(alloc)),
+        p1: port(alloc, seen, Role::Beside, Vec::new(alloc)),
+        p2: port(alloc, seen, Role::Plain, Vec::new(alloc)),
+        p3: port(alloc, seen, Role::Plain, Vec::new(alloc)),
+        p4: port(alloc, seen, Role::Plain, asks),
+        p5: port(alloc, seen, Role::Event, delay),
         c0: still(alloc),
         c1: still(alloc),
         c2: going(alloc)?,
@@ -225,10 +170,7 @@ fn host(alloc: Global, seen: &Seen) -> Result<LaneHost<'_>, Fail> {
         c4: still(alloc),
         c5: still(alloc),
     };
-    Ok(LaneHost {
-        opened: Some(opened),
-        faults: 0,
-    })
+    Ok(OnceHost::new(opened))
 }
 
 // Serving by lanes over the host comes to its end before a limit, and writes this line.
@@ -239,9 +181,7 @@ fn assert_serves(
     line: &str,
 ) -> Result<(), Fail> {
     let mut host = host(alloc, seen)?;
-    let mut sink = MemSink::new(alloc, Vec::new(alloc));
-    assert!(rt; serve(rt, alloc, &SETTINGS, &mut host, &mut sink).is_ok());
-    assert!(rt; sink.bytes() == line.as_bytes());
+    assert_said(rt, alloc, &SETTINGS, &mut host, line);
     assert!(rt; seen.late.load(Ordering::SeqCst) == 0);
     Ok(())
 }

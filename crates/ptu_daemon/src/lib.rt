@@ -13,6 +13,10 @@ pub use ptu_rounds::DaemonFault;
 pub use serving::serve;
 
 #[cfg(test)]
+mod lane_rounds;
+#[cfg(test)]
 mod lane_tests;
+#[cfg(test)]
+mod staged;
 #[cfg(test)]
 mod tests;

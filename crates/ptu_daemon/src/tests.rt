@@ -2,6 +2,7 @@ ghost use Rattle.std.specs.Prelude.{IfOk};
 ghost use Rattle.ptu_outside.specs.MemoryPort.{FitAll};
 ghost use Rattle.ptu_config.specs.Limits.{IsGmInRange};
 
+use crate::staged::assert_said;
 use crate::{DaemonFault, serve};
 use ptu_config::GmSettings;
 use ptu_outside::{Arrival, Channel, Datagram, MemClock, MemHost, MemPort, MemSink, Opened};
@@ -110,9 +111,7 @@ fn assert_line(
     requires range { IsGmInRange settings.now }
 {
     let mut host = host(alloc, general, false);
-    let mut sink = MemSink::new(alloc, Vec::new(alloc));
-    assert!(rt; serve(rt, alloc, settings, &mut host, &mut sink).is_ok());
-    assert!(rt; sink.bytes() == line.as_bytes());
+    assert_said(rt, alloc, settings, &mut host, line);
     host
 }
 

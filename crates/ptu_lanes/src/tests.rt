@@ -229,8 +229,8 @@ fn grant<L: Rates, G: Ledger, R: Ledger, W: Wait + Abort>(
     assert!(rt; matches!(verdict, Verdict::Granted(_)));
 }
 
-// Syncs are granted to the clients of tables 0 and 1, and Delay_Resps to that of table 2.
-fn grant_three<L: Rates, G: Ledger, R: Ledger, W: Wait + Abort>(
+// Syncs are granted to the clients of tables 0, 1 and 2, and Delay_Resps to that of table 2.
+fn grant_four<L: Rates, G: Ledger, R: Ledger, W: Wait + Abort>(
     rt: &W,
     shared: &Shared<MemPort, L, G, R>,
     seats: &mut [Seat<G, R>],
@@ -241,10 +241,12 @@ fn grant_three<L: Rates, G: Ledger, R: Ledger, W: Wait + Abort>(
     let seat = &mut seats[0];
     grant(rt, shared, seat, &ZERO, 0);
     grant(rt, shared, seat, &ONE, 0);
+    grant(rt, shared, seat, &TWO, 0);
     grant(rt, shared, seat, &TWO, 9);
 }
 
-// At 1 s, what waits at the port is taken, and tables 1 and 3 are turned.
+// At 1 s, what waits at the port is taken, and tables 1 and 3 are turned. A Delay_Req turns no
+// table, whatever is due there.
 fn answer_and_turn<L: Rates, G: Ledger, R: Ledger, W: Wait + Abort>(
     rt: &W,
     alloc: Global,
@@ -298,7 +300,7 @@ fn sending<L: Rates, G: Ledger, R: Ledger, W: Wait + Abort>(
     let waiting = vec![in alloc; arrival(alloc, DELAY_REQ)?]?;
     let mut port = MemPort::new(alloc, waiting, Vec::new(alloc), Vec::new(alloc));
     let (shared, mut seats) = open::<L, G, R>(alloc, rates, granted, refused, capacity)?;
-    grant_three(rt, &shared, seats.as_mut_slice());
+    grant_four(rt, &shared, seats.as_mut_slice());
     answer_and_turn(rt, alloc, &shared, &mut port)?;
     match shared.close(seats) {
         Ok(closed) => check_sent(rt, &closed, &sync, &answer),
@@ -310,5 +312,5 @@ fn sending<L: Rates, G: Ledger, R: Ledger, W: Wait + Abort>(
 #[test]
 fn lanes_answer_and_turn(rt: HostRuntime) -> Result<(), Fail> {
     let (rates, granted, refused) = (Blank::new(4), Blank::new(1), Blank::new(1));
-    sending::<Brand, Brand, Brand, HostRuntime>(&rt, rt.alloc(), rates, granted, refused, 48)
+    sending::<Brand, Brand, Brand, HostRuntime>(&rt, rt.alloc(), rates, granted, refused, 64)
 }

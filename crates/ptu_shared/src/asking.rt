@@ -15,6 +15,7 @@ ghost use Rattle.ptu_shared.specs.Answers.{AnswersAsk};
 ghost use Rattle.ptu_shared.specs.Seats.{counting};
 
 use crate::desk::{Desk, audit_table, audit_tables};
+use crate::place::{First, Fourth, Place, Second, Third};
 use crate::rates::{Rates, move_rate};
 use crate::seat::Seat;
 use crate::table::Table;
@@ -28,8 +29,8 @@ use std::sync::ledger::Ledger;
 
 // Decides an ask by `decide_one`, under the client's table and the book. `None` where that is, and
 // then nothing has changed.
-pub(crate) fn ask_one<P: Port, L: Rates, G: Ledger, R: Ledger>(
-    table: &mut Table<P, L>,
+pub(crate) fn ask_one<P: Port, L: Rates, G: Ledger, R: Ledger, J: Place>(
+    table: &mut Table<P, L, J>,
     desk: &mut Desk<L, G, R>,
     seat: &mut Seat<G, R>,
     config: &GmConfig,
@@ -40,6 +41,7 @@ pub(crate) fn ask_one<P: Port, L: Rates, G: Ledger, R: Ledger>(
     requires limits { IsWithinLimits config.now }
     requires counts { (seat.old.granted < 2 ^ 48) × (seat.old.refused < 2 ^ 48) }
     requires room { 0 < table.old.shard.spare }
+    requires table { table_of_client client.now ≡ J.index }
     ensures answer { option_map verdict_of result
         ≡ unless_short (verdict_beside (config_of desk.old.book.capacity config.now)
         (λ k. desk.old.book.total - kept_rate client.now k table.old.shard.rows)
@@ -80,10 +82,10 @@ pub(crate) fn ask_one<P: Port, L: Rates, G: Ledger, R: Ledger>(
 
 // Decides an ask by `decide_all`, under all four tables, in order of index, and the book.
 pub(crate) fn ask_all<P: Port, L: Rates, G: Ledger, R: Ledger>(
-    t0: &mut Table<P, L>,
-    t1: &mut Table<P, L>,
-    t2: &mut Table<P, L>,
-    t3: &mut Table<P, L>,
+    t0: &mut Table<P, L, First>,
+    t1: &mut Table<P, L, Second>,
+    t2: &mut Table<P, L, Third>,
+    t3: &mut Table<P, L, Fourth>,
     desk: &mut Desk<L, G, R>,
     seat: &mut Seat<G, R>,
     config: &GmConfig,

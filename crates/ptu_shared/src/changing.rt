@@ -15,6 +15,7 @@ ghost use Rattle.ptu_admit.specs.Shed.{shed_of};
 ghost use Rattle.ptu_admit.specs.Tables.{IsSwept};
 
 use crate::desk::{Desk, audit_table, audit_tables};
+use crate::place::{First, Fourth, Place, Second, Third};
 use crate::rates::{Rates, move_rate};
 use crate::table::Table;
 use ptu_admit::{Cancelled, Resized, cancel, finish, resize};
@@ -25,13 +26,14 @@ use std::alloc::Global;
 use std::sync::ledger::Ledger;
 
 // Ends the client's grant of the kind by `cancel`, under the client's table and the book.
-pub(crate) fn cancel_one<P: Port, L: Rates, G: Ledger, R: Ledger>(
-    table: &mut Table<P, L>,
+pub(crate) fn cancel_one<P: Port, L: Rates, G: Ledger, R: Ledger, J: Place>(
+    table: &mut Table<P, L, J>,
     desk: &mut Desk<L, G, R>,
     t: Moment,
     client: &Client,
     kind: Kind,
 ) -> Cancelled
+    requires { table_of_client client.now ≡ J.index }
     ensures at { result.at ≡ max t (max desk.old.book.moment table.old.shard.moment) }
     ensures ended { result.ended
         ≡ has_live_row result.at client.now kind table.old.shard.rows }
@@ -59,10 +61,10 @@ pub(crate) fn cancel_one<P: Port, L: Rates, G: Ledger, R: Ledger>(
 // book. After `OutOfMemory` nothing has changed.
 pub(crate) fn resize_all<P: Port, L: Rates, G: Ledger, R: Ledger>(
     alloc: Global,
-    t0: &mut Table<P, L>,
-    t1: &mut Table<P, L>,
-    t2: &mut Table<P, L>,
-    t3: &mut Table<P, L>,
+    t0: &mut Table<P, L, First>,
+    t1: &mut Table<P, L, Second>,
+    t2: &mut Table<P, L, Third>,
+    t3: &mut Table<P, L, Fourth>,
     desk: &mut Desk<L, G, R>,
     t: Moment,
     capacity: u64,
@@ -118,10 +120,10 @@ pub(crate) fn resize_all<P: Port, L: Rates, G: Ledger, R: Ledger>(
 // Drops the rows whose grants are over by `finish`, under all four tables, in order of index, and
 // the book.
 pub(crate) fn finish_all<P: Port, L: Rates, G: Ledger, R: Ledger>(
-    t0: &mut Table<P, L>,
-    t1: &mut Table<P, L>,
-    t2: &mut Table<P, L>,
-    t3: &mut Table<P, L>,
+    t0: &mut Table<P, L, First>,
+    t1: &mut Table<P, L, Second>,
+    t2: &mut Table<P, L, Third>,
+    t3: &mut Table<P, L, Fourth>,
     desk: &mut Desk<L, G, R>,
 )
     requires { L.parts ≡ 4 }

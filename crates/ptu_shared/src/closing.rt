@@ -8,6 +8,7 @@ ghost use Rattle.ptu_shared.specs.Seats.{granted_in, refused_in};
 
 use crate::changing::finish_all;
 use crate::desk::Desk;
+use crate::place::{First, Fourth, Second, Third};
 use crate::rates::Rates;
 use crate::seat::{FULL, Seat};
 use crate::shared::Shared;
@@ -112,10 +113,10 @@ fn count_seats<L: Rates, G: Ledger, R: Ledger>(
 // Closes four tables, in order of index, and their book: each count is what the table holds at the
 // greatest of the five moments.
 fn close_tables<P: Port, L: Rates, G: Ledger, R: Ledger>(
-    mut t0: Table<P, L>,
-    mut t1: Table<P, L>,
-    mut t2: Table<P, L>,
-    mut t3: Table<P, L>,
+    mut t0: Table<P, L, First>,
+    mut t1: Table<P, L, Second>,
+    mut t2: Table<P, L, Third>,
+    mut t3: Table<P, L, Fourth>,
     mut desk: Desk<L, G, R>,
 ) -> Closed<P>
     requires { L.parts ≡ 4 }

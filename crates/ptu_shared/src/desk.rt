@@ -4,6 +4,7 @@ ghost use Rattle.ptu_admit.specs.Book.{IsCapacity};
 ghost use Rattle.ptu_admit.specs.Lent.{four, shares};
 ghost use Rattle.ptu_shared.specs.Seats.{counting, no_verdicts};
 
+use crate::place::{First, Fourth, Place, Second, Third};
 use crate::rates::{Rates, audit_parts};
 use crate::seat::{FULL, Seat};
 use crate::table::Table;
@@ -135,8 +136,8 @@ pub(crate) fn open_desk<L: Rates, G: Ledger, R: Ledger>(
 }
 
 // Nothing changes. The share of a table is at most the total of the book.
-pub(crate) fn audit_table<P: Port, L: Rates, G: Ledger, R: Ledger>(
-    table: &mut Table<P, L>,
+pub(crate) fn audit_table<P: Port, L: Rates, G: Ledger, R: Ledger, J: Place>(
+    table: &mut Table<P, L, J>,
     desk: &mut Desk<L, G, R>,
 )
     ensures bound { share_of table.old.shard.rows ≤ desk.old.book.total }
@@ -149,10 +150,10 @@ pub(crate) fn audit_table<P: Port, L: Rates, G: Ledger, R: Ledger>(
 
 // Nothing changes. The shares of the four tables sum to the total of the book.
 pub(crate) fn audit_tables<P: Port, L: Rates, G: Ledger, R: Ledger>(
-    t0: &mut Table<P, L>,
-    t1: &mut Table<P, L>,
-    t2: &mut Table<P, L>,
-    t3: &mut Table<P, L>,
+    t0: &mut Table<P, L, First>,
+    t1: &mut Table<P, L, Second>,
+    t2: &mut Table<P, L, Third>,
+    t3: &mut Table<P, L, Fourth>,
     desk: &mut Desk<L, G, R>,
 )
     requires { L.parts ≡ 4 }

@@ -11,6 +11,7 @@ mod asking;
 mod changing;
 mod closing;
 mod desk;
+mod place;
 mod rates;
 mod seat;
 mod shared;
@@ -21,5 +22,7 @@ pub use rates::Rates;
 pub use seat::Seat;
 pub use shared::Shared;
 
+#[cfg(test)]
+mod held_tests;
 #[cfg(test)]
 mod tests;

@@ -1,4 +1,5 @@
 ghost use Rattle.std.specs.Prelude.{◌≡◌, ◌≤◌, ◌<◌, ◌^◌, IfNone, IfOk, IfSome, OnErr, replicate};
+ghost use Rattle.ptu_history.specs.Client.{table_of as table_of_client};
 ghost use Rattle.ptu_shard.specs.Answered.{moment_of_answer};
 ghost use Rattle.ptu_shard.specs.Config.{IsWithinLimits};
 ghost use Rattle.ptu_admit.specs.Book.{IsCapacity};
@@ -9,6 +10,7 @@ ghost use Rattle.ptu_shared.specs.Seats.{counting, no_verdicts};
 use crate::asking::{ask_all, ask_one};
 use crate::changing::{cancel_one, resize_all};
 use crate::desk::{Desk, open_desk};
+use crate::place::{First, Fourth, Place, Second, Third};
 use crate::rates::Rates;
 use crate::seat::Seat;
 use crate::table::Table;
@@ -32,10 +34,10 @@ use std::sync::{Mutex, Wait};
 #[derive(Drop)]
 pub struct Shared<P: Port + Send, L: Rates, G: Ledger, R: Ledger> {
     pub(crate) alloc: Global,
-    pub(crate) t0: Mutex<Table<P, L>>,
-    pub(crate) t1: Mutex<Table<P, L>>,
-    pub(crate) t2: Mutex<Table<P, L>>,
-    pub(crate) t3: Mutex<Table<P, L>>,
+    pub(crate) t0: Mutex<Table<P, L, First>>,
+    pub(crate) t1: Mutex<Table<P, L, Second>>,
+    pub(crate) t2: Mutex<Table<P, L, Third>>,
+    pub(crate) t3: Mutex<Table<P, L, Fourth>>,
     pub(crate) desk: Mutex<Desk<L, G, R>>,
 }
 
@@ -88,16 +90,6 @@ impl<P: Port + Send, L: Rates, G: Ledger, R: Ledger> Shared<P, L, G, R> {
         Ok((shared, given))
     }
 
-    // The lock of the table of this index.
-    fn table(&self, index: usize) -> &Mutex<Table<P, L>> {
-        match index {
-            0 => &self.t0,
-            1 => &self.t1,
-            2 => &self.t2,
-            _ => &self.t3,
-        }
-    }
-
     /// Decides an ask of the client at a moment that is not before `t`, and counts it at the seat.
     /// It is decided over the client's table alone where the total shows that it fits, and else
     /// over all four.
@@ -144,7 +136,35 @@ impl<P: Port + Send, L: Rates, G: Ledger, R: Ledger> Shared<P, L, G, R> {
         ensures none { IfOk result (λ o. IfNone o (seat.new ≡ seat.old)) }
         ensures unchanged { OnErr result (seat.new ≡ seat.old) }
     {
-        let mut table = self.table(table_of(client)).lock(rt);
+        match table_of(client) {
+            0 => self.admit_at(rt, &self.t0, seat, config, t, client, ask),
+            1 => self.admit_at(rt, &self.t1, seat, config, t, client, ask),
+            2 => self.admit_at(rt, &self.t2, seat, config, t, client, ask),
+            _ => self.admit_at(rt, &self.t3, seat, config, t, client, ask),
+        }
+    }
+
+    // Decides an ask under the lock of this table, which is the client's, and the book's, if that
+    // is enough.
+    fn admit_at<J: Place>(
+        &self,
+        rt: &impl Wait,
+        table: &Mutex<Table<P, L, J>>,
+        seat: &mut Seat<G, R>,
+        config: &GmConfig,
+        t: Moment,
+        client: &Client,
+        ask: &Ask,
+    ) -> Result<Option<Verdict>, OutOfMemory>
+        requires table { table_of_client client.now ≡ J.index }
+        requires limits { IsWithinLimits config.now }
+        requires counts { (seat.old.granted < 2 ^ 48) × (seat.old.refused < 2 ^ 48) }
+        ensures verdict { IfOk result (λ o. IfSome o (AnswersAsk L.most config.now t ask.now)) }
+        ensures seat { IfOk result (λ o. IfSome o (λ v. seat.new ≡ counting v seat.old)) }
+        ensures none { IfOk result (λ o. IfNone o (seat.new ≡ seat.old)) }
+        ensures unchanged { OnErr result (seat.new ≡ seat.old) }
+    {
+        let mut table = table.lock(rt);
         table.reserve()?;
         let mut desk = self.desk.lock(rt);
         Ok(ask_one(&mut table, &mut desk, seat, config, t, client, ask))
@@ -187,7 +207,27 @@ impl<P: Port + Send, L: Rates, G: Ledger, R: Ledger> Shared<P, L, G, R> {
     pub fn cancel(&self, rt: &impl Wait, t: Moment, client: &Client, kind: Kind) -> Cancelled
         ensures { t ≤ result.at }
     {
-        let mut table = self.table(table_of(client)).lock(rt);
+        match table_of(client) {
+            0 => self.cancel_at(rt, &self.t0, t, client, kind),
+            1 => self.cancel_at(rt, &self.t1, t, client, kind),
+            2 => self.cancel_at(rt, &self.t2, t, client, kind),
+            _ => self.cancel_at(rt, &self.t3, t, client, kind),
+        }
+    }
+
+    // Ends the client's grant of the kind under the lock of this table, which is the client's.
+    fn cancel_at<J: Place>(
+        &self,
+        rt: &impl Wait,
+        table: &Mutex<Table<P, L, J>>,
+        t: Moment,
+        client: &Client,
+        kind: Kind,
+    ) -> Cancelled
+        requires { table_of_client client.now ≡ J.index }
+        ensures { t ≤ result.at }
+    {
+        let mut table = table.lock(rt);
         let mut desk = self.desk.lock(rt);
         cancel_one(&mut table, &mut desk, t, client, kind)
     }
@@ -219,7 +259,12 @@ impl<P: Port + Send, L: Rates, G: Ledger, R: Ledger> Shared<P, L, G, R> {
         requires table { table < 4 }
         ensures { t ≤ result.at }
     {
-        self.table(table).lock(rt).turn(config, t)
+        match table {
+            0 => self.t0.lock(rt).turn(config, table, t),
+            1 => self.t1.lock(rt).turn(config, table, t),
+            2 => self.t2.lock(rt).turn(config, table, t),
+            _ => self.t3.lock(rt).turn(config, table, t),
+        }
     }
 
     /// Answers a Delay_Req of the client at a moment that is not before `t`.
@@ -235,8 +280,11 @@ impl<P: Port + Send, L: Rates, G: Ledger, R: Ledger> Shared<P, L, G, R> {
         ensures at { t ≤ moment_of_answer result }
         ensures earliest { IsLaterIfTooSoon result }
     {
-        self.table(table_of(client))
-            .lock(rt)
-            .answer_delay(config, t, client, request)
+        match table_of(client) {
+            0 => self.t0.lock(rt).answer_delay(config, t, client, request),
+            1 => self.t1.lock(rt).answer_delay(config, t, client, request),
+            2 => self.t2.lock(rt).answer_delay(config, t, client, request),
+            _ => self.t3.lock(rt).answer_delay(config, t, client, request),
+        }
     }
 }

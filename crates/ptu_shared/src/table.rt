@@ -15,26 +15,30 @@ ghost use Rattle.ptu_shard.specs.Table.{StandsBeside, StandsFor};
 ghost use Rattle.ptu_shard.specs.Turn.{due_messages};
 ghost use Rattle.ptu_shared.specs.Delays.{IsLaterIfTooSoon};
 
+use crate::place::Place;
 use ptu_header::Header;
 use ptu_history::Client;
 use ptu_outside::Port;
 use ptu_shard::{Answered, GmConfig, Shard, Turned};
 use ptu_units::{Moment, OutOfMemory};
 use std::alloc::Global;
+use std::marker::PhantomData;
 use std::sync::ledger::{Ledger, Share};
 
-// A table of leases beside one part of the ledger of rates, whose amount is the table's share.
+// The table of leases at the place J, beside one part of the ledger of rates, whose amount is the
+// table's share.
 #[derive(Drop)]
-pub(crate) struct Table<P: Port, L: Ledger> {
+pub(crate) struct Table<P: Port, L: Ledger, J: Place> {
     pub shard: Shard<P>,
     pub part: Share<L>,
+    place: PhantomData<J>,
     ghost one: { part.parts ≡ 1 },
     ghost same: { part.amount ≡ share_of shard.rows },
 }
 
-impl<P: Port, L: Ledger> Table<P, L> {
+impl<P: Port, L: Ledger, J: Place> Table<P, L, J> {
     // A table without rows, with a part that has no amount.
-    pub fn new(alloc: Global, port: P, part: Share<L>) -> Table<P, L>
+    pub fn new(alloc: Global, port: P, part: Share<L>) -> Table<P, L, J>
         requires parts { part.parts ≡ 1 }
         requires amount { part.amount ≡ 0 }
         ensures rows { result.shard.rows ≡ [] }
@@ -44,6 +48,7 @@ impl<P: Port, L: Ledger> Table<P, L> {
         Table {
             shard: Shard::new(alloc, port),
             part,
+            place: PhantomData,
         }
     }
 
@@ -60,9 +65,10 @@ impl<P: Port, L: Ledger> Table<P, L> {
         self.shard.reserve(1)
     }
 
-    // A turn, by `Shard::turn`.
-    pub fn turn(&mut self, config: &GmConfig, t: Moment) -> Turned
-        requires { IsWithinLimits config.now }
+    // A turn of the table, whose index is handed in, by `Shard::turn`.
+    pub fn turn(&mut self, config: &GmConfig, table: usize, t: Moment) -> Turned
+        requires limits { IsWithinLimits config.now }
+        requires table { table ≡ J.index }
         ensures at { result.at ≡ max t self.old.shard.moment }
         ensures moment { self.new.shard.moment ≡ result.at }
         ensures sends { HandsOver P.Port self.old.shard.port self.new.shard.port
@@ -78,10 +84,11 @@ impl<P: Port, L: Ledger> Table<P, L> {
             StandsFor j self.new.shard
             (history ++ (step opened history result.at (Turn j)).records) }
     {
+        let _ = table;
         self.shard.turn(config, t)
     }
 
-    // The answer to a Delay_Req, by `Shard::answer_delay`.
+    // The answer to a Delay_Req of a client of the table, by `Shard::answer_delay`.
     pub fn answer_delay(
         &mut self,
         config: &GmConfig,
@@ -89,7 +96,8 @@ impl<P: Port, L: Ledger> Table<P, L> {
         client: &Client,
         request: &Header,
     ) -> Answered
-        requires { IsWithinLimits config.now }
+        requires limits { IsWithinLimits config.now }
+        requires table { table_of client.now ≡ J.index }
         ensures at { moment_of_answer result ≡ max t self.old.shard.moment }
         ensures moment { self.new.shard.moment ≡ max t self.old.shard.moment }
         ensures earliest { IsLaterIfTooSoon result }
@@ -112,7 +120,11 @@ impl<P: Port, L: Ledger> Table<P, L> {
     pub fn into_port(self) -> P
         ensures { result ≡ self.shard.port }
     {
-        let Table { shard, part: _ } = self;
+        let Table {
+            shard,
+            part: _,
+            place: _,
+        } = self;
         shard.into_port()
     }
 }

@@ -5,7 +5,7 @@ use super::*;
 use ptu_admit::{Closed, Verdict};
 use ptu_header::{Header, PortIdentity};
 use ptu_history::Client;
-use ptu_outside::{Channel, Failed, MemPort, Port};
+use ptu_outside::{MemPort, Port};
 use ptu_shard::{Answered, GmConfig};
 use ptu_tlvs::Ask;
 use ptu_units::{Kind, Moment};
@@ -13,19 +13,18 @@ use std::alloc::Global;
 use std::marker::Brand;
 use std::process::Abort;
 use std::sync::Wait;
-use std::sync::atomic::{AtomicU64, Ordering};
 use std::sync::ledger::{Blank, Ledger};
 use std::test::Fail;
 use std::thread::{self, Threads};
 
 // A client of table 0 and one of table 1; A is of table 2, and B of table 3.
-const ZERO: Client = Client {
+pub(crate) const ZERO: Client = Client {
     ip: 0x0a00_0103,
     clock: 0x0a00_0000_0000_0003,
     port: 1,
 };
 
-const ONE: Client = Client {
+pub(crate) const ONE: Client = Client {
     ip: 0x0a00_0104,
     clock: 0x0a00_0000_0000_0004,
     port: 1,
@@ -37,7 +36,7 @@ const A: Client = Client {
     port: 1,
 };
 
-const B: Client = Client {
+pub(crate) const B: Client = Client {
     ip: 0x0a00_0112,
     clock: 0x0a00_0000_0000_0012,
     port: 1,
@@ -67,18 +66,15 @@ const DELAY_REQ: Header = Header {
     sequence: 7,
 };
 
-// How often a port that is held, or who waits for it, looks whether it goes on.
-const LOOKS: u64 = 1_000_000_000;
+pub(crate) const ANNOUNCE: u8 = 11;
 
-const ANNOUNCE: u8 = 11;
-
-const SYNC: u8 = 0;
+pub(crate) const SYNC: u8 = 0;
 
 const DELAY_RESP: u8 = 9;
 
 // What a verdict says, in numbers.
 #[derive(Clone, Copy, Debug, PartialEq, Eq)]
-enum Told {
+pub(crate) enum Told {
     Granted {
         at: u64,
         until: u64,
@@ -108,12 +104,12 @@ fn numbers_of(verdict: &Verdict) -> Told {
     }
 }
 
-fn moment(rt: &impl Abort, nanos: u64) -> Moment {
+pub(crate) fn moment(rt: &impl Abort, nanos: u64) -> Moment {
     Moment::of(nanos).expect(rt, "a moment is below 2^62")
 }
 
 // The client asks for the kind of this code at a logarithm, for 300 seconds.
-fn ask<P: Port + Send, L: Rates, G: Ledger, R: Ledger, W: Wait + Abort>(
+pub(crate) fn ask<P: Port + Send, L: Rates, G: Ledger, R: Ledger, W: Wait + Abort>(
     rt: &W,
     shared: &Shared<P, L, G, R>,
     seat: &mut Seat<G, R>,
@@ -134,7 +130,7 @@ fn ask<P: Port + Send, L: Rates, G: Ledger, R: Ledger, W: Wait + Abort>(
     numbers_of(&verdict.expect(rt, "memory is found"))
 }
 
-fn turn<P: Port + Send, L: Rates, G: Ledger, R: Ledger, W: Wait + Abort>(
+pub(crate) fn turn<P: Port + Send, L: Rates, G: Ledger, R: Ledger, W: Wait + Abort>(
     rt: &W,
     shared: &Shared<P, L, G, R>,
     table: usize,
@@ -500,252 +496,4 @@ where
 fn one_of_two_threads_is_short(rt: HostRuntime) -> Result<(), Fail> {
     let (rates, granted, refused) = (Blank::new(4), Blank::new(2), Blank::new(2));
     two_seats::<Brand, Brand, Brand, HostRuntime>(&rt, rt.alloc(), rates, granted, refused, 8)
-}
-
-// Where the port of a table is held in a send.
-#[derive(Drop)]
-struct Gate {
-    // A send has begun.
-    entered: AtomicU64,
-    // The send may go on.
-    opened: AtomicU64,
-    // The limit of looks was reached.
-    late: AtomicU64,
-}
-
-fn closed_gate() -> Gate {
-    Gate {
-        entered: AtomicU64::new(0),
-        opened: AtomicU64::new(0),
-        late: AtomicU64::new(0),
-    }
-}
-
-impl Gate {
-    fn open(&self) {
-        self.opened.store(1, Ordering::SeqCst);
-    }
-
-    // Looks at the flag until it is set or the limit is reached.
-    fn await_flag(&self, flag: &AtomicU64) {
-        for _ in 0..LOOKS {
-            if flag.load(Ordering::SeqCst) == 1 {
-                return;
-            }
-        }
-        self.late.store(1, Ordering::SeqCst);
-    }
-
-    fn is_late(&self) -> bool {
-        self.late.load(Ordering::SeqCst) == 1
-    }
-}
-
-// A port that sends nothing, and is held in each send where it has a gate.
-#[derive(Drop)]
-struct HeldPort<'a> {
-    gate: Option<&'a Gate>,
-}
-
-impl Port for HeldPort<'_> {
-    ghost sent = { λ _. None };
-
-    ghost waiting = { λ _. None };
-
-    ghost faults = { λ _. 0 };
-
-    fn send(&mut self, _ip: u32, _channel: Channel, _bytes: &[u8]) -> Result<(), Failed> {
-        if let Some(gate) = self.gate {
-            gate.entered.store(1, Ordering::SeqCst);
-            gate.await_flag(&gate.opened);
-        }
-        Ok(())
-    }
-
-    fn receive(&mut self, _buf: &mut [u8; 2048]) -> Result<Option<(u32, usize)>, Failed> {
-        Ok(None)
-    }
-}
-
-// A turn of table 0, which is held in its send.
-fn turn_held<L: Rates, G: Ledger, R: Ledger, W: Wait + Abort>(
-    rt: &W,
-    shared: &Shared<HeldPort<'_>, L, G, R>,
-) -> (u64, u64) {
-    turn(rt, shared, 0, 1_000_000_000)
-}
-
-// While table 0 is held, a turn of table 1 returns; then table 0 goes on.
-fn turn_beside<L: Rates, G: Ledger, R: Ledger, W: Wait + Abort>(
-    rt: &W,
-    shared: &Shared<HeldPort<'_>, L, G, R>,
-    gate: &Gate,
-) -> (u64, u64) {
-    gate.await_flag(&gate.entered);
-    let turned = turn(rt, shared, 1, 1_000_000_000);
-    gate.open();
-    turned
-}
-
-// While table 0 is held, a client of table 1 asks and is granted; then table 0 goes on.
-fn ask_beside<L: Rates, G: Ledger, R: Ledger, W: Wait + Abort>(
-    rt: &W,
-    shared: &Shared<HeldPort<'_>, L, G, R>,
-    gate: &Gate,
-    mut seat: Seat<G, R>,
-) -> Told
-    requires { L.parts ≡ 4 }
-{
-    gate.await_flag(&gate.entered);
-    let told = ask(rt, shared, &mut seat, 1_000_000_000, &ONE, ANNOUNCE, 1);
-    gate.open();
-    told
-}
-
-// Shared tables whose table 0 has this gate; clients of tables 0 and 1 were granted Syncs.
-fn open_held<'a, L: Rates, G: Ledger, R: Ledger, W: Wait + Abort>(
-    rt: &W,
-    alloc: Global,
-    rates: Blank,
-    granted: Blank,
-    refused: Blank,
-    capacity: u64,
-    gate: &'a Gate,
-) -> Result<(Shared<HeldPort<'a>, L, G, R>, Seat<G, R>), Fail>
-    requires rates { (rates.name ≡ L.name) × (rates.parts ≡ L.parts) × (L.parts ≡ 4) }
-    requires granted { (granted.name ≡ G.name) × (granted.parts ≡ G.parts)
-        × (G.parts ≡ L.seats) }
-    requires refused { (refused.name ≡ R.name) × (refused.parts ≡ R.parts)
-        × (R.parts ≡ L.seats) }
-    requires capacity { IsCapacity capacity }
-    requires most { capacity ≤ L.most }
-    requires seats { L.seats ≡ 1 }
-{
-    let p0 = HeldPort { gate: Some(gate) };
-    let p1 = HeldPort { gate: None };
-    let p2 = HeldPort { gate: None };
-    let p3 = HeldPort { gate: None };
-    let (shared, mut seats) = Shared::new(
-        alloc, rates, granted, refused, capacity, 1, p0, p1, p2, p3,
-    )?;
-    let mut seat = seats.pop().expect(rt, "there is a seat");
-    let granted = Told::Granted {
-        at: 0,
-        until: 300_000_000_000,
-    };
-    assert_eq!(rt; ask(rt, &shared, &mut seat, 0, &ZERO, SYNC, 0), granted);
-    assert_eq!(rt; ask(rt, &shared, &mut seat, 0, &ONE, SYNC, 0), granted);
-    Ok((shared, seat))
-}
-
-// Table 0 is held in a turn, and beside it table 1 takes a turn.
-fn hold_beside_a_turn<L, G, R, W>(
-    rt: &W,
-    alloc: Global,
-    rates: Blank,
-    granted: Blank,
-    refused: Blank,
-    capacity: u64,
-    gate: &Gate,
-) -> Result<(), Fail>
-where
-    L: Rates + Sync,
-    G: Ledger + Sync,
-    R: Ledger + Sync,
-    W: Wait + Abort + Threads + Sync,
-    requires rates { (rates.name ≡ L.name) × (rates.parts ≡ L.parts) × (L.parts ≡ 4) }
-    requires granted { (granted.name ≡ G.name) × (granted.parts ≡ G.parts)
-        × (G.parts ≡ L.seats) }
-    requires refused { (refused.name ≡ R.name) × (refused.parts ≡ R.parts)
-        × (R.parts ≡ L.seats) }
-    requires capacity { IsCapacity capacity }
-    requires most { capacity ≤ L.most }
-    requires seats { L.seats ≡ 1 }
-{
-    let (shared, _seat) = open_held::<L, G, R, W>(
-        rt, alloc, rates, granted, refused, capacity, gate,
-    )?;
-    let lent = &shared;
-    let (first, second) = thread::join(
-        rt,
-        move || turn_held(rt, lent),
-        move || turn_beside(rt, lent, gate),
-    );
-    assert_eq!(rt; (first, second), ((1, 0), (1, 0)));
-    assert!(rt; !gate.is_late());
-    Ok(())
-}
-
-// Table 0 is held in a turn, and beside it a client of table 1 asks.
-fn hold_beside_an_ask<L, G, R, W>(
-    rt: &W,
-    alloc: Global,
-    rates: Blank,
-    granted: Blank,
-    refused: Blank,
-    capacity: u64,
-    gate: &Gate,
-) -> Result<(), Fail>
-where
-    L: Rates + Sync,
-    G: Ledger + Sync,
-    R: Ledger + Sync,
-    W: Wait + Abort + Threads + Sync,
-    requires rates { (rates.name ≡ L.name) × (rates.parts ≡ L.parts) × (L.parts ≡ 4) }
-    requires granted { (granted.name ≡ G.name) × (granted.parts ≡ G.parts)
-        × (G.parts ≡ L.seats) }
-    requires refused { (refused.name ≡ R.name) × (refused.parts ≡ R.parts)
-        × (R.parts ≡ L.seats) }
-    requires capacity { IsCapacity capacity }
-    requires most { capacity ≤ L.most }
-    requires seats { L.seats ≡ 1 }
-{
-    let (shared, seat) = open_held::<L, G, R, W>(
-        rt, alloc, rates, granted, refused, capacity, gate,
-    )?;
-    let lent = &shared;
-    let (first, second) = thread::join(
-        rt,
-        move || turn_held(rt, lent),
-        move ||
-            requires { L.parts ≡ 4 }
-        { ask_beside(rt, lent, gate, seat) },
-    );
-    let granted = Told::Granted {
-        at: 1_000_000_000,
-        until: 301_000_000_000,
-    };
-    assert_eq!(rt; (first, second), ((1, 0), granted));
-    assert!(rt; !gate.is_late());
-    Ok(())
-}
-
-#[test]
-fn a_turn_goes_on_beside_a_held_table(rt: HostRuntime) -> Result<(), Fail> {
-    let (rates, granted, refused) = (Blank::new(4), Blank::new(1), Blank::new(1));
-    let gate = closed_gate();
-    hold_beside_a_turn::<Brand, Brand, Brand, HostRuntime>(
-        &rt,
-        rt.alloc(),
-        rates,
-        granted,
-        refused,
-        64,
-        &gate,
-    )
-}
-
-#[test]
-fn an_ask_goes_on_beside_a_held_table(rt: HostRuntime) -> Result<(), Fail> {
-    let (rates, granted, refused) = (Blank::new(4), Blank::new(1), Blank::new(1));
-    let gate = closed_gate();
-    hold_beside_an_ask::<Brand, Brand, Brand, HostRuntime>(
-        &rt,
-        rt.alloc(),
-        rates,
-        granted,
-        refused,
-        64,
-        &gate,
-    )
 }
