@@ -153,6 +153,8 @@ impl<'a> Host for LaneHost<'a> {
 
     ghost back = { λ _. None };
 
+    ghost opened_at = { λ _. None };
+
     ghost faults = { λ h. h.faults };
 
     fn open(
