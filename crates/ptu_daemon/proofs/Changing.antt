@@ -47,9 +47,8 @@ module _ {P : Type 0} (ports : Ports P) where
       (handled_same ports _ _ p0) (handled_same ports _ _ p1) (handled_same ports _ _ p2) (handled_same ports _ _ p3) h (omega arith) (omega arith)
 
   pub change_does : (t at capacity sent failed : ℕ) (shed : List Shed) (old new : KeptGm P) →
-      HandsOver (ports.sent old.reply) (ports.sent new.reply) (ports.faults old.reply) (ports.faults new.reply)
+      HandsOver ports old.reply new.reply
       (cancels_to old.config old.sequence (leases_shed shed)) sent failed →
-      ports.waiting new.reply ≡ ports.waiting old.reply →
       (new.s0.port ≡ old.s0.port) × (new.s1.port ≡ old.s1.port) × (new.s2.port ≡ old.s2.port) × (new.s3.port ≡ old.s3.port) →
       new.config ≡ old.config →
       ((opening : ℕ) (history : List Record) → StandsFor opening old history →
@@ -58,9 +57,9 @@ module _ {P : Type 0} (ports : Ports P) where
       StandsFor opening new (history ++ (core_step (opened_with opening old.config) history t (events.Resize capacity)).records)) →
       Does ports old new (Capacity t capacity) sent failed
   unfolding history_after
-  change_does t at capacity sent failed shed old new sends waiting same config found stands = record {
+  change_does t at capacity sent failed shed old new sends same config found stands = record {
     config = config;
-    waiting = waiting;
+    waiting = sends.waiting;
     does = λ opening past stood. (
       stands opening past stood,
       all_same ports (λ i. by i 4 (cancels_to old.config old.sequence (leases_shed shed))) _ 0 sent failed (five old) (five new)

@@ -1,11 +1,12 @@
 -- What the daemon has served, once all rounds were done and the grandmaster was closed.
-use Rattle.std.proofs.Common.{◌≡◌, ◌∙◌, ℕ, ◌+◌, List, [], ◌∷◌, ◌++◌, length, map, flat_map, Option, Some, None, IsSome, refl, sym, ap, subst, arith}
+use Rattle.std.proofs.Common.{◌≡◌, ◌∙◌, ℕ, ◌+◌, List, [], ◌∷◌, ◌++◌, length, map, flat_map, Option, Some, None, IsSome, refl, sym, ap, ap₂, subst, arith, true}
 use Rattle.ptu_outside.specs.declared.clock.Clock.{Ghosts as Clocks}
 use Rattle.ptu_outside.specs.declared.opened.Opened.{Opened}
 use Rattle.ptu_outside.specs.declared.port.Port.{Ghosts as Ports}
 use Rattle.ptu_outside.specs.Departure.{Departure}
-use Rattle.ptu_outside.specs.Faults.{HasRisenBy}
+use Rattle.ptu_outside.specs.Faults.{HasRisenBy, HasRisenJust}
 use Rattle.ptu_outside.specs.Telling.{IfTold, append_told}
+use Rattle.ptu_outside.proofs.HandsOver.{none_failed}
 use Rattle.ptu_history.specs.Core.{book_step_moment, core_history, history_after}
 use Rattle.ptu_history.specs.Counts.{counts}
 use Rattle.ptu_history.specs.History.{Record}
@@ -15,16 +16,17 @@ use Rattle.ptu_items.specs.Deciding.{opened_with}
 use Rattle.ptu_grandmaster.specs.declared.driving.GmEvent.{GmEvent}
 use Rattle.ptu_grandmaster.specs.Driven.{events_of}
 use Rattle.ptu_grandmaster.specs.Gm.{KeptGm, StandsFor, counted}
+use Rattle.ptu_lanes.specs.Sending.{GoesOn, WasSent}
 use Rattle.ptu_config.specs.declared.settings.GmSettings.{GmSettings}
-use Rattle.ptu_rounds.specs.Ports.{HaveNotRisen, HaveRisenBy, WereSent, ports_of, senders_of}
+use Rattle.ptu_rounds.specs.Ports.{HaveNotRisen, HaveRisenBy, HaveRisenJust, WereSent, ports_of, senders_of}
 use Rattle.ptu_rounds.specs.Rounds.{in_rounds, timed}
 use Rattle.ptu_daemon.specs.declared.tally.Tally.{Tally}
 use Rattle.ptu_daemon.specs.Events.{Given, Happening, config_of, round_of, served_events}
 use Rattle.ptu_daemon.specs.Ran.{AllHandled, DidRounds, Takes, after_all, five, standing_as}
 use Rattle.ptu_daemon.specs.Sends.{Standing, sends_by, standing_after}
 use Rattle.ptu_daemon.specs.Served.{Said, served_by, served_history, served_said}
-use Rattle.ptu_daemon.specs.Serving.{AreServed, IsGiven, Serves, WasSent, faults_of}
-use Rattle.ptu_daemon.proofs.Handling.{none_failed}
+use Rattle.ptu_daemon.specs.Serving.{AreServed, IsGiven, Serves, faults_of}
+use Rattle.ptu_daemon.proofs.Handling.{handled_all, many_of}
 
 -- ---- the history of the events
 
@@ -77,12 +79,28 @@ module _ {P C : Type 0} (ports : Ports P) (clocks : Clocks C) where
   risen_of sends i s f n (p ∷ olds) (q ∷ news) old new (s1, f1, s2, f2, e, e', h, hs) rises =
       (f1, f2 + n, omega (arith, e'), h.risen, risen_of sends (i + 1) s2 f2 n olds news old new hs rises)
 
+  just_of : (sends : ℕ → List Departure) (i s f n : ℕ) (olds news : List P) (old new : P) → ports.counts_once ≡ true → AllHandled ports sends i s f olds news →
+      HasRisenJust n (ports.faults old) (ports.faults new) → HaveRisenJust (f + n) (map ports.faults (olds ++ old ∷ [])) (map ports.faults (news ++ new ∷ []))
+  just_of sends i s f n [] [] old new once h rises = let none : f ≡ 0 = h.1 in (n, 0, omega arith, rises, refl)
+  just_of sends i s f n [] (q ∷ news) old new once h rises = absurd h
+  just_of sends i s f n (p ∷ olds) [] old new once h rises = absurd h
+  just_of sends i s f n (p ∷ olds) (q ∷ news) old new once (s1, f1, s2, f2, e, e', h, hs) rises =
+      (f1, f2 + n, omega (arith, e'), h.just once, just_of sends (i + 1) s2 f2 n olds news old new once hs rises)
+
+  quiet_of : (sends : ℕ → List Departure) (i s f n : ℕ) (olds news : List P) (old new : P) → AllHandled ports sends i s f olds news →
+      (n ≡ 0 → ports.faults new ≡ ports.faults old) → f + n ≡ 0 → map ports.faults (news ++ new ∷ []) ≡ map ports.faults (olds ++ old ∷ [])
+  quiet_of sends i s f n [] [] old new h quiet none = ap (λ x. x ∷ []) (quiet (omega (arith, none)))
+  quiet_of sends i s f n [] (q ∷ news) old new h quiet none = absurd h
+  quiet_of sends i s f n (p ∷ olds) [] old new h quiet none = absurd h
+  quiet_of sends i s f n (p ∷ olds) (q ∷ news) old new (s1, f1, s2, f2, e, e', h, hs) quiet none =
+      ap₂ (λ x l. x ∷ l) (h.quiet (omega (arith, e', none))) (quiet_of sends (i + 1) s2 f2 n olds news old new hs quiet (omega (arith, e', none)))
+
   sent_of : (sends : ℕ → List Departure) (i s f : ℕ) (olds news : List P) → AllHandled ports sends i s f olds news →
       WereSent s (map ports.sent olds) (map ports.sent news)
   sent_of sends i s f [] [] h = h.0
   sent_of sends i s f [] (q ∷ news) h = absurd h
   sent_of sends i s f (p ∷ olds) [] h = absurd h
-  sent_of sends i s f (p ∷ olds) (q ∷ news) (s1, f1, s2, f2, e, e', h, hs) = (s1, s2, e, h.many, sent_of sends (i + 1) s2 f2 olds news hs)
+  sent_of sends i s f (p ∷ olds) (q ∷ news) (s1, f1, s2, f2, e, e', h, hs) = (s1, s2, e, many_of (ports.sent p) (ports.sent q) (sends i) s1 h.some, sent_of sends (i + 1) s2 f2 olds news hs)
 
   -- what was sent by each of the five ports, where no count rose
   record SentByFive (sends : ℕ → List Departure) (old new : KeptGm P) (sent : ℕ) : Type 0 where
@@ -91,6 +109,11 @@ module _ {P C : Type 0} (ports : Ports P) (clocks : Clocks C) where
     pub p2 : IfTold (ports.sent new.s2.port) (append_told (ports.sent old.s2.port) (sends 2))
     pub p3 : IfTold (ports.sent new.s3.port) (append_told (ports.sent old.s3.port) (sends 3))
     pub p4 : IfTold (ports.sent new.reply) (append_told (ports.sent old.reply) (sends 4))
+    pub tells0 : GoesOn ports old.s0.port new.s0.port (sends 0)
+    pub tells1 : GoesOn ports old.s1.port new.s1.port (sends 1)
+    pub tells2 : GoesOn ports old.s2.port new.s2.port (sends 2)
+    pub tells3 : GoesOn ports old.s3.port new.s3.port (sends 3)
+    pub tells4 : GoesOn ports old.reply new.reply (sends 4)
     pub many : sent ≡ length (sends 0) + length (sends 1) + length (sends 2) + length (sends 3) + length (sends 4)
 
   sent_by_five : (sends : ℕ → List Departure) (s f : ℕ) (old new : KeptGm P) (a b : P) → AllHandled ports sends 0 s f (five old) (five new) →
@@ -98,12 +121,30 @@ module _ {P C : Type 0} (ports : Ports P) (clocks : Clocks C) where
   sent_by_five sends s f old new a b
       (s0, f0, t0, g0, d0, e0, h0, (s1, f1, t1, g1, d1, e1, h1, (s2, f2, t2, g2, d2, e2, h2, (s3, f3, t3, g3, d3, e3, h3, (s4, f4, t4, g4, d4, e4, h4, (d5, e5))))))
       (r0, (r1, (r2, (r3, (r4, r5))))) = record {
-        p0 = h0.told r0;
-        p1 = h1.told r1;
-        p2 = h2.told r2;
-        p3 = h3.told r3;
-        p4 = h4.told r4;
-        many = omega (arith, d0, d1, d2, d3, d4, d5, h0.all r0, h1.all r1, h2.all r2, h3.all r3, h4.all r4);
+        p0 = h0.all r0;
+        p1 = h1.all r1;
+        p2 = h2.all r2;
+        p3 = h3.all r3;
+        p4 = h4.all r4;
+        tells0 = h0.goes_on (none_failed f0 _ _ h0.risen r0);
+        tells1 = h1.goes_on (none_failed f1 _ _ h1.risen r1);
+        tells2 = h2.goes_on (none_failed f2 _ _ h2.risen r2);
+        tells3 = h3.goes_on (none_failed f3 _ _ h3.risen r3);
+        tells4 = h4.goes_on (none_failed f4 _ _ h4.risen r4);
+        many = omega (
+          arith,
+          d0,
+          d1,
+          d2,
+          d3,
+          d4,
+          d5,
+          handled_all ports _ _ _ s0 f0 h0 r0,
+          handled_all ports _ _ _ s1 f1 h1 r1,
+          handled_all ports _ _ _ s2 f2 h2 r2,
+          handled_all ports _ _ _ s3 f3 h3 r3,
+          handled_all ports _ _ _ s4 f4 h4 r4,
+        );
       }
 
   -- ---- all of it
@@ -144,7 +185,22 @@ module _ {P C : Type 0} (ports : Ports P) (clocks : Clocks C) where
         subst (λ (l : List P). HaveRisenBy said.failed (map ports.faults l) (faults_of ports closed)) opened_are
         (subst (λ (l : List P). HaveRisenBy said.failed (map ports.faults (five gm0 ++ opened.p5 ∷ [])) (map ports.faults l)) closed_are
         (subst (λ n. HaveRisenBy n (map ports.faults (five gm0 ++ opened.p5 ∷ [])) (map ports.faults (five gm1 ++ event ∷ []))) (sym (failed_is ∙ did.ran.failures))
-        (risen_of (λ i. sends_by (standing_as gm0 settings.capacity []) i did.ran.events) 0 tally.sent did.ran.others_failed did.ran.event_failed (five gm0) (five gm1) opened.p5 event handled did.ran.event_risen)))
+        (risen_of (λ i. sends_by (standing_as gm0 settings.capacity []) i did.ran.events) 0 tally.sent did.ran.others_failed did.ran.event_failed (five gm0) (five gm1) opened.p5 event handled did.ran.event_handled.risen)))
+
+    just : ports.counts_once ≡ true → HaveRisenJust said.failed (faults_of ports opened) (faults_of ports closed)
+    just once =
+        subst (λ (l : List P). HaveRisenJust said.failed (map ports.faults l) (faults_of ports closed)) opened_are
+        (subst (λ (l : List P). HaveRisenJust said.failed (map ports.faults (five gm0 ++ opened.p5 ∷ [])) (map ports.faults l)) closed_are
+        (subst (λ n. HaveRisenJust n (map ports.faults (five gm0 ++ opened.p5 ∷ [])) (map ports.faults (five gm1 ++ event ∷ []))) (sym (failed_is ∙ did.ran.failures))
+        (just_of (λ i. sends_by (standing_as gm0 settings.capacity []) i did.ran.events) 0 tally.sent did.ran.others_failed did.ran.event_failed (five gm0) (five gm1) opened.p5 event once handled
+        (did.ran.event_handled.just once))))
+
+    quiet : said.failed ≡ 0 → faults_of ports closed ≡ faults_of ports opened
+    quiet none =
+        ap (map ports.faults) (sym closed_are)
+        ∙ quiet_of (λ i. sends_by (standing_as gm0 settings.capacity []) i did.ran.events) 0 tally.sent did.ran.others_failed did.ran.event_failed (five gm0) (five gm1) opened.p5 event handled
+        did.ran.event_handled.quiet (sym (failed_is ∙ did.ran.failures) ∙ none)
+        ∙ ap (map ports.faults) opened_are
 
     were_sent : WereSent said.sent (map ports.sent (senders_of opened)) (map ports.sent (senders_of closed))
     were_sent =
@@ -199,6 +255,14 @@ module _ {P C : Type 0} (ports : Ports P) (clocks : Clocks C) where
           (subst (λ p. WasSent ports old p (served_by settings given i)) (sym b)
           (subst (λ l. WasSent ports old new l) (sends i) h))
 
+      one_tells : (i : ℕ) (old new old' new' : P) → old ≡ old' → new' ≡ new →
+          GoesOn ports old new (sends_by (standing_as gm0 settings.capacity []) i did.ran.events) →
+          GoesOn ports old' new' (served_by settings given i)
+      one_tells i old new old' new' a b h =
+          subst (λ p. GoesOn ports p new' (served_by settings given i)) a
+          (subst (λ p. GoesOn ports old p (served_by settings given i)) (sym b)
+          (subst (λ l. GoesOn ports old new l) (sends i) h))
+
       are_served : AreServed ports settings given opened closed said
       are_served = record {
         p0 = one_sent 0 _ _ _ _ p0 q0 five_sent.p0;
@@ -207,6 +271,12 @@ module _ {P C : Type 0} (ports : Ports P) (clocks : Clocks C) where
         p3 = one_sent 3 _ _ _ _ p3 q3 five_sent.p3;
         p4 = one_sent 4 _ _ _ _ p4 q4 five_sent.p4;
         p5 = ap ports.sent q5 ∙ did.ran.event_sent;
+        tells0 = one_tells 0 _ _ _ _ p0 q0 five_sent.tells0;
+        tells1 = one_tells 1 _ _ _ _ p1 q1 five_sent.tells1;
+        tells2 = one_tells 2 _ _ _ _ p2 q2 five_sent.tells2;
+        tells3 = one_tells 3 _ _ _ _ p3 q3 five_sent.tells3;
+        tells4 = one_tells 4 _ _ _ _ p4 q4 five_sent.tells4;
+        tells5 = ap ports.has_ceased q5 ∙ did.ran.event_goes_on;
         line = said_is said (served_said settings given)
             (sent_is ∙ five_sent.many ∙ many_are)
             (failed_is ∙ none)
@@ -221,6 +291,8 @@ module _ {P C : Type 0} (ports : Ports P) (clocks : Clocks C) where
     pub serves_of : Serves ports clocks settings opened closed said
     serves_of = record {
       failed = risen;
+      just = just;
+      quiet = quiet;
       sent = were_sent;
       served = are_served;
       c1 = k1;

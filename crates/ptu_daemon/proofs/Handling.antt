@@ -1,61 +1,17 @@
 -- What was handed to ports, one after the other, and in several parts.
-use Rattle.std.proofs.Common.{◌≡◌, ◌∙◌, inl, inr, ℕ, suc, zero, ◌+◌, ◌-◌, ◌^◌, ◌≤◌, List, [], ◌∷◌, ◌++◌, length, Option, Some, None, refl, sym, ap, subst, arith, length-append}
+use Rattle.std.proofs.Common.{◌≡◌, ◌∙◌, inl, ℕ, ◌+◌, ◌≤◌, true, List, [], ◌∷◌, ◌++◌, length, Option, Some, None, refl, sym, ap, subst, arith, length-append}
 use Rattle.std.specs.List.{items_where_true}
 use Rattle.std.specs.Option.{option_map}
-use Rattle.std.proofs.lemmas.List.{append-nil}
 use Rattle.ptu_outside.specs.declared.port.Port.{Ghosts as Ports}
 use Rattle.ptu_outside.specs.Departure.{Departure}
-use Rattle.ptu_outside.specs.Faults.{HasNotFallen, HasRisen, HasRisenBy}
-use Rattle.ptu_outside.specs.HandsOver.{HandsOver}
+use Rattle.ptu_outside.specs.Faults.{HasNotFallen, HasRisen, HasRisenBy, HasRisenJust}
+use Rattle.ptu_outside.specs.HandsOver.{HandsOver, SentOf}
 use Rattle.ptu_outside.specs.Telling.{IfTold, append_told}
-use Rattle.ptu_outside.proofs.Telling.{IfTold-append}
+use Rattle.ptu_outside.proofs.HandsOver.{goes_on_both, just_both, none_failed, not_fallen_both, not_fallen_none, rises_first, rises_second, risen_both, sent_both, sent_none, told_both, told_none}
 use Rattle.ptu_grandmaster.specs.Gm.{KeptGm}
 use Rattle.ptu_daemon.specs.Ran.{AllHandled, Handled, five}
 
--- ---- counts of faults
-
-pub not_fallen_more : (old now new : ℕ) → HasNotFallen old now → HasNotFallen now new → HasNotFallen old new
-not_fallen_more old now new (le, stays) (le', stays') =
-    (omega arith, λ end. let one : now ≡ old = stays end in stays' (subst (λ n. 2 ^ 64 - 1 ≤ n) (sym one) end) ∙ one)
-
-pub risen_more : (m n old now new : ℕ) → HasRisenBy m old now → HasRisenBy n now new → HasNotFallen now new → HasRisenBy (m + n) old new
-risen_more m n old now new (inl a) (inl b) c = inl (omega arith)
-risen_more m n old now new (inl a) (inr b) c = inr b
-risen_more m n old now new (inr a) b c = inr (subst (λ n. 2 ^ 64 - 1 ≤ n) (sym (c.1 a)) a)
-
-pub rises_before : (old now new : ℕ) → HasRisen old now → HasNotFallen now new → HasRisen old new
-rises_before old now new (inl a) c = let le : now ≤ new = c.0 in inl (omega arith)
-rises_before old now new (inr a) c = inr (subst (λ n. 2 ^ 64 - 1 ≤ n) (sym (c.1 a)) a)
-
-pub rises_after : (old now new : ℕ) → HasNotFallen old now → HasRisen now new → HasRisen old new
-rises_after old now new c (inl a) = let le : old ≤ now = c.0 in inl (omega arith)
-rises_after old now new c (inr a) = inr a
-
-pub none_failed : (n old new : ℕ) → HasRisenBy n old new → ¬ HasRisen old new → n ≡ 0
-none_failed zero old new rises still = refl
-none_failed (suc n) old new (inl a) still = absurd (still (inl (omega arith)))
-none_failed (suc n) old new (inr a) still = absurd (still (inr a))
-
-pub still_fallen : (n : ℕ) → HasNotFallen n n
-still_fallen n = (omega arith, λ end. refl)
-
 -- ---- lengths of what is told
-
-pub many_none : (told : Option (List Departure)) → IfTold (option_map length told) (option_map (λ list. length list + 0) told)
-many_none None = tt
-many_none (Some list) = ap Some (omega arith)
-
-many_more : (m n : ℕ) (old now new : Option (List Departure)) →
-    IfTold (option_map length now) (option_map (λ list. length list + m) old) →
-    IfTold (option_map length new) (option_map (λ list. length list + n) now) →
-    IfTold (option_map length new) (option_map (λ list. length list + (m + n)) old)
-many_more m n old now None first second = tt
-many_more m n old None (Some zs) first second = absurd (cc)
-many_more m n None (Some ys) (Some zs) first second = absurd (cc)
-many_more m n (Some xs) (Some ys) (Some zs) first second =
-    let one : length xs + m ≡ length ys = cc in
-    let two : length ys + n ≡ length zs = cc in
-    ap Some (omega arith)
 
 pub many_told : (old new : Option (List Departure)) (sends : List Departure) → IfTold new (append_told old sends) →
     IfTold (option_map length new) (option_map (λ list. length list + length sends) old)
@@ -65,63 +21,78 @@ many_told (Some xs) (Some ys) sends told =
     let one : xs ++ sends ≡ ys = cc in
     ap Some (sym (length-append xs sends) ∙ ap length one)
 
-pub told_none : (told : Option (List Departure)) → IfTold told (append_told told [])
-told_none None = tt
-told_none (Some list) = ap Some (append-nil list)
+pub many_of : (old new : Option (List Departure)) (sends : List Departure) (sent : ℕ) → SentOf old new sends sent →
+    IfTold (option_map length new) (option_map (λ list. length list + sent) old)
+many_of old new sends sent some =
+    subst (λ n. IfTold (option_map length new) (option_map (λ list. length list + n) old)) some.many (many_told old new (items_where_true some.which sends) some.told)
 
 -- ---- one port
 
 module _ {P : Type 0} (ports : Ports P) where
-  pub handled_none : (port : P) → Handled ports [] 0 0 port port
-  handled_none port = record {
-    no_fall = still_fallen (ports.faults port);
-    risen = inl (omega arith);
-    many = many_none (ports.sent port);
-    told = λ still. told_none (ports.sent port);
-    all = λ still. refl;
+  -- nothing was sent, and receives may have failed
+  pub handled_idle : (old new : P) (failed : ℕ) → ports.sent new ≡ ports.sent old → ports.has_ceased new ≡ ports.has_ceased old →
+      HasRisenBy failed (ports.faults old) (ports.faults new) → (ports.counts_once ≡ true → HasRisenJust failed (ports.faults old) (ports.faults new)) →
+      (failed ≡ 0 → ports.faults new ≡ ports.faults old) → HasNotFallen (ports.faults old) (ports.faults new) → Handled ports [] 0 failed old new
+  handled_idle old new failed same goes_on risen just quiet no_fall = record {
+    unsent = 0;
+    within = omega arith;
+    each = refl;
+    some = subst (λ (told : Option (List Departure)). SentOf (ports.sent old) told [] 0) (sym same) (sent_none (ports.sent old));
+    all = λ still. subst (λ (told : Option (List Departure)). IfTold told (append_told (ports.sent old) [])) (sym same) (told_none (ports.sent old));
+    risen = risen;
+    just = just;
+    quiet = quiet;
+    no_fall = no_fall;
+    goes_on = λ none few. goes_on;
   }
+
+  pub handled_quietly : (old new : P) → ports.sent new ≡ ports.sent old → ports.has_ceased new ≡ ports.has_ceased old → ports.faults new ≡ ports.faults old →
+      Handled ports [] 0 0 old new
+  handled_quietly old new same goes_on quiet =
+      handled_idle old new 0 same goes_on (inl (omega (arith, quiet))) (λ once. inl (omega (arith, quiet))) (λ none. quiet)
+      (subst (λ n. HasNotFallen (ports.faults old) n) (sym quiet) (not_fallen_none (ports.faults old)))
 
   pub handled_same : (old new : P) → new ≡ old → Handled ports [] 0 0 old new
-  handled_same old new same = subst (λ p. Handled ports [] 0 0 old p) (sym same) (handled_none old)
-
-  -- nothing was sent, and receives may have failed
-  pub handled_idle : (old new : P) (failed : ℕ) → ports.sent new ≡ ports.sent old → HasNotFallen (ports.faults old) (ports.faults new) →
-      HasRisenBy failed (ports.faults old) (ports.faults new) → Handled ports [] 0 failed old new
-  handled_idle old new failed same no_fall risen = record {
-    no_fall = no_fall;
-    risen = risen;
-    many = subst (λ (told : Option (List Departure)). IfTold (option_map length told) (option_map (λ list. length list + 0) (ports.sent old))) (sym same) (many_none (ports.sent old));
-    told = λ still. subst (λ (told : Option (List Departure)). IfTold told (append_told (ports.sent old) [])) (sym same) (told_none (ports.sent old));
-    all = λ still. refl;
-  }
+  handled_same old new same = handled_quietly old new (ap ports.sent same) (ap ports.has_ceased same) (ap ports.faults same)
 
   -- one after the other, some of which failed
-  pub hands_handled : (old new : P) (sends : List Departure) (sent failed : ℕ) →
-      HandsOver (ports.sent old) (ports.sent new) (ports.faults old) (ports.faults new) sends sent failed → Handled ports sends sent failed old new
+  pub hands_handled : (old new : P) (sends : List Departure) (sent failed : ℕ) → HandsOver ports old new sends sent failed → Handled ports sends sent failed old new
   hands_handled old new sends sent failed h = record {
-    no_fall = h.no_fall;
+    unsent = failed;
+    within = omega arith;
+    each = h.each;
+    some = h.some;
+    all = h.all;
     risen = h.risen;
-    many = subst (λ n. IfTold (option_map length (ports.sent new)) (option_map (λ list. length list + n) (ports.sent old))) h.some.many
-        (many_told (ports.sent old) (ports.sent new) (items_where_true h.some.which sends) h.some.told);
-    told = h.all;
-    all = λ still. let none : failed ≡ 0 = none_failed failed (ports.faults old) (ports.faults new) h.risen still in omega (arith, h.each);
+    just = h.just;
+    quiet = h.quiet;
+    no_fall = h.no_fall;
+    goes_on = h.goes_on;
   }
 
   pub handled_more : (old now new : P) (xs ys : List Departure) (s f s' f' : ℕ) →
       Handled ports xs s f old now → Handled ports ys s' f' now new → Handled ports (xs ++ ys) (s + s') (f + f') old new
   handled_more old now new xs ys s f s' f' h k = record {
-    no_fall = not_fallen_more (ports.faults old) (ports.faults now) (ports.faults new) h.no_fall k.no_fall;
-    risen = risen_more f f' (ports.faults old) (ports.faults now) (ports.faults new) h.risen k.risen k.no_fall;
-    many = many_more s s' (ports.sent old) (ports.sent now) (ports.sent new) h.many k.many;
-    told = λ still. IfTold-append (ports.sent old) (ports.sent now) (ports.sent new) xs ys (h.told (before still)) (k.told (after still));
-    all = λ still. let one : s ≡ length xs = h.all (before still) in let two : s' ≡ length ys = k.all (after still) in omega (arith, length-append xs ys);
+    unsent = h.unsent + k.unsent;
+    within = omega (arith, h.within, k.within);
+    each = omega (arith, h.each, k.each, length-append xs ys);
+    some = sent_both (ports.sent old) (ports.sent now) (ports.sent new) xs ys s s' h.some k.some;
+    all = λ still. told_both (ports.sent old) (ports.sent now) (ports.sent new) xs ys
+        (h.all (λ rises. still (rises_first (ports.faults old) (ports.faults now) (ports.faults new) rises k.no_fall)))
+        (k.all (λ rises. still (rises_second (ports.faults old) (ports.faults now) (ports.faults new) h.no_fall rises)));
+    risen = risen_both (ports.faults old) (ports.faults now) (ports.faults new) f f' h.risen k.risen k.no_fall;
+    just = λ once. just_both (ports.faults old) (ports.faults now) (ports.faults new) f f' (h.just once) (k.just once) k.no_fall;
+    quiet = λ none. k.quiet (omega (arith, none)) ∙ h.quiet (omega (arith, none));
+    no_fall = not_fallen_both (ports.faults old) (ports.faults now) (ports.faults new) h.no_fall k.no_fall;
+    goes_on = λ none. goes_on_both ports.ceases_at xs ys (ports.has_ceased old) (ports.has_ceased now) (ports.has_ceased new) (h.goes_on (omega (arith, none))) (k.goes_on (omega (arith, none)));
   }
-    where
-      before : ¬ HasRisen (ports.faults old) (ports.faults new) → ¬ HasRisen (ports.faults old) (ports.faults now)
-      before still rises = still (rises_before (ports.faults old) (ports.faults now) (ports.faults new) rises k.no_fall)
 
-      after : ¬ HasRisen (ports.faults old) (ports.faults new) → ¬ HasRisen (ports.faults now) (ports.faults new)
-      after still rises = still (rises_after (ports.faults old) (ports.faults now) (ports.faults new) h.no_fall rises)
+  -- where the count did not rise, all were sent
+  pub handled_all : (old new : P) (sends : List Departure) (sent failed : ℕ) → Handled ports sends sent failed old new → ¬ HasRisen (ports.faults old) (ports.faults new) →
+      sent ≡ length sends
+  handled_all old new sends sent failed h still =
+      let none : failed ≡ 0 = none_failed failed (ports.faults old) (ports.faults new) h.risen still in
+      omega (arith, none, h.within, h.each)
 
   -- ---- several ports
 

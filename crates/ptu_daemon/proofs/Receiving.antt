@@ -1,5 +1,5 @@
 -- That a datagram was received, or none.
-use Rattle.std.proofs.Common.{◌≡◌, ◌∙◌, inl, ℕ, ◌+◌, ◌≤◌, List, [], ◌∷◌, take, drop, Option, Some, None, Result, Ok, Err, refl, sym, ap, arith}
+use Rattle.std.proofs.Common.{◌≡◌, ◌∙◌, ℕ, true, ◌+◌, ◌≤◌, List, [], ◌∷◌, take, drop, Option, Some, None, Result, Ok, Err, refl, sym, ap, arith}
 use Rattle.std.specs.Option.{IfNone, IfSome}
 use Rattle.std.specs.Result.{IfOk, OnErr, OnOk}
 use Rattle.ptu_outside.specs.declared.arrival.Arrival.{Arrival}
@@ -7,11 +7,12 @@ use Rattle.ptu_outside.specs.declared.channel.Channel.TheVariants as channels
 use Rattle.ptu_outside.specs.declared.clock.Clock.{Ghosts as Clocks}
 use Rattle.ptu_outside.specs.declared.failed.Failed.{Failed}
 use Rattle.ptu_outside.specs.declared.port.Port.{Ghosts as Ports}
-use Rattle.ptu_outside.specs.Faults.{HasNotFallen, HasRisen, HasRisenBy}
+use Rattle.ptu_outside.specs.Faults.{HasNotFallen, HasRisen, one_more}
 use Rattle.ptu_outside.specs.Telling.{IfTold, IsEmptyTold, IsFirstTold, rest_told}
+use Rattle.ptu_outside.proofs.HandsOver.{just_once}
 use Rattle.ptu_daemon.specs.declared.daemon.Daemon.{Daemon}
-use Rattle.ptu_daemon.specs.Ran.{Gives, Ran, Received, arrived}
-use Rattle.ptu_daemon.proofs.Handling.{still_fallen}
+use Rattle.ptu_daemon.specs.Ran.{Gives, Handled, Ran, Received, arrived}
+use Rattle.ptu_daemon.proofs.Handling.{handled_idle, handled_quietly, handled_same}
 use Rattle.ptu_daemon.proofs.Running.{gives_none, ran_quietly}
 
 gives_one : (old new : Option (List Arrival)) (a : Arrival) → IsFirstTold old a → IfTold new (rest_told old) → Gives old new (a ∷ [])
@@ -32,6 +33,11 @@ left_none old None empty kept = tt
 left_none None (Some left) empty kept = absurd (cc)
 left_none (Some xs) (Some left) empty kept = let same : xs ≡ left = cc in sym same ∙ empty
 
+-- how many receives failed, of one
+abbrev lost : Result (Option (ℕ × ℕ)) Failed → ℕ
+lost (Ok got) = 0
+lost (Err failed) = 1
+
 module _ {P C : Type 0} (ports : Ports P) (clocks : Clocks C) where
   -- what one receive of a port does
   pub record Receives (port port' : P) (bytes : List ℕ) (result : Result (Option (ℕ × ℕ)) Failed) : Type 0 where
@@ -43,52 +49,60 @@ module _ {P C : Type 0} (ports : Ports P) (clocks : Clocks C) where
     pub kept : OnErr result (IfTold (ports.waiting port') (ports.waiting port))
     pub sent : ports.sent port' ≡ ports.sent port
     pub risen : OnErr result (HasRisen (ports.faults port) (ports.faults port'))
+    pub once : OnErr result (ports.counts_once ≡ true → ports.faults port' ≡ one_more (ports.faults port))
     pub quiet : OnOk result (ports.faults port' ≡ ports.faults port)
     pub no_fall : HasNotFallen (ports.faults port) (ports.faults port')
+    pub goes_on : ports.has_ceased port' ≡ ports.has_ceased port
+
+  receive_handled : (port port' : P) (bytes : List ℕ) (result : Result (Option (ℕ × ℕ)) Failed) → Receives port port' bytes result →
+      Handled ports [] 0 (lost result) port port'
+  receive_handled port port' bytes (Ok got) r = handled_quietly ports port port' r.sent r.goes_on r.quiet
+  receive_handled port port' bytes (Err failed) r =
+      handled_idle ports port port' 1 r.sent r.goes_on r.risen (λ counts. just_once (ports.faults port) (ports.faults port') (r.once counts))
+      (λ none. absurd (omega (arith, none))) r.no_fall
 
   -- by the port of the general channel
-  came_general : (old : Daemon P C) (port' : P) (general : List Arrival) (failed : ℕ) → ports.sent port' ≡ ports.sent old.gm.reply →
-      HasNotFallen (ports.faults old.gm.reply) (ports.faults port') → HasRisenBy failed (ports.faults old.gm.reply) (ports.faults port') →
+  came_general : (old : Daemon P C) (port' : P) (general : List Arrival) (failed : ℕ) → Handled ports [] 0 failed old.gm.reply port' →
       Gives (ports.waiting old.gm.reply) (ports.waiting port') general →
       Ran ports clocks old (record old { gm = record (old.gm) { reply = port' } }) [] general [] 0 (failed + 0)
-  came_general old port' general failed sent no_fall risen gives =
-      ran_quietly ports clocks old (record old { gm = record (old.gm) { reply = port' } }) general [] failed 0 refl refl sent no_fall risen
-      refl (still_fallen (ports.faults old.event)) (inl (omega arith)) gives (gives_none (ports.waiting old.event))
+  came_general old port' general failed handled gives =
+      ran_quietly ports clocks old (record old { gm = record (old.gm) { reply = port' } }) general [] failed 0 refl refl handled
+      refl refl (handled_same ports old.event old.event refl) gives (gives_none (ports.waiting old.event))
 
   came_event : (old : Daemon P C) (port' : P) (event : List Arrival) (failed : ℕ) → ports.sent port' ≡ ports.sent old.event →
-      HasNotFallen (ports.faults old.event) (ports.faults port') → HasRisenBy failed (ports.faults old.event) (ports.faults port') →
+      ports.has_ceased port' ≡ ports.has_ceased old.event → Handled ports [] 0 failed old.event port' →
       Gives (ports.waiting old.event) (ports.waiting port') event →
       Ran ports clocks old (record old { event = port' }) [] [] event 0 (0 + failed)
-  came_event old port' event failed sent no_fall risen gives =
-      ran_quietly ports clocks old (record old { event = port' }) [] event 0 failed refl refl refl (still_fallen (ports.faults old.gm.reply)) (inl (omega arith))
-      sent no_fall risen (gives_none (ports.waiting old.gm.reply)) gives
+  came_event old port' event failed sent goes_on handled gives =
+      ran_quietly ports clocks old (record old { event = port' }) [] event 0 failed refl refl (handled_same ports old.gm.reply old.gm.reply refl)
+      sent goes_on handled (gives_none (ports.waiting old.gm.reply)) gives
 
   pub received_general : (old : Daemon P C) (port' : P) (bytes : List ℕ) (result : Result (Option (ℕ × ℕ)) Failed) →
       Receives old.gm.reply port' bytes result →
       Received ports clocks channels.General old (record old { gm = record (old.gm) { reply = port' } }) bytes result
   received_general old port' bytes (Ok (Some got)) r = (
     r.within,
-    came_general old port' (arrived got.0 (take got.1 bytes) ∷ []) 0 r.sent r.no_fall (inl (omega (arith, r.quiet)))
+    came_general old port' (arrived got.0 (take got.1 bytes) ∷ []) 0 (receive_handled old.gm.reply port' bytes (Ok (Some got)) r)
         (gives_one (ports.waiting old.gm.reply) (ports.waiting port') _ r.first r.rest),
   )
   received_general old port' bytes (Ok None) r = (
-    came_general old port' [] 0 r.sent r.no_fall (inl (omega (arith, r.quiet))) (gives_kept (ports.waiting old.gm.reply) (ports.waiting port') r.left),
+    came_general old port' [] 0 (receive_handled old.gm.reply port' bytes (Ok None) r) (gives_kept (ports.waiting old.gm.reply) (ports.waiting port') r.left),
     left_none (ports.waiting old.gm.reply) (ports.waiting port') r.nothing r.left,
   )
   received_general old port' bytes (Err e) r =
-      came_general old port' [] 1 r.sent r.no_fall r.risen (gives_kept (ports.waiting old.gm.reply) (ports.waiting port') r.kept)
+      came_general old port' [] 1 (receive_handled old.gm.reply port' bytes (Err e) r) (gives_kept (ports.waiting old.gm.reply) (ports.waiting port') r.kept)
 
   pub received_event : (old : Daemon P C) (port' : P) (bytes : List ℕ) (result : Result (Option (ℕ × ℕ)) Failed) →
       Receives old.event port' bytes result →
       Received ports clocks channels.Event old (record old { event = port' }) bytes result
   received_event old port' bytes (Ok (Some got)) r = (
     r.within,
-    came_event old port' (arrived got.0 (take got.1 bytes) ∷ []) 0 r.sent r.no_fall (inl (omega (arith, r.quiet)))
+    came_event old port' (arrived got.0 (take got.1 bytes) ∷ []) 0 r.sent r.goes_on (receive_handled old.event port' bytes (Ok (Some got)) r)
         (gives_one (ports.waiting old.event) (ports.waiting port') _ r.first r.rest),
   )
   received_event old port' bytes (Ok None) r = (
-    came_event old port' [] 0 r.sent r.no_fall (inl (omega (arith, r.quiet))) (gives_kept (ports.waiting old.event) (ports.waiting port') r.left),
+    came_event old port' [] 0 r.sent r.goes_on (receive_handled old.event port' bytes (Ok None) r) (gives_kept (ports.waiting old.event) (ports.waiting port') r.left),
     left_none (ports.waiting old.event) (ports.waiting port') r.nothing r.left,
   )
   received_event old port' bytes (Err e) r =
-      came_event old port' [] 1 r.sent r.no_fall r.risen (gives_kept (ports.waiting old.event) (ports.waiting port') r.kept)
+      came_event old port' [] 1 r.sent r.goes_on (receive_handled old.event port' bytes (Err e) r) (gives_kept (ports.waiting old.event) (ports.waiting port') r.kept)

@@ -1,5 +1,5 @@
 -- What parts of the daemon have done, one after the other.
-use Rattle.std.proofs.Common.{◌≡◌, ◌∙◌, inl, ℕ, suc, zero, ◌+◌, List, [], ◌∷◌, ◌++◌, length, Option, Some, None, refl, sym, ap, subst, arith, append_assoc, length-append, Result, Ok, Err}
+use Rattle.std.proofs.Common.{◌≡◌, ◌∙◌, ℕ, suc, zero, ◌+◌, List, [], ◌∷◌, ◌++◌, length, Option, Some, None, refl, sym, ap, subst, arith, append_assoc, length-append, Result, Ok, Err}
 use Rattle.std.specs.Result.{IfOk}
 use Rattle.std.specs.Option.{option_map}
 use Rattle.std.proofs.lemmas.List.{append-nil}
@@ -7,7 +7,6 @@ use Rattle.ptu_outside.specs.declared.arrival.Arrival.{Arrival}
 use Rattle.ptu_outside.specs.declared.clock.Clock.{Ghosts as Clocks}
 use Rattle.ptu_outside.specs.declared.port.Port.{Ghosts as Ports}
 use Rattle.ptu_outside.specs.Clocks.{after_first}
-use Rattle.ptu_outside.specs.Faults.{HasNotFallen, HasRisenBy}
 use Rattle.ptu_outside.specs.Telling.{IfTold, IsFirstTold}
 use Rattle.ptu_history.specs.History.{Record}
 use Rattle.ptu_grandmaster.specs.declared.driving.GmEvent.{GmEvent}
@@ -15,9 +14,9 @@ use Rattle.ptu_grandmaster.specs.Gm.{StandsFor}
 use Rattle.ptu_rounds.specs.Rounds.{moments_after, next_of, timed}
 use Rattle.ptu_daemon.specs.declared.daemon.Daemon.{Daemon}
 use Rattle.ptu_daemon.specs.Events.{Happening}
-use Rattle.ptu_daemon.specs.Ran.{AllHandled, Does, Gives, Ran, Takes, after_all, five, standing_as}
+use Rattle.ptu_daemon.specs.Ran.{AllHandled, Does, Gives, Handled, Ran, Takes, after_all, five, standing_as}
 use Rattle.ptu_daemon.specs.Sends.{Standing, event_sends, sends_by, standing_after}
-use Rattle.ptu_daemon.proofs.Handling.{all_more, all_same, five_handled, handled_idle, handled_same, not_fallen_more, risen_more, still_fallen}
+use Rattle.ptu_daemon.proofs.Handling.{all_more, all_same, five_handled, handled_more, handled_same}
 
 pub ok_more : {T E : Type 0} {A B : T → Type 0} (r : Result T E) → ((x : T) → A x → B x) → IfOk r A → IfOk r B
 ok_more (Ok x) f h = f x h
@@ -101,30 +100,29 @@ module _ {P C : Type 0} (ports : Ports P) (clocks : Clocks C) where
   -- nothing has happened, but for what the ports received
   pub ran_quietly : (old new : Daemon P C) (general event : List Arrival) (failed event_failed : ℕ) →
       new.gm ≡ record (old.gm) { reply = new.gm.reply } → new.clock ≡ old.clock →
-      ports.sent new.gm.reply ≡ ports.sent old.gm.reply → HasNotFallen (ports.faults old.gm.reply) (ports.faults new.gm.reply) →
-      HasRisenBy failed (ports.faults old.gm.reply) (ports.faults new.gm.reply) →
-      ports.sent new.event ≡ ports.sent old.event → HasNotFallen (ports.faults old.event) (ports.faults new.event) →
-      HasRisenBy event_failed (ports.faults old.event) (ports.faults new.event) →
+      Handled ports [] 0 failed old.gm.reply new.gm.reply →
+      ports.sent new.event ≡ ports.sent old.event → ports.has_ceased new.event ≡ ports.has_ceased old.event →
+      Handled ports [] 0 event_failed old.event new.event →
       Gives (ports.waiting old.gm.reply) (ports.waiting new.gm.reply) general → Gives (ports.waiting old.event) (ports.waiting new.event) event →
       Ran ports clocks old new [] general event 0 (failed + event_failed)
   unfolding sends_by
-  ran_quietly old new general event failed event_failed same clock sent no_fall risen event_sent event_no_fall event_risen gives event_gives = record {
+  ran_quietly old new general event failed event_failed same clock handled event_sent event_goes_on event_handled gives event_gives = record {
     events = [];
     config = ap (λ g. g.config) same;
     takes = subst (λ c. Takes (clocks.moments old.clock) (clocks.moments c) [] []) (sym clock) (takes_none (clocks.moments old.clock));
     general_given = gives;
     event_given = event_gives;
     event_sent = event_sent;
-    event_no_fall = event_no_fall;
+    event_goes_on = event_goes_on;
     event_failed = event_failed;
-    event_risen = event_risen;
+    event_handled = event_handled;
     others_failed = failed;
     failures = refl;
     does = λ opening past stood. (
       stands opening past stood,
       five_handled ports (λ i. []) old.gm new.gm 0 0 0 0 0 0 0 0 0 failed 0 failed
           (handled_same ports _ _ (ap (λ g. g.s0.port) same)) (handled_same ports _ _ (ap (λ g. g.s1.port) same)) (handled_same ports _ _ (ap (λ g. g.s2.port) same))
-          (handled_same ports _ _ (ap (λ g. g.s3.port) same)) (handled_idle ports old.gm.reply new.gm.reply failed sent no_fall risen) (omega arith) (omega arith),
+          (handled_same ports _ _ (ap (λ g. g.s3.port) same)) handled (omega arith) (omega arith),
     );
   }
     where
@@ -134,8 +132,8 @@ module _ {P C : Type 0} (ports : Ports P) (clocks : Clocks C) where
 
   pub ran_none : (daemon : Daemon P C) → Ran ports clocks daemon daemon [] [] [] 0 0
   ran_none daemon =
-      ran_quietly daemon daemon [] [] 0 0 refl refl refl (still_fallen (ports.faults daemon.gm.reply)) (inl (omega arith))
-      refl (still_fallen (ports.faults daemon.event)) (inl (omega arith))
+      ran_quietly daemon daemon [] [] 0 0 refl refl (handled_same ports daemon.gm.reply daemon.gm.reply refl)
+      refl refl (handled_same ports daemon.event daemon.event refl)
       (gives_none (ports.waiting daemon.gm.reply)) (gives_none (ports.waiting daemon.event))
 
   -- an event has happened at a new moment
@@ -151,9 +149,9 @@ module _ {P C : Type 0} (ports : Ports P) (clocks : Clocks C) where
     general_given = subst (λ told. Gives (ports.waiting old.gm.reply) told []) (sym h.waiting) (gives_none (ports.waiting old.gm.reply));
     event_given = subst (λ p. Gives (ports.waiting old.event) (ports.waiting p) []) (sym same) (gives_none (ports.waiting old.event));
     event_sent = ap ports.sent same;
-    event_no_fall = subst (λ p. HasNotFallen (ports.faults old.event) (ports.faults p)) (sym same) (still_fallen (ports.faults old.event));
+    event_goes_on = ap ports.has_ceased same;
     event_failed = 0;
-    event_risen = inl (omega (arith, ap ports.faults same));
+    event_handled = handled_same ports old.event new.event same;
     others_failed = failed;
     failures = omega arith;
     does = λ opening past stood. (
@@ -174,9 +172,9 @@ module _ {P C : Type 0} (ports : Ports P) (clocks : Clocks C) where
     general_given = gives_more (ports.waiting old.gm.reply) (ports.waiting now.gm.reply) (ports.waiting new.gm.reply) gs gs' h.general_given k.general_given;
     event_given = gives_more (ports.waiting old.event) (ports.waiting now.event) (ports.waiting new.event) es es' h.event_given k.event_given;
     event_sent = k.event_sent ∙ h.event_sent;
-    event_no_fall = not_fallen_more (ports.faults old.event) (ports.faults now.event) (ports.faults new.event) h.event_no_fall k.event_no_fall;
+    event_goes_on = k.event_goes_on ∙ h.event_goes_on;
     event_failed = h.event_failed + k.event_failed;
-    event_risen = risen_more h.event_failed k.event_failed (ports.faults old.event) (ports.faults now.event) (ports.faults new.event) h.event_risen k.event_risen k.event_no_fall;
+    event_handled = handled_more ports old.event now.event new.event [] [] 0 h.event_failed 0 k.event_failed h.event_handled k.event_handled;
     others_failed = h.others_failed + k.others_failed;
     failures = omega (arith, h.failures, k.failures);
     does = both;

@@ -1,10 +1,7 @@
 -- That a datagram was taken.
-use Rattle.std.proofs.Common.{◌≡◌, ◌↔◌, ℕ, ◌+◌, ◌%◌, ◌<◌, ◌==◌, Bool, true, false, if◌then◌else◌, List, [], ◌∷◌, map, length, refl, sym, ap, ap₂, subst, arith, inl, Option, Some, None, Result, Ok, Err}
-use Rattle.std.specs.Option.{option_map}
+use Rattle.std.proofs.Common.{◌≡◌, ◌↔◌, ℕ, ◌+◌, ◌%◌, ◌<◌, ◌==◌, Bool, true, false, if◌then◌else◌, List, [], ◌∷◌, map, refl, sym, ap, ap₂, subst, arith, Result, Ok, Err}
 use Rattle.ptu_outside.specs.declared.port.Port.{Ghosts as Ports}
 use Rattle.ptu_outside.specs.Departure.{Departure}
-use Rattle.ptu_outside.specs.Faults.{HasNotFallen, HasRisen}
-use Rattle.ptu_outside.specs.Telling.{IfTold, append_told}
 use Rattle.ptu_header.specs.declared.header.Header.{Header}
 use Rattle.ptu_history.specs.Client.{table_of}
 use Rattle.ptu_history.specs.Core.{history_after, table_step_moment}
@@ -33,7 +30,7 @@ use Rattle.ptu_daemon.specs.Counting.{failed_for, reply_failed, reply_sent, sent
 use Rattle.ptu_daemon.specs.Ran.{AllHandled, Does, Handled, five, standing_as}
 use Rattle.ptu_daemon.specs.Sends.{by, heard_sends}
 use Rattle.ptu_daemon.proofs.Changing.{reply_handled}
-use Rattle.ptu_daemon.proofs.Handling.{all_same, five_handled, handled_idle, handled_same, hands_handled, many_told, still_fallen}
+use Rattle.ptu_daemon.proofs.Handling.{all_same, five_handled, handled_same, hands_handled}
 use Rattle.ptu_daemon.proofs.Turning.{table_handled}
 
 -- a table is one of the four
@@ -47,50 +44,17 @@ either_same false xs = refl
 module _ {P : Type 0} (ports : Ports P) where
   -- ---- one reply
 
-  quiet_handled : (old new : P) (d : Departure) → IfTold (ports.sent new) (append_told (ports.sent old) (d ∷ [])) → ports.faults new ≡ ports.faults old →
-      Handled ports (d ∷ []) 1 0 old new
-  quiet_handled old new d told quiet = record {
-    no_fall = subst (λ n. HasNotFallen (ports.faults old) n) (sym quiet) (still_fallen (ports.faults old));
-    risen = inl (omega (arith, quiet));
-    many = many_told (ports.sent old) (ports.sent new) (d ∷ []) told;
-    told = λ still. told;
-    all = λ still. refl;
-  }
-
-  none_told : (told after : Option (List Departure)) → IfTold after told →
-      IfTold (option_map length after) (option_map (λ list. length list + 0) told)
-  none_told told None kept = tt
-  none_told None (Some ys) kept = absurd (cc)
-  none_told (Some xs) (Some ys) kept =
-      let one : xs ≡ ys = cc in
-      let same : length xs ≡ length ys = ap length one in
-      ap Some (omega (arith, same))
-
-  failed_handled : (old new : P) (sends : List Departure) → IfTold (ports.sent new) (ports.sent old) →
-      HasRisen (ports.faults old) (ports.faults new) → HasNotFallen (ports.faults old) (ports.faults new) →
-      Handled ports sends 0 1 old new
-  failed_handled old new sends kept rises no_fall = record {
-    no_fall = no_fall;
-    risen = rises;
-    many = none_told (ports.sent old) (ports.sent new) kept;
-    told = λ still. absurd (still rises);
-    all = λ still. absurd (still rises);
-  }
-
-  nothing_handled : (old new : P) → ports.sent new ≡ ports.sent old → ports.faults new ≡ ports.faults old → Handled ports [] 0 0 old new
-  nothing_handled old new same quiet =
-      handled_idle ports old new 0 same (subst (λ n. HasNotFallen (ports.faults old) n) (sym quiet) (still_fallen (ports.faults old))) (inl (omega (arith, quiet)))
-
   -- what became of a reply, of which there is none where there is nothing to answer
   reply_of : (reply : Reply) (old new : P) (d : Departure) (sends : List Departure) →
-      Replies reply (ports.sent old) (ports.sent new) (ports.faults old) (ports.faults new) d →
+      Replies ports reply old new d →
       (reply ≡ replies.Nothing → sends ≡ []) → (¬ (reply ≡ replies.Nothing) → sends ≡ d ∷ []) →
       Handled ports sends (reply_sent reply) (reply_failed reply) old new
   reply_of replies.Sent old new d sends h none some =
-      subst (λ l. Handled ports l 1 0 old new) (sym (some (λ e. absurd (cc)))) (quiet_handled old new d h.0 h.1)
-  reply_of replies.Failed old new d sends h none some = failed_handled old new sends h.0 h.1 h.2
+      subst (λ l. Handled ports l 1 0 old new) (sym (some (λ e. absurd (cc)))) (hands_handled ports old new (d ∷ []) 1 0 h)
+  reply_of replies.Failed old new d sends h none some =
+      subst (λ l. Handled ports l 0 1 old new) (sym (some (λ e. absurd (cc)))) (hands_handled ports old new (d ∷ []) 0 1 h)
   reply_of replies.Nothing old new d sends h none some =
-      subst (λ l. Handled ports l 0 0 old new) (sym (none refl)) (nothing_handled old new h.0 h.1)
+      subst (λ l. Handled ports l 0 0 old new) (sym (none refl)) (handled_same ports old new h)
 
   -- ---- what was heard
 
@@ -108,13 +72,11 @@ module _ {P : Type 0} (ports : Ports P) where
 
     delay_sends : (header : Header) (answered : Answered) →
         (let c = client_of from header in let j = table_of c in
-        Responds old.config c header answered (ports.sent (table_at j old).port) (ports.sent (table_at j new).port)
-        (ports.faults (table_at j old).port) (ports.faults (table_at j new).port)
-        × (ports.waiting (table_at j new).port ≡ ports.waiting (table_at j old).port) × (new ≡ with_table j (table_at j new) old)) →
+        Responds ports old.config c header answered (table_at j old).port (table_at j new).port × (new ≡ with_table j (table_at j new) old)) →
         (let c = client_of from header in
         (moment_of_answer answered ≡ table_step_moment past t (table_of c)) × (met_by answered ≡ delay_answer past (table_step_moment past t (table_of c)) c)) →
         SendsFor (Ok (heard.DelayReq header)) (Delay answered)
-    delay_sends header answered (responds, waiting, rest) (moment, met) =
+    delay_sends header answered (responds, rest) (moment, met) =
         all_same ports (λ i. by i (table_of (client_of from header)) (responses (met_by answered) (response_of old.config (moment_of_answer answered) (client_of from header) header))) _ 0
         (sent_by answered) (failed_by answered) (five old) (five new)
         (λ i. ap₂ (λ a x. by i (table_of (client_of from header)) (responses a (response_of old.config x (client_of from header) header))) (sym met) (sym moment))
@@ -124,7 +86,7 @@ module _ {P : Type 0} (ports : Ports P) where
 
     asked_sends : (header : Header) (items : List Item) (outcomes : List Outcome) (reply : Reply) →
         ((reply ≡ replies.Nothing) ↔ (items ≡ [])) →
-        Replies reply (ports.sent old.reply) (ports.sent new.reply) (ports.faults old.reply) (ports.faults new.reply)
+        Replies ports reply old.reply new.reply
         (reply_to old.config from header (answers_seen outcomes)) →
         (new.s0.port ≡ old.s0.port) × (new.s1.port ≡ old.s1.port) × (new.s2.port ≡ old.s2.port) × (new.s3.port ≡ old.s3.port) →
         decisions_seen outcomes ≡ decisions_of (opened_with opening old.config) past t (client_of from header) items →
@@ -147,11 +109,9 @@ module _ {P : Type 0} (ports : Ports P) where
 
     taken_sends : (what : Result Heard GmReason) (taken : Taken) → IsAnswerTo what taken → OnIgnored taken (new ≡ old) →
         OnDelay what taken (λ header answered. let c = client_of from header in let j = table_of c in
-        Responds old.config c header answered (ports.sent (table_at j old).port) (ports.sent (table_at j new).port)
-        (ports.faults (table_at j old).port) (ports.faults (table_at j new).port)
-        × (ports.waiting (table_at j new).port ≡ ports.waiting (table_at j old).port) × (new ≡ with_table j (table_at j new) old)) →
+        Responds ports old.config c header answered (table_at j old).port (table_at j new).port × (new ≡ with_table j (table_at j new) old)) →
         OnAsked what taken (λ header outcomes reply.
-        Replies reply (ports.sent old.reply) (ports.sent new.reply) (ports.faults old.reply) (ports.faults new.reply)
+        Replies ports reply old.reply new.reply
         (reply_to old.config from header (answers_seen outcomes))) →
         OnAsked what taken (λ header outcomes reply.
         (new.s0.port ≡ old.s0.port) × (new.s1.port ≡ old.s1.port) × (new.s2.port ≡ old.s2.port) × (new.s3.port ≡ old.s3.port)) →
@@ -171,11 +131,9 @@ module _ {P : Type 0} (ports : Ports P) where
       sent ≡ sent_for taken → failed ≡ failed_for taken →
       IsAnswerTo (heard_in old.config octets) taken → OnIgnored taken (new ≡ old) →
       OnDelay (heard_in old.config octets) taken (λ header answered. let c = client_of from header in let j = table_of c in
-      Responds old.config c header answered (ports.sent (table_at j old).port) (ports.sent (table_at j new).port)
-      (ports.faults (table_at j old).port) (ports.faults (table_at j new).port)
-      × (ports.waiting (table_at j new).port ≡ ports.waiting (table_at j old).port) × (new ≡ with_table j (table_at j new) old)) →
+      Responds ports old.config c header answered (table_at j old).port (table_at j new).port × (new ≡ with_table j (table_at j new) old)) →
       OnAsked (heard_in old.config octets) taken (λ header outcomes reply.
-      Replies reply (ports.sent old.reply) (ports.sent new.reply) (ports.faults old.reply) (ports.faults new.reply)
+      Replies ports reply old.reply new.reply
       (reply_to old.config from header (answers_seen outcomes))) →
       OnAsked (heard_in old.config octets) taken (λ header outcomes reply.
       (new.s0.port ≡ old.s0.port) × (new.s1.port ≡ old.s1.port) × (new.s2.port ≡ old.s2.port) × (new.s3.port ≡ old.s3.port)) →

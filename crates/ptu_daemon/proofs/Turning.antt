@@ -56,7 +56,7 @@ module _ {P : Type 0} (ports : Ports P) where
   table_reply (suc (suc (suc (suc j)))) old new below rest = absurd (omega arith)
 
   pub turn_does : (t j at sent failed : ℕ) (old new : KeptGm P) → j < 4 →
-      HandsOver (ports.sent (table_at j old).port) (ports.sent (table_at j new).port) (ports.faults (table_at j old).port) (ports.faults (table_at j new).port)
+      HandsOver ports (table_at j old).port (table_at j new).port
       (map (departure_of old.config at) (due_messages at (table_at j old).rows)) sent failed →
       new ≡ with_table j (table_at j new) old →
       ((opening : ℕ) (history : List Record) → StandsFor opening old history →

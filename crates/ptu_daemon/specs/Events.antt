@@ -1,6 +1,7 @@
 -- What happens to a grandmaster that is served, in order (the project's own choice).
 use Rattle.std.specs.Prelude.{ℕ, ◌+◌, Bool, true, ◌==◌, List, [], ◌∷◌, ◌++◌, map, Option, Some}
 use Rattle.ptu_outside.specs.declared.arrival.Arrival.{Arrival}
+use Rattle.ptu_outside.specs.declared.endpoint.Endpoint.{Endpoint}
 use Rattle.ptu_shard.specs.declared.config.GmConfig.{GmConfig}
 use Rattle.ptu_grandmaster.specs.declared.driving.GmEvent.{GmEvent}
 use Rattle.ptu_grandmaster.specs.declared.driving.GmEvent.TheVariants.{Take, Turn, Capacity}
@@ -15,6 +16,14 @@ config_of settings = record {
   class = settings.class;
   max_duration = settings.max_duration;
   epoch = settings.epoch;
+}
+
+-- where it is opened
+abbrev pub endpoint_of : GmSettings → Endpoint
+endpoint_of settings = record {
+  ip = settings.ip;
+  event_port = settings.event_port;
+  general_port = settings.general_port;
 }
 
 -- what waits at ports 4 and 5, and the moments of clock 0

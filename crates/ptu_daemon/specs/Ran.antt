@@ -1,5 +1,5 @@
 -- What a part of the daemon has done so far.
-use Rattle.std.specs.Prelude.{◌≡◌, ◌⊎◌, ℕ, ◌+◌, ◌*◌, ◌^◌, ◌≤◌, List, [], ◌∷◌, ◌++◌, length, map, take, Option, Some, None, Result, Ok, Err, IfSome, option_map}
+use Rattle.std.specs.Prelude.{◌≡◌, ◌⊎◌, ℕ, ◌+◌, ◌*◌, ◌^◌, ◌≤◌, List, [], ◌∷◌, ◌++◌, length, map, take, true, Option, Some, None, Result, Ok, Err, IfSome}
 use Rattle.ptu_outside.specs.declared.arrival.Arrival.{Arrival}
 use Rattle.ptu_outside.specs.declared.channel.Channel.{Channel}
 use Rattle.ptu_outside.specs.declared.channel.Channel.TheVariants as channels
@@ -7,11 +7,12 @@ use Rattle.ptu_outside.specs.declared.clock.Clock.{Ghosts as Clocks}
 use Rattle.ptu_outside.specs.declared.failed.Failed.{Failed}
 use Rattle.ptu_outside.specs.declared.port.Port.{Ghosts as Ports}
 use Rattle.ptu_outside.specs.Departure.{Departure}
-use Rattle.ptu_outside.specs.Faults.{HasNotFallen, HasRisen, HasRisenBy}
-use Rattle.ptu_outside.specs.Telling.{IfTold, append_told}
+use Rattle.ptu_outside.specs.Faults.{HasNotFallen, HasRisen, HasRisenBy, HasRisenJust}
+use Rattle.ptu_outside.specs.HandsOver.{SentOf}
 use Rattle.ptu_history.specs.History.{Record}
 use Rattle.ptu_grandmaster.specs.declared.driving.GmEvent.{GmEvent}
 use Rattle.ptu_grandmaster.specs.Gm.{KeptGm, StandsFor}
+use Rattle.ptu_lanes.specs.Sending.{GoesOn, WasSent}
 use Rattle.ptu_config.specs.declared.settings.GmSettings.{GmSettings}
 use Rattle.ptu_rounds.specs.Rounds.{in_rounds, left_after, moments_after, most, timed}
 use Rattle.ptu_daemon.specs.declared.daemon.Daemon.{Daemon}
@@ -23,13 +24,23 @@ use Rattle.ptu_daemon.specs.Sends.{Standing, event_sends, sends_by, standing_aft
 
 -- ---- one port
 
--- these datagrams were handed to the port, of which so many were sent, and so many sends or receives failed
+-- these datagrams were handed to the port, in order, and others may have been received there: so many were sent, and so many
+-- sends and receives failed
 pub record Handled {P : Type 0} (ports : Ports P) (sends : List Departure) (sent failed : ℕ) (old new : P) : Type 0 where
-  pub no_fall : HasNotFallen (ports.faults old) (ports.faults new)
+  -- of the failures, those of sends
+  pub unsent : ℕ
+  pub within : unsent ≤ failed
+  pub each : sent + unsent ≡ length sends
+  pub some : SentOf (ports.sent old) (ports.sent new) sends sent
+  -- where the count did not rise, all were sent
+  pub all : ¬ HasRisen (ports.faults old) (ports.faults new) → WasSent ports old new sends
+  -- each failed send or receive is a fault, and there are no other faults
   pub risen : HasRisenBy failed (ports.faults old) (ports.faults new)
-  pub many : IfTold (option_map length (ports.sent new)) (option_map (λ list. length list + sent) (ports.sent old))
-  pub told : ¬ HasRisen (ports.faults old) (ports.faults new) → IfTold (ports.sent new) (append_told (ports.sent old) sends)
-  pub all : ¬ HasRisen (ports.faults old) (ports.faults new) → sent ≡ length sends
+  pub just : ports.counts_once ≡ true → HasRisenJust failed (ports.faults old) (ports.faults new)
+  pub quiet : failed ≡ 0 → ports.faults new ≡ ports.faults old
+  pub no_fall : HasNotFallen (ports.faults old) (ports.faults new)
+  -- and the port goes on to tell, unless a call failed or a datagram was such that it may cease to
+  pub goes_on : failed ≡ 0 → GoesOn ports old new sends
 
 -- likewise of each of these ports, the first of which has the index, together
 abbrev pub AllHandled : {P : Type 0} → Ports P → (ℕ → List Departure) → ℕ → ℕ → ℕ → List P → List P → Type 0
@@ -82,10 +93,10 @@ pub record Ran {P C : Type 0} (ports : Ports P) (clocks : Clocks C) (old new : D
   pub general_given : Gives (ports.waiting old.gm.reply) (ports.waiting new.gm.reply) general
   pub event_given : Gives (ports.waiting old.event) (ports.waiting new.event) event
   pub event_sent : ports.sent new.event ≡ ports.sent old.event
-  pub event_no_fall : HasNotFallen (ports.faults old.event) (ports.faults new.event)
+  pub event_goes_on : ports.has_ceased new.event ≡ ports.has_ceased old.event
   -- of the failures, those at the port of the event channel
   pub event_failed : ℕ
-  pub event_risen : HasRisenBy event_failed (ports.faults old.event) (ports.faults new.event)
+  pub event_handled : Handled ports [] 0 event_failed old.event new.event
   pub others_failed : ℕ
   pub failures : failed ≡ others_failed + event_failed
   pub does : (opening : ℕ) (past : List Record) → StandsFor opening old.gm past →

@@ -1,12 +1,12 @@
 -- What a call that serves has done with the ports and clocks that it opened.
-use Rattle.std.specs.Prelude.{◌≡◌, ◌≤◌, ℕ, List, map, Option, Some, IsSome, IfSome}
+use Rattle.std.specs.Prelude.{◌≡◌, ◌≤◌, ℕ, true, List, map, Option, Some, IsSome, IfSome}
 use Rattle.ptu_outside.specs.declared.clock.Clock.{Ghosts as Clocks}
 use Rattle.ptu_outside.specs.declared.opened.Opened.{Opened}
 use Rattle.ptu_outside.specs.declared.port.Port.{Ghosts as Ports}
-use Rattle.ptu_outside.specs.Departure.{Departure}
-use Rattle.ptu_outside.specs.Telling.{IfTold, append_told}
+use Rattle.ptu_outside.specs.Telling.{IfTold}
 use Rattle.ptu_config.specs.declared.settings.GmSettings.{GmSettings}
-use Rattle.ptu_rounds.specs.Ports.{HaveNotRisen, HaveRisenBy, WereSent, ports_of, senders_of}
+use Rattle.ptu_rounds.specs.Ports.{HaveNotRisen, HaveRisenBy, HaveRisenJust, WereSent, ports_of, senders_of}
+use Rattle.ptu_lanes.specs.Sending.{GoesOn, WasSent}
 use Rattle.ptu_lane_daemon.specs.Served.{ServesByLanes}
 use Rattle.ptu_daemon.specs.Events.{Given, config_of}
 use Rattle.ptu_daemon.specs.Served.{Said, served_by, served_said}
@@ -20,11 +20,8 @@ pub record IsGiven {P C : Type 0} (ports : Ports P) (clocks : Clocks C) (opened 
   pub event_still : IsSome (ports.waiting closed.p5)
   pub moments_still : IsSome (clocks.moments closed.c0)
 
--- what the port was sent, where it still tells it, grew by these datagrams
-abbrev pub WasSent : {P : Type 0} → Ports P → P → P → List Departure → Type 0
-WasSent ports old new datagrams = IfTold (ports.sent new) (append_told (ports.sent old) datagrams)
-
--- each port was sent what is served for what is given, and the numbers of the last line are those of this
+-- each port was sent what is served for what is given, and goes on to tell, unless it was such that it may cease to; and the
+-- numbers of the last line are those of this
 pub record AreServed {P C : Type 0} (ports : Ports P) (settings : GmSettings) (given : Given) (opened closed : Opened P C) (said : Said) : Type 0 where
   pub p0 : WasSent ports opened.p0 closed.p0 (served_by settings given 0)
   pub p1 : WasSent ports opened.p1 closed.p1 (served_by settings given 1)
@@ -32,6 +29,12 @@ pub record AreServed {P C : Type 0} (ports : Ports P) (settings : GmSettings) (g
   pub p3 : WasSent ports opened.p3 closed.p3 (served_by settings given 3)
   pub p4 : WasSent ports opened.p4 closed.p4 (served_by settings given 4)
   pub p5 : ports.sent closed.p5 ≡ ports.sent opened.p5
+  pub tells0 : GoesOn ports opened.p0 closed.p0 (served_by settings given 0)
+  pub tells1 : GoesOn ports opened.p1 closed.p1 (served_by settings given 1)
+  pub tells2 : GoesOn ports opened.p2 closed.p2 (served_by settings given 2)
+  pub tells3 : GoesOn ports opened.p3 closed.p3 (served_by settings given 3)
+  pub tells4 : GoesOn ports opened.p4 closed.p4 (served_by settings given 4)
+  pub tells5 : ports.has_ceased closed.p5 ≡ ports.has_ceased opened.p5
   pub line : said ≡ served_said settings given
 
 -- the counts of faults of all six ports
@@ -40,9 +43,12 @@ faults_of ports opened = map ports.faults (ports_of opened)
 
 -- between these ports and clocks as they were opened, and as they are to be given back, this was said of the serving
 pub record Serves {P C : Type 0} (ports : Ports P) (clocks : Clocks C) (settings : GmSettings) (opened closed : Opened P C) (said : Said) : Type 0 where
-  -- what failed is at most what the counts of faults rose by together, and what was sent is the number of datagrams that
-  -- ports 0 to 4 were sent, whatever the counts did
+  -- what failed is at most what the counts of faults rose by together, and just that where each call that fails counts one
+  -- fault; where nothing failed, no count rose
   pub failed : HaveRisenBy said.failed (faults_of ports opened) (faults_of ports closed)
+  pub just : ports.counts_once ≡ true → HaveRisenJust said.failed (faults_of ports opened) (faults_of ports closed)
+  pub quiet : said.failed ≡ 0 → faults_of ports closed ≡ faults_of ports opened
+  -- what was sent is the number of datagrams that ports 0 to 4 were sent, whatever the counts did
   pub sent : WereSent said.sent (map ports.sent (senders_of opened)) (map ports.sent (senders_of closed))
   -- where no count rose, it is what is served
   pub served : (given : Given) → IsGiven ports clocks opened closed given →

@@ -116,6 +116,8 @@ impl<P: Port + Send> Host for OnceHost<P> {
 
     ghost back = { λ _. None };
 
+    ghost opened_at = { λ _. None };
+
     ghost faults = { λ h. h.faults };
 
     fn open(

@@ -10,10 +10,9 @@ use Rattle.ptu_units.specs.declared.kind.Kind.{Kind}
 use Rattle.ptu_outside.specs.declared.arrival.Arrival.{Arrival}
 use Rattle.ptu_outside.specs.declared.opened.Opened.{Opened}
 use Rattle.ptu_outside.specs.declared.port.Port.{Ghosts as Ports}
-use Rattle.ptu_outside.specs.Departure.{Departure}
 use Rattle.ptu_outside.specs.Faults.{HasRisen, HasNotFallen}
-use Rattle.ptu_outside.specs.Telling.{IfTold, append_told}
-use Rattle.ptu_outside.proofs.Telling.{IfTold-append}
+use Rattle.ptu_outside.specs.HandsOver.{HandsOver}
+use Rattle.ptu_outside.proofs.HandsOver.{goes_on_both, none_failed, not_fallen_both, rises_first, rises_second, told_both}
 use Rattle.ptu_outside.proofs.Told.{HasRisenBy-after, HasRisenBy-before}
 use Rattle.ptu_history.specs.declared.client.Client.{Client}
 use Rattle.ptu_shard.specs.declared.config.GmConfig.{GmConfig}
@@ -22,10 +21,12 @@ use Rattle.ptu_items.specs.Replies.{cancels_to}
 use Rattle.ptu_config.specs.declared.settings.GmSettings.{GmSettings}
 use Rattle.ptu_lanes.specs.Answers.{asks_among, grants_among}
 use Rattle.ptu_lanes.specs.Rounds.{Exchange, IsAnswered, asks_in, datagrams, grants_in, items_of, replies}
+use Rattle.ptu_lanes.specs.Sending.{GoesOn, WasSent}
 use Rattle.ptu_lanes.specs.Waiting.{GaveFirst}
 use Rattle.ptu_lane_daemon.specs.Changing.{change_of, early_rounds, greatest_capacity, rounds_before}
 use Rattle.ptu_lane_daemon.specs.Served.{IsControlled, ServesByLanes}
-use Rattle.ptu_lane_daemon.specs.Stretches.{AreRounds}
+use Rattle.ptu_lane_daemon.specs.Stretches.{AreRounds, TookSignaling}
+use Rattle.ptu_lane_daemon.proofs.Stretching.{some_more, told_is}
 
 -- ---- fronts and rests of a list
 
@@ -56,10 +57,10 @@ no_change : (change : Option ℕ) → IfNone change (◌≡◌ {A = List (Client
 no_change None = refl
 no_change (Some capacity) = tt
 
-controlled_unchanged : (settings : GmSettings) (config : GmConfig) (waiting : Option (List Arrival)) (left : List Arrival) (before after : Option (List Departure)) (old new : Counts) →
-    change_of settings ≡ None → old ≡ no_verdicts → AreRounds config settings.rounds waiting left before after old new →
-    IsControlled settings config waiting left before after new.granted new.refused
-controlled_unchanged settings config waiting left before after old new none fresh r =
+controlled_unchanged : {P : Type 0} (ports : Ports P) (settings : GmSettings) (config : GmConfig) (port port' : P) (left : List Arrival) (old new : Counts) →
+    change_of settings ≡ None → old ≡ no_verdicts → AreRounds ports config settings.rounds port port' left old new →
+    IsControlled ports settings config port port' left new.granted new.refused
+controlled_unchanged ports settings config port port' left old new none fresh r =
     let all : r.exchanges ++ [] ≡ r.exchanges = append-nil r.exchanges in
     let granted : old.granted ≡ 0 = ap (λ (c : Counts). c.granted) fresh in
     let refused : old.refused ≡ 0 = ap (λ (c : Counts). c.refused) fresh in
@@ -76,28 +77,19 @@ controlled_unchanged settings config waiting left before after old new none fres
       rest = r.rest;
       unchanged = no_change (change_of settings);
       answered = subst (All (IsAnswered config)) (sym all) r.answered;
-      told = subst (λ ds. IfTold after (append_told before ds)) (sym sent) r.told;
+      told = subst (λ ds. WasSent ports port port' ds) (sym sent) r.told;
+      goes_on = subst (λ ds. GoesOn ports port port' ds) (sym sent) r.goes_on;
       granted_are = let g = r.granted in omega (arith, granted, g, ap grants_in all);
       counted = let n = r.counted in omega (arith, granted, refused, n, ap (λ es. asks_in config (datagrams es)) all);
     }
 
-pub unchanged_controlled : (settings : GmSettings) (config : GmConfig) (waiting left : Option (List Arrival)) (before after : Option (List Departure)) (old new : Counts) →
-    change_of settings ≡ None → old ≡ no_verdicts → IfSome left (λ later. AreRounds config settings.rounds waiting later before after old new) →
-    IfSome left (λ later. IsControlled settings config waiting later before after new.granted new.refused)
-unchanged_controlled settings config waiting None before after old new none fresh r = tt
-unchanged_controlled settings config waiting (Some left) before after old new none fresh r = controlled_unchanged settings config waiting left before after old new none fresh r
+pub unchanged_controlled : {P : Type 0} (ports : Ports P) (settings : GmSettings) (config : GmConfig) (port port' : P) (old new : Counts) →
+    change_of settings ≡ None → old ≡ no_verdicts → IfSome (ports.waiting port') (λ later. AreRounds ports config settings.rounds port port' later old new) →
+    IfSome (ports.waiting port') (λ later. IsControlled ports settings config port port' later new.granted new.refused)
+unchanged_controlled ports settings config port port' old new none fresh r =
+    some_more (ports.waiting port') _ _ (λ left. controlled_unchanged ports settings config port port' left old new none fresh) r
 
 -- ---- a change
-
--- the rounds before the change, at a port that still tells what waits
-abbrev pub AreEarly : GmConfig → ℕ → Option (List Arrival) → Option (List Arrival) → Option (List Departure) → Option (List Departure) → Counts → Counts → Type 0
-AreEarly config rounds waiting left before after old new = IfSome left (λ later. AreRounds config rounds waiting later before after old new)
-
-early_before : (config : GmConfig) (rounds : ℕ) (waiting middle : Option (List Arrival)) (waited : List Arrival) (before after : Option (List Departure)) (old new : Counts) →
-    middle ≡ Some waited → AreEarly config rounds waiting middle before after old new → AreRounds config rounds waiting waited before after old new
-early_before config rounds waiting None waited before after old new is early = absurd (cc is)
-early_before config rounds waiting (Some later) waited before after old new is early =
-    subst (λ l. AreRounds config rounds waiting l before after old new) (cc is) early
 
 changed_rounds : (settings : GmSettings) (capacity : ℕ) → change_of settings ≡ Some capacity → early_rounds settings ≡ settings.change_round - 1
 changed_rounds settings capacity some = ap (rounds_before settings) some
@@ -106,16 +98,20 @@ some_change : (change : Option ℕ) (capacity : ℕ) (shed : List (Client × Kin
 some_change None capacity shed is = absurd (cc is)
 some_change (Some more) capacity shed is = tt
 
-controlled_some : (settings : GmSettings) (config : GmConfig) (capacity e l : ℕ) (shed : List (Client × Kind)) (waiting : Option (List Arrival)) (middle left : List Arrival)
-    (before between changed after : Option (List Departure)) (old seat new : Counts) →
+-- the CANCELs were sent to a port of which p1 is the port before and p2 the port after
+controlled_some : {P : Type 0} (ports : Ports P) (settings : GmSettings) (config : GmConfig) (capacity e l : ℕ) (shed : List (Client × Kind)) (p0 p1 p2 p3 : P) (left : List Arrival)
+    (old seat new : Counts) (sent failed : ℕ) →
     change_of settings ≡ Some capacity → e ≡ settings.change_round - 1 → e + l ≡ settings.rounds → old ≡ no_verdicts →
-    AreRounds config e waiting middle before between old seat → IfTold changed (append_told between (cancels_to config 0 shed)) →
-    AreRounds config l (Some middle) left changed after seat new →
-    IsControlled settings config waiting left before after new.granted new.refused
-controlled_some settings config capacity e l shed waiting middle left before between changed after old seat new some early_is all_is fresh p told q =
+    IfSome (ports.waiting p1) (λ later. AreRounds ports config e p0 p1 later old seat) →
+    HandsOver ports p1 p2 (cancels_to config 0 shed) sent failed → ¬ HasRisen (ports.faults p1) (ports.faults p2) →
+    AreRounds ports config l p2 p3 left seat new →
+    IsControlled ports settings config p0 p3 left new.granted new.refused
+controlled_some ports settings config capacity e l shed p0 p1 p2 p3 left old seat new sent failed some early_is all_is fresh early hands still q =
+    let p = told_is (ports.waiting p1) (λ later. AreRounds ports config e p0 p1 later old seat) q.waited (sym hands.waiting ∙ q.all) early in
+    let none : failed ≡ 0 = none_failed failed (ports.faults p1) (ports.faults p2) hands.risen still in
     let granted : old.granted ≡ 0 = ap (λ (c : Counts). c.granted) fresh in
     let refused : old.refused ≡ 0 = ap (λ (c : Counts). c.refused) fresh in
-    let same : q.waited ≡ drop (64 * e) p.waited = cc (q.all, p.rest) in
+    let same : q.waited ≡ drop (64 * e) p.waited = p.rest in
     let later : datagrams q.exchanges ≡ take (64 * l) (drop (64 * e) p.waited) = q.first ∙ ap (take (64 * l)) same in
     record {
       waited = p.waited;
@@ -129,38 +125,45 @@ controlled_some settings config capacity e l shed waiting middle left before bet
       rest = q.rest ∙ ap (drop (64 * l)) same ∙ drop_rounds settings.rounds e l p.waited all_is;
       unchanged = some_change (change_of settings) capacity shed some;
       answered = All-append (IsAnswered config) p.exchanges q.exchanges p.answered q.answered;
-      told = IfTold-append before changed after (replies config p.exchanges ++ cancels_to config 0 shed) (replies config q.exchanges)
-          (IfTold-append before between changed (replies config p.exchanges) (cancels_to config 0 shed) p.told told) q.told;
+      told = told_both (ports.sent p0) (ports.sent p2) (ports.sent p3) (replies config p.exchanges ++ cancels_to config 0 shed) (replies config q.exchanges)
+          (told_both (ports.sent p0) (ports.sent p1) (ports.sent p2) (replies config p.exchanges) (cancels_to config 0 shed) p.told (hands.all still)) q.told;
+      goes_on = goes_on_both ports.ceases_at (replies config p.exchanges ++ cancels_to config 0 shed) (replies config q.exchanges) (ports.has_ceased p0) (ports.has_ceased p2) (ports.has_ceased p3)
+          (goes_on_both ports.ceases_at (replies config p.exchanges) (cancels_to config 0 shed) (ports.has_ceased p0) (ports.has_ceased p1) (ports.has_ceased p2) p.goes_on (hands.goes_on none)) q.goes_on;
       granted_are = let a = p.granted in let b = q.granted in omega (arith, granted, a, b, grants_in-append p.exchanges q.exchanges);
       counted = let a = p.counted in let b = q.counted in omega (arith, granted, refused, a, b, asks_in-append config p.exchanges q.exchanges);
     }
 
 -- rounds, the CANCELs of a change, and rounds, over the counts of faults of the port
-pub controlled_changed : (settings : GmSettings) (config : GmConfig) (capacity e l : ℕ) (waiting middle waits left : Option (List Arrival))
-    (before between changed after : Option (List Departure)) (start old now end : ℕ) (first seat next last : Counts) →
+pub controlled_changed : {P : Type 0} (ports : Ports P) (settings : GmSettings) (config : GmConfig) (capacity e l : ℕ) (p0 p1 p2 p3 : P) (first seat next last : Counts) →
     change_of settings ≡ Some capacity → e ≡ settings.change_round - 1 → e + l ≡ settings.rounds → first ≡ no_verdicts →
-    (¬ HasRisen start old → IfSome middle (λ later. AreRounds config e waiting later before between first seat)) →
-    HasNotFallen start old →
-    (shed : List (Client × Kind)) × (¬ HasRisen old now → IfTold changed (append_told between (cancels_to config 0 shed))) →
-    HasNotFallen old now → waits ≡ middle → next ≡ seat →
-    (¬ HasRisen now end → IfSome left (λ later. AreRounds config l waits later changed after next last)) →
-    HasNotFallen now end →
-    ¬ HasRisen start end → IfSome left (λ later. IsControlled settings config waiting later before after last.granted last.refused)
-controlled_changed settings config capacity e l waiting middle waits None before between changed after start old now end first seat next last
-    some early_is all_is fresh p fall1 c fall2 same_waiting same_seat q fall3 still = tt
-controlled_changed settings config capacity e l waiting middle waits (Some left) before between changed after start old now end first seat next last
-    some early_is all_is fresh p fall1 c fall2 same_waiting same_seat q fall3 still =
-    let le1 : start ≤ old = fall1.0 in
-    let le2 : old ≤ now = fall2.0 in
-    let le3 : now ≤ end = fall3.0 in
-    let rounds = q (λ rises. still (HasRisenBy-before 1 start now end (omega arith) rises)) in
-    let is : middle ≡ Some rounds.waited = sym same_waiting ∙ rounds.all in
-    let earlier = early_before config e waiting middle rounds.waited before between first seat is
-    (p (λ rises. still (HasRisenBy-after 1 start old end (omega arith) rises))) in
-    controlled_some settings config capacity e l c.0 waiting rounds.waited left before between changed after first seat last some early_is all_is fresh
-    earlier (c.1 (λ rises. still (HasRisenBy-before 1 start old end le1 (HasRisenBy-after 1 old now end le3 rises))))
-    (subst (λ w. AreRounds config l w left changed after seat last) rounds.all
-    (subst (λ s. AreRounds config l waits left changed after s last) same_seat rounds))
+    TookSignaling ports config e p0 p1 first seat →
+    (shed : List (Client × Kind)) × (sent : ℕ) × (failed : ℕ) × HandsOver ports p1 p2 (cancels_to config 0 shed) sent failed → next ≡ seat →
+    TookSignaling ports config l p2 p3 next last →
+    ¬ HasRisen (ports.faults p0) (ports.faults p3) →
+    IfSome (ports.waiting p3) (λ later. IsControlled ports settings config p0 p3 later last.granted last.refused)
+controlled_changed ports settings config capacity e l p0 p1 p2 p3 first seat next last some early_is all_is fresh p (shed, sent, failed, hands) same_seat q still =
+    some_more (ports.waiting p3) _ _
+    (λ left late. controlled_some ports settings config capacity e l shed p0 p1 p2 p3 left first seat last sent failed some early_is all_is fresh (p.did still1) hands still2
+    (subst (λ s. AreRounds ports config l p2 p3 left s last) same_seat late))
+    (q.did still3)
+  where
+    f01 : HasNotFallen (ports.faults p0) (ports.faults p1)
+    f01 = p.no_fall
+
+    f12 : HasNotFallen (ports.faults p1) (ports.faults p2)
+    f12 = hands.no_fall
+
+    f23 : HasNotFallen (ports.faults p2) (ports.faults p3)
+    f23 = q.no_fall
+
+    still1 : ¬ HasRisen (ports.faults p0) (ports.faults p1)
+    still1 rises = still (rises_first _ _ _ rises (not_fallen_both _ _ _ f12 f23))
+
+    still2 : ¬ HasRisen (ports.faults p1) (ports.faults p2)
+    still2 rises = still (rises_second _ _ _ f01 (rises_first _ _ _ rises f23))
+
+    still3 : ¬ HasRisen (ports.faults p2) (ports.faults p3)
+    still3 rises = still (rises_second _ _ _ (not_fallen_both _ _ _ f01 f12) rises)
 
 -- ---- the event channel
 
@@ -194,14 +197,15 @@ three_ok (Err e) P Q R S makes p q r = tt
 pub serves_by_lanes : {P C : Type 0} (ports : Ports P) (settings : GmSettings) (config : GmConfig) (opened closed : Opened P C) (control event : P) (counts : Counts) (granted refused held most : ℕ) →
     most ≡ greatest_capacity settings →
     (¬ HasRisen (ports.faults opened.p4) (ports.faults control) → IfSome (ports.waiting control) (λ left.
-    IsControlled settings config (ports.waiting opened.p4) left (ports.sent opened.p4) (ports.sent control) counts.granted counts.refused)) →
+    IsControlled ports settings config opened.p4 control left counts.granted counts.refused)) →
     (¬ HasRisen (ports.faults opened.p5) (ports.faults event) → GaveFirst (64 * settings.rounds) (ports.waiting opened.p5) (ports.waiting event)) →
-    ports.sent event ≡ ports.sent opened.p5 →
+    ports.sent event ≡ ports.sent opened.p5 → ports.has_ceased event ≡ ports.has_ceased opened.p5 →
     (closed.p4 ≡ control) × (closed.p5 ≡ event) → (granted ≡ counts.granted) × (refused ≡ counts.refused) → held ≤ most →
     ServesByLanes ports settings config opened closed granted refused held
-serves_by_lanes ports settings config opened closed control event counts granted refused held most is controlled gave unsent same counted within = record {
+serves_by_lanes ports settings config opened closed control event counts granted refused held most is controlled gave unsent goes_on same counted within = record {
   within = omega (arith, is, within);
   control = rw (same.0, counted.0, counted.1) controlled;
   event = rw (same.1) gave;
   unsent = ap ports.sent same.1 ∙ unsent;
+  goes_on = ap ports.has_ceased same.1 ∙ goes_on;
 }

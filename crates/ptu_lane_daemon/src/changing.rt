@@ -1,8 +1,7 @@
 //! The change of capacity of a grandmaster that is served by lanes.
 
-ghost use Rattle.std.specs.Prelude.{◌≡◌, ◌+◌, ◌≤◌, IfOk, IfSome, IsSome, List};
-ghost use Rattle.ptu_outside.specs.Faults.{HasNotFallen, HasRisen};
-ghost use Rattle.ptu_outside.specs.Telling.{IfTold, append_told};
+ghost use Rattle.std.specs.Prelude.{◌≡◌, ◌+◌, ◌≤◌, ℕ, IfOk, OnErr, IfSome, IsSome, List};
+ghost use Rattle.ptu_outside.specs.HandsOver.{HandsOver};
 ghost use Rattle.ptu_units.specs.declared.kind.Kind.{Kind};
 ghost use Rattle.ptu_history.specs.declared.client.Client.{Client};
 ghost use Rattle.ptu_admit.specs.Book.{IsCapacity};
@@ -51,16 +50,14 @@ pub(crate) fn change_capacity<P: Port + Send, C: Clock, L: Rates, G: Ledger, R: 
     requires ledger { L.parts ≡ 4 }
     requires capacity { IsCapacity capacity }
     requires most { capacity ≤ L.most }
-    ensures sent { IfOk result (λ _. (shed : List (Client × Kind)) ×
-        (¬ HasRisen (P.faults lane.old.port) (P.faults lane.new.port) →
-        IfTold (P.sent lane.new.port)
-        (append_told (P.sent lane.old.port) (cancels_to config.now 0 shed)))) }
-    ensures waiting { P.waiting lane.new.port ≡ P.waiting lane.old.port }
+    ensures sends { IfOk result (λ _. (shed : List (Client × Kind)) × (sent : ℕ) × (failed : ℕ)
+        × HandsOver P.Port lane.old.port lane.new.port (cancels_to config.now 0 shed)
+        sent failed) }
+    ensures unsent { OnErr result (lane.new.port ≡ lane.old.port) }
     ensures seat { lane.new.seat ≡ lane.old.seat }
-    ensures no_fall { HasNotFallen (P.faults lane.old.port) (P.faults lane.new.port) }
 {
     let resized = shared.resize(rt, lane.clock.now(), capacity)?;
-    let (sent, failed) = send_cancels(&mut lane.port, config, 0, resized.shed.list());
-    lane.tally = lane.tally.plus(sent, failed);
+    let sends = send_cancels(&mut lane.port, config, 0, resized.shed.list());
+    lane.tally = lane.tally.plus(sends.sent, sends.failed);
     Ok(())
 }

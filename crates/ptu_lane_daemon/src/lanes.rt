@@ -116,8 +116,8 @@ pub(crate) fn take_delay_reqs<P: Port + Send, C: Clock, L: Rates, G: Ledger, R: 
     requires { IsWithinLimits config.now }
     ensures { IfOk result (λ new. TookDelayReqs P.Port 1 lane.port new.port) }
 {
-    let sends = delay_round(rt, alloc, shared, config, &mut lane.port, &mut lane.clock)?;
-    lane.tally = lane.tally.plus(sends.sent, sends.failed);
+    let delays = delay_round(rt, alloc, shared, config, &mut lane.port, &mut lane.clock)?;
+    lane.tally = lane.tally.plus(delays.sent, delays.failed);
     Ok(lane)
 }
 

@@ -63,14 +63,16 @@ where
     requires seat { lanes.control.seat ≡ no_verdicts }
     ensures control { IfOk result (λ new.
         ¬ HasRisen (P.faults lanes.control.port) (P.faults new.control.port)
-        → IfSome (P.waiting new.control.port) (λ left. IsControlled settings.now config.now
-        (P.waiting lanes.control.port) left (P.sent lanes.control.port) (P.sent new.control.port)
+        → IfSome (P.waiting new.control.port) (λ left. IsControlled P.Port settings.now config.now
+        lanes.control.port new.control.port left
         new.control.seat.granted new.control.seat.refused)) }
     ensures event { IfOk result (λ new.
         ¬ HasRisen (P.faults lanes.event.port) (P.faults new.event.port)
         → GaveFirst (64 * settings.now.rounds)
         (P.waiting lanes.event.port) (P.waiting new.event.port)) }
     ensures unsent { IfOk result (λ new. P.sent new.event.port ≡ P.sent lanes.event.port) }
+    ensures goes_on { IfOk result (λ new.
+        P.has_ceased new.event.port ≡ P.has_ceased lanes.event.port) }
 {
     let senders = usize::from(settings.senders);
     let Some(capacity) = change(settings) else {

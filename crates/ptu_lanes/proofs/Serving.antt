@@ -1,18 +1,19 @@
 -- What a lane has served, call by call.
-use Rattle.std.proofs.Common.{◌≡◌, ◌∙◌, ◌⊎◌, inl, inr, ℕ, suc, zero, ◌+◌, ◌-◌, ◌^◌, ◌≤◌, ◌++◌, List, [], ◌∷◌, length, length-append, refl, sym, ap, subst, arith, Option, Some, None, Result, Ok, Err}
-use Rattle.std.specs.Prelude.{IfOk, IfSome}
+use Rattle.std.proofs.Common.{◌≡◌, ◌∙◌, ◌⊎◌, inl, inr, ℕ, ◌+◌, ◌≤◌, ◌++◌, List, [], ◌∷◌, length, length-append, refl, sym, ap, subst, arith, Option, Some, None, Result, Ok, Err}
+use Rattle.std.specs.Prelude.{IfOk, IfSome, true, false}
+use Rattle.std.specs.List.{AllByRecursion}
 use Rattle.std.proofs.lemmas.List.{append-nil, length-map, map-append}
 use Rattle.std.proofs.lemmas.List.Elements.{All-append, All-cons, All-nil}
 use Rattle.std.proofs.lemmas.List.Sums.{sum_by-append}
 use Rattle.std.proofs.lemmas.Grind.{flat_map-append}
 use Rattle.ptu_outside.specs.declared.arrival.Arrival.{Arrival}
 use Rattle.ptu_outside.specs.Departure.{Departure}
-use Rattle.ptu_outside.specs.Faults.{HasRisen, HasRisenBy, HasNotFallen}
+use Rattle.ptu_outside.specs.declared.port.Port.{Ghosts as Ports}
+use Rattle.ptu_outside.specs.Faults.{HasRisen, HasRisenBy, HasRisenJust, HasNotFallen}
 use Rattle.ptu_outside.specs.HandsOver.{HandsOver}
-use Rattle.ptu_outside.proofs.HandsOver.{hands_none}
+use Rattle.ptu_outside.proofs.HandsOver.{goes_on_both, hands_none, just_both, none_failed, not_fallen_both, not_fallen_none, rises_first, rises_second, risen_both, told_both, told_none}
 use Rattle.ptu_outside.specs.Telling.{IfTold, IsFirstTold, append_told, rest_told}
-use Rattle.ptu_outside.proofs.Telling.{IfTold-append, IfTold-refl, append_told-nil}
-use Rattle.ptu_outside.proofs.Told.{HasRisenBy-after, HasRisenBy-before}
+use Rattle.ptu_outside.proofs.Telling.{IfTold-refl}
 use Rattle.ptu_header.specs.declared.header.Header.{Header}
 use Rattle.ptu_tlvs.specs.declared.tlv.Tlv.{Tlv}
 use Rattle.ptu_shard.specs.declared.config.GmConfig.{GmConfig}
@@ -25,25 +26,19 @@ use Rattle.ptu_items.specs.Items.{heard_in, items_in}
 use Rattle.ptu_lanes.specs.Answers.{HasAnswered, asks_among, grants_among}
 use Rattle.ptu_lanes.specs.Rounds.{Exchange, HasReplied, HasServed, IsAnswered, IsRound, asks_in, datagrams, found_items, items_of, replies, reply_if_any, reply_in, reply_with}
 use Rattle.ptu_lanes.proofs.Items.{answered_none, asks-le, heard_items, items_heard}
-use Rattle.ptu_lanes.proofs.Taking.{first_given, front_is, given_more, kept_is, not_fallen_more, still}
-
--- ---- counts of faults
-
-risen_more : (old now new n m : ℕ) → HasRisenBy n old now → HasRisenBy m now new → HasNotFallen now new → HasRisenBy (n + m) old new
-risen_more old now new n m (inl a) (inl b) c = inl (omega arith)
-risen_more old now new n m (inl a) (inr b) c = inr b
-risen_more old now new n m (inr a) b c = inr (subst (λ n. 2 ^ 64 - 1 ≤ n) (sym (c.1 a)) a)
+use Rattle.ptu_lanes.proofs.Taking.{first_given, front_is, given_more, kept_is}
+use Rattle.ptu_lanes.specs.Sending.{GoesOn, WasSent}
 
 -- ---- nothing was taken
 
-told_nothing : (before : Option (List Departure)) → IfTold before (append_told before [])
-told_nothing before = subst (λ told. IfTold before told) (sym (append_told-nil before)) (IfTold-refl before)
-
-pub served_none : (config : GmConfig) (waiting left : Option (List Arrival)) (before : Option (List Departure)) (faults now failed : ℕ) (counts : Counts) →
-    IfTold left waiting → HasRisenBy failed faults now → HasNotFallen faults now →
-    HasServed config [] waiting left before before faults now counts counts 0 0 failed
-served_none config waiting left before faults now failed counts kept risen no_fall = record {
-  given = kept_is waiting left kept;
+-- the port is as it was but for what it received, and for its count of faults
+pub served_none : {P : Type 0} (ports : Ports P) (config : GmConfig) (port port' : P) (failed : ℕ) (counts : Counts) →
+    IfTold (ports.waiting port') (ports.waiting port) → ports.sent port' ≡ ports.sent port → ports.has_ceased port' ≡ ports.has_ceased port →
+    HasRisenBy failed (ports.faults port) (ports.faults port') → (ports.counts_once ≡ true → HasRisenJust failed (ports.faults port) (ports.faults port')) →
+    (failed ≡ 0 → ports.faults port' ≡ ports.faults port) → HasNotFallen (ports.faults port) (ports.faults port') →
+    HasServed ports config [] port port' counts counts 0 0 failed
+served_none ports config port port' failed counts kept unsent goes_on risen just quiet no_fall = record {
+  given = kept_is (ports.waiting port) (ports.waiting port') kept;
   answered = All-nil (IsAnswered config);
   granted = omega arith;
   refused = omega arith;
@@ -52,14 +47,18 @@ served_none config waiting left before faults now failed counts kept risen no_fa
   few = omega arith;
   at_most = omega arith;
   risen = risen;
+  just = just;
+  quiet = quiet;
   no_fall = no_fall;
   sent_are = λ same. refl;
-  told = λ same. told_nothing before;
+  told = λ same. subst (λ (told : Option (List Departure)). IfTold told (append_told (ports.sent port) [])) (sym unsent) (told_none (ports.sent port));
+  goes_on = λ none few. goes_on;
 }
 
-pub nothing_yet : (config : GmConfig) (waiting : Option (List Arrival)) (before : Option (List Departure)) (faults : ℕ) (counts : Counts) →
-    HasServed config [] waiting waiting before before faults faults counts counts 0 0 0
-nothing_yet config waiting before faults counts = served_none config waiting waiting before faults faults 0 counts (IfTold-refl waiting) (inl (omega arith)) (still faults)
+pub nothing_yet : {P : Type 0} (ports : Ports P) (config : GmConfig) (port : P) (counts : Counts) → HasServed ports config [] port port counts counts 0 0 0
+nothing_yet ports config port counts =
+    served_none ports config port port 0 counts (IfTold-refl (ports.waiting port)) refl refl (inl (omega arith)) (λ once. inl (omega arith)) (λ none. refl)
+    (not_fallen_none (ports.faults port))
 
 -- ---- one after the other
 
@@ -69,13 +68,11 @@ exchanges_more : (xs ys : List Exchange) (waiting middle left : Option (List Arr
 exchanges_more xs ys waiting middle left first second =
     rw (map-append (λ (e : Exchange). e.datagram) xs ys) (given_more (datagrams xs) (datagrams ys) waiting middle left first second)
 
-pub served-append : (config : GmConfig) (xs ys : List Exchange) (waiting middle left : Option (List Arrival)) (before between after : Option (List Departure)) (faults risen now : ℕ)
-    (old seat new : Counts) (asks sent failed asks2 sent2 failed2 : ℕ) →
-    HasServed config xs waiting middle before between faults risen old seat asks sent failed →
-    HasServed config ys middle left between after risen now seat new asks2 sent2 failed2 →
-    HasServed config (xs ++ ys) waiting left before after faults now old new (asks + asks2) (sent + sent2) (failed + failed2)
-served-append config xs ys waiting middle left before between after faults risen now old seat new asks sent failed asks2 sent2 failed2 p q = record {
-  given = exchanges_more xs ys waiting middle left p.given q.given;
+pub served-append : {P : Type 0} (ports : Ports P) (config : GmConfig) (xs ys : List Exchange) (p0 p1 p2 : P) (old seat new : Counts) (asks sent failed asks2 sent2 failed2 : ℕ) →
+    HasServed ports config xs p0 p1 old seat asks sent failed → HasServed ports config ys p1 p2 seat new asks2 sent2 failed2 →
+    HasServed ports config (xs ++ ys) p0 p2 old new (asks + asks2) (sent + sent2) (failed + failed2)
+served-append ports config xs ys p0 p1 p2 old seat new asks sent failed asks2 sent2 failed2 p q = record {
+  given = exchanges_more xs ys (ports.waiting p0) (ports.waiting p1) (ports.waiting p2) p.given q.given;
   answered = All-append (IsAnswered config) xs ys p.answered q.answered;
   granted = let a = p.granted in let b = q.granted in omega (arith, sum_by-append (λ (e : Exchange). grants_among e.answers) xs ys);
   refused = let a = p.refused in let b = q.refused in omega arith;
@@ -85,18 +82,27 @@ served-append config xs ys waiting middle left before between after faults risen
       ∙ sym (ap (asks_in config) (map-append (λ (e : Exchange). e.datagram) xs ys) ∙ sum_by-append (λ d. asks_among (items_of config d)) (datagrams xs) (datagrams ys));
   few = let a = p.few in let b = q.few in omega (arith, length-append xs ys);
   at_most = let a = p.at_most in let b = q.at_most in omega (arith, length-append xs ys);
-  risen = risen_more faults risen now failed failed2 p.risen q.risen q.no_fall;
-  no_fall = not_fallen_more faults risen now p.no_fall q.no_fall;
+  risen = risen_both (ports.faults p0) (ports.faults p1) (ports.faults p2) failed failed2 p.risen q.risen q.no_fall;
+  just = λ once. just_both (ports.faults p0) (ports.faults p1) (ports.faults p2) failed failed2 (p.just once) (q.just once) q.no_fall;
+  quiet = λ none. q.quiet (omega (arith, none)) ∙ p.quiet (omega (arith, none));
+  no_fall = not_fallen_both (ports.faults p0) (ports.faults p1) (ports.faults p2) p.no_fall q.no_fall;
   sent_are = λ same.
-      let a : sent ≡ length (replies config xs) = p.sent_are (λ rises. same (HasRisenBy-after 1 faults risen now q.no_fall.0 rises)) in
-      let b : sent2 ≡ length (replies config ys) = q.sent_are (λ rises. same (HasRisenBy-before 1 faults risen now p.no_fall.0 rises)) in
-      omega (arith, a, b, length-append (replies config xs) (replies config ys), ap length (flat_map-append (reply_in config) xs ys));
+      let a : sent ≡ length (replies config xs) = p.sent_are (λ rises. same (rises_first (ports.faults p0) (ports.faults p1) (ports.faults p2) rises q.no_fall)) in
+      let b : sent2 ≡ length (replies config ys) = q.sent_are (λ rises. same (rises_second (ports.faults p0) (ports.faults p1) (ports.faults p2) p.no_fall rises)) in
+      omega (arith, a, b, length-append (replies config xs) (replies config ys), ap length replies_are);
   told = λ same.
-      subst (λ ds. IfTold after (append_told before ds)) (sym (flat_map-append (reply_in config) xs ys))
-      (IfTold-append before between after (replies config xs) (replies config ys)
-      (p.told (λ rises. same (HasRisenBy-after 1 faults risen now q.no_fall.0 rises)))
-      (q.told (λ rises. same (HasRisenBy-before 1 faults risen now p.no_fall.0 rises))));
+      subst (λ ds. WasSent ports p0 p2 ds) (sym replies_are)
+      (told_both (ports.sent p0) (ports.sent p1) (ports.sent p2) (replies config xs) (replies config ys)
+      (p.told (λ rises. same (rises_first (ports.faults p0) (ports.faults p1) (ports.faults p2) rises q.no_fall)))
+      (q.told (λ rises. same (rises_second (ports.faults p0) (ports.faults p1) (ports.faults p2) p.no_fall rises))));
+  goes_on = λ none.
+      subst (λ ds. GoesOn ports p0 p2 ds) (sym replies_are)
+      (goes_on_both ports.ceases_at (replies config xs) (replies config ys) (ports.has_ceased p0) (ports.has_ceased p1) (ports.has_ceased p2)
+      (p.goes_on (omega (arith, none))) (q.goes_on (omega (arith, none))));
 }
+  where
+    replies_are : replies config (xs ++ ys) ≡ replies config xs ++ replies config ys
+    replies_are = flat_map-append (reply_in config) xs ys
 
 -- ---- one datagram
 
@@ -109,67 +115,82 @@ one_reply config from (Ok (heard.Asks header items)) answers = one_if_any config
 one_reply config from (Ok (heard.DelayReq header)) answers = omega arith
 one_reply config from (Err reason) answers = omega arith
 
-no_failure : (failed old new : ℕ) → HasRisenBy failed old new → ¬ HasRisen old new → failed ≡ 0
-no_failure zero old new risen same = refl
-no_failure (suc n) old new (inl a) same = absurd (same (inl (omega arith)))
-no_failure (suc n) old new (inr a) same = absurd (same (inr a))
-
-pub at_most_one : (config : GmConfig) (e : Exchange) (before after : Option (List Departure)) (faults now : ℕ) (old new : Counts) (asks sent failed : ℕ) →
-    HasReplied config e before after faults now old new asks sent failed → sent + failed ≤ 1
-at_most_one config e before after faults now old new asks sent failed r =
+pub at_most_one : {P : Type 0} (ports : Ports P) (config : GmConfig) (e : Exchange) (port port' : P) (old new : Counts) (asks sent failed : ℕ) →
+    HasReplied ports config e port port' old new asks sent failed → sent + failed ≤ 1
+at_most_one ports config e port port' old new asks sent failed r =
     omega (arith, r.hands.each, one_reply config e.datagram.ip (heard_in config e.datagram.bytes) e.answers)
 
-pub served_one : (config : GmConfig) (e : Exchange) (waiting left : Option (List Arrival)) (before after : Option (List Departure)) (faults now : ℕ) (old new : Counts) (asks sent failed : ℕ) →
-    IsFirstTold waiting e.datagram → IfTold left (rest_told waiting) → HasReplied config e before after faults now old new asks sent failed →
-    HasServed config (e ∷ []) waiting left before after faults now old new asks sent failed
-served_one config e waiting left before after faults now old new asks sent failed first rest r =
+-- a datagram that was received, and then answered
+pub served_received : {P : Type 0} (ports : Ports P) (config : GmConfig) (e : Exchange) (port now port' : P) (old new : Counts) (asks sent failed : ℕ) →
+    IsFirstTold (ports.waiting port) e.datagram → IfTold (ports.waiting now) (rest_told (ports.waiting port)) →
+    ports.sent now ≡ ports.sent port → ports.faults now ≡ ports.faults port → ports.has_ceased now ≡ ports.has_ceased port →
+    HasReplied ports config e now port' old new asks sent failed →
+    HasServed ports config (e ∷ []) port port' old new asks sent failed
+served_received ports config e port now port' old new asks sent failed first rest unsent faults goes_on r =
     let many : asks ≡ asks_among (items_of config e.datagram) = let a = r.asks_are in let b = r.answered.counted in omega arith in
     record {
-      given = first_given e.datagram waiting left first rest;
+      given = first_given e.datagram (ports.waiting port) (ports.waiting port') first (subst (λ l. IfTold l (rest_told (ports.waiting port))) (sym r.hands.waiting) rest);
       answered = All-cons (IsAnswered config) e [] r.answered.fit (All-nil (IsAnswered config));
       granted = let a = r.answered.granted in omega arith;
       refused = r.answered.refused;
       counted = r.asks_are;
       asks_are = omega (arith, many);
       few = omega (arith, many, asks-le (items_of config e.datagram), r.few);
-      at_most = omega (arith, at_most_one config e before after faults now old new asks sent failed r);
-      risen = r.hands.risen;
-      no_fall = r.hands.no_fall;
-      sent_are = λ same. omega (arith, r.hands.each, no_failure failed faults now r.hands.risen same, ap length (append-nil (reply_in config e)));
-      told = λ same. subst (λ ds. IfTold after (append_told before ds)) (sym (append-nil (reply_in config e))) (r.hands.all same);
+      at_most = omega (arith, at_most_one ports config e now port' old new asks sent failed r);
+      risen = subst (λ n. HasRisenBy failed n (ports.faults port')) faults r.hands.risen;
+      just = λ once. subst (λ n. HasRisenJust failed n (ports.faults port')) faults (r.hands.just once);
+      quiet = λ none. r.hands.quiet none ∙ faults;
+      no_fall = subst (λ n. HasNotFallen n (ports.faults port')) faults r.hands.no_fall;
+      sent_are = λ same.
+          let none : failed ≡ 0 = none_failed failed (ports.faults now) (ports.faults port') r.hands.risen (subst (λ n. ¬ HasRisen n (ports.faults port')) (sym faults) same) in
+          omega (arith, r.hands.each, none, ap length (append-nil (reply_in config e)));
+      told = λ same.
+          subst (λ (before : Option (List Departure)). IfTold (ports.sent port') (append_told before (reply_in config e ++ []))) unsent
+          (subst (λ ds. IfTold (ports.sent port') (append_told (ports.sent now) ds)) (sym (append-nil (reply_in config e)))
+          (r.hands.all (subst (λ n. ¬ HasRisen n (ports.faults port')) (sym faults) same)));
+      goes_on = λ none few.
+          r.hands.goes_on none (subst (AllByRecursion (λ d. ports.ceases_at d ≡ false)) (append-nil (reply_in config e)) few) ∙ goes_on;
     }
 
 -- ---- a whole round
 
 -- the lane took 64 datagrams, or nothing waits any more
-abbrev pub IsOver : List Exchange → Option (List Arrival) → ℕ → ℕ → Type 0
-IsOver exchanges left faults now = (length exchanges ≡ 64) ⊎ (¬ HasRisen faults now → IfSome left (λ later. later ≡ []))
+abbrev pub IsOver : {P : Type 0} → Ports P → List Exchange → P → P → Type 0
+IsOver ports exchanges port port' =
+    (length exchanges ≡ 64) ⊎ (¬ HasRisen (ports.faults port) (ports.faults port') → IfSome (ports.waiting port') (λ later. later ≡ []))
 
-pub round_is : (config : GmConfig) (exchanges : List Exchange) (waiting left : Option (List Arrival)) (before after : Option (List Departure)) (faults now : ℕ) (old new : Counts) (asks sent failed : ℕ) →
-    HasServed config exchanges waiting left before after faults now old new asks sent failed → length exchanges ≤ 64 → IsOver exchanges left faults now →
-    ¬ HasRisen faults now → IfSome left (λ later. IsRound config waiting later before after old.granted new.granted asks sent)
-round_is config exchanges waiting None before after faults now old new asks sent failed p few over same = tt
-round_is config exchanges waiting (Some later) before after faults now old new asks sent failed p few over same =
-    let fronts = front_is (datagrams exchanges) later (omega (arith, size)) (either over) in
-    record {
-      waited = datagrams exchanges ++ later;
-      all = p.given;
-      exchanges = exchanges;
-      first = fronts.0;
-      rest = fronts.1;
-      answered = p.answered;
-      told = p.told same;
-      sent_are = p.sent_are same;
-      asks_are = p.asks_are ∙ ap (asks_in config) fronts.0;
-      granted_are = p.granted;
-    }
+pub round_is : {P : Type 0} (ports : Ports P) (config : GmConfig) (exchanges : List Exchange) (port port' : P) (old new : Counts) (asks sent failed : ℕ) →
+    HasServed ports config exchanges port port' old new asks sent failed → length exchanges ≤ 64 → IsOver ports exchanges port port' →
+    ¬ HasRisen (ports.faults port) (ports.faults port') →
+    IfSome (ports.waiting port') (λ later. IsRound ports config port port' later old.granted new.granted asks sent)
+round_is ports config exchanges port port' old new asks sent failed p few over same = of (ports.waiting port') p.given (either over)
   where
     size : length (datagrams exchanges) ≡ length exchanges
     size = length-map exchanges (λ (e : Exchange). e.datagram)
 
-    either : IsOver exchanges (Some later) faults now → (length (datagrams exchanges) ≡ 64) ⊎ (later ≡ [])
+    either : IsOver ports exchanges port port' → (length (datagrams exchanges) ≡ 64) ⊎ IfSome (ports.waiting port') (λ later. later ≡ [])
     either (inl many) = inl (size ∙ many)
     either (inr none) = inr (none same)
+
+    of : (told : Option (List Arrival)) → IfSome told (λ later. ports.waiting port ≡ Some (datagrams exchanges ++ later)) →
+        (length (datagrams exchanges) ≡ 64) ⊎ IfSome told (λ later. later ≡ []) →
+        IfSome told (λ later. IsRound ports config port port' later old.granted new.granted asks sent)
+    of None given ends = tt
+    of (Some later) given ends =
+        let fronts = front_is (datagrams exchanges) later (omega (arith, size)) ends in
+        record {
+          waited = datagrams exchanges ++ later;
+          all = given;
+          exchanges = exchanges;
+          first = fronts.0;
+          rest = fronts.1;
+          answered = p.answered;
+          told = p.told same;
+          goes_on = p.goes_on (none_failed failed (ports.faults port) (ports.faults port') p.risen same);
+          sent_are = p.sent_are same;
+          asks_are = p.asks_are ∙ ap (asks_in config) fronts.0;
+          granted_are = p.granted;
+        }
 
 -- ---- one datagram, by what is heard in it
 
@@ -178,59 +199,40 @@ pub both_ok : {A E : Type 0} (r : Result A E) (P Q R : A → Type 0) → ((x : A
 both_ok (Ok x) P Q R makes p q = makes x p q
 both_ok (Err e) P Q R makes p q = tt
 
-pub replied_is : (config : GmConfig) (from : ℕ) (octets : List ℕ) (header : Header) (items : List Item) (answers : List Tlv) (before after : Option (List Departure)) (faults now : ℕ) (old new : Counts) (asks sent failed : ℕ) →
+pub replied_is : {P : Type 0} (ports : Ports P) (config : GmConfig) (from : ℕ) (octets : List ℕ) (header : Header) (items : List Item) (answers : List Tlv) (port port' : P) (old new : Counts) (asks sent failed : ℕ) →
     heard_in config octets ≡ Ok (heard.Asks header items) → length items ≤ 32 → HasAnswered config items answers old new →
-    HandsOver before after faults now (reply_if_any config from header answers) sent failed → new.granted + new.refused ≡ old.granted + old.refused + asks →
-    HasReplied config (record { datagram = record { ip = from; bytes = octets }; answers = answers }) before after faults now old new asks sent failed
-replied_is config from octets header items answers before after faults now old new asks sent failed found few answered hands asks_are =
+    HandsOver ports port port' (reply_if_any config from header answers) sent failed → new.granted + new.refused ≡ old.granted + old.refused + asks →
+    HasReplied ports config (record { datagram = record { ip = from; bytes = octets }; answers = answers }) port port' old new asks sent failed
+replied_is ports config from octets header items answers port port' old new asks sent failed found few answered hands asks_are =
     let same : items ≡ found_items (items_in config octets) = sym (ap heard_items found) ∙ items_heard config octets in
     record {
       answered = subst (λ is. HasAnswered config is answers old new) same answered;
       asks_are = asks_are;
       few = subst (λ is. length is ≤ 32) same few;
-      hands = subst (λ h. HandsOver before after faults now (reply_with config from h answers) sent failed) (sym found) hands;
+      hands = subst (λ h. HandsOver ports port port' (reply_with config from h answers) sent failed) (sym found) hands;
     }
 
 -- a datagram in which no Signaling is heard has no items, and no reply
-pub ignored_is : (config : GmConfig) (from : ℕ) (octets : List ℕ) (found : Result Heard GmReason) (before : Option (List Departure)) (faults : ℕ) (counts : Counts) →
+pub ignored_is : {P : Type 0} (ports : Ports P) (config : GmConfig) (from : ℕ) (octets : List ℕ) (found : Result Heard GmReason) (port : P) (counts : Counts) →
     heard_in config octets ≡ found → heard_items found ≡ [] → reply_with config from found [] ≡ [] →
-    HasReplied config (record { datagram = record { ip = from; bytes = octets }; answers = [] }) before before faults faults counts counts 0 0 0
-ignored_is config from octets found before faults counts is none quiet =
+    HasReplied ports config (record { datagram = record { ip = from; bytes = octets }; answers = [] }) port port counts counts 0 0 0
+ignored_is ports config from octets found port counts is none quiet =
     let same : [] ≡ found_items (items_in config octets) = sym none ∙ sym (ap heard_items is) ∙ items_heard config octets in
     record {
       answered = subst (λ items. HasAnswered config items [] counts counts) same (answered_none config counts);
       asks_are = omega arith;
       few = subst (λ items. length items ≤ 32) same (omega arith);
-      hands = subst (λ ds. HandsOver before before faults faults ds 0 0) (sym (ap (λ h. reply_with config from h []) is ∙ quiet)) (hands_none before faults);
+      hands = subst (λ ds. HandsOver ports port port ds 0 0) (sym (ap (λ h. reply_with config from h []) is ∙ quiet)) (hands_none ports port);
     }
 
--- a datagram that was received, and then answered
-pub served_received : (config : GmConfig) (e : Exchange) (waiting middle left : Option (List Arrival)) (before between after : Option (List Departure)) (faults risen now : ℕ) (old new : Counts) (asks sent failed : ℕ) →
-    IsFirstTold waiting e.datagram → IfTold middle (rest_told waiting) → between ≡ before → risen ≡ faults → left ≡ middle →
-    HasReplied config e between after risen now old new asks sent failed →
-    HasServed config (e ∷ []) waiting left before after faults now old new asks sent failed
-served_received config e waiting middle left before between after faults risen now old new asks sent failed first rest same_sent same_faults same_left r =
-    served_one config e waiting left before after faults now old new asks sent failed first (subst (λ l. IfTold l (rest_told waiting)) (sym same_left) rest)
-    (subst (λ b. HasReplied config e b after faults now old new asks sent failed) same_sent
-    (subst (λ n. HasReplied config e between after n now old new asks sent failed) same_faults r))
-
--- a receive that gave nothing
-pub served_nothing : (config : GmConfig) (waiting left : Option (List Arrival)) (before after : Option (List Departure)) (faults now failed : ℕ) (counts : Counts) →
-    IfTold left waiting → after ≡ before → HasRisenBy failed faults now → HasNotFallen faults now →
-    HasServed config [] waiting left before after faults now counts counts 0 0 failed
-served_nothing config waiting left before after faults now failed counts kept same risen no_fall =
-    subst (λ a. HasServed config [] waiting left before a faults now counts counts 0 0 failed) (sym same)
-    (served_none config waiting left before faults now failed counts kept risen no_fall)
-
 -- a round that ends before it took 64 datagrams, since nothing waits after the last ones that it took, or a fault came
-pub round_over : (config : GmConfig) (xs ys : List Exchange) (waiting middle left : Option (List Arrival)) (before between after : Option (List Departure)) (faults risen now : ℕ)
-    (old seat new : Counts) (asks sent failed asks2 sent2 failed2 : ℕ) →
-    HasServed config xs waiting middle before between faults risen old seat asks sent failed →
-    HasServed config ys middle left between after risen now seat new asks2 sent2 failed2 →
-    length xs + length ys ≤ 64 → (¬ HasRisen risen now → IfSome left (λ later. later ≡ [])) →
-    ¬ HasRisen faults now → IfSome left (λ later. IsRound config waiting later before after old.granted new.granted (asks + asks2) (sent + sent2))
-round_over config xs ys waiting middle left before between after faults risen now old seat new asks sent failed asks2 sent2 failed2 p q few over =
-    round_is config (xs ++ ys) waiting left before after faults now old new (asks + asks2) (sent + sent2) (failed + failed2)
-    (served-append config xs ys waiting middle left before between after faults risen now old seat new asks sent failed asks2 sent2 failed2 p q)
+pub round_over : {P : Type 0} (ports : Ports P) (config : GmConfig) (xs ys : List Exchange) (p0 p1 p2 : P) (old seat new : Counts) (asks sent failed asks2 sent2 failed2 : ℕ) →
+    HasServed ports config xs p0 p1 old seat asks sent failed → HasServed ports config ys p1 p2 seat new asks2 sent2 failed2 →
+    length xs + length ys ≤ 64 → (¬ HasRisen (ports.faults p1) (ports.faults p2) → IfSome (ports.waiting p2) (λ later. later ≡ [])) →
+    ¬ HasRisen (ports.faults p0) (ports.faults p2) →
+    IfSome (ports.waiting p2) (λ later. IsRound ports config p0 p2 later old.granted new.granted (asks + asks2) (sent + sent2))
+round_over ports config xs ys p0 p1 p2 old seat new asks sent failed asks2 sent2 failed2 p q few over =
+    round_is ports config (xs ++ ys) p0 p2 old new (asks + asks2) (sent + sent2) (failed + failed2)
+    (served-append ports config xs ys p0 p1 p2 old seat new asks sent failed asks2 sent2 failed2 p q)
     (omega (arith, few, length-append xs ys))
-    (inr (λ same. over (λ rises. same (HasRisenBy-before 1 faults risen now p.no_fall.0 rises))))
+    (inr (λ same. over (λ rises. same (rises_second (ports.faults p0) (ports.faults p1) (ports.faults p2) p.no_fall rises))))

@@ -1,24 +1,16 @@
 -- What was taken of what waits at a port, call by call.
-use Rattle.std.proofs.Common.{◌≡◌, ◌∙◌, ◌⊎◌, inl, inr, ℕ, ◌+◌, ◌-◌, ◌^◌, ◌≤◌, ◌++◌, List, [], ◌∷◌, length, length-append, take, drop, refl, sym, ap, subst, append_assoc, arith, Option, Some, None}
+use Rattle.std.proofs.Common.{◌≡◌, ◌∙◌, ◌⊎◌, inl, inr, ℕ, ◌+◌, ◌≤◌, ◌++◌, List, [], ◌∷◌, length, length-append, take, drop, refl, sym, ap, subst, append_assoc, arith, Option, Some, None}
 use Rattle.std.specs.Prelude.{IfSome}
 use Rattle.std.proofs.lemmas.List.{append-nil, take_all}
 use Rattle.std.proofs.Math.ListN.{drop_of_length-le}
 use Rattle.std.proofs.Math.Seq.{drop-append_seam, take-append_seam}
 use Rattle.ptu_outside.specs.declared.arrival.Arrival.{Arrival}
-use Rattle.ptu_outside.specs.Departure.{Departure}
+use Rattle.ptu_outside.specs.declared.port.Port.{Ghosts as Ports}
 use Rattle.ptu_outside.specs.Faults.{HasNotFallen}
 use Rattle.ptu_outside.specs.Telling.{IfTold, IsFirstTold, rest_told}
+use Rattle.ptu_outside.proofs.HandsOver.{not_fallen_both, not_fallen_none}
 use Rattle.ptu_outside.proofs.Telling.{IfTold-refl}
 use Rattle.ptu_lanes.specs.Waiting.{GaveFirst}
-
--- ---- counts of faults
-
-pub not_fallen_more : (old now new : ℕ) → HasNotFallen old now → HasNotFallen now new → HasNotFallen old new
-not_fallen_more old now new (le, stays) (le', stays') =
-    (omega arith, λ end. let one : now ≡ old = stays end in stays' (subst (λ n. 2 ^ 64 - 1 ≤ n) (sym one) end) ∙ one)
-
-pub still : (n : ℕ) → HasNotFallen n n
-still n = (omega arith, λ end. refl)
 
 -- ---- what a port gave
 
@@ -55,27 +47,35 @@ front_is xs later few (inr none) =
     let all : xs ++ later ≡ xs = ap (λ l. xs ++ l) none ∙ append-nil xs in
     (sym (ap (take 64) all ∙ take_all 64 xs few), none ∙ sym (ap (drop 64) all ∙ drop_of_length-le xs few))
 
--- so many datagrams were taken of what waits, and nothing was sent: what waits at the port and what was sent there, where it tells
--- that, and its count of faults, before and after
-pub record HasTaken (count : ℕ) (waiting left : Option (List Arrival)) (before after : Option (List Departure)) (faults now : ℕ) : Type 0 where
+-- so many datagrams were taken of what waits at the port, and nothing was sent there
+pub record HasTaken {P : Type 0} (ports : Ports P) (count : ℕ) (port port' : P) : Type 0 where
   pub taken : List Arrival
   pub many : length taken ≡ count
-  pub given : IfSome left (λ later. waiting ≡ Some (taken ++ later))
-  pub unsent : after ≡ before
-  pub no_fall : HasNotFallen faults now
+  pub given : IfSome (ports.waiting port') (λ later. ports.waiting port ≡ Some (taken ++ later))
+  pub unsent : ports.sent port' ≡ ports.sent port
+  pub goes_on : ports.has_ceased port' ≡ ports.has_ceased port
+  pub no_fall : HasNotFallen (ports.faults port) (ports.faults port')
 
-pub none_taken : (waiting : Option (List Arrival)) (before : Option (List Departure)) (faults : ℕ) → HasTaken 0 waiting waiting before before faults faults
-none_taken waiting before faults = record { taken = []; many = refl; given = kept_is waiting waiting (IfTold-refl waiting); unsent = refl; no_fall = still faults }
+module _ {P : Type 0} (ports : Ports P) where
+  pub none_taken : (port : P) → HasTaken ports 0 port port
+  none_taken port = record {
+    taken = [];
+    many = refl;
+    given = kept_is (ports.waiting port) (ports.waiting port) (IfTold-refl (ports.waiting port));
+    unsent = refl;
+    goes_on = refl;
+    no_fall = not_fallen_none (ports.faults port);
+  }
 
-pub taken_more : (count more : ℕ) (waiting middle left : Option (List Arrival)) (before between after : Option (List Departure)) (faults risen now : ℕ) →
-    HasTaken count waiting middle before between faults risen → HasTaken more middle left between after risen now → HasTaken (count + more) waiting left before after faults now
-taken_more count more waiting middle left before between after faults risen now p q = record {
-  taken = p.taken ++ q.taken;
-  many = length-append p.taken q.taken ∙ omega (arith, p.many, q.many);
-  given = given_more p.taken q.taken waiting middle left p.given q.given;
-  unsent = let same : between ≡ before = p.unsent in q.unsent ∙ same;
-  no_fall = not_fallen_more faults risen now p.no_fall q.no_fall;
-}
+  pub taken_more : (count more : ℕ) (old now new : P) → HasTaken ports count old now → HasTaken ports more now new → HasTaken ports (count + more) old new
+  taken_more count more old now new p q = record {
+    taken = p.taken ++ q.taken;
+    many = length-append p.taken q.taken ∙ omega (arith, p.many, q.many);
+    given = given_more p.taken q.taken (ports.waiting old) (ports.waiting now) (ports.waiting new) p.given q.given;
+    unsent = q.unsent ∙ p.unsent;
+    goes_on = q.goes_on ∙ p.goes_on;
+    no_fall = not_fallen_both (ports.faults old) (ports.faults now) (ports.faults new) p.no_fall q.no_fall;
+  }
 
 first_gave : (taken : List Arrival) (waiting left : Option (List Arrival)) → IfSome left (λ later. waiting ≡ Some (taken ++ later)) → length taken ≤ 64 →
     (length taken ≡ 64) ⊎ IfSome left (λ later. later ≡ []) → GaveFirst 64 waiting left
@@ -83,11 +83,11 @@ first_gave taken waiting None given few over = tt
 first_gave taken waiting (Some later) given few over = (taken ++ later, given, (front_is taken later few over).1)
 
 -- a round that took 64 datagrams, or after which nothing waits
-pub gave_first : (count : ℕ) (waiting left : Option (List Arrival)) (before after : Option (List Departure)) (faults now : ℕ) →
-    HasTaken count waiting left before after faults now → count ≤ 64 → (count ≡ 64) ⊎ IfSome left (λ later. later ≡ []) → GaveFirst 64 waiting left
-gave_first count waiting left before after faults now t few over =
-    first_gave t.taken waiting left t.given (omega (arith, t.many, few)) (ends over)
+pub gave_first : {P : Type 0} (ports : Ports P) (count : ℕ) (port port' : P) → HasTaken ports count port port' → count ≤ 64 →
+    (count ≡ 64) ⊎ IfSome (ports.waiting port') (λ later. later ≡ []) → GaveFirst 64 (ports.waiting port) (ports.waiting port')
+gave_first ports count port port' t few over =
+    first_gave t.taken (ports.waiting port) (ports.waiting port') t.given (omega (arith, t.many, few)) (ends over)
   where
-    ends : (count ≡ 64) ⊎ IfSome left (λ later. later ≡ []) → (length t.taken ≡ 64) ⊎ IfSome left (λ later. later ≡ [])
+    ends : (count ≡ 64) ⊎ IfSome (ports.waiting port') (λ later. later ≡ []) → (length t.taken ≡ 64) ⊎ IfSome (ports.waiting port') (λ later. later ≡ [])
     ends (inl all) = inl (omega (arith, t.many, all))
     ends (inr none) = inr none

@@ -1,13 +1,13 @@
 -- What a lane does that takes Signaling: the datagrams that it takes, and the replies that it sends (IEEE 1588-2019 clause
 -- 16.1; that a round takes 64 at most is the project's own choice).
-use Rattle.std.specs.Prelude.{◌≡◌, ℕ, ◌+◌, ◌*◌, ◌≤◌, List, [], ◌∷◌, ◌++◌, length, map, take, drop, Option, Some, Result, Ok, Err, IfSome}
+use Rattle.std.specs.Prelude.{◌≡◌, ℕ, ◌+◌, ◌*◌, ◌≤◌, List, [], ◌∷◌, ◌++◌, length, map, take, drop, true, Some, Result, Ok, Err, IfSome}
 use Rattle.std.specs.List.{All, flat_map, sum_by}
 use Rattle.ptu_outside.specs.declared.arrival.Arrival.{Arrival}
 use Rattle.ptu_outside.specs.Departure.{Departure}
-use Rattle.ptu_outside.specs.Faults.{HasRisen, HasRisenBy, HasNotFallen}
+use Rattle.ptu_outside.specs.declared.port.Port.{Ghosts as Ports}
+use Rattle.ptu_outside.specs.Faults.{HasRisen, HasRisenBy, HasRisenJust, HasNotFallen}
 use Rattle.ptu_outside.specs.HandsOver.{HandsOver}
 use Rattle.ptu_header.specs.declared.header.Header.{Header}
-use Rattle.ptu_outside.specs.Telling.{IfTold, append_told}
 use Rattle.ptu_tlvs.specs.declared.tlv.Tlv.{Tlv}
 use Rattle.ptu_shard.specs.declared.config.GmConfig.{GmConfig}
 use Rattle.ptu_shared.specs.Seats.{Counts}
@@ -18,6 +18,7 @@ use Rattle.ptu_items.specs.declared.reason.GmReason.{GmReason}
 use Rattle.ptu_items.specs.Items.{heard_in, items_in}
 use Rattle.ptu_items.specs.Replies.{reply_to}
 use Rattle.ptu_lanes.specs.Answers.{FitEach, HasAnswered, asks_among, grants_among}
+use Rattle.ptu_lanes.specs.Sending.{GoesOn, WasSent}
 
 -- the items that were found; there is none where the datagram is ignored
 abbrev pub found_items : Result (List Item) GmReason → List Item
@@ -68,19 +69,18 @@ asks_in config arrivals = sum_by (λ d. asks_among (items_of config d)) arrivals
 abbrev pub grants_in : List Exchange → ℕ
 grants_in exchanges = sum_by (λ e. grants_among e.answers) exchanges
 
--- the items of the exchange's datagram were answered so, and the reply was sent or its send failed: what was sent at the
--- port, where it tells that, its count of faults, and what the lane's seat has counted, before and after
-pub record HasReplied (config : GmConfig) (exchange : Exchange) (before after : Option (List Departure)) (faults now : ℕ) (old new : Counts) (asks sent failed : ℕ) : Type 0 where
+-- the items of the exchange's datagram were answered so, and the reply was sent or its send failed: the port, and what the
+-- lane's seat has counted, before and after
+pub record HasReplied {P : Type 0} (ports : Ports P) (config : GmConfig) (exchange : Exchange) (port port' : P) (old new : Counts) (asks sent failed : ℕ) : Type 0 where
   pub answered : HasAnswered config (items_of config exchange.datagram) exchange.answers old new
   pub asks_are : new.granted + new.refused ≡ old.granted + old.refused + asks
   pub few : length (items_of config exchange.datagram) ≤ 32
-  pub hands : HandsOver before after faults now (reply_in config exchange) sent failed
+  pub hands : HandsOver ports port port' (reply_in config exchange) sent failed
 
--- a lane has had these exchanges: what waited at its port and what was sent there, where it tells that, the port's count of
--- faults, and what its seat has counted, before and after; so many asks were decided, so many replies were sent, and so many
--- calls of the port failed
-pub record HasServed (config : GmConfig) (exchanges : List Exchange) (waiting left : Option (List Arrival)) (before after : Option (List Departure)) (faults now : ℕ) (old new : Counts) (asks sent failed : ℕ) : Type 0 where
-  pub given : IfSome left (λ later. waiting ≡ Some (datagrams exchanges ++ later))
+-- a lane has had these exchanges: its port, and what its seat has counted, before and after; so many asks were decided, so
+-- many replies were sent, and so many calls of the port failed
+pub record HasServed {P : Type 0} (ports : Ports P) (config : GmConfig) (exchanges : List Exchange) (port port' : P) (old new : Counts) (asks sent failed : ℕ) : Type 0 where
+  pub given : IfSome (ports.waiting port') (λ later. ports.waiting port ≡ Some (datagrams exchanges ++ later))
   pub answered : All (IsAnswered config) exchanges
   pub granted : new.granted ≡ old.granted + grants_in exchanges
   pub refused : old.refused ≤ new.refused
@@ -88,22 +88,27 @@ pub record HasServed (config : GmConfig) (exchanges : List Exchange) (waiting le
   pub asks_are : asks ≡ asks_in config (datagrams exchanges)
   pub few : asks ≤ 32 * length exchanges
   pub at_most : sent ≤ length exchanges
-  pub risen : HasRisenBy failed faults now
-  pub no_fall : HasNotFallen faults now
+  pub risen : HasRisenBy failed (ports.faults port) (ports.faults port')
+  pub just : ports.counts_once ≡ true → HasRisenJust failed (ports.faults port) (ports.faults port')
+  pub quiet : failed ≡ 0 → ports.faults port' ≡ ports.faults port
+  pub no_fall : HasNotFallen (ports.faults port) (ports.faults port')
   -- where the count did not rise, each reply was sent
-  pub sent_are : ¬ HasRisen faults now → sent ≡ length (replies config exchanges)
-  pub told : ¬ HasRisen faults now → IfTold after (append_told before (replies config exchanges))
+  pub sent_are : ¬ HasRisen (ports.faults port) (ports.faults port') → sent ≡ length (replies config exchanges)
+  pub told : ¬ HasRisen (ports.faults port) (ports.faults port') → WasSent ports port port' (replies config exchanges)
+  -- and the port goes on to tell, unless a call failed or a reply was such that it may cease to
+  pub goes_on : failed ≡ 0 → GoesOn ports port port' (replies config exchanges)
 
 -- a round at a port that tells what waits: it took the first 64 datagrams, or all where there are fewer, and sent one reply
--- for each that has an item, in order, and nothing else
-pub record IsRound (config : GmConfig) (waiting : Option (List Arrival)) (left : List Arrival) (before after : Option (List Departure)) (granted now asks sent : ℕ) : Type 0 where
+-- for each that has an item, in order, and nothing else; it goes on to tell, unless a reply was such that it may cease to
+pub record IsRound {P : Type 0} (ports : Ports P) (config : GmConfig) (port port' : P) (left : List Arrival) (granted now asks sent : ℕ) : Type 0 where
   pub waited : List Arrival
-  pub all : waiting ≡ Some waited
+  pub all : ports.waiting port ≡ Some waited
   pub exchanges : List Exchange
   pub first : datagrams exchanges ≡ take 64 waited
   pub rest : left ≡ drop 64 waited
   pub answered : All (IsAnswered config) exchanges
-  pub told : IfTold after (append_told before (replies config exchanges))
+  pub told : WasSent ports port port' (replies config exchanges)
+  pub goes_on : GoesOn ports port port' (replies config exchanges)
   pub sent_are : sent ≡ length (replies config exchanges)
   pub asks_are : asks ≡ asks_in config (take 64 waited)
   pub granted_are : now ≡ granted + grants_in exchanges

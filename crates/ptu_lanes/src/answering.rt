@@ -1,6 +1,6 @@
 //! Answers to the datagrams that a lane takes.
 
-ghost use Rattle.std.specs.Prelude.{◌≡◌, ◌+◌, ◌^◌, ◌<◌, ◌≤◌, List, [], ◌∷◌, length, map, IfOk};
+ghost use Rattle.std.specs.Prelude.{◌≡◌, ◌+◌, ◌^◌, ◌<◌, ◌≤◌, List, [], ◌∷◌, length, map, IfOk, OnErr};
 ghost use Rattle.ptu_outside.specs.HandsOver.{HandsOver};
 ghost use Rattle.ptu_shard.specs.Config.{IsWithinLimits};
 ghost use Rattle.ptu_tlvs.specs.declared.tlv.Tlv.{Tlv};
@@ -16,7 +16,7 @@ use ptu_grandmaster::{Outcome, Outcomes, reply_of};
 use ptu_header::Header;
 use ptu_history::Client;
 use ptu_items::{Heard, Item, hear};
-use ptu_outside::{Channel, Port};
+use ptu_outside::{Channel, Port, Sends, hand};
 use ptu_shard::GmConfig;
 use ptu_shared::{Rates, Seat, Shared};
 use ptu_units::{Kind, Moment, OutOfMemory};
@@ -95,29 +95,25 @@ fn answer_items<P: Port + Send, L: Rates, G: Ledger, R: Ledger>(
 }
 
 // Sends the reply to a Signaling with this header, which came from this IPv4 address. Without
-// outcomes there is none. Gives how many were sent and how many sends failed.
+// outcomes there is none. Gives how many were sent and how many failed to be.
 fn send_reply<P: Port>(
     port: &mut P,
     config: &GmConfig,
     from: u32,
     header: &Header,
     outcomes: &Outcomes,
-) -> (u64, u64)
+) -> Sends
     requires { AreAnswerable (map item_seen outcomes.now) }
-    ensures sends { HandsOver (P.sent port.old) (P.sent port.new) (P.faults port.old)
-        (P.faults port.new) (reply_if_any config.now from header.now (answers_seen outcomes.now))
-        result.0 result.1 }
-    ensures waiting { P.waiting port.new ≡ P.waiting port.old }
+    ensures { HandsOver P.Port port.old port.new
+        (reply_if_any config.now from header.now (answers_seen outcomes.now))
+        result.sent result.failed }
 {
     if outcomes.list().is_empty() {
-        return (0, 0);
+        return Sends::none();
     }
     let mut out = [0; 428];
     let size = reply_of(config, &header.source, header.sequence, outcomes, &mut out);
-    match port.send(from, Channel::General, &out[..size]) {
-        Ok(()) => (1, 0),
-        Err(_) => (0, 1),
-    }
+    Sends::of(hand(port, from, Channel::General, &out[..size]))
 }
 
 // Answers a Signaling with this header: all its items, and then one reply.
@@ -139,20 +135,20 @@ fn answer_signaling<P: Port + Send, L: Rates, G: Ledger, R: Ledger>(
     requires counts { (seat.old.granted + 32 ≤ 2 ^ 48) × (seat.old.refused + 32 ≤ 2 ^ 48) }
     ensures answered { IfOk result (λ c. (answers : List Tlv)
         × HasAnswered config.now items.now answers seat.old seat.new
-        × HandsOver (P.sent port.old) (P.sent port.new) (P.faults port.old) (P.faults port.new)
+        × HandsOver P.Port port.old port.new
         (reply_if_any config.now from header.now answers) c.sent c.failed) }
     ensures asks { IfOk result (λ c. seat.new.granted + seat.new.refused
         ≡ seat.old.granted + seat.old.refused + c.asks) }
-    ensures waiting { P.waiting port.new ≡ P.waiting port.old }
+    ensures unsent { OnErr result (port.new ≡ port.old) }
 {
     let before = seat.granted() + seat.refused();
     let client = client(from, header);
     let outcomes = answer_items(rt, alloc, shared, seat, config, t, &client, items)?;
-    let (sent, failed) = send_reply(port, config, from, header, &outcomes);
+    let sends = send_reply(port, config, from, header, &outcomes);
     Ok(Control {
         asks: seat.granted() + seat.refused() - before,
-        sent,
-        failed,
+        sent: sends.sent,
+        failed: sends.failed,
     })
 }
 
@@ -171,11 +167,10 @@ pub(crate) fn answer_datagram<P: Port + Send, L: Rates, G: Ledger, R: Ledger>(
     requires ledger { L.parts ≡ 4 }
     requires limits { IsWithinLimits config.now }
     requires counts { (seat.old.granted + 32 ≤ 2 ^ 48) × (seat.old.refused + 32 ≤ 2 ^ 48) }
-    ensures replied { IfOk result (λ c. (answers : List Tlv) × HasReplied config.now
+    ensures replied { IfOk result (λ c. (answers : List Tlv) × HasReplied P.Port config.now
         (record { datagram = record { ip = from; bytes = bytes.now }; answers = answers })
-        (P.sent port.old) (P.sent port.new) (P.faults port.old) (P.faults port.new)
-        seat.old seat.new c.asks c.sent c.failed) }
-    ensures waiting { P.waiting port.new ≡ P.waiting port.old }
+        port.old port.new seat.old seat.new c.asks c.sent c.failed) }
+    ensures unsent { OnErr result (port.new ≡ port.old) }
 {
     match hear(alloc, config, bytes)? {
         Ok(Heard::Asks(header, items)) => answer_signaling(

@@ -17,23 +17,26 @@ use std::alloc::Global;
 use std::sync::Wait;
 use std::sync::ledger::Ledger;
 
-/// What a lane did that takes Delay_Reqs, or one that turns tables.
-#[derive(Clone, Copy, Debug, Default, PartialEq, Eq)]
-pub struct Sends {
-    /// How many messages were sent.
+/// What a lane did that takes Delay_Reqs.
+#[derive(Clone, Copy, Debug, PartialEq, Eq)]
+pub struct Delays {
+    /// How many Delay_Resps were sent.
     pub sent: u64,
     /// How many sends and receives failed.
     pub failed: u64,
 }
 
+// Nothing was done.
+const IDLE: Delays = Delays { sent: 0, failed: 0 };
+
 // What was sent for a Delay_Req that was answered so.
-fn sends_of(answered: &Answered) -> Sends
+fn delays_of(answered: &Answered) -> Delays
     ensures { result.sent + result.failed ≤ 1 }
 {
     match answered {
-        Answered::Sent { .. } => Sends { sent: 1, failed: 0 },
-        Answered::Failed { .. } => Sends { sent: 0, failed: 1 },
-        Answered::NoGrant { .. } | Answered::TooSoon { .. } => Sends::default(),
+        Answered::Sent { .. } => Delays { sent: 1, failed: 0 },
+        Answered::Failed { .. } => Delays { sent: 0, failed: 1 },
+        Answered::NoGrant { .. } | Answered::TooSoon { .. } => IDLE,
     }
 }
 
@@ -46,7 +49,7 @@ fn answer_delay<P: Port + Send, L: Rates, G: Ledger, R: Ledger>(
     t: Moment,
     from: u32,
     bytes: &[u8],
-) -> Result<Sends, OutOfMemory>
+) -> Result<Delays, OutOfMemory>
     requires { IsWithinLimits config.now }
     ensures { IfOk result (λ s. s.sent + s.failed ≤ 1) }
 {
@@ -54,9 +57,9 @@ fn answer_delay<P: Port + Send, L: Rates, G: Ledger, R: Ledger>(
         Ok(Heard::DelayReq(header)) => {
             let client = client(from, &header);
             let answered = shared.answer_delay(rt, config, t, &client, &header);
-            Ok(sends_of(&answered))
+            Ok(delays_of(&answered))
         }
-        Ok(Heard::Asks(..)) | Err(_) => Ok(Sends::default()),
+        Ok(Heard::Asks(..)) | Err(_) => Ok(IDLE),
     }
 }
 
@@ -70,7 +73,7 @@ fn take_one<P: Port + Send, C: Clock, L: Rates, G: Ledger, R: Ledger>(
     port: &mut P,
     clock: &mut C,
     buffer: &mut [u8; 2048],
-) -> Result<(Sends, bool), OutOfMemory>
+) -> Result<(Delays, bool), OutOfMemory>
     requires { IsWithinLimits config.now }
     ensures most { IfOk result (λ r. r.0.sent + r.0.failed ≤ 1) }
     ensures given { IfOk result (λ r. (taken : List Arrival)
@@ -80,17 +83,18 @@ fn take_one<P: Port + Send, C: Clock, L: Rates, G: Ledger, R: Ledger>(
         → ¬ HasRisen (P.faults port.old) (P.faults port.new)
         → IfSome (P.waiting port.new) (λ left. left ≡ [])) }
     ensures unsent { P.sent port.new ≡ P.sent port.old }
+    ensures goes_on { P.has_ceased port.new ≡ P.has_ceased port.old }
     ensures no_fall { HasNotFallen (P.faults port.old) (P.faults port.new) }
 {
     match port.receive(buffer) {
         Ok(Some((from, size))) => {
             let t = clock.now();
             let bytes = &buffer[..size];
-            let sends = answer_delay(rt, alloc, shared, config, t, from, bytes)?;
-            Ok((sends, true))
+            let delays = answer_delay(rt, alloc, shared, config, t, from, bytes)?;
+            Ok((delays, true))
         }
-        Ok(None) => Ok((Sends::default(), false)),
-        Err(_) => Ok((Sends { sent: 0, failed: 1 }, false)),
+        Ok(None) => Ok((IDLE, false)),
+        Err(_) => Ok((Delays { sent: 0, failed: 1 }, false)),
     }
 }
 
@@ -107,25 +111,26 @@ pub fn delay_round<P: Port + Send, C: Clock, L: Rates, G: Ledger, R: Ledger>(
     config: &GmConfig,
     port: &mut P,
     clock: &mut C,
-) -> Result<Sends, OutOfMemory>
+) -> Result<Delays, OutOfMemory>
     requires { IsWithinLimits config.now }
     ensures most { IfOk result (λ s. s.sent + s.failed ≤ 64) }
     // Where the port's count did not rise, these were the first that waited there.
     ensures round { IfOk result (λ s. ¬ HasRisen (P.faults port.old) (P.faults port.new)
         → GaveFirst 64 (P.waiting port.old) (P.waiting port.new)) }
-    // The port was sent nothing.
+    // The port was sent nothing, and goes on to tell that.
     ensures unsent { P.sent port.new ≡ P.sent port.old }
+    ensures goes_on { P.has_ceased port.new ≡ P.has_ceased port.old }
     ensures no_fall { HasNotFallen (P.faults port.old) (P.faults port.new) }
 {
-    let mut sends = Sends::default();
+    let mut delays = IDLE;
     let mut buffer = [0; 2048];
     for _i in 0..MOST_DATAGRAMS {
         let (one, goes_on) = take_one(rt, alloc, shared, config, port, clock, &mut buffer)?;
-        sends.sent += one.sent;
-        sends.failed += one.failed;
+        delays.sent += one.sent;
+        delays.failed += one.failed;
         if !goes_on {
             break;
         }
     }
-    Ok(sends)
+    Ok(delays)
 }

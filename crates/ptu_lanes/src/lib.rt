@@ -8,7 +8,7 @@ mod delays;
 mod rounds;
 mod turns;
 
-pub use delays::{Sends, delay_round};
+pub use delays::{Delays, delay_round};
 pub use rounds::{Control, control_round};
 pub use turns::turn_round;
 

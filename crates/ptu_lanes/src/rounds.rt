@@ -1,7 +1,7 @@
 //! Rounds of the lane that takes Signaling.
 
-ghost use Rattle.std.specs.Prelude.{◌≡◌, ◌+◌, ◌^◌, ◌≤◌, List, [], length, false, if◌then◌else◌, IfOk, IfSome};
-ghost use Rattle.ptu_outside.specs.Faults.{HasNotFallen, HasRisen, HasRisenBy};
+ghost use Rattle.std.specs.Prelude.{◌≡◌, ◌+◌, ◌^◌, ◌≤◌, List, [], length, true, false, if◌then◌else◌, IfOk, IfSome};
+ghost use Rattle.ptu_outside.specs.Faults.{HasNotFallen, HasRisen, HasRisenBy, HasRisenJust};
 ghost use Rattle.ptu_shard.specs.Config.{IsWithinLimits};
 ghost use Rattle.ptu_lanes.specs.Rounds.{Exchange, HasServed, IsRound};
 
@@ -52,8 +52,7 @@ fn take_one<P: Port + Send, C: Clock, L: Rates, G: Ledger, R: Ledger>(
     requires counts { (seat.old.granted + 32 ≤ 2 ^ 48) × (seat.old.refused + 32 ≤ 2 ^ 48) }
     ensures served { IfOk result (λ r. (exchanges : List Exchange)
         × (length exchanges ≡ (if r.1 then 1 else 0))
-        × HasServed config.now exchanges (P.waiting port.old) (P.waiting port.new)
-        (P.sent port.old) (P.sent port.new) (P.faults port.old) (P.faults port.new)
+        × HasServed P.Port config.now exchanges port.old port.new
         seat.old seat.new r.0.asks r.0.sent r.0.failed) }
     ensures failed { IfOk result (λ r. r.0.failed ≤ 1) }
     ensures end { IfOk result (λ r. r.1 ≡ false
@@ -104,10 +103,15 @@ pub fn control_round<P: Port + Send, C: Clock, L: Rates, G: Ledger, R: Ledger>(
     // Where the port tells what waits, and its count did not rise, these are the datagrams that it
     // took, what answered them, and what was counted.
     ensures round { IfOk result (λ c. ¬ HasRisen (P.faults port.old) (P.faults port.new) →
-        IfSome (P.waiting port.new) (λ left. IsRound config.now (P.waiting port.old) left
-        (P.sent port.old) (P.sent port.new) seat.old.granted seat.new.granted c.asks c.sent)) }
+        IfSome (P.waiting port.new) (λ left. IsRound P.Port config.now port.old port.new left
+        seat.old.granted seat.new.granted c.asks c.sent)) }
+    // Each call that failed is a fault, and there are no other faults.
     ensures failed { IfOk result (λ c.
         HasRisenBy c.failed (P.faults port.old) (P.faults port.new)) }
+    ensures just { IfOk result (λ c. P.counts_once ≡ true
+        → HasRisenJust c.failed (P.faults port.old) (P.faults port.new)) }
+    ensures quiet { IfOk result (λ c. c.failed ≡ 0
+        → P.faults port.new ≡ P.faults port.old) }
     ensures no_fall { IfOk result (λ c. HasNotFallen (P.faults port.old) (P.faults port.new)) }
 {
     let mut control = IDLE;

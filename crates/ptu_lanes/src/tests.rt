@@ -5,7 +5,7 @@ use super::*;
 use ptu_admit::{Closed, Verdict};
 use ptu_header::PortIdentity;
 use ptu_history::Client;
-use ptu_outside::{Arrival, Channel, Datagram, MemClock, MemPort};
+use ptu_outside::{Arrival, Channel, Datagram, MemClock, MemPort, Sends};
 use ptu_shard::GmConfig;
 use ptu_shared::{Rates, Seat, Shared};
 use ptu_tlvs::Ask;
@@ -255,11 +255,11 @@ fn answer_and_turn<L: Rates, G: Ledger, R: Ledger, W: Wait + Abort>(
 ) -> Result<(), Fail> {
     let second = Moment::of(1_000_000_000).expect(rt, "a moment is below 2^62");
     let mut clock = MemClock::new(vec![in alloc; second]?);
-    let one = Sends { sent: 1, failed: 0 };
     let answered = delay_round(rt, alloc, shared, &CONFIG, port, &mut clock)?;
-    assert_eq!(rt; answered, one);
+    assert_eq!(rt; answered, Delays { sent: 1, failed: 0 });
     assert!(rt; port.sent(0).is_none());
-    assert_eq!(rt; turn_round(rt, shared, &CONFIG, &mut clock, 1, 2), one);
+    let turned = turn_round(rt, shared, &CONFIG, &mut clock, 1, 2);
+    assert_eq!(rt; turned, Sends { sent: 1, failed: 0 });
     Ok(())
 }
 

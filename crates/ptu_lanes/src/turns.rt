@@ -3,8 +3,7 @@
 ghost use Rattle.std.specs.Prelude.{◌≤◌, ◌<◌};
 ghost use Rattle.ptu_shard.specs.Config.{IsWithinLimits};
 
-use crate::delays::Sends;
-use ptu_outside::{Clock, Port};
+use ptu_outside::{Clock, Port, Sends};
 use ptu_shard::GmConfig;
 use ptu_shared::{Rates, Shared};
 use std::sync::Wait;
@@ -23,7 +22,7 @@ pub fn turn_round<P: Port + Send, C: Clock, L: Rates, G: Ledger, R: Ledger>(
     requires limits { IsWithinLimits config.now }
     requires lanes { (lane < lanes) × (lanes ≤ 4) }
 {
-    let mut sends = Sends::default();
+    let mut sends = Sends::none();
     for table in (lane..4).step_by(lanes) {
         let turned = shared.turn(rt, config, table, clock.now());
         sends.sent = sends.sent.saturating_add(turned.sent);

@@ -2,7 +2,7 @@
 use Rattle.std.specs.Prelude.{◌≡◌, ℕ, ◌+◌, List, [], ◌∷◌, length, Option, option_map}
 use Rattle.ptu_outside.specs.declared.opened.Opened.{Opened}
 use Rattle.ptu_outside.specs.Departure.{Departure}
-use Rattle.ptu_outside.specs.Faults.{HasRisen, HasRisenBy}
+use Rattle.ptu_outside.specs.Faults.{HasRisen, HasRisenBy, HasRisenJust}
 use Rattle.ptu_outside.specs.Telling.{IfTold}
 
 -- the ports that send in a grandmaster's daemon
@@ -19,6 +19,14 @@ HaveRisenBy n [] [] = n ≡ 0
 HaveRisenBy n (old ∷ olds) (new ∷ news) =
     (first : ℕ) × (others : ℕ) × (n ≡ first + others) × HasRisenBy first old new × HaveRisenBy others olds news
 HaveRisenBy n _ _ = ⊥
+
+-- these counts of faults rose by just so many together: the number is a sum of one for each count, by which that count has
+-- risen, unless it stands at its end
+abbrev pub HaveRisenJust : ℕ → List ℕ → List ℕ → Type 0
+HaveRisenJust n [] [] = n ≡ 0
+HaveRisenJust n (old ∷ olds) (new ∷ news) =
+    (first : ℕ) × (others : ℕ) × (n ≡ first + others) × HasRisenJust first old new × HaveRisenJust others olds news
+HaveRisenJust n _ _ = ⊥
 
 -- none of these counts has risen
 abbrev pub HaveNotRisen : List ℕ → List ℕ → Type 0

@@ -1,4 +1,4 @@
 use Rattle.ptu_lane_daemon.proofs.changing.change_capacity.Goals as goal
 
-pub returns-clause-sent : goal.returns-clause-sent
-returns-clause-sent g c = (_, c.send_cancels-sent.ensures.sends.all)
+pub returns-clause-sends : goal.returns-clause-sends
+returns-clause-sends g c = (_, _, _, c.send_cancels-sends.ensures.sends)

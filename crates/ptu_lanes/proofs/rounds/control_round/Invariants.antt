@@ -7,6 +7,5 @@ invariant-loop-i g l = record {
   exchanges : List Exchange;
   many : length exchanges ≡ l._i;
   failed : l.control.failed ≤ l._i;
-  served : HasServed l.config exchanges (g.P.Port.waiting l.initial.port) (g.P.Port.waiting l.port) (g.P.Port.sent l.initial.port) (g.P.Port.sent l.port)
-      (g.P.Port.faults l.initial.port) (g.P.Port.faults l.port) l.initial.seat l.seat l.control.asks l.control.sent l.control.failed;
+  served : HasServed g.P.Port l.config exchanges l.initial.port l.port l.initial.seat l.seat l.control.asks l.control.sent l.control.failed;
 }

@@ -17,8 +17,10 @@ returns-in-General g c =
       kept = e.kept;
       sent = e.sent;
       risen = e.risen;
+      once = e.once;
       quiet = e.quiet;
       no_fall = e.no_fall;
+      goes_on = e.goes_on;
     })))
 
 pub returns-in-Event : goal.returns-in-Event
@@ -35,6 +37,8 @@ returns-in-Event g c =
       kept = e.kept;
       sent = e.sent;
       risen = e.risen;
+      once = e.once;
       quiet = e.quiet;
       no_fall = e.no_fall;
+      goes_on = e.goes_on;
     }))
