@@ -101,7 +101,7 @@ impl Port for LanePort<'_> {
 
     ghost waiting = { λ _. None };
 
-    ghost faults = { λ _. 0 };
+    ghost faults = { λ p. p.port.faults };
 
     fn send(&mut self, ip: u32, channel: Channel, bytes: &[u8]) -> Result<(), Failed> {
         let seen = self.seen;

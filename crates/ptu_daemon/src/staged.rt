@@ -1,6 +1,7 @@
 //! Ports and a host for tests, which say what comes when and keep what is sent.
 
 ghost use Rattle.std.specs.Prelude.{◌≡◌, None};
+ghost use Rattle.ptu_outside.specs.Faults.{HasNotFallen, one_more};
 ghost use Rattle.ptu_config.specs.Limits.{IsGmInRange};
 
 use crate::serve;
@@ -55,7 +56,11 @@ impl StagedPort {
         self.out.sent(index)
     }
 
-    fn fail(&mut self) -> Failed {
+    // Counts a fault.
+    fn fail(&mut self) -> Failed
+        ensures risen { self.new.faults ≡ one_more self.old.faults }
+        ensures no_fall { HasNotFallen self.old.faults self.new.faults }
+    {
         self.faults = self.faults.saturating_add(1);
         Failed
     }
