@@ -1,7 +1,9 @@
 -- What a status says of a daemon's run.
-use Rattle.std.proofs.Common.{◌≡◌, ℕ, List, [], ◌∷◌, Option, Some, None, Result, Ok, Err, arith, lit<, refl, sym, ◌∙◌, inl, inr}
+use Rattle.std.proofs.Common.{◌≡◌, ℕ, List, [], ◌∷◌, Option, Some, None, Result, Ok, Err, arith, lit<, refl, subst, sym, ◌∙◌, inl, inr}
 use Rattle.std.specs.Prelude.{◌⊎◌, Contains, OnErr, OnOk}
+use Rattle.ptu_outside.specs.declared.endpoint.Endpoint.{Endpoint}
 use Rattle.ptu_outside.specs.Handing.{HasPut, HasPutFront}
+use Rattle.ptu_outside.specs.Telling.{IfTold}
 use Rattle.ptu_config.specs.declared.key.Key.{Key}
 use Rattle.ptu_config.specs.Rules.{Value}
 use Rattle.ptu_setup.specs.declared.refusal.RefusalLine.{RefusalLine}
@@ -9,6 +11,7 @@ use Rattle.ptu_setup.specs.Reading.{HasTakenSome}
 use Rattle.ptu_setup.specs.Refusals.{refusal_text}
 use Rattle.ptu_rounds.specs.declared.fault.DaemonFault.{DaemonFault}
 use Rattle.ptu_rounds.specs.declared.fault.DaemonFault.TheVariants.{Open, Write, OutOfMemory}
+use Rattle.ptu_rounds.specs.Opening.{OpenedAt}
 use Rattle.ptpuni.specs.Daemons.{HasRunDaemon, HasSettings, IsRefusedBy, status_of_daemon}
 use Rattle.ptpuni.specs.Run.{statuses}
 
@@ -22,6 +25,19 @@ is_daemon_status (Err OutOfMemory) = (6, lit< tt, refl)
 pub if_on_err : {A E X : Type 0} (r : Result A E) (fault : E) → r ≡ Err fault → OnErr r X → X
 if_on_err (Ok x) fault e h = absurd (let never : Ok x ≡ Err fault = e in cc)
 if_on_err (Err other) fault e h = h
+
+-- where a daemon that has opened its host opened it
+pub opened_on_ok : {X : Type 0} (r : Result (Unit {0}) DaemonFault) (told : Option Endpoint) (endpoint : Endpoint) → OpenedAt r told endpoint → OnOk r X
+    → OnOk r (IfTold told (Some endpoint) × X)
+opened_on_ok (Ok x) told endpoint at h = (at, h)
+opened_on_ok (Err fault) told endpoint at h = tt
+
+pub opened_at_write : (r : Result (Unit {0}) DaemonFault) (told : Option Endpoint) (endpoint : Endpoint) → OpenedAt r told endpoint → r ≡ Err Write → IfTold told (Some endpoint)
+opened_at_write r told endpoint at e = subst (λ r. OpenedAt r told endpoint) e at
+
+pub opened_at_memory : (r : Result (Unit {0}) DaemonFault) (told : Option Endpoint) (endpoint : Endpoint) → OpenedAt r told endpoint → r ≡ Err OutOfMemory
+    → IfTold told (Some endpoint)
+opened_at_memory r told endpoint at e = subst (λ r. OpenedAt r told endpoint) e at
 
 pub is_refused_status : (status : ℕ) → (status ≡ 65) ⊎ (status ≡ 67) ⊎ (status ≡ 71) → Contains statuses status
 is_refused_status status (inl e) = (2, lit< tt, sym e)

@@ -1,9 +1,11 @@
 -- What a run of a daemon comes to: it reads its settings, opens its ports, and writes its output.
 use Rattle.std.specs.Prelude.{◌≡◌, ◌⊎◌, ℕ, List, [], ◌∷◌, Option, Some, None, Result, Ok, Err}
 use Rattle.ptu_outside.specs.declared.clock.Clock.{Ghosts as Clocks}
+use Rattle.ptu_outside.specs.declared.endpoint.Endpoint.{Endpoint}
 use Rattle.ptu_outside.specs.declared.opened.Opened.{Opened}
 use Rattle.ptu_outside.specs.declared.port.Port.{Ghosts as Ports}
 use Rattle.ptu_outside.specs.Handing.{HasPut, HasPutFront, HasPutPart}
+use Rattle.ptu_outside.specs.Telling.{IfTold}
 use Rattle.ptu_config.specs.declared.key.Key.{Key}
 use Rattle.ptu_config.specs.declared.settings.GmSettings.{GmSettings}
 use Rattle.ptu_config.specs.declared.settings.SlaveSettings.{SlaveSettings}
@@ -15,6 +17,7 @@ use Rattle.ptu_setup.specs.Reading.{Answers, HasSetUp, HasTakenSome}
 use Rattle.ptu_setup.specs.Refusals.{gm_refusal, refusal_text, slave_refusal}
 use Rattle.ptu_rounds.specs.declared.fault.DaemonFault.{DaemonFault}
 use Rattle.ptu_rounds.specs.declared.fault.DaemonFault.TheVariants.{Open, Write, OutOfMemory}
+use Rattle.ptu_daemon.specs.Events.{endpoint_of}
 use Rattle.ptu_daemon.specs.Served.{Said, closing_line}
 use Rattle.ptu_daemon.specs.Serving.{HasServed}
 use Rattle.ptu_slave_daemon.specs.Answers.{WasGivenBack, WasOpened}
@@ -77,31 +80,44 @@ module _ {A K H : Type 0} (entries : A → List (Key × Value)) (refusal : List 
 -- ---- the word `serve`
 
 module _ {K P C : Type 0} (ports : Ports P) (clocks : Clocks C) (written : K → Option (List ℕ)) (handed : K → Option (List (List ℕ)))
-    (old new : K) (opening back : Option (Opened P C)) where
+    (old new : K) (opening back : Option (Opened P C)) (opened_at : Option Endpoint) where
+  -- the host was opened at the address and the port numbers of these settings
+  abbrev pub ServesAt : GmSettings → Type 0
+  ServesAt settings = IfTold opened_at (Some (endpoint_of settings))
+
   -- a grandmaster of these settings was served, over the ports and clocks that were opened and are given back, and the one line
   -- with its numbers was written
   abbrev pub ServedWhole : GmSettings → Type 0
-  ServedWhole settings = (said : Said) × HasPut written handed old new (closing_line settings.rounds said ∷ [])
-      × HasServed ports clocks settings opening back said
+  ServedWhole settings = ServesAt settings × ((said : Said) × HasPut written handed old new (closing_line settings.rounds said ∷ [])
+      × HasServed ports clocks settings opening back said)
 
   -- the line was not written whole
   abbrev pub ServedInPart : GmSettings → Type 0
-  ServedInPart settings = (said : Said) × HasPutFront written handed old new (closing_line settings.rounds said)
-      × HasServed ports clocks settings opening back said
+  ServedInPart settings = ServesAt settings × ((said : Said) × HasPutFront written handed old new (closing_line settings.rounds said)
+      × HasServed ports clocks settings opening back said)
 
   -- a run with the word `serve` ended with this status
   abbrev pub HasRunServe : {H : Type 0} → Option (List ℕ) → Option (List ℕ) → H → H → ℕ → Type 0
   HasRunServe left left' host host' status =
-      HasRunDaemon gm_entries gm_refusal left left' written handed old new host host' ServedWhole ServedInPart (λ settings. new ≡ old) status
+      HasRunDaemon gm_entries gm_refusal left left' written handed old new host host' ServedWhole ServedInPart
+      (λ settings. ServesAt settings × (new ≡ old)) status
 
 -- ---- the word `slave`
 
 module _ {K P C : Type 0} (ports : Ports P) (clocks : Clocks C) (written : K → Option (List ℕ)) (handed : K → Option (List (List ℕ)))
-    (old new : K) (opening back : Option (Opened P C)) where
+    (old new : K) (opening back : Option (Opened P C)) (opened_at : Option Endpoint) where
+  -- the host was opened at the address and the port numbers of these settings
+  abbrev pub FollowsAt : SlaveSettings → Type 0
+  FollowsAt settings = IfTold opened_at (Some (record {
+    ip = settings.ip;
+    event_port = settings.event_port;
+    general_port = settings.general_port;
+  }))
+
   -- a slave of these settings ran over the ports and clocks that were opened and are given back, and its output was written whole
   abbrev pub FollowedWhole : SlaveSettings → Type 0
-  FollowedWhole settings = (before : Opened P C) × (after : Opened P C) × WasOpened opening before × WasGivenBack back after
-      × HasFollowed ports.sent ports.waiting ports.faults clocks.moments written handed settings before after old new
+  FollowedWhole settings = FollowsAt settings × ((before : Opened P C) × (after : Opened P C) × WasOpened opening before × WasGivenBack back after
+      × HasFollowed ports.sent ports.waiting ports.faults clocks.moments written handed settings before after old new)
 
   -- a front of an output of its form was written: selections, and the closing line with the rounds of the settings
   abbrev pub WroteLines : SlaveSettings → Type 0
@@ -110,11 +126,11 @@ module _ {K P C : Type 0} (ports : Ports P) (clocks : Clocks C) (written : K →
 
   -- the slave ran so until the sink failed
   abbrev pub FollowedInPart : SlaveSettings → Type 0
-  FollowedInPart settings = WroteLines settings × ((before : Opened P C) × (after : Opened P C) × WasOpened opening before × WasGivenBack back after
-      × HasStopped ports.sent ports.waiting ports.faults clocks.moments written handed settings before after old new)
+  FollowedInPart settings = FollowsAt settings × (WroteLines settings × ((before : Opened P C) × (after : Opened P C) × WasOpened opening before × WasGivenBack back after
+      × HasStopped ports.sent ports.waiting ports.faults clocks.moments written handed settings before after old new))
 
   -- a run with the word `slave` ended with this status, with so many judges of flags and of gaps
   abbrev pub HasRunSlave : {H : Type 0} → ℕ → ℕ → Option (List ℕ) → Option (List ℕ) → H → H → ℕ → Type 0
   HasRunSlave flags gaps left left' host host' status =
       HasRunDaemon slave_entries (slave_refusal flags gaps) left left' written handed old new host host'
-      FollowedWhole FollowedInPart WroteLines status
+      FollowedWhole FollowedInPart (λ settings. FollowsAt settings × WroteLines settings) status

@@ -54,7 +54,7 @@ pub(crate) fn run_serve<W: Threads + Wait + Sync, S: Source, K: Sink, H: Host>(
     ensures statuses { Contains statuses result }
     ensures other { result ≢ USAGE }
     ensures served { HasRunServe H.P.Port H.C.Clock K.written K.handed sink.old sink.new
-        (H.opening host.old) (H.back host.new) (S.left source.old) (S.left source.new)
+        (H.opening host.old) (H.back host.new) (H.opened_at host.new) (S.left source.old) (S.left source.new)
         host.old host.new result }
     ensures source_fault { result ≡ SOURCE_FAULT
         → HasRisen (S.faults source.old) (S.faults source.new) }
@@ -90,7 +90,7 @@ pub(crate) fn run_slave<S: Source, K: Sink, H: Host>(
     ensures statuses { Contains statuses result }
     ensures other { result ≢ USAGE }
     ensures followed { HasRunSlave H.P.Port H.C.Clock K.written K.handed sink.old sink.new
-        (H.opening host.old) (H.back host.new)
+        (H.opening host.old) (H.back host.new) (H.opened_at host.new)
         (length stock.flags.items) (length stock.gaps.items)
         (S.left source.old) (S.left source.new) host.old host.new result }
     ensures source_fault { result ≡ SOURCE_FAULT

@@ -51,10 +51,10 @@ fn run_command<W: Threads + Wait + Sync, S: Source, K: Sink, H: Host>(
     ensures loaded { (number : ℕ) → command ≡ Command.Load number →
         HasLoaded K.written K.handed sink.old sink.new source.old source.new number result }
     ensures served { command ≡ Command.Serve → HasRunServe H.P.Port H.C.Clock K.written K.handed
-        sink.old sink.new (H.opening host.old) (H.back host.new)
+        sink.old sink.new (H.opening host.old) (H.back host.new) (H.opened_at host.new)
         (S.left source.old) (S.left source.new) host.old host.new result }
     ensures followed { command ≡ Command.Slave → HasRunSlave H.P.Port H.C.Clock K.written K.handed
-        sink.old sink.new (H.opening host.old) (H.back host.new)
+        sink.old sink.new (H.opening host.old) (H.back host.new) (H.opened_at host.new)
         (length stock.flags.items) (length stock.gaps.items)
         (S.left source.old) (S.left source.new) host.old host.new result }
     ensures unused { IsOfLab command → host.new ≡ host.old }
@@ -163,12 +163,12 @@ pub fn run<W: AllocGlobal + Threads + Wait + Sync, S: Source, K: Sink, H: Host>(
     // grandmaster of these is served over the host, whatever its ports do, and its line written.
     ensures served { command_of (map (λ w. w.now) words.now) ≡ Some Command.Serve
         → HasRunServe H.P.Port H.C.Clock K.written K.handed sink.old sink.new
-        (H.opening host.old) (H.back host.new) (S.left source.old) (S.left source.new)
+        (H.opening host.old) (H.back host.new) (H.opened_at host.new) (S.left source.old) (S.left source.new)
         host.old host.new result }
     // The word `slave`: likewise, with as many judges as the stock has.
     ensures followed { command_of (map (λ w. w.now) words.now) ≡ Some Command.Slave
         → HasRunSlave H.P.Port H.C.Clock K.written K.handed sink.old sink.new
-        (H.opening host.old) (H.back host.new)
+        (H.opening host.old) (H.back host.new) (H.opened_at host.new)
         (length stock.flags.items) (length stock.gaps.items)
         (S.left source.old) (S.left source.new) host.old host.new result }
     // The other words leave the host as it is.

@@ -1,13 +1,13 @@
 //! The daemon of a grandmaster.
 
-ghost use Rattle.std.specs.Prelude.{◌≡◌, ◌≢◌, ◌≤◌, ◌∷◌, [], Some, IfOk, IfErr, OnOk, OnErr};
+ghost use Rattle.std.specs.Prelude.{◌≡◌, ◌≢◌, ◌≤◌, ◌∷◌, [], IfOk, IfErr, OnOk, OnErr};
 ghost use Rattle.ptu_outside.specs.Faults.{HasRisen};
 ghost use Rattle.ptu_outside.specs.Handing.{HasPut, HasPutFront};
-ghost use Rattle.ptu_outside.specs.Telling.{IfTold};
 ghost use Rattle.ptu_shard.specs.Config.{IsWithinLimits};
 ghost use Rattle.ptu_config.specs.Limits.{IsGmInRange};
 ghost use Rattle.ptu_lane_daemon.specs.Served.{ServesByLanes};
 ghost use Rattle.ptu_daemon.specs.Events.{config_of, endpoint_of};
+ghost use Rattle.ptu_rounds.specs.Opening.{OpenedAt};
 ghost use Rattle.ptu_daemon.specs.Served.{Said, closing_line, said_by};
 ghost use Rattle.ptu_daemon.specs.Serving.{HasServed, Serves};
 
@@ -216,12 +216,8 @@ pub fn serve<W: Threads + Wait + Sync, H: Host, K: Sink>(
         → HasRisen (K.faults sink.old) (K.faults sink.new)) }
     ensures still { OnOk result (K.faults sink.new ≡ K.faults sink.old) }
     ensures opens { OnOk result (H.faults host.new ≡ H.faults host.old) }
-    // It served at the settings' address and port numbers, and so it was at every other fault.
-    ensures at { OnOk result (IfTold (H.opened_at host.new)
-        (Some (endpoint_of settings.now))) }
-    ensures at_else { IfErr result (λ fault. fault ≢ DaemonFault.Open
-        → IfTold (H.opened_at host.new) (Some (endpoint_of settings.now))) }
-    // It stands on what it stood on.
+    // The host was opened at the settings' address and port numbers, and stands on what it stood on.
+    ensures at { OpenedAt result (H.opened_at host.new) (endpoint_of settings.now) }
     ensures name { H.name host.new ≡ H.name host.old }
     // Every other fault leaves the host's count as it was.
     ensures host_still { IfErr result (λ fault. fault ≢ DaemonFault.Open
