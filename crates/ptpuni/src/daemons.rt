@@ -54,8 +54,8 @@ pub(crate) fn run_serve<W: Threads + Wait + Sync, S: Source, K: Sink, H: Host>(
     ensures statuses { Contains statuses result }
     ensures other { result ≢ USAGE }
     ensures served { HasRunServe H.P.Port H.C.Clock K.written K.handed sink.old sink.new
-        (H.opening host.old) (H.back host.new) (H.opened_at host.new) (S.left source.old) (S.left source.new)
-        host.old host.new result }
+        (H.opening host.old) (H.back host.new) (H.opened_at host.new)
+        (S.left source.old) (S.left source.new) host.old host.new result }
     ensures source_fault { result ≡ SOURCE_FAULT
         → HasRisen (S.faults source.old) (S.faults source.new) }
     ensures source_still { result ≢ SOURCE_FAULT → S.faults source.new ≡ S.faults source.old }

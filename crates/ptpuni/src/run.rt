@@ -163,8 +163,8 @@ pub fn run<W: AllocGlobal + Threads + Wait + Sync, S: Source, K: Sink, H: Host>(
     // grandmaster of these is served over the host, whatever its ports do, and its line written.
     ensures served { command_of (map (λ w. w.now) words.now) ≡ Some Command.Serve
         → HasRunServe H.P.Port H.C.Clock K.written K.handed sink.old sink.new
-        (H.opening host.old) (H.back host.new) (H.opened_at host.new) (S.left source.old) (S.left source.new)
-        host.old host.new result }
+        (H.opening host.old) (H.back host.new) (H.opened_at host.new)
+        (S.left source.old) (S.left source.new) host.old host.new result }
     // The word `slave`: likewise, with as many judges as the stock has.
     ensures followed { command_of (map (λ w. w.now) words.now) ≡ Some Command.Slave
         → HasRunSlave H.P.Port H.C.Clock K.written K.handed sink.old sink.new
