@@ -6,13 +6,8 @@ use Rattle.ptu_history.specs.declared.client.Client.{Client}
 use Rattle.ptu_history.specs.History.{Record}
 use Rattle.ptu_trail.specs.declared.clients.Account.{Account}
 use Rattle.ptu_trail.specs.declared.clients.Clients.{Clients}
-use Rattle.ptu_trail.specs.declared.known.Known.{Known}
-use Rattle.ptu_trail.specs.Faults.{decided_clients, is_shared}
-use Rattle.ptu_trail.specs.Known.{IsKnown}
-
--- what is known of a client before any decision
-abbrev pub unknown : Known
-unknown = record { decided = 0; sent = 0; announce = None; sync = None; delay_resp = None }
+use Rattle.ptu_trail.specs.Faults.{decided_clients, is_back, is_no_moment, is_shared}
+use Rattle.ptu_trail.specs.Known.{IsKnown, unknown}
 
 -- the account is that of the one client with a decision at the address, or there is none
 abbrev pub IsAccount : List Record → ℕ → Option Account → Type 0
@@ -23,6 +18,12 @@ IsAccount history ip (Some account) =
     (find (λ c. c.ip == ip) (decided_clients history) ≡ Some account.client)
     × (is_shared history account.client ≡ false)
     × IsKnown history account.client account.known
+
+-- a decision on the client at the moment has none of the faults that any decision may have
+pub record IsPlaced (history : List Record) (at : ℕ) (c : Client) : Type 0 where
+  pub not_shared : is_shared history c ≡ false
+  pub moment : is_no_moment at ≡ false
+  pub not_back : is_back history at c ≡ false
 
 -- the accounts are those of the clients with decisions, one at each address
 pub record AreKnown (history : List Record) (clients : Clients) : Type 0 where

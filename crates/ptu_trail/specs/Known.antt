@@ -38,6 +38,10 @@ pub record IsKnown (history : List Record) (c : Client) (known : Known) : Type 0
   pub decided : known.decided ≡ last_decided history c
   pub sent : known.sent ≡ last_sent_to history c
 
+-- what is known of a client before any decision
+abbrev pub unknown : Known
+unknown = record { decided = 0; sent = 0; announce = None; sync = None; delay_resp = None }
+
 -- what is wrong with a message of the kind at the moment, by the lease and the last decision
 abbrev pub fault_by : ℕ → ℕ → Option Lease → Option NoCause
 fault_by at decided None =

@@ -1,6 +1,5 @@
 -- The grants that are live, as rows.
-use Rattle.std.specs.Prelude.{ℕ, ◌&&◌, not, nat_lt, Bool, List, map, sum_by}
-use Rattle.std.specs.List.Sorted.{IsPermutation}
+use Rattle.std.specs.Prelude.{◌≡◌, ℕ, not, nat_lt, Bool, List, map, sum_by}
 use Rattle.ptu_units.specs.declared.kind.Kind.{Kind}
 use Rattle.ptu_units.specs.Log.{rate_of}
 use Rattle.ptu_history.specs.declared.client.Client.{Client}
@@ -10,8 +9,13 @@ use Rattle.ptu_history.specs.Live.{Grant, live_grants}
 use Rattle.ptu_trail.specs.declared.live.Row.{Row}
 
 abbrev pub grant_of : Row → Grant
-grant_of row =
-    record { start = row.start; client = row.client; kind = row.kind; log = row.log; until = row.until }
+grant_of row = record {
+  start = row.start;
+  client = row.client;
+  kind = row.kind;
+  log = row.log;
+  until = row.until;
+}
 
 -- the rates of the rows, in sixteenths of a message per second
 abbrev pub rates : List Row → ℕ
@@ -25,6 +29,6 @@ is_live_row n row = nat_lt n row.until
 abbrev pub is_other_row : Client → Kind → Row → Bool
 is_other_row c k row = not (same_lease c k row.client row.kind)
 
--- the rows are the grants that are live at the moment after the history, in some order
+-- the rows are the grants that are live at the moment after the history, the oldest first
 abbrev pub AreLive : List Record → ℕ → List Row → Type 0
-AreLive history m rows = IsPermutation (map grant_of rows) (live_grants history m)
+AreLive history m rows = map grant_of rows ≡ live_grants history m

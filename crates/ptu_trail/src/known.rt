@@ -4,23 +4,23 @@ use ptu_units::{Kind, Log};
 
 /// A grant that is the last decision on its client and kind.
 #[derive(Clone, Copy, Debug)]
-pub struct Lease {
-    pub log: Log,
-    pub until: u64,
+pub(crate) struct Lease {
+    pub(crate) log: Log,
+    pub(crate) until: u64,
     /// The earliest moment of the next message.
-    pub edge: u64,
+    pub(crate) edge: u64,
 }
 
 /// What is known of a client.
 #[derive(Clone, Copy, Debug)]
-pub struct Known {
+pub(crate) struct Known {
     /// The greatest moment of a decision on it.
-    pub decided: u64,
+    pub(crate) decided: u64,
     /// The greatest moment of a message to it.
-    pub sent: u64,
-    pub announce: Option<Lease>,
-    pub sync: Option<Lease>,
-    pub delay_resp: Option<Lease>,
+    pub(crate) sent: u64,
+    pub(crate) announce: Option<Lease>,
+    pub(crate) sync: Option<Lease>,
+    pub(crate) delay_resp: Option<Lease>,
 }
 
 impl Known {
@@ -29,7 +29,20 @@ impl Known {
     ghost use Rattle.ptu_history.specs.declared.client.Client.{Client};
     ghost use Rattle.ptu_history.specs.History.{Record, Ended, Granted, Sent, Shed};
     ghost use Rattle.ptu_trail.specs.Faults.{fault_of};
-    ghost use Rattle.ptu_trail.specs.Known.{IsKnown, edge_after, fault_by, lease_at, with_lease};
+    ghost use Rattle.ptu_trail.specs.Known.{IsKnown, fault_by, lease_at, unknown, with_lease};
+
+    /// What is known of a client before any decision.
+    pub(crate) fn new() -> Known
+        ensures { result ≡ unknown }
+    {
+        Known {
+            decided: 0,
+            sent: 0,
+            announce: None,
+            sync: None,
+            delay_resp: None,
+        }
+    }
 
     fn lease(&self, kind: Kind) -> Option<Lease>
         ensures { result ≡ lease_at kind self.now }
@@ -68,11 +81,11 @@ impl Known {
     }
 
     /// A message to the client: what is wrong with it, or it is spent.
-    pub fn message(&mut self, at: u64, kind: Kind) -> Option<NoCause>
+    pub(crate) fn message(&mut self, at: u64, kind: Kind) -> Option<NoCause>
         requires { at < 2 ^ 62 }
         ensures fault { (opening : ℕ) (history : List Record) (c : Client) →
             IsKnown history c self.old → result ≡ fault_of opening history (Sent at c kind) [] }
-        ensures goes { IfNone result ((history : List Record) (c : Client) →
+        ensures known { IfNone result ((history : List Record) (c : Client) →
             IsKnown history c self.old → IsKnown (history ++ Sent at c kind ∷ []) c self.new) }
     {
         let fault = self.fault(at, kind);
@@ -86,7 +99,7 @@ impl Known {
     }
 
     /// A grant to the client, at a moment that is not behind its last decision.
-    pub fn grant(&mut self, at: u64, kind: Kind, log: Log, until: u64)
+    pub(crate) fn grant(&mut self, at: u64, kind: Kind, log: Log, until: u64)
         requires { at < 2 ^ 62 }
         ensures { (history : List Record) (c : Client) →
             IsKnown history c self.old → IsKnown (history ++ Granted at c kind log until ∷ []) c self.new }
@@ -97,7 +110,7 @@ impl Known {
     }
 
     /// The end of a grant of the client.
-    pub fn end(&mut self, at: u64, kind: Kind)
+    pub(crate) fn end(&mut self, at: u64, kind: Kind)
         ensures ended { (history : List Record) (c : Client) →
             IsKnown history c self.old → IsKnown (history ++ Ended at c kind ∷ []) c self.new }
         ensures shed { (history : List Record) (c : Client) →

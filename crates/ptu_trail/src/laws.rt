@@ -1,7 +1,7 @@
 //! Laws of trails. Each function does nothing: its contract is the law, which holds of every list
 //! of records, wherever it comes from.
 
-ghost use Rattle.std.specs.Prelude.{◌≡◌, ℕ, ◌+◌, ◌*◌, ◌≤◌, ◌<◌, ◌^◌, false, List, [], ◌∷◌, ◌++◌, map, ℤ, IsTrue, Option, None, Some};
+ghost use Rattle.std.specs.Prelude.{◌≡◌, ◌≢◌, ℕ, ◌+◌, ◌*◌, ◌≤◌, ◌<◌, ◌^◌, false, List, [], ◌∷◌, ◌++◌, map, ℤ, IsTrue, Option, None, Some};
 ghost use Rattle.std.specs.List.{All, AllPairs, list_any};
 ghost use Rattle.ptu_units.specs.declared.kind.Kind.{Kind};
 ghost use Rattle.ptu_units.specs.declared.stamp.Stamp.{Stamp};

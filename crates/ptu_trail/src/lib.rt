@@ -8,6 +8,7 @@ mod clients;
 mod known;
 pub mod laws;
 mod live;
+mod same;
 mod spending;
 mod trail;
 

@@ -1,0 +1,5 @@
+mod Accounts
+mod Faultless
+mod Knowing
+mod Living
+mod Sound
