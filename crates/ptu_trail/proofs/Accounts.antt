@@ -1,11 +1,11 @@
 -- The clients by address, after one more record.
-use Rattle.std.proofs.Common.{◌≡◌, ◌∙◌, ◌≢◌, ℕ, ◌++◌, ◌&&◌, ◌||◌, max, eqb, ltb, ◌<◌, Bool, true, false, not, cond, List, [], ◌∷◌, Option, Some, None, refl, sym, ap, subst, arith}
+use Rattle.std.proofs.Common.{◌≡◌, ◌∙◌, ◌≢◌, ℕ, ◌++◌, ◌&&◌, ◌||◌, max, eqb, ltb, ◌<◌, ◌^◌, Bool, IfNone, true, false, not, cond, List, [], ◌∷◌, Option, Some, None, refl, sym, ap, subst, arith}
 use Rattle.std.specs.List.{find, list_any}
 use Rattle.std.specs.Option.{option_or, unwrap_or}
 use Rattle.std.specs.Ordering.{is_eq, nat_cmp}
 use Rattle.std.specs.declared.cmp.Ordering.{Ordering}
 use Rattle.std.specs.declared.cmp.Ordering.TheVariants.{Less, Equal, Greater}
-use Rattle.std.proofs.lemmas.Bool.{and_right, eq-eqb, eqb-true, ltb-true, false_from_ne_true, or_parts, true≢false, false≢true}
+use Rattle.std.proofs.lemmas.Bool.{and_right, eq-eqb, le-ltb, eqb-true, ltb-true, false_from_ne_true, or_parts, true≢false, false≢true}
 use Rattle.std.proofs.lemmas.List.{append-nil}
 use Rattle.std.proofs.lemmas.List.Folds.{find-append, list_any-append}
 use Rattle.ptu_units.specs.declared.kind.Kind.{Kind}
@@ -19,10 +19,12 @@ use Rattle.ptu_history.proofs.Keys.{same_client-refl, same_client-true}
 use Rattle.ptu_history.proofs.Lists.{or-false}
 use Rattle.ptu_trail.specs.declared.clients.Account.{Account}
 use Rattle.ptu_trail.specs.declared.known.Known.{Known}
+use Rattle.ptu_trail.specs.declared.cause.NoCause.{NoCause}
+use Rattle.ptu_trail.specs.declared.cause.NoCause.TheVariants as causes
 use Rattle.ptu_trail.specs.Clients.{IsAccount}
-use Rattle.ptu_trail.specs.Faults.{client_at, decided_clients, decided_part, is_of_other, is_shared, last_decided, last_sent_to, sent_to_part}
-use Rattle.ptu_trail.specs.Known.{IsHeld, IsKnown, lease_at, unknown}
-use Rattle.ptu_trail.proofs.Knowing.{decided_more, held_push, sent_same}
+use Rattle.ptu_trail.specs.Faults.{client_at, decided_clients, decided_part, fault_of, is_of_other, is_shared, last_decided, last_sent_to, sent_to_part}
+use Rattle.ptu_trail.specs.Known.{IsHeld, IsKnown, fault_by, lease_at, unknown}
+use Rattle.ptu_trail.proofs.Knowing.{decided_more, held_push, message_fault, sent_same}
 
 -- ---- decided clients
 
@@ -262,3 +264,26 @@ look_same history c account same s =
 pub look_other : (history : List Record) (c : Client) (account : Account) → same_client c account.client ≡ false → IsAccount history c.ip (Some account) → is_shared history c ≡ true
 unfolding is_shared
 look_other history c account other s = found_other c (decided_clients history) account.client s.0 other
+
+-- a message to an address without an account
+stranger_message : (opening : ℕ) (history : List Record) (c : Client) (k : Kind) (x : ℕ) → x < 2 ^ 62 → IsKnown history c unknown → Some causes.Grant ≡ fault_of opening history (Sent x c k) []
+stranger_message opening history c k x below s = none k ∙ message_fault opening history c k unknown x below s
+  where
+    zero : ltb x 0 ≡ false
+    zero = le-ltb x 0 (omega arith)
+
+    none : (k : Kind) → Some causes.Grant ≡ fault_by x 0 (lease_at k unknown)
+    none Announce = ap (λ b. cond b (Some causes.Moment) (Some causes.Grant)) (sym zero)
+    none Sync = ap (λ b. cond b (Some causes.Moment) (Some causes.Grant)) (sym zero)
+    none DelayResp = ap (λ b. cond b (Some causes.Moment) (Some causes.Grant)) (sym zero)
+
+pub none_at : (opening : ℕ) (history : List Record) (ip : ℕ) (k : Kind) (x : ℕ) → x < 2 ^ 62 → IsAccount history ip None → Some causes.Grant ≡ fault_of opening history (Sent x (client_at history ip) k) []
+none_at opening history ip k x below s = stranger_message opening history (client_at history ip) k x below (s.1 (client_at history ip) (client_none history ip s.0))
+
+pub if_none_map : {P Q : Type 0} (o : Option NoCause) → (P → Q) → IfNone o P → IfNone o Q
+if_none_map None f p = f p
+if_none_map (Some x) f p = tt
+
+pub if_none_at : {P : Type 0} (o : Option NoCause) → o ≡ None → IfNone o P → P
+if_none_at None e p = p
+if_none_at (Some x) e p = absurd cc

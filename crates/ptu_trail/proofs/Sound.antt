@@ -14,7 +14,7 @@ use Rattle.ptu_laws.specs.Sound.{IsInOrder, IsSound, MayStand, last_sent, sent_p
 use Rattle.ptu_trail.specs.declared.cause.NoCause.{NoCause}
 use Rattle.ptu_trail.specs.Faults.{AreInRange, IsFaultless, IsInRange, first_of, tests_of, is_back, is_no_moment, is_shared, last_decided, last_sent_to, sent_to_part}
 
-abbrev AreFalse : List (Bool × NoCause) → Type 0
+abbrev pub AreFalse : List (Bool × NoCause) → Type 0
 AreFalse [] = Unit {0}
 AreFalse (test ∷ tests) = (test.0 ≡ false) × AreFalse tests
 
@@ -23,7 +23,7 @@ first_false true cause rest e = absurd cc
 first_false false cause rest e = (refl, e)
 
 -- where there is no fault, no test is true
-all_false : (tests : List (Bool × NoCause)) → first_of tests ≡ None → AreFalse tests
+pub all_false : (tests : List (Bool × NoCause)) → first_of tests ≡ None → AreFalse tests
 all_false [] e = tt
 all_false (test ∷ tests) e = let both = first_false test.0 test.1 (first_of tests) e in (both.0, all_false tests both.1)
 

@@ -1,13 +1,13 @@
-ghost use Rattle.std.specs.Prelude.{◌≡◌, ◌<◌, ◌^◌, ◌∷◌, [], ◌++◌, ℕ, List, Some, false, true, IfNone, MatchOption, MatchResult, OnOk, IfOk};
+ghost use Rattle.std.specs.Prelude.{◌≡◌, ◌<◌, ◌^◌, ◌∷◌, [], ◌++◌, ℕ, List, Some, false, true, IfNone, MatchOption, MatchResult, OnOk, IfOk, map};
 ghost use Rattle.std.specs.BTreeMap.{get};
 ghost use Rattle.std.specs.Ordering.{nat_cmp};
 ghost use Rattle.ptu_history.specs.History.{Record, Ended, Sent, Shed};
 ghost use Rattle.ptu_history.specs.Moments.{book_moment};
 ghost use Rattle.ptu_trail.specs.Clients.{AreKnown, IsPlaced};
-ghost use Rattle.ptu_trail.specs.Faults.{client_at, decided_clients, decision_tests, fault_of, first_of, is_shared};
+ghost use Rattle.ptu_trail.specs.Faults.{behind, client_at, decided_clients, decision_tests, fault_of, first_fault, first_of, is_shared, record_of};
 ghost use Rattle.ptu_trail.specs.Known.{IsKnown};
 
-use crate::cause::NoCause;
+use crate::cause::{Fault, NoCause, Shedding};
 use crate::known::Known;
 use crate::same::is_same_client;
 use ptu_history::Client;
@@ -114,6 +114,34 @@ impl Clients {
         };
         known.end(at, kind);
         self.put(client, known)?;
+        Ok(None)
+    }
+
+    /// The sheddings of a change of capacity at this moment: the first fault, with its place among
+    /// the change and its sheddings, of which the first has place 1, or none.
+    ///
+    /// # Errors
+    /// `OutOfMemory`.
+    pub(crate) fn shed(
+        &mut self,
+        at: u64,
+        shed: &[Shedding],
+    ) -> Result<Option<Fault>, OutOfMemory>
+        ensures fault { IfOk result (λ fault. (opening : ℕ) (history : List Record) →
+            AreKnown history self.old → at ≡ book_moment history →
+            fault ≡ behind (first_fault opening history (map (record_of at) shed.now))) }
+        ensures known { IfOk result (λ fault. IfNone fault ((history : List Record) →
+            AreKnown history self.old → at ≡ book_moment history →
+            AreKnown (history ++ map (record_of at) shed.now) self.new)) }
+    {
+        for (place, one) in shed.iter().enumerate() {
+            if let Some(cause) = self.end(at, at, one.client, one.kind)? {
+                return Ok(Some(Fault {
+                    place: place + 1,
+                    cause,
+                }));
+            }
+        }
         Ok(None)
     }
 

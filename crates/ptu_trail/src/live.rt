@@ -1,12 +1,14 @@
-ghost use Rattle.std.specs.Prelude.{◌≡◌, ◌<◌, ◌≤◌, ◌+◌, ◌^◌, ◌∷◌, [], ◌++◌, ℕ, List, OnOk, nat_lt, not};
+ghost use Rattle.std.specs.Prelude.{◌≡◌, ◌<◌, ◌≤◌, ◌+◌, ◌^◌, ◌∷◌, [], ◌++◌, ℕ, List, OnOk, map, nat_lt, not};
 ghost use Rattle.std.specs.List.{filter};
 ghost use Rattle.ptu_units.specs.Log.{rate_of};
 ghost use Rattle.ptu_history.specs.Client.{same_client, same_lease};
 ghost use Rattle.ptu_history.specs.History.{Record, Ended, Granted, Shed};
 ghost use Rattle.ptu_history.specs.Live.{live_grants};
 ghost use Rattle.ptu_history.specs.Verdict.{others as others_of, rate_sum};
+ghost use Rattle.ptu_trail.specs.Faults.{record_of};
 ghost use Rattle.ptu_trail.specs.Live.{AreLive, is_live_row, is_other_row, rates};
 
+use crate::cause::Shedding;
 use crate::same::is_same;
 use ptu_history::Client;
 use ptu_units::{Kind, Log, OutOfMemory, rate};
@@ -118,6 +120,16 @@ impl LiveGrants {
             AreLive (history ++ Shed at client.now kind ∷ []) n self.new }
     {
         keep_others(&mut self.rows, client, kind);
+    }
+
+    /// Lets go of the grants that are shed.
+    pub(crate) fn shed(&mut self, shed: &[Shedding])
+        ensures { (history : List Record) (n at : ℕ) → AreLive history n self.old →
+            AreLive (history ++ map (record_of at) shed.now) n self.new }
+    {
+        for one in shed {
+            self.remove(&one.client, one.kind);
+        }
     }
 
     /// Keeps a grant, in place of the one of its client and kind.
