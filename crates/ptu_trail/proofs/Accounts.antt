@@ -1,19 +1,23 @@
 -- The clients by address, after one more record.
-use Rattle.std.proofs.Common.{◌≡◌, ◌∙◌, ◌≢◌, ℕ, ◌++◌, ◌&&◌, ◌||◌, max, eqb, ltb, ◌<◌, ◌^◌, Bool, IfNone, true, false, not, cond, List, [], ◌∷◌, Option, Some, None, refl, sym, ap, subst, arith}
-use Rattle.std.specs.List.{find, list_any}
+use Rattle.std.proofs.Common.{◌≡◌, ◌∙◌, ◌≢◌, ℕ, ◌+◌, ◌*◌, ◌++◌, ◌&&◌, ◌||◌, max, eqb, ltb, ◌<◌, ◌^◌, Bool, IfNone, true, false, not, cond, List, [], ◌∷◌, Option, Some, None, refl, sym, ap, subst, arith}
+use Rattle.std.specs.List.{All, find, list_any}
 use Rattle.std.specs.Option.{option_or, unwrap_or}
 use Rattle.std.specs.Ordering.{is_eq, nat_cmp}
 use Rattle.std.specs.declared.cmp.Ordering.{Ordering}
 use Rattle.std.specs.declared.cmp.Ordering.TheVariants.{Less, Equal, Greater}
-use Rattle.std.proofs.lemmas.Bool.{and_right, eq-eqb, le-ltb, eqb-true, ltb-true, false_from_ne_true, or_parts, true≢false, false≢true}
+use Rattle.std.proofs.lemmas.Bool.{and_right, eq-eqb, le-ltb, lt-leb, lt-ltb, eqb-true, ltb-true, false_from_ne_true, or_parts, true≢false, false≢true}
 use Rattle.std.proofs.lemmas.List.{append-nil}
+use Rattle.std.proofs.lemmas.List.Elements.{All-head, All-tail}
 use Rattle.std.proofs.lemmas.List.Folds.{find-append, list_any-append}
 use Rattle.ptu_units.specs.declared.kind.Kind.{Kind}
 use Rattle.ptu_units.specs.declared.kind.Kind.TheVariants.{Announce, Sync, DelayResp}
+use Rattle.ptu_units.specs.declared.stamp.Stamp.{Stamp}
 use Rattle.ptu_history.specs.declared.client.Client.{Client}
 use Rattle.ptu_history.specs.Client.{same_client, same_kind, same_lease}
 use Rattle.ptu_history.specs.History.{Record, Granted, Short, Ended, Capacity, Shed, Looked, Sent, concerns, decides}
+use Rattle.ptu_history.specs.Moments.{greatest_by}
 use Rattle.ptu_history.specs.Live.{live}
+use Rattle.ptu_history.specs.Lawful.{earliest}
 use Rattle.ptu_history.proofs.Decisions.{live-undecided}
 use Rattle.ptu_history.proofs.Keys.{same_client-refl, same_client-true}
 use Rattle.ptu_history.proofs.Lists.{or-false}
@@ -22,7 +26,7 @@ use Rattle.ptu_trail.specs.declared.known.Known.{Known}
 use Rattle.ptu_trail.specs.declared.cause.NoCause.{NoCause}
 use Rattle.ptu_trail.specs.declared.cause.NoCause.TheVariants as causes
 use Rattle.ptu_trail.specs.Clients.{IsAccount}
-use Rattle.ptu_trail.specs.Faults.{client_at, decided_clients, decided_part, fault_of, is_of_other, is_shared, last_decided, last_sent_to, sent_to_part}
+use Rattle.ptu_trail.specs.Faults.{client_at, decided_clients, decided_part, fault_of, is_of_other, is_shared, last_decided, last_sent_to, message_to, moment_of_stamp, sent_to_part}
 use Rattle.ptu_trail.specs.Known.{IsHeld, IsKnown, fault_by, lease_at, unknown}
 use Rattle.ptu_trail.proofs.Knowing.{decided_more, held_push, message_fault, sent_same}
 
@@ -280,10 +284,72 @@ stranger_message opening history c k x below s = none k ∙ message_fault openin
 pub none_at : (opening : ℕ) (history : List Record) (ip : ℕ) (k : Kind) (x : ℕ) → x < 2 ^ 62 → IsAccount history ip None → Some causes.Grant ≡ fault_of opening history (Sent x (client_at history ip) k) []
 none_at opening history ip k x below s = stranger_message opening history (client_at history ip) k x below (s.1 (client_at history ip) (client_none history ip s.0))
 
-pub if_none_map : {P Q : Type 0} (o : Option NoCause) → (P → Q) → IfNone o P → IfNone o Q
-if_none_map None f p = f p
+pub if_none_map : {P Q : Type 0} (o : Option NoCause) → (o ≡ None → P → Q) → IfNone o P → IfNone o Q
+if_none_map None f p = f refl p
 if_none_map (Some x) f p = tt
 
 pub if_none_at : {P : Type 0} (o : Option NoCause) → o ≡ None → IfNone o P → P
 if_none_at None e p = p
 if_none_at (Some x) e p = absurd cc
+
+-- ---- clients without a decision at their address
+
+none_parts : (b : Bool) (d : Client) (rest : Option Client) → cond b (Some d) rest ≡ None → (b ≡ false) × (rest ≡ None)
+none_parts true d rest e = absurd cc
+none_parts false d rest e = (refl, e)
+
+pub all_none : (ip : ℕ) (cs : List Client) → All (λ c. c.ip ≢ ip) cs → find (at_ip ip) cs ≡ None
+all_none ip [] all = refl
+all_none ip (c ∷ cs) all =
+    ap (λ b. cond b (Some c) (find (at_ip ip) cs)) (false_from_ne_true (eqb c.ip ip) (λ e. All-head (λ (d : Client). d.ip ≢ ip) c cs all (eqb-true c.ip ip e)))
+    ∙ all_none ip cs (All-tail (λ (d : Client). d.ip ≢ ip) c cs all)
+
+module _ (ip : ℕ) (c : Client) (here : c.ip ≡ ip) (k : Kind) where
+  differ : (d : Client) → at_ip ip d ≡ false → same_client c d ≡ false
+  differ d e = apart_ip c d (flip_eqb d.ip c.ip (subst (λ i. eqb d.ip i ≡ false) (sym here) e))
+
+  not_decided : (d : Client) (j : Kind) (b : Bool) → at_ip ip d ≡ false → b ≡ false → (same_lease c k d j || b) ≡ false
+  not_decided d j b e f = ap (λ a. (a && same_kind k j) || b) (differ d e) ∙ f
+
+  undecided : (history : List Record) → find (at_ip ip) (decided_clients history) ≡ None → list_any (decides c k) history ≡ false
+  undecided [] none = refl
+  undecided (Granted n d j l u ∷ history) none = let p = none_parts (at_ip ip d) d (find (at_ip ip) (decided_clients history)) none in not_decided d j (list_any (decides c k) history) p.0 (undecided history p.1)
+  undecided (Short n d ∷ history) none = undecided history none
+  undecided (Ended n d j ∷ history) none = let p = none_parts (at_ip ip d) d (find (at_ip ip) (decided_clients history)) none in not_decided d j (list_any (decides c k) history) p.0 (undecided history p.1)
+  undecided (Capacity n capacity ∷ history) none = undecided history none
+  undecided (Shed n d j ∷ history) none = let p = none_parts (at_ip ip d) d (find (at_ip ip) (decided_clients history)) none in not_decided d j (list_any (decides c k) history) p.0 (undecided history p.1)
+  undecided (Looked n j ∷ history) none = undecided history none
+  undecided (Sent n d j ∷ history) none = undecided history none
+
+  at_zero : (d : Client) (n m : ℕ) → at_ip ip d ≡ false → m ≡ 0 → max (cond (same_client c d) n 0) m ≡ 0
+  at_zero d n m e f = ap (λ b. max (cond b n 0) m) (differ d e) ∙ ap (λ i. max 0 i) f
+
+  zero_greatest : (history : List Record) → find (at_ip ip) (decided_clients history) ≡ None → greatest_by (decided_part c) history ≡ 0
+  zero_greatest [] none = refl
+  zero_greatest (Granted n d j l u ∷ history) none = let p = none_parts (at_ip ip d) d (find (at_ip ip) (decided_clients history)) none in at_zero d n (greatest_by (decided_part c) history) p.0 (zero_greatest history p.1)
+  zero_greatest (Short n d ∷ history) none = ap (λ i. max 0 i) (zero_greatest history none)
+  zero_greatest (Ended n d j ∷ history) none = let p = none_parts (at_ip ip d) d (find (at_ip ip) (decided_clients history)) none in at_zero d n (greatest_by (decided_part c) history) p.0 (zero_greatest history p.1)
+  zero_greatest (Capacity n capacity ∷ history) none = ap (λ i. max 0 i) (zero_greatest history none)
+  zero_greatest (Shed n d j ∷ history) none = let p = none_parts (at_ip ip d) d (find (at_ip ip) (decided_clients history)) none in at_zero d n (greatest_by (decided_part c) history) p.0 (zero_greatest history p.1)
+  zero_greatest (Looked n j ∷ history) none = ap (λ i. max 0 i) (zero_greatest history none)
+  zero_greatest (Sent n d j ∷ history) none = ap (λ i. max 0 i) (zero_greatest history none)
+
+  zero_decided : (history : List Record) → find (at_ip ip) (decided_clients history) ≡ None → last_decided history c ≡ 0
+  unfolding last_decided
+  zero_decided history none = zero_greatest history none
+
+-- a message to an address without a decision has the fault of no grant
+pub stranger_fault : (opening : ℕ) (history : List Record) (stamp : Stamp) (ip : ℕ) (k : Kind) → stamp.nanos < 1000000000 → stamp.seconds * 1000000000 + stamp.nanos < 2 ^ 62 → All (λ c. c.ip ≢ ip) (decided_clients history)
+    → fault_of opening history (message_to history stamp ip k) [] ≡ Some causes.Grant
+stranger_fault opening history stamp ip k nanos below all =
+    let m = moment_of_stamp stamp in
+    let c : Client = client_at history ip in
+    let none = all_none ip (decided_clients history) all in
+    let here : c.ip ≡ ip = client_none history ip none in
+    let is : m ≡ stamp.seconds * 1000000000 + stamp.nanos = ap (λ b. cond b (stamp.seconds * 1000000000 + stamp.nanos) (2 ^ 62)) (lt-ltb stamp.nanos 1000000000 nanos) in
+    let in_time : m < 2 ^ 62 = omega (arith, is, below) in
+    let early : cond (not (live history m c k)) (Some causes.Grant) (cond (ltb m (earliest history c k)) (Some causes.Early) None) ≡ Some causes.Grant = ap (λ b. cond (not b) (Some causes.Grant) (cond (ltb m (earliest history c k)) (Some causes.Early) None)) (live-undecided history c k m (undecided ip c here k history none)) in
+    let late : ltb m (last_decided history c) ≡ false = le-ltb m (last_decided history c) (omega (arith, zero_decided ip c here k history none)) in
+    ap (λ b. cond b (Some causes.Stamp) (cond (ltb m (last_decided history c)) (Some causes.Moment) (cond (not (live history m c k)) (Some causes.Grant) (cond (ltb m (earliest history c k)) (Some causes.Early) None)))) (lt-leb (2 ^ 62) m in_time)
+    ∙ ap (λ b. cond b (Some causes.Moment) (cond (not (live history m c k)) (Some causes.Grant) (cond (ltb m (earliest history c k)) (Some causes.Early) None))) late
+    ∙ early

@@ -55,7 +55,8 @@ impl Clients {
     /// What is known of the client that a decision at this moment is on, where the last decision or
     /// change was at that one; or the decision's first fault, of `Shared`, `Stamp` and `Moment`.
     pub(crate) fn judge(&self, at: u64, last: u64, client: &Client) -> Result<Known, NoCause>
-        ensures { (history : List Record) →
+        ensures below { OnOk result (at < 2 ^ 62) }
+        ensures judged { (history : List Record) →
             AreKnown history self.now → last ≡ book_moment history → MatchResult result
             (λ known. IsPlaced history at client.now × IsKnown history client.now known)
             (λ cause. first_of (decision_tests history at client.now) ≡ Some cause) }

@@ -22,7 +22,7 @@ returns-in-Some-clause-fault c = λ opening history known.
     (c.message.ensures.fault opening history account.client (here c history known).2)
 
 pub returns-in-Some-clause-known : goal.returns-in-Some-clause-known
-returns-in-Some-clause-known c = if_none_map c.message.result (λ goes history known.
+returns-in-Some-clause-known c = if_none_map c.message.result (λ none goes history known.
     let account : Account = c.in-Some.account.now in
     let after : Account = record { client = account.client; known = c.message.new.self } in
     let there = here c history known in
