@@ -284,11 +284,11 @@ stranger_message opening history c k x below s = none k ∙ message_fault openin
 pub none_at : (opening : ℕ) (history : List Record) (ip : ℕ) (k : Kind) (x : ℕ) → x < 2 ^ 62 → IsAccount history ip None → Some causes.Grant ≡ fault_of opening history (Sent x (client_at history ip) k) []
 none_at opening history ip k x below s = stranger_message opening history (client_at history ip) k x below (s.1 (client_at history ip) (client_none history ip s.0))
 
-pub if_none_map : {P Q : Type 0} (o : Option NoCause) → (o ≡ None → P → Q) → IfNone o P → IfNone o Q
+pub if_none_map : {A P Q : Type 0} (o : Option A) → (o ≡ None → P → Q) → IfNone o P → IfNone o Q
 if_none_map None f p = f refl p
 if_none_map (Some x) f p = tt
 
-pub if_none_at : {P : Type 0} (o : Option NoCause) → o ≡ None → IfNone o P → P
+pub if_none_at : {A P : Type 0} (o : Option A) → o ≡ None → IfNone o P → P
 if_none_at None e p = p
 if_none_at (Some x) e p = absurd cc
 

@@ -1,8 +1,8 @@
 -- Decisions and changes that are judged, and what a trail stands for after them.
-use Rattle.std.proofs.Common.{◌≡◌, ◌∙◌, ℕ, ◌≤◌, max, ◌++◌, Bool, true, false, ◌||◌, not, cond, ltb, List, [], ◌∷◌, map, Option, Some, None, Result, Ok, Err, IfOk, nat_cmp, refl, sym, ap, subst, arith, append_assoc}
+use Rattle.std.proofs.Common.{◌≡◌, ◌∙◌, ℕ, ◌≤◌, ◌<◌, ◌^◌, max, ◌++◌, Bool, true, false, ◌||◌, not, cond, ltb, List, [], ◌∷◌, map, Option, Some, None, Result, Ok, Err, IfOk, nat_cmp, refl, sym, ap, subst, arith, append_assoc}
 use Rattle.std.specs.BTreeMap.{get}
 use Rattle.std.specs.List.{list_any}
-use Rattle.std.proofs.lemmas.Bool.{le-ltb, ltb-false, or_parts, eq-eqb}
+use Rattle.std.proofs.lemmas.Bool.{le-ltb, lt-leb, ltb-false, or_parts, eq-eqb}
 use Rattle.ptu_history.specs.declared.client.Client.{Client}
 use Rattle.ptu_history.specs.History.{Record, Capacity, Sent, Shed, capacity_in_force, is_change, is_decision}
 use Rattle.ptu_history.specs.Moments.{book_moment, book_part, greatest_by}
@@ -13,6 +13,7 @@ use Rattle.ptu_history.proofs.Lists.{greatest_by-append, greatest_by-map-le}
 use Rattle.ptu_history.proofs.Moments.{book_moment-push}
 use Rattle.ptu_laws.specs.Sound.{sheds_at}
 use Rattle.ptu_trail.specs.declared.cause.NoCause.{NoCause}
+use Rattle.ptu_trail.specs.declared.cause.NoCause.TheVariants as causes
 use Rattle.ptu_trail.specs.declared.cause.Shedding.{Shedding}
 use Rattle.ptu_trail.specs.declared.clients.Clients.{Clients}
 use Rattle.ptu_trail.specs.declared.live.Row.{Row}
@@ -129,9 +130,29 @@ module _ (history : List Record) (x capacity : ℕ) (shed : List Shedding) where
     live = subst (λ m. AreLive (history ++ changed) m new.live) (changed_moment le) live;
   }
 
+-- the tests of a change, where its moment is one and does not go back
+pub change_test : (x last total rates capacity : ℕ) → x < 2 ^ 62 → last ≤ x → total ≡ rates
+    → cond (ltb capacity total) (Some causes.Over) None ≡ cond (is_no_moment x) (Some causes.Stamp) (cond (ltb x last) (Some causes.Moment) (cond (ltb capacity rates) (Some causes.Over) None))
+change_test x last total rates capacity below le e =
+    ap (λ t. cond (ltb capacity t) (Some causes.Over) None) e
+    ∙ sym (ap (λ b. cond b (Some causes.Stamp) (cond (ltb x last) (Some causes.Moment) (cond (ltb capacity rates) (Some causes.Over) None))) (lt-leb (2 ^ 62) x below)
+    ∙ ap (λ b. cond b (Some causes.Moment) (cond (ltb capacity rates) (Some causes.Over) None)) (le-ltb x last le))
+
 pub begin_known : (history : List Record) (x capacity : ℕ) (clients : Clients) → AreKnown history clients → AreKnown (history ++ Capacity x capacity ∷ []) clients
 begin_known history x capacity clients known = record { each = λ q. change_account history x capacity q (get nat_cmp clients.accounts q) (known.each q) }
 
 pub if_ok_map : {A E : Type 0} {P Q : A → Type 0} (r : Result A E) → ((a : A) → P a → Q a) → IfOk r P → IfOk r Q
 if_ok_map (Ok a) f p = f a p
 if_ok_map (Err e) f p = tt
+
+-- what is live after a change: the live grants, advanced to its moment and without those shed
+pub judged_live : (opening : ℕ) (history : List Record) (x capacity : ℕ) (shed : List Shedding) (old : Trail) (advanced left : List Row) → StandsFor opening old history → old.moment ≤ x
+    → ((history : List Record) (m : ℕ) → m ≤ x → AreLive history m old.live → AreLive history x advanced)
+    → ((history : List Record) (n at : ℕ) → AreLive history n advanced → AreLive (history ++ map (record_of at) shed) n left)
+    → (book_moment history ≤ x) × AreLive (history ++ Capacity x capacity ∷ map (record_of x) shed) x left
+judged_live opening history x capacity shed old advanced left s le advance remove =
+    let past : book_moment history ≤ x = omega (arith, s.moment, le) in
+    (
+      past,
+      live_changed history x capacity shed left (remove (history ++ Capacity x capacity ∷ []) x x (live-undecided history x (Capacity x capacity) advanced refl (advance history (book_moment history) past s.live))),
+    )
