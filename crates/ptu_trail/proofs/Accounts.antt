@@ -3,10 +3,8 @@ use Rattle.std.proofs.Common.{◌≡◌, ◌∙◌, ◌≢◌, ℕ, ◌+◌, ◌
 use Rattle.std.specs.List.{All, find, list_any}
 use Rattle.std.specs.Option.{option_or, unwrap_or}
 use Rattle.std.specs.Ordering.{is_eq, nat_cmp}
-use Rattle.std.specs.declared.cmp.Ordering.{Ordering}
 use Rattle.std.specs.declared.cmp.Ordering.TheVariants.{Less, Equal, Greater}
 use Rattle.std.proofs.lemmas.Bool.{and_right, eq-eqb, le-ltb, lt-leb, lt-ltb, eqb-true, ltb-true, false_from_ne_true, or_parts, true≢false, false≢true}
-use Rattle.std.proofs.lemmas.List.{append-nil}
 use Rattle.std.proofs.lemmas.List.Elements.{All-head, All-tail}
 use Rattle.std.proofs.lemmas.List.Folds.{find-append, list_any-append}
 use Rattle.ptu_units.specs.declared.kind.Kind.{Kind}
@@ -23,7 +21,6 @@ use Rattle.ptu_history.proofs.Keys.{same_client-refl, same_client-true}
 use Rattle.ptu_history.proofs.Lists.{or-false}
 use Rattle.ptu_trail.specs.declared.clients.Account.{Account}
 use Rattle.ptu_trail.specs.declared.known.Known.{Known}
-use Rattle.ptu_trail.specs.declared.cause.NoCause.{NoCause}
 use Rattle.ptu_trail.specs.declared.cause.NoCause.TheVariants as causes
 use Rattle.ptu_trail.specs.Clients.{IsAccount}
 use Rattle.ptu_trail.specs.Faults.{client_at, decided_clients, decided_part, fault_of, is_of_other, is_shared, last_decided, last_sent_to, message_to, moment_of_stamp, sent_to_part}
@@ -116,16 +113,16 @@ apart_sent c d x j other = record { concerned = λ k. concerned_none c d other x
 
 pub apart_decided : (r : Record) (c d : Client) → decided_clients (r ∷ []) ≡ d ∷ [] → same_client c d ≡ false → IsApart c r
 apart_decided (Granted n e j l u) c d is other = let same : d ≡ e = cc in
-  let differ : same_client c e ≡ false = subst (λ (x : Client). same_client c x ≡ false) same other in
-  record { concerned = λ k. concerned_none c e differ n k j; decided = part_none c e differ n; sent = refl }
+    let differ : same_client c e ≡ false = subst (λ (x : Client). same_client c x ≡ false) same other in
+    record { concerned = λ k. concerned_none c e differ n k j; decided = part_none c e differ n; sent = refl }
 apart_decided (Short n e) c d is other = absurd cc
 apart_decided (Ended n e j) c d is other = let same : d ≡ e = cc in
-  let differ : same_client c e ≡ false = subst (λ (x : Client). same_client c x ≡ false) same other in
-  record { concerned = λ k. concerned_none c e differ n k j; decided = part_none c e differ n; sent = refl }
+    let differ : same_client c e ≡ false = subst (λ (x : Client). same_client c x ≡ false) same other in
+    record { concerned = λ k. concerned_none c e differ n k j; decided = part_none c e differ n; sent = refl }
 apart_decided (Capacity n capacity) c d is other = absurd cc
 apart_decided (Shed n e j) c d is other = let same : d ≡ e = cc in
-  let differ : same_client c e ≡ false = subst (λ (x : Client). same_client c x ≡ false) same other in
-  record { concerned = λ k. concerned_none c e differ n k j; decided = part_none c e differ n; sent = refl }
+    let differ : same_client c e ≡ false = subst (λ (x : Client). same_client c x ≡ false) same other in
+    record { concerned = λ k. concerned_none c e differ n k j; decided = part_none c e differ n; sent = refl }
 apart_decided (Looked n j) c d is other = absurd cc
 apart_decided (Sent n e j) c d is other = absurd cc
 
@@ -149,8 +146,7 @@ account_elsewhere history r ip None none apart s =
     (found_more ip history r ∙ ap (λ o. option_or o (find (at_ip ip) (decided_clients (r ∷ [])))) s.0 ∙ none, λ c is. known_apart history r c unknown (apart c is) (s.1 c is))
 account_elsewhere history r ip (Some account) none apart s =
     let here : account.client.ip ≡ ip = found_ip ip (decided_clients history) account.client s.0 in
-    let own : find (at_ip account.client.ip) (decided_clients (r ∷ [])) ≡ None = subst (λ i. find (at_ip i) (decided_clients (r ∷ [])) ≡ None) (sym here) none in
-    (
+    let own : find (at_ip account.client.ip) (decided_clients (r ∷ [])) ≡ None = subst (λ i. find (at_ip i) (decided_clients (r ∷ [])) ≡ None) (sym here) none in (
       found_more ip history r ∙ ap (λ o. option_or o (find (at_ip ip) (decided_clients (r ∷ [])))) s.0,
       shared_more history r account.client ∙ ap (λ b. b || list_any (is_of_other account.client) (decided_clients (r ∷ []))) s.1 ∙ none_other account.client (decided_clients (r ∷ [])) own,
       known_apart history r account.client account.known (apart account.client here) s.2,
@@ -177,12 +173,11 @@ own_found c cs none (Some d) is = ap Some (sym (same_client-true c d (found_same
 own_account : (history : List Record) (r : Record) (c : Client) (known : Known) → is_shared history c ≡ false → decided_clients (r ∷ []) ≡ c ∷ [] → IsKnown (history ++ r ∷ []) c known
     → IsAccount (history ++ r ∷ []) c.ip (Some (record { client = c; known = known }))
 unfolding is_shared
-own_account history r c known none decided s =
-    (
-      found_more c.ip history r ∙ ap (λ cs. option_or (find (at_ip c.ip) (decided_clients history)) (find (at_ip c.ip) cs)) decided ∙ own_found c (decided_clients history) none (find (at_ip c.ip) (decided_clients history)) refl,
-      shared_more history r c ∙ ap (λ cs. is_shared history c || list_any (is_of_other c) cs) decided ∙ ap (λ b. b || (is_of_other c c || false)) none ∙ not_other c,
-      s,
-    )
+own_account history r c known none decided s = (
+  found_more c.ip history r ∙ ap (λ cs. option_or (find (at_ip c.ip) (decided_clients history)) (find (at_ip c.ip) cs)) decided ∙ own_found c (decided_clients history) none (find (at_ip c.ip) (decided_clients history)) refl,
+  shared_more history r c ∙ ap (λ cs. is_shared history c || list_any (is_of_other c) cs) decided ∙ ap (λ b. b || (is_of_other c c || false)) none ∙ not_other c,
+  s,
+)
 
 flip_eqb : (m n : ℕ) → eqb m n ≡ false → eqb n m ≡ false
 flip_eqb m n e = false_from_ne_true (eqb n m) (λ f. true≢false (sym (eq-eqb m n (sym (eqb-true n m f))) ∙ e))
@@ -216,12 +211,11 @@ sent_account history x ip k account known old new updates s here own q =
     there = found_ip ip (decided_clients history) account.client here.0
 
     at : (b : Bool) → eqb ip q ≡ b → IsAccount (history ++ r ∷ []) q (cond b (Some (record { client = account.client; known = known })) (old q))
-    at true is = subst (λ i. IsAccount (history ++ r ∷ []) i (Some (record { client = account.client; known = known }))) (eqb-true ip q is)
-        (
-          found_more ip history r ∙ ap (λ o. option_or o None) here.0,
-          shared_more history r account.client ∙ ap (λ b. b || false) here.1,
-          own,
-        )
+    at true is = subst (λ i. IsAccount (history ++ r ∷ []) i (Some (record { client = account.client; known = known }))) (eqb-true ip q is) (
+      found_more ip history r ∙ ap (λ o. option_or o None) here.0,
+      shared_more history r account.client ∙ ap (λ b. b || false) here.1,
+      own,
+    )
     at false is =
         account_elsewhere history r q (old q) refl
         (λ d e. apart_sent d account.client x k (apart_ip d account.client (flip_eqb account.client.ip d.ip (subst (λ i. eqb i d.ip ≡ false) (sym there) (subst (λ i. eqb ip i ≡ false) (sym e) is))))) (s q)

@@ -1,10 +1,10 @@
 -- Decisions and changes that are judged, and what a trail stands for after them.
-use Rattle.std.proofs.Common.{◌≡◌, ◌∙◌, ℕ, ◌≤◌, ◌<◌, ◌^◌, max, ◌++◌, Bool, true, false, ◌||◌, not, cond, ltb, List, [], ◌∷◌, map, Option, Some, None, Result, Ok, Err, IfOk, nat_cmp, refl, sym, ap, subst, arith, append_assoc}
+use Rattle.std.proofs.Common.{◌≡◌, ◌∙◌, ℕ, ◌≤◌, ◌<◌, ◌^◌, max, ◌++◌, Bool, true, false, cond, ltb, List, [], ◌∷◌, map, Some, None, Result, Ok, Err, IfOk, nat_cmp, refl, sym, ap, subst, arith, append_assoc}
 use Rattle.std.specs.BTreeMap.{get}
 use Rattle.std.specs.List.{list_any}
 use Rattle.std.proofs.lemmas.Bool.{le-ltb, lt-leb, ltb-false, or_parts, eq-eqb}
 use Rattle.ptu_history.specs.declared.client.Client.{Client}
-use Rattle.ptu_history.specs.History.{Record, Capacity, Sent, Shed, capacity_in_force, is_change, is_decision}
+use Rattle.ptu_history.specs.History.{Record, Capacity, capacity_in_force, is_change, is_decision}
 use Rattle.ptu_history.specs.Moments.{book_moment, book_part, greatest_by}
 use Rattle.ptu_history.specs.Live.{live_grants, standing}
 use Rattle.ptu_history.specs.Verdict.{rate_sum}
@@ -19,7 +19,7 @@ use Rattle.ptu_trail.specs.declared.clients.Clients.{Clients}
 use Rattle.ptu_trail.specs.declared.live.Row.{Row}
 use Rattle.ptu_trail.specs.declared.trail.Trail.{Trail}
 use Rattle.ptu_trail.specs.Clients.{AreKnown, IsPlaced}
-use Rattle.ptu_trail.specs.Faults.{decision_tests, first_of, is_back, is_no_moment, is_shared, last_sent_to, record_of}
+use Rattle.ptu_trail.specs.Faults.{decision_tests, first_of, is_no_moment, last_sent_to, record_of}
 use Rattle.ptu_trail.specs.Live.{AreLive, grant_of}
 use Rattle.ptu_trail.specs.Trail.{StandsFor}
 use Rattle.ptu_trail.proofs.Accounts.{change_account}
@@ -151,8 +151,7 @@ pub judged_live : (opening : ℕ) (history : List Record) (x capacity : ℕ) (sh
     → ((history : List Record) (n at : ℕ) → AreLive history n advanced → AreLive (history ++ map (record_of at) shed) n left)
     → (book_moment history ≤ x) × AreLive (history ++ Capacity x capacity ∷ map (record_of x) shed) x left
 judged_live opening history x capacity shed old advanced left s le advance remove =
-    let past : book_moment history ≤ x = omega (arith, s.moment, le) in
-    (
+    let past : book_moment history ≤ x = omega (arith, s.moment, le) in (
       past,
       live_changed history x capacity shed left (remove (history ++ Capacity x capacity ∷ []) x x (live-undecided history x (Capacity x capacity) advanced refl (advance history (book_moment history) past s.live))),
     )

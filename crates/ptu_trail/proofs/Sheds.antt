@@ -8,10 +8,8 @@ use Rattle.ptu_trail.specs.declared.cause.Fault.{Fault}
 use Rattle.ptu_trail.specs.declared.cause.NoCause.{NoCause}
 use Rattle.ptu_trail.specs.declared.cause.Shedding.{Shedding}
 use Rattle.ptu_trail.specs.declared.clients.Clients.{Clients}
-use Rattle.ptu_trail.specs.declared.live.Row.{Row}
 use Rattle.ptu_trail.specs.Clients.{AreKnown}
 use Rattle.ptu_trail.specs.Faults.{behind, decision_tests, first_fault, first_of, or_behind, record_of}
-use Rattle.ptu_trail.specs.Live.{AreLive}
 
 -- a fault so many places further back
 abbrev pub shift : ℕ → Option Fault → Option Fault

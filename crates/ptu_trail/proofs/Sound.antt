@@ -1,18 +1,16 @@
 -- Trails without a fault are sound.
-use Rattle.std.proofs.Common.{◌≡◌, ℕ, ◌+◌, ◌≤◌, max, Bool, true, false, not, ◌||◌, ◌&&◌, List, [], ◌∷◌, ◌++◌, Option, Some, None, IsTrue, refl, sym, subst, ap, ◌∙◌, arith, ltb, leb, cond}
+use Rattle.std.proofs.Common.{◌≡◌, ℕ, ◌≤◌, Bool, true, false, ◌&&◌, List, [], ◌∷◌, ◌++◌, Option, Some, None, IsTrue, refl, subst, arith, ltb, leb, cond}
 use Rattle.std.proofs.lemmas.Bool.{ltb-false, le-leb, or_parts, not-false, and_from}
 use Rattle.ptu_units.specs.declared.kind.Kind.{Kind}
-use Rattle.ptu_units.specs.Log.{rate_of}
 use Rattle.ptu_history.specs.declared.client.Client.{Client}
-use Rattle.ptu_history.specs.Client.{same_client, same_kind, same_lease}
-use Rattle.ptu_history.specs.History.{Record, Granted, Short, Ended, Capacity, Shed, Looked, Sent, capacity_in_force}
+use Rattle.ptu_history.specs.Client.{same_client, same_kind}
+use Rattle.ptu_history.specs.History.{Record, Granted, Short, Ended, Capacity, Shed, Looked, Sent}
 use Rattle.ptu_history.specs.Moments.{book_moment, greatest_by}
-use Rattle.ptu_history.specs.Live.{live, live_grants}
+use Rattle.ptu_history.specs.Live.{live}
 use Rattle.ptu_history.specs.Lawful.{earliest, lawful}
-use Rattle.ptu_history.specs.Verdict.{others, rate_sum}
-use Rattle.ptu_laws.specs.Sound.{IsInOrder, IsSound, MayStand, last_sent, sent_part, sheds_at}
+use Rattle.ptu_laws.specs.Sound.{IsInOrder, IsSound, MayStand, last_sent, sent_part}
 use Rattle.ptu_trail.specs.declared.cause.NoCause.{NoCause}
-use Rattle.ptu_trail.specs.Faults.{AreInRange, IsFaultless, IsInRange, first_of, tests_of, is_back, is_no_moment, is_shared, last_decided, last_sent_to, sent_to_part}
+use Rattle.ptu_trail.specs.Faults.{AreInRange, IsFaultless, IsInRange, first_of, tests_of, is_back, last_sent_to, sent_to_part}
 
 abbrev pub AreFalse : List (Bool × NoCause) → Type 0
 AreFalse [] = Unit {0}
@@ -77,6 +75,8 @@ in_range_at [] r after all = all.0
 in_range_at (x ∷ before) r after all = in_range_at before r after all.1
 
 pub sound : (opening : ℕ) (trail : List Record) → AreInRange trail → IsFaultless opening trail → IsSound opening trail
-sound opening trail ranges f = record { each = λ before r after e.
-  let range : IsInRange r = in_range_at before r after (subst AreInRange e ranges) in
-  stands opening before r after range (all_false (tests_of opening before r after) (f.each before r after e)) }
+sound opening trail ranges f = record {
+  each = λ before r after e.
+      let range : IsInRange r = in_range_at before r after (subst AreInRange e ranges) in
+      stands opening before r after range (all_false (tests_of opening before r after) (f.each before r after e));
+}

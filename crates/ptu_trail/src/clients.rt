@@ -123,11 +123,7 @@ impl Clients {
     ///
     /// # Errors
     /// `OutOfMemory`.
-    pub(crate) fn shed(
-        &mut self,
-        at: u64,
-        shed: &[Shedding],
-    ) -> Result<Option<Fault>, OutOfMemory>
+    pub(crate) fn shed(&mut self, at: u64, shed: &[Shedding]) -> Result<Option<Fault>, OutOfMemory>
         ensures fault { IfOk result (λ fault. (opening : ℕ) (history : List Record) →
             AreKnown history self.old → at ≡ book_moment history →
             fault ≡ behind (first_fault opening history (map (record_of at) shed.now))) }

@@ -14,3 +14,6 @@ mod trail;
 
 pub use cause::{Fault, NoCause, Shedding};
 pub use trail::Trail;
+
+#[cfg(test)]
+mod tests;

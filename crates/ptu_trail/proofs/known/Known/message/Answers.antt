@@ -1,7 +1,6 @@
-use Rattle.std.proofs.Common.{◌≡◌, ◌∙◌, ◌++◌, [], ◌∷◌, List, Option, Some, None, max, sym, ap, subst, IfNone}
+use Rattle.std.proofs.Common.{◌≡◌, ◌∙◌, ◌++◌, [], ◌∷◌, Option, Some, None, max, sym, ap, subst, IfNone}
 use Rattle.ptu_units.specs.Log.{period_of}
-use Rattle.ptu_history.specs.declared.client.Client.{Client}
-use Rattle.ptu_history.specs.History.{Record, Sent}
+use Rattle.ptu_history.specs.History.{Sent}
 use Rattle.ptu_trail.specs.declared.known.Known.{Known}
 use Rattle.ptu_trail.specs.declared.known.Lease.{Lease}
 use Rattle.ptu_trail.specs.Known.{IsKnown, edge_after, with_lease}

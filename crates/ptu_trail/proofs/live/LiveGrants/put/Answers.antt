@@ -1,8 +1,7 @@
-use Rattle.std.proofs.Common.{◌≡◌, ◌∙◌, ◌++◌, ◌∷◌, [], cond, filter, ltb, true, false, sym, ap, subst}
+use Rattle.std.proofs.Common.{◌≡◌, ◌∙◌, ◌++◌, ◌∷◌, [], cond, filter, ltb, sym, ap, subst}
 use Rattle.std.proofs.lemmas.Bool.{lt-ltb, le-ltb}
 use Rattle.std.proofs.lemmas.List.{append-nil}
 use Rattle.ptu_history.specs.History.{Granted}
-use Rattle.ptu_trail.specs.declared.live.Row.{Row}
 use Rattle.ptu_trail.specs.Live.{AreLive, is_other_row}
 use Rattle.ptu_trail.proofs.Living.{live-granted}
 use Rattle.ptu_trail.proofs.live.LiveGrants.put.Goals as goal
