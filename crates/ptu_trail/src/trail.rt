@@ -110,7 +110,7 @@ impl Trail {
     }
 
     /// The end of the client's grant of the kind by a CANCEL at `at`, in nanoseconds, whether or
-    /// not one was live (IEEE 1588-2019 clause 16.1.4.4): its first fault, of `Shared`, `Stamp` and
+    /// not one was live (IEEE 1588-2019 clause 16.1.4.3): its first fault, of `Shared`, `Stamp` and
     /// `Moment`, or none.
     ///
     /// # Errors
