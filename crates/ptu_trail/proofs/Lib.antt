@@ -1,0 +1,7 @@
+mod Accounts
+mod Faultless
+mod Judging
+mod Knowing
+mod Living
+mod Sheds
+mod Sound

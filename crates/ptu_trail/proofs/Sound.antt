@@ -1,0 +1,82 @@
+-- Trails without a fault are sound.
+use Rattle.std.proofs.Common.{◌≡◌, ℕ, ◌≤◌, Bool, true, false, ◌&&◌, List, [], ◌∷◌, ◌++◌, Option, Some, None, IsTrue, refl, subst, arith, ltb, leb, cond}
+use Rattle.std.proofs.lemmas.Bool.{ltb-false, le-leb, or_parts, not-false, and_from}
+use Rattle.ptu_units.specs.declared.kind.Kind.{Kind}
+use Rattle.ptu_history.specs.declared.client.Client.{Client}
+use Rattle.ptu_history.specs.Client.{same_client, same_kind}
+use Rattle.ptu_history.specs.History.{Record, Granted, Short, Ended, Capacity, Shed, Looked, Sent}
+use Rattle.ptu_history.specs.Moments.{book_moment, greatest_by}
+use Rattle.ptu_history.specs.Live.{live}
+use Rattle.ptu_history.specs.Lawful.{earliest, lawful}
+use Rattle.ptu_laws.specs.Sound.{IsInOrder, IsSound, MayStand, last_sent, sent_part}
+use Rattle.ptu_trail.specs.declared.cause.NoCause.{NoCause}
+use Rattle.ptu_trail.specs.Faults.{AreInRange, IsFaultless, IsInRange, first_of, tests_of, is_back, last_sent_to, sent_to_part}
+
+abbrev pub AreFalse : List (Bool × NoCause) → Type 0
+AreFalse [] = Unit {0}
+AreFalse (test ∷ tests) = (test.0 ≡ false) × AreFalse tests
+
+first_false : (b : Bool) (cause : NoCause) (rest : Option NoCause) → cond b (Some cause) rest ≡ None → (b ≡ false) × (rest ≡ None)
+first_false true cause rest e = absurd cc
+first_false false cause rest e = (refl, e)
+
+-- where there is no fault, no test is true
+pub all_false : (tests : List (Bool × NoCause)) → first_of tests ≡ None → AreFalse tests
+all_false [] e = tt
+all_false (test ∷ tests) e = let both = first_false test.0 test.1 (first_of tests) e in (both.0, all_false tests both.1)
+
+-- ---- messages to a client, and of one kind to it
+
+part-le : (a b : Bool) (x : ℕ) → cond (a && b) x 0 ≤ cond a x 0
+part-le true true x = omega arith
+part-le true false x = omega arith
+part-le false b x = omega arith
+
+one-le : (c : Client) (k : Kind) (r : Record) → sent_part c k r ≤ sent_to_part c r
+one-le c k (Sent x d j) = part-le (same_client c d) (same_kind k j) x
+one-le c k (Granted n d j l u) = omega arith
+one-le c k (Short n d) = omega arith
+one-le c k (Ended n d j) = omega arith
+one-le c k (Capacity x capacity) = omega arith
+one-le c k (Shed x d j) = omega arith
+one-le c k (Looked x j) = omega arith
+
+greatest-le : (f g : Record → ℕ) → ((r : Record) → f r ≤ g r) → (rs : List Record) → greatest_by f rs ≤ greatest_by g rs
+greatest-le f g each [] = omega arith
+greatest-le f g each (r ∷ rs) = omega (arith, each r, greatest-le f g each rs)
+
+last_sent-le : (before : List Record) (c : Client) (k : Kind) → last_sent before c k ≤ last_sent_to before c
+unfolding last_sent last_sent_to
+last_sent-le before c k = greatest-le (sent_part c k) (sent_to_part c) (one-le c k) before
+
+-- ---- records
+
+in_order : (before : List Record) (n : ℕ) (c : Client) (k : Kind) → is_back before n c ≡ false → IsInOrder before n c k
+in_order before n c k e =
+    let parts = or_parts (ltb n (book_moment before)) (ltb n (last_sent_to before c)) e in
+    (ltb-false n (book_moment before) parts.0, omega (arith, ltb-false n (last_sent_to before c) parts.1, last_sent-le before c k))
+
+lawful_is : (before : List Record) (x : ℕ) (c : Client) (k : Kind) → live before x c k ≡ true → earliest before c k ≤ x → IsTrue (lawful before x c k)
+unfolding lawful
+lawful_is before x c k a b = and_from (live before x c k) (leb (earliest before c k) x) a (le-leb (earliest before c k) x b)
+
+stands : (opening : ℕ) (before : List Record) (r : Record) (after : List Record) → IsInRange r → AreFalse (tests_of opening before r after) → MayStand opening before r after
+stands opening before (Granted n c k l u) after range f = (in_order before n c k f.1.1.0, range, ltb-false _ _ f.1.1.1.0)
+stands opening before (Short n c) after range f = tt
+stands opening before (Ended n c k) after range f = in_order before n c k f.1.1.0
+stands opening before (Shed n c k) after range f = in_order before n c k f.1.1.0
+stands opening before (Capacity x capacity) after range f = (ltb-false _ _ f.1.0, ltb-false _ _ f.1.1.0)
+stands opening before (Looked x j) after range f = tt
+stands opening before (Sent x c k) after range f =
+    lawful_is before x c k (not-false (live before x c k) f.1.1.0) (ltb-false x (earliest before c k) f.1.1.1.0)
+
+in_range_at : (before : List Record) (r : Record) (after : List Record) → AreInRange (before ++ r ∷ after) → IsInRange r
+in_range_at [] r after all = all.0
+in_range_at (x ∷ before) r after all = in_range_at before r after all.1
+
+pub sound : (opening : ℕ) (trail : List Record) → AreInRange trail → IsFaultless opening trail → IsSound opening trail
+sound opening trail ranges f = record {
+  each = λ before r after e.
+      let range : IsInRange r = in_range_at before r after (subst AreInRange e ranges) in
+      stands opening before r after range (all_false (tests_of opening before r after) (f.each before r after e));
+}

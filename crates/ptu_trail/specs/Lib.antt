@@ -1,0 +1,5 @@
+pub mod Clients
+pub mod Faults
+pub mod Known
+pub mod Live
+pub mod Trail
