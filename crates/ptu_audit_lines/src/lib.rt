@@ -1,0 +1,15 @@
+//! The lines of a report, read: what each of them says, in numbers that a word may write.
+#![tactic(auto)]
+
+mod entry;
+mod forms;
+mod octets;
+mod reading;
+mod words;
+
+pub use entry::{Decision, Entry, ReportLine};
+pub use octets::Octets;
+pub use reading::read_line;
+
+#[cfg(test)]
+mod tests;
