@@ -2,6 +2,7 @@
 #![tactic(auto)]
 
 mod entry;
+pub mod examples;
 mod forms;
 mod octets;
 mod reading;
