@@ -1,5 +1,5 @@
 -- Words that are put into the places of a form one after the other.
-use Rattle.std.proofs.Common.{◌≡◌, ◌∙◌, ◌⊎◌, inl, inr, ℕ, ◌+◌, ◌-◌, ◌<◌, ◌≤◌, Bool, true, false, ◌&&◌, ◌==◌, List, [], ◌∷◌, length, drop, get_or, Option, Some, None, refl, sym, ap, arith, rules}
+use Rattle.std.proofs.Common.{◌≡◌, ◌∙◌, inl, inr, ℕ, ◌+◌, ◌-◌, ◌≤◌, Bool, true, false, ◌&&◌, ◌==◌, List, [], ◌∷◌, length, drop, Option, Some, None, refl, sym, ap, arith}
 use Rattle.std.specs.Prelude.{slice_get}
 use Rattle.std.proofs.lemmas.Option.{slice_get_cases, slice_get_within, get_or_from_slice_get}
 use Rattle.std.proofs.lemmas.List.{drop_more, drop_all}
@@ -21,8 +21,9 @@ cut_within xs i x e = drop_more xs i x (slice_get_within xs i x e) ∙ ap (λ y.
 
 cut_at : {X : Type 0} (xs : List X) (i : ℕ) → drop i xs ≡ cut (slice_get xs i) (drop (i + 1) xs)
 cut_at xs i = elim ((slice_get_cases xs i).1) as (λ _. drop i xs ≡ cut (slice_get xs i) (drop (i + 1) xs)) [
-  inl found ↦ rw found.2 (cut_within xs i found.0 found.2)
-  | inr past ↦ rw past.1 (drop_all i xs past.0) ]
+  | inl found ↦ rw found.2 (cut_within xs i found.0 found.2)
+  | inr past ↦ rw past.1 (drop_all i xs past.0)
+]
 
 -- what is left of a form and of a line, by their next words
 abbrev pub fit_next : Option (List ℕ) → Option (List ℕ) → Bool → Bool

@@ -5,7 +5,7 @@ use Rattle.std.specs.Prelude.{ℤ, pos, negsuc, option_and_then}
 use Rattle.ptu_units.specs.declared.kind.Kind.{Kind}
 use Rattle.ptu_units.specs.declared.kind.Kind.TheVariants.{Announce, Sync, DelayResp}
 use Rattle.ptu_units.specs.Log.{least_log}
-use Rattle.ptu_lines.specs.Words.{log_of, log_within, int_within}
+use Rattle.ptu_lines.specs.Words.{log_of, int_within}
 use Rattle.ptu_audit_lines.specs.Words.{log_of_kind, octet_log}
 
 wide : (kind : Kind) (z : ℤ) → option_and_then (int_within (least_log kind) (pos 4)) (int_within (negsuc 127) (pos 127) z) ≡ int_within (least_log kind) (pos 4) z

@@ -1,7 +1,6 @@
 -- What a line of a report says. The forms are the project's own choice.
 use Rattle.std.specs.Prelude.{ℕ, Bool, ◌||◌, if◌then◌else◌, List, [], ◌∷◌, Option, Some, None, codes}
 use Rattle.std.specs.List.{list_any}
-use Rattle.ptu_history.specs.declared.client.Client.{Client}
 use Rattle.ptu_lines.specs.Words.{ip_of}
 use Rattle.ptu_audit_lines.specs.declared.entry.Decision.{Decision}
 use Rattle.ptu_audit_lines.specs.declared.entry.Decision.TheVariants as decisions

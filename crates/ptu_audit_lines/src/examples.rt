@@ -1,41 +1,5 @@
 //! One line of each form, and lines of none. Each clause is one line; the bodies are empty.
-#![tactic(
-    auto,
-    unfolding(
-        crate::specs::Words::field,
-        crate::specs::Words::any_number,
-        crate::specs::Words::kind_named,
-        crate::specs::Words::is_channel,
-        crate::specs::Words::octet_log,
-        crate::specs::Words::log_of_kind,
-        crate::specs::Words::log_outside,
-        crate::specs::Words::hex_of,
-        crate::specs::Words::lower_clock,
-        crate::specs::Words::identity_of,
-        crate::specs::Forms::is_in_place,
-        crate::specs::Forms::fits,
-        crate::specs::Forms::fitting,
-        crate::specs::Entry::granted_in,
-        crate::specs::Entry::short_in,
-        crate::specs::Entry::outside_type_in,
-        crate::specs::Entry::outside_log_in,
-        crate::specs::Entry::outside_duration_in,
-        crate::specs::Entry::cancelled_in,
-        crate::specs::Entry::nothing_in,
-        crate::specs::Entry::nothing_code_in,
-        crate::specs::Entry::decision_in,
-        crate::specs::Entry::decided_in,
-        crate::specs::Entry::capacity_in,
-        crate::specs::Entry::shed_in,
-        crate::specs::Entry::send_in,
-        crate::specs::Entry::other_in,
-        crate::specs::Entry::plain_entry_in,
-        crate::specs::Entry::entry_of,
-        crate::specs::Entry::numbered_in,
-        crate::specs::Entry::end_in,
-        crate::specs::Entry::line_of
-    )
-)]
+#![tactic(auto, unfolding(crate::specs::Words::field, crate::specs::Words::any_number, crate::specs::Words::kind_named, crate::specs::Words::is_channel, crate::specs::Words::octet_log, crate::specs::Words::log_of_kind, crate::specs::Words::log_outside, crate::specs::Words::hex_of, crate::specs::Words::lower_clock, crate::specs::Words::identity_of, crate::specs::Forms::is_in_place, crate::specs::Forms::fits, crate::specs::Forms::fitting, crate::specs::Entry::granted_in, crate::specs::Entry::short_in, crate::specs::Entry::outside_type_in, crate::specs::Entry::outside_log_in, crate::specs::Entry::outside_duration_in, crate::specs::Entry::cancelled_in, crate::specs::Entry::nothing_in, crate::specs::Entry::nothing_code_in, crate::specs::Entry::decision_in, crate::specs::Entry::decided_in, crate::specs::Entry::capacity_in, crate::specs::Entry::shed_in, crate::specs::Entry::send_in, crate::specs::Entry::other_in, crate::specs::Entry::plain_entry_in, crate::specs::Entry::entry_of, crate::specs::Entry::numbered_in, crate::specs::Entry::end_in, crate::specs::Entry::line_of))]
 
 ghost use Rattle.std.specs.Prelude.{◌≡◌, ◌∷◌, [], Some, None, pos, negsuc, codes};
 ghost use Rattle.ptu_units.specs.declared.kind.Kind.TheVariants as kinds;

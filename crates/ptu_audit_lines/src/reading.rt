@@ -20,21 +20,36 @@ fn granted(line: &[u8]) -> Option<Decision>
     let log = log_field(line, 4, kind)?;
     let at = number_field(line, 6)?;
     let until = number_field(line, 8)?;
-    Some(Decision::Granted { kind, log, at, until })
+    Some(Decision::Granted {
+        kind,
+        log,
+        at,
+        until,
+    })
 }
 
 #[tactic(auto, unfolding(crate::specs::Entry::short_in))]
 fn short(line: &[u8]) -> Option<Decision>
     ensures { result ≡ specs.short_in line.now }
 {
-    fitting("NUM short KIND LOG at NUM others NUM rate NUM capacity NUM", line)?;
+    fitting(
+        "NUM short KIND LOG at NUM others NUM rate NUM capacity NUM",
+        line,
+    )?;
     let kind = kind_field(line, 3)?;
     let log = log_field(line, 4, kind)?;
     let at = number_field(line, 6)?;
     let others = number_field(line, 8)?;
     let rate = number_field(line, 10)?;
     let capacity = number_field(line, 12)?;
-    Some(Decision::Short { kind, log, at, others, rate, capacity })
+    Some(Decision::Short {
+        kind,
+        log,
+        at,
+        others,
+        rate,
+        capacity,
+    })
 }
 
 #[tactic(auto, unfolding(crate::specs::Entry::outside_type_in))]
@@ -126,7 +141,11 @@ fn capacity<'a>(line: &[u8]) -> Option<Entry<'a>>
     let grandmaster = ip_field(line, 3)?;
     let capacity = number_field(line, 4)?;
     let at = number_field(line, 6)?;
-    Some(Entry::Capacity { grandmaster, capacity, at })
+    Some(Entry::Capacity {
+        grandmaster,
+        capacity,
+        at,
+    })
 }
 
 #[tactic(auto, unfolding(crate::specs::Entry::shed_in))]
@@ -138,7 +157,11 @@ fn shed<'a>(line: &[u8]) -> Option<Entry<'a>>
     let log = log_field(line, 4, kind)?;
     let ip = ip_field(line, 5)?;
     let (clock, port) = identity_field(line, 6)?;
-    Some(Entry::Shed { kind, log, client: Client { ip, clock, port } })
+    Some(Entry::Shed {
+        kind,
+        log,
+        client: Client { ip, clock, port },
+    })
 }
 
 #[tactic(auto, unfolding(crate::specs::Entry::send_in))]
@@ -150,7 +173,12 @@ fn send<'a>(line: &[u8], buffer: &'a mut [u8; 2048]) -> Option<Entry<'a>>
     let from = ip_field(line, 4)?;
     let to = ip_field(line, 5)?;
     let octets = hex_field(line, 7, buffer)?;
-    Some(Entry::Send { number, from, to, octets })
+    Some(Entry::Send {
+        number,
+        from,
+        to,
+        octets,
+    })
 }
 
 fn is_node(line: &[u8]) -> bool
@@ -181,8 +209,7 @@ fn is_answer(line: &[u8]) -> bool
 fn is_grant(line: &[u8]) -> bool
     ensures { result ≡ fits_one specs.grant_forms line.now }
 {
-    fits("NUM grant KIND NUM", line)
-        || fits("NUM denial KIND", line)
+    fits("NUM grant KIND NUM", line) || fits("NUM denial KIND", line)
 }
 
 fn is_cancel(line: &[u8]) -> bool

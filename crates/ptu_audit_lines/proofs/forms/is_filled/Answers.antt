@@ -1,5 +1,4 @@
-use Rattle.std.proofs.Common.{rules, ◌≡◌, drop, ℕ, ◌+◌, ◌-◌, ◌*◌, ◌<◌, ◌≤◌, length, ◌∙◌, sym, ap, Bool, true, false, ◌&&◌, arith, Some, None}
-use Rattle.ptu_lines.specs.Words.{word_of, words_of}
+use Rattle.std.proofs.Common.{◌+◌, ◌∙◌, sym, ap, ◌&&◌, arith}
 use Rattle.ptu_audit_lines.specs.Forms as specs
 use Rattle.ptu_audit_lines.proofs.Fitting.{fit_from, fit_next, one_place, word_within, words_few}
 use Rattle.ptu_audit_lines.proofs.forms.is_filled.Goals as goal
@@ -15,8 +14,8 @@ places-preserved c = record {
   first = omega (arith, c.places.invariant.first);
   within = omega (arith, word_within c.args.line.now c.places.k c.in-Some-Some.word.now c.places.invariant.first (sym c.in-Some-Some.ensures'));
   same = c.places.invariant.same ∙ (one_place c.args.form.now c.args.line.now c.places.k c.places.invariant.first
-    ∙ ((λ i. fit_next (sym c.in-Some-Some.ensures i) (sym c.in-Some-Some.ensures' i) (fit_from c.args.form.now c.args.line.now (c.places.k + 1)))
-    ∙ ap (λ b. b && fit_from c.args.form.now c.args.line.now (c.places.k + 1)) (sym c.is_in_place.ensures ∙ c.if-is_in_place.true)));
+      ∙ ((λ i. fit_next (sym c.in-Some-Some.ensures i) (sym c.in-Some-Some.ensures' i) (fit_from c.args.form.now c.args.line.now (c.places.k + 1)))
+      ∙ ap (λ b. b && fit_from c.args.form.now c.args.line.now (c.places.k + 1)) (sym c.is_in_place.ensures ∙ c.if-is_in_place.true)));
 }
 
 pub places-smaller : goal.places-smaller
