@@ -1,6 +1,4 @@
 use super::*;
-use ptu_history::Client;
-use ptu_units::{Kind, Log};
 use std::test::Fail;
 
 // What a line says, as `Debug` writes it.
@@ -11,11 +9,14 @@ fn lines_are_read(rt: HostRuntime) -> Result<(), Fail> {
     for (line, said) in [
         (
             "3 send 2 10.0.0.1 10.0.1.17 event 0cff",
-            "Some(At { number: 3, entry: Send { number: 2, from: 167772161, to: 167772433, octets: Octets { octets: [12, 255] } } })",
+            "Some(At { number: 3, entry: Send { number: 2, from: 167772161, to: 167772433, \
+             octets: Octets { octets: [12, 255] } } })",
         ),
         (
             "3 shed sync -7 10.0.1.18 0a00000000000012/1",
-            "Some(At { number: 3, entry: Shed { kind: Sync, log: Log { value: -7 }, client: Client { ip: 167772434, clock: 720575940379279378, port: 1 } } })",
+            "Some(At { number: 3, entry: Shed { kind: Sync, log: Log { value: -7 }, \
+             client: Client { ip: 167772434, clock: 720575940379279378, \
+             port: 1 } } })",
         ),
         (
             "2 outside log announce -4",
