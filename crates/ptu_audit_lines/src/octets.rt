@@ -1,0 +1,34 @@
+ghost use Rattle.std.specs.Prelude.{◌≡◌};
+
+use std::marker::Model;
+
+/// The octets of a datagram that a line names, in a buffer that the reader's caller lent. A clause
+/// sees them as a list.
+#[derive(Debug, Drop)]
+pub struct Octets<'a> {
+    octets: &'a [u8],
+}
+
+impl<'a> Model for Octets<'a> {
+    ghost use Rattle.std.specs.Prelude.{ℕ, List};
+
+    ghost Value = { List ℕ };
+
+    ghost view = { λ o. o.octets.now };
+}
+
+impl<'a> Octets<'a> {
+    /// These.
+    pub fn new(octets: &'a [u8]) -> Octets<'a>
+        ensures { result ≡ octets.now }
+    {
+        Octets { octets }
+    }
+
+    /// Them, in order.
+    pub fn as_slice(&self) -> &'a [u8]
+        ensures { result.now ≡ self.now }
+    {
+        self.octets
+    }
+}

@@ -1,0 +1,161 @@
+//! The words of a line, each in the form that its place asks for.
+#![tactic(auto, unfolding(crate::specs::Words::field, crate::specs::Words::any_number, crate::specs::Words::kind_named, crate::specs::Words::is_channel, crate::specs::Words::octet_log, crate::specs::Words::log_of_kind, crate::specs::Words::log_outside, crate::specs::Words::hex_of, crate::specs::Words::lower_clock, crate::specs::Words::identity_of))]
+
+ghost use Rattle.std.specs.Prelude.{◌≡◌, ◌==◌, ◌≤◌, ◌≤ℤ◌, pos, Some, None, IfSome, MatchOption, option_and_then, option_copied, length, take};
+ghost use Rattle.std.specs.Option.{is_some};
+ghost use Rattle.std.specs.Str.{bytes_eq};
+ghost use Rattle.ptu_units.specs.Log.{IsLogOf, least_log};
+ghost use Rattle.ptu_lines.specs.Words.{int_within, ip_of, number_within, octets_of, word_of};
+ghost use Rattle.ptu_audit_lines.specs.Words as forms;
+
+use crate::octets::Octets;
+use ptu_lines::{clock, ip, log, number, octets, word};
+use ptu_units::{Kind, Log};
+
+/// A number.
+pub fn number_of(word: &[u8]) -> Option<u64>
+    ensures { result ≡ forms.any_number word.now }
+{
+    number(word, 0, u64::MAX)
+}
+
+/// The number that the word with this number is.
+pub fn number_field(line: &[u8], k: usize) -> Option<u64>
+    ensures { result ≡ forms.field k forms.any_number line.now }
+{
+    number_of(word(line, k)?)
+}
+
+/// A kind.
+pub fn kind_of(word: &[u8]) -> Option<Kind>
+    ensures { result ≡ forms.kind_named word.now }
+{
+    if word == "announce".as_bytes() {
+        Some(Kind::Announce)
+    } else if word == "sync".as_bytes() {
+        Some(Kind::Sync)
+    } else if word == "delay_resp".as_bytes() {
+        Some(Kind::DelayResp)
+    } else {
+        None
+    }
+}
+
+/// The kind that the word with this number is.
+pub fn kind_field(line: &[u8], k: usize) -> Option<Kind>
+    ensures { result ≡ forms.field k forms.kind_named line.now }
+{
+    kind_of(word(line, k)?)
+}
+
+/// Whether the word is a channel.
+pub fn is_channel(word: &[u8]) -> bool
+    ensures { result ≡ forms.is_channel word.now }
+{
+    word == "event".as_bytes() || word == "general".as_bytes()
+}
+
+/// The address that the word with this number is.
+pub fn ip_field(line: &[u8], k: usize) -> Option<u32>
+    ensures { result ≡ forms.field k ip_of line.now }
+{
+    ip(word(line, k)?)
+}
+
+/// A logarithm, from -128 to 127.
+pub fn octet_log(word: &[u8]) -> Option<i8>
+    ensures { result ≡ forms.octet_log word.now }
+{
+    log(word, -128, 127)
+}
+
+// The logarithm, where it is in the range of the kind.
+fn of_kind(kind: Kind, value: i8) -> Option<Log>
+    ensures { result ≡ int_within (least_log kind) (pos 4) value }
+{
+    Log::of(kind, value)
+}
+
+fn log_of(word: &[u8], kind: Kind) -> Option<Log>
+    ensures { result ≡ forms.log_of_kind kind word.now }
+{
+    let value = octet_log(word)?;
+    of_kind(kind, value)
+}
+
+/// The logarithm in the range of the kind that the word with this number is.
+pub fn log_field(line: &[u8], k: usize, kind: Kind) -> Option<Log>
+    ensures { result ≡ forms.field k (forms.log_of_kind kind) line.now }
+{
+    log_of(word(line, k)?, kind)
+}
+
+fn log_outside(word: &[u8], kind: Kind) -> Option<i8>
+    ensures { result ≡ forms.log_outside kind word.now }
+{
+    match log_of(word, kind) {
+        Some(_) => None,
+        None => octet_log(word),
+    }
+}
+
+/// The logarithm outside the range of the kind that the word with this number is.
+pub fn log_outside_field(line: &[u8], k: usize, kind: Kind) -> Option<i8>
+    ensures { result ≡ forms.field k (forms.log_outside kind) line.now }
+{
+    log_outside(word(line, k)?, kind)
+}
+
+fn is_lower(word: &[u8]) -> bool
+    ensures { result ≡ forms.is_lower word.now }
+{
+    word.iter().all(|octet| !(65 <= *octet && *octet <= 90))
+}
+
+fn hex_of<'a>(word: &[u8], buffer: &'a mut [u8; 2048]) -> Option<Octets<'a>>
+    ensures { result ≡ forms.hex_of word.now }
+{
+    if !is_lower(word) {
+        return None;
+    }
+    let count = octets(word, buffer)?;
+    Some(Octets::new(&buffer[..count]))
+}
+
+/// The octets that the word with this number spells in lower case, put into the buffer.
+pub fn hex_field<'a>(line: &[u8], k: usize, buffer: &'a mut [u8; 2048]) -> Option<Octets<'a>>
+    ensures { result ≡ forms.field k forms.hex_of line.now }
+{
+    hex_of(word(line, k)?, buffer)
+}
+
+fn lower_clock(word: &[u8]) -> Option<u64>
+    ensures { result ≡ forms.lower_clock word.now }
+{
+    if is_lower(word) { clock(word) } else { None }
+}
+
+fn port(word: &[u8]) -> Option<u16>
+    ensures { result ≡ number_within word.now 0 65535 }
+{
+    let port = number(word, 0, 65535)?;
+    Some(port as u16)
+}
+
+fn identity_of(word: &[u8]) -> Option<(u64, u16)>
+    ensures { result ≡ forms.identity_of word.now }
+{
+    if word.len() <= 16 || word[16] != b'/' {
+        return None;
+    }
+    let clock = lower_clock(&word[..16])?;
+    let port = port(&word[17..])?;
+    Some((clock, port))
+}
+
+/// The clock identity and the port number that the word with this number is.
+pub fn identity_field(line: &[u8], k: usize) -> Option<(u64, u16)>
+    ensures { result ≡ forms.field k forms.identity_of line.now }
+{
+    identity_of(word(line, k)?)
+}
