@@ -12,8 +12,7 @@ returns-clause-steps g c = λ openings L h.
 
 pub returns-clause-sends : goal.returns-clause-sends
 returns-clause-sends g c =
-    let handed = c.end_all-sends.ensures.sends.0 in
-    (
+    let handed = c.end_all-sends.ensures.sends.0 in (
       handed,
       subst (λ ds. HandsOver g.P.Port c.args.self.now.port c.end_all-sends.new.port ds c.end_all-sends.result.sent c.end_all-sends.result.failed)
           (ap (λ (k : Kept). map (departure_of k.config k.masters all_ones) handed) c.begin-at.ensures.rest)
