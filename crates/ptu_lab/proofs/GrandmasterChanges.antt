@@ -102,7 +102,7 @@ change_done ip line t capacity gm0 gm1 gm2 gm3 at shed sent sent' texts begun sa
     shed_is = (found g.capacity g.past stood).1 ∙ ap (λ x. map shed_of (shed_grants g.past x capacity)) moment
 
     told : gm2.reply.sent ≡ cancels_to gm1.config gm1.sequence (leases_shed shed)
-    told = all_handed _ _ _ sends ∙ ap (λ l. l ++ cancels_to gm1.config gm1.sequence (leases_shed shed)) (idle is.idle).4
+    told = all_handed gm1.reply.sent gm2.reply.sent (cancels_to gm1.config gm1.sequence (leases_shed shed)) sends ∙ ap (λ l. l ++ cancels_to gm1.config gm1.sequence (leases_shed shed)) (idle is.idle).4
 
     in_ports_are : in_ports gm2 ≡ cancels_to g.config (counts g.past).shed (map lease_of (shed_grants g.past (book_step_moment g.past t) capacity))
     in_ports_are =

@@ -16,7 +16,7 @@ use Rattle.ptu_history.specs.Step.{delay_answer}
 use Rattle.ptu_shard.specs.declared.answered.Answered.{Answered}
 use Rattle.ptu_shard.specs.declared.answered.Answered.TheVariants as answers
 use Rattle.ptu_shard.specs.declared.config.GmConfig.{GmConfig}
-use Rattle.ptu_shard.specs.Answered.{failed_by, met_by, moment_of_answer, responses}
+use Rattle.ptu_shard.specs.Answered.{failed_by, met_by, moment_of_answer, responses, sent_by}
 use Rattle.ptu_shard.specs.Messages.{response_of}
 use Rattle.ptu_items.specs.declared.heard.Heard.{Heard}
 use Rattle.ptu_items.specs.declared.heard.Heard.TheVariants as heard
@@ -71,10 +71,11 @@ says_heard g t from _ _ is comes = absurd is
 
 -- of a port that tells: where no send failed it was sent all
 told_all : (ports : Ports MemoryPort) (tells : (p : MemoryPort) → ports.sent p ≡ Some p.sent) (before after : MemoryPort) (ds : List Departure) (sent failed : ℕ) → HandsOver ports before after ds sent failed → failed ≡ 0
-    → Some (before.sent ++ ds) ≡ Some after.sent
+    → after.sent ≡ before.sent ++ ds
 told_all ports tells before after ds sent failed h none =
-    subst (λ told. IfTold (Some after.sent) (append_told told ds)) (tells before)
-    (subst (λ told. IfTold told (append_told (ports.sent before) ds)) (tells after) (hands_whole ports before after ds sent failed h none))
+    all_handed before.sent after.sent ds
+    (subst (λ told. IfTold (Some after.sent) (append_told told ds)) (tells before)
+    (subst (λ told. IfTold told (append_told (ports.sent before) ds)) (tells after) (hands_whole ports before after ds sent failed h none)))
 
 idle_ports : (gm : KeptGm MemoryPort) → AreIdle gm → in_ports gm ≡ []
 idle_ports gm (e0, e1, e2, e3, e4) = simp (e0, e1, e2, e3, e4)
@@ -96,7 +97,7 @@ delay_sends : (ports : Ports MemoryPort) (tells : (p : MemoryPort) → ports.sen
 delay_sends ports tells config past t from header answered gm1 gm2 idle is comes sends rest =
     let j = table_of (client_of from header) in
     in_ports-table j gm1 gm2 idle rest
-    ∙ all_handed _ _ _ (told_all ports tells _ _ _ _ (failed_by answered) sends (not_failed answered is))
+    ∙ told_all ports tells (table_at j gm1).port (table_at j gm2).port _ (sent_by answered) (failed_by answered) sends (not_failed answered is)
     ∙ ap (λ l. l ++ responses (met_by answered) (response_of config (moment_of_answer answered) (client_of from header) header)) (idle_table j gm1 idle)
     ∙ ap₂ (λ a x. responses a (response_of config x (client_of from header) header)) comes.1 comes.0
 
@@ -106,7 +107,7 @@ reply_sends : (ports : Ports MemoryPort) (tells : (p : MemoryPort) → ports.sen
     after.sent ≡ replies g t from header items
 reply_sends ports tells g t from header [] answers sending.Sent before after none is nothing sends same = absurd (cc (nothing.1 refl))
 reply_sends ports tells g t from header (item ∷ items) answers sending.Sent before after none is nothing sends same =
-    all_handed _ _ _ (told_all ports tells before after (answers ∷ []) 1 0 sends refl) ∙ ap₂ (λ l d. l ++ d ∷ []) none same
+    told_all ports tells before after (answers ∷ []) 1 0 sends refl ∙ ap₂ (λ l d. l ++ d ∷ []) none same
 reply_sends ports tells g t from header items answers sending.Failed before after none is nothing sends same = absurd is
 reply_sends ports tells g t from header [] answers sending.Nothing before after none is nothing sends same = ap (λ (p : MemoryPort). p.sent) sends ∙ none
 reply_sends ports tells g t from header (item ∷ items) answers sending.Nothing before after none is nothing sends same = absurd (cc (nothing.0 refl))

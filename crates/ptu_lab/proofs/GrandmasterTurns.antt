@@ -81,7 +81,7 @@ turn_done ip line t j gm0 gm1 gm2 gm3 at sent sent' texts texts' g is first idle
     same_config = ap (λ g. g.config) rest ∙ config_by (j == 0) (j == 1) (j == 2) (table_at j gm2) gm1
 
     told : (table_at j gm2).port.sent ≡ map (departure_of gm1.config at) (due_messages at (table_at j gm1).rows)
-    told = all_handed _ _ _ sends ∙ ap (λ l. l ++ map (departure_of gm1.config at) (due_messages at (table_at j gm1).rows)) (idle_table j gm1 (idle is.idle))
+    told = all_handed (table_at j gm1).port.sent (table_at j gm2).port.sent (map (departure_of gm1.config at) (due_messages at (table_at j gm1).rows)) sends ∙ ap (λ l. l ++ map (departure_of gm1.config at) (due_messages at (table_at j gm1).rows)) (idle_table j gm1 (idle is.idle))
 
     in_ports_are : in_ports gm2 ≡ map (λ m. departure_of g.config (table_step_moment g.past t j) (message_of g.past m)) (due_grants g.past (table_step_moment g.past t j) j)
     in_ports_are =
