@@ -1,0 +1,10 @@
+mod Apart
+mod Sums
+mod Places
+mod Standing
+mod Ported
+mod Fresh
+mod Whole
+mod Refused
+mod Alone
+mod Taken
