@@ -216,7 +216,7 @@ pub fn serve<W: Threads + Wait + Sync, H: Host, K: Sink>(
         → HasRisen (K.faults sink.old) (K.faults sink.new)) }
     ensures still { OnOk result (K.faults sink.new ≡ K.faults sink.old) }
     ensures opens { OnOk result (H.faults host.new ≡ H.faults host.old) }
-    // The host was opened at the settings' address and port numbers, and stands on what it stood on.
+    // The host was opened at the settings' address and ports, and stands on what it stood on.
     ensures at { OpenedAt result (H.opened_at host.new) (endpoint_of settings.now) }
     ensures name { H.name host.new ≡ H.name host.old }
     // Every other fault leaves the host's count as it was.
