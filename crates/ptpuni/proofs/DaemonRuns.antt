@@ -27,10 +27,10 @@ if_on_err (Ok x) fault e h = absurd (let never : Ok x ≡ Err fault = e in cc)
 if_on_err (Err other) fault e h = h
 
 -- where a daemon that has opened its host opened it
-pub opened_on_ok : {X : Type 0} (r : Result (Unit {0}) DaemonFault) (told : Option Endpoint) (endpoint : Endpoint) → OpenedAt r told endpoint → OnOk r X
+pub opened_on_ok : (X : Type 0) (r : Result (Unit {0}) DaemonFault) (told : Option Endpoint) (endpoint : Endpoint) → OpenedAt r told endpoint → OnOk r X
     → OnOk r (IfTold told (Some endpoint) × X)
-opened_on_ok (Ok x) told endpoint at h = (at, h)
-opened_on_ok (Err fault) told endpoint at h = tt
+opened_on_ok X (Ok x) told endpoint at h = (at, h)
+opened_on_ok X (Err fault) told endpoint at h = tt
 
 pub opened_at_write : (r : Result (Unit {0}) DaemonFault) (told : Option Endpoint) (endpoint : Endpoint) → OpenedAt r told endpoint → r ≡ Err Write → IfTold told (Some endpoint)
 opened_at_write r told endpoint at e = subst (λ r. OpenedAt r told endpoint) e at

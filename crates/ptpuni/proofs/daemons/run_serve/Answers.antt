@@ -14,7 +14,7 @@ returns-in-Ok-clause-served g c =
     (ran gm_entries gm_refusal (g.S.Source.left c.args.source.now) (g.S.Source.left c.gm_setup.new.source)
     g.K.Sink.written g.K.Sink.handed c.args.sink.now c.serve.new.sink c.args.host.now c.serve.new.host _ _ _ c.gm_setup.ensures.taken c.in-Ok.settings
     (record { read = c.in-Ok.ensures.set_up; input = c.in-Ok.ensures.answers }) c.serve.result
-    (opened_on_ok c.serve.result _ _ c.serve.ensures.at c.serve.ensures.served)
+    (opened_on_ok _ c.serve.result _ _ c.serve.ensures.at c.serve.ensures.served)
     (λ e. (opened_at_write c.serve.result _ _ c.serve.ensures.at e, IfErr-at_err _ e c.serve.ensures.part refl))
     (λ e. IfErr-at_err _ e c.serve.ensures.nothing (λ never. cc))
     (λ e. (opened_at_memory c.serve.result _ _ c.serve.ensures.at e, IfErr-at_err _ e c.serve.ensures.nothing (λ never. cc))))

@@ -15,7 +15,7 @@ returns-in-Ok-clause-followed g c =
     (ran slave_entries (slave_refusal c.len.result c.len-2.result) (g.S.Source.left c.args.source.now) (g.S.Source.left c.slave_setup.new.source)
     g.K.Sink.written g.K.Sink.handed c.args.sink.now c.slave.new.sink c.args.host.now c.slave.new.host _ _ _ c.slave_setup.ensures.taken c.in-Ok.settings
     (record { read = c.in-Ok.ensures.set_up; input = c.in-Ok.ensures.answers }) c.slave.result
-    (opened_on_ok c.slave.result _ _ c.slave.ensures.at c.slave.ensures.served)
+    (opened_on_ok _ c.slave.result _ _ c.slave.ensures.at c.slave.ensures.served)
     (λ e. (opened_at_write c.slave.result _ _ c.slave.ensures.at e, (if_on_err c.slave.result _ e c.slave.ensures.part, c.slave.ensures.stopped e)))
     c.slave.ensures.nothing
     (λ e. (opened_at_memory c.slave.result _ _ c.slave.ensures.at e, if_on_err c.slave.result _ e c.slave.ensures.part)))
