@@ -23,6 +23,8 @@ EXAMPLES = TOOLS.parent / "examples"
 DATA = Path(__file__).resolve().parent / "data"
 REPORT = DATA / "falling-capacity.report"
 PTP4L = DATA / "ptp4l.pcap"
+# What takes a second on an idle machine may take minutes on a busy one: in seconds.
+PATIENCE = 300
 
 
 @cache
@@ -67,10 +69,10 @@ def run(name: str, *words: str | Path, given: bytes = b"") -> subprocess.Complet
 @cache
 def program() -> Path | None:
     """The program, where there is one that need not be built first."""
-    built = [TOOLS.parent / it for it in ("crates/ptpuni/out/ptpuni", "out/checked/ptpuni")]
-    named = os.environ.get("PTPUNI")
-    found = (it for it in ([Path(named)] if named else built) if os.access(it, os.X_OK))
-    return next(found, None)
+    found = os.environ.get("PTPUNI") or subprocess.run(
+        [str(TOOLS.parent / "ptpuni"), "--where"], capture_output=True, text=True
+    ).stdout.removesuffix("\n")
+    return Path(found) if found and os.access(found, os.X_OK) else None
 
 
 def has_terminal() -> bool:
@@ -88,7 +90,7 @@ wants_program = unittest.skipUnless(program(), "no program is built, and $PTPUNI
 
 
 def ptpuni(word: str, given: bytes) -> bytes:
-    return subprocess.run([str(program()), word], input=given, capture_output=True, timeout=50).stdout
+    return subprocess.run([str(program()), word], input=given, capture_output=True, timeout=PATIENCE).stdout
 
 
 def ip_packet(sender: str, receiver: str, port: int, octets: bytes) -> bytes:

@@ -4,7 +4,6 @@ from __future__ import annotations
 
 import sys
 import tempfile
-import time
 import unittest
 from pathlib import Path
 
@@ -216,9 +215,7 @@ class WithTheProgram(unittest.TestCase):
         with tempfile.NamedTemporaryFile(suffix=".toml") as file:
             file.write(SMALL.encode() + b"log_delay = 0\n")
             file.flush()
-            began = time.monotonic()
             ran = run("scenario", file.name, "--ptpuni", program() or "")
-            self.assertLess(time.monotonic() - began, 30)
         self.assertEqual((ran.returncode, ran.stderr), (0, b""))
         script = ran.stdout.splitlines()
         report = ptpuni("replay", ran.stdout).splitlines()
