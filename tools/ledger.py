@@ -10,6 +10,8 @@ import ptp
 from capture import Datagram
 
 Owner = tuple[str, ptp.PortIdentity]
+# Whose a Sync or an Announce is, which name no client, while nothing else was seen at its address.
+NOBODY = ptp.PortIdentity(0, 0)
 
 
 def rate(log: int) -> float:
@@ -114,6 +116,7 @@ class Ledger:
             if isinstance(tlv, ptp.Request):
                 self.counts["requests"] += 1
                 self.by_address[datagram.sender] = owner
+                self.adopt(owner)
             elif isinstance(tlv, ptp.Cancel):
                 self.counts["cancels received"] += 1
                 self.end(owner, ptp.KINDS.get(tlv.code), datagram.moment, "gave up")
@@ -128,12 +131,18 @@ class Ledger:
                 return known
             owners = (it for it in self.leases if it[1] == message.target)
             return next(owners, (receiver, message.target))
-        return self.by_address.get(receiver, (receiver, ptp.PortIdentity(0, 0)))
+        return self.by_address.get(receiver, (receiver, NOBODY))
 
     def lease(self, owner: Owner, kind: str, moment: int) -> Lease:
         if owner[1].clock:
             self.by_address.setdefault(owner[0], owner)
+            self.adopt(owner)
         return self.leases.setdefault(owner, {}).setdefault(kind, Lease(moment))
+
+    def adopt(self, owner: Owner) -> None:
+        """Gives a client that is known now what was seen at its address before."""
+        for kind, lease in self.leases.pop((owner[0], NOBODY), {}).items():
+            self.leases.setdefault(owner, {}).setdefault(kind, lease)
 
     def end(self, owner: Owner, kind: str | None, moment: int, why: str) -> None:
         if kind and (lease := self.leases.get(owner, {}).get(kind)):

@@ -243,6 +243,16 @@ class Observed(unittest.TestCase):
         signal(6, True, "000500080002" + "0000012c0001")
         self.assertEqual((seen.held(7 * ptp.SECOND), seen.held(306 * ptp.SECOND)), (4, 0))
 
+    def test_begun_amid_syncs(self) -> None:
+        """Syncs name no client: those before the first message that does are its client's, too."""
+        every = read(PTP4L.read_bytes())
+        of_sync = [it for it, each in enumerate(every) if each.octets[0] & 15 == 0]
+        seen = Ledger(GM, 10 * ptp.SECOND)
+        for it in every[of_sync[0] :]:
+            seen.take(it)
+        (client,) = seen.snapshot(seen.last)["clients"]
+        self.assertEqual((client["identity"], client["sync"]["seen"]), ("ee7bdcfffe2da55d/1", len(of_sync)))
+
     def test_rate_in_the_window(self) -> None:
         lease = Lease(0)
         for second in range(1, 31):
