@@ -12,7 +12,7 @@ use Rattle.clap.specs.Walk.{answers_to, finished, nothing_held, settled, walk, w
 use Rattle.clap.specs.Words.{App, Kinds, Row, Shape, Text, fault_of, first_of, is_simple, is_simple_and_free, subcommand_of}
 use Rattle.clap.proofs.OnLiterals.{clap_on_literals}
 use Rattle.ptu_words.specs.declared.command.Command.{Command}
-use Rattle.ptu_words.specs.declared.command.Command.TheVariants.{Replay, Show, Serve, Slave}
+use Rattle.ptu_words.specs.declared.command.Command.TheVariants.{Replay, Show, Serve, Slave, Join}
 use Rattle.ptu_words.specs.CommandLine.{IsRefused, command_after, command_by, command_line, command_named, command_of, is_out_of_range, load_of}
 
 pub simple : is_simple command_line ≡ true
@@ -68,7 +68,7 @@ last_empty (k ∷ a) b c d e h = absurd (let never : k ∷ a ≡ [] = h in cc)
 abbrev is_known : Text → Bool
 is_known name =
     bytes_eq name (codes "replay") || (bytes_eq name (codes "show") || (bytes_eq name (codes "load")
-    || (bytes_eq name (codes "serve") || bytes_eq name (codes "slave"))))
+    || (bytes_eq name (codes "serve") || (bytes_eq name (codes "slave") || bytes_eq name (codes "join")))))
 
 -- a subcommand of such a name
 abbrev is_command : Option (Text × List Row) → Bool
@@ -119,18 +119,20 @@ named_where_matched words e =
 only_out_of_range : (o : Option (Text × List Row)) → is_command o ≡ true → option_and_then command_by o ≡ None → IsTrue (is_out_of_range o)
 only_out_of_range None known none = absurd (let never : false ≡ true = known in cc)
 only_out_of_range (Some p) known none =
-    by (bytes_eq p.0 (codes "replay")) (bytes_eq p.0 (codes "show")) (bytes_eq p.0 (codes "load")) (bytes_eq p.0 (codes "serve")) (bytes_eq p.0 (codes "slave")) (load_of (first_of (codes "N") p.1)) known none
+    by (bytes_eq p.0 (codes "replay")) (bytes_eq p.0 (codes "show")) (bytes_eq p.0 (codes "load")) (bytes_eq p.0 (codes "serve")) (bytes_eq p.0 (codes "slave")) (bytes_eq p.0 (codes "join")) (load_of (first_of (codes "N") p.1)) known none
   where
-    by : (a b c d e : Bool) (load : Option Command) → (a || (b || (c || (d || e)))) ≡ true
-        → (if a then Some Replay else if b then Some Show else if c then load else if d then Some Serve else if e then Some Slave else None) ≡ None
+    by : (a b c d e f : Bool) (load : Option Command) → (a || (b || (c || (d || (e || f))))) ≡ true
+        → (if a then Some Replay else if b then Some Show else if c then load else if d then Some Serve else if e then Some Slave
+            else if f then Some Join else None) ≡ None
         → (c && not (is_some load)) ≡ true
-    by true b c d e load known none = absurd (let never : Some Replay ≡ None = none in cc)
-    by false true c d e load known none = absurd (let never : Some Show ≡ None = none in cc)
-    by false false true d e None known none = refl
-    by false false true d e (Some x) known none = absurd (let never : Some x ≡ None = none in cc)
-    by false false false true e load known none = absurd (let never : Some Serve ≡ None = none in cc)
-    by false false false false true load known none = absurd (let never : Some Slave ≡ None = none in cc)
-    by false false false false false load known none = absurd (let never : false ≡ true = known in cc)
+    by true b c d e f load known none = absurd (let never : Some Replay ≡ None = none in cc)
+    by false true c d e f load known none = absurd (let never : Some Show ≡ None = none in cc)
+    by false false true d e f None known none = refl
+    by false false true d e f (Some x) known none = absurd (let never : Some x ≡ None = none in cc)
+    by false false false true e f load known none = absurd (let never : Some Serve ≡ None = none in cc)
+    by false false false false true f load known none = absurd (let never : Some Slave ≡ None = none in cc)
+    by false false false false false true load known none = absurd (let never : Some Join ≡ None = none in cc)
+    by false false false false false false load known none = absurd (let never : false ≡ true = known in cc)
 
 nothing_loaded : (load : Option Command) → not (is_some load) ≡ true → load ≡ None
 nothing_loaded None e = refl

@@ -16,6 +16,8 @@ pub enum Command {
     Serve,
     /// Run a slave.
     Slave,
+    /// Join the halves of Syncs that were sent in two steps.
+    Join,
 }
 
 // A load of the number that the value writes.
@@ -43,6 +45,8 @@ impl Command {
             Some(Command::Serve)
         } else if name == "slave" {
             Some(Command::Slave)
+        } else if name == "join" {
+            Some(Command::Join)
         } else {
             None
         }

@@ -16,6 +16,7 @@ fn whole_line<'a>(alloc: Global) -> Result<clap::Command<'a>, AllocError>
     let show = clap::Command::new(alloc, "show");
     let serve = clap::Command::new(alloc, "serve");
     let slave = clap::Command::new(alloc, "slave");
+    let join = clap::Command::new(alloc, "join");
     let number = Arg::new(alloc, "N").required(true);
     let load = clap::Command::new(alloc, "load").arg(number)?;
     let program = clap::Command::new(alloc, "ptpuni")
@@ -26,7 +27,8 @@ fn whole_line<'a>(alloc: Global) -> Result<clap::Command<'a>, AllocError>
     let line = line.subcommand(show)?;
     let line = line.subcommand(load)?;
     let line = line.subcommand(serve)?;
-    line.subcommand(slave)
+    let line = line.subcommand(slave)?;
+    line.subcommand(join)
 }
 
 // What matches ask for.
