@@ -1,15 +1,13 @@
 -- What a load writes: one line with the numbers of the report on the generated script, as a compact JSON object.
-use Rattle.std.specs.Prelude.{◌≡◌, ℕ, ◌+◌, ◌≤◌, List, ◌++◌, codes, length}
+use Rattle.std.specs.Prelude.{ℕ, List, ◌++◌, codes, length}
 use Rattle.std.specs.Fmt.{decimal}
 use Rattle.serde_json.specs.Data.{Data, number, unsigned, object, member, no_members}
 use Rattle.ptu_lines.specs.Script.{script_lines}
-use Rattle.ptu_report.specs.declared.ending.Ending.TheVariants.{Whole}
-use Rattle.ptu_report.specs.Rules.{ending_of}
 use Rattle.ptu_world.specs.World.{Stock}
 use Rattle.ptu_world.specs.Facts.{world_of}
-use Rattle.ptu_world.specs.Report.{course_opening, granted_count, report_lines, rules, short_count}
+use Rattle.ptu_world.specs.Report.{granted_count, report_lines, short_count}
 use Rattle.ptu_lab.specs.declared.done.Done.{Done}
-use Rattle.ptu_lab.specs.Generated.{generated}
+use Rattle.ptu_load.specs.Generated.{generated}
 
 -- a stock without judges
 abbrev pub no_stock : Stock
@@ -46,7 +44,3 @@ summary_text done = object_text done ++ codes "\n"
 -- what a load of n clients writes
 abbrev pub summary : ℕ → List ℕ
 summary n = summary_text (numbers_of (generated n))
-
--- whatever judges there are, no line of the script of a load is refused: its n + 33 lines are replayed to the end
-abbrev pub LoadsAreWhole : Type 0
-LoadsAreWhole = (stock : Stock) (n : ℕ) → 1 ≤ n → n ≤ 2000 → ending_of rules (course_opening stock) (script_lines (generated n)) ≡ Whole (n + 33)

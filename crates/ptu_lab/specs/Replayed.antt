@@ -9,8 +9,8 @@ use Rattle.ptu_world.specs.World.{Stock}
 use Rattle.ptu_world.specs.Facts.{EndsBy, world_of}
 use Rattle.ptu_world.specs.Report.{granted_count, report, report_lines, short_count}
 use Rattle.ptu_lab.specs.declared.done.Done.{Done}
-use Rattle.ptu_lab.specs.declared.fault.LabFault.{LabFault}
-use Rattle.ptu_lab.specs.declared.fault.LabFault.TheVariants.{Line, Read, Write, OutOfMemory}
+use Rattle.ptu_show.specs.declared.fault.LabFault.{LabFault}
+use Rattle.ptu_show.specs.declared.fault.LabFault.TheVariants.{Line, Read, Write, OutOfMemory}
 
 -- it says that the report was written to its end; with this ending it then meets P
 abbrev pub IfReplayed : Result Done LabFault → (Ending Cause → Type 0) → Type 0
