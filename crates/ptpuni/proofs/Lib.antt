@@ -1,3 +1,4 @@
 pub mod Answered
 pub mod DaemonRuns
 pub mod Loaded
+mod Completed

@@ -1,5 +1,5 @@
 -- What a run of the program answers.
-use Rattle.std.specs.Prelude.{◌≡◌, ◌↔◌, ◌⊎◌, ℕ, Bool, true, false, if◌then◌else◌, List, [], ◌∷◌, ◌++◌, length, Option, Result, Ok, Err}
+use Rattle.std.specs.Prelude.{◌≡◌, ◌↔◌, ◌⊎◌, ℕ, Bool, true, false, if◌then◌else◌, List, [], ◌∷◌, ◌++◌, length, Option, None, Result, Ok, Err}
 use Rattle.std.specs.Io.KnownBytes.{IsAtEnd, append_known}
 use Rattle.ptu_outside.specs.Handing.{HasPut, HasPutPart, joined}
 use Rattle.ptu_report.specs.declared.ending.Ending.{Ending}
@@ -14,6 +14,7 @@ use Rattle.ptu_show.specs.declared.fault.LabFault.{LabFault}
 use Rattle.ptu_show.specs.declared.fault.LabFault.TheVariants.{Line, Read, Write, OutOfMemory}
 use Rattle.ptu_lab.specs.Load.{summary}
 use Rattle.ptu_show.specs.Shown.{show_rules, shown_ending, shown_lines}
+use Rattle.ptu_setup.specs.Refusals.{gm_refusal, slave_refusal}
 use Rattle.ptu_words.specs.declared.command.Command.{Command}
 use Rattle.ptu_words.specs.declared.command.Command.TheVariants.{Replay, Show, Load, Serve, Slave}
 
@@ -69,6 +70,14 @@ ends_whole stock Show input = is_whole (shown_ending input)
 ends_whole stock (Load number) input = true
 ends_whole stock Serve input = true
 ends_whole stock Slave input = true
+
+-- no line of the input is refused, and neither are settings
+abbrev pub IsAccepted : Stock → Command → List ℕ → Type 0
+IsAccepted stock Replay input = ends_whole stock Replay input ≡ true
+IsAccepted stock Show input = ends_whole stock Show input ≡ true
+IsAccepted stock (Load number) input = Unit {0}
+IsAccepted stock Serve input = gm_refusal input ≡ None
+IsAccepted stock Slave input = slave_refusal stock.flags stock.gaps input ≡ None
 
 -- the command reads the source to its end
 abbrev pub reads : Command → Bool

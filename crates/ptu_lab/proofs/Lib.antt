@@ -5,3 +5,4 @@ pub mod SettingUp
 pub mod Stock
 pub mod Masters
 pub mod Replaying
+pub mod KeepingHeadline

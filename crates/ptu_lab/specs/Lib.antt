@@ -3,3 +3,4 @@ pub mod Replayed
 pub mod Load
 pub mod SummarySamples
 pub mod Steps
+pub mod Headline
