@@ -1,4 +1,5 @@
 pub mod Answered
+pub mod Completed
 pub mod DaemonRuns
+pub mod Joined
 pub mod Loaded
-mod Completed

@@ -4,6 +4,8 @@ use Rattle.std.specs.Io.KnownBytes.{IsAtEnd, append_known}
 use Rattle.ptu_outside.specs.Handing.{HasPut, HasPutPart, joined}
 use Rattle.ptu_report.specs.declared.ending.Ending.{Ending}
 use Rattle.ptu_report.specs.declared.ending.Ending.TheVariants.{Whole, Refused}
+use Rattle.ptu_report.specs.declared.stop.Stop.{Stop}
+use Rattle.ptu_report.specs.declared.stop.Stop.TheVariants as stops
 use Rattle.ptu_report.specs.Reported.{HasReportedAllRead}
 use Rattle.ptu_script.specs.declared.cause.Cause.{Cause}
 use Rattle.ptu_report_lines.specs.declared.report_line.ReportLine.{ReportLine}
@@ -13,22 +15,25 @@ use Rattle.ptu_world.specs.Report.{course_opening, report, report_lines, rules}
 use Rattle.ptu_show.specs.declared.fault.LabFault.{LabFault}
 use Rattle.ptu_show.specs.declared.fault.LabFault.TheVariants.{Line, Read, Write, OutOfMemory}
 use Rattle.ptu_lab.specs.Load.{summary}
+use Rattle.ptu_show.specs.declared.join_fault.JoinFault.{JoinFault}
+use Rattle.ptu_show.specs.Joined.{join_ending, join_rules, joined_ending, joined_lines}
 use Rattle.ptu_show.specs.Shown.{show_rules, shown_ending, shown_lines}
 use Rattle.ptu_setup.specs.Refusals.{gm_refusal, slave_refusal}
 use Rattle.ptu_words.specs.declared.command.Command.{Command}
-use Rattle.ptu_words.specs.declared.command.Command.TheVariants.{Replay, Show, Load, Serve, Slave}
+use Rattle.ptu_words.specs.declared.command.Command.TheVariants.{Replay, Show, Load, Serve, Slave, Join}
 
 -- the statuses that there are
 abbrev pub statuses : List ℕ
 statuses = 0 ∷ 64 ∷ 65 ∷ 66 ∷ 67 ∷ 69 ∷ 71 ∷ []
 
--- the command runs a program of the lab, in memory
+-- the command reads lines and writes lines, in memory
 abbrev pub IsOfLab : Command → Type 0
 IsOfLab Replay = Unit {0}
 IsOfLab Show = Unit {0}
 IsOfLab (Load number) = Unit {0}
 IsOfLab Serve = ⊥
 IsOfLab Slave = ⊥
+IsOfLab Join = Unit {0}
 
 -- the status of what a program of the lab answers
 abbrev pub status_of_answer : {A : Type 0} → Result A LabFault → ℕ
@@ -37,6 +42,18 @@ status_of_answer (Err (Line number cause)) = 65
 status_of_answer (Err Read) = 66
 status_of_answer (Err Write) = 67
 status_of_answer (Err OutOfMemory) = 71
+
+-- the status of how an output ended, or of why it stopped before its end
+abbrev pub status_of_ending : {C : Type 0} → Result (Ending C) Stop → ℕ
+status_of_ending (Ok (Whole lines)) = 0
+status_of_ending (Ok (Refused number cause)) = 65
+status_of_ending (Err stops.Read) = 66
+status_of_ending (Err stops.Write) = 67
+status_of_ending (Err stops.OutOfMemory) = 71
+
+-- the status of what `join` answers
+abbrev pub status_of_joined : Result ℕ JoinFault → ℕ
+status_of_joined answer = status_of_ending (join_ending answer)
 
 -- the numbers of judges of each rule that are handed in
 abbrev pub stock_of : {A : Type 0} → List A → List A → Stock
@@ -49,6 +66,7 @@ output_of stock Show input = shown_lines input
 output_of stock (Load number) input = summary number ∷ []
 output_of stock Serve input = []
 output_of stock Slave input = []
+output_of stock Join input = joined_lines input
 
 -- ---- the status of a whole output
 
@@ -59,7 +77,7 @@ has_end (End lines datagrams ∷ []) = true
 has_end (line ∷ rest) = has_end rest
 
 -- no line of the input is refused
-abbrev pub is_whole : Ending Cause → Bool
+abbrev pub is_whole : {C : Type 0} → Ending C → Bool
 is_whole (Whole lines) = true
 is_whole (Refused number cause) = false
 
@@ -70,6 +88,7 @@ ends_whole stock Show input = is_whole (shown_ending input)
 ends_whole stock (Load number) input = true
 ends_whole stock Serve input = true
 ends_whole stock Slave input = true
+ends_whole stock Join input = is_whole (joined_ending input)
 
 -- no line of the input is refused, and neither are settings
 abbrev pub IsAccepted : Stock → Command → List ℕ → Type 0
@@ -78,6 +97,7 @@ IsAccepted stock Show input = ends_whole stock Show input ≡ true
 IsAccepted stock (Load number) input = Unit {0}
 IsAccepted stock Serve input = gm_refusal input ≡ None
 IsAccepted stock Slave input = slave_refusal stock.flags stock.gaps input ≡ None
+IsAccepted stock Join input = ends_whole stock Join input ≡ true
 
 -- the command reads the source to its end
 abbrev pub reads : Command → Bool
@@ -86,6 +106,7 @@ reads Show = true
 reads (Load number) = false
 reads Serve = true
 reads Slave = true
+reads Join = true
 
 -- 0 where the last line of the output is `end`, or the output is that of a load, else 65
 abbrev pub status_of : Stock → Command → List ℕ → ℕ
@@ -114,6 +135,7 @@ module _ {K : Type 0} (written : K → Option (List ℕ)) (handed : K → Option
   HasReadAll (Load number) left left' = ⊥
   HasReadAll Serve left left' = ⊥
   HasReadAll Slave left left' = ⊥
+  HasReadAll Join left left' = HasReportedAllRead written handed old new join_rules [] left left'
 
 module _ {K : Type 0} (written : K → Option (List ℕ)) (handed : K → Option (List (List ℕ))) (old new : K) where
   -- a load of so many clients wrote its one line and read nothing, or it stopped before that line was whole: the sink failed,

@@ -16,10 +16,11 @@ ghost use Rattle.ptpuni.specs.Run.{output_of, statuses, stock_of, HasLoaded, Has
 
 use crate::daemons::{run_serve, run_slave};
 use crate::status::{
-    BAD_LINE, HOST_FAULT, OUT_OF_MEMORY, SINK_FAULT, SOURCE_FAULT, USAGE, status_of,
+    BAD_LINE, HOST_FAULT, OUT_OF_MEMORY, SINK_FAULT, SOURCE_FAULT, USAGE, join_status, status_of,
 };
 use ptu_lab::{Stock, load, replay, show};
 use ptu_outside::{Host, Sink, Source};
+use ptu_show::join;
 use ptu_words::{Command, read_words};
 use std::alloc::Global;
 use std::sync::Wait;
@@ -86,6 +87,7 @@ fn run_command<W: Threads + Wait + Sync, S: Source, K: Sink, H: Host>(
         Command::Load(number) => status_of(load(alloc, number, sink)),
         Command::Serve => run_serve(rt, alloc, source, sink, host),
         Command::Slave => run_slave(alloc, source, sink, host, stock),
+        Command::Join => join_status(join(alloc, source, sink)),
     }
 }
 

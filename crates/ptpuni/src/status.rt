@@ -2,10 +2,11 @@
 
 ghost use Rattle.std.specs.Prelude.{◌≡◌};
 ghost use Rattle.ptpuni.specs.Daemons.{status_of_daemon};
-ghost use Rattle.ptpuni.specs.Run.{status_of_answer};
+ghost use Rattle.ptpuni.specs.Run.{status_of_answer, status_of_joined};
 
 use ptu_lab::LabFault;
 use ptu_rounds::DaemonFault;
+use ptu_show::JoinFault;
 
 /// The command line does not match the words.
 pub const USAGE: u8 = 64;
@@ -35,6 +36,19 @@ pub(crate) fn status_of<A: Drop>(answer: Result<A, LabFault>) -> u8
         Err(LabFault::Read) => SOURCE_FAULT,
         Err(LabFault::Write) => SINK_FAULT,
         Err(LabFault::OutOfMemory) => OUT_OF_MEMORY,
+    }
+}
+
+/// The status of an answer of `join`.
+pub(crate) fn join_status(answer: Result<u64, JoinFault>) -> u8
+    ensures { result ≡ status_of_joined answer }
+{
+    match answer {
+        Ok(_) => 0,
+        Err(JoinFault::Line { .. }) => BAD_LINE,
+        Err(JoinFault::Read) => SOURCE_FAULT,
+        Err(JoinFault::Write) => SINK_FAULT,
+        Err(JoinFault::OutOfMemory) => OUT_OF_MEMORY,
     }
 }
 
