@@ -1,4 +1,5 @@
--- What a load writes: one line with the numbers of the report on the generated script, as a compact JSON object.
+-- What a load writes: one line with the numbers of the report on the generated script, as a compact
+-- JSON object.
 use Rattle.std.specs.Prelude.{ℕ, List, ◌++◌, codes, length}
 use Rattle.std.specs.Fmt.{decimal}
 use Rattle.serde_json.specs.Data.{Data, number, unsigned, object, member, no_members}
@@ -13,7 +14,8 @@ use Rattle.ptu_load.specs.Generated.{generated}
 abbrev pub no_stock : Stock
 no_stock = record { flags = 0; gaps = 0 }
 
--- the numbers of the report on a script without slaves: its lines and the datagrams sent, and its counts of `granted` and `short` lines
+-- the numbers of the report on a script without slaves: its lines and the datagrams sent, and its
+-- counts of `granted` and `short` lines
 unfoldable pub numbers_of : List ℕ → Done
 numbers_of script = record {
   lines = length (script_lines script);
@@ -34,8 +36,10 @@ summary_data done = object
 -- its compact text
 unfoldable pub object_text : Done → List ℕ
 object_text done =
-    codes "{\"datagrams\":" ++ (decimal done.datagrams ++ (codes ",\"granted\":" ++ (decimal done.granted
-    ++ (codes ",\"lines\":" ++ (decimal done.lines ++ (codes ",\"refused\":" ++ (decimal done.refused ++ codes "}")))))))
+    codes "{\"datagrams\":" ++ (decimal done.datagrams
+    ++ (codes ",\"granted\":" ++ (decimal done.granted
+    ++ (codes ",\"lines\":" ++ (decimal done.lines
+    ++ (codes ",\"refused\":" ++ (decimal done.refused ++ codes "}")))))))
 
 -- the line of it
 abbrev pub summary_text : Done → List ℕ

@@ -17,7 +17,8 @@ module _ {J : Type 0} {I : J → Type 0} (held : SlaveNode J I → List Held) wh
   -- a node at the address stands for the node of a world
   abbrev pub StandsAs : ℕ → Bool → Node J I → world.Node → Type 0
   StandsAs ip begun (nodes.Grandmaster node) w = (node.ip ≡ ip) × StandsAsGrandmaster node w
-  StandsAs ip begun (nodes.Slave node) w = (node.ip ≡ ip) × StandsAsSlave node.ip node.slave.core (held node) node.slave.port begun w
+  StandsAs ip begun (nodes.Slave node) w = (node.ip ≡ ip)
+      × StandsAsSlave node.ip node.slave.core (held node) node.slave.port begun w
 
   -- what is found at the address in the lab stands for what is found there in a world
   abbrev pub Agrees : ℕ → Bool → Option (Node J I) → Option world.Node → Type 0
@@ -27,8 +28,10 @@ module _ {J : Type 0} {I : J → Type 0} (held : SlaveNode J I → List Held) wh
   Agrees ip begun (Some node) None = ⊥
 
   -- the lab, whose judges that are left hold this, stands for the course of a script so far
-  pub record StandsFor (flag_judges gap_judges : List Held) (lab : Lab J I) (c : Course) : Type 0 where
-    pub nodes : (ip : ℕ) → Agrees ip c.world.has_begun (get nat_eq lab.nodes ip) (node_at c.world.nodes ip)
+  pub record StandsFor (flag_judges gap_judges : List Held) (lab : Lab J I)
+      (c : Course) : Type 0 where
+    pub nodes : (ip : ℕ)
+        → Agrees ip c.world.has_begun (get nat_eq lab.nodes ip) (node_at c.world.nodes ip)
     pub sent : lab.sent.items ≡ c.world.sent
     pub has_begun : lab.has_begun ≡ c.world.has_begun
     pub flags : length flag_judges ≡ c.world.stock.flags

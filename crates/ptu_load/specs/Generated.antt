@@ -1,6 +1,8 @@
--- The script that a load of N clients replays: a grandmaster, one request of each client at moment 0, and then eight seconds in
--- which every table takes a turn each. The script is the project's own choice.
-use Rattle.std.specs.Prelude.{ℕ, zero, suc, ◌+◌, ◌*◌, ◌/◌, ◌%◌, ◌^◌, ℤ, pos, ◌-ℤ◌, List, [], ◌∷◌, ◌++◌, codes, map}
+-- The script that a load of N clients replays: a grandmaster, one request of each client at moment
+-- 0, and then eight seconds in which every table takes a turn each. The script is the project's own
+-- choice.
+use Rattle.std.specs.Prelude.{ℕ, zero, suc, ◌+◌, ◌*◌, ◌/◌, ◌%◌, ◌^◌, ℤ, pos, ◌-ℤ◌, List, [], ◌∷◌}
+use Rattle.std.specs.Prelude.{◌++◌, codes, map}
 use Rattle.std.specs.Fmt.{decimal}
 use Rattle.std.specs.List.{flat_map, range_with_len}
 use Rattle.hex.specs.Hex.{encode_lower}
@@ -45,24 +47,38 @@ all_ports = record { clock = 0xffffffffffffffff; port = 0xffff }
 
 -- the header of a Signaling of client i, in domain 4 and with sequenceId 0
 abbrev pub client_header : ℕ → Header
-client_header i = record { message_type = 12; domain = 4; flags = 0x0400; correction = pos 0; source = client_identity i; sequence = 0 }
+client_header i = record {
+  message_type = 12;
+  domain = 4;
+  flags = 0x0400;
+  correction = pos 0;
+  source = client_identity i;
+  sequence = 0;
+}
 
 -- client i asks for Sync for 300 s at this logarithm
 unfoldable pub request_of : ℕ → ℤ → List ℕ
-request_of i log = sent_message (signaling (client_header i) all_ports (Request (record { code = 0; log = log; seconds = 300 }) ∷ []))
+request_of i log =
+    sent_message (signaling (client_header i) all_ports
+    (Request (record { code = 0; log = log; seconds = 300 }) ∷ []))
 
 -- ---- the lines
 
 abbrev pub grandmaster_text : ℕ → List ℕ
-grandmaster_text capacity = codes "gm 10.0.0.1 0a00000000000001 1 4 84 " ++ (decimal capacity ++ codes " 300\n")
+grandmaster_text capacity =
+    codes "gm 10.0.0.1 0a00000000000001 1 4 84 " ++ (decimal capacity ++ codes " 300\n")
 
 -- the address of client i is 10.1.a.b, a and b being the quotient and the rest of i by 256
 abbrev pub client_text : ℕ → List ℕ → List ℕ
 client_text i datagram =
-    codes "rx 0 10.0.0.1 10.1." ++ (decimal (i / 256) ++ (codes "." ++ (decimal (i % 256) ++ (codes " " ++ (encode_lower datagram ++ codes "\n")))))
+    codes "rx 0 10.0.0.1 10.1."
+    ++ (decimal (i / 256)
+    ++ (codes "." ++ (decimal (i % 256)
+    ++ (codes " " ++ (encode_lower datagram ++ codes "\n")))))
 
 abbrev pub turn_text : ℕ → ℕ → List ℕ
-turn_text moment table = codes "turn " ++ (decimal moment ++ (codes " 10.0.0.1 " ++ (decimal table ++ codes "\n")))
+turn_text moment table =
+    codes "turn " ++ (decimal moment ++ (codes " 10.0.0.1 " ++ (decimal table ++ codes "\n")))
 
 -- how a line is written
 abbrev pub load_text : LoadLine → List ℕ
@@ -86,7 +102,8 @@ turn_lines_at k = map (turn_text (k * 1000000000)) (range_with_len 0 4)
 unfoldable pub turn_lines : ℕ → List (List ℕ)
 turn_lines seconds = flat_map turn_lines_at (range_with_len 1 seconds)
 
--- the lines of the script of n clients, each with its 0A; there is capacity for 16 messages a second of each
+-- the lines of the script of n clients, each with its 0A; there is capacity for 16 messages a
+-- second of each
 abbrev pub generated_lines : ℕ → List (List ℕ)
 generated_lines n = grandmaster_text (16 * n) ∷ ask_lines n ++ turn_lines 8
 

@@ -1,17 +1,21 @@
 -- What the script of a load is, at numbers that were made out by hand.
-use Rattle.std.specs.Prelude.{◌≡◌, ℕ, ◌+◌, ◌/◌, [], ◌∷◌, codes, drop, length, map, pos, negsuc, take}
+use Rattle.std.specs.Prelude.{◌≡◌, ℕ, ◌+◌, ◌/◌, [], ◌∷◌, codes, drop, length, map, pos, negsuc}
+use Rattle.std.specs.Prelude.{take}
 use Rattle.std.specs.List.{range_with_len}
 use Rattle.ptu_load.specs.Generated.{client_text, generated_lines, log_of_client, request_of, x_at}
 
 -- the quotients of x_1 to x_5 by 65536
 abbrev pub QuotientsAre : Type 0
-QuotientsAre = map (λ i. x_at i / 65536) (1 ∷ 2 ∷ 3 ∷ 4 ∷ 5 ∷ []) ≡ 16838 ∷ 5758 ∷ 10113 ∷ 17515 ∷ 31051 ∷ []
+QuotientsAre =
+    map (λ i. x_at i / 65536) (1 ∷ 2 ∷ 3 ∷ 4 ∷ 5 ∷ []) ≡ 16838 ∷ 5758 ∷ 10113 ∷ 17515 ∷ 31051 ∷ []
 
 -- the logarithms at which five clients ask
 abbrev pub LogarithmsAre : Type 0
-LogarithmsAre = map log_of_client (range_with_len 0 5) ≡ pos 1 ∷ pos 1 ∷ pos 1 ∷ negsuc 1 ∷ negsuc 0 ∷ []
+LogarithmsAre =
+    map log_of_client (range_with_len 0 5) ≡ pos 1 ∷ pos 1 ∷ pos 1 ∷ negsuc 1 ∷ negsuc 0 ∷ []
 
--- the first lines and the last one, for one client; and the line of a client whose address has another third octet
+-- the first lines and the last one, for one client; and the line of a client whose address has
+-- another third octet
 abbrev pub LinesAre : Type 0
 LinesAre =
     (take 4 (generated_lines 1)

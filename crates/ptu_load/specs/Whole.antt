@@ -7,6 +7,8 @@ use Rattle.ptu_world.specs.World.{Stock}
 use Rattle.ptu_world.specs.Report.{course_opening, rules}
 use Rattle.ptu_load.specs.Generated.{generated}
 
--- whatever judges there are, no line of the script of a load is refused: its n + 33 lines are replayed to the end
+-- whatever judges there are, no line of the script of a load is refused: its n + 33 lines are
+-- replayed to the end
 abbrev pub LoadsAreWhole : Type 0
-LoadsAreWhole = (stock : Stock) (n : ℕ) → 1 ≤ n → n ≤ 2000 → ending_of rules (course_opening stock) (script_lines (generated n)) ≡ Whole (n + 33)
+LoadsAreWhole = (stock : Stock) (n : ℕ) → 1 ≤ n → n ≤ 2000
+    → ending_of rules (course_opening stock) (script_lines (generated n)) ≡ Whole (n + 33)

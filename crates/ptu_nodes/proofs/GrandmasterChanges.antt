@@ -1,4 +1,4 @@
--- That the capacity of a grandmaster of the lab has changed.
+-- That the capacity of a grandmaster of a script has changed.
 use Rattle.std.proofs.Common.{◌≡◌, ◌∙◌, ℕ, ◌+◌, ◌%◌, List, [], ◌∷◌, ◌++◌, Bool, false, cond, map, refl, sym, ap, ap₂, subst, arith, append_assoc, Some}
 use Rattle.std.proofs.lemmas.List.Sums.{sum_by-cons}
 use Rattle.std.proofs.lemmas.Simd.{map-map}

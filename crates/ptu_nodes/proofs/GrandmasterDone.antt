@@ -1,4 +1,4 @@
--- That a node of the lab has done what a deed says.
+-- That a node of a script has done what a deed says.
 use Rattle.std.proofs.Common.{◌≡◌, ◌∙◌, ℕ, ◌+◌, ◌≤◌, List, [], ◌∷◌, ◌++◌, Bool, true, false, cond, length, map, refl, sym, ap, arith, append_assoc, Some, Result, Ok, Err}
 use Rattle.std.specs.Result.{OnOk}
 use Rattle.std.specs.List.{count_by}

@@ -1,4 +1,4 @@
--- That a grandmaster of the lab has taken a datagram.
+-- That a grandmaster of a script has taken a datagram.
 use Rattle.std.proofs.Common.{◌≡◌, ◌∙◌, ◌↔◌, ℕ, List, [], ◌∷◌, ◌++◌, map, refl, sym, ap, ap₂, subst, Some, Result, Ok, Err}
 use Rattle.std.proofs.lemmas.Simd.{map-map}
 use Rattle.std.specs.List.{count_by}

@@ -1,4 +1,4 @@
--- That a grandmaster of the lab has taken a turn.
+-- That a grandmaster of a script has taken a turn.
 use Rattle.std.proofs.Common.{◌≡◌, ◌∙◌, ℕ, ◌==◌, List, [], ◌++◌, Bool, true, false, map, refl, sym, ap, subst, Some}
 use Rattle.std.proofs.lemmas.List.{append-nil}
 use Rattle.std.proofs.lemmas.Simd.{map-map}

@@ -1,7 +1,8 @@
--- What the lab asks of what a slave heard.
+-- What is asked of what a slave heard.
 use Rattle.std.specs.Prelude.{ℕ, ◌<◌, Bool, true, false}
 use Rattle.ptu_slave_messages.specs.declared.heard.Heard.{Heard}
-use Rattle.ptu_slave_messages.specs.declared.heard.Heard.TheVariants.{Ignored, Announce, Sync, FollowUp, DelayResp, Signals}
+use Rattle.ptu_slave_messages.specs.declared.heard.Heard.TheVariants.{Ignored, Announce, Sync}
+use Rattle.ptu_slave_messages.specs.declared.heard.Heard.TheVariants.{FollowUp, DelayResp, Signals}
 use Rattle.ptu_slave_messages.specs.declared.heard.HeardReply.{HeardReply}
 use Rattle.ptu_slave_messages.specs.declared.heard.HeardReply.TheVariants.{Failed}
 

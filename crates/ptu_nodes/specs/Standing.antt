@@ -19,7 +19,8 @@ IsIdle port = port.sent ≡ []
 
 -- nor in any port of a grandmaster
 abbrev pub AreIdle : KeptGm MemoryPort → Type 0
-AreIdle gm = IsIdle gm.s0.port × IsIdle gm.s1.port × IsIdle gm.s2.port × IsIdle gm.s3.port × IsIdle gm.reply
+AreIdle gm =
+    IsIdle gm.s0.port × IsIdle gm.s1.port × IsIdle gm.s2.port × IsIdle gm.s3.port × IsIdle gm.reply
 
 -- it stands for the grandmaster of a world, with its history
 pub record IsGrandmasterNode (node : GrandmasterNode) (g : world.Grandmaster) : Type 0 where
@@ -35,9 +36,11 @@ StandsAsGrandmaster node (world.IsSlave s) = ⊥
 
 -- ---- slaves
 
--- a slave at this address, of which this is kept, whose judges hold this and whose messages go by this port, stands for the
--- slave of a world, with its record; before the first event of the script nothing was told to its judges
-pub record IsSlaveNode (ip : ℕ) (kept : Kept) (judges : List Held) (port : MemoryPort) (begun : Bool) (s : world.Slave) : Type 0 where
+-- a slave at this address, of which this is kept, whose judges hold this and whose messages go by
+-- this port, stands for the slave of a world, with its record; before the first event of the script
+-- nothing was told to its judges
+pub record IsSlaveNode (ip : ℕ) (kept : Kept) (judges : List Held) (port : MemoryPort)
+    (begun : Bool) (s : world.Slave) : Type 0 where
   pub address : s.ip ≡ ip
   pub config : s.opened.config ≡ kept.config
   pub masters : s.opened.masters ≡ kept.masters

@@ -7,10 +7,9 @@ ghost use Rattle.ptu_world.specs.World.{new_grandmaster};
 ghost use Rattle.ptu_nodes.specs.Standing.{IsGrandmasterNode, StandsAsGrandmaster};
 ghost use Rattle.ptu_nodes.specs.Doing.{HasDone};
 
-use crate::grandmaster_ports::{
-    ANNOUNCE, SIGNALING, SIGNALING_PORT, hand_over_all, reserve, reserve_replies,
-};
+use crate::grandmaster_ports::{ANNOUNCE, SIGNALING_PORT, hand_over_all, reserve, reserve_replies};
 use crate::grandmaster_statements::{say_shed, say_taken};
+use crate::handing::SIGNALING;
 use crate::saying::say;
 use crate::tally::Tally;
 use ptu_grandmaster::Gm;
@@ -23,8 +22,7 @@ use ptu_shard::GmConfig;
 use ptu_units::{Moment, OutOfMemory};
 use std::alloc::Global;
 
-/// A grandmaster of a script: it stands in the lab with ports in memory, in which nothing stands
-/// between events.
+/// A grandmaster of a script: it has ports in memory, in which nothing stands between events.
 #[derive(Drop)]
 pub struct GrandmasterNode {
     /// Its IPv4 address, its first octet the highest.

@@ -9,7 +9,8 @@ ghost use Rattle.ptu_report_lines.specs.declared.statement.Statement.TheVariants
 ghost use Rattle.ptu_shard.specs.Answered.{met_by, moment_of_answer};
 ghost use Rattle.ptu_world.specs.Grandmasters.{answer_said, decision_said, outside_of, reason_of};
 ghost use Rattle.ptu_world.specs.Report.{is_granted, is_short, text_at};
-ghost use Rattle.ptu_nodes.specs.GrandmasterStatements.{IsSent, outcomes_said, shed_seen, taken_said};
+ghost use Rattle.ptu_nodes.specs.GrandmasterStatements.{IsSent, outcomes_said, shed_seen};
+ghost use Rattle.ptu_nodes.specs.GrandmasterStatements.{taken_said};
 
 use crate::saying::say;
 use crate::tally::Tally;

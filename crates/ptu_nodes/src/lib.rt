@@ -13,10 +13,8 @@ mod slave_statements;
 mod tally;
 
 pub use grandmaster_node::GrandmasterNode;
-pub use grandmaster_ports::{
-    ANNOUNCE, SIGNALING, SIGNALING_PORT, hand_over_all, reserve, reserve_replies,
-};
-pub use handing::hand_over;
+pub use grandmaster_ports::{ANNOUNCE, SIGNALING_PORT, hand_over_all, reserve, reserve_replies};
+pub use handing::{SIGNALING, hand_over};
 pub use slave_node::SlaveNode;
 pub use tally::Tally;
 

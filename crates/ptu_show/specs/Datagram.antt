@@ -32,7 +32,8 @@ stamp_text stamp = codes " stamp " ++ (decimal stamp.seconds ++ (codes " " ++ de
 
 -- code, logarithm and seconds
 abbrev pub ask_text : Ask → List ℕ
-ask_text ask = decimal ask.code ++ (codes " " ++ (signed_decimal ask.log ++ (codes " " ++ decimal ask.seconds)))
+ask_text ask = decimal ask.code
+    ++ (codes " " ++ (signed_decimal ask.log ++ (codes " " ++ decimal ask.seconds)))
 
 -- R
 abbrev pub renewal_text : Bool → List ℕ
@@ -40,7 +41,8 @@ renewal_text renewal = if renewal then codes "1" else codes "0"
 
 abbrev pub tlv_text : Tlv → List ℕ
 tlv_text (tlvs.Request ask) = codes " request " ++ ask_text ask
-tlv_text (tlvs.Grant ask renewal) = codes " grant " ++ (ask_text ask ++ (codes " " ++ renewal_text renewal))
+tlv_text (tlvs.Grant ask renewal) =
+    codes " grant " ++ (ask_text ask ++ (codes " " ++ renewal_text renewal))
 tlv_text (tlvs.Cancel code) = codes " cancel " ++ decimal code
 tlv_text (tlvs.Ack code) = codes " ack " ++ decimal code
 tlv_text (tlvs.Other tlv_type n) = codes " other " ++ (decimal tlv_type ++ (codes " " ++ decimal n))
@@ -50,10 +52,14 @@ abbrev pub body_text : Body → List ℕ
 body_text (bodies.Sync stamp) = stamp_text stamp
 body_text (bodies.DelayReq stamp) = stamp_text stamp
 body_text (bodies.FollowUp stamp) = stamp_text stamp
-body_text (bodies.DelayResp stamp requester) = stamp_text stamp ++ (codes " to " ++ identity_text requester)
+body_text (bodies.DelayResp stamp requester) =
+    stamp_text stamp ++ (codes " to " ++ identity_text requester)
 body_text (bodies.Announce body) =
-    codes " class " ++ (decimal body.class ++ (codes " steps " ++ (decimal body.steps ++ (codes " grandmaster " ++ clock_text body.grandmaster))))
-body_text (bodies.Signaling target list) = codes " to " ++ (identity_text target ++ flat_map tlv_text list)
+    codes " class " ++ (decimal body.class
+    ++ (codes " steps " ++ (decimal body.steps
+    ++ (codes " grandmaster " ++ clock_text body.grandmaster))))
+body_text (bodies.Signaling target list) =
+    codes " to " ++ (identity_text target ++ flat_map tlv_text list)
 body_text bodies.Ignored = []
 
 -- a message of this messageLength, without the number of its line

@@ -11,11 +11,16 @@ use Rattle.ptu_show.specs.Shown.{shown, shown_ending}
 -- each type with its own rest, and a fault in place of what does not read
 abbrev pub DatagramsAreShown : Type 0
 DatagramsAreShown =
-    (datagram_text delay_req ≡ codes "delay_req length 44 domain 4 from 0a00000000000011/1 seq 7 stamp 0 0")
-    × (datagram_text delay_resp ≡ codes "delay_resp length 54 domain 4 from 0a00000000000001/1 seq 7 stamp 10 300 to 0a00000000000011/1")
-    × (datagram_text announce ≡ codes "announce length 64 domain 4 from 0a00000000000001/1 seq 0 class 84 steps 0 grandmaster 0a00000000000001")
-    × (datagram_text (8 ∷ drop 1 delay_req) ≡ codes "follow_up length 44 domain 4 from 0a00000000000011/1 seq 7 stamp 0 0")
-    × (datagram_text (3 ∷ drop 1 delay_req) ≡ codes "type 3 length 44 domain 4 from 0a00000000000011/1 seq 7")
+    (datagram_text delay_req
+    ≡ codes "delay_req length 44 domain 4 from 0a00000000000011/1 seq 7 stamp 0 0")
+    × (datagram_text delay_resp
+    ≡ codes "delay_resp length 54 domain 4 from 0a00000000000001/1 seq 7 stamp 10 300 to 0a00000000000011/1")
+    × (datagram_text announce
+    ≡ codes "announce length 64 domain 4 from 0a00000000000001/1 seq 0 class 84 steps 0 grandmaster 0a00000000000001")
+    × (datagram_text (8 ∷ drop 1 delay_req)
+    ≡ codes "follow_up length 44 domain 4 from 0a00000000000011/1 seq 7 stamp 0 0")
+    × (datagram_text (3 ∷ drop 1 delay_req)
+    ≡ codes "type 3 length 44 domain 4 from 0a00000000000011/1 seq 7")
     × (datagram_text (take 63 announce) ≡ codes "fault length 64 63")
     × (datagram_text (take 33 announce) ≡ codes "fault short 33")
     × (datagram_text [] ≡ codes "fault short 0")
@@ -23,14 +28,18 @@ DatagramsAreShown =
 -- each TLV with its numbers, and R at the end of a grant
 abbrev pub TlvsAreShown : Type 0
 TlvsAreShown =
-    (tlv_text (Request (record { code = 11; log = pos 1; seconds = 300 })) ≡ codes " request 11 1 300")
-    × (tlv_text (Grant (record { code = 0; log = negsuc 6; seconds = 300 }) true) ≡ codes " grant 0 -7 300 1")
-    × (tlv_text (Grant (record { code = 9; log = pos 0; seconds = 0 }) false) ≡ codes " grant 9 0 0 0")
+    (tlv_text (Request (record { code = 11; log = pos 1; seconds = 300 }))
+    ≡ codes " request 11 1 300")
+    × (tlv_text (Grant (record { code = 0; log = negsuc 6; seconds = 300 }) true)
+    ≡ codes " grant 0 -7 300 1")
+    × (tlv_text (Grant (record { code = 9; log = pos 0; seconds = 0 }) false)
+    ≡ codes " grant 9 0 0 0")
     × (tlv_text (Cancel 11) ≡ codes " cancel 11")
     × (tlv_text (Ack 0) ≡ codes " ack 0")
     × (tlv_text (Other 12288 2) ≡ codes " other 12288 2")
 
--- lines that do nothing count; the first line that is refused ends the output; the last may lack its 0A
+-- lines that do nothing count; the first line that is refused ends the output; the last may lack
+-- its 0A
 abbrev pub InputsAreShown : Type 0
 InputsAreShown =
     (shown [] ≡ codes "end 0\n")

@@ -1,5 +1,7 @@
--- What `show` writes for an input: a line for each datagram, up to the first line that is refused or to the end.
-use Rattle.std.specs.Prelude.{◌≡◌, ◌⊎◌, ℕ, List, [], ◌∷◌, ◌++◌, codes, Option, Some, None, Result, Ok, Err}
+-- What `show` writes for an input: a line for each datagram, up to the first line that is refused
+-- or to the end.
+use Rattle.std.specs.Prelude.{◌≡◌, ◌⊎◌, ℕ, List, [], ◌∷◌, ◌++◌, codes, Option, Some, None, Result}
+use Rattle.std.specs.Prelude.{Ok, Err}
 use Rattle.std.specs.Fmt.{decimal}
 use Rattle.std.specs.Io.KnownBytes.{append_known}
 use Rattle.ptu_outside.specs.Handing.{HasPut, joined}
@@ -26,7 +28,8 @@ bad_line number cause = numbered number (codes "bad " ++ text_of cause)
 abbrev pub end_line : ℕ → List ℕ
 end_line lines = codes "end " ++ (decimal lines ++ codes "\n")
 
--- what a line does by what it writes: the line of its datagram, nothing where it writes none, or it is refused
+-- what a line does by what it writes: the line of its datagram, nothing where it writes none, or it
+-- is refused
 abbrev pub shown_by : ℕ → Result (Option (List ℕ)) LineCause → Outcome (Unit {0}) Cause
 shown_by number (Ok None) = Goes tt []
 shown_by number (Ok (Some octets)) = Goes tt (numbered number (datagram_text octets) ∷ [])
@@ -51,7 +54,9 @@ abbrev pub shown : List ℕ → List ℕ
 shown input = joined (shown_lines input)
 
 -- all that belongs to the input was written, each line handed over in one piece, and it ends so
-pub record HasShown {K : Type 0} (written : K → Option (List ℕ)) (handed : K → Option (List (List ℕ))) (old new : K) (input : List ℕ) (ending : Ending Cause) : Type 0 where
+pub record HasShown {K : Type 0} (written : K → Option (List ℕ))
+    (handed : K → Option (List (List ℕ))) (old new : K) (input : List ℕ)
+    (ending : Ending Cause) : Type 0 where
   pub written_is : written new ≡ append_known (written old) (shown input)
   pub in_pieces : HasPut written handed old new (shown_lines input)
   pub ends : ending ≡ shown_ending input
@@ -59,4 +64,5 @@ pub record HasShown {K : Type 0} (written : K → Option (List ℕ)) (handed : K
 -- no line is refused but for these causes
 abbrev pub HasShowCause : Ending Cause → Type 0
 HasShowCause (endings.Whole lines) = Unit {0}
-HasShowCause (endings.Refused number cause) = (cause ≡ Size) ⊎ (cause ≡ Long) ⊎ (cause ≡ Text) ⊎ (cause ≡ Field 1)
+HasShowCause (endings.Refused number cause) =
+    (cause ≡ Size) ⊎ (cause ≡ Long) ⊎ (cause ≡ Text) ⊎ (cause ≡ Field 1)
