@@ -1,5 +1,5 @@
 #!/usr/bin/env bash
-# Tests the tools beside it, without rights and without a network, in less than a minute. What wants the program is
+# Tests the tools beside it, without rights and without a network, in a few seconds. What wants the program is
 # skipped where none is built: it is $PTPUNI, or the proved one in crates/ptpuni/out, or the one that ./ptpuni keeps.
 # The last line is 'N passed, N failed, N skipped'.
 cd "$(dirname "${BASH_SOURCE[0]}")" || exit
@@ -8,4 +8,4 @@ if ! command -v python3 >/dev/null; then
     echo "0 passed, 0 failed, 1 skipped"
     exit 0
 fi
-exec timeout -k 5 60 python3 -B tests/run.py
+exec timeout -k 5 300 python3 -B tests/run.py
