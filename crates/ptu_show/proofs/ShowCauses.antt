@@ -15,10 +15,10 @@ use Rattle.ptu_show.specs.Reading.{datagram_by}
 use Rattle.ptu_show.specs.Shown.{HasShowCause, shown_by, show_rules, shown_ending}
 
 -- a cause of the reader of lines
-abbrev IsOfReader : LineCause → Type 0
+abbrev pub IsOfReader : LineCause → Type 0
 IsOfReader cause = (cause ≡ Size) ⊎ (cause ≡ Long) ⊎ (cause ≡ Text)
 
-abbrev AreOfReader : List ScriptLine → Type 0
+abbrev pub AreOfReader : List ScriptLine → Type 0
 AreOfReader [] = Unit {0}
 AreOfReader (Whole text ∷ rest) = AreOfReader rest
 AreOfReader (Refused cause ∷ rest) = IsOfReader cause × AreOfReader rest
@@ -33,7 +33,7 @@ line_by : (piece : List ℕ) (cause : Option LineCause) (rest : List ScriptLine)
 line_by piece None rest h others = others
 line_by piece (Some cause) rest h others = (h, tt)
 
-lines_from-causes : (before : ℕ) (lines : List (List ℕ)) → AreOfReader (lines_from before lines)
+pub lines_from-causes : (before : ℕ) (lines : List (List ℕ)) → AreOfReader (lines_from before lines)
 lines_from-causes before [] = tt
 lines_from-causes before (piece ∷ rest) =
     line_by piece (cause_of before piece) (lines_from (before + length piece) rest)
