@@ -112,7 +112,12 @@ fn settings_with(alloc: Global, more: &str) -> Result<String, Fail> {
 
 #[test]
 fn a_grandmaster_is_served(rt: HostRuntime) -> Result<(), Fail> {
-    for more in ["", "senders = 2", "two_step = true", "senders = 2\ntwo_step = true"] {
+    for more in [
+        "",
+        "senders = 2",
+        "two_step = true",
+        "senders = 2\ntwo_step = true",
+    ] {
         let settings = settings_with(rt.alloc(), more)?;
         let ((status, text), answered) = served(&rt, settings.as_str(), false)?;
         assert_eq!(rt;

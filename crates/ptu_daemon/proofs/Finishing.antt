@@ -215,7 +215,7 @@ module _ {P C : Type 0} (ports : Ports P) (clocks : Clocks C) where
         ¬ HasRisen (ports.faults old') (ports.faults new') → GoesOn ports old' new' (sends_by (opened_as settings) i did.ran.events)
     one_goes_on i s f old new old' new' a b h still =
         let as_here : ¬ HasRisen (ports.faults old) (ports.faults new) =
-            subst (λ p. ¬ HasRisen (ports.faults p) (ports.faults new)) (sym a) (subst (λ p. ¬ HasRisen (ports.faults old') (ports.faults p)) b still) in
+        subst (λ p. ¬ HasRisen (ports.faults p) (ports.faults new)) (sym a) (subst (λ p. ¬ HasRisen (ports.faults old') (ports.faults p)) b still) in
         subst (λ p. GoesOn ports p new' (sends_by (opened_as settings) i did.ran.events)) a
         (subst (λ p. GoesOn ports old p (sends_by (opened_as settings) i did.ran.events)) (sym b)
         (subst (λ g. GoesOn ports old new (sends_by g i did.ran.events)) gm_is (h.goes_on (none_failed f _ _ h.risen as_here))))

@@ -147,11 +147,13 @@ whole_heard gm i t from (Ok (heard.DelayReq header)) =
     whole_if_by (eqb i (table_of c)) (responses (delay_answer gm.past x c) (response_of gm.config x c header))
     (whole_responses (delay_answer gm.past x c) (response_of gm.config x c header) (whole_response gm.config x c header))
 whole_heard gm i t from (Ok (heard.Asks header [])) = tt
-whole_heard gm i t from (Ok (heard.Asks header (item ∷ items))) = 
+whole_heard gm i t from (Ok (heard.Asks header (item ∷ items))) =
     let opened = opened_with gm.opening gm.config in
-    whole_if_by (eqb i 4) (reply_after gm.config opened gm.past t from header (item ∷ items) ∷ [])
-    (whole_signaling gm.config from header.source header.sequence
-    (map answer_to (decisions_of opened gm.past t (client_of from header) (item ∷ items))), tt)
+    whole_if_by (eqb i 4) (reply_after gm.config opened gm.past t from header (item ∷ items) ∷ []) (
+      whole_signaling gm.config from header.source header.sequence
+          (map answer_to (decisions_of opened gm.past t (client_of from header) (item ∷ items))),
+      tt,
+    )
 
 whole_event : (gm : Standing) (i : ℕ) (event : GmEvent) → AreWhole (event_sends gm i event)
 whole_event gm i (Take t from octets) = whole_heard gm i t from (heard_in gm.config octets)

@@ -88,12 +88,31 @@ module _ {P C : Type 0} (ports : Ports P) (clocks : Clocks C) (settings : GmSett
 
     were_sent : WereSent said.sent (map (two_steps ports).sent (senders_of (flagged_by clear before))) (map (two_steps ports).sent (senders_of (flagged_by flags after))) →
         WereSent said.sent (map (two_steps ports).sent (senders_of (flagged_by clear before))) (map (two_steps ports).sent (senders_of (flagged_by (by_counts ports before after) after)))
-    were_sent (n0, m0, e0, t0, (n1, m1, e1, t1, (n2, m2, e2, t2, (n3, m3, e3, t3, (n4, m4, e4, t4, last))))) =
-        (n0, m0, e0, recounted flags.p0 _ (ports.sent after.p0) _ clear0 t0,
-        (n1, m1, e1, recounted flags.p1 _ (ports.sent after.p1) _ clear1 t1,
-        (n2, m2, e2, recounted flags.p2 _ (ports.sent after.p2) _ clear2 t2,
-        (n3, m3, e3, recounted flags.p3 _ (ports.sent after.p3) _ clear3 t3,
-        (n4, m4, e4, recounted flags.p4 _ (ports.sent after.p4) _ clear4 t4, last)))))
+    were_sent (n0, m0, e0, t0, (n1, m1, e1, t1, (n2, m2, e2, t2, (n3, m3, e3, t3, (n4, m4, e4, t4, last))))) = (
+      n0,
+      m0,
+      e0,
+      recounted flags.p0 _ (ports.sent after.p0) _ clear0 t0,
+      (
+        n1,
+        m1,
+        e1,
+        recounted flags.p1 _ (ports.sent after.p1) _ clear1 t1,
+        (
+          n2,
+          m2,
+          e2,
+          recounted flags.p2 _ (ports.sent after.p2) _ clear2 t2,
+          (
+            n3,
+            m3,
+            e3,
+            recounted flags.p3 _ (ports.sent after.p3) _ clear3 t3,
+            (n4, m4, e4, recounted flags.p4 _ (ports.sent after.p4) _ clear4 t4, last),
+          ),
+        ),
+      ),
+    )
 
     module _ (given : Given) (is : IsGiven ports clocks before after given) (still : HaveNotRisen (faults_of ports before) (faults_of ports after)) where
       by_flags : AreServed (two_steps ports) settings given (flagged_by clear before) (flagged_by flags after) said
@@ -145,13 +164,16 @@ module _ {P C : Type 0} (ports : Ports P) (clocks : Clocks C) (settings : GmSett
       just = s.just;
       quiet = s.quiet;
       sent = were_sent s.sent;
-      goes_on = (s.goes_on.0, record {
-        p0 = λ still all. still_not _ _ still;
-        p1 = λ still all. still_not _ _ still;
-        p2 = λ still all. still_not _ _ still;
-        p3 = λ still all. still_not _ _ still;
-        p4 = λ still all. still_not _ _ still;
-      });
+      goes_on = (
+        s.goes_on.0,
+        record {
+          p0 = λ still all. still_not _ _ still;
+          p1 = λ still all. still_not _ _ still;
+          p2 = λ still all. still_not _ _ still;
+          p3 = λ still all. still_not _ _ still;
+          p4 = λ still all. still_not _ _ still;
+        },
+      );
       served = λ given is. are_served given (record {
         general = is.general;
         event = is.event;
