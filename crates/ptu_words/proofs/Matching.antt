@@ -123,7 +123,7 @@ only_out_of_range (Some p) known none =
   where
     by : (a b c d e f : Bool) (load : Option Command) → (a || (b || (c || (d || (e || f))))) ≡ true
         → (if a then Some Replay else if b then Some Show else if c then load else if d then Some Serve else if e then Some Slave
-            else if f then Some Join else None) ≡ None
+        else if f then Some Join else None) ≡ None
         → (c && not (is_some load)) ≡ true
     by true b c d e f load known none = absurd (let never : Some Replay ≡ None = none in cc)
     by false true c d e f load known none = absurd (let never : Some Show ≡ None = none in cc)

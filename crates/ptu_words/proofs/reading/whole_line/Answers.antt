@@ -19,6 +19,6 @@ returns c =
     let fourth : app_of c.in_ok-line-4.line ≡ with_bare (with_subcommand (with_bare (with_bare program (codes "replay")) (codes "show")) load_line.top) (codes "serve") =
     c.in_ok-line-4.ensures.shape c.new-serve.ensures.local ∙ ap₂ with_subcommand third (ap (λ (a : App). a.top) c.new-serve.ensures.app) in
     let fifth : app_of c.in_ok-line-5.line
-        ≡ with_bare (with_bare (with_subcommand (with_bare (with_bare program (codes "replay")) (codes "show")) load_line.top) (codes "serve")) (codes "slave") =
+    ≡ with_bare (with_bare (with_subcommand (with_bare (with_bare program (codes "replay")) (codes "show")) load_line.top) (codes "serve")) (codes "slave") =
     c.in_ok-line-5.ensures.shape c.new-slave.ensures.local ∙ ap₂ with_subcommand fourth (ap (λ (a : App). a.top) c.new-slave.ensures.app) in
     IfOk-weaker c.subcommand-6.result _ _ (λ line added. added.shape c.new-join.ensures.local ∙ ap₂ with_subcommand fifth (ap (λ (a : App). a.top) c.new-join.ensures.app)) c.subcommand-6.ensures
