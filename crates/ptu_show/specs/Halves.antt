@@ -1,7 +1,8 @@
 -- The halves of a Sync in two steps, and the Sync that two of them come to (IEEE 1588-2019 clause
 -- 9.5.9).
-use Rattle.std.specs.Prelude.{ℕ, ◌-◌, ◌/◌, ◌%◌, ◌^◌, ◌==◌, ◌&&◌, ℤ, pos, negsuc, ◌+ℤ◌, int_le, int_lt}
-use Rattle.std.specs.Prelude.{Bool, true, false, if◌then◌else◌, List, Option, Some, None, Result, Ok, Err}
+use Rattle.std.specs.Prelude.{ℕ, ◌-◌, ◌/◌, ◌%◌, ◌^◌, ◌==◌, ◌&&◌, List}
+use Rattle.std.specs.Prelude.{ℤ, pos, negsuc, ◌+ℤ◌, int_le, int_lt}
+use Rattle.std.specs.Prelude.{Bool, true, false, if◌then◌else◌, Option, Some, None, Result, Ok, Err}
 use Rattle.ptu_header.specs.declared.header.Header.{Header}
 use Rattle.ptu_header.specs.declared.header.PortIdentity.{PortIdentity}
 use Rattle.ptu_messages.specs.declared.message.Body.{Body}
@@ -24,7 +25,9 @@ without_two_steps header = record header { flags = header.flags - 2 ^ 9 }
 -- the half that a message is: a Sync with twoStepFlag, or a Follow_Up
 abbrev pub half_by : Header → Body → Option Half
 half_by header (bodies.Sync stamp) =
-    if has_two_steps header then Some (record { part = Sync; header = header; stamp = stamp }) else None
+    if has_two_steps header
+    then Some (record { part = Sync; header = header; stamp = stamp })
+    else None
 half_by header (bodies.FollowUp stamp) =
     Some (record { part = FollowUp; header = header; stamp = stamp })
 half_by header (bodies.DelayReq stamp) = None

@@ -1,7 +1,6 @@
 -- How each line that `join` writes is written.
 use Rattle.std.specs.Prelude.{ℕ, List, ◌++◌, codes}
 use Rattle.hex.specs.Hex.{encode_lower}
-use Rattle.ptu_script.specs.Cause.{cause_of_line}
 use Rattle.ptu_show.specs.declared.join_lines.JoinLine.{JoinLine}
 use Rattle.ptu_show.specs.declared.join_lines.JoinLine.TheVariants.{Pair, Overflow, Wait, Pass}
 use Rattle.ptu_show.specs.declared.join_lines.JoinLine.TheVariants.{Bad, End}

@@ -67,7 +67,7 @@ one_step_with z =
 abbrev pub elsewhere : Half
 elsewhere = with_header sync (record sync.header { domain = 5 })
 
--- either may come first; of three the third waits, and of two Syncs the second is the one that joins
+-- either may come first; of three the third waits, and of two Syncs the second joins
 abbrev pub HalvesJoin : Type 0
 HalvesJoin =
     (partner [] sync ≡ None)
@@ -83,13 +83,14 @@ HalvesJoin =
 abbrev pub KeysAreApart : Type 0
 KeysAreApart =
     (partner (elsewhere ∷ []) follow_up ≡ None)
-    × (partner (with_header sync (record sync.header { source = grandmaster }) ∷ []) follow_up ≡ None)
+    × (partner (with_header sync (record sync.header { source = grandmaster }) ∷ []) follow_up
+    ≡ None)
     × (partner (with_header sync (record sync.header { source = record client { port = 2 } }) ∷ [])
     follow_up ≡ None)
     × (partner (with_header sync (record sync.header { sequence = 8 }) ∷ []) follow_up ≡ None)
     × (partner (elsewhere ∷ sync ∷ []) follow_up ≡ Some sync)
-    × (partner (with_header follow_up (record follow_up.header { sequence = 8 }) ∷ sync ∷ []) follow_up
-    ≡ Some sync)
+    × (partner (with_header follow_up (record follow_up.header { sequence = 8 }) ∷ sync ∷ [])
+    follow_up ≡ Some sync)
 
 -- of a key waits its last half, where it does not join; keys are counted once
 abbrev pub HalvesWait : Type 0
@@ -112,9 +113,11 @@ HalvesAreJoined =
     ≡ None)
     × (joined (with_correction sync (pos 9223372036854775806)) (with_correction follow_up (pos 1))
     ≡ Some (one_step_with (pos 9223372036854775807)))
-    × (joined (with_correction sync (negsuc 9223372036854775807)) (with_correction follow_up (negsuc 0))
+    × (joined (with_correction sync (negsuc 9223372036854775807))
+    (with_correction follow_up (negsuc 0))
     ≡ None)
-    × (joined (with_correction sync (negsuc 9223372036854775806)) (with_correction follow_up (negsuc 0))
+    × (joined (with_correction sync (negsuc 9223372036854775806))
+    (with_correction follow_up (negsuc 0))
     ≡ Some (one_step_with (negsuc 9223372036854775807)))
 
 -- what datagrams spell: a Sync with twoStepFlag and a Follow_Up are halves; a Sync without it, a
@@ -142,7 +145,8 @@ InputsAreJoined =
     (text_behind [] (Some sync) ≡ codes "wait")
     × (text_behind (sync ∷ []) (Some follow_up)
     ≡ codes "pair 0012002c040004000000000000000200000000000a0000000000001100010007007f0000000000010000012c")
-    × (text_behind (with_correction sync (pos 9223372036854775807) ∷ []) (Some (with_correction follow_up (pos 1)))
+    × (text_behind (with_correction sync (pos 9223372036854775807) ∷ [])
+    (Some (with_correction follow_up (pos 1)))
     ≡ codes "overflow")
     × (text_behind (sync ∷ []) None ≡ codes "pass")
     × (joined_output [] ≡ codes "end 0 0\n")

@@ -14,7 +14,9 @@ partner [] half = None
 partner (before ∷ earlier) half =
     if same_key (key_of before) (key_of half)
     then
-    (if is_none (partner earlier before) && is_other before.part half.part then Some before else None)
+    (if is_none (partner earlier before) && is_other before.part half.part
+    then Some before
+    else None)
     else partner earlier half
 
 -- the same as a sentence on the list: in it stands the half that it joins with, which is of its key

@@ -1,5 +1,5 @@
 -- Which halves the halves that wait stand for.
-use Rattle.std.specs.Prelude.{◌≡◌, ◌<◌, ℕ, ◌^◌, true, List, IfSome}
+use Rattle.std.specs.Prelude.{◌≡◌, ◌<◌, ◌^◌, true, List, IfSome}
 use Rattle.std.specs.HashMap.{HashMap, get}
 use Rattle.ptu_header.specs.declared.header.Header.{Header}
 use Rattle.ptu_show.specs.declared.half.Part.{Part}
@@ -20,6 +20,7 @@ pub record IsHalf (half : Half) : Type 0 where
   pub seconds : half.stamp.seconds < 2 ^ 48
 
 -- of each key that half is kept which waits
-pub record StandsFor {S : Type 0} (kept : HashMap HalfKey Half S) (halves : List Half) : Type 0 where
-  pub found : (key : HalfKey) → get same_key kept key ≡ waiting halves key
-  pub read : (key : HalfKey) → IfSome (get same_key kept key) IsHalf
+pub record StandsFor {S : Type 0} (kept : HashMap HalfKey Half S) (halves : List Half) : Type 0
+  where
+    pub found : (key : HalfKey) → get same_key kept key ≡ waiting halves key
+    pub read : (key : HalfKey) → IfSome (get same_key kept key) IsHalf

@@ -30,14 +30,14 @@ pub fn sample_joins()
     ensures inputs { InputsAreJoined }
 {}
 
-/// A half joins with another exactly where the other is the half of its key directly before it, does
-/// not itself join, and is of the other type.
+/// A half joins with another exactly where the other is the half of its key directly before it,
+/// does not itself join, and is of the other type.
 pub fn joining_is_relation()
     ensures { (halves : List Half) (half before : Half) →
         (partner halves half ≡ Some before) ↔ JoinsWith halves half before }
 {}
 
-/// A Sync in one step without a correction that was sent in two steps, as it is with twoStepFlag and
+/// A Sync in one step without a correction that was sent in two, as it is with twoStepFlag and then
 /// as a Follow_Up of the time, comes back.
 pub fn two_steps_are_undone()
     ensures { (header : Header) (sent stamp : Stamp) → header.correction ≡ pos 0 → sync_of
