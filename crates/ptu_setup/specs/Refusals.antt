@@ -1,5 +1,5 @@
 -- Why a program refuses settings, and by which line of output.
-use Rattle.std.specs.Prelude.{◌≤◌, ℕ, Bool, true, false, not, ◌||◌, nat_lt, if◌then◌else◌, List, ◌++◌, count_by, codes, Option, Some, None}
+use Rattle.std.specs.Prelude.{◌≤◌, ℕ, Bool, false, not, ◌||◌, nat_lt, if◌then◌else◌, List, ◌++◌, count_by, codes, Option, Some, None}
 use Rattle.toml.specs.Data.{Members}
 use Rattle.ptu_config.specs.declared.key.Key.TheVariants.{Masters}
 use Rattle.ptu_config.specs.declared.fault.SettingFault.{SettingFault}

@@ -1,6 +1,6 @@
 -- Nothing that a grandmaster sends is a half of a Sync in two steps.
 use Rattle.std.proofs.Common.{◌≡◌, ◌≢◌, ℕ, ◌+◌, ◌%◌, Bool, true, false, cond, eqb, List, [], ◌∷◌, ◌++◌, map, length, Result, Ok, Err, refl, sym, ap, ◌∙◌, arith}
-use Rattle.std.specs.List.{AllByRecursion, flat_map}
+use Rattle.std.specs.List.{AllByRecursion}
 use Rattle.std.proofs.lemmas.Bool.{ne_eqb}
 use Rattle.ptu_units.specs.declared.kind.Kind.{Kind}
 use Rattle.ptu_units.specs.declared.kind.Kind.TheVariants.{Announce, Sync, DelayResp}
@@ -32,7 +32,6 @@ use Rattle.ptu_shard.specs.Answered.{responses}
 use Rattle.ptu_shard.specs.Messages.{channel_of, departure_of, message_of_response, message_of_turn, octets_sent, response_of}
 use Rattle.ptu_items.specs.declared.heard.Heard.{Heard}
 use Rattle.ptu_items.specs.declared.heard.Heard.TheVariants as heard
-use Rattle.ptu_items.specs.declared.item.Item.{Item}
 use Rattle.ptu_items.specs.declared.reason.GmReason.{GmReason}
 use Rattle.ptu_items.specs.Items.{heard_in}
 use Rattle.ptu_items.specs.Deciding.{answer_to, client_of, decisions_of, opened_with, reply_after}
@@ -43,7 +42,6 @@ use Rattle.ptu_lanes.specs.Rounds.{Exchange, replies, reply_if_any, reply_in, re
 use Rattle.ptu_daemon.specs.Sends.{Standing, event_sends, heard_sends, sends_by, standing_after}
 use Rattle.ptu_twostep.specs.Pairs.{step_at}
 use Rattle.ptu_twostep.specs.Steps.{has_two_steps, step_by, step_read, step_of}
-use Rattle.ptu_twostep.specs.declared.step.Step.{Step}
 use Rattle.ptu_twostep.specs.declared.step.Step.TheVariants.{OneStepSync, TwoStepSync, FollowUp, Other}
 use Rattle.ptu_twostep.specs.Telling.{is_half}
 

@@ -9,7 +9,6 @@ use Rattle.ptu_outside.specs.declared.port.Port.{Ghosts as Ports}
 use Rattle.ptu_outside.specs.Departure.{Departure}
 use Rattle.ptu_outside.specs.Faults.{HasRisen}
 use Rattle.ptu_outside.specs.Telling.{IfTold, append_told}
-use Rattle.ptu_shard.specs.declared.config.GmConfig.{GmConfig}
 use Rattle.ptu_items.specs.Replies.{cancels_to}
 use Rattle.ptu_config.specs.declared.settings.GmSettings.{GmSettings}
 use Rattle.ptu_rounds.specs.Ports.{HaveNotRisen, WereSent, senders_of}
@@ -20,12 +19,12 @@ use Rattle.ptu_lane_daemon.specs.Served.{IsControlled, ServesByLanes}
 use Rattle.ptu_twostep.specs.declared.two_host.Flags.{Flags}
 use Rattle.ptu_twostep.specs.Hosts.{clear, flagged_by, two_steps}
 use Rattle.ptu_twostep.specs.Pairs.{pairs}
-use Rattle.ptu_twostep.specs.Telling.{InTwoSteps, told_by}
+use Rattle.ptu_twostep.specs.Telling.{told_by}
 use Rattle.ptu_twostep.proofs.Pairs.{grown-pairs}
 use Rattle.ptu_daemon.specs.Events.{Given, config_of}
 use Rattle.ptu_daemon.specs.Served.{Said, opened_as, served_by}
 use Rattle.ptu_daemon.specs.Serving.{AreServed, HasServed, IsGiven, Serves, faults_of}
-use Rattle.ptu_twostep_daemon.specs.Serving.{AreSentInPairs, HasServedInTwo, TellsWhole, by_counts, has_risen}
+use Rattle.ptu_twostep_daemon.specs.Serving.{AreSentInPairs, HasServedInTwo, by_counts, has_risen}
 use Rattle.ptu_twostep_daemon.proofs.Halves.{AreWhole, whole_both, whole_cancels, whole_replies, whole_sends}
 
 -- ---- counts

@@ -1,6 +1,5 @@
 ghost use Rattle.std.specs.Prelude.{◌≤◌, IfOk};
 ghost use Rattle.ptu_outside.specs.MemoryPort.{FitAll};
-ghost use Rattle.ptu_config.specs.Limits.{IsGmInRange};
 
 use crate::serve_in_two_steps;
 use ptu_config::GmSettings;
