@@ -78,12 +78,12 @@ module _ (capacity : ℕ) (before acts : List Act) where
   more : (place : ℕ) (d : Act) → place < length acts → before ++ take (place + 1) acts ≡ (before ++ take place acts) ++ get_or acts place d ∷ []
   more place d lt = ap (λ more. before ++ more) (take_more acts place d lt) ∙ sym (append_assoc before (take place acts) (get_or acts place d ∷ []))
 
-  pub one_taken : (place : ℕ) (d : Act) (old new : Ledger) → place < length acts → AreTaken place old → act_finding capacity (before ++ take place acts) (get_or acts place d) ≡ None
+  pub one_taken : (place : ℕ) (d : Act) (old new : Ledger) → place < length acts → AreTaken place old → old.capacity ≡ capacity → act_finding old.capacity (before ++ take place acts) (get_or acts place d) ≡ None
       → AreKept new ((before ++ take place acts) ++ get_or acts place d ∷ []) → AreTaken (place + 1) new
-  one_taken place d old new lt s none kept = record {
+  one_taken place d old new lt s same none kept = record {
     kept = subst (AreKept new) (sym (more place d lt)) kept;
     rest = s.rest ∙ next place d lt
-        ∙ ap (λ o. or_later o (acts_finding capacity ((before ++ take place acts) ++ get_or acts place d ∷ []) (drop (place + 1) acts))) none
+        ∙ ap (λ o. or_later o (acts_finding capacity ((before ++ take place acts) ++ get_or acts place d ∷ []) (drop (place + 1) acts))) (ap (λ n. act_finding n (before ++ take place acts) (get_or acts place d)) (sym same) ∙ none)
         ∙ ap (λ b. acts_finding capacity b (drop (place + 1) acts)) (sym (more place d lt));
   }
 

@@ -19,6 +19,10 @@ pub if_none_map : {A P Q : Type 0} (o : Option A) → (o ≡ None → P → Q) �
 if_none_map None f p = f refl p
 if_none_map (Some x) f p = tt
 
+pub if_none_at : {A P : Type 0} (o : Option A) → o ≡ None → IfNone o P → P
+if_none_at None e p = p
+if_none_at (Some x) e p = absurd cc
+
 -- the comparison of two numbers says whether they are one
 cmp_same : (m n : ℕ) → is_eq (nat_cmp m n) ≡ eqb m n
 cmp_same m n = at (ltb m n) refl (eqb m n) refl

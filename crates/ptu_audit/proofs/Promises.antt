@@ -1,10 +1,12 @@
 -- What holds of the trails of a report in which nothing is found.
 use Rattle.std.proofs.Common.{◌≡◌, ◌∙◌, ℕ, ◌+◌, ◌++◌, ◌&&◌, Bool, true, false, cond, eqb, List, [], ◌∷◌, map, take, Option, Some, None, refl, sym, ap, subst}
-use Rattle.std.specs.Prelude.{IfSome, filter_map}
+use Rattle.std.specs.Prelude.{IfSome, Ok, filter_map}
 use Rattle.std.specs.List.{AllByRecursion, cons_option, filter, flat_map, fold, list_any}
 use Rattle.std.specs.Option.{unwrap_or}
 use Rattle.ptu_lines.specs.Script.{ScriptLine, Whole, Refused, script_lines}
-use Rattle.ptu_report.specs.Rules.{Outcome, Goes, Refuses, meaning_after, meaning_at, meaning_of}
+use Rattle.ptu_report.specs.declared.ending.Ending.{Ending}
+use Rattle.ptu_report.specs.declared.ending.Ending.TheVariants as endings
+use Rattle.ptu_report.specs.Rules.{Outcome, Goes, Refuses, closing, ending_after, ending_at, meaning_after, meaning_at, texts_at, texts_until}
 use Rattle.ptu_laws.proofs.Budget.{count-sound}
 use Rattle.ptu_laws.proofs.Capacity.{held-sound}
 use Rattle.ptu_laws.proofs.Payments.{message-paid, payments-apart}
@@ -31,10 +33,13 @@ use Rattle.ptu_audit.specs.declared.deed.Deed.{Deed}
 use Rattle.ptu_audit.specs.declared.deed.Deed.TheVariants as deeds
 use Rattle.ptu_audit.specs.Lines.{said_by}
 use Rattle.ptu_audit.specs.Groups.{act_at, acts_by, acts_of, answered, answered_by, answered_client, are_answered, are_told, changed, decides, deed_of, groups_of, is_of_script, last_apart, message_at, messages_in, said_deed, sheddings, shedding_of, with_line, in_front}
-use Rattle.ptu_audit.specs.Texts.{answer_text}
-use Rattle.ptu_audit.specs.Trails.{acts_in, answer_of, groups_finding, is_by, records_of, trail_of, trail_with}
-use Rattle.ptu_audit.specs.Reading.{Reading, audit_rules, end_read, is_disordered, line_read, opening, with_entry}
-use Rattle.ptu_audit.specs.Audited.{AllKeepPromises, KeepsPromises}
+use Rattle.ptu_audit.specs.Texts.{answer_text, refusal_text}
+use Rattle.ptu_audit.specs.declared.answer.Answer.{Answer}
+use Rattle.ptu_audit.specs.declared.answer.Answer.TheVariants as answers
+use Rattle.ptu_audit.specs.declared.deed.Finding.{Finding}
+use Rattle.ptu_audit.specs.Trails.{acts_in, answer_by, answer_of, groups_finding, is_by, records_of, trail_of, trail_with}
+use Rattle.ptu_audit.specs.Reading.{Reading, audit_rules, cause_of_line, end_read, is_disordered, line_read, opening, with_entry}
+use Rattle.ptu_audit.specs.Audited.{AllKeepPromises, IsKept, KeepsPromises, report_lines}
 use Rattle.ptu_audit.proofs.Faultless.{Laws, faultless}
 use Rattle.ptu_audit.proofs.Ranges.{IsDecisionInRange, IsSaidInRange, said_within}
 
@@ -194,11 +199,15 @@ records_in before (deeds.Sent stamp ip kind) h = (tt, tt)
 
 trail_from_in : (g : ℕ) (before : List Record) (acts : List Act) → AreInRange before → AreActs acts → AreInRange (fold trail_with before (filter (is_by g) acts))
 trail_from_in g before [] b h = b
-trail_from_in g before (act ∷ acts) b h = at (eqb act.grandmaster g)
+trail_from_in g before (act ∷ acts) b h =
+    at (eqb act.grandmaster g)
+    (trail_from_in g (trail_with before act) acts (all_append IsInRange before (records_of before act.deed) b (records_in before act.deed h.0)) h.1)
+    (trail_from_in g before acts b h.1)
   where
-    at : (own : Bool) → AreInRange (fold trail_with before (cond own (act ∷ filter (is_by g) acts) (filter (is_by g) acts)))
-    at true = trail_from_in g (trail_with before act) acts (all_append IsInRange before (records_of before act.deed) b (records_in before act.deed h.0)) h.1
-    at false = trail_from_in g before acts b h.1
+    at : (own : Bool) → AreInRange (fold trail_with (trail_with before act) (filter (is_by g) acts)) → AreInRange (fold trail_with before (filter (is_by g) acts))
+        → AreInRange (fold trail_with before (cond own (act ∷ filter (is_by g) acts) (filter (is_by g) acts)))
+    at true own other = own
+    at false own other = other
 
 trail_in : (g : ℕ) (acts : List Act) → AreActs acts → AreInRange (trail_of g acts)
 unfolding trail_of
@@ -206,22 +215,99 @@ trail_in g acts h = trail_from_in g [] acts tt h
 
 -- ---- the lines that are read
 
-entry_in : (r : Reading) (number : ℕ) (text : List ℕ) (after : Reading) (texts : List (List ℕ)) (o : Option ReportLine) → line_of text ≡ o → AreLines r.lines → line_read r number o ≡ Goes after texts → AreLines after.lines
-entry_in r number text after texts None is h e = absurd cc
-entry_in r number text after texts (Some (report.At script entry)) is h e = at (is_disordered r script) r.ended e
+-- a line that was taken: nothing is written, the capacity stays, and the lines are still in range
+record IsTaken (r after : Reading) (texts : List (List ℕ)) : Type 0 where
+  quiet : texts ≡ []
+  capacity : after.capacity ≡ r.capacity
+  lines : AreLines r.lines → AreLines after.lines
+
+taken : (r : Reading) (number : ℕ) (text : List ℕ) (after : Reading) (texts : List (List ℕ)) (o : Option ReportLine) → line_of text ≡ o → line_read r number o ≡ Goes after texts → IsTaken r after texts
+taken r number text after texts None is e = absurd cc
+taken r number text after texts (Some (report.At script entry)) is e = at (is_disordered r script) r.ended e
   where
-    at : (b c : Bool) → cond b (Refuses causes.Order) (cond c (Refuses causes.End) (Goes (with_entry r number script entry) [])) ≡ Goes after texts → AreLines after.lines
+    at : (b c : Bool) → cond b (Refuses causes.Order) (cond c (Refuses causes.End) (Goes (with_entry r number script entry) [])) ≡ Goes after texts → IsTaken r after texts
     at true c f = absurd cc
     at false true f = absurd cc
     at false false f =
         let same : with_entry r number script entry ≡ after = cc in
-        subst (λ (q : Reading). AreLines q.lines) same
-        (all_append (λ (l : Line). IsSaidInRange l.said) r.lines _ h (said_within text number entry (is ∙ cc), tt))
-entry_in r number text after texts (Some (report.End count datagrams)) is h e = at r.ended e
+        let none : [] ≡ texts = cc in
+        record {
+          quiet = sym none;
+          capacity = ap (λ (q : Reading). q.capacity) (sym same);
+          lines = λ h. subst (λ (q : Reading). AreLines q.lines) same
+              (all_append (λ (l : Line). IsSaidInRange l.said) r.lines (record { number = number; script = script; said = said_by entry } ∷ []) h (said_within text script entry is, tt));
+        }
+taken r number text after texts (Some (report.End count datagrams)) is e = at r.ended e
   where
-    at : (c : Bool) → cond c (Refuses causes.End) (Goes (record r { ended = true }) []) ≡ Goes after texts → AreLines after.lines
+    at : (c : Bool) → cond c (Refuses causes.End) (Goes (record r { ended = true }) []) ≡ Goes after texts → IsTaken r after texts
     at true f = absurd cc
-    at false f = let same : record r { ended = true } ≡ after = cc in subst (λ (q : Reading). AreLines q.lines) same h
+    at false f =
+        let same : record r { ended = true } ≡ after = cc in
+        let none : [] ≡ texts = cc in
+        record {
+          quiet = sym none;
+          capacity = ap (λ (q : Reading). q.capacity) (sym same);
+          lines = λ h. subst (λ (q : Reading). AreLines q.lines) same h;
+        }
+
+-- the lines of a report of which none is refused, and what is written then
+pub record IsRead (r : Reading) (before : ℕ) (lines : List ScriptLine) : Type 0 where
+  pub last : Reading
+  pub meaning : meaning_after audit_rules r before lines ≡ Some last
+  pub texts : texts_until audit_rules (closing audit_rules) r before lines ≡ answer_text (answer_of last.capacity last.lines) ∷ []
+  pub capacity : last.capacity ≡ r.capacity
+  pub in_range : AreLines r.lines → AreLines last.lines
+
+abbrev end_by : Bool → Reading → Outcome Reading AuditCause
+end_by b r = cond b (Goes r (answer_text (answer_of r.capacity r.lines) ∷ [])) (Refuses causes.End)
+
+whole_end : (r : Reading) (before n : ℕ) (b : Bool) → end_by b r ≡ end_by b r → ending_at (before + 1) (end_by b r) (λ after. endings.Whole before) ≡ endings.Whole n
+    → (meaning_at (end_by b r) Some ≡ Some r) × (texts_at audit_rules (before + 1) (end_by b r) (λ after. []) ≡ answer_text (answer_of r.capacity r.lines) ∷ [])
+whole_end r before n true is e = (refl, refl)
+whole_end r before n false is e = absurd cc
+
+pub whole_read : (r : Reading) (before n : ℕ) (lines : List ScriptLine) → ending_after audit_rules r before lines ≡ endings.Whole n → IsRead r before lines
+unfolding audit_rules
+whole_read r before n [] e =
+    let both = whole_end r before n r.ended refl e in
+    record { last = r; meaning = both.0; texts = both.1; capacity = refl; in_range = λ h. h }
+whole_read r before n (Refused cause ∷ rest) e = absurd cc
+whole_read r before n (Whole text ∷ rest) e = at (line_read r (before + 1) (line_of text)) refl e (λ after f. whole_read after (before + 1) n rest f)
+  where
+    at : (o : Outcome Reading AuditCause) → line_read r (before + 1) (line_of text) ≡ o → ending_at (before + 1) o (λ after. ending_after audit_rules after (before + 1) rest) ≡ endings.Whole n
+        → ((after : Reading) → ending_after audit_rules after (before + 1) rest ≡ endings.Whole n → IsRead after (before + 1) rest) → IsRead r before (Whole text ∷ rest)
+    at (Refuses cause) is f ih = absurd cc
+    at (Goes after texts) is f ih =
+        let later = ih after f in
+        let t = taken r (before + 1) text after texts (line_of text) refl is in
+        record {
+          last = later.last;
+          meaning = ap (λ o. meaning_at o (λ q. meaning_after audit_rules q (before + 1) rest)) is ∙ later.meaning;
+          texts =
+            ap (λ o. texts_at audit_rules (before + 1) o (λ q. texts_until audit_rules (closing audit_rules) q (before + 1) rest)) is
+            ∙ ap (λ ts. ts ++ texts_until audit_rules (closing audit_rules) after (before + 1) rest) t.quiet ∙ later.texts;
+          capacity = later.capacity ∙ t.capacity;
+          in_range = λ h. later.in_range (t.lines h);
+        }
+
+-- a refused line, and what is written then
+pub refused_read : (r : Reading) (before number : ℕ) (cause : AuditCause) (lines : List ScriptLine) → ending_after audit_rules r before lines ≡ endings.Refused number cause
+    → texts_until audit_rules (closing audit_rules) r before lines ≡ refusal_text number cause ∷ []
+unfolding audit_rules
+refused_read r before number cause [] e = at (end_read r) refl e
+  where
+    at : (o : Outcome Reading AuditCause) → end_read r ≡ o → ending_at (before + 1) o (λ after. endings.Whole before) ≡ endings.Refused number cause → texts_at audit_rules (before + 1) o (λ after. []) ≡ refusal_text number cause ∷ []
+    at (Refuses found) is f = let same : before + 1 ≡ number = cc in let one : found ≡ cause = cc in rw (same, one)
+    at (Goes after texts) is f = absurd cc
+refused_read r before number cause (Refused found ∷ rest) e = let same : before + 1 ≡ number = cc in let one : cause_of_line found ≡ cause = cc in rw (same, one)
+refused_read r before number cause (Whole text ∷ rest) e = at (line_read r (before + 1) (line_of text)) refl e (λ after f. refused_read after (before + 1) number cause rest f)
+  where
+    at : (o : Outcome Reading AuditCause) → line_read r (before + 1) (line_of text) ≡ o → ending_at (before + 1) o (λ after. ending_after audit_rules after (before + 1) rest) ≡ endings.Refused number cause
+        → ((after : Reading) → ending_after audit_rules after (before + 1) rest ≡ endings.Refused number cause → texts_until audit_rules (closing audit_rules) after (before + 1) rest ≡ refusal_text number cause ∷ [])
+        → texts_at audit_rules (before + 1) o (λ q. texts_until audit_rules (closing audit_rules) q (before + 1) rest) ≡ refusal_text number cause ∷ []
+    at (Refuses found) is f ih = let same : before + 1 ≡ number = cc in let one : found ≡ cause = cc in rw (same, one)
+    at (Goes after texts) is f ih =
+        ap (λ ts. ts ++ texts_until audit_rules (closing audit_rules) after (before + 1) rest) (taken r (before + 1) text after texts (line_of text) refl is).quiet ∙ ih after f
 
 -- an auditor kept to its promises
 pub promises : Laws → ((opening : ℕ) (trail : List Record) → AreInRange trail → IsFaultless opening trail → IsSound opening trail)
@@ -238,17 +324,12 @@ promises laws sound capacity lines h none g =
       within_budget = λ x. count-sound capacity trail s x;
     }
 
--- the lines of a report of which none is refused
-pub read_in : (r : Reading) (before : ℕ) (lines : List ScriptLine) (last : Reading) → AreLines r.lines → meaning_after audit_rules r before lines ≡ Some last → AreLines last.lines × (last.ended ≡ true)
-unfolding audit_rules
-read_in r before [] last h e = at r.ended refl e
+-- where the answer is yes, they kept their promises
+pub answer_kept : Laws → ((opening : ℕ) (trail : List Record) → AreInRange trail → IsFaultless opening trail → IsSound opening trail)
+    → (capacity : ℕ) (input : List ℕ) (lines : List Line) (answer : Answer) → report_lines capacity input ≡ Some lines → AreLines lines → answer ≡ answer_of capacity lines → IsKept capacity input (Ok answer)
+answer_kept laws sound capacity input lines (answers.Yes granted sent) is h e = (lines, is, promises laws sound capacity lines h (none (groups_finding capacity [] (groups_of lines)) e))
   where
-    at : (b : Bool) → r.ended ≡ b → meaning_at (cond b (Goes r (answer_text (answer_of r.capacity r.lines) ∷ [])) (Refuses causes.End)) Some ≡ Some last → AreLines last.lines × (last.ended ≡ true)
-    at true is f = let same : r ≡ last = cc in (subst (λ (q : Reading). AreLines q.lines) same h, subst (λ (q : Reading). q.ended ≡ true) same is)
-    at false is f = absurd cc
-read_in r before (Refused cause ∷ rest) last h e = absurd cc
-read_in r before (Whole text ∷ rest) last h e = at (line_read r (before + 1) (line_of text)) refl e
-  where
-    at : (o : Outcome Reading AuditCause) → line_read r (before + 1) (line_of text) ≡ o → meaning_at o (λ after. meaning_after audit_rules after (before + 1) rest) ≡ Some last → AreLines last.lines × (last.ended ≡ true)
-    at (Refuses cause) is f = absurd cc
-    at (Goes after texts) is f = read_in after (before + 1) rest last (entry_in r (before + 1) text after texts (line_of text) refl h is) f
+    none : (f : Option Finding) → answers.Yes granted sent ≡ answer_by f (acts_in (groups_of lines)) → f ≡ None
+    none None k = refl
+    none (Some finding) k = absurd cc
+answer_kept laws sound capacity input lines (answers.No line cause) is h e = tt

@@ -31,7 +31,6 @@ one_group (line ∷ rest) = (line ∷ rest) ∷ []
 
 -- the auditor has judged all groups
 pub record HasClosed (auditor : Auditor) (r : Reading) : Type 0 where
-  pub none : auditor.group.items ≡ []
   pub found : auditor.found ≡ groups_finding r.capacity [] (groups_of r.lines)
   pub kept : IfNone auditor.found (AreKept auditor.ledger (acts_in (groups_of r.lines)))
   pub capacity : auditor.ledger.capacity ≡ r.capacity
@@ -53,3 +52,11 @@ pub record StandsFor (auditor : Auditor) (r : Reading) : Type 0 where
   pub capacity : auditor.ledger.capacity ≡ r.capacity
   pub last : auditor.last ≡ last_script r.lines
   pub ended : auditor.ended ≡ r.ended
+
+-- the line was put into the last group
+pub record HasAdded (line : Line) (old new : Auditor) : Type 0 where
+  pub group : new.group.items ≡ old.group.items ++ line ∷ []
+  pub last : new.last ≡ line.script
+  pub found : new.found ≡ old.found
+  pub ledger : new.ledger ≡ old.ledger
+  pub ended : new.ended ≡ old.ended

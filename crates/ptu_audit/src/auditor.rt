@@ -6,7 +6,7 @@ ghost use Rattle.ptu_audit.specs.declared.line.Line.{Line};
 ghost use Rattle.ptu_audit.specs.declared.deed.Act.{Act};
 ghost use Rattle.ptu_audit.specs.Groups.{acts_of as acts_told};
 ghost use Rattle.ptu_audit.specs.Reading.{Reading, audit_rules, cause_of_line, is_disordered, line_read, opening, with_entry};
-ghost use Rattle.ptu_audit.specs.Standing.{AreKept, HasClosed, StandsFor};
+ghost use Rattle.ptu_audit.specs.Standing.{AreKept, HasAdded, HasClosed, StandsFor};
 ghost use Rattle.ptu_audit.specs.Trails.{answer_of, first_line, group_finding};
 ghost use Rattle.ptu_audit_lines.specs.declared.entry.ReportLine.TheVariants as report;
 ghost use Rattle.std.specs.Prelude.{Some, true, false};
@@ -101,14 +101,36 @@ impl Auditor {
         }
     }
 
-    // Judges the last group, which is whole, and lets go of it.
-    fn close_group(&mut self) -> Result<(), OutOfMemory>
+    // Judges the last group, which is whole.
+    fn judge_group(&mut self) -> Result<(), OutOfMemory>
         ensures { OnOk result ((r : Reading) → StandsFor self.old r → HasClosed self.new r) }
     {
-        if self.found.is_none() {
-            self.found = judge(self.alloc, &mut self.ledger, &self.group)?;
+        match self.found {
+            Some(_) => Ok(()),
+            None => {
+                self.found = judge(self.alloc, &mut self.ledger, &self.group)?;
+                Ok(())
+            }
         }
+    }
+
+    // Judges the last group, which is whole, and lets go of it.
+    fn close_group(&mut self) -> Result<(), OutOfMemory>
+        ensures none { OnOk result (self.new.group.items ≡ []) }
+        ensures closed { OnOk result ((r : Reading) → StandsFor self.old r →
+            HasClosed self.new r) }
+    {
+        self.judge_group()?;
         self.group.clear();
+        Ok(())
+    }
+
+    // Puts a line into the last group.
+    fn add(&mut self, line: Line) -> Result<(), OutOfMemory>
+        ensures { OnOk result (HasAdded line self.old self.new) }
+    {
+        self.last = line.script;
+        self.group.push(line)?;
         Ok(())
     }
 
@@ -117,12 +139,12 @@ impl Auditor {
         ensures { OnOk result ((r : Reading) → StandsFor self.old r → r.ended ≡ false →
             StandsFor self.new (record r { lines = r.lines ++ line ∷ [] })) }
     {
-        if !is_of_script(&self.group, line.script) {
+        if is_of_script(&self.group, line.script) {
+            self.add(line)
+        } else {
             self.close_group()?;
+            self.add(line)
         }
-        self.last = line.script;
-        self.group.push(line)?;
-        Ok(())
     }
 
     // Whether a line with this number of a script's line is out of order.
