@@ -78,14 +78,17 @@ module _ (capacity : ℕ) (before acts : List Act) where
   more : (place : ℕ) (d : Act) → place < length acts → before ++ take (place + 1) acts ≡ (before ++ take place acts) ++ get_or acts place d ∷ []
   more place d lt = ap (λ more. before ++ more) (take_more acts place d lt) ∙ sym (append_assoc before (take place acts) (get_or acts place d ∷ []))
 
-  pub one_taken : (place : ℕ) (d : Act) (old new : Ledger) → place < length acts → AreTaken place old → old.capacity ≡ capacity → act_finding old.capacity (before ++ take place acts) (get_or acts place d) ≡ None
-      → AreKept new ((before ++ take place acts) ++ get_or acts place d ∷ []) → AreTaken (place + 1) new
-  one_taken place d old new lt s same none kept = record {
-    kept = subst (AreKept new) (sym (more place d lt)) kept;
-    rest = s.rest ∙ next place d lt
-        ∙ ap (λ o. or_later o (acts_finding capacity ((before ++ take place acts) ++ get_or acts place d ∷ []) (drop (place + 1) acts))) (ap (λ n. act_finding n (before ++ take place acts) (get_or acts place d)) (sym same) ∙ none)
-        ∙ ap (λ b. acts_finding capacity b (drop (place + 1) acts)) (sym (more place d lt));
-  }
+  pub one_taken : (place : ℕ) (d item : Act) (old new : Ledger) → place < length acts → item ≡ get_or acts place d → AreTaken place old → old.capacity ≡ capacity
+      → act_finding old.capacity (before ++ take place acts) item ≡ None → AreKept new ((before ++ take place acts) ++ item ∷ []) → AreTaken (place + 1) new
+  one_taken place d item old new lt one s same none kept =
+      let here : act_finding capacity (before ++ take place acts) (get_or acts place d) ≡ None =
+          ap (act_finding capacity (before ++ take place acts)) (sym one) ∙ ap (λ n. act_finding n (before ++ take place acts) item) (sym same) ∙ none in
+      record {
+        kept = subst (AreKept new) (ap (λ a. (before ++ take place acts) ++ a ∷ []) one ∙ sym (more place d lt)) kept;
+        rest = s.rest ∙ next place d lt
+            ∙ ap (λ o. or_later o (acts_finding capacity ((before ++ take place acts) ++ get_or acts place d ∷ []) (drop (place + 1) acts))) here
+            ∙ ap (λ b. acts_finding capacity b (drop (place + 1) acts)) (sym (more place d lt));
+      }
 
   pub one_found : (place : ℕ) (d : Act) (ledger : Ledger) (finding : Finding) → place < length acts → AreTaken place ledger → Some finding ≡ act_finding capacity (before ++ take place acts) (get_or acts place d)
       → Some finding ≡ acts_finding capacity before acts

@@ -5,3 +5,4 @@ mod Grouping
 mod Ledgers
 mod Ranges
 mod Promises
+mod Answering

@@ -12,6 +12,7 @@ use crate::answer::{Answer, AuditFault};
 use crate::auditor::Auditor;
 use ptu_outside::{Sink, Source};
 use ptu_report::{Ending, Stop, report};
+use ptu_trail::laws::{faultless_so_far, faultless_trails};
 use std::alloc::Global;
 
 /// Audits the report that the source has left, whose grandmasters begin with this capacity, in
@@ -57,6 +58,9 @@ pub fn audit<S: Source, K: Sink>(
     ensures source_counts { CountsRead result (S.faults source.old) (S.faults source.new) }
     ensures sink_counts { CountsWrite result (K.faults sink.old) (K.faults sink.new) }
 {
+    // A trail without a fault is sound.
+    faultless_so_far();
+    faultless_trails();
     let mut auditor = Auditor::new(alloc, capacity);
     match report(alloc, &mut auditor, source, sink) {
         Ok(Ending::Whole { .. }) => match auditor.answer() {
