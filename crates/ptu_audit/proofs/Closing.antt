@@ -35,16 +35,18 @@ module _ (old new : Auditor) (r : Reading) (s : StandsFor old r) (last : new.las
       }
 
   -- nothing was found before
-  pub closed_judged : old.found ≡ None
-      → ((before : List Act) → AreKept old.ledger before → new.found ≡ group_finding old.ledger.capacity before old.group.items)
-      → IfNone new.found ((before : List Act) → AreKept old.ledger before → AreKept new.ledger (before ++ unwrap_or (acts_of old.group.items) []))
+  pub closed_judged : (group : List Line) → group ≡ old.group.items → old.found ≡ None
+      → ((before : List Act) → AreKept old.ledger before → new.found ≡ group_finding old.ledger.capacity before group)
+      → IfNone new.found ((before : List Act) → AreKept old.ledger before → AreKept new.ledger (before ++ unwrap_or (acts_of group) []))
       → new.ledger.capacity ≡ old.ledger.capacity → HasClosed new r
-  closed_judged is finding kept capacity =
+  closed_judged group same is finding kept capacity =
       let ledger : AreKept old.ledger (acts_in s.judged) = subst (λ f. IfNone f (AreKept old.ledger (acts_in s.judged))) is s.kept in
-      let acts : acts_in (groups_of r.lines) ≡ acts_in s.judged ++ unwrap_or (acts_of old.group.items) [] = ap acts_in s.groups ∙ acts-closed s.judged old.group.items in
+      let acts : acts_in (groups_of r.lines) ≡ acts_in s.judged ++ unwrap_or (acts_of group) [] =
+          ap acts_in s.groups ∙ acts-closed s.judged old.group.items ∙ ap (λ g. acts_in s.judged ++ unwrap_or (acts_of g) []) (sym same) in
       record {
         found =
-          finding (acts_in s.judged) ledger ∙ ap (λ n. group_finding n (acts_in s.judged) old.group.items) s.capacity
+          finding (acts_in s.judged) ledger ∙ ap (λ n. group_finding n (acts_in s.judged) group) s.capacity
+          ∙ ap (group_finding r.capacity (acts_in s.judged)) same
           ∙ ap (λ f. or_later f (group_finding r.capacity (acts_in s.judged) old.group.items)) (sym is ∙ s.found)
           ∙ sym (ap (groups_finding r.capacity []) s.groups ∙ finding-closed r.capacity s.judged old.group.items);
         kept = if_none_map new.found kept (λ goes. subst (AreKept new.ledger) (sym acts) (goes (acts_in s.judged) ledger));
