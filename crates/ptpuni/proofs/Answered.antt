@@ -27,7 +27,7 @@ module _ {A : Type 0} where
   is_status (Err (Line number cause)) = (2, lit< tt, refl)
   is_status (Err Read) = (3, lit< tt, refl)
   is_status (Err Write) = (4, lit< tt, refl)
-  is_status (Err OutOfMemory) = (6, lit< tt, refl)
+  is_status (Err OutOfMemory) = (7, lit< tt, refl)
 
   -- it says that the output was written to its end
   abbrev pub IsWritten : Result A LabFault → Type 0

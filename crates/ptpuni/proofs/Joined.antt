@@ -16,7 +16,7 @@ is_join_status (Ok lines) = (0, lit< tt, refl)
 is_join_status (Err (Line number cause)) = (2, lit< tt, refl)
 is_join_status (Err Read) = (3, lit< tt, refl)
 is_join_status (Err Write) = (4, lit< tt, refl)
-is_join_status (Err OutOfMemory) = (6, lit< tt, refl)
+is_join_status (Err OutOfMemory) = (7, lit< tt, refl)
 
 pub no_usage : (r : Result ℕ JoinFault) → status_of_joined r ≢ 64
 no_usage (Ok lines) e = omega (arith, e)

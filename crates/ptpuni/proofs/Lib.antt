@@ -1,4 +1,5 @@
 pub mod Answered
+pub mod Audited
 pub mod Completed
 pub mod DaemonRuns
 pub mod Joined

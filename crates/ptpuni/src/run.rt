@@ -12,12 +12,14 @@ ghost use Rattle.ptu_words.specs.declared.command.Command.{Command};
 ghost use Rattle.ptu_world.specs.Report.{report_lines};
 ghost use Rattle.ptpuni.specs.Daemons.{HasRunServe, HasRunSlave};
 ghost use Rattle.ptpuni.specs.Answers.{AreFaultsAnswered, AreWordsAnswered, IsReadWithin};
-ghost use Rattle.ptpuni.specs.Run.{output_of, statuses, stock_of, HasLoaded, HasReadAll, HasRun, IsAccepted, IsOfLab, IsStatusOf};
+ghost use Rattle.ptpuni.specs.Run.{output_of, statuses, stock_of, HasAudited, HasLoaded, HasReadAll, HasRun, IsAccepted, IsOfLab, IsStatusOf, IsWholeStatus};
 
 use crate::daemons::{run_serve, run_slave};
 use crate::status::{
-    BAD_LINE, HOST_FAULT, OUT_OF_MEMORY, SINK_FAULT, SOURCE_FAULT, USAGE, join_status, status_of,
+    BAD_LINE, HOST_FAULT, OUT_OF_MEMORY, SINK_FAULT, SOURCE_FAULT, USAGE, audit_status,
+    join_status, status_of,
 };
+use ptu_audit::audit;
 use ptu_lab::{Stock, load, replay, show};
 use ptu_outside::{Host, Sink, Source};
 use ptu_show::join;
@@ -52,6 +54,9 @@ fn run_command<W: Threads + Wait + Sync, S: Source, K: Sink, H: Host>(
         (stock_of stock.flags.items stock.gaps.items) command input (S.left source.new) result }
     ensures loaded { (number : ℕ) → command ≡ Command.Load number →
         HasLoaded K.written K.handed sink.old sink.new source.old source.new number result }
+    ensures audited { (capacity : ℕ) → command ≡ Command.Audit capacity →
+        HasAudited K.written K.handed sink.old sink.new host.old host.new
+        (S.left source.old) (S.left source.new) capacity result }
     ensures served { command ≡ Command.Serve → HasRunServe H.P.Port H.C.Clock K.written K.handed
         sink.old sink.new (H.opening host.old) (H.back host.new) (H.opened_at host.new)
         (S.left source.old) (S.left source.new) host.old host.new result }
@@ -88,6 +93,7 @@ fn run_command<W: Threads + Wait + Sync, S: Source, K: Sink, H: Host>(
         Command::Serve => run_serve(rt, alloc, source, sink, host),
         Command::Slave => run_slave(alloc, source, sink, host, stock),
         Command::Join => join_status(join(alloc, source, sink)),
+        Command::Audit(capacity) => audit_status(audit(alloc, capacity, source, sink)),
     }
 }
 
@@ -133,6 +139,13 @@ pub fn run<W: AllocGlobal + Threads + Wait + Sync, S: Source, K: Sink, H: Host>(
         → command_of (map (λ w. w.now) words.now) ≡ Some (Command.Load number)
         → HasLoaded K.written K.handed sink.old sink.new source.old source.new number result }
 
+    // An audit answers exactly what the report that is read comes to, by one line; where that is
+    // yes, its grandmasters kept their promises.
+    ensures audited { (capacity : ℕ)
+        → command_of (map (λ w. w.now) words.now) ≡ Some (Command.Audit capacity)
+        → HasAudited K.written K.handed sink.old sink.new host.old host.new
+        (S.left source.old) (S.left source.new) capacity result }
+
     // The headline, of the script that is read,
     ensures headline { (script : List ℕ) → S.left source.old ≡ Some script
         → KeepsHeadline (stock_of stock.flags.items stock.gaps.items) script }
@@ -156,7 +169,7 @@ pub fn run<W: AllocGlobal + Threads + Wait + Sync, S: Source, K: Sink, H: Host>(
         (H.opening host.old) (H.back host.new) (H.opened_at host.new)
         (length stock.flags.items) (length stock.gaps.items)
         (S.left source.old) (S.left source.new) host.old host.new result }
-    // The other words leave the host as it is.
+    // The words for which lines are read and written, but for an audit, leave the host as it is.
     ensures unused { (command : Command) → command_of (map (λ w. w.now) words.now) ≡ Some command
         → IsOfLab command → host.new ≡ host.old }
 
@@ -168,14 +181,15 @@ pub fn run<W: AllocGlobal + Threads + Wait + Sync, S: Source, K: Sink, H: Host>(
         → IsOfLab command → (input : List ℕ) → S.left source.old ≡ Some input
         → HasPutPart K.written K.handed sink.old sink.new
         (output_of (stock_of stock.flags.items stock.gaps.items) command input) }
-    // Where nothing failed and nothing is refused, the answer is 0, or no memory was found.
+    // Where nothing failed and nothing is refused, the answer is 0 (with 70 beside it for an
+    // audit), or no memory was found.
     ensures complete { (command : Command) → command_of (map (λ w. w.now) words.now) ≡ Some command
         → (input : List ℕ) → S.left source.old ≡ Some input
         → IsAccepted (stock_of stock.flags.items stock.gaps.items) command input
         → (HasRisen (S.faults source.old) (S.faults source.new) → ⊥)
         → (HasRisen (K.faults sink.old) (K.faults sink.new) → ⊥)
         → (HasRisen (H.faults host.old) (H.faults host.new) → ⊥)
-        → (result ≡ 0) ⊎ (result ≡ OUT_OF_MEMORY) }
+        → IsWholeStatus command result ⊎ (result ≡ OUT_OF_MEMORY) }
     // Where the source failed, that is all that belongs to the lines that were read whole.
     ensures all_read { result ≡ SOURCE_FAULT
         → (command : Command) → command_of (map (λ w. w.now) words.now) ≡ Some command

@@ -2,8 +2,9 @@
 
 ghost use Rattle.std.specs.Prelude.{◌≡◌};
 ghost use Rattle.ptpuni.specs.Daemons.{status_of_daemon};
-ghost use Rattle.ptpuni.specs.Run.{status_of_answer, status_of_joined};
+ghost use Rattle.ptpuni.specs.Run.{status_of_answer, status_of_audit, status_of_joined};
 
+use ptu_audit::{Answer, AuditFault};
 use ptu_lab::LabFault;
 use ptu_rounds::DaemonFault;
 use ptu_show::JoinFault;
@@ -22,6 +23,9 @@ pub const SINK_FAULT: u8 = 67;
 
 /// The host did not open its ports and clocks.
 pub const HOST_FAULT: u8 = 69;
+
+/// A grandmaster of the report that was audited did not keep its promises.
+pub const BROKEN_PROMISE: u8 = 70;
 
 /// No memory was found.
 pub const OUT_OF_MEMORY: u8 = 71;
@@ -49,6 +53,20 @@ pub(crate) fn join_status(answer: Result<u64, JoinFault>) -> u8
         Err(JoinFault::Read) => SOURCE_FAULT,
         Err(JoinFault::Write) => SINK_FAULT,
         Err(JoinFault::OutOfMemory) => OUT_OF_MEMORY,
+    }
+}
+
+/// The status of an answer of `audit`.
+pub(crate) fn audit_status(answer: Result<Answer, AuditFault>) -> u8
+    ensures { result ≡ status_of_audit answer }
+{
+    match answer {
+        Ok(Answer::Yes { .. }) => 0,
+        Ok(Answer::No { .. }) => BROKEN_PROMISE,
+        Err(AuditFault::Line { .. }) => BAD_LINE,
+        Err(AuditFault::Read) => SOURCE_FAULT,
+        Err(AuditFault::Write) => SINK_FAULT,
+        Err(AuditFault::OutOfMemory) => OUT_OF_MEMORY,
     }
 }
 

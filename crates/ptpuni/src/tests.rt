@@ -275,3 +275,18 @@ fn lines_of_daemons_are_waited_for(rt: HostRuntime) -> Result<(), Fail> {
     }
     Ok(())
 }
+
+#[test]
+fn a_report_is_audited(rt: HostRuntime) -> Result<(), Fail> {
+    let alloc = rt.alloc();
+    for (capacity, report, output, status) in [
+        ("32", ONE_GRANT, "yes grants 1 sent 0\n", 0),
+        ("7", ONE_GRANT, "no 1 fit\n", 70),
+        ("7", "", "1 bad end\n", 65),
+    ] {
+        let (found, text) = ran(&rt, &["audit", capacity], report, 0, 0, no_judges(alloc))?;
+        assert_eq!(rt; found, status);
+        assert_eq!(rt; text.as_str(), output);
+    }
+    Ok(())
+}

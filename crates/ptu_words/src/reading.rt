@@ -19,6 +19,8 @@ fn whole_line<'a>(alloc: Global) -> Result<clap::Command<'a>, AllocError>
     let join = clap::Command::new(alloc, "join");
     let number = Arg::new(alloc, "N").required(true);
     let load = clap::Command::new(alloc, "load").arg(number)?;
+    let capacity = Arg::new(alloc, "N").required(true);
+    let audit = clap::Command::new(alloc, "audit").arg(capacity)?;
     let program = clap::Command::new(alloc, "ptpuni")
         .no_binary_name(true)
         .subcommand_required(true)
@@ -28,7 +30,8 @@ fn whole_line<'a>(alloc: Global) -> Result<clap::Command<'a>, AllocError>
     let line = line.subcommand(load)?;
     let line = line.subcommand(serve)?;
     let line = line.subcommand(slave)?;
-    line.subcommand(join)
+    let line = line.subcommand(join)?;
+    line.subcommand(audit)
 }
 
 // What matches ask for.

@@ -1,12 +1,14 @@
-use Rattle.std.proofs.Common.{rules, inl, inr, arith, ◌≡◌, ◌∙◌, List, ℕ, Some, None, map, refl, sym, subst, ap}
+use Rattle.std.proofs.Common.{rules, inl, inr, arith, ◌≡◌, ◌∙◌, ◌⊎◌, List, Err, ℕ, Some, None, map, refl, sym, subst, ap}
 use Rattle.ptu_outside.proofs.Putting.{HasPutPart-none}
 use Rattle.ptu_words.specs.declared.command.Command.{Command}
-use Rattle.ptu_words.specs.declared.command.Command.TheVariants.{Load, Replay}
+use Rattle.ptu_words.specs.declared.command.Command.TheVariants.{Audit, Load, Replay}
 use Rattle.ptu_words.specs.CommandLine.{IsRefused, command_of}
 use Rattle.ptu_words.proofs.Matching.{refused, unnamed}
+use Rattle.ptu_audit.specs.declared.answer.AuditFault.TheVariants.{OutOfMemory}
 use Rattle.ptu_world.specs.Report.{report_lines}
 use Rattle.ptpuni.specs.Run.{HasRun, IsOfLab, status_of, stock_of}
 use Rattle.ptpuni.proofs.Answered.{zero_at_end}
+use Rattle.ptpuni.proofs.Audited.{audit_completes}
 use Rattle.ptpuni.proofs.Completed.{completed}
 use Rattle.ptpuni.proofs.run.run.Goals as goal
 
@@ -78,6 +80,12 @@ returns-in-Ok-Some-clause-complete g c = λ command is input told accepted sourc
     (λ lab memory. (c.run_command.ensures.output (subst IsOfLab (sym same) lab) input told source_still sink_still memory).status_is ∙ ap (λ k. status_of (stock_of c.args.stock.flags.items c.args.stock.gaps.items) k input) same)
     (λ e none. (c.run_command.ensures.served (same ∙ e)).accepts input told none)
     (λ e none. (c.run_command.ensures.followed (same ∙ e)).accepts input told none)
+    (λ capacity e whole.
+    let audited = c.run_command.ensures.audited capacity (same ∙ e) in
+    subst (λ s. ((s ≡ 0) ⊎ (s ≡ 70)) ⊎ (s ≡ 71)) (sym audited.status_is)
+    (audit_completes capacity input audited.answer (audited.exact input told) whole
+    (λ failed. source_still (c.run_command.ensures.source_fault (audited.status_is ∙ failed)))
+    (λ failed. sink_still (c.run_command.ensures.sink_fault (audited.status_is ∙ failed)))))
     (λ e. source_still (c.run_command.ensures.source_fault e))
     (λ e. sink_still (c.run_command.ensures.sink_fault e))
     (λ e. host_still (c.run_command.ensures.host_fault e))
@@ -120,4 +128,22 @@ returns-in-Err-clause-loaded g c = λ number is. record {
   whole = λ e. absurd (omega (arith, e));
   line = λ e. absurd (omega (arith, e));
   front = HasPutPart-none g.K.Sink.written g.K.Sink.handed c.args.sink.now _;
+}
+
+pub returns-in-Ok-Some-clause-audited : goal.returns-in-Ok-Some-clause-audited
+returns-in-Ok-Some-clause-audited g c = λ capacity is.
+    c.run_command.ensures.audited capacity
+    (one_command (map (λ w. w.now) c.args.words.now) c.in-Ok-Some.command (Audit capacity) (sym c.in-Ok-Some.field-0-is ∙ c.in-Ok-Some.ensures.command) is)
+
+pub returns-in-Err-clause-audited : goal.returns-in-Err-clause-audited
+returns-in-Err-clause-audited g c = λ capacity is. record {
+  answer = Err OutOfMemory;
+  status_is = refl;
+  exact = λ input told. tt;
+  promises = λ input told. tt;
+  line = λ input told. tt;
+  read_whole = tt;
+  front = λ input told. HasPutPart-none g.K.Sink.written g.K.Sink.handed c.args.sink.now _;
+  all_read = λ e. absurd (omega (arith, e));
+  unused = refl;
 }
