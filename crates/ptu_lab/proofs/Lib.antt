@@ -1,7 +1,7 @@
 pub mod LoadCounts
-pub mod Nodes
-pub mod Commands
-pub mod SettingUp
-pub mod Stock
-pub mod Masters
-pub mod Replaying
+pub mod LabNodes
+pub mod LabCommands
+pub mod LabSettingUp
+pub mod LabStock
+pub mod LabMasters
+pub mod LabReplaying

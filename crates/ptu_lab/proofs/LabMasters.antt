@@ -20,7 +20,7 @@ use Rattle.ptu_lab.specs.declared.lab.Lab.{Lab}
 use Rattle.ptu_lab.specs.Steps.{HasTaken, IsNoSlave, stock_of}
 use Rattle.ptu_nodes.specs.Standing.{IsSlaveNode, StandsAsSlave}
 use Rattle.ptu_lab.specs.Standing.{Agrees, StandsFor}
-use Rattle.ptu_lab.proofs.Nodes.{placed_agree}
+use Rattle.ptu_lab.proofs.LabNodes.{placed_agree}
 
 -- ---- what the command makes of a world
 

@@ -13,7 +13,7 @@ use Rattle.ptu_nodes.specs.declared.slave_node.SlaveNode.{SlaveNode}
 use Rattle.ptu_lab.specs.declared.lab.Node.{Node}
 use Rattle.ptu_lab.specs.declared.lab.Lab.{Lab}
 use Rattle.ptu_lab.specs.Standing.{Agrees, StandsAs, StandsFor}
-use Rattle.ptu_lab.proofs.Nodes.{placed_agree}
+use Rattle.ptu_lab.proofs.LabNodes.{placed_agree}
 
 abbrev with_node : World → ℕ → world.Node → World
 with_node w ip node = record w { nodes = placed ip node w.nodes }

@@ -26,7 +26,7 @@ use Rattle.ptu_nodes.specs.Doing.{HasDone}
 use Rattle.ptu_nodes.specs.Standing.{IsSlaveNode, StandsAsSlave}
 use Rattle.ptu_lab.specs.Standing.{Agrees, StandsAs, StandsFor}
 use Rattle.ptu_lab.specs.Steps.{HasActed, HasHanded, HasActedWithJudge, HasTaken, of_master, of_slave, stock_of}
-use Rattle.ptu_lab.proofs.Commands.{after_deed, after_judged, at_found, at_found_with_judge, at_node, at_node_with_judge}
+use Rattle.ptu_lab.proofs.LabCommands.{after_deed, after_judged, at_found, at_found_with_judge, at_node, at_node_with_judge}
 
 -- what follows from a fact on what was answered
 pub ok_also : {A E : Type 0} (r : Result A E) (P Q : A → Type 0) → IfOk r P → ((x : A) → P x → Q x) → IfOk r Q
