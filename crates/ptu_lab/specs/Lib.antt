@@ -1,3 +1,9 @@
+pub mod NodeStanding
+pub mod Doing
+pub mod GrandmasterPorts
+pub mod GrandmasterStatements
+pub mod SlaveStatements
+pub mod SlaveWords
 pub mod Standing
 pub mod Replayed
 pub mod Load

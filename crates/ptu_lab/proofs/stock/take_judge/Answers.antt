@@ -1,7 +1,7 @@
 use Rattle.ptu_script.specs.Limits.{IsNamed}
 use Rattle.std.proofs.Common.{◌∙◌, ap, subst}
 use Rattle.ptu_record.specs.declared.rule.Rule.TheVariants.{Gap}
-use Rattle.ptu_lab.proofs.Stock.{took_flag, took_gap}
+use Rattle.ptu_lab.proofs.LabStock.{took_flag, took_gap}
 use Rattle.ptu_lab.proofs.stock.take_judge.Goals as goal
 
 pub returns-in-Flag : goal.returns-in-Flag

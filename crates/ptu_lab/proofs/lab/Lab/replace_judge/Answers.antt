@@ -4,8 +4,8 @@ use Rattle.ptu_world.specs.Slaves.{plain_deed}
 use Rattle.ptu_lab.specs.Steps.{HasActedWithJudge, of_master, stock_of}
 use Rattle.ptu_world.specs.World.{stock_without}
 use Rattle.ptu_lab.specs.Standing.{StandsAs}
-use Rattle.ptu_lab.proofs.Commands.{judge_is}
-use Rattle.ptu_lab.proofs.Nodes.{judged_stands, nobody_judged}
+use Rattle.ptu_lab.proofs.LabCommands.{judge_is}
+use Rattle.ptu_lab.proofs.LabNodes.{judged_stands, nobody_judged}
 use Rattle.ptu_lab.proofs.lab.Lab.replace_judge.Goals as goal
 
 pub returns-in-None : goal.returns-in-None

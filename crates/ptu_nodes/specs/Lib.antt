@@ -1,6 +1,0 @@
-pub mod Standing
-pub mod Doing
-pub mod GrandmasterPorts
-pub mod GrandmasterStatements
-pub mod SlaveStatements
-pub mod SlaveWords
