@@ -49,19 +49,19 @@ struct Joiner {
 fn add_half(
     number: u64,
     half: &Half,
-    partner: &Option<Half>,
+    partner: Option<Half>,
     texts: &mut Texts,
 ) -> Result<(), OutOfMemory>
     requires half { IsHalf half.now }
-    requires partner { IfSome partner.now IsHalf }
-    requires other { IfSome partner.now (λ before. is_other before.part half.now.part ≡ true) }
+    requires partner { IfSome partner IsHalf }
+    requires other { IfSome partner (λ before. is_other before.part half.now.part ≡ true) }
     ensures { OnOk result
-        (texts.new ≡ texts.old ++ numbered number (half_text half.now partner.now) ∷ []) }
+        (texts.new ≡ texts.old ++ numbered number (half_text half.now partner) ∷ []) }
 {
     let Some(before) = partner else {
         return texts.add(&JoinLine::Wait { number });
     };
-    match half.joined(before) {
+    match half.joined(&before) {
         None => texts.add(&JoinLine::Overflow { number }),
         Some(sync) => {
             let mut octets = [0; 64];
@@ -92,7 +92,7 @@ fn add_datagram(
         return texts.add(&JoinLine::Pass { number });
     };
     let partner = waiting.take(half)?;
-    add_half(number, &half, &partner, texts)
+    add_half(number, &half, partner, texts)
 }
 
 impl Reporter for Joiner {
