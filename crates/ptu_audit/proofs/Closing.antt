@@ -24,8 +24,8 @@ module _ (old new : Auditor) (r : Reading) (s : StandsFor old r) (last : new.las
   pub closed_found : (finding : Finding) → old.found ≡ Some finding → new.found ≡ old.found → new.ledger ≡ old.ledger → HasClosed new r
   closed_found finding is found ledger =
       let there : groups_finding r.capacity [] (groups_of r.lines) ≡ Some finding =
-          ap (groups_finding r.capacity []) s.groups ∙ finding-closed r.capacity s.judged old.group.items
-          ∙ ap (λ f. or_later f (group_finding r.capacity (acts_in s.judged) old.group.items)) (sym s.found ∙ is) in
+      ap (groups_finding r.capacity []) s.groups ∙ finding-closed r.capacity s.judged old.group.items
+      ∙ ap (λ f. or_later f (group_finding r.capacity (acts_in s.judged) old.group.items)) (sym s.found ∙ is) in
       record {
         found = found ∙ is ∙ sym there;
         kept = subst (λ f. IfNone f (AreKept new.ledger (acts_in (groups_of r.lines)))) (sym (found ∙ is)) tt;
@@ -42,13 +42,13 @@ module _ (old new : Auditor) (r : Reading) (s : StandsFor old r) (last : new.las
   closed_judged group same is finding kept capacity =
       let ledger : AreKept old.ledger (acts_in s.judged) = subst (λ f. IfNone f (AreKept old.ledger (acts_in s.judged))) is s.kept in
       let acts : acts_in (groups_of r.lines) ≡ acts_in s.judged ++ unwrap_or (acts_of group) [] =
-          ap acts_in s.groups ∙ acts-closed s.judged old.group.items ∙ ap (λ g. acts_in s.judged ++ unwrap_or (acts_of g) []) (sym same) in
+      ap acts_in s.groups ∙ acts-closed s.judged old.group.items ∙ ap (λ g. acts_in s.judged ++ unwrap_or (acts_of g) []) (sym same) in
       record {
         found =
-          finding (acts_in s.judged) ledger ∙ ap (λ n. group_finding n (acts_in s.judged) group) s.capacity
-          ∙ ap (group_finding r.capacity (acts_in s.judged)) same
-          ∙ ap (λ f. or_later f (group_finding r.capacity (acts_in s.judged) old.group.items)) (sym is ∙ s.found)
-          ∙ sym (ap (groups_finding r.capacity []) s.groups ∙ finding-closed r.capacity s.judged old.group.items);
+            finding (acts_in s.judged) ledger ∙ ap (λ n. group_finding n (acts_in s.judged) group) s.capacity
+            ∙ ap (group_finding r.capacity (acts_in s.judged)) same
+            ∙ ap (λ f. or_later f (group_finding r.capacity (acts_in s.judged) old.group.items)) (sym is ∙ s.found)
+            ∙ sym (ap (groups_finding r.capacity []) s.groups ∙ finding-closed r.capacity s.judged old.group.items);
         kept = if_none_map new.found kept (λ goes. subst (AreKept new.ledger) (sym acts) (goes (acts_in s.judged) ledger));
         capacity = capacity ∙ s.capacity;
         last = last ∙ s.last;
@@ -111,8 +111,8 @@ module _ (old new : Auditor) (r : Reading) (line : Line) where
       record {
         judged = groups_of r.lines;
         groups =
-          groups_of-push r.lines line ∙ ap (λ gs. with_line gs line) s.groups ∙ begins s.judged old.group.items line (s.begun unended) is
-          ∙ ap (λ gs. gs ++ (line ∷ []) ∷ []) (sym s.groups) ∙ ap (λ g. groups_of r.lines ++ one_group g) (sym alone);
+            groups_of-push r.lines line ∙ ap (λ gs. with_line gs line) s.groups ∙ begins s.judged old.group.items line (s.begun unended) is
+            ∙ ap (λ gs. gs ++ (line ∷ []) ∷ []) (sym s.groups) ∙ ap (λ g. groups_of r.lines ++ one_group g) (sym alone);
         begun = λ _. subst (IsBegun (groups_of r.lines)) (sym alone) tt;
         found = h.found ∙ c.found;
         kept = subst (λ (f : Option Finding). IfNone f (AreKept new.ledger (acts_in (groups_of r.lines)))) (sym h.found) (subst (λ (l : Ledger). IfNone mid.found (AreKept l (acts_in (groups_of r.lines)))) (sym h.ledger) c.kept);

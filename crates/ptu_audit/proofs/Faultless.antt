@@ -19,7 +19,7 @@ use Rattle.ptu_audit.specs.Groups.{acts_of}
 use Rattle.ptu_audit.specs.Trails.{act_finding, acts_finding, acts_in, finding_of, first_line, group_finding, groups_finding, or_later, records_of, told_finding, trail_of}
 use Rattle.ptu_audit.proofs.Ledgers.{trail_of-push}
 
-none_both : (first later : Option Finding) → or_later first later ≡ None → (first ≡ None) × (later ≡ None)
+pub none_both : (first later : Option Finding) → or_later first later ≡ None → (first ≡ None) × (later ≡ None)
 none_both None later e = (refl, e)
 none_both (Some finding) later e = absurd cc
 
@@ -37,6 +37,7 @@ pub record Laws : Type 0 where
   pub one_more : (opening : ℕ) (trail : List Record) (r : Record) → IsFaultless opening trail → is_shedding r ≡ false → fault_of opening trail r [] ≡ None → IsFaultless opening (trail ++ r ∷ [])
   pub change : (opening : ℕ) (trail : List Record) (x capacity : ℕ) (shed : List Shedding) → IsFaultless opening trail
       → first_fault opening trail (history.Capacity x capacity ∷ map (record_of x) shed) ≡ None → IsFaultless opening (trail ++ history.Capacity x capacity ∷ map (record_of x) shed)
+  pub first : (opening : ℕ) (trail : List Record) → IsFaultless opening trail → first_fault opening [] trail ≡ None
 
 more_records : (laws : Laws) (capacity : ℕ) (before : List Record) (deed : Deed) → IsFaultless capacity before → first_fault capacity before (records_of before deed) ≡ None → IsFaultless capacity (before ++ records_of before deed)
 more_records laws capacity before (Granted at client kind log until) f none = laws.one_more capacity before (history.Granted at client kind log until) f refl (front_none (fault_of capacity before (history.Granted at client kind log until) []) none)
@@ -73,7 +74,7 @@ module _ (laws : Laws) where
   one_group capacity before line None f none = absurd cc
   one_group capacity before line (Some acts) f none = more_acts capacity before acts f none
 
-  acts_in-more : (before : List (List Line)) (group : List Line) → acts_in (before ++ group ∷ []) ≡ acts_in before ++ unwrap_or (acts_of group) []
+  pub acts_in-more : (before : List (List Line)) (group : List Line) → acts_in (before ++ group ∷ []) ≡ acts_in before ++ unwrap_or (acts_of group) []
   acts_in-more before group =
       flat_map-append (λ (g : List Line). unwrap_or (acts_of g) []) before (group ∷ [])
       ∙ ap (λ more. acts_in before ++ more) (append-nil (unwrap_or (acts_of group) []))

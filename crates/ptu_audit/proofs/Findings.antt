@@ -82,7 +82,7 @@ module _ (capacity : ℕ) (before acts : List Act) where
       → act_finding old.capacity (before ++ take place acts) item ≡ None → AreKept new ((before ++ take place acts) ++ item ∷ []) → AreTaken (place + 1) new
   one_taken place d item old new lt one s same none kept =
       let here : act_finding capacity (before ++ take place acts) (get_or acts place d) ≡ None =
-          ap (act_finding capacity (before ++ take place acts)) (sym one) ∙ ap (λ n. act_finding n (before ++ take place acts) item) (sym same) ∙ none in
+      ap (act_finding capacity (before ++ take place acts)) (sym one) ∙ ap (λ n. act_finding n (before ++ take place acts) item) (sym same) ∙ none in
       record {
         kept = subst (AreKept new) (ap (λ a. (before ++ take place acts) ++ a ∷ []) one ∙ sym (more place d lt)) kept;
         rest = s.rest ∙ next place d lt

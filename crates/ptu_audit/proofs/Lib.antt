@@ -6,3 +6,4 @@ mod Ledgers
 mod Ranges
 mod Promises
 mod Answering
+mod Exact

@@ -284,8 +284,8 @@ whole_read r before n (Whole text ∷ rest) e = at (line_read r (before + 1) (li
           last = later.last;
           meaning = ap (λ o. meaning_at o (λ q. meaning_after audit_rules q (before + 1) rest)) is ∙ later.meaning;
           texts =
-            ap (λ o. texts_at audit_rules (before + 1) o (λ q. texts_until audit_rules (closing audit_rules) q (before + 1) rest)) is
-            ∙ ap (λ ts. ts ++ texts_until audit_rules (closing audit_rules) after (before + 1) rest) t.quiet ∙ later.texts;
+              ap (λ o. texts_at audit_rules (before + 1) o (λ q. texts_until audit_rules (closing audit_rules) q (before + 1) rest)) is
+              ∙ ap (λ ts. ts ++ texts_until audit_rules (closing audit_rules) after (before + 1) rest) t.quiet ∙ later.texts;
           capacity = later.capacity ∙ t.capacity;
           in_range = λ h. later.in_range (t.lines h);
         }

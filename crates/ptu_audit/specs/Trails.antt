@@ -1,12 +1,13 @@
 -- The trails of grandmasters, and the first finding of an audit.
 use Rattle.std.specs.Prelude.{ℕ, ◌+◌, ◌==◌, Bool, true, false, List, [], ◌∷◌, ◌++◌, map, Option, Some, None, option_map, flat_map}
-use Rattle.std.specs.List.{count_by, filter, fold}
+use Rattle.std.specs.Prelude.{IsSome}
+use Rattle.std.specs.List.{AllByRecursion, count_by, filter, fold}
 use Rattle.std.specs.Option.{unwrap_or}
 use Rattle.ptu_history.specs.History as history
 use Rattle.ptu_history.specs.History.{Record}
 use Rattle.ptu_trail.specs.declared.cause.Fault.{Fault}
 use Rattle.ptu_trail.specs.declared.cause.NoCause.TheVariants as causes
-use Rattle.ptu_trail.specs.Faults.{first_fault, message_to, record_of}
+use Rattle.ptu_trail.specs.Faults.{IsFaultless, first_fault, message_to, record_of}
 use Rattle.ptu_audit.specs.declared.answer.Answer.{Answer}
 use Rattle.ptu_audit.specs.declared.answer.Answer.TheVariants as answers
 use Rattle.ptu_audit.specs.declared.line.Line.{Line}
@@ -104,3 +105,8 @@ answer_by (Some finding) acts = answers.No finding.line finding.cause
 -- the answer to the lines of a report, of grandmasters that begin with this capacity
 abbrev pub answer_of : ℕ → List Line → Answer
 answer_of capacity lines = answer_by (groups_finding capacity [] (groups_of lines)) (acts_in (groups_of lines))
+
+-- each group is as it must be, and no grandmaster's trail has a fault
+pub record AreSound (capacity : ℕ) (groups : List (List Line)) : Type 0 where
+  pub told : AllByRecursion (λ group. IsSome (acts_of group)) groups
+  pub trails : (grandmaster : ℕ) → IsFaultless capacity (trail_of grandmaster (acts_in groups))

@@ -54,11 +54,7 @@ pub(crate) struct Auditor {
 }
 
 // What is found in a group, after what the ledger has.
-fn judge(
-    alloc: Global,
-    ledger: &mut Ledger,
-    group: &[Line],
-) -> Result<Option<Finding>, OutOfMemory>
+fn judge(alloc: Global, ledger: &mut Ledger, group: &[Line]) -> Result<Option<Finding>, OutOfMemory>
     ensures finding { IfOk result (λ found. (before : List Act) → AreKept ledger.old before →
         found ≡ group_finding ledger.old.capacity before group.now) }
     ensures kept { IfOk result (λ found. IfNone found ((before : List Act) →
@@ -234,10 +230,12 @@ impl Reporter for Auditor {
         let mut buffer = [0; 2048];
         match read_line(line, &mut buffer) {
             None => Ok(Some(AuditCause::Form)),
-            Some(ReportLine::At {
-                number: script,
-                entry,
-            }) => self.take_entry(number, script, &entry),
+            Some(
+                ReportLine::At {
+                    number: script,
+                    entry,
+                },
+            ) => self.take_entry(number, script, &entry),
             Some(ReportLine::End { .. }) => Ok(self.take_end()),
         }
     }

@@ -107,11 +107,7 @@ fn are_answered(asked: &[Line], list: &[Tlv]) -> bool
 }
 
 // What the lines tell that are answered by this, or nothing where they are not.
-fn answered_by(
-    alloc: Global,
-    asked: &[Line],
-    said: &Said,
-) -> Result<Option<Vec<Act>>, OutOfMemory>
+fn answered_by(alloc: Global, asked: &[Line], said: &Said) -> Result<Option<Vec<Act>>, OutOfMemory>
     ensures { IfOk result (λ told. option_map (λ acts. acts.items) told
         ≡ specs.answered_by asked.now said.now) }
 {
@@ -151,10 +147,7 @@ fn all_tell(grandmaster: u32, sheds: &[Line], sends: &[Line]) -> bool
     ensures { result ≡ list_all (λ pair. tells_told grandmaster pair.0.said pair.1.said)
         (zip sheds.now sends.now) }
 {
-    sheds
-        .iter()
-        .zip(sends)
-        .all(|(shed, send)| tells_of(grandmaster, &shed.said, &send.said))
+    sheds.iter().zip(sends).all(|(shed, send)| tells_of(grandmaster, &shed.said, &send.said))
 }
 
 // Whether the first half of these lines are sheddings, and the second half tells of each, in order.

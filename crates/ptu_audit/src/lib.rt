@@ -8,6 +8,7 @@ mod auditing;
 mod auditor;
 mod deed;
 mod groups;
+pub mod laws;
 mod ledger;
 mod line;
 mod texts;

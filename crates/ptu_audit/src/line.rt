@@ -24,7 +24,10 @@ pub(crate) enum Said {
         at: u64,
     },
     /// A grant was shed.
-    Shed { kind: Kind, client: Client },
+    Shed {
+        kind: Kind,
+        client: Client,
+    },
     /// A Signaling was sent (IEEE 1588-2019 clause 13.12).
     Signaled {
         from: u32,
@@ -130,7 +133,10 @@ pub(crate) fn said_by(alloc: Global, entry: &Entry<'_>) -> Result<Said, OutOfMem
             client: *client,
         }),
         Entry::Send {
-            from, to, octets, ..
+            from,
+            to,
+            octets,
+            ..
         } => {
             let read = read(alloc, octets.as_slice())?;
             Ok(sent_as(*from, *to, read))

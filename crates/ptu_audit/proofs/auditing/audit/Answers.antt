@@ -21,7 +21,7 @@ returns-in-Ok-clause-promises g c = λ input is.
     let read = whole_read (opening c.args.capacity) 0 c.in-Ok-Whole.field-0-0 (script_lines input) (sym reported.ends) in
     let last = (rw c.in-Ok-Whole.field-0-is at c.in-Ok-Whole.ensures.last) tt (opening c.args.capacity) c.new-auditor.ensures input is in
     let laws = c.faultless_so_far.ensures in
-    answer_kept (record { none = laws.none; one_more = laws.one_more; change = laws.change }) c.faultless_trails.ensures.sound c.args.capacity input read.last.lines c.in-Ok.answer
+    answer_kept (record { none = laws.none; one_more = laws.one_more; change = laws.change; first = laws.first }) c.faultless_trails.ensures.sound c.args.capacity input read.last.lines c.in-Ok.answer
     (lines_are c.args.capacity input read c.report.new.reporter c.in-Ok.answer c.in-Ok.ensures.answer last) (read.in_range tt)
     (answer_is c.args.capacity input read c.report.new.reporter c.in-Ok.answer c.in-Ok.ensures.answer last)
 
