@@ -153,13 +153,13 @@ out_of_range (Some p) out =
     let value = first_of (codes "N") p.1 in
     elim (either_holds (bytes_eq p.0 (codes "load") && not (is_some (load_of value))) (bytes_eq p.0 (codes "audit") && not (is_some (audit_of value))) out) [
       | inl load ↦
-        let parts = and_parts (bytes_eq p.0 (codes "load")) (not (is_some (load_of value))) load in
-        let name : p.0 ≡ codes "load" = (bytes_eq-Decides p.0 (codes "load")).0 parts.0 in
-        ap (λ n. command_named n value) name ∙ nothing_loaded (load_of value) parts.1
+          let parts = and_parts (bytes_eq p.0 (codes "load")) (not (is_some (load_of value))) load in
+          let name : p.0 ≡ codes "load" = (bytes_eq-Decides p.0 (codes "load")).0 parts.0 in
+          ap (λ n. command_named n value) name ∙ nothing_loaded (load_of value) parts.1
       | inr audit ↦
-        let parts = and_parts (bytes_eq p.0 (codes "audit")) (not (is_some (audit_of value))) audit in
-        let name : p.0 ≡ codes "audit" = (bytes_eq-Decides p.0 (codes "audit")).0 parts.0 in
-        ap (λ n. command_named n value) name ∙ nothing_loaded (audit_of value) parts.1
+          let parts = and_parts (bytes_eq p.0 (codes "audit")) (not (is_some (audit_of value))) audit in
+          let name : p.0 ≡ codes "audit" = (bytes_eq-Decides p.0 (codes "audit")).0 parts.0 in
+          ap (λ n. command_named n value) name ∙ nothing_loaded (audit_of value) parts.1
     ]
 
 -- refused words ask for none

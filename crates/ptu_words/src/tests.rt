@@ -11,7 +11,10 @@ fn words_are_read(rt: HostRuntime) -> Result<(), OutOfMemory> {
         (["serve"].as_slice(), Some(Command::Serve)),
         (["slave"].as_slice(), Some(Command::Slave)),
         (["join"].as_slice(), Some(Command::Join)),
-        (["audit", "16777216"].as_slice(), Some(Command::Audit(16777216))),
+        (
+            ["audit", "16777216"].as_slice(),
+            Some(Command::Audit(16777216)),
+        ),
         (["audit", "16777217"].as_slice(), None),
         (["load", "2001"].as_slice(), None),
         (["show", "x"].as_slice(), None),
