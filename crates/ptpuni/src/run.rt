@@ -101,7 +101,6 @@ fn run_command<W: Threads + Wait + Sync, S: Source, K: Sink, H: Host>(
 /// with: 0 where the source was read to its end (but by a load, which reads nothing) and the whole
 /// output was written, or one of the numbers of `status`. The judges of slaves are taken from the
 /// stock, which is to be fresh.
-#[tactic(auto, using(ptu_lab::proofs::KeepingHeadline::keeps_headline))]
 pub fn run<W: AllocGlobal + Threads + Wait + Sync, S: Source, K: Sink, H: Host>(
     rt: &W,
     words: &[&str],

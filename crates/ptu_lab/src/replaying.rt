@@ -100,7 +100,6 @@ impl Reporter for Lab {
 /// `Line` exactly where a line is refused, after the line of the report that names it was written.
 /// `Read` exactly where the source failed, `Write` exactly where the sink failed, and
 /// `OutOfMemory`.
-#[tactic(auto, using(crate::proofs::KeepingHeadline::keeps_headline))]
 pub fn replay<S: Source, K: Sink>(
     alloc: Global,
     source: &mut S,

@@ -13,13 +13,16 @@ program =
       top = record (new_app (codes "ptpuni")).top { no_binary_name = true; subcommand_required = true; disable_help_subcommand = true };
     }
 
--- `load` has one value, which is required
-abbrev pub load_line : App
-load_line = with_rule (new_app (codes "load")) (record (new_rule (codes "N")) { required = true })
+-- a subcommand of this name with one value, which is required
+abbrev pub numbered_line : Text → App
+numbered_line name = with_rule (new_app name) (record (new_rule (codes "N")) { required = true })
 
--- and so has `audit`
+-- `load` has one, and so has `audit`
+abbrev pub load_line : App
+load_line = numbered_line (codes "load")
+
 abbrev pub audit_line : App
-audit_line = with_rule (new_app (codes "audit")) (record (new_rule (codes "N")) { required = true })
+audit_line = numbered_line (codes "audit")
 
 -- with a subcommand of this name, without arguments of its own
 abbrev pub with_bare : App → Text → App

@@ -10,6 +10,7 @@ use Rattle.ptpuni.specs.Run.{HasRun, IsOfLab, status_of, stock_of}
 use Rattle.ptpuni.proofs.Answered.{zero_at_end}
 use Rattle.ptpuni.proofs.Audited.{audit_completes}
 use Rattle.ptpuni.proofs.Completed.{completed}
+use Rattle.ptu_lab.proofs.KeepingHeadline.{keeps_headline}
 use Rattle.ptpuni.proofs.run.run.Goals as goal
 
 -- words that ask for a command are not refused, and ask for no other
@@ -147,3 +148,12 @@ returns-in-Err-clause-audited g c = λ capacity is. record {
   all_read = λ e. absurd (omega (arith, e));
   unused = refl;
 }
+
+pub returns-in-Ok-Some-clause-headline : goal.returns-in-Ok-Some-clause-headline
+returns-in-Ok-Some-clause-headline g c = λ script told. keeps_headline _ script
+
+pub returns-in-Ok-None-clause-headline : goal.returns-in-Ok-None-clause-headline
+returns-in-Ok-None-clause-headline g c = λ script told. keeps_headline _ script
+
+pub returns-in-Err-clause-headline : goal.returns-in-Err-clause-headline
+returns-in-Err-clause-headline g c = λ script told. keeps_headline _ script
