@@ -1,3 +1,4 @@
+pub mod Calling
 pub mod Masters
 pub mod Quiet
 pub mod Entering

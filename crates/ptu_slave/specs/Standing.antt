@@ -1,5 +1,5 @@
 -- Which records a slave stands for, and what a step of it is.
-use Rattle.std.specs.Prelude.{◌≡◌, ℕ, ◌<◌, ◌≤◌, false, List, ◌++◌, length, map, slice_get, Option, Some}
+use Rattle.std.specs.Prelude.{◌≡◌, ℕ, ◌<◌, ◌≤◌, Bool, false, List, ◌++◌, length, map, slice_get, Option, Some}
 use Rattle.std.specs.List.{list_any}
 use Rattle.ptu_units.specs.declared.kind.Kind.{Kind}
 use Rattle.ptu_record.specs.declared.rule.Rule.{Rule}
@@ -66,3 +66,7 @@ pub record Steps (openings : List (Option Rule)) (old new : Kept) (judges : List
   pub step : SlaveStep
   pub is_step : IsStep (setup_of old.config openings) L t e step
   pub stands : StandsFor openings new judges (L ++ step.entries)
+
+-- such a step, at which the judges who are asked find this
+abbrev pub StepsBy : List Bool → List (Option Rule) → (old new : Kept) → List Held → Record → ℕ → SlaveEvent → Type 0
+StepsBy found openings old new judges L t e = (steps : Steps openings old new judges L t e) × (steps.is_step.assessments ≡ found)

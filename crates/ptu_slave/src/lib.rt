@@ -23,6 +23,8 @@ pub use slave::Slave;
 pub use ticked::Ticked;
 
 #[cfg(test)]
+mod calls_tests;
+#[cfg(test)]
 mod pair_tests;
 #[cfg(test)]
 mod tests;

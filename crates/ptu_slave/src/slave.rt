@@ -1,21 +1,23 @@
-ghost use Rattle.std.specs.Prelude.{◌≡◌, ℕ, ◌<◌, max, List, [], map, length, Option, Ok, Err, All, IfOk, IsOk, IsErr, vec_len};
+ghost use Rattle.std.specs.Prelude.{◌≡◌, ◌≢◌, ℕ, ◌<◌, max, Bool, List, [], ◌∷◌, map, length, Option, Ok, Err, All, IfOk, IsOk, IsErr, vec_len};
 ghost use Rattle.std.specs.Borrow.{sem};
 ghost use Rattle.ptu_messages.specs.declared.message.Message.{Message};
+ghost use Rattle.ptu_messages.specs.declared.message.Body.TheVariants as body;
 ghost use Rattle.ptu_messages.specs.MessageFault.{IsSignaling};
 ghost use Rattle.ptu_outside.specs.HandsOver.{HandsOver};
 ghost use Rattle.ptu_record.specs.declared.rule.Rule.{Rule};
 ghost use Rattle.ptu_record.specs.Record.{Record, event_moment};
 ghost use Rattle.ptu_record.specs.Selection.{selected_master};
-ghost use Rattle.ptu_record.specs.Step.{ReplaceJudge, Stop, TellFlag, Tick, sendings};
+ghost use Rattle.ptu_record.specs.Step.{ReplaceJudge, Stop, TakeSync, TellFlag, Tick, sendings};
 ghost use Rattle.ptu_record.specs.Tick.{Sending};
 ghost use Rattle.ptu_judges.specs.Held.{IsFresh};
+ghost use Rattle.ptu_judges.specs.Calls.{OfAll, OfOne, Then, WasAsked, WasHeard, WasTold};
 ghost use Rattle.ptu_slave_messages.specs.Config.{AreMasters, IsWithinLimits, priorities, timeouts};
 ghost use Rattle.ptu_slave_messages.specs.Heard.{FitsReply, answer_of, event_of, failed_by, heard_of, replies_in, reply_datagrams, reply_in, sent_by, taken_of};
 ghost use Rattle.ptu_slave_messages.specs.Reception.{reception};
 ghost use Rattle.ptu_slave_messages.specs.Sending.{all_ones, departure_of};
 ghost use Rattle.ptu_slave_messages.specs.declared.reason.SlaveReason.{SlaveReason};
 ghost use Rattle.ptu_slave.specs.Kept.{IsSame};
-ghost use Rattle.ptu_slave.specs.Standing.{StandsFor, Steps, setup_of};
+ghost use Rattle.ptu_slave.specs.Standing.{StandsFor, Steps, StepsBy, setup_of};
 
 use crate::events::{
     replace_judge, take_announce, take_delay_resp, take_follow_up, take_signaling, take_sync,
@@ -103,6 +105,21 @@ impl<P: Port> Slave<P> {
             StandsFor openings self.old.core (map (λ j. held j) self.old.judges.items) L →
             Steps openings self.old.core self.new.core (map (λ j. held j) self.new.judges.items)
             L t (event_of m message) }
+        ensures judge { (m : ℕ) (message : Message) (stamp : _) →
+            reception self.old.core.config self.old.core.masters from bytes.now ≡ Ok (m, message) →
+            message.body ≡ body.Sync stamp → IsOk result → (found : Bool) × OfOne m
+            (Then (WasHeard ⟦<dyn Judge as Judge>⟧ (max t self.old.core.moment)
+            message.header.sequence)
+            (WasAsked ⟦<dyn Judge as Judge>⟧ (max t self.old.core.moment) found))
+            self.old.judges.items self.new.judges.items ×
+            ((openings : List (Option Rule)) (L : Record) →
+            StandsFor openings self.old.core (map (λ j. held j) self.old.judges.items) L →
+            StepsBy (found ∷ []) openings self.old.core self.new.core
+            (map (λ j. held j) self.new.judges.items) L t (TakeSync m message.header.sequence)) }
+        ensures others { (m : ℕ) (message : Message) →
+            reception self.old.core.config self.old.core.masters from bytes.now ≡ Ok (m, message) →
+            event_of m message ≢ TakeSync m message.header.sequence →
+            self.new.judges ≡ self.old.judges }
         ensures sends { IfOk result (λ heard.
             HandsOver P.Port self.old.port self.new.port
             (replies_in self.old.core.config self.old.core.masters
@@ -125,6 +142,13 @@ impl<P: Port> Slave<P> {
             StandsFor openings self.old.core (map (λ j. held j) self.old.judges.items) L →
             Steps openings self.old.core self.new.core (map (λ j. held j) self.new.judges.items)
             L t Tick }
+        ensures judged { (found : List Bool) × OfAll (length self.old.core.masters)
+            (WasAsked ⟦<dyn Judge as Judge>⟧ (max t self.old.core.moment)) found
+            self.old.judges.items self.new.judges.items
+            × ((openings : List (Option Rule)) (L : Record) →
+            StandsFor openings self.old.core (map (λ j. held j) self.old.judges.items) L →
+            StepsBy found openings self.old.core self.new.core
+            (map (λ j. held j) self.new.judges.items) L t Tick) }
         // It hands these to the port; they are those of the step for each record that it stands for.
         ensures sends { (handed : List Sending) × HandsOver P.Port self.old.port self.new.port
             (map (departure_of self.old.core.config self.old.core.masters all_ones) handed)
@@ -179,6 +203,13 @@ impl<P: Port> Slave<P> {
             StandsFor openings self.old.core (map (λ j. held j) self.old.judges.items) L →
             Steps openings self.old.core self.new.core (map (λ j. held j) self.new.judges.items)
             L t (TellFlag master unusable) }
+        ensures judge { (found : Bool) × OfOne master (Then (WasTold ⟦<dyn Judge as Judge>⟧ (max t self.old.core.moment) unusable)
+            (WasAsked ⟦<dyn Judge as Judge>⟧ (max t self.old.core.moment) found))
+            self.old.judges.items self.new.judges.items
+            × ((openings : List (Option Rule)) (L : Record) →
+            StandsFor openings self.old.core (map (λ j. held j) self.old.judges.items) L →
+            StepsBy (found ∷ []) openings self.old.core self.new.core
+            (map (λ j. held j) self.new.judges.items) L t (TellFlag master unusable)) }
         ensures port { self.new.port ≡ self.old.port }
         ensures same { IsSame self.old.core self.new.core }
     {
@@ -194,6 +225,13 @@ impl<P: Port> Slave<P> {
             StandsFor openings self.old.core (map (λ j. held j) self.old.judges.items) L →
             Steps openings self.old.core self.new.core (map (λ j. held j) self.new.judges.items)
             L t (ReplaceJudge master (held judge).rule) }
+        ensures judge { (found : Bool) × OfOne master (λ old new.
+            WasAsked ⟦<dyn Judge as Judge>⟧ (max t self.old.core.moment) found judge new)
+            self.old.judges.items self.new.judges.items
+            × ((openings : List (Option Rule)) (L : Record) →
+            StandsFor openings self.old.core (map (λ j. held j) self.old.judges.items) L →
+            StepsBy (found ∷ []) openings self.old.core self.new.core
+            (map (λ j. held j) self.new.judges.items) L t (ReplaceJudge master (held judge).rule)) }
         ensures port { self.new.port ≡ self.old.port }
         ensures same { IsSame self.old.core self.new.core }
     {
@@ -247,6 +285,14 @@ fn hear<P: Port>(
         taken ≡ taken_of core.old.config.wants (taken.master, message) →
         result ≡ heard_of core.old.config.wants (max t core.old.moment) (reply_in result)
         (taken.master, message) }
+    ensures judge { taken.content ≡ Content.Sync → (found : Bool) × OfOne taken.master
+        (Then (WasHeard ⟦<dyn Judge as Judge>⟧ (max t core.old.moment) taken.sequence)
+        (WasAsked ⟦<dyn Judge as Judge>⟧ (max t core.old.moment) found))
+        judges.old.items judges.new.items × ((openings : List (Option Rule)) (L : Record) →
+        StandsFor openings core.old (map (λ j. held j) judges.old.items) L →
+        StepsBy (found ∷ []) openings core.old core.new (map (λ j. held j) judges.new.items) L t
+        (TakeSync taken.master taken.sequence)) }
+    ensures others { taken.content ≢ Content.Sync → judges.new ≡ judges.old }
     ensures steps { (message : Message) →
         taken ≡ taken_of core.old.config.wants (taken.master, message) →
         (openings : List (Option Rule)) (L : Record) →

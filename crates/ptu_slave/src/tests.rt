@@ -1,5 +1,5 @@
 //! Worked rows, whose octets, moments and answers were made out by hand.
-ghost use Rattle.std.specs.Prelude.{◌≤◌, IfOk, None, false};
+ghost use Rattle.std.specs.Prelude.{◌≡◌, ◌≤◌, IfOk, None, false};
 ghost use Rattle.ptu_record.specs.Marks.{fresh_marks};
 ghost use Rattle.ptu_slave_messages.specs.Config.{IsWithinLimits};
 ghost use Rattle.ptu_slave.specs.Kept.{IsSame};
@@ -86,7 +86,7 @@ fn datagram(alloc: Global, text: &str, changes: &[(usize, u8)]) -> Result<Vec<u8
 }
 
 // Plays a row at a moment.
-fn play(
+pub(crate) fn play(
     rt: &impl Abort,
     alloc: Global,
     slave: &mut Slave<MemPort>,
@@ -290,6 +290,12 @@ impl Drop for Own {
 
 impl Judge for Own {
     ghost held = { λ _. record { rule = None; marks = fresh_marks; flag = false } };
+
+    ghost hears = { λ old t seq new. new ≡ old };
+
+    ghost is_told = { λ old t unusable new. new ≡ old };
+
+    ghost finds = { λ old t unusable new. new ≡ old };
 
     fn rule(&self) -> Option<Rule> {
         None
