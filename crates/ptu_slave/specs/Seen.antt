@@ -1,0 +1,27 @@
+-- What is seen of a slave, whose fields are its own.
+use Rattle.std.specs.Prelude.{◌≡◌, List, length, map}
+use Rattle.std.specs.declared.dyn_box.DynBox.{DynBox}
+use Rattle.ptu_judges.specs.Held.{Held}
+use Rattle.ptu_judges.specs.declared.judge.Judge.{Ghosts}
+use Rattle.ptu_slave.specs.Kept.{Kept}
+use Rattle.ptu_slave.specs.declared.slave.Slave.{Slave}
+
+-- what it keeps, what its judges hold, these judges in their boxes, and its port
+pub record Seen (P B : Type 0) : Type 0 where
+  pub kept : Kept
+  pub judges : List Held
+  pub boxes : List B
+  pub port : P
+
+-- of a slave, by what the members of its judges mean
+unfoldable pub seen : {P X : Type 0} {F : X → Type 0} → ((i : X) → Ghosts (F i)) → Slave P X F → Seen P _
+seen judge s = record {
+  kept = s.core;
+  judges = map (λ j. (judge j.vtable).held j.value) s.judges.items;
+  boxes = s.judges.items;
+  port = s.port;
+}
+
+-- each master has a judge
+abbrev pub HasJudges : {P B : Type 0} → Seen P B → Type 0
+HasJudges slave = length slave.judges ≡ length slave.kept.masters
