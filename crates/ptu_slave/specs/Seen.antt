@@ -1,5 +1,6 @@
 -- What is seen of a slave, whose fields are its own.
 use Rattle.std.specs.Prelude.{◌≡◌, List, length, map}
+use Rattle.std.specs.declared.alloc.Global.{Global}
 use Rattle.std.specs.declared.dyn_box.DynBox.{DynBox}
 use Rattle.ptu_judges.specs.Held.{Held}
 use Rattle.ptu_judges.specs.declared.judge.Judge.{Ghosts}
@@ -14,7 +15,7 @@ pub record Seen (P B : Type 0) : Type 0 where
   pub port : P
 
 -- of a slave, by what the members of its judges mean
-unfoldable pub seen : {P X : Type 0} {F : X → Type 0} → ((i : X) → Ghosts (F i)) → Slave P X F → Seen P _
+unfoldable pub seen : {P X : Type 0} {F : X → Type 0} → ((i : X) → Ghosts (F i)) → Slave P X F → Seen P (DynBox X Global F)
 seen judge s = record {
   kept = s.core;
   judges = map (λ j. (judge j.vtable).held j.value) s.judges.items;
