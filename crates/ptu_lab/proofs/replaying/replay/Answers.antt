@@ -3,7 +3,7 @@ use Rattle.ptu_outside.specs.Handing.{HasPutPart}
 use Rattle.ptu_outside.proofs.Putting.{HasPutPart-whole}
 use Rattle.ptu_world.specs.Report.{course_opening}
 use Rattle.ptu_world.proofs.Reported.{texts_of_rules}
-use Rattle.ptu_lab.proofs.LabReplaying.{counted, replayed}
+use Rattle.ptu_lab.proofs.Replaying.{counted, replayed}
 use Rattle.ptu_lab.proofs.replaying.replay.Goals as goal
 
 pub returns-in-Ok-Whole-clause-whole : goal.returns-in-Ok-Whole-clause-whole

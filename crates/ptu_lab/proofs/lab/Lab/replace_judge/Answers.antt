@@ -1,11 +1,11 @@
 use Rattle.std.proofs.Common.{Some, true, map, refl, sym, subst, rules}
 use Rattle.ptu_record.specs.Step.{ReplaceJudge}
 use Rattle.ptu_world.specs.Slaves.{plain_deed}
-use Rattle.ptu_lab.specs.LabSteps.{HasActedWithJudge, of_master, stock_of}
+use Rattle.ptu_lab.specs.Steps.{HasActedWithJudge, of_master, stock_of}
 use Rattle.ptu_world.specs.World.{stock_without}
 use Rattle.ptu_lab.specs.Standing.{StandsAs}
-use Rattle.ptu_lab.proofs.LabCommands.{judge_is}
-use Rattle.ptu_lab.proofs.LabNodes.{judged_stands, nobody_judged}
+use Rattle.ptu_lab.proofs.Commands.{judge_is}
+use Rattle.ptu_lab.proofs.Nodes.{judged_stands, nobody_judged}
 use Rattle.ptu_lab.proofs.lab.Lab.replace_judge.Goals as goal
 
 pub returns-in-None : goal.returns-in-None

@@ -1,5 +1,5 @@
 use Rattle.std.proofs.Common.{◌≡◌, ◌∙◌, is_some, map, refl, sym, ap, rules}
-use Rattle.ptu_lab.proofs.LabSettingUp.{has_node, is_set_up}
+use Rattle.ptu_lab.proofs.SettingUp.{has_node, is_set_up}
 use Rattle.ptu_lab.proofs.lab.Lab.set_up.Goals as goal
 
 pub returns-then-contains_key : goal.returns-then-contains_key

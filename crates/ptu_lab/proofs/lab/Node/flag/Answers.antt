@@ -1,7 +1,7 @@
 use Rattle.std.proofs.Common.{map, sym, ◌∙◌}
 use Rattle.ptu_record.specs.Step.{TellFlag}
 use Rattle.ptu_world.specs.Slaves.{plain_deed}
-use Rattle.ptu_lab.proofs.LabNodes.{master_acts}
+use Rattle.ptu_lab.proofs.Nodes.{master_acts}
 use Rattle.ptu_lab.proofs.lab.Node.flag.Goals as goal
 
 pub returns : goal.returns

@@ -1,5 +1,5 @@
 use Rattle.std.proofs.Common.{map}
-use Rattle.ptu_lab.proofs.LabNodes.{slave_receives}
+use Rattle.ptu_lab.proofs.Nodes.{slave_receives}
 use Rattle.ptu_lab.proofs.lab.Node.receive.Goals as goal
 
 pub returns-in_ok-receive-in-Slave : goal.returns-in_ok-receive-in-Slave

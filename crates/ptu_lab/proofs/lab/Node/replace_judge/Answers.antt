@@ -1,7 +1,7 @@
 use Rattle.std.proofs.Common.{Some, map, sym, ◌∙◌}
 use Rattle.ptu_record.specs.Step.{ReplaceJudge}
 use Rattle.ptu_world.specs.Slaves.{plain_deed}
-use Rattle.ptu_lab.proofs.LabNodes.{judge_acts}
+use Rattle.ptu_lab.proofs.Nodes.{judge_acts}
 use Rattle.ptu_lab.proofs.lab.Node.replace_judge.Goals as goal
 
 pub returns : goal.returns

@@ -1,7 +1,7 @@
 use Rattle.std.proofs.Common.{map}
 use Rattle.ptu_record.specs.Step.{Stop}
 use Rattle.ptu_world.specs.Slaves.{plain_deed}
-use Rattle.ptu_lab.proofs.LabNodes.{slave_acts}
+use Rattle.ptu_lab.proofs.Nodes.{slave_acts}
 use Rattle.ptu_lab.proofs.lab.Node.stop.Goals as goal
 
 pub returns-in_ok-stop-in-Slave : goal.returns-in_ok-stop-in-Slave
