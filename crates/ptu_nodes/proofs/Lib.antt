@@ -7,3 +7,4 @@ pub mod GrandmasterReceipts
 pub mod SlaveEvents
 pub mod SlaveMasters
 pub mod SlaveHearing
+mod Room

@@ -14,14 +14,18 @@ pub record Seen (P B : Type 0) : Type 0 where
   pub boxes : List B
   pub port : P
 
--- of a slave, by what the members of its judges mean
-unfoldable pub seen : {P X : Type 0} {F : X → Type 0} → ((i : X) → Ghosts (F i)) → Slave P X F → Seen P (DynBox X Global F)
-seen judge s = record {
+-- of a slave, by what the members of each judge mean
+unfoldable pub seen_by : {P X : Type 0} {F : X → Type 0} → ((j : DynBox X Global F) → Ghosts (F j.vtable)) → Slave P X F → Seen P (DynBox X Global F)
+seen_by judge s = record {
   kept = s.core;
-  judges = map (λ j. (judge j.vtable).held j.value) s.judges.items;
+  judges = map (λ j. (judge j).held j.value) s.judges.items;
   boxes = s.judges.items;
   port = s.port;
 }
+
+-- the same, by what they mean at the type of each
+abbrev pub seen : {P X : Type 0} {F : X → Type 0} → ((i : X) → Ghosts (F i)) → Slave P X F → Seen P (DynBox X Global F)
+seen judge s = seen_by (λ j. judge j.vtable) s
 
 -- each master has a judge
 abbrev pub HasJudges : {P B : Type 0} → Seen P B → Type 0

@@ -56,7 +56,7 @@ impl<P: Port> Slave<P> {
     ///
     /// # Errors
     /// Where memory for what is kept of the masters was not found.
-    #[tactic(auto, unfolding(crate::specs::Seen::seen))]
+    #[tactic(auto, unfolding(crate::specs::Seen::seen_by))]
     pub fn new(
         alloc: Global,
         config: SlaveConfig,
@@ -87,7 +87,7 @@ impl<P: Port> Slave<P> {
     ///
     /// # Errors
     /// As of [`Slave::new`].
-    #[tactic(auto, unfolding(crate::specs::Seen::seen))]
+    #[tactic(auto, unfolding(crate::specs::Seen::seen_by))]
     pub fn with_master(
         self,
         alloc: Global,
@@ -126,7 +126,7 @@ impl<P: Port> Slave<P> {
     /// # Errors
     /// Where memory for the message and for what it says was not found, which only a Signaling
     /// wants; nothing has changed then.
-    #[tactic(auto, unfolding(crate::specs::Seen::seen))]
+    #[tactic(auto, unfolding(crate::specs::Seen::seen_by))]
     pub fn take(
         &mut self,
         alloc: Global,
@@ -181,7 +181,7 @@ impl<P: Port> Slave<P> {
 
     /// A tick: all judges are asked, and each master is sent the Signaling and the Delay_Req that
     /// are due. After a stop nothing is sent.
-    #[tactic(auto, unfolding(crate::specs::Seen::seen))]
+    #[tactic(auto, unfolding(crate::specs::Seen::seen_by))]
     pub fn tick(&mut self, t: Moment) -> Ticked
         ensures judged { HasJudges (seen ⟦<dyn Judge as Judge>⟧ self.new) }
         ensures same { IsSame (seen ⟦<dyn Judge as Judge>⟧ self.old).kept (seen ⟦<dyn Judge as Judge>⟧ self.new).kept }
@@ -200,7 +200,7 @@ impl<P: Port> Slave<P> {
 
     /// The stop: each master that has a live grant is sent a Signaling that cancels all of them;
     /// the slave holds them for ended, and its ticks send nothing more.
-    #[tactic(auto, unfolding(crate::specs::Seen::seen))]
+    #[tactic(auto, unfolding(crate::specs::Seen::seen_by))]
     pub fn stop(&mut self, t: Moment) -> Ticked
         ensures judged { HasJudges (seen ⟦<dyn Judge as Judge>⟧ self.new) }
         ensures same { IsSame (seen ⟦<dyn Judge as Judge>⟧ self.old).kept (seen ⟦<dyn Judge as Judge>⟧ self.new).kept }
@@ -218,7 +218,7 @@ impl<P: Port> Slave<P> {
     }
 
     /// The operator says whether the master at a place is unusable.
-    #[tactic(auto, unfolding(crate::specs::Seen::seen))]
+    #[tactic(auto, unfolding(crate::specs::Seen::seen_by))]
     pub fn flag(&mut self, t: Moment, master: usize, unusable: bool)
         requires { master < length (seen ⟦<dyn Judge as Judge>⟧ self.old).kept.masters }
         ensures judged { HasJudges (seen ⟦<dyn Judge as Judge>⟧ self.new) }
@@ -231,7 +231,7 @@ impl<P: Port> Slave<P> {
 
     /// Another judge takes over the master at a place; it is fresh where it has a rule. The former
     /// one is dropped.
-    #[tactic(auto, unfolding(crate::specs::Seen::seen))]
+    #[tactic(auto, unfolding(crate::specs::Seen::seen_by))]
     pub fn set_judge(&mut self, t: Moment, master: usize, judge: Box<dyn Judge>)
         requires master { master < length (seen ⟦<dyn Judge as Judge>⟧ self.old).kept.masters }
         requires fresh { IsFresh (held judge) }
@@ -245,7 +245,7 @@ impl<P: Port> Slave<P> {
 
     /// The address of the master that is selected at `t`, or at the slave's moment where that is
     /// later; `None` exactly where none is eligible. It is no event and raises no moment.
-    #[tactic(auto, unfolding(crate::specs::Seen::seen))]
+    #[tactic(auto, unfolding(crate::specs::Seen::seen_by))]
     pub fn selected_address(&mut self, t: Moment) -> Option<u32>
         ensures selected { let old = seen ⟦<dyn Judge as Judge>⟧ self.old in
             (openings : List (Option Rule)) (L : Record) →
@@ -258,7 +258,7 @@ impl<P: Port> Slave<P> {
     }
 
     /// The place of the same master in the list of masters.
-    #[tactic(auto, unfolding(crate::specs::Seen::seen))]
+    #[tactic(auto, unfolding(crate::specs::Seen::seen_by))]
     pub fn selected(&mut self, t: Moment) -> Option<usize>
         ensures selected { let old = seen ⟦<dyn Judge as Judge>⟧ self.old in
             (openings : List (Option Rule)) (L : Record) →
@@ -271,7 +271,7 @@ impl<P: Port> Slave<P> {
     }
 
     /// Its masters.
-    #[tactic(auto, unfolding(crate::specs::Seen::seen))]
+    #[tactic(auto, unfolding(crate::specs::Seen::seen_by))]
     pub fn masters(&self) -> &[Master]
         ensures { result.now ≡ (seen ⟦<dyn Judge as Judge>⟧ self.now).kept.masters }
     {
@@ -279,7 +279,7 @@ impl<P: Port> Slave<P> {
     }
 
     /// Takes the first datagram that waits at the port, as `Port::receive` does.
-    #[tactic(auto, unfolding(crate::specs::Seen::seen))]
+    #[tactic(auto, unfolding(crate::specs::Seen::seen_by))]
     pub fn receive(&mut self, buf: &mut [u8; 2048]) -> Result<Option<(u32, usize)>, Failed>
         ensures within { IfOk result (λ got. IfSome got (λ a. a.1 ≤ 2048)) }
         ensures first { IfOk result (λ got. IfSome got (λ a.
@@ -310,7 +310,7 @@ impl<P: Port> Slave<P> {
     }
 
     /// Puts another port in the place of its own, which it gives up.
-    #[tactic(auto, unfolding(crate::specs::Seen::seen))]
+    #[tactic(auto, unfolding(crate::specs::Seen::seen_by))]
     pub fn replace_port(&mut self, port: P) -> P
         ensures former { result ≡ (seen ⟦<dyn Judge as Judge>⟧ self.old).port }
         ensures rest_is { seen ⟦<dyn Judge as Judge>⟧ self.new
@@ -320,7 +320,7 @@ impl<P: Port> Slave<P> {
     }
 
     /// The port, as it is. The rest is dropped.
-    #[tactic(auto, unfolding(crate::specs::Seen::seen))]
+    #[tactic(auto, unfolding(crate::specs::Seen::seen_by))]
     pub fn into_port(self) -> P
         ensures { result ≡ (seen ⟦<dyn Judge as Judge>⟧ self).port }
     {

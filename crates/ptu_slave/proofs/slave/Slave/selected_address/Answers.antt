@@ -5,13 +5,13 @@ use Rattle.ptu_record.specs.Record.{event_moment}
 use Rattle.ptu_record.specs.Selection.{selected_master}
 use Rattle.ptu_slave_messages.specs.Config.{address_of, priorities, timeouts}
 use Rattle.ptu_slave.specs.Kept.{Kept}
-use Rattle.ptu_slave.specs.Seen.{seen}
+use Rattle.ptu_slave.specs.Seen.{seen_by}
 use Rattle.ptu_slave.proofs.Selecting.{chosen_within, priorities_many}
 use Rattle.ptu_slave.proofs.Stepping.{moment_is}
 use Rattle.ptu_slave.proofs.slave.Slave.selected_address.Goals as goal
 
 pub returns-clause-selected : goal.returns-clause-selected
-unfolding seen
+unfolding seen_by
 returns-clause-selected g c = λ openings L h.
     let masters = c.args.self.now.core.masters in
     let same = c.masters.ensures.masters ∙ ap (λ (k : Kept). k.masters) c.selected-place.ensures.same in
