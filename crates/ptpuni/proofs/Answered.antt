@@ -11,11 +11,11 @@ use Rattle.ptu_world.specs.Facts.{EndsBy, world_of}
 use Rattle.ptu_world.specs.Report.{report_lines}
 use Rattle.ptu_script.specs.declared.cause.Cause.{Cause}
 use Rattle.ptu_lab.specs.declared.done.Done.{Done}
-use Rattle.ptu_lab.specs.declared.fault.LabFault.{LabFault}
-use Rattle.ptu_lab.specs.declared.fault.LabFault.TheVariants.{Line, Read, Write, OutOfMemory}
-use Rattle.ptu_lab.specs.Answers.{CountsRead, CountsWrite, IfWritten}
+use Rattle.ptu_show.specs.declared.fault.LabFault.{LabFault}
+use Rattle.ptu_show.specs.declared.fault.LabFault.TheVariants.{Line, Read, Write, OutOfMemory}
+use Rattle.ptu_show.specs.Answers.{CountsRead, CountsWrite, IfWritten}
 use Rattle.ptu_lab.specs.Replayed.{HasReplayed, IfReplayed}
-use Rattle.ptu_lab.specs.Shown.{HasShown}
+use Rattle.ptu_show.specs.Shown.{HasShown}
 use Rattle.ptu_words.specs.declared.command.Command.TheVariants.{Replay, Show}
 use Rattle.ptpuni.specs.Run.{HasRun, IsStatusOf, has_end, is_whole, status_of_answer, statuses}
 

@@ -10,10 +10,10 @@ use Rattle.ptu_report_lines.specs.declared.report_line.ReportLine.{ReportLine}
 use Rattle.ptu_report_lines.specs.declared.report_line.ReportLine.TheVariants.{End}
 use Rattle.ptu_world.specs.World.{Stock}
 use Rattle.ptu_world.specs.Report.{course_opening, report, report_lines, rules}
-use Rattle.ptu_lab.specs.declared.fault.LabFault.{LabFault}
-use Rattle.ptu_lab.specs.declared.fault.LabFault.TheVariants.{Line, Read, Write, OutOfMemory}
+use Rattle.ptu_show.specs.declared.fault.LabFault.{LabFault}
+use Rattle.ptu_show.specs.declared.fault.LabFault.TheVariants.{Line, Read, Write, OutOfMemory}
 use Rattle.ptu_lab.specs.Load.{summary}
-use Rattle.ptu_lab.specs.Shown.{show_rules, shown_ending, shown_lines}
+use Rattle.ptu_show.specs.Shown.{show_rules, shown_ending, shown_lines}
 use Rattle.ptu_words.specs.declared.command.Command.{Command}
 use Rattle.ptu_words.specs.declared.command.Command.TheVariants.{Replay, Show, Load, Serve, Slave}
 

@@ -1,17 +1,19 @@
-ghost use Rattle.std.specs.Prelude.{◌≡◌, ◌≤◌, ℕ, List, [], ◌∷◌, length, map, Some, OnOk, OnErr, IfOk, IsErrOf};
+ghost use Rattle.std.specs.Prelude.{◌≡◌, ◌≤◌, ℕ, List, [], ◌∷◌, length, map, Some, OnOk, OnErr};
+ghost use Rattle.std.specs.Prelude.{IfOk, IsErrOf};
 ghost use Rattle.std.specs.Io.KnownBytes.{IsAtEnd, prepend_known};
 ghost use Rattle.ptu_outside.specs.Ends.{StopsAtEnd};
 ghost use Rattle.ptu_outside.specs.Handing.{HasPutPart};
 ghost use Rattle.ptu_judges.specs.Held.{IsStock};
 ghost use Rattle.ptu_report.specs.Reported.{HasReportedAllRead};
-ghost use Rattle.ptu_world.specs.Headline.{DecidesByRoom, PaysPeriods, SaysSo, SelectsBest, WithinBudget, WithinCapacity};
+ghost use Rattle.ptu_world.specs.Headline.{DecidesByRoom, PaysPeriods, SaysSo, SelectsBest};
+ghost use Rattle.ptu_world.specs.Headline.{WithinBudget, WithinCapacity};
 ghost use Rattle.ptu_world.specs.Report.{course_opening, report, rules};
-ghost use Rattle.ptu_lab.specs.Answers.{CountsRead, CountsWrite};
+ghost use Rattle.ptu_show.specs.Answers.{CountsRead, CountsWrite};
+ghost use Rattle.ptu_slave.specs.Seen.{seen_by};
 ghost use Rattle.ptu_lab.specs.Replayed.{AreCounts, HasReplayed, IfReplayed};
 ghost use Rattle.ptu_lab.specs.Standing.{StandsFor};
 
 use crate::done::Done;
-use crate::fault::LabFault;
 use crate::lab::Lab;
 use ptu_judges::{Judge, Stock};
 use ptu_lines::LineCause;
@@ -19,6 +21,7 @@ use ptu_outside::{Sink, Source};
 use ptu_report::{Ending, Reporter, Stop, Texts, report};
 use ptu_report_lines::{ReportLine, Statement};
 use ptu_script::{Cause, read_command};
+use ptu_show::LabFault;
 use ptu_units::OutOfMemory;
 use std::alloc::Global;
 use std::marker::Model;
@@ -42,7 +45,7 @@ impl Reporter for Lab {
     ghost rules = { rules };
 
     ghost stands_for = { λ lab course.
-        StandsFor (λ n. map (λ j. (Judge-box j).held j.value) n.slave.judges.items)
+        StandsFor (λ n. seen_by (λ j. Judge-box j) n.slave)
         (map (λ j. (Judge-box j).held j.value) lab.stock.flags.items)
         (map (λ j. (Judge-box j).held j.value) lab.stock.gaps.items) lab course };
 

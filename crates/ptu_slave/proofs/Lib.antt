@@ -13,3 +13,5 @@ pub mod Hearing
 pub mod Ruled
 pub mod Nodes
 pub mod Staying
+mod Selecting
+mod Adding

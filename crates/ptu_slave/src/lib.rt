@@ -8,14 +8,12 @@ mod events;
 mod judging;
 pub mod laws;
 mod node;
-mod porting;
 mod slave;
 mod ticked;
 mod ticks;
 
 pub use counters::Counters;
 pub use node::Core;
-pub use porting::HasPort;
 pub use ptu_slave_messages::{
     Heard, HeardReply, Master, Signal, SignalList, SlaveConfig, SlaveReason,
 };

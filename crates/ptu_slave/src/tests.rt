@@ -3,6 +3,7 @@ ghost use Rattle.std.specs.Prelude.{◌≡◌, ◌≤◌, IfOk, None, false};
 ghost use Rattle.ptu_record.specs.Marks.{fresh_marks};
 ghost use Rattle.ptu_slave_messages.specs.Config.{IsWithinLimits};
 ghost use Rattle.ptu_slave.specs.Kept.{IsSame};
+ghost use Rattle.ptu_slave.specs.Seen.{seen};
 
 use super::*;
 use ptu_header::PortIdentity;
@@ -93,7 +94,8 @@ pub(crate) fn play(
     nanos: u64,
     row: Row,
 ) -> Result<(), Fail>
-    ensures { IsSame slave.old.core slave.new.core }
+    ensures { IsSame (seen ⟦<dyn Judge as Judge>⟧ slave.old).kept
+        (seen ⟦<dyn Judge as Judge>⟧ slave.new).kept }
 {
     let at = Moment::of(nanos).ok_or("below 2^62")?;
     let (master, octets) = match row {

@@ -1,6 +1,6 @@
 use Rattle.std.proofs.Common.{◌∙◌, refl, sym, ap}
 use Rattle.ptu_world.specs.World.{datagram_numbered}
-use Rattle.ptu_lab.proofs.LabNodes.{delivered_there, delivered_nobody, not_delivered}
+use Rattle.ptu_lab.proofs.Nodes.{delivered_there, delivered_nobody, not_delivered}
 use Rattle.ptu_lab.proofs.lab.Lab.deliver.Goals as goal
 
 pub returns-in-None : goal.returns-in-None

@@ -1,6 +1,6 @@
 use Rattle.std.proofs.Common.{refl, sym, ap, rules}
 use Rattle.ptu_world.specs.World.{datagram_deed}
-use Rattle.ptu_lab.proofs.LabNodes.{handed_none, handed_stands}
+use Rattle.ptu_lab.proofs.Nodes.{handed_none, handed_stands}
 use Rattle.ptu_lab.proofs.lab.Lab.hand.Goals as goal
 
 pub returns-in-None : goal.returns-in-None

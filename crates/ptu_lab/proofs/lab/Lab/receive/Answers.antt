@@ -1,4 +1,4 @@
-use Rattle.ptu_lab.proofs.LabNodes.{received_there, received_nowhere}
+use Rattle.ptu_lab.proofs.Nodes.{received_there, received_nowhere}
 use Rattle.ptu_lab.proofs.lab.Lab.receive.Goals as goal
 
 pub returns-then-branch : goal.returns-then-branch

@@ -1,5 +1,5 @@
 use Rattle.ptu_world.specs.World.{new_slave, step}
-use Rattle.ptu_lab.proofs.LabNodes.{ok_also}
+use Rattle.ptu_lab.proofs.Nodes.{ok_also}
 use Rattle.ptu_lab.proofs.lab.Lab.set_up_slave.Goals as goal
 
 pub returns : goal.returns

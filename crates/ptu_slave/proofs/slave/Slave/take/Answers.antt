@@ -6,9 +6,11 @@ use Rattle.ptu_slave_messages.specs.declared.content.Taken.{Taken}
 use Rattle.ptu_slave_messages.specs.Heard.{content_of, failed_by, replies_in, reply_in, sent_by, taken_or_not}
 use Rattle.ptu_slave_messages.specs.Reception.{reception}
 use Rattle.ptu_slave.proofs.Hearing.{event_sync, same_taken, taken_from}
+use Rattle.ptu_slave.specs.Seen.{seen_by}
 use Rattle.ptu_slave.proofs.slave.Slave.take.Goals as goal
 
 pub returns-in-Ok-clause-steps : goal.returns-in-Ok-clause-steps
+unfolding seen_by
 returns-in-Ok-clause-steps g c = λ m message received ok openings L h.
     let answer = sym c.in-Ok.is ∙ c.in_ok-received.ensures.answer
     ∙ ap₂ (λ (config : SlaveConfig) (masters : List Master). taken_or_not config.wants (reception config masters c.args.from c.args.bytes.now)) c.config.ensures c.masters.ensures.masters in
@@ -16,6 +18,7 @@ returns-in-Ok-clause-steps g c = λ m message received ok openings L h.
     rw (← is.0) (c.hear.ensures.steps message is.1 openings L h)
 
 pub returns-in-Ok-clause-sends : goal.returns-in-Ok-clause-sends
+unfolding seen_by
 returns-in-Ok-clause-sends g c =
     let answer = sym c.in-Ok.is ∙ c.in_ok-received.ensures.answer
     ∙ ap₂ (λ (config : SlaveConfig) (masters : List Master). taken_or_not config.wants (reception config masters c.args.from c.args.bytes.now)) c.config.ensures c.masters.ensures.masters in
@@ -25,6 +28,7 @@ returns-in-Ok-clause-sends g c =
     (sym is.received) (c.hear.ensures.sends is.message is.kept)
 
 pub returns-in-Ok-clause-judge : goal.returns-in-Ok-clause-judge
+unfolding seen_by
 returns-in-Ok-clause-judge g c = λ m message stamp received body_is ok.
     let answer = sym c.in-Ok.is ∙ c.in_ok-received.ensures.answer
     ∙ ap₂ (λ (config : SlaveConfig) (masters : List Master). taken_or_not config.wants (reception config masters c.args.from c.args.bytes.now)) c.config.ensures c.masters.ensures.masters in
@@ -33,6 +37,7 @@ returns-in-Ok-clause-judge g c = λ m message stamp received body_is ok.
     (c.hear.ensures.judge (ap (λ (k : Taken). k.content) is.1 ∙ ap (content_of c.args.self.now.core.config.wants) body_is))
 
 pub returns-in-Ok-clause-others : goal.returns-in-Ok-clause-others
+unfolding seen_by
 returns-in-Ok-clause-others g c = λ m message received differs.
     let answer = sym c.in-Ok.is ∙ c.in_ok-received.ensures.answer
     ∙ ap₂ (λ (config : SlaveConfig) (masters : List Master). taken_or_not config.wants (reception config masters c.args.from c.args.bytes.now)) c.config.ensures c.masters.ensures.masters in

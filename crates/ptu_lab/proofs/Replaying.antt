@@ -1,0 +1,65 @@
+-- What a replay has come to, where no line was refused.
+use Rattle.std.proofs.Common.{◌≡◌, ◌∙◌, ℕ, ◌+◌, true, false, List, [], ◌∷◌, length, Option, Some, None, IfSome, IsSome, refl, sym, ap, subst}
+use Rattle.ptu_lines.specs.Script.{ScriptLine, Whole, Refused, script_lines}
+use Rattle.ptu_report.specs.declared.ending.Ending.{Ending}
+use Rattle.ptu_report.specs.declared.ending.Ending.TheVariants as endings
+use Rattle.ptu_report.specs.Rules.{Goes, Outcome, Refuses, Rules, ending_after, ending_at, ending_of, meaning_after, meaning_at, meaning_of}
+use Rattle.ptu_judges.specs.Held.{Held}
+use Rattle.ptu_outside.specs.Handing.{HasPut}
+use Rattle.ptu_report.specs.Reported.{HasReported}
+use Rattle.ptu_script.specs.declared.cause.Cause.{Cause}
+use Rattle.ptu_world.specs.Facts.{AreCounted, EndsBy, world_of}
+use Rattle.ptu_world.specs.World.{Stock}
+use Rattle.ptu_world.specs.Report.{Course, course_opening, report, report_lines, rules}
+use Rattle.ptu_world.proofs.Reported.{counts_of_rules, ends_of_rules, texts_of_rules}
+use Rattle.ptu_lab.specs.declared.done.Done.{Done}
+use Rattle.ptu_nodes.specs.declared.slave_node.SlaveNode.{SlaveNode}
+use Rattle.ptu_lab.specs.declared.lab.Lab.{Lab}
+use Rattle.ptu_lab.specs.Replayed.{AreCounts, HasReplayed}
+use Rattle.ptu_lab.specs.Standing.{StandsFor}
+
+-- where no line is refused there is a meaning at the end
+module _ {M C : Type 0} (r : Rules M C) (lines : ℕ) where
+  at_outcome : (number : ℕ) (o : Outcome M C) (ends : M → Ending C) (later : M → Option M) → ((m : M) → ends m ≡ endings.Whole lines → IsSome (later m))
+      → ending_at number o ends ≡ endings.Whole lines → IsSome (meaning_at o later)
+  at_outcome number (Refuses cause) ends later same e = absurd cc
+  at_outcome number (Goes m texts) ends later same e = same m e
+
+  meant : (left : List ScriptLine) (m : M) (before : ℕ) → ending_after r m before left ≡ endings.Whole lines → IsSome (meaning_after r m before left)
+  meant [] m before e = at_outcome (before + 1) (r.close m before) (λ after. endings.Whole before) Some (λ after e. refl) e
+  meant (Refused cause ∷ rest) m before e = absurd cc
+  meant (Whole text ∷ rest) m before e =
+      at_outcome (before + 1) (r.step m (before + 1) text) (λ after. ending_after r after (before + 1) rest) (λ after. meaning_after r after (before + 1) rest)
+      (λ after e. meant rest after (before + 1) e) e
+
+module _ {J B : Type 0} {I : J → Type 0} (see : SlaveNode J I → Seen MemoryPort B) where
+  -- the lab that stands for what all lines lead to has the numbers of the report
+  pub counted : (flags gaps : List Held) (lab : Lab J I) (stock : Stock) (script : List ℕ) (lines : ℕ) (done : Done)
+      → IfSome (meaning_of rules (course_opening stock) (script_lines script)) (StandsFor see flags gaps lab)
+      → endings.Whole lines ≡ ending_of rules (course_opening stock) (script_lines script)
+      → done.datagrams ≡ length lab.sent.items
+      → done.granted ≡ lab.granted
+      → done.refused ≡ lab.short
+      → AreCounts stock script done
+  counted flags gaps lab stock script lines done stands whole datagrams granted refused =
+      by (meaning_of rules (course_opening stock) (script_lines script)) (meant rules lines (script_lines script) (course_opening stock) 0 (sym whole)) stands (counts_of_rules stock script)
+    where
+      by : (o : Option Course) → IsSome o → IfSome o (StandsFor see flags gaps lab) → IfSome o (AreCounted stock script) → AreCounts stock script done
+      by None some s c = absurd (let no : false ≡ true = some in cc)
+      by (Some course) some s c = record {
+        datagrams = datagrams ∙ (ap length s.sent ∙ ap (λ w. length w.sent) c.world);
+        granted = granted ∙ (s.granted ∙ c.granted);
+        refused = refused ∙ (s.short ∙ c.short);
+      }
+
+-- what was put for the rules is the report
+pub replayed : {K : Type 0} (written : K → Option (List ℕ)) (handed : K → Option (List (List ℕ))) (old new : K) (stock : Stock) (script : List ℕ) (ending : Ending Cause)
+    → HasReported written handed old new rules (course_opening stock) (script_lines script) ending
+    → HasReplayed written handed old new stock script ending
+replayed written handed old new stock script ending reported =
+    let put : HasPut written handed old new (report stock script) = subst (HasPut written handed old new) (texts_of_rules stock script) reported.put in
+    record {
+      written_is = put.written_is;
+      in_pieces = put;
+      ends = subst (λ e. EndsBy e (world_of stock script) (report_lines stock script)) (sym reported.ends) (ends_of_rules stock script);
+    }

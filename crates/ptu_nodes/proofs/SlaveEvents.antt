@@ -1,0 +1,213 @@
+-- What an event makes of a slave of a script, and what is said of it.
+use Rattle.std.proofs.Common.{◌≡◌, ◌≢◌, ℕ, zero, suc, ◌+◌, ◌<◌, ◌≤◌, max, Bool, true, false, cond, List, [], ◌∷◌, ◌++◌, length, map, Option, Some, None, refl, ap, ap₂, sym, subst, ◌∙◌, arith, append_assoc}
+use Rattle.std.proofs.lemmas.Bool.{false≢true}
+use Rattle.std.proofs.lemmas.List.{append-nil, map-append}
+use Rattle.std.proofs.lemmas.List.Sums.{sum_by-cons}
+use Rattle.std.specs.List.{AllByRecursion, count_by, range_with_len}
+use Rattle.std.specs.Option.{option_map}
+use Rattle.std.specs.Prelude.{IfSome, IsSome, OnOk, Result, Ok, Err}
+use Rattle.ptu_outside.specs.Departure.{Departure}
+use Rattle.ptu_outside.specs.MemoryPort.{MemoryPort}
+use Rattle.ptu_record.specs.declared.rule.Rule.{Rule}
+use Rattle.ptu_record.specs.Lists.{places}
+use Rattle.ptu_record.specs.Record.{Record, event_moment}
+use Rattle.ptu_record.specs.Selection.{selected_master}
+use Rattle.ptu_record.specs.SignalFails.{Timeouts}
+use Rattle.ptu_record.proofs.Choice.{chosen_best}
+use Rattle.ptu_record.specs.Tick.{Sending}
+use Rattle.ptu_record.specs.Step.{ReplaceJudge, SlaveEvent, judged_masters, sendings, slave_step}
+use Rattle.ptu_judges.specs.Held.{Held, IsFresh, fresh}
+use Rattle.ptu_slave_messages.specs.declared.config.Master.{Master}
+use Rattle.ptu_slave_messages.specs.declared.config.SlaveConfig.{SlaveConfig}
+use Rattle.ptu_slave_messages.specs.Config.{AreMasters, IsWithinLimits, address_of, priorities, timeouts}
+use Rattle.ptu_slave_messages.specs.Node.{Deed, deed, node_setup}
+use Rattle.ptu_slave_messages.specs.Sending.{all_ones, departure_of}
+use Rattle.ptu_slave.specs.Kept.{IsSame, Kept}
+use Rattle.ptu_slave.specs.Standing.{StandsFor, Steps, setup_of}
+use Rattle.ptu_slave.proofs.Ruled.{ruled_step}
+use Rattle.ptu_slave.proofs.Staying.{rules_stay}
+use Rattle.ptu_slave.proofs.Stepping.{moment_is}
+use Rattle.ptu_report_lines.specs.declared.sent.Sent.{Sent}
+use Rattle.ptu_report_lines.specs.declared.statement.Statement.{Statement}
+use Rattle.ptu_report_lines.specs.declared.statement.Statement.TheVariants.{Selected}
+use Rattle.ptu_world.specs.Deeds.{Slave}
+use Rattle.ptu_world.specs.Report.{is_granted, is_short, text_at}
+use Rattle.ptu_world.specs.Slaves.{entered, event_deed, selection_said}
+use Rattle.ptu_world.specs.World.{sending_said, sent_from}
+use Rattle.ptu_nodes.specs.Doing.{HasDone}
+use Rattle.ptu_nodes.specs.Standing.{IsIdle, IsSlaveNode, StandsAsSlave}
+use Rattle.ptu_nodes.specs.SlaveWords.{HasStepped, selection_by}
+
+-- ---- what was sent
+
+-- where nothing had been sent the port holds what was handed to it
+pub all_sent : (before after : MemoryPort) (ds : List Departure) → before.sent ≡ [] → Some (before.sent ++ ds) ≡ Some after.sent → after.sent ≡ ds
+all_sent before after ds idle told = let same : before.sent ++ ds ≡ after.sent = cc in sym same ∙ ap (λ l. l ++ ds) idle
+
+-- ---- the node
+
+places_within : (a n k : ℕ) → a + n ≤ k → AllByRecursion (λ m. m < k) (range_with_len a n)
+places_within a zero k le = tt
+places_within a (suc n) k le = (omega arith, places_within (a + 1) n k (omega arith))
+
+pub all_places : (n : ℕ) → AllByRecursion (λ m. m < n) (places n)
+all_places n = places_within 0 n n (omega arith)
+
+pub stepped : (ip : ℕ) (old new : Kept) (judges news : List Held) (before after : MemoryPort) (begun : Bool) (s : Slave) (t : ℕ) (e : SlaveEvent) (deed : Deed)
+    → IsSlaveNode ip old judges before begun s → ((m : ℕ) → e ≢ ReplaceJudge m None)
+    → AllByRecursion (λ m. m < length old.masters) (judged_masters (length old.masters) e) → IsSame old new
+    → Steps s.opened.openings old new news s.taken t e → deed.entries ≡ (slave_step (node_setup s.opened) s.taken t e).entries
+    → after.sent ≡ deed.datagrams → HasStepped ip new news after s deed
+stepped ip old new judges news before after begun s t e deed h ruled within same steps entries sends = record {
+  node = λ cleared idle. record {
+    address = h.address;
+    config = h.config ∙ sym same.config;
+    masters = h.masters ∙ sym same.masters;
+    limits = subst IsWithinLimits (sym same.config) h.limits;
+    distinct = subst AreMasters (sym same.masters) h.distinct;
+    stands = subst (λ E. StandsFor openings new news (s.taken ++ E)) same_entries (ruled_step openings old new news s.taken t e still below steps);
+    ruled = still;
+    fresh = λ (is : true ≡ false). absurd (false≢true (sym is));
+    idle = idle;
+  };
+  sends = sends;
+}
+  where
+    openings : List (Option Rule)
+    openings = s.opened.openings
+
+    still : AllByRecursion (λ held. IsSome held.rule) news
+    still = rules_stay openings old new judges news s.taken t e ruled h.ruled h.stands steps
+
+    same_entries : (slave_step (setup_of old.config openings) s.taken t e).entries ≡ deed.entries
+    same_entries = ap (λ (config : SlaveConfig). (slave_step (setup_of config openings) s.taken t e).entries) (sym h.config) ∙ sym entries
+
+    below : AllByRecursion (λ m. m < length news) (judged_masters (length openings) e)
+    below =
+        subst (λ n. AllByRecursion (λ m. m < n) (judged_masters (length openings) e)) (ap length (sym same.masters) ∙ sym steps.stands.each_judged)
+        (subst (λ n. AllByRecursion (λ m. m < length old.masters) (judged_masters n e)) (sym h.stands.each_opening) within)
+
+-- an event that no datagram makes, with room for all that it sends
+pub plain_stepped : (ip : ℕ) (old new : Kept) (judges news : List Held) (before room after : MemoryPort) (begun : Bool) (s : Slave) (t at : ℕ) (e : SlaveEvent) (handed : List Sending)
+    → IsSlaveNode ip old judges before begun s → ((m : ℕ) → e ≢ ReplaceJudge m None)
+    → AllByRecursion (λ m. m < length old.masters) (judged_masters (length old.masters) e) → IsSame old new
+    → Steps s.opened.openings old new news s.taken t e → at ≡ max t old.moment → room.sent ≡ before.sent
+    → Some (room.sent ++ map (departure_of old.config old.masters all_ones) handed) ≡ Some after.sent
+    → handed ≡ sendings (setup_of old.config s.opened.openings) s.taken at e
+    → HasStepped ip new news after s (deed s.opened s.taken t e)
+plain_stepped ip old new judges news before room after begun s t at e handed h ruled within same steps is kept told stated =
+    stepped ip old new judges news before after begun s t e (deed s.opened s.taken t e) h ruled within same steps refl
+    (all_sent room after _ (kept ∙ h.idle) told
+    ∙ ap (map (departure_of old.config old.masters all_ones)) stated
+    ∙ ap (λ x. map (departure_of old.config old.masters all_ones) (sendings (setup_of old.config s.opened.openings) s.taken x e)) (is ∙ moment_is s.opened.openings old judges s.taken t h.stands)
+    ∙ ap₂ (λ (config : SlaveConfig) (masters : List Master). map (departure_of config masters all_ones) (sendings (setup_of config s.opened.openings) s.taken (event_moment s.taken t) e)) (sym h.config) (sym h.masters))
+
+-- ---- what is said
+
+-- nothing is said of an ask
+abbrev pub IsOther : Statement → Type 0
+IsOther statement = (is_granted statement ≡ false) × (is_short statement ≡ false)
+
+all_append : (xs ys : List Statement) → AllByRecursion IsOther xs → AllByRecursion IsOther ys → AllByRecursion IsOther (xs ++ ys)
+all_append [] ys f g = g
+all_append (x ∷ xs) ys f g = (f.0, all_append xs ys f.1 g)
+
+sends_other : (n : ℕ) (sent : List Sent) → AllByRecursion IsOther (sending_said n sent)
+sends_other n [] = tt
+sends_other n (x ∷ sent) = ((refl, refl), sends_other (n + 1) sent)
+
+none_counted : (p : Statement → Bool) (xs : List Statement) → AllByRecursion (λ x. p x ≡ false) xs → 0 ≡ count_by p xs
+none_counted p [] none = refl
+none_counted p (x ∷ xs) none =
+    sym (sum_by-cons (λ x. cond (p x) 1 0) x xs ∙ ap₂ (λ m n. m + n) (ap (λ b. cond b 1 0) none.0) (sym (none_counted p xs none.1)))
+
+granted_none : (xs : List Statement) → AllByRecursion IsOther xs → AllByRecursion (λ x. is_granted x ≡ false) xs
+granted_none [] all = tt
+granted_none (x ∷ xs) all = (all.0.0, granted_none xs all.1)
+
+short_none : (xs : List Statement) → AllByRecursion IsOther xs → AllByRecursion (λ x. is_short x ≡ false) xs
+short_none [] all = tt
+short_none (x ∷ xs) all = (all.0.1, short_none xs all.1)
+
+-- what is said of an event, and what it sent was handed over
+pub event_done : (ip line t : ℕ) (new : Kept) (news : List Held) (after last : MemoryPort) (s : Slave) (said : List Statement) (deed : Deed)
+    (sent sent' : List Sent) (texts middle texts' : List (List ℕ)) → HasStepped ip new news after s deed → IsIdle last → AllByRecursion IsOther said
+    → middle ≡ texts ++ map (text_at line) said → sent' ≡ sent ++ map (sent_from ip) after.sent
+    → ((openings : List (Option Rule)) (L : Record) → StandsFor openings new news L
+    → texts' ≡ middle ++ map (text_at line) (sending_said (length sent) (map (sent_from ip) after.sent) ++ selection_by ip new L t ∷ []))
+    → HasDone (StandsAsSlave ip new news last true) ip line (event_deed s t said deed) sent sent' texts texts' 0 0
+event_done ip line t new news after last s said deed sent sent' texts middle texts' h idle others before sends says = record {
+  node = node;
+  sends = sends ∙ ap (λ ds. sent ++ map (sent_from ip) ds) h.sends;
+  says = says s.opened.openings (s.taken ++ deed.entries) node.stands ∙ ap₂ (λ m st. m ++ map (text_at line) st) before same
+      ∙ append_assoc texts (map (text_at line) said) (map (text_at line) (sends_said ++ added))
+      ∙ ap (λ l. texts ++ l) (sym (map-append (text_at line) said (sends_said ++ added)) ∙ ap (map (text_at line)) (sym (append_assoc said sends_said added)));
+  grants = none_counted is_granted (said ++ sends_said ++ added) (granted_none (said ++ sends_said ++ added) all);
+  shortages = none_counted is_short (said ++ sends_said ++ added) (short_none (said ++ sends_said ++ added) all);
+}
+  where
+    node : IsSlaveNode ip new news last true (entered s deed)
+    node = h.node last idle
+
+    sends_said : List Statement
+    sends_said = sending_said (length sent) (map (sent_from ip) deed.datagrams)
+
+    added : List Statement
+    added = selection_said (entered s deed) t ∷ []
+
+    selection : selection_by ip new (s.taken ++ deed.entries) t ≡ selection_said (entered s deed) t
+    selection =
+        ap (λ a. Selected a (option_map (address_of new.masters) (selected_master (timeouts new.config) (priorities new.masters) (s.taken ++ deed.entries) (event_moment (s.taken ++ deed.entries) t)))) (sym node.address)
+        ∙ ap₂ (λ (config : SlaveConfig) (masters : List Master). Selected s.ip (option_map (address_of masters) (selected_master (timeouts config) (priorities masters) (s.taken ++ deed.entries) (event_moment (s.taken ++ deed.entries) t))))
+        (sym node.config) (sym node.masters)
+
+    same : sending_said (length sent) (map (sent_from ip) after.sent) ++ selection_by ip new (s.taken ++ deed.entries) t ∷ [] ≡ sends_said ++ added
+    same = ap₂ (λ ds st. sending_said (length sent) (map (sent_from ip) ds) ++ st ∷ []) h.sends selection
+
+    all : AllByRecursion IsOther (said ++ sends_said ++ added)
+    all = all_append (said ++ sends_said) added (all_append said sends_said others (sends_other (length sent) (map (sent_from ip) deed.datagrams))) ((refl, refl), tt)
+
+-- what follows from what three clauses say of an `Ok`
+pub on_ok_each : {T E A B C D : Type 0} (r : Result T E) → (A → B → C → D) → OnOk r A → OnOk r B → OnOk r C → OnOk r D
+on_ok_each (Ok x) f a b c = f a b c
+on_ok_each (Err x) f a b c = tt
+
+-- the same of what is kept, and is the same, at the end
+pub ended : (ip ip' line t : ℕ) (new kept : Kept) (news judges : List Held) (after last : MemoryPort) (s : Slave) (said : List Statement) (deed : Deed)
+    (sent sent' : List Sent) (texts middle texts' : List (List ℕ)) → ip' ≡ ip → kept ≡ new → judges ≡ news → HasStepped ip new news after s deed
+    → AllByRecursion IsOther said → middle ≡ texts ++ map (text_at line) said → IsIdle last → sent' ≡ sent ++ map (sent_from ip) after.sent
+    → ((openings : List (Option Rule)) (L : Record) → StandsFor openings new news L
+    → texts' ≡ middle ++ map (text_at line) (sending_said (length sent) (map (sent_from ip) after.sent) ++ selection_by ip new L t ∷ []))
+    → HasDone (StandsAsSlave ip' kept judges last true) ip line (event_deed s t said deed) sent sent' texts texts' 0 0
+ended ip ip' line t new kept news judges after last s said deed sent sent' texts middle texts' same_ip same_kept same_judges h others before idle sends says =
+    subst (λ a. HasDone (StandsAsSlave a kept judges last true) ip line (event_deed s t said deed) sent sent' texts texts' 0 0) (sym same_ip)
+    (subst (λ k. HasDone (StandsAsSlave ip k judges last true) ip line (event_deed s t said deed) sent sent' texts texts' 0 0) (sym same_kept)
+    (subst (λ js. HasDone (StandsAsSlave ip new js last true) ip line (event_deed s t said deed) sent sent' texts texts' 0 0) (sym same_judges)
+    (event_done ip line t new news after last s said deed sent sent' texts middle texts' h idle others before sends says)))
+
+-- where nothing is sent
+pub quietly_ended : (ip ip' line t : ℕ) (new kept : Kept) (news judges : List Held) (before after last : MemoryPort) (s : Slave) (deed : Deed)
+    (sent : List Sent) (texts texts' : List (List ℕ)) → ip' ≡ ip → kept ≡ new → HasStepped ip new news after s deed → judges ≡ news
+    → after ≡ before → last ≡ after → IsIdle before
+    → ((openings : List (Option Rule)) (L : Record) → StandsFor openings new news L → texts' ≡ texts ++ text_at line (selection_by ip new L t) ∷ [])
+    → HasDone (StandsAsSlave ip' kept judges last true) ip line (event_deed s t [] deed) sent sent texts texts' 0 0
+quietly_ended ip ip' line t new kept news judges before after last s deed sent texts texts' same_ip same_kept h same_judges still kept_port idle says =
+    ended ip ip' line t new kept news judges after last s [] deed sent sent texts texts texts' same_ip same_kept same_judges h tt (sym (append-nil texts))
+    (ap (λ (p : MemoryPort). p.sent) kept_port ∙ none) (sym (ap (λ ds. sent ++ map (sent_from ip) ds) none ∙ append-nil sent))
+    (λ openings L stands. says openings L stands ∙ ap (λ ds. texts ++ map (text_at line) (sending_said (length sent) (map (sent_from ip) ds) ++ selection_by ip new L t ∷ [])) (sym none))
+  where
+    none : after.sent ≡ []
+    none = ap (λ (p : MemoryPort). p.sent) still ∙ idle
+
+-- a fresh judge of this rule took over
+pub replaced : (ip : ℕ) (old new : Kept) (judges news : List Held) (judge : Held) (before after : MemoryPort) (begun : Bool) (s : Slave) (t m : ℕ) (rule : Rule)
+    → judge ≡ fresh rule → IsSlaveNode ip old judges before begun s → m < length old.masters → IsSame old new
+    → Steps s.opened.openings old new news s.taken t (ReplaceJudge m judge.rule) → after ≡ before → HasStepped ip new news after s (deed s.opened s.taken t (ReplaceJudge m (Some rule)))
+replaced ip old new judges news judge before after begun s t m rule is h within same steps still =
+    stepped ip old new judges news before after begun s t (ReplaceJudge m (Some rule)) (deed s.opened s.taken t (ReplaceJudge m (Some rule))) h (λ n other. absurd (cc other)) (within, tt) same
+    (subst (λ (j : Held). Steps s.opened.openings old new news s.taken t (ReplaceJudge m j.rule)) is steps) refl
+    (ap (λ (p : MemoryPort). p.sent) still ∙ h.idle)
+
+-- a judge that is fresh
+pub fresh_is : (held : Held) (rule : Rule) → held ≡ fresh rule → IsFresh held
+fresh_is held rule is = subst IsFresh (sym is) refl

@@ -1,0 +1,311 @@
+-- What a slave of a script heard, and what it does of it.
+use Rattle.std.proofs.Common.{◌≡◌, ◌≢◌, ℕ, suc, ◌+◌, ◌<◌, max, Bool, true, false, List, [], ◌∷◌, ◌++◌, length, map, Option, Some, None, Ok, Err, refl, ap, ap₂, sym, subst, ◌∙◌, arith}
+use Rattle.std.proofs.lemmas.Bool.{false≢true}
+use Rattle.std.proofs.lemmas.List.{append-nil}
+use Rattle.std.proofs.lemmas.List.Quantifiers.{position-Some}
+use Rattle.std.specs.List.{AllByRecursion}
+use Rattle.std.specs.Prelude.{Result, if◌then◌else◌, ◌==◌, not}
+use Rattle.ptu_header.specs.declared.header.Header.{Header}
+use Rattle.ptu_messages.specs.declared.fault.MessageFault.{MessageFault}
+use Rattle.ptu_messages.specs.declared.message.Body.{Body}
+use Rattle.ptu_messages.specs.declared.message.Body.TheVariants as body
+use Rattle.ptu_messages.specs.declared.message.Message.{Message}
+use Rattle.ptu_messages.specs.Reading.{message_in}
+use Rattle.ptu_outside.specs.MemoryPort.{MemoryPort}
+use Rattle.ptu_record.specs.declared.rule.Rule.{Rule}
+use Rattle.ptu_record.specs.declared.wants.Wants.{Wants}
+use Rattle.ptu_record.specs.Record.{Record, event_moment}
+use Rattle.ptu_record.specs.Step.{ReplaceJudge, judged_masters, one_reply}
+use Rattle.ptu_judges.specs.Held.{Held}
+use Rattle.ptu_slave_messages.specs.declared.config.Master.{Master}
+use Rattle.ptu_slave_messages.specs.declared.config.SlaveConfig.{SlaveConfig}
+use Rattle.ptu_slave_messages.specs.declared.heard.Heard.{Heard}
+use Rattle.ptu_slave_messages.specs.declared.heard.Heard.TheVariants as heard
+use Rattle.ptu_slave_messages.specs.declared.heard.HeardReply.{HeardReply}
+use Rattle.ptu_slave_messages.specs.declared.heard.HeardReply.TheVariants.{Sent, Failed, Nothing}
+use Rattle.ptu_slave_messages.specs.declared.reason.SlaveReason.{SlaveReason}
+use Rattle.ptu_slave_messages.specs.declared.reason.SlaveReason.TheVariants.{Domain, Other, Target, UnknownType}
+use Rattle.ptu_slave_messages.specs.declared.signal.Signal.{Signal}
+use Rattle.ptu_slave_messages.specs.declared.signal.Signal.TheVariants as signals
+use Rattle.ptu_slave_messages.specs.Config.{place_of}
+use Rattle.ptu_slave_messages.specs.Heard.{answer_of, event_of, failed_by, heard_of, replies_in, replies_to, reply_by, reply_in, sent_by}
+use Rattle.ptu_slave_messages.specs.Node.{Deed, Node, datagram_deed, datagram_heard, reception_deed, reception_heard}
+use Rattle.ptu_slave_messages.specs.Reception.{beside, from_master, is_delay_req, is_for, is_unknown, of_reading, reception, sender_of}
+use Rattle.ptu_slave_messages.specs.Sending.{departure_of}
+use Rattle.ptu_slave.specs.Kept.{IsSame, Kept}
+use Rattle.ptu_slave.specs.Standing.{StandsFor, Steps}
+use Rattle.ptu_slave.proofs.Nodes.{node_replies}
+use Rattle.ptu_slave.proofs.Stepping.{moment_is}
+use Rattle.ptu_world.specs.Deeds.{Slave}
+use Rattle.ptu_report_lines.specs.declared.sent.Sent.{Sent as SentDatagram}
+use Rattle.ptu_world.specs.Report.{text_at}
+use Rattle.ptu_world.specs.World.{sending_said, sent_from}
+use Rattle.ptu_world.specs.Slaves as slaves
+use Rattle.ptu_world.specs.Slaves.{event_deed, heard_deed, heard_said, signal_said}
+use Rattle.ptu_nodes.specs.Doing.{HasDone}
+use Rattle.ptu_nodes.specs.Standing.{IsIdle, IsSlaveNode, StandsAsSlave}
+use Rattle.ptu_nodes.specs.SlaveStatements.{IsOfOne, is_ignored, is_unsent}
+use Rattle.ptu_nodes.specs.SlaveWords.{HasStepped, selection_by}
+use Rattle.ptu_nodes.proofs.SlaveEvents.{IsOther, all_sent, ended, stepped}
+
+-- ---- the reply
+
+-- that of one that does not fail is sent where there is one
+one_of : {A : Type 0} (r : HeardReply) (xs : List A) → is_unsent r ≡ false → sent_by r + failed_by r ≡ length xs → length xs < 2 → r ≡ reply_by xs
+one_of Sent [] sent each few = absurd (omega arith)
+one_of Sent (x ∷ xs) sent each few = refl
+one_of Failed xs sent each few = absurd (false≢true (sym sent))
+one_of Nothing [] sent each few = refl
+one_of Nothing (x ∷ xs) sent each few = absurd (omega arith)
+
+pub none_failed : (r : HeardReply) → is_unsent r ≡ false → failed_by r ≡ 0
+none_failed Sent sent = refl
+none_failed Failed sent = absurd (false≢true (sym sent))
+none_failed Nothing sent = refl
+
+length-same : {A B : Type 0} (f : A → B) (xs : List A) → length (map f xs) ≡ length xs
+length-same f [] = refl
+length-same f (x ∷ xs) = ap (λ n. suc n) (length-same f xs)
+
+few_replies : (m number : ℕ) (codes : List ℕ) → length (one_reply m number codes) < 2
+few_replies m number [] = omega arith
+few_replies m number (code ∷ codes) = omega arith
+
+heard_body : (node : Node) (x m : ℕ) (header : Header) (b : Body) (h : Heard) → h ≡ heard_of node.config.wants x (reply_in h) (m, record { header = header; body = b })
+    → is_unsent (reply_in h) ≡ false → sent_by (reply_in h) + failed_by (reply_in h) ≡ length (replies_to m (record { header = header; body = b }))
+    → h ≡ heard_of node.config.wants x (reply_by (replies_to m (record { header = header; body = b }))) (m, record { header = header; body = b })
+heard_body node x m header (body.Announce announce) h is sent each = is
+heard_body node x m header (body.Sync stamp) h is sent each = is
+heard_body node x m header (body.FollowUp stamp) h is sent each = is
+heard_body node x m header (body.DelayResp stamp requester) h is sent each = is
+heard_body node x m header (body.Signaling target tlvs) h is sent each =
+    is ∙ ap (λ reply. heard_of node.config.wants x reply (m, record { header = header; body = body.Signaling target tlvs })) (one_of (reply_in h) _ sent each (few_replies m header.sequence _))
+heard_body node x m header (body.DelayReq stamp) h is sent each = is
+heard_body node x m header body.Ignored h is sent each = is
+
+heard_is : (node : Node) (L : Record) (t x : ℕ) (r : Result (ℕ × Message) SlaveReason) (h : Heard) → x ≡ event_moment L t → h ≡ answer_of node.config.wants x (reply_in h) r
+    → is_unsent (reply_in h) ≡ false → sent_by (reply_in h) + failed_by (reply_in h) ≡ length (replies_in node.config node.masters r) → h ≡ reception_heard node L t r
+heard_is node L t x (Err reason) h at is sent each = is
+heard_is node L t x (Ok (m, message)) h at is sent each =
+    heard_body node x m message.header message.body h is sent (each ∙ length-same (departure_of node.config node.masters message.header.source) (replies_to m message))
+    ∙ ap (λ y. heard_of node.config.wants y (reply_by (replies_to m message)) (m, message)) at
+
+pub heard_datagram : (ip : ℕ) (old : Kept) (judges : List Held) (port : MemoryPort) (begun : Bool) (s : Slave) (t from : ℕ) (octets : List ℕ) (h : Heard)
+    → IsSlaveNode ip old judges port begun s → h ≡ answer_of old.config.wants (max t old.moment) (reply_in h) (reception old.config old.masters from octets)
+    → is_unsent (reply_in h) ≡ false
+    → sent_by (reply_in h) + failed_by (reply_in h) ≡ length (replies_in old.config old.masters (reception old.config old.masters from octets))
+    → h ≡ datagram_heard s.opened s.taken t from octets
+heard_datagram ip old judges port begun s t from octets h node is sent each =
+    subst (λ (n : Node). h ≡ datagram_heard n s.taken t from octets) same
+    (heard_is (record { config = old.config; masters = old.masters; openings = s.opened.openings }) s.taken t (max t old.moment) (reception old.config old.masters from octets) h
+    (moment_is s.opened.openings old judges s.taken t node.stands) is sent each)
+  where
+    same : record { config = old.config; masters = old.masters; openings = s.opened.openings } ≡ s.opened
+    same = ap₂ (λ (config : SlaveConfig) (masters : List Master). let n : Node = record { config = config; masters = masters; openings = s.opened.openings } in n) (sym node.config) (sym node.masters)
+
+-- ---- the master
+
+of_body : (wants : Wants) (x m n : ℕ) (header : Header) (b : Body) (reply : HeardReply) → m < n → IsOfOne n (heard_of wants x reply (m, record { header = header; body = b }))
+of_body wants x m n header (body.Announce announce) reply lt = lt
+of_body wants x m n header (body.Sync stamp) reply lt = lt
+of_body wants x m n header (body.FollowUp stamp) reply lt = lt
+of_body wants x m n header (body.DelayResp stamp requester) reply lt = lt
+of_body wants x m n header (body.Signaling target tlvs) reply lt = lt
+of_body wants x m n header (body.DelayReq stamp) reply lt = lt
+of_body wants x m n header body.Ignored reply lt = lt
+
+past : {A E : Type 0} (b : Bool) (e : E) (r : Result A E) (x : A) → (if b then Err e else r) ≡ Ok x → r ≡ Ok x
+past true e r x is = absurd (cc is)
+past false e r x is = is
+
+from_place : (config : SlaveConfig) (masters : List Master) (ip n : ℕ) (message : Message) (place : Option ℕ) → place_of masters ip ≡ place → from_master config message place ≡ Ok n → n < length masters
+from_place config masters ip n message None at is = absurd (cc is)
+from_place config masters ip n message (Some k) at is =
+    let here : (if not (is_for config.identity message.body) then Err Target else Ok k) ≡ Ok n =
+    past (not (message.header.domain == config.domain)) (Domain message.header.domain) (if not (is_for config.identity message.body) then Err Target else Ok k) n is in
+    let taken : Ok k ≡ Ok n = past (not (is_for config.identity message.body)) Target (Ok k) n here in
+    let same : k ≡ n = cc taken in
+    subst (λ i. i < length masters) same (position-Some (λ (master : Master). master.ip == ip) masters k (record { ip = 0; priority = 0 }) at).0
+
+from_beside : (config : SlaveConfig) (masters : List Master) (ip m : ℕ) (read message : Message) (o : Result ℕ SlaveReason) → sender_of config masters ip read ≡ o → beside read o ≡ Ok (m, message) → m < length masters
+from_beside config masters ip m read message (Err reason) sender is = absurd (cc is)
+from_beside config masters ip m read message (Ok n) sender is =
+    let known : (if is_delay_req read.body then Err (Other read.header.message_type) else from_master config read (place_of masters ip)) ≡ Ok n =
+    past (is_unknown read.body) (UnknownType read.header.message_type) (if is_delay_req read.body then Err (Other read.header.message_type) else from_master config read (place_of masters ip)) n sender in
+    subst (λ i. i < length masters) (ap first is)
+    (from_place config masters ip n read (place_of masters ip) refl (past (is_delay_req read.body) (Other read.header.message_type) (from_master config read (place_of masters ip)) n known))
+  where
+    first : Result (ℕ × Message) SlaveReason → ℕ
+    first (Err reason) = 0
+    first (Ok taken) = taken.0
+
+-- who sends a message that is taken stands in the list
+pub taken_within : (config : SlaveConfig) (masters : List Master) (ip m : ℕ) (message : Message) (octets : List ℕ) → reception config masters ip octets ≡ Ok (m, message) → m < length masters
+taken_within config masters ip m message octets = by_reading (message_in octets)
+  where
+    by_reading : (r : Result Message MessageFault) → of_reading config masters ip r ≡ Ok (m, message) → m < length masters
+    by_reading (Err fault) is = absurd (cc is)
+    by_reading (Ok read) is = from_beside config masters ip m read message (sender_of config masters ip read) refl is
+
+pub answer_within : (config : SlaveConfig) (masters : List Master) (x ip : ℕ) (octets : List ℕ) (reply : HeardReply) (h : Heard) → h ≡ answer_of config.wants x reply (reception config masters ip octets)
+    → IsOfOne (length masters) h
+answer_within config masters x ip octets reply h is = by_reception (reception config masters ip octets) refl is
+  where
+    by_reception : (r : Result (ℕ × Message) SlaveReason) → reception config masters ip octets ≡ r → h ≡ answer_of config.wants x reply r → IsOfOne (length masters) h
+    by_reception (Err reason) taken same = subst (IsOfOne (length masters)) (sym same) tt
+    by_reception (Ok (m, message)) taken same =
+        subst (IsOfOne (length masters)) (sym same) (of_body config.wants x m (length masters) message.header message.body reply (taken_within config masters ip m message octets taken))
+
+-- ---- the step
+
+no_judge : (m n : ℕ) (header : Header) (b : Body) → event_of m (record { header = header; body = b }) ≢ ReplaceJudge n None
+no_judge m n header (body.Announce announce) = λ is. absurd (cc is)
+no_judge m n header (body.Sync stamp) = λ is. absurd (cc is)
+no_judge m n header (body.FollowUp stamp) = λ is. absurd (cc is)
+no_judge m n header (body.DelayResp stamp requester) = λ is. absurd (cc is)
+no_judge m n header (body.Signaling target tlvs) = λ is. absurd (cc is)
+no_judge m n header (body.DelayReq stamp) = λ is. absurd (cc is)
+no_judge m n header body.Ignored = λ is. absurd (cc is)
+
+judged_within : (m n : ℕ) (header : Header) (b : Body) → m < n → AllByRecursion (λ k. k < n) (judged_masters n (event_of m (record { header = header; body = b })))
+judged_within m n header (body.Announce announce) lt = tt
+judged_within m n header (body.Sync stamp) lt = (lt, tt)
+judged_within m n header (body.FollowUp stamp) lt = tt
+judged_within m n header (body.DelayResp stamp requester) lt = tt
+judged_within m n header (body.Signaling target tlvs) lt = tt
+judged_within m n header (body.DelayReq stamp) lt = tt
+judged_within m n header body.Ignored lt = tt
+
+-- where nothing happened
+unstepped : (ip : ℕ) (old new : Kept) (judges news : List Held) (before after : MemoryPort) (begun : Bool) (s : Slave) → IsSlaveNode ip old judges before begun s → new ≡ old → news ≡ judges
+    → after.sent ≡ [] → HasStepped ip new news after s (record { entries = []; datagrams = [] })
+unstepped ip old new judges news before after begun s h same same_judges sent =
+    subst (λ k. HasStepped ip k news after s (record { entries = []; datagrams = [] })) (sym same)
+    (subst (λ js. HasStepped ip old js after s (record { entries = []; datagrams = [] })) (sym same_judges)
+    (record {
+      node = λ cleared idle. subst (λ L. IsSlaveNode ip old judges cleared true (record s { taken = L })) (sym (append-nil s.taken)) (anew cleared idle);
+      sends = sent;
+    }))
+  where
+    anew : (cleared : MemoryPort) → IsIdle cleared → IsSlaveNode ip old judges cleared true s
+    anew cleared idle = record {
+      address = h.address;
+      config = h.config;
+      masters = h.masters;
+      limits = h.limits;
+      distinct = h.distinct;
+      stands = h.stands;
+      ruled = h.ruled;
+      fresh = λ (is : true ≡ false). absurd (false≢true (sym is));
+      idle = idle;
+    }
+
+pub datagram_stepped : (ip : ℕ) (old new : Kept) (judges news : List Held) (before room after : MemoryPort) (begun : Bool) (s : Slave) (t from : ℕ) (octets : List ℕ)
+    → IsSlaveNode ip old judges before begun s → IsSame old new
+    → ((reason : SlaveReason) → reception old.config old.masters from octets ≡ Err reason → (new ≡ old) × (news ≡ judges))
+    → ((m : ℕ) (message : Message) → reception old.config old.masters from octets ≡ Ok (m, message) → Steps s.opened.openings old new news s.taken t (event_of m message))
+    → room.sent ≡ before.sent
+    → Some (room.sent ++ replies_in old.config old.masters (reception old.config old.masters from octets)) ≡ Some after.sent
+    → HasStepped ip new news after s (datagram_deed s.opened s.taken t from octets)
+datagram_stepped ip old new judges news before room after begun s t from octets h same ignored steps kept told =
+    subst (λ (n : Node). HasStepped ip new news after s (datagram_deed n s.taken t from octets)) same_node
+    (by_reception (reception old.config old.masters from octets) refl (all_sent room after _ (kept ∙ h.idle) told ∙ node_replies node s.taken t from octets))
+  where
+    node : Node
+    node = record { config = old.config; masters = old.masters; openings = s.opened.openings }
+
+    same_node : node ≡ s.opened
+    same_node = ap₂ (λ (config : SlaveConfig) (masters : List Master). let n : Node = record { config = config; masters = masters; openings = s.opened.openings } in n) (sym h.config) (sym h.masters)
+
+    by_reception : (r : Result (ℕ × Message) SlaveReason) → reception old.config old.masters from octets ≡ r → after.sent ≡ (reception_deed node s.taken t r).datagrams
+        → HasStepped ip new news after s (reception_deed node s.taken t r)
+    by_reception (Err reason) taken sends = unstepped ip old new judges news before after begun s h (ignored reason taken).0 (ignored reason taken).1 sends
+    by_reception (Ok (m, message)) taken sends =
+        stepped ip old new judges news before after begun s t (event_of m message) (reception_deed node s.taken t (Ok (m, message))) h (λ n. no_judge m n message.header message.body)
+        (judged_within m (length old.masters) message.header message.body (taken_within old.config old.masters from m message octets taken)) same (steps m message taken)
+        (ap (λ (n : Node). (reception_deed n s.taken t (Ok (m, message))).entries) same_node) sends
+
+-- ---- what is said
+
+heard_other : (masters : List Master) (h : Heard) → AllByRecursion IsOther (heard_said masters h)
+heard_other masters (heard.Ignored reason) = ((refl, refl), tt)
+heard_other masters (heard.Announce x m class) = ((refl, refl), tt)
+heard_other masters (heard.Sync x m number) = ((refl, refl), tt)
+heard_other masters (heard.FollowUp x m) = ((refl, refl), tt)
+heard_other masters (heard.DelayResp x m number) = ((refl, refl), tt)
+heard_other masters (heard.Signals x m list reply) = all list
+  where
+    all : (list : List Signal) → AllByRecursion IsOther (map signal_said list)
+    all [] = tt
+    all (signals.Grant k seconds ∷ list) = ((refl, refl), all list)
+    all (signals.Denial k ∷ list) = ((refl, refl), all list)
+    all (signals.Cancel code ∷ list) = ((refl, refl), all list)
+    all (signals.Ack code ∷ list) = ((refl, refl), all list)
+
+-- a datagram that is no event
+nothing_done : (node : Node) (L : Record) (t : ℕ) (r : Result (ℕ × Message) SlaveReason) → is_ignored (reception_heard node L t r) ≡ true → reception_deed node L t r ≡ record { entries = []; datagrams = [] }
+nothing_done node L t (Err reason) is = refl
+nothing_done node L t (Ok (m, message)) is = absurd (false≢true (by_body message.header message.body (reply_by (replies_to m message)) ∙ is))
+  where
+    by_body : (header : Header) (b : Body) (reply : HeardReply) → false ≡ is_ignored (heard_of node.config.wants (event_moment L t) reply (m, record { header = header; body = b }))
+    by_body header (body.Announce announce) reply = refl
+    by_body header (body.Sync stamp) reply = refl
+    by_body header (body.FollowUp stamp) reply = refl
+    by_body header (body.DelayResp stamp requester) reply = refl
+    by_body header (body.Signaling target tlvs) reply = refl
+    by_body header (body.DelayReq stamp) reply = refl
+    by_body header body.Ignored reply = refl
+
+-- the deed of an event
+event_heard : (s : Slave) (t : ℕ) (d : Deed) (h : Heard) → is_ignored h ≡ false → heard_deed s t d h ≡ event_deed s t (heard_said s.opened.masters h) d
+event_heard s t d (heard.Ignored reason) is = absurd (false≢true (sym is))
+event_heard s t d (heard.Announce x m class) is = refl
+event_heard s t d (heard.Sync x m number) is = refl
+event_heard s t d (heard.FollowUp x m) is = refl
+event_heard s t d (heard.DelayResp x m number) is = refl
+event_heard s t d (heard.Signals x m list reply) is = refl
+
+pub event_received : (ip ip' line t from : ℕ) (octets : List ℕ) (old new kept : Kept) (masters : List Master) (news judges : List Held) (after last : MemoryPort) (s : Slave) (h : Heard)
+    (sent sent' : List SentDatagram) (texts middle texts' : List (List ℕ)) → ip' ≡ ip → kept ≡ new → judges ≡ news → s.opened.masters ≡ old.masters
+    → HasStepped ip new news after s (datagram_deed s.opened s.taken t from octets) → h ≡ datagram_heard s.opened s.taken t from octets
+    → is_ignored h ≡ false → masters ≡ old.masters → middle ≡ texts ++ map (text_at line) (heard_said masters h) → IsIdle last → sent' ≡ sent ++ map (sent_from ip) after.sent
+    → ((openings : List (Option Rule)) (L : Record) → StandsFor openings new news L
+    → texts' ≡ middle ++ map (text_at line) (sending_said (length sent) (map (sent_from ip) after.sent) ++ selection_by ip new L t ∷ []))
+    → HasDone (StandsAsSlave ip' kept judges last true) ip line (slaves.datagram_deed s t from octets) sent sent' texts texts' 0 0
+event_received ip ip' line t from octets old new kept masters news judges after last s h sent sent' texts middle texts' same_ip same_kept same_judges opened stepped is event same before idle sends says =
+    subst (λ d. HasDone (StandsAsSlave ip' kept judges last true) ip line d sent sent' texts texts' 0 0)
+    (sym (ap (heard_deed s t deed) (sym is) ∙ event_heard s t deed h event))
+    (ended ip ip' line t new kept news judges after last s (heard_said s.opened.masters h) deed sent sent' texts middle texts' same_ip same_kept same_judges stepped
+    (heard_other s.opened.masters h) (before ∙ ap (λ ms. texts ++ map (text_at line) (heard_said ms h)) (same ∙ sym opened)) idle sends says)
+  where
+    deed : Deed
+    deed = datagram_deed s.opened s.taken t from octets
+
+pub nothing_received : (ip line t from : ℕ) (octets : List ℕ) (new : Kept) (masters : List Master) (news : List Held) (after : MemoryPort) (s : Slave) (h : Heard)
+    (sent : List SentDatagram) (texts texts' : List (List ℕ)) → HasStepped ip new news after s (datagram_deed s.opened s.taken t from octets) → h ≡ datagram_heard s.opened s.taken t from octets
+    → is_ignored h ≡ true → texts' ≡ texts ++ map (text_at line) (heard_said masters h)
+    → HasDone (StandsAsSlave ip new news after true) ip line (slaves.datagram_deed s t from octets) sent sent texts texts' 0 0
+nothing_received ip line t from octets new masters news after s h sent texts texts' stepped is none says =
+    subst (λ g. HasDone (StandsAsSlave ip new news after true) ip line (heard_deed s t deed g) sent sent texts texts' 0 0) is (by_heard h none says)
+  where
+    deed : Deed
+    deed = datagram_deed s.opened s.taken t from octets
+
+    empty : deed ≡ record { entries = []; datagrams = [] }
+    empty = nothing_done s.opened s.taken t (reception s.opened.config s.opened.masters from octets) (ap is_ignored (sym is) ∙ none)
+
+    idle : IsIdle after
+    idle = stepped.sends ∙ ap (λ (d : Deed). d.datagrams) empty
+
+    node : IsSlaveNode ip new news after true s
+    node =
+        subst (λ L. IsSlaveNode ip new news after true (record s { taken = L })) (ap (λ (d : Deed). s.taken ++ d.entries) empty ∙ append-nil s.taken) (stepped.node after idle)
+
+    by_heard : (g : Heard) → is_ignored g ≡ true → texts' ≡ texts ++ map (text_at line) (heard_said masters g)
+        → HasDone (StandsAsSlave ip new news after true) ip line (heard_deed s t deed g) sent sent texts texts' 0 0
+    by_heard (heard.Ignored reason) same said = record { node = node; sends = sym (append-nil sent); says = said; grants = refl; shortages = refl }
+    by_heard (heard.Announce x m class) same said = absurd (false≢true same)
+    by_heard (heard.Sync x m number) same said = absurd (false≢true same)
+    by_heard (heard.FollowUp x m) same said = absurd (false≢true same)
+    by_heard (heard.DelayResp x m number) same said = absurd (false≢true same)
+    by_heard (heard.Signals x m list reply) same said = absurd (false≢true same)

@@ -1,0 +1,6 @@
+pub mod Standing
+pub mod Doing
+pub mod GrandmasterPorts
+pub mod GrandmasterStatements
+pub mod SlaveStatements
+pub mod SlaveWords

@@ -1,0 +1,44 @@
+-- What a slave of a script is set up with, and what is said of what it selects.
+use Rattle.std.specs.Prelude.{◌≡◌, ℕ, true, List}
+use Rattle.ptu_outside.specs.MemoryPort.{MemoryPort}
+use Rattle.ptu_judges.specs.Held.{Held}
+use Rattle.ptu_slave_messages.specs.Node.{Deed}
+use Rattle.ptu_world.specs.Deeds.{Slave}
+use Rattle.ptu_world.specs.Slaves.{entered}
+use Rattle.ptu_nodes.specs.Standing.{IsIdle, IsSlaveNode}
+use Rattle.ptu_record.specs.Record.{Record}
+use Rattle.ptu_slave_messages.specs.declared.config.SlaveConfig.{SlaveConfig}
+use Rattle.ptu_script.specs.declared.command.SlaveSetup.{SlaveSetup}
+use Rattle.ptu_report_lines.specs.declared.statement.Statement.{Statement}
+use Rattle.ptu_report_lines.specs.declared.statement.Statement.TheVariants.{Selected}
+use Rattle.ptu_slave.specs.Kept.{Kept}
+use Rattle.ptu_slave.specs.Seen.{Seen}
+use Rattle.ptu_slave.specs.Standing.{selected_address}
+
+-- what a slave selects, of which this is kept, as it is said of the slave at this address
+abbrev pub selection_by : ℕ → Kept → Record → ℕ → Statement
+selection_by ip kept L t = Selected ip (selected_address kept L t)
+
+-- what a line of a script sets a slave up with
+abbrev pub new_config : SlaveSetup → SlaveConfig
+new_config setup = record {
+  identity = record { clock = setup.clock; port = setup.port };
+  domain = setup.domain;
+  wants = setup.wants;
+  announce_timeout = setup.announce_timeout;
+  sync_timeout = setup.sync_timeout;
+  delay_timeout = setup.delay_timeout;
+  wait = setup.wait;
+}
+
+-- an event has made of the slave of a world the slave with the entries of this deed, of which this
+-- is kept then, and whose judges hold this; its port holds what the deed sends, until it is cleared
+pub record HasStepped (ip : ℕ) (kept : Kept) (judges : List Held) (port : MemoryPort) (s : Slave)
+    (deed : Deed) : Type 0 where
+  pub node : (cleared : MemoryPort) → IsIdle cleared
+      → IsSlaveNode ip kept judges cleared true (entered s deed)
+  pub sends : port.sent ≡ deed.datagrams
+
+-- the same of what is seen of a slave
+abbrev pub HasSteppedTo : {B : Type 0} → ℕ → Seen MemoryPort B → Slave → Deed → Type 0
+HasSteppedTo ip seen s deed = HasStepped ip seen.kept seen.judges seen.port s deed
