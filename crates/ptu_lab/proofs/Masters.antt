@@ -2,6 +2,7 @@
 use Rattle.std.proofs.Common.{◌≡◌, ◌∙◌, ℕ, ◌+◌, Bool, true, false, cond, List, [], length, Option, Some, None, Result, Ok, Err, is_some, refl, sym, ap, ap₂, subst, arith}
 use Rattle.std.specs.Prelude.{if◌then◌else◌, nat_eq, nat_le}
 use Rattle.std.specs.HashMap.{get}
+use Rattle.ptu_outside.specs.MemoryPort.{MemoryPort}
 use Rattle.ptu_record.specs.declared.rule.Rule.{Rule}
 use Rattle.ptu_judges.specs.Held.{Held, fresh}
 use Rattle.ptu_slave_messages.specs.Config.{place_of}
@@ -13,12 +14,13 @@ use Rattle.ptu_script.specs.declared.command.Command.TheVariants as commands
 use Rattle.ptu_world.specs.Deeds as world
 use Rattle.ptu_world.specs.World.{Done, Stock, World, add_master, node_at, placed, quietly, slave_by, step, stock_without, with_master}
 use Rattle.ptu_world.specs.Report.{Course, outcome_by}
+use Rattle.ptu_slave.specs.Seen.{Seen}
 use Rattle.ptu_nodes.specs.declared.slave_node.SlaveNode.{SlaveNode}
 use Rattle.ptu_lab.specs.declared.lab.Node.{Node}
 use Rattle.ptu_lab.specs.declared.lab.Node.TheVariants as nodes
 use Rattle.ptu_lab.specs.declared.lab.Lab.{Lab}
 use Rattle.ptu_lab.specs.Steps.{HasTaken, IsNoSlave, stock_of}
-use Rattle.ptu_nodes.specs.Standing.{IsSlaveNode, StandsAsSlave}
+use Rattle.ptu_nodes.specs.Standing.{IsNode, StandsAsNode}
 use Rattle.ptu_lab.specs.Standing.{Agrees, StandsFor}
 use Rattle.ptu_lab.proofs.Nodes.{placed_agree}
 

@@ -3,6 +3,7 @@ use Rattle.std.proofs.Common.{◌≡◌, ◌∙◌, ℕ, ◌+◌, ◌++◌, Bool
 use Rattle.std.specs.Prelude.{nat_eq}
 use Rattle.std.specs.List.{count_by}
 use Rattle.std.specs.HashMap.{HashMap, get}
+use Rattle.ptu_outside.specs.MemoryPort.{MemoryPort}
 use Rattle.ptu_judges.specs.Held.{Held}
 use Rattle.ptu_report_lines.specs.declared.sent.Sent.{Sent}
 use Rattle.ptu_world.specs.Deeds as world
@@ -18,12 +19,13 @@ use Rattle.ptu_script.specs.declared.cause.Cause.TheVariants as causes
 use Rattle.ptu_script.specs.declared.command.Command.TheVariants as commands
 use Rattle.ptu_report_lines.specs.declared.statement.Statement.TheVariants as statements
 use Rattle.ptu_script.specs.Fields.{◌>>=◌}
+use Rattle.ptu_slave.specs.Seen.{Seen}
 use Rattle.ptu_nodes.specs.declared.slave_node.SlaveNode.{SlaveNode}
 use Rattle.ptu_lab.specs.declared.lab.Node.{Node}
 use Rattle.ptu_lab.specs.declared.lab.Node.TheVariants as nodes
 use Rattle.ptu_lab.specs.declared.lab.Lab.{Lab}
 use Rattle.ptu_nodes.specs.Doing.{HasDone}
-use Rattle.ptu_nodes.specs.Standing.{IsSlaveNode, StandsAsSlave}
+use Rattle.ptu_nodes.specs.Standing.{IsNode, StandsAsNode}
 use Rattle.ptu_lab.specs.Standing.{Agrees, StandsAs, StandsFor}
 use Rattle.ptu_lab.specs.Steps.{HasActed, HasHanded, HasActedWithJudge, HasTaken, of_master, of_slave, stock_of}
 use Rattle.ptu_lab.proofs.Commands.{after_deed, after_judged, at_found, at_found_with_judge, at_node, at_node_with_judge}

@@ -8,6 +8,7 @@ ghost use Rattle.ptu_lab.specs.Steps.{HasHanded, HasStepped};
 ghost use Rattle.ptu_lab.specs.Standing.{StandsFor};
 
 use crate::lab::Lab;
+use ptu_judges::Judge;
 use ptu_report::Texts;
 use ptu_report_lines::{ReportLine, Statement};
 use ptu_script::Cause;

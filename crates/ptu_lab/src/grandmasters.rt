@@ -7,6 +7,7 @@ ghost use Rattle.ptu_lab.specs.Steps.{HasStepped};
 ghost use Rattle.ptu_lab.specs.Standing.{StandsFor};
 
 use crate::lab::Lab;
+use ptu_judges::Judge;
 use ptu_report::Texts;
 use ptu_script::Cause;
 use ptu_units::{Moment, OutOfMemory};

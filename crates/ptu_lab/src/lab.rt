@@ -8,7 +8,7 @@ ghost use Rattle.ptu_slave.specs.Seen.{seen};
 ghost use Rattle.ptu_lab.specs.Standing.{StandsFor};
 
 use crate::stock::Reserve;
-use ptu_judges::Stock;
+use ptu_judges::{Judge, Stock};
 use ptu_nodes::{GrandmasterNode, SlaveNode};
 use ptu_report::Texts;
 use ptu_report_lines::Sent;

@@ -17,7 +17,7 @@ ghost use Rattle.ptu_lab.specs.Standing.{StandsAs};
 
 use crate::lab::Node;
 use crate::stock::{Reserve, take_judge};
-use ptu_judges::Rule;
+use ptu_judges::{Judge, Rule};
 use ptu_nodes::Tally;
 use ptu_report::Texts;
 use ptu_report_lines::Sent;

@@ -13,7 +13,7 @@ ghost use Rattle.ptu_lab.specs.Standing.{StandsAs, StandsFor};
 
 use crate::lab::{Lab, Node};
 use crate::stock::take_judge;
-use ptu_judges::Rule;
+use ptu_judges::{Judge, Rule};
 use ptu_nodes::{GrandmasterNode, SlaveNode};
 use ptu_script::{Cause, GrandmasterSetup, SlaveSetup};
 use ptu_units::OutOfMemory;

@@ -8,7 +8,7 @@ ghost use Rattle.ptu_lab.specs.Steps.{HasStepped};
 ghost use Rattle.ptu_lab.specs.Standing.{StandsFor};
 
 use crate::lab::Lab;
-use ptu_judges::Rule;
+use ptu_judges::{Judge, Rule};
 use ptu_report::Texts;
 use ptu_script::Cause;
 use ptu_units::{Moment, OutOfMemory};

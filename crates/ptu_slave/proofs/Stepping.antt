@@ -55,23 +55,26 @@ pub record Entered (openings : List (Option Rule)) (old new : Kept) (judges news
 pub step_of : (openings : List (Option Rule)) (old new : Kept) (judges news : List Held) (L : Record) (t at : ℕ) (e : SlaveEvent) (assessments : List Bool)
     → StandsFor openings old judges L → at ≡ max t old.moment → Moves old new at → new.stopped ≡ old.stopped → length news ≡ length judges
     → Entered openings old new judges news L e assessments at → StepsBy assessments openings old new news L t e
-step_of openings old new judges news L t at e assessments h is moves still long entered = (record {
-  step = step_by setup assessments L t e;
-  is_step = record { assessments = assessments; found = whole.found; taken = refl };
-  stands = record {
-    told = h.told ++ E;
-    asks = whole.asks h.told h.told_all h.asks;
-    selects = whole.selects;
-    judge = whole.judge;
-    moment = moves.moment ∙ moment_after setup assessments L t at e same;
-    stopped = still ∙ h.stopped ∙ sym (list_any-append is_stop L E ∙ ap (λ b. list_any is_stop L || b) whole.unstopped ∙ or_false (list_any is_stop L));
-    told_all = λ going. ap (λ w. w ++ E) (h.told_all (sym still ∙ going));
-    grants = subst (λ n. SameGrants n new.moment (h.told ++ E) (L ++ E)) (ap length (sym moves.masters))
-        (grants_more (length old.masters) old.moment new.moment h.told L E (later t old.moment new.moment (moves.moment ∙ is)) h.grants);
-    each_judged = long ∙ h.each_judged ∙ ap length (sym moves.masters);
-    each_opening = h.each_opening ∙ ap length (sym moves.masters);
-  };
-}, refl)
+step_of openings old new judges news L t at e assessments h is moves still long entered = (
+  record {
+    step = step_by setup assessments L t e;
+    is_step = record { assessments = assessments; found = whole.found; taken = refl };
+    stands = record {
+      told = h.told ++ E;
+      asks = whole.asks h.told h.told_all h.asks;
+      selects = whole.selects;
+      judge = whole.judge;
+      moment = moves.moment ∙ moment_after setup assessments L t at e same;
+      stopped = still ∙ h.stopped ∙ sym (list_any-append is_stop L E ∙ ap (λ b. list_any is_stop L || b) whole.unstopped ∙ or_false (list_any is_stop L));
+      told_all = λ going. ap (λ w. w ++ E) (h.told_all (sym still ∙ going));
+      grants = subst (λ n. SameGrants n new.moment (h.told ++ E) (L ++ E)) (ap length (sym moves.masters))
+          (grants_more (length old.masters) old.moment new.moment h.told L E (later t old.moment new.moment (moves.moment ∙ is)) h.grants);
+      each_judged = long ∙ h.each_judged ∙ ap length (sym moves.masters);
+      each_opening = h.each_opening ∙ ap length (sym moves.masters);
+    };
+  },
+  refl,
+)
   where
     setup : SlaveSetup
     setup = setup_of old.config openings

@@ -93,7 +93,8 @@ pub(crate) fn take_sync(
     ensures at { result ≡ max t core.old.moment }
     ensures same { IsSame core.old core.new }
     ensures judges { length judges.new.items ≡ length judges.old.items }
-    ensures judge { (found : Bool) × OfOne master (Then (WasHeard ⟦<dyn Judge as Judge>⟧ (max t core.old.moment) seq)
+    ensures judge { (found : Bool) × OfOne master (Then (WasHeard ⟦<dyn Judge as Judge>⟧
+        (max t core.old.moment) seq)
         (WasAsked ⟦<dyn Judge as Judge>⟧ (max t core.old.moment) found))
         judges.old.items judges.new.items
         × ((openings : List (Option Rule)) (L : Record) →
@@ -120,7 +121,8 @@ pub(crate) fn tell_flag(
     requires judges { length judges.old.items ≡ length core.old.masters }
     ensures same { IsSame core.old core.new }
     ensures judges { length judges.new.items ≡ length judges.old.items }
-    ensures judge { (found : Bool) × OfOne master (Then (WasTold ⟦<dyn Judge as Judge>⟧ (max t core.old.moment) unusable)
+    ensures judge { (found : Bool) × OfOne master (Then (WasTold ⟦<dyn Judge as Judge>⟧
+        (max t core.old.moment) unusable)
         (WasAsked ⟦<dyn Judge as Judge>⟧ (max t core.old.moment) found))
         judges.old.items judges.new.items
         × ((openings : List (Option Rule)) (L : Record) →

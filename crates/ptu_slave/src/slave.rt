@@ -95,16 +95,20 @@ impl<P: Port> Slave<P> {
         judge: Box<dyn Judge>,
     ) -> Result<Slave<P>, OutOfMemory>
         requires limits { IsWithinLimits (seen ⟦<dyn Judge as Judge>⟧ self).kept.config }
-        requires masters { AreMasters ((seen ⟦<dyn Judge as Judge>⟧ self).kept.masters ++ master ∷ []) }
+        requires masters { AreMasters ((seen ⟦<dyn Judge as Judge>⟧ self).kept.masters
+            ++ master ∷ []) }
         requires fresh { AllByRecursion IsFresh
             ((seen ⟦<dyn Judge as Judge>⟧ self).judges ++ held judge ∷ []) }
         ensures judged { IfOk result (λ s. HasJudges (seen ⟦<dyn Judge as Judge>⟧ s)) }
         ensures config { IfOk result (λ s.
-            (seen ⟦<dyn Judge as Judge>⟧ s).kept.config ≡ (seen ⟦<dyn Judge as Judge>⟧ self).kept.config) }
+            (seen ⟦<dyn Judge as Judge>⟧ s).kept.config ≡
+            (seen ⟦<dyn Judge as Judge>⟧ self).kept.config) }
         ensures masters { IfOk result (λ s.
-            (seen ⟦<dyn Judge as Judge>⟧ s).kept.masters ≡ (seen ⟦<dyn Judge as Judge>⟧ self).kept.masters ++ master ∷ []) }
+            (seen ⟦<dyn Judge as Judge>⟧ s).kept.masters ≡
+            (seen ⟦<dyn Judge as Judge>⟧ self).kept.masters ++ master ∷ []) }
         ensures judges { IfOk result (λ s.
-            (seen ⟦<dyn Judge as Judge>⟧ s).judges ≡ (seen ⟦<dyn Judge as Judge>⟧ self).judges ++ held judge ∷ []) }
+            (seen ⟦<dyn Judge as Judge>⟧ s).judges ≡ (seen ⟦<dyn Judge as Judge>⟧ self).judges
+            ++ held judge ∷ []) }
         ensures port { IfOk result (λ s.
             (seen ⟦<dyn Judge as Judge>⟧ s).port ≡ (seen ⟦<dyn Judge as Judge>⟧ self).port) }
         ensures stands { IfOk result (λ s. let new = seen ⟦<dyn Judge as Judge>⟧ s in
@@ -160,7 +164,8 @@ impl<P: Port> Slave<P> {
             × GoesBy (found ∷ []) old (seen ⟦<dyn Judge as Judge>⟧ self.new) t
             (TakeSync m message.header.sequence) }
         // No other message is told to a judge.
-        ensures others { let old = seen ⟦<dyn Judge as Judge>⟧ self.old in (m : ℕ) (message : Message) →
+        ensures others { let old = seen ⟦<dyn Judge as Judge>⟧ self.old in (m : ℕ)
+            (message : Message) →
             reception old.kept.config old.kept.masters from bytes.now ≡ Ok (m, message) →
             event_of m message ≢ TakeSync m message.header.sequence →
             (seen ⟦<dyn Judge as Judge>⟧ self.new).boxes ≡ old.boxes }
@@ -184,8 +189,10 @@ impl<P: Port> Slave<P> {
     #[tactic(auto, unfolding(crate::specs::Seen::seen_by))]
     pub fn tick(&mut self, t: Moment) -> Ticked
         ensures judged { HasJudges (seen ⟦<dyn Judge as Judge>⟧ self.new) }
-        ensures same { IsSame (seen ⟦<dyn Judge as Judge>⟧ self.old).kept (seen ⟦<dyn Judge as Judge>⟧ self.new).kept }
-        ensures ticked { HasTicked ⟦<dyn Judge as Judge>⟧ P.Port t (seen ⟦<dyn Judge as Judge>⟧ self.old)
+        ensures same { IsSame (seen ⟦<dyn Judge as Judge>⟧ self.old).kept
+            (seen ⟦<dyn Judge as Judge>⟧ self.new).kept }
+        ensures ticked { HasTicked ⟦<dyn Judge as Judge>⟧ P.Port t
+            (seen ⟦<dyn Judge as Judge>⟧ self.old)
             (seen ⟦<dyn Judge as Judge>⟧ self.new) result }
     {
         let at = self.core.begin(t);
@@ -203,7 +210,8 @@ impl<P: Port> Slave<P> {
     #[tactic(auto, unfolding(crate::specs::Seen::seen_by))]
     pub fn stop(&mut self, t: Moment) -> Ticked
         ensures judged { HasJudges (seen ⟦<dyn Judge as Judge>⟧ self.new) }
-        ensures same { IsSame (seen ⟦<dyn Judge as Judge>⟧ self.old).kept (seen ⟦<dyn Judge as Judge>⟧ self.new).kept }
+        ensures same { IsSame (seen ⟦<dyn Judge as Judge>⟧ self.old).kept
+            (seen ⟦<dyn Judge as Judge>⟧ self.new).kept }
         ensures stopped { HasStopped P.Port t (seen ⟦<dyn Judge as Judge>⟧ self.old)
             (seen ⟦<dyn Judge as Judge>⟧ self.new) result }
     {
@@ -222,7 +230,8 @@ impl<P: Port> Slave<P> {
     pub fn flag(&mut self, t: Moment, master: usize, unusable: bool)
         requires { master < length (seen ⟦<dyn Judge as Judge>⟧ self.old).kept.masters }
         ensures judged { HasJudges (seen ⟦<dyn Judge as Judge>⟧ self.new) }
-        ensures same { IsSame (seen ⟦<dyn Judge as Judge>⟧ self.old).kept (seen ⟦<dyn Judge as Judge>⟧ self.new).kept }
+        ensures same { IsSame (seen ⟦<dyn Judge as Judge>⟧ self.old).kept
+            (seen ⟦<dyn Judge as Judge>⟧ self.new).kept }
         ensures flagged { IsFlagged ⟦<dyn Judge as Judge>⟧ t master unusable
             (seen ⟦<dyn Judge as Judge>⟧ self.old) (seen ⟦<dyn Judge as Judge>⟧ self.new) }
     {
@@ -236,7 +245,8 @@ impl<P: Port> Slave<P> {
         requires master { master < length (seen ⟦<dyn Judge as Judge>⟧ self.old).kept.masters }
         requires fresh { IsFresh (held judge) }
         ensures judged { HasJudges (seen ⟦<dyn Judge as Judge>⟧ self.new) }
-        ensures same { IsSame (seen ⟦<dyn Judge as Judge>⟧ self.old).kept (seen ⟦<dyn Judge as Judge>⟧ self.new).kept }
+        ensures same { IsSame (seen ⟦<dyn Judge as Judge>⟧ self.old).kept
+            (seen ⟦<dyn Judge as Judge>⟧ self.new).kept }
         ensures replaced { IsReplaced ⟦<dyn Judge as Judge>⟧ t master judge
             (seen ⟦<dyn Judge as Judge>⟧ self.old) (seen ⟦<dyn Judge as Judge>⟧ self.new) }
     {
@@ -251,7 +261,8 @@ impl<P: Port> Slave<P> {
             (openings : List (Option Rule)) (L : Record) →
             StandsFor openings old.kept old.judges L →
             result ≡ selected_address old.kept L t }
-        ensures unchanged { seen ⟦<dyn Judge as Judge>⟧ self.new ≡ seen ⟦<dyn Judge as Judge>⟧ self.old }
+        ensures unchanged { seen ⟦<dyn Judge as Judge>⟧ self.new ≡
+            seen ⟦<dyn Judge as Judge>⟧ self.old }
     {
         let place = self.core.selected(t);
         address(self.core.masters(), place)
@@ -265,7 +276,8 @@ impl<P: Port> Slave<P> {
             StandsFor openings old.kept old.judges L →
             result ≡ selected_master (timeouts old.kept.config) (priorities old.kept.masters)
             L (event_moment L t) }
-        ensures unchanged { seen ⟦<dyn Judge as Judge>⟧ self.new ≡ seen ⟦<dyn Judge as Judge>⟧ self.old }
+        ensures unchanged { seen ⟦<dyn Judge as Judge>⟧ self.new ≡
+            seen ⟦<dyn Judge as Judge>⟧ self.old }
     {
         self.core.selected(t)
     }
@@ -297,13 +309,15 @@ impl<P: Port> Slave<P> {
             (P.waiting (seen ⟦<dyn Judge as Judge>⟧ self.old).port)) }
         ensures sent { P.sent (seen ⟦<dyn Judge as Judge>⟧ self.new).port
             ≡ P.sent (seen ⟦<dyn Judge as Judge>⟧ self.old).port }
-        ensures risen { OnErr result (HasRisen (P.faults (seen ⟦<dyn Judge as Judge>⟧ self.old).port)
+        ensures risen { OnErr result (HasRisen (P.faults
+            (seen ⟦<dyn Judge as Judge>⟧ self.old).port)
             (P.faults (seen ⟦<dyn Judge as Judge>⟧ self.new).port)) }
         ensures quiet { OnOk result (P.faults (seen ⟦<dyn Judge as Judge>⟧ self.new).port
             ≡ P.faults (seen ⟦<dyn Judge as Judge>⟧ self.old).port) }
         ensures no_fall { HasNotFallen (P.faults (seen ⟦<dyn Judge as Judge>⟧ self.old).port)
             (P.faults (seen ⟦<dyn Judge as Judge>⟧ self.new).port) }
-        ensures rest_is { seen ⟦<dyn Judge as Judge>⟧ self.new ≡ record (seen ⟦<dyn Judge as Judge>⟧ self.old)
+        ensures rest_is { seen ⟦<dyn Judge as Judge>⟧ self.new ≡ record
+            (seen ⟦<dyn Judge as Judge>⟧ self.old)
             { port = (seen ⟦<dyn Judge as Judge>⟧ self.new).port } }
     {
         self.port.receive(buf)

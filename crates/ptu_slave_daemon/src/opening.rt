@@ -140,7 +140,8 @@ pub(crate) fn open_slave<P: Port>(
         (map (λ j. held (j.vtable, j.value)) stock.gaps.items) }
     requires enough { are_enough settings.now.masters
         (length stock.flags.items) (length stock.gaps.items) ≡ true }
-    ensures stands { IfOk result (λ slave. Stands (node_of settings.now) (seen ⟦<dyn Judge as Judge>⟧ slave) []) }
+    ensures stands { IfOk result (λ slave. Stands (node_of settings.now)
+        (seen ⟦<dyn Judge as Judge>⟧ slave) []) }
     ensures judged { IfOk result (λ slave. HasJudges (seen ⟦<dyn Judge as Judge>⟧ slave)) }
     ensures port { IfOk result (λ slave. (seen ⟦<dyn Judge as Judge>⟧ slave).port ≡ port) }
 {

@@ -41,8 +41,10 @@ fn happen<P: Port, C: Clock>(
         × (sent : ℕ) × (failed : ℕ) × (event_failed : ℕ)
         × Counted sent (failed + event_failed) counts.old counts.new
         × HasFailed (P.faults event.old) (P.faults event.new) event_failed
-        × RoundTook (P.waiting (seen ⟦<dyn Judge as Judge>⟧ slave.old).port) (P.waiting (seen ⟦<dyn Judge as Judge>⟧ slave.new).port)
-        (P.faults (seen ⟦<dyn Judge as Judge>⟧ slave.old).port) (P.faults (seen ⟦<dyn Judge as Judge>⟧ slave.new).port) arrivals
+        × RoundTook (P.waiting (seen ⟦<dyn Judge as Judge>⟧ slave.old).port) (P.waiting
+        (seen ⟦<dyn Judge as Judge>⟧ slave.new).port)
+        (P.faults (seen ⟦<dyn Judge as Judge>⟧ slave.old).port) (P.faults
+        (seen ⟦<dyn Judge as Judge>⟧ slave.new).port) arrivals
         × RoundTook (P.waiting event.old) (P.waiting event.new)
         (P.faults event.old) (P.faults event.new) event_arrivals
         × Ran node L
@@ -76,7 +78,8 @@ fn run_rounds<P: Port, C: Clock, K: Sink>(
         RoundsDone rounds node L
         (sees P.sent P.faults C.moments (seen ⟦<dyn Judge as Judge>⟧ slave.old) clock.old)
         (sees P.sent P.faults C.moments (seen ⟦<dyn Judge as Judge>⟧ slave.new) clock.new)
-        (P.waiting (seen ⟦<dyn Judge as Judge>⟧ slave.old).port) (P.waiting (seen ⟦<dyn Judge as Judge>⟧ slave.new).port)
+        (P.waiting (seen ⟦<dyn Judge as Judge>⟧ slave.old).port) (P.waiting
+        (seen ⟦<dyn Judge as Judge>⟧ slave.new).port)
         (P.waiting event.old) (P.waiting event.new) (P.faults event.old) (P.faults event.new)
         selections counts.new.sent counts.new.failed)) }
     ensures part { OnErr result ((selections : List Selection)
@@ -89,7 +92,8 @@ fn run_rounds<P: Port, C: Clock, K: Sink>(
         RoundsDone n node L
         (sees P.sent P.faults C.moments (seen ⟦<dyn Judge as Judge>⟧ slave.old) clock.old)
         (sees P.sent P.faults C.moments (seen ⟦<dyn Judge as Judge>⟧ slave.new) clock.new)
-        (P.waiting (seen ⟦<dyn Judge as Judge>⟧ slave.old).port) (P.waiting (seen ⟦<dyn Judge as Judge>⟧ slave.new).port)
+        (P.waiting (seen ⟦<dyn Judge as Judge>⟧ slave.old).port) (P.waiting
+        (seen ⟦<dyn Judge as Judge>⟧ slave.new).port)
         (P.waiting event.old) (P.waiting event.new) (P.faults event.old) (P.faults event.new)
         selections counts.new.sent counts.new.failed) }
     ensures counts { Halts result (K.faults sink.old) (K.faults sink.new) }
@@ -126,7 +130,8 @@ pub(crate) fn run<P: Port, C: Clock, K: Sink>(
         RunDone rounds node L
         (sees P.sent P.faults C.moments (seen ⟦<dyn Judge as Judge>⟧ slave.old) clock.old)
         (sees P.sent P.faults C.moments (seen ⟦<dyn Judge as Judge>⟧ slave.new) clock.new)
-        (P.waiting (seen ⟦<dyn Judge as Judge>⟧ slave.old).port) (P.waiting (seen ⟦<dyn Judge as Judge>⟧ slave.new).port)
+        (P.waiting (seen ⟦<dyn Judge as Judge>⟧ slave.old).port) (P.waiting
+        (seen ⟦<dyn Judge as Judge>⟧ slave.new).port)
         (P.waiting event.old) (P.waiting event.new) (P.faults event.old) (P.faults event.new)
         selections sends failures)) }
     ensures part { OnErr result ((selections : List Selection) × (sends : ℕ) × (failures : ℕ)
@@ -138,7 +143,8 @@ pub(crate) fn run<P: Port, C: Clock, K: Sink>(
         IsFront rounds node L
         (sees P.sent P.faults C.moments (seen ⟦<dyn Judge as Judge>⟧ slave.old) clock.old)
         (sees P.sent P.faults C.moments (seen ⟦<dyn Judge as Judge>⟧ slave.new) clock.new)
-        (P.waiting (seen ⟦<dyn Judge as Judge>⟧ slave.old).port) (P.waiting (seen ⟦<dyn Judge as Judge>⟧ slave.new).port)
+        (P.waiting (seen ⟦<dyn Judge as Judge>⟧ slave.old).port) (P.waiting
+        (seen ⟦<dyn Judge as Judge>⟧ slave.new).port)
         (P.waiting event.old) (P.waiting event.new) (P.faults event.old) (P.faults event.new)
         lines) }
     ensures counts { Halts result (K.faults sink.old) (K.faults sink.new) }

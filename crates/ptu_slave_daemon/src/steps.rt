@@ -45,8 +45,10 @@ pub(crate) fn take<P: Port, C: Clock>(
 ) -> Result<(), OutOfMemory>
     requires few { IsFew 1 counts.old }
     ensures grows { Grows 1 counts.old counts.new }
-    ensures waiting { P.waiting (seen ⟦<dyn Judge as Judge>⟧ slave.new).port ≡ P.waiting (seen ⟦<dyn Judge as Judge>⟧ slave.old).port }
-    ensures ran { OnOk result ((node : Node) (L : Record) → Stands node (seen ⟦<dyn Judge as Judge>⟧ slave.old) L →
+    ensures waiting { P.waiting (seen ⟦<dyn Judge as Judge>⟧ slave.new).port ≡ P.waiting
+        (seen ⟦<dyn Judge as Judge>⟧ slave.old).port }
+    ensures ran { OnOk result ((node : Node) (L : Record) → Stands node
+        (seen ⟦<dyn Judge as Judge>⟧ slave.old) L →
         (sent : ℕ) × (failed : ℕ) × Counted sent failed counts.old counts.new
         × Took node L
         (sees P.sent P.faults C.moments (seen ⟦<dyn Judge as Judge>⟧ slave.old) clock.old)
@@ -67,8 +69,10 @@ pub(crate) fn tick<P: Port, C: Clock>(
 ) -> Option<u32>
     requires few { IsFew (2 ^ 64) counts.old }
     ensures grows { Grows (2 ^ 64) counts.old counts.new }
-    ensures waiting { P.waiting (seen ⟦<dyn Judge as Judge>⟧ slave.new).port ≡ P.waiting (seen ⟦<dyn Judge as Judge>⟧ slave.old).port }
-    ensures ran { (node : Node) (L : Record) (round : ℕ) → Stands node (seen ⟦<dyn Judge as Judge>⟧ slave.old) L →
+    ensures waiting { P.waiting (seen ⟦<dyn Judge as Judge>⟧ slave.new).port ≡ P.waiting
+        (seen ⟦<dyn Judge as Judge>⟧ slave.old).port }
+    ensures ran { (node : Node) (L : Record) (round : ℕ) → Stands node
+        (seen ⟦<dyn Judge as Judge>⟧ slave.old) L →
         (sent : ℕ) × (failed : ℕ) × (hs : List Happening)
         × Counted sent failed counts.old counts.new
         × Ran node L
@@ -86,8 +90,10 @@ pub(crate) fn tick<P: Port, C: Clock>(
 /// The slave stops.
 pub(crate) fn stop<P: Port, C: Clock>(slave: &mut Slave<P>, clock: &mut C, counts: &mut Counts)
     requires few { IsFew (2 ^ 64) counts.old }
-    ensures waiting { P.waiting (seen ⟦<dyn Judge as Judge>⟧ slave.new).port ≡ P.waiting (seen ⟦<dyn Judge as Judge>⟧ slave.old).port }
-    ensures ran { (node : Node) (L : Record) → Stands node (seen ⟦<dyn Judge as Judge>⟧ slave.old) L →
+    ensures waiting { P.waiting (seen ⟦<dyn Judge as Judge>⟧ slave.new).port ≡ P.waiting
+        (seen ⟦<dyn Judge as Judge>⟧ slave.old).port }
+    ensures ran { (node : Node) (L : Record) → Stands node (seen ⟦<dyn Judge as Judge>⟧ slave.old) L
+        →
         (sent : ℕ) × (failed : ℕ) × (hs : List Happening)
         × Counted sent failed counts.old counts.new
         × Ran node L

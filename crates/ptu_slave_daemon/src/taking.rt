@@ -31,11 +31,14 @@ fn take_general<P: Port, C: Clock>(
 ) -> Result<bool, OutOfMemory>
     requires few { IsFew 1 counts.old }
     ensures grows { Grows 1 counts.old counts.new }
-    ensures took { IfOk result (λ more. (node : Node) (L : Record) → Stands node (seen ⟦<dyn Judge as Judge>⟧ slave.old) L →
+    ensures took { IfOk result (λ more. (node : Node) (L : Record) → Stands node
+        (seen ⟦<dyn Judge as Judge>⟧ slave.old) L →
         (arrivals : List Arrival) × (sent : ℕ) × (failed : ℕ)
         × Counted sent failed counts.old counts.new
-        × TookOne (P.waiting (seen ⟦<dyn Judge as Judge>⟧ slave.old).port) (P.waiting (seen ⟦<dyn Judge as Judge>⟧ slave.new).port)
-        (P.faults (seen ⟦<dyn Judge as Judge>⟧ slave.old).port) (P.faults (seen ⟦<dyn Judge as Judge>⟧ slave.new).port) more arrivals
+        × TookOne (P.waiting (seen ⟦<dyn Judge as Judge>⟧ slave.old).port) (P.waiting
+        (seen ⟦<dyn Judge as Judge>⟧ slave.new).port)
+        (P.faults (seen ⟦<dyn Judge as Judge>⟧ slave.old).port) (P.faults
+        (seen ⟦<dyn Judge as Judge>⟧ slave.new).port) more arrivals
         × Took node L
         (sees P.sent P.faults C.moments (seen ⟦<dyn Judge as Judge>⟧ slave.old) clock.old)
         (sees P.sent P.faults C.moments (seen ⟦<dyn Judge as Judge>⟧ slave.new) clock.new)
@@ -65,9 +68,11 @@ fn take_event<P: Port, C: Clock>(
 ) -> Result<bool, OutOfMemory>
     requires few { IsFew 1 counts.old }
     ensures grows { Grows 1 counts.old counts.new }
-    ensures waiting { P.waiting (seen ⟦<dyn Judge as Judge>⟧ slave.new).port ≡ P.waiting (seen ⟦<dyn Judge as Judge>⟧ slave.old).port }
+    ensures waiting { P.waiting (seen ⟦<dyn Judge as Judge>⟧ slave.new).port ≡ P.waiting
+        (seen ⟦<dyn Judge as Judge>⟧ slave.old).port }
     ensures sent { P.sent event.new ≡ P.sent event.old }
-    ensures took { IfOk result (λ more. (node : Node) (L : Record) → Stands node (seen ⟦<dyn Judge as Judge>⟧ slave.old) L →
+    ensures took { IfOk result (λ more. (node : Node) (L : Record) → Stands node
+        (seen ⟦<dyn Judge as Judge>⟧ slave.old) L →
         (arrivals : List Arrival) × (sent : ℕ) × (failed : ℕ) × (event_failed : ℕ)
         × Counted sent (failed + event_failed) counts.old counts.new
         × HasFailed (P.faults event.old) (P.faults event.new) event_failed
@@ -104,11 +109,14 @@ pub(crate) fn take_all_general<P: Port, C: Clock>(
 ) -> Result<(), OutOfMemory>
     requires few { IsFew 64 counts.old }
     ensures grows { Grows 64 counts.old counts.new }
-    ensures took { OnOk result ((node : Node) (L : Record) → Stands node (seen ⟦<dyn Judge as Judge>⟧ slave.old) L →
+    ensures took { OnOk result ((node : Node) (L : Record) → Stands node
+        (seen ⟦<dyn Judge as Judge>⟧ slave.old) L →
         (arrivals : List Arrival) × (sent : ℕ) × (failed : ℕ)
         × Counted sent failed counts.old counts.new
-        × RoundTook (P.waiting (seen ⟦<dyn Judge as Judge>⟧ slave.old).port) (P.waiting (seen ⟦<dyn Judge as Judge>⟧ slave.new).port)
-        (P.faults (seen ⟦<dyn Judge as Judge>⟧ slave.old).port) (P.faults (seen ⟦<dyn Judge as Judge>⟧ slave.new).port) arrivals
+        × RoundTook (P.waiting (seen ⟦<dyn Judge as Judge>⟧ slave.old).port) (P.waiting
+        (seen ⟦<dyn Judge as Judge>⟧ slave.new).port)
+        (P.faults (seen ⟦<dyn Judge as Judge>⟧ slave.old).port) (P.faults
+        (seen ⟦<dyn Judge as Judge>⟧ slave.new).port) arrivals
         × Took node L
         (sees P.sent P.faults C.moments (seen ⟦<dyn Judge as Judge>⟧ slave.old) clock.old)
         (sees P.sent P.faults C.moments (seen ⟦<dyn Judge as Judge>⟧ slave.new) clock.new)
@@ -135,9 +143,11 @@ pub(crate) fn take_all_event<P: Port, C: Clock>(
 ) -> Result<(), OutOfMemory>
     requires few { IsFew 64 counts.old }
     ensures grows { Grows 64 counts.old counts.new }
-    ensures waiting { P.waiting (seen ⟦<dyn Judge as Judge>⟧ slave.new).port ≡ P.waiting (seen ⟦<dyn Judge as Judge>⟧ slave.old).port }
+    ensures waiting { P.waiting (seen ⟦<dyn Judge as Judge>⟧ slave.new).port ≡ P.waiting
+        (seen ⟦<dyn Judge as Judge>⟧ slave.old).port }
     ensures sent { P.sent event.new ≡ P.sent event.old }
-    ensures took { OnOk result ((node : Node) (L : Record) → Stands node (seen ⟦<dyn Judge as Judge>⟧ slave.old) L →
+    ensures took { OnOk result ((node : Node) (L : Record) → Stands node
+        (seen ⟦<dyn Judge as Judge>⟧ slave.old) L →
         (arrivals : List Arrival) × (sent : ℕ) × (failed : ℕ) × (event_failed : ℕ)
         × Counted sent (failed + event_failed) counts.old counts.new
         × HasFailed (P.faults event.old) (P.faults event.new) event_failed

@@ -16,7 +16,7 @@ returns-clause-selected g c = λ openings L h.
     let masters = c.args.self.now.core.masters in
     let same = c.masters.ensures.masters ∙ ap (λ (k : Kept). k.masters) c.selected-place.ensures.same in
     let place = c.selected-place.ensures.selected L h.selects
-        ∙ ap (selected_master (timeouts c.args.self.now.core.config) (priorities masters) L) (moment_is openings c.args.self.now.core _ L c.args.t h) in
+    ∙ ap (selected_master (timeouts c.args.self.now.core.config) (priorities masters) L) (moment_is openings c.args.self.now.core _ L c.args.t h) in
     let many : length (priorities masters) ≡ length c.masters.result.now = priorities_many masters ∙ ap length (sym same) in
     c.address.ensures (subst (λ n. IfSome c.selected-place.result (λ m. m < n)) many
     (chosen_within (timeouts c.args.self.now.core.config) (priorities masters) L (event_moment L c.args.t) c.selected-place.result place))
