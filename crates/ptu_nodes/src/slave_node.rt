@@ -56,7 +56,8 @@ impl SlaveNode {
     pub fn new(alloc: Global, setup: &SlaveSetup) -> Result<SlaveNode, OutOfMemory>
         requires { IsSlaveWithin setup.now }
         ensures ip { IfOk result (λ n. n.ip ≡ setup.now.ip) }
-        ensures stands { IfOk result (λ n. StandsAsNode n.ip (seen ⟦<dyn Judge as Judge>⟧ n.slave) false (new_slave setup.now)) }
+        ensures stands { IfOk result (λ n. StandsAsNode n.ip
+            (seen ⟦<dyn Judge as Judge>⟧ n.slave) false (new_slave setup.now)) }
     {
         let config = config_of(setup);
         let port = quiet_port(alloc);
@@ -95,14 +96,17 @@ impl SlaveNode {
         priority: u8,
         judge: Box<dyn Judge>,
     ) -> Result<SlaveNode, OutOfMemory>
-        requires means { (s : Described) × IsNode self.ip (seen ⟦<dyn Judge as Judge>⟧ self.slave) false s }
+        requires means { (s : Described) × IsNode self.ip (seen ⟦<dyn Judge as Judge>⟧ self.slave)
+            false s }
         requires few { length (seen ⟦<dyn Judge as Judge>⟧ self.slave).kept.masters < 16 }
         requires other { place_of (seen ⟦<dyn Judge as Judge>⟧ self.slave).kept.masters ip ≡ None }
         requires fresh { (rule : Rule) × (held judge ≡ fresh rule) }
         ensures ip { IfOk result (λ n. n.ip ≡ self.ip) }
         ensures stands { IfOk result (λ n. (s : Described) (rule : Rule) →
-            IsNode self.ip (seen ⟦<dyn Judge as Judge>⟧ self.slave) false s → held judge ≡ fresh rule →
-            StandsAsNode n.ip (seen ⟦<dyn Judge as Judge>⟧ n.slave) false (IsSlave (described_with_master ip priority rule s))) }
+            IsNode self.ip (seen ⟦<dyn Judge as Judge>⟧ self.slave) false s → held judge ≡
+            fresh rule →
+            StandsAsNode n.ip (seen ⟦<dyn Judge as Judge>⟧ n.slave) false (IsSlave
+            (described_with_master ip priority rule s))) }
     {
         let SlaveNode { ip: own, slave } = self;
         let slave = slave.with_master(alloc, Master { ip, priority }, judge)?;
@@ -253,19 +257,23 @@ impl SlaveNode {
         texts: &mut Texts,
         sent: &mut Vec<Sent>,
     ) -> Result<(), OutOfMemory>
+        requires moment { at < 2 ^ 62 }
         ensures ip { self.new.ip ≡ self.old.ip }
-        ensures core { (seen ⟦<dyn Judge as Judge>⟧ self.new.slave).kept ≡ (seen ⟦<dyn Judge as Judge>⟧ self.old.slave).kept }
+        ensures core { (seen ⟦<dyn Judge as Judge>⟧ self.new.slave).kept ≡
+            (seen ⟦<dyn Judge as Judge>⟧ self.old.slave).kept }
         ensures judges { (seen ⟦<dyn Judge as Judge>⟧ self.new.slave).judges
             ≡ (seen ⟦<dyn Judge as Judge>⟧ self.old.slave).judges }
         ensures idle { OnOk result (IsIdle (seen ⟦<dyn Judge as Judge>⟧ self.new.slave).port) }
         ensures sends { OnOk result (sent.new.items
-            ≡ sent.old.items ++ map (sent_from self.old.ip) (seen ⟦<dyn Judge as Judge>⟧ self.old.slave).port.sent) }
+            ≡ sent.old.items ++ map (sent_from self.old.ip)
+            (seen ⟦<dyn Judge as Judge>⟧ self.old.slave).port.sent) }
         ensures says { OnOk result ((openings : List (Option Rule)) (L : Record) →
             StandsFor openings (seen ⟦<dyn Judge as Judge>⟧ self.old.slave).kept
             (seen ⟦<dyn Judge as Judge>⟧ self.old.slave).judges L →
             texts.new ≡ texts.old ++ map (text_at line) (sending_said (length sent.old.items)
             (map (sent_from self.old.ip) (seen ⟦<dyn Judge as Judge>⟧ self.old.slave).port.sent)
-            ++ selection_by self.old.ip (seen ⟦<dyn Judge as Judge>⟧ self.old.slave).kept L at ∷ [])) }
+            ++ selection_by self.old.ip (seen ⟦<dyn Judge as Judge>⟧ self.old.slave).kept L at ∷
+            [])) }
     {
         let mut port = self.slave.replace_port(quiet_port(alloc));
         hand_over(alloc, &mut port, self.ip, line, texts, sent)?;
@@ -277,12 +285,14 @@ impl SlaveNode {
     // Says what the slave selects.
     fn say_selected(&mut self, at: Moment, line: u64, texts: &mut Texts) -> Result<(), OutOfMemory>
         ensures ip { self.new.ip ≡ self.old.ip }
-        ensures unchanged { seen ⟦<dyn Judge as Judge>⟧ self.new.slave ≡ seen ⟦<dyn Judge as Judge>⟧ self.old.slave }
+        ensures unchanged { seen ⟦<dyn Judge as Judge>⟧ self.new.slave ≡
+            seen ⟦<dyn Judge as Judge>⟧ self.old.slave }
         ensures says { OnOk result ((openings : List (Option Rule)) (L : Record) →
             StandsFor openings (seen ⟦<dyn Judge as Judge>⟧ self.old.slave).kept
             (seen ⟦<dyn Judge as Judge>⟧ self.old.slave).judges L →
             texts.new ≡ texts.old
-            ++ text_at line (selection_by self.old.ip (seen ⟦<dyn Judge as Judge>⟧ self.old.slave).kept L at) ∷ []) }
+            ++ text_at line (selection_by self.old.ip
+            (seen ⟦<dyn Judge as Judge>⟧ self.old.slave).kept L at) ∷ []) }
     {
         let master = selected(&mut self.slave, at);
         let statement = Statement::Selected {
@@ -330,8 +340,10 @@ fn make_room(
 ) -> Result<(), OutOfMemory>
     requires moment { at < 2 ^ 62 }
     ensures same { OnOk result (
-        (seen ⟦<dyn Judge as Judge>⟧ slave.new).port.sent ≡ (seen ⟦<dyn Judge as Judge>⟧ slave.old).port.sent) }
-    ensures rest { seen ⟦<dyn Judge as Judge>⟧ slave.new ≡ record (seen ⟦<dyn Judge as Judge>⟧ slave.old)
+        (seen ⟦<dyn Judge as Judge>⟧ slave.new).port.sent ≡
+        (seen ⟦<dyn Judge as Judge>⟧ slave.old).port.sent) }
+    ensures rest { seen ⟦<dyn Judge as Judge>⟧ slave.new ≡ record
+        (seen ⟦<dyn Judge as Judge>⟧ slave.old)
         { port = (seen ⟦<dyn Judge as Judge>⟧ slave.new).port } }
 {
     let _ = at;
@@ -350,13 +362,17 @@ fn take(
     octets: &[u8],
 ) -> Result<Heard, OutOfMemory>
     requires moment { at < 2 ^ 62 }
-    ensures masters { (seen ⟦<dyn Judge as Judge>⟧ slave.new).kept.masters ≡ (seen ⟦<dyn Judge as Judge>⟧ slave.old).kept.masters }
-    ensures one { IfOk result (λ heard. IsOfOne (length (seen ⟦<dyn Judge as Judge>⟧ slave.old).kept.masters) heard) }
+    ensures masters { (seen ⟦<dyn Judge as Judge>⟧ slave.new).kept.masters ≡
+        (seen ⟦<dyn Judge as Judge>⟧ slave.old).kept.masters }
+    ensures one { IfOk result (λ heard. IsOfOne (length
+        (seen ⟦<dyn Judge as Judge>⟧ slave.old).kept.masters) heard) }
     ensures heard { IfOk result (λ heard. (ip : ℕ) (begun : Bool) (s : Described) →
-        IsNode ip (seen ⟦<dyn Judge as Judge>⟧ slave.old) begun s → heard ≡ datagram_heard s.opened s.taken at from octets.now) }
+        IsNode ip (seen ⟦<dyn Judge as Judge>⟧ slave.old) begun s → heard ≡
+        datagram_heard s.opened s.taken at from octets.now) }
     ensures stepped { OnOk result ((ip : ℕ) (begun : Bool) (s : Described) →
         IsNode ip (seen ⟦<dyn Judge as Judge>⟧ slave.old) begun s →
-        HasSteppedTo ip (seen ⟦<dyn Judge as Judge>⟧ slave.new) s (node.datagram_deed s.opened s.taken at from octets.now)) }
+        HasSteppedTo ip (seen ⟦<dyn Judge as Judge>⟧ slave.new) s
+        (node.datagram_deed s.opened s.taken at from octets.now)) }
 {
     make_room(alloc, slave, at, 1, SIGNALING)?;
     let heard = slave.take(alloc, at, from, octets)?;
@@ -371,7 +387,8 @@ fn tick(alloc: Global, slave: &mut Slave<MemPort>, at: Moment) -> Result<(), Out
     requires moment { at < 2 ^ 62 }
     ensures { OnOk result ((ip : ℕ) (begun : Bool) (s : Described) →
         IsNode ip (seen ⟦<dyn Judge as Judge>⟧ slave.old) begun s →
-        HasSteppedTo ip (seen ⟦<dyn Judge as Judge>⟧ slave.new) s (node.deed s.opened s.taken at Tick)) }
+        HasSteppedTo ip (seen ⟦<dyn Judge as Judge>⟧ slave.new) s
+        (node.deed s.opened s.taken at Tick)) }
 {
     let octets = MASTERS * (SIGNALING + DELAY_REQ);
     make_room(alloc, slave, at, 2 * MASTERS, octets)?;
@@ -387,7 +404,8 @@ fn stop(alloc: Global, slave: &mut Slave<MemPort>, at: Moment) -> Result<(), Out
     requires moment { at < 2 ^ 62 }
     ensures { OnOk result ((ip : ℕ) (begun : Bool) (s : Described) →
         IsNode ip (seen ⟦<dyn Judge as Judge>⟧ slave.old) begun s →
-        HasSteppedTo ip (seen ⟦<dyn Judge as Judge>⟧ slave.new) s (node.deed s.opened s.taken at Stop)) }
+        HasSteppedTo ip (seen ⟦<dyn Judge as Judge>⟧ slave.new) s
+        (node.deed s.opened s.taken at Stop)) }
 {
     make_room(alloc, slave, at, MASTERS, MASTERS * SIGNALING)?;
     let ticked = slave.stop(at);
@@ -401,9 +419,11 @@ fn stop(alloc: Global, slave: &mut Slave<MemPort>, at: Moment) -> Result<(), Out
 fn selected(slave: &mut Slave<MemPort>, at: Moment) -> Option<u32>
     requires moment { at < 2 ^ 62 }
     ensures selected { (openings : List (Option Rule)) (L : Record) →
-        StandsFor openings (seen ⟦<dyn Judge as Judge>⟧ slave.old).kept (seen ⟦<dyn Judge as Judge>⟧ slave.old).judges L →
+        StandsFor openings (seen ⟦<dyn Judge as Judge>⟧ slave.old).kept
+        (seen ⟦<dyn Judge as Judge>⟧ slave.old).judges L →
         result ≡ selected_address (seen ⟦<dyn Judge as Judge>⟧ slave.old).kept L at }
-    ensures unchanged { seen ⟦<dyn Judge as Judge>⟧ slave.new ≡ seen ⟦<dyn Judge as Judge>⟧ slave.old }
+    ensures unchanged { seen ⟦<dyn Judge as Judge>⟧ slave.new ≡
+        seen ⟦<dyn Judge as Judge>⟧ slave.old }
 {
     slave.selected_address(at)
 }

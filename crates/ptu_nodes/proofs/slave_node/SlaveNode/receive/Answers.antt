@@ -16,6 +16,6 @@ returns-clause-done g c =
     event_received c.args.self.now.ip c.conclude.new.self.ip c.args.line c.args.at c.args.from c.args.octets.now (seen (λ i. (g.dyn-1.0.entry i).1) c.args.self.now.slave).kept (seen (λ i. (g.dyn-1.0.entry i).1) c.take.new.slave).kept (seen (λ i. (g.dyn-1.0.entry i).1) c.conclude.new.self.slave).kept
     c.masters.result.now _ _ (seen (λ i. (g.dyn-1.0.entry i).1) c.take.new.slave).port (seen (λ i. (g.dyn-1.0.entry i).1) c.conclude.new.self.slave).port s c.in_ok-heard.heard c.args.sent.now.items c.conclude.new.sent.items c.args.texts.now c.say_heard.new.texts
     c.conclude.new.texts c.conclude.ensures.ip c.conclude.ensures.core c.conclude.ensures.judges h.masters (c.in_ok-heard.ensures.stepped c.args.self.now.ip begun s h)
-    (c.in_ok-heard.ensures.heard c.args.self.now.ip begun s h) (sym c.was_ignored.ensures ∙ c.if-was_ignored.false) (c.masters.ensures.masters ∙ c.take.ensures.masters) c.in_ok-say_heard.ensures
+    (c.in_ok-heard.ensures.heard c.args.self.now.ip begun s h) (sym c.was_ignored.ensures ∙ c.if-was_ignored.false) (c.masters.ensures ∙ c.take.ensures.masters) c.in_ok-say_heard.ensures
     idle sends says)
     c.conclude.ensures.idle c.conclude.ensures.sends c.conclude.ensures.says
