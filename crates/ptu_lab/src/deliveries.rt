@@ -33,8 +33,7 @@ impl Lab {
         line: u64,
         texts: &mut Texts,
     ) -> Result<bool, OutOfMemory>
-        requires empty { texts.old ≡ [] }
-        ensures { IfOk result (λ found. (c : Course) →
+        ensures { texts.old ≡ [] → IfOk result (λ found. (c : Course) →
             StandsFor (λ n. map (λ j. held j) n.slave.judges.items)
             (map (λ j. held j) self.old.stock.flags.items)
             (map (λ j. held j) self.old.stock.gaps.items) self.old c

@@ -26,8 +26,7 @@ impl Lab {
         line: u64,
         texts: &mut Texts,
     ) -> Result<Option<Cause>, OutOfMemory>
-        requires empty { texts.old ≡ [] }
-        ensures { IfOk result (HasStepped line
+        ensures { texts.old ≡ [] → IfOk result (HasStepped line
             (StandsFor (λ n. map (λ j. held j) n.slave.judges.items)
             (map (λ j. held j) self.old.stock.flags.items)
             (map (λ j. held j) self.old.stock.gaps.items) self.old)
@@ -58,8 +57,7 @@ impl Lab {
         line: u64,
         texts: &mut Texts,
     ) -> Result<Option<Cause>, OutOfMemory>
-        requires empty { texts.old ≡ [] }
-        ensures { IfOk result (HasStepped line
+        ensures { texts.old ≡ [] → IfOk result (HasStepped line
             (StandsFor (λ n. map (λ j. held j) n.slave.judges.items)
             (map (λ j. held j) self.old.stock.flags.items)
             (map (λ j. held j) self.old.stock.gaps.items) self.old)
