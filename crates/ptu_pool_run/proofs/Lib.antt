@@ -1,0 +1,4 @@
+mod OwnLines
+mod Lent
+mod Telling
+mod Sold
