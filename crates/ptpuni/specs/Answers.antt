@@ -16,13 +16,13 @@ pub record IsFaultAnswered (fault status old new : ℕ) : Type 0 where
   pub risen : status ≡ fault → HasRisen old new
   pub still : status ≢ fault → new ≡ old
 
--- 66 is answered for a fault of the source, 67 for one of the sink, 69 for one of the host
-pub record AreFaultsAnswered (status source source' sink sink' host host' : ℕ) : Type 0 where
-  pub source : IsFaultAnswered 66 status source source'
-  pub sink : IsFaultAnswered 67 status sink sink'
-  pub host : IsFaultAnswered 69 status host host'
+-- 66 is answered for a fault of the source, 67 for one of the sink, 69 for one of the host, by their counts of faults
+pub record AreFaultsAnswered (status reads reads' writes writes' opens opens' : ℕ) : Type 0 where
+  pub source : IsFaultAnswered 66 status reads reads'
+  pub sink : IsFaultAnswered 67 status writes writes'
+  pub host : IsFaultAnswered 69 status opens opens'
 
 -- at most so many octets of what a source has left are read, and nothing behind its end
-pub record IsReadWithin (most : ℕ) (left left' : Option (List ℕ)) (ends ends' : Option ℕ) : Type 0 where
+pub record IsReadWithin (most : ℕ) (left left' : Option (List ℕ)) (stops stops' : Option ℕ) : Type 0 where
   pub taken : (octets : List ℕ) × (left ≡ prepend_known octets left') × (length octets ≤ most)
-  pub ends : StopsAtEnd ends ends'
+  pub ends : StopsAtEnd stops stops'

@@ -174,7 +174,7 @@ fn main(rt: HostRuntime) -> ExitCode {
         flags: Vec::new(alloc),
         gaps: Vec::new(alloc),
     };
-    for _ in 0..64 {
+    for _ in 0..64_u64 {
         let flag = Box::new(alloc, FlagJudge::new());
         let gap = Box::new(alloc, GapJudge::new(4));
         let (Ok(flag), Ok(gap)) = (flag, gap) else {

@@ -1,4 +1,4 @@
-use Rattle.std.proofs.Common.{◌≡◌, ◌∙◌, sym, subst}
+use Rattle.std.proofs.Common.{◌≡◌, ◌∙◌, refl, sym, subst}
 use Rattle.ptu_words.specs.declared.command.Command.TheVariants.{Audit}
 use Rattle.ptpuni.specs.Run.{HasAudited, stock_of}
 use Rattle.ptpuni.proofs.Answered.{by_counts, by_status, is_status, replayed, shown}
