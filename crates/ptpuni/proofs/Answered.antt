@@ -11,11 +11,11 @@ use Rattle.ptu_world.specs.Facts.{EndsBy, world_of}
 use Rattle.ptu_world.specs.Report.{report_lines}
 use Rattle.ptu_script.specs.declared.cause.Cause.{Cause}
 use Rattle.ptu_lab.specs.declared.done.Done.{Done}
-use Rattle.ptu_lab.specs.declared.fault.LabFault.{LabFault}
-use Rattle.ptu_lab.specs.declared.fault.LabFault.TheVariants.{Line, Read, Write, OutOfMemory}
-use Rattle.ptu_lab.specs.Answers.{CountsRead, CountsWrite, IfWritten}
+use Rattle.ptu_show.specs.declared.fault.LabFault.{LabFault}
+use Rattle.ptu_show.specs.declared.fault.LabFault.TheVariants.{Line, Read, Write, OutOfMemory}
+use Rattle.ptu_show.specs.Answers.{CountsRead, CountsWrite, IfWritten}
 use Rattle.ptu_lab.specs.Replayed.{HasReplayed, IfReplayed}
-use Rattle.ptu_lab.specs.Shown.{HasShown}
+use Rattle.ptu_show.specs.Shown.{HasShown}
 use Rattle.ptu_words.specs.declared.command.Command.TheVariants.{Replay, Show}
 use Rattle.ptpuni.specs.Run.{HasRun, IsStatusOf, has_end, is_whole, status_of_answer, statuses}
 
@@ -27,7 +27,7 @@ module _ {A : Type 0} where
   is_status (Err (Line number cause)) = (2, lit< tt, refl)
   is_status (Err Read) = (3, lit< tt, refl)
   is_status (Err Write) = (4, lit< tt, refl)
-  is_status (Err OutOfMemory) = (6, lit< tt, refl)
+  is_status (Err OutOfMemory) = (7, lit< tt, refl)
 
   -- it says that the output was written to its end
   abbrev pub IsWritten : Result A LabFault → Type 0

@@ -19,7 +19,7 @@ pub is_daemon_status : (r : Result (Unit {0}) DaemonFault) → Contains statuses
 is_daemon_status (Ok x) = (0, lit< tt, refl)
 is_daemon_status (Err Open) = (5, lit< tt, refl)
 is_daemon_status (Err Write) = (4, lit< tt, refl)
-is_daemon_status (Err OutOfMemory) = (6, lit< tt, refl)
+is_daemon_status (Err OutOfMemory) = (7, lit< tt, refl)
 
 -- what holds where there is an error
 pub if_on_err : {A E X : Type 0} (r : Result A E) (fault : E) → r ≡ Err fault → OnErr r X → X
@@ -42,7 +42,7 @@ opened_at_memory r told endpoint at e = subst (λ r. OpenedAt r told endpoint) e
 pub is_refused_status : (status : ℕ) → (status ≡ 65) ⊎ (status ≡ 67) ⊎ (status ≡ 71) → Contains statuses status
 is_refused_status status (inl e) = (2, lit< tt, sym e)
 is_refused_status status (inr (inl e)) = (4, lit< tt, sym e)
-is_refused_status status (inr (inr e)) = (6, lit< tt, sym e)
+is_refused_status status (inr (inr e)) = (7, lit< tt, sym e)
 
 module _ {A K H : Type 0} (entries : A → List (Key × Value)) (refusal : List ℕ → Option RefusalLine) (left left' : Option (List ℕ))
     (written : K → Option (List ℕ)) (handed : K → Option (List (List ℕ))) (old new : K) (host host' : H) (Done Part Stopped : A → Type 0) (taken : HasTakenSome left left') where

@@ -1,3 +1,6 @@
 pub mod Answered
+pub mod Audited
+pub mod Completed
 pub mod DaemonRuns
+pub mod Joined
 pub mod Loaded

@@ -4,9 +4,9 @@ use Rattle.std.specs.Prelude.{IfErr, OnOk}
 use Rattle.std.specs.Io.KnownBytes.{append_known}
 use Rattle.ptu_outside.specs.Handing.{HasPut, HasPutPart}
 use Rattle.ptu_world.specs.World.{Stock}
-use Rattle.ptu_lab.specs.declared.fault.LabFault.{LabFault}
-use Rattle.ptu_lab.specs.declared.fault.LabFault.TheVariants.{Line, Read, Write, OutOfMemory}
-use Rattle.ptu_lab.specs.Generated.{IsWriteOrMemory}
+use Rattle.ptu_show.specs.declared.fault.LabFault.{LabFault}
+use Rattle.ptu_show.specs.declared.fault.LabFault.TheVariants.{Line, Read, Write, OutOfMemory}
+use Rattle.ptu_load.specs.Generated.{IsWriteOrMemory}
 use Rattle.ptu_lab.specs.Load.{summary}
 use Rattle.ptu_words.specs.declared.command.Command.TheVariants.{Load}
 use Rattle.ptpuni.specs.Run.{HasLoaded, HasRun, status_of_answer}

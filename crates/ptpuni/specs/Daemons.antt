@@ -1,5 +1,5 @@
 -- What a run of a daemon comes to: it reads its settings, opens its ports, and writes its output.
-use Rattle.std.specs.Prelude.{◌≡◌, ◌⊎◌, ℕ, List, [], ◌∷◌, Option, Some, None, Result, Ok, Err}
+use Rattle.std.specs.Prelude.{◌≡◌, ◌⊎◌, ℕ, true, false, List, [], ◌∷◌, Option, Some, None, Result, Ok, Err}
 use Rattle.ptu_outside.specs.declared.clock.Clock.{Ghosts as Clocks}
 use Rattle.ptu_outside.specs.declared.endpoint.Endpoint.{Endpoint}
 use Rattle.ptu_outside.specs.declared.opened.Opened.{Opened}
@@ -20,6 +20,7 @@ use Rattle.ptu_rounds.specs.declared.fault.DaemonFault.TheVariants.{Open, Write,
 use Rattle.ptu_daemon.specs.Events.{endpoint_of}
 use Rattle.ptu_daemon.specs.Served.{Said, closing_line}
 use Rattle.ptu_daemon.specs.Serving.{HasServed}
+use Rattle.ptu_twostep_daemon.specs.Serving.{HasServedInTwo}
 use Rattle.ptu_slave_daemon.specs.Answers.{WasGivenBack, WasOpened}
 use Rattle.ptu_slave_daemon.specs.Happenings.{Selection}
 use Rattle.ptu_slave_daemon.specs.Lines.{output, texts_of}
@@ -79,22 +80,27 @@ module _ {A K H : Type 0} (entries : A → List (Key × Value)) (refusal : List 
 
 -- ---- the word `serve`
 
+-- a grandmaster of these settings was served over the ports and clocks that were opened and are given back, or, where the settings
+-- say so, over these ports in two steps
+pub record IsServed {P C : Type 0} (ports : Ports P) (clocks : Clocks C) (opening back : Option (Opened P C)) (settings : GmSettings) (said : Said) : Type 0 where
+  pub as_they_are : settings.two_step ≡ false → HasServed ports clocks settings opening back said
+  pub in_two_steps : settings.two_step ≡ true → HasServedInTwo ports clocks settings opening back said
+
 module _ {K P C : Type 0} (ports : Ports P) (clocks : Clocks C) (written : K → Option (List ℕ)) (handed : K → Option (List (List ℕ)))
     (old new : K) (opening back : Option (Opened P C)) (opened_at : Option Endpoint) where
   -- the host was opened at the address and the port numbers of these settings
   abbrev pub ServesAt : GmSettings → Type 0
   ServesAt settings = IfTold opened_at (Some (endpoint_of settings))
 
-  -- a grandmaster of these settings was served, over the ports and clocks that were opened and are given back, and the one line
-  -- with its numbers was written
+  -- a grandmaster of these settings was served, and the one line with its numbers was written
   abbrev pub ServedWhole : GmSettings → Type 0
   ServedWhole settings = ServesAt settings × ((said : Said) × HasPut written handed old new (closing_line settings.rounds said ∷ [])
-      × HasServed ports clocks settings opening back said)
+      × IsServed ports clocks opening back settings said)
 
   -- the line was not written whole
   abbrev pub ServedInPart : GmSettings → Type 0
   ServedInPart settings = ServesAt settings × ((said : Said) × HasPutFront written handed old new (closing_line settings.rounds said)
-      × HasServed ports clocks settings opening back said)
+      × IsServed ports clocks opening back settings said)
 
   -- a run with the word `serve` ended with this status
   abbrev pub HasRunServe : {H : Type 0} → Option (List ℕ) → Option (List ℕ) → H → H → ℕ → Type 0

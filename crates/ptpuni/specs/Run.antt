@@ -1,33 +1,48 @@
 -- What a run of the program answers.
-use Rattle.std.specs.Prelude.{◌≡◌, ◌↔◌, ◌⊎◌, ℕ, Bool, true, false, if◌then◌else◌, List, [], ◌∷◌, ◌++◌, length, Option, Result, Ok, Err}
+use Rattle.std.specs.Prelude.{◌≡◌, ◌↔◌, ◌⊎◌, ℕ, Bool, true, false, if◌then◌else◌, List, [], ◌∷◌, ◌++◌, length, Option, Some, None, Result, Ok, Err, OnOk}
 use Rattle.std.specs.Io.KnownBytes.{IsAtEnd, append_known}
 use Rattle.ptu_outside.specs.Handing.{HasPut, HasPutPart, joined}
 use Rattle.ptu_report.specs.declared.ending.Ending.{Ending}
 use Rattle.ptu_report.specs.declared.ending.Ending.TheVariants.{Whole, Refused}
+use Rattle.ptu_report.specs.declared.stop.Stop.{Stop}
+use Rattle.ptu_report.specs.declared.stop.Stop.TheVariants as stops
 use Rattle.ptu_report.specs.Reported.{HasReportedAllRead}
 use Rattle.ptu_script.specs.declared.cause.Cause.{Cause}
 use Rattle.ptu_report_lines.specs.declared.report_line.ReportLine.{ReportLine}
 use Rattle.ptu_report_lines.specs.declared.report_line.ReportLine.TheVariants.{End}
 use Rattle.ptu_world.specs.World.{Stock}
 use Rattle.ptu_world.specs.Report.{course_opening, report, report_lines, rules}
-use Rattle.ptu_lab.specs.declared.fault.LabFault.{LabFault}
-use Rattle.ptu_lab.specs.declared.fault.LabFault.TheVariants.{Line, Read, Write, OutOfMemory}
+use Rattle.ptu_show.specs.declared.fault.LabFault.{LabFault}
+use Rattle.ptu_show.specs.declared.fault.LabFault.TheVariants.{Line, Read, Write, OutOfMemory}
 use Rattle.ptu_lab.specs.Load.{summary}
-use Rattle.ptu_lab.specs.Shown.{show_rules, shown_ending, shown_lines}
+use Rattle.ptu_show.specs.declared.join_fault.JoinFault.{JoinFault}
+use Rattle.ptu_show.specs.Joined.{join_ending, join_rules, joined_ending, joined_lines}
+use Rattle.ptu_show.specs.Shown.{show_rules, shown_ending, shown_lines}
+use Rattle.ptu_report.specs.Rules.{ending_of, texts_of}
+use Rattle.ptu_lines.specs.Script.{script_lines}
+use Rattle.ptu_audit.specs.declared.answer.Answer.{Answer}
+use Rattle.ptu_audit.specs.declared.answer.Answer.TheVariants.{Yes, No}
+use Rattle.ptu_audit.specs.declared.answer.AuditFault.{AuditFault}
+use Rattle.ptu_audit.specs.declared.answer.AuditFault.TheVariants as audits
+use Rattle.ptu_audit.specs.Audited.{AnswerIsWritten, IsAnswer, IsKept}
+use Rattle.ptu_audit.specs.Reading.{audit_rules, opening}
+use Rattle.ptu_setup.specs.Refusals.{gm_refusal, slave_refusal}
 use Rattle.ptu_words.specs.declared.command.Command.{Command}
-use Rattle.ptu_words.specs.declared.command.Command.TheVariants.{Replay, Show, Load, Serve, Slave}
+use Rattle.ptu_words.specs.declared.command.Command.TheVariants.{Replay, Show, Load, Serve, Slave, Join, Audit}
 
 -- the statuses that there are
 abbrev pub statuses : List ℕ
-statuses = 0 ∷ 64 ∷ 65 ∷ 66 ∷ 67 ∷ 69 ∷ 71 ∷ []
+statuses = 0 ∷ 64 ∷ 65 ∷ 66 ∷ 67 ∷ 69 ∷ 70 ∷ 71 ∷ []
 
--- the command runs a program of the lab, in memory
+-- the command writes a line for each line that it reads, or a load's
 abbrev pub IsOfLab : Command → Type 0
 IsOfLab Replay = Unit {0}
 IsOfLab Show = Unit {0}
 IsOfLab (Load number) = Unit {0}
 IsOfLab Serve = ⊥
 IsOfLab Slave = ⊥
+IsOfLab Join = Unit {0}
+IsOfLab (Audit capacity) = ⊥
 
 -- the status of what a program of the lab answers
 abbrev pub status_of_answer : {A : Type 0} → Result A LabFault → ℕ
@@ -36,6 +51,27 @@ status_of_answer (Err (Line number cause)) = 65
 status_of_answer (Err Read) = 66
 status_of_answer (Err Write) = 67
 status_of_answer (Err OutOfMemory) = 71
+
+-- the status of how an output ended, or of why it stopped before its end
+abbrev pub status_of_ending : {C : Type 0} → Result (Ending C) Stop → ℕ
+status_of_ending (Ok (Whole lines)) = 0
+status_of_ending (Ok (Refused number cause)) = 65
+status_of_ending (Err stops.Read) = 66
+status_of_ending (Err stops.Write) = 67
+status_of_ending (Err stops.OutOfMemory) = 71
+
+-- the status of what `join` answers
+abbrev pub status_of_joined : Result ℕ JoinFault → ℕ
+status_of_joined answer = status_of_ending (join_ending answer)
+
+-- the status of what an audit answers: 70 where a promise was not kept
+abbrev pub status_of_audit : Result Answer AuditFault → ℕ
+status_of_audit (Ok (Yes granted sent)) = 0
+status_of_audit (Ok (No line cause)) = 70
+status_of_audit (Err (audits.Line number cause)) = 65
+status_of_audit (Err audits.Read) = 66
+status_of_audit (Err audits.Write) = 67
+status_of_audit (Err audits.OutOfMemory) = 71
 
 -- the numbers of judges of each rule that are handed in
 abbrev pub stock_of : {A : Type 0} → List A → List A → Stock
@@ -48,6 +84,8 @@ output_of stock Show input = shown_lines input
 output_of stock (Load number) input = summary number ∷ []
 output_of stock Serve input = []
 output_of stock Slave input = []
+output_of stock Join input = joined_lines input
+output_of stock (Audit capacity) input = []
 
 -- ---- the status of a whole output
 
@@ -58,7 +96,7 @@ has_end (End lines datagrams ∷ []) = true
 has_end (line ∷ rest) = has_end rest
 
 -- no line of the input is refused
-abbrev pub is_whole : Ending Cause → Bool
+abbrev pub is_whole : {C : Type 0} → Ending C → Bool
 is_whole (Whole lines) = true
 is_whole (Refused number cause) = false
 
@@ -69,6 +107,29 @@ ends_whole stock Show input = is_whole (shown_ending input)
 ends_whole stock (Load number) input = true
 ends_whole stock Serve input = true
 ends_whole stock Slave input = true
+ends_whole stock Join input = is_whole (joined_ending input)
+ends_whole stock (Audit capacity) input = true
+
+-- no line of the input is refused, and neither are settings
+abbrev pub IsAccepted : Stock → Command → List ℕ → Type 0
+IsAccepted stock Replay input = ends_whole stock Replay input ≡ true
+IsAccepted stock Show input = ends_whole stock Show input ≡ true
+IsAccepted stock (Load number) input = Unit {0}
+IsAccepted stock Serve input = gm_refusal input ≡ None
+IsAccepted stock Slave input = slave_refusal stock.flags stock.gaps input ≡ None
+IsAccepted stock Join input = ends_whole stock Join input ≡ true
+IsAccepted stock (Audit capacity) input =
+    (lines : ℕ) × (ending_of audit_rules (opening capacity) (script_lines input) ≡ Whole lines)
+
+-- the statuses that a command ends with of which nothing failed and nothing is refused
+abbrev pub IsWholeStatus : Command → ℕ → Type 0
+IsWholeStatus Replay status = status ≡ 0
+IsWholeStatus Show status = status ≡ 0
+IsWholeStatus (Load number) status = status ≡ 0
+IsWholeStatus Serve status = status ≡ 0
+IsWholeStatus Slave status = status ≡ 0
+IsWholeStatus Join status = status ≡ 0
+IsWholeStatus (Audit capacity) status = (status ≡ 0) ⊎ (status ≡ 70)
 
 -- the command reads the source to its end
 abbrev pub reads : Command → Bool
@@ -77,6 +138,8 @@ reads Show = true
 reads (Load number) = false
 reads Serve = true
 reads Slave = true
+reads Join = true
+reads (Audit capacity) = true
 
 -- 0 where the last line of the output is `end`, or the output is that of a load, else 65
 abbrev pub status_of : Stock → Command → List ℕ → ℕ
@@ -105,6 +168,8 @@ module _ {K : Type 0} (written : K → Option (List ℕ)) (handed : K → Option
   HasReadAll (Load number) left left' = ⊥
   HasReadAll Serve left left' = ⊥
   HasReadAll Slave left left' = ⊥
+  HasReadAll Join left left' = HasReportedAllRead written handed old new join_rules [] left left'
+  HasReadAll (Audit capacity) left left' = ⊥
 
 module _ {K : Type 0} (written : K → Option (List ℕ)) (handed : K → Option (List (List ℕ))) (old new : K) where
   -- a load of so many clients wrote its one line and read nothing, or it stopped before that line was whole: the sink failed,
@@ -115,3 +180,22 @@ module _ {K : Type 0} (written : K → Option (List ℕ)) (handed : K → Option
     pub whole : status ≡ 0 → HasPut written handed old new (summary number ∷ [])
     pub line : status ≡ 0 → written new ≡ append_known (written old) (summary number)
     pub front : HasPutPart written handed old new (summary number ∷ [])
+
+  -- an audit with this opening capacity ended with the status of an answer
+  pub record HasAudited {H : Type 0} (host host' : H) (left left' : Option (List ℕ)) (capacity status : ℕ) : Type 0 where
+    pub answer : Result Answer AuditFault
+    pub status_is : status ≡ status_of_audit answer
+    -- the answer is that to all lines of the report, or names the first that is refused
+    pub exact : (input : List ℕ) → left ≡ Some input → IsAnswer capacity input answer
+    -- where it is yes, each grandmaster kept its promises
+    pub promises : (input : List ℕ) → left ≡ Some input → IsKept capacity input answer
+    -- it was written, by one line
+    pub line : (input : List ℕ) → left ≡ Some input → AnswerIsWritten written handed old new answer
+    -- a report of which no line is refused was read to its end
+    pub read_whole : OnOk answer (IsAtEnd left')
+    -- whatever is answered, what was written is a front of the output
+    pub front : (input : List ℕ) → left ≡ Some input
+        → HasPutPart written handed old new (texts_of audit_rules (opening capacity) (script_lines input))
+    -- where the source failed, that is nothing
+    pub all_read : status ≡ 66 → HasReportedAllRead written handed old new audit_rules (opening capacity) left left'
+    pub unused : host' ≡ host

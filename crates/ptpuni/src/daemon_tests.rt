@@ -112,7 +112,12 @@ fn settings_with(alloc: Global, more: &str) -> Result<String, Fail> {
 
 #[test]
 fn a_grandmaster_is_served(rt: HostRuntime) -> Result<(), Fail> {
-    for more in ["", "senders = 2"] {
+    for more in [
+        "",
+        "senders = 2",
+        "two_step = true",
+        "senders = 2\ntwo_step = true",
+    ] {
         let settings = settings_with(rt.alloc(), more)?;
         let ((status, text), answered) = served(&rt, settings.as_str(), false)?;
         assert_eq!(rt;
@@ -136,8 +141,7 @@ fn a_host_does_not_open(rt: HostRuntime) -> Result<(), Fail> {
 #[test]
 fn settings_are_refused_before_the_host_opens(rt: HostRuntime) -> Result<(), Fail> {
     for (more, line) in [
-        ("two_step = true", "settings bad two_step\n"),
-        ("senders = 2\ntwo_step = true", "settings bad two_step\n"),
+        ("two_step = 1", "settings bad two_step\n"),
         ("senders = 5", "settings bad senders\n"),
         ("change_round = 1", "settings bad new_capacity\n"),
         ("size = 1", "settings unknown\n"),

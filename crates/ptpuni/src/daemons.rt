@@ -1,23 +1,29 @@
 //! The words `serve` and `slave`: settings in, a daemon over the host.
 
-ghost use Rattle.std.specs.Prelude.{◌≡◌, ◌≢◌, ◌⊎◌, ◌∷◌, [], length, map, Contains};
+ghost use Rattle.std.specs.Prelude.{◌≡◌, ◌≢◌, ◌⊎◌, ◌∷◌, [], length, map, Contains, IfErr, OnOk};
 ghost use Rattle.ptu_outside.specs.Ends.{StopsAtEnd};
 ghost use Rattle.ptu_outside.specs.Faults.{HasRisen};
 ghost use Rattle.ptu_outside.specs.Handing.{HasPut, HasPutFront};
 ghost use Rattle.ptu_judges.specs.Held.{IsStock};
+ghost use Rattle.ptu_config.specs.Limits.{IsGmInRange};
+ghost use Rattle.ptu_rounds.specs.Opening.{OpenedAt};
+ghost use Rattle.ptu_daemon.specs.Events.{endpoint_of};
+ghost use Rattle.ptu_daemon.specs.Served.{Said, closing_line};
 ghost use Rattle.ptu_setup.specs.Reading.{HasTakenSome};
 ghost use Rattle.ptu_setup.specs.Refusals.{refusal_text};
-ghost use Rattle.ptpuni.specs.Daemons.{HasRunServe, HasRunSlave};
+ghost use Rattle.ptpuni.specs.Daemons.{HasRunServe, HasRunSlave, IsServed};
 ghost use Rattle.ptpuni.specs.Run.{statuses};
 
 use crate::status::{
     BAD_LINE, HOST_FAULT, OUT_OF_MEMORY, SINK_FAULT, SOURCE_FAULT, USAGE, daemon_status,
 };
-use ptu_daemon::serve;
+use ptu_config::GmSettings;
+use ptu_daemon::{DaemonFault, serve};
 use ptu_judges::Stock;
 use ptu_outside::{Host, Sink, Source, write_whole};
 use ptu_setup::{RefusalLine, SetupFault, gm_setup, slave_setup};
 use ptu_slave_daemon::slave;
+use ptu_twostep_daemon::serve_in_two_steps;
 use std::alloc::Global;
 use std::sync::Wait;
 use std::thread::Threads;
@@ -39,6 +45,40 @@ fn write_refusal<K: Sink>(alloc: Global, line: RefusalLine, sink: &mut K) -> u8
     match write_whole(sink, text.as_bytes()) {
         Ok(()) => BAD_LINE,
         Err(_) => SINK_FAULT,
+    }
+}
+
+// Serves a grandmaster of these settings over the ports of the host, or over these in two steps.
+fn serve_by<W: Threads + Wait + Sync, H: Host, K: Sink>(
+    rt: &W,
+    alloc: Global,
+    settings: &GmSettings,
+    host: &mut H,
+    sink: &mut K,
+) -> Result<(), DaemonFault>
+    requires range { IsGmInRange settings.now }
+    ensures served { OnOk result ((said : Said)
+        × HasPut K.written K.handed sink.old sink.new (closing_line settings.now.rounds said ∷ [])
+        × IsServed H.P.Port H.C.Clock (H.opening host.old) (H.back host.new) settings.now said) }
+    ensures part { IfErr result (λ fault. fault ≡ DaemonFault.Write → ((said : Said)
+        × HasPutFront K.written K.handed sink.old sink.new (closing_line settings.now.rounds said)
+        × IsServed H.P.Port H.C.Clock (H.opening host.old) (H.back host.new)
+        settings.now said)) }
+    ensures nothing { IfErr result (λ fault. fault ≢ DaemonFault.Write → sink.new ≡ sink.old) }
+    ensures open { IfErr result (λ fault. fault ≡ DaemonFault.Open
+        → HasRisen (H.faults host.old) (H.faults host.new)) }
+    ensures write { IfErr result (λ fault. fault ≡ DaemonFault.Write
+        → HasRisen (K.faults sink.old) (K.faults sink.new)) }
+    ensures still { OnOk result (K.faults sink.new ≡ K.faults sink.old) }
+    ensures opens { OnOk result (H.faults host.new ≡ H.faults host.old) }
+    ensures at { OpenedAt result (H.opened_at host.new) (endpoint_of settings.now) }
+    ensures host_still { IfErr result (λ fault. fault ≢ DaemonFault.Open
+        → H.faults host.new ≡ H.faults host.old) }
+{
+    if settings.two_step {
+        serve_in_two_steps(rt, alloc, settings, host, sink)
+    } else {
+        serve(rt, alloc, settings, host, sink)
     }
 }
 
@@ -69,7 +109,7 @@ pub(crate) fn run_serve<W: Threads + Wait + Sync, S: Source, K: Sink, H: Host>(
     ensures ends { StopsAtEnd (S.ends source.old) (S.ends source.new) }
 {
     match gm_setup(alloc, source) {
-        Ok(settings) => daemon_status(serve(rt, alloc, &settings, host, sink)),
+        Ok(settings) => daemon_status(serve_by(rt, alloc, &settings, host, sink)),
         Err(SetupFault::Refused(line)) => write_refusal(alloc, line, sink),
         Err(SetupFault::Read) => SOURCE_FAULT,
         Err(SetupFault::OutOfMemory) => OUT_OF_MEMORY,

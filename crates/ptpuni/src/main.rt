@@ -10,7 +10,7 @@ mod daemons;
 mod run;
 mod status;
 
-ghost use Rattle.std.specs.Prelude.{◌≡◌, ◌≢◌, IfOk, OnOk, map};
+ghost use Rattle.std.specs.Prelude.{◌≡◌, ◌≢◌, ◌+◌, IfOk, OnOk, length, map};
 ghost use Rattle.std.specs.String.{string_bytes};
 ghost use Rattle.ptu_judges.specs.Held.{IsStock, fresh};
 
@@ -120,7 +120,8 @@ fn is_daemon(words: &[&str]) -> bool {
     *word == "serve" || *word == "slave"
 }
 
-// Runs the words over standard input and output, line by line where somebody waits for the lines.
+// Runs the words over standard input and output, line by line where somebody waits for the lines,
+// with 64 judges of each rule.
 fn status_of<W, H>(
     rt: &W,
     words: &[String],
@@ -132,8 +133,9 @@ fn status_of<W, H>(
 where
     W: AllocGlobal + Threads + Wait + Sync,
     H: Host,
-    requires { IsStock (map (λ j. held (j.vtable, j.value)) stock.flags.items)
+    requires stock { IsStock (map (λ j. held (j.vtable, j.value)) stock.flags.items)
         (map (λ j. held (j.vtable, j.value)) stock.gaps.items) }
+    requires number { (length stock.flags.items ≡ 64) × (length stock.gaps.items ≡ 64) }
 {
     let Ok(texts) = texts_of(rt.alloc(), words) else {
         return OUT_OF_MEMORY;
@@ -155,8 +157,11 @@ fn add_judges(
     requires gap { held gap ≡ fresh (Rule.Gap 4) }
     requires stock { IsStock (map (λ j. held j) stock.old.flags.items)
         (map (λ j. held j) stock.old.gaps.items) }
-    ensures { OnOk result (IsStock (map (λ j. held j) stock.new.flags.items)
+    ensures stock { OnOk result (IsStock (map (λ j. held j) stock.new.flags.items)
         (map (λ j. held j) stock.new.gaps.items)) }
+    ensures number { OnOk result
+        ((length stock.new.flags.items ≡ length stock.old.flags.items + 1)
+        × (length stock.new.gaps.items ≡ length stock.old.gaps.items + 1)) }
 {
     stock.flags.push(flag)?;
     stock.gaps.push(gap)?;
@@ -169,7 +174,7 @@ fn main(rt: HostRuntime) -> ExitCode {
         flags: Vec::new(alloc),
         gaps: Vec::new(alloc),
     };
-    for _ in 0..64 {
+    for _ in 0..64_u64 {
         let flag = Box::new(alloc, FlagJudge::new());
         let gap = Box::new(alloc, GapJudge::new(4));
         let (Ok(flag), Ok(gap)) = (flag, gap) else {

@@ -6,19 +6,23 @@ ghost use Rattle.ptu_outside.specs.Ends.{StopsAtEnd};
 ghost use Rattle.ptu_outside.specs.Faults.{HasRisen};
 ghost use Rattle.ptu_outside.specs.Handing.{HasPut, HasPutPart};
 ghost use Rattle.ptu_judges.specs.Held.{IsStock};
+ghost use Rattle.ptu_lab.specs.Headline.{KeepsHeadline};
 ghost use Rattle.ptu_words.specs.CommandLine.{command_of, IsInRange, IsRefused};
 ghost use Rattle.ptu_words.specs.declared.command.Command.{Command};
-ghost use Rattle.ptu_world.specs.Headline.{DecidesByRoom, PaysPeriods, SaysSo, SelectsBest, WithinBudget, WithinCapacity};
 ghost use Rattle.ptu_world.specs.Report.{report_lines};
 ghost use Rattle.ptpuni.specs.Daemons.{HasRunServe, HasRunSlave};
-ghost use Rattle.ptpuni.specs.Run.{output_of, statuses, stock_of, HasLoaded, HasReadAll, HasRun, IsOfLab, IsStatusOf};
+ghost use Rattle.ptpuni.specs.Answers.{AreFaultsAnswered, AreWordsAnswered, IsReadWithin};
+ghost use Rattle.ptpuni.specs.Run.{output_of, statuses, stock_of, HasAudited, HasLoaded, HasReadAll, HasRun, IsAccepted, IsOfLab, IsStatusOf, IsWholeStatus};
 
 use crate::daemons::{run_serve, run_slave};
 use crate::status::{
-    BAD_LINE, HOST_FAULT, OUT_OF_MEMORY, SINK_FAULT, SOURCE_FAULT, USAGE, status_of,
+    BAD_LINE, HOST_FAULT, OUT_OF_MEMORY, SINK_FAULT, SOURCE_FAULT, USAGE, audit_status,
+    join_status, status_of,
 };
+use ptu_audit::audit;
 use ptu_lab::{Stock, load, replay, show};
 use ptu_outside::{Host, Sink, Source};
+use ptu_show::join;
 use ptu_words::{Command, read_words};
 use std::alloc::Global;
 use std::sync::Wait;
@@ -50,6 +54,9 @@ fn run_command<W: Threads + Wait + Sync, S: Source, K: Sink, H: Host>(
         (stock_of stock.flags.items stock.gaps.items) command input (S.left source.new) result }
     ensures loaded { (number : ℕ) → command ≡ Command.Load number →
         HasLoaded K.written K.handed sink.old sink.new source.old source.new number result }
+    ensures audited { (capacity : ℕ) → command ≡ Command.Audit capacity →
+        HasAudited K.written K.handed sink.old sink.new host.old host.new
+        (S.left source.old) (S.left source.new) capacity result }
     ensures served { command ≡ Command.Serve → HasRunServe H.P.Port H.C.Clock K.written K.handed
         sink.old sink.new (H.opening host.old) (H.back host.new) (H.opened_at host.new)
         (S.left source.old) (S.left source.new) host.old host.new result }
@@ -85,6 +92,8 @@ fn run_command<W: Threads + Wait + Sync, S: Source, K: Sink, H: Host>(
         Command::Load(number) => status_of(load(alloc, number, sink)),
         Command::Serve => run_serve(rt, alloc, source, sink, host),
         Command::Slave => run_slave(alloc, source, sink, host, stock),
+        Command::Join => join_status(join(alloc, source, sink)),
+        Command::Audit(capacity) => audit_status(audit(alloc, capacity, source, sink)),
     }
 }
 
@@ -92,7 +101,6 @@ fn run_command<W: Threads + Wait + Sync, S: Source, K: Sink, H: Host>(
 /// with: 0 where the source was read to its end (but by a load, which reads nothing) and the whole
 /// output was written, or one of the numbers of `status`. The judges of slaves are taken from the
 /// stock, which is to be fresh.
-#[tactic(auto, using(ptu_world::proofs::Headline::headline))]
 pub fn run<W: AllocGlobal + Threads + Wait + Sync, S: Source, K: Sink, H: Host>(
     rt: &W,
     words: &[&str],
@@ -105,13 +113,10 @@ pub fn run<W: AllocGlobal + Threads + Wait + Sync, S: Source, K: Sink, H: Host>(
         (map (λ j. held (j.vtable, j.value)) stock.gaps.items) }
     ensures statuses { Contains statuses result }
 
-    // The command line does not match the words, by the meaning that clap gives it, and then
-    // nothing was read or written.
-    ensures usage { result ≡ USAGE → IsRefused (map (λ w. w.now) words.now) }
-    ensures refused { IsRefused (map (λ w. w.now) words.now)
-        → (result ≡ USAGE) ⊎ (result ≡ OUT_OF_MEMORY) }
-    ensures untouched { IsRefused (map (λ w. w.now) words.now)
-        → (source.new ≡ source.old) × (sink.new ≡ sink.old) × (host.new ≡ host.old) }
+    // Words that the command line does not match, by the meaning that clap gives it, are answered
+    // so, and then nothing was read or written.
+    ensures words { AreWordsAnswered (IsRefused (map (λ w. w.now) words.now)) result
+        ((source.new ≡ source.old) × (sink.new ≡ sink.old) × (host.new ≡ host.old)) }
 
     // The whole output of the command that the words ask for was written, and the status says how
     // it ends: where neither side failed and memory was found,
@@ -133,24 +138,16 @@ pub fn run<W: AllocGlobal + Threads + Wait + Sync, S: Source, K: Sink, H: Host>(
         → command_of (map (λ w. w.now) words.now) ≡ Some (Command.Load number)
         → HasLoaded K.written K.handed sink.old sink.new source.old source.new number result }
 
-    // The headline, of the script that is read. Granted rates never sum above capacity.
-    ensures within_capacity { (script : List ℕ) → S.left source.old ≡ Some script
-        → WithinCapacity (stock_of stock.flags.items stock.gaps.items) script }
-    // A request is granted exactly where its rate fits beside the other live grants.
-    ensures granted_by_room { (script : List ℕ) → S.left source.old ≡ Some script
-        → DecidesByRoom (stock_of stock.flags.items stock.gaps.items) script }
-    // Every message takes a period of its own inside a live grant,
-    ensures own_periods { (script : List ℕ) → S.left source.old ≡ Some script
-        → PaysPeriods (stock_of stock.flags.items stock.gaps.items) script }
-    // and all of them are within the budget.
-    ensures within_budget { (script : List ℕ) → S.left source.old ≡ Some script
-        → WithinBudget (stock_of stock.flags.items stock.gaps.items) script }
-    // Each slave selects its best eligible master.
-    ensures best_master { (script : List ℕ) → S.left source.old ≡ Some script
-        → SelectsBest (stock_of stock.flags.items stock.gaps.items) script }
-    // The report says so, line by line,
-    ensures says_so { (script : List ℕ) → S.left source.old ≡ Some script
-        → SaysSo (stock_of stock.flags.items stock.gaps.items) script }
+    // An audit answers exactly what the report that is read comes to, by one line; where that is
+    // yes, its grandmasters kept their promises.
+    ensures audited { (capacity : ℕ)
+        → command_of (map (λ w. w.now) words.now) ≡ Some (Command.Audit capacity)
+        → HasAudited K.written K.handed sink.old sink.new host.old host.new
+        (S.left source.old) (S.left source.new) capacity result }
+
+    // The headline, of the script that is read,
+    ensures headline { (script : List ℕ) → S.left source.old ≡ Some script
+        → KeepsHeadline (stock_of stock.flags.items stock.gaps.items) script }
     // and the status is 0 exactly where its last line is `end`; then the source was read to its
     // end.
     ensures status { (result ≡ 0) ⊎ (result ≡ BAD_LINE)
@@ -171,25 +168,27 @@ pub fn run<W: AllocGlobal + Threads + Wait + Sync, S: Source, K: Sink, H: Host>(
         (H.opening host.old) (H.back host.new) (H.opened_at host.new)
         (length stock.flags.items) (length stock.gaps.items)
         (S.left source.old) (S.left source.new) host.old host.new result }
-    // The other words leave the host as it is.
+    // The words for which lines are read and written, but for an audit, leave the host as it is.
     ensures unused { (command : Command) → command_of (map (λ w. w.now) words.now) ≡ Some command
         → IsOfLab command → host.new ≡ host.old }
 
     // A fault is answered exactly where there was one, and what was written is a front of the
     // output, whatever is answered.
-    ensures source_fault { result ≡ SOURCE_FAULT
-        → HasRisen (S.faults source.old) (S.faults source.new) }
-    ensures source_still { result ≢ SOURCE_FAULT → S.faults source.new ≡ S.faults source.old }
-    ensures sink_fault { result ≡ SINK_FAULT
-        → HasRisen (K.faults sink.old) (K.faults sink.new) }
-    ensures sink_still { result ≢ SINK_FAULT → K.faults sink.new ≡ K.faults sink.old }
-    ensures host_fault { result ≡ HOST_FAULT
-        → HasRisen (H.faults host.old) (H.faults host.new) }
-    ensures host_still { result ≢ HOST_FAULT → H.faults host.new ≡ H.faults host.old }
+    ensures faults { AreFaultsAnswered result (S.faults source.old) (S.faults source.new)
+        (K.faults sink.old) (K.faults sink.new) (H.faults host.old) (H.faults host.new) }
     ensures front { (command : Command) → command_of (map (λ w. w.now) words.now) ≡ Some command
         → IsOfLab command → (input : List ℕ) → S.left source.old ≡ Some input
         → HasPutPart K.written K.handed sink.old sink.new
         (output_of (stock_of stock.flags.items stock.gaps.items) command input) }
+    // Where nothing failed and nothing is refused, the answer is 0 (with 70 beside it for an
+    // audit), or no memory was found.
+    ensures complete { (command : Command) → command_of (map (λ w. w.now) words.now) ≡ Some command
+        → (input : List ℕ) → S.left source.old ≡ Some input
+        → IsAccepted (stock_of stock.flags.items stock.gaps.items) command input
+        → (HasRisen (S.faults source.old) (S.faults source.new) → ⊥)
+        → (HasRisen (K.faults sink.old) (K.faults sink.new) → ⊥)
+        → (HasRisen (H.faults host.old) (H.faults host.new) → ⊥)
+        → IsWholeStatus command result ⊎ (result ≡ OUT_OF_MEMORY) }
     // Where the source failed, that is all that belongs to the lines that were read whole.
     ensures all_read { result ≡ SOURCE_FAULT
         → (command : Command) → command_of (map (λ w. w.now) words.now) ≡ Some command
@@ -198,10 +197,8 @@ pub fn run<W: AllocGlobal + Threads + Wait + Sync, S: Source, K: Sink, H: Host>(
         (S.left source.old) (S.left source.new) }
 
     // At most 67108865 octets are read, and nothing behind the end.
-    ensures taken { (octets : List ℕ)
-        × (S.left source.old ≡ prepend_known octets (S.left source.new))
-        × (length octets ≤ 67108865) }
-    ensures ends { StopsAtEnd (S.ends source.old) (S.ends source.new) }
+    ensures bounded { IsReadWithin 67108865 (S.left source.old) (S.left source.new)
+        (S.ends source.old) (S.ends source.new) }
 {
     let alloc = rt.alloc();
     match read_words(alloc, words) {

@@ -4,9 +4,11 @@ ghost use Rattle.std.specs.Prelude.{◌≡◌, IfOk, map};
 ghost use Rattle.ptu_judges.specs.Held.{IsStock, fresh};
 
 use crate::run::run;
+use crate::{is_daemon, run_in_blocks};
 use ptu_judges::{FlagJudge, Judge, Rule, Stock};
 use ptu_outside::{MemClock, MemHost, MemPort, MemSink, MemSource, Opened};
 use std::alloc::{AllocError, Global};
+use std::io::{self, ErrorKind, Write};
 use std::sync::Wait;
 use std::test::Fail;
 use std::thread::Threads;
@@ -187,6 +189,27 @@ fn words_of_no_command(rt: HostRuntime) -> Result<(), Fail> {
 }
 
 #[test]
+fn halves_are_joined(rt: HostRuntime) -> Result<(), Fail> {
+    let alloc = rt.alloc();
+    let input = "\
+        0812002c040004000000000000000000000000000a000000000000010001000002\
+        7f00000000000100000000\n\
+        0012002c040006000000000000000000000000000a000000000000010001000000\
+        7f00000000000000000000\n";
+    let output = "\
+        1 wait\n\
+        2 pair 0012002c040004000000000000000000000000000a000000000000010001000000\
+        7f00000000000100000000\nend 2 0\n";
+    let (found, text) = ran(&rt, &["join"], input, 0, 0, no_judges(alloc))?;
+    assert_eq!(rt; found, 0);
+    assert_eq!(rt; text.as_str(), output);
+    let (found, text) = ran(&rt, &["join"], input, 2, 0, no_judges(alloc))?;
+    assert_eq!(rt; found, 66);
+    assert!(rt; output.starts_with(text.as_str()), "{text}");
+    Ok(())
+}
+
+#[test]
 fn datagrams_are_shown(rt: HostRuntime) -> Result<(), Fail> {
     let alloc = rt.alloc();
     for (input, output, status) in [
@@ -206,6 +229,62 @@ fn datagrams_are_shown(rt: HostRuntime) -> Result<(), Fail> {
         ("0c1\n", "1 bad field 1\n", 65),
     ] {
         let (found, text) = ran(&rt, &["show"], input, 0, 0, no_judges(alloc))?;
+        assert_eq!(rt; found, status);
+        assert_eq!(rt; text.as_str(), output);
+    }
+    Ok(())
+}
+
+// An output that is lost: whatever is written to it, it fails.
+#[derive(Drop)]
+struct Lost;
+
+impl Write for Lost {
+    fn write(&mut self, _: &[u8]) -> io::Result<usize> {
+        Err(ErrorKind::BrokenPipe.into())
+    }
+
+    fn flush(&mut self) -> io::Result<()> {
+        Ok(())
+    }
+}
+
+// Refuses a program that ends with the status of its run whatever becomes of the last block.
+#[test]
+fn a_last_block_that_is_lost_is_a_fault_of_the_output(rt: HostRuntime) -> Result<(), Fail> {
+    let alloc = rt.alloc();
+    for (word, input) in [("replay", ONE_ASK), ("show", "0c1\n"), ("show", "")] {
+        let mut host = MemHost::new(opened_with(alloc, port(alloc)), true);
+        let stock = no_judges(alloc);
+        let status = run_in_blocks(&rt, &[word], input.as_bytes(), Lost, &mut host, stock);
+        assert_eq!(rt; status, 67);
+    }
+    Ok(())
+}
+
+// Refuses a program that keeps a daemon's lines back in blocks.
+#[test]
+fn lines_of_daemons_are_waited_for(rt: HostRuntime) -> Result<(), Fail> {
+    for (words, waits) in [
+        (["serve"].as_slice(), true),
+        (["slave"].as_slice(), true),
+        (["replay"].as_slice(), false),
+        ([].as_slice(), false),
+    ] {
+        assert_eq!(rt; is_daemon(words), waits);
+    }
+    Ok(())
+}
+
+#[test]
+fn a_report_is_audited(rt: HostRuntime) -> Result<(), Fail> {
+    let alloc = rt.alloc();
+    for (capacity, report, output, status) in [
+        ("32", ONE_GRANT, "yes grants 1 sent 0\n", 0),
+        ("7", ONE_GRANT, "no 1 fit\n", 70),
+        ("7", "", "1 bad end\n", 65),
+    ] {
+        let (found, text) = ran(&rt, &["audit", capacity], report, 0, 0, no_judges(alloc))?;
         assert_eq!(rt; found, status);
         assert_eq!(rt; text.as_str(), output);
     }

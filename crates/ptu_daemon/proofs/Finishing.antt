@@ -4,7 +4,7 @@ use Rattle.ptu_outside.specs.declared.clock.Clock.{Ghosts as Clocks}
 use Rattle.ptu_outside.specs.declared.opened.Opened.{Opened}
 use Rattle.ptu_outside.specs.declared.port.Port.{Ghosts as Ports}
 use Rattle.ptu_outside.specs.Departure.{Departure}
-use Rattle.ptu_outside.specs.Faults.{HasRisenBy, HasRisenJust}
+use Rattle.ptu_outside.specs.Faults.{HasRisen, HasRisenBy, HasRisenJust}
 use Rattle.ptu_outside.specs.Telling.{IfTold, append_told}
 use Rattle.ptu_outside.proofs.HandsOver.{none_failed}
 use Rattle.ptu_history.specs.Core.{book_step_moment, core_history, history_after}
@@ -22,10 +22,10 @@ use Rattle.ptu_rounds.specs.Ports.{HaveNotRisen, HaveRisenBy, HaveRisenJust, Wer
 use Rattle.ptu_rounds.specs.Rounds.{in_rounds, timed}
 use Rattle.ptu_daemon.specs.declared.tally.Tally.{Tally}
 use Rattle.ptu_daemon.specs.Events.{Given, Happening, config_of, round_of, served_events}
-use Rattle.ptu_daemon.specs.Ran.{AllHandled, DidRounds, Takes, after_all, five, standing_as}
+use Rattle.ptu_daemon.specs.Ran.{AllHandled, DidRounds, Handled, Takes, after_all, five, standing_as}
 use Rattle.ptu_daemon.specs.Sends.{Standing, sends_by, standing_after}
-use Rattle.ptu_daemon.specs.Served.{Said, served_by, served_history, served_said}
-use Rattle.ptu_daemon.specs.Serving.{AreServed, IsGiven, Serves, faults_of}
+use Rattle.ptu_daemon.specs.Served.{Said, opened_as, served_by, served_history, served_said}
+use Rattle.ptu_daemon.specs.Serving.{AreServed, GoOn, IsGiven, Serves, faults_of}
 use Rattle.ptu_daemon.proofs.Handling.{handled_all, many_of}
 
 -- ---- the history of the events
@@ -162,7 +162,7 @@ module _ {P C : Type 0} (ports : Ports P) (clocks : Clocks C) where
       let x = book_step_moment history 0 in
       (said.held ≡ table_rates history x 0 + table_rates history x 1 + table_rates history x 2 + table_rates history x 3)
       × (said.granted ≡ counted (counts history).granted) × (said.refused ≡ counted (counts history).short)) where
-    gm_is : standing_as gm0 settings.capacity [] ≡ record { config = config_of settings; opening = settings.capacity; past = [] }
+    gm_is : standing_as gm0 settings.capacity [] ≡ opened_as settings
     gm_is = ap (λ c. record { config = c; opening = settings.capacity; past = [] }) config
 
     handled : AllHandled ports (λ i. sends_by (standing_as gm0 settings.capacity []) i did.ran.events) 0 tally.sent did.ran.others_failed (five gm0) (five gm1)
@@ -209,6 +209,30 @@ module _ {P C : Type 0} (ports : Ports P) (clocks : Clocks C) where
         (subst (λ n. WereSent n (map ports.sent (five gm0)) (map ports.sent (five gm1))) (sym sent_is)
         (sent_of (λ i. sends_by (standing_as gm0 settings.capacity []) i did.ran.events) 0 tally.sent did.ran.others_failed (five gm0) (five gm1) handled)))
 
+    -- one of the five goes on to tell
+    one_goes_on : (i s f : ℕ) (old new old' new' : P) → old ≡ old' → new' ≡ new →
+        Handled ports (sends_by (standing_as gm0 settings.capacity []) i did.ran.events) s f old new →
+        ¬ HasRisen (ports.faults old') (ports.faults new') → GoesOn ports old' new' (sends_by (opened_as settings) i did.ran.events)
+    one_goes_on i s f old new old' new' a b h still =
+        let as_here : ¬ HasRisen (ports.faults old) (ports.faults new) =
+        subst (λ p. ¬ HasRisen (ports.faults p) (ports.faults new)) (sym a) (subst (λ p. ¬ HasRisen (ports.faults old') (ports.faults p)) b still) in
+        subst (λ p. GoesOn ports p new' (sends_by (opened_as settings) i did.ran.events)) a
+        (subst (λ p. GoesOn ports old p (sends_by (opened_as settings) i did.ran.events)) (sym b)
+        (subst (λ g. GoesOn ports old new (sends_by g i did.ran.events)) gm_is (h.goes_on (none_failed f _ _ h.risen as_here))))
+
+    go_on : GoOn ports (λ i. sends_by (opened_as settings) i did.ran.events) opened closed
+    go_on = each handled
+      where
+        each : AllHandled ports (λ i. sends_by (standing_as gm0 settings.capacity []) i did.ran.events) 0 tally.sent did.ran.others_failed (five gm0) (five gm1) →
+            GoOn ports (λ i. sends_by (opened_as settings) i did.ran.events) opened closed
+        each (s0, f0, t0, g0, d0, e0, h0, (s1, f1, t1, g1, d1, e1, h1, (s2, f2, t2, g2, d2, e2, h2, (s3, f3, t3, g3, d3, e3, h3, (s4, f4, t4, g4, d4, e4, h4, rest))))) = record {
+          p0 = one_goes_on 0 s0 f0 _ _ _ _ p0 q0 h0;
+          p1 = one_goes_on 1 s1 f1 _ _ _ _ p1 q1 h1;
+          p2 = one_goes_on 2 s2 f2 _ _ _ _ p2 q2 h2;
+          p3 = one_goes_on 3 s3 f3 _ _ _ _ p3 q3 h3;
+          p4 = one_goes_on 4 s4 f4 _ _ _ _ p4 q4 h4;
+        }
+
     module _ (given : Given) (is : IsGiven ports clocks opened closed given) (still : HaveNotRisen (faults_of ports opened) (faults_of ports closed)) where
       none : tally.failed ≡ 0
       none = sym failed_is ∙ none_together said.failed (faults_of ports opened) (faults_of ports closed) risen still
@@ -229,14 +253,14 @@ module _ {P C : Type 0} (ports : Ports P) (clocks : Clocks C) where
           ∙ ap (timed given.moments) happened
 
       sends : (i : ℕ) → sends_by (standing_as gm0 settings.capacity []) i did.ran.events ≡ served_by settings given i
-      sends i = ap (λ g. sends_by g i did.ran.events) gm_is ∙ ap (sends_by (record { config = config_of settings; opening = settings.capacity; past = [] }) i) events
+      sends i = ap (λ g. sends_by g i did.ran.events) gm_is ∙ ap (sends_by (opened_as settings) i) events
 
       history : (after_all (standing_as gm0 settings.capacity []) did.ran.events).past ≡ served_history settings given
       unfolding core_history
       history =
           ap (λ g. (after_all g did.ran.events).past) gm_is
-          ∙ ap (λ es. (after_all (record { config = config_of settings; opening = settings.capacity; past = [] }) es).past) events
-          ∙ after_all-history (record { config = config_of settings; opening = settings.capacity; past = [] }) (served_events settings given)
+          ∙ ap (λ es. (after_all (opened_as settings) es).past) events
+          ∙ after_all-history (opened_as settings) (served_events settings given)
 
       stands : StandsFor settings.capacity gm1 (served_history settings given)
       stands = subst (λ h. StandsFor settings.capacity gm1 h) history (did.ran.does settings.capacity [] stood).0
@@ -294,6 +318,7 @@ module _ {P C : Type 0} (ports : Ports P) (clocks : Clocks C) where
       just = just;
       quiet = quiet;
       sent = were_sent;
+      goes_on = (did.ran.events, go_on);
       served = are_served;
       c1 = k1;
       c2 = k2;

@@ -10,7 +10,7 @@ use Rattle.ptu_grandmaster.specs.Gm.{counted}
 use Rattle.ptu_config.specs.declared.settings.GmSettings.{GmSettings}
 use Rattle.ptu_daemon.specs.declared.closing.Closing.{Closing}
 use Rattle.ptu_daemon.specs.Events.{Given, config_of, served_events}
-use Rattle.ptu_daemon.specs.Sends.{sends_by}
+use Rattle.ptu_daemon.specs.Sends.{Standing, sends_by}
 
 -- the numbers of the last line: how many sends succeeded, how many sends and receives failed, how many asks were granted and
 -- how many within the profile did not fit, and the rates of the grants that are live at the greatest moment, in sixteenths of
@@ -33,10 +33,13 @@ closing_line rounds said =
 abbrev pub served_history : GmSettings → Given → List Record
 served_history settings given = driven_history (config_of settings) settings.capacity (served_events settings given)
 
+-- the grandmaster, as it is opened
+abbrev pub opened_as : GmSettings → Standing
+opened_as settings = record { config = config_of settings; opening = settings.capacity; past = [] }
+
 -- what the port of this index is sent, from 0 to 4
 abbrev pub served_by : GmSettings → Given → ℕ → List Departure
-served_by settings given i =
-    sends_by (record { config = config_of settings; opening = settings.capacity; past = [] }) i (served_events settings given)
+served_by settings given i = sends_by (opened_as settings) i (served_events settings given)
 
 -- the sum of the rates of the grants that are live at the greatest moment of the history
 abbrev pub held_by : List Record → ℕ

@@ -3,13 +3,17 @@ use Rattle.std.specs.Prelude.{◌≡◌, ◌≤◌, ℕ, true, List, map, Option
 use Rattle.ptu_outside.specs.declared.clock.Clock.{Ghosts as Clocks}
 use Rattle.ptu_outside.specs.declared.opened.Opened.{Opened}
 use Rattle.ptu_outside.specs.declared.port.Port.{Ghosts as Ports}
+use Rattle.ptu_outside.specs.Departure.{Departure}
+use Rattle.ptu_outside.specs.Faults.{HasRisen}
 use Rattle.ptu_outside.specs.Telling.{IfTold}
+use Rattle.ptu_grandmaster.specs.declared.driving.GmEvent.{GmEvent}
 use Rattle.ptu_config.specs.declared.settings.GmSettings.{GmSettings}
 use Rattle.ptu_rounds.specs.Ports.{HaveNotRisen, HaveRisenBy, HaveRisenJust, WereSent, ports_of, senders_of}
 use Rattle.ptu_lanes.specs.Sending.{GoesOn, WasSent}
 use Rattle.ptu_lane_daemon.specs.Served.{ServesByLanes}
 use Rattle.ptu_daemon.specs.Events.{Given, config_of}
-use Rattle.ptu_daemon.specs.Served.{Said, served_by, served_said}
+use Rattle.ptu_daemon.specs.Served.{Said, opened_as, served_by, served_said}
+use Rattle.ptu_daemon.specs.Sends.{sends_by}
 
 -- the ports and clocks tell that this is given, and still tell it when they are given back
 pub record IsGiven {P C : Type 0} (ports : Ports P) (clocks : Clocks C) (opened closed : Opened P C) (given : Given) : Type 0 where
@@ -37,6 +41,15 @@ pub record AreServed {P C : Type 0} (ports : Ports P) (settings : GmSettings) (g
   pub tells5 : ports.has_ceased closed.p5 ≡ ports.has_ceased opened.p5
   pub line : said ≡ served_said settings given
 
+-- whatever the other counts did: each port whose count did not rise goes on to tell, unless one of its datagrams was such that it
+-- may cease to
+pub record GoOn {P C : Type 0} (ports : Ports P) (sends : ℕ → List Departure) (opened closed : Opened P C) : Type 0 where
+  pub p0 : ¬ HasRisen (ports.faults opened.p0) (ports.faults closed.p0) → GoesOn ports opened.p0 closed.p0 (sends 0)
+  pub p1 : ¬ HasRisen (ports.faults opened.p1) (ports.faults closed.p1) → GoesOn ports opened.p1 closed.p1 (sends 1)
+  pub p2 : ¬ HasRisen (ports.faults opened.p2) (ports.faults closed.p2) → GoesOn ports opened.p2 closed.p2 (sends 2)
+  pub p3 : ¬ HasRisen (ports.faults opened.p3) (ports.faults closed.p3) → GoesOn ports opened.p3 closed.p3 (sends 3)
+  pub p4 : ¬ HasRisen (ports.faults opened.p4) (ports.faults closed.p4) → GoesOn ports opened.p4 closed.p4 (sends 4)
+
 -- the counts of faults of all six ports
 abbrev pub faults_of : {P C : Type 0} → Ports P → Opened P C → List ℕ
 faults_of ports opened = map ports.faults (ports_of opened)
@@ -50,6 +63,8 @@ pub record Serves {P C : Type 0} (ports : Ports P) (clocks : Clocks C) (settings
   pub quiet : said.failed ≡ 0 → faults_of ports closed ≡ faults_of ports opened
   -- what was sent is the number of datagrams that ports 0 to 4 were sent, whatever the counts did
   pub sent : WereSent said.sent (map ports.sent (senders_of opened)) (map ports.sent (senders_of closed))
+  -- and they were such as some events make the grandmaster send
+  pub goes_on : (events : List GmEvent) × GoOn ports (λ i. sends_by (opened_as settings) i events) opened closed
   -- where no count rose, it is what is served
   pub served : (given : Given) → IsGiven ports clocks opened closed given →
       HaveNotRisen (faults_of ports opened) (faults_of ports closed) → AreServed ports settings given opened closed said

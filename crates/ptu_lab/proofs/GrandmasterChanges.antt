@@ -1,4 +1,4 @@
--- That the capacity of a grandmaster of the lab has changed.
+-- That the capacity of a grandmaster of a script has changed.
 use Rattle.std.proofs.Common.{◌≡◌, ◌∙◌, ℕ, ◌+◌, ◌%◌, List, [], ◌∷◌, ◌++◌, Bool, false, cond, map, refl, sym, ap, ap₂, subst, arith, append_assoc, Some}
 use Rattle.std.proofs.lemmas.List.Sums.{sum_by-cons}
 use Rattle.std.proofs.lemmas.Simd.{map-map}
@@ -29,7 +29,7 @@ use Rattle.ptu_world.specs.Report.{is_granted, is_short, text_at}
 use Rattle.ptu_lab.specs.Doing.{HasDone}
 use Rattle.ptu_lab.specs.GrandmasterPorts.{GoesOn, HasHanded, in_ports}
 use Rattle.ptu_lab.specs.GrandmasterStatements.{shed_seen}
-use Rattle.ptu_lab.specs.Standing.{AreIdle, IsGrandmasterNode, StandsAsGrandmaster}
+use Rattle.ptu_lab.specs.NodeStanding.{AreIdle, IsGrandmasterNode, StandsAsGrandmaster}
 use Rattle.ptu_lab.proofs.GrandmasterDone.{all_handed, has_done, stands_after}
 
 -- ---- what stands in the ports, where those of the tables are idle

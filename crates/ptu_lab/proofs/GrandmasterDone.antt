@@ -1,4 +1,4 @@
--- That a node of the lab has done what a deed says.
+-- That a node of a script has done what a deed says.
 use Rattle.std.proofs.Common.{◌≡◌, ◌∙◌, ℕ, ◌+◌, ◌≤◌, List, [], ◌∷◌, ◌++◌, Bool, true, false, cond, length, map, refl, sym, ap, arith, append_assoc, Some, Result, Ok, Err}
 use Rattle.std.specs.Result.{OnOk}
 use Rattle.std.specs.List.{count_by}
@@ -16,7 +16,7 @@ use Rattle.ptu_world.specs.Report.{is_granted, is_short, text_at}
 use Rattle.ptu_world.specs.World.{sending_said, sent_from}
 use Rattle.ptu_lab.specs.Doing.{HasDone}
 use Rattle.ptu_lab.specs.GrandmasterPorts.{GoesOn, HasHanded}
-use Rattle.ptu_lab.specs.Standing.{AreIdle, IsGrandmasterNode}
+use Rattle.ptu_lab.specs.NodeStanding.{AreIdle, IsGrandmasterNode}
 
 pub on_ok_three : {T E P Q R S : Type 0} (r : Result T E) → (P → Q → R → S) → OnOk r P → OnOk r Q → OnOk r R → OnOk r S
 on_ok_three (Ok x) f p q r = f p q r

@@ -1,4 +1,4 @@
--- The ports of a grandmaster of the lab.
+-- The ports of a grandmaster of a script.
 use Rattle.std.proofs.Common.{◌≡◌, ◌∙◌, ℕ, ◌+◌, ◌==◌, List, [], ◌∷◌, ◌++◌, Bool, true, false, cond, length, map, refl, sym, ap, subst, arith, append_assoc, length-append}
 use Rattle.std.proofs.lemmas.List.{map-append}
 use Rattle.ptu_outside.specs.Departure.{Departure}

@@ -1,4 +1,4 @@
--- That a grandmaster of the lab has taken a datagram.
+-- That a grandmaster of a script has taken a datagram.
 use Rattle.std.proofs.Common.{◌≡◌, ◌∙◌, ◌↔◌, ℕ, List, [], ◌∷◌, ◌++◌, map, refl, sym, ap, ap₂, subst, Some, Result, Ok, Err}
 use Rattle.std.proofs.lemmas.Simd.{map-map}
 use Rattle.std.specs.List.{count_by}
@@ -40,7 +40,7 @@ use Rattle.ptu_world.specs.Report.{is_granted, is_short, text_at}
 use Rattle.ptu_lab.specs.Doing.{HasDone}
 use Rattle.ptu_lab.specs.GrandmasterPorts.{GoesOn, HasHanded, in_ports}
 use Rattle.ptu_lab.specs.GrandmasterStatements.{IsAnswerSent, IsReplySent, IsSent, taken_said}
-use Rattle.ptu_lab.specs.Standing.{AreIdle, IsGrandmasterNode, StandsAsGrandmaster}
+use Rattle.ptu_lab.specs.NodeStanding.{AreIdle, IsGrandmasterNode, StandsAsGrandmaster}
 use Rattle.ptu_lab.proofs.GrandmasterChanges.{in_ports-reply}
 use Rattle.ptu_lab.proofs.GrandmasterDone.{all_handed, has_done, stands_after}
 use Rattle.ptu_lab.proofs.GrandmasterTurns.{idle_table, in_ports-table}

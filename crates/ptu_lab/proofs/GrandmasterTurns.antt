@@ -1,4 +1,4 @@
--- That a grandmaster of the lab has taken a turn.
+-- That a grandmaster of a script has taken a turn.
 use Rattle.std.proofs.Common.{◌≡◌, ◌∙◌, ℕ, ◌==◌, List, [], ◌++◌, Bool, true, false, map, refl, sym, ap, subst, Some}
 use Rattle.std.proofs.lemmas.List.{append-nil}
 use Rattle.std.proofs.lemmas.Simd.{map-map}
@@ -20,7 +20,7 @@ use Rattle.ptu_world.specs.Deeds.{Grandmaster}
 use Rattle.ptu_world.specs.Grandmasters.{turn_deed}
 use Rattle.ptu_lab.specs.Doing.{HasDone}
 use Rattle.ptu_lab.specs.GrandmasterPorts.{GoesOn, HasHanded, in_ports}
-use Rattle.ptu_lab.specs.Standing.{AreIdle, IsGrandmasterNode, StandsAsGrandmaster}
+use Rattle.ptu_lab.specs.NodeStanding.{AreIdle, IsGrandmasterNode, StandsAsGrandmaster}
 use Rattle.ptu_lab.proofs.GrandmasterDone.{all_handed, has_done, stands_after}
 use Rattle.ptu_lab.proofs.GrandmasterPorts.{table_by, with_by}
 

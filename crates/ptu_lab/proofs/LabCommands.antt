@@ -11,7 +11,7 @@ use Rattle.ptu_world.specs.Deeds.{Deed, Grandmaster, IsGrandmaster, IsSlave, Nod
 use Rattle.ptu_world.specs.Grandmasters.{capacity_deed, class_deed, turn_deed}
 use Rattle.ptu_world.specs.Slaves.{plain_deed}
 use Rattle.ptu_world.specs.World.{Done, Stock, World, done_by, grandmaster_by, node_at, or_cause, place_in, slave_by, step, stock_without}
-use Rattle.ptu_lab.specs.LabSteps.{of_grandmaster, of_master, of_slave}
+use Rattle.ptu_lab.specs.Steps.{of_grandmaster, of_master, of_slave}
 
 -- the world after what the node at the address does
 abbrev pub after_deed : World → ℕ → Result Deed Cause → Result Done Cause

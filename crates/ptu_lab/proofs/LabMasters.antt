@@ -17,8 +17,9 @@ use Rattle.ptu_lab.specs.declared.slave_node.SlaveNode.{SlaveNode}
 use Rattle.ptu_lab.specs.declared.lab.Node.{Node}
 use Rattle.ptu_lab.specs.declared.lab.Node.TheVariants as nodes
 use Rattle.ptu_lab.specs.declared.lab.Lab.{Lab}
-use Rattle.ptu_lab.specs.LabSteps.{HasTaken, IsNoSlave, stock_of}
-use Rattle.ptu_lab.specs.Standing.{Agrees, IsSlaveNode, StandsAsSlave, StandsFor}
+use Rattle.ptu_lab.specs.Steps.{HasTaken, IsNoSlave, stock_of}
+use Rattle.ptu_lab.specs.NodeStanding.{IsSlaveNode, StandsAsSlave}
+use Rattle.ptu_lab.specs.Standing.{Agrees, StandsFor}
 use Rattle.ptu_lab.proofs.LabNodes.{placed_agree}
 
 -- ---- what the command makes of a world

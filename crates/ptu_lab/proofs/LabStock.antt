@@ -4,7 +4,7 @@ use Rattle.std.specs.List.{AllByRecursion}
 use Rattle.std.proofs.lemmas.List.{length-map}
 use Rattle.ptu_record.specs.declared.rule.Rule.TheVariants.{Flag, Gap}
 use Rattle.ptu_judges.specs.Held.{Held, IsStock, fresh}
-use Rattle.ptu_lab.specs.LabSteps.{HasNone, HasTaken}
+use Rattle.ptu_lab.specs.Steps.{HasNone, HasTaken}
 
 module _ {A : Type 0} (f : A → Held) where
   all_but_last : (P : Held → Type 0) (xs : List A) (x : A) → AllByRecursion P (map f (xs ++ x ∷ [])) → AllByRecursion P (map f xs) × P (f x)

@@ -15,12 +15,12 @@ use Rattle.ptu_world.specs.World.{World, Stock, Done, opening, step}
 use Rattle.ptu_world.specs.Facts.{EndsBy, world_of}
 use Rattle.ptu_world.specs.Report.{course_opening, lines_by, lines_by_line, lines_from, report_lines, rules}
 use Rattle.ptu_world.proofs.Reported.{ends_of_rules}
-use Rattle.ptu_lab.specs.Answers.{CountsRead, CountsWrite}
+use Rattle.ptu_show.specs.Answers.{CountsRead, CountsWrite}
 use Rattle.ptu_lab.specs.Load.{no_stock, numbers_of}
 use Rattle.ptu_lab.specs.Replayed.{AreCounts, HasReplayed, IfReplayed}
 use Rattle.ptu_lab.specs.declared.done.Done.{Done as Answer}
-use Rattle.ptu_lab.specs.declared.fault.LabFault.{LabFault}
-use Rattle.ptu_lab.specs.declared.fault.LabFault.TheVariants.{Line, Read, Write, OutOfMemory}
+use Rattle.ptu_show.specs.declared.fault.LabFault.{LabFault}
+use Rattle.ptu_show.specs.declared.fault.LabFault.TheVariants.{Line, Read, Write, OutOfMemory}
 
 -- how many lines the last `end` line counts; where there is none, what was found before
 last_end : Option ℕ → List ReportLine → Option ℕ

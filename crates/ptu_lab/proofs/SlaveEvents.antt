@@ -1,4 +1,4 @@
--- What an event makes of a slave of the lab, and what is said of it.
+-- What an event makes of a slave of a script, and what is said of it.
 use Rattle.std.proofs.Common.{◌≡◌, ◌≢◌, ℕ, zero, suc, ◌+◌, ◌<◌, ◌≤◌, max, Bool, true, false, cond, List, [], ◌∷◌, ◌++◌, length, map, Option, Some, None, refl, ap, ap₂, sym, subst, ◌∙◌, arith, append_assoc}
 use Rattle.std.proofs.lemmas.Bool.{false≢true}
 use Rattle.std.proofs.lemmas.List.{append-nil, map-append}
@@ -35,7 +35,7 @@ use Rattle.ptu_world.specs.Report.{is_granted, is_short, text_at}
 use Rattle.ptu_world.specs.Slaves.{entered, event_deed, selection_said}
 use Rattle.ptu_world.specs.World.{sending_said, sent_from}
 use Rattle.ptu_lab.specs.Doing.{HasDone}
-use Rattle.ptu_lab.specs.Standing.{IsIdle, IsSlaveNode, StandsAsSlave}
+use Rattle.ptu_lab.specs.NodeStanding.{IsIdle, IsSlaveNode, StandsAsSlave}
 use Rattle.ptu_lab.specs.SlaveWords.{HasStepped, selection_by}
 
 -- ---- what was sent

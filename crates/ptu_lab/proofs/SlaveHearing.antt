@@ -1,4 +1,4 @@
--- What a slave of the lab heard, and what it does of it.
+-- What a slave of a script heard, and what it does of it.
 use Rattle.std.proofs.Common.{◌≡◌, ◌≢◌, ℕ, suc, ◌+◌, ◌<◌, max, Bool, true, false, List, [], ◌∷◌, ◌++◌, length, map, Option, Some, None, Ok, Err, refl, ap, ap₂, sym, subst, ◌∙◌, arith}
 use Rattle.std.proofs.lemmas.Bool.{false≢true}
 use Rattle.std.proofs.lemmas.List.{append-nil}
@@ -43,8 +43,8 @@ use Rattle.ptu_world.specs.World.{sending_said, sent_from}
 use Rattle.ptu_world.specs.Slaves as slaves
 use Rattle.ptu_world.specs.Slaves.{event_deed, heard_deed, heard_said, signal_said}
 use Rattle.ptu_lab.specs.Doing.{HasDone}
-use Rattle.ptu_lab.specs.Standing.{IsIdle, IsSlaveNode, StandsAsSlave}
-use Rattle.ptu_lab.specs.SlaveHeard.{IsOfOne, is_ignored, is_unsent}
+use Rattle.ptu_lab.specs.NodeStanding.{IsIdle, IsSlaveNode, StandsAsSlave}
+use Rattle.ptu_lab.specs.SlaveStatements.{IsOfOne, is_ignored, is_unsent}
 use Rattle.ptu_lab.specs.SlaveWords.{HasStepped, selection_by}
 use Rattle.ptu_lab.proofs.SlaveEvents.{IsOther, all_sent, ended, stepped}
 

@@ -1,4 +1,4 @@
--- A slave of the lab with one master more.
+-- A slave of a script with one master more.
 use Rattle.std.proofs.Common.{◌≡◌, ◌≢◌, ℕ, zero, suc, ◌<◌, Bool, true, false, cond, List, [], ◌∷◌, ◌++◌, length, map, Option, Some, None, refl, ap, ap₂, sym, subst, ◌∙◌, arith, length-append, get_or}
 use Rattle.std.proofs.lemmas.Bool.{false≢true}
 use Rattle.std.proofs.lemmas.Bool.Decides.{nat_tests}
@@ -17,7 +17,7 @@ use Rattle.ptu_slave.specs.Kept.{Kept}
 use Rattle.ptu_slave.specs.Standing.{StandsFor}
 use Rattle.ptu_world.specs.Deeds.{Slave}
 use Rattle.ptu_world.specs.World.{with_master}
-use Rattle.ptu_lab.specs.Standing.{IsIdle, IsSlaveNode}
+use Rattle.ptu_lab.specs.NodeStanding.{IsIdle, IsSlaveNode}
 
 -- ---- the masters
 

@@ -1,4 +1,4 @@
--- The ports of a grandmaster of the lab, and what was handed to them.
+-- The ports of a grandmaster of a script, and what was handed to them.
 use Rattle.std.specs.Prelude.{◌≡◌, ℕ, ◌+◌, ◌≤◌, List, ◌++◌, length, map}
 use Rattle.ptu_outside.specs.Departure.{Departure}
 use Rattle.ptu_outside.specs.MemoryPort.{MemoryPort, octets_of}
@@ -8,21 +8,26 @@ use Rattle.ptu_report_lines.specs.declared.sent.Sent.{Sent}
 use Rattle.ptu_world.specs.Report.{text_at}
 use Rattle.ptu_world.specs.World.{sending_said, sent_from}
 
--- these datagrams of the node at this address were added to those that were sent, and to the texts of the script's line of
--- this number that each was sent, with its number
-pub record HasHanded (ip line : ℕ) (handed : List Departure) (sent sent' : List Sent) (texts texts' : List (List ℕ)) : Type 0 where
+-- these datagrams of the node at this address were added to those that were sent, and to the texts
+-- of the script's line of this number that each was sent, with its number
+pub record HasHanded (ip line : ℕ) (handed : List Departure) (sent sent' : List Sent)
+    (texts texts' : List (List ℕ)) : Type 0 where
   pub sends : sent' ≡ sent ++ map (sent_from ip) handed
-  pub says : texts' ≡ texts ++ map (text_at line) (sending_said (length sent) (map (sent_from ip) handed))
+  pub says : texts' ≡ texts
+      ++ map (text_at line) (sending_said (length sent) (map (sent_from ip) handed))
 
 -- the datagrams that stand in the ports, by port
 abbrev pub in_ports : KeptGm MemoryPort → List Departure
-in_ports gm = gm.s0.port.sent ++ gm.s1.port.sent ++ gm.s2.port.sent ++ gm.s3.port.sent ++ gm.reply.sent
+in_ports gm =
+    gm.s0.port.sent ++ gm.s1.port.sent ++ gm.s2.port.sent ++ gm.s3.port.sent ++ gm.reply.sent
 
 -- there is room for so many datagrams more, and for so many octets in them
 abbrev pub HasRoom : ℕ → ℕ → MemoryPort → Type 0
-HasRoom datagrams octets port = (length port.sent + datagrams ≤ port.datagrams) × (octets_of port.sent + octets ≤ port.octets)
+HasRoom datagrams octets port =
+    (length port.sent + datagrams ≤ port.datagrams) × (octets_of port.sent + octets ≤ port.octets)
 
 -- it has the configuration that it had, and stands for each history that it stood for
 pub record GoesOn (old new : KeptGm MemoryPort) : Type 0 where
   pub config : new.config ≡ old.config
-  pub stands : (opening : ℕ) (history : List Record) → StandsFor opening old history → StandsFor opening new history
+  pub stands : (opening : ℕ) (history : List Record) → StandsFor opening old history
+      → StandsFor opening new history

@@ -1,4 +1,4 @@
--- What is said of what a grandmaster of the lab answered.
+-- What is said of what a grandmaster of a script answered.
 use Rattle.std.specs.Prelude.{List, [], ◌∷◌, map}
 use Rattle.ptu_shard.specs.declared.answered.Answered.{Answered}
 use Rattle.ptu_shard.specs.declared.answered.Answered.TheVariants as answers

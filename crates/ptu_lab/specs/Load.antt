@@ -1,21 +1,21 @@
--- What a load writes: one line with the numbers of the report on the generated script, as a compact JSON object.
-use Rattle.std.specs.Prelude.{◌≡◌, ℕ, ◌+◌, ◌≤◌, List, ◌++◌, codes, length}
+-- What a load writes: one line with the numbers of the report on the generated script, as a compact
+-- JSON object.
+use Rattle.std.specs.Prelude.{ℕ, List, ◌++◌, codes, length}
 use Rattle.std.specs.Fmt.{decimal}
 use Rattle.serde_json.specs.Data.{Data, number, unsigned, object, member, no_members}
 use Rattle.ptu_lines.specs.Script.{script_lines}
-use Rattle.ptu_report.specs.declared.ending.Ending.TheVariants.{Whole}
-use Rattle.ptu_report.specs.Rules.{ending_of}
 use Rattle.ptu_world.specs.World.{Stock}
 use Rattle.ptu_world.specs.Facts.{world_of}
-use Rattle.ptu_world.specs.Report.{course_opening, granted_count, report_lines, rules, short_count}
+use Rattle.ptu_world.specs.Report.{granted_count, report_lines, short_count}
 use Rattle.ptu_lab.specs.declared.done.Done.{Done}
-use Rattle.ptu_lab.specs.Generated.{generated}
+use Rattle.ptu_load.specs.Generated.{generated}
 
 -- a stock without judges
 abbrev pub no_stock : Stock
 no_stock = record { flags = 0; gaps = 0 }
 
--- the numbers of the report on a script without slaves: its lines and the datagrams sent, and its counts of `granted` and `short` lines
+-- the numbers of the report on a script without slaves: its lines and the datagrams sent, and its
+-- counts of `granted` and `short` lines
 unfoldable pub numbers_of : List ℕ → Done
 numbers_of script = record {
   lines = length (script_lines script);
@@ -36,8 +36,10 @@ summary_data done = object
 -- its compact text
 unfoldable pub object_text : Done → List ℕ
 object_text done =
-    codes "{\"datagrams\":" ++ (decimal done.datagrams ++ (codes ",\"granted\":" ++ (decimal done.granted
-    ++ (codes ",\"lines\":" ++ (decimal done.lines ++ (codes ",\"refused\":" ++ (decimal done.refused ++ codes "}")))))))
+    codes "{\"datagrams\":" ++ (decimal done.datagrams
+    ++ (codes ",\"granted\":" ++ (decimal done.granted
+    ++ (codes ",\"lines\":" ++ (decimal done.lines
+    ++ (codes ",\"refused\":" ++ (decimal done.refused ++ codes "}")))))))
 
 -- the line of it
 abbrev pub summary_text : Done → List ℕ
@@ -46,7 +48,3 @@ summary_text done = object_text done ++ codes "\n"
 -- what a load of n clients writes
 abbrev pub summary : ℕ → List ℕ
 summary n = summary_text (numbers_of (generated n))
-
--- whatever judges there are, no line of the script of a load is refused: its n + 33 lines are replayed to the end
-abbrev pub LoadsAreWhole : Type 0
-LoadsAreWhole = (stock : Stock) (n : ℕ) → 1 ≤ n → n ≤ 2000 → ending_of rules (course_opening stock) (script_lines (generated n)) ≡ Whole (n + 33)

@@ -9,8 +9,8 @@ use Rattle.ptu_world.specs.World.{Stock}
 use Rattle.ptu_world.specs.Facts.{EndsBy, world_of}
 use Rattle.ptu_world.specs.Report.{granted_count, report, report_lines, short_count}
 use Rattle.ptu_lab.specs.declared.done.Done.{Done}
-use Rattle.ptu_lab.specs.declared.fault.LabFault.{LabFault}
-use Rattle.ptu_lab.specs.declared.fault.LabFault.TheVariants.{Line, Read, Write, OutOfMemory}
+use Rattle.ptu_show.specs.declared.fault.LabFault.{LabFault}
+use Rattle.ptu_show.specs.declared.fault.LabFault.TheVariants.{Line, Read, Write, OutOfMemory}
 
 -- it says that the report was written to its end; with this ending it then meets P
 abbrev pub IfReplayed : Result Done LabFault → (Ending Cause → Type 0) → Type 0
@@ -21,12 +21,15 @@ IfReplayed (Err Write) P = Unit {0}
 IfReplayed (Err OutOfMemory) P = Unit {0}
 
 -- the report on the script was written, each line handed over in one piece, and it ends so
-pub record HasReplayed {K : Type 0} (written : K → Option (List ℕ)) (handed : K → Option (List (List ℕ))) (old new : K) (stock : Stock) (script : List ℕ) (ending : Ending Cause) : Type 0 where
+pub record HasReplayed {K : Type 0} (written : K → Option (List ℕ))
+    (handed : K → Option (List (List ℕ))) (old new : K) (stock : Stock) (script : List ℕ)
+    (ending : Ending Cause) : Type 0 where
   pub written_is : written new ≡ append_known (written old) (joined (report stock script))
   pub in_pieces : HasPut written handed old new (report stock script)
   pub ends : EndsBy ending (world_of stock script) (report_lines stock script)
 
--- the numbers are those of the report: of the datagrams that were sent, and of the asks that it says were granted and short
+-- the numbers are those of the report: of the datagrams that were sent, and of the asks that it
+-- says were granted and short
 pub record AreCounts (stock : Stock) (script : List ℕ) (done : Done) : Type 0 where
   pub datagrams : done.datagrams ≡ length (world_of stock script).sent
   pub granted : done.granted ≡ granted_count (report_lines stock script)

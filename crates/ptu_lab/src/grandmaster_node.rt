@@ -4,13 +4,13 @@ ghost use Rattle.ptu_script.specs.Limits.{IsGrandmasterWithin};
 ghost use Rattle.ptu_world.specs.Deeds.{Grandmaster};
 ghost use Rattle.ptu_world.specs.Grandmasters.{capacity_deed, class_deed, datagram_deed, turn_deed};
 ghost use Rattle.ptu_world.specs.World.{new_grandmaster};
-ghost use Rattle.ptu_lab.specs.Standing.{IsGrandmasterNode, StandsAsGrandmaster};
+ghost use Rattle.ptu_lab.specs.NodeStanding.{IsGrandmasterNode, StandsAsGrandmaster};
 ghost use Rattle.ptu_lab.specs.Doing.{HasDone};
 
-use crate::grandmaster_ports::{
-    ANNOUNCE, SIGNALING, SIGNALING_PORT, hand_over_all, reserve, reserve_replies,
-};
-use crate::grandmaster_statements::{say, say_shed, say_taken};
+use crate::grandmaster_ports::{ANNOUNCE, SIGNALING_PORT, hand_over_all, reserve, reserve_replies};
+use crate::grandmaster_statements::{say_shed, say_taken};
+use crate::handing::SIGNALING;
+use crate::saying::say;
 use crate::tally::Tally;
 use ptu_grandmaster::Gm;
 use ptu_header::PortIdentity;
@@ -22,8 +22,7 @@ use ptu_shard::GmConfig;
 use ptu_units::{Moment, OutOfMemory};
 use std::alloc::Global;
 
-/// A grandmaster of a script: it stands in the lab with ports in memory, in which nothing stands
-/// between events.
+/// A grandmaster of a script: it has ports in memory, in which nothing stands between events.
 #[derive(Drop)]
 pub struct GrandmasterNode {
     /// Its IPv4 address, its first octet the highest.
@@ -165,7 +164,7 @@ impl GrandmasterNode {
             capacity,
             at: changed.at,
         };
-        say(statement, line, texts)?;
+        say(texts, line, statement)?;
         say_shed(changed.shed.list(), line, texts)?;
         hand_over_all(alloc, &mut self.gm, self.ip, line, texts, sent)
     }

@@ -3,9 +3,9 @@
 ghost use Rattle.std.specs.Prelude.{◌≡◌, ◌<◌, [], OnOk};
 ghost use Rattle.ptu_grandmaster.specs.Gm.{port_at, with_port};
 ghost use Rattle.ptu_lab.specs.GrandmasterPorts.{GoesOn, HasHanded, HasRoom, in_ports};
-ghost use Rattle.ptu_lab.specs.Standing.{AreIdle};
+ghost use Rattle.ptu_lab.specs.NodeStanding.{AreIdle};
 
-use crate::handing::hand_over;
+use crate::handing::{SIGNALING, hand_over};
 use ptu_grandmaster::Gm;
 use ptu_outside::MemPort;
 use ptu_report::Texts;
@@ -18,9 +18,6 @@ pub const ANNOUNCE: usize = 64;
 
 /// How many octets a Delay_Resp has.
 const DELAY_RESP: usize = 54;
-
-/// How many octets a Signaling has at most.
-pub const SIGNALING: usize = 428;
 
 /// The index of the port of a grandmaster's Signaling messages. Those of its tables are below it.
 pub const SIGNALING_PORT: usize = 4;

@@ -9,29 +9,18 @@ ghost use Rattle.ptu_report_lines.specs.declared.statement.Statement.TheVariants
 ghost use Rattle.ptu_shard.specs.Answered.{met_by, moment_of_answer};
 ghost use Rattle.ptu_world.specs.Grandmasters.{answer_said, decision_said, outside_of, reason_of};
 ghost use Rattle.ptu_world.specs.Report.{is_granted, is_short, text_at};
-ghost use Rattle.ptu_lab.specs.GrandmasterStatements.{IsSent, outcomes_said, shed_seen, taken_said};
+ghost use Rattle.ptu_lab.specs.GrandmasterStatements.{IsSent, outcomes_said, shed_seen};
+ghost use Rattle.ptu_lab.specs.GrandmasterStatements.{taken_said};
 
+use crate::saying::say;
 use crate::tally::Tally;
 use ptu_admit::{Cancelled, Outside, Shed, Verdict};
 use ptu_grandmaster::{GmReason, Outcome, Reply, Taken};
 use ptu_report::Texts;
-use ptu_report_lines::{Decision, DelayAnswer, Reason, ReportLine, Statement};
+use ptu_report_lines::{Decision, DelayAnswer, Reason, Statement};
 use ptu_shard::Answered;
 use ptu_tlvs::Ask;
 use ptu_units::{Kind, OutOfMemory};
-
-/// Adds the text of what is said at the script's line of this number.
-///
-/// # Errors
-/// `OutOfMemory`.
-pub fn say(statement: Statement, line: u64, texts: &mut Texts) -> Result<(), OutOfMemory>
-    ensures { OnOk result (texts.new ≡ texts.old ++ text_at line statement ∷ []) }
-{
-    texts.add(&ReportLine::At {
-        number: line,
-        statement,
-    })
-}
 
 // Why a datagram was ignored.
 fn reason(ignored: GmReason) -> Reason
@@ -147,7 +136,7 @@ fn say_outcomes(outcomes: &[Outcome], line: u64, texts: &mut Texts) -> Result<Ta
     for outcome in outcomes {
         let decision = decision(outcome);
         tally = count(tally, &decision)?;
-        say(Statement::Decided(decision), line, texts)?;
+        say(texts, line, Statement::Decided(decision))?;
     }
     Ok(tally)
 }
@@ -165,7 +154,7 @@ pub fn say_shed(shed: &[Shed], line: u64, texts: &mut Texts) -> Result<(), OutOf
             log: grant.log,
             client: grant.client,
         };
-        say(statement, line, texts)?;
+        say(texts, line, statement)?;
     }
     Ok(())
 }
@@ -190,11 +179,11 @@ pub fn say_taken(taken: &Taken, line: u64, texts: &mut Texts) -> Result<Tally, O
     match taken {
         Taken::Delay(Answered::Failed { .. }) | Taken::Asked(_, Reply::Failed) => Err(OutOfMemory),
         Taken::Ignored(ignored) => {
-            say(Statement::Ignored(reason(*ignored)), line, texts)?;
+            say(texts, line, Statement::Ignored(reason(*ignored)))?;
             Ok(none)
         }
         Taken::Delay(answered) => {
-            say(answer(*answered), line, texts)?;
+            say(texts, line, answer(*answered))?;
             Ok(none)
         }
         Taken::Asked(outcomes, _) => say_outcomes(outcomes.list(), line, texts),

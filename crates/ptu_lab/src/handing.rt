@@ -9,6 +9,9 @@ use ptu_report_lines::{ReportLine, Sent, Statement};
 use ptu_units::OutOfMemory;
 use std::alloc::Global;
 
+/// How many octets a Signaling has at most, with 32 TLVs.
+pub const SIGNALING: usize = 428;
+
 /// Adds the datagrams that the node at this address has handed to its port to those that were sent
 /// before, and to the texts of the script's line of this number that each was sent, with its
 /// number; then the port is cleared.

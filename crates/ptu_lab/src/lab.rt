@@ -7,8 +7,8 @@ ghost use Rattle.ptu_world.specs.Report.{Course, course_opening, outcome_by};
 ghost use Rattle.ptu_lab.specs.Standing.{StandsFor};
 
 use crate::grandmaster_node::GrandmasterNode;
-use crate::lab_stock::Reserve;
 use crate::slave_node::SlaveNode;
+use crate::stock::Reserve;
 use ptu_judges::Stock;
 use ptu_report::Texts;
 use ptu_report_lines::Sent;

@@ -1,39 +1,32 @@
-//! A lab for scripts and datagrams in text: `replay` runs the nodes of a script and reports what
-//! they do, `show` decodes datagrams, line by line.
+//! A lab for scripts in text: `replay` runs the nodes of a script and reports what they do, `load`
+//! makes and replays the script of many clients. `show` decodes datagrams, line by line.
 #![tactic(auto)]
 
-mod datagram;
-mod decoding;
+mod deliveries;
 mod done;
-mod fault;
-mod generating;
 mod grandmaster_node;
 mod grandmaster_ports;
 mod grandmaster_statements;
+mod grandmasters;
 mod handing;
 mod lab;
-mod lab_deliveries;
-mod lab_grandmasters;
-mod lab_nodes;
-mod lab_setting_up;
-mod lab_slaves;
-mod lab_stock;
-mod laws;
-mod lines;
 mod loading;
+mod nodes;
 mod replaying;
+mod saying;
+mod setting_up;
 mod slave_node;
-mod slave_saying;
+mod slave_statements;
+mod slaves;
+mod stock;
 mod tally;
 
-pub use decoding::show;
 pub use done::Done;
-pub use fault::LabFault;
-pub use generating::{generate, sample_loads};
-pub use laws::sample_lines;
-pub use loading::{load, sample_summaries, whole_loads};
+pub use loading::{load, sample_summaries};
 pub use ptu_judges::Stock;
+pub use ptu_load::generate;
 pub use ptu_script::Cause;
+pub use ptu_show::{LabFault, show};
 pub use replaying::replay;
 
 #[cfg(test)]
@@ -46,5 +39,3 @@ mod replay_slave_tests;
 mod replay_tests;
 #[cfg(test)]
 mod slave_tests;
-#[cfg(test)]
-mod tests;

@@ -5,17 +5,17 @@ ghost use Rattle.std.specs.Io.KnownBytes.{append_known};
 ghost use Rattle.std.specs.String.{string_bytes};
 ghost use Rattle.serde_json.specs.View.{view};
 ghost use Rattle.ptu_outside.specs.Handing.{HasPut, HasPutPart};
-ghost use Rattle.ptu_lab.specs.Answers.{CountsWrite};
-ghost use Rattle.ptu_lab.specs.Generated.{IsWriteOrMemory, generated};
+ghost use Rattle.ptu_show.specs.Answers.{CountsWrite};
+ghost use Rattle.ptu_load.specs.Generated.{IsWriteOrMemory, generated};
 ghost use Rattle.ptu_lab.specs.SummarySamples.{FiveClients, OneClient};
-ghost use Rattle.ptu_lab.specs.Load.{LoadsAreWhole, numbers_of, object_text, summary, summary_data, summary_text};
+ghost use Rattle.ptu_lab.specs.Load.{numbers_of, object_text, summary, summary_data, summary_text};
 
 use crate::done::Done;
-use crate::fault::LabFault;
-use crate::generating::{generate, put};
 use crate::replaying::replay;
 use ptu_judges::Stock;
+use ptu_load::{generate, put};
 use ptu_outside::{Failed, MemSink, Sink, Source};
+use ptu_show::LabFault;
 use serde_json::{Value, json};
 use std::alloc::{AllocError, Global};
 
@@ -141,11 +141,6 @@ pub fn load<K: Sink>(alloc: Global, number: u64, sink: &mut K) -> Result<(), Lab
         Err(_) => Err(LabFault::OutOfMemory),
     }
 }
-
-/// The script of a load is replayed to its end.
-pub fn whole_loads()
-    ensures { LoadsAreWhole }
-{}
 
 /// What loads of few clients write.
 pub fn sample_summaries()

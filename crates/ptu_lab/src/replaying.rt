@@ -1,17 +1,17 @@
-ghost use Rattle.std.specs.Prelude.{◌≡◌, ◌≤◌, ℕ, List, [], ◌∷◌, length, map, Some, OnOk, OnErr, IfOk, IsErrOf};
+ghost use Rattle.std.specs.Prelude.{◌≡◌, ◌≤◌, ℕ, List, [], ◌∷◌, length, map, Some, OnOk, OnErr};
+ghost use Rattle.std.specs.Prelude.{IfOk, IsErrOf};
 ghost use Rattle.std.specs.Io.KnownBytes.{IsAtEnd, prepend_known};
 ghost use Rattle.ptu_outside.specs.Ends.{StopsAtEnd};
 ghost use Rattle.ptu_outside.specs.Handing.{HasPutPart};
 ghost use Rattle.ptu_judges.specs.Held.{IsStock};
 ghost use Rattle.ptu_report.specs.Reported.{HasReportedAllRead};
-ghost use Rattle.ptu_world.specs.Headline.{DecidesByRoom, PaysPeriods, SaysSo, SelectsBest, WithinBudget, WithinCapacity};
 ghost use Rattle.ptu_world.specs.Report.{course_opening, report, rules};
-ghost use Rattle.ptu_lab.specs.Answers.{CountsRead, CountsWrite};
+ghost use Rattle.ptu_show.specs.Answers.{CountsRead, CountsWrite};
+ghost use Rattle.ptu_lab.specs.Headline.{KeepsHeadline};
 ghost use Rattle.ptu_lab.specs.Replayed.{AreCounts, HasReplayed, IfReplayed};
 ghost use Rattle.ptu_lab.specs.Standing.{StandsFor};
 
 use crate::done::Done;
-use crate::fault::LabFault;
 use crate::lab::Lab;
 use ptu_judges::{Judge, Stock};
 use ptu_lines::LineCause;
@@ -19,6 +19,7 @@ use ptu_outside::{Sink, Source};
 use ptu_report::{Ending, Reporter, Stop, Texts, report};
 use ptu_report_lines::{ReportLine, Statement};
 use ptu_script::{Cause, read_command};
+use ptu_show::LabFault;
 use ptu_units::OutOfMemory;
 use std::alloc::Global;
 use std::marker::Model;
@@ -99,7 +100,6 @@ impl Reporter for Lab {
 /// `Line` exactly where a line is refused, after the line of the report that names it was written.
 /// `Read` exactly where the source failed, `Write` exactly where the sink failed, and
 /// `OutOfMemory`.
-#[tactic(auto, using(ptu_world::proofs::Headline::headline))]
 pub fn replay<S: Source, K: Sink>(
     alloc: Global,
     source: &mut S,
@@ -117,23 +117,8 @@ pub fn replay<S: Source, K: Sink>(
         (AreCounts (record { flags = length stock.flags.items; gaps = length stock.gaps.items })
         script) }
     ensures end { OnOk result (IsAtEnd (S.left source.new)) }
-    // The headline, of the script that is read. Granted rates never sum above capacity.
-    ensures within_capacity { (script : List ℕ) → S.left source.old ≡ Some script → WithinCapacity
-        (record { flags = length stock.flags.items; gaps = length stock.gaps.items }) script }
-    // A request is granted exactly where its rate fits beside the other live grants.
-    ensures granted_by_room { (script : List ℕ) → S.left source.old ≡ Some script → DecidesByRoom
-        (record { flags = length stock.flags.items; gaps = length stock.gaps.items }) script }
-    // Every message takes a period of its own inside a live grant,
-    ensures own_periods { (script : List ℕ) → S.left source.old ≡ Some script → PaysPeriods
-        (record { flags = length stock.flags.items; gaps = length stock.gaps.items }) script }
-    // and all of them are within the budget.
-    ensures within_budget { (script : List ℕ) → S.left source.old ≡ Some script → WithinBudget
-        (record { flags = length stock.flags.items; gaps = length stock.gaps.items }) script }
-    // Each slave selects its best eligible master.
-    ensures best_master { (script : List ℕ) → S.left source.old ≡ Some script → SelectsBest
-        (record { flags = length stock.flags.items; gaps = length stock.gaps.items }) script }
-    // The report says so, line by line.
-    ensures says_so { (script : List ℕ) → S.left source.old ≡ Some script → SaysSo
+    // The headline, of the script that is read.
+    ensures headline { (script : List ℕ) → S.left source.old ≡ Some script → KeepsHeadline
         (record { flags = length stock.flags.items; gaps = length stock.gaps.items }) script }
     // What was written is a front of the report, whatever is answered.
     ensures front { (script : List ℕ) → S.left source.old ≡ Some script

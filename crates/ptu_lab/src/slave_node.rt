@@ -1,4 +1,5 @@
-ghost use Rattle.std.specs.Prelude.{◌≡◌, ◌<◌, ℕ, Bool, true, false, List, [], ◌∷◌, ◌++◌, length, map, Option, None, Some, option_map, IfOk, IfSome, OnOk};
+ghost use Rattle.std.specs.Prelude.{◌≡◌, ◌<◌, ℕ, Bool, true, false, List, [], ◌∷◌, ◌++◌, length};
+ghost use Rattle.std.specs.Prelude.{map, Option, None, Some, option_map, IfOk, IfSome, OnOk};
 ghost use Rattle.ptu_record.specs.declared.rule.Rule.{Rule};
 ghost use Rattle.ptu_record.specs.Record.{Record};
 ghost use Rattle.ptu_record.specs.Step.{ReplaceJudge, Stop, TellFlag, Tick};
@@ -11,14 +12,17 @@ ghost use Rattle.ptu_script.specs.Limits.{IsSlaveWithin};
 ghost use Rattle.ptu_world.specs.Deeds.{IsSlave, Slave as Described};
 ghost use Rattle.ptu_world.specs.Slaves.{datagram_deed, plain_deed};
 ghost use Rattle.ptu_world.specs.Report.{text_at};
-ghost use Rattle.ptu_world.specs.World.{new_slave, sending_said, sent_from, with_master as described_with_master};
-ghost use Rattle.ptu_lab.specs.Standing.{IsIdle, IsSlaveNode, StandsAsSlave};
-ghost use Rattle.ptu_lab.specs.SlaveHeard.{IsOfOne};
-ghost use Rattle.ptu_lab.specs.SlaveWords.{HasStepped, IsJudged, new_config, selected_address, selection_by};
+ghost use Rattle.ptu_world.specs.World.{new_slave, sending_said, sent_from};
+ghost use Rattle.ptu_world.specs.World.{with_master as described_with_master};
+ghost use Rattle.ptu_lab.specs.NodeStanding.{IsIdle, IsSlaveNode, StandsAsSlave};
+ghost use Rattle.ptu_lab.specs.SlaveStatements.{IsOfOne};
+ghost use Rattle.ptu_lab.specs.SlaveWords.{HasStepped, IsJudged, new_config, selected_address};
+ghost use Rattle.ptu_lab.specs.SlaveWords.{selection_by};
 ghost use Rattle.ptu_lab.specs.Doing.{HasDone};
 
-use crate::handing::hand_over;
-use crate::slave_saying::{say, say_heard, was_ignored, was_unsent};
+use crate::handing::{SIGNALING, hand_over};
+use crate::saying::say;
+use crate::slave_statements::{say_heard, was_ignored, was_unsent};
 use ptu_header::PortIdentity;
 use ptu_judges::Judge;
 use ptu_outside::MemPort;
@@ -32,14 +36,10 @@ use std::alloc::Global;
 /// A slave has at most so many masters.
 const MASTERS: usize = 16;
 
-/// So many octets a Signaling has at most, with 32 TLVs.
-const SIGNALING: usize = 428;
-
 /// So many octets a Delay_Req has.
 const DELAY_REQ: usize = 44;
 
-/// A slave of a script: it stands in the lab with a port in memory, in which nothing stands between
-/// events.
+/// A slave of a script: it has a port in memory, in which nothing stands between events.
 #[derive(Drop)]
 pub struct SlaveNode {
     /// Its IPv4 address, its first octet the highest.

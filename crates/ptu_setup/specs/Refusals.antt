@@ -1,14 +1,13 @@
 -- Why a program refuses settings, and by which line of output.
-use Rattle.std.specs.Prelude.{◌≡◌, ◌≤◌, ℕ, Bool, true, false, not, ◌||◌, nat_lt, if◌then◌else◌, List, ◌++◌, count_by, codes, Option, Some, None}
+use Rattle.std.specs.Prelude.{◌≤◌, ℕ, Bool, false, not, ◌||◌, nat_lt, if◌then◌else◌, List, ◌++◌, count_by, codes, Option, Some, None}
 use Rattle.toml.specs.Data.{Members}
-use Rattle.ptu_config.specs.declared.key.Key.TheVariants.{TwoStep, Masters}
+use Rattle.ptu_config.specs.declared.key.Key.TheVariants.{Masters}
 use Rattle.ptu_config.specs.declared.fault.SettingFault.{SettingFault}
 use Rattle.ptu_config.specs.declared.fault.SettingFault.TheVariants as faults
 use Rattle.ptu_config.specs.declared.master.MasterSetting.{MasterSetting}
-use Rattle.ptu_config.specs.declared.settings.GmSettings.{GmSettings}
 use Rattle.ptu_config.specs.Documents.{document_of, refusal_of}
 use Rattle.ptu_config.specs.Key.{name_of}
-use Rattle.ptu_config.specs.Rules.{Value, truth, masters, gm_keys, setting_of, slave_keys}
+use Rattle.ptu_config.specs.Rules.{Value, masters, gm_keys, setting_of, slave_keys}
 use Rattle.ptu_setup.specs.declared.fault.SetupFault.{SetupFault}
 use Rattle.ptu_setup.specs.declared.fault.SetupFault.TheVariants.{Refused, OutOfMemory}
 use Rattle.ptu_setup.specs.declared.refusal.RefusalLine.{RefusalLine}
@@ -44,23 +43,9 @@ or_later (Some fault) later = line_of fault
 
 -- ---- a grandmaster
 
--- the value is true
-abbrev pub is_true : Option Value → Bool
-is_true (Some (truth true)) = true
-is_true _ = false
-
--- no Sync has a Follow_Up: nothing else is served yet
-pub record IsServed (settings : GmSettings) : Type 0 where
-  pub two_step : settings.two_step ≡ false
-
--- the line of a document that asks for another thing
-abbrev pub unserved : Option Members → Option RefusalLine
-unserved None = None
-unserved (Some document) = if is_true (setting_of document TwoStep) then Some (Bad TwoStep) else None
-
 -- the line by which octets that are to be the settings of a grandmaster are refused
 abbrev pub gm_refusal : List ℕ → Option RefusalLine
-gm_refusal octets = or_later (refusal_of gm_keys octets) (unserved (document_of octets))
+gm_refusal octets = or_later (refusal_of gm_keys octets) None
 
 -- ---- a slave
 

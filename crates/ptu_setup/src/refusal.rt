@@ -13,8 +13,8 @@ pub enum RefusalLine {
     Text,
     /// The document has a key that is none of the settings.
     Unknown,
-    /// The first setting that is required and not there, of another type, out of range or not
-    /// served.
+    /// The first setting that is required and not there, of another type or out of range, or the
+    /// masters, where there are too few judges for them.
     Bad(Key),
 }
 

@@ -5,7 +5,7 @@ ghost use Rattle.ptu_outside.specs.Ends.{StopsAtEnd};
 ghost use Rattle.ptu_config.specs.Entries.{gm_entries, slave_entries};
 ghost use Rattle.ptu_config.specs.Limits.{IsGmInRange, IsSlaveInRange};
 ghost use Rattle.ptu_setup.specs.Reading.{Answers, CountsRead, HasSetUp, HasTakenSome, IsNoFailure};
-ghost use Rattle.ptu_setup.specs.Refusals.{by_flags, by_gaps, gm_refusal, slave_refusal, HasJudges, IsServed};
+ghost use Rattle.ptu_setup.specs.Refusals.{by_flags, by_gaps, gm_refusal, slave_refusal, HasJudges};
 
 use crate::fault::SetupFault;
 use crate::octets::read_octets;
@@ -14,18 +14,13 @@ use ptu_config::{GmSettings, Key, MasterSetting, SlaveSettings, gm_settings, sla
 use ptu_outside::Source;
 use std::alloc::Global;
 
-// The settings of a grandmaster that the octets are, where they can be served.
+// The settings of a grandmaster that the octets are.
 fn gm_of(alloc: Global, octets: &[u8]) -> Result<GmSettings, SetupFault>
     ensures answers { Answers gm_entries gm_refusal octets.now result }
     ensures in_range { IfOk result IsGmInRange }
-    ensures served { IfOk result IsServed }
     ensures cause { IfErr result IsNoFailure }
 {
-    let settings = gm_settings(alloc, octets)?;
-    if settings.two_step {
-        return Err(SetupFault::Refused(RefusalLine::Bad(Key::TwoStep)));
-    }
-    Ok(settings)
+    Ok(gm_settings(alloc, octets)?)
 }
 
 // How many masters are judged by the gaps between their Syncs.
@@ -66,8 +61,8 @@ fn slave_of(
 /// 65536 octets. At most 65537 octets are read, and nothing behind the end.
 ///
 /// # Errors
-/// `Refused` by the line of the first cause to refuse them, among which a true `two_step` comes
-/// last; `Read` exactly where the source failed; or `OutOfMemory`.
+/// `Refused` by the line of the first cause to refuse them; `Read` exactly where the source failed;
+/// or `OutOfMemory`.
 pub fn gm_setup<S: Source>(alloc: Global, source: &mut S) -> Result<GmSettings, SetupFault>
     // They were read to the source's end, and say just these values; or so many octets that they
     // are refused,
@@ -77,7 +72,6 @@ pub fn gm_setup<S: Source>(alloc: Global, source: &mut S) -> Result<GmSettings, 
     ensures answers { (input : List ℕ) → S.left source.old ≡ Some input
         → Answers gm_entries gm_refusal input result }
     ensures in_range { IfOk result IsGmInRange }
-    ensures served { IfOk result IsServed }
     ensures taken { HasTakenSome (S.left source.old) (S.left source.new) }
     ensures ends { StopsAtEnd (S.ends source.old) (S.ends source.new) }
     ensures counts { CountsRead result (S.faults source.old) (S.faults source.new) }

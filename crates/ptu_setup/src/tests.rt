@@ -67,14 +67,9 @@ fn a_grandmaster_is_set_up(rt: HostRuntime) -> Result<(), Fail> {
             0,
             Some(SetupFault::Refused(RefusalLine::Bad(Key::Senders))),
         ),
+        ("senders = 2\ntwo_step = true", 0, 0, None),
         (
-            "two_step = true",
-            0,
-            0,
-            Some(SetupFault::Refused(RefusalLine::Bad(Key::TwoStep))),
-        ),
-        (
-            "senders = 2\ntwo_step = true",
+            "two_step = 1",
             0,
             0,
             Some(SetupFault::Refused(RefusalLine::Bad(Key::TwoStep))),

@@ -1,3 +1,3 @@
 mod Steps
-mod Pairs
+pub mod Pairs
 mod Handing

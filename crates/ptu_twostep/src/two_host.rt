@@ -37,6 +37,13 @@ impl<'a, H: Host> TwoHost<'a, H> {
             flags: Flags::default(),
         }
     }
+
+    /// The flags of the ports that it was given back last, which are clear before.
+    pub fn flags(&self) -> Flags
+        ensures { result ≡ self.now.flags }
+    {
+        self.flags
+    }
 }
 
 impl<H: Host> Host for TwoHost<'_, H> {

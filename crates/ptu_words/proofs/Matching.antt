@@ -1,5 +1,5 @@
 -- What the command line does with words.
-use Rattle.std.proofs.Common.{◌≡◌, ◌≢◌, ◌∙◌, Bool, true, false, List, [], ◌∷◌, Option, Some, None, inl, inr, refl, sym, ap}
+use Rattle.std.proofs.Common.{◌≡◌, ◌≢◌, ◌∙◌, ◌⊎◌, Bool, true, false, List, [], ◌∷◌, Option, Some, None, inl, inr, refl, sym, ap}
 use Rattle.std.specs.List.{list_all}
 use Rattle.std.proofs.lemmas.Bool.{and_parts}
 use Rattle.std.specs.Prelude.{◌&&◌, ◌||◌, not, find, if◌then◌else◌, is_some, IsTrue, codes, option_and_then, option_map}
@@ -12,8 +12,8 @@ use Rattle.clap.specs.Walk.{answers_to, finished, nothing_held, settled, walk, w
 use Rattle.clap.specs.Words.{App, Kinds, Row, Shape, Text, fault_of, first_of, is_simple, is_simple_and_free, subcommand_of}
 use Rattle.clap.proofs.OnLiterals.{clap_on_literals}
 use Rattle.ptu_words.specs.declared.command.Command.{Command}
-use Rattle.ptu_words.specs.declared.command.Command.TheVariants.{Replay, Show, Serve, Slave}
-use Rattle.ptu_words.specs.CommandLine.{IsRefused, command_after, command_by, command_line, command_named, command_of, is_out_of_range, load_of}
+use Rattle.ptu_words.specs.declared.command.Command.TheVariants.{Replay, Show, Serve, Slave, Join}
+use Rattle.ptu_words.specs.CommandLine.{IsRefused, command_after, command_by, command_line, command_named, command_of, is_out_of_range, audit_of, load_of}
 
 pub simple : is_simple command_line ≡ true
 unfolding clap_on_literals
@@ -68,7 +68,7 @@ last_empty (k ∷ a) b c d e h = absurd (let never : k ∷ a ≡ [] = h in cc)
 abbrev is_known : Text → Bool
 is_known name =
     bytes_eq name (codes "replay") || (bytes_eq name (codes "show") || (bytes_eq name (codes "load")
-    || (bytes_eq name (codes "serve") || bytes_eq name (codes "slave"))))
+    || (bytes_eq name (codes "serve") || (bytes_eq name (codes "slave") || (bytes_eq name (codes "join") || bytes_eq name (codes "audit"))))))
 
 -- a subcommand of such a name
 abbrev is_command : Option (Text × List Row) → Bool
@@ -115,35 +115,52 @@ named_where_matched words e =
     let within : is_some (entered line walked.stopped) ≡ true = enters (finished line.top.rules walked.held) _ last in
     entered_is_named walked.stopped within
 
--- a command that is named is asked for, but for a load of no number in the range
+-- a command that is named is asked for, but for a load or an audit of no number in the range
 only_out_of_range : (o : Option (Text × List Row)) → is_command o ≡ true → option_and_then command_by o ≡ None → IsTrue (is_out_of_range o)
 only_out_of_range None known none = absurd (let never : false ≡ true = known in cc)
 only_out_of_range (Some p) known none =
-    by (bytes_eq p.0 (codes "replay")) (bytes_eq p.0 (codes "show")) (bytes_eq p.0 (codes "load")) (bytes_eq p.0 (codes "serve")) (bytes_eq p.0 (codes "slave")) (load_of (first_of (codes "N") p.1)) known none
+    by (bytes_eq p.0 (codes "replay")) (bytes_eq p.0 (codes "show")) (bytes_eq p.0 (codes "load")) (bytes_eq p.0 (codes "serve")) (bytes_eq p.0 (codes "slave")) (bytes_eq p.0 (codes "join"))
+    (bytes_eq p.0 (codes "audit")) (load_of (first_of (codes "N") p.1)) (audit_of (first_of (codes "N") p.1)) known none
   where
-    by : (a b c d e : Bool) (load : Option Command) → (a || (b || (c || (d || e)))) ≡ true
-        → (if a then Some Replay else if b then Some Show else if c then load else if d then Some Serve else if e then Some Slave else None) ≡ None
-        → (c && not (is_some load)) ≡ true
-    by true b c d e load known none = absurd (let never : Some Replay ≡ None = none in cc)
-    by false true c d e load known none = absurd (let never : Some Show ≡ None = none in cc)
-    by false false true d e None known none = refl
-    by false false true d e (Some x) known none = absurd (let never : Some x ≡ None = none in cc)
-    by false false false true e load known none = absurd (let never : Some Serve ≡ None = none in cc)
-    by false false false false true load known none = absurd (let never : Some Slave ≡ None = none in cc)
-    by false false false false false load known none = absurd (let never : false ≡ true = known in cc)
+    by : (a b c d e f g : Bool) (load audit : Option Command) → (a || (b || (c || (d || (e || (f || g)))))) ≡ true
+        → (if a then Some Replay else if b then Some Show else if c then load else if d then Some Serve else if e then Some Slave
+        else if f then Some Join else if g then audit else None) ≡ None
+        → ((c && not (is_some load)) || (g && not (is_some audit))) ≡ true
+    by true b c d e f g load audit known none = absurd (let never : Some Replay ≡ None = none in cc)
+    by false true c d e f g load audit known none = absurd (let never : Some Show ≡ None = none in cc)
+    by false false true d e f g None audit known none = refl
+    by false false true d e f g (Some x) audit known none = absurd (let never : Some x ≡ None = none in cc)
+    by false false false true e f g load audit known none = absurd (let never : Some Serve ≡ None = none in cc)
+    by false false false false true f g load audit known none = absurd (let never : Some Slave ≡ None = none in cc)
+    by false false false false false true g load audit known none = absurd (let never : Some Join ≡ None = none in cc)
+    by false false false false false false true load None known none = refl
+    by false false false false false false true load (Some x) known none = absurd (let never : Some x ≡ None = none in cc)
+    by false false false false false false false load audit known none = absurd (let never : false ≡ true = known in cc)
 
 nothing_loaded : (load : Option Command) → not (is_some load) ≡ true → load ≡ None
 nothing_loaded None e = refl
 nothing_loaded (Some x) e = absurd (let never : false ≡ true = e in cc)
 
--- and such a load is none
+-- one of two tests holds where they do together
+either_holds : (a b : Bool) → (a || b) ≡ true → (a ≡ true) ⊎ (b ≡ true)
+either_holds true b e = inl refl
+either_holds false b e = inr e
+
+-- and such a load or audit is none
 out_of_range : (o : Option (Text × List Row)) → IsTrue (is_out_of_range o) → option_and_then command_by o ≡ None
 out_of_range None out = absurd (let never : false ≡ true = out in cc)
 out_of_range (Some p) out =
     let value = first_of (codes "N") p.1 in
-    let parts = and_parts (bytes_eq p.0 (codes "load")) (not (is_some (load_of value))) out in
-    let name : p.0 ≡ codes "load" = (bytes_eq-Decides p.0 (codes "load")).0 parts.0 in
-    ap (λ n. command_named n value) name ∙ nothing_loaded (load_of value) parts.1
+    elim (either_holds (bytes_eq p.0 (codes "load") && not (is_some (load_of value))) (bytes_eq p.0 (codes "audit") && not (is_some (audit_of value))) out) [
+      | inl load ↦
+          let parts = and_parts (bytes_eq p.0 (codes "load")) (not (is_some (load_of value))) load in
+          let name : p.0 ≡ codes "load" = (bytes_eq-Decides p.0 (codes "load")).0 parts.0 in
+          ap (λ n. command_named n value) name ∙ nothing_loaded (load_of value) parts.1
+      | inr audit ↦
+          let parts = and_parts (bytes_eq p.0 (codes "audit")) (not (is_some (audit_of value))) audit in
+          let name : p.0 ≡ codes "audit" = (bytes_eq-Decides p.0 (codes "audit")).0 parts.0 in
+          ap (λ n. command_named n value) name ∙ nothing_loaded (audit_of value) parts.1
+    ]
 
 -- refused words ask for none
 pub refused : (words : List Text) → IsRefused words → command_of words ≡ None

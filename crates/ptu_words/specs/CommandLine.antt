@@ -1,10 +1,10 @@
 -- The command line, and what its words ask for.
-use Rattle.std.specs.Prelude.{◌≢◌, ◌⊎◌, ◌≤◌, Bool, true, false, not, ◌&&◌, is_some, IsTrue, if◌then◌else◌, List, [], ◌∷◌, codes, Option, Some, None, option_and_then, option_map}
+use Rattle.std.specs.Prelude.{◌≢◌, ◌⊎◌, ◌≤◌, Bool, true, false, not, ◌&&◌, ◌||◌, is_some, IsTrue, if◌then◌else◌, List, [], ◌∷◌, codes, Option, Some, None, option_and_then, option_map}
 use Rattle.std.specs.Str.{bytes_eq}
 use Rattle.clap.specs.Words.{App, Kinds, Row, Text, fault_of, first_of, new_app, new_rule, subcommand_of, with_rule, with_subcommand}
 use Rattle.ptu_lines.specs.Words.{number_within}
 use Rattle.ptu_words.specs.declared.command.Command.{Command}
-use Rattle.ptu_words.specs.declared.command.Command.TheVariants.{Replay, Show, Load, Serve, Slave}
+use Rattle.ptu_words.specs.declared.command.Command.TheVariants.{Replay, Show, Load, Serve, Slave, Join, Audit}
 
 -- the program, whose words begin behind its name, with a required subcommand
 abbrev pub program : App
@@ -13,9 +13,16 @@ program =
       top = record (new_app (codes "ptpuni")).top { no_binary_name = true; subcommand_required = true; disable_help_subcommand = true };
     }
 
--- `load` has one value, which is required
+-- a subcommand of this name with one value, which is required
+abbrev pub numbered_line : Text → App
+numbered_line name = with_rule (new_app name) (record (new_rule (codes "N")) { required = true })
+
+-- `load` has one, and so has `audit`
 abbrev pub load_line : App
-load_line = with_rule (new_app (codes "load")) (record (new_rule (codes "N")) { required = true })
+load_line = numbered_line (codes "load")
+
+abbrev pub audit_line : App
+audit_line = numbered_line (codes "audit")
 
 -- with a subcommand of this name, without arguments of its own
 abbrev pub with_bare : App → Text → App
@@ -24,14 +31,19 @@ with_bare line name = with_subcommand line (new_app name).top
 -- its command line: a subcommand for each command, without further arguments
 abbrev pub command_line : App
 command_line =
-    with_bare (with_bare
+    with_subcommand (with_bare (with_bare (with_bare
     (with_subcommand (with_bare (with_bare program (codes "replay")) (codes "show")) load_line.top)
-    (codes "serve")) (codes "slave")
+    (codes "serve")) (codes "slave")) (codes "join")) audit_line.top
 
 -- a load of the number that the value writes, from 1 to 2000
 abbrev pub load_of : Option Text → Option Command
 load_of None = None
 load_of (Some value) = option_map Load (number_within value 1 2000)
+
+-- an audit with the capacity that the value writes, from 1 to 16777216
+abbrev pub audit_of : Option Text → Option Command
+audit_of None = None
+audit_of (Some value) = option_map Audit (number_within value 1 16777216)
 
 -- where it has a number, that is in its range
 abbrev pub IsInRange : Command → Type 0
@@ -40,6 +52,8 @@ IsInRange Show = Unit {0}
 IsInRange (Load number) = (1 ≤ number) × (number ≤ 2000)
 IsInRange Serve = Unit {0}
 IsInRange Slave = Unit {0}
+IsInRange Join = Unit {0}
+IsInRange (Audit capacity) = (1 ≤ capacity) × (capacity ≤ 16777216)
 
 -- the command of a name, with this value
 abbrev pub command_named : Text → Option Text → Option Command
@@ -49,6 +63,8 @@ command_named name value =
     else if bytes_eq name (codes "load") then load_of value
     else if bytes_eq name (codes "serve") then Some Serve
     else if bytes_eq name (codes "slave") then Some Slave
+    else if bytes_eq name (codes "join") then Some Join
+    else if bytes_eq name (codes "audit") then audit_of value
     else None
 
 -- that of a subcommand with these arguments
@@ -63,11 +79,13 @@ command_after (fault ∷ faults) subcommand = None
 unfoldable pub command_of : List Text → Option Command
 command_of words = command_after (fault_of command_line words) (subcommand_of command_line words)
 
--- a load of no number in the range
+-- a load of no number in the range, or an audit of none
 abbrev pub is_out_of_range : Option (Text × List Row) → Bool
 is_out_of_range None = false
-is_out_of_range (Some (name, rows)) = bytes_eq name (codes "load") && not (is_some (load_of (first_of (codes "N") rows)))
+is_out_of_range (Some (name, rows)) =
+    (bytes_eq name (codes "load") && not (is_some (load_of (first_of (codes "N") rows))))
+    || (bytes_eq name (codes "audit") && not (is_some (audit_of (first_of (codes "N") rows))))
 
--- the command line does not match the words, or it does, and they ask for a load of no number in the range
+-- the command line does not match the words, or it does, and they ask for a load or an audit of no number in the range
 abbrev pub IsRefused : List Text → Type 0
 IsRefused words = (fault_of command_line words ≢ []) ⊎ IsTrue (is_out_of_range (subcommand_of command_line words))

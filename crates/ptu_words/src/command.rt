@@ -1,5 +1,5 @@
 ghost use Rattle.std.specs.Prelude.{◌≡◌, ◌≤◌, IfSome, option_map};
-ghost use Rattle.ptu_words.specs.CommandLine.{IsInRange, command_named, load_of};
+ghost use Rattle.ptu_words.specs.CommandLine.{IsInRange, audit_of, command_named, load_of};
 
 use ptu_lines::number;
 
@@ -16,6 +16,11 @@ pub enum Command {
     Serve,
     /// Run a slave.
     Slave,
+    /// Join the halves of Syncs that were sent in two steps.
+    Join,
+    /// Audit a report whose grandmasters begin with this capacity, in sixteenths of a message per
+    /// second, from 1 to 16777216.
+    Audit(u64),
 }
 
 // A load of the number that the value writes.
@@ -25,6 +30,15 @@ fn load(value: Option<&str>) -> Option<Command>
 {
     let number = number(value?.as_bytes(), 1, 2000)?;
     Some(Command::Load(number))
+}
+
+// An audit with the capacity that the value writes.
+fn audit(value: Option<&str>) -> Option<Command>
+    ensures audit { result ≡ audit_of (option_map (λ v. v.now) value.entry) }
+    ensures range { IfSome result IsInRange }
+{
+    let capacity = number(value?.as_bytes(), 1, 16777216)?;
+    Some(Command::Audit(capacity))
 }
 
 impl Command {
@@ -43,6 +57,10 @@ impl Command {
             Some(Command::Serve)
         } else if name == "slave" {
             Some(Command::Slave)
+        } else if name == "join" {
+            Some(Command::Join)
+        } else if name == "audit" {
+            audit(value)
         } else {
             None
         }

@@ -10,7 +10,8 @@ pub use laws::{matched_words, sample_words};
 pub use reading::read_words;
 
 /// What is printed where the words are refused.
-pub const USAGE_TEXT: &str = "usage: ptpuni replay | show | load N | serve | slave";
+pub const USAGE_TEXT: &str =
+    "usage: ptpuni replay | show | load N | serve | slave | join | audit N";
 
 #[cfg(test)]
 mod tests;

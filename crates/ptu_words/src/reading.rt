@@ -1,12 +1,26 @@
 ghost use Rattle.std.specs.Prelude.{◌≡◌, ◌≢◌, IfOk, IfSome, map, option_and_then};
-ghost use Rattle.clap.specs.Words.{app_of, subcommand_rows_of};
-ghost use Rattle.ptu_words.specs.CommandLine.{IsInRange, command_by, command_line, command_of};
+ghost use Rattle.clap.specs.Words.{app_of, subcommand_rows_of, with_subcommand};
+ghost use Rattle.ptu_words.specs.CommandLine.{IsInRange, command_by, command_line, command_of, numbered_line};
 
 use crate::command::Command;
 use clap::Arg;
 use clap::error::ErrorKind;
 use ptu_units::OutOfMemory;
 use std::alloc::{AllocError, Global};
+
+// The command line with a subcommand of this name, which has a number N that is required.
+fn with_numbered<'a>(
+    alloc: Global,
+    line: clap::Command<'a>,
+    name: &'a str,
+) -> Result<clap::Command<'a>, AllocError>
+    ensures { IfOk result (λ added. app_of added
+        ≡ with_subcommand (app_of line.entry) (numbered_line name.entry.now).top) }
+{
+    let number = Arg::new(alloc, "N").required(true);
+    let numbered = clap::Command::new(alloc, name).arg(number)?;
+    line.subcommand(numbered)
+}
 
 // The command line.
 fn whole_line<'a>(alloc: Global) -> Result<clap::Command<'a>, AllocError>
@@ -16,17 +30,18 @@ fn whole_line<'a>(alloc: Global) -> Result<clap::Command<'a>, AllocError>
     let show = clap::Command::new(alloc, "show");
     let serve = clap::Command::new(alloc, "serve");
     let slave = clap::Command::new(alloc, "slave");
-    let number = Arg::new(alloc, "N").required(true);
-    let load = clap::Command::new(alloc, "load").arg(number)?;
+    let join = clap::Command::new(alloc, "join");
     let program = clap::Command::new(alloc, "ptpuni")
         .no_binary_name(true)
         .subcommand_required(true)
         .disable_help_subcommand(true);
     let line = program.subcommand(replay)?;
     let line = line.subcommand(show)?;
-    let line = line.subcommand(load)?;
+    let line = with_numbered(alloc, line, "load")?;
     let line = line.subcommand(serve)?;
-    line.subcommand(slave)
+    let line = line.subcommand(slave)?;
+    let line = line.subcommand(join)?;
+    with_numbered(alloc, line, "audit")
 }
 
 // What matches ask for.

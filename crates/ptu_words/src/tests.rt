@@ -10,6 +10,12 @@ fn words_are_read(rt: HostRuntime) -> Result<(), OutOfMemory> {
         (["load", "5"].as_slice(), Some(Command::Load(5))),
         (["serve"].as_slice(), Some(Command::Serve)),
         (["slave"].as_slice(), Some(Command::Slave)),
+        (["join"].as_slice(), Some(Command::Join)),
+        (
+            ["audit", "16777216"].as_slice(),
+            Some(Command::Audit(16777216)),
+        ),
+        (["audit", "16777217"].as_slice(), None),
         (["load", "2001"].as_slice(), None),
         (["show", "x"].as_slice(), None),
         (["help"].as_slice(), None),

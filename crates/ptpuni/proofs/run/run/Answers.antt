@@ -1,12 +1,16 @@
-use Rattle.std.proofs.Common.{inr, arith, ◌≡◌, ◌∙◌, List, ℕ, Some, None, map, refl, sym, subst}
+use Rattle.std.proofs.Common.{rules, inl, inr, arith, ◌≡◌, ◌∙◌, ◌⊎◌, List, Err, ℕ, Some, None, map, refl, sym, subst, ap}
 use Rattle.ptu_outside.proofs.Putting.{HasPutPart-none}
 use Rattle.ptu_words.specs.declared.command.Command.{Command}
-use Rattle.ptu_words.specs.declared.command.Command.TheVariants.{Load, Replay}
+use Rattle.ptu_words.specs.declared.command.Command.TheVariants.{Audit, Load, Replay}
 use Rattle.ptu_words.specs.CommandLine.{IsRefused, command_of}
 use Rattle.ptu_words.proofs.Matching.{refused, unnamed}
+use Rattle.ptu_audit.specs.declared.answer.AuditFault.TheVariants.{OutOfMemory}
 use Rattle.ptu_world.specs.Report.{report_lines}
-use Rattle.ptpuni.specs.Run.{HasRun, IsOfLab, stock_of}
+use Rattle.ptpuni.specs.Run.{HasRun, IsOfLab, status_of, stock_of}
 use Rattle.ptpuni.proofs.Answered.{zero_at_end}
+use Rattle.ptpuni.proofs.Audited.{audit_completes}
+use Rattle.ptpuni.proofs.Completed.{completed}
+use Rattle.ptu_lab.proofs.KeepingHeadline.{keeps_headline}
 use Rattle.ptpuni.proofs.run.run.Goals as goal
 
 -- words that ask for a command are not refused, and ask for no other
@@ -16,13 +20,76 @@ not_refused words command e h = let never : Some command ≡ None = e ∙ refuse
 one_command : (words : List (List ℕ)) (found command : Command) → Some found ≡ command_of words → command_of words ≡ Some command → found ≡ command
 one_command words found command e h = let same : Some found ≡ Some command = e ∙ h in cc
 
-pub returns-in-Ok-Some-clause-refused : goal.returns-in-Ok-Some-clause-refused
-returns-in-Ok-Some-clause-refused g c = λ h.
-    absurd (not_refused (map (λ w. w.now) c.args.words.now) c.in-Ok-Some.command (sym c.in-Ok-Some.field-0-is ∙ c.in-Ok-Some.ensures.command) h)
+pub returns-in-Ok-Some-clause-words : goal.returns-in-Ok-Some-clause-words
+returns-in-Ok-Some-clause-words g c =
+    let never : IsRefused (map (λ w. w.now) c.args.words.now) → ⊥ =
+    not_refused (map (λ w. w.now) c.args.words.now) c.in-Ok-Some.command (sym c.in-Ok-Some.field-0-is ∙ c.in-Ok-Some.ensures.command) in
+    record {
+      usage = λ e. absurd (c.run_command.ensures.other e);
+      refused = λ h. absurd (never h);
+      untouched = λ h. absurd (never h);
+    }
 
-pub returns-in-Ok-Some-clause-untouched : goal.returns-in-Ok-Some-clause-untouched
-returns-in-Ok-Some-clause-untouched g c = λ h.
-    absurd (not_refused (map (λ w. w.now) c.args.words.now) c.in-Ok-Some.command (sym c.in-Ok-Some.field-0-is ∙ c.in-Ok-Some.ensures.command) h)
+pub returns-in-Ok-None-clause-words : goal.returns-in-Ok-None-clause-words
+returns-in-Ok-None-clause-words g c = record {
+  usage = λ _. unnamed (map (λ w. w.now) c.args.words.now) (sym (sym c.in-Ok-None.field-0-is ∙ c.in-Ok-None.ensures.command));
+  refused = λ _. inl refl;
+  untouched = λ _. (refl, refl, refl);
+}
+
+pub returns-in-Err-clause-words : goal.returns-in-Err-clause-words
+returns-in-Err-clause-words g c = record {
+  usage = λ e. absurd (omega (arith, e));
+  refused = λ _. inr refl;
+  untouched = λ _. (refl, refl, refl);
+}
+
+pub returns-in-Ok-Some-clause-faults : goal.returns-in-Ok-Some-clause-faults
+returns-in-Ok-Some-clause-faults g c = record {
+  source = record { risen = c.run_command.ensures.source_fault; still = c.run_command.ensures.source_still };
+  sink = record { risen = c.run_command.ensures.sink_fault; still = c.run_command.ensures.sink_still };
+  host = record { risen = c.run_command.ensures.host_fault; still = c.run_command.ensures.host_still };
+}
+
+pub returns-in-Ok-None-clause-faults : goal.returns-in-Ok-None-clause-faults
+returns-in-Ok-None-clause-faults g c = record {
+  source = record { risen = λ e. absurd (omega (arith, e)); still = λ _. refl };
+  sink = record { risen = λ e. absurd (omega (arith, e)); still = λ _. refl };
+  host = record { risen = λ e. absurd (omega (arith, e)); still = λ _. refl };
+}
+
+pub returns-in-Err-clause-faults : goal.returns-in-Err-clause-faults
+returns-in-Err-clause-faults g c = record {
+  source = record { risen = λ e. absurd (omega (arith, e)); still = λ _. refl };
+  sink = record { risen = λ e. absurd (omega (arith, e)); still = λ _. refl };
+  host = record { risen = λ e. absurd (omega (arith, e)); still = λ _. refl };
+}
+
+pub returns-in-Ok-Some-clause-bounded : goal.returns-in-Ok-Some-clause-bounded
+returns-in-Ok-Some-clause-bounded g c = record { taken = c.run_command.ensures.taken; ends = c.run_command.ensures.ends }
+
+pub returns-in-Ok-None-clause-bounded : goal.returns-in-Ok-None-clause-bounded
+returns-in-Ok-None-clause-bounded g c = record { taken = search rules; ends = search rules }
+
+pub returns-in-Err-clause-bounded : goal.returns-in-Err-clause-bounded
+returns-in-Err-clause-bounded g c = record { taken = search rules; ends = search rules }
+
+pub returns-in-Ok-Some-clause-complete : goal.returns-in-Ok-Some-clause-complete
+returns-in-Ok-Some-clause-complete g c = λ command is input told accepted source_still sink_still host_still.
+    let same = one_command (map (λ w. w.now) c.args.words.now) c.in-Ok-Some.command command (sym c.in-Ok-Some.field-0-is ∙ c.in-Ok-Some.ensures.command) is in
+    completed (stock_of c.args.stock.flags.items c.args.stock.gaps.items) command input c.run_command.result accepted
+    (λ lab memory. (c.run_command.ensures.output (subst IsOfLab (sym same) lab) input told source_still sink_still memory).status_is ∙ ap (λ k. status_of (stock_of c.args.stock.flags.items c.args.stock.gaps.items) k input) same)
+    (λ e none. (c.run_command.ensures.served (same ∙ e)).accepts input told none)
+    (λ e none. (c.run_command.ensures.followed (same ∙ e)).accepts input told none)
+    (λ capacity e whole.
+    let audited = c.run_command.ensures.audited capacity (same ∙ e) in
+    subst (λ s. ((s ≡ 0) ⊎ (s ≡ 70)) ⊎ (s ≡ 71)) (sym audited.status_is)
+    (audit_completes capacity input audited.answer (audited.exact input told) whole
+    (λ failed. source_still (c.run_command.ensures.source_fault (audited.status_is ∙ failed)))
+    (λ failed. sink_still (c.run_command.ensures.sink_fault (audited.status_is ∙ failed)))))
+    (λ e. source_still (c.run_command.ensures.source_fault e))
+    (λ e. sink_still (c.run_command.ensures.sink_fault e))
+    (λ e. host_still (c.run_command.ensures.host_fault e))
 
 pub returns-in-Ok-Some-clause-output : goal.returns-in-Ok-Some-clause-output
 returns-in-Ok-Some-clause-output g c = λ command is lab input told still_source still_sink memory.
@@ -47,10 +114,6 @@ returns-in-Ok-Some-clause-status g c = λ ended is script told.
     same (c.run_command.ensures.answered ended (subst IsOfLab (sym same) tt) script told) in
     zero_at_end (report_lines stock script) (g.S.Source.left c.run_command.new.source) c.run_command.result run.status_is (run.read_whole refl)
 
-pub returns-in-Ok-None-clause-usage : goal.returns-in-Ok-None-clause-usage
-returns-in-Ok-None-clause-usage g c = λ _.
-    unnamed (map (λ w. w.now) c.args.words.now) (sym (sym c.in-Ok-None.field-0-is ∙ c.in-Ok-None.ensures.command))
-
 pub returns-in-Err-clause-front : goal.returns-in-Err-clause-front
 returns-in-Err-clause-front g c = λ command is lab input told. HasPutPart-none g.K.Sink.written g.K.Sink.handed c.args.sink.now _
 
@@ -67,3 +130,30 @@ returns-in-Err-clause-loaded g c = λ number is. record {
   line = λ e. absurd (omega (arith, e));
   front = HasPutPart-none g.K.Sink.written g.K.Sink.handed c.args.sink.now _;
 }
+
+pub returns-in-Ok-Some-clause-audited : goal.returns-in-Ok-Some-clause-audited
+returns-in-Ok-Some-clause-audited g c = λ capacity is.
+    c.run_command.ensures.audited capacity
+    (one_command (map (λ w. w.now) c.args.words.now) c.in-Ok-Some.command (Audit capacity) (sym c.in-Ok-Some.field-0-is ∙ c.in-Ok-Some.ensures.command) is)
+
+pub returns-in-Err-clause-audited : goal.returns-in-Err-clause-audited
+returns-in-Err-clause-audited g c = λ capacity is. record {
+  answer = Err OutOfMemory;
+  status_is = refl;
+  exact = λ input told. tt;
+  promises = λ input told. tt;
+  line = λ input told. tt;
+  read_whole = tt;
+  front = λ input told. HasPutPart-none g.K.Sink.written g.K.Sink.handed c.args.sink.now _;
+  all_read = λ e. absurd (omega (arith, e));
+  unused = refl;
+}
+
+pub returns-in-Ok-Some-clause-headline : goal.returns-in-Ok-Some-clause-headline
+returns-in-Ok-Some-clause-headline g c = λ script told. keeps_headline _ script
+
+pub returns-in-Ok-None-clause-headline : goal.returns-in-Ok-None-clause-headline
+returns-in-Ok-None-clause-headline g c = λ script told. keeps_headline _ script
+
+pub returns-in-Err-clause-headline : goal.returns-in-Err-clause-headline
+returns-in-Err-clause-headline g c = λ script told. keeps_headline _ script

@@ -1,5 +1,9 @@
-use Rattle.ptpuni.specs.Run.{stock_of}
+use Rattle.std.proofs.Common.{◌≡◌, ◌∙◌, refl, sym, subst}
+use Rattle.ptu_words.specs.declared.command.Command.TheVariants.{Audit}
+use Rattle.ptpuni.specs.Run.{HasAudited, stock_of}
 use Rattle.ptpuni.proofs.Answered.{by_counts, by_status, is_status, replayed, shown}
+use Rattle.ptpuni.proofs.Audited as of_audit
+use Rattle.ptpuni.proofs.Joined as of_join
 use Rattle.ptpuni.proofs.Loaded.{has_loaded, loaded}
 use Rattle.ptpuni.proofs.run.run_command.Goals as goal
 
@@ -35,3 +39,71 @@ returns-in-Show-clause-answered g c = λ ended lab input told.
 
 pub returns-in-Load-clause-statuses : goal.returns-in-Load-clause-statuses
 returns-in-Load-clause-statuses g c = rw c.status_of-in-Load.ensures (is_status c.load.result)
+
+pub returns-in-Join-clause-statuses : goal.returns-in-Join-clause-statuses
+returns-in-Join-clause-statuses g c = rw c.join_status.ensures (of_join.is_join_status c.join.result)
+
+pub returns-in-Join-clause-other : goal.returns-in-Join-clause-other
+returns-in-Join-clause-other g c = λ e. of_join.no_usage c.join.result (sym c.join_status.ensures ∙ e)
+
+pub returns-in-Join-clause-output : goal.returns-in-Join-clause-output
+returns-in-Join-clause-output g c = λ lab input told still_source still_sink memory.
+    let is = of_join.by_counts c.join.result _ _ _ _ c.join.ensures.source_counts c.join.ensures.sink_counts still_source still_sink (rw c.join_status.ensures at memory) in
+    rw (c.join_status.ensures, c.in-Join.is)
+    (of_join.joined g.K.Sink.written g.K.Sink.handed c.args.sink.now c.join.new.sink (stock_of c.args.stock.flags.items c.args.stock.gaps.items) input (g.S.Source.left c.join.new.source) c.join.result is (c.join.ensures.whole input told) c.join.ensures.end)
+
+pub returns-in-Join-clause-answered : goal.returns-in-Join-clause-answered
+returns-in-Join-clause-answered g c = λ ended lab input told.
+    let is = of_join.by_status c.join.result (rw c.join_status.ensures at ended) in
+    rw (c.join_status.ensures, c.in-Join.is)
+    (of_join.joined g.K.Sink.written g.K.Sink.handed c.args.sink.now c.join.new.sink (stock_of c.args.stock.flags.items c.args.stock.gaps.items) input (g.S.Source.left c.join.new.source) c.join.result is (c.join.ensures.whole input told) c.join.ensures.end)
+
+pub returns-in-Join-clause-source_fault : goal.returns-in-Join-clause-source_fault
+returns-in-Join-clause-source_fault g c = λ e. of_join.source_fault _ _ c.join.result c.join.ensures.source_counts (sym c.join_status.ensures ∙ e)
+
+pub returns-in-Join-clause-source_still : goal.returns-in-Join-clause-source_still
+returns-in-Join-clause-source_still g c = λ other. of_join.source_still _ _ c.join.result c.join.ensures.source_counts (rw c.join_status.ensures at other)
+
+pub returns-in-Join-clause-sink_fault : goal.returns-in-Join-clause-sink_fault
+returns-in-Join-clause-sink_fault g c = λ e. of_join.sink_fault _ _ c.join.result c.join.ensures.sink_counts (sym c.join_status.ensures ∙ e)
+
+pub returns-in-Join-clause-sink_still : goal.returns-in-Join-clause-sink_still
+returns-in-Join-clause-sink_still g c = λ other. of_join.sink_still _ _ c.join.result c.join.ensures.sink_counts (rw c.join_status.ensures at other)
+
+pub returns-in-Audit-clause-statuses : goal.returns-in-Audit-clause-statuses
+returns-in-Audit-clause-statuses g c = rw c.audit_status.ensures (of_audit.is_audit_status c.audit.result)
+
+pub returns-in-Audit-clause-other : goal.returns-in-Audit-clause-other
+returns-in-Audit-clause-other g c = λ e. of_audit.no_usage c.audit.result (sym c.audit_status.ensures ∙ e)
+
+pub returns-in-Audit-clause-host_fault : goal.returns-in-Audit-clause-host_fault
+returns-in-Audit-clause-host_fault g c = λ e. absurd (of_audit.no_host_fault c.audit.result (sym c.audit_status.ensures ∙ e))
+
+pub returns-in-Audit-clause-source_fault : goal.returns-in-Audit-clause-source_fault
+returns-in-Audit-clause-source_fault g c = λ e. of_audit.source_fault _ _ c.audit.result c.audit.ensures.source_counts (sym c.audit_status.ensures ∙ e)
+
+pub returns-in-Audit-clause-source_still : goal.returns-in-Audit-clause-source_still
+returns-in-Audit-clause-source_still g c = λ other. of_audit.source_still _ _ c.audit.result c.audit.ensures.source_counts (rw c.audit_status.ensures at other)
+
+pub returns-in-Audit-clause-sink_fault : goal.returns-in-Audit-clause-sink_fault
+returns-in-Audit-clause-sink_fault g c = λ e. of_audit.sink_fault _ _ c.audit.result c.audit.ensures.sink_counts (sym c.audit_status.ensures ∙ e)
+
+pub returns-in-Audit-clause-sink_still : goal.returns-in-Audit-clause-sink_still
+returns-in-Audit-clause-sink_still g c = λ other. of_audit.sink_still _ _ c.audit.result c.audit.ensures.sink_counts (rw c.audit_status.ensures at other)
+
+pub returns-in-Audit-clause-audited : goal.returns-in-Audit-clause-audited
+returns-in-Audit-clause-audited g c = λ capacity is.
+    let same : c.in-Audit.capacity ≡ capacity = (let both : Audit c.in-Audit.capacity ≡ Audit capacity = sym c.in-Audit.is ∙ is in cc) in
+    subst (λ n. HasAudited g.K.Sink.written g.K.Sink.handed c.args.sink.now c.audit.new.sink c.args.host.now c.args.host.now (g.S.Source.left c.args.source.now) (g.S.Source.left c.audit.new.source) n c.audit_status.result)
+    same
+    (record {
+      answer = c.audit.result;
+      status_is = c.audit_status.ensures;
+      exact = c.audit.ensures.exact;
+      promises = c.audit.ensures.promises;
+      line = c.audit.ensures.written;
+      read_whole = c.audit.ensures.end;
+      front = c.audit.ensures.front;
+      all_read = λ e. c.audit.ensures.all_read (of_audit.read_failed c.audit.result (sym c.audit_status.ensures ∙ e));
+      unused = refl;
+    })

@@ -21,7 +21,7 @@ use Rattle.ptu_items.specs.Deciding.{placed}
 use Rattle.ptu_items.specs.Items.{items_in, heard_in}
 use Rattle.ptu_script.specs.Command.{grandmaster_in, slave_in, fields_in, command_of}
 use Rattle.ptu_world.specs.World.{step}
-use Rattle.ptu_lab.specs.Generated.{generated, request_of, turn_lines}
+use Rattle.ptu_load.specs.Generated.{generated, request_of, turn_lines}
 use Rattle.ptu_lab.specs.Load.{numbers_of, object_text}
 use Rattle.ptu_lab.proofs.loading.sample_summaries.Goals as goal
 

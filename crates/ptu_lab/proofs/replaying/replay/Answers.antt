@@ -4,6 +4,7 @@ use Rattle.ptu_outside.proofs.Putting.{HasPutPart-whole}
 use Rattle.ptu_world.specs.Report.{course_opening}
 use Rattle.ptu_world.proofs.Reported.{texts_of_rules}
 use Rattle.ptu_lab.proofs.LabReplaying.{counted, replayed}
+use Rattle.ptu_lab.proofs.KeepingHeadline.{keeps_headline}
 use Rattle.ptu_lab.proofs.replaying.replay.Goals as goal
 
 pub returns-in-Ok-Whole-clause-whole : goal.returns-in-Ok-Whole-clause-whole
@@ -37,3 +38,18 @@ returns-in-Ok-Whole-clause-counts g c = λ script told.
     let last = rw c.in-Ok-Whole.field-0-is at c.in-Ok-Whole.ensures.last in
     counted (λ n. map (λ j. (goal.Judge-dyn g (j.vtable, j.value)).held j.value) n.slave.judges.items) _ _ c.report.new.reporter (record { flags = length c.args.stock.flags.items; gaps = length c.args.stock.gaps.items }) script c.in-Ok-Whole.lines _
     (last tt (course_opening (record { flags = length c.args.stock.flags.items; gaps = length c.args.stock.gaps.items })) c.new-lab.ensures.opening script told) reported.ends (c.len.ensures ∙ c.report.new.reporter.sent.ok.0) refl refl
+
+pub returns-in-Ok-Whole-clause-headline : goal.returns-in-Ok-Whole-clause-headline
+returns-in-Ok-Whole-clause-headline g c = λ script told. keeps_headline _ script
+
+pub returns-in-Ok-Refused-clause-headline : goal.returns-in-Ok-Refused-clause-headline
+returns-in-Ok-Refused-clause-headline g c = λ script told. keeps_headline _ script
+
+pub returns-in-Err-Read-clause-headline : goal.returns-in-Err-Read-clause-headline
+returns-in-Err-Read-clause-headline g c = λ script told. keeps_headline _ script
+
+pub returns-in-Err-Write-clause-headline : goal.returns-in-Err-Write-clause-headline
+returns-in-Err-Write-clause-headline g c = λ script told. keeps_headline _ script
+
+pub returns-clause-headline : goal.returns-clause-headline
+returns-clause-headline g c = λ script told. keeps_headline _ script

@@ -4,4 +4,4 @@ use Rattle.ptu_setup.proofs.laws.sample_refusals.Goals as goal
 
 pub returns-clause-refused : goal.returns-clause-refused
 unfolding setting_of
-returns-clause-refused c = (refl, refl, refl, refl, refl, refl, refl, refl, refl)
+returns-clause-refused c = (refl, refl, refl)

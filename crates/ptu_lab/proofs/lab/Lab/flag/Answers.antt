@@ -1,7 +1,7 @@
 use Rattle.std.proofs.Common.{true, map, refl, sym, subst, rules}
 use Rattle.ptu_record.specs.Step.{TellFlag}
 use Rattle.ptu_world.specs.Slaves.{plain_deed}
-use Rattle.ptu_lab.specs.LabSteps.{HasActed, of_master}
+use Rattle.ptu_lab.specs.Steps.{HasActed, of_master}
 use Rattle.ptu_lab.specs.Standing.{StandsAs}
 use Rattle.ptu_lab.proofs.LabCommands.{flag_is}
 use Rattle.ptu_lab.proofs.LabNodes.{acted_stands, nobody}

@@ -1,7 +1,7 @@
 use Rattle.std.proofs.Common.{Some, true, map, refl, sym, subst, rules}
 use Rattle.ptu_record.specs.Step.{ReplaceJudge}
 use Rattle.ptu_world.specs.Slaves.{plain_deed}
-use Rattle.ptu_lab.specs.LabSteps.{HasActedWithJudge, of_master, stock_of}
+use Rattle.ptu_lab.specs.Steps.{HasActedWithJudge, of_master, stock_of}
 use Rattle.ptu_world.specs.World.{stock_without}
 use Rattle.ptu_lab.specs.Standing.{StandsAs}
 use Rattle.ptu_lab.proofs.LabCommands.{judge_is}

@@ -1,7 +1,7 @@
 use Rattle.std.proofs.Common.{refl, sym, rules}
 use Rattle.ptu_record.specs.Step.{Stop}
 use Rattle.ptu_world.specs.Slaves.{plain_deed}
-use Rattle.ptu_lab.specs.LabSteps.{of_slave}
+use Rattle.ptu_lab.specs.Steps.{of_slave}
 use Rattle.ptu_lab.proofs.LabCommands.{stop_is}
 use Rattle.ptu_lab.proofs.LabNodes.{acted_stands, nobody}
 use Rattle.ptu_lab.proofs.lab.Lab.stop.Goals as goal

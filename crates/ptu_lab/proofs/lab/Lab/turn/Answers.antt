@@ -1,6 +1,6 @@
 use Rattle.std.proofs.Common.{refl, sym, rules}
 use Rattle.ptu_world.specs.Grandmasters.{turn_deed}
-use Rattle.ptu_lab.specs.LabSteps.{of_grandmaster}
+use Rattle.ptu_lab.specs.Steps.{of_grandmaster}
 use Rattle.ptu_lab.proofs.LabCommands.{turn_is}
 use Rattle.ptu_lab.proofs.LabNodes.{acted_stands, nobody}
 use Rattle.ptu_lab.proofs.lab.Lab.turn.Goals as goal

@@ -1,0 +1,158 @@
+-- Where each group is as it must be and no trail has a fault, nothing is found.
+use Rattle.std.proofs.Common.{◌≡◌, ◌∙◌, ℕ, ◌++◌, eqb, cond, false, List, [], ◌∷◌, map, Option, Some, None, option_map, refl, sym, ap, subst, append_assoc}
+use Rattle.std.specs.Prelude.{IsSome}
+use Rattle.std.specs.List.{AllByRecursion, filter, fold}
+use Rattle.std.specs.Option.{unwrap_or}
+use Rattle.std.proofs.lemmas.List.{append-nil}
+use Rattle.std.proofs.lemmas.List.Elements.{filter-append}
+use Rattle.std.proofs.lemmas.List.Concat.{flat_map-append}
+use Rattle.std.proofs.lemmas.List.Sums.{fold-append}
+use Rattle.std.proofs.lemmas.Bool.{true≢false}
+use Rattle.ptu_history.specs.History as history
+use Rattle.ptu_history.specs.History.{Record}
+use Rattle.ptu_laws.specs.Sound.{sheds_at}
+use Rattle.ptu_trail.specs.declared.cause.Fault.{Fault}
+use Rattle.ptu_trail.specs.declared.cause.NoCause.{NoCause}
+use Rattle.ptu_trail.specs.declared.cause.Shedding.{Shedding}
+use Rattle.ptu_trail.specs.Faults.{IsFaultless, behind, fault_of, first_fault, is_shedding, message_to, or_behind, record_of}
+use Rattle.ptu_audit.specs.declared.line.Line.{Line}
+use Rattle.ptu_audit.specs.declared.deed.Act.{Act}
+use Rattle.ptu_audit.specs.declared.deed.Deed.{Deed}
+use Rattle.ptu_audit.specs.declared.deed.Deed.TheVariants.{Granted, Ended, Changed, Sent}
+use Rattle.ptu_audit.specs.declared.deed.Finding.{Finding}
+use Rattle.ptu_audit.specs.Groups.{acts_of}
+use Rattle.ptu_audit.specs.Trails.{AreSound, act_finding, acts_finding, acts_in, finding_of, first_line, group_finding, groups_finding, is_by, or_later, records_of, told_finding, trail_of, trail_with}
+use Rattle.ptu_audit.proofs.Faultless.{AreFaultless, Laws, acts_in-more, faultless, none_both}
+use Rattle.ptu_audit.proofs.Ledgers.{trail_own}
+
+none_behind : (later : Option Fault) → behind later ≡ None → later ≡ None
+none_behind None e = refl
+none_behind (Some fault) e = absurd cc
+
+none_parts : (here : Option NoCause) (later : Option Fault) → or_behind here later ≡ None → (here ≡ None) × (later ≡ None)
+none_parts None later e = (refl, none_behind later e)
+none_parts (Some cause) later e = absurd cc
+
+none_whole : (here : Option NoCause) (later : Option Fault) → here ≡ None → later ≡ None → or_behind here later ≡ None
+none_whole here later e f = ap (λ h. or_behind h later) e ∙ ap behind f
+
+-- ---- records behind those of an act
+
+abbrev IsNoShedding : List Record → Type 0
+IsNoShedding [] = Unit {0}
+IsNoShedding (r ∷ rest) = is_shedding r ≡ false
+
+no_shedding : (before : List Record) (deed : Deed) (more : List Record) → IsNoShedding (records_of before deed ++ more)
+no_shedding before (Granted at client kind log until) more = refl
+no_shedding before (Ended at client kind) more = refl
+no_shedding before (Changed at capacity shed) more = refl
+no_shedding before (Sent stamp ip kind) more = refl
+
+later : (trail : List Record) (acts : List Act) → (more : List Record) × (fold trail_with trail acts ≡ trail ++ more) × IsNoShedding more
+later trail [] = ([], sym (append-nil trail), tt)
+later trail (act ∷ acts) =
+    let rest = later (trail_with trail act) acts in
+    (records_of trail act.deed ++ rest.0, rest.1 ∙ append_assoc trail (records_of trail act.deed) rest.0, no_shedding trail act.deed rest.0)
+
+none_shed : (x : ℕ) (more : List Record) → IsNoShedding more → sheds_at x more ≡ []
+none_shed x [] other = refl
+none_shed x (history.Granted n c k l u ∷ more) other = refl
+none_shed x (history.Short n c ∷ more) other = refl
+none_shed x (history.Ended n c k ∷ more) other = refl
+none_shed x (history.Capacity n capacity ∷ more) other = refl
+none_shed x (history.Shed n c k ∷ more) other = absurd (true≢false other)
+none_shed x (history.Looked n j ∷ more) other = refl
+none_shed x (history.Sent n c k ∷ more) other = refl
+
+own_shed : (x : ℕ) (shed : List Shedding) (more : List Record) → IsNoShedding more → sheds_at x (map (record_of x) shed ++ more) ≡ sheds_at x (map (record_of x) shed)
+own_shed x [] more other = none_shed x more other
+own_shed x (s ∷ shed) more other = ap (λ rs. cond (eqb x x) (record_of x s ∷ rs) []) (own_shed x shed more other)
+
+-- ---- the first fault of a part
+
+module _ (opening : ℕ) where
+  behind_front : (before front rest : List Record) → first_fault opening before (front ++ rest) ≡ None → first_fault opening (before ++ front) rest ≡ None
+  behind_front before [] rest e = ap (λ h. first_fault opening h rest) (append-nil before) ∙ e
+  behind_front before (r ∷ front) rest e =
+      ap (λ h. first_fault opening h rest) (sym (append_assoc before (r ∷ []) front))
+      ∙ behind_front (before ++ r ∷ []) front rest (none_parts (fault_of opening before r (front ++ rest)) (first_fault opening (before ++ r ∷ []) (front ++ rest)) e).1
+
+  sheds_front : (before : List Record) (x : ℕ) (shed : List Shedding) (more : List Record) → first_fault opening before (map (record_of x) shed ++ more) ≡ None → first_fault opening before (map (record_of x) shed) ≡ None
+  sheds_front before x [] more e = refl
+  sheds_front before x (s ∷ shed) more e =
+      let parts = none_parts (fault_of opening before (record_of x s) []) (first_fault opening (before ++ record_of x s ∷ []) (map (record_of x) shed ++ more)) e in
+      none_whole (fault_of opening before (record_of x s) []) (first_fault opening (before ++ record_of x s ∷ []) (map (record_of x) shed)) parts.0 (sheds_front (before ++ record_of x s ∷ []) x shed more parts.1)
+
+  one_front : (before : List Record) (r : Record) (more : List Record) → fault_of opening before r more ≡ fault_of opening before r [] → first_fault opening before (r ∷ more) ≡ None → first_fault opening before (r ∷ []) ≡ None
+  one_front before r more same e = none_whole (fault_of opening before r []) None (sym same ∙ (none_parts (fault_of opening before r more) (first_fault opening (before ++ r ∷ []) more) e).0) refl
+
+  deed_front : (before : List Record) (deed : Deed) (more : List Record) → IsNoShedding more → first_fault opening before (records_of before deed ++ more) ≡ None → first_fault opening before (records_of before deed) ≡ None
+  deed_front before (Granted at client kind log until) more other e = one_front before (history.Granted at client kind log until) more refl e
+  deed_front before (Ended at client kind) more other e = one_front before (history.Ended at client kind) more refl e
+  deed_front before (Changed at n shed) more other e =
+      let c : Record = history.Capacity at n in
+      let sheds : List Record = map (record_of at) shed in
+      let parts = none_parts (fault_of opening before c (sheds ++ more)) (first_fault opening (before ++ c ∷ []) (sheds ++ more)) e in
+      let same : fault_of opening before c (sheds ++ more) ≡ fault_of opening before c sheds = rw (own_shed at shed more other) in
+      none_whole (fault_of opening before c sheds) (first_fault opening (before ++ c ∷ []) sheds) (sym same ∙ parts.0) (sheds_front (before ++ c ∷ []) at shed more parts.1)
+  deed_front before (Sent stamp ip kind) more other e = one_front before (message_to before stamp ip kind) more refl e
+
+-- ---- acts and groups
+
+trail_rest : (g : ℕ) (acts rest : List Act) → trail_of g (acts ++ rest) ≡ fold trail_with (trail_of g acts) (filter (is_by g) rest)
+unfolding trail_of
+trail_rest g acts rest = ap (fold trail_with []) (filter-append (is_by g) acts rest) ∙ fold-append trail_with [] (filter (is_by g) acts) (filter (is_by g) rest)
+
+module _ (laws : Laws) (capacity : ℕ) where
+  act_none : (before : List Act) (act : Act) (rest : List Act) → AreFaultless capacity ((before ++ act ∷ []) ++ rest) → act_finding capacity before act ≡ None
+  act_none before act rest f =
+      let g = act.grandmaster in
+      let trail : List Record = trail_of g before in
+      let own : List Record = records_of trail act.deed in
+      let more = later (trail ++ own) (filter (is_by g) rest) in
+      let whole : trail_of g ((before ++ act ∷ []) ++ rest) ≡ trail ++ (own ++ more.0) =
+      trail_rest g (before ++ act ∷ []) rest ∙ ap (λ t. fold trail_with t (filter (is_by g) rest)) (trail_own before act)
+      ∙ more.1 ∙ append_assoc trail own more.0 in
+      let none : first_fault capacity [] (trail ++ (own ++ more.0)) ≡ None = ap (first_fault capacity []) (sym whole) ∙ laws.first capacity (trail_of g ((before ++ act ∷ []) ++ rest)) (f g) in
+      ap (option_map (finding_of act)) (deed_front capacity trail act.deed more.0 more.2 (behind_front capacity [] trail (own ++ more.0) none))
+
+  acts_none : (before acts rest : List Act) → AreFaultless capacity ((before ++ acts) ++ rest) → acts_finding capacity before acts ≡ None
+  acts_none before [] rest f = refl
+  acts_none before (act ∷ acts) rest f =
+      let moved : (before ++ act ∷ acts) ++ rest ≡ ((before ++ act ∷ []) ++ acts) ++ rest = ap (λ a. a ++ rest) (sym (append_assoc before (act ∷ []) acts)) in
+      let g : AreFaultless capacity (((before ++ act ∷ []) ++ acts) ++ rest) = subst (AreFaultless capacity) moved f in
+      ap (λ o. or_later o (acts_finding capacity (before ++ act ∷ []) acts)) (act_none before act (acts ++ rest) (subst (AreFaultless capacity) (append_assoc (before ++ act ∷ []) acts rest) g))
+      ∙ acts_none (before ++ act ∷ []) acts rest g
+
+  told_none : (before : List Act) (line : ℕ) (told : Option (List Act)) (rest : List Act) → IsSome told → AreFaultless capacity ((before ++ unwrap_or told []) ++ rest) → told_finding capacity before line told ≡ None
+  told_none before line None rest some f = absurd cc
+  told_none before line (Some acts) rest some f = acts_none before acts rest f
+
+  acts_in-append : (before groups : List (List Line)) → acts_in (before ++ groups) ≡ acts_in before ++ acts_in groups
+  acts_in-append before groups = flat_map-append (λ (g : List Line). unwrap_or (acts_of g) []) before groups
+
+  groups_none : (before groups : List (List Line)) → AllByRecursion (λ group. IsSome (acts_of group)) groups → AreFaultless capacity (acts_in (before ++ groups)) → groups_finding capacity before groups ≡ None
+  groups_none before [] told f = refl
+  groups_none before (group ∷ groups) told f =
+      let g : AreFaultless capacity (acts_in ((before ++ group ∷ []) ++ groups)) = subst (λ gs. AreFaultless capacity (acts_in gs)) (sym (append_assoc before (group ∷ []) groups)) f in
+      let split : acts_in ((before ++ group ∷ []) ++ groups) ≡ (acts_in before ++ unwrap_or (acts_of group) []) ++ acts_in groups =
+      acts_in-append (before ++ group ∷ []) groups ∙ ap (λ a. a ++ acts_in groups) (acts_in-more laws before group) in
+      ap (λ o. or_later o (groups_finding capacity (before ++ group ∷ []) groups))
+      (told_none (acts_in before) (first_line group) (acts_of group) (acts_in groups) told.0 (subst (AreFaultless capacity) split g))
+      ∙ groups_none (before ++ group ∷ []) groups told.1 g
+
+  pub none_from : (groups : List (List Line)) → AreSound capacity groups → groups_finding capacity [] groups ≡ None
+  none_from groups s = groups_none [] groups s.told s.trails
+
+  told_from : (before : List Act) (line : ℕ) (told : Option (List Act)) → told_finding capacity before line told ≡ None → IsSome told
+  told_from before line None e = absurd cc
+  told_from before line (Some acts) e = refl
+
+  all_told : (before groups : List (List Line)) → groups_finding capacity before groups ≡ None → AllByRecursion (λ group. IsSome (acts_of group)) groups
+  all_told before [] e = tt
+  all_told before (group ∷ groups) e =
+      let parts = none_both (group_finding capacity (acts_in before) group) (groups_finding capacity (before ++ group ∷ []) groups) e in
+      (told_from (acts_in before) (first_line group) (acts_of group) parts.0, all_told (before ++ group ∷ []) groups parts.1)
+
+  pub sound_from : (groups : List (List Line)) → groups_finding capacity [] groups ≡ None → AreSound capacity groups
+  sound_from groups e = record { told = all_told [] groups e; trails = faultless laws capacity groups e }

@@ -1,0 +1,78 @@
+-- The trails of all grandmasters, after one more act.
+use Rattle.std.proofs.Common.{◌≡◌, ◌∙◌, ℕ, ◌+◌, ◌<◌, ◌++◌, eqb, ltb, Bool, true, false, cond, List, [], ◌∷◌, Option, Some, None, refl, sym, ap, subst, arith}
+use Rattle.std.specs.Prelude.{IfNone}
+use Rattle.std.specs.List.{count_by, filter, fold}
+use Rattle.std.specs.Ordering.{is_eq, nat_cmp}
+use Rattle.std.specs.declared.cmp.Ordering.TheVariants.{Less, Equal, Greater}
+use Rattle.std.proofs.lemmas.Bool.{eq-eqb, eqb-true, ltb-true}
+use Rattle.std.proofs.lemmas.List.{append-nil}
+use Rattle.std.proofs.lemmas.List.Elements.{filter-append}
+use Rattle.std.proofs.lemmas.List.Sums.{fold-append, sum_by-append}
+use Rattle.ptu_history.specs.History.{Record}
+use Rattle.ptu_trail.specs.declared.trail.Trail.{Trail}
+use Rattle.ptu_trail.specs.Trail.{StandsFor as IsTrail}
+use Rattle.ptu_audit.specs.declared.deed.Act.{Act}
+use Rattle.ptu_audit.specs.Standing.{IsKept}
+use Rattle.ptu_audit.specs.Trails.{grants_in, is_by, is_grant, is_message, messages_in, trail_of, trail_with}
+
+pub if_none_map : {A P Q : Type 0} (o : Option A) → (o ≡ None → P → Q) → IfNone o P → IfNone o Q
+if_none_map None f p = f refl p
+if_none_map (Some x) f p = tt
+
+pub if_none_at : {A P : Type 0} (o : Option A) → o ≡ None → IfNone o P → P
+if_none_at None e p = p
+if_none_at (Some x) e p = absurd cc
+
+-- the comparison of two numbers says whether they are one
+cmp_same : (m n : ℕ) → is_eq (nat_cmp m n) ≡ eqb m n
+cmp_same m n = at (ltb m n) refl (eqb m n) refl
+  where
+    at : (b : Bool) → ltb m n ≡ b → (e : Bool) → eqb m n ≡ e → is_eq (cond b Less (cond e Equal Greater)) ≡ e
+    at true is true same = let lt : m < n = ltb-true m n is in let eq : m ≡ n = eqb-true m n same in absurd (omega arith)
+    at true is false same = refl
+    at false is true same = refl
+    at false is false same = refl
+
+pub trail_of-push : (g : ℕ) (before : List Act) (act : Act) (b : Bool) → eqb act.grandmaster g ≡ b → trail_of g (before ++ act ∷ []) ≡ cond b (trail_with (trail_of g before) act) (trail_of g before)
+unfolding trail_of
+trail_of-push g before act true is =
+    ap (fold trail_with []) (filter-append (is_by g) before (act ∷ []) ∙ ap (λ b. filter (is_by g) before ++ cond b (act ∷ []) []) is)
+    ∙ fold-append trail_with [] (filter (is_by g) before) (act ∷ [])
+trail_of-push g before act false is =
+    ap (fold trail_with []) (filter-append (is_by g) before (act ∷ []) ∙ ap (λ b. filter (is_by g) before ++ cond b (act ∷ []) []) is ∙ append-nil (filter (is_by g) before))
+
+pub trail_own : (before : List Act) (act : Act) → trail_of act.grandmaster (before ++ act ∷ []) ≡ trail_with (trail_of act.grandmaster before) act
+trail_own before act = trail_of-push act.grandmaster before act true (eq-eqb act.grandmaster act.grandmaster refl)
+
+-- the trail of the act's grandmaster is this one, and the others are as before
+pub kept_more : (capacity : ℕ) (before : List Act) (act : Act) (trail : Trail) (old mid new : ℕ → Option Trail)
+    → ((q : ℕ) → is_eq (nat_cmp act.grandmaster q) ≡ false → mid q ≡ old q)
+    → ((q : ℕ) → new q ≡ cond (is_eq (nat_cmp act.grandmaster q)) (Some trail) (mid q))
+    → ((q : ℕ) → IsKept capacity (old q) (trail_of q before))
+    → IsTrail capacity trail (trail_with (trail_of act.grandmaster before) act)
+    → (q : ℕ) → IsKept capacity (new q) (trail_of q (before ++ act ∷ []))
+kept_more capacity before act trail old mid new others updates kept own q =
+    at (eqb act.grandmaster q) refl
+  where
+    at : (b : Bool) → eqb act.grandmaster q ≡ b → IsKept capacity (new q) (trail_of q (before ++ act ∷ []))
+    at true is =
+        subst (λ o. IsKept capacity o (trail_of q (before ++ act ∷ []))) (sym (updates q ∙ ap (λ b. cond b (Some trail) (mid q)) (cmp_same act.grandmaster q ∙ is)))
+        (subst (λ h. IsTrail capacity trail h) (sym (trail_of-push q before act true is))
+        (subst (λ p. IsTrail capacity trail (trail_with (trail_of p before) act)) (eqb-true act.grandmaster q is) own))
+    at false is =
+        subst (λ o. IsKept capacity o (trail_of q (before ++ act ∷ []))) (sym (updates q ∙ ap (λ b. cond b (Some trail) (mid q)) (cmp_same act.grandmaster q ∙ is) ∙ others q (cmp_same act.grandmaster q ∙ is)))
+        (subst (IsKept capacity (old q)) (sym (trail_of-push q before act false is)) (kept q))
+
+zero_plus : (n : ℕ) → 0 + n ≡ n
+zero_plus n = omega arith
+
+-- before any act
+pub no_trail : (g : ℕ) → trail_of g [] ≡ []
+unfolding trail_of
+no_trail g = refl
+
+pub grants-push : (before : List Act) (act : Act) → grants_in (before ++ act ∷ []) ≡ grants_in before + cond (is_grant act.deed) 1 0
+grants-push before act = sum_by-append (λ (a : Act). cond (is_grant a.deed) 1 0) before (act ∷ []) ∙ ap (λ n. grants_in before + n) (zero_plus (cond (is_grant act.deed) 1 0))
+
+pub messages-push : (before : List Act) (act : Act) → messages_in (before ++ act ∷ []) ≡ messages_in before + cond (is_message act.deed) 1 0
+messages-push before act = sum_by-append (λ (a : Act). cond (is_message a.deed) 1 0) before (act ∷ []) ∙ ap (λ n. messages_in before + n) (zero_plus (cond (is_message act.deed) 1 0))

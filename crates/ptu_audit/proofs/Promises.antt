@@ -1,0 +1,335 @@
+-- What holds of the trails of a report in which nothing is found.
+use Rattle.std.proofs.Common.{◌≡◌, ◌∙◌, ℕ, ◌+◌, ◌++◌, ◌&&◌, Bool, true, false, cond, eqb, List, [], ◌∷◌, map, take, Option, Some, None, refl, sym, ap, subst}
+use Rattle.std.specs.Prelude.{IfSome, Ok, filter_map}
+use Rattle.std.specs.List.{AllByRecursion, cons_option, filter, flat_map, fold, list_any}
+use Rattle.std.specs.Option.{unwrap_or}
+use Rattle.ptu_lines.specs.Script.{ScriptLine, Whole, Refused, script_lines}
+use Rattle.ptu_report.specs.declared.ending.Ending.{Ending}
+use Rattle.ptu_report.specs.declared.ending.Ending.TheVariants as endings
+use Rattle.ptu_report.specs.Rules.{Outcome, Goes, Refuses, closing, ending_after, ending_at, meaning_after, meaning_at, texts_at, texts_until}
+use Rattle.ptu_laws.proofs.Budget.{count-sound}
+use Rattle.ptu_laws.proofs.Capacity.{held-sound}
+use Rattle.ptu_laws.proofs.Payments.{message-paid, payments-apart}
+use Rattle.ptu_laws.proofs.Stands.{follow-stand, stand-from}
+use Rattle.ptu_laws.specs.Sound.{IsSound}
+use Rattle.ptu_units.specs.Log.{IsLogOf}
+use Rattle.ptu_history.specs.declared.client.Client.{Client}
+use Rattle.ptu_history.specs.History.{Record}
+use Rattle.ptu_trail.specs.declared.cause.Shedding.{Shedding}
+use Rattle.ptu_trail.specs.Faults.{AreInRange, IsFaultless, IsInRange, record_of}
+use Rattle.ptu_audit_lines.specs.declared.entry.Decision.{Decision}
+use Rattle.ptu_audit_lines.specs.declared.entry.Decision.TheVariants as decisions
+use Rattle.ptu_audit_lines.specs.declared.entry.ReportLine.{ReportLine}
+use Rattle.ptu_audit_lines.specs.declared.entry.ReportLine.TheVariants as report
+use Rattle.ptu_audit_lines.specs.Entry.{line_of}
+use Rattle.ptu_tlvs.specs.declared.tlv.Tlv.{Tlv}
+use Rattle.ptu_audit.specs.declared.answer.AuditCause.{AuditCause}
+use Rattle.ptu_audit.specs.declared.answer.AuditCause.TheVariants as causes
+use Rattle.ptu_audit.specs.declared.line.Line.{Line}
+use Rattle.ptu_audit.specs.declared.line.Said.{Said}
+use Rattle.ptu_audit.specs.declared.line.Said.TheVariants as said
+use Rattle.ptu_audit.specs.declared.deed.Act.{Act}
+use Rattle.ptu_audit.specs.declared.deed.Deed.{Deed}
+use Rattle.ptu_audit.specs.declared.deed.Deed.TheVariants as deeds
+use Rattle.ptu_audit.specs.Lines.{said_by}
+use Rattle.ptu_audit.specs.Groups.{act_at, acts_by, acts_of, answered, answered_by, answered_client, are_answered, are_told, changed, decides, deed_of, groups_of, is_of_script, last_apart, message_at, messages_in, said_deed, sheddings, shedding_of, with_line, in_front}
+use Rattle.ptu_audit.specs.Texts.{answer_text, refusal_text}
+use Rattle.ptu_audit.specs.declared.answer.Answer.{Answer}
+use Rattle.ptu_audit.specs.declared.answer.Answer.TheVariants as answers
+use Rattle.ptu_audit.specs.declared.deed.Finding.{Finding}
+use Rattle.ptu_audit.specs.Trails.{acts_in, answer_by, answer_of, groups_finding, is_by, records_of, trail_of, trail_with}
+use Rattle.ptu_audit.specs.Reading.{Reading, audit_rules, cause_of_line, end_read, is_disordered, line_read, opening, with_entry}
+use Rattle.ptu_audit.specs.Audited.{AllKeepPromises, IsKept, KeepsPromises, report_lines}
+use Rattle.ptu_audit.proofs.Faultless.{Laws, faultless}
+use Rattle.ptu_audit.proofs.Ranges.{IsDecisionInRange, IsSaidInRange, said_within}
+
+abbrev AreLines : List Line → Type 0
+AreLines lines = AllByRecursion (λ line. IsSaidInRange line.said) lines
+
+abbrev AreGroups : List (List Line) → Type 0
+AreGroups groups = AllByRecursion AreLines groups
+
+abbrev IsDeed : Deed → Type 0
+IsDeed (deeds.Granted at client kind log until) = IsLogOf kind log
+IsDeed _ = Unit {0}
+
+abbrev AreActs : List Act → Type 0
+AreActs acts = AllByRecursion (λ act. IsDeed act.deed) acts
+
+all_append : {X : Type 0} (P : X → Type 0) (xs ys : List X) → AllByRecursion P xs → AllByRecursion P ys → AllByRecursion P (xs ++ ys)
+all_append P [] ys h k = k
+all_append P (x ∷ xs) ys h k = (h.0, all_append P xs ys h.1 k)
+
+all_mapped : {X Y : Type 0} (P : X → Type 0) (Q : Y → Type 0) (f : X → Option Y) → ((x : X) → P x → IfSome (f x) Q) → (xs : List X) → AllByRecursion P xs → AllByRecursion Q (filter_map f xs)
+all_mapped P Q f h [] all = tt
+all_mapped P Q f h (x ∷ xs) all = at (f x) (h x all.0) (all_mapped P Q f h xs all.1)
+  where
+    at : (o : Option _) → IfSome o Q → AllByRecursion Q (filter_map f xs) → AllByRecursion Q (cons_option o (filter_map f xs))
+    at None here rest = rest
+    at (Some y) here rest = (here, rest)
+
+all_flat : {X Y : Type 0} (P : X → Type 0) (Q : Y → Type 0) (f : X → List Y) → ((x : X) → P x → AllByRecursion Q (f x)) → (xs : List X) → AllByRecursion P xs → AllByRecursion Q (flat_map f xs)
+all_flat P Q f h [] all = tt
+all_flat P Q f h (x ∷ xs) all = all_append Q (f x) (flat_map f xs) (h x all.0) (all_flat P Q f h xs all.1)
+
+-- ---- groups
+
+with_line_in : (groups : List (List Line)) (line : Line) → AreGroups groups → IsSaidInRange line.said → AreGroups (with_line groups line)
+with_line_in [] line all h = ((h, tt), tt)
+with_line_in (group ∷ []) line all h = at (is_of_script group line.script)
+  where
+    at : (b : Bool) → AreGroups (cond b ((group ++ line ∷ []) ∷ []) (group ∷ (line ∷ []) ∷ []))
+    at true = (all_append (λ (l : Line). IsSaidInRange l.said) group (line ∷ []) all.0 (h, tt), tt)
+    at false = (all.0, ((h, tt), tt))
+with_line_in (group ∷ next ∷ groups) line all h = (all.0, with_line_in (next ∷ groups) line all.1 h)
+
+fold_in : (groups : List (List Line)) (lines : List Line) → AreGroups groups → AreLines lines → AreGroups (fold with_line groups lines)
+fold_in groups [] all h = all
+fold_in groups (line ∷ lines) all h = fold_in (with_line groups line) lines (with_line_in groups line all h.0) h.1
+
+groups_in : (lines : List Line) → AreLines lines → AreGroups (groups_of lines)
+unfolding groups_of
+groups_in lines h = fold_in [] lines tt h
+
+-- ---- acts
+
+deed_in : (client : Client) (d : Decision) → IsDecisionInRange d → IfSome (deed_of client d) IsDeed
+deed_in client (decisions.Granted kind log at until) h = h
+deed_in client (decisions.Short kind log at others rate capacity) h = tt
+deed_in client (decisions.OutsideType code) h = tt
+deed_in client (decisions.OutsideLog kind log) h = tt
+deed_in client (decisions.OutsideDuration kind log seconds) h = tt
+deed_in client (decisions.Cancelled kind at) h = tt
+deed_in client (decisions.Nothing kind at) h = tt
+deed_in client (decisions.NothingCode code) h = tt
+
+said_deed_in : (client : Client) (s : Said) → IsSaidInRange s → IfSome (said_deed client s) IsDeed
+said_deed_in client (said.Decided d) h = deed_in client d h
+said_deed_in client (said.Change grandmaster capacity at) h = tt
+said_deed_in client (said.Shed kind c) h = tt
+said_deed_in client (said.Signaled from to target list) h = tt
+said_deed_in client (said.Timed from to kind stamp) h = tt
+said_deed_in client said.Other h = tt
+
+act_in : (line : Line) (g : ℕ) (deed : Option Deed) → IfSome deed IsDeed → IfSome (act_at line g deed) (λ act. IsDeed act.deed)
+act_in line g None h = tt
+act_in line g (Some deed) h = h
+
+apart_in : (lines : List Line) → AreLines lines → IfSome (last_apart lines) (λ parts. AreLines parts.0)
+apart_in [] h = tt
+apart_in (line ∷ rest) h = at (last_apart rest) (apart_in rest h.1)
+  where
+    at : (o : Option (List Line × Line)) → IfSome o (λ parts. AreLines parts.0) → IfSome (in_front line o) (λ parts. AreLines parts.0)
+    at None k = tt
+    at (Some parts) k = (h.0, k)
+
+answered_by_in : (asked : List Line) (s : Said) → AreLines asked → IfSome (answered_by asked s) AreActs
+answered_by_in asked (said.Decided d) h = tt
+answered_by_in asked (said.Change grandmaster capacity at) h = tt
+answered_by_in asked (said.Shed kind c) h = tt
+answered_by_in asked (said.Signaled from to target list) h = at (are_answered asked list)
+  where
+    told : List Act
+    told = filter_map (λ line. act_at line from (said_deed (answered_client to target) line.said)) asked
+
+    at : (b : Bool) → IfSome (cond b (Some told) None) AreActs
+    at true = all_mapped (λ (l : Line). IsSaidInRange l.said) (λ (act : Act). IsDeed act.deed) (λ line. act_at line from (said_deed (answered_client to target) line.said)) (λ line k. act_in line from (said_deed (answered_client to target) line.said) (said_deed_in (answered_client to target) line.said k)) asked h
+    at false = tt
+answered_by_in asked (said.Timed from to kind stamp) h = tt
+answered_by_in asked said.Other h = tt
+
+answered_in : (parts : Option (List Line × Line)) → IfSome parts (λ p. AreLines p.0) → IfSome (answered parts) AreActs
+answered_in None h = tt
+answered_in (Some parts) h = answered_by_in parts.0 parts.1.said h
+
+changed_in : (number g capacity at : ℕ) (rest : List Line) → IfSome (changed number g capacity at rest) AreActs
+changed_in number g capacity at rest = by (are_told g rest)
+  where
+    by : (b : Bool) → IfSome (cond b (Some (record { line = number; grandmaster = g; deed = deeds.Changed at capacity (filter_map (λ line. shedding_of line.said) (take (sheddings rest) rest)) } ∷ [])) None) AreActs
+    by true = (tt, tt)
+    by false = tt
+
+message_in : (number : ℕ) (s : Said) → IfSome (message_at number s) (λ act. IsDeed act.deed)
+message_in number (said.Decided d) = tt
+message_in number (said.Change grandmaster capacity at) = tt
+message_in number (said.Shed kind c) = tt
+message_in number (said.Signaled from to target list) = tt
+message_in number (said.Timed from to kind stamp) = tt
+message_in number said.Other = tt
+
+messages : (group : List Line) → AreLines group → IfSome (messages_in group) AreActs
+messages group h = at (list_any (λ line. decides line.said) group)
+  where
+    at : (b : Bool) → IfSome (cond b None (Some (filter_map (λ line. message_at line.number line.said) group))) AreActs
+    at true = tt
+    at false = all_mapped (λ (l : Line). IsSaidInRange l.said) (λ (act : Act). IsDeed act.deed) (λ line. message_at line.number line.said) (λ line k. message_in line.number line.said) group h
+
+acts_by_in : (line : Line) (rest : List Line) (s : Said) → AreLines (line ∷ rest) → IfSome (acts_by line rest s) AreActs
+acts_by_in line rest (said.Decided d) h = answered_in (last_apart (line ∷ rest)) (apart_in (line ∷ rest) h)
+acts_by_in line rest (said.Change grandmaster capacity at) h = changed_in line.number grandmaster capacity at rest
+acts_by_in line rest (said.Shed kind c) h = messages (line ∷ rest) h
+acts_by_in line rest (said.Signaled from to target list) h = messages (line ∷ rest) h
+acts_by_in line rest (said.Timed from to kind stamp) h = messages (line ∷ rest) h
+acts_by_in line rest said.Other h = messages (line ∷ rest) h
+
+acts_of_in : (group : List Line) → AreLines group → IfSome (acts_of group) AreActs
+unfolding acts_of
+acts_of_in [] h = tt
+acts_of_in (line ∷ rest) h = acts_by_in line rest line.said h
+
+acts_in_range : (groups : List (List Line)) → AreGroups groups → AreActs (acts_in groups)
+acts_in_range groups h =
+    all_flat AreLines (λ (act : Act). IsDeed act.deed) (λ group. unwrap_or (acts_of group) []) (λ group k. at (acts_of group) (acts_of_in group k)) groups h
+  where
+    at : (o : Option (List Act)) → IfSome o AreActs → AreActs (unwrap_or o [])
+    at None k = tt
+    at (Some acts) k = k
+
+-- ---- trails
+
+sheds_in : (x : ℕ) (shed : List Shedding) → AreInRange (map (record_of x) shed)
+sheds_in x [] = tt
+sheds_in x (s ∷ shed) = (tt, sheds_in x shed)
+
+records_in : (before : List Record) (deed : Deed) → IsDeed deed → AreInRange (records_of before deed)
+records_in before (deeds.Granted at client kind log until) h = (h, tt)
+records_in before (deeds.Ended at client kind) h = (tt, tt)
+records_in before (deeds.Changed at capacity shed) h = (tt, sheds_in at shed)
+records_in before (deeds.Sent stamp ip kind) h = (tt, tt)
+
+trail_from_in : (g : ℕ) (before : List Record) (acts : List Act) → AreInRange before → AreActs acts → AreInRange (fold trail_with before (filter (is_by g) acts))
+trail_from_in g before [] b h = b
+trail_from_in g before (act ∷ acts) b h =
+    at (eqb act.grandmaster g)
+    (trail_from_in g (trail_with before act) acts (all_append IsInRange before (records_of before act.deed) b (records_in before act.deed h.0)) h.1)
+    (trail_from_in g before acts b h.1)
+  where
+    at : (own : Bool) → AreInRange (fold trail_with (trail_with before act) (filter (is_by g) acts)) → AreInRange (fold trail_with before (filter (is_by g) acts))
+        → AreInRange (fold trail_with before (cond own (act ∷ filter (is_by g) acts) (filter (is_by g) acts)))
+    at true own other = own
+    at false own other = other
+
+trail_in : (g : ℕ) (acts : List Act) → AreActs acts → AreInRange (trail_of g acts)
+unfolding trail_of
+trail_in g acts h = trail_from_in g [] acts tt h
+
+-- ---- the lines that are read
+
+-- a line that was taken: nothing is written, the capacity stays, and the lines are still in range
+record IsTaken (r after : Reading) (texts : List (List ℕ)) : Type 0 where
+  quiet : texts ≡ []
+  capacity : after.capacity ≡ r.capacity
+  lines : AreLines r.lines → AreLines after.lines
+
+taken : (r : Reading) (number : ℕ) (text : List ℕ) (after : Reading) (texts : List (List ℕ)) (o : Option ReportLine) → line_of text ≡ o → line_read r number o ≡ Goes after texts → IsTaken r after texts
+taken r number text after texts None is e = absurd cc
+taken r number text after texts (Some (report.At script entry)) is e = at (is_disordered r script) r.ended e
+  where
+    at : (b c : Bool) → cond b (Refuses causes.Order) (cond c (Refuses causes.End) (Goes (with_entry r number script entry) [])) ≡ Goes after texts → IsTaken r after texts
+    at true c f = absurd cc
+    at false true f = absurd cc
+    at false false f =
+        let same : with_entry r number script entry ≡ after = cc in
+        let none : [] ≡ texts = cc in
+        record {
+          quiet = sym none;
+          capacity = ap (λ (q : Reading). q.capacity) (sym same);
+          lines = λ h. subst (λ (q : Reading). AreLines q.lines) same
+              (all_append (λ (l : Line). IsSaidInRange l.said) r.lines (record { number = number; script = script; said = said_by entry } ∷ []) h (said_within text script entry is, tt));
+        }
+taken r number text after texts (Some (report.End count datagrams)) is e = at r.ended e
+  where
+    at : (c : Bool) → cond c (Refuses causes.End) (Goes (record r { ended = true }) []) ≡ Goes after texts → IsTaken r after texts
+    at true f = absurd cc
+    at false f =
+        let same : record r { ended = true } ≡ after = cc in
+        let none : [] ≡ texts = cc in
+        record {
+          quiet = sym none;
+          capacity = ap (λ (q : Reading). q.capacity) (sym same);
+          lines = λ h. subst (λ (q : Reading). AreLines q.lines) same h;
+        }
+
+-- the lines of a report of which none is refused, and what is written then
+pub record IsRead (r : Reading) (before : ℕ) (lines : List ScriptLine) : Type 0 where
+  pub last : Reading
+  pub meaning : meaning_after audit_rules r before lines ≡ Some last
+  pub texts : texts_until audit_rules (closing audit_rules) r before lines ≡ answer_text (answer_of last.capacity last.lines) ∷ []
+  pub capacity : last.capacity ≡ r.capacity
+  pub in_range : AreLines r.lines → AreLines last.lines
+
+abbrev end_by : Bool → Reading → Outcome Reading AuditCause
+end_by b r = cond b (Goes r (answer_text (answer_of r.capacity r.lines) ∷ [])) (Refuses causes.End)
+
+whole_end : (r : Reading) (before n : ℕ) (b : Bool) → end_by b r ≡ end_by b r → ending_at (before + 1) (end_by b r) (λ after. endings.Whole before) ≡ endings.Whole n
+    → (meaning_at (end_by b r) Some ≡ Some r) × (texts_at audit_rules (before + 1) (end_by b r) (λ after. []) ≡ answer_text (answer_of r.capacity r.lines) ∷ [])
+whole_end r before n true is e = (refl, refl)
+whole_end r before n false is e = absurd cc
+
+pub whole_read : (r : Reading) (before n : ℕ) (lines : List ScriptLine) → ending_after audit_rules r before lines ≡ endings.Whole n → IsRead r before lines
+unfolding audit_rules
+whole_read r before n [] e =
+    let both = whole_end r before n r.ended refl e in
+    record { last = r; meaning = both.0; texts = both.1; capacity = refl; in_range = λ h. h }
+whole_read r before n (Refused cause ∷ rest) e = absurd cc
+whole_read r before n (Whole text ∷ rest) e = at (line_read r (before + 1) (line_of text)) refl e (λ after f. whole_read after (before + 1) n rest f)
+  where
+    at : (o : Outcome Reading AuditCause) → line_read r (before + 1) (line_of text) ≡ o → ending_at (before + 1) o (λ after. ending_after audit_rules after (before + 1) rest) ≡ endings.Whole n
+        → ((after : Reading) → ending_after audit_rules after (before + 1) rest ≡ endings.Whole n → IsRead after (before + 1) rest) → IsRead r before (Whole text ∷ rest)
+    at (Refuses cause) is f ih = absurd cc
+    at (Goes after texts) is f ih =
+        let later = ih after f in
+        let t = taken r (before + 1) text after texts (line_of text) refl is in
+        record {
+          last = later.last;
+          meaning = ap (λ o. meaning_at o (λ q. meaning_after audit_rules q (before + 1) rest)) is ∙ later.meaning;
+          texts =
+              ap (λ o. texts_at audit_rules (before + 1) o (λ q. texts_until audit_rules (closing audit_rules) q (before + 1) rest)) is
+              ∙ ap (λ ts. ts ++ texts_until audit_rules (closing audit_rules) after (before + 1) rest) t.quiet ∙ later.texts;
+          capacity = later.capacity ∙ t.capacity;
+          in_range = λ h. later.in_range (t.lines h);
+        }
+
+-- a refused line, and what is written then
+pub refused_read : (r : Reading) (before number : ℕ) (cause : AuditCause) (lines : List ScriptLine) → ending_after audit_rules r before lines ≡ endings.Refused number cause
+    → texts_until audit_rules (closing audit_rules) r before lines ≡ refusal_text number cause ∷ []
+unfolding audit_rules
+refused_read r before number cause [] e = at (end_read r) refl e
+  where
+    at : (o : Outcome Reading AuditCause) → end_read r ≡ o → ending_at (before + 1) o (λ after. endings.Whole before) ≡ endings.Refused number cause → texts_at audit_rules (before + 1) o (λ after. []) ≡ refusal_text number cause ∷ []
+    at (Refuses found) is f = let same : before + 1 ≡ number = cc in let one : found ≡ cause = cc in rw (same, one)
+    at (Goes after texts) is f = absurd cc
+refused_read r before number cause (Refused found ∷ rest) e = let same : before + 1 ≡ number = cc in let one : cause_of_line found ≡ cause = cc in rw (same, one)
+refused_read r before number cause (Whole text ∷ rest) e = at (line_read r (before + 1) (line_of text)) refl e (λ after f. refused_read after (before + 1) number cause rest f)
+  where
+    at : (o : Outcome Reading AuditCause) → line_read r (before + 1) (line_of text) ≡ o → ending_at (before + 1) o (λ after. ending_after audit_rules after (before + 1) rest) ≡ endings.Refused number cause
+        → ((after : Reading) → ending_after audit_rules after (before + 1) rest ≡ endings.Refused number cause → texts_until audit_rules (closing audit_rules) after (before + 1) rest ≡ refusal_text number cause ∷ [])
+        → texts_at audit_rules (before + 1) o (λ q. texts_until audit_rules (closing audit_rules) q (before + 1) rest) ≡ refusal_text number cause ∷ []
+    at (Refuses found) is f ih = let same : before + 1 ≡ number = cc in let one : found ≡ cause = cc in rw (same, one)
+    at (Goes after texts) is f ih =
+        ap (λ ts. ts ++ texts_until audit_rules (closing audit_rules) after (before + 1) rest) (taken r (before + 1) text after texts (line_of text) refl is).quiet ∙ ih after f
+
+-- an auditor kept to its promises
+pub promises : Laws → ((opening : ℕ) (trail : List Record) → AreInRange trail → IsFaultless opening trail → IsSound opening trail)
+    → (capacity : ℕ) (lines : List Line) → AreLines lines → groups_finding capacity [] (groups_of lines) ≡ None → AllKeepPromises capacity lines
+promises laws sound capacity lines h none g =
+    let trail = trail_of g (acts_in (groups_of lines)) in
+    let f : IsFaultless capacity trail = faultless laws capacity (groups_of lines) none g in
+    let ranges : AreInRange trail = trail_in g (acts_in (groups_of lines)) (acts_in_range (groups_of lines) (groups_in lines h)) in
+    let s : IsSound capacity trail = sound capacity trail ranges f in
+    record {
+      within_capacity = λ x. held-sound capacity trail s x;
+      paid = λ before after x c k is. message-paid trail (follow-stand capacity [] trail (stand-from capacity trail s)) before after x c k is;
+      disjoint = payments-apart trail (follow-stand capacity [] trail (stand-from capacity trail s));
+      within_budget = λ x. count-sound capacity trail s x;
+    }
+
+-- where the answer is yes, they kept their promises
+pub answer_kept : Laws → ((opening : ℕ) (trail : List Record) → AreInRange trail → IsFaultless opening trail → IsSound opening trail)
+    → (capacity : ℕ) (input : List ℕ) (lines : List Line) (answer : Answer) → report_lines capacity input ≡ Some lines → AreLines lines → answer ≡ answer_of capacity lines → IsKept capacity input (Ok answer)
+answer_kept laws sound capacity input lines (answers.Yes granted sent) is h e = (lines, is, promises laws sound capacity lines h (none (groups_finding capacity [] (groups_of lines)) e))
+  where
+    none : (f : Option Finding) → answers.Yes granted sent ≡ answer_by f (acts_in (groups_of lines)) → f ≡ None
+    none None k = refl
+    none (Some finding) k = absurd cc
+answer_kept laws sound capacity input lines (answers.No line cause) is h e = tt

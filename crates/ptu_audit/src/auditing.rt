@@ -1,0 +1,75 @@
+ghost use Rattle.std.specs.Prelude.{◌≡◌, ◌≤◌, ◌++◌, ◌∷◌, [], ℕ, List, Some, length, OnOk, IsErrOf};
+ghost use Rattle.std.specs.Io.KnownBytes.{IsAtEnd, prepend_known};
+ghost use Rattle.ptu_outside.specs.Ends.{StopsAtEnd};
+ghost use Rattle.ptu_outside.specs.Handing.{HasPutPart};
+ghost use Rattle.ptu_lines.specs.Script.{script_lines};
+ghost use Rattle.ptu_report.specs.Reported.{HasReportedAllRead};
+ghost use Rattle.ptu_report.specs.Rules.{texts_of};
+ghost use Rattle.ptu_audit.specs.Audited.{AnswerIsWritten, CountsRead, CountsWrite, IsAnswer, IsKept};
+ghost use Rattle.ptu_audit.specs.Reading.{audit_rules, opening};
+
+use crate::answer::{Answer, AuditFault};
+use crate::auditor::Auditor;
+use ptu_outside::{Sink, Source};
+use ptu_report::{Ending, Stop, report};
+use ptu_trail::laws::{faultless_so_far, faultless_trails};
+use std::alloc::Global;
+
+/// Audits the report that the source has left, whose grandmasters begin with this capacity, in
+/// sixteenths of a message per second: whether each line has the form of a report's and is in order,
+/// and then whether the grandmasters kept their promises, by their decisions and the datagrams that
+/// they sent. The one line of output, which says the answer or names the refused line, is handed to
+/// the sink in one piece, and its rest again until all is taken. The report is read to its end, or
+/// to the first refused line; at most 67108865 octets of it, and nothing behind the end.
+///
+/// # Errors
+/// `Line` exactly where a line is refused, with the first one, after the line of output that names
+/// it was written. `Read` exactly where the source failed, `Write` exactly where the sink failed,
+/// and `OutOfMemory`.
+pub fn audit<S: Source, K: Sink>(
+    alloc: Global,
+    capacity: u64,
+    source: &mut S,
+    sink: &mut K,
+) -> Result<Answer, AuditFault>
+    // The answer is that to all lines of the report, or names the first that is refused.
+    ensures exact { (input : List ℕ) → S.left source.old ≡ Some input →
+        IsAnswer capacity input result }
+    // Where it is yes, each grandmaster kept its promises.
+    ensures promises { (input : List ℕ) → S.left source.old ≡ Some input →
+        IsKept capacity input result }
+    // It was written.
+    ensures written { (input : List ℕ) → S.left source.old ≡ Some input →
+        AnswerIsWritten K.written K.handed sink.old sink.new result }
+    ensures end { OnOk result (IsAtEnd (S.left source.new)) }
+    // What was written is a front of the output, whatever is answered.
+    ensures front { (input : List ℕ) → S.left source.old ≡ Some input
+        → HasPutPart K.written K.handed sink.old sink.new
+        (texts_of audit_rules (opening capacity) (script_lines input)) }
+    // Where the source failed, nothing was written.
+    ensures all_read { IsErrOf result AuditFault.Read
+        → HasReportedAllRead K.written K.handed sink.old sink.new audit_rules (opening capacity)
+        (S.left source.old) (S.left source.new) }
+    ensures taken { (octets : List ℕ)
+        × (S.left source.old ≡ prepend_known octets (S.left source.new))
+        × (length octets ≤ 67108865) }
+    ensures ends { StopsAtEnd (S.ends source.old) (S.ends source.new) }
+    // A fault is answered exactly where there was one.
+    ensures source_counts { CountsRead result (S.faults source.old) (S.faults source.new) }
+    ensures sink_counts { CountsWrite result (K.faults sink.old) (K.faults sink.new) }
+{
+    // A trail without a fault is sound.
+    faultless_so_far();
+    faultless_trails();
+    let mut auditor = Auditor::new(alloc, capacity);
+    match report(alloc, &mut auditor, source, sink) {
+        Ok(Ending::Whole { .. }) => match auditor.answer() {
+            Ok(answer) => Ok(answer),
+            Err(_) => Err(AuditFault::OutOfMemory),
+        },
+        Ok(Ending::Refused { number, cause }) => Err(AuditFault::Line { number, cause }),
+        Err(Stop::Read) => Err(AuditFault::Read),
+        Err(Stop::Write) => Err(AuditFault::Write),
+        Err(Stop::OutOfMemory) => Err(AuditFault::OutOfMemory),
+    }
+}

@@ -1,0 +1,15 @@
+-- Every script keeps to the whole headline.
+use Rattle.std.proofs.Common.{ℕ, List}
+use Rattle.ptu_lab.specs.Headline.{KeepsHeadline}
+use Rattle.ptu_world.specs.World.{Stock}
+use Rattle.ptu_world.proofs.Headline.{decides_by_room, pays_periods, says_so, selects_best, within_budget, within_capacity}
+
+pub keeps_headline : (stock : Stock) (script : List ℕ) → KeepsHeadline stock script
+keeps_headline stock script = record {
+  within_capacity = within_capacity stock script;
+  granted_by_room = decides_by_room stock script;
+  own_periods = pays_periods stock script;
+  within_budget = within_budget stock script;
+  best_master = selects_best stock script;
+  says_so = says_so stock script;
+}

@@ -1,0 +1,19 @@
+-- The headline, whole: what every script keeps to, and that its report says so.
+use Rattle.std.specs.Prelude.{ℕ, List}
+use Rattle.ptu_world.specs.Headline.{DecidesByRoom, PaysPeriods, SaysSo, SelectsBest, WithinBudget, WithinCapacity}
+use Rattle.ptu_world.specs.World.{Stock}
+
+-- what every script keeps to, with so many judges of each rule
+pub record KeepsHeadline (stock : Stock) (script : List ℕ) : Type 0 where
+  -- granted rates never sum above capacity
+  pub within_capacity : WithinCapacity stock script
+  -- a request is granted exactly where its rate fits beside the other live grants, and else answered with the duration zero
+  pub granted_by_room : DecidesByRoom stock script
+  -- every message takes a period of its own inside a live grant
+  pub own_periods : PaysPeriods stock script
+  -- and up to every moment all of them are within the capacity summed over it
+  pub within_budget : WithinBudget stock script
+  -- each slave selects its best eligible master
+  pub best_master : SelectsBest stock script
+  -- and the report says so, line by line
+  pub says_so : SaysSo stock script

@@ -1,0 +1,153 @@
+//! The lab's nodes are set up.
+ghost use Rattle.std.specs.Prelude.{◌≡◌, ℕ, [], map, false, cond, nat_eq, Some, None, IfOk};
+ghost use Rattle.std.specs.Option.{MatchOption};
+ghost use Rattle.std.specs.HashMap.{get};
+ghost use Rattle.ptu_script.specs.Limits.{IsGrandmasterWithin, IsNamed, IsSlaveWithin};
+ghost use Rattle.ptu_script.specs.declared.command.Command.TheVariants as commands;
+ghost use Rattle.ptu_world.specs.Deeds as world;
+ghost use Rattle.ptu_world.specs.Report.{Course};
+ghost use Rattle.ptu_lab.specs.declared.lab.Node.TheVariants as described;
+ghost use Rattle.ptu_lab.specs.Steps.{HasSetUp, HasStepped, IsNoSlave};
+ghost use Rattle.ptu_lab.specs.Standing.{StandsAs, StandsFor};
+
+use crate::grandmaster_node::GrandmasterNode;
+use crate::lab::{Lab, Node};
+use crate::slave_node::SlaveNode;
+use crate::stock::take_judge;
+use ptu_judges::Rule;
+use ptu_script::{Cause, GrandmasterSetup, SlaveSetup};
+use ptu_units::OutOfMemory;
+use std::alloc::Global;
+use std::collections::HashMap;
+
+// Takes the slave at an address out, if one is there; what else is there is lost.
+fn take_slave(nodes: &mut HashMap<u32, Node>, ip: u32) -> Option<SlaveNode>
+    ensures found { MatchOption result (IsNoSlave (get nat_eq nodes.old ip))
+        (λ node. get nat_eq nodes.old ip ≡ Some (described.Slave node)) }
+    ensures others { (q : ℕ) → get nat_eq nodes.new q
+        ≡ cond (nat_eq ip q) None (get nat_eq nodes.old q) }
+{
+    match nodes.remove(&ip) {
+        None | Some(Node::Grandmaster(_)) => None,
+        Some(Node::Slave(node)) => Some(node),
+    }
+}
+
+impl Lab {
+    // A new node at an address that no other has, before the first event.
+    fn set_up(&mut self, ip: u32, node: Node) -> Result<Option<Cause>, OutOfMemory>
+        ensures { IfOk result (λ refused. (w : world.Node) →
+            StandsAs (λ n. map (λ j. held j) n.slave.judges.items) ip false node w
+            → HasSetUp
+            (StandsFor (λ n. map (λ j. held j) n.slave.judges.items)
+            (map (λ j. held j) self.old.stock.flags.items)
+            (map (λ j. held j) self.old.stock.gaps.items) self.old)
+            (StandsFor (λ n. map (λ j. held j) n.slave.judges.items)
+            (map (λ j. held j) self.new.stock.flags.items)
+            (map (λ j. held j) self.new.stock.gaps.items) self.new)
+            ip w refused) }
+    {
+        if self.has_begun {
+            return Ok(Some(Cause::Order));
+        }
+        if self.nodes.contains_key(&ip) {
+            return Ok(Some(Cause::Node));
+        }
+        self.nodes.insert(ip, node)?;
+        Ok(None)
+    }
+
+    /// A grandmaster is set up.
+    ///
+    /// # Errors
+    /// `OutOfMemory`.
+    pub fn set_up_grandmaster(
+        &mut self,
+        alloc: Global,
+        setup: &GrandmasterSetup,
+    ) -> Result<Option<Cause>, OutOfMemory>
+        requires limits { IsGrandmasterWithin setup.now }
+        ensures { IfOk result (λ refused. (line : ℕ) → HasStepped line
+            (StandsFor (λ n. map (λ j. held j) n.slave.judges.items)
+            (map (λ j. held j) self.old.stock.flags.items)
+            (map (λ j. held j) self.old.stock.gaps.items) self.old)
+            (StandsFor (λ n. map (λ j. held j) n.slave.judges.items)
+            (map (λ j. held j) self.new.stock.flags.items)
+            (map (λ j. held j) self.new.stock.gaps.items) self.new)
+            [] (commands.Grandmaster setup.now) refused) }
+    {
+        let node = GrandmasterNode::new(alloc, setup);
+        self.set_up(setup.ip, Node::Grandmaster(node))
+    }
+
+    /// A slave without masters is set up.
+    ///
+    /// # Errors
+    /// `OutOfMemory`.
+    pub fn set_up_slave(
+        &mut self,
+        alloc: Global,
+        setup: &SlaveSetup,
+    ) -> Result<Option<Cause>, OutOfMemory>
+        requires limits { IsSlaveWithin setup.now }
+        ensures { IfOk result (λ refused. (line : ℕ) → HasStepped line
+            (StandsFor (λ n. map (λ j. held j) n.slave.judges.items)
+            (map (λ j. held j) self.old.stock.flags.items)
+            (map (λ j. held j) self.old.stock.gaps.items) self.old)
+            (StandsFor (λ n. map (λ j. held j) n.slave.judges.items)
+            (map (λ j. held j) self.new.stock.flags.items)
+            (map (λ j. held j) self.new.stock.gaps.items) self.new)
+            [] (commands.Slave setup.now) refused) }
+    {
+        let node = SlaveNode::new(alloc, setup)?;
+        self.set_up(setup.ip, Node::Slave(node))
+    }
+
+    /// The slave at an address gets a master at the end of its list, with a judge of the rule.
+    ///
+    /// # Errors
+    /// `OutOfMemory`.
+    pub fn add_master(
+        &mut self,
+        alloc: Global,
+        slave: u32,
+        ip: u32,
+        priority: u8,
+        rule: Rule,
+    ) -> Result<Option<Cause>, OutOfMemory>
+        requires means { (c : Course) × StandsFor
+            (λ n. map (λ j. held j) n.slave.judges.items)
+            (map (λ j. held j) self.old.stock.flags.items)
+            (map (λ j. held j) self.old.stock.gaps.items) self.old c }
+        requires named { IsNamed rule }
+        ensures { IfOk result (λ refused. (line : ℕ) → HasStepped line
+            (StandsFor (λ n. map (λ j. held j) n.slave.judges.items)
+            (map (λ j. held j) self.old.stock.flags.items)
+            (map (λ j. held j) self.old.stock.gaps.items) self.old)
+            (StandsFor (λ n. map (λ j. held j) n.slave.judges.items)
+            (map (λ j. held j) self.new.stock.flags.items)
+            (map (λ j. held j) self.new.stock.gaps.items) self.new)
+            [] (commands.Master slave ip priority rule) refused) }
+    {
+        if self.has_begun {
+            return Ok(Some(Cause::Order));
+        }
+        let node = match take_slave(&mut self.nodes, slave) {
+            None => return Ok(Some(Cause::Node)),
+            Some(node) => node,
+        };
+        if node.place(ip).is_some() {
+            return Ok(Some(Cause::Node));
+        }
+        if node.masters() >= 16 {
+            return Ok(Some(Cause::Full));
+        }
+        let judge = match take_judge(&mut self.stock, rule) {
+            None => return Ok(Some(Cause::Stock)),
+            Some(judge) => judge,
+        };
+        let node = node.with_master(alloc, ip, priority, judge)?;
+        self.nodes.insert(slave, Node::Slave(node))?;
+        Ok(None)
+    }
+}

@@ -1,0 +1,110 @@
+//! What is said of what a slave of a script heard.
+
+ghost use Rattle.std.specs.Prelude.{◌≡◌, ◌++◌, ◌∷◌, [], length, map, OnOk};
+ghost use Rattle.ptu_slave_messages.specs.Heard.{failed_by, reply_in};
+ghost use Rattle.ptu_world.specs.Report.{text_at};
+ghost use Rattle.ptu_world.specs.Slaves.{heard_said, reason_of, signal_said};
+ghost use Rattle.ptu_lab.specs.SlaveStatements.{IsOfOne, is_ignored, is_unsent};
+
+use crate::saying::say;
+use ptu_report::Texts;
+use ptu_report_lines::{Hearing, Reason, Received, Statement};
+use ptu_slave::{Heard, HeardReply, Master, Signal, SlaveReason};
+use ptu_units::OutOfMemory;
+
+// Why a slave ignored a datagram, as it is said.
+fn said_reason(reason: SlaveReason) -> Reason
+    ensures { result ≡ reason_of reason }
+{
+    match reason {
+        SlaveReason::Fault(fault) => Reason::Fault(fault),
+        SlaveReason::UnknownType(code) => Reason::Type(code),
+        SlaveReason::Other(code) => Reason::Other(code),
+        SlaveReason::Stranger => Reason::Stranger,
+        SlaveReason::Domain(domain) => Reason::Domain(domain),
+        SlaveReason::Target => Reason::Target,
+    }
+}
+
+// What is said of what a TLV said.
+fn said_signal(signal: Signal) -> Statement
+    ensures { result ≡ signal_said signal }
+{
+    let received = match signal {
+        Signal::Grant(kind, seconds) => Received::Grant { kind, seconds },
+        Signal::Denial(kind) => Received::Denial { kind },
+        Signal::Cancel(code) => Received::Cancel { code },
+        Signal::Ack(code) => Received::Ack { code },
+    };
+    Statement::Received(received)
+}
+
+// Says what each TLV of a Signaling said.
+fn say_signals(texts: &mut Texts, line: u64, signals: &[Signal]) -> Result<(), OutOfMemory>
+    ensures { OnOk result
+        (texts.new ≡ texts.old ++ map (text_at line) (map signal_said signals.now)) }
+{
+    for signal in signals {
+        say(texts, line, said_signal(*signal))?;
+    }
+    Ok(())
+}
+
+/// Adds the texts of what a slave with these masters heard.
+///
+/// # Errors
+/// `OutOfMemory`.
+pub fn say_heard(
+    texts: &mut Texts,
+    line: u64,
+    masters: &[Master],
+    heard: &Heard,
+) -> Result<(), OutOfMemory>
+    requires { IsOfOne (length masters.now) heard.now }
+    ensures { OnOk result
+        (texts.new ≡ texts.old ++ map (text_at line) (heard_said masters.now heard.now)) }
+{
+    let hearing = match heard {
+        Heard::Ignored(reason) => {
+            return say(texts, line, Statement::Ignored(said_reason(*reason)));
+        }
+        Heard::Signals { list, .. } => return say_signals(texts, line, list.list()),
+        Heard::Announce { at, master, class } => Hearing::Announce {
+            master: masters[*master].ip,
+            class: *class,
+            at: *at,
+        },
+        Heard::Sync { at, master, seq } => Hearing::Sync {
+            master: masters[*master].ip,
+            seq: *seq,
+            at: *at,
+        },
+        Heard::FollowUp { at, master } => Hearing::FollowUp {
+            master: masters[*master].ip,
+            at: *at,
+        },
+        Heard::DelayResp { at, master, seq } => Hearing::DelayResp {
+            master: masters[*master].ip,
+            seq: *seq,
+            at: *at,
+        },
+    };
+    say(texts, line, Statement::Heard(hearing))
+}
+
+/// Whether the datagram was ignored, and so was no event.
+pub fn was_ignored(heard: &Heard) -> bool
+    ensures { result ≡ is_ignored heard.now }
+{
+    matches!(heard, Heard::Ignored(_))
+}
+
+/// Whether a reply to the datagram failed to be sent.
+pub fn was_unsent(heard: &Heard) -> bool
+    ensures { result ≡ is_unsent (reply_in heard.now) }
+{
+    match heard {
+        Heard::Signals { reply, .. } => matches!(reply, HeardReply::Failed),
+        _ => false,
+    }
+}

@@ -1,0 +1,10 @@
+pub mod Apart
+mod Sums
+mod Places
+mod Standing
+mod Ported
+mod Fresh
+mod Whole
+pub mod Refused
+mod Alone
+mod Taken

@@ -1,0 +1,6 @@
+use Rattle.std.proofs.Common.{◌≡◌, take}
+use Rattle.ptu_pools.specs.Refusal.{capacities}
+use Rattle.ptu_pools.proofs.judging.total.Given as goal
+
+abbrev pub invariant-loop-pool : goal.invariant-loop-pool
+invariant-loop-pool l = l.sum ≡ capacities (take l.pool-index l.pools)

@@ -1,0 +1,4 @@
+pub mod ShowCauses
+pub mod JoinCauses
+pub mod Partners
+pub mod Relation

@@ -1,0 +1,12 @@
+pub mod Answers
+pub mod Datagram
+pub mod Reading
+pub mod Shown
+pub mod Lines
+pub mod Samples
+pub mod Halves
+pub mod Joins
+pub mod Joined
+pub mod JoinLines
+pub mod Waiting
+pub mod JoinSamples

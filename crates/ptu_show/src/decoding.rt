@@ -1,0 +1,148 @@
+ghost use Rattle.std.specs.Prelude.{◌≡◌, ◌≤◌, ◌++◌, ◌∷◌, [], ℕ, List, length, IfOk, OnOk, OnErr};
+ghost use Rattle.std.specs.Prelude.{IsErrOf};
+ghost use Rattle.std.specs.Io.KnownBytes.{IsAtEnd, prepend_known};
+ghost use Rattle.ptu_outside.specs.Ends.{StopsAtEnd};
+ghost use Rattle.ptu_outside.specs.Handing.{HasPutPart};
+ghost use Rattle.ptu_report.specs.Reported.{HasReportedAllRead};
+ghost use Rattle.ptu_show.specs.Answers.{CountsRead, CountsWrite, IfWritten};
+ghost use Rattle.ptu_show.specs.Datagram.{datagram_text};
+ghost use Rattle.ptu_show.specs.Shown.{numbered, shown_lines, show_rules, HasShowCause, HasShown};
+
+use crate::datagram::MessageText;
+use crate::fault::LabFault;
+use crate::lines::ShowLine;
+use crate::reading::read_datagram;
+use ptu_lines::LineCause;
+use ptu_messages::{MessageFault, read_message};
+use ptu_octets::u16_at;
+use ptu_outside::{Sink, Source};
+use ptu_report::{Ending, Reporter, Stop, Texts, report};
+use ptu_script::Cause;
+use ptu_texts::FaultText;
+use ptu_units::OutOfMemory;
+use std::alloc::Global;
+
+// Decodes each line for itself, in room for a datagram.
+#[derive(Drop)]
+struct Decoder {
+    room: [u8; 2048],
+}
+
+// Adds the line of a datagram.
+#[tactic(auto, unfolding(crate::specs::Datagram::datagram_text))]
+fn add_datagram(
+    alloc: Global,
+    number: u64,
+    bytes: &[u8],
+    texts: &mut Texts,
+) -> Result<(), OutOfMemory>
+    ensures { OnOk result
+        (texts.new ≡ texts.old ++ numbered number (datagram_text bytes.now) ∷ []) }
+{
+    match read_message(alloc, bytes) {
+        Ok(message) => {
+            let text = MessageText {
+                length: u16_at(bytes, 2),
+                message: &message,
+            };
+            texts.add(&ShowLine::Message { number, text })
+        }
+        Err(MessageFault::OutOfMemory) => Err(OutOfMemory),
+        Err(fault) => {
+            let fault = FaultText(fault);
+            texts.add(&ShowLine::Fault { number, fault })
+        }
+    }
+}
+
+impl Reporter for Decoder {
+    type Meaning = ();
+
+    type Cause = Cause;
+
+    ghost rules = { show_rules };
+
+    ghost stands_for = { λ _ _. Unit {0} };
+
+    fn take(
+        &mut self,
+        alloc: Global,
+        number: u64,
+        line: &[u8],
+        texts: &mut Texts,
+    ) -> Result<Option<Cause>, OutOfMemory> {
+        match read_datagram(line, &mut self.room) {
+            Ok(None) => Ok(None),
+            Ok(Some(size)) => {
+                add_datagram(alloc, number, &self.room[..size], texts)?;
+                Ok(None)
+            }
+            Err(cause) => Ok(Some(Cause::from(cause))),
+        }
+    }
+
+    fn close(
+        &mut self,
+        _: Global,
+        lines: u64,
+        texts: &mut Texts,
+    ) -> Result<Option<Cause>, OutOfMemory> {
+        texts.add(&ShowLine::End { lines })?;
+        Ok(None)
+    }
+
+    fn refuse(number: u64, cause: &Cause, texts: &mut Texts) -> Result<(), OutOfMemory> {
+        let cause = *cause;
+        texts.add(&ShowLine::Bad { number, cause })
+    }
+
+    fn cause_of(cause: LineCause) -> Cause {
+        Cause::from(cause)
+    }
+}
+
+/// Decodes the datagrams that stand in the lines that the source has left, each in hexadecimal
+/// digits, up to the first line that is refused, and answers the number of lines. An empty line and
+/// one that begins with `#` do nothing but count. Each line of output is handed to the sink in one
+/// piece, and its rest again until all is taken, before the next line is read. At most 67108865
+/// octets are read, and nothing behind the end.
+///
+/// # Errors
+/// `Line` exactly where a line is refused, after the line of output that names it was written; its
+/// cause is `Size`, `Long`, `Text` or `Field(1)`. `Read` exactly where the source failed, `Write`
+/// exactly where the sink failed, and `OutOfMemory`.
+pub fn show<S: Source, K: Sink>(
+    alloc: Global,
+    source: &mut S,
+    sink: &mut K,
+) -> Result<u64, LabFault>
+    // The whole output was written, and the answer says how it ends.
+    ensures whole { (input : List ℕ) → S.left source.old ≡ Some input → IfWritten result
+        (λ ending. HasShown K.written K.handed sink.old sink.new input ending) }
+    ensures causes { (input : List ℕ) → S.left source.old ≡ Some input
+        → IfWritten result HasShowCause }
+    ensures end { OnOk result (IsAtEnd (S.left source.new)) }
+    // What was written is a front of the output, whatever is answered.
+    ensures front { (input : List ℕ) → S.left source.old ≡ Some input
+        → HasPutPart K.written K.handed sink.old sink.new (shown_lines input) }
+    // Where the source failed, that is all that belongs to the lines that were read whole.
+    ensures all_read { IsErrOf result LabFault.Read
+        → HasReportedAllRead K.written K.handed sink.old sink.new show_rules tt
+        (S.left source.old) (S.left source.new) }
+    ensures taken { (octets : List ℕ)
+        × (S.left source.old ≡ prepend_known octets (S.left source.new))
+        × (length octets ≤ 67108865) }
+    ensures ends { StopsAtEnd (S.ends source.old) (S.ends source.new) }
+    // A fault is answered exactly where there was one.
+    ensures source_counts { CountsRead result (S.faults source.old) (S.faults source.new) }
+    ensures sink_counts { CountsWrite result (K.faults sink.old) (K.faults sink.new) }
+{
+    let mut decoder = Decoder { room: [0; 2048] };
+    match report(alloc, &mut decoder, source, sink) {
+        Ok(Ending::Whole { lines }) => Ok(lines),
+        Ok(Ending::Refused { number, cause }) => Err(LabFault::Line { number, cause }),
+        Err(Stop::Read) => Err(LabFault::Read),
+        Err(Stop::Write) => Err(LabFault::Write),
+        Err(Stop::OutOfMemory) => Err(LabFault::OutOfMemory),
+    }
+}

@@ -1,0 +1,30 @@
+//! Datagrams in text: `show` decodes datagrams, line by line, `join` joins the halves of Syncs in
+//! two steps, and `read_datagram` reads the line of one.
+#![tactic(auto)]
+
+mod datagram;
+mod decoding;
+mod fault;
+mod half;
+mod halving;
+mod join_fault;
+mod join_lines;
+mod joining;
+mod laws;
+mod lines;
+mod reading;
+mod waiting;
+
+pub use decoding::show;
+pub use fault::LabFault;
+pub use join_fault::JoinFault;
+pub use joining::join;
+pub use laws::{joining_is_relation, sample_joins, sample_lines, two_steps_are_undone};
+pub use ptu_lines::LineCause;
+pub use ptu_script::Cause;
+pub use reading::read_datagram;
+
+#[cfg(test)]
+mod join_tests;
+#[cfg(test)]
+mod tests;

@@ -1,0 +1,184 @@
+-- Nothing that a grandmaster sends is a half of a Sync in two steps.
+use Rattle.std.proofs.Common.{◌≡◌, ◌≢◌, ℕ, ◌+◌, ◌%◌, Bool, true, false, cond, eqb, List, [], ◌∷◌, ◌++◌, map, length, Result, Ok, Err, refl, sym, ap, ◌∙◌, arith}
+use Rattle.std.specs.List.{AllByRecursion}
+use Rattle.std.proofs.lemmas.Bool.{ne_eqb}
+use Rattle.ptu_units.specs.declared.kind.Kind.{Kind}
+use Rattle.ptu_units.specs.declared.kind.Kind.TheVariants.{Announce, Sync, DelayResp}
+use Rattle.ptu_units.specs.Kind.{code_of}
+use Rattle.ptu_octets.specs.Number.{low_nibble_at}
+use Rattle.ptu_outside.specs.declared.channel.Channel.TheVariants as channels
+use Rattle.ptu_outside.specs.Departure.{Departure}
+use Rattle.ptu_header.specs.declared.header.Header.{Header}
+use Rattle.ptu_header.specs.declared.header.PortIdentity.{PortIdentity}
+use Rattle.ptu_header.specs.declared.fault.HeaderFault.{HeaderFault}
+use Rattle.ptu_header.specs.Reading.{header_in}
+use Rattle.ptu_header.proofs.Readings.{found_is}
+use Rattle.ptu_tlvs.specs.declared.tlv.Tlv.{Tlv}
+use Rattle.ptu_tlvs.specs.declared.tlv.Tlv.TheVariants.{Cancel}
+use Rattle.ptu_messages.specs.declared.message.Message.{Message}
+use Rattle.ptu_history.specs.declared.client.Client.{Client}
+use Rattle.ptu_history.specs.Client.{table_of}
+use Rattle.ptu_history.specs.Core.{core_moment}
+use Rattle.ptu_history.specs.Counts.{counts}
+use Rattle.ptu_history.specs.Events as events
+use Rattle.ptu_history.specs.Events.{Answer}
+use Rattle.ptu_history.specs.History.{Record}
+use Rattle.ptu_history.specs.Live as live
+use Rattle.ptu_history.specs.Shedding.{shed_grants}
+use Rattle.ptu_history.specs.Step.{delay_answer}
+use Rattle.ptu_history.specs.Turns.{due_grants, message_of}
+use Rattle.ptu_shard.specs.declared.config.GmConfig.{GmConfig}
+use Rattle.ptu_shard.specs.Answered.{responses}
+use Rattle.ptu_shard.specs.Messages.{channel_of, departure_of, message_of_response, message_of_turn, octets_sent, response_of}
+use Rattle.ptu_items.specs.declared.heard.Heard.{Heard}
+use Rattle.ptu_items.specs.declared.heard.Heard.TheVariants as heard
+use Rattle.ptu_items.specs.declared.reason.GmReason.{GmReason}
+use Rattle.ptu_items.specs.Items.{heard_in}
+use Rattle.ptu_items.specs.Deciding.{answer_to, client_of, decisions_of, opened_with, reply_after}
+use Rattle.ptu_items.specs.Replies.{cancels_to, identity_of, lease_of, signaling_of, signaling_to}
+use Rattle.ptu_grandmaster.specs.declared.driving.GmEvent.{GmEvent}
+use Rattle.ptu_grandmaster.specs.declared.driving.GmEvent.TheVariants.{Take, Turn, Class, Capacity}
+use Rattle.ptu_lanes.specs.Rounds.{Exchange, replies, reply_if_any, reply_in, reply_with}
+use Rattle.ptu_daemon.specs.Sends.{Standing, event_sends, heard_sends, sends_by, standing_after}
+use Rattle.ptu_twostep.specs.Pairs.{step_at}
+use Rattle.ptu_twostep.specs.Steps.{has_two_steps, step_by, step_read, step_of}
+use Rattle.ptu_twostep.specs.declared.step.Step.TheVariants.{OneStepSync, TwoStepSync, FollowUp, Other}
+use Rattle.ptu_twostep.specs.Telling.{is_half}
+
+-- ---- octets
+
+general_read : (octets : List ℕ) (r : Result (Header × ℕ) HeaderFault) → header_in octets ≡ r → low_nibble_at octets 0 ≢ 8
+    → is_half (step_read channels.General octets r) ≡ false
+general_read octets (Err fault) is other = refl
+general_read octets (Ok read) is other = by (eqb read.1 44)
+  where
+    type : read.0.message_type ≡ low_nibble_at octets 0
+    type = ap (λ (h : Header). h.message_type) (found_is octets read.0 read.1 is).fields
+
+    by : (b : Bool) → is_half (cond b (step_by channels.General octets read.0) Other) ≡ false
+    by true = ap (λ c. is_half (cond c FollowUp Other)) (ne_eqb read.0.message_type 8 (λ e. other (sym type ∙ e)))
+    by false = refl
+
+-- on the general channel, whatever is no Follow_Up by its messageType
+pub general_whole : (octets : List ℕ) → low_nibble_at octets 0 ≢ 8 → is_half (step_of channels.General octets) ≡ false
+unfolding step_of
+general_whole octets other = by (eqb (length octets) 44)
+  where
+    by : (b : Bool) → is_half (cond b (step_read channels.General octets (header_in octets)) Other) ≡ false
+    by true = general_read octets (header_in octets) refl other
+    by false = refl
+
+event_read : (octets : List ℕ) (r : Result (Header × ℕ) HeaderFault) → has_two_steps octets ≡ false → is_half (step_read channels.Event octets r) ≡ false
+event_read octets (Err fault) clear = refl
+event_read octets (Ok read) clear = by (eqb read.1 44) (eqb read.0.message_type 0)
+  where
+    by : (b c : Bool) → is_half (cond b (cond c (cond (has_two_steps octets) TwoStepSync OneStepSync) Other) Other) ≡ false
+    by true true = ap (λ two. is_half (cond two TwoStepSync OneStepSync)) clear
+    by true false = refl
+    by false c = refl
+
+-- on the event channel, whatever has twoStepFlag clear
+pub event_whole : (octets : List ℕ) → has_two_steps octets ≡ false → is_half (step_of channels.Event octets) ≡ false
+unfolding step_of
+event_whole octets clear = by (eqb (length octets) 44)
+  where
+    by : (b : Bool) → is_half (cond b (step_read channels.Event octets (header_in octets)) Other) ≡ false
+    by true = event_read octets (header_in octets) clear
+    by false = refl
+
+-- ---- one message
+
+-- a message of another type than Follow_Up, on the general channel
+whole_message : (m : Message) → m.header.message_type % 16 ≢ 8 → is_half (step_of channels.General (octets_sent m)) ≡ false
+unfolding octets_sent
+whole_message m other = general_whole (octets_sent m) other
+
+whole_sync : (config : GmConfig) (x sequence : ℕ) → is_half (step_of channels.Event (octets_sent (message_of_turn config x Sync sequence))) ≡ false
+unfolding octets_sent
+whole_sync config x sequence = event_whole (octets_sent (message_of_turn config x Sync sequence)) refl
+
+whole_turned : (config : GmConfig) (x : ℕ) (k : Kind) (sequence : ℕ) → is_half (step_of (channel_of k) (octets_sent (message_of_turn config x k sequence))) ≡ false
+whole_turned config x Announce sequence = whole_message (message_of_turn config x Announce sequence) (λ e. omega (arith, e))
+whole_turned config x Sync sequence = whole_sync config x sequence
+whole_turned config x DelayResp sequence = whole_message (message_of_turn config x DelayResp sequence) (λ e. omega (arith, e))
+
+whole_response : (config : GmConfig) (x : ℕ) (c : Client) (request : Header) → is_half (step_at (response_of config x c request)) ≡ false
+whole_response config x c request = whole_message (message_of_response config x request) (λ e. omega (arith, e))
+
+whole_signaling : (config : GmConfig) (ip : ℕ) (target : PortIdentity) (sequence : ℕ) (tlvs : List Tlv) →
+    is_half (step_at (signaling_to config ip target sequence tlvs)) ≡ false
+whole_signaling config ip target sequence tlvs = whole_message (signaling_of config target sequence tlvs) (λ e. omega (arith, e))
+
+-- ---- several
+
+abbrev pub AreWhole : List Departure → Type 0
+AreWhole datagrams = AllByRecursion (λ d. is_half (step_at d) ≡ false) datagrams
+
+pub whole_both : (xs ys : List Departure) → AreWhole xs → AreWhole ys → AreWhole (xs ++ ys)
+whole_both [] ys a b = b
+whole_both (x ∷ xs) ys a b = (a.0, whole_both xs ys a.1 b)
+
+pub whole_cancels : (config : GmConfig) (before : ℕ) (leases : List (Client × Kind)) → AreWhole (cancels_to config before leases)
+whole_cancels config before [] = tt
+whole_cancels config before (lease ∷ leases) =
+    (whole_signaling config lease.0.ip (identity_of lease.0) (before % 65536) (Cancel (code_of lease.1) ∷ []), whole_cancels config (before + 1) leases)
+
+whole_turns : (config : GmConfig) (past : List Record) (x : ℕ) (grants : List live.Grant) →
+    AreWhole (map (λ g. departure_of config x (message_of past g)) grants)
+whole_turns config past x [] = tt
+whole_turns config past x (g ∷ grants) = (whole_turned config x (message_of past g).kind (message_of past g).sequence, whole_turns config past x grants)
+
+whole_if_by : (b : Bool) (xs : List Departure) → AreWhole xs → AreWhole (cond b xs [])
+whole_if_by true xs h = h
+whole_if_by false xs h = tt
+
+whole_responses : (answer : Answer) (d : Departure) → is_half (step_at d) ≡ false → AreWhole (responses answer d)
+whole_responses events.Answered d h = (h, tt)
+whole_responses events.NoGrant d h = tt
+whole_responses (events.TooSoon earliest) d h = tt
+
+whole_heard : (gm : Standing) (i t from : ℕ) (h : Result Heard GmReason) → AreWhole (heard_sends gm i t from h)
+whole_heard gm i t from (Err reason) = tt
+whole_heard gm i t from (Ok (heard.DelayReq header)) =
+    let c = client_of from header in
+    let x = core_moment gm.past t (events.DelayReq c) in
+    whole_if_by (eqb i (table_of c)) (responses (delay_answer gm.past x c) (response_of gm.config x c header))
+    (whole_responses (delay_answer gm.past x c) (response_of gm.config x c header) (whole_response gm.config x c header))
+whole_heard gm i t from (Ok (heard.Asks header [])) = tt
+whole_heard gm i t from (Ok (heard.Asks header (item ∷ items))) =
+    let opened = opened_with gm.opening gm.config in
+    whole_if_by (eqb i 4) (reply_after gm.config opened gm.past t from header (item ∷ items) ∷ []) (
+      whole_signaling gm.config from header.source header.sequence
+          (map answer_to (decisions_of opened gm.past t (client_of from header) (item ∷ items))),
+      tt,
+    )
+
+whole_event : (gm : Standing) (i : ℕ) (event : GmEvent) → AreWhole (event_sends gm i event)
+whole_event gm i (Take t from octets) = whole_heard gm i t from (heard_in gm.config octets)
+whole_event gm i (Turn t j) =
+    let x = core_moment gm.past t (events.Turn j) in
+    whole_if_by (eqb i j) (map (λ g. departure_of gm.config x (message_of gm.past g)) (due_grants gm.past x j)) (whole_turns gm.config gm.past x (due_grants gm.past x j))
+whole_event gm i (Class class) = tt
+whole_event gm i (Capacity t capacity) =
+    let x = core_moment gm.past t (events.Resize capacity) in
+    let shed = map lease_of (shed_grants gm.past x capacity) in
+    whole_if_by (eqb i 4) (cancels_to gm.config (counts gm.past).shed shed) (whole_cancels gm.config (counts gm.past).shed shed)
+
+pub whole_sends : (gm : Standing) (i : ℕ) (events : List GmEvent) → AreWhole (sends_by gm i events)
+unfolding sends_by
+whole_sends gm i [] = tt
+whole_sends gm i (event ∷ later) = whole_both (event_sends gm i event) _ (whole_event gm i event) (whole_sends (standing_after gm event) i later)
+
+whole_if_any : (config : GmConfig) (from : ℕ) (header : Header) (answers : List Tlv) → AreWhole (reply_if_any config from header answers)
+whole_if_any config from header [] = tt
+whole_if_any config from header (answer ∷ answers) = (whole_signaling config from header.source header.sequence (answer ∷ answers), tt)
+
+whole_with : (config : GmConfig) (from : ℕ) (h : Result Heard GmReason) (answers : List Tlv) → AreWhole (reply_with config from h answers)
+whole_with config from (Ok (heard.Asks header items)) answers = whole_if_any config from header answers
+whole_with config from (Ok (heard.DelayReq header)) answers = tt
+whole_with config from (Err reason) answers = tt
+
+pub whole_replies : (config : GmConfig) (exchanges : List Exchange) → AreWhole (replies config exchanges)
+whole_replies config [] = tt
+whole_replies config (exchange ∷ exchanges) =
+    whole_both (reply_in config exchange) _ (whole_with config _ (heard_in config exchange.datagram.bytes) exchange.answers) (whole_replies config exchanges)

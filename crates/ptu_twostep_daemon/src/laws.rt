@@ -1,0 +1,24 @@
+//! What holds of all that a grandmaster sends. The function does nothing: its contract is the law.
+
+ghost use Rattle.std.specs.Prelude.{◌≡◌, ℕ, List, false};
+ghost use Rattle.std.specs.List.{AllByRecursion};
+ghost use Rattle.ptu_units.specs.declared.kind.Kind.{Kind};
+ghost use Rattle.ptu_history.specs.declared.client.Client.{Client};
+ghost use Rattle.ptu_shard.specs.declared.config.GmConfig.{GmConfig};
+ghost use Rattle.ptu_items.specs.Replies.{cancels_to};
+ghost use Rattle.ptu_grandmaster.specs.declared.driving.GmEvent.{GmEvent};
+ghost use Rattle.ptu_lanes.specs.Rounds.{Exchange, replies};
+ghost use Rattle.ptu_daemon.specs.Sends.{Standing, sends_by};
+ghost use Rattle.ptu_twostep.specs.Pairs.{step_at};
+ghost use Rattle.ptu_twostep.specs.Telling.{is_half};
+
+/// Nothing that a grandmaster sends is a Sync in two steps or a Follow_Up: what events make it send
+/// by any of its ports, and the replies and CANCELs of lanes.
+pub fn sends_no_half()
+    ensures events { (gm : Standing) (i : ℕ) (events : List GmEvent)
+        → AllByRecursion (λ d. is_half (step_at d) ≡ false) (sends_by gm i events) }
+    ensures replies { (config : GmConfig) (exchanges : List Exchange)
+        → AllByRecursion (λ d. is_half (step_at d) ≡ false) (replies config exchanges) }
+    ensures cancels { (config : GmConfig) (before : ℕ) (leases : List (Client × Kind))
+        → AllByRecursion (λ d. is_half (step_at d) ≡ false) (cancels_to config before leases) }
+{}
