@@ -16,11 +16,12 @@ use ptu_trail::laws::{faultless_so_far, faultless_trails};
 use std::alloc::Global;
 
 /// Audits the report that the source has left, whose grandmasters begin with this capacity, in
-/// sixteenths of a message per second: whether each line has the form of a report's and is in order,
-/// and then whether the grandmasters kept their promises, by their decisions and the datagrams that
-/// they sent. The one line of output, which says the answer or names the refused line, is handed to
-/// the sink in one piece, and its rest again until all is taken. The report is read to its end, or
-/// to the first refused line; at most 67108865 octets of it, and nothing behind the end.
+/// sixteenths of a message per second: whether each line has the form of a report's and is in
+/// order, and then whether the grandmasters kept their promises, by their decisions and the
+/// datagrams that they sent. The one line of output, which says the answer or names the refused
+/// line, is handed to the sink in one piece, and its rest again until all is taken. The report is
+/// read to its end, or to the first refused line; at most 67108865 octets of it, and nothing behind
+/// the end.
 ///
 /// # Errors
 /// `Line` exactly where a line is refused, with the first one, after the line of output that names

@@ -82,8 +82,8 @@ fn first_line(group: &[Line]) -> u64
 }
 
 impl Auditor {
-    /// An auditor before any line, of grandmasters that begin with this capacity, in sixteenths of a
-    /// message per second.
+    /// An auditor before any line, of grandmasters that begin with this capacity, in sixteenths of
+    /// a message per second.
     pub(crate) fn new(alloc: Global, capacity: u64) -> Auditor
         ensures { StandsFor result (opening capacity) }
     {

@@ -1,5 +1,5 @@
-//! A law of audits. The function does nothing: its contract is the law, which holds of every list of
-//! groups of lines, wherever it comes from.
+//! A law of audits. The function does nothing: its contract is the law, which holds of every list
+//! of groups of lines, wherever it comes from.
 
 ghost use Rattle.std.specs.Prelude.{◌≡◌, [], ℕ, List, None};
 ghost use Rattle.ptu_audit.specs.declared.line.Line.{Line};

@@ -18,8 +18,8 @@ use std::alloc::Global;
 use std::collections::BTreeMap;
 
 /// The trail of each grandmaster by its address, as long as nothing is found, and how many grants
-/// and timing messages they have. Each begins with the same capacity, in sixteenths of a message per
-/// second.
+/// and timing messages they have. Each begins with the same capacity, in sixteenths of a message
+/// per second.
 #[derive(Drop)]
 pub(crate) struct Ledger {
     alloc: Global,
@@ -149,7 +149,8 @@ impl Ledger {
         }
     }
 
-    /// Adds acts to the trails: the first finding, or none. After a finding no further call is made.
+    /// Adds acts to the trails: the first finding, or none. After a finding no further call is
+    /// made.
     ///
     /// # Errors
     /// `OutOfMemory`.

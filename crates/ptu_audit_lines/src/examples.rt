@@ -12,7 +12,8 @@ ghost use Rattle.ptu_audit_lines.specs.declared.entry.ReportLine.TheVariants as 
 pub fn decisions_on_requests()
     ensures granted { line_of (codes "2 granted announce 1 at 0 until 300")
         ≡ Some (lines.At 2 (entries.Decided (decisions.Granted kinds.Announce (pos 1) 0 300))) }
-    ensures granted_wide { line_of (codes "2 granted sync 4 at 4611686018427387904 until 9999999999999999999")
+    ensures granted_wide { line_of
+        (codes "2 granted sync 4 at 4611686018427387904 until 9999999999999999999")
         ≡ Some (lines.At 2 (entries.Decided (decisions.Granted
         kinds.Sync (pos 4) 4611686018427387904 9999999999999999999))) }
     ensures short { line_of (codes "3 short sync -7 at 0 others 5 rate 2048 capacity 2047")

@@ -322,10 +322,10 @@ fn end<'a>(line: &[u8]) -> Option<ReportLine<'a>>
     Some(ReportLine::End { lines, datagrams })
 }
 
-/// What a line of a report says, without its 0A, or `None` exactly where it has none of the forms of
-/// a report's lines. A line that names a refused line of a script is none of them. The octets of a
-/// datagram that was sent are put into the buffer; after any other line its content is not said. No
-/// memory is taken.
+/// What a line of a report says, without its 0A, or `None` exactly where it has none of the forms
+/// of a report's lines. A line that names a refused line of a script is none of them. The octets of
+/// a datagram that was sent are put into the buffer; after any other line its content is not said.
+/// No memory is taken.
 #[tactic(auto, unfolding(crate::specs::Entry::line_of))]
 pub fn read_line<'a>(line: &[u8], buffer: &'a mut [u8; 2048]) -> Option<ReportLine<'a>>
     ensures { result ≡ specs.line_of line.now }

@@ -16,8 +16,8 @@ use ptu_outside::Port;
 
 impl<P: Port> Gm<P> {
     /// Closes the grandmaster: what its tables hold at the greatest of the book's moment and their
-    /// own, how many asks it granted and how many it refused as short, and its ports as they are. The
-    /// last is that of its Signaling messages.
+    /// own, how many asks it granted and how many it refused as short, and its ports as they are.
+    /// The last is that of its Signaling messages.
     pub fn close(self) -> (Closed<P>, P)
         ensures counts { let n = moment_for_all 0 self.book (tables self) in result.0.counts
             ≡ share_of (live_rows n self.s0.rows) ∷ share_of (live_rows n self.s1.rows)

@@ -12,8 +12,8 @@ use ptu_shard::{GmConfig, Shard};
 use std::alloc::Global;
 use std::marker::Model;
 
-/// A grandmaster, with its four tables, its book, and the port of its Signaling messages. The shares
-/// of the tables sum to the book's total.
+/// A grandmaster, with its four tables, its book, and the port of its Signaling messages. The
+/// shares of the tables sum to the book's total.
 #[derive(Drop)]
 pub struct Gm<P: Port> {
     pub(crate) alloc: Global,
@@ -57,8 +57,8 @@ impl<P: Port> Model for Gm<P> {
 
 impl<P: Port> Gm<P> {
     /// A grandmaster without grants, of this capacity in sixteenths of a message per second, at
-    /// moment 0. The first four ports are those of its tables, and the last is that of its Signaling
-    /// messages.
+    /// moment 0. The first four ports are those of its tables, and the last is that of its
+    /// Signaling messages.
     pub fn new(
         alloc: Global,
         config: GmConfig,
@@ -119,8 +119,8 @@ impl<P: Port> Gm<P> {
         }
     }
 
-    /// How many rows the table of this index, from 0 to 3, keeps. A turn of it hands at most so many
-    /// datagrams to its port.
+    /// How many rows the table of this index, from 0 to 3, keeps. A turn of it hands at most so
+    /// many datagrams to its port.
     pub fn count(&self, table: usize) -> usize
         requires { table < 4 }
         ensures { result ≡ length (table_at table self.now).rows }

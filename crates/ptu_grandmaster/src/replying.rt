@@ -21,8 +21,8 @@ use ptu_tlvs::{Ask, Tlv};
 /// How many items a Signaling has at most.
 const MOST_ITEMS: usize = 32;
 
-// The TLV that answers an item: a grant has R set and the granted duration, a denial R clear and the
-// duration 0.
+// The TLV that answers an item: a grant has R set and the granted duration, a denial R clear and
+// the duration 0.
 fn answer(outcome: &Outcome) -> Tlv
     ensures value { result ≡ answer_to (decision_seen outcome.now) }
     ensures sendable { HasCode (item_seen outcome.now) → IsSendable result }
@@ -57,8 +57,9 @@ fn answers(outcomes: &[Outcome]) -> [Tlv; 32]
     tlvs
 }
 
-/// Writes the reply with the answers to these outcomes, to this port and with this sequenceId, to the
-/// front of `out`. It answers the size in octets and leaves the rest of `out` (IEEE 1588-2019 clause
+/// Writes the reply with the answers to these outcomes, to this port and with this sequenceId, to
+/// the front of `out`. It answers the size in octets and leaves the rest of `out` (IEEE 1588-2019
+/// clause
 /// 16.1.4).
 pub fn reply_of(
     config: &GmConfig,

@@ -91,7 +91,8 @@ impl<P: Port> Gm<P> {
         ensures sends { IfOk result (λ c. HandsOver P.Port self.old.reply self.new.reply
             (cancels_to self.old.config self.old.sequence (leases_shed c.shed)) c.sent c.failed) }
         ensures count { IfOk result (λ c. c.sent + c.failed ≡ length c.shed) }
-        ensures ports { (self.new.s0.port ≡ self.old.s0.port) × (self.new.s1.port ≡ self.old.s1.port)
+        ensures ports { (self.new.s0.port ≡ self.old.s0.port)
+            × (self.new.s1.port ≡ self.old.s1.port)
             × (self.new.s2.port ≡ self.old.s2.port) × (self.new.s3.port ≡ self.old.s3.port) }
         ensures config { self.new.config ≡ self.old.config }
         // They are those of the core's change after each history that the grandmaster stands for,

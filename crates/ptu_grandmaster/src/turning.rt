@@ -25,8 +25,8 @@ use ptu_units::Moment;
 impl<P: Port> Gm<P> {
     /// The table of this index, from 0 to 3, takes a turn at the greatest of `t`, the book's moment
     /// and its own: it sends one message to each client and kind, of Announce and Sync, that is
-    /// lawful, by earliest lawful moment, then client, then kind. A failed send spends its period and
-    /// its sequence number like one that succeeded.
+    /// lawful, by earliest lawful moment, then client, then kind. A failed send spends its period
+    /// and its sequence number like one that succeeded.
     pub fn turn(&mut self, table: usize, t: Moment) -> Turned
         requires { table < 4 }
         ensures at { result.at ≡ max (max t self.old.book.moment) (table_at table self.old).moment }

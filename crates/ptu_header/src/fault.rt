@@ -4,7 +4,8 @@ ghost use Rattle.ptu_header.specs.HeaderFault.{text_of};
 use std::error::Error;
 use std::fmt;
 
-/// Why the octets of a datagram begin with no header: the first cause that applies, in the order of the variants.
+/// Why the octets of a datagram begin with no header: the first cause that applies, in the order of
+/// the variants.
 #[derive(Clone, Copy, Debug, PartialEq, Eq, Hash)]
 pub enum HeaderFault {
     /// There are fewer than the 34 octets of a header.

@@ -2,7 +2,8 @@ ghost use Rattle.std.specs.Prelude.{◌≡◌, ◌+◌, ◌≤◌, length};
 
 use ptu_octets::{u16_at, u64_at};
 
-/// The identity of a port: of the clock that it belongs to, and its number there (IEEE 1588-2019 clause 5.3.5).
+/// The identity of a port: of the clock that it belongs to, and its number there (IEEE 1588-2019
+/// clause 5.3.5).
 #[derive(Clone, Copy, Debug, PartialEq, Eq, PartialOrd, Ord, Hash)]
 pub struct PortIdentity {
     /// The clockIdentity, its first octet the highest.

@@ -1,4 +1,5 @@
-//! Laws of the definitions that the contracts of this crate cite: each is the contract of a function that does nothing.
+//! Laws of the definitions that the contracts of this crate cite: each is the contract of a
+//! function that does nothing.
 
 ghost use Rattle.std.specs.Prelude.{◌≡◌, ◌⊎◌, ◌↔◌, ◌<◌, ◌≤◌, ◌^◌, ℕ, List, All, Ok, Err};
 ghost use Rattle.ptu_header.specs.Header.{HasWidths, SpellsHeader, AlwaysSpellsHeader};
@@ -12,18 +13,22 @@ ghost use Rattle.ptu_header.specs.declared.fault.HeaderFault.{HeaderFault};
 /// Every list of octets spells one header with one messageLength, or has one fault, and never both.
 pub fn one_reading()
     ensures one_or_other { (octets : List ℕ) →
-        ((h : Header) × (n : ℕ) × SpellsHeader octets h n) ⊎ ((f : HeaderFault) × HasHeaderFault octets f) }
+        ((h : Header) × (n : ℕ) × SpellsHeader octets h n)
+        ⊎ ((f : HeaderFault) × HasHeaderFault octets f) }
     ensures never_both { (octets : List ℕ) (h : Header) (n : ℕ) (f : HeaderFault) →
         SpellsHeader octets h n → HasHeaderFault octets f → ⊥ }
     ensures one_header { (octets : List ℕ) (h h' : Header) (n n' : ℕ) →
         SpellsHeader octets h n → SpellsHeader octets h' n' → (h ≡ h') × (n ≡ n') }
-    ensures one_fault { (octets : List ℕ) (f f' : HeaderFault) → HasHeaderFault octets f → HasHeaderFault octets f' → f ≡ f' }
+    ensures one_fault { (octets : List ℕ) (f f' : HeaderFault) → HasHeaderFault octets f →
+        HasHeaderFault octets f' → f ≡ f' }
 {}
 
 /// Octets spell only headers whose fields fit them, and each such header is read where it was sent.
 pub fn sent_is_read()
-    ensures widths { (octets : List ℕ) (h : Header) (n : ℕ) → All (λ o. o < 256) octets → SpellsHeader octets h n → HasWidths h }
-    ensures again { (h : Header) (n : ℕ) → HasWidths h → 34 ≤ n → n < 2 ^ 16 → AlwaysSpellsHeader (sent_header h n) h n }
+    ensures widths { (octets : List ℕ) (h : Header) (n : ℕ) → All (λ o. o < 256) octets →
+        SpellsHeader octets h n → HasWidths h }
+    ensures again { (h : Header) (n : ℕ) → HasWidths h → 34 ≤ n → n < 2 ^ 16 →
+        AlwaysSpellsHeader (sent_header h n) h n }
 {}
 
 /// The reading of octets and the relations on them say the same.

@@ -54,8 +54,8 @@ fn kept_fields(bytes: &[u8]) -> Header
     }
 }
 
-/// The header that the octets of a datagram begin with, and the messageLength in it, in octets from 34 to the
-/// number of `bytes`. The fault is the first that applies (IEEE 1588-2019 clause 13.3).
+/// The header that the octets of a datagram begin with, and the messageLength in it, in octets from
+/// 34 to the number of `bytes`. The fault is the first that applies (IEEE 1588-2019 clause 13.3).
 pub fn read_header(bytes: &[u8]) -> Result<(Header, u16), HeaderFault>
     // What is read is spelled so, and the fault that is answered is there.
     ensures spelled { IfOk result (λ read. SpellsHeader bytes.now read.0 read.1) }

@@ -62,7 +62,8 @@ fn datagram(alloc: Global, octets: &[u8], length: usize) -> Result<Vec<u8>, Allo
     Ok(whole)
 }
 
-// Asserts that the header is sent as these octets, and that they are read as this header whatever follows.
+// Asserts that the header is sent as these octets, and that they are read as this header whatever
+// follows.
 fn assert_sent(
     rt: &impl Abort,
     alloc: Global,
@@ -267,7 +268,8 @@ fn faults_come_in_their_order(rt: HostRuntime) -> Result<(), Fail> {
     let sound = Ok((header(12, CLIENT, 0), 54));
     let alloc = rt.alloc();
     assert_changed(&rt, alloc, &[], sound)?;
-    // What is reserved or ignored is free, and a messageLength that no message has is one of a header.
+    // What is reserved or ignored is free, and a messageLength that no message has is one of a
+    // header.
     assert_changed(
         &rt,
         alloc,

@@ -43,8 +43,9 @@ fn sent(header: Header, length: u16) -> [u8; 34]
     octets
 }
 
-/// Writes the header of a message of `length` octets as it is sent: majorSdoId 0, versionPTP 2, minorVersionPTP 1,
-/// logMessageInterval 7F, the controlField of its type, and 0 in what is reserved (IEEE 1588-2019 clause 13.3).
+/// Writes the header of a message of `length` octets as it is sent: majorSdoId 0, versionPTP 2,
+/// minorVersionPTP 1, logMessageInterval 7F, the controlField of its type, and 0 in what is
+/// reserved (IEEE 1588-2019 clause 13.3).
 pub fn write_header(header: &Header, length: u16, out: &mut [u8; 34])
     requires message_type { header.now.message_type < 16 }
     requires least { 34 ≤ length }

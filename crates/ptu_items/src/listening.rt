@@ -122,8 +122,8 @@ fn hear_message(
     }
 }
 
-/// What a grandmaster hears in a datagram: a Delay_Req in its domain, or the REQUESTs and CANCELs of
-/// a Signaling in its domain and for its port, in order; or the first reason why it ignores it.
+/// What a grandmaster hears in a datagram: a Delay_Req in its domain, or the REQUESTs and CANCELs
+/// of a Signaling in its domain and for its port, in order; or the first reason why it ignores it.
 ///
 /// # Errors
 /// `OutOfMemory` comes for the lists of a Signaling alone.
@@ -146,8 +146,8 @@ pub fn hear(
     }
 }
 
-/// The REQUESTs and CANCELs of a Signaling in the grandmaster's domain and for its port, in order; or
-/// the first reason why a datagram is none. A Delay_Req is `Other` here.
+/// The REQUESTs and CANCELs of a Signaling in the grandmaster's domain and for its port, in order;
+/// or the first reason why a datagram is none. A Delay_Req is `Other` here.
 ///
 /// # Errors
 /// `OutOfMemory` comes for the lists of a Signaling alone.

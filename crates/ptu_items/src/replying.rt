@@ -35,8 +35,9 @@ fn header(config: &GmConfig, sequence: u16) -> Header
 }
 
 #[tactic(auto, unfolding(ptu_shard::specs::Messages::octets_sent))]
-/// Writes the reply with these answers, to this port and with this sequenceId, to the front of `out`.
-/// It answers the size in octets and leaves the rest of `out` (IEEE 1588-2019 clause 16.1.4).
+/// Writes the reply with these answers, to this port and with this sequenceId, to the front of
+/// `out`. It answers the size in octets and leaves the rest of `out` (IEEE 1588-2019 clause
+/// 16.1.4).
 pub fn write_reply(
     config: &GmConfig,
     to: &PortIdentity,
@@ -58,8 +59,9 @@ pub fn write_reply(
     write_signaling(&header(config, sequence), to, answers, out)
 }
 
-/// Writes the CANCEL to a client whose grant of the kind was shed, with this sequenceId, to the front
-/// of `out`. It answers the size in octets and leaves the rest of `out` (IEEE 1588-2019 clause
+/// Writes the CANCEL to a client whose grant of the kind was shed, with this sequenceId, to the
+/// front of `out`. It answers the size in octets and leaves the rest of `out` (IEEE 1588-2019
+/// clause
 /// 16.1.4.3).
 pub fn cancel_of(
     config: &GmConfig,

@@ -34,8 +34,9 @@ fn plain_number(word: &[u8]) -> Option<u64>
     }
 }
 
-/// NUM: the number that a word writes in decimal digits, at most 19 of them and without a leading 0 unless it is `0`,
-/// or `None` where the word is of another form or the number is not from `least` to `greatest`.
+/// NUM: the number that a word writes in decimal digits, at most 19 of them and without a leading 0
+/// unless it is `0`, or `None` where the word is of another form or the number is not from `least`
+/// to `greatest`.
 pub fn number(word: &[u8], least: u64, greatest: u64) -> Option<u64>
     ensures { result ≡ number_within word.now least greatest }
 {
@@ -71,8 +72,8 @@ fn four_parts(word: &[u8]) -> Option<(&[u8], &[u8], &[u8], &[u8])>
     }
 }
 
-/// IP: four NUM from 0 to 255, joined by dots, the first of them the highest octet of the address, or `None` where the
-/// word is of another form.
+/// IP: four NUM from 0 to 255, joined by dots, the first of them the highest octet of the address,
+/// or `None` where the word is of another form.
 pub fn ip(word: &[u8]) -> Option<u32>
     ensures { result ≡ ip_of word.now }
 {
@@ -81,7 +82,8 @@ pub fn ip(word: &[u8]) -> Option<u32>
     Some(((a * 256 + b) * 256 + c) * 256 + d)
 }
 
-/// CLOCK: the number that 16 hexadecimal digits of either case write, or `None` where the word is of another form.
+/// CLOCK: the number that 16 hexadecimal digits of either case write, or `None` where the word is
+/// of another form.
 pub fn clock(word: &[u8]) -> Option<u64>
     ensures { result ≡ clock_of word.now }
 {
@@ -91,11 +93,12 @@ pub fn clock(word: &[u8]) -> Option<u64>
     value(word, 16)
 }
 
-/// HEX: how many octets the word writes, put at the front of `out`, or `None` where the word is of another form: an even
-/// number of hexadecimal digits of either case, for 1 to 2048 octets, or `-` for none. After `None` the content of `out`
-/// is not said.
+/// HEX: how many octets the word writes, put at the front of `out`, or `None` where the word is of
+/// another form: an even number of hexadecimal digits of either case, for 1 to 2048 octets, or `-`
+/// for none. After `None` the content of `out` is not said.
 pub fn octets(word: &[u8], out: &mut [u8; 2048]) -> Option<usize>
-    ensures form { MatchOption (octets_of word.now) (result ≡ None) (λ octets. result ≡ Some (length octets)) }
+    ensures form { MatchOption (octets_of word.now) (result ≡ None)
+        (λ octets. result ≡ Some (length octets)) }
     ensures octets { IfSome (octets_of word.now) (λ octets. take (length octets) out.new ≡ octets) }
     ensures rest { IfSome result (λ n. drop n out.new ≡ drop n out.old) }
     ensures within { IfSome result (λ n. n ≤ 2048) }
@@ -155,7 +158,8 @@ fn in_range(value: i8, least: i8, greatest: i8) -> Option<i8>
     }
 }
 
-/// LOG: a NUM, or `-` and a NUM that is not 0, or `None` where the word is of another form or the number is not from
+/// LOG: a NUM, or `-` and a NUM that is not 0, or `None` where the word is of another form or the
+/// number is not from
 /// `least` to `greatest`.
 pub fn log(word: &[u8], least: i8, greatest: i8) -> Option<i8>
     ensures { result ≡ log_within word.now least greatest }

@@ -11,8 +11,10 @@ use crate::cause::LineCause;
 /// A script is cut after each 0A and nowhere else, and nothing of it is lost.
 pub fn pieces_of_a_script()
     ensures whole { (script : List ℕ) → flat_map (λ piece. piece) (pieces script) ≡ script }
-    ensures ended { (text rest : List ℕ) → HasNoEnd text → pieces (text ++ 10 ∷ rest) ≡ (text ++ 10 ∷ []) ∷ pieces rest }
-    ensures last { (octet : ℕ) (text : List ℕ) → HasNoEnd (octet ∷ text) → pieces (octet ∷ text) ≡ (octet ∷ text) ∷ [] }
+    ensures ended { (text rest : List ℕ) → HasNoEnd text →
+        pieces (text ++ 10 ∷ rest) ≡ (text ++ 10 ∷ []) ∷ pieces rest }
+    ensures last { (octet : ℕ) (text : List ℕ) → HasNoEnd (octet ∷ text) →
+        pieces (octet ∷ text) ≡ (octet ∷ text) ∷ [] }
 {}
 
 /// What a reader that has read nothing gives is the lines of all that its source has left.
@@ -27,19 +29,24 @@ pub fn lines_of_scripts()
     ensures one { script_lines (codes "turn") ≡ Whole (codes "turn") ∷ [] }
     ensures ended { script_lines (codes "turn\n") ≡ Whole (codes "turn") ∷ [] }
     ensures empty { script_lines (codes "\n#\n") ≡ Whole [] ∷ Whole (codes "#") ∷ [] }
-    ensures refused { script_lines (codes "a\n\tb\nc") ≡ Whole (codes "a") ∷ Refused LineCause.Text ∷ [] }
+    ensures refused { script_lines (codes "a\n\tb\nc")
+        ≡ Whole (codes "a") ∷ Refused LineCause.Text ∷ [] }
 {}
 
-/// The words of a line, joined by single spaces, are the line, and there is one more of them than it has spaces.
+/// The words of a line, joined by single spaces, are the line, and there is one more of them than
+/// it has spaces.
 pub fn words_of_a_line()
     ensures joined { (line : List ℕ) → join_with_byte 32 (words_of line) ≡ line }
-    ensures count { (line : List ℕ) → length (words_of line) ≡ count_by (λ octet. octet == 32) line + 1 }
+    ensures count { (line : List ℕ) →
+        length (words_of line) ≡ count_by (λ octet. octet == 32) line + 1 }
 {}
 
 /// NUM is what a number below 10^19 is printed as, and LOG is what a signed number is printed as.
 pub fn numbers_of_words()
-    ensures number { (word : List ℕ) (n : ℕ) → (number_of word ≡ Some n) ↔ ((word ≡ decimal n) × (n < 10 ^ 19)) }
-    ensures log { (word : List ℕ) (z : ℤ) → (log_of word ≡ Some z) ↔ ((word ≡ signed_decimal z) × (unsigned_abs z < 10 ^ 19)) }
+    ensures number { (word : List ℕ) (n : ℕ) → (number_of word ≡ Some n) ↔
+        ((word ≡ decimal n) × (n < 10 ^ 19)) }
+    ensures log { (word : List ℕ) (z : ℤ) → (log_of word ≡ Some z) ↔
+        ((word ≡ signed_decimal z) × (unsigned_abs z < 10 ^ 19)) }
 {}
 
 /// Words of each form, and words of none.

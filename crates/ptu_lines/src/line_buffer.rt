@@ -110,7 +110,8 @@ impl LineBuffer {
         &self.octets[self.start..self.end]
     }
 
-    /// Takes a line of `size` octets from the front of those that wait; the first `text` of them are its text.
+    /// Takes a line of `size` octets from the front of those that wait; the first `text` of them
+    /// are its text.
     pub(crate) fn take_line(&mut self, text: usize, size: usize)
         requires within { text ≤ size }
         requires waits { size ≤ length self.old.waiting }

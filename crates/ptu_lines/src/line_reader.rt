@@ -63,7 +63,8 @@ fn is_plain_text(text: &[u8]) -> bool
     is_plain
 }
 
-// Why a line is refused, if it is: so many octets stand before it, and the first `text` of its own are its text.
+// Why a line is refused, if it is: so many octets stand before it, and the first `text` of its own
+// are its text.
 fn refusal(before: usize, octets: &[u8], text: usize) -> Option<LineCause>
     requires before { before ≤ LONGEST_SCRIPT }
     requires octets { length octets.now ≤ 8193 }
@@ -84,8 +85,8 @@ fn refusal(before: usize, octets: &[u8], text: usize) -> Option<LineCause>
     }
 }
 
-// How many octets of those that wait are the next line's text, and how many the line has with its 0A, as far as
-// they are known.
+// How many octets of those that wait are the next line's text, and how many the line has with its
+// 0A, as far as they are known.
 fn extent(waiting: &[u8], end: Option<usize>) -> (usize, usize)
     requires { end ≡ position is_end (take 8193 waiting.now) }
     ensures known { take result.1 waiting.now ≡ known_of end waiting.now }

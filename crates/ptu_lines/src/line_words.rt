@@ -48,7 +48,8 @@ fn part(text: &[u8], separator: u8, place: usize) -> Option<&[u8]>
     }
 }
 
-/// The number of words of a line: what stands between its spaces, so that an empty line is one empty word.
+/// The number of words of a line: what stands between its spaces, so that an empty line is one
+/// empty word.
 pub fn words(line: &[u8]) -> usize
     ensures { result ≡ length (words_of line.now) }
 {

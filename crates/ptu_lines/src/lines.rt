@@ -9,8 +9,8 @@ use ptu_outside::Source;
 use ptu_units::OutOfMemory;
 use std::alloc::Global;
 
-/// The lines of a script, read from a source in blocks. `R` is always a `LineReader`: it is a parameter so that a clause
-/// can say what is left behind `source` when the value is dropped.
+/// The lines of a script, read from a source in blocks. `R` is always a `LineReader`: it is a
+/// parameter so that a clause can say what is left behind `source` when the value is dropped.
 pub struct Lines<'a, S, R = LineReader> {
     source: &'a mut S,
     reader: R,
@@ -33,8 +33,8 @@ impl<'a, S: Source> Lines<'a, S> {
     /// The lines of what the source has left. It makes the one buffer.
     ///
     /// # Errors
-    /// `OutOfMemory`; then no clause says what the source is afterwards. A caller that has to know makes the reader
-    /// first, and calls `over`.
+    /// `OutOfMemory`; then no clause says what the source is afterwards. A caller that has to know
+    /// makes the reader first, and calls `over`.
     pub fn new(alloc: Global, source: &'a mut S) -> Result<Lines<'a, S>, OutOfMemory>
         ensures same { IfOk result (AreLinesOf source.entry) }
         ensures source { IfOk result (λ lines. source_of lines ≡ source.old) }

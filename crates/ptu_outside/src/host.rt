@@ -21,7 +21,8 @@ pub trait Host {
     /// The ports and clocks that it was given back last, where there were any and it tells them.
     ghost back: { Self → Option (Opened Self.P Self.C) };
 
-    /// The address and the UDP port numbers at which it opened last, where it did and it tells them.
+    /// The address and the UDP port numbers at which it opened last, where it did and it tells
+    /// them.
     ghost opened_at: { Self → Option Endpoint };
 
     /// How many faults there have been.

@@ -1,4 +1,5 @@
-//! The outside as traits: what input and output are to the rest, with values in memory and over std.
+//! The outside as traits: what input and output are to the rest, with values in memory and over
+//! std.
 #![tactic(auto)]
 
 mod arrival;

@@ -97,7 +97,8 @@ impl Sink for MemSink {
         ensures risen { OnErr result (HasRisen self.old.faults self.new.faults) }
         ensures still { OnOk result (self.new.faults ≡ self.old.faults) }
         ensures no_fall { self.old.faults ≤ self.new.faults }
-        // It fails at the listed calls, and at others only past its room. Else it takes the piece whole.
+        // It fails at the listed calls, and at others only past its room. Else it takes the piece
+        // whole.
         ensures listed { Contains self.old.fails self.new.calls → IsErr result }
         ensures fits { ¬ Contains self.old.fails self.new.calls
             → length self.old.bytes + length piece.now ≤ self.old.room → IsOk result }

@@ -16,12 +16,14 @@ pub trait Sink {
     /// How many faults there have been.
     ghost faults: { Self → ℕ };
 
-    /// Takes octets from the front of `piece`, at least one of a piece that is not empty, and gives how many.
+    /// Takes octets from the front of `piece`, at least one of a piece that is not empty, and gives
+    /// how many.
     fn write(&mut self, piece: &[u8]) -> Result<usize, Failed>
         ensures within { IfOk result (λ n. n ≤ length piece.now) }
         ensures some { IfOk result (λ n. 0 < length piece.now → 0 < n) }
         // What was taken was added. A sink tells after a call exactly where it told before.
-        ensures taken { IfOk result (λ n. written self.new ≡ append_known (written self.old) (take n piece.now)) }
+        ensures taken { IfOk result (λ n.
+            written self.new ≡ append_known (written self.old) (take n piece.now)) }
         ensures kept { OnErr result (written self.new ≡ written self.old) }
         // Whatever became of it, it was handed this piece.
         ensures handed { Grows (handed self.old) (handed self.new) (piece.now ∷ []) }

@@ -16,12 +16,14 @@ pub trait Source {
     /// How many faults there have been.
     ghost faults: { Self → ℕ };
 
-    /// Takes octets into the front of `buf`, and gives how many. With a `buf` that is not empty, 0 is the end of input.
+    /// Takes octets into the front of `buf`, and gives how many. With a `buf` that is not empty, 0
+    /// is the end of input.
     fn read(&mut self, buf: &mut [u8]) -> Result<usize, Failed>
         ensures within { IfOk result (λ n. n ≤ length buf.new) }
         // What was left is what was taken and what is left now. A source tells after a call exactly
         // where it told before.
-        ensures taken { IfOk result (λ n. left self.old ≡ prepend_known (take n buf.new) (left self.new)) }
+        ensures taken { IfOk result (λ n.
+            left self.old ≡ prepend_known (take n buf.new) (left self.new)) }
         ensures end { IfOk result (λ n. n ≡ 0 → 0 < length buf.new → IsAtEnd (left self.new)) }
         ensures ends { IfOk result (λ n. CountsEnd (n == 0 && nat_lt 0 (length buf.new))
             (ends self.old) (ends self.new)) }

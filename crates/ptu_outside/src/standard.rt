@@ -102,7 +102,8 @@ impl<W: Write + Drop> Sink for StdSink<W> {
 
     ghost faults = { λ k. k.faults };
 
-    /// A write that was interrupted is tried again. A writer that takes nothing of a piece is a fault.
+    /// A write that was interrupted is tried again. A writer that takes nothing of a piece is a
+    /// fault.
     fn write(&mut self, piece: &[u8]) -> Result<usize, Failed>
         ensures within { IfOk result (λ n. n ≤ length piece.now) }
         ensures some { IfOk result (λ n. 0 < length piece.now → 0 < n) }

@@ -92,7 +92,8 @@ fn a_text_is_handed_over_whole_and_then_what_is_left_of_it(rt: HostRuntime) -> R
     Ok(())
 }
 
-// A reader and a writer that are interrupted at first, and then give or take one octet a call, to the end.
+// A reader and a writer that are interrupted at first, and then give or take one octet a call, to
+// the end.
 #[derive(Drop)]
 struct Slow {
     calls: u8,

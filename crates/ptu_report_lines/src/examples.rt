@@ -16,20 +16,25 @@ ghost use Rattle.ptu_report_lines.specs.declared.report_line.ReportLine.TheVaria
 
 /// The lines of a grandmaster.
 pub fn lines_of_a_grandmaster()
-    ensures granted { line_text (lines.At 2 (statements.Decided (decisions.Granted kinds.Announce (pos 1) 0 300)))
+    ensures granted { line_text
+        (lines.At 2 (statements.Decided (decisions.Granted kinds.Announce (pos 1) 0 300)))
         ≡ codes "2 granted announce 1 at 0 until 300\n" }
     ensures short { line_text (lines.At 3 (statements.Decided
         (decisions.Short kinds.Sync (negsuc 6) 0 5 2048 2047)))
         ≡ codes "3 short sync -7 at 0 others 5 rate 2048 capacity 2047\n" }
     ensures outside_type { line_text (lines.At 2 (statements.Decided (decisions.OutsideType 3)))
         ≡ codes "2 outside type 3\n" }
-    ensures outside_log { line_text (lines.At 2 (statements.Decided (decisions.OutsideLog kinds.Announce (negsuc 3))))
+    ensures outside_log { line_text
+        (lines.At 2 (statements.Decided (decisions.OutsideLog kinds.Announce (negsuc 3))))
         ≡ codes "2 outside log announce -4\n" }
-    ensures outside_duration { line_text (lines.At 2 (statements.Decided (decisions.OutsideDuration kinds.Sync (pos 0) 59)))
+    ensures outside_duration { line_text
+        (lines.At 2 (statements.Decided (decisions.OutsideDuration kinds.Sync (pos 0) 59)))
         ≡ codes "2 outside duration sync 0 59\n" }
-    ensures cancelled { line_text (lines.At 3 (statements.Decided (decisions.Cancelled kinds.DelayResp 5)))
+    ensures cancelled { line_text
+        (lines.At 3 (statements.Decided (decisions.Cancelled kinds.DelayResp 5)))
         ≡ codes "3 cancelled delay_resp at 5\n" }
-    ensures nothing { line_text (lines.At 4 (statements.Decided (decisions.Nothing kinds.Announce 6)))
+    ensures nothing { line_text
+        (lines.At 4 (statements.Decided (decisions.Nothing kinds.Announce 6)))
         ≡ codes "4 nothing announce at 6\n" }
     ensures no_kind { line_text (lines.At 4 (statements.Decided (decisions.NoKind 2)))
         ≡ codes "4 nothing 2\n" }
@@ -55,13 +60,15 @@ pub fn lines_of_a_grandmaster()
 
 /// The lines of a slave, and those of neither.
 pub fn lines_of_a_slave()
-    ensures announce { line_text (lines.At 9 (statements.Heard (hearings.Announce 0x0A000001 84 2003)))
+    ensures announce { line_text
+        (lines.At 9 (statements.Heard (hearings.Announce 0x0A000001 84 2003)))
         ≡ codes "9 heard announce 10.0.0.1 class 84 at 2003\n" }
     ensures sync { line_text (lines.At 8 (statements.Heard (hearings.Sync 0x0A000001 6 2002)))
         ≡ codes "8 heard sync 10.0.0.1 seq 6 at 2002\n" }
     ensures follow_up { line_text (lines.At 8 (statements.Heard (hearings.FollowUp 0x0A000001 3)))
         ≡ codes "8 heard follow_up 10.0.0.1 at 3\n" }
-    ensures delay_resp { line_text (lines.At 8 (statements.Heard (hearings.DelayResp 0x0A000001 7 4)))
+    ensures delay_resp { line_text
+        (lines.At 8 (statements.Heard (hearings.DelayResp 0x0A000001 7 4)))
         ≡ codes "8 heard delay_resp 10.0.0.1 seq 7 at 4\n" }
     ensures grant { line_text (lines.At 6 (statements.Received (receipts.Grant kinds.Announce 300)))
         ≡ codes "6 grant announce 300\n" }

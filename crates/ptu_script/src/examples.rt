@@ -32,7 +32,8 @@ pub fn good_lines()
           delay_timeout = 3;
           wants = record { announce = pos 4; sync = negsuc 6; delay = None; seconds = 300 };
         }))) }
-    ensures slave_with_timeout { command_of (codes "slave 10.0.2.1 0A00000000000021 1 4 60 2 5 4 -7 0 300 10")
+    ensures slave_with_timeout { command_of
+        (codes "slave 10.0.2.1 0A00000000000021 1 4 60 2 5 4 -7 0 300 10")
         ≡ Ok (Some (commands.Slave (record {
           ip = 0x0A000201;
           clock = 0x0A00000000000021;
@@ -83,9 +84,11 @@ pub fn refused_lines()
     ensures table { command_of (codes "turn 0 10.0.0.1 4") ≡ Err (causes.Field 4) }
     ensures octets { command_of (codes "rx 0 10.0.0.1 10.0.1.17 0c1") ≡ Err (causes.Field 5) }
     ensures class { command_of (codes "class 10.0.0.1 256") ≡ Err (causes.Field 3) }
-    ensures announce_log { command_of (codes "slave 10.0.2.1 0A00000000000021 1 4 60 2 5 -4 0 - 300")
+    ensures announce_log { command_of
+        (codes "slave 10.0.2.1 0A00000000000021 1 4 60 2 5 -4 0 - 300")
         ≡ Err (causes.Field 9) }
-    ensures delay_timeout { command_of (codes "slave 10.0.2.1 0A00000000000021 1 4 60 2 5 1 0 - 300 1")
+    ensures delay_timeout { command_of
+        (codes "slave 10.0.2.1 0A00000000000021 1 4 60 2 5 1 0 - 300 1")
         ≡ Err (causes.Field 13) }
     ensures rule { command_of (codes "judge 1 10.0.2.1 10.0.0.1 gaps") ≡ Err (causes.Field 5) }
 {}

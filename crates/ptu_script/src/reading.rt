@@ -51,7 +51,8 @@ fn is_counted(verb: Verb, line: &[u8]) -> bool
 
 // The command of a line that is no comment.
 fn command(alloc: Global, line: &[u8]) -> Result<Result<Command, Cause>, OutOfMemory>
-    ensures value { IfOk result (λ read. read ≡ command_by (verb_named (unwrap_or (word_of line.now 1) [])) line.now) }
+    ensures value { IfOk result (λ read.
+        read ≡ command_by (verb_named (unwrap_or (word_of line.now 1) [])) line.now) }
     ensures within { IfOk result (λ read. IfOk read IsWithinLimits) }
 {
     match Verb::of(word(line, 1).unwrap_or(&[])) {

@@ -1,5 +1,5 @@
-//! Rows in the two queues of a table. Where a queue is full it is filled anew from the rows, so that
-//! no memory is taken, and entries that no row has any more are gone.
+//! Rows in the two queues of a table. Where a queue is full it is filled anew from the rows, so
+//! that no memory is taken, and entries that no row has any more are gone.
 
 ghost use Rattle.std.specs.Prelude.{◌≡◌, ◌<◌, ◌≤◌, ◌+◌, ◌∷◌, ℕ, length, true};
 ghost use Rattle.std.specs.List.{Contains};
@@ -105,8 +105,8 @@ pub(crate) fn put_end(ends: &mut Queue, rows: &IndexMap<Key, Lease>, row: &Row)
     }
 }
 
-/// Makes this row the one of its client and kind, with its entries in both queues. There is room for
-/// it, so that no memory is taken. Gives the rate of the lease that it replaces.
+/// Makes this row the one of its client and kind, with its entries in both queues. There is room
+/// for it, so that no memory is taken. Gives the rate of the lease that it replaces.
 pub(crate) fn keep_row(
     rows: &mut IndexMap<Key, Lease>,
     edges: &mut Queue,

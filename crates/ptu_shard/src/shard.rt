@@ -67,7 +67,8 @@ impl<P: Port> Model for Shard<P> {
       port = s.port;
     } };
 
-    ghost invariant = { λ s. AreFields (rows_of s.rows.entries) (spare_of s.rows) s.share s.moment s.room s.edges s.ends };
+    ghost invariant = { λ s. AreFields (rows_of s.rows.entries) (spare_of s.rows) s.share
+        s.moment s.room s.edges s.ends };
 }
 
 // For how many entries a queue has room: twice as many as there may be rows, so that it is seldom

@@ -125,7 +125,8 @@ impl<P: Port> Slave<P> {
             StandsFor openings self.old.core (map (λ j. held j) self.old.judges.items) L →
             Steps openings self.old.core self.new.core (map (λ j. held j) self.new.judges.items)
             L t Tick }
-        // It hands these to the port; they are those of the step for each record that it stands for.
+        // It hands these to the port; they are those of the step for each record that it stands
+        // for.
         ensures sends { (handed : List Sending) × HandsOver P.Port self.old.port self.new.port
             (map (departure_of self.old.core.config self.old.core.masters all_ones) handed)
             result.sent result.failed
@@ -152,7 +153,8 @@ impl<P: Port> Slave<P> {
             StandsFor openings self.old.core (map (λ j. held j) self.old.judges.items) L →
             Steps openings self.old.core self.new.core (map (λ j. held j) self.new.judges.items)
             L t Stop }
-        // It hands these to the port; they are those of the step for each record that it stands for.
+        // It hands these to the port; they are those of the step for each record that it stands
+        // for.
         ensures sends { (handed : List Sending) × HandsOver P.Port self.old.port self.new.port
             (map (departure_of self.old.core.config self.old.core.masters all_ones) handed)
             result.sent result.failed

@@ -38,8 +38,8 @@ fn run_over<P: Port, C: Clock, K: Sink>(
     ensures served { IfOk result (λ pair. OnOk pair.1
         (HasServed P.sent P.waiting P.faults C.moments K.written K.handed
         settings.now opened pair.0 sink.old sink.new)) }
-    ensures part { IfOk result (λ pair. OnErr pair.1 ((selections : List Selection) × (sends : ℕ) × (failures : ℕ)
-        × HasPutPart K.written K.handed sink.old sink.new
+    ensures part { IfOk result (λ pair. OnErr pair.1 ((selections : List Selection) × (sends : ℕ)
+        × (failures : ℕ) × HasPutPart K.written K.handed sink.old sink.new
         (texts_of (output settings.now.rounds selections sends failures)))) }
     ensures front { IfOk result (λ pair. OnErr pair.1
         (HasStopped P.sent P.waiting P.faults C.moments K.written K.handed
@@ -121,14 +121,15 @@ pub fn slave<H: Host, K: Sink>(
         (texts_of (output settings.now.rounds selections sends failures))) }
     // Where nothing was opened nothing is written.
     ensures nothing { IsErrOf result DaemonFault.Open → sink.new ≡ sink.old }
-    // Where the sink failed the ports and clocks were given back too; and where they tell all and no
-    // port failed, what was written is a front of what the rounds say.
+    // Where the sink failed the ports and clocks were given back too; and where they tell all and
+    // no port failed, what was written is a front of what the rounds say.
     ensures stopped { IsErrOf result DaemonFault.Write
         → (before : Opened H.P H.C) × (after : Opened H.P H.C)
         × WasOpened (H.opening host.old) before × WasGivenBack (H.back host.new) after
         × HasStopped H.P.sent H.P.waiting H.P.faults H.C.moments K.written K.handed
         settings.now before after sink.old sink.new }
-    // The host was opened at the settings' address and port numbers, and stands on what it stood on.
+    // The host was opened at the settings' address and port numbers, and stands on what it stood
+    // on.
     ensures at { OpenedAt result (H.opened_at host.new) (record {
       ip = settings.now.ip;
       event_port = settings.now.event_port;

@@ -1,4 +1,5 @@
-//! The four TLVs of unicast negotiation: their octets read and written (IEEE 1588-2019 clauses 14.1 and 16.1.4).
+//! The four TLVs of unicast negotiation: their octets read and written (IEEE 1588-2019 clauses 14.1
+//! and 16.1.4).
 #![tactic(auto)]
 
 mod fault;

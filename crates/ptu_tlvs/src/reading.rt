@@ -68,8 +68,8 @@ fn tlv_of(octets: &[u8]) -> Result<Tlv, TlvFault>
     }
 }
 
-/// The TLV that the octets begin with, and its size in octets with its type and length. The fault is the first that
-/// applies (IEEE 1588-2019 clauses 14.1 and 16.1.4).
+/// The TLV that the octets begin with, and its size in octets with its type and length. The fault
+/// is the first that applies (IEEE 1588-2019 clauses 14.1 and 16.1.4).
 pub fn next_tlv(bytes: &[u8]) -> Result<(Tlv, usize), TlvFault>
     // What is read is spelled so, and the fault that is answered is there.
     ensures spelled { IfOk result (λ read. BeginsWithTlv bytes.now read.0 read.1) }

@@ -25,8 +25,8 @@ fn put(out: &mut [u8; 12], octets: &[u8]) -> usize
     octets.len()
 }
 
-/// Writes the TLV to the front of `out` with 0 in what is reserved, and answers its size in octets. It leaves the rest
-/// of `out` (IEEE 1588-2019 clauses 14.1 and 16.1.4).
+/// Writes the TLV to the front of `out` with 0 in what is reserved, and answers its size in octets.
+/// It leaves the rest of `out` (IEEE 1588-2019 clauses 14.1 and 16.1.4).
 pub fn write_tlv(tlv: &Tlv, out: &mut [u8; 12]) -> usize
     requires { IsSendable tlv.now }
 

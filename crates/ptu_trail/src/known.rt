@@ -102,7 +102,8 @@ impl Known {
     pub(crate) fn grant(&mut self, at: u64, kind: Kind, log: Log, until: u64)
         requires { at < 2 ^ 62 }
         ensures { (history : List Record) (c : Client) →
-            IsKnown history c self.old → IsKnown (history ++ Granted at c kind log until ∷ []) c self.new }
+            IsKnown history c self.old →
+            IsKnown (history ++ Granted at c kind log until ∷ []) c self.new }
     {
         let edge = granted_edge(self.lease(kind), at, log);
         self.set(kind, Some(Lease { log, until, edge }));

@@ -17,8 +17,8 @@ use std::alloc::Global;
 
 /// The trail of one grandmaster: what its decisions and messages so far leave, as far as the next
 /// one is judged by it. Each call takes one more record, or a change of capacity with its
-/// sheddings, and answers its first fault. After a fault, or after `OutOfMemory`, a trail stands for
-/// nothing: no further call is made on it.
+/// sheddings, and answers its first fault. After a fault, or after `OutOfMemory`, a trail stands
+/// for nothing: no further call is made on it.
 #[derive(Drop)]
 pub struct Trail {
     capacity: u64,
@@ -178,7 +178,8 @@ impl Trail {
     ) -> Result<Option<Fault>, OutOfMemory>
         ensures fault { IfOk result (λ fault. (opening : ℕ) (history : List Record) →
             StandsFor opening self.old history →
-            fault ≡ first_fault opening history (Capacity at capacity ∷ map (record_of at) shed.now)) }
+            fault ≡ first_fault opening history
+            (Capacity at capacity ∷ map (record_of at) shed.now)) }
         ensures stands { IfOk result (λ fault. IfNone fault ((opening : ℕ) (history : List Record) →
             StandsFor opening self.old history →
             StandsFor opening self.new

@@ -11,7 +11,8 @@ ghost use Rattle.ptu_twostep.specs.Telling.{is_half, told_by};
 /// What is told of a list spells that list, so no two lists are told alike; pairs of datagrams of
 /// which none is a half are told as these.
 pub fn is_whole_where_read()
-    ensures spelled { (sent told : List Departure) → unpair sent ≡ Some told → sent ≡ all_spelled told }
+    ensures spelled { (sent told : List Departure) → unpair sent ≡ Some told →
+        sent ≡ all_spelled told }
     ensures one_more { (sent : List Departure) (d : Departure) → is_half (step_at d) ≡ false
         → unpair (sent ++ pair d) ≡ option_map (λ told. told ++ d ∷ []) (unpair sent) }
 {}

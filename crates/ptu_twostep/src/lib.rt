@@ -1,5 +1,5 @@
-//! Syncs in two steps: a port that sends each Sync as a Sync and its Follow_Up, over another port, and a
-//! host of such ports, over another host (IEEE 1588-2019 clauses 9.5.9 and 9.5.10).
+//! Syncs in two steps: a port that sends each Sync as a Sync and its Follow_Up, over another port,
+//! and a host of such ports, over another host (IEEE 1588-2019 clauses 9.5.9 and 9.5.10).
 #![tactic(auto)]
 
 mod laws;

@@ -14,8 +14,8 @@ use std::marker::Model;
 /// A port that sends each Sync in two steps, over another port: what it is handed as a Sync in one
 /// step goes out as a Sync with twoStepFlag set and the Follow_Up with its time (IEEE 1588-2019
 /// clauses 9.5.9 and 9.5.10). It keeps a flag, which is set at a send that fails and at one of a
-/// datagram that is itself a Sync in two steps or a Follow_Up: from then on it tells nothing of what
-/// was sent.
+/// datagram that is itself a Sync in two steps or a Follow_Up: from then on it tells nothing of
+/// what was sent.
 #[derive(Drop)]
 pub struct TwoStep<P: Port> {
     port: P,
@@ -61,7 +61,8 @@ impl<P: Port> TwoStep<P> {
 fn hand_pair<P: Port>(port: &mut P, ip: u32, channel: Channel, bytes: &[u8]) -> Result<(), Failed>
     requires { step_of channel bytes.now ≡ Step.OneStepSync }
     ensures { HandsPair P.Port port.old port.new
-        (pair_by Step.OneStepSync (record { ip = ip; channel = channel; bytes = bytes.now })) result }
+        (pair_by Step.OneStepSync
+        (record { ip = ip; channel = channel; bytes = bytes.now })) result }
 {
     let mut octets = [0; 44];
     octets.copy_from_slice(bytes);

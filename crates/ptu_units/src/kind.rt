@@ -1,8 +1,8 @@
 ghost use Rattle.std.specs.Prelude.{◌≡◌, ◌<◌};
 ghost use Rattle.ptu_units.specs.Kind.{code_of, kind_of};
 
-/// A kind of message that a grandmaster grants by unicast negotiation, in the order in which kinds are listed
-/// (IEEE 1588-2019 clause 16.1.1).
+/// A kind of message that a grandmaster grants by unicast negotiation, in the order in which kinds
+/// are listed (IEEE 1588-2019 clause 16.1.1).
 #[derive(Clone, Copy, Debug, PartialEq, Eq, PartialOrd, Ord, Hash)]
 pub enum Kind {
     Announce,

@@ -45,7 +45,8 @@ const PERIODS: [u64; 12] = [
 ];
 
 impl Log {
-    /// The logarithm of this value, or `None` where it is outside the range of the kind: -3 to 4 for Announce,
+    /// The logarithm of this value, or `None` where it is outside the range of the kind: -3 to 4
+    /// for Announce,
     /// -7 to 4 for Sync and Delay_Resp.
     pub fn of(kind: Kind, value: i8) -> Option<Log>
         ensures { SomeIff result (IsLogOf kind value) value }
