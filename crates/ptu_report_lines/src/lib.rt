@@ -21,6 +21,7 @@ pub use report_line::ReportLine;
 pub use sent::Sent;
 pub use signal::Received;
 pub use statement::Statement;
+pub use words::ChannelText;
 
 #[cfg(test)]
 mod tests;

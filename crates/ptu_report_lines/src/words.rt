@@ -45,9 +45,9 @@ impl fmt::Display for SelectedText {
     }
 }
 
-// The name of a channel.
+/// The name of a channel.
 #[derive(Clone, Copy)]
-pub(crate) struct ChannelText(pub Channel);
+pub struct ChannelText(pub Channel);
 
 impl fmt::Display for ChannelText {
     ghost output = { λ c. Some (channel_text c.0) };

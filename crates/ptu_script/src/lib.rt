@@ -5,9 +5,9 @@ mod cause;
 mod command;
 mod events;
 pub mod examples;
-mod fields;
+pub mod fields;
 mod reading;
-mod setups;
+pub mod setups;
 mod verb;
 
 pub use cause::Cause;

@@ -13,7 +13,7 @@ use ptu_units::Kind;
 
 /// The fields of `gm IP CLOCK PORT DOMAIN CLASS CAPACITY MAX`.
 #[tactic(auto, unfolding(crate::specs::Command::grandmaster_in))]
-fn grandmaster(line: &[u8]) -> Result<GrandmasterSetup, Cause>
+pub fn grandmaster(line: &[u8]) -> Result<GrandmasterSetup, Cause>
     ensures value { result ≡ grandmaster_in line.now }
     ensures within { IfOk result IsGrandmasterWithin }
 {

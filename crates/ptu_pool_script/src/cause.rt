@@ -1,0 +1,95 @@
+ghost use Rattle.std.specs.Prelude.{◌≡◌, Some};
+ghost use Rattle.ptu_pool_script.specs.Cause.{cause_of_line, cause_of_script, text_of};
+
+use ptu_lines::LineCause;
+use ptu_script::Cause;
+use std::error::Error;
+use std::fmt;
+
+/// Why a line of a script of pools is refused (the project's own choice).
+#[derive(Clone, Copy, Debug, PartialEq, Eq, Hash)]
+pub enum PoolCause {
+    /// Octet 67108865 of the script is among the first 8193 octets of the line, its 0A counted.
+    Size,
+    /// The line has more than 8192 octets.
+    Long,
+    /// An octet of the line is outside 20 to 7E (hexadecimal).
+    Text,
+    /// The first word is that of no command.
+    Word,
+    /// The line has another number of words than its command.
+    Count,
+    /// The word with this number, from 1, is the first that is outside its form or range.
+    Field(u8),
+    /// The grandmaster is not set up before all, or is set up twice; a pool comes after an event,
+    /// or an event before any pool.
+    Order,
+    /// The pool's first address has a bit set after those that count.
+    Net,
+    /// There are as many pools as there may be.
+    Full,
+    /// Some address is in an earlier pool, too.
+    Overlap,
+    /// The capacities sum above that of the grandmaster.
+    Over,
+    /// No pool has this number.
+    Number,
+}
+
+impl fmt::Display for PoolCause {
+    ghost output = { λ cause. Some (text_of cause) };
+
+    fn fmt<W: fmt::Write>(&self, f: &mut fmt::Formatter<W>) -> fmt::Result {
+        match self {
+            PoolCause::Size => f.write_str("size"),
+            PoolCause::Long => f.write_str("long"),
+            PoolCause::Text => f.write_str("text"),
+            PoolCause::Word => f.write_str("word"),
+            PoolCause::Count => f.write_str("count"),
+            PoolCause::Field(number) => write!(f, "field {number}"),
+            PoolCause::Order => f.write_str("order"),
+            PoolCause::Net => f.write_str("net"),
+            PoolCause::Full => f.write_str("full"),
+            PoolCause::Overlap => f.write_str("overlap"),
+            PoolCause::Over => f.write_str("over"),
+            PoolCause::Number => f.write_str("number"),
+        }
+    }
+}
+
+impl Error for PoolCause {}
+
+/// The reader of lines names its causes by the same words.
+impl From<LineCause> for PoolCause {
+    ghost from_gives = { λ line cause. cause ≡ cause_of_line line };
+
+    fn from(cause: LineCause) -> PoolCause {
+        match cause {
+            LineCause::Size => PoolCause::Size,
+            LineCause::Long => PoolCause::Long,
+            LineCause::Text => PoolCause::Text,
+            LineCause::Word => PoolCause::Word,
+            LineCause::Count => PoolCause::Count,
+            LineCause::Field(number) => PoolCause::Field(number),
+        }
+    }
+}
+
+/// So do the readers of words. A line that they refuse names no node and no judge.
+impl From<Cause> for PoolCause {
+    ghost from_gives = { λ found cause. cause ≡ cause_of_script found };
+
+    fn from(cause: Cause) -> PoolCause {
+        match cause {
+            Cause::Size => PoolCause::Size,
+            Cause::Long => PoolCause::Long,
+            Cause::Text => PoolCause::Text,
+            Cause::Word | Cause::Node | Cause::Stock => PoolCause::Word,
+            Cause::Count => PoolCause::Count,
+            Cause::Field(number) => PoolCause::Field(number),
+            Cause::Order => PoolCause::Order,
+            Cause::Full => PoolCause::Full,
+            Cause::Number => PoolCause::Number,
+        }
+    }
+}

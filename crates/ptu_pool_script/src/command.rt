@@ -1,0 +1,25 @@
+use ptu_outside::Datagram;
+use ptu_pools::Pool;
+use ptu_script::GrandmasterSetup;
+use ptu_units::Moment;
+
+/// What a line of a script of pools commands. The last two are events.
+#[derive(Debug, Drop)]
+pub enum PoolCommand {
+    /// The grandmaster is set up, whose capacity the pools share.
+    Grandmaster(GrandmasterSetup),
+    /// A pool is sold. It has at most 32 bits.
+    Sell(Pool),
+    /// A datagram of at most 2048 octets comes from an address.
+    Receive {
+        at: Moment,
+        from: u32,
+        octets: Datagram,
+    },
+    /// A table, from 0 to 3, of the pool with this number, from 1 to 16, takes a turn.
+    Turn {
+        at: Moment,
+        pool: usize,
+        table: usize,
+    },
+}

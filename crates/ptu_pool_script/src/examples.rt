@@ -1,0 +1,64 @@
+//! Small lines and what they are. Each clause is one line; the bodies are empty.
+
+ghost use Rattle.std.specs.Prelude.{◌≡◌, ◌∷◌, [], Some, None, Ok, Err, codes};
+ghost use Rattle.ptu_script.specs.declared.cause.Cause.TheVariants as causes;
+ghost use Rattle.ptu_outside.specs.declared.channel.Channel.TheVariants as channels;
+ghost use Rattle.ptu_pool_script.specs.Command.{command_of};
+ghost use Rattle.ptu_pool_script.specs.Output.{line_text};
+ghost use Rattle.ptu_pool_script.specs.declared.cause.PoolCause.TheVariants as refused;
+ghost use Rattle.ptu_pool_script.specs.declared.command.PoolCommand.TheVariants as commands;
+ghost use Rattle.ptu_pool_script.specs.declared.output.PoolLine.TheVariants as lines;
+
+/// One line of each form.
+#[tactic(auto, unfolding(crate::specs::Command::command_of, crate::specs::Command::fields_in, ptu_script::specs::Command::grandmaster_in))]
+pub fn good_lines()
+    ensures empty { command_of [] ≡ Ok None }
+    ensures comment { command_of (codes "#pool") ≡ Ok None }
+    ensures gm { command_of (codes "gm 10.0.0.1 0a00000000000001 1 4 84 16 300")
+        ≡ Ok (Some (commands.Grandmaster (record {
+          ip = 0x0A000001;
+          clock = 0x0A00000000000001;
+          port = 1;
+          domain = 4;
+          class = 84;
+          capacity = 16;
+          max_duration = 300;
+        }))) }
+    ensures pool { command_of (codes "pool 10.0.1.0 24 8")
+        ≡ Ok (Some (commands.Sell (record { net = 0x0A000100; bits = 24; capacity = 8 }))) }
+    ensures rx { command_of (codes "rx 5 10.0.1.17 0cFf")
+        ≡ Ok (Some (commands.Receive 5 0x0A000111 (12 ∷ 255 ∷ []))) }
+    ensures rx_of_nothing { command_of (codes "rx 0 10.0.1.17 -")
+        ≡ Ok (Some (commands.Receive 0 0x0A000111 [])) }
+    ensures turn { command_of (codes "turn 4611686018427387903 16 3")
+        ≡ Ok (Some (commands.Turn 4611686018427387903 16 3)) }
+{}
+
+/// Lines that are refused, each for the first cause that applies.
+#[tactic(auto, unfolding(crate::specs::Command::command_of, crate::specs::Command::fields_in, ptu_script::specs::Command::grandmaster_in))]
+pub fn refused_lines()
+    ensures word { command_of (codes "slave 1 2 3") ≡ Err causes.Word }
+    ensures word_of_a_blank { command_of (codes " turn 0 1 0") ≡ Err causes.Word }
+    ensures count { command_of (codes "pool 10.0.1.0 24") ≡ Err causes.Count }
+    ensures count_of_two_spaces { command_of (codes "turn  0 1 0") ≡ Err causes.Count }
+    ensures rx_of_a_node { command_of (codes "rx 0 10.0.0.1 10.0.1.17 -") ≡ Err causes.Count }
+    ensures bits { command_of (codes "pool 10.0.1.0 33 8") ≡ Err (causes.Field 3) }
+    ensures capacity { command_of (codes "pool 10.0.1.0 24 16777217") ≡ Err (causes.Field 4) }
+    ensures no_capacity { command_of (codes "pool 10.0.1.0 24 0") ≡ Err (causes.Field 4) }
+    ensures least_field { command_of (codes "pool 10.0.1 33 0") ≡ Err (causes.Field 2) }
+    ensures moment { command_of (codes "turn 4611686018427387904 0 4") ≡ Err (causes.Field 2) }
+    ensures pool_zero { command_of (codes "turn 0 0 0") ≡ Err (causes.Field 3) }
+    ensures pool_seventeen { command_of (codes "turn 0 17 0") ≡ Err (causes.Field 3) }
+    ensures table { command_of (codes "turn 0 1 4") ≡ Err (causes.Field 4) }
+    ensures octets { command_of (codes "rx 0 10.0.1.17 0c1") ≡ Err (causes.Field 4) }
+{}
+
+/// One line of output of each form.
+pub fn lines_of_output()
+    ensures sent { line_text (lines.Sent 4 1 channels.General 0x0A000111 (0 ∷ 255 ∷ []))
+        ≡ codes "4 pool 1 send general 10.0.1.17 00ff\n" }
+    ensures stranger { line_text (lines.Stranger 7) ≡ codes "7 stranger\n" }
+    ensures bad { line_text (lines.Bad 2 (refused.Field 5)) ≡ codes "2 bad field 5\n" }
+    ensures over { line_text (lines.Bad 3 refused.Over) ≡ codes "3 bad over\n" }
+    ensures end { line_text (lines.End 7) ≡ codes "end 7\n" }
+{}

@@ -1,0 +1,139 @@
+//! The lines of a script of pools, read.
+
+ghost use Rattle.std.specs.Prelude.{◌≡◌, IfOk, IfSome, unwrap_or, []};
+ghost use Rattle.ptu_lines.specs.Words.{word_of};
+ghost use Rattle.ptu_pool_script.specs.Command.{command_by, command_of, fields_in, handed_in};
+ghost use Rattle.ptu_pool_script.specs.Limits.{IsWithinLimits};
+ghost use Rattle.ptu_pool_script.specs.Verb.{verb_named};
+ghost use Rattle.ptu_pool_script.specs.declared.verb.PoolVerb.TheVariants as verbs;
+
+use crate::command::PoolCommand;
+use crate::verb::PoolVerb;
+use ptu_lines::{word, words};
+use ptu_pools::Pool;
+use ptu_script::Cause;
+use ptu_script::fields::{ip_field, moment_field, number_field, octets_field};
+use ptu_script::setups::grandmaster;
+use ptu_units::{Moment, OutOfMemory};
+use std::alloc::Global;
+
+// `gm IP CLOCK PORT DOMAIN CLASS CAPACITY MAX`
+#[tactic(auto, unfolding(crate::specs::Command::fields_in))]
+fn gm(line: &[u8]) -> Result<PoolCommand, Cause>
+    ensures value { result ≡ fields_in verbs.Gm line.now }
+    ensures within { IfOk result IsWithinLimits }
+{
+    Ok(PoolCommand::Grandmaster(grandmaster(line)?))
+}
+
+// `pool IP BITS N`
+#[tactic(auto, unfolding(crate::specs::Command::fields_in))]
+fn pool(line: &[u8]) -> Result<PoolCommand, Cause>
+    ensures value { result ≡ fields_in verbs.Pool line.now }
+    ensures within { IfOk result IsWithinLimits }
+{
+    let net = ip_field(line, 2)?;
+    let bits = number_field(line, 3, 0, 32)?;
+    let capacity = number_field(line, 4, 1, 16_777_216)?;
+    Ok(PoolCommand::Sell(Pool {
+        net,
+        bits: bits as u8,
+        capacity,
+    }))
+}
+
+// `turn T I J`
+#[tactic(auto, unfolding(crate::specs::Command::fields_in))]
+fn turn(line: &[u8]) -> Result<PoolCommand, Cause>
+    ensures value { result ≡ fields_in verbs.Turn line.now }
+    ensures within { IfOk result IsWithinLimits }
+{
+    let at = moment_field(line, 2)?;
+    let pool = number_field(line, 3, 1, 16)?;
+    let table = number_field(line, 4, 0, 3)?;
+    Ok(PoolCommand::Turn {
+        at,
+        pool: pool as usize,
+        table: table as usize,
+    })
+}
+
+// The words T and IP.
+fn handed(line: &[u8]) -> Result<(Moment, u32), Cause>
+    ensures { result ≡ handed_in line.now }
+{
+    let at = moment_field(line, 2)?;
+    let from = ip_field(line, 3)?;
+    Ok((at, from))
+}
+
+// `rx T IP HEX`
+#[tactic(auto, unfolding(crate::specs::Command::fields_in))]
+fn rx(alloc: Global, line: &[u8]) -> Result<Result<PoolCommand, Cause>, OutOfMemory>
+    ensures value { IfOk result (λ read. read ≡ fields_in verbs.Rx line.now) }
+    ensures within { IfOk result (λ read. IfOk read IsWithinLimits) }
+{
+    let (at, from) = match handed(line) {
+        Ok(words) => words,
+        Err(cause) => return Ok(Err(cause)),
+    };
+    match octets_field(alloc, line, 4)? {
+        Ok(octets) => Ok(Ok(PoolCommand::Receive { at, from, octets })),
+        Err(cause) => Ok(Err(cause)),
+    }
+}
+
+// What stands behind the first word.
+fn fields(
+    alloc: Global,
+    verb: PoolVerb,
+    line: &[u8],
+) -> Result<Result<PoolCommand, Cause>, OutOfMemory>
+    ensures value { IfOk result (λ read. read ≡ fields_in verb line.now) }
+    ensures within { IfOk result (λ read. IfOk read IsWithinLimits) }
+{
+    match verb {
+        PoolVerb::Gm => Ok(gm(line)),
+        PoolVerb::Pool => Ok(pool(line)),
+        PoolVerb::Rx => rx(alloc, line),
+        PoolVerb::Turn => Ok(turn(line)),
+    }
+}
+
+// The command of a line that is no comment.
+fn command(alloc: Global, line: &[u8]) -> Result<Result<PoolCommand, Cause>, OutOfMemory>
+    ensures value { IfOk result
+        (λ read. read ≡ command_by (verb_named (unwrap_or (word_of line.now 1) [])) line.now) }
+    ensures within { IfOk result (λ read. IfOk read IsWithinLimits) }
+{
+    match PoolVerb::of(word(line, 1).unwrap_or(&[])) {
+        None => Ok(Err(Cause::Word)),
+        Some(verb) if words(line) == verb.count() => fields(alloc, verb, line),
+        Some(_) => Ok(Err(Cause::Count)),
+    }
+}
+
+/// What a line of a script of pools commands, `None` for a line that is empty or begins with `#`,
+/// or why it is refused: its first word is that of no command (`Word`), it has another number of
+/// words than its command (`Count`), or the word with the least such number is outside its form or
+/// range (`Field`), in this order. No other cause is given. The line is one without its 0A; it may
+/// be of any length and of any octets.
+///
+/// # Errors
+/// `OutOfMemory`, for a datagram's octets alone.
+#[tactic(auto, unfolding(crate::specs::Command::command_of))]
+pub fn read_pool_command(
+    alloc: Global,
+    line: &[u8],
+) -> Result<Result<Option<PoolCommand>, Cause>, OutOfMemory>
+    ensures value { IfOk result (λ read. read ≡ command_of line.now) }
+    ensures within { IfOk result (λ read. IfOk read (λ command. IfSome command IsWithinLimits)) }
+{
+    if matches!(line, [] | [b'#', ..]) {
+        return Ok(Ok(None));
+    }
+    match command(alloc, line)? {
+        Ok(command) => Ok(Ok(Some(command))),
+        Err(cause) => Ok(Err(cause)),
+    }
+}
