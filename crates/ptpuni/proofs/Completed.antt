@@ -2,7 +2,7 @@
 use Rattle.std.proofs.Common.{arith, ◌≡◌, ◌≢◌, ◌⊎◌, ◌∙◌, ℕ, Bool, true, false, List, None, inl, inr, refl, ap}
 use Rattle.std.specs.Prelude.{if◌then◌else◌}
 use Rattle.std.proofs.lemmas.Bool.Decides.{eqb_tells}
-use Rattle.ptu_setup.specs.Refusals.{gm_refusal, slave_refusal}
+use Rattle.ptu_config.specs.Refusals.{gm_refusal, slave_refusal}
 use Rattle.ptu_words.specs.declared.command.Command.{Command}
 use Rattle.ptu_words.specs.declared.command.Command.TheVariants.{Replay, Show, Load, Serve, Slave, Join, Audit}
 use Rattle.ptu_world.specs.World.{Stock}

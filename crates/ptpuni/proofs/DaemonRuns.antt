@@ -6,9 +6,9 @@ use Rattle.ptu_outside.specs.Handing.{HasPut, HasPutFront}
 use Rattle.ptu_outside.specs.Telling.{IfTold}
 use Rattle.ptu_config.specs.declared.key.Key.{Key}
 use Rattle.ptu_config.specs.Rules.{Value}
-use Rattle.ptu_setup.specs.declared.refusal.RefusalLine.{RefusalLine}
-use Rattle.ptu_setup.specs.Reading.{HasTakenSome}
-use Rattle.ptu_setup.specs.Refusals.{refusal_text}
+use Rattle.ptu_config.specs.declared.refusal.RefusalLine.{RefusalLine}
+use Rattle.ptu_config.specs.Reading.{HasTakenSome}
+use Rattle.ptu_config.specs.Refusals.{refusal_text}
 use Rattle.ptu_rounds.specs.declared.fault.DaemonFault.{DaemonFault}
 use Rattle.ptu_rounds.specs.declared.fault.DaemonFault.TheVariants.{Open, Write, OutOfMemory}
 use Rattle.ptu_rounds.specs.Opening.{OpenedAt}

@@ -11,10 +11,10 @@ use Rattle.ptu_config.specs.declared.settings.GmSettings.{GmSettings}
 use Rattle.ptu_config.specs.declared.settings.SlaveSettings.{SlaveSettings}
 use Rattle.ptu_config.specs.Entries.{gm_entries, slave_entries}
 use Rattle.ptu_config.specs.Rules.{Value}
-use Rattle.ptu_setup.specs.declared.fault.SetupFault.TheVariants.{Refused}
-use Rattle.ptu_setup.specs.declared.refusal.RefusalLine.{RefusalLine}
-use Rattle.ptu_setup.specs.Reading.{Answers, HasSetUp, HasTakenSome}
-use Rattle.ptu_setup.specs.Refusals.{gm_refusal, refusal_text, slave_refusal}
+use Rattle.ptu_config.specs.declared.setup_fault.SetupFault.TheVariants.{Refused}
+use Rattle.ptu_config.specs.declared.refusal.RefusalLine.{RefusalLine}
+use Rattle.ptu_config.specs.Reading.{Answers, HasSetUp, HasTakenSome}
+use Rattle.ptu_config.specs.Refusals.{gm_refusal, refusal_text, slave_refusal}
 use Rattle.ptu_rounds.specs.declared.fault.DaemonFault.{DaemonFault}
 use Rattle.ptu_rounds.specs.declared.fault.DaemonFault.TheVariants.{Open, Write, OutOfMemory}
 use Rattle.ptu_daemon.specs.Events.{endpoint_of}

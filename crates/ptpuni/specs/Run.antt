@@ -26,7 +26,7 @@ use Rattle.ptu_audit.specs.declared.answer.AuditFault.{AuditFault}
 use Rattle.ptu_audit.specs.declared.answer.AuditFault.TheVariants as audits
 use Rattle.ptu_audit.specs.Audited.{AnswerIsWritten, IsAnswer, IsKept}
 use Rattle.ptu_audit.specs.Reading.{audit_rules, opening}
-use Rattle.ptu_setup.specs.Refusals.{gm_refusal, slave_refusal}
+use Rattle.ptu_config.specs.Refusals.{gm_refusal, slave_refusal}
 use Rattle.ptu_words.specs.declared.command.Command.{Command}
 use Rattle.ptu_words.specs.declared.command.Command.TheVariants.{Replay, Show, Load, Serve, Slave, Join, Audit}
 

@@ -9,19 +9,18 @@ ghost use Rattle.ptu_config.specs.Limits.{IsGmInRange};
 ghost use Rattle.ptu_rounds.specs.Opening.{OpenedAt};
 ghost use Rattle.ptu_daemon.specs.Events.{endpoint_of};
 ghost use Rattle.ptu_daemon.specs.Served.{Said, closing_line};
-ghost use Rattle.ptu_setup.specs.Reading.{HasTakenSome};
-ghost use Rattle.ptu_setup.specs.Refusals.{refusal_text};
+ghost use Rattle.ptu_config.specs.Reading.{HasTakenSome};
+ghost use Rattle.ptu_config.specs.Refusals.{refusal_text};
 ghost use Rattle.ptpuni.specs.Daemons.{HasRunServe, HasRunSlave, IsServed};
 ghost use Rattle.ptpuni.specs.Run.{statuses};
 
 use crate::status::{
     BAD_LINE, HOST_FAULT, OUT_OF_MEMORY, SINK_FAULT, SOURCE_FAULT, USAGE, daemon_status,
 };
-use ptu_config::GmSettings;
+use ptu_config::{GmSettings, RefusalLine, SetupFault, gm_setup, slave_setup};
 use ptu_daemon::{DaemonFault, serve};
 use ptu_judges::Stock;
 use ptu_outside::{Host, Sink, Source, write_whole};
-use ptu_setup::{RefusalLine, SetupFault, gm_setup, slave_setup};
 use ptu_slave_daemon::slave;
 use ptu_twostep_daemon::serve_in_two_steps;
 use std::alloc::Global;

@@ -4,3 +4,4 @@ pub mod Rounds
 pub mod EachMaster
 pub mod Readings
 pub mod KeyNames
+mod Taking

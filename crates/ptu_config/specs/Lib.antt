@@ -7,3 +7,6 @@ pub mod Entries
 pub mod Common
 pub mod Limits
 pub mod Examples
+pub mod Refusals
+pub mod Reading
+pub mod Samples

@@ -14,6 +14,7 @@ ghost use Rattle.ptu_config.specs.Rules.{Value, gm_keys, slave_keys, setting_of,
 ghost use Rattle.ptu_config.specs.Documents.{Reads, Says, document_of, refusal_of, table_refusal};
 ghost use Rattle.ptu_config.specs.Entries.{gm_entries, slave_entries};
 ghost use Rattle.ptu_config.specs.Examples.{gm_text, gm_document, gm_defaults, gm_with, two_masters};
+ghost use Rattle.ptu_config.specs.Samples.{AreRefused, LinesAreWritten};
 
 use crate::fault::SettingFault;
 use crate::key::Key;
@@ -76,4 +77,10 @@ pub fn masters_of_a_slave()
     ensures one_address { masters_in (two_masters (codes "10.0.0.1")) ≡ None }
     ensures none { masters_in (array no_items) ≡ None }
     ensures no_array { masters_in (string (codes "10.0.0.1")) ≡ None }
+{}
+
+/// The lines that refuse settings, and what becomes of some documents.
+pub fn sample_refusals()
+    ensures lines { LinesAreWritten }
+    ensures refused { AreRefused }
 {}

@@ -1,4 +1,6 @@
-//! The settings of a grandmaster and of a slave, read from a TOML document.
+//! The settings of a grandmaster and of a slave, read from a TOML document: from octets, or, as the
+//! program takes them, from a source, of which at most 65537 octets are read, and refused by one
+//! line of output.
 #![tactic(auto)]
 
 mod common;
@@ -9,7 +11,11 @@ mod key;
 pub mod laws;
 mod master;
 mod master_tables;
+mod octets;
+mod refusal;
 mod settings;
+mod setup;
+mod setup_fault;
 mod slave;
 mod values;
 
@@ -17,8 +23,13 @@ pub use fault::SettingFault;
 pub use gm::gm_settings;
 pub use key::Key;
 pub use master::{MasterList, MasterSetting};
+pub use refusal::RefusalLine;
 pub use settings::{GmSettings, SlaveSettings};
+pub use setup::{gm_setup, slave_setup};
+pub use setup_fault::SetupFault;
 pub use slave::slave_settings;
 
+#[cfg(test)]
+mod setup_tests;
 #[cfg(test)]
 mod tests;

@@ -1,7 +1,7 @@
 use Rattle.std.proofs.Common.{lit<, refl}
 use Rattle.std.proofs.lemmas.Result.{IfErr-at_err}
 use Rattle.ptu_config.specs.Entries.{gm_entries}
-use Rattle.ptu_setup.specs.Refusals.{gm_refusal}
+use Rattle.ptu_config.specs.Refusals.{gm_refusal}
 use Rattle.ptpuni.proofs.DaemonRuns.{is_daemon_status, is_refused_status, opened_at_memory, opened_at_write, opened_on_ok, ran}
 use Rattle.ptpuni.proofs.daemons.run_serve.Goals as goal
 

@@ -1,6 +1,6 @@
 use Rattle.std.proofs.Common.{rules, ◌≡◌, lit<, length, refl}
 use Rattle.ptu_config.specs.Entries.{slave_entries}
-use Rattle.ptu_setup.specs.Refusals.{slave_refusal}
+use Rattle.ptu_config.specs.Refusals.{slave_refusal}
 use Rattle.ptpuni.proofs.DaemonRuns.{if_on_err, is_daemon_status, is_refused_status, opened_at_memory, opened_at_write, opened_on_ok, ran}
 use Rattle.ptpuni.proofs.daemons.run_slave.Goals as goal
 

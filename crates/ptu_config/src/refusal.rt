@@ -1,7 +1,7 @@
 ghost use Rattle.std.specs.Prelude.{Some};
-ghost use Rattle.ptu_setup.specs.Refusals.{refusal_text};
+ghost use Rattle.ptu_config.specs.Refusals.{refusal_text};
 
-use ptu_config::Key;
+use crate::key::Key;
 use std::fmt;
 
 /// The line of output that refuses settings. Its text has the 0A at its end.

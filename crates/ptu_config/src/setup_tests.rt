@@ -1,5 +1,4 @@
 use super::*;
-use ptu_config::Key;
 use ptu_outside::MemSource;
 use std::alloc::{AllocError, Global};
 use std::test::Fail;

@@ -4,9 +4,9 @@ ghost use Rattle.std.specs.Prelude.{◌≡◌, ◌<◌, ◌≤◌, ◌+◌, ◌=
 ghost use Rattle.std.specs.Io.KnownBytes.{IsAtEnd, prepend_known};
 ghost use Rattle.ptu_outside.specs.Ends.{CountsEnd, StopsAtEnd};
 ghost use Rattle.ptu_outside.specs.Faults.{HasRisen};
-ghost use Rattle.ptu_setup.specs.Reading.{CountsRead, HasTaken, HasTakenSome, IsNoRefusal};
+ghost use Rattle.ptu_config.specs.Reading.{CountsRead, HasTaken, HasTakenSome, IsNoRefusal};
 
-use crate::fault::SetupFault;
+use crate::setup_fault::SetupFault;
 use ptu_outside::{Failed, Source};
 use std::alloc::Global;
 

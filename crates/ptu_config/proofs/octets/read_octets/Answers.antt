@@ -2,8 +2,8 @@ use Rattle.std.proofs.Common.{rules, ◌≡◌, ◌≤◌, ◌==◌, false, leng
 use Rattle.std.proofs.lemmas.Bool.{ne_eqb}
 use Rattle.ptu_lines.proofs.Ranges.{written_over}
 use Rattle.ptu_outside.specs.Ends.{CountsEnd}
-use Rattle.ptu_setup.proofs.Taking.{IsTaking-start, IsTaking-more, IsTaking-end, IsTaking-full, counted_once, not_counted, taken_some}
-use Rattle.ptu_setup.proofs.octets.read_octets.Goals as goal
+use Rattle.ptu_config.proofs.Taking.{IsTaking-start, IsTaking-more, IsTaking-end, IsTaking-full, counted_once, not_counted, taken_some}
+use Rattle.ptu_config.proofs.octets.read_octets.Goals as goal
 
 pub loop-count-init : goal.loop-count-init
 loop-count-init g c = IsTaking-start g.S.Source.left g.S.Source.ends g.S.Source.faults c.args.source.now c.in_ok-octets.octets.items (search rules)

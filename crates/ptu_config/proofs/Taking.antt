@@ -7,7 +7,7 @@ use Rattle.std.proofs.lemmas.Slice.{between_is}
 use Rattle.ptu_outside.specs.Ends.{CountsEnd, ends_after}
 use Rattle.ptu_outside.proofs.Told.{prepend_known-nil, prepend_known-append}
 use Rattle.ptu_lines.proofs.Ranges.{range-grow}
-use Rattle.ptu_setup.specs.Reading.{HasTaken, HasTakenSome}
+use Rattle.ptu_config.specs.Reading.{HasTaken, HasTakenSome}
 
 -- a count of reads at the end that was 0, after one more read
 counted : (b : Bool) (old new : Option ℕ) → CountsEnd b old new → IfSome old (λ n. n ≡ 0) → IfSome new (λ n. n ≡ (if b then 1 else 0))

@@ -1,6 +1,6 @@
 use Rattle.std.proofs.Common.{refl}
 use Rattle.ptu_config.specs.Rules.{setting_of}
-use Rattle.ptu_setup.proofs.laws.sample_refusals.Goals as goal
+use Rattle.ptu_config.proofs.laws.sample_refusals.Goals as goal
 
 pub returns-clause-refused : goal.returns-clause-refused
 unfolding setting_of

@@ -1,6 +1,6 @@
 use Rattle.std.proofs.Common.{◌-◌}
-use Rattle.ptu_setup.proofs.Taking.{IsTaking}
-use Rattle.ptu_setup.proofs.octets.read_octets.Given as goal
+use Rattle.ptu_config.proofs.Taking.{IsTaking}
+use Rattle.ptu_config.proofs.octets.read_octets.Given as goal
 
 abbrev pub invariant-loop-count : goal.invariant-loop-count
 invariant-loop-count g l = IsTaking g.S.Source.left g.S.Source.ends g.S.Source.faults l.fn.source l.source l.octets.items l.count

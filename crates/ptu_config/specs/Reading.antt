@@ -5,9 +5,9 @@ use Rattle.ptu_outside.specs.Faults.{HasRisen}
 use Rattle.ptu_config.specs.declared.key.Key.{Key}
 use Rattle.ptu_config.specs.Documents.{Reads}
 use Rattle.ptu_config.specs.Rules.{Value}
-use Rattle.ptu_setup.specs.declared.fault.SetupFault.{SetupFault}
-use Rattle.ptu_setup.specs.declared.fault.SetupFault.TheVariants.{Refused, Read, OutOfMemory}
-use Rattle.ptu_setup.specs.declared.refusal.RefusalLine.{RefusalLine}
+use Rattle.ptu_config.specs.declared.setup_fault.SetupFault.{SetupFault}
+use Rattle.ptu_config.specs.declared.setup_fault.SetupFault.TheVariants.{Refused, Read, OutOfMemory}
+use Rattle.ptu_config.specs.declared.refusal.RefusalLine.{RefusalLine}
 
 -- these octets were taken of what was left: to the end, or to the 65537th
 pub record HasTaken (left left' : Option (List ℕ)) (octets : List ℕ) : Type 0 where

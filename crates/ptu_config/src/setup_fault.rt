@@ -1,9 +1,9 @@
 ghost use Rattle.std.specs.Prelude.{◌≡◌};
-ghost use Rattle.ptu_setup.specs.Refusals.{setup_fault};
-ghost use Rattle.ptu_setup.specs.declared.fault.SetupFault.TheVariants.{OutOfMemory as NoMemory, Read as HasFailed};
+ghost use Rattle.ptu_config.specs.Refusals.{setup_fault};
+ghost use Rattle.ptu_config.specs.declared.setup_fault.SetupFault.TheVariants.{OutOfMemory as NoMemory, Read as HasFailed};
 
+use crate::fault::SettingFault;
 use crate::refusal::RefusalLine;
-use ptu_config::SettingFault;
 use ptu_outside::Failed;
 use std::alloc::AllocError;
 use std::error::Error;
