@@ -14,19 +14,19 @@ use std::test::Fail;
 use std::thread::Threads;
 
 // A client asks a grandmaster for Announces at the logarithm 1.
-const ONE_ASK: &str = "\
+pub(crate) const ONE_ASK: &str = "\
     gm 10.0.0.1 0a00000000000001 1 4 84 8 300\n\
     rx 0 10.0.0.1 10.0.1.17 0c120036040004000000000000000000000000000a0000000000001100010000057f\
     ffffffffffffffffffff00040006b0010000012c\n";
 
-const ONE_GRANT: &str = "\
+pub(crate) const ONE_GRANT: &str = "\
     2 granted announce 1 at 0 until 300000000000\n\
     2 send 1 10.0.0.1 10.0.1.17 general 0c120038040004000000000000000000000000000a00000000000001\
     00010000057f0a00000000000011000100050008b0010000012c0001\n\
     end 2 1\n";
 
 // A slave asks a grandmaster, hears its messages and selects it.
-const BOTH_ENDS: &str = "\
+pub(crate) const BOTH_ENDS: &str = "\
     gm 10.0.0.1 0a00000000000001 1 4 84 2048 300\n\
     slave 10.0.1.17 0a00000000000011 1 4 300 3 3 1 0 - 300\n\
     master 10.0.1.17 10.0.0.1 1 flag\n\

@@ -19,4 +19,6 @@ mod lane_tests;
 #[cfg(test)]
 mod staged;
 #[cfg(test)]
+mod table_ports;
+#[cfg(test)]
 mod tests;

@@ -2,7 +2,7 @@ use super::*;
 use ptu_admit::{Cancelled, Verdict};
 use ptu_header::PortIdentity;
 use ptu_outside::{Channel, Datagram, MemPort};
-use ptu_shard::{GmConfig, Turned};
+use ptu_shard::{Answered, GmConfig, Turned};
 use ptu_units::Moment;
 use std::alloc::Global;
 use std::process::Abort;
@@ -31,6 +31,12 @@ const ANNOUNCE: &str = "00040006b0010000012c";
 
 const SYNC: &str = "0004000600000000012c";
 
+/// A REQUEST of Delay_Resp at logarithm 0, and a Delay_Req of the first client.
+const DELAY_RESP: &str = "0004000690000000012c";
+
+const DELAY_REQ: &str = "0112002c040004000000000000000000000000000a000000000000110001\
+     0007017f00000000000000000000";
+
 fn moment(nanos: u64) -> Result<Moment, Fail> {
     Ok(Moment::of(nanos).ok_or("a moment is below 2^62")?)
 }
@@ -57,13 +63,13 @@ fn port(alloc: Global, fails: Vec<u64>) -> MemPort {
     MemPort::new(alloc, Vec::new(alloc), fails, Vec::new(alloc))
 }
 
-// A grandmaster of capacity 16, whose port 2 fails at the listed sends.
-fn grandmaster(alloc: Global, fails: Vec<u64>) -> Gm<MemPort> {
+// A grandmaster of capacity 16, whose port 2 and port of replies fail at the listed sends.
+fn grandmaster(alloc: Global, fails: Vec<u64>, reply_fails: Vec<u64>) -> Gm<MemPort> {
     let p0 = port(alloc, Vec::new(alloc));
     let p1 = port(alloc, Vec::new(alloc));
     let p2 = port(alloc, fails);
     let p3 = port(alloc, Vec::new(alloc));
-    let reply = port(alloc, Vec::new(alloc));
+    let reply = port(alloc, reply_fails);
     Gm::new(alloc, CONFIG, 16, p0, p1, p2, p3, reply)
 }
 
@@ -118,7 +124,7 @@ fn assert_sent_and_cancelled(
 #[test]
 fn a_grant_is_sent_cancelled_and_closed(rt: HostRuntime) -> Result<(), Fail> {
     let alloc = rt.alloc();
-    let mut gm = grandmaster(alloc, vec![in alloc; 1]?);
+    let mut gm = grandmaster(alloc, vec![in alloc; 1]?, Vec::new(alloc));
     let done = assert_sent_and_cancelled(&rt, alloc, &mut gm);
     let (closed, _) = gm.close();
     assert_eq!(rt; (closed.granted, closed.refused, closed.total), (1, 0, 0));
@@ -161,11 +167,40 @@ fn assert_shed(rt: &impl Abort, alloc: Global, gm: &mut Gm<MemPort>) -> Result<(
 #[test]
 fn a_lower_capacity_sheds_the_newest(rt: HostRuntime) -> Result<(), Fail> {
     let alloc = rt.alloc();
-    let mut gm = grandmaster(alloc, Vec::new(alloc));
+    let mut gm = grandmaster(alloc, Vec::new(alloc), Vec::new(alloc));
     let done = assert_shed(&rt, alloc, &mut gm);
     let (closed, _) = gm.close();
     assert_eq!(rt; closed.counts, [0, 0, 8, 0]);
     assert_eq!(rt; (closed.granted, closed.refused), (2, 1));
+    done
+}
+
+// A reply, a Delay_Resp and the CANCEL of a change fail, and what was decided stands.
+fn assert_failures(rt: &impl Abort, alloc: Global, gm: &mut Gm<MemPort>) -> Result<(), Fail> {
+    let asked = gm.take(moment(0)?, FIRST, &signaling(alloc, FIRST, 54, DELAY_RESP)?)?;
+    assert!(rt; matches!(&asked, Taken::Asked(_, Reply::Failed)));
+    assert_eq!(rt; gm.count(2), 1);
+    let delay_req = hex::decode(alloc, DELAY_REQ)?;
+    let at = moment(SECOND)?;
+    let taken = gm.take(at, FIRST, &delay_req)?;
+    assert!(rt; matches!(&taken, Taken::Delay(Answered::Failed { .. })));
+    let changed = gm.set_capacity(moment(2 * SECOND)?, 8)?;
+    assert_eq!(rt;
+        (changed.shed.list().len(), changed.sent, changed.failed),
+        (1, 0, 1)
+    );
+    assert_eq!(rt; gm.count(2), 0);
+    Ok(())
+}
+
+// Refuses a failed send that is told as one that was sent, or that takes a decision back.
+#[test]
+fn failed_sends_are_told(rt: HostRuntime) -> Result<(), Fail> {
+    let alloc = rt.alloc();
+    let mut gm = grandmaster(alloc, vec![in alloc; 1]?, vec![in alloc; 1, 2]?);
+    let done = assert_failures(&rt, alloc, &mut gm);
+    let (closed, _) = gm.close();
+    assert_eq!(rt; (closed.granted, closed.refused, closed.total), (1, 0, 0));
     done
 }
 

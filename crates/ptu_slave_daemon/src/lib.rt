@@ -18,4 +18,6 @@ pub use line::SlaveLine;
 pub use opening::has_judges;
 
 #[cfg(test)]
+mod fault_tests;
+#[cfg(test)]
 mod tests;

@@ -19,18 +19,19 @@ use std::test::Fail;
 const MASTER: u32 = 0x0a00_0001;
 
 /// An Announce of class 84 and a Sync of port 1 of the clock 0a00000000000001.
-const ANNOUNCE: &str = "0b120040040004000000000000000000000000000a0000000000000100010000057f\
+pub(crate) const ANNOUNCE: &str =
+    "0b120040040004000000000000000000000000000a0000000000000100010000057f\
      00000000000000000000000000805400ffff800a000000000000010000a0";
 
-const SYNC: &str = "0012002c040004000000000000000000000000000a0000000000000100010000007f\
+pub(crate) const SYNC: &str = "0012002c040004000000000000000000000000000a0000000000000100010000007f\
      00000000000000000000";
 
 /// What asks for Announce at logarithm 1 and for Sync at logarithm -4.
-const ASK: &str = "0c120040040004000000000000000000000000000a0000000000001100010000057f\
+pub(crate) const ASK: &str = "0c120040040004000000000000000000000000000a0000000000001100010000057f\
      ffffffffffffffffffff00040006b0010000012c0004000600fc0000012c";
 
-// A slave of the one master.
-fn settings(alloc: Global, rounds: u32) -> Result<SlaveSettings, Fail>
+/// A slave of the one master.
+pub(crate) fn settings(alloc: Global, rounds: u32) -> Result<SlaveSettings, Fail>
     requires { 1 ≤ rounds }
     ensures { IfOk result IsSlaveInRange }
 {
@@ -61,8 +62,8 @@ fn settings(alloc: Global, rounds: u32) -> Result<SlaveSettings, Fail>
     })
 }
 
-// A stock with this judge alone.
-fn one_judge(alloc: Global, flag: Box<dyn Judge>) -> Result<Stock, AllocError>
+/// A stock with this judge alone.
+pub(crate) fn one_judge(alloc: Global, flag: Box<dyn Judge>) -> Result<Stock, AllocError>
     requires { held flag ≡ fresh Flag }
     ensures { IfOk result (λ stock. IsStock (map (λ j. held j) stock.flags.items)
         (map (λ j. held j) stock.gaps.items)) }
@@ -90,8 +91,8 @@ fn waiting(alloc: Global, text: &str) -> Result<Vec<Arrival>, Fail>
     Ok(list)
 }
 
-// A port at which nothing waits.
-fn idle(alloc: Global) -> MemPort {
+/// A port at which nothing waits.
+pub(crate) fn idle(alloc: Global) -> MemPort {
     MemPort::new(alloc, Vec::new(alloc), Vec::new(alloc), Vec::new(alloc))
 }
 
@@ -102,6 +103,17 @@ fn clock(alloc: Global) -> MemClock {
 
 // A host with these ports 4 and 5.
 fn host(alloc: Global, p4: MemPort, p5: MemPort) -> MemHost {
+    host_at(alloc, clock(alloc), p4, p5, false)
+}
+
+/// A host with this clock and these ports 4 and 5, which does not open where it fails.
+pub(crate) fn host_at(
+    alloc: Global,
+    c0: MemClock,
+    p4: MemPort,
+    p5: MemPort,
+    fails: bool,
+) -> MemHost {
     let opened = Opened {
         p0: idle(alloc),
         p1: idle(alloc),
@@ -109,14 +121,14 @@ fn host(alloc: Global, p4: MemPort, p5: MemPort) -> MemHost {
         p3: idle(alloc),
         p4,
         p5,
-        c0: clock(alloc),
+        c0,
         c1: clock(alloc),
         c2: clock(alloc),
         c3: clock(alloc),
         c4: clock(alloc),
         c5: clock(alloc),
     };
-    MemHost::new(opened, false)
+    MemHost::new(opened, fails)
 }
 
 // A port by which one datagram may be sent, at which this one waits.
