@@ -192,16 +192,36 @@ fn input_and_output_of_daemons_fail(rt: HostRuntime) -> Result<(), Fail> {
 
 #[test]
 fn the_output_of_a_load_fails(rt: HostRuntime) -> Result<(), Fail> {
+    for (write, status, output) in [
+        (
+            0,
+            0,
+            "{\"datagrams\":5,\"granted\":1,\"lines\":34,\"refused\":0}\n",
+        ),
+        (1, 67, ""),
+    ] {
+        let stock = no_judges(rt.alloc());
+        let (found, text, _) = ran(&rt, &["load", "1"], "", 0, write, stock)?;
+        assert_eq!(rt; found, status);
+        assert_eq!(rt; text.as_str(), output);
+    }
+    Ok(())
+}
+
+// A comment of 8193 octets is too long, and a turn of a node that is not there is refused.
+#[test]
+fn bad_scripts_are_refused(rt: HostRuntime) -> Result<(), Fail> {
     let alloc = rt.alloc();
-    let words = ["load", "1"];
-    let (status, whole, _) = ran(&rt, &words, "", 0, 0, no_judges(alloc))?;
-    assert_eq!(rt; status, 0);
-    for (write, lines) in [(1, 0), (2, 1)] {
-        let (status, text, _) = ran(&rt, &words, "", 0, write, no_judges(alloc))?;
-        assert_eq!(rt; status, 67);
-        assert!(rt; whole.starts_with(text.as_str()));
-        let found = text.as_bytes().iter().filter(|b| **b == b'\n').count();
-        assert_eq!(rt; found, lines);
+    let mut long = vec![in alloc; b'x'; 8192]?;
+    long.insert(0, b'#')?;
+    let long = String::from_utf8(long).ok().ok_or("plain text")?;
+    for (script, output) in [
+        (long.as_str(), "1 bad long\n"),
+        ("turn 0 10.0.0.9 0\n", "1 bad node\n"),
+    ] {
+        let (status, text, _) = ran(&rt, &["replay"], script, 0, 0, no_judges(alloc))?;
+        assert_eq!(rt; status, 65);
+        assert_eq!(rt; text.as_str(), output);
     }
     Ok(())
 }

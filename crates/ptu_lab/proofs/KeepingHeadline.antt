@@ -2,7 +2,7 @@
 use Rattle.std.proofs.Common.{ℕ, List}
 use Rattle.ptu_lab.specs.Headline.{KeepsHeadline}
 use Rattle.ptu_world.specs.World.{Stock}
-use Rattle.ptu_world.proofs.Headline.{decides_by_room, pays_periods, says_so, selects_best, within_budget, within_capacity}
+use Rattle.ptu_world.proofs.Headline.{decides_by_room, numbers_datagrams, pays_periods, says_so, selects_best, within_budget, within_capacity}
 
 pub keeps_headline : (stock : Stock) (script : List ℕ) → KeepsHeadline stock script
 keeps_headline stock script = record {
@@ -12,4 +12,5 @@ keeps_headline stock script = record {
   within_budget = within_budget stock script;
   best_master = selects_best stock script;
   says_so = says_so stock script;
+  datagrams = numbers_datagrams stock script;
 }

@@ -1,6 +1,6 @@
 -- The headline, whole: what every script keeps to, and that its report says so.
 use Rattle.std.specs.Prelude.{ℕ, List}
-use Rattle.ptu_world.specs.Headline.{DecidesByRoom, PaysPeriods, SaysSo, SelectsBest, WithinBudget, WithinCapacity}
+use Rattle.ptu_world.specs.Headline.{DecidesByRoom, NumbersDatagrams, PaysPeriods, SaysSo, SelectsBest, WithinBudget, WithinCapacity}
 use Rattle.ptu_world.specs.World.{Stock}
 
 -- what every script keeps to, with so many judges of each rule
@@ -15,5 +15,7 @@ pub record KeepsHeadline (stock : Stock) (script : List ℕ) : Type 0 where
   pub within_budget : WithinBudget stock script
   -- each slave selects its best eligible master
   pub best_master : SelectsBest stock script
-  -- and the report says so, line by line
+  -- the report says so, line by line, and nothing else
   pub says_so : SaysSo stock script
+  -- and datagrams are numbered in the order in which they are sent, and delivered as they were
+  pub datagrams : NumbersDatagrams stock script

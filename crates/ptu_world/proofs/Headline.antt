@@ -3,12 +3,13 @@ use Rattle.std.proofs.Common.{ℕ, List}
 use Rattle.ptu_world.specs.Deeds.{Grandmaster}
 use Rattle.ptu_world.specs.Grandmasters.{opening}
 use Rattle.ptu_world.specs.Promises.{KeepsPromises}
-use Rattle.ptu_world.specs.Headline.{DecidesByRoom, HasGrandmaster, PaysPeriods, SaysSo, SelectsBest, WithinBudget, WithinCapacity}
+use Rattle.ptu_world.specs.Headline.{DecidesByRoom, HasGrandmaster, NumbersDatagrams, PaysPeriods, SaysSo, SelectsBest, WithinBudget, WithinCapacity}
 use Rattle.ptu_world.specs.Sayings.{moment_handed}
 use Rattle.ptu_world.specs.World.{World, Stock}
 use Rattle.ptu_world.proofs.Deciding.{is_answered, is_decided}
+use Rattle.ptu_world.proofs.Numbering.{all_numbered, delivers}
 use Rattle.ptu_world.proofs.Promising.{run_keeps}
-use Rattle.ptu_world.proofs.Reporting.{ended, next, refused, said}
+use Rattle.ptu_world.proofs.Reporting.{ended, malformed, next, refused, said}
 use Rattle.ptu_world.proofs.Sayings.{datagram_names, event_names, says_of, step_best}
 use Rattle.ptu_world.proofs.Standing.{all_stand, grandmaster_runs, messages_sent}
 
@@ -43,7 +44,10 @@ selects_best stock script = record {
 }
 
 pub says_so : (stock : Stock) (script : List ℕ) → SaysSo stock script
-says_so stock script = record { said = said stock script; leads_on = next stock script; refused = refused stock script; ended = ended stock script }
+says_so stock script = record { said = said stock script; leads_on = next stock script; refused = refused stock script; malformed = malformed stock script; ended = ended stock script }
+
+pub numbers_datagrams : (stock : Stock) (script : List ℕ) → NumbersDatagrams stock script
+numbers_datagrams stock script = record { in_order = all_numbered stock script; delivered = delivers stock script }
 
 -- all of it
-pub ruleset headline = (within_capacity, decides_by_room, pays_periods, within_budget, selects_best, says_so)
+pub ruleset headline = (within_capacity, decides_by_room, pays_periods, within_budget, selects_best, says_so, numbers_datagrams)

@@ -1,8 +1,10 @@
 -- The report of a script says what is said of each of its lines.
 use Rattle.std.proofs.Common.{◌≡◌, ◌∙◌, ℕ, ◌+◌, ◌++◌, List, [], ◌∷◌, map, length, Option, Some, None, Result, Ok, Err, refl, sym, ap, subst, arith, append_assoc}
+use Rattle.ptu_lines.specs.declared.cause.LineCause.{LineCause}
 use Rattle.ptu_lines.specs.Script.{ScriptLine, Whole, Refused, script_lines}
 use Rattle.ptu_script.specs.declared.cause.Cause.{Cause}
 use Rattle.ptu_script.specs.declared.command.Command.{Command}
+use Rattle.ptu_script.specs.Cause.{cause_of_line}
 use Rattle.ptu_script.specs.Command.{command_of}
 use Rattle.ptu_report_lines.specs.declared.report_line.ReportLine.{ReportLine}
 use Rattle.ptu_report_lines.specs.declared.report_line.ReportLine.TheVariants.{At, End}
@@ -10,7 +12,8 @@ use Rattle.ptu_report_lines.specs.declared.statement.Statement.TheVariants.{Bad}
 use Rattle.ptu_world.specs.World.{World, Stock, Done, opening, step}
 use Rattle.ptu_world.specs.Report.{lines_by, lines_by_line, lines_from, report_lines}
 use Rattle.ptu_world.specs.Facts.{world_after, world_by, world_by_line, world_of}
-use Rattle.ptu_world.specs.Reached.{Leads, Reaches, done_by_line}
+use Rattle.ptu_world.specs.Headline.{said_so_far}
+use Rattle.ptu_world.specs.Reached.{Leads, Reaches, done_by_line, lines_said}
 
 module _ (w : World) (n : ℕ) (later : World → List ReportLine) where
   lines-done : (r : Result (Option Command) Cause) (done : Done) → done_by_line w r ≡ Ok done → lines_by_line w n r later ≡ map (At n) done.said ++ later done.world
@@ -27,58 +30,50 @@ abbrev after_line : ℕ → List ScriptLine → World → List ReportLine
 after_line before rest next = lines_from next (before + 1) rest
 
 -- what lines that lead to a world have in the report stands before what the others have
-pub record GoesBefore (w : World) (before : ℕ) (lines left : List ScriptLine) (last : World) : Type 0 where
-  pub first : List ReportLine
-  pub goes_on : lines_from w before (lines ++ left) ≡ first ++ lines_from last (before + length lines) left
-
-goes_before : (w : World) (before : ℕ) (lines left : List ScriptLine) (last : World) → Leads w lines last → GoesBefore w before lines left last
-goes_before w before [] left last e = record {
-  first = [];
-  goes_on = ap (λ n. lines_from w n left) (let same : before ≡ before + 0 = omega arith in same) ∙ ap (λ v. lines_from v (before + 0) left) (sym e);
-}
+goes_before : (w : World) (before : ℕ) (lines left : List ScriptLine) (last : World) (leads : Leads w lines last)
+    → lines_from w before (lines ++ left) ≡ lines_said before w lines last leads ++ lines_from last (before + length lines) left
+goes_before w before [] left last e =
+    ap (λ n. lines_from w n left) (let same : before ≡ before + 0 = omega arith in same) ∙ ap (λ v. lines_from v (before + 0) left) (sym e)
 goes_before w before (Refused cause ∷ rest) left last e = absurd e
 goes_before w before (Whole text ∷ rest) left last e =
-    let g : GoesBefore e.0.world (before + 1) rest left last = goes_before e.0.world (before + 1) rest left last e.2 in
     let own : List ReportLine = map (At (before + 1)) e.0.said in
-    record {
-      first = own ++ g.first;
-      goes_on = lines-done w (before + 1) (after_line before (rest ++ left)) (command_of text) e.0 e.1
-          ∙ ap (λ ls. own ++ ls) g.goes_on
-          ∙ sym (append_assoc own g.first (lines_from last (before + 1 + length rest) left))
-          ∙ ap (λ n. (own ++ g.first) ++ lines_from last n left) (let same : before + 1 + length rest ≡ before + length (Whole text ∷ rest) = omega arith in same);
-    }
+    let more : List ReportLine = lines_said (before + 1) e.0.world rest last e.2 in
+    lines-done w (before + 1) (after_line before (rest ++ left)) (command_of text) e.0 e.1
+    ∙ ap (λ ls. own ++ ls) (goes_before e.0.world (before + 1) rest left last e.2)
+    ∙ sym (append_assoc own more (lines_from last (before + 1 + length rest) left))
+    ∙ ap (λ n. (own ++ more) ++ lines_from last n left) (let same : before + 1 + length rest ≡ before + length (Whole text ∷ rest) = omega arith in same)
 
 module _ (stock : Stock) (script : List ℕ) (w : World) (r : Reaches stock script w) where
-  pub reported : GoesBefore (opening stock) 0 r.taken r.left w
-  reported = goes_before (opening stock) 0 r.taken r.left w r.leads
-
   abbrev number : ℕ
   number = length r.taken + 1
 
+  abbrev so_far : List ReportLine
+  so_far = said_so_far stock script w r
+
   -- the report goes on from there with the lines that are left
-  report-is : (left : List ScriptLine) → r.left ≡ left → report_lines stock script ≡ reported.first ++ lines_from w (length r.taken) left
+  report-is : (left : List ScriptLine) → r.left ≡ left → report_lines stock script ≡ so_far ++ lines_from w (length r.taken) left
   report-is left e =
-      ap (λ ls. lines_from (opening stock) 0 ls) r.lines ∙ reported.goes_on
-      ∙ ap (λ n. reported.first ++ lines_from w n r.left) (let same : 0 + length r.taken ≡ length r.taken = omega arith in same)
-      ∙ ap (λ ls. reported.first ++ lines_from w (length r.taken) ls) e
+      ap (λ ls. lines_from (opening stock) 0 ls) r.lines ∙ goes_before (opening stock) 0 r.taken r.left w r.leads
+      ∙ ap (λ n. so_far ++ lines_from w n r.left) (let same : 0 + length r.taken ≡ length r.taken = omega arith in same)
+      ∙ ap (λ ls. so_far ++ lines_from w (length r.taken) ls) e
 
   pub said : (text : List ℕ) (rest : List ScriptLine) (done : Done) → r.left ≡ Whole text ∷ rest → done_by_line w (command_of text) ≡ Ok done
-      → (first later : List ReportLine) × (report_lines stock script ≡ first ++ (map (At number) done.said ++ later))
+      → (later : List ReportLine) × (report_lines stock script ≡ so_far ++ (map (At number) done.said ++ later))
   said text rest done left e = (
-    reported.first,
     lines_from done.world number rest,
-    report-is (Whole text ∷ rest) left ∙ ap (λ ls. reported.first ++ ls) (lines-done w number (after_line (length r.taken) rest) (command_of text) done e),
+    report-is (Whole text ∷ rest) left ∙ ap (λ ls. so_far ++ ls) (lines-done w number (after_line (length r.taken) rest) (command_of text) done e),
   )
 
   pub refused : (text : List ℕ) (rest : List ScriptLine) (cause : Cause) → r.left ≡ Whole text ∷ rest → done_by_line w (command_of text) ≡ Err cause
-      → (first : List ReportLine) × (report_lines stock script ≡ first ++ At number (Bad cause) ∷ [])
-  refused text rest cause left e = (
-    reported.first,
-    report-is (Whole text ∷ rest) left ∙ ap (λ ls. reported.first ++ ls) (lines-refused w number (after_line (length r.taken) rest) (command_of text) cause e),
-  )
+      → report_lines stock script ≡ so_far ++ At number (Bad cause) ∷ []
+  refused text rest cause left e =
+      report-is (Whole text ∷ rest) left ∙ ap (λ ls. so_far ++ ls) (lines-refused w number (after_line (length r.taken) rest) (command_of text) cause e)
 
-  pub ended : r.left ≡ [] → (first : List ReportLine) × (report_lines stock script ≡ first ++ End (length r.taken) (length w.sent) ∷ [])
-  ended left = (reported.first, report-is [] left)
+  pub malformed : (rest : List ScriptLine) (cause : LineCause) → r.left ≡ Refused cause ∷ rest → report_lines stock script ≡ so_far ++ At number (Bad (cause_of_line cause)) ∷ []
+  malformed rest cause left = report-is (Refused cause ∷ rest) left
+
+  pub ended : r.left ≡ [] → report_lines stock script ≡ so_far ++ End (length r.taken) (length w.sent) ∷ []
+  ended left = report-is [] left
 
   -- one line more
   leads-more : (v : World) (lines : List ScriptLine) (text : List ℕ) (done : Done) → Leads v lines w → done_by_line w (command_of text) ≡ Ok done → Leads v (lines ++ Whole text ∷ []) done.world

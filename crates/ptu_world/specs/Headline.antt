@@ -6,20 +6,23 @@ use Rattle.ptu_history.specs.declared.client.Client.{Client}
 use Rattle.ptu_history.specs.Held.{budget, count, force, held, payments}
 use Rattle.ptu_history.specs.History.{Record}
 use Rattle.ptu_laws.specs.Paid.{IsBefore}
-use Rattle.ptu_lines.specs.Script.{ScriptLine, Whole}
+use Rattle.ptu_lines.specs.declared.cause.LineCause.{LineCause}
+use Rattle.ptu_lines.specs.Script.{ScriptLine, Whole, Refused}
 use Rattle.ptu_script.specs.declared.cause.Cause.{Cause}
 use Rattle.ptu_script.specs.declared.command.Command.{Command}
+use Rattle.ptu_script.specs.declared.command.Command.TheVariants.{Deliver}
+use Rattle.ptu_script.specs.Cause.{cause_of_line}
 use Rattle.ptu_script.specs.Command.{command_of}
 use Rattle.ptu_report_lines.specs.declared.report_line.ReportLine.{ReportLine}
 use Rattle.ptu_report_lines.specs.declared.report_line.ReportLine.TheVariants.{At, End}
 use Rattle.ptu_report_lines.specs.declared.statement.Statement.TheVariants.{Bad}
 use Rattle.ptu_slave_messages.specs.Node.{datagram_heard}
 use Rattle.ptu_world.specs.Deeds.{Grandmaster, Slave, IsGrandmaster, IsSlave}
-use Rattle.ptu_world.specs.World.{World, Stock, Done, node_at, step}
+use Rattle.ptu_world.specs.World.{World, Stock, Done, node_at, opening, step}
 use Rattle.ptu_world.specs.Report.{report_lines}
-use Rattle.ptu_world.specs.Reached.{Reaches, done_by_line}
+use Rattle.ptu_world.specs.Reached.{Reaches, done_by_line, lines_said, said_of}
 use Rattle.ptu_world.specs.Promises.{AreMessagesSent, Handed, IsAnswered, IsDecidedByRoom, IsHanded, IsSentAfter, PaysItsPeriod, Request, handed_by}
-use Rattle.ptu_world.specs.Sayings.{IsBestChoice, NamesSelection, is_event, moment_handed, selected_in, slave_of}
+use Rattle.ptu_world.specs.Sayings.{IsBestChoice, IsDelivered, NamesSelection, is_event, moment_handed, numbered, selected_in, sent_in, slave_of}
 
 -- the script reaches the world, in which this grandmaster stands at the address
 pub record HasGrandmaster (stock : Stock) (script : List ℕ) (w : World) (ip : ℕ) (g : Grandmaster) : Type 0 where
@@ -61,17 +64,30 @@ pub record SelectsBest (stock : Stock) (script : List ℕ) : Type 0 where
       → node_at w.nodes d.node ≡ Some (IsSlave s) → is_event (datagram_heard s.opened s.taken d.at d.from d.octets) ≡ true → step w command ≡ Ok done
       → NamesSelection d.node done.said
 
--- what is said at a line that is taken stands in the report, with the number of the line, and the line leads on to a world
--- that the script reaches; the report ends with the line that names a refused one, or, when all lines were taken, with
--- their number and that of the datagrams
+-- the lines of the report that say what is said of the lines that were taken, each with the number of its line
+abbrev pub said_so_far : (stock : Stock) (script : List ℕ) (w : World) → Reaches stock script w → List ReportLine
+said_so_far stock script w r = lines_said 0 (opening stock) r.taken w r.leads
+
+-- the report is what is said of the lines that were taken, and, behind that, what is said at the next line that is taken, which
+-- leads on to a world that the script reaches, or the line that names the one that is refused, for what it says or for its
+-- form, or, when all lines were taken, their number and that of the datagrams; nothing else stands in it
 pub record SaysSo (stock : Stock) (script : List ℕ) : Type 0 where
   pub said : (w : World) (r : Reaches stock script w) (text : List ℕ) (rest : List ScriptLine) (done : Done) → r.left ≡ Whole text ∷ rest
       → done_by_line w (command_of text) ≡ Ok done
-      → (first later : List ReportLine) × (report_lines stock script ≡ first ++ (map (At (length r.taken + 1)) done.said ++ later))
+      → (later : List ReportLine) × (report_lines stock script ≡ said_so_far stock script w r ++ (map (At (length r.taken + 1)) done.said ++ later))
   pub leads_on : (w : World) (r : Reaches stock script w) (text : List ℕ) (rest : List ScriptLine) (done : Done) → r.left ≡ Whole text ∷ rest
       → done_by_line w (command_of text) ≡ Ok done → Reaches stock script done.world
   pub refused : (w : World) (r : Reaches stock script w) (text : List ℕ) (rest : List ScriptLine) (cause : Cause) → r.left ≡ Whole text ∷ rest
       → done_by_line w (command_of text) ≡ Err cause
-      → (first : List ReportLine) × (report_lines stock script ≡ first ++ At (length r.taken + 1) (Bad cause) ∷ [])
+      → report_lines stock script ≡ said_so_far stock script w r ++ At (length r.taken + 1) (Bad cause) ∷ []
+  pub malformed : (w : World) (r : Reaches stock script w) (rest : List ScriptLine) (cause : LineCause) → r.left ≡ Refused cause ∷ rest
+      → report_lines stock script ≡ said_so_far stock script w r ++ At (length r.taken + 1) (Bad (cause_of_line cause)) ∷ []
   pub ended : (w : World) (r : Reaches stock script w) → r.left ≡ []
-      → (first : List ReportLine) × (report_lines stock script ≡ first ++ End (length r.taken) (length w.sent) ∷ [])
+      → report_lines stock script ≡ said_so_far stock script w r ++ End (length r.taken) (length w.sent) ∷ []
+
+-- the datagrams are numbered from 1 in the order in which they are sent, over the whole script, by the lines that say so, each
+-- once; and what is delivered under a number is the datagram that was said to be sent under it, to the node that it was sent to
+pub record NumbersDatagrams (stock : Stock) (script : List ℕ) : Type 0 where
+  pub in_order : (w : World) (r : Reaches stock script w) → filter_map sent_in (said_of (opening stock) r.taken w r.leads) ≡ numbered 1 w.sent
+  pub delivered : (w : World) (r : Reaches stock script w) (t number : ℕ) (done : Done) → step w (Deliver t number) ≡ Ok done
+      → IsDelivered w t number (filter_map sent_in (said_of (opening stock) r.taken w r.leads)) done

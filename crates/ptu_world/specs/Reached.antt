@@ -1,9 +1,11 @@
 -- Which worlds a script reaches.
-use Rattle.std.specs.Prelude.{◌≡◌, ℕ, List, [], ◌∷◌, ◌++◌, Option, Some, None, Result, Ok, Err}
+use Rattle.std.specs.Prelude.{◌≡◌, ℕ, ◌+◌, List, [], ◌∷◌, ◌++◌, map, Option, Some, None, Result, Ok, Err}
 use Rattle.ptu_lines.specs.Script.{ScriptLine, Whole, Refused, script_lines}
 use Rattle.ptu_script.specs.declared.cause.Cause.{Cause}
 use Rattle.ptu_script.specs.declared.command.Command.{Command}
 use Rattle.ptu_script.specs.Command.{command_of}
+use Rattle.ptu_report_lines.specs.declared.report_line.ReportLine.{ReportLine}
+use Rattle.ptu_report_lines.specs.declared.report_line.ReportLine.TheVariants.{At}
 use Rattle.ptu_report_lines.specs.declared.statement.Statement.{Statement}
 use Rattle.ptu_world.specs.World.{World, Stock, Done, opening, step}
 
@@ -24,6 +26,12 @@ abbrev pub said_of : (w : World) (lines : List ScriptLine) (last : World) → Le
 said_of w [] last leads = []
 said_of w (Refused cause ∷ rest) last leads = []
 said_of w (Whole text ∷ rest) last leads = leads.0.said ++ said_of leads.0.world rest last leads.2
+
+-- that, as lines of the report, behind so many lines of the script
+abbrev pub lines_said : (before : ℕ) (w : World) (lines : List ScriptLine) (last : World) → Leads w lines last → List ReportLine
+lines_said before w [] last leads = []
+lines_said before w (Refused cause ∷ rest) last leads = []
+lines_said before w (Whole text ∷ rest) last leads = map (At (before + 1)) leads.0.said ++ lines_said (before + 1) leads.0.world rest last leads.2
 
 -- a script reaches a world where a front of its lines leads there from the opening
 pub record Reaches (stock : Stock) (script : List ℕ) (w : World) : Type 0 where

@@ -1,4 +1,4 @@
-use Rattle.ptu_world.proofs.Headline.{decides_by_room, pays_periods, says_so, selects_best, within_budget, within_capacity}
+use Rattle.ptu_world.proofs.Headline.{decides_by_room, numbers_datagrams, pays_periods, says_so, selects_best, within_budget, within_capacity}
 use Rattle.ptu_world.proofs.promises.headline.Goals as goal
 
 pub returns : goal.returns
@@ -9,4 +9,5 @@ returns _ = record {
   within_budget = within_budget;
   best_master = selects_best;
   says_so = says_so;
+  datagrams = numbers_datagrams;
 }
