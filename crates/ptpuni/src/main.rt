@@ -184,7 +184,9 @@ fn main(rt: HostRuntime) -> ExitCode {
             return ExitCode::from(OUT_OF_MEMORY);
         }
     }
-    let mut host = UdpHost::new(rt);
+    let Ok(mut host) = UdpHost::new(alloc, rt) else {
+        return ExitCode::from(OUT_OF_MEMORY);
+    };
     let status = match words_of(&rt) {
         Ok(words) => status_of(&rt, &words, rt.stdin(), rt.stdout(), &mut host, stock),
         Err(error) => status_without_words(error.kind()),

@@ -2,7 +2,9 @@
 //! system's clock. They tell nothing of what was sent or received, and count their faults.
 #![tactic(auto)]
 
+mod pause;
 mod sys_clock;
+mod traffic;
 mod udp_host;
 mod udp_port;
 

@@ -1,7 +1,10 @@
+use crate::pause::Pause;
+use crate::traffic::Traffic;
 use crate::{SysClock, UdpHost, UdpPort};
 use ptu_outside::{Channel, Clock, Host, Opened, Port};
 use std::net::Net;
 use std::process::Abort;
+use std::test::Fail;
 use std::time::{Duration, Instant};
 use std::{thread, time};
 
@@ -34,8 +37,8 @@ fn next<P: Port>(rt: &impl Abort, port: &mut P, buf: &mut [u8; 2048]) -> (u32, u
 }
 
 #[test]
-fn a_datagram_of_port_0_comes_to_port_4(rt: HostRuntime) {
-    let mut host = UdpHost::new(rt);
+fn a_datagram_of_port_0_comes_to_port_4(rt: HostRuntime) -> Result<(), Fail> {
+    let mut host = UdpHost::new(rt.alloc(), rt)?;
     let mut opened = open(&rt, &mut host, 21319);
     let sent = opened.p0.send(LOOPBACK, Channel::General, b"eight by");
     assert!(rt; sent.is_ok());
@@ -45,13 +48,14 @@ fn a_datagram_of_port_0_comes_to_port_4(rt: HostRuntime) {
     assert_eq!(rt; length, 8);
     assert!(rt; buf[..8].iter().eq(b"eight by".iter()));
     host.close(opened);
+    Ok(())
 }
 
 // It refuses a port that sends both channels to one number, and a host whose ports 4 and 5 are
 // exchanged.
 #[test]
-fn a_datagram_of_the_event_channel_comes_to_port_5(rt: HostRuntime) {
-    let mut host = UdpHost::new(rt);
+fn a_datagram_of_the_event_channel_comes_to_port_5(rt: HostRuntime) -> Result<(), Fail> {
+    let mut host = UdpHost::new(rt.alloc(), rt)?;
     let mut opened = open(&rt, &mut host, 21519);
     let sent = opened.p1.send(LOOPBACK, Channel::Event, b"event");
     assert!(rt; sent.is_ok());
@@ -62,13 +66,14 @@ fn a_datagram_of_the_event_channel_comes_to_port_5(rt: HostRuntime) {
     assert!(rt; buf[..5].iter().eq(b"event".iter()));
     assert_eq!(rt; opened.p4.receive(&mut buf), Ok(None));
     host.close(opened);
+    Ok(())
 }
 
 // It refuses a port that hands the front of a longer datagram on as if it were whole, and one that
 // leaves out a datagram of 2048 octets.
 #[test]
-fn a_longer_datagram_is_left_out(rt: HostRuntime) {
-    let mut host = UdpHost::new(rt);
+fn a_longer_datagram_is_left_out(rt: HostRuntime) -> Result<(), Fail> {
+    let mut host = UdpHost::new(rt.alloc(), rt)?;
     let mut opened = open(&rt, &mut host, 21719);
     for bytes in [&[7; 3000][..], &[8; 2049][..], &[9; 2048][..]] {
         let sent = opened.p2.send(LOOPBACK, Channel::General, bytes);
@@ -80,13 +85,14 @@ fn a_longer_datagram_is_left_out(rt: HostRuntime) {
     assert_eq!(rt; (buf[0], buf[2047]), (9, 9));
     assert_eq!(rt; opened.p4.receive(&mut buf), Ok(None));
     host.close(opened);
+    Ok(())
 }
 
 // It refuses clocks that stand still, clocks of one host with a zero each, and one that counts
 // anything but nanoseconds.
 #[test]
-fn the_clocks_count_nanoseconds_from_one_zero(rt: HostRuntime) {
-    let mut host = UdpHost::new(rt);
+fn the_clocks_count_nanoseconds_from_one_zero(rt: HostRuntime) -> Result<(), Fail> {
+    let mut host = UdpHost::new(rt.alloc(), rt)?;
     let mut opened = open(&rt, &mut host, 21919);
     let mut last = 0;
     for _ in 0..1000 {
@@ -106,4 +112,33 @@ fn the_clocks_count_nanoseconds_from_one_zero(rt: HostRuntime) {
     let counted = u128::from(later.saturating_sub(first));
     assert!(rt; slept.as_nanos() <= counted && counted <= around.as_nanos());
     host.close(opened);
+    Ok(())
+}
+
+// Counts the rests that a port makes, up to this many, before the first that is longer than the
+// first one.
+fn short_rests(pause: &mut Pause, most: u32) -> u32 {
+    let first = pause.micros();
+    for rests in 1..most {
+        if first < pause.micros() {
+            return rests;
+        }
+    }
+    most
+}
+
+// It refuses a port that rests longer while another port sends or receives, one that never does
+// where nothing comes or goes, and one that goes on to do so when something has.
+#[test]
+fn a_port_rests_longer_where_nothing_comes_or_goes(rt: HostRuntime) -> Result<(), Fail> {
+    let traffic = Traffic::new(rt.alloc())?;
+    let mut pause = Pause::new(traffic.share()?);
+    assert_eq!(rt; short_rests(&mut pause, 5000), 2499);
+    traffic.note();
+    assert_eq!(rt; short_rests(&mut pause, 5000), 2500);
+    for _ in 0..10 {
+        traffic.note();
+        assert_eq!(rt; short_rests(&mut pause, 1000), 1000);
+    }
+    Ok(())
 }

@@ -2,9 +2,13 @@ ghost use Rattle.std.specs.Prelude.{◌≡◌, None, Some, IfOk, IfSome, OnOk, O
 ghost use Rattle.ptu_outside.specs.Faults.{HasNotFallen, HasRisen};
 ghost use Rattle.ptu_outside.specs.Telling.{IfTold};
 
+use crate::pause::Pause;
 use crate::sys_clock::SysClock;
+use crate::traffic::Traffic;
 use crate::udp_port::{Numbers, UdpPort};
 use ptu_outside::{Failed, Host, Opened};
+use ptu_units::OutOfMemory;
+use std::alloc::Global;
 use std::io;
 use std::marker::Model;
 use std::net::{Ipv4Addr, Net, SocketAddrV4};
@@ -13,11 +17,12 @@ use std::time::{Clock, Instant};
 /// Opens UDP sockets at one address: ports 0 to 3 at UDP port numbers that are free, port 4 at
 /// that of the general channel and port 5 at that of the event channel. All six clocks count from
 /// the moment of the opening. Of the two ports that receive, that of the general channel rests
-/// where nothing waits, so a round that finds nothing to do takes some 0.1 ms and next to no
-/// work.
+/// where nothing waits, so a round that finds nothing to do takes some 0.1 ms and next to no work;
+/// where no datagram has come or gone for a quarter of a second it takes some 1 ms.
 #[derive(Drop)]
 pub struct UdpHost<R> {
     runtime: R,
+    traffic: Traffic,
     faults: u64,
 }
 
@@ -31,24 +36,39 @@ impl<R> Model for UdpHost<R> {
 
 impl<R: Net + Clock + Copy> UdpHost<R> {
     /// A host over this runtime.
-    pub fn new(runtime: R) -> UdpHost<R> {
-        UdpHost { runtime, faults: 0 }
+    ///
+    /// # Errors
+    /// Where memory was not found.
+    pub fn new(alloc: Global, runtime: R) -> Result<UdpHost<R>, OutOfMemory> {
+        Ok(UdpHost {
+            runtime,
+            traffic: Traffic::new(alloc)?,
+            faults: 0,
+        })
     }
 
-    fn port(&self, ip: u32, number: u16, numbers: Numbers, rests: bool) -> io::Result<UdpPort<R>> {
+    fn port(
+        &self,
+        ip: u32,
+        number: u16,
+        numbers: Numbers,
+        pause: Option<Pause>,
+    ) -> io::Result<UdpPort<R>> {
         let address = SocketAddrV4::new(Ipv4Addr::from(ip), number);
-        UdpPort::open(self.runtime, address, numbers, rests)
+        let traffic = self.traffic.share()?;
+        UdpPort::open(self.runtime, address, numbers, traffic, pause)
     }
 
     fn open_all(&self, ip: u32, numbers: Numbers) -> io::Result<Opened<UdpPort<R>, SysClock<R>>> {
         let start = Instant::now(&self.runtime)?;
+        let pause = Pause::new(self.traffic.share()?);
         Ok(Opened {
-            p0: self.port(ip, 0, numbers, false)?,
-            p1: self.port(ip, 0, numbers, false)?,
-            p2: self.port(ip, 0, numbers, false)?,
-            p3: self.port(ip, 0, numbers, false)?,
-            p4: self.port(ip, numbers.general, numbers, true)?,
-            p5: self.port(ip, numbers.event, numbers, false)?,
+            p0: self.port(ip, 0, numbers, None)?,
+            p1: self.port(ip, 0, numbers, None)?,
+            p2: self.port(ip, 0, numbers, None)?,
+            p3: self.port(ip, 0, numbers, None)?,
+            p4: self.port(ip, numbers.general, numbers, Some(pause))?,
+            p5: self.port(ip, numbers.event, numbers, None)?,
             c0: SysClock::since(self.runtime, start),
             c1: SysClock::since(self.runtime, start),
             c2: SysClock::since(self.runtime, start),

@@ -2,16 +2,14 @@ ghost use Rattle.std.specs.Prelude.{◌≡◌, ◌≤◌, ◌∷◌, [], None, t
 ghost use Rattle.ptu_outside.specs.Faults.{HasNotFallen, HasRisen, one_more};
 ghost use Rattle.ptu_outside.specs.Telling.{IfTold, IsEmptyTold, IsFirstTold, append_told, rest_told};
 
+use crate::pause::Pause;
+use crate::traffic::Traffic;
 use ptu_outside::{Channel, Failed, Port};
+use std::io;
 use std::io::ErrorKind;
 use std::marker::Model;
 use std::net::{Ipv4Addr, Net, SocketAddr, SocketAddrV4, UdpSocket};
-use std::time::{Clock, Duration};
-use std::{io, thread};
-
-/// For how many microseconds a port rests that finds nothing waiting. The system may make up to
-/// 50 more of it.
-const REST: u64 = 40;
+use std::time::Clock;
 
 /// How many octets a datagram may have. No message of PTP over UDP and IPv4 that a node takes is
 /// longer.
@@ -34,7 +32,8 @@ pub struct UdpPort<R> {
     runtime: R,
     socket: UdpSocket,
     numbers: Numbers,
-    rests: bool,
+    traffic: Traffic,
+    pause: Option<Pause>,
     faults: u64,
 }
 
@@ -48,12 +47,13 @@ impl<R> Model for UdpPort<R> {
 
 impl<R: Net + Clock + Drop> UdpPort<R> {
     // A port at this address and UDP port number, 0 being one that is free. It sends to these
-    // numbers, and rests where it is to.
+    // numbers, and rests where there is a pause to make.
     pub(crate) fn open(
         runtime: R,
         address: SocketAddrV4,
         numbers: Numbers,
-        rests: bool,
+        traffic: Traffic,
+        pause: Option<Pause>,
     ) -> io::Result<UdpPort<R>> {
         let socket = UdpSocket::bind(&runtime, SocketAddr::V4(address))?;
         socket.set_nonblocking(true)?;
@@ -61,7 +61,8 @@ impl<R: Net + Clock + Drop> UdpPort<R> {
             runtime,
             socket,
             numbers,
-            rests,
+            traffic,
+            pause,
             faults: 0,
         })
     }
@@ -81,9 +82,9 @@ impl<R: Net + Clock + Drop> UdpPort<R> {
     }
 
     // Nothing is there to receive.
-    fn rest(&self) {
-        if self.rests {
-            thread::sleep(&self.runtime, Duration::from_micros(REST));
+    fn rest(&mut self) {
+        if let Some(pause) = &mut self.pause {
+            pause.rest(&self.runtime);
         }
     }
 }
@@ -116,7 +117,10 @@ impl<R: Net + Clock + Drop> Port for UdpPort<R> {
         let to = SocketAddr::V4(SocketAddrV4::new(Ipv4Addr::from(ip), number));
         for _ in 0..u64::MAX {
             match self.socket.send_to(bytes, to) {
-                Ok(taken) if taken == bytes.len() => return Ok(()),
+                Ok(taken) if taken == bytes.len() => {
+                    self.traffic.note();
+                    return Ok(());
+                }
                 Err(error) if error.kind() == ErrorKind::Interrupted => {}
                 Ok(_) | Err(_) => break,
             }
@@ -132,6 +136,7 @@ impl<R: Net + Clock + Drop> Port for UdpPort<R> {
         for _ in 0..MOST_LEFT_OUT {
             match self.take_next(&mut taken) {
                 Ok((length, SocketAddr::V4(from))) => {
+                    self.traffic.note();
                     if length <= LONGEST {
                         buf[..length].copy_from_slice(&taken[..length]);
                         return Ok(Some((from.ip().to_bits(), length)));
