@@ -1,24 +1,33 @@
 -- The messages of a grandmaster's history are the datagrams that it sent.
-use Rattle.std.proofs.Common.{◌≡◌, ◌∙◌, ℕ, ◌+◌, ◌++◌, List, [], ◌∷◌, map, Option, Some, None, option_map, Result, Ok, Err, IfOk, Bool, true, false, cond, eqb, leb, length, refl, sym, ap, subst, is_some, filter_map, append-nil, eq-eqb, eqb-true, ne_eqb}
-use Rattle.std.specs.List.{cons_option}
+use Rattle.std.proofs.Common.{◌≡◌, ◌≢◌, ◌∙◌, ℕ, suc, ◌+◌, ◌/◌, ◌%◌, ◌++◌, List, [], ◌∷◌, map, Option, Some, None, option_map, Result, Ok, Err, IfOk, Bool, true, false, cond, eqb, leb, length, refl, sym, ap, subst, arith, get_or, is_some, filter_map, append-nil, append_assoc, eq-eqb, eqb-true, ne_eqb}
+use Rattle.std.specs.List.{All, cons_option}
+use Rattle.std.specs.Prelude.{slice_index_or}
 use Rattle.std.specs.Option.{option_map_or}
-use Rattle.std.proofs.lemmas.List.Elements.{filter_map-append}
+use Rattle.std.proofs.lemmas.List.Elements.{Contains-get_or, filter_map-append}
 use Rattle.ptu_units.specs.declared.kind.Kind.{Kind}
 use Rattle.ptu_units.specs.declared.kind.Kind.TheVariants as kinds
 use Rattle.ptu_units.specs.Kind.{code_of, kind_of}
+use Rattle.ptu_octets.specs.Number.{octets_of}
 use Rattle.ptu_header.specs.declared.header.Header.{Header}
+use Rattle.ptu_messages.specs.Sent.{sent_stamp}
 use Rattle.ptu_outside.specs.Departure.{Departure}
 use Rattle.ptu_history.specs.declared.client.Client.{Client}
+use Rattle.ptu_history.specs.Client.{same_lease, table_of}
 use Rattle.ptu_history.specs.Core.{core_moment, core_step, history_after}
 use Rattle.ptu_history.specs.Counts.{counts}
 use Rattle.ptu_history.specs.Events as events
 use Rattle.ptu_history.specs.Events.{Answer, Event}
-use Rattle.ptu_history.specs.History.{Record}
-use Rattle.ptu_history.specs.Live.{Grant}
+use Rattle.ptu_history.specs.History.{Record, Capacity, Looked, concerns, lease_records}
+use Rattle.ptu_history.specs.Live.{Grant, IsDistinctByLease}
+use Rattle.ptu_history.specs.Runs.{sequence_number}
 use Rattle.ptu_history.specs.Shedding.{shed_grants, shed_record}
 use Rattle.ptu_history.specs.Step.{answer_records, delay_answer, verdict_records}
-use Rattle.ptu_history.specs.Turns.{due_grants, message_of, sent_record}
+use Rattle.ptu_history.specs.Turns.{due_grants, is_due, message_of, sent_record}
 use Rattle.ptu_history.specs.Verdict.{Config, Verdict, GrantedFor, ShortOf, Outside, verdict}
+use Rattle.ptu_history.proofs.Alike.{sequence_number-alike}
+use Rattle.ptu_history.proofs.Keys.{same_lease-sym}
+use Rattle.ptu_history.proofs.LeaseRecords.{lease_records-push}
+use Rattle.ptu_history.proofs.Orders.{due_grants-distinct, due_grants-members, is_due-parts}
 use Rattle.ptu_shard.specs.declared.config.GmConfig.{GmConfig}
 use Rattle.ptu_shard.specs.Answered.{responses}
 use Rattle.ptu_shard.specs.Messages.{departure_of, octets_sent, response_of}
@@ -46,86 +55,138 @@ use Rattle.ptu_world.specs.Deeds.{Grandmaster, Slave, Node, IsGrandmaster, IsSla
 use Rattle.ptu_world.specs.Grandmasters as gm
 use Rattle.ptu_slave_messages.specs.Node as slave
 use Rattle.ptu_world.specs.Slaves as slaves
-use Rattle.ptu_world.specs.Promises.{message_in, timing_from, timing_to}
+use Rattle.ptu_world.specs.Promises.{Timing, mark_of, messages_in, message_in, timing_from, timing_to}
 use Rattle.ptu_world.specs.World.{World, Stock, Done, add_master, at_grandmaster, datagram_deed, datagram_numbered, delivered_to, done_by, grandmaster_by, new_grandmaster, new_slave, or_cause, place_in, placed, quietly, sent_from, set_up, slave_at, step, stock_without, with_master, node_at, Nodes}
 use Rattle.ptu_world.proofs.Limits.{ok_bound}
 
-abbrev heads : List Departure → List (ℕ × ℕ)
+abbrev heads : List Departure → List Timing
 heads sends = filter_map (λ (d : Departure). timing_to d.ip d.bytes) sends
-
-abbrev pub messages : List Record → List (ℕ × ℕ)
-messages history = filter_map message_in history
 
 -- ---- what an event appends, and what it sends
 
+-- one record more
+append-option : (o : Option Timing) (xs ys : List Timing) → cons_option o (xs ++ ys) ≡ cons_option o xs ++ ys
+append-option None xs ys = refl
+append-option (Some t) xs ys = refl
+
+messages_in-append : (epoch : ℕ) (before xs ys : List Record) → messages_in epoch before (xs ++ ys) ≡ messages_in epoch before xs ++ messages_in epoch (before ++ xs) ys
+messages_in-append epoch before [] ys = ap (λ h. messages_in epoch h ys) (sym (append-nil before))
+messages_in-append epoch before (x ∷ xs) ys =
+    ap (cons_option (message_in epoch before x)) (messages_in-append epoch (before ++ x ∷ []) xs ys ∙ ap (λ h. messages_in epoch (before ++ x ∷ []) xs ++ messages_in epoch h ys) (append_assoc before (x ∷ []) xs))
+    ∙ append-option (message_in epoch before x) (messages_in epoch (before ++ x ∷ []) xs) (messages_in epoch (before ++ x ∷ xs) ys)
+
 -- nothing is sent, and nothing is recorded as sent
-no_more : (history records : List Record) → messages records ≡ [] → messages (history ++ records) ≡ messages history
-no_more history records e = filter_map-append message_in history records ∙ ap (λ ms. messages history ++ ms) e ∙ append-nil (messages history)
+no_more : (epoch : ℕ) (history records : List Record) → messages_in epoch history records ≡ [] → messages_in epoch [] (history ++ records) ≡ messages_in epoch [] history
+no_more epoch history records e = messages_in-append epoch [] history records ∙ ap (λ ms. messages_in epoch [] history ++ ms) e ∙ append-nil (messages_in epoch [] history)
 
-turn_sends : (config : GmConfig) (past : List Record) (x : ℕ) (due : List Grant) → messages (map (sent_record x) due) ≡ heads (map (λ g. departure_of config x (message_of past g)) due)
+-- what is of another client or kind leaves the number as it is
+number_stays : (before : List Record) (r : Record) (c : Client) (k : Kind) → concerns c k r ≡ false → sequence_number (before ++ r ∷ []) c k ≡ sequence_number before c k
+number_stays before r c k e =
+    sequence_number-alike (before ++ r ∷ []) before c k (lease_records-push before r c k ∙ ap (λ b. cond b (r ∷ lease_records before c k) (lease_records before c k)) e)
+
+-- the grants have the number that they had before the turn
+abbrev HasItsNumber : List Record → List Record → Grant → Type 0
+HasItsNumber past before g = sequence_number before g.client g.kind ≡ sequence_number past g.client g.kind
+
+numbers_stay : (past before : List Record) (x : ℕ) (g : Grant) (due : List Grant) → All (HasItsNumber past before) (g ∷ due) → IsDistinctByLease (g ∷ due) → All (HasItsNumber past (before ++ sent_record x g ∷ [])) due
+numbers_stay past before x g due same distinct k d lt =
+    let h : Grant = slice_index_or due k d in
+    let other : same_lease g.client g.kind h.client h.kind ≡ false = distinct 0 (suc k) d (omega arith) (omega (arith, lt)) in
+    number_stays before (sent_record x g) h.client h.kind (same_lease-sym h.client h.kind g.client g.kind ∙ other)
+    ∙ same (suc k) d (omega (arith, lt))
+
+-- a turn sends no Delay_Resp
+abbrev IsTurned : Grant → Type 0
+IsTurned g = g.kind ≢ kinds.DelayResp
+
+due_turned : (history : List Record) (x j : ℕ) → All IsTurned (due_grants history x j)
+due_turned history x j = λ i d lt.
+    let g : Grant = get_or (due_grants history x j) i d in
+    let due : is_due history x j g ≡ true = ((due_grants-members history x j g).0 (Contains-get_or (due_grants history x j) i d lt)).1 in
+    ((is_due-parts history x j g).0 due).0
+
+turn_sends : (config : GmConfig) (past before : List Record) (x : ℕ) (due : List Grant) → All IsTurned due → All (HasItsNumber past before) due → IsDistinctByLease due
+    → messages_in config.epoch before (map (sent_record x) due) ≡ heads (map (λ g. departure_of config x (message_of past g)) due)
 unfolding octets_sent
-turn_sends config past x [] = refl
-turn_sends config past x (g ∷ due) = by g.kind (turn_sends config past x due)
+turn_sends config past before x [] turned same distinct = refl
+turn_sends config past before x (g ∷ due) turned same distinct =
+    by g.kind (turned 0 g (omega arith)) (same 0 g (omega arith))
+    (turn_sends config past (before ++ sent_record x g ∷ []) x due (λ k d lt. turned (suc k) d (omega (arith, lt)))
+    (numbers_stay past before x g due same distinct) (λ i j d a b. distinct (suc i) (suc j) d (omega (arith, a)) (omega (arith, b))))
   where
-    by : (k : Kind) → messages (map (sent_record x) due) ≡ heads (map (λ g. departure_of config x (message_of past g)) due)
-        → (g.client.ip, code_of k) ∷ messages (map (sent_record x) due)
-        ≡ cons_option (timing_to g.client.ip (departure_of config x (record { client = g.client; kind = k; sequence = (message_of past g).sequence })).bytes)
-        (heads (map (λ g. departure_of config x (message_of past g)) due))
-    by kinds.Announce e = ap (λ ms. (g.client.ip, 11) ∷ ms) e
-    by kinds.Sync e = ap (λ ms. (g.client.ip, 0) ∷ ms) e
-    by kinds.DelayResp e = ap (λ ms. (g.client.ip, 9) ∷ ms) e
+    abbrev rest : List Timing
+    rest = messages_in config.epoch (before ++ sent_record x g ∷ []) (map (sent_record x) due)
 
-delay_sends : (config : GmConfig) (x : ℕ) (c : Client) (header : Header) (answer : Answer) → messages (answer_records x c answer) ≡ heads (responses answer (response_of config x c header))
+    abbrev sent : List Timing
+    sent = heads (map (λ g. departure_of config x (message_of past g)) due)
+
+    abbrev first : Kind → List ℕ → Timing
+    first k mark = record { to = g.client.ip; message_type = code_of k; moment = sent_stamp (record { seconds = config.epoch + x / 1000000000; nanos = x % 1000000000 }); mark = mark }
+
+    by : (k : Kind) → k ≢ kinds.DelayResp → sequence_number before g.client k ≡ sequence_number past g.client k → rest ≡ sent
+        → first k (mark_of before g.client k) ∷ rest
+        ≡ cons_option (timing_to g.client.ip (departure_of config x (record { client = g.client; kind = k; sequence = sequence_number past g.client k })).bytes) sent
+    by kinds.Announce differ n e = ap (λ m. first kinds.Announce (octets_of 2 m) ∷ rest) n ∙ ap (λ ms. first kinds.Announce (octets_of 2 (sequence_number past g.client kinds.Announce)) ∷ ms) e
+    by kinds.Sync differ n e = ap (λ m. first kinds.Sync (octets_of 2 m) ∷ rest) n ∙ ap (λ ms. first kinds.Sync (octets_of 2 (sequence_number past g.client kinds.Sync)) ∷ ms) e
+    by kinds.DelayResp differ n e = absurd (differ refl)
+
+delay_sends : (config : GmConfig) (before : List Record) (x from : ℕ) (header : Header) (answer : Answer)
+    → messages_in config.epoch before (answer_records x (client_of from header) answer) ≡ heads (responses answer (response_of config x (client_of from header) header))
 unfolding octets_sent
-delay_sends config x c header events.Answered = refl
-delay_sends config x c header events.NoGrant = refl
-delay_sends config x c header (events.TooSoon earliest) = refl
+delay_sends config before x from header events.Answered = refl
+delay_sends config before x from header events.NoGrant = refl
+delay_sends config before x from header (events.TooSoon earliest) = refl
 
-verdict_sends : (x : ℕ) (c : Client) (v : Verdict) → messages (verdict_records x c v) ≡ []
-verdict_sends x c (GrantedFor k l seconds until) = refl
-verdict_sends x c (ShortOf k l others rate capacity) = refl
-verdict_sends x c (Outside cause) = refl
+verdict_sends : (epoch : ℕ) (before : List Record) (x : ℕ) (c : Client) (v : Verdict) → messages_in epoch before (verdict_records x c v) ≡ []
+verdict_sends epoch before x c (GrantedFor k l seconds until) = refl
+verdict_sends epoch before x c (ShortOf k l others rate capacity) = refl
+verdict_sends epoch before x c (Outside cause) = refl
 
-item_sends : (opened : Config) (history : List Record) (t : ℕ) (c : Client) (item : Item) → messages (item_records opened history t c item) ≡ []
-item_sends opened history t c (items.Request ask) = verdict_sends (item_moment history t c) c (verdict opened history (item_moment history t c) c (asked_by ask))
-item_sends opened history t c (items.Cancel code) = by (kind_of code)
+item_sends : (epoch : ℕ) (opened : Config) (history : List Record) (t : ℕ) (c : Client) (item : Item) → messages_in epoch history (item_records opened history t c item) ≡ []
+item_sends epoch opened history t c (items.Request ask) = verdict_sends epoch history (item_moment history t c) c (verdict opened history (item_moment history t c) c (asked_by ask))
+item_sends epoch opened history t c (items.Cancel code) = by (kind_of code)
   where
-    by : (o : Option Kind) → messages (option_map_or (λ e. (core_step opened history t e).records) (option_map (events.Cancel c) o) []) ≡ []
+    by : (o : Option Kind) → messages_in epoch history (option_map_or (λ e. (core_step opened history t e).records) (option_map (events.Cancel c) o) []) ≡ []
     by None = refl
     by (Some k) = refl
 
-items_send : (opened : Config) (history : List Record) (t : ℕ) (c : Client) (list : List Item) → messages (history_after opened history (events_of_items t c list)) ≡ messages history
+items_send : (epoch : ℕ) (opened : Config) (history : List Record) (t : ℕ) (c : Client) (list : List Item)
+    → messages_in epoch [] (history_after opened history (events_of_items t c list)) ≡ messages_in epoch [] history
 unfolding history_after
-items_send opened history t c [] = refl
-items_send opened history t c (item ∷ list) =
-    ap messages (history_after-items opened t history c item list)
-    ∙ items_send opened (history ++ item_records opened history t c item) t c list
-    ∙ no_more history (item_records opened history t c item) (item_sends opened history t c item)
+items_send epoch opened history t c [] = refl
+items_send epoch opened history t c (item ∷ list) =
+    ap (messages_in epoch []) (history_after-items opened t history c item list)
+    ∙ items_send epoch opened (history ++ item_records opened history t c item) t c list
+    ∙ no_more epoch history (item_records opened history t c item) (item_sends epoch opened history t c item)
 
 replies_send : (g : Grandmaster) (t from : ℕ) (header : Header) (list : List Item) → heads (gm.replies g t from header list) ≡ []
 unfolding octets_sent
 replies_send g t from header [] = refl
 replies_send g t from header (item ∷ list) = refl
 
-shed_sends : (x : ℕ) (shed : List Grant) → messages (map (shed_record x) shed) ≡ []
-shed_sends x [] = refl
-shed_sends x (g ∷ shed) = shed_sends x shed
+shed_sends : (epoch : ℕ) (before : List Record) (x : ℕ) (shed : List Grant) → messages_in epoch before (map (shed_record x) shed) ≡ []
+shed_sends epoch before x [] = refl
+shed_sends epoch before x (g ∷ shed) = shed_sends epoch (before ++ shed_record x g ∷ []) x shed
 
 cancels_send : (config : GmConfig) (before : ℕ) (leases : List (Client × Kind)) → heads (cancels_to config before leases) ≡ []
 unfolding octets_sent
 cancels_send config before [] = refl
 cancels_send config before (lease ∷ leases) = cancels_send config (before + 1) leases
 
+-- the messages of a grandmaster
+abbrev messages : Grandmaster → List Timing
+messages g = messages_in g.config.epoch [] g.past
+
 -- what is sent is what is recorded
 abbrev Tells : Grandmaster → List Departure → Node → Type 0
-Tells g sends (IsGrandmaster new) = messages new.past ≡ messages g.past ++ heads sends
+Tells g sends (IsGrandmaster new) = messages new ≡ messages g ++ heads sends
 Tells g sends (IsSlave s) = ⊥
 
 abbrev IsTold : Grandmaster → Deed → Type 0
 IsTold g deed = Tells g deed.sends deed.node
 
-same_told : (g : Grandmaster) → messages g.past ≡ messages g.past ++ []
-same_told g = sym (append-nil (messages g.past))
+same_told : (g : Grandmaster) → messages g ≡ messages g ++ []
+same_told g = sym (append-nil (messages g))
 
 heard_told : (g : Grandmaster) (t from : ℕ) (heard : Result gm_heard.Heard GmReason) → IsTold g (gm.heard_deed g t from heard)
 unfolding history_after
@@ -133,30 +194,34 @@ heard_told g t from (Err reason) = same_told g
 heard_told g t from (Ok (DelayReq header)) =
     let c = client_of from header in
     let x = core_moment g.past t (events.DelayReq c) in
-    filter_map-append message_in g.past _ ∙ ap (λ ms. messages g.past ++ ms) (delay_sends g.config x c header (delay_answer g.past x c))
+    messages_in-append g.config.epoch [] g.past _
+    ∙ ap (λ ms. messages g ++ ms) (delay_sends g.config (g.past ++ Looked x (table_of c) ∷ []) x from header (delay_answer g.past x c))
 heard_told g t from (Ok (Asks header list)) =
-    items_send (gm.opening g) g.past t (client_of from header) list ∙ sym (ap (λ ms. messages g.past ++ ms) (replies_send g t from header list) ∙ append-nil (messages g.past))
+    items_send g.config.epoch (gm.opening g) g.past t (client_of from header) list ∙ sym (ap (λ ms. messages g ++ ms) (replies_send g t from header list) ∙ append-nil (messages g))
 
 turn_told : (g : Grandmaster) (t j : ℕ) → IsTold g (gm.turn_deed g t j)
 unfolding history_after
 turn_told g t j =
     let x = core_moment g.past t (events.Turn j) in
-    filter_map-append message_in g.past _ ∙ ap (λ ms. messages g.past ++ ms) (turn_sends g.config g.past x (due_grants g.past x j))
+    messages_in-append g.config.epoch [] g.past _
+    ∙ ap (λ ms. messages g ++ ms) (turn_sends g.config g.past (g.past ++ Looked x j ∷ []) x (due_grants g.past x j) (due_turned g.past x j)
+    (λ k d lt. number_stays g.past (Looked x j) (get_or (due_grants g.past x j) k d).client (get_or (due_grants g.past x j) k d).kind refl)
+    (due_grants-distinct g.past x j))
 
 capacity_told : (g : Grandmaster) (t capacity : ℕ) → IsTold g (gm.capacity_deed g t capacity)
 unfolding history_after
 capacity_told g t capacity =
     let x = core_moment g.past t (events.Resize capacity) in
     let shed = shed_grants g.past x capacity in
-    no_more g.past _ (shed_sends x shed)
-    ∙ sym (ap (λ ms. messages g.past ++ ms) (cancels_send g.config (counts g.past).shed (map lease_of shed)) ∙ append-nil (messages g.past))
+    no_more g.config.epoch g.past _ (shed_sends g.config.epoch (g.past ++ Capacity x capacity ∷ []) x shed)
+    ∙ sym (ap (λ ms. messages g ++ ms) (cancels_send g.config (counts g.past).shed (map lease_of shed)) ∙ append-nil (messages g))
 
 -- ---- the world
 
 -- of the node at an address: where there is none, none sent a message from it; a grandmaster sent those of its history
 abbrev pub SentBy : ℕ → List Sent → Option Node → Type 0
 SentBy ip sent None = filter_map (timing_from ip) sent ≡ []
-SentBy ip sent (Some (IsGrandmaster g)) = filter_map (timing_from ip) sent ≡ messages g.past
+SentBy ip sent (Some (IsGrandmaster g)) = filter_map (timing_from ip) sent ≡ messages g
 SentBy ip sent (Some (IsSlave s)) = Unit {0}
 
 abbrev pub AllSent : World → Type 0
@@ -181,7 +246,7 @@ elsewhere a ip sent sends None e s = filter_map-append (timing_from a) sent _ �
 elsewhere a ip sent sends (Some (IsGrandmaster g)) e s = filter_map-append (timing_from a) sent _ ∙ ap (λ ms. filter_map (timing_from a) sent ++ ms) (from_other a ip sends e) ∙ append-nil _ ∙ s
 elsewhere a ip sent sends (Some (IsSlave x)) e s = tt
 
-told_at : (ip : ℕ) (sent : List Sent) (g : Grandmaster) (sends : List Departure) (node : Node) → filter_map (timing_from ip) sent ≡ messages g.past → Tells g sends node
+told_at : (ip : ℕ) (sent : List Sent) (g : Grandmaster) (sends : List Departure) (node : Node) → filter_map (timing_from ip) sent ≡ messages g → Tells g sends node
     → SentBy ip (sent ++ map (sent_from ip) sends) (Some node)
 told_at ip sent g sends (IsGrandmaster new) s t =
     filter_map-append (timing_from ip) sent _ ∙ ap (λ ms. filter_map (timing_from ip) sent ++ ms) (from_it ip sends (eqb ip ip) refl (eq-eqb ip ip refl))
@@ -218,10 +283,10 @@ given_sent : (ip t from : ℕ) (octets : List ℕ) (node : Node) (sent : List Se
 given_sent ip t from octets (IsGrandmaster g) sent s = told_at ip sent g _ _ s (heard_told g t from (heard_in g.config octets))
 given_sent ip t from octets (IsSlave x) sent s = slave_sent ip t x (slave.datagram_deed x.opened x.taken t from octets) (slave.datagram_heard x.opened x.taken t from octets) _
 
-found_sent : (ip : ℕ) (sent : List Sent) (g : Grandmaster) (o : Option Node) → SentBy ip sent o → grandmaster_by o ≡ Ok g → filter_map (timing_from ip) sent ≡ messages g.past
+found_sent : (ip : ℕ) (sent : List Sent) (g : Grandmaster) (o : Option Node) → SentBy ip sent o → grandmaster_by o ≡ Ok g → filter_map (timing_from ip) sent ≡ messages g
 found_sent ip sent g None s e = absurd cc
 found_sent ip sent g (Some (IsSlave x)) s e = absurd cc
-found_sent ip sent g (Some (IsGrandmaster x)) s e = s ∙ ap (λ y. messages y.past) (let same : x ≡ g = cc in same)
+found_sent ip sent g (Some (IsGrandmaster x)) s e = s ∙ ap messages (let same : x ≡ g = cc in same)
 
 nobody_sent : (ip : ℕ) (sent : List Sent) (o : Option Node) → SentBy ip sent o → is_some o ≡ false → filter_map (timing_from ip) sent ≡ []
 nobody_sent ip sent None s e = s

@@ -1,19 +1,24 @@
 -- What every grandmaster of a script keeps to. The budget and the payments are the project's own choice; requests are those
 -- of IEEE 1588-2019 clause 16.1.
-use Rattle.std.specs.Prelude.{◌≡◌, ◌↔◌, ℕ, ◌+◌, ◌*◌, ◌%◌, ◌<◌, ◌≤◌, false, ◌==◌, if◌then◌else◌, filter_map, slice_index, List, [], ◌∷◌, ◌++◌, length, ℤ, Option, Some, None, option_map, Ok, Err, IsTrue}
-use Rattle.std.specs.List.{AllPairs, Contains}
+use Rattle.std.specs.Prelude.{◌≡◌, ◌↔◌, ℕ, ◌+◌, ◌*◌, ◌/◌, ◌%◌, ◌<◌, ◌≤◌, false, ◌==◌, if◌then◌else◌, filter_map, slice_index, List, [], ◌∷◌, ◌++◌, length, take, drop, ℤ, Option, Some, None, option_map, Ok, Err, IsTrue}
+use Rattle.std.specs.List.{AllPairs, Contains, cons_option}
 use Rattle.ptu_units.specs.declared.kind.Kind.{Kind}
+use Rattle.ptu_units.specs.declared.kind.Kind.TheVariants.{DelayResp}
 use Rattle.ptu_units.specs.Kind.{code_of}
 use Rattle.ptu_units.specs.Log.{rate_of}
+use Rattle.ptu_octets.specs.Number.{octets_of}
 use Rattle.ptu_header.specs.declared.header.Header.{Header}
+use Rattle.ptu_header.specs.Sent.{sent_identity}
 use Rattle.ptu_tlvs.specs.declared.tlv.Ask.{Ask}
 use Rattle.ptu_tlvs.specs.declared.tlv.Tlv.{Tlv}
+use Rattle.ptu_messages.specs.Sent.{sent_stamp}
 use Rattle.ptu_history.specs.declared.client.Client.{Client}
 use Rattle.ptu_history.specs.Core.{core_history, history_after}
 use Rattle.ptu_history.specs.Events.{Event}
 use Rattle.ptu_history.specs.Held.{budget, count, force, held, payment, payments}
 use Rattle.ptu_history.specs.History.{Record, Granted, Sent, capacity_in_force}
 use Rattle.ptu_history.specs.Live.{last_decision, live}
+use Rattle.ptu_history.specs.Runs.{sequence_number}
 use Rattle.ptu_history.specs.Verdict.{Config, Verdict, Outside, OutsideCause, granted_seconds, others, profile, verdict}
 use Rattle.ptu_laws.specs.Granted.{is_granted, is_short}
 use Rattle.ptu_laws.specs.Paid.{IsBefore, IsPaid}
@@ -73,22 +78,52 @@ pub record KeepsPromises (config : Config) (history : List Record) : Type 0 wher
 abbrev pub type_of : List ℕ → ℕ
 type_of octets = slice_index octets 0 % 16
 
--- of a datagram to an address: that and its messageType, but nothing of a Signaling
-abbrev pub timing_to : ℕ → List ℕ → Option (ℕ × ℕ)
-timing_to ip octets = if type_of octets == 12 then None else Some (ip, type_of octets)
+-- a timing message: where it goes, its messageType, the ten octets of the moment that it tells, and by which it is known: the
+-- sequenceId of an Announce or a Sync, the requestingPortIdentity of a Delay_Resp (IEEE 1588-2019 clauses 13.3, 13.5, 13.6, 13.8)
+pub record Timing : Type 0 where
+  pub to : ℕ
+  pub message_type : ℕ
+  pub moment : List ℕ
+  pub mark : List ℕ
+
+abbrev pub mark_in : ℕ → List ℕ → List ℕ
+mark_in message_type octets = if message_type == 9 then take 10 (drop 44 octets) else take 2 (drop 30 octets)
+
+-- that of a datagram to an address, unless it is a Signaling
+abbrev pub timing_to : ℕ → List ℕ → Option Timing
+timing_to ip octets =
+    if type_of octets == 12
+    then None
+    else Some (record { to = ip; message_type = type_of octets; moment = take 10 (drop 34 octets); mark = mark_in (type_of octets) octets })
 
 -- likewise, where the node at this address sent it
-abbrev pub timing_from : ℕ → sending.Sent → Option (ℕ × ℕ)
+abbrev pub timing_from : ℕ → sending.Sent → Option Timing
 timing_from ip sent = if sent.from == ip then timing_to sent.to sent.octets else None
 
--- of a record of a message: the address of its client, and the messageType of its kind
-abbrev pub message_in : Record → Option (ℕ × ℕ)
-message_in (Sent x c k) = Some (c.ip, code_of k)
-message_in _ = None
+-- a message that is sent after a history has the number that is next there; a Delay_Resp answers its client
+abbrev pub mark_of : List Record → Client → Kind → List ℕ
+mark_of before c DelayResp = sent_identity (record { clock = c.clock; port = c.port })
+mark_of before c k = octets_of 2 (sequence_number before c k)
+
+-- of a record behind a history: its message, at a moment that is told from an epoch on
+abbrev pub message_in : ℕ → List Record → Record → Option Timing
+message_in epoch before (Sent x c k) =
+    Some (record {
+      to = c.ip;
+      message_type = code_of k;
+      moment = sent_stamp (record { seconds = epoch + x / 1000000000; nanos = x % 1000000000 });
+      mark = mark_of before c k;
+    })
+message_in epoch before _ = None
+
+-- of records behind a history
+abbrev pub messages_in : ℕ → List Record → List Record → List Timing
+messages_in epoch before [] = []
+messages_in epoch before (r ∷ rest) = cons_option (message_in epoch before r) (messages_in epoch (before ++ r ∷ []) rest)
 
 -- the messages in a grandmaster's history are, one for one and in order, the datagrams that it sent but for Signaling
 abbrev pub AreMessagesSent : World → ℕ → Grandmaster → Type 0
-AreMessagesSent w ip gm = filter_map (timing_from ip) w.sent ≡ filter_map message_in gm.past
+AreMessagesSent w ip gm = filter_map (timing_from ip) w.sent ≡ messages_in gm.config.epoch [] gm.past
 
 -- ---- datagrams
 
