@@ -105,30 +105,27 @@ due_turned history x j = λ i d lt.
     let due : is_due history x j g ≡ true = ((due_grants-members history x j g).0 (Contains-get_or (due_grants history x j) i d lt)).1 in
     ((is_due-parts history x j g).0 due).0
 
+abbrev timing_of : GmConfig → ℕ → Client → Kind → List ℕ → Timing
+timing_of config x c k mark = record { to = c.ip; message_type = code_of k; moment = sent_stamp (record { seconds = config.epoch + x / 1000000000; nanos = x % 1000000000 }); mark = mark }
+
+one_sends : (config : GmConfig) (past before : List Record) (x : ℕ) (c : Client) (k : Kind) → k ≢ kinds.DelayResp → sequence_number before c k ≡ sequence_number past c k
+    → (rest sent : List Timing) → rest ≡ sent
+    → timing_of config x c k (mark_of before c k) ∷ rest ≡ cons_option (timing_to c.ip (departure_of config x (record { client = c; kind = k; sequence = sequence_number past c k })).bytes) sent
+unfolding octets_sent
+one_sends config past before x c kinds.Announce differ n rest sent e =
+    ap (λ m. timing_of config x c kinds.Announce (octets_of 2 m) ∷ rest) n ∙ ap (λ ms. timing_of config x c kinds.Announce (octets_of 2 (sequence_number past c kinds.Announce)) ∷ ms) e
+one_sends config past before x c kinds.Sync differ n rest sent e =
+    ap (λ m. timing_of config x c kinds.Sync (octets_of 2 m) ∷ rest) n ∙ ap (λ ms. timing_of config x c kinds.Sync (octets_of 2 (sequence_number past c kinds.Sync)) ∷ ms) e
+one_sends config past before x c kinds.DelayResp differ n rest sent e = absurd (differ refl)
+
 turn_sends : (config : GmConfig) (past before : List Record) (x : ℕ) (due : List Grant) → All IsTurned due → All (HasItsNumber past before) due → IsDistinctByLease due
     → messages_in config.epoch before (map (sent_record x) due) ≡ heads (map (λ g. departure_of config x (message_of past g)) due)
-unfolding octets_sent
 turn_sends config past before x [] turned same distinct = refl
 turn_sends config past before x (g ∷ due) turned same distinct =
-    by g.kind (turned 0 g (omega arith)) (same 0 g (omega arith))
+    one_sends config past before x g.client g.kind (turned 0 g (omega arith)) (same 0 g (omega arith))
+    (messages_in config.epoch (before ++ sent_record x g ∷ []) (map (sent_record x) due)) (heads (map (λ g. departure_of config x (message_of past g)) due))
     (turn_sends config past (before ++ sent_record x g ∷ []) x due (λ k d lt. turned (suc k) d (omega (arith, lt)))
     (numbers_stay past before x g due same distinct) (λ i j d a b. distinct (suc i) (suc j) d (omega (arith, a)) (omega (arith, b))))
-  where
-    abbrev rest : List Timing
-    rest = messages_in config.epoch (before ++ sent_record x g ∷ []) (map (sent_record x) due)
-
-    abbrev sent : List Timing
-    sent = heads (map (λ g. departure_of config x (message_of past g)) due)
-
-    abbrev first : Kind → List ℕ → Timing
-    first k mark = record { to = g.client.ip; message_type = code_of k; moment = sent_stamp (record { seconds = config.epoch + x / 1000000000; nanos = x % 1000000000 }); mark = mark }
-
-    by : (k : Kind) → k ≢ kinds.DelayResp → sequence_number before g.client k ≡ sequence_number past g.client k → rest ≡ sent
-        → first k (mark_of before g.client k) ∷ rest
-        ≡ cons_option (timing_to g.client.ip (departure_of config x (record { client = g.client; kind = k; sequence = sequence_number past g.client k })).bytes) sent
-    by kinds.Announce differ n e = ap (λ m. first kinds.Announce (octets_of 2 m) ∷ rest) n ∙ ap (λ ms. first kinds.Announce (octets_of 2 (sequence_number past g.client kinds.Announce)) ∷ ms) e
-    by kinds.Sync differ n e = ap (λ m. first kinds.Sync (octets_of 2 m) ∷ rest) n ∙ ap (λ ms. first kinds.Sync (octets_of 2 (sequence_number past g.client kinds.Sync)) ∷ ms) e
-    by kinds.DelayResp differ n e = absurd (differ refl)
 
 delay_sends : (config : GmConfig) (before : List Record) (x from : ℕ) (header : Header) (answer : Answer)
     → messages_in config.epoch before (answer_records x (client_of from header) answer) ≡ heads (responses answer (response_of config x (client_of from header) header))
