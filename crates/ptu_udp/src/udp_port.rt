@@ -81,8 +81,33 @@ impl<R: Net + Clock + Drop> UdpPort<R> {
         Err(ErrorKind::Interrupted.into())
     }
 
+    // The next datagram of at most 2048 octets: its sender and its length. Longer ones are left
+    // out, up to 64 of them. `None` where nothing waits.
+    fn take_whole(&self, buf: &mut [u8; 2048]) -> Result<Option<(u32, usize)>, Failed>
+        ensures within { IfOk result (λ taken. IfSome taken (λ got. got.1 ≤ 2048)) }
+    {
+        // One octet more tells a longer datagram from one that fits.
+        let mut taken = [0; LONGEST + 1];
+        for _ in 0..MOST_LEFT_OUT {
+            match self.take_next(&mut taken) {
+                Ok((length, SocketAddr::V4(from))) => {
+                    self.traffic.note();
+                    if length <= LONGEST {
+                        buf[..length].copy_from_slice(&taken[..length]);
+                        return Ok(Some((from.ip().to_bits(), length)));
+                    }
+                }
+                Err(error) if error.kind() == ErrorKind::WouldBlock => return Ok(None),
+                Ok(_) | Err(_) => break,
+            }
+        }
+        Err(Failed)
+    }
+
     // Nothing is there to receive.
-    fn rest(&mut self) {
+    fn rest(&mut self)
+        ensures { self.new ≡ self.old }
+    {
         if let Some(pause) = &mut self.pause {
             pause.rest(&self.runtime);
         }
@@ -131,24 +156,13 @@ impl<R: Net + Clock + Drop> Port for UdpPort<R> {
     /// A receive that was interrupted is tried again. A datagram of more than 2048 octets is left
     /// out, and the next one is taken. After 64 that are left out the call fails.
     fn receive(&mut self, buf: &mut [u8; 2048]) -> Result<Option<(u32, usize)>, Failed> {
-        // One octet more tells a longer datagram from one that fits.
-        let mut taken = [0; LONGEST + 1];
-        for _ in 0..MOST_LEFT_OUT {
-            match self.take_next(&mut taken) {
-                Ok((length, SocketAddr::V4(from))) => {
-                    self.traffic.note();
-                    if length <= LONGEST {
-                        buf[..length].copy_from_slice(&taken[..length]);
-                        return Ok(Some((from.ip().to_bits(), length)));
-                    }
-                }
-                Err(error) if error.kind() == ErrorKind::WouldBlock => {
-                    self.rest();
-                    return Ok(None);
-                }
-                Ok(_) | Err(_) => break,
+        match self.take_whole(buf) {
+            Ok(Some(got)) => Ok(Some(got)),
+            Ok(None) => {
+                self.rest();
+                Ok(None)
             }
+            Err(Failed) => Err(self.fail()),
         }
-        Err(self.fail())
     }
 }
