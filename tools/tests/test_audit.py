@@ -6,6 +6,7 @@ examples the numbers are counted by this folder's own reader of reports.
 
 from __future__ import annotations
 
+import resource
 import subprocess
 import unittest
 
@@ -210,6 +211,27 @@ def with_stamp(line: str, nanos: int) -> str:
     return line[:-20] + f"{seconds:012x}{rest:08x}"
 
 
+def renewals(clients: int, rounds: int) -> list[str]:
+    """Clients that each ask for all three kinds, and renew them."""
+    lines = [gm(16777216, 1000)]
+    for turn_of in range(rounds):
+        for client in range(clients):
+            octets = signaling(A + client, turn_of, ANNOUNCE_1 + SYNC_0 + DELAY_RESP_0)
+            address = f"10.1.{client // 256}.{client % 256}"
+            lines.append(f"rx {(turn_of * clients + client) * 10**6} 10.0.0.1 {address} {octets}")
+    return lines
+
+
+def processor_time(capacity: int, report: list[str]) -> float:
+    """The least processor time that an audit took of three, in seconds."""
+    took = []
+    for _ in range(3):
+        before = resource.getrusage(resource.RUSAGE_CHILDREN).ru_utime
+        audit(capacity, report)
+        took.append(resource.getrusage(resource.RUSAGE_CHILDREN).ru_utime - before)
+    return min(took)
+
+
 def counted(report: list[str]) -> tuple[int, int]:
     """How many grants and timing messages the lines tell."""
     sent = [bytes.fromhex(it.split()[-1]) for it in report if it.split()[1] == "send" and it.split()[-1] != "-"]
@@ -297,6 +319,13 @@ class Audits(unittest.TestCase):
                 self.assertEqual(audit(15, [granted, reply, line, end]), (f"{answer}\n", 65))
         self.assertEqual(audit(15, [granted, reply]), ("3 bad end\n", 65))
         self.assertEqual(audit(15, [granted, reply, end, end]), ("4 bad end\n", 65))
+
+    def test_as_fast_beside_many_grants(self) -> None:
+        """A list of the live grants that is gone through at each decision takes eight times as long here."""
+        few, many = report_of(renewals(100, 60)), report_of(renewals(2000, 3))
+        self.assertEqual((len(few), len(many)), (24001, 24001))
+        self.answers(16777216, many, "yes grants 18000 sent 0")
+        self.assertLess(processor_time(16777216, many), 4 * processor_time(16777216, few))
 
     def sound(self, name: str, report: list[str]) -> None:
         grants, sent = counted(report)
