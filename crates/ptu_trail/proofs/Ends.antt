@@ -1,9 +1,9 @@
 -- The order of ends, and what is done to the entries of a map of them.
-use Rattle.std.proofs.Common.{◌≡◌, ◌∙◌, ℕ, ◌+◌, ◌≤◌, ◌<◌, ◌&&◌, Bool, true, false, not, cond, eqb, ltb, List, [], ◌∷◌, Option, Some, None, filter, map, refl, sym, ap, ap₂, subst, arith, nat_cmp}
-use Rattle.std.specs.BTreeMap.{insert_entry, is_at, keys}
+use Rattle.std.proofs.Common.{◌≡◌, ◌∙◌, ℕ, ◌+◌, ◌≤◌, ◌<◌, ◌&&◌, Bool, true, false, not, cond, eqb, ltb, List, [], ◌∷◌, Option, Some, None, filter, refl, sym, ap, ap₂, arith, nat_cmp}
+use Rattle.std.specs.BTreeMap.{insert_entry, is_at}
 use Rattle.std.specs.List.{All, list_all, sum_by}
 use Rattle.std.specs.List.Sorted.{IsStrictlySortedBy}
-use Rattle.std.specs.Map.{lookup, remove_entry, keys_of, values_of}
+use Rattle.std.specs.Map.{lookup, remove_entry, keys_of}
 use Rattle.std.specs.Option.{option_map, unwrap_or}
 use Rattle.std.specs.Ordering.{is_eq, is_gt, match_ordering, ordering_then}
 use Rattle.std.specs.declared.cmp.Ordering.{Ordering}
@@ -15,7 +15,7 @@ use Rattle.std.proofs.lemmas.Map.Entries.{sum_by-insert_entry, sum_by-remove_ent
 use Rattle.ptu_units.specs.declared.kind.Kind.{Kind}
 use Rattle.ptu_units.specs.declared.kind.Kind.TheVariants.{Announce, Sync, DelayResp}
 use Rattle.ptu_units.specs.contracts.kind.KindOrd.TheImpl as kinds
-use Rattle.ptu_history.specs.Client.{client_cmp, kind_cmp, same_client, same_kind, same_lease}
+use Rattle.ptu_history.specs.Client.{client_cmp, kind_cmp, same_client, same_lease}
 use Rattle.ptu_history.specs.declared.client.Client.{Client}
 use Rattle.ptu_trail.specs.declared.live.End.{End}
 use Rattle.ptu_trail.specs.contracts.live.EndOrd.TheImpl as ends

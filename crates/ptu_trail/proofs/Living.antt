@@ -2,17 +2,16 @@
 use Rattle.std.proofs.Common.{◌≡◌, ◌∙◌, ℕ, ◌+◌, ◌<◌, ◌≤◌, get_or, length, take, ltb, eqb, ◌&&◌, Bool, true, false, not, cond, List, [], ◌∷◌, ◌++◌, map, filter, Option, Some, None, ℤ, refl, sym, ap, subst, arith, append_assoc}
 use Rattle.std.specs.List.{All, Contains, list_all, sum_by}
 use Rattle.std.specs.Map.{values_of}
-use Rattle.std.proofs.lemmas.Bool.{eq-eqb, eqb-true, false≢true, le-ltb, lt-ltb, ltb-false, true≢false}
+use Rattle.std.proofs.lemmas.Bool.{eq-eqb, false≢true, le-ltb, lt-ltb, ltb-false}
 use Rattle.std.proofs.lemmas.List.{append-nil}
 use Rattle.std.proofs.lemmas.List.Elements.{All-contains_itself, All-filter, All-head, All-tail, All-weaker, filter-append}
-use Rattle.std.proofs.lemmas.List.Folds.{sum_by-zero}
 use Rattle.std.proofs.lemmas.List.Sums.{sum_by-append, sum_by-cons}
 use Rattle.ptu_units.specs.declared.kind.Kind.{Kind}
 use Rattle.ptu_units.specs.Log.{rate_of}
 use Rattle.ptu_history.specs.declared.client.Client.{Client}
 use Rattle.ptu_history.specs.Client.{same_lease}
 use Rattle.ptu_history.specs.History.{Record, Granted, Ended, Shed, is_decision}
-use Rattle.ptu_history.specs.Live.{Grant, IsLastDecision, is_of, last_decision, live, live_grants, standing, without}
+use Rattle.ptu_history.specs.Live.{Grant, is_of, last_decision, live, live_grants, standing, without}
 use Rattle.ptu_history.specs.Verdict.{rate_sum}
 use Rattle.ptu_history.proofs.AfterSteps.{live-last}
 use Rattle.ptu_history.proofs.Currents.{standing-ended, standing-granted, standing-shed, standing-undecided}

@@ -1,7 +1,7 @@
 use Rattle.std.proofs.Common.{◌∙◌, ◌+◌, ap, sym, subst}
-use Rattle.std.specs.List.{list_all, sum_by}
+use Rattle.std.specs.List.{sum_by}
 use Rattle.ptu_history.specs.Live.{live_grants, without}
-use Rattle.ptu_trail.specs.Live.{AreOf, is_other_entry}
+use Rattle.ptu_trail.specs.Live.{AreOf}
 use Rattle.ptu_trail.proofs.Living.{live-granted, none_at, over-granted}
 use Rattle.ptu_trail.proofs.live.LiveGrants.put.Goals as goal
 
