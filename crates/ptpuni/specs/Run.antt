@@ -187,7 +187,7 @@ module _ {K : Type 0} (written : K → Option (List ℕ)) (handed : K → Option
     pub status_is : status ≡ status_of_audit answer
     -- the answer is that to all lines of the report, or names the first that is refused
     pub exact : (input : List ℕ) → left ≡ Some input → IsAnswer capacity input answer
-    -- where it is yes, each grandmaster kept its promises
+    -- it is yes exactly where the report is sound, and then each grandmaster kept its promises
     pub promises : (input : List ℕ) → left ≡ Some input → IsKept capacity input answer
     -- it was written, by one line
     pub line : (input : List ℕ) → left ≡ Some input → AnswerIsWritten written handed old new answer

@@ -138,8 +138,8 @@ pub fn run<W: AllocGlobal + Threads + Wait + Sync, S: Source, K: Sink, H: Host>(
         → command_of (map (λ w. w.now) words.now) ≡ Some (Command.Load number)
         → HasLoaded K.written K.handed sink.old sink.new source.old source.new number result }
 
-    // An audit answers exactly what the report that is read comes to, by one line; where that is
-    // yes, its grandmasters kept their promises.
+    // An audit answers exactly what the report that is read comes to, by one line. It is yes
+    // exactly where the report is sound, and then its grandmasters kept their promises.
     ensures audited { (capacity : ℕ)
         → command_of (map (λ w. w.now) words.now) ≡ Some (Command.Audit capacity)
         → HasAudited K.written K.handed sink.old sink.new host.old host.new

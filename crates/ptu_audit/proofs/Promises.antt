@@ -40,6 +40,7 @@ use Rattle.ptu_audit.specs.declared.deed.Finding.{Finding}
 use Rattle.ptu_audit.specs.Trails.{acts_in, answer_by, answer_of, groups_finding, is_by, records_of, trail_of, trail_with}
 use Rattle.ptu_audit.specs.Reading.{Reading, audit_rules, cause_of_line, end_read, is_disordered, line_read, opening, with_entry}
 use Rattle.ptu_audit.specs.Audited.{AllKeepPromises, IsKept, KeepsPromises, report_lines}
+use Rattle.ptu_audit.proofs.Exact.{none_from, sound_from}
 use Rattle.ptu_audit.proofs.Faultless.{Laws, faultless}
 use Rattle.ptu_audit.proofs.Ranges.{IsDecisionInRange, IsSaidInRange, said_within}
 
@@ -324,12 +325,19 @@ promises laws sound capacity lines h none g =
       within_budget = λ x. count-sound capacity trail s x;
     }
 
--- where the answer is yes, they kept their promises
+-- the answer is yes exactly where the report is sound, and then they kept their promises
 pub answer_kept : Laws → ((opening : ℕ) (trail : List Record) → AreInRange trail → IsFaultless opening trail → IsSound opening trail)
     → (capacity : ℕ) (input : List ℕ) (lines : List Line) (answer : Answer) → report_lines capacity input ≡ Some lines → AreLines lines → answer ≡ answer_of capacity lines → IsKept capacity input (Ok answer)
-answer_kept laws sound capacity input lines (answers.Yes granted sent) is h e = (lines, is, promises laws sound capacity lines h (none (groups_finding capacity [] (groups_of lines)) e))
+answer_kept laws sound capacity input lines (answers.Yes granted sent) is h e =
+    let found = none (groups_finding capacity [] (groups_of lines)) e in
+    (lines, is, sound_from laws capacity (groups_of lines) found, promises laws sound capacity lines h found)
   where
     none : (f : Option Finding) → answers.Yes granted sent ≡ answer_by f (acts_in (groups_of lines)) → f ≡ None
     none None k = refl
     none (Some finding) k = absurd cc
-answer_kept laws sound capacity input lines (answers.No line cause) is h e = tt
+answer_kept laws sound capacity input lines (answers.No line cause) is h e =
+    (lines, is, λ s. found (groups_finding capacity [] (groups_of lines)) e (none_from laws capacity (groups_of lines) s))
+  where
+    found : (f : Option Finding) → answers.No line cause ≡ answer_by f (acts_in (groups_of lines)) → f ≡ None → ⊥
+    found None k none = absurd cc
+    found (Some finding) k none = absurd cc

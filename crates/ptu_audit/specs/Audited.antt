@@ -22,7 +22,7 @@ use Rattle.ptu_audit.specs.declared.line.Line.{Line}
 use Rattle.ptu_audit.specs.Groups.{groups_of}
 use Rattle.ptu_audit.specs.Reading.{audit_rules, opening}
 use Rattle.ptu_audit.specs.Texts.{answer_text, refusal_text}
-use Rattle.ptu_audit.specs.Trails.{acts_in, answer_of, trail_of}
+use Rattle.ptu_audit.specs.Trails.{AreSound, acts_in, answer_of, trail_of}
 
 -- the lines of a report, where none of it is refused
 abbrev pub report_lines : ℕ → List ℕ → Option (List Line)
@@ -62,11 +62,14 @@ pub record KeepsPromises (capacity : ℕ) (trail : List Record) : Type 0 where
 abbrev pub AllKeepPromises : ℕ → List Line → Type 0
 AllKeepPromises capacity lines = (grandmaster : ℕ) → KeepsPromises capacity (trail_of grandmaster (acts_in (groups_of lines)))
 
--- where the answer is yes, they did
+-- the answer is yes exactly where the report is sound: each group is as it must be, and no grandmaster's trail has a
+-- fault; where it is yes, they kept their promises
 abbrev pub IsKept : ℕ → List ℕ → Result Answer AuditFault → Type 0
 IsKept capacity input (Ok (answers.Yes granted sent)) =
-    (lines : List Line) × (report_lines capacity input ≡ Some lines) × AllKeepPromises capacity lines
-IsKept capacity input (Ok (answers.No line cause)) = Unit {0}
+    (lines : List Line) × (report_lines capacity input ≡ Some lines) × AreSound capacity (groups_of lines)
+    × AllKeepPromises capacity lines
+IsKept capacity input (Ok (answers.No line cause)) =
+    (lines : List Line) × (report_lines capacity input ≡ Some lines) × (AreSound capacity (groups_of lines) → ⊥)
 IsKept capacity input (Err fault) = Unit {0}
 
 -- the source's count rises exactly where the answer is that the source failed

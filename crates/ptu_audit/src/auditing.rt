@@ -18,10 +18,11 @@ use std::alloc::Global;
 /// Audits the report that the source has left, whose grandmasters begin with this capacity, in
 /// sixteenths of a message per second: whether each line has the form of a report's and is in
 /// order, and then whether the grandmasters kept their promises, by their decisions and the
-/// datagrams that they sent. The one line of output, which says the answer or names the refused
-/// line, is handed to the sink in one piece, and its rest again until all is taken. The report is
-/// read to its end, or to the first refused line; at most 67108865 octets of it, and nothing behind
-/// the end.
+/// datagrams that they sent. It answers yes exactly where each group of lines is as it must be and
+/// no record of a grandmaster has a fault. The one line of output, which says the answer or names
+/// the refused line, is handed to the sink in one piece, and its rest again until all is taken. The
+/// report is read to its end, or to the first refused line; at most 67108865 octets of it, and
+/// nothing behind the end.
 ///
 /// # Errors
 /// `Line` exactly where a line is refused, with the first one, after the line of output that names
@@ -36,7 +37,8 @@ pub fn audit<S: Source, K: Sink>(
     // The answer is that to all lines of the report, or names the first that is refused.
     ensures exact { (input : List ℕ) → S.left source.old ≡ Some input →
         IsAnswer capacity input result }
-    // Where it is yes, each grandmaster kept its promises.
+    // It is yes exactly where the report is sound: each group of lines is as it must be, and no
+    // grandmaster's trail has a fault. Then each grandmaster kept its promises.
     ensures promises { (input : List ℕ) → S.left source.old ≡ Some input →
         IsKept capacity input result }
     // It was written.

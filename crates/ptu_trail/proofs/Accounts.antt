@@ -1,5 +1,5 @@
 -- The clients by address, after one more record.
-use Rattle.std.proofs.Common.{◌≡◌, ◌∙◌, ◌≢◌, ℕ, ◌+◌, ◌*◌, ◌++◌, ◌&&◌, ◌||◌, max, eqb, ltb, ◌<◌, ◌^◌, Bool, IfNone, true, false, not, cond, List, [], ◌∷◌, Option, Some, None, refl, sym, ap, subst, arith}
+use Rattle.std.proofs.Common.{◌≡◌, ◌∙◌, ◌≢◌, ℕ, ◌+◌, ◌*◌, ◌++◌, ◌&&◌, ◌||◌, max, eqb, ltb, ◌<◌, ◌^◌, Bool, IfNone, true, false, not, cond, List, [], ◌∷◌, Option, Some, None, refl, sym, ap, ap₂, subst, arith}
 use Rattle.std.specs.List.{All, find, list_any}
 use Rattle.std.specs.Option.{option_or, unwrap_or}
 use Rattle.std.specs.Ordering.{is_eq, nat_cmp}
@@ -153,7 +153,7 @@ account_elsewhere history r ip (Some account) none apart s =
     )
 
 -- the comparison of two numbers says whether they are one
-cmp_same : (m n : ℕ) → is_eq (nat_cmp m n) ≡ eqb m n
+pub cmp_same : (m n : ℕ) → is_eq (nat_cmp m n) ≡ eqb m n
 cmp_same m n = at (ltb m n) refl (eqb m n) refl
   where
     at : (b : Bool) → ltb m n ≡ b → (e : Bool) → eqb m n ≡ e → is_eq (cond b Less (cond e Equal Greater)) ≡ e
@@ -347,3 +347,49 @@ stranger_fault opening history stamp ip k nanos below all =
     ap (λ b. cond b (Some causes.Stamp) (cond (ltb m (last_decided history c)) (Some causes.Moment) (cond (not (live history m c k)) (Some causes.Grant) (cond (ltb m (earliest history c k)) (Some causes.Early) None)))) (lt-leb (2 ^ 62) m in_time)
     ∙ ap (λ b. cond b (Some causes.Moment) (cond (not (live history m c k)) (Some causes.Grant) (cond (ltb m (earliest history c k)) (Some causes.Early) None))) late
     ∙ early
+
+-- ---- clients whose address has another identity
+
+same_client-flip : (c d : Client) → same_client c d ≡ false → same_client d c ≡ false
+same_client-flip c d other = at (same_client d c) refl
+  where
+    at : (b : Bool) → same_client d c ≡ b → same_client d c ≡ false
+    at false is = is
+    at true is = absurd (true≢false (sym (subst (λ (x : Client). same_client x d ≡ true) (same_client-true d c is) (same_client-refl d)) ∙ other))
+
+module _ (c d : Client) (here : d.ip ≡ c.ip) (other : same_client c d ≡ false) where
+  not_same : (cs : List Client) → list_any (is_of_other d) cs ≡ false → list_any (same_client c) cs ≡ false
+  not_same [] none = refl
+  not_same (x ∷ cs) none =
+      let parts = or_parts (is_of_other d x) (list_any (is_of_other d) cs) none in
+      at (same_client c x) refl parts.0 (not_same cs parts.1)
+    where
+      at : (b : Bool) → same_client c x ≡ b → is_of_other d x ≡ false → list_any (same_client c) cs ≡ false → (b || list_any (same_client c) cs) ≡ false
+      at false is one rest = rest
+      at true is one rest =
+          let same : c ≡ x = same_client-true c x is in
+          let apart : same_client d c ≡ false = same_client-flip c d other in
+          absurd (true≢false (sym (ap₂ (λ p q. p && not q) (eq-eqb d.ip c.ip here) apart) ∙ subst (λ (y : Client). is_of_other d y ≡ false) (sym same) one))
+
+  not_decided_on : (k : Kind) (history : List Record) → list_any (same_client c) (decided_clients history) ≡ false → list_any (decides c k) history ≡ false
+  not_decided_on k [] none = refl
+  not_decided_on k (Granted n e j l u ∷ history) none = let parts = or_parts (same_client c e) (list_any (same_client c) (decided_clients history)) none in ap (λ a. (a && same_kind k j) || list_any (decides c k) history) parts.0 ∙ not_decided_on k history parts.1
+  not_decided_on k (Short n e ∷ history) none = not_decided_on k history none
+  not_decided_on k (Ended n e j ∷ history) none = let parts = or_parts (same_client c e) (list_any (same_client c) (decided_clients history)) none in ap (λ a. (a && same_kind k j) || list_any (decides c k) history) parts.0 ∙ not_decided_on k history parts.1
+  not_decided_on k (Capacity n capacity ∷ history) none = not_decided_on k history none
+  not_decided_on k (Shed n e j ∷ history) none = let parts = or_parts (same_client c e) (list_any (same_client c) (decided_clients history)) none in ap (λ a. (a && same_kind k j) || list_any (decides c k) history) parts.0 ∙ not_decided_on k history parts.1
+  not_decided_on k (Looked n j ∷ history) none = not_decided_on k history none
+  not_decided_on k (Sent n e j ∷ history) none = not_decided_on k history none
+
+-- a client whose address has another identity has no grant
+pub shared_none : (history : List Record) (c : Client) (k : Kind) (account : Option Account) → IsAccount history c.ip account → is_shared history c ≡ true → (x : ℕ) → live history x c k ≡ false
+unfolding is_shared
+shared_none history c k None s shared x = absurd (true≢false (sym shared ∙ none_other c (decided_clients history) s.0))
+shared_none history c k (Some account) s shared x = at (same_client c account.client) refl
+  where
+    at : (b : Bool) → same_client c account.client ≡ b → live history x c k ≡ false
+    at true same = absurd (true≢false (sym shared ∙ (look_same history c account same s).0))
+    at false other =
+        live-undecided history c k x
+        (not_decided_on c account.client (found_ip c.ip (decided_clients history) account.client s.0) other k history
+        (not_same c account.client (found_ip c.ip (decided_clients history) account.client s.0) other (decided_clients history) s.1))

@@ -1,13 +1,15 @@
 -- Decisions and changes that are judged, and what a trail stands for after them.
-use Rattle.std.proofs.Common.{◌≡◌, ◌∙◌, ℕ, ◌≤◌, ◌<◌, ◌^◌, max, ◌++◌, Bool, true, false, cond, ltb, List, [], ◌∷◌, map, Some, None, Result, Ok, Err, IfOk, nat_cmp, refl, sym, ap, subst, arith, append_assoc}
+use Rattle.std.proofs.Common.{◌≡◌, ◌∙◌, ℕ, ◌≤◌, ◌<◌, ◌^◌, ◌+◌, max, ◌++◌, ℤ, Bool, true, false, not, cond, ltb, List, [], ◌∷◌, map, Option, Some, None, Result, Ok, Err, IfOk, nat_cmp, refl, sym, ap, subst, arith, append_assoc}
 use Rattle.std.specs.BTreeMap.{get}
-use Rattle.std.specs.List.{list_any}
+use Rattle.std.specs.List.{list_any, sum_by}
 use Rattle.std.proofs.lemmas.Bool.{le-ltb, lt-leb, ltb-false, or_parts, eq-eqb}
 use Rattle.ptu_history.specs.declared.client.Client.{Client}
-use Rattle.ptu_history.specs.History.{Record, Capacity, capacity_in_force, is_change, is_decision}
+use Rattle.ptu_units.specs.declared.kind.Kind.{Kind}
+use Rattle.ptu_units.specs.Log.{rate_of}
+use Rattle.ptu_history.specs.History.{Record, Capacity, Granted, capacity_in_force, is_change, is_decision}
 use Rattle.ptu_history.specs.Moments.{book_moment, book_part, greatest_by}
-use Rattle.ptu_history.specs.Live.{live_grants, standing}
-use Rattle.ptu_history.specs.Verdict.{rate_sum}
+use Rattle.ptu_history.specs.Live.{Grant, live_grants, standing, without}
+use Rattle.ptu_history.specs.Verdict.{others, rate_sum}
 use Rattle.ptu_history.proofs.Capacities.{capacity_in_force-append, capacity_in_force-same, capacity_in_force-unchanged}
 use Rattle.ptu_history.proofs.Lists.{greatest_by-append, greatest_by-map-le}
 use Rattle.ptu_history.proofs.Moments.{book_moment-push}
@@ -16,14 +18,17 @@ use Rattle.ptu_trail.specs.declared.cause.NoCause.{NoCause}
 use Rattle.ptu_trail.specs.declared.cause.NoCause.TheVariants as causes
 use Rattle.ptu_trail.specs.declared.cause.Shedding.{Shedding}
 use Rattle.ptu_trail.specs.declared.clients.Clients.{Clients}
-use Rattle.ptu_trail.specs.declared.live.Row.{Row}
+use Rattle.ptu_trail.specs.declared.live.End.{End}
 use Rattle.ptu_trail.specs.declared.trail.Trail.{Trail}
 use Rattle.ptu_trail.specs.Clients.{AreKnown, IsPlaced}
-use Rattle.ptu_trail.specs.Faults.{decision_tests, first_of, is_no_moment, last_sent_to, record_of}
-use Rattle.ptu_trail.specs.Live.{AreLive, grant_of}
+use Rattle.ptu_trail.specs.Faults.{decision_tests, fault_of, first_of, is_no_moment, last_sent_to, record_of}
+use Rattle.ptu_trail.specs.declared.known.Known.{Known}
+use Rattle.ptu_trail.specs.declared.known.Lease.{Lease}
+use Rattle.ptu_trail.specs.Known.{IsHeld, IsKnown, lease_at}
+use Rattle.ptu_trail.specs.Live.{AreLive, AreOf, IsLeaseOf}
 use Rattle.ptu_trail.specs.Trail.{StandsFor}
 use Rattle.ptu_trail.proofs.Accounts.{change_account}
-use Rattle.ptu_trail.proofs.Living.{live-undecided}
+use Rattle.ptu_trail.proofs.Living.{lease_held, live-undecided}
 use Rattle.ptu_trail.proofs.Sound.{all_false}
 
 -- ---- tests in order
@@ -45,6 +50,30 @@ module _ (history : List Record) (n : ℕ) (c : Client) where
 
   pub placed_le : IsPlaced history n c → book_moment history ≤ n
   placed_le s = ltb-false n (book_moment history) (or_parts (ltb n (book_moment history)) (ltb n (last_sent_to history c)) s.not_back).0
+
+-- what is live beside the grant of a client and kind, where a decision on them is placed
+pub beside : (opening : ℕ) (history : List Record) (n : ℕ) (c : Client) (k : Kind) (old : Trail) (known : Known) (lease : Option Lease) (advanced left : List (End × ℕ))
+    → StandsFor opening old history → IsPlaced history n c × IsKnown history c known → lease ≡ lease_at k known
+    → ((history : List Record) (m : ℕ) → m ≤ n → AreLive history m old.live → AreLive history n advanced)
+    → ((grants : List Grant) → AreOf grants advanced → IsLeaseOf c k lease grants → AreOf (without c k grants) left)
+    → AreOf (without c k (live_grants history n)) left
+beside opening history n c k old known lease advanced left s judged is advance remove =
+    remove (live_grants history n) (advance history (book_moment history) (placed_le history n c judged.0) s.live)
+    (lease_held history n c k lease (subst (IsHeld history c k) (sym is) (judged.1.held k)))
+
+-- the tests of a grant, where all but the last are passed
+pub grant_test : (opening : ℕ) (history : List Record) (n : ℕ) (c : Client) (k : Kind) (l : ℤ) (u capacity : ℕ) (fits : Bool) → IsPlaced history n c → capacity ≡ capacity_in_force opening history
+    → fits ≡ not (ltb capacity (rate_sum (without c k (live_grants history n)) + rate_of l)) → cond fits None (Some causes.Fit) ≡ fault_of opening history (Granted n c k l u) []
+unfolding others
+grant_test opening history n c k l u capacity fits placed in_force is =
+    ap (λ b. cond b None (Some causes.Fit)) is
+    ∙ flip (ltb capacity (rate_sum (without c k (live_grants history n)) + rate_of l))
+    ∙ ap (λ limit. cond (ltb limit (rate_sum (without c k (live_grants history n)) + rate_of l)) (Some causes.Fit) None) in_force
+    ∙ sym (placed_more history n c placed ((ltb (capacity_in_force opening history) (others history n c k + rate_of l), causes.Fit) ∷ []))
+  where
+    flip : (b : Bool) → cond (not b) None (Some causes.Fit) ≡ cond b (Some causes.Fit) None
+    flip true = refl
+    flip false = refl
 
 -- ---- moments
 
@@ -78,9 +107,9 @@ module _ (opening : ℕ) (history : List Record) (r : Record) (old new : Trail) 
       }
 
 -- before all records
-pub nothing_yet : (capacity : ℕ) (clients : Clients) (live : List Row) → AreKnown [] clients → live ≡ [] → StandsFor capacity (record { capacity = capacity; moment = 0; clients = clients; live = live }) []
+pub nothing_yet : (capacity : ℕ) (clients : Clients) (live : List (End × ℕ)) → AreKnown [] clients → live ≡ [] → StandsFor capacity (record { capacity = capacity; moment = 0; clients = clients; live = live }) []
 unfolding capacity_in_force book_moment live_grants standing
-nothing_yet capacity clients live known none = record { capacity = refl; moment = refl; clients = known; live = ap (map grant_of) none }
+nothing_yet capacity clients live known none = record { capacity = refl; moment = refl; clients = known; live = λ weight. ap (sum_by weight) none }
 
 -- ---- after a change of capacity and its sheddings
 
@@ -112,7 +141,7 @@ module _ (history : List Record) (x capacity : ℕ) (shed : List Shedding) where
       let e : x ≡ max (greatest_by book_part history) (max x (greatest_by book_part (map (record_of x) shed))) = omega (arith, le, most) in
       e ∙ sym (greatest_by-append book_part history changed)
 
-  pub live_changed : (rows : List Row) → AreLive ((history ++ Capacity x capacity ∷ []) ++ map (record_of x) shed) x rows → AreLive (history ++ changed) x rows
+  pub live_changed : (rows : List (End × ℕ)) → AreLive ((history ++ Capacity x capacity ∷ []) ++ map (record_of x) shed) x rows → AreLive (history ++ changed) x rows
   live_changed rows live = subst (λ h. AreLive h x rows) one_by_one live
 
   pub known_changed : (clients : Clients) → AreKnown ((history ++ Capacity x capacity ∷ []) ++ map (record_of x) shed) clients → AreKnown (history ++ changed) clients
@@ -146,12 +175,12 @@ if_ok_map (Ok a) f p = f a p
 if_ok_map (Err e) f p = tt
 
 -- what is live after a change: the live grants, advanced to its moment and without those shed
-pub judged_live : (opening : ℕ) (history : List Record) (x capacity : ℕ) (shed : List Shedding) (old : Trail) (advanced left : List Row) → StandsFor opening old history → old.moment ≤ x
+pub judged_live : (opening : ℕ) (history : List Record) (x capacity : ℕ) (shed : List Shedding) (old : Trail) (advanced left : List (End × ℕ)) → StandsFor opening old history → old.moment ≤ x
     → ((history : List Record) (m : ℕ) → m ≤ x → AreLive history m old.live → AreLive history x advanced)
-    → ((history : List Record) (n at : ℕ) → AreLive history n advanced → AreLive (history ++ map (record_of at) shed) n left)
+    → ((history : List Record) (n at : ℕ) → AreKnown history old.clients → AreLive history n advanced → AreLive (history ++ map (record_of at) shed) n left)
     → (book_moment history ≤ x) × AreLive (history ++ Capacity x capacity ∷ map (record_of x) shed) x left
 judged_live opening history x capacity shed old advanced left s le advance remove =
     let past : book_moment history ≤ x = omega (arith, s.moment, le) in (
       past,
-      live_changed history x capacity shed left (remove (history ++ Capacity x capacity ∷ []) x x (live-undecided history x (Capacity x capacity) advanced refl (advance history (book_moment history) past s.live))),
+      live_changed history x capacity shed left (remove (history ++ Capacity x capacity ∷ []) x x (begin_known history x capacity old.clients s.clients) (live-undecided history x (Capacity x capacity) advanced refl (advance history (book_moment history) past s.live))),
     )

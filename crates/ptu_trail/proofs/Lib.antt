@@ -1,4 +1,5 @@
 mod Accounts
+mod Ends
 mod Faultless
 mod Judging
 mod Knowing

@@ -1,34 +1,48 @@
--- The grants that are live, as rows.
-use Rattle.std.specs.Prelude.{◌≡◌, ℕ, not, nat_lt, Bool, List, map, sum_by}
+-- The rates of the grants that are live, by when they end.
+use Rattle.std.specs.Prelude.{◌≡◌, ℕ, not, nat_lt, Bool, true, ◌&&◌, ◌==◌, List, Option, None, Some}
+use Rattle.std.specs.List.{All, sum_by}
+use Rattle.std.specs.Map.{values_of}
 use Rattle.ptu_units.specs.declared.kind.Kind.{Kind}
 use Rattle.ptu_units.specs.Log.{rate_of}
 use Rattle.ptu_history.specs.declared.client.Client.{Client}
 use Rattle.ptu_history.specs.Client.{same_lease}
 use Rattle.ptu_history.specs.History.{Record}
-use Rattle.ptu_history.specs.Live.{Grant, live_grants}
-use Rattle.ptu_trail.specs.declared.live.Row.{Row}
+use Rattle.ptu_history.specs.Live.{Grant, is_of, live_grants}
+use Rattle.ptu_trail.specs.declared.known.Lease.{Lease}
+use Rattle.ptu_trail.specs.declared.live.End.{End}
 
-abbrev pub grant_of : Row → Grant
-grant_of row = record {
-  start = row.start;
-  client = row.client;
-  kind = row.kind;
-  log = row.log;
-  until = row.until;
-}
+-- the end of a grant, and its rate
+abbrev pub entry_of : Grant → End × ℕ
+entry_of g = (record { until = g.until; client = g.client; kind = g.kind }, rate_of g.log)
 
--- the rates of the rows, in sixteenths of a message per second
-abbrev pub rates : List Row → ℕ
-rates rows = sum_by (λ r. rate_of r.log) rows
+-- the sum of the rates, in sixteenths of a message per second
+abbrev pub total_of : List (End × ℕ) → ℕ
+total_of entries = sum_by (λ n. n) (values_of entries)
 
--- the row is over after the moment
-abbrev pub is_live_row : ℕ → Row → Bool
-is_live_row n row = nat_lt n row.until
+-- the end is after the moment
+abbrev pub is_live_entry : ℕ → End × ℕ → Bool
+is_live_entry n e = nat_lt n e.0.until
 
--- the row is of another client or kind
-abbrev pub is_other_row : Client → Kind → Row → Bool
-is_other_row c k row = not (same_lease c k row.client row.kind)
+-- the entry has another end than this one
+abbrev pub is_other_entry : End → End × ℕ → Bool
+is_other_entry end e =
+    not (end.until == e.0.until && same_lease end.client end.kind e.0.client e.0.kind)
 
--- the rows are the grants that are live at the moment after the history, the oldest first
-abbrev pub AreLive : List Record → ℕ → List Row → Type 0
-AreLive history m rows = map grant_of rows ≡ live_grants history m
+-- the entries are those of the grants, in an order that is left open: whatever is summed over both
+-- comes to the same
+abbrev pub AreOf : List Grant → List (End × ℕ) → Type 0
+AreOf grants entries =
+    (weight : End × ℕ → ℕ) → sum_by weight entries ≡ sum_by (λ g. weight (entry_of g)) grants
+
+-- the entries are those of the grants that are live at the moment after the history
+abbrev pub AreLive : List Record → ℕ → List (End × ℕ) → Type 0
+AreLive history m entries = AreOf (live_grants history m) entries
+
+-- the lease is over at this moment; without one there is none
+abbrev pub EndsAt : Option Lease → ℕ → Type 0
+EndsAt None u = ⊥
+EndsAt (Some lease) u = lease.until ≡ u
+
+-- the lease is that of the grants of the client and kind among these, as far as one is
+abbrev pub IsLeaseOf : Client → Kind → Option Lease → List Grant → Type 0
+IsLeaseOf c k lease grants = All (λ g. is_of c k g ≡ true → EndsAt lease g.until) grants

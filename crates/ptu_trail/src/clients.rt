@@ -2,13 +2,15 @@ ghost use Rattle.std.specs.Prelude.{◌≡◌, ◌<◌, ◌^◌, ◌∷◌, [], 
 ghost use Rattle.std.specs.BTreeMap.{get};
 ghost use Rattle.std.specs.Ordering.{nat_cmp};
 ghost use Rattle.ptu_history.specs.History.{Record, Ended, Sent, Shed};
+ghost use Rattle.ptu_history.specs.Live.{live_grants};
 ghost use Rattle.ptu_history.specs.Moments.{book_moment};
 ghost use Rattle.ptu_trail.specs.Clients.{AreKnown, IsPlaced};
 ghost use Rattle.ptu_trail.specs.Faults.{behind, client_at, decided_clients, decision_tests, fault_of, first_fault, first_of, is_shared, record_of};
 ghost use Rattle.ptu_trail.specs.Known.{IsKnown};
+ghost use Rattle.ptu_trail.specs.Live.{IsLeaseOf};
 
 use crate::cause::{Fault, NoCause, Shedding};
-use crate::known::Known;
+use crate::known::{Known, Lease};
 use crate::same::is_same_client;
 use ptu_history::Client;
 use ptu_units::{Kind, OutOfMemory};
@@ -49,6 +51,17 @@ impl Clients {
             None => Some(Known::new()),
             Some(account) if is_same_client(client, &account.client) => Some(account.known),
             Some(_) => None,
+        }
+    }
+
+    /// The last grant of the kind to the client, where no other decision came after it.
+    pub(crate) fn lease(&self, client: &Client, kind: Kind) -> Option<Lease>
+        ensures { (history : List Record) (n : ℕ) → AreKnown history self.now →
+            IsLeaseOf client.now kind result (live_grants history n) }
+    {
+        match self.look(client) {
+            Some(known) => known.lease(kind),
+            None => None,
         }
     }
 

@@ -44,7 +44,8 @@ impl Known {
         }
     }
 
-    fn lease(&self, kind: Kind) -> Option<Lease>
+    /// The last grant of the kind, where no other decision came after it.
+    pub(crate) fn lease(&self, kind: Kind) -> Option<Lease>
         ensures { result ≡ lease_at kind self.now }
     {
         match kind {

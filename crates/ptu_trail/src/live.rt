@@ -1,79 +1,98 @@
-ghost use Rattle.std.specs.Prelude.{◌≡◌, ◌<◌, ◌≤◌, ◌+◌, ◌^◌, ◌∷◌, [], ◌++◌, ℕ, List, OnOk, map, nat_lt, not};
-ghost use Rattle.std.specs.List.{filter};
-ghost use Rattle.ptu_units.specs.Log.{rate_of};
-ghost use Rattle.ptu_history.specs.Client.{same_client, same_lease};
-ghost use Rattle.ptu_history.specs.History.{Record, Ended, Granted, Shed};
-ghost use Rattle.ptu_history.specs.Live.{live_grants};
-ghost use Rattle.ptu_history.specs.Verdict.{others as others_of, rate_sum};
-ghost use Rattle.ptu_trail.specs.Faults.{record_of};
-ghost use Rattle.ptu_trail.specs.Live.{AreLive, is_live_row, is_other_row, rates};
+//! The grants that are live: their rates by when they end, and the sum of these.
 
-use crate::cause::Shedding;
-use crate::same::is_same;
+ghost use Rattle.std.specs.Prelude.{◌≡◌, ◌<◌, ◌≤◌, ◌+◌, ◌^◌, ◌∷◌, [], ◌++◌, ℕ, List, IfOk, IfSome, IfNone, OnErr, OnOk, true};
+ghost use Rattle.std.specs.List.{filter, list_all, sum_by};
+ghost use Rattle.ptu_units.specs.Log.{rate_of};
+ghost use Rattle.ptu_history.specs.History.{Record, Granted};
+ghost use Rattle.ptu_history.specs.Live.{Grant, live_grants, without};
+ghost use Rattle.ptu_history.specs.Verdict.{rate_sum};
+ghost use Rattle.ptu_trail.specs.Live.{AreLive, AreOf, IsLeaseOf, is_live_entry, is_other_entry, total_of};
+
+use crate::known::Lease;
 use ptu_history::Client;
 use ptu_units::{Kind, Log, OutOfMemory, rate};
 use std::alloc::Global;
+use std::collections::BTreeMap;
 use std::marker::Model;
 
-/// A grant that is live.
-#[derive(Clone, Copy, Debug)]
-pub(crate) struct Row {
-    pub(crate) start: u64,
+/// When a grant ends, in nanoseconds, and whose it is. Ends are ordered by moment, then client, then
+/// kind.
+#[derive(Clone, Copy, Debug, PartialEq, Eq, PartialOrd, Ord)]
+pub(crate) struct End {
+    pub(crate) until: u64,
     pub(crate) client: Client,
     pub(crate) kind: Kind,
-    pub(crate) log: Log,
-    pub(crate) until: u64,
 }
 
-/// The grants that are live. Their rates sum below 2^64.
+/// The grants that are live: the rate of each by its end, in sixteenths of a message per second.
+/// They sum below 2^64.
 #[derive(Drop)]
 pub(crate) struct LiveGrants {
-    rows: Vec<Row>,
+    rates: BTreeMap<End, u64>,
+    total: u64,
 }
 
 impl Model for LiveGrants {
-    ghost use Rattle.std.specs.Prelude.{ℕ, ◌<◌, ◌^◌, List};
-    ghost use Rattle.ptu_trail.specs.declared.live.Row.{Row};
-    ghost use Rattle.ptu_trail.specs.Live.{rates};
+    ghost use Rattle.std.specs.Prelude.{ℕ, ◌≡◌, List};
+    ghost use Rattle.ptu_trail.specs.declared.live.End.{End};
+    ghost use Rattle.ptu_trail.specs.Live.{total_of};
 
-    ghost Value = { List Row };
+    ghost Value = { List (End × ℕ) };
 
-    ghost view = { λ l. l.rows.items };
+    ghost view = { λ l. l.rates.entries };
 
-    ghost invariant = { λ l. rates l.rows.items < 2 ^ 64 };
+    ghost invariant = { λ l. l.total ≡ total_of l.rates.entries };
 }
 
-// The rates of the rows, but for that of the client and kind.
-fn sum_others(rows: &[Row], client: &Client, kind: Kind) -> u64
-    requires { rates rows.now < 2 ^ 64 }
-    ensures { result ≡ rates (filter (is_other_row client.now kind) rows.now) }
+// Takes out the rate that ends first, where that end is reached at the moment.
+fn pop_ended(rates: &mut BTreeMap<End, u64>, n: u64) -> Option<u64>
+    ensures taken { IfSome result (λ rate. (end : End) × (end.until ≤ n)
+        × (rates.old.entries ≡ (end, rate) ∷ rates.new.entries)) }
+    ensures none { IfNone result
+        (rates.new.entries ≡ filter (is_live_entry n) rates.old.entries) }
+    ensures same { IfNone result (rates.new.entries ≡ rates.old.entries) }
 {
-    rows.iter()
-        .filter(|r| !is_same(client, kind, &r.client, r.kind))
-        .map(|r| rate(r.log))
-        .sum()
+    let (end, _) = rates.first_key_value()?;
+    if n < end.until {
+        return None;
+    }
+    let (_, rate) = rates.pop_first()?;
+    Some(rate)
 }
 
-// The rates of the rows.
-fn sum_all(rows: &[Row]) -> u64
-    requires { rates rows.now < 2 ^ 64 }
-    ensures { result ≡ rates rows.now }
+// Lets go of the rates whose ends are reached at the moment, and gives the sum of those that are
+// left, of this one.
+fn drop_ended(rates: &mut BTreeMap<End, u64>, n: u64, mut total: u64) -> u64
+    requires { total ≡ total_of rates.old.entries }
+    ensures total { result ≡ total_of rates.new.entries }
+    ensures entries { rates.new.entries ≡ filter (is_live_entry n) rates.old.entries }
 {
-    rows.iter().map(|r| rate(r.log)).sum()
+    while let Some(rate) = pop_ended(rates, n) {
+        total -= rate;
+    }
+    total
 }
 
-// Keeps the rows that are live at the moment.
-fn keep_live(rows: &mut Vec<Row>, n: u64)
-    ensures { rows.new.items ≡ filter (is_live_row n) rows.old.items }
+// Takes out the rate that has this end, or 0 where none has.
+fn take(rates: &mut BTreeMap<End, u64>, end: &End) -> u64
+    ensures total { total_of rates.new.entries + result ≡ total_of rates.old.entries }
+    ensures entries { rates.new.entries ≡ filter (is_other_entry end.now) rates.old.entries }
 {
-    rows.retain(|r| n < r.until);
+    let rate = rates.remove(end);
+    rate.unwrap_or(0)
 }
 
-// Keeps the rows of other clients and kinds.
-fn keep_others(rows: &mut Vec<Row>, client: &Client, kind: Kind)
-    ensures { rows.new.items ≡ filter (is_other_row client.now kind) rows.old.items }
+// Puts in a rate with this end, and gives the one that it replaces, or 0.
+fn put(rates: &mut BTreeMap<End, u64>, end: End, rate: u64) -> Result<u64, OutOfMemory>
+    ensures total { IfOk result (λ former.
+        total_of rates.new.entries + former ≡ total_of rates.old.entries + rate) }
+    ensures more { OnOk result (list_all (is_other_entry end) rates.old.entries ≡ true →
+        (weight : End × ℕ → ℕ) → sum_by weight rates.new.entries
+        ≡ weight (end, rate) + sum_by weight rates.old.entries) }
+    ensures err { OnErr result (rates.new.entries ≡ rates.old.entries) }
 {
-    rows.retain(|r| !is_same(client, kind, &r.client, r.kind));
+    let former = rates.insert(end, rate)?;
+    Ok(former.unwrap_or(0))
 }
 
 impl LiveGrants {
@@ -82,7 +101,8 @@ impl LiveGrants {
         ensures { result ≡ [] }
     {
         LiveGrants {
-            rows: Vec::new(alloc),
+            rates: BTreeMap::new(alloc),
+            total: 0,
         }
     }
 
@@ -91,62 +111,48 @@ impl LiveGrants {
         ensures { (history : List Record) (m : ℕ) →
             m ≤ n → AreLive history m self.old → AreLive history n self.new }
     {
-        keep_live(&mut self.rows, n);
+        self.total = drop_ended(&mut self.rates, n, self.total);
     }
 
-    /// The rates of the grants, but for that of the client and kind.
-    pub(crate) fn others(&self, client: &Client, kind: Kind) -> u64
-        ensures value { result ≡ rates (filter (is_other_row client.now kind) self.now) }
-        ensures others { (history : List Record) (n : ℕ) →
-            AreLive history n self.now → result ≡ others_of history n client.now kind }
-    {
-        sum_others(&self.rows, client, kind)
-    }
-
-    /// The rates of the grants.
+    /// The sum of the rates.
     pub(crate) fn total(&self) -> u64
-        ensures { (history : List Record) (n : ℕ) →
-            AreLive history n self.now → result ≡ rate_sum (live_grants history n) }
+        ensures value { result ≡ total_of self.now }
+        ensures sum { (grants : List Grant) → AreOf grants self.now → result ≡ rate_sum grants }
     {
-        sum_all(&self.rows)
+        self.total
     }
 
-    /// Lets go of the grant of the client and kind.
-    pub(crate) fn remove(&mut self, client: &Client, kind: Kind)
-        ensures rows { self.new ≡ filter (is_other_row client.now kind) self.old }
-        ensures ended { (history : List Record) (n at : ℕ) → AreLive history n self.old →
-            AreLive (history ++ Ended at client.now kind ∷ []) n self.new }
-        ensures shed { (history : List Record) (n at : ℕ) → AreLive history n self.old →
-            AreLive (history ++ Shed at client.now kind ∷ []) n self.new }
+    /// Lets go of the grant of the client and kind, whose lease this is.
+    pub(crate) fn remove(&mut self, client: &Client, kind: Kind, lease: Option<Lease>)
+        ensures { (grants : List Grant) → AreOf grants self.old →
+            IsLeaseOf client.now kind lease grants →
+            AreOf (without client.now kind grants) self.new }
     {
-        keep_others(&mut self.rows, client, kind);
-    }
-
-    /// Lets go of the grants that are shed.
-    pub(crate) fn shed(&mut self, shed: &[Shedding])
-        ensures { (history : List Record) (n at : ℕ) → AreLive history n self.old →
-            AreLive (history ++ map (record_of at) shed.now) n self.new }
-    {
-        for one in shed {
-            self.remove(&one.client, one.kind);
+        if let Some(lease) = lease {
+            let end = End {
+                until: lease.until,
+                client: *client,
+                kind,
+            };
+            self.total -= take(&mut self.rates, &end);
         }
     }
 
-    /// Keeps a grant, in place of the one of its client and kind.
+    /// Keeps a grant that was made at this moment, unless it is over at once. The one that it
+    /// replaces is no longer there.
     ///
     /// # Errors
     /// `OutOfMemory`.
-    pub(crate) fn put(&mut self, row: Row) -> Result<(), OutOfMemory>
-        requires { rates (filter (is_other_row row.client row.kind) self.old) + rate_of row.log
-            < 2 ^ 64 }
-        ensures { OnOk result ((history : List Record) → AreLive history row.start self.old →
-            AreLive
-            (history ++ Granted row.start row.client row.kind row.log row.until ∷ []) row.start
-            self.new) }
+    pub(crate) fn put(&mut self, at: u64, end: End, log: Log) -> Result<(), OutOfMemory>
+        requires { total_of self.old + rate_of log < 2 ^ 64 }
+        ensures { OnOk result ((history : List Record) →
+            AreOf (without end.client end.kind (live_grants history at)) self.old →
+            AreLive (history ++ Granted at end.client end.kind log end.until ∷ []) at self.new) }
     {
-        self.remove(&row.client, row.kind);
-        if row.start < row.until {
-            self.rows.push(row)?;
+        if at < end.until {
+            let rate = rate(log);
+            let former = put(&mut self.rates, end, rate)?;
+            self.total = self.total + rate - former;
         }
         Ok(())
     }

@@ -1,16 +1,17 @@
 ghost use Rattle.std.specs.Prelude.{◌≡◌, ◌<◌, ◌≤◌, ◌+◌, ◌^◌, ◌∷◌, [], ◌++◌, ℕ, List, IfNone, IfOk, MatchOption, map, nat_lt, not, true};
-ghost use Rattle.std.specs.List.{filter};
 ghost use Rattle.ptu_units.specs.Log.{rate_of};
 ghost use Rattle.ptu_history.specs.History.{Record, Capacity, Ended, Granted};
 ghost use Rattle.ptu_history.specs.Moments.{book_moment};
-ghost use Rattle.ptu_history.specs.Verdict.{others};
+ghost use Rattle.ptu_history.specs.Live.{Grant};
+ghost use Rattle.ptu_history.specs.Verdict.{rate_sum};
+ghost use Rattle.ptu_trail.specs.Clients.{AreKnown};
 ghost use Rattle.ptu_trail.specs.Faults.{fault_of, first_fault, is_no_moment, message_to, moment_of_stamp, record_of};
-ghost use Rattle.ptu_trail.specs.Live.{AreLive, is_other_row, rates};
+ghost use Rattle.ptu_trail.specs.Live.{AreLive, AreOf, total_of};
 ghost use Rattle.ptu_trail.specs.Trail.{StandsFor};
 
 use crate::cause::{Fault, NoCause, Shedding};
 use crate::clients::Clients;
-use crate::live::{LiveGrants, Row};
+use crate::live::{End, LiveGrants};
 use ptu_history::Client;
 use ptu_units::{Kind, Log, OutOfMemory, Stamp, rate};
 use std::alloc::Global;
@@ -42,15 +43,25 @@ fn moment_of(stamp: Stamp) -> Option<u64>
     }
 }
 
-// Whether a grant of the client and kind at the logarithm fits beside the other live grants.
-fn fits(live: &LiveGrants, capacity: u64, client: &Client, kind: Kind, log: Log) -> bool
-    ensures sum { result ≡ true →
-        rates (filter (is_other_row client.now kind) live.now) + rate_of log < 2 ^ 64 }
-    ensures fits { (history : List Record) (n : ℕ) → AreLive history n live.now →
-        result ≡ not (nat_lt capacity (others history n client.now kind + rate_of log)) }
+// Whether a grant at the logarithm fits beside the live ones.
+fn fits(live: &LiveGrants, capacity: u64, log: Log) -> bool
+    ensures sum { result ≡ true → total_of live.now + rate_of log < 2 ^ 64 }
+    ensures fits { (grants : List Grant) → AreOf grants live.now →
+        result ≡ not (nat_lt capacity (rate_sum grants + rate_of log)) }
 {
     let rate = rate(log);
-    rate <= capacity && live.others(client, kind) <= capacity - rate
+    rate <= capacity && live.total() <= capacity - rate
+}
+
+// Lets go of the grants that are shed, of clients of which this is known.
+fn drop_shed(live: &mut LiveGrants, clients: &Clients, shed: &[Shedding])
+    ensures { (history : List Record) (n at : ℕ) →
+        AreKnown history clients.now → AreLive history n live.old →
+        AreLive (history ++ map (record_of at) shed.now) n live.new }
+{
+    for one in shed {
+        live.remove(&one.client, one.kind, clients.lease(&one.client, one.kind));
+    }
 }
 
 impl Trail {
@@ -93,18 +104,19 @@ impl Trail {
             Err(cause) => return Ok(Some(cause)),
         };
         self.live.advance(at);
-        if !fits(&self.live, self.capacity, &client, kind, log) {
+        // What it renews is charged no more.
+        self.live.remove(&client, kind, known.lease(kind));
+        if !fits(&self.live, self.capacity, log) {
             return Ok(Some(NoCause::Fit));
         }
         known.grant(at, kind, log, until);
         self.clients.put(client, known)?;
-        self.live.put(Row {
-            start: at,
+        let end = End {
+            until,
             client,
             kind,
-            log,
-            until,
-        })?;
+        };
+        self.live.put(at, end, log)?;
         self.moment = at;
         Ok(None)
     }
@@ -128,10 +140,11 @@ impl Trail {
             StandsFor opening self.old history →
             StandsFor opening self.new (history ++ Ended at client kind ∷ []))) }
     {
+        let lease = self.clients.lease(&client, kind);
         let fault = self.clients.end(at, self.moment, client, kind)?;
         if fault.is_none() {
             self.live.advance(at);
-            self.live.remove(&client, kind);
+            self.live.remove(&client, kind, lease);
             self.moment = at;
         }
         Ok(fault)
@@ -156,7 +169,7 @@ impl Trail {
             return Some(NoCause::Moment);
         }
         self.live.advance(at);
-        self.live.shed(shed);
+        drop_shed(&mut self.live, &self.clients, shed);
         if capacity < self.live.total() {
             return Some(NoCause::Over);
         }

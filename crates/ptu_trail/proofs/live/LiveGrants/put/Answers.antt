@@ -1,22 +1,18 @@
-use Rattle.std.proofs.Common.{◌≡◌, ◌∙◌, ◌++◌, ◌∷◌, [], cond, filter, ltb, sym, ap, subst}
-use Rattle.std.proofs.lemmas.Bool.{lt-ltb, le-ltb}
-use Rattle.std.proofs.lemmas.List.{append-nil}
-use Rattle.ptu_history.specs.History.{Granted}
-use Rattle.ptu_trail.specs.Live.{AreLive, is_other_row}
-use Rattle.ptu_trail.proofs.Living.{live-granted}
+use Rattle.std.proofs.Common.{◌∙◌, ◌+◌, ap, sym, subst}
+use Rattle.std.specs.List.{sum_by}
+use Rattle.ptu_history.specs.Live.{live_grants, without}
+use Rattle.ptu_trail.specs.Live.{AreOf}
+use Rattle.ptu_trail.proofs.Living.{live-granted, none_at, over-granted}
 use Rattle.ptu_trail.proofs.live.LiveGrants.put.Goals as goal
 
-pub returns-in_ok-push : goal.returns-in_ok-push
-returns-in_ok-push c = λ history live.
-    let row = c.args.row in
-    let last : row ∷ [] ≡ cond (ltb row.start row.until) (row ∷ []) [] = ap (λ b. cond b (row ∷ []) []) (sym (lt-ltb row.start row.until c.if-row.true)) in
-    let kept = ap (λ rows. rows ++ row ∷ []) (c.self.view_is ∙ c.remove.ensures.rows) in
-    subst (AreLive (history ++ Granted row.start row.client row.kind row.log row.until ∷ []) row.start)
-    (sym (c.in_ok-push.ensures.items ∙ kept ∙ ap (λ more. filter (is_other_row row.client row.kind) c.args.self.now ++ more) last)) (live-granted history row c.args.self.now live)
+pub returns-in_ok-former : goal.returns-in_ok-former
+returns-in_ok-former c = λ history same.
+    let end = c.args.end in
+    let before = c.self.inside.rates.entries in
+    let here : AreOf (without end.client end.kind (live_grants history c.args.at)) before =
+    subst (AreOf (without end.client end.kind (live_grants history c.args.at))) (sym c.self.view_is) same in
+    live-granted history c.args.at end c.args.log before c.put.new.rates.entries c.if-at-end.true here
+    (λ weight. c.in_ok-former.ensures.more (none_at (live_grants history c.args.at) before end here) weight ∙ ap (λ n. weight (end, n) + sum_by weight before) c.rate-rate.ensures.rate)
 
-pub returns-else-row : goal.returns-else-row
-returns-else-row c = λ history live.
-    let row = c.args.row in
-    let none : [] ≡ cond (ltb row.start row.until) (row ∷ []) [] = ap (λ b. cond b (row ∷ []) []) (sym (le-ltb row.start row.until c.if-row.false)) in
-    subst (AreLive (history ++ Granted row.start row.client row.kind row.log row.until ∷ []) row.start)
-    (sym (c.remove.ensures.rows ∙ sym (append-nil (filter (is_other_row row.client row.kind) c.args.self.now)) ∙ ap (λ more. filter (is_other_row row.client row.kind) c.args.self.now ++ more) none)) (live-granted history row c.args.self.now live)
+pub returns-else-at-end : goal.returns-else-at-end
+returns-else-at-end c = λ history same. over-granted history c.args.at c.args.end c.args.log c.args.self.now c.if-at-end.false same

@@ -1,6 +1,9 @@
-use Rattle.std.proofs.Common.{◌∙◌, refl, sym}
+use Rattle.std.proofs.Common.{◌∙◌, refl, sym, subst}
 use Rattle.ptu_history.specs.History.{Ended}
+use Rattle.ptu_history.specs.Live.{live_grants}
 use Rattle.ptu_history.specs.Moments.{book_moment}
+use Rattle.ptu_trail.specs.Live.{AreOf}
+use Rattle.ptu_trail.proofs.Living.{grants_ended}
 use Rattle.ptu_trail.specs.declared.trail.Trail.{Trail}
 use Rattle.ptu_trail.proofs.Accounts.{if_none_map}
 use Rattle.ptu_trail.proofs.Judging.{placed_from, placed_le, stands_decided}
@@ -12,4 +15,5 @@ returns-then-is_none-clause-stands c = if_none_map c.in_ok-fault.fault (λ none 
     let placed = placed_from history c.args.at c.args.client (sym (c.in_ok-fault.ensures.fault history s.clients s.moment) ∙ none) in
     let le = placed_le history c.args.at c.args.client placed in
     stands_decided opening history (Ended c.args.at c.args.client c.args.kind) c.args.self.now new s refl refl le refl (ended history s.clients s.moment)
-    (c.remove.ensures.ended history c.args.at c.args.at (c.advance.ensures history (book_moment history) le s.live))) c.in_ok-fault.ensures.ended
+    (subst (λ gs. AreOf gs c.remove.new.self) (grants_ended history c.args.at c.args.at c.args.client c.args.kind)
+    (c.remove.ensures (live_grants history c.args.at) (c.advance.ensures history (book_moment history) le s.live) (c.lease-lease.ensures history c.args.at s.clients)))) c.in_ok-fault.ensures.ended
