@@ -5,7 +5,6 @@ use Rattle.ptu_lines.specs.Script.{script_lines}
 use Rattle.ptu_report.specs.Rules.{meaning_of}
 use Rattle.ptu_audit.specs.declared.answer.Answer.{Answer}
 use Rattle.ptu_audit.specs.declared.auditor.Auditor.{Auditor}
-use Rattle.ptu_audit.specs.declared.line.Line.{Line}
 use Rattle.ptu_audit.specs.Audited.{report_lines}
 use Rattle.ptu_audit.specs.Reading.{Reading, audit_rules, opening}
 use Rattle.ptu_audit.specs.Standing.{StandsFor}

@@ -14,12 +14,11 @@ use Rattle.ptu_laws.specs.Sound.{sheds_at}
 use Rattle.ptu_trail.specs.declared.cause.Fault.{Fault}
 use Rattle.ptu_trail.specs.declared.cause.NoCause.{NoCause}
 use Rattle.ptu_trail.specs.declared.cause.Shedding.{Shedding}
-use Rattle.ptu_trail.specs.Faults.{IsFaultless, behind, fault_of, first_fault, is_shedding, message_to, or_behind, record_of}
+use Rattle.ptu_trail.specs.Faults.{behind, fault_of, first_fault, is_shedding, message_to, or_behind, record_of}
 use Rattle.ptu_audit.specs.declared.line.Line.{Line}
 use Rattle.ptu_audit.specs.declared.deed.Act.{Act}
 use Rattle.ptu_audit.specs.declared.deed.Deed.{Deed}
 use Rattle.ptu_audit.specs.declared.deed.Deed.TheVariants.{Granted, Ended, Changed, Sent}
-use Rattle.ptu_audit.specs.declared.deed.Finding.{Finding}
 use Rattle.ptu_audit.specs.Groups.{acts_of}
 use Rattle.ptu_audit.specs.Trails.{AreSound, act_finding, acts_finding, acts_in, finding_of, first_line, group_finding, groups_finding, is_by, or_later, records_of, told_finding, trail_of, trail_with}
 use Rattle.ptu_audit.proofs.Faultless.{AreFaultless, Laws, acts_in-more, faultless, none_both}

@@ -1,14 +1,13 @@
 -- Where nothing is found, no trail has a fault.
-use Rattle.std.proofs.Common.{◌≡◌, ◌∙◌, ℕ, ◌++◌, eqb, Bool, true, false, cond, List, [], ◌∷◌, map, Option, Some, None, option_map, refl, sym, ap, subst, append_assoc}
+use Rattle.std.proofs.Common.{◌≡◌, ◌∙◌, ℕ, ◌++◌, eqb, Bool, true, false, List, [], ◌∷◌, map, Option, Some, None, option_map, refl, sym, ap, subst, append_assoc}
 use Rattle.std.specs.Option.{unwrap_or}
 use Rattle.std.proofs.lemmas.Bool.{eqb-true}
 use Rattle.std.proofs.lemmas.List.{append-nil}
 use Rattle.std.proofs.lemmas.List.Concat.{flat_map-append}
 use Rattle.ptu_history.specs.History.{Record}
-use Rattle.ptu_trail.specs.declared.cause.Fault.{Fault}
 use Rattle.ptu_history.specs.History as history
 use Rattle.ptu_trail.specs.declared.cause.Shedding.{Shedding}
-use Rattle.ptu_trail.specs.Faults.{IsFaultless, behind, fault_of, first_fault, is_shedding, message_to, or_behind, record_of}
+use Rattle.ptu_trail.specs.Faults.{IsFaultless, fault_of, first_fault, is_shedding, message_to, or_behind, record_of}
 use Rattle.ptu_trail.specs.declared.cause.NoCause.{NoCause}
 use Rattle.ptu_audit.specs.declared.line.Line.{Line}
 use Rattle.ptu_audit.specs.declared.deed.Act.{Act}

@@ -1,17 +1,15 @@
 -- The first finding of groups and of acts, with one more of them.
-use Rattle.std.proofs.Common.{◌≡◌, ◌∙◌, ℕ, ◌+◌, ◌<◌, ◌≤◌, ◌++◌, List, [], ◌∷◌, take, drop, length, get_or, Option, Some, None, option_map, refl, sym, ap, subst, append_assoc}
-use Rattle.std.specs.List.{flat_map}
+use Rattle.std.proofs.Common.{◌≡◌, ◌∙◌, ℕ, ◌+◌, ◌<◌, ◌≤◌, ◌++◌, List, [], ◌∷◌, take, drop, length, get_or, Option, Some, None, refl, sym, ap, subst, append_assoc}
 use Rattle.std.specs.Option.{unwrap_or}
 use Rattle.std.proofs.lemmas.List.{append-nil, drop_all, drop_more, take_all, take_more}
 use Rattle.std.proofs.lemmas.List.Concat.{flat_map-append}
-use Rattle.ptu_trail.specs.declared.cause.Fault.{Fault}
 use Rattle.ptu_audit.specs.declared.line.Line.{Line}
 use Rattle.ptu_audit.specs.declared.deed.Act.{Act}
 use Rattle.ptu_audit.specs.declared.deed.Finding.{Finding}
 use Rattle.ptu_audit.specs.declared.ledger.Ledger.{Ledger}
 use Rattle.ptu_audit.specs.Groups.{acts_of}
 use Rattle.ptu_audit.specs.Standing.{AreKept, one_group}
-use Rattle.ptu_audit.specs.Trails.{act_finding, acts_finding, acts_in, finding_of, group_finding, groups_finding, or_later}
+use Rattle.ptu_audit.specs.Trails.{act_finding, acts_finding, acts_in, group_finding, groups_finding, or_later}
 
 pub or_later-none : (f : Option Finding) → or_later f None ≡ f
 or_later-none None = refl

@@ -1,14 +1,13 @@
 -- The trails of all grandmasters, after one more act.
 use Rattle.std.proofs.Common.{◌≡◌, ◌∙◌, ℕ, ◌+◌, ◌<◌, ◌++◌, eqb, ltb, Bool, true, false, cond, List, [], ◌∷◌, Option, Some, None, refl, sym, ap, subst, arith}
 use Rattle.std.specs.Prelude.{IfNone}
-use Rattle.std.specs.List.{count_by, filter, fold}
+use Rattle.std.specs.List.{filter, fold}
 use Rattle.std.specs.Ordering.{is_eq, nat_cmp}
 use Rattle.std.specs.declared.cmp.Ordering.TheVariants.{Less, Equal, Greater}
 use Rattle.std.proofs.lemmas.Bool.{eq-eqb, eqb-true, ltb-true}
 use Rattle.std.proofs.lemmas.List.{append-nil}
 use Rattle.std.proofs.lemmas.List.Elements.{filter-append}
 use Rattle.std.proofs.lemmas.List.Sums.{fold-append, sum_by-append}
-use Rattle.ptu_history.specs.History.{Record}
 use Rattle.ptu_trail.specs.declared.trail.Trail.{Trail}
 use Rattle.ptu_trail.specs.Trail.{StandsFor as IsTrail}
 use Rattle.ptu_audit.specs.declared.deed.Act.{Act}

@@ -1,10 +1,9 @@
 -- What holds of the trails of a report in which nothing is found.
-use Rattle.std.proofs.Common.{◌≡◌, ◌∙◌, ℕ, ◌+◌, ◌++◌, ◌&&◌, Bool, true, false, cond, eqb, List, [], ◌∷◌, map, take, Option, Some, None, refl, sym, ap, subst}
+use Rattle.std.proofs.Common.{◌≡◌, ◌∙◌, ℕ, ◌+◌, ◌++◌, Bool, true, false, cond, eqb, List, [], ◌∷◌, map, take, Option, Some, None, refl, sym, ap, subst}
 use Rattle.std.specs.Prelude.{IfSome, Ok, filter_map}
 use Rattle.std.specs.List.{AllByRecursion, cons_option, filter, flat_map, fold, list_any}
 use Rattle.std.specs.Option.{unwrap_or}
-use Rattle.ptu_lines.specs.Script.{ScriptLine, Whole, Refused, script_lines}
-use Rattle.ptu_report.specs.declared.ending.Ending.{Ending}
+use Rattle.ptu_lines.specs.Script.{ScriptLine, Whole, Refused}
 use Rattle.ptu_report.specs.declared.ending.Ending.TheVariants as endings
 use Rattle.ptu_report.specs.Rules.{Outcome, Goes, Refuses, closing, ending_after, ending_at, meaning_after, meaning_at, texts_at, texts_until}
 use Rattle.ptu_laws.proofs.Budget.{count-sound}
@@ -22,7 +21,6 @@ use Rattle.ptu_audit_lines.specs.declared.entry.Decision.TheVariants as decision
 use Rattle.ptu_audit_lines.specs.declared.entry.ReportLine.{ReportLine}
 use Rattle.ptu_audit_lines.specs.declared.entry.ReportLine.TheVariants as report
 use Rattle.ptu_audit_lines.specs.Entry.{line_of}
-use Rattle.ptu_tlvs.specs.declared.tlv.Tlv.{Tlv}
 use Rattle.ptu_audit.specs.declared.answer.AuditCause.{AuditCause}
 use Rattle.ptu_audit.specs.declared.answer.AuditCause.TheVariants as causes
 use Rattle.ptu_audit.specs.declared.line.Line.{Line}
@@ -38,8 +36,8 @@ use Rattle.ptu_audit.specs.declared.answer.Answer.{Answer}
 use Rattle.ptu_audit.specs.declared.answer.Answer.TheVariants as answers
 use Rattle.ptu_audit.specs.declared.deed.Finding.{Finding}
 use Rattle.ptu_audit.specs.Trails.{acts_in, answer_by, answer_of, groups_finding, is_by, records_of, trail_of, trail_with}
-use Rattle.ptu_audit.specs.Reading.{Reading, audit_rules, cause_of_line, end_read, is_disordered, line_read, opening, with_entry}
-use Rattle.ptu_audit.specs.Audited.{AllKeepPromises, IsKept, KeepsPromises, report_lines}
+use Rattle.ptu_audit.specs.Reading.{Reading, audit_rules, cause_of_line, end_read, is_disordered, line_read, with_entry}
+use Rattle.ptu_audit.specs.Audited.{AllKeepPromises, IsKept, report_lines}
 use Rattle.ptu_audit.proofs.Exact.{none_from, sound_from}
 use Rattle.ptu_audit.proofs.Faultless.{Laws, faultless}
 use Rattle.ptu_audit.proofs.Ranges.{IsDecisionInRange, IsSaidInRange, said_within}

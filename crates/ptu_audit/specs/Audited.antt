@@ -1,6 +1,6 @@
 -- What an audit answers, and what a report keeps to that it answers yes.
-use Rattle.std.specs.Prelude.{◌≡◌, ℕ, ◌≤◌, ◌*◌, List, [], ◌++◌, ◌∷◌, Option, Some, None, option_map, Result, Ok, Err, ℤ, IsTrue, ◌<◌}
-use Rattle.std.specs.List.{All, AllPairs}
+use Rattle.std.specs.Prelude.{◌≡◌, ℕ, ◌≤◌, ◌*◌, List, [], ◌++◌, ◌∷◌, Option, Some, option_map, Result, Ok, Err, ℤ, ◌<◌}
+use Rattle.std.specs.List.{AllPairs}
 use Rattle.ptu_outside.specs.Faults.{HasRisen}
 use Rattle.ptu_outside.specs.Handing.{HasPut}
 use Rattle.ptu_lines.specs.Script.{script_lines}
@@ -10,10 +10,8 @@ use Rattle.ptu_units.specs.declared.kind.Kind.{Kind}
 use Rattle.ptu_history.specs.declared.client.Client.{Client}
 use Rattle.ptu_history.specs.History.{Record, Granted, Sent}
 use Rattle.ptu_history.specs.Held.{budget, count, force, held, payment, payments}
-use Rattle.ptu_history.specs.Lawful.{earliest}
-use Rattle.ptu_history.specs.Live.{last_decision, live}
+use Rattle.ptu_history.specs.Live.{last_decision}
 use Rattle.ptu_laws.specs.Paid.{IsBefore, IsPaid}
-use Rattle.ptu_trail.specs.Faults.{IsFaultless}
 use Rattle.ptu_audit.specs.declared.answer.Answer.{Answer}
 use Rattle.ptu_audit.specs.declared.answer.Answer.TheVariants as answers
 use Rattle.ptu_audit.specs.declared.answer.AuditFault.{AuditFault}

@@ -15,8 +15,8 @@ use std::alloc::Global;
 use std::collections::BTreeMap;
 use std::marker::Model;
 
-/// When a grant ends, in nanoseconds, and whose it is. Ends are ordered by moment, then client, then
-/// kind.
+/// When a grant ends, in nanoseconds, and whose it is. Ends are ordered by moment, then client,
+/// then kind.
 #[derive(Clone, Copy, Debug, PartialEq, Eq, PartialOrd, Ord)]
 pub(crate) struct End {
     pub(crate) until: u64,

@@ -1,11 +1,11 @@
-use Rattle.std.proofs.Common.{◌≡◌, ◌∙◌, ◌∷◌, [], ℕ, List, Some, ap, sym, subst}
+use Rattle.std.proofs.Common.{◌∙◌, ◌∷◌, [], ap, sym, subst}
 use Rattle.ptu_lines.specs.Script.{script_lines}
 use Rattle.ptu_outside.proofs.Putting.{HasPutPart-whole}
 use Rattle.ptu_outside.specs.Handing.{HasPut}
 use Rattle.ptu_audit.specs.Reading.{opening}
 use Rattle.ptu_audit.specs.Texts.{answer_text}
 use Rattle.ptu_audit.proofs.Answering.{answer_is, lines_are, told}
-use Rattle.ptu_audit.proofs.Promises.{IsRead, answer_kept, refused_read, whole_read}
+use Rattle.ptu_audit.proofs.Promises.{answer_kept, refused_read, whole_read}
 use Rattle.ptu_audit.proofs.auditing.audit.Goals as goal
 
 pub returns-in-Ok-clause-exact : goal.returns-in-Ok-clause-exact

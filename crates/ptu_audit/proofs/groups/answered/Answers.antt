@@ -1,4 +1,4 @@
-use Rattle.std.proofs.Common.{◌≡◌, ◌∙◌, ap}
+use Rattle.std.proofs.Common.{◌∙◌, ap}
 use Rattle.ptu_audit.specs.Groups.{last_apart}
 use Rattle.ptu_audit.proofs.Grouping.{last_apart-push}
 use Rattle.ptu_audit.proofs.groups.answered.Goals as goal

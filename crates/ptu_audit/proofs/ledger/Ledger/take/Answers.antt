@@ -1,4 +1,4 @@
-use Rattle.std.proofs.Common.{◌≡◌, ◌∙◌, ◌+◌, ◌++◌, ◌∷◌, [], cond, ap, sym, subst, nat_cmp}
+use Rattle.std.proofs.Common.{◌∙◌, ◌+◌, ◌++◌, ◌∷◌, [], cond, ap, sym, subst, nat_cmp}
 use Rattle.std.specs.BTreeMap.{get}
 use Rattle.ptu_audit.specs.Standing.{IsKept}
 use Rattle.ptu_audit.specs.Trails.{is_grant, is_message, trail_of}

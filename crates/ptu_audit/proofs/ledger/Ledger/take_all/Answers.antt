@@ -1,5 +1,4 @@
-use Rattle.std.proofs.Common.{◌≡◌, ◌∙◌, ◌++◌, None, take, sym, subst}
-use Rattle.ptu_audit.specs.Trails.{act_finding}
+use Rattle.std.proofs.Common.{◌∙◌, ◌++◌, take, sym}
 use Rattle.ptu_audit.proofs.Findings.{one_taken}
 use Rattle.ptu_audit.proofs.Ledgers.{if_none_at}
 use Rattle.ptu_audit.proofs.ledger.Ledger.take_all.Goals as goal
