@@ -16,25 +16,12 @@ use Rattle.ptu_history.specs.Shedding.{shed_cmp}
 use Rattle.ptu_history.proofs.Unique.{Contains-cons_cases}
 use Rattle.ptu_shard.specs.declared.lease.Row.{Row}
 use Rattle.ptu_shard.specs.Table.{Kept}
-use Rattle.ptu_units.specs.declared.kind.Kind.{Kind}
-use Rattle.ptu_units.specs.declared.kind.Kind.TheVariants.{Announce, Sync, DelayResp}
-use Rattle.ptu_units.specs.contracts.kind.KindOrd.TheImpl as kinds
+use Rattle.ptu_shard.proofs.Heap.{kind_cmp_is}
 use Rattle.ptu_admit.specs.contracts.newest.CandidateOrd.TheImpl as candidates
 use Rattle.ptu_admit.specs.declared.newest.Candidate.{Candidate}
 use Rattle.ptu_admit.specs.declared.newest.Found.{Found}
 use Rattle.ptu_admit.specs.Lent.{Lent, four, rows_of_lent}
 use Rattle.ptu_admit.specs.Newest.{AreListed, candidate_cmp, candidate_of, found_in, grant_of}
-
-kind_cmp_is : (j k : Kind) → kinds.cmp-value.it j k ≡ kind_cmp j k
-kind_cmp_is Announce Announce = refl
-kind_cmp_is Announce Sync = refl
-kind_cmp_is Announce DelayResp = refl
-kind_cmp_is Sync Announce = refl
-kind_cmp_is Sync Sync = refl
-kind_cmp_is Sync DelayResp = refl
-kind_cmp_is DelayResp Announce = refl
-kind_cmp_is DelayResp Sync = refl
-kind_cmp_is DelayResp DelayResp = refl
 
 candidate_cmp_is : (a b : Candidate) → candidates.cmp-value.it a b ≡ candidate_cmp a b
 candidate_cmp_is a b = ap (λ o. ordering_then (nat_cmp a.start b.start) (ordering_then (client_cmp a.client b.client) (ordering_then o (nat_cmp a.table b.table)))) (kind_cmp_is a.kind b.kind)
