@@ -6,6 +6,6 @@ pub mod RowKeys
 pub mod Leasing
 pub mod Verdicts
 pub mod Sendings
-pub mod Newer
+pub mod Candidates
 pub mod ShedOrder
 pub mod ShedLoop

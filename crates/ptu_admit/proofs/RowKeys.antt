@@ -24,7 +24,7 @@ abbrev is_live_row : ℕ → Row → Bool
 is_live_row x row = ltb x row.lease.until
 
 -- of distinct rows one is of the client and kind
-same_row : (c : Client) (k : Kind) (xs : List Row) → Apart Differ xs → (a b : Row) → Contains xs a → Contains xs b → is_row_of c k a ≡ true → is_row_of c k b ≡ true → a ≡ b
+pub same_row : (c : Client) (k : Kind) (xs : List Row) → Apart Differ xs → (a b : Row) → Contains xs a → Contains xs b → is_row_of c k a ≡ true → is_row_of c k b ≡ true → a ≡ b
 same_row c k [] apart a b (i, lt, h) hb pa pb = absurd (omega arith)
 same_row c k (x ∷ xs) apart a b ha hb pa pb = at (Contains-cons_cases x xs a ha) (Contains-cons_cases x xs b hb) (λ h i. same_row c k xs apart.1 a b h i pa pb)
   where

@@ -1,9 +1,11 @@
 -- Grants that are shed one by one.
-use Rattle.std.proofs.Common.{◌≡◌, ◌∙◌, ℕ, zero, suc, ◌+◌, ◌<◌, ◌≤◌, ◌++◌, List, [], ◌∷◌, length, ltb, map, append_assoc, append-nil, refl, sym, ap, subst, arith, Some, None}
-use Rattle.std.specs.List.{Contains, filter, fold}
-use Rattle.std.proofs.lemmas.Bool.{ltb-true}
+use Rattle.std.proofs.Common.{◌≡◌, ◌∙◌, ℕ, zero, suc, ◌+◌, ◌<◌, ◌≤◌, ◌++◌, List, [], ◌∷◌, length, ltb, map, append_assoc, append-nil, refl, sym, ap, subst, arith, true, false}
+use Rattle.std.specs.List.{Contains, filter}
+use Rattle.std.specs.List.Sorted.{IsPermutation}
+use Rattle.std.proofs.lemmas.Bool.{ltb-true, true≢false}
 use Rattle.std.proofs.lemmas.List.{map-append}
 use Rattle.std.proofs.lemmas.List.Sorted.{length_permutation}
+use Rattle.ptu_history.specs.Client.{same_lease}
 use Rattle.ptu_history.specs.Live.{Grant, live_grants}
 use Rattle.ptu_history.specs.History.{Record, Capacity, Shed, capacity_in_force}
 use Rattle.ptu_history.specs.Order.{in_order}
@@ -11,21 +13,26 @@ use Rattle.ptu_history.specs.Shedding.{shed_cmp, shed_grants, shed_order, shed_p
 use Rattle.ptu_history.proofs.AfterSteps.{capacity_in_force-sheds}
 use Rattle.ptu_history.proofs.Capacities.{capacity_in_force-append}
 use Rattle.ptu_history.proofs.Currents.{standing-undecided}
+use Rattle.ptu_history.proofs.Keys.{same_lease-refl}
 use Rattle.ptu_history.proofs.Unique.{Contains-from_filter}
 use Rattle.ptu_shard.specs.declared.lease.Row.{Row}
+use Rattle.ptu_shard.specs.Row.{share_of}
 use Rattle.ptu_shard.specs.Table.{Kept, StandsAt}
 use Rattle.ptu_shard.proofs.RowLists.{same_permuted}
 use Rattle.ptu_shard.proofs.Standing.{stands_elsewhere}
 use Rattle.ptu_admit.specs.Book.{KeptBook}
 use Rattle.ptu_admit.specs.declared.newest.Found.{Found}
 use Rattle.ptu_admit.specs.declared.shed_list.Shed.{Shed as Answer}
-use Rattle.ptu_admit.specs.Lent.{EachStandsAt, four, shares}
-use Rattle.ptu_admit.specs.Newest.{IsThinned, all_found, newer, rows_in, shed_at}
+use Rattle.ptu_admit.specs.declared.newest.Candidate.{Candidate}
+use Rattle.ptu_admit.specs.Lent.{EachStandsAt, four, rows_of_lent, shares}
+use Rattle.ptu_admit.specs.Newest.{AreDistinct, AreListed, IsThinned, candidate_of, rows_in, shed_at}
 use Rattle.ptu_admit.specs.Shed.{shed_of}
 use Rattle.ptu_admit.specs.Rows.{live_rows}
 use Rattle.ptu_admit.specs.Tables.{IsSwept}
 use Rattle.ptu_admit.proofs.RowKeys.{length-filter-le}
-use Rattle.ptu_admit.proofs.ShedOrder.{AllLive, shed_next, shed_no_more}
+use Rattle.ptu_admit.proofs.Candidates.{NotAfter, listed_without}
+use Rattle.ptu_admit.proofs.ShedOrder.{AllLive, IsPlaced, shed_next, shed_no_more}
+use Rattle.ptu_admit.proofs.Sums.{share_of-left}
 use Rattle.ptu_admit.proofs.Verdicts.{FourDistinct}
 
 -- what was shed so far, and what is still to be shed, is all that is shed
@@ -43,6 +50,7 @@ pub record SoFar {P : Type 0} (at capacity : ℕ) (a b c d a' b' c' d' : Kept P)
 thinned_more : {P : Type 0} (a b c : Kept P) → IsThinned a b → IsThinned b c → IsThinned a c
 thinned_more a b c s t = record {
   members = λ row h. s.members row (t.members row h);
+  distinct = λ d. t.distinct (s.distinct d);
   moment = t.moment ∙ s.moment;
   keeps = record { port = t.keeps.port ∙ s.keeps.port; spare = let x = s.keeps.spare in let y = t.keeps.spare in omega arith };
 }
@@ -66,13 +74,13 @@ module _ {P : Type 0} (n capacity : ℕ) (a b c d a' b' c' d' a'' b'' c'' d'' : 
   history_more h = append_assoc h (map (shed_at n) list) (shed_at n answer ∷ []) ∙ ap (λ rs. h ++ rs) (sym (map-append (shed_at n) list (answer ∷ [])))
 
   pub one_shed : AllLive n a b c d → (a.moment ≡ n) × (b.moment ≡ n) × (c.moment ≡ n) × (d.moment ≡ n) →
-      fold newer None (all_found (four a' b' c' d')) ≡ Some f → FourDistinct a' b' c' d' → capacity < shares (four a' b' c' d') →
+      IsPlaced a' b' c' d' f → ((o : Found) → IsPlaced a' b' c' d' o → NotAfter f o) → FourDistinct a' b' c' d' → capacity < shares (four a' b' c' d') →
       IsThinned a' a'' → IsThinned b' b'' → IsThinned c' c'' → IsThinned d' d'' →
       rows_in (four a'' b'' c'' d'') + 1 ≤ rows_in (four a' b' c' d') → book'' ≡ record book' { total = shares (four a'' b'' c'' d'') } → room ≤ room' →
       ((b m : ℕ) (h : List Record) → EachStandsAt b (four a' b' c' d') h → m ≤ a'.moment → m ≤ b'.moment → m ≤ c'.moment → m ≤ d'.moment →
       EachStandsAt b (four a'' b'' c'' d'') (h ++ Shed m f.row.client f.row.kind ∷ [])) →
       SoFar n capacity a b c d a'' b'' c'' d'' book book'' more (len + 1) room'
-  one_shed lasts reached newest distinct above t0 t1 t2 t3 fewer book_is room_more stands = record {
+  one_shed lasts reached placed newest distinct above t0 t1 t2 t3 fewer book_is room_more stands = record {
     t0 = thinned_more a a' a'' s.t0 t0;
     t1 = thinned_more b b' b'' s.t1 t1;
     t2 = thinned_more c c' c'' s.t2 t2;
@@ -88,10 +96,41 @@ module _ {P : Type 0} (n capacity : ℕ) (a b c d a' b' c' d' a'' b'' c'' d'' : 
         (let e : d'.moment ≡ n = s.t3.moment ∙ reached.3 in omega arith));
     shed = λ h st.
         s.shed h st
-        ∙ ap (λ gs. list ++ map shed_of gs) (shed_next n capacity a' b' c' d' (h ++ map (shed_at n) list) f (s.stands h st) distinct (still_live lasts) newest above)
+        ∙ ap (λ gs. list ++ map shed_of gs) (shed_next n capacity a' b' c' d' (h ++ map (shed_at n) list) f (s.stands h st) distinct (still_live lasts) placed newest above)
         ∙ sym (append_assoc list (answer ∷ []) (map shed_of (shed_prefix capacity (shed_order ((h ++ map (shed_at n) list) ++ Shed n f.row.client f.row.kind ∷ []) n))))
         ∙ ap (λ h'. more ++ map shed_of (shed_prefix capacity (shed_order h' n))) (history_more h);
   }
+
+-- the four tables of a shedding have no two rows of one client and kind
+pub four_distinct : {P : Type 0} (a b c d a' b' c' d' : Kept P) → IsThinned a a' → IsThinned b b' → IsThinned c c' → IsThinned d d' → AreDistinct a b c d → FourDistinct a' b' c' d'
+four_distinct a b c d a' b' c' d' ta tb tc td distinct = record {
+  first = ta.distinct distinct.0;
+  second = tb.distinct distinct.1;
+  third = tc.distinct distinct.2;
+  fourth = td.distinct distinct.3;
+}
+
+module _ {P : Type 0} (a b c d a' b' c' d' : Kept P) (ta : IsThinned a a') (tb : IsThinned b b') (tc : IsThinned c c') (td : IsThinned d d') where
+  former : (f : Found) → f.table < 4 → Contains (rows_of_lent f.table (four a' b' c' d')) f.row → Contains (rows_of_lent f.table (four a b c d)) f.row
+  former f place contained = at f.table place contained
+    where
+      at : (j : ℕ) → j < 4 → Contains (rows_of_lent j (four a' b' c' d')) f.row → Contains (rows_of_lent j (four a b c d)) f.row
+      at zero lt i = ta.members f.row i
+      at (suc zero) lt i = tb.members f.row i
+      at (suc (suc zero)) lt i = tc.members f.row i
+      at (suc (suc (suc zero))) lt i = td.members f.row i
+      at (suc (suc (suc (suc j)))) lt i = absurd (omega arith)
+
+  -- once the row of the candidate that is taken is dropped, all rows are still listed
+  pub listed_less : (f : Found) (old new : List Candidate) → IsPermutation old (candidate_of f ∷ new) → AreListed (four a b c d) old →
+      ((r : Row) → Contains (rows_of_lent f.table (four a' b' c' d')) r → same_lease f.row.client f.row.kind r.client r.kind ≡ false) → AreListed (four a' b' c' d') new
+  listed_less f old new taken are gone =
+      listed_without (four a' b' c' d') (candidate_of f) old new taken (λ o place contained. are o place (former o place contained)) (λ o place contained e.
+      let same : same_lease f.row.client f.row.kind o.row.client o.row.kind ≡ true =
+      ap (λ (c : Candidate). same_lease f.row.client f.row.kind c.client c.kind) e ∙ same_lease-refl f.row.client f.row.kind in
+      let there : Contains (rows_of_lent f.table (four a' b' c' d')) o.row =
+      subst (λ j. Contains (rows_of_lent j (four a' b' c' d')) o.row) (ap (λ (c : Candidate). c.table) e) contained in
+      true≢false (sym same ∙ gone o.row there))
 
 -- at the end all is shed
 pub all_shed : {P : Type 0} (n capacity : ℕ) (a b c d a' b' c' d' : Kept P) (book book' : KeptBook) (list : List Answer) (len room : ℕ) → SoFar n capacity a b c d a' b' c' d' book book' list len room →
@@ -114,6 +153,10 @@ all_live n a b c d a' b' c' d' sa sb sc sd (suc (suc (suc (suc j)))) row lt h = 
 -- a sweep leaves no more rows
 pub swept_rows : {P : Type 0} (n : ℕ) (old new : Kept P) → IsSwept n old new → length new.rows ≤ length old.rows
 swept_rows n old new swept = omega (arith, length_permutation (live_rows n old.rows) new.rows swept.rows, length-filter-le (λ row. ltb n row.lease.until) old.rows)
+
+-- nor a greater share
+pub swept_share : {P : Type 0} (n : ℕ) (old new : Kept P) → IsSwept n old new → share_of new.rows ≤ share_of old.rows
+swept_share n old new swept = share_of-left (λ row. ltb n row.lease.until) old.rows new.rows swept.rows
 
 -- a change of capacity passes the tables
 pub passes_change : {P : Type 0} (n capacity : ℕ) (a b c d : Kept P) (h : List Record) → EachStandsAt n (four a b c d) h → EachStandsAt n (four a b c d) (h ++ Capacity n capacity ∷ [])

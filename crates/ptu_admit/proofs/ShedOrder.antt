@@ -1,6 +1,6 @@
 -- The order of shedding, grant by grant.
 use Rattle.std.proofs.Common.{◌≡◌, ◌∙◌, ◌⊎◌, inl, inr, ℕ, zero, suc, ◌+◌, ◌<◌, ◌≤◌, ◌++◌, List, [], ◌∷◌, get_or, map, Bool, true, false, cond, ltb, refl, sym, ap, subst, arith, Some, None}
-use Rattle.std.specs.List.{Contains, filter, fold}
+use Rattle.std.specs.List.{Contains, filter}
 use Rattle.std.specs.List.Sorted.{IsSorted}
 use Rattle.std.specs.Ordering.{is_lt}
 use Rattle.std.proofs.lemmas.Bool.{le-leb, lt-leb, lt-ltb}
@@ -25,10 +25,10 @@ use Rattle.ptu_shard.specs.Table.{Kept, StandsAt}
 use Rattle.ptu_shard.proofs.RowLists.{share_of-filter-le}
 use Rattle.ptu_admit.specs.declared.newest.Found.{Found}
 use Rattle.ptu_admit.specs.Lent.{EachStandsAt, Lent, four, lent_as, rows_of_lent, shares}
-use Rattle.ptu_admit.specs.Newest.{all_found, found_in, grant_of, newer}
+use Rattle.ptu_admit.specs.Newest.{AreListed, all_found, candidate_of, found_in, grant_of}
 use Rattle.ptu_admit.specs.Rows.{live_rows}
 use Rattle.ptu_admit.proofs.Grants.{live_share, row_of_live, table_rates-le}
-use Rattle.ptu_admit.proofs.Newer.{IsNewest, newest_is, none_found}
+use Rattle.ptu_admit.proofs.Candidates.{NotAfter}
 use Rattle.ptu_admit.proofs.Sums.{Contains-from_map, Contains-map, IsMapped, rate}
 use Rattle.ptu_admit.proofs.Verdicts.{FourDistinct}
 
@@ -210,13 +210,34 @@ is_placed a b c d f h = at0 (Contains-append_cases (map (found_in 0) a.rows) (al
     at0 (inl i) = put 0 a.rows (omega arith) refl i
     at0 (inr i) = at1 (Contains-append_cases (map (found_in 1) b.rows) (all_found (lent_as 2 c ∷ lent_as 3 d ∷ [])) f i)
 
--- the newest found row is among the rows
-pub newest_placed : {P : Type 0} (a b c d : Kept P) (f : Found) → fold newer None (all_found (four a b c d)) ≡ Some f → IsPlaced a b c d f
-newest_placed a b c d f e = at (newest_is None (all_found (four a b c d)) f e).among
+-- and a row that stands in a table is found
+pub placed_found : {P : Type 0} (a b c d : Kept P) (f : Found) → f.table < 4 → Contains (rows_of_lent f.table (four a b c d)) f.row → Contains (all_found (four a b c d)) f
+placed_found a b c d f place contained = at f.table refl place contained
   where
-    at : (None ≡ Some f) ⊎ Contains (all_found (four a b c d)) f → IsPlaced a b c d f
-    at (inl none) = absurd (cc)
-    at (inr i) = is_placed a b c d f i
+    front : List Found
+    front = map (found_in 0) a.rows
+
+    second : List Found
+    second = map (found_in 1) b.rows
+
+    third : List Found
+    third = map (found_in 2) c.rows
+
+    fourth : List Found
+    fourth = map (found_in 3) d.rows
+
+    own : (j : ℕ) (xs : List Row) → f.table ≡ j → Contains xs f.row → Contains (map (found_in j) xs) f
+    own j xs is i = subst (λ z. Contains (map (found_in j) xs) z) (ap (λ (k : ℕ). record f { table = k }) (sym is)) (Contains-map (found_in j) xs f.row i)
+
+    at : (j : ℕ) → f.table ≡ j → j < 4 → Contains (rows_of_lent j (four a b c d)) f.row → Contains (all_found (four a b c d)) f
+    at zero is lt i = Contains-append_left front (second ++ (third ++ (fourth ++ []))) f (own 0 a.rows is i)
+    at (suc zero) is lt i = Contains-append_right front (second ++ (third ++ (fourth ++ []))) f (Contains-append_left second (third ++ (fourth ++ [])) f (own 1 b.rows is i))
+    at (suc (suc zero)) is lt i =
+        Contains-append_right front (second ++ (third ++ (fourth ++ []))) f (Contains-append_right second (third ++ (fourth ++ [])) f (Contains-append_left third (fourth ++ []) f (own 2 c.rows is i)))
+    at (suc (suc (suc zero))) is lt i =
+        Contains-append_right front (second ++ (third ++ (fourth ++ []))) f
+        (Contains-append_right second (third ++ (fourth ++ [])) f (Contains-append_right third (fourth ++ []) f (Contains-append_left fourth [] f (own 3 d.rows is i))))
+    at (suc (suc (suc (suc j)))) is lt i = absurd (omega arith)
 
 -- what a placed row is of a history
 last_of : {P : Type 0} (n : ℕ) (a b c d : Kept P) (h : List Record) → EachStandsAt n (four a b c d) h → (f : Found) → IsPlaced a b c d f → IsLastDecision h (grant_of f.row)
@@ -229,19 +250,17 @@ last_of n a b c d h s f p = at f.table p.place p.contained
     at (suc (suc (suc zero))) lt i = (s.1.1.1.0.kept f.row i).1.granted
     at (suc (suc (suc (suc j)))) lt i = absurd (omega arith)
 
--- while the tables hold more than the capacity, the newest row is shed next
+-- while the tables hold more than the capacity, a row that is shed after no other is shed next
 pub shed_next : {P : Type 0} (n capacity : ℕ) (a b c d : Kept P) (h : List Record) (f : Found) → EachStandsAt n (four a b c d) h → FourDistinct a b c d → AllLive n a b c d →
-    fold newer None (all_found (four a b c d)) ≡ Some f → capacity < shares (four a b c d) →
+    IsPlaced a b c d f → ((o : Found) → IsPlaced a b c d o → NotAfter f o) → capacity < shares (four a b c d) →
     shed_prefix capacity (shed_order h n) ≡ grant_of f.row ∷ shed_prefix capacity (shed_order (h ++ Shed n f.row.client f.row.kind ∷ []) n)
-shed_next n capacity a b c d h f s distinct lasts e above =
-    let p : IsPlaced a b c d f = newest_placed a b c d f e in
+shed_next n capacity a b c d h f s distinct lasts p newest above =
     let last : IsLastDecision h (grant_of f.row) = last_of n a b c d h s f p in
-    let newest : IsNewest None (all_found (four a b c d)) f = newest_is None (all_found (four a b c d)) f e in
     let rest : List Grant = shed_order (h ++ Shed n f.row.client f.row.kind ∷ []) n in
     let order : grant_of f.row ∷ rest ≡ shed_order h n =
     order_front h n (grant_of f.row) last (lasts f.table f.row p.place p.contained) (λ m is before.
     let found : (o : Found) × Contains (all_found (four a b c d)) o × (grant_of o.row ≡ m) = found_of n a b c d h s m is before in
-    ap (λ x. is_lt (shed_cmp x (grant_of f.row))) (sym found.2) ∙ newest.first found.0 found.1) in
+    ap (λ x. is_lt (shed_cmp x (grant_of f.row))) (sym found.2) ∙ newest found.0 (is_placed a b c d found.0 found.1)) in
     let over : capacity < rate_sum (grant_of f.row ∷ rest) = let same = ap rate_sum order in omega (arith, same, order-is n a b c d h s distinct lasts) in
     ap (λ gs. shed_prefix capacity gs) (sym order)
     ∙ ap (λ b. cond b [] (grant_of f.row ∷ shed_prefix capacity rest)) (lt-leb (rate_sum (grant_of f.row ∷ rest)) capacity over)
@@ -262,6 +281,13 @@ no_rows (t ∷ lent) e = at t.rows e (no_rows lent)
     at [] e rest = omega (arith, rest e)
     at (x ∷ xs) e rest = absurd (cc)
 
--- where no row is found, the tables hold nothing
-pub none_held : (lent : List Lent) → fold newer None (all_found lent) ≡ None → shares lent ≡ 0
-none_held lent e = no_rows lent (none_found (all_found lent) e)
+nothing_in : (fs : List Found) → ((f : Found) → Contains fs f → ⊥) → fs ≡ []
+nothing_in [] none = refl
+nothing_in (f ∷ fs) none = absurd (none f (Contains-first f fs))
+
+-- where no candidate is left, the tables hold nothing
+pub none_held : {P : Type 0} (a b c d : Kept P) → AreListed (four a b c d) [] → shares (four a b c d) ≡ 0
+none_held a b c d listed = no_rows (four a b c d) (nothing_in (all_found (four a b c d)) (λ f i. let p : IsPlaced a b c d f = is_placed a b c d f i in at f (listed f p.place p.contained)))
+  where
+    at : (f : Found) → Contains [] (candidate_of f) → ⊥
+    at f (i, lt, e) = absurd (omega arith)

@@ -1,15 +1,18 @@
 -- The order in which a change of capacity looks at the rows of lent tables.
-use Rattle.std.specs.Prelude.{◌≡◌, ℕ, ◌+◌, List, [], ◌∷◌, ◌++◌, map, length, Option, Some, None, if◌then◌else◌}
+use Rattle.std.specs.Prelude.{◌≡◌, ℕ, ◌+◌, ◌<◌, List, [], ◌∷◌, ◌++◌, map, length}
 use Rattle.std.specs.List.{Contains}
-use Rattle.std.specs.Ordering.{is_lt}
+use Rattle.std.specs.Ordering.{nat_cmp, ordering_then}
+use Rattle.std.specs.declared.cmp.Ordering.{Ordering}
+use Rattle.ptu_history.specs.Client.{client_cmp, kind_cmp}
 use Rattle.ptu_history.specs.History.{Record, Shed}
 use Rattle.ptu_history.specs.Live.{Grant}
-use Rattle.ptu_history.specs.Shedding.{shed_cmp}
 use Rattle.ptu_shard.specs.declared.lease.Row.{Row}
+use Rattle.ptu_shard.specs.Row.{IsDistinctByLease}
 use Rattle.ptu_shard.specs.Table.{Kept}
+use Rattle.ptu_admit.specs.declared.newest.Candidate.{Candidate}
 use Rattle.ptu_admit.specs.declared.newest.Found.{Found}
 use Rattle.ptu_admit.specs.declared.shed_list.Shed.{Shed as Answer}
-use Rattle.ptu_admit.specs.Lent.{Lent}
+use Rattle.ptu_admit.specs.Lent.{Lent, rows_of_lent}
 use Rattle.ptu_admit.specs.Tables.{KeepsPort}
 
 -- the grant of which a row is kept
@@ -32,11 +35,30 @@ abbrev pub all_found : List Lent → List Found
 all_found [] = []
 all_found (t ∷ lent) = map (found_in t.index) t.rows ++ all_found lent
 
--- of two the one that is shed first
-abbrev pub newer : Option Found → Found → Option Found
-newer None found = Some found
-newer (Some best) found =
-    if is_lt (shed_cmp (grant_of found.row) (grant_of best.row)) then Some found else Some best
+-- what the order of shedding knows of a found row
+abbrev pub candidate_of : Found → Candidate
+candidate_of found =
+    record {
+      start = found.row.lease.start;
+      client = found.row.client;
+      kind = found.row.kind;
+      table = found.table;
+    }
+
+-- by the moment of the grant, then client, then kind, and last by table: the greatest is shed first
+abbrev pub candidate_cmp : Candidate → Candidate → Ordering
+candidate_cmp a b =
+    ordering_then (nat_cmp a.start b.start)
+    (ordering_then (client_cmp a.client b.client)
+    (ordering_then (kind_cmp a.kind b.kind) (nat_cmp a.table b.table)))
+
+-- each row of the tables is among the candidates
+abbrev pub AreListed : List Lent → List Candidate → Type 0
+AreListed lent candidates = (f : Found) → f.table < 4 → Contains (rows_of_lent f.table lent) f.row → Contains candidates (candidate_of f)
+
+-- in none of the four tables two rows are of one client and kind
+abbrev pub AreDistinct : {P : Type 0} → Kept P → Kept P → Kept P → Kept P → Type 0
+AreDistinct a b c d = IsDistinctByLease a.rows × IsDistinctByLease b.rows × IsDistinctByLease c.rows × IsDistinctByLease d.rows
 
 -- how many rows the tables have
 abbrev pub rows_in : List Lent → ℕ
@@ -46,6 +68,7 @@ rows_in (t ∷ lent) = length t.rows + rows_in lent
 -- rows have gone, and nothing else has changed
 pub record IsThinned {P : Type 0} (old new : Kept P) : Type 0 where
   pub members : (row : Row) → Contains new.rows row → Contains old.rows row
+  pub distinct : IsDistinctByLease old.rows → IsDistinctByLease new.rows
   pub moment : new.moment ≡ old.moment
   pub keeps : KeepsPort 0 old new
 

@@ -6,6 +6,7 @@ mod asking;
 mod book;
 mod closed;
 mod ending;
+mod gathering;
 mod granting;
 pub mod laws;
 mod newest;

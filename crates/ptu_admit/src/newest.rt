@@ -1,15 +1,16 @@
-//! The newest row of four tables: the one that a change of capacity sheds first.
+//! The rows of four tables in the order in which a change of capacity sheds them.
 
-ghost use Rattle.std.specs.Prelude.{◌≡◌, None, map};
-ghost use Rattle.std.specs.List.{fold};
+ghost use Rattle.std.specs.Prelude.{◌≡◌, [], ◌∷◌, false, IfNone, IfSome};
+ghost use Rattle.std.specs.List.{All};
+ghost use Rattle.std.specs.List.Sorted.{IsPermutation};
 ghost use Rattle.std.specs.Ordering.{is_lt};
-ghost use Rattle.ptu_history.specs.Shedding.{shed_cmp};
-ghost use Rattle.ptu_shard.specs.Row.{IsDistinctByLease};
-ghost use Rattle.ptu_admit.specs.Lent.{four};
-ghost use Rattle.ptu_admit.specs.Newest.{all_found, found_in, grant_of, newer as newer_of};
+ghost use Rattle.ptu_admit.specs.Newest.{candidate_cmp};
 
-use ptu_outside::Port;
-use ptu_shard::{Row, Shard};
+use ptu_history::Client;
+use ptu_shard::Row;
+use ptu_units::Kind;
+use std::collections::BinaryHeap;
+use std::marker::Model;
 
 /// A row, and which of the four tables it stands in.
 #[derive(Clone, Copy, Debug, PartialEq, Eq)]
@@ -18,57 +19,53 @@ pub(crate) struct Found {
     pub row: Row,
 }
 
-impl Found {
-    // Whether it is shed before the other: by the later grant, then the greater client, then the
-    // later kind.
-    fn is_newer(&self, other: &Found) -> bool
-        ensures { result ≡ is_lt (shed_cmp (grant_of self.now.row) (grant_of other.now.row)) }
+/// What the order of shedding knows of a row, and its table. The greatest is shed first: by the
+/// later grant, in nanoseconds, then the greater client, then the later kind.
+#[derive(Clone, Copy, Debug, PartialEq, Eq, PartialOrd, Ord)]
+pub(crate) struct Candidate {
+    pub start: u64,
+    pub client: Client,
+    pub kind: Kind,
+    pub table: usize,
+}
+
+/// Candidates, of which the greatest is taken first.
+#[derive(Drop)]
+pub(crate) struct Newest {
+    heap: BinaryHeap<Candidate>,
+}
+
+impl Model for Newest {
+    ghost use Rattle.std.specs.Prelude.{List};
+    ghost use Rattle.std.specs.BinaryHeap.{IsHeap, heap_items};
+    ghost use Rattle.ptu_admit.specs.declared.newest.Candidate.{Candidate};
+    ghost use Rattle.ptu_admit.specs.Newest.{candidate_cmp};
+
+    ghost Value = { List Candidate };
+
+    ghost view = { λ n. heap_items n.heap };
+
+    ghost invariant = { λ n. IsHeap candidate_cmp (heap_items n.heap) };
+}
+
+impl Newest {
+    /// These candidates, in an order that is left open.
+    pub(crate) fn of(list: Vec<Candidate>) -> Newest
+        ensures { IsPermutation list.items result }
     {
-        let by_start = other.row.lease.start.cmp(&self.row.lease.start);
-        let by_client = other.row.client.cmp(&self.row.client);
-        let by_kind = other.row.kind.cmp(&self.row.kind);
-        by_start.then(by_client.then(by_kind)).is_lt()
-    }
-}
-
-// The newer of the best so far and another.
-fn newer(best: Option<Found>, other: Found) -> Option<Found>
-    ensures { result ≡ newer_of best other }
-{
-    match best {
-        Some(best) if !other.is_newer(&best) => Some(best),
-        _ => Some(other),
-    }
-}
-
-// The newest of the best so far and the rows of a table.
-fn newest_in<P: Port>(shard: &Shard<P>, table: usize, best: Option<Found>) -> Option<Found>
-    ensures newest { result ≡ fold newer_of best (map (found_in table) shard.now.rows) }
-    ensures distinct { IsDistinctByLease shard.now.rows }
-{
-    let mut newest = best;
-    for index in 0..shard.count() {
-        if let Some(row) = shard.row(index) {
-            newest = newer(newest, Found { table, row });
+        Newest {
+            heap: BinaryHeap::from(list),
         }
     }
-    newest
-}
 
-/// The newest row of four tables, in order of index, if one has a row.
-pub(crate) fn newest_of<P: Port>(
-    s0: &Shard<P>,
-    s1: &Shard<P>,
-    s2: &Shard<P>,
-    s3: &Shard<P>,
-) -> Option<Found>
-    ensures newest { result
-        ≡ fold newer_of None (all_found (four s0.now s1.now s2.now s3.now)) }
-    ensures distinct { IsDistinctByLease s0.now.rows × IsDistinctByLease s1.now.rows
-        × IsDistinctByLease s2.now.rows × IsDistinctByLease s3.now.rows }
-{
-    let newest = newest_in(s0, 0, None);
-    let newest = newest_in(s1, 1, newest);
-    let newest = newest_in(s2, 2, newest);
-    newest_in(s3, 3, newest)
+    /// Takes the greatest.
+    pub(crate) fn pop(&mut self) -> Option<Candidate>
+        ensures taken { IfSome result (λ c. IsPermutation self.old (c ∷ self.new)) }
+        ensures newest { IfSome result (λ c.
+            All (λ o. is_lt (candidate_cmp c o) ≡ false) self.old) }
+        ensures none { IfNone result (self.old ≡ []) }
+    {
+        let first = self.heap.pop()?;
+        Some(first)
+    }
 }

@@ -1,6 +1,6 @@
 //! Changes of capacity.
 
-ghost use Rattle.std.specs.Prelude.{◌≡◌, ℕ, ◌+◌, ◌≤◌, max, List, map, ◌++◌, IfOk, OnErr, OnOk};
+ghost use Rattle.std.specs.Prelude.{◌≡◌, ℕ, ◌+◌, ◌<◌, ◌≤◌, max, List, map, ◌++◌, IfOk, OnErr, OnOk};
 ghost use Rattle.ptu_history.specs.History.{Record};
 ghost use Rattle.ptu_history.specs.Verdict.{Config};
 ghost use Rattle.ptu_history.specs.Events.{Resize};
@@ -14,7 +14,7 @@ ghost use Rattle.ptu_admit.specs.Tables.{KeepsPort};
 
 use crate::book::Book;
 use crate::shed_list::ShedList;
-use crate::shedding::shed_above;
+use crate::shedding::{ShedRoom, shed_above};
 use crate::sweeping::{latest_of, sweep_all};
 use ptu_outside::Port;
 use ptu_shard::Shard;
@@ -68,14 +68,35 @@ pub fn resize<P: Port>(
         (history ++ (step opened history r.at (Resize capacity)).records)) }
 {
     let at = latest_of(s0, s1, s2, s3, book, t);
-    let mut list = Vec::with_capacity(alloc, count_rows(s0, s1, s2, s3, book))?;
+    let room = ShedRoom::new(alloc, count_above(s0, s1, s2, s3, book, capacity))?;
     sweep_all(s0, s1, s2, s3, book, at);
-    shed_above(s0, s1, s2, s3, book, at, capacity, &mut list);
+    let list = shed_above(s0, s1, s2, s3, book, at, capacity, room);
     book.change(capacity, at);
     Ok(Resized {
         at,
         shed: ShedList::new(list),
     })
+}
+
+// How many rows have to be put in order before a change to this capacity: all rows of the four
+// tables, where they hold more than it, and else none.
+fn count_above<P: Port>(
+    s0: &Shard<P>,
+    s1: &Shard<P>,
+    s2: &Shard<P>,
+    s3: &Shard<P>,
+    book: &Book,
+    capacity: u64,
+) -> usize
+    requires { book.now.total ≡ shares (four s0.now s1.now s2.now s3.now) }
+    ensures { capacity < book.now.total →
+        result ≡ rows_in (four s0.now s1.now s2.now s3.now) }
+{
+    if book.total() > capacity {
+        count_rows(s0, s1, s2, s3, book)
+    } else {
+        0
+    }
 }
 
 // How many rows four tables have.

@@ -1,23 +1,27 @@
 //! Grants that a change of capacity sheds go from four tables that are lent beside the book.
 
-ghost use Rattle.std.specs.Prelude.{◌≡◌, ℕ, ◌+◌, ◌-◌, ◌<◌, ◌≤◌, List, [], ◌∷◌, ◌++◌, map, length, vec_capacity, vec_len};
+ghost use Rattle.std.specs.Prelude.{◌≡◌, ℕ, ◌+◌, ◌-◌, ◌<◌, ◌≤◌, false, List, [], ◌∷◌, ◌++◌, map, length, vec_capacity, IfNone, IfOk, IfSome};
 ghost use Rattle.std.specs.List.{Contains};
 ghost use Rattle.ptu_units.specs.Log.{rate_of};
+ghost use Rattle.ptu_history.specs.Client.{same_lease};
 ghost use Rattle.ptu_history.specs.History.{Record, Shed as ShedRecord};
 ghost use Rattle.ptu_history.specs.Shedding.{shed_order, shed_prefix};
 ghost use Rattle.ptu_shard.specs.declared.lease.Row.{Row as KeptRow};
-ghost use Rattle.ptu_shard.specs.Row.{share_of};
+ghost use Rattle.ptu_shard.specs.Row.{IsDistinctByLease, share_of};
 ghost use Rattle.ptu_shard.specs.Table.{StandsBeside};
 ghost use Rattle.ptu_admit.specs.Lent.{EachStandsAt, four, rows_of_lent, shares};
-ghost use Rattle.ptu_admit.specs.Newest.{IsThinned, rows_in, shed_at};
+ghost use Rattle.ptu_admit.specs.Newest.{AreDistinct, AreListed, IsThinned, candidate_of, found_in, rows_in, shed_at};
+ghost use Rattle.ptu_admit.specs.declared.newest.Found.{Found as FoundRow};
 ghost use Rattle.ptu_admit.specs.Shed.{shed_of};
 
 use crate::book::Book;
-use crate::newest::{Found, newest_of};
+use crate::gathering::newest_of;
+use crate::newest::{Candidate, Found, Newest};
 use crate::shed_list::Shed;
 use ptu_outside::Port;
 use ptu_shard::{Row, Shard};
-use ptu_units::Moment;
+use ptu_units::{Moment, OutOfMemory};
+use std::alloc::Global;
 
 // Drops a row of one table.
 fn drop_in<P: Port>(shard: &mut Shard<P>, book: &mut Book, row: &Row)
@@ -25,6 +29,8 @@ fn drop_in<P: Port>(shard: &mut Shard<P>, book: &mut Book, row: &Row)
     requires share { share_of shard.old.rows ≤ book.old.total }
     ensures thinned { IsThinned shard.old shard.new }
     ensures fewer { length shard.new.rows + 1 ≤ length shard.old.rows }
+    ensures gone { (r : KeptRow) → Contains shard.new.rows r →
+        same_lease row.now.client row.now.kind r.client r.kind ≡ false }
     ensures share { share_of shard.new.rows + rate_of row.now.lease.log ≡ share_of shard.old.rows }
     ensures book { book.new ≡ record book.old {
       total = book.old.total - rate_of row.now.lease.log;
@@ -57,6 +63,9 @@ fn drop_found<P: Port>(
     ensures t3 { IsThinned s3.old s3.new }
     ensures fewer { rows_in (four s0.new s1.new s2.new s3.new) + 1
         ≤ rows_in (four s0.old s1.old s2.old s3.old) }
+    ensures gone { (r : KeptRow) →
+        Contains (rows_of_lent found.now.table (four s0.new s1.new s2.new s3.new)) r →
+        same_lease found.now.row.client found.now.row.kind r.client r.kind ≡ false }
     ensures less { book.new.total + rate_of found.now.row.lease.log ≡ book.old.total }
     ensures book { book.new ≡ record book.old {
       total = shares (four s0.new s1.new s2.new s3.new);
@@ -75,9 +84,76 @@ fn drop_found<P: Port>(
     }
 }
 
-/// Sheds the newest grants of four tables that were swept at the moment, one by one, until the
-/// rates of the rest sum to at most the capacity, and lists them in this order.
-pub(crate) fn shed_above<P: Port>(
+/// Room for the work of a change of capacity: for the rows in order, and for those that are shed.
+pub(crate) struct ShedRoom {
+    pub(crate) order: Vec<Candidate>,
+    pub(crate) list: Vec<Shed>,
+}
+
+impl ShedRoom {
+    /// Room for so many rows.
+    pub(crate) fn new(alloc: Global, count: usize) -> Result<ShedRoom, OutOfMemory>
+        ensures empty { IfOk result (λ r. (r.order.items ≡ []) × (r.list.items ≡ [])) }
+        ensures order { IfOk result (λ r. count ≤ vec_capacity r.order) }
+        ensures list { IfOk result (λ r. count ≤ vec_capacity r.list) }
+    {
+        Ok(ShedRoom {
+            order: Vec::with_capacity(alloc, count)?,
+            list: Vec::with_capacity(alloc, count)?,
+        })
+    }
+}
+
+// The row of a candidate in its table, where it is kept.
+fn find_in<P: Port>(shard: &Shard<P>, candidate: &Candidate) -> Option<Found>
+    requires { IsDistinctByLease shard.now.rows }
+    ensures kept { IfSome result (λ f. Contains shard.now.rows f.row
+        × (candidate_of f ≡ candidate.now)) }
+    ensures none { IfNone result ((row : KeptRow) → Contains shard.now.rows row →
+        candidate_of (found_in candidate.now.table row) ≡ candidate.now → ⊥) }
+{
+    let lease = shard.lease(&candidate.client, candidate.kind)?;
+    if lease.start.nanos() != candidate.start {
+        return None;
+    }
+    Some(Found {
+        table: candidate.table,
+        row: Row {
+            client: candidate.client,
+            kind: candidate.kind,
+            lease,
+        },
+    })
+}
+
+// The row of a candidate in one of the four tables, where it is kept.
+fn find_row<P: Port>(
+    s0: &Shard<P>,
+    s1: &Shard<P>,
+    s2: &Shard<P>,
+    s3: &Shard<P>,
+    candidate: &Candidate,
+) -> Option<Found>
+    requires distinct { AreDistinct s0.now s1.now s2.now s3.now }
+    ensures kept { IfSome result (λ f. (f.table < 4)
+        × Contains (rows_of_lent f.table (four s0.now s1.now s2.now s3.now)) f.row
+        × (candidate_of f ≡ candidate.now)) }
+    ensures none { IfNone result ((f : FoundRow) → f.table < 4 →
+        Contains (rows_of_lent f.table (four s0.now s1.now s2.now s3.now)) f.row →
+        candidate_of f ≡ candidate.now → ⊥) }
+{
+    match candidate.table {
+        0 => find_in(s0, candidate),
+        1 => find_in(s1, candidate),
+        2 => find_in(s2, candidate),
+        3 => find_in(s3, candidate),
+        _ => None,
+    }
+}
+
+// Sheds the greatest candidates of four tables one by one, until the rates of the rest sum to at
+// most the capacity, and lists them in this order. No look at all rows is taken again.
+fn shed_newest<P: Port>(
     s0: &mut Shard<P>,
     s1: &mut Shard<P>,
     s2: &mut Shard<P>,
@@ -85,6 +161,7 @@ pub(crate) fn shed_above<P: Port>(
     book: &mut Book,
     at: Moment,
     capacity: u64,
+    newest: &mut Newest,
     list: &mut Vec<Shed>,
 )
     requires sum { book.old.total ≡ shares (four s0.old s1.old s2.old s3.old) }
@@ -92,6 +169,8 @@ pub(crate) fn shed_above<P: Port>(
         × (s2.old.moment ≡ at) × (s3.old.moment ≡ at) }
     requires live { (j : ℕ) (row : KeptRow) → j < 4 →
         Contains (rows_of_lent j (four s0.old s1.old s2.old s3.old)) row → at < row.lease.until }
+    requires distinct { AreDistinct s0.old s1.old s2.old s3.old }
+    requires listed { AreListed (four s0.old s1.old s2.old s3.old) newest.old }
     requires empty { list.old.items ≡ [] }
     requires room { rows_in (four s0.old s1.old s2.old s3.old) ≤ vec_capacity list.old }
     ensures t0 { IsThinned s0.old s0.new }
@@ -111,15 +190,64 @@ pub(crate) fn shed_above<P: Port>(
         list.new.items ≡ map shed_of (shed_prefix capacity (shed_order history at)) }
 {
     'above: while book.total() > capacity {
-        let Some(found) = newest_of(s0, s1, s2, s3) else {
+        let Some(candidate) = newest.pop() else {
             break;
         };
-        drop_found(s0, s1, s2, s3, book, &found);
-        // A push fails only at a full vector, and this one has room for all rows.
-        let _ = list.push(Shed {
-            client: found.row.client,
-            kind: found.row.kind,
-            log: found.row.lease.log,
-        });
+        if let Some(found) = find_row(s0, s1, s2, s3, &candidate) {
+            drop_found(s0, s1, s2, s3, book, &found);
+            // A push fails only at a full vector, and this one has room for all rows.
+            let _ = list.push(Shed {
+                client: found.row.client,
+                kind: found.row.kind,
+                log: found.row.lease.log,
+            });
+        }
     }
+}
+
+/// Sheds the newest grants of four tables that were swept at the moment, one by one, until the
+/// rates of the rest sum to at most the capacity, and gives them in this order. The order of all
+/// rows is made once, and only where there is more than the capacity.
+pub(crate) fn shed_above<P: Port>(
+    s0: &mut Shard<P>,
+    s1: &mut Shard<P>,
+    s2: &mut Shard<P>,
+    s3: &mut Shard<P>,
+    book: &mut Book,
+    at: Moment,
+    capacity: u64,
+    room: ShedRoom,
+) -> Vec<Shed>
+    requires sum { book.old.total ≡ shares (four s0.old s1.old s2.old s3.old) }
+    requires reached { (s0.old.moment ≡ at) × (s1.old.moment ≡ at)
+        × (s2.old.moment ≡ at) × (s3.old.moment ≡ at) }
+    requires live { (j : ℕ) (row : KeptRow) → j < 4 →
+        Contains (rows_of_lent j (four s0.old s1.old s2.old s3.old)) row → at < row.lease.until }
+    requires empty { (room.order.items ≡ []) × (room.list.items ≡ []) }
+    requires room { capacity < book.old.total →
+        (rows_in (four s0.old s1.old s2.old s3.old) ≤ vec_capacity room.order)
+        × (rows_in (four s0.old s1.old s2.old s3.old) ≤ vec_capacity room.list) }
+    ensures t0 { IsThinned s0.old s0.new }
+    ensures t1 { IsThinned s1.old s1.new }
+    ensures t2 { IsThinned s2.old s2.new }
+    ensures t3 { IsThinned s3.old s3.new }
+    ensures within { book.new.total ≤ capacity }
+    ensures book { book.new ≡ record book.old {
+      total = shares (four s0.new s1.new s2.new s3.new);
+    } }
+    ensures stands { (history : List Record) →
+        EachStandsAt at (four s0.old s1.old s2.old s3.old) history →
+        EachStandsAt at (four s0.new s1.new s2.new s3.new)
+        (history ++ map (shed_at at) result.items) }
+    ensures shed { (history : List Record) →
+        EachStandsAt at (four s0.old s1.old s2.old s3.old) history →
+        result.items ≡ map shed_of (shed_prefix capacity (shed_order history at)) }
+{
+    let ShedRoom { order, mut list } = room;
+    if book.total() <= capacity {
+        return list;
+    }
+    let mut newest = newest_of(s0, s1, s2, s3, order);
+    shed_newest(s0, s1, s2, s3, book, at, capacity, &mut newest, &mut list);
+    list
 }

@@ -474,3 +474,48 @@ fn one_table_alone(rt: HostRuntime) -> Result<(), Fail> {
     assert_eq!(rt; site.book.total(), 0);
     Ok(())
 }
+
+// How many grants are made, and how many of them a change of capacity sheds. Were all rows looked at
+// for each, that alone would take minutes.
+const MANY: u32 = 160_000;
+
+const MOST: u32 = 120_000;
+
+// A client, of any of the four tables, whose numbers grow with this one.
+fn client_of(number: u32) -> Client {
+    Client {
+        ip: number,
+        clock: 0x0b00_0000_0000_0000,
+        port: (number % 4) as u16,
+    }
+}
+
+// Grants Announces at logarithm 4 to this many clients, two at each moment.
+fn grant_many(rt: &impl Abort, site: &mut Site, count: u32) -> Result<(), Fail> {
+    for number in 0..count {
+        let t = (number / 2) as u64;
+        let verdict = ask_all(rt, site, &CONFIG, t, &client_of(number), ANNOUNCE, 4)?;
+        assert!(rt; matches!(verdict, Verdict::Granted(_)));
+    }
+    Ok(())
+}
+
+// The greatest numbers are shed, in order.
+fn check_shed(rt: &impl Abort, resized: &Resized) {
+    let mut number = MANY;
+    for shed in resized.shed.list() {
+        number = number.saturating_sub(1);
+        assert_eq!(rt; shed.client, client_of(number));
+    }
+    assert_eq!(rt; number, MANY - MOST);
+}
+
+#[test]
+fn most_of_many_grants_are_shed(rt: HostRuntime) -> Result<(), Fail> {
+    let alloc = rt.alloc();
+    let mut site = open_site(&rt, alloc, MANY as u64)?;
+    grant_many(&rt, &mut site, MANY)?;
+    let resized = change(&rt, alloc, &mut site, MANY as u64, (MANY - MOST) as u64)?;
+    check_shed(&rt, &resized);
+    Ok(())
+}

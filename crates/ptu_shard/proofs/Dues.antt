@@ -1,5 +1,5 @@
 -- What is due, by the entries of rows in a queue.
-use Rattle.std.proofs.Common.{◌≡◌, ◌∙◌, ◌⊎◌, inl, inr, ℕ, ◌<◌, ◌≤◌, List, [], ◌∷◌, Bool, true, false, ◌&&◌, cond, ltb, leb, refl, sym, ap, ap₂, subst, arith}
+use Rattle.std.proofs.Common.{◌≡◌, ◌∙◌, ◌⊎◌, inl, inr, ℕ, ◌<◌, ◌≤◌, List, [], ◌∷◌, Bool, true, false, ◌&&◌, cond, ltb, leb, refl, sym, ap, ap₂, drop, length, suc, subst, arith}
 use Rattle.std.specs.List.{All, AllPairs, Contains, filter}
 use Rattle.std.specs.List.Sorted.{IsPermutation}
 use Rattle.std.specs.Ordering.{is_lt, ordering_reverse}
@@ -8,7 +8,7 @@ use Rattle.std.specs.declared.cmp.Ordering.TheVariants.{Less, Equal, Greater}
 use Rattle.std.proofs.lemmas.Bool.{and_from, and_parts, false_from_ne_true, le-leb, leb-true, lt-ltb, ltb-true, true≢false}
 use Rattle.std.proofs.lemmas.List.Elements.{All-contains}
 use Rattle.std.proofs.lemmas.List.Kept.{AllPairs-filter}
-use Rattle.std.proofs.lemmas.List.Sorted.{Contains-permutation}
+use Rattle.std.proofs.lemmas.List.Sorted.{Contains-permutation, IsPermutation-refl}
 use Rattle.std.proofs.lemmas.Simd.{map-map}
 use Rattle.ptu_history.specs.Client.{same_lease}
 use Rattle.ptu_history.specs.Turns.{is_turned}
@@ -76,6 +76,14 @@ stale x rows all rest e has moved reached none z h turned live = at (Contains-co
         let edge : e.moment ≡ z.lease.edge = ap (λ (e : Entry). e.moment) same in
         absurd (true≢false (sym (due_whole x z turned live (omega (arith, edge, reached))) ∙ none z h (sym same)))
     at (inr h) = h
+
+-- the first of a queue, and the rest
+pub taken_first : (all : List Entry) (e : Entry) → all ≡ e ∷ drop 1 all → IsPermutation all (e ∷ drop 1 all)
+taken_first all e first = subst (IsPermutation all) first (IsPermutation-refl all)
+
+pub least_first : (all : List Entry) (e : Entry) → IsNoneBelow e all → IsNoneBelow e (drop 1 all)
+least_first [] e least k d lt = absurd (omega arith)
+least_first (f ∷ rest) e least k d lt = least (suc k) d (omega (arith, lt))
 
 below_from : (a b : Ordering) → a ≡ ordering_reverse b → is_lt b ≡ false → (a ≡ Equal → ⊥) → a ≡ Less
 below_from Less b e f differ = refl

@@ -1,5 +1,8 @@
 -- The least entry of a heap.
-use Rattle.std.proofs.Common.{◌≡◌, ◌∙◌, ℕ, ◌<◌, ◌≤◌, List, Bool, true, false, cond, eqb, ltb, refl, sym, ap, subst, map, arith, Result, Ok, Err, IsOk, OnOk}
+use Rattle.std.proofs.Common.{◌≡◌, ◌∙◌, ℕ, ◌<◌, ◌≤◌, List, Bool, true, false, cond, eqb, ltb, refl, sym, ap, subst, map, arith, Result, Ok, Err, IsOk, OnOk, Option, Some, None, [], ◌∷◌, drop, get_or, length}
+use Rattle.std.specs.Prelude.{IfNone, IfSome}
+use Rattle.std.specs.List.Sorted.{IsPermutation}
+use Rattle.std.proofs.lemmas.List.Sorted.{IsPermutation-map}
 use Rattle.std.specs.BinaryHeap.{IsHeap, IsUpperBound}
 use Rattle.std.specs.List.{All}
 use Rattle.std.specs.Ordering.{is_lt, nat_cmp, ordering_then}
@@ -16,7 +19,7 @@ use Rattle.ptu_shard.specs.declared.queue.Entry.{Entry}
 use Rattle.ptu_shard.specs.contracts.queue.EntryOrd.TheImpl as entries
 use Rattle.ptu_shard.specs.Queue.{IsNoneBelow, entry_cmp}
 
-kind_cmp_is : (j k : Kind) → kinds.cmp-value.it j k ≡ kind_cmp j k
+pub kind_cmp_is : (j k : Kind) → kinds.cmp-value.it j k ≡ kind_cmp j k
 kind_cmp_is Announce Announce = refl
 kind_cmp_is Announce Sync = refl
 kind_cmp_is Announce DelayResp = refl
@@ -67,3 +70,33 @@ all_later n e entries later h =
 pub on_ok : {A E P : Type 0} (r : Result A E) → IsOk r → OnOk r P → P
 on_ok (Ok x) is p = p
 on_ok (Err e) is p = absurd (false≢true is)
+
+-- the first of a heap that is not empty
+pub first_is : (xs : List (Reverse Entry)) (x : Reverse Entry) → 0 < length xs → x ≡ get_or xs 0 x → map (λ (r : Reverse Entry). r.0) xs ≡ x.0 ∷ drop 1 (map (λ (r : Reverse Entry). r.0) xs)
+first_is [] x some is = absurd (omega arith)
+first_is (y ∷ xs) x some is = ap (λ (z : Reverse Entry). z.0 ∷ map (λ (r : Reverse Entry). r.0) xs) (sym is)
+
+drop_map : (xs : List (Reverse Entry)) → map (λ (r : Reverse Entry). r.0) (drop 1 xs) ≡ drop 1 (map (λ (r : Reverse Entry). r.0) xs)
+drop_map [] = refl
+drop_map (x ∷ xs) = refl
+
+-- another entry in the place of the first
+pub replaced : (old new : List (Reverse Entry)) (y : Reverse Entry) → IsPermutation (y ∷ drop 1 old) new →
+    IsPermutation (y.0 ∷ drop 1 (map (λ (r : Reverse Entry). r.0) old)) (map (λ (r : Reverse Entry). r.0) new)
+replaced old new y put =
+    subst (λ l. IsPermutation (y.0 ∷ l) (map (λ (r : Reverse Entry). r.0) new)) (drop_map old) (IsPermutation-map (λ (r : Reverse Entry). r.0) (y ∷ drop 1 old) new put)
+
+-- the heap once its first is taken, if there is one
+pub heap_without : (old new : List (Reverse Entry)) (first : Option (Reverse Entry)) → IsHeap by_entry old → IfSome first (λ x. IsHeap by_code old → IsHeap by_code new × IsUpperBound by_code x old) →
+    IfNone first (new ≡ old) → IsHeap by_entry new
+heap_without old new None is some none = subst (IsHeap by_entry) (sym none) is
+heap_without old new (Some x) is some none = heap_by_entry new (some (heap_by_code old is)).0
+
+pub first_dropped : (old new : List (Reverse Entry)) (first : Option (Reverse Entry)) → IfSome first (λ x. x ≡ get_or old 0 x) → IfSome first (λ x. IsPermutation old (x ∷ new)) →
+    IfNone first (length old ≡ 0) → (e : Entry) → map (λ (r : Reverse Entry). r.0) old ≡ e ∷ drop 1 (map (λ (r : Reverse Entry). r.0) old) → IsPermutation (map (λ (r : Reverse Entry). r.0) old) (e ∷ map (λ (r : Reverse Entry). r.0) new)
+first_dropped [] new first top moved none e is = absurd (cc)
+first_dropped (y ∷ old) new None top moved none e is = absurd (omega (arith, none))
+first_dropped (y ∷ old) new (Some x) top moved none e is =
+    let same : y.0 ≡ e = ap (λ (l : List Entry). get_or l 0 e) is in
+    subst (λ z. IsPermutation (map (λ (r : Reverse Entry). r.0) (y ∷ old)) (z ∷ map (λ (r : Reverse Entry). r.0) new)) (ap (λ (r : Reverse Entry). r.0) top ∙ same)
+    (IsPermutation-map (λ (r : Reverse Entry). r.0) (y ∷ old) (x ∷ new) moved)

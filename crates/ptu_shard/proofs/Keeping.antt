@@ -1,8 +1,8 @@
 -- What the fields of a table say of its rows, after what is done with them.
-use Rattle.std.proofs.Common.{◌≡◌, ◌∙◌, ◌⊎◌, inl, inr, ℕ, ◌+◌, ◌*◌, ◌<◌, ◌≤◌, List, ◌∷◌, length, Bool, true, false, cond, refl, sym, ap, subst, arith}
+use Rattle.std.proofs.Common.{◌≡◌, ◌∙◌, ◌⊎◌, inl, inr, ℕ, ◌+◌, ◌*◌, ◌<◌, ◌≤◌, List, ◌∷◌, length, Bool, true, false, cond, eqb, ltb, refl, sym, ap, subst, arith, Option, Some, None}
 use Rattle.std.specs.List.{Contains}
 use Rattle.std.specs.List.Sorted.{IsPermutation}
-use Rattle.std.proofs.lemmas.Bool.{and_parts, true≢false}
+use Rattle.std.proofs.lemmas.Bool.{and_parts, eqb-true, ltb-true, true≢false}
 use Rattle.std.proofs.lemmas.List.{length-map}
 use Rattle.std.proofs.lemmas.List.Sorted.{Contains-permutation, IsPermutation-sym}
 use Rattle.ptu_units.specs.declared.kind.Kind.{Kind}
@@ -16,10 +16,10 @@ use Rattle.ptu_shard.specs.declared.queue.Entry.{Entry}
 use Rattle.ptu_shard.specs.declared.lease.Lease.{Lease}
 use Rattle.ptu_shard.specs.declared.rows.Key.{Key}
 use Rattle.ptu_shard.specs.Fields.{AreFields, row_of, rows_of}
-use Rattle.ptu_shard.specs.Queue.{HasEdges, HasEnds, Queued, edge_entry, end_entry}
-use Rattle.ptu_shard.specs.Row.{is_row_of, without_row}
+use Rattle.ptu_shard.specs.Queue.{HasEdges, HasEnds, Queued, edge_entry, end_entry, is_edge_kept}
+use Rattle.ptu_shard.specs.Row.{is_row_of, lease_of, without_row}
 use Rattle.ptu_shard.specs.Turn.{is_answering_row, is_lawful_row, spent_row, spent_where}
-use Rattle.ptu_shard.proofs.Members.{other_rows}
+use Rattle.ptu_shard.proofs.Members.{kept_row, other_rows}
 use Rattle.ptu_shard.proofs.Spending.{IsImage, image}
 
 -- fewer rows, at a later moment
@@ -71,6 +71,22 @@ module _ (row : Row) (rows new : List Row) (put : IsPermutation (row ∷ without
       at : (row ≡ z) ⊎ Contains rows z → Contains entries (edge_entry z)
       at (inl e) = subst (λ y. Contains entries (edge_entry y)) e (own (subst (λ y. is_turned y.kind ≡ true) (sym e) turned) (subst (Contains new) (sym e) h))
       at (inr k) = kept z h turned (has z k turned live)
+
+  -- where the lease that it replaces was live and due at the same moment, the queue stays
+  pub edges_stay : (entries : List Entry) (m : ℕ) (replaced : Option Lease) → replaced ≡ lease_of row.client row.kind rows → is_edge_kept m row replaced ≡ true →
+      HasEdges m rows entries → HasEdges m new entries
+  edges_stay entries m None was kept has z h turned live = absurd (true≢false (sym kept))
+  edges_stay entries m (Some l) was kept has z h turned live = at (put_from z h)
+    where
+      both : (ltb m l.until ≡ true) × (eqb l.edge row.lease.edge ≡ true)
+      both = and_parts (ltb m l.until) (eqb l.edge row.lease.edge) kept
+
+      at : (row ≡ z) ⊎ Contains rows z → Contains entries (edge_entry z)
+      at (inl e) =
+          let former : Row = record { client = row.client; kind = row.kind; lease = l } in
+          let there : Contains entries (edge_entry former) = has former (kept_row row.client row.kind rows l (sym was)) (subst (λ (y : Row). is_turned y.kind ≡ true) (sym e) turned) (ltb-true m l.until both.0) in
+          subst (Contains entries) (ap (λ n. record { moment = n; client = row.client; kind = row.kind }) (eqb-true l.edge row.lease.edge both.1) ∙ ap edge_entry e) there
+      at (inr k) = has z k turned live
 
   pub ends_put : (old entries : List Entry) → (Contains new row → Contains entries (end_entry row)) →
       ((z : Row) → Contains new z → Contains old (end_entry z) → Contains entries (end_entry z)) → HasEnds rows old → HasEnds new entries

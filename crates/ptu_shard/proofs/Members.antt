@@ -18,7 +18,7 @@ use Rattle.ptu_history.proofs.Standing.{Contains-filter}
 use Rattle.ptu_history.proofs.Unique.{Apart, Apart-from_pairs, Contains-cons_cases, Contains-first, Contains-from_filter, Contains-later, Rises, Rises-from_sorted, Rises-unique, pairs_from_Apart}
 use Rattle.ptu_shard.specs.declared.lease.Lease.{Lease}
 use Rattle.ptu_shard.specs.declared.lease.Row.{Row}
-use Rattle.ptu_shard.specs.Row.{is_row_of, lease_of, share_of, without_row}
+use Rattle.ptu_shard.specs.Row.{is_row_of, lease_of, rate_of_lease, share_of, without_row}
 use Rattle.ptu_shard.specs.Turn.{row_cmp}
 use Rattle.ptu_shard.proofs.RowLists.{Differ, HasSameMembers, IsMissing, IsPresent, missing_none, present_some}
 use Rattle.ptu_shard.proofs.Sorting.{distinct_permuted, row_cmp-differ, row_cmp-total}
@@ -197,3 +197,11 @@ pub share_after : (c : Client) (k : Kind) (old new : List Row) → Apart Differ 
 share_after c k old new apart dropped None is = tt
 share_after c k old new apart dropped (Some lease) is =
     omega (arith, share_dropped c k old new dropped, share_without c k old lease apart (sym is))
+
+-- the share with the row in the place of what it replaces
+pub share_replaced : (c : Client) (k : Kind) (old new : List Row) (lease : Lease) → Apart Differ old → IsPermutation (record { client = c; kind = k; lease = lease } ∷ without_row c k old) new →
+    (replaced : Option Lease) → replaced ≡ lease_of c k old → share_of new + rate_of_lease replaced ≡ share_of old + rate_of lease.log
+share_replaced c k old new lease apart put None was =
+    omega (arith, share_put c k lease old new put, ap share_of (without_missing c k old (missing_none c k old (sym was))))
+share_replaced c k old new lease apart put (Some l) was =
+    omega (arith, share_put c k lease old new put, share_without c k old l apart (sym was))

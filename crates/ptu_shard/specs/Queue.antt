@@ -1,10 +1,12 @@
 -- Queues of moments: entries of clients and kinds, and which of them rows have.
-use Rattle.std.specs.Prelude.{◌≡◌, ℕ, ◌<◌, true, false, List}
+use Rattle.std.specs.Prelude.{◌≡◌, ℕ, ◌<◌, ◌&&◌, ◌==◌, Bool, true, false, List, Option, nat_lt}
+use Rattle.std.specs.Option.{option_map_or}
 use Rattle.std.specs.List.{All, Contains}
 use Rattle.std.specs.Ordering.{is_lt, nat_cmp, ordering_then}
 use Rattle.std.specs.declared.cmp.Ordering.{Ordering}
 use Rattle.ptu_history.specs.Client.{client_cmp, kind_cmp}
 use Rattle.ptu_history.specs.Turns.{is_turned}
+use Rattle.ptu_shard.specs.declared.lease.Lease.{Lease}
 use Rattle.ptu_shard.specs.declared.lease.Row.{Row}
 use Rattle.ptu_shard.specs.declared.queue.Entry.{Entry}
 
@@ -27,6 +29,10 @@ IsNoneBelow e entries = All (λ f. is_lt (entry_cmp f e) ≡ false) entries
 abbrev pub edge_entry : Row → Entry
 edge_entry row = record { moment = row.lease.edge; client = row.client; kind = row.kind }
 
+-- the row of an entry's client and kind, with this lease
+abbrev pub row_by : Entry → Lease → Row
+row_by e lease = record { client = e.client; kind = e.kind; lease = lease }
+
 -- its entry in the queue of what ends
 abbrev pub end_entry : Row → Entry
 end_entry row = record { moment = row.lease.until; client = row.client; kind = row.kind }
@@ -34,6 +40,11 @@ end_entry row = record { moment = row.lease.until; client = row.client; kind = r
 -- each row of which turns send, and that is not over at the moment, has its entry
 abbrev pub HasEdges : ℕ → List Row → List Entry → Type 0
 HasEdges moment rows entries = (row : Row) → Contains rows row → is_turned row.kind ≡ true → moment < row.lease.until → Contains entries (edge_entry row)
+
+-- the lease that a row replaces is live at the moment, and has the row's earliest lawful moment: so its entry is the row's
+abbrev pub is_edge_kept : ℕ → Row → Option Lease → Bool
+is_edge_kept moment row replaced =
+    option_map_or (λ (l : Lease). nat_lt moment l.until && l.edge == row.lease.edge) replaced false
 
 -- each row has its entry
 abbrev pub HasEnds : List Row → List Entry → Type 0

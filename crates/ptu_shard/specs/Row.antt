@@ -1,7 +1,7 @@
 -- The rows of a table: its leases by client and kind.
 use Rattle.std.specs.Prelude.{◌≡◌, ℕ, Bool, false, not, List, Option}
 use Rattle.std.specs.List.{AllPairs, filter, find, sum_by}
-use Rattle.std.specs.Option.{option_map}
+use Rattle.std.specs.Option.{option_map, option_map_or}
 use Rattle.ptu_units.specs.declared.kind.Kind.{Kind}
 use Rattle.ptu_units.specs.Log.{rate_of}
 use Rattle.ptu_history.specs.declared.client.Client.{Client}
@@ -24,6 +24,10 @@ lease_of c k rows = option_map (λ row. row.lease) (find (is_row_of c k) rows)
 -- the sum of the rates, in sixteenths of a message per second
 abbrev pub share_of : List Row → ℕ
 share_of rows = sum_by (λ row. rate_of row.lease.log) rows
+
+-- the rate of a lease, and 0 where there is none
+abbrev pub rate_of_lease : Option Lease → ℕ
+rate_of_lease lease = option_map_or (λ (l : Lease). rate_of l.log) lease 0
 
 -- no two rows are of one client and kind
 abbrev pub IsDistinctByLease : List Row → Type 0

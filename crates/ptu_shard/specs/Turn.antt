@@ -11,6 +11,7 @@ use Rattle.ptu_history.specs.Client.{client_cmp, kind_cmp}
 use Rattle.ptu_history.specs.Order.{in_order}
 use Rattle.ptu_history.specs.Events.{Message}
 use Rattle.ptu_history.specs.Turns.{is_turned}
+use Rattle.ptu_shard.specs.declared.lease.Lease.{Lease}
 use Rattle.ptu_shard.specs.declared.lease.Row.{Row}
 use Rattle.ptu_shard.specs.Row.{is_row_of}
 
@@ -59,6 +60,15 @@ spent_row x row =
         seq = (row.lease.seq + 1) % 65536;
       };
     }
+
+-- a client's row of Delay_Resps, with this lease
+abbrev pub answering_row : Client → Lease → Row
+answering_row c lease = record { client = c; kind = DelayResp; lease = lease }
+
+-- its lease after a Delay_Req of the client at the moment
+abbrev pub answered_lease : ℕ → Client → Lease → Lease
+answered_lease x c lease =
+    if is_lawful_row x (answering_row c lease) then (spent_row x (answering_row c lease)).lease else lease
 
 -- the rows after a message at the moment of each row that passes the test
 abbrev pub spent_where : (Row → Bool) → ℕ → List Row → List Row

@@ -1,20 +1,21 @@
 //! Rows in the two queues of a table. Where a queue is full it is filled anew from the rows, so
 //! that no memory is taken, and entries that no row has any more are gone.
 
-ghost use Rattle.std.specs.Prelude.{◌≡◌, ◌<◌, ◌≤◌, ◌+◌, ◌∷◌, ℕ, length, true};
+ghost use Rattle.std.specs.Prelude.{◌≡◌, ◌<◌, ◌≤◌, ◌+◌, ◌∷◌, length, true};
 ghost use Rattle.std.specs.List.{Contains};
 ghost use Rattle.std.specs.List.Sorted.{IsPermutation};
 ghost use Rattle.indexmap.specs.IndexMap.{spare};
 ghost use Rattle.ptu_units.specs.Log.{rate_of};
 ghost use Rattle.ptu_history.specs.Turns.{is_turned};
 ghost use Rattle.ptu_shard.specs.Fields.{rows_of};
-ghost use Rattle.ptu_shard.specs.Queue.{HasEdges, HasEnds, edge_entry, end_entry};
-ghost use Rattle.ptu_shard.specs.Row.{IsDistinctByLease, share_of, without_row};
+ghost use Rattle.ptu_shard.specs.Queue.{HasEdges, HasEnds, edge_entry, end_entry, is_edge_kept};
+ghost use Rattle.ptu_shard.specs.Row.{IsDistinctByLease, rate_of_lease, share_of, without_row};
 
 use crate::lease::{Lease, Row};
 use crate::queue::{Entry, Queue};
 use crate::rows::{Key, put_row, row_at};
 use indexmap::IndexMap;
+use ptu_units::{Moment, rate};
 
 /// The entry of a row in the queue of what is due.
 pub(crate) fn edge_of(row: &Row) -> Entry
@@ -105,12 +106,35 @@ pub(crate) fn put_end(ends: &mut Queue, rows: &IndexMap<Key, Lease>, row: &Row)
     }
 }
 
-/// Makes this row the one of its client and kind, with its entries in both queues. There is room
-/// for it, so that no memory is taken. Gives the rate of the lease that it replaces.
+// Whether the lease that the row replaces is live at the moment and has the row's earliest lawful
+// moment, so that its entry in the queue of what is due is the row's.
+fn is_kept(at: Moment, row: &Row, replaced: &Option<Lease>) -> bool
+    ensures { result ≡ is_edge_kept at row.now replaced.now }
+{
+    match replaced {
+        Some(lease) => at.nanos() < lease.until && lease.edge == row.lease.edge,
+        None => false,
+    }
+}
+
+// The rate of a lease, and 0 where there is none.
+fn rate_or_none(lease: &Option<Lease>) -> u64
+    ensures { result ≡ rate_of_lease lease.now }
+{
+    match lease {
+        Some(lease) => rate(lease.log),
+        None => 0,
+    }
+}
+
+/// Makes this row the one of its client and kind, with its entries in both queues, at the moment
+/// that the table has reached. There is room for it, so that no memory is taken. Gives the rate of
+/// the lease that it replaces.
 pub(crate) fn keep_row(
     rows: &mut IndexMap<Key, Lease>,
     edges: &mut Queue,
     ends: &mut Queue,
+    at: Moment,
     row: Row,
 ) -> u64
     requires spare { 0 < spare rows.old }
@@ -125,15 +149,17 @@ pub(crate) fn keep_row(
     ensures count { length rows.old.entries ≤ length rows.new.entries }
     ensures bound { length rows.new.entries ≤ length rows.old.entries + 1 }
     ensures spare { spare rows.old ≤ spare rows.new + 1 }
-    ensures edges { (moment : ℕ) → HasEdges moment (rows_of rows.old.entries) edges.old.entries
-        → HasEdges moment (rows_of rows.new.entries) edges.new.entries }
+    ensures edges { HasEdges at (rows_of rows.old.entries) edges.old.entries
+        → HasEdges at (rows_of rows.new.entries) edges.new.entries }
     ensures ends { HasEnds (rows_of rows.old.entries) ends.old.entries
         → HasEnds (rows_of rows.new.entries) ends.new.entries }
     ensures edge_capacity { edges.old.capacity ≤ edges.new.capacity }
     ensures end_capacity { ends.old.capacity ≤ ends.new.capacity }
 {
     let replaced = put_row(rows, row);
-    put_edge(edges, rows, &row);
+    if !is_kept(at, &row, &replaced) {
+        put_edge(edges, rows, &row);
+    }
     put_end(ends, rows, &row);
-    replaced
+    rate_or_none(&replaced)
 }

@@ -6,14 +6,13 @@
 ghost use Rattle.std.specs.Prelude.{◌≡◌, ◌<◌, ◌≤◌, ◌+◌, ◌*◌, ◌^◌, [], ◌∷◌, false, if◌then◌else◌, length, map, nat_lt, slice_get, true, IfNone, IfSome};
 ghost use Rattle.std.specs.List.{Contains, filter};
 ghost use Rattle.std.specs.List.Sorted.{IsPermutation};
-ghost use Rattle.std.specs.Option.{option_map};
 ghost use Rattle.ptu_units.specs.declared.kind.Kind.TheVariants.{DelayResp};
 ghost use Rattle.indexmap.specs.IndexMap.{spare};
 ghost use Rattle.ptu_units.specs.Log.{rate_of};
 ghost use Rattle.ptu_shard.specs.Fields.{rows_of};
-ghost use Rattle.ptu_shard.specs.Queue.{edge_entry, end_entry};
-ghost use Rattle.ptu_shard.specs.Row.{IsDistinctByLease, is_row_of, lease_of, share_of, without_row};
-ghost use Rattle.ptu_shard.specs.Turn.{is_answering_row, is_due_row, spent_row, spent_where};
+ghost use Rattle.ptu_shard.specs.Queue.{edge_entry, end_entry, row_by};
+ghost use Rattle.ptu_shard.specs.Row.{IsDistinctByLease, is_row_of, lease_of, rate_of_lease, share_of, without_row};
+ghost use Rattle.ptu_shard.specs.Turn.{answered_lease, is_answering_row, is_due_row, spent_row, spent_where};
 
 use crate::lease::{Lease, Row};
 use crate::queue::Entry;
@@ -39,21 +38,6 @@ pub(crate) fn find_lease(rows: &IndexMap<Key, Lease>, client: &Client, kind: Kin
     rows.get(&key).copied()
 }
 
-/// The row of the client and kind, if there is one.
-fn find_row(rows: &IndexMap<Key, Lease>, client: Client, kind: Kind) -> Option<Row>
-    ensures kept { IfSome result (λ row. Contains (rows_of rows.now.entries) row
-        × (row.client ≡ client) × (row.kind ≡ kind)) }
-    ensures lease { option_map (λ row. row.lease) result
-        ≡ lease_of client kind (rows_of rows.now.entries) }
-{
-    let lease = find_lease(rows, &client, kind)?;
-    Some(Row {
-        client,
-        kind,
-        lease,
-    })
-}
-
 /// The row at a place.
 pub(crate) fn row_at(rows: &IndexMap<Key, Lease>, index: usize) -> Option<Row>
     ensures { result ≡ slice_get (rows_of rows.now.entries) index }
@@ -67,14 +51,15 @@ pub(crate) fn row_at(rows: &IndexMap<Key, Lease>, index: usize) -> Option<Row>
 }
 
 /// Makes this row the one of its client and kind. There is room for it, so that no memory is taken.
-/// Gives the rate of the lease that it replaces.
-pub(crate) fn put_row(rows: &mut IndexMap<Key, Lease>, row: Row) -> u64
+/// Gives the lease that it replaces.
+pub(crate) fn put_row(rows: &mut IndexMap<Key, Lease>, row: Row) -> Option<Lease>
     requires { 0 < spare rows.old }
     ensures rows { IsPermutation
         (row ∷ without_row row.client row.kind (rows_of rows.old.entries))
         (rows_of rows.new.entries) }
+    ensures replaced { result ≡ lease_of row.client row.kind (rows_of rows.old.entries) }
     ensures distinct { IsDistinctByLease (rows_of rows.new.entries) }
-    ensures share { share_of (rows_of rows.new.entries) + result
+    ensures share { share_of (rows_of rows.new.entries) + rate_of_lease result
         ≡ share_of (rows_of rows.old.entries) + rate_of row.lease.log }
     ensures count { length rows.old.entries ≤ length rows.new.entries }
     ensures bound { length rows.new.entries ≤ length rows.old.entries + 1 }
@@ -86,10 +71,9 @@ pub(crate) fn put_row(rows: &mut IndexMap<Key, Lease>, row: Row) -> u64
         kind: row.kind,
     };
     match rows.insert(key, row.lease) {
-        Ok(Some(lease)) => rate(lease.log),
-        Ok(None) => 0,
+        Ok(replaced) => replaced,
         // It fails only where there is no room, and there is.
-        Err(_) => 0,
+        Err(_) => None,
     }
 }
 
@@ -144,25 +128,34 @@ pub(crate) fn drop_over(rows: &mut IndexMap<Key, Lease>, at: Moment, entry: Entr
     rate(lease.log)
 }
 
-/// Makes this row the one of its client and kind, which have one.
-fn write_row(rows: &mut IndexMap<Key, Lease>, row: Row)
-    ensures rows { rows_of rows.new.entries ≡ map
-        (λ r. if is_row_of row.client row.kind r then row else r) (rows_of rows.old.entries) }
-    ensures distinct { IsDistinctByLease (rows_of rows.old.entries) }
-    ensures spare { spare rows.new ≡ spare rows.old }
+// Where the lease, which is of the entry's client and kind, is due at the moment, by just this
+// entry, it spends a period and a sequence number. Gives the row as it was before.
+fn spend_by_entry(lease: &mut Lease, at: Moment, entry: Entry) -> Option<Row>
+    ensures due { IfSome result (λ row. (row ≡ row_by entry lease.old)
+        × (edge_entry row ≡ entry) × (is_due_row at row ≡ true)) }
+    ensures spent { IfSome result (λ row. lease.new ≡ (spent_row at row).lease) }
+    ensures later { IfSome result (λ row. is_due_row at (spent_row at row) ≡ false) }
+    ensures none { IfNone result (edge_entry (row_by entry lease.old) ≡ entry →
+        is_due_row at (row_by entry lease.old) ≡ false) }
+    ensures same { IfNone result (lease.new ≡ lease.old) }
 {
-    let _count = rows.len();
-    let key = Key {
-        client: row.client,
-        kind: row.kind,
+    let row = Row {
+        client: entry.client,
+        kind: entry.kind,
+        lease: *lease,
     };
-    if let Some(lease) = rows.get_mut(&key) {
-        *lease = row.lease;
+    if row.lease.edge != entry.moment {
+        return None;
     }
+    if !row.is_due(at) {
+        return None;
+    }
+    *lease = row.spent(at).lease;
+    Some(row)
 }
 
 /// Where the row of the entry's client and kind is due at the moment, by just this entry, it spends
-/// a period and a sequence number. Gives the row as it was before.
+/// a period and a sequence number. Gives the row as it was before. It is looked up once.
 pub(crate) fn spend_due(rows: &mut IndexMap<Key, Lease>, at: Moment, entry: Entry) -> Option<Row>
     ensures due { IfSome result (λ row. Contains (rows_of rows.old.entries) row
         × (edge_entry row ≡ entry) × (is_due_row at row ≡ true)) }
@@ -176,21 +169,35 @@ pub(crate) fn spend_due(rows: &mut IndexMap<Key, Lease>, at: Moment, entry: Entr
     ensures spare { spare rows.new ≡ spare rows.old }
 {
     let _count = rows.len();
-    let Some(row) = find_row(rows, entry.client, entry.kind) else {
+    let key = Key {
+        client: entry.client,
+        kind: entry.kind,
+    };
+    let Some(lease) = rows.get_mut(&key) else {
         return None;
     };
-    if row.lease.edge != entry.moment {
-        return None;
+    spend_by_entry(lease, at, entry)
+}
+
+// Where the lease, which is of the client's Delay_Resps, lets one be sent at the moment, it spends
+// a period and a sequence number. Gives the lease as it was before.
+fn spend_lawful(lease: &mut Lease, at: Moment, client: Client) -> Lease
+    ensures lease { result ≡ lease.old }
+    ensures spent { lease.new ≡ answered_lease at client lease.old }
+{
+    let row = Row {
+        client,
+        kind: Kind::DelayResp,
+        lease: *lease,
+    };
+    if row.is_lawful(at) {
+        *lease = row.spent(at).lease;
     }
-    if !row.is_due(at) {
-        return None;
-    }
-    write_row(rows, row.spent(at));
-    Some(row)
+    row.lease
 }
 
 /// The row that answers a Delay_Req of the client, if one does, spends a period and a sequence
-/// number. Gives the lease of its Delay_Resps as it was before.
+/// number. Gives the lease of its Delay_Resps as it was before. It is looked up once.
 pub(crate) fn spend_answering(
     rows: &mut IndexMap<Key, Lease>,
     at: Moment,
@@ -202,12 +209,12 @@ pub(crate) fn spend_answering(
     ensures spare { spare rows.new ≡ spare rows.old }
 {
     let _count = rows.len();
-    let Some(row) = find_row(rows, client, Kind::DelayResp) else {
+    let key = Key {
+        client,
+        kind: Kind::DelayResp,
+    };
+    let Some(lease) = rows.get_mut(&key) else {
         return None;
     };
-    if !row.is_lawful(at) {
-        return Some(row.lease);
-    }
-    write_row(rows, row.spent(at));
-    Some(row.lease)
+    Some(spend_lawful(lease, at, client))
 }

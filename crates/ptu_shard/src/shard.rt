@@ -190,7 +190,13 @@ impl<P: Port> Shard<P> {
             kind,
             lease,
         };
-        let replaced = keep_row(&mut self.rows, &mut self.edges, &mut self.ends, row);
+        let replaced = keep_row(
+            &mut self.rows,
+            &mut self.edges,
+            &mut self.ends,
+            self.moment,
+            row,
+        );
         self.share = self.share + added - replaced;
         self.room = self.room.min(self.rows.capacity());
     }

@@ -22,7 +22,7 @@ use ptu_outside::{Port, Sends};
 use ptu_units::Moment;
 
 /// The next row that is due at the moment, as it was before it spends a period and a sequence
-/// number. Its entry goes back at its next moment.
+/// number. Its entry moves to its next moment.
 fn next_due(rows: &mut IndexMap<Key, Lease>, edges: &mut Queue, at: Moment) -> Option<Row>
     requires { HasEdges at (rows_of rows.old.entries) edges.old.entries }
     ensures due { IfSome result (λ row. due_rows at (rows_of rows.old.entries)
@@ -36,11 +36,12 @@ fn next_due(rows: &mut IndexMap<Key, Lease>, edges: &mut Queue, at: Moment) -> O
     ensures spare { spare rows.new ≡ spare rows.old }
     ensures capacity { edges.old.capacity ≤ edges.new.capacity }
 {
-    while let Some(entry) = edges.pop_until(at) {
+    while let Some(entry) = edges.first_until(at) {
         if let Some(row) = spend_due(rows, at, entry) {
-            edges.push(edge_of(&row.spent(at)));
+            edges.replace_first(edge_of(&row.spent(at)));
             return Some(row);
         }
+        edges.drop_first();
     }
     None
 }

@@ -69,3 +69,20 @@ returns-in_default-clause-stands g c = λ b n h s r0 r1 r2 r3.
         ),
       ),
     )
+
+pub returns-in-0-clause-gone : goal.returns-in-0-clause-gone
+returns-in-0-clause-gone g c = λ r h.
+    c.drop_in.ensures.gone r (subst (λ j. Contains (rows_of_lent j (four c.drop_in.new.shard c.args.s1.now c.args.s2.now c.args.s3.now)) r) c.in-0.is h)
+
+pub returns-in-1-clause-gone : goal.returns-in-1-clause-gone
+returns-in-1-clause-gone g c = λ r h.
+    c.drop_in-in-1.ensures.gone r (subst (λ j. Contains (rows_of_lent j (four c.args.s0.now c.drop_in-in-1.new.shard c.args.s2.now c.args.s3.now)) r) c.in-1.is h)
+
+pub returns-in-2-clause-gone : goal.returns-in-2-clause-gone
+returns-in-2-clause-gone g c = λ r h.
+    c.drop_in-in-2.ensures.gone r (subst (λ j. Contains (rows_of_lent j (four c.args.s0.now c.args.s1.now c.drop_in-in-2.new.shard c.args.s3.now)) r) c.in-2.is h)
+
+pub returns-in_default-clause-gone : goal.returns-in_default-clause-gone
+returns-in_default-clause-gone g c = λ r h.
+    let last : c.args.found.now.table ≡ 3 = omega (arith, c.requires.place) in
+    c.drop_in-in_default.ensures.gone r (subst (λ j. Contains (rows_of_lent j (four c.args.s0.now c.args.s1.now c.args.s2.now c.drop_in-in_default.new.shard)) r) last h)

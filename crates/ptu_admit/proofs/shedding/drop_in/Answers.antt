@@ -1,4 +1,4 @@
-use Rattle.std.proofs.Common.{◌≡◌, ◌∙◌, ◌+◌, ◌-◌, ap, arith, not, ℕ}
+use Rattle.std.proofs.Common.{◌≡◌, ◌∙◌, ◌+◌, ◌-◌, ap, arith, not, refl, sym, Bool, true, false, ℕ}
 use Rattle.std.proofs.lemmas.List.Sorted.{length_permutation}
 use Rattle.ptu_units.specs.Log.{rate_of}
 use Rattle.ptu_history.proofs.Keys.{same_lease-refl}
@@ -26,9 +26,22 @@ returns-clause-thinned g c =
       members = λ row h.
           (Contains-from_filter (λ row. not (is_row_of client kind row)) c.args.shard.now.rows row
           ((same_permuted (without_row client kind c.args.shard.now.rows) c.remove.new.self.rows c.remove.ensures.rows).from row h)).0;
+      distinct = λ _. c.held.ensures.distinct;
       moment = c.remove.ensures.moment;
       keeps = record { port = c.remove.ensures.port; spare = omega (arith, c.remove.ensures.spare) };
     }
+
+pub returns-clause-gone : goal.returns-clause-gone
+returns-clause-gone g c = λ r h.
+    let client = c.args.row.now.client in
+    let kind = c.args.row.now.kind in
+    not-true (is_row_of client kind r)
+    (Contains-from_filter (λ row. not (is_row_of client kind row)) c.args.shard.now.rows r
+    ((same_permuted (without_row client kind c.args.shard.now.rows) c.remove.new.self.rows c.remove.ensures.rows).from r h)).1
+  where
+    not-true : (b : Bool) → not b ≡ true → b ≡ false
+    not-true true e = sym e
+    not-true false e = refl
 
 pub returns-clause-fewer : goal.returns-clause-fewer
 returns-clause-fewer g c =

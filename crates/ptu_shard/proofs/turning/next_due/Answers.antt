@@ -1,4 +1,4 @@
-use Rattle.std.proofs.Common.{◌∙◌, ◌∷◌, sym, ap, subst, arith}
+use Rattle.std.proofs.Common.{◌∙◌, ◌∷◌, drop, length, sym, ap, subst, arith}
 use Rattle.std.specs.List.{AllPairs, Contains}
 use Rattle.std.specs.List.Sorted.{IsPermutation}
 use Rattle.std.proofs.lemmas.List.Sorted.{length_permutation}
@@ -7,8 +7,11 @@ use Rattle.ptu_shard.specs.Queue.{HasEdges, edge_entry}
 use Rattle.ptu_shard.specs.Row.{is_row_of}
 use Rattle.ptu_shard.specs.Turn.{due_rows, is_due_row, spent_where}
 use Rattle.ptu_shard.proofs.RowLists.{Differ}
-use Rattle.ptu_shard.proofs.Dues.{due_first, edges_after, none_due, spent_after, stale}
+use Rattle.ptu_shard.proofs.Dues.{due_first, edges_after, least_first, none_due, spent_after, stale, taken_first}
 use Rattle.ptu_shard.proofs.turning.next_due.Goals as goal
+
+pub replace_first-requires : goal.replace_first-requires
+replace_first-requires c = omega (arith, ap length c.in-Some.ensures.first)
 
 pub returns-in-Some-spend_due-clause-due : goal.returns-in-Some-spend_due-clause-due
 returns-in-Some-spend_due-clause-due c =
@@ -18,7 +21,8 @@ returns-in-Some-spend_due-clause-due c =
     let h = c.in-Some-spend_due.ensures in
     let kept : Contains rows r = subst (λ l. Contains l r) inv.rows h.due.0 in
     let pairs : AllPairs Differ rows = subst (AllPairs Differ) inv.rows h.distinct in
-    due_first c.args.at rows pairs r kept h.due.2 h.later c.loop-entry.edges.entries c.pop_until.new.self.entries c.in-Some.entry inv.edges c.in-Some.ensures.taken h.due.1 c.in-Some.ensures.least
+    due_first c.args.at rows pairs r kept h.due.2 h.later c.loop-entry.edges.entries (drop 1 c.loop-entry.edges.entries) c.in-Some.entry inv.edges
+    (taken_first c.loop-entry.edges.entries c.in-Some.entry c.in-Some.ensures.first) h.due.1 (least_first c.loop-entry.edges.entries c.in-Some.entry c.in-Some.ensures.least)
     ∙ ap (λ l. r ∷ due_rows c.args.at l) (sym (h.spent ∙ ap (spent_where (is_row_of r.client r.kind) c.args.at) inv.rows))
 
 pub returns-in-Some-spend_due-clause-spent : goal.returns-in-Some-spend_due-clause-spent
@@ -40,13 +44,14 @@ returns-in-Some-spend_due-clause-edges c =
     let h = c.in-Some-spend_due.ensures in
     let kept : Contains rows r = subst (λ l. Contains l r) inv.rows h.due.0 in
     let pairs : AllPairs Differ rows = subst (AllPairs Differ) inv.rows h.distinct in
-    let put = subst (λ e. IsPermutation (e ∷ c.pop_until.new.self.entries) c.push.new.self.entries) (c.edge_of.ensures ∙ ap edge_entry c.spent.ensures.row) c.push.ensures.entries in
-    subst (λ l. HasEdges c.args.at l c.push.new.self.entries) (sym (h.spent ∙ ap (spent_where (is_row_of r.client r.kind) c.args.at) inv.rows))
-    (edges_after c.args.at rows pairs r kept h.due.2 h.later c.loop-entry.edges.entries c.pop_until.new.self.entries c.in-Some.entry inv.edges c.in-Some.ensures.taken h.due.1 c.push.new.self.entries put)
+    let put = subst (λ e. IsPermutation (e ∷ drop 1 c.loop-entry.edges.entries) c.replace_first.new.self.entries) (c.edge_of.ensures ∙ ap edge_entry c.spent.ensures.row) c.replace_first.ensures.entries in
+    subst (λ l. HasEdges c.args.at l c.replace_first.new.self.entries) (sym (h.spent ∙ ap (spent_where (is_row_of r.client r.kind) c.args.at) inv.rows))
+    (edges_after c.args.at rows pairs r kept h.due.2 h.later c.loop-entry.edges.entries (drop 1 c.loop-entry.edges.entries) c.in-Some.entry inv.edges
+    (taken_first c.loop-entry.edges.entries c.in-Some.entry c.in-Some.ensures.first) h.due.1 c.replace_first.new.self.entries put)
 
 pub loop-entry-smaller : goal.loop-entry-smaller
 loop-entry-smaller c =
-    omega (arith, length_permutation c.loop-entry.edges.entries (c.in-Some.entry ∷ c.pop_until.new.self.entries) c.in-Some.ensures.taken)
+    omega (arith, length_permutation c.loop-entry.edges.entries (c.in-Some.entry ∷ c.drop_first.new.self.entries) (c.drop_first.ensures.dropped c.in-Some.entry c.in-Some.ensures.first))
 
 pub loop-entry-preserved : goal.loop-entry-preserved
 loop-entry-preserved c =
@@ -55,10 +60,10 @@ loop-entry-preserved c =
     let h = c.in_default-spend_due.ensures in
     record {
       rows = h.same ∙ inv.rows;
-      edges = stale c.args.at rows c.loop-entry.edges.entries c.pop_until.new.self.entries c.in-Some.entry inv.edges c.in-Some.ensures.taken c.in-Some.ensures.reached
+      edges = stale c.args.at rows c.loop-entry.edges.entries c.drop_first.new.self.entries c.in-Some.entry inv.edges (c.drop_first.ensures.dropped c.in-Some.entry c.in-Some.ensures.first) c.in-Some.ensures.reached
           (λ z k same. h.none z (subst (λ l. Contains l z) (sym inv.rows) k) same);
       spare = h.spare ∙ inv.spare;
-      capacity = omega (arith, inv.capacity, c.in-Some.ensures.capacity);
+      capacity = omega (arith, inv.capacity, c.drop_first.ensures.capacity);
     }
 
 pub returns-clause-none : goal.returns-clause-none

@@ -18,7 +18,7 @@ invariant_of-self g c =
     record {
       distinct = h.distinct;
       held = omega (arith, inv.held, h.share, c.rate-added.ensures.rate);
-      due = h.edges c.self.inside.moment inv.due;
+      due = h.edges inv.due;
       over = h.ends inv.over;
       within = omega (arith, free, inv.within, inv.fits, h.count, h.bound, h.spare, c.capacity.ensures, c.min-self-inside.ensures, many, more);
       fits = omega (arith, c.capacity.ensures, c.min-self-inside.ensures, more);
