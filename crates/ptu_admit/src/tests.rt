@@ -475,8 +475,8 @@ fn one_table_alone(rt: HostRuntime) -> Result<(), Fail> {
     Ok(())
 }
 
-// How many grants are made, and how many of them a change of capacity sheds. Were all rows looked at
-// for each, that alone would take minutes.
+// How many grants are made, and how many of them a change of capacity sheds. Were all rows looked
+// at for each, that alone would take minutes.
 const MANY: u32 = 160_000;
 
 const MOST: u32 = 120_000;

@@ -1,6 +1,5 @@
-use Rattle.std.proofs.Common.{◌≡◌, ◌∙◌, ◌+◌, ◌<◌, ◌++◌, ◌∷◌, [], ap, arith, cond, map, sym, true, ℕ}
+use Rattle.std.proofs.Common.{◌≡◌, ◌∙◌, ◌+◌, ◌<◌, ◌++◌, ◌∷◌, [], ap, arith, cond, sym, true, ℕ}
 use Rattle.std.specs.Prelude.{is_ok, vec_capacity, vec_len}
-use Rattle.std.proofs.lemmas.List.{take_all}
 use Rattle.ptu_admit.specs.Newest.{candidate_of, found_in}
 use Rattle.ptu_admit.specs.declared.newest.Candidate.{Candidate}
 use Rattle.ptu_admit.proofs.Candidates.{got_within, listed_next}

@@ -1,7 +1,6 @@
-use Rattle.std.proofs.Common.{◌≡◌, ◌∙◌, sym, Some}
+use Rattle.std.proofs.Common.{◌∙◌, Some}
 use Rattle.ptu_history.proofs.Unique.{pairs_from_Apart}
 use Rattle.ptu_shard.specs.Fields.{rows_of}
-use Rattle.ptu_shard.specs.Row.{lease_of}
 use Rattle.ptu_shard.specs.declared.rows.Key.{Key}
 use Rattle.ptu_shard.proofs.RowLists.{Differ}
 use Rattle.ptu_shard.proofs.Keyed.{apart_keys, found_is, leases_after}

@@ -1,4 +1,4 @@
-use Rattle.std.proofs.Common.{◌≡◌, ◌∙◌, arith, heap_items, length, Option, Some, None}
+use Rattle.std.proofs.Common.{◌≡◌, arith, heap_items, length, Option, Some, None}
 use Rattle.std.specs.Prelude.{IfNone}
 use Rattle.std.specs.declared.cmp.Reverse.{Reverse}
 use Rattle.ptu_shard.specs.declared.queue.Entry.{Entry}
