@@ -20,7 +20,7 @@ use Rattle.ptu_rounds.specs.declared.fault.DaemonFault.TheVariants.{Open, Write,
 use Rattle.ptu_daemon.specs.Events.{endpoint_of}
 use Rattle.ptu_daemon.specs.Served.{Said, closing_line}
 use Rattle.ptu_daemon.specs.Serving.{HasServed}
-use Rattle.ptu_twostep_daemon.specs.Serving.{HasServedInTwo}
+use Rattle.ptu_daemon.specs.ServingInTwo.{HasServedInTwo}
 use Rattle.ptu_slave_daemon.specs.Answers.{WasGivenBack, WasOpened}
 use Rattle.ptu_slave_daemon.specs.Happenings.{Selection}
 use Rattle.ptu_slave_daemon.specs.Lines.{output, texts_of}

@@ -18,11 +18,10 @@ use crate::status::{
     BAD_LINE, HOST_FAULT, OUT_OF_MEMORY, SINK_FAULT, SOURCE_FAULT, USAGE, daemon_status,
 };
 use ptu_config::{GmSettings, RefusalLine, SetupFault, gm_setup, slave_setup};
-use ptu_daemon::{DaemonFault, serve};
+use ptu_daemon::{DaemonFault, serve, serve_in_two_steps};
 use ptu_judges::Stock;
 use ptu_outside::{Host, Sink, Source, write_whole};
 use ptu_slave_daemon::slave;
-use ptu_twostep_daemon::serve_in_two_steps;
 use std::alloc::Global;
 use std::sync::Wait;
 use std::thread::Threads;

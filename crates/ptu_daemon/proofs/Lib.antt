@@ -7,3 +7,5 @@ pub mod Receiving
 pub mod Channels
 pub mod Rounds
 pub mod Finishing
+pub mod Halves
+pub mod InTwo

@@ -4,3 +4,4 @@ pub mod Served
 pub mod Serving
 pub mod Counting
 pub mod Ran
+pub mod ServingInTwo

@@ -1,16 +1,21 @@
 //! A grandmaster as a daemon: it takes what waits at its ports, and its tables take turns, in
-//! rounds, on one thread or by lanes that work side by side.
+//! rounds, on one thread or by lanes that work side by side; each Sync goes out whole, or in two
+//! steps, as a Sync with twoStepFlag and its Follow_Up (IEEE 1588-2019 clauses 9.5.9 and 9.5.10).
 #![tactic(auto)]
 
 mod closing;
 mod daemon;
 mod events;
+mod laws;
 mod next;
 mod serving;
 mod tally;
+mod two_steps;
 
+pub use laws::sends_no_half;
 pub use ptu_rounds::DaemonFault;
 pub use serving::serve;
+pub use two_steps::serve_in_two_steps;
 
 #[cfg(test)]
 mod lane_rounds;
@@ -22,3 +27,5 @@ mod staged;
 mod table_ports;
 #[cfg(test)]
 mod tests;
+#[cfg(test)]
+mod two_step_tests;

@@ -1,7 +1,7 @@
 use Rattle.std.proofs.Common.{◌≡◌, ◌∙◌, ◌∷◌, [], Bool, true, false, sym}
 use Rattle.ptu_outside.specs.Handing.{HasPut, HasPutFront}
 use Rattle.ptu_daemon.specs.Served.{closing_line}
-use Rattle.ptu_twostep_daemon.proofs.InTwo.{if_err_said, on_ok_said}
+use Rattle.ptu_daemon.proofs.InTwo.{if_err_said, on_ok_said}
 use Rattle.ptpuni.proofs.daemons.serve_by.Goals as goal
 
 both : {A : Type 0} (b : Bool) → b ≡ true → b ≡ false → A

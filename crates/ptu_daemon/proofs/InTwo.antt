@@ -24,8 +24,8 @@ use Rattle.ptu_twostep.proofs.Pairs.{grown-pairs}
 use Rattle.ptu_daemon.specs.Events.{Given, config_of}
 use Rattle.ptu_daemon.specs.Served.{Said, opened_as, served_by}
 use Rattle.ptu_daemon.specs.Serving.{AreServed, HasServed, IsGiven, Serves, faults_of}
-use Rattle.ptu_twostep_daemon.specs.Serving.{AreSentInPairs, HasServedInTwo, by_counts, has_risen}
-use Rattle.ptu_twostep_daemon.proofs.Halves.{AreWhole, whole_both, whole_cancels, whole_replies, whole_sends}
+use Rattle.ptu_daemon.specs.ServingInTwo.{AreSentInPairs, HasServedInTwo, by_counts, has_risen}
+use Rattle.ptu_daemon.proofs.Halves.{AreWhole, whole_both, whole_cancels, whole_replies, whole_sends}
 
 -- ---- counts
 

@@ -1,9 +1,8 @@
 ghost use Rattle.std.specs.Prelude.{◌≤◌, IfOk};
 ghost use Rattle.ptu_outside.specs.MemoryPort.{FitAll};
 
-use crate::serve_in_two_steps;
+use crate::{serve, serve_in_two_steps};
 use ptu_config::GmSettings;
-use ptu_daemon::serve;
 use ptu_outside::{Arrival, Channel, Datagram, MemClock, MemHost, MemPort, MemSink, Opened};
 use ptu_twostep::{Flags, TwoHost};
 use ptu_units::Moment;

@@ -1,5 +1,5 @@
-use Rattle.ptu_twostep_daemon.proofs.Halves.{whole_cancels, whole_replies, whole_sends}
-use Rattle.ptu_twostep_daemon.proofs.laws.sends_no_half.Goals as goal
+use Rattle.ptu_daemon.proofs.Halves.{whole_cancels, whole_replies, whole_sends}
+use Rattle.ptu_daemon.proofs.laws.sends_no_half.Goals as goal
 
 pub returns-clause-events : goal.returns-clause-events
 returns-clause-events c = whole_sends

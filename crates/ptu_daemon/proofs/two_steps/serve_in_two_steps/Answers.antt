@@ -1,8 +1,8 @@
 use Rattle.std.proofs.Common.{◌∙◌, ◌∷◌, [], sym}
 use Rattle.ptu_outside.specs.Handing.{HasPut, HasPutFront}
 use Rattle.ptu_daemon.specs.Served.{closing_line}
-use Rattle.ptu_twostep_daemon.proofs.InTwo.{if_err_said, in_two, on_ok_said}
-use Rattle.ptu_twostep_daemon.proofs.serving.serve_in_two_steps.Goals as goal
+use Rattle.ptu_daemon.proofs.InTwo.{if_err_said, in_two, on_ok_said}
+use Rattle.ptu_daemon.proofs.two_steps.serve_in_two_steps.Goals as goal
 
 pub returns-clause-served : goal.returns-clause-served
 returns-clause-served g c =

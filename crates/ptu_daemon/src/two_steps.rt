@@ -7,11 +7,12 @@ ghost use Rattle.ptu_config.specs.Limits.{IsGmInRange};
 ghost use Rattle.ptu_rounds.specs.Opening.{OpenedAt};
 ghost use Rattle.ptu_daemon.specs.Events.{endpoint_of};
 ghost use Rattle.ptu_daemon.specs.Served.{Said, closing_line};
-ghost use Rattle.ptu_twostep_daemon.specs.Serving.{HasServedInTwo};
+ghost use Rattle.ptu_daemon.specs.ServingInTwo.{HasServedInTwo};
 
+use crate::serving::serve;
 use ptu_config::GmSettings;
-use ptu_daemon::{DaemonFault, serve};
 use ptu_outside::{Host, Sink};
+use ptu_rounds::DaemonFault;
 use ptu_twostep::TwoHost;
 use std::alloc::Global;
 use std::sync::Wait;
