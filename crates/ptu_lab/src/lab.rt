@@ -6,7 +6,7 @@ ghost use Rattle.ptu_world.specs.World.{step};
 ghost use Rattle.ptu_world.specs.Report.{Course, course_opening, outcome_by};
 ghost use Rattle.ptu_lab.specs.Standing.{StandsFor};
 
-use crate::grandmaster_node::GrandmasterNode;
+use ptu_nodes::GrandmasterNode;
 use crate::slave_node::SlaveNode;
 use crate::stock::Reserve;
 use ptu_judges::Stock;

@@ -14,14 +14,14 @@ ghost use Rattle.ptu_world.specs.Slaves.{datagram_deed, plain_deed};
 ghost use Rattle.ptu_world.specs.Report.{text_at};
 ghost use Rattle.ptu_world.specs.World.{new_slave, sending_said, sent_from};
 ghost use Rattle.ptu_world.specs.World.{with_master as described_with_master};
-ghost use Rattle.ptu_lab.specs.NodeStanding.{IsIdle, IsSlaveNode, StandsAsSlave};
+ghost use Rattle.ptu_lab.specs.NodeStanding.{IsSlaveNode, StandsAsSlave};
+ghost use Rattle.ptu_nodes.specs.Standing.{IsIdle};
 ghost use Rattle.ptu_lab.specs.SlaveStatements.{IsOfOne};
 ghost use Rattle.ptu_lab.specs.SlaveWords.{HasStepped, IsJudged, new_config, selected_address};
 ghost use Rattle.ptu_lab.specs.SlaveWords.{selection_by};
-ghost use Rattle.ptu_lab.specs.Doing.{HasDone};
+ghost use Rattle.ptu_nodes.specs.Doing.{HasDone};
 
-use crate::handing::{SIGNALING, hand_over};
-use crate::saying::say;
+use ptu_nodes::{SIGNALING, hand_over, say};
 use crate::slave_statements::{say_heard, was_ignored, was_unsent};
 use ptu_header::PortIdentity;
 use ptu_judges::Judge;
