@@ -70,7 +70,7 @@ says_heard g t from _ _ is comes = absurd is
 -- ---- what it sends
 
 -- of a port that tells: where no send failed it was sent all
-told_all : (ports : Ports MemoryPort) (tells : (p : MemoryPort) → ports.sent p ≡ Some p.sent) (before after : MemoryPort) (ds : List Departure) (sent failed : ℕ) → HandsOver ports before after ds sent failed → failed ≡ 0
+pub told_all : (ports : Ports MemoryPort) (tells : (p : MemoryPort) → ports.sent p ≡ Some p.sent) (before after : MemoryPort) (ds : List Departure) (sent failed : ℕ) → HandsOver ports before after ds sent failed → failed ≡ 0
     → after.sent ≡ before.sent ++ ds
 told_all ports tells before after ds sent failed h none =
     all_handed before.sent after.sent ds
@@ -112,7 +112,7 @@ reply_sends ports tells g t from header items answers sending.Failed before afte
 reply_sends ports tells g t from header [] answers sending.Nothing before after none is nothing sends same = ap (λ (p : MemoryPort). p.sent) sends ∙ none
 reply_sends ports tells g t from header (item ∷ items) answers sending.Nothing before after none is nothing sends same = absurd (cc (nothing.0 refl))
 
-sends_heard : (ports : Ports MemoryPort) (tells : (p : MemoryPort) → ports.sent p ≡ Some p.sent) (g : Grandmaster) (t from : ℕ) (h : Result Heard GmReason) (taken : Taken) (gm1 gm2 : KeptGm MemoryPort) → AreIdle gm1 → IsAnswerTo h taken →
+pub sends_heard : (ports : Ports MemoryPort) (tells : (p : MemoryPort) → ports.sent p ≡ Some p.sent) (g : Grandmaster) (t from : ℕ) (h : Result Heard GmReason) (taken : Taken) (gm1 gm2 : KeptGm MemoryPort) → AreIdle gm1 → IsAnswerTo h taken →
     ComesTo (opening g) g.past t from h taken → IsSent taken →
     OnIgnored taken (gm2 ≡ gm1) →
     OnDelay h taken (λ header answered. let c = client_of from header in let j = table_of c in

@@ -54,6 +54,22 @@ idle_table j gm idle = idle_by (j == 0) (j == 1) (j == 2) gm idle
 
 -- ---- a turn
 
+-- what stands in the ports after a turn is what the deed sends
+pub sends_turned : (t j : ℕ) (gm1 gm2 : KeptGm MemoryPort) (at : ℕ) (g : Grandmaster) →
+    g.config ≡ gm1.config → StandsFor g.capacity gm1 g.past → AreIdle gm1 →
+    (table_at j gm2).port.sent ≡ (table_at j gm1).port.sent ++ map (departure_of gm1.config at) (due_messages at (table_at j gm1).rows) →
+    gm2 ≡ with_table j (table_at j gm2) gm1 →
+    ((opening : ℕ) (history : List Record) → StandsFor opening gm1 history →
+    (at ≡ table_step_moment history t j) × (due_messages at (table_at j gm1).rows ≡ map (message_of history) (due_grants history at j))) →
+    in_ports gm2 ≡ (turn_deed g t j).sends
+sends_turned t j gm1 gm2 at g config stood idle sends rest messages =
+    in_ports-table j gm1 gm2 idle rest
+    ∙ (sends ∙ ap (λ l. l ++ map (departure_of gm1.config at) (due_messages at (table_at j gm1).rows)) (idle_table j gm1 idle))
+    ∙ ap (map (departure_of gm1.config at)) (messages g.capacity g.past stood).1
+    ∙ map-map (departure_of gm1.config at) (message_of g.past) (due_grants g.past at j)
+    ∙ ap (λ x. map (λ (m : Grant). departure_of gm1.config x (message_of g.past m)) (due_grants g.past x j)) (messages g.capacity g.past stood).0
+    ∙ ap (λ c. map (λ (m : Grant). departure_of c (table_step_moment g.past t j) (message_of g.past m)) (due_grants g.past (table_step_moment g.past t j) j)) (sym config)
+
 pub turn_done : (ip line t j : ℕ) (gm0 gm1 gm2 gm3 : KeptGm MemoryPort) (at : ℕ) (sent sent' : List Sent) (texts texts' : List (List ℕ)) (g : Grandmaster) →
     IsGrandmasterNode (record { ip = ip; gm = gm0 }) g → GoesOn gm0 gm1 → (AreIdle gm0 → AreIdle gm1) →
     Some ((table_at j gm1).port.sent ++ map (departure_of gm1.config at) (due_messages at (table_at j gm1).rows)) ≡ Some (table_at j gm2).port.sent →
@@ -80,13 +96,8 @@ turn_done ip line t j gm0 gm1 gm2 gm3 at sent sent' texts texts' g is first idle
     same_config : gm2.config ≡ gm1.config
     same_config = ap (λ g. g.config) rest ∙ config_by (j == 0) (j == 1) (j == 2) (table_at j gm2) gm1
 
-    told : (table_at j gm2).port.sent ≡ map (departure_of gm1.config at) (due_messages at (table_at j gm1).rows)
-    told = all_handed (table_at j gm1).port.sent (table_at j gm2).port.sent (map (departure_of gm1.config at) (due_messages at (table_at j gm1).rows)) sends ∙ ap (λ l. l ++ map (departure_of gm1.config at) (due_messages at (table_at j gm1).rows)) (idle_table j gm1 (idle is.idle))
+    told : (table_at j gm2).port.sent ≡ (table_at j gm1).port.sent ++ map (departure_of gm1.config at) (due_messages at (table_at j gm1).rows)
+    told = all_handed (table_at j gm1).port.sent (table_at j gm2).port.sent (map (departure_of gm1.config at) (due_messages at (table_at j gm1).rows)) sends
 
-    in_ports_are : in_ports gm2 ≡ map (λ m. departure_of g.config (table_step_moment g.past t j) (message_of g.past m)) (due_grants g.past (table_step_moment g.past t j) j)
-    in_ports_are =
-        in_ports-table j gm1 gm2 (idle is.idle) rest ∙ told
-        ∙ ap (map (departure_of gm1.config at)) (messages g.capacity g.past stood).1
-        ∙ map-map (departure_of gm1.config at) (message_of g.past) (due_grants g.past at j)
-        ∙ ap (λ x. map (λ (m : Grant). departure_of gm1.config x (message_of g.past m)) (due_grants g.past x j)) (messages g.capacity g.past stood).0
-        ∙ ap (λ c. map (λ (m : Grant). departure_of c (table_step_moment g.past t j) (message_of g.past m)) (due_grants g.past (table_step_moment g.past t j) j)) (sym config)
+    in_ports_are : in_ports gm2 ≡ (turn_deed g t j).sends
+    in_ports_are = sends_turned t j gm1 gm2 at g config stood (idle is.idle) told rest messages

@@ -1,0 +1,91 @@
+-- The ports of one pool, lent and given back.
+use Rattle.std.proofs.Common.{◌≡◌, ◌≢◌, ◌∙◌, ◌⊎◌, inl, inr, ℕ, zero, suc, ◌==◌, Bool, true, false, cond, List, [], ◌∷◌, slice_get, option_map, Option, Some, None, refl, sym, ap, subst}
+use Rattle.std.proofs.lemmas.Bool.{cases_eq}
+use Rattle.ptu_outside.specs.MemoryPort.{MemoryPort}
+use Rattle.ptu_shard.specs.Table.{Kept}
+use Rattle.ptu_grandmaster.specs.Gm.{KeptGm, port_at, with_port}
+use Rattle.ptu_pools.specs.Ported.{with_port_at, with_port_of}
+use Rattle.ptu_pools.specs.Standing.{KeptPools}
+use Rattle.ptu_nodes.specs.Standing.{AreIdle}
+use Rattle.ptu_pool_run.specs.Ports.{AreAllIdle}
+
+-- ---- one grandmaster of all
+
+pub others_ported : (gms : List (KeptGm MemoryPort)) (place index : ℕ) (port : MemoryPort) (i : ℕ) → i ≢ place →
+    slice_get (with_port_at place index port gms) i ≡ slice_get gms i
+others_ported [] place index port i other = refl
+others_ported (gm ∷ gms) zero index port zero other = absurd (other refl)
+others_ported (gm ∷ gms) zero index port (suc i) other = refl
+others_ported (gm ∷ gms) (suc place) index port zero other = refl
+others_ported (gm ∷ gms) (suc place) index port (suc i) other = others_ported gms place index port i (λ e. other (ap suc e))
+
+pub here_ported : (gms : List (KeptGm MemoryPort)) (place index : ℕ) (port : MemoryPort) (gm : KeptGm MemoryPort) → slice_get gms place ≡ Some gm →
+    slice_get (with_port_at place index port gms) place ≡ Some (with_port index port gm)
+here_ported [] place index port gm is = absurd cc
+here_ported (x ∷ gms) zero index port gm is = let e : x ≡ gm = cc in ap (λ g. Some (with_port index port g)) e
+here_ported (x ∷ gms) (suc place) index port gm is = here_ported gms place index port gm is
+
+-- the grandmaster that a port was lent of
+pub record IsLent (gms : List (KeptGm MemoryPort)) (place index : ℕ) (port : MemoryPort) (after : KeptGm MemoryPort) : Type 0 where
+  pub before : KeptGm MemoryPort
+  pub was : slice_get gms place ≡ Some before
+  pub now : after ≡ with_port index port before
+
+pub there_ported : (gms : List (KeptGm MemoryPort)) (place index : ℕ) (port : MemoryPort) (after : KeptGm MemoryPort) →
+    slice_get (with_port_at place index port gms) place ≡ Some after → IsLent gms place index port after
+there_ported [] place index port after is = absurd cc
+there_ported (x ∷ gms) zero index port after is = record { before = x; was = refl; now = let e : with_port index port x ≡ after = cc in sym e }
+there_ported (x ∷ gms) (suc place) index port after is =
+    let lent = there_ported gms place index port after is in record { before = lent.before; was = lent.was; now = lent.now }
+
+-- ---- idle ports
+
+abbrev table_by : Bool → Bool → Bool → KeptGm MemoryPort → Kept MemoryPort
+table_by zero one two gm = cond zero gm.s0 (cond one gm.s1 (cond two gm.s2 gm.s3))
+
+abbrev with_by : Bool → Bool → Bool → Bool → MemoryPort → KeptGm MemoryPort → KeptGm MemoryPort
+with_by four zero one two port gm =
+    let table : Kept MemoryPort = record (table_by zero one two gm) { port = port } in
+    cond four (record gm { reply = port })
+    (cond zero (record gm { s0 = table }) (cond one (record gm { s1 = table }) (cond two (record gm { s2 = table }) (record gm { s3 = table }))))
+
+idle_with : (four zero one two : Bool) (port : MemoryPort) (gm : KeptGm MemoryPort) → AreIdle gm → port.sent ≡ [] → AreIdle (with_by four zero one two port gm)
+idle_with true zero one two port gm (e0, e1, e2, e3, e4) none = (e0, e1, e2, e3, none)
+idle_with false true one two port gm (e0, e1, e2, e3, e4) none = (none, e1, e2, e3, e4)
+idle_with false false true two port gm (e0, e1, e2, e3, e4) none = (e0, none, e2, e3, e4)
+idle_with false false false true port gm (e0, e1, e2, e3, e4) none = (e0, e1, none, e3, e4)
+idle_with false false false false port gm (e0, e1, e2, e3, e4) none = (e0, e1, e2, none, e4)
+
+idle_at : (four zero one two : Bool) (gm : KeptGm MemoryPort) → AreIdle gm → (cond four gm.reply (table_by zero one two gm).port).sent ≡ []
+idle_at true zero one two gm (e0, e1, e2, e3, e4) = e4
+idle_at false true one two gm (e0, e1, e2, e3, e4) = e0
+idle_at false false true two gm (e0, e1, e2, e3, e4) = e1
+idle_at false false false true gm (e0, e1, e2, e3, e4) = e2
+idle_at false false false false gm (e0, e1, e2, e3, e4) = e3
+
+-- where nothing stood in any port, and as much stands in one that was lent, nothing does
+pub still_idle : (kept : KeptPools MemoryPort) (place index : ℕ) (before port : MemoryPort) →
+    ((gm : KeptGm MemoryPort) → slice_get kept.gms place ≡ Some gm → port_at index gm ≡ before) → port.sent ≡ before.sent →
+    AreAllIdle kept → AreAllIdle (with_port_of place index port kept)
+still_idle kept place index before port at same idle i after now = by (cases_eq i place)
+  where
+    here : slice_get (with_port_at place index port kept.gms) place ≡ Some after → AreIdle after
+    here there =
+        let lent = there_ported kept.gms place index port after there in
+        let was : AreIdle lent.before = idle place lent.before lent.was in
+        let none : port.sent ≡ [] = same ∙ ap (λ (p : MemoryPort). p.sent) (sym (at lent.before lent.was)) ∙ idle_at (index == 4) (index == 0) (index == 1) (index == 2) lent.before was in
+        subst AreIdle (sym lent.now) (idle_with (index == 4) (index == 0) (index == 1) (index == 2) port lent.before was none)
+
+    by : (i ≡ place) ⊎ (i ≡ place → ⊥) → AreIdle after
+    by (inl same) = here (subst (λ j. slice_get (with_port_at place index port kept.gms) j ≡ Some after) same now)
+    by (inr other) = idle i after (sym (others_ported kept.gms place index port i other) ∙ now)
+
+-- the port that was lent is that of the grandmaster at the place
+pub lent_is : (gms : List (KeptGm MemoryPort)) (place index : ℕ) (gm : KeptGm MemoryPort) (port : MemoryPort) → slice_get gms place ≡ Some gm →
+    option_map (port_at index) (slice_get gms place) ≡ Some port → port_at index gm ≡ port
+lent_is gms place index gm port at value = let same : Some (port_at index gm) ≡ Some port = ap (option_map (port_at index)) (sym at) ∙ value in cc
+
+-- there is one
+pub lent_there : (index : ℕ) (port : MemoryPort) (o : Option (KeptGm MemoryPort)) → option_map (port_at index) o ≡ Some port → (gm : KeptGm MemoryPort) × (o ≡ Some gm)
+lent_there index port None value = absurd cc
+lent_there index port (Some gm) value = (gm, refl)

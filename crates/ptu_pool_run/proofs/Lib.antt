@@ -1,0 +1,6 @@
+mod Lent
+mod Telling
+mod Sold
+mod Happening
+mod OutputLines
+mod Keeping
