@@ -3,4 +3,4 @@ mod Telling
 mod Sold
 mod Happening
 mod OutputLines
-mod Keeping
+pub mod Keeping
