@@ -1,8 +1,8 @@
 //! The ports of pools: room is made in them before an event, and what was sent is told after it.
 
-ghost use Rattle.std.specs.Prelude.{◌≡◌, ◌<◌, ◌+◌, ◌++◌, [], Some, length, slice_get, OnOk};
+ghost use Rattle.std.specs.Prelude.{◌≡◌, ◌<◌, ◌≤◌, ◌+◌, ◌++◌, [], Some, length, slice_get, OnOk};
 ghost use Rattle.ptu_outside.specs.MemoryPort.{MemoryPort};
-ghost use Rattle.ptu_grandmaster.specs.Gm.{KeptGm, port_at, with_port};
+ghost use Rattle.ptu_grandmaster.specs.Gm.{KeptGm, port_at, table_at, with_port};
 ghost use Rattle.ptu_nodes.specs.GrandmasterPorts.{in_ports};
 ghost use Rattle.ptu_nodes.specs.Standing.{AreIdle};
 ghost use Rattle.ptu_pool_run.specs.Ports.{AreAllIdle, AreOthersSame, GoOn, sent_texts};
@@ -26,6 +26,8 @@ fn reserve(
 ) -> Result<(), OutOfMemory>
     requires pool { place < length pools.old.pools }
     requires index { index < 5 }
+    ensures room { OnOk result ((gm : KeptGm MemoryPort) → slice_get pools.new.gms place ≡ Some gm →
+        length (port_at index gm).sent + datagrams ≤ (port_at index gm).datagrams) }
     ensures go_on { GoOn pools.old pools.new }
     ensures idle { AreAllIdle pools.old → AreAllIdle pools.new }
 {
@@ -61,6 +63,9 @@ pub fn reserve_turn(
 ) -> Result<(), OutOfMemory>
     requires pool { place < length pools.old.pools }
     requires table { table < 4 }
+    ensures room { OnOk result ((gm : KeptGm MemoryPort) → slice_get pools.new.gms place ≡ Some gm →
+        length (table_at table gm).port.sent + length (table_at table gm).rows
+        ≤ (table_at table gm).port.datagrams) }
     ensures go_on { GoOn pools.old pools.new }
     ensures idle { AreAllIdle pools.old → AreAllIdle pools.new }
 {

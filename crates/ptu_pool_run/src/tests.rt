@@ -60,6 +60,11 @@ const GM: &str = "gm 10.0.0.1 0a00000000000001 1 4 84 16 300\n";
 
 const GM_LINE: &str = "gm 10.0.0.2 0a00000000000002 1 4 84 16 300";
 
+/// A grandmaster of 16 sixteenths, and two customers of half of them each.
+const TWO_POOLS: &str = "gm 10.0.0.1 0a00000000000001 1 4 84 16 300\n\
+    pool 10.0.1.0 24 8\n\
+    pool 10.0.2.0 24 8\n";
+
 /// A grandmaster of 16 sixteenths, and one customer of half of them.
 const ONE_CUSTOMER: &str = "gm 10.0.0.1 0a00000000000001 1 4 84 16 300\npool 10.0.1.0 24 8\n";
 
@@ -77,6 +82,9 @@ fn lines_are_refused(rt: HostRuntime) -> Result<(), Fail> {
             1,
             PoolCause::Field(7),
         ),
+        (GM, "gm 10.0.0.2 x 1 4 84 16 300", 2, PoolCause::Field(3)),
+        (GM, "pool 0.0.0.1 0 8", 2, PoolCause::Net),
+        (GM, "pool 10.0.1.1 24 17", 2, PoolCause::Net),
         (GM, "pool 10.0.1.1 24 8", 2, PoolCause::Net),
         (GM, "pool 10.0.1.0 24 17", 2, PoolCause::Over),
         (GM, "rx 0 10.0.1.17 -", 2, PoolCause::Order),
@@ -85,6 +93,8 @@ fn lines_are_refused(rt: HostRuntime) -> Result<(), Fail> {
         (ONE_CUSTOMER, "pool 10.0.0.0 16 8", 3, PoolCause::Overlap),
         (ONE_CUSTOMER, "pool 10.0.1.128 25 9", 3, PoolCause::Overlap),
         (ONE_CUSTOMER, "pool 10.0.1.128 24 9", 3, PoolCause::Net),
+        (ONE_CUSTOMER, "pool 0.0.0.0 0 1", 3, PoolCause::Overlap),
+        (ONE_CUSTOMER, "pool 10.0.1.17 32 1", 3, PoolCause::Overlap),
         (ONE_CUSTOMER, GM_LINE, 3, PoolCause::Order),
         (ONE_CUSTOMER, "turn 0 2 0", 3, PoolCause::Number),
         (ONE_CUSTOMER, "turn 0 17 0", 3, PoolCause::Field(3)),
@@ -173,5 +183,104 @@ fn turns(rt: HostRuntime) -> Result<(), Fail> {
         00010000007f00000000000100000000\n\
         end 9\n"
     );
+    Ok(())
+}
+
+// A Signaling to a grandmaster from the client whose identity ends so: its length and its TLV, in
+// hexadecimal digits.
+fn asked(alloc: Global, client: u8, length: &str, tlv: &str) -> Result<String, Fail> {
+    Ok(format!(in alloc; "0c1200{length}040004000000000000000000000000000a000000000000{client:02x}\
+        00010000057fffffffffffffffffffff{tlv}")?)
+}
+
+// What the grandmaster answers to that client.
+fn answered(alloc: Global, client: u8, length: &str, tlv: &str) -> Result<String, Fail> {
+    Ok(format!(in alloc; "0c1200{length}040004000000000000000000000000000a0000000000000100010000057f\
+        0a000000000000{client:02x}0001{tlv}")?)
+}
+
+// Announce messages every two seconds, which is all of a pool of 8, and every sixteen seconds.
+const ALL: &str = "00040006b0010000012c";
+const LITTLE: &str = "00040006b0040000012c";
+
+// Both granted for 300 s, the latter denied, an Announce cancelled, and that acknowledged.
+const ALL_GRANTED: &str = "00050008b0010000012c0001";
+const LITTLE_GRANTED: &str = "00050008b0040000012c0001";
+const LITTLE_DENIED: &str = "00050008b004000000000000";
+const CANCELLED: &str = "00060002b000";
+const ACKNOWLEDGED: &str = "00070002b000";
+
+// A renewal and a CANCEL in one pool while the other is at its end: what is free in the one is not
+// free in the other, until a grant of its own has ended.
+#[test]
+fn a_full_pool_beside_one_that_is_not(rt: HostRuntime) -> Result<(), Fail> {
+    let alloc = rt.alloc();
+    let mut script = String::from_str(alloc, TWO_POOLS)?;
+    let mut output = String::new(alloc);
+    for (line, at, pool, host, client, ask, answer) in [
+        (4, 0, 1, 17, 0x11, ("36", ALL), ("38", ALL_GRANTED)),
+        (5, 0, 2, 1, 0x21, ("36", ALL), ("38", ALL_GRANTED)),
+        (6, 1, 2, 2, 0x22, ("36", LITTLE), ("38", LITTLE_DENIED)),
+        (7, 100, 1, 17, 0x11, ("36", ALL), ("38", ALL_GRANTED)),
+        (8, 101, 1, 18, 0x12, ("36", LITTLE), ("38", LITTLE_DENIED)),
+        (9, 200, 1, 17, 0x11, ("32", CANCELLED), ("32", ACKNOWLEDGED)),
+        (10, 200, 1, 18, 0x12, ("36", LITTLE), ("38", LITTLE_GRANTED)),
+        (11, 200, 2, 2, 0x22, ("36", LITTLE), ("38", LITTLE_DENIED)),
+        (12, 300, 2, 2, 0x22, ("36", LITTLE), ("38", LITTLE_GRANTED)),
+    ] {
+        let came = asked(alloc, client, ask.0, ask.1)?;
+        let event = format!(in alloc; "rx {at}000000000 10.0.{pool}.{host} {came}\n")?;
+        script.push_str(event.as_str())?;
+        let sent = answered(alloc, client, answer.0, answer.1)?;
+        let told = format!(in alloc; "{line} pool {pool} send general 10.0.{pool}.{host} {sent}\n")?;
+        output.push_str(told.as_str())?;
+    }
+    output.push_str("end 12\n")?;
+    let (answer, found) = run(alloc, script.as_str(), 0, 0)?;
+    assert_eq!(rt; answer, Ok(12));
+    assert_eq!(rt; found.as_str(), output.as_str());
+    Ok(())
+}
+
+// Each address is in a pool of no bits, and one alone in a pool of 32.
+#[test]
+fn pools_of_no_bits_and_of_all(rt: HostRuntime) -> Result<(), Fail> {
+    let alloc = rt.alloc();
+    let came = asked(alloc, 0x11, "36", ALL)?;
+    let sent = answered(alloc, 0x11, "38", ALL_GRANTED)?;
+    for (pool, from, is_in) in [
+        ("0.0.0.0 0", "255.255.255.255", true),
+        ("0.0.0.0 0", "0.0.0.0", true),
+        ("128.0.0.0 1", "127.255.255.255", false),
+        ("10.0.1.17 32", "10.0.1.17", true),
+        ("10.0.1.17 32", "10.0.1.16", false),
+        ("10.0.1.17 32", "10.0.1.18", false),
+        ("255.255.255.255 32", "255.255.255.255", true),
+    ] {
+        let script = format!(in alloc; "{GM}pool {pool} 8\nrx 0 {from} {came}")?;
+        let (answer, output) = run(alloc, script.as_str(), 0, 0)?;
+        assert_eq!(rt; answer, Ok(3));
+        let wanted = match is_in {
+            true => format!(in alloc; "3 pool 1 send general {from} {sent}\nend 3\n")?,
+            false => format!(in alloc; "3 stranger\nend 3\n")?,
+        };
+        assert_eq!(rt; output.as_str(), wanted.as_str());
+    }
+    Ok(())
+}
+
+// A line of more than 8192 octets, and one of just so many.
+#[test]
+fn long_lines(rt: HostRuntime) -> Result<(), Fail> {
+    let alloc = rt.alloc();
+    let mut script = String::from_str(alloc, ONE_CUSTOMER)?;
+    script.push_str("#")?;
+    for _ in 0..8191 {
+        script.push_str(" ")?;
+    }
+    assert_eq!(rt; run(alloc, script.as_str(), 0, 0)?.0, Ok(3));
+    script.push_str(" ")?;
+    let cause = PoolCause::Long;
+    assert_eq!(rt; run(alloc, script.as_str(), 0, 0)?.0, Err(PoolRunFault::Line { number: 3, cause }));
     Ok(())
 }
