@@ -1,5 +1,6 @@
 -- What has happened to pools at a line.
-use Rattle.std.proofs.Common.{◌≡◌, ◌+◌, ◌∙◌, ◌⊎◌, All, inl, inr, ℕ, ◌<◌, ◌≤◌, Bool, true, false, eqb, List, [], ◌∷◌, ◌++◌, length, map, position, set, slice_get, Option, Some, None, refl, sym, ap, subst}
+use Rattle.std.proofs.Common.{◌≡◌, ◌+◌, ◌∙◌, ◌⊎◌, All, inl, inr, ℕ, ◌<◌, ◌≤◌, Bool, true, false, eqb, List, [], ◌∷◌, ◌++◌, length, map, position, set, slice_get, Option, Some, None, Result, Ok, Err, refl, sym, ap, subst}
+use Rattle.std.specs.Result.{OnOk}
 use Rattle.std.proofs.lemmas.Bool.{both_ways, cases_eq, eqb-true}
 use Rattle.std.proofs.lemmas.Simd.{map-map}
 use Rattle.ptu_outside.specs.Departure.{Departure}
@@ -32,6 +33,10 @@ use Rattle.ptu_pool_script.specs.Output.{line_text}
 use Rattle.ptu_pool_run.specs.Ports.{AreAllIdle, AreOthersSame, GoOn, sent_texts}
 use Rattle.ptu_pool_run.specs.Sending.{config_of, grandmaster_of, lines_by, lines_of_event, place_of, sends_at, sent_line}
 use Rattle.ptu_pool_run.specs.Standing.{AreSold, HasHappened}
+
+pub on_ok_four : {T E P Q R S U : Type 0} (r : Result T E) → (P → Q → R → S → U) → OnOk r P → OnOk r Q → OnOk r R → OnOk r S → OnOk r U
+on_ok_four (Ok x) f p q r s = f p q r s
+on_ok_four (Err e) f p q r s = tt
 
 -- ---- what one pool sends
 

@@ -1,9 +1,9 @@
 -- The ports of one pool, lent and given back.
-use Rattle.std.proofs.Common.{◌≡◌, ◌≢◌, ◌∙◌, ◌⊎◌, inl, inr, ℕ, zero, suc, ◌==◌, Bool, true, false, cond, List, [], ◌∷◌, slice_get, option_map, Option, Some, None, refl, sym, ap, subst}
-use Rattle.std.proofs.lemmas.Bool.{cases_eq}
+use Rattle.std.proofs.Common.{◌≡◌, ◌≢◌, ◌∙◌, ◌⊎◌, inl, inr, ℕ, zero, suc, ◌+◌, ◌<◌, ◌≤◌, ◌==◌, Bool, true, false, cond, length, List, [], ◌∷◌, slice_get, option_map, Option, Some, None, refl, sym, ap, subst, arith}
+use Rattle.std.proofs.lemmas.Bool.{cases_eq, ne_eqb}
 use Rattle.ptu_outside.specs.MemoryPort.{MemoryPort}
 use Rattle.ptu_shard.specs.Table.{Kept}
-use Rattle.ptu_grandmaster.specs.Gm.{KeptGm, port_at, with_port}
+use Rattle.ptu_grandmaster.specs.Gm.{KeptGm, port_at, table_at, with_port}
 use Rattle.ptu_pools.specs.Ported.{with_port_at, with_port_of}
 use Rattle.ptu_pools.specs.Standing.{KeptPools}
 use Rattle.ptu_nodes.specs.Standing.{AreIdle}
@@ -89,3 +89,54 @@ lent_is gms place index gm port at value = let same : Some (port_at index gm) �
 pub lent_there : (index : ℕ) (port : MemoryPort) (o : Option (KeptGm MemoryPort)) → option_map (port_at index) o ≡ Some port → (gm : KeptGm MemoryPort) × (o ≡ Some gm)
 lent_there index port None value = absurd cc
 lent_there index port (Some gm) value = (gm, refl)
+
+-- ---- room
+
+rows_same : (four zero one two z o t : Bool) (port : MemoryPort) (gm : KeptGm MemoryPort) →
+    (table_by z o t (with_by four zero one two port gm)).rows ≡ (table_by z o t gm).rows
+rows_same true zero one two z o t port gm = refl
+rows_same false true one two true o t port gm = refl
+rows_same false true one two false o t port gm = refl
+rows_same false false true two true o t port gm = refl
+rows_same false false true two false true t port gm = refl
+rows_same false false true two false false t port gm = refl
+rows_same false false false true true o t port gm = refl
+rows_same false false false true false true t port gm = refl
+rows_same false false false true false false true port gm = refl
+rows_same false false false true false false false port gm = refl
+rows_same false false false false true o t port gm = refl
+rows_same false false false false false true t port gm = refl
+rows_same false false false false false false true port gm = refl
+rows_same false false false false false false false port gm = refl
+
+port_same : (four zero one two : Bool) (port : MemoryPort) (gm : KeptGm MemoryPort) →
+    (let after = with_by four zero one two port gm in cond four after.reply (table_by zero one two after).port ≡ port)
+port_same true zero one two port gm = refl
+port_same false true one two port gm = refl
+port_same false false true two port gm = refl
+port_same false false false true port gm = refl
+port_same false false false false port gm = refl
+
+-- the port that was left is that of the grandmaster at the place
+pub port_left : (gms : List (KeptGm MemoryPort)) (place index : ℕ) (port : MemoryPort) (gm : KeptGm MemoryPort) →
+    slice_get (with_port_at place index port gms) place ≡ Some gm → port_at index gm ≡ port
+port_left gms place index port gm now =
+    let lent = there_ported gms place index port gm now in
+    ap (port_at index) lent.now ∙ port_same (index == 4) (index == 0) (index == 1) (index == 2) port lent.before
+
+-- where there is room for so many datagrams as a table has rows, there is room for its turn
+pub room_for_turn : (kept : KeptPools MemoryPort) (place table count : ℕ) (port : MemoryPort) (gm : KeptGm MemoryPort) → table < 4 →
+    option_map (λ (g : KeptGm MemoryPort). length (table_at table g).rows) (slice_get kept.gms place) ≡ Some count →
+    slice_get (with_port_at place table port kept.gms) place ≡ Some gm →
+    length (port_at table gm).sent + count ≤ (port_at table gm).datagrams →
+    length (table_at table gm).port.sent + length (table_at table gm).rows ≤ (table_at table gm).port.datagrams
+room_for_turn kept place table count port gm lt counted now room =
+    let lent = there_ported kept.gms place table port gm now in
+    let rows : (table_at table gm).rows ≡ (table_at table lent.before).rows =
+    ap (λ (g : KeptGm MemoryPort). (table_at table g).rows) lent.now ∙ rows_same (table == 4) (table == 0) (table == 1) (table == 2) (table == 0) (table == 1) (table == 2) port lent.before in
+    let both : Some (length (table_at table lent.before).rows) ≡ Some count =
+    ap (option_map (λ (g : KeptGm MemoryPort). length (table_at table g).rows)) (sym lent.was) ∙ counted in
+    let same : length (table_at table lent.before).rows ≡ count = cc in
+    let at : port_at table gm ≡ (table_at table gm).port = ap (λ b. cond b gm.reply (table_at table gm).port) (ne_eqb table 4 (λ e. omega (arith, e, lt))) in
+    subst (λ (p : MemoryPort). length p.sent + length (table_at table gm).rows ≤ p.datagrams) at
+    (subst (λ n. length (port_at table gm).sent + n ≤ (port_at table gm).datagrams) (sym (ap length rows ∙ same)) room)

@@ -2,5 +2,7 @@ mod Lent
 mod Telling
 mod Sold
 mod Happening
+mod Commands
 mod OutputLines
 pub mod Keeping
+mod Poured

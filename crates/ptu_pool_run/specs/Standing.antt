@@ -2,6 +2,7 @@
 use Rattle.std.specs.Prelude.{◌≡◌, ◌≤◌, ℕ, List, [], ◌∷◌, ◌++◌, length, map, All, Bool, true, false, Option, Some, None, IfSome}
 use Rattle.ptu_outside.specs.MemoryPort.{MemoryPort}
 use Rattle.ptu_admit.specs.Book.{IsCapacity}
+use Rattle.ptu_pools.specs.declared.pool.Pool.{Pool}
 use Rattle.ptu_pools.specs.Events.{PoolEvent}
 use Rattle.ptu_pools.specs.Refusal.{Share}
 use Rattle.ptu_pools.specs.Standing.{KeptPools, StandFor}
@@ -17,6 +18,11 @@ use Rattle.ptu_pool_run.specs.Ports.{AreAllIdle}
 abbrev pub has_events : List At → Bool
 has_events [] = false
 has_events (event ∷ events) = true
+
+-- the pools that were sold
+abbrev pub pools_of : Option (KeptPools MemoryPort) → List Pool
+pools_of None = []
+pools_of (Some kept) = kept.pools
 
 -- the pools of a grandmaster that is set up so, after the events
 pub record AreSold (setup : GrandmasterSetup) (kept : KeptPools MemoryPort) (events : List PoolEvent) : Type 0 where

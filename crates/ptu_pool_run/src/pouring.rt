@@ -8,7 +8,7 @@ ghost use Rattle.ptu_script.specs.Limits.{IsGrandmasterWithin};
 ghost use Rattle.ptu_pool_script.specs.Limits.{IsWithinLimits};
 ghost use Rattle.ptu_pool_run.specs.Reading.{Told, behind_pools, happened, opening, set_up, sold};
 ghost use Rattle.ptu_pool_run.specs.Reading.{step, turned};
-ghost use Rattle.ptu_pool_run.specs.Standing.{StandsFor};
+ghost use Rattle.ptu_pool_run.specs.Standing.{StandsFor, pools_of};
 
 use crate::events::{receive, turn};
 use crate::selling::sell;
@@ -86,6 +86,16 @@ impl Pouring {
         None
     }
 
+    // The pools that were sold.
+    fn sold(&self) -> &[Pool]
+        ensures { result.now ≡ pools_of self.now.pools }
+    {
+        match &self.pools {
+            None => &[],
+            Some(pools) => pools.pools(),
+        }
+    }
+
     // A pool is sold.
     fn sell(&mut self, alloc: Global, pool: Pool) -> Result<Option<PoolCause>, OutOfMemory>
         requires means { (told : Told) × StandsFor self.old told }
@@ -99,11 +109,7 @@ impl Pouring {
         if self.has_begun {
             return Ok(Some(PoolCause::Order));
         }
-        let sold = match &self.pools {
-            None => sell(alloc, setup, &[], pool)?,
-            Some(before) => sell(alloc, setup, before.pools(), pool)?,
-        };
-        match sold {
+        match sell(alloc, setup, self.sold(), pool)? {
             Ok(pools) => {
                 self.pools = Some(pools);
                 Ok(None)

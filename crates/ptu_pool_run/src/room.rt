@@ -5,6 +5,7 @@ ghost use Rattle.ptu_outside.specs.MemoryPort.{MemoryPort};
 ghost use Rattle.ptu_grandmaster.specs.Gm.{KeptGm, port_at, table_at, with_port};
 ghost use Rattle.ptu_nodes.specs.GrandmasterPorts.{in_ports};
 ghost use Rattle.ptu_nodes.specs.Standing.{AreIdle};
+ghost use Rattle.ptu_pools.specs.Ported.{with_port_of};
 ghost use Rattle.ptu_pool_run.specs.Ports.{AreAllIdle, AreOthersSame, GoOn, sent_texts};
 
 use ptu_nodes::{ANNOUNCE, DELAY_RESP, SIGNALING, SIGNALING_PORT};
@@ -28,6 +29,8 @@ fn reserve(
     requires index { index < 5 }
     ensures room { OnOk result ((gm : KeptGm MemoryPort) → slice_get pools.new.gms place ≡ Some gm →
         length (port_at index gm).sent + datagrams ≤ (port_at index gm).datagrams) }
+    ensures rest { (port : MemoryPort)
+        × (pools.new ≡ with_port_of place index port pools.old) }
     ensures go_on { GoOn pools.old pools.new }
     ensures idle { AreAllIdle pools.old → AreAllIdle pools.new }
 {
