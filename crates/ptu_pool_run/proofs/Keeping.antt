@@ -13,6 +13,7 @@ use Rattle.ptu_pools.specs.Pool.{AreApart}
 use Rattle.ptu_pools.specs.Refusal.{Share}
 use Rattle.ptu_pools.proofs.Whole.{count_whole, held_own, held_whole}
 use Rattle.ptu_pool_script.specs.declared.cause.PoolCause.{PoolCause}
+use Rattle.ptu_pool_script.specs.declared.cause.PoolCause.TheVariants.{Number}
 use Rattle.ptu_pool_script.specs.declared.command.PoolCommand.{PoolCommand}
 use Rattle.ptu_pool_script.specs.declared.command.PoolCommand.TheVariants as commands
 use Rattle.ptu_pool_script.specs.declared.output.PoolLine.{PoolLine}
@@ -67,15 +68,9 @@ module _ (pools : List Pool) (events : List At) (line : ℕ) where
       Follows (with_setup (Some setup)) (turned (with_setup (Some setup)) line t number table setup)
   turned_follows setup t number table share = by (leb number (length pools))
     where
-      by : (b : Bool) → Follows (with_setup (Some setup)) (cond b (happened (with_setup (Some setup)) line (Turned t (number - 1) table) setup) (Refuses _))
+      by : (b : Bool) → Follows (with_setup (Some setup)) (cond b (happened (with_setup (Some setup)) line (Turned t (number - 1) table) setup) (Refuses Number))
       by true = happened_follows setup (Turned t (number - 1) table) share
       by false = tt
-
-behind_follows : (told : Told) (setup : Option GrandmasterSetup) (pools : List Pool) (then_ : GrandmasterSetup → Outcome Told PoolCause) →
-    ((s : GrandmasterSetup) → setup ≡ Some s → Follows told (then_ s)) → Follows told (behind_pools setup pools then_)
-behind_follows told None pools then_ follow = tt
-behind_follows told (Some setup) [] then_ follow = tt
-behind_follows told (Some setup) (pool ∷ pools) then_ follow = follow setup refl
 
 sold_follows : (setup : GrandmasterSetup) (pools : List Pool) (pool : Pool) (o : Option PoolCause) → Share setup.capacity pools → refusal_of setup.capacity pools pool ≡ o →
     Follows (record { setup = Some setup; pools = pools; events = [] }) (sold_by (record { setup = Some setup; pools = pools; events = [] }) pool o)

@@ -1,6 +1,7 @@
 mod Lent
 mod Telling
 mod Sold
+mod Idle
 mod Happening
 mod Commands
 mod OutputLines

@@ -218,18 +218,18 @@ fn a_full_pool_beside_one_that_is_not(rt: HostRuntime) -> Result<(), Fail> {
     let mut script = String::from_str(alloc, TWO_POOLS)?;
     let mut output = String::new(alloc);
     for (line, at, pool, host, client, ask, answer) in [
-        (4, 0, 1, 17, 0x11, ("36", ALL), ("38", ALL_GRANTED)),
+        (4, 0_u64, 1, 17, 0x11, ("36", ALL), ("38", ALL_GRANTED)),
         (5, 0, 2, 1, 0x21, ("36", ALL), ("38", ALL_GRANTED)),
-        (6, 1, 2, 2, 0x22, ("36", LITTLE), ("38", LITTLE_DENIED)),
-        (7, 100, 1, 17, 0x11, ("36", ALL), ("38", ALL_GRANTED)),
-        (8, 101, 1, 18, 0x12, ("36", LITTLE), ("38", LITTLE_DENIED)),
-        (9, 200, 1, 17, 0x11, ("32", CANCELLED), ("32", ACKNOWLEDGED)),
-        (10, 200, 1, 18, 0x12, ("36", LITTLE), ("38", LITTLE_GRANTED)),
-        (11, 200, 2, 2, 0x22, ("36", LITTLE), ("38", LITTLE_DENIED)),
-        (12, 300, 2, 2, 0x22, ("36", LITTLE), ("38", LITTLE_GRANTED)),
+        (6, 1_000_000_000, 2, 2, 0x22, ("36", LITTLE), ("38", LITTLE_DENIED)),
+        (7, 100_000_000_000, 1, 17, 0x11, ("36", ALL), ("38", ALL_GRANTED)),
+        (8, 101_000_000_000, 1, 18, 0x12, ("36", LITTLE), ("38", LITTLE_DENIED)),
+        (9, 200_000_000_000, 1, 17, 0x11, ("32", CANCELLED), ("32", ACKNOWLEDGED)),
+        (10, 200_000_000_000, 1, 18, 0x12, ("36", LITTLE), ("38", LITTLE_GRANTED)),
+        (11, 200_000_000_000, 2, 2, 0x22, ("36", LITTLE), ("38", LITTLE_DENIED)),
+        (12, 300_000_000_000, 2, 2, 0x22, ("36", LITTLE), ("38", LITTLE_GRANTED)),
     ] {
         let came = asked(alloc, client, ask.0, ask.1)?;
-        let event = format!(in alloc; "rx {at}000000000 10.0.{pool}.{host} {came}\n")?;
+        let event = format!(in alloc; "rx {at} 10.0.{pool}.{host} {came}\n")?;
         script.push_str(event.as_str())?;
         let sent = answered(alloc, client, answer.0, answer.1)?;
         let told = format!(in alloc; "{line} pool {pool} send general 10.0.{pool}.{host} {sent}\n")?;
