@@ -25,7 +25,7 @@ pub sold_fresh : (setup : GrandmasterSetup) (before : List Pool) (pool : Pool) (
 sold_fresh setup before pool kept ports share capacities capacity pools_are ports_are idle stand = record {
   some = subst (λ (l : List Pool). 1 ≤ length l) (sym pools_are) (omega (arith, length-append before (pool ∷ [])));
   share = subst (Share setup.capacity) (sym pools_are) share;
-  capacities = subst (All (λ (other : Pool). IsCapacity other.capacity)) (sym pools_are) (All-push before pool capacities capacity);
+  capacities = subst (All (λ (other : Pool). IsCapacity other.capacity)) (sym pools_are) (All-push (λ (other : Pool). IsCapacity other.capacity) before pool capacities capacity);
   stand = stand;
-  idle = idle_by kept.gms (recursion_from_All (ports_of_all kept.gms) (subst (All (λ (port : MemoryPort). port.sent ≡ [])) (sym ports_are) idle));
+  idle = idle_by kept.gms (recursion_from_All IsIdle (ports_of_all kept.gms) (subst (All (λ (port : MemoryPort). port.sent ≡ [])) (sym ports_are) idle));
 }
