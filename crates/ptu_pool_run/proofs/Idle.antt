@@ -15,8 +15,8 @@ use Rattle.ptu_pool_run.specs.Standing.{AreSold}
 
 idle_by : (gms : List (KeptGm MemoryPort)) → AllByRecursion IsIdle (ports_of_all gms) → (i : ℕ) (gm : KeptGm MemoryPort) → slice_get gms i ≡ Some gm → AreIdle gm
 idle_by [] all i gm is = absurd cc
-idle_by (g ∷ gms) (e0, e1, e2, e3, e4, rest) zero gm is = let same : g ≡ gm = cc in subst AreIdle same (e0, e1, e2, e3, e4)
-idle_by (g ∷ gms) (e0, e1, e2, e3, e4, rest) (suc i) gm is = idle_by gms rest i gm is
+idle_by (g ∷ gms) (e0, (e1, (e2, (e3, (e4, rest))))) zero gm is = let same : g ≡ gm = cc in subst AreIdle same (e0, e1, e2, e3, e4)
+idle_by (g ∷ gms) (e0, (e1, (e2, (e3, (e4, rest))))) (suc i) gm is = idle_by gms rest i gm is
 
 pub sold_fresh : (setup : GrandmasterSetup) (before : List Pool) (pool : Pool) (kept : KeptPools MemoryPort) (ports : List MemoryPort) →
     Share setup.capacity (before ++ pool ∷ []) → All (λ (other : Pool). IsCapacity other.capacity) before → IsCapacity pool.capacity →

@@ -41,23 +41,23 @@ there_ported (x ∷ gms) (suc place) index port after is =
 -- ---- idle ports
 
 abbrev table_by : Bool → Bool → Bool → KeptGm MemoryPort → Kept MemoryPort
-table_by zero one two gm = cond zero gm.s0 (cond one gm.s1 (cond two gm.s2 gm.s3))
+table_by first one two gm = cond first gm.s0 (cond one gm.s1 (cond two gm.s2 gm.s3))
 
 abbrev with_by : Bool → Bool → Bool → Bool → MemoryPort → KeptGm MemoryPort → KeptGm MemoryPort
-with_by four zero one two port gm =
-    let table : Kept MemoryPort = record (table_by zero one two gm) { port = port } in
+with_by four first one two port gm =
+    let table : Kept MemoryPort = record (table_by first one two gm) { port = port } in
     cond four (record gm { reply = port })
-    (cond zero (record gm { s0 = table }) (cond one (record gm { s1 = table }) (cond two (record gm { s2 = table }) (record gm { s3 = table }))))
+    (cond first (record gm { s0 = table }) (cond one (record gm { s1 = table }) (cond two (record gm { s2 = table }) (record gm { s3 = table }))))
 
-idle_with : (four zero one two : Bool) (port : MemoryPort) (gm : KeptGm MemoryPort) → AreIdle gm → port.sent ≡ [] → AreIdle (with_by four zero one two port gm)
-idle_with true zero one two port gm (e0, e1, e2, e3, e4) none = (e0, e1, e2, e3, none)
+idle_with : (four first one two : Bool) (port : MemoryPort) (gm : KeptGm MemoryPort) → AreIdle gm → port.sent ≡ [] → AreIdle (with_by four first one two port gm)
+idle_with true first one two port gm (e0, e1, e2, e3, e4) none = (e0, e1, e2, e3, none)
 idle_with false true one two port gm (e0, e1, e2, e3, e4) none = (none, e1, e2, e3, e4)
 idle_with false false true two port gm (e0, e1, e2, e3, e4) none = (e0, none, e2, e3, e4)
 idle_with false false false true port gm (e0, e1, e2, e3, e4) none = (e0, e1, none, e3, e4)
 idle_with false false false false port gm (e0, e1, e2, e3, e4) none = (e0, e1, e2, none, e4)
 
-idle_at : (four zero one two : Bool) (gm : KeptGm MemoryPort) → AreIdle gm → (cond four gm.reply (table_by zero one two gm).port).sent ≡ []
-idle_at true zero one two gm (e0, e1, e2, e3, e4) = e4
+idle_at : (four first one two : Bool) (gm : KeptGm MemoryPort) → AreIdle gm → (cond four gm.reply (table_by first one two gm).port).sent ≡ []
+idle_at true first one two gm (e0, e1, e2, e3, e4) = e4
 idle_at false true one two gm (e0, e1, e2, e3, e4) = e0
 idle_at false false true two gm (e0, e1, e2, e3, e4) = e1
 idle_at false false false true gm (e0, e1, e2, e3, e4) = e2
@@ -92,9 +92,9 @@ lent_there index port (Some gm) value = (gm, refl)
 
 -- ---- room
 
-rows_same : (four zero one two z o t : Bool) (port : MemoryPort) (gm : KeptGm MemoryPort) →
-    (table_by z o t (with_by four zero one two port gm)).rows ≡ (table_by z o t gm).rows
-rows_same true zero one two z o t port gm = refl
+rows_same : (four first one two z o t : Bool) (port : MemoryPort) (gm : KeptGm MemoryPort) →
+    (table_by z o t (with_by four first one two port gm)).rows ≡ (table_by z o t gm).rows
+rows_same true first one two z o t port gm = refl
 rows_same false true one two true o t port gm = refl
 rows_same false true one two false o t port gm = refl
 rows_same false false true two true o t port gm = refl
@@ -109,9 +109,9 @@ rows_same false false false false false true t port gm = refl
 rows_same false false false false false false true port gm = refl
 rows_same false false false false false false false port gm = refl
 
-port_same : (four zero one two : Bool) (port : MemoryPort) (gm : KeptGm MemoryPort) →
-    (let after = with_by four zero one two port gm in cond four after.reply (table_by zero one two after).port ≡ port)
-port_same true zero one two port gm = refl
+port_same : (four first one two : Bool) (port : MemoryPort) (gm : KeptGm MemoryPort) →
+    (let after = with_by four first one two port gm in cond four after.reply (table_by first one two after).port ≡ port)
+port_same true first one two port gm = refl
 port_same false true one two port gm = refl
 port_same false false true two port gm = refl
 port_same false false false true port gm = refl

@@ -68,7 +68,9 @@ module _ (capacity : ℕ) (before : List Pool) (pool : Pool) (share : Share capa
   meeting = ap₂ (λ p l. position (λ other. meets other p) l) last (take-append_seam before (pool ∷ []))
 
   total : capacities all ≡ capacities before + pool.capacity
-  total = sum_by-append (λ p. p.capacity) before (pool ∷ [])
+  total =
+      let one : 0 + pool.capacity ≡ pool.capacity = omega arith in
+      sum_by-append (λ p. p.capacity) before (pool ∷ []) ∙ ap (λ n. capacities before + n) one
 
   abbrev refusal : Bool → Bool → Option PoolCause
   refusal met over = cond met (Some causes.Overlap) (cond over (Some causes.Over) None)

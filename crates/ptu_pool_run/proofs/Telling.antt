@@ -57,10 +57,10 @@ pub told_ports : (line number : ℕ) (g : KeptGm MemoryPort) (t0 t1 t2 t3 t4 t5 
     t4 ≡ t3 ++ sent_texts line number g.s3.port.sent → t5 ≡ t4 ++ sent_texts line number g.reply.sent →
     t5 ≡ t0 ++ sent_texts line number (in_ports g)
 told_ports line number g t0 t1 t2 t3 t4 t5 e1 e2 e3 e4 e5 =
-    told_more line number g.s0.port.sent (g.s1.port.sent ++ g.s2.port.sent ++ g.s3.port.sent ++ g.reply.sent) t0 t1 t5 e1
-    (told_more line number g.s1.port.sent (g.s2.port.sent ++ g.s3.port.sent ++ g.reply.sent) t1 t2 t5 e2
-    (told_more line number g.s2.port.sent (g.s3.port.sent ++ g.reply.sent) t2 t3 t5 e3
-    (told_more line number g.s3.port.sent g.reply.sent t3 t4 t5 e4 e5)))
+    told_more line number (g.s0.port.sent ++ g.s1.port.sent ++ g.s2.port.sent ++ g.s3.port.sent) g.reply.sent t0 t4 t5
+    (told_more line number (g.s0.port.sent ++ g.s1.port.sent ++ g.s2.port.sent) g.s3.port.sent t0 t3 t4
+    (told_more line number (g.s0.port.sent ++ g.s1.port.sent) g.s2.port.sent t0 t2 t3
+    (told_more line number g.s0.port.sent g.s1.port.sent t0 t1 t2 e1 e2) e3) e4) e5
 
 -- what a call tells of the port of this index of the grandmaster at the place, and that it clears the port
 abbrev Tells : ℕ → ℕ → ℕ → List (KeptGm MemoryPort) → List (List ℕ) → List (List ℕ) → Type 0
