@@ -43,7 +43,8 @@ fn whole_line<'a>(alloc: Global) -> Result<clap::Command<'a>, AllocError>
     let line = line.subcommand(slave)?;
     let line = line.subcommand(join)?;
     let line = with_numbered(alloc, line, "audit")?;
-    line.subcommand(pools)
+    let line = line.subcommand(pools)?;
+    Ok(line)
 }
 
 // What matches ask for.

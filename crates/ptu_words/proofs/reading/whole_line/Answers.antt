@@ -1,5 +1,4 @@
 use Rattle.std.proofs.Common.{rules, ◌≡◌, ◌∙◌, ap, ap₂, codes, true}
-use Rattle.std.proofs.lemmas.Result.{IfOk-weaker}
 use Rattle.clap.specs.Words.{App, app_of, with_subcommand}
 use Rattle.ptu_words.specs.CommandLine.{audit_line, load_line, program, with_bare}
 use Rattle.ptu_words.proofs.reading.whole_line.Goals as goal
@@ -24,4 +23,4 @@ returns c =
     let seventh : app_of c.in_ok-line-7.line
     ≡ with_subcommand (with_bare (with_bare (with_bare (with_subcommand (with_bare (with_bare program (codes "replay")) (codes "show")) load_line.top) (codes "serve")) (codes "slave")) (codes "join")) audit_line.top =
     c.in_ok-line-7.ensures ∙ ap (λ a. with_subcommand a audit_line.top) sixth in
-    IfOk-weaker c.subcommand-6.result _ _ (λ line added. added ∙ ap₂ with_subcommand seventh (ap (λ (a : App). a.top) c.new-pools.ensures.app)) (c.subcommand-6.ensures.shape c.new-pools.ensures.local)
+    c.in_ok-line-8.ensures.shape c.new-pools.ensures.local ∙ ap₂ with_subcommand seventh (ap (λ (a : App). a.top) c.new-pools.ensures.app)
