@@ -17,28 +17,20 @@ drop-at xs i x is =
     let within : i < length xs = slice_get_within xs i x is in
     rw (add-one, drop-cons xs i x) (ap (λ y. y ∷ drop (suc i) xs) (get_or_from_slice_get xs i x x is))
 
--- of these datagrams, before which so many texts stood, those so far are told: the texts, followed by those of the rest, are all
-pub record IsSoFar (line number before : ℕ) (datagrams : List Departure) (texts texts' : List (List ℕ)) : Type 0 where
-  pub begun : before ≤ length texts'
-  pub says : texts' ++ sent_texts line number (drop (length texts' - before) datagrams) ≡ texts ++ sent_texts line number datagrams
+-- of these datagrams those below the index are told: the texts, followed by those of the rest, are all
+abbrev pub AreTold : ℕ → ℕ → ℕ → List Departure → List (List ℕ) → List (List ℕ) → Type 0
+AreTold line number index datagrams texts texts' =
+    texts' ++ sent_texts line number (drop index datagrams) ≡ texts ++ sent_texts line number datagrams
 
-pub next_told : (line number before : ℕ) (datagrams : List Departure) (texts now more : List (List ℕ)) (d : Departure) →
-    IsSoFar line number before datagrams texts now → slice_get datagrams (length now - before) ≡ Some d →
-    more ≡ now ++ line_text (sent_line line number d) ∷ [] → IsSoFar line number before datagrams texts more
-next_told line number before datagrams texts now more d so_far is more_is = record {
-  begun = omega (arith, so_far.begun, many);
-  says = ap (λ n. more ++ sent_texts line number (drop n datagrams)) at
-      ∙ ap (λ l. l ++ sent_texts line number (drop (length now - before + 1) datagrams)) more_is
-      ∙ append_assoc now (line_text (sent_line line number d) ∷ []) _
-      ∙ ap (λ l. now ++ sent_texts line number l) (sym (drop-at datagrams (length now - before) d is))
-      ∙ so_far.says;
-}
-  where
-    many : length more ≡ length now + 1
-    many = ap length more_is ∙ length-append now _
-
-    at : length more - before ≡ length now - before + 1
-    at = omega (arith, so_far.begun, many)
+pub next_told : (line number index next : ℕ) (datagrams : List Departure) (texts now more : List (List ℕ)) (d : Departure) →
+    AreTold line number index datagrams texts now → slice_get datagrams index ≡ Some d → next ≡ index + 1 →
+    more ≡ now ++ line_text (sent_line line number d) ∷ [] → AreTold line number next datagrams texts more
+next_told line number index next datagrams texts now more d told is next_is more_is =
+    ap (λ n. more ++ sent_texts line number (drop n datagrams)) next_is
+    ∙ ap (λ l. l ++ sent_texts line number (drop (index + 1) datagrams)) more_is
+    ∙ append_assoc now (line_text (sent_line line number d) ∷ []) _
+    ∙ ap (λ l. now ++ sent_texts line number l) (sym (drop-at datagrams index d is))
+    ∙ told
 
 -- ---- the ports of a grandmaster, in turn
 

@@ -11,7 +11,7 @@ returns-in-Stranger c =
     stranger_came setup c.args.line events c.args.pools.now c.reserve_for.new.pools sold c.in_ok-reserve_for.ensures.go_on c.in_ok-reserve_for.ensures.idle
     c.args.at c.args.from c.args.octets.now c.take.new.self c.args.texts.now c.add.new.self took.0 took.1
     (c.in_ok-take.ensures.stands (config_of setup) events (c.in_ok-reserve_for.ensures.go_on.stand (config_of setup) events sold.stand)) says)
-    c.add.ensures
+    c.add.ensures.added
 
 pub returns-in-In : goal.returns-in-In
 returns-in-In c =
