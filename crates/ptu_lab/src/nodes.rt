@@ -16,8 +16,8 @@ ghost use Rattle.ptu_lab.specs.Standing.{StandsAs};
 
 use crate::lab::Node;
 use crate::stock::{Reserve, take_judge};
-use ptu_nodes::Tally;
 use ptu_judges::Rule;
+use ptu_nodes::Tally;
 use ptu_report::Texts;
 use ptu_report_lines::Sent;
 use ptu_script::Cause;

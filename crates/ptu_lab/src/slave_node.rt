@@ -21,10 +21,10 @@ ghost use Rattle.ptu_lab.specs.SlaveWords.{HasStepped, IsJudged, new_config, sel
 ghost use Rattle.ptu_lab.specs.SlaveWords.{selection_by};
 ghost use Rattle.ptu_nodes.specs.Doing.{HasDone};
 
-use ptu_nodes::{SIGNALING, hand_over, say};
 use crate::slave_statements::{say_heard, was_ignored, was_unsent};
 use ptu_header::PortIdentity;
 use ptu_judges::Judge;
+use ptu_nodes::{SIGNALING, hand_over, say};
 use ptu_outside::MemPort;
 use ptu_report::Texts;
 use ptu_report_lines::{Sent, Statement};

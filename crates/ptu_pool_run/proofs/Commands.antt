@@ -103,14 +103,16 @@ module _ (told : Told) (pool : Pool) (setup : GrandmasterSetup) (p : Pouring) (s
   pub sold_more : (kept : KeptPools MemoryPort) → cause ≡ None → kept.pools ≡ pools_of p.pools ++ pool ∷ [] → AreSold setup kept [] →
       IsOutcome (sold told pool told.setup told.events) (StandsFor (record p { pools = Some kept })) [] None
   sold_more kept e pools_are are_sold =
-      subst (λ o. IsOutcome o (StandsFor (record p { pools = Some kept })) [] None) (sym (outcome_is ∙ ap (sold_by told pool) e))
-      (record {
-        setup = s.setup;
-        limits = s.limits;
-        begun = s.begun;
-        sold = subst (λ o. HaveSold o (Some kept) (record told { pools = told.pools ++ pool ∷ [] })) (sym is)
-            (ap (λ l. l ++ pool ∷ []) (sold_are p told s) ∙ sym pools_are, subst (λ (l : List At). AreSold setup kept (events_of l)) (sym no_events) are_sold);
-      }, refl)
+      subst (λ o. IsOutcome o (StandsFor (record p { pools = Some kept })) [] None) (sym (outcome_is ∙ ap (sold_by told pool) e)) (
+        record {
+          setup = s.setup;
+          limits = s.limits;
+          begun = s.begun;
+          sold = subst (λ o. HaveSold o (Some kept) (record told { pools = told.pools ++ pool ∷ [] })) (sym is)
+              (ap (λ l. l ++ pool ∷ []) (sold_are p told s) ∙ sym pools_are, subst (λ (l : List At). AreSold setup kept (events_of l)) (sym no_events) are_sold);
+        },
+        refl,
+      )
 
 -- ---- an event happens
 
@@ -155,15 +157,15 @@ module _ (told : Told) (p : Pouring) (kept : KeptPools MemoryPort) (s : StandsFo
       HasHappened h.setup line (events_of told.events) event kept kept' [] texts' →
       IsOutcome (happened told line event h.setup) (StandsFor (record { setup = p.setup; pools = Some kept'; has_begun = true })) texts' None
   happened_so line event kept' texts' has = (
-      record {
-        setup = s.setup;
-        limits = s.limits;
-        begun = sym (has_more told.events (line, event));
-        sold = subst (λ o. HaveSold o (Some kept') (record told { events = told.events ++ (line, event) ∷ [] })) (sym h.is)
-            (h.pools ∙ sym has.pools, subst (AreSold h.setup kept') (sym (map-append (λ (at : At). at.1) told.events ((line, event) ∷ []))) has.sold);
-      },
-      has.says ∙ ap (λ (l : List Pool). map line_text (lines_of_event h.setup l (events_of told.events) line event)) (sym h.pools),
-    )
+    record {
+      setup = s.setup;
+      limits = s.limits;
+      begun = sym (has_more told.events (line, event));
+      sold = subst (λ o. HaveSold o (Some kept') (record told { events = told.events ++ (line, event) ∷ [] })) (sym h.is)
+          (h.pools ∙ sym has.pools, subst (AreSold h.setup kept') (sym (map-append (λ (at : At). at.1) told.events ((line, event) ∷ []))) has.sold);
+    },
+    has.says ∙ ap (λ (l : List Pool). map line_text (lines_of_event h.setup l (events_of told.events) line event)) (sym h.pools),
+  )
 
   pub came_so : (line : ℕ) (event : PoolEvent) (kept' : KeptPools MemoryPort) (texts' : List (List ℕ)) →
       HasHappened h.setup line (events_of told.events) event kept kept' [] texts' →

@@ -189,25 +189,34 @@ fn turns(rt: HostRuntime) -> Result<(), Fail> {
 // A Signaling to a grandmaster from the client whose identity ends so: its length and its TLV, in
 // hexadecimal digits.
 fn asked(alloc: Global, client: u8, length: &str, tlv: &str) -> Result<String, Fail> {
-    Ok(format!(in alloc; "0c1200{length}040004000000000000000000000000000a000000000000{client:02x}\
-        00010000057fffffffffffffffffffff{tlv}")?)
+    Ok(format!(in alloc;
+        "0c1200{length}040004000000000000000000000000000a000000000000{client:02x}\
+        00010000057fffffffffffffffffffff{tlv}"
+    )?)
 }
 
 // What the grandmaster answers to that client.
 fn answered(alloc: Global, client: u8, length: &str, tlv: &str) -> Result<String, Fail> {
-    Ok(format!(in alloc; "0c1200{length}040004000000000000000000000000000a0000000000000100010000057f\
-        0a000000000000{client:02x}0001{tlv}")?)
+    Ok(format!(in alloc;
+        "0c1200{length}040004000000000000000000000000000a0000000000000100010000057f\
+        0a000000000000{client:02x}0001{tlv}"
+    )?)
 }
 
 // Announce messages every two seconds, which is all of a pool of 8, and every sixteen seconds.
 const ALL: &str = "00040006b0010000012c";
+
 const LITTLE: &str = "00040006b0040000012c";
 
 // Both granted for 300 s, the latter denied, an Announce cancelled, and that acknowledged.
 const ALL_GRANTED: &str = "00050008b0010000012c0001";
+
 const LITTLE_GRANTED: &str = "00050008b0040000012c0001";
+
 const LITTLE_DENIED: &str = "00050008b004000000000000";
+
 const CANCELLED: &str = "00060002b000";
+
 const ACKNOWLEDGED: &str = "00070002b000";
 
 // A renewal and a CANCEL in one pool while the other is at its end: what is free in the one is not
@@ -220,19 +229,77 @@ fn a_full_pool_beside_one_that_is_not(rt: HostRuntime) -> Result<(), Fail> {
     for (line, at, pool, host, client, ask, answer) in [
         (4, 0_u64, 1, 17, 0x11, ("36", ALL), ("38", ALL_GRANTED)),
         (5, 0, 2, 1, 0x21, ("36", ALL), ("38", ALL_GRANTED)),
-        (6, 1_000_000_000, 2, 2, 0x22, ("36", LITTLE), ("38", LITTLE_DENIED)),
-        (7, 100_000_000_000, 1, 17, 0x11, ("36", ALL), ("38", ALL_GRANTED)),
-        (8, 101_000_000_000, 1, 18, 0x12, ("36", LITTLE), ("38", LITTLE_DENIED)),
-        (9, 200_000_000_000, 1, 17, 0x11, ("32", CANCELLED), ("32", ACKNOWLEDGED)),
-        (10, 200_000_000_000, 1, 18, 0x12, ("36", LITTLE), ("38", LITTLE_GRANTED)),
-        (11, 200_000_000_000, 2, 2, 0x22, ("36", LITTLE), ("38", LITTLE_DENIED)),
-        (12, 300_000_000_000, 2, 2, 0x22, ("36", LITTLE), ("38", LITTLE_GRANTED)),
+        (
+            6,
+            1_000_000_000,
+            2,
+            2,
+            0x22,
+            ("36", LITTLE),
+            ("38", LITTLE_DENIED),
+        ),
+        (
+            7,
+            100_000_000_000,
+            1,
+            17,
+            0x11,
+            ("36", ALL),
+            ("38", ALL_GRANTED),
+        ),
+        (
+            8,
+            101_000_000_000,
+            1,
+            18,
+            0x12,
+            ("36", LITTLE),
+            ("38", LITTLE_DENIED),
+        ),
+        (
+            9,
+            200_000_000_000,
+            1,
+            17,
+            0x11,
+            ("32", CANCELLED),
+            ("32", ACKNOWLEDGED),
+        ),
+        (
+            10,
+            200_000_000_000,
+            1,
+            18,
+            0x12,
+            ("36", LITTLE),
+            ("38", LITTLE_GRANTED),
+        ),
+        (
+            11,
+            200_000_000_000,
+            2,
+            2,
+            0x22,
+            ("36", LITTLE),
+            ("38", LITTLE_DENIED),
+        ),
+        (
+            12,
+            300_000_000_000,
+            2,
+            2,
+            0x22,
+            ("36", LITTLE),
+            ("38", LITTLE_GRANTED),
+        ),
     ] {
         let came = asked(alloc, client, ask.0, ask.1)?;
         let event = format!(in alloc; "rx {at} 10.0.{pool}.{host} {came}\n")?;
         script.push_str(event.as_str())?;
         let sent = answered(alloc, client, answer.0, answer.1)?;
-        let told = format!(in alloc; "{line} pool {pool} send general 10.0.{pool}.{host} {sent}\n")?;
+        let told = format!(in alloc;
+            "{line} pool {pool} send general 10.0.{pool}.{host} {sent}\n"
+        )?;
         output.push_str(told.as_str())?;
     }
     output.push_str("end 12\n")?;
@@ -281,6 +348,9 @@ fn long_lines(rt: HostRuntime) -> Result<(), Fail> {
     assert_eq!(rt; run(alloc, script.as_str(), 0, 0)?.0, Ok(3));
     script.push_str(" ")?;
     let cause = PoolCause::Long;
-    assert_eq!(rt; run(alloc, script.as_str(), 0, 0)?.0, Err(PoolRunFault::Line { number: 3, cause }));
+    assert_eq!(rt;
+        run(alloc, script.as_str(), 0, 0)?.0,
+        Err(PoolRunFault::Line { number: 3, cause })
+    );
     Ok(())
 }
