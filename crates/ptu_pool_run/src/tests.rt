@@ -23,7 +23,7 @@ fn run(
     Ok((answer, text))
 }
 
-/// Two customers of 8 sixteenths each: the first asks for 8 and then for one more, the second for 8.
+/// Two customers of 8 sixteenths each: the first asks for 8 and then for more, the second for 8.
 const TWO_CUSTOMERS: &str = "\
     gm 10.0.0.1 0a00000000000001 1 4 84 16 300\n\
     pool 10.0.1.0 24 8\n\
