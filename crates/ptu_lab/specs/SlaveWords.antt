@@ -5,7 +5,8 @@ use Rattle.ptu_judges.specs.Held.{Held}
 use Rattle.ptu_slave_messages.specs.Node.{Deed}
 use Rattle.ptu_world.specs.Deeds.{Slave}
 use Rattle.ptu_world.specs.Slaves.{entered}
-use Rattle.ptu_lab.specs.NodeStanding.{IsIdle, IsSlaveNode}
+use Rattle.ptu_lab.specs.NodeStanding.{IsSlaveNode}
+use Rattle.ptu_nodes.specs.Standing.{IsIdle}
 use Rattle.ptu_record.specs.Record.{Record, event_moment}
 use Rattle.ptu_record.specs.Selection.{selected_master}
 use Rattle.ptu_slave_messages.specs.declared.config.SlaveConfig.{SlaveConfig}
