@@ -1,8 +1,9 @@
 //! Worked rows, whose octets, moments and answers were made out by hand.
-ghost use Rattle.std.specs.Prelude.{◌≤◌, IfOk, None, false};
+ghost use Rattle.std.specs.Prelude.{◌≡◌, ◌≤◌, IfOk, None, false};
 ghost use Rattle.ptu_record.specs.Marks.{fresh_marks};
 ghost use Rattle.ptu_slave_messages.specs.Config.{IsWithinLimits};
 ghost use Rattle.ptu_slave.specs.Kept.{IsSame};
+ghost use Rattle.ptu_slave.specs.Seen.{seen};
 
 use super::*;
 use ptu_header::PortIdentity;
@@ -86,14 +87,15 @@ fn datagram(alloc: Global, text: &str, changes: &[(usize, u8)]) -> Result<Vec<u8
 }
 
 // Plays a row at a moment.
-fn play(
+pub(crate) fn play(
     rt: &impl Abort,
     alloc: Global,
     slave: &mut Slave<MemPort>,
     nanos: u64,
     row: Row,
 ) -> Result<(), Fail>
-    ensures { IsSame slave.old.core slave.new.core }
+    ensures { IsSame (seen ⟦<dyn Judge as Judge>⟧ slave.old).kept
+        (seen ⟦<dyn Judge as Judge>⟧ slave.new).kept }
 {
     let at = Moment::of(nanos).ok_or("below 2^62")?;
     let (master, octets) = match row {
@@ -290,6 +292,12 @@ impl Drop for Own {
 
 impl Judge for Own {
     ghost held = { λ _. record { rule = None; marks = fresh_marks; flag = false } };
+
+    ghost hears = { λ old t seq new. new ≡ old };
+
+    ghost is_told = { λ old t unusable new. new ≡ old };
+
+    ghost finds = { λ old t unusable new. new ≡ old };
 
     fn rule(&self) -> Option<Rule> {
         None
