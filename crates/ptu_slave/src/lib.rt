@@ -8,12 +8,14 @@ mod events;
 mod judging;
 pub mod laws;
 mod node;
+mod porting;
 mod slave;
 mod ticked;
 mod ticks;
 
 pub use counters::Counters;
 pub use node::Core;
+pub use porting::HasPort;
 pub use ptu_slave_messages::{
     Heard, HeardReply, Master, Signal, SignalList, SlaveConfig, SlaveReason,
 };
@@ -22,6 +24,8 @@ pub use ticked::Ticked;
 
 #[cfg(test)]
 mod calls_tests;
+#[cfg(test)]
+mod cut_tests;
 #[cfg(test)]
 mod pair_tests;
 #[cfg(test)]

@@ -1,10 +1,12 @@
 //! Two masters of one slave, whose octets, moments and answers were made out by hand.
-ghost use Rattle.std.specs.Prelude.{◌≡◌, ◌+◌, All, OnOk, length};
+ghost use Rattle.std.specs.Prelude.{◌≡◌, ◌+◌, [], All, OnOk, length};
 ghost use Rattle.ptu_judges.specs.Held.{IsFresh};
+ghost use Rattle.ptu_slave.specs.Seen.{seen};
 
 use super::*;
 use crate::tests::{FIRST, Row, SECOND, config, play_all, quiet_port};
 use ptu_judges::{FlagJudge, Judge};
+use ptu_outside::MemPort;
 use std::alloc::Global;
 use std::process::Abort;
 use std::test::Fail;
@@ -39,7 +41,19 @@ fn play_pair(rt: &impl Abort, alloc: Global, rows: &[(u64, Row)]) -> Result<(), 
     let config = config(4, 4, false, 60)?;
     let mut slave = Slave::new(alloc, config, masters, judges, quiet_port(alloc))?;
     play_all(rt, alloc, &mut slave, rows)?;
+    clear_port(&mut slave);
+    assert_eq!(rt; slave.into_port().sent(0), None);
     Ok(())
+}
+
+// Empties the list of what a slave sent, and nothing else of it.
+#[tactic(auto, unfolding(crate::specs::Seen::seen_by))]
+fn clear_port(slave: &mut Slave<MemPort>)
+    ensures { seen ⟦<dyn Judge as Judge>⟧ slave.new
+        ≡ record (seen ⟦<dyn Judge as Judge>⟧ slave.old)
+        { port = record (seen ⟦<dyn Judge as Judge>⟧ slave.old).port { sent = [] } } }
+{
+    slave.port().clear();
 }
 
 #[test]

@@ -25,6 +25,7 @@ use crate::events::{
 };
 use crate::judging::judge_all;
 use crate::node::Core;
+use crate::porting::HasPort;
 use crate::ticked::Ticked;
 use crate::ticks::{end_all, tick_all};
 use ptu_judges::Judge;
@@ -340,6 +341,16 @@ impl<P: Port> Slave<P> {
     {
         let Slave { port, .. } = self;
         port
+    }
+}
+
+impl<P: Port> HasPort<P> for Slave<P> {
+    ghost port_of = { λ s. s.port };
+
+    ghost with_port = { λ s p. record s { port = p } };
+
+    fn port(&mut self) -> &mut P {
+        &mut self.port
     }
 }
 

@@ -24,13 +24,13 @@ pub(crate) const FIRST: u32 = 0x0a00_0001;
 
 // An Announce and a Sync of port 1 of the clock 0a00000000000001, and a Delay_Resp to port 1 of the
 // clock 0a00000000000021.
-const ANNOUNCE: &str = "0b120040040004000000000000000000000000000a0000000000000100010000057f\
+pub(crate) const ANNOUNCE: &str = "0b120040040004000000000000000000000000000a0000000000000100010000057f\
      00000000000000000000000000805400ffff800a000000000000010000a0";
 
-const SYNC: &str = "0012002c040004000000000000000000000000000a0000000000000100010000007f\
+pub(crate) const SYNC: &str = "0012002c040004000000000000000000000000000a0000000000000100010000007f\
      00000000000000000000";
 
-const DELAY_RESP: &str = "09120036040004000000000000000000000000000a0000000000000100010000037f\
+pub(crate) const DELAY_RESP: &str = "09120036040004000000000000000000000000000a0000000000000100010000037f\
      000000000000000000000a000000000000210001";
 
 // The slave 0a00000000000021 that requests Announce and Sync at these logarithms, and Delay_Resp at
@@ -356,4 +356,41 @@ fn judges_are_asked_and_replaced(rt: HostRuntime) -> Result<(), Fail> {
             (4 * SECOND, Row::Selects(Some(0))),
         ],
     )
+}
+
+// A judge of gaps finds one, and then none; the operator's takes over, and the master stays.
+#[test]
+fn a_judge_of_gaps_is_replaced(rt: HostRuntime) -> Result<(), Fail> {
+    let alloc = rt.alloc();
+    let masters = vec![in alloc;
+        Master {
+            ip: FIRST,
+            priority: 1
+        },
+    ]?;
+    let mut judges: Vec<Box<dyn Judge>> = Vec::new(alloc);
+    judges.push(Box::new(alloc, GapJudge::new(4))?)?;
+    let config = config(4, 4, false, 0)?;
+    let mut slave = Slave::new(alloc, config, masters, judges, quiet_port(alloc))?;
+    play_all(
+        &rt,
+        alloc,
+        &mut slave,
+        &[
+            (0, Row::Announce(1, 84)),
+            (0, Row::Sync(1, 0)),
+            (0, Row::Selects(Some(0))),
+            (SECOND, Row::Sync(1, 5)),
+            (SECOND, Row::Selects(None)),
+            (2 * SECOND, Row::Sync(1, 3)),
+            (2 * SECOND, Row::Selects(Some(0))),
+        ],
+    )?;
+    let flag: Box<dyn Judge> = Box::new(alloc, FlagJudge::new())?;
+    let at = Moment::of(2 * SECOND).ok_or("below 2^62")?;
+    slave.set_judge(at, 0, flag);
+    play(&rt, alloc, &mut slave, 2 * SECOND, Row::Selects(Some(0)))?;
+    // A gap is nothing to it.
+    play(&rt, alloc, &mut slave, 3 * SECOND, Row::Sync(1, 99))?;
+    play(&rt, alloc, &mut slave, 3 * SECOND, Row::Selects(Some(0)))
 }

@@ -1,0 +1,17 @@
+ghost use Rattle.std.specs.Borrow.{Lends, sem};
+ghost use Rattle.std.specs.Prelude.{◌≡◌};
+
+/// What has a port. A clause names the type of what is lent from, boxed judges and all, only in a
+/// trait, so the loan stands in one.
+pub trait HasPort<P> {
+    /// The port.
+    ghost port_of: { Self → P };
+
+    /// The same with another port.
+    ghost with_port: { Self → P → Self };
+
+    /// The port. All else is as before once the loan ends.
+    fn port(&mut self) -> &mut P
+        ensures* lends { sem 𝓛 (Lends Self.row P.row self.entry result (with_port self.old)) }
+        ensures value { result.now ≡ port_of self.old };
+}
