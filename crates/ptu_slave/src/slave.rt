@@ -75,6 +75,7 @@ impl<P: Port> Slave<P> {
             (seen ⟦<dyn Judge as Judge>⟧ s).kept.masters ≡ masters.items) }
         ensures judges { IfOk result (λ s.
             (seen ⟦<dyn Judge as Judge>⟧ s).judges ≡ map (λ j. held j) judges.items) }
+        ensures boxes { IfOk result (λ s. (seen ⟦<dyn Judge as Judge>⟧ s).boxes ≡ judges.items) }
         ensures port { IfOk result (λ s. (seen ⟦<dyn Judge as Judge>⟧ s).port ≡ port) }
         ensures stands { IfOk result (λ s. StandsFor (map (λ j. (held j).rule) judges.items)
             (seen ⟦<dyn Judge as Judge>⟧ s).kept (seen ⟦<dyn Judge as Judge>⟧ s).judges []) }
@@ -110,6 +111,9 @@ impl<P: Port> Slave<P> {
         ensures judges { IfOk result (λ s.
             (seen ⟦<dyn Judge as Judge>⟧ s).judges ≡ (seen ⟦<dyn Judge as Judge>⟧ self).judges
             ++ held judge ∷ []) }
+        ensures boxes { IfOk result (λ s.
+            (seen ⟦<dyn Judge as Judge>⟧ s).boxes ≡ (seen ⟦<dyn Judge as Judge>⟧ self).boxes
+            ++ judge ∷ []) }
         ensures port { IfOk result (λ s.
             (seen ⟦<dyn Judge as Judge>⟧ s).port ≡ (seen ⟦<dyn Judge as Judge>⟧ self).port) }
         ensures stands { IfOk result (λ s. let new = seen ⟦<dyn Judge as Judge>⟧ s in
