@@ -1,8 +1,6 @@
 //! Datagrams that are cut: no front of one is heard.
 use super::*;
-use crate::tests::{
-    ANNOUNCE, DELAY_RESP, FIRST, Row, SECOND, SYNC, config, play, quiet_port,
-};
+use crate::tests::{ANNOUNCE, DELAY_RESP, FIRST, Row, SECOND, SYNC, config, play, quiet_port};
 use ptu_header::HeaderFault;
 use ptu_judges::{FlagJudge, Judge};
 use ptu_messages::MessageFault;
