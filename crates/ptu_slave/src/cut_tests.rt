@@ -67,6 +67,30 @@ fn take_whole(
     Ok(())
 }
 
+// Hands a slave the fronts of all of them, at a moment at which its master would be lost, between
+// what it hears at earlier ones.
+fn play_cut(rt: &impl Abort, alloc: Global, slave: &mut Slave<MemPort>) -> Result<(), Fail> {
+    play(rt, alloc, slave, 0, Row::Announce(1, 84))?;
+    play(rt, alloc, slave, 0, Row::Sync(1, 0))?;
+    let late = Moment::of(60 * SECOND).ok_or("below 2^62")?;
+    for text in HEARD {
+        let octets = hex::decode(alloc, text)?;
+        take_fronts(rt, alloc, slave, late, &octets)?;
+    }
+    let at = Moment::of(SECOND).ok_or("below 2^62")?;
+    let ticked = slave.tick(at);
+    assert_eq!(rt;
+        ticked,
+        Ticked {
+            at,
+            sent: 1,
+            failed: 0
+        }
+    );
+    assert_eq!(rt; slave.selected(at), Some(0));
+    take_whole(rt, alloc, slave, at)
+}
+
 // Each front is ignored with its fault; the moment, the selection and the port are as they were.
 #[test]
 fn a_cut_datagram_is_ignored(rt: HostRuntime) -> Result<(), Fail> {
@@ -82,26 +106,7 @@ fn a_cut_datagram_is_ignored(rt: HostRuntime) -> Result<(), Fail> {
     let mut judges: Vec<Box<dyn Judge>> = Vec::new(alloc);
     judges.push(Box::new(alloc, FlagJudge::new())?)?;
     let mut slave = Slave::new(alloc, config(4, 4, false, 0)?, masters, judges, port)?;
-    play(&rt, alloc, &mut slave, 0, Row::Announce(1, 84))?;
-    play(&rt, alloc, &mut slave, 0, Row::Sync(1, 0))?;
-    // At this moment the master would be lost.
-    let late = Moment::of(60 * SECOND).ok_or("below 2^62")?;
-    for text in HEARD {
-        let octets = hex::decode(alloc, text)?;
-        take_fronts(&rt, alloc, &mut slave, late, &octets)?;
-    }
-    let at = Moment::of(SECOND).ok_or("below 2^62")?;
-    let ticked = slave.tick(at);
-    assert_eq!(rt;
-        ticked,
-        Ticked {
-            at,
-            sent: 1,
-            failed: 0
-        }
-    );
-    assert_eq!(rt; slave.selected(at), Some(0));
-    take_whole(&rt, alloc, &mut slave, at)?;
+    play_cut(&rt, alloc, &mut slave)?;
     let port = slave.into_port();
     // The tick's requests, and the reply to the CANCEL.
     assert!(rt; port.sent(1).is_some());
