@@ -2,7 +2,7 @@
 ghost use Rattle.std.specs.Prelude.{◌≡◌};
 ghost use Rattle.ptu_judges.specs.Held.{flag_held};
 
-use super::tests::{FIRST, Row, SECOND, config, play, quiet_port};
+use super::tests::{FIRST, Row, SECOND, config, one_judge, play, quiet_port};
 use super::*;
 use ptu_judges::Judge;
 use ptu_record::Rule;
@@ -89,8 +89,7 @@ fn a_judge_is_called_once_for_each_event(rt: HostRuntime) -> Result<(), Fail> {
         unusable: false,
         calls: calls.clone()?,
     };
-    let mut judges: Vec<Box<dyn Judge>> = Vec::new(alloc);
-    judges.push(Box::new(alloc, listing)?)?;
+    let judges = one_judge(alloc, Box::new(alloc, listing)?)?;
     let config = config(4, 4, false, 0)?;
     let mut slave = Slave::new(alloc, config, masters, judges, quiet_port(alloc))?;
     play(&rt, alloc, &mut slave, 0, Row::Announce(1, 84))?;

@@ -1,8 +1,10 @@
 //! Datagrams that are cut: no front of one is heard.
 use super::*;
-use crate::tests::{ANNOUNCE, DELAY_RESP, FIRST, Row, SECOND, SYNC, config, play, quiet_port};
+use crate::tests::{
+    ANNOUNCE, DELAY_RESP, FIRST, Row, SECOND, SYNC, config, one_judge, play, quiet_port,
+};
 use ptu_header::HeaderFault;
-use ptu_judges::{FlagJudge, Judge};
+use ptu_judges::FlagJudge;
 use ptu_messages::MessageFault;
 use ptu_outside::MemPort;
 use ptu_units::Moment;
@@ -103,8 +105,7 @@ fn a_cut_datagram_is_ignored(rt: HostRuntime) -> Result<(), Fail> {
     ]?;
     let mut port = quiet_port(alloc);
     port.reserve(2, 2 * 64)?;
-    let mut judges: Vec<Box<dyn Judge>> = Vec::new(alloc);
-    judges.push(Box::new(alloc, FlagJudge::new())?)?;
+    let judges = one_judge(alloc, Box::new(alloc, FlagJudge::new())?)?;
     let mut slave = Slave::new(alloc, config(4, 4, false, 0)?, masters, judges, port)?;
     play_cut(&rt, alloc, &mut slave)?;
     let port = slave.into_port();

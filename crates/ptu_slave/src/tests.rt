@@ -1,5 +1,6 @@
 //! Worked rows, whose octets, moments and answers were made out by hand.
-ghost use Rattle.std.specs.Prelude.{◌≡◌, ◌≤◌, IfOk, None, false};
+ghost use Rattle.std.specs.Prelude.{◌≡◌, ◌≤◌, All, IfOk, None, false, length};
+ghost use Rattle.ptu_judges.specs.Held.{IsFresh};
 ghost use Rattle.ptu_record.specs.Marks.{fresh_marks};
 ghost use Rattle.ptu_slave_messages.specs.Config.{IsWithinLimits};
 ghost use Rattle.ptu_slave.specs.Kept.{IsSame};
@@ -127,8 +128,7 @@ fn asks_without_an_answer(rt: HostRuntime) -> Result<(), Fail> {
             priority: 1
         },
     ]?;
-    let mut judges: Vec<Box<dyn Judge>> = Vec::new(alloc);
-    judges.push(Box::new(alloc, FlagJudge::new())?)?;
+    let judges = one_judge(alloc, Box::new(alloc, FlagJudge::new())?)?;
     let mut slave = Slave::new(alloc, config(1, 0, false, 300)?, masters, judges, port)?;
     // The moment of each tick, and how many datagrams it sends.
     let ticks = [
@@ -184,6 +184,17 @@ pub(crate) fn quiet_port(alloc: Global) -> MemPort {
     MemPort::new(alloc, Vec::new(alloc), Vec::new(alloc), Vec::new(alloc))
 }
 
+// The judges of one master.
+pub(crate) fn one_judge(alloc: Global, judge: Box<dyn Judge>) -> Result<Vec<Box<dyn Judge>>, Fail>
+    requires { IsFresh (held judge) }
+    ensures fresh { IfOk result (λ judges. All (λ j. IsFresh (held j)) judges.items) }
+    ensures one { IfOk result (λ judges. length judges.items ≡ 1) }
+{
+    let mut judges: Vec<Box<dyn Judge>> = Vec::new(alloc);
+    judges.push(judge)?;
+    Ok(judges)
+}
+
 #[test]
 fn a_master_is_lost_and_restored(rt: HostRuntime) -> Result<(), Fail> {
     let alloc = rt.alloc();
@@ -193,8 +204,7 @@ fn a_master_is_lost_and_restored(rt: HostRuntime) -> Result<(), Fail> {
             priority: 1
         },
     ]?;
-    let mut judges: Vec<Box<dyn Judge>> = Vec::new(alloc);
-    judges.push(Box::new(alloc, FlagJudge::new())?)?;
+    let judges = one_judge(alloc, Box::new(alloc, FlagJudge::new())?)?;
     let config = config(4, 4, false, 60)?;
     let mut slave = Slave::new(alloc, config, masters, judges, quiet_port(alloc))?;
     play_all(
@@ -234,8 +244,7 @@ fn delay_resps_are_lost_and_restored(rt: HostRuntime) -> Result<(), Fail> {
             priority: 1
         },
     ]?;
-    let mut judges: Vec<Box<dyn Judge>> = Vec::new(alloc);
-    judges.push(Box::new(alloc, FlagJudge::new())?)?;
+    let judges = one_judge(alloc, Box::new(alloc, FlagJudge::new())?)?;
     let config = config(4, 4, true, 60)?;
     let mut slave = Slave::new(alloc, config, masters, judges, quiet_port(alloc))?;
     play_all(
@@ -329,8 +338,7 @@ fn judges_are_asked_and_replaced(rt: HostRuntime) -> Result<(), Fail> {
     let own = Own {
         dropped: dropped.clone()?,
     };
-    let mut judges: Vec<Box<dyn Judge>> = Vec::new(alloc);
-    judges.push(Box::new(alloc, own)?)?;
+    let judges = one_judge(alloc, Box::new(alloc, own)?)?;
     let config = config(4, 4, false, 0)?;
     let mut slave = Slave::new(alloc, config, masters, judges, quiet_port(alloc))?;
     play(&rt, alloc, &mut slave, 0, Row::Announce(1, 84))?;
@@ -370,8 +378,7 @@ fn a_judge_of_gaps_is_replaced(rt: HostRuntime) -> Result<(), Fail> {
     ]?;
     let at = Moment::of(2 * SECOND).ok_or("below 2^62")?;
     let flag: Box<dyn Judge> = Box::new(alloc, FlagJudge::new())?;
-    let mut judges: Vec<Box<dyn Judge>> = Vec::new(alloc);
-    judges.push(Box::new(alloc, GapJudge::new(4))?)?;
+    let judges = one_judge(alloc, Box::new(alloc, GapJudge::new(4))?)?;
     let config = config(4, 4, false, 0)?;
     let mut slave = Slave::new(alloc, config, masters, judges, quiet_port(alloc))?;
     let gap = [
