@@ -15,3 +15,4 @@ pub mod LabStock
 pub mod LabMasters
 pub mod LabReplaying
 pub mod KeepingHeadline
+mod Room
