@@ -4,7 +4,7 @@ use Rattle.std.specs.Prelude.{if◌then◌else◌}
 use Rattle.std.proofs.lemmas.Bool.Decides.{eqb_tells}
 use Rattle.ptu_config.specs.Refusals.{gm_refusal, slave_refusal}
 use Rattle.ptu_words.specs.declared.command.Command.{Command}
-use Rattle.ptu_words.specs.declared.command.Command.TheVariants.{Replay, Show, Load, Serve, Slave, Join, Audit}
+use Rattle.ptu_words.specs.declared.command.Command.TheVariants.{Replay, Show, Load, Serve, Slave, Join, Audit, Pools}
 use Rattle.ptu_world.specs.World.{Stock}
 use Rattle.ptpuni.specs.Run.{IsAccepted, IsOfLab, IsWholeStatus, status_of}
 
@@ -40,6 +40,8 @@ completed stock Show input status accepted lab served followed audited source si
     by_output status (λ memory. lab tt memory ∙ ap (λ b. if b then 0 else 65) accepted)
 completed stock (Load number) input status accepted lab served followed audited source sink host = by_output status (λ memory. lab tt memory)
 completed stock Join input status accepted lab served followed audited source sink host =
+    by_output status (λ memory. lab tt memory ∙ ap (λ b. if b then 0 else 65) accepted)
+completed stock Pools input status accepted lab served followed audited source sink host =
     by_output status (λ memory. lab tt memory ∙ ap (λ b. if b then 0 else 65) accepted)
 completed stock Serve input status accepted lab served followed audited source sink host = faultless status source sink host (served refl accepted)
 completed stock Slave input status accepted lab served followed audited source sink host = faultless status source sink host (followed refl accepted)

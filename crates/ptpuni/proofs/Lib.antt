@@ -2,5 +2,5 @@ pub mod Answered
 pub mod Audited
 pub mod Completed
 pub mod DaemonRuns
-pub mod Joined
+pub mod Ended
 pub mod Loaded

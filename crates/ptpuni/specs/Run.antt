@@ -17,6 +17,10 @@ use Rattle.ptu_show.specs.declared.fault.LabFault.TheVariants.{Line, Read, Write
 use Rattle.ptu_lab.specs.Load.{summary}
 use Rattle.ptu_show.specs.declared.join_fault.JoinFault.{JoinFault}
 use Rattle.ptu_show.specs.Joined.{join_ending, join_rules, joined_ending, joined_lines}
+use Rattle.ptu_pool_run.specs.declared.fault.PoolRunFault.{PoolRunFault}
+use Rattle.ptu_pool_run.specs.Answers.{run_ending}
+use Rattle.ptu_pool_run.specs.Poured.{end_of, poured_texts}
+use Rattle.ptu_pool_run.specs.Reading as pools
 use Rattle.ptu_show.specs.Shown.{show_rules, shown_ending, shown_lines}
 use Rattle.ptu_report.specs.Rules.{ending_of, texts_of}
 use Rattle.ptu_lines.specs.Script.{script_lines}
@@ -28,7 +32,7 @@ use Rattle.ptu_audit.specs.Audited.{AnswerIsWritten, IsAnswer, IsKept}
 use Rattle.ptu_audit.specs.Reading.{audit_rules, opening}
 use Rattle.ptu_config.specs.Refusals.{gm_refusal, slave_refusal}
 use Rattle.ptu_words.specs.declared.command.Command.{Command}
-use Rattle.ptu_words.specs.declared.command.Command.TheVariants.{Replay, Show, Load, Serve, Slave, Join, Audit}
+use Rattle.ptu_words.specs.declared.command.Command.TheVariants.{Replay, Show, Load, Serve, Slave, Join, Audit, Pools}
 
 -- the statuses that there are
 abbrev pub statuses : List ℕ
@@ -43,6 +47,7 @@ IsOfLab Serve = ⊥
 IsOfLab Slave = ⊥
 IsOfLab Join = Unit {0}
 IsOfLab (Audit capacity) = ⊥
+IsOfLab Pools = Unit {0}
 
 -- the status of what a program of the lab answers
 abbrev pub status_of_answer : {A : Type 0} → Result A LabFault → ℕ
@@ -63,6 +68,10 @@ status_of_ending (Err stops.OutOfMemory) = 71
 -- the status of what `join` answers
 abbrev pub status_of_joined : Result ℕ JoinFault → ℕ
 status_of_joined answer = status_of_ending (join_ending answer)
+
+-- the status of what `pools` answers
+abbrev pub status_of_poured : Result ℕ PoolRunFault → ℕ
+status_of_poured answer = status_of_ending (run_ending answer)
 
 -- the status of what an audit answers: 70 where a promise was not kept
 abbrev pub status_of_audit : Result Answer AuditFault → ℕ
@@ -86,6 +95,7 @@ output_of stock Serve input = []
 output_of stock Slave input = []
 output_of stock Join input = joined_lines input
 output_of stock (Audit capacity) input = []
+output_of stock Pools input = poured_texts input
 
 -- ---- the status of a whole output
 
@@ -109,6 +119,7 @@ ends_whole stock Serve input = true
 ends_whole stock Slave input = true
 ends_whole stock Join input = is_whole (joined_ending input)
 ends_whole stock (Audit capacity) input = true
+ends_whole stock Pools input = is_whole (end_of input)
 
 -- no line of the input is refused, and neither are settings
 abbrev pub IsAccepted : Stock → Command → List ℕ → Type 0
@@ -120,6 +131,7 @@ IsAccepted stock Slave input = slave_refusal stock.flags stock.gaps input ≡ No
 IsAccepted stock Join input = ends_whole stock Join input ≡ true
 IsAccepted stock (Audit capacity) input =
     (lines : ℕ) × (ending_of audit_rules (opening capacity) (script_lines input) ≡ Whole lines)
+IsAccepted stock Pools input = ends_whole stock Pools input ≡ true
 
 -- the statuses that a command ends with of which nothing failed and nothing is refused
 abbrev pub IsWholeStatus : Command → ℕ → Type 0
@@ -130,6 +142,7 @@ IsWholeStatus Serve status = status ≡ 0
 IsWholeStatus Slave status = status ≡ 0
 IsWholeStatus Join status = status ≡ 0
 IsWholeStatus (Audit capacity) status = (status ≡ 0) ⊎ (status ≡ 70)
+IsWholeStatus Pools status = status ≡ 0
 
 -- the command reads the source to its end
 abbrev pub reads : Command → Bool
@@ -140,6 +153,7 @@ reads Serve = true
 reads Slave = true
 reads Join = true
 reads (Audit capacity) = true
+reads Pools = true
 
 -- 0 where the last line of the output is `end`, or the output is that of a load, else 65
 abbrev pub status_of : Stock → Command → List ℕ → ℕ
@@ -170,6 +184,7 @@ module _ {K : Type 0} (written : K → Option (List ℕ)) (handed : K → Option
   HasReadAll Slave left left' = ⊥
   HasReadAll Join left left' = HasReportedAllRead written handed old new join_rules [] left left'
   HasReadAll (Audit capacity) left left' = ⊥
+  HasReadAll Pools left left' = HasReportedAllRead written handed old new pools.rules pools.opening left left'
 
 module _ {K : Type 0} (written : K → Option (List ℕ)) (handed : K → Option (List (List ℕ))) (old new : K) where
   -- a load of so many clients wrote its one line and read nothing, or it stopped before that line was whole: the sink failed,

@@ -7,6 +7,7 @@ ghost use Rattle.ptu_outside.specs.Faults.{HasRisen};
 ghost use Rattle.ptu_outside.specs.Handing.{HasPut, HasPutPart};
 ghost use Rattle.ptu_judges.specs.Held.{IsStock};
 ghost use Rattle.ptu_lab.specs.Headline.{KeepsHeadline};
+ghost use Rattle.ptu_pool_run.specs.Promises.{KeepsPools};
 ghost use Rattle.ptu_words.specs.CommandLine.{command_of, IsInRange, IsRefused};
 ghost use Rattle.ptu_words.specs.declared.command.Command.{Command};
 ghost use Rattle.ptu_world.specs.Report.{report_lines};
@@ -17,11 +18,12 @@ ghost use Rattle.ptpuni.specs.Run.{output_of, statuses, stock_of, HasAudited, Ha
 use crate::daemons::{run_serve, run_slave};
 use crate::status::{
     BAD_LINE, HOST_FAULT, OUT_OF_MEMORY, SINK_FAULT, SOURCE_FAULT, USAGE, audit_status,
-    join_status, status_of,
+    join_status, pools_status, status_of,
 };
 use ptu_audit::audit;
 use ptu_lab::{Stock, load, replay, show};
 use ptu_outside::{Host, Sink, Source};
+use ptu_pool_run::pools;
 use ptu_show::join;
 use ptu_words::{Command, read_words};
 use std::alloc::Global;
@@ -94,6 +96,7 @@ fn run_command<W: Threads + Wait + Sync, S: Source, K: Sink, H: Host>(
         Command::Slave => run_slave(alloc, source, sink, host, stock),
         Command::Join => join_status(join(alloc, source, sink)),
         Command::Audit(capacity) => audit_status(audit(alloc, capacity, source, sink)),
+        Command::Pools => pools_status(pools(alloc, source, sink)),
     }
 }
 
@@ -155,6 +158,10 @@ pub fn run<W: AllocGlobal + Threads + Wait + Sync, S: Source, K: Sink, H: Host>(
         → (script : List ℕ) → S.left source.old ≡ Some script
         → IsStatusOf (report_lines (stock_of stock.flags.items stock.gaps.items) script)
         (S.left source.new) result }
+
+    // The word `pools`: each pool of the script is sent what its own events come to, whatever the
+    // others do, and all are within the capacity that they share.
+    ensures pools { (script : List ℕ) → S.left source.old ≡ Some script → KeepsPools script }
 
     // The word `serve`: the settings that the source has left are refused by one line, or a
     // grandmaster of these is served over the host, whatever its ports do, and its line written.

@@ -2,10 +2,11 @@
 
 ghost use Rattle.std.specs.Prelude.{◌≡◌};
 ghost use Rattle.ptpuni.specs.Daemons.{status_of_daemon};
-ghost use Rattle.ptpuni.specs.Run.{status_of_answer, status_of_audit, status_of_joined};
+ghost use Rattle.ptpuni.specs.Run.{status_of_answer, status_of_audit, status_of_joined, status_of_poured};
 
 use ptu_audit::{Answer, AuditFault};
 use ptu_lab::LabFault;
+use ptu_pool_run::PoolRunFault;
 use ptu_rounds::DaemonFault;
 use ptu_show::JoinFault;
 
@@ -53,6 +54,19 @@ pub(crate) fn join_status(answer: Result<u64, JoinFault>) -> u8
         Err(JoinFault::Read) => SOURCE_FAULT,
         Err(JoinFault::Write) => SINK_FAULT,
         Err(JoinFault::OutOfMemory) => OUT_OF_MEMORY,
+    }
+}
+
+/// The status of an answer of `pools`.
+pub(crate) fn pools_status(answer: Result<u64, PoolRunFault>) -> u8
+    ensures { result ≡ status_of_poured answer }
+{
+    match answer {
+        Ok(_) => 0,
+        Err(PoolRunFault::Line { .. }) => BAD_LINE,
+        Err(PoolRunFault::Read) => SOURCE_FAULT,
+        Err(PoolRunFault::Write) => SINK_FAULT,
+        Err(PoolRunFault::OutOfMemory) => OUT_OF_MEMORY,
     }
 }
 

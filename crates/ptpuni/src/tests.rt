@@ -290,3 +290,31 @@ fn a_report_is_audited(rt: HostRuntime) -> Result<(), Fail> {
     }
     Ok(())
 }
+
+#[test]
+fn pools_are_poured(rt: HostRuntime) -> Result<(), Fail> {
+    let alloc = rt.alloc();
+    for (script, output, status) in [
+        (
+            "gm 10.0.0.1 0a00000000000001 1 4 84 16 300\n\
+             pool 10.0.1.0 24 8\n\
+             rx 0 10.0.1.18 0c120036040004000000000000000000000000000a00000000000012\
+             00010000057fffffffffffffffffffff00040006b0040000012c\n\
+             rx 0 10.0.3.1 -",
+            "3 pool 1 send general 10.0.1.18 0c120038040004000000000000000000000000000a000000\
+             0000000100010000057f0a00000000000012000100050008b0040000012c0001\n\
+             4 stranger\nend 4\n",
+            0,
+        ),
+        (
+            "gm 10.0.0.1 0a00000000000001 1 4 84 16 300\npool 10.0.1.0 24 17\n",
+            "2 bad over\n",
+            65,
+        ),
+    ] {
+        let (found, text) = ran(&rt, &["pools"], script, 0, 0, no_judges(alloc))?;
+        assert_eq!(rt; found, status);
+        assert_eq!(rt; text.as_str(), output);
+    }
+    Ok(())
+}

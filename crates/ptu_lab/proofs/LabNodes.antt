@@ -24,7 +24,7 @@ use Rattle.ptu_lab.specs.declared.slave_node.SlaveNode.{SlaveNode}
 use Rattle.ptu_lab.specs.declared.lab.Node.{Node}
 use Rattle.ptu_lab.specs.declared.lab.Node.TheVariants as nodes
 use Rattle.ptu_lab.specs.declared.lab.Lab.{Lab}
-use Rattle.ptu_lab.specs.Doing.{HasDone}
+use Rattle.ptu_nodes.specs.Doing.{HasDone}
 use Rattle.ptu_lab.specs.NodeStanding.{IsNode, StandsAsNode}
 use Rattle.ptu_lab.specs.Standing.{Agrees, StandsAs, StandsFor}
 use Rattle.ptu_lab.specs.Steps.{HasActed, HasHanded, HasActedWithJudge, HasTaken, of_master, of_slave, stock_of}

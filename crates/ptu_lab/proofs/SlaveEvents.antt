@@ -34,8 +34,9 @@ use Rattle.ptu_world.specs.Deeds.{Slave}
 use Rattle.ptu_world.specs.Report.{is_granted, is_short, text_at}
 use Rattle.ptu_world.specs.Slaves.{entered, event_deed, selection_said}
 use Rattle.ptu_world.specs.World.{sending_said, sent_from}
-use Rattle.ptu_lab.specs.Doing.{HasDone}
-use Rattle.ptu_lab.specs.NodeStanding.{IsIdle, IsSlaveNode, StandsAsSlave}
+use Rattle.ptu_nodes.specs.Doing.{HasDone}
+use Rattle.ptu_lab.specs.NodeStanding.{IsSlaveNode, StandsAsSlave}
+use Rattle.ptu_nodes.specs.Standing.{IsIdle}
 use Rattle.ptu_lab.specs.SlaveWords.{HasStepped, selection_by}
 
 -- ---- what was sent

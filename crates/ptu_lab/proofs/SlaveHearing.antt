@@ -42,8 +42,9 @@ use Rattle.ptu_world.specs.Report.{text_at}
 use Rattle.ptu_world.specs.World.{sending_said, sent_from}
 use Rattle.ptu_world.specs.Slaves as slaves
 use Rattle.ptu_world.specs.Slaves.{event_deed, heard_deed, heard_said, signal_said}
-use Rattle.ptu_lab.specs.Doing.{HasDone}
-use Rattle.ptu_lab.specs.NodeStanding.{IsIdle, IsSlaveNode, StandsAsSlave}
+use Rattle.ptu_nodes.specs.Doing.{HasDone}
+use Rattle.ptu_lab.specs.NodeStanding.{IsSlaveNode, StandsAsSlave}
+use Rattle.ptu_nodes.specs.Standing.{IsIdle}
 use Rattle.ptu_lab.specs.SlaveStatements.{IsOfOne, is_ignored, is_unsent}
 use Rattle.ptu_lab.specs.SlaveWords.{HasStepped, selection_by}
 use Rattle.ptu_lab.proofs.SlaveEvents.{IsOther, all_sent, ended, stepped}

@@ -17,7 +17,8 @@ use Rattle.ptu_slave.specs.Kept.{Kept}
 use Rattle.ptu_slave.specs.Standing.{StandsFor}
 use Rattle.ptu_world.specs.Deeds.{Slave}
 use Rattle.ptu_world.specs.World.{with_master}
-use Rattle.ptu_lab.specs.NodeStanding.{IsIdle, IsSlaveNode}
+use Rattle.ptu_lab.specs.NodeStanding.{IsSlaveNode}
+use Rattle.ptu_nodes.specs.Standing.{IsIdle}
 
 -- ---- the masters
 

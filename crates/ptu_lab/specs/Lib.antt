@@ -1,7 +1,4 @@
 pub mod NodeStanding
-pub mod Doing
-pub mod GrandmasterPorts
-pub mod GrandmasterStatements
 pub mod SlaveStatements
 pub mod SlaveWords
 pub mod Standing

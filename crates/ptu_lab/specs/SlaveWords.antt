@@ -5,7 +5,8 @@ use Rattle.ptu_judges.specs.Held.{Held}
 use Rattle.ptu_slave_messages.specs.Node.{Deed}
 use Rattle.ptu_world.specs.Deeds.{Slave}
 use Rattle.ptu_world.specs.Slaves.{entered}
-use Rattle.ptu_lab.specs.NodeStanding.{IsIdle, IsSlaveNode}
+use Rattle.ptu_lab.specs.NodeStanding.{IsSlaveNode}
+use Rattle.ptu_nodes.specs.Standing.{IsIdle}
 use Rattle.ptu_record.specs.Record.{Record}
 use Rattle.ptu_slave_messages.specs.declared.config.SlaveConfig.{SlaveConfig}
 use Rattle.ptu_script.specs.declared.command.SlaveSetup.{SlaveSetup}

@@ -8,7 +8,8 @@ use Rattle.ptu_world.specs.Deeds as world
 use Rattle.ptu_world.specs.World.{node_at}
 use Rattle.ptu_world.specs.Report.{Course}
 use Rattle.ptu_lab.specs.declared.slave_node.SlaveNode.{SlaveNode}
-use Rattle.ptu_lab.specs.NodeStanding.{StandsAsGrandmaster, StandsAsNode}
+use Rattle.ptu_lab.specs.NodeStanding.{StandsAsNode}
+use Rattle.ptu_nodes.specs.Standing.{StandsAsGrandmaster}
 use Rattle.ptu_lab.specs.declared.lab.Node.{Node}
 use Rattle.ptu_lab.specs.declared.lab.Node.TheVariants as nodes
 use Rattle.ptu_lab.specs.declared.lab.Lab.{Lab}

@@ -15,7 +15,7 @@ use Rattle.ptu_world.specs.World.{slave_by, step, stock_without}
 use Rattle.ptu_world.specs.Report.{Course, course_after, outcome_by, text_at}
 use Rattle.ptu_lab.specs.declared.lab.Node.{Node as LabNode}
 use Rattle.ptu_lab.specs.declared.lab.Node.TheVariants as nodes
-use Rattle.ptu_lab.specs.Doing.{HasDone}
+use Rattle.ptu_nodes.specs.Doing.{HasDone}
 
 -- whatever the course was, a lab that stood for it has come to stand for what the command makes of
 -- it, and has added the texts to the script's line of this number; or this is why it is refused

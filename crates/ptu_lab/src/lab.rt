@@ -7,10 +7,10 @@ ghost use Rattle.ptu_world.specs.Report.{Course, course_opening, outcome_by};
 ghost use Rattle.ptu_slave.specs.Seen.{seen};
 ghost use Rattle.ptu_lab.specs.Standing.{StandsFor};
 
-use crate::grandmaster_node::GrandmasterNode;
 use crate::slave_node::SlaveNode;
 use crate::stock::Reserve;
 use ptu_judges::{Judge, Stock};
+use ptu_nodes::GrandmasterNode;
 use ptu_report::Texts;
 use ptu_report_lines::Sent;
 use ptu_script::{Cause, Command};

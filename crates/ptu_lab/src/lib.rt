@@ -4,22 +4,16 @@
 
 mod deliveries;
 mod done;
-mod grandmaster_node;
-mod grandmaster_ports;
-mod grandmaster_statements;
 mod grandmasters;
-mod handing;
 mod lab;
 mod loading;
 mod nodes;
 mod replaying;
-mod saying;
 mod setting_up;
 mod slave_node;
 mod slave_statements;
 mod slaves;
 mod stock;
-mod tally;
 
 pub use done::Done;
 pub use loading::{load, sample_summaries};
@@ -29,8 +23,6 @@ pub use ptu_script::Cause;
 pub use ptu_show::{LabFault, show};
 pub use replaying::replay;
 
-#[cfg(test)]
-mod grandmaster_tests;
 #[cfg(test)]
 mod load_tests;
 #[cfg(test)]

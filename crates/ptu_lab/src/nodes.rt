@@ -9,7 +9,7 @@ ghost use Rattle.ptu_world.specs.Deeds as world;
 ghost use Rattle.ptu_world.specs.Grandmasters.{capacity_deed, class_deed, turn_deed};
 ghost use Rattle.ptu_world.specs.Slaves.{plain_deed};
 ghost use Rattle.ptu_world.specs.World.{datagram_deed, stock_without};
-ghost use Rattle.ptu_lab.specs.Doing.{HasDone};
+ghost use Rattle.ptu_nodes.specs.Doing.{HasDone};
 ghost use Rattle.ptu_slave.specs.Seen.{seen};
 ghost use Rattle.ptu_lab.specs.Steps.{HasActed, HasActedWithJudge, stock_of};
 ghost use Rattle.ptu_lab.specs.Steps.{of_grandmaster, of_master, of_slave};
@@ -17,8 +17,8 @@ ghost use Rattle.ptu_lab.specs.Standing.{StandsAs};
 
 use crate::lab::Node;
 use crate::stock::{Reserve, take_judge};
-use crate::tally::Tally;
 use ptu_judges::{Judge, Rule};
+use ptu_nodes::Tally;
 use ptu_report::Texts;
 use ptu_report_lines::Sent;
 use ptu_script::Cause;

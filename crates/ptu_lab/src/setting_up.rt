@@ -11,11 +11,11 @@ ghost use Rattle.ptu_lab.specs.declared.lab.Node.TheVariants as described;
 ghost use Rattle.ptu_lab.specs.Steps.{HasSetUp, HasStepped, IsNoSlave};
 ghost use Rattle.ptu_lab.specs.Standing.{StandsAs, StandsFor};
 
-use crate::grandmaster_node::GrandmasterNode;
 use crate::lab::{Lab, Node};
 use crate::slave_node::SlaveNode;
 use crate::stock::take_judge;
 use ptu_judges::{Judge, Rule};
+use ptu_nodes::GrandmasterNode;
 use ptu_script::{Cause, GrandmasterSetup, SlaveSetup};
 use ptu_units::OutOfMemory;
 use std::alloc::Global;

@@ -6,7 +6,7 @@ ghost use Rattle.ptu_world.specs.Report.{text_at};
 ghost use Rattle.ptu_world.specs.Slaves.{heard_said, reason_of, signal_said};
 ghost use Rattle.ptu_lab.specs.SlaveStatements.{IsOfOne, is_ignored, is_unsent};
 
-use crate::saying::say;
+use ptu_nodes::say;
 use ptu_report::Texts;
 use ptu_report_lines::{Hearing, Reason, Received, Statement};
 use ptu_slave::{Heard, HeardReply, Master, Signal, SlaveReason};

@@ -1,10 +1,10 @@
 pub mod Apart
 mod Sums
-mod Places
-mod Standing
+pub mod Places
+pub mod Standing
 mod Ported
 mod Fresh
-mod Whole
+pub mod Whole
 pub mod Refused
-mod Alone
+pub mod Alone
 mod Taken

@@ -12,7 +12,7 @@ use Rattle.clap.specs.Walk.{answers_to, finished, nothing_held, settled, walk, w
 use Rattle.clap.specs.Words.{App, Kinds, Row, Shape, Text, fault_of, first_of, is_simple, is_simple_and_free, subcommand_of}
 use Rattle.clap.proofs.OnLiterals.{clap_on_literals}
 use Rattle.ptu_words.specs.declared.command.Command.{Command}
-use Rattle.ptu_words.specs.declared.command.Command.TheVariants.{Replay, Show, Serve, Slave, Join}
+use Rattle.ptu_words.specs.declared.command.Command.TheVariants.{Replay, Show, Serve, Slave, Join, Pools}
 use Rattle.ptu_words.specs.CommandLine.{IsRefused, command_after, command_by, command_line, command_named, command_of, is_out_of_range, audit_of, load_of}
 
 pub simple : is_simple command_line ≡ true
@@ -68,7 +68,7 @@ last_empty (k ∷ a) b c d e h = absurd (let never : k ∷ a ≡ [] = h in cc)
 abbrev is_known : Text → Bool
 is_known name =
     bytes_eq name (codes "replay") || (bytes_eq name (codes "show") || (bytes_eq name (codes "load")
-    || (bytes_eq name (codes "serve") || (bytes_eq name (codes "slave") || (bytes_eq name (codes "join") || bytes_eq name (codes "audit"))))))
+    || (bytes_eq name (codes "serve") || (bytes_eq name (codes "slave") || (bytes_eq name (codes "join") || (bytes_eq name (codes "audit") || bytes_eq name (codes "pools")))))))
 
 -- a subcommand of such a name
 abbrev is_command : Option (Text × List Row) → Bool
@@ -120,22 +120,23 @@ only_out_of_range : (o : Option (Text × List Row)) → is_command o ≡ true �
 only_out_of_range None known none = absurd (let never : false ≡ true = known in cc)
 only_out_of_range (Some p) known none =
     by (bytes_eq p.0 (codes "replay")) (bytes_eq p.0 (codes "show")) (bytes_eq p.0 (codes "load")) (bytes_eq p.0 (codes "serve")) (bytes_eq p.0 (codes "slave")) (bytes_eq p.0 (codes "join"))
-    (bytes_eq p.0 (codes "audit")) (load_of (first_of (codes "N") p.1)) (audit_of (first_of (codes "N") p.1)) known none
+    (bytes_eq p.0 (codes "audit")) (bytes_eq p.0 (codes "pools")) (load_of (first_of (codes "N") p.1)) (audit_of (first_of (codes "N") p.1)) known none
   where
-    by : (a b c d e f g : Bool) (load audit : Option Command) → (a || (b || (c || (d || (e || (f || g)))))) ≡ true
+    by : (a b c d e f g h : Bool) (load audit : Option Command) → (a || (b || (c || (d || (e || (f || (g || h))))))) ≡ true
         → (if a then Some Replay else if b then Some Show else if c then load else if d then Some Serve else if e then Some Slave
-        else if f then Some Join else if g then audit else None) ≡ None
+        else if f then Some Join else if g then audit else if h then Some Pools else None) ≡ None
         → ((c && not (is_some load)) || (g && not (is_some audit))) ≡ true
-    by true b c d e f g load audit known none = absurd (let never : Some Replay ≡ None = none in cc)
-    by false true c d e f g load audit known none = absurd (let never : Some Show ≡ None = none in cc)
-    by false false true d e f g None audit known none = refl
-    by false false true d e f g (Some x) audit known none = absurd (let never : Some x ≡ None = none in cc)
-    by false false false true e f g load audit known none = absurd (let never : Some Serve ≡ None = none in cc)
-    by false false false false true f g load audit known none = absurd (let never : Some Slave ≡ None = none in cc)
-    by false false false false false true g load audit known none = absurd (let never : Some Join ≡ None = none in cc)
-    by false false false false false false true load None known none = refl
-    by false false false false false false true load (Some x) known none = absurd (let never : Some x ≡ None = none in cc)
-    by false false false false false false false load audit known none = absurd (let never : false ≡ true = known in cc)
+    by true b c d e f g h load audit known none = absurd (let never : Some Replay ≡ None = none in cc)
+    by false true c d e f g h load audit known none = absurd (let never : Some Show ≡ None = none in cc)
+    by false false true d e f g h None audit known none = refl
+    by false false true d e f g h (Some x) audit known none = absurd (let never : Some x ≡ None = none in cc)
+    by false false false true e f g h load audit known none = absurd (let never : Some Serve ≡ None = none in cc)
+    by false false false false true f g h load audit known none = absurd (let never : Some Slave ≡ None = none in cc)
+    by false false false false false true g h load audit known none = absurd (let never : Some Join ≡ None = none in cc)
+    by false false false false false false true h load None known none = refl
+    by false false false false false false true h load (Some x) known none = absurd (let never : Some x ≡ None = none in cc)
+    by false false false false false false false true load audit known none = absurd (let never : Some Pools ≡ None = none in cc)
+    by false false false false false false false false load audit known none = absurd (let never : false ≡ true = known in cc)
 
 nothing_loaded : (load : Option Command) → not (is_some load) ≡ true → load ≡ None
 nothing_loaded None e = refl

@@ -4,7 +4,7 @@ use Rattle.std.specs.Str.{bytes_eq}
 use Rattle.clap.specs.Words.{App, Kinds, Row, Text, fault_of, first_of, new_app, new_rule, subcommand_of, with_rule, with_subcommand}
 use Rattle.ptu_lines.specs.Words.{number_within}
 use Rattle.ptu_words.specs.declared.command.Command.{Command}
-use Rattle.ptu_words.specs.declared.command.Command.TheVariants.{Replay, Show, Load, Serve, Slave, Join, Audit}
+use Rattle.ptu_words.specs.declared.command.Command.TheVariants.{Replay, Show, Load, Serve, Slave, Join, Audit, Pools}
 
 -- the program, whose words begin behind its name, with a required subcommand
 abbrev pub program : App
@@ -31,9 +31,9 @@ with_bare line name = with_subcommand line (new_app name).top
 -- its command line: a subcommand for each command, without further arguments
 abbrev pub command_line : App
 command_line =
-    with_subcommand (with_bare (with_bare (with_bare
+    with_bare (with_subcommand (with_bare (with_bare (with_bare
     (with_subcommand (with_bare (with_bare program (codes "replay")) (codes "show")) load_line.top)
-    (codes "serve")) (codes "slave")) (codes "join")) audit_line.top
+    (codes "serve")) (codes "slave")) (codes "join")) audit_line.top) (codes "pools")
 
 -- a load of the number that the value writes, from 1 to 2000
 abbrev pub load_of : Option Text → Option Command
@@ -54,6 +54,7 @@ IsInRange Serve = Unit {0}
 IsInRange Slave = Unit {0}
 IsInRange Join = Unit {0}
 IsInRange (Audit capacity) = (1 ≤ capacity) × (capacity ≤ 16777216)
+IsInRange Pools = Unit {0}
 
 -- the command of a name, with this value
 abbrev pub command_named : Text → Option Text → Option Command
@@ -65,6 +66,7 @@ command_named name value =
     else if bytes_eq name (codes "slave") then Some Slave
     else if bytes_eq name (codes "join") then Some Join
     else if bytes_eq name (codes "audit") then audit_of value
+    else if bytes_eq name (codes "pools") then Some Pools
     else None
 
 -- that of a subcommand with these arguments

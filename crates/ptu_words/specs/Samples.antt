@@ -1,6 +1,6 @@
 -- Words that were made out by hand.
 use Rattle.std.specs.Prelude.{◌≡◌, [], ◌∷◌, codes, Some, None}
-use Rattle.ptu_words.specs.declared.command.Command.TheVariants.{Replay, Show, Load, Serve, Slave, Join, Audit}
+use Rattle.ptu_words.specs.declared.command.Command.TheVariants.{Replay, Show, Load, Serve, Slave, Join, Audit, Pools}
 use Rattle.ptu_words.specs.CommandLine.{command_of}
 
 -- one command is asked for, with nothing behind it; help and version are refused
@@ -11,6 +11,7 @@ WordsAreRead =
     × (command_of (codes "serve" ∷ []) ≡ Some Serve)
     × (command_of (codes "slave" ∷ []) ≡ Some Slave)
     × (command_of (codes "join" ∷ []) ≡ Some Join)
+    × (command_of (codes "pools" ∷ []) ≡ Some Pools)
     × (command_of (codes "load" ∷ codes "1" ∷ []) ≡ Some (Load 1))
     × (command_of (codes "load" ∷ codes "2000" ∷ []) ≡ Some (Load 2000))
     × (command_of (codes "audit" ∷ codes "1" ∷ []) ≡ Some (Audit 1))

@@ -21,6 +21,8 @@ pub enum Command {
     /// Audit a report whose grandmasters begin with this capacity, in sixteenths of a message per
     /// second, from 1 to 16777216.
     Audit(u64),
+    /// Run a script of one grandmaster whose capacity is sold to several customers.
+    Pools,
 }
 
 // A load of the number that the value writes.
@@ -61,6 +63,8 @@ impl Command {
             Some(Command::Join)
         } else if name == "audit" {
             audit(value)
+        } else if name == "pools" {
+            Some(Command::Pools)
         } else {
             None
         }

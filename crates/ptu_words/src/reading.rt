@@ -31,6 +31,7 @@ fn whole_line<'a>(alloc: Global) -> Result<clap::Command<'a>, AllocError>
     let serve = clap::Command::new(alloc, "serve");
     let slave = clap::Command::new(alloc, "slave");
     let join = clap::Command::new(alloc, "join");
+    let pools = clap::Command::new(alloc, "pools");
     let program = clap::Command::new(alloc, "ptpuni")
         .no_binary_name(true)
         .subcommand_required(true)
@@ -41,7 +42,9 @@ fn whole_line<'a>(alloc: Global) -> Result<clap::Command<'a>, AllocError>
     let line = line.subcommand(serve)?;
     let line = line.subcommand(slave)?;
     let line = line.subcommand(join)?;
-    with_numbered(alloc, line, "audit")
+    let line = with_numbered(alloc, line, "audit")?;
+    let line = line.subcommand(pools)?;
+    Ok(line)
 }
 
 // What matches ask for.

@@ -16,6 +16,7 @@ fn words_are_read(rt: HostRuntime) -> Result<(), OutOfMemory> {
             Some(Command::Audit(16777216)),
         ),
         (["audit", "16777217"].as_slice(), None),
+        (["pools"].as_slice(), Some(Command::Pools)),
         (["load", "2001"].as_slice(), None),
         (["show", "x"].as_slice(), None),
         (["help"].as_slice(), None),

@@ -11,6 +11,7 @@ use Rattle.ptpuni.proofs.Answered.{zero_at_end}
 use Rattle.ptpuni.proofs.Audited.{audit_completes}
 use Rattle.ptpuni.proofs.Completed.{completed}
 use Rattle.ptu_lab.proofs.KeepingHeadline.{keeps_headline}
+use Rattle.ptu_pool_run.proofs.Keeping.{keeps_pools}
 use Rattle.ptpuni.proofs.run.run.Goals as goal
 
 -- words that ask for a command are not refused, and ask for no other
@@ -157,3 +158,12 @@ returns-in-Ok-None-clause-headline g c = λ script told. keeps_headline _ script
 
 pub returns-in-Err-clause-headline : goal.returns-in-Err-clause-headline
 returns-in-Err-clause-headline g c = λ script told. keeps_headline _ script
+
+pub returns-in-Ok-Some-clause-pools : goal.returns-in-Ok-Some-clause-pools
+returns-in-Ok-Some-clause-pools g c = λ script told. keeps_pools script
+
+pub returns-in-Ok-None-clause-pools : goal.returns-in-Ok-None-clause-pools
+returns-in-Ok-None-clause-pools g c = λ script told. keeps_pools script
+
+pub returns-in-Err-clause-pools : goal.returns-in-Err-clause-pools
+returns-in-Err-clause-pools g c = λ script told. keeps_pools script

@@ -1,5 +1,4 @@
 use Rattle.std.proofs.Common.{rules, ◌≡◌, ◌∙◌, ap, ap₂, codes, true}
-use Rattle.std.proofs.lemmas.Result.{IfOk-weaker}
 use Rattle.clap.specs.Words.{App, app_of, with_subcommand}
 use Rattle.ptu_words.specs.CommandLine.{audit_line, load_line, program, with_bare}
 use Rattle.ptu_words.proofs.reading.whole_line.Goals as goal
@@ -21,4 +20,7 @@ returns c =
     let sixth : app_of c.in_ok-line-6.line
     ≡ with_bare (with_bare (with_bare (with_subcommand (with_bare (with_bare program (codes "replay")) (codes "show")) load_line.top) (codes "serve")) (codes "slave")) (codes "join") =
     c.in_ok-line-6.ensures.shape c.new-join.ensures.local ∙ ap₂ with_subcommand fifth (ap (λ (a : App). a.top) c.new-join.ensures.app) in
-    IfOk-weaker c.with_numbered-2.result _ _ (λ line added. added ∙ ap (λ a. with_subcommand a audit_line.top) sixth) c.with_numbered-2.ensures
+    let seventh : app_of c.in_ok-line-7.line
+    ≡ with_subcommand (with_bare (with_bare (with_bare (with_subcommand (with_bare (with_bare program (codes "replay")) (codes "show")) load_line.top) (codes "serve")) (codes "slave")) (codes "join")) audit_line.top =
+    c.in_ok-line-7.ensures ∙ ap (λ a. with_subcommand a audit_line.top) sixth in
+    c.in_ok-line-8.ensures.shape c.new-pools.ensures.local ∙ ap₂ with_subcommand seventh (ap (λ (a : App). a.top) c.new-pools.ensures.app)

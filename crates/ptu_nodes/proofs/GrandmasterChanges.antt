@@ -1,0 +1,123 @@
+-- That the capacity of a grandmaster of a script has changed.
+use Rattle.std.proofs.Common.{◌≡◌, ◌∙◌, ℕ, ◌+◌, ◌%◌, List, [], ◌∷◌, ◌++◌, Bool, false, cond, map, refl, sym, ap, ap₂, subst, arith, append_assoc, Some}
+use Rattle.std.proofs.lemmas.List.Sums.{sum_by-cons}
+use Rattle.std.proofs.lemmas.Simd.{map-map}
+use Rattle.std.specs.List.{count_by}
+use Rattle.ptu_units.specs.declared.kind.Kind.{Kind}
+use Rattle.ptu_outside.specs.Departure.{Departure}
+use Rattle.ptu_outside.specs.MemoryPort.{MemoryPort}
+use Rattle.ptu_history.specs.declared.client.Client.{Client}
+use Rattle.ptu_history.specs.Core.{book_step_moment, core_step, history_after}
+use Rattle.ptu_history.specs.Counts.{counts}
+use Rattle.ptu_history.specs.Events as events
+use Rattle.ptu_history.specs.History.{Record}
+use Rattle.ptu_history.specs.Live.{Grant}
+use Rattle.ptu_history.specs.Shedding.{shed_grants}
+use Rattle.ptu_shard.specs.declared.config.GmConfig.{GmConfig}
+use Rattle.ptu_admit.specs.declared.shed_list.Shed.{Shed}
+use Rattle.ptu_admit.specs.Shed.{shed_of}
+use Rattle.ptu_items.specs.Deciding.{opened_with}
+use Rattle.ptu_items.specs.Replies.{cancel_to, cancels_to, lease_of}
+use Rattle.ptu_grandmaster.specs.Changed.{leases_shed}
+use Rattle.ptu_grandmaster.specs.Gm.{KeptGm, StandsFor}
+use Rattle.ptu_report_lines.specs.declared.sent.Sent.{Sent}
+use Rattle.ptu_report_lines.specs.declared.statement.Statement.{Statement}
+use Rattle.ptu_report_lines.specs.declared.statement.Statement.TheVariants as statements
+use Rattle.ptu_world.specs.Deeds.{Grandmaster}
+use Rattle.ptu_world.specs.Grandmasters.{capacity_deed, shed_said}
+use Rattle.ptu_world.specs.Report.{is_granted, is_short, text_at}
+use Rattle.ptu_nodes.specs.Doing.{HasDone}
+use Rattle.ptu_nodes.specs.GrandmasterPorts.{GoesOn, HasHanded, in_ports}
+use Rattle.ptu_nodes.specs.GrandmasterStatements.{shed_seen}
+use Rattle.ptu_nodes.specs.Standing.{AreIdle, IsGrandmasterNode, StandsAsGrandmaster}
+use Rattle.ptu_nodes.proofs.GrandmasterDone.{all_handed, has_done, stands_after}
+
+-- ---- what stands in the ports, where those of the tables are idle
+
+pub in_ports-reply : (old new : KeptGm MemoryPort) → AreIdle old →
+    (new.s0.port ≡ old.s0.port) × (new.s1.port ≡ old.s1.port) × (new.s2.port ≡ old.s2.port) × (new.s3.port ≡ old.s3.port) →
+    in_ports new ≡ new.reply.sent
+in_ports-reply old new (e0, e1, e2, e3, e4) (p0, p1, p2, p3) =
+    let q0 : new.s0.port.sent ≡ [] = ap (λ p. p.sent) p0 ∙ e0 in
+    let q1 : new.s1.port.sent ≡ [] = ap (λ p. p.sent) p1 ∙ e1 in
+    let q2 : new.s2.port.sent ≡ [] = ap (λ p. p.sent) p2 ∙ e2 in
+    let q3 : new.s3.port.sent ≡ [] = ap (λ p. p.sent) p3 ∙ e3 in
+    simp (q0, q1, q2, q3)
+
+-- ---- CANCELs are numbered by the grants that were shed, and the numbers begin again
+
+next_number : (m n : ℕ) → m % 65536 ≡ n % 65536 → (m + 1) % 65536 ≡ (n + 1) % 65536
+next_number m n same = omega arith
+
+cancels_to-same : (config : GmConfig) (m n : ℕ) (leases : List (Client × Kind)) → m % 65536 ≡ n % 65536 → cancels_to config m leases ≡ cancels_to config n leases
+cancels_to-same config m n [] same = refl
+cancels_to-same config m n (lease ∷ leases) same =
+    ap₂ (λ k ds. cancel_to config lease.0 lease.1 k ∷ ds) same (cancels_to-same config (m + 1) (n + 1) leases (next_number m n same))
+
+begins_again : (n : ℕ) → n % 65536 % 65536 ≡ n % 65536
+begins_again n = omega arith
+
+-- ---- a change of capacity
+
+none_counted : (p : Statement → Bool) (gs : List Grant) → ((s : Grant) → p (shed_said s) ≡ false) → count_by p (map shed_said gs) ≡ 0
+none_counted p [] none_does = refl
+none_counted p (s ∷ gs) none_does =
+    sum_by-cons (λ s. cond (p s) 1 0) (shed_said s) (map shed_said gs) ∙ ap₂ (λ b n. cond b 1 0 + n) (none_does s) (none_counted p gs none_does)
+
+changes_none : (p : Statement → Bool) (ip capacity x : ℕ) (gs : List Grant) → p (statements.Capacity ip capacity x) ≡ false → ((s : Grant) → p (shed_said s) ≡ false) →
+    count_by p (statements.Capacity ip capacity x ∷ map shed_said gs) ≡ 0
+changes_none p ip capacity x gs is_none none_does =
+    sum_by-cons (λ s. cond (p s) 1 0) (statements.Capacity ip capacity x) (map shed_said gs) ∙ ap₂ (λ b n. cond b 1 0 + n) is_none (none_counted p gs none_does)
+
+pub change_done : (ip line t capacity : ℕ) (gm0 gm1 gm2 gm3 : KeptGm MemoryPort) (at : ℕ) (shed : List Shed) (sent sent' : List Sent) (texts begun said texts' : List (List ℕ)) (g : Grandmaster) →
+    IsGrandmasterNode (record { ip = ip; gm = gm0 }) g → GoesOn gm0 gm1 → (AreIdle gm0 → AreIdle gm1) →
+    Some (gm1.reply.sent ++ cancels_to gm1.config gm1.sequence (leases_shed shed)) ≡ Some gm2.reply.sent →
+    (gm2.s0.port ≡ gm1.s0.port) × (gm2.s1.port ≡ gm1.s1.port) × (gm2.s2.port ≡ gm1.s2.port) × (gm2.s3.port ≡ gm1.s3.port) →
+    gm2.config ≡ gm1.config →
+    ((opening : ℕ) (history : List Record) → StandsFor opening gm1 history →
+    (at ≡ book_step_moment history t) × (shed ≡ map shed_of (shed_grants history at capacity))) →
+    ((opening : ℕ) (history : List Record) → StandsFor opening gm1 history →
+    StandsFor opening gm2 (history ++ (core_step (opened_with opening gm1.config) history t (events.Resize capacity)).records)) →
+    begun ≡ texts ++ text_at line (statements.Capacity ip capacity at) ∷ [] → said ≡ begun ++ map (text_at line) (map shed_seen shed) →
+    HasHanded ip line (in_ports gm2) sent sent' said texts' → GoesOn gm2 gm3 → AreIdle gm3 →
+    HasDone (StandsAsGrandmaster (record { ip = ip; gm = gm3 })) ip line (capacity_deed g t capacity) sent sent' texts texts' 0 0
+unfolding history_after
+change_done ip line t capacity gm0 gm1 gm2 gm3 at shed sent sent' texts begun said texts' g is first idle sends ports same_config found stands begins says handed last idle' =
+    has_done _ ip line (capacity_deed g t capacity) sent sent' texts said texts' 0 0
+    (stands_after g ip gm0 gm1 gm2 gm3 _ is first same_config
+    (subst (λ (config : GmConfig). StandsFor g.capacity gm2 (g.past ++ (core_step (opened_with g.capacity config) g.past t (events.Resize capacity)).records)) (sym config) (stands g.capacity g.past stood)) last idle')
+    refl said_is (subst (λ (l : List Departure). HasHanded ip line l sent sent' said texts') in_ports_are handed) (sym (changes_none is_granted g.ip capacity (book_step_moment g.past t) (shed_grants g.past (book_step_moment g.past t) capacity) refl (λ s. refl)))
+    (sym (changes_none is_short g.ip capacity (book_step_moment g.past t) (shed_grants g.past (book_step_moment g.past t) capacity) refl (λ s. refl)))
+  where
+    config : g.config ≡ gm1.config
+    config = is.config ∙ sym first.config
+
+    stood : StandsFor g.capacity gm1 g.past
+    stood = first.stands g.capacity g.past is.stands
+
+    moment : at ≡ book_step_moment g.past t
+    moment = (found g.capacity g.past stood).0
+
+    shed_is : shed ≡ map shed_of (shed_grants g.past (book_step_moment g.past t) capacity)
+    shed_is = (found g.capacity g.past stood).1 ∙ ap (λ x. map shed_of (shed_grants g.past x capacity)) moment
+
+    told : gm2.reply.sent ≡ cancels_to gm1.config gm1.sequence (leases_shed shed)
+    told = all_handed gm1.reply.sent gm2.reply.sent (cancels_to gm1.config gm1.sequence (leases_shed shed)) sends ∙ ap (λ l. l ++ cancels_to gm1.config gm1.sequence (leases_shed shed)) (idle is.idle).4
+
+    in_ports_are : in_ports gm2 ≡ cancels_to g.config (counts g.past).shed (map lease_of (shed_grants g.past (book_step_moment g.past t) capacity))
+    in_ports_are =
+        in_ports-reply gm1 gm2 (idle is.idle) ports ∙ told
+        ∙ ap (λ n. cancels_to gm1.config n (leases_shed shed)) stood.sequence
+        ∙ cancels_to-same gm1.config ((counts g.past).shed % 65536) (counts g.past).shed (leases_shed shed) (begins_again (counts g.past).shed)
+        ∙ ap (λ l. cancels_to gm1.config (counts g.past).shed (leases_shed l)) shed_is
+        ∙ ap (cancels_to gm1.config (counts g.past).shed) (map-map (λ (s : Shed). (s.client, s.kind)) shed_of (shed_grants g.past (book_step_moment g.past t) capacity))
+        ∙ ap (λ c. cancels_to c (counts g.past).shed (map lease_of (shed_grants g.past (book_step_moment g.past t) capacity))) (sym config)
+
+    seen : map shed_seen shed ≡ map shed_said (shed_grants g.past (book_step_moment g.past t) capacity)
+    seen = ap (map shed_seen) shed_is ∙ map-map shed_seen shed_of (shed_grants g.past (book_step_moment g.past t) capacity)
+
+    said_is : said ≡ texts ++ map (text_at line) (capacity_deed g t capacity).said
+    said_is =
+        says ∙ ap (λ l. l ++ map (text_at line) (map shed_seen shed)) begins ∙ append_assoc texts _ _
+        ∙ ap (λ l. texts ++ text_at line (statements.Capacity ip capacity at) ∷ map (text_at line) l) seen
+        ∙ ap₂ (λ a x. texts ++ text_at line (statements.Capacity a capacity x) ∷ map (text_at line) (map shed_said (shed_grants g.past (book_step_moment g.past t) capacity))) (sym is.ip) moment

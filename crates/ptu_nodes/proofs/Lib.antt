@@ -1,0 +1,6 @@
+pub mod HandedOver
+pub mod GrandmasterPorts
+pub mod GrandmasterDone
+pub mod GrandmasterTurns
+pub mod GrandmasterChanges
+pub mod GrandmasterReceipts

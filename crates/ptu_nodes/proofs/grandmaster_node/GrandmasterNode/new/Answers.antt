@@ -1,0 +1,16 @@
+use Rattle.std.proofs.Common.{rules, refl, ap, ◌∙◌}
+use Rattle.ptu_nodes.proofs.grandmaster_node.GrandmasterNode.new.Goals as goal
+
+pub returns-clause-stands : goal.returns-clause-stands
+returns-clause-stands c = record {
+  ip = refl;
+  config = search rules;
+  stands = search (rules, c.new-gm.ensures.stands);
+  idle = (
+    ap (λ p. p.sent) c.new-gm.ensures.ports.0 ∙ c.idle_port.ensures,
+    ap (λ p. p.sent) c.new-gm.ensures.ports.1 ∙ c.idle_port-2.ensures,
+    ap (λ p. p.sent) c.new-gm.ensures.ports.2 ∙ c.idle_port-3.ensures,
+    ap (λ p. p.sent) c.new-gm.ensures.ports.3 ∙ c.idle_port-4.ensures,
+    ap (λ p. p.sent) c.new-gm.ensures.ports.4 ∙ c.idle_port-5.ensures,
+  );
+}

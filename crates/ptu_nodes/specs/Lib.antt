@@ -1,0 +1,4 @@
+pub mod Standing
+pub mod Doing
+pub mod GrandmasterPorts
+pub mod GrandmasterStatements

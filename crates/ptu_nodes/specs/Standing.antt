@@ -1,0 +1,28 @@
+-- Which grandmaster of a world a grandmaster with ports in memory stands for.
+use Rattle.std.specs.Prelude.{◌≡◌, List, []}
+use Rattle.ptu_outside.specs.MemoryPort.{MemoryPort}
+use Rattle.ptu_grandmaster.specs.Gm.{KeptGm}
+use Rattle.ptu_grandmaster.specs.Gm as gm
+use Rattle.ptu_world.specs.Deeds as world
+use Rattle.ptu_nodes.specs.declared.grandmaster_node.GrandmasterNode.{GrandmasterNode}
+
+-- nothing that was sent stands in a port
+abbrev pub IsIdle : MemoryPort → Type 0
+IsIdle port = port.sent ≡ []
+
+-- nor in any port of a grandmaster
+abbrev pub AreIdle : KeptGm MemoryPort → Type 0
+AreIdle gm =
+    IsIdle gm.s0.port × IsIdle gm.s1.port × IsIdle gm.s2.port × IsIdle gm.s3.port × IsIdle gm.reply
+
+-- it stands for the grandmaster of a world, with its history
+pub record IsGrandmasterNode (node : GrandmasterNode) (g : world.Grandmaster) : Type 0 where
+  pub ip : g.ip ≡ node.ip
+  pub config : g.config ≡ node.gm.config
+  pub stands : gm.StandsFor g.capacity node.gm g.past
+  pub idle : AreIdle node.gm
+
+-- it stands for the node of a world
+abbrev pub StandsAsGrandmaster : GrandmasterNode → world.Node → Type 0
+StandsAsGrandmaster node (world.IsGrandmaster g) = IsGrandmasterNode node g
+StandsAsGrandmaster node (world.IsSlave s) = ⊥

@@ -1,0 +1,187 @@
+ghost use Rattle.std.specs.Prelude.{◌≡◌, ◌≤◌, ◌<◌, IfOk, [], ◌∷◌, ◌++◌};
+ghost use Rattle.ptu_admit.specs.Book.{IsCapacity};
+ghost use Rattle.ptu_script.specs.Limits.{IsGrandmasterWithin};
+ghost use Rattle.ptu_world.specs.Deeds.{Grandmaster};
+ghost use Rattle.ptu_world.specs.Grandmasters.{capacity_deed, class_deed, datagram_deed, turn_deed};
+ghost use Rattle.ptu_world.specs.World.{new_grandmaster};
+ghost use Rattle.ptu_nodes.specs.Standing.{IsGrandmasterNode, StandsAsGrandmaster};
+ghost use Rattle.ptu_nodes.specs.Doing.{HasDone};
+
+use crate::grandmaster_ports::{ANNOUNCE, SIGNALING_PORT, hand_over_all, reserve, reserve_replies};
+use crate::grandmaster_statements::{say_shed, say_taken};
+use crate::handing::SIGNALING;
+use crate::saying::say;
+use crate::tally::Tally;
+use ptu_grandmaster::Gm;
+use ptu_header::PortIdentity;
+use ptu_outside::MemPort;
+use ptu_report::Texts;
+use ptu_report_lines::{Sent, Statement};
+use ptu_script::GrandmasterSetup;
+use ptu_shard::GmConfig;
+use ptu_units::{Moment, OutOfMemory};
+use std::alloc::Global;
+
+/// A grandmaster of a script: it has ports in memory, in which nothing stands between events.
+#[derive(Drop)]
+pub struct GrandmasterNode {
+    /// Its IPv4 address, its first octet the highest.
+    pub ip: u32,
+    /// The grandmaster.
+    pub gm: Gm<MemPort>,
+}
+
+impl GrandmasterNode {
+    /// The grandmaster that a line sets up. Its timescale begins at 0.
+    pub fn new(alloc: Global, setup: &GrandmasterSetup) -> GrandmasterNode
+        requires { IsGrandmasterWithin setup.now }
+        ensures ip { result.ip ≡ setup.now.ip }
+        ensures stands { StandsAsGrandmaster result (new_grandmaster setup.now) }
+    {
+        let config = GmConfig {
+            identity: PortIdentity {
+                clock: setup.clock,
+                port: setup.port,
+            },
+            domain: setup.domain,
+            class: setup.class,
+            max_duration: setup.max_duration,
+            epoch: 0,
+        };
+        let gm = Gm::new(
+            alloc,
+            config,
+            setup.capacity,
+            idle_port(alloc),
+            idle_port(alloc),
+            idle_port(alloc),
+            idle_port(alloc),
+            idle_port(alloc),
+        );
+        GrandmasterNode { ip: setup.ip, gm }
+    }
+
+    // How many rows its tables keep.
+    fn count(&self) -> usize {
+        let tables = self.gm.count(0).saturating_add(self.gm.count(1));
+        tables.saturating_add(self.gm.count(2).saturating_add(self.gm.count(3)))
+    }
+
+    /// Takes a datagram that came from this IPv4 address: what it comes to and what is sent is
+    /// added to the texts of the script's line of this number, and what is sent to that which was
+    /// sent before.
+    ///
+    /// # Errors
+    /// `OutOfMemory`, also where room for what it sends was not found.
+    pub fn receive(
+        &mut self,
+        alloc: Global,
+        at: Moment,
+        from: u32,
+        octets: &[u8],
+        line: u64,
+        texts: &mut Texts,
+        sent: &mut Vec<Sent>,
+    ) -> Result<Tally, OutOfMemory>
+        ensures ip { self.new.ip ≡ self.old.ip }
+        ensures done { IfOk result (λ tally. (g : Grandmaster) → IsGrandmasterNode self.old g →
+            HasDone (StandsAsGrandmaster self.new) self.old.ip line
+            (datagram_deed g at from octets.now) sent.old.items sent.new.items texts.old texts.new
+            tally.granted tally.short) }
+    {
+        reserve_replies(&mut self.gm)?;
+        let taken = self.gm.take(at, from, octets)?;
+        let tally = say_taken(&taken, line, texts)?;
+        hand_over_all(alloc, &mut self.gm, self.ip, line, texts, sent)?;
+        Ok(tally)
+    }
+
+    /// A table, from 0 to 3, takes a turn.
+    ///
+    /// # Errors
+    /// `OutOfMemory`, also where room for what it sends was not found.
+    pub fn turn(
+        &mut self,
+        alloc: Global,
+        at: Moment,
+        table: usize,
+        line: u64,
+        texts: &mut Texts,
+        sent: &mut Vec<Sent>,
+    ) -> Result<(), OutOfMemory>
+        requires { table < 4 }
+        ensures ip { self.new.ip ≡ self.old.ip }
+        ensures done { IfOk result (λ _. (g : Grandmaster) → IsGrandmasterNode self.old g →
+            HasDone (StandsAsGrandmaster self.new) self.old.ip line (turn_deed g at table)
+            sent.old.items sent.new.items texts.old texts.new 0 0) }
+    {
+        let datagrams = self.gm.count(table);
+        reserve(
+            &mut self.gm,
+            table,
+            datagrams,
+            datagrams.saturating_mul(ANNOUNCE),
+        )?;
+        let turned = self.gm.turn(table, at);
+        if turned.failed > 0 {
+            return Err(OutOfMemory);
+        }
+        hand_over_all(alloc, &mut self.gm, self.ip, line, texts, sent)
+    }
+
+    /// Its capacity changes to this many sixteenths of a message per second.
+    ///
+    /// # Errors
+    /// `OutOfMemory`, also where room for what it sends was not found.
+    pub fn set_capacity(
+        &mut self,
+        alloc: Global,
+        at: Moment,
+        capacity: u64,
+        line: u64,
+        texts: &mut Texts,
+        sent: &mut Vec<Sent>,
+    ) -> Result<(), OutOfMemory>
+        requires { IsCapacity capacity }
+        ensures ip { self.new.ip ≡ self.old.ip }
+        ensures done { IfOk result (λ _. (g : Grandmaster) → IsGrandmasterNode self.old g →
+            HasDone (StandsAsGrandmaster self.new) self.old.ip line (capacity_deed g at capacity)
+            sent.old.items sent.new.items texts.old texts.new 0 0) }
+    {
+        let cancels = self.count();
+        reserve(
+            &mut self.gm,
+            SIGNALING_PORT,
+            cancels,
+            cancels.saturating_mul(SIGNALING),
+        )?;
+        let changed = self.gm.set_capacity(at, capacity)?;
+        if changed.failed > 0 {
+            return Err(OutOfMemory);
+        }
+        let statement = Statement::Capacity {
+            grandmaster: self.ip,
+            capacity,
+            at: changed.at,
+        };
+        say(texts, line, statement)?;
+        say_shed(changed.shed.list(), line, texts)?;
+        hand_over_all(alloc, &mut self.gm, self.ip, line, texts, sent)
+    }
+
+    /// Its clockClass changes. Nothing is said of it.
+    pub fn set_class(&mut self, class: u8)
+        ensures ip { self.new.ip ≡ self.old.ip }
+        ensures done { (g : Grandmaster) → IsGrandmasterNode self.old g →
+            StandsAsGrandmaster self.new (class_deed g class).node }
+    {
+        self.gm.set_class(class);
+    }
+}
+
+// A port in memory, at which nothing waits and no call is to fail.
+fn idle_port(alloc: Global) -> MemPort
+    ensures { result.sent ≡ [] }
+{
+    MemPort::new(alloc, Vec::new(alloc), Vec::new(alloc), Vec::new(alloc))
+}

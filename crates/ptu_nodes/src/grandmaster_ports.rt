@@ -1,0 +1,106 @@
+//! The ports of a grandmaster of a script.
+
+ghost use Rattle.std.specs.Prelude.{◌≡◌, ◌<◌, [], OnOk};
+ghost use Rattle.ptu_grandmaster.specs.Gm.{port_at, with_port};
+ghost use Rattle.ptu_nodes.specs.GrandmasterPorts.{GoesOn, HasHanded, HasRoom, in_ports};
+ghost use Rattle.ptu_nodes.specs.Standing.{AreIdle};
+
+use crate::handing::{SIGNALING, hand_over};
+use ptu_grandmaster::Gm;
+use ptu_outside::MemPort;
+use ptu_report::Texts;
+use ptu_report_lines::Sent;
+use ptu_units::OutOfMemory;
+use std::alloc::Global;
+
+/// How many octets an Announce has, which no datagram of a turn is above.
+pub const ANNOUNCE: usize = 64;
+
+/// How many octets a Delay_Resp has.
+pub const DELAY_RESP: usize = 54;
+
+/// The index of the port of a grandmaster's Signaling messages. Those of its tables are below it.
+pub const SIGNALING_PORT: usize = 4;
+
+/// Makes room in the port of this index for this many datagrams more, and for this many octets in
+/// them.
+///
+/// # Errors
+/// `OutOfMemory`.
+pub fn reserve(
+    gm: &mut Gm<MemPort>,
+    port: usize,
+    datagrams: usize,
+    octets: usize,
+) -> Result<(), OutOfMemory>
+    requires { port < 5 }
+    ensures room { OnOk result (HasRoom datagrams octets (port_at port gm.new)) }
+    ensures rest { gm.new ≡ with_port port (port_at port gm.new) gm.old }
+    ensures goes_on { GoesOn gm.old gm.new }
+    ensures idle { AreIdle gm.old → AreIdle gm.new }
+{
+    gm.ports(port).reserve(datagrams, octets)
+}
+
+/// Makes room for the one datagram that may answer another: a Delay_Resp in the port of each table,
+/// or a Signaling in its own.
+///
+/// # Errors
+/// `OutOfMemory`.
+pub fn reserve_replies(gm: &mut Gm<MemPort>) -> Result<(), OutOfMemory>
+    ensures tables { OnOk result ((HasRoom 1 54 gm.new.s0.port) × (HasRoom 1 54 gm.new.s1.port)
+        × (HasRoom 1 54 gm.new.s2.port) × (HasRoom 1 54 gm.new.s3.port)) }
+    ensures reply { OnOk result (HasRoom 1 428 gm.new.reply) }
+    ensures goes_on { GoesOn gm.old gm.new }
+    ensures idle { AreIdle gm.old → AreIdle gm.new }
+{
+    reserve(gm, 0, 1, DELAY_RESP)?;
+    reserve(gm, 1, 1, DELAY_RESP)?;
+    reserve(gm, 2, 1, DELAY_RESP)?;
+    reserve(gm, 3, 1, DELAY_RESP)?;
+    reserve(gm, SIGNALING_PORT, 1, SIGNALING)
+}
+
+// Hands over what stands in the port of this index, and clears it.
+fn hand_over_port(
+    alloc: Global,
+    gm: &mut Gm<MemPort>,
+    port: usize,
+    ip: u32,
+    line: u64,
+    texts: &mut Texts,
+    sent: &mut Vec<Sent>,
+) -> Result<(), OutOfMemory>
+    requires { port < 5 }
+    ensures handed { OnOk result (HasHanded ip line (port_at port gm.old).sent
+        sent.old.items sent.new.items texts.old texts.new) }
+    ensures cleared { OnOk result
+        (gm.new ≡ with_port port (record (port_at port gm.old) { sent = [] }) gm.old) }
+{
+    hand_over(alloc, gm.ports(port), ip, line, texts, sent)
+}
+
+/// Hands over what stands in the ports of the grandmaster at this address, port by port, and clears
+/// them.
+///
+/// # Errors
+/// `OutOfMemory`.
+pub fn hand_over_all(
+    alloc: Global,
+    gm: &mut Gm<MemPort>,
+    ip: u32,
+    line: u64,
+    texts: &mut Texts,
+    sent: &mut Vec<Sent>,
+) -> Result<(), OutOfMemory>
+    ensures handed { OnOk result (HasHanded ip line (in_ports gm.old)
+        sent.old.items sent.new.items texts.old texts.new) }
+    ensures goes_on { OnOk result (GoesOn gm.old gm.new) }
+    ensures idle { OnOk result (AreIdle gm.new) }
+{
+    hand_over_port(alloc, gm, 0, ip, line, texts, sent)?;
+    hand_over_port(alloc, gm, 1, ip, line, texts, sent)?;
+    hand_over_port(alloc, gm, 2, ip, line, texts, sent)?;
+    hand_over_port(alloc, gm, 3, ip, line, texts, sent)?;
+    hand_over_port(alloc, gm, 4, ip, line, texts, sent)
+}

@@ -1,0 +1,22 @@
+//! The grandmaster of a script, with ports in memory. An event makes room in the ports, happens, is
+//! told, and what was sent is handed over, so that no send fails and nothing stands in a port
+//! between events.
+#![tactic(auto)]
+
+mod grandmaster_node;
+mod grandmaster_ports;
+mod grandmaster_statements;
+mod handing;
+mod saying;
+mod tally;
+
+pub use grandmaster_node::GrandmasterNode;
+pub use grandmaster_ports::{
+    ANNOUNCE, DELAY_RESP, SIGNALING_PORT, hand_over_all, reserve, reserve_replies,
+};
+pub use handing::{SIGNALING, hand_over};
+pub use saying::say;
+pub use tally::Tally;
+
+#[cfg(test)]
+mod grandmaster_tests;

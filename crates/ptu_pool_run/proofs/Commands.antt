@@ -1,0 +1,192 @@
+-- What a command makes of a grandmaster and its pools.
+use Rattle.std.proofs.Common.{◌≡◌, ◌∙◌, ℕ, ◌-◌, ◌<◌, ◌≤◌, ◌⊎◌, inl, inr, All, Bool, true, false, cond, leb, List, [], ◌∷◌, ◌++◌, length, map, Option, Some, None, IfSome, refl, sym, ap, subst, arith}
+use Rattle.std.proofs.lemmas.Bool.{le-leb, lt-leb}
+use Rattle.std.proofs.lemmas.List.{map-append}
+use Rattle.ptu_outside.specs.MemoryPort.{MemoryPort}
+use Rattle.ptu_admit.specs.Book.{IsCapacity}
+use Rattle.ptu_report.specs.Rules.{Goes, IsOutcome, Outcome, Refuses}
+use Rattle.ptu_script.specs.declared.command.GrandmasterSetup.{GrandmasterSetup}
+use Rattle.ptu_script.specs.Limits.{IsGrandmasterWithin}
+use Rattle.ptu_pools.specs.declared.pool.Pool.{Pool}
+use Rattle.ptu_pools.specs.Events.{PoolEvent, Turned}
+use Rattle.ptu_pools.specs.Refusal.{Share}
+use Rattle.ptu_pools.specs.Standing.{KeptPools}
+use Rattle.ptu_pool_script.specs.declared.cause.PoolCause.{PoolCause}
+use Rattle.ptu_pool_script.specs.declared.cause.PoolCause.TheVariants.{Number, Order}
+use Rattle.ptu_pool_script.specs.Output.{line_text}
+use Rattle.ptu_pool_run.specs.declared.pouring.Pouring.{Pouring}
+use Rattle.ptu_pool_run.specs.Reading.{At, Told, behind_pools, events_of, happened, set_up, sold, sold_by, turned}
+use Rattle.ptu_pool_run.specs.Selling.{refusal_of}
+use Rattle.ptu_pool_run.specs.Sending.{lines_of_event}
+use Rattle.ptu_pool_run.specs.Standing.{AreSold, HasHappened, HaveSold, StandsFor, has_events, pools_of}
+use Rattle.ptu_pool_run.proofs.Sold.{none_share}
+
+-- ---- the grandmaster is set up
+
+pub set_up_again : (told : Told) (setup before : GrandmasterSetup) (p after : Pouring) → StandsFor p told → p.setup ≡ Some before →
+    IsOutcome (set_up told setup told.setup) (StandsFor after) [] (Some Order)
+set_up_again told setup before p after s is = subst (λ o. IsOutcome (set_up told setup o) (StandsFor after) [] (Some Order)) (sym (s.setup ∙ is)) refl
+
+pub set_up_once : (told : Told) (setup : GrandmasterSetup) (p : Pouring) → IsGrandmasterWithin setup → StandsFor p told → p.setup ≡ None →
+    IsOutcome (set_up told setup told.setup) (StandsFor (record p { setup = Some setup })) [] None
+set_up_once told setup p within s none =
+    subst (λ o. IsOutcome (set_up told setup o) (StandsFor (record p { setup = Some setup })) [] None) (sym (s.setup ∙ none))
+    (record { setup = refl; limits = within; begun = s.begun; sold = by p.setup p.pools none s.sold }, refl)
+  where
+    by : (o : Option GrandmasterSetup) (k : Option (KeptPools MemoryPort)) → o ≡ None → HaveSold o k told → HaveSold (Some setup) k (record told { setup = Some setup })
+    by None None e h = h
+    by (Some x) None e h = h
+    by None (Some kept) e h = absurd h
+    by (Some x) (Some kept) e h = absurd cc
+
+-- ---- a pool is sold
+
+pub sold_are : (p : Pouring) (told : Told) → StandsFor p told → told.pools ≡ pools_of p.pools
+sold_are p told s = by p.setup p.pools s.sold
+  where
+    by : (o : Option GrandmasterSetup) (k : Option (KeptPools MemoryPort)) → HaveSold o k told → told.pools ≡ pools_of k
+    by None None h = h.0
+    by (Some x) None h = h.0
+    by None (Some kept) h = absurd h
+    by (Some x) (Some kept) h = h.0
+
+pub share_of : (p : Pouring) (told : Told) (setup : GrandmasterSetup) → StandsFor p told → p.setup ≡ Some setup → Share setup.capacity (pools_of p.pools)
+share_of p told setup s is = by p.pools (subst (λ o. HaveSold o p.pools told) is s.sold)
+  where
+    by : (k : Option (KeptPools MemoryPort)) → HaveSold (Some setup) k told → Share setup.capacity (pools_of k)
+    by None h = none_share setup.capacity
+    by (Some kept) h = h.1.share
+
+pub capacities_of : (p : Pouring) (told : Told) (setup : GrandmasterSetup) → StandsFor p told → p.setup ≡ Some setup → All (λ (pool : Pool). IsCapacity pool.capacity) (pools_of p.pools)
+capacities_of p told setup s is = by p.pools (subst (λ o. HaveSold o p.pools told) is s.sold)
+  where
+    by : (k : Option (KeptPools MemoryPort)) → HaveSold (Some setup) k told → All (λ (pool : Pool). IsCapacity pool.capacity) (pools_of k)
+    by None h = λ i d lt. absurd (omega (arith, lt))
+    by (Some kept) h = h.1.capacities
+
+pub limits_of : (p : Pouring) (told : Told) (setup : GrandmasterSetup) → StandsFor p told → p.setup ≡ Some setup → IsGrandmasterWithin setup
+limits_of p told setup s is = subst (λ o. IfSome o IsGrandmasterWithin) is s.limits
+
+pub sold_unset : (told : Told) (pool : Pool) (p after : Pouring) → StandsFor p told → p.setup ≡ None →
+    IsOutcome (sold told pool told.setup told.events) (StandsFor after) [] (Some Order)
+sold_unset told pool p after s none = subst (λ o. IsOutcome (sold told pool o told.events) (StandsFor after) [] (Some Order)) (sym (s.setup ∙ none)) refl
+
+pub sold_late : (told : Told) (pool : Pool) (setup : GrandmasterSetup) (p after : Pouring) → StandsFor p told → p.setup ≡ Some setup → p.has_begun ≡ true →
+    IsOutcome (sold told pool told.setup told.events) (StandsFor after) [] (Some Order)
+sold_late told pool setup p after s is begun =
+    subst (λ o. IsOutcome (sold told pool o told.events) (StandsFor after) [] (Some Order)) (sym (s.setup ∙ is)) (by told.events (sym s.begun ∙ begun))
+  where
+    by : (events : List At) → has_events events ≡ true → IsOutcome (sold told pool (Some setup) events) (StandsFor after) [] (Some Order)
+    by [] e = absurd (let never : false ≡ true = e in cc)
+    by (event ∷ events) e = refl
+
+-- where nothing has happened
+none_happened : (events : List At) → has_events events ≡ false → events ≡ []
+none_happened [] e = refl
+none_happened (event ∷ events) e = absurd (let never : true ≡ false = e in cc)
+
+module _ (told : Told) (pool : Pool) (setup : GrandmasterSetup) (p : Pouring) (s : StandsFor p told) (is : p.setup ≡ Some setup) (begun : p.has_begun ≡ false) where
+  abbrev cause : Option PoolCause
+  cause = refusal_of setup.capacity (pools_of p.pools) pool
+
+  no_events : told.events ≡ []
+  no_events = none_happened told.events (sym s.begun ∙ begun)
+
+  outcome_is : sold told pool told.setup told.events ≡ sold_by told pool cause
+  outcome_is =
+      ap (λ o. sold told pool o told.events) (s.setup ∙ is) ∙ ap (sold told pool (Some setup)) no_events
+      ∙ ap (λ l. sold_by told pool (refusal_of setup.capacity l pool)) (sold_are p told s)
+
+  pub sold_refused : (found : PoolCause) (after : Pouring) → cause ≡ Some found → IsOutcome (sold told pool told.setup told.events) (StandsFor after) [] (Some found)
+  sold_refused found after e = subst (λ o. IsOutcome o (StandsFor after) [] (Some found)) (sym (outcome_is ∙ ap (sold_by told pool) e)) refl
+
+  pub sold_more : (kept : KeptPools MemoryPort) → cause ≡ None → kept.pools ≡ pools_of p.pools ++ pool ∷ [] → AreSold setup kept [] →
+      IsOutcome (sold told pool told.setup told.events) (StandsFor (record p { pools = Some kept })) [] None
+  sold_more kept e pools_are are_sold =
+      subst (λ o. IsOutcome o (StandsFor (record p { pools = Some kept })) [] None) (sym (outcome_is ∙ ap (sold_by told pool) e)) (
+        record {
+          setup = s.setup;
+          limits = s.limits;
+          begun = s.begun;
+          sold = subst (λ o. HaveSold o (Some kept) (record told { pools = told.pools ++ pool ∷ [] })) (sym is)
+              (ap (λ l. l ++ pool ∷ []) (sold_are p told s) ∙ sym pools_are, subst (λ (l : List At). AreSold setup kept (events_of l)) (sym no_events) are_sold);
+        },
+        refl,
+      )
+
+-- ---- an event happens
+
+pub before_pools : (told : Told) (p after : Pouring) (then_ : GrandmasterSetup → Outcome Told PoolCause) (texts : List (List ℕ)) → StandsFor p told → p.pools ≡ None →
+    IsOutcome (behind_pools told.setup told.pools then_) (StandsFor after) texts (Some Order)
+before_pools told p after then_ texts s none = subst (λ l. IsOutcome (behind_pools told.setup l then_) (StandsFor after) texts (Some Order)) (sym (sold_are p told s ∙ ap pools_of none)) (by told.setup)
+  where
+    by : (o : Option GrandmasterSetup) → IsOutcome (behind_pools o [] then_) (StandsFor after) texts (Some Order)
+    by None = refl
+    by (Some setup) = refl
+
+-- the grandmaster and its pools, where there are any
+pub record HasPools (told : Told) (p : Pouring) (kept : KeptPools MemoryPort) : Type 0 where
+  pub setup : GrandmasterSetup
+  pub is : p.setup ≡ Some setup
+  pub pools : told.pools ≡ kept.pools
+  pub sold : AreSold setup kept (events_of told.events)
+
+pub has_pools : (told : Told) (p : Pouring) (kept : KeptPools MemoryPort) → StandsFor p told → p.pools ≡ Some kept → HasPools told p kept
+has_pools told p kept s is = by p.setup refl (subst (λ k. HaveSold p.setup k told) is s.sold)
+  where
+    by : (o : Option GrandmasterSetup) → p.setup ≡ o → HaveSold o (Some kept) told → HasPools told p kept
+    by None e h = absurd h
+    by (Some setup) e h = record { setup = setup; is = e; pools = h.0; sold = h.1 }
+
+has_more : (events : List At) (at : At) → has_events (events ++ at ∷ []) ≡ true
+has_more [] at = refl
+has_more (event ∷ events) at = refl
+
+behind_some : (setup : GrandmasterSetup) (pools : List Pool) (then_ : GrandmasterSetup → Outcome Told PoolCause) → 1 ≤ length pools → behind_pools (Some setup) pools then_ ≡ then_ setup
+behind_some setup [] then_ le = absurd (omega (arith, le))
+behind_some setup (pool ∷ pools) then_ le = refl
+
+module _ (told : Told) (p : Pouring) (kept : KeptPools MemoryPort) (s : StandsFor p told) (h : HasPools told p kept) where
+  -- with these pools
+  behind_them : (then_ : GrandmasterSetup → Outcome Told PoolCause) → behind_pools told.setup told.pools then_ ≡ then_ h.setup
+  behind_them then_ =
+      ap (λ o. behind_pools o told.pools then_) (s.setup ∙ h.is)
+      ∙ behind_some h.setup told.pools then_ (subst (λ (l : List Pool). 1 ≤ length l) (sym h.pools) h.sold.some)
+
+  happened_so : (line : ℕ) (event : PoolEvent) (kept' : KeptPools MemoryPort) (texts' : List (List ℕ)) →
+      HasHappened h.setup line (events_of told.events) event kept kept' [] texts' →
+      IsOutcome (happened told line event h.setup) (StandsFor (record { setup = p.setup; pools = Some kept'; has_begun = true })) texts' None
+  happened_so line event kept' texts' has = (
+    record {
+      setup = s.setup;
+      limits = s.limits;
+      begun = sym (has_more told.events (line, event));
+      sold = subst (λ o. HaveSold o (Some kept') (record told { events = told.events ++ (line, event) ∷ [] })) (sym h.is)
+          (h.pools ∙ sym has.pools, subst (AreSold h.setup kept') (sym (map-append (λ (at : At). at.1) told.events ((line, event) ∷ []))) has.sold);
+    },
+    has.says ∙ ap (λ (l : List Pool). map line_text (lines_of_event h.setup l (events_of told.events) line event)) (sym h.pools),
+  )
+
+  pub came_so : (line : ℕ) (event : PoolEvent) (kept' : KeptPools MemoryPort) (texts' : List (List ℕ)) →
+      HasHappened h.setup line (events_of told.events) event kept kept' [] texts' →
+      IsOutcome (behind_pools told.setup told.pools (happened told line event)) (StandsFor (record { setup = p.setup; pools = Some kept'; has_begun = true })) texts' None
+  came_so line event kept' texts' has =
+      subst (λ o. IsOutcome o (StandsFor (record { setup = p.setup; pools = Some kept'; has_begun = true })) texts' None) (sym (behind_them (happened told line event)))
+      (happened_so line event kept' texts' has)
+
+  pub turned_so : (line t number table : ℕ) (kept' : KeptPools MemoryPort) (texts' : List (List ℕ)) → number ≤ length kept.pools →
+      HasHappened h.setup line (events_of told.events) (Turned t (number - 1) table) kept kept' [] texts' →
+      IsOutcome (behind_pools told.setup told.pools (turned told line t number table)) (StandsFor (record { setup = p.setup; pools = Some kept'; has_begun = true })) texts' None
+  turned_so line t number table kept' texts' le has =
+      subst (λ o. IsOutcome o (StandsFor (record { setup = p.setup; pools = Some kept'; has_begun = true })) texts' None)
+      (sym (behind_them (turned told line t number table)
+      ∙ ap (λ b. cond b (happened told line (Turned t (number - 1) table) h.setup) (Refuses Number)) (le-leb number (length told.pools) (subst (λ (l : List Pool). number ≤ length l) (sym h.pools) le))))
+      (happened_so line (Turned t (number - 1) table) kept' texts' has)
+
+  pub no_such_pool : (line t number table : ℕ) (after : Pouring) (texts : List (List ℕ)) → length kept.pools < number →
+      IsOutcome (behind_pools told.setup told.pools (turned told line t number table)) (StandsFor after) texts (Some Number)
+  no_such_pool line t number table after texts lt =
+      subst (λ o. IsOutcome o (StandsFor after) texts (Some Number))
+      (sym (behind_them (turned told line t number table)
+      ∙ ap (λ b. cond b (happened told line (Turned t (number - 1) table) h.setup) (Refuses Number)) (lt-leb number (length told.pools) (subst (λ (l : List Pool). length l < number) (sym h.pools) lt))))
+      refl

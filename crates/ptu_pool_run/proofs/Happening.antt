@@ -1,0 +1,175 @@
+-- What has happened to pools at a line.
+use Rattle.std.proofs.Common.{◌≡◌, ◌+◌, ◌∙◌, ◌⊎◌, All, inl, inr, ℕ, ◌<◌, ◌≤◌, Bool, true, false, eqb, List, [], ◌∷◌, ◌++◌, length, map, position, set, slice_get, Option, Some, None, Result, Ok, Err, refl, sym, ap, subst}
+use Rattle.std.specs.Result.{OnOk}
+use Rattle.std.proofs.lemmas.Bool.{both_ways, cases_eq, eqb-true}
+use Rattle.std.proofs.lemmas.Simd.{map-map}
+use Rattle.ptu_outside.specs.Departure.{Departure}
+use Rattle.ptu_outside.specs.declared.port.Port.{Ghosts as Ports}
+use Rattle.ptu_outside.specs.MemoryPort.{MemoryPort}
+use Rattle.ptu_shard.specs.declared.answered.Turned.{Turned as TableTurned}
+use Rattle.ptu_shard.specs.declared.config.GmConfig.{GmConfig}
+use Rattle.ptu_items.specs.Items.{heard_in}
+use Rattle.ptu_grandmaster.specs.declared.outcome.Taken.{Taken}
+use Rattle.ptu_grandmaster.specs.Gm.{KeptGm, StandsFor, table_at}
+use Rattle.ptu_pools.specs.declared.pool.Pool.{Pool}
+use Rattle.ptu_pools.specs.Changes.{TookDatagram, TookTurn}
+use Rattle.ptu_pools.specs.Events.{PoolEvent, Came, Turned, pool_history}
+use Rattle.ptu_pools.specs.Pool.{AreApart, capacity_at, is_in, is_in_at}
+use Rattle.ptu_pools.specs.Refusal.{Share}
+use Rattle.ptu_admit.specs.Book.{IsCapacity}
+use Rattle.ptu_pools.specs.Standing.{ChangesOne, KeptPools, StandFor}
+use Rattle.ptu_pools.proofs.Places.{found_in, none_in, one_place}
+use Rattle.ptu_pools.proofs.Standing.{get-set_other, get-set_same}
+use Rattle.ptu_script.specs.declared.command.GrandmasterSetup.{GrandmasterSetup}
+use Rattle.ptu_world.specs.Deeds.{Grandmaster}
+use Rattle.ptu_world.specs.Grandmasters.{datagram_deed, turn_deed}
+use Rattle.ptu_nodes.specs.GrandmasterPorts.{in_ports}
+use Rattle.ptu_nodes.specs.GrandmasterStatements.{IsSent}
+use Rattle.ptu_nodes.specs.Standing.{AreIdle}
+use Rattle.ptu_nodes.proofs.GrandmasterReceipts.{sends_heard, told_all}
+use Rattle.ptu_nodes.proofs.GrandmasterTurns.{sends_turned}
+use Rattle.ptu_pool_script.specs.declared.output.PoolLine.TheVariants as lines
+use Rattle.ptu_pool_script.specs.Output.{line_text}
+use Rattle.ptu_pool_run.specs.Ports.{AreAllIdle, AreOthersSame, GoOn, sent_texts}
+use Rattle.ptu_pool_run.specs.Sending.{config_of, grandmaster_of, lines_by, lines_of_event, place_of, sends_at, sent_line}
+use Rattle.ptu_pool_run.specs.Standing.{AreSold, HasHappened}
+
+pub on_ok_four : {T E P Q R S U : Type 0} (r : Result T E) → (P → Q → R → S → U) → OnOk r P → OnOk r Q → OnOk r R → OnOk r S → OnOk r U
+on_ok_four (Ok x) f p q r s = f p q r s
+on_ok_four (Err e) f p q r s = tt
+
+-- ---- what one pool sends
+
+-- it stands for what the grandmaster of a world has done
+abbrev StandsAt : Grandmaster → KeptGm MemoryPort → Type 0
+StandsAt g gm = StandsFor g.capacity gm g.past
+
+module _ (ports : Ports MemoryPort) (tells : (p : MemoryPort) → ports.sent p ≡ Some p.sent) where
+  took_sends : (g : Grandmaster) (t from : ℕ) (octets : List ℕ) (taken : Taken) (old new : KeptGm MemoryPort) → g.config ≡ old.config →
+      StandsAt g old → AreIdle old → IsSent taken → TookDatagram ports t from octets taken old new →
+      in_ports new ≡ (datagram_deed g t from octets).sends
+  took_sends g t from octets taken old new config stood idle sent took =
+      subst (λ (c : GmConfig). in_ports new ≡ (datagram_deed (record g { config = c }) t from octets).sends) (sym config)
+      (sends_heard ports tells (record g { config = old.config }) t from (heard_in old.config octets) taken old new idle took.answer (took.comes g.capacity g.past stood) sent took.ignored took.delay took.reply took.tables)
+
+  turn_sends : (g : Grandmaster) (t table : ℕ) (turned : TableTurned) (old new : KeptGm MemoryPort) → g.config ≡ old.config →
+      StandsAt g old → AreIdle old → turned.failed ≡ 0 → TookTurn ports t table turned old new →
+      in_ports new ≡ (turn_deed g t table).sends
+  turn_sends g t table turned old new config stood idle none took =
+      sends_turned t table old new turned.at g config stood idle
+      (told_all ports tells (table_at table old).port (table_at table new).port _ turned.sent turned.failed took.sends none) took.rest took.messages
+
+-- ---- the place of a pool
+
+here : (pools : List Pool) (ip place : ℕ) (o : Option ℕ) → AreApart pools → is_in_at pools place ip ≡ true → position (is_in ip) pools ≡ o → position (is_in ip) pools ≡ Some place
+here pools ip place None apart inside e = absurd (both_ways (is_in_at pools place ip) (none_in pools ip e place) inside)
+here pools ip place (Some found) apart inside e = e ∙ ap Some (one_place pools found place ip apart (found_in pools ip found e) inside)
+
+nowhere : (pools : List Pool) (ip : ℕ) (o : Option ℕ) → ((i : ℕ) → is_in_at pools i ip ≡ false) → position (is_in ip) pools ≡ o → position (is_in ip) pools ≡ None
+nowhere pools ip None none e = e
+nowhere pools ip (Some found) none e = absurd (both_ways (is_in_at pools found ip) (none found) (found_in pools ip found e))
+
+-- ---- what happens
+
+module _ (setup : GrandmasterSetup) (line : ℕ) (events : List PoolEvent) (kept0 kept1 : KeptPools MemoryPort) (sold : AreSold setup kept0 events)
+    (first : GoOn kept0 kept1) (still : AreAllIdle kept0 → AreAllIdle kept1) where
+  stood : StandFor (config_of setup) kept1 events
+  stood = first.stand (config_of setup) events sold.stand
+
+  idle : AreAllIdle kept1
+  idle = still sold.idle
+
+  apart : AreApart kept1.pools
+  apart = subst AreApart (sym first.pools) sold.share.apart
+
+  -- pools that stand for one event more
+  sold_after : (event : PoolEvent) (kept : KeptPools MemoryPort) → kept.pools ≡ kept0.pools → StandFor (config_of setup) kept (events ++ event ∷ []) → AreAllIdle kept →
+      AreSold setup kept (events ++ event ∷ [])
+  sold_after event kept same stand none = record {
+    some = subst (λ (l : List Pool). 1 ≤ length l) (sym same) sold.some;
+    share = subst (λ (l : List Pool). Share setup.capacity l) (sym same) sold.share;
+    capacities = subst (λ (l : List Pool). All (λ pool. IsCapacity pool.capacity) l) (sym same) sold.capacities;
+    stand = stand;
+    idle = none;
+  }
+
+  pub stranger_came : (t from : ℕ) (octets : List ℕ) (kept2 : KeptPools MemoryPort) (texts texts' : List (List ℕ)) →
+      ((i : ℕ) → is_in_at kept1.pools i from ≡ false) → kept2 ≡ kept1 → StandFor (config_of setup) kept2 (events ++ Came t from octets ∷ []) →
+      texts' ≡ texts ++ line_text (lines.Stranger line) ∷ [] →
+      HasHappened setup line events (Came t from octets) kept0 kept2 texts texts'
+  stranger_came t from octets kept2 texts texts' none same stand says =
+      let pools : kept2.pools ≡ kept0.pools = ap (λ (k : KeptPools MemoryPort). k.pools) same ∙ first.pools in record {
+        pools = pools;
+        sold = sold_after (Came t from octets) kept2 pools stand (subst AreAllIdle (sym same) idle);
+        says = says ∙ ap (λ o. texts ++ map line_text (lines_by setup kept0.pools events line (Came t from octets) o))
+            (sym (subst (λ (l : List Pool). position (is_in from) l ≡ None) first.pools (nowhere kept1.pools from (position (is_in from) kept1.pools) none refl)));
+      }
+
+  module _ (place : ℕ) (event : PoolEvent) (Change : KeptGm MemoryPort → KeptGm MemoryPort → Type 0) (kept2 kept3 : KeptPools MemoryPort) (texts texts' : List (List ℕ))
+      (one : ChangesOne place Change kept1 kept2) (at : place_of kept1.pools event ≡ Some place)
+      (sends : in_ports one.after ≡ sends_at (grandmaster_of setup kept1.pools events place) event)
+      (stand : StandFor (config_of setup) kept2 (events ++ event ∷ []))
+      (last : GoOn kept2 kept3) (others : AreOthersSame place kept2 kept3)
+      (says : (gm : KeptGm MemoryPort) → slice_get kept2.gms place ≡ Some gm → texts' ≡ texts ++ sent_texts line (place + 1) (in_ports gm))
+      (emptied : (gm : KeptGm MemoryPort) → slice_get kept3.gms place ≡ Some gm → AreIdle gm) where
+    pools_are : kept3.pools ≡ kept0.pools
+    pools_are = last.pools ∙ (ap (λ (k : KeptPools MemoryPort). k.pools) one.now ∙ first.pools)
+
+    gms_are : kept2.gms ≡ set kept1.gms place one.after
+    gms_are = ap (λ (k : KeptPools MemoryPort). k.gms) one.now
+
+    all_idle : AreAllIdle kept3
+    all_idle i gm now = by (cases_eq i place)
+      where
+        by : (i ≡ place) ⊎ (i ≡ place → ⊥) → AreIdle gm
+        by (inl same) = emptied gm (subst (λ j. slice_get kept3.gms j ≡ Some gm) same now)
+        by (inr other) =
+            idle i gm (sym (get-set_other kept1.gms place i one.after other)
+            ∙ (sym (ap (λ (l : List (KeptGm MemoryPort)). slice_get l i) gms_are) ∙ (sym (others i other) ∙ now)))
+
+    after_is : slice_get kept2.gms place ≡ Some one.after
+    after_is = ap (λ (l : List (KeptGm MemoryPort)). slice_get l place) gms_are ∙ get-set_same kept1.gms place one.before one.after one.was
+
+    -- the same in terms of the pools as they were
+    written : texts' ≡ texts ++ map line_text (lines_of_event setup kept1.pools events line event)
+    written =
+        says one.after after_is
+        ∙ ap (λ ds. texts ++ sent_texts line (place + 1) ds) sends
+        ∙ ap (λ l. texts ++ l) (sym (map-map line_text (sent_line line (place + 1)) (sends_at (grandmaster_of setup kept1.pools events place) event)))
+        ∙ ap (λ o. texts ++ map line_text (lines_by setup kept1.pools events line event o)) (sym at)
+
+    pub one_happened : HasHappened setup line events event kept0 kept3 texts texts'
+    one_happened = record {
+      pools = pools_are;
+      sold = sold_after event kept3 pools_are (last.stand (config_of setup) (events ++ event ∷ []) stand) all_idle;
+      says = written ∙ ap (λ (l : List Pool). texts ++ map line_text (lines_of_event setup l events line event)) first.pools;
+    }
+
+  pub came_happened : (ports : Ports MemoryPort) (tells : (p : MemoryPort) → ports.sent p ≡ Some p.sent)
+      (t from place : ℕ) (octets : List ℕ) (taken : Taken) (kept2 kept3 : KeptPools MemoryPort) (texts texts' : List (List ℕ)) → IsSent taken →
+      is_in_at kept1.pools place from ≡ true → ChangesOne place (TookDatagram ports t from octets taken) kept1 kept2 →
+      StandFor (config_of setup) kept2 (events ++ Came t from octets ∷ []) →
+      GoOn kept2 kept3 → AreOthersSame place kept2 kept3 →
+      ((gm : KeptGm MemoryPort) → slice_get kept2.gms place ≡ Some gm → texts' ≡ texts ++ sent_texts line (place + 1) (in_ports gm)) →
+      ((gm : KeptGm MemoryPort) → slice_get kept3.gms place ≡ Some gm → AreIdle gm) →
+      HasHappened setup line events (Came t from octets) kept0 kept3 texts texts'
+  came_happened ports tells t from place octets taken kept2 kept3 texts texts' sent inside one stand last others says emptied =
+      let was = stood.each place one.before one.was in
+      one_happened place (Came t from octets) (TookDatagram ports t from octets taken) kept2 kept3 texts texts' one
+      (here kept1.pools from place (position (is_in from) kept1.pools) apart inside refl)
+      (took_sends ports tells (grandmaster_of setup kept1.pools events place) t from octets taken one.before one.after (sym was.0) was.1 (idle place one.before one.was) sent one.changed)
+      stand last others says emptied
+
+  pub turn_happened : (ports : Ports MemoryPort) (tells : (p : MemoryPort) → ports.sent p ≡ Some p.sent)
+      (t place table : ℕ) (turned : TableTurned) (kept2 kept3 : KeptPools MemoryPort) (texts texts' : List (List ℕ)) → turned.failed ≡ 0 →
+      ChangesOne place (TookTurn ports t table turned) kept1 kept2 →
+      StandFor (config_of setup) kept2 (events ++ Turned t place table ∷ []) →
+      GoOn kept2 kept3 → AreOthersSame place kept2 kept3 →
+      ((gm : KeptGm MemoryPort) → slice_get kept2.gms place ≡ Some gm → texts' ≡ texts ++ sent_texts line (place + 1) (in_ports gm)) →
+      ((gm : KeptGm MemoryPort) → slice_get kept3.gms place ≡ Some gm → AreIdle gm) →
+      HasHappened setup line events (Turned t place table) kept0 kept3 texts texts'
+  turn_happened ports tells t place table turned kept2 kept3 texts texts' none one stand last others says emptied =
+      let was = stood.each place one.before one.was in
+      one_happened place (Turned t place table) (TookTurn ports t table turned) kept2 kept3 texts texts' one refl
+      (turn_sends ports tells (grandmaster_of setup kept1.pools events place) t table turned one.before one.after (sym was.0) was.1 (idle place one.before one.was) none one.changed)
+      stand last others says emptied

@@ -1,0 +1,176 @@
+-- Every script of pools keeps its promises.
+use Rattle.std.proofs.Common.{◌≡◌, ◌∙◌, ◌⊎◌, inl, inr, ℕ, ◌+◌, ◌-◌, ◌*◌, ◌<◌, ◌≤◌, Bool, true, false, cond, leb, List, [], ◌∷◌, ◌++◌, length, map, slice_get, Option, Some, None, Result, Ok, Err, refl, sym, ap, ap₂, subst, arith, append_assoc}
+use Rattle.std.proofs.lemmas.List.{append-nil, map-append}
+use Rattle.ptu_lines.specs.Script.{ScriptLine, Whole, Refused, script_lines}
+use Rattle.ptu_report.specs.declared.ending.Ending.{Ending}
+use Rattle.ptu_report.specs.Rules.{Goes, Outcome, Refuses, closing, ending_after, ending_at, texts_at, texts_of, texts_until}
+use Rattle.ptu_history.specs.Held.{count, held}
+use Rattle.ptu_script.specs.declared.cause.Cause.{Cause}
+use Rattle.ptu_script.specs.declared.command.GrandmasterSetup.{GrandmasterSetup}
+use Rattle.ptu_pools.specs.declared.pool.Pool.{Pool}
+use Rattle.ptu_pools.specs.Events.{PoolEvent, Came, Turned, over_all}
+use Rattle.ptu_pools.specs.Pool.{AreApart}
+use Rattle.ptu_pools.specs.Refusal.{Share}
+use Rattle.ptu_pools.proofs.Whole.{count_whole, held_own, held_whole}
+use Rattle.ptu_pool_script.specs.declared.cause.PoolCause.{PoolCause}
+use Rattle.ptu_pool_script.specs.declared.cause.PoolCause.TheVariants.{Number}
+use Rattle.ptu_pool_script.specs.declared.command.PoolCommand.{PoolCommand}
+use Rattle.ptu_pool_script.specs.declared.command.PoolCommand.TheVariants as commands
+use Rattle.ptu_pool_script.specs.declared.output.PoolLine.{PoolLine}
+use Rattle.ptu_pool_script.specs.Command.{command_of}
+use Rattle.ptu_pool_script.specs.Output.{line_text}
+use Rattle.ptu_pool_run.specs.Poured.{end_of, last_line, lines_after, lines_by_setup, lines_of_pool, own_at, own_lines_by, poured_texts, told_at, told_by, told_until}
+use Rattle.ptu_pool_run.specs.Promises.{KeepsPools, SayAlike, history_of}
+use Rattle.ptu_pool_run.specs.Reading.{At, Told, behind_pools, events_of, happened, opening, outcome_by, rules, set_up, sold, sold_by, step, turned}
+use Rattle.ptu_pool_run.specs.Selling.{refusal_of}
+use Rattle.ptu_pool_run.specs.Sending.{config_of, lines_of_event}
+use Rattle.ptu_pool_run.proofs.OutputLines.{own_of}
+use Rattle.ptu_pool_run.proofs.Sold.{none_share, sold_share}
+
+-- before the grandmaster is set up there is nothing; then its pools share its capacity
+abbrev pub AreSound : Option GrandmasterSetup → List Pool → List At → Type 0
+AreSound None pools events = (pools ≡ []) × (events ≡ [])
+AreSound (Some setup) pools events = Share setup.capacity pools
+
+abbrev pub IsSound : Told → Type 0
+IsSound told = AreSound told.setup told.pools told.events
+
+-- the texts of what was said so far
+abbrev texts_so_far : Told → List (List ℕ)
+texts_so_far told = map line_text (lines_by_setup told.setup told.pools told.events)
+
+-- what goes on is sound, and its texts are those so far and those of the outcome
+abbrev Follows : Told → Outcome Told PoolCause → Type 0
+Follows told (Refuses cause) = Unit {0}
+Follows told (Goes after texts) = IsSound after × (texts_so_far told ++ texts ≡ texts_so_far after)
+
+-- ---- one command
+
+lines-push : (setup : GrandmasterSetup) (pools : List Pool) (before : List PoolEvent) (events : List At) (line : ℕ) (event : PoolEvent) →
+    lines_after setup pools before (events ++ (line, event) ∷ []) ≡ lines_after setup pools before events ++ lines_of_event setup pools (before ++ events_of events) line event
+lines-push setup pools before [] line event = append-nil (lines_of_event setup pools before line event) ∙ ap (λ l. lines_of_event setup pools l line event) (sym (append-nil before))
+lines-push setup pools before ((n, e) ∷ events) line event =
+    ap (λ l. lines_of_event setup pools before n e ++ l)
+    (lines-push setup pools (before ++ e ∷ []) events line event
+    ∙ ap (λ l. lines_after setup pools (before ++ e ∷ []) events ++ lines_of_event setup pools l line event) (append_assoc before (e ∷ []) (events_of events)))
+    ∙ sym (append_assoc (lines_of_event setup pools before n e) (lines_after setup pools (before ++ e ∷ []) events) (lines_of_event setup pools (before ++ e ∷ events_of events) line event))
+
+module _ (pools : List Pool) (events : List At) (line : ℕ) where
+  abbrev with_setup : Option GrandmasterSetup → Told
+  with_setup setup = record { setup = setup; pools = pools; events = events }
+
+  happened_follows : (setup : GrandmasterSetup) (event : PoolEvent) → Share setup.capacity pools →
+      Follows (with_setup (Some setup)) (happened (with_setup (Some setup)) line event setup)
+  happened_follows setup event share =
+      (share, sym (map-append line_text (lines_after setup pools [] events) (lines_of_event setup pools (events_of events) line event)) ∙ ap (map line_text) (sym (lines-push setup pools [] events line event)))
+
+  turned_follows : (setup : GrandmasterSetup) (t number table : ℕ) → Share setup.capacity pools →
+      Follows (with_setup (Some setup)) (turned (with_setup (Some setup)) line t number table setup)
+  turned_follows setup t number table share = by (leb number (length pools))
+    where
+      by : (b : Bool) → Follows (with_setup (Some setup)) (cond b (happened (with_setup (Some setup)) line (Turned t (number - 1) table) setup) (Refuses Number))
+      by true = happened_follows setup (Turned t (number - 1) table) share
+      by false = tt
+
+sold_follows : (setup : GrandmasterSetup) (pools : List Pool) (pool : Pool) (o : Option PoolCause) → Share setup.capacity pools → refusal_of setup.capacity pools pool ≡ o →
+    Follows (record { setup = Some setup; pools = pools; events = [] }) (sold_by (record { setup = Some setup; pools = pools; events = [] }) pool o)
+sold_follows setup pools pool None share e = (sold_share setup.capacity pools pool share e, refl)
+sold_follows setup pools pool (Some cause) share e = tt
+
+step_follows : (setup : Option GrandmasterSetup) (pools : List Pool) (events : List At) (line : ℕ) (command : PoolCommand) → AreSound setup pools events →
+    (let told : Told = record { setup = setup; pools = pools; events = events } in Follows told (step told line command))
+step_follows None pools events line (commands.Grandmaster setup) sound =
+    (subst (λ l. Share setup.capacity l) (sym sound.0) (none_share setup.capacity), ap (λ l. map line_text (lines_after setup pools [] l)) (sym sound.1))
+step_follows (Some before) pools events line (commands.Grandmaster setup) sound = tt
+step_follows None pools events line (commands.Sell pool) sound = tt
+step_follows (Some setup) pools [] line (commands.Sell pool) sound = sold_follows setup pools pool (refusal_of setup.capacity pools pool) sound refl
+step_follows (Some setup) pools (event ∷ events) line (commands.Sell pool) sound = tt
+step_follows None pools events line (commands.Receive t from octets) sound = tt
+step_follows (Some setup) [] events line (commands.Receive t from octets) sound = tt
+step_follows (Some setup) (pool ∷ pools) events line (commands.Receive t from octets) sound = happened_follows (pool ∷ pools) events line setup (Came t from octets) sound
+step_follows None pools events line (commands.Turn t number table) sound = tt
+step_follows (Some setup) [] events line (commands.Turn t number table) sound = tt
+step_follows (Some setup) (pool ∷ pools) events line (commands.Turn t number table) sound = turned_follows (pool ∷ pools) events line setup t number table sound
+
+line_follows : (told : Told) (line : ℕ) (r : Result (Option PoolCommand) Cause) → IsSound told → Follows told (outcome_by told line r)
+line_follows told line (Ok None) sound = (sound, append-nil (texts_so_far told))
+line_follows told line (Ok (Some command)) sound = step_follows told.setup told.pools told.events line command sound
+line_follows told line (Err cause) sound = tt
+
+-- ---- all lines
+
+sound_until : (told : Told) (before : ℕ) (lines : List ScriptLine) → IsSound told → IsSound (told_until told before lines)
+unfolding rules
+sound_until told before [] sound = sound
+sound_until told before (Refused cause ∷ rest) sound = sound
+sound_until told before (Whole text ∷ rest) sound =
+    by (outcome_by told (before + 1) (command_of text)) (line_follows told (before + 1) (command_of text) sound) (λ after s. sound_until after (before + 1) rest s)
+  where
+    by : (o : Outcome Told PoolCause) → Follows told o → ((after : Told) → IsSound after → IsSound (told_until after (before + 1) rest)) →
+        IsSound (told_at told o (λ after. told_until after (before + 1) rest))
+    by (Refuses cause) follows later = sound
+    by (Goes after texts) follows later = later after follows.0
+
+-- the texts so far, followed by those to come, are those of all lines of output
+abbrev whole_texts : Told → Ending PoolCause → List (List ℕ)
+whole_texts told ending = map line_text (lines_by_setup told.setup told.pools told.events ++ last_line ending ∷ [])
+
+last_texts : (told : Told) (ending : Ending PoolCause) → texts_so_far told ++ line_text (last_line ending) ∷ [] ≡ whole_texts told ending
+last_texts told ending = sym (map-append line_text (lines_by_setup told.setup told.pools told.events) (last_line ending ∷ []))
+
+texts_are : (told : Told) (before : ℕ) (lines : List ScriptLine) → IsSound told →
+    texts_so_far told ++ texts_until rules (closing rules) told before lines ≡ whole_texts (told_until told before lines) (ending_after rules told before lines)
+unfolding rules
+texts_are told before [] sound = last_texts told (ending_after rules told before [])
+texts_are told before (Refused cause ∷ rest) sound = last_texts told (ending_after rules told before (Refused cause ∷ rest))
+texts_are told before (Whole text ∷ rest) sound =
+    by (outcome_by told (before + 1) (command_of text)) (line_follows told (before + 1) (command_of text) sound) (λ after s. texts_are after (before + 1) rest s)
+  where
+    by : (o : Outcome Told PoolCause) → Follows told o →
+        ((after : Told) → IsSound after → texts_so_far after ++ texts_until rules (closing rules) after (before + 1) rest
+        ≡ whole_texts (told_until after (before + 1) rest) (ending_after rules after (before + 1) rest)) →
+        texts_so_far told ++ texts_at rules (before + 1) o (λ after. texts_until rules (closing rules) after (before + 1) rest)
+        ≡ whole_texts (told_at told o (λ after. told_until after (before + 1) rest)) (ending_at (before + 1) o (λ after. ending_after rules after (before + 1) rest))
+    by (Refuses cause) follows later = last_texts told (ending_at (before + 1) (Refuses cause) (λ after. ending_after rules after (before + 1) rest))
+    by (Goes after texts) follows later =
+        sym (append_assoc (texts_so_far told) texts _) ∙ ap (λ l. l ++ texts_until rules (closing rules) after (before + 1) rest) follows.1 ∙ later after follows.0
+
+-- ---- a script
+
+sound_by : (script : List ℕ) → IsSound (told_by script)
+unfolding told_by
+sound_by script = sound_until opening 0 (script_lines script) (refl, refl)
+
+pub texts_of_script : (script : List ℕ) → texts_of rules opening (script_lines script) ≡ poured_texts script
+unfolding told_by
+texts_of_script script = texts_are opening 0 (script_lines script) (refl, refl)
+
+apart_of : (setup : Option GrandmasterSetup) (pools : List Pool) (events : List At) → AreSound setup pools events → AreApart pools
+apart_of None pools events sound = subst AreApart (sym sound.0) (none_share 0).apart
+apart_of (Some setup) pools events sound = sound.apart
+
+own_lines_are : (script : List ℕ) (i : ℕ) →
+    lines_of_pool i script ≡ own_lines_by (told_by script).setup (told_by script).pools i (own_at (told_by script).pools i (told_by script).events)
+own_lines_are script i =
+    let told = told_by script in
+    own_of told.setup told.pools i told.events (end_of script) (apart_of told.setup told.pools told.events (sound_by script))
+
+apart : (one other : List ℕ) (i : ℕ) → SayAlike i (told_by one) (told_by other) → lines_of_pool i one ≡ lines_of_pool i other
+apart one other i alike =
+    own_lines_are one i
+    ∙ (ap₂ (λ setup pools. own_lines_by setup pools i (own_at (told_by one).pools i (told_by one).events)) alike.setup alike.pools
+    ∙ ap (own_lines_by (told_by other).setup (told_by other).pools i) alike.own)
+    ∙ sym (own_lines_are other i)
+
+shared : (told : Told) (setup : GrandmasterSetup) → told.setup ≡ Some setup → IsSound told → Share setup.capacity told.pools
+shared told setup is sound = subst (λ o. AreSound o told.pools told.events) is sound
+
+pub keeps_pools : (script : List ℕ) → KeepsPools script
+keeps_pools script = record {
+  by_rules = texts_of_script script;
+  own = λ i. own_lines_are script i;
+  apart = λ other i alike. apart script other i alike;
+  each_within = λ setup i x is. held_own (config_of setup) (told_by script).pools (events_of (told_by script).events) i x;
+  all_within = λ setup x is. held_whole (config_of setup) setup.capacity (told_by script).pools (events_of (told_by script).events) x (shared (told_by script) setup is (sound_by script));
+  messages_within = λ setup x is. count_whole (config_of setup) setup.capacity (told_by script).pools (events_of (told_by script).events) x (shared (told_by script) setup is (sound_by script));
+}

@@ -1,0 +1,142 @@
+-- The ports of one pool, lent and given back.
+use Rattle.std.proofs.Common.{◌≡◌, ◌≢◌, ◌∙◌, ◌⊎◌, inl, inr, ℕ, zero, suc, ◌+◌, ◌<◌, ◌≤◌, ◌==◌, Bool, true, false, cond, length, List, [], ◌∷◌, slice_get, option_map, Option, Some, None, refl, sym, ap, subst, arith}
+use Rattle.std.proofs.lemmas.Bool.{cases_eq, ne_eqb}
+use Rattle.ptu_outside.specs.MemoryPort.{MemoryPort}
+use Rattle.ptu_shard.specs.Table.{Kept}
+use Rattle.ptu_grandmaster.specs.Gm.{KeptGm, port_at, table_at, with_port}
+use Rattle.ptu_pools.specs.Ported.{with_port_at, with_port_of}
+use Rattle.ptu_pools.specs.Standing.{KeptPools}
+use Rattle.ptu_nodes.specs.Standing.{AreIdle}
+use Rattle.ptu_pool_run.specs.Ports.{AreAllIdle}
+
+-- ---- one grandmaster of all
+
+pub others_ported : (gms : List (KeptGm MemoryPort)) (place index : ℕ) (port : MemoryPort) (i : ℕ) → i ≢ place →
+    slice_get (with_port_at place index port gms) i ≡ slice_get gms i
+others_ported [] place index port i other = refl
+others_ported (gm ∷ gms) zero index port zero other = absurd (other refl)
+others_ported (gm ∷ gms) zero index port (suc i) other = refl
+others_ported (gm ∷ gms) (suc place) index port zero other = refl
+others_ported (gm ∷ gms) (suc place) index port (suc i) other = others_ported gms place index port i (λ e. other (ap suc e))
+
+pub here_ported : (gms : List (KeptGm MemoryPort)) (place index : ℕ) (port : MemoryPort) (gm : KeptGm MemoryPort) → slice_get gms place ≡ Some gm →
+    slice_get (with_port_at place index port gms) place ≡ Some (with_port index port gm)
+here_ported [] place index port gm is = absurd cc
+here_ported (x ∷ gms) zero index port gm is = let e : x ≡ gm = cc in ap (λ g. Some (with_port index port g)) e
+here_ported (x ∷ gms) (suc place) index port gm is = here_ported gms place index port gm is
+
+-- the grandmaster that a port was lent of
+pub record IsLent (gms : List (KeptGm MemoryPort)) (place index : ℕ) (port : MemoryPort) (after : KeptGm MemoryPort) : Type 0 where
+  pub before : KeptGm MemoryPort
+  pub was : slice_get gms place ≡ Some before
+  pub now : after ≡ with_port index port before
+
+pub there_ported : (gms : List (KeptGm MemoryPort)) (place index : ℕ) (port : MemoryPort) (after : KeptGm MemoryPort) →
+    slice_get (with_port_at place index port gms) place ≡ Some after → IsLent gms place index port after
+there_ported [] place index port after is = absurd cc
+there_ported (x ∷ gms) zero index port after is = record { before = x; was = refl; now = let e : with_port index port x ≡ after = cc in sym e }
+there_ported (x ∷ gms) (suc place) index port after is =
+    let lent = there_ported gms place index port after is in record { before = lent.before; was = lent.was; now = lent.now }
+
+-- ---- idle ports
+
+abbrev table_by : Bool → Bool → Bool → KeptGm MemoryPort → Kept MemoryPort
+table_by first one two gm = cond first gm.s0 (cond one gm.s1 (cond two gm.s2 gm.s3))
+
+abbrev with_by : Bool → Bool → Bool → Bool → MemoryPort → KeptGm MemoryPort → KeptGm MemoryPort
+with_by four first one two port gm =
+    let table : Kept MemoryPort = record (table_by first one two gm) { port = port } in
+    cond four (record gm { reply = port })
+    (cond first (record gm { s0 = table }) (cond one (record gm { s1 = table }) (cond two (record gm { s2 = table }) (record gm { s3 = table }))))
+
+idle_with : (four first one two : Bool) (port : MemoryPort) (gm : KeptGm MemoryPort) → AreIdle gm → port.sent ≡ [] → AreIdle (with_by four first one two port gm)
+idle_with true first one two port gm (e0, e1, e2, e3, e4) none = (e0, e1, e2, e3, none)
+idle_with false true one two port gm (e0, e1, e2, e3, e4) none = (none, e1, e2, e3, e4)
+idle_with false false true two port gm (e0, e1, e2, e3, e4) none = (e0, none, e2, e3, e4)
+idle_with false false false true port gm (e0, e1, e2, e3, e4) none = (e0, e1, none, e3, e4)
+idle_with false false false false port gm (e0, e1, e2, e3, e4) none = (e0, e1, e2, none, e4)
+
+idle_at : (four first one two : Bool) (gm : KeptGm MemoryPort) → AreIdle gm → (cond four gm.reply (table_by first one two gm).port).sent ≡ []
+idle_at true first one two gm (e0, e1, e2, e3, e4) = e4
+idle_at false true one two gm (e0, e1, e2, e3, e4) = e0
+idle_at false false true two gm (e0, e1, e2, e3, e4) = e1
+idle_at false false false true gm (e0, e1, e2, e3, e4) = e2
+idle_at false false false false gm (e0, e1, e2, e3, e4) = e3
+
+-- where nothing stood in any port, and as much stands in one that was lent, nothing does
+pub still_idle : (kept : KeptPools MemoryPort) (place index : ℕ) (before port : MemoryPort) →
+    ((gm : KeptGm MemoryPort) → slice_get kept.gms place ≡ Some gm → port_at index gm ≡ before) → port.sent ≡ before.sent →
+    AreAllIdle kept → AreAllIdle (with_port_of place index port kept)
+still_idle kept place index before port at same idle i after now = by (cases_eq i place)
+  where
+    here : slice_get (with_port_at place index port kept.gms) place ≡ Some after → AreIdle after
+    here there =
+        let lent = there_ported kept.gms place index port after there in
+        let was : AreIdle lent.before = idle place lent.before lent.was in
+        let none : port.sent ≡ [] = same ∙ ap (λ (p : MemoryPort). p.sent) (sym (at lent.before lent.was)) ∙ idle_at (index == 4) (index == 0) (index == 1) (index == 2) lent.before was in
+        subst AreIdle (sym lent.now) (idle_with (index == 4) (index == 0) (index == 1) (index == 2) port lent.before was none)
+
+    by : (i ≡ place) ⊎ (i ≡ place → ⊥) → AreIdle after
+    by (inl same) = here (subst (λ j. slice_get (with_port_at place index port kept.gms) j ≡ Some after) same now)
+    by (inr other) = idle i after (sym (others_ported kept.gms place index port i other) ∙ now)
+
+-- the port that was lent is that of the grandmaster at the place
+pub lent_is : (gms : List (KeptGm MemoryPort)) (place index : ℕ) (gm : KeptGm MemoryPort) (port : MemoryPort) → slice_get gms place ≡ Some gm →
+    option_map (port_at index) (slice_get gms place) ≡ Some port → port_at index gm ≡ port
+lent_is gms place index gm port at value = let same : Some (port_at index gm) ≡ Some port = ap (option_map (port_at index)) (sym at) ∙ value in cc
+
+-- there is one
+pub lent_there : (index : ℕ) (port : MemoryPort) (o : Option (KeptGm MemoryPort)) → option_map (port_at index) o ≡ Some port → (gm : KeptGm MemoryPort) × (o ≡ Some gm)
+lent_there index port None value = absurd cc
+lent_there index port (Some gm) value = (gm, refl)
+
+-- ---- room
+
+rows_same : (four first one two z o t : Bool) (port : MemoryPort) (gm : KeptGm MemoryPort) →
+    (table_by z o t (with_by four first one two port gm)).rows ≡ (table_by z o t gm).rows
+rows_same true first one two z o t port gm = refl
+rows_same false true one two true o t port gm = refl
+rows_same false true one two false o t port gm = refl
+rows_same false false true two true o t port gm = refl
+rows_same false false true two false true t port gm = refl
+rows_same false false true two false false t port gm = refl
+rows_same false false false true true o t port gm = refl
+rows_same false false false true false true t port gm = refl
+rows_same false false false true false false true port gm = refl
+rows_same false false false true false false false port gm = refl
+rows_same false false false false true o t port gm = refl
+rows_same false false false false false true t port gm = refl
+rows_same false false false false false false true port gm = refl
+rows_same false false false false false false false port gm = refl
+
+port_same : (four first one two : Bool) (port : MemoryPort) (gm : KeptGm MemoryPort) →
+    (let after = with_by four first one two port gm in cond four after.reply (table_by first one two after).port ≡ port)
+port_same true first one two port gm = refl
+port_same false true one two port gm = refl
+port_same false false true two port gm = refl
+port_same false false false true port gm = refl
+port_same false false false false port gm = refl
+
+-- the port that was left is that of the grandmaster at the place
+pub port_left : (gms : List (KeptGm MemoryPort)) (place index : ℕ) (port : MemoryPort) (gm : KeptGm MemoryPort) →
+    slice_get (with_port_at place index port gms) place ≡ Some gm → port_at index gm ≡ port
+port_left gms place index port gm now =
+    let lent = there_ported gms place index port gm now in
+    ap (port_at index) lent.now ∙ port_same (index == 4) (index == 0) (index == 1) (index == 2) port lent.before
+
+-- where there is room for so many datagrams as a table has rows, there is room for its turn
+pub room_for_turn : (kept : KeptPools MemoryPort) (place table count : ℕ) (port : MemoryPort) (gm : KeptGm MemoryPort) → table < 4 →
+    option_map (λ (g : KeptGm MemoryPort). length (table_at table g).rows) (slice_get kept.gms place) ≡ Some count →
+    slice_get (with_port_at place table port kept.gms) place ≡ Some gm →
+    length (port_at table gm).sent + count ≤ (port_at table gm).datagrams →
+    length (table_at table gm).port.sent + length (table_at table gm).rows ≤ (table_at table gm).port.datagrams
+room_for_turn kept place table count port gm lt counted now room =
+    let lent = there_ported kept.gms place table port gm now in
+    let rows : (table_at table gm).rows ≡ (table_at table lent.before).rows =
+    ap (λ (g : KeptGm MemoryPort). (table_at table g).rows) lent.now ∙ rows_same (table == 4) (table == 0) (table == 1) (table == 2) (table == 0) (table == 1) (table == 2) port lent.before in
+    let both : Some (length (table_at table lent.before).rows) ≡ Some count =
+    ap (option_map (λ (g : KeptGm MemoryPort). length (table_at table g).rows)) (sym lent.was) ∙ counted in
+    let same : length (table_at table lent.before).rows ≡ count = cc in
+    let at : port_at table gm ≡ (table_at table gm).port = ap (λ b. cond b gm.reply (table_at table gm).port) (ne_eqb table 4 (λ e. omega (arith, e, lt))) in
+    subst (λ (p : MemoryPort). length p.sent + length (table_at table gm).rows ≤ p.datagrams) at
+    (subst (λ n. length (port_at table gm).sent + n ≤ (port_at table gm).datagrams) (sym (ap length rows ∙ same)) room)

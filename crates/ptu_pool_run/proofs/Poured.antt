@@ -1,0 +1,18 @@
+-- What was put for the rules is the output on a script.
+use Rattle.std.proofs.Common.{ℕ, List, Option, subst}
+use Rattle.ptu_lines.specs.Script.{script_lines}
+use Rattle.ptu_outside.specs.Handing.{HasPut}
+use Rattle.ptu_report.specs.declared.ending.Ending.{Ending}
+use Rattle.ptu_report.specs.Reported.{HasReported}
+use Rattle.ptu_pool_script.specs.declared.cause.PoolCause.{PoolCause}
+use Rattle.ptu_pool_run.specs.Answers.{HasPoured}
+use Rattle.ptu_pool_run.specs.Poured.{poured_texts}
+use Rattle.ptu_pool_run.specs.Reading.{opening, rules}
+use Rattle.ptu_pool_run.proofs.Keeping.{texts_of_script}
+
+pub poured_whole : {K : Type 0} (written : K → Option (List ℕ)) (handed : K → Option (List (List ℕ))) (old new : K) (script : List ℕ) (ending : Ending PoolCause)
+    → HasReported written handed old new rules opening (script_lines script) ending
+    → HasPoured written handed old new script ending
+poured_whole written handed old new script ending reported =
+    let put : HasPut written handed old new (poured_texts script) = subst (HasPut written handed old new) (texts_of_script script) reported.put in
+    record { written_is = put.written_is; in_pieces = put; ends = reported.ends }

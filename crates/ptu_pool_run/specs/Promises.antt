@@ -1,0 +1,41 @@
+-- What every script of pools keeps to.
+use Rattle.std.specs.Prelude.{◌≡◌, ℕ, ◌*◌, ◌≤◌, List, map, Option, Some}
+use Rattle.ptu_lines.specs.Script.{script_lines}
+use Rattle.ptu_report.specs.Rules.{texts_of}
+use Rattle.ptu_history.specs.Held.{count, held}
+use Rattle.ptu_history.specs.History.{Record}
+use Rattle.ptu_pools.specs.Events.{over_all, pool_history}
+use Rattle.ptu_pools.specs.Pool.{capacity_at}
+use Rattle.ptu_script.specs.declared.command.GrandmasterSetup.{GrandmasterSetup}
+use Rattle.ptu_pool_run.specs.Sending.{config_of}
+use Rattle.ptu_pool_run.specs.Reading.{Told, events_of, opening, rules}
+use Rattle.ptu_pool_run.specs.Poured.{lines_of_pool, own_at, own_lines_by, poured_texts, told_by}
+
+-- the history of the pool at this place, after all that a script says
+abbrev pub history_of : GrandmasterSetup → Told → ℕ → List Record
+history_of setup told i = pool_history (config_of setup) told.pools i (events_of told.events)
+
+-- two scripts say the same of the pool at this place: of the grandmaster, of the pools, and of the pool's own events, at the same
+-- lines
+pub record SayAlike (i : ℕ) (one other : Told) : Type 0 where
+  pub setup : one.setup ≡ other.setup
+  pub pools : one.pools ≡ other.pools
+  pub own : own_at one.pools i one.events ≡ own_at other.pools i other.events
+
+pub record KeepsPools (script : List ℕ) : Type 0 where
+  -- the output is that of the rules: each line's own, up to the first that is refused
+  pub by_rules : texts_of rules opening (script_lines script) ≡ poured_texts script
+  -- what is written of a pool is what the core does with the pool's own events, whatever else the script says
+  pub own : (i : ℕ) → let told = told_by script in
+      lines_of_pool i script ≡ own_lines_by told.setup told.pools i (own_at told.pools i told.events)
+  -- so no customer changes what another gets
+  pub apart : (other : List ℕ) (i : ℕ) → SayAlike i (told_by script) (told_by other) →
+      lines_of_pool i script ≡ lines_of_pool i other
+  -- what is held in a pool is within its own capacity at every moment, and what is held in all is within that of the grandmaster
+  pub each_within : (setup : GrandmasterSetup) (i x : ℕ) → (told_by script).setup ≡ Some setup →
+      held (history_of setup (told_by script) i) x ≤ capacity_at (told_by script).pools i
+  pub all_within : (setup : GrandmasterSetup) (x : ℕ) → (told_by script).setup ≡ Some setup →
+      over_all (told_by script).pools (λ i. held (history_of setup (told_by script) i) x) ≤ setup.capacity
+  -- and so are their timing messages, at sixteen seconds of one sixteenth each
+  pub messages_within : (setup : GrandmasterSetup) (x : ℕ) → (told_by script).setup ≡ Some setup →
+      over_all (told_by script).pools (λ i. count (history_of setup (told_by script) i) x) * (16 * 1000000000) ≤ setup.capacity * x

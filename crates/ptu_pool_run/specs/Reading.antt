@@ -1,0 +1,90 @@
+-- What the lines of a script of pools say, and why one is refused, as rules of a program over lines (the project's own choice).
+use Rattle.std.specs.Prelude.{ℕ, ◌-◌, nat_le, if◌then◌else◌, List, [], ◌∷◌, ◌++◌, length, map, Option, Some, None, Result, Ok, Err}
+use Rattle.ptu_report.specs.Rules.{Rules, Outcome, Goes, Refuses}
+use Rattle.ptu_script.specs.declared.cause.Cause.{Cause}
+use Rattle.ptu_script.specs.declared.command.GrandmasterSetup.{GrandmasterSetup}
+use Rattle.ptu_pools.specs.declared.pool.Pool.{Pool}
+use Rattle.ptu_pools.specs.Events.{PoolEvent, Came, Turned}
+use Rattle.ptu_pool_script.specs.declared.cause.PoolCause.{PoolCause}
+use Rattle.ptu_pool_script.specs.declared.cause.PoolCause.TheVariants.{Order, Number}
+use Rattle.ptu_pool_script.specs.declared.command.PoolCommand.{PoolCommand}
+use Rattle.ptu_pool_script.specs.declared.command.PoolCommand.TheVariants as commands
+use Rattle.ptu_pool_script.specs.declared.output.PoolLine.TheVariants.{Bad, End}
+use Rattle.ptu_pool_script.specs.Cause.{cause_of_line, cause_of_script}
+use Rattle.ptu_pool_script.specs.Command.{command_of}
+use Rattle.ptu_pool_script.specs.Output.{line_text}
+use Rattle.ptu_pool_run.specs.Sending.{lines_of_event}
+use Rattle.ptu_pool_run.specs.Selling.{refusal_of}
+
+-- an event with the number of its line
+abbrev pub At : Type 0
+At = ℕ × PoolEvent
+
+-- events without the numbers of their lines
+abbrev pub events_of : List At → List PoolEvent
+events_of events = map (λ at. at.1) events
+
+-- what the lines so far say: what sets the grandmaster up, the pools, and the events, each in order
+pub record Told : Type 0 where
+  pub setup : Option GrandmasterSetup
+  pub pools : List Pool
+  pub events : List At
+
+-- before the first line
+abbrev pub opening : Told
+opening = record { setup = None; pools = []; events = [] }
+
+-- the grandmaster is set up, once
+abbrev pub set_up : Told → GrandmasterSetup → Option GrandmasterSetup → Outcome Told PoolCause
+set_up told setup None = Goes (record told { setup = Some setup }) []
+set_up told setup (Some before) = Refuses Order
+
+-- a pool is sold, or not, for this cause
+abbrev pub sold_by : Told → Pool → Option PoolCause → Outcome Told PoolCause
+sold_by told pool None = Goes (record told { pools = told.pools ++ pool ∷ [] }) []
+sold_by told pool (Some cause) = Refuses cause
+
+-- a pool is sold, before any event
+abbrev pub sold : Told → Pool → Option GrandmasterSetup → List At → Outcome Told PoolCause
+sold told pool None events = Refuses Order
+sold told pool (Some setup) [] = sold_by told pool (refusal_of setup.capacity told.pools pool)
+sold told pool (Some setup) (event ∷ events) = Refuses Order
+
+-- an event happens at this line
+abbrev pub happened : Told → ℕ → PoolEvent → GrandmasterSetup → Outcome Told PoolCause
+happened told line event setup =
+    Goes (record told { events = told.events ++ (line, event) ∷ [] })
+    (map line_text (lines_of_event setup told.pools (events_of told.events) line event))
+
+-- a turn of a pool that is there
+abbrev pub turned : Told → ℕ → ℕ → ℕ → ℕ → GrandmasterSetup → Outcome Told PoolCause
+turned told line t number table setup =
+    if nat_le number (length told.pools) then happened told line (Turned t (number - 1) table) setup else Refuses Number
+
+-- an event after a pool
+abbrev pub behind_pools : Option GrandmasterSetup → List Pool → (GrandmasterSetup → Outcome Told PoolCause) → Outcome Told PoolCause
+behind_pools None pools then_ = Refuses Order
+behind_pools (Some setup) [] then_ = Refuses Order
+behind_pools (Some setup) (pool ∷ pools) then_ = then_ setup
+
+-- what a command at this line does
+abbrev pub step : Told → ℕ → PoolCommand → Outcome Told PoolCause
+step told line (commands.Grandmaster setup) = set_up told setup told.setup
+step told line (commands.Sell pool) = sold told pool told.setup told.events
+step told line (commands.Receive t from octets) = behind_pools told.setup told.pools (happened told line (Came t from octets))
+step told line (commands.Turn t number table) = behind_pools told.setup told.pools (turned told line t number table)
+
+-- the same by what the line commands
+abbrev pub outcome_by : Told → ℕ → Result (Option PoolCommand) Cause → Outcome Told PoolCause
+outcome_by told line (Ok None) = Goes told []
+outcome_by told line (Ok (Some command)) = step told line command
+outcome_by told line (Err cause) = Refuses (cause_of_script cause)
+
+-- what the program does: with each line, at the end, and with a line that is refused
+unfoldable pub rules : Rules Told PoolCause
+rules = record {
+  step = λ told number line. outcome_by told number (command_of line);
+  close = λ told lines. Goes told (line_text (End lines) ∷ []);
+  refusal = λ number cause. line_text (Bad number cause);
+  cause_of = cause_of_line;
+}

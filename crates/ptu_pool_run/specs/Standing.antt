@@ -1,0 +1,52 @@
+-- What the value that the program keeps stands for.
+use Rattle.std.specs.Prelude.{◌≡◌, ◌≤◌, ℕ, List, [], ◌∷◌, ◌++◌, length, map, All, Bool, true, false, Option, Some, None, IfSome}
+use Rattle.ptu_outside.specs.MemoryPort.{MemoryPort}
+use Rattle.ptu_admit.specs.Book.{IsCapacity}
+use Rattle.ptu_pools.specs.declared.pool.Pool.{Pool}
+use Rattle.ptu_pools.specs.Events.{PoolEvent}
+use Rattle.ptu_pools.specs.Refusal.{Share}
+use Rattle.ptu_pools.specs.Standing.{KeptPools, StandFor}
+use Rattle.ptu_script.specs.declared.command.GrandmasterSetup.{GrandmasterSetup}
+use Rattle.ptu_script.specs.Limits.{IsGrandmasterWithin}
+use Rattle.ptu_pool_run.specs.declared.pouring.Pouring.{Pouring}
+use Rattle.ptu_pool_run.specs.Reading.{At, Told, events_of}
+use Rattle.ptu_pool_script.specs.Output.{line_text}
+use Rattle.ptu_pool_run.specs.Sending.{config_of, lines_of_event}
+use Rattle.ptu_pool_run.specs.Ports.{AreAllIdle}
+
+-- there was an event
+abbrev pub has_events : List At → Bool
+has_events [] = false
+has_events (event ∷ events) = true
+
+-- the pools that were sold
+abbrev pub pools_of : Option (KeptPools MemoryPort) → List Pool
+pools_of None = []
+pools_of (Some kept) = kept.pools
+
+-- the pools of a grandmaster that is set up so, after the events
+pub record AreSold (setup : GrandmasterSetup) (kept : KeptPools MemoryPort) (events : List PoolEvent) : Type 0 where
+  pub some : 1 ≤ length kept.pools
+  pub share : Share setup.capacity kept.pools
+  pub capacities : All (λ pool. IsCapacity pool.capacity) kept.pools
+  pub stand : StandFor (config_of setup) kept events
+  pub idle : AreAllIdle kept
+
+-- at this line the event has happened to pools that were sold, after these events: the texts are those of what is written of it
+pub record HasHappened (setup : GrandmasterSetup) (line : ℕ) (before : List PoolEvent) (event : PoolEvent) (old new : KeptPools MemoryPort)
+    (texts texts' : List (List ℕ)) : Type 0 where
+  pub pools : new.pools ≡ old.pools
+  pub sold : AreSold setup new (before ++ event ∷ [])
+  pub says : texts' ≡ texts ++ map line_text (lines_of_event setup old.pools before line event)
+
+-- before the first pool nothing has happened
+abbrev pub HaveSold : Option GrandmasterSetup → Option (KeptPools MemoryPort) → Told → Type 0
+HaveSold setup None told = (told.pools ≡ []) × (told.events ≡ [])
+HaveSold None (Some kept) told = ⊥
+HaveSold (Some setup) (Some kept) told = (told.pools ≡ kept.pools) × AreSold setup kept (events_of told.events)
+
+pub record StandsFor (pouring : Pouring) (told : Told) : Type 0 where
+  pub setup : told.setup ≡ pouring.setup
+  pub limits : IfSome pouring.setup IsGrandmasterWithin
+  pub begun : pouring.has_begun ≡ has_events told.events
+  pub sold : HaveSold pouring.setup pouring.pools told

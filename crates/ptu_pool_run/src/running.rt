@@ -1,0 +1,136 @@
+//! The program: each line of a script is read, and what it does is told.
+
+ghost use Rattle.std.specs.Prelude.{◌≡◌, ◌≤◌, ◌∷◌, ℕ, List, [], length, Some, IfOk, OnOk, IsErrOf};
+ghost use Rattle.std.specs.Io.KnownBytes.{IsAtEnd, prepend_known};
+ghost use Rattle.ptu_outside.specs.Ends.{StopsAtEnd};
+ghost use Rattle.ptu_outside.specs.Handing.{HasPutPart};
+ghost use Rattle.ptu_report.specs.Reported.{HasReportedAllRead};
+ghost use Rattle.ptu_report.specs.Stops.{CountsRead, CountsWrite};
+ghost use Rattle.ptu_pool_run.specs.Answers.{HasPoured, run_ending};
+ghost use Rattle.ptu_pool_run.specs.Poured.{poured_texts};
+ghost use Rattle.ptu_pool_run.specs.Promises.{KeepsPools};
+ghost use Rattle.ptu_pool_run.specs.Reading.{opening, rules};
+ghost use Rattle.ptu_pool_run.specs.Standing.{StandsFor};
+
+use crate::fault::PoolRunFault;
+use crate::pouring::Pouring;
+use ptu_lines::LineCause;
+use ptu_outside::{Sink, Source};
+use ptu_pool_script::{PoolCause, PoolLine, read_pool_command};
+use ptu_report::{Ending, Reporter, Stop, Texts, report};
+use ptu_units::OutOfMemory;
+use std::alloc::Global;
+use std::marker::Model;
+
+/// What the lines of a script so far say. No program ever has one.
+pub struct ToldSoFar;
+
+impl Model for ToldSoFar {
+    ghost use Rattle.ptu_pool_run.specs.Reading.{Told, opening};
+
+    ghost Value = { Told };
+
+    ghost view = { λ _. opening };
+}
+
+impl Reporter for Pouring {
+    type Meaning = ToldSoFar;
+
+    type Cause = PoolCause;
+
+    ghost rules = { rules };
+
+    ghost stands_for = { StandsFor };
+
+    #[tactic(auto, unfolding(crate::specs::Reading::rules))]
+    fn take(
+        &mut self,
+        alloc: Global,
+        number: u64,
+        line: &[u8],
+        texts: &mut Texts,
+    ) -> Result<Option<PoolCause>, OutOfMemory> {
+        match read_pool_command(alloc, line)? {
+            Ok(None) => Ok(None),
+            Ok(Some(command)) => self.step(alloc, command, number, texts),
+            Err(cause) => Ok(Some(PoolCause::from(cause))),
+        }
+    }
+
+    #[tactic(auto, unfolding(crate::specs::Reading::rules))]
+    fn close(
+        &mut self,
+        _: Global,
+        lines: u64,
+        texts: &mut Texts,
+    ) -> Result<Option<PoolCause>, OutOfMemory> {
+        texts.add(&PoolLine::End { lines })?;
+        Ok(None)
+    }
+
+    #[tactic(auto, unfolding(crate::specs::Reading::rules))]
+    fn refuse(number: u64, cause: &PoolCause, texts: &mut Texts) -> Result<(), OutOfMemory>
+        requires { texts.old ≡ [] }
+        ensures { OnOk result (texts.new ≡ rules.refusal number cause.now ∷ []) }
+    {
+        texts.add(&PoolLine::Bad {
+            line: number,
+            cause: *cause,
+        })
+    }
+
+    #[tactic(auto, unfolding(crate::specs::Reading::rules))]
+    fn cause_of(cause: LineCause) -> PoolCause
+        ensures { result ≡ rules.cause_of cause }
+    {
+        PoolCause::from(cause)
+    }
+}
+
+/// Runs the script of pools that the source has left, and answers how many lines it has: `gm` sets
+/// up a grandmaster, each `pool` sells a part of its capacity to the addresses of a network, and
+/// then datagrams come and tables take turns. Each line of output is handed to the sink in one
+/// piece, and its rest again until all is taken, before the next line of the script is read. At
+/// most 67108865 octets are read, and nothing behind the end.
+///
+/// # Errors
+/// `Line` exactly where a line is refused, after the line of output that names it was written.
+/// `Read` exactly where the source failed, `Write` exactly where the sink failed, and
+/// `OutOfMemory`, also where room for what is sent was not found.
+pub fn pools<S: Source, K: Sink>(
+    alloc: Global,
+    source: &mut S,
+    sink: &mut K,
+) -> Result<u64, PoolRunFault>
+    // The whole output was written, and the answer says how it ends.
+    ensures whole { (script : List ℕ) → S.left source.old ≡ Some script → IfOk (run_ending result)
+        (λ ending. HasPoured K.written K.handed sink.old sink.new script ending) }
+    ensures end { OnOk result (IsAtEnd (S.left source.new)) }
+    // What every script keeps to: each pool stands apart, and all are within the whole.
+    ensures headline { (script : List ℕ) → S.left source.old ≡ Some script → KeepsPools script }
+    // What was written is a front of the output, whatever is answered.
+    ensures front { (script : List ℕ) → S.left source.old ≡ Some script
+        → HasPutPart K.written K.handed sink.old sink.new (poured_texts script) }
+    // Where the source failed, that is all that belongs to the lines that were read whole.
+    ensures all_read { IsErrOf result PoolRunFault.Read
+        → HasReportedAllRead K.written K.handed sink.old sink.new rules opening
+        (S.left source.old) (S.left source.new) }
+    ensures taken { (octets : List ℕ)
+        × (S.left source.old ≡ prepend_known octets (S.left source.new))
+        × (length octets ≤ 67108865) }
+    ensures ends { StopsAtEnd (S.ends source.old) (S.ends source.new) }
+    // A fault is answered exactly where there was one.
+    ensures source_counts { CountsRead (run_ending result) (S.faults source.old)
+        (S.faults source.new) }
+    ensures sink_counts { CountsWrite (run_ending result) (K.faults sink.old)
+        (K.faults sink.new) }
+{
+    let mut pouring = Pouring::new();
+    match report(alloc, &mut pouring, source, sink) {
+        Ok(Ending::Whole { lines }) => Ok(lines),
+        Ok(Ending::Refused { number, cause }) => Err(PoolRunFault::Line { number, cause }),
+        Err(Stop::Read) => Err(PoolRunFault::Read),
+        Err(Stop::Write) => Err(PoolRunFault::Write),
+        Err(Stop::OutOfMemory) => Err(PoolRunFault::OutOfMemory),
+    }
+}
