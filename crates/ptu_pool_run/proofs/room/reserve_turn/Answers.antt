@@ -7,6 +7,6 @@ use Rattle.ptu_pool_run.proofs.room.reserve_turn.Goals as goal
 
 pub returns-clause-room : goal.returns-clause-room
 returns-clause-room c = on_ok_weaker c.reserve.result (λ room gm now.
-    room_for_turn c.args.pools.now c.args.place c.args.table c.count.result c.reserve.ensures.rest.0 gm c.requires.table c.count.ensures
+    room_for_turn c.args.pools.now c.args.place c.args.table c.count-datagrams.result c.reserve.ensures.rest.0 gm c.requires.table c.count-datagrams.ensures
     (subst (λ (k : KeptPools MemoryPort). slice_get k.gms c.args.place ≡ Some gm) c.reserve.ensures.rest.1 now) (room gm now))
     c.reserve.ensures.room

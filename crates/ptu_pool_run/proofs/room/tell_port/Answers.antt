@@ -14,7 +14,7 @@ returns-clause-others c = on_ok_weaker c.tell.result (λ _ i other. others_porte
 
 pub returns-clause-says : goal.returns-clause-says
 returns-clause-says c = on_ok_weaker c.tell.result (λ says gm at.
-    says ∙ ap (λ n. c.args.texts.now ++ sent_texts c.args.line n c.ports.result.now.sent) c.number_of.ensures
+    says ∙ ap (λ n. c.args.texts.now ++ sent_texts c.args.line n c.ports.result.now.sent) c.number_of-number.ensures
     ∙ ap (λ (p : MemoryPort). c.args.texts.now ++ sent_texts c.args.line (c.args.place + 1) p.sent) (sym (lent_is c.args.pools.now.gms c.args.place c.args.index gm c.ports.result.now at c.ports.ensures.value)))
     c.tell.ensures.says
 

@@ -1,6 +1,10 @@
 use Rattle.std.proofs.Common.{rules, arith, ◌≡◌, ◌∙◌, ◌<◌, ◌++◌, ◌∷◌, [], true, length, ap, subst}
 use Rattle.ptu_pools.specs.Pool.{is_network}
-use Rattle.ptu_pools.specs.Refusal.{IsRefused}
+use Rattle.ptu_pools.specs.Refusal.{IsRefused, Share}
+use Rattle.ptu_pools.specs.Standing.{StandFor}
+use Rattle.ptu_pools.specs.declared.fault.PoolsFault.TheVariants.{OutOfMemory}
+use Rattle.ptu_shard.specs.declared.config.GmConfig.{GmConfig}
+use Rattle.ptu_pool_run.proofs.Idle.{sold_fresh}
 use Rattle.ptu_pool_run.proofs.Sold.{cause_of_fault, refused_for}
 use Rattle.ptu_pool_run.proofs.selling.sell.Goals as goal
 
@@ -21,3 +25,17 @@ returns-in-Err-Over-clause-refused c =
     refused_for c.args.setup.now.capacity c.args.before.now c.args.pool c.requires.share network few c.in-Err-Over.field-0
     (subst (λ l. IsRefused c.args.setup.now.capacity l c.in-Err-Over.field-0) all c.in-Err-Over.ensures.refused)
     ∙ ap cause_of_fault c.in-Err-Over.field-0-is
+
+pub returns-in-Ok-clause-none : goal.returns-in-Ok-clause-none
+returns-in-Ok-clause-none c =
+    let network : is_network c.args.pool ≡ true = search rules in
+    let few : length c.args.before.now < 16 = omega arith in
+    let all : c.deref.result.now ≡ c.args.before.now ++ c.args.pool ∷ [] = c.deref.ensures.value ∙ c.in_ok-all.ensures in
+    refused_for c.args.setup.now.capacity c.args.before.now c.args.pool c.requires.share network few OutOfMemory (subst (Share c.args.setup.now.capacity) all c.in-Ok.ensures.share)
+
+pub returns-in-Ok-clause-sold : goal.returns-in-Ok-clause-sold
+returns-in-Ok-clause-sold c =
+    let all : c.deref.result.now ≡ c.args.before.now ++ c.args.pool ∷ [] = c.deref.ensures.value ∙ c.in_ok-all.ensures in
+    sold_fresh c.args.setup.now c.args.before.now c.args.pool c.in-Ok.pools c.in_ok-ports.ports.items (subst (Share c.args.setup.now.capacity) all c.in-Ok.ensures.share)
+    c.requires.capacities c.requires.capacity (c.in-Ok.ensures.pools ∙ all) c.in-Ok.ensures.ports c.in_ok-ports.ensures.idle
+    (subst (λ (config : GmConfig). StandFor config c.in-Ok.pools []) c.config_of.ensures.value c.in-Ok.ensures.stands)
