@@ -1,9 +1,8 @@
 -- What has happened to pools at a line.
-use Rattle.std.proofs.Common.{◌≡◌, ◌+◌, ◌∙◌, ◌⊎◌, All, inl, inr, ℕ, ◌<◌, ◌≤◌, Bool, true, false, eqb, List, [], ◌∷◌, ◌++◌, length, map, position, set, slice_get, Option, Some, None, Result, Ok, Err, refl, sym, ap, subst}
+use Rattle.std.proofs.Common.{◌≡◌, ◌+◌, ◌∙◌, ◌⊎◌, All, inl, inr, ℕ, ◌≤◌, true, false, List, [], ◌∷◌, ◌++◌, length, map, position, set, slice_get, Option, Some, None, Result, Ok, Err, refl, sym, ap, subst}
 use Rattle.std.specs.Result.{OnOk}
-use Rattle.std.proofs.lemmas.Bool.{both_ways, cases_eq, eqb-true}
+use Rattle.std.proofs.lemmas.Bool.{both_ways, cases_eq}
 use Rattle.std.proofs.lemmas.Simd.{map-map}
-use Rattle.ptu_outside.specs.Departure.{Departure}
 use Rattle.ptu_outside.specs.declared.port.Port.{Ghosts as Ports}
 use Rattle.ptu_outside.specs.MemoryPort.{MemoryPort}
 use Rattle.ptu_shard.specs.declared.answered.Turned.{Turned as TableTurned}
@@ -13,8 +12,8 @@ use Rattle.ptu_grandmaster.specs.declared.outcome.Taken.{Taken}
 use Rattle.ptu_grandmaster.specs.Gm.{KeptGm, StandsFor, table_at}
 use Rattle.ptu_pools.specs.declared.pool.Pool.{Pool}
 use Rattle.ptu_pools.specs.Changes.{TookDatagram, TookTurn}
-use Rattle.ptu_pools.specs.Events.{PoolEvent, Came, Turned, pool_history}
-use Rattle.ptu_pools.specs.Pool.{AreApart, capacity_at, is_in, is_in_at}
+use Rattle.ptu_pools.specs.Events.{PoolEvent, Came, Turned}
+use Rattle.ptu_pools.specs.Pool.{AreApart, is_in, is_in_at}
 use Rattle.ptu_pools.specs.Refusal.{Share}
 use Rattle.ptu_admit.specs.Book.{IsCapacity}
 use Rattle.ptu_pools.specs.Standing.{ChangesOne, KeptPools, StandFor}

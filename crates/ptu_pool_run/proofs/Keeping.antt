@@ -1,14 +1,13 @@
 -- Every script of pools keeps its promises.
-use Rattle.std.proofs.Common.{◌≡◌, ◌∙◌, ◌⊎◌, inl, inr, ℕ, ◌+◌, ◌-◌, ◌*◌, ◌<◌, ◌≤◌, Bool, true, false, cond, leb, List, [], ◌∷◌, ◌++◌, length, map, slice_get, Option, Some, None, Result, Ok, Err, refl, sym, ap, ap₂, subst, arith, append_assoc}
+use Rattle.std.proofs.Common.{◌≡◌, ◌∙◌, ℕ, ◌+◌, ◌-◌, Bool, true, false, cond, leb, List, [], ◌∷◌, ◌++◌, length, map, Option, Some, None, Result, Ok, Err, refl, sym, ap, ap₂, subst, append_assoc}
 use Rattle.std.proofs.lemmas.List.{append-nil, map-append}
 use Rattle.ptu_lines.specs.Script.{ScriptLine, Whole, Refused, script_lines}
 use Rattle.ptu_report.specs.declared.ending.Ending.{Ending}
 use Rattle.ptu_report.specs.Rules.{Goes, Outcome, Refuses, closing, ending_after, ending_at, texts_at, texts_of, texts_until}
-use Rattle.ptu_history.specs.Held.{count, held}
 use Rattle.ptu_script.specs.declared.cause.Cause.{Cause}
 use Rattle.ptu_script.specs.declared.command.GrandmasterSetup.{GrandmasterSetup}
 use Rattle.ptu_pools.specs.declared.pool.Pool.{Pool}
-use Rattle.ptu_pools.specs.Events.{PoolEvent, Came, Turned, over_all}
+use Rattle.ptu_pools.specs.Events.{PoolEvent, Came, Turned}
 use Rattle.ptu_pools.specs.Pool.{AreApart}
 use Rattle.ptu_pools.specs.Refusal.{Share}
 use Rattle.ptu_pools.proofs.Whole.{count_whole, held_own, held_whole}
@@ -16,12 +15,11 @@ use Rattle.ptu_pool_script.specs.declared.cause.PoolCause.{PoolCause}
 use Rattle.ptu_pool_script.specs.declared.cause.PoolCause.TheVariants.{Number}
 use Rattle.ptu_pool_script.specs.declared.command.PoolCommand.{PoolCommand}
 use Rattle.ptu_pool_script.specs.declared.command.PoolCommand.TheVariants as commands
-use Rattle.ptu_pool_script.specs.declared.output.PoolLine.{PoolLine}
 use Rattle.ptu_pool_script.specs.Command.{command_of}
 use Rattle.ptu_pool_script.specs.Output.{line_text}
 use Rattle.ptu_pool_run.specs.Poured.{end_of, last_line, lines_after, lines_by_setup, lines_of_pool, own_at, own_lines_by, poured_texts, told_at, told_by, told_until}
-use Rattle.ptu_pool_run.specs.Promises.{KeepsPools, SayAlike, history_of}
-use Rattle.ptu_pool_run.specs.Reading.{At, Told, behind_pools, events_of, happened, opening, outcome_by, rules, set_up, sold, sold_by, step, turned}
+use Rattle.ptu_pool_run.specs.Promises.{KeepsPools, SayAlike}
+use Rattle.ptu_pool_run.specs.Reading.{At, Told, events_of, happened, opening, outcome_by, rules, sold_by, step, turned}
 use Rattle.ptu_pool_run.specs.Selling.{refusal_of}
 use Rattle.ptu_pool_run.specs.Sending.{config_of, lines_of_event}
 use Rattle.ptu_pool_run.proofs.OutputLines.{own_of}

@@ -1,5 +1,5 @@
 -- What is written of one pool is said by its own events.
-use Rattle.std.proofs.Common.{◌≡◌, ◌∙◌, ◌⊎◌, inl, inr, ℕ, ◌+◌, Bool, true, false, cond, eqb, List, [], ◌∷◌, ◌++◌, map, filter, position, Option, Some, None, refl, sym, ap, ap₂, subst, arith}
+use Rattle.std.proofs.Common.{◌≡◌, ◌∙◌, ◌⊎◌, inl, inr, ℕ, ◌+◌, Bool, true, false, cond, eqb, List, [], ◌∷◌, ◌++◌, map, filter, position, Option, Some, None, refl, sym, ap, ap₂, arith}
 use Rattle.std.proofs.lemmas.Bool.{cases_Bool, eq-eqb, eqb-true, ne_eqb, both_ways}
 use Rattle.std.proofs.lemmas.List.{append-nil}
 use Rattle.std.proofs.lemmas.List.Elements.{filter-append}
@@ -12,7 +12,6 @@ use Rattle.ptu_pools.specs.declared.pool.Pool.{Pool}
 use Rattle.ptu_pools.specs.Events.{PoolEvent, Came, Turned, gm_event, is_own, own}
 use Rattle.ptu_pools.specs.Pool.{AreApart, capacity_at, is_in, is_in_at}
 use Rattle.ptu_pools.proofs.Places.{found_mine, none_in}
-use Rattle.ptu_world.specs.Deeds.{Grandmaster}
 use Rattle.ptu_pool_script.specs.declared.cause.PoolCause.{PoolCause}
 use Rattle.ptu_pool_script.specs.declared.output.PoolLine.{PoolLine}
 use Rattle.ptu_pool_run.specs.Reading.{At}

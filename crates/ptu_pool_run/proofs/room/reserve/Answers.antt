@@ -1,4 +1,4 @@
-use Rattle.std.proofs.Common.{◌+◌, ◌≤◌, ◌∙◌, refl, sym, ap, length, List, subst}
+use Rattle.std.proofs.Common.{◌+◌, ◌≤◌, refl, sym, ap, length, List, subst}
 use Rattle.std.proofs.lemmas.Result.{on_ok_weaker}
 use Rattle.ptu_outside.specs.Departure.{Departure}
 use Rattle.ptu_outside.specs.MemoryPort.{MemoryPort}

@@ -1,4 +1,4 @@
-use Rattle.std.proofs.Common.{◌≡◌, subst, sym, ap, slice_get, Some}
+use Rattle.std.proofs.Common.{◌≡◌, subst, slice_get, Some}
 use Rattle.std.proofs.lemmas.Result.{on_ok_weaker}
 use Rattle.ptu_outside.specs.MemoryPort.{MemoryPort}
 use Rattle.ptu_pools.specs.Standing.{KeptPools}

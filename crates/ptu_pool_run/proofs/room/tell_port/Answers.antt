@@ -1,7 +1,7 @@
-use Rattle.std.proofs.Common.{◌≡◌, ◌∙◌, ◌+◌, ◌++◌, [], refl, sym, ap, option_map, slice_get, Some}
+use Rattle.std.proofs.Common.{◌∙◌, ◌+◌, ◌++◌, [], refl, sym, ap, slice_get, Some}
 use Rattle.std.proofs.lemmas.Result.{on_ok_weaker}
 use Rattle.ptu_outside.specs.MemoryPort.{MemoryPort}
-use Rattle.ptu_grandmaster.specs.Gm.{KeptGm, port_at, with_port}
+use Rattle.ptu_grandmaster.specs.Gm.{with_port}
 use Rattle.ptu_pool_run.specs.Ports.{sent_texts}
 use Rattle.ptu_pool_run.proofs.Lent.{here_ported, lent_is, lent_there, others_ported}
 use Rattle.ptu_pool_run.proofs.room.tell_port.Goals as goal

@@ -1,4 +1,4 @@
-use Rattle.std.proofs.Common.{◌≡◌, ◌-◌, ◌≤◌, arith, length, subst, ap, sym}
+use Rattle.std.proofs.Common.{◌-◌, ◌≤◌, arith, length, subst, ap}
 use Rattle.ptu_pool_run.specs.Standing.{HasHappened}
 use Rattle.ptu_pools.specs.Events.{Turned}
 use Rattle.ptu_pool_run.specs.Reading.{events_of}
