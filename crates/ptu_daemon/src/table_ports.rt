@@ -63,11 +63,9 @@ fn asked(alloc: Global, table: usize) -> Result<StagedPort, Fail> {
 // second, and then 4 s.
 fn clock(alloc: Global) -> Result<MemClock, Fail> {
     let mut moments = Vec::new(alloc);
-    for (second, count) in [(0, 5), (2, 4), (4, 1)] {
-        for _ in 0..count {
-            let at = Moment::of(second * 1_000_000_000).ok_or("a moment is below 2^62")?;
-            moments.push(at)?;
-        }
+    for second in [0_u64, 0, 0, 0, 0, 2, 2, 2, 2, 4] {
+        let nanos = second.saturating_mul(1_000_000_000);
+        moments.push(Moment::of(nanos).ok_or("a moment is below 2^62")?)?;
     }
     Ok(MemClock::new(moments))
 }

@@ -183,9 +183,14 @@ fn a_failed_send_is_counted(rt: HostRuntime) -> Result<(), Fail> {
     Ok(())
 }
 
+// What waits is taken in the next round. Refuses a channel that is taken from again in the round in
+// which it failed.
 #[test]
 fn a_failed_receive_is_counted(rt: HostRuntime) -> Result<(), Fail> {
     let alloc = rt.alloc();
+    let general = asked(alloc, &[], &[1])?;
+    let line = "rounds 1 sent 0 failed 1 granted 0 refused 0 held 0\n";
+    let _ = assert_line(&rt, alloc, &SETTINGS, general, line);
     let general = asked(alloc, &[], &[1])?;
     let settings = GmSettings {
         rounds: 2,

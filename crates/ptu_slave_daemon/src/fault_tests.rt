@@ -121,15 +121,13 @@ fn assert_sent(rt: &impl Abort, alloc: Global, port: &MemPort, sent: &[&str]) ->
     Ok(())
 }
 
-fn assert_case(rt: &impl Abort, alloc: Global, case: &Case) -> Result<(), Fail>
-    requires { 1 ≤ case.now.rounds }
-{
+fn assert_case(rt: &impl Abort, alloc: Global, case: &Case) -> Result<(), Fail> {
     let p4 = port(alloc, case.general, case.sends, case.general_receives)?;
     let p5 = port(alloc, case.event, &[], case.event_receives)?;
     let mut host = host_at(alloc, clock(alloc, case.seconds)?, p4, p5, false);
     let mut sink = MemSink::new(alloc, case.writes.to_vec(alloc)?);
     let stock = one_judge(alloc, Box::new(alloc, FlagJudge::new())?)?;
-    let settings = settings(alloc, case.rounds)?;
+    let settings = settings(alloc, case.rounds.max(1))?;
     assert!(rt; has_judges(&settings, &stock));
     assert_eq!(rt;
         slave(alloc, &settings, &mut host, &mut sink, stock),
