@@ -6,6 +6,7 @@ examples the numbers are counted by this folder's own reader of reports.
 
 from __future__ import annotations
 
+import re
 import resource
 import subprocess
 import unittest
@@ -334,6 +335,8 @@ class Audits(unittest.TestCase):
 
     def test_examples(self) -> None:
         for file in sorted(EXAMPLES.glob("*.script")):
+            if re.search("^pool ", file.read_text(), re.MULTILINE):
+                continue  # a script of pools, which has no report
             self.sound(file.stem, report_of(file.read_text().splitlines()))
         for file in sorted(EXAMPLES.glob("*.report")):
             self.sound(file.stem, file.read_text().splitlines())
