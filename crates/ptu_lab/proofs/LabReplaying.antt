@@ -8,6 +8,8 @@ use Rattle.ptu_judges.specs.Held.{Held}
 use Rattle.ptu_outside.specs.Handing.{HasPut}
 use Rattle.ptu_report.specs.Reported.{HasReported}
 use Rattle.ptu_script.specs.declared.cause.Cause.{Cause}
+use Rattle.ptu_outside.specs.MemoryPort.{MemoryPort}
+use Rattle.ptu_slave.specs.Seen.{Seen}
 use Rattle.ptu_world.specs.Facts.{AreCounted, EndsBy, world_of}
 use Rattle.ptu_world.specs.World.{Stock}
 use Rattle.ptu_world.specs.Report.{Course, course_opening, report, report_lines, rules}

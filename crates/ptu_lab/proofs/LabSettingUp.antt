@@ -6,6 +6,8 @@ use Rattle.ptu_judges.specs.Held.{Held}
 use Rattle.ptu_report.specs.Rules.{IsOutcome}
 use Rattle.ptu_script.specs.declared.cause.Cause.{Cause}
 use Rattle.ptu_script.specs.declared.cause.Cause.TheVariants as causes
+use Rattle.ptu_outside.specs.MemoryPort.{MemoryPort}
+use Rattle.ptu_slave.specs.Seen.{Seen}
 use Rattle.ptu_world.specs.Deeds as world
 use Rattle.ptu_world.specs.World.{World, node_at, placed, quietly, set_up}
 use Rattle.ptu_world.specs.Report.{Course, outcome_by}

@@ -5,12 +5,11 @@
 //! in which a receive failed; a fault that is not counted, or counted twice; and one that goes on
 //! after a line that was not taken.
 
-ghost use Rattle.std.specs.Prelude.{IfOk};
+ghost use Rattle.std.specs.Prelude.{◌≤◌, length, IfOk};
 ghost use Rattle.ptu_outside.specs.MemoryPort.{FitAll};
 
 use super::*;
-use crate::tests::{ANNOUNCE, ASK, SYNC, host_at, idle, one_judge, settings};
-use ptu_judges::FlagJudge;
+use crate::tests::{ANNOUNCE, ASK, SYNC, flag_stock, host_at, idle, settings};
 use ptu_outside::{Arrival, Channel, Datagram, MemClock, MemHost, MemPort, MemSink};
 use ptu_rounds::DaemonFault;
 use ptu_units::Moment;
@@ -69,22 +68,32 @@ const QUIET: Case = Case {
     sent: &[ASK],
 };
 
-// What waits at a port of these datagrams of the master.
+// A datagram of the master.
+fn arrival(alloc: Global, digits: &str) -> Result<Arrival, Fail>
+    ensures { IfOk result (λ a. length a.bytes ≤ 2048) }
+{
+    let bytes = hex::decode(alloc, digits)?;
+    if bytes.len() > 2048 {
+        return Err(Fail::new("a datagram is not longer"));
+    }
+    Ok(Arrival {
+        ip: MASTER,
+        bytes: Datagram::new(bytes),
+    })
+}
+
+// What waits at a port of these datagrams of the master, of which there are at most two.
 fn arrivals(alloc: Global, datagrams: &[&str]) -> Result<Vec<Arrival>, Fail>
     ensures { IfOk result (λ list. FitAll list.items) }
 {
-    let mut list = Vec::new(alloc);
-    for digits in datagrams {
-        let bytes = hex::decode(alloc, digits)?;
-        if bytes.len() > 2048 {
-            return Err(Fail::new("a datagram is not longer"));
+    match datagrams {
+        [] => Ok(Vec::new(alloc)),
+        [one] => Ok(Vec::from_array(alloc, [arrival(alloc, one)?])?),
+        [one, two, ..] => {
+            let list = [arrival(alloc, one)?, arrival(alloc, two)?];
+            Ok(Vec::from_array(alloc, list)?)
         }
-        list.push(Arrival {
-            ip: MASTER,
-            bytes: Datagram::new(bytes),
-        })?;
     }
-    Ok(list)
 }
 
 // A port at which these datagrams wait, with room for what a slave sends, whose calls fail so.
@@ -122,11 +131,11 @@ fn assert_sent(rt: &impl Abort, alloc: Global, port: &MemPort, sent: &[&str]) ->
 }
 
 fn assert_case(rt: &impl Abort, alloc: Global, case: &Case) -> Result<(), Fail> {
+    let stock = flag_stock(alloc)?;
     let p4 = port(alloc, case.general, case.sends, case.general_receives)?;
     let p5 = port(alloc, case.event, &[], case.event_receives)?;
     let mut host = host_at(alloc, clock(alloc, case.seconds)?, p4, p5, false);
     let mut sink = MemSink::new(alloc, case.writes.to_vec(alloc)?);
-    let stock = one_judge(alloc, Box::new(alloc, FlagJudge::new())?)?;
     let settings = settings(alloc, case.rounds.max(1))?;
     assert!(rt; has_judges(&settings, &stock));
     assert_eq!(rt;
@@ -211,9 +220,9 @@ fn each_call_fails_once(rt: HostRuntime) -> Result<(), Fail> {
 #[test]
 fn a_host_that_does_not_open_is_a_fault(rt: HostRuntime) -> Result<(), Fail> {
     let alloc = rt.alloc();
+    let stock = flag_stock(alloc)?;
     let mut host = host_at(alloc, clock(alloc, &[])?, idle(alloc), idle(alloc), true);
     let mut sink = MemSink::new(alloc, Vec::new(alloc));
-    let stock = one_judge(alloc, Box::new(alloc, FlagJudge::new())?)?;
     let settings = settings(alloc, 1)?;
     assert!(rt; has_judges(&settings, &stock));
     let answer = slave(alloc, &settings, &mut host, &mut sink, stock);

@@ -62,8 +62,8 @@ pub(crate) fn settings(alloc: Global, rounds: u32) -> Result<SlaveSettings, Fail
     })
 }
 
-/// A stock with this judge alone.
-pub(crate) fn one_judge(alloc: Global, flag: Box<dyn Judge>) -> Result<Stock, AllocError>
+// A stock with this judge alone.
+fn one_judge(alloc: Global, flag: Box<dyn Judge>) -> Result<Stock, AllocError>
     requires { held flag ≡ fresh Flag }
     ensures { IfOk result (λ stock. IsStock (map (λ j. held j) stock.flags.items)
         (map (λ j. held j) stock.gaps.items)) }
@@ -74,6 +74,14 @@ pub(crate) fn one_judge(alloc: Global, flag: Box<dyn Judge>) -> Result<Stock, Al
     };
     stock.flags.push(flag)?;
     Ok(stock)
+}
+
+/// A stock with a judge of flags alone.
+pub(crate) fn flag_stock(alloc: Global) -> Result<Stock, AllocError>
+    ensures { IfOk result (λ stock. IsStock (map (λ j. held (j.vtable, j.value)) stock.flags.items)
+        (map (λ j. held (j.vtable, j.value)) stock.gaps.items)) }
+{
+    one_judge(alloc, Box::new(alloc, FlagJudge::new())?)
 }
 
 // What waits where this datagram has come from the master, if there is one.
