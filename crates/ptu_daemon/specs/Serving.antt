@@ -10,7 +10,7 @@ use Rattle.ptu_grandmaster.specs.declared.driving.GmEvent.{GmEvent}
 use Rattle.ptu_config.specs.declared.settings.GmSettings.{GmSettings}
 use Rattle.ptu_rounds.specs.Ports.{HaveNotRisen, HaveRisenBy, HaveRisenJust, WereSent, ports_of, senders_of}
 use Rattle.ptu_lanes.specs.Sending.{GoesOn, WasSent}
-use Rattle.ptu_lane_daemon.specs.Served.{ServesByLanes}
+use Rattle.ptu_lanes.specs.Served.{ServesByLanes}
 use Rattle.ptu_daemon.specs.Events.{Given, config_of}
 use Rattle.ptu_daemon.specs.Served.{Said, opened_as, served_by, served_said}
 use Rattle.ptu_daemon.specs.Sends.{sends_by}

@@ -1,3 +1,5 @@
 mod Items
-mod Serving
+mod Exchanges
 mod Taking
+mod Stretching
+mod Controlled

@@ -11,7 +11,7 @@ ghost use Rattle.ptu_lanes.specs.Answers.{HasAnswered};
 ghost use Rattle.ptu_lanes.specs.Rounds.{HasReplied, reply_if_any};
 
 use crate::client::client;
-use crate::rounds::{Control, IDLE};
+use crate::signaling::{Control, IDLE};
 use ptu_grandmaster::{Outcome, Outcomes, reply_of};
 use ptu_header::Header;
 use ptu_history::Client;

@@ -7,7 +7,7 @@ ghost use Rattle.ptu_shard.specs.Config.{IsWithinLimits};
 ghost use Rattle.ptu_lanes.specs.Waiting.{GaveFirst};
 
 use crate::client::client;
-use crate::rounds::MOST_DATAGRAMS;
+use crate::signaling::MOST_DATAGRAMS;
 use ptu_items::{Heard, hear};
 use ptu_outside::{Clock, Port};
 use ptu_shard::{Answered, GmConfig};

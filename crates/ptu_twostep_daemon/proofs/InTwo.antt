@@ -15,7 +15,7 @@ use Rattle.ptu_rounds.specs.Ports.{HaveNotRisen, WereSent, senders_of}
 use Rattle.ptu_rounds.specs.declared.fault.DaemonFault.{DaemonFault}
 use Rattle.ptu_rounds.specs.declared.fault.DaemonFault.TheVariants as faults
 use Rattle.ptu_lanes.specs.Rounds.{replies}
-use Rattle.ptu_lane_daemon.specs.Served.{IsControlled, ServesByLanes}
+use Rattle.ptu_lanes.specs.Served.{IsControlled, ServesByLanes}
 use Rattle.ptu_twostep.specs.declared.two_host.Flags.{Flags}
 use Rattle.ptu_twostep.specs.Hosts.{clear, flagged_by, two_steps}
 use Rattle.ptu_twostep.specs.Pairs.{pairs}
