@@ -1,6 +1,6 @@
 -- What a lane has served, call by call.
-use Rattle.std.proofs.Common.{◌≡◌, ◌∙◌, ◌⊎◌, inl, inr, ℕ, ◌+◌, ◌≤◌, ◌++◌, List, [], ◌∷◌, length, length-append, refl, sym, ap, subst, arith, Option, Some, None, Result, Ok, Err}
-use Rattle.std.specs.Prelude.{IfOk, IfSome, true, false}
+use Rattle.std.proofs.Common.{◌≡◌, ◌∙◌, ◌⊎◌, inl, inr, ℕ, ◌+◌, ◌≤◌, ◌<◌, ◌++◌, List, [], ◌∷◌, length, length-append, refl, sym, ap, subst, arith, Option, Some, None, Result, Ok, Err}
+use Rattle.std.specs.Prelude.{IfOk, IfSome, option_map, true, false}
 use Rattle.std.specs.List.{AllByRecursion}
 use Rattle.std.proofs.lemmas.List.{append-nil, length-map, map-append}
 use Rattle.std.proofs.lemmas.List.Elements.{All-append, All-cons, All-nil}
@@ -8,6 +8,8 @@ use Rattle.std.proofs.lemmas.List.Sums.{sum_by-append}
 use Rattle.std.proofs.lemmas.Grind.{flat_map-append}
 use Rattle.ptu_outside.specs.declared.arrival.Arrival.{Arrival}
 use Rattle.ptu_outside.specs.Departure.{Departure}
+use Rattle.ptu_outside.specs.Clocks.{after_first}
+use Rattle.ptu_outside.specs.declared.clock.Clock.{Ghosts as Clocks}
 use Rattle.ptu_outside.specs.declared.port.Port.{Ghosts as Ports}
 use Rattle.ptu_outside.specs.Faults.{HasRisen, HasRisenBy, HasRisenJust, HasNotFallen}
 use Rattle.ptu_outside.specs.HandsOver.{HandsOver}
@@ -24,8 +26,10 @@ use Rattle.ptu_items.specs.declared.reason.GmReason.{GmReason}
 use Rattle.ptu_items.specs.declared.item.Item.{Item}
 use Rattle.ptu_items.specs.Items.{heard_in, items_in}
 use Rattle.ptu_lanes.specs.Answers.{HasAnswered, asks_among, grants_among}
-use Rattle.ptu_lanes.specs.Rounds.{Exchange, HasReplied, HasServed, IsAnswered, IsRound, asks_in, datagrams, found_items, items_of, replies, reply_if_any, reply_in, reply_with}
+use Rattle.ptu_lanes.specs.Rounds.{BrokeOff, Exchange, Exchanged, HasReplied, HasServed, IsAnswered, IsRound, IsUnanswered, asks_in, datagrams, found_items, items_of, replies, reply_if_any, reply_in, reply_with}
 use Rattle.ptu_lanes.proofs.Items.{answered_none, asks-le, heard_items, items_heard}
+use Rattle.ptu_lanes.specs.Waiting.{PassedBy}
+use Rattle.ptu_lanes.proofs.Moments.{passed-append, passed_as, passed_one}
 use Rattle.ptu_lanes.proofs.Taking.{first_given, front_is, given_more, kept_is}
 use Rattle.ptu_lanes.specs.Sending.{GoesOn, WasSent}
 
@@ -236,3 +240,85 @@ round_over ports config xs ys p0 p1 p2 old seat new asks sent failed asks2 sent2
     (served-append ports config xs ys p0 p1 p2 old seat new asks sent failed asks2 sent2 failed2 p q)
     (omega (arith, few, length-append xs ys))
     (inr (λ same. over (λ rises. same (rises_second (ports.faults p0) (ports.faults p1) (ports.faults p2) p.no_fall rises))))
+
+-- ---- what was taken, answered and counted, whatever the port's count did
+
+pub exchanged_is : {P C : Type 0} (ports : Ports P) (clocks : Clocks C) (config : GmConfig) (exchanges : List Exchange) (n : ℕ) (port port' : P) (clock clock' : C) (old new : Counts) (asks sent failed : ℕ) →
+    HasServed ports config exchanges port port' old new asks sent failed → n ≡ length exchanges → length exchanges ≤ 64 →
+    PassedBy n (clocks.moments clock) (clocks.moments clock') → Exchanged ports clocks config 64 0 port port' clock clock' old new
+exchanged_is ports clocks config exchanges n port port' clock clock' old new asks sent failed p many few moved = record {
+  exchanges = exchanges;
+  few = few;
+  given = p.given;
+  answered = p.answered;
+  granted = p.granted;
+  counted = let a = p.counted in let b = p.asks_are in omega (arith, a, b);
+  moments = passed_as n (length exchanges + 0) _ _ (omega (arith, many)) moved;
+}
+
+-- want of memory after these exchanges
+pub broke_off : {P C : Type 0} (ports : Ports P) (clocks : Clocks C) (config : GmConfig) (exchanges : List Exchange) (n : ℕ) (p0 p1 p2 : P) (c0 c1 c2 : C) (old seat new : Counts) (asks sent failed : ℕ) →
+    HasServed ports config exchanges p0 p1 old seat asks sent failed → n ≡ length exchanges → n < 64 →
+    PassedBy n (clocks.moments c0) (clocks.moments c1) → IsUnanswered ports clocks p1 p2 c1 c2 seat new →
+    BrokeOff ports clocks config p0 p2 c0 c2 old new
+broke_off ports clocks config exchanges n p0 p1 p2 c0 c1 c2 old seat new asks sent failed p many few moved u = record {
+  exchanges = exchanges;
+  last = u.datagram;
+  few = omega (arith, many, few);
+  given = given_more (datagrams exchanges) (u.datagram ∷ []) (ports.waiting p0) (ports.waiting p1) (ports.waiting p2) p.given u.given;
+  answered = p.answered;
+  told = λ same. subst (λ (now : Option (List Departure)). IfTold now (append_told (ports.sent p0) (replies config exchanges))) (sym u.unsent)
+      (p.told (subst (λ n. ¬ HasRisen (ports.faults p0) n) u.still same));
+  granted = let a = p.granted in let b = u.granted in omega (arith, a, b);
+  refused = let a = p.refused in let b = u.refused in omega (arith, a, b);
+  moments = passed_as (n + 1) (length exchanges + 1) _ _ (omega (arith, many))
+      (passed-append n 1 (clocks.moments c0) (clocks.moments c1) (clocks.moments c2) moved u.moments);
+}
+
+pub unanswered : {P C : Type 0} (ports : Ports P) (clocks : Clocks C) (d : Arrival) (port port' : P) (clock clock' : C) (old new : Counts) →
+    IsFirstTold (ports.waiting port) d → IfTold (ports.waiting port') (rest_told (ports.waiting port)) → ports.sent port' ≡ ports.sent port →
+    ports.faults port' ≡ ports.faults port → (old.granted ≤ new.granted) × (old.refused ≤ new.refused) →
+    IfTold (clocks.moments clock') (option_map after_first (clocks.moments clock)) → IsUnanswered ports clocks port port' clock clock' old new
+unanswered ports clocks d port port' clock clock' old new first rest unsent still no_less moved = record {
+  datagram = d;
+  given = first_given d (ports.waiting port) (ports.waiting port') first rest;
+  unsent = unsent;
+  still = still;
+  granted = no_less.0;
+  refused = no_less.1;
+  moments = passed_one (clocks.moments clock) (clocks.moments clock') moved;
+}
+
+-- one after the other
+pub exchanged-append : {P C : Type 0} (ports : Ports P) (clocks : Clocks C) (config : GmConfig) (all n m more worse sum : ℕ) (p0 p1 p2 : P) (c0 c1 c2 : C) (old seat new : Counts) →
+    n + m ≡ all → more + worse ≡ sum → Exchanged ports clocks config n more p0 p1 c0 c1 old seat → Exchanged ports clocks config m worse p1 p2 c1 c2 seat new →
+    Exchanged ports clocks config all sum p0 p2 c0 c2 old new
+exchanged-append ports clocks config all n m more worse sum p0 p1 p2 c0 c1 c2 old seat new is is_more p q = record {
+  exchanges = p.exchanges ++ q.exchanges;
+  few = omega (arith, is, p.few, q.few, length-append p.exchanges q.exchanges);
+  given = exchanges_more p.exchanges q.exchanges (ports.waiting p0) (ports.waiting p1) (ports.waiting p2) p.given q.given;
+  answered = All-append (IsAnswered config) p.exchanges q.exchanges p.answered q.answered;
+  granted = let a = p.granted in let b = q.granted in omega (arith, a, b, sum_by-append (λ (e : Exchange). grants_among e.answers) p.exchanges q.exchanges);
+  counted = let a = p.counted in let b = q.counted in omega (arith, a, b, asks_are);
+  moments = passed_as ((length p.exchanges + more) + (length q.exchanges + worse)) (length (p.exchanges ++ q.exchanges) + sum) _ _
+      (omega (arith, is_more, length-append p.exchanges q.exchanges))
+      (passed-append (length p.exchanges + more) (length q.exchanges + worse) (clocks.moments c0) (clocks.moments c1) (clocks.moments c2) p.moments q.moments);
+}
+  where
+    asks_are : asks_in config (datagrams (p.exchanges ++ q.exchanges)) ≡ asks_in config (datagrams p.exchanges) + asks_in config (datagrams q.exchanges)
+    asks_are = ap (asks_in config) (map-append (λ (e : Exchange). e.datagram) p.exchanges q.exchanges)
+        ∙ sum_by-append (λ d. asks_among (items_of config d)) (datagrams p.exchanges) (datagrams q.exchanges)
+
+-- nothing was taken; of what waits nothing changed
+pub exchanged_nothing : {P C : Type 0} (ports : Ports P) (clocks : Clocks C) (config : GmConfig) (more : ℕ) (port port' : P) (clock clock' : C) (counts : Counts) →
+    IfTold (ports.waiting port') (ports.waiting port) → PassedBy more (clocks.moments clock) (clocks.moments clock') →
+    Exchanged ports clocks config 0 more port port' clock clock' counts counts
+exchanged_nothing ports clocks config more port port' clock clock' counts kept moved = record {
+  exchanges = [];
+  few = omega arith;
+  given = kept_is (ports.waiting port) (ports.waiting port') kept;
+  answered = All-nil (IsAnswered config);
+  granted = omega arith;
+  counted = omega arith;
+  moments = passed_as more (0 + more) _ _ (omega arith) moved;
+}

@@ -1,4 +1,5 @@
 mod Items
+mod Moments
 mod Exchanges
 mod Taking
 mod Stretching

@@ -1,5 +1,5 @@
 -- Rounds of lanes, one after the other.
-use Rattle.std.proofs.Common.{◌≡◌, ◌∙◌, ℕ, ◌+◌, ◌*◌, ◌≤◌, ◌++◌, List, [], take, drop, refl, sym, ap, subst, arith, Option, Some, None}
+use Rattle.std.proofs.Common.{◌≡◌, ◌∙◌, ℕ, ◌+◌, ◌-◌, ◌*◌, ◌^◌, ◌≤◌, min, ◌++◌, List, [], take, drop, refl, sym, ap, subst, arith, Option, Some, None}
 use Rattle.std.specs.Prelude.{IfSome}
 use Rattle.std.proofs.lemmas.List.{drop-drop, map-append}
 use Rattle.std.proofs.lemmas.List.Elements.{All-append, All-nil}
@@ -7,15 +7,23 @@ use Rattle.std.proofs.lemmas.List.Sums.{sum_by-append}
 use Rattle.std.proofs.lemmas.Grind.{flat_map-append}
 use Rattle.std.proofs.Math.Seq.{take-add}
 use Rattle.ptu_outside.specs.declared.arrival.Arrival.{Arrival}
+use Rattle.ptu_outside.specs.declared.clock.Clock.{Ghosts as Clocks}
 use Rattle.ptu_outside.specs.declared.port.Port.{Ghosts as Ports}
+use Rattle.ptu_outside.specs.Faults.{HasRisen}
+use Rattle.ptu_outside.proofs.Telling.{IfTold-refl}
 use Rattle.ptu_outside.proofs.HandsOver.{goes_on_both, not_fallen_both, not_fallen_none, rises_first, rises_second, told_both, told_none}
 use Rattle.ptu_shard.specs.declared.config.GmConfig.{GmConfig}
+use Rattle.ptu_shared.specs.Opening.{HaveFailed}
 use Rattle.ptu_shared.specs.Seats.{Counts}
+use Rattle.ptu_shared.proofs.Failures.{failed-append, failed_bounded}
 use Rattle.ptu_lanes.specs.Answers.{asks_among, grants_among}
-use Rattle.ptu_lanes.specs.Rounds.{Exchange, IsAnswered, asks_in, datagrams, items_of, replies, reply_in}
+use Rattle.ptu_lanes.specs.Rounds.{Exchange, Exchanged, IsAnswered, IsRound, asks_in, datagrams, items_of, replies, reply_in}
 use Rattle.ptu_lanes.specs.Sending.{GoesOn, WasSent}
-use Rattle.ptu_lanes.specs.Waiting.{GaveFirst}
-use Rattle.ptu_lanes.specs.Stretches.{AreRounds, TookDelayReqs, TookSignaling}
+use Rattle.ptu_lanes.specs.Waiting.{GaveFirst, Took}
+use Rattle.ptu_lanes.specs.Stretches.{AreRounds, CountsFailures, TookDelayReqs, TookSignaling}
+use Rattle.ptu_lanes.proofs.Exchanges.{exchanged-append, exchanged_nothing}
+use Rattle.ptu_lanes.proofs.Moments.{passed_none}
+use Rattle.ptu_lanes.proofs.Taking.{none_taken, took-append, took_up_to}
 
 -- ---- what waited
 
@@ -104,37 +112,92 @@ pub some_more : {A : Type 0} (told : Option A) (Fact More : A → Type 0) → ((
 some_more None Fact More makes fact = tt
 some_more (Some x) Fact More makes fact = makes x fact
 
-pub signaling_none : {P : Type 0} (ports : Ports P) (config : GmConfig) (port : P) (counts : Counts) → TookSignaling ports config 0 port port counts counts
-signaling_none ports config port counts = record {
-  did = λ same. rounds_none ports config port counts;
-  most = omega arith;
-  no_fall = not_fallen_none (ports.faults port);
-}
+module _ {P C : Type 0} (ports : Ports P) (clocks : Clocks C) where
+  pub signaling_none : (config : GmConfig) (port : P) (clock : C) (counts : Counts) (failed : ℕ) → TookSignaling ports clocks config 0 port port clock clock counts counts failed failed
+  signaling_none config port clock counts failed = record {
+    did = λ same. rounds_none ports config port counts;
+    exchanged = exchanged_nothing ports clocks config 0 port port clock clock counts (IfTold-refl (ports.waiting port)) (passed_none (clocks.moments clock));
+    most = omega arith;
+    failures = λ start f. f;
+    no_fall = not_fallen_none (ports.faults port);
+  }
 
-pub signaling-append : {P : Type 0} (ports : Ports P) (config : GmConfig) (n m : ℕ) (p0 p1 p2 : P) (old now new : Counts) →
-    TookSignaling ports config n p0 p1 old now → TookSignaling ports config m p1 p2 now new → TookSignaling ports config (n + m) p0 p2 old new
-signaling-append ports config n m p0 p1 p2 old now new p q = record {
-  did = λ same. some_more (ports.waiting p2) _ _
-      (λ left. rounds-append ports config n m p0 p1 p2 left old now new (p.did (λ rises. same (rises_first (ports.faults p0) (ports.faults p1) (ports.faults p2) rises q.no_fall))))
-      (q.did (λ rises. same (rises_second (ports.faults p0) (ports.faults p1) (ports.faults p2) p.no_fall rises)));
-  most = let a = p.most in let b = q.most in omega arith;
-  no_fall = not_fallen_both (ports.faults p0) (ports.faults p1) (ports.faults p2) p.no_fall q.no_fall;
-}
+  -- failed calls that are counted after others
+  pub counts_more : (faults faults' failed more failed' : ℕ) → HaveFailed ports.counts_once more faults faults' → failed' ≡ min (failed + more) (2 ^ 64 - 1) →
+      CountsFailures ports.counts_once faults faults' failed failed'
+  counts_more faults faults' failed more failed' f is = λ start before.
+      subst (λ n. HaveFailed ports.counts_once n start faults') (sym is)
+      (failed_bounded ports.counts_once (failed + more) start faults' (failed-append ports.counts_once failed more start faults faults' before f))
 
-pub delays_none : {P : Type 0} (ports : Ports P) (port : P) → TookDelayReqs ports 0 port port
-delays_none ports port = record {
-  gave = λ same. gave_none (ports.waiting port);
-  unsent = refl;
-  goes_on = refl;
-  no_fall = not_fallen_none (ports.faults port);
-}
+  pub signaling_one : (config : GmConfig) (port port' : P) (clock clock' : C) (old new : Counts) (asks sent more failed failed' : ℕ) →
+      new.granted + new.refused ≡ old.granted + old.refused + asks → asks ≤ 2048 →
+      (¬ HasRisen (ports.faults port) (ports.faults port') → IfSome (ports.waiting port') (λ left. IsRound ports config port port' left old.granted new.granted asks sent)) →
+      Exchanged ports clocks config 64 0 port port' clock clock' old new → HaveFailed ports.counts_once more (ports.faults port) (ports.faults port') →
+      failed' ≡ min (failed + more) (2 ^ 64 - 1) → TookSignaling ports clocks config 1 port port' clock clock' old new failed failed'
+  signaling_one config port port' clock clock' old new asks sent more failed failed' counted few round exchanged failures is = record {
+    did = λ same. some_more (ports.waiting port') _ _ (λ left r. record {
+      waited = r.waited;
+      all = r.all;
+      exchanges = r.exchanges;
+      first = r.first;
+      rest = r.rest;
+      answered = r.answered;
+      told = r.told;
+      goes_on = r.goes_on;
+      granted = r.granted_are;
+      counted = counted ∙ ap (λ n. old.granted + old.refused + n) (r.asks_are ∙ sym (ap (asks_in config) r.first));
+    }) (round same);
+    exchanged = exchanged;
+    most = omega (arith, counted, few);
+    failures = counts_more (ports.faults port) (ports.faults port') failed more failed' failures is;
+    no_fall = failures.no_fall;
+  }
 
-pub delays-append : {P : Type 0} (ports : Ports P) (n m : ℕ) (p0 p1 p2 : P) → TookDelayReqs ports n p0 p1 → TookDelayReqs ports m p1 p2 → TookDelayReqs ports (n + m) p0 p2
-delays-append ports n m p0 p1 p2 p q = record {
-  gave = λ same. gave-append n m (ports.waiting p0) (ports.waiting p1) (ports.waiting p2)
-      (p.gave (λ rises. same (rises_first (ports.faults p0) (ports.faults p1) (ports.faults p2) rises q.no_fall)))
-      (q.gave (λ rises. same (rises_second (ports.faults p0) (ports.faults p1) (ports.faults p2) p.no_fall rises)));
-  unsent = q.unsent ∙ p.unsent;
-  goes_on = q.goes_on ∙ p.goes_on;
-  no_fall = not_fallen_both (ports.faults p0) (ports.faults p1) (ports.faults p2) p.no_fall q.no_fall;
-}
+  pub signaling-append : (config : GmConfig) (n m : ℕ) (p0 p1 p2 : P) (c0 c1 c2 : C) (old now new : Counts) (f0 f1 f2 : ℕ) →
+      TookSignaling ports clocks config n p0 p1 c0 c1 old now f0 f1 → TookSignaling ports clocks config m p1 p2 c1 c2 now new f1 f2 →
+      TookSignaling ports clocks config (n + m) p0 p2 c0 c2 old new f0 f2
+  signaling-append config n m p0 p1 p2 c0 c1 c2 old now new f0 f1 f2 p q = record {
+    did = λ same. some_more (ports.waiting p2) _ _
+        (λ left. rounds-append ports config n m p0 p1 p2 left old now new (p.did (λ rises. same (rises_first (ports.faults p0) (ports.faults p1) (ports.faults p2) rises q.no_fall))))
+        (q.did (λ rises. same (rises_second (ports.faults p0) (ports.faults p1) (ports.faults p2) p.no_fall rises)));
+    exchanged = exchanged-append ports clocks config (64 * (n + m)) (64 * n) (64 * m) 0 0 0 p0 p1 p2 c0 c1 c2 old now new (omega arith) refl p.exchanged q.exchanged;
+    most = let a = p.most in let b = q.most in omega arith;
+    failures = λ start f. q.failures start (p.failures start f);
+    no_fall = not_fallen_both (ports.faults p0) (ports.faults p1) (ports.faults p2) p.no_fall q.no_fall;
+  }
+
+  pub delays_none : (port : P) (clock : C) (failed : ℕ) → TookDelayReqs ports clocks 0 port port clock clock failed failed
+  delays_none port clock failed = record {
+    gave = λ same. gave_none (ports.waiting port);
+    took = took_up_to ports clocks 0 0 0 port port clock clock (none_taken ports clocks port clock) (omega arith);
+    unsent = refl;
+    goes_on = refl;
+    failures = λ start f. f;
+    no_fall = not_fallen_none (ports.faults port);
+  }
+
+  pub delays_one : (port port' : P) (clock clock' : C) (missed failed failed' : ℕ) →
+      (¬ HasRisen (ports.faults port) (ports.faults port') → GaveFirst 64 (ports.waiting port) (ports.waiting port')) → Took ports clocks 64 0 port port' clock clock' →
+      ports.sent port' ≡ ports.sent port → ports.has_ceased port' ≡ ports.has_ceased port → HaveFailed ports.counts_once missed (ports.faults port) (ports.faults port') →
+      failed' ≡ min (failed + missed) (2 ^ 64 - 1) → TookDelayReqs ports clocks 1 port port' clock clock' failed failed'
+  delays_one port port' clock clock' missed failed failed' gave took unsent goes_on failures is = record {
+    gave = gave;
+    took = took;
+    unsent = unsent;
+    goes_on = goes_on;
+    failures = counts_more (ports.faults port) (ports.faults port') failed missed failed' failures is;
+    no_fall = failures.no_fall;
+  }
+
+  pub delays-append : (n m : ℕ) (p0 p1 p2 : P) (c0 c1 c2 : C) (f0 f1 f2 : ℕ) → TookDelayReqs ports clocks n p0 p1 c0 c1 f0 f1 → TookDelayReqs ports clocks m p1 p2 c1 c2 f1 f2 →
+      TookDelayReqs ports clocks (n + m) p0 p2 c0 c2 f0 f2
+  delays-append n m p0 p1 p2 c0 c1 c2 f0 f1 f2 p q = record {
+    gave = λ same. gave-append n m (ports.waiting p0) (ports.waiting p1) (ports.waiting p2)
+        (p.gave (λ rises. same (rises_first (ports.faults p0) (ports.faults p1) (ports.faults p2) rises q.no_fall)))
+        (q.gave (λ rises. same (rises_second (ports.faults p0) (ports.faults p1) (ports.faults p2) p.no_fall rises)));
+    took = took-append ports clocks (64 * (n + m)) (64 * n) (64 * m) 0 p0 p1 p2 c0 c1 c2 (omega arith) p.took q.took;
+    unsent = q.unsent ∙ p.unsent;
+    goes_on = q.goes_on ∙ p.goes_on;
+    failures = λ start f. q.failures start (p.failures start f);
+    no_fall = not_fallen_both (ports.faults p0) (ports.faults p1) (ports.faults p2) p.no_fall q.no_fall;
+  }

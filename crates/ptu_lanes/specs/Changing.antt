@@ -24,3 +24,11 @@ greater_of capacity (Some later) = max capacity later
 -- the greatest capacity that is in force in a round
 abbrev pub greatest_capacity : GmSettings → ℕ
 greatest_capacity settings = greater_of settings.capacity (change_of settings)
+
+-- how many moments the change takes
+abbrev pub moments_to : Option ℕ → ℕ
+moments_to None = 0
+moments_to (Some capacity) = 1
+
+abbrev pub change_moments : GmSettings → ℕ
+change_moments settings = moments_to (change_of settings)

@@ -1,6 +1,6 @@
 //! The change of capacity of a grandmaster that is served by lanes.
 
-ghost use Rattle.std.specs.Prelude.{◌≡◌, ◌+◌, ◌≤◌, ℕ, IfOk, OnErr, IfSome, IsSome, List};
+ghost use Rattle.std.specs.Prelude.{◌≡◌, ◌+◌, ◌-◌, ◌^◌, ◌≤◌, min, ℕ, IfOk, OnErr, IfSome, IsSome, List};
 ghost use Rattle.ptu_outside.specs.HandsOver.{HandsOver};
 ghost use Rattle.ptu_units.specs.declared.kind.Kind.{Kind};
 ghost use Rattle.ptu_history.specs.declared.client.Client.{Client};
@@ -8,6 +8,7 @@ ghost use Rattle.ptu_admit.specs.Book.{IsCapacity};
 ghost use Rattle.ptu_items.specs.Replies.{cancels_to};
 ghost use Rattle.ptu_config.specs.Limits.{IsGmInRange};
 ghost use Rattle.ptu_lanes.specs.Changing.{change_of};
+ghost use Rattle.ptu_lanes.specs.Waiting.{PassedBy};
 
 use crate::lanes::{ControlLane, Tally};
 use ptu_config::GmSettings;
@@ -52,7 +53,10 @@ pub(crate) fn change_capacity<P: Port + Send, C: Clock, L: Rates, G: Ledger, R: 
     requires most { capacity ≤ L.most }
     ensures sends { IfOk result (λ _. (shed : List (Client × Kind)) × (sent : ℕ) × (failed : ℕ)
         × HandsOver P.Port lane.old.port lane.new.port (cancels_to config.now 0 shed)
-        sent failed) }
+        sent failed
+        × (lane.new.tally.failed ≡ min (lane.old.tally.failed + failed) (2 ^ 64 - 1))) }
+    ensures moment { IfOk result (λ _.
+        PassedBy 1 (C.moments lane.old.clock) (C.moments lane.new.clock)) }
     ensures unsent { OnErr result (lane.new.port ≡ lane.old.port) }
     ensures seat { lane.new.seat ≡ lane.old.seat }
 {

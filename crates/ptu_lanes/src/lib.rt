@@ -9,6 +9,7 @@ mod client;
 mod delays;
 mod lanes;
 mod laws;
+mod meeting;
 mod serving;
 mod signaling;
 mod stretches;
@@ -20,5 +21,7 @@ pub use serving::{Totals, serve_lanes};
 pub use signaling::{Control, control_round};
 pub use turns::turn_round;
 
+#[cfg(test)]
+mod meeting_tests;
 #[cfg(test)]
 mod tests;

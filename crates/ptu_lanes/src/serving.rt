@@ -3,11 +3,14 @@
 ghost use Rattle.std.specs.Prelude.{◌≡◌, ◌+◌, ◌*◌, ◌≤◌, [], IfOk, IfSome};
 ghost use Rattle.ptu_outside.specs.Faults.{HasRisen};
 ghost use Rattle.ptu_shard.specs.Config.{IsWithinLimits};
+ghost use Rattle.ptu_shared.specs.Opening.{HaveFailed, seen_of};
 ghost use Rattle.ptu_shared.specs.Seats.{no_verdicts};
 ghost use Rattle.ptu_config.specs.Limits.{IsGmInRange};
-ghost use Rattle.ptu_lanes.specs.Waiting.{GaveFirst};
-ghost use Rattle.ptu_lanes.specs.Changing.{greatest_capacity};
-ghost use Rattle.ptu_lanes.specs.Served.{IsControlled, ServesByLanes};
+ghost use Rattle.ptu_lanes.specs.Rounds.{Exchanged};
+ghost use Rattle.ptu_lanes.specs.Stretches.{HaveTurned};
+ghost use Rattle.ptu_lanes.specs.Waiting.{GaveFirst, Took};
+ghost use Rattle.ptu_lanes.specs.Changing.{change_moments, greatest_capacity};
+ghost use Rattle.ptu_lanes.specs.Served.{IsControlled, ServesByLanes, TablesAreBack, numbers_of};
 
 use crate::changing::{change, change_capacity};
 use crate::lanes::{ControlLane, EventLane, SendingLane, SendingLanes, Tally};
@@ -16,7 +19,7 @@ use ptu_admit::Closed;
 use ptu_config::GmSettings;
 use ptu_outside::{Clock, Opened, Port};
 use ptu_shard::GmConfig;
-use ptu_shared::{Rates, Seat, Shared};
+use ptu_shared::{Failures, Rates, Seat, Shared};
 use ptu_units::OutOfMemory;
 use std::alloc::Global;
 use std::marker::Brand;
@@ -61,6 +64,7 @@ where
     requires ledger { L.parts ≡ 4 }
     requires most { greatest_capacity settings.now ≤ L.most }
     requires seat { lanes.control.seat ≡ no_verdicts }
+    requires tallies { (lanes.control.tally.failed ≡ 0) × (lanes.event.tally.failed ≡ 0) }
     ensures control { IfOk result (λ new.
         ¬ HasRisen (P.faults lanes.control.port) (P.faults new.control.port)
         → IfSome (P.waiting new.control.port) (λ left. IsControlled P.Port settings.now config.now
@@ -70,9 +74,21 @@ where
         ¬ HasRisen (P.faults lanes.event.port) (P.faults new.event.port)
         → GaveFirst (64 * settings.now.rounds)
         (P.waiting lanes.event.port) (P.waiting new.event.port)) }
+    ensures exchanged { IfOk result (λ new. Exchanged P.Port C.Clock config.now
+        (64 * settings.now.rounds) (change_moments settings.now)
+        lanes.control.port new.control.port lanes.control.clock new.control.clock
+        lanes.control.seat new.control.seat) }
+    ensures took { IfOk result (λ new. Took P.Port C.Clock (64 * settings.now.rounds) 0
+        lanes.event.port new.event.port lanes.event.clock new.event.clock) }
     ensures unsent { IfOk result (λ new. P.sent new.event.port ≡ P.sent lanes.event.port) }
     ensures goes_on { IfOk result (λ new.
         P.has_ceased new.event.port ≡ P.has_ceased lanes.event.port) }
+    ensures turned { IfOk result (λ new. HaveTurned C.Clock settings.now.senders
+        settings.now.rounds lanes.sending new.sending) }
+    ensures failed { IfOk result (λ new. HaveFailed P.counts_once new.control.tally.failed
+        (P.faults lanes.control.port) (P.faults new.control.port)) }
+    ensures missed { IfOk result (λ new. HaveFailed P.counts_once new.event.tally.failed
+        (P.faults lanes.event.port) (P.faults new.event.port)) }
 {
     let senders = usize::from(settings.senders);
     let Some(capacity) = change(settings) else {
@@ -86,27 +102,42 @@ where
 }
 
 // The lanes that turn tables at these clocks, before their first round.
-fn sending_lanes<C: Clock>(c2: C, c3: C, c4: C, c5: C) -> SendingLanes<C> {
-    let tally = Tally::default();
+fn sending_lanes<C: Clock>(c2: C, c3: C, c4: C, c5: C) -> SendingLanes<C>
+    ensures clocks { (result.first.clock ≡ c2) × (result.second.clock ≡ c3)
+        × (result.third.clock ≡ c4) × (result.fourth.clock ≡ c5) }
+{
     SendingLanes {
-        first: SendingLane { clock: c2, tally },
-        second: SendingLane { clock: c3, tally },
-        third: SendingLane { clock: c4, tally },
-        fourth: SendingLane { clock: c5, tally },
+        first: SendingLane { clock: c2, sent: 0 },
+        second: SendingLane { clock: c3, sent: 0 },
+        third: SendingLane { clock: c4, sent: 0 },
+        fourth: SendingLane { clock: c5, sent: 0 },
     }
 }
 
 // What all lanes have sent.
-fn tally_of<P: Port, C: Clock, G: Ledger, R: Ledger>(lanes: &Lanes<P, C, G, R>) -> Tally {
+fn sent_by<P: Port, C: Clock, G: Ledger, R: Ledger>(lanes: &Lanes<P, C, G, R>) -> u128 {
     let sending = &lanes.sending;
     lanes
         .control
         .tally
-        .with(lanes.event.tally)
-        .with(sending.first.tally)
-        .with(sending.second.tally)
-        .with(sending.third.tally)
-        .with(sending.fourth.tally)
+        .sent
+        .saturating_add(lanes.event.tally.sent)
+        .saturating_add(sending.first.sent)
+        .saturating_add(sending.second.sent)
+        .saturating_add(sending.third.sent)
+        .saturating_add(sending.fourth.sent)
+}
+
+// What failed at the ports of the tables, and at those of the lanes that take datagrams.
+fn failed_by(failures: &Failures, control: u64, event: u64) -> u128
+    ensures { let f = failures.now in
+        result ≡ f.p0 + (f.p1 + (f.p2 + (f.p3 + (control + (event + 0))))) }
+{
+    let tables = u128::from(failures.p0)
+        + u128::from(failures.p1)
+        + u128::from(failures.p2)
+        + u128::from(failures.p3);
+    tables + u128::from(control) + u128::from(event)
 }
 
 // Closes the tables, and gives back the ports and clocks, with the last numbers.
@@ -118,23 +149,29 @@ fn close<P: Port + Send, C: Clock, L: Rates, G: Ledger, R: Ledger>(
     requires ledger { (L.parts ≡ 4) × (L.seats ≡ 1) × (G.parts ≡ 1) × (R.parts ≡ 1) }
     requires seats { seats.items ≡ [] }
     ensures ports { IfOk result (λ r. (r.0.p4 ≡ lanes.control.port) × (r.0.p5 ≡ lanes.event.port)) }
+    ensures clocks { IfOk result (λ r. (r.0.c0 ≡ lanes.control.clock)
+        × (r.0.c1 ≡ lanes.event.clock) × (r.0.c2 ≡ lanes.sending.first.clock)
+        × (r.0.c3 ≡ lanes.sending.second.clock) × (r.0.c4 ≡ lanes.sending.third.clock)
+        × (r.0.c5 ≡ lanes.sending.fourth.clock)) }
+    ensures tables { IfOk result (λ r. TablesAreBack P.Port L.opened r.0 r.1.failed
+        lanes.control.tally.failed lanes.event.tally.failed) }
     ensures totals { IfOk result (λ r. (r.1.granted ≡ lanes.control.seat.granted)
         × (r.1.refused ≡ lanes.control.seat.refused)) }
     ensures held { IfOk result (λ r. r.1.held ≤ L.most) }
 {
-    let tally = tally_of(&lanes);
+    let sent = sent_by(&lanes);
     let Lanes {
         control,
         event,
         sending,
     } = lanes;
     seats.push(control.seat)?;
-    let Ok(closed) = shared.close(seats) else {
+    let Ok((closed, failures)) = shared.close_with_failures(seats) else {
         unreachable!()
     };
     let totals = Totals {
-        sent: tally.sent,
-        failed: tally.failed,
+        sent,
+        failed: failed_by(&failures, control.tally.failed, event.tally.failed),
         granted: closed.granted,
         refused: closed.refused,
         held: closed.total,
@@ -182,11 +219,14 @@ where
         × (R.parts ≡ L.seats) }
     requires most { L.most ≡ greatest_capacity settings.now }
     requires seats { L.seats ≡ 1 }
+    requires ports { (seen_of P.Port opened.p0 ≡ L.opened 0)
+        × (seen_of P.Port opened.p1 ≡ L.opened 1) × (seen_of P.Port opened.p2 ≡ L.opened 2)
+        × (seen_of P.Port opened.p3 ≡ L.opened 3) }
     requires range { IsGmInRange settings.now }
     requires senders { 1 ≤ settings.now.senders }
     requires limits { IsWithinLimits config.now }
-    ensures { IfOk result (λ r. ServesByLanes P.Port settings.now config.now opened r.0
-        r.1.granted r.1.refused r.1.held) }
+    ensures { IfOk result (λ r. ServesByLanes P.Port C.Clock settings.now config.now opened r.0
+        (numbers_of r.1)) }
 {
     let (shared, mut seats) = Shared::<P, L, G, R>::new(
         alloc,
@@ -224,7 +264,8 @@ where
 /// Serves a grandmaster of these settings over these ports and clocks, in rounds, by lanes that
 /// work side by side in each round. Lane 0 takes up to 64 datagrams of the general channel and
 /// answers Signaling; lane 1 takes up to 64 of the event channel and answers Delay_Reqs; lane
-/// `2 + i` turns the tables `j` with `j` mod `senders` = `i`. Lane `k` has clock `k`. The round of
+/// `2 + i` turns the tables `j` with `j` mod `senders` = `i`. Lane `k` has clock `k`. The lanes stay
+/// for all rounds before the change, and for all from it on, and meet after each. The round of
 /// the number `change_round` begins with a change of the capacity to `new_capacity` at a moment of
 /// clock 0. A send or a receive that fails is counted. Gives the ports and clocks back, with the
 /// last numbers.
@@ -245,8 +286,8 @@ where
     requires range { IsGmInRange settings.now }
     requires senders { 1 ≤ settings.now.senders }
     requires limits { IsWithinLimits config.now }
-    ensures { IfOk result (λ r. ServesByLanes P.Port settings.now config.now opened r.0
-        r.1.granted r.1.refused r.1.held) }
+    ensures { IfOk result (λ r. ServesByLanes P.Port C.Clock settings.now config.now opened r.0
+        (numbers_of r.1)) }
 {
     serve_under::<P, C, Brand, Brand, Brand, W>(
         rt,

@@ -1,9 +1,10 @@
 //! Rounds of the lane that takes Signaling.
 
-ghost use Rattle.std.specs.Prelude.{◌≡◌, ◌+◌, ◌^◌, ◌≤◌, List, [], length, true, false, if◌then◌else◌, IfOk, IfSome};
+ghost use Rattle.std.specs.Prelude.{◌≡◌, ◌+◌, ◌^◌, ◌≤◌, List, [], length, true, false, if◌then◌else◌, IfOk, IfSome, OnErr};
 ghost use Rattle.ptu_outside.specs.Faults.{HasNotFallen, HasRisen, HasRisenBy, HasRisenJust};
 ghost use Rattle.ptu_shard.specs.Config.{IsWithinLimits};
-ghost use Rattle.ptu_lanes.specs.Rounds.{Exchange, HasServed, IsRound};
+ghost use Rattle.ptu_lanes.specs.Rounds.{BrokeOff, Exchange, Exchanged, HasServed, IsRound, IsUnanswered};
+ghost use Rattle.ptu_lanes.specs.Waiting.{PassedBy};
 
 use crate::answering::answer_datagram;
 use ptu_outside::{Clock, Port};
@@ -58,6 +59,10 @@ fn take_one<P: Port + Send, C: Clock, L: Rates, G: Ledger, R: Ledger>(
     ensures end { IfOk result (λ r. r.1 ≡ false
         → ¬ HasRisen (P.faults port.old) (P.faults port.new)
         → IfSome (P.waiting port.new) (λ left. left ≡ [])) }
+    ensures moments { IfOk result (λ r.
+        PassedBy (if r.1 then 1 else 0) (C.moments clock.old) (C.moments clock.new)) }
+    ensures broke_off { OnErr result (IsUnanswered P.Port C.Clock port.old port.new
+        clock.old clock.new seat.old seat.new) }
 {
     match port.receive(buffer) {
         Ok(Some((from, size))) => {
@@ -80,8 +85,8 @@ fn take_one<P: Port + Send, C: Clock, L: Rates, G: Ledger, R: Ledger>(
 /// those without items, get none (IEEE 1588-2019 clause 16.1.4).
 ///
 /// # Errors
-/// `OutOfMemory`, with the decisions made so far, which the seat has counted. The datagram at which
-/// it comes is not answered.
+/// `OutOfMemory`, with the exchanges so far, which are finished. The datagram at which it comes is
+/// taken and not answered; what was decided of it stands, and the seat has counted that.
 pub fn control_round<P: Port + Send, C: Clock, L: Rates, G: Ledger, R: Ledger>(
     rt: &impl Wait,
     alloc: Global,
@@ -105,6 +110,11 @@ pub fn control_round<P: Port + Send, C: Clock, L: Rates, G: Ledger, R: Ledger>(
     ensures round { IfOk result (λ c. ¬ HasRisen (P.faults port.old) (P.faults port.new) →
         IfSome (P.waiting port.new) (λ left. IsRound P.Port config.now port.old port.new left
         seat.old.granted seat.new.granted c.asks c.sent)) }
+    // Whatever its count did, and whether or not it tells: what was taken, answered and counted.
+    ensures exchanged { IfOk result (λ c. Exchanged P.Port C.Clock config.now 64 0
+        port.old port.new clock.old clock.new seat.old seat.new) }
+    ensures broke_off { OnErr result (BrokeOff P.Port C.Clock config.now
+        port.old port.new clock.old clock.new seat.old seat.new) }
     // Each call that failed is a fault, and there are no other faults.
     ensures failed { IfOk result (λ c.
         HasRisenBy c.failed (P.faults port.old) (P.faults port.new)) }

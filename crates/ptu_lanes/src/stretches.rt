@@ -1,12 +1,13 @@
-//! Rounds of a grandmaster's lanes, side by side.
+//! Rounds of a grandmaster's lanes, side by side, in threads that stay.
 
 ghost use Rattle.std.specs.Prelude.{◌≡◌, ◌+◌, ◌^◌, ◌≤◌, IfOk};
 ghost use Rattle.ptu_shard.specs.Config.{IsWithinLimits};
-ghost use Rattle.ptu_lanes.specs.Stretches.{TookDelayReqs, TookSignaling};
+ghost use Rattle.ptu_lanes.specs.Stretches.{HaveTurned, TookDelayReqs, TookSignaling};
 
 use crate::lanes::{
-    ControlLane, EventLane, SendingLanes, take_delay_reqs, take_signaling, turn_tables,
+    ControlLane, EventLane, SendingLanes, take_part_delay_reqs, take_part_signaling, turn_tables,
 };
+use crate::meeting::{LOOKS, Meeting};
 use ptu_outside::{Clock, Port};
 use ptu_shard::GmConfig;
 use ptu_shared::{Rates, Shared};
@@ -24,12 +25,14 @@ pub(crate) struct Lanes<P: Port, C: Clock, G: Ledger, R: Ledger> {
     pub sending: SendingLanes<C>,
 }
 
-// A round of the lanes that take datagrams, side by side.
+// So many rounds of the lanes that take datagrams, side by side.
 fn take_datagrams<P, C, L, G, R, W>(
     rt: &W,
     alloc: Global,
     shared: &Shared<P, L, G, R>,
     config: &GmConfig,
+    meeting: &Meeting,
+    rounds: u32,
     control: ControlLane<P, C, G, R>,
     event: EventLane<P, C>,
 ) -> (
@@ -45,29 +48,33 @@ where
     W: Threads + Wait + Sync,
     requires ledger { L.parts ≡ 4 }
     requires limits { IsWithinLimits config.now }
-    requires counts { (control.seat.granted ≤ 2 ^ 47) × (control.seat.refused ≤ 2 ^ 47) }
-    ensures control { IfOk result.0 (λ new. TookSignaling P.Port config.now 1
-        control.port new.port control.seat new.seat) }
-    ensures event { IfOk result.1 (λ new. TookDelayReqs P.Port 1 event.port new.port) }
+    requires counts { control.seat.granted + control.seat.refused ≤ 2 ^ 46 }
+    ensures control { IfOk result.0 (λ new. TookSignaling P.Port C.Clock config.now rounds
+        control.port new.port control.clock new.clock control.seat new.seat
+        control.tally.failed new.tally.failed) }
+    ensures event { IfOk result.1 (λ new. TookDelayReqs P.Port C.Clock rounds
+        event.port new.port event.clock new.clock event.tally.failed new.tally.failed) }
 {
     join(
         rt,
         move ||
             requires { (L.parts ≡ 4) × IsWithinLimits config.now
-                × (control.seat.granted ≤ 2 ^ 47) × (control.seat.refused ≤ 2 ^ 47) }
-        { take_signaling(rt, alloc, shared, config, control) },
+                × (control.seat.granted + control.seat.refused ≤ 2 ^ 46) }
+        { take_part_signaling(rt, alloc, shared, config, meeting, rounds, control) },
         move ||
             requires { IsWithinLimits config.now }
-        { take_delay_reqs(rt, alloc, shared, config, event) },
+        { take_part_delay_reqs(rt, alloc, shared, config, meeting, rounds, event) },
     )
 }
 
-// A round of all lanes, side by side.
+// So many rounds of all lanes, side by side.
 fn side_by_side<P, C, L, G, R, W>(
     rt: &W,
     alloc: Global,
     shared: &Shared<P, L, G, R>,
     config: &GmConfig,
+    meeting: &Meeting,
+    rounds: u32,
     senders: usize,
     control: ControlLane<P, C, G, R>,
     event: EventLane<P, C>,
@@ -77,7 +84,7 @@ fn side_by_side<P, C, L, G, R, W>(
         Result<ControlLane<P, C, G, R>, OutOfMemory>,
         Result<EventLane<P, C>, OutOfMemory>,
     ),
-    SendingLanes<C>,
+    Result<SendingLanes<C>, OutOfMemory>,
 )
 where
     P: Port + Send,
@@ -89,64 +96,27 @@ where
     requires ledger { L.parts ≡ 4 }
     requires limits { IsWithinLimits config.now }
     requires senders { (1 ≤ senders) × (senders ≤ 4) }
-    requires counts { (control.seat.granted ≤ 2 ^ 47) × (control.seat.refused ≤ 2 ^ 47) }
-    ensures control { IfOk result.0.0 (λ new. TookSignaling P.Port config.now 1
-        control.port new.port control.seat new.seat) }
-    ensures event { IfOk result.0.1 (λ new. TookDelayReqs P.Port 1 event.port new.port) }
+    requires counts { control.seat.granted + control.seat.refused ≤ 2 ^ 46 }
+    ensures control { IfOk result.0.0 (λ new. TookSignaling P.Port C.Clock config.now rounds
+        control.port new.port control.clock new.clock control.seat new.seat
+        control.tally.failed new.tally.failed) }
+    ensures event { IfOk result.0.1 (λ new. TookDelayReqs P.Port C.Clock rounds
+        event.port new.port event.clock new.clock event.tally.failed new.tally.failed) }
+    ensures sending { IfOk result.1 (HaveTurned C.Clock senders rounds sending) }
 {
     join(
         rt,
         move ||
             requires { (L.parts ≡ 4) × IsWithinLimits config.now
-                × (control.seat.granted ≤ 2 ^ 47) × (control.seat.refused ≤ 2 ^ 47) }
-        { take_datagrams(rt, alloc, shared, config, control, event) },
+                × (control.seat.granted + control.seat.refused ≤ 2 ^ 46) }
+        { take_datagrams(rt, alloc, shared, config, meeting, rounds, control, event) },
         move ||
             requires { IsWithinLimits config.now × (1 ≤ senders) × (senders ≤ 4) }
-        { turn_tables(rt, shared, config, senders, sending) },
+        { turn_tables(rt, shared, config, meeting, rounds, senders, sending) },
     )
 }
 
-// A round of all lanes.
-fn round<P, C, L, G, R, W>(
-    rt: &W,
-    alloc: Global,
-    shared: &Shared<P, L, G, R>,
-    config: &GmConfig,
-    senders: usize,
-    lanes: Lanes<P, C, G, R>,
-) -> Result<Lanes<P, C, G, R>, OutOfMemory>
-where
-    P: Port + Send,
-    C: Clock + Send,
-    L: Rates + Sync,
-    G: Ledger + Sync,
-    R: Ledger + Sync,
-    W: Threads + Wait + Sync,
-    requires ledger { L.parts ≡ 4 }
-    requires limits { IsWithinLimits config.now }
-    requires senders { (1 ≤ senders) × (senders ≤ 4) }
-    requires counts { lanes.control.seat.granted + lanes.control.seat.refused ≤ 2 ^ 47 }
-    ensures control { IfOk result (λ new. TookSignaling P.Port config.now 1
-        lanes.control.port new.control.port lanes.control.seat new.control.seat) }
-    ensures event { IfOk result (λ new.
-        TookDelayReqs P.Port 1 lanes.event.port new.event.port) }
-{
-    let Lanes {
-        control,
-        event,
-        sending,
-    } = lanes;
-    let ((control, event), sending) = side_by_side(
-        rt, alloc, shared, config, senders, control, event, sending,
-    );
-    Ok(Lanes {
-        control: control?,
-        event: event?,
-        sending,
-    })
-}
-
-/// So many rounds of all lanes.
+/// So many rounds of all lanes, in threads that are started once.
 ///
 /// # Errors
 /// `OutOfMemory` after the round in which it came, with the lanes dropped.
@@ -170,14 +140,36 @@ where
     requires limits { IsWithinLimits config.now }
     requires senders { (1 ≤ senders) × (senders ≤ 4) }
     requires counts { lanes.control.seat.granted + lanes.control.seat.refused ≤ 2 ^ 46 }
-    ensures control { IfOk result (λ new. TookSignaling P.Port config.now rounds
-        lanes.control.port new.control.port lanes.control.seat new.control.seat) }
+    ensures control { IfOk result (λ new. TookSignaling P.Port C.Clock config.now rounds
+        lanes.control.port new.control.port lanes.control.clock new.control.clock
+        lanes.control.seat new.control.seat
+        lanes.control.tally.failed new.control.tally.failed) }
     ensures event { IfOk result (λ new.
-        TookDelayReqs P.Port rounds lanes.event.port new.event.port) }
+        TookDelayReqs P.Port C.Clock rounds lanes.event.port new.event.port
+        lanes.event.clock new.event.clock lanes.event.tally.failed new.event.tally.failed) }
+    ensures sending { IfOk result (λ new.
+        HaveTurned C.Clock senders rounds lanes.sending new.sending) }
 {
-    let mut lanes = lanes;
-    for _i in 0..rounds {
-        lanes = round(rt, alloc, shared, config, senders, lanes)?;
-    }
-    Ok(lanes)
+    let Lanes {
+        control,
+        event,
+        sending,
+    } = lanes;
+    let ((control, event), sending) = side_by_side(
+        rt,
+        alloc,
+        shared,
+        config,
+        &Meeting::new(2 + senders as u64, LOOKS),
+        rounds,
+        senders,
+        control,
+        event,
+        sending,
+    );
+    Ok(Lanes {
+        control: control?,
+        event: event?,
+        sending: sending?,
+    })
 }

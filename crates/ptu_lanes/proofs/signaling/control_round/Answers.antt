@@ -1,10 +1,11 @@
-use Rattle.std.proofs.Common.{◌≡◌, ◌∙◌, ◌++◌, [], length, length-append, refl, inl, arith}
+use Rattle.std.proofs.Common.{◌≡◌, ◌∙◌, ◌+◌, ◌++◌, [], length, length-append, refl, inl, arith}
 use Rattle.ptu_outside.proofs.HandsOver.{just_both}
-use Rattle.ptu_lanes.proofs.Exchanges.{nothing_yet, round_is, round_over, served-append}
+use Rattle.ptu_lanes.proofs.Exchanges.{broke_off, exchanged_is, nothing_yet, round_is, round_over, served-append}
+use Rattle.ptu_lanes.proofs.Moments.{passed-append, passed_none}
 use Rattle.ptu_lanes.proofs.signaling.control_round.Goals as goal
 
 pub loop-i-init : goal.loop-i-init
-loop-i-init g c = record { exchanges = []; many = refl; failed = omega arith; served = nothing_yet g.P.Port c.args.config.now c.args.port.now c.args.seat.now }
+loop-i-init g c = record { exchanges = []; many = refl; failed = omega arith; moments = passed_none (g.C.Clock.moments c.args.clock.now); served = nothing_yet g.P.Port c.args.config.now c.args.port.now c.args.seat.now }
 
 pub loop-i-preserved : goal.loop-i-preserved
 loop-i-preserved g c =
@@ -15,6 +16,7 @@ loop-i-preserved g c =
       exchanges = inv.exchanges ++ taken.0;
       many = length-append inv.exchanges taken.0 ∙ omega (arith, one, inv.many);
       failed = omega (arith, inv.failed, c.in_ok-one.ensures.failed);
+      moments = passed-append c.loop-i._i 1 _ _ _ inv.moments (rw c.if-not-goes_on.false at c.in_ok-one.ensures.moments);
       served = served-append g.P.Port c.args.config.now inv.exchanges taken.0 _ _ _ _ _ _ _ _ _ _ _ _ inv.served taken.2;
     }
 
@@ -43,3 +45,26 @@ returns-then-not-goes_on-clause-quiet g c none =
     let inv = c.loop-i.invariant in
     let taken = c.in_ok-one.ensures.served in
     taken.2.quiet (omega (arith, none)) ∙ inv.served.quiet (omega (arith, none))
+
+pub returns-after-loop-i-clause-exchanged : goal.returns-after-loop-i-clause-exchanged
+returns-after-loop-i-clause-exchanged g c =
+    let inv = c.loop-i.invariant in
+    exchanged_is g.P.Port g.C.Clock c.args.config.now inv.exchanges c.loop-i._i _ _ _ _ _ _ _ _ _ inv.served (omega (arith, inv.many))
+    (omega (arith, inv.many, c.loop-i.auto._i-end)) inv.moments
+
+pub returns-then-not-goes_on-clause-exchanged : goal.returns-then-not-goes_on-clause-exchanged
+returns-then-not-goes_on-clause-exchanged g c =
+    let inv = c.loop-i.invariant in
+    let taken = c.in_ok-one.ensures.served in
+    let none : length taken.0 ≡ 0 = rw c.if-not-goes_on.true at taken.1 in
+    let many : length (inv.exchanges ++ taken.0) ≡ c.loop-i._i = length-append inv.exchanges taken.0 ∙ omega (arith, none, inv.many) in
+    exchanged_is g.P.Port g.C.Clock c.args.config.now (inv.exchanges ++ taken.0) (c.loop-i._i + 0) _ _ _ _ _ _ _ _ _
+    (served-append g.P.Port c.args.config.now inv.exchanges taken.0 _ _ _ _ _ _ _ _ _ _ _ _ inv.served taken.2)
+    (omega (arith, many)) (omega (arith, many, c.loop-i-test.true))
+    (passed-append c.loop-i._i 0 _ _ _ inv.moments (rw c.if-not-goes_on.true at c.in_ok-one.ensures.moments))
+
+pub returns-in_err-one-clause-broke_off : goal.returns-in_err-one-clause-broke_off
+returns-in_err-one-clause-broke_off g c =
+    let inv = c.loop-i.invariant in
+    broke_off g.P.Port g.C.Clock c.args.config.now inv.exchanges c.loop-i._i _ _ _ _ _ _ _ _ _ _ _ _ inv.served (omega (arith, inv.many))
+    (omega (arith, c.loop-i-test.true)) inv.moments c.in_err-one.ensures.broke_off
