@@ -67,13 +67,7 @@ impl Model for Grant {
 
 impl Grant {
     // A grant of what the client wanted, for so many seconds from the moment on.
-    pub(crate) fn new(
-        client: Client,
-        wanted: Wanted,
-        at: Moment,
-        seconds: u32,
-        until: u64,
-    ) -> Grant
+    pub(crate) fn new(client: Client, wanted: Wanted, at: Moment, seconds: u32, until: u64) -> Grant
         requires { until ≡ at + seconds * 1000000000 }
         ensures { result ≡ record {
           client = client;

@@ -21,7 +21,7 @@ use Rattle.ptu_history.specs.declared.client.Client.{Client}
 use Rattle.ptu_shard.specs.declared.config.GmConfig.{GmConfig}
 use Rattle.ptu_shared.specs.Opening.{HaveFailed, Seen, seen_of}
 use Rattle.ptu_shared.specs.Seats.{Counts, no_verdicts}
-use Rattle.ptu_shared.proofs.Failures.{failed_hands, failed_none}
+use Rattle.ptu_shared.proofs.Failing.{failed_hands, failed_none}
 use Rattle.ptu_items.specs.Replies.{cancels_to}
 use Rattle.ptu_config.specs.declared.settings.GmSettings.{GmSettings}
 use Rattle.ptu_lanes.specs.Answers.{asks_among, grants_among}
@@ -177,25 +177,26 @@ controlled_changed ports clocks settings config capacity e l p0 p1 p2 p3 c0 c1 c
 
 -- what was taken in both stretches, the change between them
 pub exchanged_changed : {P C : Type 0} (ports : Ports P) (clocks : Clocks C) (settings : GmSettings) (config : GmConfig) (capacity e l : ℕ) (p0 p1 p2 p3 : P) (c0 c1 c2 c3 : C) (first seat next last : Counts) (f0 f1 f2 f3 : ℕ) →
-    change_of settings ≡ Some capacity → e + l ≡ settings.rounds → TookSignaling ports clocks config e p0 p1 c0 c1 first seat f0 f1 →
+    change_of settings ≡ Some capacity → e + l ≡ settings.rounds → first ≡ no_verdicts → TookSignaling ports clocks config e p0 p1 c0 c1 first seat f0 f1 →
     (shed : List (Client × Kind)) × (sent : ℕ) × (failed : ℕ) × HandsOver ports p1 p2 (cancels_to config 0 shed) sent failed
     × (f2 ≡ min (f1 + failed) (2 ^ 64 - 1)) → PassedBy 1 (clocks.moments c1) (clocks.moments c2) → next ≡ seat →
     TookSignaling ports clocks config l p2 p3 c2 c3 next last f2 f3 →
-    Exchanged ports clocks config (64 * settings.rounds) (change_moments settings) p0 p3 c0 c3 first last
-exchanged_changed ports clocks settings config capacity e l p0 p1 p2 p3 c0 c1 c2 c3 first seat next last f0 f1 f2 f3 some all_is p (shed, sent, failed, hands, counted) moved same_seat q =
+    Exchanged ports clocks config (64 * settings.rounds) (change_moments settings) p0 p3 c0 c3 no_verdicts last
+exchanged_changed ports clocks settings config capacity e l p0 p1 p2 p3 c0 c1 c2 c3 first seat next last f0 f1 f2 f3 some all_is fresh p (shed, sent, failed, hands, counted) moved same_seat q =
     let moments : 0 + (1 + 0) ≡ change_moments settings = sym (ap moments_to some) in
     let all : 64 * e + (0 + 64 * l) ≡ 64 * settings.rounds = omega (arith, all_is) in
-    exchanged-append ports clocks config (64 * settings.rounds) (64 * e) (0 + 64 * l) 0 (1 + 0) (change_moments settings) p0 p1 p3 c0 c1 c3 first seat last all moments
-    p.exchanged
+    exchanged-append ports clocks config (64 * settings.rounds) (64 * e) (0 + 64 * l) 0 (1 + 0) (change_moments settings) p0 p1 p3 c0 c1 c3 no_verdicts seat last all moments
+    (subst (λ s. Exchanged ports clocks config (64 * e) 0 p0 p1 c0 c1 s seat) fresh p.exchanged)
     (exchanged-append ports clocks config (0 + 64 * l) 0 (64 * l) 1 0 (1 + 0) p1 p2 p3 c1 c2 c3 seat seat last refl refl
     (exchanged_nothing ports clocks config 1 p1 p2 c1 c2 seat (subst (λ told. IfTold told (ports.waiting p1)) (sym hands.waiting) (IfTold-refl (ports.waiting p1))) moved)
     (subst (λ s. Exchanged ports clocks config (64 * l) 0 p2 p3 c2 c3 s last) same_seat q.exchanged))
 
 pub exchanged_unchanged : {P C : Type 0} (ports : Ports P) (clocks : Clocks C) (settings : GmSettings) (config : GmConfig) (p0 p1 : P) (c0 c1 : C) (old new : Counts) →
-    change_of settings ≡ None → Exchanged ports clocks config (64 * settings.rounds) 0 p0 p1 c0 c1 old new →
-    Exchanged ports clocks config (64 * settings.rounds) (change_moments settings) p0 p1 c0 c1 old new
-exchanged_unchanged ports clocks settings config p0 p1 c0 c1 old new none e =
-    subst (λ n. Exchanged ports clocks config (64 * settings.rounds) n p0 p1 c0 c1 old new) (sym (ap moments_to none)) e
+    change_of settings ≡ None → old ≡ no_verdicts → Exchanged ports clocks config (64 * settings.rounds) 0 p0 p1 c0 c1 old new →
+    Exchanged ports clocks config (64 * settings.rounds) (change_moments settings) p0 p1 c0 c1 no_verdicts new
+exchanged_unchanged ports clocks settings config p0 p1 c0 c1 old new none fresh e =
+    subst (λ n. Exchanged ports clocks config (64 * settings.rounds) n p0 p1 c0 c1 no_verdicts new) (sym (ap moments_to none))
+    (subst (λ s. Exchanged ports clocks config (64 * settings.rounds) 0 p0 p1 c0 c1 s new) fresh e)
 
 -- what failed, from a count of nothing on
 pub failed_from : {P : Type 0} (ports : Ports P) (p0 p1 : P) (f0 f1 : ℕ) → f0 ≡ 0 → CountsFailures ports.counts_once (ports.faults p0) (ports.faults p1) f0 f1 →
@@ -210,7 +211,7 @@ pub failed_changed : {P : Type 0} (ports : Ports P) (config : GmConfig) (p0 p1 p
     HaveFailed ports.counts_once f3 (ports.faults p0) (ports.faults p3)
 failed_changed ports config p0 p1 p2 p3 f0 f1 f2 f3 none p (shed, sent, failed, hands, counted) q =
     q (ports.faults p0)
-    (counts_more ports (ports.faults p1) (ports.faults p2) f1 failed f2 (failed_hands ports p1 p2 (cancels_to config 0 shed) sent failed hands) counted
+    (counts_more ports.counts_once (ports.faults p1) (ports.faults p2) f1 failed f2 (failed_hands ports p1 p2 (cancels_to config 0 shed) sent failed hands) counted
     (ports.faults p0) (failed_from ports p0 p1 f0 f1 none p))
 
 -- ---- the event channel

@@ -1,13 +1,13 @@
 -- Moments that are taken of a clock, and those of the lanes that turn tables.
 use Rattle.std.proofs.Common.{◌≡◌, ◌∙◌, ℕ, suc, zero, ◌+◌, ◌*◌, ◌≤◌, ◌<◌, List, refl, sym, ap, subst, arith, Option, Some, None}
-use Rattle.std.specs.Prelude.{option_map}
-use Rattle.std.proofs.Math.Nat.{mul-add, mul-suc}
+use Rattle.std.specs.Prelude.{option_map, ◌%◌, ◌==◌, Bool, if◌then◌else◌}
+use Rattle.std.proofs.Math.Nat.{mul-add}
 use Rattle.ptu_outside.specs.Clocks.{after_first}
 use Rattle.ptu_outside.specs.Telling.{IfTold}
 use Rattle.ptu_outside.specs.declared.clock.Clock.{Ghosts as Clocks}
 use Rattle.ptu_rounds.specs.Rounds.{moments_after}
 use Rattle.ptu_lanes.specs.declared.lanes.SendingLanes.{SendingLanes}
-use Rattle.ptu_lanes.specs.Waiting.{PassedBy, TurnedOwn, own_tables}
+use Rattle.ptu_lanes.specs.Waiting.{PassedBy, TurnedOwn, own_below, own_tables}
 use Rattle.ptu_lanes.specs.Stretches.{HaveTurned}
 
 moments_add : (m n : ℕ) (moments : List ℕ) → moments_after (m + n) moments ≡ moments_after n (moments_after m moments)
@@ -49,10 +49,11 @@ module _ {C : Type 0} (clocks : Clocks C) (lanes lane : ℕ) where
   turned_none clock = passed_as 0 (own_tables lanes lane * 0) _ _ (omega arith) (passed_none (clocks.moments clock))
 
   pub turned_more : (rounds : ℕ) (old now new : C) → TurnedOwn clocks lanes lane rounds old now →
-      PassedBy (own_tables lanes lane) (clocks.moments now) (clocks.moments new) → TurnedOwn clocks lanes lane (suc rounds) old new
+      PassedBy (own_tables lanes lane) (clocks.moments now) (clocks.moments new) → TurnedOwn clocks lanes lane (rounds + 1) old new
   turned_more rounds old now new p q =
-      passed_as (own_tables lanes lane * rounds + own_tables lanes lane) (own_tables lanes lane * suc rounds) _ _
-      (sym (mul-suc (own_tables lanes lane) rounds))
+      let one : own_tables lanes lane * rounds + own_tables lanes lane * 1 ≡ own_tables lanes lane * rounds + own_tables lanes lane = omega arith in
+      passed_as (own_tables lanes lane * rounds + own_tables lanes lane) (own_tables lanes lane * (rounds + 1)) _ _
+      (sym (mul-add (own_tables lanes lane) rounds 1 ∙ one))
       (passed-append (own_tables lanes lane * rounds) (own_tables lanes lane) (clocks.moments old) (clocks.moments now) (clocks.moments new) p q)
 
   pub turned-append : (all e l : ℕ) (old now new : C) → e + l ≡ all → TurnedOwn clocks lanes lane e old now → TurnedOwn clocks lanes lane l now new →
@@ -69,8 +70,28 @@ module _ {C : Type 0} (clocks : Clocks C) (lanes lane : ℕ) where
       none_of : (n : ℕ) → 0 * n ≡ 0
       none_of n = omega arith
 
+-- the tables below an index, one more at a time
+pub own_first : (lanes lane : ℕ) → own_below lanes lane 0 ≡ 0
+unfolding own_below
+own_first lanes lane = refl
+
+pub own_next : (lanes lane table : ℕ) → own_below lanes lane (suc table) ≡ own_below lanes lane table + (if table % lanes == lane then 1 else 0)
+unfolding own_below
+own_next lanes lane table = refl
+
+-- of a table that the lane turns a moment was taken, of another none
+pub passed_own : (lanes lane table : ℕ) (old now new : Option (List ℕ)) (own : Bool) → own ≡ (table % lanes == lane) →
+    PassedBy (own_below lanes lane table) old now → PassedBy (if own then 1 else 0) now new → PassedBy (own_below lanes lane (table + 1)) old new
+passed_own lanes lane table old now new own is p q =
+    let step : own_below lanes lane table + (if own then 1 else 0) ≡ own_below lanes lane (suc table) =
+    ap (λ b. own_below lanes lane table + (if b then 1 else 0)) is ∙ sym (own_next lanes lane table) in
+    let next : suc table ≡ table + 1 = omega arith in
+    passed_as (own_below lanes lane table + (if own then 1 else 0)) (own_below lanes lane (table + 1)) old new (step ∙ ap (own_below lanes lane) next)
+    (passed-append (own_below lanes lane table) (if own then 1 else 0) old now new p q)
+
 -- a lane that is not at work has no tables
 pub own_none : (lanes lane : ℕ) → 1 ≤ lanes → lanes ≤ lane → lane < 4 → own_tables lanes lane ≡ 0
+unfolding own_below
 own_none zero lane some le lt = absurd (omega (arith, some))
 own_none (suc lanes) zero some le lt = absurd (omega (arith, le))
 own_none (suc zero) (suc zero) some le lt = refl

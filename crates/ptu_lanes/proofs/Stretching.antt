@@ -1,5 +1,5 @@
 -- Rounds of lanes, one after the other.
-use Rattle.std.proofs.Common.{◌≡◌, ◌∙◌, ℕ, ◌+◌, ◌-◌, ◌*◌, ◌^◌, ◌≤◌, min, ◌++◌, List, [], take, drop, refl, sym, ap, subst, arith, Option, Some, None}
+use Rattle.std.proofs.Common.{◌≡◌, ◌∙◌, ℕ, ◌+◌, ◌-◌, ◌*◌, ◌^◌, ◌≤◌, min, Bool, ◌++◌, List, [], take, drop, refl, sym, ap, subst, arith, Option, Some, None}
 use Rattle.std.specs.Prelude.{IfSome}
 use Rattle.std.proofs.lemmas.List.{drop-drop, map-append}
 use Rattle.std.proofs.lemmas.List.Elements.{All-append, All-nil}
@@ -15,7 +15,7 @@ use Rattle.ptu_outside.proofs.HandsOver.{goes_on_both, not_fallen_both, not_fall
 use Rattle.ptu_shard.specs.declared.config.GmConfig.{GmConfig}
 use Rattle.ptu_shared.specs.Opening.{HaveFailed}
 use Rattle.ptu_shared.specs.Seats.{Counts}
-use Rattle.ptu_shared.proofs.Failures.{failed-append, failed_bounded}
+use Rattle.ptu_shared.proofs.Failing.{failed-append, failed_bounded}
 use Rattle.ptu_lanes.specs.Answers.{asks_among, grants_among}
 use Rattle.ptu_lanes.specs.Rounds.{Exchange, Exchanged, IsAnswered, IsRound, asks_in, datagrams, items_of, replies, reply_in}
 use Rattle.ptu_lanes.specs.Sending.{GoesOn, WasSent}
@@ -112,6 +112,30 @@ pub some_more : {A : Type 0} (told : Option A) (Fact More : A → Type 0) → ((
 some_more None Fact More makes fact = tt
 some_more (Some x) Fact More makes fact = makes x fact
 
+-- failed calls that are counted after others
+pub counts_more : (once : Bool) (faults faults' failed more failed' : ℕ) → HaveFailed once more faults faults' → failed' ≡ min (failed + more) (2 ^ 64 - 1) →
+    CountsFailures once faults faults' failed failed'
+counts_more once faults faults' failed more failed' f is = λ start before.
+    subst (λ n. HaveFailed once n start faults') (sym is)
+    (failed_bounded once (failed + more) start faults' (failed-append once failed more start faults faults' before f))
+
+-- a round is one of so many
+rounds_one : {P : Type 0} (ports : Ports P) (config : GmConfig) (port port' : P) (left : List Arrival) (old new : Counts) (asks sent : ℕ) →
+    new.granted + new.refused ≡ old.granted + old.refused + asks → IsRound ports config port port' left old.granted new.granted asks sent →
+    AreRounds ports config 1 port port' left old new
+rounds_one ports config port port' left old new asks sent counted r = record {
+  waited = r.waited;
+  all = r.all;
+  exchanges = r.exchanges;
+  first = r.first;
+  rest = r.rest;
+  answered = r.answered;
+  told = r.told;
+  goes_on = r.goes_on;
+  granted = r.granted_are;
+  counted = counted ∙ ap (λ n. old.granted + old.refused + n) (r.asks_are ∙ sym (ap (asks_in config) r.first));
+}
+
 module _ {P C : Type 0} (ports : Ports P) (clocks : Clocks C) where
   pub signaling_none : (config : GmConfig) (port : P) (clock : C) (counts : Counts) (failed : ℕ) → TookSignaling ports clocks config 0 port port clock clock counts counts failed failed
   signaling_none config port clock counts failed = record {
@@ -122,34 +146,16 @@ module _ {P C : Type 0} (ports : Ports P) (clocks : Clocks C) where
     no_fall = not_fallen_none (ports.faults port);
   }
 
-  -- failed calls that are counted after others
-  pub counts_more : (faults faults' failed more failed' : ℕ) → HaveFailed ports.counts_once more faults faults' → failed' ≡ min (failed + more) (2 ^ 64 - 1) →
-      CountsFailures ports.counts_once faults faults' failed failed'
-  counts_more faults faults' failed more failed' f is = λ start before.
-      subst (λ n. HaveFailed ports.counts_once n start faults') (sym is)
-      (failed_bounded ports.counts_once (failed + more) start faults' (failed-append ports.counts_once failed more start faults faults' before f))
-
   pub signaling_one : (config : GmConfig) (port port' : P) (clock clock' : C) (old new : Counts) (asks sent more failed failed' : ℕ) →
       new.granted + new.refused ≡ old.granted + old.refused + asks → asks ≤ 2048 →
       (¬ HasRisen (ports.faults port) (ports.faults port') → IfSome (ports.waiting port') (λ left. IsRound ports config port port' left old.granted new.granted asks sent)) →
       Exchanged ports clocks config 64 0 port port' clock clock' old new → HaveFailed ports.counts_once more (ports.faults port) (ports.faults port') →
       failed' ≡ min (failed + more) (2 ^ 64 - 1) → TookSignaling ports clocks config 1 port port' clock clock' old new failed failed'
   signaling_one config port port' clock clock' old new asks sent more failed failed' counted few round exchanged failures is = record {
-    did = λ same. some_more (ports.waiting port') _ _ (λ left r. record {
-      waited = r.waited;
-      all = r.all;
-      exchanges = r.exchanges;
-      first = r.first;
-      rest = r.rest;
-      answered = r.answered;
-      told = r.told;
-      goes_on = r.goes_on;
-      granted = r.granted_are;
-      counted = counted ∙ ap (λ n. old.granted + old.refused + n) (r.asks_are ∙ sym (ap (asks_in config) r.first));
-    }) (round same);
+    did = λ same. some_more (ports.waiting port') _ _ (λ left. rounds_one ports config port port' left old new asks sent counted) (round same);
     exchanged = exchanged;
     most = omega (arith, counted, few);
-    failures = counts_more (ports.faults port) (ports.faults port') failed more failed' failures is;
+    failures = counts_more ports.counts_once (ports.faults port) (ports.faults port') failed more failed' failures is;
     no_fall = failures.no_fall;
   }
 
@@ -185,7 +191,7 @@ module _ {P C : Type 0} (ports : Ports P) (clocks : Clocks C) where
     took = took;
     unsent = unsent;
     goes_on = goes_on;
-    failures = counts_more (ports.faults port) (ports.faults port') failed missed failed' failures is;
+    failures = counts_more ports.counts_once (ports.faults port) (ports.faults port') failed missed failed' failures is;
     no_fall = failures.no_fall;
   }
 

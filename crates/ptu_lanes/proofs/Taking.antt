@@ -11,7 +11,7 @@ use Rattle.ptu_outside.specs.Clocks.{after_first}
 use Rattle.ptu_outside.specs.Telling.{IfTold, IsFirstTold, rest_told}
 use Rattle.ptu_outside.proofs.Telling.{IfTold-refl}
 use Rattle.ptu_shared.specs.Opening.{HaveFailed}
-use Rattle.ptu_shared.proofs.Failures.{failed-append, failed_none}
+use Rattle.ptu_shared.proofs.Failing.{failed-append, failed_none}
 use Rattle.ptu_lanes.specs.Waiting.{GaveFirst, HasTaken, Took}
 use Rattle.ptu_lanes.proofs.Moments.{passed-append, passed_as, passed_none, passed_one}
 

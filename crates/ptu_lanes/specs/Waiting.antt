@@ -35,7 +35,7 @@ pub record HasTaken {P C : Type 0} (ports : Ports P) (clocks : Clocks C) (count 
   pub moments : PassedBy count (clocks.moments clock) (clocks.moments clock')
 
 -- of the tables below an index, how many the lane of this index turns, of so many lanes
-abbrev pub own_below : ℕ → ℕ → ℕ → ℕ
+unfoldable pub own_below : ℕ → ℕ → ℕ → ℕ
 own_below lanes lane zero = 0
 own_below lanes lane (suc table) = own_below lanes lane table + (if table % lanes == lane then 1 else 0)
 

@@ -407,8 +407,9 @@ where
     ensures { IfOk result (HaveTurned C.Clock count rounds lanes) }
 {
     if 2 < count {
-        let ((first, second), (third, fourth)) =
-            turn_four(rt, shared, config, meeting, rounds, count, lanes);
+        let ((first, second), (third, fourth)) = turn_four(
+            rt, shared, config, meeting, rounds, count, lanes,
+        );
         return Ok(SendingLanes {
             first: first?,
             second: second?,
@@ -422,9 +423,7 @@ where
         third,
         fourth,
     } = lanes;
-    let (first, second) = turn_two(
-        rt, shared, config, meeting, rounds, 0, count, first, second,
-    );
+    let (first, second) = turn_two(rt, shared, config, meeting, rounds, 0, count, first, second);
     Ok(SendingLanes {
         first: first?,
         second: second?,

@@ -24,7 +24,11 @@ impl Seen {
     fn count(&self, own: &AtomicU64, other: &AtomicU64) {
         let own = own.fetch_add(1, Ordering::SeqCst).wrapping_add(1);
         let other = other.load(Ordering::SeqCst);
-        let apart = if own < other { other - own } else { own - other };
+        let apart = if own < other {
+            other - own
+        } else {
+            own - other
+        };
         self.apart.fetch_max(apart, Ordering::SeqCst);
     }
 
@@ -69,8 +73,8 @@ fn lanes_stay_in_step(rt: HostRuntime) -> Result<(), Fail> {
         || run_fast(&rt, &meeting, &seen),
         || run_slowly(&rt, &meeting, &seen),
     );
-    assert_eq!(&rt; seen.apart.load(Ordering::SeqCst), 1);
-    assert_eq!(&rt; seen.slow.load(Ordering::SeqCst), u64::from(ROUNDS));
+    assert_eq!(rt; seen.apart.load(Ordering::SeqCst), 1);
+    assert_eq!(rt; seen.slow.load(Ordering::SeqCst), u64::from(ROUNDS));
     Ok(())
 }
 
@@ -100,7 +104,7 @@ fn a_lane_that_gives_up_ends_all(rt: HostRuntime) -> Result<(), Fail> {
     meeting.enter(&rt);
     meeting.enter(&rt);
     meeting.leave(&rt, true);
-    assert!(&rt; !meeting.meet(&rt, 0));
+    assert!(rt; !meeting.meet(&rt, 0));
     meeting.leave(&rt, false);
     Ok(())
 }

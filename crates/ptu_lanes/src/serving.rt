@@ -42,6 +42,13 @@ pub struct Totals {
     pub held: u64,
 }
 
+// How many lanes turn tables.
+fn sender_count(settings: &GmSettings) -> usize
+    ensures { result ≡ settings.now.senders }
+{
+    usize::from(settings.senders)
+}
+
 // All rounds, with the change of capacity where there is one.
 fn all_rounds<P, C, L, G, R, W>(
     rt: &W,
@@ -77,7 +84,7 @@ where
     ensures exchanged { IfOk result (λ new. Exchanged P.Port C.Clock config.now
         (64 * settings.now.rounds) (change_moments settings.now)
         lanes.control.port new.control.port lanes.control.clock new.control.clock
-        lanes.control.seat new.control.seat) }
+        no_verdicts new.control.seat) }
     ensures took { IfOk result (λ new. Took P.Port C.Clock (64 * settings.now.rounds) 0
         lanes.event.port new.event.port lanes.event.clock new.event.clock) }
     ensures unsent { IfOk result (λ new. P.sent new.event.port ≡ P.sent lanes.event.port) }
@@ -90,7 +97,7 @@ where
     ensures missed { IfOk result (λ new. HaveFailed P.counts_once new.event.tally.failed
         (P.faults lanes.event.port) (P.faults new.event.port)) }
 {
-    let senders = usize::from(settings.senders);
+    let senders = sender_count(settings);
     let Some(capacity) = change(settings) else {
         return stretch(rt, alloc, shared, config, senders, settings.rounds, lanes);
     };
@@ -103,7 +110,7 @@ where
 
 // The lanes that turn tables at these clocks, before their first round.
 fn sending_lanes<C: Clock>(c2: C, c3: C, c4: C, c5: C) -> SendingLanes<C>
-    ensures clocks { (result.first.clock ≡ c2) × (result.second.clock ≡ c3)
+    ensures { (result.first.clock ≡ c2) × (result.second.clock ≡ c3)
         × (result.third.clock ≡ c4) × (result.fourth.clock ≡ c5) }
 {
     SendingLanes {

@@ -1,6 +1,6 @@
 //! Rounds of a lane that turns tables.
 
-ghost use Rattle.std.specs.Prelude.{◌≡◌, ◌≤◌, ◌<◌, ◌%◌, ◌==◌};
+ghost use Rattle.std.specs.Prelude.{◌≡◌, ◌≤◌, ◌<◌, ◌%◌, ◌==◌, if◌then◌else◌};
 ghost use Rattle.ptu_shard.specs.Config.{IsWithinLimits};
 ghost use Rattle.ptu_lanes.specs.Waiting.{PassedBy, own_tables};
 
@@ -20,6 +20,29 @@ fn is_own(table: usize, lane: usize, lanes: usize) -> bool
     table % lanes == lane
 }
 
+// A turn of the table at a new moment of the clock, where the lane turns it.
+fn turn_if_own<P: Port + Send, C: Clock, L: Rates, G: Ledger, R: Ledger>(
+    rt: &impl Wait,
+    shared: &Shared<P, L, G, R>,
+    config: &GmConfig,
+    clock: &mut C,
+    table: usize,
+    own: bool,
+) -> Sends
+    requires limits { IsWithinLimits config.now }
+    requires table { table < 4 }
+    ensures { PassedBy (if own then 1 else 0) (C.moments clock.old) (C.moments clock.new) }
+{
+    if !own {
+        return Sends::none();
+    }
+    let turned = shared.turn(rt, config, table, clock.now());
+    Sends {
+        sent: turned.sent,
+        failed: turned.failed,
+    }
+}
+
 /// Turns the tables `j` with `j` mod `lanes` = `lane`, in order of index, each at a new moment of
 /// the clock. What would not fit in 64 bits is not counted.
 pub fn turn_round<P: Port + Send, C: Clock, L: Rates, G: Ledger, R: Ledger>(
@@ -36,11 +59,10 @@ pub fn turn_round<P: Port + Send, C: Clock, L: Rates, G: Ledger, R: Ledger>(
 {
     let mut sends = Sends::none();
     for table in 0..TABLES {
-        if is_own(table, lane, lanes) {
-            let turned = shared.turn(rt, config, table, clock.now());
-            sends.sent = sends.sent.saturating_add(turned.sent);
-            sends.failed = sends.failed.saturating_add(turned.failed);
-        }
+        let own = is_own(table, lane, lanes);
+        let one = turn_if_own(rt, shared, config, clock, table, own);
+        sends.sent = sends.sent.saturating_add(one.sent);
+        sends.failed = sends.failed.saturating_add(one.failed);
     }
     sends
 }

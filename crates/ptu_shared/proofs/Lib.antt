@@ -1,3 +1,3 @@
 pub mod Verdicts
 pub mod Shares
-pub mod Failures
+pub mod Failing

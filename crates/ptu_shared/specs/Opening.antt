@@ -1,6 +1,6 @@
 -- What is known of the port of a table, which stands behind a lock: what it was like when it was opened, and how many of its sends
 -- failed since.
-use Rattle.std.specs.Prelude.{◌≡◌, ℕ, Bool, true, List, [], Option, Some, None}
+use Rattle.std.specs.Prelude.{◌≡◌, ℕ, ◌+◌, ◌-◌, ◌^◌, ◌≤◌, ◌<◌, min, Bool, true, List, [], Option, Some, None}
 use Rattle.ptu_outside.specs.declared.arrival.Arrival.{Arrival}
 use Rattle.ptu_outside.specs.declared.port.Port.{Ghosts as Ports}
 use Rattle.ptu_outside.specs.Faults.{HasRisenBy, HasRisenJust, HasNotFallen}
@@ -28,3 +28,11 @@ pub record HaveFailed (once : Bool) (failed old new : ℕ) : Type 0 where
   pub just : once ≡ true → HasRisenJust failed old new
   pub quiet : failed ≡ 0 → new ≡ old
   pub no_fall : HasNotFallen old new
+
+-- the same, in a form that a type can keep: no fact in it can hold in two ways
+pub record AreCounted (once : Bool) (failed old new : ℕ) : Type 0 where
+  pub risen : min (old + failed) (2 ^ 64 - 1) ≤ new
+  pub just : once ≡ true → new < 2 ^ 64 - 1 → new ≡ old + failed
+  pub quiet : failed ≡ 0 → new ≡ old
+  pub no_fall : old ≤ new
+  pub stands : 2 ^ 64 - 1 ≤ old → new ≡ old

@@ -14,7 +14,7 @@ ghost use Rattle.ptu_shard.specs.Row.{share_of};
 ghost use Rattle.ptu_shard.specs.Table.{StandsBeside, StandsFor};
 ghost use Rattle.ptu_shard.specs.Turn.{due_messages};
 ghost use Rattle.ptu_shared.specs.Delays.{IsLaterIfTooSoon};
-ghost use Rattle.ptu_shared.specs.Opening.{HaveFailed, seen_of};
+ghost use Rattle.ptu_shared.specs.Opening.{AreCounted, seen_of};
 
 use crate::place::Place;
 use crate::rates::Rates;
@@ -39,7 +39,7 @@ pub(crate) struct Table<P: Port, L: Rates, J: Place> {
     ghost one: { part.parts ≡ 1 },
     ghost same: { part.amount ≡ share_of shard.rows },
     ghost own_port: { P.waiting shard.port ≡ (L.opened J.index).waiting },
-    ghost failures: { HaveFailed P.counts_once failed (L.opened J.index).faults
+    ghost failures: { AreCounted P.counts_once failed (L.opened J.index).faults
         (P.faults shard.port) },
 }
 

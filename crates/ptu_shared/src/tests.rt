@@ -540,7 +540,9 @@ fn close_with_both<L: Rates, G: Ledger, R: Ledger, W: Wait + Abort>(
     assert_eq!(rt; (fault.granted, fault.refused), (1, 1));
     assert_eq!(rt; (fault.seats_granted, fault.seats_refused), (1, 0));
     let CloseFault {
-        shared, mut seats, ..
+        shared,
+        mut seats,
+        ..
     } = fault;
     assert_eq!(rt; seats.len(), 1);
     seats.push(missing).expect(rt, "memory is found");
@@ -589,11 +591,7 @@ fn without_a_seat<L: Rates, G: Ledger, R: Ledger, W: Wait + Abort>(
     Ok(())
 }
 
-fn close_without_a_seat<W: Wait + Abort>(
-    rt: &W,
-    alloc: Global,
-    counted: bool,
-) -> Result<(), Fail> {
+fn close_without_a_seat<W: Wait + Abort>(rt: &W, alloc: Global, counted: bool) -> Result<(), Fail> {
     let (rates, granted, refused) = (Blank::new(4), Blank::new(2), Blank::new(2));
     without_a_seat::<Brand, Brand, Brand, W>(rt, alloc, rates, granted, refused, 8, counted)
 }

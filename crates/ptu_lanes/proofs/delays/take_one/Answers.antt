@@ -2,7 +2,7 @@ use Rattle.std.proofs.Common.{◌≡◌, take, refl, sym, subst, arith, inl}
 use Rattle.ptu_outside.specs.declared.arrival.Arrival.{Arrival}
 use Rattle.ptu_outside.proofs.HandsOver.{just_once}
 use Rattle.ptu_shared.specs.Opening.{HaveFailed}
-use Rattle.ptu_shared.proofs.Failures.{failed_none}
+use Rattle.ptu_shared.proofs.Failing.{failed_none}
 use Rattle.ptu_lanes.proofs.Taking.{taken_nothing, taken_one}
 use Rattle.ptu_lanes.proofs.delays.take_one.Goals as goal
 

@@ -1,5 +1,4 @@
-use Rattle.std.proofs.Common.{◌≡◌, ◌+◌, suc, arith}
-use Rattle.ptu_lanes.specs.Waiting.{TurnedOwn}
+use Rattle.std.proofs.Common.{◌≡◌, arith}
 use Rattle.ptu_lanes.proofs.Moments.{turned_more, turned_none}
 use Rattle.ptu_lanes.proofs.lanes.stay_turning.Goals as goal
 
@@ -8,10 +7,7 @@ loop-i-init g c = turned_none g.C.Clock c.args.count c.args.index _
 
 pub loop-i-preserved : goal.loop-i-preserved
 loop-i-preserved g c =
-    let next : suc c.loop-i.i ≡ c.loop-i.i + 1 = omega arith in
-    let more : TurnedOwn g.C.Clock c.args.count c.args.index (suc c.loop-i.i) _ _ =
-    turned_more g.C.Clock c.args.count c.args.index c.loop-i.i _ _ _ c.loop-i.invariant c.turn_own-lane.ensures in
-    rw next at more
+    turned_more g.C.Clock c.args.count c.args.index c.loop-i.i _ _ _ c.loop-i.invariant c.turn_own-lane.ensures
 
 pub returns : goal.returns
 returns g c =

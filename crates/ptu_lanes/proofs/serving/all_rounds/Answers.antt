@@ -48,7 +48,7 @@ returns-clause-goes_on g c = if_ok c.stretch-3.result _ _ (λ new late. late.goe
 pub returns-in_default-clause-exchanged : goal.returns-in_default-clause-exchanged
 returns-in_default-clause-exchanged g c =
     let none : change_of c.args.settings.now ≡ None = sym c.change.ensures.change ∙ c.in_default.is in
-    if_ok c.stretch.result _ _ (λ new took. exchanged_unchanged g.P.Port g.C.Clock c.args.settings.now c.args.config.now _ _ _ _ _ _ none took.exchanged) c.stretch.ensures.control
+    if_ok c.stretch.result _ _ (λ new took. exchanged_unchanged g.P.Port g.C.Clock c.args.settings.now c.args.config.now _ _ _ _ _ _ none c.requires.seat took.exchanged) c.stretch.ensures.control
 
 pub returns-clause-exchanged : goal.returns-clause-exchanged
 returns-clause-exchanged g c =
@@ -57,7 +57,7 @@ returns-clause-exchanged g c =
     let changed = c.in_ok-change_capacity.ensures in
     if_ok c.stretch-3.result _ _ (λ new late.
     exchanged_changed g.P.Port g.C.Clock c.args.settings.now c.args.config.now c.in-Some.capacity (c.args.settings.now.change_round - 1) _ _ _ _ _ _ _ _ _ _ _ _ _ _ _ _ _
-    some (omega (arith, round.0, round.1)) c.in_ok-lanes.ensures.control changed.sends changed.moment changed.seat late)
+    some (omega (arith, round.0, round.1)) c.requires.seat c.in_ok-lanes.ensures.control changed.sends changed.moment changed.seat late)
     c.stretch-3.ensures.control
 
 pub returns-in_default-clause-took : goal.returns-in_default-clause-took
@@ -71,13 +71,13 @@ returns-clause-took g c =
     c.stretch-3.ensures.event
 
 pub returns-in_default-clause-turned : goal.returns-in_default-clause-turned
-returns-in_default-clause-turned g c = if_ok c.stretch.result _ _ (λ new turned. turned) c.stretch.ensures.sending
+returns-in_default-clause-turned g c = if_ok c.stretch.result _ _ (λ new turned. rw c.sender_count-senders.ensures at turned) c.stretch.ensures.sending
 
 pub returns-clause-turned : goal.returns-clause-turned
 returns-clause-turned g c =
     let round = c.in-Some.ensures.round refl in
     if_ok c.stretch-3.result _ _ (λ new late.
-    all_turned-append g.C.Clock c.args.settings.now.senders c.args.settings.now.rounds (c.args.settings.now.change_round - 1) _ _ _ _ (omega (arith, round.0, round.1)) c.in_ok-lanes.ensures.sending late)
+    all_turned-append g.C.Clock c.args.settings.now.senders c.args.settings.now.rounds (c.args.settings.now.change_round - 1) _ _ _ _ (omega (arith, round.0, round.1)) (rw c.sender_count-senders.ensures at c.in_ok-lanes.ensures.sending) (rw c.sender_count-senders.ensures at late))
     c.stretch-3.ensures.sending
 
 pub returns-in_default-clause-failed : goal.returns-in_default-clause-failed

@@ -2,7 +2,7 @@ use Rattle.ptu_lanes.proofs.serving.close.Goals as goal
 
 pub returns-clause-tables : goal.returns-clause-tables
 returns-clause-tables g c =
-    let f = c.close_with_failures.ensures in
+    let f = c.in-Ok.ensures in
     record {
       waits = f.opened;
       of0 = c.in-Ok.failures.p0;

@@ -55,4 +55,4 @@ returns-in_err-answered-in-Ok-Some-clause-broke_off g c =
     let d : Arrival = record { ip = c.in-Ok-Some.from; bytes = take c.in-Ok-Some.size c.receive.new.buf } in
     rw kept.unsent
     (unanswered g.P.Port g.C.Clock d _ _ _ _ _ _ (rw c.in-Ok-Some.field-0-is at received.first) (rw c.in-Ok-Some.field-0-is at received.rest)
-    received.sent received.quiet c.answer_datagram-answered.ensures.no_less c.now-t.ensures.rest)
+    received.sent received.quiet kept.no_less c.now-t.ensures.rest)

@@ -2,7 +2,7 @@
 use Rattle.std.proofs.Common.{◌∙◌, sym}
 use Rattle.ptu_shard.specs.Turn.{is_answering_row}
 use Rattle.ptu_admit.proofs.Sendings.{spent_all}
-use Rattle.ptu_shared.proofs.Failures.{failed-append, failed_bounded, failed_hands}
+use Rattle.ptu_shared.proofs.Failing.{counted_more}
 use Rattle.ptu_shared.proofs.table.Table.answer_delay.Goals as goal
 
 pub invariant_of-self-clause-same : goal.invariant_of-self-clause-same
@@ -10,4 +10,5 @@ invariant_of-self-clause-same g c = c.args.self.now.same ∙ sym (spent_all (is_
 
 pub invariant_of-self-clause-failures : goal.invariant_of-self-clause-failures
 invariant_of-self-clause-failures g c =
-    rw c.failed_of.ensures (failed_bounded _ _ _ _ (failed-append _ _ _ _ _ _ c.args.self.now.failures (failed_hands g.P.Port _ _ _ _ _ c.answer_delay-answered.ensures.sends)))
+    rw (c.saturating_add-self.ensures, c.failed_of.ensures)
+    (counted_more g.P.Port _ _ _ _ _ _ _ c.args.self.now.failures c.answer_delay-answered.ensures.sends)
