@@ -271,8 +271,8 @@ where
 /// Serves a grandmaster of these settings over these ports and clocks, in rounds, by lanes that
 /// work side by side in each round. Lane 0 takes up to 64 datagrams of the general channel and
 /// answers Signaling; lane 1 takes up to 64 of the event channel and answers Delay_Reqs; lane
-/// `2 + i` turns the tables `j` with `j` mod `senders` = `i`. Lane `k` has clock `k`. The lanes stay
-/// for all rounds before the change, and for all from it on, and meet after each. The round of
+/// `2 + i` turns the tables `j` with `j` mod `senders` = `i`. Lane `k` has clock `k`. The lanes
+/// stay for all rounds before the change, and for all from it on, and meet after each. The round of
 /// the number `change_round` begins with a change of the capacity to `new_capacity` at a moment of
 /// clock 0. A send or a receive that fails is counted. Gives the ports and clocks back, with the
 /// last numbers.

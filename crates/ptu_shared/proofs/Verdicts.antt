@@ -1,21 +1,28 @@
 -- A verdict that was found at a moment answers its ask.
-use Rattle.std.proofs.Common.{◌≡◌, ℕ, ◌+◌, ◌*◌, ◌≤◌, ◌<◌, min, Bool, true, false, refl, arith, Ok, Err, Result}
-use Rattle.std.specs.Prelude.{nat_le, if◌then◌else◌}
+use Rattle.std.proofs.Common.{◌≡◌, ℕ, ◌+◌, ◌*◌, ◌≤◌, ◌<◌, min, Bool, true, false, refl, sym, arith, Ok, Err, Result, Option, Some, None}
+use Rattle.std.specs.Prelude.{nat_le, if◌then◌else◌, IfSome}
+use Rattle.std.specs.Option.{option_map}
 use Rattle.std.proofs.lemmas.Bool.Decides.{nat_tests}
 use Rattle.ptu_units.specs.declared.kind.Kind.{Kind}
 use Rattle.ptu_units.specs.Log.{rate_of}
 use Rattle.ptu_history.specs.declared.client.Client.{Client}
+use Rattle.ptu_history.specs.Verdict as history
 use Rattle.ptu_history.specs.Verdict.{GrantedFor, OutsideCause, ShortOf, profile}
 use Rattle.ptu_tlvs.specs.declared.tlv.Ask.{Ask}
 use Rattle.ptu_shard.specs.declared.config.GmConfig.{GmConfig}
 use Rattle.ptu_admit.specs.declared.verdict.Verdict.{Verdict}
 use Rattle.ptu_admit.specs.declared.verdict.Verdict.TheVariants.{Granted, Short, Outside}
-use Rattle.ptu_admit.specs.Verdict.{IsAt, IsFor, ask_of, config_of, verdict_beside, verdict_by, verdict_of}
+use Rattle.ptu_admit.specs.Verdict.{IsAt, IsFor, ask_of, config_of, unless_short, verdict_beside, verdict_by, verdict_of}
 use Rattle.ptu_shared.specs.Answers.{AnswersAsk}
 
 -- what does not fit is above the capacity
 above_of : (sum capacity : ℕ) → nat_le sum capacity ≡ false → capacity < sum
 above_of sum capacity not_within = grind (arith, nat_tests)
+
+some_unless : (w v : history.Verdict) → unless_short w ≡ Some v → w ≡ v
+some_unless (history.GrantedFor k l seconds until) v is = cc
+some_unless (history.ShortOf k l others rate capacity) v is = absurd (cc)
+some_unless (history.Outside cause) v is = cc
 
 module _ (most : ℕ) (config : GmConfig) (t n capacity : ℕ) (client : Client) (ask : Ask) (later : t ≤ n) (within : capacity ≤ most) where
   -- by whether the ask fits
@@ -51,3 +58,9 @@ module _ (most : ℕ) (config : GmConfig) (t n capacity : ℕ) (client : Client)
 
   pub answers_ask : (others : Kind → ℕ) (v : Verdict) → IsAt n v → IsFor client v → verdict_of v ≡ verdict_beside (config_of capacity config) others n (ask_of ask) → AnswersAsk most config t client ask v
   answers_ask others v at whose is = by_profile (profile (ask_of ask)) others v refl at whose is
+
+  -- an answer that is not short
+  pub answers_one : (others : Kind → ℕ) (o : Option Verdict) → IfSome o (IsAt n) → IfSome o (IsFor client) →
+      option_map verdict_of o ≡ unless_short (verdict_beside (config_of capacity config) others n (ask_of ask)) → IfSome o (AnswersAsk most config t client ask)
+  answers_one others None at whose is = tt
+  answers_one others (Some v) at whose is = answers_ask others v at whose (sym (some_unless (verdict_beside (config_of capacity config) others n (ask_of ask)) (verdict_of v) (sym is)))

@@ -148,7 +148,8 @@ fn close_tables<P: Port, L: Rates, G: Ledger, R: Ledger>(
         × (P.waiting result.0.p1 ≡ (L.opened 1).waiting)
         × (P.waiting result.0.p2 ≡ (L.opened 2).waiting)
         × (P.waiting result.0.p3 ≡ (L.opened 3).waiting) }
-    ensures failures { HaveFailed P.counts_once result.1.p0 (L.opened 0).faults (P.faults result.0.p0)
+    ensures failures { let once = P.counts_once in
+        HaveFailed once result.1.p0 (L.opened 0).faults (P.faults result.0.p0)
         × HaveFailed P.counts_once result.1.p1 (L.opened 1).faults (P.faults result.0.p1)
         × HaveFailed P.counts_once result.1.p2 (L.opened 2).faults (P.faults result.0.p2)
         × HaveFailed P.counts_once result.1.p3 (L.opened 3).faults (P.faults result.0.p3) }

@@ -12,9 +12,10 @@ returns-clause-counts g c =
     (swept_share _ c.args.t3.shard c.finish_all.new.t3.shard _ swept.3 c.held-4.ensures.share)
 
 pub returns-clause-failures : goal.returns-clause-failures
-returns-clause-failures g c = (
-  failed_of _ _ _ _ c.finish_all.new.t0.failures,
-  failed_of _ _ _ _ c.finish_all.new.t1.failures,
-  failed_of _ _ _ _ c.finish_all.new.t2.failures,
-  failed_of _ _ _ _ c.finish_all.new.t3.failures,
-)
+returns-clause-failures g c =
+    rw (c.into_port.ensures, c.into_port-2.ensures, c.into_port-3.ensures, c.into_port-4.ensures) (
+      failed_of _ _ _ _ c.finish_all.new.t0.failures,
+      failed_of _ _ _ _ c.finish_all.new.t1.failures,
+      failed_of _ _ _ _ c.finish_all.new.t2.failures,
+      failed_of _ _ _ _ c.finish_all.new.t3.failures,
+    )
