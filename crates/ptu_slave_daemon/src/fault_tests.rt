@@ -5,12 +5,13 @@
 //! in which a receive failed; a fault that is not counted, or counted twice; and one that goes on
 //! after a line that was not taken.
 
-ghost use Rattle.std.specs.Prelude.{◌≤◌, length, IfOk};
+ghost use Rattle.std.specs.Prelude.{◌≤◌, length, map, IfOk};
+ghost use Rattle.ptu_judges.specs.Held.{IsStock};
 ghost use Rattle.ptu_outside.specs.MemoryPort.{FitAll};
 
 use super::*;
 use crate::tests::{ANNOUNCE, ASK, SYNC, host_at, idle, one_judge, settings};
-use ptu_judges::FlagJudge;
+use ptu_judges::{FlagJudge, Stock};
 use ptu_outside::{Arrival, Channel, Datagram, MemClock, MemHost, MemPort, MemSink};
 use ptu_rounds::DaemonFault;
 use ptu_units::Moment;
@@ -131,8 +132,10 @@ fn assert_sent(rt: &impl Abort, alloc: Global, port: &MemPort, sent: &[&str]) ->
     Ok(())
 }
 
-fn assert_case(rt: &impl Abort, alloc: Global, case: &Case) -> Result<(), Fail> {
-    let stock = one_judge(alloc, Box::new(alloc, FlagJudge::new())?)?;
+fn assert_case(rt: &impl Abort, alloc: Global, case: &Case, stock: Stock) -> Result<(), Fail>
+    requires { IsStock (map (λ j. held (j.vtable, j.value)) stock.flags.items)
+        (map (λ j. held (j.vtable, j.value)) stock.gaps.items) }
+{
     let p4 = port(alloc, case.general, case.sends, case.general_receives)?;
     let p5 = port(alloc, case.event, &[], case.event_receives)?;
     let mut host = host_at(alloc, clock(alloc, case.seconds)?, p4, p5, false);
@@ -213,7 +216,9 @@ fn each_call_fails_once(rt: HostRuntime) -> Result<(), Fail> {
             ..QUIET
         },
     ] {
-        assert_case(&rt, rt.alloc(), &case)?;
+        let alloc = rt.alloc();
+        let stock = one_judge(alloc, Box::new(alloc, FlagJudge::new())?)?;
+        assert_case(&rt, alloc, &case, stock)?;
     }
     Ok(())
 }
