@@ -19,7 +19,8 @@ ghost use Rattle.ptu_world.specs.Promises.{AreMessagesSent, GoesOn, Handed, addr
 /// beside the other live grants, and else answered with the duration zero; each message takes a
 /// period of its own inside a live grant, and all messages are within the budget; each slave
 /// selects its best eligible master; the report says so of each line that is taken, and nothing
-/// else; and datagrams are numbered in the order in which they are sent, and delivered as they were.
+/// else; and datagrams are numbered in the order in which they are sent, and delivered as they
+/// were.
 pub fn headline()
     ensures within_capacity { (stock : Stock) (script : List ℕ) → WithinCapacity stock script }
     ensures granted_by_room { (stock : Stock) (script : List ℕ) → DecidesByRoom stock script }
