@@ -11,9 +11,9 @@ use Rattle.ptu_pools.specs.declared.pool.Pool.{Pool}
 use Rattle.ptu_pools.specs.Events.{PoolEvent, Turned}
 use Rattle.ptu_pools.specs.Refusal.{Share}
 use Rattle.ptu_pools.specs.Standing.{KeptPools}
-use Rattle.ptu_pool_script.specs.declared.cause.PoolCause.{PoolCause}
-use Rattle.ptu_pool_script.specs.declared.cause.PoolCause.TheVariants.{Number, Order}
-use Rattle.ptu_pool_script.specs.Output.{line_text}
+use Rattle.ptu_pool_run.specs.declared.cause.PoolCause.{PoolCause}
+use Rattle.ptu_pool_run.specs.declared.cause.PoolCause.TheVariants.{Number, Order}
+use Rattle.ptu_pool_run.specs.Output.{line_text}
 use Rattle.ptu_pool_run.specs.declared.pouring.Pouring.{Pouring}
 use Rattle.ptu_pool_run.specs.Reading.{At, Told, behind_pools, events_of, happened, set_up, sold, sold_by, turned}
 use Rattle.ptu_pool_run.specs.Selling.{refusal_of}

@@ -27,8 +27,8 @@ use Rattle.ptu_nodes.specs.GrandmasterStatements.{IsSent}
 use Rattle.ptu_nodes.specs.Standing.{AreIdle}
 use Rattle.ptu_nodes.proofs.GrandmasterReceipts.{sends_heard, told_all}
 use Rattle.ptu_nodes.proofs.GrandmasterTurns.{sends_turned}
-use Rattle.ptu_pool_script.specs.declared.output.PoolLine.TheVariants as lines
-use Rattle.ptu_pool_script.specs.Output.{line_text}
+use Rattle.ptu_pool_run.specs.declared.output.PoolLine.TheVariants as lines
+use Rattle.ptu_pool_run.specs.Output.{line_text}
 use Rattle.ptu_pool_run.specs.Ports.{AreAllIdle, AreOthersSame, GoOn, sent_texts}
 use Rattle.ptu_pool_run.specs.Sending.{config_of, grandmaster_of, lines_by, lines_of_event, place_of, sends_at, sent_line}
 use Rattle.ptu_pool_run.specs.Standing.{AreSold, HasHappened}

@@ -11,12 +11,12 @@ use Rattle.ptu_pools.specs.Events.{PoolEvent, Came, Turned}
 use Rattle.ptu_pools.specs.Pool.{AreApart}
 use Rattle.ptu_pools.specs.Refusal.{Share}
 use Rattle.ptu_pools.proofs.Whole.{count_whole, held_own, held_whole}
-use Rattle.ptu_pool_script.specs.declared.cause.PoolCause.{PoolCause}
-use Rattle.ptu_pool_script.specs.declared.cause.PoolCause.TheVariants.{Number}
-use Rattle.ptu_pool_script.specs.declared.command.PoolCommand.{PoolCommand}
-use Rattle.ptu_pool_script.specs.declared.command.PoolCommand.TheVariants as commands
-use Rattle.ptu_pool_script.specs.Command.{command_of}
-use Rattle.ptu_pool_script.specs.Output.{line_text}
+use Rattle.ptu_pool_run.specs.declared.cause.PoolCause.{PoolCause}
+use Rattle.ptu_pool_run.specs.declared.cause.PoolCause.TheVariants.{Number}
+use Rattle.ptu_pool_run.specs.declared.command.PoolCommand.{PoolCommand}
+use Rattle.ptu_pool_run.specs.declared.command.PoolCommand.TheVariants as commands
+use Rattle.ptu_pool_run.specs.Command.{command_of}
+use Rattle.ptu_pool_run.specs.Output.{line_text}
 use Rattle.ptu_pool_run.specs.Poured.{end_of, last_line, lines_after, lines_by_setup, lines_of_pool, own_at, own_lines_by, poured_texts, told_at, told_by, told_until}
 use Rattle.ptu_pool_run.specs.Promises.{KeepsPools, SayAlike}
 use Rattle.ptu_pool_run.specs.Reading.{At, Told, events_of, happened, opening, outcome_by, rules, sold_by, step, turned}

@@ -4,7 +4,7 @@ use Rattle.ptu_lines.specs.Script.{script_lines}
 use Rattle.ptu_outside.specs.Handing.{HasPut}
 use Rattle.ptu_report.specs.declared.ending.Ending.{Ending}
 use Rattle.ptu_report.specs.Reported.{HasReported}
-use Rattle.ptu_pool_script.specs.declared.cause.PoolCause.{PoolCause}
+use Rattle.ptu_pool_run.specs.declared.cause.PoolCause.{PoolCause}
 use Rattle.ptu_pool_run.specs.Answers.{HasPoured}
 use Rattle.ptu_pool_run.specs.Poured.{poured_texts}
 use Rattle.ptu_pool_run.specs.Reading.{opening, rules}

@@ -13,8 +13,8 @@ use Rattle.ptu_pools.specs.Pool.{AreApart, is_network, meets}
 use Rattle.ptu_pools.specs.Refusal.{IsRefused, Share, capacities, first_wrong}
 use Rattle.ptu_pools.proofs.Apart.{NoneBelow, all_apart, first_found, none_found, none_passes}
 use Rattle.ptu_pools.proofs.Refused.{one_refused}
-use Rattle.ptu_pool_script.specs.declared.cause.PoolCause.{PoolCause}
-use Rattle.ptu_pool_script.specs.declared.cause.PoolCause.TheVariants as causes
+use Rattle.ptu_pool_run.specs.declared.cause.PoolCause.{PoolCause}
+use Rattle.ptu_pool_run.specs.declared.cause.PoolCause.TheVariants as causes
 use Rattle.ptu_pool_run.specs.Selling.{refusal_of}
 
 -- the cause that a fault of all pools is, where those before had none

@@ -5,7 +5,7 @@ use Rattle.std.proofs.lemmas.Option.{slice_get_within, get_or_from_slice_get}
 use Rattle.ptu_outside.specs.Departure.{Departure}
 use Rattle.ptu_outside.specs.MemoryPort.{MemoryPort}
 use Rattle.ptu_grandmaster.specs.Gm.{KeptGm, port_at, with_port}
-use Rattle.ptu_pool_script.specs.Output.{line_text}
+use Rattle.ptu_pool_run.specs.Output.{line_text}
 use Rattle.ptu_pool_run.specs.Sending.{sent_line}
 use Rattle.ptu_nodes.specs.GrandmasterPorts.{in_ports}
 use Rattle.ptu_nodes.specs.Standing.{AreIdle}

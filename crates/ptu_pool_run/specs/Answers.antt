@@ -6,7 +6,7 @@ use Rattle.ptu_report.specs.declared.ending.Ending.{Ending}
 use Rattle.ptu_report.specs.declared.ending.Ending.TheVariants as endings
 use Rattle.ptu_report.specs.declared.stop.Stop.{Stop}
 use Rattle.ptu_report.specs.declared.stop.Stop.TheVariants as stops
-use Rattle.ptu_pool_script.specs.declared.cause.PoolCause.{PoolCause}
+use Rattle.ptu_pool_run.specs.declared.cause.PoolCause.{PoolCause}
 use Rattle.ptu_pool_run.specs.declared.fault.PoolRunFault.{PoolRunFault}
 use Rattle.ptu_pool_run.specs.declared.fault.PoolRunFault.TheVariants.{Line, Read, Write, OutOfMemory}
 use Rattle.ptu_pool_run.specs.Poured.{end_of, poured, poured_texts}

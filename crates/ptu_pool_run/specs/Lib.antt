@@ -1,3 +1,8 @@
+pub mod Cause
+pub mod Verb
+pub mod Command
+pub mod Limits
+pub mod Output
 pub mod Sending
 pub mod Selling
 pub mod Reading

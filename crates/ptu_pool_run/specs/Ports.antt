@@ -6,7 +6,7 @@ use Rattle.ptu_shard.specs.declared.config.GmConfig.{GmConfig}
 use Rattle.ptu_grandmaster.specs.Gm.{KeptGm}
 use Rattle.ptu_pools.specs.Events.{PoolEvent}
 use Rattle.ptu_pools.specs.Standing.{KeptPools, StandFor}
-use Rattle.ptu_pool_script.specs.Output.{line_text}
+use Rattle.ptu_pool_run.specs.Output.{line_text}
 use Rattle.ptu_nodes.specs.Standing.{AreIdle}
 use Rattle.ptu_pool_run.specs.Sending.{sent_line}
 

@@ -8,10 +8,10 @@ use Rattle.ptu_report.specs.Rules.{Outcome, Goes, Refuses, ending_of}
 use Rattle.ptu_pools.specs.declared.pool.Pool.{Pool}
 use Rattle.ptu_pools.specs.Events.{PoolEvent, is_own}
 use Rattle.ptu_script.specs.declared.command.GrandmasterSetup.{GrandmasterSetup}
-use Rattle.ptu_pool_script.specs.declared.cause.PoolCause.{PoolCause}
-use Rattle.ptu_pool_script.specs.declared.output.PoolLine.{PoolLine}
-use Rattle.ptu_pool_script.specs.declared.output.PoolLine.TheVariants.{Sent, Stranger, Bad, End}
-use Rattle.ptu_pool_script.specs.Output.{line_text}
+use Rattle.ptu_pool_run.specs.declared.cause.PoolCause.{PoolCause}
+use Rattle.ptu_pool_run.specs.declared.output.PoolLine.{PoolLine}
+use Rattle.ptu_pool_run.specs.declared.output.PoolLine.TheVariants.{Sent, Stranger, Bad, End}
+use Rattle.ptu_pool_run.specs.Output.{line_text}
 use Rattle.ptu_pool_run.specs.Reading.{At, Told, opening, rules}
 use Rattle.ptu_pool_run.specs.Sending.{grandmaster_of, lines_of_event, sends_at, sent_line}
 

@@ -4,8 +4,8 @@ use Rattle.std.specs.List.{position}
 use Rattle.ptu_pools.specs.declared.pool.Pool.{Pool}
 use Rattle.ptu_pools.specs.Pool.{is_network, meets}
 use Rattle.ptu_pools.specs.Refusal.{capacities}
-use Rattle.ptu_pool_script.specs.declared.cause.PoolCause.{PoolCause}
-use Rattle.ptu_pool_script.specs.declared.cause.PoolCause.TheVariants.{Net, Full, Overlap, Over}
+use Rattle.ptu_pool_run.specs.declared.cause.PoolCause.{PoolCause}
+use Rattle.ptu_pool_run.specs.declared.cause.PoolCause.TheVariants.{Net, Full, Overlap, Over}
 
 -- of a whole capacity, behind the pools before it
 abbrev pub refusal_of : ℕ → List Pool → Pool → Option PoolCause

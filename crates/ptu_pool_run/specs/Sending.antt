@@ -10,8 +10,8 @@ use Rattle.ptu_pools.specs.Events.{PoolEvent, Came, Turned, pool_history}
 use Rattle.ptu_script.specs.declared.command.GrandmasterSetup.{GrandmasterSetup}
 use Rattle.ptu_world.specs.Deeds.{Grandmaster}
 use Rattle.ptu_world.specs.Grandmasters.{datagram_deed, turn_deed}
-use Rattle.ptu_pool_script.specs.declared.output.PoolLine.{PoolLine}
-use Rattle.ptu_pool_script.specs.declared.output.PoolLine.TheVariants.{Sent, Stranger}
+use Rattle.ptu_pool_run.specs.declared.output.PoolLine.{PoolLine}
+use Rattle.ptu_pool_run.specs.declared.output.PoolLine.TheVariants.{Sent, Stranger}
 
 -- the settings of the grandmaster of each pool; its timescale begins at 0
 abbrev pub config_of : GrandmasterSetup → GmConfig

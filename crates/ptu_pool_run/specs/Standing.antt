@@ -10,7 +10,7 @@ use Rattle.ptu_script.specs.declared.command.GrandmasterSetup.{GrandmasterSetup}
 use Rattle.ptu_script.specs.Limits.{IsGrandmasterWithin}
 use Rattle.ptu_pool_run.specs.declared.pouring.Pouring.{Pouring}
 use Rattle.ptu_pool_run.specs.Reading.{At, Told, events_of}
-use Rattle.ptu_pool_script.specs.Output.{line_text}
+use Rattle.ptu_pool_run.specs.Output.{line_text}
 use Rattle.ptu_pool_run.specs.Sending.{config_of, lines_of_event}
 use Rattle.ptu_pool_run.specs.Ports.{AreAllIdle}
 

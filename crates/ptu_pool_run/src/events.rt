@@ -7,10 +7,10 @@ ghost use Rattle.ptu_pool_run.specs.Ports.{AreAllIdle, GoOn};
 ghost use Rattle.ptu_pool_run.specs.Standing.{AreSold, HasHappened};
 ghost use Rattle.ptu_script.specs.declared.command.GrandmasterSetup.{GrandmasterSetup};
 
+use crate::output::PoolLine;
 use crate::room::{reserve_replies, reserve_turn, tell_ports};
 use ptu_grandmaster::{Reply, Taken};
 use ptu_outside::MemPort;
-use ptu_pool_script::PoolLine;
 use ptu_pools::{PoolTaken, Pools};
 use ptu_report::Texts;
 use ptu_shard::Answered;

@@ -1,4 +1,4 @@
-use ptu_pool_script::PoolCause;
+use crate::cause::PoolCause;
 use std::error::Error;
 use std::fmt;
 

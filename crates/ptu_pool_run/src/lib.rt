@@ -2,15 +2,28 @@
 //! and what each customer's pool is sent.
 #![tactic(auto)]
 
+mod cause;
+mod command;
 mod events;
+pub mod examples;
 mod fault;
+mod output;
 mod pouring;
+mod reading;
 mod room;
 mod running;
 mod selling;
+mod verb;
 
+pub use cause::PoolCause;
+pub use command::PoolCommand;
 pub use fault::PoolRunFault;
+pub use output::PoolLine;
+pub use reading::read_pool_command;
 pub use running::pools;
+pub use verb::PoolVerb;
 
+#[cfg(test)]
+mod script_tests;
 #[cfg(test)]
 mod tests;

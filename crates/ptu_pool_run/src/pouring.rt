@@ -5,15 +5,16 @@ ghost use Rattle.ptu_admit.specs.Book.{IsCapacity};
 ghost use Rattle.ptu_pools.specs.Events.{Came};
 ghost use Rattle.ptu_report.specs.Rules.{IsOutcome};
 ghost use Rattle.ptu_script.specs.Limits.{IsGrandmasterWithin};
-ghost use Rattle.ptu_pool_script.specs.Limits.{IsWithinLimits};
+ghost use Rattle.ptu_pool_run.specs.Limits.{IsWithinLimits};
 ghost use Rattle.ptu_pool_run.specs.Reading.{Told, behind_pools, happened, opening, set_up, sold};
 ghost use Rattle.ptu_pool_run.specs.Reading.{step, turned};
 ghost use Rattle.ptu_pool_run.specs.Standing.{StandsFor, pools_of};
 
+use crate::cause::PoolCause;
+use crate::command::PoolCommand;
 use crate::events::{receive, turn};
 use crate::selling::sell;
 use ptu_outside::MemPort;
-use ptu_pool_script::{PoolCause, PoolCommand};
 use ptu_pools::{Pool, Pools};
 use ptu_report::Texts;
 use ptu_script::GrandmasterSetup;

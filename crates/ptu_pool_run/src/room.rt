@@ -8,9 +8,9 @@ ghost use Rattle.ptu_nodes.specs.Standing.{AreIdle};
 ghost use Rattle.ptu_pools.specs.Ported.{with_port_of};
 ghost use Rattle.ptu_pool_run.specs.Ports.{AreAllIdle, AreOthersSame, GoOn, sent_texts};
 
+use crate::output::PoolLine;
 use ptu_nodes::{ANNOUNCE, DELAY_RESP, SIGNALING, SIGNALING_PORT};
 use ptu_outside::{Datagram, MemPort};
-use ptu_pool_script::PoolLine;
 use ptu_pools::Pools;
 use ptu_report::Texts;
 use ptu_units::OutOfMemory;

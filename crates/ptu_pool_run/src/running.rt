@@ -12,11 +12,13 @@ ghost use Rattle.ptu_pool_run.specs.Promises.{KeepsPools};
 ghost use Rattle.ptu_pool_run.specs.Reading.{opening, rules};
 ghost use Rattle.ptu_pool_run.specs.Standing.{StandsFor};
 
+use crate::cause::PoolCause;
 use crate::fault::PoolRunFault;
+use crate::output::PoolLine;
 use crate::pouring::Pouring;
+use crate::reading::read_pool_command;
 use ptu_lines::LineCause;
 use ptu_outside::{Sink, Source};
-use ptu_pool_script::{PoolCause, PoolLine, read_pool_command};
 use ptu_report::{Ending, Reporter, Stop, Texts, report};
 use ptu_units::OutOfMemory;
 use std::alloc::Global;

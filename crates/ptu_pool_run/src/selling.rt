@@ -9,9 +9,9 @@ ghost use Rattle.ptu_pool_run.specs.Sending as sending;
 ghost use Rattle.ptu_pool_run.specs.Selling.{refusal_of};
 ghost use Rattle.ptu_pool_run.specs.Standing.{AreSold};
 
+use crate::cause::PoolCause;
 use ptu_header::PortIdentity;
 use ptu_outside::MemPort;
-use ptu_pool_script::PoolCause;
 use ptu_pools::{Pool, Pools, PoolsFault};
 use ptu_script::GrandmasterSetup;
 use ptu_shard::GmConfig;

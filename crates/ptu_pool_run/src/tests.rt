@@ -1,8 +1,8 @@
 //! Scripts with their output, which was made out by hand from the forms of lines.
 
 use super::*;
+use crate::cause::PoolCause;
 use ptu_outside::{MemSink, MemSource};
-use ptu_pool_script::PoolCause;
 use std::alloc::Global;
 use std::test::Fail;
 

@@ -1,5 +1,5 @@
 ghost use Rattle.std.specs.Prelude.{Some};
-ghost use Rattle.ptu_pool_script.specs.Output.{line_text, refusal_text};
+ghost use Rattle.ptu_pool_run.specs.Output.{line_text, refusal_text};
 
 use crate::cause::PoolCause;
 use ptu_outside::{Channel, Datagram};

@@ -5,8 +5,8 @@ use Rattle.ptu_lines.specs.declared.cause.LineCause.{LineCause}
 use Rattle.ptu_lines.specs.declared.cause.LineCause.TheVariants as lines
 use Rattle.ptu_script.specs.declared.cause.Cause.{Cause}
 use Rattle.ptu_script.specs.declared.cause.Cause.TheVariants as scripts
-use Rattle.ptu_pool_script.specs.declared.cause.PoolCause.{PoolCause}
-use Rattle.ptu_pool_script.specs.declared.cause.PoolCause.TheVariants.{Size, Long, Text, Word, Count, Field, Order, Net, Full, Overlap, Over, Number}
+use Rattle.ptu_pool_run.specs.declared.cause.PoolCause.{PoolCause}
+use Rattle.ptu_pool_run.specs.declared.cause.PoolCause.TheVariants.{Size, Long, Text, Word, Count, Field, Order, Net, Full, Overlap, Over, Number}
 
 abbrev pub text_of : PoolCause → List ℕ
 text_of Size = codes "size"

@@ -1,7 +1,7 @@
 use Rattle.std.proofs.Common.{refl}
 use Rattle.std.specs.Fmt.{digits}
 use Rattle.hex.specs.Hex.{encode_with}
-use Rattle.ptu_pool_script.proofs.examples.lines_of_output.Goals as goal
+use Rattle.ptu_pool_run.proofs.examples.lines_of_output.Goals as goal
 
 pub returns-clause-sent : goal.returns-clause-sent
 unfolding digits encode_with

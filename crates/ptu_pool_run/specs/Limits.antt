@@ -2,8 +2,8 @@
 use Rattle.std.specs.Prelude.{◌≤◌, length}
 use Rattle.ptu_admit.specs.Book.{IsCapacity}
 use Rattle.ptu_script.specs.Limits.{IsGrandmasterWithin}
-use Rattle.ptu_pool_script.specs.declared.command.PoolCommand.{PoolCommand}
-use Rattle.ptu_pool_script.specs.declared.command.PoolCommand.TheVariants.{Grandmaster, Sell, Receive, Turn}
+use Rattle.ptu_pool_run.specs.declared.command.PoolCommand.{PoolCommand}
+use Rattle.ptu_pool_run.specs.declared.command.PoolCommand.TheVariants.{Grandmaster, Sell, Receive, Turn}
 
 abbrev pub IsWithinLimits : PoolCommand → Type 0
 IsWithinLimits (Grandmaster setup) = IsGrandmasterWithin setup

@@ -1,8 +1,8 @@
 -- The words that a line may begin with, and how many words it has.
 use Rattle.std.specs.Prelude.{ℕ, List, [], ◌∷◌, Option, find, codes}
 use Rattle.std.specs.Str.{bytes_eq}
-use Rattle.ptu_pool_script.specs.declared.verb.PoolVerb.{PoolVerb}
-use Rattle.ptu_pool_script.specs.declared.verb.PoolVerb.TheVariants.{Gm, Pool, Rx, Turn}
+use Rattle.ptu_pool_run.specs.declared.verb.PoolVerb.{PoolVerb}
+use Rattle.ptu_pool_run.specs.declared.verb.PoolVerb.TheVariants.{Gm, Pool, Rx, Turn}
 
 abbrev pub verbs : List PoolVerb
 verbs = Gm ∷ Pool ∷ Rx ∷ Turn ∷ []

@@ -5,11 +5,11 @@ use Rattle.ptu_script.specs.declared.cause.Cause.{Cause}
 use Rattle.ptu_script.specs.declared.cause.Cause.TheVariants.{Word, Count}
 use Rattle.ptu_script.specs.Fields.{◌>>=◌, field, from_to}
 use Rattle.ptu_script.specs.Command.{grandmaster_in, is_comment, moment_of}
-use Rattle.ptu_pool_script.specs.declared.command.PoolCommand.{PoolCommand}
-use Rattle.ptu_pool_script.specs.declared.command.PoolCommand.TheVariants as commands
-use Rattle.ptu_pool_script.specs.declared.verb.PoolVerb.{PoolVerb}
-use Rattle.ptu_pool_script.specs.declared.verb.PoolVerb.TheVariants.{Gm, Pool, Rx, Turn}
-use Rattle.ptu_pool_script.specs.Verb.{count_of, verb_named}
+use Rattle.ptu_pool_run.specs.declared.command.PoolCommand.{PoolCommand}
+use Rattle.ptu_pool_run.specs.declared.command.PoolCommand.TheVariants as commands
+use Rattle.ptu_pool_run.specs.declared.verb.PoolVerb.{PoolVerb}
+use Rattle.ptu_pool_run.specs.declared.verb.PoolVerb.TheVariants.{Gm, Pool, Rx, Turn}
+use Rattle.ptu_pool_run.specs.Verb.{count_of, verb_named}
 
 -- T IP
 abbrev pub handed_in : List ℕ → Result (ℕ × ℕ) Cause

@@ -1,5 +1,5 @@
 ghost use Rattle.std.specs.Prelude.{◌≡◌};
-ghost use Rattle.ptu_pool_script.specs.Verb.{count_of, name_of, verb_named};
+ghost use Rattle.ptu_pool_run.specs.Verb.{count_of, name_of, verb_named};
 
 /// The first word of a line that is a command.
 #[derive(Clone, Copy, Debug, PartialEq, Eq, Hash)]

@@ -1,5 +1,5 @@
 ghost use Rattle.std.specs.Prelude.{◌≡◌, Some};
-ghost use Rattle.ptu_pool_script.specs.Cause.{cause_of_line, cause_of_script, text_of};
+ghost use Rattle.ptu_pool_run.specs.Cause.{cause_of_line, cause_of_script, text_of};
 
 use ptu_lines::LineCause;
 use ptu_script::Cause;

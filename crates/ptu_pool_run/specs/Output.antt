@@ -4,10 +4,10 @@ use Rattle.std.specs.Fmt.{decimal}
 use Rattle.hex.specs.Hex.{encode_lower}
 use Rattle.ptu_texts.specs.Texts.{address_text}
 use Rattle.ptu_report_lines.specs.Statements.{channel_text, words_text}
-use Rattle.ptu_pool_script.specs.Cause.{text_of}
-use Rattle.ptu_pool_script.specs.declared.cause.PoolCause.{PoolCause}
-use Rattle.ptu_pool_script.specs.declared.output.PoolLine.{PoolLine}
-use Rattle.ptu_pool_script.specs.declared.output.PoolLine.TheVariants.{Sent, Stranger, Bad, End}
+use Rattle.ptu_pool_run.specs.Cause.{text_of}
+use Rattle.ptu_pool_run.specs.declared.cause.PoolCause.{PoolCause}
+use Rattle.ptu_pool_run.specs.declared.output.PoolLine.{PoolLine}
+use Rattle.ptu_pool_run.specs.declared.output.PoolLine.TheVariants.{Sent, Stranger, Bad, End}
 
 -- that a line is refused for this cause
 abbrev pub refusal_text : PoolCause → List ℕ

@@ -1,7 +1,7 @@
 use Rattle.std.proofs.Common.{refl}
 use Rattle.hex.specs.Hex.{decode_pairs}
-use Rattle.ptu_pool_script.specs.Command.{command_of, fields_in}
-use Rattle.ptu_pool_script.proofs.examples.good_lines.Goals as goal
+use Rattle.ptu_pool_run.specs.Command.{command_of, fields_in}
+use Rattle.ptu_pool_run.proofs.examples.good_lines.Goals as goal
 
 pub returns-clause-rx : goal.returns-clause-rx
 unfolding decode_pairs command_of fields_in
