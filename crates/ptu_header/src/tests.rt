@@ -83,7 +83,7 @@ fn assert_sent(
 }
 
 #[test]
-fn messages_are_read_and_written(rt: HostRuntime) -> Result<(), Fail> {
+fn signaling_is_read_and_written(rt: HostRuntime) -> Result<(), Fail> {
     for (kept, length, octets) in [
         // A REQUEST, three REQUESTs, three REQUESTs after a TLV of another type, and a CANCEL.
         (
@@ -150,6 +150,15 @@ fn messages_are_read_and_written(rt: HostRuntime) -> Result<(), Fail> {
                 0x00, 0x01, 0x00, 0x01, 0x05, 0x7f,
             ],
         ),
+    ] {
+        assert_sent(&rt, rt.alloc(), kept, length, octets)?;
+    }
+    Ok(())
+}
+
+#[test]
+fn timing_messages_are_read_and_written(rt: HostRuntime) -> Result<(), Fail> {
+    for (kept, length, octets) in [
         // A Delay_Req, and the Delay_Resp to it.
         (
             header(1, CLIENT, 7),
@@ -197,6 +206,15 @@ fn messages_are_read_and_written(rt: HostRuntime) -> Result<(), Fail> {
                 0x00, 0x01, 0x00, 0x00, 0x05, 0x7f,
             ],
         ),
+    ] {
+        assert_sent(&rt, rt.alloc(), kept, length, octets)?;
+    }
+    Ok(())
+}
+
+#[test]
+fn least_and_greatest_fields_are_read_and_written(rt: HostRuntime) -> Result<(), Fail> {
+    for (kept, length, octets) in [
         // No fields at all, and the greatest.
         (
             LEAST,

@@ -87,6 +87,30 @@ fn halves_are_joined_line_by_line(rt: HostRuntime) -> Result<(), Fail> {
              0000007f00000000000100000000\n\
              end 3 0\n",
         ),
+        // What is no half, a line that does nothing, and no line.
+        (
+            "\
+             0012002c040004000000000000000000000000000a0000000000000100010000007f\
+             00000000000100000000\n\
+             # note\n\
+             -\n\
+             0812002c040004000000000000000000000000000a0000000000000100010000027f\
+             00000000000100000000\n",
+            "1 pass\n3 pass\n4 wait\nend 4 1\n",
+        ),
+        ("", "end 0 0\n"),
+    ] {
+        let (answer, text) = joined(alloc, input, 0, 0)?;
+        assert!(rt; answer.is_ok());
+        assert_eq!(rt; text.as_str(), output);
+    }
+    Ok(())
+}
+
+#[test]
+fn halves_of_one_key_are_joined(rt: HostRuntime) -> Result<(), Fail> {
+    let alloc = rt.alloc();
+    for (input, output) in [
         // Keys that differ in one part each.
         (
             "\
@@ -122,6 +146,18 @@ fn halves_are_joined_line_by_line(rt: HostRuntime) -> Result<(), Fail> {
              0000007f00000000000100000000\n\
              end 4 0\n",
         ),
+    ] {
+        let (answer, text) = joined(alloc, input, 0, 0)?;
+        assert!(rt; answer.is_ok());
+        assert_eq!(rt; text.as_str(), output);
+    }
+    Ok(())
+}
+
+#[test]
+fn corrections_are_summed(rt: HostRuntime) -> Result<(), Fail> {
+    let alloc = rt.alloc();
+    for (input, output) in [
         // A sum that does not fit, on either side, and its neighbours.
         (
             "\
@@ -159,18 +195,6 @@ fn halves_are_joined_line_by_line(rt: HostRuntime) -> Result<(), Fail> {
              0000007f00000000000100000000\n\
              end 4 0\n",
         ),
-        // What is no half, a line that does nothing, and no line.
-        (
-            "\
-             0012002c040004000000000000000000000000000a0000000000000100010000007f\
-             00000000000100000000\n\
-             # note\n\
-             -\n\
-             0812002c040004000000000000000000000000000a0000000000000100010000027f\
-             00000000000100000000\n",
-            "1 pass\n3 pass\n4 wait\nend 4 1\n",
-        ),
-        ("", "end 0 0\n"),
     ] {
         let (answer, text) = joined(alloc, input, 0, 0)?;
         assert!(rt; answer.is_ok());
