@@ -200,4 +200,6 @@ fn main(rt: HostRuntime) -> ExitCode {
 #[cfg(test)]
 mod daemon_tests;
 #[cfg(test)]
+mod outside_tests;
+#[cfg(test)]
 mod tests;

@@ -1,0 +1,242 @@
+//! What a run does of its input and its output, call by call, and where a call of them fails.
+
+ghost use Rattle.std.specs.Prelude.{◌≡◌, None, map};
+ghost use Rattle.ptu_judges.specs.Held.{IsStock};
+
+use crate::run::run;
+use crate::tests::{ONE_ASK, ONE_GRANT, no_judges, one_judge, opened_with, port};
+use ptu_judges::{FlagJudge, Stock};
+use ptu_outside::{Failed, MemHost, MemSink, MemSource, Sink, Source};
+use std::alloc::Global;
+use std::cell::Cell;
+use std::sync::Wait;
+use std::test::Fail;
+use std::thread::Threads;
+
+/// The two halves of a Sync, each of which is also a datagram to be shown.
+const HALVES: &str = "\
+    0812002c040004000000000000000000000000000a000000000000010001000002\
+    7f00000000000100000000\n\
+    0012002c040006000000000000000000000000000a000000000000010001000000\
+    7f00000000000000000000\n";
+
+/// A slave without masters ticks, and its grandmaster's table takes a turn for nobody.
+const NO_MASTERS: &str = "\
+    gm 10.0.0.1 0a00000000000001 1 4 84 8 300\n\
+    slave 10.0.1.17 0a00000000000011 1 4 300 3 3 1 0 - 300\n\
+    tick 0 10.0.1.17\n\
+    turn 1 10.0.0.1 0\n\
+    tick 2 10.0.1.17\n";
+
+const SERVE: &str = "ip = \"127.0.0.1\"\nclock = \"0a00000000000001\"\ncapacity = 8\nrounds = 1\n";
+
+const SLAVE: &str = "ip = \"127.0.0.1\"\nclock = \"0a00000000000011\"\nrounds = 1\n\
+    [[masters]]\nip = \"10.0.0.1\"\n";
+
+// Writes down one call more, as a binary digit behind those of the calls before.
+fn note(diary: &Cell<u64>, digit: u64) {
+    diary.set(diary.get().wrapping_mul(2) | digit);
+}
+
+// A source that gives one line at each read, and notes a 0.
+#[derive(Drop)]
+struct Lines<'a> {
+    text: &'a [u8],
+    diary: &'a Cell<u64>,
+}
+
+impl Source for Lines<'_> {
+    ghost left = { λ _. None };
+
+    ghost ends = { λ _. None };
+
+    ghost faults = { λ _. 0 };
+
+    fn read(&mut self, buf: &mut [u8]) -> Result<usize, Failed> {
+        note(self.diary, 0);
+        let line = self
+            .text
+            .iter()
+            .take_while(|octet| **octet != b'\n')
+            .count();
+        let taken = line.saturating_add(1).min(self.text.len()).min(buf.len());
+        buf[..taken].copy_from_slice(&self.text[..taken]);
+        self.text = &self.text[taken..];
+        Ok(taken)
+    }
+}
+
+// A sink that takes each piece whole, but fails at the call of this number, from 1, and notes a 1.
+#[derive(Drop)]
+struct Pieces<'a> {
+    fails: u64,
+    calls: u64,
+    faults: u64,
+    diary: &'a Cell<u64>,
+}
+
+impl Sink for Pieces<'_> {
+    ghost written = { λ _. None };
+
+    ghost handed = { λ _. None };
+
+    ghost faults = { λ p. p.faults };
+
+    fn write(&mut self, piece: &[u8]) -> Result<usize, Failed> {
+        note(self.diary, 1);
+        self.calls = self.calls.saturating_add(1);
+        if self.calls == self.fails {
+            self.faults = self.faults.saturating_add(1);
+            return Err(Failed);
+        }
+        Ok(piece.len())
+    }
+}
+
+// The status of a run of this word, and its calls: a 1, and then a 0 for each read of a line, or of
+// the end, and a 1 for each write.
+fn calls_of(
+    rt: &(impl AllocGlobal + Threads + Wait + Sync),
+    words: &[&str],
+    input: &str,
+    fails: u64,
+    stock: Stock,
+) -> Result<(u8, u64), Fail>
+    requires { IsStock (map (λ j. held (j.vtable, j.value)) stock.flags.items)
+        (map (λ j. held (j.vtable, j.value)) stock.gaps.items) }
+{
+    let alloc = rt.alloc();
+    let diary = Cell::new(1);
+    let mut source = Lines {
+        text: input.as_bytes(),
+        diary: &diary,
+    };
+    let mut sink = Pieces {
+        fails,
+        calls: 0,
+        faults: 0,
+        diary: &diary,
+    };
+    let mut host = MemHost::new(opened_with(alloc, port(alloc)), true);
+    let status = run(rt, words, &mut source, &mut sink, &mut host, stock);
+    Ok((status, diary.get()))
+}
+
+// What belongs to a line is written before the next is read, and after a write that failed nothing
+// is read or written. Refuses a program that reads a line ahead, and one that goes on.
+#[test]
+fn reads_and_writes_take_turns(rt: HostRuntime) -> Result<(), Fail> {
+    let replay = ["replay"].as_slice();
+    let show = ["show"].as_slice();
+    let join = ["join"].as_slice();
+    for (words, input, fails, status, calls) in [
+        (replay, ONE_ASK, 0, 0, 0b1_0_0_11_0_1),
+        (replay, ONE_ASK, 2, 67, 0b1_0_0_11),
+        (replay, NO_MASTERS, 0, 0, 0b1_0_0_0_1_0_0_1_0_1),
+        (replay, NO_MASTERS, 2, 67, 0b1_0_0_0_1_0_0_1),
+        (show, HALVES, 0, 0, 0b1_0_1_0_1_0_1),
+        (show, HALVES, 1, 67, 0b1_0_1),
+        (join, HALVES, 0, 0, 0b1_0_1_0_1_0_1),
+        (join, HALVES, 2, 67, 0b1_0_1_0_1),
+        (["audit", "8"].as_slice(), ONE_GRANT, 1, 67, 0b1_0_0_0_0_1),
+    ] {
+        let stock = no_judges(rt.alloc());
+        let (found, noted) = calls_of(&rt, words, input, fails, stock)?;
+        assert_eq!(rt; found, status);
+        assert_eq!(rt; noted, calls);
+    }
+    Ok(())
+}
+
+// The status and the output of a run, with a read and a write that fail, and whether the host gave
+// its ports and took them back.
+fn ran(
+    rt: &(impl AllocGlobal + Threads + Wait + Sync),
+    words: &[&str],
+    input: &str,
+    failing_read: u64,
+    failing_write: u64,
+    stock: Stock,
+) -> Result<(u8, String, bool), Fail>
+    requires { IsStock (map (λ j. held (j.vtable, j.value)) stock.flags.items)
+        (map (λ j. held (j.vtable, j.value)) stock.gaps.items) }
+{
+    let alloc = rt.alloc();
+    let bytes = input.as_bytes().to_vec(alloc)?;
+    let mut source = MemSource::new(bytes, vec![in alloc; failing_read]?);
+    let mut sink = MemSink::new(alloc, vec![in alloc; failing_write]?);
+    let mut host = MemHost::new(opened_with(alloc, port(alloc)), false);
+    let status = run(rt, words, &mut source, &mut sink, &mut host, stock);
+    let text = String::from_utf8(sink.into_bytes())
+        .ok()
+        .ok_or("plain text")?;
+    Ok((status, text, host.back().is_some()))
+}
+
+// Settings that can't be read open nothing, and a daemon whose line is not taken gives its ports
+// back. Refuses other statuses, a host that is opened before its settings are read, and one that is
+// never closed.
+#[test]
+fn input_and_output_of_daemons_fail(rt: HostRuntime) -> Result<(), Fail> {
+    for (word, input, read, write, status, is_back) in [
+        ("serve", SERVE, 1, 0, 66, false),
+        ("serve", SERVE, 2, 0, 66, false),
+        ("serve", SERVE, 0, 1, 67, true),
+        ("slave", SLAVE, 1, 0, 66, false),
+        ("slave", SLAVE, 2, 0, 66, false),
+    ] {
+        let stock = no_judges(rt.alloc());
+        let (found, text, back) = ran(&rt, &[word], input, read, write, stock)?;
+        assert_eq!(rt; found, status);
+        assert_eq!(rt; text.as_str(), "");
+        assert_eq!(rt; back, is_back);
+    }
+    Ok(())
+}
+
+#[test]
+fn the_output_of_a_slave_fails(rt: HostRuntime) -> Result<(), Fail> {
+    let alloc = rt.alloc();
+    let stock = one_judge(alloc, Box::new(alloc, FlagJudge::new())?)?;
+    let (status, text, is_back) = ran(&rt, &["slave"], SLAVE, 0, 1, stock)?;
+    assert_eq!(rt; status, 67);
+    assert_eq!(rt; text.as_str(), "");
+    assert_eq!(rt; is_back, true);
+    Ok(())
+}
+
+#[test]
+fn the_output_of_a_load_fails(rt: HostRuntime) -> Result<(), Fail> {
+    for (write, status, output) in [
+        (
+            0,
+            0,
+            "{\"datagrams\":5,\"granted\":1,\"lines\":34,\"refused\":0}\n",
+        ),
+        (1, 67, ""),
+    ] {
+        let stock = no_judges(rt.alloc());
+        let (found, text, _) = ran(&rt, &["load", "1"], "", 0, write, stock)?;
+        assert_eq!(rt; found, status);
+        assert_eq!(rt; text.as_str(), output);
+    }
+    Ok(())
+}
+
+// A comment of 8193 octets is too long, and a turn of a node that is not there is refused.
+#[test]
+fn bad_scripts_are_refused(rt: HostRuntime) -> Result<(), Fail> {
+    let alloc = rt.alloc();
+    let mut long = vec![in alloc; b'x'; 8192]?;
+    long.insert(0, b'#')?;
+    let long = String::from_utf8(long).ok().ok_or("plain text")?;
+    for (script, output) in [
+        (long.as_str(), "1 bad long\n"),
+        ("turn 0 10.0.0.9 0\n", "1 bad node\n"),
+    ] {
+        let (status, text, _) = ran(&rt, &["replay"], script, 0, 0, no_judges(alloc))?;
+        assert_eq!(rt; status, 65);
+        assert_eq!(rt; text.as_str(), output);
+    }
+    Ok(())
+}
