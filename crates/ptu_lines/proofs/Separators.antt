@@ -7,7 +7,7 @@ use Rattle.std.proofs.lemmas.List.Sums.{fails_before_first}
 use Rattle.memchr.specs.Find.{IsFirstByte}
 
 -- what does not hold is false
-fails : (b : Bool) → ¬ (b ≡ true) → b ≡ false
+pub fails : (b : Bool) → ¬ (b ≡ true) → b ≡ false
 fails true h = absurd (h refl)
 fails false h = refl
 

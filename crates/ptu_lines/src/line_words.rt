@@ -15,7 +15,7 @@ fn place(text: &[u8], octet: u8) -> Option<usize>
 }
 
 // What stands before the first separator and what stands behind it, where there is one.
-pub(crate) fn cut(text: &[u8], separator: u8) -> Option<(&[u8], &[u8])>
+fn cut(text: &[u8], separator: u8) -> Option<(&[u8], &[u8])>
     ensures none { IfNone result
         (slice_split (λ octet. octet == separator) text.now ≡ text.now ∷ []) }
     ensures parts { IfSome result (λ parts. slice_split (λ octet. octet == separator) text.now

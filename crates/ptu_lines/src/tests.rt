@@ -208,8 +208,13 @@ fn numbers_have_at_most_19_digits(rt: HostRuntime) {
 #[test]
 fn addresses_clocks_and_octets(rt: HostRuntime) {
     assert_eq!(rt; ip(b"255.255.255.255"), Some(u32::MAX));
+    assert_eq!(rt; ip(b"0.10.200.9"), Some(0x000A_C809));
     assert_eq!(rt; ip(b"10.0.0.01"), None);
+    assert_eq!(rt; ip(b"10.0.256.1"), None);
+    assert_eq!(rt; ip(b"10.0.0.1000"), None);
     assert_eq!(rt; ip(b"10.0.0.9."), None);
+    assert_eq!(rt; ip(b"10..0.9"), None);
+    assert_eq!(rt; ip(b"10.0.9"), None);
     assert_eq!(rt; clock(b"FfFfFfFfFfFfFfFf"), Some(u64::MAX));
     assert_eq!(rt; clock(b"000000000000000"), None);
     let mut out = [0; 2048];
