@@ -117,14 +117,28 @@ fn nothing_code(line: &WordList) -> Option<Decision>
 fn decision(line: &WordList) -> Option<Decision>
     ensures { result ≡ specs.decision_in line.now }
 {
-    granted(line)
-        .or_else(|| short(line))
-        .or_else(|| outside_type(line))
-        .or_else(|| outside_log(line))
-        .or_else(|| outside_duration(line))
-        .or_else(|| cancelled(line))
-        .or_else(|| nothing(line))
-        .or_else(|| nothing_code(line))
+    if let Some(decision) = granted(line) {
+        return Some(decision);
+    }
+    if let Some(decision) = short(line) {
+        return Some(decision);
+    }
+    if let Some(decision) = outside_type(line) {
+        return Some(decision);
+    }
+    if let Some(decision) = outside_log(line) {
+        return Some(decision);
+    }
+    if let Some(decision) = outside_duration(line) {
+        return Some(decision);
+    }
+    if let Some(decision) = cancelled(line) {
+        return Some(decision);
+    }
+    if let Some(decision) = nothing(line) {
+        return Some(decision);
+    }
+    nothing_code(line)
 }
 
 #[tactic(auto, unfolding(crate::specs::Entry::decided_in))]
