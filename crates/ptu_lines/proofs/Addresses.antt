@@ -1,10 +1,10 @@
 -- An address by its numbers, one after the other.
-use Rattle.std.proofs.Common.{◌≡◌, ◌∙◌, ◌<◌, ◌≤◌, ◌+◌, ◌*◌, ◌==◌, ℕ, zero, suc, Bool, true, false, cond, nat_lt, eqb, List, [], ◌∷◌, ◌++◌, length, take, drop, get_or, map, ◌⊎◌, Option, Some, None, refl, sym, ap, inl, inr, eq-zero-or-pos, arith}
+use Rattle.std.proofs.Common.{◌≡◌, ◌∙◌, ◌<◌, ◌≤◌, ◌+◌, ◌*◌, ◌==◌, ℕ, zero, suc, Bool, true, false, cond, eqb, List, [], ◌∷◌, length, take, drop, get_or, map, ◌⊎◌, Option, Some, None, refl, ap, inl, inr, arith}
 use Rattle.std.specs.Prelude.{option_map, option_and_then}
-use Rattle.std.specs.Char.{digit_value, is_digit}
+use Rattle.std.specs.Char.{is_digit}
 use Rattle.std.specs.List.{list_all, position, slice_split}
 use Rattle.std.proofs.lemmas.Bool.{cases_lt, eqb-true}
-use Rattle.std.proofs.lemmas.Fmt.{decimal_nonempty, length-decimal-le}
+use Rattle.std.proofs.lemmas.Fmt.{length-decimal-le}
 use Rattle.std.proofs.lemmas.List.{length-map, length-take-le}
 use Rattle.std.proofs.lemmas.List.Folds.{list_all_at}
 use Rattle.std.proofs.lemmas.List.Splits.{length-slice_split}
@@ -19,9 +19,9 @@ is_dot octet = octet == 46
 within_few : (word : List ℕ) (n : ℕ) → number_of word ≡ Some n → 4 ≤ length word → within 0 255 n ≡ None
 within_few word n e long = elim (cases_lt n 256) [
   | inl small ↦
-    let is = decimal-number_of word n e in
-    let few : length word ≤ 3 = rw is.0 (length-decimal-le 3 n (omega arith) (omega arith) (omega arith)) in
-    absurd (omega (arith, few, long))
+      let is = decimal-number_of word n e in
+      let few : length word ≤ 3 = rw is.0 (length-decimal-le 3 n (omega arith) (omega arith) (omega arith)) in
+      absurd (omega (arith, few, long))
   | inr great ↦ grind arith
 ]
 

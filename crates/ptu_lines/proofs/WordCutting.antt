@@ -1,5 +1,5 @@
 -- A line is cut into words, one after the other.
-use Rattle.std.proofs.Common.{◌≡◌, ◌≤◌, ◌<◌, ◌+◌, ◌-◌, ◌==◌, ◌∷◌, [], ℕ, zero, suc, Bool, List, length, take, drop, slice_get, slice_index, slice_range, Some, refl, ap, sym, ◌∙◌, arith, inl, inr, eq-zero-or-pos}
+use Rattle.std.proofs.Common.{◌≡◌, ◌≤◌, ◌<◌, ◌+◌, ◌-◌, ◌==◌, ◌∷◌, ℕ, zero, suc, Bool, List, length, take, drop, slice_get, slice_index, slice_range, Some, refl, ap, sym, ◌∙◌, arith, inl, inr, eq-zero-or-pos}
 use Rattle.std.proofs.lemmas.List.{length-drop, drop-drop, take_all}
 use Rattle.ptu_lines.specs.Words.{words_of}
 use Rattle.ptu_lines.specs.Cut.{start_of, HasEnds}
@@ -94,8 +94,7 @@ cut_all line ends other count from cut none kept same =
     let size : ℕ = length line - from in
     let end : from + size ≡ length line = omega (arith, cut.within) in
     let whole : take size (drop from line) ≡ drop from line = take_all size (drop from line) (omega (arith, len)) in
-    let first = ap (λ (w : List (List ℕ)). slice_get w 0) words ∙ sym (ap (λ (t : List ℕ). Some t) whole) in
-    (
+    let first = ap (λ (w : List (List ℕ)). slice_get w 0) words ∙ sym (ap (λ (t : List ℕ). Some t) whole) in (
       omega (arith, cut.number, number),
       λ k h few. elim (eq-zero-or-pos (count - k)) [
         | inl z ↦ let e : k ≡ count = omega arith in rw e (stands_last line ends other count from size cut same (λ lt. kept lt ∙ sym end) (omega (arith, end)) first (omega arith))

@@ -1,7 +1,6 @@
-use Rattle.std.proofs.Common.{◌≡◌, ◌-◌, ℕ, List, length, take, drop, arith, ap, sym}
+use Rattle.std.proofs.Common.{◌≡◌, ◌-◌, ℕ, List, length, take, drop, arith}
 use Rattle.std.proofs.lemmas.List.{take_all, length-drop}
-use Rattle.memchr.specs.Find.{IsFirstByte}
-use Rattle.std.specs.Prelude.{Option, Some, None}
+use Rattle.std.specs.Prelude.{Some}
 use Rattle.ptu_lines.proofs.Separators.{cuts_at, none_in}
 use Rattle.ptu_lines.proofs.WordCutting.{is_space, cut_all, cut_more}
 use Rattle.ptu_lines.proofs.line_words.ends.Goals as goal
