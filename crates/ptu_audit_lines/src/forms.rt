@@ -5,7 +5,7 @@ ghost use Rattle.ptu_lines.specs.Words.{words_of};
 ghost use Rattle.ptu_audit_lines.specs.Forms as specs;
 
 use crate::words::{is_channel, kind_of, number_of, octet_log};
-use ptu_lines::{ip, word};
+use ptu_lines::{WordList, ip, word};
 
 // Whether the word may stand in this place of a form: a place in upper case tells what stands
 // there, and any other is itself.
@@ -32,12 +32,12 @@ fn is_in_place(place: &[u8], word: &[u8]) -> bool
 
 // Whether the line has as many words as the form, each of them in its place.
 #[tactic(auto, unfolding(crate::specs::Forms::fits))]
-fn is_filled(form: &[u8], line: &[u8]) -> bool
+fn is_filled(form: &[u8], line: &WordList) -> bool
     ensures { result ≡ specs.fits form.now line.now }
 {
     let mut k = 1;
     'places: loop {
-        match (word(form, k), word(line, k)) {
+        match (word(form, k), line.word(k)) {
             (None, None) => return true,
             (Some(place), Some(word)) if is_in_place(place, word) => k += 1,
             _ => return false,
@@ -46,7 +46,7 @@ fn is_filled(form: &[u8], line: &[u8]) -> bool
 }
 
 /// Whether the line has this form.
-pub fn fits(form: &str, line: &[u8]) -> bool
+pub fn fits(form: &str, line: &WordList) -> bool
     ensures { result ≡ specs.fits form.now line.now }
 {
     is_filled(form.as_bytes(), line)
@@ -54,7 +54,7 @@ pub fn fits(form: &str, line: &[u8]) -> bool
 
 /// That it has.
 #[tactic(auto, unfolding(crate::specs::Forms::fitting))]
-pub fn fitting(form: &str, line: &[u8]) -> Option<()>
+pub fn fitting(form: &str, line: &WordList) -> Option<()>
     ensures { result ≡ specs.fitting form.now line.now }
 {
     if fits(form, line) { Some(()) } else { None }

@@ -10,9 +10,10 @@ use crate::words::{
     hex_field, identity_field, ip_field, kind_field, log_field, log_outside_field, number_field,
 };
 use ptu_history::Client;
+use ptu_lines::WordList;
 
 #[tactic(auto, unfolding(crate::specs::Entry::granted_in))]
-fn granted(line: &[u8]) -> Option<Decision>
+fn granted(line: &WordList) -> Option<Decision>
     ensures { result ≡ specs.granted_in line.now }
 {
     fitting("NUM granted KIND LOG at NUM until NUM", line)?;
@@ -29,7 +30,7 @@ fn granted(line: &[u8]) -> Option<Decision>
 }
 
 #[tactic(auto, unfolding(crate::specs::Entry::short_in))]
-fn short(line: &[u8]) -> Option<Decision>
+fn short(line: &WordList) -> Option<Decision>
     ensures { result ≡ specs.short_in line.now }
 {
     fitting(
@@ -53,7 +54,7 @@ fn short(line: &[u8]) -> Option<Decision>
 }
 
 #[tactic(auto, unfolding(crate::specs::Entry::outside_type_in))]
-fn outside_type(line: &[u8]) -> Option<Decision>
+fn outside_type(line: &WordList) -> Option<Decision>
     ensures { result ≡ specs.outside_type_in line.now }
 {
     fitting("NUM outside type NUM", line)?;
@@ -62,7 +63,7 @@ fn outside_type(line: &[u8]) -> Option<Decision>
 }
 
 #[tactic(auto, unfolding(crate::specs::Entry::outside_log_in))]
-fn outside_log(line: &[u8]) -> Option<Decision>
+fn outside_log(line: &WordList) -> Option<Decision>
     ensures { result ≡ specs.outside_log_in line.now }
 {
     fitting("NUM outside log KIND LOG", line)?;
@@ -72,7 +73,7 @@ fn outside_log(line: &[u8]) -> Option<Decision>
 }
 
 #[tactic(auto, unfolding(crate::specs::Entry::outside_duration_in))]
-fn outside_duration(line: &[u8]) -> Option<Decision>
+fn outside_duration(line: &WordList) -> Option<Decision>
     ensures { result ≡ specs.outside_duration_in line.now }
 {
     fitting("NUM outside duration KIND LOG NUM", line)?;
@@ -83,7 +84,7 @@ fn outside_duration(line: &[u8]) -> Option<Decision>
 }
 
 #[tactic(auto, unfolding(crate::specs::Entry::cancelled_in))]
-fn cancelled(line: &[u8]) -> Option<Decision>
+fn cancelled(line: &WordList) -> Option<Decision>
     ensures { result ≡ specs.cancelled_in line.now }
 {
     fitting("NUM cancelled KIND at NUM", line)?;
@@ -93,7 +94,7 @@ fn cancelled(line: &[u8]) -> Option<Decision>
 }
 
 #[tactic(auto, unfolding(crate::specs::Entry::nothing_in))]
-fn nothing(line: &[u8]) -> Option<Decision>
+fn nothing(line: &WordList) -> Option<Decision>
     ensures { result ≡ specs.nothing_in line.now }
 {
     fitting("NUM nothing KIND at NUM", line)?;
@@ -103,7 +104,7 @@ fn nothing(line: &[u8]) -> Option<Decision>
 }
 
 #[tactic(auto, unfolding(crate::specs::Entry::nothing_code_in))]
-fn nothing_code(line: &[u8]) -> Option<Decision>
+fn nothing_code(line: &WordList) -> Option<Decision>
     ensures { result ≡ specs.nothing_code_in line.now }
 {
     fitting("NUM nothing NUM", line)?;
@@ -113,28 +114,42 @@ fn nothing_code(line: &[u8]) -> Option<Decision>
 
 // A decision on a REQUEST or a CANCEL.
 #[tactic(auto, unfolding(crate::specs::Entry::decision_in))]
-fn decision(line: &[u8]) -> Option<Decision>
+fn decision(line: &WordList) -> Option<Decision>
     ensures { result ≡ specs.decision_in line.now }
 {
-    granted(line)
-        .or_else(|| short(line))
-        .or_else(|| outside_type(line))
-        .or_else(|| outside_log(line))
-        .or_else(|| outside_duration(line))
-        .or_else(|| cancelled(line))
-        .or_else(|| nothing(line))
-        .or_else(|| nothing_code(line))
+    if let Some(decision) = granted(line) {
+        return Some(decision);
+    }
+    if let Some(decision) = short(line) {
+        return Some(decision);
+    }
+    if let Some(decision) = outside_type(line) {
+        return Some(decision);
+    }
+    if let Some(decision) = outside_log(line) {
+        return Some(decision);
+    }
+    if let Some(decision) = outside_duration(line) {
+        return Some(decision);
+    }
+    if let Some(decision) = cancelled(line) {
+        return Some(decision);
+    }
+    if let Some(decision) = nothing(line) {
+        return Some(decision);
+    }
+    nothing_code(line)
 }
 
 #[tactic(auto, unfolding(crate::specs::Entry::decided_in))]
-fn decided<'a>(line: &[u8]) -> Option<Entry<'a>>
+fn decided<'a>(line: &WordList) -> Option<Entry<'a>>
     ensures { result ≡ specs.decided_in line.now }
 {
     Some(Entry::Decided(decision(line)?))
 }
 
 #[tactic(auto, unfolding(crate::specs::Entry::capacity_in))]
-fn capacity<'a>(line: &[u8]) -> Option<Entry<'a>>
+fn capacity<'a>(line: &WordList) -> Option<Entry<'a>>
     ensures { result ≡ specs.capacity_in line.now }
 {
     fitting("NUM capacity IP NUM at NUM", line)?;
@@ -149,7 +164,7 @@ fn capacity<'a>(line: &[u8]) -> Option<Entry<'a>>
 }
 
 #[tactic(auto, unfolding(crate::specs::Entry::shed_in))]
-fn shed<'a>(line: &[u8]) -> Option<Entry<'a>>
+fn shed<'a>(line: &WordList) -> Option<Entry<'a>>
     ensures { result ≡ specs.shed_in line.now }
 {
     fitting("NUM shed KIND LOG IP WORD", line)?;
@@ -165,7 +180,7 @@ fn shed<'a>(line: &[u8]) -> Option<Entry<'a>>
 }
 
 #[tactic(auto, unfolding(crate::specs::Entry::send_in))]
-fn send<'a>(line: &[u8], buffer: &'a mut [u8; 2048]) -> Option<Entry<'a>>
+fn send<'a>(line: &WordList, buffer: &'a mut [u8; 2048]) -> Option<Entry<'a>>
     ensures { result ≡ specs.send_in line.now }
 {
     fitting("NUM send NUM IP IP CHANNEL WORD", line)?;
@@ -181,7 +196,7 @@ fn send<'a>(line: &[u8], buffer: &'a mut [u8; 2048]) -> Option<Entry<'a>>
     })
 }
 
-fn is_node(line: &[u8]) -> bool
+fn is_node(line: &WordList) -> bool
     ensures { result ≡ fits_one specs.node_forms line.now }
 {
     fits("NUM selected IP IP", line)
@@ -189,7 +204,7 @@ fn is_node(line: &[u8]) -> bool
         || fits("NUM nobody", line)
 }
 
-fn is_heard(line: &[u8]) -> bool
+fn is_heard(line: &WordList) -> bool
     ensures { result ≡ fits_one specs.heard_forms line.now }
 {
     fits("NUM heard sync IP seq NUM at NUM", line)
@@ -198,7 +213,7 @@ fn is_heard(line: &[u8]) -> bool
         || fits("NUM heard follow_up IP at NUM", line)
 }
 
-fn is_answer(line: &[u8]) -> bool
+fn is_answer(line: &WordList) -> bool
     ensures { result ≡ fits_one specs.answer_forms line.now }
 {
     fits("NUM answered at NUM", line)
@@ -206,13 +221,13 @@ fn is_answer(line: &[u8]) -> bool
         || fits("NUM silent soon at NUM earliest NUM", line)
 }
 
-fn is_grant(line: &[u8]) -> bool
+fn is_grant(line: &WordList) -> bool
     ensures { result ≡ fits_one specs.grant_forms line.now }
 {
     fits("NUM grant KIND NUM", line) || fits("NUM denial KIND", line)
 }
 
-fn is_cancel(line: &[u8]) -> bool
+fn is_cancel(line: &WordList) -> bool
     ensures { result ≡ fits_one specs.cancel_forms line.now }
 {
     fits("NUM cancel KIND", line)
@@ -221,7 +236,7 @@ fn is_cancel(line: &[u8]) -> bool
         || fits("NUM ack NUM", line)
 }
 
-fn is_ignored(line: &[u8]) -> bool
+fn is_ignored(line: &WordList) -> bool
     ensures { result ≡ fits_one specs.ignored_forms line.now }
 {
     fits("NUM ignored type NUM", line)
@@ -231,7 +246,7 @@ fn is_ignored(line: &[u8]) -> bool
         || fits("NUM ignored target", line)
 }
 
-fn is_header(line: &[u8]) -> bool
+fn is_header(line: &WordList) -> bool
     ensures { result ≡ fits_one specs.header_forms line.now }
 {
     fits("NUM ignored fault short NUM", line)
@@ -240,7 +255,7 @@ fn is_header(line: &[u8]) -> bool
         || fits("NUM ignored fault length NUM NUM", line)
 }
 
-fn is_body(line: &[u8]) -> bool
+fn is_body(line: &WordList) -> bool
     ensures { result ≡ fits_one specs.body_forms line.now }
 {
     fits("NUM ignored fault body NUM NUM", line)
@@ -251,21 +266,21 @@ fn is_body(line: &[u8]) -> bool
 }
 
 // What a slave does.
-fn is_of_slave(line: &[u8]) -> bool
+fn is_of_slave(line: &WordList) -> bool
     ensures { result ≡ specs.is_among specs.slave_forms line.now }
 {
     is_node(line) || is_heard(line) || is_grant(line) || is_cancel(line)
 }
 
 // What a datagram came to that was not answered by a decision.
-fn is_of_datagram(line: &[u8]) -> bool
+fn is_of_datagram(line: &WordList) -> bool
     ensures { result ≡ specs.is_among specs.datagram_forms line.now }
 {
     is_answer(line) || is_ignored(line) || is_header(line) || is_body(line)
 }
 
 #[tactic(auto, unfolding(crate::specs::Entry::other_in))]
-fn other<'a>(line: &[u8]) -> Option<Entry<'a>>
+fn other<'a>(line: &WordList) -> Option<Entry<'a>>
     ensures { result ≡ specs.other_in line.now }
 {
     if is_of_slave(line) || is_of_datagram(line) {
@@ -277,7 +292,7 @@ fn other<'a>(line: &[u8]) -> Option<Entry<'a>>
 
 // What stands behind the number, where it is no datagram.
 #[tactic(auto, unfolding(crate::specs::Entry::plain_entry_in))]
-fn plain_entry<'a>(line: &[u8]) -> Option<Entry<'a>>
+fn plain_entry<'a>(line: &WordList) -> Option<Entry<'a>>
     ensures { result ≡ specs.plain_entry_in line.now }
 {
     if let Some(decided) = decided(line) {
@@ -294,7 +309,7 @@ fn plain_entry<'a>(line: &[u8]) -> Option<Entry<'a>>
 
 // What stands behind the number.
 #[tactic(auto, unfolding(crate::specs::Entry::entry_of))]
-fn entry<'a>(line: &[u8], buffer: &'a mut [u8; 2048]) -> Option<Entry<'a>>
+fn entry<'a>(line: &WordList, buffer: &'a mut [u8; 2048]) -> Option<Entry<'a>>
     ensures { result ≡ specs.entry_of line.now }
 {
     match send(line, buffer) {
@@ -304,7 +319,7 @@ fn entry<'a>(line: &[u8], buffer: &'a mut [u8; 2048]) -> Option<Entry<'a>>
 }
 
 #[tactic(auto, unfolding(crate::specs::Entry::numbered_in))]
-fn numbered<'a>(line: &[u8], buffer: &'a mut [u8; 2048]) -> Option<ReportLine<'a>>
+fn numbered<'a>(line: &WordList, buffer: &'a mut [u8; 2048]) -> Option<ReportLine<'a>>
     ensures { result ≡ specs.numbered_in line.now }
 {
     let number = number_field(line, 1)?;
@@ -313,7 +328,7 @@ fn numbered<'a>(line: &[u8], buffer: &'a mut [u8; 2048]) -> Option<ReportLine<'a
 }
 
 #[tactic(auto, unfolding(crate::specs::Entry::end_in))]
-fn end<'a>(line: &[u8]) -> Option<ReportLine<'a>>
+fn end<'a>(line: &WordList) -> Option<ReportLine<'a>>
     ensures { result ≡ specs.end_in line.now }
 {
     fitting("end NUM NUM", line)?;
@@ -330,8 +345,9 @@ fn end<'a>(line: &[u8]) -> Option<ReportLine<'a>>
 pub fn read_line<'a>(line: &[u8], buffer: &'a mut [u8; 2048]) -> Option<ReportLine<'a>>
     ensures { result ≡ specs.line_of line.now }
 {
-    match numbered(line, buffer) {
+    let words = WordList::new(line);
+    match numbered(&words, buffer) {
         Some(line) => Some(line),
-        None => end(line),
+        None => end(&words),
     }
 }

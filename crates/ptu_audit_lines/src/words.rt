@@ -9,7 +9,7 @@ ghost use Rattle.ptu_lines.specs.Words.{int_within, ip_of, number_within, octets
 ghost use Rattle.ptu_audit_lines.specs.Words as forms;
 
 use crate::octets::Octets;
-use ptu_lines::{clock, ip, log, number, octets, word};
+use ptu_lines::{WordList, clock, ip, log, number, octets};
 use ptu_units::{Kind, Log};
 
 /// A number.
@@ -20,10 +20,10 @@ pub fn number_of(word: &[u8]) -> Option<u64>
 }
 
 /// The number that the word with this number is.
-pub fn number_field(line: &[u8], k: usize) -> Option<u64>
+pub fn number_field(line: &WordList, k: usize) -> Option<u64>
     ensures { result ≡ forms.field k forms.any_number line.now }
 {
-    number_of(word(line, k)?)
+    number_of(line.word(k)?)
 }
 
 /// A kind.
@@ -42,10 +42,10 @@ pub fn kind_of(word: &[u8]) -> Option<Kind>
 }
 
 /// The kind that the word with this number is.
-pub fn kind_field(line: &[u8], k: usize) -> Option<Kind>
+pub fn kind_field(line: &WordList, k: usize) -> Option<Kind>
     ensures { result ≡ forms.field k forms.kind_named line.now }
 {
-    kind_of(word(line, k)?)
+    kind_of(line.word(k)?)
 }
 
 /// Whether the word is a channel.
@@ -56,10 +56,10 @@ pub fn is_channel(word: &[u8]) -> bool
 }
 
 /// The address that the word with this number is.
-pub fn ip_field(line: &[u8], k: usize) -> Option<u32>
+pub fn ip_field(line: &WordList, k: usize) -> Option<u32>
     ensures { result ≡ forms.field k ip_of line.now }
 {
-    ip(word(line, k)?)
+    ip(line.word(k)?)
 }
 
 /// A logarithm, from -128 to 127.
@@ -84,10 +84,10 @@ fn log_of(word: &[u8], kind: Kind) -> Option<Log>
 }
 
 /// The logarithm in the range of the kind that the word with this number is.
-pub fn log_field(line: &[u8], k: usize, kind: Kind) -> Option<Log>
+pub fn log_field(line: &WordList, k: usize, kind: Kind) -> Option<Log>
     ensures { result ≡ forms.field k (forms.log_of_kind kind) line.now }
 {
-    log_of(word(line, k)?, kind)
+    log_of(line.word(k)?, kind)
 }
 
 fn log_outside(word: &[u8], kind: Kind) -> Option<i8>
@@ -100,10 +100,10 @@ fn log_outside(word: &[u8], kind: Kind) -> Option<i8>
 }
 
 /// The logarithm outside the range of the kind that the word with this number is.
-pub fn log_outside_field(line: &[u8], k: usize, kind: Kind) -> Option<i8>
+pub fn log_outside_field(line: &WordList, k: usize, kind: Kind) -> Option<i8>
     ensures { result ≡ forms.field k (forms.log_outside kind) line.now }
 {
-    log_outside(word(line, k)?, kind)
+    log_outside(line.word(k)?, kind)
 }
 
 fn is_lower(word: &[u8]) -> bool
@@ -123,10 +123,10 @@ fn hex_of<'a>(word: &[u8], buffer: &'a mut [u8; 2048]) -> Option<Octets<'a>>
 }
 
 /// The octets that the word with this number spells in lower case, put into the buffer.
-pub fn hex_field<'a>(line: &[u8], k: usize, buffer: &'a mut [u8; 2048]) -> Option<Octets<'a>>
+pub fn hex_field<'a>(line: &WordList, k: usize, buffer: &'a mut [u8; 2048]) -> Option<Octets<'a>>
     ensures { result ≡ forms.field k forms.hex_of line.now }
 {
-    hex_of(word(line, k)?, buffer)
+    hex_of(line.word(k)?, buffer)
 }
 
 fn lower_clock(word: &[u8]) -> Option<u64>
@@ -154,8 +154,8 @@ fn identity_of(word: &[u8]) -> Option<(u64, u16)>
 }
 
 /// The clock identity and the port number that the word with this number is.
-pub fn identity_field(line: &[u8], k: usize) -> Option<(u64, u16)>
+pub fn identity_field(line: &WordList, k: usize) -> Option<(u64, u16)>
     ensures { result ≡ forms.field k forms.identity_of line.now }
 {
-    identity_of(word(line, k)?)
+    identity_of(line.word(k)?)
 }

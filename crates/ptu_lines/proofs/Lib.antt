@@ -8,3 +8,4 @@ pub mod NextLine
 pub mod Numbers
 pub mod Ranges
 pub mod Separators
+mod WordCutting

@@ -1,11 +1,13 @@
 -- A list cut at the first place that passes a test.
-use Rattle.std.proofs.Common.{◌≡◌, ◌<◌, ℕ, zero, suc, Bool, true, false, nat_lt, List, [], ◌∷◌, length, take, drop, slice_index, Option, None, Some, refl, arith}
+use Rattle.std.proofs.Common.{◌≡◌, ◌<◌, ℕ, zero, suc, Bool, true, false, nat_lt, List, [], ◌∷◌, length, take, drop, slice_index, Option, None, Some, refl, sym, ◌∙◌, inl, inr, arith}
 use Rattle.std.specs.List.{position, position_or_len, slice_split}
-use Rattle.std.proofs.lemmas.Bool.{lt-ltb, ltb-true}
+use Rattle.std.proofs.lemmas.Bool.{cases_lt, lt-ltb, ltb-true}
+use Rattle.std.proofs.lemmas.List.Quantifiers.{position-Some}
+use Rattle.std.proofs.lemmas.List.Sums.{fails_before_first}
 use Rattle.memchr.specs.Find.{IsFirstByte}
 
 -- what does not hold is false
-fails : (b : Bool) → ¬ (b ≡ true) → b ≡ false
+pub fails : (b : Bool) → ¬ (b ≡ true) → b ≡ false
 fails true h = absurd (h refl)
 fails false h = refl
 
@@ -65,3 +67,15 @@ position_is test xs None h = rw (first-none test xs (none_in test xs h), fails (
 position_is test xs (Some p) h =
     let c = cuts_at test xs p h in
     rw (first-cut test xs p c, lt-ltb p (length xs) c.within) refl
+
+-- the same by the place itself
+pub none_placed : (test : ℕ → Bool) (xs : List ℕ) → position test xs ≡ None → NoneIn test xs
+none_placed test xs e = elim (cases_lt (position_or_len test xs) (length xs)) [
+  | inl lt ↦ absurd (let found : position test xs ≡ Some (position_or_len test xs) = rw (lt-ltb _ _ lt) refl in let never : None ≡ Some (position_or_len test xs) = sym e ∙ found in cc)
+  | inr le ↦ λ k h. fails_before_first test xs k 0 (omega (arith, le))
+]
+
+pub cut_placed : (test : ℕ → Bool) (xs : List ℕ) (p : ℕ) → position test xs ≡ Some p → CutsAt test xs p
+cut_placed test xs p e =
+    let at = position-Some test xs p 0 e in
+    record { within = at.0; passes = at.1; before = at.2 }

@@ -2,3 +2,4 @@ pub mod Lines
 pub mod Script
 pub mod Words
 pub mod Reading
+pub mod Cut

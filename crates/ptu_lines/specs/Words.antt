@@ -61,9 +61,18 @@ abbrev pub address_of : List (Option ℕ) → Option ℕ
 address_of (Some a ∷ Some b ∷ Some c ∷ Some d ∷ []) = Some (((a * 256 + b) * 256 + c) * 256 + d)
 address_of _ = None
 
+-- the numbers from 0 to 255 that the parts between dots write
+abbrev pub bytes_of : List ℕ → List (Option ℕ)
+bytes_of word = map (λ part. number_within part 0 255) (slice_split (λ octet. octet == 46) word)
+
+-- the first number, where there is one and more follow, and these
+abbrev pub first_of_several : List (Option ℕ) → Option (ℕ × List (Option ℕ))
+first_of_several (Some byte ∷ next ∷ more) = Some (byte, next ∷ more)
+first_of_several _ = None
+
 -- IP: four NUM from 0 to 255, joined by dots
 abbrev pub ip_of : List ℕ → Option ℕ
-ip_of word = address_of (map (λ part. number_within part 0 255) (slice_split (λ octet. octet == 46) word))
+ip_of word = address_of (bytes_of word)
 
 -- CLOCK: 16 hexadecimal digits of either case
 abbrev pub clock_of : List ℕ → Option ℕ

@@ -1,8 +1,6 @@
-ghost use Rattle.std.specs.Prelude.{◌≡◌, ◌<◌, ◌≤◌, ◌^◌, ◌-◌, ◌==◌, ◌∷◌, [], length, take, drop, Some, None, IfNone, IfSome, MatchOption, option_and_then, pos, negsuc};
-ghost use Rattle.std.specs.List.{slice_split};
-ghost use Rattle.ptu_lines.specs.Words.{value_of, number_of, number_within, has_sign, int_within, log_within, ip_of, clock_of, octets_of};
-
-use crate::line_words::cut;
+ghost use Rattle.std.specs.Prelude.{◌≡◌, ◌<◌, ◌≤◌, ◌^◌, ◌-◌, ◌∷◌, [], true, false, length, take, drop, Some, None, IfSome, MatchOption, option_and_then, option_map, pos, negsuc};
+ghost use Rattle.std.specs.Char.{digit_value, is_digit};
+ghost use Rattle.ptu_lines.specs.Words.{value_of, number_of, number_within, bytes_of, first_of_several, has_sign, int_within, log_within, ip_of, clock_of, octets_of};
 
 /// The most digits of a NUM.
 const MOST_DIGITS: usize = 19;
@@ -48,27 +46,72 @@ pub fn number(word: &[u8], least: u64, greatest: u64) -> Option<u64>
     }
 }
 
+// What a decimal digit writes.
+fn digit(octet: u8) -> Option<u32>
+    ensures value { MatchOption result (is_digit octet 10 ≡ false)
+        (λ value. (is_digit octet 10 ≡ true) × (value ≡ digit_value octet)) }
+    ensures below { IfSome result (λ value. value < 10) }
+{
+    char::from(octet).to_digit(10)
+}
+
+// The number from 0 to 255 that two octets write.
+fn two_digits(tens: u8, units: u8) -> Option<u32>
+    ensures value { result ≡ number_within (tens ∷ units ∷ []) 0 255 }
+    ensures below { IfSome result (λ byte. byte < 256) }
+{
+    if tens == b'0' {
+        return None;
+    }
+    Some(digit(tens)? * 10 + digit(units)?)
+}
+
+// The number from 0 to 255 that three octets write.
+fn three_digits(hundreds: u8, tens: u8, units: u8) -> Option<u32>
+    ensures value { result ≡ number_within (hundreds ∷ tens ∷ units ∷ []) 0 255 }
+    ensures below { IfSome result (λ byte. byte < 256) }
+{
+    if hundreds == b'0' {
+        return None;
+    }
+    let byte = digit(hundreds)? * 100 + digit(tens)? * 10 + digit(units)?;
+    if byte < 256 { Some(byte) } else { None }
+}
+
+// The number from 0 to 255 that one octet writes.
+fn one_digit(units: u8) -> Option<u32>
+    ensures value { result ≡ number_within (units ∷ []) 0 255 }
+    ensures below { IfSome result (λ byte. byte < 256) }
+{
+    digit(units)
+}
+
 // A number from 0 to 255.
 fn byte(word: &[u8]) -> Option<u32>
     ensures value { result ≡ number_within word.now 0 255 }
     ensures below { IfSome result (λ byte. byte < 256) }
 {
-    let byte = number(word, 0, 255)?;
-    Some(byte as u32)
+    match word {
+        [units] => one_digit(*units),
+        [tens, units] => two_digits(*tens, *units),
+        [hundreds, tens, units] => three_digits(*hundreds, *tens, *units),
+        _ => None,
+    }
 }
 
-// The four parts that three dots separate.
-fn four_parts(word: &[u8]) -> Option<(&[u8], &[u8], &[u8], &[u8])>
-    ensures none { IfNone result (ip_of word.now ≡ None) }
-    ensures parts { IfSome result (λ parts. slice_split (λ octet. octet == 46) word.now
-        ≡ parts.0.now ∷ parts.1.now ∷ parts.2.now ∷ parts.3.now ∷ []) }
+// The number from 0 to 255 that stands before the first dot, and what stands behind that dot.
+fn byte_before_dot(word: &[u8]) -> Option<(u32, &[u8])>
+    ensures value { option_map (λ parts. (parts.0, bytes_of parts.1.now)) result
+        ≡ first_of_several (bytes_of word.now) }
+    ensures below { IfSome result (λ parts. parts.0 < 256) }
 {
-    let (first, rest) = cut(word, b'.')?;
-    let (second, rest) = cut(rest, b'.')?;
-    let (third, fourth) = cut(rest, b'.')?;
-    match cut(fourth, b'.') {
-        Some(_) => None,
-        None => Some((first, second, third, fourth)),
+    match word {
+        [units, b'.', rest @ ..] => Some((one_digit(*units)?, rest)),
+        [tens, units, b'.', rest @ ..] => Some((two_digits(*tens, *units)?, rest)),
+        [hundreds, tens, units, b'.', rest @ ..] => {
+            Some((three_digits(*hundreds, *tens, *units)?, rest))
+        }
+        _ => None,
     }
 }
 
@@ -77,8 +120,10 @@ fn four_parts(word: &[u8]) -> Option<(&[u8], &[u8], &[u8], &[u8])>
 pub fn ip(word: &[u8]) -> Option<u32>
     ensures { result ≡ ip_of word.now }
 {
-    let (a, b, c, d) = four_parts(word)?;
-    let (a, b, c, d) = (byte(a)?, byte(b)?, byte(c)?, byte(d)?);
+    let (a, rest) = byte_before_dot(word)?;
+    let (b, rest) = byte_before_dot(rest)?;
+    let (c, rest) = byte_before_dot(rest)?;
+    let d = byte(rest)?;
     Some(((a * 256 + b) * 256 + c) * 256 + d)
 }
 

@@ -14,7 +14,7 @@ pub use cause::LineCause;
 pub use fault::LinesFault;
 pub use forms::{clock, ip, log, number, octets};
 pub use line_reader::LineReader;
-pub use line_words::{word, words};
+pub use line_words::{WordList, word};
 pub use lines::Lines;
 
 #[cfg(test)]

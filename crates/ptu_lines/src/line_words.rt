@@ -1,35 +1,29 @@
-ghost use Rattle.std.specs.Prelude.{◌≡◌, ◌<◌, ◌∷◌, [], ◌==◌, length, slice_get, IfNone, IfSome};
+ghost use Rattle.std.specs.Prelude.{◌≡◌, ◌<◌, ◌∷◌, [], ◌==◌, length, ℕ, position, slice_get, slice_index, IfNone, IfSome};
 ghost use Rattle.std.specs.List.{slice_split};
 ghost use Rattle.std.specs.Option.{option_copied};
 ghost use Rattle.ptu_lines.specs.Words.{words_of, word_of};
+ghost use Rattle.ptu_lines.specs.Cut.{HasEnds};
 
 use memchr::memchr;
+use std::marker::Model;
+
+// Where this octet stands first. Parts are short, so it looks at one octet after the other.
+fn place(text: &[u8], octet: u8) -> Option<usize>
+    ensures { result ≡ position (λ other. other == octet) text.now }
+{
+    text.iter().position(|other| *other == octet)
+}
 
 // What stands before the first separator and what stands behind it, where there is one.
-pub(crate) fn cut(text: &[u8], separator: u8) -> Option<(&[u8], &[u8])>
+fn cut(text: &[u8], separator: u8) -> Option<(&[u8], &[u8])>
     ensures none { IfNone result
         (slice_split (λ octet. octet == separator) text.now ≡ text.now ∷ []) }
     ensures parts { IfSome result (λ parts. slice_split (λ octet. octet == separator) text.now
         ≡ parts.0.now ∷ slice_split (λ octet. octet == separator) parts.1.now) }
     ensures shorter { IfSome result (λ parts. length parts.1.now < length text.now) }
 {
-    match memchr(separator, text) {
-        Some(end) => Some((&text[..end], &text[end + 1..])),
-        None => None,
-    }
-}
-
-// How many parts this octet separates.
-fn parts(text: &[u8], separator: u8) -> usize
-    ensures { result ≡ length (slice_split (λ octet. octet == separator) text.now) }
-{
-    let mut count = 1;
-    let mut rest = text;
-    while let Some((_, behind)) = cut(rest, separator) {
-        count += 1;
-        rest = behind;
-    }
-    count
+    let end = place(text, separator)?;
+    Some((&text[..end], &text[end + 1..]))
 }
 
 // The part with this place, from 0.
@@ -48,14 +42,6 @@ fn part(text: &[u8], separator: u8, place: usize) -> Option<&[u8]>
     }
 }
 
-/// The number of words of a line: what stands between its spaces, so that an empty line is one
-/// empty word.
-pub fn words(line: &[u8]) -> usize
-    ensures { result ≡ length (words_of line.now) }
-{
-    parts(line, b' ')
-}
-
 /// The word with this number, from 1, or `None` where there is no such word.
 pub fn word(line: &[u8], k: usize) -> Option<&[u8]>
     ensures { option_copied result ≡ word_of line.now k }
@@ -64,4 +50,86 @@ pub fn word(line: &[u8], k: usize) -> Option<&[u8]>
         return None;
     }
     part(line, b' ', k - 1)
+}
+
+/// How many words have their ends kept.
+const MOST_WORDS: usize = 16;
+
+/// A line that was cut once into its words, which stand between its spaces: an empty line is one
+/// empty word. A clause sees it as the line.
+#[derive(Drop)]
+pub struct WordList<'a> {
+    line: &'a [u8],
+    ends: [usize; 16],
+    count: usize,
+}
+
+impl<'a> Model for WordList<'a> {
+    ghost use Rattle.std.specs.Prelude.{List, ℕ};
+    ghost use Rattle.ptu_lines.specs.Cut.{HasEnds};
+
+    ghost Value = { List ℕ };
+
+    ghost view = { λ w. w.line.now };
+
+    ghost invariant = { λ w. HasEnds w.line.now w.ends w.count };
+}
+
+// Keeps the end of the word at a place, if it is one of the first sixteen.
+fn keep_end(ends: &mut [usize; 16], place: usize, end: usize)
+    ensures kept { place < 16 → slice_index ends.new place ≡ end }
+    ensures before { (k : ℕ) → k < place → slice_index ends.new k ≡ slice_index ends.old k }
+{
+    if place < MOST_WORDS {
+        ends[place] = end;
+    }
+}
+
+// The ends of the first words of a line, and how many words it has.
+fn ends(line: &[u8]) -> ([usize; 16], usize)
+    ensures { HasEnds line.now result.0 result.1 }
+{
+    let mut ends = [0; MOST_WORDS];
+    let mut count = 0;
+    let mut from = 0;
+    while let Some(size) = memchr(b' ', &line[from..]) {
+        let end = from + size;
+        keep_end(&mut ends, count, end);
+        count += 1;
+        from = end + 1;
+    }
+    keep_end(&mut ends, count, line.len());
+    (ends, count + 1)
+}
+
+impl<'a> WordList<'a> {
+    /// The words of a line.
+    pub fn new(line: &'a [u8]) -> WordList<'a>
+        ensures { result ≡ line.now }
+    {
+        let (ends, count) = ends(line);
+        WordList { line, ends, count }
+    }
+
+    /// How many words there are.
+    pub fn count(&self) -> usize
+        ensures { result ≡ length (words_of self.now) }
+    {
+        self.count
+    }
+
+    /// The word with this number, from 1, or `None` where there is no such word. The first sixteen
+    /// are found at once.
+    pub fn word(&self, k: usize) -> Option<&[u8]>
+        ensures { option_copied result ≡ word_of self.now k }
+    {
+        if k == 0 || k > self.count {
+            return None;
+        }
+        if k > MOST_WORDS {
+            return word(self.line, k);
+        }
+        let start = if k == 1 { 0 } else { self.ends[k - 2] + 1 };
+        Some(&self.line[start..self.ends[k - 1]])
+    }
 }

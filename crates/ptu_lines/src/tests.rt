@@ -165,12 +165,26 @@ fn a_script_has_at_most_67108864_octets(rt: HostRuntime) -> Result<(), Fail> {
 #[test]
 fn words_stand_between_spaces(rt: HostRuntime) {
     let line = b"rx  1 ";
-    assert_eq!(rt; words(line), 4);
-    assert_eq!(rt; word(line, 0), None);
+    let words = WordList::new(line);
+    assert_eq!(rt; words.count(), 4);
+    assert_eq!(rt; words.word(0), None);
+    assert_eq!(rt; words.word(1), Some(b"rx".as_slice()));
+    assert_eq!(rt; words.word(2), Some(b"".as_slice()));
+    assert_eq!(rt; words.word(3), Some(b"1".as_slice()));
+    assert_eq!(rt; words.word(4), Some(b"".as_slice()));
+    assert_eq!(rt; words.word(5), None);
     assert_eq!(rt; word(line, 1), Some(b"rx".as_slice()));
-    assert_eq!(rt; word(line, 2), Some(b"".as_slice()));
-    assert_eq!(rt; word(line, 4), Some(b"".as_slice()));
     assert_eq!(rt; word(line, 5), None);
+}
+
+#[test]
+fn words_behind_the_sixteenth_are_found(rt: HostRuntime) {
+    let words = WordList::new(b"1 2 3 4 5 6 7 8 9 10 11 12 13 14 15 16 17 18");
+    assert_eq!(rt; words.count(), 18);
+    assert_eq!(rt; words.word(16), Some(b"16".as_slice()));
+    assert_eq!(rt; words.word(17), Some(b"17".as_slice()));
+    assert_eq!(rt; words.word(18), Some(b"18".as_slice()));
+    assert_eq!(rt; words.word(19), None);
 }
 
 #[test]
@@ -194,8 +208,13 @@ fn numbers_have_at_most_19_digits(rt: HostRuntime) {
 #[test]
 fn addresses_clocks_and_octets(rt: HostRuntime) {
     assert_eq!(rt; ip(b"255.255.255.255"), Some(u32::MAX));
+    assert_eq!(rt; ip(b"0.10.200.9"), Some(0x000A_C809));
     assert_eq!(rt; ip(b"10.0.0.01"), None);
+    assert_eq!(rt; ip(b"10.0.256.1"), None);
+    assert_eq!(rt; ip(b"10.0.0.1000"), None);
     assert_eq!(rt; ip(b"10.0.0.9."), None);
+    assert_eq!(rt; ip(b"10..0.9"), None);
+    assert_eq!(rt; ip(b"10.0.9"), None);
     assert_eq!(rt; clock(b"FfFfFfFfFfFfFfFf"), Some(u64::MAX));
     assert_eq!(rt; clock(b"000000000000000"), None);
     let mut out = [0; 2048];

@@ -9,7 +9,7 @@ ghost use Rattle.ptu_pool_run.specs.declared.verb.PoolVerb.TheVariants as verbs;
 
 use crate::command::PoolCommand;
 use crate::verb::PoolVerb;
-use ptu_lines::{word, words};
+use ptu_lines::WordList;
 use ptu_pools::Pool;
 use ptu_script::Cause;
 use ptu_script::fields::{ip_field, moment_field, number_field, octets_field};
@@ -19,7 +19,7 @@ use std::alloc::Global;
 
 // `gm IP CLOCK PORT DOMAIN CLASS CAPACITY MAX`
 #[tactic(auto, unfolding(crate::specs::Command::fields_in))]
-fn gm(line: &[u8]) -> Result<PoolCommand, Cause>
+fn gm(line: &WordList) -> Result<PoolCommand, Cause>
     ensures value { result ≡ fields_in verbs.Gm line.now }
     ensures within { IfOk result IsWithinLimits }
 {
@@ -28,7 +28,7 @@ fn gm(line: &[u8]) -> Result<PoolCommand, Cause>
 
 // `pool IP BITS N`
 #[tactic(auto, unfolding(crate::specs::Command::fields_in))]
-fn pool(line: &[u8]) -> Result<PoolCommand, Cause>
+fn pool(line: &WordList) -> Result<PoolCommand, Cause>
     ensures value { result ≡ fields_in verbs.Pool line.now }
     ensures within { IfOk result IsWithinLimits }
 {
@@ -44,7 +44,7 @@ fn pool(line: &[u8]) -> Result<PoolCommand, Cause>
 
 // `turn T I J`
 #[tactic(auto, unfolding(crate::specs::Command::fields_in))]
-fn turn(line: &[u8]) -> Result<PoolCommand, Cause>
+fn turn(line: &WordList) -> Result<PoolCommand, Cause>
     ensures value { result ≡ fields_in verbs.Turn line.now }
     ensures within { IfOk result IsWithinLimits }
 {
@@ -59,7 +59,7 @@ fn turn(line: &[u8]) -> Result<PoolCommand, Cause>
 }
 
 // The words T and IP.
-fn handed(line: &[u8]) -> Result<(Moment, u32), Cause>
+fn handed(line: &WordList) -> Result<(Moment, u32), Cause>
     ensures { result ≡ handed_in line.now }
 {
     let at = moment_field(line, 2)?;
@@ -69,7 +69,7 @@ fn handed(line: &[u8]) -> Result<(Moment, u32), Cause>
 
 // `rx T IP HEX`
 #[tactic(auto, unfolding(crate::specs::Command::fields_in))]
-fn rx(alloc: Global, line: &[u8]) -> Result<Result<PoolCommand, Cause>, OutOfMemory>
+fn rx(alloc: Global, line: &WordList) -> Result<Result<PoolCommand, Cause>, OutOfMemory>
     ensures value { IfOk result (λ read. read ≡ fields_in verbs.Rx line.now) }
     ensures within { IfOk result (λ read. IfOk read IsWithinLimits) }
 {
@@ -87,7 +87,7 @@ fn rx(alloc: Global, line: &[u8]) -> Result<Result<PoolCommand, Cause>, OutOfMem
 fn fields(
     alloc: Global,
     verb: PoolVerb,
-    line: &[u8],
+    line: &WordList,
 ) -> Result<Result<PoolCommand, Cause>, OutOfMemory>
     ensures value { IfOk result (λ read. read ≡ fields_in verb line.now) }
     ensures within { IfOk result (λ read. IfOk read IsWithinLimits) }
@@ -106,9 +106,10 @@ fn command(alloc: Global, line: &[u8]) -> Result<Result<PoolCommand, Cause>, Out
         (λ read. read ≡ command_by (verb_named (unwrap_or (word_of line.now 1) [])) line.now) }
     ensures within { IfOk result (λ read. IfOk read IsWithinLimits) }
 {
-    match PoolVerb::of(word(line, 1).unwrap_or(&[])) {
+    let words = WordList::new(line);
+    match PoolVerb::of(words.word(1).unwrap_or(&[])) {
         None => Ok(Err(Cause::Word)),
-        Some(verb) if words(line) == verb.count() => fields(alloc, verb, line),
+        Some(verb) if words.count() == verb.count() => fields(alloc, verb, &words),
         Some(_) => Ok(Err(Cause::Count)),
     }
 }

@@ -7,13 +7,14 @@ ghost use Rattle.ptu_script.specs.declared.verb.Verb.TheVariants as verbs;
 use crate::cause::Cause;
 use crate::command::Command;
 use crate::fields::{ip_field, moment_field, number_field, octets_field, rule_field, truth_field};
+use ptu_lines::WordList;
 use ptu_outside::Datagram;
 use ptu_units::{Moment, OutOfMemory};
 use std::alloc::Global;
 
 /// A datagram that was sent is handed to its node.
 #[tactic(auto, unfolding(crate::specs::Command::fields_in))]
-pub fn deliver(line: &[u8]) -> Result<Command, Cause>
+pub fn deliver(line: &WordList) -> Result<Command, Cause>
     ensures value { result ≡ fields_in verbs.Deliver line.now }
     ensures within { IfOk result IsWithinLimits }
 {
@@ -24,7 +25,7 @@ pub fn deliver(line: &[u8]) -> Result<Command, Cause>
 
 /// A table takes a turn.
 #[tactic(auto, unfolding(crate::specs::Command::fields_in))]
-pub fn turn(line: &[u8]) -> Result<Command, Cause>
+pub fn turn(line: &WordList) -> Result<Command, Cause>
     ensures value { result ≡ fields_in verbs.Turn line.now }
     ensures within { IfOk result IsWithinLimits }
 {
@@ -40,7 +41,7 @@ pub fn turn(line: &[u8]) -> Result<Command, Cause>
 
 /// A slave takes a tick.
 #[tactic(auto, unfolding(crate::specs::Command::fields_in))]
-pub fn tick(line: &[u8]) -> Result<Command, Cause>
+pub fn tick(line: &WordList) -> Result<Command, Cause>
     ensures value { result ≡ fields_in verbs.Tick line.now }
     ensures within { IfOk result IsWithinLimits }
 {
@@ -51,7 +52,7 @@ pub fn tick(line: &[u8]) -> Result<Command, Cause>
 
 /// The operator speaks of a master.
 #[tactic(auto, unfolding(crate::specs::Command::fields_in))]
-pub fn flag(line: &[u8]) -> Result<Command, Cause>
+pub fn flag(line: &WordList) -> Result<Command, Cause>
     ensures value { result ≡ fields_in verbs.Flag line.now }
     ensures within { IfOk result IsWithinLimits }
 {
@@ -69,7 +70,7 @@ pub fn flag(line: &[u8]) -> Result<Command, Cause>
 
 /// A judge is replaced.
 #[tactic(auto, unfolding(crate::specs::Command::fields_in))]
-pub fn judge(line: &[u8]) -> Result<Command, Cause>
+pub fn judge(line: &WordList) -> Result<Command, Cause>
     ensures value { result ≡ fields_in verbs.Judge line.now }
     ensures within { IfOk result IsWithinLimits }
 {
@@ -87,7 +88,7 @@ pub fn judge(line: &[u8]) -> Result<Command, Cause>
 
 /// A slave stops.
 #[tactic(auto, unfolding(crate::specs::Command::fields_in))]
-pub fn stop(line: &[u8]) -> Result<Command, Cause>
+pub fn stop(line: &WordList) -> Result<Command, Cause>
     ensures value { result ≡ fields_in verbs.Stop line.now }
     ensures within { IfOk result IsWithinLimits }
 {
@@ -98,7 +99,7 @@ pub fn stop(line: &[u8]) -> Result<Command, Cause>
 
 /// The class of a grandmaster changes.
 #[tactic(auto, unfolding(crate::specs::Command::fields_in))]
-pub fn class(line: &[u8]) -> Result<Command, Cause>
+pub fn class(line: &WordList) -> Result<Command, Cause>
     ensures value { result ≡ fields_in verbs.Class line.now }
     ensures within { IfOk result IsWithinLimits }
 {
@@ -112,7 +113,7 @@ pub fn class(line: &[u8]) -> Result<Command, Cause>
 
 /// The capacity of a grandmaster changes.
 #[tactic(auto, unfolding(crate::specs::Command::fields_in))]
-pub fn capacity(line: &[u8]) -> Result<Command, Cause>
+pub fn capacity(line: &WordList) -> Result<Command, Cause>
     ensures value { result ≡ fields_in verbs.Capacity line.now }
     ensures within { IfOk result IsWithinLimits }
 {
@@ -127,7 +128,7 @@ pub fn capacity(line: &[u8]) -> Result<Command, Cause>
 }
 
 // The words T, NODE and FROM.
-fn handed(line: &[u8]) -> Result<(Moment, u32, u32), Cause>
+fn handed(line: &WordList) -> Result<(Moment, u32, u32), Cause>
     ensures { result ≡ handed_in line.now }
 {
     let at = moment_field(line, 2)?;
@@ -138,7 +139,7 @@ fn handed(line: &[u8]) -> Result<(Moment, u32, u32), Cause>
 
 /// A datagram is handed to a node.
 #[tactic(auto, unfolding(crate::specs::Command::fields_in))]
-pub fn rx(alloc: Global, line: &[u8]) -> Result<Result<Command, Cause>, OutOfMemory>
+pub fn rx(alloc: Global, line: &WordList) -> Result<Result<Command, Cause>, OutOfMemory>
     ensures value { IfOk result (λ read. read ≡ fields_in verbs.Rx line.now) }
     ensures within { IfOk result (λ read. IfOk read IsWithinLimits) }
 {

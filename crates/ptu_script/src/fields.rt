@@ -9,7 +9,7 @@ ghost use Rattle.ptu_script.specs.Command.{moment_of};
 ghost use Rattle.ptu_script.specs.Limits.{IsNamed};
 
 use crate::cause::Cause;
-use ptu_lines::{clock, ip, log, number, octets, word};
+use ptu_lines::{WordList, clock, ip, log, number, octets};
 use ptu_outside::Datagram;
 use ptu_record::Rule;
 use ptu_units::{Kind, Log, Moment, OutOfMemory};
@@ -25,54 +25,54 @@ fn or_outside<T: Drop>(value: Option<T>, k: u8) -> Result<T, Cause>
     }
 }
 
-fn ip_at(line: &[u8], k: u8) -> Option<u32>
+fn ip_at(line: &WordList, k: u8) -> Option<u32>
     ensures { result ≡ option_and_then ip_of (word_of line.now k) }
 {
-    ip(word(line, usize::from(k))?)
+    ip(line.word(usize::from(k))?)
 }
 
 /// An address.
-pub fn ip_field(line: &[u8], k: u8) -> Result<u32, Cause>
+pub fn ip_field(line: &WordList, k: u8) -> Result<u32, Cause>
     ensures { result ≡ field k ip_of line.now }
 {
     or_outside(ip_at(line, k), k)
 }
 
-fn clock_at(line: &[u8], k: u8) -> Option<u64>
+fn clock_at(line: &WordList, k: u8) -> Option<u64>
     ensures { result ≡ option_and_then clock_of (word_of line.now k) }
 {
-    clock(word(line, usize::from(k))?)
+    clock(line.word(usize::from(k))?)
 }
 
 /// A clock identity.
-pub fn clock_field(line: &[u8], k: u8) -> Result<u64, Cause>
+pub fn clock_field(line: &WordList, k: u8) -> Result<u64, Cause>
     ensures { result ≡ field k clock_of line.now }
 {
     or_outside(clock_at(line, k), k)
 }
 
-fn number_at(line: &[u8], k: u8, least: u64, greatest: u64) -> Option<u64>
+fn number_at(line: &WordList, k: u8, least: u64, greatest: u64) -> Option<u64>
     ensures { result ≡ option_and_then (from_to least greatest) (word_of line.now k) }
 {
-    number(word(line, usize::from(k))?, least, greatest)
+    number(line.word(usize::from(k))?, least, greatest)
 }
 
 /// A number from `least` to `greatest`.
-pub fn number_field(line: &[u8], k: u8, least: u64, greatest: u64) -> Result<u64, Cause>
+pub fn number_field(line: &WordList, k: u8, least: u64, greatest: u64) -> Result<u64, Cause>
     ensures value { result ≡ field k (from_to least greatest) line.now }
     ensures within { IfOk result (λ n. (least ≤ n) × (n ≤ greatest)) }
 {
     or_outside(number_at(line, k, least, greatest), k)
 }
 
-fn moment_at(line: &[u8], k: u8) -> Option<Moment>
+fn moment_at(line: &WordList, k: u8) -> Option<Moment>
     ensures { result ≡ option_and_then moment_of (word_of line.now k) }
 {
     Moment::of(number_at(line, k, 0, (1 << 62) - 1)?)
 }
 
 /// A moment.
-pub fn moment_field(line: &[u8], k: u8) -> Result<Moment, Cause>
+pub fn moment_field(line: &WordList, k: u8) -> Result<Moment, Cause>
     ensures { result ≡ field k moment_of line.now }
 {
     or_outside(moment_at(line, k), k)
@@ -94,25 +94,25 @@ fn log_of(word: &[u8], kind: Kind) -> Option<Log>
     of_kind(kind, value)
 }
 
-fn log_at(line: &[u8], k: u8, kind: Kind) -> Option<Log>
+fn log_at(line: &WordList, k: u8, kind: Kind) -> Option<Log>
     ensures value { result ≡ option_and_then (log_of_kind kind) (word_of line.now k) }
     ensures within { IfSome result (IsLogOf kind) }
 {
-    log_of(word(line, usize::from(k))?, kind)
+    log_of(line.word(usize::from(k))?, kind)
 }
 
 /// A logarithm in the range of the kind.
-pub fn log_field(line: &[u8], k: u8, kind: Kind) -> Result<Log, Cause>
+pub fn log_field(line: &WordList, k: u8, kind: Kind) -> Result<Log, Cause>
     ensures value { result ≡ field k (log_of_kind kind) line.now }
     ensures within { IfOk result (IsLogOf kind) }
 {
     or_outside(log_at(line, k, kind), k)
 }
 
-fn delay_log_at(line: &[u8], k: u8) -> Option<Option<Log>>
+fn delay_log_at(line: &WordList, k: u8) -> Option<Option<Log>>
     ensures { result ≡ option_and_then delay_log (word_of line.now k) }
 {
-    if matches!(word(line, usize::from(k))?, [b'-']) {
+    if matches!(line.word(usize::from(k))?, [b'-']) {
         Some(None)
     } else {
         Some(Some(log_at(line, k, Kind::DelayResp)?))
@@ -120,7 +120,7 @@ fn delay_log_at(line: &[u8], k: u8) -> Option<Option<Log>>
 }
 
 /// The logarithm of the Delay_Req interval, or the word `-` for none.
-pub fn delay_log_field(line: &[u8], k: u8) -> Result<Option<Log>, Cause>
+pub fn delay_log_field(line: &WordList, k: u8) -> Result<Option<Log>, Cause>
     ensures { result ≡ field k delay_log line.now }
 {
     or_outside(delay_log_at(line, k), k)
@@ -139,47 +139,47 @@ fn rule_of(word: &[u8]) -> Option<Rule>
     }
 }
 
-fn rule_at(line: &[u8], k: u8) -> Option<Rule>
+fn rule_at(line: &WordList, k: u8) -> Option<Rule>
     ensures value { result ≡ option_and_then rule_named (word_of line.now k) }
     ensures within { IfSome result IsNamed }
 {
-    rule_of(word(line, usize::from(k))?)
+    rule_of(line.word(usize::from(k))?)
 }
 
 /// The rule of a judge.
-pub fn rule_field(line: &[u8], k: u8) -> Result<Rule, Cause>
+pub fn rule_field(line: &WordList, k: u8) -> Result<Rule, Cause>
     ensures value { result ≡ field k rule_named line.now }
     ensures within { IfOk result IsNamed }
 {
     or_outside(rule_at(line, k), k)
 }
 
-fn truth_at(line: &[u8], k: u8) -> Option<bool>
+fn truth_at(line: &WordList, k: u8) -> Option<bool>
     ensures { result ≡ option_and_then truth_of (word_of line.now k) }
 {
     Some(number_at(line, k, 0, 1)? == 1)
 }
 
 /// 0 or 1, which is true.
-pub fn truth_field(line: &[u8], k: u8) -> Result<bool, Cause>
+pub fn truth_field(line: &WordList, k: u8) -> Result<bool, Cause>
     ensures { result ≡ field k truth_of line.now }
 {
     or_outside(truth_at(line, k), k)
 }
 
 // The number of octets that a word spells, which stand at the front of the buffer.
-fn octets_at(line: &[u8], k: u8, buffer: &mut [u8; 2048]) -> Option<usize>
+fn octets_at(line: &WordList, k: u8, buffer: &mut [u8; 2048]) -> Option<usize>
     ensures form { MatchOption (option_and_then octets_of (word_of line.now k)) (result ≡ None)
         (λ octets. (result ≡ Some (length octets)) × (take (length octets) buffer.new ≡ octets)) }
     ensures within { IfSome result (λ n. n ≤ 2048) }
 {
-    octets(word(line, usize::from(k))?, buffer)
+    octets(line.word(usize::from(k))?, buffer)
 }
 
 /// The octets of a datagram, at most 2048.
 pub fn octets_field(
     alloc: Global,
-    line: &[u8],
+    line: &WordList,
     k: u8,
 ) -> Result<Result<Datagram, Cause>, OutOfMemory>
     ensures value { IfOk result (λ octets. octets ≡ field k octets_of line.now) }

@@ -10,12 +10,12 @@ use crate::command::Command;
 use crate::events::{capacity, class, deliver, flag, judge, rx, stop, tick, turn};
 use crate::setups::{gm, master, new_slave};
 use crate::verb::Verb;
-use ptu_lines::{word, words};
+use ptu_lines::WordList;
 use ptu_units::OutOfMemory;
 use std::alloc::Global;
 
 // What stands behind the first word.
-fn fields(alloc: Global, verb: Verb, line: &[u8]) -> Result<Result<Command, Cause>, OutOfMemory>
+fn fields(alloc: Global, verb: Verb, line: &WordList) -> Result<Result<Command, Cause>, OutOfMemory>
     ensures value { IfOk result (λ read. read ≡ fields_in verb line.now) }
     ensures within { IfOk result (λ read. IfOk read IsWithinLimits) }
 {
@@ -36,10 +36,10 @@ fn fields(alloc: Global, verb: Verb, line: &[u8]) -> Result<Result<Command, Caus
 }
 
 // The line has as many words as its command may have.
-fn is_counted(verb: Verb, line: &[u8]) -> bool
+fn is_counted(verb: Verb, line: &WordList) -> bool
     ensures { result ≡ has_count (counts_of verb) line.now }
 {
-    let count = words(line);
+    let count = line.count();
     match verb {
         Verb::Gm => count == 8,
         Verb::Slave => count == 12 || count == 13,
@@ -55,9 +55,10 @@ fn command(alloc: Global, line: &[u8]) -> Result<Result<Command, Cause>, OutOfMe
         read ≡ command_by (verb_named (unwrap_or (word_of line.now 1) [])) line.now) }
     ensures within { IfOk result (λ read. IfOk read IsWithinLimits) }
 {
-    match Verb::of(word(line, 1).unwrap_or(&[])) {
+    let words = WordList::new(line);
+    match Verb::of(words.word(1).unwrap_or(&[])) {
         None => Ok(Err(Cause::Word)),
-        Some(verb) if is_counted(verb, line) => fields(alloc, verb, line),
+        Some(verb) if is_counted(verb, &words) => fields(alloc, verb, &words),
         Some(_) => Ok(Err(Cause::Count)),
     }
 }

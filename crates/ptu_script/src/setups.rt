@@ -7,13 +7,13 @@ ghost use Rattle.ptu_script.specs.declared.verb.Verb.TheVariants as verbs;
 use crate::cause::Cause;
 use crate::command::{Command, GrandmasterSetup, SlaveSetup};
 use crate::fields::{clock_field, delay_log_field, ip_field, log_field, number_field, rule_field};
-use ptu_lines::words;
+use ptu_lines::WordList;
 use ptu_record::Wants;
 use ptu_units::Kind;
 
 /// The fields of `gm IP CLOCK PORT DOMAIN CLASS CAPACITY MAX`.
 #[tactic(auto, unfolding(crate::specs::Command::grandmaster_in))]
-pub fn grandmaster(line: &[u8]) -> Result<GrandmasterSetup, Cause>
+pub fn grandmaster(line: &WordList) -> Result<GrandmasterSetup, Cause>
     ensures value { result ≡ grandmaster_in line.now }
     ensures within { IfOk result IsGrandmasterWithin }
 {
@@ -36,11 +36,11 @@ pub fn grandmaster(line: &[u8]) -> Result<GrandmasterSetup, Cause>
 }
 
 // The word TD, which a line of 12 words lacks.
-fn delay_timeout(line: &[u8]) -> Result<u64, Cause>
+fn delay_timeout(line: &WordList) -> Result<u64, Cause>
     ensures value { result ≡ delay_timeout_in line.now }
     ensures within { IfOk result (λ n. (2 ≤ n) × (n ≤ 10)) }
 {
-    if words(line) == 12 {
+    if line.count() == 12 {
         Ok(3)
     } else {
         number_field(line, 13, 2, 10)
@@ -50,7 +50,7 @@ fn delay_timeout(line: &[u8]) -> Result<u64, Cause>
 /// The fields of `slave IP CLOCK PORT DOMAIN WAIT TA TS LA LS LD DUR` and, where there is a 13th
 /// word, TD.
 #[tactic(auto, unfolding(crate::specs::Command::slave_in))]
-fn slave(line: &[u8]) -> Result<SlaveSetup, Cause>
+fn slave(line: &WordList) -> Result<SlaveSetup, Cause>
     ensures value { result ≡ slave_in line.now }
     ensures within { IfOk result IsSlaveWithin }
 {
@@ -87,7 +87,7 @@ fn slave(line: &[u8]) -> Result<SlaveSetup, Cause>
 
 /// A grandmaster is set up.
 #[tactic(auto, unfolding(crate::specs::Command::fields_in))]
-pub fn gm(line: &[u8]) -> Result<Command, Cause>
+pub fn gm(line: &WordList) -> Result<Command, Cause>
     ensures value { result ≡ fields_in verbs.Gm line.now }
     ensures within { IfOk result IsWithinLimits }
 {
@@ -96,7 +96,7 @@ pub fn gm(line: &[u8]) -> Result<Command, Cause>
 
 /// A slave is set up.
 #[tactic(auto, unfolding(crate::specs::Command::fields_in))]
-pub fn new_slave(line: &[u8]) -> Result<Command, Cause>
+pub fn new_slave(line: &WordList) -> Result<Command, Cause>
     ensures value { result ≡ fields_in verbs.Slave line.now }
     ensures within { IfOk result IsWithinLimits }
 {
@@ -105,7 +105,7 @@ pub fn new_slave(line: &[u8]) -> Result<Command, Cause>
 
 /// A slave gets a master.
 #[tactic(auto, unfolding(crate::specs::Command::fields_in))]
-pub fn master(line: &[u8]) -> Result<Command, Cause>
+pub fn master(line: &WordList) -> Result<Command, Cause>
     ensures value { result ≡ fields_in verbs.Master line.now }
     ensures within { IfOk result IsWithinLimits }
 {

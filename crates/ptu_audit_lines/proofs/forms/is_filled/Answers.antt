@@ -22,7 +22,7 @@ pub places-smaller : goal.places-smaller
 places-smaller c = omega (arith, c.places.invariant.within, word_within c.args.line.now c.places.k c.in-Some-Some.word.now c.places.invariant.first (sym c.in-Some-Some.ensures'))
 
 pub overflow_add-k : goal.overflow_add-k
-overflow_add-k c = omega (arith, words_few c.args.line.now, word_within c.args.line.now c.places.k c.in-Some-Some.word.now c.places.invariant.first (sym c.in-Some-Some.ensures'))
+overflow_add-k c = omega (arith, words_few c.args.form.now, word_within c.args.form.now c.places.k c.in-Some-Some.place.now c.places.invariant.first (sym c.in-Some-Some.ensures))
 
 pub returns-in_default : goal.returns-in_default
 unfolding specs.fits
