@@ -1,9 +1,9 @@
-ghost use Rattle.std.specs.Prelude.{Some};
+ghost use Rattle.std.specs.Prelude.{◌≡◌, ◌≤◌, ◌+◌, ◌++◌};
 ghost use Rattle.ptu_report_lines.specs.Statements.{decision_text};
 
-use ptu_texts::KindText;
+use crate::words::{Word, put_words};
 use ptu_units::{Kind, Moment};
-use std::fmt;
+use ptu_writing::LineText;
 
 /// What a grandmaster decided on a REQUEST or a CANCEL. Rates and capacities are in sixteenths of a
 /// message per second.
@@ -56,21 +56,31 @@ pub enum Decision {
     },
 }
 
-impl fmt::Display for Decision {
-    ghost output = { λ d. Some (decision_text d) };
-
-    fn fmt<W: fmt::Write>(&self, f: &mut fmt::Formatter<W>) -> fmt::Result {
-        match *self {
+impl Decision {
+    /// Puts its text before what stands in the line.
+    pub fn put(self, line: &mut LineText)
+        requires { 131 ≤ line.old.room }
+        ensures text { line.new.text ≡ decision_text self ++ line.old.text }
+        ensures room { line.old.room ≤ line.new.room + 131 }
+    {
+        match self {
             Decision::Granted {
                 kind,
                 log,
                 at,
                 until,
-            } => {
-                let kind = KindText(kind);
-                let at = at.nanos();
-                write!(f, "granted {kind} {log} at {at} until {until}")
-            }
+            } => put_words(
+                &[
+                    Word::Name("granted"),
+                    Word::Kind(kind),
+                    Word::Log(log),
+                    Word::Name("at"),
+                    Word::Number(at.nanos()),
+                    Word::Name("until"),
+                    Word::Number(until),
+                ],
+                line,
+            ),
             Decision::Short {
                 kind,
                 log,
@@ -78,34 +88,71 @@ impl fmt::Display for Decision {
                 others,
                 rate,
                 capacity,
-            } => {
-                let kind = KindText(kind);
-                let at = at.nanos();
-                write!(
-                    f,
-                    "short {kind} {log} at {at} others {others} rate {rate} capacity {capacity}"
-                )
-            }
-            Decision::OutsideType { code } => write!(f, "outside type {code}"),
-            Decision::OutsideLog { kind, log } => {
-                let kind = KindText(kind);
-                write!(f, "outside log {kind} {log}")
-            }
-            Decision::OutsideDuration { kind, log, seconds } => {
-                let kind = KindText(kind);
-                write!(f, "outside duration {kind} {log} {seconds}")
-            }
-            Decision::Cancelled { kind, at } => {
-                let kind = KindText(kind);
-                let at = at.nanos();
-                write!(f, "cancelled {kind} at {at}")
-            }
-            Decision::Nothing { kind, at } => {
-                let kind = KindText(kind);
-                let at = at.nanos();
-                write!(f, "nothing {kind} at {at}")
-            }
-            Decision::NoKind { code } => write!(f, "nothing {code}"),
+            } => put_words(
+                &[
+                    Word::Name("short"),
+                    Word::Kind(kind),
+                    Word::Log(log),
+                    Word::Name("at"),
+                    Word::Number(at.nanos()),
+                    Word::Name("others"),
+                    Word::Number(others),
+                    Word::Name("rate"),
+                    Word::Number(rate),
+                    Word::Name("capacity"),
+                    Word::Number(capacity),
+                ],
+                line,
+            ),
+            Decision::OutsideType { code } => put_words(
+                &[
+                    Word::Name("outside"),
+                    Word::Name("type"),
+                    Word::Number(u64::from(code)),
+                ],
+                line,
+            ),
+            Decision::OutsideLog { kind, log } => put_words(
+                &[
+                    Word::Name("outside"),
+                    Word::Name("log"),
+                    Word::Kind(kind),
+                    Word::Log(log),
+                ],
+                line,
+            ),
+            Decision::OutsideDuration { kind, log, seconds } => put_words(
+                &[
+                    Word::Name("outside"),
+                    Word::Name("duration"),
+                    Word::Kind(kind),
+                    Word::Log(log),
+                    Word::Number(u64::from(seconds)),
+                ],
+                line,
+            ),
+            Decision::Cancelled { kind, at } => put_words(
+                &[
+                    Word::Name("cancelled"),
+                    Word::Kind(kind),
+                    Word::Name("at"),
+                    Word::Number(at.nanos()),
+                ],
+                line,
+            ),
+            Decision::Nothing { kind, at } => put_words(
+                &[
+                    Word::Name("nothing"),
+                    Word::Kind(kind),
+                    Word::Name("at"),
+                    Word::Number(at.nanos()),
+                ],
+                line,
+            ),
+            Decision::NoKind { code } => put_words(
+                &[Word::Name("nothing"), Word::Number(u64::from(code))],
+                line,
+            ),
         }
     }
 }

@@ -1,4 +1,11 @@
+ghost use Rattle.ptu_report_lines.specs.Report.{line_text};
+ghost use Rattle.ptu_report_lines.specs.declared.report_line.ReportLine.TheVariants as lines;
+ghost use Rattle.ptu_report_lines.specs.declared.statement.Statement.TheVariants as statements;
+
+use crate::words::{Word, put_words};
 use ptu_outside::{Channel, Datagram};
+use ptu_units::OutOfMemory;
+use ptu_writing::{Draft, LineText, Text};
 
 /// A datagram that a node sent.
 #[derive(Debug, Drop)]
@@ -11,4 +18,36 @@ pub struct Sent {
     pub channel: Channel,
     /// Its octets.
     pub octets: Datagram,
+}
+
+/// The line of a datagram that was sent, with the 0A at its end: the number of the script's line,
+/// from 1, and that of the datagram.
+#[derive(Clone, Copy)]
+pub struct SentLine<'a> {
+    pub number: u64,
+    pub datagram: u64,
+    pub sent: &'a Sent,
+}
+
+impl Text for SentLine<'_> {
+    ghost text = { λ l. line_text (lines.At l.number (statements.Sent l.datagram l.sent.now)) };
+
+    fn put(&self, draft: &mut Draft) -> Result<(), OutOfMemory> {
+        let mut line = LineText::new();
+        line.put_str(" ");
+        put_words(
+            &[
+                Word::Number(self.number),
+                Word::Name("send"),
+                Word::Number(self.datagram),
+                Word::Address(self.sent.from),
+                Word::Address(self.sent.to),
+                Word::Channel(self.sent.channel),
+            ],
+            &mut line,
+        );
+        draft.put_line(&line)?;
+        draft.put_digits(self.sent.octets.bytes())?;
+        draft.put_octets(b"\n")
+    }
 }
