@@ -71,7 +71,11 @@ impl Texts {
         ensures same { OnErr result (self.new ≡ self.old) }
     {
         show(&mut self.shown, text)?;
-        add_to(&mut self.draft, &mut self.spans, &Shown(self.shown.as_str()))
+        add_to(
+            &mut self.draft,
+            &mut self.spans,
+            &Shown(self.shown.as_str()),
+        )
     }
 
     /// How many texts there are.
@@ -113,17 +117,13 @@ impl Text for Shown<'_> {
 }
 
 // Puts the text of the value behind those that are done, and its span behind theirs.
-fn add_to<T: Text>(
-    draft: &mut Draft,
-    spans: &mut Vec<Span>,
-    text: &T,
-) -> Result<(), OutOfMemory>
+fn add_to<T: Text>(draft: &mut Draft, spans: &mut Vec<Span>, text: &T) -> Result<(), OutOfMemory>
     requires { draft.old.text ≡ [] }
     ensures octets { OnOk result (draft.new.done ≡ draft.old.done ++ T.text text.now) }
     ensures spans { OnOk result (spans.new.items ≡ spans.old.items ++ record {
-        start = length draft.old.done;
-        end = length draft.new.done;
-      } ∷ []) }
+      start = length draft.old.done;
+      end = length draft.new.done;
+    } ∷ []) }
     ensures whole { draft.new.text ≡ [] }
     ensures same { OnErr result (draft.new.done ≡ draft.old.done) }
     ensures same_spans { OnErr result (spans.new.items ≡ spans.old.items) }
@@ -136,20 +136,16 @@ fn add_to<T: Text>(
 }
 
 // The same, but where it fails a part of the text may stand in the draft.
-fn finish<T: Text>(
-    draft: &mut Draft,
-    spans: &mut Vec<Span>,
-    text: &T,
-) -> Result<(), OutOfMemory>
+fn finish<T: Text>(draft: &mut Draft, spans: &mut Vec<Span>, text: &T) -> Result<(), OutOfMemory>
     requires { draft.old.text ≡ [] }
     ensures octets { OnOk result (draft.new ≡ record {
-        done = draft.old.done ++ T.text text.now;
-        text = [];
-      }) }
+      done = draft.old.done ++ T.text text.now;
+      text = [];
+    }) }
     ensures spans { OnOk result (spans.new.items ≡ spans.old.items ++ record {
-        start = length draft.old.done;
-        end = length draft.new.done;
-      } ∷ []) }
+      start = length draft.old.done;
+      end = length draft.new.done;
+    } ∷ []) }
     ensures same { OnErr result (draft.new.done ≡ draft.old.done) }
     ensures same_spans { OnErr result (spans.new.items ≡ spans.old.items) }
 {

@@ -1,3 +1,7 @@
+ghost use Rattle.std.specs.Prelude.{◌≡◌, ◌++◌, ◌∷◌, [], codes};
+ghost use Rattle.std.specs.Fmt.{decimal};
+ghost use Rattle.ptu_texts.specs.Texts.{address_text};
+ghost use Rattle.ptu_report_lines.specs.Statements.{channel_text, words_text};
 ghost use Rattle.ptu_report_lines.specs.Report.{line_text};
 ghost use Rattle.ptu_report_lines.specs.declared.report_line.ReportLine.TheVariants as lines;
 ghost use Rattle.ptu_report_lines.specs.declared.statement.Statement.TheVariants as statements;
@@ -29,10 +33,14 @@ pub struct SentLine<'a> {
     pub sent: &'a Sent,
 }
 
-impl Text for SentLine<'_> {
-    ghost text = { λ l. line_text (lines.At l.number (statements.Sent l.datagram l.sent.now)) };
-
-    fn put(&self, draft: &mut Draft) -> Result<(), OutOfMemory> {
+impl SentLine<'_> {
+    // What stands before the digits.
+    fn head(&self) -> LineText
+        ensures { result.text ≡ words_text (decimal self.now.number ∷ codes "send"
+            ∷ decimal self.now.datagram ∷ address_text self.now.sent.now.from
+            ∷ address_text self.now.sent.now.to ∷ channel_text self.now.sent.now.channel ∷ [])
+            ++ codes " " }
+    {
         let mut line = LineText::new();
         line.put_str(" ");
         put_words(
@@ -46,7 +54,15 @@ impl Text for SentLine<'_> {
             ],
             &mut line,
         );
-        draft.put_line(&line)?;
+        line
+    }
+}
+
+impl Text for SentLine<'_> {
+    ghost text = { λ l. line_text (lines.At l.number (statements.Sent l.datagram l.sent.now)) };
+
+    fn put(&self, draft: &mut Draft) -> Result<(), OutOfMemory> {
+        draft.put_line(&self.head())?;
         draft.put_digits(self.sent.octets.bytes())?;
         draft.put_octets(b"\n")
     }

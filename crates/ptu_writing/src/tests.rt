@@ -15,7 +15,10 @@ fn octets_are_put(rt: HostRuntime) -> Result<(), Fail> {
     draft.put_line(&line)?;
     draft.end();
     draft.put_digits(&[10])?;
-    assert_eq!(rt; draft.octets(), "018446744073709551615-128 009fa00a".as_bytes());
+    assert_eq!(rt;
+        draft.octets(),
+        "018446744073709551615-128 009fa00a".as_bytes()
+    );
     draft.drop_text();
     assert_eq!(rt; draft.octets(), written);
     Ok(())
