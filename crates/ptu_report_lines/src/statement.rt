@@ -114,7 +114,12 @@ impl Statement {
             }
             Statement::Sent { datagram, sent } => {
                 let datagram = *datagram;
-                SentLine { number, datagram, sent }.put(draft)
+                SentLine {
+                    number,
+                    datagram,
+                    sent,
+                }
+                .put(draft)
             }
             Statement::Selected { slave, master } => {
                 put_selected(*slave, *master, &mut line);

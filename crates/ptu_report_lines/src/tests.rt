@@ -21,7 +21,10 @@ fn a_datagram_is_written(rt: HostRuntime) -> Result<(), Fail> {
     };
     let mut draft = Draft::new(alloc);
     line.put(&mut draft)?;
-    assert_eq!(rt; draft.octets(), "7 send 3 10.0.0.1 10.0.1.17 event 00ff\n".as_bytes());
+    assert_eq!(rt;
+        draft.octets(),
+        "7 send 3 10.0.0.1 10.0.1.17 event 00ff\n".as_bytes()
+    );
     Ok(())
 }
 
@@ -42,8 +45,7 @@ fn a_decision_is_written_as_it_is_formatted(rt: HostRuntime) -> Result<(), Fail>
     let mut draft = Draft::new(alloc);
     line.put(&mut draft)?;
     let nanos = at.nanos();
-    let plain =
-        format!(in alloc; "{number} granted delay_resp {log} at {nanos} until {until}\n")?;
+    let plain = format!(in alloc; "{number} granted delay_resp {log} at {nanos} until {until}\n")?;
     assert_eq!(rt; draft.octets(), plain.as_bytes());
     Ok(())
 }

@@ -20,9 +20,9 @@ returns-clause-put c =
     let old = c.args.draft.now.text in
     let head = c.in_ok-put_line.ensures.put ∙ ap (λ (t : List ℕ). old ++ t) c.head.ensures in
     let digits =
-        c.in_ok-put_digits.ensures.put
-        ∙ ap (λ (octets : List ℕ). c.put_line.new.self.text ++ encode_lower octets) c.bytes.ensures
-        ∙ ap (λ (t : List ℕ). t ++ encode_lower sent.octets) head in
+    c.in_ok-put_digits.ensures.put
+    ∙ ap (λ (octets : List ℕ). c.put_line.new.self.text ++ encode_lower octets) c.bytes.ensures
+    ∙ ap (λ (t : List ℕ). t ++ encode_lower sent.octets) head in
     on_ok c.put_octets.result (λ end.
     end ∙ ap (λ (t : List ℕ). t ++ codes "\n") digits
     ∙ joined old (decimal line.number) (decimal line.datagram) (address_text sent.from) (address_text sent.to) (channel_text sent.channel) (encode_lower sent.octets)) c.put_octets.ensures.put
