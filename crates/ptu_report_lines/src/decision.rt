@@ -1,5 +1,8 @@
-ghost use Rattle.std.specs.Prelude.{◌≡◌, ◌≤◌, ◌+◌, ◌++◌};
-ghost use Rattle.ptu_report_lines.specs.Statements.{decision_text};
+ghost use Rattle.std.specs.Prelude.{◌≡◌, ◌≤◌, ◌+◌, ◌++◌, ◌∷◌, [], codes, length};
+ghost use Rattle.std.specs.Fmt.{decimal};
+ghost use Rattle.ptu_texts.specs.Texts.{kind_text};
+ghost use Rattle.ptu_report_lines.specs.Statements.{decision_text, words_text};
+ghost use Rattle.ptu_report_lines.specs.declared.decision.Decision.TheVariants as decisions;
 
 use crate::words::{Word, put_words};
 use ptu_units::{Kind, Moment};
@@ -69,18 +72,7 @@ impl Decision {
                 log,
                 at,
                 until,
-            } => put_words(
-                &[
-                    Word::Name("granted"),
-                    Word::Kind(kind),
-                    Word::Log(log),
-                    Word::Name("at"),
-                    Word::Number(at.nanos()),
-                    Word::Name("until"),
-                    Word::Number(until),
-                ],
-                line,
-            ),
+            } => put_granted(kind, log, at, until, line),
             Decision::Short {
                 kind,
                 log,
@@ -88,71 +80,102 @@ impl Decision {
                 others,
                 rate,
                 capacity,
-            } => put_words(
-                &[
-                    Word::Name("short"),
-                    Word::Kind(kind),
-                    Word::Log(log),
-                    Word::Name("at"),
-                    Word::Number(at.nanos()),
-                    Word::Name("others"),
-                    Word::Number(others),
-                    Word::Name("rate"),
-                    Word::Number(rate),
-                    Word::Name("capacity"),
-                    Word::Number(capacity),
-                ],
-                line,
-            ),
-            Decision::OutsideType { code } => put_words(
-                &[
-                    Word::Name("outside"),
-                    Word::Name("type"),
-                    Word::Number(u64::from(code)),
-                ],
-                line,
-            ),
-            Decision::OutsideLog { kind, log } => put_words(
-                &[
-                    Word::Name("outside"),
-                    Word::Name("log"),
-                    Word::Kind(kind),
-                    Word::Log(log),
-                ],
-                line,
-            ),
-            Decision::OutsideDuration { kind, log, seconds } => put_words(
-                &[
-                    Word::Name("outside"),
-                    Word::Name("duration"),
-                    Word::Kind(kind),
-                    Word::Log(log),
-                    Word::Number(u64::from(seconds)),
-                ],
-                line,
-            ),
-            Decision::Cancelled { kind, at } => put_words(
-                &[
-                    Word::Name("cancelled"),
-                    Word::Kind(kind),
-                    Word::Name("at"),
-                    Word::Number(at.nanos()),
-                ],
-                line,
-            ),
-            Decision::Nothing { kind, at } => put_words(
-                &[
-                    Word::Name("nothing"),
-                    Word::Kind(kind),
-                    Word::Name("at"),
-                    Word::Number(at.nanos()),
-                ],
-                line,
-            ),
-            Decision::NoKind { code } => put_words(
-                &[Word::Name("nothing"), Word::Number(u64::from(code))],
-                line,
-            ),
+            } => put_short(kind, log, at, others, rate, capacity, line),
+            Decision::OutsideType { code } => {
+                line.put_octet(code);
+                line.put_str("outside type ");
+            }
+            Decision::OutsideLog { kind, log } => {
+                put_words(&[Word::Kind(kind), Word::Log(log)], line);
+                line.put_str("outside log ");
+            }
+            Decision::OutsideDuration { kind, log, seconds } => {
+                let seconds = u64::from(seconds);
+                put_words(
+                    &[Word::Kind(kind), Word::Log(log), Word::Number(seconds)],
+                    line,
+                );
+                line.put_str("outside duration ");
+            }
+            Decision::Cancelled { kind, at } => put_ended("cancelled", kind, at, line),
+            Decision::Nothing { kind, at } => put_ended("nothing", kind, at, line),
+            Decision::NoKind { code } => {
+                line.put_octet(code);
+                line.put_str("nothing ");
+            }
         }
     }
+}
+
+// Puts a grant.
+fn put_granted(kind: Kind, log: i8, at: Moment, until: u64, line: &mut LineText)
+    requires { 131 ≤ line.old.room }
+    ensures text { line.new.text
+        ≡ decision_text (decisions.Granted kind log at until) ++ line.old.text }
+    ensures room { line.old.room ≤ line.new.room + 131 }
+{
+    put_words(
+        &[
+            Word::Name("granted"),
+            Word::Kind(kind),
+            Word::Log(log),
+            Word::Name("at"),
+            Word::Number(at.nanos()),
+            Word::Name("until"),
+            Word::Number(until),
+        ],
+        line,
+    );
+}
+
+// Puts that a request did not fit.
+fn put_short(
+    kind: Kind,
+    log: i8,
+    at: Moment,
+    others: u64,
+    rate: u64,
+    capacity: u64,
+    line: &mut LineText,
+)
+    requires { 131 ≤ line.old.room }
+    ensures text { line.new.text
+        ≡ decision_text (decisions.Short kind log at others rate capacity) ++ line.old.text }
+    ensures room { line.old.room ≤ line.new.room + 131 }
+{
+    put_words(
+        &[
+            Word::Name("short"),
+            Word::Kind(kind),
+            Word::Log(log),
+            Word::Name("at"),
+            Word::Number(at.nanos()),
+            Word::Name("others"),
+            Word::Number(others),
+            Word::Name("rate"),
+            Word::Number(rate),
+            Word::Name("capacity"),
+            Word::Number(capacity),
+        ],
+        line,
+    );
+}
+
+// Puts what a CANCEL found, at a moment.
+fn put_ended(found: &'static str, kind: Kind, at: Moment, line: &mut LineText)
+    requires short { length found.now ≤ 9 }
+    requires room { 131 ≤ line.old.room }
+    ensures text { line.new.text ≡ words_text
+        (found.now ∷ kind_text kind ∷ codes "at" ∷ decimal at ∷ []) ++ line.old.text }
+    ensures room { line.old.room ≤ line.new.room + 131 }
+{
+    put_words(
+        &[
+            Word::Name(found),
+            Word::Kind(kind),
+            Word::Name("at"),
+            Word::Number(at.nanos()),
+        ],
+        line,
+    );
 }
