@@ -74,63 +74,31 @@ impl Statement {
         let mut line = LineText::new();
         line.put_str("\n");
         match self {
-            Statement::Decided(decision) => {
-                decision.put(&mut line);
-                finish(number, &mut line, draft)
-            }
-            Statement::Asked(answer) => {
-                answer.put(&mut line);
-                finish(number, &mut line, draft)
-            }
-            Statement::Heard(hearing) => {
-                hearing.put(&mut line);
-                line.put_str("heard ");
-                finish(number, &mut line, draft)
-            }
-            Statement::Received(received) => {
-                received.put(&mut line);
-                finish(number, &mut line, draft)
-            }
-            Statement::Ignored(reason) => {
-                reason.put(&mut line);
-                line.put_str("ignored ");
-                finish(number, &mut line, draft)
-            }
+            Statement::Decided(decision) => decision.put(&mut line),
+            Statement::Asked(answer) => answer.put(&mut line),
+            Statement::Heard(hearing) => put_heard(*hearing, &mut line),
+            Statement::Received(received) => received.put(&mut line),
+            Statement::Ignored(reason) => put_ignored(*reason, &mut line),
             Statement::Capacity {
                 grandmaster,
                 capacity,
                 at,
-            } => {
-                put_capacity(*grandmaster, *capacity, *at, &mut line);
-                finish(number, &mut line, draft)
-            }
-            Statement::Shed { kind, log, client } => {
-                put_shed(*kind, *log, client, &mut line);
-                finish(number, &mut line, draft)
-            }
-            Statement::Nobody => {
-                line.put_str("nobody");
-                finish(number, &mut line, draft)
-            }
+            } => put_capacity(*grandmaster, *capacity, *at, &mut line),
+            Statement::Shed { kind, log, client } => put_shed(*kind, *log, client, &mut line),
+            Statement::Nobody => line.put_str("nobody"),
             Statement::Sent { datagram, sent } => {
                 let datagram = *datagram;
-                SentLine {
+                return SentLine {
                     number,
                     datagram,
                     sent,
                 }
-                .put(draft)
+                .put(draft);
             }
-            Statement::Selected { slave, master } => {
-                put_selected(*slave, *master, &mut line);
-                finish(number, &mut line, draft)
-            }
-            Statement::Bad(cause) => {
-                put_cause(*cause, &mut line);
-                line.put_str("bad ");
-                finish(number, &mut line, draft)
-            }
+            Statement::Selected { slave, master } => put_selected(*slave, *master, &mut line),
+            Statement::Bad(cause) => put_bad(*cause, &mut line),
         }
+        finish(number, &mut line, draft)
     }
 }
 
@@ -203,6 +171,36 @@ fn put_selected(slave: u32, master: Option<u32>, line: &mut LineText)
         ],
         line,
     );
+}
+
+// Puts what a slave heard before what stands.
+fn put_heard(hearing: Hearing, line: &mut LineText)
+    requires { 86 ≤ line.old.room }
+    ensures text { line.new.text ≡ statement_text (statements.Heard hearing) ++ line.old.text }
+    ensures room { line.old.room ≤ line.new.room + 86 }
+{
+    hearing.put(line);
+    line.put_str("heard ");
+}
+
+// Puts that a datagram was ignored before what stands.
+fn put_ignored(reason: Reason, line: &mut LineText)
+    requires { 94 ≤ line.old.room }
+    ensures text { line.new.text ≡ statement_text (statements.Ignored reason) ++ line.old.text }
+    ensures room { line.old.room ≤ line.new.room + 94 }
+{
+    reason.put(line);
+    line.put_str("ignored ");
+}
+
+// Puts that the script's line is refused before what stands.
+fn put_bad(cause: Cause, line: &mut LineText)
+    requires { 13 ≤ line.old.room }
+    ensures text { line.new.text ≡ statement_text (statements.Bad cause) ++ line.old.text }
+    ensures room { line.old.room ≤ line.new.room + 13 }
+{
+    put_cause(cause, line);
+    line.put_str("bad ");
 }
 
 // Puts the cause of a refusal before what stands.
