@@ -5,6 +5,7 @@ ghost use Rattle.ptu_report_lines.specs.Statements.{decision_text, words_text};
 ghost use Rattle.ptu_report_lines.specs.declared.decision.Decision.TheVariants as decisions;
 
 use crate::words::{Word, put_words};
+use ptu_texts::KindText;
 use ptu_units::{Kind, Moment};
 use ptu_writing::LineText;
 
@@ -107,25 +108,21 @@ impl Decision {
     }
 }
 
-// Puts a grant.
+// Puts a grant, piece by piece, since there are many.
 fn put_granted(kind: Kind, log: i8, at: Moment, until: u64, line: &mut LineText)
     requires { 131 ≤ line.old.room }
     ensures text { line.new.text
         ≡ decision_text (decisions.Granted kind log at until) ++ line.old.text }
     ensures room { line.old.room ≤ line.new.room + 131 }
 {
-    put_words(
-        &[
-            Word::Name("granted"),
-            Word::Kind(kind),
-            Word::Log(log),
-            Word::Name("at"),
-            Word::Number(at.nanos()),
-            Word::Name("until"),
-            Word::Number(until),
-        ],
-        line,
-    );
+    line.put_number(until);
+    line.put_str(" until ");
+    line.put_number(at.nanos());
+    line.put_str(" at ");
+    line.put_signed(log);
+    line.put_str(" ");
+    KindText(kind).put(line);
+    line.put_str("granted ");
 }
 
 // Puts that a request did not fit.

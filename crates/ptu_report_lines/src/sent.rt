@@ -1,13 +1,14 @@
-ghost use Rattle.std.specs.Prelude.{◌≡◌, ◌++◌, ◌∷◌, [], codes};
+ghost use Rattle.std.specs.Prelude.{◌≡◌, ◌++◌, codes};
 ghost use Rattle.std.specs.Fmt.{decimal};
 ghost use Rattle.ptu_texts.specs.Texts.{address_text};
-ghost use Rattle.ptu_report_lines.specs.Statements.{channel_text, words_text};
+ghost use Rattle.ptu_report_lines.specs.Statements.{channel_text};
 ghost use Rattle.ptu_report_lines.specs.Report.{line_text};
 ghost use Rattle.ptu_report_lines.specs.declared.report_line.ReportLine.TheVariants as lines;
 ghost use Rattle.ptu_report_lines.specs.declared.statement.Statement.TheVariants as statements;
 
-use crate::words::{Word, put_words};
+use crate::words::put_channel;
 use ptu_outside::{Channel, Datagram};
+use ptu_texts::AddressText;
 use ptu_units::OutOfMemory;
 use ptu_writing::{Draft, LineText, Text};
 
@@ -34,26 +35,25 @@ pub struct SentLine<'a> {
 }
 
 impl SentLine<'_> {
-    // What stands before the digits.
+    // What stands before the digits, piece by piece, since most lines of a report are such.
     fn head(&self) -> LineText
-        ensures { result.text ≡ words_text (decimal self.now.number ∷ codes "send"
-            ∷ decimal self.now.datagram ∷ address_text self.now.sent.now.from
-            ∷ address_text self.now.sent.now.to ∷ channel_text self.now.sent.now.channel ∷ [])
-            ++ codes " " }
+        ensures { result.text ≡ decimal self.now.number ++ (codes " send "
+            ++ (decimal self.now.datagram ++ (codes " "
+            ++ (address_text self.now.sent.now.from ++ (codes " "
+            ++ (address_text self.now.sent.now.to ++ (codes " "
+            ++ (channel_text self.now.sent.now.channel ++ codes " ")))))))) }
     {
         let mut line = LineText::new();
         line.put_str(" ");
-        put_words(
-            &[
-                Word::Number(self.number),
-                Word::Name("send"),
-                Word::Number(self.datagram),
-                Word::Address(self.sent.from),
-                Word::Address(self.sent.to),
-                Word::Channel(self.sent.channel),
-            ],
-            &mut line,
-        );
+        put_channel(self.sent.channel, &mut line);
+        line.put_str(" ");
+        AddressText(self.sent.to).put(&mut line);
+        line.put_str(" ");
+        AddressText(self.sent.from).put(&mut line);
+        line.put_str(" ");
+        line.put_number(self.datagram);
+        line.put_str(" send ");
+        line.put_number(self.number);
         line
     }
 }

@@ -50,11 +50,22 @@ impl Word {
             },
             Word::Address(ip) => AddressText(ip).put(line),
             Word::Identity(identity) => IdentityText(identity).put(line),
-            Word::Channel(Channel::Event) => line.put_str("event"),
-            Word::Channel(Channel::General) => line.put_str("general"),
+            Word::Channel(channel) => put_channel(channel, line),
             Word::Selected(Some(master)) => AddressText(master).put(line),
             Word::Selected(None) => line.put_str("none"),
         }
+    }
+}
+
+/// Puts the name of the channel before what stands in the line.
+pub(crate) fn put_channel(channel: Channel, line: &mut LineText)
+    requires { 7 ≤ line.old.room }
+    ensures text { line.new.text ≡ channel_text channel ++ line.old.text }
+    ensures room { line.old.room ≤ line.new.room + 7 }
+{
+    match channel {
+        Channel::Event => line.put_str("event"),
+        Channel::General => line.put_str("general"),
     }
 }
 

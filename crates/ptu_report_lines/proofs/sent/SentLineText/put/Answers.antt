@@ -9,7 +9,7 @@ on_ok : {A E P Q : Type 0} (put : Result A E) → (P → Q) → OnOk put P → O
 on_ok (Ok x) goes_on h = goes_on h
 on_ok (Err e) goes_on h = tt
 
-joined : (old n d f t c h : List ℕ) → ((old ++ (words_text (n ∷ codes "send" ∷ d ∷ f ∷ t ∷ c ∷ []) ++ codes " ")) ++ h) ++ codes "\n"
+joined : (old n d f t c h : List ℕ) → ((old ++ (n ++ (codes " send " ++ (d ++ (codes " " ++ (f ++ (codes " " ++ (t ++ (codes " " ++ (c ++ codes " ")))))))))) ++ h) ++ codes "\n"
     ≡ old ++ (words_text (n ∷ words_text (codes "send" ∷ d ∷ f ∷ t ∷ c ∷ h ∷ []) ∷ []) ++ codes "\n")
 joined old n d f t c h = search (rules, append_assoc)
 
