@@ -121,7 +121,7 @@ impl Lab {
         }
         self.has_begun = true;
         let statement = Statement::Nobody;
-        texts.add(&ReportLine::At {
+        texts.add_text(&ReportLine::At {
             number: line,
             statement,
         })?;

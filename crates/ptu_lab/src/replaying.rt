@@ -70,7 +70,7 @@ impl Reporter for Lab {
         texts: &mut Texts,
     ) -> Result<Option<Cause>, OutOfMemory> {
         let datagrams = self.sent.len() as u64;
-        texts.add(&ReportLine::End { lines, datagrams })?;
+        texts.add_text(&ReportLine::End { lines, datagrams })?;
         Ok(None)
     }
 
@@ -80,7 +80,7 @@ impl Reporter for Lab {
         ensures { OnOk result (texts.new ≡ rules.refusal number cause.now ∷ []) }
     {
         let statement = Statement::Bad(*cause);
-        texts.add(&ReportLine::At { number, statement })
+        texts.add_text(&ReportLine::At { number, statement })
     }
 
     #[tactic(auto, unfolding(ptu_world::specs::Report::rules))]

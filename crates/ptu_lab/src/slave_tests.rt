@@ -60,9 +60,10 @@ fn assert_said(
     node.tick(alloc, Moment::default(), 3, texts, sent)?;
     node.receive(alloc, Moment::default(), STRANGER, &sync, 4, texts, sent)?;
     node.stop(alloc, Moment::default(), 5, texts, sent)?;
-    assert_eq!(rt; (texts.list().len(), sent.len()), (SAID.len(), 0));
-    for (text, said) in texts.list().iter().zip(SAID) {
-        assert_eq!(rt; text.as_str(), said);
+    assert_eq!(rt; (texts.count(), sent.len()), (SAID.len(), 0));
+    for place in 0..texts.count() {
+        let said = SAID.get(place).ok_or("said")?;
+        assert_eq!(rt; texts.text(place), said.as_bytes());
     }
     Ok(())
 }

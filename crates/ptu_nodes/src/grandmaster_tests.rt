@@ -77,9 +77,10 @@ fn assert_said(
         }
     );
     node.set_capacity(alloc, moment(2)?, 8, 5, texts, sent)?;
-    assert_eq!(rt; (texts.list().len(), sent.len()), (SAID.len(), 4));
-    for (text, said) in texts.list().iter().zip(SAID) {
-        assert!(rt; text.as_str().starts_with(said));
+    assert_eq!(rt; (texts.count(), sent.len()), (SAID.len(), 4));
+    for place in 0..texts.count() {
+        let said = SAID.get(place).ok_or("said")?;
+        assert!(rt; texts.text(place).starts_with(said.as_bytes()));
     }
     Ok(())
 }

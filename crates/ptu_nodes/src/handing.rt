@@ -5,7 +5,7 @@ ghost use Rattle.ptu_world.specs.World.{sending_said, sent_from};
 
 use ptu_outside::{Datagram, MemPort};
 use ptu_report::Texts;
-use ptu_report_lines::{ReportLine, Sent, Statement};
+use ptu_report_lines::{Sent, SentLine};
 use ptu_units::OutOfMemory;
 use std::alloc::Global;
 
@@ -59,26 +59,12 @@ fn add_sent(
     ensures says { OnOk result (texts.new ≡ texts.old
         ++ text_at line (statements.Sent (length sent.old.items + 1) datagram) ∷ []) }
 {
-    let statement = Statement::Sent {
-        datagram: sent.len() as u64 + 1,
-        sent: datagram,
-    };
-    let report = ReportLine::At {
+    let text = SentLine {
         number: line,
-        statement,
+        datagram: sent.len() as u64 + 1,
+        sent: &datagram,
     };
-    texts.add(&report)?;
-    match report {
-        ReportLine::At {
-            number: _,
-            statement: Statement::Sent {
-                datagram: _,
-                sent: datagram,
-            },
-        } => {
-            sent.push(datagram)?;
-            Ok(())
-        }
-        _ => unreachable!(),
-    }
+    texts.add_text(&text)?;
+    sent.push(datagram)?;
+    Ok(())
 }

@@ -16,5 +16,5 @@ pub fn say(texts: &mut Texts, line: u64, statement: Statement) -> Result<(), Out
         number: line,
         statement,
     };
-    texts.add(&text)
+    texts.add_text(&text)
 }

@@ -1,3 +1,4 @@
 pub mod OneLine
+pub mod Spans
 pub mod Underway
 pub mod WholeLines

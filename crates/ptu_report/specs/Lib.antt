@@ -1,4 +1,5 @@
 pub mod Rules
 pub mod Stops
+pub mod Spans
 pub mod Reported
 pub mod Step

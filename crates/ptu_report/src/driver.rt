@@ -1,8 +1,7 @@
 //! The driver: lines are read and reported one after the other.
 
-ghost use Rattle.std.specs.Prelude.{◌≡◌, ◌≢◌, ◌≤◌, ◌+◌, ℕ, List, [], ◌∷◌, Some, length, map, option_map, IfOk, IfErr, OnOk, OnErr, IfNone, IfSome, IsErrOf};
+ghost use Rattle.std.specs.Prelude.{◌≡◌, ◌≢◌, ◌≤◌, ◌+◌, ℕ, List, [], ◌∷◌, Some, length, option_map, IfOk, IfErr, OnOk, OnErr, IfNone, IfSome, IsErrOf};
 ghost use Rattle.std.specs.Io.KnownBytes.{IsAtEnd, prepend_known};
-ghost use Rattle.std.specs.String.{string_bytes};
 ghost use Rattle.ptu_outside.specs.Ends.{StopsAtEnd};
 ghost use Rattle.ptu_outside.specs.Handing.{HasPut, HasPutPart};
 ghost use Rattle.ptu_lines.specs.Script.{ScriptLine, script_lines};
@@ -21,29 +20,27 @@ use ptu_outside::{Sink, Source, write_whole};
 use std::alloc::Global;
 
 // Hands a text to the sink in one piece, and its rest again until all is taken.
-fn put<K: Sink>(sink: &mut K, text: &str) -> Result<(), Stop>
+fn put<K: Sink>(sink: &mut K, text: &[u8]) -> Result<(), Stop>
     ensures whole { OnOk result (HasPut K.written K.handed sink.old sink.new (text.now ∷ [])) }
     ensures part { OnErr result (HasPutPart K.written K.handed sink.old sink.new (text.now ∷ [])) }
     ensures cause { IfErr result (λ stop. stop ≡ Stop.Write) }
     ensures counts { CountsWrite result (K.faults sink.old) (K.faults sink.new) }
 {
-    match write_whole(sink, text.as_bytes()) {
+    match write_whole(sink, text) {
         Ok(()) => Ok(()),
         Err(_) => Err(Stop::Write),
     }
 }
 
 // One text after the other.
-fn put_all<K: Sink>(sink: &mut K, texts: &[String]) -> Result<(), Stop>
-    ensures whole { OnOk result (HasPut K.written K.handed sink.old sink.new
-        (map string_bytes texts.now)) }
-    ensures part { OnErr result (HasPutPart K.written K.handed sink.old sink.new
-        (map string_bytes texts.now)) }
+fn put_all<K: Sink>(sink: &mut K, texts: &Texts) -> Result<(), Stop>
+    ensures whole { OnOk result (HasPut K.written K.handed sink.old sink.new texts.now) }
+    ensures part { OnErr result (HasPutPart K.written K.handed sink.old sink.new texts.now) }
     ensures cause { IfErr result (λ stop. stop ≡ Stop.Write) }
     ensures counts { CountsWrite result (K.faults sink.old) (K.faults sink.new) }
 {
-    for text in texts {
-        put(sink, text.as_str())?;
+    'texts: for place in 0..texts.count() {
+        put(sink, texts.text(place))?;
     }
     Ok(())
 }
@@ -58,7 +55,7 @@ fn put_taken<C, K: Sink>(sink: &mut K, texts: &Texts, refused: &Option<C>) -> Re
     ensures counts { CountsWrite result (K.faults sink.old) (K.faults sink.new) }
 {
     match refused {
-        None => put_all(sink, texts.list()),
+        None => put_all(sink, texts),
         Some(_) => Ok(()),
     }
 }
@@ -80,7 +77,7 @@ fn refuse<R: Reporter, K: Sink>(
 {
     texts.clear();
     R::refuse(number, &cause, texts)?;
-    put_all(sink, texts.list())?;
+    put_all(sink, texts)?;
     Ok(Ending::Refused { number, cause })
 }
 

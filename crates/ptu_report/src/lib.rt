@@ -4,6 +4,7 @@
 mod driver;
 mod ending;
 mod reporter;
+mod span;
 mod stop;
 mod texts;
 

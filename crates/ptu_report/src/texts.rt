@@ -1,30 +1,33 @@
-ghost use Rattle.std.specs.Prelude.{◌≡◌, ◌++◌, ◌∷◌, [], ◌≤◌, ◌<◌, ◌+◌, map, take, vec_len, OnOk, OnErr, IfSome};
+ghost use Rattle.std.specs.Prelude.{◌≡◌, ◌++◌, ◌∷◌, [], ◌<◌, length, get_or, OnOk, OnErr, IfSome};
 ghost use Rattle.std.specs.String.{string_bytes};
+ghost use Rattle.ptu_writing.specs.Draft.{Drafted};
 
+use crate::span::Span;
 use ptu_units::OutOfMemory;
+use ptu_writing::{Draft, Text};
 use std::alloc::Global;
 use std::fmt;
 use std::fmt::Write;
 use std::marker::Model;
 
-/// Texts of output, each with the 0A at its end where it is a line. The room of those that were
-/// cleared is kept for later ones. A clause sees their octets as a list.
+/// Texts of output, each with the 0A at its end where it is a line. Their octets stand in one room,
+/// which is kept for later ones. A clause sees their octets as a list.
 #[derive(Debug, Drop)]
 pub struct Texts {
-    alloc: Global,
-    texts: Vec<String>,
-    count: usize,
+    draft: Draft,
+    spans: Vec<Span>,
+    shown: String,
 }
 
 impl Model for Texts {
-    ghost use Rattle.std.specs.Prelude.{ℕ, ◌≤◌, List, map, take, vec_len};
-    ghost use Rattle.std.specs.String.{string_bytes};
+    ghost use Rattle.std.specs.Prelude.{ℕ, ◌≡◌, List, []};
+    ghost use Rattle.ptu_report.specs.Spans.{texts_in, AreWithin};
 
     ghost Value = { List (List ℕ) };
 
-    ghost view = { λ t. map string_bytes (take t.count t.texts.items) };
+    ghost view = { λ t. texts_in t.draft.done t.spans.items };
 
-    ghost invariant = { λ t. t.count ≤ vec_len t.texts };
+    ghost invariant = { λ t. AreWithin t.draft.done t.spans.items × (t.draft.text ≡ []) };
 }
 
 impl Texts {
@@ -33,9 +36,9 @@ impl Texts {
         ensures { result ≡ [] }
     {
         Texts {
-            alloc,
-            texts: Vec::new(alloc),
-            count: 0,
+            draft: Draft::new(alloc),
+            spans: Vec::new(alloc),
+            shown: String::new(alloc),
         }
     }
 
@@ -43,7 +46,19 @@ impl Texts {
     pub fn clear(&mut self)
         ensures { self.new ≡ [] }
     {
-        self.count = 0;
+        self.draft.clear();
+        self.spans.clear();
+    }
+
+    /// Adds the text of the value.
+    ///
+    /// # Errors
+    /// `OutOfMemory`, and then they are as before.
+    pub fn add_text<T: Text>(&mut self, text: &T) -> Result<(), OutOfMemory>
+        ensures added { OnOk result (self.new ≡ self.old ++ T.text text.now ∷ []) }
+        ensures same { OnErr result (self.new ≡ self.old) }
+    {
+        add_to(&mut self.draft, &mut self.spans, text)
     }
 
     /// Adds what the value displays as one text more.
@@ -55,37 +70,89 @@ impl Texts {
             (λ octets. self.new ≡ self.old ++ octets ∷ [])) }
         ensures same { OnErr result (self.new ≡ self.old) }
     {
-        if self.count == self.texts.len() {
-            self.texts.push(String::new(self.alloc))?;
-        }
-        write_at(&mut self.texts, self.count, text)?;
-        self.count += 1;
-        Ok(())
+        show(&mut self.shown, text)?;
+        add_to(
+            &mut self.draft,
+            &mut self.spans,
+            &Shown(self.shown.as_str()),
+        )
     }
 
-    /// The texts, in order.
-    pub fn list(&self) -> &[String]
-        ensures { map string_bytes result.now ≡ self.now }
+    /// How many texts there are.
+    pub fn count(&self) -> usize
+        ensures { result ≡ length self.now }
     {
-        &self.texts[..self.count]
+        self.spans.len()
+    }
+
+    /// The octets of the text at a place.
+    pub fn text(&self, place: usize) -> &[u8]
+        requires { place < length self.now }
+        ensures { result.now ≡ get_or self.now place result.now }
+    {
+        let span = self.spans[place];
+        &self.draft.octets()[span.start..span.end]
     }
 }
 
-// Writes what the value displays over the text at a place, in its room.
-fn write_at<T: fmt::Display>(
-    texts: &mut Vec<String>,
-    place: usize,
-    text: &T,
-) -> Result<(), OutOfMemory>
-    requires { place < vec_len texts.old }
-    ensures front { take place texts.new.items ≡ take place texts.old.items }
-    ensures many { vec_len texts.new ≡ vec_len texts.old }
-    ensures written { OnOk result (IfSome (T.output text.now) (λ octets.
-        map string_bytes (take (place + 1) texts.new.items)
-        ≡ map string_bytes (take place texts.old.items) ++ octets ∷ [])) }
+// Leaves what the value displays in the room for it.
+fn show<T: fmt::Display>(room: &mut String, text: &T) -> Result<(), OutOfMemory>
+    ensures { OnOk result (IfSome (T.output text.now) (λ octets. string_bytes room.new ≡ octets)) }
 {
-    let room = &mut texts[place];
     room.clear();
     write!(room, "{text}")?;
+    Ok(())
+}
+
+// The text of what a value displays.
+#[derive(Clone, Copy)]
+struct Shown<'a>(&'a str);
+
+impl Text for Shown<'_> {
+    ghost text = { λ s. s.0.now };
+
+    fn put(&self, draft: &mut Draft) -> Result<(), OutOfMemory> {
+        draft.put_octets(self.0.as_bytes())
+    }
+}
+
+// Puts the text of the value behind those that are done, and its span behind theirs.
+fn add_to<T: Text>(draft: &mut Draft, spans: &mut Vec<Span>, text: &T) -> Result<(), OutOfMemory>
+    requires { draft.old.text ≡ [] }
+    ensures octets { OnOk result (draft.new.done ≡ draft.old.done ++ T.text text.now) }
+    ensures spans { OnOk result (spans.new.items ≡ spans.old.items ++ record {
+      start = length draft.old.done;
+      end = length draft.new.done;
+    } ∷ []) }
+    ensures whole { draft.new.text ≡ [] }
+    ensures same { OnErr result (draft.new.done ≡ draft.old.done) }
+    ensures same_spans { OnErr result (spans.new.items ≡ spans.old.items) }
+{
+    let added = finish(draft, spans, text);
+    if added.is_err() {
+        draft.drop_text();
+    }
+    added
+}
+
+// The same, but where it fails a part of the text may stand in the draft.
+fn finish<T: Text>(draft: &mut Draft, spans: &mut Vec<Span>, text: &T) -> Result<(), OutOfMemory>
+    requires { draft.old.text ≡ [] }
+    ensures octets { OnOk result (draft.new ≡ record {
+      done = draft.old.done ++ T.text text.now;
+      text = [];
+    }) }
+    ensures spans { OnOk result (spans.new.items ≡ spans.old.items ++ record {
+      start = length draft.old.done;
+      end = length draft.new.done;
+    } ∷ []) }
+    ensures same { OnErr result (draft.new.done ≡ draft.old.done) }
+    ensures same_spans { OnErr result (spans.new.items ≡ spans.old.items) }
+{
+    let start = draft.start();
+    text.put(draft)?;
+    let end = draft.octets().len();
+    spans.push(Span { start, end })?;
+    draft.end();
     Ok(())
 }

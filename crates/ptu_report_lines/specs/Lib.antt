@@ -1,2 +1,3 @@
 pub mod Statements
+pub mod Words
 pub mod Report

@@ -1,9 +1,13 @@
-ghost use Rattle.std.specs.Prelude.{Some};
-ghost use Rattle.ptu_report_lines.specs.Statements.{decision_text};
+ghost use Rattle.std.specs.Prelude.{◌≡◌, ◌≤◌, ◌+◌, ◌++◌, ◌∷◌, [], codes, length};
+ghost use Rattle.std.specs.Fmt.{decimal};
+ghost use Rattle.ptu_texts.specs.Texts.{kind_text};
+ghost use Rattle.ptu_report_lines.specs.Statements.{decision_text, words_text};
+ghost use Rattle.ptu_report_lines.specs.declared.decision.Decision.TheVariants as decisions;
 
+use crate::words::{Word, put_words};
 use ptu_texts::KindText;
 use ptu_units::{Kind, Moment};
-use std::fmt;
+use ptu_writing::LineText;
 
 /// What a grandmaster decided on a REQUEST or a CANCEL. Rates and capacities are in sixteenths of a
 /// message per second.
@@ -56,21 +60,20 @@ pub enum Decision {
     },
 }
 
-impl fmt::Display for Decision {
-    ghost output = { λ d. Some (decision_text d) };
-
-    fn fmt<W: fmt::Write>(&self, f: &mut fmt::Formatter<W>) -> fmt::Result {
-        match *self {
+impl Decision {
+    /// Puts its text before what stands in the line.
+    pub fn put(self, line: &mut LineText)
+        requires { 131 ≤ line.old.room }
+        ensures text { line.new.text ≡ decision_text self ++ line.old.text }
+        ensures room { line.old.room ≤ line.new.room + 131 }
+    {
+        match self {
             Decision::Granted {
                 kind,
                 log,
                 at,
                 until,
-            } => {
-                let kind = KindText(kind);
-                let at = at.nanos();
-                write!(f, "granted {kind} {log} at {at} until {until}")
-            }
+            } => put_granted(kind, log, at, until, line),
             Decision::Short {
                 kind,
                 log,
@@ -78,34 +81,98 @@ impl fmt::Display for Decision {
                 others,
                 rate,
                 capacity,
-            } => {
-                let kind = KindText(kind);
-                let at = at.nanos();
-                write!(
-                    f,
-                    "short {kind} {log} at {at} others {others} rate {rate} capacity {capacity}"
-                )
+            } => put_short(kind, log, at, others, rate, capacity, line),
+            Decision::OutsideType { code } => {
+                line.put_octet(code);
+                line.put_str("outside type ");
             }
-            Decision::OutsideType { code } => write!(f, "outside type {code}"),
             Decision::OutsideLog { kind, log } => {
-                let kind = KindText(kind);
-                write!(f, "outside log {kind} {log}")
+                put_words(&[Word::Kind(kind), Word::Log(log)], line);
+                line.put_str("outside log ");
             }
             Decision::OutsideDuration { kind, log, seconds } => {
-                let kind = KindText(kind);
-                write!(f, "outside duration {kind} {log} {seconds}")
+                let seconds = u64::from(seconds);
+                put_words(
+                    &[Word::Kind(kind), Word::Log(log), Word::Number(seconds)],
+                    line,
+                );
+                line.put_str("outside duration ");
             }
-            Decision::Cancelled { kind, at } => {
-                let kind = KindText(kind);
-                let at = at.nanos();
-                write!(f, "cancelled {kind} at {at}")
+            Decision::Cancelled { kind, at } => put_ended("cancelled", kind, at, line),
+            Decision::Nothing { kind, at } => put_ended("nothing", kind, at, line),
+            Decision::NoKind { code } => {
+                line.put_octet(code);
+                line.put_str("nothing ");
             }
-            Decision::Nothing { kind, at } => {
-                let kind = KindText(kind);
-                let at = at.nanos();
-                write!(f, "nothing {kind} at {at}")
-            }
-            Decision::NoKind { code } => write!(f, "nothing {code}"),
         }
     }
+}
+
+// Puts a grant, piece by piece, since there are many.
+fn put_granted(kind: Kind, log: i8, at: Moment, until: u64, line: &mut LineText)
+    requires { 131 ≤ line.old.room }
+    ensures text { line.new.text
+        ≡ decision_text (decisions.Granted kind log at until) ++ line.old.text }
+    ensures room { line.old.room ≤ line.new.room + 131 }
+{
+    line.put_number(until);
+    line.put_str(" until ");
+    line.put_number(at.nanos());
+    line.put_str(" at ");
+    line.put_signed(log);
+    line.put_str(" ");
+    KindText(kind).put(line);
+    line.put_str("granted ");
+}
+
+// Puts that a request did not fit.
+fn put_short(
+    kind: Kind,
+    log: i8,
+    at: Moment,
+    others: u64,
+    rate: u64,
+    capacity: u64,
+    line: &mut LineText,
+)
+    requires { 131 ≤ line.old.room }
+    ensures text { line.new.text
+        ≡ decision_text (decisions.Short kind log at others rate capacity) ++ line.old.text }
+    ensures room { line.old.room ≤ line.new.room + 131 }
+{
+    put_words(
+        &[
+            Word::Name("short"),
+            Word::Kind(kind),
+            Word::Log(log),
+            Word::Name("at"),
+            Word::Number(at.nanos()),
+            Word::Name("others"),
+            Word::Number(others),
+            Word::Name("rate"),
+            Word::Number(rate),
+            Word::Name("capacity"),
+            Word::Number(capacity),
+        ],
+        line,
+    );
+}
+
+// Puts what a CANCEL found, at a moment.
+fn put_ended(found: &'static str, kind: Kind, at: Moment, line: &mut LineText)
+    requires short { length found.now ≤ 9 }
+    requires room { 131 ≤ line.old.room }
+    ensures text { line.new.text ≡ words_text
+        (found.now ∷ kind_text kind ∷ codes "at" ∷ decimal at ∷ []) ++ line.old.text }
+    ensures room { line.old.room ≤ line.new.room + 131 }
+{
+    put_words(
+        &[
+            Word::Name(found),
+            Word::Kind(kind),
+            Word::Name("at"),
+            Word::Number(at.nanos()),
+        ],
+        line,
+    );
 }

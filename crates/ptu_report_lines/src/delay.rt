@@ -1,8 +1,9 @@
-ghost use Rattle.std.specs.Prelude.{Some};
+ghost use Rattle.std.specs.Prelude.{◌≡◌, ◌≤◌, ◌+◌, ◌++◌};
 ghost use Rattle.ptu_report_lines.specs.Statements.{delay_text};
 
+use crate::words::{Word, put_words};
 use ptu_units::Moment;
-use std::fmt;
+use ptu_writing::LineText;
 
 /// What a Delay_Req came to at a grandmaster.
 #[derive(Clone, Copy, Debug, PartialEq, Eq)]
@@ -15,23 +16,42 @@ pub enum DelayAnswer {
     TooSoon { at: Moment, earliest: u64 },
 }
 
-impl fmt::Display for DelayAnswer {
-    ghost output = { λ d. Some (delay_text d) };
-
-    fn fmt<W: fmt::Write>(&self, f: &mut fmt::Formatter<W>) -> fmt::Result {
-        match *self {
-            DelayAnswer::Answered { at } => {
-                let at = at.nanos();
-                write!(f, "answered at {at}")
-            }
-            DelayAnswer::NoGrant { at } => {
-                let at = at.nanos();
-                write!(f, "silent nogrant at {at}")
-            }
-            DelayAnswer::TooSoon { at, earliest } => {
-                let at = at.nanos();
-                write!(f, "silent soon at {at} earliest {earliest}")
-            }
+impl DelayAnswer {
+    /// Puts its text before what stands in the line.
+    pub fn put(self, line: &mut LineText)
+        requires { 70 ≤ line.old.room }
+        ensures text { line.new.text ≡ delay_text self ++ line.old.text }
+        ensures room { line.old.room ≤ line.new.room + 70 }
+    {
+        match self {
+            DelayAnswer::Answered { at } => put_words(
+                &[
+                    Word::Name("answered"),
+                    Word::Name("at"),
+                    Word::Number(at.nanos()),
+                ],
+                line,
+            ),
+            DelayAnswer::NoGrant { at } => put_words(
+                &[
+                    Word::Name("silent"),
+                    Word::Name("nogrant"),
+                    Word::Name("at"),
+                    Word::Number(at.nanos()),
+                ],
+                line,
+            ),
+            DelayAnswer::TooSoon { at, earliest } => put_words(
+                &[
+                    Word::Name("silent"),
+                    Word::Name("soon"),
+                    Word::Name("at"),
+                    Word::Number(at.nanos()),
+                    Word::Name("earliest"),
+                    Word::Number(earliest),
+                ],
+                line,
+            ),
         }
     }
 }

@@ -1,9 +1,9 @@
-ghost use Rattle.std.specs.Prelude.{Some};
+ghost use Rattle.std.specs.Prelude.{◌≡◌, ◌≤◌, ◌+◌, ◌++◌};
 ghost use Rattle.ptu_report_lines.specs.Statements.{hearing_text};
 
-use ptu_texts::AddressText;
+use crate::words::{Word, put_words};
 use ptu_units::Moment;
-use std::fmt;
+use ptu_writing::LineText;
 
 /// What a slave heard of a master, which is named by its address.
 #[derive(Clone, Copy, Debug, PartialEq, Eq)]
@@ -18,31 +18,56 @@ pub enum Hearing {
     DelayResp { master: u32, seq: u16, at: Moment },
 }
 
-impl fmt::Display for Hearing {
-    ghost output = { λ h. Some (hearing_text h) };
-
-    fn fmt<W: fmt::Write>(&self, f: &mut fmt::Formatter<W>) -> fmt::Result {
-        match *self {
-            Hearing::Announce { master, class, at } => {
-                let master = AddressText(master);
-                let at = at.nanos();
-                write!(f, "announce {master} class {class} at {at}")
-            }
-            Hearing::Sync { master, seq, at } => {
-                let master = AddressText(master);
-                let at = at.nanos();
-                write!(f, "sync {master} seq {seq} at {at}")
-            }
-            Hearing::FollowUp { master, at } => {
-                let master = AddressText(master);
-                let at = at.nanos();
-                write!(f, "follow_up {master} at {at}")
-            }
-            Hearing::DelayResp { master, seq, at } => {
-                let master = AddressText(master);
-                let at = at.nanos();
-                write!(f, "delay_resp {master} seq {seq} at {at}")
-            }
+impl Hearing {
+    /// Puts its text before what stands in the line.
+    pub fn put(self, line: &mut LineText)
+        requires { 80 ≤ line.old.room }
+        ensures text { line.new.text ≡ hearing_text self ++ line.old.text }
+        ensures room { line.old.room ≤ line.new.room + 80 }
+    {
+        match self {
+            Hearing::Announce { master, class, at } => put_words(
+                &[
+                    Word::Name("announce"),
+                    Word::Address(master),
+                    Word::Name("class"),
+                    Word::Number(u64::from(class)),
+                    Word::Name("at"),
+                    Word::Number(at.nanos()),
+                ],
+                line,
+            ),
+            Hearing::Sync { master, seq, at } => put_words(
+                &[
+                    Word::Name("sync"),
+                    Word::Address(master),
+                    Word::Name("seq"),
+                    Word::Number(u64::from(seq)),
+                    Word::Name("at"),
+                    Word::Number(at.nanos()),
+                ],
+                line,
+            ),
+            Hearing::FollowUp { master, at } => put_words(
+                &[
+                    Word::Name("follow_up"),
+                    Word::Address(master),
+                    Word::Name("at"),
+                    Word::Number(at.nanos()),
+                ],
+                line,
+            ),
+            Hearing::DelayResp { master, seq, at } => put_words(
+                &[
+                    Word::Name("delay_resp"),
+                    Word::Address(master),
+                    Word::Name("seq"),
+                    Word::Number(u64::from(seq)),
+                    Word::Name("at"),
+                    Word::Number(at.nanos()),
+                ],
+                line,
+            ),
         }
     }
 }

@@ -1,5 +1,5 @@
-//! The lines of a report on a script: what happened at each of its lines, with `Display`, whose
-//! text the contract knows.
+//! The lines of a report on a script: what happened at each of its lines, put as octets that the
+//! contract knows.
 #![tactic(auto)]
 
 mod decision;
@@ -18,10 +18,10 @@ pub use delay::DelayAnswer;
 pub use hearing::Hearing;
 pub use reason::Reason;
 pub use report_line::ReportLine;
-pub use sent::Sent;
+pub use sent::{Sent, SentLine};
 pub use signal::Received;
 pub use statement::Statement;
-pub use words::ChannelText;
+pub use words::{ChannelText, Word, put_words};
 
 #[cfg(test)]
 mod tests;

@@ -1,9 +1,9 @@
-ghost use Rattle.std.specs.Prelude.{Some};
+ghost use Rattle.std.specs.Prelude.{◌≡◌, ◌≤◌, ◌+◌, ◌++◌};
 ghost use Rattle.ptu_report_lines.specs.Statements.{reason_text};
 
 use ptu_messages::MessageFault;
 use ptu_texts::FaultText;
-use std::fmt;
+use ptu_writing::LineText;
 
 /// Why a node ignored a datagram.
 #[derive(Clone, Copy, Debug, PartialEq, Eq)]
@@ -22,20 +22,32 @@ pub enum Reason {
     Target,
 }
 
-impl fmt::Display for Reason {
-    ghost output = { λ r. Some (reason_text r) };
-
-    fn fmt<W: fmt::Write>(&self, f: &mut fmt::Formatter<W>) -> fmt::Result {
-        match *self {
+impl Reason {
+    /// Puts its text before what stands in the line.
+    pub fn put(self, line: &mut LineText)
+        requires { 86 ≤ line.old.room }
+        ensures text { line.new.text ≡ reason_text self ++ line.old.text }
+        ensures room { line.old.room ≤ line.new.room + 86 }
+    {
+        match self {
             Reason::Fault(fault) => {
-                let fault = FaultText(fault);
-                write!(f, "fault {fault}")
+                FaultText(fault).put(line);
+                line.put_str("fault ");
             }
-            Reason::Type(code) => write!(f, "type {code}"),
-            Reason::Other(code) => write!(f, "other {code}"),
-            Reason::Stranger => f.write_str("stranger"),
-            Reason::Domain(domain) => write!(f, "domain {domain}"),
-            Reason::Target => f.write_str("target"),
+            Reason::Type(code) => {
+                line.put_octet(code);
+                line.put_str("type ");
+            }
+            Reason::Other(code) => {
+                line.put_octet(code);
+                line.put_str("other ");
+            }
+            Reason::Stranger => line.put_str("stranger"),
+            Reason::Domain(domain) => {
+                line.put_octet(domain);
+                line.put_str("domain ");
+            }
+            Reason::Target => line.put_str("target"),
         }
     }
 }

@@ -1,8 +1,11 @@
-ghost use Rattle.std.specs.Prelude.{Some};
+ghost use Rattle.std.specs.Prelude.{◌≡◌, ◌++◌, OnOk};
 ghost use Rattle.ptu_report_lines.specs.Report.{line_text};
+ghost use Rattle.ptu_report_lines.specs.declared.report_line.ReportLine.TheVariants as ends;
 
 use crate::statement::Statement;
-use std::fmt;
+use crate::words::{Word, put_words};
+use ptu_units::OutOfMemory;
+use ptu_writing::{Draft, LineText, Text};
 
 /// A line of a report. Its text has the 0A at its end.
 #[derive(Debug, Drop)]
@@ -13,13 +16,32 @@ pub enum ReportLine {
     End { lines: u64, datagrams: u64 },
 }
 
-impl fmt::Display for ReportLine {
-    ghost output = { λ l. Some (line_text l) };
+impl Text for ReportLine {
+    ghost text = { λ l. line_text l };
 
-    fn fmt<W: fmt::Write>(&self, f: &mut fmt::Formatter<W>) -> fmt::Result {
+    fn put(&self, draft: &mut Draft) -> Result<(), OutOfMemory> {
         match self {
-            ReportLine::At { number, statement } => writeln!(f, "{number} {statement}"),
-            ReportLine::End { lines, datagrams } => writeln!(f, "end {lines} {datagrams}"),
+            ReportLine::At { number, statement } => statement.put_at(*number, draft),
+            ReportLine::End { lines, datagrams } => put_end(*lines, *datagrams, draft),
         }
     }
+}
+
+// Puts the line that the script was read to its end.
+fn put_end(lines: u64, datagrams: u64, draft: &mut Draft) -> Result<(), OutOfMemory>
+    ensures put { OnOk result
+        (draft.new.text ≡ draft.old.text ++ line_text (ends.End lines datagrams)) }
+    ensures done { draft.new.done ≡ draft.old.done }
+{
+    let mut line = LineText::new();
+    line.put_str("\n");
+    put_words(
+        &[
+            Word::Name("end"),
+            Word::Number(lines),
+            Word::Number(datagrams),
+        ],
+        &mut line,
+    );
+    draft.put_line(&line)
 }

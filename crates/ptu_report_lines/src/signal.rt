@@ -1,10 +1,9 @@
-ghost use Rattle.std.specs.Prelude.{Some};
+ghost use Rattle.std.specs.Prelude.{◌≡◌, ◌≤◌, ◌+◌, ◌++◌};
 ghost use Rattle.ptu_report_lines.specs.Statements.{received_text};
 
-use crate::words::CodeText;
-use ptu_texts::KindText;
+use crate::words::{Word, put_words};
 use ptu_units::Kind;
-use std::fmt;
+use ptu_writing::LineText;
 
 /// What a TLV of a Signaling said to a slave.
 #[derive(Clone, Copy, Debug, PartialEq, Eq)]
@@ -19,27 +18,29 @@ pub enum Received {
     Ack { code: u8 },
 }
 
-impl fmt::Display for Received {
-    ghost output = { λ r. Some (received_text r) };
-
-    fn fmt<W: fmt::Write>(&self, f: &mut fmt::Formatter<W>) -> fmt::Result {
-        match *self {
-            Received::Grant { kind, seconds } => {
-                let kind = KindText(kind);
-                write!(f, "grant {kind} {seconds}")
-            }
+impl Received {
+    /// Puts its text before what stands in the line.
+    pub fn put(self, line: &mut LineText)
+        requires { 40 ≤ line.old.room }
+        ensures text { line.new.text ≡ received_text self ++ line.old.text }
+        ensures room { line.old.room ≤ line.new.room + 40 }
+    {
+        match self {
+            Received::Grant { kind, seconds } => put_words(
+                &[
+                    Word::Name("grant"),
+                    Word::Kind(kind),
+                    Word::Number(u64::from(seconds)),
+                ],
+                line,
+            ),
             Received::Denial { kind } => {
-                let kind = KindText(kind);
-                write!(f, "denial {kind}")
+                put_words(&[Word::Name("denial"), Word::Kind(kind)], line);
             }
             Received::Cancel { code } => {
-                let code = CodeText(code);
-                write!(f, "cancel {code}")
+                put_words(&[Word::Name("cancel"), Word::Code(code)], line);
             }
-            Received::Ack { code } => {
-                let code = CodeText(code);
-                write!(f, "ack {code}")
-            }
+            Received::Ack { code } => put_words(&[Word::Name("ack"), Word::Code(code)], line),
         }
     }
 }

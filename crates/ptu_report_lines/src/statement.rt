@@ -1,20 +1,23 @@
-ghost use Rattle.std.specs.Prelude.{Some};
-ghost use Rattle.std.specs.Fmt.{WritesOnOk};
-ghost use Rattle.ptu_report_lines.specs.Statements.{statement_text, sent_text};
+ghost use Rattle.std.specs.Prelude.{◌≡◌, ◌≤◌, ◌+◌, ◌++◌, ◌∷◌, OnOk};
+ghost use Rattle.std.specs.Fmt.{decimal};
+ghost use Rattle.ptu_script.specs.Cause as causes;
+ghost use Rattle.ptu_report_lines.specs.Report.{line_text};
+ghost use Rattle.ptu_report_lines.specs.Statements.{statement_text};
+ghost use Rattle.ptu_report_lines.specs.declared.report_line.ReportLine.TheVariants as lines;
+ghost use Rattle.ptu_report_lines.specs.declared.statement.Statement.TheVariants as statements;
 
 use crate::decision::Decision;
 use crate::delay::DelayAnswer;
 use crate::hearing::Hearing;
 use crate::reason::Reason;
-use crate::sent::Sent;
+use crate::sent::{Sent, SentLine};
 use crate::signal::Received;
-use crate::words::{ChannelText, SelectedText};
+use crate::words::{Word, put_words};
 use ptu_header::PortIdentity;
 use ptu_history::Client;
 use ptu_script::Cause;
-use ptu_texts::{AddressText, IdentityText, KindText, LogText, OctetsText};
-use ptu_units::{Kind, Log, Moment};
-use std::fmt;
+use ptu_units::{Kind, Log, Moment, OutOfMemory};
+use ptu_writing::{Draft, LineText, Text};
 
 /// What happened at a line of a script.
 #[derive(Debug, Drop)]
@@ -57,54 +60,169 @@ pub enum Statement {
     Bad(Cause),
 }
 
-// A datagram that was sent, with its number.
-fn write_sent<W: fmt::Write>(datagram: u64, sent: &Sent, f: &mut fmt::Formatter<W>) -> fmt::Result
-    ensures { WritesOnOk W.write_str_gives f.old result (sent_text datagram sent.now) f.new }
-{
-    let from = AddressText(sent.from);
-    let to = AddressText(sent.to);
-    let channel = ChannelText(sent.channel);
-    let octets = OctetsText(sent.octets.bytes());
-    write!(f, "send {datagram} {from} {to} {channel} {octets}")
-}
-
-impl fmt::Display for Statement {
-    ghost output = { λ s. Some (statement_text s) };
-
-    fn fmt<W: fmt::Write>(&self, f: &mut fmt::Formatter<W>) -> fmt::Result {
+impl Statement {
+    /// Puts the line of this statement at the script's line of this number, from 1, behind the
+    /// octets of the draft, with the 0A at its end.
+    ///
+    /// # Errors
+    /// `OutOfMemory`; a part of the line may stand in the draft then.
+    pub fn put_at(&self, number: u64, draft: &mut Draft) -> Result<(), OutOfMemory>
+        ensures put { OnOk result
+            (draft.new.text ≡ draft.old.text ++ line_text (lines.At number self.now)) }
+        ensures done { draft.new.done ≡ draft.old.done }
+    {
+        let mut line = LineText::new();
+        line.put_str("\n");
         match self {
-            Statement::Decided(decision) => write!(f, "{decision}"),
-            Statement::Asked(answer) => write!(f, "{answer}"),
-            Statement::Heard(hearing) => write!(f, "heard {hearing}"),
-            Statement::Received(received) => write!(f, "{received}"),
-            Statement::Ignored(reason) => write!(f, "ignored {reason}"),
+            Statement::Decided(decision) => decision.put(&mut line),
+            Statement::Asked(answer) => answer.put(&mut line),
+            Statement::Heard(hearing) => put_heard(*hearing, &mut line),
+            Statement::Received(received) => received.put(&mut line),
+            Statement::Ignored(reason) => put_ignored(*reason, &mut line),
             Statement::Capacity {
                 grandmaster,
                 capacity,
                 at,
-            } => {
-                let grandmaster = AddressText(*grandmaster);
-                let at = at.nanos();
-                write!(f, "capacity {grandmaster} {capacity} at {at}")
+            } => put_capacity(*grandmaster, *capacity, *at, &mut line),
+            Statement::Shed { kind, log, client } => put_shed(*kind, *log, client, &mut line),
+            Statement::Nobody => line.put_str("nobody"),
+            Statement::Sent { datagram, sent } => {
+                let datagram = *datagram;
+                return SentLine {
+                    number,
+                    datagram,
+                    sent,
+                }
+                .put(draft);
             }
-            Statement::Shed { kind, log, client } => {
-                let kind = KindText(*kind);
-                let log = LogText(*log);
-                let ip = AddressText(client.ip);
-                let identity = IdentityText(PortIdentity {
-                    clock: client.clock,
-                    port: client.port,
-                });
-                write!(f, "shed {kind} {log} {ip} {identity}")
-            }
-            Statement::Nobody => f.write_str("nobody"),
-            Statement::Sent { datagram, sent } => write_sent(*datagram, sent, f),
-            Statement::Selected { slave, master } => {
-                let slave = AddressText(*slave);
-                let master = SelectedText(*master);
-                write!(f, "selected {slave} {master}")
-            }
-            Statement::Bad(cause) => write!(f, "bad {cause}"),
+            Statement::Selected { slave, master } => put_selected(*slave, *master, &mut line),
+            Statement::Bad(cause) => put_bad(*cause, &mut line),
         }
+        finish(number, &mut line, draft)
+    }
+}
+
+// Puts the number before what stands, and the line behind the octets of the draft.
+fn finish(number: u64, line: &mut LineText, draft: &mut Draft) -> Result<(), OutOfMemory>
+    requires { 21 ≤ line.old.room }
+    ensures put { OnOk result (draft.new.text
+        ≡ draft.old.text ++ (decimal number ++ 32 ∷ line.old.text)) }
+    ensures done { draft.new.done ≡ draft.old.done }
+{
+    line.put_str(" ");
+    line.put_number(number);
+    draft.put_line(line)
+}
+
+// Puts the new capacity of a grandmaster before what stands.
+fn put_capacity(grandmaster: u32, capacity: u64, at: Moment, line: &mut LineText)
+    requires { 80 ≤ line.old.room }
+    ensures text { line.new.text
+        ≡ statement_text (statements.Capacity grandmaster capacity at) ++ line.old.text }
+    ensures room { line.old.room ≤ line.new.room + 80 }
+{
+    put_words(
+        &[
+            Word::Name("capacity"),
+            Word::Address(grandmaster),
+            Word::Number(capacity),
+            Word::Name("at"),
+            Word::Number(at.nanos()),
+        ],
+        line,
+    );
+}
+
+// Puts a grant that was shed before what stands.
+fn put_shed(kind: Kind, log: Log, client: &Client, line: &mut LineText)
+    requires { 80 ≤ line.old.room }
+    ensures text { line.new.text
+        ≡ statement_text (statements.Shed kind log client.now) ++ line.old.text }
+    ensures room { line.old.room ≤ line.new.room + 80 }
+{
+    let identity = PortIdentity {
+        clock: client.clock,
+        port: client.port,
+    };
+    put_words(
+        &[
+            Word::Name("shed"),
+            Word::Kind(kind),
+            Word::Log(log.value()),
+            Word::Address(client.ip),
+            Word::Identity(identity),
+        ],
+        line,
+    );
+}
+
+// Puts what a slave selects before what stands.
+fn put_selected(slave: u32, master: Option<u32>, line: &mut LineText)
+    requires { 42 ≤ line.old.room }
+    ensures text { line.new.text
+        ≡ statement_text (statements.Selected slave master) ++ line.old.text }
+    ensures room { line.old.room ≤ line.new.room + 42 }
+{
+    put_words(
+        &[
+            Word::Name("selected"),
+            Word::Address(slave),
+            Word::Selected(master),
+        ],
+        line,
+    );
+}
+
+// Puts what a slave heard before what stands.
+fn put_heard(hearing: Hearing, line: &mut LineText)
+    requires { 86 ≤ line.old.room }
+    ensures text { line.new.text ≡ statement_text (statements.Heard hearing) ++ line.old.text }
+    ensures room { line.old.room ≤ line.new.room + 86 }
+{
+    hearing.put(line);
+    line.put_str("heard ");
+}
+
+// Puts that a datagram was ignored before what stands.
+fn put_ignored(reason: Reason, line: &mut LineText)
+    requires { 94 ≤ line.old.room }
+    ensures text { line.new.text ≡ statement_text (statements.Ignored reason) ++ line.old.text }
+    ensures room { line.old.room ≤ line.new.room + 94 }
+{
+    reason.put(line);
+    line.put_str("ignored ");
+}
+
+// Puts that the script's line is refused before what stands.
+fn put_bad(cause: Cause, line: &mut LineText)
+    requires { 13 ≤ line.old.room }
+    ensures text { line.new.text ≡ statement_text (statements.Bad cause) ++ line.old.text }
+    ensures room { line.old.room ≤ line.new.room + 13 }
+{
+    put_cause(cause, line);
+    line.put_str("bad ");
+}
+
+// Puts the cause of a refusal before what stands.
+fn put_cause(cause: Cause, line: &mut LineText)
+    requires { 9 ≤ line.old.room }
+    ensures text { line.new.text ≡ causes.text_of cause ++ line.old.text }
+    ensures room { line.old.room ≤ line.new.room + 9 }
+{
+    match cause {
+        Cause::Size => line.put_str("size"),
+        Cause::Long => line.put_str("long"),
+        Cause::Text => line.put_str("text"),
+        Cause::Word => line.put_str("word"),
+        Cause::Count => line.put_str("count"),
+        Cause::Field(number) => {
+            line.put_octet(number);
+            line.put_str("field ");
+        }
+        Cause::Order => line.put_str("order"),
+        Cause::Node => line.put_str("node"),
+        Cause::Full => line.put_str("full"),
+        Cause::Number => line.put_str("number"),
+        Cause::Stock => line.put_str("stock"),
     }
 }

@@ -1,47 +1,97 @@
-ghost use Rattle.std.specs.Prelude.{Some};
-ghost use Rattle.ptu_report_lines.specs.Statements.{channel_text, code_text, selected_text};
+ghost use Rattle.std.specs.Prelude.{◌≡◌, ◌≤◌, ◌+◌, ◌++◌, Some};
+ghost use Rattle.ptu_report_lines.specs.Statements.{channel_text, words_text};
+ghost use Rattle.ptu_report_lines.specs.Words.{most, most_of, spaced_text, texts_of, word_text};
 
+use ptu_header::PortIdentity;
 use ptu_outside::Channel;
-use ptu_texts::{AddressText, KindText};
+use ptu_texts::{AddressText, IdentityText, KindText};
 use ptu_units::Kind;
+use ptu_writing::LineText;
 use std::fmt;
 
-// A messageType: the name of its kind, or its number where it is no kind.
-#[derive(Clone, Copy)]
-pub(crate) struct CodeText(pub u8);
+/// A word of a line.
+#[derive(Clone, Copy, Debug, PartialEq, Eq)]
+pub enum Word {
+    /// A word of the language.
+    Name(&'static str),
+    /// A number, in decimal.
+    Number(u64),
+    /// A logarithm, in decimal and with its sign where it is negative.
+    Log(i8),
+    /// The name of a kind.
+    Kind(Kind),
+    /// A messageType: the name of its kind, or its number where it is no kind.
+    Code(u8),
+    /// An IPv4 address, in dotted decimal.
+    Address(u32),
+    /// A port identity.
+    Identity(PortIdentity),
+    /// The name of a channel.
+    Channel(Channel),
+    /// The address of the master that is selected, or the word `none`.
+    Selected(Option<u32>),
+}
 
-impl fmt::Display for CodeText {
-    ghost output = { λ c. Some (code_text c.0) };
-
-    fn fmt<W: fmt::Write>(&self, f: &mut fmt::Formatter<W>) -> fmt::Result {
-        match Kind::of(self.0) {
-            Some(kind) => {
-                let kind = KindText(kind);
-                write!(f, "{kind}")
-            }
-            None => {
-                let code = self.0;
-                write!(f, "{code}")
-            }
+impl Word {
+    // Puts it before what stands in the line.
+    fn put(self, line: &mut LineText)
+        requires { most self ≤ line.old.room }
+        ensures text { line.new.text ≡ word_text self ++ line.old.text }
+        ensures room { line.old.room ≤ line.new.room + most self }
+    {
+        match self {
+            Word::Name(name) => line.put_str(name),
+            Word::Number(number) => line.put_number(number),
+            Word::Log(log) => line.put_signed(log),
+            Word::Kind(kind) => KindText(kind).put(line),
+            Word::Code(code) => match Kind::of(code) {
+                Some(kind) => KindText(kind).put(line),
+                None => line.put_octet(code),
+            },
+            Word::Address(ip) => AddressText(ip).put(line),
+            Word::Identity(identity) => IdentityText(identity).put(line),
+            Word::Channel(channel) => put_channel(channel, line),
+            Word::Selected(Some(master)) => AddressText(master).put(line),
+            Word::Selected(None) => line.put_str("none"),
         }
     }
 }
 
-// The address of the master that is selected, or the word `none`.
-#[derive(Clone, Copy)]
-pub(crate) struct SelectedText(pub Option<u32>);
+/// Puts the name of the channel before what stands in the line.
+pub(crate) fn put_channel(channel: Channel, line: &mut LineText)
+    requires { 7 ≤ line.old.room }
+    ensures text { line.new.text ≡ channel_text channel ++ line.old.text }
+    ensures room { line.old.room ≤ line.new.room + 7 }
+{
+    match channel {
+        Channel::Event => line.put_str("event"),
+        Channel::General => line.put_str("general"),
+    }
+}
 
-impl fmt::Display for SelectedText {
-    ghost output = { λ s. Some (selected_text s.0) };
+// Puts the words, each behind a space, before what stands in the line.
+fn put_spaced(words: &[Word], line: &mut LineText)
+    requires { most_of words.now ≤ line.old.room }
+    ensures text { line.new.text ≡ spaced_text (texts_of words.now) ++ line.old.text }
+    ensures room { line.old.room ≤ line.new.room + most_of words.now }
+{
+    let mut left = words.len();
+    'words: while left > 0 {
+        left -= 1;
+        words[left].put(line);
+        line.put_str(" ");
+    }
+}
 
-    fn fmt<W: fmt::Write>(&self, f: &mut fmt::Formatter<W>) -> fmt::Result {
-        match self.0 {
-            Some(master) => {
-                let master = AddressText(master);
-                write!(f, "{master}")
-            }
-            None => f.write_str("none"),
-        }
+/// Puts the words, with one space between two of them, before what stands in the line.
+pub fn put_words(words: &[Word], line: &mut LineText)
+    requires { most_of words.now ≤ line.old.room }
+    ensures text { line.new.text ≡ words_text (texts_of words.now) ++ line.old.text }
+    ensures room { line.old.room ≤ line.new.room + most_of words.now }
+{
+    if let Some((first, rest)) = words.split_first() {
+        put_spaced(rest, line);
+        first.put(line);
     }
 }
 

@@ -1,17 +1,48 @@
 //! What is wrong with a datagram, in the words of a line.
 
-ghost use Rattle.std.specs.Prelude.{Some};
+ghost use Rattle.std.specs.Prelude.{◌≡◌, ◌≤◌, ◌+◌, ◌++◌, Some};
 ghost use Rattle.ptu_texts.specs.Faults.{fault_text, header_fault_text, tlv_fault_text};
 
 use ptu_header::HeaderFault;
 use ptu_messages::MessageFault;
 use ptu_tlvs::TlvFault;
+use ptu_writing::LineText;
 use std::fmt;
 
 /// Why octets spell no message: one word for the fault, and its numbers. `MessageFault` itself
 /// prints a sentence.
 #[derive(Clone, Copy, Debug, PartialEq, Eq)]
 pub struct FaultText(pub MessageFault);
+
+impl FaultText {
+    /// Puts it before what stands in the line.
+    pub fn put(self, line: &mut LineText)
+        requires { 80 ≤ line.old.room }
+        ensures text { line.new.text ≡ fault_text self.0 ++ line.old.text }
+        ensures room { line.old.room ≤ line.new.room + 80 }
+    {
+        match self.0 {
+            MessageFault::Header(fault) => HeaderFaultText(fault).put(line),
+            MessageFault::Body { said, need } => {
+                line.put_number(need as u64);
+                line.put_str(" ");
+                line.put_number(said as u64);
+                line.put_str("body ");
+            }
+            MessageFault::TooMany { at } => {
+                line.put_number(at as u64);
+                line.put_str("toomany ");
+            }
+            MessageFault::Tlv { at, fault } => {
+                TlvFaultText(fault).put(line);
+                line.put_str(" ");
+                line.put_number(at as u64);
+                line.put_str("tlv ");
+            }
+            MessageFault::OutOfMemory => line.put_str("memory"),
+        }
+    }
+}
 
 impl fmt::Display for FaultText {
     ghost output = { λ f. Some (fault_text f.0) };
@@ -37,6 +68,36 @@ impl fmt::Display for FaultText {
 #[derive(Clone, Copy)]
 struct HeaderFaultText(HeaderFault);
 
+impl HeaderFaultText {
+    // Puts it before what stands in the line.
+    fn put(self, line: &mut LineText)
+        requires { 50 ≤ line.old.room }
+        ensures text { line.new.text ≡ header_fault_text self.0 ++ line.old.text }
+        ensures room { line.old.room ≤ line.new.room + 50 }
+    {
+        match self.0 {
+            HeaderFault::Short { have } => {
+                line.put_number(have as u64);
+                line.put_str("short ");
+            }
+            HeaderFault::Version { found } => {
+                line.put_octet(found);
+                line.put_str("version ");
+            }
+            HeaderFault::Sdo { found } => {
+                line.put_octet(found);
+                line.put_str("sdo ");
+            }
+            HeaderFault::Length { said, have } => {
+                line.put_number(have as u64);
+                line.put_str(" ");
+                line.put_number(said as u64);
+                line.put_str("length ");
+            }
+        }
+    }
+}
+
 impl fmt::Display for HeaderFaultText {
     ghost output = { λ f. Some (header_fault_text f.0) };
 
@@ -53,6 +114,34 @@ impl fmt::Display for HeaderFaultText {
 // The same of a TLV, behind its place.
 #[derive(Clone, Copy)]
 struct TlvFaultText(TlvFault);
+
+impl TlvFaultText {
+    // Puts it before what stands in the line.
+    fn put(self, line: &mut LineText)
+        requires { 50 ≤ line.old.room }
+        ensures text { line.new.text ≡ tlv_fault_text self.0 ++ line.old.text }
+        ensures room { line.old.room ≤ line.new.room + 50 }
+    {
+        match self.0 {
+            TlvFault::Short { have } => {
+                line.put_number(have as u64);
+                line.put_str("short ");
+            }
+            TlvFault::Overrun { said, have } => {
+                line.put_number(have as u64);
+                line.put_str(" ");
+                line.put_number(said as u64);
+                line.put_str("overrun ");
+            }
+            TlvFault::Length { tlv_type, said } => {
+                line.put_number(said as u64);
+                line.put_str(" ");
+                line.put_number(u64::from(tlv_type));
+                line.put_str("length ");
+            }
+        }
+    }
+}
 
 impl fmt::Display for TlvFaultText {
     ghost output = { λ f. Some (tlv_fault_text f.0) };

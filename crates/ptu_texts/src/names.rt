@@ -1,17 +1,36 @@
 //! Addresses, identities, kinds and logarithms.
 
-ghost use Rattle.std.specs.Prelude.{Some};
+ghost use Rattle.std.specs.Prelude.{◌≡◌, ◌≤◌, ◌+◌, ◌++◌, Some};
 ghost use Rattle.std.specs.Fmt.{signed_decimal};
 ghost use Rattle.ptu_texts.specs.Texts.{address_text, clock_text, identity_text, kind_text};
 
 use crate::octets::OctetsText;
 use ptu_header::PortIdentity;
 use ptu_units::{Kind, Log};
+use ptu_writing::LineText;
 use std::fmt;
 
 /// An IPv4 address, in dotted decimal.
 #[derive(Clone, Copy, Debug, PartialEq, Eq)]
 pub struct AddressText(pub u32);
+
+impl AddressText {
+    /// Puts it before what stands in the line.
+    pub fn put(self, line: &mut LineText)
+        requires { 15 ≤ line.old.room }
+        ensures text { line.new.text ≡ address_text self.0 ++ line.old.text }
+        ensures room { line.old.room ≤ line.new.room + 15 }
+    {
+        let [a, b, c, d] = self.0.to_be_bytes();
+        line.put_octet(d);
+        line.put_str(".");
+        line.put_octet(c);
+        line.put_str(".");
+        line.put_octet(b);
+        line.put_str(".");
+        line.put_octet(a);
+    }
+}
 
 impl fmt::Display for AddressText {
     ghost output = { λ a. Some (address_text a.0) };
@@ -25,6 +44,17 @@ impl fmt::Display for AddressText {
 /// A clockIdentity, as 16 hexadecimal digits in lower case (IEEE 1588-2019 clause 5.3.4).
 #[derive(Clone, Copy, Debug, PartialEq, Eq)]
 pub struct ClockText(pub u64);
+
+impl ClockText {
+    /// Puts it before what stands in the line.
+    pub fn put(self, line: &mut LineText)
+        requires { 16 ≤ line.old.room }
+        ensures text { line.new.text ≡ clock_text self.0 ++ line.old.text }
+        ensures room { line.old.room ≤ line.new.room + 16 }
+    {
+        line.put_digits(&self.0.to_be_bytes());
+    }
+}
 
 impl fmt::Display for ClockText {
     ghost output = { λ c. Some (clock_text c.0) };
@@ -40,6 +70,19 @@ impl fmt::Display for ClockText {
 #[derive(Clone, Copy, Debug, PartialEq, Eq)]
 pub struct IdentityText(pub PortIdentity);
 
+impl IdentityText {
+    /// Puts it before what stands in the line.
+    pub fn put(self, line: &mut LineText)
+        requires { 37 ≤ line.old.room }
+        ensures text { line.new.text ≡ identity_text self.0 ++ line.old.text }
+        ensures room { line.old.room ≤ line.new.room + 37 }
+    {
+        line.put_number(u64::from(self.0.port));
+        line.put_str("/");
+        ClockText(self.0.clock).put(line);
+    }
+}
+
 impl fmt::Display for IdentityText {
     ghost output = { λ i. Some (identity_text i.0) };
 
@@ -54,15 +97,18 @@ impl fmt::Display for IdentityText {
 #[derive(Clone, Copy, Debug, PartialEq, Eq)]
 pub struct KindText(pub Kind);
 
-impl fmt::Display for KindText {
-    ghost output = { λ k. Some (kind_text k.0) };
-
-    fn fmt<W: fmt::Write>(&self, f: &mut fmt::Formatter<W>) -> fmt::Result {
-        f.write_str(match self.0 {
+impl KindText {
+    /// Puts it before what stands in the line.
+    pub fn put(self, line: &mut LineText)
+        requires { 10 ≤ line.old.room }
+        ensures text { line.new.text ≡ kind_text self.0 ++ line.old.text }
+        ensures room { line.old.room ≤ line.new.room + 10 }
+    {
+        line.put_str(match self.0 {
             Kind::Announce => "announce",
             Kind::Sync => "sync",
             Kind::DelayResp => "delay_resp",
-        })
+        });
     }
 }
 
@@ -70,11 +116,13 @@ impl fmt::Display for KindText {
 #[derive(Clone, Copy, Debug, PartialEq, Eq)]
 pub struct LogText(pub Log);
 
-impl fmt::Display for LogText {
-    ghost output = { λ l. Some (signed_decimal l.0) };
-
-    fn fmt<W: fmt::Write>(&self, f: &mut fmt::Formatter<W>) -> fmt::Result {
-        let value = self.0.value();
-        write!(f, "{value}")
+impl LogText {
+    /// Puts it before what stands in the line.
+    pub fn put(self, line: &mut LineText)
+        requires { 4 ≤ line.old.room }
+        ensures text { line.new.text ≡ signed_decimal self.0 ++ line.old.text }
+        ensures room { line.old.room ≤ line.new.room + 4 }
+    {
+        line.put_signed(self.0.value());
     }
 }

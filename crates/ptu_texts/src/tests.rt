@@ -3,6 +3,7 @@ use ptu_header::PortIdentity;
 use ptu_messages::MessageFault;
 use ptu_tlvs::TlvFault;
 use ptu_units::{Kind, Log};
+use ptu_writing::LineText;
 use std::test::Fail;
 
 #[test]
@@ -16,11 +17,15 @@ fn values_are_written(rt: HostRuntime) -> Result<(), Fail> {
     let kind = KindText(Kind::DelayResp);
     let log = LogText(Log::of(Kind::Sync, -7).ok_or("in range")?);
     let octets = OctetsText(&[0x00, 0x9f, 0xa0]);
-    let text = format!(in alloc; "{address} {identity} {kind} {log} {octets}")?;
-    assert_eq!(rt;
-        text.as_str(),
-        "10.0.1.17 0a00000000000011/1 delay_resp -7 009fa0"
-    );
+    let text = format!(in alloc; "{address} {identity} {octets}")?;
+    assert_eq!(rt; text.as_str(), "10.0.1.17 0a00000000000011/1 009fa0");
+    let mut line = LineText::new();
+    log.put(&mut line);
+    kind.put(&mut line);
+    identity.put(&mut line);
+    address.put(&mut line);
+    let written = "10.0.1.170a00000000000011/1delay_resp-7".as_bytes();
+    assert_eq!(rt; line.octets(), written);
     let fault = FaultText(MessageFault::Tlv {
         at: 44,
         fault: TlvFault::Length {
@@ -30,5 +35,8 @@ fn values_are_written(rt: HostRuntime) -> Result<(), Fail> {
     });
     let text = format!(in alloc; "{fault}")?;
     assert_eq!(rt; text.as_str(), "tlv 44 length 4 5");
+    let mut line = LineText::new();
+    fault.put(&mut line);
+    assert_eq!(rt; line.octets(), text.as_bytes());
     Ok(())
 }

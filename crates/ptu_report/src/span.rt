@@ -1,0 +1,6 @@
+/// Where a text stands among octets: from a place up to another.
+#[derive(Clone, Copy, Debug, PartialEq, Eq)]
+pub(crate) struct Span {
+    pub start: usize,
+    pub end: usize,
+}

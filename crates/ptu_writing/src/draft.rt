@@ -1,0 +1,118 @@
+ghost use Rattle.std.specs.Prelude.{◌≡◌, ◌++◌, [], length, OnOk};
+ghost use Rattle.hex.specs.Hex.{encode_lower};
+ghost use Rattle.ptu_writing.specs.Draft.{Drafted};
+
+use crate::line::LineText;
+use ptu_units::OutOfMemory;
+use std::alloc::Global;
+use std::marker::Model;
+
+/// The octets of texts that are done, and behind them those of one in the making.
+#[derive(Debug, Drop)]
+pub struct Draft {
+    octets: Vec<u8>,
+    start: usize,
+}
+
+impl Model for Draft {
+    ghost use Rattle.std.specs.Prelude.{◌≤◌, take, drop, vec_len};
+    ghost use Rattle.ptu_writing.specs.Draft.{Drafted};
+
+    ghost Value = { Drafted };
+
+    ghost view = { λ d. record {
+      done = take d.start d.octets.items;
+      text = drop d.start d.octets.items;
+    } };
+
+    ghost invariant = { λ d. d.start ≤ vec_len d.octets };
+}
+
+impl Draft {
+    /// No text.
+    pub fn new(alloc: Global) -> Draft
+        ensures { result ≡ record { done = []; text = [] } }
+    {
+        Draft {
+            octets: Vec::new(alloc),
+            start: 0,
+        }
+    }
+
+    /// Puts the octets.
+    ///
+    /// # Errors
+    /// `OutOfMemory`.
+    pub fn put_octets(&mut self, octets: &[u8]) -> Result<(), OutOfMemory>
+        ensures put { OnOk result (self.new.text ≡ self.old.text ++ octets.now) }
+        ensures done { self.new.done ≡ self.old.done }
+    {
+        self.octets.extend_from_slice(octets)?;
+        Ok(())
+    }
+
+    /// Puts the octets of the line.
+    ///
+    /// # Errors
+    /// `OutOfMemory`.
+    pub fn put_line(&mut self, line: &LineText) -> Result<(), OutOfMemory>
+        ensures put { OnOk result (self.new.text ≡ self.old.text ++ line.now.text) }
+        ensures done { self.new.done ≡ self.old.done }
+    {
+        self.put_octets(line.octets())
+    }
+
+    /// Puts two hexadecimal digits in lower case for each octet.
+    ///
+    /// # Errors
+    /// `OutOfMemory`.
+    pub fn put_digits(&mut self, octets: &[u8]) -> Result<(), OutOfMemory>
+        ensures put { OnOk result (self.new.text ≡ self.old.text ++ encode_lower octets.now) }
+        ensures done { self.new.done ≡ self.old.done }
+    {
+        let before = self.octets.len();
+        let size = octets.len().checked_mul(2).ok_or(OutOfMemory)?;
+        let after = before.checked_add(size).ok_or(OutOfMemory)?;
+        self.octets.resize(after, 0)?;
+        if hex::encode_to_slice(octets, &mut self.octets[before..]).is_err() {
+            unreachable!();
+        }
+        Ok(())
+    }
+
+    /// The octets of all texts.
+    pub fn octets(&self) -> &[u8]
+        ensures { result.now ≡ self.now.done ++ self.now.text }
+    {
+        &self.octets
+    }
+
+    /// How many octets the texts that are done have.
+    pub fn start(&self) -> usize
+        ensures { result ≡ length self.now.done }
+    {
+        self.start
+    }
+
+    /// The text in the making is done.
+    pub fn end(&mut self)
+        ensures { self.new ≡ record { done = self.old.done ++ self.old.text; text = [] } }
+    {
+        self.start = self.octets.len();
+    }
+
+    /// Drops the text in the making.
+    pub fn drop_text(&mut self)
+        ensures { self.new ≡ record { done = self.old.done; text = [] } }
+    {
+        self.octets.truncate(self.start);
+    }
+
+    /// Drops all texts, and keeps their room.
+    pub fn clear(&mut self)
+        ensures { self.new ≡ record { done = []; text = [] } }
+    {
+        self.octets.clear();
+        self.start = 0;
+    }
+}

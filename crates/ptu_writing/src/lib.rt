@@ -1,0 +1,14 @@
+//! Texts as octets: lines that are written from their end to their front, and texts one behind the
+//! other in one room that is kept.
+#![tactic(auto)]
+
+mod draft;
+mod line;
+mod text;
+
+pub use draft::Draft;
+pub use line::LineText;
+pub use text::Text;
+
+#[cfg(test)]
+mod tests;

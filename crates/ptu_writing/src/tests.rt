@@ -1,0 +1,25 @@
+use super::*;
+use std::test::Fail;
+
+#[test]
+fn octets_are_put(rt: HostRuntime) -> Result<(), Fail> {
+    let mut line = LineText::new();
+    line.put_digits(&[0, 159, 160]);
+    line.put_str(" ");
+    line.put_signed(-128);
+    line.put_number(18_446_744_073_709_551_615);
+    line.put_octet(0);
+    let written = "018446744073709551615-128 009fa0".as_bytes();
+    assert_eq!(rt; line.octets(), written);
+    let mut draft = Draft::new(rt.alloc());
+    draft.put_line(&line)?;
+    draft.end();
+    draft.put_digits(&[10])?;
+    assert_eq!(rt;
+        draft.octets(),
+        "018446744073709551615-128 009fa00a".as_bytes()
+    );
+    draft.drop_text();
+    assert_eq!(rt; draft.octets(), written);
+    Ok(())
+}

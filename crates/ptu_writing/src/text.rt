@@ -1,0 +1,18 @@
+ghost use Rattle.std.specs.Prelude.{◌≡◌, ◌++◌, OnOk, List, ℕ};
+
+use crate::draft::Draft;
+use ptu_units::OutOfMemory;
+
+/// A value with a text. The text is octets.
+pub trait Text {
+    /// The octets of its text.
+    ghost text: { Self → List ℕ };
+
+    /// Puts its text behind the octets of the draft.
+    ///
+    /// # Errors
+    /// `OutOfMemory`; a part of the text may stand in the draft then.
+    fn put(&self, draft: &mut Draft) -> Result<(), OutOfMemory>
+        ensures put { OnOk result (draft.new.text ≡ draft.old.text ++ text self.now) }
+        ensures done { draft.new.done ≡ draft.old.done };
+}
