@@ -32,6 +32,12 @@ impl FlagJudge {
 impl Judge for FlagJudge {
     ghost held = { flag_held };
 
+    ghost hears = { λ old t seq new. new ≡ old };
+
+    ghost is_told = { λ old t unusable new. new ≡ unusable };
+
+    ghost finds = { λ old t unusable new. (unusable ≡ old) × (new ≡ old) };
+
     fn rule(&self) -> Option<Rule> {
         Some(Rule::Flag)
     }

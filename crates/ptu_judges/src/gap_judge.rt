@@ -1,6 +1,6 @@
 ghost use Rattle.std.specs.Prelude.{◌≡◌, ◌<◌, ◌≤◌, not, count_by};
 ghost use Rattle.ptu_record.specs.Marks.{marks_up, marks_after};
-ghost use Rattle.ptu_judges.specs.Held.{fresh, gaps_held};
+ghost use Rattle.ptu_judges.specs.Held.{fresh, gaps_find, gaps_held};
 ghost use Rattle.ptu_judges.specs.Shifting.{shifted};
 
 use crate::judge::Judge;
@@ -99,6 +99,12 @@ fn clear_count(marks: &[bool; PLACES]) -> usize
 
 impl Judge for GapJudge {
     ghost held = { gaps_held };
+
+    ghost hears = { λ old t seq new. new ≡ record old { marks = marks_after old.marks seq } };
+
+    ghost is_told = { λ old t unusable new. new ≡ record old { flag = unusable } };
+
+    ghost finds = { λ old t unusable new. (unusable ≡ gaps_find old) × (new ≡ old) };
 
     fn rule(&self) -> Option<Rule> {
         Some(Rule::Gap(self.missing))

@@ -1,4 +1,4 @@
-ghost use Rattle.std.specs.Prelude.{ℕ, [], ◌∷◌, ◌++◌, Option, None, false};
+ghost use Rattle.std.specs.Prelude.{◌≡◌, ◌≤◌, ℕ, [], ◌∷◌, ◌++◌, Option, None, false};
 ghost use Rattle.ptu_record.specs.declared.rule.Rule.{Rule};
 ghost use Rattle.ptu_record.specs.Judges.{IsAssessment};
 ghost use Rattle.ptu_record.specs.Marks.{fresh_marks};
@@ -64,6 +64,12 @@ struct Counting {
 
 impl Judge for Counting {
     ghost held = { λ _. record { rule = None; marks = fresh_marks; flag = false } };
+
+    ghost hears = { λ old t seq new. new ≡ old };
+
+    ghost is_told = { λ old t unusable new. new ≡ old };
+
+    ghost finds = { λ old t unusable new. old.asked ≤ new.asked };
 
     fn rule(&self) -> Option<Rule> {
         None

@@ -1,6 +1,7 @@
 //! Two masters of one slave, whose octets, moments and answers were made out by hand.
-ghost use Rattle.std.specs.Prelude.{◌≡◌, ◌+◌, [], map, All, OnOk, length};
+ghost use Rattle.std.specs.Prelude.{◌≡◌, ◌+◌, [], All, OnOk, length};
 ghost use Rattle.ptu_judges.specs.Held.{IsFresh};
+ghost use Rattle.ptu_slave.specs.Seen.{seen};
 
 use super::*;
 use crate::tests::{FIRST, Row, SECOND, config, play_all, quiet_port};
@@ -46,11 +47,11 @@ fn play_pair(rt: &impl Abort, alloc: Global, rows: &[(u64, Row)]) -> Result<(), 
 }
 
 // Empties the list of what a slave sent, and nothing else of it.
+#[tactic(auto, unfolding(crate::specs::Seen::seen_by))]
 fn clear_port(slave: &mut Slave<MemPort>)
-    ensures core { slave.new.core ≡ slave.old.core }
-    ensures judges { map (λ j. held j) slave.new.judges.items
-        ≡ map (λ j. held j) slave.old.judges.items }
-    ensures port { slave.new.port ≡ record slave.old.port { sent = [] } }
+    ensures { seen ⟦<dyn Judge as Judge>⟧ slave.new
+        ≡ record (seen ⟦<dyn Judge as Judge>⟧ slave.old)
+        { port = record (seen ⟦<dyn Judge as Judge>⟧ slave.old).port { sent = [] } } }
 {
     slave.port().clear();
 }
