@@ -2,7 +2,7 @@
 use Rattle.std.specs.Prelude.{◌≡◌, ◌≢◌, ℕ, ◌<◌, ◌≤◌, Bool, List, length, Some}
 use Rattle.std.specs.List.{slice_get}
 use Rattle.std.specs.declared.dyn_box.DynBox.{DynBox}
-use Rattle.ptu_judges.specs.declared.judge.Judge.{Ghosts}
+use Rattle.ptu_judges.specs.declared.judge.Conduct.{Ghosts}
 
 -- the two are of one type, and stand in the relation of this type
 abbrev pub Along : {X : Type 0} {F : X → Type 0} → ((i : X) → F i → F i → Type 0) → (old new : (i : X) × F i) → Type 0
@@ -12,19 +12,19 @@ Along {X} {F} R old new = (value : F old.0) × (R old.0 old.1 value × ◌≡◌
 abbrev pub judge_in : {X Z : Type 0} {F : X → Type 0} → DynBox X Z F → (i : X) × F i
 judge_in j = (j.vtable, j.value)
 
--- ---- a boxed judge before and after; `judge` is what the members of the trait mean at each type
+-- ---- a boxed judge before and after; `conduct` is what the members of `Conduct` mean at each type
 
 -- it was told of a Sync
 abbrev pub WasHeard : {X Z : Type 0} {F : X → Type 0} → ((i : X) → Ghosts (F i)) → (t seq : ℕ) → (old new : DynBox X Z F) → Type 0
-WasHeard judge t seq old new = Along (λ i x y. (judge i).hears x t seq y) (judge_in old) (judge_in new)
+WasHeard conduct t seq old new = Along (λ i x y. (conduct i).hears x t seq y) (judge_in old) (judge_in new)
 
 -- it was told the operator's word
 abbrev pub WasTold : {X Z : Type 0} {F : X → Type 0} → ((i : X) → Ghosts (F i)) → ℕ → Bool → (old new : DynBox X Z F) → Type 0
-WasTold judge t word old new = Along (λ i x y. (judge i).is_told x t word y) (judge_in old) (judge_in new)
+WasTold conduct t word old new = Along (λ i x y. (conduct i).is_told x t word y) (judge_in old) (judge_in new)
 
 -- it was asked, and found this
 abbrev pub WasAsked : {X Z : Type 0} {F : X → Type 0} → ((i : X) → Ghosts (F i)) → ℕ → Bool → (old new : DynBox X Z F) → Type 0
-WasAsked judge t found old new = Along (λ i x y. (judge i).finds x t found y) (judge_in old) (judge_in new)
+WasAsked conduct t found old new = Along (λ i x y. (conduct i).finds x t found y) (judge_in old) (judge_in new)
 
 -- one and then the other
 abbrev pub Then : {B : Type 0} → (B → B → Type 0) → (B → B → Type 0) → (old new : B) → Type 0

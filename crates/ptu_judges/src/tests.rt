@@ -62,14 +62,16 @@ struct Counting {
     asked: u8,
 }
 
-impl Judge for Counting {
-    ghost held = { λ _. record { rule = None; marks = fresh_marks; flag = false } };
-
+impl Conduct for Counting {
     ghost hears = { λ old t seq new. new ≡ old };
 
     ghost is_told = { λ old t unusable new. new ≡ old };
 
     ghost finds = { λ old t unusable new. old.asked ≤ new.asked };
+}
+
+impl Judge for Counting {
+    ghost held = { λ _. record { rule = None; marks = fresh_marks; flag = false } };
 
     fn rule(&self) -> Option<Rule> {
         None

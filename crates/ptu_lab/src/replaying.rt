@@ -44,9 +44,9 @@ impl Reporter for Lab {
     ghost rules = { rules };
 
     ghost stands_for = { λ lab course.
-        StandsFor (λ n. seen_by (λ j. Judge-box j) n.slave)
-        (map (λ j. (Judge-box j).held j.value) lab.stock.flags.items)
-        (map (λ j. (Judge-box j).held j.value) lab.stock.gaps.items) lab course };
+        StandsFor (λ n. seen_by (λ j. (Judge-box j).Judge) n.slave)
+        (map (λ j. (Judge-box j).Judge.held j.value) lab.stock.flags.items)
+        (map (λ j. (Judge-box j).Judge.held j.value) lab.stock.gaps.items) lab course };
 
     #[tactic(auto, unfolding(ptu_world::specs::Report::rules))]
     fn take(

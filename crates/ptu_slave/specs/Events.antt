@@ -8,7 +8,8 @@ use Rattle.ptu_record.specs.Record.{Record}
 use Rattle.ptu_record.specs.Step.{ReplaceJudge, SlaveEvent, Stop, TellFlag, Tick, sendings}
 use Rattle.ptu_record.specs.Tick.{Sending}
 use Rattle.ptu_judges.specs.Calls.{OfAll, OfOne, Then, WasAsked, WasTold}
-use Rattle.ptu_judges.specs.declared.judge.Judge.{Ghosts}
+use Rattle.ptu_judges.specs.declared.judge.Conduct.{Ghosts as Conducts}
+use Rattle.ptu_judges.specs.declared.judge.Judge.{Ghosts as Judges}
 use Rattle.ptu_slave_messages.specs.Sending.{all_ones, departure_of}
 use Rattle.ptu_slave.specs.Seen.{Seen}
 use Rattle.ptu_slave.specs.Standing.{StandsFor, Steps, StepsBy, setup_of}
@@ -32,11 +33,11 @@ Sends ports old new e result = (handed : List Sending) × HandsOver ports old.po
     → handed ≡ sendings (setup_of old.kept.config openings) L result.at e)
 
 -- a tick at t: all judges were asked
-pub record HasTicked {P X Z : Type 0} {F : X → Type 0} (judge : (i : X) → Ghosts (F i)) (ports : Ports P) (t : ℕ)
+pub record HasTicked {P X Z : Type 0} {F : X → Type 0} (conduct : (i : X) → Conducts (F i)) (ports : Ports P) (t : ℕ)
     (old new : Seen P (DynBox X Z F)) (result : Ticked) : Type 0 where
   pub at : result.at ≡ max t old.kept.moment
   pub steps : Goes old new t Tick
-  pub asked : (found : List Bool) × OfAll (length old.kept.masters) (WasAsked judge (max t old.kept.moment)) found old.boxes new.boxes
+  pub asked : (found : List Bool) × OfAll (length old.kept.masters) (WasAsked conduct (max t old.kept.moment)) found old.boxes new.boxes
       × GoesBy found old new t Tick
   pub sends : Sends ports old new Tick result
 
@@ -49,17 +50,17 @@ pub record HasStopped {P B : Type 0} (ports : Ports P) (t : ℕ) (old new : Seen
   pub boxes : new.boxes ≡ old.boxes
 
 -- the operator's word on the master at this place: its judge was told, and asked
-pub record IsFlagged {P X Z : Type 0} {F : X → Type 0} (judge : (i : X) → Ghosts (F i)) (t m : ℕ) (unusable : Bool)
+pub record IsFlagged {P X Z : Type 0} {F : X → Type 0} (conduct : (i : X) → Conducts (F i)) (t m : ℕ) (unusable : Bool)
     (old new : Seen P (DynBox X Z F)) : Type 0 where
   pub steps : Goes old new t (TellFlag m unusable)
-  pub told : (found : Bool) × OfOne m (Then (WasTold judge (max t old.kept.moment) unusable) (WasAsked judge (max t old.kept.moment) found))
+  pub told : (found : Bool) × OfOne m (Then (WasTold conduct (max t old.kept.moment) unusable) (WasAsked conduct (max t old.kept.moment) found))
       old.boxes new.boxes × GoesBy (found ∷ []) old new t (TellFlag m unusable)
   pub port : new.port ≡ old.port
 
 -- the judge in this box took over the master at this place, and was asked
-pub record IsReplaced {P X Z : Type 0} {F : X → Type 0} (judge : (i : X) → Ghosts (F i)) (t m : ℕ) (box : DynBox X Z F)
-    (old new : Seen P (DynBox X Z F)) : Type 0 where
+pub record IsReplaced {P X Z : Type 0} {F : X → Type 0} (judge : (i : X) → Judges (F i)) (conduct : (i : X) → Conducts (F i))
+    (t m : ℕ) (box : DynBox X Z F) (old new : Seen P (DynBox X Z F)) : Type 0 where
   pub steps : Goes old new t (ReplaceJudge m ((judge box.vtable).held box.value).rule)
-  pub asked : (found : Bool) × OfOne m (λ _ judge_there. WasAsked judge (max t old.kept.moment) found box judge_there)
+  pub asked : (found : Bool) × OfOne m (λ _ judge_there. WasAsked conduct (max t old.kept.moment) found box judge_there)
       old.boxes new.boxes × GoesBy (found ∷ []) old new t (ReplaceJudge m ((judge box.vtable).held box.value).rule)
   pub port : new.port ≡ old.port

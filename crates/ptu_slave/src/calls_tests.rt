@@ -4,7 +4,7 @@ ghost use Rattle.ptu_judges.specs.Held.{flag_held};
 
 use super::tests::{FIRST, Row, SECOND, config, one_judge, play, quiet_port};
 use super::*;
-use ptu_judges::Judge;
+use ptu_judges::{Conduct, Judge};
 use ptu_record::Rule;
 use ptu_units::Moment;
 use std::alloc::Global;
@@ -43,14 +43,16 @@ impl Listing {
     }
 }
 
-impl Judge for Listing {
-    ghost held = { λ j. flag_held j.unusable };
-
+impl Conduct for Listing {
     ghost hears = { λ old t seq new. new ≡ old };
 
     ghost is_told = { λ old t unusable new. new ≡ record old { unusable = unusable } };
 
     ghost finds = { λ old t unusable new. (unusable ≡ old.unusable) × (new ≡ old) };
+}
+
+impl Judge for Listing {
+    ghost held = { λ j. flag_held j.unusable };
 
     fn rule(&self) -> Option<Rule> {
         Some(Rule::Flag)

@@ -13,7 +13,7 @@ ghost use Rattle.ptu_slave.specs.Standing.{StandsFor, Steps, StepsBy};
 
 use crate::judging::{judge_anew, judge_flag, judge_sync};
 use crate::node::Core;
-use ptu_judges::Judge;
+use ptu_judges::{Conduct, Judge};
 use ptu_slave_messages::Signal;
 use ptu_units::Moment;
 
@@ -93,9 +93,9 @@ pub(crate) fn take_sync(
     ensures at { result ≡ max t core.old.moment }
     ensures same { IsSame core.old core.new }
     ensures judges { length judges.new.items ≡ length judges.old.items }
-    ensures judge { (found : Bool) × OfOne master (Then (WasHeard ⟦<dyn Judge as Judge>⟧
+    ensures judge { (found : Bool) × OfOne master (Then (WasHeard ⟦<dyn Judge as Conduct>⟧
         (max t core.old.moment) seq)
-        (WasAsked ⟦<dyn Judge as Judge>⟧ (max t core.old.moment) found))
+        (WasAsked ⟦<dyn Judge as Conduct>⟧ (max t core.old.moment) found))
         judges.old.items judges.new.items
         × ((openings : List (Option Rule)) (L : Record) →
         StandsFor openings core.old (map (λ j. held j) judges.old.items) L →
@@ -121,9 +121,9 @@ pub(crate) fn tell_flag(
     requires judges { length judges.old.items ≡ length core.old.masters }
     ensures same { IsSame core.old core.new }
     ensures judges { length judges.new.items ≡ length judges.old.items }
-    ensures judge { (found : Bool) × OfOne master (Then (WasTold ⟦<dyn Judge as Judge>⟧
+    ensures judge { (found : Bool) × OfOne master (Then (WasTold ⟦<dyn Judge as Conduct>⟧
         (max t core.old.moment) unusable)
-        (WasAsked ⟦<dyn Judge as Judge>⟧ (max t core.old.moment) found))
+        (WasAsked ⟦<dyn Judge as Conduct>⟧ (max t core.old.moment) found))
         judges.old.items judges.new.items
         × ((openings : List (Option Rule)) (L : Record) →
         StandsFor openings core.old (map (λ j. held j) judges.old.items) L →
@@ -149,7 +149,7 @@ pub(crate) fn replace_judge(
     ensures same { IsSame core.old core.new }
     ensures judges { length judges.new.items ≡ length judges.old.items }
     ensures judge { (found : Bool) × OfOne master (λ old new.
-        WasAsked ⟦<dyn Judge as Judge>⟧ (max t core.old.moment) found judge new)
+        WasAsked ⟦<dyn Judge as Conduct>⟧ (max t core.old.moment) found judge new)
         judges.old.items judges.new.items
         × ((openings : List (Option Rule)) (L : Record) →
         StandsFor openings core.old (map (λ j. held j) judges.old.items) L →

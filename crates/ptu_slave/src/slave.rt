@@ -28,7 +28,7 @@ use crate::node::Core;
 use crate::porting::HasPort;
 use crate::ticked::Ticked;
 use crate::ticks::{end_all, tick_all};
-use ptu_judges::Judge;
+use ptu_judges::{Conduct, Judge};
 use ptu_outside::{Failed, Port};
 use ptu_slave_messages::{Content, Heard, Master, SlaveConfig, Taken, receive, send_reply};
 use ptu_units::{Moment, OutOfMemory};
@@ -163,8 +163,9 @@ impl<P: Port> Slave<P> {
             (m : ℕ) (message : Message) (stamp : _) →
             reception old.kept.config old.kept.masters from bytes.now ≡ Ok (m, message) →
             message.body ≡ body.Sync stamp → IsOk result → (found : Bool) × OfOne m
-            (Then (WasHeard ⟦<dyn Judge as Judge>⟧ (max t old.kept.moment) message.header.sequence)
-            (WasAsked ⟦<dyn Judge as Judge>⟧ (max t old.kept.moment) found))
+            (Then (WasHeard ⟦<dyn Judge as Conduct>⟧ (max t old.kept.moment)
+            message.header.sequence)
+            (WasAsked ⟦<dyn Judge as Conduct>⟧ (max t old.kept.moment) found))
             old.boxes (seen ⟦<dyn Judge as Judge>⟧ self.new).boxes
             × GoesBy (found ∷ []) old (seen ⟦<dyn Judge as Judge>⟧ self.new) t
             (TakeSync m message.header.sequence) }
@@ -196,7 +197,7 @@ impl<P: Port> Slave<P> {
         ensures judged { HasJudges (seen ⟦<dyn Judge as Judge>⟧ self.new) }
         ensures same { IsSame (seen ⟦<dyn Judge as Judge>⟧ self.old).kept
             (seen ⟦<dyn Judge as Judge>⟧ self.new).kept }
-        ensures ticked { HasTicked ⟦<dyn Judge as Judge>⟧ P.Port t
+        ensures ticked { HasTicked ⟦<dyn Judge as Conduct>⟧ P.Port t
             (seen ⟦<dyn Judge as Judge>⟧ self.old)
             (seen ⟦<dyn Judge as Judge>⟧ self.new) result }
     {
@@ -237,7 +238,7 @@ impl<P: Port> Slave<P> {
         ensures judged { HasJudges (seen ⟦<dyn Judge as Judge>⟧ self.new) }
         ensures same { IsSame (seen ⟦<dyn Judge as Judge>⟧ self.old).kept
             (seen ⟦<dyn Judge as Judge>⟧ self.new).kept }
-        ensures flagged { IsFlagged ⟦<dyn Judge as Judge>⟧ t master unusable
+        ensures flagged { IsFlagged ⟦<dyn Judge as Conduct>⟧ t master unusable
             (seen ⟦<dyn Judge as Judge>⟧ self.old) (seen ⟦<dyn Judge as Judge>⟧ self.new) }
     {
         tell_flag(&mut self.core, &mut self.judges, t, master, unusable);
@@ -252,7 +253,7 @@ impl<P: Port> Slave<P> {
         ensures judged { HasJudges (seen ⟦<dyn Judge as Judge>⟧ self.new) }
         ensures same { IsSame (seen ⟦<dyn Judge as Judge>⟧ self.old).kept
             (seen ⟦<dyn Judge as Judge>⟧ self.new).kept }
-        ensures replaced { IsReplaced ⟦<dyn Judge as Judge>⟧ t master judge
+        ensures replaced { IsReplaced ⟦<dyn Judge as Judge>⟧ ⟦<dyn Judge as Conduct>⟧ t master judge
             (seen ⟦<dyn Judge as Judge>⟧ self.old) (seen ⟦<dyn Judge as Judge>⟧ self.new) }
     {
         replace_judge(&mut self.core, &mut self.judges, t, master, judge);
@@ -396,8 +397,8 @@ fn hear<P: Port>(
         result ≡ heard_of core.old.config.wants (max t core.old.moment) (reply_in result)
         (taken.master, message) }
     ensures judge { taken.content ≡ Content.Sync → (found : Bool) × OfOne taken.master
-        (Then (WasHeard ⟦<dyn Judge as Judge>⟧ (max t core.old.moment) taken.sequence)
-        (WasAsked ⟦<dyn Judge as Judge>⟧ (max t core.old.moment) found))
+        (Then (WasHeard ⟦<dyn Judge as Conduct>⟧ (max t core.old.moment) taken.sequence)
+        (WasAsked ⟦<dyn Judge as Conduct>⟧ (max t core.old.moment) found))
         judges.old.items judges.new.items × ((openings : List (Option Rule)) (L : Record) →
         StandsFor openings core.old (map (λ j. held j) judges.old.items) L →
         StepsBy (found ∷ []) openings core.old core.new (map (λ j. held j) judges.new.items) L t

@@ -8,7 +8,7 @@ ghost use Rattle.ptu_slave.specs.Seen.{seen};
 
 use super::*;
 use ptu_header::PortIdentity;
-use ptu_judges::{FlagJudge, GapJudge, Judge};
+use ptu_judges::{Conduct, FlagJudge, GapJudge, Judge};
 use ptu_outside::{Channel, MemPort};
 use ptu_record::{Rule, Wants};
 use ptu_units::{Kind, Log, Moment};
@@ -299,14 +299,16 @@ impl Drop for Own {
     }
 }
 
-impl Judge for Own {
-    ghost held = { λ _. record { rule = None; marks = fresh_marks; flag = false } };
-
+impl Conduct for Own {
     ghost hears = { λ old t seq new. new ≡ old };
 
     ghost is_told = { λ old t unusable new. new ≡ old };
 
     ghost finds = { λ old t unusable new. new ≡ old };
+}
+
+impl Judge for Own {
+    ghost held = { λ _. record { rule = None; marks = fresh_marks; flag = false } };
 
     fn rule(&self) -> Option<Rule> {
         None

@@ -8,9 +8,9 @@ use Rattle.ptu_lab.proofs.slave_node.tick.Goals as goal
 
 pub returns : goal.returns
 returns g c = λ ip begun s h.
-    let room = (seen (λ i. (g.dyn-1.0.entry i).1) c.make_room.new.slave) in
-    let new = (seen (λ i. (g.dyn-1.0.entry i).1) c.tick-ticked.new.self) in
-    let is_node = roomed ip (seen (λ i. (g.dyn-1.0.entry i).1) c.args.slave.now) (seen (λ i. (g.dyn-1.0.entry i).1) c.make_room.new.slave) begun s c.make_room.ensures.rest c.make_room.ensures.same h in
+    let room = (seen (λ i. (g.dyn-1.0.entry i).1.Judge) c.make_room.new.slave) in
+    let new = (seen (λ i. (g.dyn-1.0.entry i).1.Judge) c.tick-ticked.new.self) in
+    let is_node = roomed ip (seen (λ i. (g.dyn-1.0.entry i).1.Judge) c.args.slave.now) (seen (λ i. (g.dyn-1.0.entry i).1.Judge) c.make_room.new.slave) begun s c.make_room.ensures.rest c.make_room.ensures.same h in
     plain_stepped ip room.kept new.kept room.judges new.judges room.port room.port new.port begun s c.args.at c.tick-ticked.result.at Tick
     c.tick-ticked.ensures.ticked.sends.0 is_node (λ m is. absurd (cc is)) (all_places (length room.kept.masters)) c.tick-ticked.ensures.same
     (c.tick-ticked.ensures.ticked.steps s.opened.openings s.taken is_node.stands) c.tick-ticked.ensures.ticked.at refl

@@ -33,7 +33,7 @@ returns-clause-served g c =
             c4 = c.args.opened.c4;
             c5 = c.args.opened.c5;
           })
-          c.args.sink.now c.run-answer.new.sink (seen (λ i. (g.dyn-1.0.entry i).1) c.in_ok-slave.slave).kept (seen (λ i. (g.dyn-1.0.entry i).1) c.run-answer.new.slave).kept _ _ (seen (λ i. (g.dyn-1.0.entry i).1) c.in_ok-slave.slave).port (seen (λ i. (g.dyn-1.0.entry i).1) c.run-answer.new.slave).port d.0 d.1 d.2
+          c.args.sink.now c.run-answer.new.sink (seen (λ i. (g.dyn-1.0.entry i).1.Judge) c.in_ok-slave.slave).kept (seen (λ i. (g.dyn-1.0.entry i).1.Judge) c.run-answer.new.slave).kept _ _ (seen (λ i. (g.dyn-1.0.entry i).1.Judge) c.in_ok-slave.slave).port (seen (λ i. (g.dyn-1.0.entry i).1.Judge) c.run-answer.new.slave).port d.0 d.1 d.2
           (record { p0 = refl; p1 = refl; p2 = refl; p3 = refl; p5 = c.run-answer.ensures.sent; c1 = refl; c2 = refl; c3 = refl; c4 = refl; c5 = refl })
           c.in_ok-slave.ensures.port c.into_port.ensures d.3 (d.4 (node_of c.args.settings.now) [] c.in_ok-slave.ensures.stands))
       | in-Err+in-Write w ↦ rw w.written-is tt
@@ -62,8 +62,8 @@ returns-clause-front g c =
             c4 = c.args.opened.c4;
             c5 = c.args.opened.c5;
           })
-          c.args.sink.now c.run-answer.new.sink (seen (λ i. (g.dyn-1.0.entry i).1) c.in_ok-slave.slave).kept (seen (λ i. (g.dyn-1.0.entry i).1) c.run-answer.new.slave).kept
-          (seen (λ i. (g.dyn-1.0.entry i).1) c.in_ok-slave.slave).judges (seen (λ i. (g.dyn-1.0.entry i).1) c.run-answer.new.slave).judges (seen (λ i. (g.dyn-1.0.entry i).1) c.in_ok-slave.slave).port (seen (λ i. (g.dyn-1.0.entry i).1) c.run-answer.new.slave).port d.0
+          c.args.sink.now c.run-answer.new.sink (seen (λ i. (g.dyn-1.0.entry i).1.Judge) c.in_ok-slave.slave).kept (seen (λ i. (g.dyn-1.0.entry i).1.Judge) c.run-answer.new.slave).kept
+          (seen (λ i. (g.dyn-1.0.entry i).1.Judge) c.in_ok-slave.slave).judges (seen (λ i. (g.dyn-1.0.entry i).1.Judge) c.run-answer.new.slave).judges (seen (λ i. (g.dyn-1.0.entry i).1.Judge) c.in_ok-slave.slave).port (seen (λ i. (g.dyn-1.0.entry i).1.Judge) c.run-answer.new.slave).port d.0
           (record { p0 = refl; p1 = refl; p2 = refl; p3 = refl; p5 = c.run-answer.ensures.sent; c1 = refl; c2 = refl; c3 = refl; c4 = refl; c5 = refl })
           c.in_ok-slave.ensures.port c.into_port.ensures d.1 (d.2 (node_of c.args.settings.now) [] c.in_ok-slave.ensures.stands))
     ]

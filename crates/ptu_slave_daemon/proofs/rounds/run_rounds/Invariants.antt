@@ -17,10 +17,10 @@ invariant-loop-before g l = record {
   still : g.K.Sink.faults l.sink ≡ g.K.Sink.faults l.fn.sink;
   done : (selections : List Selection) × (l.said ≡ said_after None selections)
       × HasPut g.K.Sink.written g.K.Sink.handed l.fn.sink l.sink (texts_of (map selected_line (changes None selections)))
-      × ((node : Node) (L : Record) → Stands node (seen (λ i. (g.dyn-1.0.entry i).1) l.fn.slave) L →
+      × ((node : Node) (L : Record) → Stands node (seen (λ i. (g.dyn-1.0.entry i).1.Judge) l.fn.slave) L →
       RoundsDone l.before node L
-      (sees g.P.Port.sent g.P.Port.faults g.C.Clock.moments (seen (λ i. (g.dyn-1.0.entry i).1) l.fn.slave) l.fn.clock)
-      (sees g.P.Port.sent g.P.Port.faults g.C.Clock.moments (seen (λ i. (g.dyn-1.0.entry i).1) l.slave) l.clock)
-      (g.P.Port.waiting (seen (λ i. (g.dyn-1.0.entry i).1) l.fn.slave).port) (g.P.Port.waiting (seen (λ i. (g.dyn-1.0.entry i).1) l.slave).port) (g.P.Port.waiting l.fn.event) (g.P.Port.waiting l.event) (g.P.Port.faults l.fn.event) (g.P.Port.faults l.event)
+      (sees g.P.Port.sent g.P.Port.faults g.C.Clock.moments (seen (λ i. (g.dyn-1.0.entry i).1.Judge) l.fn.slave) l.fn.clock)
+      (sees g.P.Port.sent g.P.Port.faults g.C.Clock.moments (seen (λ i. (g.dyn-1.0.entry i).1.Judge) l.slave) l.clock)
+      (g.P.Port.waiting (seen (λ i. (g.dyn-1.0.entry i).1.Judge) l.fn.slave).port) (g.P.Port.waiting (seen (λ i. (g.dyn-1.0.entry i).1.Judge) l.slave).port) (g.P.Port.waiting l.fn.event) (g.P.Port.waiting l.event) (g.P.Port.faults l.fn.event) (g.P.Port.faults l.event)
       selections l.counts.sent l.counts.failed);
 }

@@ -16,7 +16,7 @@ returns-clause-ran g c = λ node L round h. (
   Ticks round c.now-at.result ∷ [],
   (ap (λ (k : Counts). k.sent) c.add.ensures, ap (λ (k : Counts). k.failed) c.add.ensures),
   ran_view node L _
-      (sees g.P.Port.sent g.P.Port.faults g.C.Clock.moments (seen (λ i. (g.dyn-1.0.entry i).1) c.tick-ticked.new.self) c.now-at.new.self)
+      (sees g.P.Port.sent g.P.Port.faults g.C.Clock.moments (seen (λ i. (g.dyn-1.0.entry i).1.Judge) c.tick-ticked.new.self) c.now-at.new.self)
       _ _ _ _ _ _ (ap (λ (s : Seen _ _). s.kept) c.selected_address-master.ensures.unchanged) (ap (λ (s : Seen _ _). s.judges) c.selected_address-master.ensures.unchanged)
       (ap (λ (s : Seen _ _). g.P.Port.sent s.port) c.selected_address-master.ensures.unchanged) (ap (λ (s : Seen _ _). g.P.Port.faults s.port) c.selected_address-master.ensures.unchanged) refl
       (ran_ticked node L _ _ c.now-at.result h c.tick-ticked.ensures.same c.tick-ticked.result.at round c.tick-ticked.result.sent c.tick-ticked.result.failed c.selected_address-master.result

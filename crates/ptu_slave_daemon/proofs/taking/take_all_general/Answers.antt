@@ -15,7 +15,7 @@ loop-taken-init g c = record {
     0,
     0,
     counted_none c.args.counts.now,
-    came_none _ _ (IfTold-refl (g.P.Port.waiting (seen (λ i. (g.dyn-1.0.entry i).1) c.args.slave.now).port)),
+    came_none _ _ (IfTold-refl (g.P.Port.waiting (seen (λ i. (g.dyn-1.0.entry i).1.Judge) c.args.slave.now).port)),
     refl,
     took_none node L _ _ 0 h refl refl refl refl (failed_none _ _ refl),
   );

@@ -5,9 +5,9 @@ use Rattle.ptu_lab.proofs.lab.Lab.set_up.Goals as goal
 
 pub returns-then-contains_key : goal.returns-then-contains_key
 returns-then-contains_key g c = λ w means line course stands.
-    has_node (λ n. seen (λ i. (g.dyn-1.0.entry i).1) n.slave) _ _ _ course c.args.ip w stands line _ c.if-self.false (search rules)
+    has_node (λ n. seen (λ i. (g.dyn-1.0.entry i).1.Judge) n.slave) _ _ _ course c.args.ip w stands line _ c.if-self.false (search rules)
 
 pub returns : goal.returns
 returns g c = λ w means line course stands.
-    is_set_up (λ n. seen (λ i. (g.dyn-1.0.entry i).1) n.slave) _ _ _ course c.args.ip w stands _ line c.args.node c.if-self.false (search rules) means
+    is_set_up (λ n. seen (λ i. (g.dyn-1.0.entry i).1.Judge) n.slave) _ _ _ course c.args.ip w stands _ line c.args.node c.if-self.false (search rules) means
     (λ q. c.in_ok-insert.ensures.updates.0 q) refl refl refl refl

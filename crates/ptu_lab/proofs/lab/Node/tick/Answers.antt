@@ -6,5 +6,5 @@ use Rattle.ptu_lab.proofs.LabNodes.{slave_acts}
 use Rattle.ptu_lab.proofs.lab.Node.tick.Goals as goal
 
 pub returns-in_ok-tick-in-Slave : goal.returns-in_ok-tick-in-Slave
-returns-in_ok-tick-in-Slave g c = rw c.in-Slave.is (slave_acts (λ n. seen (λ i. (g.dyn-1.0.entry i).1) n.slave)
+returns-in_ok-tick-in-Slave g c = rw c.in-Slave.is (slave_acts (λ n. seen (λ i. (g.dyn-1.0.entry i).1.Judge) n.slave)
     c.in-Slave.node c.tick.new.self c.args.line (λ s. plain_deed s c.args.at Tick) _ _ _ _ c.in_ok-tick-in-Slave.ensures.ip c.in_ok-tick-in-Slave.ensures.done)

@@ -22,4 +22,4 @@ returns-clause-judges g c =
 pub returns-clause-stands : goal.returns-clause-stands
 unfolding seen_by
 returns-clause-stands g c =
-    stands_held (λ j. (goal.Judge-dyn g (j.vtable, j.value)).held j.value) c.push.new.self.items _ _ c.in_ok-slave.ensures.judges c.in_ok-slave.ensures.stands
+    stands_held (λ j. (goal.Judge-dyn g (j.vtable, j.value)).Judge.held j.value) c.push.new.self.items _ _ c.in_ok-slave.ensures.judges c.in_ok-slave.ensures.stands
