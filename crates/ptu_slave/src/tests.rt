@@ -378,27 +378,26 @@ fn a_judge_of_gaps_is_replaced(rt: HostRuntime) -> Result<(), Fail> {
             priority: 1
         },
     ]?;
-    let at = Moment::of(2 * SECOND).ok_or("below 2^62")?;
-    let flag: Box<dyn Judge> = Box::new(alloc, FlagJudge::new())?;
     let judges = one_judge(alloc, Box::new(alloc, GapJudge::new(4))?)?;
     let config = config(4, 4, false, 0)?;
     let mut slave = Slave::new(alloc, config, masters, judges, quiet_port(alloc))?;
-    let gap = [
-        (0, Row::Announce(1, 84)),
-        (0, Row::Sync(1, 0)),
-        (0, Row::Selects(Some(0))),
-        (SECOND, Row::Sync(1, 5)),
-        (SECOND, Row::Selects(None)),
-        (2 * SECOND, Row::Sync(1, 3)),
-        (2 * SECOND, Row::Selects(Some(0))),
-    ];
-    play_all(&rt, alloc, &mut slave, &gap)?;
-    slave.set_judge(at, 0, flag);
+    play(&rt, alloc, &mut slave, 0, Row::Announce(1, 84))?;
+    play(&rt, alloc, &mut slave, 0, Row::Sync(1, 0))?;
+    play(&rt, alloc, &mut slave, SECOND, Row::Sync(1, 5))?;
+    play(&rt, alloc, &mut slave, SECOND, Row::Selects(None))?;
+    play(&rt, alloc, &mut slave, 2 * SECOND, Row::Sync(1, 3))?;
+    play(&rt, alloc, &mut slave, 2 * SECOND, Row::Selects(Some(0)))?;
+    let flag: Box<dyn Judge> = Box::new(alloc, FlagJudge::new())?;
+    slave.set_judge(Moment::of(2 * SECOND).ok_or("below 2^62")?, 0, flag);
     // To the operator's judge a gap is nothing.
-    let no_gap = [
-        (2 * SECOND, Row::Selects(Some(0))),
-        (3 * SECOND, Row::Sync(1, 99)),
-        (3 * SECOND, Row::Selects(Some(0))),
-    ];
-    play_all(&rt, alloc, &mut slave, &no_gap)
+    play_all(
+        &rt,
+        alloc,
+        &mut slave,
+        &[
+            (2 * SECOND, Row::Selects(Some(0))),
+            (3 * SECOND, Row::Sync(1, 99)),
+            (3 * SECOND, Row::Selects(Some(0))),
+        ],
+    )
 }
