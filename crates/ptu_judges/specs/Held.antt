@@ -1,11 +1,11 @@
 -- What a judge keeps of the record of its master.
-use Rattle.std.specs.Prelude.{◌≡◌, ℕ, Bool, false, List, Option, Some, IfSome}
+use Rattle.std.specs.Prelude.{◌≡◌, ℕ, Bool, false, ◌||◌, nat_le, List, Option, Some, IfSome}
 use Rattle.std.specs.List.{AllByRecursion}
 use Rattle.ptu_record.specs.declared.rule.Rule.{Rule}
 use Rattle.ptu_record.specs.declared.rule.Rule.TheVariants.{Flag, Gap}
 use Rattle.ptu_record.specs.Record.{Record}
 use Rattle.ptu_record.specs.Judges.{flag, numbers, positions, rule_in_force}
-use Rattle.ptu_record.specs.Marks.{Marks, fresh_marks, marks_of}
+use Rattle.ptu_record.specs.Marks.{Marks, clear_count, fresh_marks, marks_of}
 
 -- its rule, where it has one; the greatest sequenceId with the sixteen marks behind it; and the
 -- operator's last word
@@ -30,6 +30,10 @@ pub record Gaps : Type 0 where
 
 abbrev pub gaps_held : Gaps → Held
 gaps_held gaps = record { rule = Some (Gap gaps.missing); marks = gaps.marks; flag = gaps.flag }
+
+-- what it finds: what it was told last, or that so many of its marks are clear
+abbrev pub gaps_find : Gaps → Bool
+gaps_find gaps = gaps.flag || nat_le gaps.missing (clear_count gaps.marks)
 
 -- it is fresh where it has a rule
 abbrev pub IsFresh : Held → Type 0

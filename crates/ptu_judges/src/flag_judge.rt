@@ -1,7 +1,7 @@
 ghost use Rattle.std.specs.Prelude.{◌≡◌};
 ghost use Rattle.ptu_judges.specs.Held.{flag_held, fresh};
 
-use crate::judge::Judge;
+use crate::judge::{Conduct, Judge};
 use ptu_record::Rule;
 use ptu_units::Moment;
 use std::marker::Model;
@@ -27,6 +27,14 @@ impl FlagJudge {
     {
         FlagJudge { unusable: false }
     }
+}
+
+impl Conduct for FlagJudge {
+    ghost hears = { λ old t seq new. new ≡ old };
+
+    ghost is_told = { λ old t unusable new. new ≡ unusable };
+
+    ghost finds = { λ old t unusable new. (unusable ≡ old) × (new ≡ old) };
 }
 
 impl Judge for FlagJudge {

@@ -1,9 +1,9 @@
 ghost use Rattle.std.specs.Prelude.{◌≡◌, ◌<◌, ◌≤◌, not, count_by};
 ghost use Rattle.ptu_record.specs.Marks.{marks_up, marks_after};
-ghost use Rattle.ptu_judges.specs.Held.{fresh, gaps_held};
+ghost use Rattle.ptu_judges.specs.Held.{fresh, gaps_find, gaps_held};
 ghost use Rattle.ptu_judges.specs.Shifting.{shifted};
 
-use crate::judge::Judge;
+use crate::judge::{Conduct, Judge};
 use ptu_record::Rule;
 use ptu_units::Moment;
 use std::marker::Model;
@@ -95,6 +95,14 @@ fn clear_count(marks: &[bool; PLACES]) -> usize
     ensures { result ≡ count_by (λ mark. not mark) marks.now }
 {
     marks.iter().filter(|mark| !**mark).count()
+}
+
+impl Conduct for GapJudge {
+    ghost hears = { λ old t seq new. new ≡ record old { marks = marks_after old.marks seq } };
+
+    ghost is_told = { λ old t unusable new. new ≡ record old { flag = unusable } };
+
+    ghost finds = { λ old t unusable new. (unusable ≡ gaps_find old) × (new ≡ old) };
 }
 
 impl Judge for GapJudge {

@@ -1,4 +1,4 @@
-ghost use Rattle.std.specs.Prelude.{◌≡◌, ℕ, [], ◌∷◌, ◌++◌, Option};
+ghost use Rattle.std.specs.Prelude.{◌≡◌, ℕ, Bool, [], ◌∷◌, ◌++◌, Option};
 ghost use Rattle.ptu_record.specs.declared.rule.Rule.{Rule};
 ghost use Rattle.ptu_record.specs.Record.{Record, Sync, Told, Judged};
 ghost use Rattle.ptu_record.specs.Judges.{IsAssessment};
@@ -7,9 +7,21 @@ ghost use Rattle.ptu_judges.specs.Held.{Held, StandsFor};
 use ptu_record::Rule;
 use ptu_units::Moment;
 
+/// What the calls of a judge make of it, as relations of the judge before a call and after it.
+pub trait Conduct {
+    /// What a Sync makes of it: the moment and the sequenceId.
+    ghost hears: { Self → ℕ → ℕ → Self → Type 0 };
+
+    /// What the operator's word makes of it.
+    ghost is_told: { Self → ℕ → Bool → Self → Type 0 };
+
+    /// What it may find at a moment, and what the question makes of it.
+    ghost finds: { Self → ℕ → Bool → Self → Type 0 };
+}
+
 /// Who finds whether a master is unusable. A judge that has a rule finds what its rule says; of one
 /// that has none, only its answers are known. No call changes the rule.
-pub trait Judge: Drop {
+pub trait Judge: Conduct + Drop {
     /// What it keeps of the record of its master.
     ghost held: { Self → Held };
 
@@ -19,6 +31,7 @@ pub trait Judge: Drop {
 
     /// A Sync with this sequenceId was accepted from its master.
     fn heard(&mut self, t: Moment, seq: u16)
+        ensures hears { Self.hears self.old t seq self.new }
         ensures stands { (opening : Option Rule) (L : Record) (m : ℕ) →
             StandsFor opening L (held self.old) →
             StandsFor opening (L ++ Sync t m seq ∷ []) (held self.new) }
@@ -26,6 +39,7 @@ pub trait Judge: Drop {
 
     /// The operator said that its master is unusable, or that it is not.
     fn told(&mut self, t: Moment, unusable: bool)
+        ensures told { Self.is_told self.old t unusable self.new }
         ensures stands { (opening : Option Rule) (L : Record) (m : ℕ) →
             StandsFor opening L (held self.old) →
             StandsFor opening (L ++ Told t m unusable ∷ []) (held self.new) }
@@ -33,6 +47,7 @@ pub trait Judge: Drop {
 
     /// Whether its master is unusable.
     fn assess(&mut self, t: Moment) -> bool
+        ensures finds { Self.finds self.old t result self.new }
         ensures assessed { (opening : Option Rule) (L : Record) →
             StandsFor opening L (held self.old) → IsAssessment opening L result }
         ensures stands { (opening : Option Rule) (L : Record) (m : ℕ) →

@@ -10,7 +10,7 @@ mod stock;
 
 pub use flag_judge::FlagJudge;
 pub use gap_judge::GapJudge;
-pub use judge::Judge;
+pub use judge::{Conduct, Judge};
 pub use ptu_record::Rule;
 pub use stock::Stock;
 

@@ -1,4 +1,4 @@
-ghost use Rattle.std.specs.Prelude.{ℕ, [], ◌∷◌, ◌++◌, Option, None, false};
+ghost use Rattle.std.specs.Prelude.{◌≡◌, ◌≤◌, ℕ, [], ◌∷◌, ◌++◌, Option, None, false};
 ghost use Rattle.ptu_record.specs.declared.rule.Rule.{Rule};
 ghost use Rattle.ptu_record.specs.Judges.{IsAssessment};
 ghost use Rattle.ptu_record.specs.Marks.{fresh_marks};
@@ -60,6 +60,14 @@ fn numbers_run_over_and_are_forgotten(rt: HostRuntime) {
 #[derive(Drop)]
 struct Counting {
     asked: u8,
+}
+
+impl Conduct for Counting {
+    ghost hears = { λ old t seq new. new ≡ old };
+
+    ghost is_told = { λ old t unusable new. new ≡ old };
+
+    ghost finds = { λ old t unusable new. old.asked ≤ new.asked };
 }
 
 impl Judge for Counting {

@@ -2,6 +2,7 @@
 use Rattle.std.proofs.Common.{◌≡◌, ◌∙◌, ℕ, ◌+◌, Bool, true, false, cond, List, [], length, Option, Some, None, Result, Ok, Err, is_some, refl, sym, ap, ap₂, subst, arith}
 use Rattle.std.specs.Prelude.{if◌then◌else◌, nat_eq, nat_le}
 use Rattle.std.specs.HashMap.{get}
+use Rattle.ptu_outside.specs.MemoryPort.{MemoryPort}
 use Rattle.ptu_record.specs.declared.rule.Rule.{Rule}
 use Rattle.ptu_judges.specs.Held.{Held, fresh}
 use Rattle.ptu_slave_messages.specs.Config.{place_of}
@@ -13,12 +14,13 @@ use Rattle.ptu_script.specs.declared.command.Command.TheVariants as commands
 use Rattle.ptu_world.specs.Deeds as world
 use Rattle.ptu_world.specs.World.{Done, Stock, World, add_master, node_at, placed, quietly, slave_by, step, stock_without, with_master}
 use Rattle.ptu_world.specs.Report.{Course, outcome_by}
+use Rattle.ptu_slave.specs.Seen.{Seen}
 use Rattle.ptu_lab.specs.declared.slave_node.SlaveNode.{SlaveNode}
 use Rattle.ptu_lab.specs.declared.lab.Node.{Node}
 use Rattle.ptu_lab.specs.declared.lab.Node.TheVariants as nodes
 use Rattle.ptu_lab.specs.declared.lab.Lab.{Lab}
 use Rattle.ptu_lab.specs.Steps.{HasTaken, IsNoSlave, stock_of}
-use Rattle.ptu_lab.specs.NodeStanding.{IsSlaveNode, StandsAsSlave}
+use Rattle.ptu_lab.specs.NodeStanding.{IsNode, StandsAsNode}
 use Rattle.ptu_lab.specs.Standing.{Agrees, StandsFor}
 use Rattle.ptu_lab.proofs.LabNodes.{placed_agree}
 
@@ -51,15 +53,15 @@ pub put_back : {A : Type 0} (b : Bool) (x y z : A) (found taken : A) → found �
 put_back true x y z found taken put out = put
 put_back false x y z found taken put out = put ∙ out
 
-module _ {J : Type 0} {I : J → Type 0} (held : SlaveNode J I → List Held) (flags gaps : List Held) (lab : Lab J I) (c : Course) (slave ip priority : ℕ) (rule : Rule) (stands : StandsFor held flags gaps lab c) where
+module _ {J B : Type 0} {I : J → Type 0} (see : SlaveNode J I → Seen MemoryPort B) (flags gaps : List Held) (lab : Lab J I) (c : Course) (slave ip priority : ℕ) (rule : Rule) (stands : StandsFor see flags gaps lab c) where
   -- the slave is found at the address in the world too
   pub record IsSlaveAt (node : SlaveNode J I) : Type 0 where
     pub slave_is : world.Slave
     pub found : node_at c.world.nodes slave ≡ Some (world.IsSlave slave_is)
     pub address : node.ip ≡ slave
-    pub stands_as : IsSlaveNode node.ip node.slave.core (held node) node.slave.port c.world.has_begun slave_is
+    pub stands_as : IsNode node.ip (see node) c.world.has_begun slave_is
 
-  found_by : (node : SlaveNode J I) (w : Option world.Node) → node_at c.world.nodes slave ≡ w → Agrees held slave c.world.has_begun (Some (nodes.Slave node)) w → IsSlaveAt node
+  found_by : (node : SlaveNode J I) (w : Option world.Node) → node_at c.world.nodes slave ≡ w → Agrees see slave c.world.has_begun (Some (nodes.Slave node)) w → IsSlaveAt node
   found_by node None e h = absurd h
   found_by node (Some (world.IsGrandmaster g)) e h = absurd h.1
   found_by node (Some (world.IsSlave s)) e h = record { slave_is = s; found = e; address = h.0; stands_as = h.1 }
@@ -72,10 +74,10 @@ module _ {J : Type 0} {I : J → Type 0} (held : SlaveNode J I → List Held) (f
 
   -- before the first event a slave of the world stands for it
   pub means : (node : SlaveNode J I) → lab.has_begun ≡ false → get nat_eq lab.nodes slave ≡ Some (nodes.Slave node)
-      → (s : world.Slave) × IsSlaveNode node.ip node.slave.core (held node) node.slave.port false s
+      → (s : world.Slave) × IsNode node.ip (see node) false s
   means node begun found =
       let at = slave_found node found in
-      (at.slave_is, subst (λ b. IsSlaveNode node.ip node.slave.core (held node) node.slave.port b at.slave_is) (sym stands.has_begun ∙ begun) at.stands_as)
+      (at.slave_is, subst (λ b. IsNode node.ip (see node) b at.slave_is) (sym stands.has_begun ∙ begun) at.stands_as)
 
   -- ---- the causes, in their order
 
@@ -89,7 +91,7 @@ module _ {J : Type 0} {I : J → Type 0} (held : SlaveNode J I → List Held) (f
   no_slave line after given begun none =
       rw (before_events c.world slave ip priority rule (sym stands.has_begun ∙ begun)) (by (get nat_eq lab.nodes slave) (node_at c.world.nodes slave) none (stands.nodes slave))
     where
-      by : (node : Option (Node J I)) (w : Option world.Node) → IsNoSlave node → Agrees held slave c.world.has_begun node w
+      by : (node : Option (Node J I)) (w : Option world.Node) → IsNoSlave node → Agrees see slave c.world.has_begun node w
           → IsOutcome (outcome_by c line (slave_by w >>= λ s. quietly (add_master c.world s ip priority rule))) after given (Some causes.Node)
       by node None none h = refl
       by node (Some (world.IsGrandmaster g)) none h = refl
@@ -99,7 +101,7 @@ module _ {J : Type 0} {I : J → Type 0} (held : SlaveNode J I → List Held) (f
 
   module _ (node : SlaveNode J I) (begun : lab.has_begun ≡ false) (found : get nat_eq lab.nodes slave ≡ Some (nodes.Slave node)) where
     -- what the command makes of the world, by the slave's masters and the stock
-    made_is : (other full : Bool) (taken : Result Stock Cause) → is_some (place_of node.slave.core.masters ip) ≡ other → nat_le 16 (length node.slave.core.masters) ≡ full
+    made_is : (other full : Bool) (taken : Result Stock Cause) → is_some (place_of (see node).kept.masters ip) ≡ other → nat_le 16 (length (see node).kept.masters) ≡ full
         → stock_without rule (stock_of flags gaps) ≡ taken
         → step c.world (commands.Master slave ip priority rule)
         ≡ quietly (if other then Err causes.Node else if full then Err causes.Full else (taken >>= λ stock. Ok (with_it (c.world) (slave_found node found).slave_is ip priority rule stock)))
@@ -109,15 +111,15 @@ module _ {J : Type 0} {I : J → Type 0} (held : SlaveNode J I → List Held) (f
         (ap (λ m. is_some (place_of m ip)) at.stands_as.masters ∙ is_other) (ap (λ m. nat_le 16 (length m)) at.stands_as.masters ∙ is_full)
         (ap (stock_without rule) (sym stock_is) ∙ is_taken)
 
-    pub has_it : (line : ℕ) (after : Course → Type 0) (given : List (List ℕ)) → is_some (place_of node.slave.core.masters ip) ≡ true
+    pub has_it : (line : ℕ) (after : Course → Type 0) (given : List (List ℕ)) → is_some (place_of (see node).kept.masters ip) ≡ true
         → IsOutcome (outcome_by c line (step c.world (commands.Master slave ip priority rule))) after given (Some causes.Node)
-    has_it line after given other = rw (made_is true (nat_le 16 (length node.slave.core.masters)) (stock_without rule (stock_of flags gaps)) other refl refl) refl
+    has_it line after given other = rw (made_is true (nat_le 16 (length (see node).kept.masters)) (stock_without rule (stock_of flags gaps)) other refl refl) refl
 
-    pub is_full : (line : ℕ) (after : Course → Type 0) (given : List (List ℕ)) → is_some (place_of node.slave.core.masters ip) ≡ false → nat_le 16 (length node.slave.core.masters) ≡ true
+    pub is_full : (line : ℕ) (after : Course → Type 0) (given : List (List ℕ)) → is_some (place_of (see node).kept.masters ip) ≡ false → nat_le 16 (length (see node).kept.masters) ≡ true
         → IsOutcome (outcome_by c line (step c.world (commands.Master slave ip priority rule))) after given (Some causes.Full)
     is_full line after given other full = rw (made_is false true (stock_without rule (stock_of flags gaps)) other full refl) refl
 
-    pub no_judge : (line : ℕ) (after : Course → Type 0) (given : List (List ℕ)) → is_some (place_of node.slave.core.masters ip) ≡ false → nat_le 16 (length node.slave.core.masters) ≡ false
+    pub no_judge : (line : ℕ) (after : Course → Type 0) (given : List (List ℕ)) → is_some (place_of (see node).kept.masters ip) ≡ false → nat_le 16 (length (see node).kept.masters) ≡ false
         → stock_without rule (stock_of flags gaps) ≡ Err causes.Stock
         → IsOutcome (outcome_by c line (step c.world (commands.Master slave ip priority rule))) after given (Some causes.Stock)
     no_judge line after given other full none = rw (made_is false false (Err causes.Stock) other full none) refl
@@ -125,29 +127,29 @@ module _ {J : Type 0} {I : J → Type 0} (held : SlaveNode J I → List Held) (f
     -- ---- the master is added
 
     pub added : (flags' gaps' : List Held) (lab' : Lab J I) (line : ℕ) (new : SlaveNode J I) (judge : Held)
-        → is_some (place_of node.slave.core.masters ip) ≡ false
-        → nat_le 16 (length node.slave.core.masters) ≡ false
+        → is_some (place_of (see node).kept.masters ip) ≡ false
+        → nat_le 16 (length (see node).kept.masters) ≡ false
         → HasTaken rule flags gaps flags' gaps' judge
         → new.ip ≡ node.ip
-        → ((s : world.Slave) (r : Rule) → IsSlaveNode node.ip node.slave.core (held node) node.slave.port false s → judge ≡ fresh r
-        → StandsAsSlave new.ip new.slave.core (held new) new.slave.port false (world.IsSlave (with_master ip priority r s)))
+        → ((s : world.Slave) (r : Rule) → IsNode node.ip (see node) false s → judge ≡ fresh r
+        → StandsAsNode new.ip (see new) false (world.IsSlave (with_master ip priority r s)))
         → ((q : ℕ) → get nat_eq lab'.nodes q ≡ cond (nat_eq slave q) (Some (nodes.Slave new)) (get nat_eq lab.nodes q))
         → lab'.sent ≡ lab.sent
         → lab'.has_begun ≡ lab.has_begun
         → lab'.granted ≡ lab.granted
         → lab'.short ≡ lab.short
-        → IsOutcome (outcome_by c line (step c.world (commands.Master slave ip priority rule))) (StandsFor held flags' gaps' lab') [] None
+        → IsOutcome (outcome_by c line (step c.world (commands.Master slave ip priority rule))) (StandsFor see flags' gaps' lab') [] None
     added flags' gaps' lab' line new judge other full taken same more changed sent begins grants shorts =
         let at = slave_found node found in
         let not_begun : c.world.has_begun ≡ false = sym stands.has_begun ∙ begun in
         let here : at.slave_is.ip ≡ slave = at.stands_as.address ∙ at.address in
         rw (made_is false false (Ok (stock_of flags' gaps')) other full taken.left) (
           record {
-            nodes = subst (λ a. (q : ℕ) → Agrees held q c.world.has_begun (get nat_eq lab'.nodes q) (node_at (placed a (world.IsSlave (with_master ip priority rule at.slave_is)) c.world.nodes) q)) (sym here)
-                (placed_agree held lab.nodes lab'.nodes c.world.nodes c.world.has_begun slave (nodes.Slave new) (world.IsSlave (with_master ip priority rule at.slave_is)) stands.nodes changed (
+            nodes = subst (λ a. (q : ℕ) → Agrees see q c.world.has_begun (get nat_eq lab'.nodes q) (node_at (placed a (world.IsSlave (with_master ip priority rule at.slave_is)) c.world.nodes) q)) (sym here)
+                (placed_agree see lab.nodes lab'.nodes c.world.nodes c.world.has_begun slave (nodes.Slave new) (world.IsSlave (with_master ip priority rule at.slave_is)) stands.nodes changed (
                   same ∙ at.address,
-                  subst (λ b. StandsAsSlave new.ip new.slave.core (held new) new.slave.port b (world.IsSlave (with_master ip priority rule at.slave_is))) (sym not_begun)
-                      (more at.slave_is rule (subst (λ b. IsSlaveNode node.ip node.slave.core (held node) node.slave.port b at.slave_is) not_begun at.stands_as) taken.is_fresh),
+                  subst (λ b. StandsAsNode new.ip (see new) b (world.IsSlave (with_master ip priority rule at.slave_is))) (sym not_begun)
+                      (more at.slave_is rule (subst (λ b. IsNode node.ip (see node) b at.slave_is) not_begun at.stands_as) taken.is_fresh),
                 ));
             sent = ap (λ v. v.items) sent ∙ stands.sent;
             has_begun = begins ∙ stands.has_begun;

@@ -8,6 +8,8 @@ use Rattle.ptu_judges.specs.Held.{Held}
 use Rattle.ptu_outside.specs.Handing.{HasPut}
 use Rattle.ptu_report.specs.Reported.{HasReported}
 use Rattle.ptu_script.specs.declared.cause.Cause.{Cause}
+use Rattle.ptu_outside.specs.MemoryPort.{MemoryPort}
+use Rattle.ptu_slave.specs.Seen.{Seen}
 use Rattle.ptu_world.specs.Facts.{AreCounted, EndsBy, world_of}
 use Rattle.ptu_world.specs.World.{Stock}
 use Rattle.ptu_world.specs.Report.{Course, course_opening, report, report_lines, rules}
@@ -32,10 +34,10 @@ module _ {M C : Type 0} (r : Rules M C) (lines : ℕ) where
       at_outcome (before + 1) (r.step m (before + 1) text) (λ after. ending_after r after (before + 1) rest) (λ after. meaning_after r after (before + 1) rest)
       (λ after e. meant rest after (before + 1) e) e
 
-module _ {J : Type 0} {I : J → Type 0} (held : SlaveNode J I → List Held) where
+module _ {J B : Type 0} {I : J → Type 0} (see : SlaveNode J I → Seen MemoryPort B) where
   -- the lab that stands for what all lines lead to has the numbers of the report
   pub counted : (flags gaps : List Held) (lab : Lab J I) (stock : Stock) (script : List ℕ) (lines : ℕ) (done : Done)
-      → IfSome (meaning_of rules (course_opening stock) (script_lines script)) (StandsFor held flags gaps lab)
+      → IfSome (meaning_of rules (course_opening stock) (script_lines script)) (StandsFor see flags gaps lab)
       → endings.Whole lines ≡ ending_of rules (course_opening stock) (script_lines script)
       → done.datagrams ≡ length lab.sent.items
       → done.granted ≡ lab.granted
@@ -44,7 +46,7 @@ module _ {J : Type 0} {I : J → Type 0} (held : SlaveNode J I → List Held) wh
   counted flags gaps lab stock script lines done stands whole datagrams granted refused =
       by (meaning_of rules (course_opening stock) (script_lines script)) (meant rules lines (script_lines script) (course_opening stock) 0 (sym whole)) stands (counts_of_rules stock script)
     where
-      by : (o : Option Course) → IsSome o → IfSome o (StandsFor held flags gaps lab) → IfSome o (AreCounted stock script) → AreCounts stock script done
+      by : (o : Option Course) → IsSome o → IfSome o (StandsFor see flags gaps lab) → IfSome o (AreCounted stock script) → AreCounts stock script done
       by None some s c = absurd (let no : false ≡ true = some in cc)
       by (Some course) some s c = record {
         datagrams = datagrams ∙ (ap length s.sent ∙ ap (λ w. length w.sent) c.world);

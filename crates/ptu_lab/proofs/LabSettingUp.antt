@@ -6,6 +6,8 @@ use Rattle.ptu_judges.specs.Held.{Held}
 use Rattle.ptu_report.specs.Rules.{IsOutcome}
 use Rattle.ptu_script.specs.declared.cause.Cause.{Cause}
 use Rattle.ptu_script.specs.declared.cause.Cause.TheVariants as causes
+use Rattle.ptu_outside.specs.MemoryPort.{MemoryPort}
+use Rattle.ptu_slave.specs.Seen.{Seen}
 use Rattle.ptu_world.specs.Deeds as world
 use Rattle.ptu_world.specs.World.{World, node_at, placed, quietly, set_up}
 use Rattle.ptu_world.specs.Report.{Course, outcome_by}
@@ -24,8 +26,8 @@ set_up_is : (w : World) (ip : ℕ) (node : world.Node) (begun other : Bool) → 
 set_up_is w ip node begun other e f =
     ap₂ (λ (b o : Bool). if b then Err causes.Order else if o then Err causes.Node else Ok (with_node w ip node)) e f
 
-module _ {J : Type 0} {I : J → Type 0} (held : SlaveNode J I → List Held) (flags gaps : List Held) (lab : Lab J I) (c : Course) (ip : ℕ) (w : world.Node) (stands : StandsFor held flags gaps lab c) where
-  agreed : (o : Option (Node J I)) (v : Option world.Node) → Agrees held ip c.world.has_begun o v → is_some v ≡ is_some o
+module _ {J B : Type 0} {I : J → Type 0} (see : SlaveNode J I → Seen MemoryPort B) (flags gaps : List Held) (lab : Lab J I) (c : Course) (ip : ℕ) (w : world.Node) (stands : StandsFor see flags gaps lab c) where
+  agreed : (o : Option (Node J I)) (v : Option world.Node) → Agrees see ip c.world.has_begun o v → is_some v ≡ is_some o
   agreed None None h = refl
   agreed None (Some v) h = absurd h
   agreed (Some node) None h = absurd h
@@ -43,19 +45,19 @@ module _ {J : Type 0} {I : J → Type 0} (held : SlaveNode J I → List Held) (f
 
   -- it is set up
   pub is_set_up : (lab' : Lab J I) (line : ℕ) (node : Node J I) → lab.has_begun ≡ false → is_some (get nat_eq lab.nodes ip) ≡ false
-      → StandsAs held ip false node w
+      → StandsAs see ip false node w
       → ((q : ℕ) → get nat_eq lab'.nodes q ≡ cond (nat_eq ip q) (Some node) (get nat_eq lab.nodes q))
       → lab'.sent ≡ lab.sent
       → lab'.has_begun ≡ lab.has_begun
       → lab'.granted ≡ lab.granted
       → lab'.short ≡ lab.short
-      → IsOutcome (outcome_by c line (quietly (set_up c.world ip w))) (StandsFor held flags gaps lab') [] None
+      → IsOutcome (outcome_by c line (quietly (set_up c.world ip w))) (StandsFor see flags gaps lab') [] None
   is_set_up lab' line node begun found means changed sent begins grants shorts =
       let not_begun : c.world.has_begun ≡ false = sym stands.has_begun ∙ begun in
-      subst (λ made. IsOutcome (outcome_by c line (quietly made)) (StandsFor held flags gaps lab') [] None)
+      subst (λ made. IsOutcome (outcome_by c line (quietly made)) (StandsFor see flags gaps lab') [] None)
       (sym (set_up_is c.world ip w false false not_begun (there_is false found))) (
         record {
-          nodes = placed_agree held lab.nodes lab'.nodes c.world.nodes c.world.has_begun ip node w stands.nodes changed (subst (λ b. StandsAs held ip b node w) (sym not_begun) means);
+          nodes = placed_agree see lab.nodes lab'.nodes c.world.nodes c.world.has_begun ip node w stands.nodes changed (subst (λ b. StandsAs see ip b node w) (sym not_begun) means);
           sent = ap (λ v. v.items) sent ∙ stands.sent;
           has_begun = begins ∙ stands.has_begun;
           flags = stands.flags;

@@ -9,3 +9,4 @@ pub mod LabStock
 pub mod LabMasters
 pub mod LabReplaying
 pub mod KeepingHeadline
+mod Room

@@ -200,11 +200,6 @@ quietly_ended ip ip' line t new kept news judges before after last s deed sent t
     none : after.sent ≡ []
     none = ap (λ (p : MemoryPort). p.sent) still ∙ idle
 
--- the master that is selected stands in the list
-pub chosen_within : (timeouts : Timeouts) (priorities : List ℕ) (L : Record) (t : ℕ) (o : Option ℕ) → o ≡ selected_master timeouts priorities L t → IfSome o (λ m. m < length priorities)
-chosen_within timeouts priorities L t None is = tt
-chosen_within timeouts priorities L t (Some m) is = (chosen_best timeouts priorities L t m (sym is)).within
-
 -- a fresh judge of this rule took over
 pub replaced : (ip : ℕ) (old new : Kept) (judges news : List Held) (judge : Held) (before after : MemoryPort) (begun : Bool) (s : Slave) (t m : ℕ) (rule : Rule)
     → judge ≡ fresh rule → IsSlaveNode ip old judges before begun s → m < length old.masters → IsSame old new
@@ -217,8 +212,3 @@ replaced ip old new judges news judge before after begun s t m rule is h within 
 -- a judge that is fresh
 pub fresh_is : (held : Held) (rule : Rule) → held ≡ fresh rule → IsFresh held
 fresh_is held rule is = subst IsFresh (sym is) refl
-
--- each master has a priority
-pub priorities_many : (masters : List Master) → length (priorities masters) ≡ length masters
-priorities_many [] = refl
-priorities_many (m ∷ masters) = ap (λ n. suc n) (priorities_many masters)

@@ -96,31 +96,12 @@ one_master_more ip address priority old new judges judge before after s rule h i
     same_rules = map-append (λ (x : Held). x.rule) judges (judge ∷ [])
         ∙ ap₂ (λ os o. os ++ o ∷ []) (rules_are s.opened.openings old judges (subst (λ L. StandsFor s.opened.openings old judges L) empty h.stands)) (ap (λ (x : Held). x.rule) is)
 
--- ---- the judges as they are kept
-
-map-two : {A : Type 0} (f : A → Held) (xs : List A) → map (λ (h : Held). h.rule) (map f xs) ≡ map (λ x. (f x).rule) xs
-map-two f [] = refl
-map-two f (x ∷ xs) = ap (λ rs. (f x).rule ∷ rs) (map-two f xs)
-
-by_index : {A : Type 0} (f : A → Held) (xs : List A) → AllByRecursion IsFresh (map f xs) → All (λ x. IsFresh (f x)) xs
-by_index f [] all k d lt = absurd (omega arith)
-by_index f (x ∷ xs) all zero d lt = all.0
-by_index f (x ∷ xs) all (suc k) d lt = by_index f xs all.1 k d (omega arith)
-
-pub fresh_pushed : {A : Type 0} (f : A → Held) (xs ys : List A) (x : A) (ip : ℕ) (kept : Kept) (port : MemoryPort) (s : Slave) (rule : Rule) → ys ≡ xs ++ x ∷ []
-    → IsSlaveNode ip kept (map f xs) port false s → f x ≡ fresh rule → All (λ y. IsFresh (f y)) ys
-fresh_pushed f xs ys x ip kept port s rule pushed h is =
-    by_index f ys (subst (AllByRecursion IsFresh) (sym (ap (map f) pushed ∙ map-append f xs (x ∷ []))) (judges_fresh ip kept (map f xs) port s (f x) rule h is))
-
-pub master_added : {A : Type 0} (f : A → Held) (xs ys zs : List A) (x : A) (ip address priority : ℕ) (old new : Kept) (before after : MemoryPort) (s : Slave) (rule : Rule)
-    → ys ≡ xs ++ x ∷ [] → zs ≡ ys → IsSlaveNode ip old (map f xs) before false s → f x ≡ fresh rule → length old.masters < 16 → place_of old.masters address ≡ None
+-- the same slave, whose judges are given by an equation
+pub master_added : (ip address priority : ℕ) (old new : Kept) (judges news : List Held) (judge : Held) (before after : MemoryPort) (s : Slave) (rule : Rule)
+    → news ≡ judges ++ judge ∷ [] → IsSlaveNode ip old judges before false s → judge ≡ fresh rule → length old.masters < 16 → place_of old.masters address ≡ None
     → new.config ≡ old.config → new.masters ≡ old.masters ++ record { ip = address; priority = priority } ∷ [] → after ≡ before
-    → StandsFor (map (λ y. (f y).rule) ys) new (map f zs) [] → IsSlaveNode ip new (map f zs) after false (with_master address priority rule s)
-master_added f xs ys zs x ip address priority old new before after s rule pushed taken h is few none config masters port stands =
-    subst (λ js. IsSlaveNode ip new js after false (with_master address priority rule s)) (sym judges)
-    (one_master_more ip address priority old new (map f xs) (f x) before after s rule h is few none config masters port
-    (subst (λ os. StandsFor os new (map f xs ++ f x ∷ []) []) (sym (map-two f ys) ∙ ap (map (λ (k : Held). k.rule)) (ap (map f) (sym taken) ∙ judges))
-    (subst (λ js. StandsFor (map (λ y. (f y).rule) ys) new js []) judges stands)))
-  where
-    judges : map f zs ≡ map f xs ++ f x ∷ []
-    judges = ap (map f) (taken ∙ pushed) ∙ map-append f xs (x ∷ [])
+    → StandsFor (map (λ (x : Held). x.rule) news) new news [] → IsSlaveNode ip new news after false (with_master address priority rule s)
+master_added ip address priority old new judges news judge before after s rule are h is few none config masters port stands =
+    subst (λ js. IsSlaveNode ip new js after false (with_master address priority rule s)) (sym are)
+    (one_master_more ip address priority old new judges judge before after s rule h is few none config masters port
+    (subst (λ js. StandsFor (map (λ (x : Held). x.rule) js) new js []) are stands))

@@ -5,6 +5,7 @@ use Rattle.ptu_outside.specs.MemoryPort.{MemoryPort}
 use Rattle.ptu_judges.specs.Held.{Held, IsFresh}
 use Rattle.ptu_slave_messages.specs.Config.{AreMasters, IsWithinLimits}
 use Rattle.ptu_slave.specs.Kept.{Kept}
+use Rattle.ptu_slave.specs.Seen.{Seen}
 use Rattle.ptu_slave.specs.Standing as slave
 use Rattle.ptu_nodes.specs.Standing.{IsIdle}
 use Rattle.ptu_world.specs.Deeds as world
@@ -28,3 +29,10 @@ pub record IsSlaveNode (ip : ℕ) (kept : Kept) (judges : List Held) (port : Mem
 abbrev pub StandsAsSlave : ℕ → Kept → List Held → MemoryPort → Bool → world.Node → Type 0
 StandsAsSlave ip kept judges port begun (world.IsGrandmaster g) = ⊥
 StandsAsSlave ip kept judges port begun (world.IsSlave s) = IsSlaveNode ip kept judges port begun s
+
+-- the same of what is seen of a slave
+abbrev pub IsNode : {B : Type 0} → ℕ → Seen MemoryPort B → Bool → world.Slave → Type 0
+IsNode ip seen begun s = IsSlaveNode ip seen.kept seen.judges seen.port begun s
+
+abbrev pub StandsAsNode : {B : Type 0} → ℕ → Seen MemoryPort B → Bool → world.Node → Type 0
+StandsAsNode ip seen begun node = StandsAsSlave ip seen.kept seen.judges seen.port begun node

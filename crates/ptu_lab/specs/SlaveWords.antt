@@ -1,5 +1,5 @@
 -- What a slave of a script is set up with, and what is said of what it selects.
-use Rattle.std.specs.Prelude.{◌≡◌, ℕ, true, List, length, Option, option_map}
+use Rattle.std.specs.Prelude.{◌≡◌, ℕ, true, List}
 use Rattle.ptu_outside.specs.MemoryPort.{MemoryPort}
 use Rattle.ptu_judges.specs.Held.{Held}
 use Rattle.ptu_slave_messages.specs.Node.{Deed}
@@ -7,23 +7,16 @@ use Rattle.ptu_world.specs.Deeds.{Slave}
 use Rattle.ptu_world.specs.Slaves.{entered}
 use Rattle.ptu_lab.specs.NodeStanding.{IsSlaveNode}
 use Rattle.ptu_nodes.specs.Standing.{IsIdle}
-use Rattle.ptu_record.specs.Record.{Record, event_moment}
-use Rattle.ptu_record.specs.Selection.{selected_master}
+use Rattle.ptu_record.specs.Record.{Record}
 use Rattle.ptu_slave_messages.specs.declared.config.SlaveConfig.{SlaveConfig}
-use Rattle.ptu_slave_messages.specs.Config.{address_of, priorities, timeouts}
 use Rattle.ptu_script.specs.declared.command.SlaveSetup.{SlaveSetup}
 use Rattle.ptu_report_lines.specs.declared.statement.Statement.{Statement}
 use Rattle.ptu_report_lines.specs.declared.statement.Statement.TheVariants.{Selected}
 use Rattle.ptu_slave.specs.Kept.{Kept}
+use Rattle.ptu_slave.specs.Seen.{Seen}
+use Rattle.ptu_slave.specs.Standing.{selected_address}
 
--- the address of the master that a slave selects, of which this is kept, after this record at t, or
--- at the record's moment where that is later
-abbrev pub selected_address : Kept → Record → ℕ → Option ℕ
-selected_address kept L t =
-    option_map (address_of kept.masters)
-    (selected_master (timeouts kept.config) (priorities kept.masters) L (event_moment L t))
-
--- the same as it is said of the slave at this address
+-- what a slave selects, of which this is kept, as it is said of the slave at this address
 abbrev pub selection_by : ℕ → Kept → Record → ℕ → Statement
 selection_by ip kept L t = Selected ip (selected_address kept L t)
 
@@ -39,10 +32,6 @@ new_config setup = record {
   wait = setup.wait;
 }
 
--- each master has a judge
-abbrev pub IsJudged : {A : Type 0} → Kept → List A → Type 0
-IsJudged kept judges = length judges ≡ length kept.masters
-
 -- an event has made of the slave of a world the slave with the entries of this deed, of which this
 -- is kept then, and whose judges hold this; its port holds what the deed sends, until it is cleared
 pub record HasStepped (ip : ℕ) (kept : Kept) (judges : List Held) (port : MemoryPort) (s : Slave)
@@ -50,3 +39,7 @@ pub record HasStepped (ip : ℕ) (kept : Kept) (judges : List Held) (port : Memo
   pub node : (cleared : MemoryPort) → IsIdle cleared
       → IsSlaveNode ip kept judges cleared true (entered s deed)
   pub sends : port.sent ≡ deed.datagrams
+
+-- the same of what is seen of a slave
+abbrev pub HasSteppedTo : {B : Type 0} → ℕ → Seen MemoryPort B → Slave → Deed → Type 0
+HasSteppedTo ip seen s deed = HasStepped ip seen.kept seen.judges seen.port s deed

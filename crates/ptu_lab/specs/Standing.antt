@@ -1,25 +1,27 @@
 -- Which worlds the lab stands for.
 use Rattle.std.specs.Prelude.{◌≡◌, ℕ, Bool, nat_eq, List, length, Option, Some, None}
 use Rattle.std.specs.HashMap.{get}
+use Rattle.ptu_outside.specs.MemoryPort.{MemoryPort}
 use Rattle.ptu_judges.specs.Held.{Held, IsStock}
+use Rattle.ptu_slave.specs.Seen.{Seen}
 use Rattle.ptu_world.specs.Deeds as world
 use Rattle.ptu_world.specs.World.{node_at}
 use Rattle.ptu_world.specs.Report.{Course}
 use Rattle.ptu_lab.specs.declared.slave_node.SlaveNode.{SlaveNode}
-use Rattle.ptu_lab.specs.NodeStanding.{StandsAsSlave}
+use Rattle.ptu_lab.specs.NodeStanding.{StandsAsNode}
 use Rattle.ptu_nodes.specs.Standing.{StandsAsGrandmaster}
 use Rattle.ptu_lab.specs.declared.lab.Node.{Node}
 use Rattle.ptu_lab.specs.declared.lab.Node.TheVariants as nodes
 use Rattle.ptu_lab.specs.declared.lab.Lab.{Lab}
 
--- what the judges of a slave hold is handed over as a function
+-- what is seen of a slave is handed over as a function
 
-module _ {J : Type 0} {I : J → Type 0} (held : SlaveNode J I → List Held) where
+module _ {J B : Type 0} {I : J → Type 0} (see : SlaveNode J I → Seen MemoryPort B) where
   -- a node at the address stands for the node of a world
   abbrev pub StandsAs : ℕ → Bool → Node J I → world.Node → Type 0
   StandsAs ip begun (nodes.Grandmaster node) w = (node.ip ≡ ip) × StandsAsGrandmaster node w
   StandsAs ip begun (nodes.Slave node) w = (node.ip ≡ ip)
-      × StandsAsSlave node.ip node.slave.core (held node) node.slave.port begun w
+      × StandsAsNode node.ip (see node) begun w
 
   -- what is found at the address in the lab stands for what is found there in a world
   abbrev pub Agrees : ℕ → Bool → Option (Node J I) → Option world.Node → Type 0

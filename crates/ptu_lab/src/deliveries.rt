@@ -3,10 +3,12 @@ ghost use Rattle.std.specs.Prelude.{◌≡◌, ◌+◌, [], map, IfOk};
 ghost use Rattle.ptu_script.specs.declared.command.Command.TheVariants as commands;
 ghost use Rattle.ptu_world.specs.Report.{Course};
 ghost use Rattle.ptu_world.specs.World.{datagram_deed, node_at};
+ghost use Rattle.ptu_slave.specs.Seen.{seen};
 ghost use Rattle.ptu_lab.specs.Steps.{HasHanded, HasStepped};
 ghost use Rattle.ptu_lab.specs.Standing.{StandsFor};
 
 use crate::lab::Lab;
+use ptu_judges::Judge;
 use ptu_report::Texts;
 use ptu_report_lines::{ReportLine, Statement};
 use ptu_script::Cause;
@@ -35,11 +37,11 @@ impl Lab {
     ) -> Result<bool, OutOfMemory>
         requires empty { texts.old ≡ [] }
         ensures { IfOk result (λ found. (c : Course) →
-            StandsFor (λ n. map (λ j. held j) n.slave.judges.items)
+            StandsFor (λ n. seen ⟦<dyn Judge as Judge>⟧ n.slave)
             (map (λ j. held j) self.old.stock.flags.items)
             (map (λ j. held j) self.old.stock.gaps.items) self.old c
             → HasHanded line c
-            (StandsFor (λ n. map (λ j. held j) n.slave.judges.items)
+            (StandsFor (λ n. seen ⟦<dyn Judge as Judge>⟧ n.slave)
             (map (λ j. held j) self.new.stock.flags.items)
             (map (λ j. held j) self.new.stock.gaps.items) self.new)
             texts.new ip (λ w. datagram_deed w at from octets.now) (node_at c.world.nodes ip)
@@ -73,10 +75,10 @@ impl Lab {
     ) -> Result<Option<Cause>, OutOfMemory>
         requires empty { texts.old ≡ [] }
         ensures { IfOk result (HasStepped line
-            (StandsFor (λ n. map (λ j. held j) n.slave.judges.items)
+            (StandsFor (λ n. seen ⟦<dyn Judge as Judge>⟧ n.slave)
             (map (λ j. held j) self.old.stock.flags.items)
             (map (λ j. held j) self.old.stock.gaps.items) self.old)
-            (StandsFor (λ n. map (λ j. held j) n.slave.judges.items)
+            (StandsFor (λ n. seen ⟦<dyn Judge as Judge>⟧ n.slave)
             (map (λ j. held j) self.new.stock.flags.items)
             (map (λ j. held j) self.new.stock.gaps.items) self.new)
             texts.new (commands.Receive at ip from octets.now)) }
@@ -102,10 +104,10 @@ impl Lab {
     ) -> Result<Option<Cause>, OutOfMemory>
         requires empty { texts.old ≡ [] }
         ensures { IfOk result (HasStepped line
-            (StandsFor (λ n. map (λ j. held j) n.slave.judges.items)
+            (StandsFor (λ n. seen ⟦<dyn Judge as Judge>⟧ n.slave)
             (map (λ j. held j) self.old.stock.flags.items)
             (map (λ j. held j) self.old.stock.gaps.items) self.old)
-            (StandsFor (λ n. map (λ j. held j) n.slave.judges.items)
+            (StandsFor (λ n. seen ⟦<dyn Judge as Judge>⟧ n.slave)
             (map (λ j. held j) self.new.stock.flags.items)
             (map (λ j. held j) self.new.stock.gaps.items) self.new)
             texts.new (commands.Deliver at number)) }

@@ -2,10 +2,12 @@
 ghost use Rattle.std.specs.Prelude.{◌≡◌, ◌<◌, ℕ, [], map, IfOk};
 ghost use Rattle.ptu_admit.specs.Book.{IsCapacity};
 ghost use Rattle.ptu_script.specs.declared.command.Command.TheVariants as commands;
+ghost use Rattle.ptu_slave.specs.Seen.{seen};
 ghost use Rattle.ptu_lab.specs.Steps.{HasStepped};
 ghost use Rattle.ptu_lab.specs.Standing.{StandsFor};
 
 use crate::lab::Lab;
+use ptu_judges::Judge;
 use ptu_report::Texts;
 use ptu_script::Cause;
 use ptu_units::{Moment, OutOfMemory};
@@ -28,10 +30,10 @@ impl Lab {
         requires table { table < 4 }
         requires empty { texts.old ≡ [] }
         ensures { IfOk result (HasStepped line
-            (StandsFor (λ n. map (λ j. held j) n.slave.judges.items)
+            (StandsFor (λ n. seen ⟦<dyn Judge as Judge>⟧ n.slave)
             (map (λ j. held j) self.old.stock.flags.items)
             (map (λ j. held j) self.old.stock.gaps.items) self.old)
-            (StandsFor (λ n. map (λ j. held j) n.slave.judges.items)
+            (StandsFor (λ n. seen ⟦<dyn Judge as Judge>⟧ n.slave)
             (map (λ j. held j) self.new.stock.flags.items)
             (map (λ j. held j) self.new.stock.gaps.items) self.new)
             texts.new (commands.Turn at grandmaster table)) }
@@ -49,10 +51,10 @@ impl Lab {
     /// The clockClass of the grandmaster at an address changes. Nothing is said of it.
     pub fn set_class(&mut self, grandmaster: u32, class: u8) -> Option<Cause>
         ensures { (line : ℕ) → HasStepped line
-            (StandsFor (λ n. map (λ j. held j) n.slave.judges.items)
+            (StandsFor (λ n. seen ⟦<dyn Judge as Judge>⟧ n.slave)
             (map (λ j. held j) self.old.stock.flags.items)
             (map (λ j. held j) self.old.stock.gaps.items) self.old)
-            (StandsFor (λ n. map (λ j. held j) n.slave.judges.items)
+            (StandsFor (λ n. seen ⟦<dyn Judge as Judge>⟧ n.slave)
             (map (λ j. held j) self.new.stock.flags.items)
             (map (λ j. held j) self.new.stock.gaps.items) self.new)
             [] (commands.Class grandmaster class) result }
@@ -84,10 +86,10 @@ impl Lab {
         requires capacity { IsCapacity capacity }
         requires empty { texts.old ≡ [] }
         ensures { IfOk result (HasStepped line
-            (StandsFor (λ n. map (λ j. held j) n.slave.judges.items)
+            (StandsFor (λ n. seen ⟦<dyn Judge as Judge>⟧ n.slave)
             (map (λ j. held j) self.old.stock.flags.items)
             (map (λ j. held j) self.old.stock.gaps.items) self.old)
-            (StandsFor (λ n. map (λ j. held j) n.slave.judges.items)
+            (StandsFor (λ n. seen ⟦<dyn Judge as Judge>⟧ n.slave)
             (map (λ j. held j) self.new.stock.flags.items)
             (map (λ j. held j) self.new.stock.gaps.items) self.new)
             texts.new (commands.Capacity at grandmaster capacity)) }

@@ -4,11 +4,12 @@ ghost use Rattle.ptu_report.specs.Rules.{IsOutcome};
 ghost use Rattle.ptu_script.specs.Limits.{IsWithinLimits};
 ghost use Rattle.ptu_world.specs.World.{step};
 ghost use Rattle.ptu_world.specs.Report.{Course, course_opening, outcome_by};
+ghost use Rattle.ptu_slave.specs.Seen.{seen};
 ghost use Rattle.ptu_lab.specs.Standing.{StandsFor};
 
 use crate::slave_node::SlaveNode;
 use crate::stock::Reserve;
-use ptu_judges::Stock;
+use ptu_judges::{Judge, Stock};
 use ptu_nodes::GrandmasterNode;
 use ptu_report::Texts;
 use ptu_report_lines::Sent;
@@ -45,7 +46,7 @@ impl Lab {
     pub fn new(alloc: Global, stock: Stock) -> Lab
         requires { IsStock (map (λ j. held j) stock.flags.items)
             (map (λ j. held j) stock.gaps.items) }
-        ensures opening { StandsFor (λ n. map (λ j. held j) n.slave.judges.items)
+        ensures opening { StandsFor (λ n. seen ⟦<dyn Judge as Judge>⟧ n.slave)
             (map (λ j. held j) result.stock.flags.items)
             (map (λ j. held j) result.stock.gaps.items) result (course_opening
             (record { flags = length stock.flags.items; gaps = length stock.gaps.items })) }
@@ -76,17 +77,17 @@ impl Lab {
         texts: &mut Texts,
     ) -> Result<Option<Cause>, OutOfMemory>
         requires means { (c : Course) × StandsFor
-            (λ n. map (λ j. held j) n.slave.judges.items)
+            (λ n. seen ⟦<dyn Judge as Judge>⟧ n.slave)
             (map (λ j. held j) self.old.stock.flags.items)
             (map (λ j. held j) self.old.stock.gaps.items) self.old c }
         requires limits { IsWithinLimits command }
         requires empty { texts.old ≡ [] }
         ensures { IfOk result (λ refused. (c : Course) →
-            StandsFor (λ n. map (λ j. held j) n.slave.judges.items)
+            StandsFor (λ n. seen ⟦<dyn Judge as Judge>⟧ n.slave)
             (map (λ j. held j) self.old.stock.flags.items)
             (map (λ j. held j) self.old.stock.gaps.items) self.old c →
             IsOutcome (outcome_by c line (step c.world command))
-            (λ after. StandsFor (λ n. map (λ j. held j) n.slave.judges.items)
+            (λ after. StandsFor (λ n. seen ⟦<dyn Judge as Judge>⟧ n.slave)
             (map (λ j. held j) self.new.stock.flags.items)
             (map (λ j. held j) self.new.stock.gaps.items) self.new after)
             texts.new refused) }

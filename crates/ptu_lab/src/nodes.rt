@@ -10,13 +10,14 @@ ghost use Rattle.ptu_world.specs.Grandmasters.{capacity_deed, class_deed, turn_d
 ghost use Rattle.ptu_world.specs.Slaves.{plain_deed};
 ghost use Rattle.ptu_world.specs.World.{datagram_deed, stock_without};
 ghost use Rattle.ptu_nodes.specs.Doing.{HasDone};
+ghost use Rattle.ptu_slave.specs.Seen.{seen};
 ghost use Rattle.ptu_lab.specs.Steps.{HasActed, HasActedWithJudge, stock_of};
 ghost use Rattle.ptu_lab.specs.Steps.{of_grandmaster, of_master, of_slave};
 ghost use Rattle.ptu_lab.specs.Standing.{StandsAs};
 
 use crate::lab::Node;
 use crate::stock::{Reserve, take_judge};
-use ptu_judges::Rule;
+use ptu_judges::{Judge, Rule};
 use ptu_nodes::Tally;
 use ptu_report::Texts;
 use ptu_report_lines::Sent;
@@ -41,10 +42,10 @@ impl Node {
         sent: &mut Vec<Sent>,
     ) -> Result<Tally, OutOfMemory>
         ensures { IfOk result (λ tally. (ip : ℕ) (begun : Bool) (w : world.Node) →
-            StandsAs (λ n. map (λ j. held (j.vtable, j.value)) n.slave.judges.items) ip begun
+            StandsAs (λ n. seen ⟦<dyn Judge as Judge>⟧ n.slave) ip begun
             self.old w
             → HasDone (StandsAs
-            (λ n. map (λ j. held (j.vtable, j.value)) n.slave.judges.items) ip true self.new)
+            (λ n. seen ⟦<dyn Judge as Judge>⟧ n.slave) ip true self.new)
             ip line (datagram_deed w at from octets.now) sent.old.items sent.new.items texts.old
             texts.new tally.granted tally.short) }
     {
@@ -75,10 +76,10 @@ impl Node {
     ) -> Result<Option<Cause>, OutOfMemory>
         requires table { table < 4 }
         ensures { IfOk result (λ refused. (ip : ℕ) (begun : Bool) (w : world.Node) →
-            StandsAs (λ n. map (λ j. held (j.vtable, j.value)) n.slave.judges.items) ip begun
+            StandsAs (λ n. seen ⟦<dyn Judge as Judge>⟧ n.slave) ip begun
             self.old w
             → HasActed (StandsAs
-            (λ n. map (λ j. held (j.vtable, j.value)) n.slave.judges.items) ip true self.new)
+            (λ n. seen ⟦<dyn Judge as Judge>⟧ n.slave) ip true self.new)
             ip line sent.old.items sent.new.items texts.old texts.new
             (of_grandmaster (λ g. turn_deed g at table) w) refused) }
     {
@@ -95,10 +96,10 @@ impl Node {
     pub fn set_class(&mut self, class: u8) -> Option<Cause>
         ensures { (line : ℕ) (sent : List described.Sent) (texts : List (List ℕ)) (ip : ℕ)
             (begun : Bool) (w : world.Node) →
-            StandsAs (λ n. map (λ j. held (j.vtable, j.value)) n.slave.judges.items) ip begun
+            StandsAs (λ n. seen ⟦<dyn Judge as Judge>⟧ n.slave) ip begun
             self.old w
             → HasActed (StandsAs
-            (λ n. map (λ j. held (j.vtable, j.value)) n.slave.judges.items) ip true self.new)
+            (λ n. seen ⟦<dyn Judge as Judge>⟧ n.slave) ip true self.new)
             ip line sent sent texts texts (of_grandmaster (λ g. class_deed g class) w) result }
     {
         match self {
@@ -125,10 +126,10 @@ impl Node {
     ) -> Result<Option<Cause>, OutOfMemory>
         requires capacity { IsCapacity capacity }
         ensures { IfOk result (λ refused. (ip : ℕ) (begun : Bool) (w : world.Node) →
-            StandsAs (λ n. map (λ j. held (j.vtable, j.value)) n.slave.judges.items) ip begun
+            StandsAs (λ n. seen ⟦<dyn Judge as Judge>⟧ n.slave) ip begun
             self.old w
             → HasActed (StandsAs
-            (λ n. map (λ j. held (j.vtable, j.value)) n.slave.judges.items) ip true self.new)
+            (λ n. seen ⟦<dyn Judge as Judge>⟧ n.slave) ip true self.new)
             ip line sent.old.items sent.new.items texts.old texts.new
             (of_grandmaster (λ g. capacity_deed g at capacity) w) refused) }
     {
@@ -154,10 +155,10 @@ impl Node {
         sent: &mut Vec<Sent>,
     ) -> Result<Option<Cause>, OutOfMemory>
         ensures { IfOk result (λ refused. (ip : ℕ) (begun : Bool) (w : world.Node) →
-            StandsAs (λ n. map (λ j. held (j.vtable, j.value)) n.slave.judges.items) ip begun
+            StandsAs (λ n. seen ⟦<dyn Judge as Judge>⟧ n.slave) ip begun
             self.old w
             → HasActed (StandsAs
-            (λ n. map (λ j. held (j.vtable, j.value)) n.slave.judges.items) ip true self.new)
+            (λ n. seen ⟦<dyn Judge as Judge>⟧ n.slave) ip true self.new)
             ip line sent.old.items sent.new.items texts.old texts.new
             (of_slave (λ s. plain_deed s at Tick) w) refused) }
     {
@@ -183,10 +184,10 @@ impl Node {
         sent: &mut Vec<Sent>,
     ) -> Result<Option<Cause>, OutOfMemory>
         ensures { IfOk result (λ refused. (ip : ℕ) (begun : Bool) (w : world.Node) →
-            StandsAs (λ n. map (λ j. held (j.vtable, j.value)) n.slave.judges.items) ip begun
+            StandsAs (λ n. seen ⟦<dyn Judge as Judge>⟧ n.slave) ip begun
             self.old w
             → HasActed (StandsAs
-            (λ n. map (λ j. held (j.vtable, j.value)) n.slave.judges.items) ip true self.new)
+            (λ n. seen ⟦<dyn Judge as Judge>⟧ n.slave) ip true self.new)
             ip line sent.old.items sent.new.items texts.old texts.new
             (of_slave (λ s. plain_deed s at Stop) w) refused) }
     {
@@ -214,10 +215,10 @@ impl Node {
         sent: &[Sent],
     ) -> Result<Option<Cause>, OutOfMemory>
         ensures { IfOk result (λ refused. (ip : ℕ) (begun : Bool) (w : world.Node) →
-            StandsAs (λ n. map (λ j. held (j.vtable, j.value)) n.slave.judges.items) ip begun
+            StandsAs (λ n. seen ⟦<dyn Judge as Judge>⟧ n.slave) ip begun
             self.old w
             → HasActed (StandsAs
-            (λ n. map (λ j. held (j.vtable, j.value)) n.slave.judges.items) ip true self.new)
+            (λ n. seen ⟦<dyn Judge as Judge>⟧ n.slave) ip true self.new)
             ip line sent.now sent.now texts.old texts.new
             (of_master master (λ s m. plain_deed s at (TellFlag m unusable)) w) refused) }
     {
@@ -251,9 +252,9 @@ impl Node {
             (map (λ j. held j) stock.old.gaps.items) }
         requires named { IsNamed rule }
         ensures { IfOk result (λ refused. (ip : ℕ) (begun : Bool) (w : world.Node) →
-            StandsAs (λ n. map (λ j. held j) n.slave.judges.items) ip begun self.old w
+            StandsAs (λ n. seen ⟦<dyn Judge as Judge>⟧ n.slave) ip begun self.old w
             → HasActedWithJudge (StandsAs
-            (λ n. map (λ j. held j) n.slave.judges.items) ip true self.new)
+            (λ n. seen ⟦<dyn Judge as Judge>⟧ n.slave) ip true self.new)
             ip line sent.now sent.now texts.old texts.new
             (map (λ j. held j) stock.new.flags.items)
             (map (λ j. held j) stock.new.gaps.items)

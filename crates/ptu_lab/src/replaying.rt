@@ -7,6 +7,7 @@ ghost use Rattle.ptu_judges.specs.Held.{IsStock};
 ghost use Rattle.ptu_report.specs.Reported.{HasReportedAllRead};
 ghost use Rattle.ptu_world.specs.Report.{course_opening, report, rules};
 ghost use Rattle.ptu_show.specs.Answers.{CountsRead, CountsWrite};
+ghost use Rattle.ptu_slave.specs.Seen.{seen_by};
 ghost use Rattle.ptu_lab.specs.Headline.{KeepsHeadline};
 ghost use Rattle.ptu_lab.specs.Replayed.{AreCounts, HasReplayed, IfReplayed};
 ghost use Rattle.ptu_lab.specs.Standing.{StandsFor};
@@ -43,9 +44,9 @@ impl Reporter for Lab {
     ghost rules = { rules };
 
     ghost stands_for = { λ lab course.
-        StandsFor (λ n. map (λ j. (Judge-box j).held j.value) n.slave.judges.items)
-        (map (λ j. (Judge-box j).held j.value) lab.stock.flags.items)
-        (map (λ j. (Judge-box j).held j.value) lab.stock.gaps.items) lab course };
+        StandsFor (λ n. seen_by (λ j. (Judge-box j).Judge) n.slave)
+        (map (λ j. (Judge-box j).Judge.held j.value) lab.stock.flags.items)
+        (map (λ j. (Judge-box j).Judge.held j.value) lab.stock.gaps.items) lab course };
 
     #[tactic(auto, unfolding(ptu_world::specs::Report::rules))]
     fn take(

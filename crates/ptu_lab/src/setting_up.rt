@@ -6,6 +6,7 @@ ghost use Rattle.ptu_script.specs.Limits.{IsGrandmasterWithin, IsNamed, IsSlaveW
 ghost use Rattle.ptu_script.specs.declared.command.Command.TheVariants as commands;
 ghost use Rattle.ptu_world.specs.Deeds as world;
 ghost use Rattle.ptu_world.specs.Report.{Course};
+ghost use Rattle.ptu_slave.specs.Seen.{seen};
 ghost use Rattle.ptu_lab.specs.declared.lab.Node.TheVariants as described;
 ghost use Rattle.ptu_lab.specs.Steps.{HasSetUp, HasStepped, IsNoSlave};
 ghost use Rattle.ptu_lab.specs.Standing.{StandsAs, StandsFor};
@@ -13,7 +14,7 @@ ghost use Rattle.ptu_lab.specs.Standing.{StandsAs, StandsFor};
 use crate::lab::{Lab, Node};
 use crate::slave_node::SlaveNode;
 use crate::stock::take_judge;
-use ptu_judges::Rule;
+use ptu_judges::{Judge, Rule};
 use ptu_nodes::GrandmasterNode;
 use ptu_script::{Cause, GrandmasterSetup, SlaveSetup};
 use ptu_units::OutOfMemory;
@@ -37,12 +38,12 @@ impl Lab {
     // A new node at an address that no other has, before the first event.
     fn set_up(&mut self, ip: u32, node: Node) -> Result<Option<Cause>, OutOfMemory>
         ensures { IfOk result (λ refused. (w : world.Node) →
-            StandsAs (λ n. map (λ j. held j) n.slave.judges.items) ip false node w
+            StandsAs (λ n. seen ⟦<dyn Judge as Judge>⟧ n.slave) ip false node w
             → HasSetUp
-            (StandsFor (λ n. map (λ j. held j) n.slave.judges.items)
+            (StandsFor (λ n. seen ⟦<dyn Judge as Judge>⟧ n.slave)
             (map (λ j. held j) self.old.stock.flags.items)
             (map (λ j. held j) self.old.stock.gaps.items) self.old)
-            (StandsFor (λ n. map (λ j. held j) n.slave.judges.items)
+            (StandsFor (λ n. seen ⟦<dyn Judge as Judge>⟧ n.slave)
             (map (λ j. held j) self.new.stock.flags.items)
             (map (λ j. held j) self.new.stock.gaps.items) self.new)
             ip w refused) }
@@ -68,10 +69,10 @@ impl Lab {
     ) -> Result<Option<Cause>, OutOfMemory>
         requires limits { IsGrandmasterWithin setup.now }
         ensures { IfOk result (λ refused. (line : ℕ) → HasStepped line
-            (StandsFor (λ n. map (λ j. held j) n.slave.judges.items)
+            (StandsFor (λ n. seen ⟦<dyn Judge as Judge>⟧ n.slave)
             (map (λ j. held j) self.old.stock.flags.items)
             (map (λ j. held j) self.old.stock.gaps.items) self.old)
-            (StandsFor (λ n. map (λ j. held j) n.slave.judges.items)
+            (StandsFor (λ n. seen ⟦<dyn Judge as Judge>⟧ n.slave)
             (map (λ j. held j) self.new.stock.flags.items)
             (map (λ j. held j) self.new.stock.gaps.items) self.new)
             [] (commands.Grandmaster setup.now) refused) }
@@ -91,10 +92,10 @@ impl Lab {
     ) -> Result<Option<Cause>, OutOfMemory>
         requires limits { IsSlaveWithin setup.now }
         ensures { IfOk result (λ refused. (line : ℕ) → HasStepped line
-            (StandsFor (λ n. map (λ j. held j) n.slave.judges.items)
+            (StandsFor (λ n. seen ⟦<dyn Judge as Judge>⟧ n.slave)
             (map (λ j. held j) self.old.stock.flags.items)
             (map (λ j. held j) self.old.stock.gaps.items) self.old)
-            (StandsFor (λ n. map (λ j. held j) n.slave.judges.items)
+            (StandsFor (λ n. seen ⟦<dyn Judge as Judge>⟧ n.slave)
             (map (λ j. held j) self.new.stock.flags.items)
             (map (λ j. held j) self.new.stock.gaps.items) self.new)
             [] (commands.Slave setup.now) refused) }
@@ -116,15 +117,15 @@ impl Lab {
         rule: Rule,
     ) -> Result<Option<Cause>, OutOfMemory>
         requires means { (c : Course) × StandsFor
-            (λ n. map (λ j. held j) n.slave.judges.items)
+            (λ n. seen ⟦<dyn Judge as Judge>⟧ n.slave)
             (map (λ j. held j) self.old.stock.flags.items)
             (map (λ j. held j) self.old.stock.gaps.items) self.old c }
         requires named { IsNamed rule }
         ensures { IfOk result (λ refused. (line : ℕ) → HasStepped line
-            (StandsFor (λ n. map (λ j. held j) n.slave.judges.items)
+            (StandsFor (λ n. seen ⟦<dyn Judge as Judge>⟧ n.slave)
             (map (λ j. held j) self.old.stock.flags.items)
             (map (λ j. held j) self.old.stock.gaps.items) self.old)
-            (StandsFor (λ n. map (λ j. held j) n.slave.judges.items)
+            (StandsFor (λ n. seen ⟦<dyn Judge as Judge>⟧ n.slave)
             (map (λ j. held j) self.new.stock.flags.items)
             (map (λ j. held j) self.new.stock.gaps.items) self.new)
             [] (commands.Master slave ip priority rule) refused) }

@@ -1,24 +1,24 @@
-ghost use Rattle.std.specs.Prelude.{◌≡◌, ◌<◌, ℕ, Bool, true, false, List, [], ◌∷◌, ◌++◌, length};
-ghost use Rattle.std.specs.Prelude.{map, Option, None, Some, option_map, IfOk, IfSome, OnOk};
+ghost use Rattle.std.specs.Prelude.{◌≡◌, ◌<◌, ◌≤◌, ◌^◌, ℕ, Bool, true, false, List, [], ◌∷◌, ◌++◌, length};
+ghost use Rattle.std.specs.Prelude.{map, Option, None, Some, IfOk, OnOk};
 ghost use Rattle.ptu_record.specs.declared.rule.Rule.{Rule};
 ghost use Rattle.ptu_record.specs.Record.{Record};
 ghost use Rattle.ptu_record.specs.Step.{ReplaceJudge, Stop, TellFlag, Tick};
 ghost use Rattle.ptu_judges.specs.Held.{fresh};
-ghost use Rattle.ptu_slave_messages.specs.Config.{IsWithinLimits, address_of, place_of};
+ghost use Rattle.ptu_slave_messages.specs.Config.{IsWithinLimits, place_of};
 ghost use Rattle.ptu_slave_messages.specs.Node as node;
 ghost use Rattle.ptu_slave_messages.specs.Node.{datagram_heard};
-ghost use Rattle.ptu_slave.specs.Standing.{StandsFor};
+ghost use Rattle.ptu_slave.specs.Seen.{seen};
+ghost use Rattle.ptu_slave.specs.Standing.{StandsFor, selected_address};
 ghost use Rattle.ptu_script.specs.Limits.{IsSlaveWithin};
 ghost use Rattle.ptu_world.specs.Deeds.{IsSlave, Slave as Described};
 ghost use Rattle.ptu_world.specs.Slaves.{datagram_deed, plain_deed};
 ghost use Rattle.ptu_world.specs.Report.{text_at};
 ghost use Rattle.ptu_world.specs.World.{new_slave, sending_said, sent_from};
 ghost use Rattle.ptu_world.specs.World.{with_master as described_with_master};
-ghost use Rattle.ptu_lab.specs.NodeStanding.{IsSlaveNode, StandsAsSlave};
+ghost use Rattle.ptu_lab.specs.NodeStanding.{IsNode, StandsAsNode};
 ghost use Rattle.ptu_nodes.specs.Standing.{IsIdle};
 ghost use Rattle.ptu_lab.specs.SlaveStatements.{IsOfOne};
-ghost use Rattle.ptu_lab.specs.SlaveWords.{HasStepped, IsJudged, new_config, selected_address};
-ghost use Rattle.ptu_lab.specs.SlaveWords.{selection_by};
+ghost use Rattle.ptu_lab.specs.SlaveWords.{HasSteppedTo, new_config, selection_by};
 ghost use Rattle.ptu_nodes.specs.Doing.{HasDone};
 
 use crate::slave_statements::{say_heard, was_ignored, was_unsent};
@@ -56,12 +56,11 @@ impl SlaveNode {
     pub fn new(alloc: Global, setup: &SlaveSetup) -> Result<SlaveNode, OutOfMemory>
         requires { IsSlaveWithin setup.now }
         ensures ip { IfOk result (λ n. n.ip ≡ setup.now.ip) }
-        ensures stands { IfOk result (λ n. StandsAsSlave n.ip n.slave.core
-            (map (λ j. held (j.vtable, j.value)) n.slave.judges.items)
-            n.slave.port false (new_slave setup.now)) }
+        ensures stands { IfOk result (λ n. StandsAsNode n.ip
+            (seen ⟦<dyn Judge as Judge>⟧ n.slave) false (new_slave setup.now)) }
     {
-        let port = MemPort::new(alloc, Vec::new(alloc), Vec::new(alloc), Vec::new(alloc));
         let config = config_of(setup);
+        let port = quiet_port(alloc);
         let slave = Slave::new(alloc, config, Vec::new(alloc), Vec::new(alloc), port)?;
         Ok(SlaveNode {
             ip: setup.ip,
@@ -71,10 +70,9 @@ impl SlaveNode {
 
     /// The place of the master with this IPv4 address in its list.
     pub fn place(&self, ip: u32) -> Option<usize>
-        ensures { result ≡ place_of self.now.slave.core.masters ip }
+        ensures { result ≡ place_of (seen ⟦<dyn Judge as Judge>⟧ self.now.slave).kept.masters ip }
     {
         self.slave
-            .core
             .masters()
             .iter()
             .position(|master| master.ip == ip)
@@ -82,9 +80,9 @@ impl SlaveNode {
 
     /// How many masters it has.
     pub fn masters(&self) -> usize
-        ensures { result ≡ length self.now.slave.core.masters }
+        ensures { result ≡ length (seen ⟦<dyn Judge as Judge>⟧ self.now.slave).kept.masters }
     {
-        self.slave.core.masters().len()
+        self.slave.masters().len()
     }
 
     /// The slave with one master more at the end of its list, before any event.
@@ -98,27 +96,20 @@ impl SlaveNode {
         priority: u8,
         judge: Box<dyn Judge>,
     ) -> Result<SlaveNode, OutOfMemory>
-        requires means { (s : Described) × IsSlaveNode self.ip self.slave.core
-            (map (λ j. held j) self.slave.judges.items) self.slave.port false s }
-        requires few { length self.slave.core.masters < 16 }
-        requires other { place_of self.slave.core.masters ip ≡ None }
+        requires means { (s : Described) × IsNode self.ip (seen ⟦<dyn Judge as Judge>⟧ self.slave)
+            false s }
+        requires few { length (seen ⟦<dyn Judge as Judge>⟧ self.slave).kept.masters < 16 }
+        requires other { place_of (seen ⟦<dyn Judge as Judge>⟧ self.slave).kept.masters ip ≡ None }
         requires fresh { (rule : Rule) × (held judge ≡ fresh rule) }
         ensures ip { IfOk result (λ n. n.ip ≡ self.ip) }
         ensures stands { IfOk result (λ n. (s : Described) (rule : Rule) →
-            IsSlaveNode self.ip self.slave.core (map (λ j. held j) self.slave.judges.items)
-            self.slave.port false s → held judge ≡ fresh rule →
-            StandsAsSlave n.ip n.slave.core (map (λ j. held j) n.slave.judges.items) n.slave.port
-            false (IsSlave (described_with_master ip priority rule s))) }
+            IsNode self.ip (seen ⟦<dyn Judge as Judge>⟧ self.slave) false s → held judge ≡
+            fresh rule →
+            StandsAsNode n.ip (seen ⟦<dyn Judge as Judge>⟧ n.slave) false (IsSlave
+            (described_with_master ip priority rule s))) }
     {
         let SlaveNode { ip: own, slave } = self;
-        let Slave {
-            core,
-            mut judges,
-            port,
-        } = slave;
-        let masters = masters_with(alloc, core.masters(), Master { ip, priority })?;
-        judges.push(judge)?;
-        let slave = Slave::new(alloc, *core.config(), masters, judges, port)?;
+        let slave = slave.with_master(alloc, Master { ip, priority }, judge)?;
         Ok(SlaveNode { ip: own, slave })
     }
 
@@ -140,17 +131,13 @@ impl SlaveNode {
     ) -> Result<(), OutOfMemory>
         ensures ip { self.new.ip ≡ self.old.ip }
         ensures done { OnOk result ((begun : Bool) (s : Described) →
-            IsSlaveNode self.old.ip self.old.slave.core
-            (map (λ j. held (j.vtable, j.value)) self.old.slave.judges.items)
-            self.old.slave.port begun s →
-            HasDone (StandsAsSlave self.new.ip self.new.slave.core
-            (map (λ j. held (j.vtable, j.value)) self.new.slave.judges.items)
-            self.new.slave.port true)
+            IsNode self.old.ip (seen ⟦<dyn Judge as Judge>⟧ self.old.slave) begun s →
+            HasDone (StandsAsNode self.new.ip (seen ⟦<dyn Judge as Judge>⟧ self.new.slave) true)
             self.old.ip line (datagram_deed s at from octets.now) sent.old.items sent.new.items
             texts.old texts.new 0 0) }
     {
         let heard = take(alloc, &mut self.slave, at, from, octets)?;
-        say_heard(texts, line, self.slave.core.masters(), &heard)?;
+        say_heard(texts, line, self.slave.masters(), &heard)?;
         if was_ignored(&heard) {
             return Ok(());
         }
@@ -171,16 +158,12 @@ impl SlaveNode {
     ) -> Result<(), OutOfMemory>
         ensures ip { self.new.ip ≡ self.old.ip }
         ensures done { OnOk result ((begun : Bool) (s : Described) →
-            IsSlaveNode self.old.ip self.old.slave.core
-            (map (λ j. held (j.vtable, j.value)) self.old.slave.judges.items)
-            self.old.slave.port begun s →
-            HasDone (StandsAsSlave self.new.ip self.new.slave.core
-            (map (λ j. held (j.vtable, j.value)) self.new.slave.judges.items)
-            self.new.slave.port true)
+            IsNode self.old.ip (seen ⟦<dyn Judge as Judge>⟧ self.old.slave) begun s →
+            HasDone (StandsAsNode self.new.ip (seen ⟦<dyn Judge as Judge>⟧ self.new.slave) true)
             self.old.ip line (plain_deed s at Tick) sent.old.items sent.new.items texts.old
             texts.new 0 0) }
     {
-        tick(&mut self.slave, at)?;
+        tick(alloc, &mut self.slave, at)?;
         self.conclude(alloc, at, line, texts, sent)
     }
 
@@ -198,16 +181,12 @@ impl SlaveNode {
     ) -> Result<(), OutOfMemory>
         ensures ip { self.new.ip ≡ self.old.ip }
         ensures done { OnOk result ((begun : Bool) (s : Described) →
-            IsSlaveNode self.old.ip self.old.slave.core
-            (map (λ j. held (j.vtable, j.value)) self.old.slave.judges.items)
-            self.old.slave.port begun s →
-            HasDone (StandsAsSlave self.new.ip self.new.slave.core
-            (map (λ j. held (j.vtable, j.value)) self.new.slave.judges.items)
-            self.new.slave.port true)
+            IsNode self.old.ip (seen ⟦<dyn Judge as Judge>⟧ self.old.slave) begun s →
+            HasDone (StandsAsNode self.new.ip (seen ⟦<dyn Judge as Judge>⟧ self.new.slave) true)
             self.old.ip line (plain_deed s at Stop) sent.old.items sent.new.items texts.old
             texts.new 0 0) }
     {
-        stop(&mut self.slave, at)?;
+        stop(alloc, &mut self.slave, at)?;
         self.conclude(alloc, at, line, texts, sent)
     }
 
@@ -225,15 +204,11 @@ impl SlaveNode {
         texts: &mut Texts,
         sent: &[Sent],
     ) -> Result<(), OutOfMemory>
-        requires { master < length self.old.slave.core.masters }
+        requires { master < length (seen ⟦<dyn Judge as Judge>⟧ self.old.slave).kept.masters }
         ensures ip { self.new.ip ≡ self.old.ip }
         ensures done { OnOk result ((begun : Bool) (s : Described) →
-            IsSlaveNode self.old.ip self.old.slave.core
-            (map (λ j. held (j.vtable, j.value)) self.old.slave.judges.items)
-            self.old.slave.port begun s →
-            HasDone (StandsAsSlave self.new.ip self.new.slave.core
-            (map (λ j. held (j.vtable, j.value)) self.new.slave.judges.items)
-            self.new.slave.port true)
+            IsNode self.old.ip (seen ⟦<dyn Judge as Judge>⟧ self.old.slave) begun s →
+            HasDone (StandsAsNode self.new.ip (seen ⟦<dyn Judge as Judge>⟧ self.new.slave) true)
             self.old.ip line (plain_deed s at (TellFlag master unusable)) sent.now sent.now
             texts.old texts.new 0 0) }
     {
@@ -257,15 +232,13 @@ impl SlaveNode {
         texts: &mut Texts,
         sent: &[Sent],
     ) -> Result<(), OutOfMemory>
-        requires place { master < length self.old.slave.core.masters }
+        requires place { master < length (seen ⟦<dyn Judge as Judge>⟧ self.old.slave).kept.masters }
         requires fresh { (rule : Rule) × (held judge ≡ fresh rule) }
         ensures ip { self.new.ip ≡ self.old.ip }
         ensures done { OnOk result ((begun : Bool) (s : Described) (rule : Rule) →
             held judge ≡ fresh rule →
-            IsSlaveNode self.old.ip self.old.slave.core
-            (map (λ j. held j) self.old.slave.judges.items) self.old.slave.port begun s →
-            HasDone (StandsAsSlave self.new.ip self.new.slave.core
-            (map (λ j. held j) self.new.slave.judges.items) self.new.slave.port true)
+            IsNode self.old.ip (seen ⟦<dyn Judge as Judge>⟧ self.old.slave) begun s →
+            HasDone (StandsAsNode self.new.ip (seen ⟦<dyn Judge as Judge>⟧ self.new.slave) true)
             self.old.ip line (plain_deed s at (ReplaceJudge master (Some rule))) sent.now sent.now
             texts.old texts.new 0 0) }
     {
@@ -284,20 +257,27 @@ impl SlaveNode {
         texts: &mut Texts,
         sent: &mut Vec<Sent>,
     ) -> Result<(), OutOfMemory>
+        requires moment { at < 2 ^ 62 }
         ensures ip { self.new.ip ≡ self.old.ip }
-        ensures core { self.new.slave.core ≡ self.old.slave.core }
-        ensures judges { self.new.slave.judges ≡ self.old.slave.judges }
-        ensures idle { OnOk result (IsIdle self.new.slave.port) }
+        ensures core { (seen ⟦<dyn Judge as Judge>⟧ self.new.slave).kept ≡
+            (seen ⟦<dyn Judge as Judge>⟧ self.old.slave).kept }
+        ensures judges { (seen ⟦<dyn Judge as Judge>⟧ self.new.slave).judges
+            ≡ (seen ⟦<dyn Judge as Judge>⟧ self.old.slave).judges }
+        ensures idle { OnOk result (IsIdle (seen ⟦<dyn Judge as Judge>⟧ self.new.slave).port) }
         ensures sends { OnOk result (sent.new.items
-            ≡ sent.old.items ++ map (sent_from self.old.ip) self.old.slave.port.sent) }
+            ≡ sent.old.items ++ map (sent_from self.old.ip)
+            (seen ⟦<dyn Judge as Judge>⟧ self.old.slave).port.sent) }
         ensures says { OnOk result ((openings : List (Option Rule)) (L : Record) →
-            StandsFor openings self.old.slave.core
-            (map (λ j. held (j.vtable, j.value)) self.old.slave.judges.items) L →
+            StandsFor openings (seen ⟦<dyn Judge as Judge>⟧ self.old.slave).kept
+            (seen ⟦<dyn Judge as Judge>⟧ self.old.slave).judges L →
             texts.new ≡ texts.old ++ map (text_at line) (sending_said (length sent.old.items)
-            (map (sent_from self.old.ip) self.old.slave.port.sent)
-            ++ selection_by self.old.ip self.old.slave.core L at ∷ [])) }
+            (map (sent_from self.old.ip) (seen ⟦<dyn Judge as Judge>⟧ self.old.slave).port.sent)
+            ++ selection_by self.old.ip (seen ⟦<dyn Judge as Judge>⟧ self.old.slave).kept L at ∷
+            [])) }
     {
-        hand_over(alloc, &mut self.slave.port, self.ip, line, texts, sent)?;
+        let mut port = self.slave.replace_port(quiet_port(alloc));
+        hand_over(alloc, &mut port, self.ip, line, texts, sent)?;
+        self.slave.replace_port(port);
         self.say_selected(at, line, texts)?;
         Ok(())
     }
@@ -305,14 +285,14 @@ impl SlaveNode {
     // Says what the slave selects.
     fn say_selected(&mut self, at: Moment, line: u64, texts: &mut Texts) -> Result<(), OutOfMemory>
         ensures ip { self.new.ip ≡ self.old.ip }
-        ensures core { self.new.slave.core ≡ self.old.slave.core }
-        ensures judges { self.new.slave.judges ≡ self.old.slave.judges }
-        ensures port { self.new.slave.port ≡ self.old.slave.port }
+        ensures unchanged { seen ⟦<dyn Judge as Judge>⟧ self.new.slave ≡
+            seen ⟦<dyn Judge as Judge>⟧ self.old.slave }
         ensures says { OnOk result ((openings : List (Option Rule)) (L : Record) →
-            StandsFor openings self.old.slave.core
-            (map (λ j. held (j.vtable, j.value)) self.old.slave.judges.items) L →
+            StandsFor openings (seen ⟦<dyn Judge as Judge>⟧ self.old.slave).kept
+            (seen ⟦<dyn Judge as Judge>⟧ self.old.slave).judges L →
             texts.new ≡ texts.old
-            ++ text_at line (selection_by self.old.ip self.old.slave.core L at) ∷ []) }
+            ++ text_at line (selection_by self.old.ip
+            (seen ⟦<dyn Judge as Judge>⟧ self.old.slave).kept L at) ∷ []) }
     {
         let master = selected(&mut self.slave, at);
         let statement = Statement::Selected {
@@ -343,17 +323,31 @@ fn config_of(setup: &SlaveSetup) -> SlaveConfig
     }
 }
 
-// The masters, and one more at the end.
-fn masters_with(
-    alloc: Global,
-    masters: &[Master],
-    master: Master,
-) -> Result<Vec<Master>, OutOfMemory>
-    ensures { IfOk result (λ all. all.items ≡ masters.now ++ master ∷ []) }
+// A port at which nothing waits and nothing was sent, without room.
+fn quiet_port(alloc: Global) -> MemPort
+    ensures { IsIdle result }
 {
-    let mut all = masters.to_vec(alloc)?;
-    all.push(master)?;
-    Ok(all)
+    MemPort::new(alloc, Vec::new(alloc), Vec::new(alloc), Vec::new(alloc))
+}
+
+// Makes room in the port of a slave for so many datagrams, of so many octets in all.
+fn make_room(
+    alloc: Global,
+    slave: &mut Slave<MemPort>,
+    datagrams: usize,
+    octets: usize,
+) -> Result<(), OutOfMemory>
+    requires few { datagrams ≤ 32 }
+    ensures same { (seen ⟦<dyn Judge as Judge>⟧ slave.new).port.sent ≡
+        (seen ⟦<dyn Judge as Judge>⟧ slave.old).port.sent }
+    ensures rest { seen ⟦<dyn Judge as Judge>⟧ slave.new ≡ record
+        (seen ⟦<dyn Judge as Judge>⟧ slave.old)
+        { port = (seen ⟦<dyn Judge as Judge>⟧ slave.new).port } }
+{
+    let mut port = slave.replace_port(quiet_port(alloc));
+    let made = port.reserve(datagrams, octets);
+    slave.replace_port(port);
+    made
 }
 
 // The slave takes a datagram, with room for its reply.
@@ -364,19 +358,20 @@ fn take(
     from: u32,
     octets: &[u8],
 ) -> Result<Heard, OutOfMemory>
-    requires { IsJudged slave.old.core slave.old.judges.items }
-    ensures masters { slave.new.core.masters ≡ slave.old.core.masters }
-    ensures one { IfOk result (λ heard. IsOfOne (length slave.old.core.masters) heard) }
+    requires moment { at < 2 ^ 62 }
+    ensures masters { (seen ⟦<dyn Judge as Judge>⟧ slave.new).kept.masters ≡
+        (seen ⟦<dyn Judge as Judge>⟧ slave.old).kept.masters }
+    ensures one { IfOk result (λ heard. IsOfOne (length
+        (seen ⟦<dyn Judge as Judge>⟧ slave.old).kept.masters) heard) }
     ensures heard { IfOk result (λ heard. (ip : ℕ) (begun : Bool) (s : Described) →
-        IsSlaveNode ip slave.old.core (map (λ j. held (j.vtable, j.value)) slave.old.judges.items)
-        slave.old.port begun s → heard ≡ datagram_heard s.opened s.taken at from octets.now) }
+        IsNode ip (seen ⟦<dyn Judge as Judge>⟧ slave.old) begun s → heard ≡
+        datagram_heard s.opened s.taken at from octets.now) }
     ensures stepped { OnOk result ((ip : ℕ) (begun : Bool) (s : Described) →
-        IsSlaveNode ip slave.old.core (map (λ j. held (j.vtable, j.value)) slave.old.judges.items)
-        slave.old.port begun s →
-        HasStepped ip slave.new.core (map (λ j. held (j.vtable, j.value)) slave.new.judges.items)
-        slave.new.port s (node.datagram_deed s.opened s.taken at from octets.now)) }
+        IsNode ip (seen ⟦<dyn Judge as Judge>⟧ slave.old) begun s →
+        HasSteppedTo ip (seen ⟦<dyn Judge as Judge>⟧ slave.new) s
+        (node.datagram_deed s.opened s.taken at from octets.now)) }
 {
-    slave.port.reserve(1, SIGNALING)?;
+    make_room(alloc, slave, 1, SIGNALING)?;
     let heard = slave.take(alloc, at, from, octets)?;
     if was_unsent(&heard) {
         return Err(OutOfMemory);
@@ -385,17 +380,15 @@ fn take(
 }
 
 // The slave ticks, with room for all that it may send.
-fn tick(slave: &mut Slave<MemPort>, at: Moment) -> Result<(), OutOfMemory>
-    requires { IsJudged slave.old.core slave.old.judges.items }
+fn tick(alloc: Global, slave: &mut Slave<MemPort>, at: Moment) -> Result<(), OutOfMemory>
+    requires moment { at < 2 ^ 62 }
     ensures { OnOk result ((ip : ℕ) (begun : Bool) (s : Described) →
-        IsSlaveNode ip slave.old.core (map (λ j. held (j.vtable, j.value)) slave.old.judges.items)
-        slave.old.port begun s →
-        HasStepped ip slave.new.core (map (λ j. held (j.vtable, j.value)) slave.new.judges.items)
-        slave.new.port s (node.deed s.opened s.taken at Tick)) }
+        IsNode ip (seen ⟦<dyn Judge as Judge>⟧ slave.old) begun s →
+        HasSteppedTo ip (seen ⟦<dyn Judge as Judge>⟧ slave.new) s
+        (node.deed s.opened s.taken at Tick)) }
 {
-    slave
-        .port
-        .reserve(2 * MASTERS, MASTERS * (SIGNALING + DELAY_REQ))?;
+    let octets = MASTERS * (SIGNALING + DELAY_REQ);
+    make_room(alloc, slave, 2 * MASTERS, octets)?;
     let ticked = slave.tick(at);
     if ticked.failed > 0 {
         return Err(OutOfMemory);
@@ -404,15 +397,14 @@ fn tick(slave: &mut Slave<MemPort>, at: Moment) -> Result<(), OutOfMemory>
 }
 
 // The slave stops, with room for all that it may send.
-fn stop(slave: &mut Slave<MemPort>, at: Moment) -> Result<(), OutOfMemory>
-    requires { IsJudged slave.old.core slave.old.judges.items }
+fn stop(alloc: Global, slave: &mut Slave<MemPort>, at: Moment) -> Result<(), OutOfMemory>
+    requires moment { at < 2 ^ 62 }
     ensures { OnOk result ((ip : ℕ) (begun : Bool) (s : Described) →
-        IsSlaveNode ip slave.old.core (map (λ j. held (j.vtable, j.value)) slave.old.judges.items)
-        slave.old.port begun s →
-        HasStepped ip slave.new.core (map (λ j. held (j.vtable, j.value)) slave.new.judges.items)
-        slave.new.port s (node.deed s.opened s.taken at Stop)) }
+        IsNode ip (seen ⟦<dyn Judge as Judge>⟧ slave.old) begun s →
+        HasSteppedTo ip (seen ⟦<dyn Judge as Judge>⟧ slave.new) s
+        (node.deed s.opened s.taken at Stop)) }
 {
-    slave.port.reserve(MASTERS, MASTERS * SIGNALING)?;
+    make_room(alloc, slave, MASTERS, MASTERS * SIGNALING)?;
     let ticked = slave.stop(at);
     if ticked.failed > 0 {
         return Err(OutOfMemory);
@@ -422,24 +414,13 @@ fn stop(slave: &mut Slave<MemPort>, at: Moment) -> Result<(), OutOfMemory>
 
 // The address of the master that a slave selects.
 fn selected(slave: &mut Slave<MemPort>, at: Moment) -> Option<u32>
-    requires { IsJudged slave.old.core slave.old.judges.items }
+    requires moment { at < 2 ^ 62 }
     ensures selected { (openings : List (Option Rule)) (L : Record) →
-        StandsFor openings slave.old.core
-        (map (λ j. held (j.vtable, j.value)) slave.old.judges.items) L →
-        result ≡ selected_address slave.old.core L at }
-    ensures core { slave.new.core ≡ slave.old.core }
-    ensures judges { slave.new.judges ≡ slave.old.judges }
-    ensures port { slave.new.port ≡ slave.old.port }
+        StandsFor openings (seen ⟦<dyn Judge as Judge>⟧ slave.old).kept
+        (seen ⟦<dyn Judge as Judge>⟧ slave.old).judges L →
+        result ≡ selected_address (seen ⟦<dyn Judge as Judge>⟧ slave.old).kept L at }
+    ensures unchanged { seen ⟦<dyn Judge as Judge>⟧ slave.new ≡
+        seen ⟦<dyn Judge as Judge>⟧ slave.old }
 {
-    let place = slave.selected(at);
-    address(slave.core.masters(), place)
-}
-
-// The address of the master at the place.
-fn address(masters: &[Master], place: Option<usize>) -> Option<u32>
-    ensures { IfSome place (λ m. m < length masters.now) →
-        result ≡ option_map (address_of masters.now) place }
-{
-    let master = masters.get(place?)?;
-    Some(master.ip)
+    slave.selected_address(at)
 }

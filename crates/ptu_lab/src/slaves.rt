@@ -3,11 +3,12 @@ ghost use Rattle.std.specs.Prelude.{◌≡◌, [], map, IfOk};
 ghost use Rattle.ptu_script.specs.Limits.{IsNamed};
 ghost use Rattle.ptu_script.specs.declared.command.Command.TheVariants as commands;
 ghost use Rattle.ptu_world.specs.Report.{Course};
+ghost use Rattle.ptu_slave.specs.Seen.{seen};
 ghost use Rattle.ptu_lab.specs.Steps.{HasStepped};
 ghost use Rattle.ptu_lab.specs.Standing.{StandsFor};
 
 use crate::lab::Lab;
-use ptu_judges::Rule;
+use ptu_judges::{Judge, Rule};
 use ptu_report::Texts;
 use ptu_script::Cause;
 use ptu_units::{Moment, OutOfMemory};
@@ -28,10 +29,10 @@ impl Lab {
     ) -> Result<Option<Cause>, OutOfMemory>
         requires empty { texts.old ≡ [] }
         ensures { IfOk result (HasStepped line
-            (StandsFor (λ n. map (λ j. held j) n.slave.judges.items)
+            (StandsFor (λ n. seen ⟦<dyn Judge as Judge>⟧ n.slave)
             (map (λ j. held j) self.old.stock.flags.items)
             (map (λ j. held j) self.old.stock.gaps.items) self.old)
-            (StandsFor (λ n. map (λ j. held j) n.slave.judges.items)
+            (StandsFor (λ n. seen ⟦<dyn Judge as Judge>⟧ n.slave)
             (map (λ j. held j) self.new.stock.flags.items)
             (map (λ j. held j) self.new.stock.gaps.items) self.new)
             texts.new (commands.Tick at slave)) }
@@ -60,10 +61,10 @@ impl Lab {
     ) -> Result<Option<Cause>, OutOfMemory>
         requires empty { texts.old ≡ [] }
         ensures { IfOk result (HasStepped line
-            (StandsFor (λ n. map (λ j. held j) n.slave.judges.items)
+            (StandsFor (λ n. seen ⟦<dyn Judge as Judge>⟧ n.slave)
             (map (λ j. held j) self.old.stock.flags.items)
             (map (λ j. held j) self.old.stock.gaps.items) self.old)
-            (StandsFor (λ n. map (λ j. held j) n.slave.judges.items)
+            (StandsFor (λ n. seen ⟦<dyn Judge as Judge>⟧ n.slave)
             (map (λ j. held j) self.new.stock.flags.items)
             (map (λ j. held j) self.new.stock.gaps.items) self.new)
             texts.new (commands.Stop at slave)) }
@@ -94,10 +95,10 @@ impl Lab {
     ) -> Result<Option<Cause>, OutOfMemory>
         requires empty { texts.old ≡ [] }
         ensures { IfOk result (HasStepped line
-            (StandsFor (λ n. map (λ j. held j) n.slave.judges.items)
+            (StandsFor (λ n. seen ⟦<dyn Judge as Judge>⟧ n.slave)
             (map (λ j. held j) self.old.stock.flags.items)
             (map (λ j. held j) self.old.stock.gaps.items) self.old)
-            (StandsFor (λ n. map (λ j. held j) n.slave.judges.items)
+            (StandsFor (λ n. seen ⟦<dyn Judge as Judge>⟧ n.slave)
             (map (λ j. held j) self.new.stock.flags.items)
             (map (λ j. held j) self.new.stock.gaps.items) self.new)
             texts.new (commands.Flag at slave master unusable)) }
@@ -127,16 +128,16 @@ impl Lab {
         texts: &mut Texts,
     ) -> Result<Option<Cause>, OutOfMemory>
         requires means { (c : Course) × StandsFor
-            (λ n. map (λ j. held j) n.slave.judges.items)
+            (λ n. seen ⟦<dyn Judge as Judge>⟧ n.slave)
             (map (λ j. held j) self.old.stock.flags.items)
             (map (λ j. held j) self.old.stock.gaps.items) self.old c }
         requires named { IsNamed rule }
         requires empty { texts.old ≡ [] }
         ensures { IfOk result (HasStepped line
-            (StandsFor (λ n. map (λ j. held j) n.slave.judges.items)
+            (StandsFor (λ n. seen ⟦<dyn Judge as Judge>⟧ n.slave)
             (map (λ j. held j) self.old.stock.flags.items)
             (map (λ j. held j) self.old.stock.gaps.items) self.old)
-            (StandsFor (λ n. map (λ j. held j) n.slave.judges.items)
+            (StandsFor (λ n. seen ⟦<dyn Judge as Judge>⟧ n.slave)
             (map (λ j. held j) self.new.stock.flags.items)
             (map (λ j. held j) self.new.stock.gaps.items) self.new)
             texts.new (commands.Judge at slave master rule)) }

@@ -142,5 +142,5 @@ one_more_judged n x olds mids news old mid new bs b all one long selects rest = 
     joined : (L : Record) → (L ++ judged_entries x (places n) bs) ++ Judged x n b ∷ [] ≡ L ++ judged_entries x (places (n + 1)) (bs ++ b ∷ [])
     joined L = append_assoc L (judged_entries x (places n) bs) (Judged x n b ∷ []) ∙ ap (λ w. L ++ w) (sym (entries-more x n bs b all.many))
 
-pub all_judged : (m n x : ℕ) (olds news : List Held) (old new : Kept) → m ≡ n → (bs : List Bool) × AllJudged m x olds news old new bs → (bs : List Bool) × AllJudged n x olds news old new bs
-all_judged m n x olds news old new same judged = subst (λ k. (bs : List Bool) × AllJudged k x olds news old new bs) same judged
+pub all_judged : (m n x : ℕ) (olds news : List Held) (old new : Kept) (bs : List Bool) → m ≡ n → AllJudged m x olds news old new bs → AllJudged n x olds news old new bs
+all_judged m n x olds news old new bs same judged = subst (λ k. AllJudged k x olds news old new bs) same judged

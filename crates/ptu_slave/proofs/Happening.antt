@@ -7,7 +7,7 @@ use Rattle.ptu_record.specs.Step.{SlaveEvent, TakeAnnounce, TakeDelayResp, TakeF
 use Rattle.ptu_judges.specs.Held.{Held}
 use Rattle.ptu_slave.specs.Kept.{Kept}
 use Rattle.ptu_slave.specs.Parts.{OneJudged}
-use Rattle.ptu_slave.specs.Standing.{Asks, Selects, StandsFor, Steps}
+use Rattle.ptu_slave.specs.Standing.{Asks, Selects, StandsFor, Steps, StepsBy}
 use Rattle.ptu_slave.proofs.Quiet.{Unasked, asks_kept, judge_kept, selects_kept}
 use Rattle.ptu_slave.proofs.Stepping.{Entered, Moves, step_of}
 
@@ -36,31 +36,31 @@ selects_begun old mid at L first h = subst (λ k. Selects k L) (sym first) h
 
 module _ (openings : List (Option Rule)) (old new : Kept) (L : Record) (t at : ℕ) (is : at ≡ max t old.moment) (begun : Begun old new at) where
   pub announced : (judges : List Held) (m class : ℕ) → Selects new (L ++ Announce at m class ∷ []) → StandsFor openings old judges L → Steps openings old new judges L t (TakeAnnounce m class)
-  announced judges m class selects h = step_of openings old new judges judges L t at (TakeAnnounce m class) [] h is begun.moves begun.stopped refl (record {
+  announced judges m class selects h = (step_of openings old new judges judges L t at (TakeAnnounce m class) [] h is begun.moves begun.stopped refl (record {
     unstopped = refl;
     found = tt;
     asks = λ told same asks. asks_kept old new told L (Announce at m class ∷ []) begun.requester begun.counters (record { no_negotiation = refl; uncounted = record { no_signaling = refl; no_delay_req = refl; no_moment = refl } }, tt) asks;
     selects = selects;
     judge = judge_kept openings judges L (Announce at m class ∷ []) (record { no_judge = refl; no_rule = refl; no_word = refl; no_sync = refl }, tt) h.judge;
-  })
+  })).0
 
   pub responded : (judges : List Held) (m number : ℕ) → Selects new (L ++ Resp at m number ∷ []) → StandsFor openings old judges L → Steps openings old new judges L t (TakeDelayResp m number)
-  responded judges m number selects h = step_of openings old new judges judges L t at (TakeDelayResp m number) [] h is begun.moves begun.stopped refl (record {
+  responded judges m number selects h = (step_of openings old new judges judges L t at (TakeDelayResp m number) [] h is begun.moves begun.stopped refl (record {
     unstopped = refl;
     found = tt;
     asks = λ told same asks. asks_kept old new told L (Resp at m number ∷ []) begun.requester begun.counters (record { no_negotiation = refl; uncounted = record { no_signaling = refl; no_delay_req = refl; no_moment = refl } }, tt) asks;
     selects = selects;
     judge = judge_kept openings judges L (Resp at m number ∷ []) (record { no_judge = refl; no_rule = refl; no_word = refl; no_sync = refl }, tt) h.judge;
-  })
+  })).0
 
   pub followed_up : (judges : List Held) (m : ℕ) → Selects new L → StandsFor openings old judges L → Steps openings old new judges L t (TakeFollowUp m)
-  followed_up judges m selects h = step_of openings old new judges judges L t at (TakeFollowUp m) [] h is begun.moves begun.stopped refl (record {
+  followed_up judges m selects h = (step_of openings old new judges judges L t at (TakeFollowUp m) [] h is begun.moves begun.stopped refl (record {
     unstopped = refl;
     found = tt;
     asks = λ told same asks. asks_kept old new told L (Event at ∷ []) begun.requester begun.counters (record { no_negotiation = refl; uncounted = record { no_signaling = refl; no_delay_req = refl; no_moment = refl } }, tt) asks;
     selects = selects_kept new L (Event at ∷ []) (refl, tt) selects;
     judge = judge_kept openings judges L (Event at ∷ []) (record { no_judge = refl; no_rule = refl; no_word = refl; no_sync = refl }, tt) h.judge;
-  })
+  })).0
 
   -- an entry that a judge is told of, and what it finds
   pub judged_event : (olds news : List Held) (m : ℕ) (e : SlaveEvent) (entry : Entry) (unusable : Bool) → Unasked entry
@@ -68,26 +68,26 @@ module _ (openings : List (Option Rule)) (old new : Kept) (L : Record) (t at : �
       → (asks : (told : Record) → Asks old told L → Asks new (told ++ entry ∷ Judged at m unusable ∷ []) (L ++ entry ∷ Judged at m unusable ∷ []))
       → StandsFor openings old olds L → Entered openings old new olds news L e (unusable ∷ []) at)
       → OneJudged at m entry olds news unusable → Selects new (L ++ entry ∷ Judged at m unusable ∷ []) → length news ≡ length olds
-      → StandsFor openings old olds L → Steps openings old new news L t e
+      → StandsFor openings old olds L → StepsBy (unusable ∷ []) openings old new news L t e
   judged_event olds news m e entry unusable quiet enters judged selects long h =
       step_of openings old new olds news L t at e (unusable ∷ []) h is begun.moves begun.stopped long
       (enters judged selects (λ told asks. asks_kept old new told L (entry ∷ Judged at m unusable ∷ []) begun.requester begun.counters
       (quiet, (record { no_negotiation = refl; uncounted = record { no_signaling = refl; no_delay_req = refl; no_moment = refl } }, tt)) asks) h)
 
   pub synced : (olds news : List Held) (m number : ℕ) (unusable : Bool) → OneJudged at m (S at m number) olds news unusable → Selects new (L ++ S at m number ∷ Judged at m unusable ∷ [])
-      → length news ≡ length olds → StandsFor openings old olds L → Steps openings old new news L t (TakeSync m number)
+      → length news ≡ length olds → StandsFor openings old olds L → StepsBy (unusable ∷ []) openings old new news L t (TakeSync m number)
   synced olds news m number unusable judged selects long h = judged_event olds news m (TakeSync m number) (S at m number) unusable
       (record { no_negotiation = refl; uncounted = record { no_signaling = refl; no_delay_req = refl; no_moment = refl } })
       (λ judged selects asks h. record { unstopped = refl; found = (judged.found openings L h.judge, tt); asks = λ told same a. asks told a; selects = selects; judge = judged.judge openings L h.judge }) judged selects long h
 
   pub told_flag : (olds news : List Held) (m : ℕ) (word unusable : Bool) → OneJudged at m (T at m word) olds news unusable → Selects new (L ++ T at m word ∷ Judged at m unusable ∷ [])
-      → length news ≡ length olds → StandsFor openings old olds L → Steps openings old new news L t (TellFlag m word)
+      → length news ≡ length olds → StandsFor openings old olds L → StepsBy (unusable ∷ []) openings old new news L t (TellFlag m word)
   told_flag olds news m word unusable judged selects long h = judged_event olds news m (TellFlag m word) (T at m word) unusable
       (record { no_negotiation = refl; uncounted = record { no_signaling = refl; no_delay_req = refl; no_moment = refl } })
       (λ judged selects asks h. record { unstopped = refl; found = (judged.found openings L h.judge, tt); asks = λ told same a. asks told a; selects = selects; judge = judged.judge openings L h.judge }) judged selects long h
 
   pub replaced : (olds news : List Held) (m : ℕ) (rule : Option Rule) (unusable : Bool) → OneJudged at m (J at m rule) olds news unusable → Selects new (L ++ J at m rule ∷ Judged at m unusable ∷ [])
-      → length news ≡ length olds → StandsFor openings old olds L → Steps openings old new news L t (ReplaceJudge m rule)
+      → length news ≡ length olds → StandsFor openings old olds L → StepsBy (unusable ∷ []) openings old new news L t (ReplaceJudge m rule)
   replaced olds news m rule unusable judged selects long h = judged_event olds news m (ReplaceJudge m rule) (J at m rule) unusable
       (record { no_negotiation = refl; uncounted = record { no_signaling = refl; no_delay_req = refl; no_moment = refl } })
       (λ judged selects asks h. record { unstopped = refl; found = (judged.found openings L h.judge, tt); asks = λ told same a. asks told a; selects = selects; judge = judged.judge openings L h.judge }) judged selects long h

@@ -1,3 +1,4 @@
+pub mod Calling
 pub mod Masters
 pub mod Quiet
 pub mod Entering
@@ -12,3 +13,5 @@ pub mod Hearing
 pub mod Ruled
 pub mod Nodes
 pub mod Staying
+mod Selecting
+mod Adding

@@ -34,7 +34,7 @@ others_of m n L E differ all = record_of-others n L E (other m n E differ all)
 
 -- ---- what is kept of each
 
-slice_get-set_same : {A : Type 0} (xs : List A) (i : ℕ) (x : A) → i < length xs → slice_get (set xs i x) i ≡ Some x
+pub slice_get-set_same : {A : Type 0} (xs : List A) (i : ℕ) (x : A) → i < length xs → slice_get (set xs i x) i ≡ Some x
 slice_get-set_same [] i x within = absurd (omega arith)
 slice_get-set_same (y ∷ ys) zero x within = refl
 slice_get-set_same (y ∷ ys) (suc i) x within = slice_get-set_same ys i x (omega arith)

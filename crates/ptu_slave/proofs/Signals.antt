@@ -104,13 +104,13 @@ pub signalled : (openings : List (Option Rule)) (old new : Kept) (judges : List 
     → ((told : Record) → Asks old told L → Asks new (told ++ filter_map (signal_entry old.config.wants at m) (signals_of old.config.wants tlvs)) (L ++ filter_map (signal_entry old.config.wants at m) (signals_of old.config.wants tlvs)))
     → Selects new L → StandsFor openings old judges L → Steps openings old new judges L t (TakeSignaling m number (filter_map said_by tlvs))
 signalled openings old new judges L t at m number tlvs is moves still asks selects h =
-    step_of openings old new judges judges L t at (TakeSignaling m number signals) [] h is moves still refl (record {
+    (step_of openings old new judges judges L t at (TakeSignaling m number signals) [] h is moves still refl (record {
       unstopped = none_stop E (all_entries setup L at m number signals (λ e. is_stop e ≡ false) (unstopped old.config.wants at m signals) refl);
       found = tt;
       asks = λ told same a. subst (λ w. Asks new (told ++ w) (L ++ w)) (sym whole) (asks_or_event new told L F at (asks told a));
       selects = selects_kept new L E (all_entries setup L at m number signals (λ e. is_watched e ≡ false) (unwatched old.config.wants at m signals) refl) selects;
       judge = judge_kept openings judges L E (all_entries setup L at m number signals Untold (untold old.config.wants at m signals) (record { no_judge = refl; no_rule = refl; no_word = refl; no_sync = refl })) h.judge;
-    })
+    })).0
   where
     setup : SlaveSetup
     setup = setup_of old.config openings

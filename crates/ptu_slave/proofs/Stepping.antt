@@ -12,7 +12,7 @@ use Rattle.ptu_record.specs.Step.{SlaveEvent, SlaveSetup, entries_by, judged_mas
 use Rattle.ptu_record.proofs.StepParts.{step_moment}
 use Rattle.ptu_judges.specs.Held.{Held}
 use Rattle.ptu_slave.specs.Kept.{IsSame, Kept}
-use Rattle.ptu_slave.specs.Standing.{Asks, Judge, SameGrants, Selects, StandsFor, Steps, setup_of}
+use Rattle.ptu_slave.specs.Standing.{Asks, Judge, SameGrants, Selects, StandsFor, StepsBy, setup_of}
 
 -- what an event changes of a slave that is not of its parts
 pub record Moves (old new : Kept) (at : ℕ) : Type 0 where
@@ -54,24 +54,27 @@ pub record Entered (openings : List (Option Rule)) (old new : Kept) (judges news
 
 pub step_of : (openings : List (Option Rule)) (old new : Kept) (judges news : List Held) (L : Record) (t at : ℕ) (e : SlaveEvent) (assessments : List Bool)
     → StandsFor openings old judges L → at ≡ max t old.moment → Moves old new at → new.stopped ≡ old.stopped → length news ≡ length judges
-    → Entered openings old new judges news L e assessments at → Steps openings old new news L t e
-step_of openings old new judges news L t at e assessments h is moves still long entered = record {
-  step = step_by setup assessments L t e;
-  is_step = record { assessments = assessments; found = whole.found; taken = refl };
-  stands = record {
-    told = h.told ++ E;
-    asks = whole.asks h.told h.told_all h.asks;
-    selects = whole.selects;
-    judge = whole.judge;
-    moment = moves.moment ∙ moment_after setup assessments L t at e same;
-    stopped = still ∙ h.stopped ∙ sym (list_any-append is_stop L E ∙ ap (λ b. list_any is_stop L || b) whole.unstopped ∙ or_false (list_any is_stop L));
-    told_all = λ going. ap (λ w. w ++ E) (h.told_all (sym still ∙ going));
-    grants = subst (λ n. SameGrants n new.moment (h.told ++ E) (L ++ E)) (ap length (sym moves.masters))
-        (grants_more (length old.masters) old.moment new.moment h.told L E (later t old.moment new.moment (moves.moment ∙ is)) h.grants);
-    each_judged = long ∙ h.each_judged ∙ ap length (sym moves.masters);
-    each_opening = h.each_opening ∙ ap length (sym moves.masters);
-  };
-}
+    → Entered openings old new judges news L e assessments at → StepsBy assessments openings old new news L t e
+step_of openings old new judges news L t at e assessments h is moves still long entered = (
+  record {
+    step = step_by setup assessments L t e;
+    is_step = record { assessments = assessments; found = whole.found; taken = refl };
+    stands = record {
+      told = h.told ++ E;
+      asks = whole.asks h.told h.told_all h.asks;
+      selects = whole.selects;
+      judge = whole.judge;
+      moment = moves.moment ∙ moment_after setup assessments L t at e same;
+      stopped = still ∙ h.stopped ∙ sym (list_any-append is_stop L E ∙ ap (λ b. list_any is_stop L || b) whole.unstopped ∙ or_false (list_any is_stop L));
+      told_all = λ going. ap (λ w. w ++ E) (h.told_all (sym still ∙ going));
+      grants = subst (λ n. SameGrants n new.moment (h.told ++ E) (L ++ E)) (ap length (sym moves.masters))
+          (grants_more (length old.masters) old.moment new.moment h.told L E (later t old.moment new.moment (moves.moment ∙ is)) h.grants);
+      each_judged = long ∙ h.each_judged ∙ ap length (sym moves.masters);
+      each_opening = h.each_opening ∙ ap length (sym moves.masters);
+    };
+  },
+  refl,
+)
   where
     setup : SlaveSetup
     setup = setup_of old.config openings

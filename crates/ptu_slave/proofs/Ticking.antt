@@ -13,7 +13,7 @@ use Rattle.ptu_fails.specs.Watched.{is_watched}
 use Rattle.ptu_judges.specs.Held.{Held}
 use Rattle.ptu_slave.specs.Kept.{Kept}
 use Rattle.ptu_slave.specs.Parts.{AllJudged, Ticks}
-use Rattle.ptu_slave.specs.Standing.{Asks, Judge, Selects, StandsFor, Steps, setup_of}
+use Rattle.ptu_slave.specs.Standing.{Asks, Judge, Selects, StandsFor, StepsBy, setup_of}
 use Rattle.ptu_slave.proofs.Masters.{all_append}
 use Rattle.ptu_slave.proofs.Quiet.{Unasked, Untold, asks_kept, judge_kept, selects_kept}
 use Rattle.ptu_slave.proofs.Sendings.{sent_all}
@@ -120,7 +120,7 @@ module _ (openings : List (Option Rule)) (old begun judged new : Kept) (olds new
     moment = ap (λ (k : Kept). k.moment) ticks.rest ∙ ap (λ (k : Kept). k.moment) all.rest ∙ ap (λ (k : Kept). k.moment) first;
   }
 
-  pub ticked : Steps openings old new news L t Tick
+  pub ticked : StepsBy assessments openings old new news L t Tick
   ticked = step_of openings old new olds news L t at Tick assessments h is moves
       (ap (λ (k : Kept). k.stopped) ticks.rest ∙ still) all.long (record {
         unstopped = none_stop E unstopped;

@@ -1,3 +1,5 @@
 pub mod Kept
 pub mod Standing
 pub mod Parts
+pub mod Seen
+pub mod Events

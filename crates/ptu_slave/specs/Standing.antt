@@ -1,12 +1,13 @@
 -- Which records a slave stands for, and what a step of it is.
-use Rattle.std.specs.Prelude.{◌≡◌, ℕ, ◌<◌, ◌≤◌, false, List, ◌++◌, length, map, slice_get, Option, Some}
+use Rattle.std.specs.Prelude.{◌≡◌, ℕ, ◌<◌, ◌≤◌, Bool, false, List, ◌++◌, length, map, slice_get, Option, Some, option_map}
 use Rattle.std.specs.List.{list_any}
 use Rattle.ptu_units.specs.declared.kind.Kind.{Kind}
 use Rattle.ptu_record.specs.declared.rule.Rule.{Rule}
 use Rattle.ptu_record.specs.Lists.{maximum}
-use Rattle.ptu_record.specs.Record.{Record, record_of, moment_of}
+use Rattle.ptu_record.specs.Record.{Record, event_moment, record_of, moment_of}
 use Rattle.ptu_record.specs.Grants.{is_live}
 use Rattle.ptu_record.specs.Judges.{opening_of}
+use Rattle.ptu_record.specs.Selection.{selected_master}
 use Rattle.ptu_record.specs.Tick.{is_stop}
 use Rattle.ptu_record.specs.Step.{IsStep, SlaveEvent, SlaveSetup, SlaveStep}
 use Rattle.ptu_requester.specs.Requester as requester
@@ -14,7 +15,7 @@ use Rattle.ptu_select.specs.Selecting.{SelectsBy}
 use Rattle.ptu_judges.specs.Held.{Held}
 use Rattle.ptu_judges.specs.Held as judge
 use Rattle.ptu_slave_messages.specs.declared.config.SlaveConfig.{SlaveConfig}
-use Rattle.ptu_slave_messages.specs.Config.{priorities, timeouts}
+use Rattle.ptu_slave_messages.specs.Config.{address_of, priorities, timeouts}
 use Rattle.ptu_slave.specs.Kept.{CountFor, Kept}
 
 -- what is kept of each master is what a fact says of it and of the master's record
@@ -66,3 +67,13 @@ pub record Steps (openings : List (Option Rule)) (old new : Kept) (judges : List
   pub step : SlaveStep
   pub is_step : IsStep (setup_of old.config openings) L t e step
   pub stands : StandsFor openings new judges (L ++ step.entries)
+
+-- such a step, at which the judges who are asked find this
+abbrev pub StepsBy : List Bool → List (Option Rule) → (old new : Kept) → List Held → Record → ℕ → SlaveEvent → Type 0
+StepsBy found openings old new judges L t e = (steps : Steps openings old new judges L t e) × (steps.is_step.assessments ≡ found)
+
+-- the address of the master that a slave selects, of which this is kept, after this record at t, or at the record's moment
+-- where that is later
+abbrev pub selected_address : Kept → Record → ℕ → Option ℕ
+selected_address kept L t =
+    option_map (address_of kept.masters) (selected_master (timeouts kept.config) (priorities kept.masters) L (event_moment L t))

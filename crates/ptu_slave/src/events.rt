@@ -1,18 +1,19 @@
 //! The events of a slave that send nothing but a reply.
 
-ghost use Rattle.std.specs.Prelude.{◌≡◌, ℕ, ◌<◌, max, List, map, filter_map, length, Option};
+ghost use Rattle.std.specs.Prelude.{◌≡◌, ℕ, ◌<◌, max, Bool, List, [], ◌∷◌, map, filter_map, length, Option};
 ghost use Rattle.ptu_record.specs.declared.rule.Rule.{Rule};
 ghost use Rattle.ptu_record.specs.Record.{Record};
 ghost use Rattle.ptu_record.specs.Step.{TakeAnnounce, TakeSync, TakeFollowUp, TakeDelayResp, TakeSignaling, TellFlag, ReplaceJudge};
 ghost use Rattle.ptu_tlvs.specs.declared.tlv.Tlv.{Tlv};
 ghost use Rattle.ptu_judges.specs.Held.{Held, IsFresh};
+ghost use Rattle.ptu_judges.specs.Calls.{OfOne, Then, WasAsked, WasHeard, WasTold};
 ghost use Rattle.ptu_slave_messages.specs.Heard.{signals_of, said_by};
 ghost use Rattle.ptu_slave.specs.Kept.{IsSame};
-ghost use Rattle.ptu_slave.specs.Standing.{StandsFor, Steps};
+ghost use Rattle.ptu_slave.specs.Standing.{StandsFor, Steps, StepsBy};
 
 use crate::judging::{judge_anew, judge_flag, judge_sync};
 use crate::node::Core;
-use ptu_judges::Judge;
+use ptu_judges::{Conduct, Judge};
 use ptu_slave_messages::Signal;
 use ptu_units::Moment;
 
@@ -92,10 +93,14 @@ pub(crate) fn take_sync(
     ensures at { result ≡ max t core.old.moment }
     ensures same { IsSame core.old core.new }
     ensures judges { length judges.new.items ≡ length judges.old.items }
-    ensures steps { (openings : List (Option Rule)) (L : Record) →
+    ensures judge { (found : Bool) × OfOne master (Then (WasHeard ⟦<dyn Judge as Conduct>⟧
+        (max t core.old.moment) seq)
+        (WasAsked ⟦<dyn Judge as Conduct>⟧ (max t core.old.moment) found))
+        judges.old.items judges.new.items
+        × ((openings : List (Option Rule)) (L : Record) →
         StandsFor openings core.old (map (λ j. held j) judges.old.items) L →
-        Steps openings core.old core.new (map (λ j. held j) judges.new.items) L t
-        (TakeSync master seq) }
+        StepsBy (found ∷ []) openings core.old core.new (map (λ j. held j) judges.new.items) L t
+        (TakeSync master seq)) }
 {
     let at = core.begin(t);
     core.sync(at, master);
@@ -116,10 +121,14 @@ pub(crate) fn tell_flag(
     requires judges { length judges.old.items ≡ length core.old.masters }
     ensures same { IsSame core.old core.new }
     ensures judges { length judges.new.items ≡ length judges.old.items }
-    ensures steps { (openings : List (Option Rule)) (L : Record) →
+    ensures judge { (found : Bool) × OfOne master (Then (WasTold ⟦<dyn Judge as Conduct>⟧
+        (max t core.old.moment) unusable)
+        (WasAsked ⟦<dyn Judge as Conduct>⟧ (max t core.old.moment) found))
+        judges.old.items judges.new.items
+        × ((openings : List (Option Rule)) (L : Record) →
         StandsFor openings core.old (map (λ j. held j) judges.old.items) L →
-        Steps openings core.old core.new (map (λ j. held j) judges.new.items) L t
-        (TellFlag master unusable) }
+        StepsBy (found ∷ []) openings core.old core.new (map (λ j. held j) judges.new.items) L t
+        (TellFlag master unusable)) }
 {
     let at = core.begin(t);
     let found = judge_flag(judges, at, master, unusable);
@@ -139,10 +148,13 @@ pub(crate) fn replace_judge(
     requires fresh { IsFresh (held judge) }
     ensures same { IsSame core.old core.new }
     ensures judges { length judges.new.items ≡ length judges.old.items }
-    ensures steps { (openings : List (Option Rule)) (L : Record) →
+    ensures judge { (found : Bool) × OfOne master (λ old new.
+        WasAsked ⟦<dyn Judge as Conduct>⟧ (max t core.old.moment) found judge new)
+        judges.old.items judges.new.items
+        × ((openings : List (Option Rule)) (L : Record) →
         StandsFor openings core.old (map (λ j. held j) judges.old.items) L →
-        Steps openings core.old core.new (map (λ j. held j) judges.new.items) L t
-        (ReplaceJudge master (held judge).rule) }
+        StepsBy (found ∷ []) openings core.old core.new (map (λ j. held j) judges.new.items) L t
+        (ReplaceJudge master (held judge).rule)) }
 {
     let at = core.begin(t);
     let unusable = judge_anew(judges, at, master, judge);

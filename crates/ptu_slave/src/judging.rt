@@ -6,15 +6,17 @@ ghost use Rattle.ptu_record.specs.Record.{Record, Sync, Told, Judged};
 ghost use Rattle.ptu_record.specs.Record as entry;
 ghost use Rattle.ptu_record.specs.Judges.{IsAssessment};
 ghost use Rattle.ptu_judges.specs.Held.{IsFresh, StandsFor};
+ghost use Rattle.ptu_judges.specs.Calls.{OfAll, OfOne, Then, WasAsked, WasHeard, WasTold};
 ghost use Rattle.ptu_slave.specs.Parts.{AllJudged, OneAsked, OneJudged};
 
 use crate::node::Core;
-use ptu_judges::Judge;
+use ptu_judges::{Conduct, Judge};
 use ptu_units::Moment;
 
 // Tells a judge of a Sync.
 fn hear(judge: &mut Box<dyn Judge>, at: Moment, seq: u16)
-    ensures { (opening : Option Rule) (own : Record) (m : ℕ) →
+    ensures call { WasHeard ⟦<dyn Judge as Conduct>⟧ at seq judge.old judge.new }
+    ensures stands { (opening : Option Rule) (own : Record) (m : ℕ) →
         StandsFor opening own (held judge.old) →
         StandsFor opening (own ++ Sync at m seq ∷ []) (held judge.new) }
 {
@@ -23,7 +25,8 @@ fn hear(judge: &mut Box<dyn Judge>, at: Moment, seq: u16)
 
 // Tells a judge of the operator's word.
 fn tell(judge: &mut Box<dyn Judge>, at: Moment, unusable: bool)
-    ensures { (opening : Option Rule) (own : Record) (m : ℕ) →
+    ensures call { WasTold ⟦<dyn Judge as Conduct>⟧ at unusable judge.old judge.new }
+    ensures stands { (opening : Option Rule) (own : Record) (m : ℕ) →
         StandsFor opening own (held judge.old) →
         StandsFor opening (own ++ Told at m unusable ∷ []) (held judge.new) }
 {
@@ -32,6 +35,7 @@ fn tell(judge: &mut Box<dyn Judge>, at: Moment, unusable: bool)
 
 // Asks a judge.
 fn ask(judge: &mut Box<dyn Judge>, at: Moment) -> bool
+    ensures call { WasAsked ⟦<dyn Judge as Conduct>⟧ at result judge.old judge.new }
     ensures found { (opening : Option Rule) (own : Record) →
         StandsFor opening own (held judge.old) → IsAssessment opening own result }
     ensures judge { (opening : Option Rule) (own : Record) (m : ℕ) →
@@ -49,6 +53,8 @@ pub(crate) fn judge_sync(
     seq: u16,
 ) -> bool
     requires { master < length judges.old.items }
+    ensures calls { OfOne master (Then (WasHeard ⟦<dyn Judge as Conduct>⟧ at seq)
+        (WasAsked ⟦<dyn Judge as Conduct>⟧ at result)) judges.old.items judges.new.items }
     ensures judged { OneJudged at master (Sync at master seq)
         (map (λ j. held j) judges.old.items) (map (λ j. held j) judges.new.items) result }
     ensures length { length judges.new.items ≡ length judges.old.items }
@@ -66,6 +72,8 @@ pub(crate) fn judge_flag(
     unusable: bool,
 ) -> bool
     requires { master < length judges.old.items }
+    ensures calls { OfOne master (Then (WasTold ⟦<dyn Judge as Conduct>⟧ at unusable)
+        (WasAsked ⟦<dyn Judge as Conduct>⟧ at result)) judges.old.items judges.new.items }
     ensures judged { OneJudged at master (Told at master unusable)
         (map (λ j. held j) judges.old.items) (map (λ j. held j) judges.new.items) result }
     ensures length { length judges.new.items ≡ length judges.old.items }
@@ -84,6 +92,8 @@ pub(crate) fn judge_anew(
 ) -> bool
     requires master { master < length judges.old.items }
     requires fresh { IsFresh (held judge) }
+    ensures calls { OfOne master (λ old new. WasAsked ⟦<dyn Judge as Conduct>⟧ at result judge new)
+        judges.old.items judges.new.items }
     ensures judged { OneJudged at master (entry.Judge at master (held judge).rule)
         (map (λ j. held j) judges.old.items) (map (λ j. held j) judges.new.items) result }
     ensures length { length judges.new.items ≡ length judges.old.items }
@@ -95,6 +105,8 @@ pub(crate) fn judge_anew(
 // Asks the judge of one master.
 fn judge_one(judges: &mut Vec<Box<dyn Judge>>, at: Moment, master: usize) -> bool
     requires { master < length judges.old.items }
+    ensures call { OfOne master (WasAsked ⟦<dyn Judge as Conduct>⟧ at result)
+        judges.old.items judges.new.items }
     ensures asked { OneAsked at master
         (map (λ j. held j) judges.old.items) (map (λ j. held j) judges.new.items) result }
     ensures length { length judges.new.items ≡ length judges.old.items }
@@ -105,7 +117,9 @@ fn judge_one(judges: &mut Vec<Box<dyn Judge>>, at: Moment, master: usize) -> boo
 /// Asks all judges, in the order of the masters.
 pub(crate) fn judge_all(core: &mut Core, judges: &mut Vec<Box<dyn Judge>>, at: Moment)
     requires { length judges.old.items ≡ length core.old.masters }
-    ensures judged { (assessments : List Bool) × AllJudged (length core.old.masters) at
+    ensures judged { (assessments : List Bool) ×
+        OfAll (length core.old.masters) (WasAsked ⟦<dyn Judge as Conduct>⟧ at) assessments
+        judges.old.items judges.new.items × AllJudged (length core.old.masters) at
         (map (λ j. held j) judges.old.items) (map (λ j. held j) judges.new.items)
         core.old core.new assessments }
     ensures length { length judges.new.items ≡ length judges.old.items }

@@ -1,29 +1,26 @@
 //! Two masters of one slave, whose octets, moments and answers were made out by hand.
-ghost use Rattle.std.specs.Prelude.{◌≡◌, ◌+◌, [], map, All, OnOk, length};
+ghost use Rattle.std.specs.Prelude.{◌≡◌, []};
 ghost use Rattle.ptu_judges.specs.Held.{IsFresh};
+ghost use Rattle.ptu_slave.specs.Seen.{seen};
 
 use super::*;
-use crate::tests::{FIRST, Row, SECOND, config, play_all, quiet_port};
+use crate::tests::{FIRST, Row, SECOND, config, one_judge, play_all, quiet_port};
 use ptu_judges::{FlagJudge, Judge};
 use ptu_outside::MemPort;
 use std::alloc::Global;
 use std::process::Abort;
 use std::test::Fail;
 
-// Adds a fresh judge.
-fn add_judge(judges: &mut Vec<Box<dyn Judge>>, judge: Box<dyn Judge>) -> Result<(), Fail>
-    requires fresh { IsFresh (held judge) }
-    requires all_fresh { All (λ j. IsFresh (held j)) judges.old.items }
-    ensures all_fresh { OnOk result (All (λ j. IsFresh (held j)) judges.new.items) }
-    ensures many { OnOk result (length judges.new.items ≡ length judges.old.items + 1) }
-{
-    judges.push(judge)?;
-    Ok(())
-}
-
-// Plays rows of two masters of equal priority, at the greatest intervals and with a minute to wait
+// A slave of two masters of equal priority, at the greatest intervals and with a minute to wait
 // after a loss.
-fn play_pair(rt: &impl Abort, alloc: Global, rows: &[(u64, Row)]) -> Result<(), Fail> {
+fn slave_of_two(
+    alloc: Global,
+    first: Box<dyn Judge>,
+    second: Box<dyn Judge>,
+) -> Result<Slave<MemPort>, Fail>
+    requires first { IsFresh (held first) }
+    requires second { IsFresh (held second) }
+{
     let masters = vec![in alloc;
         Master {
             ip: FIRST,
@@ -34,11 +31,21 @@ fn play_pair(rt: &impl Abort, alloc: Global, rows: &[(u64, Row)]) -> Result<(), 
             priority: 1
         },
     ]?;
-    let mut judges: Vec<Box<dyn Judge>> = Vec::new(alloc);
-    add_judge(&mut judges, Box::new(alloc, FlagJudge::new())?)?;
-    add_judge(&mut judges, Box::new(alloc, FlagJudge::new())?)?;
+    let mut judges = one_judge(alloc, first)?;
+    judges.push(second)?;
     let config = config(4, 4, false, 60)?;
-    let mut slave = Slave::new(alloc, config, masters, judges, quiet_port(alloc))?;
+    let slave = Slave::new(alloc, config, masters, judges, quiet_port(alloc))?;
+    Ok(slave)
+}
+
+// Plays rows of a slave that sends nothing.
+fn play_quiet(
+    rt: &impl Abort,
+    alloc: Global,
+    slave: Slave<MemPort>,
+    rows: &[(u64, Row)],
+) -> Result<(), Fail> {
+    let mut slave = slave;
     play_all(rt, alloc, &mut slave, rows)?;
     clear_port(&mut slave);
     assert_eq!(rt; slave.into_port().sent(0), None);
@@ -46,17 +53,20 @@ fn play_pair(rt: &impl Abort, alloc: Global, rows: &[(u64, Row)]) -> Result<(), 
 }
 
 // Empties the list of what a slave sent, and nothing else of it.
+#[tactic(auto, unfolding(crate::specs::Seen::seen_by))]
 fn clear_port(slave: &mut Slave<MemPort>)
-    ensures core { slave.new.core ≡ slave.old.core }
-    ensures judges { map (λ j. held j) slave.new.judges.items
-        ≡ map (λ j. held j) slave.old.judges.items }
-    ensures port { slave.new.port ≡ record slave.old.port { sent = [] } }
+    ensures { seen ⟦<dyn Judge as Judge>⟧ slave.new
+        ≡ record (seen ⟦<dyn Judge as Judge>⟧ slave.old)
+        { port = record (seen ⟦<dyn Judge as Judge>⟧ slave.old).port { sent = [] } } }
 {
     slave.port().clear();
 }
 
 #[test]
 fn the_first_of_two_is_lost_and_restored(rt: HostRuntime) -> Result<(), Fail> {
+    let alloc = rt.alloc();
+    let first = Box::new(alloc, FlagJudge::new())?;
+    let second = Box::new(alloc, FlagJudge::new())?;
     let rows = [
         (0, Row::Announce(1, 84)),
         (0, Row::Sync(1, 0)),
@@ -81,11 +91,15 @@ fn the_first_of_two_is_lost_and_restored(rt: HostRuntime) -> Result<(), Fail> {
         (160 * SECOND - 1, Row::Selects(Some(1))),
         (160 * SECOND, Row::Selects(Some(0))),
     ];
-    play_pair(&rt, rt.alloc(), &rows)
+    let slave = slave_of_two(alloc, first, second)?;
+    play_quiet(&rt, alloc, slave, &rows)
 }
 
 #[test]
 fn of_equal_masters_the_first_is_selected(rt: HostRuntime) -> Result<(), Fail> {
+    let alloc = rt.alloc();
+    let first = Box::new(alloc, FlagJudge::new())?;
+    let second = Box::new(alloc, FlagJudge::new())?;
     let rows = [
         (0, Row::Announce(1, 84)),
         (0, Row::Sync(1, 0)),
@@ -97,5 +111,6 @@ fn of_equal_masters_the_first_is_selected(rt: HostRuntime) -> Result<(), Fail> {
         (SECOND, Row::Announce(2, 110)),
         (SECOND, Row::Selects(None)),
     ];
-    play_pair(&rt, rt.alloc(), &rows)
+    let slave = slave_of_two(alloc, first, second)?;
+    play_quiet(&rt, alloc, slave, &rows)
 }

@@ -1,21 +1,23 @@
-ghost use Rattle.std.specs.Prelude.{◌≡◌, ℕ, ◌<◌, max, List, [], map, length, Option, Ok, Err, All, IfOk, IsOk, IsErr, vec_len};
-ghost use Rattle.std.specs.Borrow.{sem};
+ghost use Rattle.std.specs.Prelude.{◌≡◌, ◌≢◌, ℕ, ◌<◌, ◌≤◌, max, Bool, List, [], ◌∷◌, ◌++◌, map, take, length, Option, Ok, Err, All, option_map, IfOk, IfNone, IfSome, OnErr, OnOk, IsOk, IsErr, vec_len};
+ghost use Rattle.std.specs.List.{AllByRecursion};
 ghost use Rattle.ptu_messages.specs.declared.message.Message.{Message};
+ghost use Rattle.ptu_messages.specs.declared.message.Body.TheVariants as body;
 ghost use Rattle.ptu_messages.specs.MessageFault.{IsSignaling};
+ghost use Rattle.ptu_outside.specs.Faults.{HasNotFallen, HasRisen};
 ghost use Rattle.ptu_outside.specs.HandsOver.{HandsOver};
+ghost use Rattle.ptu_outside.specs.Telling.{IfTold, IsEmptyTold, IsFirstTold, rest_told};
 ghost use Rattle.ptu_record.specs.declared.rule.Rule.{Rule};
 ghost use Rattle.ptu_record.specs.Record.{Record, event_moment};
 ghost use Rattle.ptu_record.specs.Selection.{selected_master};
-ghost use Rattle.ptu_record.specs.Step.{ReplaceJudge, Stop, TellFlag, Tick, sendings};
-ghost use Rattle.ptu_record.specs.Tick.{Sending};
+ghost use Rattle.ptu_record.specs.Step.{TakeSync};
 ghost use Rattle.ptu_judges.specs.Held.{IsFresh};
-ghost use Rattle.ptu_slave_messages.specs.Config.{AreMasters, IsWithinLimits, priorities, timeouts};
+ghost use Rattle.ptu_judges.specs.Calls.{OfOne, Then, WasAsked, WasHeard};
+ghost use Rattle.ptu_slave_messages.specs.Config.{AreMasters, IsWithinLimits, address_of, priorities, timeouts};
 ghost use Rattle.ptu_slave_messages.specs.Heard.{FitsReply, answer_of, event_of, failed_by, heard_of, replies_in, reply_datagrams, reply_in, sent_by, taken_of};
 ghost use Rattle.ptu_slave_messages.specs.Reception.{reception};
-ghost use Rattle.ptu_slave_messages.specs.Sending.{all_ones, departure_of};
 ghost use Rattle.ptu_slave_messages.specs.declared.reason.SlaveReason.{SlaveReason};
 ghost use Rattle.ptu_slave.specs.Kept.{IsSame};
-ghost use Rattle.ptu_slave.specs.Standing.{StandsFor, Steps, setup_of};
+ghost use Rattle.ptu_slave.specs.Standing.{StandsFor, Steps, StepsBy, selected_address};
 
 use crate::events::{
     replace_judge, take_announce, take_delay_resp, take_follow_up, take_signaling, take_sync,
@@ -26,8 +28,8 @@ use crate::node::Core;
 use crate::porting::HasPort;
 use crate::ticked::Ticked;
 use crate::ticks::{end_all, tick_all};
-use ptu_judges::Judge;
-use ptu_outside::Port;
+use ptu_judges::{Conduct, Judge};
+use ptu_outside::{Failed, Port};
 use ptu_slave_messages::{Content, Heard, Master, SlaveConfig, Taken, receive, send_reply};
 use ptu_units::{Moment, OutOfMemory};
 use std::alloc::Global;
@@ -35,24 +37,27 @@ use std::alloc::Global;
 /// A slave with the port that its messages are handed to.
 ///
 /// It stands for records of what a slave took and did (`StandsFor`): each event carries such a
-/// record on by the entries of a step.
+/// record on by the entries of a step. What is seen of it is `Seen`.
 #[derive(Drop)]
 pub struct Slave<P> {
-    /// What it keeps beside its judges and its port.
-    pub core: Core,
-    /// The judge of each master, in the order of the masters.
-    pub judges: Vec<Box<dyn Judge>>,
-    /// The port.
-    pub port: P,
+    // What it keeps beside its judges and its port.
+    core: Core,
+    // The judge of each master, in the order of the masters.
+    judges: Vec<Box<dyn Judge>>,
+    port: P,
     ghost each_judged: { vec_len judges ≡ length core.masters },
 }
 
 impl<P: Port> Slave<P> {
+    ghost use Rattle.ptu_slave.specs.Seen.{HasJudges, seen};
+    ghost use Rattle.ptu_slave.specs.Events.{Goes, GoesBy, HasStopped, HasTicked, IsFlagged, IsReplaced};
+
     /// A slave with these masters, of at most 16 addresses, each of its own, and with a judge for
     /// each of them; a judge that has a rule is fresh.
     ///
     /// # Errors
     /// Where memory for what is kept of the masters was not found.
+    #[tactic(auto, unfolding(crate::specs::Seen::seen_by))]
     pub fn new(
         alloc: Global,
         config: SlaveConfig,
@@ -64,15 +69,65 @@ impl<P: Port> Slave<P> {
         requires masters { AreMasters masters.items }
         requires judges { length judges.items ≡ length masters.items }
         requires fresh { All (λ j. IsFresh (held j)) judges.items }
-        ensures config { IfOk result (λ s. s.core.config ≡ config) }
-        ensures masters { IfOk result (λ s. s.core.masters ≡ masters.items) }
-        ensures judges { IfOk result (λ s. s.judges ≡ judges) }
-        ensures port { IfOk result (λ s. s.port ≡ port) }
+        ensures judged { IfOk result (λ s. HasJudges (seen ⟦<dyn Judge as Judge>⟧ s)) }
+        ensures config { IfOk result (λ s. (seen ⟦<dyn Judge as Judge>⟧ s).kept.config ≡ config) }
+        ensures masters { IfOk result (λ s.
+            (seen ⟦<dyn Judge as Judge>⟧ s).kept.masters ≡ masters.items) }
+        ensures judges { IfOk result (λ s.
+            (seen ⟦<dyn Judge as Judge>⟧ s).judges ≡ map (λ j. held j) judges.items) }
+        ensures boxes { IfOk result (λ s. (seen ⟦<dyn Judge as Judge>⟧ s).boxes ≡ judges.items) }
+        ensures port { IfOk result (λ s. (seen ⟦<dyn Judge as Judge>⟧ s).port ≡ port) }
         ensures stands { IfOk result (λ s. StandsFor (map (λ j. (held j).rule) judges.items)
-            s.core (map (λ j. held j) s.judges.items) []) }
+            (seen ⟦<dyn Judge as Judge>⟧ s).kept (seen ⟦<dyn Judge as Judge>⟧ s).judges []) }
     {
         let core = Core::new(alloc, config, masters)?;
         Ok(Slave { core, judges, port })
+    }
+
+    /// The slave anew, with one master more at the end of its list and the judge of this master;
+    /// what the others were told and asked is not kept, so a judge that has a rule is to be fresh.
+    ///
+    /// # Errors
+    /// As of [`Slave::new`].
+    #[tactic(auto, unfolding(crate::specs::Seen::seen_by))]
+    pub fn with_master(
+        self,
+        alloc: Global,
+        master: Master,
+        judge: Box<dyn Judge>,
+    ) -> Result<Slave<P>, OutOfMemory>
+        requires limits { IsWithinLimits (seen ⟦<dyn Judge as Judge>⟧ self).kept.config }
+        requires masters { AreMasters ((seen ⟦<dyn Judge as Judge>⟧ self).kept.masters
+            ++ master ∷ []) }
+        requires fresh { AllByRecursion IsFresh
+            ((seen ⟦<dyn Judge as Judge>⟧ self).judges ++ held judge ∷ []) }
+        ensures judged { IfOk result (λ s. HasJudges (seen ⟦<dyn Judge as Judge>⟧ s)) }
+        ensures config { IfOk result (λ s.
+            (seen ⟦<dyn Judge as Judge>⟧ s).kept.config ≡
+            (seen ⟦<dyn Judge as Judge>⟧ self).kept.config) }
+        ensures masters { IfOk result (λ s.
+            (seen ⟦<dyn Judge as Judge>⟧ s).kept.masters ≡
+            (seen ⟦<dyn Judge as Judge>⟧ self).kept.masters ++ master ∷ []) }
+        ensures judges { IfOk result (λ s.
+            (seen ⟦<dyn Judge as Judge>⟧ s).judges ≡ (seen ⟦<dyn Judge as Judge>⟧ self).judges
+            ++ held judge ∷ []) }
+        ensures boxes { IfOk result (λ s.
+            (seen ⟦<dyn Judge as Judge>⟧ s).boxes ≡ (seen ⟦<dyn Judge as Judge>⟧ self).boxes
+            ++ judge ∷ []) }
+        ensures port { IfOk result (λ s.
+            (seen ⟦<dyn Judge as Judge>⟧ s).port ≡ (seen ⟦<dyn Judge as Judge>⟧ self).port) }
+        ensures stands { IfOk result (λ s. let new = seen ⟦<dyn Judge as Judge>⟧ s in
+            StandsFor (map (λ j. j.rule) new.judges) new.kept new.judges []) }
+    {
+        let Slave {
+            core,
+            mut judges,
+            port,
+        } = self;
+        let masters = masters_with(alloc, core.masters(), master)?;
+        judges.push(judge)?;
+        let slave = Slave::new(alloc, *core.config(), masters, judges, port)?;
+        Ok(slave)
     }
 
     /// A datagram from this IPv4 address. One that is ignored is no event, and changes nothing.
@@ -80,6 +135,7 @@ impl<P: Port> Slave<P> {
     /// # Errors
     /// Where memory for the message and for what it says was not found, which only a Signaling
     /// wants; nothing has changed then.
+    #[tactic(auto, unfolding(crate::specs::Seen::seen_by))]
     pub fn take(
         &mut self,
         alloc: Global,
@@ -88,27 +144,44 @@ impl<P: Port> Slave<P> {
         bytes: &[u8],
     ) -> Result<Heard, OutOfMemory>
         ensures memory { IsErr result → (n : ℕ) × IsSignaling bytes.now n }
-        ensures unchanged { IsErr result → (self.new.core ≡ self.old.core)
-            × (self.new.judges ≡ self.old.judges) × (self.new.port ≡ self.old.port) }
-        ensures answer { IfOk result (λ heard. heard ≡ answer_of self.old.core.config.wants
-            (max t self.old.core.moment) (reply_in heard)
-            (reception self.old.core.config self.old.core.masters from bytes.now)) }
-        ensures ignored { (reason : SlaveReason) →
-            reception self.old.core.config self.old.core.masters from bytes.now ≡ Err reason →
-            (self.new.core ≡ self.old.core)
-            × (self.new.judges ≡ self.old.judges) × (self.new.port ≡ self.old.port) }
-        ensures steps { (m : ℕ) (message : Message) →
-            reception self.old.core.config self.old.core.masters from bytes.now ≡ Ok (m, message) →
-            IsOk result → (openings : List (Option Rule)) (L : Record) →
-            StandsFor openings self.old.core (map (λ j. held j) self.old.judges.items) L →
-            Steps openings self.old.core self.new.core (map (λ j. held j) self.new.judges.items)
-            L t (event_of m message) }
-        ensures sends { IfOk result (λ heard.
-            HandsOver P.Port self.old.port self.new.port
-            (replies_in self.old.core.config self.old.core.masters
-            (reception self.old.core.config self.old.core.masters from bytes.now))
+        ensures unchanged { IsErr result →
+            seen ⟦<dyn Judge as Judge>⟧ self.new ≡ seen ⟦<dyn Judge as Judge>⟧ self.old }
+        ensures judged { HasJudges (seen ⟦<dyn Judge as Judge>⟧ self.new) }
+        ensures answer { let old = (seen ⟦<dyn Judge as Judge>⟧ self.old).kept in
+            IfOk result (λ heard. heard ≡ answer_of old.config.wants (max t old.moment)
+            (reply_in heard) (reception old.config old.masters from bytes.now)) }
+        ensures ignored { let old = (seen ⟦<dyn Judge as Judge>⟧ self.old).kept in
+            (reason : SlaveReason) →
+            reception old.config old.masters from bytes.now ≡ Err reason →
+            seen ⟦<dyn Judge as Judge>⟧ self.new ≡ seen ⟦<dyn Judge as Judge>⟧ self.old }
+        ensures steps { let old = seen ⟦<dyn Judge as Judge>⟧ self.old in
+            (m : ℕ) (message : Message) →
+            reception old.kept.config old.kept.masters from bytes.now ≡ Ok (m, message) →
+            IsOk result → Goes old (seen ⟦<dyn Judge as Judge>⟧ self.new) t (event_of m message) }
+        // A Sync is told to the judge of its master, who is then asked.
+        ensures judge { let old = seen ⟦<dyn Judge as Judge>⟧ self.old in
+            (m : ℕ) (message : Message) (stamp : _) →
+            reception old.kept.config old.kept.masters from bytes.now ≡ Ok (m, message) →
+            message.body ≡ body.Sync stamp → IsOk result → (found : Bool) × OfOne m
+            (Then (WasHeard ⟦<dyn Judge as Conduct>⟧ (max t old.kept.moment)
+            message.header.sequence)
+            (WasAsked ⟦<dyn Judge as Conduct>⟧ (max t old.kept.moment) found))
+            old.boxes (seen ⟦<dyn Judge as Judge>⟧ self.new).boxes
+            × GoesBy (found ∷ []) old (seen ⟦<dyn Judge as Judge>⟧ self.new) t
+            (TakeSync m message.header.sequence) }
+        // No other message is told to a judge.
+        ensures others { let old = seen ⟦<dyn Judge as Judge>⟧ self.old in (m : ℕ)
+            (message : Message) →
+            reception old.kept.config old.kept.masters from bytes.now ≡ Ok (m, message) →
+            event_of m message ≢ TakeSync m message.header.sequence →
+            (seen ⟦<dyn Judge as Judge>⟧ self.new).boxes ≡ old.boxes }
+        ensures sends { let old = seen ⟦<dyn Judge as Judge>⟧ self.old in IfOk result (λ heard.
+            HandsOver P.Port old.port (seen ⟦<dyn Judge as Judge>⟧ self.new).port
+            (replies_in old.kept.config old.kept.masters
+            (reception old.kept.config old.kept.masters from bytes.now))
             (sent_by (reply_in heard)) (failed_by (reply_in heard))) }
-        ensures same { IsSame self.old.core self.new.core }
+        ensures same { IsSame (seen ⟦<dyn Judge as Judge>⟧ self.old).kept
+            (seen ⟦<dyn Judge as Judge>⟧ self.new).kept }
     {
         let received = receive(alloc, self.core.config(), self.core.masters(), from, bytes)?;
         match received {
@@ -119,21 +192,14 @@ impl<P: Port> Slave<P> {
 
     /// A tick: all judges are asked, and each master is sent the Signaling and the Delay_Req that
     /// are due. After a stop nothing is sent.
+    #[tactic(auto, unfolding(crate::specs::Seen::seen_by))]
     pub fn tick(&mut self, t: Moment) -> Ticked
-        ensures at { result.at ≡ max t self.old.core.moment }
-        ensures steps { (openings : List (Option Rule)) (L : Record) →
-            StandsFor openings self.old.core (map (λ j. held j) self.old.judges.items) L →
-            Steps openings self.old.core self.new.core (map (λ j. held j) self.new.judges.items)
-            L t Tick }
-        // It hands these to the port; they are those of the step for each record that it stands
-        // for.
-        ensures sends { (handed : List Sending) × HandsOver P.Port self.old.port self.new.port
-            (map (departure_of self.old.core.config self.old.core.masters all_ones) handed)
-            result.sent result.failed
-            × ((openings : List (Option Rule)) (L : Record) →
-            StandsFor openings self.old.core (map (λ j. held j) self.old.judges.items) L →
-            handed ≡ sendings (setup_of self.old.core.config openings) L result.at Tick) }
-        ensures same { IsSame self.old.core self.new.core }
+        ensures judged { HasJudges (seen ⟦<dyn Judge as Judge>⟧ self.new) }
+        ensures same { IsSame (seen ⟦<dyn Judge as Judge>⟧ self.old).kept
+            (seen ⟦<dyn Judge as Judge>⟧ self.new).kept }
+        ensures ticked { HasTicked ⟦<dyn Judge as Conduct>⟧ P.Port t
+            (seen ⟦<dyn Judge as Judge>⟧ self.old)
+            (seen ⟦<dyn Judge as Judge>⟧ self.new) result }
     {
         let at = self.core.begin(t);
         judge_all(&mut self.core, &mut self.judges, at);
@@ -147,22 +213,13 @@ impl<P: Port> Slave<P> {
 
     /// The stop: each master that has a live grant is sent a Signaling that cancels all of them;
     /// the slave holds them for ended, and its ticks send nothing more.
+    #[tactic(auto, unfolding(crate::specs::Seen::seen_by))]
     pub fn stop(&mut self, t: Moment) -> Ticked
-        ensures at { result.at ≡ max t self.old.core.moment }
-        ensures steps { (openings : List (Option Rule)) (L : Record) →
-            StandsFor openings self.old.core (map (λ j. held j) self.old.judges.items) L →
-            Steps openings self.old.core self.new.core (map (λ j. held j) self.new.judges.items)
-            L t Stop }
-        // It hands these to the port; they are those of the step for each record that it stands
-        // for.
-        ensures sends { (handed : List Sending) × HandsOver P.Port self.old.port self.new.port
-            (map (departure_of self.old.core.config self.old.core.masters all_ones) handed)
-            result.sent result.failed
-            × ((openings : List (Option Rule)) (L : Record) →
-            StandsFor openings self.old.core (map (λ j. held j) self.old.judges.items) L →
-            handed ≡ sendings (setup_of self.old.core.config openings) L result.at Stop) }
-        ensures same { IsSame self.old.core self.new.core }
-        ensures judges { self.new.judges ≡ self.old.judges }
+        ensures judged { HasJudges (seen ⟦<dyn Judge as Judge>⟧ self.new) }
+        ensures same { IsSame (seen ⟦<dyn Judge as Judge>⟧ self.old).kept
+            (seen ⟦<dyn Judge as Judge>⟧ self.new).kept }
+        ensures stopped { HasStopped P.Port t (seen ⟦<dyn Judge as Judge>⟧ self.old)
+            (seen ⟦<dyn Judge as Judge>⟧ self.new) result }
     {
         let at = self.core.begin(t);
         let sends = end_all(&mut self.core, &mut self.port, at);
@@ -175,49 +232,117 @@ impl<P: Port> Slave<P> {
     }
 
     /// The operator says whether the master at a place is unusable.
+    #[tactic(auto, unfolding(crate::specs::Seen::seen_by))]
     pub fn flag(&mut self, t: Moment, master: usize, unusable: bool)
-        requires { master < length self.old.core.masters }
-        ensures steps { (openings : List (Option Rule)) (L : Record) →
-            StandsFor openings self.old.core (map (λ j. held j) self.old.judges.items) L →
-            Steps openings self.old.core self.new.core (map (λ j. held j) self.new.judges.items)
-            L t (TellFlag master unusable) }
-        ensures port { self.new.port ≡ self.old.port }
-        ensures same { IsSame self.old.core self.new.core }
+        requires { master < length (seen ⟦<dyn Judge as Judge>⟧ self.old).kept.masters }
+        ensures judged { HasJudges (seen ⟦<dyn Judge as Judge>⟧ self.new) }
+        ensures same { IsSame (seen ⟦<dyn Judge as Judge>⟧ self.old).kept
+            (seen ⟦<dyn Judge as Judge>⟧ self.new).kept }
+        ensures flagged { IsFlagged ⟦<dyn Judge as Conduct>⟧ t master unusable
+            (seen ⟦<dyn Judge as Judge>⟧ self.old) (seen ⟦<dyn Judge as Judge>⟧ self.new) }
     {
         tell_flag(&mut self.core, &mut self.judges, t, master, unusable);
     }
 
     /// Another judge takes over the master at a place; it is fresh where it has a rule. The former
     /// one is dropped.
+    #[tactic(auto, unfolding(crate::specs::Seen::seen_by))]
     pub fn set_judge(&mut self, t: Moment, master: usize, judge: Box<dyn Judge>)
-        requires master { master < length self.old.core.masters }
+        requires master { master < length (seen ⟦<dyn Judge as Judge>⟧ self.old).kept.masters }
         requires fresh { IsFresh (held judge) }
-        ensures steps { (openings : List (Option Rule)) (L : Record) →
-            StandsFor openings self.old.core (map (λ j. held j) self.old.judges.items) L →
-            Steps openings self.old.core self.new.core (map (λ j. held j) self.new.judges.items)
-            L t (ReplaceJudge master (held judge).rule) }
-        ensures port { self.new.port ≡ self.old.port }
-        ensures same { IsSame self.old.core self.new.core }
+        ensures judged { HasJudges (seen ⟦<dyn Judge as Judge>⟧ self.new) }
+        ensures same { IsSame (seen ⟦<dyn Judge as Judge>⟧ self.old).kept
+            (seen ⟦<dyn Judge as Judge>⟧ self.new).kept }
+        ensures replaced { IsReplaced ⟦<dyn Judge as Judge>⟧ ⟦<dyn Judge as Conduct>⟧ t master judge
+            (seen ⟦<dyn Judge as Judge>⟧ self.old) (seen ⟦<dyn Judge as Judge>⟧ self.new) }
     {
         replace_judge(&mut self.core, &mut self.judges, t, master, judge);
     }
 
-    /// The place of the master that is selected at `t`, or at the slave's moment where that is
+    /// The address of the master that is selected at `t`, or at the slave's moment where that is
     /// later; `None` exactly where none is eligible. It is no event and raises no moment.
+    #[tactic(auto, unfolding(crate::specs::Seen::seen_by))]
+    pub fn selected_address(&mut self, t: Moment) -> Option<u32>
+        ensures selected { let old = seen ⟦<dyn Judge as Judge>⟧ self.old in
+            (openings : List (Option Rule)) (L : Record) →
+            StandsFor openings old.kept old.judges L →
+            result ≡ selected_address old.kept L t }
+        ensures unchanged { seen ⟦<dyn Judge as Judge>⟧ self.new ≡
+            seen ⟦<dyn Judge as Judge>⟧ self.old }
+    {
+        let place = self.core.selected(t);
+        address(self.core.masters(), place)
+    }
+
+    /// The place of the same master in the list of masters.
+    #[tactic(auto, unfolding(crate::specs::Seen::seen_by))]
     pub fn selected(&mut self, t: Moment) -> Option<usize>
-        ensures selected { (openings : List (Option Rule)) (L : Record) →
-            StandsFor openings self.old.core (map (λ j. held j) self.old.judges.items) L →
-            result ≡ selected_master (timeouts self.old.core.config)
-            (priorities self.old.core.masters) L (event_moment L t) }
-        ensures unchanged { (self.new.core ≡ self.old.core)
-            × (self.new.judges ≡ self.old.judges) × (self.new.port ≡ self.old.port) }
+        ensures selected { let old = seen ⟦<dyn Judge as Judge>⟧ self.old in
+            (openings : List (Option Rule)) (L : Record) →
+            StandsFor openings old.kept old.judges L →
+            result ≡ selected_master (timeouts old.kept.config) (priorities old.kept.masters)
+            L (event_moment L t) }
+        ensures unchanged { seen ⟦<dyn Judge as Judge>⟧ self.new ≡
+            seen ⟦<dyn Judge as Judge>⟧ self.old }
     {
         self.core.selected(t)
     }
 
+    /// Its masters.
+    #[tactic(auto, unfolding(crate::specs::Seen::seen_by))]
+    pub fn masters(&self) -> &[Master]
+        ensures { result.now ≡ (seen ⟦<dyn Judge as Judge>⟧ self.now).kept.masters }
+    {
+        self.core.masters()
+    }
+
+    /// Takes the first datagram that waits at the port, as `Port::receive` does.
+    #[tactic(auto, unfolding(crate::specs::Seen::seen_by))]
+    pub fn receive(&mut self, buf: &mut [u8; 2048]) -> Result<Option<(u32, usize)>, Failed>
+        ensures within { IfOk result (λ got. IfSome got (λ a. a.1 ≤ 2048)) }
+        ensures first { IfOk result (λ got. IfSome got (λ a.
+            IsFirstTold (P.waiting (seen ⟦<dyn Judge as Judge>⟧ self.old).port)
+            (record { ip = a.0; bytes = take a.1 buf.new }))) }
+        ensures nothing { IfOk result (λ got. IfNone got
+            (IsEmptyTold (P.waiting (seen ⟦<dyn Judge as Judge>⟧ self.old).port))) }
+        ensures rest { IfOk result (λ got. IfSome got (λ a.
+            IfTold (P.waiting (seen ⟦<dyn Judge as Judge>⟧ self.new).port)
+            (rest_told (P.waiting (seen ⟦<dyn Judge as Judge>⟧ self.old).port)))) }
+        ensures left { IfOk result (λ got. IfNone got
+            (IfTold (P.waiting (seen ⟦<dyn Judge as Judge>⟧ self.new).port)
+            (P.waiting (seen ⟦<dyn Judge as Judge>⟧ self.old).port))) }
+        ensures kept { OnErr result (IfTold (P.waiting (seen ⟦<dyn Judge as Judge>⟧ self.new).port)
+            (P.waiting (seen ⟦<dyn Judge as Judge>⟧ self.old).port)) }
+        ensures sent { P.sent (seen ⟦<dyn Judge as Judge>⟧ self.new).port
+            ≡ P.sent (seen ⟦<dyn Judge as Judge>⟧ self.old).port }
+        ensures risen { OnErr result (HasRisen (P.faults
+            (seen ⟦<dyn Judge as Judge>⟧ self.old).port)
+            (P.faults (seen ⟦<dyn Judge as Judge>⟧ self.new).port)) }
+        ensures quiet { OnOk result (P.faults (seen ⟦<dyn Judge as Judge>⟧ self.new).port
+            ≡ P.faults (seen ⟦<dyn Judge as Judge>⟧ self.old).port) }
+        ensures no_fall { HasNotFallen (P.faults (seen ⟦<dyn Judge as Judge>⟧ self.old).port)
+            (P.faults (seen ⟦<dyn Judge as Judge>⟧ self.new).port) }
+        ensures rest_is { seen ⟦<dyn Judge as Judge>⟧ self.new ≡ record
+            (seen ⟦<dyn Judge as Judge>⟧ self.old)
+            { port = (seen ⟦<dyn Judge as Judge>⟧ self.new).port } }
+    {
+        self.port.receive(buf)
+    }
+
+    /// Puts another port in the place of its own, which it gives up.
+    #[tactic(auto, unfolding(crate::specs::Seen::seen_by))]
+    pub fn replace_port(&mut self, port: P) -> P
+        ensures former { result ≡ (seen ⟦<dyn Judge as Judge>⟧ self.old).port }
+        ensures rest_is { seen ⟦<dyn Judge as Judge>⟧ self.new
+            ≡ record (seen ⟦<dyn Judge as Judge>⟧ self.old) { port = port } }
+    {
+        std::mem::replace(&mut self.port, port)
+    }
+
     /// The port, as it is. The rest is dropped.
+    #[tactic(auto, unfolding(crate::specs::Seen::seen_by))]
     pub fn into_port(self) -> P
-        ensures { result ≡ self.port }
+        ensures { result ≡ (seen ⟦<dyn Judge as Judge>⟧ self).port }
     {
         let Slave { port, .. } = self;
         port
@@ -232,6 +357,28 @@ impl<P: Port> HasPort<P> for Slave<P> {
     fn port(&mut self) -> &mut P {
         &mut self.port
     }
+}
+
+// The masters, and one more at the end.
+fn masters_with(
+    alloc: Global,
+    masters: &[Master],
+    master: Master,
+) -> Result<Vec<Master>, OutOfMemory>
+    ensures { IfOk result (λ all. all.items ≡ masters.now ++ master ∷ []) }
+{
+    let mut all = masters.to_vec(alloc)?;
+    all.push(master)?;
+    Ok(all)
+}
+
+// The address of the master at the place.
+fn address(masters: &[Master], place: Option<usize>) -> Option<u32>
+    ensures { IfSome place (λ m. m < length masters.now) →
+        result ≡ option_map (address_of masters.now) place }
+{
+    let master = masters.get(place?)?;
+    Some(master.ip)
 }
 
 // Takes a message of a master.
@@ -249,6 +396,14 @@ fn hear<P: Port>(
         taken ≡ taken_of core.old.config.wants (taken.master, message) →
         result ≡ heard_of core.old.config.wants (max t core.old.moment) (reply_in result)
         (taken.master, message) }
+    ensures judge { taken.content ≡ Content.Sync → (found : Bool) × OfOne taken.master
+        (Then (WasHeard ⟦<dyn Judge as Conduct>⟧ (max t core.old.moment) taken.sequence)
+        (WasAsked ⟦<dyn Judge as Conduct>⟧ (max t core.old.moment) found))
+        judges.old.items judges.new.items × ((openings : List (Option Rule)) (L : Record) →
+        StandsFor openings core.old (map (λ j. held j) judges.old.items) L →
+        StepsBy (found ∷ []) openings core.old core.new (map (λ j. held j) judges.new.items) L t
+        (TakeSync taken.master taken.sequence)) }
+    ensures others { taken.content ≢ Content.Sync → judges.new.items ≡ judges.old.items }
     ensures steps { (message : Message) →
         taken ≡ taken_of core.old.config.wants (taken.master, message) →
         (openings : List (Option Rule)) (L : Record) →

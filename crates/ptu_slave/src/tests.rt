@@ -1,12 +1,14 @@
 //! Worked rows, whose octets, moments and answers were made out by hand.
-ghost use Rattle.std.specs.Prelude.{◌≤◌, IfOk, None, false};
+ghost use Rattle.std.specs.Prelude.{◌≡◌, ◌≤◌, All, IfOk, None, false, length};
+ghost use Rattle.ptu_judges.specs.Held.{IsFresh};
 ghost use Rattle.ptu_record.specs.Marks.{fresh_marks};
 ghost use Rattle.ptu_slave_messages.specs.Config.{IsWithinLimits};
 ghost use Rattle.ptu_slave.specs.Kept.{IsSame};
+ghost use Rattle.ptu_slave.specs.Seen.{seen};
 
 use super::*;
 use ptu_header::PortIdentity;
-use ptu_judges::{FlagJudge, GapJudge, Judge};
+use ptu_judges::{Conduct, FlagJudge, GapJudge, Judge};
 use ptu_outside::{Channel, MemPort};
 use ptu_record::{Rule, Wants};
 use ptu_units::{Kind, Log, Moment};
@@ -23,14 +25,14 @@ pub(crate) const FIRST: u32 = 0x0a00_0001;
 
 // An Announce and a Sync of port 1 of the clock 0a00000000000001, and a Delay_Resp to port 1 of the
 // clock 0a00000000000021.
-const ANNOUNCE: &str = "0b120040040004000000000000000000000000000a0000000000000100010000057f\
-     00000000000000000000000000805400ffff800a000000000000010000a0";
+pub(crate) const ANNOUNCE: &str = "0b120040040004000000000000000000000000000a00000000000001\
+     00010000057f00000000000000000000000000805400ffff800a000000000000010000a0";
 
-const SYNC: &str = "0012002c040004000000000000000000000000000a0000000000000100010000007f\
-     00000000000000000000";
+pub(crate) const SYNC: &str = "0012002c040004000000000000000000000000000a00000000000001\
+     00010000007f00000000000000000000";
 
-const DELAY_RESP: &str = "09120036040004000000000000000000000000000a0000000000000100010000037f\
-     000000000000000000000a000000000000210001";
+pub(crate) const DELAY_RESP: &str = "09120036040004000000000000000000000000000a00000000000001\
+     00010000037f000000000000000000000a000000000000210001";
 
 // The slave 0a00000000000021 that requests Announce and Sync at these logarithms, and Delay_Resp at
 // 0 where it is to.
@@ -86,14 +88,15 @@ fn datagram(alloc: Global, text: &str, changes: &[(usize, u8)]) -> Result<Vec<u8
 }
 
 // Plays a row at a moment.
-fn play(
+pub(crate) fn play(
     rt: &impl Abort,
     alloc: Global,
     slave: &mut Slave<MemPort>,
     nanos: u64,
     row: Row,
 ) -> Result<(), Fail>
-    ensures { IsSame slave.old.core slave.new.core }
+    ensures { IsSame (seen ⟦<dyn Judge as Judge>⟧ slave.old).kept
+        (seen ⟦<dyn Judge as Judge>⟧ slave.new).kept }
 {
     let at = Moment::of(nanos).ok_or("below 2^62")?;
     let (master, octets) = match row {
@@ -125,8 +128,7 @@ fn asks_without_an_answer(rt: HostRuntime) -> Result<(), Fail> {
             priority: 1
         },
     ]?;
-    let mut judges: Vec<Box<dyn Judge>> = Vec::new(alloc);
-    judges.push(Box::new(alloc, FlagJudge::new())?)?;
+    let judges = one_judge(alloc, Box::new(alloc, FlagJudge::new())?)?;
     let mut slave = Slave::new(alloc, config(1, 0, false, 300)?, masters, judges, port)?;
     // The moment of each tick, and how many datagrams it sends.
     let ticks = [
@@ -182,6 +184,17 @@ pub(crate) fn quiet_port(alloc: Global) -> MemPort {
     MemPort::new(alloc, Vec::new(alloc), Vec::new(alloc), Vec::new(alloc))
 }
 
+// The judges of one master.
+pub(crate) fn one_judge(alloc: Global, judge: Box<dyn Judge>) -> Result<Vec<Box<dyn Judge>>, Fail>
+    requires { IsFresh (held judge) }
+    ensures fresh { IfOk result (λ judges. All (λ j. IsFresh (held j)) judges.items) }
+    ensures one { IfOk result (λ judges. length judges.items ≡ 1) }
+{
+    let mut judges: Vec<Box<dyn Judge>> = Vec::new(alloc);
+    judges.push(judge)?;
+    Ok(judges)
+}
+
 #[test]
 fn a_master_is_lost_and_restored(rt: HostRuntime) -> Result<(), Fail> {
     let alloc = rt.alloc();
@@ -191,8 +204,7 @@ fn a_master_is_lost_and_restored(rt: HostRuntime) -> Result<(), Fail> {
             priority: 1
         },
     ]?;
-    let mut judges: Vec<Box<dyn Judge>> = Vec::new(alloc);
-    judges.push(Box::new(alloc, FlagJudge::new())?)?;
+    let judges = one_judge(alloc, Box::new(alloc, FlagJudge::new())?)?;
     let config = config(4, 4, false, 60)?;
     let mut slave = Slave::new(alloc, config, masters, judges, quiet_port(alloc))?;
     play_all(
@@ -232,8 +244,7 @@ fn delay_resps_are_lost_and_restored(rt: HostRuntime) -> Result<(), Fail> {
             priority: 1
         },
     ]?;
-    let mut judges: Vec<Box<dyn Judge>> = Vec::new(alloc);
-    judges.push(Box::new(alloc, FlagJudge::new())?)?;
+    let judges = one_judge(alloc, Box::new(alloc, FlagJudge::new())?)?;
     let config = config(4, 4, true, 60)?;
     let mut slave = Slave::new(alloc, config, masters, judges, quiet_port(alloc))?;
     play_all(
@@ -288,6 +299,14 @@ impl Drop for Own {
     }
 }
 
+impl Conduct for Own {
+    ghost hears = { λ old t seq new. new ≡ old };
+
+    ghost is_told = { λ old t unusable new. new ≡ old };
+
+    ghost finds = { λ old t unusable new. new ≡ old };
+}
+
 impl Judge for Own {
     ghost held = { λ _. record { rule = None; marks = fresh_marks; flag = false } };
 
@@ -321,8 +340,7 @@ fn judges_are_asked_and_replaced(rt: HostRuntime) -> Result<(), Fail> {
     let own = Own {
         dropped: dropped.clone()?,
     };
-    let mut judges: Vec<Box<dyn Judge>> = Vec::new(alloc);
-    judges.push(Box::new(alloc, own)?)?;
+    let judges = one_judge(alloc, Box::new(alloc, own)?)?;
     let config = config(4, 4, false, 0)?;
     let mut slave = Slave::new(alloc, config, masters, judges, quiet_port(alloc))?;
     play(&rt, alloc, &mut slave, 0, Row::Announce(1, 84))?;
@@ -346,6 +364,40 @@ fn judges_are_asked_and_replaced(rt: HostRuntime) -> Result<(), Fail> {
             (3 * SECOND, Row::Selects(None)),
             (4 * SECOND, Row::Sync(1, 3)),
             (4 * SECOND, Row::Selects(Some(0))),
+        ],
+    )
+}
+
+// A judge of gaps finds one, and then none; the operator's takes over, and the master stays.
+#[test]
+fn a_judge_of_gaps_is_replaced(rt: HostRuntime) -> Result<(), Fail> {
+    let alloc = rt.alloc();
+    let masters = vec![in alloc;
+        Master {
+            ip: FIRST,
+            priority: 1
+        },
+    ]?;
+    let judges = one_judge(alloc, Box::new(alloc, GapJudge::new(4))?)?;
+    let config = config(4, 4, false, 0)?;
+    let mut slave = Slave::new(alloc, config, masters, judges, quiet_port(alloc))?;
+    play(&rt, alloc, &mut slave, 0, Row::Announce(1, 84))?;
+    play(&rt, alloc, &mut slave, 0, Row::Sync(1, 0))?;
+    play(&rt, alloc, &mut slave, SECOND, Row::Sync(1, 5))?;
+    play(&rt, alloc, &mut slave, SECOND, Row::Selects(None))?;
+    play(&rt, alloc, &mut slave, 2 * SECOND, Row::Sync(1, 3))?;
+    play(&rt, alloc, &mut slave, 2 * SECOND, Row::Selects(Some(0)))?;
+    let flag: Box<dyn Judge> = Box::new(alloc, FlagJudge::new())?;
+    slave.set_judge(Moment::of(2 * SECOND).ok_or("below 2^62")?, 0, flag);
+    // To the operator's judge a gap is nothing.
+    play_all(
+        &rt,
+        alloc,
+        &mut slave,
+        &[
+            (2 * SECOND, Row::Selects(Some(0))),
+            (3 * SECOND, Row::Sync(1, 99)),
+            (3 * SECOND, Row::Selects(Some(0))),
         ],
     )
 }

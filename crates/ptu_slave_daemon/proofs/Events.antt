@@ -210,13 +210,3 @@ module _ (node : Node) (L : Record) (old new : View) (t : ℕ) (h : IsAt node ol
   }
 
 -- ---- what is selected
-
--- the master that is selected stands in the list
-pub chosen_within : (timeouts : Timeouts) (priorities : List ℕ) (L : Record) (t : ℕ) (o : Option ℕ) → o ≡ selected_master timeouts priorities L t → IfSome o (λ m. m < length priorities)
-chosen_within timeouts priorities L t None is = tt
-chosen_within timeouts priorities L t (Some m) is = (chosen_best timeouts priorities L t m (sym is)).within
-
--- each master has a priority
-pub priorities_many : (masters : List Master) → length (priorities masters) ≡ length masters
-priorities_many [] = refl
-priorities_many (m ∷ masters) = ap (λ n. suc n) (priorities_many masters)

@@ -222,11 +222,11 @@ module _ {A : Type 0} (f : A → Held) where
       sym (length-same f judges) ∙ ap length are ∙ length-same (λ m. fresh (rule_of m)) masters ∙ sym (ap length is ∙ length-same master_of masters)
 
   -- the slave stands for the node that the settings open
-  pub opened_at : (settings : SlaveSettings) (judges news : List A) (kept : Kept) (list : List Master) → AreFresh judges settings.masters → news ≡ judges → kept.config ≡ config_of settings
-      → list ≡ map master_of settings.masters → kept.masters ≡ list → StandsFor (map (λ j. (f j).rule) judges) kept (map f news) [] → IsAt (node_of settings) kept (map f news) []
+  pub opened_at : (settings : SlaveSettings) (judges : List A) (news : List Held) (kept : Kept) (list : List Master) → AreFresh judges settings.masters → news ≡ map f judges → kept.config ≡ config_of settings
+      → list ≡ map master_of settings.masters → kept.masters ≡ list → StandsFor (map (λ j. (f j).rule) judges) kept news [] → IsAt (node_of settings) kept news []
   opened_at settings judges news kept list are same config masters kept_masters stands = record {
     config = config;
     masters = kept_masters ∙ masters;
-    stands = subst (λ openings. StandsFor openings kept (map f news) []) (rules_are judges settings.masters are) stands;
-    ruled = subst (AllByRecursion (λ held. IsSome held.rule)) (sym (ap (map f) same ∙ are)) (all_ruled settings.masters);
+    stands = subst (λ openings. StandsFor openings kept news []) (rules_are judges settings.masters are) stands;
+    ruled = subst (AllByRecursion (λ held. IsSome held.rule)) (sym (same ∙ are)) (all_ruled settings.masters);
   }

@@ -9,6 +9,7 @@ use Rattle.ptu_record.specs.Record.{Record}
 use Rattle.ptu_judges.specs.Held.{Held}
 use Rattle.ptu_slave_messages.specs.Node.{Node}
 use Rattle.ptu_slave.specs.Kept.{Kept}
+use Rattle.ptu_slave.specs.Seen.{Seen}
 use Rattle.ptu_slave.specs.Standing.{StandsFor}
 use Rattle.ptu_rounds.specs.Rounds.{in_rounds, left_after, moments_after, timed}
 use Rattle.ptu_slave_daemon.specs.declared.counts.Counts.{Counts}
@@ -71,10 +72,6 @@ AreTimed before after acts hs =
 
 -- ---- the slave
 
--- each master has a judge
-abbrev pub IsJudged : {A : Type 0} → Kept → List A → Type 0
-IsJudged kept judges = length judges ≡ length kept.masters
-
 -- a slave, of which this is kept and whose judges hold this, stands for the node with this record
 pub record IsAt (node : Node) (kept : Kept) (judges : List Held) (L : Record) : Type 0 where
   pub config : kept.config ≡ node.config
@@ -131,6 +128,14 @@ view_of sent faults moments kept judges port clock = record {
   faults = faults port;
   times = moments clock;
 }
+
+-- the same of what is seen of a slave
+abbrev pub sees : {P B C : Type 0} → (P → Option (List Departure)) → (P → ℕ) → (C → Option (List ℕ)) → Seen P B → C → View
+sees sent faults moments slave clock = view_of sent faults moments slave.kept slave.judges slave.port clock
+
+-- what is seen of a slave stands for the node with this record
+abbrev pub Stands : {P B : Type 0} → Node → Seen P B → Record → Type 0
+Stands node slave L = IsAt node slave.kept slave.judges L
 
 -- one datagram was taken of a port, or none, and then none waited or a receive failed
 pub record TookOne (before after : Option (List Arrival)) (old new : ℕ) (more : Bool) (arrivals : List Arrival) : Type 0 where

@@ -7,7 +7,8 @@ ghost use Rattle.ptu_config.specs.Limits.{IsSlaveInRange};
 ghost use Rattle.ptu_judges.specs.Held.{IsStock, fresh};
 ghost use Rattle.ptu_slave_messages.specs.Config.{IsWithinLimits};
 ghost use Rattle.ptu_slave_daemon.specs.Opening.{HasNone, HasTaken, are_enough, config_of, master_of, node_of, rule_of};
-ghost use Rattle.ptu_slave_daemon.specs.Running.{IsAt};
+ghost use Rattle.ptu_slave_daemon.specs.Running.{Stands};
+ghost use Rattle.ptu_slave.specs.Seen.{HasJudges, seen};
 
 use ptu_config::{MasterSetting, SlaveSettings};
 use ptu_header::PortIdentity;
@@ -139,9 +140,10 @@ pub(crate) fn open_slave<P: Port>(
         (map (λ j. held (j.vtable, j.value)) stock.gaps.items) }
     requires enough { are_enough settings.now.masters
         (length stock.flags.items) (length stock.gaps.items) ≡ true }
-    ensures stands { IfOk result (λ slave. IsAt (node_of settings.now) slave.core
-        (map (λ j. held (j.vtable, j.value)) slave.judges.items) []) }
-    ensures port { IfOk result (λ slave. slave.port ≡ port) }
+    ensures stands { IfOk result (λ slave. Stands (node_of settings.now)
+        (seen ⟦<dyn Judge as Judge>⟧ slave) []) }
+    ensures judged { IfOk result (λ slave. HasJudges (seen ⟦<dyn Judge as Judge>⟧ slave)) }
+    ensures port { IfOk result (λ slave. (seen ⟦<dyn Judge as Judge>⟧ slave).port ≡ port) }
 {
     let masters = new_masters(alloc, settings.masters.list())?;
     let judges = new_judges(alloc, settings.masters.list(), stock)?;

@@ -9,7 +9,8 @@ ghost use Rattle.ptu_slave_daemon.specs.declared.line.SlaveLine.{SlaveLine};
 ghost use Rattle.ptu_slave_daemon.specs.Answers.{Halts};
 ghost use Rattle.ptu_slave_daemon.specs.Happenings.{Happening, Selection, Ticks, arrive};
 ghost use Rattle.ptu_slave_daemon.specs.Lines.{changes, output, selected_line, texts_of};
-ghost use Rattle.ptu_slave_daemon.specs.Running.{Counted, Grows, HasFailed, IsAt, IsFew, IsFront, IsJudged, Ran, RoundTook, RoundsDone, RunDone, view_of};
+ghost use Rattle.ptu_slave_daemon.specs.Running.{Counted, Grows, HasFailed, IsFew, IsFront, Ran, RoundTook, RoundsDone, RunDone, Stands, sees};
+ghost use Rattle.ptu_slave.specs.Seen.{HasJudges, seen};
 
 use crate::counts::Counts;
 use crate::halt::Halt;
@@ -17,6 +18,7 @@ use crate::line::SlaveLine;
 use crate::steps::{stop, tick};
 use crate::taking::{take_all_event, take_all_general};
 use crate::writing::{say, write_line};
+use ptu_judges::Judge;
 use ptu_outside::{Clock, Port, Sink};
 use ptu_slave::Slave;
 use ptu_units::OutOfMemory;
@@ -30,26 +32,24 @@ fn happen<P: Port, C: Clock>(
     clock: &mut C,
     counts: &mut Counts,
 ) -> Result<Option<u32>, OutOfMemory>
-    requires judged { IsJudged slave.old.core slave.old.judges.items }
     requires few { IsFew (2 ^ 65) counts.old }
     ensures grows { Grows (2 ^ 65) counts.old counts.new }
     ensures sent { P.sent event.new ≡ P.sent event.old }
     ensures ran { IfOk result (λ master. (node : Node) (L : Record) (round : ℕ) →
-        IsAt node slave.old.core
-        (map (λ j. held (j.vtable, j.value)) slave.old.judges.items) L →
+        Stands node (seen ⟦<dyn Judge as Judge>⟧ slave.old) L →
         (arrivals : List Arrival) × (event_arrivals : List Arrival) × (hs : List Happening)
         × (sent : ℕ) × (failed : ℕ) × (event_failed : ℕ)
         × Counted sent (failed + event_failed) counts.old counts.new
         × HasFailed (P.faults event.old) (P.faults event.new) event_failed
-        × RoundTook (P.waiting slave.old.port) (P.waiting slave.new.port)
-        (P.faults slave.old.port) (P.faults slave.new.port) arrivals
+        × RoundTook (P.waiting (seen ⟦<dyn Judge as Judge>⟧ slave.old).port) (P.waiting
+        (seen ⟦<dyn Judge as Judge>⟧ slave.new).port)
+        (P.faults (seen ⟦<dyn Judge as Judge>⟧ slave.old).port) (P.faults
+        (seen ⟦<dyn Judge as Judge>⟧ slave.new).port) arrivals
         × RoundTook (P.waiting event.old) (P.waiting event.new)
         (P.faults event.old) (P.faults event.new) event_arrivals
         × Ran node L
-        (view_of P.sent P.faults C.moments slave.old.core
-        (map (λ j. held (j.vtable, j.value)) slave.old.judges.items) slave.old.port clock.old)
-        (view_of P.sent P.faults C.moments slave.new.core
-        (map (λ j. held (j.vtable, j.value)) slave.new.judges.items) slave.new.port clock.new)
+        (sees P.sent P.faults C.moments (seen ⟦<dyn Judge as Judge>⟧ slave.old) clock.old)
+        (sees P.sent P.faults C.moments (seen ⟦<dyn Judge as Judge>⟧ slave.new) clock.new)
         (map arrive (arrivals ++ event_arrivals) ++ Ticks round ∷ []) hs
         (record { round = round; master = master } ∷ []) sent failed) }
 {
@@ -68,21 +68,18 @@ fn run_rounds<P: Port, C: Clock, K: Sink>(
     counts: &mut Counts,
     sink: &mut K,
 ) -> Result<(), Halt>
-    requires judged { IsJudged slave.old.core slave.old.judges.items }
     requires none { counts.old ≡ record { sent = 0; failed = 0 } }
     ensures few { IsFew (2 ^ 64) counts.new }
     ensures sent { P.sent event.new ≡ P.sent event.old }
     ensures done { OnOk result ((selections : List Selection)
         × HasPut K.written K.handed sink.old sink.new
         (texts_of (map selected_line (changes None selections)))
-        × ((node : Node) (L : Record) → IsAt node slave.old.core
-        (map (λ j. held (j.vtable, j.value)) slave.old.judges.items) L →
+        × ((node : Node) (L : Record) → Stands node (seen ⟦<dyn Judge as Judge>⟧ slave.old) L →
         RoundsDone rounds node L
-        (view_of P.sent P.faults C.moments slave.old.core
-        (map (λ j. held (j.vtable, j.value)) slave.old.judges.items) slave.old.port clock.old)
-        (view_of P.sent P.faults C.moments slave.new.core
-        (map (λ j. held (j.vtable, j.value)) slave.new.judges.items) slave.new.port clock.new)
-        (P.waiting slave.old.port) (P.waiting slave.new.port)
+        (sees P.sent P.faults C.moments (seen ⟦<dyn Judge as Judge>⟧ slave.old) clock.old)
+        (sees P.sent P.faults C.moments (seen ⟦<dyn Judge as Judge>⟧ slave.new) clock.new)
+        (P.waiting (seen ⟦<dyn Judge as Judge>⟧ slave.old).port) (P.waiting
+        (seen ⟦<dyn Judge as Judge>⟧ slave.new).port)
         (P.waiting event.old) (P.waiting event.new) (P.faults event.old) (P.faults event.new)
         selections counts.new.sent counts.new.failed)) }
     ensures part { OnErr result ((selections : List Selection)
@@ -91,14 +88,12 @@ fn run_rounds<P: Port, C: Clock, K: Sink>(
     ensures stopped { IsErrOf result Halt.Write → (n : ℕ) × (selections : List Selection)
         × (n ≤ rounds) × HasPutPart K.written K.handed sink.old sink.new
         (texts_of (map selected_line (changes None selections)))
-        × ((node : Node) (L : Record) → IsAt node slave.old.core
-        (map (λ j. held (j.vtable, j.value)) slave.old.judges.items) L →
+        × ((node : Node) (L : Record) → Stands node (seen ⟦<dyn Judge as Judge>⟧ slave.old) L →
         RoundsDone n node L
-        (view_of P.sent P.faults C.moments slave.old.core
-        (map (λ j. held (j.vtable, j.value)) slave.old.judges.items) slave.old.port clock.old)
-        (view_of P.sent P.faults C.moments slave.new.core
-        (map (λ j. held (j.vtable, j.value)) slave.new.judges.items) slave.new.port clock.new)
-        (P.waiting slave.old.port) (P.waiting slave.new.port)
+        (sees P.sent P.faults C.moments (seen ⟦<dyn Judge as Judge>⟧ slave.old) clock.old)
+        (sees P.sent P.faults C.moments (seen ⟦<dyn Judge as Judge>⟧ slave.new) clock.new)
+        (P.waiting (seen ⟦<dyn Judge as Judge>⟧ slave.old).port) (P.waiting
+        (seen ⟦<dyn Judge as Judge>⟧ slave.new).port)
         (P.waiting event.old) (P.waiting event.new) (P.faults event.old) (P.faults event.new)
         selections counts.new.sent counts.new.failed) }
     ensures counts { Halts result (K.faults sink.old) (K.faults sink.new) }
@@ -126,19 +121,17 @@ pub(crate) fn run<P: Port, C: Clock, K: Sink>(
     clock: &mut C,
     sink: &mut K,
 ) -> Result<(), Halt>
-    requires judged { IsJudged slave.old.core slave.old.judges.items }
+    requires judged { HasJudges (seen ⟦<dyn Judge as Judge>⟧ slave.old) }
     ensures sent { P.sent event.new ≡ P.sent event.old }
     ensures done { OnOk result ((selections : List Selection) × (sends : ℕ) × (failures : ℕ)
         × HasPut K.written K.handed sink.old sink.new
         (texts_of (output rounds (changes None selections) sends failures))
-        × ((node : Node) (L : Record) → IsAt node slave.old.core
-        (map (λ j. held (j.vtable, j.value)) slave.old.judges.items) L →
+        × ((node : Node) (L : Record) → Stands node (seen ⟦<dyn Judge as Judge>⟧ slave.old) L →
         RunDone rounds node L
-        (view_of P.sent P.faults C.moments slave.old.core
-        (map (λ j. held (j.vtable, j.value)) slave.old.judges.items) slave.old.port clock.old)
-        (view_of P.sent P.faults C.moments slave.new.core
-        (map (λ j. held (j.vtable, j.value)) slave.new.judges.items) slave.new.port clock.new)
-        (P.waiting slave.old.port) (P.waiting slave.new.port)
+        (sees P.sent P.faults C.moments (seen ⟦<dyn Judge as Judge>⟧ slave.old) clock.old)
+        (sees P.sent P.faults C.moments (seen ⟦<dyn Judge as Judge>⟧ slave.new) clock.new)
+        (P.waiting (seen ⟦<dyn Judge as Judge>⟧ slave.old).port) (P.waiting
+        (seen ⟦<dyn Judge as Judge>⟧ slave.new).port)
         (P.waiting event.old) (P.waiting event.new) (P.faults event.old) (P.faults event.new)
         selections sends failures)) }
     ensures part { OnErr result ((selections : List Selection) × (sends : ℕ) × (failures : ℕ)
@@ -146,14 +139,12 @@ pub(crate) fn run<P: Port, C: Clock, K: Sink>(
         (texts_of (output rounds selections sends failures))) }
     ensures stopped { IsErrOf result Halt.Write → (lines : List SlaveLine)
         × HasPutPart K.written K.handed sink.old sink.new (texts_of lines)
-        × ((node : Node) (L : Record) → IsAt node slave.old.core
-        (map (λ j. held (j.vtable, j.value)) slave.old.judges.items) L →
+        × ((node : Node) (L : Record) → Stands node (seen ⟦<dyn Judge as Judge>⟧ slave.old) L →
         IsFront rounds node L
-        (view_of P.sent P.faults C.moments slave.old.core
-        (map (λ j. held (j.vtable, j.value)) slave.old.judges.items) slave.old.port clock.old)
-        (view_of P.sent P.faults C.moments slave.new.core
-        (map (λ j. held (j.vtable, j.value)) slave.new.judges.items) slave.new.port clock.new)
-        (P.waiting slave.old.port) (P.waiting slave.new.port)
+        (sees P.sent P.faults C.moments (seen ⟦<dyn Judge as Judge>⟧ slave.old) clock.old)
+        (sees P.sent P.faults C.moments (seen ⟦<dyn Judge as Judge>⟧ slave.new) clock.new)
+        (P.waiting (seen ⟦<dyn Judge as Judge>⟧ slave.old).port) (P.waiting
+        (seen ⟦<dyn Judge as Judge>⟧ slave.new).port)
         (P.waiting event.old) (P.waiting event.new) (P.faults event.old) (P.faults event.new)
         lines) }
     ensures counts { Halts result (K.faults sink.old) (K.faults sink.new) }

@@ -4,10 +4,12 @@ ghost use Rattle.std.specs.Prelude.{◌≡◌, ◌+◌, ℕ, Bool, List, map, If
 ghost use Rattle.ptu_outside.specs.declared.arrival.Arrival.{Arrival};
 ghost use Rattle.ptu_record.specs.Record.{Record};
 ghost use Rattle.ptu_slave_messages.specs.Node.{Node};
-ghost use Rattle.ptu_slave_daemon.specs.Running.{Counted, Grows, HasFailed, IsAt, IsFew, IsJudged, RoundTook, Took, TookOne, view_of};
+ghost use Rattle.ptu_slave_daemon.specs.Running.{Counted, Grows, HasFailed, IsFew, RoundTook, Took, TookOne, Stands, sees};
+ghost use Rattle.ptu_slave.specs.Seen.{seen};
 
 use crate::counts::Counts;
 use crate::steps::take;
+use ptu_judges::Judge;
 use ptu_outside::{Clock, Port};
 use ptu_slave::Slave;
 use ptu_units::OutOfMemory;
@@ -27,24 +29,23 @@ fn take_general<P: Port, C: Clock>(
     clock: &mut C,
     counts: &mut Counts,
 ) -> Result<bool, OutOfMemory>
-    requires judged { IsJudged slave.old.core slave.old.judges.items }
     requires few { IsFew 1 counts.old }
     ensures grows { Grows 1 counts.old counts.new }
-    ensures took { IfOk result (λ more. (node : Node) (L : Record) → IsAt node slave.old.core
-        (map (λ j. held (j.vtable, j.value)) slave.old.judges.items) L →
+    ensures took { IfOk result (λ more. (node : Node) (L : Record) → Stands node
+        (seen ⟦<dyn Judge as Judge>⟧ slave.old) L →
         (arrivals : List Arrival) × (sent : ℕ) × (failed : ℕ)
         × Counted sent failed counts.old counts.new
-        × TookOne (P.waiting slave.old.port) (P.waiting slave.new.port)
-        (P.faults slave.old.port) (P.faults slave.new.port) more arrivals
+        × TookOne (P.waiting (seen ⟦<dyn Judge as Judge>⟧ slave.old).port) (P.waiting
+        (seen ⟦<dyn Judge as Judge>⟧ slave.new).port)
+        (P.faults (seen ⟦<dyn Judge as Judge>⟧ slave.old).port) (P.faults
+        (seen ⟦<dyn Judge as Judge>⟧ slave.new).port) more arrivals
         × Took node L
-        (view_of P.sent P.faults C.moments slave.old.core
-        (map (λ j. held (j.vtable, j.value)) slave.old.judges.items) slave.old.port clock.old)
-        (view_of P.sent P.faults C.moments slave.new.core
-        (map (λ j. held (j.vtable, j.value)) slave.new.judges.items) slave.new.port clock.new)
+        (sees P.sent P.faults C.moments (seen ⟦<dyn Judge as Judge>⟧ slave.old) clock.old)
+        (sees P.sent P.faults C.moments (seen ⟦<dyn Judge as Judge>⟧ slave.new) clock.new)
         arrivals sent failed) }
 {
     let mut octets = [0; LONGEST];
-    match slave.port.receive(&mut octets) {
+    match slave.receive(&mut octets) {
         Ok(Some((from, length))) => {
             take(alloc, slave, clock, from, &octets[..length], counts)?;
             Ok(true)
@@ -65,23 +66,21 @@ fn take_event<P: Port, C: Clock>(
     clock: &mut C,
     counts: &mut Counts,
 ) -> Result<bool, OutOfMemory>
-    requires judged { IsJudged slave.old.core slave.old.judges.items }
     requires few { IsFew 1 counts.old }
     ensures grows { Grows 1 counts.old counts.new }
-    ensures waiting { P.waiting slave.new.port ≡ P.waiting slave.old.port }
+    ensures waiting { P.waiting (seen ⟦<dyn Judge as Judge>⟧ slave.new).port ≡ P.waiting
+        (seen ⟦<dyn Judge as Judge>⟧ slave.old).port }
     ensures sent { P.sent event.new ≡ P.sent event.old }
-    ensures took { IfOk result (λ more. (node : Node) (L : Record) → IsAt node slave.old.core
-        (map (λ j. held (j.vtable, j.value)) slave.old.judges.items) L →
+    ensures took { IfOk result (λ more. (node : Node) (L : Record) → Stands node
+        (seen ⟦<dyn Judge as Judge>⟧ slave.old) L →
         (arrivals : List Arrival) × (sent : ℕ) × (failed : ℕ) × (event_failed : ℕ)
         × Counted sent (failed + event_failed) counts.old counts.new
         × HasFailed (P.faults event.old) (P.faults event.new) event_failed
         × TookOne (P.waiting event.old) (P.waiting event.new)
         (P.faults event.old) (P.faults event.new) more arrivals
         × Took node L
-        (view_of P.sent P.faults C.moments slave.old.core
-        (map (λ j. held (j.vtable, j.value)) slave.old.judges.items) slave.old.port clock.old)
-        (view_of P.sent P.faults C.moments slave.new.core
-        (map (λ j. held (j.vtable, j.value)) slave.new.judges.items) slave.new.port clock.new)
+        (sees P.sent P.faults C.moments (seen ⟦<dyn Judge as Judge>⟧ slave.old) clock.old)
+        (sees P.sent P.faults C.moments (seen ⟦<dyn Judge as Judge>⟧ slave.new) clock.new)
         arrivals sent failed) }
 {
     let mut octets = [0; LONGEST];
@@ -108,20 +107,19 @@ pub(crate) fn take_all_general<P: Port, C: Clock>(
     clock: &mut C,
     counts: &mut Counts,
 ) -> Result<(), OutOfMemory>
-    requires judged { IsJudged slave.old.core slave.old.judges.items }
     requires few { IsFew 64 counts.old }
     ensures grows { Grows 64 counts.old counts.new }
-    ensures took { OnOk result ((node : Node) (L : Record) → IsAt node slave.old.core
-        (map (λ j. held (j.vtable, j.value)) slave.old.judges.items) L →
+    ensures took { OnOk result ((node : Node) (L : Record) → Stands node
+        (seen ⟦<dyn Judge as Judge>⟧ slave.old) L →
         (arrivals : List Arrival) × (sent : ℕ) × (failed : ℕ)
         × Counted sent failed counts.old counts.new
-        × RoundTook (P.waiting slave.old.port) (P.waiting slave.new.port)
-        (P.faults slave.old.port) (P.faults slave.new.port) arrivals
+        × RoundTook (P.waiting (seen ⟦<dyn Judge as Judge>⟧ slave.old).port) (P.waiting
+        (seen ⟦<dyn Judge as Judge>⟧ slave.new).port)
+        (P.faults (seen ⟦<dyn Judge as Judge>⟧ slave.old).port) (P.faults
+        (seen ⟦<dyn Judge as Judge>⟧ slave.new).port) arrivals
         × Took node L
-        (view_of P.sent P.faults C.moments slave.old.core
-        (map (λ j. held (j.vtable, j.value)) slave.old.judges.items) slave.old.port clock.old)
-        (view_of P.sent P.faults C.moments slave.new.core
-        (map (λ j. held (j.vtable, j.value)) slave.new.judges.items) slave.new.port clock.new)
+        (sees P.sent P.faults C.moments (seen ⟦<dyn Judge as Judge>⟧ slave.old) clock.old)
+        (sees P.sent P.faults C.moments (seen ⟦<dyn Judge as Judge>⟧ slave.new) clock.new)
         arrivals sent failed) }
 {
     for _taken in 0..MOST {
@@ -143,23 +141,21 @@ pub(crate) fn take_all_event<P: Port, C: Clock>(
     clock: &mut C,
     counts: &mut Counts,
 ) -> Result<(), OutOfMemory>
-    requires judged { IsJudged slave.old.core slave.old.judges.items }
     requires few { IsFew 64 counts.old }
     ensures grows { Grows 64 counts.old counts.new }
-    ensures waiting { P.waiting slave.new.port ≡ P.waiting slave.old.port }
+    ensures waiting { P.waiting (seen ⟦<dyn Judge as Judge>⟧ slave.new).port ≡ P.waiting
+        (seen ⟦<dyn Judge as Judge>⟧ slave.old).port }
     ensures sent { P.sent event.new ≡ P.sent event.old }
-    ensures took { OnOk result ((node : Node) (L : Record) → IsAt node slave.old.core
-        (map (λ j. held (j.vtable, j.value)) slave.old.judges.items) L →
+    ensures took { OnOk result ((node : Node) (L : Record) → Stands node
+        (seen ⟦<dyn Judge as Judge>⟧ slave.old) L →
         (arrivals : List Arrival) × (sent : ℕ) × (failed : ℕ) × (event_failed : ℕ)
         × Counted sent (failed + event_failed) counts.old counts.new
         × HasFailed (P.faults event.old) (P.faults event.new) event_failed
         × RoundTook (P.waiting event.old) (P.waiting event.new)
         (P.faults event.old) (P.faults event.new) arrivals
         × Took node L
-        (view_of P.sent P.faults C.moments slave.old.core
-        (map (λ j. held (j.vtable, j.value)) slave.old.judges.items) slave.old.port clock.old)
-        (view_of P.sent P.faults C.moments slave.new.core
-        (map (λ j. held (j.vtable, j.value)) slave.new.judges.items) slave.new.port clock.new)
+        (sees P.sent P.faults C.moments (seen ⟦<dyn Judge as Judge>⟧ slave.old) clock.old)
+        (sees P.sent P.faults C.moments (seen ⟦<dyn Judge as Judge>⟧ slave.new) clock.new)
         arrivals sent failed) }
 {
     for _taken in 0..MOST {

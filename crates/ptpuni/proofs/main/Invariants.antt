@@ -6,6 +6,6 @@ use Rattle.ptpuni.proofs.main.Given as goal
 
 abbrev pub invariant-loop : goal.invariant-loop
 invariant-loop g l =
-    IsStock (map (λ j. (count.dyn-1.members (count.dyn-1-ghosts (own.own-1, own.lawful-own-1)) (j.vtable, j.value)).held j.value) l.stock.flags.items)
-    (map (λ j. (count.dyn-1.members (count.dyn-1-ghosts (own.own-1, own.lawful-own-1)) (j.vtable, j.value)).held j.value) l.stock.gaps.items)
+    IsStock (map (λ j. (count.dyn-1.members (count.dyn-1-ghosts (own.own-1, own.lawful-own-1)) (j.vtable, j.value)).Judge.held j.value) l.stock.flags.items)
+    (map (λ j. (count.dyn-1.members (count.dyn-1-ghosts (own.own-1, own.lawful-own-1)) (j.vtable, j.value)).Judge.held j.value) l.stock.gaps.items)
     × ((length l.stock.flags.items ≡ l.counter) × (length l.stock.gaps.items ≡ l.counter))

@@ -4,4 +4,8 @@ use Rattle.ptu_judges.proofs.tests.ask.Goals as goal
 
 pub returns-clause-stands : goal.returns-clause-stands
 returns-clause-stands g c =
-    λ opening L m s. c.assess.ensures.1.0 opening L m (subst (λ p. StandsFor opening L ((goal.Judge-dyn g p).held p.1)) (sym c.deref_box_mut-1.ensures.value.1) s)
+    λ opening L m s. c.assess.ensures.1.1.0 opening L m (subst (λ p. StandsFor opening L ((goal.Judge-dyn g p).Judge.held p.1)) (sym c.deref_box_mut-1.ensures.value.1) s)
+
+pub returns-clause-assessed : goal.returns-clause-assessed
+returns-clause-assessed g c =
+    λ opening L s. c.assess.ensures.1.0 opening L (subst (λ p. StandsFor opening L ((goal.Judge-dyn g p).Judge.held p.1)) (sym c.deref_box_mut-1.ensures.value.1) s)

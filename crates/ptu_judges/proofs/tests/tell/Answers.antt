@@ -4,4 +4,4 @@ use Rattle.ptu_judges.proofs.tests.tell.Goals as goal
 
 pub returns : goal.returns
 returns g c =
-    λ opening L m s. c.told.ensures.0 opening L m (subst (λ p. StandsFor opening L ((goal.Judge-dyn g p).held p.1)) (sym c.deref_box_mut-1.ensures.value.1) s)
+    λ opening L m s. c.told.ensures.1.0 opening L m (subst (λ p. StandsFor opening L ((goal.Judge-dyn g p).Judge.held p.1)) (sym c.deref_box_mut-1.ensures.value.1) s)

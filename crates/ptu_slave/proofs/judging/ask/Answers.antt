@@ -1,7 +1,15 @@
 use Rattle.std.proofs.Common.{subst, sym}
 use Rattle.ptu_judges.specs.Held.{StandsFor}
+use Rattle.ptu_slave.proofs.Calling.{along_at}
 use Rattle.ptu_slave.proofs.judging.ask.Goals as goal
 
 pub returns-clause-judge : goal.returns-clause-judge
 returns-clause-judge g c =
-    λ opening own m s. c.assess.ensures.1.0 opening own m (subst (λ p. StandsFor opening own ((goal.Judge-dyn g p).held p.1)) (sym c.deref_box_mut-1.ensures.value.1) s)
+    λ opening own m s. c.assess.ensures.1.1.0 opening own m (subst (λ p. StandsFor opening own ((goal.Judge-dyn g p).Judge.held p.1)) (sym c.deref_box_mut-1.ensures.value.1) s)
+
+pub returns-clause-call : goal.returns-clause-call
+returns-clause-call g c = along_at (λ v x y. (goal.Judge-dyn g (v, x)).Conduct.finds x c.args.at c.assess.result y) _ _ c.deref_box_mut-1.ensures.value.1 _ c.assess.ensures.0
+
+pub returns-clause-found : goal.returns-clause-found
+returns-clause-found g c =
+    λ opening own s. c.assess.ensures.1.0 opening own (subst (λ p. StandsFor opening own ((goal.Judge-dyn g p).Judge.held p.1)) (sym c.deref_box_mut-1.ensures.value.1) s)

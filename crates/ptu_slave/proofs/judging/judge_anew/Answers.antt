@@ -1,6 +1,8 @@
 use Rattle.std.proofs.Common.{subst, sym, set, ◌<◌}
 use Rattle.std.proofs.lemmas.List.{length-set}
 use Rattle.ptu_slave.proofs.Assessing.{anew_at, asked_at}
+use Rattle.ptu_judges.specs.Calls.{WasAsked}
+use Rattle.ptu_slave.proofs.Calling.{of_new}
 use Rattle.ptu_slave.proofs.judging.judge_anew.Goals as goal
 
 pub returns-clause-judged : goal.returns-clause-judged
@@ -9,3 +11,7 @@ returns-clause-judged g c =
     (asked_at _ (set c.args.judges.now.items c.args.master c.args.judge) c.args.at c.args.master c.index_mut-2.result.now c.ask.new.judge c.ask.result
     (subst (λ n. c.args.master < n) (sym (length-set c.args.judges.now.items c.args.master c.args.judge)) c.requires.master) c.index_mut-2.ensures.value
     c.ask.ensures.found c.ask.ensures.judge)
+
+pub returns-clause-calls : goal.returns-clause-calls
+returns-clause-calls g c =
+    of_new (WasAsked (λ i. (g.dyn-1.0.entry i).1.Conduct) c.args.at c.ask.result) c.args.judges.now.items c.args.master c.args.judge _ _ c.requires.master c.index_mut-2.ensures.value c.ask.ensures.call

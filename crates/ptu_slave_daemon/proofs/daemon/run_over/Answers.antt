@@ -1,6 +1,7 @@
 use Rattle.std.proofs.Common.{[], ◌∙◌, Err, ap, map, refl}
 use Rattle.std.proofs.lemmas.Result.{err_from_is_err_and}
 use Rattle.ptu_outside.proofs.Putting.{HasPutPart-none}
+use Rattle.ptu_slave.specs.Seen.{seen}
 use Rattle.ptu_slave_daemon.specs.Opening.{node_of}
 use Rattle.ptu_slave_daemon.proofs.Ended.{has_served_by, has_stopped}
 use Rattle.ptu_slave_daemon.proofs.daemon.run_over.Goals as goal
@@ -32,7 +33,7 @@ returns-clause-served g c =
             c4 = c.args.opened.c4;
             c5 = c.args.opened.c5;
           })
-          c.args.sink.now c.run-answer.new.sink c.in_ok-slave.slave.core c.run-answer.new.slave.core _ _ c.in_ok-slave.slave.port c.run-answer.new.slave.port d.0 d.1 d.2
+          c.args.sink.now c.run-answer.new.sink (seen (λ i. (g.dyn-1.0.entry i).1.Judge) c.in_ok-slave.slave).kept (seen (λ i. (g.dyn-1.0.entry i).1.Judge) c.run-answer.new.slave).kept _ _ (seen (λ i. (g.dyn-1.0.entry i).1.Judge) c.in_ok-slave.slave).port (seen (λ i. (g.dyn-1.0.entry i).1.Judge) c.run-answer.new.slave).port d.0 d.1 d.2
           (record { p0 = refl; p1 = refl; p2 = refl; p3 = refl; p5 = c.run-answer.ensures.sent; c1 = refl; c2 = refl; c3 = refl; c4 = refl; c5 = refl })
           c.in_ok-slave.ensures.port c.into_port.ensures d.3 (d.4 (node_of c.args.settings.now) [] c.in_ok-slave.ensures.stands))
       | in-Err+in-Write w ↦ rw w.written-is tt
@@ -61,8 +62,8 @@ returns-clause-front g c =
             c4 = c.args.opened.c4;
             c5 = c.args.opened.c5;
           })
-          c.args.sink.now c.run-answer.new.sink c.in_ok-slave.slave.core c.run-answer.new.slave.core
-          (map (λ j. (goal.Judge-dyn g (j.vtable, j.value)).held j.value) c.in_ok-slave.slave.judges.items) (map (λ j. (goal.Judge-dyn g (j.vtable, j.value)).held j.value) c.run-answer.new.slave.judges.items) c.in_ok-slave.slave.port c.run-answer.new.slave.port d.0
+          c.args.sink.now c.run-answer.new.sink (seen (λ i. (g.dyn-1.0.entry i).1.Judge) c.in_ok-slave.slave).kept (seen (λ i. (g.dyn-1.0.entry i).1.Judge) c.run-answer.new.slave).kept
+          (seen (λ i. (g.dyn-1.0.entry i).1.Judge) c.in_ok-slave.slave).judges (seen (λ i. (g.dyn-1.0.entry i).1.Judge) c.run-answer.new.slave).judges (seen (λ i. (g.dyn-1.0.entry i).1.Judge) c.in_ok-slave.slave).port (seen (λ i. (g.dyn-1.0.entry i).1.Judge) c.run-answer.new.slave).port d.0
           (record { p0 = refl; p1 = refl; p2 = refl; p3 = refl; p5 = c.run-answer.ensures.sent; c1 = refl; c2 = refl; c3 = refl; c4 = refl; c5 = refl })
           c.in_ok-slave.ensures.port c.into_port.ensures d.1 (d.2 (node_of c.args.settings.now) [] c.in_ok-slave.ensures.stands))
     ]

@@ -5,8 +5,8 @@ use Rattle.ptu_slave_daemon.proofs.opening.new_judges.Given as goal
 
 abbrev pub invariant-loop-master : goal.invariant-loop-master
 invariant-loop-master g l = record {
-  judges : AreFresh (λ j. (goal.Judge-dyn g (j.vtable, j.value)).held j.value) l.judges.items (take l.master-index l.masters);
+  judges : AreFresh (λ j. (goal.Judge-dyn g (j.vtable, j.value)).Judge.held j.value) l.judges.items (take l.master-index l.masters);
   enough : Enough (drop l.master-index l.masters) (length l.stock.flags.items) (length l.stock.gaps.items);
-  stock : IsStock (map (λ j. (goal.Judge-dyn g (j.vtable, j.value)).held j.value) l.stock.flags.items)
-      (map (λ j. (goal.Judge-dyn g (j.vtable, j.value)).held j.value) l.stock.gaps.items);
+  stock : IsStock (map (λ j. (goal.Judge-dyn g (j.vtable, j.value)).Judge.held j.value) l.stock.flags.items)
+      (map (λ j. (goal.Judge-dyn g (j.vtable, j.value)).Judge.held j.value) l.stock.gaps.items);
 }

@@ -2,6 +2,8 @@ use Rattle.std.proofs.Common.{◌≡◌, ◌*◌, ◌^◌, ◌≤◌, List, None
 use Rattle.ptu_outside.specs.Handing.{HasPut}
 use Rattle.ptu_record.specs.Record.{Record}
 use Rattle.ptu_slave_messages.specs.Node.{Node}
+use Rattle.ptu_slave.specs.Seen.{seen}
+use Rattle.ptu_slave_daemon.specs.Running.{Stands, sees}
 use Rattle.ptu_slave_daemon.specs.Happenings.{Selection}
 use Rattle.ptu_slave_daemon.specs.Lines.{changes, selected_line, texts_of}
 use Rattle.ptu_slave_daemon.specs.Running.{IsAt, RoundsDone, view_of}
@@ -15,10 +17,10 @@ invariant-loop-before g l = record {
   still : g.K.Sink.faults l.sink ≡ g.K.Sink.faults l.fn.sink;
   done : (selections : List Selection) × (l.said ≡ said_after None selections)
       × HasPut g.K.Sink.written g.K.Sink.handed l.fn.sink l.sink (texts_of (map selected_line (changes None selections)))
-      × ((node : Node) (L : Record) → IsAt node l.fn.slave.core (map (λ j. (goal.Judge-dyn g (j.vtable, j.value)).held j.value) l.fn.slave.judges.items) L →
+      × ((node : Node) (L : Record) → Stands node (seen (λ i. (g.dyn-1.0.entry i).1.Judge) l.fn.slave) L →
       RoundsDone l.before node L
-      (view_of g.P.Port.sent g.P.Port.faults g.C.Clock.moments l.fn.slave.core (map (λ j. (goal.Judge-dyn g (j.vtable, j.value)).held j.value) l.fn.slave.judges.items) l.fn.slave.port l.fn.clock)
-      (view_of g.P.Port.sent g.P.Port.faults g.C.Clock.moments l.slave.core (map (λ j. (goal.Judge-dyn g (j.vtable, j.value)).held j.value) l.slave.judges.items) l.slave.port l.clock)
-      (g.P.Port.waiting l.fn.slave.port) (g.P.Port.waiting l.slave.port) (g.P.Port.waiting l.fn.event) (g.P.Port.waiting l.event) (g.P.Port.faults l.fn.event) (g.P.Port.faults l.event)
+      (sees g.P.Port.sent g.P.Port.faults g.C.Clock.moments (seen (λ i. (g.dyn-1.0.entry i).1.Judge) l.fn.slave) l.fn.clock)
+      (sees g.P.Port.sent g.P.Port.faults g.C.Clock.moments (seen (λ i. (g.dyn-1.0.entry i).1.Judge) l.slave) l.clock)
+      (g.P.Port.waiting (seen (λ i. (g.dyn-1.0.entry i).1.Judge) l.fn.slave).port) (g.P.Port.waiting (seen (λ i. (g.dyn-1.0.entry i).1.Judge) l.slave).port) (g.P.Port.waiting l.fn.event) (g.P.Port.waiting l.event) (g.P.Port.faults l.fn.event) (g.P.Port.faults l.event)
       selections l.counts.sent l.counts.failed);
 }

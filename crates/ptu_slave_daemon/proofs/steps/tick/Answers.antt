@@ -1,7 +1,8 @@
 use Rattle.std.proofs.Common.{[], ◌∷◌, ap, refl}
+use Rattle.ptu_slave.specs.Seen.{Seen, seen}
 use Rattle.ptu_slave_daemon.specs.declared.counts.Counts.{Counts}
 use Rattle.ptu_slave_daemon.specs.Happenings.{Ticks}
-use Rattle.ptu_slave_daemon.specs.Running.{view_of}
+use Rattle.ptu_slave_daemon.specs.Running.{sees}
 use Rattle.ptu_slave_daemon.proofs.Events.{ran_ticked}
 use Rattle.ptu_slave_daemon.proofs.Ports.{port_stated}
 use Rattle.ptu_slave_daemon.proofs.Runs.{ran_view}
@@ -15,10 +16,11 @@ returns-clause-ran g c = λ node L round h. (
   Ticks round c.now-at.result ∷ [],
   (ap (λ (k : Counts). k.sent) c.add.ensures, ap (λ (k : Counts). k.failed) c.add.ensures),
   ran_view node L _
-      (view_of g.P.Port.sent g.P.Port.faults g.C.Clock.moments c.tick-ticked.new.self.core _ c.tick-ticked.new.self.port c.now-at.new.self)
-      _ _ _ _ _ _ c.selected-master.ensures.core (rw c.selected-master.ensures.judges) (ap g.P.Port.sent c.selected-master.ensures.port) (ap g.P.Port.faults c.selected-master.ensures.port) refl
-      (ran_ticked node L _ _ c.now-at.result h c.tick-ticked.ensures.same c.tick-ticked.result.at round c.tick-ticked.result.sent c.tick-ticked.result.failed c.selected-master.result
+      (sees g.P.Port.sent g.P.Port.faults g.C.Clock.moments (seen (λ i. (g.dyn-1.0.entry i).1.Judge) c.tick-ticked.new.self) c.now-at.new.self)
+      _ _ _ _ _ _ (ap (λ (s : Seen _ _). s.kept) c.selected_address-master.ensures.unchanged) (ap (λ (s : Seen _ _). s.judges) c.selected_address-master.ensures.unchanged)
+      (ap (λ (s : Seen _ _). g.P.Port.sent s.port) c.selected_address-master.ensures.unchanged) (ap (λ (s : Seen _ _). g.P.Port.faults s.port) c.selected_address-master.ensures.unchanged) refl
+      (ran_ticked node L _ _ c.now-at.result h c.tick-ticked.ensures.same c.tick-ticked.result.at round c.tick-ticked.result.sent c.tick-ticked.result.failed c.selected_address-master.result
       (timed_one _ _ c.now-at.result (λ at. Ticks round at) (g.met.C.Clock.never_empty c.args.clock.now) c.now-at.ensures.first c.now-at.ensures.rest)
-      c.tick-ticked.ensures.at (c.tick-ticked.ensures.steps node.openings L h.stands) (port_stated g.P.Port _ _ _ _ _ _ _ c.tick-ticked.ensures.sends.1 (c.tick-ticked.ensures.sends.2 node.openings L h.stands))
-      c.selected-master.ensures.selected),
+      c.tick-ticked.ensures.ticked.at (c.tick-ticked.ensures.ticked.steps node.openings L h.stands) (port_stated g.P.Port _ _ _ _ _ _ _ c.tick-ticked.ensures.ticked.sends.1 (c.tick-ticked.ensures.ticked.sends.2 node.openings L h.stands))
+      c.selected_address-master.ensures.selected),
 )

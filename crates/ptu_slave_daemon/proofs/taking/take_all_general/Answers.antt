@@ -1,5 +1,7 @@
 use Rattle.std.proofs.Common.{[], ◌++◌, ◌+◌, ◌≡◌, ◌<◌, ◌∙◌, ap₂, arith, length, length-append, refl}
 use Rattle.ptu_outside.proofs.Telling.{IfTold-refl}
+use Rattle.ptu_slave.specs.Seen.{seen}
+use Rattle.ptu_slave_daemon.specs.Running.{Stands, sees}
 use Rattle.ptu_slave_daemon.specs.Happenings.{record_after}
 use Rattle.ptu_slave_daemon.proofs.Arrived.{came_append, came_none, counted_append, counted_none, one_length, round_full, round_short, took_append, took_none}
 use Rattle.ptu_slave_daemon.proofs.Ports.{failed_none}
@@ -13,7 +15,7 @@ loop-taken-init g c = record {
     0,
     0,
     counted_none c.args.counts.now,
-    came_none _ _ (IfTold-refl (g.P.Port.waiting c.args.slave.now.port)),
+    came_none _ _ (IfTold-refl (g.P.Port.waiting (seen (λ i. (g.dyn-1.0.entry i).1.Judge) c.args.slave.now).port)),
     refl,
     took_none node L _ _ 0 h refl refl refl refl (failed_none _ _ refl),
   );

@@ -1,9 +1,10 @@
 use Rattle.std.proofs.Common.{map}
 use Rattle.ptu_record.specs.Step.{Tick}
 use Rattle.ptu_world.specs.Slaves.{plain_deed}
+use Rattle.ptu_slave.specs.Seen.{seen}
 use Rattle.ptu_lab.proofs.LabNodes.{slave_acts}
 use Rattle.ptu_lab.proofs.lab.Node.tick.Goals as goal
 
 pub returns-in_ok-tick-in-Slave : goal.returns-in_ok-tick-in-Slave
-returns-in_ok-tick-in-Slave g c = rw c.in-Slave.is (slave_acts (λ n. map (λ j. (goal.Judge-dyn g (j.vtable, j.value)).held j.value) n.slave.judges.items)
+returns-in_ok-tick-in-Slave g c = rw c.in-Slave.is (slave_acts (λ n. seen (λ i. (g.dyn-1.0.entry i).1.Judge) n.slave)
     c.in-Slave.node c.tick.new.self c.args.line (λ s. plain_deed s c.args.at Tick) _ _ _ _ c.in_ok-tick-in-Slave.ensures.ip c.in_ok-tick-in-Slave.ensures.done)

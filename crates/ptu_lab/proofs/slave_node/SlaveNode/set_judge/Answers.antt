@@ -1,7 +1,8 @@
-use Rattle.std.proofs.Common.{Some}
+use Rattle.std.proofs.Common.{Some, ap}
 use Rattle.std.proofs.lemmas.Result.{on_ok_weaker}
 use Rattle.ptu_record.specs.Step.{ReplaceJudge}
 use Rattle.ptu_slave_messages.specs.Node.{deed}
+use Rattle.ptu_slave.specs.Seen.{Seen, seen}
 use Rattle.ptu_lab.proofs.SlaveEvents.{fresh_is, quietly_ended, replaced}
 use Rattle.ptu_lab.proofs.slave_node.SlaveNode.set_judge.Goals as goal
 
@@ -11,10 +12,10 @@ set_judge-requires-clause-fresh g c = fresh_is _ c.requires.fresh.0 c.requires.f
 pub returns-clause-done : goal.returns-clause-done
 returns-clause-done g c =
     on_ok_weaker c.say_selected.result (λ says begun s rule is h.
-    quietly_ended c.args.self.now.ip c.say_selected.new.self.ip c.args.line c.args.at c.set_judge.new.self.core c.say_selected.new.self.slave.core _ _ c.args.self.now.slave.port c.set_judge.new.self.port
-    c.say_selected.new.self.slave.port s (deed s.opened s.taken c.args.at (ReplaceJudge c.args.master (Some rule))) c.args.sent.now c.args.texts.now c.say_selected.new.texts
-    c.say_selected.ensures.ip c.say_selected.ensures.core
-    (replaced c.args.self.now.ip c.args.self.now.slave.core c.set_judge.new.self.core _ _ _ c.args.self.now.slave.port c.set_judge.new.self.port begun s c.args.at c.args.master rule is h c.requires.place
-    c.set_judge.ensures.same (c.set_judge.ensures.steps s.opened.openings s.taken h.stands) c.set_judge.ensures.port)
-    (rw c.say_selected.ensures.judges) c.set_judge.ensures.port c.say_selected.ensures.port h.idle says)
+    quietly_ended c.args.self.now.ip c.say_selected.new.self.ip c.args.line c.args.at (seen (λ i. (g.dyn-1.0.entry i).1.Judge) c.set_judge.new.self).kept (seen (λ i. (g.dyn-1.0.entry i).1.Judge) c.say_selected.new.self.slave).kept _ _ (seen (λ i. (g.dyn-1.0.entry i).1.Judge) c.args.self.now.slave).port (seen (λ i. (g.dyn-1.0.entry i).1.Judge) c.set_judge.new.self).port
+    (seen (λ i. (g.dyn-1.0.entry i).1.Judge) c.say_selected.new.self.slave).port s (deed s.opened s.taken c.args.at (ReplaceJudge c.args.master (Some rule))) c.args.sent.now c.args.texts.now c.say_selected.new.texts
+    c.say_selected.ensures.ip (ap (λ (s : Seen _ _). s.kept) c.say_selected.ensures.unchanged)
+    (replaced c.args.self.now.ip (seen (λ i. (g.dyn-1.0.entry i).1.Judge) c.args.self.now.slave).kept (seen (λ i. (g.dyn-1.0.entry i).1.Judge) c.set_judge.new.self).kept _ _ _ (seen (λ i. (g.dyn-1.0.entry i).1.Judge) c.args.self.now.slave).port (seen (λ i. (g.dyn-1.0.entry i).1.Judge) c.set_judge.new.self).port begun s c.args.at c.args.master rule is h c.requires.place
+    c.set_judge.ensures.same (c.set_judge.ensures.replaced.steps s.opened.openings s.taken h.stands) c.set_judge.ensures.replaced.port)
+    (ap (λ (s : Seen _ _). s.judges) c.say_selected.ensures.unchanged) c.set_judge.ensures.replaced.port (ap (λ (s : Seen _ _). s.port) c.say_selected.ensures.unchanged) h.idle says)
     c.say_selected.ensures.says

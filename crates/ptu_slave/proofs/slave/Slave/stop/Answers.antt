@@ -1,23 +1,29 @@
-use Rattle.std.proofs.Common.{◌∙◌, ap, map, subst}
+use Rattle.std.proofs.Common.{◌∙◌, ap, map, refl, subst}
 use Rattle.ptu_outside.specs.HandsOver.{HandsOver}
 use Rattle.ptu_slave_messages.specs.Sending.{all_ones, departure_of}
 use Rattle.ptu_slave.specs.Kept.{Kept}
+use Rattle.ptu_slave.specs.Seen.{seen_by}
 use Rattle.ptu_slave.proofs.Stopping.{stop_states, stopped}
 use Rattle.ptu_slave.proofs.slave.Slave.stop.Goals as goal
 
-pub returns-clause-steps : goal.returns-clause-steps
-returns-clause-steps g c = λ openings L h.
-    stopped openings c.args.self.now.core c.begin-at.new.self c.end_all-sends.new.core c.stop.new.self _ L c.args.t c.begin-at.result c.end_all-sends.ensures.sends.0
-    h c.begin-at.ensures.at c.begin-at.ensures.rest c.end_all-sends.ensures.sends.1 c.stop.ensures
-
-pub returns-clause-sends : goal.returns-clause-sends
-returns-clause-sends g c =
-    let handed = c.end_all-sends.ensures.sends.0 in (
-      handed,
-      subst (λ ds. HandsOver g.P.Port c.args.self.now.port c.end_all-sends.new.port ds c.end_all-sends.result.sent c.end_all-sends.result.failed)
-          (ap (λ (k : Kept). map (departure_of k.config k.masters all_ones) handed) c.begin-at.ensures.rest)
-          c.end_all-sends.ensures.sends.2,
-      λ openings L h.
-          stop_states openings c.args.self.now.core c.begin-at.new.self c.end_all-sends.new.core c.stop.new.self _ L c.args.t c.begin-at.result handed
-          h c.begin-at.ensures.at c.begin-at.ensures.rest c.end_all-sends.ensures.sends.1 c.stop.ensures,
-    )
+pub returns-clause-stopped : goal.returns-clause-stopped
+unfolding seen_by
+returns-clause-stopped g c =
+    let handed = c.end_all-sends.ensures.sends.0 in
+    record {
+      at = c.begin-at.ensures.at;
+      steps = λ openings L h.
+          stopped openings c.args.self.now.core c.begin-at.new.self c.end_all-sends.new.core c.stop.new.self _ L c.args.t c.begin-at.result handed
+          h c.begin-at.ensures.at c.begin-at.ensures.rest c.end_all-sends.ensures.sends.1 c.stop.ensures;
+      sends = (
+        handed,
+        subst (λ ds. HandsOver g.P.Port c.args.self.now.port c.end_all-sends.new.port ds c.end_all-sends.result.sent c.end_all-sends.result.failed)
+            (ap (λ (k : Kept). map (departure_of k.config k.masters all_ones) handed) c.begin-at.ensures.rest)
+            c.end_all-sends.ensures.sends.2,
+        λ openings L h.
+            stop_states openings c.args.self.now.core c.begin-at.new.self c.end_all-sends.new.core c.stop.new.self _ L c.args.t c.begin-at.result handed
+            h c.begin-at.ensures.at c.begin-at.ensures.rest c.end_all-sends.ensures.sends.1 c.stop.ensures,
+      );
+      judges = refl;
+      boxes = refl;
+    }

@@ -1,0 +1,66 @@
+-- What the events of a slave are to those who see it.
+use Rattle.std.specs.Prelude.{◌≡◌, ℕ, max, Bool, List, [], ◌∷◌, map, length, Option}
+use Rattle.std.specs.declared.dyn_box.DynBox.{DynBox}
+use Rattle.ptu_outside.specs.HandsOver.{HandsOver}
+use Rattle.ptu_outside.specs.declared.port.Port.{Ghosts as Ports}
+use Rattle.ptu_record.specs.declared.rule.Rule.{Rule}
+use Rattle.ptu_record.specs.Record.{Record}
+use Rattle.ptu_record.specs.Step.{ReplaceJudge, SlaveEvent, Stop, TellFlag, Tick, sendings}
+use Rattle.ptu_record.specs.Tick.{Sending}
+use Rattle.ptu_judges.specs.Calls.{OfAll, OfOne, Then, WasAsked, WasTold}
+use Rattle.ptu_judges.specs.declared.judge.Conduct.{Ghosts as Conducts}
+use Rattle.ptu_judges.specs.declared.judge.Judge.{Ghosts as Judges}
+use Rattle.ptu_slave_messages.specs.Sending.{all_ones, departure_of}
+use Rattle.ptu_slave.specs.Seen.{Seen}
+use Rattle.ptu_slave.specs.Standing.{StandsFor, Steps, StepsBy, setup_of}
+use Rattle.ptu_slave.specs.declared.ticked.Ticked.{Ticked}
+
+-- for each record that it stood for, it makes the step of this event
+abbrev pub Goes : {P B : Type 0} → (old new : Seen P B) → ℕ → SlaveEvent → Type 0
+Goes old new t e = (openings : List (Option Rule)) (L : Record) → StandsFor openings old.kept old.judges L
+    → Steps openings old.kept new.kept new.judges L t e
+
+-- such a step, at which the judges who are asked find this
+abbrev pub GoesBy : {P B : Type 0} → List Bool → (old new : Seen P B) → ℕ → SlaveEvent → Type 0
+GoesBy found old new t e = (openings : List (Option Rule)) (L : Record) → StandsFor openings old.kept old.judges L
+    → StepsBy found openings old.kept new.kept new.judges L t e
+
+-- it hands to the port what is sent at this event, of which so many were sent and so many failed
+abbrev pub Sends : {P B : Type 0} → Ports P → (old new : Seen P B) → SlaveEvent → Ticked → Type 0
+Sends ports old new e result = (handed : List Sending) × HandsOver ports old.port new.port
+    (map (departure_of old.kept.config old.kept.masters all_ones) handed) result.sent result.failed
+    × ((openings : List (Option Rule)) (L : Record) → StandsFor openings old.kept old.judges L
+    → handed ≡ sendings (setup_of old.kept.config openings) L result.at e)
+
+-- a tick at t: all judges were asked
+pub record HasTicked {P X Z : Type 0} {F : X → Type 0} (conduct : (i : X) → Conducts (F i)) (ports : Ports P) (t : ℕ)
+    (old new : Seen P (DynBox X Z F)) (result : Ticked) : Type 0 where
+  pub at : result.at ≡ max t old.kept.moment
+  pub steps : Goes old new t Tick
+  pub asked : (found : List Bool) × OfAll (length old.kept.masters) (WasAsked conduct (max t old.kept.moment)) found old.boxes new.boxes
+      × GoesBy found old new t Tick
+  pub sends : Sends ports old new Tick result
+
+-- the stop at t
+pub record HasStopped {P B : Type 0} (ports : Ports P) (t : ℕ) (old new : Seen P B) (result : Ticked) : Type 0 where
+  pub at : result.at ≡ max t old.kept.moment
+  pub steps : Goes old new t Stop
+  pub sends : Sends ports old new Stop result
+  pub judges : new.judges ≡ old.judges
+  pub boxes : new.boxes ≡ old.boxes
+
+-- the operator's word on the master at this place: its judge was told, and asked
+pub record IsFlagged {P X Z : Type 0} {F : X → Type 0} (conduct : (i : X) → Conducts (F i)) (t m : ℕ) (unusable : Bool)
+    (old new : Seen P (DynBox X Z F)) : Type 0 where
+  pub steps : Goes old new t (TellFlag m unusable)
+  pub told : (found : Bool) × OfOne m (Then (WasTold conduct (max t old.kept.moment) unusable) (WasAsked conduct (max t old.kept.moment) found))
+      old.boxes new.boxes × GoesBy (found ∷ []) old new t (TellFlag m unusable)
+  pub port : new.port ≡ old.port
+
+-- the judge in this box took over the master at this place, and was asked
+pub record IsReplaced {P X Z : Type 0} {F : X → Type 0} (judge : (i : X) → Judges (F i)) (conduct : (i : X) → Conducts (F i))
+    (t m : ℕ) (box : DynBox X Z F) (old new : Seen P (DynBox X Z F)) : Type 0 where
+  pub steps : Goes old new t (ReplaceJudge m ((judge box.vtable).held box.value).rule)
+  pub asked : (found : Bool) × OfOne m (λ _ judge_there. WasAsked conduct (max t old.kept.moment) found box judge_there)
+      old.boxes new.boxes × GoesBy (found ∷ []) old new t (ReplaceJudge m ((judge box.vtable).held box.value).rule)
+  pub port : new.port ≡ old.port

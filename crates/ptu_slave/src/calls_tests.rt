@@ -1,0 +1,113 @@
+//! The calls of a judge, as it writes them down itself.
+ghost use Rattle.std.specs.Prelude.{◌≡◌};
+ghost use Rattle.ptu_judges.specs.Held.{flag_held};
+
+use super::tests::{FIRST, Row, SECOND, config, one_judge, play, quiet_port};
+use super::*;
+use ptu_judges::{Conduct, Judge};
+use ptu_record::Rule;
+use ptu_units::Moment;
+use std::alloc::Global;
+use std::cell::Cell;
+use std::rc::Rc;
+use std::test::Fail;
+
+// What a judge is called for.
+#[derive(Clone, Copy, Debug, PartialEq)]
+enum Call {
+    Sync(u16),
+    Told(bool),
+    Asked,
+}
+
+// The first calls of a judge, in their order.
+type Calls = [Option<Call>; 6];
+
+// A judge that finds what it was told last, and lists its calls.
+#[derive(Drop)]
+struct Listing {
+    unusable: bool,
+    calls: Rc<Cell<Calls>>,
+}
+
+impl Listing {
+    fn note(&self, call: Call) {
+        let mut calls = self.calls.get();
+        for place in &mut calls {
+            if place.is_none() {
+                *place = Some(call);
+                break;
+            }
+        }
+        self.calls.set(calls);
+    }
+}
+
+impl Conduct for Listing {
+    ghost hears = { λ old t seq new. new ≡ old };
+
+    ghost is_told = { λ old t unusable new. new ≡ record old { unusable = unusable } };
+
+    ghost finds = { λ old t unusable new. (unusable ≡ old.unusable) × (new ≡ old) };
+}
+
+impl Judge for Listing {
+    ghost held = { λ j. flag_held j.unusable };
+
+    fn rule(&self) -> Option<Rule> {
+        Some(Rule::Flag)
+    }
+
+    fn heard(&mut self, t: Moment, seq: u16) {
+        let _ = t;
+        self.note(Call::Sync(seq));
+    }
+
+    fn told(&mut self, t: Moment, unusable: bool) {
+        let _ = t;
+        self.unusable = unusable;
+        self.note(Call::Told(unusable));
+    }
+
+    fn assess(&mut self, t: Moment) -> bool {
+        let _ = t;
+        self.note(Call::Asked);
+        self.unusable
+    }
+}
+
+// Each event makes its calls of the judge once: a Sync, the operator's word, and a tick.
+#[test]
+fn a_judge_is_called_once_for_each_event(rt: HostRuntime) -> Result<(), Fail> {
+    let alloc = rt.alloc();
+    let masters = vec![in alloc;
+        Master {
+            ip: FIRST,
+            priority: 1
+        },
+    ]?;
+    let calls: Rc<Cell<Calls>> = Rc::new(alloc, Cell::new([None; 6]))?;
+    let listing = Listing {
+        unusable: false,
+        calls: calls.clone()?,
+    };
+    let judges = one_judge(alloc, Box::new(alloc, listing)?)?;
+    let config = config(4, 4, false, 0)?;
+    let mut slave = Slave::new(alloc, config, masters, judges, quiet_port(alloc))?;
+    play(&rt, alloc, &mut slave, 0, Row::Announce(1, 84))?;
+    play(&rt, alloc, &mut slave, 0, Row::Sync(1, 7))?;
+    slave.flag(Moment::of(SECOND).ok_or("below 2^62")?, 0, true);
+    slave.tick(Moment::of(2 * SECOND).ok_or("below 2^62")?);
+    assert_eq!(rt;
+        calls.get(),
+        [
+            Some(Call::Sync(7)),
+            Some(Call::Asked),
+            Some(Call::Told(true)),
+            Some(Call::Asked),
+            Some(Call::Asked),
+            None
+        ]
+    );
+    Ok(())
+}
