@@ -95,21 +95,16 @@ impl Meeting {
     /// given up.
     pub(crate) fn meet(&self, rt: &impl Wait, round: u32) -> bool {
         let mut count = self.count.lock(rt);
-        if u64::from(round) < count.over {
-            return !count.short;
-        }
-        count.come();
-        if count.end() {
-            self.ended.notify_all();
-            return !count.short;
-        }
-        for _ in rt.forever() {
-            count = self.ended.wait(rt, count);
-            if u64::from(round) < count.over {
-                return !count.short;
+        if count.over <= u64::from(round) {
+            count.come();
+            if count.end() {
+                self.ended.notify_all();
             }
         }
-        unreachable!()
+        let count = self
+            .ended
+            .wait_while(rt, count, |count| count.over <= u64::from(round));
+        !count.short
     }
 
     /// Takes part no more. A lane that gives up ends the work of all.
