@@ -4,8 +4,8 @@ ghost use Rattle.ptu_shared.specs.Opening.{Seen, untold_port};
 use std::marker::Brand;
 use std::sync::ledger::{self, Ledger, Share};
 
-/// The ledger of rates, which has four parts, one for each table. It names two numbers more and what
-/// the tables' ports were like, which contracts alone see.
+/// The ledger of rates, which has four parts, one for each table. It names two numbers more and
+/// what the tables' ports were like, which contracts alone see.
 pub trait Rates: Ledger {
     /// The greatest capacity that may come into force, in sixteenths of a message per second.
     ghost most: { ℕ };

@@ -134,7 +134,8 @@ impl<P: Port + Send, L: Rates, G: Ledger, R: Ledger> Shared<P, L, G, R> {
     ) -> Result<Option<Verdict>, OutOfMemory>
         requires limits { IsWithinLimits config.now }
         requires counts { (seat.old.granted < 2 ^ 48) × (seat.old.refused < 2 ^ 48) }
-        ensures verdict { IfOk result (λ o. IfSome o (AnswersAsk L.most config.now t client.now ask.now)) }
+        ensures verdict { IfOk result (λ o. IfSome o
+            (AnswersAsk L.most config.now t client.now ask.now)) }
         ensures seat { IfOk result (λ o. IfSome o (λ v. seat.new ≡ counting v seat.old)) }
         ensures none { IfOk result (λ o. IfNone o (seat.new ≡ seat.old)) }
         ensures unchanged { OnErr result (seat.new ≡ seat.old) }
@@ -162,7 +163,8 @@ impl<P: Port + Send, L: Rates, G: Ledger, R: Ledger> Shared<P, L, G, R> {
         requires table { table_of_client client.now ≡ J.index }
         requires limits { IsWithinLimits config.now }
         requires counts { (seat.old.granted < 2 ^ 48) × (seat.old.refused < 2 ^ 48) }
-        ensures verdict { IfOk result (λ o. IfSome o (AnswersAsk L.most config.now t client.now ask.now)) }
+        ensures verdict { IfOk result (λ o. IfSome o
+            (AnswersAsk L.most config.now t client.now ask.now)) }
         ensures seat { IfOk result (λ o. IfSome o (λ v. seat.new ≡ counting v seat.old)) }
         ensures none { IfOk result (λ o. IfNone o (seat.new ≡ seat.old)) }
         ensures unchanged { OnErr result (seat.new ≡ seat.old) }
