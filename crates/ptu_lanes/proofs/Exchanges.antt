@@ -275,19 +275,21 @@ broke_off ports clocks config exchanges n p0 p1 p2 c0 c1 c2 old seat new asks se
       (passed-append n 1 (clocks.moments c0) (clocks.moments c1) (clocks.moments c2) moved u.moments);
 }
 
-pub unanswered : {P C : Type 0} (ports : Ports P) (clocks : Clocks C) (d : Arrival) (port port' : P) (clock clock' : C) (old new : Counts) →
-    IsFirstTold (ports.waiting port) d → IfTold (ports.waiting port') (rest_told (ports.waiting port)) → ports.sent port' ≡ ports.sent port →
-    ports.faults port' ≡ ports.faults port → (old.granted ≤ new.granted) × (old.refused ≤ new.refused) →
+-- a datagram that was taken of a port, which is as it was after that
+pub unanswered : {P C : Type 0} (ports : Ports P) (clocks : Clocks C) (d : Arrival) (port now port' : P) (clock clock' : C) (old new : Counts) →
+    port' ≡ now → IsFirstTold (ports.waiting port) d → IfTold (ports.waiting now) (rest_told (ports.waiting port)) → ports.sent now ≡ ports.sent port →
+    ports.faults now ≡ ports.faults port → (old.granted ≤ new.granted) × (old.refused ≤ new.refused) →
     IfTold (clocks.moments clock') (option_map after_first (clocks.moments clock)) → IsUnanswered ports clocks port port' clock clock' old new
-unanswered ports clocks d port port' clock clock' old new first rest unsent still no_less moved = record {
-  datagram = d;
-  given = first_given d (ports.waiting port) (ports.waiting port') first rest;
-  unsent = unsent;
-  still = still;
-  granted = no_less.0;
-  refused = no_less.1;
-  moments = passed_one (clocks.moments clock) (clocks.moments clock') moved;
-}
+unanswered ports clocks d port now port' clock clock' old new same first rest unsent still no_less moved =
+    subst (λ p. IsUnanswered ports clocks port p clock clock' old new) (sym same) (record {
+      datagram = d;
+      given = first_given d (ports.waiting port) (ports.waiting now) first rest;
+      unsent = unsent;
+      still = still;
+      granted = no_less.0;
+      refused = no_less.1;
+      moments = passed_one (clocks.moments clock) (clocks.moments clock') moved;
+    })
 
 -- one after the other
 pub exchanged-append : {P C : Type 0} (ports : Ports P) (clocks : Clocks C) (config : GmConfig) (all n m more worse sum : ℕ) (p0 p1 p2 : P) (c0 c1 c2 : C) (old seat new : Counts) →

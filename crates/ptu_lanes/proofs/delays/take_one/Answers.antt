@@ -2,6 +2,7 @@ use Rattle.std.proofs.Common.{◌≡◌, take, refl, sym, subst, arith, inl}
 use Rattle.ptu_outside.specs.declared.arrival.Arrival.{Arrival}
 use Rattle.ptu_outside.proofs.HandsOver.{just_once}
 use Rattle.ptu_shared.specs.Opening.{HaveFailed}
+use Rattle.ptu_grandmaster.proofs.Heard.{on_err}
 use Rattle.ptu_shared.proofs.Failing.{failed_none}
 use Rattle.ptu_lanes.proofs.Taking.{taken_nothing, taken_one}
 use Rattle.ptu_lanes.proofs.delays.take_one.Goals as goal
@@ -18,8 +19,9 @@ pub returns-in_err-delays-in-Ok-Some-clause-broke_off : goal.returns-in_err-dela
 returns-in_err-delays-in-Ok-Some-clause-broke_off g c =
     let received = c.in-Ok-Some.ensures in
     let d : Arrival = record { ip = c.in-Ok-Some.from; bytes = take c.in-Ok-Some.size c.receive.new.buf } in
-    taken_one g.P.Port g.C.Clock d _ _ _ _ (rw c.in-Ok-Some.field-0-is at received.first) (rw c.in-Ok-Some.field-0-is at received.rest)
-    received.sent received.goes_on received.quiet c.now-t.ensures.rest
+    on_err c.from_residual.result _
+    (taken_one g.P.Port g.C.Clock d _ _ _ _ (rw c.in-Ok-Some.field-0-is at received.first) (rw c.in-Ok-Some.field-0-is at received.rest)
+    received.sent received.goes_on received.quiet c.now-t.ensures.rest)
 
 pub returns-in-Ok-None-clause-taken : goal.returns-in-Ok-None-clause-taken
 returns-in-Ok-None-clause-taken g c =

@@ -1,5 +1,6 @@
 use Rattle.std.proofs.Common.{◌≡◌, ◌∙◌, ◌+◌, ◌++◌, [], length, length-append, refl, inl, arith}
 use Rattle.ptu_outside.proofs.HandsOver.{just_both}
+use Rattle.ptu_grandmaster.proofs.Heard.{on_err}
 use Rattle.ptu_lanes.proofs.Exchanges.{broke_off, exchanged_is, nothing_yet, round_is, round_over, served-append}
 use Rattle.ptu_lanes.proofs.Moments.{passed-append, passed_none}
 use Rattle.ptu_lanes.proofs.signaling.control_round.Goals as goal
@@ -66,5 +67,6 @@ returns-then-not-goes_on-clause-exchanged g c =
 pub returns-in_err-one-clause-broke_off : goal.returns-in_err-one-clause-broke_off
 returns-in_err-one-clause-broke_off g c =
     let inv = c.loop-i.invariant in
-    broke_off g.P.Port g.C.Clock c.args.config.now inv.exchanges c.loop-i._i _ _ _ _ _ _ _ _ _ _ _ _ inv.served (omega (arith, inv.many))
-    (omega (arith, c.loop-i-test.true)) inv.moments c.in_err-one.ensures.broke_off
+    on_err c.from_residual.result _
+    (broke_off g.P.Port g.C.Clock c.args.config.now inv.exchanges c.loop-i._i _ _ _ _ _ _ _ _ _ _ _ _ inv.served (omega (arith, inv.many))
+    (omega (arith, c.loop-i-test.true)) inv.moments c.in_err-one.ensures.broke_off)

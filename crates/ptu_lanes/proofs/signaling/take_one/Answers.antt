@@ -2,6 +2,7 @@ use Rattle.std.proofs.Common.{[], ◌∷◌, take, refl, inl, arith}
 use Rattle.ptu_outside.proofs.HandsOver.{just_once}
 use Rattle.ptu_lanes.specs.Rounds.{Exchange}
 use Rattle.ptu_outside.specs.declared.arrival.Arrival.{Arrival}
+use Rattle.ptu_grandmaster.proofs.Heard.{on_err}
 use Rattle.ptu_lanes.proofs.Exchanges.{served_none, served_received, unanswered}
 use Rattle.ptu_lanes.proofs.Moments.{passed_none, passed_one}
 use Rattle.ptu_lanes.proofs.signaling.take_one.Goals as goal
@@ -53,6 +54,6 @@ returns-in_err-answered-in-Ok-Some-clause-broke_off g c =
     let received = c.in-Ok-Some.ensures in
     let kept = c.in_err-answered-in-Ok-Some.ensures in
     let d : Arrival = record { ip = c.in-Ok-Some.from; bytes = take c.in-Ok-Some.size c.receive.new.buf } in
-    rw kept.unsent
-    (unanswered g.P.Port g.C.Clock d _ _ _ _ _ _ (rw c.in-Ok-Some.field-0-is at received.first) (rw c.in-Ok-Some.field-0-is at received.rest)
+    on_err c.from_residual.result _
+    (unanswered g.P.Port g.C.Clock d _ _ _ _ _ _ _ kept.unsent (rw c.in-Ok-Some.field-0-is at received.first) (rw c.in-Ok-Some.field-0-is at received.rest)
     received.sent received.quiet kept.no_less c.now-t.ensures.rest)
