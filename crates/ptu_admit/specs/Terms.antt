@@ -1,9 +1,11 @@
 -- What a grant and a shortage say.
 use Rattle.std.specs.Prelude.{ℕ, ℤ}
 use Rattle.ptu_units.specs.declared.kind.Kind.{Kind}
+use Rattle.ptu_history.specs.declared.client.Client.{Client}
 
--- what was granted: a kind at a logarithm, at a moment, for so many seconds, until the end of the granted duration
+-- what was granted: to a client a kind at a logarithm, at a moment, for so many seconds, until the end of the granted duration
 pub record Terms : Type 0 where
+  pub client : Client
   pub kind : Kind
   pub log : ℤ
   pub at : ℕ

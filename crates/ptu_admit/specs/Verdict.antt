@@ -2,6 +2,7 @@
 use Rattle.std.specs.Prelude.{◌≡◌, ℕ, ◌+◌, ◌*◌, min, Option, Some, None, Result, Ok, Err, ℤ, nat_le, if◌then◌else◌}
 use Rattle.ptu_units.specs.declared.kind.Kind.{Kind}
 use Rattle.ptu_units.specs.Log.{rate_of}
+use Rattle.ptu_history.specs.declared.client.Client.{Client}
 use Rattle.ptu_history.specs.Verdict as history
 use Rattle.ptu_history.specs.Verdict.{Config, GrantedFor, OutsideCause, OutsideCode, OutsideDuration, OutsideLog, ShortOf, profile}
 use Rattle.ptu_tlvs.specs.declared.tlv.Ask.{Ask}
@@ -36,6 +37,12 @@ abbrev pub IsAt : ℕ → Verdict → Type 0
 IsAt n (Granted grant) = grant.at ≡ n
 IsAt n (Short shortage) = shortage.at ≡ n
 IsAt n (Outside cause) = Unit {0}
+
+-- what the verdict grants is this client's
+abbrev pub IsFor : Client → Verdict → Type 0
+IsFor client (Granted grant) = grant.client ≡ client
+IsFor client (Short shortage) = Unit {0}
+IsFor client (Outside cause) = Unit {0}
 
 -- the verdict at the moment on an ask within the profile, under a capacity in force, beside other live grants with
 -- these rates

@@ -12,7 +12,7 @@ ghost use Rattle.ptu_shard.specs.Row.{share_of};
 ghost use Rattle.ptu_admit.specs.Lent.{EachStandsAt, Lent, StandFor, four, is_lent, live_others, moment_for, moment_of_lent, rows_of_lent, shares, table_for};
 ghost use Rattle.ptu_admit.specs.Rows.{kept_rate};
 ghost use Rattle.ptu_admit.specs.Tables.{KeepsPort, fall_of};
-ghost use Rattle.ptu_admit.specs.Verdict.{IsAt, OnOutside, OnWithin, ask_of, config_of, unless_short, verdict_beside, verdict_of, verdict_on};
+ghost use Rattle.ptu_admit.specs.Verdict.{IsAt, IsFor, OnOutside, OnWithin, ask_of, config_of, unless_short, verdict_beside, verdict_of, verdict_on};
 
 use crate::book::Book;
 use crate::granting::{decide_swept, grant, others_beside};
@@ -49,6 +49,7 @@ pub fn decide_one<P: Port>(
         (λ k. book.old.total - kept_rate client.now k shard.old.rows)
         (max t (max book.old.moment shard.old.moment)) (ask_of ask.now)) }
     ensures at { IfSome result (IsAt (max t (max book.old.moment shard.old.moment))) }
+    ensures whose { IfSome result (IsFor client.now) }
     // After None and Outside nothing has changed.
     ensures none { IfNone result ((shard.new ≡ shard.old) × (book.new ≡ book.old)) }
     ensures outside { IfSome result (λ v. OnOutside v
@@ -116,6 +117,7 @@ pub fn decide_all<P: Port>(
         (live_others n lent client.now) n (ask_of ask.now) }
     ensures at { IsAt (moment_for t book.old client.now (four s0.old s1.old s2.old s3.old))
         result }
+    ensures whose { IsFor client.now result }
     // After Outside nothing has changed.
     ensures outside { OnOutside result ((s0.new ≡ s0.old) × (s1.new ≡ s1.old)
         × (s2.new ≡ s2.old) × (s3.new ≡ s3.old) × (book.new ≡ book.old)) }
@@ -200,6 +202,7 @@ fn decide_among<P: Port>(
         (rows_of_lent (table_of_client client.now) (four s0.old s1.old s2.old s3.old)))
         at wanted.kind wanted.log wanted.seconds }
     ensures at { IsAt at result }
+    ensures whose { IsFor client.now result }
     ensures within { OnOutside result ⊥ }
     ensures moments { (book.new.moment ≡ at) × (s0.new.moment ≡ s0.old.moment)
         × (s1.new.moment ≡ s1.old.moment) × (s2.new.moment ≡ s2.old.moment)

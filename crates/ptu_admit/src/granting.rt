@@ -10,7 +10,7 @@ ghost use Rattle.ptu_shard.specs.Row.{IsDistinctByLease, share_of};
 ghost use Rattle.ptu_shard.specs.Table.{StandsBeside};
 ghost use Rattle.ptu_admit.specs.Rows.{kept_rate};
 ghost use Rattle.ptu_admit.specs.Tables.{KeepsPort};
-ghost use Rattle.ptu_admit.specs.Verdict.{IsAt, OnOutside, config_of, verdict_of, verdict_on};
+ghost use Rattle.ptu_admit.specs.Verdict.{IsAt, IsFor, OnOutside, config_of, verdict_of, verdict_on};
 
 use crate::book::Book;
 use crate::profile::Wanted;
@@ -91,6 +91,7 @@ pub(crate) fn grant<P: Port>(
         + rate_of wanted.log ≤ book.old.capacity }
     ensures granted { let seconds = min wanted.seconds config.now.max_duration in
         result ≡ record {
+          client = client.now;
           kind = wanted.kind;
           log = wanted.log;
           at = at;
@@ -119,7 +120,7 @@ pub(crate) fn grant<P: Port>(
     );
     book.settle(before, shard.held());
     book.reach(at);
-    Grant::new(wanted, at, seconds, until)
+    Grant::new(*client, wanted, at, seconds, until)
 }
 
 /// Decides an ask within the profile, on the client's table, at the table's moment, where the rows
@@ -140,6 +141,7 @@ pub(crate) fn decide_swept<P: Port>(
         (book.old.total - kept_rate client.now wanted.kind shard.old.rows)
         at wanted.kind wanted.log wanted.seconds }
     ensures at { IsAt at result }
+    ensures whose { IsFor client.now result }
     ensures within { OnOutside result ⊥ }
     ensures moments { (shard.new.moment ≡ at) × (book.new.moment ≡ at) }
     ensures capacity { book.new.capacity ≡ book.old.capacity }

@@ -1,6 +1,7 @@
 ghost use Rattle.std.specs.Prelude.{◌≡◌, ◌<◌, ◌+◌, ◌*◌};
 
 use crate::profile::Wanted;
+use ptu_history::Client;
 use ptu_units::{Kind, Log, Moment};
 use std::marker::Model;
 
@@ -29,6 +30,7 @@ pub enum Outside {
 /// A grant as it is answered. Only this crate makes one.
 #[derive(Clone, Copy, Debug, PartialEq, Eq)]
 pub struct Grant {
+    client: Client,
     kind: Kind,
     log: Log,
     at: Moment,
@@ -43,6 +45,7 @@ impl Model for Grant {
     ghost Value = { Terms };
 
     ghost view = { λ g. record {
+      client = g.client;
       kind = g.kind;
       log = g.log;
       at = g.at;
@@ -53,6 +56,7 @@ impl Model for Grant {
     ghost invariant = { λ g. g.until ≡ g.at + g.seconds * 1000000000 };
 
     ghost inverse = { λ g. record {
+      client = g.client;
       kind = g.kind;
       log = g.log;
       at = g.at;
@@ -62,10 +66,11 @@ impl Model for Grant {
 }
 
 impl Grant {
-    // A grant of what was wanted, for so many seconds from the moment on.
-    pub(crate) fn new(wanted: Wanted, at: Moment, seconds: u32, until: u64) -> Grant
+    // A grant of what the client wanted, for so many seconds from the moment on.
+    pub(crate) fn new(client: Client, wanted: Wanted, at: Moment, seconds: u32, until: u64) -> Grant
         requires { until ≡ at + seconds * 1000000000 }
         ensures { result ≡ record {
+          client = client;
           kind = wanted.kind;
           log = wanted.log;
           at = at;
@@ -74,12 +79,20 @@ impl Grant {
         } }
     {
         Grant {
+            client,
             kind: wanted.kind,
             log: wanted.log,
             at,
             seconds,
             until,
         }
+    }
+
+    /// Whose it is.
+    pub fn client(&self) -> Client
+        ensures { result ≡ self.now.client }
+    {
+        self.client
     }
 
     /// The kind that is granted.

@@ -73,6 +73,7 @@ module _ {P C : Type 0} (ports : Ports P) (clocks : Clocks C) where
       IsTaking channel old now count tally → CameTo ports clocks channel now new nexts.Nothing → TookChannel ports clocks channel old new tally
   took_nothing channel old now new count tally few h (ran, none) = record {
     arrivals = h.arrivals;
+    few = omega (arith, h.many, few);
     ran = ran_as ports clocks old new _ _ _ _ _ _ _ _ _ _ (append-nil (map taking h.arrivals)) (append-nil (on_general channel h.arrivals))
         (append-nil (on_event channel h.arrivals)) (omega arith) (omega arith) (ran_more ports clocks old now new _ _ _ _ _ _ _ _ _ _ h.ran ran);
     drains = λ still. drained (ports.waiting (port_of channel new)) none;
@@ -84,11 +85,12 @@ module _ {P C : Type 0} (ports : Ports P) (clocks : Clocks C) where
       drained (Some left) e = inr (omega (arith, h.many), e)
 
   -- a receive failed
-  pub took_failed : (channel : Channel) (old now new : Daemon P C) (count : ℕ) (tally : Tally) →
+  pub took_failed : (channel : Channel) (old now new : Daemon P C) (count : ℕ) (tally : Tally) → count ≤ 64 →
       IsTaking channel old now count tally → CameTo ports clocks channel now new nexts.Failed →
       TookChannel ports clocks channel old new (record { sent = tally.sent + 0; failed = tally.failed + 1 })
-  took_failed channel old now new count tally h ran = record {
+  took_failed channel old now new count tally few h ran = record {
     arrivals = h.arrivals;
+    few = omega (arith, h.many, few);
     ran = ran_as ports clocks old new _ _ _ _ _ _ _ _ _ _ (append-nil (map taking h.arrivals)) (append-nil (on_general channel h.arrivals))
         (append-nil (on_event channel h.arrivals)) refl refl (ran_more ports clocks old now new _ _ _ _ _ _ _ _ _ _ h.ran ran);
     drains = λ still. absurd (omega (arith, still));
@@ -99,6 +101,7 @@ module _ {P C : Type 0} (ports : Ports P) (clocks : Clocks C) where
       IsTaking channel old new count tally → TookChannel ports clocks channel old new tally
   took_most channel old new count tally most h = record {
     arrivals = h.arrivals;
+    few = omega (arith, h.many, most);
     ran = h.ran;
     drains = λ still. all (ports.waiting (port_of channel new));
   }

@@ -1,5 +1,6 @@
 -- What the daemon has served, once all rounds were done and the grandmaster was closed.
 use Rattle.std.proofs.Common.{◌≡◌, ◌∙◌, ℕ, ◌+◌, List, [], ◌∷◌, ◌++◌, length, map, flat_map, Option, Some, None, IsSome, refl, sym, ap, ap₂, subst, arith, true}
+use Rattle.std.specs.Prelude.{IfSome, option_map}
 use Rattle.ptu_outside.specs.declared.clock.Clock.{Ghosts as Clocks}
 use Rattle.ptu_outside.specs.declared.opened.Opened.{Opened}
 use Rattle.ptu_outside.specs.declared.port.Port.{Ghosts as Ports}
@@ -17,15 +18,17 @@ use Rattle.ptu_grandmaster.specs.declared.driving.GmEvent.{GmEvent}
 use Rattle.ptu_grandmaster.specs.Driven.{events_of}
 use Rattle.ptu_grandmaster.specs.Gm.{KeptGm, StandsFor, counted}
 use Rattle.ptu_lanes.specs.Sending.{GoesOn, WasSent}
+use Rattle.ptu_lanes.specs.Served.{faults_of}
+use Rattle.ptu_lanes.specs.Waiting.{PassedBy}
 use Rattle.ptu_config.specs.declared.settings.GmSettings.{GmSettings}
 use Rattle.ptu_rounds.specs.Ports.{HaveNotRisen, HaveRisenBy, HaveRisenJust, WereSent, ports_of, senders_of}
-use Rattle.ptu_rounds.specs.Rounds.{in_rounds, timed}
+use Rattle.ptu_rounds.specs.Rounds.{in_rounds, moments_after, timed}
 use Rattle.ptu_daemon.specs.declared.tally.Tally.{Tally}
 use Rattle.ptu_daemon.specs.Events.{Given, Happening, config_of, round_of, served_events}
 use Rattle.ptu_daemon.specs.Ran.{AllHandled, DidRounds, Handled, Takes, after_all, five, standing_as}
 use Rattle.ptu_daemon.specs.Sends.{Standing, sends_by, standing_after}
 use Rattle.ptu_daemon.specs.Served.{Said, opened_as, served_by, served_history, served_said}
-use Rattle.ptu_daemon.specs.Serving.{AreServed, GoOn, IsGiven, Serves, faults_of}
+use Rattle.ptu_daemon.specs.Serving.{AreServed, GoOn, IsGiven, Serves, TakesFew}
 use Rattle.ptu_daemon.proofs.Handling.{handled_all, many_of}
 
 -- ---- the history of the events
@@ -50,6 +53,10 @@ events_are old None moments happenings events takes is still = absurd (cc still)
 events_are old (Some left) moments happenings events (moments', is', events_is, left_is) is still =
     let same : moments' ≡ moments = cc in
     events_is ∙ ap (λ ms. timed ms happenings) same
+
+passed_of : (old new : Option (List ℕ)) (happenings : List Happening) (events : List GmEvent) → Takes old new happenings events → PassedBy (length happenings) old new
+passed_of old None happenings events takes = tt
+passed_of old (Some left) happenings events (moments, is, events_is, left_is) = ap (option_map (moments_after (length happenings))) is ∙ ap Some (sym left_is)
 
 said_is : (a b : Said) → a.sent ≡ b.sent → a.failed ≡ b.failed → a.granted ≡ b.granted → a.refused ≡ b.refused → a.held ≡ b.held → a ≡ b
 said_is a b d e f g h =
@@ -312,6 +319,21 @@ module _ {P C : Type 0} (ports : Ports P) (clocks : Clocks C) where
               let e0 = ap length (sends 0) in let e1 = ap length (sends 1) in let e2 = ap length (sends 2) in let e3 = ap length (sends 3) in let e4 = ap length (sends 4) in
               omega (arith, e0, e1, e2, e3, e4)
 
+    took : TakesFew ports clocks settings.rounds opened closed
+    took = record {
+      general = did.general;
+      event = did.event;
+      general_few = did.general_few;
+      event_few = did.event_few;
+      general_given = subst (λ p. IfSome (ports.waiting p) (λ later. ports.waiting opened.p4 ≡ Some (did.general ++ later))) (sym q4)
+          (subst (λ p. IfSome (ports.waiting gm1.reply) (λ later. ports.waiting p ≡ Some (did.general ++ later))) p4 did.ran.general_given);
+      event_given = subst (λ p. IfSome (ports.waiting p) (λ later. ports.waiting opened.p5 ≡ Some (did.event ++ later))) (sym q5) did.ran.event_given;
+      moments = length did.happenings;
+      moments_few = did.happenings_few;
+      passed = subst (λ c. PassedBy (length did.happenings) (clocks.moments opened.c0) (clocks.moments c)) (sym k0)
+          (passed_of (clocks.moments opened.c0) (clocks.moments clock) did.happenings did.ran.events did.ran.takes);
+    }
+
     pub serves_of : Serves ports clocks settings opened closed said
     serves_of = record {
       failed = risen;
@@ -320,6 +342,7 @@ module _ {P C : Type 0} (ports : Ports P) (clocks : Clocks C) where
       sent = were_sent;
       goes_on = (did.ran.events, go_on);
       served = are_served;
+      took = took;
       c1 = k1;
       c2 = k2;
       c3 = k3;

@@ -1,5 +1,5 @@
 -- From what is said of ports in two steps by their flags, to what is said of them by the counts of the ports below.
-use Rattle.std.proofs.Common.{◌≡◌, ◌∙◌, ℕ, ◌+◌, ◌-◌, ◌^◌, ◌≤◌, ◌||◌, Bool, true, false, leb, List, ◌++◌, length, map, Option, Some, None, IsSome, IfSome, option_map, Result, Ok, Err, refl, sym, ap, subst, inl, inr}
+use Rattle.std.proofs.Common.{◌≡◌, ◌∙◌, ℕ, suc, zero, ◌+◌, ◌-◌, ◌^◌, ◌≤◌, ◌||◌, Bool, true, false, leb, List, ◌++◌, length, map, Option, Some, None, IsSome, IfSome, option_map, Result, Ok, Err, refl, sym, ap, subst, inl, inr}
 use Rattle.std.specs.Prelude.{IfErr, OnOk}
 use Rattle.std.proofs.lemmas.Bool.{leb-true, le-leb}
 use Rattle.ptu_outside.specs.declared.arrival.Arrival.{Arrival}
@@ -15,15 +15,15 @@ use Rattle.ptu_rounds.specs.Ports.{HaveNotRisen, WereSent, senders_of}
 use Rattle.ptu_rounds.specs.declared.fault.DaemonFault.{DaemonFault}
 use Rattle.ptu_rounds.specs.declared.fault.DaemonFault.TheVariants as faults
 use Rattle.ptu_lanes.specs.Rounds.{replies}
-use Rattle.ptu_lane_daemon.specs.Served.{IsControlled, ServesByLanes}
+use Rattle.ptu_lanes.specs.Served.{IsControlled, Numbers, ServesByLanes, faults_of, waits_of}
 use Rattle.ptu_twostep.specs.declared.two_host.Flags.{Flags}
 use Rattle.ptu_twostep.specs.Hosts.{clear, flagged_by, two_steps}
 use Rattle.ptu_twostep.specs.Pairs.{pairs}
 use Rattle.ptu_twostep.specs.Telling.{told_by}
 use Rattle.ptu_twostep.proofs.Pairs.{grown-pairs}
 use Rattle.ptu_daemon.specs.Events.{Given, config_of}
-use Rattle.ptu_daemon.specs.Served.{Said, opened_as, served_by}
-use Rattle.ptu_daemon.specs.Serving.{AreServed, HasServed, IsGiven, Serves, faults_of}
+use Rattle.ptu_daemon.specs.Served.{Said, numbers_in, opened_as, served_by}
+use Rattle.ptu_daemon.specs.Serving.{AreServed, HasServed, IsGiven, Serves}
 use Rattle.ptu_daemon.specs.ServingInTwo.{AreSentInPairs, HasServedInTwo, by_counts, has_risen}
 use Rattle.ptu_daemon.proofs.Halves.{AreWhole, whole_both, whole_cancels, whole_replies, whole_sends}
 
@@ -181,6 +181,17 @@ module _ {P C : Type 0} (ports : Ports P) (clocks : Clocks C) (settings : GmSett
         event_still = is.event_still;
         moments_still = is.moments_still;
       });
+      took = record {
+        general = s.took.general;
+        event = s.took.event;
+        general_few = s.took.general_few;
+        event_few = s.took.event_few;
+        general_given = s.took.general_given;
+        event_given = s.took.event_given;
+        moments = s.took.moments;
+        moments_few = s.took.moments_few;
+        passed = s.took.passed;
+      };
       c1 = s.c1;
       c2 = s.c2;
       c3 = s.c3;
@@ -217,16 +228,41 @@ module _ {P C : Type 0} (ports : Ports P) (clocks : Clocks C) (settings : GmSett
           (whole_replies (config_of settings) h.early) (whole_cancels (config_of settings) 0 h.shed))
           (whole_replies (config_of settings) h.late)
 
-  pub lanes_by_counts : (granted refused held : ℕ) →
-      ServesByLanes (two_steps ports) settings (config_of settings) (flagged_by clear before) (flagged_by flags after) granted refused held →
-      ServesByLanes (two_steps ports) settings (config_of settings) (flagged_by clear before) (flagged_by (by_counts ports before after) after) granted refused held
-  lanes_by_counts granted refused held h = record {
+  pub lanes_by_counts : (numbers : Numbers) →
+      ServesByLanes (two_steps ports) clocks settings (config_of settings) (flagged_by clear before) (flagged_by flags after) numbers →
+      ServesByLanes (two_steps ports) clocks settings (config_of settings) (flagged_by clear before) (flagged_by (by_counts ports before after) after) numbers
+  lanes_by_counts numbers h = record {
     within = h.within;
-    control = λ still. if_some_more _ _ (ports.waiting after.p4) (λ left. controlled granted refused left still) (h.control still);
+    control = λ still. if_some_more _ _ (ports.waiting after.p4) (λ left. controlled numbers.granted numbers.refused left still) (h.control still);
+    exchanged = record {
+      exchanges = h.exchanged.exchanges;
+      few = h.exchanged.few;
+      given = h.exchanged.given;
+      answered = h.exchanged.answered;
+      granted = h.exchanged.granted;
+      counted = h.exchanged.counted;
+      moments = h.exchanged.moments;
+    };
     event = h.event;
+    took = record { datagrams = h.took.datagrams; few = h.took.few; given = h.took.given; moments = h.took.moments };
     unsent = ap (λ b. told_by b (ports.sent after.p5)) (sym h.goes_on) ∙ h.unsent;
     goes_on = refl;
+    turned0 = h.turned0;
+    turned1 = h.turned1;
+    turned2 = h.turned2;
+    turned3 = h.turned3;
+    idle = idle h.idle;
+    failed = h.failed;
+    just = h.just;
+    quiet = h.quiet;
   }
+    where
+      idle : ((i : ℕ) → waits_of (two_steps ports) (flagged_by flags after) i ≡ waits_of (two_steps ports) (flagged_by clear before) i) →
+          (i : ℕ) → waits_of (two_steps ports) (flagged_by (by_counts ports before after) after) i ≡ waits_of (two_steps ports) (flagged_by clear before) i
+      idle same zero = same 0
+      idle same (suc zero) = same 1
+      idle same (suc (suc zero)) = same 2
+      idle same (suc (suc (suc n))) = same 3
 
 -- ---- over a host that tells, or not
 
@@ -263,7 +299,7 @@ module _ {P C : Type 0} (ports : Ports P) (clocks : Clocks C) (settings : GmSett
       opens = refl;
       gives_back = refl;
       serves = λ senders. serves_by_counts ports clocks settings said before after flags (serves before after h.opens given_back senders);
-      by_lanes = λ senders. lanes_by_counts ports clocks settings said before after flags said.granted said.refused said.held (lanes senders);
+      by_lanes = λ senders. lanes_by_counts ports clocks settings said before after flags (numbers_in said) (lanes senders);
     };
     in_pairs = λ senders before' after' is is' given.
         paired ports clocks settings said before' after' flags
@@ -283,10 +319,10 @@ module _ {P C : Type 0} (ports : Ports P) (clocks : Clocks C) (settings : GmSett
           (subst (λ c. Serves (two_steps ports) clocks settings h.opened c said) closed_is (h.serves senders))
 
       lanes : 1 ≤ settings.senders →
-          ServesByLanes (two_steps ports) settings (config_of settings) (flagged_by clear before) (flagged_by flags after) said.granted said.refused said.held
+          ServesByLanes (two_steps ports) clocks settings (config_of settings) (flagged_by clear before) (flagged_by flags after) (numbers_in said)
       lanes senders =
-          subst (λ o. ServesByLanes (two_steps ports) settings (config_of settings) o (flagged_by flags after) said.granted said.refused said.held) h.opens
-          (subst (λ c. ServesByLanes (two_steps ports) settings (config_of settings) h.opened c said.granted said.refused said.held) given_back (h.by_lanes senders))
+          subst (λ o. ServesByLanes (two_steps ports) clocks settings (config_of settings) o (flagged_by flags after) (numbers_in said)) h.opens
+          (subst (λ c. ServesByLanes (two_steps ports) clocks settings (config_of settings) h.opened c (numbers_in said)) given_back (h.by_lanes senders))
 
 -- ---- of an answer
 

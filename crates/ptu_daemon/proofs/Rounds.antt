@@ -1,6 +1,7 @@
 -- That rounds were done.
-use Rattle.std.proofs.Common.{◌≡◌, ◌∙◌, ◌⊎◌, inl, inr, ℕ, suc, zero, ◌+◌, ◌*◌, ◌≤◌, List, [], ◌∷◌, ◌++◌, length, map, take, drop, Option, Some, None, refl, sym, ap, ap₂, subst, arith, append_assoc}
-use Rattle.std.proofs.lemmas.List.{append-nil, drop-drop, drop_all, map-append}
+use Rattle.std.proofs.Common.{◌≡◌, ◌∙◌, ◌⊎◌, inl, inr, ℕ, suc, zero, ◌+◌, ◌*◌, ◌≤◌, List, [], ◌∷◌, ◌++◌, length, map, take, drop, Option, Some, None, refl, sym, ap, ap₂, subst, arith, append_assoc, length-append, Bool, true, false}
+use Rattle.std.specs.Prelude.{◌==◌}
+use Rattle.std.proofs.lemmas.List.{append-nil, drop-drop, drop_all, length-map, map-append}
 use Rattle.std.specs.Option.{IfSome}
 use Rattle.ptu_outside.specs.declared.arrival.Arrival.{Arrival}
 use Rattle.ptu_outside.specs.declared.channel.Channel.TheVariants as channels
@@ -10,7 +11,7 @@ use Rattle.ptu_config.specs.declared.settings.GmSettings.{GmSettings}
 use Rattle.ptu_rounds.specs.Rounds.{in_rounds, left_after, taken_in}
 use Rattle.ptu_daemon.specs.declared.daemon.Daemon.{Daemon}
 use Rattle.ptu_daemon.specs.declared.tally.Tally.{Tally}
-use Rattle.ptu_daemon.specs.Events.{Given, change_in, round_of, taking, turns}
+use Rattle.ptu_daemon.specs.Events.{Given, change_in, change_to, round_of, taking, turns}
 use Rattle.ptu_daemon.specs.Ran.{DidRound, DidRounds, Gives, IsSmall, Ran, TookChannel, Waits}
 use Rattle.ptu_daemon.proofs.Running.{ran_as, ran_more, ran_none}
 
@@ -61,6 +62,27 @@ if_told : (F : List Arrival → Type 0) (told : Option (List Arrival)) (left : L
 if_told F None left is h = absurd (cc)
 if_told F (Some xs) left is h = let same : xs ≡ left = cc in subst F same h
 
+-- ---- how much happens in a round
+
+change_few : (here : Bool) (capacity : Option ℕ) → length (change_to here capacity) ≤ 1
+change_few true (Some capacity) = omega arith
+change_few true None = omega arith
+change_few false capacity = omega arith
+
+round_few : (settings : GmSettings) (before : ℕ) (general event : List Arrival) →
+    length (change_in settings before ++ map taking (general ++ event) ++ turns) ≤ length general + length event + 5
+round_few settings before general event =
+    let change = change_in settings before in
+    let taken = map taking (general ++ event) in
+    omega (
+      arith,
+      length-append (change ++ taken) turns,
+      length-append change taken,
+      change_few (settings.change_round == before + 1) settings.new_capacity,
+      length-map (general ++ event) taking,
+      length-append general event,
+    )
+
 module _ {P C : Type 0} (ports : Ports P) (clocks : Clocks C) where
   -- ---- the parts of a round
 
@@ -75,6 +97,8 @@ module _ {P C : Type 0} (ports : Ports P) (clocks : Clocks C) where
   did_round settings before d0 d1 d2 d3 d4 begun general event turned a b c d = record {
     general = b.arrivals;
     event = c.arrivals;
+    general_few = b.few;
+    event_few = c.few;
     ran = ran_as ports clocks d0 d4 _ _ _ _ _ _ _ _ _ _ (ap (λ l. l ++ turns) happens) (append-nil (b.arrivals ++ []) ∙ append-nil b.arrivals) (append-nil c.arrivals) refl refl
         (ran_more ports clocks d0 d3 d4 _ _ _ _ _ _ _ _ _ _
         (ran_more ports clocks d0 d2 d3 _ _ _ _ _ _ _ _ _ _ (ran_more ports clocks d0 d1 d2 _ _ _ _ _ _ _ _ _ _ a b.ran) c.ran) d);
@@ -96,6 +120,9 @@ module _ {P C : Type 0} (ports : Ports P) (clocks : Clocks C) where
     happenings = [];
     general = [];
     event = [];
+    general_few = omega arith;
+    event_few = omega arith;
+    happenings_few = omega arith;
     ran = ran_as ports clocks daemon daemon _ _ _ _ _ _ _ _ _ _ refl refl refl (sym none) (sym none') (ran_none ports clocks daemon);
     all = λ given general_left event_left still (w, w') (v, v'). (
       refl,
@@ -116,10 +143,16 @@ module _ {P C : Type 0} (ports : Ports P) (clocks : Clocks C) where
     happenings = h.happenings ++ (change_in settings before ++ map taking (k.general ++ k.event) ++ turns);
     general = h.general ++ k.general;
     event = h.event ++ k.event;
+    general_few = omega (arith, length-append h.general k.general, h.general_few, k.general_few);
+    event_few = omega (arith, length-append h.event k.event, h.event_few, k.event_few);
+    happenings_few = omega (arith, length-append h.general k.general, length-append h.event k.event, h.happenings_few, many, length-append h.happenings (change_in settings before ++ map taking (k.general ++ k.event) ++ turns));
     ran = ran_more ports clocks old now new _ _ _ _ _ _ _ _ _ _ h.ran k.ran;
     all = all;
   }
     where
+      many : length (change_in settings before ++ map taking (k.general ++ k.event) ++ turns) ≤ length k.general + length k.event + 5
+      many = round_few settings before k.general k.event
+
       all : (given : Given) (general_left event_left : List Arrival) → tally.failed + more.failed ≡ 0 →
           Waits ports old given.general given.event → Waits ports new general_left event_left →
           (h.happenings ++ (change_in settings before ++ map taking (k.general ++ k.event) ++ turns) ≡ in_rounds (round_of settings given) (before + 1))

@@ -154,6 +154,8 @@ CameTo ports clocks channel old new nexts.Failed = Ran ports clocks old new [] [
 -- the daemon took what waits on one channel
 pub record TookChannel {P C : Type 0} (ports : Ports P) (clocks : Clocks C) (channel : Channel) (old new : Daemon P C) (tally : Tally) : Type 0 where
   pub arrivals : List Arrival
+  -- whatever failed, and whether or not the port tells
+  pub few : length arrivals ≤ most
   pub ran : Ran ports clocks old new (map taking arrivals) (on_general channel arrivals) (on_event channel arrivals) tally.sent tally.failed
   pub drains : Drains ports tally.failed (port_of channel new) arrivals
 
@@ -161,6 +163,8 @@ pub record TookChannel {P C : Type 0} (ports : Ports P) (clocks : Clocks C) (cha
 pub record DidRound {P C : Type 0} (ports : Ports P) (clocks : Clocks C) (settings : GmSettings) (before : ℕ) (old new : Daemon P C) (tally : Tally) : Type 0 where
   pub general : List Arrival
   pub event : List Arrival
+  pub general_few : length general ≤ most
+  pub event_few : length event ≤ most
   pub ran : Ran ports clocks old new (change_in settings before ++ map taking (general ++ event) ++ turns) general event tally.sent tally.failed
   pub general_drains : Drains ports tally.failed new.gm.reply general
   pub event_drains : Drains ports tally.failed new.event event
@@ -176,6 +180,9 @@ pub record DidRounds {P C : Type 0} (ports : Ports P) (clocks : Clocks C) (setti
   pub happenings : List Happening
   pub general : List Arrival
   pub event : List Arrival
+  pub general_few : length general ≤ most * rounds
+  pub event_few : length event ≤ most * rounds
+  pub happenings_few : length happenings ≤ length general + length event + 5 * rounds
   pub ran : Ran ports clocks old new happenings general event tally.sent tally.failed
   pub all : (given : Given) (general_left event_left : List Arrival) → tally.failed ≡ 0 →
       Waits ports old given.general given.event → Waits ports new general_left event_left →

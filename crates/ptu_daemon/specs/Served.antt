@@ -7,6 +7,7 @@ use Rattle.ptu_history.specs.History.{Record}
 use Rattle.ptu_history.specs.Verdict.{table_rates}
 use Rattle.ptu_grandmaster.specs.Driven.{driven_history}
 use Rattle.ptu_grandmaster.specs.Gm.{counted}
+use Rattle.ptu_lanes.specs.Served.{Numbers}
 use Rattle.ptu_config.specs.declared.settings.GmSettings.{GmSettings}
 use Rattle.ptu_daemon.specs.declared.closing.Closing.{Closing}
 use Rattle.ptu_daemon.specs.Events.{Given, config_of, served_events}
@@ -59,6 +60,10 @@ served_said settings given =
       refused = counted (counts history).short;
       held = held_by history;
     }
+
+-- those of them that lanes come to
+abbrev pub numbers_in : Said → Numbers
+numbers_in said = record { failed = said.failed; granted = said.granted; refused = said.refused; held = said.held }
 
 -- the numbers of a closing line
 abbrev pub said_by : Closing → Said

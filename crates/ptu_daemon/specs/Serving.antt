@@ -1,5 +1,6 @@
 -- What a call that serves has done with the ports and clocks that it opened.
-use Rattle.std.specs.Prelude.{◌≡◌, ◌≤◌, ℕ, true, List, map, Option, Some, IsSome, IfSome}
+use Rattle.std.specs.Prelude.{◌≡◌, ◌≤◌, ◌+◌, ◌*◌, ◌++◌, ℕ, true, List, length, map, Option, Some, IsSome, IfSome}
+use Rattle.ptu_outside.specs.declared.arrival.Arrival.{Arrival}
 use Rattle.ptu_outside.specs.declared.clock.Clock.{Ghosts as Clocks}
 use Rattle.ptu_outside.specs.declared.opened.Opened.{Opened}
 use Rattle.ptu_outside.specs.declared.port.Port.{Ghosts as Ports}
@@ -8,11 +9,12 @@ use Rattle.ptu_outside.specs.Faults.{HasRisen}
 use Rattle.ptu_outside.specs.Telling.{IfTold}
 use Rattle.ptu_grandmaster.specs.declared.driving.GmEvent.{GmEvent}
 use Rattle.ptu_config.specs.declared.settings.GmSettings.{GmSettings}
-use Rattle.ptu_rounds.specs.Ports.{HaveNotRisen, HaveRisenBy, HaveRisenJust, WereSent, ports_of, senders_of}
+use Rattle.ptu_rounds.specs.Ports.{HaveNotRisen, HaveRisenBy, HaveRisenJust, WereSent, senders_of}
 use Rattle.ptu_lanes.specs.Sending.{GoesOn, WasSent}
-use Rattle.ptu_lane_daemon.specs.Served.{ServesByLanes}
+use Rattle.ptu_lanes.specs.Served.{ServesByLanes, faults_of}
+use Rattle.ptu_lanes.specs.Waiting.{PassedBy}
 use Rattle.ptu_daemon.specs.Events.{Given, config_of}
-use Rattle.ptu_daemon.specs.Served.{Said, opened_as, served_by, served_said}
+use Rattle.ptu_daemon.specs.Served.{Said, numbers_in, opened_as, served_by, served_said}
 use Rattle.ptu_daemon.specs.Sends.{sends_by}
 
 -- the ports and clocks tell that this is given, and still tell it when they are given back
@@ -50,9 +52,19 @@ pub record GoOn {P C : Type 0} (ports : Ports P) (sends : ℕ → List Departure
   pub p3 : ¬ HasRisen (ports.faults opened.p3) (ports.faults closed.p3) → GoesOn ports opened.p3 closed.p3 (sends 3)
   pub p4 : ¬ HasRisen (ports.faults opened.p4) (ports.faults closed.p4) → GoesOn ports opened.p4 closed.p4 (sends 4)
 
--- the counts of faults of all six ports
-abbrev pub faults_of : {P C : Type 0} → Ports P → Opened P C → List ℕ
-faults_of ports opened = map ports.faults (ports_of opened)
+-- whatever the counts did, and whether or not a port tells: of each channel at most 64 datagrams were taken for each round, the first
+-- that waited where its port still tells that; and at most so many moments of clock 0 were taken: one for each of these, and for four
+-- turns and a change of the capacity in each round
+pub record TakesFew {P C : Type 0} (ports : Ports P) (clocks : Clocks C) (rounds : ℕ) (opened closed : Opened P C) : Type 0 where
+  pub general : List Arrival
+  pub event : List Arrival
+  pub general_few : length general ≤ 64 * rounds
+  pub event_few : length event ≤ 64 * rounds
+  pub general_given : IfSome (ports.waiting closed.p4) (λ later. ports.waiting opened.p4 ≡ Some (general ++ later))
+  pub event_given : IfSome (ports.waiting closed.p5) (λ later. ports.waiting opened.p5 ≡ Some (event ++ later))
+  pub moments : ℕ
+  pub moments_few : moments ≤ length general + length event + 5 * rounds
+  pub passed : PassedBy moments (clocks.moments opened.c0) (clocks.moments closed.c0)
 
 -- between these ports and clocks as they were opened, and as they are to be given back, this was said of the serving
 pub record Serves {P C : Type 0} (ports : Ports P) (clocks : Clocks C) (settings : GmSettings) (opened closed : Opened P C) (said : Said) : Type 0 where
@@ -68,6 +80,7 @@ pub record Serves {P C : Type 0} (ports : Ports P) (clocks : Clocks C) (settings
   -- where no count rose, it is what is served
   pub served : (given : Given) → IsGiven ports clocks opened closed given →
       HaveNotRisen (faults_of ports opened) (faults_of ports closed) → AreServed ports settings given opened closed said
+  pub took : TakesFew ports clocks settings.rounds opened closed
   -- the other clocks are given back as they were opened
   pub c1 : closed.c1 ≡ opened.c1
   pub c2 : closed.c2 ≡ opened.c2
@@ -83,4 +96,4 @@ pub record HasServed {P C : Type 0} (ports : Ports P) (clocks : Clocks C) (setti
   pub gives_back : IfTold back (Some closed)
   pub serves : settings.senders ≡ 0 → Serves ports clocks settings opened closed said
   pub by_lanes : 1 ≤ settings.senders →
-      ServesByLanes ports settings (config_of settings) opened closed said.granted said.refused said.held
+      ServesByLanes ports clocks settings (config_of settings) opened closed (numbers_in said)

@@ -4,6 +4,7 @@ use Rattle.ptu_outside.specs.declared.clock.Clock.{Ghosts as Clocks}
 use Rattle.ptu_outside.specs.declared.opened.Opened.{Opened}
 use Rattle.ptu_outside.specs.declared.port.Port.{Ghosts as Ports}
 use Rattle.ptu_outside.specs.Telling.{append_told}
+use Rattle.ptu_lanes.specs.Served.{faults_of}
 use Rattle.ptu_config.specs.declared.settings.GmSettings.{GmSettings}
 use Rattle.ptu_rounds.specs.Ports.{HaveNotRisen}
 use Rattle.ptu_twostep.specs.declared.two_host.Flags.{Flags}
@@ -12,7 +13,7 @@ use Rattle.ptu_twostep.specs.Pairs.{pairs}
 use Rattle.ptu_twostep.specs.Telling.{InTwoSteps, told_by}
 use Rattle.ptu_daemon.specs.Events.{Given}
 use Rattle.ptu_daemon.specs.Served.{Said, served_by}
-use Rattle.ptu_daemon.specs.Serving.{HasServed, IsGiven, faults_of}
+use Rattle.ptu_daemon.specs.Serving.{HasServed, IsGiven}
 
 -- the count of faults has risen
 abbrev pub has_risen : ℕ → ℕ → Bool

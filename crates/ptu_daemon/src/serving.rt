@@ -5,10 +5,10 @@ ghost use Rattle.ptu_outside.specs.Faults.{HasRisen};
 ghost use Rattle.ptu_outside.specs.Handing.{HasPut, HasPutFront};
 ghost use Rattle.ptu_shard.specs.Config.{IsWithinLimits};
 ghost use Rattle.ptu_config.specs.Limits.{IsGmInRange};
-ghost use Rattle.ptu_lane_daemon.specs.Served.{ServesByLanes};
+ghost use Rattle.ptu_lanes.specs.Served.{ServesByLanes};
 ghost use Rattle.ptu_daemon.specs.Events.{config_of, endpoint_of};
 ghost use Rattle.ptu_rounds.specs.Opening.{OpenedAt};
-ghost use Rattle.ptu_daemon.specs.Served.{Said, closing_line, said_by};
+ghost use Rattle.ptu_daemon.specs.Served.{Said, closing_line, numbers_in, said_by};
 ghost use Rattle.ptu_daemon.specs.Serving.{HasServed, Serves};
 
 use crate::closing::{Closing, closing_text};
@@ -17,7 +17,7 @@ use ptu_admit::Closed;
 use ptu_config::GmSettings;
 use ptu_grandmaster::Gm;
 use ptu_header::PortIdentity;
-use ptu_lane_daemon::serve_lanes;
+use ptu_lanes::serve_lanes;
 use ptu_outside::{Clock, Host, Opened, Port, Sink, write_whole};
 use ptu_rounds::DaemonFault;
 use ptu_shard::GmConfig;
@@ -54,8 +54,8 @@ fn serve_by_lanes<P: Port + Send, C: Clock + Send, W: Threads + Wait + Sync>(
     requires range { IsGmInRange settings.now }
     requires senders { 1 ≤ settings.now.senders }
     ensures rounds { IfOk result (λ r. r.1.rounds ≡ settings.now.rounds) }
-    ensures serves { IfOk result (λ r. ServesByLanes P.Port settings.now (config_of settings.now)
-        opened r.0 r.1.granted r.1.refused r.1.held) }
+    ensures serves { IfOk result (λ r. ServesByLanes P.Port C.Clock settings.now
+        (config_of settings.now) opened r.0 (numbers_in (said_by r.1))) }
 {
     let (back, totals) = serve_lanes(rt, alloc, settings, &config(settings), opened)?;
     let closing = Closing {
@@ -152,8 +152,8 @@ fn serve_over<P: Port + Send, C: Clock + Send, W: Threads + Wait + Sync>(
     ensures serves { IfOk result (λ r. settings.now.senders ≡ 0
         → Serves P.Port C.Clock settings.now opened r.0 (said_by r.1)) }
     ensures by_lanes { IfOk result (λ r. 1 ≤ settings.now.senders
-        → ServesByLanes P.Port settings.now (config_of settings.now)
-        opened r.0 r.1.granted r.1.refused r.1.held) }
+        → ServesByLanes P.Port C.Clock settings.now
+        (config_of settings.now) opened r.0 (numbers_in (said_by r.1))) }
 {
     if settings.senders == 0 {
         serve_rounds(alloc, settings, opened)

@@ -201,6 +201,21 @@ fn a_failed_receive_is_counted(rt: HostRuntime) -> Result<(), Fail> {
     Ok(())
 }
 
+// What waits after a receive that fails is not taken in this round, on one thread and by lanes. It
+// refuses a channel that goes on after it.
+#[test]
+fn a_failed_receive_ends_the_taking(rt: HostRuntime) -> Result<(), Fail> {
+    let alloc = rt.alloc();
+    let line = "rounds 1 sent 0 failed 1 granted 0 refused 0 held 0\n";
+    let _ = assert_line(&rt, alloc, &SETTINGS, asked(alloc, &[], &[1])?, line);
+    let settings = GmSettings {
+        senders: 2,
+        ..SETTINGS
+    };
+    let _ = assert_line(&rt, alloc, &settings, asked(alloc, &[], &[1])?, line);
+    Ok(())
+}
+
 #[test]
 fn a_host_that_does_not_open_is_a_fault(rt: HostRuntime) {
     let alloc = rt.alloc();

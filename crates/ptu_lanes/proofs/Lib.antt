@@ -1,3 +1,6 @@
 mod Items
-mod Serving
+mod Moments
+mod Exchanges
 mod Taking
+mod Stretching
+mod Controlled

@@ -1,17 +1,24 @@
 -- What may answer the items of a datagram where the tables stand behind locks, and what is counted of it (IEEE 1588-2019
 -- clause 16.1.4).
-use Rattle.std.specs.Prelude.{◌≡◌, ◌⊎◌, ℕ, ◌+◌, ◌≤◌, min, if◌then◌else◌, List, [], ◌∷◌, Result, Ok, Err, IsOk}
+use Rattle.std.specs.Prelude.{◌≡◌, ◌⊎◌, ℕ, ◌+◌, ◌≤◌, min, if◌then◌else◌, List, [], ◌∷◌, Option, Some, None, IfSome, IsSome, Result, Ok, Err, IsOk}
 use Rattle.std.specs.List.{sum_by}
+use Rattle.ptu_units.specs.declared.kind.Kind.{Kind}
+use Rattle.ptu_units.specs.Kind.{kind_of}
+use Rattle.ptu_history.specs.declared.client.Client.{Client}
 use Rattle.ptu_history.specs.Verdict.{profile}
 use Rattle.ptu_tlvs.specs.declared.tlv.Ask.{Ask}
 use Rattle.ptu_tlvs.specs.declared.tlv.Tlv.{Tlv}
 use Rattle.ptu_tlvs.specs.declared.tlv.Tlv.TheVariants as tlv
 use Rattle.ptu_shard.specs.declared.config.GmConfig.{GmConfig}
+use Rattle.ptu_admit.specs.declared.ending.Cancelled.{Cancelled}
+use Rattle.ptu_shared.specs.Answers.{AnswersAsk}
 use Rattle.ptu_shared.specs.Seats.{Counts}
 use Rattle.ptu_items.specs.declared.item.Item.{Item}
 use Rattle.ptu_items.specs.declared.item.Item.TheVariants.{Request, Cancel}
 use Rattle.ptu_items.specs.Deciding.{asked_by}
 use Rattle.ptu_items.specs.Replies.{denial_of, grant_of}
+use Rattle.ptu_grandmaster.specs.declared.outcome.Outcome.{Outcome}
+use Rattle.ptu_grandmaster.specs.declared.outcome.Outcome.TheVariants as outcome
 
 -- the ask is within the profile
 abbrev pub IsWithin : Ask → Type 0
@@ -59,3 +66,14 @@ pub record HasAnswered (config : GmConfig) (items : List Item) (answers : List T
   pub granted : new.granted ≡ old.granted + grants_among answers
   pub refused : old.refused ≤ new.refused
   pub counted : new.granted + new.refused ≡ old.granted + old.refused + asks_among items
+
+-- where the code is that of a kind, a cancel was decided, at a moment that is not before the one that was handed in
+abbrev pub CancelFits : ℕ → Option Kind → Option Cancelled → Type 0
+CancelFits t None cancelled = cancelled ≡ None
+CancelFits t (Some kind) cancelled = IsSome cancelled × IfSome cancelled (λ c. t ≤ c.at)
+
+-- an item of the client was decided so at the tables: the verdict answers its ask, where no greater capacity than `most` comes into
+-- force, and what a CANCEL of a kind is answered shows that a cancel was decided
+abbrev pub WasDecided : ℕ → GmConfig → ℕ → Client → Outcome → Type 0
+WasDecided most config t client (outcome.Verdict ask verdict) = AnswersAsk most config t client ask verdict
+WasDecided most config t client (outcome.Cancel code cancelled) = CancelFits t (kind_of code) cancelled

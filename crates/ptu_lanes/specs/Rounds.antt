@@ -1,9 +1,10 @@
 -- What a lane does that takes Signaling: the datagrams that it takes, and the replies that it sends (IEEE 1588-2019 clause
 -- 16.1; that a round takes 64 at most is the project's own choice).
-use Rattle.std.specs.Prelude.{◌≡◌, ℕ, ◌+◌, ◌*◌, ◌≤◌, List, [], ◌∷◌, ◌++◌, length, map, take, drop, true, Some, Result, Ok, Err, IfSome}
+use Rattle.std.specs.Prelude.{◌≡◌, ℕ, ◌+◌, ◌*◌, ◌≤◌, ◌<◌, List, [], ◌∷◌, ◌++◌, length, map, take, drop, true, Some, Result, Ok, Err, IfSome}
 use Rattle.std.specs.List.{All, flat_map, sum_by}
 use Rattle.ptu_outside.specs.declared.arrival.Arrival.{Arrival}
 use Rattle.ptu_outside.specs.Departure.{Departure}
+use Rattle.ptu_outside.specs.declared.clock.Clock.{Ghosts as Clocks}
 use Rattle.ptu_outside.specs.declared.port.Port.{Ghosts as Ports}
 use Rattle.ptu_outside.specs.Faults.{HasRisen, HasRisenBy, HasRisenJust, HasNotFallen}
 use Rattle.ptu_outside.specs.HandsOver.{HandsOver}
@@ -19,6 +20,7 @@ use Rattle.ptu_items.specs.Items.{heard_in, items_in}
 use Rattle.ptu_items.specs.Replies.{reply_to}
 use Rattle.ptu_lanes.specs.Answers.{FitEach, HasAnswered, asks_among, grants_among}
 use Rattle.ptu_lanes.specs.Sending.{GoesOn, WasSent}
+use Rattle.ptu_lanes.specs.Waiting.{PassedBy}
 
 -- the items that were found; there is none where the datagram is ignored
 abbrev pub found_items : Result (List Item) GmReason → List Item
@@ -112,3 +114,39 @@ pub record IsRound {P : Type 0} (ports : Ports P) (config : GmConfig) (port port
   pub sent_are : sent ≡ length (replies config exchanges)
   pub asks_are : asks ≡ asks_in config (take 64 waited)
   pub granted_are : now ≡ granted + grants_in exchanges
+
+-- whatever became of the port's count of faults, and whether or not it tells what waits: the lane had at most so many exchanges,
+-- the datagrams of which are the first that waited where the port still tells that; each was taken at a new moment of the clock, of
+-- which so many more were taken; and its seat has counted the grants among the answers, and all asks within the profile
+pub record Exchanged {P C : Type 0} (ports : Ports P) (clocks : Clocks C) (config : GmConfig) (most more : ℕ) (port port' : P) (clock clock' : C) (old new : Counts) : Type 0 where
+  pub exchanges : List Exchange
+  pub few : length exchanges ≤ most
+  pub given : IfSome (ports.waiting port') (λ later. ports.waiting port ≡ Some (datagrams exchanges ++ later))
+  pub answered : All (IsAnswered config) exchanges
+  pub granted : new.granted ≡ old.granted + grants_in exchanges
+  pub counted : new.granted + new.refused ≡ old.granted + old.refused + asks_in config (datagrams exchanges)
+  pub moments : PassedBy (length exchanges + more) (clocks.moments clock) (clocks.moments clock')
+
+-- a datagram was taken at a new moment, and nothing was sent; what was decided of it stands, and the lane's seat has counted that
+pub record IsUnanswered {P C : Type 0} (ports : Ports P) (clocks : Clocks C) (port port' : P) (clock clock' : C) (old new : Counts) : Type 0 where
+  pub datagram : Arrival
+  pub given : IfSome (ports.waiting port') (λ later. ports.waiting port ≡ Some (datagram ∷ [] ++ later))
+  pub unsent : ports.sent port' ≡ ports.sent port
+  pub still : ports.faults port' ≡ ports.faults port
+  pub granted : old.granted ≤ new.granted
+  pub refused : old.refused ≤ new.refused
+  pub moments : PassedBy 1 (clocks.moments clock) (clocks.moments clock')
+
+-- the lane found no memory at the datagram after these exchanges, of which each was finished: it sent one reply for each that has an
+-- item, in order, where the port's count did not rise, and nothing of a reply to the last datagram; what waited after that still
+-- waits; what was decided stands, and its seat has counted that
+pub record BrokeOff {P C : Type 0} (ports : Ports P) (clocks : Clocks C) (config : GmConfig) (port port' : P) (clock clock' : C) (old new : Counts) : Type 0 where
+  pub exchanges : List Exchange
+  pub last : Arrival
+  pub few : length exchanges < 64
+  pub given : IfSome (ports.waiting port') (λ later. ports.waiting port ≡ Some ((datagrams exchanges ++ last ∷ []) ++ later))
+  pub answered : All (IsAnswered config) exchanges
+  pub told : ¬ HasRisen (ports.faults port) (ports.faults port') → WasSent ports port port' (replies config exchanges)
+  pub granted : old.granted + grants_in exchanges ≤ new.granted
+  pub refused : old.refused ≤ new.refused
+  pub moments : PassedBy (length exchanges + 1) (clocks.moments clock) (clocks.moments clock')

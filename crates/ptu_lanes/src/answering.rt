@@ -2,16 +2,18 @@
 
 ghost use Rattle.std.specs.Prelude.{◌≡◌, ◌+◌, ◌^◌, ◌<◌, ◌≤◌, List, [], ◌∷◌, length, map, IfOk, OnErr};
 ghost use Rattle.ptu_outside.specs.HandsOver.{HandsOver};
+ghost use Rattle.ptu_units.specs.Kind.{kind_of};
 ghost use Rattle.ptu_shard.specs.Config.{IsWithinLimits};
 ghost use Rattle.ptu_tlvs.specs.declared.tlv.Tlv.{Tlv};
 ghost use Rattle.ptu_items.specs.Deciding.{answer_to};
 ghost use Rattle.ptu_items.specs.Items.{AreAnswerable};
 ghost use Rattle.ptu_grandmaster.specs.Outcomes.{answers_seen, decision_seen, item_seen};
-ghost use Rattle.ptu_lanes.specs.Answers.{HasAnswered};
+ghost use Rattle.ptu_lanes.specs.Answers.{CancelFits, HasAnswered, WasDecided};
 ghost use Rattle.ptu_lanes.specs.Rounds.{HasReplied, reply_if_any};
 
 use crate::client::client;
-use crate::rounds::{Control, IDLE};
+use crate::signaling::{Control, IDLE};
+use ptu_admit::Cancelled;
 use ptu_grandmaster::{Outcome, Outcomes, reply_of};
 use ptu_header::Header;
 use ptu_history::Client;
@@ -31,15 +33,13 @@ fn end<P: Port + Send, L: Rates, G: Ledger, R: Ledger>(
     t: Moment,
     client: &Client,
     code: u8,
-) -> Outcome
-    ensures item { item_seen result ≡ Item.Cancel code }
-    ensures answer { answer_to (decision_seen result) ≡ Tlv.Ack code }
+) -> Option<Cancelled>
+    ensures { CancelFits t (kind_of code) result }
 {
-    let cancelled = match Kind::of(code) {
+    match Kind::of(code) {
         Some(kind) => Some(shared.cancel(rt, t, client, kind)),
         None => None,
-    };
-    Outcome::Cancel(code, cancelled)
+    }
 }
 
 // Decides an item of the client at the shared tables.
@@ -56,15 +56,21 @@ fn answer_item<P: Port + Send, L: Rates, G: Ledger, R: Ledger>(
     requires limits { IsWithinLimits config.now }
     requires counts { (seat.old.granted < 2 ^ 48) × (seat.old.refused < 2 ^ 48) }
     ensures item { IfOk result (λ o. item_seen o ≡ item) }
+    ensures decided { IfOk result (WasDecided L.most config.now t client.now) }
     ensures answered { IfOk result (λ o. HasAnswered config.now (item ∷ [])
         (answer_to (decision_seen o) ∷ []) seat.old seat.new) }
+    ensures no_less { (seat.old.granted ≤ seat.new.granted)
+        × (seat.old.refused ≤ seat.new.refused) }
 {
     match item {
         Item::Request(ask) => {
             let verdict = shared.admit(rt, seat, config, t, client, &ask)?;
             Ok(Outcome::Verdict(ask, verdict))
         }
-        Item::Cancel(code) => Ok(end(rt, shared, t, client, code)),
+        Item::Cancel(code) => {
+            let cancelled = end(rt, shared, t, client, code);
+            Ok(Outcome::Cancel(code, cancelled))
+        }
     }
 }
 
@@ -86,6 +92,8 @@ fn answer_items<P: Port + Send, L: Rates, G: Ledger, R: Ledger>(
     ensures items { IfOk result (λ os. map item_seen os ≡ items.now) }
     ensures answered { IfOk result (λ os.
         HasAnswered config.now items.now (answers_seen os) seat.old seat.new) }
+    ensures no_less { (seat.old.granted ≤ seat.new.granted)
+        × (seat.old.refused ≤ seat.new.refused) }
 {
     let mut outcomes = Vec::new(alloc);
     for item in items {
@@ -140,6 +148,8 @@ fn answer_signaling<P: Port + Send, L: Rates, G: Ledger, R: Ledger>(
     ensures asks { IfOk result (λ c. seat.new.granted + seat.new.refused
         ≡ seat.old.granted + seat.old.refused + c.asks) }
     ensures unsent { OnErr result (port.new ≡ port.old) }
+    ensures no_less { (seat.old.granted ≤ seat.new.granted)
+        × (seat.old.refused ≤ seat.new.refused) }
 {
     let before = seat.granted() + seat.refused();
     let client = client(from, header);
@@ -171,6 +181,8 @@ pub(crate) fn answer_datagram<P: Port + Send, L: Rates, G: Ledger, R: Ledger>(
         (record { datagram = record { ip = from; bytes = bytes.now }; answers = answers })
         port.old port.new seat.old seat.new c.asks c.sent c.failed) }
     ensures unsent { OnErr result (port.new ≡ port.old) }
+    ensures no_less { (seat.old.granted ≤ seat.new.granted)
+        × (seat.old.refused ≤ seat.new.refused) }
 {
     match hear(alloc, config, bytes)? {
         Ok(Heard::Asks(header, items)) => answer_signaling(

@@ -1,13 +1,13 @@
 //! Rounds of the lane that takes Delay_Reqs.
 
-ghost use Rattle.std.specs.Prelude.{◌≡◌, ◌+◌, ◌≤◌, List, [], ◌++◌, Some, length, false, if◌then◌else◌, IfOk, IfSome};
-ghost use Rattle.ptu_outside.specs.declared.arrival.Arrival.{Arrival};
+ghost use Rattle.std.specs.Prelude.{◌≡◌, ◌+◌, ◌≤◌, [], false, if◌then◌else◌, IfOk, IfSome, OnErr};
 ghost use Rattle.ptu_outside.specs.Faults.{HasNotFallen, HasRisen};
 ghost use Rattle.ptu_shard.specs.Config.{IsWithinLimits};
-ghost use Rattle.ptu_lanes.specs.Waiting.{GaveFirst};
+ghost use Rattle.ptu_shared.specs.Opening.{HaveFailed};
+ghost use Rattle.ptu_lanes.specs.Waiting.{GaveFirst, HasTaken, Took};
 
 use crate::client::client;
-use crate::rounds::MOST_DATAGRAMS;
+use crate::signaling::MOST_DATAGRAMS;
 use ptu_items::{Heard, hear};
 use ptu_outside::{Clock, Port};
 use ptu_shard::{Answered, GmConfig};
@@ -22,20 +22,27 @@ use std::sync::ledger::Ledger;
 pub struct Delays {
     /// How many Delay_Resps were sent.
     pub sent: u64,
-    /// How many sends and receives failed.
+    /// How many Delay_Resps failed to be sent.
     pub failed: u64,
+    /// How many receives failed.
+    pub missed: u64,
 }
 
 // Nothing was done.
-const IDLE: Delays = Delays { sent: 0, failed: 0 };
+const IDLE: Delays = Delays {
+    sent: 0,
+    failed: 0,
+    missed: 0,
+};
 
 // What was sent for a Delay_Req that was answered so.
 fn delays_of(answered: &Answered) -> Delays
-    ensures { result.sent + result.failed ≤ 1 }
+    ensures most { result.sent + result.failed ≤ 1 }
+    ensures missed { result.missed ≡ 0 }
 {
     match answered {
-        Answered::Sent { .. } => Delays { sent: 1, failed: 0 },
-        Answered::Failed { .. } => Delays { sent: 0, failed: 1 },
+        Answered::Sent { .. } => Delays { sent: 1, ..IDLE },
+        Answered::Failed { .. } => Delays { failed: 1, ..IDLE },
         Answered::NoGrant { .. } | Answered::TooSoon { .. } => IDLE,
     }
 }
@@ -51,7 +58,8 @@ fn answer_delay<P: Port + Send, L: Rates, G: Ledger, R: Ledger>(
     bytes: &[u8],
 ) -> Result<Delays, OutOfMemory>
     requires { IsWithinLimits config.now }
-    ensures { IfOk result (λ s. s.sent + s.failed ≤ 1) }
+    ensures most { IfOk result (λ s. s.sent + s.failed ≤ 1) }
+    ensures missed { IfOk result (λ s. s.missed ≡ 0) }
 {
     match hear(alloc, config, bytes)? {
         Ok(Heard::DelayReq(header)) => {
@@ -75,16 +83,14 @@ fn take_one<P: Port + Send, C: Clock, L: Rates, G: Ledger, R: Ledger>(
     buffer: &mut [u8; 2048],
 ) -> Result<(Delays, bool), OutOfMemory>
     requires { IsWithinLimits config.now }
-    ensures most { IfOk result (λ r. r.0.sent + r.0.failed ≤ 1) }
-    ensures given { IfOk result (λ r. (taken : List Arrival)
-        × (length taken ≡ (if r.1 then 1 else 0))
-        × IfSome (P.waiting port.new) (λ later. P.waiting port.old ≡ Some (taken ++ later))) }
+    ensures most { IfOk result (λ r. r.0.sent + r.0.failed + r.0.missed ≤ 1) }
+    ensures taken { IfOk result (λ r. HasTaken P.Port C.Clock (if r.1 then 1 else 0) r.0.missed
+        port.old port.new clock.old clock.new) }
     ensures end { IfOk result (λ r. r.1 ≡ false
         → ¬ HasRisen (P.faults port.old) (P.faults port.new)
         → IfSome (P.waiting port.new) (λ left. left ≡ [])) }
-    ensures unsent { P.sent port.new ≡ P.sent port.old }
-    ensures goes_on { P.has_ceased port.new ≡ P.has_ceased port.old }
-    ensures no_fall { HasNotFallen (P.faults port.old) (P.faults port.new) }
+    ensures broke_off { OnErr result (HasTaken P.Port C.Clock 1 0
+        port.old port.new clock.old clock.new) }
 {
     match port.receive(buffer) {
         Ok(Some((from, size))) => {
@@ -94,7 +100,10 @@ fn take_one<P: Port + Send, C: Clock, L: Rates, G: Ledger, R: Ledger>(
             Ok((delays, true))
         }
         Ok(None) => Ok((IDLE, false)),
-        Err(_) => Ok((Delays { sent: 0, failed: 1 }, false)),
+        Err(_) => {
+            let missed = Delays { missed: 1, ..IDLE };
+            Ok((missed, false))
+        }
     }
 }
 
@@ -103,7 +112,8 @@ fn take_one<P: Port + Send, C: Clock, L: Rates, G: Ledger, R: Ledger>(
 /// (IEEE 1588-2019 clause 11.3); all other datagrams are ignored.
 ///
 /// # Errors
-/// `OutOfMemory`, with the answers so far, which were sent.
+/// `OutOfMemory`, with the answers so far, which were sent. The datagram at which it comes is taken
+/// and not answered.
 pub fn delay_round<P: Port + Send, C: Clock, L: Rates, G: Ledger, R: Ledger>(
     rt: &impl Wait,
     alloc: Global,
@@ -113,10 +123,15 @@ pub fn delay_round<P: Port + Send, C: Clock, L: Rates, G: Ledger, R: Ledger>(
     clock: &mut C,
 ) -> Result<Delays, OutOfMemory>
     requires { IsWithinLimits config.now }
-    ensures most { IfOk result (λ s. s.sent + s.failed ≤ 64) }
+    ensures most { IfOk result (λ s. s.sent + s.failed + s.missed ≤ 64) }
     // Where the port's count did not rise, these were the first that waited there.
     ensures round { IfOk result (λ s. ¬ HasRisen (P.faults port.old) (P.faults port.new)
         → GaveFirst 64 (P.waiting port.old) (P.waiting port.new)) }
+    // Whatever its count did, whether or not it tells, and after want of memory too.
+    ensures took { Took P.Port C.Clock 64 0 port.old port.new clock.old clock.new }
+    // Each receive that failed is a fault, and there are no other faults.
+    ensures failed { IfOk result (λ s.
+        HaveFailed P.counts_once s.missed (P.faults port.old) (P.faults port.new)) }
     // The port was sent nothing, and goes on to tell that.
     ensures unsent { P.sent port.new ≡ P.sent port.old }
     ensures goes_on { P.has_ceased port.new ≡ P.has_ceased port.old }
@@ -128,6 +143,7 @@ pub fn delay_round<P: Port + Send, C: Clock, L: Rates, G: Ledger, R: Ledger>(
         let (one, goes_on) = take_one(rt, alloc, shared, config, port, clock, &mut buffer)?;
         delays.sent += one.sent;
         delays.failed += one.failed;
+        delays.missed += one.missed;
         if !goes_on {
             break;
         }

@@ -1,16 +1,27 @@
-//! Lanes of a grandmaster whose tables stand under locks: what a thread does in a round that takes
-//! Signaling and asks the shared tables, that answers Delay_Reqs, or that turns tables.
+//! A grandmaster that is served by lanes, whose tables stand under locks: in each round its lanes
+//! work side by side, one that takes Signaling and asks the shared tables, one that answers
+//! Delay_Reqs, and some that turn the tables.
 #![tactic(auto)]
 
 mod answering;
+mod changing;
 mod client;
 mod delays;
-mod rounds;
+mod lanes;
+mod laws;
+mod meeting;
+mod serving;
+mod signaling;
+mod stretches;
 mod turns;
 
 pub use delays::{Delays, delay_round};
-pub use rounds::{Control, control_round};
+pub use laws::sample_changes;
+pub use serving::{Totals, serve_lanes};
+pub use signaling::{Control, control_round};
 pub use turns::turn_round;
 
+#[cfg(test)]
+mod meeting_tests;
 #[cfg(test)]
 mod tests;

@@ -1,5 +1,6 @@
-ghost use Rattle.std.specs.Prelude.{◌≡◌, ◌≤◌, length, IfOk};
+ghost use Rattle.std.specs.Prelude.{◌≡◌, ◌≤◌, ℕ, length, IfOk};
 ghost use Rattle.ptu_admit.specs.Book.{IsCapacity};
+ghost use Rattle.ptu_shared.specs.Opening.{idle_port};
 
 use super::*;
 use ptu_admit::{Closed, Verdict};
@@ -112,6 +113,7 @@ fn open<L: Rates, G: Ledger, R: Ledger>(
     requires capacity { IsCapacity capacity }
     requires most { capacity ≤ L.most }
     requires seats { L.seats ≡ 1 }
+    requires ports { (i : ℕ) → L.opened i ≡ idle_port }
 {
     let p0 = MemPort::new(alloc, Vec::new(alloc), Vec::new(alloc), Vec::new(alloc));
     let p1 = MemPort::new(alloc, Vec::new(alloc), Vec::new(alloc), Vec::new(alloc));
@@ -185,6 +187,7 @@ fn asking<L: Rates, G: Ledger, R: Ledger, W: Wait + Abort>(
     requires capacity { IsCapacity capacity }
     requires most { capacity ≤ L.most }
     requires seats { L.seats ≡ 1 }
+    requires ports { (i : ℕ) → L.opened i ≡ idle_port }
 {
     let grant = hex::decode(alloc, GRANT)?;
     let mut first = port(alloc, Vec::new(alloc))?;
@@ -256,7 +259,12 @@ fn answer_and_turn<L: Rates, G: Ledger, R: Ledger, W: Wait + Abort>(
     let second = Moment::of(1_000_000_000).expect(rt, "a moment is below 2^62");
     let mut clock = MemClock::new(vec![in alloc; second]?);
     let answered = delay_round(rt, alloc, shared, &CONFIG, port, &mut clock)?;
-    assert_eq!(rt; answered, Delays { sent: 1, failed: 0 });
+    let sent = Delays {
+        sent: 1,
+        failed: 0,
+        missed: 0,
+    };
+    assert_eq!(rt; answered, sent);
     assert!(rt; port.sent(0).is_none());
     let turned = turn_round(rt, shared, &CONFIG, &mut clock, 1, 2);
     assert_eq!(rt; turned, Sends { sent: 1, failed: 0 });
@@ -294,6 +302,7 @@ fn sending<L: Rates, G: Ledger, R: Ledger, W: Wait + Abort>(
     requires capacity { IsCapacity capacity }
     requires most { capacity ≤ L.most }
     requires seats { L.seats ≡ 1 }
+    requires ports { (i : ℕ) → L.opened i ≡ idle_port }
 {
     let sync = hex::decode(alloc, SYNC)?;
     let answer = hex::decode(alloc, DELAY_RESP)?;

@@ -1,6 +1,7 @@
 -- Which answers an ask may be given where the tables stand behind locks (IEEE 1588-2019 clause 16.1.4.1).
 use Rattle.std.specs.Prelude.{◌≡◌, ℕ, ◌+◌, ◌*◌, ◌≤◌, ◌<◌, min, Ok, Err}
 use Rattle.ptu_units.specs.Log.{rate_of}
+use Rattle.ptu_history.specs.declared.client.Client.{Client}
 use Rattle.ptu_history.specs.Verdict.{profile}
 use Rattle.ptu_tlvs.specs.declared.tlv.Ask.{Ask}
 use Rattle.ptu_shard.specs.declared.config.GmConfig.{GmConfig}
@@ -9,9 +10,10 @@ use Rattle.ptu_admit.specs.declared.verdict.Verdict.TheVariants.{Granted, Short,
 use Rattle.ptu_admit.specs.Terms.{Lack, Terms}
 use Rattle.ptu_admit.specs.Verdict.{ask_of, cause_of}
 
--- a grant of what was asked for, for the lesser of the asked and the longest duration, from a moment on that is not
--- before the one that was handed in
-pub record GrantsAsk (config : GmConfig) (t : ℕ) (ask : Ask) (grant : Terms) : Type 0 where
+-- a grant to the client of what was asked for, for the lesser of the asked and the longest duration, from a moment on that is
+-- not before the one that was handed in
+pub record GrantsAsk (config : GmConfig) (t : ℕ) (client : Client) (ask : Ask) (grant : Terms) : Type 0 where
+  pub whose : grant.client ≡ client
   pub profile : profile (ask_of ask) ≡ Ok grant.kind
   pub log : grant.log ≡ ask.log
   pub seconds : grant.seconds ≡ min ask.seconds config.max_duration
@@ -28,8 +30,8 @@ pub record LacksAsk (most t : ℕ) (ask : Ask) (lack : Lack) : Type 0 where
   pub capacity : lack.capacity ≤ most
   pub above : lack.capacity < lack.others + lack.rate
 
--- the verdict answers the ask that is handed this moment, where no greater capacity than `most` comes into force
-abbrev pub AnswersAsk : ℕ → GmConfig → ℕ → Ask → Verdict → Type 0
-AnswersAsk most config t ask (Granted grant) = GrantsAsk config t ask grant
-AnswersAsk most config t ask (Short shortage) = LacksAsk most t ask shortage
-AnswersAsk most config t ask (Outside cause) = profile (ask_of ask) ≡ Err (cause_of cause)
+-- the verdict answers the client's ask that is handed this moment, where no greater capacity than `most` comes into force
+abbrev pub AnswersAsk : ℕ → GmConfig → ℕ → Client → Ask → Verdict → Type 0
+AnswersAsk most config t client ask (Granted grant) = GrantsAsk config t client ask grant
+AnswersAsk most config t client ask (Short shortage) = LacksAsk most t ask shortage
+AnswersAsk most config t client ask (Outside cause) = profile (ask_of ask) ≡ Err (cause_of cause)

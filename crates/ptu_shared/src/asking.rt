@@ -48,7 +48,7 @@ pub(crate) fn ask_one<P: Port, L: Rates, G: Ledger, R: Ledger, J: Place>(
         (max t (max desk.old.book.moment table.old.shard.moment)) (ask_of ask.now)) }
     ensures at { IfSome result
         (IsAt (max t (max desk.old.book.moment table.old.shard.moment))) }
-    ensures verdict { IfSome result (AnswersAsk L.most config.now t ask.now) }
+    ensures verdict { IfSome result (AnswersAsk L.most config.now t client.now ask.now) }
     ensures seat { IfSome result (λ v. seat.new ≡ counting v seat.old) }
     ensures desk { IfSome result (λ v. counting v
         (record { granted = desk.old.granted; refused = desk.old.refused })
@@ -106,7 +106,7 @@ pub(crate) fn ask_all<P: Port, L: Rates, G: Ledger, R: Ledger>(
         (live_others n lent client.now) n (ask_of ask.now) }
     ensures at { IsAt (moment_for t desk.old.book client.now
         (four t0.old.shard t1.old.shard t2.old.shard t3.old.shard)) result }
-    ensures verdict { AnswersAsk L.most config.now t ask.now result }
+    ensures verdict { AnswersAsk L.most config.now t client.now ask.now result }
     ensures seat { seat.new ≡ counting result seat.old }
     ensures desk { counting result
         (record { granted = desk.old.granted; refused = desk.old.refused })

@@ -4,6 +4,7 @@ ghost use Rattle.std.specs.Prelude.{◌≡◌, ◌≤◌, ◌<◌, ◌+◌, ◌*
 ghost use Rattle.ptu_shard.specs.Row.{share_of};
 ghost use Rattle.ptu_admit.specs.Lent.{four, moment_for_all};
 ghost use Rattle.ptu_admit.specs.Rows.{live_rows};
+ghost use Rattle.ptu_shared.specs.Opening.{HaveFailed};
 ghost use Rattle.ptu_shared.specs.Seats.{granted_in, refused_in};
 
 use crate::changing::finish_all;
@@ -34,6 +35,19 @@ pub struct CloseFault<P: Port + Send, L: Rates, G: Ledger, R: Ledger> {
     pub shared: Shared<P, L, G, R>,
     /// The seats, as they were.
     pub seats: Vec<Seat<G, R>>,
+}
+
+/// How many sends of each table's port failed. A number that would be above 2^64 - 1 stands there.
+#[derive(Clone, Copy, Debug, PartialEq, Eq)]
+pub struct Failures {
+    /// Of the port of table 0.
+    pub p0: u64,
+    /// Of the port of table 1.
+    pub p1: u64,
+    /// Of the port of table 2.
+    pub p2: u64,
+    /// Of the port of table 3.
+    pub p3: u64,
 }
 
 // Nothing changes. Adds what the seats have counted to the counts of seats whose parts of the
@@ -111,28 +125,43 @@ fn count_seats<L: Rates, G: Ledger, R: Ledger>(
 }
 
 // Closes four tables, in order of index, and their book: each count is what the table holds at the
-// greatest of the five moments.
+// greatest of the five moments. Tells how many sends of their ports failed, too.
 fn close_tables<P: Port, L: Rates, G: Ledger, R: Ledger>(
     mut t0: Table<P, L, First>,
     mut t1: Table<P, L, Second>,
     mut t2: Table<P, L, Third>,
     mut t3: Table<P, L, Fourth>,
     mut desk: Desk<L, G, R>,
-) -> Closed<P>
+) -> (Closed<P>, Failures)
     requires { L.parts ≡ 4 }
     ensures counts { let n = moment_for_all 0 desk.book
         (four t0.shard t1.shard t2.shard t3.shard) in
-        result.counts
+        result.0.counts
         ≡ share_of (live_rows n t0.shard.rows) ∷ share_of (live_rows n t1.shard.rows)
         ∷ share_of (live_rows n t2.shard.rows) ∷ share_of (live_rows n t3.shard.rows) ∷ [] }
-    ensures total { result.total ≡ sum result.counts }
-    ensures most { result.total ≤ L.most }
-    ensures verdicts { (result.granted ≡ desk.granted) × (result.refused ≡ desk.refused) }
-    ensures ports { (result.p0 ≡ t0.shard.port) × (result.p1 ≡ t1.shard.port)
-        × (result.p2 ≡ t2.shard.port) × (result.p3 ≡ t3.shard.port) }
+    ensures total { result.0.total ≡ sum result.0.counts }
+    ensures most { result.0.total ≤ L.most }
+    ensures verdicts { (result.0.granted ≡ desk.granted) × (result.0.refused ≡ desk.refused) }
+    ensures ports { (result.0.p0 ≡ t0.shard.port) × (result.0.p1 ≡ t1.shard.port)
+        × (result.0.p2 ≡ t2.shard.port) × (result.0.p3 ≡ t3.shard.port) }
+    ensures opened { (P.waiting result.0.p0 ≡ (L.opened 0).waiting)
+        × (P.waiting result.0.p1 ≡ (L.opened 1).waiting)
+        × (P.waiting result.0.p2 ≡ (L.opened 2).waiting)
+        × (P.waiting result.0.p3 ≡ (L.opened 3).waiting) }
+    ensures failures { let once = P.counts_once in
+        HaveFailed once result.1.p0 (L.opened 0).faults (P.faults result.0.p0)
+        × HaveFailed P.counts_once result.1.p1 (L.opened 1).faults (P.faults result.0.p1)
+        × HaveFailed P.counts_once result.1.p2 (L.opened 2).faults (P.faults result.0.p2)
+        × HaveFailed P.counts_once result.1.p3 (L.opened 3).faults (P.faults result.0.p3) }
 {
     finish_all(&mut t0, &mut t1, &mut t2, &mut t3, &mut desk);
-    Closed {
+    let failures = Failures {
+        p0: t0.failed,
+        p1: t1.failed,
+        p2: t2.failed,
+        p3: t3.failed,
+    };
+    let closed = Closed {
         counts: [
             t0.shard.held(),
             t1.shard.held(),
@@ -146,7 +175,8 @@ fn close_tables<P: Port, L: Rates, G: Ledger, R: Ledger>(
         p1: t1.into_port(),
         p2: t2.into_port(),
         p3: t3.into_port(),
-    }
+    };
+    (closed, failures)
 }
 
 // Whether the counts are those of the book.
@@ -164,13 +194,57 @@ impl<P: Port + Send, L: Rates, G: Ledger, R: Ledger> Shared<P, L, G, R> {
     /// # Errors
     /// A `CloseFault` exactly where the seats' sums differ from the book's two counts. All seats
     /// together never differ.
-    pub fn close(self, mut seats: Vec<Seat<G, R>>) -> Result<Closed<P>, CloseFault<P, L, G, R>>
+    pub fn close(self, seats: Vec<Seat<G, R>>) -> Result<Closed<P>, CloseFault<P, L, G, R>>
         requires { (L.parts ≡ 4) × (G.parts ≡ L.seats) × (R.parts ≡ L.seats) }
         ensures verdicts { IfOk result (λ closed.
             (closed.granted ≡ granted_in seats.items)
             × (closed.refused ≡ refused_in seats.items)) }
         ensures total { IfOk result (λ closed. closed.total ≡ sum closed.counts) }
         ensures most { IfOk result (λ closed. closed.total ≤ L.most) }
+        // Each port is that of its table: what waits there is what the ledger names.
+        ensures opened { IfOk result (λ closed.
+            (P.waiting closed.p0 ≡ (L.opened 0).waiting)
+            × (P.waiting closed.p1 ≡ (L.opened 1).waiting)
+            × (P.waiting closed.p2 ≡ (L.opened 2).waiting)
+            × (P.waiting closed.p3 ≡ (L.opened 3).waiting)) }
+        ensures fault { IfErr result (λ fault.
+            (fault.seats_granted ≡ granted_in seats.items)
+            × (fault.seats_refused ≡ refused_in seats.items)
+            × (fault.seats.items ≡ seats.items)) }
+        ensures differ { IfErr result (λ fault.
+            ((fault.seats_granted ≡ fault.granted) × (fault.seats_refused ≡ fault.refused))
+            → ⊥) }
+        ensures all { vec_len seats ≡ L.seats → IsOk result }
+    {
+        match self.close_with_failures(seats) {
+            Ok((closed, _)) => Ok(closed),
+            Err(fault) => Err(fault),
+        }
+    }
+
+    /// Closes the tables as `close` does, and tells how many sends of their ports failed.
+    ///
+    /// # Errors
+    /// As `close`.
+    pub fn close_with_failures(
+        self,
+        mut seats: Vec<Seat<G, R>>,
+    ) -> Result<(Closed<P>, Failures), CloseFault<P, L, G, R>>
+        requires { (L.parts ≡ 4) × (G.parts ≡ L.seats) × (R.parts ≡ L.seats) }
+        ensures verdicts { IfOk result (λ r. (r.0.granted ≡ granted_in seats.items)
+            × (r.0.refused ≡ refused_in seats.items)) }
+        ensures total { IfOk result (λ r. r.0.total ≡ sum r.0.counts) }
+        ensures most { IfOk result (λ r. r.0.total ≤ L.most) }
+        ensures opened { IfOk result (λ r. (P.waiting r.0.p0 ≡ (L.opened 0).waiting)
+            × (P.waiting r.0.p1 ≡ (L.opened 1).waiting)
+            × (P.waiting r.0.p2 ≡ (L.opened 2).waiting)
+            × (P.waiting r.0.p3 ≡ (L.opened 3).waiting)) }
+        // Each failed send is a fault of that port, and there are no other faults.
+        ensures failures { IfOk result (λ r.
+            HaveFailed P.counts_once r.1.p0 (L.opened 0).faults (P.faults r.0.p0)
+            × HaveFailed P.counts_once r.1.p1 (L.opened 1).faults (P.faults r.0.p1)
+            × HaveFailed P.counts_once r.1.p2 (L.opened 2).faults (P.faults r.0.p2)
+            × HaveFailed P.counts_once r.1.p3 (L.opened 3).faults (P.faults r.0.p3)) }
         ensures fault { IfErr result (λ fault.
             (fault.seats_granted ≡ granted_in seats.items)
             × (fault.seats_refused ≡ refused_in seats.items)

@@ -1,5 +1,6 @@
-ghost use Rattle.std.specs.Prelude.{◌≡◌, ◌≤◌, None};
+ghost use Rattle.std.specs.Prelude.{◌≡◌, ◌≤◌, ℕ, None};
 ghost use Rattle.ptu_admit.specs.Book.{IsCapacity};
+ghost use Rattle.ptu_shared.specs.Opening.{untold_port};
 
 use super::*;
 use crate::tests::{ANNOUNCE, B, ONE, SYNC, Told, ZERO, ask, moment, turn};
@@ -201,6 +202,7 @@ fn open_held<'a, L: Rates, G: Ledger, R: Ledger, W: Wait + Abort>(
     requires capacity { IsCapacity capacity }
     requires most { capacity ≤ L.most }
     requires seats { L.seats ≡ 2 }
+    requires ports { (i : ℕ) → L.opened i ≡ untold_port }
 {
     let p0 = HeldPort { gate: Some(gate) };
     let p1 = HeldPort { gate: None };
@@ -243,6 +245,7 @@ where
     requires capacity { IsCapacity capacity }
     requires most { capacity ≤ L.most }
     requires seats { L.seats ≡ 2 }
+    requires ports { (i : ℕ) → L.opened i ≡ untold_port }
 {
     let (shared, _seat, _other) = open_held::<L, G, R, W>(
         rt, alloc, rates, granted, refused, capacity, gate,
@@ -310,6 +313,7 @@ where
     requires capacity { IsCapacity capacity }
     requires most { (capacity ≤ L.most) × (64 ≤ capacity) }
     requires seats { L.seats ≡ 2 }
+    requires ports { (i : ℕ) → L.opened i ≡ untold_port }
 {
     let (shared, seat, other) = open_held::<L, G, R, W>(
         rt, alloc, rates, granted, refused, capacity, gate,

@@ -17,7 +17,7 @@ mod seat;
 mod shared;
 mod table;
 
-pub use closing::CloseFault;
+pub use closing::{CloseFault, Failures};
 pub use rates::Rates;
 pub use seat::Seat;
 pub use shared::Shared;

@@ -1,22 +1,28 @@
 ghost use Rattle.std.specs.Prelude.{◌≡◌, ◌<◌, ◌+◌, ℕ};
+ghost use Rattle.ptu_shared.specs.Opening.{Seen, untold_port};
 
 use std::marker::Brand;
 use std::sync::ledger::{self, Ledger, Share};
 
-/// The ledger of rates, which has four parts, one for each table. It names two numbers more, which
-/// contracts alone see.
+/// The ledger of rates, which has four parts, one for each table. It names two numbers more and
+/// what the tables' ports were like, which contracts alone see.
 pub trait Rates: Ledger {
     /// The greatest capacity that may come into force, in sixteenths of a message per second.
     ghost most: { ℕ };
 
     /// How many seats there are. So many parts have the ledgers of verdicts.
     ghost seats: { ℕ };
+
+    /// What is seen of the port of the table of each index when it is opened.
+    ghost opened: { ℕ → Seen };
 }
 
 impl Rates for Brand {
     ghost most = { 0 };
 
     ghost seats = { 0 };
+
+    ghost opened = { λ _. untold_port };
 }
 
 // The share of a table went from the one to the other, and its part and the ledger's total go with

@@ -5,6 +5,7 @@ ghost use Rattle.ptu_shard.specs.Config.{IsWithinLimits};
 ghost use Rattle.ptu_admit.specs.Book.{IsCapacity};
 ghost use Rattle.ptu_shared.specs.Answers.{AnswersAsk};
 ghost use Rattle.ptu_shared.specs.Delays.{IsLaterIfTooSoon};
+ghost use Rattle.ptu_shared.specs.Opening.{seen_of};
 ghost use Rattle.ptu_shared.specs.Seats.{counting, no_verdicts};
 
 use crate::asking::{ask_all, ask_one};
@@ -71,6 +72,8 @@ impl<P: Port + Send, L: Rates, G: Ledger, R: Ledger> Shared<P, L, G, R> {
             × (R.parts ≡ L.seats) }
         requires capacity { IsCapacity capacity }
         requires most { capacity ≤ L.most }
+        requires ports { (seen_of P.Port p0 ≡ L.opened 0) × (seen_of P.Port p1 ≡ L.opened 1)
+            × (seen_of P.Port p2 ≡ L.opened 2) × (seen_of P.Port p3 ≡ L.opened 3) }
         requires seats { (1 ≤ seats) × (seats ≤ 64) × (seats ≡ L.seats) }
         ensures seats { IfOk result (λ made. made.1.items ≡ replicate seats no_verdicts) }
     {
@@ -108,7 +111,7 @@ impl<P: Port + Send, L: Rates, G: Ledger, R: Ledger> Shared<P, L, G, R> {
         requires ledger { L.parts ≡ 4 }
         requires limits { IsWithinLimits config.now }
         requires counts { (seat.old.granted < 2 ^ 48) × (seat.old.refused < 2 ^ 48) }
-        ensures verdict { IfOk result (AnswersAsk L.most config.now t ask.now) }
+        ensures verdict { IfOk result (AnswersAsk L.most config.now t client.now ask.now) }
         // The granted count rises by 1 exactly at Granted, the refused count exactly at Short.
         ensures seat { IfOk result (λ v. seat.new ≡ counting v seat.old) }
         ensures unchanged { OnErr result (seat.new ≡ seat.old) }
@@ -131,7 +134,8 @@ impl<P: Port + Send, L: Rates, G: Ledger, R: Ledger> Shared<P, L, G, R> {
     ) -> Result<Option<Verdict>, OutOfMemory>
         requires limits { IsWithinLimits config.now }
         requires counts { (seat.old.granted < 2 ^ 48) × (seat.old.refused < 2 ^ 48) }
-        ensures verdict { IfOk result (λ o. IfSome o (AnswersAsk L.most config.now t ask.now)) }
+        ensures verdict { IfOk result (λ o. IfSome o
+            (AnswersAsk L.most config.now t client.now ask.now)) }
         ensures seat { IfOk result (λ o. IfSome o (λ v. seat.new ≡ counting v seat.old)) }
         ensures none { IfOk result (λ o. IfNone o (seat.new ≡ seat.old)) }
         ensures unchanged { OnErr result (seat.new ≡ seat.old) }
@@ -159,7 +163,8 @@ impl<P: Port + Send, L: Rates, G: Ledger, R: Ledger> Shared<P, L, G, R> {
         requires table { table_of_client client.now ≡ J.index }
         requires limits { IsWithinLimits config.now }
         requires counts { (seat.old.granted < 2 ^ 48) × (seat.old.refused < 2 ^ 48) }
-        ensures verdict { IfOk result (λ o. IfSome o (AnswersAsk L.most config.now t ask.now)) }
+        ensures verdict { IfOk result (λ o. IfSome o
+            (AnswersAsk L.most config.now t client.now ask.now)) }
         ensures seat { IfOk result (λ o. IfSome o (λ v. seat.new ≡ counting v seat.old)) }
         ensures none { IfOk result (λ o. IfNone o (seat.new ≡ seat.old)) }
         ensures unchanged { OnErr result (seat.new ≡ seat.old) }
@@ -183,7 +188,7 @@ impl<P: Port + Send, L: Rates, G: Ledger, R: Ledger> Shared<P, L, G, R> {
         requires ledger { L.parts ≡ 4 }
         requires limits { IsWithinLimits config.now }
         requires counts { (seat.old.granted < 2 ^ 48) × (seat.old.refused < 2 ^ 48) }
-        ensures verdict { IfOk result (AnswersAsk L.most config.now t ask.now) }
+        ensures verdict { IfOk result (AnswersAsk L.most config.now t client.now ask.now) }
         ensures seat { IfOk result (λ v. seat.new ≡ counting v seat.old) }
         ensures unchanged { OnErr result (seat.new ≡ seat.old) }
     {

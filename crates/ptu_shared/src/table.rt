@@ -14,8 +14,10 @@ ghost use Rattle.ptu_shard.specs.Row.{share_of};
 ghost use Rattle.ptu_shard.specs.Table.{StandsBeside, StandsFor};
 ghost use Rattle.ptu_shard.specs.Turn.{due_messages};
 ghost use Rattle.ptu_shared.specs.Delays.{IsLaterIfTooSoon};
+ghost use Rattle.ptu_shared.specs.Opening.{AreCounted, seen_of};
 
 use crate::place::Place;
+use crate::rates::Rates;
 use ptu_header::Header;
 use ptu_history::Client;
 use ptu_outside::Port;
@@ -23,24 +25,40 @@ use ptu_shard::{Answered, GmConfig, Shard, Turned};
 use ptu_units::{Moment, OutOfMemory};
 use std::alloc::Global;
 use std::marker::PhantomData;
-use std::sync::ledger::{Ledger, Share};
+use std::sync::ledger::Share;
 
 // The table of leases at the place J, beside one part of the ledger of rates, whose amount is the
-// table's share.
+// table's share, and how many sends of its port failed. What waits at the port is what the ledger
+// names at the place, and its count of faults rose from there by the sends that failed.
 #[derive(Drop)]
-pub(crate) struct Table<P: Port, L: Ledger, J: Place> {
+pub(crate) struct Table<P: Port, L: Rates, J: Place> {
     pub shard: Shard<P>,
     pub part: Share<L>,
+    pub failed: u64,
     place: PhantomData<J>,
     ghost one: { part.parts ≡ 1 },
     ghost same: { part.amount ≡ share_of shard.rows },
+    ghost own_port: { P.waiting shard.port ≡ (L.opened J.index).waiting },
+    ghost failures: { AreCounted P.counts_once failed (L.opened J.index).faults
+        (P.faults shard.port) },
 }
 
-impl<P: Port, L: Ledger, J: Place> Table<P, L, J> {
+// How many sends failed.
+fn failed_of(answered: &Answered) -> u64
+    ensures { result ≡ failed_by answered.now }
+{
+    match answered {
+        Answered::Failed { .. } => 1,
+        Answered::Sent { .. } | Answered::NoGrant { .. } | Answered::TooSoon { .. } => 0,
+    }
+}
+
+impl<P: Port, L: Rates, J: Place> Table<P, L, J> {
     // A table without rows, with a part that has no amount.
     pub fn new(alloc: Global, port: P, part: Share<L>) -> Table<P, L, J>
         requires parts { part.parts ≡ 1 }
         requires amount { part.amount ≡ 0 }
+        requires port { seen_of P.Port port ≡ L.opened J.index }
         ensures rows { result.shard.rows ≡ [] }
         ensures port { result.shard.port ≡ port }
         ensures stands { (j : ℕ) → StandsFor j result.shard [] }
@@ -48,6 +66,7 @@ impl<P: Port, L: Ledger, J: Place> Table<P, L, J> {
         Table {
             shard: Shard::new(alloc, port),
             part,
+            failed: 0,
             place: PhantomData,
         }
     }
@@ -85,7 +104,9 @@ impl<P: Port, L: Ledger, J: Place> Table<P, L, J> {
             (history ++ (step opened history result.at (Turn j)).records) }
     {
         let _ = table;
-        self.shard.turn(config, t)
+        let turned = self.shard.turn(config, t);
+        self.failed = self.failed.saturating_add(turned.failed);
+        turned
     }
 
     // The answer to a Delay_Req of a client of the table, by `Shard::answer_delay`.
@@ -113,7 +134,9 @@ impl<P: Port, L: Ledger, J: Place> Table<P, L, J> {
             StandsFor (table_of client.now) self.new.shard
             (history ++ (step opened history self.new.shard.moment (DelayReq client.now)).records) }
     {
-        self.shard.answer_delay(config, t, client, request)
+        let answered = self.shard.answer_delay(config, t, client, request);
+        self.failed = self.failed.saturating_add(failed_of(&answered));
+        answered
     }
 
     // The port, as it is. The rest is dropped.
@@ -123,6 +146,7 @@ impl<P: Port, L: Ledger, J: Place> Table<P, L, J> {
         let Table {
             shard,
             part: _,
+            failed: _,
             place: _,
         } = self;
         shard.into_port()

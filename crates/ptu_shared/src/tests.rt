@@ -1,5 +1,6 @@
-ghost use Rattle.std.specs.Prelude.{◌≡◌, ◌≤◌, ◌<◌, None};
+ghost use Rattle.std.specs.Prelude.{◌≡◌, ◌≤◌, ◌<◌, ℕ, [], None, IfOk};
 ghost use Rattle.ptu_admit.specs.Book.{IsCapacity};
+ghost use Rattle.ptu_shared.specs.Opening.{idle_port};
 
 use super::*;
 use ptu_admit::{Closed, Verdict};
@@ -157,7 +158,9 @@ fn check_closed<P: Drop>(
 }
 
 // A port in memory with room.
-fn roomy(alloc: Global) -> Result<MemPort, Fail> {
+fn roomy(alloc: Global) -> Result<MemPort, Fail>
+    ensures { IfOk result (λ port. (port.waiting ≡ []) × (port.faults ≡ 0)) }
+{
     let mut port = MemPort::new(alloc, Vec::new(alloc), Vec::new(alloc), Vec::new(alloc));
     port.reserve(4, 4 * 64)?;
     Ok(port)
@@ -180,6 +183,7 @@ fn open<L: Rates, G: Ledger, R: Ledger>(
     requires capacity { IsCapacity capacity }
     requires most { capacity ≤ L.most }
     requires seats { (1 ≤ seats) × (seats ≤ 64) × (seats ≡ L.seats) }
+    requires ports { (i : ℕ) → L.opened i ≡ idle_port }
 {
     let p0 = roomy(alloc)?;
     let p1 = roomy(alloc)?;
@@ -252,6 +256,7 @@ fn admission<L: Rates, G: Ledger, R: Ledger, W: Wait + Abort>(
     requires capacity { IsCapacity capacity }
     requires most { capacity ≤ L.most }
     requires seats { L.seats ≡ 1 }
+    requires ports { (i : ℕ) → L.opened i ≡ idle_port }
 {
     let (shared, mut seats) = open::<L, G, R>(alloc, rates, granted, refused, capacity, 1)?;
     ask_for_both(rt, &shared, seats.as_mut_slice());
@@ -346,6 +351,7 @@ fn order<L: Rates, G: Ledger, R: Ledger, W: Wait + Abort>(
     requires capacity { IsCapacity capacity }
     requires most { capacity ≤ L.most }
     requires seats { L.seats ≡ 1 }
+    requires ports { (i : ℕ) → L.opened i ≡ idle_port }
 {
     let (shared, mut seats) = open::<L, G, R>(alloc, rates, granted, refused, capacity, 1)?;
     call_in_order(rt, &shared, seats.as_mut_slice());
@@ -403,6 +409,7 @@ fn shedding<L: Rates, G: Ledger, R: Ledger, W: Wait + Abort>(
     requires most { capacity ≤ L.most }
     requires enough { 8 ≤ capacity }
     requires seats { L.seats ≡ 1 }
+    requires ports { (i : ℕ) → L.opened i ≡ idle_port }
 {
     let (shared, mut seats) = open::<L, G, R>(alloc, rates, granted, refused, capacity, 1)?;
     lower_capacity(rt, &shared, seats.as_mut_slice());
@@ -479,6 +486,7 @@ where
     requires capacity { IsCapacity capacity }
     requires most { capacity ≤ L.most }
     requires seats { L.seats ≡ 2 }
+    requires ports { (i : ℕ) → L.opened i ≡ idle_port }
 {
     let (shared, mut seats) = open::<L, G, R>(alloc, rates, granted, refused, capacity, 2)?;
     let granted = Told::Granted {
@@ -496,4 +504,104 @@ where
 fn one_of_two_threads_is_short(rt: HostRuntime) -> Result<(), Fail> {
     let (rates, granted, refused) = (Blank::new(4), Blank::new(2), Blank::new(2));
     two_seats::<Brand, Brand, Brand, HostRuntime>(&rt, rt.alloc(), rates, granted, refused, 8)
+}
+
+// Closes with one of two seats, which has counted one grant. That is enough where the other has
+// counted nothing; else everything is handed back, and both are.
+fn close_with_one<L: Rates, G: Ledger, R: Ledger, W: Wait + Abort>(
+    rt: &W,
+    shared: Shared<MemPort, L, G, R>,
+    seats: Vec<Seat<G, R>>,
+    missing: Seat<G, R>,
+    counted: bool,
+)
+    requires { (L.parts ≡ 4) × (G.parts ≡ L.seats) × (R.parts ≡ L.seats) }
+{
+    match shared.close(seats) {
+        Ok(closed) => {
+            assert!(rt; !counted);
+            check_closed(rt, &closed, [0, 0, 8, 0], 1, 0);
+        }
+        Err(fault) => {
+            assert!(rt; counted);
+            close_with_both(rt, fault, missing);
+        }
+    }
+}
+
+// The missing seat has counted a refusal.
+fn close_with_both<L: Rates, G: Ledger, R: Ledger, W: Wait + Abort>(
+    rt: &W,
+    fault: CloseFault<MemPort, L, G, R>,
+    missing: Seat<G, R>,
+)
+    requires { (L.parts ≡ 4) × (G.parts ≡ L.seats) × (R.parts ≡ L.seats) }
+{
+    assert_eq!(rt; (fault.granted, fault.refused), (1, 1));
+    assert_eq!(rt; (fault.seats_granted, fault.seats_refused), (1, 0));
+    let CloseFault {
+        shared,
+        mut seats,
+        ..
+    } = fault;
+    assert_eq!(rt; seats.len(), 1);
+    seats.push(missing).expect(rt, "memory is found");
+    check_closed(rt, &close_all(rt, shared, seats), [0, 0, 8, 0], 1, 1);
+}
+
+// A is granted what is there from one of two seats; where the other counts too, B is short there.
+fn without_a_seat<L: Rates, G: Ledger, R: Ledger, W: Wait + Abort>(
+    rt: &W,
+    alloc: Global,
+    rates: Blank,
+    granted: Blank,
+    refused: Blank,
+    capacity: u64,
+    counted: bool,
+) -> Result<(), Fail>
+    requires rates { (rates.name ≡ L.name) × (rates.parts ≡ L.parts) × (L.parts ≡ 4) }
+    requires granted { (granted.name ≡ G.name) × (granted.parts ≡ G.parts)
+        × (G.parts ≡ L.seats) }
+    requires refused { (refused.name ≡ R.name) × (refused.parts ≡ R.parts)
+        × (R.parts ≡ L.seats) }
+    requires capacity { IsCapacity capacity }
+    requires most { capacity ≤ L.most }
+    requires seats { L.seats ≡ 2 }
+    requires ports { (i : ℕ) → L.opened i ≡ idle_port }
+{
+    let (shared, mut seats) = open::<L, G, R>(alloc, rates, granted, refused, capacity, 2)?;
+    let mut missing = seats.pop().expect(rt, "there are two seats");
+    let mut seat = seats.pop().expect(rt, "there are two seats");
+    let granted = Told::Granted {
+        at: 0,
+        until: 300_000_000_000,
+    };
+    assert_eq!(rt; ask(rt, &shared, &mut seat, 0, &A, ANNOUNCE, 1), granted);
+    if counted {
+        let short = Told::Short {
+            at: 0,
+            others: 8,
+            rate: 1,
+            capacity: 8,
+        };
+        assert_eq!(rt; ask(rt, &shared, &mut missing, 0, &B, ANNOUNCE, 4), short);
+    }
+    seats.push(seat)?;
+    close_with_one(rt, shared, seats, missing, counted);
+    Ok(())
+}
+
+fn close_without_a_seat<W: Wait + Abort>(rt: &W, alloc: Global, counted: bool) -> Result<(), Fail> {
+    let (rates, granted, refused) = (Blank::new(4), Blank::new(2), Blank::new(2));
+    without_a_seat::<Brand, Brand, Brand, W>(rt, alloc, rates, granted, refused, 8, counted)
+}
+
+#[test]
+fn a_seat_that_has_counted_is_missed(rt: HostRuntime) -> Result<(), Fail> {
+    close_without_a_seat(&rt, rt.alloc(), true)
+}
+
+#[test]
+fn a_seat_that_has_counted_nothing_is_not_missed(rt: HostRuntime) -> Result<(), Fail> {
+    close_without_a_seat(&rt, rt.alloc(), false)
 }

@@ -1,3 +1,4 @@
+use Rattle.ptu_shared.proofs.Failing.{failed_of}
 use Rattle.ptu_shared.proofs.Shares.{same_four, swept_share}
 use Rattle.ptu_shared.proofs.closing.close_tables.Goals as goal
 
@@ -9,3 +10,12 @@ returns-clause-counts g c =
     (swept_share _ c.args.t1.shard c.finish_all.new.t1.shard _ swept.1 c.held-2.ensures.share)
     (swept_share _ c.args.t2.shard c.finish_all.new.t2.shard _ swept.2 c.held-3.ensures.share)
     (swept_share _ c.args.t3.shard c.finish_all.new.t3.shard _ swept.3 c.held-4.ensures.share)
+
+pub returns-clause-failures : goal.returns-clause-failures
+returns-clause-failures g c =
+    rw (c.into_port.ensures, c.into_port-2.ensures, c.into_port-3.ensures, c.into_port-4.ensures) (
+      failed_of _ _ _ _ c.finish_all.new.t0.failures,
+      failed_of _ _ _ _ c.finish_all.new.t1.failures,
+      failed_of _ _ _ _ c.finish_all.new.t2.failures,
+      failed_of _ _ _ _ c.finish_all.new.t3.failures,
+    )

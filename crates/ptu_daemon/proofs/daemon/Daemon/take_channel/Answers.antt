@@ -46,7 +46,7 @@ plus-requires-clause-failed g c = room c.loop.counter c.loop.tally.failed 1 c.lo
 pub returns-in-Failed-clause-took : goal.returns-in-Failed-clause-took
 returns-in-Failed-clause-took g c =
     rw (c.plus.ensures)
-    (took_failed g.P.Port g.C.Clock c.args.channel c.args.self.now c.loop.self c.take_next.new.self c.loop.counter c.loop.tally c.loop.invariant
+    (took_failed g.P.Port g.C.Clock c.args.channel c.args.self.now c.loop.self c.take_next.new.self c.loop.counter c.loop.tally (omega (arith, c.loop-test.true)) c.loop.invariant
     (subst (λ next. CameTo g.P.Port g.C.Clock c.args.channel c.loop.self c.take_next.new.self next) c.in-Failed.is c.in_ok-more.ensures))
 
 pub returns-in-Failed-clause-small : goal.returns-in-Failed-clause-small

@@ -1,2 +1,0 @@
-mod Controlled
-mod Stretching

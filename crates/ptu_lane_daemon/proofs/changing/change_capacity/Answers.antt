@@ -1,4 +1,0 @@
-use Rattle.ptu_lane_daemon.proofs.changing.change_capacity.Goals as goal
-
-pub returns-clause-sends : goal.returns-clause-sends
-returns-clause-sends g c = (_, _, _, c.send_cancels-sends.ensures.sends)

@@ -1,4 +1,0 @@
-pub mod Changing
-pub mod Stretches
-pub mod Served
-pub mod Samples

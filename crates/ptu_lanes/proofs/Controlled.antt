@@ -1,0 +1,327 @@
+-- The rounds before a change of capacity, the CANCELs, and the other rounds, one after the other.
+use Rattle.std.proofs.Common.{◌≡◌, ◌∙◌, ℕ, suc, zero, ◌+◌, ◌*◌, ◌-◌, ◌^◌, ◌≤◌, min, Bool, true, ◌++◌, List, [], ◌∷◌, take, drop, refl, sym, ap, subst, arith, Option, Some, None, Result, Ok, Err}
+use Rattle.std.specs.Prelude.{IfNone, IfOk, IfSome}
+use Rattle.std.specs.List.{All}
+use Rattle.std.proofs.lemmas.List.{append-nil, drop-drop, map-append}
+use Rattle.std.proofs.lemmas.List.Elements.{All-append}
+use Rattle.std.proofs.lemmas.List.Sums.{sum_by-append}
+use Rattle.std.proofs.Math.Seq.{take-add}
+use Rattle.ptu_units.specs.declared.kind.Kind.{Kind}
+use Rattle.ptu_outside.specs.declared.arrival.Arrival.{Arrival}
+use Rattle.ptu_outside.specs.declared.opened.Opened.{Opened}
+use Rattle.ptu_outside.specs.declared.clock.Clock.{Ghosts as Clocks}
+use Rattle.ptu_outside.specs.declared.port.Port.{Ghosts as Ports}
+use Rattle.ptu_outside.specs.Telling.{IfTold}
+use Rattle.ptu_outside.proofs.Telling.{IfTold-refl}
+use Rattle.ptu_outside.specs.Faults.{HasRisen, HasNotFallen}
+use Rattle.ptu_outside.specs.HandsOver.{HandsOver}
+use Rattle.ptu_outside.proofs.HandsOver.{goes_on_both, none_failed, not_fallen_both, rises_first, rises_second, told_both}
+use Rattle.ptu_outside.proofs.Told.{HasRisenBy-after, HasRisenBy-before}
+use Rattle.ptu_history.specs.declared.client.Client.{Client}
+use Rattle.ptu_shard.specs.declared.config.GmConfig.{GmConfig}
+use Rattle.ptu_shared.specs.Opening.{HaveFailed, Seen, seen_of}
+use Rattle.ptu_shared.specs.Seats.{Counts, no_verdicts}
+use Rattle.ptu_shared.proofs.Failing.{failed_hands, failed_none}
+use Rattle.ptu_items.specs.Replies.{cancels_to}
+use Rattle.ptu_config.specs.declared.settings.GmSettings.{GmSettings}
+use Rattle.ptu_lanes.specs.Answers.{asks_among, grants_among}
+use Rattle.ptu_rounds.specs.Ports.{HaveRisenBy, HaveRisenJust}
+use Rattle.ptu_lanes.specs.declared.lanes.SendingLanes.{SendingLanes}
+use Rattle.ptu_lanes.specs.declared.serving.Totals.{Totals}
+use Rattle.ptu_lanes.specs.Rounds.{Exchange, Exchanged, IsAnswered, asks_in, datagrams, grants_in, items_of, replies}
+use Rattle.ptu_lanes.specs.Sending.{GoesOn, WasSent}
+use Rattle.ptu_lanes.specs.Waiting.{GaveFirst, PassedBy, Took}
+use Rattle.ptu_lanes.specs.Changing.{change_moments, change_of, early_rounds, greatest_capacity, moments_to, rounds_before}
+use Rattle.ptu_lanes.specs.Served.{IsControlled, ServesByLanes, TablesAreBack, numbers_of, waits_of}
+use Rattle.ptu_lanes.specs.Stretches.{AreRounds, CountsFailures, HaveTurned, TookSignaling}
+use Rattle.ptu_lanes.proofs.Exchanges.{exchanged-append, exchanged_nothing}
+use Rattle.ptu_lanes.proofs.Stretching.{counts_more, some_more, told_is}
+
+-- ---- fronts and rests of a list
+
+pub datagrams-append : (xs ys : List Exchange) → datagrams (xs ++ ys) ≡ datagrams xs ++ datagrams ys
+datagrams-append xs ys = map-append (λ (e : Exchange). e.datagram) xs ys
+
+pub grants_in-append : (xs ys : List Exchange) → grants_in (xs ++ ys) ≡ grants_in xs + grants_in ys
+grants_in-append xs ys = sum_by-append (λ (e : Exchange). grants_among e.answers) xs ys
+
+pub asks_in-append : (config : GmConfig) (xs ys : List Exchange) → asks_in config (datagrams (xs ++ ys)) ≡ asks_in config (datagrams xs) + asks_in config (datagrams ys)
+asks_in-append config xs ys =
+    ap (asks_in config) (datagrams-append xs ys) ∙ sum_by-append (λ d. asks_among (items_of config d)) (datagrams xs) (datagrams ys)
+
+-- 64 for each of e rounds, and then for each of the others
+pub take_rounds : (all e l : ℕ) (waited : List Arrival) → e + l ≡ all → take (64 * e) waited ++ take (64 * l) (drop (64 * e) waited) ≡ take (64 * all) waited
+take_rounds all e l waited is =
+    sym (take-add (64 * e) (64 * l) waited) ∙ ap (λ n. take n waited) (omega (arith, is))
+
+pub drop_rounds : (all e l : ℕ) (waited : List Arrival) → e + l ≡ all → drop (64 * l) (drop (64 * e) waited) ≡ drop (64 * all) waited
+drop_rounds all e l waited is = drop-drop (64 * l) (64 * e) waited ∙ ap (λ n. drop n waited) (omega (arith, is))
+
+-- ---- no change
+
+unchanged_rounds : (settings : GmSettings) → change_of settings ≡ None → early_rounds settings ≡ settings.rounds
+unchanged_rounds settings none = ap (rounds_before settings) none
+
+no_change : (change : Option ℕ) → IfNone change (◌≡◌ {A = List (Client × Kind)} [] [])
+no_change None = refl
+no_change (Some capacity) = tt
+
+controlled_unchanged : {P : Type 0} (ports : Ports P) (settings : GmSettings) (config : GmConfig) (port port' : P) (left : List Arrival) (old new : Counts) →
+    change_of settings ≡ None → old ≡ no_verdicts → AreRounds ports config settings.rounds port port' left old new →
+    IsControlled ports settings config port port' left new.granted new.refused
+controlled_unchanged ports settings config port port' left old new none fresh r =
+    let all : r.exchanges ++ [] ≡ r.exchanges = append-nil r.exchanges in
+    let granted : old.granted ≡ 0 = ap (λ (c : Counts). c.granted) fresh in
+    let refused : old.refused ≡ 0 = ap (λ (c : Counts). c.refused) fresh in
+    let sent : replies config r.exchanges ++ [] ++ [] ≡ replies config r.exchanges =
+    append-nil (replies config r.exchanges ++ []) ∙ append-nil (replies config r.exchanges) in
+    record {
+      waited = r.waited;
+      all = r.all;
+      early = r.exchanges;
+      shed = [];
+      late = [];
+      early_are = r.first ∙ sym (ap (λ n. take (64 * n) r.waited) (unchanged_rounds settings none));
+      all_are = ap datagrams all ∙ r.first;
+      rest = r.rest;
+      unchanged = no_change (change_of settings);
+      answered = subst (All (IsAnswered config)) (sym all) r.answered;
+      told = subst (λ ds. WasSent ports port port' ds) (sym sent) r.told;
+      goes_on = subst (λ ds. GoesOn ports port port' ds) (sym sent) r.goes_on;
+      granted_are = let g = r.granted in omega (arith, granted, g, ap grants_in all);
+      counted = let n = r.counted in omega (arith, granted, refused, n, ap (λ es. asks_in config (datagrams es)) all);
+    }
+
+pub unchanged_controlled : {P : Type 0} (ports : Ports P) (settings : GmSettings) (config : GmConfig) (port port' : P) (old new : Counts) →
+    change_of settings ≡ None → old ≡ no_verdicts → IfSome (ports.waiting port') (λ later. AreRounds ports config settings.rounds port port' later old new) →
+    IfSome (ports.waiting port') (λ later. IsControlled ports settings config port port' later new.granted new.refused)
+unchanged_controlled ports settings config port port' old new none fresh r =
+    some_more (ports.waiting port') _ _ (λ left. controlled_unchanged ports settings config port port' left old new none fresh) r
+
+-- ---- a change
+
+changed_rounds : (settings : GmSettings) (capacity : ℕ) → change_of settings ≡ Some capacity → early_rounds settings ≡ settings.change_round - 1
+changed_rounds settings capacity some = ap (rounds_before settings) some
+
+some_change : (change : Option ℕ) (capacity : ℕ) (shed : List (Client × Kind)) → change ≡ Some capacity → IfNone change (shed ≡ [])
+some_change None capacity shed is = absurd (cc is)
+some_change (Some more) capacity shed is = tt
+
+-- the CANCELs were sent to a port of which p1 is the port before and p2 the port after
+controlled_some : {P : Type 0} (ports : Ports P) (settings : GmSettings) (config : GmConfig) (capacity e l : ℕ) (shed : List (Client × Kind)) (p0 p1 p2 p3 : P) (left : List Arrival)
+    (old seat new : Counts) (sent failed : ℕ) →
+    change_of settings ≡ Some capacity → e ≡ settings.change_round - 1 → e + l ≡ settings.rounds → old ≡ no_verdicts →
+    IfSome (ports.waiting p1) (λ later. AreRounds ports config e p0 p1 later old seat) →
+    HandsOver ports p1 p2 (cancels_to config 0 shed) sent failed → ¬ HasRisen (ports.faults p1) (ports.faults p2) →
+    AreRounds ports config l p2 p3 left seat new →
+    IsControlled ports settings config p0 p3 left new.granted new.refused
+controlled_some ports settings config capacity e l shed p0 p1 p2 p3 left old seat new sent failed some early_is all_is fresh early hands still q =
+    let p = told_is (ports.waiting p1) (λ later. AreRounds ports config e p0 p1 later old seat) q.waited (sym hands.waiting ∙ q.all) early in
+    let none : failed ≡ 0 = none_failed failed (ports.faults p1) (ports.faults p2) hands.risen still in
+    let granted : old.granted ≡ 0 = ap (λ (c : Counts). c.granted) fresh in
+    let refused : old.refused ≡ 0 = ap (λ (c : Counts). c.refused) fresh in
+    let same : q.waited ≡ drop (64 * e) p.waited = p.rest in
+    let later : datagrams q.exchanges ≡ take (64 * l) (drop (64 * e) p.waited) = q.first ∙ ap (take (64 * l)) same in
+    record {
+      waited = p.waited;
+      all = p.all;
+      early = p.exchanges;
+      shed = shed;
+      late = q.exchanges;
+      early_are = p.first ∙ ap (λ n. take (64 * n) p.waited) (early_is ∙ sym (changed_rounds settings capacity some));
+      all_are = datagrams-append p.exchanges q.exchanges ∙ ap (λ xs. xs ++ datagrams q.exchanges) p.first
+          ∙ ap (λ ys. take (64 * e) p.waited ++ ys) later ∙ take_rounds settings.rounds e l p.waited all_is;
+      rest = q.rest ∙ ap (drop (64 * l)) same ∙ drop_rounds settings.rounds e l p.waited all_is;
+      unchanged = some_change (change_of settings) capacity shed some;
+      answered = All-append (IsAnswered config) p.exchanges q.exchanges p.answered q.answered;
+      told = told_both (ports.sent p0) (ports.sent p2) (ports.sent p3) (replies config p.exchanges ++ cancels_to config 0 shed) (replies config q.exchanges)
+          (told_both (ports.sent p0) (ports.sent p1) (ports.sent p2) (replies config p.exchanges) (cancels_to config 0 shed) p.told (hands.all still)) q.told;
+      goes_on = goes_on_both ports.ceases_at (replies config p.exchanges ++ cancels_to config 0 shed) (replies config q.exchanges) (ports.has_ceased p0) (ports.has_ceased p2) (ports.has_ceased p3)
+          (goes_on_both ports.ceases_at (replies config p.exchanges) (cancels_to config 0 shed) (ports.has_ceased p0) (ports.has_ceased p1) (ports.has_ceased p2) p.goes_on (hands.goes_on none)) q.goes_on;
+      granted_are = let a = p.granted in let b = q.granted in omega (arith, granted, a, b, grants_in-append p.exchanges q.exchanges);
+      counted = let a = p.counted in let b = q.counted in omega (arith, granted, refused, a, b, asks_in-append config p.exchanges q.exchanges);
+    }
+
+-- rounds, the CANCELs of a change, and rounds, over the counts of faults of the port
+pub controlled_changed : {P C : Type 0} (ports : Ports P) (clocks : Clocks C) (settings : GmSettings) (config : GmConfig) (capacity e l : ℕ) (p0 p1 p2 p3 : P) (c0 c1 c2 c3 : C) (first seat next last : Counts) (f0 f1 f2 f3 : ℕ) →
+    change_of settings ≡ Some capacity → e ≡ settings.change_round - 1 → e + l ≡ settings.rounds → first ≡ no_verdicts →
+    TookSignaling ports clocks config e p0 p1 c0 c1 first seat f0 f1 →
+    (shed : List (Client × Kind)) × (sent : ℕ) × (failed : ℕ) × HandsOver ports p1 p2 (cancels_to config 0 shed) sent failed
+    × (f2 ≡ min (f1 + failed) (2 ^ 64 - 1)) → next ≡ seat →
+    TookSignaling ports clocks config l p2 p3 c2 c3 next last f2 f3 →
+    ¬ HasRisen (ports.faults p0) (ports.faults p3) →
+    IfSome (ports.waiting p3) (λ later. IsControlled ports settings config p0 p3 later last.granted last.refused)
+controlled_changed ports clocks settings config capacity e l p0 p1 p2 p3 c0 c1 c2 c3 first seat next last f0 f1 f2 f3 some early_is all_is fresh p (shed, sent, failed, hands, counted) same_seat q still =
+    some_more (ports.waiting p3) _ _
+    (λ left late. controlled_some ports settings config capacity e l shed p0 p1 p2 p3 left first seat last sent failed some early_is all_is fresh (p.did still1) hands still2
+    (subst (λ s. AreRounds ports config l p2 p3 left s last) same_seat late))
+    (q.did still3)
+  where
+    f01 : HasNotFallen (ports.faults p0) (ports.faults p1)
+    f01 = p.no_fall
+
+    f12 : HasNotFallen (ports.faults p1) (ports.faults p2)
+    f12 = hands.no_fall
+
+    f23 : HasNotFallen (ports.faults p2) (ports.faults p3)
+    f23 = q.no_fall
+
+    still1 : ¬ HasRisen (ports.faults p0) (ports.faults p1)
+    still1 rises = still (rises_first _ _ _ rises (not_fallen_both _ _ _ f12 f23))
+
+    still2 : ¬ HasRisen (ports.faults p1) (ports.faults p2)
+    still2 rises = still (rises_second _ _ _ f01 (rises_first _ _ _ rises f23))
+
+    still3 : ¬ HasRisen (ports.faults p2) (ports.faults p3)
+    still3 rises = still (rises_second _ _ _ (not_fallen_both _ _ _ f01 f12) rises)
+
+-- what was taken in both stretches, the change between them
+pub exchanged_changed : {P C : Type 0} (ports : Ports P) (clocks : Clocks C) (settings : GmSettings) (config : GmConfig) (capacity e l : ℕ) (p0 p1 p2 p3 : P) (c0 c1 c2 c3 : C) (first seat next last : Counts) (f0 f1 f2 f3 : ℕ) →
+    change_of settings ≡ Some capacity → e + l ≡ settings.rounds → first ≡ no_verdicts → TookSignaling ports clocks config e p0 p1 c0 c1 first seat f0 f1 →
+    (shed : List (Client × Kind)) × (sent : ℕ) × (failed : ℕ) × HandsOver ports p1 p2 (cancels_to config 0 shed) sent failed
+    × (f2 ≡ min (f1 + failed) (2 ^ 64 - 1)) → PassedBy 1 (clocks.moments c1) (clocks.moments c2) → next ≡ seat →
+    TookSignaling ports clocks config l p2 p3 c2 c3 next last f2 f3 →
+    Exchanged ports clocks config (64 * settings.rounds) (change_moments settings) p0 p3 c0 c3 no_verdicts last
+exchanged_changed ports clocks settings config capacity e l p0 p1 p2 p3 c0 c1 c2 c3 first seat next last f0 f1 f2 f3 some all_is fresh p (shed, sent, failed, hands, counted) moved same_seat q =
+    let moments : 0 + (1 + 0) ≡ change_moments settings = sym (ap moments_to some) in
+    let all : 64 * e + (0 + 64 * l) ≡ 64 * settings.rounds = omega (arith, all_is) in
+    exchanged-append ports clocks config (64 * settings.rounds) (64 * e) (0 + 64 * l) 0 (1 + 0) (change_moments settings) p0 p1 p3 c0 c1 c3 no_verdicts seat last all moments
+    (subst (λ s. Exchanged ports clocks config (64 * e) 0 p0 p1 c0 c1 s seat) fresh p.exchanged)
+    (exchanged-append ports clocks config (0 + 64 * l) 0 (64 * l) 1 0 (1 + 0) p1 p2 p3 c1 c2 c3 seat seat last refl refl
+    (exchanged_nothing ports clocks config 1 p1 p2 c1 c2 seat (subst (λ told. IfTold told (ports.waiting p1)) (sym hands.waiting) (IfTold-refl (ports.waiting p1))) moved)
+    (subst (λ s. Exchanged ports clocks config (64 * l) 0 p2 p3 c2 c3 s last) same_seat q.exchanged))
+
+pub exchanged_unchanged : {P C : Type 0} (ports : Ports P) (clocks : Clocks C) (settings : GmSettings) (config : GmConfig) (p0 p1 : P) (c0 c1 : C) (old new : Counts) →
+    change_of settings ≡ None → old ≡ no_verdicts → Exchanged ports clocks config (64 * settings.rounds) 0 p0 p1 c0 c1 old new →
+    Exchanged ports clocks config (64 * settings.rounds) (change_moments settings) p0 p1 c0 c1 no_verdicts new
+exchanged_unchanged ports clocks settings config p0 p1 c0 c1 old new none fresh e =
+    subst (λ n. Exchanged ports clocks config (64 * settings.rounds) n p0 p1 c0 c1 no_verdicts new) (sym (ap moments_to none))
+    (subst (λ s. Exchanged ports clocks config (64 * settings.rounds) 0 p0 p1 c0 c1 s new) fresh e)
+
+-- what failed, from a count of nothing on
+pub failed_from : {P : Type 0} (ports : Ports P) (p0 p1 : P) (f0 f1 : ℕ) → f0 ≡ 0 → CountsFailures ports.counts_once (ports.faults p0) (ports.faults p1) f0 f1 →
+    HaveFailed ports.counts_once f1 (ports.faults p0) (ports.faults p1)
+failed_from ports p0 p1 f0 f1 none p =
+    p (ports.faults p0) (subst (λ n. HaveFailed ports.counts_once n (ports.faults p0) (ports.faults p0)) (sym none) (failed_none ports.counts_once (ports.faults p0)))
+
+pub failed_changed : {P : Type 0} (ports : Ports P) (config : GmConfig) (p0 p1 p2 p3 : P) (f0 f1 f2 f3 : ℕ) → f0 ≡ 0 →
+    CountsFailures ports.counts_once (ports.faults p0) (ports.faults p1) f0 f1 →
+    (shed : List (Client × Kind)) × (sent : ℕ) × (failed : ℕ) × HandsOver ports p1 p2 (cancels_to config 0 shed) sent failed
+    × (f2 ≡ min (f1 + failed) (2 ^ 64 - 1)) → CountsFailures ports.counts_once (ports.faults p2) (ports.faults p3) f2 f3 →
+    HaveFailed ports.counts_once f3 (ports.faults p0) (ports.faults p3)
+failed_changed ports config p0 p1 p2 p3 f0 f1 f2 f3 none p (shed, sent, failed, hands, counted) q =
+    q (ports.faults p0)
+    (counts_more ports.counts_once (ports.faults p1) (ports.faults p2) f1 failed f2 (failed_hands ports p1 p2 (cancels_to config 0 shed) sent failed hands) counted
+    (ports.faults p0) (failed_from ports p0 p1 f0 f1 none p))
+
+-- ---- the event channel
+
+pub gave_more : (all e l : ℕ) (waiting middle left : Option (List Arrival)) (start old end : ℕ) → e + l ≡ all →
+    (¬ HasRisen start old → GaveFirst (64 * e) waiting middle) → HasNotFallen start old →
+    (¬ HasRisen old end → GaveFirst (64 * l) middle left) → HasNotFallen old end →
+    ¬ HasRisen start end → GaveFirst (64 * all) waiting left
+gave_more all e l waiting middle None start old end is p fall1 q fall2 still = tt
+gave_more all e l waiting None (Some later) start old end is p fall1 q fall2 still =
+    let gave = q (λ rises. still (HasRisenBy-before 1 start old end fall1.0 rises)) in
+    absurd (cc gave.1)
+gave_more all e l waiting (Some more) (Some later) start old end is p fall1 q fall2 still =
+    let gave = q (λ rises. still (HasRisenBy-before 1 start old end fall1.0 rises)) in
+    let before = p (λ rises. still (HasRisenBy-after 1 start old end fall2.0 rises)) in
+    let same : gave.0 ≡ drop (64 * e) before.0 = cc (gave.1, before.2) in
+    (before.0, before.1, gave.2 ∙ ap (drop (64 * l)) same ∙ drop_rounds all e l before.0 is)
+
+-- ---- facts on what was answered
+
+pub if_ok : {A E : Type 0} (r : Result A E) (P Q : A → Type 0) → ((x : A) → P x → Q x) → IfOk r P → IfOk r Q
+if_ok (Ok x) P Q makes p = makes x p
+if_ok (Err e) P Q makes p = tt
+
+pub five_ok : {A E : Type 0} (r : Result A E) (P Q R S T U : A → Type 0) → ((x : A) → P x → Q x → R x → S x → T x → U x) → IfOk r P → IfOk r Q → IfOk r R → IfOk r S → IfOk r T → IfOk r U
+five_ok (Ok x) P Q R S T U makes p q r s t = makes x p q r s t
+five_ok (Err e) P Q R S T U makes p q r s t = tt
+
+-- ---- the whole
+
+still_idle : {P C : Type 0} (ports : Ports P) (opened closed : Opened P C) (seen : ℕ → Seen) →
+    (seen_of ports opened.p0 ≡ seen 0) × (seen_of ports opened.p1 ≡ seen 1) × (seen_of ports opened.p2 ≡ seen 2) × (seen_of ports opened.p3 ≡ seen 3) →
+    (ports.waiting closed.p0 ≡ (seen 0).waiting) × (ports.waiting closed.p1 ≡ (seen 1).waiting) × (ports.waiting closed.p2 ≡ (seen 2).waiting) × (ports.waiting closed.p3 ≡ (seen 3).waiting) →
+    (i : ℕ) → waits_of ports closed i ≡ waits_of ports opened i
+still_idle ports opened closed seen p q zero = q.0 ∙ sym (ap (λ (s : Seen). s.waiting) p.0)
+still_idle ports opened closed seen p q (suc zero) = q.1 ∙ sym (ap (λ (s : Seen). s.waiting) p.1)
+still_idle ports opened closed seen p q (suc (suc zero)) = q.2 ∙ sym (ap (λ (s : Seen). s.waiting) p.2)
+still_idle ports opened closed seen p q (suc (suc (suc n))) = q.3 ∙ sym (ap (λ (s : Seen). s.waiting) p.3)
+
+-- what failed at six ports
+module _ (once : Bool) (n a b c d e f a0 b0 c0 d0 e0 f0 a1 b1 c1 d1 e1 f1 : ℕ) (all : n ≡ a + (b + (c + (d + (e + (f + 0))))))
+    (p : HaveFailed once a a0 a1) (q : HaveFailed once b b0 b1) (r : HaveFailed once c c0 c1) (s : HaveFailed once d d0 d1) (t : HaveFailed once e e0 e1) (u : HaveFailed once f f0 f1) where
+  six_risen : HaveRisenBy n (a0 ∷ b0 ∷ c0 ∷ d0 ∷ e0 ∷ f0 ∷ []) (a1 ∷ b1 ∷ c1 ∷ d1 ∷ e1 ∷ f1 ∷ [])
+  six_risen = (a, _, all, p.risen, (b, _, refl, q.risen, (c, _, refl, r.risen, (d, _, refl, s.risen, (e, _, refl, t.risen, (f, 0, refl, u.risen, refl))))))
+
+  six_just : once ≡ true → HaveRisenJust n (a0 ∷ b0 ∷ c0 ∷ d0 ∷ e0 ∷ f0 ∷ []) (a1 ∷ b1 ∷ c1 ∷ d1 ∷ e1 ∷ f1 ∷ [])
+  six_just is = (a, _, all, p.just is, (b, _, refl, q.just is, (c, _, refl, r.just is, (d, _, refl, s.just is, (e, _, refl, t.just is, (f, 0, refl, u.just is, refl))))))
+
+  six_quiet : n ≡ 0 → (a1 ∷ b1 ∷ c1 ∷ d1 ∷ e1 ∷ f1 ∷ []) ≡ (a0 ∷ b0 ∷ c0 ∷ d0 ∷ e0 ∷ f0 ∷ [])
+  six_quiet none =
+      let p1 : a1 ≡ a0 = p.quiet (omega (arith, all, none)) in
+      let q1 : b1 ≡ b0 = q.quiet (omega (arith, all, none)) in
+      let r1 : c1 ≡ c0 = r.quiet (omega (arith, all, none)) in
+      let s1 : d1 ≡ d0 = s.quiet (omega (arith, all, none)) in
+      let t1 : e1 ≡ e0 = t.quiet (omega (arith, all, none)) in
+      let u1 : f1 ≡ f0 = u.quiet (omega (arith, all, none)) in
+      cc
+
+-- lanes at their end, whose ports, clocks and counts are those that are given back
+pub serves_by_lanes : {P C : Type 0} (ports : Ports P) (clocks : Clocks C) (settings : GmSettings) (config : GmConfig) (opened closed : Opened P C) (totals : Totals) (control event : P) (c0 c1 : C)
+    (begun turned : SendingLanes C) (counts : Counts) (failed missed most : ℕ) (seen : ℕ → Seen) →
+    most ≡ greatest_capacity settings →
+    (seen_of ports opened.p0 ≡ seen 0) × (seen_of ports opened.p1 ≡ seen 1) × (seen_of ports opened.p2 ≡ seen 2) × (seen_of ports opened.p3 ≡ seen 3) →
+    (begun.first.clock ≡ opened.c2) × (begun.second.clock ≡ opened.c3) × (begun.third.clock ≡ opened.c4) × (begun.fourth.clock ≡ opened.c5) →
+    (¬ HasRisen (ports.faults opened.p4) (ports.faults control) → IfSome (ports.waiting control) (λ left.
+    IsControlled ports settings config opened.p4 control left counts.granted counts.refused)) →
+    Exchanged ports clocks config (64 * settings.rounds) (change_moments settings) opened.p4 control opened.c0 c0 no_verdicts counts →
+    (¬ HasRisen (ports.faults opened.p5) (ports.faults event) → GaveFirst (64 * settings.rounds) (ports.waiting opened.p5) (ports.waiting event)) →
+    Took ports clocks (64 * settings.rounds) 0 opened.p5 event opened.c1 c1 →
+    ports.sent event ≡ ports.sent opened.p5 → ports.has_ceased event ≡ ports.has_ceased opened.p5 →
+    HaveTurned clocks settings.senders settings.rounds begun turned →
+    HaveFailed ports.counts_once failed (ports.faults opened.p4) (ports.faults control) → HaveFailed ports.counts_once missed (ports.faults opened.p5) (ports.faults event) →
+    (closed.p4 ≡ control) × (closed.p5 ≡ event) →
+    (closed.c0 ≡ c0) × (closed.c1 ≡ c1) × (closed.c2 ≡ turned.first.clock) × (closed.c3 ≡ turned.second.clock) × (closed.c4 ≡ turned.third.clock) × (closed.c5 ≡ turned.fourth.clock) →
+    TablesAreBack ports seen closed totals.failed failed missed →
+    (totals.granted ≡ counts.granted) × (totals.refused ≡ counts.refused) → totals.held ≤ most →
+    ServesByLanes ports clocks settings config opened closed (numbers_of totals)
+serves_by_lanes ports clocks settings config opened closed totals control event c0 c1 begun turned counts failed missed most seen is opens begins controlled exchanged gave took unsent goes_on turns of_control of_event same moved back counted within =
+    record {
+      within = omega (arith, is, within);
+      control = rw (same.0, counted.0, counted.1) controlled;
+      exchanged = rw (same.0, moved.0, counted.0, counted.1) exchanged;
+      event = rw (same.1) gave;
+      took = rw (same.1, moved.1) took;
+      unsent = ap ports.sent same.1 ∙ unsent;
+      goes_on = ap ports.has_ceased same.1 ∙ goes_on;
+      turned0 = rw (moved.2) (rw begins.0 at turns.first);
+      turned1 = rw (moved.3) (rw begins.1 at turns.second);
+      turned2 = rw (moved.4) (rw begins.2 at turns.third);
+      turned3 = rw (moved.5) (rw begins.3 at turns.fourth);
+      idle = still_idle ports opened closed seen opens back.waits;
+      failed = six_risen ports.counts_once totals.failed back.of0 back.of1 back.of2 back.of3 failed missed _ _ _ _ _ _ _ _ _ _ _ _ back.all of_0 of_1 of_2 of_3 of_4 of_5;
+      just = six_just ports.counts_once totals.failed back.of0 back.of1 back.of2 back.of3 failed missed _ _ _ _ _ _ _ _ _ _ _ _ back.all of_0 of_1 of_2 of_3 of_4 of_5;
+      quiet = six_quiet ports.counts_once totals.failed back.of0 back.of1 back.of2 back.of3 failed missed _ _ _ _ _ _ _ _ _ _ _ _ back.all of_0 of_1 of_2 of_3 of_4 of_5;
+    }
+  where
+    of_0 : HaveFailed ports.counts_once back.of0 (ports.faults opened.p0) (ports.faults closed.p0)
+    of_0 = subst (λ n. HaveFailed ports.counts_once back.of0 n (ports.faults closed.p0)) (sym (ap (λ (s : Seen). s.faults) opens.0)) back.failed0
+
+    of_1 : HaveFailed ports.counts_once back.of1 (ports.faults opened.p1) (ports.faults closed.p1)
+    of_1 = subst (λ n. HaveFailed ports.counts_once back.of1 n (ports.faults closed.p1)) (sym (ap (λ (s : Seen). s.faults) opens.1)) back.failed1
+
+    of_2 : HaveFailed ports.counts_once back.of2 (ports.faults opened.p2) (ports.faults closed.p2)
+    of_2 = subst (λ n. HaveFailed ports.counts_once back.of2 n (ports.faults closed.p2)) (sym (ap (λ (s : Seen). s.faults) opens.2)) back.failed2
+
+    of_3 : HaveFailed ports.counts_once back.of3 (ports.faults opened.p3) (ports.faults closed.p3)
+    of_3 = subst (λ n. HaveFailed ports.counts_once back.of3 n (ports.faults closed.p3)) (sym (ap (λ (s : Seen). s.faults) opens.3)) back.failed3
+
+    of_4 : HaveFailed ports.counts_once failed (ports.faults opened.p4) (ports.faults closed.p4)
+    of_4 = subst (λ p. HaveFailed ports.counts_once failed (ports.faults opened.p4) (ports.faults p)) (sym same.0) of_control
+
+    of_5 : HaveFailed ports.counts_once missed (ports.faults opened.p5) (ports.faults closed.p5)
+    of_5 = subst (λ p. HaveFailed ports.counts_once missed (ports.faults opened.p5) (ports.faults p)) (sym same.1) of_event

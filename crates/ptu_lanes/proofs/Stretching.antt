@@ -1,0 +1,209 @@
+-- Rounds of lanes, one after the other.
+use Rattle.std.proofs.Common.{◌≡◌, ◌∙◌, ℕ, ◌+◌, ◌-◌, ◌*◌, ◌^◌, ◌≤◌, min, Bool, ◌++◌, List, [], take, drop, refl, sym, ap, subst, arith, Option, Some, None}
+use Rattle.std.specs.Prelude.{IfSome}
+use Rattle.std.proofs.lemmas.List.{drop-drop, map-append}
+use Rattle.std.proofs.lemmas.List.Elements.{All-append, All-nil}
+use Rattle.std.proofs.lemmas.List.Sums.{sum_by-append}
+use Rattle.std.proofs.lemmas.Grind.{flat_map-append}
+use Rattle.std.proofs.Math.Seq.{take-add}
+use Rattle.ptu_outside.specs.declared.arrival.Arrival.{Arrival}
+use Rattle.ptu_outside.specs.declared.clock.Clock.{Ghosts as Clocks}
+use Rattle.ptu_outside.specs.declared.port.Port.{Ghosts as Ports}
+use Rattle.ptu_outside.specs.Faults.{HasRisen}
+use Rattle.ptu_outside.proofs.Telling.{IfTold-refl}
+use Rattle.ptu_outside.proofs.HandsOver.{goes_on_both, not_fallen_both, not_fallen_none, rises_first, rises_second, told_both, told_none}
+use Rattle.ptu_shard.specs.declared.config.GmConfig.{GmConfig}
+use Rattle.ptu_shared.specs.Opening.{HaveFailed}
+use Rattle.ptu_shared.specs.Seats.{Counts}
+use Rattle.ptu_shared.proofs.Failing.{failed-append, failed_bounded}
+use Rattle.ptu_lanes.specs.Answers.{asks_among, grants_among}
+use Rattle.ptu_lanes.specs.Rounds.{Exchange, Exchanged, IsAnswered, IsRound, asks_in, datagrams, items_of, replies, reply_in}
+use Rattle.ptu_lanes.specs.Sending.{GoesOn, WasSent}
+use Rattle.ptu_lanes.specs.Waiting.{GaveFirst, Took}
+use Rattle.ptu_lanes.specs.Stretches.{AreRounds, CountsFailures, TookDelayReqs, TookSignaling}
+use Rattle.ptu_lanes.proofs.Exchanges.{exchanged-append, exchanged_nothing}
+use Rattle.ptu_lanes.proofs.Moments.{passed_none}
+use Rattle.ptu_lanes.proofs.Taking.{none_taken, took-append, took_up_to}
+
+-- ---- what waited
+
+-- the first of a list, and then the first of the rest
+front_more : {A : Type 0} (n m : ℕ) (xs : List A) → take (64 * n) xs ++ take (64 * m) (drop (64 * n) xs) ≡ take (64 * (n + m)) xs
+front_more n m xs =
+    let e : 64 * n + 64 * m ≡ 64 * (n + m) = omega arith in
+    sym (take-add (64 * n) (64 * m) xs) ∙ ap (λ k. take k xs) e
+
+rest_more : {A : Type 0} (n m : ℕ) (xs : List A) → drop (64 * m) (drop (64 * n) xs) ≡ drop (64 * (n + m)) xs
+rest_more n m xs =
+    let e : 64 * n + 64 * m ≡ 64 * (n + m) = omega arith in
+    drop-drop (64 * m) (64 * n) xs ∙ ap (λ k. drop k xs) e
+
+gave_none : (waiting : Option (List Arrival)) → GaveFirst (64 * 0) waiting waiting
+gave_none None = tt
+gave_none (Some waited) = (waited, refl, refl)
+
+gave-append : (n m : ℕ) (waiting middle left : Option (List Arrival)) →
+    GaveFirst (64 * n) waiting middle → GaveFirst (64 * m) middle left → GaveFirst (64 * (n + m)) waiting left
+gave-append n m waiting middle None first second = tt
+gave-append n m waiting None (Some later) first second = absurd (cc second.1)
+gave-append n m waiting (Some between) (Some later) first second =
+    let same : between ≡ second.0 = cc second.1 in (
+      first.0,
+      first.1,
+      second.2 ∙ ap (drop (64 * m)) (sym same ∙ first.2) ∙ rest_more n m first.0,
+    )
+
+-- ---- the lane that takes Signaling
+
+rounds_none : {P : Type 0} (ports : Ports P) (config : GmConfig) (port : P) (counts : Counts) →
+    IfSome (ports.waiting port) (λ later. AreRounds ports config 0 port port later counts counts)
+rounds_none ports config port counts = of (ports.waiting port) refl
+  where
+    of : (told : Option (List Arrival)) → ports.waiting port ≡ told → IfSome told (λ later. AreRounds ports config 0 port port later counts counts)
+    of None is = tt
+    of (Some waited) is = record {
+      waited = waited;
+      all = is;
+      exchanges = [];
+      first = refl;
+      rest = refl;
+      answered = All-nil (IsAnswered config);
+      told = told_none (ports.sent port);
+      goes_on = λ few. refl;
+      granted = omega arith;
+      counted = omega arith;
+    }
+
+asks-append : (config : GmConfig) (xs ys : List Exchange) → asks_in config (datagrams (xs ++ ys)) ≡ asks_in config (datagrams xs) + asks_in config (datagrams ys)
+asks-append config xs ys =
+    ap (asks_in config) (map-append (λ (e : Exchange). e.datagram) xs ys) ∙ sum_by-append (λ d. asks_among (items_of config d)) (datagrams xs) (datagrams ys)
+
+-- the list that is told of what waits is that which was left
+pub told_is : {A : Type 0} (told : Option A) (Fact : A → Type 0) (x : A) → told ≡ Some x → IfSome told Fact → Fact x
+told_is None Fact x is fact = absurd (cc is)
+told_is (Some y) Fact x is fact = let same : y ≡ x = cc is in subst Fact same fact
+
+rounds-append : {P : Type 0} (ports : Ports P) (config : GmConfig) (n m : ℕ) (p0 p1 p2 : P) (left : List Arrival) (old now new : Counts) →
+    IfSome (ports.waiting p1) (λ later. AreRounds ports config n p0 p1 later old now) → AreRounds ports config m p1 p2 left now new →
+    AreRounds ports config (n + m) p0 p2 left old new
+rounds-append ports config n m p0 p1 p2 left old now new earlier q =
+    let p = told_is (ports.waiting p1) (λ later. AreRounds ports config n p0 p1 later old now) q.waited q.all earlier in
+    let same : q.waited ≡ drop (64 * n) p.waited = p.rest in
+    let sent : replies config (p.exchanges ++ q.exchanges) ≡ replies config p.exchanges ++ replies config q.exchanges = flat_map-append (reply_in config) p.exchanges q.exchanges in
+    record {
+      waited = p.waited;
+      all = p.all;
+      exchanges = p.exchanges ++ q.exchanges;
+      first = map-append (λ (e : Exchange). e.datagram) p.exchanges q.exchanges ∙ ap (λ xs. xs ++ datagrams q.exchanges) p.first
+          ∙ ap (λ xs. take (64 * n) p.waited ++ xs) (q.first ∙ ap (take (64 * m)) same) ∙ front_more n m p.waited;
+      rest = q.rest ∙ ap (drop (64 * m)) same ∙ rest_more n m p.waited;
+      answered = All-append (IsAnswered config) p.exchanges q.exchanges p.answered q.answered;
+      told = subst (λ ds. WasSent ports p0 p2 ds) (sym sent)
+          (told_both (ports.sent p0) (ports.sent p1) (ports.sent p2) (replies config p.exchanges) (replies config q.exchanges) p.told q.told);
+      goes_on = subst (λ ds. GoesOn ports p0 p2 ds) (sym sent)
+          (goes_on_both ports.ceases_at (replies config p.exchanges) (replies config q.exchanges) (ports.has_ceased p0) (ports.has_ceased p1) (ports.has_ceased p2) p.goes_on q.goes_on);
+      granted = let a = p.granted in let b = q.granted in omega (arith, sum_by-append (λ (e : Exchange). grants_among e.answers) p.exchanges q.exchanges);
+      counted = let a = p.counted in let b = q.counted in omega (arith, asks-append config p.exchanges q.exchanges);
+    }
+
+-- ---- rounds at a port
+
+pub some_more : {A : Type 0} (told : Option A) (Fact More : A → Type 0) → ((x : A) → Fact x → More x) → IfSome told Fact → IfSome told More
+some_more None Fact More makes fact = tt
+some_more (Some x) Fact More makes fact = makes x fact
+
+-- failed calls that are counted after others
+pub counts_more : (once : Bool) (faults faults' failed more failed' : ℕ) → HaveFailed once more faults faults' → failed' ≡ min (failed + more) (2 ^ 64 - 1) →
+    CountsFailures once faults faults' failed failed'
+counts_more once faults faults' failed more failed' f is = λ start before.
+    subst (λ n. HaveFailed once n start faults') (sym is)
+    (failed_bounded once (failed + more) start faults' (failed-append once failed more start faults faults' before f))
+
+-- a round is one of so many
+rounds_one : {P : Type 0} (ports : Ports P) (config : GmConfig) (port port' : P) (left : List Arrival) (old new : Counts) (asks sent : ℕ) →
+    new.granted + new.refused ≡ old.granted + old.refused + asks → IsRound ports config port port' left old.granted new.granted asks sent →
+    AreRounds ports config 1 port port' left old new
+rounds_one ports config port port' left old new asks sent counted r = record {
+  waited = r.waited;
+  all = r.all;
+  exchanges = r.exchanges;
+  first = r.first;
+  rest = r.rest;
+  answered = r.answered;
+  told = r.told;
+  goes_on = r.goes_on;
+  granted = r.granted_are;
+  counted = counted ∙ ap (λ n. old.granted + old.refused + n) (r.asks_are ∙ sym (ap (asks_in config) r.first));
+}
+
+module _ {P C : Type 0} (ports : Ports P) (clocks : Clocks C) where
+  pub signaling_none : (config : GmConfig) (port : P) (clock : C) (counts : Counts) (failed : ℕ) → TookSignaling ports clocks config 0 port port clock clock counts counts failed failed
+  signaling_none config port clock counts failed = record {
+    did = λ same. rounds_none ports config port counts;
+    exchanged = exchanged_nothing ports clocks config 0 port port clock clock counts (IfTold-refl (ports.waiting port)) (passed_none (clocks.moments clock));
+    most = omega arith;
+    failures = λ start f. f;
+    no_fall = not_fallen_none (ports.faults port);
+  }
+
+  pub signaling_one : (config : GmConfig) (port port' : P) (clock clock' : C) (old new : Counts) (asks sent more failed failed' : ℕ) →
+      new.granted + new.refused ≡ old.granted + old.refused + asks → asks ≤ 2048 →
+      (¬ HasRisen (ports.faults port) (ports.faults port') → IfSome (ports.waiting port') (λ left. IsRound ports config port port' left old.granted new.granted asks sent)) →
+      Exchanged ports clocks config 64 0 port port' clock clock' old new → HaveFailed ports.counts_once more (ports.faults port) (ports.faults port') →
+      failed' ≡ min (failed + more) (2 ^ 64 - 1) → TookSignaling ports clocks config 1 port port' clock clock' old new failed failed'
+  signaling_one config port port' clock clock' old new asks sent more failed failed' counted few round exchanged failures is = record {
+    did = λ same. some_more (ports.waiting port') _ _ (λ left. rounds_one ports config port port' left old new asks sent counted) (round same);
+    exchanged = exchanged;
+    most = omega (arith, counted, few);
+    failures = counts_more ports.counts_once (ports.faults port) (ports.faults port') failed more failed' failures is;
+    no_fall = failures.no_fall;
+  }
+
+  pub signaling-append : (config : GmConfig) (n m : ℕ) (p0 p1 p2 : P) (c0 c1 c2 : C) (old now new : Counts) (f0 f1 f2 : ℕ) →
+      TookSignaling ports clocks config n p0 p1 c0 c1 old now f0 f1 → TookSignaling ports clocks config m p1 p2 c1 c2 now new f1 f2 →
+      TookSignaling ports clocks config (n + m) p0 p2 c0 c2 old new f0 f2
+  signaling-append config n m p0 p1 p2 c0 c1 c2 old now new f0 f1 f2 p q = record {
+    did = λ same. some_more (ports.waiting p2) _ _
+        (λ left. rounds-append ports config n m p0 p1 p2 left old now new (p.did (λ rises. same (rises_first (ports.faults p0) (ports.faults p1) (ports.faults p2) rises q.no_fall))))
+        (q.did (λ rises. same (rises_second (ports.faults p0) (ports.faults p1) (ports.faults p2) p.no_fall rises)));
+    exchanged = exchanged-append ports clocks config (64 * (n + m)) (64 * n) (64 * m) 0 0 0 p0 p1 p2 c0 c1 c2 old now new (omega arith) refl p.exchanged q.exchanged;
+    most = let a = p.most in let b = q.most in omega arith;
+    failures = λ start f. q.failures start (p.failures start f);
+    no_fall = not_fallen_both (ports.faults p0) (ports.faults p1) (ports.faults p2) p.no_fall q.no_fall;
+  }
+
+  pub delays_none : (port : P) (clock : C) (failed : ℕ) → TookDelayReqs ports clocks 0 port port clock clock failed failed
+  delays_none port clock failed = record {
+    gave = λ same. gave_none (ports.waiting port);
+    took = took_up_to ports clocks 0 0 0 port port clock clock (none_taken ports clocks port clock) (omega arith);
+    unsent = refl;
+    goes_on = refl;
+    failures = λ start f. f;
+    no_fall = not_fallen_none (ports.faults port);
+  }
+
+  pub delays_one : (port port' : P) (clock clock' : C) (missed failed failed' : ℕ) →
+      (¬ HasRisen (ports.faults port) (ports.faults port') → GaveFirst 64 (ports.waiting port) (ports.waiting port')) → Took ports clocks 64 0 port port' clock clock' →
+      ports.sent port' ≡ ports.sent port → ports.has_ceased port' ≡ ports.has_ceased port → HaveFailed ports.counts_once missed (ports.faults port) (ports.faults port') →
+      failed' ≡ min (failed + missed) (2 ^ 64 - 1) → TookDelayReqs ports clocks 1 port port' clock clock' failed failed'
+  delays_one port port' clock clock' missed failed failed' gave took unsent goes_on failures is = record {
+    gave = gave;
+    took = took;
+    unsent = unsent;
+    goes_on = goes_on;
+    failures = counts_more ports.counts_once (ports.faults port) (ports.faults port') failed missed failed' failures is;
+    no_fall = failures.no_fall;
+  }
+
+  pub delays-append : (n m : ℕ) (p0 p1 p2 : P) (c0 c1 c2 : C) (f0 f1 f2 : ℕ) → TookDelayReqs ports clocks n p0 p1 c0 c1 f0 f1 → TookDelayReqs ports clocks m p1 p2 c1 c2 f1 f2 →
+      TookDelayReqs ports clocks (n + m) p0 p2 c0 c2 f0 f2
+  delays-append n m p0 p1 p2 c0 c1 c2 f0 f1 f2 p q = record {
+    gave = λ same. gave-append n m (ports.waiting p0) (ports.waiting p1) (ports.waiting p2)
+        (p.gave (λ rises. same (rises_first (ports.faults p0) (ports.faults p1) (ports.faults p2) rises q.no_fall)))
+        (q.gave (λ rises. same (rises_second (ports.faults p0) (ports.faults p1) (ports.faults p2) p.no_fall rises)));
+    took = took-append ports clocks (64 * (n + m)) (64 * n) (64 * m) 0 p0 p1 p2 c0 c1 c2 (omega arith) p.took q.took;
+    unsent = q.unsent ∙ p.unsent;
+    goes_on = q.goes_on ∙ p.goes_on;
+    failures = λ start f. q.failures start (p.failures start f);
+    no_fall = not_fallen_both (ports.faults p0) (ports.faults p1) (ports.faults p2) p.no_fall q.no_fall;
+  }

@@ -1,0 +1,34 @@
+-- The change of capacity of a grandmaster that is served (the project's own choice).
+use Rattle.std.specs.Prelude.{ℕ, ◌-◌, max, ◌&&◌, nat_lt, nat_le, if◌then◌else◌, Option, Some, None}
+use Rattle.ptu_config.specs.declared.settings.GmSettings.{GmSettings}
+
+-- the capacity to which it changes: there is one where the round of the change is one of the rounds
+abbrev pub change_of : GmSettings → Option ℕ
+change_of settings =
+    if nat_lt 0 settings.change_round && nat_le settings.change_round settings.rounds then settings.new_capacity else None
+
+-- the rounds before the change, where it changes to this; all where it does not
+abbrev pub rounds_before : GmSettings → Option ℕ → ℕ
+rounds_before settings None = settings.rounds
+rounds_before settings (Some capacity) = settings.change_round - 1
+
+-- the rounds before the change
+abbrev pub early_rounds : GmSettings → ℕ
+early_rounds settings = rounds_before settings (change_of settings)
+
+-- the greater of the capacity and the one to which it changes
+abbrev pub greater_of : ℕ → Option ℕ → ℕ
+greater_of capacity None = capacity
+greater_of capacity (Some later) = max capacity later
+
+-- the greatest capacity that is in force in a round
+abbrev pub greatest_capacity : GmSettings → ℕ
+greatest_capacity settings = greater_of settings.capacity (change_of settings)
+
+-- how many moments the change takes
+abbrev pub moments_to : Option ℕ → ℕ
+moments_to None = 0
+moments_to (Some capacity) = 1
+
+abbrev pub change_moments : GmSettings → ℕ
+change_moments settings = moments_to (change_of settings)

@@ -1,0 +1,116 @@
+-- What a grandmaster has done that is served by lanes (IEEE 1588-2019 clause 16.1; rounds and the change of capacity are the
+-- project's own choice).
+use Rattle.std.specs.Prelude.{◌≡◌, ℕ, suc, zero, ◌+◌, ◌*◌, ◌≤◌, true, List, [], ◌++◌, map, take, drop, Option, Some, IfNone, IfSome}
+use Rattle.std.specs.List.{All}
+use Rattle.ptu_units.specs.declared.kind.Kind.{Kind}
+use Rattle.ptu_outside.specs.declared.arrival.Arrival.{Arrival}
+use Rattle.ptu_outside.specs.declared.clock.Clock.{Ghosts as Clocks}
+use Rattle.ptu_outside.specs.declared.opened.Opened.{Opened}
+use Rattle.ptu_outside.specs.declared.port.Port.{Ghosts as Ports}
+use Rattle.ptu_outside.specs.Faults.{HasRisen}
+use Rattle.ptu_history.specs.declared.client.Client.{Client}
+use Rattle.ptu_shard.specs.declared.config.GmConfig.{GmConfig}
+use Rattle.ptu_shared.specs.Opening.{HaveFailed, Seen, seen_of}
+use Rattle.ptu_shared.specs.Seats.{no_verdicts}
+use Rattle.ptu_items.specs.Replies.{cancels_to}
+use Rattle.ptu_config.specs.declared.settings.GmSettings.{GmSettings}
+use Rattle.ptu_rounds.specs.Ports.{HaveRisenBy, HaveRisenJust, ports_of}
+use Rattle.ptu_lanes.specs.Rounds.{Exchange, Exchanged, IsAnswered, asks_in, datagrams, grants_in, replies}
+use Rattle.ptu_lanes.specs.Sending.{GoesOn, WasSent}
+use Rattle.ptu_lanes.specs.Waiting.{GaveFirst, Took, TurnedOwn}
+use Rattle.ptu_lanes.specs.Changing.{change_moments, change_of, early_rounds, greatest_capacity}
+use Rattle.ptu_lanes.specs.declared.serving.Totals.{Totals}
+
+-- What the lane did that takes Signaling, at a port that tells what waits. It took the first 64 datagrams for each round, or all
+-- where there are fewer. For each with an item it sent one reply, in order, with an answer for each item; between those of the
+-- rounds before the change of capacity and the others it sent the CANCELs of some grants, numbered from 0, where there is a
+-- change; and nothing else. The port goes on to tell, unless one of these was such that it may cease to. So many asks were
+-- granted, and so many within the profile did not fit.
+pub record IsControlled {P : Type 0} (ports : Ports P) (settings : GmSettings) (config : GmConfig) (port port' : P) (left : List Arrival) (granted refused : ℕ) : Type 0 where
+  pub waited : List Arrival
+  pub all : ports.waiting port ≡ Some waited
+  pub early : List Exchange
+  pub shed : List (Client × Kind)
+  pub late : List Exchange
+  pub early_are : datagrams early ≡ take (64 * early_rounds settings) waited
+  pub all_are : datagrams (early ++ late) ≡ take (64 * settings.rounds) waited
+  pub rest : left ≡ drop (64 * settings.rounds) waited
+  pub unchanged : IfNone (change_of settings) (shed ≡ [])
+  pub answered : All (IsAnswered config) (early ++ late)
+  pub told : WasSent ports port port' (replies config early ++ cancels_to config 0 shed ++ replies config late)
+  pub goes_on : GoesOn ports port port' (replies config early ++ cancels_to config 0 shed ++ replies config late)
+  pub granted_are : granted ≡ grants_in (early ++ late)
+  pub counted : granted + refused ≡ asks_in config (datagrams (early ++ late))
+
+-- what waits at the port of the table of each index, which only sends
+abbrev pub waits_of : {P C : Type 0} → Ports P → Opened P C → ℕ → Option (List Arrival)
+waits_of ports opened zero = ports.waiting opened.p0
+waits_of ports opened (suc zero) = ports.waiting opened.p1
+waits_of ports opened (suc (suc zero)) = ports.waiting opened.p2
+waits_of ports opened (suc (suc (suc n))) = ports.waiting opened.p3
+
+-- what is seen of that port
+abbrev pub seen_at : {P C : Type 0} → Ports P → Opened P C → ℕ → Seen
+seen_at ports opened zero = seen_of ports opened.p0
+seen_at ports opened (suc zero) = seen_of ports opened.p1
+seen_at ports opened (suc (suc zero)) = seen_of ports opened.p2
+seen_at ports opened (suc (suc (suc n))) = seen_of ports opened.p3
+
+-- the counts of faults of all six ports
+abbrev pub faults_of : {P C : Type 0} → Ports P → Opened P C → List ℕ
+faults_of ports opened = map ports.faults (ports_of opened)
+
+-- the numbers that lanes come to: how many calls of ports failed, how many asks were granted, how many within the profile did not
+-- fit, and how much is held at the end
+pub record Numbers : Type 0 where
+  pub failed : ℕ
+  pub granted : ℕ
+  pub refused : ℕ
+  pub held : ℕ
+
+abbrev pub numbers_of : Totals → Numbers
+numbers_of totals = record { failed = totals.failed; granted = totals.granted; refused = totals.refused; held = totals.held }
+
+-- the ports of the tables are given back, of which this was seen when they were opened: what waited still waits, and what failed is
+-- what their counts rose by, with what failed at the two other ports
+pub record TablesAreBack {P C : Type 0} (ports : Ports P) (seen : ℕ → Seen) (closed : Opened P C) (failed control event : ℕ) : Type 0 where
+  pub waits : (ports.waiting closed.p0 ≡ (seen 0).waiting) × (ports.waiting closed.p1 ≡ (seen 1).waiting)
+      × (ports.waiting closed.p2 ≡ (seen 2).waiting) × (ports.waiting closed.p3 ≡ (seen 3).waiting)
+  pub of0 : ℕ
+  pub of1 : ℕ
+  pub of2 : ℕ
+  pub of3 : ℕ
+  pub all : failed ≡ of0 + (of1 + (of2 + (of3 + (control + (event + 0)))))
+  pub failed0 : HaveFailed ports.counts_once of0 (seen 0).faults (ports.faults closed.p0)
+  pub failed1 : HaveFailed ports.counts_once of1 (seen 1).faults (ports.faults closed.p1)
+  pub failed2 : HaveFailed ports.counts_once of2 (seen 2).faults (ports.faults closed.p2)
+  pub failed3 : HaveFailed ports.counts_once of3 (seen 3).faults (ports.faults closed.p3)
+
+-- between these ports and clocks as they were opened, and as they are to be given back, lanes served a grandmaster of these settings,
+-- with these numbers at the end
+pub record ServesByLanes {P C : Type 0} (ports : Ports P) (clocks : Clocks C) (settings : GmSettings) (config : GmConfig) (opened closed : Opened P C) (numbers : Numbers) : Type 0 where
+  pub within : numbers.held ≤ greatest_capacity settings
+  -- where the count of the port of the general channel did not rise, and it tells what waits
+  pub control : ¬ HasRisen (ports.faults opened.p4) (ports.faults closed.p4) → IfSome (ports.waiting closed.p4) (λ left.
+      IsControlled ports settings config opened.p4 closed.p4 left numbers.granted numbers.refused)
+  -- whatever that port did: what was taken there, which was answered so, and counted
+  pub exchanged : Exchanged ports clocks config (64 * settings.rounds) (change_moments settings) opened.p4 closed.p4 opened.c0 closed.c0
+      no_verdicts (record { granted = numbers.granted; refused = numbers.refused })
+  -- likewise the port of the event channel, which was sent nothing, and goes on to tell that
+  pub event : ¬ HasRisen (ports.faults opened.p5) (ports.faults closed.p5) →
+      GaveFirst (64 * settings.rounds) (ports.waiting opened.p5) (ports.waiting closed.p5)
+  pub took : Took ports clocks (64 * settings.rounds) 0 opened.p5 closed.p5 opened.c1 closed.c1
+  pub unsent : ports.sent closed.p5 ≡ ports.sent opened.p5
+  pub goes_on : ports.has_ceased closed.p5 ≡ ports.has_ceased opened.p5
+  -- each lane that turns tables took a moment of its clock for each of its tables and each round
+  pub turned0 : TurnedOwn clocks settings.senders 0 settings.rounds opened.c2 closed.c2
+  pub turned1 : TurnedOwn clocks settings.senders 1 settings.rounds opened.c3 closed.c3
+  pub turned2 : TurnedOwn clocks settings.senders 2 settings.rounds opened.c4 closed.c4
+  pub turned3 : TurnedOwn clocks settings.senders 3 settings.rounds opened.c5 closed.c5
+  -- the ports of the tables are given back as those of their tables: what waits there is what did
+  pub idle : (i : ℕ) → waits_of ports closed i ≡ waits_of ports opened i
+  -- what failed is at most what the counts of faults rose by together, and just that where each call that fails counts one fault;
+  -- where nothing failed, no count rose
+  pub failed : HaveRisenBy numbers.failed (faults_of ports opened) (faults_of ports closed)
+  pub just : ports.counts_once ≡ true → HaveRisenJust numbers.failed (faults_of ports opened) (faults_of ports closed)
+  pub quiet : numbers.failed ≡ 0 → faults_of ports closed ≡ faults_of ports opened

@@ -1,0 +1,60 @@
+-- Several rounds of the lanes.
+use Rattle.std.specs.Prelude.{◌≡◌, ℕ, Bool, ◌+◌, ◌*◌, ◌≤◌, List, take, drop, Some, IfSome}
+use Rattle.std.specs.List.{All}
+use Rattle.ptu_outside.specs.declared.arrival.Arrival.{Arrival}
+use Rattle.ptu_outside.specs.declared.clock.Clock.{Ghosts as Clocks}
+use Rattle.ptu_outside.specs.declared.port.Port.{Ghosts as Ports}
+use Rattle.ptu_outside.specs.Faults.{HasNotFallen, HasRisen}
+use Rattle.ptu_shard.specs.declared.config.GmConfig.{GmConfig}
+use Rattle.ptu_shared.specs.Opening.{HaveFailed}
+use Rattle.ptu_shared.specs.Seats.{Counts}
+use Rattle.ptu_lanes.specs.Rounds.{Exchange, Exchanged, IsAnswered, asks_in, datagrams, grants_in, replies}
+use Rattle.ptu_lanes.specs.Sending.{GoesOn, WasSent}
+use Rattle.ptu_lanes.specs.Waiting.{GaveFirst, Took, TurnedOwn}
+use Rattle.ptu_lanes.specs.declared.lanes.SendingLanes.{SendingLanes}
+
+-- so many rounds at a port that tells what waits: the lane took the first 64 datagrams for each round, or all where there are
+-- fewer, and sent one reply for each that has an item, in order, and nothing else; the port goes on to tell, unless a reply
+-- was such that it may cease to; and the lane's seat has counted the answers
+pub record AreRounds {P : Type 0} (ports : Ports P) (config : GmConfig) (rounds : ℕ) (port port' : P) (left : List Arrival) (old new : Counts) : Type 0 where
+  pub waited : List Arrival
+  pub all : ports.waiting port ≡ Some waited
+  pub exchanges : List Exchange
+  pub first : datagrams exchanges ≡ take (64 * rounds) waited
+  pub rest : left ≡ drop (64 * rounds) waited
+  pub answered : All (IsAnswered config) exchanges
+  pub told : WasSent ports port port' (replies config exchanges)
+  pub goes_on : GoesOn ports port port' (replies config exchanges)
+  pub granted : new.granted ≡ old.granted + grants_in exchanges
+  pub counted : new.granted + new.refused ≡ old.granted + old.refused + asks_in config (datagrams exchanges)
+
+-- from a count of failed calls at a port to a later one: they are counted so from any count of faults from which those before were
+abbrev pub CountsFailures : Bool → ℕ → ℕ → ℕ → ℕ → Type 0
+CountsFailures once faults faults' failed failed' = (start : ℕ) → HaveFailed once failed start faults → HaveFailed once failed' start faults'
+
+-- what the lane that takes Signaling did in so many rounds: its port, its clock, what its seat has counted, and how many calls of the
+-- port failed, before and after
+pub record TookSignaling {P C : Type 0} (ports : Ports P) (clocks : Clocks C) (config : GmConfig) (rounds : ℕ) (port port' : P) (clock clock' : C) (old new : Counts) (failed failed' : ℕ) : Type 0 where
+  pub did : ¬ HasRisen (ports.faults port) (ports.faults port') → IfSome (ports.waiting port') (λ left.
+      AreRounds ports config rounds port port' left old new)
+  pub exchanged : Exchanged ports clocks config (64 * rounds) 0 port port' clock clock' old new
+  pub most : new.granted + new.refused ≤ old.granted + old.refused + 2048 * rounds
+  pub failures : CountsFailures ports.counts_once (ports.faults port) (ports.faults port') failed failed'
+  pub no_fall : HasNotFallen (ports.faults port) (ports.faults port')
+
+-- what the lane that takes Delay_Reqs did in so many rounds: its port, its clock and how many receives failed, before and after; the
+-- port was sent nothing, and goes on to tell that
+pub record TookDelayReqs {P C : Type 0} (ports : Ports P) (clocks : Clocks C) (rounds : ℕ) (port port' : P) (clock clock' : C) (failed failed' : ℕ) : Type 0 where
+  pub gave : ¬ HasRisen (ports.faults port) (ports.faults port') → GaveFirst (64 * rounds) (ports.waiting port) (ports.waiting port')
+  pub took : Took ports clocks (64 * rounds) 0 port port' clock clock'
+  pub unsent : ports.sent port' ≡ ports.sent port
+  pub goes_on : ports.has_ceased port' ≡ ports.has_ceased port
+  pub failures : CountsFailures ports.counts_once (ports.faults port) (ports.faults port') failed failed'
+  pub no_fall : HasNotFallen (ports.faults port) (ports.faults port')
+
+-- the lanes that turn tables, of which so many are at work, did so many rounds
+pub record HaveTurned {C : Type 0} (clocks : Clocks C) (lanes rounds : ℕ) (old new : SendingLanes C) : Type 0 where
+  pub first : TurnedOwn clocks lanes 0 rounds old.first.clock new.first.clock
+  pub second : TurnedOwn clocks lanes 1 rounds old.second.clock new.second.clock
+  pub third : TurnedOwn clocks lanes 2 rounds old.third.clock new.third.clock
+  pub fourth : TurnedOwn clocks lanes 3 rounds old.fourth.clock new.fourth.clock

@@ -1,0 +1,110 @@
+use crate::meeting::Meeting;
+use std::process::Abort;
+use std::sync::Wait;
+use std::sync::atomic::{AtomicU64, Ordering};
+use std::test::Fail;
+use std::thread::{join, yield_now};
+
+const ROUNDS: u32 = 4;
+
+// How often a lane looks at its start, and how long the slow lane pauses in each round.
+const LOOKS: u32 = 1000;
+
+// How many rounds two lanes have done, and how far apart they were at most when one had done a
+// round.
+#[derive(Drop)]
+struct Seen {
+    fast: AtomicU64,
+    slow: AtomicU64,
+    apart: AtomicU64,
+}
+
+impl Seen {
+    // A lane does a round.
+    fn count(&self, own: &AtomicU64, other: &AtomicU64) {
+        let own = own.fetch_add(1, Ordering::SeqCst).wrapping_add(1);
+        let other = other.load(Ordering::SeqCst);
+        let apart = if own < other {
+            other - own
+        } else {
+            own - other
+        };
+        self.apart.fetch_max(apart, Ordering::SeqCst);
+    }
+
+    // Gives the fast lane time to run ahead.
+    fn pause(&self) {
+        for _ in 0..LOOKS {
+            yield_now();
+        }
+    }
+}
+
+fn run_fast(rt: &impl Wait, meeting: &Meeting, seen: &Seen) {
+    meeting.enter(rt);
+    for i in 0..ROUNDS {
+        seen.count(&seen.fast, &seen.slow);
+        meeting.meet(rt, i);
+    }
+    meeting.leave(rt, false);
+}
+
+fn run_slowly(rt: &impl Wait, meeting: &Meeting, seen: &Seen) {
+    meeting.enter(rt);
+    for i in 0..ROUNDS {
+        seen.pause();
+        seen.count(&seen.slow, &seen.fast);
+        meeting.meet(rt, i);
+    }
+    meeting.leave(rt, false);
+}
+
+// Two lanes are never more than one round apart. It refuses a meeting that nobody waits at.
+#[test]
+fn lanes_stay_in_step(rt: HostRuntime) -> Result<(), Fail> {
+    let seen = Seen {
+        fast: AtomicU64::new(0),
+        slow: AtomicU64::new(0),
+        apart: AtomicU64::new(0),
+    };
+    let meeting = Meeting::new(2, 10_000_000);
+    join(
+        &rt,
+        || run_fast(&rt, &meeting, &seen),
+        || run_slowly(&rt, &meeting, &seen),
+    );
+    assert_eq!(rt; seen.apart.load(Ordering::SeqCst), 1);
+    assert_eq!(rt; seen.slow.load(Ordering::SeqCst), u64::from(ROUNDS));
+    Ok(())
+}
+
+// The rounds of a lane that meets nobody.
+fn run_alone(rt: &(impl Wait + Abort), meeting: &Meeting) {
+    meeting.enter(rt);
+    for i in 0..ROUNDS {
+        assert!(rt; meeting.meet(rt, i));
+    }
+    meeting.leave(rt, false);
+}
+
+// A lane for which there is no thread does its rounds once the other has done all. It refuses a
+// meeting at which as many are waited for as are expected, which would never end.
+#[test]
+fn a_lane_without_a_thread_comes_last(rt: HostRuntime) -> Result<(), Fail> {
+    let meeting = Meeting::new(2, LOOKS);
+    run_alone(&rt, &meeting);
+    run_alone(&rt, &meeting);
+    Ok(())
+}
+
+// A lane that gives up ends the work of the other, which does not wait for it.
+#[test]
+fn a_lane_that_gives_up_ends_all(rt: HostRuntime) -> Result<(), Fail> {
+    let meeting = Meeting::new(2, LOOKS);
+    meeting.enter(&rt);
+    meeting.enter(&rt);
+    meeting.leave(&rt, true);
+    assert!(rt; !meeting.meet(&rt, 0));
+    meeting.leave(&rt, false);
+    Ok(())
+}

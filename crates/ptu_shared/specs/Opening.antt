@@ -1,0 +1,38 @@
+-- What is known of the port of a table, which stands behind a lock: what it was like when it was opened, and how many of its sends
+-- failed since.
+use Rattle.std.specs.Prelude.{◌≡◌, ℕ, ◌+◌, ◌-◌, ◌^◌, ◌≤◌, ◌<◌, min, Bool, true, List, [], Option, Some, None}
+use Rattle.ptu_outside.specs.declared.arrival.Arrival.{Arrival}
+use Rattle.ptu_outside.specs.declared.port.Port.{Ghosts as Ports}
+use Rattle.ptu_outside.specs.Faults.{HasRisenBy, HasRisenJust, HasNotFallen}
+
+-- what waits at a port, where it tells that, and its count of faults
+pub record Seen : Type 0 where
+  pub waiting : Option (List Arrival)
+  pub faults : ℕ
+
+-- what is seen of this port
+abbrev pub seen_of : {P : Type 0} → Ports P → P → Seen
+seen_of ports port = record { waiting = ports.waiting port; faults = ports.faults port }
+
+-- a port at which nothing waits, and one that does not tell what waits; neither has had a fault
+abbrev pub idle_port : Seen
+idle_port = record { waiting = Some []; faults = 0 }
+
+abbrev pub untold_port : Seen
+untold_port = record { waiting = None; faults = 0 }
+
+-- so many calls of a port failed between these two counts of its faults, each of which is a fault, and just one where `once` says
+-- so; and there are no other faults. A count that stands at its end is taken as risen by as much.
+pub record HaveFailed (once : Bool) (failed old new : ℕ) : Type 0 where
+  pub risen : HasRisenBy failed old new
+  pub just : once ≡ true → HasRisenJust failed old new
+  pub quiet : failed ≡ 0 → new ≡ old
+  pub no_fall : HasNotFallen old new
+
+-- the same, in a form that a type can keep: no fact in it can hold in two ways
+pub record AreCounted (once : Bool) (failed old new : ℕ) : Type 0 where
+  pub risen : min (old + failed) (2 ^ 64 - 1) ≤ new
+  pub just : once ≡ true → new < 2 ^ 64 - 1 → new ≡ old + failed
+  pub quiet : failed ≡ 0 → new ≡ old
+  pub no_fall : old ≤ new
+  pub stands : 2 ^ 64 - 1 ≤ old → new ≡ old
