@@ -1,3 +1,8 @@
+ghost use Rattle.std.specs.Prelude.{IfOk};
+ghost use Rattle.std.specs.List.{All};
+ghost use Rattle.ptu_admit.specs.Book.{IsCapacity};
+ghost use Rattle.ptu_grandmaster.specs.Driven.{IsPossible};
+
 use super::*;
 use ptu_admit::{Cancelled, Verdict};
 use ptu_header::PortIdentity;
@@ -204,33 +209,99 @@ fn failed_sends_are_told(rt: HostRuntime) -> Result<(), Fail> {
     done
 }
 
-// How many messages are sent where a grant of Sync at logarithm 0 is followed by two turns.
-fn sent_in_turns(alloc: Global, first: Moment, second: Moment) -> Result<u64, Fail> {
-    let bytes = Datagram::new(signaling(alloc, FIRST, 54, SYNC)?);
-    let events = [
-        GmEvent::Take {
-            t: Moment::default(),
-            from: FIRST,
-            bytes,
-        },
-        GmEvent::Turn { t: first, table: 2 },
-        GmEvent::Turn {
-            t: second,
-            table: 2,
-        },
-    ];
+// A datagram of the first client at a moment.
+fn taken(alloc: Global, t: Moment, octets: u8, tlvs: &str) -> Result<GmEvent, Fail>
+    ensures { IfOk result IsPossible }
+{
+    let bytes = Datagram::new(signaling(alloc, FIRST, octets, tlvs)?);
+    let from = FIRST;
+    Ok(GmEvent::Take { t, from, bytes })
+}
+
+// A turn of the first client's table.
+fn turn(t: Moment) -> GmEvent
+    ensures { IsPossible result }
+{
+    GmEvent::Turn { t, table: 2 }
+}
+
+// How many timing messages a grandmaster of this capacity sends over these events.
+fn sent_over(alloc: Global, capacity: u64, events: &[GmEvent]) -> Result<u64, Fail>
+    requires capacity { IsCapacity capacity }
+    requires possible { All IsPossible events.now }
+{
     let p0 = port(alloc, Vec::new(alloc));
     let p1 = port(alloc, Vec::new(alloc));
     let p2 = port(alloc, Vec::new(alloc));
     let p3 = port(alloc, Vec::new(alloc));
     let reply = port(alloc, Vec::new(alloc));
-    Ok(drive(alloc, CONFIG, 16, p0, p1, p2, p3, reply, &events)?.sent)
+    Ok(drive(alloc, CONFIG, capacity, p0, p1, p2, p3, reply, events)?.sent)
+}
+
+// How many messages are sent where a grant of Sync at logarithm 0 is followed by these turns.
+fn sent_in_turns(alloc: Global, turns: [Moment; 10]) -> Result<u64, Fail> {
+    let [a, b, c, d, e, f, g, h, i, j] = turns;
+    let events = [
+        taken(alloc, Moment::default(), 54, SYNC)?,
+        turn(a),
+        turn(b),
+        turn(c),
+        turn(d),
+        turn(e),
+        turn(f),
+        turn(g),
+        turn(h),
+        turn(i),
+        turn(j),
+    ];
+    sent_over(alloc, 16, &events)
+}
+
+// Turns at each second use the budget wholly, and in the other order the first alone sends. Refuses
+// a grant whose first message comes at once, and a turn that is late and sends two.
+#[test]
+fn each_message_takes_its_own_period(rt: HostRuntime) -> Result<(), Fail> {
+    let alloc = rt.alloc();
+    let (zero, a, b, c) = (
+        Moment::default(),
+        moment(SECOND)?,
+        moment(2 * SECOND)?,
+        moment(3 * SECOND)?,
+    );
+    let (d, e, f, g) = (
+        moment(4 * SECOND)?,
+        moment(5 * SECOND)?,
+        moment(6 * SECOND)?,
+        moment(7 * SECOND)?,
+    );
+    let (h, i, j) = (
+        moment(8 * SECOND)?,
+        moment(9 * SECOND)?,
+        moment(10 * SECOND)?,
+    );
+    assert_eq!(rt; sent_in_turns(alloc, [a, b, c, d, e, f, g, h, i, j])?, 10);
+    assert_eq!(rt; sent_in_turns(alloc, [j, i, h, g, f, e, d, c, b, a])?, 1);
+    assert_eq!(rt;
+        sent_in_turns(alloc, [zero, zero, j, j, j, j, j, j, j, j])?,
+        1
+    );
+    Ok(())
 }
 
 #[test]
-fn each_message_takes_its_own_period(rt: HostRuntime) -> Result<(), Fail> {
-    let (early, late) = (moment(SECOND)?, moment(2 * SECOND)?);
-    assert_eq!(rt; sent_in_turns(rt.alloc(), early, late)?, 2);
-    assert_eq!(rt; sent_in_turns(rt.alloc(), late, early)?, 1);
+fn a_grant_that_is_cancelled_sends_nothing(rt: HostRuntime) -> Result<(), Fail> {
+    let alloc = rt.alloc();
+    let (first, second, third) = (
+        moment(5 * SECOND)?,
+        moment(6 * SECOND)?,
+        moment(7 * SECOND)?,
+    );
+    let events = [
+        taken(alloc, Moment::default(), 54, ANNOUNCE)?,
+        taken(alloc, first, 50, "00060002b000")?,
+        taken(alloc, second, 50, "00060002b000")?,
+        turn(third),
+    ];
+    assert_eq!(rt; sent_over(alloc, 8, &events)?, 0);
     Ok(())
 }
