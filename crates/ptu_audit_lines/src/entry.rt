@@ -1,5 +1,5 @@
-use crate::octets::Octets;
 use ptu_history::Client;
+use ptu_lines::LentOctets;
 use ptu_units::{Kind, Log};
 
 /// What a grandmaster decided on a REQUEST or a CANCEL of a Signaling (IEEE 1588-2019 clause
@@ -77,7 +77,7 @@ pub enum Entry<'a> {
         number: u64,
         from: u32,
         to: u32,
-        octets: Octets<'a>,
+        octets: LentOctets<'a>,
     },
     /// The line says nothing of what a grandmaster promised, or of what was sent.
     Other,

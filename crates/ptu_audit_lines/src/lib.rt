@@ -4,12 +4,10 @@
 mod entry;
 pub mod examples;
 mod forms;
-mod octets;
 mod reading;
 mod words;
 
 pub use entry::{Decision, Entry, ReportLine};
-pub use octets::Octets;
 pub use reading::read_line;
 
 #[cfg(test)]

@@ -10,7 +10,7 @@ fn lines_are_read(rt: HostRuntime) -> Result<(), Fail> {
         (
             "3 send 2 10.0.0.1 10.0.1.17 event 0cff",
             "Some(At { number: 3, entry: Send { number: 2, from: 167772161, to: 167772433, \
-             octets: Octets { octets: [12, 255] } } })",
+             octets: LentOctets { octets: [12, 255] } } })",
         ),
         (
             "3 shed sync -7 10.0.1.18 0a00000000000012/1",

@@ -8,8 +8,7 @@ ghost use Rattle.ptu_units.specs.Log.{IsLogOf, least_log};
 ghost use Rattle.ptu_lines.specs.Words.{int_within, ip_of, number_within, octets_of, word_of};
 ghost use Rattle.ptu_audit_lines.specs.Words as forms;
 
-use crate::octets::Octets;
-use ptu_lines::{WordList, clock, ip, log, number, octets};
+use ptu_lines::{LentOctets, WordList, clock, ip, log, number, octets};
 use ptu_units::{Kind, Log};
 
 /// A number.
@@ -112,18 +111,22 @@ fn is_lower(word: &[u8]) -> bool
     word.iter().all(|octet| !(65 <= *octet && *octet <= 90))
 }
 
-fn hex_of<'a>(word: &[u8], buffer: &'a mut [u8; 2048]) -> Option<Octets<'a>>
+fn hex_of<'a>(word: &[u8], buffer: &'a mut [u8; 2048]) -> Option<LentOctets<'a>>
     ensures { result ≡ forms.hex_of word.now }
 {
     if !is_lower(word) {
         return None;
     }
     let count = octets(word, buffer)?;
-    Some(Octets::new(&buffer[..count]))
+    Some(LentOctets::new(&buffer[..count]))
 }
 
 /// The octets that the word with this number spells in lower case, put into the buffer.
-pub fn hex_field<'a>(line: &WordList, k: usize, buffer: &'a mut [u8; 2048]) -> Option<Octets<'a>>
+pub fn hex_field<'a>(
+    line: &WordList,
+    k: usize,
+    buffer: &'a mut [u8; 2048],
+) -> Option<LentOctets<'a>>
     ensures { result ≡ forms.field k forms.hex_of line.now }
 {
     hex_of(line.word(k)?, buffer)

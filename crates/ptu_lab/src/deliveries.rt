@@ -1,5 +1,5 @@
 //! Datagrams are handed to the lab's nodes.
-ghost use Rattle.std.specs.Prelude.{◌≡◌, ◌+◌, [], map, IfOk};
+ghost use Rattle.std.specs.Prelude.{◌≡◌, ◌+◌, [], map, IfOk, OnOk};
 ghost use Rattle.ptu_script.specs.declared.command.Command.TheVariants as commands;
 ghost use Rattle.ptu_world.specs.Report.{Course};
 ghost use Rattle.ptu_world.specs.World.{datagram_deed, node_at};
@@ -21,6 +21,15 @@ fn sum(so_far: u64, more: u64) -> Result<u64, OutOfMemory>
     ensures { IfOk result (λ n. n ≡ so_far + more) }
 {
     so_far.checked_add(more).ok_or(OutOfMemory)
+}
+
+// Puts a copy of the octets into the room, in place of what it holds.
+fn copy_into(room: &mut Vec<u8>, octets: &[u8]) -> Result<(), OutOfMemory>
+    ensures { OnOk result (room.new.items ≡ octets.now) }
+{
+    room.clear();
+    room.extend_from_slice(octets)?;
+    Ok(())
 }
 
 impl Lab {
@@ -90,7 +99,8 @@ impl Lab {
         }
     }
 
-    /// The datagram that was sent with this number is handed to the node of its address.
+    /// The datagram that was sent with this number is handed to the node of its address, from a
+    /// copy in the room.
     ///
     /// # Errors
     /// `OutOfMemory`.
@@ -101,6 +111,7 @@ impl Lab {
         number: u64,
         line: u64,
         texts: &mut Texts,
+        room: &mut Vec<u8>,
     ) -> Result<Option<Cause>, OutOfMemory>
         requires empty { texts.old ≡ [] }
         ensures { IfOk result (HasStepped line
@@ -117,8 +128,8 @@ impl Lab {
             Some(sent) => sent,
         };
         let (to, from) = (sent.to, sent.from);
-        let octets = Vec::from_slice(alloc, sent.octets.bytes())?;
-        if self.hand(alloc, at, to, from, &octets, line, texts)? {
+        copy_into(room, sent.octets.bytes())?;
+        if self.hand(alloc, at, to, from, room, line, texts)? {
             return Ok(None);
         }
         self.has_begun = true;

@@ -65,16 +65,17 @@ impl Lab {
     }
 
     /// Does what the script's line of this number commands, and adds what is said of it; or answers
-    /// why it is refused.
+    /// why it is refused. The room is for a copy of a datagram that was sent.
     ///
     /// # Errors
     /// `OutOfMemory`.
     pub fn step(
         &mut self,
         alloc: Global,
-        command: Command,
+        command: Command<'_>,
         line: u64,
         texts: &mut Texts,
+        room: &mut Vec<u8>,
     ) -> Result<Option<Cause>, OutOfMemory>
         requires means { (c : Course) × StandsFor
             (λ n. seen ⟦<dyn Judge as Judge>⟧ n.slave)
@@ -106,8 +107,8 @@ impl Lab {
                 node,
                 from,
                 octets,
-            } => self.receive(alloc, at, node, from, octets.bytes(), line, texts),
-            Command::Deliver { at, number } => self.deliver(alloc, at, number, line, texts),
+            } => self.receive(alloc, at, node, from, octets.as_slice(), line, texts),
+            Command::Deliver { at, number } => self.deliver(alloc, at, number, line, texts, room),
             Command::Turn {
                 at,
                 grandmaster,

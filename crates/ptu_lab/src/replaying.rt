@@ -25,7 +25,7 @@ use ptu_units::OutOfMemory;
 use std::alloc::Global;
 use std::marker::Model;
 
-/// What a lab means: the course of a script so far. No program ever has one.
+/// What a replayer means: the course of a script so far. No program ever has one.
 pub struct CourseSoFar;
 
 impl Model for CourseSoFar {
@@ -36,17 +36,25 @@ impl Model for CourseSoFar {
     ghost view = { λ _. course_opening (record { flags = 0; gaps = 0 }) };
 }
 
-impl Reporter for Lab {
+/// A lab, and the room that is kept for the octets of a line and for a datagram that was sent.
+#[derive(Drop)]
+pub struct Replayer {
+    pub lab: Lab,
+    pub line_room: [u8; 2048],
+    pub sent_room: Vec<u8>,
+}
+
+impl Reporter for Replayer {
     type Meaning = CourseSoFar;
 
     type Cause = Cause;
 
     ghost rules = { rules };
 
-    ghost stands_for = { λ lab course.
+    ghost stands_for = { λ replayer course.
         StandsFor (λ n. seen_by (λ j. (Judge-box j).Judge) n.slave)
-        (map (λ j. (Judge-box j).Judge.held j.value) lab.stock.flags.items)
-        (map (λ j. (Judge-box j).Judge.held j.value) lab.stock.gaps.items) lab course };
+        (map (λ j. (Judge-box j).Judge.held j.value) replayer.lab.stock.flags.items)
+        (map (λ j. (Judge-box j).Judge.held j.value) replayer.lab.stock.gaps.items) replayer.lab course };
 
     #[tactic(auto, unfolding(ptu_world::specs::Report::rules))]
     fn take(
@@ -56,9 +64,12 @@ impl Reporter for Lab {
         line: &[u8],
         texts: &mut Texts,
     ) -> Result<Option<Cause>, OutOfMemory> {
-        match read_command(alloc, line)? {
+        match read_command(line, &mut self.line_room) {
             Ok(None) => Ok(None),
-            Ok(Some(command)) => self.step(alloc, command, number, texts),
+            Ok(Some(command)) => {
+                self.lab
+                    .step(alloc, command, number, texts, &mut self.sent_room)
+            }
             Err(cause) => Ok(Some(cause)),
         }
     }
@@ -70,7 +81,7 @@ impl Reporter for Lab {
         lines: u64,
         texts: &mut Texts,
     ) -> Result<Option<Cause>, OutOfMemory> {
-        let datagrams = self.sent.len() as u64;
+        let datagrams = self.lab.sent.len() as u64;
         texts.add_text(&ReportLine::End { lines, datagrams })?;
         Ok(None)
     }
@@ -138,13 +149,18 @@ pub fn replay<S: Source, K: Sink>(
     ensures source_counts { CountsRead result (S.faults source.old) (S.faults source.new) }
     ensures sink_counts { CountsWrite result (K.faults sink.old) (K.faults sink.new) }
 {
-    let mut lab = Lab::new(alloc, stock);
-    match report(alloc, &mut lab, source, sink) {
+    let lab = Lab::new(alloc, stock);
+    let mut replayer = Replayer {
+        lab,
+        line_room: [0; 2048],
+        sent_room: Vec::new(alloc),
+    };
+    match report(alloc, &mut replayer, source, sink) {
         Ok(Ending::Whole { lines }) => Ok(Done {
             lines,
-            datagrams: lab.sent.len() as u64,
-            granted: lab.granted,
-            refused: lab.short,
+            datagrams: replayer.lab.sent.len() as u64,
+            granted: replayer.lab.granted,
+            refused: replayer.lab.short,
         }),
         Ok(Ending::Refused { number, cause }) => Err(LabFault::Line { number, cause }),
         Err(Stop::Read) => Err(LabFault::Read),

@@ -1,11 +1,12 @@
-use ptu_outside::Datagram;
+use ptu_lines::LentOctets;
 use ptu_pools::Pool;
 use ptu_script::GrandmasterSetup;
 use ptu_units::Moment;
 
-/// What a line of a script of pools commands. The last two are events.
+/// What a line of a script of pools commands. The last two are events. The octets of a datagram
+/// stand in room that the reader's caller lent.
 #[derive(Debug, Drop)]
-pub enum PoolCommand {
+pub enum PoolCommand<'a> {
     /// The grandmaster is set up, whose capacity the pools share.
     Grandmaster(GrandmasterSetup),
     /// A pool is sold. It has at most 32 bits.
@@ -14,7 +15,7 @@ pub enum PoolCommand {
     Receive {
         at: Moment,
         from: u32,
-        octets: Datagram,
+        octets: LentOctets<'a>,
     },
     /// A table, from 0 to 3, of the pool with this number, from 1 to 16, takes a turn.
     Turn {

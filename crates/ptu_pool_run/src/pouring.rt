@@ -52,7 +52,7 @@ impl Pouring {
     pub fn step(
         &mut self,
         alloc: Global,
-        command: PoolCommand,
+        command: PoolCommand<'_>,
         line: u64,
         texts: &mut Texts,
     ) -> Result<Option<PoolCause>, OutOfMemory>
@@ -66,7 +66,7 @@ impl Pouring {
             PoolCommand::Grandmaster(setup) => Ok(self.set_up(setup)),
             PoolCommand::Sell(pool) => self.sell(alloc, pool),
             PoolCommand::Receive { at, from, octets } => {
-                self.receive(alloc, at, from, octets.bytes(), line, texts)
+                self.receive(alloc, at, from, octets.as_slice(), line, texts)
             }
             PoolCommand::Turn { at, pool, table } => {
                 self.turn(alloc, at, pool, table, line, texts)

@@ -14,12 +14,11 @@ use ptu_pools::Pool;
 use ptu_script::Cause;
 use ptu_script::fields::{ip_field, moment_field, number_field, octets_field};
 use ptu_script::setups::grandmaster;
-use ptu_units::{Moment, OutOfMemory};
-use std::alloc::Global;
+use ptu_units::Moment;
 
 // `gm IP CLOCK PORT DOMAIN CLASS CAPACITY MAX`
 #[tactic(auto, unfolding(crate::specs::Command::fields_in))]
-fn gm(line: &WordList) -> Result<PoolCommand, Cause>
+fn gm<'a>(line: &WordList) -> Result<PoolCommand<'a>, Cause>
     ensures value { result ≡ fields_in verbs.Gm line.now }
     ensures within { IfOk result IsWithinLimits }
 {
@@ -28,7 +27,7 @@ fn gm(line: &WordList) -> Result<PoolCommand, Cause>
 
 // `pool IP BITS N`
 #[tactic(auto, unfolding(crate::specs::Command::fields_in))]
-fn pool(line: &WordList) -> Result<PoolCommand, Cause>
+fn pool<'a>(line: &WordList) -> Result<PoolCommand<'a>, Cause>
     ensures value { result ≡ fields_in verbs.Pool line.now }
     ensures within { IfOk result IsWithinLimits }
 {
@@ -44,7 +43,7 @@ fn pool(line: &WordList) -> Result<PoolCommand, Cause>
 
 // `turn T I J`
 #[tactic(auto, unfolding(crate::specs::Command::fields_in))]
-fn turn(line: &WordList) -> Result<PoolCommand, Cause>
+fn turn<'a>(line: &WordList) -> Result<PoolCommand<'a>, Cause>
     ensures value { result ≡ fields_in verbs.Turn line.now }
     ensures within { IfOk result IsWithinLimits }
 {
@@ -67,74 +66,66 @@ fn handed(line: &WordList) -> Result<(Moment, u32), Cause>
     Ok((at, from))
 }
 
-// `rx T IP HEX`
+// `rx T IP HEX`. The octets are put into the room.
 #[tactic(auto, unfolding(crate::specs::Command::fields_in))]
-fn rx(alloc: Global, line: &WordList) -> Result<Result<PoolCommand, Cause>, OutOfMemory>
-    ensures value { IfOk result (λ read. read ≡ fields_in verbs.Rx line.now) }
-    ensures within { IfOk result (λ read. IfOk read IsWithinLimits) }
+fn rx<'a>(line: &WordList, room: &'a mut [u8; 2048]) -> Result<PoolCommand<'a>, Cause>
+    ensures value { result ≡ fields_in verbs.Rx line.now }
+    ensures within { IfOk result IsWithinLimits }
 {
-    let (at, from) = match handed(line) {
-        Ok(words) => words,
-        Err(cause) => return Ok(Err(cause)),
-    };
-    match octets_field(alloc, line, 4)? {
-        Ok(octets) => Ok(Ok(PoolCommand::Receive { at, from, octets })),
-        Err(cause) => Ok(Err(cause)),
-    }
+    let (at, from) = handed(line)?;
+    let octets = octets_field(line, 4, room)?;
+    Ok(PoolCommand::Receive { at, from, octets })
 }
 
 // What stands behind the first word.
-fn fields(
-    alloc: Global,
+fn fields<'a>(
     verb: PoolVerb,
     line: &WordList,
-) -> Result<Result<PoolCommand, Cause>, OutOfMemory>
-    ensures value { IfOk result (λ read. read ≡ fields_in verb line.now) }
-    ensures within { IfOk result (λ read. IfOk read IsWithinLimits) }
+    room: &'a mut [u8; 2048],
+) -> Result<PoolCommand<'a>, Cause>
+    ensures value { result ≡ fields_in verb line.now }
+    ensures within { IfOk result IsWithinLimits }
 {
     match verb {
-        PoolVerb::Gm => Ok(gm(line)),
-        PoolVerb::Pool => Ok(pool(line)),
-        PoolVerb::Rx => rx(alloc, line),
-        PoolVerb::Turn => Ok(turn(line)),
+        PoolVerb::Gm => gm(line),
+        PoolVerb::Pool => pool(line),
+        PoolVerb::Rx => rx(line, room),
+        PoolVerb::Turn => turn(line),
     }
 }
 
 // The command of a line that is no comment.
-fn command(alloc: Global, line: &[u8]) -> Result<Result<PoolCommand, Cause>, OutOfMemory>
-    ensures value { IfOk result
-        (λ read. read ≡ command_by (verb_named (unwrap_or (word_of line.now 1) [])) line.now) }
-    ensures within { IfOk result (λ read. IfOk read IsWithinLimits) }
+fn command<'a>(line: &[u8], room: &'a mut [u8; 2048]) -> Result<PoolCommand<'a>, Cause>
+    ensures value { result
+        ≡ command_by (verb_named (unwrap_or (word_of line.now 1) [])) line.now }
+    ensures within { IfOk result IsWithinLimits }
 {
     let words = WordList::new(line);
     match PoolVerb::of(words.word(1).unwrap_or(&[])) {
-        None => Ok(Err(Cause::Word)),
-        Some(verb) if words.count() == verb.count() => fields(alloc, verb, &words),
-        Some(_) => Ok(Err(Cause::Count)),
+        None => Err(Cause::Word),
+        Some(verb) if words.count() == verb.count() => fields(verb, &words, room),
+        Some(_) => Err(Cause::Count),
     }
 }
 
-/// What a line of a script of pools commands, `None` for a line that is empty or begins with `#`,
-/// or why it is refused: its first word is that of no command (`Word`), it has another number of
-/// words than its command (`Count`), or the word with the least such number is outside its form or
-/// range (`Field`), in this order. No other cause is given. The line is one without its 0A; it may
-/// be of any length and of any octets.
+/// What a line of a script of pools commands, or `None` for a line that is empty or begins with
+/// `#`. The line is one without its 0A; it may be of any length and of any octets. A datagram's
+/// octets are put into the room; after any other line its content is not said. No memory is taken.
 ///
 /// # Errors
-/// `OutOfMemory`, for a datagram's octets alone.
+/// Why the line is refused: its first word is that of no command (`Word`), it has another number of
+/// words than its command (`Count`), or the word with the least such number is outside its form or
+/// range (`Field`), in this order. No other cause is given.
 #[tactic(auto, unfolding(crate::specs::Command::command_of))]
-pub fn read_pool_command(
-    alloc: Global,
+pub fn read_pool_command<'a>(
     line: &[u8],
-) -> Result<Result<Option<PoolCommand>, Cause>, OutOfMemory>
-    ensures value { IfOk result (λ read. read ≡ command_of line.now) }
-    ensures within { IfOk result (λ read. IfOk read (λ command. IfSome command IsWithinLimits)) }
+    room: &'a mut [u8; 2048],
+) -> Result<Option<PoolCommand<'a>>, Cause>
+    ensures value { result ≡ command_of line.now }
+    ensures within { IfOk result (λ command. IfSome command IsWithinLimits) }
 {
     if matches!(line, [] | [b'#', ..]) {
-        return Ok(Ok(None));
+        return Ok(None);
     }
-    match command(alloc, line)? {
-        Ok(command) => Ok(Ok(Some(command))),
-        Err(cause) => Ok(Err(cause)),
-    }
+    Ok(Some(command(line, room)?))
 }

@@ -35,14 +35,21 @@ impl Model for ToldSoFar {
     ghost view = { λ _. opening };
 }
 
-impl Reporter for Pouring {
+/// What the lines so far have made, and the room for the octets of the line that is taken.
+#[derive(Drop)]
+pub struct Pourer {
+    pub pouring: Pouring,
+    pub room: [u8; 2048],
+}
+
+impl Reporter for Pourer {
     type Meaning = ToldSoFar;
 
     type Cause = PoolCause;
 
     ghost rules = { rules };
 
-    ghost stands_for = { StandsFor };
+    ghost stands_for = { λ pourer told. StandsFor pourer.pouring told };
 
     #[tactic(auto, unfolding(crate::specs::Reading::rules))]
     fn take(
@@ -52,9 +59,9 @@ impl Reporter for Pouring {
         line: &[u8],
         texts: &mut Texts,
     ) -> Result<Option<PoolCause>, OutOfMemory> {
-        match read_pool_command(alloc, line)? {
+        match read_pool_command(line, &mut self.room) {
             Ok(None) => Ok(None),
-            Ok(Some(command)) => self.step(alloc, command, number, texts),
+            Ok(Some(command)) => self.pouring.step(alloc, command, number, texts),
             Err(cause) => Ok(Some(PoolCause::from(cause))),
         }
     }
@@ -127,8 +134,12 @@ pub fn pools<S: Source, K: Sink>(
     ensures sink_counts { CountsWrite (run_ending result) (K.faults sink.old)
         (K.faults sink.new) }
 {
-    let mut pouring = Pouring::new();
-    match report(alloc, &mut pouring, source, sink) {
+    let pouring = Pouring::new();
+    let mut pourer = Pourer {
+        pouring,
+        room: [0; 2048],
+    };
+    match report(alloc, &mut pourer, source, sink) {
         Ok(Ending::Whole { lines }) => Ok(lines),
         Ok(Ending::Refused { number, cause }) => Err(PoolRunFault::Line { number, cause }),
         Err(Stop::Read) => Err(PoolRunFault::Read),

@@ -5,8 +5,8 @@ use ptu_script::Cause;
 use std::test::Fail;
 
 #[test]
-fn each_form(rt: HostRuntime) -> Result<(), Fail> {
-    let alloc = rt.alloc();
+fn each_form(rt: HostRuntime) {
+    let mut room = [0; 2048];
     for (line, cause) in [
         ("", None),
         ("# two customers", None),
@@ -31,10 +31,9 @@ fn each_form(rt: HostRuntime) -> Result<(), Fail> {
         ("turn 0 17 0", Some(Cause::Field(3))),
         ("turn 0 1 4", Some(Cause::Field(4))),
     ] {
-        let read = read_pool_command(alloc, line.as_bytes())?;
+        let read = read_pool_command(line.as_bytes(), &mut room);
         assert_eq!(rt; read.err(), cause);
     }
-    Ok(())
 }
 
 #[test]

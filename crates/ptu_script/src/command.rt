@@ -1,4 +1,4 @@
-use ptu_outside::Datagram;
+use ptu_lines::LentOctets;
 use ptu_record::{Rule, Wants};
 use ptu_units::Moment;
 
@@ -45,9 +45,10 @@ pub struct SlaveSetup {
     pub wants: Wants,
 }
 
-/// What a line of a script commands. The first three set nodes up, the others are events.
+/// What a line of a script commands. The first three set nodes up, the others are events. The
+/// octets of a datagram stand in room that the reader's caller lent.
 #[derive(Debug, Drop)]
-pub enum Command {
+pub enum Command<'a> {
     /// A grandmaster is set up.
     Grandmaster(GrandmasterSetup),
     /// A slave without masters is set up.
@@ -64,7 +65,7 @@ pub enum Command {
         at: Moment,
         node: u32,
         from: u32,
-        octets: Datagram,
+        octets: LentOctets<'a>,
     },
     /// The datagram that was sent with this number is handed to the node of its address.
     Deliver {

@@ -8,13 +8,11 @@ use crate::cause::Cause;
 use crate::command::Command;
 use crate::fields::{ip_field, moment_field, number_field, octets_field, rule_field, truth_field};
 use ptu_lines::WordList;
-use ptu_outside::Datagram;
-use ptu_units::{Moment, OutOfMemory};
-use std::alloc::Global;
+use ptu_units::Moment;
 
 /// A datagram that was sent is handed to its node.
 #[tactic(auto, unfolding(crate::specs::Command::fields_in))]
-pub fn deliver(line: &WordList) -> Result<Command, Cause>
+pub fn deliver<'a>(line: &WordList) -> Result<Command<'a>, Cause>
     ensures value { result ≡ fields_in verbs.Deliver line.now }
     ensures within { IfOk result IsWithinLimits }
 {
@@ -25,7 +23,7 @@ pub fn deliver(line: &WordList) -> Result<Command, Cause>
 
 /// A table takes a turn.
 #[tactic(auto, unfolding(crate::specs::Command::fields_in))]
-pub fn turn(line: &WordList) -> Result<Command, Cause>
+pub fn turn<'a>(line: &WordList) -> Result<Command<'a>, Cause>
     ensures value { result ≡ fields_in verbs.Turn line.now }
     ensures within { IfOk result IsWithinLimits }
 {
@@ -41,7 +39,7 @@ pub fn turn(line: &WordList) -> Result<Command, Cause>
 
 /// A slave takes a tick.
 #[tactic(auto, unfolding(crate::specs::Command::fields_in))]
-pub fn tick(line: &WordList) -> Result<Command, Cause>
+pub fn tick<'a>(line: &WordList) -> Result<Command<'a>, Cause>
     ensures value { result ≡ fields_in verbs.Tick line.now }
     ensures within { IfOk result IsWithinLimits }
 {
@@ -52,7 +50,7 @@ pub fn tick(line: &WordList) -> Result<Command, Cause>
 
 /// The operator speaks of a master.
 #[tactic(auto, unfolding(crate::specs::Command::fields_in))]
-pub fn flag(line: &WordList) -> Result<Command, Cause>
+pub fn flag<'a>(line: &WordList) -> Result<Command<'a>, Cause>
     ensures value { result ≡ fields_in verbs.Flag line.now }
     ensures within { IfOk result IsWithinLimits }
 {
@@ -70,7 +68,7 @@ pub fn flag(line: &WordList) -> Result<Command, Cause>
 
 /// A judge is replaced.
 #[tactic(auto, unfolding(crate::specs::Command::fields_in))]
-pub fn judge(line: &WordList) -> Result<Command, Cause>
+pub fn judge<'a>(line: &WordList) -> Result<Command<'a>, Cause>
     ensures value { result ≡ fields_in verbs.Judge line.now }
     ensures within { IfOk result IsWithinLimits }
 {
@@ -88,7 +86,7 @@ pub fn judge(line: &WordList) -> Result<Command, Cause>
 
 /// A slave stops.
 #[tactic(auto, unfolding(crate::specs::Command::fields_in))]
-pub fn stop(line: &WordList) -> Result<Command, Cause>
+pub fn stop<'a>(line: &WordList) -> Result<Command<'a>, Cause>
     ensures value { result ≡ fields_in verbs.Stop line.now }
     ensures within { IfOk result IsWithinLimits }
 {
@@ -99,7 +97,7 @@ pub fn stop(line: &WordList) -> Result<Command, Cause>
 
 /// The class of a grandmaster changes.
 #[tactic(auto, unfolding(crate::specs::Command::fields_in))]
-pub fn class(line: &WordList) -> Result<Command, Cause>
+pub fn class<'a>(line: &WordList) -> Result<Command<'a>, Cause>
     ensures value { result ≡ fields_in verbs.Class line.now }
     ensures within { IfOk result IsWithinLimits }
 {
@@ -113,7 +111,7 @@ pub fn class(line: &WordList) -> Result<Command, Cause>
 
 /// The capacity of a grandmaster changes.
 #[tactic(auto, unfolding(crate::specs::Command::fields_in))]
-pub fn capacity(line: &WordList) -> Result<Command, Cause>
+pub fn capacity<'a>(line: &WordList) -> Result<Command<'a>, Cause>
     ensures value { result ≡ fields_in verbs.Capacity line.now }
     ensures within { IfOk result IsWithinLimits }
 {
@@ -137,23 +135,18 @@ fn handed(line: &WordList) -> Result<(Moment, u32, u32), Cause>
     Ok((at, node, from))
 }
 
-/// A datagram is handed to a node.
+/// A datagram is handed to a node. Its octets are put into the room.
 #[tactic(auto, unfolding(crate::specs::Command::fields_in))]
-pub fn rx(alloc: Global, line: &WordList) -> Result<Result<Command, Cause>, OutOfMemory>
-    ensures value { IfOk result (λ read. read ≡ fields_in verbs.Rx line.now) }
-    ensures within { IfOk result (λ read. IfOk read IsWithinLimits) }
+pub fn rx<'a>(line: &WordList, room: &'a mut [u8; 2048]) -> Result<Command<'a>, Cause>
+    ensures value { result ≡ fields_in verbs.Rx line.now }
+    ensures within { IfOk result IsWithinLimits }
 {
-    let (at, node, from) = match handed(line) {
-        Ok(words) => words,
-        Err(cause) => return Ok(Err(cause)),
-    };
-    match octets_field(alloc, line, 5)? {
-        Ok(octets) => Ok(Ok(Command::Receive {
-            at,
-            node,
-            from,
-            octets,
-        })),
-        Err(cause) => Ok(Err(cause)),
-    }
+    let (at, node, from) = handed(line)?;
+    let octets = octets_field(line, 5, room)?;
+    Ok(Command::Receive {
+        at,
+        node,
+        from,
+        octets,
+    })
 }

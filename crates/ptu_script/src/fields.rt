@@ -9,11 +9,9 @@ ghost use Rattle.ptu_script.specs.Command.{moment_of};
 ghost use Rattle.ptu_script.specs.Limits.{IsNamed};
 
 use crate::cause::Cause;
-use ptu_lines::{WordList, clock, ip, log, number, octets};
-use ptu_outside::Datagram;
+use ptu_lines::{LentOctets, WordList, clock, ip, log, number, octets};
 use ptu_record::Rule;
-use ptu_units::{Kind, Log, Moment, OutOfMemory};
-use std::alloc::Global;
+use ptu_units::{Kind, Log, Moment};
 
 // The value that there is, or that the word with this number is outside its form.
 fn or_outside<T: Drop>(value: Option<T>, k: u8) -> Result<T, Cause>
@@ -167,30 +165,26 @@ pub fn truth_field(line: &WordList, k: u8) -> Result<bool, Cause>
     or_outside(truth_at(line, k), k)
 }
 
-// The number of octets that a word spells, which stand at the front of the buffer.
-fn octets_at(line: &WordList, k: u8, buffer: &mut [u8; 2048]) -> Option<usize>
+// The number of octets that a word spells, which stand at the front of the room.
+fn octets_at(line: &WordList, k: u8, room: &mut [u8; 2048]) -> Option<usize>
     ensures form { MatchOption (option_and_then octets_of (word_of line.now k)) (result ≡ None)
-        (λ octets. (result ≡ Some (length octets)) × (take (length octets) buffer.new ≡ octets)) }
+        (λ octets. (result ≡ Some (length octets)) × (take (length octets) room.new ≡ octets)) }
     ensures within { IfSome result (λ n. n ≤ 2048) }
 {
-    octets(line.word(usize::from(k))?, buffer)
+    octets(line.word(usize::from(k))?, room)
 }
 
-/// The octets of a datagram, at most 2048.
-pub fn octets_field(
-    alloc: Global,
+/// The octets of a datagram, at most 2048, which are put into the room.
+pub fn octets_field<'a>(
     line: &WordList,
     k: u8,
-) -> Result<Result<Datagram, Cause>, OutOfMemory>
-    ensures value { IfOk result (λ octets. octets ≡ field k octets_of line.now) }
-    ensures within { IfOk result (λ read. IfOk read (λ octets. length octets ≤ 2048)) }
+    room: &'a mut [u8; 2048],
+) -> Result<LentOctets<'a>, Cause>
+    ensures value { result ≡ field k octets_of line.now }
+    ensures within { IfOk result (λ octets. length octets ≤ 2048) }
 {
-    let mut buffer = [0; 2048];
-    match octets_at(line, k, &mut buffer) {
-        None => Ok(Err(Cause::Field(k))),
-        Some(size) => {
-            let octets = buffer[..size].to_vec(alloc)?;
-            Ok(Ok(Datagram::new(octets)))
-        }
+    match octets_at(line, k, room) {
+        None => Err(Cause::Field(k)),
+        Some(size) => Ok(LentOctets::new(&room[..size])),
     }
 }

@@ -11,27 +11,25 @@ use crate::events::{capacity, class, deliver, flag, judge, rx, stop, tick, turn}
 use crate::setups::{gm, master, new_slave};
 use crate::verb::Verb;
 use ptu_lines::WordList;
-use ptu_units::OutOfMemory;
-use std::alloc::Global;
 
 // What stands behind the first word.
-fn fields(alloc: Global, verb: Verb, line: &WordList) -> Result<Result<Command, Cause>, OutOfMemory>
-    ensures value { IfOk result (λ read. read ≡ fields_in verb line.now) }
-    ensures within { IfOk result (λ read. IfOk read IsWithinLimits) }
+fn fields<'a>(verb: Verb, line: &WordList, room: &'a mut [u8; 2048]) -> Result<Command<'a>, Cause>
+    ensures value { result ≡ fields_in verb line.now }
+    ensures within { IfOk result IsWithinLimits }
 {
     match verb {
-        Verb::Gm => Ok(gm(line)),
-        Verb::Slave => Ok(new_slave(line)),
-        Verb::Master => Ok(master(line)),
-        Verb::Rx => rx(alloc, line),
-        Verb::Deliver => Ok(deliver(line)),
-        Verb::Turn => Ok(turn(line)),
-        Verb::Tick => Ok(tick(line)),
-        Verb::Flag => Ok(flag(line)),
-        Verb::Judge => Ok(judge(line)),
-        Verb::Stop => Ok(stop(line)),
-        Verb::Class => Ok(class(line)),
-        Verb::Capacity => Ok(capacity(line)),
+        Verb::Gm => gm(line),
+        Verb::Slave => new_slave(line),
+        Verb::Master => master(line),
+        Verb::Rx => rx(line, room),
+        Verb::Deliver => deliver(line),
+        Verb::Turn => turn(line),
+        Verb::Tick => tick(line),
+        Verb::Flag => flag(line),
+        Verb::Judge => judge(line),
+        Verb::Stop => stop(line),
+        Verb::Class => class(line),
+        Verb::Capacity => capacity(line),
     }
 }
 
@@ -50,40 +48,34 @@ fn is_counted(verb: Verb, line: &WordList) -> bool
 }
 
 // The command of a line that is no comment.
-fn command(alloc: Global, line: &[u8]) -> Result<Result<Command, Cause>, OutOfMemory>
-    ensures value { IfOk result (λ read.
-        read ≡ command_by (verb_named (unwrap_or (word_of line.now 1) [])) line.now) }
-    ensures within { IfOk result (λ read. IfOk read IsWithinLimits) }
+fn command<'a>(line: &[u8], room: &'a mut [u8; 2048]) -> Result<Command<'a>, Cause>
+    ensures value { result
+        ≡ command_by (verb_named (unwrap_or (word_of line.now 1) [])) line.now }
+    ensures within { IfOk result IsWithinLimits }
 {
     let words = WordList::new(line);
     match Verb::of(words.word(1).unwrap_or(&[])) {
-        None => Ok(Err(Cause::Word)),
-        Some(verb) if is_counted(verb, &words) => fields(alloc, verb, &words),
-        Some(_) => Ok(Err(Cause::Count)),
+        None => Err(Cause::Word),
+        Some(verb) if is_counted(verb, &words) => fields(verb, &words, room),
+        Some(_) => Err(Cause::Count),
     }
 }
 
-/// What a line of a script commands, `None` for a line that is empty or begins with `#`, or why it
-/// is refused: its first word is that of no command (`Word`), it has another number of words than
-/// its command (`Count`), or the word with the least such number is outside its form or range
-/// (`Field`), in this order. No other cause is given. The line is one without its 0A; it may be
-/// of any length and of any octets.
+/// What a line of a script commands, or `None` for a line that is empty or begins with `#`. The
+/// line is one without its 0A; it may be of any length and of any octets. A datagram's octets are
+/// put into the room; after any other line its content is not said. No memory is taken.
 ///
 /// # Errors
-/// `OutOfMemory`, for a datagram's octets alone.
+/// Why the line is refused: its first word is that of no command (`Word`), it has another number of
+/// words than its command (`Count`), or the word with the least such number is outside its form or
+/// range (`Field`), in this order. No other cause is given.
 #[tactic(auto, unfolding(crate::specs::Command::command_of))]
-pub fn read_command(
-    alloc: Global,
-    line: &[u8],
-) -> Result<Result<Option<Command>, Cause>, OutOfMemory>
-    ensures value { IfOk result (λ read. read ≡ command_of line.now) }
-    ensures within { IfOk result (λ read. IfOk read (λ command. IfSome command IsWithinLimits)) }
+pub fn read_command<'a>(line: &[u8], room: &'a mut [u8; 2048]) -> Result<Option<Command<'a>>, Cause>
+    ensures value { result ≡ command_of line.now }
+    ensures within { IfOk result (λ command. IfSome command IsWithinLimits) }
 {
     if matches!(line, [] | [b'#', ..]) {
-        return Ok(Ok(None));
+        return Ok(None);
     }
-    match command(alloc, line)? {
-        Ok(command) => Ok(Ok(Some(command))),
-        Err(cause) => Ok(Err(cause)),
-    }
+    Ok(Some(command(line, room)?))
 }

@@ -87,7 +87,7 @@ fn slave(line: &WordList) -> Result<SlaveSetup, Cause>
 
 /// A grandmaster is set up.
 #[tactic(auto, unfolding(crate::specs::Command::fields_in))]
-pub fn gm(line: &WordList) -> Result<Command, Cause>
+pub fn gm<'a>(line: &WordList) -> Result<Command<'a>, Cause>
     ensures value { result ≡ fields_in verbs.Gm line.now }
     ensures within { IfOk result IsWithinLimits }
 {
@@ -96,7 +96,7 @@ pub fn gm(line: &WordList) -> Result<Command, Cause>
 
 /// A slave is set up.
 #[tactic(auto, unfolding(crate::specs::Command::fields_in))]
-pub fn new_slave(line: &WordList) -> Result<Command, Cause>
+pub fn new_slave<'a>(line: &WordList) -> Result<Command<'a>, Cause>
     ensures value { result ≡ fields_in verbs.Slave line.now }
     ensures within { IfOk result IsWithinLimits }
 {
@@ -105,7 +105,7 @@ pub fn new_slave(line: &WordList) -> Result<Command, Cause>
 
 /// A slave gets a master.
 #[tactic(auto, unfolding(crate::specs::Command::fields_in))]
-pub fn master(line: &WordList) -> Result<Command, Cause>
+pub fn master<'a>(line: &WordList) -> Result<Command<'a>, Cause>
     ensures value { result ≡ fields_in verbs.Master line.now }
     ensures within { IfOk result IsWithinLimits }
 {

@@ -2,14 +2,14 @@ ghost use Rattle.std.specs.Prelude.{◌≡◌};
 
 use std::marker::Model;
 
-/// The octets of a datagram that a line names, in a buffer that the reader's caller lent. A clause
-/// sees them as a list.
+/// The octets of a datagram that a line names, in room that the reader's caller lent. A clause sees
+/// them as a list.
 #[derive(Debug, Drop)]
-pub struct Octets<'a> {
+pub struct LentOctets<'a> {
     octets: &'a [u8],
 }
 
-impl<'a> Model for Octets<'a> {
+impl<'a> Model for LentOctets<'a> {
     ghost use Rattle.std.specs.Prelude.{ℕ, List};
 
     ghost Value = { List ℕ };
@@ -17,12 +17,12 @@ impl<'a> Model for Octets<'a> {
     ghost view = { λ o. o.octets.now };
 }
 
-impl<'a> Octets<'a> {
+impl<'a> LentOctets<'a> {
     /// These.
-    pub fn new(octets: &'a [u8]) -> Octets<'a>
+    pub fn new(octets: &'a [u8]) -> LentOctets<'a>
         ensures { result ≡ octets.now }
     {
-        Octets { octets }
+        LentOctets { octets }
     }
 
     /// Them, in order.
