@@ -1,8 +1,6 @@
 -- That the capacity of a grandmaster of a script has changed.
 use Rattle.std.proofs.Common.{◌≡◌, ◌∙◌, ℕ, ◌+◌, ◌%◌, List, [], ◌∷◌, ◌++◌, Bool, false, cond, map, refl, sym, ap, ap₂, subst, arith, append_assoc, Some}
-use Rattle.std.proofs.lemmas.List.Sums.{sum_by-cons}
 use Rattle.std.proofs.lemmas.Simd.{map-map}
-use Rattle.std.specs.List.{count_by}
 use Rattle.ptu_units.specs.declared.kind.Kind.{Kind}
 use Rattle.ptu_outside.specs.Departure.{Departure}
 use Rattle.ptu_outside.specs.MemoryPort.{MemoryPort}
@@ -20,17 +18,16 @@ use Rattle.ptu_items.specs.Deciding.{opened_with}
 use Rattle.ptu_items.specs.Replies.{cancel_to, cancels_to, lease_of}
 use Rattle.ptu_grandmaster.specs.Changed.{leases_shed}
 use Rattle.ptu_grandmaster.specs.Gm.{KeptGm, StandsFor}
-use Rattle.ptu_report_lines.specs.declared.sent.Sent.{Sent}
-use Rattle.ptu_report_lines.specs.declared.statement.Statement.{Statement}
 use Rattle.ptu_report_lines.specs.declared.statement.Statement.TheVariants as statements
 use Rattle.ptu_world.specs.Deeds.{Grandmaster}
 use Rattle.ptu_world.specs.Grandmasters.{capacity_deed, shed_said}
-use Rattle.ptu_world.specs.Report.{is_granted, is_short, text_at}
 use Rattle.ptu_nodes.specs.Doing.{HasDone}
-use Rattle.ptu_nodes.specs.GrandmasterPorts.{GoesOn, HasHanded, in_ports}
+use Rattle.ptu_nodes.specs.GrandmasterPorts.{GoesOn, in_ports}
 use Rattle.ptu_nodes.specs.GrandmasterStatements.{shed_seen}
+use Rattle.ptu_nodes.specs.Noted.{Noted, with_handed, with_said}
 use Rattle.ptu_nodes.specs.Standing.{AreIdle, IsGrandmasterNode, StandsAsGrandmaster}
 use Rattle.ptu_nodes.proofs.GrandmasterDone.{all_handed, has_done, stands_after}
+use Rattle.ptu_nodes.proofs.Noting.{said_more}
 
 -- ---- what stands in the ports, where those of the tables are idle
 
@@ -59,17 +56,7 @@ begins_again n = omega arith
 
 -- ---- a change of capacity
 
-none_counted : (p : Statement → Bool) (gs : List Grant) → ((s : Grant) → p (shed_said s) ≡ false) → count_by p (map shed_said gs) ≡ 0
-none_counted p [] none_does = refl
-none_counted p (s ∷ gs) none_does =
-    sum_by-cons (λ s. cond (p s) 1 0) (shed_said s) (map shed_said gs) ∙ ap₂ (λ b n. cond b 1 0 + n) (none_does s) (none_counted p gs none_does)
-
-changes_none : (p : Statement → Bool) (ip capacity x : ℕ) (gs : List Grant) → p (statements.Capacity ip capacity x) ≡ false → ((s : Grant) → p (shed_said s) ≡ false) →
-    count_by p (statements.Capacity ip capacity x ∷ map shed_said gs) ≡ 0
-changes_none p ip capacity x gs is_none none_does =
-    sum_by-cons (λ s. cond (p s) 1 0) (statements.Capacity ip capacity x) (map shed_said gs) ∙ ap₂ (λ b n. cond b 1 0 + n) is_none (none_counted p gs none_does)
-
-pub change_done : (ip line t capacity : ℕ) (gm0 gm1 gm2 gm3 : KeptGm MemoryPort) (at : ℕ) (shed : List Shed) (sent sent' : List Sent) (texts begun said texts' : List (List ℕ)) (g : Grandmaster) →
+pub change_done : (ip t capacity : ℕ) (gm0 gm1 gm2 gm3 : KeptGm MemoryPort) (at : ℕ) (shed : List Shed) (old begun said new : Noted) (g : Grandmaster) →
     IsGrandmasterNode (record { ip = ip; gm = gm0 }) g → GoesOn gm0 gm1 → (AreIdle gm0 → AreIdle gm1) →
     Some (gm1.reply.sent ++ cancels_to gm1.config gm1.sequence (leases_shed shed)) ≡ Some gm2.reply.sent →
     (gm2.s0.port ≡ gm1.s0.port) × (gm2.s1.port ≡ gm1.s1.port) × (gm2.s2.port ≡ gm1.s2.port) × (gm2.s3.port ≡ gm1.s3.port) →
@@ -78,16 +65,15 @@ pub change_done : (ip line t capacity : ℕ) (gm0 gm1 gm2 gm3 : KeptGm MemoryPor
     (at ≡ book_step_moment history t) × (shed ≡ map shed_of (shed_grants history at capacity))) →
     ((opening : ℕ) (history : List Record) → StandsFor opening gm1 history →
     StandsFor opening gm2 (history ++ (core_step (opened_with opening gm1.config) history t (events.Resize capacity)).records)) →
-    begun ≡ texts ++ text_at line (statements.Capacity ip capacity at) ∷ [] → said ≡ begun ++ map (text_at line) (map shed_seen shed) →
-    HasHanded ip line (in_ports gm2) sent sent' said texts' → GoesOn gm2 gm3 → AreIdle gm3 →
-    HasDone (StandsAsGrandmaster (record { ip = ip; gm = gm3 })) ip line (capacity_deed g t capacity) sent sent' texts texts' 0 0
+    begun ≡ with_said (statements.Capacity ip capacity at ∷ []) old → said ≡ with_said (map shed_seen shed) begun →
+    new ≡ with_handed ip (in_ports gm2) said → GoesOn gm2 gm3 → AreIdle gm3 →
+    HasDone (StandsAsGrandmaster (record { ip = ip; gm = gm3 })) ip (capacity_deed g t capacity) old new
 unfolding history_after
-change_done ip line t capacity gm0 gm1 gm2 gm3 at shed sent sent' texts begun said texts' g is first idle sends ports same_config found stands begins says handed last idle' =
-    has_done _ ip line (capacity_deed g t capacity) sent sent' texts said texts' 0 0
+change_done ip t capacity gm0 gm1 gm2 gm3 at shed old begun said new g is first idle sends ports same_config found stands begins says handed last idle' =
+    has_done _ ip (capacity_deed g t capacity) old said new
     (stands_after g ip gm0 gm1 gm2 gm3 _ is first same_config
     (subst (λ (config : GmConfig). StandsFor g.capacity gm2 (g.past ++ (core_step (opened_with g.capacity config) g.past t (events.Resize capacity)).records)) (sym config) (stands g.capacity g.past stood)) last idle')
-    refl said_is (subst (λ (l : List Departure). HasHanded ip line l sent sent' said texts') in_ports_are handed) (sym (changes_none is_granted g.ip capacity (book_step_moment g.past t) (shed_grants g.past (book_step_moment g.past t) capacity) refl (λ s. refl)))
-    (sym (changes_none is_short g.ip capacity (book_step_moment g.past t) (shed_grants g.past (book_step_moment g.past t) capacity) refl (λ s. refl)))
+    refl said_is (subst (λ (l : List Departure). new ≡ with_handed ip l said) in_ports_are handed)
   where
     config : g.config ≡ gm1.config
     config = is.config ∙ sym first.config
@@ -116,8 +102,8 @@ change_done ip line t capacity gm0 gm1 gm2 gm3 at shed sent sent' texts begun sa
     seen : map shed_seen shed ≡ map shed_said (shed_grants g.past (book_step_moment g.past t) capacity)
     seen = ap (map shed_seen) shed_is ∙ map-map shed_seen shed_of (shed_grants g.past (book_step_moment g.past t) capacity)
 
-    said_is : said ≡ texts ++ map (text_at line) (capacity_deed g t capacity).said
+    said_is : said ≡ with_said (capacity_deed g t capacity).said old
     said_is =
-        says ∙ ap (λ l. l ++ map (text_at line) (map shed_seen shed)) begins ∙ append_assoc texts _ _
-        ∙ ap (λ l. texts ++ text_at line (statements.Capacity ip capacity at) ∷ map (text_at line) l) seen
-        ∙ ap₂ (λ a x. texts ++ text_at line (statements.Capacity a capacity x) ∷ map (text_at line) (map shed_said (shed_grants g.past (book_step_moment g.past t) capacity))) (sym is.ip) moment
+        says ∙ ap (with_said (map shed_seen shed)) begins ∙ sym (said_more (statements.Capacity ip capacity at ∷ []) (map shed_seen shed) old)
+        ∙ ap (λ l. with_said (statements.Capacity ip capacity at ∷ l) old) seen
+        ∙ ap₂ (λ a x. with_said (statements.Capacity a capacity x ∷ map shed_said (shed_grants g.past (book_step_moment g.past t) capacity)) old) (sym is.ip) moment

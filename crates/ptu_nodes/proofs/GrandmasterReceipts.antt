@@ -1,7 +1,6 @@
 -- That a grandmaster of a script has taken a datagram.
 use Rattle.std.proofs.Common.{◌≡◌, ◌∙◌, ◌↔◌, ℕ, List, [], ◌∷◌, ◌++◌, map, refl, sym, ap, ap₂, subst, Some, Result, Ok, Err}
 use Rattle.std.proofs.lemmas.Simd.{map-map}
-use Rattle.std.specs.List.{count_by}
 use Rattle.ptu_outside.specs.Departure.{Departure}
 use Rattle.ptu_outside.specs.declared.port.Port.{Ghosts as Ports}
 use Rattle.ptu_outside.specs.HandsOver.{HandsOver}
@@ -32,13 +31,12 @@ use Rattle.ptu_grandmaster.specs.declared.outcome.Taken.TheVariants.{Ignored, De
 use Rattle.ptu_grandmaster.specs.Gm.{KeptGm, StandsFor, table_at, with_table}
 use Rattle.ptu_grandmaster.specs.Outcomes.{answers_seen, decision_seen}
 use Rattle.ptu_grandmaster.specs.Taking.{ComesTo, IsAnswerTo, OnAsked, OnDelay, OnIgnored, Replies, Responds}
-use Rattle.ptu_report_lines.specs.declared.sent.Sent.{Sent}
 use Rattle.ptu_report_lines.specs.declared.statement.Statement.TheVariants as statements
 use Rattle.ptu_world.specs.Deeds.{Grandmaster, Node, IsGrandmaster}
 use Rattle.ptu_world.specs.Grandmasters.{answer_said, datagram_deed, decision_said, heard_deed, opening, reason_of, replies}
-use Rattle.ptu_world.specs.Report.{is_granted, is_short, text_at}
 use Rattle.ptu_nodes.specs.Doing.{HasDone}
-use Rattle.ptu_nodes.specs.GrandmasterPorts.{GoesOn, HasHanded, in_ports}
+use Rattle.ptu_nodes.specs.GrandmasterPorts.{GoesOn, in_ports}
+use Rattle.ptu_nodes.specs.Noted.{Noted, with_handed, with_said}
 use Rattle.ptu_nodes.specs.GrandmasterStatements.{IsAnswerSent, IsReplySent, IsSent, taken_said}
 use Rattle.ptu_nodes.specs.Standing.{AreIdle, IsGrandmasterNode, StandsAsGrandmaster}
 use Rattle.ptu_nodes.proofs.GrandmasterChanges.{in_ports-reply}
@@ -133,8 +131,8 @@ sends_heard ports tells g t from _ _ gm1 gm2 idle answer comes is ignored delay 
 
 -- ---- a datagram is taken
 
-module _ (ports : Ports MemoryPort) (tells : (p : MemoryPort) → ports.sent p ≡ Some p.sent) (ip line t from : ℕ) (octets : List ℕ) (gm0 gm1 gm2 gm3 : KeptGm MemoryPort) (taken : Taken)
-    (sent sent' : List Sent) (texts said texts' : List (List ℕ)) (granted short : ℕ) (g : Grandmaster)
+module _ (ports : Ports MemoryPort) (tells : (p : MemoryPort) → ports.sent p ≡ Some p.sent) (ip t from : ℕ) (octets : List ℕ) (gm0 gm1 gm2 gm3 : KeptGm MemoryPort) (taken : Taken)
+    (old said new : Noted) (g : Grandmaster)
     (is : IsGrandmasterNode (record { ip = ip; gm = gm0 }) g) (first : GoesOn gm0 gm1) (idle : AreIdle gm0 → AreIdle gm1)
     (answer : IsAnswerTo (heard_in gm1.config octets) taken)
     (ignored : OnIgnored taken (gm2 ≡ gm1))
@@ -149,9 +147,8 @@ module _ (ports : Ports MemoryPort) (tells : (p : MemoryPort) → ports.sent p �
     ComesTo (opened_with opening gm1.config) history t from (heard_in gm1.config octets) taken)
     (stands : (opening : ℕ) (history : List Record) → StandsFor opening gm1 history →
     StandsFor opening gm2 (history_after (opened_with opening gm1.config) history (events_of_datagram gm1.config t from octets)))
-    (says : said ≡ texts ++ map (text_at line) (taken_said taken)) (is_sent : IsSent taken)
-    (grants : granted ≡ count_by is_granted (taken_said taken)) (shortages : short ≡ count_by is_short (taken_said taken))
-    (handed : HasHanded ip line (in_ports gm2) sent sent' said texts') (last : GoesOn gm2 gm3) (idle' : AreIdle gm3) where
+    (says : said ≡ with_said (taken_said taken) old) (is_sent : IsSent taken)
+    (handed : new ≡ with_handed ip (in_ports gm2) said) (last : GoesOn gm2 gm3) (idle' : AreIdle gm3) where
   abbrev as_kept : Grandmaster
   as_kept = record g { config = gm1.config }
 
@@ -173,14 +170,12 @@ module _ (ports : Ports MemoryPort) (tells : (p : MemoryPort) → ports.sent p �
       (stands_after as_kept ip gm0 gm1 gm2 gm3 _ (record { ip = is.ip; config = first.config; stands = is.stands; idle = is.idle }) first same_config
       (stands g.capacity g.past stood) last idle')
 
-  taken_as_kept : HasDone (StandsAsGrandmaster (record { ip = ip; gm = gm3 })) ip line (datagram_deed as_kept t from octets) sent sent' texts texts' granted short
+  taken_as_kept : HasDone (StandsAsGrandmaster (record { ip = ip; gm = gm3 })) ip (datagram_deed as_kept t from octets) old new
   taken_as_kept =
-      has_done _ ip line (datagram_deed as_kept t from octets) sent sent' texts said texts' granted short node_is (added_heard as_kept t from what)
-      (says ∙ ap (λ l. texts ++ map (text_at line) l) said_is)
-      (subst (λ (l : List Departure). HasHanded ip line l sent sent' said texts') sends_are handed)
-      (grants ∙ ap (count_by is_granted) said_is) (shortages ∙ ap (count_by is_short) said_is)
+      has_done _ ip (datagram_deed as_kept t from octets) old said new node_is (added_heard as_kept t from what)
+      (says ∙ ap (λ l. with_said l old) said_is) (subst (λ (l : List Departure). new ≡ with_handed ip l said) sends_are handed)
 
-  pub take_done : HasDone (StandsAsGrandmaster (record { ip = ip; gm = gm3 })) ip line (datagram_deed g t from octets) sent sent' texts texts' granted short
+  pub take_done : HasDone (StandsAsGrandmaster (record { ip = ip; gm = gm3 })) ip (datagram_deed g t from octets) old new
   take_done =
-      subst (λ (c : GmConfig). HasDone (StandsAsGrandmaster (record { ip = ip; gm = gm3 })) ip line (datagram_deed (record g { config = c }) t from octets) sent sent' texts texts' granted short)
+      subst (λ (c : GmConfig). HasDone (StandsAsGrandmaster (record { ip = ip; gm = gm3 })) ip (datagram_deed (record g { config = c }) t from octets) old new)
       (sym (is.config ∙ sym first.config)) taken_as_kept

@@ -15,14 +15,15 @@ use Rattle.ptu_shard.specs.Table.{Kept}
 use Rattle.ptu_shard.specs.Turn.{due_messages}
 use Rattle.ptu_items.specs.Deciding.{opened_with}
 use Rattle.ptu_grandmaster.specs.Gm.{KeptGm, StandsFor, table_at, with_table}
-use Rattle.ptu_report_lines.specs.declared.sent.Sent.{Sent}
 use Rattle.ptu_world.specs.Deeds.{Grandmaster}
 use Rattle.ptu_world.specs.Grandmasters.{turn_deed}
 use Rattle.ptu_nodes.specs.Doing.{HasDone}
-use Rattle.ptu_nodes.specs.GrandmasterPorts.{GoesOn, HasHanded, in_ports}
+use Rattle.ptu_nodes.specs.GrandmasterPorts.{GoesOn, in_ports}
+use Rattle.ptu_nodes.specs.Noted.{Noted, with_handed}
 use Rattle.ptu_nodes.specs.Standing.{AreIdle, IsGrandmasterNode, StandsAsGrandmaster}
 use Rattle.ptu_nodes.proofs.GrandmasterDone.{all_handed, has_done, stands_after}
 use Rattle.ptu_nodes.proofs.GrandmasterPorts.{table_by, with_by}
+use Rattle.ptu_nodes.proofs.Noting.{said_nothing}
 
 -- ---- what stands in the ports, where all but one are idle
 
@@ -70,7 +71,7 @@ sends_turned t j gm1 gm2 at g config stood idle sends rest messages =
     ∙ ap (λ x. map (λ (m : Grant). departure_of gm1.config x (message_of g.past m)) (due_grants g.past x j)) (messages g.capacity g.past stood).0
     ∙ ap (λ c. map (λ (m : Grant). departure_of c (table_step_moment g.past t j) (message_of g.past m)) (due_grants g.past (table_step_moment g.past t j) j)) (sym config)
 
-pub turn_done : (ip line t j : ℕ) (gm0 gm1 gm2 gm3 : KeptGm MemoryPort) (at : ℕ) (sent sent' : List Sent) (texts texts' : List (List ℕ)) (g : Grandmaster) →
+pub turn_done : (ip t j : ℕ) (gm0 gm1 gm2 gm3 : KeptGm MemoryPort) (at : ℕ) (old new : Noted) (g : Grandmaster) →
     IsGrandmasterNode (record { ip = ip; gm = gm0 }) g → GoesOn gm0 gm1 → (AreIdle gm0 → AreIdle gm1) →
     Some ((table_at j gm1).port.sent ++ map (departure_of gm1.config at) (due_messages at (table_at j gm1).rows)) ≡ Some (table_at j gm2).port.sent →
     gm2 ≡ with_table j (table_at j gm2) gm1 →
@@ -78,14 +79,14 @@ pub turn_done : (ip line t j : ℕ) (gm0 gm1 gm2 gm3 : KeptGm MemoryPort) (at : 
     (at ≡ table_step_moment history t j) × (due_messages at (table_at j gm1).rows ≡ map (message_of history) (due_grants history at j))) →
     ((opening : ℕ) (history : List Record) → StandsFor opening gm1 history →
     StandsFor opening gm2 (history ++ (core_step (opened_with opening gm1.config) history t (events.Turn j)).records)) →
-    HasHanded ip line (in_ports gm2) sent sent' texts texts' → GoesOn gm2 gm3 → AreIdle gm3 →
-    HasDone (StandsAsGrandmaster (record { ip = ip; gm = gm3 })) ip line (turn_deed g t j) sent sent' texts texts' 0 0
+    new ≡ with_handed ip (in_ports gm2) old → GoesOn gm2 gm3 → AreIdle gm3 →
+    HasDone (StandsAsGrandmaster (record { ip = ip; gm = gm3 })) ip (turn_deed g t j) old new
 unfolding history_after
-turn_done ip line t j gm0 gm1 gm2 gm3 at sent sent' texts texts' g is first idle sends rest messages stands handed last idle' =
-    has_done _ ip line (turn_deed g t j) sent sent' texts texts texts' 0 0
+turn_done ip t j gm0 gm1 gm2 gm3 at old new g is first idle sends rest messages stands handed last idle' =
+    has_done _ ip (turn_deed g t j) old old new
     (stands_after g ip gm0 gm1 gm2 gm3 _ is first same_config
     (subst (λ (config : GmConfig). StandsFor g.capacity gm2 (g.past ++ (core_step (opened_with g.capacity config) g.past t (events.Turn j)).records)) (sym config) (stands g.capacity g.past stood)) last idle')
-    refl (sym (append-nil texts)) (subst (λ (l : List Departure). HasHanded ip line l sent sent' texts texts') in_ports_are handed) refl refl
+    refl (sym (said_nothing old)) (subst (λ (l : List Departure). new ≡ with_handed ip l old) in_ports_are handed)
   where
     config : g.config ≡ gm1.config
     config = is.config ∙ sym first.config

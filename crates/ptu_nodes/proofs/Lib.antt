@@ -1,3 +1,4 @@
+pub mod Noting
 pub mod HandedOver
 pub mod GrandmasterPorts
 pub mod GrandmasterDone

@@ -1,20 +1,9 @@
--- The ports of a grandmaster of a script, and what was handed to them.
-use Rattle.std.specs.Prelude.{◌≡◌, ℕ, ◌+◌, ◌≤◌, List, ◌++◌, length, map}
+-- The ports of a grandmaster of a script.
+use Rattle.std.specs.Prelude.{◌≡◌, ℕ, ◌+◌, ◌≤◌, List, ◌++◌, length}
 use Rattle.ptu_outside.specs.Departure.{Departure}
 use Rattle.ptu_outside.specs.MemoryPort.{MemoryPort, octets_of}
 use Rattle.ptu_history.specs.History.{Record}
 use Rattle.ptu_grandmaster.specs.Gm.{KeptGm, StandsFor}
-use Rattle.ptu_report_lines.specs.declared.sent.Sent.{Sent}
-use Rattle.ptu_world.specs.Report.{text_at}
-use Rattle.ptu_world.specs.World.{sending_said, sent_from}
-
--- these datagrams of the node at this address were added to those that were sent, and to the texts
--- of the script's line of this number that each was sent, with its number
-pub record HasHanded (ip line : ℕ) (handed : List Departure) (sent sent' : List Sent)
-    (texts texts' : List (List ℕ)) : Type 0 where
-  pub sends : sent' ≡ sent ++ map (sent_from ip) handed
-  pub says : texts' ≡ texts
-      ++ map (text_at line) (sending_said (length sent) (map (sent_from ip) handed))
 
 -- the datagrams that stand in the ports, by port
 abbrev pub in_ports : KeptGm MemoryPort → List Departure

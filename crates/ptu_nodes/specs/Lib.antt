@@ -1,4 +1,5 @@
 pub mod Standing
+pub mod Noted
 pub mod Doing
 pub mod GrandmasterPorts
 pub mod GrandmasterStatements

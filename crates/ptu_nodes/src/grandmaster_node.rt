@@ -1,4 +1,4 @@
-ghost use Rattle.std.specs.Prelude.{◌≡◌, ◌≤◌, ◌<◌, IfOk, [], ◌∷◌, ◌++◌};
+ghost use Rattle.std.specs.Prelude.{◌≡◌, ◌<◌, [], OnOk};
 ghost use Rattle.ptu_admit.specs.Book.{IsCapacity};
 ghost use Rattle.ptu_script.specs.Limits.{IsGrandmasterWithin};
 ghost use Rattle.ptu_world.specs.Deeds.{Grandmaster};
@@ -9,14 +9,11 @@ ghost use Rattle.ptu_nodes.specs.Doing.{HasDone};
 
 use crate::grandmaster_ports::{ANNOUNCE, SIGNALING_PORT, hand_over_all, reserve, reserve_replies};
 use crate::grandmaster_statements::{say_shed, say_taken};
-use crate::handing::SIGNALING;
-use crate::saying::say;
-use crate::tally::Tally;
+use crate::journal::{Journal, SIGNALING};
 use ptu_grandmaster::Gm;
 use ptu_header::PortIdentity;
 use ptu_outside::MemPort;
-use ptu_report::Texts;
-use ptu_report_lines::{Sent, Statement};
+use ptu_report_lines::Statement;
 use ptu_script::GrandmasterSetup;
 use ptu_shard::GmConfig;
 use ptu_units::{Moment, OutOfMemory};
@@ -67,53 +64,44 @@ impl GrandmasterNode {
         tables.saturating_add(self.gm.count(2).saturating_add(self.gm.count(3)))
     }
 
-    /// Takes a datagram that came from this IPv4 address: what it comes to and what is sent is
-    /// added to the texts of the script's line of this number, and what is sent to that which was
-    /// sent before.
+    /// Takes a datagram that came from this IPv4 address, and notes what it comes to and what is
+    /// sent.
     ///
     /// # Errors
     /// `OutOfMemory`, also where room for what it sends was not found.
     pub fn receive(
         &mut self,
-        alloc: Global,
         at: Moment,
         from: u32,
         octets: &[u8],
-        line: u64,
-        texts: &mut Texts,
-        sent: &mut Vec<Sent>,
-    ) -> Result<Tally, OutOfMemory>
+        journal: &mut Journal,
+    ) -> Result<(), OutOfMemory>
         ensures ip { self.new.ip ≡ self.old.ip }
-        ensures done { IfOk result (λ tally. (g : Grandmaster) → IsGrandmasterNode self.old g →
-            HasDone (StandsAsGrandmaster self.new) self.old.ip line
-            (datagram_deed g at from octets.now) sent.old.items sent.new.items texts.old texts.new
-            tally.granted tally.short) }
+        ensures done { OnOk result ((g : Grandmaster) → IsGrandmasterNode self.old g →
+            HasDone (StandsAsGrandmaster self.new) self.old.ip (datagram_deed g at from octets.now)
+            journal.old journal.new) }
     {
         reserve_replies(&mut self.gm)?;
         let taken = self.gm.take(at, from, octets)?;
-        let tally = say_taken(&taken, line, texts)?;
-        hand_over_all(alloc, &mut self.gm, self.ip, line, texts, sent)?;
-        Ok(tally)
+        say_taken(&taken, journal)?;
+        hand_over_all(&mut self.gm, self.ip, journal)
     }
 
-    /// A table, from 0 to 3, takes a turn.
+    /// A table, from 0 to 3, takes a turn, and what is sent is noted.
     ///
     /// # Errors
     /// `OutOfMemory`, also where room for what it sends was not found.
     pub fn turn(
         &mut self,
-        alloc: Global,
         at: Moment,
         table: usize,
-        line: u64,
-        texts: &mut Texts,
-        sent: &mut Vec<Sent>,
+        journal: &mut Journal,
     ) -> Result<(), OutOfMemory>
         requires { table < 4 }
         ensures ip { self.new.ip ≡ self.old.ip }
-        ensures done { IfOk result (λ _. (g : Grandmaster) → IsGrandmasterNode self.old g →
-            HasDone (StandsAsGrandmaster self.new) self.old.ip line (turn_deed g at table)
-            sent.old.items sent.new.items texts.old texts.new 0 0) }
+        ensures done { OnOk result ((g : Grandmaster) → IsGrandmasterNode self.old g →
+            HasDone (StandsAsGrandmaster self.new) self.old.ip (turn_deed g at table) journal.old
+            journal.new) }
     {
         let datagrams = self.gm.count(table);
         reserve(
@@ -126,27 +114,25 @@ impl GrandmasterNode {
         if turned.failed > 0 {
             return Err(OutOfMemory);
         }
-        hand_over_all(alloc, &mut self.gm, self.ip, line, texts, sent)
+        hand_over_all(&mut self.gm, self.ip, journal)
     }
 
-    /// Its capacity changes to this many sixteenths of a message per second.
+    /// Its capacity changes to this many sixteenths of a message per second; this, what is shed and
+    /// what is sent is noted.
     ///
     /// # Errors
     /// `OutOfMemory`, also where room for what it sends was not found.
     pub fn set_capacity(
         &mut self,
-        alloc: Global,
         at: Moment,
         capacity: u64,
-        line: u64,
-        texts: &mut Texts,
-        sent: &mut Vec<Sent>,
+        journal: &mut Journal,
     ) -> Result<(), OutOfMemory>
         requires { IsCapacity capacity }
         ensures ip { self.new.ip ≡ self.old.ip }
-        ensures done { IfOk result (λ _. (g : Grandmaster) → IsGrandmasterNode self.old g →
-            HasDone (StandsAsGrandmaster self.new) self.old.ip line (capacity_deed g at capacity)
-            sent.old.items sent.new.items texts.old texts.new 0 0) }
+        ensures done { OnOk result ((g : Grandmaster) → IsGrandmasterNode self.old g →
+            HasDone (StandsAsGrandmaster self.new) self.old.ip (capacity_deed g at capacity)
+            journal.old journal.new) }
     {
         let cancels = self.count();
         reserve(
@@ -159,14 +145,13 @@ impl GrandmasterNode {
         if changed.failed > 0 {
             return Err(OutOfMemory);
         }
-        let statement = Statement::Capacity {
+        journal.say(Statement::Capacity {
             grandmaster: self.ip,
             capacity,
             at: changed.at,
-        };
-        say(texts, line, statement)?;
-        say_shed(changed.shed.list(), line, texts)?;
-        hand_over_all(alloc, &mut self.gm, self.ip, line, texts, sent)
+        })?;
+        say_shed(changed.shed.list(), journal)?;
+        hand_over_all(&mut self.gm, self.ip, journal)
     }
 
     /// Its clockClass changes. Nothing is said of it.

@@ -2,16 +2,14 @@
 
 ghost use Rattle.std.specs.Prelude.{◌≡◌, ◌<◌, [], OnOk};
 ghost use Rattle.ptu_grandmaster.specs.Gm.{port_at, with_port};
-ghost use Rattle.ptu_nodes.specs.GrandmasterPorts.{GoesOn, HasHanded, HasRoom, in_ports};
+ghost use Rattle.ptu_nodes.specs.GrandmasterPorts.{GoesOn, HasRoom, in_ports};
+ghost use Rattle.ptu_nodes.specs.Noted.{with_handed};
 ghost use Rattle.ptu_nodes.specs.Standing.{AreIdle};
 
-use crate::handing::{SIGNALING, hand_over};
+use crate::journal::{Journal, SIGNALING};
 use ptu_grandmaster::Gm;
 use ptu_outside::MemPort;
-use ptu_report::Texts;
-use ptu_report_lines::Sent;
 use ptu_units::OutOfMemory;
-use std::alloc::Global;
 
 /// How many octets an Announce has, which no datagram of a turn is above.
 pub const ANNOUNCE: usize = 64;
@@ -63,21 +61,18 @@ pub fn reserve_replies(gm: &mut Gm<MemPort>) -> Result<(), OutOfMemory>
 
 // Hands over what stands in the port of this index, and clears it.
 fn hand_over_port(
-    alloc: Global,
     gm: &mut Gm<MemPort>,
     port: usize,
     ip: u32,
-    line: u64,
-    texts: &mut Texts,
-    sent: &mut Vec<Sent>,
+    journal: &mut Journal,
 ) -> Result<(), OutOfMemory>
     requires { port < 5 }
-    ensures handed { OnOk result (HasHanded ip line (port_at port gm.old).sent
-        sent.old.items sent.new.items texts.old texts.new) }
+    ensures handed { OnOk result
+        (journal.new ≡ with_handed ip (port_at port gm.old).sent journal.old) }
     ensures cleared { OnOk result
         (gm.new ≡ with_port port (record (port_at port gm.old) { sent = [] }) gm.old) }
 {
-    hand_over(alloc, gm.ports(port), ip, line, texts, sent)
+    journal.hand_over(gm.ports(port), ip)
 }
 
 /// Hands over what stands in the ports of the grandmaster at this address, port by port, and clears
@@ -86,21 +81,17 @@ fn hand_over_port(
 /// # Errors
 /// `OutOfMemory`.
 pub fn hand_over_all(
-    alloc: Global,
     gm: &mut Gm<MemPort>,
     ip: u32,
-    line: u64,
-    texts: &mut Texts,
-    sent: &mut Vec<Sent>,
+    journal: &mut Journal,
 ) -> Result<(), OutOfMemory>
-    ensures handed { OnOk result (HasHanded ip line (in_ports gm.old)
-        sent.old.items sent.new.items texts.old texts.new) }
+    ensures handed { OnOk result (journal.new ≡ with_handed ip (in_ports gm.old) journal.old) }
     ensures goes_on { OnOk result (GoesOn gm.old gm.new) }
     ensures idle { OnOk result (AreIdle gm.new) }
 {
-    hand_over_port(alloc, gm, 0, ip, line, texts, sent)?;
-    hand_over_port(alloc, gm, 1, ip, line, texts, sent)?;
-    hand_over_port(alloc, gm, 2, ip, line, texts, sent)?;
-    hand_over_port(alloc, gm, 3, ip, line, texts, sent)?;
-    hand_over_port(alloc, gm, 4, ip, line, texts, sent)
+    hand_over_port(gm, 0, ip, journal)?;
+    hand_over_port(gm, 1, ip, journal)?;
+    hand_over_port(gm, 2, ip, journal)?;
+    hand_over_port(gm, 3, ip, journal)?;
+    hand_over_port(gm, 4, ip, journal)
 }

@@ -1,22 +1,19 @@
 //! What is said of what a grandmaster of a script answered.
 
-ghost use Rattle.std.specs.Prelude.{◌≡◌, ◌+◌, ◌++◌, ◌∷◌, [], map, IfOk, OnOk, if◌then◌else◌};
-ghost use Rattle.std.specs.List.{count_by};
+ghost use Rattle.std.specs.Prelude.{◌≡◌, map, OnOk};
 ghost use Rattle.ptu_units.specs.Kind.{kind_of};
 ghost use Rattle.ptu_admit.specs.Verdict.{cause_of};
 ghost use Rattle.ptu_grandmaster.specs.Outcomes.{decision_seen};
 ghost use Rattle.ptu_report_lines.specs.declared.statement.Statement.TheVariants as statements;
 ghost use Rattle.ptu_shard.specs.Answered.{met_by, moment_of_answer};
 ghost use Rattle.ptu_world.specs.Grandmasters.{answer_said, decision_said, outside_of, reason_of};
-ghost use Rattle.ptu_world.specs.Report.{is_granted, is_short, text_at};
+ghost use Rattle.ptu_nodes.specs.Noted.{with_said};
 ghost use Rattle.ptu_nodes.specs.GrandmasterStatements.{IsSent, outcomes_said, shed_seen};
 ghost use Rattle.ptu_nodes.specs.GrandmasterStatements.{taken_said};
 
-use crate::saying::say;
-use crate::tally::Tally;
+use crate::journal::Journal;
 use ptu_admit::{Cancelled, Outside, Shed, Verdict};
 use ptu_grandmaster::{GmReason, Outcome, Reply, Taken};
-use ptu_report::Texts;
 use ptu_report_lines::{Decision, DelayAnswer, Reason, Statement};
 use ptu_shard::Answered;
 use ptu_tlvs::Ask;
@@ -100,92 +97,45 @@ fn decision(outcome: &Outcome) -> Decision
     }
 }
 
-// The tally with a decision more.
-fn count(tally: Tally, decision: &Decision) -> Result<Tally, OutOfMemory>
-    ensures granted { IfOk result (λ more. more.granted
-        ≡ tally.granted + (if is_granted (statements.Decided decision.now) then 1 else 0)) }
-    ensures short { IfOk result (λ more. more.short
-        ≡ tally.short + (if is_short (statements.Decided decision.now) then 1 else 0)) }
+// Says what the items of a Signaling came to.
+fn say_outcomes(outcomes: &[Outcome], journal: &mut Journal) -> Result<(), OutOfMemory>
+    ensures { OnOk result (journal.new ≡ with_said (outcomes_said outcomes.now) journal.old) }
 {
-    match decision {
-        Decision::Granted { .. } => Ok(Tally {
-            granted: tally.granted.checked_add(1).ok_or(OutOfMemory)?,
-            ..tally
-        }),
-        Decision::Short { .. } => Ok(Tally {
-            short: tally.short.checked_add(1).ok_or(OutOfMemory)?,
-            ..tally
-        }),
-        _ => Ok(tally),
-    }
-}
-
-// Adds the texts of what the items of a Signaling came to, and counts them.
-fn say_outcomes(outcomes: &[Outcome], line: u64, texts: &mut Texts) -> Result<Tally, OutOfMemory>
-    ensures says { OnOk result
-        (texts.new ≡ texts.old ++ map (text_at line) (outcomes_said outcomes.now)) }
-    ensures granted { IfOk result
-        (λ tally. tally.granted ≡ count_by is_granted (outcomes_said outcomes.now)) }
-    ensures short { IfOk result
-        (λ tally. tally.short ≡ count_by is_short (outcomes_said outcomes.now)) }
-{
-    let mut tally = Tally {
-        granted: 0,
-        short: 0,
-    };
     for outcome in outcomes {
-        let decision = decision(outcome);
-        tally = count(tally, &decision)?;
-        say(texts, line, Statement::Decided(decision))?;
-    }
-    Ok(tally)
-}
-
-/// Adds the texts of the grants that were shed, in order.
-///
-/// # Errors
-/// `OutOfMemory`.
-pub fn say_shed(shed: &[Shed], line: u64, texts: &mut Texts) -> Result<(), OutOfMemory>
-    ensures { OnOk result (texts.new ≡ texts.old ++ map (text_at line) (map shed_seen shed.now)) }
-{
-    for grant in shed {
-        let statement = Statement::Shed {
-            kind: grant.kind,
-            log: grant.log,
-            client: grant.client,
-        };
-        say(texts, line, statement)?;
+        journal.say(Statement::Decided(decision(outcome)))?;
     }
     Ok(())
 }
 
-/// Adds the texts of what a datagram came to, and counts them.
+/// Says which grants were shed, in order.
+///
+/// # Errors
+/// `OutOfMemory`.
+pub fn say_shed(shed: &[Shed], journal: &mut Journal) -> Result<(), OutOfMemory>
+    ensures { OnOk result (journal.new ≡ with_said (map shed_seen shed.now) journal.old) }
+{
+    for grant in shed {
+        journal.say(Statement::Shed {
+            kind: grant.kind,
+            log: grant.log,
+            client: grant.client,
+        })?;
+    }
+    Ok(())
+}
+
+/// Says what a datagram came to.
 ///
 /// # Errors
 /// `OutOfMemory`, also where a send failed.
-pub fn say_taken(taken: &Taken, line: u64, texts: &mut Texts) -> Result<Tally, OutOfMemory>
-    ensures says { OnOk result
-        (texts.new ≡ texts.old ++ map (text_at line) (taken_said taken.now)) }
-    ensures granted { IfOk result
-        (λ tally. tally.granted ≡ count_by is_granted (taken_said taken.now)) }
-    ensures short { IfOk result
-        (λ tally. tally.short ≡ count_by is_short (taken_said taken.now)) }
+pub fn say_taken(taken: &Taken, journal: &mut Journal) -> Result<(), OutOfMemory>
+    ensures says { OnOk result (journal.new ≡ with_said (taken_said taken.now) journal.old) }
     ensures sent { OnOk result (IsSent taken.now) }
 {
-    let none = Tally {
-        granted: 0,
-        short: 0,
-    };
     match taken {
         Taken::Delay(Answered::Failed { .. }) | Taken::Asked(_, Reply::Failed) => Err(OutOfMemory),
-        Taken::Ignored(ignored) => {
-            say(texts, line, Statement::Ignored(reason(*ignored)))?;
-            Ok(none)
-        }
-        Taken::Delay(answered) => {
-            say(texts, line, answer(*answered))?;
-            Ok(none)
-        }
-        Taken::Asked(outcomes, _) => say_outcomes(outcomes.list(), line, texts),
+        Taken::Ignored(ignored) => journal.say(Statement::Ignored(reason(*ignored))),
+        Taken::Delay(answered) => journal.say(answer(*answered)),
+        Taken::Asked(outcomes, _) => say_outcomes(outcomes.list(), journal),
     }
 }

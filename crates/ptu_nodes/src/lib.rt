@@ -6,17 +6,13 @@
 mod grandmaster_node;
 mod grandmaster_ports;
 mod grandmaster_statements;
-mod handing;
-mod saying;
-mod tally;
+mod journal;
 
 pub use grandmaster_node::GrandmasterNode;
 pub use grandmaster_ports::{
     ANNOUNCE, DELAY_RESP, SIGNALING_PORT, hand_over_all, reserve, reserve_replies,
 };
-pub use handing::{SIGNALING, hand_over};
-pub use saying::say;
-pub use tally::Tally;
+pub use journal::{Journal, SIGNALING};
 
 #[cfg(test)]
 mod grandmaster_tests;
