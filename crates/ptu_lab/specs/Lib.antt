@@ -5,5 +5,6 @@ pub mod Standing
 pub mod Replayed
 pub mod Load
 pub mod SummarySamples
+pub mod Acts
 pub mod Steps
 pub mod Headline

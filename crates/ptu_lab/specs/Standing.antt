@@ -35,10 +35,10 @@ module _ {J B : Type 0} {I : J → Type 0} (see : SlaveNode J I → Seen MemoryP
       (c : Course) : Type 0 where
     pub nodes : (ip : ℕ)
         → Agrees ip c.world.has_begun (get nat_eq lab.nodes ip) (node_at c.world.nodes ip)
-    pub sent : lab.sent.items ≡ c.world.sent
+    pub sent : lab.journal.sent ≡ c.world.sent
     pub has_begun : lab.has_begun ≡ c.world.has_begun
     pub flags : length flag_judges ≡ c.world.stock.flags
     pub gaps : length gap_judges ≡ c.world.stock.gaps
     pub stock : IsStock flag_judges gap_judges
-    pub granted : lab.granted ≡ c.granted
-    pub short : lab.short ≡ c.short
+    pub granted : lab.journal.granted ≡ c.granted
+    pub short : lab.journal.short ≡ c.short

@@ -1,4 +1,4 @@
-ghost use Rattle.std.specs.Prelude.{◌≡◌, ◌<◌, ℕ, [], map, length, IfOk};
+ghost use Rattle.std.specs.Prelude.{◌≡◌, [], map, length, IfOk};
 ghost use Rattle.ptu_judges.specs.Held.{IsStock};
 ghost use Rattle.ptu_report.specs.Rules.{IsOutcome};
 ghost use Rattle.ptu_script.specs.Limits.{IsWithinLimits};
@@ -6,15 +6,15 @@ ghost use Rattle.ptu_world.specs.World.{step};
 ghost use Rattle.ptu_world.specs.Report.{Course, course_opening, outcome_by};
 ghost use Rattle.ptu_slave.specs.Seen.{seen};
 ghost use Rattle.ptu_lab.specs.Standing.{StandsFor};
+ghost use Rattle.ptu_lab.specs.Steps.{HasStepped};
 
+use crate::act::Act;
 use crate::slave_node::SlaveNode;
 use crate::stock::Reserve;
 use ptu_judges::{Judge, Stock};
-use ptu_nodes::GrandmasterNode;
-use ptu_report::Texts;
-use ptu_report_lines::Sent;
+use ptu_nodes::{GrandmasterNode, Journal};
 use ptu_script::{Cause, Command};
-use ptu_units::OutOfMemory;
+use ptu_units::{Moment, OutOfMemory};
 use std::alloc::Global;
 use std::collections::HashMap;
 
@@ -25,20 +25,17 @@ pub enum Node {
     Slave(SlaveNode),
 }
 
-/// The nodes of a script by their IPv4 addresses, what they sent, and the judges that are left.
+/// The nodes of a script by their IPv4 addresses, what is reported of them, and the judges that are
+/// left.
 #[derive(Drop)]
 pub struct Lab {
     pub nodes: HashMap<u32, Node>,
-    /// The datagrams that were sent, in order.
-    pub sent: Vec<Sent>,
+    /// What they sent, and what is said of a line.
+    pub journal: Journal,
     /// The judges that are left.
     pub stock: Reserve,
     /// Whether there was an event.
     pub has_begun: bool,
-    /// Of how many asks it was said that they were granted.
-    pub granted: u64,
-    /// Of how many asks it was said that they were short.
-    pub short: u64,
 }
 
 impl Lab {
@@ -53,28 +50,25 @@ impl Lab {
     {
         Lab {
             nodes: HashMap::new(alloc),
-            sent: Vec::new(alloc),
+            journal: Journal::new(alloc),
             stock: Reserve {
                 flags: stock.flags,
                 gaps: stock.gaps,
             },
             has_begun: false,
-            granted: 0,
-            short: 0,
         }
     }
 
-    /// Does what the script's line of this number commands, and adds what is said of it; or answers
-    /// why it is refused. The room is for a copy of a datagram that was sent.
+    /// Does what the script's line of this number commands, and what is said of it are then the
+    /// texts of the journal; or answers why it is refused. The room is for a copy of a datagram that
+    /// was sent.
     ///
     /// # Errors
     /// `OutOfMemory`.
     pub fn step(
         &mut self,
-        alloc: Global,
         command: Command<'_>,
         line: u64,
-        texts: &mut Texts,
         room: &mut Vec<u8>,
     ) -> Result<Option<Cause>, OutOfMemory>
         requires means { (c : Course) × StandsFor
@@ -82,7 +76,6 @@ impl Lab {
             (map (λ j. held j) self.old.stock.flags.items)
             (map (λ j. held j) self.old.stock.gaps.items) self.old c }
         requires limits { IsWithinLimits command }
-        requires empty { texts.old ≡ [] }
         ensures { IfOk result (λ refused. (c : Course) →
             StandsFor (λ n. seen ⟦<dyn Judge as Judge>⟧ n.slave)
             (map (λ j. held j) self.old.stock.flags.items)
@@ -91,49 +84,76 @@ impl Lab {
             (λ after. StandsFor (λ n. seen ⟦<dyn Judge as Judge>⟧ n.slave)
             (map (λ j. held j) self.new.stock.flags.items)
             (map (λ j. held j) self.new.stock.gaps.items) self.new after)
-            texts.new refused) }
+            self.new.journal.texts refused) }
+    {
+        self.journal.begin(line);
+        self.obey(command, room)
+    }
+
+    // The same at the line that the journal has begun.
+    fn obey(
+        &mut self,
+        command: Command<'_>,
+        room: &mut Vec<u8>,
+    ) -> Result<Option<Cause>, OutOfMemory>
+        requires means { (c : Course) × StandsFor
+            (λ n. seen ⟦<dyn Judge as Judge>⟧ n.slave)
+            (map (λ j. held j) self.old.stock.flags.items)
+            (map (λ j. held j) self.old.stock.gaps.items) self.old c }
+        requires limits { IsWithinLimits command }
+        requires empty { self.old.journal.texts ≡ [] }
+        ensures { IfOk result (HasStepped self.old.journal.line
+            (StandsFor (λ n. seen ⟦<dyn Judge as Judge>⟧ n.slave)
+            (map (λ j. held j) self.old.stock.flags.items)
+            (map (λ j. held j) self.old.stock.gaps.items) self.old)
+            (StandsFor (λ n. seen ⟦<dyn Judge as Judge>⟧ n.slave)
+            (map (λ j. held j) self.new.stock.flags.items)
+            (map (λ j. held j) self.new.stock.gaps.items) self.new)
+            self.new.journal.texts command) }
     {
         match command {
-            Command::Grandmaster(setup) => self.set_up_grandmaster(alloc, &setup),
-            Command::Slave(setup) => self.set_up_slave(alloc, &setup),
+            Command::Grandmaster(setup) => self.set_up_grandmaster(&setup),
+            Command::Slave(setup) => self.set_up_slave(&setup),
             Command::Master {
                 slave,
                 ip,
                 priority,
                 rule,
-            } => self.add_master(alloc, slave, ip, priority, rule),
+            } => self.add_master(slave, ip, priority, rule),
             Command::Receive {
                 at,
                 node,
                 from,
                 octets,
-            } => self.receive(alloc, at, node, from, octets.as_slice(), line, texts),
-            Command::Deliver { at, number } => self.deliver(alloc, at, number, line, texts, room),
+            } => self.act(at, node, Act::Receive { from, octets }),
+            Command::Deliver { at, number } => self.deliver(at, number, room),
             Command::Turn {
                 at,
                 grandmaster,
                 table,
-            } => self.turn(alloc, at, grandmaster, table, line, texts),
-            Command::Tick { at, slave } => self.tick(alloc, at, slave, line, texts),
+            } => self.act(at, grandmaster, Act::Turn { table }),
+            Command::Tick { at, slave } => self.act(at, slave, Act::Tick),
             Command::Flag {
                 at,
                 slave,
                 master,
                 unusable,
-            } => self.flag(alloc, at, slave, master, unusable, line, texts),
+            } => self.act(at, slave, Act::Flag { master, unusable }),
             Command::Judge {
                 at,
                 slave,
                 master,
                 rule,
-            } => self.replace_judge(alloc, at, slave, master, rule, line, texts),
-            Command::Stop { at, slave } => self.stop(alloc, at, slave, line, texts),
-            Command::Class { grandmaster, class } => Ok(self.set_class(grandmaster, class)),
+            } => self.act(at, slave, Act::Judge { master, rule }),
+            Command::Stop { at, slave } => self.act(at, slave, Act::Stop),
+            Command::Class { grandmaster, class } => {
+                self.act(Moment::default(), grandmaster, Act::Class { class })
+            }
             Command::Capacity {
                 at,
                 grandmaster,
                 capacity,
-            } => self.set_capacity(alloc, at, grandmaster, capacity, line, texts),
+            } => self.act(at, grandmaster, Act::Capacity { capacity }),
         }
     }
 }

@@ -2,9 +2,9 @@
 //! makes and replays the script of many clients. `show` decodes datagrams, line by line.
 #![tactic(auto)]
 
-mod deliveries;
+mod act;
+mod acting;
 mod done;
-mod grandmasters;
 mod lab;
 mod loading;
 mod nodes;
@@ -12,7 +12,6 @@ mod replaying;
 mod setting_up;
 mod slave_node;
 mod slave_statements;
-mod slaves;
 mod stock;
 
 pub use done::Done;

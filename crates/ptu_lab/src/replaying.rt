@@ -59,7 +59,7 @@ impl Reporter for Replayer {
     #[tactic(auto, unfolding(ptu_world::specs::Report::rules))]
     fn take(
         &mut self,
-        alloc: Global,
+        _: Global,
         number: u64,
         line: &[u8],
         texts: &mut Texts,
@@ -67,8 +67,9 @@ impl Reporter for Replayer {
         match read_command(line, &mut self.line_room) {
             Ok(None) => Ok(None),
             Ok(Some(command)) => {
-                self.lab
-                    .step(alloc, command, number, texts, &mut self.sent_room)
+                let refused = self.lab.step(command, number, &mut self.sent_room)?;
+                self.lab.journal.swap_texts(texts);
+                Ok(refused)
             }
             Err(cause) => Ok(Some(cause)),
         }
@@ -81,7 +82,7 @@ impl Reporter for Replayer {
         lines: u64,
         texts: &mut Texts,
     ) -> Result<Option<Cause>, OutOfMemory> {
-        let datagrams = self.lab.sent.len() as u64;
+        let datagrams = self.lab.journal.sent().len() as u64;
         texts.add_text(&ReportLine::End { lines, datagrams })?;
         Ok(None)
     }
@@ -158,9 +159,9 @@ pub fn replay<S: Source, K: Sink>(
     match report(alloc, &mut replayer, source, sink) {
         Ok(Ending::Whole { lines }) => Ok(Done {
             lines,
-            datagrams: replayer.lab.sent.len() as u64,
-            granted: replayer.lab.granted,
-            refused: replayer.lab.short,
+            datagrams: replayer.lab.journal.sent().len() as u64,
+            granted: replayer.lab.journal.granted(),
+            refused: replayer.lab.journal.short(),
         }),
         Ok(Ending::Refused { number, cause }) => Err(LabFault::Line { number, cause }),
         Err(Stop::Read) => Err(LabFault::Read),

@@ -18,7 +18,6 @@ use ptu_judges::{Judge, Rule};
 use ptu_nodes::GrandmasterNode;
 use ptu_script::{Cause, GrandmasterSetup, SlaveSetup};
 use ptu_units::OutOfMemory;
-use std::alloc::Global;
 use std::collections::HashMap;
 
 // Takes the slave at an address out, if one is there; what else is there is lost.
@@ -37,7 +36,7 @@ fn take_slave(nodes: &mut HashMap<u32, Node>, ip: u32) -> Option<SlaveNode>
 impl Lab {
     // A new node at an address that no other has, before the first event.
     fn set_up(&mut self, ip: u32, node: Node) -> Result<Option<Cause>, OutOfMemory>
-        ensures { IfOk result (λ refused. (w : world.Node) →
+        ensures made { IfOk result (λ refused. (w : world.Node) →
             StandsAs (λ n. seen ⟦<dyn Judge as Judge>⟧ n.slave) ip false node w
             → HasSetUp
             (StandsFor (λ n. seen ⟦<dyn Judge as Judge>⟧ n.slave)
@@ -47,6 +46,7 @@ impl Lab {
             (map (λ j. held j) self.new.stock.flags.items)
             (map (λ j. held j) self.new.stock.gaps.items) self.new)
             ip w refused) }
+        ensures journal { self.new.journal ≡ self.old.journal }
     {
         if self.has_begun {
             return Ok(Some(Cause::Order));
@@ -64,11 +64,10 @@ impl Lab {
     /// `OutOfMemory`.
     pub fn set_up_grandmaster(
         &mut self,
-        alloc: Global,
         setup: &GrandmasterSetup,
     ) -> Result<Option<Cause>, OutOfMemory>
         requires limits { IsGrandmasterWithin setup.now }
-        ensures { IfOk result (λ refused. (line : ℕ) → HasStepped line
+        ensures made { IfOk result (λ refused. (line : ℕ) → HasStepped line
             (StandsFor (λ n. seen ⟦<dyn Judge as Judge>⟧ n.slave)
             (map (λ j. held j) self.old.stock.flags.items)
             (map (λ j. held j) self.old.stock.gaps.items) self.old)
@@ -76,8 +75,9 @@ impl Lab {
             (map (λ j. held j) self.new.stock.flags.items)
             (map (λ j. held j) self.new.stock.gaps.items) self.new)
             [] (commands.Grandmaster setup.now) refused) }
+        ensures journal { self.new.journal ≡ self.old.journal }
     {
-        let node = GrandmasterNode::new(alloc, setup);
+        let node = GrandmasterNode::new(self.journal.alloc(), setup);
         self.set_up(setup.ip, Node::Grandmaster(node))
     }
 
@@ -85,13 +85,9 @@ impl Lab {
     ///
     /// # Errors
     /// `OutOfMemory`.
-    pub fn set_up_slave(
-        &mut self,
-        alloc: Global,
-        setup: &SlaveSetup,
-    ) -> Result<Option<Cause>, OutOfMemory>
+    pub fn set_up_slave(&mut self, setup: &SlaveSetup) -> Result<Option<Cause>, OutOfMemory>
         requires limits { IsSlaveWithin setup.now }
-        ensures { IfOk result (λ refused. (line : ℕ) → HasStepped line
+        ensures made { IfOk result (λ refused. (line : ℕ) → HasStepped line
             (StandsFor (λ n. seen ⟦<dyn Judge as Judge>⟧ n.slave)
             (map (λ j. held j) self.old.stock.flags.items)
             (map (λ j. held j) self.old.stock.gaps.items) self.old)
@@ -99,8 +95,9 @@ impl Lab {
             (map (λ j. held j) self.new.stock.flags.items)
             (map (λ j. held j) self.new.stock.gaps.items) self.new)
             [] (commands.Slave setup.now) refused) }
+        ensures journal { self.new.journal ≡ self.old.journal }
     {
-        let node = SlaveNode::new(alloc, setup)?;
+        let node = SlaveNode::new(self.journal.alloc(), setup)?;
         self.set_up(setup.ip, Node::Slave(node))
     }
 
@@ -110,7 +107,6 @@ impl Lab {
     /// `OutOfMemory`.
     pub fn add_master(
         &mut self,
-        alloc: Global,
         slave: u32,
         ip: u32,
         priority: u8,
@@ -121,7 +117,7 @@ impl Lab {
             (map (λ j. held j) self.old.stock.flags.items)
             (map (λ j. held j) self.old.stock.gaps.items) self.old c }
         requires named { IsNamed rule }
-        ensures { IfOk result (λ refused. (line : ℕ) → HasStepped line
+        ensures made { IfOk result (λ refused. (line : ℕ) → HasStepped line
             (StandsFor (λ n. seen ⟦<dyn Judge as Judge>⟧ n.slave)
             (map (λ j. held j) self.old.stock.flags.items)
             (map (λ j. held j) self.old.stock.gaps.items) self.old)
@@ -129,6 +125,7 @@ impl Lab {
             (map (λ j. held j) self.new.stock.flags.items)
             (map (λ j. held j) self.new.stock.gaps.items) self.new)
             [] (commands.Master slave ip priority rule) refused) }
+        ensures journal { self.new.journal ≡ self.old.journal }
     {
         if self.has_begun {
             return Ok(Some(Cause::Order));
@@ -147,7 +144,7 @@ impl Lab {
             None => return Ok(Some(Cause::Stock)),
             Some(judge) => judge,
         };
-        let node = node.with_master(alloc, ip, priority, judge)?;
+        let node = node.with_master(self.journal.alloc(), ip, priority, judge)?;
         self.nodes.insert(slave, Node::Slave(node))?;
         Ok(None)
     }

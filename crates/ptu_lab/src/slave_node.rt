@@ -1,34 +1,37 @@
-ghost use Rattle.std.specs.Prelude.{◌≡◌, ◌<◌, ◌≤◌, ◌^◌, ℕ, Bool, true, false, List, [], ◌∷◌, ◌++◌, length};
+ghost use Rattle.std.specs.Prelude.{◌≡◌, ◌<◌, ◌≤◌, ◌^◌, ℕ, Bool, true, false, List, [], ◌∷◌, length};
 ghost use Rattle.std.specs.Prelude.{map, Option, None, Some, IfOk, OnOk};
 ghost use Rattle.ptu_record.specs.declared.rule.Rule.{Rule};
 ghost use Rattle.ptu_record.specs.Record.{Record};
 ghost use Rattle.ptu_record.specs.Step.{ReplaceJudge, Stop, TellFlag, Tick};
-ghost use Rattle.ptu_judges.specs.Held.{fresh};
+ghost use Rattle.ptu_judges.specs.Held.{IsStock, fresh};
 ghost use Rattle.ptu_slave_messages.specs.Config.{IsWithinLimits, place_of};
 ghost use Rattle.ptu_slave_messages.specs.Node as node;
 ghost use Rattle.ptu_slave_messages.specs.Node.{datagram_heard};
 ghost use Rattle.ptu_slave.specs.Seen.{seen};
 ghost use Rattle.ptu_slave.specs.Standing.{StandsFor, selected_address};
-ghost use Rattle.ptu_script.specs.Limits.{IsSlaveWithin};
+ghost use Rattle.ptu_script.specs.Limits.{IsNamed, IsSlaveWithin};
 ghost use Rattle.ptu_world.specs.Deeds.{IsSlave, Slave as Described};
 ghost use Rattle.ptu_world.specs.Slaves.{datagram_deed, plain_deed};
-ghost use Rattle.ptu_world.specs.Report.{text_at};
-ghost use Rattle.ptu_world.specs.World.{new_slave, sending_said, sent_from};
+ghost use Rattle.ptu_world.specs.World.{new_slave, stock_without};
 ghost use Rattle.ptu_world.specs.World.{with_master as described_with_master};
-ghost use Rattle.ptu_lab.specs.NodeStanding.{IsNode, StandsAsNode};
+ghost use Rattle.ptu_nodes.specs.Doing.{HasDone};
+ghost use Rattle.ptu_nodes.specs.Noted.{with_handed, with_said};
 ghost use Rattle.ptu_nodes.specs.Standing.{IsIdle};
+ghost use Rattle.ptu_lab.specs.Acts.{IsActWithin, act_deed, of_master, stock_after};
+ghost use Rattle.ptu_lab.specs.NodeStanding.{IsNode, StandsAsNode};
 ghost use Rattle.ptu_lab.specs.SlaveStatements.{IsOfOne};
 ghost use Rattle.ptu_lab.specs.SlaveWords.{HasSteppedTo, new_config, selection_by};
-ghost use Rattle.ptu_nodes.specs.Doing.{HasDone};
+ghost use Rattle.ptu_lab.specs.Steps.{HasActed, HasActedLeaving, stock_of};
 
+use crate::act::Act;
 use crate::slave_statements::{say_heard, was_ignored, was_unsent};
+use crate::stock::{Reserve, take_judge};
 use ptu_header::PortIdentity;
-use ptu_judges::Judge;
-use ptu_nodes::{SIGNALING, hand_over, say};
+use ptu_judges::{Judge, Rule};
+use ptu_nodes::{Journal, SIGNALING};
 use ptu_outside::MemPort;
-use ptu_report::Texts;
-use ptu_report_lines::{Sent, Statement};
-use ptu_script::SlaveSetup;
+use ptu_report_lines::Statement;
+use ptu_script::{Cause, SlaveSetup};
 use ptu_slave::{Heard, Master, Slave, SlaveConfig};
 use ptu_units::{Moment, OutOfMemory};
 use std::alloc::Global;
@@ -113,124 +116,179 @@ impl SlaveNode {
         Ok(SlaveNode { ip: own, slave })
     }
 
-    /// Takes a datagram that came from this IPv4 address: what it comes to, what is sent and what
-    /// the slave then selects is added to the texts of the script's line of this number, and what
-    /// is sent to that which was sent before.
+    /// Does what the act asks of a slave, with a judge of the stock where it wants one, and notes
+    /// what comes of it; or answers why not: it is no act of a slave, it names no master of this
+    /// one, or no judge is left.
     ///
     /// # Errors
     /// `OutOfMemory`, also where room for what it sends was not found.
-    pub fn receive(
+    pub fn act(
         &mut self,
-        alloc: Global,
+        at: Moment,
+        act: Act<'_>,
+        stock: &mut Reserve,
+        journal: &mut Journal,
+    ) -> Result<Option<Cause>, OutOfMemory>
+        requires stock { IsStock (map (λ j. held j) stock.old.flags.items)
+            (map (λ j. held j) stock.old.gaps.items) }
+        requires within { IsActWithin act }
+        ensures ip { self.new.ip ≡ self.old.ip }
+        ensures acted { IfOk result (λ refused. (begun : Bool) (s : Described) →
+            IsNode self.old.ip (seen ⟦<dyn Judge as Judge>⟧ self.old.slave) begun s →
+            HasActedLeaving (StandsAsNode self.new.ip (seen ⟦<dyn Judge as Judge>⟧ self.new.slave)
+            true) self.old.ip journal.old journal.new (map (λ j. held j) stock.new.flags.items)
+            (map (λ j. held j) stock.new.gaps.items) (act_deed at act (IsSlave s))
+            (stock_after act (stock_of (map (λ j. held j) stock.old.flags.items)
+            (map (λ j. held j) stock.old.gaps.items))) refused) }
+    {
+        match act {
+            Act::Receive { from, octets } => {
+                self.receive(at, from, octets.as_slice(), journal)?;
+                Ok(None)
+            }
+            Act::Tick => {
+                self.tick(at, journal)?;
+                Ok(None)
+            }
+            Act::Stop => {
+                self.stop(at, journal)?;
+                Ok(None)
+            }
+            Act::Flag { master, unusable } => self.flag(at, master, unusable, journal),
+            Act::Judge { master, rule } => self.replace_judge(at, master, rule, stock, journal),
+            Act::Turn { .. } | Act::Class { .. } | Act::Capacity { .. } => Ok(Some(Cause::Node)),
+        }
+    }
+
+    // Takes a datagram that came from this IPv4 address, and notes what it comes to, what is sent
+    // and what the slave then selects.
+    fn receive(
+        &mut self,
         at: Moment,
         from: u32,
         octets: &[u8],
-        line: u64,
-        texts: &mut Texts,
-        sent: &mut Vec<Sent>,
+        journal: &mut Journal,
     ) -> Result<(), OutOfMemory>
         ensures ip { self.new.ip ≡ self.old.ip }
         ensures done { OnOk result ((begun : Bool) (s : Described) →
             IsNode self.old.ip (seen ⟦<dyn Judge as Judge>⟧ self.old.slave) begun s →
             HasDone (StandsAsNode self.new.ip (seen ⟦<dyn Judge as Judge>⟧ self.new.slave) true)
-            self.old.ip line (datagram_deed s at from octets.now) sent.old.items sent.new.items
-            texts.old texts.new 0 0) }
+            self.old.ip (datagram_deed s at from octets.now) journal.old journal.new) }
     {
-        let heard = take(alloc, &mut self.slave, at, from, octets)?;
-        say_heard(texts, line, self.slave.masters(), &heard)?;
+        let heard = take(journal.alloc(), &mut self.slave, at, from, octets)?;
+        say_heard(&heard, self.slave.masters(), journal)?;
         if was_ignored(&heard) {
             return Ok(());
         }
-        self.conclude(alloc, at, line, texts, sent)
+        self.conclude(at, journal)
     }
 
-    /// A tick.
-    ///
-    /// # Errors
-    /// `OutOfMemory`, also where room for what it sends was not found.
-    pub fn tick(
-        &mut self,
-        alloc: Global,
-        at: Moment,
-        line: u64,
-        texts: &mut Texts,
-        sent: &mut Vec<Sent>,
-    ) -> Result<(), OutOfMemory>
+    // A tick.
+    fn tick(&mut self, at: Moment, journal: &mut Journal) -> Result<(), OutOfMemory>
         ensures ip { self.new.ip ≡ self.old.ip }
         ensures done { OnOk result ((begun : Bool) (s : Described) →
             IsNode self.old.ip (seen ⟦<dyn Judge as Judge>⟧ self.old.slave) begun s →
             HasDone (StandsAsNode self.new.ip (seen ⟦<dyn Judge as Judge>⟧ self.new.slave) true)
-            self.old.ip line (plain_deed s at Tick) sent.old.items sent.new.items texts.old
-            texts.new 0 0) }
+            self.old.ip (plain_deed s at Tick) journal.old journal.new) }
     {
-        tick(alloc, &mut self.slave, at)?;
-        self.conclude(alloc, at, line, texts, sent)
+        tick(journal.alloc(), &mut self.slave, at)?;
+        self.conclude(at, journal)
     }
 
-    /// The stop.
-    ///
-    /// # Errors
-    /// `OutOfMemory`, also where room for what it sends was not found.
-    pub fn stop(
-        &mut self,
-        alloc: Global,
-        at: Moment,
-        line: u64,
-        texts: &mut Texts,
-        sent: &mut Vec<Sent>,
-    ) -> Result<(), OutOfMemory>
+    // The stop.
+    fn stop(&mut self, at: Moment, journal: &mut Journal) -> Result<(), OutOfMemory>
         ensures ip { self.new.ip ≡ self.old.ip }
         ensures done { OnOk result ((begun : Bool) (s : Described) →
             IsNode self.old.ip (seen ⟦<dyn Judge as Judge>⟧ self.old.slave) begun s →
             HasDone (StandsAsNode self.new.ip (seen ⟦<dyn Judge as Judge>⟧ self.new.slave) true)
-            self.old.ip line (plain_deed s at Stop) sent.old.items sent.new.items texts.old
-            texts.new 0 0) }
+            self.old.ip (plain_deed s at Stop) journal.old journal.new) }
     {
-        stop(alloc, &mut self.slave, at)?;
-        self.conclude(alloc, at, line, texts, sent)
+        stop(journal.alloc(), &mut self.slave, at)?;
+        self.conclude(at, journal)
     }
 
-    /// The operator says whether the master at a place is unusable.
-    ///
-    /// # Errors
-    /// `OutOfMemory`.
-    pub fn flag(
+    // The operator says whether the master with this IPv4 address is unusable, if it has it.
+    fn flag(
         &mut self,
-        alloc: Global,
+        at: Moment,
+        master: u32,
+        unusable: bool,
+        journal: &mut Journal,
+    ) -> Result<Option<Cause>, OutOfMemory>
+        ensures ip { self.new.ip ≡ self.old.ip }
+        ensures acted { IfOk result (λ refused. (begun : Bool) (s : Described) →
+            IsNode self.old.ip (seen ⟦<dyn Judge as Judge>⟧ self.old.slave) begun s →
+            HasActed (StandsAsNode self.new.ip (seen ⟦<dyn Judge as Judge>⟧ self.new.slave) true)
+            self.old.ip journal.old journal.new
+            (of_master master (λ s m. plain_deed s at (TellFlag m unusable)) (IsSlave s))
+            refused) }
+    {
+        let Some(place) = self.place(master) else {
+            return Ok(Some(Cause::Node));
+        };
+        self.flag_at(at, place, unusable, journal)?;
+        Ok(None)
+    }
+
+    // The operator says whether the master at a place is unusable.
+    fn flag_at(
+        &mut self,
         at: Moment,
         master: usize,
         unusable: bool,
-        line: u64,
-        texts: &mut Texts,
-        sent: &[Sent],
+        journal: &mut Journal,
     ) -> Result<(), OutOfMemory>
         requires { master < length (seen ⟦<dyn Judge as Judge>⟧ self.old.slave).kept.masters }
         ensures ip { self.new.ip ≡ self.old.ip }
         ensures done { OnOk result ((begun : Bool) (s : Described) →
             IsNode self.old.ip (seen ⟦<dyn Judge as Judge>⟧ self.old.slave) begun s →
             HasDone (StandsAsNode self.new.ip (seen ⟦<dyn Judge as Judge>⟧ self.new.slave) true)
-            self.old.ip line (plain_deed s at (TellFlag master unusable)) sent.now sent.now
-            texts.old texts.new 0 0) }
+            self.old.ip (plain_deed s at (TellFlag master unusable)) journal.old journal.new) }
     {
-        let _ = alloc;
-        let _ = sent;
         self.slave.flag(at, master, unusable);
-        self.say_selected(at, line, texts)
+        self.say_selected(at, journal)
     }
 
-    /// Another judge takes over the master at a place.
-    ///
-    /// # Errors
-    /// `OutOfMemory`.
-    pub fn set_judge(
+    // A judge of the rule, taken from the stock, takes over the master with this IPv4 address, if
+    // it has it.
+    fn replace_judge(
         &mut self,
-        alloc: Global,
+        at: Moment,
+        master: u32,
+        rule: Rule,
+        stock: &mut Reserve,
+        journal: &mut Journal,
+    ) -> Result<Option<Cause>, OutOfMemory>
+        requires stock { IsStock (map (λ j. held j) stock.old.flags.items)
+            (map (λ j. held j) stock.old.gaps.items) }
+        requires named { IsNamed rule }
+        ensures ip { self.new.ip ≡ self.old.ip }
+        ensures acted { IfOk result (λ refused. (begun : Bool) (s : Described) →
+            IsNode self.old.ip (seen ⟦<dyn Judge as Judge>⟧ self.old.slave) begun s →
+            HasActedLeaving (StandsAsNode self.new.ip (seen ⟦<dyn Judge as Judge>⟧ self.new.slave)
+            true) self.old.ip journal.old journal.new (map (λ j. held j) stock.new.flags.items)
+            (map (λ j. held j) stock.new.gaps.items)
+            (of_master master (λ s m. plain_deed s at (ReplaceJudge m (Some rule))) (IsSlave s))
+            (stock_without rule (stock_of (map (λ j. held j) stock.old.flags.items)
+            (map (λ j. held j) stock.old.gaps.items))) refused) }
+    {
+        let Some(place) = self.place(master) else {
+            return Ok(Some(Cause::Node));
+        };
+        let Some(judge) = take_judge(stock, rule) else {
+            return Ok(Some(Cause::Stock));
+        };
+        self.set_judge(at, place, judge, journal)?;
+        Ok(None)
+    }
+
+    // Another judge takes over the master at a place.
+    fn set_judge(
+        &mut self,
         at: Moment,
         master: usize,
         judge: Box<dyn Judge>,
-        line: u64,
-        texts: &mut Texts,
-        sent: &[Sent],
+        journal: &mut Journal,
     ) -> Result<(), OutOfMemory>
         requires place { master < length (seen ⟦<dyn Judge as Judge>⟧ self.old.slave).kept.masters }
         requires fresh { (rule : Rule) × (held judge ≡ fresh rule) }
@@ -239,24 +297,15 @@ impl SlaveNode {
             held judge ≡ fresh rule →
             IsNode self.old.ip (seen ⟦<dyn Judge as Judge>⟧ self.old.slave) begun s →
             HasDone (StandsAsNode self.new.ip (seen ⟦<dyn Judge as Judge>⟧ self.new.slave) true)
-            self.old.ip line (plain_deed s at (ReplaceJudge master (Some rule))) sent.now sent.now
-            texts.old texts.new 0 0) }
+            self.old.ip (plain_deed s at (ReplaceJudge master (Some rule))) journal.old
+            journal.new) }
     {
-        let _ = alloc;
-        let _ = sent;
         self.slave.set_judge(at, master, judge);
-        self.say_selected(at, line, texts)
+        self.say_selected(at, journal)
     }
 
     // Hands over what the slave sent, and says what it selects.
-    fn conclude(
-        &mut self,
-        alloc: Global,
-        at: Moment,
-        line: u64,
-        texts: &mut Texts,
-        sent: &mut Vec<Sent>,
-    ) -> Result<(), OutOfMemory>
+    fn conclude(&mut self, at: Moment, journal: &mut Journal) -> Result<(), OutOfMemory>
         requires moment { at < 2 ^ 62 }
         ensures ip { self.new.ip ≡ self.old.ip }
         ensures core { (seen ⟦<dyn Judge as Judge>⟧ self.new.slave).kept ≡
@@ -264,42 +313,37 @@ impl SlaveNode {
         ensures judges { (seen ⟦<dyn Judge as Judge>⟧ self.new.slave).judges
             ≡ (seen ⟦<dyn Judge as Judge>⟧ self.old.slave).judges }
         ensures idle { OnOk result (IsIdle (seen ⟦<dyn Judge as Judge>⟧ self.new.slave).port) }
-        ensures sends { OnOk result (sent.new.items
-            ≡ sent.old.items ++ map (sent_from self.old.ip)
-            (seen ⟦<dyn Judge as Judge>⟧ self.old.slave).port.sent) }
-        ensures says { OnOk result ((openings : List (Option Rule)) (L : Record) →
+        ensures noted { OnOk result ((openings : List (Option Rule)) (L : Record) →
             StandsFor openings (seen ⟦<dyn Judge as Judge>⟧ self.old.slave).kept
             (seen ⟦<dyn Judge as Judge>⟧ self.old.slave).judges L →
-            texts.new ≡ texts.old ++ map (text_at line) (sending_said (length sent.old.items)
-            (map (sent_from self.old.ip) (seen ⟦<dyn Judge as Judge>⟧ self.old.slave).port.sent)
-            ++ selection_by self.old.ip (seen ⟦<dyn Judge as Judge>⟧ self.old.slave).kept L at ∷
-            [])) }
+            journal.new ≡ with_said (selection_by self.old.ip
+            (seen ⟦<dyn Judge as Judge>⟧ self.old.slave).kept L at ∷ [])
+            (with_handed self.old.ip (seen ⟦<dyn Judge as Judge>⟧ self.old.slave).port.sent
+            journal.old)) }
     {
-        let mut port = self.slave.replace_port(quiet_port(alloc));
-        hand_over(alloc, &mut port, self.ip, line, texts, sent)?;
+        let mut port = self.slave.replace_port(quiet_port(journal.alloc()));
+        journal.hand_over(&mut port, self.ip)?;
         self.slave.replace_port(port);
-        self.say_selected(at, line, texts)?;
+        self.say_selected(at, journal)?;
         Ok(())
     }
 
     // Says what the slave selects.
-    fn say_selected(&mut self, at: Moment, line: u64, texts: &mut Texts) -> Result<(), OutOfMemory>
+    fn say_selected(&mut self, at: Moment, journal: &mut Journal) -> Result<(), OutOfMemory>
         ensures ip { self.new.ip ≡ self.old.ip }
         ensures unchanged { seen ⟦<dyn Judge as Judge>⟧ self.new.slave ≡
             seen ⟦<dyn Judge as Judge>⟧ self.old.slave }
         ensures says { OnOk result ((openings : List (Option Rule)) (L : Record) →
             StandsFor openings (seen ⟦<dyn Judge as Judge>⟧ self.old.slave).kept
             (seen ⟦<dyn Judge as Judge>⟧ self.old.slave).judges L →
-            texts.new ≡ texts.old
-            ++ text_at line (selection_by self.old.ip
-            (seen ⟦<dyn Judge as Judge>⟧ self.old.slave).kept L at) ∷ []) }
+            journal.new ≡ with_said (selection_by self.old.ip
+            (seen ⟦<dyn Judge as Judge>⟧ self.old.slave).kept L at ∷ []) journal.old) }
     {
         let master = selected(&mut self.slave, at);
-        let statement = Statement::Selected {
+        journal.say(Statement::Selected {
             slave: self.ip,
             master,
-        };
-        say(texts, line, statement)
+        })
     }
 }
 

@@ -1,13 +1,12 @@
 //! What is said of what a slave of a script heard.
 
-ghost use Rattle.std.specs.Prelude.{◌≡◌, ◌++◌, ◌∷◌, [], length, map, OnOk};
+ghost use Rattle.std.specs.Prelude.{◌≡◌, length, map, OnOk};
 ghost use Rattle.ptu_slave_messages.specs.Heard.{failed_by, reply_in};
-ghost use Rattle.ptu_world.specs.Report.{text_at};
 ghost use Rattle.ptu_world.specs.Slaves.{heard_said, reason_of, signal_said};
+ghost use Rattle.ptu_nodes.specs.Noted.{with_said};
 ghost use Rattle.ptu_lab.specs.SlaveStatements.{IsOfOne, is_ignored, is_unsent};
 
-use ptu_nodes::say;
-use ptu_report::Texts;
+use ptu_nodes::Journal;
 use ptu_report_lines::{Hearing, Reason, Received, Statement};
 use ptu_slave::{Heard, HeardReply, Master, Signal, SlaveReason};
 use ptu_units::OutOfMemory;
@@ -40,35 +39,33 @@ fn said_signal(signal: Signal) -> Statement
 }
 
 // Says what each TLV of a Signaling said.
-fn say_signals(texts: &mut Texts, line: u64, signals: &[Signal]) -> Result<(), OutOfMemory>
-    ensures { OnOk result
-        (texts.new ≡ texts.old ++ map (text_at line) (map signal_said signals.now)) }
+fn say_signals(signals: &[Signal], journal: &mut Journal) -> Result<(), OutOfMemory>
+    ensures { OnOk result (journal.new ≡ with_said (map signal_said signals.now) journal.old) }
 {
     for signal in signals {
-        say(texts, line, said_signal(*signal))?;
+        journal.say(said_signal(*signal))?;
     }
     Ok(())
 }
 
-/// Adds the texts of what a slave with these masters heard.
+/// Says what a slave with these masters heard.
 ///
 /// # Errors
 /// `OutOfMemory`.
 pub fn say_heard(
-    texts: &mut Texts,
-    line: u64,
-    masters: &[Master],
     heard: &Heard,
+    masters: &[Master],
+    journal: &mut Journal,
 ) -> Result<(), OutOfMemory>
     requires { IsOfOne (length masters.now) heard.now }
     ensures { OnOk result
-        (texts.new ≡ texts.old ++ map (text_at line) (heard_said masters.now heard.now)) }
+        (journal.new ≡ with_said (heard_said masters.now heard.now) journal.old) }
 {
     let hearing = match heard {
         Heard::Ignored(reason) => {
-            return say(texts, line, Statement::Ignored(said_reason(*reason)));
+            return journal.say(Statement::Ignored(said_reason(*reason)));
         }
-        Heard::Signals { list, .. } => return say_signals(texts, line, list.list()),
+        Heard::Signals { list, .. } => return say_signals(list.list(), journal),
         Heard::Announce { at, master, class } => Hearing::Announce {
             master: masters[*master].ip,
             class: *class,
@@ -89,7 +86,7 @@ pub fn say_heard(
             at: *at,
         },
     };
-    say(texts, line, Statement::Heard(hearing))
+    journal.say(Statement::Heard(hearing))
 }
 
 /// Whether the datagram was ignored, and so was no event.

@@ -1,11 +1,14 @@
 ghost use Rattle.std.specs.Prelude.{IfOk};
 ghost use Rattle.ptu_script.specs.Limits.{IsSlaveWithin};
+ghost use Rattle.ptu_lab.specs.Acts.{IsActWithin};
 
+use crate::act::Act;
 use crate::slave_node::SlaveNode;
+use crate::stock::Reserve;
+use ptu_lines::LentOctets;
+use ptu_nodes::Journal;
 use ptu_record::Wants;
-use ptu_report::Texts;
-use ptu_report_lines::Sent;
-use ptu_script::SlaveSetup;
+use ptu_script::{Cause, SlaveSetup};
 use ptu_units::{Kind, Log, Moment};
 use std::alloc::Global;
 use std::process::Abort;
@@ -18,12 +21,12 @@ const STRANGER: u32 = 0x0a00_0001;
 const SYNC: &str = "0012002c040004000000000000000000000000000a0000000000000100010000007f\
      00000000000000000000";
 
-/// What is said of the events.
-const SAID: [&str; 3] = [
-    "3 selected 10.0.1.17 none\n",
-    "4 ignored stranger\n",
-    "5 selected 10.0.1.17 none\n",
-];
+/// What is said of each event.
+const TICKED: &str = "3 selected 10.0.1.17 none\n";
+
+const IGNORED: &str = "4 ignored stranger\n";
+
+const STOPPED: &str = "5 selected 10.0.1.17 none\n";
 
 // The slave 10.0.1.17.
 fn setup() -> Result<SlaveSetup, Fail>
@@ -47,24 +50,53 @@ fn setup() -> Result<SlaveSetup, Fail>
     })
 }
 
-// A tick, a datagram of a stranger, and the stop.
-fn assert_said(
+// What the node answers to an act at the moment 0, where no judge is left.
+fn act(
+    alloc: Global,
+    node: &mut SlaveNode,
+    act: Act<'_>,
+    journal: &mut Journal,
+) -> Result<Option<Cause>, Fail>
+    requires { IsActWithin act }
+{
+    let mut stock = Reserve {
+        flags: Vec::new(alloc),
+        gaps: Vec::new(alloc),
+    };
+    Ok(node.act(Moment::default(), act, &mut stock, journal)?)
+}
+
+// This alone is said of the line that was begun last.
+fn assert_said(rt: &impl Abort, journal: &Journal, said: &str) {
+    let texts = journal.texts();
+    assert_eq!(rt; texts.count(), 1);
+    assert_eq!(rt; texts.text(0), said.as_bytes());
+}
+
+// A tick, a datagram of a stranger, and the stop; a turn is none of its acts.
+fn assert_all_said(
     rt: &impl Abort,
     alloc: Global,
     node: &mut SlaveNode,
-    texts: &mut Texts,
-    sent: &mut Vec<Sent>,
+    journal: &mut Journal,
 ) -> Result<(), Fail> {
     assert_eq!(rt; (node.masters(), node.place(STRANGER)), (0, None));
     let sync = hex::decode(alloc, SYNC)?;
-    node.tick(alloc, Moment::default(), 3, texts, sent)?;
-    node.receive(alloc, Moment::default(), STRANGER, &sync, 4, texts, sent)?;
-    node.stop(alloc, Moment::default(), 5, texts, sent)?;
-    assert_eq!(rt; (texts.count(), sent.len()), (SAID.len(), 0));
-    for place in 0..texts.count() {
-        let said = SAID.get(place).ok_or("said")?;
-        assert_eq!(rt; texts.text(place), said.as_bytes());
-    }
+    let from = STRANGER;
+    journal.begin(3);
+    let ticked = act(alloc, node, Act::Tick, journal)?;
+    assert_said(rt, journal, TICKED);
+    journal.begin(4);
+    let octets = LentOctets::new(&sync);
+    let ignored = act(alloc, node, Act::Receive { from, octets }, journal)?;
+    assert_said(rt, journal, IGNORED);
+    journal.begin(5);
+    let stopped = act(alloc, node, Act::Stop, journal)?;
+    assert_said(rt, journal, STOPPED);
+    let turned = act(alloc, node, Act::Turn { table: 0 }, journal)?;
+    let answers = (ticked, ignored, stopped, turned);
+    assert_eq!(rt; answers, (None, None, None, Some(Cause::Node)));
+    assert_eq!(rt; journal.sent().len(), 0);
     Ok(())
 }
 
@@ -72,8 +104,7 @@ fn assert_said(
 fn a_slave_without_masters_selects_none(rt: HostRuntime) -> Result<(), Fail> {
     let alloc = rt.alloc();
     let setup = setup()?;
-    let mut texts = Texts::new(alloc);
-    let mut sent = Vec::new(alloc);
+    let mut journal = Journal::new(alloc);
     let mut node = SlaveNode::new(alloc, &setup)?;
-    assert_said(&rt, alloc, &mut node, &mut texts, &mut sent)
+    assert_all_said(&rt, alloc, &mut node, &mut journal)
 }
