@@ -14,6 +14,7 @@ use Rattle.ptu_script.specs.declared.command.Command.TheVariants as commands
 use Rattle.ptu_world.specs.Deeds as world
 use Rattle.ptu_world.specs.World.{Done, Stock, World, add_master, node_at, placed, quietly, slave_by, step, stock_without, with_master}
 use Rattle.ptu_world.specs.Report.{Course, outcome_by}
+use Rattle.ptu_nodes.specs.Noted.{Noted}
 use Rattle.ptu_slave.specs.Seen.{Seen}
 use Rattle.ptu_lab.specs.declared.slave_node.SlaveNode.{SlaveNode}
 use Rattle.ptu_lab.specs.declared.lab.Node.{Node}
@@ -134,12 +135,10 @@ module _ {J B : Type 0} {I : J → Type 0} (see : SlaveNode J I → Seen MemoryP
         → ((s : world.Slave) (r : Rule) → IsNode node.ip (see node) false s → judge ≡ fresh r
         → StandsAsNode new.ip (see new) false (world.IsSlave (with_master ip priority r s)))
         → ((q : ℕ) → get nat_eq lab'.nodes q ≡ cond (nat_eq slave q) (Some (nodes.Slave new)) (get nat_eq lab.nodes q))
-        → lab'.sent ≡ lab.sent
+        → lab'.journal ≡ lab.journal
         → lab'.has_begun ≡ lab.has_begun
-        → lab'.granted ≡ lab.granted
-        → lab'.short ≡ lab.short
         → IsOutcome (outcome_by c line (step c.world (commands.Master slave ip priority rule))) (StandsFor see flags' gaps' lab') [] None
-    added flags' gaps' lab' line new judge other full taken same more changed sent begins grants shorts =
+    added flags' gaps' lab' line new judge other full taken same more changed journal begins =
         let at = slave_found node found in
         let not_begun : c.world.has_begun ≡ false = sym stands.has_begun ∙ begun in
         let here : at.slave_is.ip ≡ slave = at.stands_as.address ∙ at.address in
@@ -151,13 +150,13 @@ module _ {J B : Type 0} {I : J → Type 0} (see : SlaveNode J I → Seen MemoryP
                   subst (λ b. StandsAsNode new.ip (see new) b (world.IsSlave (with_master ip priority rule at.slave_is))) (sym not_begun)
                       (more at.slave_is rule (subst (λ b. IsNode node.ip (see node) b at.slave_is) not_begun at.stands_as) taken.is_fresh),
                 ));
-            sent = ap (λ v. v.items) sent ∙ stands.sent;
+            sent = ap (λ (n : Noted). n.sent) journal ∙ stands.sent;
             has_begun = begins ∙ stands.has_begun;
             flags = refl;
             gaps = refl;
             stock = taken.stock;
-            granted = (let none : lab'.granted ≡ c.granted + 0 = omega (arith, grants, stands.granted) in none);
-            short = (let none : lab'.short ≡ c.short + 0 = omega (arith, shorts, stands.short) in none);
+            granted = (let none : lab'.journal.granted ≡ c.granted + 0 = ap (λ (n : Noted). n.granted) journal ∙ omega (arith, stands.granted) in none);
+            short = (let none : lab'.journal.short ≡ c.short + 0 = ap (λ (n : Noted). n.short) journal ∙ omega (arith, stands.short) in none);
           },
           refl,
         )

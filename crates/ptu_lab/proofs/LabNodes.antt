@@ -1,39 +1,78 @@
 -- The lab's nodes agree with those of a world, and so does the lab with a course.
-use Rattle.std.proofs.Common.{◌≡◌, ◌∙◌, ℕ, ◌+◌, ◌++◌, Bool, true, false, cond, eqb, List, [], ◌∷◌, map, Option, Some, None, Result, Ok, Err, IfOk, refl, sym, ap, ap₂, subst, eqb-true, eq-eqb, arith}
+use Rattle.std.proofs.Common.{◌≡◌, ◌∙◌, ℕ, ◌+◌, ◌++◌, Bool, true, false, cond, eqb, List, [], ◌∷◌, map, Option, Some, None, Result, Ok, Err, IfOk, is_some, refl, sym, ap, ap₂, subst, eqb-true, eq-eqb, arith}
 use Rattle.std.specs.Prelude.{nat_eq}
 use Rattle.std.specs.List.{count_by}
 use Rattle.std.specs.HashMap.{HashMap, get}
 use Rattle.ptu_outside.specs.MemoryPort.{MemoryPort}
-use Rattle.ptu_judges.specs.Held.{Held}
+use Rattle.ptu_judges.specs.Held.{Held, IsStock}
 use Rattle.ptu_report_lines.specs.declared.sent.Sent.{Sent}
-use Rattle.ptu_world.specs.Deeds as world
-use Rattle.ptu_world.specs.Deeds.{Deed}
-use Rattle.ptu_world.specs.Slaves as slaves
+use Rattle.ptu_report_lines.specs.declared.statement.Statement.TheVariants as statements
 use Rattle.ptu_record.specs.declared.rule.Rule.{Rule}
 use Rattle.ptu_slave_messages.specs.Config.{place_of}
-use Rattle.ptu_world.specs.World.{Done, Nodes, Stock, datagram_deed, datagram_numbered, delivered_to, done_by, node_at, or_cause, placed, said_by, sent_from, step, stock_without}
-use Rattle.ptu_world.specs.Report.{Course, course_after, is_granted, is_short, outcome_by, text_at}
 use Rattle.ptu_report.specs.Rules.{IsOutcome}
+use Rattle.ptu_script.specs.Fields.{◌>>=◌}
 use Rattle.ptu_script.specs.declared.cause.Cause.{Cause}
 use Rattle.ptu_script.specs.declared.cause.Cause.TheVariants as causes
 use Rattle.ptu_script.specs.declared.command.Command.TheVariants as commands
-use Rattle.ptu_report_lines.specs.declared.statement.Statement.TheVariants as statements
-use Rattle.ptu_script.specs.Fields.{◌>>=◌}
+use Rattle.ptu_world.specs.Deeds as world
+use Rattle.ptu_world.specs.Deeds.{Deed}
+use Rattle.ptu_world.specs.World.{Done, Nodes, Stock, datagram_numbered, delivered_to, done_by, node_at, or_cause, placed, said_by, sent_from, step, stock_without}
+use Rattle.ptu_world.specs.Report.{Course, course_after, is_granted, is_short, outcome_by, text_at}
+use Rattle.ptu_nodes.specs.declared.grandmaster_node.GrandmasterNode.{GrandmasterNode}
+use Rattle.ptu_nodes.specs.Doing.{HasDone}
+use Rattle.ptu_nodes.specs.Noted.{Noted, with_deed, with_said}
+use Rattle.ptu_nodes.specs.Standing.{IsGrandmasterNode, StandsAsGrandmaster}
+use Rattle.ptu_nodes.proofs.Noting.{deed_granted, deed_short, deed_texts}
 use Rattle.ptu_slave.specs.Seen.{Seen}
+use Rattle.ptu_lab.specs.declared.act.Act.{Act}
+use Rattle.ptu_lab.specs.declared.act.Act.TheVariants as acts
 use Rattle.ptu_lab.specs.declared.slave_node.SlaveNode.{SlaveNode}
 use Rattle.ptu_lab.specs.declared.lab.Node.{Node}
 use Rattle.ptu_lab.specs.declared.lab.Node.TheVariants as nodes
 use Rattle.ptu_lab.specs.declared.lab.Lab.{Lab}
-use Rattle.ptu_nodes.specs.Doing.{HasDone}
+use Rattle.ptu_lab.specs.Acts.{act_deed, command_of, of_master, stock_after}
 use Rattle.ptu_lab.specs.NodeStanding.{IsNode, StandsAsNode}
 use Rattle.ptu_lab.specs.Standing.{Agrees, StandsAs, StandsFor}
-use Rattle.ptu_lab.specs.Steps.{HasActed, HasHanded, HasActedWithJudge, HasTaken, of_master, of_slave, stock_of}
-use Rattle.ptu_lab.proofs.LabCommands.{after_deed, after_judged, at_found, at_found_with_judge, at_node, at_node_with_judge}
+use Rattle.ptu_lab.specs.Steps.{HasActed, HasActedLeaving, HasTaken, stock_of}
+use Rattle.ptu_lab.proofs.LabCommands.{after_acted, at_found, command_is, deliver_is}
 
 -- what follows from a fact on what was answered
 pub ok_also : {A E : Type 0} (r : Result A E) (P Q : A → Type 0) → IfOk r P → ((x : A) → P x → Q x) → IfOk r Q
 ok_also (Ok x) P Q p also = also x p
 ok_also (Err e) P Q p also = tt
+
+-- ---- what was done at an act
+
+-- a node that is seen otherwise, at an address that is the same
+pub done_as : (P Q : world.Node → Type 0) (a b : ℕ) (deed : Deed) (old new : Noted) → ((w : world.Node) → P w → Q w) → a ≡ b → HasDone P a deed old new → HasDone Q b deed old new
+done_as P Q a b deed old new also same done = record {
+  node = also deed.node done.node;
+  noted = subst (λ i. new ≡ with_deed i deed old) same done.noted;
+}
+
+-- where no judge was taken, those that are left are those that there were
+pub leaving : (P Q : world.Node → Type 0) (a b : ℕ) (old new : Noted) (flags gaps : List Held) (r : Result Deed Cause) (refused : Option Cause)
+    → ((w : world.Node) → P w → Q w) → a ≡ b → IsStock flags gaps → HasActed P a old new r refused → HasActedLeaving Q b old new flags gaps r (Ok (stock_of flags gaps)) refused
+leaving P Q a b old new flags gaps (Ok deed) None also same stock h = (done_as P Q a b deed old new also same h, refl, stock)
+leaving P Q a b old new flags gaps (Ok deed) (Some found) also same stock h = absurd h
+leaving P Q a b old new flags gaps (Err cause) None also same stock h = absurd h
+leaving P Q a b old new flags gaps (Err cause) (Some found) also same stock h = h
+
+-- the same where a judge may have been taken
+pub leaving_as : (P Q : world.Node → Type 0) (a b : ℕ) (old new : Noted) (flags gaps : List Held) (r : Result Deed Cause) (left : Result Stock Cause) (refused : Option Cause)
+    → ((w : world.Node) → P w → Q w) → a ≡ b → HasActedLeaving P a old new flags gaps r left refused → HasActedLeaving Q b old new flags gaps r left refused
+leaving_as P Q a b old new flags gaps (Ok deed) (Ok left) None also same h = (done_as P Q a b deed old new also same h.0, h.1)
+leaving_as P Q a b old new flags gaps (Ok deed) (Ok left) (Some found) also same h = absurd h
+leaving_as P Q a b old new flags gaps (Ok deed) (Err cause) None also same h = absurd h
+leaving_as P Q a b old new flags gaps (Ok deed) (Err cause) (Some found) also same h = h
+leaving_as P Q a b old new flags gaps (Err cause) left None also same h = absurd h
+leaving_as P Q a b old new flags gaps (Err cause) left (Some found) also same h = h
+
+-- a refusal leaves open which judges are left
+refused_any : (P Q : world.Node → Type 0) (a b : ℕ) (old new : Noted) (flags gaps : List Held) (cause : Cause) (left : Result Stock Cause) (refused : Option Cause)
+    → HasActed P a old new (Err cause) refused → HasActedLeaving Q b old new flags gaps (Err cause) left refused
+refused_any P Q a b old new flags gaps cause left None h = absurd h
+refused_any P Q a b old new flags gaps cause left (Some found) h = h
 
 module _ {J B : Type 0} {I : J → Type 0} (see : SlaveNode J I → Seen MemoryPort B) where
   -- after the first event too
@@ -75,300 +114,192 @@ module _ {J B : Type 0} {I : J → Type 0} (see : SlaveNode J I → Seen MemoryP
       by true e false d = absurd (let same : eqb q ip ≡ true = eq-eqb q ip (sym (eqb-true ip q e)) in cc)
       by false e true d = absurd (let same : eqb ip q ≡ true = eq-eqb ip q (sym (eqb-true q ip d)) in cc)
 
-  -- the lab whose node at the address did its deed stands for the course behind it
-  pub deed_stands : (flags gaps : List Held) (lab lab' : Lab J I) (c : Course) (ip line : ℕ) (node : Node J I) (deed : Deed) (texts texts' : List (List ℕ)) (granted short : ℕ)
+  -- what is found in the lab is found in the world
+  pub is_there : (ip : ℕ) (begun : Bool) (o : Option (Node J I)) (v : Option world.Node) → Agrees see ip begun o v → is_some v ≡ is_some o
+  is_there ip begun None None h = refl
+  is_there ip begun None (Some v) h = absurd h
+  is_there ip begun (Some node) None h = absurd h
+  is_there ip begun (Some node) (Some v) h = refl
+
+  -- the lab whose node at the address did its deed, with these judges left, stands for the course behind it
+  pub deed_stands : (flags gaps flags' gaps' : List Held) (lab lab' : Lab J I) (c : Course) (ip : ℕ) (node : Node J I) (deed : Deed) (left : Stock)
       → StandsFor see flags gaps lab c
-      → HasDone (StandsAs see ip true node) ip line deed lab.sent.items lab'.sent.items texts texts' granted short
-      → texts ≡ []
+      → HasDone (StandsAs see ip true node) ip deed lab.journal lab'.journal
+      → left ≡ stock_of flags' gaps'
+      → IsStock flags' gaps'
+      → lab.journal.texts ≡ []
       → ((q : ℕ) → get nat_eq lab'.nodes q ≡ cond (nat_eq ip q) (Some node) (get nat_eq lab.nodes q))
       → lab'.has_begun ≡ true
-      → lab'.granted ≡ lab.granted + granted
-      → lab'.short ≡ lab.short + short
-      → StandsFor see flags gaps lab' (course_after c (done_by c.world ip deed)) × (texts' ≡ map (text_at line) (done_by c.world ip deed).said)
-  deed_stands flags gaps lab lab' c ip line node deed texts texts' granted short stands done none changed begun grants shorts = (
+      → StandsFor see flags' gaps' lab' (course_after c (done_by (record (c.world) { stock = left }) ip deed))
+      × (lab'.journal.texts ≡ map (text_at lab.journal.line) (done_by (record (c.world) { stock = left }) ip deed).said)
+  deed_stands flags gaps flags' gaps' lab lab' c ip node deed left stands done left_is stock none changed begun = (
     record {
       nodes = placed_agree lab.nodes lab'.nodes c.world.nodes true ip node deed.node (λ q. agrees_later q c.world.has_begun (get nat_eq lab.nodes q) (node_at c.world.nodes q) (stands.nodes q)) changed done.node;
-      sent = done.sends ∙ ap (λ s. s ++ map (sent_from ip) deed.sends) stands.sent;
+      sent = ap (λ (n : Noted). n.sent) done.noted ∙ ap (λ s. s ++ map (sent_from ip) deed.sends) stands.sent;
       has_begun = begun;
-      flags = stands.flags;
-      gaps = stands.gaps;
-      stock = stands.stock;
-      granted = grants ∙ (ap (λ n. n + granted) stands.granted ∙ ap (λ n. c.granted + n) (done.grants ∙ ap (λ s. count_by is_granted (said_by s ip deed)) stands.sent));
-      short = shorts ∙ (ap (λ n. n + short) stands.short ∙ ap (λ n. c.short + n) (done.shortages ∙ ap (λ s. count_by is_short (said_by s ip deed)) stands.sent));
+      flags = sym (ap (λ (s : Stock). s.flags) left_is);
+      gaps = sym (ap (λ (s : Stock). s.gaps) left_is);
+      stock = stock;
+      granted = ap (λ (n : Noted). n.granted) done.noted ∙ (deed_granted ip deed lab.journal
+          ∙ (ap (λ n. n + count_by is_granted (said_by lab.journal.sent ip deed)) stands.granted ∙ ap (λ s. c.granted + count_by is_granted (said_by s ip deed)) stands.sent));
+      short = ap (λ (n : Noted). n.short) done.noted ∙ (deed_short ip deed lab.journal
+          ∙ (ap (λ n. n + count_by is_short (said_by lab.journal.sent ip deed)) stands.short ∙ ap (λ s. c.short + count_by is_short (said_by s ip deed)) stands.sent));
     },
-    done.says ∙ (ap (λ t. t ++ map (text_at line) (said_by lab.sent.items ip deed)) none ∙ ap (λ s. map (text_at line) (said_by s ip deed)) stands.sent),
+    ap (λ (n : Noted). n.texts) done.noted ∙ (deed_texts ip deed lab.journal
+    ∙ (ap (λ t. t ++ map (text_at lab.journal.line) (said_by lab.journal.sent ip deed)) none ∙ ap (λ s. map (text_at lab.journal.line) (said_by s ip deed)) stands.sent)),
   )
 
-  -- ---- an event at a node
+  -- ---- an act of a node
 
   -- no node is found
-  pub nobody : (flags gaps : List Held) (lab : Lab J I) (c : Course) (ip line : ℕ) (act : world.Node → Result Deed Cause) (made : Result Done Cause) (after : Course → Type 0) (given : List (List ℕ))
+  pub nobody : (flags gaps : List Held) (lab : Lab J I) (c : Course) (ip line t : ℕ) (act : Act) (after : Course → Type 0) (given : List (List ℕ))
       → StandsFor see flags gaps lab c
       → get nat_eq lab.nodes ip ≡ None
-      → made ≡ at_node c.world ip act
-      → IsOutcome (outcome_by c line made) after given (Some causes.Node)
-  nobody flags gaps lab c ip line act made after given stands found is = rw is (by (node_at c.world.nodes ip) (rw (sym found) (stands.nodes ip)))
+      → IsOutcome (outcome_by c line (step c.world (command_of ip t act))) after given (Some causes.Node)
+  nobody flags gaps lab c ip line t act after given stands found = rw (command_is c.world ip t act) (by (node_at c.world.nodes ip) (rw (sym found) (stands.nodes ip)))
     where
-      by : (o : Option world.Node) → Agrees see ip c.world.has_begun None o → IsOutcome (outcome_by c line (at_found c.world ip act o)) after given (Some causes.Node)
+      by : (o : Option world.Node) → Agrees see ip c.world.has_begun None o → IsOutcome (outcome_by c line (at_found c.world ip t act o)) after given (Some causes.Node)
       by None h = refl
       by (Some w) h = absurd h
 
   -- it is found, and acts or refuses
-  pub acted_stands : (flags gaps : List Held) (lab lab' : Lab J I) (c : Course) (ip line : ℕ) (old new : Node J I) (act : world.Node → Result Deed Cause) (texts texts' : List (List ℕ)) (made : Result Done Cause) (refused : Option Cause)
-      → StandsFor see flags gaps lab c
-      → get nat_eq lab.nodes ip ≡ Some old
-      → ((a : ℕ) (begun : Bool) (w : world.Node) → StandsAs see a begun old w → HasActed (StandsAs see a true new) a line lab.sent.items lab'.sent.items texts texts' (act w) refused)
-      → made ≡ at_node c.world ip act
-      → texts ≡ []
-      → ((q : ℕ) → get nat_eq lab'.nodes q ≡ cond (nat_eq ip q) (Some new) (get nat_eq lab.nodes q))
-      → lab'.has_begun ≡ true
-      → lab'.granted ≡ lab.granted
-      → lab'.short ≡ lab.short
-      → IsOutcome (outcome_by c line made) (StandsFor see flags gaps lab') texts' refused
-  acted_stands flags gaps lab lab' c ip line old new act texts texts' made refused stands found acted is none changed begun grants shorts =
-      rw is (by (node_at c.world.nodes ip) (rw (sym found) (stands.nodes ip)))
-    where
-      decided : (r : Result Deed Cause) (answer : Option Cause) → HasActed (StandsAs see ip true new) ip line lab.sent.items lab'.sent.items texts texts' r answer
-          → IsOutcome (outcome_by c line (after_deed c.world ip r)) (StandsFor see flags gaps lab') texts' answer
-      decided (Ok deed) None h =
-          let no_grant : lab'.granted ≡ lab.granted + 0 = omega (arith, grants) in
-          let no_short : lab'.short ≡ lab.short + 0 = omega (arith, shorts) in
-          deed_stands flags gaps lab lab' c ip line new deed texts texts' 0 0 stands h none changed begun no_grant no_short
-      decided (Ok deed) (Some cause) h = absurd h
-      decided (Err e) None h = absurd h
-      decided (Err e) (Some cause) h = h
-
-      by : (o : Option world.Node) → Agrees see ip c.world.has_begun (Some old) o → IsOutcome (outcome_by c line (at_found c.world ip act o)) (StandsFor see flags gaps lab') texts' refused
-      by None h = absurd h
-      by (Some w) h = decided (act w) refused (acted ip c.world.has_begun w h)
-
-  -- it is found, and takes a judge from the stock
-  pub judged_stands : (flags gaps flags' gaps' : List Held) (lab lab' : Lab J I) (c : Course) (ip line : ℕ) (old new : Node J I) (rule : Rule) (act : world.Node → Result Deed Cause)
-      (texts texts' : List (List ℕ)) (made : Result Done Cause) (refused : Option Cause)
+  pub acted_stands : (flags gaps flags' gaps' : List Held) (lab lab' : Lab J I) (c : Course) (ip t : ℕ) (act : Act) (old new : Node J I) (refused : Option Cause)
       → StandsFor see flags gaps lab c
       → get nat_eq lab.nodes ip ≡ Some old
       → ((a : ℕ) (begun : Bool) (w : world.Node) → StandsAs see a begun old w
-      → HasActedWithJudge (StandsAs see a true new) a line lab.sent.items lab'.sent.items texts texts' flags' gaps' (act w) (stock_without rule (stock_of flags gaps)) refused)
-      → made ≡ at_node_with_judge c.world ip rule act
-      → texts ≡ []
+      → HasActedLeaving (StandsAs see a true new) a lab.journal lab'.journal flags' gaps' (act_deed t act w) (stock_after act (stock_of flags gaps)) refused)
+      → lab.journal.texts ≡ []
       → ((q : ℕ) → get nat_eq lab'.nodes q ≡ cond (nat_eq ip q) (Some new) (get nat_eq lab.nodes q))
       → lab'.has_begun ≡ true
-      → lab'.granted ≡ lab.granted
-      → lab'.short ≡ lab.short
-      → IsOutcome (outcome_by c line made) (StandsFor see flags' gaps' lab') texts' refused
-  judged_stands flags gaps flags' gaps' lab lab' c ip line old new rule act texts texts' made refused stands found acted is none changed begun grants shorts =
-      rw is (by (node_at c.world.nodes ip) (rw (sym found) (stands.nodes ip)))
+      → IsOutcome (outcome_by c lab.journal.line (step c.world (command_of ip t act))) (StandsFor see flags' gaps' lab') lab'.journal.texts refused
+  acted_stands flags gaps flags' gaps' lab lab' c ip t act old new refused stands found acted none changed begun =
+      rw (command_is c.world ip t act) (by (node_at c.world.nodes ip) (rw (sym found) (stands.nodes ip)))
     where
       stock_is : stock_of flags gaps ≡ c.world.stock
       stock_is = ap₂ (λ f g. record { flags = f; gaps = g }) stands.flags stands.gaps
 
-      decided : (r : Result Deed Cause) (s : Result Stock Cause) (answer : Option Cause)
-          → HasActedWithJudge (StandsAs see ip true new) ip line lab.sent.items lab'.sent.items texts texts' flags' gaps' r s answer
-          → IsOutcome (outcome_by c line (after_judged c.world ip r s)) (StandsFor see flags' gaps' lab') texts' answer
-      decided (Ok deed) (Ok left) None h =
-          let no_grant : lab'.granted ≡ lab.granted + 0 = omega (arith, grants) in
-          let no_short : lab'.short ≡ lab.short + 0 = omega (arith, shorts) in
-          let p = deed_stands flags gaps lab lab' c ip line new deed texts texts' 0 0 stands h.0 none changed begun no_grant no_short in (
-            record {
-              nodes = p.0.nodes;
-              sent = p.0.sent;
-              has_begun = p.0.has_begun;
-              flags = sym (ap (λ s. s.flags) h.1);
-              gaps = sym (ap (λ s. s.gaps) h.1);
-              stock = h.2;
-              granted = p.0.granted;
-              short = p.0.short;
-            },
-            p.1,
-          )
+      decided : (r : Result Deed Cause) (s : Result Stock Cause) (answer : Option Cause) → HasActedLeaving (StandsAs see ip true new) ip lab.journal lab'.journal flags' gaps' r s answer
+          → IsOutcome (outcome_by c lab.journal.line (after_acted c.world ip r s)) (StandsFor see flags' gaps' lab') lab'.journal.texts answer
+      decided (Ok deed) (Ok left) None h = deed_stands flags gaps flags' gaps' lab lab' c ip new deed left stands h.0 h.1 h.2 none changed begun
       decided (Ok deed) (Ok left) (Some cause) h = absurd h
       decided (Ok deed) (Err e) None h = absurd h
       decided (Ok deed) (Err e) (Some cause) h = h
       decided (Err e) s None h = absurd h
       decided (Err e) s (Some cause) h = h
 
-      by : (o : Option world.Node) → Agrees see ip c.world.has_begun (Some old) o
-          → IsOutcome (outcome_by c line (at_found_with_judge c.world ip rule act o)) (StandsFor see flags' gaps' lab') texts' refused
+      by : (o : Option world.Node) → Agrees see ip c.world.has_begun (Some old) o → IsOutcome (outcome_by c lab.journal.line (at_found c.world ip t act o)) (StandsFor see flags' gaps' lab') lab'.journal.texts refused
       by None h = absurd h
-      by (Some w) h = decided (act w) (stock_without rule c.world.stock) refused (subst (λ s. HasActedWithJudge (StandsAs see ip true new) ip line lab.sent.items lab'.sent.items texts texts' flags' gaps' (act w) (stock_without rule s) refused) stock_is (acted ip c.world.has_begun w h))
+      by (Some w) h = decided (act_deed t act w) (stock_after act c.world.stock) refused
+          (subst (λ s. HasActedLeaving (StandsAs see ip true new) ip lab.journal lab'.journal flags' gaps' (act_deed t act w) (stock_after act s) refused) stock_is (acted ip c.world.has_begun w h))
 
-  -- no node is found for it
-  pub nobody_judged : (flags gaps : List Held) (lab : Lab J I) (c : Course) (ip line : ℕ) (rule : Rule) (act : world.Node → Result Deed Cause) (made : Result Done Cause) (after : Course → Type 0) (given : List (List ℕ))
-      → StandsFor see flags gaps lab c
-      → get nat_eq lab.nodes ip ≡ None
-      → made ≡ at_node_with_judge c.world ip rule act
-      → IsOutcome (outcome_by c line made) after given (Some causes.Node)
-  nobody_judged flags gaps lab c ip line rule act made after given stands found is = rw is (by (node_at c.world.nodes ip) (rw (sym found) (stands.nodes ip)))
+  -- a grandmaster does, and takes no judge
+  pub grandmaster_acts : (old new : GrandmasterNode) (t : ℕ) (act : Act) (noted noted' : Noted) (flags gaps : List Held) (refused : Option Cause)
+      → new.ip ≡ old.ip
+      → IsStock flags gaps
+      → ((g : world.Grandmaster) → IsGrandmasterNode old g → HasActed (StandsAsGrandmaster new) old.ip noted noted' (act_deed t act (world.IsGrandmaster g)) refused)
+      → (ip : ℕ) (begun : Bool) (w : world.Node) → StandsAs see ip begun (nodes.Grandmaster old) w
+      → HasActedLeaving (StandsAs see ip true (nodes.Grandmaster new)) ip noted noted' flags gaps (act_deed t act w) (stock_after act (stock_of flags gaps)) refused
+  grandmaster_acts old new t act noted noted' flags gaps refused same stock acted ip begun (world.IsSlave s) h = absurd h.1
+  grandmaster_acts old new t act noted noted' flags gaps refused same stock acted ip begun (world.IsGrandmaster g) h = by act (acted g h.1)
     where
-      by : (o : Option world.Node) → Agrees see ip c.world.has_begun None o → IsOutcome (outcome_by c line (at_found_with_judge c.world ip rule act o)) after given (Some causes.Node)
-      by None h = refl
-      by (Some w) h = absurd h
+      also : (w : world.Node) → StandsAsGrandmaster new w → StandsAs see ip true (nodes.Grandmaster new) w
+      also w stands = (same ∙ h.0, stands)
 
-  -- ---- a slave
+      by : (a : Act) → HasActed (StandsAsGrandmaster new) old.ip noted noted' (act_deed t a (world.IsGrandmaster g)) refused
+          → HasActedLeaving (StandsAs see ip true (nodes.Grandmaster new)) ip noted noted' flags gaps (act_deed t a (world.IsGrandmaster g)) (stock_after a (stock_of flags gaps)) refused
+      by (acts.Receive from octets) done = leaving (StandsAsGrandmaster new) (StandsAs see ip true (nodes.Grandmaster new)) old.ip ip noted noted' flags gaps (act_deed t (acts.Receive from octets) (world.IsGrandmaster g)) refused also h.0 stock done
+      by (acts.Turn table) done = leaving (StandsAsGrandmaster new) (StandsAs see ip true (nodes.Grandmaster new)) old.ip ip noted noted' flags gaps (act_deed t (acts.Turn table) (world.IsGrandmaster g)) refused also h.0 stock done
+      by (acts.Class class) done = leaving (StandsAsGrandmaster new) (StandsAs see ip true (nodes.Grandmaster new)) old.ip ip noted noted' flags gaps (act_deed t (acts.Class class) (world.IsGrandmaster g)) refused also h.0 stock done
+      by (acts.Capacity capacity) done = leaving (StandsAsGrandmaster new) (StandsAs see ip true (nodes.Grandmaster new)) old.ip ip noted noted' flags gaps (act_deed t (acts.Capacity capacity) (world.IsGrandmaster g)) refused also h.0 stock done
+      by acts.Tick done = leaving (StandsAsGrandmaster new) (StandsAs see ip true (nodes.Grandmaster new)) old.ip ip noted noted' flags gaps (act_deed t acts.Tick (world.IsGrandmaster g)) refused also h.0 stock done
+      by (acts.Flag master unusable) done = leaving (StandsAsGrandmaster new) (StandsAs see ip true (nodes.Grandmaster new)) old.ip ip noted noted' flags gaps (act_deed t (acts.Flag master unusable) (world.IsGrandmaster g)) refused also h.0 stock done
+      by (acts.Judge master rule) done = refused_any (StandsAsGrandmaster new) (StandsAs see ip true (nodes.Grandmaster new)) old.ip ip noted noted' flags gaps causes.Node (stock_without rule (stock_of flags gaps)) refused done
+      by acts.Stop done = leaving (StandsAsGrandmaster new) (StandsAs see ip true (nodes.Grandmaster new)) old.ip ip noted noted' flags gaps (act_deed t acts.Stop (world.IsGrandmaster g)) refused also h.0 stock done
 
-  -- its deed was done where it stands
-  slave_did : (ip line : ℕ) (old new : SlaveNode J I) (deed : Deed) (sent sent' : List Sent) (texts texts' : List (List ℕ)) → old.ip ≡ ip → new.ip ≡ old.ip
-      → HasDone (StandsAsNode new.ip (see new) true) old.ip line deed sent sent' texts texts' 0 0
-      → HasDone (StandsAs see ip true (nodes.Slave new)) ip line deed sent sent' texts texts' 0 0
-  slave_did ip line old new deed sent sent' texts texts' address same done = record {
-    node = (same ∙ address, done.node);
-    sends = subst (λ a. sent' ≡ sent ++ map (sent_from a) deed.sends) address done.sends;
-    says = subst (λ a. texts' ≡ texts ++ map (text_at line) (said_by sent a deed)) address done.says;
-    grants = subst (λ a. 0 ≡ count_by is_granted (said_by sent a deed)) address done.grants;
-    shortages = subst (λ a. 0 ≡ count_by is_short (said_by sent a deed)) address done.shortages;
-  }
-
-  pub slave_receives : (old new : SlaveNode J I) (line t from : ℕ) (octets : List ℕ) (sent sent' : List Sent) (texts texts' : List (List ℕ))
+  -- a slave does
+  pub slave_acts : (old new : SlaveNode J I) (t : ℕ) (act : Act) (noted noted' : Noted) (flags gaps : List Held) (left : Result Stock Cause) (refused : Option Cause)
       → new.ip ≡ old.ip
       → ((begun : Bool) (s : world.Slave) → IsNode old.ip (see old) begun s
-      → HasDone (StandsAsNode new.ip (see new) true) old.ip line (slaves.datagram_deed s t from octets) sent sent' texts texts' 0 0)
+      → HasActedLeaving (StandsAsNode new.ip (see new) true) old.ip noted noted' flags gaps (act_deed t act (world.IsSlave s)) left refused)
       → (ip : ℕ) (begun : Bool) (w : world.Node) → StandsAs see ip begun (nodes.Slave old) w
-      → HasDone (StandsAs see ip true (nodes.Slave new)) ip line (datagram_deed w t from octets) sent sent' texts texts' 0 0
-  slave_receives old new line t from octets sent sent' texts texts' same done ip begun (world.IsGrandmaster g) h = absurd h.1
-  slave_receives old new line t from octets sent sent' texts texts' same done ip begun (world.IsSlave s) h =
-      slave_did ip line old new (slaves.datagram_deed s t from octets) sent sent' texts texts' h.0 same (done begun s h.1)
-
-  pub slave_acts : (old new : SlaveNode J I) (line : ℕ) (deed : world.Slave → Deed) (sent sent' : List Sent) (texts texts' : List (List ℕ))
-      → new.ip ≡ old.ip
-      → ((begun : Bool) (s : world.Slave) → IsNode old.ip (see old) begun s
-      → HasDone (StandsAsNode new.ip (see new) true) old.ip line (deed s) sent sent' texts texts' 0 0)
-      → (ip : ℕ) (begun : Bool) (w : world.Node) → StandsAs see ip begun (nodes.Slave old) w
-      → HasActed (StandsAs see ip true (nodes.Slave new)) ip line sent sent' texts texts' (of_slave deed w) None
-  slave_acts old new line deed sent sent' texts texts' same done ip begun (world.IsGrandmaster g) h = absurd h.1
-  slave_acts old new line deed sent sent' texts texts' same done ip begun (world.IsSlave s) h = slave_did ip line old new (deed s) sent sent' texts texts' h.0 same (done begun s h.1)
+      → HasActedLeaving (StandsAs see ip true (nodes.Slave new)) ip noted noted' flags gaps (act_deed t act w) left refused
+  slave_acts old new t act noted noted' flags gaps left refused same acted ip begun (world.IsGrandmaster g) h = absurd h.1
+  slave_acts old new t act noted noted' flags gaps left refused same acted ip begun (world.IsSlave s) h =
+      leaving_as (StandsAsNode new.ip (see new) true) (StandsAs see ip true (nodes.Slave new)) old.ip ip noted noted' flags gaps (act_deed t act (world.IsSlave s)) left refused
+      (λ w stands. (same ∙ h.0, stands)) h.0 (acted begun s h.1)
 
   -- an event that concerns a master at a place of its list
-  pub master_acts : (old new : SlaveNode J I) (line master place : ℕ) (deed : world.Slave → ℕ → Deed) (sent sent' : List Sent) (texts texts' : List (List ℕ))
+  pub master_acts : (old new : SlaveNode J I) (master place : ℕ) (deed : world.Slave → ℕ → Deed) (noted noted' : Noted)
       → place_of (see old).kept.masters master ≡ Some place
-      → new.ip ≡ old.ip
-      → ((begun : Bool) (s : world.Slave) → IsNode old.ip (see old) begun s
-      → HasDone (StandsAsNode new.ip (see new) true) old.ip line (deed s place) sent sent' texts texts' 0 0)
-      → (ip : ℕ) (begun : Bool) (w : world.Node) → StandsAs see ip begun (nodes.Slave old) w
-      → HasActed (StandsAs see ip true (nodes.Slave new)) ip line sent sent' texts texts' (of_master master deed w) None
-  master_acts old new line master place deed sent sent' texts texts' found same done ip begun (world.IsGrandmaster g) h = absurd h.1
-  master_acts old new line master place deed sent sent' texts texts' found same done ip begun (world.IsSlave s) h =
-      let here : place_of s.opened.masters master ≡ Some place = ap (λ masters. place_of masters master) h.1.masters ∙ found in
-      rw here (slave_did ip line old new (deed s place) sent sent' texts texts' h.0 same (done begun s h.1))
+      → ((begun : Bool) (s : world.Slave) → IsNode old.ip (see old) begun s → HasDone (StandsAsNode new.ip (see new) true) old.ip (deed s place) noted noted')
+      → (begun : Bool) (s : world.Slave) → IsNode old.ip (see old) begun s
+      → HasActed (StandsAsNode new.ip (see new) true) old.ip noted noted' (of_master master deed (world.IsSlave s)) None
+  master_acts old new master place deed noted noted' found done begun s h =
+      let here : place_of s.opened.masters master ≡ Some place = ap (λ masters. place_of masters master) h.masters ∙ found in
+      rw here (done begun s h)
 
   -- and another judge takes over there
-  pub judge_acts : (old new : SlaveNode J I) (line master place : ℕ) (deed : world.Slave → ℕ → Deed) (sent sent' : List Sent) (texts texts' : List (List ℕ))
-      (rule : Rule) (flags gaps flags' gaps' : List Held) (judge : Held)
+  pub judge_acts : (old new : SlaveNode J I) (master place : ℕ) (deed : world.Slave → ℕ → Deed) (noted noted' : Noted) (rule : Rule) (flags gaps flags' gaps' : List Held) (judge : Held)
       → place_of (see old).kept.masters master ≡ Some place
-      → new.ip ≡ old.ip
       → HasTaken rule flags gaps flags' gaps' judge
-      → ((begun : Bool) (s : world.Slave) → IsNode old.ip (see old) begun s
-      → HasDone (StandsAsNode new.ip (see new) true) old.ip line (deed s place) sent sent' texts texts' 0 0)
-      → (ip : ℕ) (begun : Bool) (w : world.Node) → StandsAs see ip begun (nodes.Slave old) w
-      → HasActedWithJudge (StandsAs see ip true (nodes.Slave new)) ip line sent sent' texts texts' flags' gaps' (of_master master deed w) (stock_without rule (stock_of flags gaps)) None
-  judge_acts old new line master place deed sent sent' texts texts' rule flags gaps flags' gaps' judge found same taken done ip begun (world.IsGrandmaster g) h = absurd h.1
-  judge_acts old new line master place deed sent sent' texts texts' rule flags gaps flags' gaps' judge found same taken done ip begun (world.IsSlave s) h =
-      let here : place_of s.opened.masters master ≡ Some place = ap (λ masters. place_of masters master) h.1.masters ∙ found in
-      rw (here, taken.left) (slave_did ip line old new (deed s place) sent sent' texts texts' h.0 same (done begun s h.1), refl, taken.stock)
+      → ((begun : Bool) (s : world.Slave) → IsNode old.ip (see old) begun s → HasDone (StandsAsNode new.ip (see new) true) old.ip (deed s place) noted noted')
+      → (begun : Bool) (s : world.Slave) → IsNode old.ip (see old) begun s
+      → HasActedLeaving (StandsAsNode new.ip (see new) true) old.ip noted noted' flags' gaps' (of_master master deed (world.IsSlave s)) (stock_without rule (stock_of flags gaps)) None
+  judge_acts old new master place deed noted noted' rule flags gaps flags' gaps' judge found taken done begun s h =
+      let here : place_of s.opened.masters master ≡ Some place = ap (λ masters. place_of masters master) h.masters ∙ found in
+      rw (here, taken.left) (done begun s h, refl, taken.stock)
 
-  -- ---- datagrams
+  -- ---- a datagram that was sent
 
-  -- none is found that it could be handed to
-  pub handed_none : (flags gaps : List Held) (lab lab' : Lab J I) (c : Course) (ip line : ℕ) (deed : world.Node → Deed) (texts : List (List ℕ))
+  -- its node is there, and takes it
+  pub delivered_there : (flags gaps : List Held) (lab : Lab J I) (c : Course) (line t number : ℕ) (sent : Sent) (octets : List ℕ) (after : Course → Type 0) (given : List (List ℕ)) (refused : Option Cause)
       → StandsFor see flags gaps lab c
-      → get nat_eq lab.nodes ip ≡ None
-      → texts ≡ []
-      → lab' ≡ lab
-      → HasHanded line c (StandsFor see flags gaps lab') texts ip deed (node_at c.world.nodes ip) false
-  handed_none flags gaps lab lab' c ip line deed texts stands found none same = by (node_at c.world.nodes ip) (rw (sym found) (stands.nodes ip))
-    where
-      by : (o : Option world.Node) → Agrees see ip c.world.has_begun None o → HasHanded line c (StandsFor see flags gaps lab') texts ip deed o false
-      by None h = (refl, subst (λ l. StandsFor see flags gaps l c) (sym same) stands, none)
-      by (Some w) h = absurd h
+      → datagram_numbered number lab.journal.sent ≡ Some sent
+      → is_some (get nat_eq lab.nodes sent.to) ≡ true
+      → octets ≡ sent.octets
+      → IsOutcome (outcome_by c line (step c.world (commands.Receive t sent.to sent.from octets))) after given refused
+      → IsOutcome (outcome_by c line (step c.world (commands.Deliver t number))) after given refused
+  delivered_there flags gaps lab c line t number sent octets after given refused stands numbered there same received =
+      let is : step c.world (commands.Deliver t number) ≡ step c.world (commands.Receive t sent.to sent.from sent.octets) =
+      deliver_is c.world t number sent (ap (datagram_numbered number) (sym stands.sent) ∙ numbered)
+      (is_there sent.to c.world.has_begun (get nat_eq lab.nodes sent.to) (node_at c.world.nodes sent.to) (stands.nodes sent.to) ∙ there) in
+      subst (λ made. IsOutcome (outcome_by c line made) after given refused)
+      (ap (λ l. step c.world (commands.Receive t sent.to sent.from l)) same ∙ sym is) received
 
-  -- the node that is found takes it
-  pub handed_stands : (flags gaps : List Held) (lab lab' : Lab J I) (c : Course) (ip line : ℕ) (old new : Node J I) (deed : world.Node → Deed) (texts texts' : List (List ℕ)) (granted short : ℕ)
+  -- no node is there
+  pub delivered_nobody : (flags gaps : List Held) (lab lab' : Lab J I) (c : Course) (t number : ℕ) (sent : Sent)
       → StandsFor see flags gaps lab c
-      → get nat_eq lab.nodes ip ≡ Some old
-      → ((a : ℕ) (begun : Bool) (w : world.Node) → StandsAs see a begun old w → HasDone (StandsAs see a true new) a line (deed w) lab.sent.items lab'.sent.items texts texts' granted short)
-      → texts ≡ []
-      → ((q : ℕ) → get nat_eq lab'.nodes q ≡ cond (nat_eq ip q) (Some new) (get nat_eq lab.nodes q))
+      → datagram_numbered number lab.journal.sent ≡ Some sent
+      → is_some (get nat_eq lab.nodes sent.to) ≡ false
+      → lab.journal.texts ≡ []
+      → lab'.nodes ≡ lab.nodes
       → lab'.has_begun ≡ true
-      → lab'.granted ≡ lab.granted + granted
-      → lab'.short ≡ lab.short + short
-      → HasHanded line c (StandsFor see flags gaps lab') texts' ip deed (node_at c.world.nodes ip) true
-  handed_stands flags gaps lab lab' c ip line old new deed texts texts' granted short stands found done none changed begun grants shorts =
-      by (node_at c.world.nodes ip) (rw (sym found) (stands.nodes ip))
-    where
-      by : (o : Option world.Node) → Agrees see ip c.world.has_begun (Some old) o → HasHanded line c (StandsFor see flags gaps lab') texts' ip deed o true
-      by None h = absurd h
-      by (Some w) h =
-          let p = deed_stands flags gaps lab lab' c ip line new (deed w) texts texts' granted short stands (done ip c.world.has_begun w h) none changed begun grants shorts in
-          (refl, p.0, p.1)
-
-  -- a datagram that was sent comes to nobody
-  pub delivered_nobody : (flags gaps : List Held) (lab lab' : Lab J I) (c : Course) (line t number : ℕ) (sent : Sent) (texts texts' : List (List ℕ)) (found : Bool)
-      → datagram_numbered number c.world.sent ≡ Some sent
-      → HasHanded line c (StandsFor see flags gaps lab) texts sent.to (λ w. datagram_deed w t sent.from sent.octets) (node_at c.world.nodes sent.to) found
-      → found ≡ false
-      → lab' ≡ record lab { has_begun = true }
-      → texts' ≡ texts ++ text_at line statements.Nobody ∷ []
-      → IsOutcome (outcome_by c line (step c.world (commands.Deliver t number))) (StandsFor see flags gaps lab') texts' None
+      → lab'.journal ≡ with_said (statements.Nobody ∷ []) lab.journal
+      → IsOutcome (outcome_by c lab.journal.line (step c.world (commands.Deliver t number))) (StandsFor see flags gaps lab') lab'.journal.texts None
   unfolding step
-  delivered_nobody flags gaps lab lab' c line t number sent texts texts' found numbered handed not_found same more = rw numbered (by (node_at c.world.nodes sent.to) handed)
+  delivered_nobody flags gaps lab lab' c t number sent stands numbered not_there none nodes begun noted =
+      let here : datagram_numbered number c.world.sent ≡ Some sent = ap (datagram_numbered number) (sym stands.sent) ∙ numbered in
+      rw here (by (node_at c.world.nodes sent.to) (is_there sent.to c.world.has_begun (get nat_eq lab.nodes sent.to) (node_at c.world.nodes sent.to) (stands.nodes sent.to) ∙ not_there))
     where
-      by : (o : Option world.Node) → HasHanded line c (StandsFor see flags gaps lab) texts sent.to (λ w. datagram_deed w t sent.from sent.octets) o found
-          → IsOutcome (outcome_by c line (Ok (delivered_to c.world t sent o))) (StandsFor see flags gaps lab') texts' None
-      by None h = rw same (
+      by : (o : Option world.Node) → is_some o ≡ false → IsOutcome (outcome_by c lab.journal.line (Ok (delivered_to c.world t sent o))) (StandsFor see flags gaps lab') lab'.journal.texts None
+      by (Some w) h = absurd (cc h)
+      by None h = (
         record {
-          nodes = λ q. agrees_later q c.world.has_begun (get nat_eq lab.nodes q) (node_at c.world.nodes q) (h.1.nodes q);
-          sent = h.1.sent;
-          has_begun = refl;
-          flags = h.1.flags;
-          gaps = h.1.gaps;
-          stock = h.1.stock;
-          granted = (let none : lab.granted ≡ c.granted + 0 = omega (arith, h.1.granted) in none);
-          short = (let none : lab.short ≡ c.short + 0 = omega (arith, h.1.short) in none);
+          nodes = λ q. subst (λ m. Agrees see q true (get nat_eq m q) (node_at c.world.nodes q)) (sym nodes)
+              (agrees_later q c.world.has_begun (get nat_eq lab.nodes q) (node_at c.world.nodes q) (stands.nodes q));
+          sent = ap (λ (n : Noted). n.sent) noted ∙ stands.sent;
+          has_begun = begun;
+          flags = stands.flags;
+          gaps = stands.gaps;
+          stock = stands.stock;
+          granted = ap (λ (n : Noted). n.granted) noted ∙ ap (λ n. n + 0) stands.granted;
+          short = ap (λ (n : Noted). n.short) noted ∙ ap (λ n. n + 0) stands.short;
         },
-        more ∙ ap (λ l. l ++ text_at line statements.Nobody ∷ []) h.2,
+        ap (λ (n : Noted). n.texts) noted ∙ ap (λ l. l ++ text_at lab.journal.line statements.Nobody ∷ []) none,
       )
-      by (Some w) h = absurd (let no : false ≡ true = sym not_found ∙ h.0 in cc)
-
--- it is handed to the node of its address
-pub delivered_there : (line t number : ℕ) (c : Course) (after : Course → Type 0) (sent : Sent) (texts : List (List ℕ)) (found : Bool)
-    → datagram_numbered number c.world.sent ≡ Some sent
-    → HasHanded line c after texts sent.to (λ w. datagram_deed w t sent.from sent.octets) (node_at c.world.nodes sent.to) found
-    → found ≡ true
-    → IsOutcome (outcome_by c line (step c.world (commands.Deliver t number))) after texts None
-unfolding step
-delivered_there line t number c after sent texts found numbered handed is_found = rw numbered (by (node_at c.world.nodes sent.to) handed)
-  where
-    by : (o : Option world.Node) → HasHanded line c after texts sent.to (λ w. datagram_deed w t sent.from sent.octets) o found
-        → IsOutcome (outcome_by c line (Ok (delivered_to c.world t sent o))) after texts None
-    by None h = absurd (let no : true ≡ false = sym is_found ∙ h.0 in cc)
-    by (Some w) h = (h.1, h.2)
 
 -- no datagram has the number
 pub not_delivered : (line t number : ℕ) (c : Course) (after : Course → Type 0) (texts : List (List ℕ)) → datagram_numbered number c.world.sent ≡ None
     → IsOutcome (outcome_by c line (step c.world (commands.Deliver t number))) after texts (Some causes.Number)
 unfolding step
 not_delivered line t number c after texts none = rw none refl
-
--- one that is handed to a node as from an address is received there, or no node is there
-pub received_there : (line t ip from : ℕ) (octets : List ℕ) (c : Course) (after : Course → Type 0) (texts : List (List ℕ)) (found : Bool)
-    → HasHanded line c after texts ip (λ w. datagram_deed w t from octets) (node_at c.world.nodes ip) found
-    → found ≡ true
-    → IsOutcome (outcome_by c line (step c.world (commands.Receive t ip from octets))) after texts None
-unfolding step
-received_there line t ip from octets c after texts found handed is_found = by (node_at c.world.nodes ip) handed
-  where
-    by : (o : Option world.Node) → HasHanded line c after texts ip (λ w. datagram_deed w t from octets) o found
-        → IsOutcome (outcome_by c line (or_cause causes.Node o >>= λ node. Ok (done_by c.world ip (datagram_deed node t from octets)))) after texts None
-    by None h = absurd (let no : true ≡ false = sym is_found ∙ h.0 in cc)
-    by (Some w) h = (h.1, h.2)
-
-pub received_nowhere : (line t ip from : ℕ) (octets : List ℕ) (c : Course) (after : Course → Type 0) (texts : List (List ℕ)) (found : Bool)
-    → HasHanded line c after texts ip (λ w. datagram_deed w t from octets) (node_at c.world.nodes ip) found
-    → found ≡ false
-    → IsOutcome (outcome_by c line (step c.world (commands.Receive t ip from octets))) after texts (Some causes.Node)
-unfolding step
-received_nowhere line t ip from octets c after texts found handed not_found = by (node_at c.world.nodes ip) handed
-  where
-    by : (o : Option world.Node) → HasHanded line c after texts ip (λ w. datagram_deed w t from octets) o found
-        → IsOutcome (outcome_by c line (or_cause causes.Node o >>= λ node. Ok (done_by c.world ip (datagram_deed node t from octets)))) after texts (Some causes.Node)
-    by None h = refl
-    by (Some w) h = absurd (let no : false ≡ true = sym not_found ∙ h.0 in cc)

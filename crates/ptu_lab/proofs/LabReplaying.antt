@@ -1,9 +1,11 @@
 -- What a replay has come to, where no line was refused.
 use Rattle.std.proofs.Common.{◌≡◌, ◌∙◌, ℕ, ◌+◌, true, false, List, [], ◌∷◌, length, Option, Some, None, IfSome, IsSome, refl, sym, ap, subst}
+use Rattle.std.specs.Prelude.{nat_eq}
+use Rattle.std.specs.HashMap.{get}
 use Rattle.ptu_lines.specs.Script.{ScriptLine, Whole, Refused, script_lines}
 use Rattle.ptu_report.specs.declared.ending.Ending.{Ending}
 use Rattle.ptu_report.specs.declared.ending.Ending.TheVariants as endings
-use Rattle.ptu_report.specs.Rules.{Goes, Outcome, Refuses, Rules, ending_after, ending_at, ending_of, meaning_after, meaning_at, meaning_of}
+use Rattle.ptu_report.specs.Rules.{Goes, IsOutcome, Outcome, Refuses, Rules, ending_after, ending_at, ending_of, meaning_after, meaning_at, meaning_of}
 use Rattle.ptu_judges.specs.Held.{Held}
 use Rattle.ptu_outside.specs.Handing.{HasPut}
 use Rattle.ptu_report.specs.Reported.{HasReported}
@@ -11,14 +13,14 @@ use Rattle.ptu_script.specs.declared.cause.Cause.{Cause}
 use Rattle.ptu_outside.specs.MemoryPort.{MemoryPort}
 use Rattle.ptu_slave.specs.Seen.{Seen}
 use Rattle.ptu_world.specs.Facts.{AreCounted, EndsBy, world_of}
-use Rattle.ptu_world.specs.World.{Stock}
+use Rattle.ptu_world.specs.World.{Stock, node_at}
 use Rattle.ptu_world.specs.Report.{Course, course_opening, report, report_lines, rules}
 use Rattle.ptu_world.proofs.Reported.{counts_of_rules, ends_of_rules, texts_of_rules}
 use Rattle.ptu_lab.specs.declared.done.Done.{Done}
 use Rattle.ptu_lab.specs.declared.slave_node.SlaveNode.{SlaveNode}
 use Rattle.ptu_lab.specs.declared.lab.Lab.{Lab}
 use Rattle.ptu_lab.specs.Replayed.{AreCounts, HasReplayed}
-use Rattle.ptu_lab.specs.Standing.{StandsFor}
+use Rattle.ptu_lab.specs.Standing.{Agrees, StandsFor}
 
 -- where no line is refused there is a meaning at the end
 module _ {M C : Type 0} (r : Rules M C) (lines : ℕ) where
@@ -39,9 +41,9 @@ module _ {J B : Type 0} {I : J → Type 0} (see : SlaveNode J I → Seen MemoryP
   pub counted : (flags gaps : List Held) (lab : Lab J I) (stock : Stock) (script : List ℕ) (lines : ℕ) (done : Done)
       → IfSome (meaning_of rules (course_opening stock) (script_lines script)) (StandsFor see flags gaps lab)
       → endings.Whole lines ≡ ending_of rules (course_opening stock) (script_lines script)
-      → done.datagrams ≡ length lab.sent.items
-      → done.granted ≡ lab.granted
-      → done.refused ≡ lab.short
+      → done.datagrams ≡ length lab.journal.sent
+      → done.granted ≡ lab.journal.granted
+      → done.refused ≡ lab.journal.short
       → AreCounts stock script done
   counted flags gaps lab stock script lines done stands whole datagrams granted refused =
       by (meaning_of rules (course_opening stock) (script_lines script)) (meant rules lines (script_lines script) (course_opening stock) 0 (sym whole)) stands (counts_of_rules stock script)
@@ -53,6 +55,28 @@ module _ {J B : Type 0} {I : J → Type 0} (see : SlaveNode J I → Seen MemoryP
         granted = granted ∙ (s.granted ∙ c.granted);
         refused = refused ∙ (s.short ∙ c.short);
       }
+
+  -- whatever texts the journal holds, the lab stands for what it stood for
+  pub texts_aside : (flags gaps : List Held) (lab lab' : Lab J I) (c : Course) → StandsFor see flags gaps lab c → lab'.nodes ≡ lab.nodes → lab'.has_begun ≡ lab.has_begun
+      → lab'.journal.sent ≡ lab.journal.sent → lab'.journal.granted ≡ lab.journal.granted → lab'.journal.short ≡ lab.journal.short → StandsFor see flags gaps lab' c
+  texts_aside flags gaps lab lab' c stands nodes begun sent granted short = record {
+    nodes = λ q. subst (λ m. Agrees see q c.world.has_begun (get nat_eq m q) (node_at c.world.nodes q)) (sym nodes) (stands.nodes q);
+    sent = sent ∙ stands.sent;
+    has_begun = begun ∙ stands.has_begun;
+    flags = stands.flags;
+    gaps = stands.gaps;
+    stock = stands.stock;
+    granted = granted ∙ stands.granted;
+    short = short ∙ stands.short;
+  }
+
+-- the outcome of a line whose texts were handed over
+pub handed_texts : (o : Outcome Course Cause) (texts given : List (List ℕ)) (refused : Option Cause) (P Q : Course → Type 0) → ((c : Course) → P c → Q c) → given ≡ texts
+    → IsOutcome o P texts refused → IsOutcome o Q given refused
+handed_texts (Goes m said) texts given None P Q also same h = (also m h.0, same ∙ h.1)
+handed_texts (Goes m said) texts given (Some cause) P Q also same h = absurd h
+handed_texts (Refuses cause) texts given None P Q also same h = absurd h
+handed_texts (Refuses cause) texts given (Some found) P Q also same h = h
 
 -- what was put for the rules is the report
 pub replayed : {K : Type 0} (written : K → Option (List ℕ)) (handed : K → Option (List (List ℕ))) (old new : K) (stock : Stock) (script : List ℕ) (ending : Ending Cause)

@@ -7,6 +7,7 @@ use Rattle.ptu_report.specs.Rules.{IsOutcome}
 use Rattle.ptu_script.specs.declared.cause.Cause.{Cause}
 use Rattle.ptu_script.specs.declared.cause.Cause.TheVariants as causes
 use Rattle.ptu_outside.specs.MemoryPort.{MemoryPort}
+use Rattle.ptu_nodes.specs.Noted.{Noted}
 use Rattle.ptu_slave.specs.Seen.{Seen}
 use Rattle.ptu_world.specs.Deeds as world
 use Rattle.ptu_world.specs.World.{World, node_at, placed, quietly, set_up}
@@ -15,7 +16,7 @@ use Rattle.ptu_lab.specs.declared.slave_node.SlaveNode.{SlaveNode}
 use Rattle.ptu_lab.specs.declared.lab.Node.{Node}
 use Rattle.ptu_lab.specs.declared.lab.Lab.{Lab}
 use Rattle.ptu_lab.specs.Standing.{Agrees, StandsAs, StandsFor}
-use Rattle.ptu_lab.proofs.LabNodes.{placed_agree}
+use Rattle.ptu_lab.proofs.LabNodes.{is_there, placed_agree}
 
 abbrev with_node : World → ℕ → world.Node → World
 with_node w ip node = record w { nodes = placed ip node w.nodes }
@@ -27,14 +28,8 @@ set_up_is w ip node begun other e f =
     ap₂ (λ (b o : Bool). if b then Err causes.Order else if o then Err causes.Node else Ok (with_node w ip node)) e f
 
 module _ {J B : Type 0} {I : J → Type 0} (see : SlaveNode J I → Seen MemoryPort B) (flags gaps : List Held) (lab : Lab J I) (c : Course) (ip : ℕ) (w : world.Node) (stands : StandsFor see flags gaps lab c) where
-  agreed : (o : Option (Node J I)) (v : Option world.Node) → Agrees see ip c.world.has_begun o v → is_some v ≡ is_some o
-  agreed None None h = refl
-  agreed None (Some v) h = absurd h
-  agreed (Some node) None h = absurd h
-  agreed (Some node) (Some v) h = refl
-
   there_is : (other : Bool) → is_some (get nat_eq lab.nodes ip) ≡ other → is_some (node_at c.world.nodes ip) ≡ other
-  there_is other found = agreed (get nat_eq lab.nodes ip) (node_at c.world.nodes ip) (stands.nodes ip) ∙ found
+  there_is other found = is_there see ip c.world.has_begun (get nat_eq lab.nodes ip) (node_at c.world.nodes ip) (stands.nodes ip) ∙ found
 
   -- the address has a node
   pub has_node : (line : ℕ) (after : Course → Type 0) → lab.has_begun ≡ false → is_some (get nat_eq lab.nodes ip) ≡ true
@@ -47,24 +42,22 @@ module _ {J B : Type 0} {I : J → Type 0} (see : SlaveNode J I → Seen MemoryP
   pub is_set_up : (lab' : Lab J I) (line : ℕ) (node : Node J I) → lab.has_begun ≡ false → is_some (get nat_eq lab.nodes ip) ≡ false
       → StandsAs see ip false node w
       → ((q : ℕ) → get nat_eq lab'.nodes q ≡ cond (nat_eq ip q) (Some node) (get nat_eq lab.nodes q))
-      → lab'.sent ≡ lab.sent
+      → lab'.journal ≡ lab.journal
       → lab'.has_begun ≡ lab.has_begun
-      → lab'.granted ≡ lab.granted
-      → lab'.short ≡ lab.short
       → IsOutcome (outcome_by c line (quietly (set_up c.world ip w))) (StandsFor see flags gaps lab') [] None
-  is_set_up lab' line node begun found means changed sent begins grants shorts =
+  is_set_up lab' line node begun found means changed journal begins =
       let not_begun : c.world.has_begun ≡ false = sym stands.has_begun ∙ begun in
       subst (λ made. IsOutcome (outcome_by c line (quietly made)) (StandsFor see flags gaps lab') [] None)
       (sym (set_up_is c.world ip w false false not_begun (there_is false found))) (
         record {
           nodes = placed_agree see lab.nodes lab'.nodes c.world.nodes c.world.has_begun ip node w stands.nodes changed (subst (λ b. StandsAs see ip b node w) (sym not_begun) means);
-          sent = ap (λ v. v.items) sent ∙ stands.sent;
+          sent = ap (λ (n : Noted). n.sent) journal ∙ stands.sent;
           has_begun = begins ∙ stands.has_begun;
           flags = stands.flags;
           gaps = stands.gaps;
           stock = stands.stock;
-          granted = (let none : lab'.granted ≡ c.granted + 0 = omega (arith, grants, stands.granted) in none);
-          short = (let none : lab'.short ≡ c.short + 0 = omega (arith, shorts, stands.short) in none);
+          granted = (let none : lab'.journal.granted ≡ c.granted + 0 = ap (λ (n : Noted). n.granted) journal ∙ omega (arith, stands.granted) in none);
+          short = (let none : lab'.journal.short ≡ c.short + 0 = ap (λ (n : Noted). n.short) journal ∙ omega (arith, stands.short) in none);
         },
         refl,
       )

@@ -1,9 +1,7 @@
 -- What an event makes of a slave of a script, and what is said of it.
 use Rattle.std.proofs.Common.{◌≡◌, ◌≢◌, ℕ, zero, suc, ◌+◌, ◌<◌, ◌≤◌, max, Bool, true, false, cond, List, [], ◌∷◌, ◌++◌, length, map, Option, Some, None, refl, ap, ap₂, sym, subst, ◌∙◌, arith, append_assoc}
 use Rattle.std.proofs.lemmas.Bool.{false≢true}
-use Rattle.std.proofs.lemmas.List.{append-nil, map-append}
-use Rattle.std.proofs.lemmas.List.Sums.{sum_by-cons}
-use Rattle.std.specs.List.{AllByRecursion, count_by, range_with_len}
+use Rattle.std.specs.List.{AllByRecursion, range_with_len}
 use Rattle.std.specs.Option.{option_map}
 use Rattle.std.specs.Prelude.{IfSome, IsSome, OnOk, Result, Ok, Err}
 use Rattle.ptu_outside.specs.Departure.{Departure}
@@ -27,14 +25,13 @@ use Rattle.ptu_slave.specs.Standing.{StandsFor, Steps, setup_of}
 use Rattle.ptu_slave.proofs.Ruled.{ruled_step}
 use Rattle.ptu_slave.proofs.Staying.{rules_stay}
 use Rattle.ptu_slave.proofs.Stepping.{moment_is}
-use Rattle.ptu_report_lines.specs.declared.sent.Sent.{Sent}
 use Rattle.ptu_report_lines.specs.declared.statement.Statement.{Statement}
 use Rattle.ptu_report_lines.specs.declared.statement.Statement.TheVariants.{Selected}
 use Rattle.ptu_world.specs.Deeds.{Slave}
-use Rattle.ptu_world.specs.Report.{is_granted, is_short, text_at}
 use Rattle.ptu_world.specs.Slaves.{entered, event_deed, selection_said}
-use Rattle.ptu_world.specs.World.{sending_said, sent_from}
 use Rattle.ptu_nodes.specs.Doing.{HasDone}
+use Rattle.ptu_nodes.specs.Noted.{Noted, with_handed, with_said}
+use Rattle.ptu_nodes.proofs.Noting.{said_nothing, sent_nothing}
 use Rattle.ptu_lab.specs.NodeStanding.{IsSlaveNode, StandsAsSlave}
 use Rattle.ptu_nodes.specs.Standing.{IsIdle}
 use Rattle.ptu_lab.specs.SlaveWords.{HasStepped, selection_by}
@@ -105,56 +102,21 @@ plain_stepped ip old new judges news before room after begun s t at e handed h r
 
 -- ---- what is said
 
--- nothing is said of an ask
-abbrev pub IsOther : Statement → Type 0
-IsOther statement = (is_granted statement ≡ false) × (is_short statement ≡ false)
-
-all_append : (xs ys : List Statement) → AllByRecursion IsOther xs → AllByRecursion IsOther ys → AllByRecursion IsOther (xs ++ ys)
-all_append [] ys f g = g
-all_append (x ∷ xs) ys f g = (f.0, all_append xs ys f.1 g)
-
-sends_other : (n : ℕ) (sent : List Sent) → AllByRecursion IsOther (sending_said n sent)
-sends_other n [] = tt
-sends_other n (x ∷ sent) = ((refl, refl), sends_other (n + 1) sent)
-
-none_counted : (p : Statement → Bool) (xs : List Statement) → AllByRecursion (λ x. p x ≡ false) xs → 0 ≡ count_by p xs
-none_counted p [] none = refl
-none_counted p (x ∷ xs) none =
-    sym (sum_by-cons (λ x. cond (p x) 1 0) x xs ∙ ap₂ (λ m n. m + n) (ap (λ b. cond b 1 0) none.0) (sym (none_counted p xs none.1)))
-
-granted_none : (xs : List Statement) → AllByRecursion IsOther xs → AllByRecursion (λ x. is_granted x ≡ false) xs
-granted_none [] all = tt
-granted_none (x ∷ xs) all = (all.0.0, granted_none xs all.1)
-
-short_none : (xs : List Statement) → AllByRecursion IsOther xs → AllByRecursion (λ x. is_short x ≡ false) xs
-short_none [] all = tt
-short_none (x ∷ xs) all = (all.0.1, short_none xs all.1)
-
 -- what is said of an event, and what it sent was handed over
-pub event_done : (ip line t : ℕ) (new : Kept) (news : List Held) (after last : MemoryPort) (s : Slave) (said : List Statement) (deed : Deed)
-    (sent sent' : List Sent) (texts middle texts' : List (List ℕ)) → HasStepped ip new news after s deed → IsIdle last → AllByRecursion IsOther said
-    → middle ≡ texts ++ map (text_at line) said → sent' ≡ sent ++ map (sent_from ip) after.sent
-    → ((openings : List (Option Rule)) (L : Record) → StandsFor openings new news L
-    → texts' ≡ middle ++ map (text_at line) (sending_said (length sent) (map (sent_from ip) after.sent) ++ selection_by ip new L t ∷ []))
-    → HasDone (StandsAsSlave ip new news last true) ip line (event_deed s t said deed) sent sent' texts texts' 0 0
-event_done ip line t new news after last s said deed sent sent' texts middle texts' h idle others before sends says = record {
+pub event_done : (ip t : ℕ) (new : Kept) (news : List Held) (after last : MemoryPort) (s : Slave) (said : List Statement) (deed : Deed) (old middle noted : Noted)
+    → HasStepped ip new news after s deed → IsIdle last → middle ≡ with_said said old
+    → ((openings : List (Option Rule)) (L : Record) → StandsFor openings new news L → noted ≡ with_said (selection_by ip new L t ∷ []) (with_handed ip after.sent middle))
+    → HasDone (StandsAsSlave ip new news last true) ip (event_deed s t said deed) old noted
+event_done ip t new news after last s said deed old middle noted h idle before says = record {
   node = node;
-  sends = sends ∙ ap (λ ds. sent ++ map (sent_from ip) ds) h.sends;
-  says = says s.opened.openings (s.taken ++ deed.entries) node.stands ∙ ap₂ (λ m st. m ++ map (text_at line) st) before same
-      ∙ append_assoc texts (map (text_at line) said) (map (text_at line) (sends_said ++ added))
-      ∙ ap (λ l. texts ++ l) (sym (map-append (text_at line) said (sends_said ++ added)) ∙ ap (map (text_at line)) (sym (append_assoc said sends_said added)));
-  grants = none_counted is_granted (said ++ sends_said ++ added) (granted_none (said ++ sends_said ++ added) all);
-  shortages = none_counted is_short (said ++ sends_said ++ added) (short_none (said ++ sends_said ++ added) all);
+  noted = says s.opened.openings (s.taken ++ deed.entries) node.stands
+      ∙ ap (λ st. with_said (st ∷ []) (with_handed ip after.sent middle)) selection
+      ∙ ap (λ ds. with_said (selection_said (entered s deed) t ∷ []) (with_handed ip ds middle)) h.sends
+      ∙ ap (λ m. with_said (selection_said (entered s deed) t ∷ []) (with_handed ip deed.datagrams m)) before;
 }
   where
     node : IsSlaveNode ip new news last true (entered s deed)
     node = h.node last idle
-
-    sends_said : List Statement
-    sends_said = sending_said (length sent) (map (sent_from ip) deed.datagrams)
-
-    added : List Statement
-    added = selection_said (entered s deed) t ∷ []
 
     selection : selection_by ip new (s.taken ++ deed.entries) t ≡ selection_said (entered s deed) t
     selection =
@@ -162,40 +124,30 @@ event_done ip line t new news after last s said deed sent sent' texts middle tex
         ∙ ap₂ (λ (config : SlaveConfig) (masters : List Master). Selected s.ip (option_map (address_of masters) (selected_master (timeouts config) (priorities masters) (s.taken ++ deed.entries) (event_moment (s.taken ++ deed.entries) t))))
         (sym node.config) (sym node.masters)
 
-    same : sending_said (length sent) (map (sent_from ip) after.sent) ++ selection_by ip new (s.taken ++ deed.entries) t ∷ [] ≡ sends_said ++ added
-    same = ap₂ (λ ds st. sending_said (length sent) (map (sent_from ip) ds) ++ st ∷ []) h.sends selection
-
-    all : AllByRecursion IsOther (said ++ sends_said ++ added)
-    all = all_append (said ++ sends_said) added (all_append said sends_said others (sends_other (length sent) (map (sent_from ip) deed.datagrams))) ((refl, refl), tt)
-
--- what follows from what three clauses say of an `Ok`
-pub on_ok_each : {T E A B C D : Type 0} (r : Result T E) → (A → B → C → D) → OnOk r A → OnOk r B → OnOk r C → OnOk r D
-on_ok_each (Ok x) f a b c = f a b c
-on_ok_each (Err x) f a b c = tt
+-- what follows from what two clauses say of an `Ok`
+pub on_ok_both : {T E A B C : Type 0} (r : Result T E) → (A → B → C) → OnOk r A → OnOk r B → OnOk r C
+on_ok_both (Ok x) f a b = f a b
+on_ok_both (Err x) f a b = tt
 
 -- the same of what is kept, and is the same, at the end
-pub ended : (ip ip' line t : ℕ) (new kept : Kept) (news judges : List Held) (after last : MemoryPort) (s : Slave) (said : List Statement) (deed : Deed)
-    (sent sent' : List Sent) (texts middle texts' : List (List ℕ)) → ip' ≡ ip → kept ≡ new → judges ≡ news → HasStepped ip new news after s deed
-    → AllByRecursion IsOther said → middle ≡ texts ++ map (text_at line) said → IsIdle last → sent' ≡ sent ++ map (sent_from ip) after.sent
-    → ((openings : List (Option Rule)) (L : Record) → StandsFor openings new news L
-    → texts' ≡ middle ++ map (text_at line) (sending_said (length sent) (map (sent_from ip) after.sent) ++ selection_by ip new L t ∷ []))
-    → HasDone (StandsAsSlave ip' kept judges last true) ip line (event_deed s t said deed) sent sent' texts texts' 0 0
-ended ip ip' line t new kept news judges after last s said deed sent sent' texts middle texts' same_ip same_kept same_judges h others before idle sends says =
-    subst (λ a. HasDone (StandsAsSlave a kept judges last true) ip line (event_deed s t said deed) sent sent' texts texts' 0 0) (sym same_ip)
-    (subst (λ k. HasDone (StandsAsSlave ip k judges last true) ip line (event_deed s t said deed) sent sent' texts texts' 0 0) (sym same_kept)
-    (subst (λ js. HasDone (StandsAsSlave ip new js last true) ip line (event_deed s t said deed) sent sent' texts texts' 0 0) (sym same_judges)
-    (event_done ip line t new news after last s said deed sent sent' texts middle texts' h idle others before sends says)))
+pub ended : (ip ip' t : ℕ) (new kept : Kept) (news judges : List Held) (after last : MemoryPort) (s : Slave) (said : List Statement) (deed : Deed) (old middle noted : Noted)
+    → ip' ≡ ip → kept ≡ new → judges ≡ news → HasStepped ip new news after s deed → middle ≡ with_said said old → IsIdle last
+    → ((openings : List (Option Rule)) (L : Record) → StandsFor openings new news L → noted ≡ with_said (selection_by ip new L t ∷ []) (with_handed ip after.sent middle))
+    → HasDone (StandsAsSlave ip' kept judges last true) ip (event_deed s t said deed) old noted
+ended ip ip' t new kept news judges after last s said deed old middle noted same_ip same_kept same_judges h before idle says =
+    subst (λ a. HasDone (StandsAsSlave a kept judges last true) ip (event_deed s t said deed) old noted) (sym same_ip)
+    (subst (λ k. HasDone (StandsAsSlave ip k judges last true) ip (event_deed s t said deed) old noted) (sym same_kept)
+    (subst (λ js. HasDone (StandsAsSlave ip new js last true) ip (event_deed s t said deed) old noted) (sym same_judges)
+    (event_done ip t new news after last s said deed old middle noted h idle before says)))
 
 -- where nothing is sent
-pub quietly_ended : (ip ip' line t : ℕ) (new kept : Kept) (news judges : List Held) (before after last : MemoryPort) (s : Slave) (deed : Deed)
-    (sent : List Sent) (texts texts' : List (List ℕ)) → ip' ≡ ip → kept ≡ new → HasStepped ip new news after s deed → judges ≡ news
-    → after ≡ before → last ≡ after → IsIdle before
-    → ((openings : List (Option Rule)) (L : Record) → StandsFor openings new news L → texts' ≡ texts ++ text_at line (selection_by ip new L t) ∷ [])
-    → HasDone (StandsAsSlave ip' kept judges last true) ip line (event_deed s t [] deed) sent sent texts texts' 0 0
-quietly_ended ip ip' line t new kept news judges before after last s deed sent texts texts' same_ip same_kept h same_judges still kept_port idle says =
-    ended ip ip' line t new kept news judges after last s [] deed sent sent texts texts texts' same_ip same_kept same_judges h tt (sym (append-nil texts))
-    (ap (λ (p : MemoryPort). p.sent) kept_port ∙ none) (sym (ap (λ ds. sent ++ map (sent_from ip) ds) none ∙ append-nil sent))
-    (λ openings L stands. says openings L stands ∙ ap (λ ds. texts ++ map (text_at line) (sending_said (length sent) (map (sent_from ip) ds) ++ selection_by ip new L t ∷ [])) (sym none))
+pub quietly_ended : (ip ip' t : ℕ) (new kept : Kept) (news judges : List Held) (before after last : MemoryPort) (s : Slave) (deed : Deed) (old noted : Noted)
+    → ip' ≡ ip → kept ≡ new → HasStepped ip new news after s deed → judges ≡ news → after ≡ before → last ≡ after → IsIdle before
+    → ((openings : List (Option Rule)) (L : Record) → StandsFor openings new news L → noted ≡ with_said (selection_by ip new L t ∷ []) old)
+    → HasDone (StandsAsSlave ip' kept judges last true) ip (event_deed s t [] deed) old noted
+quietly_ended ip ip' t new kept news judges before after last s deed old noted same_ip same_kept h same_judges still kept_port idle says =
+    ended ip ip' t new kept news judges after last s [] deed old old noted same_ip same_kept same_judges h (sym (said_nothing old)) (ap (λ (p : MemoryPort). p.sent) kept_port ∙ none)
+    (λ openings L stands. says openings L stands ∙ ap (with_said (selection_by ip new L t ∷ [])) (sym (ap (λ ds. with_handed ip ds old) none ∙ sent_nothing old)))
   where
     none : after.sent ≡ []
     none = ap (λ (p : MemoryPort). p.sent) still ∙ idle

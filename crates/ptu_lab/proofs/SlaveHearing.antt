@@ -37,17 +37,16 @@ use Rattle.ptu_slave.specs.Standing.{StandsFor, Steps}
 use Rattle.ptu_slave.proofs.Nodes.{node_replies}
 use Rattle.ptu_slave.proofs.Stepping.{moment_is}
 use Rattle.ptu_world.specs.Deeds.{Slave}
-use Rattle.ptu_report_lines.specs.declared.sent.Sent.{Sent as SentDatagram}
-use Rattle.ptu_world.specs.Report.{text_at}
-use Rattle.ptu_world.specs.World.{sending_said, sent_from}
 use Rattle.ptu_world.specs.Slaves as slaves
 use Rattle.ptu_world.specs.Slaves.{event_deed, heard_deed, heard_said, signal_said}
 use Rattle.ptu_nodes.specs.Doing.{HasDone}
+use Rattle.ptu_nodes.specs.Noted.{Noted, with_handed, with_said, with_sent}
+use Rattle.ptu_nodes.proofs.Noting.{said_nothing, sent_nothing}
 use Rattle.ptu_lab.specs.NodeStanding.{IsSlaveNode, StandsAsSlave}
 use Rattle.ptu_nodes.specs.Standing.{IsIdle}
 use Rattle.ptu_lab.specs.SlaveStatements.{IsOfOne, is_ignored, is_unsent}
 use Rattle.ptu_lab.specs.SlaveWords.{HasStepped, selection_by}
-use Rattle.ptu_lab.proofs.SlaveEvents.{IsOther, all_sent, ended, stepped}
+use Rattle.ptu_lab.proofs.SlaveEvents.{all_sent, ended, stepped}
 
 -- ---- the reply
 
@@ -228,21 +227,6 @@ datagram_stepped ip old new judges news before room after begun s t from octets 
 
 -- ---- what is said
 
-heard_other : (masters : List Master) (h : Heard) → AllByRecursion IsOther (heard_said masters h)
-heard_other masters (heard.Ignored reason) = ((refl, refl), tt)
-heard_other masters (heard.Announce x m class) = ((refl, refl), tt)
-heard_other masters (heard.Sync x m number) = ((refl, refl), tt)
-heard_other masters (heard.FollowUp x m) = ((refl, refl), tt)
-heard_other masters (heard.DelayResp x m number) = ((refl, refl), tt)
-heard_other masters (heard.Signals x m list reply) = all list
-  where
-    all : (list : List Signal) → AllByRecursion IsOther (map signal_said list)
-    all [] = tt
-    all (signals.Grant k seconds ∷ list) = ((refl, refl), all list)
-    all (signals.Denial k ∷ list) = ((refl, refl), all list)
-    all (signals.Cancel code ∷ list) = ((refl, refl), all list)
-    all (signals.Ack code ∷ list) = ((refl, refl), all list)
-
 -- a datagram that is no event
 nothing_done : (node : Node) (L : Record) (t : ℕ) (r : Result (ℕ × Message) SlaveReason) → is_ignored (reception_heard node L t r) ≡ true → reception_deed node L t r ≡ record { entries = []; datagrams = [] }
 nothing_done node L t (Err reason) is = refl
@@ -266,28 +250,27 @@ event_heard s t d (heard.FollowUp x m) is = refl
 event_heard s t d (heard.DelayResp x m number) is = refl
 event_heard s t d (heard.Signals x m list reply) is = refl
 
-pub event_received : (ip ip' line t from : ℕ) (octets : List ℕ) (old new kept : Kept) (masters : List Master) (news judges : List Held) (after last : MemoryPort) (s : Slave) (h : Heard)
-    (sent sent' : List SentDatagram) (texts middle texts' : List (List ℕ)) → ip' ≡ ip → kept ≡ new → judges ≡ news → s.opened.masters ≡ old.masters
+pub event_received : (ip ip' t from : ℕ) (octets : List ℕ) (old new kept : Kept) (masters : List Master) (news judges : List Held) (after last : MemoryPort) (s : Slave) (h : Heard) (noted middle noted' : Noted)
+    → ip' ≡ ip → kept ≡ new → judges ≡ news → s.opened.masters ≡ old.masters
     → HasStepped ip new news after s (datagram_deed s.opened s.taken t from octets) → h ≡ datagram_heard s.opened s.taken t from octets
-    → is_ignored h ≡ false → masters ≡ old.masters → middle ≡ texts ++ map (text_at line) (heard_said masters h) → IsIdle last → sent' ≡ sent ++ map (sent_from ip) after.sent
-    → ((openings : List (Option Rule)) (L : Record) → StandsFor openings new news L
-    → texts' ≡ middle ++ map (text_at line) (sending_said (length sent) (map (sent_from ip) after.sent) ++ selection_by ip new L t ∷ []))
-    → HasDone (StandsAsSlave ip' kept judges last true) ip line (slaves.datagram_deed s t from octets) sent sent' texts texts' 0 0
-event_received ip ip' line t from octets old new kept masters news judges after last s h sent sent' texts middle texts' same_ip same_kept same_judges opened stepped is event same before idle sends says =
-    subst (λ d. HasDone (StandsAsSlave ip' kept judges last true) ip line d sent sent' texts texts' 0 0)
+    → is_ignored h ≡ false → masters ≡ old.masters → middle ≡ with_said (heard_said masters h) noted → IsIdle last
+    → ((openings : List (Option Rule)) (L : Record) → StandsFor openings new news L → noted' ≡ with_said (selection_by ip new L t ∷ []) (with_handed ip after.sent middle))
+    → HasDone (StandsAsSlave ip' kept judges last true) ip (slaves.datagram_deed s t from octets) noted noted'
+event_received ip ip' t from octets old new kept masters news judges after last s h noted middle noted' same_ip same_kept same_judges opened stepped is event same before idle says =
+    subst (λ d. HasDone (StandsAsSlave ip' kept judges last true) ip d noted noted')
     (sym (ap (heard_deed s t deed) (sym is) ∙ event_heard s t deed h event))
-    (ended ip ip' line t new kept news judges after last s (heard_said s.opened.masters h) deed sent sent' texts middle texts' same_ip same_kept same_judges stepped
-    (heard_other s.opened.masters h) (before ∙ ap (λ ms. texts ++ map (text_at line) (heard_said ms h)) (same ∙ sym opened)) idle sends says)
+    (ended ip ip' t new kept news judges after last s (heard_said s.opened.masters h) deed noted middle noted' same_ip same_kept same_judges stepped
+    (before ∙ ap (λ ms. with_said (heard_said ms h) noted) (same ∙ sym opened)) idle says)
   where
     deed : Deed
     deed = datagram_deed s.opened s.taken t from octets
 
-pub nothing_received : (ip line t from : ℕ) (octets : List ℕ) (new : Kept) (masters : List Master) (news : List Held) (after : MemoryPort) (s : Slave) (h : Heard)
-    (sent : List SentDatagram) (texts texts' : List (List ℕ)) → HasStepped ip new news after s (datagram_deed s.opened s.taken t from octets) → h ≡ datagram_heard s.opened s.taken t from octets
-    → is_ignored h ≡ true → texts' ≡ texts ++ map (text_at line) (heard_said masters h)
-    → HasDone (StandsAsSlave ip new news after true) ip line (slaves.datagram_deed s t from octets) sent sent texts texts' 0 0
-nothing_received ip line t from octets new masters news after s h sent texts texts' stepped is none says =
-    subst (λ g. HasDone (StandsAsSlave ip new news after true) ip line (heard_deed s t deed g) sent sent texts texts' 0 0) is (by_heard h none says)
+pub nothing_received : (ip t from : ℕ) (octets : List ℕ) (new : Kept) (masters : List Master) (news : List Held) (after : MemoryPort) (s : Slave) (h : Heard) (noted noted' : Noted)
+    → HasStepped ip new news after s (datagram_deed s.opened s.taken t from octets) → h ≡ datagram_heard s.opened s.taken t from octets
+    → is_ignored h ≡ true → noted' ≡ with_said (heard_said masters h) noted
+    → HasDone (StandsAsSlave ip new news after true) ip (slaves.datagram_deed s t from octets) noted noted'
+nothing_received ip t from octets new masters news after s h noted noted' stepped is none says =
+    subst (λ g. HasDone (StandsAsSlave ip new news after true) ip (heard_deed s t deed g) noted noted') is (by_heard h none says)
   where
     deed : Deed
     deed = datagram_deed s.opened s.taken t from octets
@@ -302,9 +285,11 @@ nothing_received ip line t from octets new masters news after s h sent texts tex
     node =
         subst (λ L. IsSlaveNode ip new news after true (record s { taken = L })) (ap (λ (d : Deed). s.taken ++ d.entries) empty ∙ append-nil s.taken) (stepped.node after idle)
 
-    by_heard : (g : Heard) → is_ignored g ≡ true → texts' ≡ texts ++ map (text_at line) (heard_said masters g)
-        → HasDone (StandsAsSlave ip new news after true) ip line (heard_deed s t deed g) sent sent texts texts' 0 0
-    by_heard (heard.Ignored reason) same said = record { node = node; sends = sym (append-nil sent); says = said; grants = refl; shortages = refl }
+    by_heard : (g : Heard) → is_ignored g ≡ true → noted' ≡ with_said (heard_said masters g) noted → HasDone (StandsAsSlave ip new news after true) ip (heard_deed s t deed g) noted noted'
+    by_heard (heard.Ignored reason) same said = record {
+      node = node;
+      noted = said ∙ sym (said_nothing (with_sent [] (with_said (heard_said masters (heard.Ignored reason)) noted)) ∙ sent_nothing (with_said (heard_said masters (heard.Ignored reason)) noted));
+    }
     by_heard (heard.Announce x m class) same said = absurd (false≢true same)
     by_heard (heard.Sync x m number) same said = absurd (false≢true same)
     by_heard (heard.FollowUp x m) same said = absurd (false≢true same)

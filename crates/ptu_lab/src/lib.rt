@@ -7,7 +7,6 @@ mod acting;
 mod done;
 mod lab;
 mod loading;
-mod nodes;
 mod replaying;
 mod setting_up;
 mod slave_node;

@@ -1,4 +1,4 @@
-use Rattle.std.proofs.Common.{◌∙◌, length, map, subst, refl}
+use Rattle.std.proofs.Common.{◌∙◌, length, map, ap, subst}
 use Rattle.ptu_outside.specs.Handing.{HasPutPart}
 use Rattle.ptu_outside.proofs.Putting.{HasPutPart-whole}
 use Rattle.ptu_world.specs.Report.{course_opening}
@@ -38,7 +38,7 @@ returns-in-Ok-Whole-clause-counts g c = λ script told.
     let reported = rw c.in-Ok-Whole.field-0-is at (c.in-Ok-Whole.ensures.whole (course_opening (record { flags = length c.args.stock.flags.items; gaps = length c.args.stock.gaps.items })) c.new-lab.ensures.opening script told) in
     let last = rw c.in-Ok-Whole.field-0-is at c.in-Ok-Whole.ensures.last in
     counted (λ n. seen (λ i. (g.dyn-1.0.entry i).1.Judge) n.slave) _ _ c.report.new.reporter.lab (record { flags = length c.args.stock.flags.items; gaps = length c.args.stock.gaps.items }) script c.in-Ok-Whole.lines _
-    (last tt (course_opening (record { flags = length c.args.stock.flags.items; gaps = length c.args.stock.gaps.items })) c.new-lab.ensures.opening script told) reported.ends (c.len.ensures ∙ c.report.new.reporter.lab.sent.ok.0) refl refl
+    (last tt (course_opening (record { flags = length c.args.stock.flags.items; gaps = length c.args.stock.gaps.items })) c.new-lab.ensures.opening script told) reported.ends (c.len.ensures ∙ ap length c.sent.ensures) c.granted.ensures c.short.ensures
 
 pub returns-in-Ok-Whole-clause-headline : goal.returns-in-Ok-Whole-clause-headline
 returns-in-Ok-Whole-clause-headline g c = λ script told. keeps_headline _ script

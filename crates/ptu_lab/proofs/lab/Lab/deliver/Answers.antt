@@ -1,19 +1,19 @@
-use Rattle.std.proofs.Common.{◌∙◌, refl, sym, ap}
+use Rattle.std.proofs.Common.{◌∙◌, refl, sym, ap, rules}
 use Rattle.ptu_world.specs.World.{datagram_numbered}
-use Rattle.ptu_lab.proofs.LabNodes.{delivered_there, delivered_nobody, not_delivered}
+use Rattle.ptu_lab.proofs.LabNodes.{delivered_there, delivered_nobody, not_delivered, ok_also}
 use Rattle.ptu_lab.proofs.lab.Lab.deliver.Goals as goal
 
 pub returns-in-None : goal.returns-in-None
-returns-in-None g c = λ course stands. not_delivered c.args.line c.args.at c.args.number course _ _
-    (sym (ap (datagram_numbered c.args.number) (c.deref.ensures.value ∙ stands.sent)) ∙ c.in-None.ensures)
+returns-in-None g c = λ course stands. not_delivered _ c.args.at c.args.number course _ _
+    (sym (ap (datagram_numbered c.args.number) (c.sent.ensures ∙ stands.sent)) ∙ c.in-None.ensures)
 
-pub returns-then-branch : goal.returns-then-branch
-returns-then-branch g c = λ course stands.
-    delivered_there c.args.line c.args.at c.args.number course _ c.in-Some.sent.now _ c.in_ok-hand.field-0
-    (sym (ap (datagram_numbered c.args.number) (c.deref.ensures.value ∙ stands.sent)) ∙ c.in-Some.ensures)
-    (rw (sym c.bytes.ensures ∙ (sym c.in_ok-copy_into.ensures ∙ sym c.deref-2.ensures.value)) (c.in_ok-hand.ensures course stands)) c.if-branch.true
+pub returns-then-contains_key : goal.returns-then-contains_key
+returns-then-contains_key g c = ok_also c.act.result _ _ c.act.ensures (λ refused acted course stands.
+    delivered_there _ _ _ _ course _ c.args.at c.args.number c.in-Some.sent.now _ _ _ refused stands
+    (sym (ap (datagram_numbered c.args.number) c.sent.ensures) ∙ c.in-Some.ensures)
+    (search rules) (search rules) (acted course stands))
 
 pub returns : goal.returns
-returns g c = λ course stands. delivered_nobody _ _ _ c.hand.new.self _ course c.args.line c.args.at c.args.number c.in-Some.sent.now c.hand.new.texts _ c.in_ok-hand.field-0
-    (sym (ap (datagram_numbered c.args.number) (c.deref.ensures.value ∙ stands.sent)) ∙ c.in-Some.ensures)
-    (rw (sym c.bytes.ensures ∙ (sym c.in_ok-copy_into.ensures ∙ sym c.deref-2.ensures.value)) (c.in_ok-hand.ensures course stands)) c.if-branch.false refl c.in_ok-add.ensures.added
+returns g c = λ course stands. delivered_nobody _ _ _ _ _ course c.args.at c.args.number c.in-Some.sent.now stands
+    (sym (ap (datagram_numbered c.args.number) c.sent.ensures) ∙ c.in-Some.ensures)
+    (search rules) c.requires.empty refl refl c.in_ok-say.ensures

@@ -1,20 +1,10 @@
-use Rattle.std.proofs.Common.{◌∙◌, ap, refl}
-use Rattle.std.proofs.lemmas.Result.{on_ok_weaker}
-use Rattle.ptu_outside.specs.MemoryPort.{MemoryPort}
+use Rattle.std.proofs.Common.{map, sym, ◌∙◌}
 use Rattle.ptu_record.specs.Step.{TellFlag}
-use Rattle.ptu_slave_messages.specs.Node.{deed}
-use Rattle.ptu_slave.specs.Seen.{Seen, seen}
-use Rattle.ptu_lab.proofs.SlaveEvents.{quietly_ended, stepped}
+use Rattle.ptu_world.specs.Slaves.{plain_deed}
+use Rattle.ptu_slave.specs.Seen.{seen}
+use Rattle.ptu_lab.proofs.LabNodes.{master_acts}
 use Rattle.ptu_lab.proofs.slave_node.SlaveNode.flag.Goals as goal
 
-pub returns-clause-done : goal.returns-clause-done
-returns-clause-done g c =
-    on_ok_weaker c.say_selected.result (λ says begun s h.
-    quietly_ended c.args.self.now.ip c.say_selected.new.self.ip c.args.line c.args.at (seen (λ i. (g.dyn-1.0.entry i).1.Judge) c.flag.new.self).kept (seen (λ i. (g.dyn-1.0.entry i).1.Judge) c.say_selected.new.self.slave).kept _ _ (seen (λ i. (g.dyn-1.0.entry i).1.Judge) c.args.self.now.slave).port (seen (λ i. (g.dyn-1.0.entry i).1.Judge) c.flag.new.self).port
-    (seen (λ i. (g.dyn-1.0.entry i).1.Judge) c.say_selected.new.self.slave).port s (deed s.opened s.taken c.args.at (TellFlag c.args.master c.args.unusable)) c.args.sent.now c.args.texts.now c.say_selected.new.texts
-    c.say_selected.ensures.ip (ap (λ (s : Seen _ _). s.kept) c.say_selected.ensures.unchanged)
-    (stepped c.args.self.now.ip (seen (λ i. (g.dyn-1.0.entry i).1.Judge) c.args.self.now.slave).kept (seen (λ i. (g.dyn-1.0.entry i).1.Judge) c.flag.new.self).kept _ _ (seen (λ i. (g.dyn-1.0.entry i).1.Judge) c.args.self.now.slave).port (seen (λ i. (g.dyn-1.0.entry i).1.Judge) c.flag.new.self).port begun s c.args.at (TellFlag c.args.master c.args.unusable)
-    (deed s.opened s.taken c.args.at (TellFlag c.args.master c.args.unusable)) h (λ m is. absurd (cc is)) (c.requires, tt) c.flag.ensures.same (c.flag.ensures.flagged.steps s.opened.openings s.taken h.stands) refl
-    (ap (λ (p : MemoryPort). p.sent) c.flag.ensures.flagged.port ∙ h.idle))
-    (ap (λ (s : Seen _ _). s.judges) c.say_selected.ensures.unchanged) c.flag.ensures.flagged.port (ap (λ (s : Seen _ _). s.port) c.say_selected.ensures.unchanged) h.idle says)
-    c.say_selected.ensures.says
+pub returns-clause-acted : goal.returns-clause-acted
+returns-clause-acted g c = master_acts (λ n. seen (λ i. (g.dyn-1.0.entry i).1.Judge) n.slave)
+    c.args.self.now c.flag_at.new.self c.args.master _ (λ s m. plain_deed s c.args.at (TellFlag m c.args.unusable)) _ _ (sym c.place.ensures ∙ c.in-Some.is) c.in_ok-flag_at.ensures.done

@@ -1,21 +1,21 @@
 use Rattle.std.proofs.Common.{◌∙◌, sym}
 use Rattle.ptu_slave.specs.Seen.{seen}
-use Rattle.ptu_lab.proofs.SlaveEvents.{on_ok_each}
+use Rattle.ptu_lab.proofs.SlaveEvents.{on_ok_both}
 use Rattle.ptu_lab.proofs.SlaveHearing.{event_received, nothing_received}
 use Rattle.ptu_lab.proofs.slave_node.SlaveNode.receive.Goals as goal
 
 pub returns-then-was_ignored-clause-done : goal.returns-then-was_ignored-clause-done
 returns-then-was_ignored-clause-done g c = λ begun s h.
-    nothing_received c.args.self.now.ip c.args.line c.args.at c.args.from c.args.octets.now (seen (λ i. (g.dyn-1.0.entry i).1.Judge) c.take.new.slave).kept c.masters.result.now _ (seen (λ i. (g.dyn-1.0.entry i).1.Judge) c.take.new.slave).port s c.in_ok-heard.heard
-    c.args.sent.now.items c.args.texts.now c.say_heard.new.texts (c.in_ok-heard.ensures.stepped c.args.self.now.ip begun s h) (c.in_ok-heard.ensures.heard c.args.self.now.ip begun s h)
+    nothing_received c.args.self.now.ip c.args.at c.args.from c.args.octets.now (seen (λ i. (g.dyn-1.0.entry i).1.Judge) c.take.new.slave).kept c.masters.result.now _ (seen (λ i. (g.dyn-1.0.entry i).1.Judge) c.take.new.slave).port s c.in_ok-heard.heard
+    c.args.journal.now c.say_heard.new.journal (c.in_ok-heard.ensures.stepped c.args.self.now.ip begun s h) (c.in_ok-heard.ensures.heard c.args.self.now.ip begun s h)
     (sym c.was_ignored.ensures ∙ c.if-was_ignored.true) c.in_ok-say_heard.ensures
 
 pub returns-clause-done : goal.returns-clause-done
 returns-clause-done g c =
-    on_ok_each c.conclude.result (λ idle sends says begun s h.
-    event_received c.args.self.now.ip c.conclude.new.self.ip c.args.line c.args.at c.args.from c.args.octets.now (seen (λ i. (g.dyn-1.0.entry i).1.Judge) c.args.self.now.slave).kept (seen (λ i. (g.dyn-1.0.entry i).1.Judge) c.take.new.slave).kept (seen (λ i. (g.dyn-1.0.entry i).1.Judge) c.conclude.new.self.slave).kept
-    c.masters.result.now _ _ (seen (λ i. (g.dyn-1.0.entry i).1.Judge) c.take.new.slave).port (seen (λ i. (g.dyn-1.0.entry i).1.Judge) c.conclude.new.self.slave).port s c.in_ok-heard.heard c.args.sent.now.items c.conclude.new.sent.items c.args.texts.now c.say_heard.new.texts
-    c.conclude.new.texts c.conclude.ensures.ip c.conclude.ensures.core c.conclude.ensures.judges h.masters (c.in_ok-heard.ensures.stepped c.args.self.now.ip begun s h)
+    on_ok_both c.conclude.result (λ idle noted begun s h.
+    event_received c.args.self.now.ip c.conclude.new.self.ip c.args.at c.args.from c.args.octets.now (seen (λ i. (g.dyn-1.0.entry i).1.Judge) c.args.self.now.slave).kept (seen (λ i. (g.dyn-1.0.entry i).1.Judge) c.take.new.slave).kept (seen (λ i. (g.dyn-1.0.entry i).1.Judge) c.conclude.new.self.slave).kept
+    c.masters.result.now _ _ (seen (λ i. (g.dyn-1.0.entry i).1.Judge) c.take.new.slave).port (seen (λ i. (g.dyn-1.0.entry i).1.Judge) c.conclude.new.self.slave).port s c.in_ok-heard.heard c.args.journal.now c.say_heard.new.journal
+    c.conclude.new.journal c.conclude.ensures.ip c.conclude.ensures.core c.conclude.ensures.judges h.masters (c.in_ok-heard.ensures.stepped c.args.self.now.ip begun s h)
     (c.in_ok-heard.ensures.heard c.args.self.now.ip begun s h) (sym c.was_ignored.ensures ∙ c.if-was_ignored.false) (c.masters.ensures ∙ c.take.ensures.masters) c.in_ok-say_heard.ensures
-    idle sends says)
-    c.conclude.ensures.idle c.conclude.ensures.sends c.conclude.ensures.says
+    idle noted)
+    c.conclude.ensures.idle c.conclude.ensures.noted
