@@ -90,9 +90,10 @@ impl Journal {
         ensures noted { OnOk result (self.new ≡ with_handed ip port.old.sent self.old) }
         ensures cleared { OnOk result (port.new ≡ record port.old { sent = [] }) }
     {
+        let alloc = self.alloc();
         let mut index: usize = 0;
         'datagrams: while let Some((to, channel, octets)) = port.sent(index) {
-            let mut copy = Vec::new(self.alloc);
+            let mut copy = Vec::new(alloc);
             copy.extend_from_slice(octets)?;
             let datagram = Sent {
                 from: ip,
