@@ -146,7 +146,7 @@ module _ {J B : Type 0} {I : J → Type 0} (see : SlaveNode J I → Seen MemoryP
           ∙ (ap (λ n. n + count_by is_short (said_by lab.journal.sent ip deed)) stands.short ∙ ap (λ s. c.short + count_by is_short (said_by s ip deed)) stands.sent));
     },
     ap (λ (n : Noted). n.texts) done.noted ∙ (deed_texts ip deed lab.journal
-    ∙ (ap (λ t. t ++ map (text_at lab.journal.line) (said_by lab.journal.sent ip deed)) none ∙ ap (λ s. map (text_at lab.journal.line) (said_by s ip deed)) stands.sent)),
+        ∙ (ap (λ t. t ++ map (text_at lab.journal.line) (said_by lab.journal.sent ip deed)) none ∙ ap (λ s. map (text_at lab.journal.line) (said_by s ip deed)) stands.sent)),
   )
 
   -- ---- an act of a node

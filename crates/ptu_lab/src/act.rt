@@ -6,35 +6,20 @@ use ptu_lines::LentOctets;
 #[derive(Debug, Drop)]
 pub enum Act<'a> {
     /// A node takes a datagram, as from an address.
-    Receive {
-        from: u32,
-        octets: LentOctets<'a>,
-    },
+    Receive { from: u32, octets: LentOctets<'a> },
     /// A table of a grandmaster, from 0 to 3, takes a turn.
-    Turn {
-        table: usize,
-    },
+    Turn { table: usize },
     /// The clockClass of a grandmaster changes. Nothing is said of it, and it has no moment.
-    Class {
-        class: u8,
-    },
+    Class { class: u8 },
     /// The capacity of a grandmaster changes to one from 1 to 16777216, in sixteenths of a message
     /// per second.
-    Capacity {
-        capacity: u64,
-    },
+    Capacity { capacity: u64 },
     /// A slave takes a tick.
     Tick,
     /// The operator says to a slave whether a master is unusable.
-    Flag {
-        master: u32,
-        unusable: bool,
-    },
+    Flag { master: u32, unusable: bool },
     /// The judge of a master of a slave is replaced by one of the rule.
-    Judge {
-        master: u32,
-        rule: Rule,
-    },
+    Judge { master: u32, rule: Rule },
     /// A slave stops.
     Stop,
 }

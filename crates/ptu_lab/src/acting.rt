@@ -104,12 +104,7 @@ impl Lab {
     ///
     /// # Errors
     /// `OutOfMemory`.
-    pub fn act(
-        &mut self,
-        at: Moment,
-        ip: u32,
-        act: Act<'_>,
-    ) -> Result<Option<Cause>, OutOfMemory>
+    pub fn act(&mut self, at: Moment, ip: u32, act: Act<'_>) -> Result<Option<Cause>, OutOfMemory>
         requires means { (c : Course) × StandsFor
             (λ n. seen ⟦<dyn Judge as Judge>⟧ n.slave)
             (map (λ j. held j) self.old.stock.flags.items)

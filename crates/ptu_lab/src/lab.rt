@@ -59,9 +59,9 @@ impl Lab {
         }
     }
 
-    /// Does what the script's line of this number commands, and what is said of it are then the
-    /// texts of the journal; or answers why it is refused. The room is for a copy of a datagram that
-    /// was sent.
+    /// Does what the script's line of this number commands: the texts of the journal are then what
+    /// is said of it; or answers why it is refused. The room is for a copy of a datagram that was
+    /// sent.
     ///
     /// # Errors
     /// `OutOfMemory`.
