@@ -1,5 +1,5 @@
 -- That the capacity of a grandmaster of a script has changed.
-use Rattle.std.proofs.Common.{◌≡◌, ◌∙◌, ℕ, ◌+◌, ◌%◌, List, [], ◌∷◌, ◌++◌, Bool, false, cond, map, refl, sym, ap, ap₂, subst, arith, append_assoc, Some}
+use Rattle.std.proofs.Common.{◌≡◌, ◌∙◌, ℕ, ◌+◌, ◌%◌, List, [], ◌∷◌, ◌++◌, map, refl, sym, ap, ap₂, subst, arith, Some}
 use Rattle.std.proofs.lemmas.Simd.{map-map}
 use Rattle.ptu_units.specs.declared.kind.Kind.{Kind}
 use Rattle.ptu_outside.specs.Departure.{Departure}
@@ -9,7 +9,6 @@ use Rattle.ptu_history.specs.Core.{book_step_moment, core_step, history_after}
 use Rattle.ptu_history.specs.Counts.{counts}
 use Rattle.ptu_history.specs.Events as events
 use Rattle.ptu_history.specs.History.{Record}
-use Rattle.ptu_history.specs.Live.{Grant}
 use Rattle.ptu_history.specs.Shedding.{shed_grants}
 use Rattle.ptu_shard.specs.declared.config.GmConfig.{GmConfig}
 use Rattle.ptu_admit.specs.declared.shed_list.Shed.{Shed}
