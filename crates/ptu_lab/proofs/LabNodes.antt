@@ -61,7 +61,7 @@ leaving P Q a b old new flags gaps (Err cause) (Some found) also same stock h = 
 -- the same where a judge may have been taken
 pub leaving_as : (P Q : world.Node → Type 0) (a b : ℕ) (old new : Noted) (flags gaps : List Held) (r : Result Deed Cause) (left : Result Stock Cause) (refused : Option Cause)
     → ((w : world.Node) → P w → Q w) → a ≡ b → HasActedLeaving P a old new flags gaps r left refused → HasActedLeaving Q b old new flags gaps r left refused
-leaving_as P Q a b old new flags gaps (Ok deed) (Ok left) None also same h = (done_as P Q a b deed old new also same h.0, h.1)
+leaving_as P Q a b old new flags gaps (Ok deed) (Ok left) None also same h = (done_as P Q a b deed old new also same h.0, h.1, h.2)
 leaving_as P Q a b old new flags gaps (Ok deed) (Ok left) (Some found) also same h = absurd h
 leaving_as P Q a b old new flags gaps (Ok deed) (Err cause) None also same h = absurd h
 leaving_as P Q a b old new flags gaps (Ok deed) (Err cause) (Some found) also same h = h
