@@ -16,4 +16,4 @@ returns-then-branch g c = λ course stands.
 pub returns : goal.returns
 returns g c = λ course stands. delivered_nobody _ _ _ c.hand.new.self _ course c.args.line c.args.at c.args.number c.in-Some.sent.now c.hand.new.texts _ c.in_ok-hand.field-0
     (sym (ap (datagram_numbered c.args.number) (c.deref.ensures.value ∙ stands.sent)) ∙ c.in-Some.ensures)
-    (rw (sym c.bytes.ensures ∙ (sym c.in_ok-octets.ensures.items ∙ sym c.deref-2.ensures.value)) (c.in_ok-hand.ensures course stands)) c.if-branch.false refl c.in_ok-add.ensures.added
+    (rw (sym c.bytes.ensures ∙ (sym c.in_ok-octets.ensures.items ∙ sym c.deref-2.ensures.value)) (c.in_ok-hand.ensures course stands)) c.if-branch.false refl c.in_ok-add_text.ensures.added
