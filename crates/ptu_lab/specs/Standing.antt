@@ -6,6 +6,7 @@ use Rattle.ptu_judges.specs.Held.{Held, IsStock}
 use Rattle.ptu_slave.specs.Seen.{Seen}
 use Rattle.ptu_world.specs.Deeds as world
 use Rattle.ptu_world.specs.World.{node_at}
+use Rattle.ptu_grandmaster.specs.Gm.{counted}
 use Rattle.ptu_world.specs.Report.{Course}
 use Rattle.ptu_lab.specs.declared.slave_node.SlaveNode.{SlaveNode}
 use Rattle.ptu_lab.specs.NodeStanding.{StandsAsNode}
@@ -40,5 +41,5 @@ module _ {J B : Type 0} {I : J → Type 0} (see : SlaveNode J I → Seen MemoryP
     pub flags : length flag_judges ≡ c.world.stock.flags
     pub gaps : length gap_judges ≡ c.world.stock.gaps
     pub stock : IsStock flag_judges gap_judges
-    pub granted : lab.journal.granted ≡ c.granted
-    pub short : lab.journal.short ≡ c.short
+    pub granted : lab.journal.granted ≡ counted c.granted
+    pub short : lab.journal.short ≡ counted c.short

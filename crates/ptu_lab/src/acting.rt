@@ -29,6 +29,7 @@ fn act_as_grandmaster(
     act: Act<'_>,
     journal: &mut Journal,
 ) -> Result<Option<Cause>, OutOfMemory>
+    requires means { (g : world.Grandmaster) × IsGrandmasterNode node.old g }
     requires within { IsActWithin act }
     ensures ip { node.new.ip ≡ node.old.ip }
     ensures acted { IfOk result (λ refused. (g : world.Grandmaster) →
@@ -70,6 +71,8 @@ impl Node {
         stock: &mut Reserve,
         journal: &mut Journal,
     ) -> Result<Option<Cause>, OutOfMemory>
+        requires means { (ip : ℕ) × (begun : Bool) × (w : world.Node)
+            × StandsAs (λ n. seen ⟦<dyn Judge as Judge>⟧ n.slave) ip begun self.old w }
         requires stock { IsStock (map (λ j. held j) stock.old.flags.items)
             (map (λ j. held j) stock.old.gaps.items) }
         requires within { IsActWithin act }

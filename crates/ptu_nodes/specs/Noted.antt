@@ -2,6 +2,7 @@
 use Rattle.std.specs.Prelude.{ℕ, ◌+◌, List, [], ◌++◌, length, map}
 use Rattle.std.specs.List.{count_by}
 use Rattle.ptu_outside.specs.Departure.{Departure}
+use Rattle.ptu_grandmaster.specs.Gm.{counted}
 use Rattle.ptu_report_lines.specs.declared.sent.Sent.{Sent}
 use Rattle.ptu_report_lines.specs.declared.statement.Statement.{Statement}
 use Rattle.ptu_world.specs.Deeds.{Deed}
@@ -9,7 +10,7 @@ use Rattle.ptu_world.specs.Report.{is_granted, is_short, text_at}
 use Rattle.ptu_world.specs.World.{sending_said, sent_from}
 
 -- the number of the script's line and the texts of that line; the datagrams that were sent so far, and of how many asks it was
--- said so far that they were granted, and that they were short
+-- said so far that they were granted, and that they were short, as far as a count goes
 pub record Noted : Type 0 where
   pub line : ℕ
   pub texts : List (List ℕ)
@@ -27,8 +28,8 @@ with_said said noted = record {
   line = noted.line;
   texts = noted.texts ++ map (text_at noted.line) said;
   sent = noted.sent;
-  granted = noted.granted + count_by is_granted said;
-  short = noted.short + count_by is_short said;
+  granted = counted (noted.granted + count_by is_granted said);
+  short = counted (noted.short + count_by is_short said);
 }
 
 -- these datagrams were sent, and of each it was said, with its number

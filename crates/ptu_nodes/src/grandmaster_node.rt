@@ -76,6 +76,7 @@ impl GrandmasterNode {
         octets: &[u8],
         journal: &mut Journal,
     ) -> Result<(), OutOfMemory>
+        requires means { (g : Grandmaster) × IsGrandmasterNode self.old g }
         ensures ip { self.new.ip ≡ self.old.ip }
         ensures done { OnOk result ((g : Grandmaster) → IsGrandmasterNode self.old g →
             HasDone (StandsAsGrandmaster self.new) self.old.ip (datagram_deed g at from octets.now)
@@ -97,7 +98,8 @@ impl GrandmasterNode {
         table: usize,
         journal: &mut Journal,
     ) -> Result<(), OutOfMemory>
-        requires { table < 4 }
+        requires means { (g : Grandmaster) × IsGrandmasterNode self.old g }
+        requires table { table < 4 }
         ensures ip { self.new.ip ≡ self.old.ip }
         ensures done { OnOk result ((g : Grandmaster) → IsGrandmasterNode self.old g →
             HasDone (StandsAsGrandmaster self.new) self.old.ip (turn_deed g at table) journal.old
@@ -128,7 +130,8 @@ impl GrandmasterNode {
         capacity: u64,
         journal: &mut Journal,
     ) -> Result<(), OutOfMemory>
-        requires { IsCapacity capacity }
+        requires means { (g : Grandmaster) × IsGrandmasterNode self.old g }
+        requires capacity { IsCapacity capacity }
         ensures ip { self.new.ip ≡ self.old.ip }
         ensures done { OnOk result ((g : Grandmaster) → IsGrandmasterNode self.old g →
             HasDone (StandsAsGrandmaster self.new) self.old.ip (capacity_deed g at capacity)

@@ -1,4 +1,5 @@
-ghost use Rattle.std.specs.Prelude.{◌≡◌, ◌+◌, ◌∷◌, [], cond, IfOk, OnOk};
+ghost use Rattle.std.specs.Prelude.{◌≡◌, ◌+◌, ◌∷◌, [], cond, OnOk};
+ghost use Rattle.ptu_grandmaster.specs.Gm.{counted};
 ghost use Rattle.ptu_world.specs.Report.{is_granted, is_short};
 ghost use Rattle.ptu_nodes.specs.Noted.{nothing_noted, with_handed, with_said, with_sent};
 
@@ -15,7 +16,7 @@ pub const SIGNALING: usize = 428;
 
 /// The report on a script in the making: the number of the script's line, the texts of that line,
 /// the datagrams that were sent so far, in order, and of how many asks it was said so far that they
-/// were granted, and that they were short.
+/// were granted, and that they were short, up to 2^64 - 1 of each.
 #[derive(Drop)]
 pub struct Journal {
     alloc: Global,
@@ -70,8 +71,8 @@ impl Journal {
     pub fn say(&mut self, statement: Statement) -> Result<(), OutOfMemory>
         ensures { OnOk result (self.new ≡ with_said (statement ∷ []) self.old) }
     {
-        let granted = counted(self.granted, says_granted(&statement))?;
-        let short = counted(self.short, says_short(&statement))?;
+        let granted = counted(self.granted, says_granted(&statement));
+        let short = counted(self.short, says_short(&statement));
         self.texts.add_text(&ReportLine::At {
             number: self.line,
             statement,
@@ -91,8 +92,8 @@ impl Journal {
         ensures cleared { OnOk result (port.new ≡ record port.old { sent = [] }) }
     {
         let alloc = self.alloc();
-        let mut index: usize = 0;
-        'datagrams: while let Some((to, channel, octets)) = port.sent(index) {
+        let before = self.sent.len();
+        'datagrams: while let Some((to, channel, octets)) = port.sent(self.sent.len() - before) {
             let mut copy = Vec::new(alloc);
             copy.extend_from_slice(octets)?;
             let datagram = Sent {
@@ -102,7 +103,6 @@ impl Journal {
                 octets: Datagram::new(copy),
             };
             self.add_sent(datagram)?;
-            index = index.checked_add(1).ok_or(OutOfMemory)?;
         }
         port.clear();
         Ok(())
@@ -179,8 +179,8 @@ fn says_short(statement: &Statement) -> bool
 }
 
 // The count with one more, where there is one more.
-fn counted(so_far: u64, is_one: bool) -> Result<u64, OutOfMemory>
-    ensures { IfOk result (λ count. count ≡ so_far + cond is_one 1 0) }
+fn counted(so_far: u64, is_one: bool) -> u64
+    ensures { result ≡ counted (so_far + cond is_one 1 0) }
 {
-    so_far.checked_add(u64::from(is_one)).ok_or(OutOfMemory)
+    so_far.saturating_add(u64::from(is_one))
 }
