@@ -115,7 +115,7 @@ impl Journal {
         let text = SentLine {
             number: self.line,
             datagram: self.sent.len() as u64 + 1,
-            sent: &datagram,
+            sent: datagram.lend(),
         };
         self.texts.add_text(&text)?;
         self.sent.push(datagram)?;

@@ -1,3 +1,4 @@
 pub mod Statements
 pub mod Words
 pub mod Report
+pub mod Sendings

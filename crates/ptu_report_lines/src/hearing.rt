@@ -1,5 +1,7 @@
-ghost use Rattle.std.specs.Prelude.{◌≡◌, ◌≤◌, ◌+◌, ◌++◌};
-ghost use Rattle.ptu_report_lines.specs.Statements.{hearing_text};
+ghost use Rattle.std.specs.Prelude.{◌≡◌, ◌≤◌, ◌+◌, ◌++◌, ◌∷◌, [], codes, length};
+ghost use Rattle.std.specs.Fmt.{decimal};
+ghost use Rattle.ptu_texts.specs.Texts.{address_text};
+ghost use Rattle.ptu_report_lines.specs.Statements.{hearing_text, words_text};
 
 use crate::words::{Word, put_words};
 use ptu_units::Moment;
@@ -37,17 +39,7 @@ impl Hearing {
                 ],
                 line,
             ),
-            Hearing::Sync { master, seq, at } => put_words(
-                &[
-                    Word::Name("sync"),
-                    Word::Address(master),
-                    Word::Name("seq"),
-                    Word::Number(u64::from(seq)),
-                    Word::Name("at"),
-                    Word::Number(at.nanos()),
-                ],
-                line,
-            ),
+            Hearing::Sync { master, seq, at } => put_numbered("sync", master, seq, at, line),
             Hearing::FollowUp { master, at } => put_words(
                 &[
                     Word::Name("follow_up"),
@@ -57,17 +49,30 @@ impl Hearing {
                 ],
                 line,
             ),
-            Hearing::DelayResp { master, seq, at } => put_words(
-                &[
-                    Word::Name("delay_resp"),
-                    Word::Address(master),
-                    Word::Name("seq"),
-                    Word::Number(u64::from(seq)),
-                    Word::Name("at"),
-                    Word::Number(at.nanos()),
-                ],
-                line,
-            ),
+            Hearing::DelayResp { master, seq, at } => {
+                put_numbered("delay_resp", master, seq, at, line);
+            }
         }
     }
+}
+
+// Puts what was heard of a master with this sequenceId.
+fn put_numbered(name: &'static str, master: u32, seq: u16, at: Moment, line: &mut LineText)
+    requires short { length name.now ≤ 10 }
+    requires room { 80 ≤ line.old.room }
+    ensures text { line.new.text ≡ words_text (name.now ∷ address_text master ∷ codes "seq"
+        ∷ decimal seq ∷ codes "at" ∷ decimal at ∷ []) ++ line.old.text }
+    ensures room { line.old.room ≤ line.new.room + 80 }
+{
+    put_words(
+        &[
+            Word::Name(name),
+            Word::Address(master),
+            Word::Name("seq"),
+            Word::Number(u64::from(seq)),
+            Word::Name("at"),
+            Word::Number(at.nanos()),
+        ],
+        line,
+    );
 }

@@ -11,6 +11,7 @@ use ptu_outside::{Channel, Datagram};
 use ptu_texts::AddressText;
 use ptu_units::OutOfMemory;
 use ptu_writing::{Draft, LineText, Text};
+use std::marker::Model;
 
 /// A datagram that a node sent.
 #[derive(Debug, Drop)]
@@ -25,13 +26,98 @@ pub struct Sent {
     pub octets: Datagram,
 }
 
+impl Sent {
+    /// The same, with octets that stand here.
+    pub fn lend(&self) -> SentRef<'_>
+        ensures { result ≡ self.now }
+    {
+        SentRef {
+            from: self.from,
+            to: self.to,
+            channel: self.channel,
+            octets: self.octets.bytes(),
+        }
+    }
+}
+
+/// A datagram that a node sent, whose octets stand elsewhere. A clause sees it as one that owns
+/// them.
+#[derive(Debug, Drop)]
+pub struct SentRef<'a> {
+    from: u32,
+    to: u32,
+    channel: Channel,
+    octets: &'a [u8],
+}
+
+impl<'a> Model for SentRef<'a> {
+    ghost use Rattle.ptu_report_lines.specs.declared.sent.Sent.{Sent};
+
+    ghost Value = { Sent };
+
+    ghost view = { λ s. record {
+      from = s.from;
+      to = s.to;
+      channel = s.channel;
+      octets = s.octets.now;
+    } };
+}
+
+impl<'a> SentRef<'a> {
+    /// The datagram of these octets, which the node at the first address sent to the second by the
+    /// channel.
+    pub fn new(from: u32, to: u32, channel: Channel, octets: &'a [u8]) -> SentRef<'a>
+        ensures { result ≡ record {
+          from = from;
+          to = to;
+          channel = channel;
+          octets = octets.now;
+        } }
+    {
+        SentRef {
+            from,
+            to,
+            channel,
+            octets,
+        }
+    }
+
+    /// The address of the node.
+    pub fn from(&self) -> u32
+        ensures { result ≡ self.now.from }
+    {
+        self.from
+    }
+
+    /// The address that it was sent to.
+    pub fn to(&self) -> u32
+        ensures { result ≡ self.now.to }
+    {
+        self.to
+    }
+
+    /// The channel that it went by.
+    pub fn channel(&self) -> Channel
+        ensures { result ≡ self.now.channel }
+    {
+        self.channel
+    }
+
+    /// Its octets.
+    pub fn octets(&self) -> &'a [u8]
+        ensures { result.now ≡ self.now.octets }
+    {
+        self.octets
+    }
+}
+
 /// The line of a datagram that was sent, with the 0A at its end: the number of the script's line,
 /// from 1, and that of the datagram.
-#[derive(Clone, Copy)]
+#[derive(Drop)]
 pub struct SentLine<'a> {
     pub number: u64,
     pub datagram: u64,
-    pub sent: &'a Sent,
+    pub sent: SentRef<'a>,
 }
 
 impl SentLine<'_> {
@@ -39,17 +125,17 @@ impl SentLine<'_> {
     fn head(&self) -> LineText
         ensures { result.text ≡ decimal self.now.number ++ (codes " send "
             ++ (decimal self.now.datagram ++ (codes " "
-            ++ (address_text self.now.sent.now.from ++ (codes " "
-            ++ (address_text self.now.sent.now.to ++ (codes " "
-            ++ (channel_text self.now.sent.now.channel ++ codes " ")))))))) }
+            ++ (address_text self.now.sent.from ++ (codes " "
+            ++ (address_text self.now.sent.to ++ (codes " "
+            ++ (channel_text self.now.sent.channel ++ codes " ")))))))) }
     {
         let mut line = LineText::new();
         line.put_str(" ");
-        put_channel(self.sent.channel, &mut line);
+        put_channel(self.sent.channel(), &mut line);
         line.put_str(" ");
-        AddressText(self.sent.to).put(&mut line);
+        AddressText(self.sent.to()).put(&mut line);
         line.put_str(" ");
-        AddressText(self.sent.from).put(&mut line);
+        AddressText(self.sent.from()).put(&mut line);
         line.put_str(" ");
         line.put_number(self.datagram);
         line.put_str(" send ");
@@ -59,11 +145,11 @@ impl SentLine<'_> {
 }
 
 impl Text for SentLine<'_> {
-    ghost text = { λ l. line_text (lines.At l.number (statements.Sent l.datagram l.sent.now)) };
+    ghost text = { λ l. line_text (lines.At l.number (statements.Sent l.datagram l.sent)) };
 
     fn put(&self, draft: &mut Draft) -> Result<(), OutOfMemory> {
         draft.put_line(&self.head())?;
-        draft.put_digits(self.sent.octets.bytes())?;
+        draft.put_digits(self.sent.octets())?;
         draft.put_octets(b"\n")
     }
 }

@@ -87,11 +87,10 @@ impl Statement {
             Statement::Shed { kind, log, client } => put_shed(*kind, *log, client, &mut line),
             Statement::Nobody => line.put_str("nobody"),
             Statement::Sent { datagram, sent } => {
-                let datagram = *datagram;
                 return SentLine {
                     number,
-                    datagram,
-                    sent,
+                    datagram: *datagram,
+                    sent: sent.lend(),
                 }
                 .put(draft);
             }

@@ -16,12 +16,12 @@ joined old n d f t c h = search (rules, append_assoc)
 pub returns-clause-put : goal.returns-clause-put
 returns-clause-put c =
     let line = c.args.self.now in
-    let sent = line.sent.now in
+    let sent = line.sent in
     let old = c.args.draft.now.text in
     let head = c.in_ok-put_line.ensures.put ∙ ap (λ (t : List ℕ). old ++ t) c.head.ensures in
     let digits =
     c.in_ok-put_digits.ensures.put
-    ∙ ap (λ (octets : List ℕ). c.put_line.new.self.text ++ encode_lower octets) c.bytes.ensures
+    ∙ ap (λ (octets : List ℕ). c.put_line.new.self.text ++ encode_lower octets) c.octets.ensures
     ∙ ap (λ (t : List ℕ). t ++ encode_lower sent.octets) head in
     on_ok c.put_octets.result (λ end.
     end ∙ ap (λ (t : List ℕ). t ++ codes "\n") digits
