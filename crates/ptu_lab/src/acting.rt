@@ -161,8 +161,8 @@ impl Lab {
         let Some(sent) = datagram_of(self.journal.sent(), number) else {
             return Ok(Some(Cause::Number));
         };
-        let (to, from) = (sent.to, sent.from);
-        copy_into(room, sent.octets.bytes())?;
+        let (to, from) = (sent.to(), sent.from());
+        copy_into(room, sent.octets())?;
         if self.nodes.contains_key(&to) {
             let octets = LentOctets::new(room);
             return self.act(at, to, Act::Receive { from, octets });

@@ -82,7 +82,7 @@ impl Reporter for Replayer {
         lines: u64,
         texts: &mut Texts,
     ) -> Result<Option<Cause>, OutOfMemory> {
-        let datagrams = self.lab.journal.sent().len() as u64;
+        let datagrams = self.lab.journal.sent().count() as u64;
         texts.add_text(&ReportLine::End { lines, datagrams })?;
         Ok(None)
     }
@@ -159,7 +159,7 @@ pub fn replay<S: Source, K: Sink>(
     match report(alloc, &mut replayer, source, sink) {
         Ok(Ending::Whole { lines }) => Ok(Done {
             lines,
-            datagrams: replayer.lab.journal.sent().len() as u64,
+            datagrams: replayer.lab.journal.sent().count() as u64,
             granted: replayer.lab.journal.granted(),
             refused: replayer.lab.journal.short(),
         }),

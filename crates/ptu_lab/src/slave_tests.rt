@@ -96,7 +96,7 @@ fn assert_all_said(
     let turned = act(alloc, node, Act::Turn { table: 0 }, journal)?;
     let answers = (ticked, ignored, stopped, turned);
     assert_eq!(rt; answers, (None, None, None, Some(Cause::Node)));
-    assert_eq!(rt; journal.sent().len(), 0);
+    assert_eq!(rt; journal.sent().count(), 0);
     Ok(())
 }
 

@@ -86,7 +86,7 @@ fn assert_all_said(
     journal.begin(5);
     node.set_capacity(moment(2)?, 8, journal)?;
     assert_said(rt, journal, &SHED)?;
-    let counts = (journal.sent().len(), journal.granted(), journal.short());
+    let counts = (journal.sent().count(), journal.granted(), journal.short());
     assert_eq!(rt; counts, (4, 1, 1));
     Ok(())
 }

@@ -2,9 +2,9 @@ ghost use Rattle.std.specs.Prelude.{◌≡◌, ◌∷◌, [], cond, OnOk};
 ghost use Rattle.ptu_world.specs.Report.{is_granted, is_short};
 ghost use Rattle.ptu_nodes.specs.Noted.{counted_on, nothing_noted, with_handed, with_said, with_sent};
 
-use ptu_outside::{Datagram, MemPort};
+use ptu_outside::MemPort;
 use ptu_report::Texts;
-use ptu_report_lines::{Decision, ReportLine, Sent, SentLine, Statement};
+use ptu_report_lines::{Decision, ReportLine, SentLine, SentList, SentRef, Statement};
 use ptu_units::OutOfMemory;
 use std::alloc::Global;
 use std::marker::Model;
@@ -21,7 +21,7 @@ pub struct Journal {
     alloc: Global,
     line: u64,
     texts: Texts,
-    sent: Vec<Sent>,
+    sent: SentList,
     granted: u64,
     short: u64,
 }
@@ -34,7 +34,7 @@ impl Model for Journal {
     ghost view = { λ j. record {
       line = j.line;
       texts = j.texts;
-      sent = j.sent.items;
+      sent = j.sent;
       granted = j.granted;
       short = j.short;
     } };
@@ -49,7 +49,7 @@ impl Journal {
             alloc,
             line: 0,
             texts: Texts::new(alloc),
-            sent: Vec::new(alloc),
+            sent: SentList::new(alloc),
             granted: 0,
             short: 0,
         }
@@ -90,35 +90,25 @@ impl Journal {
         ensures noted { OnOk result (self.new ≡ with_handed ip port.old.sent self.old) }
         ensures cleared { OnOk result (port.new ≡ record port.old { sent = [] }) }
     {
-        let alloc = self.alloc();
-        let before = self.sent.len();
-        'datagrams: while let Some((to, channel, octets)) = port.sent(self.sent.len() - before) {
-            let mut copy = Vec::new(alloc);
-            copy.extend_from_slice(octets)?;
-            let datagram = Sent {
-                from: ip,
-                to,
-                channel,
-                octets: Datagram::new(copy),
-            };
-            self.add_sent(datagram)?;
+        let before = self.sent.count();
+        'datagrams: while let Some((to, channel, octets)) = port.sent(self.sent.count() - before) {
+            self.add_sent(SentRef::new(ip, to, channel, octets))?;
         }
         port.clear();
         Ok(())
     }
 
     // Adds a datagram, and says that it was sent, with its number.
-    fn add_sent(&mut self, datagram: Sent) -> Result<(), OutOfMemory>
-        ensures { OnOk result (self.new ≡ with_sent (datagram ∷ []) self.old) }
+    fn add_sent(&mut self, sent: SentRef<'_>) -> Result<(), OutOfMemory>
+        ensures { OnOk result (self.new ≡ with_sent (sent ∷ []) self.old) }
     {
         let text = SentLine {
             number: self.line,
-            datagram: self.sent.len() as u64 + 1,
-            sent: datagram.lend(),
+            datagram: self.sent.count() as u64 + 1,
+            sent,
         };
         self.texts.add_text(&text)?;
-        self.sent.push(datagram)?;
-        Ok(())
+        self.sent.add(&text.sent)
     }
 
     /// Exchanges the texts of the line with these.
@@ -137,7 +127,7 @@ impl Journal {
     }
 
     /// The datagrams that were sent so far, in order.
-    pub fn sent(&self) -> &[Sent]
+    pub fn sent(&self) -> &SentList
         ensures { result.now ≡ self.now.sent }
     {
         &self.sent
