@@ -100,7 +100,7 @@ impl Journal {
 
     // Adds a datagram, and says that it was sent, with its number.
     fn add_sent(&mut self, sent: SentRef<'_>) -> Result<(), OutOfMemory>
-        ensures { OnOk result (self.new ≡ with_sent (sent ∷ []) self.old) }
+        ensures { OnOk result (self.new ≡ with_sent (sent.entry ∷ []) self.old) }
     {
         let text = SentLine {
             number: self.line,
