@@ -1,5 +1,5 @@
 ghost use Rattle.std.specs.Prelude.{◌≡◌, ◌≤◌, ◌+◌, ◌++◌, ◌∷◌, [], codes, length};
-ghost use Rattle.std.specs.Fmt.{decimal};
+ghost use Rattle.std.specs.Fmt.{decimal, signed_decimal};
 ghost use Rattle.ptu_texts.specs.Texts.{kind_text};
 ghost use Rattle.ptu_report_lines.specs.Statements.{decision_text, words_text};
 ghost use Rattle.ptu_report_lines.specs.declared.decision.Decision.TheVariants as decisions;
@@ -81,7 +81,10 @@ impl Decision {
                 others,
                 rate,
                 capacity,
-            } => put_short(kind, log, at, others, rate, capacity, line),
+            } => {
+                put_rates(others, rate, capacity, line);
+                put_short(kind, log, at, line);
+            }
             Decision::OutsideType { code } => {
                 line.put_octet(code);
                 line.put_str("outside type ");
@@ -125,37 +128,34 @@ fn put_granted(kind: Kind, log: i8, at: Moment, until: u64, line: &mut LineText)
     line.put_str("granted ");
 }
 
-// Puts that a request did not fit.
-fn put_short(
-    kind: Kind,
-    log: i8,
-    at: Moment,
-    others: u64,
-    rate: u64,
-    capacity: u64,
-    line: &mut LineText,
-)
+// Puts the rates by which a request did not fit.
+fn put_rates(others: u64, rate: u64, capacity: u64, line: &mut LineText)
     requires { 131 ≤ line.old.room }
-    ensures text { line.new.text
-        ≡ decision_text (decisions.Short kind log at others rate capacity) ++ line.old.text }
-    ensures room { line.old.room ≤ line.new.room + 131 }
+    ensures text { line.new.text ≡ (codes " others " ++ (decimal others ++ (codes " rate "
+        ++ (decimal rate ++ (codes " capacity " ++ decimal capacity))))) ++ line.old.text }
+    ensures room { line.old.room ≤ line.new.room + 84 }
 {
-    put_words(
-        &[
-            Word::Name("short"),
-            Word::Kind(kind),
-            Word::Log(log),
-            Word::Name("at"),
-            Word::Number(at.nanos()),
-            Word::Name("others"),
-            Word::Number(others),
-            Word::Name("rate"),
-            Word::Number(rate),
-            Word::Name("capacity"),
-            Word::Number(capacity),
-        ],
-        line,
-    );
+    line.put_number(capacity);
+    line.put_str(" capacity ");
+    line.put_number(rate);
+    line.put_str(" rate ");
+    line.put_number(others);
+    line.put_str(" others ");
+}
+
+// Puts that a request did not fit, and when.
+fn put_short(kind: Kind, log: i8, at: Moment, line: &mut LineText)
+    requires { 47 ≤ line.old.room }
+    ensures text { line.new.text ≡ (codes "short " ++ (kind_text kind ++ (codes " "
+        ++ (signed_decimal log ++ (codes " at " ++ decimal at))))) ++ line.old.text }
+    ensures room { line.old.room ≤ line.new.room + 47 }
+{
+    line.put_number(at.nanos());
+    line.put_str(" at ");
+    line.put_signed(log);
+    line.put_str(" ");
+    KindText(kind).put(line);
+    line.put_str("short ");
 }
 
 // Puts what a CANCEL found, at a moment.
