@@ -1,5 +1,5 @@
 -- The datagrams of ports are told one after the other.
-use Rattle.std.proofs.Common.{◌≡◌, ◌∙◌, ℕ, suc, ◌+◌, ◌<◌, List, [], ◌∷◌, ◌++◌, length, drop, slice_get, Some, refl, sym, ap, subst, append_assoc, add-one, drop-cons}
+use Rattle.std.proofs.Common.{◌≡◌, ◌∙◌, ℕ, suc, ◌+◌, ◌-◌, ◌<◌, ◌≤◌, List, [], ◌∷◌, ◌++◌, length, drop, slice_get, Some, refl, sym, ap, subst, append_assoc, add-one, arith, drop-cons, length-append}
 use Rattle.std.proofs.lemmas.List.{map-append}
 use Rattle.std.proofs.lemmas.Option.{slice_get_within, get_or_from_slice_get}
 use Rattle.ptu_outside.specs.Departure.{Departure}
@@ -31,6 +31,19 @@ next_told line number index next datagrams texts now more d told is next_is more
     ∙ append_assoc now (line_text (sent_line line number d) ∷ []) _
     ∙ ap (λ l. now ++ sent_texts line number l) (sym (drop-at datagrams index d is))
     ∙ told
+
+-- the same by the texts behind so many, of which there is one for each datagram that is told
+abbrev pub AreToldBehind : ℕ → ℕ → ℕ → List Departure → List (List ℕ) → List (List ℕ) → Type 0
+AreToldBehind line number before datagrams texts texts' =
+    (before ≤ length texts') × AreTold line number (length texts' - before) datagrams texts texts'
+
+pub next_told_behind : (line number before : ℕ) (datagrams : List Departure) (texts now more : List (List ℕ)) (d : Departure) →
+    AreToldBehind line number before datagrams texts now → slice_get datagrams (length now - before) ≡ Some d →
+    more ≡ now ++ line_text (sent_line line number d) ∷ [] → AreToldBehind line number before datagrams texts more
+next_told_behind line number before datagrams texts now more d told is more_is =
+    let many : length more ≡ length now + 1 = ap length more_is ∙ length-append now (line_text (sent_line line number d) ∷ []) in
+    (omega (arith, many, told.0),
+    next_told line number (length now - before) (length more - before) datagrams texts now more d told.1 is (omega (arith, many, told.0)) more_is)
 
 -- ---- the ports of a grandmaster, in turn
 

@@ -15,7 +15,6 @@ use ptu_pools::{PoolTaken, Pools};
 use ptu_report::Texts;
 use ptu_shard::Answered;
 use ptu_units::{Moment, OutOfMemory};
-use std::alloc::Global;
 
 // No send of the answer has failed.
 fn is_sent(taken: &Taken) -> bool
@@ -45,7 +44,6 @@ fn reserve_for(pools: &mut Pools<MemPort>, from: u32) -> Result<(), OutOfMemory>
 /// # Errors
 /// `OutOfMemory`, also where room for what is sent was not found.
 pub fn receive(
-    alloc: Global,
     pools: &mut Pools<MemPort>,
     at: Moment,
     from: u32,
@@ -61,9 +59,7 @@ pub fn receive(
     reserve_for(pools, from)?;
     match pools.take(at, from, octets)? {
         PoolTaken::Stranger => texts.add(&PoolLine::Stranger { line }),
-        PoolTaken::In(place, taken) if is_sent(&taken) => {
-            tell_ports(alloc, pools, place, line, texts)
-        }
+        PoolTaken::In(place, taken) if is_sent(&taken) => { tell_ports(pools, place, line, texts) }
         PoolTaken::In(..) => Err(OutOfMemory),
     }
 }
@@ -74,7 +70,6 @@ pub fn receive(
 /// # Errors
 /// `OutOfMemory`, also where room for what is sent was not found.
 pub fn turn(
-    alloc: Global,
     pools: &mut Pools<MemPort>,
     at: Moment,
     place: usize,
@@ -94,5 +89,5 @@ pub fn turn(
     if turned.failed > 0 {
         return Err(OutOfMemory);
     }
-    tell_ports(alloc, pools, place, line, texts)
+    tell_ports(pools, place, line, texts)
 }

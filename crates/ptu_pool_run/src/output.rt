@@ -2,21 +2,22 @@ ghost use Rattle.std.specs.Prelude.{Some};
 ghost use Rattle.ptu_pool_run.specs.Output.{line_text, refusal_text};
 
 use crate::cause::PoolCause;
-use ptu_outside::{Channel, Datagram};
+use ptu_lines::LentOctets;
+use ptu_outside::Channel;
 use ptu_report_lines::ChannelText;
 use ptu_texts::{AddressText, OctetsText};
 use std::fmt;
 
 /// A line of output. Its text has the 0A at its end. Lines of the script are numbered from 1.
 #[derive(Debug, Drop)]
-pub enum PoolLine {
+pub enum PoolLine<'a> {
     /// At this line the grandmaster of the pool with this number, from 1, sent a datagram.
     Sent {
         line: u64,
         pool: usize,
         channel: Channel,
         to: u32,
-        octets: Datagram,
+        octets: LentOctets<'a>,
     },
     /// At this line a datagram came from an address in no pool.
     Stranger {
@@ -46,7 +47,7 @@ impl fmt::Display for RefusalText {
     }
 }
 
-impl fmt::Display for PoolLine {
+impl fmt::Display for PoolLine<'_> {
     ghost output = { λ l. Some (line_text l) };
 
     fn fmt<W: fmt::Write>(&self, f: &mut fmt::Formatter<W>) -> fmt::Result {
@@ -60,7 +61,7 @@ impl fmt::Display for PoolLine {
             } => {
                 let channel = ChannelText(*channel);
                 let to = AddressText(*to);
-                let octets = OctetsText(octets.bytes());
+                let octets = OctetsText(octets.as_slice());
                 writeln!(f, "{line} pool {pool} send {channel} {to} {octets}")
             }
             PoolLine::Stranger { line } => writeln!(f, "{line} stranger"),

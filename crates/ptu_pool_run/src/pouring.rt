@@ -66,11 +66,9 @@ impl Pouring {
             PoolCommand::Grandmaster(setup) => Ok(self.set_up(setup)),
             PoolCommand::Sell(pool) => self.sell(alloc, pool),
             PoolCommand::Receive { at, from, octets } => {
-                self.receive(alloc, at, from, octets.as_slice(), line, texts)
+                self.receive(at, from, octets.as_slice(), line, texts)
             }
-            PoolCommand::Turn { at, pool, table } => {
-                self.turn(alloc, at, pool, table, line, texts)
-            }
+            PoolCommand::Turn { at, pool, table } => self.turn(at, pool, table, line, texts),
         }
     }
 
@@ -122,7 +120,6 @@ impl Pouring {
     // A datagram comes from an address.
     fn receive(
         &mut self,
-        alloc: Global,
         at: Moment,
         from: u32,
         octets: &[u8],
@@ -138,7 +135,7 @@ impl Pouring {
         let Some(pools) = &mut self.pools else {
             return Ok(Some(PoolCause::Order));
         };
-        receive(alloc, pools, at, from, octets, line, texts)?;
+        receive(pools, at, from, octets, line, texts)?;
         self.has_begun = true;
         Ok(None)
     }
@@ -146,7 +143,6 @@ impl Pouring {
     // A table of the pool with this number takes a turn.
     fn turn(
         &mut self,
-        alloc: Global,
         at: Moment,
         pool: usize,
         table: usize,
@@ -166,7 +162,7 @@ impl Pouring {
         if pool > pools.pools().len() {
             return Ok(Some(PoolCause::Number));
         }
-        turn(alloc, pools, at, pool - 1, table, line, texts)?;
+        turn(pools, at, pool - 1, table, line, texts)?;
         self.has_begun = true;
         Ok(None)
     }

@@ -9,12 +9,12 @@ ghost use Rattle.ptu_pools.specs.Ported.{with_port_of};
 ghost use Rattle.ptu_pool_run.specs.Ports.{AreAllIdle, AreOthersSame, GoOn, sent_texts};
 
 use crate::output::PoolLine;
+use ptu_lines::LentOctets;
 use ptu_nodes::{ANNOUNCE, DELAY_RESP, SIGNALING, SIGNALING_PORT};
-use ptu_outside::{Datagram, MemPort};
+use ptu_outside::MemPort;
 use ptu_pools::Pools;
 use ptu_report::Texts;
 use ptu_units::OutOfMemory;
-use std::alloc::Global;
 
 // Makes room in the port of this index for this many datagrams more, and for this many octets in
 // each.
@@ -86,19 +86,13 @@ fn number_of(pools: &Pools<MemPort>, place: usize) -> usize
 
 // Adds the text of each datagram that stands in the port, as one of the pool with this number, and
 // clears the port.
-fn tell(
-    alloc: Global,
-    port: &mut MemPort,
-    pool: usize,
-    line: u64,
-    texts: &mut Texts,
-) -> Result<(), OutOfMemory>
+fn tell(port: &mut MemPort, pool: usize, line: u64, texts: &mut Texts) -> Result<(), OutOfMemory>
     ensures says { OnOk result (texts.new ≡ texts.old ++ sent_texts line pool port.old.sent) }
     ensures cleared { OnOk result (port.new ≡ record port.old { sent = [] }) }
 {
-    let mut index: usize = 0;
-    'datagrams: while let Some((to, channel, octets)) = port.sent(index) {
-        let octets = Datagram::new(octets.to_vec(alloc)?);
+    let before = texts.count();
+    'datagrams: while let Some((to, channel, octets)) = port.sent(texts.count() - before) {
+        let octets = LentOctets::new(octets);
         texts.add(&PoolLine::Sent {
             line,
             pool,
@@ -106,7 +100,6 @@ fn tell(
             to,
             octets,
         })?;
-        index = index.checked_add(1).ok_or(OutOfMemory)?;
     }
     port.clear();
     Ok(())
@@ -114,7 +107,6 @@ fn tell(
 
 // The same of the port of this index of the pool at this place.
 fn tell_port(
-    alloc: Global,
     pools: &mut Pools<MemPort>,
     place: usize,
     index: usize,
@@ -134,7 +126,7 @@ fn tell_port(
         ≡ Some (with_port index (record (port_at index gm) { sent = [] }) gm)) }
 {
     let number = number_of(pools, place);
-    tell(alloc, pools.ports(place, index), number, line, texts)
+    tell(pools.ports(place, index), number, line, texts)
 }
 
 /// Adds the text of each datagram that the pool at this place sent at this line of the script, port
@@ -143,7 +135,6 @@ fn tell_port(
 /// # Errors
 /// `OutOfMemory`.
 pub fn tell_ports(
-    alloc: Global,
     pools: &mut Pools<MemPort>,
     place: usize,
     line: u64,
@@ -157,9 +148,9 @@ pub fn tell_ports(
     ensures idle { OnOk result ((gm : KeptGm MemoryPort) → slice_get pools.new.gms place ≡ Some gm →
         AreIdle gm) }
 {
-    tell_port(alloc, pools, place, 0, line, texts)?;
-    tell_port(alloc, pools, place, 1, line, texts)?;
-    tell_port(alloc, pools, place, 2, line, texts)?;
-    tell_port(alloc, pools, place, 3, line, texts)?;
-    tell_port(alloc, pools, place, SIGNALING_PORT, line, texts)
+    tell_port(pools, place, 0, line, texts)?;
+    tell_port(pools, place, 1, line, texts)?;
+    tell_port(pools, place, 2, line, texts)?;
+    tell_port(pools, place, 3, line, texts)?;
+    tell_port(pools, place, SIGNALING_PORT, line, texts)
 }
