@@ -41,9 +41,10 @@ pub next_told_behind : (line number before : ℕ) (datagrams : List Departure) (
     AreToldBehind line number before datagrams texts now → slice_get datagrams (length now - before) ≡ Some d →
     more ≡ now ++ line_text (sent_line line number d) ∷ [] → AreToldBehind line number before datagrams texts more
 next_told_behind line number before datagrams texts now more d told is more_is =
-    let many : length more ≡ length now + 1 = ap length more_is ∙ length-append now (line_text (sent_line line number d) ∷ []) in
-    (omega (arith, many, told.0),
-    next_told line number (length now - before) (length more - before) datagrams texts now more d told.1 is (omega (arith, many, told.0)) more_is)
+    let many : length more ≡ length now + 1 = ap length more_is ∙ length-append now (line_text (sent_line line number d) ∷ []) in (
+      omega (arith, many, told.0),
+      next_told line number (length now - before) (length more - before) datagrams texts now more d told.1 is (omega (arith, many, told.0)) more_is,
+    )
 
 -- ---- the ports of a grandmaster, in turn
 
