@@ -1,5 +1,5 @@
 -- What an auditor answers that has read a report.
-use Rattle.std.proofs.Common.{◌≡◌, ◌∙◌, ℕ, List, Option, Some, option_map, ap, subst}
+use Rattle.std.proofs.Common.{◌≡◌, ◌∙◌, ℕ, ◌+◌, ◌-◌, ◌^◌, ◌≤◌, List, length, arith, Option, Some, option_map, ap, subst}
 use Rattle.std.specs.Prelude.{IfSome}
 use Rattle.ptu_lines.specs.Script.{script_lines}
 use Rattle.ptu_report.specs.Rules.{meaning_of}
@@ -8,17 +8,20 @@ use Rattle.ptu_audit.specs.declared.auditor.Auditor.{Auditor}
 use Rattle.ptu_audit.specs.Audited.{report_lines}
 use Rattle.ptu_audit.specs.Reading.{Reading, audit_rules, opening}
 use Rattle.ptu_audit.specs.Standing.{StandsFor}
-use Rattle.ptu_audit.specs.Trails.{answer_of}
+use Rattle.ptu_audit.specs.Trails.{answer_of, as_counted}
+use Rattle.ptu_audit.proofs.Counts.{counts_exact}
 use Rattle.ptu_audit.proofs.Promises.{IsRead}
 
-module _ (capacity : ℕ) (input : List ℕ) (read : IsRead (opening capacity) 0 (script_lines input)) (a : Auditor) (answer : Answer)
-    (says : (r : Reading) → StandsFor a r → answer ≡ answer_of r.capacity r.lines)
+module _ (capacity : ℕ) (input : List ℕ) (n : ℕ) (read : IsRead (opening capacity) 0 n (script_lines input)) (a : Auditor) (answer : Answer)
+    (says : (r : Reading) → StandsFor a r → answer ≡ as_counted (answer_of r.capacity r.lines))
     (last : IfSome (meaning_of audit_rules (opening capacity) (script_lines input)) (StandsFor a)) where
-  pub told : answer ≡ answer_of read.last.capacity read.last.lines
+  pub told : answer ≡ as_counted (answer_of read.last.capacity read.last.lines)
   told = says read.last (subst (λ (o : Option Reading). IfSome o (StandsFor a)) read.meaning last)
 
   pub lines_are : report_lines capacity input ≡ Some read.last.lines
   lines_are = ap (option_map (λ (r : Reading). r.lines)) read.meaning
 
-  pub answer_is : answer ≡ answer_of capacity read.last.lines
-  answer_is = told ∙ ap (λ n. answer_of n read.last.lines) read.capacity
+  pub answer_is : n ≤ 2 ^ 64 - 1 → answer ≡ answer_of capacity read.last.lines
+  answer_is few =
+      told ∙ counts_exact read.last.capacity read.last.lines (omega (arith, few, read.few))
+      ∙ ap (λ m. answer_of m read.last.lines) read.capacity

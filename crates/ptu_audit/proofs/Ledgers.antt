@@ -12,7 +12,7 @@ use Rattle.ptu_trail.specs.declared.trail.Trail.{Trail}
 use Rattle.ptu_trail.specs.Trail.{StandsFor as IsTrail}
 use Rattle.ptu_audit.specs.declared.deed.Act.{Act}
 use Rattle.ptu_audit.specs.Standing.{IsKept}
-use Rattle.ptu_audit.specs.Trails.{grants_in, is_by, is_grant, is_message, messages_in, trail_of, trail_with}
+use Rattle.ptu_audit.specs.Trails.{counted, grants_in, is_by, is_grant, is_message, messages_in, trail_of, trail_with}
 
 pub if_none_map : {A P Q : Type 0} (o : Option A) → (o ≡ None → P → Q) → IfNone o P → IfNone o Q
 if_none_map None f p = f refl p
@@ -69,6 +69,11 @@ zero_plus n = omega arith
 pub no_trail : (g : ℕ) → trail_of g [] ≡ []
 unfolding trail_of
 no_trail g = refl
+
+-- a count that stands still at its end, with one more or none
+pub counted_more : (n m : ℕ) (b : Bool) → m ≡ counted n → cond b (counted (m + 1)) m ≡ counted (n + cond b 1 0)
+counted_more n m true is = omega (arith, is)
+counted_more n m false is = omega (arith, is)
 
 pub grants-push : (before : List Act) (act : Act) → grants_in (before ++ act ∷ []) ≡ grants_in before + cond (is_grant act.deed) 1 0
 grants-push before act = sum_by-append (λ (a : Act). cond (is_grant a.deed) 1 0) before (act ∷ []) ∙ ap (λ n. grants_in before + n) (zero_plus (cond (is_grant act.deed) 1 0))

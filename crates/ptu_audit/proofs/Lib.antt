@@ -5,5 +5,6 @@ mod Grouping
 mod Ledgers
 mod Ranges
 mod Promises
+mod Counts
 mod Answering
 mod Exact

@@ -1,5 +1,5 @@
 -- What holds of the trails of a report in which nothing is found.
-use Rattle.std.proofs.Common.{◌≡◌, ◌∙◌, ℕ, ◌+◌, ◌++◌, Bool, true, false, cond, eqb, List, [], ◌∷◌, map, take, Option, Some, None, refl, sym, ap, subst}
+use Rattle.std.proofs.Common.{◌≡◌, ◌∙◌, ℕ, ◌+◌, ◌≤◌, ◌++◌, Bool, true, false, cond, eqb, List, [], ◌∷◌, length, map, take, Option, Some, None, refl, sym, ap, subst, arith, length-append}
 use Rattle.std.specs.Prelude.{IfSome, Ok, filter_map}
 use Rattle.std.specs.List.{AllByRecursion, cons_option, filter, flat_map, fold, list_any}
 use Rattle.std.specs.Option.{unwrap_or}
@@ -35,7 +35,7 @@ use Rattle.ptu_audit.specs.Texts.{answer_text, refusal_text}
 use Rattle.ptu_audit.specs.declared.answer.Answer.{Answer}
 use Rattle.ptu_audit.specs.declared.answer.Answer.TheVariants as answers
 use Rattle.ptu_audit.specs.declared.deed.Finding.{Finding}
-use Rattle.ptu_audit.specs.Trails.{acts_in, answer_by, answer_of, groups_finding, is_by, records_of, trail_of, trail_with}
+use Rattle.ptu_audit.specs.Trails.{acts_in, answer_by, answer_of, as_counted, groups_finding, is_by, records_of, trail_of, trail_with}
 use Rattle.ptu_audit.specs.Reading.{Reading, audit_rules, cause_of_line, end_read, is_disordered, line_read, with_entry}
 use Rattle.ptu_audit.specs.Audited.{AllKeepPromises, IsKept, report_lines}
 use Rattle.ptu_audit.proofs.Exact.{none_from, sound_from}
@@ -219,6 +219,7 @@ record IsTaken (r after : Reading) (texts : List (List ℕ)) : Type 0 where
   quiet : texts ≡ []
   capacity : after.capacity ≡ r.capacity
   lines : AreLines r.lines → AreLines after.lines
+  more : length after.lines ≤ length r.lines + 1
 
 taken : (r : Reading) (number : ℕ) (text : List ℕ) (after : Reading) (texts : List (List ℕ)) (o : Option ReportLine) → line_of text ≡ o → line_read r number o ≡ Goes after texts → IsTaken r after texts
 taken r number text after texts None is e = absurd cc
@@ -235,6 +236,7 @@ taken r number text after texts (Some (report.At script entry)) is e = at (is_di
           capacity = ap (λ (q : Reading). q.capacity) (sym same);
           lines = λ h. subst (λ (q : Reading). AreLines q.lines) same
               (all_append (λ (l : Line). IsSaidInRange l.said) r.lines (record { number = number; script = script; said = said_by entry } ∷ []) h (said_within text script entry is, tt));
+          more = omega (arith, ap (λ (q : Reading). length q.lines) same, length-append r.lines (record { number = number; script = script; said = said_by entry } ∷ []));
         }
 taken r number text after texts (Some (report.End count datagrams)) is e = at r.ended e
   where
@@ -247,34 +249,36 @@ taken r number text after texts (Some (report.End count datagrams)) is e = at r.
           quiet = sym none;
           capacity = ap (λ (q : Reading). q.capacity) (sym same);
           lines = λ h. subst (λ (q : Reading). AreLines q.lines) same h;
+          more = omega (arith, ap (λ (q : Reading). length q.lines) same);
         }
 
--- the lines of a report of which none is refused, and what is written then
-pub record IsRead (r : Reading) (before : ℕ) (lines : List ScriptLine) : Type 0 where
+-- the lines of a report of which none is refused, up to this number, and what is written then
+pub record IsRead (r : Reading) (before n : ℕ) (lines : List ScriptLine) : Type 0 where
   pub last : Reading
   pub meaning : meaning_after audit_rules r before lines ≡ Some last
-  pub texts : texts_until audit_rules (closing audit_rules) r before lines ≡ answer_text (answer_of last.capacity last.lines) ∷ []
+  pub texts : texts_until audit_rules (closing audit_rules) r before lines ≡ answer_text (as_counted (answer_of last.capacity last.lines)) ∷ []
   pub capacity : last.capacity ≡ r.capacity
   pub in_range : AreLines r.lines → AreLines last.lines
+  pub few : length last.lines + before ≤ length r.lines + n
 
 abbrev end_by : Bool → Reading → Outcome Reading AuditCause
-end_by b r = cond b (Goes r (answer_text (answer_of r.capacity r.lines) ∷ [])) (Refuses causes.End)
+end_by b r = cond b (Goes r (answer_text (as_counted (answer_of r.capacity r.lines)) ∷ [])) (Refuses causes.End)
 
 whole_end : (r : Reading) (before n : ℕ) (b : Bool) → end_by b r ≡ end_by b r → ending_at (before + 1) (end_by b r) (λ after. endings.Whole before) ≡ endings.Whole n
-    → (meaning_at (end_by b r) Some ≡ Some r) × (texts_at audit_rules (before + 1) (end_by b r) (λ after. []) ≡ answer_text (answer_of r.capacity r.lines) ∷ [])
-whole_end r before n true is e = (refl, refl)
+    → (meaning_at (end_by b r) Some ≡ Some r) × (texts_at audit_rules (before + 1) (end_by b r) (λ after. []) ≡ answer_text (as_counted (answer_of r.capacity r.lines)) ∷ []) × (before ≡ n)
+whole_end r before n true is e = (refl, refl, (let same : before ≡ n = cc in same))
 whole_end r before n false is e = absurd cc
 
-pub whole_read : (r : Reading) (before n : ℕ) (lines : List ScriptLine) → ending_after audit_rules r before lines ≡ endings.Whole n → IsRead r before lines
+pub whole_read : (r : Reading) (before n : ℕ) (lines : List ScriptLine) → ending_after audit_rules r before lines ≡ endings.Whole n → IsRead r before n lines
 unfolding audit_rules
 whole_read r before n [] e =
     let both = whole_end r before n r.ended refl e in
-    record { last = r; meaning = both.0; texts = both.1; capacity = refl; in_range = λ h. h }
+    record { last = r; meaning = both.0; texts = both.1; capacity = refl; in_range = λ h. h; few = omega (arith, both.2) }
 whole_read r before n (Refused cause ∷ rest) e = absurd cc
 whole_read r before n (Whole text ∷ rest) e = at (line_read r (before + 1) (line_of text)) refl e (λ after f. whole_read after (before + 1) n rest f)
   where
     at : (o : Outcome Reading AuditCause) → line_read r (before + 1) (line_of text) ≡ o → ending_at (before + 1) o (λ after. ending_after audit_rules after (before + 1) rest) ≡ endings.Whole n
-        → ((after : Reading) → ending_after audit_rules after (before + 1) rest ≡ endings.Whole n → IsRead after (before + 1) rest) → IsRead r before (Whole text ∷ rest)
+        → ((after : Reading) → ending_after audit_rules after (before + 1) rest ≡ endings.Whole n → IsRead after (before + 1) n rest) → IsRead r before n (Whole text ∷ rest)
     at (Refuses cause) is f ih = absurd cc
     at (Goes after texts) is f ih =
         let later = ih after f in
@@ -287,6 +291,7 @@ whole_read r before n (Whole text ∷ rest) e = at (line_read r (before + 1) (li
               ∙ ap (λ ts. ts ++ texts_until audit_rules (closing audit_rules) after (before + 1) rest) t.quiet ∙ later.texts;
           capacity = later.capacity ∙ t.capacity;
           in_range = λ h. later.in_range (t.lines h);
+          few = omega (arith, later.few, t.more);
         }
 
 -- a refused line, and what is written then

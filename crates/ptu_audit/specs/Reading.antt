@@ -13,7 +13,7 @@ use Rattle.ptu_audit.specs.declared.answer.AuditCause.TheVariants as causes
 use Rattle.ptu_audit.specs.declared.line.Line.{Line}
 use Rattle.ptu_audit.specs.Lines.{said_by}
 use Rattle.ptu_audit.specs.Texts.{answer_text, refusal_text}
-use Rattle.ptu_audit.specs.Trails.{answer_of}
+use Rattle.ptu_audit.specs.Trails.{answer_of, as_counted}
 
 -- what was read so far: the capacity that each grandmaster begins with, the lines, and whether the `end` line came
 pub record Reading : Type 0 where
@@ -49,7 +49,7 @@ line_read r number (Some (report.End count datagrams)) =
 
 -- what the end does: it wants an `end` line, and then there is an answer
 abbrev pub end_read : Reading → Outcome Reading AuditCause
-end_read r = if r.ended then Goes r (answer_text (answer_of r.capacity r.lines) ∷ []) else Refuses causes.End
+end_read r = if r.ended then Goes r (answer_text (as_counted (answer_of r.capacity r.lines)) ∷ []) else Refuses causes.End
 
 -- a line that is not read: no report has such a line
 abbrev pub cause_of_line : LineCause → AuditCause

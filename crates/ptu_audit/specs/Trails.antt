@@ -1,5 +1,5 @@
 -- The trails of grandmasters, and the first finding of an audit.
-use Rattle.std.specs.Prelude.{ℕ, ◌+◌, ◌==◌, Bool, true, false, List, [], ◌∷◌, ◌++◌, map, Option, Some, None, option_map, flat_map}
+use Rattle.std.specs.Prelude.{ℕ, ◌+◌, ◌-◌, ◌^◌, min, ◌==◌, Bool, true, false, List, [], ◌∷◌, ◌++◌, map, Option, Some, None, option_map, flat_map}
 use Rattle.std.specs.Prelude.{IsSome}
 use Rattle.std.specs.List.{AllByRecursion, count_by, filter, fold}
 use Rattle.std.specs.Option.{unwrap_or}
@@ -105,6 +105,15 @@ answer_by (Some finding) acts = answers.No finding.line finding.cause
 -- the answer to the lines of a report, of grandmasters that begin with this capacity
 abbrev pub answer_of : ℕ → List Line → Answer
 answer_of capacity lines = answer_by (groups_finding capacity [] (groups_of lines)) (acts_in (groups_of lines))
+
+-- a count of 64 bits stands still at its end
+abbrev pub counted : ℕ → ℕ
+counted n = min n (2 ^ 64 - 1)
+
+-- the answer with its counts as far as they go; those of a whole report are exact
+abbrev pub as_counted : Answer → Answer
+as_counted (answers.Yes grants sent) = answers.Yes (counted grants) (counted sent)
+as_counted (answers.No line cause) = answers.No line cause
 
 -- each group is as it must be, and no grandmaster's trail has a fault
 pub record AreSound (capacity : ℕ) (groups : List (List Line)) : Type 0 where

@@ -7,7 +7,7 @@ ghost use Rattle.ptu_audit.specs.declared.deed.Act.{Act};
 ghost use Rattle.ptu_audit.specs.Groups.{acts_of as acts_told};
 ghost use Rattle.ptu_audit.specs.Reading.{Reading, audit_rules, cause_of_line, is_disordered, line_read, opening, with_entry};
 ghost use Rattle.ptu_audit.specs.Standing.{AreKept, HasAdded, HasClosed, StandsFor};
-ghost use Rattle.ptu_audit.specs.Trails.{answer_of, first_line, group_finding};
+ghost use Rattle.ptu_audit.specs.Trails.{answer_of, as_counted, first_line, group_finding};
 ghost use Rattle.ptu_audit_lines.specs.declared.entry.ReportLine.TheVariants as report;
 ghost use Rattle.std.specs.Prelude.{Some, true, false};
 ghost use Rattle.std.specs.Option.{unwrap_or};
@@ -77,7 +77,7 @@ fn first_line(group: &[Line]) -> u64
 {
     match group {
         [] => 0,
-        [first, ..] => first.number,
+        [first, ..] => u64::from(first.number),
     }
 }
 
@@ -153,7 +153,7 @@ impl Auditor {
     // Takes a line of a script's line, or refuses it.
     fn take_entry(
         &mut self,
-        number: u64,
+        number: u32,
         script: u64,
         entry: &Entry<'_>,
     ) -> Result<Option<AuditCause>, OutOfMemory>
@@ -195,7 +195,7 @@ impl Auditor {
     /// `OutOfMemory`.
     pub(crate) fn answer(&mut self) -> Result<Answer, OutOfMemory>
         ensures answer { IfOk result (λ answer. (r : Reading) → StandsFor self.old r →
-            answer ≡ answer_of r.capacity r.lines) }
+            answer ≡ as_counted (answer_of r.capacity r.lines)) }
         ensures stands { OnOk result ((r : Reading) → StandsFor self.old r → r.ended ≡ true →
             StandsFor self.new r) }
     {
@@ -235,7 +235,7 @@ impl Reporter for Auditor {
                     number: script,
                     entry,
                 },
-            ) => self.take_entry(number, script, &entry),
+            ) => self.take_entry(number as u32, script, &entry),
             Some(ReportLine::End { .. }) => Ok(self.take_end()),
         }
     }

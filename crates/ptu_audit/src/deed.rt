@@ -1,6 +1,6 @@
 //! What a report tells that a grandmaster did.
 
-ghost use Rattle.std.specs.Prelude.{◌≡◌};
+ghost use Rattle.std.specs.Prelude.{◌≡◌, ◌<◌, ◌^◌, length};
 
 use ptu_history::Client;
 use ptu_trail::{NoCause, Shedding};
@@ -32,7 +32,8 @@ impl Sheddings {
 
     /// Them.
     pub(crate) fn list(&self) -> &[Shedding]
-        ensures { result.now ≡ self.now }
+        ensures list { result.now ≡ self.now }
+        ensures few { length result.now < 2 ^ 63 }
     {
         &self.members
     }
@@ -73,7 +74,7 @@ pub(crate) enum Deed {
 #[derive(Drop)]
 pub(crate) struct Act {
     /// The number of the line in the report. The lines of a change's sheddings follow it.
-    pub(crate) line: u64,
+    pub(crate) line: u32,
     /// The grandmaster's address.
     pub(crate) grandmaster: u32,
     pub(crate) deed: Deed,

@@ -194,7 +194,7 @@ fn alone(alloc: Global, act: Act) -> Result<Vec<Act>, OutOfMemory>
 // What a group of a change of capacity tells, or nothing where the clients were not told.
 fn changed(
     alloc: Global,
-    number: u64,
+    number: u32,
     grandmaster: u32,
     capacity: u64,
     at: u64,
@@ -226,7 +226,7 @@ fn decides(said: &Said) -> bool
 }
 
 // The timing message that the line with this number tells.
-fn message_at(number: u64, said: &Said) -> Option<Act>
+fn message_at(number: u32, said: &Said) -> Option<Act>
     ensures { result ≡ specs.message_at number said.now }
 {
     match said {

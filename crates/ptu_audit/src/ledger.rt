@@ -1,6 +1,6 @@
 //! The trails of all grandmasters.
 
-ghost use Rattle.std.specs.Prelude.{◌≡◌, ◌++◌, ◌∷◌, [], ℕ, List, None, IfOk, IfNone, OnOk, option_map, ◌+◌, if◌then◌else◌};
+ghost use Rattle.std.specs.Prelude.{◌≡◌, ◌<◌, ◌^◌, ◌++◌, ◌∷◌, [], ℕ, List, None, IfOk, IfNone, IfSome, option_map, ◌+◌, if◌then◌else◌};
 ghost use Rattle.std.specs.BTreeMap.{get};
 ghost use Rattle.std.specs.Ordering.{is_eq, nat_cmp};
 ghost use Rattle.std.specs.Prelude.{false};
@@ -9,7 +9,7 @@ ghost use Rattle.ptu_trail.specs.Faults.{first_fault, or_behind};
 ghost use Rattle.ptu_trail.specs.Trail.{StandsFor as IsTrail};
 ghost use Rattle.ptu_audit.specs.declared.deed.Act.{Act};
 ghost use Rattle.ptu_audit.specs.Standing.{AreKept, IsKept};
-ghost use Rattle.ptu_audit.specs.Trails.{act_finding, acts_finding, finding_of, is_grant, is_message, records_of};
+ghost use Rattle.ptu_audit.specs.Trails.{act_finding, acts_finding, counted, finding_of, is_grant, is_message, records_of};
 
 use crate::deed::{Act, Deed, Finding};
 use ptu_trail::{Fault, NoCause, Trail};
@@ -18,7 +18,7 @@ use std::alloc::Global;
 use std::collections::BTreeMap;
 
 /// The trail of each grandmaster by its address, as long as nothing is found, and how many grants
-/// and timing messages they have. Each begins with the same capacity, in sixteenths of a message
+/// and timing messages they have, up to 2^64 - 1 of each. Each begins with the same capacity, in sixteenths of a message
 /// per second.
 #[derive(Drop)]
 pub(crate) struct Ledger {
@@ -44,6 +44,7 @@ fn put(trail: &mut Trail, deed: &Deed) -> Result<Option<Fault>, OutOfMemory>
     ensures stands { IfOk result (λ fault. IfNone fault ((opening : ℕ) (history : List Record) →
         IsTrail opening trail.old history →
         IsTrail opening trail.new (history ++ records_of history deed.now))) }
+    ensures place { IfOk result (λ fault. IfSome fault (λ f. f.place < 2 ^ 63)) }
 {
     match deed {
         Deed::Granted {
@@ -60,14 +61,14 @@ fn put(trail: &mut Trail, deed: &Deed) -> Result<Option<Fault>, OutOfMemory>
 }
 
 // The finding at the line of the record that has the fault.
-fn finding(line: u64, fault: Fault) -> Result<Finding, OutOfMemory>
-    ensures { IfOk result (λ f. (act : Act) → act.line ≡ line → f ≡ finding_of act fault) }
+fn finding(line: u32, fault: Fault) -> Finding
+    requires { fault.place < 2 ^ 63 }
+    ensures { (act : Act) → act.line ≡ line → result ≡ finding_of act fault }
 {
-    let line = line.checked_add(fault.place as u64).ok_or(OutOfMemory)?;
-    Ok(Finding {
-        line,
+    Finding {
+        line: u64::from(line) + fault.place as u64,
         cause: fault.cause,
-    })
+    }
 }
 
 impl Ledger {
@@ -86,22 +87,19 @@ impl Ledger {
     }
 
     // Counts what was done.
-    fn count(&mut self, deed: &Deed) -> Result<(), OutOfMemory>
-        ensures granted { OnOk result
-            (self.new.granted ≡ self.old.granted + (if is_grant deed.now then 1 else 0)) }
-        ensures sent { OnOk result
-            (self.new.sent ≡ self.old.sent + (if is_message deed.now then 1 else 0)) }
+    fn count(&mut self, deed: &Deed)
+        ensures granted { self.new.granted
+            ≡ (if is_grant deed.now then counted (self.old.granted + 1) else self.old.granted) }
+        ensures sent { self.new.sent
+            ≡ (if is_message deed.now then counted (self.old.sent + 1) else self.old.sent) }
         ensures trails { self.new.trails ≡ self.old.trails }
         ensures capacity { self.new.capacity ≡ self.old.capacity }
     {
         match deed {
-            Deed::Granted { .. } => {
-                self.granted = self.granted.checked_add(1).ok_or(OutOfMemory)?;
-            }
-            Deed::Sent { .. } => self.sent = self.sent.checked_add(1).ok_or(OutOfMemory)?,
+            Deed::Granted { .. } => self.granted = self.granted.saturating_add(1),
+            Deed::Sent { .. } => self.sent = self.sent.saturating_add(1),
             Deed::Ended { .. } | Deed::Changed { .. } => {}
         }
-        Ok(())
     }
 
     // Takes the grandmaster's trail out, or a new one.
@@ -127,11 +125,12 @@ impl Ledger {
         ensures kept { IfOk result (λ fault. IfNone fault ((before : List Act) →
             AreKept self.old before → AreKept self.new (before ++ act.now ∷ []))) }
         ensures capacity { self.new.capacity ≡ self.old.capacity }
+        ensures place { IfOk result (λ fault. IfSome fault (λ f. f.place < 2 ^ 63)) }
     {
         let mut trail = self.take_out(act.grandmaster);
         let fault = put(&mut trail, &act.deed)?;
         self.trails.insert(act.grandmaster, trail)?;
-        self.count(&act.deed)?;
+        self.count(&act.deed);
         Ok(fault)
     }
 
@@ -145,7 +144,7 @@ impl Ledger {
     {
         match self.take(act)? {
             None => Ok(None),
-            Some(fault) => Ok(Some(finding(act.line, fault)?)),
+            Some(fault) => Ok(Some(finding(act.line, fault))),
         }
     }
 

@@ -50,7 +50,7 @@ pub(crate) enum Said {
 #[derive(Drop)]
 pub(crate) struct Line {
     /// Its number in the report, from 1.
-    pub(crate) number: u64,
+    pub(crate) number: u32,
     /// The number of the script's line that it belongs to.
     pub(crate) script: u64,
     pub(crate) said: Said,

@@ -1,4 +1,4 @@
-ghost use Rattle.std.specs.Prelude.{◌≡◌, ◌<◌, ◌^◌, ◌∷◌, [], ◌++◌, ℕ, List, Some, false, true, IfNone, MatchOption, MatchResult, OnOk, IfOk, map};
+ghost use Rattle.std.specs.Prelude.{◌≡◌, ◌<◌, ◌≤◌, ◌^◌, ◌∷◌, [], ◌++◌, ℕ, List, Some, false, true, length, IfNone, IfSome, MatchOption, MatchResult, OnOk, IfOk, map};
 ghost use Rattle.std.specs.BTreeMap.{get};
 ghost use Rattle.std.specs.Ordering.{nat_cmp};
 ghost use Rattle.ptu_history.specs.History.{Record, Ended, Sent, Shed};
@@ -143,6 +143,7 @@ impl Clients {
         ensures known { IfOk result (λ fault. IfNone fault ((history : List Record) →
             AreKnown history self.old → at ≡ book_moment history →
             AreKnown (history ++ map (record_of at) shed.now) self.new)) }
+        ensures place { IfOk result (λ fault. IfSome fault (λ f. f.place ≤ length shed.now)) }
     {
         for (place, one) in shed.iter().enumerate() {
             if let Some(cause) = self.end(at, at, one.client, one.kind)? {

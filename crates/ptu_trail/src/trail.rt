@@ -1,4 +1,4 @@
-ghost use Rattle.std.specs.Prelude.{◌≡◌, ◌<◌, ◌≤◌, ◌+◌, ◌^◌, ◌∷◌, [], ◌++◌, ℕ, List, IfNone, IfOk, MatchOption, map, nat_lt, not, true};
+ghost use Rattle.std.specs.Prelude.{◌≡◌, ◌<◌, ◌≤◌, ◌+◌, ◌^◌, ◌∷◌, [], ◌++◌, ℕ, List, length, IfNone, IfSome, IfOk, MatchOption, map, nat_lt, not, true};
 ghost use Rattle.ptu_units.specs.Log.{rate_of};
 ghost use Rattle.ptu_history.specs.History.{Record, Capacity, Ended, Granted};
 ghost use Rattle.ptu_history.specs.Moments.{book_moment};
@@ -197,6 +197,7 @@ impl Trail {
             StandsFor opening self.old history →
             StandsFor opening self.new
             (history ++ Capacity at capacity ∷ map (record_of at) shed.now))) }
+        ensures place { IfOk result (λ fault. IfSome fault (λ f. f.place ≤ length shed.now)) }
     {
         if let Some(cause) = self.judge_change(at, capacity, shed) {
             return Ok(Some(Fault { place: 0, cause }));

@@ -163,8 +163,14 @@ few_decisions : (g : Grandmaster) (t from : ℕ) (header : Header) (items : List
 few_decisions g t from header items few =
     let c : Client = client_of from header in
     let ds : List Decision = decisions_of (gm.opening g) g.past t c items in
-    omega (arith, few, count_by-le-length is_decided (map gm.decision_said ds), length-map ds gm.decision_said,
-    length-map (placed (gm.opening g) g.past t c items) (λ (p : List Record × Item). decision_of (gm.opening g) p.0 t c p.1), length-placed (gm.opening g) g.past t c items)
+    omega (
+      arith,
+      few,
+      count_by-le-length is_decided (map gm.decision_said ds),
+      length-map ds gm.decision_said,
+      length-map (placed (gm.opening g) g.past t c items) (λ (p : List Record × Item). decision_of (gm.opening g) p.0 t c p.1),
+      length-placed (gm.opening g) g.past t c items,
+    )
 
 not_of_answer : (x : ℕ) (answer : Answer) → is_decided (gm.answer_said x answer) ≡ false
 not_of_answer x events.Answered = refl
