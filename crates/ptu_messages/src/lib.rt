@@ -18,7 +18,7 @@ pub use fault::MessageFault;
 pub use fixed::write_fixed;
 pub use laws::{one_reading, reading_is_spelling, sample_messages, sent_is_read};
 pub use message::{AnnounceBody, Body, Message};
-pub use reading::read_message;
+pub use reading::{read_message, read_message_in};
 pub use signaling::{write_signaling, write_signaling_of};
 pub use tlv_list::TlvList;
 pub use to_tlv::ToTlv;
