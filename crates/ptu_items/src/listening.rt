@@ -1,6 +1,7 @@
 //! Datagrams as a grandmaster hears them.
 
-ghost use Rattle.std.specs.Prelude.{◌≡◌, ◌≢◌, ◌≤◌, ◌<◌, ℕ, length, All, filter_map, IfOk, IfErr, OnErr, Ok, Err};
+ghost use Rattle.std.specs.Prelude.{◌≡◌, ◌≢◌, ◌≤◌, ◌<◌, ◌++◌, ℕ, [], length, All, IfOk, IfErr, OnOk, OnErr, Ok, Err};
+ghost use Rattle.std.specs.List.{cons_option};
 ghost use Rattle.ptu_messages.specs.Message.{SpellsMessage};
 ghost use Rattle.ptu_messages.specs.MessageFault.{IsSignaling};
 ghost use Rattle.ptu_messages.specs.Reading.{message_in};
@@ -30,13 +31,34 @@ fn item(tlv: &Tlv) -> Option<Item>
     }
 }
 
+// Adds the item that the TLV is, if it is one.
+fn add_item(items: &mut Vec<Item>, tlv: &Tlv) -> Result<(), AllocError>
+    ensures { OnOk result (items.new.items
+        ≡ items.old.items ++ cons_option (item_of tlv.now) []) }
+{
+    if let Some(item) = item(tlv) {
+        items.push(item)?;
+    }
+    Ok(())
+}
+
+// Adds the items among the TLVs.
+fn add_items(items: &mut Vec<Item>, tlvs: &[Tlv]) -> Result<(), AllocError>
+    ensures { OnOk result (items.new.items ≡ items.old.items ++ items_among tlvs.now) }
+{
+    for tlv in tlvs {
+        add_item(items, tlv)?;
+    }
+    Ok(())
+}
+
 // The items among the TLVs. They take the room.
 fn gather(alloc: Global, room: &mut Vec<Item>, tlvs: &[Tlv]) -> Result<Vec<Item>, AllocError>
-    ensures { IfOk result (λ items. items.items ≡ filter_map item_of tlvs.now) }
+    ensures { IfOk result (λ items. items.items ≡ items_among tlvs.now) }
 {
     let mut items = replace(room, Vec::new(alloc));
     items.clear();
-    items.extend(tlvs.iter().filter_map(|tlv| item(tlv)))?;
+    add_items(&mut items, tlvs)?;
     Ok(items)
 }
 
