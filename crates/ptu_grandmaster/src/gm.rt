@@ -6,7 +6,9 @@ ghost use Rattle.ptu_admit.specs.Book.{IsCapacity};
 ghost use Rattle.ptu_grandmaster.specs.Gm.{StandsFor, port_at, table_at};
 ghost use Rattle.ptu_grandmaster.specs.Lends.{LendsPort};
 
+use crate::outcome::{Outcome, Outcomes};
 use ptu_admit::Book;
+use ptu_items::HearingRoom;
 use ptu_outside::Port;
 use ptu_shard::{GmConfig, Shard};
 use std::alloc::Global;
@@ -28,6 +30,9 @@ pub struct Gm<P: Port> {
     pub(crate) refused: u64,
     // The sequenceId of the next CANCEL.
     pub(crate) sequence: u16,
+    // Room for the lists of a Signaling, and for what its items come to.
+    pub(crate) hearing: HearingRoom,
+    pub(crate) outcomes: Vec<Outcome>,
 }
 
 impl<P: Port> Model for Gm<P> {
@@ -90,7 +95,16 @@ impl<P: Port> Gm<P> {
             granted: 0,
             refused: 0,
             sequence: 0,
+            hearing: HearingRoom::new(alloc),
+            outcomes: Vec::new(alloc),
         }
+    }
+
+    /// Takes back outcomes that are done with. Their room serves the next Signaling.
+    pub fn give_back(&mut self, outcomes: Outcomes)
+        ensures { self.new ≡ self.old }
+    {
+        self.outcomes = outcomes.into_list();
     }
 
     /// From now on its Announces have this clockClass.

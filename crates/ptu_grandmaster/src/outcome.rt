@@ -44,6 +44,14 @@ impl Outcomes {
     {
         &self.members
     }
+
+    /// The list itself, which may have room for more.
+    pub fn into_list(self) -> Vec<Outcome>
+        ensures { result.items ≡ self }
+    {
+        let Outcomes { members } = self;
+        members
+    }
 }
 
 /// What became of a reply.

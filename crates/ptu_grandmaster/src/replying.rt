@@ -1,11 +1,10 @@
 //! Replies to the items of a Signaling.
 
-ghost use Rattle.std.specs.Prelude.{◌≡◌, ◌↔◌, ◌≤◌, [], All, length, map, take, drop};
+ghost use Rattle.std.specs.Prelude.{◌≡◌, ◌↔◌, ◌≤◌, [], map, take, drop};
 ghost use Rattle.ptu_messages.specs.Sent.{AlwaysSpells};
-ghost use Rattle.ptu_tlvs.specs.Sent.{IsSendable};
 ghost use Rattle.ptu_shard.specs.Messages.{octets_sent};
 ghost use Rattle.ptu_items.specs.Deciding.{answer_to};
-ghost use Rattle.ptu_items.specs.Items.{AreAnswerable, HasCode};
+ghost use Rattle.ptu_items.specs.Items.{AreAnswerable};
 ghost use Rattle.ptu_items.specs.Replies.{reply_to, signaling_of};
 ghost use Rattle.ptu_grandmaster.specs.Outcomes.{answers_seen, decision_seen, item_seen};
 ghost use Rattle.ptu_grandmaster.specs.Taking.{Replies};
@@ -14,47 +13,31 @@ use crate::outcome::{Outcome, Outcomes, Reply};
 use ptu_admit::Verdict;
 use ptu_header::{Header, PortIdentity};
 use ptu_items::write_reply;
+use ptu_messages::ToTlv;
 use ptu_outside::{Channel, Port, hand};
 use ptu_shard::GmConfig;
 use ptu_tlvs::{Ask, Tlv};
 
-/// How many items a Signaling has at most.
-const MOST_ITEMS: usize = 32;
+impl ToTlv for Outcome {
+    ghost tlv = { λ outcome. answer_to (decision_seen outcome) };
 
-// The TLV that answers an item: a grant has R set and the granted duration, a denial R clear and
-// the duration 0.
-fn answer(outcome: &Outcome) -> Tlv
-    ensures value { result ≡ answer_to (decision_seen outcome.now) }
-    ensures sendable { HasCode (item_seen outcome.now) → IsSendable result }
-{
-    match *outcome {
-        Outcome::Verdict(ask, Verdict::Granted(grant)) => Tlv::Grant(
-            Ask {
-                seconds: grant.seconds(),
-                ..ask
-            },
-            true,
-        ),
-        Outcome::Verdict(ask, Verdict::Short(_) | Verdict::Outside(_)) => {
-            Tlv::Grant(Ask { seconds: 0, ..ask }, false)
+    // The TLV that answers an item: a grant has R set and the granted duration, a denial R clear
+    // and the duration 0.
+    fn to_tlv(&self) -> Tlv {
+        match *self {
+            Outcome::Verdict(ask, Verdict::Granted(grant)) => Tlv::Grant(
+                Ask {
+                    seconds: grant.seconds(),
+                    ..ask
+                },
+                true,
+            ),
+            Outcome::Verdict(ask, Verdict::Short(_) | Verdict::Outside(_)) => {
+                Tlv::Grant(Ask { seconds: 0, ..ask }, false)
+            }
+            Outcome::Cancel(code, _) => Tlv::Ack(code),
         }
-        Outcome::Cancel(code, _) => Tlv::Ack(code),
     }
-}
-
-// The answers to the items, in their order, at the front.
-fn answers(outcomes: &[Outcome]) -> [Tlv; 32]
-    requires { AreAnswerable (map item_seen outcomes.now) }
-    ensures value { take (length outcomes.now) result ≡ answers_seen outcomes.now }
-    ensures sendable { All IsSendable (take (length outcomes.now) result) }
-{
-    let mut tlvs = [Tlv::Ack(0); MOST_ITEMS];
-    let mut count = 0;
-    for outcome in outcomes {
-        tlvs[count] = answer(outcome);
-        count += 1;
-    }
-    tlvs
 }
 
 /// Writes the reply with the answers to these outcomes, to this port and with this sequenceId, to
@@ -77,8 +60,7 @@ pub fn reply_of(
     ensures again { AlwaysSpells (take result out.new)
         (signaling_of config.now to.now sequence (answers_seen outcomes.now)) }
 {
-    let tlvs = answers(outcomes.list());
-    write_reply(config, to, sequence, &tlvs[..outcomes.list().len()], out)
+    write_reply(config, to, sequence, outcomes.list(), out)
 }
 
 /// Sends the reply to a Signaling with this header, which came from this IPv4 address.

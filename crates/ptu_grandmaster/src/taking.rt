@@ -18,9 +18,10 @@ use crate::outcome::{Outcomes, Reply, Taken};
 use crate::replying::send_reply;
 use ptu_header::Header;
 use ptu_history::Client;
-use ptu_items::{Heard, Item, hear};
+use ptu_items::{Heard, Item, hear_in};
 use ptu_outside::Port;
 use ptu_units::{Moment, OutOfMemory};
+use std::mem::replace;
 
 // The client of a message with this header, which came from this IPv4 address.
 fn client(from: u32, header: &Header) -> Client
@@ -49,7 +50,9 @@ impl<P: Port> Gm<P> {
             AllCome t client.now items.now self.old self.new (decisions_seen outcomes)) }
         ensures keeps { HasKeptPorts self.old self.new }
     {
-        let outcomes = Vec::with_capacity(self.alloc, items.len())?;
+        let mut outcomes = replace(&mut self.outcomes, Vec::new(self.alloc));
+        outcomes.clear();
+        outcomes.reserve(items.len())?;
         self.reserve(client, items.len())?;
         Ok(self.decide_items(t, client, items, outcomes))
     }
@@ -101,7 +104,7 @@ impl<P: Port> Gm<P> {
         ensures still { OnErr result ((opening : ℕ) (history : List Record) →
             StandsFor opening self.old history → StandsFor opening self.new history) }
     {
-        match hear(self.alloc, &self.config, bytes)? {
+        match hear_in(self.alloc, &mut self.hearing, &self.config, bytes)? {
             Err(reason) => Ok(Taken::Ignored(reason)),
             Ok(Heard::DelayReq(header)) => {
                 let answered = self.answer_delay(t, &client(from, &header), &header);
@@ -109,6 +112,7 @@ impl<P: Port> Gm<P> {
             }
             Ok(Heard::Asks(header, items)) => {
                 let outcomes = self.decide_asks(t, &client(from, &header), items.list())?;
+                self.hearing.keep(items);
                 let reply = send_reply(&mut self.reply, &self.config, from, &header, &outcomes);
                 Ok(Taken::Asked(outcomes, reply))
             }

@@ -1,3 +1,4 @@
 pub mod Octets
 pub mod Hearing
 pub mod Placing
+pub mod Gathering

@@ -41,4 +41,11 @@ impl Items {
     {
         &self.members
     }
+    /// The list itself, which may have room for more.
+    pub fn into_list(self) -> Vec<Item>
+        ensures { result.items ≡ self }
+    {
+        let Items { members } = self;
+        members
+    }
 }

@@ -8,12 +8,14 @@ pub mod laws;
 mod listening;
 mod reason;
 mod replying;
+mod room;
 
 pub use heard::Heard;
 pub use item::{Item, Items};
-pub use listening::{asks_of, hear};
+pub use listening::{asks_of, hear, hear_in};
 pub use reason::GmReason;
 pub use replying::{cancel_of, write_reply};
+pub use room::HearingRoom;
 
 #[cfg(test)]
 mod tests;

@@ -1,6 +1,6 @@
 //! The Signaling messages of a grandmaster (IEEE 1588-2019 clauses 13.12 and 16.1).
 
-ghost use Rattle.std.specs.Prelude.{◌≡◌, ◌≤◌, [], ◌∷◌, length, take, drop, All, pos};
+ghost use Rattle.std.specs.Prelude.{◌≡◌, ◌≤◌, [], ◌∷◌, length, map, take, drop, All, pos};
 ghost use Rattle.ptu_tlvs.specs.Sent.{IsSendable};
 ghost use Rattle.ptu_messages.specs.Sent.{AlwaysSpells};
 ghost use Rattle.ptu_shard.specs.Messages.{header_of, octets_sent};
@@ -9,7 +9,7 @@ ghost use Rattle.ptu_items.specs.Replies.{identity_of, signaling_of};
 
 use ptu_header::{Header, PortIdentity};
 use ptu_history::Client;
-use ptu_messages::write_signaling;
+use ptu_messages::{ToTlv, write_signaling_of};
 use ptu_shard::GmConfig;
 use ptu_tlvs::Tlv;
 use ptu_units::Kind;
@@ -38,25 +38,25 @@ fn header(config: &GmConfig, sequence: u16) -> Header
 /// Writes the reply with these answers, to this port and with this sequenceId, to the front of
 /// `out`. It answers the size in octets and leaves the rest of `out` (IEEE 1588-2019 clause
 /// 16.1.4).
-pub fn write_reply(
+pub fn write_reply<T: ToTlv>(
     config: &GmConfig,
     to: &PortIdentity,
     sequence: u16,
-    answers: &[Tlv],
+    answers: &[T],
     out: &mut [u8; 428],
 ) -> usize
     requires few { length answers.now ≤ 32 }
-    requires sendable { All IsSendable answers.now }
+    requires sendable { All IsSendable (map T.tlv answers.now) }
 
     ensures octets { take result out.new
-        ≡ octets_sent (signaling_of config.now to.now sequence answers.now) }
+        ≡ octets_sent (signaling_of config.now to.now sequence (map T.tlv answers.now)) }
     ensures within { result ≤ 428 }
     ensures rest { drop result out.new ≡ drop result out.old }
     // Whatever follows, it is read as this message.
     ensures again { AlwaysSpells (take result out.new)
-        (signaling_of config.now to.now sequence answers.now) }
+        (signaling_of config.now to.now sequence (map T.tlv answers.now)) }
 {
-    write_signaling(&header(config, sequence), to, answers, out)
+    write_signaling_of(&header(config, sequence), to, answers, out)
 }
 
 /// Writes the CANCEL to a client whose grant of the kind was shed, with this sequenceId, to the

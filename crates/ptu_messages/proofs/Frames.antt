@@ -1,14 +1,14 @@
 -- What stands in the octets while a Signaling is written.
-use Rattle.std.proofs.Common.{◌≡◌, ℕ, ◌+◌, ◌*◌, ◌<◌, ◌≤◌, List, [], ◌∷◌, ◌++◌, length, get_or, take, drop, refl, sym, ap, subst, ◌∙◌, arith, append_assoc, length-append}
-use Rattle.std.specs.List.{flat_map}
-use Rattle.std.proofs.lemmas.List.{append-nil, take_at, drop_at, length-take-le, drop-drop, length-drop, take-append-drop, take_all, take_more}
+use Rattle.std.proofs.Common.{◌≡◌, ℕ, ◌+◌, ◌*◌, ◌<◌, ◌≤◌, List, [], ◌∷◌, ◌++◌, length, get_or, map, take, drop, refl, sym, ap, subst, ◌∙◌, arith, append_assoc, length-append}
+use Rattle.std.specs.List.{All, flat_map}
+use Rattle.std.proofs.lemmas.List.{append-nil, take_at, drop_at, get_or-map, length-map, length-take-le, drop-drop, length-drop, take-append-drop, take_all, take_more}
 use Rattle.ptu_header.specs.declared.header.Header.{Header}
 use Rattle.ptu_header.specs.declared.header.PortIdentity.{PortIdentity}
 use Rattle.ptu_header.specs.Header.{AlwaysSpellsHeader, HasIdentityWidths}
 use Rattle.ptu_header.specs.Sent.{sent_header, sent_identity}
 use Rattle.ptu_tlvs.specs.declared.tlv.Tlv.{Tlv}
 use Rattle.ptu_tlvs.specs.Tlv.{AlwaysBeginsWithTlv}
-use Rattle.ptu_tlvs.specs.Sent.{sent_tlv}
+use Rattle.ptu_tlvs.specs.Sent.{IsSendable, sent_tlv}
 use Rattle.ptu_messages.specs.Tlvs.{AreSpelled}
 use Rattle.ptu_messages.specs.declared.message.Message.{Message}
 use Rattle.ptu_messages.specs.Sent.{AlwaysSpells, sent_body, sent_message, signaling}
@@ -63,15 +63,31 @@ IsPut-next old out new size i count xs d more begins room lt p count-is more-is 
     let whole : take i xs ++ get_or xs i d ∷ [] ≡ take (i + 1) xs = sym (take_more xs i d lt) in
     subst (λ (k : ℕ). IsPut old new k (i + 1) (take (i + 1) xs)) many (subst (λ (ts : List Tlv). IsPut old new (size + length more) (i + 1) ts) whole next)
 
+-- likewise, of values that are sent as TLVs
+pub IsPut-value : {X : Type 0} (tlv_of : X → Tlv) (old out new : List ℕ) (size i count : ℕ) (xs : List X) (x : X) (tlv : Tlv) (more : List ℕ) → tlv ≡ tlv_of (get_or xs i x) → AlwaysBeginsWithTlv more tlv → 44 ≤ length old → i < length xs
+    → IsPut old out size i (take i (map tlv_of xs)) → count ≡ length (sent_tlv tlv) → more ≡ sent_tlv tlv → length more ≤ 12
+    → new ≡ take size out ++ more ++ drop (size + length more) out → IsPut old new (size + count) (i + 1) (take (i + 1) (map tlv_of xs))
+IsPut-value tlv_of old out new size i count xs x tlv more is begins room lt p count-is more-is few new-is =
+    let same : tlv ≡ get_or (map tlv_of xs) i (tlv_of x) = is ∙ sym (get_or-map tlv_of xs i x (tlv_of x) lt) in
+    let inside : i < length (map tlv_of xs) = omega (arith, lt, length-map xs tlv_of) in
+    IsPut-next old out new size i count (map tlv_of xs) (tlv_of x) more (subst (AlwaysBeginsWithTlv more) same begins) room inside p
+    (count-is ∙ ap (λ t. length (sent_tlv t)) same) (more-is ∙ ap sent_tlv same) few new-is
+
+-- such a value can be sent, where all can
+pub value_sendable : {X : Type 0} (tlv_of : X → Tlv) (xs : List X) (i : ℕ) (x : X) (tlv : Tlv) → tlv ≡ tlv_of (get_or xs i x) → i < length xs → All IsSendable (map tlv_of xs) → IsSendable tlv
+value_sendable tlv_of xs i x tlv is lt all = subst IsSendable (get_or-map tlv_of xs i x (tlv_of x) lt ∙ sym is) (all i (tlv_of x) (omega (arith, lt, length-map xs tlv_of)))
+
 pub IsPut-length : (old out : List ℕ) (size count : ℕ) (tlvs : List Tlv) → 44 ≤ length old → size ≤ length old → IsPut old out size count tlvs → length out ≡ length old
 IsPut-length old out size count tlvs room le p =
     let values : List ℕ = flat_map sent_tlv tlvs in
     omega (arith, ap length p.octets, p.size_is, length-append (take 44 old ++ values) (drop size old), length-append (take 44 old) values, length-take-le 44 old room, length-drop size old)
 
-pub IsPut-all : (old out : List ℕ) (size i : ℕ) (xs : List Tlv) → length xs ≤ i → i ≤ length xs → IsPut old out size i (take i xs) → IsPut old out size (length xs) xs
-IsPut-all old out size i xs le ge p =
+pub IsPut-all : {X : Type 0} (tlv_of : X → Tlv) (old out : List ℕ) (size i : ℕ) (xs : List X) → length xs ≤ i → i ≤ length xs → IsPut old out size i (take i (map tlv_of xs))
+    → IsPut old out size (length xs) (map tlv_of xs)
+IsPut-all tlv_of old out size i xs le ge p =
     let count : i ≡ length xs = omega arith in
-    subst (λ (k : ℕ). IsPut old out size k xs) count (subst (λ (ts : List Tlv). IsPut old out size i ts) (take_all i xs le) p)
+    let whole : length (map tlv_of xs) ≤ i = omega (arith, length-map xs tlv_of) in
+    subst (λ (k : ℕ). IsPut old out size k (map tlv_of xs)) count (subst (λ (ts : List Tlv). IsPut old out size i ts) (take_all i (map tlv_of xs) whole) p)
 
 -- ---- the header and the target are put before them
 

@@ -12,14 +12,16 @@ mod reading;
 mod signaling;
 mod stamps;
 mod tlv_list;
+mod to_tlv;
 
 pub use fault::MessageFault;
 pub use fixed::write_fixed;
 pub use laws::{one_reading, reading_is_spelling, sample_messages, sent_is_read};
 pub use message::{AnnounceBody, Body, Message};
-pub use reading::read_message;
-pub use signaling::write_signaling;
+pub use reading::{read_message, read_message_in};
+pub use signaling::{write_signaling, write_signaling_of};
 pub use tlv_list::TlvList;
+pub use to_tlv::ToTlv;
 
 #[cfg(test)]
 mod tests;

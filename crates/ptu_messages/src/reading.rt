@@ -14,6 +14,7 @@ use crate::tlv_list::TlvList;
 use ptu_header::{PortIdentity, read_header};
 use ptu_tlvs::{Tlv, next_tlv};
 use std::alloc::Global;
+use std::mem::replace;
 
 /// How many TLVs a Signaling is read with at most.
 const MOST_TLVS: usize = 32;
@@ -30,15 +31,16 @@ fn least(message_type: u8) -> usize
     }
 }
 
-// The TLVs from octet 44 to `end`.
-fn read_tlvs(alloc: Global, bytes: &[u8], end: usize) -> Result<Vec<Tlv>, MessageFault>
+// The TLVs from octet 44 to `end`, in this room.
+fn read_tlvs(mut tlvs: Vec<Tlv>, bytes: &[u8], end: usize) -> Result<Vec<Tlv>, MessageFault>
     requires behind { 44 ≤ end }
     requires within { end ≤ length bytes.now }
     ensures { Gives (λ tlvs. tlvs.items) result (tlvs_in 32 44 (slice_range bytes.now 44 end)) }
 {
-    let Ok(mut tlvs) = Vec::with_capacity(alloc, MOST_TLVS) else {
+    tlvs.clear();
+    if tlvs.reserve(MOST_TLVS).is_err() {
         return Err(MessageFault::OutOfMemory);
-    };
+    }
     let mut at = 44;
     while at < end {
         if tlvs.len() == MOST_TLVS {
@@ -56,10 +58,11 @@ fn read_tlvs(alloc: Global, bytes: &[u8], end: usize) -> Result<Vec<Tlv>, Messag
     Ok(tlvs)
 }
 
-// The body behind the header of a message of `said` octets.
+// The body behind the header of a message of `said` octets. The TLVs of a Signaling take the room.
 #[tactic(auto, unfolding(crate::specs::Reading::body_in))]
 fn read_body(
     alloc: Global,
+    room: &mut Vec<Tlv>,
     bytes: &[u8],
     said: usize,
     message_type: u8,
@@ -76,7 +79,7 @@ fn read_body(
         9 => Ok(Body::DelayResp(stamp(bytes, 34), PortIdentity::at(bytes, 44))),
         11 => Ok(Body::Announce(announce(bytes))),
         12 => {
-            let tlvs = read_tlvs(alloc, bytes, said)?;
+            let tlvs = read_tlvs(replace(room, Vec::new(alloc)), bytes, said)?;
             Ok(Body::Signaling(PortIdentity::at(bytes, 34), TlvList::new(tlvs)))
         }
         _ => Ok(Body::Ignored),
@@ -84,7 +87,7 @@ fn read_body(
 }
 
 // The message, or its first fault.
-fn read(alloc: Global, bytes: &[u8]) -> Result<Message, MessageFault>
+fn read(alloc: Global, room: &mut Vec<Tlv>, bytes: &[u8]) -> Result<Message, MessageFault>
     ensures value { Gives (λ message. message) result (message_in bytes.now) }
     ensures memory { result ≡ Err MessageFault.OutOfMemory → (n : ℕ) × IsSignaling bytes.now n }
 {
@@ -97,7 +100,7 @@ fn read(alloc: Global, bytes: &[u8]) -> Result<Message, MessageFault>
     if said < need {
         return Err(MessageFault::Body { said, need });
     }
-    let body = read_body(alloc, bytes, said, header.message_type)?;
+    let body = read_body(alloc, room, bytes, said, header.message_type)?;
     Ok(Message { header, body })
 }
 
@@ -125,5 +128,20 @@ pub fn read_message(alloc: Global, bytes: &[u8]) -> Result<Message, MessageFault
     // It is what the reading of the octets finds.
     ensures value { (result ≡ message_in bytes.now) ⊎ (result ≡ Err MessageFault.OutOfMemory) }
 {
-    read(alloc, bytes)
+    read(alloc, &mut Vec::new(alloc), bytes)
+}
+
+/// As `read_message`; the TLVs of a Signaling take this room.
+///
+/// # Errors
+/// `OutOfMemory` comes for the list of TLVs alone; all else says what is wrong with the octets.
+pub fn read_message_in(
+    alloc: Global,
+    room: &mut Vec<Tlv>,
+    bytes: &[u8],
+) -> Result<Message, MessageFault>
+    ensures value { (result ≡ message_in bytes.now) ⊎ (result ≡ Err MessageFault.OutOfMemory) }
+    ensures memory { result ≡ Err MessageFault.OutOfMemory → (n : ℕ) × IsSignaling bytes.now n }
+{
+    read(alloc, room, bytes)
 }

@@ -1,30 +1,61 @@
-ghost use Rattle.std.specs.Prelude.{◌≡◌, ◌+◌, ◌*◌, ◌≤◌, ◌++◌, length, take, drop, All};
+ghost use Rattle.std.specs.Prelude.{◌≡◌, ◌+◌, ◌*◌, ◌≤◌, ◌++◌, length, map, take, drop, All};
 ghost use Rattle.std.specs.List.{flat_map};
 ghost use Rattle.ptu_tlvs.specs.Sent.{IsSendable, sent_tlv};
 ghost use Rattle.ptu_messages.specs.Tlvs.{AreSpelled};
 ghost use Rattle.ptu_messages.specs.Sent.{sent_message, signaling, AlwaysSpells};
 
 use crate::putting::put;
+use crate::to_tlv::ToTlv;
 use ptu_header::{Header, PortIdentity, write_header};
 use ptu_tlvs::{Tlv, write_tlv};
 
 // Puts the TLVs at octet 44 and behind, and says where they end.
-fn put_tlvs(out: &mut [u8; 428], tlvs: &[Tlv]) -> usize
-    requires few { length tlvs.now ≤ 32 }
-    requires sendable { All IsSendable tlvs.now }
-    ensures size { result ≡ 44 + length (flat_map sent_tlv tlvs.now) }
-    ensures within { result ≤ 44 + 12 * length tlvs.now }
+fn put_tlvs<T: ToTlv>(out: &mut [u8; 428], members: &[T]) -> usize
+    requires few { length members.now ≤ 32 }
+    requires sendable { All IsSendable (map T.tlv members.now) }
+    ensures size { result ≡ 44 + length (flat_map sent_tlv (map T.tlv members.now)) }
+    ensures within { result ≤ 44 + 12 * length members.now }
     ensures octets { out.new
-        ≡ take 44 out.old ++ flat_map sent_tlv tlvs.now ++ drop result out.old }
-    ensures spelled { AreSpelled (flat_map sent_tlv tlvs.now) tlvs.now }
+        ≡ take 44 out.old ++ flat_map sent_tlv (map T.tlv members.now) ++ drop result out.old }
+    ensures spelled { AreSpelled (flat_map sent_tlv (map T.tlv members.now))
+        (map T.tlv members.now) }
 {
     let mut size = 44;
-    for tlv in tlvs {
+    for member in members {
         let mut octets = [0; 12];
-        let count = write_tlv(tlv, &mut octets);
+        let count = write_tlv(&member.to_tlv(), &mut octets);
         put(out, size, &octets[..count]);
         size += count;
     }
+    size
+}
+
+/// Writes a Signaling with the TLVs of these values to the front of `out`, and answers its size in
+/// octets: 44 and those of its TLVs. It leaves the rest of `out` (IEEE 1588-2019 clause 13.12).
+pub fn write_signaling_of<T: ToTlv>(
+    header: &Header,
+    target: &PortIdentity,
+    members: &[T],
+    out: &mut [u8; 428],
+) -> usize
+    requires message_type { header.now.message_type ≡ 12 }
+    requires few { length members.now ≤ 32 }
+    requires sendable { All IsSendable (map T.tlv members.now) }
+
+    ensures size { result
+        ≡ length (sent_message (signaling header.now target.now (map T.tlv members.now))) }
+    ensures octets { take result out.new
+        ≡ sent_message (signaling header.now target.now (map T.tlv members.now)) }
+    ensures rest { drop result out.new ≡ drop result out.old }
+    // Whatever follows, it is read as this message.
+    ensures again { AlwaysSpells (take result out.new)
+        (signaling header.now target.now (map T.tlv members.now)) }
+{
+    let size = put_tlvs(out, members);
+    let mut front = [0; 34];
+    write_header(header, size as u16, &mut front);
+    put(out, 0, &front);
+    put(out, 34, &target.octets());
     size
 }
 
@@ -46,10 +77,5 @@ pub fn write_signaling(
     // Whatever follows, it is read as this message.
     ensures again { AlwaysSpells (take result out.new) (signaling header.now target.now tlvs.now) }
 {
-    let size = put_tlvs(out, tlvs);
-    let mut front = [0; 34];
-    write_header(header, size as u16, &mut front);
-    put(out, 0, &front);
-    put(out, 34, &target.octets());
-    size
+    write_signaling_of(header, target, tlvs, out)
 }

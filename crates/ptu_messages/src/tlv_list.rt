@@ -32,4 +32,11 @@ impl TlvList {
     {
         &self.members
     }
+    /// The list itself, which may have room for more.
+    pub fn into_list(self) -> Vec<Tlv>
+        ensures { result.items ≡ self }
+    {
+        let TlvList { members } = self;
+        members
+    }
 }

@@ -16,9 +16,9 @@ pub returns-in-Ok-clause-memory : goal.returns-in-Ok-clause-memory
 returns-in-Ok-clause-memory c =
     items_memory c.args.bytes.now c.in-Ok.message c.items_of.result (sym c.in_ok-message.ensures.value ∙ c.in-Ok.is) c.items_of.ensures.memory
 
-pub returns-in-Err-clause-items : goal.returns-in-Err-clause-items
-returns-in-Err-clause-items c =
+pub returns-clause-items : goal.returns-clause-items
+returns-clause-items c =
     sym (items_in-fault c.args.config.now c.args.bytes.now c.in-Err.fault (sym c.in_ok-message.ensures.value ∙ c.in-Err.is))
 
-pub returns-in-Err-clause-no_memory : goal.returns-in-Err-clause-no_memory
-returns-in-Err-clause-no_memory c = no_memory c.args.bytes.now c.in-Err.fault (sym c.in_ok-message.ensures.value ∙ c.in-Err.is)
+pub returns-clause-no_memory : goal.returns-clause-no_memory
+returns-clause-no_memory c = no_memory c.args.bytes.now c.in-Err.fault (sym c.in_ok-message.ensures.value ∙ c.in-Err.is)

@@ -9,4 +9,4 @@ returns-in_err-tlvs-in-12-clause-value c =
 
 pub returns-in_ok-tlvs-in-12-clause-value : goal.returns-in_ok-tlvs-in-12-clause-value
 returns-in_ok-tlvs-in-12-clause-value c =
-    rw c.new.ensures (some_tlvs c.args.bytes.now c.args.said c.args.message_type c.at-in-12.result c.in_ok-tlvs-in-12.tlvs.items c.in-12.is c.at-in-12.ensures c.in_ok-tlvs-in-12.ensures)
+    rw c.new-in-12.ensures (some_tlvs c.args.bytes.now c.args.said c.args.message_type c.at-in-12.result c.in_ok-tlvs-in-12.tlvs.items c.in-12.is c.at-in-12.ensures c.in_ok-tlvs-in-12.ensures)

@@ -5,7 +5,6 @@ use Rattle.ptu_history.specs.Events as events
 use Rattle.ptu_history.specs.History.{Record}
 use Rattle.ptu_items.specs.declared.item.Item.{Item}
 use Rattle.ptu_items.specs.Deciding.{client_of, events_of_items, opened_with}
-use Rattle.ptu_items.specs.Items.{heard_in}
 use Rattle.ptu_grandmaster.specs.Gm.{KeptGm, StandsFor}
 use Rattle.ptu_grandmaster.proofs.Heard.{asked_is, heard_ok, history_after-none, history_after-one, on_err}
 use Rattle.ptu_grandmaster.proofs.gm.Gm.take.Goals as goal
@@ -22,21 +21,19 @@ returns-in-Err-clause-stands g c =
 
 pub returns-in-Ok-DelayReq-clause-stands : goal.returns-in-Ok-DelayReq-clause-stands
 returns-in-Ok-DelayReq-clause-stands g c =
-    let heard = ap (λ (gm : KeptGm g.row.P.Denot). heard_in gm.config c.args.bytes.now) (sym c.self.view_is) ∙ sym c.in_ok-reason.ensures.heard ∙ c.in-Ok-DelayReq.is ∙ ap heard_ok c.in-Ok-DelayReq.field-0-is in
-    let old = c.args.self.now in
+    let heard = sym c.in_ok-reason.ensures.heard ∙ c.in-Ok-DelayReq.is ∙ ap heard_ok c.in-Ok-DelayReq.field-0-is in
     let new = c.answer_delay-answered.new.self in
-    rw heard (λ opening history s.
-    let opened = opened_with opening old.config in
+    rw (← c.self.view_is, heard) (λ opening history s.
+    let opened = opened_with opening c.self.inside.config in
     let Stands : Client → Type 0 = λ cl. StandsFor opening new (history ++ (core_step opened history c.args.t (events.DelayReq cl)).records) in
     rw (history_after-one opened history c.args.t (events.DelayReq (client_of c.args.from c.in-Ok-DelayReq.header)))
     (subst Stands c.client.ensures (c.answer_delay-answered.ensures.stands opening history s)))
 
 pub returns-in_ok-outcomes-in-Ok-Asks-clause-stands : goal.returns-in_ok-outcomes-in-Ok-Asks-clause-stands
 returns-in_ok-outcomes-in-Ok-Asks-clause-stands g c =
-    let heard = ap (λ (gm : KeptGm g.row.P.Denot). heard_in gm.config c.args.bytes.now) (sym c.self.view_is) ∙ sym c.in_ok-reason.ensures.heard ∙ c.in-Ok-Asks.is ∙ ap heard_ok c.in-Ok-Asks.field-0-is in
-    let old = c.args.self.now in
-    rw heard (λ opening history s.
-    let opened = opened_with opening old.config in
+    let heard = sym c.in_ok-reason.ensures.heard ∙ c.in-Ok-Asks.is ∙ ap heard_ok c.in-Ok-Asks.field-0-is in
+    rw (← c.self.view_is, heard) (λ opening history s.
+    let opened = opened_with opening c.self.inside.config in
     let n0 = (c.in_ok-outcomes-in-Ok-Asks.ensures.decided opening history s).1 in
     let OfClient : Client → Type 0 = λ cl. StandsFor opening c.decide_asks.new.self (history_after opened history (events_of_items c.args.t cl c.list.result.now)) in
     let n1 = subst OfClient c.client-in-Ok-Asks.ensures n0 in

@@ -1,0 +1,34 @@
+use crate::item::{Item, Items};
+use ptu_messages::{Body, Message};
+use ptu_tlvs::Tlv;
+use std::alloc::Global;
+
+/// Room for the lists of one Signaling, which is kept for those of the next. A clause says nothing
+/// of it.
+#[derive(Drop)]
+pub struct HearingRoom {
+    pub(crate) tlvs: Vec<Tlv>,
+    pub(crate) items: Vec<Item>,
+}
+
+impl HearingRoom {
+    /// No room yet.
+    pub fn new(alloc: Global) -> HearingRoom {
+        HearingRoom {
+            tlvs: Vec::new(alloc),
+            items: Vec::new(alloc),
+        }
+    }
+
+    /// Takes back the room of items that are done with.
+    pub fn keep(&mut self, items: Items) {
+        self.items = items.into_list();
+    }
+
+    // Takes back the room of the TLVs of a message that is done with.
+    pub(crate) fn keep_tlvs(&mut self, message: Message) {
+        if let Body::Signaling(_, tlvs) = message.body {
+            self.tlvs = tlvs.into_list();
+        }
+    }
+}

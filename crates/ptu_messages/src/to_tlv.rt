@@ -1,0 +1,22 @@
+ghost use Rattle.std.specs.Prelude.{◌≡◌};
+ghost use Rattle.ptu_tlvs.specs.declared.tlv.Tlv as declared;
+
+use ptu_tlvs::Tlv;
+
+/// A value that is sent as a TLV.
+pub trait ToTlv {
+    /// The TLV.
+    ghost tlv: { Self → declared.Tlv };
+
+    /// The TLV that it is sent as.
+    fn to_tlv(&self) -> Tlv
+        ensures { result ≡ tlv self.now };
+}
+
+impl ToTlv for Tlv {
+    ghost tlv = { λ tlv. tlv };
+
+    fn to_tlv(&self) -> Tlv {
+        *self
+    }
+}
