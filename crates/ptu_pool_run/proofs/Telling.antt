@@ -1,5 +1,5 @@
 -- The datagrams of ports are told one after the other.
-use Rattle.std.proofs.Common.{◌≡◌, ◌∙◌, ℕ, suc, ◌+◌, ◌<◌, List, [], ◌∷◌, ◌++◌, length, drop, slice_get, Some, refl, sym, ap, subst, append_assoc, add-one, drop-cons}
+use Rattle.std.proofs.Common.{◌≡◌, ◌∙◌, ℕ, suc, ◌+◌, ◌-◌, ◌<◌, ◌≤◌, List, [], ◌∷◌, ◌++◌, length, drop, slice_get, Some, refl, sym, ap, subst, append_assoc, add-one, arith, drop-cons, length-append}
 use Rattle.std.proofs.lemmas.List.{map-append}
 use Rattle.std.proofs.lemmas.Option.{slice_get_within, get_or_from_slice_get}
 use Rattle.ptu_outside.specs.Departure.{Departure}
@@ -17,20 +17,33 @@ drop-at xs i x is =
     let within : i < length xs = slice_get_within xs i x is in
     rw (add-one, drop-cons xs i x) (ap (λ y. y ∷ drop (suc i) xs) (get_or_from_slice_get xs i x x is))
 
--- of these datagrams those below the index are told: the texts, followed by those of the rest, are all
-abbrev pub AreTold : ℕ → ℕ → ℕ → List Departure → List (List ℕ) → List (List ℕ) → Type 0
-AreTold line number index datagrams texts texts' =
-    texts' ++ sent_texts line number (drop index datagrams) ≡ texts ++ sent_texts line number datagrams
+-- of these datagrams as many are told as there are texts behind so many: the texts, followed by those of the rest, are all
+pub record AreTold (line number before : ℕ) (datagrams : List Departure) (texts now : List (List ℕ)) : Type 0 where
+  pub longer : before ≤ length now
+  pub rest : now ++ sent_texts line number (drop (length now - before) datagrams) ≡ texts ++ sent_texts line number datagrams
 
-pub next_told : (line number index next : ℕ) (datagrams : List Departure) (texts now more : List (List ℕ)) (d : Departure) →
-    AreTold line number index datagrams texts now → slice_get datagrams index ≡ Some d → next ≡ index + 1 →
-    more ≡ now ++ line_text (sent_line line number d) ∷ [] → AreTold line number next datagrams texts more
-next_told line number index next datagrams texts now more d told is next_is more_is =
-    ap (λ n. more ++ sent_texts line number (drop n datagrams)) next_is
-    ∙ ap (λ l. l ++ sent_texts line number (drop (index + 1) datagrams)) more_is
-    ∙ append_assoc now (line_text (sent_line line number d) ∷ []) _
-    ∙ ap (λ l. now ++ sent_texts line number l) (sym (drop-at datagrams index d is))
-    ∙ told
+-- one text stands behind those so far
+one_later : (before : ℕ) (now more : List (List ℕ)) (text : List ℕ) → before ≤ length now → more ≡ now ++ text ∷ [] →
+    (before ≤ length more) × (length more - before ≡ length now - before + 1)
+one_later before now more text longer is =
+    let many : length more ≡ length now + 1 = ap length is ∙ length-append now (text ∷ []) in
+    (omega (arith, many, longer), omega (arith, many, longer))
+
+pub next_told : (line number before : ℕ) (datagrams : List Departure) (texts now more : List (List ℕ)) (d : Departure) →
+    AreTold line number before datagrams texts now → slice_get datagrams (length now - before) ≡ Some d →
+    more ≡ now ++ line_text (sent_line line number d) ∷ [] → AreTold line number before datagrams texts more
+next_told line number before datagrams texts now more d told is more_is =
+    let index : ℕ = length now - before in
+    let later : (before ≤ length more) × (length more - before ≡ index + 1) = one_later before now more (line_text (sent_line line number d)) told.longer more_is in
+    record {
+      longer = later.0;
+      rest =
+          ap (λ n. more ++ sent_texts line number (drop n datagrams)) later.1
+          ∙ ap (λ l. l ++ sent_texts line number (drop (index + 1) datagrams)) more_is
+          ∙ append_assoc now (line_text (sent_line line number d) ∷ []) _
+          ∙ ap (λ l. now ++ sent_texts line number l) (sym (drop-at datagrams index d is))
+          ∙ told.rest;
+    }
 
 -- ---- the ports of a grandmaster, in turn
 

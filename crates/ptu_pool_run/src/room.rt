@@ -96,8 +96,8 @@ fn tell(
     ensures says { OnOk result (texts.new ≡ texts.old ++ sent_texts line pool port.old.sent) }
     ensures cleared { OnOk result (port.new ≡ record port.old { sent = [] }) }
 {
-    let mut index: usize = 0;
-    'datagrams: while let Some((to, channel, octets)) = port.sent(index) {
+    let before = texts.count();
+    'datagrams: while let Some((to, channel, octets)) = port.sent(texts.count() - before) {
         let octets = Datagram::new(octets.to_vec(alloc)?);
         texts.add(&PoolLine::Sent {
             line,
@@ -106,7 +106,6 @@ fn tell(
             to,
             octets,
         })?;
-        index = index.checked_add(1).ok_or(OutOfMemory)?;
     }
     port.clear();
     Ok(())

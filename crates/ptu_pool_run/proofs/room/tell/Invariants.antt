@@ -3,7 +3,7 @@ use Rattle.ptu_pool_run.proofs.Telling.{AreTold}
 use Rattle.ptu_pool_run.proofs.room.tell.Given as goal
 
 abbrev pub invariant-datagrams : goal.invariant-datagrams
-invariant-datagrams l = AreTold l.line l.pool l.index l.port.sent l.initial.texts l.texts
+invariant-datagrams l = AreTold l.line l.pool l.before l.port.sent l.initial.texts l.texts
 
 abbrev pub decreases-datagrams : goal.decreases-datagrams
-decreases-datagrams l = length l.port.sent - l.index
+decreases-datagrams l = length l.port.sent - (length l.texts - l.before)
