@@ -37,10 +37,14 @@ has_done is_node ip deed old middle new node none says handed = record {
 
 -- ---- the grandmaster goes on with its history
 
--- a node that stands for one of a world stands for a grandmaster
-pub is_grandmaster : (node : GrandmasterNode) (n : Node) → StandsAsGrandmaster node n → (g : Grandmaster) × IsGrandmasterNode node g
-is_grandmaster node (IsGrandmaster g) stands = (g, stands)
-is_grandmaster node (IsSlave s) stands = absurd stands
+-- a node that has done a deed stands for a grandmaster still
+module _ (node : GrandmasterNode) where
+  is_grandmaster : (n : Node) → StandsAsGrandmaster node n → (g : Grandmaster) × IsGrandmasterNode node g
+  is_grandmaster (IsGrandmaster g) stands = (g, stands)
+  is_grandmaster (IsSlave s) stands = absurd stands
+
+  pub stands_still : {ip : ℕ} {deed : Deed} {old new : Noted} → HasDone (StandsAsGrandmaster node) ip deed old new → (g : Grandmaster) × IsGrandmasterNode node g
+  stands_still {deed = deed} done = is_grandmaster deed.node done.node
 
 pub stands_after : (g : Grandmaster) (ip : ℕ) (gm0 gm1 gm2 gm3 : KeptGm MemoryPort) (past : List Record) →
     IsGrandmasterNode (record { ip = ip; gm = gm0 }) g → GoesOn gm0 gm1 → gm2.config ≡ gm1.config →
