@@ -3,6 +3,7 @@ use Rattle.std.proofs.Common.{◌≡◌, ◌∙◌, ℕ, ◌+◌, ◌-◌, ◌^�
 use Rattle.std.specs.Prelude.{IfSome}
 use Rattle.ptu_lines.specs.Script.{script_lines}
 use Rattle.ptu_report.specs.Rules.{meaning_of}
+use Rattle.ptu_report.proofs.FewLines.{few_lines}
 use Rattle.ptu_audit.specs.declared.answer.Answer.{Answer}
 use Rattle.ptu_audit.specs.declared.auditor.Auditor.{Auditor}
 use Rattle.ptu_audit.specs.Audited.{report_lines}
@@ -12,7 +13,7 @@ use Rattle.ptu_audit.specs.Trails.{answer_of, as_counted}
 use Rattle.ptu_audit.proofs.Counts.{counts_exact}
 use Rattle.ptu_audit.proofs.Promises.{IsRead}
 
-module _ (capacity : ℕ) (input : List ℕ) (n : ℕ) (read : IsRead (opening capacity) 0 n (script_lines input)) (a : Auditor) (answer : Answer)
+module _ (capacity : ℕ) (input : List ℕ) (read : IsRead (opening capacity) 0 (script_lines input)) (a : Auditor) (answer : Answer)
     (says : (r : Reading) → StandsFor a r → answer ≡ as_counted (answer_of r.capacity r.lines))
     (last : IfSome (meaning_of audit_rules (opening capacity) (script_lines input)) (StandsFor a)) where
   pub told : answer ≡ as_counted (answer_of read.last.capacity read.last.lines)
@@ -21,7 +22,7 @@ module _ (capacity : ℕ) (input : List ℕ) (n : ℕ) (read : IsRead (opening c
   pub lines_are : report_lines capacity input ≡ Some read.last.lines
   lines_are = ap (option_map (λ (r : Reading). r.lines)) read.meaning
 
-  pub answer_is : n ≤ 2 ^ 64 - 1 → answer ≡ answer_of capacity read.last.lines
-  answer_is few =
-      told ∙ counts_exact read.last.capacity read.last.lines (omega (arith, few, read.few))
+  pub answer_is : answer ≡ answer_of capacity read.last.lines
+  answer_is =
+      told ∙ counts_exact read.last.capacity read.last.lines (omega (arith, read.few, few_lines input))
       ∙ ap (λ m. answer_of m read.last.lines) read.capacity

@@ -1,16 +1,17 @@
 -- The counts of an answer are exact, since no more is counted than there are lines.
-use Rattle.std.proofs.Common.{◌≡◌, ◌∙◌, ℕ, ◌+◌, ◌-◌, ◌^◌, ◌≤◌, ◌++◌, min, Bool, true, false, cond, List, [], ◌∷◌, length, Option, Some, None, refl, sym, ap, ap₂, arith, length-append}
+use Rattle.std.proofs.Common.{◌≡◌, ◌∙◌, ℕ, ◌+◌, ◌-◌, ◌^◌, ◌≤◌, ◌++◌, min, Bool, true, false, cond, List, [], ◌∷◌, length, take, Option, Some, None, refl, sym, ap, ap₂, arith, length-append}
 use Rattle.std.specs.Prelude.{IfSome, filter_map}
 use Rattle.std.specs.List.{cons_option, fold, list_any}
 use Rattle.std.specs.Option.{unwrap_or}
 use Rattle.std.proofs.lemmas.List.Sums.{count_by-le-length}
 use Rattle.ptu_audit.specs.declared.answer.Answer.TheVariants as answers
 use Rattle.ptu_audit.specs.declared.deed.Act.{Act}
+use Rattle.ptu_audit.specs.declared.deed.Deed.TheVariants as deeds
 use Rattle.ptu_audit.specs.declared.deed.Finding.{Finding}
 use Rattle.ptu_audit.specs.declared.line.Line.{Line}
 use Rattle.ptu_audit.specs.declared.line.Said.{Said}
 use Rattle.ptu_audit.specs.declared.line.Said.TheVariants as said
-use Rattle.ptu_audit.specs.Groups.{act_at, acts_by, acts_of, answered, answered_by, answered_client, are_answered, are_told, changed, decides, groups_of, in_front, is_of_script, last_apart, message_at, messages_in as messages_told, said_deed, with_line}
+use Rattle.ptu_audit.specs.Groups.{act_at, acts_by, acts_of, answered, answered_by, answered_client, are_answered, are_told, changed, decides, groups_of, in_front, is_of_script, last_apart, message_at, messages_in as messages_told, said_deed, shedding_of, sheddings, with_line}
 use Rattle.ptu_audit.specs.Trails.{acts_in, answer_by, answer_of, as_counted, counted, grants_in, groups_finding, is_grant, is_message, messages_in}
 
 -- ---- a group tells of no more acts than it has lines
@@ -58,7 +59,7 @@ answered_few n (Some parts) few = more_few (length parts.0) n (answered_by parts
 changed_few : (number g capacity at n : ℕ) (rest : List Line) → HasFew (n + 1) (changed number g capacity at rest)
 changed_few number g capacity at n rest = by (are_told g rest)
   where
-    by : (b : Bool) {act : Act} → HasFew (n + 1) (cond b (Some (act ∷ [])) None)
+    by : (b : Bool) → HasFew (n + 1) (cond b (Some (record { line = number; grandmaster = g; deed = deeds.Changed at capacity (filter_map (λ line. shedding_of line.said) (take (sheddings rest) rest)) } ∷ [])) None)
     by true = omega arith
     by false = tt
 

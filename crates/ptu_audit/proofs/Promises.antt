@@ -252,33 +252,33 @@ taken r number text after texts (Some (report.End count datagrams)) is e = at r.
           more = omega (arith, ap (λ (q : Reading). length q.lines) same);
         }
 
--- the lines of a report of which none is refused, up to this number, and what is written then
-pub record IsRead (r : Reading) (before n : ℕ) (lines : List ScriptLine) : Type 0 where
+-- the lines of a report of which none is refused, and what is written then
+pub record IsRead (r : Reading) (before : ℕ) (lines : List ScriptLine) : Type 0 where
   pub last : Reading
   pub meaning : meaning_after audit_rules r before lines ≡ Some last
   pub texts : texts_until audit_rules (closing audit_rules) r before lines ≡ answer_text (as_counted (answer_of last.capacity last.lines)) ∷ []
   pub capacity : last.capacity ≡ r.capacity
   pub in_range : AreLines r.lines → AreLines last.lines
-  pub few : length last.lines + before ≤ length r.lines + n
+  pub few : length last.lines ≤ length r.lines + length lines
 
 abbrev end_by : Bool → Reading → Outcome Reading AuditCause
 end_by b r = cond b (Goes r (answer_text (as_counted (answer_of r.capacity r.lines)) ∷ [])) (Refuses causes.End)
 
 whole_end : (r : Reading) (before n : ℕ) (b : Bool) → end_by b r ≡ end_by b r → ending_at (before + 1) (end_by b r) (λ after. endings.Whole before) ≡ endings.Whole n
-    → (meaning_at (end_by b r) Some ≡ Some r) × (texts_at audit_rules (before + 1) (end_by b r) (λ after. []) ≡ answer_text (as_counted (answer_of r.capacity r.lines)) ∷ []) × (before ≡ n)
-whole_end r before n true is e = (refl, refl, (let same : before ≡ n = cc in same))
+    → (meaning_at (end_by b r) Some ≡ Some r) × (texts_at audit_rules (before + 1) (end_by b r) (λ after. []) ≡ answer_text (as_counted (answer_of r.capacity r.lines)) ∷ [])
+whole_end r before n true is e = (refl, refl)
 whole_end r before n false is e = absurd cc
 
-pub whole_read : (r : Reading) (before n : ℕ) (lines : List ScriptLine) → ending_after audit_rules r before lines ≡ endings.Whole n → IsRead r before n lines
+pub whole_read : (r : Reading) (before n : ℕ) (lines : List ScriptLine) → ending_after audit_rules r before lines ≡ endings.Whole n → IsRead r before lines
 unfolding audit_rules
 whole_read r before n [] e =
     let both = whole_end r before n r.ended refl e in
-    record { last = r; meaning = both.0; texts = both.1; capacity = refl; in_range = λ h. h; few = omega (arith, both.2) }
+    record { last = r; meaning = both.0; texts = both.1; capacity = refl; in_range = λ h. h; few = omega arith }
 whole_read r before n (Refused cause ∷ rest) e = absurd cc
 whole_read r before n (Whole text ∷ rest) e = at (line_read r (before + 1) (line_of text)) refl e (λ after f. whole_read after (before + 1) n rest f)
   where
     at : (o : Outcome Reading AuditCause) → line_read r (before + 1) (line_of text) ≡ o → ending_at (before + 1) o (λ after. ending_after audit_rules after (before + 1) rest) ≡ endings.Whole n
-        → ((after : Reading) → ending_after audit_rules after (before + 1) rest ≡ endings.Whole n → IsRead after (before + 1) n rest) → IsRead r before n (Whole text ∷ rest)
+        → ((after : Reading) → ending_after audit_rules after (before + 1) rest ≡ endings.Whole n → IsRead after (before + 1) rest) → IsRead r before (Whole text ∷ rest)
     at (Refuses cause) is f ih = absurd cc
     at (Goes after texts) is f ih =
         let later = ih after f in

@@ -5,11 +5,12 @@ use Rattle.ptu_outside.specs.Departure.{Departure}
 use Rattle.ptu_outside.specs.MemoryPort.{MemoryPort}
 use Rattle.ptu_history.specs.History.{Record}
 use Rattle.ptu_grandmaster.specs.Gm.{KeptGm, StandsFor}
-use Rattle.ptu_world.specs.Deeds.{Deed, Grandmaster, Node}
+use Rattle.ptu_world.specs.Deeds.{Deed, Grandmaster, IsGrandmaster, IsSlave, Node}
 use Rattle.ptu_nodes.specs.Doing.{HasDone}
 use Rattle.ptu_nodes.specs.GrandmasterPorts.{GoesOn}
 use Rattle.ptu_nodes.specs.Noted.{Noted, with_handed, with_said}
-use Rattle.ptu_nodes.specs.Standing.{AreIdle, IsGrandmasterNode}
+use Rattle.ptu_nodes.specs.declared.grandmaster_node.GrandmasterNode.{GrandmasterNode}
+use Rattle.ptu_nodes.specs.Standing.{AreIdle, IsGrandmasterNode, StandsAsGrandmaster}
 use Rattle.ptu_nodes.proofs.Noting.{said_nothing}
 
 pub on_ok_three : {T E P Q R S : Type 0} (r : Result T E) → (P → Q → R → S) → OnOk r P → OnOk r Q → OnOk r R → OnOk r S
@@ -35,6 +36,15 @@ has_done is_node ip deed old middle new node none says handed = record {
 }
 
 -- ---- the grandmaster goes on with its history
+
+-- a node that has done a deed stands for a grandmaster still
+module _ (node : GrandmasterNode) where
+  is_grandmaster : (n : Node) → StandsAsGrandmaster node n → (g : Grandmaster) × IsGrandmasterNode node g
+  is_grandmaster (IsGrandmaster g) stands = (g, stands)
+  is_grandmaster (IsSlave s) stands = absurd stands
+
+  pub stands_still : {ip : ℕ} {deed : Deed} {old new : Noted} → HasDone (StandsAsGrandmaster node) ip deed old new → (g : Grandmaster) × IsGrandmasterNode node g
+  stands_still {deed = deed} done = is_grandmaster deed.node done.node
 
 pub stands_after : (g : Grandmaster) (ip : ℕ) (gm0 gm1 gm2 gm3 : KeptGm MemoryPort) (past : List Record) →
     IsGrandmasterNode (record { ip = ip; gm = gm0 }) g → GoesOn gm0 gm1 → gm2.config ≡ gm1.config →

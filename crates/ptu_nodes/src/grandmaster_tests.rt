@@ -1,3 +1,6 @@
+ghost use Rattle.ptu_world.specs.Deeds.{Grandmaster};
+ghost use Rattle.ptu_nodes.specs.Standing.{IsGrandmasterNode};
+
 use crate::grandmaster_node::GrandmasterNode;
 use crate::journal::Journal;
 use ptu_script::GrandmasterSetup;
@@ -71,7 +74,9 @@ fn assert_all_said(
     alloc: Global,
     node: &mut GrandmasterNode,
     journal: &mut Journal,
-) -> Result<(), Fail> {
+) -> Result<(), Fail>
+    requires { (g : Grandmaster) × IsGrandmasterNode node.old g }
+{
     let sync = hex::decode(alloc, SYNC)?;
     let announce = hex::decode(alloc, ANNOUNCE)?;
     journal.begin(2);

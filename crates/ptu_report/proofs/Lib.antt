@@ -1,3 +1,4 @@
+pub mod FewLines
 pub mod OneLine
 pub mod Spans
 pub mod Underway

@@ -5,6 +5,7 @@ use Rattle.std.proofs.lemmas.List.{length-map}
 use Rattle.std.specs.List.{count_by, cons_option}
 use Rattle.std.proofs.lemmas.List.Sums.{count_by-le-length, sum_by-append, sum_by-cons}
 use Rattle.ptu_lines.specs.Script.{ScriptLine, Whole, Refused, script_lines}
+use Rattle.ptu_report.proofs.FewLines.{few_lines}
 use Rattle.ptu_header.specs.declared.header.Header.{Header}
 use Rattle.ptu_tlvs.specs.declared.tlv.Tlv.{Tlv}
 use Rattle.ptu_messages.specs.declared.fault.MessageFault.{MessageFault}
@@ -57,7 +58,6 @@ use Rattle.ptu_world.specs.Grandmasters as gm
 use Rattle.ptu_world.specs.Slaves as slaves
 use Rattle.ptu_world.specs.Report.{granted_count, is_granted, is_granted_line, is_short, is_short_line, lines_by, lines_by_line, lines_from, report_lines, short_count}
 use Rattle.ptu_world.specs.World.{World, Stock, Done, add_master, at_grandmaster, at_slave, datagram_deed, datagram_numbered, delivered_to, done_by, grandmaster_by, node_at, opening, or_cause, place_in, quietly, said_by, sending_said, sent_from, set_up, slave_at, slave_by, step, stock_without}
-use Rattle.ptu_world.proofs.FewLines.{few_lines}
 use Rattle.ptu_world.proofs.Limits.{ok_bound}
 
 -- ---- counts

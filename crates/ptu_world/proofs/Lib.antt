@@ -10,5 +10,4 @@ pub mod Sayings
 pub mod Numbering
 pub mod Going
 pub mod Headline
-pub mod FewLines
 pub mod Counting
