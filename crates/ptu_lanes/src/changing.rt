@@ -58,7 +58,9 @@ pub(crate) fn change_capacity<P: Port + Send, C: Clock, L: Rates, G: Ledger, R: 
     ensures unsent { OnErr result (lane.new.port ≡ lane.old.port) }
     ensures seat { lane.new.seat ≡ lane.old.seat }
 {
-    let resized = service.shared.resize(service.rt, lane.clock.now(), capacity)?;
+    let resized = service
+        .shared
+        .resize(service.rt, lane.clock.now(), capacity)?;
     let sends = send_cancels(&mut lane.port, service.config, 0, resized.shed.list());
     lane.tally = lane.tally.plus(sends.sent, sends.failed);
     Ok(())

@@ -62,13 +62,9 @@ fn answer_delay<P: Port + Send, L: Rates, G: Ledger, R: Ledger, W: Wait>(
     match hear(service.alloc, service.config, bytes)? {
         Ok(Heard::DelayReq(header)) => {
             let client = client(origin.from, &header);
-            let answered = service.shared.answer_delay(
-                service.rt,
-                service.config,
-                origin.at,
-                &client,
-                &header,
-            );
+            let answered = service
+                .shared
+                .answer_delay(service.rt, service.config, origin.at, &client, &header);
             Ok(delays_of(&answered))
         }
         Ok(Heard::Asks(..)) | Err(_) => Ok(IDLE),

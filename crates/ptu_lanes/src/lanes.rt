@@ -71,7 +71,7 @@ pub(crate) struct SendingLanes<C: Clock> {
 }
 
 /// So many rounds, with a meeting after each.
-#[derive(Clone, Copy)]
+#[derive(Drop)]
 pub(crate) struct Rounds<'a> {
     pub meeting: &'a Meeting,
     pub count: u32,
@@ -156,14 +156,14 @@ fn turn_own<P: Port + Send, C: Clock, L: Rates, G: Ledger, R: Ledger, W: Wait>(
 // The rounds of the lane that takes Signaling, with a meeting after each.
 fn stay_signaling<P: Port + Send, C: Clock, L: Rates, G: Ledger, R: Ledger, W: Wait>(
     service: &Service<'_, P, L, G, R, W>,
-    rounds: Rounds<'_>,
+    rounds: &Rounds<'_>,
     lane: ControlLane<P, C, G, R>,
 ) -> Result<ControlLane<P, C, G, R>, OutOfMemory>
     requires ledger { L.parts ≡ 4 }
     requires limits { IsWithinLimits service.now.config.now }
     requires counts { lane.seat.granted + lane.seat.refused ≤ 2 ^ 46 }
     ensures { IfOk result (λ new. TookSignaling P.Port C.Clock service.now.config.now
-        rounds.count lane.port new.port lane.clock new.clock lane.seat new.seat
+        rounds.now.count lane.port new.port lane.clock new.clock lane.seat new.seat
         lane.tally.failed new.tally.failed) }
 {
     let mut lane = lane;
@@ -180,16 +180,23 @@ fn stay_signaling<P: Port + Send, C: Clock, L: Rates, G: Ledger, R: Ledger, W: W
 ///
 /// # Errors
 /// `OutOfMemory`, with the lane dropped: after the round in which it or another lane gave up.
-pub(crate) fn take_part_signaling<P: Port + Send, C: Clock, L: Rates, G: Ledger, R: Ledger, W: Wait>(
+pub(crate) fn take_part_signaling<
+    P: Port + Send,
+    C: Clock,
+    L: Rates,
+    G: Ledger,
+    R: Ledger,
+    W: Wait,
+>(
     service: &Service<'_, P, L, G, R, W>,
-    rounds: Rounds<'_>,
+    rounds: &Rounds<'_>,
     lane: ControlLane<P, C, G, R>,
 ) -> Result<ControlLane<P, C, G, R>, OutOfMemory>
     requires ledger { L.parts ≡ 4 }
     requires limits { IsWithinLimits service.now.config.now }
     requires counts { lane.seat.granted + lane.seat.refused ≤ 2 ^ 46 }
     ensures { IfOk result (λ new. TookSignaling P.Port C.Clock service.now.config.now
-        rounds.count lane.port new.port lane.clock new.clock lane.seat new.seat
+        rounds.now.count lane.port new.port lane.clock new.clock lane.seat new.seat
         lane.tally.failed new.tally.failed) }
 {
     rounds.meeting.enter(service.rt);
@@ -201,11 +208,11 @@ pub(crate) fn take_part_signaling<P: Port + Send, C: Clock, L: Rates, G: Ledger,
 // The rounds of the lane that takes Delay_Reqs, with a meeting after each.
 fn stay_delay_reqs<P: Port + Send, C: Clock, L: Rates, G: Ledger, R: Ledger, W: Wait>(
     service: &Service<'_, P, L, G, R, W>,
-    rounds: Rounds<'_>,
+    rounds: &Rounds<'_>,
     lane: EventLane<P, C>,
 ) -> Result<EventLane<P, C>, OutOfMemory>
     requires { IsWithinLimits service.now.config.now }
-    ensures { IfOk result (λ new. TookDelayReqs P.Port C.Clock rounds.count lane.port new.port
+    ensures { IfOk result (λ new. TookDelayReqs P.Port C.Clock rounds.now.count lane.port new.port
         lane.clock new.clock lane.tally.failed new.tally.failed) }
 {
     let mut lane = lane;
@@ -222,13 +229,20 @@ fn stay_delay_reqs<P: Port + Send, C: Clock, L: Rates, G: Ledger, R: Ledger, W: 
 ///
 /// # Errors
 /// `OutOfMemory`, with the lane dropped: after the round in which it or another lane gave up.
-pub(crate) fn take_part_delay_reqs<P: Port + Send, C: Clock, L: Rates, G: Ledger, R: Ledger, W: Wait>(
+pub(crate) fn take_part_delay_reqs<
+    P: Port + Send,
+    C: Clock,
+    L: Rates,
+    G: Ledger,
+    R: Ledger,
+    W: Wait,
+>(
     service: &Service<'_, P, L, G, R, W>,
-    rounds: Rounds<'_>,
+    rounds: &Rounds<'_>,
     lane: EventLane<P, C>,
 ) -> Result<EventLane<P, C>, OutOfMemory>
     requires { IsWithinLimits service.now.config.now }
-    ensures { IfOk result (λ new. TookDelayReqs P.Port C.Clock rounds.count lane.port new.port
+    ensures { IfOk result (λ new. TookDelayReqs P.Port C.Clock rounds.now.count lane.port new.port
         lane.clock new.clock lane.tally.failed new.tally.failed) }
 {
     rounds.meeting.enter(service.rt);
@@ -240,14 +254,14 @@ pub(crate) fn take_part_delay_reqs<P: Port + Send, C: Clock, L: Rates, G: Ledger
 // The rounds of the lane at this position that turns tables, with a meeting after each.
 fn stay_turning<P: Port + Send, C: Clock, L: Rates, G: Ledger, R: Ledger, W: Wait>(
     service: &Service<'_, P, L, G, R, W>,
-    rounds: Rounds<'_>,
+    rounds: &Rounds<'_>,
     position: Position,
     lane: SendingLane<C>,
 ) -> Result<SendingLane<C>, OutOfMemory>
     requires limits { IsWithinLimits service.now.config.now }
     requires index { (position.index < position.count) × (position.count ≤ 4) }
     ensures { IfOk result (λ new.
-        TurnedOwn C.Clock position.count position.index rounds.count lane.clock new.clock) }
+        TurnedOwn C.Clock position.count position.index rounds.now.count lane.clock new.clock) }
 {
     let mut lane = lane;
     for i in 0..rounds.count {
@@ -263,14 +277,14 @@ fn stay_turning<P: Port + Send, C: Clock, L: Rates, G: Ledger, R: Ledger, W: Wai
 // which another lane gave up.
 fn take_part_turning<P: Port + Send, C: Clock, L: Rates, G: Ledger, R: Ledger, W: Wait>(
     service: &Service<'_, P, L, G, R, W>,
-    rounds: Rounds<'_>,
+    rounds: &Rounds<'_>,
     position: Position,
     lane: SendingLane<C>,
 ) -> Result<SendingLane<C>, OutOfMemory>
     requires limits { IsWithinLimits service.now.config.now }
     requires index { (position.index < position.count) × (position.count ≤ 4) }
     ensures { IfOk result (λ new.
-        TurnedOwn C.Clock position.count position.index rounds.count lane.clock new.clock) }
+        TurnedOwn C.Clock position.count position.index rounds.now.count lane.clock new.clock) }
 {
     rounds.meeting.enter(service.rt);
     let lane = stay_turning(service, rounds, position, lane);
@@ -281,7 +295,7 @@ fn take_part_turning<P: Port + Send, C: Clock, L: Rates, G: Ledger, R: Ledger, W
 // The rounds of the lane at this position, and of the next one if there is one, side by side.
 fn turn_two<P, C, L, G, R, W>(
     service: &Service<'_, P, L, G, R, W>,
-    rounds: Rounds<'_>,
+    rounds: &Rounds<'_>,
     position: Position,
     lane: SendingLane<C>,
     next: SendingLane<C>,
@@ -300,9 +314,10 @@ where
     requires index { (position.index < position.count) × (position.count ≤ 4) }
     requires next { position.index < 3 }
     ensures lane { IfOk result.0 (λ new.
-        TurnedOwn C.Clock position.count position.index rounds.count lane.clock new.clock) }
+        TurnedOwn C.Clock position.count position.index rounds.now.count lane.clock new.clock) }
     ensures next { IfOk result.1 (λ new.
-        TurnedOwn C.Clock position.count (position.index + 1) rounds.count next.clock new.clock) }
+        TurnedOwn C.Clock position.count (position.index + 1) rounds.now.count
+        next.clock new.clock) }
 {
     let Position { index, count } = position;
     if count <= index + 1 {
@@ -329,7 +344,7 @@ where
 // The rounds of all four, where more than two are at work, side by side.
 fn turn_four<P, C, L, G, R, W>(
     service: &Service<'_, P, L, G, R, W>,
-    rounds: Rounds<'_>,
+    rounds: &Rounds<'_>,
     count: usize,
     lanes: SendingLanes<C>,
 ) -> (
@@ -352,13 +367,13 @@ where
     requires limits { IsWithinLimits service.now.config.now }
     requires count { (2 < count) × (count ≤ 4) }
     ensures first { IfOk result.0.0 (λ new.
-        TurnedOwn C.Clock count 0 rounds.count lanes.first.clock new.clock) }
+        TurnedOwn C.Clock count 0 rounds.now.count lanes.first.clock new.clock) }
     ensures second { IfOk result.0.1 (λ new.
-        TurnedOwn C.Clock count 1 rounds.count lanes.second.clock new.clock) }
+        TurnedOwn C.Clock count 1 rounds.now.count lanes.second.clock new.clock) }
     ensures third { IfOk result.1.0 (λ new.
-        TurnedOwn C.Clock count 2 rounds.count lanes.third.clock new.clock) }
+        TurnedOwn C.Clock count 2 rounds.now.count lanes.third.clock new.clock) }
     ensures fourth { IfOk result.1.1 (λ new.
-        TurnedOwn C.Clock count 3 rounds.count lanes.fourth.clock new.clock) }
+        TurnedOwn C.Clock count 3 rounds.now.count lanes.fourth.clock new.clock) }
 {
     let SendingLanes {
         first,
@@ -384,7 +399,7 @@ where
 /// `OutOfMemory`, with the lanes dropped: after the round in which another lane gave up.
 pub(crate) fn turn_tables<P, C, L, G, R, W>(
     service: &Service<'_, P, L, G, R, W>,
-    rounds: Rounds<'_>,
+    rounds: &Rounds<'_>,
     count: usize,
     lanes: SendingLanes<C>,
 ) -> Result<SendingLanes<C>, OutOfMemory>
@@ -397,7 +412,7 @@ where
     W: Threads + Wait + Sync,
     requires limits { IsWithinLimits service.now.config.now }
     requires count { (1 ≤ count) × (count ≤ 4) }
-    ensures { IfOk result (HaveTurned C.Clock count rounds.count lanes) }
+    ensures { IfOk result (HaveTurned C.Clock count rounds.now.count lanes) }
 {
     if 2 < count {
         let ((first, second), (third, fourth)) = turn_four(service, rounds, count, lanes);

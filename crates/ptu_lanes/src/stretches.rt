@@ -28,7 +28,7 @@ pub(crate) struct Lanes<P: Port, C: Clock, G: Ledger, R: Ledger> {
 // So many rounds of the lanes that take datagrams, side by side.
 fn take_datagrams<P, C, L, G, R, W>(
     service: &Service<'_, P, L, G, R, W>,
-    rounds: Rounds<'_>,
+    rounds: &Rounds<'_>,
     control: ControlLane<P, C, G, R>,
     event: EventLane<P, C>,
 ) -> (
@@ -46,9 +46,9 @@ where
     requires limits { IsWithinLimits service.now.config.now }
     requires counts { control.seat.granted + control.seat.refused ≤ 2 ^ 46 }
     ensures control { IfOk result.0 (λ new. TookSignaling P.Port C.Clock service.now.config.now
-        rounds.count control.port new.port control.clock new.clock control.seat new.seat
+        rounds.now.count control.port new.port control.clock new.clock control.seat new.seat
         control.tally.failed new.tally.failed) }
-    ensures event { IfOk result.1 (λ new. TookDelayReqs P.Port C.Clock rounds.count
+    ensures event { IfOk result.1 (λ new. TookDelayReqs P.Port C.Clock rounds.now.count
         event.port new.port event.clock new.clock event.tally.failed new.tally.failed) }
 {
     join(
@@ -66,7 +66,7 @@ where
 // So many rounds of all lanes, side by side.
 fn side_by_side<P, C, L, G, R, W>(
     service: &Service<'_, P, L, G, R, W>,
-    rounds: Rounds<'_>,
+    rounds: &Rounds<'_>,
     senders: usize,
     lanes: Lanes<P, C, G, R>,
 ) -> (
@@ -88,12 +88,12 @@ where
     requires senders { (1 ≤ senders) × (senders ≤ 4) }
     requires counts { lanes.control.seat.granted + lanes.control.seat.refused ≤ 2 ^ 46 }
     ensures control { IfOk result.0.0 (λ new. TookSignaling P.Port C.Clock service.now.config.now
-        rounds.count lanes.control.port new.port lanes.control.clock new.clock
+        rounds.now.count lanes.control.port new.port lanes.control.clock new.clock
         lanes.control.seat new.seat lanes.control.tally.failed new.tally.failed) }
-    ensures event { IfOk result.0.1 (λ new. TookDelayReqs P.Port C.Clock rounds.count
+    ensures event { IfOk result.0.1 (λ new. TookDelayReqs P.Port C.Clock rounds.now.count
         lanes.event.port new.port lanes.event.clock new.clock
         lanes.event.tally.failed new.tally.failed) }
-    ensures sending { IfOk result.1 (HaveTurned C.Clock senders rounds.count lanes.sending) }
+    ensures sending { IfOk result.1 (HaveTurned C.Clock senders rounds.now.count lanes.sending) }
 {
     let Lanes {
         control,
@@ -147,7 +147,7 @@ where
         meeting: &Meeting::new(2 + senders as u64, LOOKS),
         count: rounds,
     };
-    let ((control, event), sending) = side_by_side(service, rounds, senders, lanes);
+    let ((control, event), sending) = side_by_side(service, &rounds, senders, lanes);
     Ok(Lanes {
         control: control?,
         event: event?,

@@ -26,7 +26,7 @@ use ptu_units::Moment;
 use std::sync::ledger::Ledger;
 
 /// What a client asks for, from when on it may be decided, and under which configuration.
-#[derive(Clone, Copy)]
+#[derive(Drop)]
 pub(crate) struct Demand<'a> {
     pub config: &'a GmConfig,
     pub at: Moment,
@@ -39,42 +39,43 @@ pub(crate) struct Demand<'a> {
 pub(crate) fn ask_one<P: Port, L: Rates, G: Ledger, R: Ledger, J: Place>(
     table: &mut Table<P, L, J>,
     desk: &mut Desk<L, G, R>,
-    demand: Demand<'_>,
+    demand: &Demand<'_>,
 ) -> Option<Verdict>
-    requires limits { IsWithinLimits demand.config.now }
+    requires limits { IsWithinLimits demand.now.config.now }
     requires room { 0 < table.old.shard.spare }
-    requires table { table_of_client demand.client.now ≡ J.index }
+    requires table { table_of_client demand.now.client.now ≡ J.index }
     ensures answer { option_map verdict_of result
-        ≡ unless_short (verdict_beside (config_of desk.old.book.capacity demand.config.now)
-        (λ k. desk.old.book.total - kept_rate demand.client.now k table.old.shard.rows)
-        (max demand.at (max desk.old.book.moment table.old.shard.moment))
-        (ask_of demand.ask.now)) }
+        ≡ unless_short (verdict_beside (config_of desk.old.book.capacity demand.now.config.now)
+        (λ k. desk.old.book.total - kept_rate demand.now.client.now k table.old.shard.rows)
+        (max demand.now.at (max desk.old.book.moment table.old.shard.moment))
+        (ask_of demand.now.ask.now)) }
     ensures at { IfSome result
-        (IsAt (max demand.at (max desk.old.book.moment table.old.shard.moment))) }
+        (IsAt (max demand.now.at (max desk.old.book.moment table.old.shard.moment))) }
     ensures verdict { IfSome result
-        (AnswersAsk L.most demand.config.now demand.at demand.client.now demand.ask.now) }
+        (AnswersAsk L.most demand.now.config.now demand.now.at demand.now.client.now
+        demand.now.ask.now) }
     ensures desk { (desk.new.granted ≡ desk.old.granted)
         × (desk.new.refused ≡ desk.old.refused) }
     ensures port { table.new.shard.port ≡ table.old.shard.port }
     ensures none { IfNone result ((table.new.shard ≡ table.old.shard)
         × (desk.new.book ≡ desk.old.book)) }
     ensures outcome { (opening : ℕ) (rest : List Lent) (history : List Record) →
-        StandFor opening (table_for demand.client.now table.old.shard ∷ rest)
+        StandFor opening (table_for demand.now.client.now table.old.shard ∷ rest)
         desk.old.book history →
         IfSome result (λ v. verdict_of v
-        ≡ verdict_after (config_of opening demand.config.now) history
-        (max demand.at (max desk.old.book.moment table.old.shard.moment)) demand.client.now
-        (ask_of demand.ask.now)) }
+        ≡ verdict_after (config_of opening demand.now.config.now) history
+        (max demand.now.at (max desk.old.book.moment table.old.shard.moment)) demand.now.client.now
+        (ask_of demand.now.ask.now)) }
     ensures stands { (opening : ℕ) (rest : List Lent) (history : List Record) →
-        StandFor opening (table_for demand.client.now table.old.shard ∷ rest)
+        StandFor opening (table_for demand.now.client.now table.old.shard ∷ rest)
         desk.old.book history →
-        is_lent (table_of_client demand.client.now) rest ≡ false →
+        is_lent (table_of_client demand.now.client.now) rest ≡ false →
         OnSome result
-        (StandFor opening (table_for demand.client.now table.new.shard ∷ rest)
+        (StandFor opening (table_for demand.now.client.now table.new.shard ∷ rest)
         desk.new.book (history
-        ++ (step (config_of opening demand.config.now) history
-        (max demand.at (max desk.old.book.moment table.old.shard.moment))
-        (Request demand.client.now (ask_of demand.ask.now))).records)) }
+        ++ (step (config_of opening demand.now.config.now) history
+        (max demand.now.at (max desk.old.book.moment table.old.shard.moment))
+        (Request demand.now.client.now (ask_of demand.now.ask.now))).records)) }
 {
     audit_table(table, desk);
     let before = table.shard.held();
@@ -97,22 +98,22 @@ pub(crate) fn ask_all<P: Port, L: Rates, G: Ledger, R: Ledger>(
     t2: &mut Table<P, L, Third>,
     t3: &mut Table<P, L, Fourth>,
     desk: &mut Desk<L, G, R>,
-    demand: Demand<'_>,
+    demand: &Demand<'_>,
 ) -> Verdict
     requires ledger { L.parts ≡ 4 }
-    requires limits { IsWithinLimits demand.config.now }
-    requires room { (table_of_client demand.client.now ≡ 0 → 0 < t0.old.shard.spare)
-        × (table_of_client demand.client.now ≡ 1 → 0 < t1.old.shard.spare)
-        × (table_of_client demand.client.now ≡ 2 → 0 < t2.old.shard.spare)
-        × (table_of_client demand.client.now ≡ 3 → 0 < t3.old.shard.spare) }
+    requires limits { IsWithinLimits demand.now.config.now }
+    requires room { (table_of_client demand.now.client.now ≡ 0 → 0 < t0.old.shard.spare)
+        × (table_of_client demand.now.client.now ≡ 1 → 0 < t1.old.shard.spare)
+        × (table_of_client demand.now.client.now ≡ 2 → 0 < t2.old.shard.spare)
+        × (table_of_client demand.now.client.now ≡ 3 → 0 < t3.old.shard.spare) }
     ensures answer { let lent = four t0.old.shard t1.old.shard t2.old.shard t3.old.shard in
-        let n = moment_for demand.at desk.old.book demand.client.now lent in
-        verdict_of result ≡ verdict_beside (config_of desk.old.book.capacity demand.config.now)
-        (live_others n lent demand.client.now) n (ask_of demand.ask.now) }
-    ensures at { IsAt (moment_for demand.at desk.old.book demand.client.now
+        let n = moment_for demand.now.at desk.old.book demand.now.client.now lent in
+        verdict_of result ≡ verdict_beside (config_of desk.old.book.capacity demand.now.config.now)
+        (live_others n lent demand.now.client.now) n (ask_of demand.now.ask.now) }
+    ensures at { IsAt (moment_for demand.now.at desk.old.book demand.now.client.now
         (four t0.old.shard t1.old.shard t2.old.shard t3.old.shard)) result }
-    ensures verdict { AnswersAsk L.most demand.config.now demand.at demand.client.now
-        demand.ask.now result }
+    ensures verdict { AnswersAsk L.most demand.now.config.now demand.now.at demand.now.client.now
+        demand.now.ask.now result }
     ensures desk { (desk.new.granted ≡ desk.old.granted)
         × (desk.new.refused ≡ desk.old.refused) }
     ensures ports { (t0.new.shard.port ≡ t0.old.shard.port)
@@ -121,17 +122,17 @@ pub(crate) fn ask_all<P: Port, L: Rates, G: Ledger, R: Ledger>(
     ensures outcome { (opening : ℕ) (history : List Record) →
         let lent = four t0.old.shard t1.old.shard t2.old.shard t3.old.shard in
         StandFor opening lent desk.old.book history →
-        verdict_of result ≡ verdict_after (config_of opening demand.config.now) history
-        (moment_for demand.at desk.old.book demand.client.now lent) demand.client.now
-        (ask_of demand.ask.now) }
+        verdict_of result ≡ verdict_after (config_of opening demand.now.config.now) history
+        (moment_for demand.now.at desk.old.book demand.now.client.now lent) demand.now.client.now
+        (ask_of demand.now.ask.now) }
     ensures stands { (opening : ℕ) (history : List Record) →
         let lent = four t0.old.shard t1.old.shard t2.old.shard t3.old.shard in
         StandFor opening lent desk.old.book history →
         StandFor opening (four t0.new.shard t1.new.shard t2.new.shard t3.new.shard)
         desk.new.book (history
-        ++ (step (config_of opening demand.config.now) history
-        (moment_for demand.at desk.old.book demand.client.now lent)
-        (Request demand.client.now (ask_of demand.ask.now))).records) }
+        ++ (step (config_of opening demand.now.config.now) history
+        (moment_for demand.now.at desk.old.book demand.now.client.now lent)
+        (Request demand.now.client.now (ask_of demand.now.ask.now))).records) }
 {
     audit_tables(t0, t1, t2, t3, desk);
     let before = (

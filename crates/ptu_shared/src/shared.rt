@@ -122,9 +122,9 @@ impl<P: Port + Send, L: Rates, G: Ledger, R: Ledger> Shared<P, L, G, R> {
             client,
             ask,
         };
-        match self.admit_by_one(rt, seat, demand)? {
+        match self.admit_by_one(rt, seat, &demand)? {
             Some(verdict) => Ok(verdict),
-            None => self.admit_by_all(rt, seat, demand),
+            None => self.admit_by_all(rt, seat, &demand),
         }
     }
 
@@ -133,12 +133,13 @@ impl<P: Port + Send, L: Rates, G: Ledger, R: Ledger> Shared<P, L, G, R> {
         &self,
         rt: &impl Wait,
         seat: &mut Seat<G, R>,
-        demand: Demand<'_>,
+        demand: &Demand<'_>,
     ) -> Result<Option<Verdict>, OutOfMemory>
-        requires limits { IsWithinLimits demand.config.now }
+        requires limits { IsWithinLimits demand.now.config.now }
         requires counts { (seat.old.granted < 2 ^ 48) × (seat.old.refused < 2 ^ 48) }
         ensures verdict { IfOk result (λ o. IfSome o
-            (AnswersAsk L.most demand.config.now demand.at demand.client.now demand.ask.now)) }
+            (AnswersAsk L.most demand.now.config.now demand.now.at demand.now.client.now
+            demand.now.ask.now)) }
         ensures seat { IfOk result (λ o. IfSome o (λ v. seat.new ≡ counting v seat.old)) }
         ensures none { IfOk result (λ o. IfNone o (seat.new ≡ seat.old)) }
         ensures unchanged { OnErr result (seat.new ≡ seat.old) }
@@ -158,13 +159,14 @@ impl<P: Port + Send, L: Rates, G: Ledger, R: Ledger> Shared<P, L, G, R> {
         rt: &impl Wait,
         table: &Mutex<Table<P, L, J>>,
         seat: &mut Seat<G, R>,
-        demand: Demand<'_>,
+        demand: &Demand<'_>,
     ) -> Result<Option<Verdict>, OutOfMemory>
-        requires table { table_of_client demand.client.now ≡ J.index }
-        requires limits { IsWithinLimits demand.config.now }
+        requires table { table_of_client demand.now.client.now ≡ J.index }
+        requires limits { IsWithinLimits demand.now.config.now }
         requires counts { (seat.old.granted < 2 ^ 48) × (seat.old.refused < 2 ^ 48) }
         ensures verdict { IfOk result (λ o. IfSome o
-            (AnswersAsk L.most demand.config.now demand.at demand.client.now demand.ask.now)) }
+            (AnswersAsk L.most demand.now.config.now demand.now.at demand.now.client.now
+            demand.now.ask.now)) }
         ensures seat { IfOk result (λ o. IfSome o (λ v. seat.new ≡ counting v seat.old)) }
         ensures none { IfOk result (λ o. IfNone o (seat.new ≡ seat.old)) }
         ensures unchanged { OnErr result (seat.new ≡ seat.old) }
@@ -184,13 +186,14 @@ impl<P: Port + Send, L: Rates, G: Ledger, R: Ledger> Shared<P, L, G, R> {
         &self,
         rt: &impl Wait,
         seat: &mut Seat<G, R>,
-        demand: Demand<'_>,
+        demand: &Demand<'_>,
     ) -> Result<Verdict, OutOfMemory>
         requires ledger { L.parts ≡ 4 }
-        requires limits { IsWithinLimits demand.config.now }
+        requires limits { IsWithinLimits demand.now.config.now }
         requires counts { (seat.old.granted < 2 ^ 48) × (seat.old.refused < 2 ^ 48) }
         ensures verdict { IfOk result
-            (AnswersAsk L.most demand.config.now demand.at demand.client.now demand.ask.now) }
+            (AnswersAsk L.most demand.now.config.now demand.now.at demand.now.client.now
+            demand.now.ask.now) }
         ensures seat { IfOk result (λ v. seat.new ≡ counting v seat.old) }
         ensures unchanged { OnErr result (seat.new ≡ seat.old) }
     {

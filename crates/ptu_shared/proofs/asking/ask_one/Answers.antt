@@ -10,4 +10,4 @@ returns-in-Some-clause-outcome g c = λ opening rest history standing.
 pub returns-in-Some-clause-verdict : goal.returns-in-Some-clause-verdict
 returns-in-Some-clause-verdict g c =
     let decided = c.decide_one-verdict.ensures in
-    answers_one g.L.Rates.most c.args.demand.config.now c.args.demand.at _ _ c.args.demand.client.now c.args.demand.ask.now (omega arith) (omega arith) _ c.decide_one-verdict.result decided.at decided.whose decided.answer
+    answers_one g.L.Rates.most c.args.demand.now.config.now c.args.demand.now.at _ _ c.args.demand.now.client.now c.args.demand.now.ask.now (omega arith) (omega arith) _ c.decide_one-verdict.result decided.at decided.whose decided.answer
