@@ -208,7 +208,16 @@ fn open_held<'a, L: Rates, G: Ledger, R: Ledger, W: Wait + Abort>(
     let p2 = HeldPort { gate: None };
     let p3 = HeldPort { gate: None };
     let (shared, mut seats) = Shared::new(
-        alloc, blanks.rates, blanks.granted, blanks.refused, capacity, 2, p0, p1, p2, p3,
+        alloc,
+        blanks.rates,
+        blanks.granted,
+        blanks.refused,
+        capacity,
+        2,
+        p0,
+        p1,
+        p2,
+        p3,
     )?;
     let mut seat = seats.pop().expect(rt, "there are two seats");
     let other = seats.pop().expect(rt, "there are two seats");
@@ -245,9 +254,7 @@ where
     requires seats { L.seats ≡ 2 }
     requires ports { (i : ℕ) → L.opened i ≡ untold_port }
 {
-    let (shared, _seat, _other) = open_held::<L, G, R, W>(
-        rt, alloc, blanks, capacity, gate,
-    )?;
+    let (shared, _seat, _other) = open_held::<L, G, R, W>(rt, alloc, blanks, capacity, gate)?;
     let lent = &shared;
     let (first, second) = thread::join(
         rt,
@@ -312,9 +319,7 @@ where
     requires seats { L.seats ≡ 2 }
     requires ports { (i : ℕ) → L.opened i ≡ untold_port }
 {
-    let (shared, seat, other) = open_held::<L, G, R, W>(
-        rt, alloc, blanks, capacity, gate,
-    )?;
+    let (shared, seat, other) = open_held::<L, G, R, W>(rt, alloc, blanks, capacity, gate)?;
     let lent = &shared;
     let (turned, _) = thread::join(
         rt,
@@ -332,13 +337,7 @@ where
 fn a_turn_goes_on_beside_a_held_table(rt: HostRuntime) -> Result<(), Fail> {
     let blanks = Blanks::new(2);
     let gate = closed_gate();
-    hold_beside_a_turn::<Brand, Brand, Brand, HostRuntime>(
-        &rt,
-        rt.alloc(),
-        blanks,
-        64,
-        &gate,
-    )
+    hold_beside_a_turn::<Brand, Brand, Brand, HostRuntime>(&rt, rt.alloc(), blanks, 64, &gate)
 }
 
 // Nothing that waits for a table holds the book.
@@ -349,9 +348,7 @@ fn hold_beside<W: Wait + Abort + Threads + Sync>(
 ) -> Result<(), Fail> {
     let blanks = Blanks::new(2);
     let gate = closed_gate();
-    hold_beside_an_ask::<Brand, Brand, Brand, W>(
-        rt, alloc, blanks, 64, &gate, call,
-    )
+    hold_beside_an_ask::<Brand, Brand, Brand, W>(rt, alloc, blanks, 64, &gate, call)
 }
 
 #[test]

@@ -211,7 +211,16 @@ fn open<L: Rates, G: Ledger, R: Ledger>(
     let p2 = roomy(alloc)?;
     let p3 = roomy(alloc)?;
     Ok(Shared::new(
-        alloc, blanks.rates, blanks.granted, blanks.refused, capacity, seats, p0, p1, p2, p3,
+        alloc,
+        blanks.rates,
+        blanks.granted,
+        blanks.refused,
+        capacity,
+        seats,
+        p0,
+        p1,
+        p2,
+        p3,
     )?)
 }
 
@@ -483,12 +492,7 @@ where
     (a.0, b.0)
 }
 
-fn two_seats<L, G, R, W>(
-    rt: &W,
-    alloc: Global,
-    blanks: Blanks,
-    capacity: u64,
-) -> Result<(), Fail>
+fn two_seats<L, G, R, W>(rt: &W, alloc: Global, blanks: Blanks, capacity: u64) -> Result<(), Fail>
 where
     L: Rates + Sync,
     G: Ledger + Sync,
