@@ -1,4 +1,4 @@
-use Rattle.std.proofs.Common.{[], ◌∷◌, ◌++◌, None, map, subst, sym}
+use Rattle.std.proofs.Common.{◌≡◌, [], ◌∷◌, ◌++◌, None, Err, ap, map, subst, sym}
 use Rattle.std.proofs.lemmas.List.{map-append}
 use Rattle.std.proofs.lemmas.Result.{err_from_is_err_and, on_err_weaker, on_ok_weaker}
 use Rattle.ptu_outside.specs.Handing.{HasPut, HasPutPart}
@@ -6,6 +6,7 @@ use Rattle.ptu_outside.proofs.Putting.{HasPut-append, HasPut-part, HasPutPart-ap
 use Rattle.ptu_slave_daemon.specs.declared.line.SlaveLine.TheVariants.{Closing}
 use Rattle.ptu_slave_daemon.specs.Happenings.{record_after}
 use Rattle.ptu_slave_daemon.specs.Lines.{changes, line_text, selected_line, texts_of}
+use Rattle.ptu_slave_daemon.specs.declared.halt.Halt.{Halt}
 use Rattle.ptu_slave_daemon.specs.declared.halt.Halt.TheVariants.{Write}
 use Rattle.ptu_slave_daemon.proofs.Fronts.{front_rounds, front_run, of_err}
 use Rattle.ptu_slave_daemon.proofs.OneRound.{done_run}
@@ -77,5 +78,6 @@ pub returns-in_err-counts-clause-stopped : goal.returns-in_err-counts-clause-sto
 returns-in_err-counts-clause-stopped g c =
     let p = err_from_is_err_and c.from_residual.result c.from_residual.ensures.1 in
     rw (p.1, p.2) (λ is.
-    let d = c.in_err-counts.ensures.stopped is in
+    let write : c.in_err-counts.field-0.0 ≡ Write = cc is in
+    let d = c.in_err-counts.ensures.stopped (ap (λ (e : Halt). Err e) write) in
     (map selected_line (changes None d.1), d.5, λ node L h. front_rounds node L _ _ _ _ _ _ _ _ d.0 c.args.rounds d.1 d.2 d.3 d.4 (d.6 node L h)))
