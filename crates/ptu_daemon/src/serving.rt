@@ -13,7 +13,6 @@ ghost use Rattle.ptu_daemon.specs.Serving.{HasServed, Serves};
 
 use crate::closing::{Closing, closing_text};
 use crate::daemon::Daemon;
-use ptu_admit::Closed;
 use ptu_config::GmSettings;
 use ptu_grandmaster::Gm;
 use ptu_header::PortIdentity;
@@ -81,38 +80,23 @@ fn serve_rounds<P: Port, C: Clock>(
     ensures serves { IfOk result (λ r.
         Serves P.Port C.Clock settings.now opened r.0 (said_by r.1)) }
 {
-    let Opened {
-        p0,
-        p1,
-        p2,
-        p3,
-        p4,
-        p5,
-        c0,
-        c1,
-        c2,
-        c3,
-        c4,
-        c5,
-    } = opened;
     let gm = Gm::new(
         alloc,
         config(settings),
         settings.capacity,
-        p0,
-        p1,
-        p2,
-        p3,
-        p4,
+        opened.p0,
+        opened.p1,
+        opened.p2,
+        opened.p3,
+        opened.p4,
     );
     let mut daemon = Daemon {
         gm,
-        event: p5,
-        clock: c0,
+        event: opened.p5,
+        clock: opened.c0,
     };
     let tally = daemon.rounds(settings)?;
-    let Daemon { gm, event, clock } = daemon;
-    let (closed, reply) = gm.close();
+    let (closed, reply) = daemon.gm.close();
     let closing = Closing {
         rounds: settings.rounds,
         sent: tally.sent,
@@ -121,20 +105,15 @@ fn serve_rounds<P: Port, C: Clock>(
         refused: closed.refused,
         held: closed.total,
     };
-    let Closed { p0, p1, p2, p3, .. } = closed;
     let back = Opened {
-        p0,
-        p1,
-        p2,
-        p3,
+        p0: closed.p0,
+        p1: closed.p1,
+        p2: closed.p2,
+        p3: closed.p3,
         p4: reply,
-        p5: event,
-        c0: clock,
-        c1,
-        c2,
-        c3,
-        c4,
-        c5,
+        p5: daemon.event,
+        c0: daemon.clock,
+        ..opened
     };
     Ok((back, closing))
 }

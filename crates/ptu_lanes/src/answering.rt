@@ -12,6 +12,7 @@ ghost use Rattle.ptu_lanes.specs.Answers.{CancelFits, HasAnswered, WasDecided};
 ghost use Rattle.ptu_lanes.specs.Rounds.{HasReplied, reply_if_any};
 
 use crate::client::client;
+use crate::service::Service;
 use crate::signaling::{Control, IDLE};
 use ptu_admit::Cancelled;
 use ptu_grandmaster::{Outcome, Outcomes, reply_of};
@@ -20,16 +21,21 @@ use ptu_history::Client;
 use ptu_items::{Heard, Item, hear};
 use ptu_outside::{Channel, Port, Sends, hand};
 use ptu_shard::GmConfig;
-use ptu_shared::{Rates, Seat, Shared};
+use ptu_shared::{Rates, Seat};
 use ptu_units::{Kind, Moment, OutOfMemory};
-use std::alloc::Global;
 use std::sync::Wait;
 use std::sync::ledger::Ledger;
 
+/// Where a datagram came from, and when.
+#[derive(Clone, Copy)]
+pub(crate) struct Origin {
+    pub from: u32,
+    pub at: Moment,
+}
+
 // Ends the client's grant of the kind with this messageType, if a kind has it.
-fn end<P: Port + Send, L: Rates, G: Ledger, R: Ledger>(
-    rt: &impl Wait,
-    shared: &Shared<P, L, G, R>,
+fn end<P: Port + Send, L: Rates, G: Ledger, R: Ledger, W: Wait>(
+    service: &Service<'_, P, L, G, R, W>,
     t: Moment,
     client: &Client,
     code: u8,
@@ -37,67 +43,63 @@ fn end<P: Port + Send, L: Rates, G: Ledger, R: Ledger>(
     ensures { CancelFits t (kind_of code) result }
 {
     match Kind::of(code) {
-        Some(kind) => Some(shared.cancel(rt, t, client, kind)),
+        Some(kind) => Some(service.shared.cancel(service.rt, t, client, kind)),
         None => None,
     }
 }
 
 // Decides an item of the client at the shared tables.
-fn answer_item<P: Port + Send, L: Rates, G: Ledger, R: Ledger>(
-    rt: &impl Wait,
-    shared: &Shared<P, L, G, R>,
+fn answer_item<P: Port + Send, L: Rates, G: Ledger, R: Ledger, W: Wait>(
+    service: &Service<'_, P, L, G, R, W>,
     seat: &mut Seat<G, R>,
-    config: &GmConfig,
     t: Moment,
     client: &Client,
     item: Item,
 ) -> Result<Outcome, OutOfMemory>
     requires ledger { L.parts ≡ 4 }
-    requires limits { IsWithinLimits config.now }
+    requires limits { IsWithinLimits service.now.config.now }
     requires counts { (seat.old.granted < 2 ^ 48) × (seat.old.refused < 2 ^ 48) }
     ensures item { IfOk result (λ o. item_seen o ≡ item) }
-    ensures decided { IfOk result (WasDecided L.most config.now t client.now) }
-    ensures answered { IfOk result (λ o. HasAnswered config.now (item ∷ [])
+    ensures decided { IfOk result (WasDecided L.most service.now.config.now t client.now) }
+    ensures answered { IfOk result (λ o. HasAnswered service.now.config.now (item ∷ [])
         (answer_to (decision_seen o) ∷ []) seat.old seat.new) }
     ensures no_less { (seat.old.granted ≤ seat.new.granted)
         × (seat.old.refused ≤ seat.new.refused) }
 {
     match item {
         Item::Request(ask) => {
-            let verdict = shared.admit(rt, seat, config, t, client, &ask)?;
+            let Service { shared, config, .. } = service;
+            let verdict = shared.admit(service.rt, seat, config, t, client, &ask)?;
             Ok(Outcome::Verdict(ask, verdict))
         }
         Item::Cancel(code) => {
-            let cancelled = end(rt, shared, t, client, code);
+            let cancelled = end(service, t, client, code);
             Ok(Outcome::Cancel(code, cancelled))
         }
     }
 }
 
 // Decides the items of the client at the shared tables, in order.
-fn answer_items<P: Port + Send, L: Rates, G: Ledger, R: Ledger>(
-    rt: &impl Wait,
-    alloc: Global,
-    shared: &Shared<P, L, G, R>,
+fn answer_items<P: Port + Send, L: Rates, G: Ledger, R: Ledger, W: Wait>(
+    service: &Service<'_, P, L, G, R, W>,
     seat: &mut Seat<G, R>,
-    config: &GmConfig,
     t: Moment,
     client: &Client,
     items: &[Item],
 ) -> Result<Outcomes, OutOfMemory>
     requires ledger { L.parts ≡ 4 }
-    requires limits { IsWithinLimits config.now }
+    requires limits { IsWithinLimits service.now.config.now }
     requires few { length items.now ≤ 32 }
     requires counts { (seat.old.granted + 32 ≤ 2 ^ 48) × (seat.old.refused + 32 ≤ 2 ^ 48) }
     ensures items { IfOk result (λ os. map item_seen os ≡ items.now) }
     ensures answered { IfOk result (λ os.
-        HasAnswered config.now items.now (answers_seen os) seat.old seat.new) }
+        HasAnswered service.now.config.now items.now (answers_seen os) seat.old seat.new) }
     ensures no_less { (seat.old.granted ≤ seat.new.granted)
         × (seat.old.refused ≤ seat.new.refused) }
 {
-    let mut outcomes = Vec::new(alloc);
+    let mut outcomes = Vec::new(service.alloc);
     for item in items {
-        outcomes.push(answer_item(rt, shared, seat, config, t, client, *item)?)?;
+        outcomes.push(answer_item(service, seat, t, client, *item)?)?;
     }
     Ok(Outcomes::new(outcomes))
 }
@@ -125,26 +127,22 @@ fn send_reply<P: Port>(
 }
 
 // Answers a Signaling with this header: all its items, and then one reply.
-fn answer_signaling<P: Port + Send, L: Rates, G: Ledger, R: Ledger>(
-    rt: &impl Wait,
-    alloc: Global,
-    shared: &Shared<P, L, G, R>,
+fn answer_signaling<P: Port + Send, L: Rates, G: Ledger, R: Ledger, W: Wait>(
+    service: &Service<'_, P, L, G, R, W>,
     seat: &mut Seat<G, R>,
-    config: &GmConfig,
     port: &mut P,
-    t: Moment,
-    from: u32,
+    origin: Origin,
     header: &Header,
     items: &[Item],
 ) -> Result<Control, OutOfMemory>
     requires ledger { L.parts ≡ 4 }
-    requires limits { IsWithinLimits config.now }
+    requires limits { IsWithinLimits service.now.config.now }
     requires answerable { AreAnswerable items.now }
     requires counts { (seat.old.granted + 32 ≤ 2 ^ 48) × (seat.old.refused + 32 ≤ 2 ^ 48) }
     ensures answered { IfOk result (λ c. (answers : List Tlv)
-        × HasAnswered config.now items.now answers seat.old seat.new
+        × HasAnswered service.now.config.now items.now answers seat.old seat.new
         × HandsOver P.Port port.old port.new
-        (reply_if_any config.now from header.now answers) c.sent c.failed) }
+        (reply_if_any service.now.config.now origin.from header.now answers) c.sent c.failed) }
     ensures asks { IfOk result (λ c. seat.new.granted + seat.new.refused
         ≡ seat.old.granted + seat.old.refused + c.asks) }
     ensures unsent { OnErr result (port.new ≡ port.old) }
@@ -152,9 +150,9 @@ fn answer_signaling<P: Port + Send, L: Rates, G: Ledger, R: Ledger>(
         × (seat.old.refused ≤ seat.new.refused) }
 {
     let before = seat.granted() + seat.refused();
-    let client = client(from, header);
-    let outcomes = answer_items(rt, alloc, shared, seat, config, t, &client, items)?;
-    let sends = send_reply(port, config, from, header, &outcomes);
+    let client = client(origin.from, header);
+    let outcomes = answer_items(service, seat, origin.at, &client, items)?;
+    let sends = send_reply(port, service.config, origin.from, header, &outcomes);
     Ok(Control {
         asks: seat.granted() + seat.refused() - before,
         sent: sends.sent,
@@ -162,41 +160,29 @@ fn answer_signaling<P: Port + Send, L: Rates, G: Ledger, R: Ledger>(
     })
 }
 
-// Answers a datagram that came from this IPv4 address. Whatever is no Signaling is ignored.
-pub(crate) fn answer_datagram<P: Port + Send, L: Rates, G: Ledger, R: Ledger>(
-    rt: &impl Wait,
-    alloc: Global,
-    shared: &Shared<P, L, G, R>,
+// Answers a datagram of this origin. Whatever is no Signaling is ignored.
+pub(crate) fn answer_datagram<P: Port + Send, L: Rates, G: Ledger, R: Ledger, W: Wait>(
+    service: &Service<'_, P, L, G, R, W>,
     seat: &mut Seat<G, R>,
-    config: &GmConfig,
     port: &mut P,
-    t: Moment,
-    from: u32,
+    origin: Origin,
     bytes: &[u8],
 ) -> Result<Control, OutOfMemory>
     requires ledger { L.parts ≡ 4 }
-    requires limits { IsWithinLimits config.now }
+    requires limits { IsWithinLimits service.now.config.now }
     requires counts { (seat.old.granted + 32 ≤ 2 ^ 48) × (seat.old.refused + 32 ≤ 2 ^ 48) }
-    ensures replied { IfOk result (λ c. (answers : List Tlv) × HasReplied P.Port config.now
-        (record { datagram = record { ip = from; bytes = bytes.now }; answers = answers })
+    ensures replied { IfOk result (λ c. (answers : List Tlv)
+        × HasReplied P.Port service.now.config.now
+        (record { datagram = record { ip = origin.from; bytes = bytes.now }; answers = answers })
         port.old port.new seat.old seat.new c.asks c.sent c.failed) }
     ensures unsent { OnErr result (port.new ≡ port.old) }
     ensures no_less { (seat.old.granted ≤ seat.new.granted)
         × (seat.old.refused ≤ seat.new.refused) }
 {
-    match hear(alloc, config, bytes)? {
-        Ok(Heard::Asks(header, items)) => answer_signaling(
-            rt,
-            alloc,
-            shared,
-            seat,
-            config,
-            port,
-            t,
-            from,
-            &header,
-            items.list(),
-        ),
+    match hear(service.alloc, service.config, bytes)? {
+        Ok(Heard::Asks(header, items)) => {
+            answer_signaling(service, seat, port, origin, &header, items.list())
+        }
         Ok(Heard::DelayReq(_)) => Ok(IDLE),
         Err(_) => Ok(IDLE),
     }

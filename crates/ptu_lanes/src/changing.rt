@@ -11,11 +11,11 @@ ghost use Rattle.ptu_lanes.specs.Changing.{change_of};
 ghost use Rattle.ptu_lanes.specs.Waiting.{PassedBy};
 
 use crate::lanes::{ControlLane, Tally};
+use crate::service::Service;
 use ptu_config::GmSettings;
 use ptu_grandmaster::send_cancels;
 use ptu_outside::{Clock, Port};
-use ptu_shard::GmConfig;
-use ptu_shared::{Rates, Shared};
+use ptu_shared::Rates;
 use ptu_units::OutOfMemory;
 use std::sync::Wait;
 use std::sync::ledger::Ledger;
@@ -41,10 +41,8 @@ pub(crate) fn change(settings: &GmSettings) -> Option<u64>
 ///
 /// # Errors
 /// `OutOfMemory`, and then nothing has changed.
-pub(crate) fn change_capacity<P: Port + Send, C: Clock, L: Rates, G: Ledger, R: Ledger>(
-    rt: &impl Wait,
-    shared: &Shared<P, L, G, R>,
-    config: &GmConfig,
+pub(crate) fn change_capacity<P: Port + Send, C: Clock, L: Rates, G: Ledger, R: Ledger, W: Wait>(
+    service: &Service<'_, P, L, G, R, W>,
     capacity: u64,
     lane: &mut ControlLane<P, C, G, R>,
 ) -> Result<(), OutOfMemory>
@@ -52,7 +50,7 @@ pub(crate) fn change_capacity<P: Port + Send, C: Clock, L: Rates, G: Ledger, R: 
     requires capacity { IsCapacity capacity }
     requires most { capacity ≤ L.most }
     ensures sends { IfOk result (λ _. (shed : List (Client × Kind)) × (sent : ℕ) × (failed : ℕ)
-        × HandsOver P.Port lane.old.port lane.new.port (cancels_to config.now 0 shed)
+        × HandsOver P.Port lane.old.port lane.new.port (cancels_to service.now.config.now 0 shed)
         sent failed
         × (lane.new.tally.failed ≡ min (lane.old.tally.failed + failed) (2 ^ 64 - 1))) }
     ensures moment { IfOk result (λ _.
@@ -60,8 +58,10 @@ pub(crate) fn change_capacity<P: Port + Send, C: Clock, L: Rates, G: Ledger, R: 
     ensures unsent { OnErr result (lane.new.port ≡ lane.old.port) }
     ensures seat { lane.new.seat ≡ lane.old.seat }
 {
-    let resized = shared.resize(rt, lane.clock.now(), capacity)?;
-    let sends = send_cancels(&mut lane.port, config, 0, resized.shed.list());
+    let resized = service
+        .shared
+        .resize(service.rt, lane.clock.now(), capacity)?;
+    let sends = send_cancels(&mut lane.port, service.config, 0, resized.shed.list());
     lane.tally = lane.tally.plus(sends.sent, sends.failed);
     Ok(())
 }

@@ -6,13 +6,15 @@ ghost use Rattle.ptu_shard.specs.Config.{IsWithinLimits};
 ghost use Rattle.ptu_shared.specs.Opening.{HaveFailed};
 ghost use Rattle.ptu_lanes.specs.Waiting.{GaveFirst, HasTaken, Took};
 
+use crate::answering::Origin;
 use crate::client::client;
+use crate::service::Service;
 use crate::signaling::MOST_DATAGRAMS;
 use ptu_items::{Heard, hear};
 use ptu_outside::{Clock, Port};
 use ptu_shard::{Answered, GmConfig};
 use ptu_shared::{Rates, Shared};
-use ptu_units::{Moment, OutOfMemory};
+use ptu_units::OutOfMemory;
 use std::alloc::Global;
 use std::sync::Wait;
 use std::sync::ledger::Ledger;
@@ -47,24 +49,22 @@ fn delays_of(answered: &Answered) -> Delays
     }
 }
 
-// Answers a datagram that came from this IPv4 address. Whatever is no Delay_Req is ignored.
-fn answer_delay<P: Port + Send, L: Rates, G: Ledger, R: Ledger>(
-    rt: &impl Wait,
-    alloc: Global,
-    shared: &Shared<P, L, G, R>,
-    config: &GmConfig,
-    t: Moment,
-    from: u32,
+// Answers a datagram of this origin. Whatever is no Delay_Req is ignored.
+fn answer_delay<P: Port + Send, L: Rates, G: Ledger, R: Ledger, W: Wait>(
+    service: &Service<'_, P, L, G, R, W>,
+    origin: Origin,
     bytes: &[u8],
 ) -> Result<Delays, OutOfMemory>
-    requires { IsWithinLimits config.now }
+    requires { IsWithinLimits service.now.config.now }
     ensures most { IfOk result (λ s. s.sent + s.failed ≤ 1) }
     ensures missed { IfOk result (λ s. s.missed ≡ 0) }
 {
-    match hear(alloc, config, bytes)? {
+    match hear(service.alloc, service.config, bytes)? {
         Ok(Heard::DelayReq(header)) => {
-            let client = client(from, &header);
-            let answered = shared.answer_delay(rt, config, t, &client, &header);
+            let client = client(origin.from, &header);
+            let answered = service
+                .shared
+                .answer_delay(service.rt, service.config, origin.at, &client, &header);
             Ok(delays_of(&answered))
         }
         Ok(Heard::Asks(..)) | Err(_) => Ok(IDLE),
@@ -73,16 +73,13 @@ fn answer_delay<P: Port + Send, L: Rates, G: Ledger, R: Ledger>(
 
 // Takes the first datagram that waits, if one does, and answers it at a new moment of the clock.
 // Gives what was sent, and whether there may be more to take.
-fn take_one<P: Port + Send, C: Clock, L: Rates, G: Ledger, R: Ledger>(
-    rt: &impl Wait,
-    alloc: Global,
-    shared: &Shared<P, L, G, R>,
-    config: &GmConfig,
+fn take_one<P: Port + Send, C: Clock, L: Rates, G: Ledger, R: Ledger, W: Wait>(
+    service: &Service<'_, P, L, G, R, W>,
     port: &mut P,
     clock: &mut C,
     buffer: &mut [u8; 2048],
 ) -> Result<(Delays, bool), OutOfMemory>
-    requires { IsWithinLimits config.now }
+    requires { IsWithinLimits service.now.config.now }
     ensures most { IfOk result (λ r. r.0.sent + r.0.failed + r.0.missed ≤ 1) }
     ensures taken { IfOk result (λ r. HasTaken P.Port C.Clock (if r.1 then 1 else 0) r.0.missed
         port.old port.new clock.old clock.new) }
@@ -94,9 +91,8 @@ fn take_one<P: Port + Send, C: Clock, L: Rates, G: Ledger, R: Ledger>(
 {
     match port.receive(buffer) {
         Ok(Some((from, size))) => {
-            let t = clock.now();
-            let bytes = &buffer[..size];
-            let delays = answer_delay(rt, alloc, shared, config, t, from, bytes)?;
+            let at = clock.now();
+            let delays = answer_delay(service, Origin { from, at }, &buffer[..size])?;
             Ok((delays, true))
         }
         Ok(None) => Ok((IDLE, false)),
@@ -137,10 +133,16 @@ pub fn delay_round<P: Port + Send, C: Clock, L: Rates, G: Ledger, R: Ledger>(
     ensures goes_on { P.has_ceased port.new ≡ P.has_ceased port.old }
     ensures no_fall { HasNotFallen (P.faults port.old) (P.faults port.new) }
 {
+    let service = Service {
+        rt,
+        alloc,
+        shared,
+        config,
+    };
     let mut delays = IDLE;
     let mut buffer = [0; 2048];
     for _i in 0..MOST_DATAGRAMS {
-        let (one, goes_on) = take_one(rt, alloc, shared, config, port, clock, &mut buffer)?;
+        let (one, goes_on) = take_one(&service, port, clock, &mut buffer)?;
         delays.sent += one.sent;
         delays.failed += one.failed;
         delays.missed += one.missed;

@@ -7,13 +7,12 @@ ghost use Rattle.ptu_lanes.specs.Waiting.{PassedBy, TurnedOwn, own_tables};
 
 use crate::delays::delay_round;
 use crate::meeting::Meeting;
+use crate::service::Service;
 use crate::signaling::control_round;
 use crate::turns::turn_round;
 use ptu_outside::{Clock, Port};
-use ptu_shard::GmConfig;
-use ptu_shared::{Rates, Seat, Shared};
+use ptu_shared::{Rates, Seat};
 use ptu_units::OutOfMemory;
-use std::alloc::Global;
 use std::sync::Wait;
 use std::sync::ledger::Ledger;
 use std::thread::{Threads, join};
@@ -71,26 +70,38 @@ pub(crate) struct SendingLanes<C: Clock> {
     pub fourth: SendingLane<C>,
 }
 
+/// So many rounds, with a meeting after each.
+#[derive(Drop)]
+pub(crate) struct Rounds<'a> {
+    pub meeting: &'a Meeting,
+    pub count: u32,
+}
+
+// The place of a lane among those at work that turn tables.
+#[derive(Clone, Copy)]
+struct Position {
+    index: usize,
+    count: usize,
+}
+
 // A round of the lane that takes Signaling.
-fn take_signaling<P: Port + Send, C: Clock, L: Rates, G: Ledger, R: Ledger>(
-    rt: &impl Wait,
-    alloc: Global,
-    shared: &Shared<P, L, G, R>,
-    config: &GmConfig,
+fn take_signaling<P: Port + Send, C: Clock, L: Rates, G: Ledger, R: Ledger, W: Wait>(
+    service: &Service<'_, P, L, G, R, W>,
     mut lane: ControlLane<P, C, G, R>,
 ) -> Result<ControlLane<P, C, G, R>, OutOfMemory>
     requires ledger { L.parts ≡ 4 }
-    requires limits { IsWithinLimits config.now }
+    requires limits { IsWithinLimits service.now.config.now }
     requires counts { (lane.seat.granted ≤ 2 ^ 47) × (lane.seat.refused ≤ 2 ^ 47) }
-    ensures { IfOk result (λ new. TookSignaling P.Port C.Clock config.now 1 lane.port new.port
-        lane.clock new.clock lane.seat new.seat lane.tally.failed new.tally.failed) }
+    ensures { IfOk result (λ new. TookSignaling P.Port C.Clock service.now.config.now 1
+        lane.port new.port lane.clock new.clock lane.seat new.seat
+        lane.tally.failed new.tally.failed) }
 {
     let control = control_round(
-        rt,
-        alloc,
-        shared,
+        service.rt,
+        service.alloc,
+        service.shared,
         &mut lane.seat,
-        config,
+        service.config,
         &mut lane.port,
         &mut lane.clock,
     )?;
@@ -99,61 +110,66 @@ fn take_signaling<P: Port + Send, C: Clock, L: Rates, G: Ledger, R: Ledger>(
 }
 
 // A round of the lane that takes Delay_Reqs.
-fn take_delay_reqs<P: Port + Send, C: Clock, L: Rates, G: Ledger, R: Ledger>(
-    rt: &impl Wait,
-    alloc: Global,
-    shared: &Shared<P, L, G, R>,
-    config: &GmConfig,
+fn take_delay_reqs<P: Port + Send, C: Clock, L: Rates, G: Ledger, R: Ledger, W: Wait>(
+    service: &Service<'_, P, L, G, R, W>,
     mut lane: EventLane<P, C>,
 ) -> Result<EventLane<P, C>, OutOfMemory>
-    requires { IsWithinLimits config.now }
+    requires { IsWithinLimits service.now.config.now }
     ensures { IfOk result (λ new. TookDelayReqs P.Port C.Clock 1 lane.port new.port
         lane.clock new.clock lane.tally.failed new.tally.failed) }
 {
-    let delays = delay_round(rt, alloc, shared, config, &mut lane.port, &mut lane.clock)?;
+    let delays = delay_round(
+        service.rt,
+        service.alloc,
+        service.shared,
+        service.config,
+        &mut lane.port,
+        &mut lane.clock,
+    )?;
     lane.tally = lane.tally.plus(delays.sent, delays.missed);
     Ok(lane)
 }
 
-// A round of the lane of this index, of so many, that turns tables.
-fn turn_own<P: Port + Send, C: Clock, L: Rates, G: Ledger, R: Ledger>(
-    rt: &impl Wait,
-    shared: &Shared<P, L, G, R>,
-    config: &GmConfig,
-    index: usize,
-    count: usize,
+// A round of the lane at this position that turns tables.
+fn turn_own<P: Port + Send, C: Clock, L: Rates, G: Ledger, R: Ledger, W: Wait>(
+    service: &Service<'_, P, L, G, R, W>,
+    position: Position,
     mut lane: SendingLane<C>,
 ) -> SendingLane<C>
-    requires limits { IsWithinLimits config.now }
-    requires index { (index < count) × (count ≤ 4) }
-    ensures { PassedBy (own_tables count index)
+    requires limits { IsWithinLimits service.now.config.now }
+    requires index { (position.index < position.count) × (position.count ≤ 4) }
+    ensures { PassedBy (own_tables position.count position.index)
         (C.moments lane.clock) (C.moments result.clock) }
 {
-    let sends = turn_round(rt, shared, config, &mut lane.clock, index, count);
+    let sends = turn_round(
+        service.rt,
+        service.shared,
+        service.config,
+        &mut lane.clock,
+        position.index,
+        position.count,
+    );
     lane.sent = lane.sent.saturating_add(sends.sent.into());
     lane
 }
 
 // The rounds of the lane that takes Signaling, with a meeting after each.
-fn stay_signaling<P: Port + Send, C: Clock, L: Rates, G: Ledger, R: Ledger>(
-    rt: &impl Wait,
-    alloc: Global,
-    shared: &Shared<P, L, G, R>,
-    config: &GmConfig,
-    meeting: &Meeting,
-    rounds: u32,
+fn stay_signaling<P: Port + Send, C: Clock, L: Rates, G: Ledger, R: Ledger, W: Wait>(
+    service: &Service<'_, P, L, G, R, W>,
+    rounds: &Rounds<'_>,
     lane: ControlLane<P, C, G, R>,
 ) -> Result<ControlLane<P, C, G, R>, OutOfMemory>
     requires ledger { L.parts ≡ 4 }
-    requires limits { IsWithinLimits config.now }
+    requires limits { IsWithinLimits service.now.config.now }
     requires counts { lane.seat.granted + lane.seat.refused ≤ 2 ^ 46 }
-    ensures { IfOk result (λ new. TookSignaling P.Port C.Clock config.now rounds lane.port new.port
-        lane.clock new.clock lane.seat new.seat lane.tally.failed new.tally.failed) }
+    ensures { IfOk result (λ new. TookSignaling P.Port C.Clock service.now.config.now
+        rounds.now.count lane.port new.port lane.clock new.clock lane.seat new.seat
+        lane.tally.failed new.tally.failed) }
 {
     let mut lane = lane;
-    for i in 0..rounds {
-        lane = take_signaling(rt, alloc, shared, config, lane)?;
-        if !meeting.meet(rt, i) {
+    for i in 0..rounds.count {
+        lane = take_signaling(service, lane)?;
+        if !rounds.meeting.meet(service.rt, i) {
             return Err(OutOfMemory);
         }
     }
@@ -164,45 +180,45 @@ fn stay_signaling<P: Port + Send, C: Clock, L: Rates, G: Ledger, R: Ledger>(
 ///
 /// # Errors
 /// `OutOfMemory`, with the lane dropped: after the round in which it or another lane gave up.
-pub(crate) fn take_part_signaling<P: Port + Send, C: Clock, L: Rates, G: Ledger, R: Ledger>(
-    rt: &impl Wait,
-    alloc: Global,
-    shared: &Shared<P, L, G, R>,
-    config: &GmConfig,
-    meeting: &Meeting,
-    rounds: u32,
+pub(crate) fn take_part_signaling<
+    P: Port + Send,
+    C: Clock,
+    L: Rates,
+    G: Ledger,
+    R: Ledger,
+    W: Wait,
+>(
+    service: &Service<'_, P, L, G, R, W>,
+    rounds: &Rounds<'_>,
     lane: ControlLane<P, C, G, R>,
 ) -> Result<ControlLane<P, C, G, R>, OutOfMemory>
     requires ledger { L.parts ≡ 4 }
-    requires limits { IsWithinLimits config.now }
+    requires limits { IsWithinLimits service.now.config.now }
     requires counts { lane.seat.granted + lane.seat.refused ≤ 2 ^ 46 }
-    ensures { IfOk result (λ new. TookSignaling P.Port C.Clock config.now rounds lane.port new.port
-        lane.clock new.clock lane.seat new.seat lane.tally.failed new.tally.failed) }
+    ensures { IfOk result (λ new. TookSignaling P.Port C.Clock service.now.config.now
+        rounds.now.count lane.port new.port lane.clock new.clock lane.seat new.seat
+        lane.tally.failed new.tally.failed) }
 {
-    meeting.enter(rt);
-    let lane = stay_signaling(rt, alloc, shared, config, meeting, rounds, lane);
-    meeting.leave(rt, lane.is_err());
+    rounds.meeting.enter(service.rt);
+    let lane = stay_signaling(service, rounds, lane);
+    rounds.meeting.leave(service.rt, lane.is_err());
     lane
 }
 
 // The rounds of the lane that takes Delay_Reqs, with a meeting after each.
-fn stay_delay_reqs<P: Port + Send, C: Clock, L: Rates, G: Ledger, R: Ledger>(
-    rt: &impl Wait,
-    alloc: Global,
-    shared: &Shared<P, L, G, R>,
-    config: &GmConfig,
-    meeting: &Meeting,
-    rounds: u32,
+fn stay_delay_reqs<P: Port + Send, C: Clock, L: Rates, G: Ledger, R: Ledger, W: Wait>(
+    service: &Service<'_, P, L, G, R, W>,
+    rounds: &Rounds<'_>,
     lane: EventLane<P, C>,
 ) -> Result<EventLane<P, C>, OutOfMemory>
-    requires { IsWithinLimits config.now }
-    ensures { IfOk result (λ new. TookDelayReqs P.Port C.Clock rounds lane.port new.port
+    requires { IsWithinLimits service.now.config.now }
+    ensures { IfOk result (λ new. TookDelayReqs P.Port C.Clock rounds.now.count lane.port new.port
         lane.clock new.clock lane.tally.failed new.tally.failed) }
 {
     let mut lane = lane;
-    for i in 0..rounds {
-        lane = take_delay_reqs(rt, alloc, shared, config, lane)?;
-        if !meeting.meet(rt, i) {
+    for i in 0..rounds.count {
+        lane = take_delay_reqs(service, lane)?;
+        if !rounds.meeting.meet(service.rt, i) {
             return Err(OutOfMemory);
         }
     }
@@ -213,84 +229,74 @@ fn stay_delay_reqs<P: Port + Send, C: Clock, L: Rates, G: Ledger, R: Ledger>(
 ///
 /// # Errors
 /// `OutOfMemory`, with the lane dropped: after the round in which it or another lane gave up.
-pub(crate) fn take_part_delay_reqs<P: Port + Send, C: Clock, L: Rates, G: Ledger, R: Ledger>(
-    rt: &impl Wait,
-    alloc: Global,
-    shared: &Shared<P, L, G, R>,
-    config: &GmConfig,
-    meeting: &Meeting,
-    rounds: u32,
+pub(crate) fn take_part_delay_reqs<
+    P: Port + Send,
+    C: Clock,
+    L: Rates,
+    G: Ledger,
+    R: Ledger,
+    W: Wait,
+>(
+    service: &Service<'_, P, L, G, R, W>,
+    rounds: &Rounds<'_>,
     lane: EventLane<P, C>,
 ) -> Result<EventLane<P, C>, OutOfMemory>
-    requires { IsWithinLimits config.now }
-    ensures { IfOk result (λ new. TookDelayReqs P.Port C.Clock rounds lane.port new.port
+    requires { IsWithinLimits service.now.config.now }
+    ensures { IfOk result (λ new. TookDelayReqs P.Port C.Clock rounds.now.count lane.port new.port
         lane.clock new.clock lane.tally.failed new.tally.failed) }
 {
-    meeting.enter(rt);
-    let lane = stay_delay_reqs(rt, alloc, shared, config, meeting, rounds, lane);
-    meeting.leave(rt, lane.is_err());
+    rounds.meeting.enter(service.rt);
+    let lane = stay_delay_reqs(service, rounds, lane);
+    rounds.meeting.leave(service.rt, lane.is_err());
     lane
 }
 
-// The rounds of the lane of this index, of so many, that turns tables, with a meeting after each.
-fn stay_turning<P: Port + Send, C: Clock, L: Rates, G: Ledger, R: Ledger>(
-    rt: &impl Wait,
-    shared: &Shared<P, L, G, R>,
-    config: &GmConfig,
-    meeting: &Meeting,
-    rounds: u32,
-    index: usize,
-    count: usize,
+// The rounds of the lane at this position that turns tables, with a meeting after each.
+fn stay_turning<P: Port + Send, C: Clock, L: Rates, G: Ledger, R: Ledger, W: Wait>(
+    service: &Service<'_, P, L, G, R, W>,
+    rounds: &Rounds<'_>,
+    position: Position,
     lane: SendingLane<C>,
 ) -> Result<SendingLane<C>, OutOfMemory>
-    requires limits { IsWithinLimits config.now }
-    requires index { (index < count) × (count ≤ 4) }
+    requires limits { IsWithinLimits service.now.config.now }
+    requires index { (position.index < position.count) × (position.count ≤ 4) }
     ensures { IfOk result (λ new.
-        TurnedOwn C.Clock count index rounds lane.clock new.clock) }
+        TurnedOwn C.Clock position.count position.index rounds.now.count lane.clock new.clock) }
 {
     let mut lane = lane;
-    for i in 0..rounds {
-        lane = turn_own(rt, shared, config, index, count, lane);
-        if !meeting.meet(rt, i) {
+    for i in 0..rounds.count {
+        lane = turn_own(service, position, lane);
+        if !rounds.meeting.meet(service.rt, i) {
             return Err(OutOfMemory);
         }
     }
     Ok(lane)
 }
 
-// So many rounds of the lane of this index, of so many, that turns tables. `OutOfMemory` after the
-// round in which another lane gave up.
-fn take_part_turning<P: Port + Send, C: Clock, L: Rates, G: Ledger, R: Ledger>(
-    rt: &impl Wait,
-    shared: &Shared<P, L, G, R>,
-    config: &GmConfig,
-    meeting: &Meeting,
-    rounds: u32,
-    index: usize,
-    count: usize,
+// So many rounds of the lane at this position that turns tables. `OutOfMemory` after the round in
+// which another lane gave up.
+fn take_part_turning<P: Port + Send, C: Clock, L: Rates, G: Ledger, R: Ledger, W: Wait>(
+    service: &Service<'_, P, L, G, R, W>,
+    rounds: &Rounds<'_>,
+    position: Position,
     lane: SendingLane<C>,
 ) -> Result<SendingLane<C>, OutOfMemory>
-    requires limits { IsWithinLimits config.now }
-    requires index { (index < count) × (count ≤ 4) }
+    requires limits { IsWithinLimits service.now.config.now }
+    requires index { (position.index < position.count) × (position.count ≤ 4) }
     ensures { IfOk result (λ new.
-        TurnedOwn C.Clock count index rounds lane.clock new.clock) }
+        TurnedOwn C.Clock position.count position.index rounds.now.count lane.clock new.clock) }
 {
-    meeting.enter(rt);
-    let lane = stay_turning(rt, shared, config, meeting, rounds, index, count, lane);
-    meeting.leave(rt, false);
+    rounds.meeting.enter(service.rt);
+    let lane = stay_turning(service, rounds, position, lane);
+    rounds.meeting.leave(service.rt, false);
     lane
 }
 
-// The rounds of the lane of this index, of so many, and of the next one if there is one, side by
-// side.
+// The rounds of the lane at this position, and of the next one if there is one, side by side.
 fn turn_two<P, C, L, G, R, W>(
-    rt: &W,
-    shared: &Shared<P, L, G, R>,
-    config: &GmConfig,
-    meeting: &Meeting,
-    rounds: u32,
-    index: usize,
-    count: usize,
+    service: &Service<'_, P, L, G, R, W>,
+    rounds: &Rounds<'_>,
+    position: Position,
     lane: SendingLane<C>,
     next: SendingLane<C>,
 ) -> (
@@ -304,36 +310,41 @@ where
     G: Ledger + Sync,
     R: Ledger + Sync,
     W: Threads + Wait + Sync,
-    requires limits { IsWithinLimits config.now }
-    requires index { (index < count) × (count ≤ 4) }
-    requires next { index < 3 }
+    requires limits { IsWithinLimits service.now.config.now }
+    requires index { (position.index < position.count) × (position.count ≤ 4) }
+    requires next { position.index < 3 }
     ensures lane { IfOk result.0 (λ new.
-        TurnedOwn C.Clock count index rounds lane.clock new.clock) }
+        TurnedOwn C.Clock position.count position.index rounds.now.count lane.clock new.clock) }
     ensures next { IfOk result.1 (λ new.
-        TurnedOwn C.Clock count (index + 1) rounds next.clock new.clock) }
+        TurnedOwn C.Clock position.count (position.index + 1) rounds.now.count
+        next.clock new.clock) }
 {
+    let Position { index, count } = position;
     if count <= index + 1 {
-        let lane = take_part_turning(rt, shared, config, meeting, rounds, index, count, lane);
+        let lane = take_part_turning(service, rounds, position, lane);
         return (lane, Ok(next));
     }
+    let second = Position {
+        index: index + 1,
+        count,
+    };
     join(
-        rt,
+        service.rt,
         move ||
-            requires { IsWithinLimits config.now × (index < count) × (count ≤ 4) }
-        { take_part_turning(rt, shared, config, meeting, rounds, index, count, lane) },
+            requires { IsWithinLimits service.now.config.now
+                × (position.index < position.count) × (position.count ≤ 4) }
+        { take_part_turning(service, rounds, position, lane) },
         move ||
-            requires { IsWithinLimits config.now × (index + 1 < count) × (count ≤ 4) }
-        { take_part_turning(rt, shared, config, meeting, rounds, index + 1, count, next) },
+            requires { IsWithinLimits service.now.config.now
+                × (second.index < second.count) × (second.count ≤ 4) }
+        { take_part_turning(service, rounds, second, next) },
     )
 }
 
 // The rounds of all four, where more than two are at work, side by side.
 fn turn_four<P, C, L, G, R, W>(
-    rt: &W,
-    shared: &Shared<P, L, G, R>,
-    config: &GmConfig,
-    meeting: &Meeting,
-    rounds: u32,
+    service: &Service<'_, P, L, G, R, W>,
+    rounds: &Rounds<'_>,
     count: usize,
     lanes: SendingLanes<C>,
 ) -> (
@@ -353,16 +364,16 @@ where
     G: Ledger + Sync,
     R: Ledger + Sync,
     W: Threads + Wait + Sync,
-    requires limits { IsWithinLimits config.now }
+    requires limits { IsWithinLimits service.now.config.now }
     requires count { (2 < count) × (count ≤ 4) }
     ensures first { IfOk result.0.0 (λ new.
-        TurnedOwn C.Clock count 0 rounds lanes.first.clock new.clock) }
+        TurnedOwn C.Clock count 0 rounds.now.count lanes.first.clock new.clock) }
     ensures second { IfOk result.0.1 (λ new.
-        TurnedOwn C.Clock count 1 rounds lanes.second.clock new.clock) }
+        TurnedOwn C.Clock count 1 rounds.now.count lanes.second.clock new.clock) }
     ensures third { IfOk result.1.0 (λ new.
-        TurnedOwn C.Clock count 2 rounds lanes.third.clock new.clock) }
+        TurnedOwn C.Clock count 2 rounds.now.count lanes.third.clock new.clock) }
     ensures fourth { IfOk result.1.1 (λ new.
-        TurnedOwn C.Clock count 3 rounds lanes.fourth.clock new.clock) }
+        TurnedOwn C.Clock count 3 rounds.now.count lanes.fourth.clock new.clock) }
 {
     let SendingLanes {
         first,
@@ -371,13 +382,13 @@ where
         fourth,
     } = lanes;
     join(
-        rt,
+        service.rt,
         move ||
-            requires { IsWithinLimits config.now × (2 < count) × (count ≤ 4) }
-        { turn_two(rt, shared, config, meeting, rounds, 0, count, first, second) },
+            requires { IsWithinLimits service.now.config.now × (2 < count) × (count ≤ 4) }
+        { turn_two(service, rounds, Position { index: 0, count }, first, second) },
         move ||
-            requires { IsWithinLimits config.now × (2 < count) × (count ≤ 4) }
-        { turn_two(rt, shared, config, meeting, rounds, 2, count, third, fourth) },
+            requires { IsWithinLimits service.now.config.now × (2 < count) × (count ≤ 4) }
+        { turn_two(service, rounds, Position { index: 2, count }, third, fourth) },
     )
 }
 
@@ -387,11 +398,8 @@ where
 /// # Errors
 /// `OutOfMemory`, with the lanes dropped: after the round in which another lane gave up.
 pub(crate) fn turn_tables<P, C, L, G, R, W>(
-    rt: &W,
-    shared: &Shared<P, L, G, R>,
-    config: &GmConfig,
-    meeting: &Meeting,
-    rounds: u32,
+    service: &Service<'_, P, L, G, R, W>,
+    rounds: &Rounds<'_>,
     count: usize,
     lanes: SendingLanes<C>,
 ) -> Result<SendingLanes<C>, OutOfMemory>
@@ -402,14 +410,12 @@ where
     G: Ledger + Sync,
     R: Ledger + Sync,
     W: Threads + Wait + Sync,
-    requires limits { IsWithinLimits config.now }
+    requires limits { IsWithinLimits service.now.config.now }
     requires count { (1 ≤ count) × (count ≤ 4) }
-    ensures { IfOk result (HaveTurned C.Clock count rounds lanes) }
+    ensures { IfOk result (HaveTurned C.Clock count rounds.now.count lanes) }
 {
     if 2 < count {
-        let ((first, second), (third, fourth)) = turn_four(
-            rt, shared, config, meeting, rounds, count, lanes,
-        );
+        let ((first, second), (third, fourth)) = turn_four(service, rounds, count, lanes);
         return Ok(SendingLanes {
             first: first?,
             second: second?,
@@ -423,7 +429,7 @@ where
         third,
         fourth,
     } = lanes;
-    let (first, second) = turn_two(rt, shared, config, meeting, rounds, 0, count, first, second);
+    let (first, second) = turn_two(service, rounds, Position { index: 0, count }, first, second);
     Ok(SendingLanes {
         first: first?,
         second: second?,

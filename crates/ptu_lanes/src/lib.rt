@@ -10,6 +10,7 @@ mod delays;
 mod lanes;
 mod laws;
 mod meeting;
+mod service;
 mod serving;
 mod signaling;
 mod stretches;

@@ -14,6 +14,7 @@ ghost use Rattle.ptu_lanes.specs.Served.{IsControlled, ServesByLanes, TablesAreB
 
 use crate::changing::{change, change_capacity};
 use crate::lanes::{ControlLane, EventLane, SendingLane, SendingLanes, Tally};
+use crate::service::Service;
 use crate::stretches::{Lanes, stretch};
 use ptu_admit::Closed;
 use ptu_config::GmSettings;
@@ -51,11 +52,8 @@ fn sender_count(settings: &GmSettings) -> usize
 
 // All rounds, with the change of capacity where there is one.
 fn all_rounds<P, C, L, G, R, W>(
-    rt: &W,
-    alloc: Global,
-    shared: &Shared<P, L, G, R>,
+    service: &Service<'_, P, L, G, R, W>,
     settings: &GmSettings,
-    config: &GmConfig,
     lanes: Lanes<P, C, G, R>,
 ) -> Result<Lanes<P, C, G, R>, OutOfMemory>
 where
@@ -67,21 +65,21 @@ where
     W: Threads + Wait + Sync,
     requires range { IsGmInRange settings.now }
     requires senders { 1 ≤ settings.now.senders }
-    requires limits { IsWithinLimits config.now }
+    requires limits { IsWithinLimits service.now.config.now }
     requires ledger { L.parts ≡ 4 }
     requires most { greatest_capacity settings.now ≤ L.most }
     requires seat { lanes.control.seat ≡ no_verdicts }
     requires tallies { (lanes.control.tally.failed ≡ 0) × (lanes.event.tally.failed ≡ 0) }
     ensures control { IfOk result (λ new.
         ¬ HasRisen (P.faults lanes.control.port) (P.faults new.control.port)
-        → IfSome (P.waiting new.control.port) (λ left. IsControlled P.Port settings.now config.now
-        lanes.control.port new.control.port left
+        → IfSome (P.waiting new.control.port) (λ left. IsControlled P.Port settings.now
+        service.now.config.now lanes.control.port new.control.port left
         new.control.seat.granted new.control.seat.refused)) }
     ensures event { IfOk result (λ new.
         ¬ HasRisen (P.faults lanes.event.port) (P.faults new.event.port)
         → GaveFirst (64 * settings.now.rounds)
         (P.waiting lanes.event.port) (P.waiting new.event.port)) }
-    ensures exchanged { IfOk result (λ new. Exchanged P.Port C.Clock config.now
+    ensures exchanged { IfOk result (λ new. Exchanged P.Port C.Clock service.now.config.now
         (64 * settings.now.rounds) (change_moments settings.now)
         lanes.control.port new.control.port lanes.control.clock new.control.clock
         no_verdicts new.control.seat) }
@@ -99,13 +97,13 @@ where
 {
     let senders = sender_count(settings);
     let Some(capacity) = change(settings) else {
-        return stretch(rt, alloc, shared, config, senders, settings.rounds, lanes);
+        return stretch(service, senders, settings.rounds, lanes);
     };
     let early = settings.change_round - 1;
     let late = settings.rounds - early;
-    let mut lanes = stretch(rt, alloc, shared, config, senders, early, lanes)?;
-    change_capacity(rt, shared, config, capacity, &mut lanes.control)?;
-    stretch(rt, alloc, shared, config, senders, late, lanes)
+    let mut lanes = stretch(service, senders, early, lanes)?;
+    change_capacity(service, capacity, &mut lanes.control)?;
+    stretch(service, senders, late, lanes)
 }
 
 // The lanes that turn tables at these clocks, before their first round.
@@ -201,13 +199,19 @@ fn close<P: Port + Send, C: Clock, L: Rates, G: Ledger, R: Ledger>(
     Ok((back, totals))
 }
 
+// What becomes the ledgers of a grandmaster with one seat.
+#[derive(Drop)]
+struct Blanks {
+    rates: Blank,
+    granted: Blank,
+    refused: Blank,
+}
+
 // Serves a grandmaster under these ledgers.
 fn serve_under<P, C, L, G, R, W>(
     rt: &W,
     alloc: Global,
-    rates: Blank,
-    granted: Blank,
-    refused: Blank,
+    blanks: Blanks,
     settings: &GmSettings,
     config: &GmConfig,
     opened: Opened<P, C>,
@@ -219,10 +223,11 @@ where
     G: Ledger + Sync,
     R: Ledger + Sync,
     W: Threads + Wait + Sync,
-    requires rates { (rates.name ≡ L.name) × (rates.parts ≡ L.parts) × (L.parts ≡ 4) }
-    requires granted { (granted.name ≡ G.name) × (granted.parts ≡ G.parts)
+    requires rates { (blanks.rates.name ≡ L.name) × (blanks.rates.parts ≡ L.parts)
+        × (L.parts ≡ 4) }
+    requires granted { (blanks.granted.name ≡ G.name) × (blanks.granted.parts ≡ G.parts)
         × (G.parts ≡ L.seats) }
-    requires refused { (refused.name ≡ R.name) × (refused.parts ≡ R.parts)
+    requires refused { (blanks.refused.name ≡ R.name) × (blanks.refused.parts ≡ R.parts)
         × (R.parts ≡ L.seats) }
     requires most { L.most ≡ greatest_capacity settings.now }
     requires seats { L.seats ≡ 1 }
@@ -237,9 +242,9 @@ where
 {
     let (shared, mut seats) = Shared::<P, L, G, R>::new(
         alloc,
-        rates,
-        granted,
-        refused,
+        blanks.rates,
+        blanks.granted,
+        blanks.refused,
         settings.capacity,
         1,
         opened.p0,
@@ -264,7 +269,13 @@ where
         },
         sending: sending_lanes(opened.c2, opened.c3, opened.c4, opened.c5),
     };
-    let lanes = all_rounds(rt, alloc, &shared, settings, config, lanes)?;
+    let service = Service {
+        rt,
+        alloc,
+        shared: &shared,
+        config,
+    };
+    let lanes = all_rounds(&service, settings, lanes)?;
     close(shared, seats, lanes)
 }
 
@@ -296,14 +307,10 @@ where
     ensures { IfOk result (λ r. ServesByLanes P.Port C.Clock settings.now config.now opened r.0
         (numbers_of r.1)) }
 {
-    serve_under::<P, C, Brand, Brand, Brand, W>(
-        rt,
-        alloc,
-        Blank::new(4),
-        Blank::new(1),
-        Blank::new(1),
-        settings,
-        config,
-        opened,
-    )
+    let blanks = Blanks {
+        rates: Blank::new(4),
+        granted: Blank::new(1),
+        refused: Blank::new(1),
+    };
+    serve_under::<P, C, Brand, Brand, Brand, W>(rt, alloc, blanks, settings, config, opened)
 }

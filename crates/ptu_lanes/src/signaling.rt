@@ -6,7 +6,8 @@ ghost use Rattle.ptu_shard.specs.Config.{IsWithinLimits};
 ghost use Rattle.ptu_lanes.specs.Rounds.{BrokeOff, Exchange, Exchanged, HasServed, IsRound, IsUnanswered};
 ghost use Rattle.ptu_lanes.specs.Waiting.{PassedBy};
 
-use crate::answering::answer_datagram;
+use crate::answering::{Origin, answer_datagram};
+use crate::service::Service;
 use ptu_outside::{Clock, Port};
 use ptu_shard::GmConfig;
 use ptu_shared::{Rates, Seat, Shared};
@@ -38,22 +39,19 @@ pub(crate) const IDLE: Control = Control {
 
 // Takes the first datagram that waits, if one does, and answers it at a new moment of the clock.
 // Gives what was done, and whether there may be more to take.
-fn take_one<P: Port + Send, C: Clock, L: Rates, G: Ledger, R: Ledger>(
-    rt: &impl Wait,
-    alloc: Global,
-    shared: &Shared<P, L, G, R>,
+fn take_one<P: Port + Send, C: Clock, L: Rates, G: Ledger, R: Ledger, W: Wait>(
+    service: &Service<'_, P, L, G, R, W>,
     seat: &mut Seat<G, R>,
-    config: &GmConfig,
     port: &mut P,
     clock: &mut C,
     buffer: &mut [u8; 2048],
 ) -> Result<(Control, bool), OutOfMemory>
     requires ledger { L.parts ≡ 4 }
-    requires limits { IsWithinLimits config.now }
+    requires limits { IsWithinLimits service.now.config.now }
     requires counts { (seat.old.granted + 32 ≤ 2 ^ 48) × (seat.old.refused + 32 ≤ 2 ^ 48) }
     ensures served { IfOk result (λ r. (exchanges : List Exchange)
         × (length exchanges ≡ (if r.1 then 1 else 0))
-        × HasServed P.Port config.now exchanges port.old port.new
+        × HasServed P.Port service.now.config.now exchanges port.old port.new
         seat.old seat.new r.0.asks r.0.sent r.0.failed) }
     ensures failed { IfOk result (λ r. r.0.failed ≤ 1) }
     ensures end { IfOk result (λ r. r.1 ≡ false
@@ -66,9 +64,9 @@ fn take_one<P: Port + Send, C: Clock, L: Rates, G: Ledger, R: Ledger>(
 {
     match port.receive(buffer) {
         Ok(Some((from, size))) => {
-            let t = clock.now();
-            let bytes = &buffer[..size];
-            let answered = answer_datagram(rt, alloc, shared, seat, config, port, t, from, bytes)?;
+            let at = clock.now();
+            let origin = Origin { from, at };
+            let answered = answer_datagram(service, seat, port, origin, &buffer[..size])?;
             Ok((answered, true))
         }
         Ok(None) => Ok((IDLE, false)),
@@ -124,10 +122,16 @@ pub fn control_round<P: Port + Send, C: Clock, L: Rates, G: Ledger, R: Ledger>(
         → P.faults port.new ≡ P.faults port.old) }
     ensures no_fall { IfOk result (λ c. HasNotFallen (P.faults port.old) (P.faults port.new)) }
 {
+    let service = Service {
+        rt,
+        alloc,
+        shared,
+        config,
+    };
     let mut control = IDLE;
     let mut buffer = [0; 2048];
     for _i in 0..MOST_DATAGRAMS {
-        let (one, goes_on) = take_one(rt, alloc, shared, seat, config, port, clock, &mut buffer)?;
+        let (one, goes_on) = take_one(&service, seat, port, clock, &mut buffer)?;
         control.asks += one.asks;
         control.sent += one.sent;
         control.failed += one.failed;

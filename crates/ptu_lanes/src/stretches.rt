@@ -5,14 +5,14 @@ ghost use Rattle.ptu_shard.specs.Config.{IsWithinLimits};
 ghost use Rattle.ptu_lanes.specs.Stretches.{HaveTurned, TookDelayReqs, TookSignaling};
 
 use crate::lanes::{
-    ControlLane, EventLane, SendingLanes, take_part_delay_reqs, take_part_signaling, turn_tables,
+    ControlLane, EventLane, Rounds, SendingLanes, take_part_delay_reqs, take_part_signaling,
+    turn_tables,
 };
 use crate::meeting::{LOOKS, Meeting};
+use crate::service::Service;
 use ptu_outside::{Clock, Port};
-use ptu_shard::GmConfig;
-use ptu_shared::{Rates, Shared};
+use ptu_shared::Rates;
 use ptu_units::OutOfMemory;
-use std::alloc::Global;
 use std::sync::Wait;
 use std::sync::ledger::Ledger;
 use std::thread::{Threads, join};
@@ -27,12 +27,8 @@ pub(crate) struct Lanes<P: Port, C: Clock, G: Ledger, R: Ledger> {
 
 // So many rounds of the lanes that take datagrams, side by side.
 fn take_datagrams<P, C, L, G, R, W>(
-    rt: &W,
-    alloc: Global,
-    shared: &Shared<P, L, G, R>,
-    config: &GmConfig,
-    meeting: &Meeting,
-    rounds: u32,
+    service: &Service<'_, P, L, G, R, W>,
+    rounds: &Rounds<'_>,
     control: ControlLane<P, C, G, R>,
     event: EventLane<P, C>,
 ) -> (
@@ -47,38 +43,32 @@ where
     R: Ledger + Sync,
     W: Threads + Wait + Sync,
     requires ledger { L.parts ≡ 4 }
-    requires limits { IsWithinLimits config.now }
+    requires limits { IsWithinLimits service.now.config.now }
     requires counts { control.seat.granted + control.seat.refused ≤ 2 ^ 46 }
-    ensures control { IfOk result.0 (λ new. TookSignaling P.Port C.Clock config.now rounds
-        control.port new.port control.clock new.clock control.seat new.seat
+    ensures control { IfOk result.0 (λ new. TookSignaling P.Port C.Clock service.now.config.now
+        rounds.now.count control.port new.port control.clock new.clock control.seat new.seat
         control.tally.failed new.tally.failed) }
-    ensures event { IfOk result.1 (λ new. TookDelayReqs P.Port C.Clock rounds
+    ensures event { IfOk result.1 (λ new. TookDelayReqs P.Port C.Clock rounds.now.count
         event.port new.port event.clock new.clock event.tally.failed new.tally.failed) }
 {
     join(
-        rt,
+        service.rt,
         move ||
-            requires { (L.parts ≡ 4) × IsWithinLimits config.now
+            requires { (L.parts ≡ 4) × IsWithinLimits service.now.config.now
                 × (control.seat.granted + control.seat.refused ≤ 2 ^ 46) }
-        { take_part_signaling(rt, alloc, shared, config, meeting, rounds, control) },
+        { take_part_signaling(service, rounds, control) },
         move ||
-            requires { IsWithinLimits config.now }
-        { take_part_delay_reqs(rt, alloc, shared, config, meeting, rounds, event) },
+            requires { IsWithinLimits service.now.config.now }
+        { take_part_delay_reqs(service, rounds, event) },
     )
 }
 
 // So many rounds of all lanes, side by side.
 fn side_by_side<P, C, L, G, R, W>(
-    rt: &W,
-    alloc: Global,
-    shared: &Shared<P, L, G, R>,
-    config: &GmConfig,
-    meeting: &Meeting,
-    rounds: u32,
+    service: &Service<'_, P, L, G, R, W>,
+    rounds: &Rounds<'_>,
     senders: usize,
-    control: ControlLane<P, C, G, R>,
-    event: EventLane<P, C>,
-    sending: SendingLanes<C>,
+    lanes: Lanes<P, C, G, R>,
 ) -> (
     (
         Result<ControlLane<P, C, G, R>, OutOfMemory>,
@@ -94,25 +84,31 @@ where
     R: Ledger + Sync,
     W: Threads + Wait + Sync,
     requires ledger { L.parts ≡ 4 }
-    requires limits { IsWithinLimits config.now }
+    requires limits { IsWithinLimits service.now.config.now }
     requires senders { (1 ≤ senders) × (senders ≤ 4) }
-    requires counts { control.seat.granted + control.seat.refused ≤ 2 ^ 46 }
-    ensures control { IfOk result.0.0 (λ new. TookSignaling P.Port C.Clock config.now rounds
-        control.port new.port control.clock new.clock control.seat new.seat
-        control.tally.failed new.tally.failed) }
-    ensures event { IfOk result.0.1 (λ new. TookDelayReqs P.Port C.Clock rounds
-        event.port new.port event.clock new.clock event.tally.failed new.tally.failed) }
-    ensures sending { IfOk result.1 (HaveTurned C.Clock senders rounds sending) }
+    requires counts { lanes.control.seat.granted + lanes.control.seat.refused ≤ 2 ^ 46 }
+    ensures control { IfOk result.0.0 (λ new. TookSignaling P.Port C.Clock service.now.config.now
+        rounds.now.count lanes.control.port new.port lanes.control.clock new.clock
+        lanes.control.seat new.seat lanes.control.tally.failed new.tally.failed) }
+    ensures event { IfOk result.0.1 (λ new. TookDelayReqs P.Port C.Clock rounds.now.count
+        lanes.event.port new.port lanes.event.clock new.clock
+        lanes.event.tally.failed new.tally.failed) }
+    ensures sending { IfOk result.1 (HaveTurned C.Clock senders rounds.now.count lanes.sending) }
 {
+    let Lanes {
+        control,
+        event,
+        sending,
+    } = lanes;
     join(
-        rt,
+        service.rt,
         move ||
-            requires { (L.parts ≡ 4) × IsWithinLimits config.now
+            requires { (L.parts ≡ 4) × IsWithinLimits service.now.config.now
                 × (control.seat.granted + control.seat.refused ≤ 2 ^ 46) }
-        { take_datagrams(rt, alloc, shared, config, meeting, rounds, control, event) },
+        { take_datagrams(service, rounds, control, event) },
         move ||
-            requires { IsWithinLimits config.now × (1 ≤ senders) × (senders ≤ 4) }
-        { turn_tables(rt, shared, config, meeting, rounds, senders, sending) },
+            requires { IsWithinLimits service.now.config.now × (1 ≤ senders) × (senders ≤ 4) }
+        { turn_tables(service, rounds, senders, sending) },
     )
 }
 
@@ -121,10 +117,7 @@ where
 /// # Errors
 /// `OutOfMemory` after the round in which it came, with the lanes dropped.
 pub(crate) fn stretch<P, C, L, G, R, W>(
-    rt: &W,
-    alloc: Global,
-    shared: &Shared<P, L, G, R>,
-    config: &GmConfig,
+    service: &Service<'_, P, L, G, R, W>,
     senders: usize,
     rounds: u32,
     lanes: Lanes<P, C, G, R>,
@@ -137,10 +130,10 @@ where
     R: Ledger + Sync,
     W: Threads + Wait + Sync,
     requires ledger { L.parts ≡ 4 }
-    requires limits { IsWithinLimits config.now }
+    requires limits { IsWithinLimits service.now.config.now }
     requires senders { (1 ≤ senders) × (senders ≤ 4) }
     requires counts { lanes.control.seat.granted + lanes.control.seat.refused ≤ 2 ^ 46 }
-    ensures control { IfOk result (λ new. TookSignaling P.Port C.Clock config.now rounds
+    ensures control { IfOk result (λ new. TookSignaling P.Port C.Clock service.now.config.now rounds
         lanes.control.port new.control.port lanes.control.clock new.control.clock
         lanes.control.seat new.control.seat
         lanes.control.tally.failed new.control.tally.failed) }
@@ -150,23 +143,11 @@ where
     ensures sending { IfOk result (λ new.
         HaveTurned C.Clock senders rounds lanes.sending new.sending) }
 {
-    let Lanes {
-        control,
-        event,
-        sending,
-    } = lanes;
-    let ((control, event), sending) = side_by_side(
-        rt,
-        alloc,
-        shared,
-        config,
-        &Meeting::new(2 + senders as u64, LOOKS),
-        rounds,
-        senders,
-        control,
-        event,
-        sending,
-    );
+    let rounds = Rounds {
+        meeting: &Meeting::new(2 + senders as u64, LOOKS),
+        count: rounds,
+    };
+    let ((control, event), sending) = side_by_side(service, &rounds, senders, lanes);
     Ok(Lanes {
         control: control?,
         event: event?,

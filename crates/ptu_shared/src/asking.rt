@@ -12,12 +12,10 @@ ghost use Rattle.ptu_admit.specs.Lent.{Lent, StandFor, four, is_lent, live_other
 ghost use Rattle.ptu_admit.specs.Rows.{kept_rate};
 ghost use Rattle.ptu_admit.specs.Verdict.{IsAt, ask_of, config_of, unless_short, verdict_beside, verdict_of};
 ghost use Rattle.ptu_shared.specs.Answers.{AnswersAsk};
-ghost use Rattle.ptu_shared.specs.Seats.{counting};
 
 use crate::desk::{Desk, audit_table, audit_tables};
 use crate::place::{First, Fourth, Place, Second, Third};
 use crate::rates::{Rates, move_rate};
-use crate::seat::Seat;
 use crate::table::Table;
 use ptu_admit::{Verdict, decide_all, decide_one};
 use ptu_history::Client;
@@ -27,56 +25,69 @@ use ptu_tlvs::Ask;
 use ptu_units::Moment;
 use std::sync::ledger::Ledger;
 
+/// What a client asks for, from when on it may be decided, and under which configuration.
+#[derive(Drop)]
+pub(crate) struct Demand<'a> {
+    pub config: &'a GmConfig,
+    pub at: Moment,
+    pub client: &'a Client,
+    pub ask: &'a Ask,
+}
+
 // Decides an ask by `decide_one`, under the client's table and the book. `None` where that is, and
 // then nothing has changed.
 pub(crate) fn ask_one<P: Port, L: Rates, G: Ledger, R: Ledger, J: Place>(
     table: &mut Table<P, L, J>,
     desk: &mut Desk<L, G, R>,
-    seat: &mut Seat<G, R>,
-    config: &GmConfig,
-    t: Moment,
-    client: &Client,
-    ask: &Ask,
+    demand: &Demand<'_>,
 ) -> Option<Verdict>
-    requires limits { IsWithinLimits config.now }
-    requires counts { (seat.old.granted < 2 ^ 48) × (seat.old.refused < 2 ^ 48) }
+    requires limits { IsWithinLimits demand.now.config.now }
     requires room { 0 < table.old.shard.spare }
-    requires table { table_of_client client.now ≡ J.index }
+    requires table { table_of_client demand.now.client.now ≡ J.index }
     ensures answer { option_map verdict_of result
-        ≡ unless_short (verdict_beside (config_of desk.old.book.capacity config.now)
-        (λ k. desk.old.book.total - kept_rate client.now k table.old.shard.rows)
-        (max t (max desk.old.book.moment table.old.shard.moment)) (ask_of ask.now)) }
+        ≡ unless_short (verdict_beside (config_of desk.old.book.capacity demand.now.config.now)
+        (λ k. desk.old.book.total - kept_rate demand.now.client.now k table.old.shard.rows)
+        (max demand.now.at (max desk.old.book.moment table.old.shard.moment))
+        (ask_of demand.now.ask.now)) }
     ensures at { IfSome result
-        (IsAt (max t (max desk.old.book.moment table.old.shard.moment))) }
-    ensures verdict { IfSome result (AnswersAsk L.most config.now t client.now ask.now) }
-    ensures seat { IfSome result (λ v. seat.new ≡ counting v seat.old) }
-    ensures desk { IfSome result (λ v. counting v
-        (record { granted = desk.old.granted; refused = desk.old.refused })
-        ≡ record { granted = desk.new.granted; refused = desk.new.refused }) }
+        (IsAt (max demand.now.at (max desk.old.book.moment table.old.shard.moment))) }
+    ensures verdict { IfSome result
+        (AnswersAsk L.most demand.now.config.now demand.now.at demand.now.client.now
+        demand.now.ask.now) }
+    ensures desk { (desk.new.granted ≡ desk.old.granted)
+        × (desk.new.refused ≡ desk.old.refused) }
     ensures port { table.new.shard.port ≡ table.old.shard.port }
     ensures none { IfNone result ((table.new.shard ≡ table.old.shard)
-        × (desk.new.book ≡ desk.old.book) × (seat.new ≡ seat.old)) }
+        × (desk.new.book ≡ desk.old.book)) }
     ensures outcome { (opening : ℕ) (rest : List Lent) (history : List Record) →
-        StandFor opening (table_for client.now table.old.shard ∷ rest) desk.old.book history →
+        StandFor opening (table_for demand.now.client.now table.old.shard ∷ rest)
+        desk.old.book history →
         IfSome result (λ v. verdict_of v
-        ≡ verdict_after (config_of opening config.now) history
-        (max t (max desk.old.book.moment table.old.shard.moment)) client.now (ask_of ask.now)) }
+        ≡ verdict_after (config_of opening demand.now.config.now) history
+        (max demand.now.at (max desk.old.book.moment table.old.shard.moment)) demand.now.client.now
+        (ask_of demand.now.ask.now)) }
     ensures stands { (opening : ℕ) (rest : List Lent) (history : List Record) →
-        StandFor opening (table_for client.now table.old.shard ∷ rest) desk.old.book history →
-        is_lent (table_of_client client.now) rest ≡ false →
+        StandFor opening (table_for demand.now.client.now table.old.shard ∷ rest)
+        desk.old.book history →
+        is_lent (table_of_client demand.now.client.now) rest ≡ false →
         OnSome result
-        (StandFor opening (table_for client.now table.new.shard ∷ rest) desk.new.book (history
-        ++ (step (config_of opening config.now) history
-        (max t (max desk.old.book.moment table.old.shard.moment))
-        (Request client.now (ask_of ask.now))).records)) }
+        (StandFor opening (table_for demand.now.client.now table.new.shard ∷ rest)
+        desk.new.book (history
+        ++ (step (config_of opening demand.now.config.now) history
+        (max demand.now.at (max desk.old.book.moment table.old.shard.moment))
+        (Request demand.now.client.now (ask_of demand.now.ask.now))).records)) }
 {
     audit_table(table, desk);
     let before = table.shard.held();
-    let verdict = decide_one(&mut table.shard, &mut desk.book, config, t, client, ask);
+    let verdict = decide_one(
+        &mut table.shard,
+        &mut desk.book,
+        demand.config,
+        demand.at,
+        demand.client,
+        demand.ask,
+    );
     move_rate(&mut desk.rates, &mut table.part, before, table.shard.held());
-    if let Some(verdict) = &verdict {
-        desk.count(seat, verdict);
-    }
     verdict
 }
 
@@ -87,46 +98,41 @@ pub(crate) fn ask_all<P: Port, L: Rates, G: Ledger, R: Ledger>(
     t2: &mut Table<P, L, Third>,
     t3: &mut Table<P, L, Fourth>,
     desk: &mut Desk<L, G, R>,
-    seat: &mut Seat<G, R>,
-    config: &GmConfig,
-    t: Moment,
-    client: &Client,
-    ask: &Ask,
+    demand: &Demand<'_>,
 ) -> Verdict
     requires ledger { L.parts ≡ 4 }
-    requires limits { IsWithinLimits config.now }
-    requires counts { (seat.old.granted < 2 ^ 48) × (seat.old.refused < 2 ^ 48) }
-    requires room { (table_of_client client.now ≡ 0 → 0 < t0.old.shard.spare)
-        × (table_of_client client.now ≡ 1 → 0 < t1.old.shard.spare)
-        × (table_of_client client.now ≡ 2 → 0 < t2.old.shard.spare)
-        × (table_of_client client.now ≡ 3 → 0 < t3.old.shard.spare) }
+    requires limits { IsWithinLimits demand.now.config.now }
+    requires room { (table_of_client demand.now.client.now ≡ 0 → 0 < t0.old.shard.spare)
+        × (table_of_client demand.now.client.now ≡ 1 → 0 < t1.old.shard.spare)
+        × (table_of_client demand.now.client.now ≡ 2 → 0 < t2.old.shard.spare)
+        × (table_of_client demand.now.client.now ≡ 3 → 0 < t3.old.shard.spare) }
     ensures answer { let lent = four t0.old.shard t1.old.shard t2.old.shard t3.old.shard in
-        let n = moment_for t desk.old.book client.now lent in
-        verdict_of result ≡ verdict_beside (config_of desk.old.book.capacity config.now)
-        (live_others n lent client.now) n (ask_of ask.now) }
-    ensures at { IsAt (moment_for t desk.old.book client.now
+        let n = moment_for demand.now.at desk.old.book demand.now.client.now lent in
+        verdict_of result ≡ verdict_beside (config_of desk.old.book.capacity demand.now.config.now)
+        (live_others n lent demand.now.client.now) n (ask_of demand.now.ask.now) }
+    ensures at { IsAt (moment_for demand.now.at desk.old.book demand.now.client.now
         (four t0.old.shard t1.old.shard t2.old.shard t3.old.shard)) result }
-    ensures verdict { AnswersAsk L.most config.now t client.now ask.now result }
-    ensures seat { seat.new ≡ counting result seat.old }
-    ensures desk { counting result
-        (record { granted = desk.old.granted; refused = desk.old.refused })
-        ≡ record { granted = desk.new.granted; refused = desk.new.refused } }
+    ensures verdict { AnswersAsk L.most demand.now.config.now demand.now.at demand.now.client.now
+        demand.now.ask.now result }
+    ensures desk { (desk.new.granted ≡ desk.old.granted)
+        × (desk.new.refused ≡ desk.old.refused) }
     ensures ports { (t0.new.shard.port ≡ t0.old.shard.port)
         × (t1.new.shard.port ≡ t1.old.shard.port) × (t2.new.shard.port ≡ t2.old.shard.port)
         × (t3.new.shard.port ≡ t3.old.shard.port) }
     ensures outcome { (opening : ℕ) (history : List Record) →
         let lent = four t0.old.shard t1.old.shard t2.old.shard t3.old.shard in
         StandFor opening lent desk.old.book history →
-        verdict_of result ≡ verdict_after (config_of opening config.now) history
-        (moment_for t desk.old.book client.now lent) client.now (ask_of ask.now) }
+        verdict_of result ≡ verdict_after (config_of opening demand.now.config.now) history
+        (moment_for demand.now.at desk.old.book demand.now.client.now lent) demand.now.client.now
+        (ask_of demand.now.ask.now) }
     ensures stands { (opening : ℕ) (history : List Record) →
         let lent = four t0.old.shard t1.old.shard t2.old.shard t3.old.shard in
         StandFor opening lent desk.old.book history →
         StandFor opening (four t0.new.shard t1.new.shard t2.new.shard t3.new.shard)
         desk.new.book (history
-        ++ (step (config_of opening config.now) history
-        (moment_for t desk.old.book client.now lent)
-        (Request client.now (ask_of ask.now))).records) }
+        ++ (step (config_of opening demand.now.config.now) history
+        (moment_for demand.now.at desk.old.book demand.now.client.now lent)
+        (Request demand.now.client.now (ask_of demand.now.ask.now))).records) }
 {
     audit_tables(t0, t1, t2, t3, desk);
     let before = (
@@ -141,15 +147,14 @@ pub(crate) fn ask_all<P: Port, L: Rates, G: Ledger, R: Ledger>(
         &mut t2.shard,
         &mut t3.shard,
         &mut desk.book,
-        config,
-        t,
-        client,
-        ask,
+        demand.config,
+        demand.at,
+        demand.client,
+        demand.ask,
     );
     move_rate(&mut desk.rates, &mut t0.part, before.0, t0.shard.held());
     move_rate(&mut desk.rates, &mut t1.part, before.1, t1.shard.held());
     move_rate(&mut desk.rates, &mut t2.part, before.2, t2.shard.held());
     move_rate(&mut desk.rates, &mut t3.part, before.3, t3.shard.held());
-    desk.count(seat, &verdict);
     verdict
 }

@@ -57,22 +57,28 @@ pub(crate) fn cancel_one<P: Port, L: Rates, G: Ledger, R: Ledger, J: Place>(
     cancelled
 }
 
+/// A change of the capacity in force, and from when on it may come.
+#[derive(Clone, Copy)]
+pub(crate) struct Change {
+    pub alloc: Global,
+    pub at: Moment,
+    pub capacity: u64,
+}
+
 // Changes the capacity in force by `resize`, under all four tables, in order of index, and the
 // book. After `OutOfMemory` nothing has changed.
 pub(crate) fn resize_all<P: Port, L: Rates, G: Ledger, R: Ledger>(
-    alloc: Global,
     t0: &mut Table<P, L, First>,
     t1: &mut Table<P, L, Second>,
     t2: &mut Table<P, L, Third>,
     t3: &mut Table<P, L, Fourth>,
     desk: &mut Desk<L, G, R>,
-    t: Moment,
-    capacity: u64,
+    change: Change,
 ) -> Result<Resized, OutOfMemory>
     requires ledger { L.parts ≡ 4 }
-    requires capacity { IsCapacity capacity }
-    requires most { capacity ≤ L.most }
-    ensures at { IfOk result (λ r. r.at ≡ moment_for_all t desk.old.book
+    requires capacity { IsCapacity change.capacity }
+    requires most { change.capacity ≤ L.most }
+    ensures at { IfOk result (λ r. r.at ≡ moment_for_all change.at desk.old.book
         (four t0.old.shard t1.old.shard t2.old.shard t3.old.shard)) }
     ensures unchanged { OnErr result ((t0.new.shard ≡ t0.old.shard)
         × (t1.new.shard ≡ t1.old.shard) × (t2.new.shard ≡ t2.old.shard)
@@ -85,13 +91,13 @@ pub(crate) fn resize_all<P: Port, L: Rates, G: Ledger, R: Ledger>(
     ensures shed { (opening : ℕ) (history : List Record) →
         StandFor opening (four t0.old.shard t1.old.shard t2.old.shard t3.old.shard)
         desk.old.book history →
-        IfOk result (λ r. r.shed ≡ map shed_of (shed_grants history r.at capacity)) }
+        IfOk result (λ r. r.shed ≡ map shed_of (shed_grants history r.at change.capacity)) }
     ensures stands { (opened : Config) (history : List Record) →
         StandFor opened.capacity (four t0.old.shard t1.old.shard t2.old.shard t3.old.shard)
         desk.old.book history →
         IfOk result (λ r. StandFor opened.capacity
         (four t0.new.shard t1.new.shard t2.new.shard t3.new.shard) desk.new.book
-        (history ++ (step opened history r.at (Resize capacity)).records)) }
+        (history ++ (step opened history r.at (Resize change.capacity)).records)) }
 {
     audit_tables(t0, t1, t2, t3, desk);
     let before = (
@@ -101,14 +107,14 @@ pub(crate) fn resize_all<P: Port, L: Rates, G: Ledger, R: Ledger>(
         t3.shard.held(),
     );
     let resized = resize(
-        alloc,
+        change.alloc,
         &mut t0.shard,
         &mut t1.shard,
         &mut t2.shard,
         &mut t3.shard,
         &mut desk.book,
-        t,
-        capacity,
+        change.at,
+        change.capacity,
     );
     move_rate(&mut desk.rates, &mut t0.part, before.0, t0.shard.held());
     move_rate(&mut desk.rates, &mut t1.part, before.1, t1.shard.held());

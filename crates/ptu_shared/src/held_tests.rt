@@ -3,7 +3,7 @@ ghost use Rattle.ptu_admit.specs.Book.{IsCapacity};
 ghost use Rattle.ptu_shared.specs.Opening.{untold_port};
 
 use super::*;
-use crate::tests::{ANNOUNCE, B, ONE, SYNC, Told, ZERO, ask, moment, turn};
+use crate::tests::{ANNOUNCE, B, Blanks, ONE, SYNC, Told, ZERO, ask, moment, turn};
 use ptu_outside::{Channel, Failed, Port};
 use ptu_units::Kind;
 use std::alloc::Global;
@@ -11,7 +11,7 @@ use std::marker::Brand;
 use std::process::Abort;
 use std::sync::Wait;
 use std::sync::atomic::{AtomicU64, Ordering};
-use std::sync::ledger::{Blank, Ledger};
+use std::sync::ledger::Ledger;
 use std::test::Fail;
 use std::thread::{self, Threads};
 
@@ -150,10 +150,10 @@ fn call_held<L: Rates, G: Ledger, R: Ledger, W: Wait + Abort>(
             let _ = shared.cancel(rt, moment(rt, at), &ZERO, Kind::Sync);
         }
         Call::Ask => {
-            let _ = ask(rt, shared, &mut seat, at, &ZERO, ANNOUNCE, 1);
+            let _ = ask(rt, shared, &mut seat, at, &ZERO, (ANNOUNCE, 1));
         }
         Call::AskOfAll => {
-            let _ = ask(rt, shared, &mut seat, at, &B, ANNOUNCE, -2);
+            let _ = ask(rt, shared, &mut seat, at, &B, (ANNOUNCE, -2));
         }
         Call::Resize => {
             let _ = shared.resize(rt, moment(rt, at), 64);
@@ -178,7 +178,7 @@ fn ask_beside<L: Rates, G: Ledger, R: Ledger, W: Wait + Abort>(
     gate.await_flag(&gate.called);
     for _ in 0..20 {
         gate.look_on();
-        let told = ask(rt, shared, &mut seat, 1_000_000_000, &ONE, ANNOUNCE, 1);
+        let told = ask(rt, shared, &mut seat, 1_000_000_000, &ONE, (ANNOUNCE, 1));
         assert_eq!(rt; told, granted);
     }
     gate.open();
@@ -188,16 +188,15 @@ fn ask_beside<L: Rates, G: Ledger, R: Ledger, W: Wait + Abort>(
 fn open_held<'a, L: Rates, G: Ledger, R: Ledger, W: Wait + Abort>(
     rt: &W,
     alloc: Global,
-    rates: Blank,
-    granted: Blank,
-    refused: Blank,
+    blanks: Blanks,
     capacity: u64,
     gate: &'a Gate,
 ) -> Result<(Shared<HeldPort<'a>, L, G, R>, Seat<G, R>, Seat<G, R>), Fail>
-    requires rates { (rates.name ≡ L.name) × (rates.parts ≡ L.parts) × (L.parts ≡ 4) }
-    requires granted { (granted.name ≡ G.name) × (granted.parts ≡ G.parts)
+    requires rates { (blanks.rates.name ≡ L.name) × (blanks.rates.parts ≡ L.parts)
+        × (L.parts ≡ 4) }
+    requires granted { (blanks.granted.name ≡ G.name) × (blanks.granted.parts ≡ G.parts)
         × (G.parts ≡ L.seats) }
-    requires refused { (refused.name ≡ R.name) × (refused.parts ≡ R.parts)
+    requires refused { (blanks.refused.name ≡ R.name) × (blanks.refused.parts ≡ R.parts)
         × (R.parts ≡ L.seats) }
     requires capacity { IsCapacity capacity }
     requires most { capacity ≤ L.most }
@@ -209,7 +208,16 @@ fn open_held<'a, L: Rates, G: Ledger, R: Ledger, W: Wait + Abort>(
     let p2 = HeldPort { gate: None };
     let p3 = HeldPort { gate: None };
     let (shared, mut seats) = Shared::new(
-        alloc, rates, granted, refused, capacity, 2, p0, p1, p2, p3,
+        alloc,
+        blanks.rates,
+        blanks.granted,
+        blanks.refused,
+        capacity,
+        2,
+        p0,
+        p1,
+        p2,
+        p3,
     )?;
     let mut seat = seats.pop().expect(rt, "there are two seats");
     let other = seats.pop().expect(rt, "there are two seats");
@@ -217,8 +225,8 @@ fn open_held<'a, L: Rates, G: Ledger, R: Ledger, W: Wait + Abort>(
         at: 0,
         until: 300_000_000_000,
     };
-    assert_eq!(rt; ask(rt, &shared, &mut seat, 0, &ZERO, SYNC, 0), granted);
-    assert_eq!(rt; ask(rt, &shared, &mut seat, 0, &ONE, SYNC, 0), granted);
+    assert_eq!(rt; ask(rt, &shared, &mut seat, 0, &ZERO, (SYNC, 0)), granted);
+    assert_eq!(rt; ask(rt, &shared, &mut seat, 0, &ONE, (SYNC, 0)), granted);
     Ok((shared, seat, other))
 }
 
@@ -226,9 +234,7 @@ fn open_held<'a, L: Rates, G: Ledger, R: Ledger, W: Wait + Abort>(
 fn hold_beside_a_turn<L, G, R, W>(
     rt: &W,
     alloc: Global,
-    rates: Blank,
-    granted: Blank,
-    refused: Blank,
+    blanks: Blanks,
     capacity: u64,
     gate: &Gate,
 ) -> Result<(), Fail>
@@ -237,19 +243,18 @@ where
     G: Ledger + Sync,
     R: Ledger + Sync,
     W: Wait + Abort + Threads + Sync,
-    requires rates { (rates.name ≡ L.name) × (rates.parts ≡ L.parts) × (L.parts ≡ 4) }
-    requires granted { (granted.name ≡ G.name) × (granted.parts ≡ G.parts)
+    requires rates { (blanks.rates.name ≡ L.name) × (blanks.rates.parts ≡ L.parts)
+        × (L.parts ≡ 4) }
+    requires granted { (blanks.granted.name ≡ G.name) × (blanks.granted.parts ≡ G.parts)
         × (G.parts ≡ L.seats) }
-    requires refused { (refused.name ≡ R.name) × (refused.parts ≡ R.parts)
+    requires refused { (blanks.refused.name ≡ R.name) × (blanks.refused.parts ≡ R.parts)
         × (R.parts ≡ L.seats) }
     requires capacity { IsCapacity capacity }
     requires most { capacity ≤ L.most }
     requires seats { L.seats ≡ 2 }
     requires ports { (i : ℕ) → L.opened i ≡ untold_port }
 {
-    let (shared, _seat, _other) = open_held::<L, G, R, W>(
-        rt, alloc, rates, granted, refused, capacity, gate,
-    )?;
+    let (shared, _seat, _other) = open_held::<L, G, R, W>(rt, alloc, blanks, capacity, gate)?;
     let lent = &shared;
     let (first, second) = thread::join(
         rt,
@@ -293,9 +298,7 @@ where
 fn hold_beside_an_ask<L, G, R, W>(
     rt: &W,
     alloc: Global,
-    rates: Blank,
-    granted: Blank,
-    refused: Blank,
+    blanks: Blanks,
     capacity: u64,
     gate: &Gate,
     call: Call,
@@ -305,19 +308,18 @@ where
     G: Ledger + Sync,
     R: Ledger + Sync,
     W: Wait + Abort + Threads + Sync,
-    requires rates { (rates.name ≡ L.name) × (rates.parts ≡ L.parts) × (L.parts ≡ 4) }
-    requires granted { (granted.name ≡ G.name) × (granted.parts ≡ G.parts)
+    requires rates { (blanks.rates.name ≡ L.name) × (blanks.rates.parts ≡ L.parts)
+        × (L.parts ≡ 4) }
+    requires granted { (blanks.granted.name ≡ G.name) × (blanks.granted.parts ≡ G.parts)
         × (G.parts ≡ L.seats) }
-    requires refused { (refused.name ≡ R.name) × (refused.parts ≡ R.parts)
+    requires refused { (blanks.refused.name ≡ R.name) × (blanks.refused.parts ≡ R.parts)
         × (R.parts ≡ L.seats) }
     requires capacity { IsCapacity capacity }
     requires most { (capacity ≤ L.most) × (64 ≤ capacity) }
     requires seats { L.seats ≡ 2 }
     requires ports { (i : ℕ) → L.opened i ≡ untold_port }
 {
-    let (shared, seat, other) = open_held::<L, G, R, W>(
-        rt, alloc, rates, granted, refused, capacity, gate,
-    )?;
+    let (shared, seat, other) = open_held::<L, G, R, W>(rt, alloc, blanks, capacity, gate)?;
     let lent = &shared;
     let (turned, _) = thread::join(
         rt,
@@ -333,17 +335,9 @@ where
 
 #[test]
 fn a_turn_goes_on_beside_a_held_table(rt: HostRuntime) -> Result<(), Fail> {
-    let (rates, granted, refused) = (Blank::new(4), Blank::new(2), Blank::new(2));
+    let blanks = Blanks::new(2);
     let gate = closed_gate();
-    hold_beside_a_turn::<Brand, Brand, Brand, HostRuntime>(
-        &rt,
-        rt.alloc(),
-        rates,
-        granted,
-        refused,
-        64,
-        &gate,
-    )
+    hold_beside_a_turn::<Brand, Brand, Brand, HostRuntime>(&rt, rt.alloc(), blanks, 64, &gate)
 }
 
 // Nothing that waits for a table holds the book.
@@ -352,11 +346,9 @@ fn hold_beside<W: Wait + Abort + Threads + Sync>(
     alloc: Global,
     call: Call,
 ) -> Result<(), Fail> {
-    let (rates, granted, refused) = (Blank::new(4), Blank::new(2), Blank::new(2));
+    let blanks = Blanks::new(2);
     let gate = closed_gate();
-    hold_beside_an_ask::<Brand, Brand, Brand, W>(
-        rt, alloc, rates, granted, refused, 64, &gate, call,
-    )
+    hold_beside_an_ask::<Brand, Brand, Brand, W>(rt, alloc, blanks, 64, &gate, call)
 }
 
 #[test]

@@ -8,8 +8,8 @@ ghost use Rattle.ptu_shared.specs.Delays.{IsLaterIfTooSoon};
 ghost use Rattle.ptu_shared.specs.Opening.{seen_of};
 ghost use Rattle.ptu_shared.specs.Seats.{counting, no_verdicts};
 
-use crate::asking::{ask_all, ask_one};
-use crate::changing::{cancel_one, resize_all};
+use crate::asking::{Demand, ask_all, ask_one};
+use crate::changing::{Change, cancel_one, resize_all};
 use crate::desk::{Desk, open_desk};
 use crate::place::{First, Fourth, Place, Second, Third};
 use crate::rates::Rates;
@@ -116,9 +116,15 @@ impl<P: Port + Send, L: Rates, G: Ledger, R: Ledger> Shared<P, L, G, R> {
         ensures seat { IfOk result (λ v. seat.new ≡ counting v seat.old) }
         ensures unchanged { OnErr result (seat.new ≡ seat.old) }
     {
-        match self.admit_by_one(rt, seat, config, t, client, ask)? {
+        let demand = Demand {
+            config,
+            at: t,
+            client,
+            ask,
+        };
+        match self.admit_by_one(rt, seat, &demand)? {
             Some(verdict) => Ok(verdict),
-            None => self.admit_by_all(rt, seat, config, t, client, ask),
+            None => self.admit_by_all(rt, seat, &demand),
         }
     }
 
@@ -127,24 +133,22 @@ impl<P: Port + Send, L: Rates, G: Ledger, R: Ledger> Shared<P, L, G, R> {
         &self,
         rt: &impl Wait,
         seat: &mut Seat<G, R>,
-        config: &GmConfig,
-        t: Moment,
-        client: &Client,
-        ask: &Ask,
+        demand: &Demand<'_>,
     ) -> Result<Option<Verdict>, OutOfMemory>
-        requires limits { IsWithinLimits config.now }
+        requires limits { IsWithinLimits demand.now.config.now }
         requires counts { (seat.old.granted < 2 ^ 48) × (seat.old.refused < 2 ^ 48) }
         ensures verdict { IfOk result (λ o. IfSome o
-            (AnswersAsk L.most config.now t client.now ask.now)) }
+            (AnswersAsk L.most demand.now.config.now demand.now.at demand.now.client.now
+            demand.now.ask.now)) }
         ensures seat { IfOk result (λ o. IfSome o (λ v. seat.new ≡ counting v seat.old)) }
         ensures none { IfOk result (λ o. IfNone o (seat.new ≡ seat.old)) }
         ensures unchanged { OnErr result (seat.new ≡ seat.old) }
     {
-        match table_of(client) {
-            0 => self.admit_at(rt, &self.t0, seat, config, t, client, ask),
-            1 => self.admit_at(rt, &self.t1, seat, config, t, client, ask),
-            2 => self.admit_at(rt, &self.t2, seat, config, t, client, ask),
-            _ => self.admit_at(rt, &self.t3, seat, config, t, client, ask),
+        match table_of(demand.client) {
+            0 => self.admit_at(rt, &self.t0, seat, demand),
+            1 => self.admit_at(rt, &self.t1, seat, demand),
+            2 => self.admit_at(rt, &self.t2, seat, demand),
+            _ => self.admit_at(rt, &self.t3, seat, demand),
         }
     }
 
@@ -155,16 +159,14 @@ impl<P: Port + Send, L: Rates, G: Ledger, R: Ledger> Shared<P, L, G, R> {
         rt: &impl Wait,
         table: &Mutex<Table<P, L, J>>,
         seat: &mut Seat<G, R>,
-        config: &GmConfig,
-        t: Moment,
-        client: &Client,
-        ask: &Ask,
+        demand: &Demand<'_>,
     ) -> Result<Option<Verdict>, OutOfMemory>
-        requires table { table_of_client client.now ≡ J.index }
-        requires limits { IsWithinLimits config.now }
+        requires table { table_of_client demand.now.client.now ≡ J.index }
+        requires limits { IsWithinLimits demand.now.config.now }
         requires counts { (seat.old.granted < 2 ^ 48) × (seat.old.refused < 2 ^ 48) }
         ensures verdict { IfOk result (λ o. IfSome o
-            (AnswersAsk L.most config.now t client.now ask.now)) }
+            (AnswersAsk L.most demand.now.config.now demand.now.at demand.now.client.now
+            demand.now.ask.now)) }
         ensures seat { IfOk result (λ o. IfSome o (λ v. seat.new ≡ counting v seat.old)) }
         ensures none { IfOk result (λ o. IfNone o (seat.new ≡ seat.old)) }
         ensures unchanged { OnErr result (seat.new ≡ seat.old) }
@@ -172,7 +174,11 @@ impl<P: Port + Send, L: Rates, G: Ledger, R: Ledger> Shared<P, L, G, R> {
         let mut table = table.lock(rt);
         table.reserve()?;
         let mut desk = self.desk.lock(rt);
-        Ok(ask_one(&mut table, &mut desk, seat, config, t, client, ask))
+        let verdict = ask_one(&mut table, &mut desk, demand);
+        if let Some(verdict) = &verdict {
+            desk.count(seat, verdict);
+        }
+        Ok(verdict)
     }
 
     // Decides an ask under the locks of all tables and the book's.
@@ -180,15 +186,14 @@ impl<P: Port + Send, L: Rates, G: Ledger, R: Ledger> Shared<P, L, G, R> {
         &self,
         rt: &impl Wait,
         seat: &mut Seat<G, R>,
-        config: &GmConfig,
-        t: Moment,
-        client: &Client,
-        ask: &Ask,
+        demand: &Demand<'_>,
     ) -> Result<Verdict, OutOfMemory>
         requires ledger { L.parts ≡ 4 }
-        requires limits { IsWithinLimits config.now }
+        requires limits { IsWithinLimits demand.now.config.now }
         requires counts { (seat.old.granted < 2 ^ 48) × (seat.old.refused < 2 ^ 48) }
-        ensures verdict { IfOk result (AnswersAsk L.most config.now t client.now ask.now) }
+        ensures verdict { IfOk result
+            (AnswersAsk L.most demand.now.config.now demand.now.at demand.now.client.now
+            demand.now.ask.now) }
         ensures seat { IfOk result (λ v. seat.new ≡ counting v seat.old) }
         ensures unchanged { OnErr result (seat.new ≡ seat.old) }
     {
@@ -196,16 +201,16 @@ impl<P: Port + Send, L: Rates, G: Ledger, R: Ledger> Shared<P, L, G, R> {
         let mut t1 = self.t1.lock(rt);
         let mut t2 = self.t2.lock(rt);
         let mut t3 = self.t3.lock(rt);
-        match table_of(client) {
+        match table_of(demand.client) {
             0 => t0.reserve()?,
             1 => t1.reserve()?,
             2 => t2.reserve()?,
             _ => t3.reserve()?,
         }
         let mut desk = self.desk.lock(rt);
-        Ok(ask_all(
-            &mut t0, &mut t1, &mut t2, &mut t3, &mut desk, seat, config, t, client, ask,
-        ))
+        let verdict = ask_all(&mut t0, &mut t1, &mut t2, &mut t3, &mut desk, demand);
+        desk.count(seat, &verdict);
+        Ok(verdict)
     }
 
     /// Ends the client's grant of the kind at a moment that is not before `t`.
@@ -253,9 +258,12 @@ impl<P: Port + Send, L: Rates, G: Ledger, R: Ledger> Shared<P, L, G, R> {
         let mut t2 = self.t2.lock(rt);
         let mut t3 = self.t3.lock(rt);
         let mut desk = self.desk.lock(rt);
-        resize_all(
-            self.alloc, &mut t0, &mut t1, &mut t2, &mut t3, &mut desk, t, capacity,
-        )
+        let change = Change {
+            alloc: self.alloc,
+            at: t,
+            capacity,
+        };
+        resize_all(&mut t0, &mut t1, &mut t2, &mut t3, &mut desk, change)
     }
 
     /// A turn of the table of this index, at a moment that is not before `t`.

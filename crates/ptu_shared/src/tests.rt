@@ -18,6 +18,28 @@ use std::sync::ledger::{Blank, Ledger};
 use std::test::Fail;
 use std::thread::{self, Threads};
 
+// What becomes the ledgers.
+#[derive(Drop)]
+pub(crate) struct Blanks {
+    pub rates: Blank,
+    pub granted: Blank,
+    pub refused: Blank,
+}
+
+impl Blanks {
+    // Those of so many seats.
+    pub fn new(seats: u64) -> Blanks
+        ensures { (result.rates.parts ≡ 4) × (result.granted.parts ≡ seats)
+            × (result.refused.parts ≡ seats) }
+    {
+        Blanks {
+            rates: Blank::new(4),
+            granted: Blank::new(seats),
+            refused: Blank::new(seats),
+        }
+    }
+}
+
 // A client of table 0 and one of table 1; A is of table 2, and B of table 3.
 pub(crate) const ZERO: Client = Client {
     ip: 0x0a00_0103,
@@ -109,19 +131,19 @@ pub(crate) fn moment(rt: &impl Abort, nanos: u64) -> Moment {
     Moment::of(nanos).expect(rt, "a moment is below 2^62")
 }
 
-// The client asks for the kind of this code at a logarithm, for 300 seconds.
+// The client asks for the kind of this code at this logarithm, for 300 seconds.
 pub(crate) fn ask<P: Port + Send, L: Rates, G: Ledger, R: Ledger, W: Wait + Abort>(
     rt: &W,
     shared: &Shared<P, L, G, R>,
     seat: &mut Seat<G, R>,
     t: u64,
     client: &Client,
-    code: u8,
-    log: i8,
+    kind: (u8, i8),
 ) -> Told
     requires { L.parts ≡ 4 }
 {
     assert!(rt; seat.granted() < 1 << 48 && seat.refused() < 1 << 48);
+    let (code, log) = kind;
     let ask = Ask {
         code,
         log,
@@ -169,16 +191,15 @@ fn roomy(alloc: Global) -> Result<MemPort, Fail>
 // Shared tables over ports in memory.
 fn open<L: Rates, G: Ledger, R: Ledger>(
     alloc: Global,
-    rates: Blank,
-    granted: Blank,
-    refused: Blank,
+    blanks: Blanks,
     capacity: u64,
     seats: usize,
 ) -> Result<(Shared<MemPort, L, G, R>, Vec<Seat<G, R>>), Fail>
-    requires rates { (rates.name ≡ L.name) × (rates.parts ≡ L.parts) × (L.parts ≡ 4) }
-    requires granted { (granted.name ≡ G.name) × (granted.parts ≡ G.parts)
+    requires rates { (blanks.rates.name ≡ L.name) × (blanks.rates.parts ≡ L.parts)
+        × (L.parts ≡ 4) }
+    requires granted { (blanks.granted.name ≡ G.name) × (blanks.granted.parts ≡ G.parts)
         × (G.parts ≡ L.seats) }
-    requires refused { (refused.name ≡ R.name) × (refused.parts ≡ R.parts)
+    requires refused { (blanks.refused.name ≡ R.name) × (blanks.refused.parts ≡ R.parts)
         × (R.parts ≡ L.seats) }
     requires capacity { IsCapacity capacity }
     requires most { capacity ≤ L.most }
@@ -190,7 +211,16 @@ fn open<L: Rates, G: Ledger, R: Ledger>(
     let p2 = roomy(alloc)?;
     let p3 = roomy(alloc)?;
     Ok(Shared::new(
-        alloc, rates, granted, refused, capacity, seats, p0, p1, p2, p3,
+        alloc,
+        blanks.rates,
+        blanks.granted,
+        blanks.refused,
+        capacity,
+        seats,
+        p0,
+        p1,
+        p2,
+        p3,
     )?)
 }
 
@@ -208,15 +238,15 @@ fn ask_for_both<L: Rates, G: Ledger, R: Ledger, W: Wait + Abort>(
         at: 0,
         until: 300_000_000_000,
     };
-    assert_eq!(rt; ask(rt, shared, seat, 0, &A, ANNOUNCE, 1), granted);
+    assert_eq!(rt; ask(rt, shared, seat, 0, &A, (ANNOUNCE, 1)), granted);
     let short = Told::Short {
         at: 0,
         others: 8,
         rate: 1,
         capacity: 8,
     };
-    assert_eq!(rt; ask(rt, shared, seat, 0, &B, ANNOUNCE, 4), short);
-    assert_eq!(rt; ask(rt, shared, seat, 0, &B, 3, 4), Told::Outside);
+    assert_eq!(rt; ask(rt, shared, seat, 0, &B, (ANNOUNCE, 4)), short);
+    assert_eq!(rt; ask(rt, shared, seat, 0, &B, (3, 4)), Told::Outside);
     assert_eq!(rt; (seat.granted(), seat.refused()), (1, 1));
 }
 
@@ -243,22 +273,21 @@ fn close_twice<L: Rates, G: Ledger, R: Ledger, W: Wait + Abort>(
 fn admission<L: Rates, G: Ledger, R: Ledger, W: Wait + Abort>(
     rt: &W,
     alloc: Global,
-    rates: Blank,
-    granted: Blank,
-    refused: Blank,
+    blanks: Blanks,
     capacity: u64,
 ) -> Result<(), Fail>
-    requires rates { (rates.name ≡ L.name) × (rates.parts ≡ L.parts) × (L.parts ≡ 4) }
-    requires granted { (granted.name ≡ G.name) × (granted.parts ≡ G.parts)
+    requires rates { (blanks.rates.name ≡ L.name) × (blanks.rates.parts ≡ L.parts)
+        × (L.parts ≡ 4) }
+    requires granted { (blanks.granted.name ≡ G.name) × (blanks.granted.parts ≡ G.parts)
         × (G.parts ≡ L.seats) }
-    requires refused { (refused.name ≡ R.name) × (refused.parts ≡ R.parts)
+    requires refused { (blanks.refused.name ≡ R.name) × (blanks.refused.parts ≡ R.parts)
         × (R.parts ≡ L.seats) }
     requires capacity { IsCapacity capacity }
     requires most { capacity ≤ L.most }
     requires seats { L.seats ≡ 1 }
     requires ports { (i : ℕ) → L.opened i ≡ idle_port }
 {
-    let (shared, mut seats) = open::<L, G, R>(alloc, rates, granted, refused, capacity, 1)?;
+    let (shared, mut seats) = open::<L, G, R>(alloc, blanks, capacity, 1)?;
     ask_for_both(rt, &shared, seats.as_mut_slice());
     close_twice(rt, shared, seats, Vec::new(alloc));
     Ok(())
@@ -266,8 +295,8 @@ fn admission<L: Rates, G: Ledger, R: Ledger, W: Wait + Abort>(
 
 #[test]
 fn a_close_wants_every_seat(rt: HostRuntime) -> Result<(), Fail> {
-    let (rates, granted, refused) = (Blank::new(4), Blank::new(1), Blank::new(1));
-    admission::<Brand, Brand, Brand, HostRuntime>(&rt, rt.alloc(), rates, granted, refused, 8)
+    let blanks = Blanks::new(1);
+    admission::<Brand, Brand, Brand, HostRuntime>(&rt, rt.alloc(), blanks, 8)
 }
 
 // What a Delay_Req of A meets.
@@ -294,7 +323,7 @@ fn call_in_order<L: Rates, G: Ledger, R: Ledger, W: Wait + Abort>(
         at: 0,
         until: 300_000_000_000,
     };
-    assert_eq!(rt; ask(rt, shared, seat, 0, &A, ANNOUNCE, 1), granted);
+    assert_eq!(rt; ask(rt, shared, seat, 0, &A, (ANNOUNCE, 1)), granted);
     assert_eq!(rt; turn(rt, shared, 2, 2_000_000_000), (1, 0));
     assert_eq!(rt;
         delay(rt, shared, 2_000_000_000),
@@ -305,7 +334,7 @@ fn call_in_order<L: Rates, G: Ledger, R: Ledger, W: Wait + Abort>(
         until: 302_000_000_000,
     };
     assert_eq!(rt;
-        ask(rt, shared, seat, 2_000_000_000, &A, DELAY_RESP, 0),
+        ask(rt, shared, seat, 2_000_000_000, &A, (DELAY_RESP, 0)),
         granted
     );
     assert_eq!(rt;
@@ -338,22 +367,21 @@ fn close_all<L: Rates, G: Ledger, R: Ledger, W: Wait + Abort>(
 fn order<L: Rates, G: Ledger, R: Ledger, W: Wait + Abort>(
     rt: &W,
     alloc: Global,
-    rates: Blank,
-    granted: Blank,
-    refused: Blank,
+    blanks: Blanks,
     capacity: u64,
 ) -> Result<(), Fail>
-    requires rates { (rates.name ≡ L.name) × (rates.parts ≡ L.parts) × (L.parts ≡ 4) }
-    requires granted { (granted.name ≡ G.name) × (granted.parts ≡ G.parts)
+    requires rates { (blanks.rates.name ≡ L.name) × (blanks.rates.parts ≡ L.parts)
+        × (L.parts ≡ 4) }
+    requires granted { (blanks.granted.name ≡ G.name) × (blanks.granted.parts ≡ G.parts)
         × (G.parts ≡ L.seats) }
-    requires refused { (refused.name ≡ R.name) × (refused.parts ≡ R.parts)
+    requires refused { (blanks.refused.name ≡ R.name) × (blanks.refused.parts ≡ R.parts)
         × (R.parts ≡ L.seats) }
     requires capacity { IsCapacity capacity }
     requires most { capacity ≤ L.most }
     requires seats { L.seats ≡ 1 }
     requires ports { (i : ℕ) → L.opened i ≡ idle_port }
 {
-    let (shared, mut seats) = open::<L, G, R>(alloc, rates, granted, refused, capacity, 1)?;
+    let (shared, mut seats) = open::<L, G, R>(alloc, blanks, capacity, 1)?;
     call_in_order(rt, &shared, seats.as_mut_slice());
     check_closed(rt, &close_all(rt, shared, seats), [0, 0, 16, 0], 2, 0);
     Ok(())
@@ -361,8 +389,8 @@ fn order<L: Rates, G: Ledger, R: Ledger, W: Wait + Abort>(
 
 #[test]
 fn calls_in_order(rt: HostRuntime) -> Result<(), Fail> {
-    let (rates, granted, refused) = (Blank::new(4), Blank::new(1), Blank::new(1));
-    order::<Brand, Brand, Brand, HostRuntime>(&rt, rt.alloc(), rates, granted, refused, 24)
+    let blanks = Blanks::new(1);
+    order::<Brand, Brand, Brand, HostRuntime>(&rt, rt.alloc(), blanks, 24)
 }
 
 fn lower_capacity<L: Rates, G: Ledger, R: Ledger, W: Wait + Abort>(
@@ -380,10 +408,10 @@ fn lower_capacity<L: Rates, G: Ledger, R: Ledger, W: Wait + Abort>(
         until: 301_000_000_000,
     };
     assert_eq!(rt;
-        ask(rt, shared, seat, 1_000_000_000, &A, ANNOUNCE, 1),
+        ask(rt, shared, seat, 1_000_000_000, &A, (ANNOUNCE, 1)),
         granted
     );
-    assert_eq!(rt; ask(rt, shared, seat, 0, &B, ANNOUNCE, 1), granted);
+    assert_eq!(rt; ask(rt, shared, seat, 0, &B, (ANNOUNCE, 1)), granted);
     let resized = shared.resize(rt, moment(rt, 2_000_000_000), 8);
     let resized = resized.expect(rt, "memory is found");
     assert_eq!(rt; resized.at, moment(rt, 2_000_000_000));
@@ -395,15 +423,14 @@ fn lower_capacity<L: Rates, G: Ledger, R: Ledger, W: Wait + Abort>(
 fn shedding<L: Rates, G: Ledger, R: Ledger, W: Wait + Abort>(
     rt: &W,
     alloc: Global,
-    rates: Blank,
-    granted: Blank,
-    refused: Blank,
+    blanks: Blanks,
     capacity: u64,
 ) -> Result<(), Fail>
-    requires rates { (rates.name ≡ L.name) × (rates.parts ≡ L.parts) × (L.parts ≡ 4) }
-    requires granted { (granted.name ≡ G.name) × (granted.parts ≡ G.parts)
+    requires rates { (blanks.rates.name ≡ L.name) × (blanks.rates.parts ≡ L.parts)
+        × (L.parts ≡ 4) }
+    requires granted { (blanks.granted.name ≡ G.name) × (blanks.granted.parts ≡ G.parts)
         × (G.parts ≡ L.seats) }
-    requires refused { (refused.name ≡ R.name) × (refused.parts ≡ R.parts)
+    requires refused { (blanks.refused.name ≡ R.name) × (blanks.refused.parts ≡ R.parts)
         × (R.parts ≡ L.seats) }
     requires capacity { IsCapacity capacity }
     requires most { capacity ≤ L.most }
@@ -411,7 +438,7 @@ fn shedding<L: Rates, G: Ledger, R: Ledger, W: Wait + Abort>(
     requires seats { L.seats ≡ 1 }
     requires ports { (i : ℕ) → L.opened i ≡ idle_port }
 {
-    let (shared, mut seats) = open::<L, G, R>(alloc, rates, granted, refused, capacity, 1)?;
+    let (shared, mut seats) = open::<L, G, R>(alloc, blanks, capacity, 1)?;
     lower_capacity(rt, &shared, seats.as_mut_slice());
     check_closed(rt, &close_all(rt, shared, seats), [0, 0, 8, 0], 2, 0);
     Ok(())
@@ -419,8 +446,8 @@ fn shedding<L: Rates, G: Ledger, R: Ledger, W: Wait + Abort>(
 
 #[test]
 fn a_lower_capacity_sheds_the_newest(rt: HostRuntime) -> Result<(), Fail> {
-    let (rates, granted, refused) = (Blank::new(4), Blank::new(1), Blank::new(1));
-    shedding::<Brand, Brand, Brand, HostRuntime>(&rt, rt.alloc(), rates, granted, refused, 16)
+    let blanks = Blanks::new(1);
+    shedding::<Brand, Brand, Brand, HostRuntime>(&rt, rt.alloc(), blanks, 16)
 }
 
 // The client asks for Announces from a seat of its own, which is handed back.
@@ -432,7 +459,7 @@ fn ask_from<L: Rates, G: Ledger, R: Ledger, W: Wait + Abort>(
 ) -> (Told, Seat<G, R>)
     requires { L.parts ≡ 4 }
 {
-    let told = ask(rt, shared, &mut seat, 0, client, ANNOUNCE, 1);
+    let told = ask(rt, shared, &mut seat, 0, client, (ANNOUNCE, 1));
     (told, seat)
 }
 
@@ -465,30 +492,24 @@ where
     (a.0, b.0)
 }
 
-fn two_seats<L, G, R, W>(
-    rt: &W,
-    alloc: Global,
-    rates: Blank,
-    granted: Blank,
-    refused: Blank,
-    capacity: u64,
-) -> Result<(), Fail>
+fn two_seats<L, G, R, W>(rt: &W, alloc: Global, blanks: Blanks, capacity: u64) -> Result<(), Fail>
 where
     L: Rates + Sync,
     G: Ledger + Sync,
     R: Ledger + Sync,
     W: Wait + Abort + Threads + Sync,
-    requires rates { (rates.name ≡ L.name) × (rates.parts ≡ L.parts) × (L.parts ≡ 4) }
-    requires granted { (granted.name ≡ G.name) × (granted.parts ≡ G.parts)
+    requires rates { (blanks.rates.name ≡ L.name) × (blanks.rates.parts ≡ L.parts)
+        × (L.parts ≡ 4) }
+    requires granted { (blanks.granted.name ≡ G.name) × (blanks.granted.parts ≡ G.parts)
         × (G.parts ≡ L.seats) }
-    requires refused { (refused.name ≡ R.name) × (refused.parts ≡ R.parts)
+    requires refused { (blanks.refused.name ≡ R.name) × (blanks.refused.parts ≡ R.parts)
         × (R.parts ≡ L.seats) }
     requires capacity { IsCapacity capacity }
     requires most { capacity ≤ L.most }
     requires seats { L.seats ≡ 2 }
     requires ports { (i : ℕ) → L.opened i ≡ idle_port }
 {
-    let (shared, mut seats) = open::<L, G, R>(alloc, rates, granted, refused, capacity, 2)?;
+    let (shared, mut seats) = open::<L, G, R>(alloc, blanks, capacity, 2)?;
     let granted = Told::Granted {
         at: 0,
         until: 300_000_000_000,
@@ -502,8 +523,8 @@ where
 
 #[test]
 fn one_of_two_threads_is_short(rt: HostRuntime) -> Result<(), Fail> {
-    let (rates, granted, refused) = (Blank::new(4), Blank::new(2), Blank::new(2));
-    two_seats::<Brand, Brand, Brand, HostRuntime>(&rt, rt.alloc(), rates, granted, refused, 8)
+    let blanks = Blanks::new(2);
+    two_seats::<Brand, Brand, Brand, HostRuntime>(&rt, rt.alloc(), blanks, 8)
 }
 
 // Closes with one of two seats, which has counted one grant. That is enough where the other has
@@ -553,30 +574,29 @@ fn close_with_both<L: Rates, G: Ledger, R: Ledger, W: Wait + Abort>(
 fn without_a_seat<L: Rates, G: Ledger, R: Ledger, W: Wait + Abort>(
     rt: &W,
     alloc: Global,
-    rates: Blank,
-    granted: Blank,
-    refused: Blank,
+    blanks: Blanks,
     capacity: u64,
     counted: bool,
 ) -> Result<(), Fail>
-    requires rates { (rates.name ≡ L.name) × (rates.parts ≡ L.parts) × (L.parts ≡ 4) }
-    requires granted { (granted.name ≡ G.name) × (granted.parts ≡ G.parts)
+    requires rates { (blanks.rates.name ≡ L.name) × (blanks.rates.parts ≡ L.parts)
+        × (L.parts ≡ 4) }
+    requires granted { (blanks.granted.name ≡ G.name) × (blanks.granted.parts ≡ G.parts)
         × (G.parts ≡ L.seats) }
-    requires refused { (refused.name ≡ R.name) × (refused.parts ≡ R.parts)
+    requires refused { (blanks.refused.name ≡ R.name) × (blanks.refused.parts ≡ R.parts)
         × (R.parts ≡ L.seats) }
     requires capacity { IsCapacity capacity }
     requires most { capacity ≤ L.most }
     requires seats { L.seats ≡ 2 }
     requires ports { (i : ℕ) → L.opened i ≡ idle_port }
 {
-    let (shared, mut seats) = open::<L, G, R>(alloc, rates, granted, refused, capacity, 2)?;
+    let (shared, mut seats) = open::<L, G, R>(alloc, blanks, capacity, 2)?;
     let mut missing = seats.pop().expect(rt, "there are two seats");
     let mut seat = seats.pop().expect(rt, "there are two seats");
     let granted = Told::Granted {
         at: 0,
         until: 300_000_000_000,
     };
-    assert_eq!(rt; ask(rt, &shared, &mut seat, 0, &A, ANNOUNCE, 1), granted);
+    assert_eq!(rt; ask(rt, &shared, &mut seat, 0, &A, (ANNOUNCE, 1)), granted);
     if counted {
         let short = Told::Short {
             at: 0,
@@ -584,7 +604,7 @@ fn without_a_seat<L: Rates, G: Ledger, R: Ledger, W: Wait + Abort>(
             rate: 1,
             capacity: 8,
         };
-        assert_eq!(rt; ask(rt, &shared, &mut missing, 0, &B, ANNOUNCE, 4), short);
+        assert_eq!(rt; ask(rt, &shared, &mut missing, 0, &B, (ANNOUNCE, 4)), short);
     }
     seats.push(seat)?;
     close_with_one(rt, shared, seats, missing, counted);
@@ -592,8 +612,8 @@ fn without_a_seat<L: Rates, G: Ledger, R: Ledger, W: Wait + Abort>(
 }
 
 fn close_without_a_seat<W: Wait + Abort>(rt: &W, alloc: Global, counted: bool) -> Result<(), Fail> {
-    let (rates, granted, refused) = (Blank::new(4), Blank::new(2), Blank::new(2));
-    without_a_seat::<Brand, Brand, Brand, W>(rt, alloc, rates, granted, refused, 8, counted)
+    let blanks = Blanks::new(2);
+    without_a_seat::<Brand, Brand, Brand, W>(rt, alloc, blanks, 8, counted)
 }
 
 #[test]

@@ -58,20 +58,18 @@ fn happen<P: Port, C: Clock>(
     Ok(tick(slave, clock, counts))
 }
 
-// All rounds, with the lines of the selections.
+// All rounds, with the lines of the selections. Gives what they counted.
 fn run_rounds<P: Port, C: Clock, K: Sink>(
     alloc: Global,
     rounds: u32,
     slave: &mut Slave<P>,
     event: &mut P,
     clock: &mut C,
-    counts: &mut Counts,
     sink: &mut K,
-) -> Result<(), Halt>
-    requires none { counts.old ≡ record { sent = 0; failed = 0 } }
-    ensures few { IsFew (2 ^ 64) counts.new }
+) -> Result<Counts, Halt>
+    ensures few { IfOk result (IsFew (2 ^ 64)) }
     ensures sent { P.sent event.new ≡ P.sent event.old }
-    ensures done { OnOk result ((selections : List Selection)
+    ensures done { IfOk result (λ counts. (selections : List Selection)
         × HasPut K.written K.handed sink.old sink.new
         (texts_of (map selected_line (changes None selections)))
         × ((node : Node) (L : Record) → Stands node (seen ⟦<dyn Judge as Judge>⟧ slave.old) L →
@@ -81,12 +79,12 @@ fn run_rounds<P: Port, C: Clock, K: Sink>(
         (P.waiting (seen ⟦<dyn Judge as Judge>⟧ slave.old).port) (P.waiting
         (seen ⟦<dyn Judge as Judge>⟧ slave.new).port)
         (P.waiting event.old) (P.waiting event.new) (P.faults event.old) (P.faults event.new)
-        selections counts.new.sent counts.new.failed)) }
+        selections counts.sent counts.failed)) }
     ensures part { OnErr result ((selections : List Selection)
         × HasPutPart K.written K.handed sink.old sink.new
         (texts_of (map selected_line selections))) }
     ensures stopped { IsErrOf result Halt.Write → (n : ℕ) × (selections : List Selection)
-        × (n ≤ rounds) × HasPutPart K.written K.handed sink.old sink.new
+        × (sends : ℕ) × (failures : ℕ) × (n ≤ rounds) × HasPutPart K.written K.handed sink.old sink.new
         (texts_of (map selected_line (changes None selections)))
         × ((node : Node) (L : Record) → Stands node (seen ⟦<dyn Judge as Judge>⟧ slave.old) L →
         RoundsDone n node L
@@ -95,18 +93,19 @@ fn run_rounds<P: Port, C: Clock, K: Sink>(
         (P.waiting (seen ⟦<dyn Judge as Judge>⟧ slave.old).port) (P.waiting
         (seen ⟦<dyn Judge as Judge>⟧ slave.new).port)
         (P.waiting event.old) (P.waiting event.new) (P.faults event.old) (P.faults event.new)
-        selections counts.new.sent counts.new.failed) }
+        selections sends failures) }
     ensures counts { Halts result (K.faults sink.old) (K.faults sink.new) }
 {
+    let mut counts = Counts::new();
     let mut said = None;
     for before in 0..rounds {
-        let Ok(master) = happen(alloc, slave, event, clock, counts) else {
+        let Ok(master) = happen(alloc, slave, event, clock, &mut counts) else {
             return Err(Halt::OutOfMemory);
         };
         say(alloc, sink, before + 1, said, master)?;
         said = Some(master);
     }
-    Ok(())
+    Ok(counts)
 }
 
 /// The whole run of a slave: all rounds, the stop after them, and the closing line.
@@ -149,8 +148,7 @@ pub(crate) fn run<P: Port, C: Clock, K: Sink>(
         lines) }
     ensures counts { Halts result (K.faults sink.old) (K.faults sink.new) }
 {
-    let mut counts = Counts::new();
-    run_rounds(alloc, rounds, slave, event, clock, &mut counts, sink)?;
+    let mut counts = run_rounds(alloc, rounds, slave, event, clock, sink)?;
     stop(slave, clock, &mut counts);
     let line = SlaveLine::Closing {
         rounds,

@@ -10,5 +10,5 @@ loop-i-preserved g c = delays-append g.P.Port g.C.Clock c.loop-i.i 1 _ _ _ _ _ _
 
 pub returns : goal.returns
 returns g c =
-    let all : c.args.rounds ≡ c.loop-i.i = omega (arith, c.loop-i-test.false, c.loop-i.auto.i-end) in
+    let all : c.args.rounds.now.count ≡ c.loop-i.i = omega (arith, c.loop-i-test.false, c.loop-i.auto.i-end) in
     rw all c.loop-i.invariant

@@ -3,13 +3,13 @@ use Rattle.ptu_lanes.proofs.Stretching.{signaling-append, signaling_none}
 use Rattle.ptu_lanes.proofs.lanes.stay_signaling.Goals as goal
 
 pub loop-i-init : goal.loop-i-init
-loop-i-init g c = signaling_none g.P.Port g.C.Clock c.args.config.now _ _ c.args.lane.seat _
+loop-i-init g c = signaling_none g.P.Port g.C.Clock c.args.service.now.config.now _ _ c.args.lane.seat _
 
 pub loop-i-preserved : goal.loop-i-preserved
 loop-i-preserved g c =
-    signaling-append g.P.Port g.C.Clock c.args.config.now c.loop-i.i 1 _ _ _ _ _ _ _ _ _ _ _ _ c.loop-i.invariant c.in_ok-lane.ensures
+    signaling-append g.P.Port g.C.Clock c.args.service.now.config.now c.loop-i.i 1 _ _ _ _ _ _ _ _ _ _ _ _ c.loop-i.invariant c.in_ok-lane.ensures
 
 pub returns : goal.returns
 returns g c =
-    let all : c.args.rounds ≡ c.loop-i.i = omega (arith, c.loop-i-test.false, c.loop-i.auto.i-end) in
+    let all : c.args.rounds.now.count ≡ c.loop-i.i = omega (arith, c.loop-i-test.false, c.loop-i.auto.i-end) in
     rw all c.loop-i.invariant

@@ -4,13 +4,13 @@ use Rattle.ptu_lanes.specs.Served.{seen_at}
 use Rattle.ptu_lanes.proofs.serving.serve_lanes.Given as goal
 
 abbrev pub ghosts-serve_under-L-Ledger : goal.ghosts-serve_under-L-Ledger
-ghosts-serve_under-L-Ledger g a = record { name = a.rates.name; parts = a.rates.parts }
+ghosts-serve_under-L-Ledger g a = record { name = a.blanks.rates.name; parts = a.blanks.rates.parts }
 
 abbrev pub ghosts-serve_under-L-Rates : goal.ghosts-serve_under-L-Rates
 ghosts-serve_under-L-Rates g a = record { most = greatest_capacity a.settings.now; seats = 1; opened = seen_at g.P.Port a.opened }
 
 abbrev pub ghosts-serve_under-G-Ledger : goal.ghosts-serve_under-G-Ledger
-ghosts-serve_under-G-Ledger g a = record { name = a.granted.name; parts = a.granted.parts }
+ghosts-serve_under-G-Ledger g a = record { name = a.blanks.granted.name; parts = a.blanks.granted.parts }
 
 abbrev pub ghosts-serve_under-R-Ledger : goal.ghosts-serve_under-R-Ledger
-ghosts-serve_under-R-Ledger g a = record { name = a.refused.name; parts = a.refused.parts }
+ghosts-serve_under-R-Ledger g a = record { name = a.blanks.refused.name; parts = a.blanks.refused.parts }

@@ -18,7 +18,7 @@ returns-in_ok-answered-in-Ok-Some-clause-served g c =
     } in (
       e ∷ [],
       refl,
-      served_received g.P.Port c.args.config.now e _ _ _ _ _ _ _ _
+      served_received g.P.Port c.args.service.now.config.now e _ _ _ _ _ _ _ _
           (rw c.in-Ok-Some.field-0-is at received.first) (rw c.in-Ok-Some.field-0-is at received.rest) received.sent received.quiet received.goes_on replied.1,
     )
 
@@ -27,7 +27,7 @@ returns-in-Ok-None-clause-served g c =
     let received = c.in-Ok-None.ensures in (
       [],
       refl,
-      served_none g.P.Port c.args.config.now _ _ 0 c.args.seat.now (rw c.in-Ok-None.field-0-is at received.left) received.sent received.goes_on
+      served_none g.P.Port c.args.service.now.config.now _ _ 0 c.args.seat.now (rw c.in-Ok-None.field-0-is at received.left) received.sent received.goes_on
           (inl (omega (arith, received.quiet))) (λ once. inl (omega (arith, received.quiet))) (λ none. received.quiet) received.no_fall,
     )
 
@@ -36,12 +36,12 @@ returns-in-Err-clause-served g c =
     let received = c.in-Err.ensures in (
       [],
       refl,
-      served_none g.P.Port c.args.config.now _ _ 1 c.args.seat.now received.kept received.sent received.goes_on
+      served_none g.P.Port c.args.service.now.config.now _ _ 1 c.args.seat.now received.kept received.sent received.goes_on
           received.risen (λ once. just_once _ _ (received.once once)) (λ none. absurd (omega (arith, none))) received.no_fall,
     )
 
 pub returns-in_ok-answered-in-Ok-Some-clause-moments : goal.returns-in_ok-answered-in-Ok-Some-clause-moments
-returns-in_ok-answered-in-Ok-Some-clause-moments g c = passed_one _ _ c.now-t.ensures.rest
+returns-in_ok-answered-in-Ok-Some-clause-moments g c = passed_one _ _ c.now-at.ensures.rest
 
 pub returns-in-Ok-None-clause-moments : goal.returns-in-Ok-None-clause-moments
 returns-in-Ok-None-clause-moments g c = passed_none (g.C.Clock.moments c.args.clock.now)
@@ -56,4 +56,4 @@ returns-in_err-answered-in-Ok-Some-clause-broke_off g c =
     let d : Arrival = record { ip = c.in-Ok-Some.from; bytes = take c.in-Ok-Some.size c.receive.new.buf } in
     on_err c.from_residual.result _
     (unanswered g.P.Port g.C.Clock d _ _ _ _ _ _ _ kept.unsent (rw c.in-Ok-Some.field-0-is at received.first) (rw c.in-Ok-Some.field-0-is at received.rest)
-    received.sent received.quiet kept.no_less c.now-t.ensures.rest)
+    received.sent received.quiet kept.no_less c.now-at.ensures.rest)

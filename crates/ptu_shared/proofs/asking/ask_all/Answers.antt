@@ -4,7 +4,7 @@ use Rattle.ptu_shared.proofs.Verdicts.{answers_ask}
 use Rattle.ptu_shared.proofs.asking.ask_all.Goals as goal
 
 pub returns-clause-verdict : goal.returns-clause-verdict
-returns-clause-verdict g c = answers_ask g.L.Rates.most c.args.config.now c.args.t _ _ c.args.client.now c.args.ask.now (omega arith) (omega arith) _ c.decide_all-verdict.result c.decide_all-verdict.ensures.at c.decide_all-verdict.ensures.whose c.decide_all-verdict.ensures.answer
+returns-clause-verdict g c = answers_ask g.L.Rates.most c.args.demand.now.config.now c.args.demand.now.at _ _ c.args.demand.now.client.now c.args.demand.now.ask.now (omega arith) (omega arith) _ c.decide_all-verdict.result c.decide_all-verdict.ensures.at c.decide_all-verdict.ensures.whose c.decide_all-verdict.ensures.answer
 
 pub returns-clause-answer : goal.returns-clause-answer
 returns-clause-answer g c =

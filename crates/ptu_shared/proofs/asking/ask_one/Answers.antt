@@ -2,12 +2,12 @@ use Rattle.std.proofs.Common.{arith}
 use Rattle.ptu_shared.proofs.Verdicts.{answers_one}
 use Rattle.ptu_shared.proofs.asking.ask_one.Goals as goal
 
-pub returns-in-Some-clause-outcome : goal.returns-in-Some-clause-outcome
-returns-in-Some-clause-outcome g c = λ opening rest history standing.
+pub returns-clause-outcome : goal.returns-clause-outcome
+returns-clause-outcome g c = λ opening rest history standing.
     rw (c.audit_table.ensures.table, c.audit_table.ensures.desk.0) at
     (c.decide_one-verdict.ensures.verdict opening rest history (rw (c.audit_table.ensures.table, c.audit_table.ensures.desk.0) standing))
 
-pub returns-in-Some-clause-verdict : goal.returns-in-Some-clause-verdict
-returns-in-Some-clause-verdict g c =
+pub returns-clause-verdict : goal.returns-clause-verdict
+returns-clause-verdict g c =
     let decided = c.decide_one-verdict.ensures in
-    answers_one g.L.Rates.most c.args.config.now c.args.t _ _ c.args.client.now c.args.ask.now (omega arith) (omega arith) _ c.decide_one-verdict.result decided.at decided.whose decided.answer
+    answers_one g.L.Rates.most c.args.demand.now.config.now c.args.demand.now.at _ _ c.args.demand.now.client.now c.args.demand.now.ask.now (omega arith) (omega arith) _ c.decide_one-verdict.result decided.at decided.whose decided.answer

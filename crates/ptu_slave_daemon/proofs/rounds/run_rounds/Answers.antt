@@ -11,8 +11,8 @@ use Rattle.ptu_slave_daemon.proofs.rounds.run_rounds.Goals as goal
 
 pub loop-before-init : goal.loop-before-init
 loop-before-init g c =
-    let none : c.args.counts.now.sent ≡ 0 = ap (λ (k : Counts). k.sent) c.requires.none in
-    let none_failed : c.args.counts.now.failed ≡ 0 = ap (λ (k : Counts). k.failed) c.requires.none in
+    let none : c.new-counts.result.sent ≡ 0 = ap (λ (k : Counts). k.sent) c.new-counts.ensures in
+    let none_failed : c.new-counts.result.failed ≡ 0 = ap (λ (k : Counts). k.failed) c.new-counts.ensures in
     record {
       few = (omega (arith, none), omega (arith, none_failed));
       sent = refl;
@@ -71,6 +71,8 @@ returns-in_err-say-clause-stopped g c = λ is.
     let s : Selection = record { round = c.loop-before.before + 1; master = c.in-Ok.master } in (
       c.loop-before.before + 1,
       done.0 ++ s ∷ [],
+      c.happen.new.counts.sent,
+      c.happen.new.counts.failed,
       omega (arith, c.loop-before-test.true),
       subst (HasPutPart g.K.Sink.written g.K.Sink.handed c.args.sink.now c.say.new.sink) (sym (texts-push None done.0 s))
           (HasPut-part g.K.Sink.written g.K.Sink.handed c.args.sink.now c.loop-before.sink c.say.new.sink (texts_of (map selected_line (changes None done.0)))
