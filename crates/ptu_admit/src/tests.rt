@@ -147,22 +147,24 @@ enum Step {
     Turn(u64, u64),
 }
 
+fn ask_of(code: u8, log: i8) -> Ask {
+    Ask {
+        code,
+        log,
+        seconds: 300,
+    }
+}
+
 fn ask_all(
     rt: &impl Abort,
     site: &mut Site,
     config: &GmConfig,
     t: u64,
     client: &Client,
-    code: u8,
-    log: i8,
+    ask: &Ask,
 ) -> Result<Verdict, Fail>
     requires { IsWithinLimits config.now }
 {
-    let ask = Ask {
-        code,
-        log,
-        seconds: 300,
-    };
     site.s0.reserve(1)?;
     site.s1.reserve(1)?;
     site.s2.reserve(1)?;
@@ -176,7 +178,7 @@ fn ask_all(
         s3,
         book,
     } = site;
-    Ok(decide_all(s0, s1, s2, s3, book, config, t, client, &ask))
+    Ok(decide_all(s0, s1, s2, s3, book, config, t, client, ask))
 }
 
 fn change(
@@ -211,11 +213,11 @@ fn take_step(
 {
     match *step {
         Step::Announce(t, client, log, told) => {
-            let verdict = ask_all(rt, site, config, t, &client, ANNOUNCE, log)?;
+            let verdict = ask_all(rt, site, config, t, &client, &ask_of(ANNOUNCE, log))?;
             assert_eq!(rt; numbers_of(&verdict), told);
         }
         Step::Sync(t, client, log, told) => {
-            let verdict = ask_all(rt, site, config, t, &client, SYNC, log)?;
+            let verdict = ask_all(rt, site, config, t, &client, &ask_of(SYNC, log))?;
             assert_eq!(rt; numbers_of(&verdict), told);
         }
         Step::Change(t, capacity, shed) => {
@@ -494,7 +496,7 @@ fn client_of(number: u32) -> Client {
 fn grant_many(rt: &impl Abort, site: &mut Site, count: u32) -> Result<(), Fail> {
     for number in 0..count {
         let t = (number / 2) as u64;
-        let verdict = ask_all(rt, site, &CONFIG, t, &client_of(number), ANNOUNCE, 4)?;
+        let verdict = ask_all(rt, site, &CONFIG, t, &client_of(number), &ask_of(ANNOUNCE, 4))?;
         assert!(rt; matches!(verdict, Verdict::Granted(_)));
     }
     Ok(())
