@@ -1,8 +1,10 @@
 -- The datagrams of a port, one after the other.
-use Rattle.std.proofs.Common.{◌≡◌, ◌∙◌, ℕ, suc, ◌+◌, ◌<◌, List, [], ◌∷◌, length, drop, map, sym, ap, subst, add-one, drop-cons, Some}
+use Rattle.std.proofs.Common.{◌≡◌, ◌∙◌, ℕ, suc, ◌+◌, ◌-◌, ◌<◌, ◌≤◌, List, [], ◌∷◌, length, drop, map, sym, ap, add-one, arith, drop-cons, length-append, Some}
 use Rattle.std.specs.List.{slice_get}
+use Rattle.std.proofs.lemmas.List.{drop_all}
 use Rattle.std.proofs.lemmas.Option.{slice_get_within, get_or_from_slice_get}
 use Rattle.ptu_outside.specs.Departure.{Departure}
+use Rattle.ptu_report_lines.specs.declared.sent.Sent.{Sent}
 use Rattle.ptu_world.specs.World.{sent_from}
 use Rattle.ptu_nodes.specs.Noted.{Noted, with_handed, with_sent}
 use Rattle.ptu_nodes.proofs.Noting.{sent_more, sent_nothing}
@@ -13,21 +15,36 @@ drop-at xs i x is =
     let within : i < length xs = slice_get_within xs i x is in
     rw (add-one, drop-cons xs i x) (ap (λ y. y ∷ drop (suc i) xs) (get_or_from_slice_get xs i x x is))
 
--- of the datagrams that the node at this address has handed to its port those before this place were added to a journal: what
--- it is now, with the rest, is what it was, with all
-abbrev pub IsSoFar : ℕ → List Departure → ℕ → Noted → Noted → Type 0
-IsSoFar ip handed index old now = with_handed ip (drop index handed) now ≡ with_handed ip handed old
+-- of the datagrams that the node at this address has handed to its port some were added to a journal, in which so many stood
+-- before: what it is now, with the rest, is what it was, with all
+pub record IsSoFar (ip : ℕ) (handed : List Departure) (before : ℕ) (old now : Noted) : Type 0 where
+  pub longer : before ≤ length now.sent
+  pub rest : with_handed ip (drop (length now.sent - before) handed) now ≡ with_handed ip handed old
+
+-- one more stands behind those so far
+one_later : (before : ℕ) (now more : Noted) (d : Sent) → before ≤ length now.sent → more ≡ with_sent (d ∷ []) now
+    → (before ≤ length more.sent) × (length more.sent - before ≡ length now.sent - before + 1)
+one_later before now more d longer is =
+    let many : length more.sent ≡ length now.sent + 1 = ap (λ (n : Noted). length n.sent) is ∙ length-append now.sent (d ∷ []) in
+    (omega (arith, many, longer), omega (arith, many, longer))
 
 -- the next datagram is added
-pub next_sent : (ip : ℕ) (handed : List Departure) (index next : ℕ) (old now more : Noted) (d : Departure)
-    → IsSoFar ip handed index old now → slice_get handed index ≡ Some d → next ≡ index + 1 → more ≡ with_sent (sent_from ip d ∷ []) now
-    → IsSoFar ip handed next old more
-next_sent ip handed index next old now more d so_far is next_is more_is =
-    subst (λ n. IsSoFar ip handed n old more) (sym next_is)
-    (ap (with_handed ip (drop (index + 1) handed)) more_is
-    ∙ sym (sent_more (sent_from ip d ∷ []) (map (sent_from ip) (drop (index + 1) handed)) now)
-    ∙ ap (λ l. with_handed ip l now) (sym (drop-at handed index d is)) ∙ so_far)
+pub next_sent : (ip : ℕ) (handed : List Departure) (before : ℕ) (old now more : Noted) (d : Departure)
+    → IsSoFar ip handed before old now → slice_get handed (length now.sent - before) ≡ Some d → more ≡ with_sent (sent_from ip d ∷ []) now
+    → IsSoFar ip handed before old more
+next_sent ip handed before old now more d so_far is more_is =
+    let index : ℕ = length now.sent - before in
+    let later : (before ≤ length more.sent) × (length more.sent - before ≡ index + 1) = one_later before now more (sent_from ip d) so_far.longer more_is in
+    record {
+      longer = later.0;
+      rest =
+          ap (λ n. with_handed ip (drop n handed) more) later.1 ∙ ap (with_handed ip (drop (index + 1) handed)) more_is
+          ∙ sym (sent_more (sent_from ip d ∷ []) (map (sent_from ip) (drop (index + 1) handed)) now)
+          ∙ ap (λ l. with_handed ip l now) (sym (drop-at handed index d is)) ∙ so_far.rest;
+    }
 
 -- all are added
-pub all_sent : (ip : ℕ) (handed : List Departure) (index : ℕ) (old now : Noted) → IsSoFar ip handed index old now → drop index handed ≡ [] → now ≡ with_handed ip handed old
-all_sent ip handed index old now so_far none = sym (sent_nothing now) ∙ ap (λ l. with_handed ip l now) (sym none) ∙ so_far
+pub all_sent : (ip : ℕ) (handed : List Departure) (before : ℕ) (old now : Noted) → IsSoFar ip handed before old now
+    → length handed ≤ length now.sent - before → now ≡ with_handed ip handed old
+all_sent ip handed before old now so_far none =
+    sym (sent_nothing now) ∙ ap (λ l. with_handed ip l now) (sym (drop_all (length now.sent - before) handed none)) ∙ so_far.rest

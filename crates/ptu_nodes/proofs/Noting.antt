@@ -1,16 +1,17 @@
 -- What is added to a journal in one go and in several.
-use Rattle.std.proofs.Common.{◌≡◌, ◌∙◌, ℕ, ◌+◌, List, [], ◌∷◌, ◌++◌, Bool, false, cond, length, map, refl, sym, ap, arith, append_assoc, length-append}
+use Rattle.std.proofs.Common.{◌≡◌, ◌∙◌, ℕ, ◌+◌, ◌-◌, ◌^◌, min, List, [], ◌∷◌, ◌++◌, Bool, false, cond, length, map, refl, sym, ap, arith, append_assoc, length-append}
 use Rattle.std.specs.List.{count_by}
 use Rattle.std.proofs.lemmas.List.{append-nil, map-append}
 use Rattle.std.proofs.lemmas.List.Sums.{sum_by-append, sum_by-cons}
 use Rattle.ptu_outside.specs.Departure.{Departure}
+use Rattle.ptu_grandmaster.specs.Gm.{counted}
 use Rattle.ptu_report_lines.specs.declared.sent.Sent.{Sent}
 use Rattle.ptu_report_lines.specs.declared.statement.Statement.{Statement}
 use Rattle.ptu_report_lines.specs.declared.statement.Statement.TheVariants as statements
 use Rattle.ptu_world.specs.Deeds.{Deed}
 use Rattle.ptu_world.specs.Report.{is_granted, is_short, text_at}
 use Rattle.ptu_world.specs.World.{said_by, sending_said, sent_from}
-use Rattle.ptu_nodes.specs.Noted.{Noted, with_deed, with_handed, with_said, with_sent}
+use Rattle.ptu_nodes.specs.Noted.{Noted, counted_on, with_deed, with_handed, with_said, with_sent}
 
 abbrev noted_of : ℕ → List (List ℕ) → List Sent → ℕ → ℕ → Noted
 noted_of line texts sent granted short = record { line = line; texts = texts; sent = sent; granted = granted; short = short }
@@ -23,25 +24,29 @@ by_parts line texts texts' sent sent' granted granted' short short' t s g h =
 
 -- ---- what is said
 
-plus_none : (n : ℕ) → n + 0 ≡ n
-plus_none n = omega arith
+on_none : (n : ℕ) → counted_on n 0 ≡ n
+on_none n = omega arith
+
+on_more : (n a b : ℕ) → counted_on n (a + b) ≡ counted_on (counted_on n a) b
+on_more n a b = omega arith
+
+-- a count that stands still at its end goes on as one that does not
+pub on_counted : (n more : ℕ) → counted_on (counted n) more ≡ counted (n + more)
+on_counted n more = omega arith
 
 pub said_nothing : (noted : Noted) → with_said [] noted ≡ noted
 said_nothing noted =
-    by_parts noted.line (noted.texts ++ []) noted.texts noted.sent noted.sent (noted.granted + 0) noted.granted (noted.short + 0) noted.short
-    (append-nil noted.texts) refl (plus_none noted.granted) (plus_none noted.short)
+    by_parts noted.line (noted.texts ++ []) noted.texts noted.sent noted.sent (counted_on noted.granted 0) noted.granted (counted_on noted.short 0) noted.short
+    (append-nil noted.texts) refl (on_none noted.granted) (on_none noted.short)
 
-counts_more : (n : ℕ) (p : Statement → Bool) (xs ys : List Statement) → n + count_by p (xs ++ ys) ≡ n + count_by p xs + count_by p ys
-counts_more n p xs ys = ap (λ k. n + k) (sum_by-append (λ s. cond (p s) 1 0) xs ys) ∙ plus (count_by p xs) (count_by p ys)
-  where
-    plus : (a b : ℕ) → n + (a + b) ≡ n + a + b
-    plus a b = omega arith
+counts_more : (n : ℕ) (p : Statement → Bool) (xs ys : List Statement) → counted_on n (count_by p (xs ++ ys)) ≡ counted_on (counted_on n (count_by p xs)) (count_by p ys)
+counts_more n p xs ys = ap (counted_on n) (sum_by-append (λ s. cond (p s) 1 0) xs ys) ∙ on_more n (count_by p xs) (count_by p ys)
 
 pub said_more : (xs ys : List Statement) (noted : Noted) → with_said (xs ++ ys) noted ≡ with_said ys (with_said xs noted)
 said_more xs ys noted =
     by_parts noted.line (noted.texts ++ map (text_at noted.line) (xs ++ ys)) (noted.texts ++ map (text_at noted.line) xs ++ map (text_at noted.line) ys) noted.sent noted.sent
-    (noted.granted + count_by is_granted (xs ++ ys)) (noted.granted + count_by is_granted xs + count_by is_granted ys)
-    (noted.short + count_by is_short (xs ++ ys)) (noted.short + count_by is_short xs + count_by is_short ys)
+    (counted_on noted.granted (count_by is_granted (xs ++ ys))) (counted_on (counted_on noted.granted (count_by is_granted xs)) (count_by is_granted ys))
+    (counted_on noted.short (count_by is_short (xs ++ ys))) (counted_on (counted_on noted.short (count_by is_short xs)) (count_by is_short ys))
     (ap (λ l. noted.texts ++ l) (map-append (text_at noted.line) xs ys) ∙ sym (append_assoc noted.texts (map (text_at noted.line) xs) (map (text_at noted.line) ys)))
     refl (counts_more noted.granted is_granted xs ys) (counts_more noted.short is_short xs ys)
 
@@ -92,13 +97,14 @@ none_counted p before (x ∷ xs) none =
     ∙ ap (λ b. cond b 1 0 + count_by p (sending_said (before + 1) xs)) (none (before + 1) x) ∙ ap (λ n. 0 + n) (none_counted p (before + 1) xs none)
 
 counts_deed : (n : ℕ) (p : Statement → Bool) (said sends added : List Statement) → count_by p sends ≡ 0
-    → n + count_by p said + count_by p added ≡ n + count_by p (said ++ sends ++ added)
+    → counted_on (counted_on n (count_by p said)) (count_by p added) ≡ counted_on n (count_by p (said ++ sends ++ added))
 counts_deed n p said sends added none =
-    sym (ap (λ k. n + k) (sum_by-append (λ s. cond (p s) 1 0) (said ++ sends) added ∙ ap (λ k. k + count_by p added) (sum_by-append (λ s. cond (p s) 1 0) said sends))
-    ∙ ap (λ k. n + (count_by p said + k + count_by p added)) none ∙ plus (count_by p said) (count_by p added))
+    sym (on_more n (count_by p said) (count_by p added)) ∙ sym (ap (counted_on n) (
+    sum_by-append (λ s. cond (p s) 1 0) (said ++ sends) added
+    ∙ ap (λ k. k + count_by p added) (sum_by-append (λ s. cond (p s) 1 0) said sends ∙ ap (λ k. count_by p said + k) none ∙ plus_none (count_by p said))))
   where
-    plus : (a b : ℕ) → n + (a + 0 + b) ≡ n + a + b
-    plus a b = omega arith
+    plus_none : (a : ℕ) → a + 0 ≡ a
+    plus_none a = omega arith
 
 -- what stands in a journal after a deed
 module _ (ip : ℕ) (deed : Deed) (noted : Noted) where
@@ -117,8 +123,19 @@ module _ (ip : ℕ) (deed : Deed) (noted : Noted) where
       ∙ ap (λ l. l ++ map (text_at noted.line) deed.added) (sym (map-append (text_at noted.line) deed.said sends))
       ∙ sym (map-append (text_at noted.line) (deed.said ++ sends) deed.added))
 
-  pub deed_granted : (with_deed ip deed noted).granted ≡ noted.granted + count_by is_granted (said_by noted.sent ip deed)
+  pub deed_granted : (with_deed ip deed noted).granted ≡ counted_on noted.granted (count_by is_granted (said_by noted.sent ip deed))
   deed_granted = counts_deed noted.granted is_granted deed.said sends deed.added (none_counted is_granted before (map (sent_from ip) deed.sends) (λ n x. refl))
 
-  pub deed_short : (with_deed ip deed noted).short ≡ noted.short + count_by is_short (said_by noted.sent ip deed)
+  pub deed_short : (with_deed ip deed noted).short ≡ counted_on noted.short (count_by is_short (said_by noted.sent ip deed))
   deed_short = counts_deed noted.short is_short deed.said sends deed.added (none_counted is_short before (map (sent_from ip) deed.sends) (λ n x. refl))
+
+  -- where it counted a number as far as a count goes, it counts what the deed adds to that number likewise
+  pub counted_granted : (n : ℕ) → noted.granted ≡ counted n → (with_deed ip deed noted).granted ≡ counted (n + count_by is_granted (said_by noted.sent ip deed))
+  counted_granted n is =
+      let k : ℕ = count_by is_granted (said_by noted.sent ip deed) in
+      deed_granted ∙ ap (λ m. counted_on m k) is ∙ on_counted n k
+
+  pub counted_short : (n : ℕ) → noted.short ≡ counted n → (with_deed ip deed noted).short ≡ counted (n + count_by is_short (said_by noted.sent ip deed))
+  counted_short n is =
+      let k : ℕ = count_by is_short (said_by noted.sent ip deed) in
+      deed_short ∙ ap (λ m. counted_on m k) is ∙ on_counted n k

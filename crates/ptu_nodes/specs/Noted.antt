@@ -1,8 +1,7 @@
 -- What a journal of a script holds, and what is added to it.
-use Rattle.std.specs.Prelude.{ℕ, ◌+◌, List, [], ◌++◌, length, map}
+use Rattle.std.specs.Prelude.{ℕ, ◌+◌, ◌-◌, ◌^◌, min, List, [], ◌++◌, length, map}
 use Rattle.std.specs.List.{count_by}
 use Rattle.ptu_outside.specs.Departure.{Departure}
-use Rattle.ptu_grandmaster.specs.Gm.{counted}
 use Rattle.ptu_report_lines.specs.declared.sent.Sent.{Sent}
 use Rattle.ptu_report_lines.specs.declared.statement.Statement.{Statement}
 use Rattle.ptu_world.specs.Deeds.{Deed}
@@ -22,14 +21,18 @@ pub record Noted : Type 0 where
 abbrev pub nothing_noted : Noted
 nothing_noted = record { line = 0; texts = []; sent = []; granted = 0; short = 0 }
 
+-- a count of 64 bits with so many more, as far as it goes
+abbrev pub counted_on : ℕ → ℕ → ℕ
+counted_on count more = count + min more (2 ^ 64 - 1 - count)
+
 -- this was said of the line
 abbrev pub with_said : List Statement → Noted → Noted
 with_said said noted = record {
   line = noted.line;
   texts = noted.texts ++ map (text_at noted.line) said;
   sent = noted.sent;
-  granted = counted (noted.granted + count_by is_granted said);
-  short = counted (noted.short + count_by is_short said);
+  granted = counted_on noted.granted (count_by is_granted said);
+  short = counted_on noted.short (count_by is_short said);
 }
 
 -- these datagrams were sent, and of each it was said, with its number

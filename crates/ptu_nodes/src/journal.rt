@@ -1,7 +1,6 @@
-ghost use Rattle.std.specs.Prelude.{◌≡◌, ◌+◌, ◌∷◌, [], cond, OnOk};
-ghost use Rattle.ptu_grandmaster.specs.Gm.{counted};
+ghost use Rattle.std.specs.Prelude.{◌≡◌, ◌∷◌, [], cond, OnOk};
 ghost use Rattle.ptu_world.specs.Report.{is_granted, is_short};
-ghost use Rattle.ptu_nodes.specs.Noted.{nothing_noted, with_handed, with_said, with_sent};
+ghost use Rattle.ptu_nodes.specs.Noted.{counted_on, nothing_noted, with_handed, with_said, with_sent};
 
 use ptu_outside::{Datagram, MemPort};
 use ptu_report::Texts;
@@ -180,7 +179,7 @@ fn says_short(statement: &Statement) -> bool
 
 // The count with one more, where there is one more.
 fn counted(so_far: u64, is_one: bool) -> u64
-    ensures { result ≡ counted (so_far + cond is_one 1 0) }
+    ensures { result ≡ counted_on so_far (cond is_one 1 0) }
 {
     so_far.saturating_add(u64::from(is_one))
 }

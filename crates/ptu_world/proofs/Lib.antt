@@ -10,3 +10,5 @@ pub mod Sayings
 pub mod Numbering
 pub mod Going
 pub mod Headline
+pub mod FewLines
+pub mod Counting

@@ -4,5 +4,5 @@ use Rattle.ptu_nodes.proofs.journal.Journal.hand_over.Goals as goal
 
 pub datagrams-preserved : goal.datagrams-preserved
 datagrams-preserved c =
-    next_sent _ _ c.datagrams.index _ _ _ _ (record { ip = c.in-Some.to; channel = c.in-Some.channel; bytes = c.in-Some.octets.now })
-    c.datagrams.invariant (search (rules, c.in-Some.ensures)) (search rules) (search rules)
+    next_sent _ _ _ _ _ _ (record { ip = c.in-Some.to; channel = c.in-Some.channel; bytes = c.in-Some.octets.now })
+    c.datagrams.invariant (search (rules, c.in-Some.ensures)) (search rules)

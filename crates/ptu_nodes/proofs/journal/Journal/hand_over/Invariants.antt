@@ -1,9 +1,9 @@
-use Rattle.std.proofs.Common.{◌-◌, length}
+use Rattle.std.proofs.Common.{◌-◌, ◌≤◌, length}
 use Rattle.ptu_nodes.proofs.HandedOver.{IsSoFar}
 use Rattle.ptu_nodes.proofs.journal.Journal.hand_over.Given as goal
 
 abbrev pub invariant-datagrams : goal.invariant-datagrams
-invariant-datagrams l = IsSoFar l.ip l.port.sent l.index l.initial.self l.self
+invariant-datagrams l = IsSoFar l.ip l.port.sent l.before l.initial.self l.self
 
 abbrev pub decreases-datagrams : goal.decreases-datagrams
-decreases-datagrams l = length l.port.sent - l.index
+decreases-datagrams l = length l.port.sent - (length l.self.sent - l.before)
