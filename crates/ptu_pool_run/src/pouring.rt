@@ -60,7 +60,7 @@ impl Pouring {
         requires limits { IsWithinLimits command }
         requires empty { texts.old ≡ [] }
         ensures { IfOk result (λ refused. (told : Told) → StandsFor self.old told →
-            IsOutcome (step told line command) (StandsFor self.new) texts.new refused) }
+            IsOutcome (step told line command.entry) (StandsFor self.new) texts.new refused) }
     {
         match command {
             PoolCommand::Grandmaster(setup) => Ok(self.set_up(setup)),
