@@ -15,7 +15,7 @@ returns-in-Grandmaster g c = rw c.in-Grandmaster.is (ok_also c.act_as_grandmaste
     grandmaster_acts (λ n. seen (λ i. (g.dyn-1.0.entry i).1.Judge) n.slave) c.in-Grandmaster.node c.act_as_grandmaster.new.node c.args.at c.args.act c.args.journal.now c.act_as_grandmaster.new.journal
     _ _ refused c.act_as_grandmaster.ensures.ip c.requires.stock acted))
 
-pub returns : goal.returns
-returns g c = rw c.in-Slave.is (ok_also c.act.result _ _ c.act.ensures.acted (λ refused acted.
+pub returns-in-Slave : goal.returns-in-Slave
+returns-in-Slave g c = rw c.in-Slave.is (ok_also c.act.result _ _ c.act.ensures.acted (λ refused acted.
     slave_acts (λ n. seen (λ i. (g.dyn-1.0.entry i).1.Judge) n.slave) c.in-Slave.node c.act.new.self c.args.at c.args.act c.args.journal.now c.act.new.journal
     _ _ _ refused c.act.ensures.ip acted))

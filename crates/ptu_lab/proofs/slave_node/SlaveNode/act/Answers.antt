@@ -4,13 +4,13 @@ use Rattle.ptu_lab.proofs.LabNodes.{leaving, ok_also}
 use Rattle.ptu_lab.proofs.slave_node.SlaveNode.act.Goals as goal
 
 pub returns-in_ok-receive-in-Receive-clause-acted : goal.returns-in_ok-receive-in-Receive-clause-acted
-returns-in_ok-receive-in-Receive-clause-acted g c = rw c.in-Receive.is (λ begun s is. (c.in_ok-receive.ensures.done begun s is, refl, c.requires.stock))
+returns-in_ok-receive-in-Receive-clause-acted g c = rw c.in-Receive.is (λ begun s is. (c.in_ok-receive-in-Receive.ensures.done begun s is, refl, c.requires.stock))
 
 pub returns-in_ok-tick-in-Tick-clause-acted : goal.returns-in_ok-tick-in-Tick-clause-acted
-returns-in_ok-tick-in-Tick-clause-acted g c = rw c.in-Tick.is (λ begun s is. (c.in_ok-tick.ensures.done begun s is, refl, c.requires.stock))
+returns-in_ok-tick-in-Tick-clause-acted g c = rw c.in-Tick.is (λ begun s is. (c.in_ok-tick-in-Tick.ensures.done begun s is, refl, c.requires.stock))
 
 pub returns-in_ok-stop-in-Stop-clause-acted : goal.returns-in_ok-stop-in-Stop-clause-acted
-returns-in_ok-stop-in-Stop-clause-acted g c = rw c.in-Stop.is (λ begun s is. (c.in_ok-stop.ensures.done begun s is, refl, c.requires.stock))
+returns-in_ok-stop-in-Stop-clause-acted g c = rw c.in-Stop.is (λ begun s is. (c.in_ok-stop-in-Stop.ensures.done begun s is, refl, c.requires.stock))
 
 pub returns-in-Flag-clause-acted : goal.returns-in-Flag-clause-acted
 returns-in-Flag-clause-acted g c = rw c.in-Flag.is (ok_also c.flag.result _ _ c.flag.ensures.acted (λ refused acted begun s is.
