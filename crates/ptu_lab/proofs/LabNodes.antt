@@ -43,6 +43,11 @@ pub ok_also : {A E : Type 0} (r : Result A E) (P Q : A → Type 0) → IfOk r P 
 ok_also (Ok x) P Q p also = also x p
 ok_also (Err e) P Q p also = tt
 
+-- a fact on any line and on no texts, at a line of which there are none
+pub at_line : {A E : Type 0} (r : Result A E) (P : ℕ → List (List ℕ) → A → Type 0) (line : ℕ) (texts : List (List ℕ)) → texts ≡ [] → IfOk r (λ x. (n : ℕ) → P n [] x) → IfOk r (P line texts)
+at_line (Ok x) P line texts none p = subst (λ t. P line t x) (sym none) (p line)
+at_line (Err e) P line texts none p = tt
+
 -- ---- what was done at an act
 
 -- a node that is seen otherwise, at an address that is the same

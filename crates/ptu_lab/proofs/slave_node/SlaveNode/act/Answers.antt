@@ -1,10 +1,10 @@
-use Rattle.std.proofs.Common.{map, refl}
+use Rattle.std.proofs.Common.{refl, sym}
 use Rattle.ptu_slave.specs.Seen.{seen}
 use Rattle.ptu_lab.proofs.LabNodes.{leaving, ok_also}
 use Rattle.ptu_lab.proofs.slave_node.SlaveNode.act.Goals as goal
 
 pub returns-in_ok-receive-in-Receive-clause-acted : goal.returns-in_ok-receive-in-Receive-clause-acted
-returns-in_ok-receive-in-Receive-clause-acted g c = rw c.in-Receive.is (λ begun s is. (c.in_ok-receive-in-Receive.ensures.done begun s is, refl, c.requires.stock))
+returns-in_ok-receive-in-Receive-clause-acted g c = rw (c.in-Receive.is, sym c.as_slice.ensures) (λ begun s is. (c.in_ok-receive-in-Receive.ensures.done begun s is, refl, c.requires.stock))
 
 pub returns-in_ok-tick-in-Tick-clause-acted : goal.returns-in_ok-tick-in-Tick-clause-acted
 returns-in_ok-tick-in-Tick-clause-acted g c = rw c.in-Tick.is (λ begun s is. (c.in_ok-tick-in-Tick.ensures.done begun s is, refl, c.requires.stock))
