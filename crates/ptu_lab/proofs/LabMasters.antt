@@ -14,6 +14,7 @@ use Rattle.ptu_script.specs.declared.command.Command.TheVariants as commands
 use Rattle.ptu_world.specs.Deeds as world
 use Rattle.ptu_world.specs.World.{Done, Stock, World, add_master, node_at, placed, quietly, slave_by, step, stock_without, with_master}
 use Rattle.ptu_world.specs.Report.{Course, outcome_by}
+use Rattle.ptu_grandmaster.specs.Gm.{counted}
 use Rattle.ptu_nodes.specs.Noted.{Noted}
 use Rattle.ptu_slave.specs.Seen.{Seen}
 use Rattle.ptu_lab.specs.declared.slave_node.SlaveNode.{SlaveNode}
@@ -155,8 +156,8 @@ module _ {J B : Type 0} {I : J → Type 0} (see : SlaveNode J I → Seen MemoryP
             flags = refl;
             gaps = refl;
             stock = taken.stock;
-            granted = (let none : lab'.journal.granted ≡ c.granted + 0 = ap (λ (n : Noted). n.granted) journal ∙ omega (arith, stands.granted) in none);
-            short = (let none : lab'.journal.short ≡ c.short + 0 = ap (λ (n : Noted). n.short) journal ∙ omega (arith, stands.short) in none);
+            granted = (let none : lab'.journal.granted ≡ counted (c.granted + 0) = ap (λ (n : Noted). n.granted) journal ∙ omega (arith, stands.granted) in none);
+            short = (let none : lab'.journal.short ≡ counted (c.short + 0) = ap (λ (n : Noted). n.short) journal ∙ omega (arith, stands.short) in none);
           },
           refl,
         )

@@ -5,6 +5,7 @@ use Rattle.std.specs.List.{count_by}
 use Rattle.std.specs.HashMap.{HashMap, get}
 use Rattle.ptu_outside.specs.MemoryPort.{MemoryPort}
 use Rattle.ptu_judges.specs.Held.{Held, IsStock}
+use Rattle.ptu_grandmaster.specs.Gm.{counted}
 use Rattle.ptu_report_lines.specs.declared.sent.Sent.{Sent}
 use Rattle.ptu_report_lines.specs.declared.statement.Statement.TheVariants as statements
 use Rattle.ptu_record.specs.declared.rule.Rule.{Rule}
@@ -16,13 +17,14 @@ use Rattle.ptu_script.specs.declared.cause.Cause.TheVariants as causes
 use Rattle.ptu_script.specs.declared.command.Command.TheVariants as commands
 use Rattle.ptu_world.specs.Deeds as world
 use Rattle.ptu_world.specs.Deeds.{Deed}
+use Rattle.ptu_world.specs.Grandmasters.{class_deed}
 use Rattle.ptu_world.specs.World.{Done, Nodes, Stock, datagram_numbered, delivered_to, done_by, node_at, or_cause, placed, said_by, sent_from, step, stock_without}
 use Rattle.ptu_world.specs.Report.{Course, course_after, is_granted, is_short, outcome_by, text_at}
 use Rattle.ptu_nodes.specs.declared.grandmaster_node.GrandmasterNode.{GrandmasterNode}
 use Rattle.ptu_nodes.specs.Doing.{HasDone}
-use Rattle.ptu_nodes.specs.Noted.{Noted, with_deed, with_said}
+use Rattle.ptu_nodes.specs.Noted.{Noted, counted_on, with_deed, with_said, with_sent}
 use Rattle.ptu_nodes.specs.Standing.{IsGrandmasterNode, StandsAsGrandmaster}
-use Rattle.ptu_nodes.proofs.Noting.{deed_granted, deed_short, deed_texts}
+use Rattle.ptu_nodes.proofs.Noting.{counted_granted, counted_short, deed_texts, on_counted, said_nothing, sent_nothing}
 use Rattle.ptu_slave.specs.Seen.{Seen}
 use Rattle.ptu_lab.specs.declared.act.Act.{Act}
 use Rattle.ptu_lab.specs.declared.act.Act.TheVariants as acts
@@ -41,6 +43,11 @@ pub ok_also : {A E : Type 0} (r : Result A E) (P Q : A → Type 0) → IfOk r P 
 ok_also (Ok x) P Q p also = also x p
 ok_also (Err e) P Q p also = tt
 
+-- a fact on any line and on no texts, at a line of which there are none
+pub at_line : {A E : Type 0} (r : Result A E) (P : ℕ → List (List ℕ) → A → Type 0) (line : ℕ) (texts : List (List ℕ)) → texts ≡ [] → IfOk r (λ x. (n : ℕ) → P n [] x) → IfOk r (P line texts)
+at_line (Ok x) P line texts none p = subst (λ t. P line t x) (sym none) (p line)
+at_line (Err e) P line texts none p = tt
+
 -- ---- what was done at an act
 
 -- a node that is seen otherwise, at an address that is the same
@@ -48,6 +55,13 @@ pub done_as : (P Q : world.Node → Type 0) (a b : ℕ) (deed : Deed) (old new :
 done_as P Q a b deed old new also same done = record {
   node = also deed.node done.node;
   noted = subst (λ i. new ≡ with_deed i deed old) same done.noted;
+}
+
+-- nothing is said of a class that changes, and nothing is sent
+pub class_changed : (P : world.Node → Type 0) (ip class : ℕ) (g : world.Grandmaster) (noted : Noted) → P (class_deed g class).node → HasDone P ip (class_deed g class) noted noted
+class_changed P ip class g noted is = record {
+  node = is;
+  noted = sym (said_nothing (with_sent [] (with_said [] noted)) ∙ (sent_nothing (with_said [] noted) ∙ said_nothing noted));
 }
 
 -- where no judge was taken, those that are left are those that there were
@@ -140,10 +154,10 @@ module _ {J B : Type 0} {I : J → Type 0} (see : SlaveNode J I → Seen MemoryP
       flags = sym (ap (λ (s : Stock). s.flags) left_is);
       gaps = sym (ap (λ (s : Stock). s.gaps) left_is);
       stock = stock;
-      granted = ap (λ (n : Noted). n.granted) done.noted ∙ (deed_granted ip deed lab.journal
-          ∙ (ap (λ n. n + count_by is_granted (said_by lab.journal.sent ip deed)) stands.granted ∙ ap (λ s. c.granted + count_by is_granted (said_by s ip deed)) stands.sent));
-      short = ap (λ (n : Noted). n.short) done.noted ∙ (deed_short ip deed lab.journal
-          ∙ (ap (λ n. n + count_by is_short (said_by lab.journal.sent ip deed)) stands.short ∙ ap (λ s. c.short + count_by is_short (said_by s ip deed)) stands.sent));
+      granted = ap (λ (n : Noted). n.granted) done.noted ∙ (counted_granted ip deed lab.journal c.granted stands.granted
+          ∙ ap (λ s. counted (c.granted + count_by is_granted (said_by s ip deed))) stands.sent);
+      short = ap (λ (n : Noted). n.short) done.noted ∙ (counted_short ip deed lab.journal c.short stands.short
+          ∙ ap (λ s. counted (c.short + count_by is_short (said_by s ip deed))) stands.sent);
     },
     ap (λ (n : Noted). n.texts) done.noted ∙ (deed_texts ip deed lab.journal
         ∙ (ap (λ t. t ++ map (text_at lab.journal.line) (said_by lab.journal.sent ip deed)) none ∙ ap (λ s. map (text_at lab.journal.line) (said_by s ip deed)) stands.sent)),
@@ -161,6 +175,17 @@ module _ {J B : Type 0} {I : J → Type 0} (see : SlaveNode J I → Seen MemoryP
       by : (o : Option world.Node) → Agrees see ip c.world.has_begun None o → IsOutcome (outcome_by c line (at_found c.world ip t act o)) after given (Some causes.Node)
       by None h = refl
       by (Some w) h = absurd h
+
+  -- the node that is found stands for one of the world
+  pub found_means : (flags gaps : List Held) (lab : Lab J I) (c : Course) (ip : ℕ) (node : Node J I)
+      → StandsFor see flags gaps lab c
+      → get nat_eq lab.nodes ip ≡ Some node
+      → (a : ℕ) × (begun : Bool) × (w : world.Node) × StandsAs see a begun node w
+  found_means flags gaps lab c ip node stands found = by (node_at c.world.nodes ip) (rw (sym found) (stands.nodes ip))
+    where
+      by : (o : Option world.Node) → Agrees see ip c.world.has_begun (Some node) o → (a : ℕ) × (begun : Bool) × (w : world.Node) × StandsAs see a begun node w
+      by None h = absurd h
+      by (Some w) h = (ip, c.world.has_begun, w, h)
 
   -- it is found, and acts or refuses
   pub acted_stands : (flags gaps flags' gaps' : List Held) (lab lab' : Lab J I) (c : Course) (ip t : ℕ) (act : Act) (old new : Node J I) (refused : Option Cause)
@@ -215,6 +240,11 @@ module _ {J B : Type 0} {I : J → Type 0} (see : SlaveNode J I → Seen MemoryP
       by (acts.Flag master unusable) done = leaving (StandsAsGrandmaster new) (StandsAs see ip true (nodes.Grandmaster new)) old.ip ip noted noted' flags gaps (act_deed t (acts.Flag master unusable) (world.IsGrandmaster g)) refused also h.0 stock done
       by (acts.Judge master rule) done = refused_any (StandsAsGrandmaster new) (StandsAs see ip true (nodes.Grandmaster new)) old.ip ip noted noted' flags gaps causes.Node (stock_without rule (stock_of flags gaps)) refused done
       by acts.Stop done = leaving (StandsAsGrandmaster new) (StandsAs see ip true (nodes.Grandmaster new)) old.ip ip noted noted' flags gaps (act_deed t acts.Stop (world.IsGrandmaster g)) refused also h.0 stock done
+
+  -- a grandmaster that stands for a node of a world stands for a grandmaster there
+  pub grandmaster_means : (node : GrandmasterNode) (ip : ℕ) (begun : Bool) (w : world.Node) → StandsAs see ip begun (nodes.Grandmaster node) w → (g : world.Grandmaster) × IsGrandmasterNode node g
+  grandmaster_means node ip begun (world.IsGrandmaster g) h = (g, h.1)
+  grandmaster_means node ip begun (world.IsSlave s) h = absurd h.1
 
   -- a slave does
   pub slave_acts : (old new : SlaveNode J I) (t : ℕ) (act : Act) (noted noted' : Noted) (flags gaps : List Held) (left : Result Stock Cause) (refused : Option Cause)
@@ -292,8 +322,8 @@ module _ {J B : Type 0} {I : J → Type 0} (see : SlaveNode J I → Seen MemoryP
           flags = stands.flags;
           gaps = stands.gaps;
           stock = stands.stock;
-          granted = ap (λ (n : Noted). n.granted) noted ∙ ap (λ n. n + 0) stands.granted;
-          short = ap (λ (n : Noted). n.short) noted ∙ ap (λ n. n + 0) stands.short;
+          granted = ap (λ (n : Noted). n.granted) noted ∙ (ap (λ n. counted_on n 0) stands.granted ∙ on_counted c.granted 0);
+          short = ap (λ (n : Noted). n.short) noted ∙ (ap (λ n. counted_on n 0) stands.short ∙ on_counted c.short 0);
         },
         ap (λ (n : Noted). n.texts) noted ∙ ap (λ l. l ++ text_at lab.journal.line statements.Nobody ∷ []) none,
       )

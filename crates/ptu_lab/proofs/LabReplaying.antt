@@ -1,5 +1,5 @@
 -- What a replay has come to, where no line was refused.
-use Rattle.std.proofs.Common.{◌≡◌, ◌∙◌, ℕ, ◌+◌, true, false, List, [], ◌∷◌, length, Option, Some, None, IfSome, IsSome, refl, sym, ap, subst}
+use Rattle.std.proofs.Common.{◌≡◌, ◌≤◌, ◌∙◌, ℕ, ◌+◌, ◌-◌, ◌^◌, true, false, List, [], ◌∷◌, length, Option, Some, None, IfSome, IsSome, refl, sym, ap, subst, arith}
 use Rattle.std.specs.Prelude.{nat_eq}
 use Rattle.std.specs.HashMap.{get}
 use Rattle.ptu_lines.specs.Script.{ScriptLine, Whole, Refused, script_lines}
@@ -8,13 +8,14 @@ use Rattle.ptu_report.specs.declared.ending.Ending.TheVariants as endings
 use Rattle.ptu_report.specs.Rules.{Goes, IsOutcome, Outcome, Refuses, Rules, ending_after, ending_at, ending_of, meaning_after, meaning_at, meaning_of}
 use Rattle.ptu_judges.specs.Held.{Held}
 use Rattle.ptu_outside.specs.Handing.{HasPut}
+use Rattle.ptu_grandmaster.specs.Gm.{counted}
 use Rattle.ptu_report.specs.Reported.{HasReported}
 use Rattle.ptu_script.specs.declared.cause.Cause.{Cause}
 use Rattle.ptu_outside.specs.MemoryPort.{MemoryPort}
 use Rattle.ptu_slave.specs.Seen.{Seen}
 use Rattle.ptu_world.specs.Facts.{AreCounted, EndsBy, world_of}
 use Rattle.ptu_world.specs.World.{Stock, node_at}
-use Rattle.ptu_world.specs.Report.{Course, course_opening, report, report_lines, rules}
+use Rattle.ptu_world.specs.Report.{Course, course_opening, granted_count, report, report_lines, rules, short_count}
 use Rattle.ptu_world.proofs.Reported.{counts_of_rules, ends_of_rules, texts_of_rules}
 use Rattle.ptu_lab.specs.declared.done.Done.{Done}
 use Rattle.ptu_lab.specs.declared.slave_node.SlaveNode.{SlaveNode}
@@ -36,24 +37,30 @@ module _ {M C : Type 0} (r : Rules M C) (lines : ℕ) where
       at_outcome (before + 1) (r.step m (before + 1) text) (λ after. ending_after r after (before + 1) rest) (λ after. meaning_after r after (before + 1) rest)
       (λ after e. meant rest after (before + 1) e) e
 
+-- a number that a count holds is counted whole
+counted_whole : (n : ℕ) → n ≤ 2 ^ 64 - 1 → counted n ≡ n
+counted_whole n few = omega (arith, few)
+
 module _ {J B : Type 0} {I : J → Type 0} (see : SlaveNode J I → Seen MemoryPort B) where
   -- the lab that stands for what all lines lead to has the numbers of the report
-  pub counted : (flags gaps : List Held) (lab : Lab J I) (stock : Stock) (script : List ℕ) (lines : ℕ) (done : Done)
+  pub numbers_told : (flags gaps : List Held) (lab : Lab J I) (stock : Stock) (script : List ℕ) (lines : ℕ) (done : Done)
       → IfSome (meaning_of rules (course_opening stock) (script_lines script)) (StandsFor see flags gaps lab)
       → endings.Whole lines ≡ ending_of rules (course_opening stock) (script_lines script)
       → done.datagrams ≡ length lab.journal.sent
       → done.granted ≡ lab.journal.granted
       → done.refused ≡ lab.journal.short
+      → granted_count (report_lines stock script) ≤ 2 ^ 64 - 1
+      → short_count (report_lines stock script) ≤ 2 ^ 64 - 1
       → AreCounts stock script done
-  counted flags gaps lab stock script lines done stands whole datagrams granted refused =
+  numbers_told flags gaps lab stock script lines done stands whole datagrams granted refused few_granted few_short =
       by (meaning_of rules (course_opening stock) (script_lines script)) (meant rules lines (script_lines script) (course_opening stock) 0 (sym whole)) stands (counts_of_rules stock script)
     where
       by : (o : Option Course) → IsSome o → IfSome o (StandsFor see flags gaps lab) → IfSome o (AreCounted stock script) → AreCounts stock script done
       by None some s c = absurd (let no : false ≡ true = some in cc)
       by (Some course) some s c = record {
         datagrams = datagrams ∙ (ap length s.sent ∙ ap (λ w. length w.sent) c.world);
-        granted = granted ∙ (s.granted ∙ c.granted);
-        refused = refused ∙ (s.short ∙ c.short);
+        granted = granted ∙ (s.granted ∙ (ap counted c.granted ∙ counted_whole (granted_count (report_lines stock script)) few_granted));
+        refused = refused ∙ (s.short ∙ (ap counted c.short ∙ counted_whole (short_count (report_lines stock script)) few_short));
       }
 
   -- whatever texts the journal holds, the lab stands for what it stood for

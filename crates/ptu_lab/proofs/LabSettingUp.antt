@@ -7,6 +7,7 @@ use Rattle.ptu_report.specs.Rules.{IsOutcome}
 use Rattle.ptu_script.specs.declared.cause.Cause.{Cause}
 use Rattle.ptu_script.specs.declared.cause.Cause.TheVariants as causes
 use Rattle.ptu_outside.specs.MemoryPort.{MemoryPort}
+use Rattle.ptu_grandmaster.specs.Gm.{counted}
 use Rattle.ptu_nodes.specs.Noted.{Noted}
 use Rattle.ptu_slave.specs.Seen.{Seen}
 use Rattle.ptu_world.specs.Deeds as world
@@ -56,8 +57,8 @@ module _ {J B : Type 0} {I : J → Type 0} (see : SlaveNode J I → Seen MemoryP
           flags = stands.flags;
           gaps = stands.gaps;
           stock = stands.stock;
-          granted = (let none : lab'.journal.granted ≡ c.granted + 0 = ap (λ (n : Noted). n.granted) journal ∙ omega (arith, stands.granted) in none);
-          short = (let none : lab'.journal.short ≡ c.short + 0 = ap (λ (n : Noted). n.short) journal ∙ omega (arith, stands.short) in none);
+          granted = (let none : lab'.journal.granted ≡ counted (c.granted + 0) = ap (λ (n : Noted). n.granted) journal ∙ omega (arith, stands.granted) in none);
+          short = (let none : lab'.journal.short ≡ counted (c.short + 0) = ap (λ (n : Noted). n.short) journal ∙ omega (arith, stands.short) in none);
         },
         refl,
       )

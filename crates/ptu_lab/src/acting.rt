@@ -35,7 +35,7 @@ fn act_as_grandmaster(
     ensures acted { IfOk result (λ refused. (g : world.Grandmaster) →
         IsGrandmasterNode node.old g →
         HasActed (StandsAsGrandmaster node.new) node.old.ip journal.old journal.new
-        (act_deed at act (world.IsGrandmaster g)) refused) }
+        (act_deed at act.entry (world.IsGrandmaster g)) refused) }
 {
     match act {
         Act::Receive { from, octets } => {
@@ -81,8 +81,8 @@ impl Node {
             HasActedLeaving (StandsAs
             (λ n. seen ⟦<dyn Judge as Judge>⟧ n.slave) ip true self.new)
             ip journal.old journal.new (map (λ j. held j) stock.new.flags.items)
-            (map (λ j. held j) stock.new.gaps.items) (act_deed at act w)
-            (stock_after act (stock_of (map (λ j. held j) stock.old.flags.items)
+            (map (λ j. held j) stock.new.gaps.items) (act_deed at act.entry w)
+            (stock_after act.entry (stock_of (map (λ j. held j) stock.old.flags.items)
             (map (λ j. held j) stock.old.gaps.items))) refused) }
     {
         match self {
@@ -121,7 +121,7 @@ impl Lab {
             (StandsFor (λ n. seen ⟦<dyn Judge as Judge>⟧ n.slave)
             (map (λ j. held j) self.new.stock.flags.items)
             (map (λ j. held j) self.new.stock.gaps.items) self.new)
-            self.new.journal.texts (command_of ip at act)) }
+            self.new.journal.texts (command_of ip at act.entry)) }
     {
         match self.nodes.get_mut(&ip) {
             None => Ok(Some(Cause::Node)),

@@ -80,7 +80,7 @@ impl Lab {
             StandsFor (λ n. seen ⟦<dyn Judge as Judge>⟧ n.slave)
             (map (λ j. held j) self.old.stock.flags.items)
             (map (λ j. held j) self.old.stock.gaps.items) self.old c →
-            IsOutcome (outcome_by c line (step c.world command))
+            IsOutcome (outcome_by c line (step c.world command.entry))
             (λ after. StandsFor (λ n. seen ⟦<dyn Judge as Judge>⟧ n.slave)
             (map (λ j. held j) self.new.stock.flags.items)
             (map (λ j. held j) self.new.stock.gaps.items) self.new after)
@@ -109,7 +109,7 @@ impl Lab {
             (StandsFor (λ n. seen ⟦<dyn Judge as Judge>⟧ n.slave)
             (map (λ j. held j) self.new.stock.flags.items)
             (map (λ j. held j) self.new.stock.gaps.items) self.new)
-            self.new.journal.texts command) }
+            self.new.journal.texts command.entry) }
     {
         match command {
             Command::Grandmaster(setup) => self.set_up_grandmaster(&setup),

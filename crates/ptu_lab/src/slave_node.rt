@@ -137,8 +137,8 @@ impl SlaveNode {
             IsNode self.old.ip (seen ⟦<dyn Judge as Judge>⟧ self.old.slave) begun s →
             HasActedLeaving (StandsAsNode self.new.ip (seen ⟦<dyn Judge as Judge>⟧ self.new.slave)
             true) self.old.ip journal.old journal.new (map (λ j. held j) stock.new.flags.items)
-            (map (λ j. held j) stock.new.gaps.items) (act_deed at act (IsSlave s))
-            (stock_after act (stock_of (map (λ j. held j) stock.old.flags.items)
+            (map (λ j. held j) stock.new.gaps.items) (act_deed at act.entry (IsSlave s))
+            (stock_after act.entry (stock_of (map (λ j. held j) stock.old.flags.items)
             (map (λ j. held j) stock.old.gaps.items))) refused) }
     {
         match act {

@@ -2,9 +2,10 @@ use Rattle.std.proofs.Common.{◌∙◌, length, map, ap, subst}
 use Rattle.ptu_outside.specs.Handing.{HasPutPart}
 use Rattle.ptu_outside.proofs.Putting.{HasPutPart-whole}
 use Rattle.ptu_world.specs.Report.{course_opening}
+use Rattle.ptu_world.proofs.Counting.{granted_within, short_within}
 use Rattle.ptu_world.proofs.Reported.{texts_of_rules}
 use Rattle.ptu_slave.specs.Seen.{seen}
-use Rattle.ptu_lab.proofs.LabReplaying.{counted, replayed}
+use Rattle.ptu_lab.proofs.LabReplaying.{numbers_told, replayed}
 use Rattle.ptu_lab.proofs.KeepingHeadline.{keeps_headline}
 use Rattle.ptu_lab.proofs.replaying.replay.Goals as goal
 
@@ -37,8 +38,9 @@ pub returns-in-Ok-Whole-clause-counts : goal.returns-in-Ok-Whole-clause-counts
 returns-in-Ok-Whole-clause-counts g c = λ script told.
     let reported = rw c.in-Ok-Whole.field-0-is at (c.in-Ok-Whole.ensures.whole (course_opening (record { flags = length c.args.stock.flags.items; gaps = length c.args.stock.gaps.items })) c.new-lab.ensures.opening script told) in
     let last = rw c.in-Ok-Whole.field-0-is at c.in-Ok-Whole.ensures.last in
-    counted (λ n. seen (λ i. (g.dyn-1.0.entry i).1.Judge) n.slave) _ _ c.report.new.reporter.lab (record { flags = length c.args.stock.flags.items; gaps = length c.args.stock.gaps.items }) script c.in-Ok-Whole.lines _
+    numbers_told (λ n. seen (λ i. (g.dyn-1.0.entry i).1.Judge) n.slave) _ _ c.report.new.reporter.lab (record { flags = length c.args.stock.flags.items; gaps = length c.args.stock.gaps.items }) script c.in-Ok-Whole.lines _
     (last tt (course_opening (record { flags = length c.args.stock.flags.items; gaps = length c.args.stock.gaps.items })) c.new-lab.ensures.opening script told) reported.ends (c.len.ensures ∙ ap length c.sent.ensures) c.granted.ensures c.short.ensures
+    (granted_within _ script) (short_within _ script)
 
 pub returns-in-Ok-Whole-clause-headline : goal.returns-in-Ok-Whole-clause-headline
 returns-in-Ok-Whole-clause-headline g c = λ script told. keeps_headline _ script

@@ -1,10 +1,15 @@
 use Rattle.std.proofs.Common.{true, refl, sym, rules}
-use Rattle.ptu_lab.proofs.LabNodes.{acted_stands, nobody}
+use Rattle.ptu_slave.specs.Seen.{seen}
+use Rattle.ptu_lab.proofs.LabNodes.{acted_stands, found_means, nobody}
 use Rattle.ptu_lab.proofs.lab.Lab.act.Goals as goal
 
 pub returns-in-None : goal.returns-in-None
 returns-in-None g c = λ course stands.
     nobody _ _ _ _ course c.args.ip _ c.args.at c.args.act _ _ stands (sym c.in-None.ensures.value)
+
+pub act-requires-clause-means : goal.act-requires-clause-means
+act-requires-clause-means g c =
+    found_means (λ n. seen (λ i. (g.dyn-1.0.entry i).1.Judge) n.slave) _ _ _ c.requires.means.0 c.args.ip c.in-Some.node.now c.requires.means.1 (sym c.in-Some.ensures.value)
 
 pub returns-in_ok-refused-in-Some : goal.returns-in_ok-refused-in-Some
 returns-in_ok-refused-in-Some g c = λ course stands.

@@ -3,9 +3,9 @@ use Rattle.ptu_world.specs.World.{datagram_numbered}
 use Rattle.ptu_lab.proofs.LabNodes.{delivered_there, delivered_nobody, not_delivered, ok_also}
 use Rattle.ptu_lab.proofs.lab.Lab.deliver.Goals as goal
 
-pub returns-in-None : goal.returns-in-None
-returns-in-None g c = λ course stands. not_delivered _ c.args.at c.args.number course _ _
-    (sym (ap (datagram_numbered c.args.number) (c.sent.ensures ∙ stands.sent)) ∙ c.in-None.ensures)
+pub returns-in_default : goal.returns-in_default
+returns-in_default g c = λ course stands. not_delivered _ c.args.at c.args.number course _ _
+    (sym (ap (datagram_numbered c.args.number) (c.sent.ensures ∙ stands.sent)) ∙ c.in_default.ensures)
 
 pub returns-then-contains_key : goal.returns-then-contains_key
 returns-then-contains_key g c = ok_also c.act.result _ _ c.act.ensures (λ refused acted course stands.
