@@ -140,14 +140,13 @@ fn round<L: Rates, G: Ledger, R: Ledger, W: Wait + Abort>(
     control.expect(rt, "memory is found")
 }
 
-// The REQUEST is granted, and the Signaling without TLVs gets no reply. Then a send fails.
-fn ask_twice<L: Rates, G: Ledger, R: Ledger, W: Wait + Abort>(
+// The REQUEST is granted, and the Signaling without TLVs gets no reply.
+fn ask_once<L: Rates, G: Ledger, R: Ledger, W: Wait + Abort>(
     rt: &W,
     alloc: Global,
     shared: &Shared<MemPort, L, G, R>,
     seats: &mut [Seat<G, R>],
     port: &mut MemPort,
-    failing: &mut MemPort,
     grant: &[u8],
 )
     requires { L.parts ≡ 4 }
@@ -162,6 +161,18 @@ fn ask_twice<L: Rates, G: Ledger, R: Ledger, W: Wait + Abort>(
     assert_eq!(rt; (reply.0, reply.1), (CLIENT, Channel::General));
     assert_eq!(rt; reply.2, grant);
     assert!(rt; port.sent(1).is_none());
+}
+
+// The same asks, at a port whose first send fails.
+fn ask_in_vain<L: Rates, G: Ledger, R: Ledger, W: Wait + Abort>(
+    rt: &W,
+    alloc: Global,
+    shared: &Shared<MemPort, L, G, R>,
+    seats: &mut [Seat<G, R>],
+    failing: &mut MemPort,
+)
+    requires { L.parts ≡ 4 }
+{
     let failed = Control {
         asks: 1,
         sent: 0,
@@ -193,15 +204,9 @@ fn asking<L: Rates, G: Ledger, R: Ledger, W: Wait + Abort>(
     let mut first = port(alloc, Vec::new(alloc))?;
     let mut failing = port(alloc, vec![in alloc; 1]?)?;
     let (shared, mut seats) = open::<L, G, R>(alloc, rates, granted, refused, capacity)?;
-    ask_twice(
-        rt,
-        alloc,
-        &shared,
-        seats.as_mut_slice(),
-        &mut first,
-        &mut failing,
-        &grant,
-    );
+    let seats = seats.as_mut_slice();
+    ask_once(rt, alloc, &shared, seats, &mut first, &grant);
+    ask_in_vain(rt, alloc, &shared, seats, &mut failing);
     Ok(())
 }
 
