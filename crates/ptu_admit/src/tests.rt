@@ -496,7 +496,14 @@ fn client_of(number: u32) -> Client {
 fn grant_many(rt: &impl Abort, site: &mut Site, count: u32) -> Result<(), Fail> {
     for number in 0..count {
         let t = (number / 2) as u64;
-        let verdict = ask_all(rt, site, &CONFIG, t, &client_of(number), &ask_of(ANNOUNCE, 4))?;
+        let verdict = ask_all(
+            rt,
+            site,
+            &CONFIG,
+            t,
+            &client_of(number),
+            &ask_of(ANNOUNCE, 4),
+        )?;
         assert!(rt; matches!(verdict, Verdict::Granted(_)));
     }
     Ok(())
