@@ -18,8 +18,8 @@ use std::alloc::Global;
 use std::collections::BTreeMap;
 
 /// The trail of each grandmaster by its address, as long as nothing is found, and how many grants
-/// and timing messages they have, up to 2^64 - 1 of each. Each begins with the same capacity, in sixteenths of a message
-/// per second.
+/// and timing messages they have, up to 2^64 - 1 of each. Each begins with the same capacity, in
+/// sixteenths of a message per second.
 #[derive(Drop)]
 pub(crate) struct Ledger {
     alloc: Global,
