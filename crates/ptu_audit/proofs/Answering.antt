@@ -1,5 +1,5 @@
 -- What an auditor answers that has read a report.
-use Rattle.std.proofs.Common.{◌≡◌, ◌∙◌, ℕ, ◌+◌, ◌-◌, ◌^◌, ◌≤◌, List, length, arith, Option, Some, option_map, ap, subst}
+use Rattle.std.proofs.Common.{◌≡◌, ◌∙◌, ℕ, List, arith, Option, Some, option_map, ap, subst}
 use Rattle.std.specs.Prelude.{IfSome}
 use Rattle.ptu_lines.specs.Script.{script_lines}
 use Rattle.ptu_report.specs.Rules.{meaning_of}

@@ -163,7 +163,7 @@ fn ask_once<L: Rates, G: Ledger, R: Ledger, W: Wait + Abort>(
     assert!(rt; port.sent(1).is_none());
 }
 
-// The REQUEST is granted, and the send of its reply fails.
+// The same asks, at a port whose first send fails.
 fn ask_in_vain<L: Rates, G: Ledger, R: Ledger, W: Wait + Abort>(
     rt: &W,
     alloc: Global,

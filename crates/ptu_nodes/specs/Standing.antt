@@ -1,5 +1,5 @@
 -- Which grandmaster of a world a grandmaster with ports in memory stands for.
-use Rattle.std.specs.Prelude.{◌≡◌, List, []}
+use Rattle.std.specs.Prelude.{◌≡◌, []}
 use Rattle.ptu_outside.specs.MemoryPort.{MemoryPort}
 use Rattle.ptu_grandmaster.specs.Gm.{KeptGm}
 use Rattle.ptu_grandmaster.specs.Gm as gm

@@ -1,6 +1,6 @@
 -- How many lines of a report say what a grandmaster decided: at most 32 for each line of the script, of which there are
 -- few.
-use Rattle.std.proofs.Common.{◌≡◌, ◌∙◌, ℕ, suc, ◌+◌, ◌*◌, ◌-◌, ◌^◌, ◌≤◌, ◌==◌, Bool, true, false, cond, List, [], ◌∷◌, ◌++◌, length, map, Option, Some, None, Result, Ok, Err, IfOk, refl, sym, ap, subst, arith}
+use Rattle.std.proofs.Common.{◌≡◌, ◌∙◌, ℕ, suc, ◌+◌, ◌*◌, ◌-◌, ◌^◌, ◌≤◌, ◌==◌, Bool, true, false, cond, List, [], ◌∷◌, ◌++◌, length, map, Option, Some, None, Result, Ok, Err, IfOk, refl, sym, ap, arith}
 use Rattle.std.proofs.lemmas.List.{length-map}
 use Rattle.std.specs.List.{count_by, cons_option}
 use Rattle.std.proofs.lemmas.List.Sums.{count_by-le-length, sum_by-append, sum_by-cons}
@@ -31,7 +31,6 @@ use Rattle.ptu_items.specs.declared.reason.GmReason.{GmReason}
 use Rattle.ptu_items.specs.declared.reason.GmReason.TheVariants as ignored
 use Rattle.ptu_items.specs.Deciding.{Decision, client_of, decision_of, decisions_of, item_records, placed}
 use Rattle.ptu_items.specs.Items.{heard_by, heard_in, is_for, item_of, items_among, items_by, of_message, with_items}
-use Rattle.ptu_record.specs.declared.rule.Rule.{Rule}
 use Rattle.ptu_record.specs.Step as slave_events
 use Rattle.ptu_slave_messages.specs.declared.config.Master.{Master}
 use Rattle.ptu_slave_messages.specs.declared.heard.Heard as slave_heard
@@ -46,7 +45,6 @@ use Rattle.ptu_script.specs.declared.command.Command.TheVariants as commands
 use Rattle.ptu_script.specs.Cause.{cause_of_line}
 use Rattle.ptu_script.specs.Command.{command_of}
 use Rattle.ptu_script.specs.Fields.{◌>>=◌}
-use Rattle.ptu_report_lines.specs.declared.decision.Decision as said
 use Rattle.ptu_report_lines.specs.declared.decision.Decision.TheVariants as decisions
 use Rattle.ptu_report_lines.specs.declared.report_line.ReportLine.{ReportLine}
 use Rattle.ptu_report_lines.specs.declared.report_line.ReportLine.TheVariants.{At, End}
@@ -56,8 +54,8 @@ use Rattle.ptu_report_lines.specs.declared.statement.Statement.TheVariants as st
 use Rattle.ptu_world.specs.Deeds.{Deed, Grandmaster, IsGrandmaster, IsSlave, Node, Slave}
 use Rattle.ptu_world.specs.Grandmasters as gm
 use Rattle.ptu_world.specs.Slaves as slaves
-use Rattle.ptu_world.specs.Report.{granted_count, is_granted, is_granted_line, is_short, is_short_line, lines_by, lines_by_line, lines_from, report_lines, short_count}
-use Rattle.ptu_world.specs.World.{World, Stock, Done, add_master, at_grandmaster, at_slave, datagram_deed, datagram_numbered, delivered_to, done_by, grandmaster_by, node_at, opening, or_cause, place_in, quietly, said_by, sending_said, sent_from, set_up, slave_at, slave_by, step, stock_without}
+use Rattle.ptu_world.specs.Report.{granted_count, is_granted_line, is_short_line, lines_by, lines_by_line, lines_from, report_lines, short_count}
+use Rattle.ptu_world.specs.World.{World, Stock, Done, add_master, at_grandmaster, at_slave, datagram_deed, datagram_numbered, delivered_to, done_by, grandmaster_by, node_at, opening, or_cause, place_in, quietly, sending_said, sent_from, set_up, slave_at, slave_by, step, stock_without}
 use Rattle.ptu_world.proofs.Limits.{ok_bound}
 
 -- ---- counts

@@ -1,4 +1,4 @@
-use Rattle.std.proofs.Common.{◌-◌, ◌≤◌, length}
+use Rattle.std.proofs.Common.{◌-◌, length}
 use Rattle.ptu_nodes.proofs.HandedOver.{IsSoFar}
 use Rattle.ptu_nodes.proofs.journal.Journal.hand_over.Given as goal
 
