@@ -6,5 +6,6 @@ pub mod Replayed
 pub mod Load
 pub mod SummarySamples
 pub mod Acts
+pub mod Orders
 pub mod Steps
 pub mod Headline

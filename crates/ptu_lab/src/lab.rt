@@ -5,16 +5,18 @@ ghost use Rattle.ptu_script.specs.Limits.{IsWithinLimits};
 ghost use Rattle.ptu_world.specs.World.{step};
 ghost use Rattle.ptu_world.specs.Report.{Course, course_opening, outcome_by};
 ghost use Rattle.ptu_slave.specs.Seen.{seen};
+ghost use Rattle.ptu_lab.specs.Orders.{IsOrderWithin, command_in};
 ghost use Rattle.ptu_lab.specs.Standing.{StandsFor};
 ghost use Rattle.ptu_lab.specs.Steps.{HasStepped};
 
-use crate::act::Act;
+use crate::order::{Order, order_of};
 use crate::slave_node::SlaveNode;
 use crate::stock::Reserve;
 use ptu_judges::{Judge, Stock};
 use ptu_nodes::{GrandmasterNode, Journal};
+use ptu_report::Texts;
 use ptu_script::{Cause, Command};
-use ptu_units::{Moment, OutOfMemory};
+use ptu_units::OutOfMemory;
 use std::alloc::Global;
 use std::collections::HashMap;
 
@@ -59,9 +61,8 @@ impl Lab {
         }
     }
 
-    /// Does what the script's line of this number commands: the texts of the journal are then what
-    /// is said of it; or answers why it is refused. The room is for a copy of a datagram that was
-    /// sent.
+    /// Does what the script's line of this number commands: the texts are then what is said of it;
+    /// or answers why it is refused. The room is for a copy of a datagram that was sent.
     ///
     /// # Errors
     /// `OutOfMemory`.
@@ -70,6 +71,7 @@ impl Lab {
         command: Command<'_>,
         line: u64,
         room: &mut Vec<u8>,
+        texts: &mut Texts,
     ) -> Result<Option<Cause>, OutOfMemory>
         requires means { (c : Course) × StandsFor
             (λ n. seen ⟦<dyn Judge as Judge>⟧ n.slave)
@@ -83,24 +85,21 @@ impl Lab {
             IsOutcome (outcome_by c line (step c.world command.entry))
             (λ after. StandsFor (λ n. seen ⟦<dyn Judge as Judge>⟧ n.slave)
             (map (λ j. held j) self.new.stock.flags.items)
-            (map (λ j. held j) self.new.stock.gaps.items) self.new after)
-            self.new.journal.texts refused) }
+            (map (λ j. held j) self.new.stock.gaps.items) self.new after) texts.new refused) }
     {
         self.journal.begin(line);
-        self.obey(command, room)
+        let refused = self.obey(order_of(command), room)?;
+        self.journal.swap_texts(texts);
+        Ok(refused)
     }
 
-    // The same at the line that the journal has begun.
-    fn obey(
-        &mut self,
-        command: Command<'_>,
-        room: &mut Vec<u8>,
-    ) -> Result<Option<Cause>, OutOfMemory>
+    // Does what is asked at the line that the journal has begun.
+    fn obey(&mut self, order: Order<'_>, room: &mut Vec<u8>) -> Result<Option<Cause>, OutOfMemory>
         requires means { (c : Course) × StandsFor
             (λ n. seen ⟦<dyn Judge as Judge>⟧ n.slave)
             (map (λ j. held j) self.old.stock.flags.items)
             (map (λ j. held j) self.old.stock.gaps.items) self.old c }
-        requires limits { IsWithinLimits command }
+        requires within { IsOrderWithin order }
         requires empty { self.old.journal.texts ≡ [] }
         ensures { IfOk result (HasStepped self.old.journal.line
             (StandsFor (λ n. seen ⟦<dyn Judge as Judge>⟧ n.slave)
@@ -109,51 +108,16 @@ impl Lab {
             (StandsFor (λ n. seen ⟦<dyn Judge as Judge>⟧ n.slave)
             (map (λ j. held j) self.new.stock.flags.items)
             (map (λ j. held j) self.new.stock.gaps.items) self.new)
-            self.new.journal.texts command.entry) }
+            self.new.journal.texts (command_in order.entry)) }
     {
-        match command {
-            Command::Grandmaster(setup) => self.set_up_grandmaster(&setup),
-            Command::Slave(setup) => self.set_up_slave(&setup),
-            Command::Master {
-                slave,
-                ip,
-                priority,
-                rule,
-            } => self.add_master(slave, ip, priority, rule),
-            Command::Receive {
-                at,
-                node,
-                from,
-                octets,
-            } => self.act(at, node, Act::Receive { from, octets }),
-            Command::Deliver { at, number } => self.deliver(at, number, room),
-            Command::Turn {
-                at,
-                grandmaster,
-                table,
-            } => self.act(at, grandmaster, Act::Turn { table }),
-            Command::Tick { at, slave } => self.act(at, slave, Act::Tick),
-            Command::Flag {
-                at,
-                slave,
-                master,
-                unusable,
-            } => self.act(at, slave, Act::Flag { master, unusable }),
-            Command::Judge {
-                at,
-                slave,
-                master,
-                rule,
-            } => self.act(at, slave, Act::Judge { master, rule }),
-            Command::Stop { at, slave } => self.act(at, slave, Act::Stop),
-            Command::Class { grandmaster, class } => {
-                self.act(Moment::default(), grandmaster, Act::Class { class })
+        match order {
+            Order::Grandmaster(setup) => self.set_up_grandmaster(&setup),
+            Order::Slave(setup) => self.set_up_slave(&setup),
+            Order::Master(slave, ip, priority, rule) => {
+                self.add_master(slave, ip, priority, rule)
             }
-            Command::Capacity {
-                at,
-                grandmaster,
-                capacity,
-            } => self.act(at, grandmaster, Act::Capacity { capacity }),
+            Order::Deliver { at, number } => self.deliver(at, number, room),
+            Order::Act(at, node, act) => self.act(at, node, act),
         }
     }
 }

@@ -7,6 +7,7 @@ mod acting;
 mod done;
 mod lab;
 mod loading;
+mod order;
 mod replaying;
 mod setting_up;
 mod slave_node;

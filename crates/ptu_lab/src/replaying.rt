@@ -66,11 +66,7 @@ impl Reporter for Replayer {
     ) -> Result<Option<Cause>, OutOfMemory> {
         match read_command(line, &mut self.line_room) {
             Ok(None) => Ok(None),
-            Ok(Some(command)) => {
-                let refused = self.lab.step(command, number, &mut self.sent_room)?;
-                self.lab.journal.swap_texts(texts);
-                Ok(refused)
-            }
+            Ok(Some(command)) => self.lab.step(command, number, &mut self.sent_room, texts),
             Err(cause) => Ok(Some(cause)),
         }
     }

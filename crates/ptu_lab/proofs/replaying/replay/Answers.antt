@@ -39,7 +39,7 @@ returns-in-Ok-Whole-clause-counts g c = λ script told.
     let reported = rw c.in-Ok-Whole.field-0-is at (c.in-Ok-Whole.ensures.whole (course_opening (record { flags = length c.args.stock.flags.items; gaps = length c.args.stock.gaps.items })) c.new-lab.ensures.opening script told) in
     let last = rw c.in-Ok-Whole.field-0-is at c.in-Ok-Whole.ensures.last in
     numbers_told (λ n. seen (λ i. (g.dyn-1.0.entry i).1.Judge) n.slave) _ _ c.report.new.reporter.lab (record { flags = length c.args.stock.flags.items; gaps = length c.args.stock.gaps.items }) script c.in-Ok-Whole.lines _
-    (last tt (course_opening (record { flags = length c.args.stock.flags.items; gaps = length c.args.stock.gaps.items })) c.new-lab.ensures.opening script told) reported.ends (c.len.ensures ∙ ap length c.sent.ensures) c.granted.ensures c.short.ensures
+    (last tt (course_opening (record { flags = length c.args.stock.flags.items; gaps = length c.args.stock.gaps.items })) c.new-lab.ensures.opening script told) reported.ends (c.count.ensures.count ∙ ap length c.sent.ensures) c.granted.ensures c.short.ensures
     (granted_within _ script) (short_within _ script)
 
 pub returns-in-Ok-Whole-clause-headline : goal.returns-in-Ok-Whole-clause-headline

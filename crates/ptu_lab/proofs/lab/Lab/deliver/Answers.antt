@@ -1,19 +1,24 @@
-use Rattle.std.proofs.Common.{◌∙◌, refl, sym, ap, rules}
+use Rattle.std.proofs.Common.{◌≡◌, ◌∙◌, true, false, refl, sym, ap, rules}
+use Rattle.std.specs.Prelude.{is_some, nat_eq}
+use Rattle.std.specs.HashMap.{get}
 use Rattle.ptu_world.specs.World.{datagram_numbered}
 use Rattle.ptu_lab.proofs.LabNodes.{delivered_there, delivered_nobody, not_delivered, ok_also}
 use Rattle.ptu_lab.proofs.lab.Lab.deliver.Goals as goal
 
 pub returns-in_default : goal.returns-in_default
 returns-in_default g c = λ course stands. not_delivered _ c.args.at c.args.number course _ _
-    (sym (ap (datagram_numbered c.args.number) (c.sent.ensures ∙ stands.sent)) ∙ c.in_default.ensures)
+    (sym (ap (datagram_numbered c.args.number) (c.sent.ensures ∙ stands.sent)) ∙ sym c.in_default.ensures)
 
 pub returns-then-contains_key : goal.returns-then-contains_key
 returns-then-contains_key g c = ok_also c.act.result _ _ c.act.ensures (λ refused acted course stands.
-    delivered_there _ _ _ _ course _ c.args.at c.args.number c.in-Some.sent.now _ _ _ refused stands
-    (sym (ap (datagram_numbered c.args.number) c.sent.ensures) ∙ c.in-Some.ensures)
-    (search rules) (search rules) (acted course stands))
+    let there : is_some (get nat_eq c.args.self.now.nodes c.to-to.result) ≡ true = search rules in
+    delivered_there _ _ _ _ course _ c.args.at c.args.number c.in-Some.sent _ _ _ refused stands
+    (sym (ap (datagram_numbered c.args.number) c.sent.ensures) ∙ sym c.in-Some.ensures)
+    (rw c.to-to.ensures at there) (search rules) (rw (c.to-to.ensures, c.from-from.ensures) at (acted course stands)))
 
 pub returns : goal.returns
-returns g c = λ course stands. delivered_nobody _ _ _ _ _ course c.args.at c.args.number c.in-Some.sent.now stands
-    (sym (ap (datagram_numbered c.args.number) c.sent.ensures) ∙ c.in-Some.ensures)
-    (search rules) c.requires.empty refl refl c.in_ok-say.ensures
+returns g c = λ course stands.
+    let nobody : is_some (get nat_eq c.args.self.now.nodes c.to-to.result) ≡ false = search rules in
+    delivered_nobody _ _ _ _ _ course c.args.at c.args.number c.in-Some.sent stands
+    (sym (ap (datagram_numbered c.args.number) c.sent.ensures) ∙ sym c.in-Some.ensures)
+    (rw c.to-to.ensures at nobody) c.requires.empty refl refl c.in_ok-say.ensures

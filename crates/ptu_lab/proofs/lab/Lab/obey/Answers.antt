@@ -24,30 +24,3 @@ returns-in-Master g c = rw c.in-Master.is (at_line c.add_master.result
     (λ line texts. HasStepped line (StandsFor (λ n. seen (λ i. (g.dyn-1.0.entry i).1.Judge) n.slave) (map (λ j. (goal.Judge-dyn g (j.vtable, j.value)).Judge.held j.value) c.args.self.now.stock.flags.items) (map (λ j. (goal.Judge-dyn g (j.vtable, j.value)).Judge.held j.value) c.args.self.now.stock.gaps.items) c.args.self.now)
     (StandsFor (λ n. seen (λ i. (g.dyn-1.0.entry i).1.Judge) n.slave) (map (λ j. (goal.Judge-dyn g (j.vtable, j.value)).Judge.held j.value) c.add_master.new.self.stock.flags.items) (map (λ j. (goal.Judge-dyn g (j.vtable, j.value)).Judge.held j.value) c.add_master.new.self.stock.gaps.items) c.add_master.new.self) texts (commands.Master c.in-Master.slave c.in-Master.ip c.in-Master.priority c.in-Master.rule))
     _ _ (ap (λ (n : Noted). n.texts) c.add_master.ensures.journal ∙ c.requires.empty) c.add_master.ensures.made)
-
-pub returns-in-Receive : goal.returns-in-Receive
-returns-in-Receive g c = rw c.in-Receive.is c.act.ensures
-
-pub returns-in-Turn : goal.returns-in-Turn
-returns-in-Turn g c = rw c.in-Turn.is c.act-in-Turn.ensures
-
-pub returns-in-Tick : goal.returns-in-Tick
-returns-in-Tick g c = rw c.in-Tick.is c.act-in-Tick.ensures
-
-pub returns-in-Flag : goal.returns-in-Flag
-returns-in-Flag g c = rw c.in-Flag.is c.act-in-Flag.ensures
-
-pub returns-in-Judge : goal.returns-in-Judge
-returns-in-Judge g c = rw c.in-Judge.is c.act-in-Judge.ensures
-
-pub returns-in-Stop : goal.returns-in-Stop
-returns-in-Stop g c = rw c.in-Stop.is c.act-in-Stop.ensures
-
-pub returns-in-Class : goal.returns-in-Class
-returns-in-Class g c = rw c.in-Class.is c.act-in-Class.ensures
-
-pub returns-in-Capacity : goal.returns-in-Capacity
-returns-in-Capacity g c = rw c.in-Capacity.is c.act-in-Capacity.ensures
-
-pub returns-in-Deliver : goal.returns-in-Deliver
-returns-in-Deliver g c = rw c.in-Deliver.is c.deliver.ensures

@@ -5,8 +5,7 @@ use Rattle.ptu_world.specs.Report.{outcome_by}
 use Rattle.ptu_world.specs.World as world
 use Rattle.ptu_nodes.specs.Noted.{Noted}
 use Rattle.ptu_lab.specs.Standing.{StandsFor}
-use Rattle.ptu_lab.proofs.LabNodes.{ok_also}
-use Rattle.ptu_lab.proofs.LabReplaying.{texts_aside}
+use Rattle.ptu_lab.proofs.LabReplaying.{handed_texts, texts_aside}
 use Rattle.ptu_lab.proofs.lab.Lab.step.Goals as goal
 
 pub obey-requires-clause-means : goal.obey-requires-clause-means
@@ -17,10 +16,14 @@ obey-requires-clause-means g c = (
 )
 
 pub returns : goal.returns
-returns g c = ok_also c.obey.result _ _ c.obey.ensures (λ refused made course stands.
-    subst (λ line. IsOutcome (outcome_by course line (world.step course.world c.args.command))
+returns g c = λ course stands.
+    handed_texts (outcome_by course c.args.line (world.step course.world c.args.command)) c.obey.new.self.journal.texts c.swap_texts.new.texts c.in_ok-refused.refused _ _
+    (λ after st. texts_aside (λ n. seen (λ i. (g.dyn-1.0.entry i).1.Judge) n.slave) _ _ c.obey.new.self (record c.obey.new.self { journal = c.swap_texts.new.self }) after st refl refl
+    (ap (λ (n : Noted). n.sent) c.swap_texts.ensures.rest) (ap (λ (n : Noted). n.granted) c.swap_texts.ensures.rest) (ap (λ (n : Noted). n.short) c.swap_texts.ensures.rest))
+    c.swap_texts.ensures.given
+    (subst (λ line. IsOutcome (outcome_by course line (world.step course.world c.args.command))
     (StandsFor (λ n. seen (λ i. (g.dyn-1.0.entry i).1.Judge) n.slave) (map (λ j. (goal.Judge-dyn g (j.vtable, j.value)).Judge.held j.value) c.obey.new.self.stock.flags.items)
-    (map (λ j. (goal.Judge-dyn g (j.vtable, j.value)).Judge.held j.value) c.obey.new.self.stock.gaps.items) c.obey.new.self) c.obey.new.self.journal.texts refused)
+    (map (λ j. (goal.Judge-dyn g (j.vtable, j.value)).Judge.held j.value) c.obey.new.self.stock.gaps.items) c.obey.new.self) c.obey.new.self.journal.texts c.in_ok-refused.refused)
     (ap (λ (n : Noted). n.line) c.begin.ensures)
-    (made course (texts_aside (λ n. seen (λ i. (g.dyn-1.0.entry i).1.Judge) n.slave) _ _ c.args.self.now (record c.args.self.now { journal = c.begin.new.self }) course stands refl refl
-    (ap (λ (n : Noted). n.sent) c.begin.ensures) (ap (λ (n : Noted). n.granted) c.begin.ensures) (ap (λ (n : Noted). n.short) c.begin.ensures))))
+    (rw c.order_of.ensures.value at (c.in_ok-refused.ensures course (texts_aside (λ n. seen (λ i. (g.dyn-1.0.entry i).1.Judge) n.slave) _ _ c.args.self.now (record c.args.self.now { journal = c.begin.new.self }) course stands refl refl
+    (ap (λ (n : Noted). n.sent) c.begin.ensures) (ap (λ (n : Noted). n.granted) c.begin.ensures) (ap (λ (n : Noted). n.short) c.begin.ensures)))))
