@@ -1,4 +1,7 @@
-"""Scripts of many leases at one line: no turn and no change of capacity is given up, however many datagrams it sends."""
+"""Scripts of many leases at one line: no turn and no change of capacity is given up, however many datagrams it sends.
+
+It refuses a turn that is answered by want of memory where it sends more than a thousand messages.
+"""
 
 from __future__ import annotations
 
