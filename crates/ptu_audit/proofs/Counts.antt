@@ -12,7 +12,8 @@ use Rattle.ptu_audit.specs.declared.line.Line.{Line}
 use Rattle.ptu_audit.specs.declared.line.Said.{Said}
 use Rattle.ptu_audit.specs.declared.line.Said.TheVariants as said
 use Rattle.ptu_audit.specs.Groups.{act_at, acts_by, acts_of, answered, answered_by, answered_client, are_answered, are_told, changed, decides, groups_of, in_front, is_of_script, last_apart, message_at, messages_in as messages_told, said_deed, shedding_of, sheddings, with_line}
-use Rattle.ptu_audit.specs.Trails.{acts_in, answer_by, answer_of, as_counted, counted, grants_in, groups_finding, is_grant, is_message, messages_in}
+use Rattle.ptu_units.specs.Counts.{counted}
+use Rattle.ptu_audit.specs.Trails.{acts_in, answer_by, answer_of, as_counted, grants_in, groups_finding, is_grant, is_message, messages_in}
 
 -- ---- a group tells of no more acts than it has lines
 

@@ -12,7 +12,8 @@ use Rattle.ptu_trail.specs.declared.trail.Trail.{Trail}
 use Rattle.ptu_trail.specs.Trail.{StandsFor as IsTrail}
 use Rattle.ptu_audit.specs.declared.deed.Act.{Act}
 use Rattle.ptu_audit.specs.Standing.{IsKept}
-use Rattle.ptu_audit.specs.Trails.{counted, grants_in, is_by, is_grant, is_message, messages_in, trail_of, trail_with}
+use Rattle.ptu_units.specs.Counts.{counted}
+use Rattle.ptu_audit.specs.Trails.{grants_in, is_by, is_grant, is_message, messages_in, trail_of, trail_with}
 
 pub if_none_map : {A P Q : Type 0} (o : Option A) → (o ≡ None → P → Q) → IfNone o P → IfNone o Q
 if_none_map None f p = f refl p

@@ -11,7 +11,8 @@ use Rattle.ptu_audit.specs.declared.ledger.Ledger.{Ledger}
 use Rattle.ptu_audit.specs.declared.line.Line.{Line}
 use Rattle.ptu_audit.specs.Groups.{groups_of}
 use Rattle.ptu_audit.specs.Reading.{Reading, last_script}
-use Rattle.ptu_audit.specs.Trails.{acts_in, counted, groups_finding, grants_in, messages_in, trail_of}
+use Rattle.ptu_units.specs.Counts.{counted}
+use Rattle.ptu_audit.specs.Trails.{acts_in, groups_finding, grants_in, messages_in, trail_of}
 
 -- the trail stands for these records, or there is none and no record
 abbrev pub IsKept : ℕ → Option Trail → List Record → Type 0

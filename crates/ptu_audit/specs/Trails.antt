@@ -1,8 +1,9 @@
 -- The trails of grandmasters, and the first finding of an audit.
-use Rattle.std.specs.Prelude.{ℕ, ◌+◌, ◌-◌, ◌^◌, min, ◌==◌, Bool, true, false, List, [], ◌∷◌, ◌++◌, map, Option, Some, None, option_map, flat_map}
+use Rattle.std.specs.Prelude.{ℕ, ◌+◌, ◌==◌, Bool, true, false, List, [], ◌∷◌, ◌++◌, map, Option, Some, None, option_map, flat_map}
 use Rattle.std.specs.Prelude.{IsSome}
 use Rattle.std.specs.List.{AllByRecursion, count_by, filter, fold}
 use Rattle.std.specs.Option.{unwrap_or}
+use Rattle.ptu_units.specs.Counts.{counted}
 use Rattle.ptu_history.specs.History as history
 use Rattle.ptu_history.specs.History.{Record}
 use Rattle.ptu_trail.specs.declared.cause.Fault.{Fault}
@@ -105,10 +106,6 @@ answer_by (Some finding) acts = answers.No finding.line finding.cause
 -- the answer to the lines of a report, of grandmasters that begin with this capacity
 abbrev pub answer_of : ℕ → List Line → Answer
 answer_of capacity lines = answer_by (groups_finding capacity [] (groups_of lines)) (acts_in (groups_of lines))
-
--- a count of 64 bits stands still at its end
-abbrev pub counted : ℕ → ℕ
-counted n = min n (2 ^ 64 - 1)
 
 -- the answer with its counts as far as they go; those of a whole report are exact
 abbrev pub as_counted : Answer → Answer

@@ -9,7 +9,8 @@ ghost use Rattle.ptu_trail.specs.Faults.{first_fault, or_behind};
 ghost use Rattle.ptu_trail.specs.Trail.{StandsFor as IsTrail};
 ghost use Rattle.ptu_audit.specs.declared.deed.Act.{Act};
 ghost use Rattle.ptu_audit.specs.Standing.{AreKept, IsKept};
-ghost use Rattle.ptu_audit.specs.Trails.{act_finding, acts_finding, counted, finding_of, is_grant, is_message, records_of};
+ghost use Rattle.ptu_units.specs.Counts.{counted};
+ghost use Rattle.ptu_audit.specs.Trails.{act_finding, acts_finding, finding_of, is_grant, is_message, records_of};
 
 use crate::deed::{Act, Deed, Finding};
 use ptu_trail::{Fault, NoCause, Trail};

@@ -16,7 +16,8 @@ use Rattle.ptu_history.proofs.Histories.{history_after-append}
 use Rattle.ptu_items.specs.Deciding.{opened_with}
 use Rattle.ptu_grandmaster.specs.declared.driving.GmEvent.{GmEvent}
 use Rattle.ptu_grandmaster.specs.Driven.{events_of}
-use Rattle.ptu_grandmaster.specs.Gm.{KeptGm, StandsFor, counted}
+use Rattle.ptu_units.specs.Counts.{counted}
+use Rattle.ptu_grandmaster.specs.Gm.{KeptGm, StandsFor}
 use Rattle.ptu_lanes.specs.Sending.{GoesOn, WasSent}
 use Rattle.ptu_lanes.specs.Served.{faults_of}
 use Rattle.ptu_lanes.specs.Waiting.{PassedBy}

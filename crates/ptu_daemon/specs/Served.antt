@@ -6,7 +6,7 @@ use Rattle.ptu_history.specs.Counts.{counts}
 use Rattle.ptu_history.specs.History.{Record}
 use Rattle.ptu_history.specs.Verdict.{table_rates}
 use Rattle.ptu_grandmaster.specs.Driven.{driven_history}
-use Rattle.ptu_grandmaster.specs.Gm.{counted}
+use Rattle.ptu_units.specs.Counts.{counted}
 use Rattle.ptu_lanes.specs.Served.{Numbers}
 use Rattle.ptu_config.specs.declared.settings.GmSettings.{GmSettings}
 use Rattle.ptu_daemon.specs.declared.closing.Closing.{Closing}

@@ -28,7 +28,8 @@ use Rattle.ptu_items.specs.declared.item.Item.TheVariants as items
 use Rattle.ptu_items.specs.Deciding as deciding
 use Rattle.ptu_items.specs.Deciding.{Judged, asked_by, item_moment, moment_of_verdict, opened_with}
 use Rattle.ptu_grandmaster.specs.Deciding.{Comes, Decides, EndsBy, counting}
-use Rattle.ptu_grandmaster.specs.Gm.{KeptGm, StandsFor, counted, tables}
+use Rattle.ptu_units.specs.Counts.{counted}
+use Rattle.ptu_grandmaster.specs.Gm.{KeptGm, StandsFor, tables}
 use Rattle.ptu_grandmaster.specs.Outcomes.{found_at}
 
 -- the counts are those of what came before

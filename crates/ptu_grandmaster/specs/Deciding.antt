@@ -17,7 +17,8 @@ use Rattle.ptu_admit.specs.Lent.{StandFor}
 use Rattle.ptu_admit.specs.Verdict.{IsAt, verdict_of}
 use Rattle.ptu_items.specs.declared.item.Item.{Item}
 use Rattle.ptu_items.specs.Deciding.{Decision, asked_by, decision_of, decisions_of, events_of_items, item_moment, item_records, opened_with}
-use Rattle.ptu_grandmaster.specs.Gm.{KeptGm, HasKeptPorts, StandsFor, counted, tables, table_at}
+use Rattle.ptu_units.specs.Counts.{counted}
+use Rattle.ptu_grandmaster.specs.Gm.{KeptGm, HasKeptPorts, StandsFor, tables, table_at}
 
 -- for how many more rows the client's table has room
 abbrev pub spare_of : {P : Type 0} → Client → KeptGm P → ℕ

@@ -1,6 +1,7 @@
 -- What callers see of a grandmaster, and the histories that it stands for.
-use Rattle.std.specs.Prelude.{◌≡◌, ℕ, ◌-◌, ◌%◌, ◌^◌, min, ◌==◌, if◌then◌else◌, List}
+use Rattle.std.specs.Prelude.{◌≡◌, ℕ, ◌%◌, ◌==◌, if◌then◌else◌, List}
 use Rattle.std.specs.List.Sorted.{IsPermutation}
+use Rattle.ptu_units.specs.Counts.{counted}
 use Rattle.ptu_history.specs.Counts.{counts}
 use Rattle.ptu_history.specs.History.{Record}
 use Rattle.ptu_shard.specs.declared.config.GmConfig.{GmConfig}
@@ -46,10 +47,6 @@ port_at i gm = if i == 4 then gm.reply else (table_at i gm).port
 abbrev pub with_port : {P : Type 0} → ℕ → P → KeptGm P → KeptGm P
 with_port i port gm =
     if i == 4 then record gm { reply = port } else with_table i (record (table_at i gm) { port = port }) gm
-
--- a count of 64 bits stands still at its end
-abbrev pub counted : ℕ → ℕ
-counted n = min n (2 ^ 64 - 1)
 
 -- the grandmaster, opened with this capacity, stands for the history: its tables and its book do; its counts are the numbers
 -- of asks that were granted and that were short; its CANCELs are numbered by the grants that were shed

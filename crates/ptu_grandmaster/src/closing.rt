@@ -8,7 +8,8 @@ ghost use Rattle.ptu_history.specs.Verdict.{table_rates};
 ghost use Rattle.ptu_shard.specs.Row.{share_of};
 ghost use Rattle.ptu_admit.specs.Lent.{moment_for_all};
 ghost use Rattle.ptu_admit.specs.Rows.{live_rows};
-ghost use Rattle.ptu_grandmaster.specs.Gm.{StandsFor, counted, tables};
+ghost use Rattle.ptu_units.specs.Counts.{counted};
+ghost use Rattle.ptu_grandmaster.specs.Gm.{StandsFor, tables};
 
 use crate::gm::Gm;
 use ptu_admit::{Closed, finish};

@@ -14,7 +14,7 @@ use Rattle.ptu_script.specs.declared.command.Command.TheVariants as commands
 use Rattle.ptu_world.specs.Deeds as world
 use Rattle.ptu_world.specs.World.{Done, Stock, World, add_master, node_at, placed, quietly, slave_by, step, stock_without, with_master}
 use Rattle.ptu_world.specs.Report.{Course, outcome_by}
-use Rattle.ptu_grandmaster.specs.Gm.{counted}
+use Rattle.ptu_units.specs.Counts.{counted}
 use Rattle.ptu_nodes.specs.Noted.{Noted}
 use Rattle.ptu_slave.specs.Seen.{Seen}
 use Rattle.ptu_lab.specs.declared.slave_node.SlaveNode.{SlaveNode}

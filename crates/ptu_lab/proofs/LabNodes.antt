@@ -5,7 +5,7 @@ use Rattle.std.specs.List.{count_by}
 use Rattle.std.specs.HashMap.{HashMap, get}
 use Rattle.ptu_outside.specs.MemoryPort.{MemoryPort}
 use Rattle.ptu_judges.specs.Held.{Held, IsStock}
-use Rattle.ptu_grandmaster.specs.Gm.{counted}
+use Rattle.ptu_units.specs.Counts.{counted}
 use Rattle.ptu_report_lines.specs.declared.sent.Sent.{Sent}
 use Rattle.ptu_report_lines.specs.declared.statement.Statement.TheVariants as statements
 use Rattle.ptu_record.specs.declared.rule.Rule.{Rule}

@@ -8,7 +8,7 @@ use Rattle.ptu_report.specs.declared.ending.Ending.TheVariants as endings
 use Rattle.ptu_report.specs.Rules.{Goes, IsOutcome, Outcome, Refuses, Rules, ending_after, ending_at, ending_of, meaning_after, meaning_at, meaning_of}
 use Rattle.ptu_judges.specs.Held.{Held}
 use Rattle.ptu_outside.specs.Handing.{HasPut}
-use Rattle.ptu_grandmaster.specs.Gm.{counted}
+use Rattle.ptu_units.specs.Counts.{counted}
 use Rattle.ptu_report.specs.Reported.{HasReported}
 use Rattle.ptu_script.specs.declared.cause.Cause.{Cause}
 use Rattle.ptu_outside.specs.MemoryPort.{MemoryPort}

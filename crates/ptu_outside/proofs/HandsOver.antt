@@ -1,5 +1,5 @@
 -- Datagrams that are handed to a port: none, one, and one list after another.
-use Rattle.std.proofs.Common.{◌≡◌, ◌∙◌, ◌⊎◌, inl, inr, ℕ, suc, zero, ◌+◌, ◌-◌, ◌^◌, ◌<◌, ◌≤◌, ◌++◌, List, [], ◌∷◌, length, rules, Result, Ok, Err, Bool, true, false, refl, sym, ap, subst, arith, append_assoc, length-append, Option, Some, None}
+use Rattle.std.proofs.Common.{◌≡◌, ◌∙◌, inl, inr, ℕ, suc, zero, ◌+◌, ◌-◌, ◌^◌, ◌≤◌, ◌++◌, List, [], ◌∷◌, length, rules, Result, Ok, Err, Bool, true, false, refl, sym, ap, subst, arith, append_assoc, length-append, Option, Some, None}
 use Rattle.std.specs.List.{AllByRecursion, items_where_true}
 use Rattle.std.proofs.lemmas.List.{append-nil}
 use Rattle.ptu_outside.specs.declared.port.Port.{Ghosts as Ports}
@@ -7,7 +7,7 @@ use Rattle.ptu_outside.specs.Departure.{Departure}
 use Rattle.ptu_outside.specs.Faults.{HasRisen, HasRisenBy, HasRisenJust, HasNotFallen, one_more}
 use Rattle.ptu_outside.specs.Telling.{IfTold, append_told}
 use Rattle.ptu_outside.specs.HandsOver.{HandsOver, SentOf, failed_in, sent_in}
-use Rattle.std.specs.Result.{OnErr, OnOk}
+use Rattle.std.specs.Result.{IsOk, OnErr, OnOk}
 
 pub told_none : (before : Option (List Departure)) → IfTold before (append_told before [])
 told_none None = tt
@@ -127,12 +127,13 @@ module _ {P : Type 0} (ports : Ports P) where
     no_fall = not_fallen_none (ports.faults port);
     waiting = refl;
     goes_on = λ none few. refl;
+    sure = λ others sure. (refl, sure);
   }
 
   pub hands_sent : (old new : P) (d : Departure) → IfTold (ports.sent new) (append_told (ports.sent old) (d ∷ [])) → ports.faults new ≡ ports.faults old
       → ports.waiting new ≡ ports.waiting old → (ports.ceases_at d ≡ false → ports.has_ceased new ≡ ports.has_ceased old)
-      → HandsOver ports old new (d ∷ []) 1 0
-  hands_sent old new d handed quiet waiting goes_on = record {
+      → ((others : List Departure) → ports.is_sure old (d ∷ others) → ports.is_sure new others) → HandsOver ports old new (d ∷ []) 1 0
+  hands_sent old new d handed quiet waiting goes_on sure = record {
     each = refl;
     some = record { which = true ∷ []; each = refl; many = refl; told = handed };
     all = λ still. handed;
@@ -142,12 +143,13 @@ module _ {P : Type 0} (ports : Ports P) where
     no_fall = (omega (arith, quiet), λ end. quiet);
     waiting = waiting;
     goes_on = λ none few. goes_on few.0;
+    sure = λ others was. (refl, sure others was);
   }
 
   pub hands_failed : (old new : P) (d : Departure) → IfTold (ports.sent new) (ports.sent old) → HasRisen (ports.faults old) (ports.faults new)
       → (ports.counts_once ≡ true → ports.faults new ≡ one_more (ports.faults old)) → HasNotFallen (ports.faults old) (ports.faults new)
-      → ports.waiting new ≡ ports.waiting old → HandsOver ports old new (d ∷ []) 0 1
-  hands_failed old new d kept risen once no_fall waiting = record {
+      → ports.waiting new ≡ ports.waiting old → ((others : List Departure) → ¬ ports.is_sure old (d ∷ others)) → HandsOver ports old new (d ∷ []) 0 1
+  hands_failed old new d kept risen once no_fall waiting unsure = record {
     each = refl;
     some = record { which = false ∷ []; each = refl; many = refl; told = told_kept (ports.sent old) (ports.sent new) kept };
     all = λ still. absurd (still risen);
@@ -157,6 +159,7 @@ module _ {P : Type 0} (ports : Ports P) where
     no_fall = no_fall;
     waiting = waiting;
     goes_on = λ none few. absurd (omega (arith, none));
+    sure = λ others was. absurd (unsure others was);
   }
 
   -- what the clauses of one send say together
@@ -165,9 +168,10 @@ module _ {P : Type 0} (ports : Ports P) where
       → ports.waiting new ≡ ports.waiting old → OnErr result (HasRisen (ports.faults old) (ports.faults new))
       → OnErr result (ports.counts_once ≡ true → ports.faults new ≡ one_more (ports.faults old)) → OnOk result (ports.faults new ≡ ports.faults old)
       → HasNotFallen (ports.faults old) (ports.faults new) → OnOk result (ports.ceases_at d ≡ false → ports.has_ceased new ≡ ports.has_ceased old)
+      → ((others : List Departure) → ports.is_sure old (d ∷ others) → IsOk result × ports.is_sure new others)
       → HandsOver ports old new (d ∷ []) (sent_in result) (failed_in result)
-  hands_one old new d (Ok sent) handed kept waiting risen once quiet no_fall goes_on = hands_sent old new d handed quiet waiting goes_on
-  hands_one old new d (Err failed) handed kept waiting risen once quiet no_fall goes_on = hands_failed old new d kept risen once no_fall waiting
+  hands_one old new d (Ok sent) handed kept waiting risen once quiet no_fall goes_on sure = hands_sent old new d handed quiet waiting goes_on (λ others was. (sure others was).1)
+  hands_one old new d (Err failed) handed kept waiting risen once quiet no_fall goes_on sure = hands_failed old new d kept risen once no_fall waiting (λ others was. absurd (cc (sure others was).0))
 
   -- where no send failed all were sent
   pub hands_whole : (old new : P) (ds : List Departure) (sent failed : ℕ) → HandsOver ports old new ds sent failed → failed ≡ 0
@@ -191,4 +195,13 @@ module _ {P : Type 0} (ports : Ports P) where
     no_fall = not_fallen_both (ports.faults old) (ports.faults now) (ports.faults new) a.no_fall b.no_fall;
     waiting = b.waiting ∙ a.waiting;
     goes_on = λ none. goes_on_both ports.ceases_at ds es (ports.has_ceased old) (ports.has_ceased now) (ports.has_ceased new) (a.goes_on (omega (arith, none))) (b.goes_on (omega (arith, none)));
+    sure = λ others was.
+        let first = a.sure (es ++ others) (subst (ports.is_sure old) (append_assoc ds es others) was) in
+        let second = b.sure others first.1 in
+        (omega (arith, first.0, second.0), second.1);
   }
+
+  -- all of these, where the port was sure to send them
+  pub hands_surely : (old new : P) (ds : List Departure) (sent failed : ℕ) → HandsOver ports old new ds sent failed → ports.is_sure old ds
+      → (failed ≡ 0) × ports.is_sure new []
+  hands_surely old new ds sent failed h sure = h.sure [] (subst (ports.is_sure old) (sym (append-nil ds)) sure)

@@ -1,5 +1,6 @@
 -- Counts of faults. A count of 64 bits stands still at its end, 2 ^ 64 - 1.
-use Rattle.std.specs.Prelude.{ℕ, ◌≡◌, ◌+◌, ◌-◌, ◌^◌, ◌≤◌, ◌⊎◌, min}
+use Rattle.std.specs.Prelude.{ℕ, ◌≡◌, ◌+◌, ◌-◌, ◌^◌, ◌≤◌, ◌⊎◌}
+use Rattle.ptu_units.specs.Counts.{counted}
 
 -- the count has risen by n; one that stands at its end is taken as risen by as much as is asked
 abbrev pub HasRisenBy : ℕ → ℕ → ℕ → Type 0
@@ -15,7 +16,7 @@ HasRisen old new = HasRisenBy 1 old new
 
 -- a count after one more
 abbrev pub one_more : ℕ → ℕ
-one_more count = min (count + 1) (2 ^ 64 - 1)
+one_more count = counted (count + 1)
 
 -- the count has not fallen, and one that stands at its end stands still
 abbrev pub HasNotFallen : ℕ → ℕ → Type 0

@@ -1,5 +1,5 @@
 -- What becomes of datagrams that are handed to a port one after the other, and of the port.
-use Rattle.std.specs.Prelude.{◌≡◌, ℕ, ◌+◌, Bool, true, false, List, Option, Result, Ok, Err, length}
+use Rattle.std.specs.Prelude.{◌≡◌, ℕ, ◌+◌, ◌++◌, Bool, true, false, List, Option, Result, Ok, Err, length}
 use Rattle.std.specs.List.{AllByRecursion, items_where_true}
 use Rattle.ptu_outside.specs.declared.port.Port.{Ghosts as Ports}
 use Rattle.ptu_outside.specs.Departure.{Departure}
@@ -37,3 +37,5 @@ pub record HandsOver {P : Type 0} (ports : Ports P) (old new : P) (datagrams : L
   pub waiting : ports.waiting new ≡ ports.waiting old
   -- and the port goes on to tell, unless a send failed or a datagram was such that it may cease to
   pub goes_on : failed ≡ 0 → AllByRecursion (λ d. ports.ceases_at d ≡ false) datagrams → ports.has_ceased new ≡ ports.has_ceased old
+  -- a port that was sure to send these, and others behind them, has sent them all, and is sure to send the others
+  pub sure : (others : List Departure) → ports.is_sure old (datagrams ++ others) → (failed ≡ 0) × ports.is_sure new others

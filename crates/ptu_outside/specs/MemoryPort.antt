@@ -1,5 +1,5 @@
 -- What a port in memory holds.
-use Rattle.std.specs.Prelude.{ℕ, ◌≡◌, ◌≤◌, ◌-◌, List, length, map, sum_by, slice_range}
+use Rattle.std.specs.Prelude.{ℕ, ◌≡◌, ◌≤◌, ◌+◌, ◌-◌, List, [], length, map, sum_by, slice_range}
 use Rattle.std.specs.List.{AllByRecursion}
 use Rattle.ptu_outside.specs.declared.arrival.Arrival.{Arrival}
 use Rattle.ptu_outside.specs.declared.mem_port.Slot.{Slot}
@@ -38,3 +38,9 @@ departures octets slots = map (departure_of octets) slots
 pub record IsLaidOut (octets : List ℕ) (slots : List Slot) : Type 0 where
   pub within : AllByRecursion (λ (s : Slot). (s.start ≤ s.end) × (s.end ≤ length octets)) slots
   pub whole : sum_by (λ (s : Slot). s.end - s.start) slots ≡ length octets
+
+-- no send is to fail, and there is room for these datagrams
+pub record IsSure (port : MemoryPort) (more : List Departure) : Type 0 where
+  pub unlisted : port.failing_sends ≡ []
+  pub datagrams : length port.sent + length more ≤ port.datagrams
+  pub octets : octets_of port.sent + octets_of more ≤ port.octets

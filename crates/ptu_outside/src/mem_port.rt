@@ -1,7 +1,7 @@
-ghost use Rattle.std.specs.Prelude.{◌≡◌, ◌<◌, ◌≤◌, ◌+◌, ◌⊎◌, ◌↔◌, [], ◌∷◌, ◌++◌, Some, length, take, drop, slice_get, vec_len, vec_capacity, IfOk, OnOk, OnErr, IfSome, IfNone, IsErr, IsOk, is_err, MatchOption, if◌then◌else◌, Contains};
+ghost use Rattle.std.specs.Prelude.{◌≡◌, ◌<◌, ◌≤◌, ◌+◌, ◌⊎◌, ◌↔◌, List, [], ◌∷◌, ◌++◌, Some, length, take, drop, slice_get, vec_len, vec_capacity, IfOk, OnOk, OnErr, IfSome, IfNone, IsErr, IsOk, is_err, MatchOption, if◌then◌else◌, Contains};
 ghost use Rattle.ptu_outside.specs.Departure.{Departure};
 ghost use Rattle.ptu_outside.specs.Faults.{HasRisen, HasNotFallen, one_more};
-ghost use Rattle.ptu_outside.specs.MemoryPort.{IsLaidOut, FitAll, departures, octets_of};
+ghost use Rattle.ptu_outside.specs.MemoryPort.{IsLaidOut, IsSure, FitAll, departures, octets_of};
 ghost use Rattle.ptu_outside.specs.Telling.{IfTold, IsFirstTold, IsEmptyTold, append_told, rest_told};
 
 use crate::arrival::Arrival;
@@ -200,6 +200,8 @@ impl Port for MemPort {
 
     ghost faults = { λ p. p.faults };
 
+    ghost is_sure = { IsSure };
+
     fn send(&mut self, ip: u32, channel: Channel, bytes: &[u8]) -> Result<(), Failed>
         ensures handed { OnOk result (IfTold (Some self.new.sent) (append_told (Some self.old.sent)
             (record { ip = ip; channel = channel; bytes = bytes.now } ∷ []))) }
@@ -208,6 +210,9 @@ impl Port for MemPort {
         ensures risen { OnErr result (HasRisen self.old.faults self.new.faults) }
         ensures quiet { OnOk result (self.new.faults ≡ self.old.faults) }
         ensures no_fall { HasNotFallen self.old.faults self.new.faults }
+        ensures sure { (others : List Departure) → IsSure self.old
+            (record { ip = ip; channel = channel; bytes = bytes.now } ∷ others)
+            → IsOk result × IsSure self.new others }
         // It fails at the listed sends, and at others only past its room.
         ensures listed { Contains self.old.failing_sends self.new.sends → IsErr result }
         ensures fits { ¬ Contains self.old.failing_sends self.new.sends

@@ -1,4 +1,4 @@
-ghost use Rattle.std.specs.Prelude.{◌≡◌, ◌≤◌, ℕ, Bool, true, false, List, [], ◌∷◌, Option, take, IfOk, OnOk, OnErr, IfSome, IfNone};
+ghost use Rattle.std.specs.Prelude.{◌≡◌, ◌≤◌, ℕ, Bool, true, false, List, [], ◌∷◌, Option, take, IfOk, IsOk, OnOk, OnErr, IfSome, IfNone};
 ghost use Rattle.ptu_outside.specs.declared.arrival.Arrival.{Arrival};
 ghost use Rattle.ptu_outside.specs.Departure.{Departure};
 ghost use Rattle.ptu_outside.specs.Faults.{HasRisen, HasNotFallen, one_more};
@@ -28,6 +28,9 @@ pub trait Port: Drop {
     /// Whether it has been handed such a datagram, or has failed to send one.
     ghost has_ceased: { Self → Bool } = { λ _. false };
 
+    /// Whether the port is sure to send these, one after the other.
+    ghost is_sure: { Self → List Departure → Type 0 } = { λ _ _. ⊥ };
+
     /// Hands the datagram over whole, to this IPv4 address (its first octet the highest) on this
     /// channel.
     fn send(&mut self, ip: u32, channel: Channel, bytes: &[u8]) -> Result<(), Failed>
@@ -44,7 +47,12 @@ pub trait Port: Drop {
         ensures no_fall { HasNotFallen (faults self.old) (faults self.new) }
         ensures goes_on { OnOk result (ceases_at
             (record { ip = ip; channel = channel; bytes = bytes.now }) ≡ false
-            → has_ceased self.new ≡ has_ceased self.old) };
+            → has_ceased self.new ≡ has_ceased self.old) }
+        // Where it was sure to send this and others behind it, it has sent this, and is sure to
+        // send the others.
+        ensures sure { (others : List Departure) → is_sure self.old
+            (record { ip = ip; channel = channel; bytes = bytes.now } ∷ others)
+            → IsOk result × is_sure self.new others };
 
     /// Takes the first datagram that waits: the sender's IPv4 address and the length. The datagram
     /// is that many octets from the front of `buf`. `None` where none waits.

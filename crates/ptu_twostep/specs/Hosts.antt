@@ -15,6 +15,7 @@ two_steps ports = record {
   counts_once = false;
   ceases_at = λ d. is_half (step_at d);
   has_ceased = λ p. p.is_flagged;
+  is_sure = λ _ _. ⊥;
 }
 
 -- the ports in two steps with these flags over those below, and the same clocks

@@ -1,7 +1,8 @@
 use Rattle.std.proofs.Common.{◌∙◌, ◌++◌, ◌∷◌, [], ap, sym, subst, nat_cmp}
 use Rattle.std.specs.BTreeMap.{get}
 use Rattle.ptu_audit.specs.Standing.{IsKept}
-use Rattle.ptu_audit.specs.Trails.{counted, grants_in, is_grant, is_message, messages_in, trail_of}
+use Rattle.ptu_units.specs.Counts.{counted}
+use Rattle.ptu_audit.specs.Trails.{grants_in, is_grant, is_message, messages_in, trail_of}
 use Rattle.ptu_audit.proofs.Ledgers.{counted_more, grants-push, if_none_map, kept_more, messages-push}
 use Rattle.ptu_audit.proofs.ledger.Ledger.take.Goals as goal
 

@@ -1,8 +1,9 @@
-use Rattle.std.proofs.Common.{◌≤◌, ◌+◌, length, rules}
+use Rattle.std.proofs.Common.{◌≤◌, ◌+◌, length, refl, rules}
 use Rattle.std.specs.Vec.{vec_capacity}
 use Rattle.std.proofs.lemmas.List.{length-map}
 use Rattle.ptu_outside.specs.MemoryPort.{departure_of}
 use Rattle.ptu_outside.proofs.Slots.{octets_of-departures}
+use Rattle.ptu_outside.proofs.Sure.{first_fits, others_fit, unlisted}
 use Rattle.ptu_outside.proofs.mem_port.MemPortPort.send.Goals.{then-contains-via-then-contains, then-contains-via-else-contains+then-is_err}
 use Rattle.ptu_outside.proofs.mem_port.MemPortPort.send.Goals as goal
 
@@ -16,3 +17,17 @@ returns-then-contains-clause-fits c =
           let fits : length inside.octets.items + length c.args.bytes.now ≤ vec_capacity inside.octets = rw (← c.self.view_is, octets_of-departures inside.octets.items inside.slots.items c.self.invariant.0) at octets in
           let done = w.add.ensures.fits one fits in search rules
     ]
+
+-- a send that fails is listed, or there is no room
+pub returns-then-contains-clause-sure : goal.returns-then-contains-clause-sure
+returns-then-contains-clause-sure c =
+    λ others was.
+    let fits = first_fits c.args.self.now _ others was in
+    let done = returns-then-contains-clause-fits c (unlisted c.args.self.now _ _ was) fits.0 fits.1 in
+    absurd (cc done)
+
+pub returns-clause-sure : goal.returns-clause-sure
+returns-clause-sure c =
+    λ others was.
+    let e = c.add.ensures in
+    (refl, others_fit c.args.self.now _ _ others was (search rules) (search rules) (search rules) (search rules))
