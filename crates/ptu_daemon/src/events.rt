@@ -76,5 +76,7 @@ pub(crate) fn take<P: Port>(
     ensures small { IfOk result (λ tally. IsSmall 1 tally) }
 {
     let taken = gm.take(at, from, bytes)?;
-    Ok(tally_of(&taken))
+    let tally = tally_of(&taken);
+    gm.give_back(taken);
+    Ok(tally)
 }

@@ -6,7 +6,7 @@ ghost use Rattle.ptu_admit.specs.Book.{IsCapacity};
 ghost use Rattle.ptu_grandmaster.specs.Gm.{StandsFor, port_at, table_at};
 ghost use Rattle.ptu_grandmaster.specs.Lends.{LendsPort};
 
-use crate::outcome::{Outcome, Outcomes};
+use crate::outcome::{Outcome, Taken};
 use ptu_admit::Book;
 use ptu_items::HearingRoom;
 use ptu_outside::Port;
@@ -100,11 +100,14 @@ impl<P: Port> Gm<P> {
         }
     }
 
-    /// Takes back outcomes that are done with. Their room serves the next Signaling.
-    pub fn give_back(&mut self, outcomes: Outcomes)
+    /// Takes back what a datagram came to, when it is done with. The room of its outcomes serves the
+    /// next Signaling.
+    pub fn give_back(&mut self, taken: Taken)
         ensures { self.new ≡ self.old }
     {
-        self.outcomes = outcomes.into_list();
+        if let Taken::Asked(outcomes, _) = taken {
+            self.outcomes = outcomes.into_list();
+        }
     }
 
     /// From now on its Announces have this clockClass.
