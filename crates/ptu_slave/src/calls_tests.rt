@@ -111,3 +111,36 @@ fn a_judge_is_called_once_for_each_event(rt: HostRuntime) -> Result<(), Fail> {
     );
     Ok(())
 }
+
+// A judge that takes over is asked once, and the former one no more.
+#[test]
+fn a_judge_that_takes_over_is_asked_once(rt: HostRuntime) -> Result<(), Fail> {
+    let alloc = rt.alloc();
+    let masters = vec![in alloc;
+        Master {
+            ip: FIRST,
+            priority: 1
+        },
+    ]?;
+    let former_calls: Rc<Cell<Calls>> = Rc::new(alloc, Cell::new([None; 6]))?;
+    let former = Listing {
+        unusable: false,
+        calls: former_calls.clone()?,
+    };
+    let judges = one_judge(alloc, Box::new(alloc, former)?)?;
+    let config = config(4, 4, false, 0)?;
+    let mut slave = Slave::new(alloc, config, masters, judges, quiet_port(alloc))?;
+    let calls: Rc<Cell<Calls>> = Rc::new(alloc, Cell::new([None; 6]))?;
+    let listing = Listing {
+        unusable: false,
+        calls: calls.clone()?,
+    };
+    let at = Moment::of(SECOND).ok_or("below 2^62")?;
+    slave.set_judge(at, 0, Box::new(alloc, listing)?);
+    assert_eq!(rt; former_calls.get(), [None; 6]);
+    assert_eq!(rt;
+        calls.get(),
+        [Some(Call::Asked), None, None, None, None, None]
+    );
+    Ok(())
+}
