@@ -153,7 +153,12 @@ pub fn decide_all<P: Port>(
     };
     let at = t.latest(book.now().latest(moment_in(s0, s1, s2, s3, client)));
     sweep_all(s0, s1, s2, s3, book, at);
-    decide_among(s0, s1, s2, s3, book, config, at, client, wanted)
+    let claim = Claim {
+        at,
+        client: *client,
+        wanted,
+    };
+    decide_among(s0, s1, s2, s3, book, config, &claim)
 }
 
 // The moment of the client's table among the four.
@@ -175,7 +180,15 @@ fn moment_in<P: Port>(
     }
 }
 
-// Decides an ask within the profile over four tables that were swept at the moment.
+// An ask within the profile: when it is decided, whose it is, and what it is for.
+#[derive(Drop)]
+struct Claim {
+    at: Moment,
+    client: Client,
+    wanted: Wanted,
+}
+
+// Decides an ask within the profile over four tables that were swept at its moment.
 fn decide_among<P: Port>(
     s0: &mut Shard<P>,
     s1: &mut Shard<P>,
@@ -183,45 +196,43 @@ fn decide_among<P: Port>(
     s3: &mut Shard<P>,
     book: &mut Book,
     config: &GmConfig,
-    at: Moment,
-    client: &Client,
-    wanted: Wanted,
+    claim: &Claim,
 ) -> Verdict
     requires limits { IsWithinLimits config.now }
-    requires room { (table_of_client client.now ≡ 0 → 0 < s0.old.spare)
-        × (table_of_client client.now ≡ 1 → 0 < s1.old.spare)
-        × (table_of_client client.now ≡ 2 → 0 < s2.old.spare)
-        × (table_of_client client.now ≡ 3 → 0 < s3.old.spare) }
-    requires reached { (table_of_client client.now ≡ 0 → s0.old.moment ≡ at)
-        × (table_of_client client.now ≡ 1 → s1.old.moment ≡ at)
-        × (table_of_client client.now ≡ 2 → s2.old.moment ≡ at)
-        × (table_of_client client.now ≡ 3 → s3.old.moment ≡ at) }
+    requires room { (table_of_client claim.now.client ≡ 0 → 0 < s0.old.spare)
+        × (table_of_client claim.now.client ≡ 1 → 0 < s1.old.spare)
+        × (table_of_client claim.now.client ≡ 2 → 0 < s2.old.spare)
+        × (table_of_client claim.now.client ≡ 3 → 0 < s3.old.spare) }
+    requires reached { (table_of_client claim.now.client ≡ 0 → s0.old.moment ≡ claim.now.at)
+        × (table_of_client claim.now.client ≡ 1 → s1.old.moment ≡ claim.now.at)
+        × (table_of_client claim.now.client ≡ 2 → s2.old.moment ≡ claim.now.at)
+        × (table_of_client claim.now.client ≡ 3 → s3.old.moment ≡ claim.now.at) }
     requires sum { book.old.total ≡ shares (four s0.old s1.old s2.old s3.old) }
     ensures answer { verdict_of result ≡ verdict_on (config_of book.old.capacity config.now)
-        (book.old.total - kept_rate client.now wanted.kind
-        (rows_of_lent (table_of_client client.now) (four s0.old s1.old s2.old s3.old)))
-        at wanted.kind wanted.log wanted.seconds }
-    ensures at { IsAt at result }
-    ensures whose { IsFor client.now result }
+        (book.old.total - kept_rate claim.now.client claim.now.wanted.kind
+        (rows_of_lent (table_of_client claim.now.client) (four s0.old s1.old s2.old s3.old)))
+        claim.now.at claim.now.wanted.kind claim.now.wanted.log claim.now.wanted.seconds }
+    ensures at { IsAt claim.now.at result }
+    ensures whose { IsFor claim.now.client result }
     ensures within { OnOutside result ⊥ }
-    ensures moments { (book.new.moment ≡ at) × (s0.new.moment ≡ s0.old.moment)
+    ensures moments { (book.new.moment ≡ claim.now.at) × (s0.new.moment ≡ s0.old.moment)
         × (s1.new.moment ≡ s1.old.moment) × (s2.new.moment ≡ s2.old.moment)
         × (s3.new.moment ≡ s3.old.moment) }
     ensures capacity { book.new.capacity ≡ book.old.capacity }
     ensures total { book.new.total ≡ shares (four s0.new s1.new s2.new s3.new) }
-    ensures keeps { KeepsPort (fall_of client.now 0) s0.old s0.new
-        × KeepsPort (fall_of client.now 1) s1.old s1.new
-        × KeepsPort (fall_of client.now 2) s2.old s2.new
-        × KeepsPort (fall_of client.now 3) s3.old s3.new }
+    ensures keeps { KeepsPort (fall_of claim.now.client 0) s0.old s0.new
+        × KeepsPort (fall_of claim.now.client 1) s1.old s1.new
+        × KeepsPort (fall_of claim.now.client 2) s2.old s2.new
+        × KeepsPort (fall_of claim.now.client 3) s3.old s3.new }
     ensures stands { (b : ℕ) (history : List Record) →
-        EachStandsAt b (four s0.old s1.old s2.old s3.old) history → b ≤ at →
-        EachStandsAt at (four s0.new s1.new s2.new s3.new)
-        (history ++ verdict_records at client.now (verdict_of result)) }
+        EachStandsAt b (four s0.old s1.old s2.old s3.old) history → b ≤ claim.now.at →
+        EachStandsAt claim.now.at (four s0.new s1.new s2.new s3.new)
+        (history ++ verdict_records claim.now.at claim.now.client (verdict_of result)) }
 {
-    match table_of(client) {
-        0 => decide_swept(s0, book, config, at, client, wanted),
-        1 => decide_swept(s1, book, config, at, client, wanted),
-        2 => decide_swept(s2, book, config, at, client, wanted),
-        _ => decide_swept(s3, book, config, at, client, wanted),
+    match table_of(&claim.client) {
+        0 => decide_swept(s0, book, config, claim.at, &claim.client, claim.wanted),
+        1 => decide_swept(s1, book, config, claim.at, &claim.client, claim.wanted),
+        2 => decide_swept(s2, book, config, claim.at, &claim.client, claim.wanted),
+        _ => decide_swept(s3, book, config, claim.at, &claim.client, claim.wanted),
     }
 }

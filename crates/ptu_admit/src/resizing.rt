@@ -14,7 +14,7 @@ ghost use Rattle.ptu_admit.specs.Tables.{KeepsPort};
 
 use crate::book::Book;
 use crate::shed_list::ShedList;
-use crate::shedding::{ShedRoom, shed_above};
+use crate::shedding::{Shedding, shed_above};
 use crate::sweeping::{latest_of, sweep_all};
 use ptu_outside::Port;
 use ptu_shard::Shard;
@@ -68,9 +68,12 @@ pub fn resize<P: Port>(
         (history ++ (step opened history r.at (Resize capacity)).records)) }
 {
     let at = latest_of(s0, s1, s2, s3, book, t);
-    let room = ShedRoom::new(alloc, count_above(s0, s1, s2, s3, book, capacity))?;
+    let count = count_above(s0, s1, s2, s3, book, capacity);
+    let order = Vec::with_capacity(alloc, count)?;
+    let list = Vec::with_capacity(alloc, count)?;
+    let shedding = Shedding { at, capacity, list };
     sweep_all(s0, s1, s2, s3, book, at);
-    let list = shed_above(s0, s1, s2, s3, book, at, capacity, room);
+    let list = shed_above(s0, s1, s2, s3, book, order, shedding);
     book.change(capacity, at);
     Ok(Resized {
         at,

@@ -1,6 +1,6 @@
 //! Grants that a change of capacity sheds go from four tables that are lent beside the book.
 
-ghost use Rattle.std.specs.Prelude.{◌≡◌, ℕ, ◌+◌, ◌-◌, ◌<◌, ◌≤◌, false, List, [], ◌∷◌, ◌++◌, map, length, vec_capacity, IfNone, IfOk, IfSome};
+ghost use Rattle.std.specs.Prelude.{◌≡◌, ℕ, ◌+◌, ◌-◌, ◌<◌, ◌≤◌, false, List, [], ◌∷◌, ◌++◌, map, length, vec_capacity, IfNone, IfSome};
 ghost use Rattle.std.specs.List.{Contains};
 ghost use Rattle.ptu_units.specs.Log.{rate_of};
 ghost use Rattle.ptu_history.specs.Client.{same_lease};
@@ -20,8 +20,7 @@ use crate::newest::{Candidate, Found, Newest};
 use crate::shed_list::Shed;
 use ptu_outside::Port;
 use ptu_shard::{Row, Shard};
-use ptu_units::{Moment, OutOfMemory};
-use std::alloc::Global;
+use ptu_units::Moment;
 
 // Drops a row of one table.
 fn drop_in<P: Port>(shard: &mut Shard<P>, book: &mut Book, row: &Row)
@@ -84,24 +83,12 @@ fn drop_found<P: Port>(
     }
 }
 
-/// Room for the work of a change of capacity: for the rows in order, and for those that are shed.
-pub(crate) struct ShedRoom {
-    pub(crate) order: Vec<Candidate>,
+/// A shedding: its moment, the capacity that the rest has to fit, and what was shed so far.
+#[derive(Drop)]
+pub(crate) struct Shedding {
+    pub(crate) at: Moment,
+    pub(crate) capacity: u64,
     pub(crate) list: Vec<Shed>,
-}
-
-impl ShedRoom {
-    /// Room for so many rows.
-    pub(crate) fn new(alloc: Global, count: usize) -> Result<ShedRoom, OutOfMemory>
-        ensures empty { IfOk result (λ r. (r.order.items ≡ []) × (r.list.items ≡ [])) }
-        ensures order { IfOk result (λ r. count ≤ vec_capacity r.order) }
-        ensures list { IfOk result (λ r. count ≤ vec_capacity r.list) }
-    {
-        Ok(ShedRoom {
-            order: Vec::with_capacity(alloc, count)?,
-            list: Vec::with_capacity(alloc, count)?,
-        })
-    }
 }
 
 // The row of a candidate in its table, where it is kept.
@@ -159,44 +146,44 @@ fn shed_newest<P: Port>(
     s2: &mut Shard<P>,
     s3: &mut Shard<P>,
     book: &mut Book,
-    at: Moment,
-    capacity: u64,
     newest: &mut Newest,
-    list: &mut Vec<Shed>,
+    shedding: &mut Shedding,
 )
     requires sum { book.old.total ≡ shares (four s0.old s1.old s2.old s3.old) }
-    requires reached { (s0.old.moment ≡ at) × (s1.old.moment ≡ at)
-        × (s2.old.moment ≡ at) × (s3.old.moment ≡ at) }
+    requires reached { (s0.old.moment ≡ shedding.old.at) × (s1.old.moment ≡ shedding.old.at)
+        × (s2.old.moment ≡ shedding.old.at) × (s3.old.moment ≡ shedding.old.at) }
     requires live { (j : ℕ) (row : KeptRow) → j < 4 →
-        Contains (rows_of_lent j (four s0.old s1.old s2.old s3.old)) row → at < row.lease.until }
+        Contains (rows_of_lent j (four s0.old s1.old s2.old s3.old)) row →
+        shedding.old.at < row.lease.until }
     requires distinct { AreDistinct s0.old s1.old s2.old s3.old }
     requires listed { AreListed (four s0.old s1.old s2.old s3.old) newest.old }
-    requires empty { list.old.items ≡ [] }
-    requires room { rows_in (four s0.old s1.old s2.old s3.old) ≤ vec_capacity list.old }
+    requires empty { shedding.old.list.items ≡ [] }
+    requires room { rows_in (four s0.old s1.old s2.old s3.old) ≤ vec_capacity shedding.old.list }
     ensures t0 { IsThinned s0.old s0.new }
     ensures t1 { IsThinned s1.old s1.new }
     ensures t2 { IsThinned s2.old s2.new }
     ensures t3 { IsThinned s3.old s3.new }
-    ensures within { book.new.total ≤ capacity }
+    ensures within { book.new.total ≤ shedding.old.capacity }
     ensures book { book.new ≡ record book.old {
       total = shares (four s0.new s1.new s2.new s3.new);
     } }
     ensures stands { (history : List Record) →
-        EachStandsAt at (four s0.old s1.old s2.old s3.old) history →
-        EachStandsAt at (four s0.new s1.new s2.new s3.new)
-        (history ++ map (shed_at at) list.new.items) }
+        EachStandsAt shedding.old.at (four s0.old s1.old s2.old s3.old) history →
+        EachStandsAt shedding.old.at (four s0.new s1.new s2.new s3.new)
+        (history ++ map (shed_at shedding.old.at) shedding.new.list.items) }
     ensures shed { (history : List Record) →
-        EachStandsAt at (four s0.old s1.old s2.old s3.old) history →
-        list.new.items ≡ map shed_of (shed_prefix capacity (shed_order history at)) }
+        EachStandsAt shedding.old.at (four s0.old s1.old s2.old s3.old) history →
+        shedding.new.list.items ≡ map shed_of
+        (shed_prefix shedding.old.capacity (shed_order history shedding.old.at)) }
 {
-    'above: while book.total() > capacity {
+    'above: while book.total() > shedding.capacity {
         let Some(candidate) = newest.pop() else {
             break;
         };
         if let Some(found) = find_row(s0, s1, s2, s3, &candidate) {
             drop_found(s0, s1, s2, s3, book, &found);
             // A push fails only at a full vector, and this one has room for all rows.
-            let _ = list.push(Shed {
+            let _ = shedding.list.push(Shed {
                 client: found.row.client,
                 kind: found.row.kind,
                 log: found.row.lease.log,
@@ -214,40 +201,41 @@ pub(crate) fn shed_above<P: Port>(
     s2: &mut Shard<P>,
     s3: &mut Shard<P>,
     book: &mut Book,
-    at: Moment,
-    capacity: u64,
-    room: ShedRoom,
+    order: Vec<Candidate>,
+    shedding: Shedding,
 ) -> Vec<Shed>
     requires sum { book.old.total ≡ shares (four s0.old s1.old s2.old s3.old) }
-    requires reached { (s0.old.moment ≡ at) × (s1.old.moment ≡ at)
-        × (s2.old.moment ≡ at) × (s3.old.moment ≡ at) }
+    requires reached { (s0.old.moment ≡ shedding.at) × (s1.old.moment ≡ shedding.at)
+        × (s2.old.moment ≡ shedding.at) × (s3.old.moment ≡ shedding.at) }
     requires live { (j : ℕ) (row : KeptRow) → j < 4 →
-        Contains (rows_of_lent j (four s0.old s1.old s2.old s3.old)) row → at < row.lease.until }
-    requires empty { (room.order.items ≡ []) × (room.list.items ≡ []) }
-    requires room { capacity < book.old.total →
-        (rows_in (four s0.old s1.old s2.old s3.old) ≤ vec_capacity room.order)
-        × (rows_in (four s0.old s1.old s2.old s3.old) ≤ vec_capacity room.list) }
+        Contains (rows_of_lent j (four s0.old s1.old s2.old s3.old)) row →
+        shedding.at < row.lease.until }
+    requires empty { (order.items ≡ []) × (shedding.list.items ≡ []) }
+    requires room { shedding.capacity < book.old.total →
+        (rows_in (four s0.old s1.old s2.old s3.old) ≤ vec_capacity order)
+        × (rows_in (four s0.old s1.old s2.old s3.old) ≤ vec_capacity shedding.list) }
     ensures t0 { IsThinned s0.old s0.new }
     ensures t1 { IsThinned s1.old s1.new }
     ensures t2 { IsThinned s2.old s2.new }
     ensures t3 { IsThinned s3.old s3.new }
-    ensures within { book.new.total ≤ capacity }
+    ensures within { book.new.total ≤ shedding.capacity }
     ensures book { book.new ≡ record book.old {
       total = shares (four s0.new s1.new s2.new s3.new);
     } }
     ensures stands { (history : List Record) →
-        EachStandsAt at (four s0.old s1.old s2.old s3.old) history →
-        EachStandsAt at (four s0.new s1.new s2.new s3.new)
-        (history ++ map (shed_at at) result.items) }
+        EachStandsAt shedding.at (four s0.old s1.old s2.old s3.old) history →
+        EachStandsAt shedding.at (four s0.new s1.new s2.new s3.new)
+        (history ++ map (shed_at shedding.at) result.items) }
     ensures shed { (history : List Record) →
-        EachStandsAt at (four s0.old s1.old s2.old s3.old) history →
-        result.items ≡ map shed_of (shed_prefix capacity (shed_order history at)) }
+        EachStandsAt shedding.at (four s0.old s1.old s2.old s3.old) history →
+        result.items ≡ map shed_of
+        (shed_prefix shedding.capacity (shed_order history shedding.at)) }
 {
-    let ShedRoom { order, mut list } = room;
-    if book.total() <= capacity {
-        return list;
+    if book.total() <= shedding.capacity {
+        return shedding.list;
     }
     let mut newest = newest_of(s0, s1, s2, s3, order);
-    shed_newest(s0, s1, s2, s3, book, at, capacity, &mut newest, &mut list);
-    list
+    let mut shedding = shedding;
+    shed_newest(s0, s1, s2, s3, book, &mut newest, &mut shedding);
+    shedding.list
 }

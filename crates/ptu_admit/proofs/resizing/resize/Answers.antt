@@ -20,10 +20,10 @@ shed_above-list-requires-clause-live g c =
 pub shed_above-list-requires-clause-room : goal.shed_above-list-requires-clause-room
 shed_above-list-requires-clause-room g c = λ above.
     let at : ℕ = c.latest_of-at.result in
-    let enough : rows_in (four c.sweep_all.new.s0 c.sweep_all.new.s1 c.sweep_all.new.s2 c.sweep_all.new.s3) ≤ c.count_above.result =
+    let enough : rows_in (four c.sweep_all.new.s0 c.sweep_all.new.s1 c.sweep_all.new.s2 c.sweep_all.new.s3) ≤ c.count_above-count.result =
     omega (
       arith,
-      c.count_above.ensures (omega (
+      c.count_above-count.ensures (omega (
         arith,
         above,
         c.requires.sum,
@@ -38,7 +38,7 @@ shed_above-list-requires-clause-room g c = λ above.
       swept_rows at c.args.s2.now c.sweep_all.new.s2 c.sweep_all.ensures.s2,
       swept_rows at c.args.s3.now c.sweep_all.new.s3 c.sweep_all.ensures.s3,
     ) in
-    (omega (arith, enough, c.in_ok-room.ensures.order), omega (arith, enough, c.in_ok-room.ensures.list))
+    (omega (arith, enough, c.in_ok-order.ensures.capacity), omega (arith, enough, c.in_ok-list.ensures.capacity))
 
 pub returns-clause-shed : goal.returns-clause-shed
 unfolding shed_grants
@@ -48,7 +48,7 @@ returns-clause-shed g c = λ opening h s.
     let swept = four_swept opening (book_moment h) at c.args.s0.now c.args.s1.now c.args.s2.now c.args.s3.now c.sweep_all.new.s0 c.sweep_all.new.s1 c.sweep_all.new.s2 c.sweep_all.new.s3
     c.args.book.now.capacity c.args.book.now.total h (are_at opening (four c.args.s0.now c.args.s1.now c.args.s2.now c.args.s3.now) c.args.book.now h s) le
     c.sweep_all.ensures.s0 c.sweep_all.ensures.s1 c.sweep_all.ensures.s2 c.sweep_all.ensures.s3 in
-    c.new-2.ensures ∙ c.shed_above-list.ensures.shed h swept.tables
+    c.new.ensures ∙ c.shed_above-list.ensures.shed h swept.tables
 
 pub returns-clause-stands : goal.returns-clause-stands
 returns-clause-stands g c = λ opened h s.

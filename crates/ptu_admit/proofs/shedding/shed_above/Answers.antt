@@ -13,12 +13,12 @@ shed_newest-requires-clause-listed g c = λ f place contained.
     Contains-permutation (map candidate_of (all_found lent)) c.newest_of-newest.result (candidate_of f) c.newest_of-newest.ensures.all
     (Contains-map candidate_of (all_found lent) f (placed_found c.args.s0.now c.args.s1.now c.args.s2.now c.args.s3.now f place contained))
 
-pub returns-then-total-capacity-clause-stands : goal.returns-then-total-capacity-clause-stands
-returns-then-total-capacity-clause-stands g c = λ h st.
-    subst (λ l. EachStandsAt c.args.at (four c.args.s0.now c.args.s1.now c.args.s2.now c.args.s3.now) (h ++ map (shed_at c.args.at) l)) (sym c.requires.empty.1)
-    (subst (λ l. EachStandsAt c.args.at (four c.args.s0.now c.args.s1.now c.args.s2.now c.args.s3.now) l) (sym (append-nil h)) st)
+pub returns-then-total-shedding-clause-stands : goal.returns-then-total-shedding-clause-stands
+returns-then-total-shedding-clause-stands g c = λ h st.
+    subst (λ l. EachStandsAt c.args.shedding.at (four c.args.s0.now c.args.s1.now c.args.s2.now c.args.s3.now) (h ++ map (shed_at c.args.shedding.at) l)) (sym c.requires.empty.1)
+    (subst (λ l. EachStandsAt c.args.shedding.at (four c.args.s0.now c.args.s1.now c.args.s2.now c.args.s3.now) l) (sym (append-nil h)) st)
 
-pub returns-then-total-capacity-clause-shed : goal.returns-then-total-capacity-clause-shed
-returns-then-total-capacity-clause-shed g c = λ h st.
+pub returns-then-total-shedding-clause-shed : goal.returns-then-total-shedding-clause-shed
+returns-then-total-shedding-clause-shed g c = λ h st.
     c.requires.empty.1
-    ∙ sym (ap (map shed_of) (shed_no_more c.args.at c.args.capacity c.args.s0.now c.args.s1.now c.args.s2.now c.args.s3.now h st (omega (arith, c.requires.sum, c.total.ensures.value, c.if-total-capacity.true))))
+    ∙ sym (ap (map shed_of) (shed_no_more c.args.shedding.at c.args.shedding.capacity c.args.s0.now c.args.s1.now c.args.s2.now c.args.s3.now h st (omega (arith, c.requires.sum, c.total.ensures.value, c.if-total-shedding.true))))

@@ -24,6 +24,7 @@ above-smaller g c = omega (arith, length_permutation c.above.newest (c.in-Some.c
 pub above-preserved : goal.above-preserved
 above-preserved g c = record {
   so_far = c.above.invariant.so_far;
+  capacity_is = c.above.invariant.capacity_is;
   listed = listed_without (four c.above.s0 c.above.s1 c.above.s2 c.above.s3) c.in-Some.candidate c.above.newest c.pop.new.self c.in-Some.ensures.taken c.above.invariant.listed c.in_default-find_row.ensures.none;
 }
 
@@ -46,23 +47,24 @@ above-preserved-in-Some-find_row g c =
     let distinct : FourDistinct c.above.s0 c.above.s1 c.above.s2 c.above.s3 =
     four_distinct c.args.s0.now c.args.s1.now c.args.s2.now c.args.s3.now c.above.s0 c.above.s1 c.above.s2 c.above.s3 inv.t0 inv.t1 inv.t2 inv.t3 c.requires.distinct in
     let total_is : c.above.book.total ≡ shares lent = ap (λ (k : KeptBook). k.total) inv.book_is in
-    let above : c.args.capacity < shares lent = omega (arith, c.above-test.true, c.total.ensures.value) in
-    let room : vec_len c.above.list < vec_capacity c.above.list = omega (arith, inv.enough, c.drop_found.ensures.fewer) in
+    let above : c.args.shedding.now.capacity < shares lent = omega (arith, c.above-test.true, c.total.ensures.value, c.above.invariant.capacity_is) in
+    let room : vec_len c.above.shedding.list < vec_capacity c.above.shedding.list = omega (arith, inv.enough, c.drop_found.ensures.fewer) in
     let pushed : is_ok c.push.result ≡ true = c.push.ensures.succeeds room in
     let value : Shed = record { client = found.row.client; kind = found.row.kind; log = found.row.lease.log } in
-    let items_are : c.push.new.self.items ≡ c.above.list.items ++ value ∷ [] = c.push.ensures.items ∙ ap (λ b. cond b (c.above.list.items ++ value ∷ []) c.above.list.items) pushed in
-    let len_is : vec_len c.push.new.self ≡ vec_len c.above.list + 1 = c.push.ensures.len ∙ ap (λ b. cond b (vec_len c.above.list + 1) (vec_len c.above.list)) pushed in
-    let next : SoFar c.args.at c.args.capacity c.args.s0.now c.args.s1.now c.args.s2.now c.args.s3.now c.drop_found.new.s0 c.drop_found.new.s1 c.drop_found.new.s2 c.drop_found.new.s3
-    c.args.book.now c.drop_found.new.book (c.above.list.items ++ value ∷ []) (vec_len c.above.list + 1) (vec_capacity c.push.new.self) =
-    one_shed c.args.at c.args.capacity c.args.s0.now c.args.s1.now c.args.s2.now c.args.s3.now c.above.s0 c.above.s1 c.above.s2 c.above.s3 c.drop_found.new.s0 c.drop_found.new.s1 c.drop_found.new.s2 c.drop_found.new.s3
-    c.args.book.now c.above.book c.drop_found.new.book c.above.list.items (vec_len c.above.list) (vec_capacity c.above.list) (vec_capacity c.push.new.self) found inv
+    let items_are : c.push.new.self.items ≡ c.above.shedding.list.items ++ value ∷ [] = c.push.ensures.items ∙ ap (λ b. cond b (c.above.shedding.list.items ++ value ∷ []) c.above.shedding.list.items) pushed in
+    let len_is : vec_len c.push.new.self ≡ vec_len c.above.shedding.list + 1 = c.push.ensures.len ∙ ap (λ b. cond b (vec_len c.above.shedding.list + 1) (vec_len c.above.shedding.list)) pushed in
+    let next : SoFar c.args.shedding.now.at c.args.shedding.now.capacity c.args.s0.now c.args.s1.now c.args.s2.now c.args.s3.now c.drop_found.new.s0 c.drop_found.new.s1 c.drop_found.new.s2 c.drop_found.new.s3
+    c.args.book.now c.drop_found.new.book (c.above.shedding.list.items ++ value ∷ []) (vec_len c.above.shedding.list + 1) (vec_capacity c.push.new.self) =
+    one_shed c.args.shedding.now.at c.args.shedding.now.capacity c.args.s0.now c.args.s1.now c.args.s2.now c.args.s3.now c.above.s0 c.above.s1 c.above.s2 c.above.s3 c.drop_found.new.s0 c.drop_found.new.s1 c.drop_found.new.s2 c.drop_found.new.s3
+    c.args.book.now c.above.book c.drop_found.new.book c.above.shedding.list.items (vec_len c.above.shedding.list) (vec_capacity c.above.shedding.list) (vec_capacity c.push.new.self) found inv
     c.requires.live c.requires.reached placed newest distinct above
     c.drop_found.ensures.t0 c.drop_found.ensures.t1 c.drop_found.ensures.t2 c.drop_found.ensures.t3 c.drop_found.ensures.fewer c.drop_found.ensures.book c.push.ensures.capacity c.drop_found.ensures.stands in
     record {
-      so_far = subst (λ items. SoFar c.args.at c.args.capacity c.args.s0.now c.args.s1.now c.args.s2.now c.args.s3.now c.drop_found.new.s0 c.drop_found.new.s1 c.drop_found.new.s2 c.drop_found.new.s3
+      so_far = subst (λ items. SoFar c.args.shedding.now.at c.args.shedding.now.capacity c.args.s0.now c.args.s1.now c.args.s2.now c.args.s3.now c.drop_found.new.s0 c.drop_found.new.s1 c.drop_found.new.s2 c.drop_found.new.s3
           c.args.book.now c.drop_found.new.book items (vec_len c.push.new.self) (vec_capacity c.push.new.self)) (sym items_are)
-          (subst (λ len. SoFar c.args.at c.args.capacity c.args.s0.now c.args.s1.now c.args.s2.now c.args.s3.now c.drop_found.new.s0 c.drop_found.new.s1 c.drop_found.new.s2 c.drop_found.new.s3
-          c.args.book.now c.drop_found.new.book (c.above.list.items ++ value ∷ []) len (vec_capacity c.push.new.self)) (sym len_is) next);
+          (subst (λ len. SoFar c.args.shedding.now.at c.args.shedding.now.capacity c.args.s0.now c.args.s1.now c.args.s2.now c.args.s3.now c.drop_found.new.s0 c.drop_found.new.s1 c.drop_found.new.s2 c.drop_found.new.s3
+          c.args.book.now c.drop_found.new.book (c.above.shedding.list.items ++ value ∷ []) len (vec_capacity c.push.new.self)) (sym len_is) next);
+      capacity_is = c.above.invariant.capacity_is;
       listed = listed_less c.above.s0 c.above.s1 c.above.s2 c.above.s3 c.drop_found.new.s0 c.drop_found.new.s1 c.drop_found.new.s2 c.drop_found.new.s3
           c.drop_found.ensures.t0 c.drop_found.ensures.t1 c.drop_found.ensures.t2 c.drop_found.ensures.t3 found c.above.newest c.pop.new.self
           (subst (λ z. IsPermutation c.above.newest (z ∷ c.pop.new.self)) (sym kept.2) c.in-Some.ensures.taken) c.above.invariant.listed c.drop_found.ensures.gone;
@@ -72,8 +74,8 @@ pub returns-after-above-clause-shed : goal.returns-after-above-clause-shed
 returns-after-above-clause-shed g c = λ h st.
     let inv = c.above.invariant.so_far in
     let total_is : c.above.book.total ≡ shares (four c.above.s0 c.above.s1 c.above.s2 c.above.s3) = ap (λ (k : KeptBook). k.total) inv.book_is in
-    all_shed c.args.at c.args.capacity c.args.s0.now c.args.s1.now c.args.s2.now c.args.s3.now c.above.s0 c.above.s1 c.above.s2 c.above.s3 c.args.book.now c.above.book c.above.list.items
-    (vec_len c.above.list) (vec_capacity c.above.list) inv (omega (arith, c.above-test.false, c.total.ensures.value)) h st
+    all_shed c.args.shedding.now.at c.args.shedding.now.capacity c.args.s0.now c.args.s1.now c.args.s2.now c.args.s3.now c.above.s0 c.above.s1 c.above.s2 c.above.s3 c.args.book.now c.above.book c.above.shedding.list.items
+    (vec_len c.above.shedding.list) (vec_capacity c.above.shedding.list) inv (omega (arith, c.above-test.false, c.total.ensures.value, c.above.invariant.capacity_is)) h st
 
 pub returns-in_default-clause-within : goal.returns-in_default-clause-within
 returns-in_default-clause-within g c =
@@ -84,6 +86,6 @@ returns-in_default-clause-within g c =
 pub returns-in_default-clause-shed : goal.returns-in_default-clause-shed
 returns-in_default-clause-shed g c = λ h st.
     let inv = c.above.invariant.so_far in
-    all_shed c.args.at c.args.capacity c.args.s0.now c.args.s1.now c.args.s2.now c.args.s3.now c.above.s0 c.above.s1 c.above.s2 c.above.s3 c.args.book.now c.above.book c.above.list.items
-    (vec_len c.above.list) (vec_capacity c.above.list) inv
+    all_shed c.args.shedding.now.at c.args.shedding.now.capacity c.args.s0.now c.args.s1.now c.args.s2.now c.args.s3.now c.above.s0 c.above.s1 c.above.s2 c.above.s3 c.args.book.now c.above.book c.above.shedding.list.items
+    (vec_len c.above.shedding.list) (vec_capacity c.above.shedding.list) inv
     (omega (arith, none_held c.above.s0 c.above.s1 c.above.s2 c.above.s3 (subst (AreListed (four c.above.s0 c.above.s1 c.above.s2 c.above.s3)) c.in_default.ensures.none c.above.invariant.listed))) h st
