@@ -15,8 +15,8 @@
 //! - CANCELs go to other clients, name other kinds, or come in another order. (Port 4.) Only 32 of
 //!   more are sent; the capacity is cut to 16 bits. (`a_change_sheds_forty_grants`.)
 //!   A change is not made where nothing was granted yet. (`Change::First`.)
-//! - Failed sends or receives of a lane are not counted, nor failed CANCELs; a lane is left out of
-//!   the sums. (The lines.)
+//! - Failed sends or receives of a lane are not counted, nor failed CANCELs; a lane, or table 1 or
+//!   2, is left out of the sums. (The lines.)
 //! - Ports or clocks are taken for one another, at the opening or at the close; a table is handed
 //!   out for another. (The ports, and what the clocks have left.)
 
@@ -204,7 +204,7 @@ enum Fault {
 
 type Case = (Change, Fault, &'static str);
 
-const CASES: [Case; 10] = [
+const CASES: [Case; 12] = [
     (
         Change::Never,
         Fault::Nothing,
@@ -223,6 +223,16 @@ const CASES: [Case; 10] = [
     (
         Change::Never,
         Fault::Send(0, 0),
+        "rounds 3 sent 15 failed 1 granted 7 refused 1 held 65\n",
+    ),
+    (
+        Change::Never,
+        Fault::Send(1, 0),
+        "rounds 3 sent 15 failed 1 granted 7 refused 1 held 65\n",
+    ),
+    (
+        Change::Never,
+        Fault::Send(2, 0),
         "rounds 3 sent 15 failed 1 granted 7 refused 1 held 65\n",
     ),
     (
