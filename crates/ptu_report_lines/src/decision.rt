@@ -94,12 +94,7 @@ impl Decision {
                 line.put_str("outside log ");
             }
             Decision::OutsideDuration { kind, log, seconds } => {
-                let seconds = u64::from(seconds);
-                put_words(
-                    &[Word::Kind(kind), Word::Log(log), Word::Number(seconds)],
-                    line,
-                );
-                line.put_str("outside duration ");
+                put_outside_duration(kind, log, seconds, line);
             }
             Decision::Cancelled { kind, at } => put_ended("cancelled", kind, at, line),
             Decision::Nothing { kind, at } => put_ended("nothing", kind, at, line),
@@ -156,6 +151,21 @@ fn put_short(kind: Kind, log: i8, at: Moment, line: &mut LineText)
     line.put_str(" ");
     KindText(kind).put(line);
     line.put_str("short ");
+}
+
+// Puts that the duration of a request, in seconds, is too short.
+fn put_outside_duration(kind: Kind, log: i8, seconds: u32, line: &mut LineText)
+    requires { 131 ≤ line.old.room }
+    ensures text { line.new.text
+        ≡ decision_text (decisions.OutsideDuration kind log seconds) ++ line.old.text }
+    ensures room { line.old.room ≤ line.new.room + 131 }
+{
+    let seconds = u64::from(seconds);
+    put_words(
+        &[Word::Kind(kind), Word::Log(log), Word::Number(seconds)],
+        line,
+    );
+    line.put_str("outside duration ");
 }
 
 // Puts what a CANCEL found, at a moment.

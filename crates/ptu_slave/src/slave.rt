@@ -421,7 +421,7 @@ fn hear<P: Port>(
     let Taken {
         master,
         source,
-        sequence,
+        sequence: seq,
         content,
     } = taken;
     match content {
@@ -430,29 +430,21 @@ fn hear<P: Port>(
             Heard::Announce { at, master, class }
         }
         Content::Sync => {
-            let at = take_sync(core, judges, t, master, sequence);
-            Heard::Sync {
-                at,
-                master,
-                seq: sequence,
-            }
+            let at = take_sync(core, judges, t, master, seq);
+            Heard::Sync { at, master, seq }
         }
         Content::FollowUp => {
             let at = take_follow_up(core, t, master);
             Heard::FollowUp { at, master }
         }
         Content::DelayResp => {
-            let at = take_delay_resp(core, t, master, sequence);
-            Heard::DelayResp {
-                at,
-                master,
-                seq: sequence,
-            }
+            let at = take_delay_resp(core, t, master, seq);
+            Heard::DelayResp { at, master, seq }
         }
         Content::Signals(list, acks) => {
             let at = take_signaling(core, t, master, list.list());
             let ip = core.address(master);
-            let reply = send_reply(port, core.config(), ip, &source, sequence, acks.list());
+            let reply = send_reply(port, core.config(), ip, &source, seq, acks.list());
             Heard::Signals {
                 at,
                 master,

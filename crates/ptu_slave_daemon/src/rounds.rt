@@ -84,7 +84,8 @@ fn run_rounds<P: Port, C: Clock, K: Sink>(
         × HasPutPart K.written K.handed sink.old sink.new
         (texts_of (map selected_line selections))) }
     ensures stopped { IsErrOf result Halt.Write → (n : ℕ) × (selections : List Selection)
-        × (sends : ℕ) × (failures : ℕ) × (n ≤ rounds) × HasPutPart K.written K.handed sink.old sink.new
+        × (sends : ℕ) × (failures : ℕ) × (n ≤ rounds)
+        × HasPutPart K.written K.handed sink.old sink.new
         (texts_of (map selected_line (changes None selections)))
         × ((node : Node) (L : Record) → Stands node (seen ⟦<dyn Judge as Judge>⟧ slave.old) L →
         RoundsDone n node L
