@@ -24,7 +24,7 @@ use Rattle.ptu_nodes.specs.Doing.{HasDone}
 use Rattle.ptu_nodes.specs.GrandmasterPorts.{GoesOn, in_ports}
 use Rattle.ptu_nodes.specs.GrandmasterStatements.{shed_seen}
 use Rattle.ptu_nodes.specs.Noted.{Noted, with_handed, with_said}
-use Rattle.ptu_nodes.specs.Standing.{AreIdle, IsGrandmasterNode, StandsAsGrandmaster}
+use Rattle.ptu_nodes.specs.Standing.{AreIdle, AreSure, IsGrandmasterNode, StandsAsGrandmaster}
 use Rattle.ptu_nodes.proofs.GrandmasterDone.{all_handed, has_done, stands_after}
 use Rattle.ptu_nodes.proofs.Noting.{said_more}
 
@@ -65,13 +65,13 @@ pub change_done : (ip t capacity : ℕ) (gm0 gm1 gm2 gm3 : KeptGm MemoryPort) (a
     ((opening : ℕ) (history : List Record) → StandsFor opening gm1 history →
     StandsFor opening gm2 (history ++ (core_step (opened_with opening gm1.config) history t (events.Resize capacity)).records)) →
     begun ≡ with_said (statements.Capacity ip capacity at ∷ []) old → said ≡ with_said (map shed_seen shed) begun →
-    new ≡ with_handed ip (in_ports gm2) said → GoesOn gm2 gm3 → AreIdle gm3 →
+    new ≡ with_handed ip (in_ports gm2) said → GoesOn gm2 gm3 → AreIdle gm3 → AreSure gm3 →
     HasDone (StandsAsGrandmaster (record { ip = ip; gm = gm3 })) ip (capacity_deed g t capacity) old new
 unfolding history_after
-change_done ip t capacity gm0 gm1 gm2 gm3 at shed old begun said new g is first idle sends ports same_config found stands begins says handed last idle' =
+change_done ip t capacity gm0 gm1 gm2 gm3 at shed old begun said new g is first idle sends ports same_config found stands begins says handed last idle' sure' =
     has_done _ ip (capacity_deed g t capacity) old said new
     (stands_after g ip gm0 gm1 gm2 gm3 _ is first same_config
-    (subst (λ (config : GmConfig). StandsFor g.capacity gm2 (g.past ++ (core_step (opened_with g.capacity config) g.past t (events.Resize capacity)).records)) (sym config) (stands g.capacity g.past stood)) last idle')
+    (subst (λ (config : GmConfig). StandsFor g.capacity gm2 (g.past ++ (core_step (opened_with g.capacity config) g.past t (events.Resize capacity)).records)) (sym config) (stands g.capacity g.past stood)) last idle' sure')
     refl said_is (subst (λ (l : List Departure). new ≡ with_handed ip l said) in_ports_are handed)
   where
     config : g.config ≡ gm1.config

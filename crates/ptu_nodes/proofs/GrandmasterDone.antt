@@ -10,12 +10,12 @@ use Rattle.ptu_nodes.specs.Doing.{HasDone}
 use Rattle.ptu_nodes.specs.GrandmasterPorts.{GoesOn}
 use Rattle.ptu_nodes.specs.Noted.{Noted, with_handed, with_said}
 use Rattle.ptu_nodes.specs.declared.grandmaster_node.GrandmasterNode.{GrandmasterNode}
-use Rattle.ptu_nodes.specs.Standing.{AreIdle, IsGrandmasterNode, StandsAsGrandmaster}
+use Rattle.ptu_nodes.specs.Standing.{AreIdle, AreSure, IsGrandmasterNode, StandsAsGrandmaster}
 use Rattle.ptu_nodes.proofs.Noting.{said_nothing}
 
-pub on_ok_three : {T E P Q R S : Type 0} (r : Result T E) → (P → Q → R → S) → OnOk r P → OnOk r Q → OnOk r R → OnOk r S
-on_ok_three (Ok x) f p q r = f p q r
-on_ok_three (Err e) f p q r = tt
+pub on_ok_four : {T E P Q R S U : Type 0} (r : Result T E) → (P → Q → R → S → U) → OnOk r P → OnOk r Q → OnOk r R → OnOk r S → OnOk r U
+on_ok_four (Ok x) f p q r s = f p q r s
+on_ok_four (Err e) f p q r s = tt
 
 -- ---- where no send failed, all was sent
 
@@ -48,11 +48,12 @@ module _ (node : GrandmasterNode) where
 
 pub stands_after : (g : Grandmaster) (ip : ℕ) (gm0 gm1 gm2 gm3 : KeptGm MemoryPort) (past : List Record) →
     IsGrandmasterNode (record { ip = ip; gm = gm0 }) g → GoesOn gm0 gm1 → gm2.config ≡ gm1.config →
-    StandsFor g.capacity gm2 past → GoesOn gm2 gm3 → AreIdle gm3 →
+    StandsFor g.capacity gm2 past → GoesOn gm2 gm3 → AreIdle gm3 → AreSure gm3 →
     IsGrandmasterNode (record { ip = ip; gm = gm3 }) (record g { past = past })
-stands_after g ip gm0 gm1 gm2 gm3 past is first same stands last idle = record {
+stands_after g ip gm0 gm1 gm2 gm3 past is first same stands last idle sure = record {
   ip = is.ip;
   config = is.config ∙ sym first.config ∙ sym same ∙ sym last.config;
   stands = last.stands g.capacity past stands;
   idle = idle;
+  sure = sure;
 }

@@ -38,7 +38,7 @@ use Rattle.ptu_nodes.specs.Doing.{HasDone}
 use Rattle.ptu_nodes.specs.GrandmasterPorts.{GoesOn, in_ports}
 use Rattle.ptu_nodes.specs.Noted.{Noted, with_handed, with_said}
 use Rattle.ptu_nodes.specs.GrandmasterStatements.{IsAnswerSent, IsReplySent, IsSent, taken_said}
-use Rattle.ptu_nodes.specs.Standing.{AreIdle, IsGrandmasterNode, StandsAsGrandmaster}
+use Rattle.ptu_nodes.specs.Standing.{AreIdle, AreSure, IsGrandmasterNode, StandsAsGrandmaster}
 use Rattle.ptu_nodes.proofs.GrandmasterChanges.{in_ports-reply}
 use Rattle.ptu_nodes.proofs.GrandmasterDone.{all_handed, has_done, stands_after}
 use Rattle.ptu_nodes.proofs.GrandmasterTurns.{idle_table, in_ports-table}
@@ -148,7 +148,7 @@ module _ (ports : Ports MemoryPort) (tells : (p : MemoryPort) → ports.sent p �
     (stands : (opening : ℕ) (history : List Record) → StandsFor opening gm1 history →
     StandsFor opening gm2 (history_after (opened_with opening gm1.config) history (events_of_datagram gm1.config t from octets)))
     (says : said ≡ with_said (taken_said taken) old) (is_sent : IsSent taken)
-    (handed : new ≡ with_handed ip (in_ports gm2) said) (last : GoesOn gm2 gm3) (idle' : AreIdle gm3) where
+    (handed : new ≡ with_handed ip (in_ports gm2) said) (last : GoesOn gm2 gm3) (idle' : AreIdle gm3) (sure' : AreSure gm3) where
   abbrev as_kept : Grandmaster
   as_kept = record g { config = gm1.config }
 
@@ -167,8 +167,8 @@ module _ (ports : Ports MemoryPort) (tells : (p : MemoryPort) → ports.sent p �
   node_is : StandsAsGrandmaster (record { ip = ip; gm = gm3 }) (heard_deed as_kept t from what).node
   node_is =
       subst (λ (n : Node). StandsAsGrandmaster (record { ip = ip; gm = gm3 }) n) (sym (node_heard as_kept t from what))
-      (stands_after as_kept ip gm0 gm1 gm2 gm3 _ (record { ip = is.ip; config = first.config; stands = is.stands; idle = is.idle }) first same_config
-      (stands g.capacity g.past stood) last idle')
+      (stands_after as_kept ip gm0 gm1 gm2 gm3 _ (record { ip = is.ip; config = first.config; stands = is.stands; idle = is.idle; sure = is.sure }) first same_config
+      (stands g.capacity g.past stood) last idle' sure')
 
   taken_as_kept : HasDone (StandsAsGrandmaster (record { ip = ip; gm = gm3 })) ip (datagram_deed as_kept t from octets) old new
   taken_as_kept =

@@ -20,7 +20,7 @@ use Rattle.ptu_world.specs.Grandmasters.{turn_deed}
 use Rattle.ptu_nodes.specs.Doing.{HasDone}
 use Rattle.ptu_nodes.specs.GrandmasterPorts.{GoesOn, in_ports}
 use Rattle.ptu_nodes.specs.Noted.{Noted, with_handed}
-use Rattle.ptu_nodes.specs.Standing.{AreIdle, IsGrandmasterNode, StandsAsGrandmaster}
+use Rattle.ptu_nodes.specs.Standing.{AreIdle, AreSure, IsGrandmasterNode, StandsAsGrandmaster}
 use Rattle.ptu_nodes.proofs.GrandmasterDone.{all_handed, has_done, stands_after}
 use Rattle.ptu_nodes.proofs.GrandmasterPorts.{table_by, with_by}
 use Rattle.ptu_nodes.proofs.Noting.{said_nothing}
@@ -79,13 +79,13 @@ pub turn_done : (ip t j : ℕ) (gm0 gm1 gm2 gm3 : KeptGm MemoryPort) (at : ℕ) 
     (at ≡ table_step_moment history t j) × (due_messages at (table_at j gm1).rows ≡ map (message_of history) (due_grants history at j))) →
     ((opening : ℕ) (history : List Record) → StandsFor opening gm1 history →
     StandsFor opening gm2 (history ++ (core_step (opened_with opening gm1.config) history t (events.Turn j)).records)) →
-    new ≡ with_handed ip (in_ports gm2) old → GoesOn gm2 gm3 → AreIdle gm3 →
+    new ≡ with_handed ip (in_ports gm2) old → GoesOn gm2 gm3 → AreIdle gm3 → AreSure gm3 →
     HasDone (StandsAsGrandmaster (record { ip = ip; gm = gm3 })) ip (turn_deed g t j) old new
 unfolding history_after
-turn_done ip t j gm0 gm1 gm2 gm3 at old new g is first idle sends rest messages stands handed last idle' =
+turn_done ip t j gm0 gm1 gm2 gm3 at old new g is first idle sends rest messages stands handed last idle' sure' =
     has_done _ ip (turn_deed g t j) old old new
     (stands_after g ip gm0 gm1 gm2 gm3 _ is first same_config
-    (subst (λ (config : GmConfig). StandsFor g.capacity gm2 (g.past ++ (core_step (opened_with g.capacity config) g.past t (events.Turn j)).records)) (sym config) (stands g.capacity g.past stood)) last idle')
+    (subst (λ (config : GmConfig). StandsFor g.capacity gm2 (g.past ++ (core_step (opened_with g.capacity config) g.past t (events.Turn j)).records)) (sym config) (stands g.capacity g.past stood)) last idle' sure')
     refl (sym (said_nothing old)) (subst (λ (l : List Departure). new ≡ with_handed ip l old) in_ports_are handed)
   where
     config : g.config ≡ gm1.config

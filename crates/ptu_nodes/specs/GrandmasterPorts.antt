@@ -15,6 +15,16 @@ abbrev pub HasRoom : ℕ → ℕ → MemoryPort → Type 0
 HasRoom datagrams octets port =
     (length port.sent + datagrams ≤ port.datagrams) × (octets_of port.sent + octets ≤ port.octets)
 
+-- there is room for the one datagram that may answer another: a Delay_Resp in the port of each table, or a Signaling in that of the
+-- replies
+pub record HasReplyRoom (gm : KeptGm MemoryPort) : Type 0 where
+  pub tables : HasRoom 1 54 gm.s0.port × HasRoom 1 54 gm.s1.port × HasRoom 1 54 gm.s2.port × HasRoom 1 54 gm.s3.port
+  pub reply : HasRoom 1 428 gm.reply
+
+-- how many rows the tables keep
+abbrev pub rows_kept : KeptGm MemoryPort → ℕ
+rows_kept gm = length gm.s0.rows + length gm.s1.rows + length gm.s2.rows + length gm.s3.rows
+
 -- it has the configuration that it had, and stands for each history that it stood for
 pub record GoesOn (old new : KeptGm MemoryPort) : Type 0 where
   pub config : new.config ≡ old.config

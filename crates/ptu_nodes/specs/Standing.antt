@@ -15,12 +15,23 @@ abbrev pub AreIdle : KeptGm MemoryPort → Type 0
 AreIdle gm =
     IsIdle gm.s0.port × IsIdle gm.s1.port × IsIdle gm.s2.port × IsIdle gm.s3.port × IsIdle gm.reply
 
+-- no send of a port is to fail
+abbrev pub IsUnfailing : MemoryPort → Type 0
+IsUnfailing port = port.failing_sends ≡ []
+
+-- nor any of a grandmaster's ports: they send all that they have room for
+abbrev pub AreSure : KeptGm MemoryPort → Type 0
+AreSure gm =
+    IsUnfailing gm.s0.port × IsUnfailing gm.s1.port × IsUnfailing gm.s2.port × IsUnfailing gm.s3.port
+    × IsUnfailing gm.reply
+
 -- it stands for the grandmaster of a world, with its history
 pub record IsGrandmasterNode (node : GrandmasterNode) (g : world.Grandmaster) : Type 0 where
   pub ip : g.ip ≡ node.ip
   pub config : g.config ≡ node.gm.config
   pub stands : gm.StandsFor g.capacity node.gm g.past
   pub idle : AreIdle node.gm
+  pub sure : AreSure node.gm
 
 -- it stands for the node of a world
 abbrev pub StandsAsGrandmaster : GrandmasterNode → world.Node → Type 0

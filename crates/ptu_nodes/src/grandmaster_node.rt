@@ -1,11 +1,12 @@
-ghost use Rattle.std.specs.Prelude.{◌≡◌, ◌<◌, [], OnOk};
+ghost use Rattle.std.specs.Prelude.{◌≡◌, ◌<◌, [], IfSome, OnOk};
 ghost use Rattle.ptu_admit.specs.Book.{IsCapacity};
 ghost use Rattle.ptu_script.specs.Limits.{IsGrandmasterWithin};
 ghost use Rattle.ptu_world.specs.Deeds.{Grandmaster};
 ghost use Rattle.ptu_world.specs.Grandmasters.{capacity_deed, class_deed, datagram_deed, turn_deed};
 ghost use Rattle.ptu_world.specs.World.{new_grandmaster};
-ghost use Rattle.ptu_nodes.specs.Standing.{IsGrandmasterNode, StandsAsGrandmaster};
 ghost use Rattle.ptu_nodes.specs.Doing.{HasDone};
+ghost use Rattle.ptu_nodes.specs.GrandmasterPorts.{rows_kept};
+ghost use Rattle.ptu_nodes.specs.Standing.{IsGrandmasterNode, StandsAsGrandmaster};
 
 use crate::grandmaster_ports::{ANNOUNCE, SIGNALING_PORT, hand_over_all, reserve, reserve_replies};
 use crate::grandmaster_statements::{say_shed, say_taken};
@@ -58,17 +59,20 @@ impl GrandmasterNode {
         GrandmasterNode { ip: setup.ip, gm }
     }
 
-    // How many rows its tables keep.
-    fn count(&self) -> usize {
-        let tables = self.gm.count(0).saturating_add(self.gm.count(1));
-        tables.saturating_add(self.gm.count(2).saturating_add(self.gm.count(3)))
+    // How many rows its tables keep, as far as a number goes.
+    fn count(&self) -> Option<usize>
+        ensures { IfSome result (λ count. count ≡ rows_kept self.now.gm) }
+    {
+        let first = self.gm.count(0).checked_add(self.gm.count(1))?;
+        let last = self.gm.count(2).checked_add(self.gm.count(3))?;
+        first.checked_add(last)
     }
 
     /// Takes a datagram that came from this IPv4 address, and notes what it comes to and what is
     /// sent.
     ///
     /// # Errors
-    /// `OutOfMemory`, also where room for what it sends was not found.
+    /// `OutOfMemory`.
     pub fn receive(
         &mut self,
         at: Moment,
@@ -92,7 +96,7 @@ impl GrandmasterNode {
     /// A table, from 0 to 3, takes a turn, and what is sent is noted.
     ///
     /// # Errors
-    /// `OutOfMemory`, also where room for what it sends was not found.
+    /// `OutOfMemory`.
     pub fn turn(
         &mut self,
         at: Moment,
@@ -107,16 +111,9 @@ impl GrandmasterNode {
             journal.new) }
     {
         let datagrams = self.gm.count(table);
-        reserve(
-            &mut self.gm,
-            table,
-            datagrams,
-            datagrams.saturating_mul(ANNOUNCE),
-        )?;
-        let turned = self.gm.turn(table, at);
-        if turned.failed > 0 {
-            return Err(OutOfMemory);
-        }
+        let octets = datagrams.checked_mul(ANNOUNCE).ok_or(OutOfMemory)?;
+        reserve(&mut self.gm, table, datagrams, octets)?;
+        self.gm.turn(table, at);
         hand_over_all(&mut self.gm, self.ip, journal)
     }
 
@@ -124,7 +121,7 @@ impl GrandmasterNode {
     /// what is sent is noted.
     ///
     /// # Errors
-    /// `OutOfMemory`, also where room for what it sends was not found.
+    /// `OutOfMemory`.
     pub fn set_capacity(
         &mut self,
         at: Moment,
@@ -138,17 +135,10 @@ impl GrandmasterNode {
             HasDone (StandsAsGrandmaster self.new) self.old.ip (capacity_deed g at capacity)
             journal.old journal.new) }
     {
-        let cancels = self.count();
-        reserve(
-            &mut self.gm,
-            SIGNALING_PORT,
-            cancels,
-            cancels.saturating_mul(SIGNALING),
-        )?;
+        let cancels = self.count().ok_or(OutOfMemory)?;
+        let octets = cancels.checked_mul(SIGNALING).ok_or(OutOfMemory)?;
+        reserve(&mut self.gm, SIGNALING_PORT, cancels, octets)?;
         let changed = self.gm.set_capacity(at, capacity)?;
-        if changed.failed > 0 {
-            return Err(OutOfMemory);
-        }
         journal.say(Statement::Capacity {
             grandmaster: self.ip,
             capacity,
@@ -179,7 +169,8 @@ fn let_go(gm: &mut Gm<MemPort>, taken: Taken)
 
 // A port in memory, at which nothing waits and no call is to fail.
 fn idle_port(alloc: Global) -> MemPort
-    ensures { result.sent ≡ [] }
+    ensures idle { result.sent ≡ [] }
+    ensures sure { result.failing_sends ≡ [] }
 {
     MemPort::new(alloc, Vec::new(alloc), Vec::new(alloc), Vec::new(alloc))
 }

@@ -4,7 +4,7 @@ ghost use Rattle.std.specs.Prelude.{◌≡◌, ◌<◌, [], OnOk};
 ghost use Rattle.ptu_grandmaster.specs.Gm.{port_at, with_port};
 ghost use Rattle.ptu_nodes.specs.GrandmasterPorts.{GoesOn, HasRoom, in_ports};
 ghost use Rattle.ptu_nodes.specs.Noted.{with_handed};
-ghost use Rattle.ptu_nodes.specs.Standing.{AreIdle};
+ghost use Rattle.ptu_nodes.specs.Standing.{AreIdle, AreSure};
 
 use crate::journal::{Journal, SIGNALING};
 use ptu_grandmaster::Gm;
@@ -36,6 +36,7 @@ pub fn reserve(
     ensures rest { gm.new ≡ with_port port (port_at port gm.new) gm.old }
     ensures goes_on { GoesOn gm.old gm.new }
     ensures idle { AreIdle gm.old → AreIdle gm.new }
+    ensures sure { AreSure gm.old → AreSure gm.new }
 {
     gm.ports(port).reserve(datagrams, octets)
 }
@@ -51,6 +52,7 @@ pub fn reserve_replies(gm: &mut Gm<MemPort>) -> Result<(), OutOfMemory>
     ensures reply { OnOk result (HasRoom 1 428 gm.new.reply) }
     ensures goes_on { GoesOn gm.old gm.new }
     ensures idle { AreIdle gm.old → AreIdle gm.new }
+    ensures sure { AreSure gm.old → AreSure gm.new }
 {
     reserve(gm, 0, 1, DELAY_RESP)?;
     reserve(gm, 1, 1, DELAY_RESP)?;
@@ -88,6 +90,7 @@ pub fn hand_over_all(
     ensures handed { OnOk result (journal.new ≡ with_handed ip (in_ports gm.old) journal.old) }
     ensures goes_on { OnOk result (GoesOn gm.old gm.new) }
     ensures idle { OnOk result (AreIdle gm.new) }
+    ensures sure { OnOk result (AreSure gm.old → AreSure gm.new) }
 {
     hand_over_port(gm, 0, ip, journal)?;
     hand_over_port(gm, 1, ip, journal)?;

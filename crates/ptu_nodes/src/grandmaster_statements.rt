@@ -8,12 +8,11 @@ ghost use Rattle.ptu_report_lines.specs.declared.statement.Statement.TheVariants
 ghost use Rattle.ptu_shard.specs.Answered.{met_by, moment_of_answer};
 ghost use Rattle.ptu_world.specs.Grandmasters.{answer_said, decision_said, outside_of, reason_of};
 ghost use Rattle.ptu_nodes.specs.Noted.{with_said};
-ghost use Rattle.ptu_nodes.specs.GrandmasterStatements.{IsSent, outcomes_said, shed_seen};
-ghost use Rattle.ptu_nodes.specs.GrandmasterStatements.{taken_said};
+ghost use Rattle.ptu_nodes.specs.GrandmasterStatements.{outcomes_said, shed_seen, taken_said};
 
 use crate::journal::Journal;
 use ptu_admit::{Cancelled, Outside, Shed, Verdict};
-use ptu_grandmaster::{GmReason, Outcome, Reply, Taken};
+use ptu_grandmaster::{GmReason, Outcome, Taken};
 use ptu_report_lines::{Decision, DelayAnswer, Reason, Statement};
 use ptu_shard::Answered;
 use ptu_tlvs::Ask;
@@ -127,13 +126,11 @@ pub fn say_shed(shed: &[Shed], journal: &mut Journal) -> Result<(), OutOfMemory>
 /// Says what a datagram came to.
 ///
 /// # Errors
-/// `OutOfMemory`, also where a send failed.
+/// `OutOfMemory`.
 pub fn say_taken(taken: &Taken, journal: &mut Journal) -> Result<(), OutOfMemory>
-    ensures says { OnOk result (journal.new ≡ with_said (taken_said taken.now) journal.old) }
-    ensures sent { OnOk result (IsSent taken.now) }
+    ensures { OnOk result (journal.new ≡ with_said (taken_said taken.now) journal.old) }
 {
     match taken {
-        Taken::Delay(Answered::Failed { .. }) | Taken::Asked(_, Reply::Failed) => Err(OutOfMemory),
         Taken::Ignored(ignored) => journal.say(Statement::Ignored(reason(*ignored))),
         Taken::Delay(answered) => journal.say(answer(*answered)),
         Taken::Asked(outcomes, _) => say_outcomes(outcomes.list(), journal),
