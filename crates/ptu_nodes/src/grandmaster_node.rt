@@ -11,7 +11,7 @@ ghost use Rattle.ptu_nodes.specs.Standing.{IsGrandmasterNode, StandsAsGrandmaste
 use crate::grandmaster_ports::{ANNOUNCE, SIGNALING_PORT, hand_over_all, reserve, reserve_replies};
 use crate::grandmaster_statements::{say_shed, say_taken};
 use crate::journal::{Journal, SIGNALING};
-use ptu_grandmaster::{Gm, Taken};
+use ptu_grandmaster::Gm;
 use ptu_header::PortIdentity;
 use ptu_outside::MemPort;
 use ptu_report_lines::Statement;
@@ -89,7 +89,7 @@ impl GrandmasterNode {
         reserve_replies(&mut self.gm)?;
         let taken = self.gm.take(at, from, octets)?;
         say_taken(&taken, journal)?;
-        let_go(&mut self.gm, taken);
+        self.gm.give_back(taken);
         hand_over_all(&mut self.gm, self.ip, journal)
     }
 
@@ -155,15 +155,6 @@ impl GrandmasterNode {
             StandsAsGrandmaster self.new (class_deed g class).node }
     {
         self.gm.set_class(class);
-    }
-}
-
-// Lets go what a datagram came to. The grandmaster keeps the room of its outcomes.
-fn let_go(gm: &mut Gm<MemPort>, taken: Taken)
-    ensures { gm.new ≡ gm.old }
-{
-    if let Taken::Asked(outcomes, _) = taken {
-        gm.give_back(outcomes);
     }
 }
 

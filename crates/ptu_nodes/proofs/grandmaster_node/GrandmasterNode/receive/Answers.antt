@@ -16,5 +16,5 @@ returns-clause-done c =
     c.in_ok-taken.taken c.args.journal.now c.say_taken.new.journal c.hand_over_all.new.journal g is c.in_ok-reserve_replies.ensures.goes_on c.in_ok-reserve_replies.ensures.idle
     took.answer took.ignored took.delay took.reply took.ports took.config
     took.comes took.stands c.in_ok-say_taken.ensures both.0 handed last idle (sure both.1))
-    (rw c.let_go.ensures at c.hand_over_all.ensures.handed) (rw c.let_go.ensures at c.hand_over_all.ensures.goes_on) c.hand_over_all.ensures.idle
-    (rw c.let_go.ensures at c.hand_over_all.ensures.sure)
+    (rw c.give_back.ensures at c.hand_over_all.ensures.handed) (rw c.give_back.ensures at c.hand_over_all.ensures.goes_on) c.hand_over_all.ensures.idle
+    (rw c.give_back.ensures at c.hand_over_all.ensures.sure)
