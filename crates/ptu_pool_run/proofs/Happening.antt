@@ -1,10 +1,11 @@
 -- What has happened to pools at a line.
-use Rattle.std.proofs.Common.{◌≡◌, ◌+◌, ◌∙◌, ◌⊎◌, All, inl, inr, ℕ, ◌≤◌, true, false, List, [], ◌∷◌, ◌++◌, length, map, position, set, slice_get, Option, Some, None, Result, Ok, Err, refl, sym, ap, subst}
+use Rattle.std.proofs.Common.{◌≡◌, ◌+◌, ◌*◌, ◌∙◌, ◌⊎◌, All, inl, inr, ℕ, ◌≤◌, true, false, List, [], ◌∷◌, ◌++◌, length, map, position, set, slice_get, Option, Some, None, Result, Ok, Err, refl, sym, ap, subst}
 use Rattle.std.specs.Result.{OnOk}
 use Rattle.std.proofs.lemmas.Bool.{both_ways, cases_eq}
 use Rattle.std.proofs.lemmas.Simd.{map-map}
+use Rattle.ptu_outside.specs.Departure.{Departure}
 use Rattle.ptu_outside.specs.declared.port.Port.{Ghosts as Ports}
-use Rattle.ptu_outside.specs.MemoryPort.{MemoryPort}
+use Rattle.ptu_outside.specs.MemoryPort.{IsSure, MemoryPort}
 use Rattle.ptu_shard.specs.declared.answered.Turned.{Turned as TableTurned}
 use Rattle.ptu_shard.specs.declared.config.GmConfig.{GmConfig}
 use Rattle.ptu_items.specs.Items.{heard_in}
@@ -22,20 +23,22 @@ use Rattle.ptu_pools.proofs.Standing.{get-set_other, get-set_same}
 use Rattle.ptu_script.specs.declared.command.GrandmasterSetup.{GrandmasterSetup}
 use Rattle.ptu_world.specs.Deeds.{Grandmaster}
 use Rattle.ptu_world.specs.Grandmasters.{datagram_deed, turn_deed}
-use Rattle.ptu_nodes.specs.GrandmasterPorts.{in_ports}
+use Rattle.ptu_nodes.specs.GrandmasterPorts.{HasReplyRoom, HasRoom, in_ports}
 use Rattle.ptu_nodes.specs.GrandmasterStatements.{IsSent}
-use Rattle.ptu_nodes.specs.Standing.{AreIdle}
+use Rattle.ptu_nodes.specs.Standing.{AreIdle, AreSure}
 use Rattle.ptu_nodes.proofs.GrandmasterReceipts.{sends_heard, told_all}
 use Rattle.ptu_nodes.proofs.GrandmasterTurns.{sends_turned}
+use Rattle.ptu_nodes.proofs.Items.{few_heard}
+use Rattle.ptu_nodes.proofs.Surely.{surely_taken, surely_turned}
 use Rattle.ptu_pool_run.specs.declared.output.PoolLine.TheVariants as lines
 use Rattle.ptu_pool_run.specs.Output.{line_text}
-use Rattle.ptu_pool_run.specs.Ports.{AreAllIdle, AreOthersSame, GoOn, sent_texts}
+use Rattle.ptu_pool_run.specs.Ports.{AreAllIdle, AreAllSure, AreOthersSame, GoOn, sent_texts}
 use Rattle.ptu_pool_run.specs.Sending.{config_of, grandmaster_of, lines_by, lines_of_event, place_of, sends_at, sent_line}
 use Rattle.ptu_pool_run.specs.Standing.{AreSold, HasHappened}
 
-pub on_ok_four : {T E P Q R S U : Type 0} (r : Result T E) → (P → Q → R → S → U) → OnOk r P → OnOk r Q → OnOk r R → OnOk r S → OnOk r U
-on_ok_four (Ok x) f p q r s = f p q r s
-on_ok_four (Err e) f p q r s = tt
+pub on_ok_five : {T E P Q R S U V : Type 0} (r : Result T E) → (P → Q → R → S → U → V) → OnOk r P → OnOk r Q → OnOk r R → OnOk r S → OnOk r U → OnOk r V
+on_ok_five (Ok x) f p q r s u = f p q r s u
+on_ok_five (Err e) f p q r s u = tt
 
 -- ---- what one pool sends
 
@@ -43,7 +46,21 @@ on_ok_four (Err e) f p q r s = tt
 abbrev StandsAt : Grandmaster → KeptGm MemoryPort → Type 0
 StandsAt g gm = StandsFor g.capacity gm g.past
 
-module _ (ports : Ports MemoryPort) (tells : (p : MemoryPort) → ports.sent p ≡ Some p.sent) where
+module _ (ports : Ports MemoryPort) (tells : (p : MemoryPort) → ports.sent p ≡ Some p.sent)
+    (to : (p : MemoryPort) (ds : List Departure) → IsSure p ds → ports.is_sure p ds) (from_sure : (p : MemoryPort) → ports.is_sure p [] → IsSure p []) where
+  -- with room for an answer no send of it fails
+  took_surely : (t from : ℕ) (octets : List ℕ) (taken : Taken) (old new : KeptGm MemoryPort) → AreSure old → HasReplyRoom old →
+      TookDatagram ports t from octets taken old new → IsSent taken × AreSure new
+  took_surely t from octets taken old new sure room took =
+      surely_taken ports to from_sure old.config from (heard_in old.config octets) taken old new sure room (few_heard old.config octets) took.answer took.ignored took.delay took.reply took.tables
+
+  turn_surely : (t table : ℕ) (turned : TableTurned) (old new : KeptGm MemoryPort) → AreSure old →
+      HasRoom (length (table_at table old).rows) (length (table_at table old).rows * 64) (table_at table old).port →
+      TookTurn ports t table turned old new → (turned.failed ≡ 0) × AreSure new
+  turn_surely t table turned old new sure room took =
+      let rows = length (table_at table old).rows in
+      surely_turned ports to from_sure old.config table turned.at rows (rows * 64) old new turned.sent turned.failed sure room (omega arith) (omega arith) took.sends took.rest
+
   took_sends : (g : Grandmaster) (t from : ℕ) (octets : List ℕ) (taken : Taken) (old new : KeptGm MemoryPort) → g.config ≡ old.config →
       StandsAt g old → AreIdle old → IsSent taken → TookDatagram ports t from octets taken old new →
       in_ports new ≡ (datagram_deed g t from octets).sends
@@ -71,25 +88,29 @@ nowhere pools ip (Some found) none e = absurd (both_ways (is_in_at pools found i
 -- ---- what happens
 
 module _ (setup : GrandmasterSetup) (line : ℕ) (events : List PoolEvent) (kept0 kept1 : KeptPools MemoryPort) (sold : AreSold setup kept0 events)
-    (first : GoOn kept0 kept1) (still : AreAllIdle kept0 → AreAllIdle kept1) where
+    (first : GoOn kept0 kept1) (still : AreAllIdle kept0 → AreAllIdle kept1) (surely : AreAllSure kept0 → AreAllSure kept1) where
   stood : StandFor (config_of setup) kept1 events
   stood = first.stand (config_of setup) events sold.stand
 
   idle : AreAllIdle kept1
   idle = still sold.idle
 
+  sure : AreAllSure kept1
+  sure = surely sold.sure
+
   apart : AreApart kept1.pools
   apart = subst AreApart (sym first.pools) sold.share.apart
 
   -- pools that stand for one event more
-  sold_after : (event : PoolEvent) (kept : KeptPools MemoryPort) → kept.pools ≡ kept0.pools → StandFor (config_of setup) kept (events ++ event ∷ []) → AreAllIdle kept →
+  sold_after : (event : PoolEvent) (kept : KeptPools MemoryPort) → kept.pools ≡ kept0.pools → StandFor (config_of setup) kept (events ++ event ∷ []) → AreAllIdle kept → AreAllSure kept →
       AreSold setup kept (events ++ event ∷ [])
-  sold_after event kept same stand none = record {
+  sold_after event kept same stand none all_sure = record {
     some = subst (λ (l : List Pool). 1 ≤ length l) (sym same) sold.some;
     share = subst (λ (l : List Pool). Share setup.capacity l) (sym same) sold.share;
     capacities = subst (λ (l : List Pool). All (λ pool. IsCapacity pool.capacity) l) (sym same) sold.capacities;
     stand = stand;
     idle = none;
+    sure = all_sure;
   }
 
   pub stranger_came : (t from : ℕ) (octets : List ℕ) (kept2 : KeptPools MemoryPort) (texts texts' : List (List ℕ)) →
@@ -99,7 +120,7 @@ module _ (setup : GrandmasterSetup) (line : ℕ) (events : List PoolEvent) (kept
   stranger_came t from octets kept2 texts texts' none same stand says =
       let pools : kept2.pools ≡ kept0.pools = ap (λ (k : KeptPools MemoryPort). k.pools) same ∙ first.pools in record {
         pools = pools;
-        sold = sold_after (Came t from octets) kept2 pools stand (subst AreAllIdle (sym same) idle);
+        sold = sold_after (Came t from octets) kept2 pools stand (subst AreAllIdle (sym same) idle) (subst AreAllSure (sym same) sure);
         says = says ∙ ap (λ o. texts ++ map line_text (lines_by setup kept0.pools events line (Came t from octets) o))
             (sym (subst (λ (l : List Pool). position (is_in from) l ≡ None) first.pools (nowhere kept1.pools from (position (is_in from) kept1.pools) none refl)));
       }
@@ -110,7 +131,8 @@ module _ (setup : GrandmasterSetup) (line : ℕ) (events : List PoolEvent) (kept
       (stand : StandFor (config_of setup) kept2 (events ++ event ∷ []))
       (last : GoOn kept2 kept3) (others : AreOthersSame place kept2 kept3)
       (says : (gm : KeptGm MemoryPort) → slice_get kept2.gms place ≡ Some gm → texts' ≡ texts ++ sent_texts line (place + 1) (in_ports gm))
-      (emptied : (gm : KeptGm MemoryPort) → slice_get kept3.gms place ≡ Some gm → AreIdle gm) where
+      (emptied : (gm : KeptGm MemoryPort) → slice_get kept3.gms place ≡ Some gm → AreIdle gm)
+      (one_sure : AreSure one.after) (kept_sure : AreAllSure kept2 → AreAllSure kept3) where
     pools_are : kept3.pools ≡ kept0.pools
     pools_are = last.pools ∙ (ap (λ (k : KeptPools MemoryPort). k.pools) one.now ∙ first.pools)
 
@@ -129,6 +151,17 @@ module _ (setup : GrandmasterSetup) (line : ℕ) (events : List PoolEvent) (kept
     after_is : slice_get kept2.gms place ≡ Some one.after
     after_is = ap (λ (l : List (KeptGm MemoryPort)). slice_get l place) gms_are ∙ get-set_same kept1.gms place one.before one.after one.was
 
+    all_sure : AreAllSure kept2
+    all_sure i gm now = by (cases_eq i place)
+      where
+        by : (i ≡ place) ⊎ (i ≡ place → ⊥) → AreSure gm
+        by (inl same) =
+            let both : Some one.after ≡ Some gm = sym after_is ∙ subst (λ j. slice_get kept2.gms j ≡ Some gm) same now in
+            let is : one.after ≡ gm = cc in
+            subst AreSure is one_sure
+        by (inr other) =
+            sure i gm (sym (get-set_other kept1.gms place i one.after other) ∙ (sym (ap (λ (l : List (KeptGm MemoryPort)). slice_get l i) gms_are) ∙ now))
+
     -- the same in terms of the pools as they were
     written : texts' ≡ texts ++ map line_text (lines_of_event setup kept1.pools events line event)
     written =
@@ -140,35 +173,46 @@ module _ (setup : GrandmasterSetup) (line : ℕ) (events : List PoolEvent) (kept
     pub one_happened : HasHappened setup line events event kept0 kept3 texts texts'
     one_happened = record {
       pools = pools_are;
-      sold = sold_after event kept3 pools_are (last.stand (config_of setup) (events ++ event ∷ []) stand) all_idle;
+      sold = sold_after event kept3 pools_are (last.stand (config_of setup) (events ++ event ∷ []) stand) all_idle (kept_sure all_sure);
       says = written ∙ ap (λ (l : List Pool). texts ++ map line_text (lines_of_event setup l events line event)) first.pools;
     }
 
   pub came_happened : (ports : Ports MemoryPort) (tells : (p : MemoryPort) → ports.sent p ≡ Some p.sent)
-      (t from place : ℕ) (octets : List ℕ) (taken : Taken) (kept2 kept3 : KeptPools MemoryPort) (texts texts' : List (List ℕ)) → IsSent taken →
+      (to : (p : MemoryPort) (ds : List Departure) → IsSure p ds → ports.is_sure p ds) (from_sure : (p : MemoryPort) → ports.is_sure p [] → IsSure p [])
+      (t from place : ℕ) (octets : List ℕ) (taken : Taken) (kept2 kept3 : KeptPools MemoryPort) (texts texts' : List (List ℕ)) →
+      ((place : ℕ) (gm : KeptGm MemoryPort) → position (is_in from) kept0.pools ≡ Some place → slice_get kept1.gms place ≡ Some gm → HasReplyRoom gm) →
       is_in_at kept1.pools place from ≡ true → ChangesOne place (TookDatagram ports t from octets taken) kept1 kept2 →
       StandFor (config_of setup) kept2 (events ++ Came t from octets ∷ []) →
       GoOn kept2 kept3 → AreOthersSame place kept2 kept3 →
       ((gm : KeptGm MemoryPort) → slice_get kept2.gms place ≡ Some gm → texts' ≡ texts ++ sent_texts line (place + 1) (in_ports gm)) →
       ((gm : KeptGm MemoryPort) → slice_get kept3.gms place ≡ Some gm → AreIdle gm) →
+      (AreAllSure kept2 → AreAllSure kept3) →
       HasHappened setup line events (Came t from octets) kept0 kept3 texts texts'
-  came_happened ports tells t from place octets taken kept2 kept3 texts texts' sent inside one stand last others says emptied =
+  came_happened ports tells to from_sure t from place octets taken kept2 kept3 texts texts' room inside one stand last others says emptied kept_sure =
       let was = stood.each place one.before one.was in
+      let at = here kept1.pools from place (position (is_in from) kept1.pools) apart inside refl in
+      let both = took_surely ports tells to from_sure t from octets taken one.before one.after (sure place one.before one.was)
+      (room place one.before (subst (λ (l : List Pool). position (is_in from) l ≡ Some place) first.pools at) one.was) one.changed in
       one_happened place (Came t from octets) (TookDatagram ports t from octets taken) kept2 kept3 texts texts' one
-      (here kept1.pools from place (position (is_in from) kept1.pools) apart inside refl)
-      (took_sends ports tells (grandmaster_of setup kept1.pools events place) t from octets taken one.before one.after (sym was.0) was.1 (idle place one.before one.was) sent one.changed)
-      stand last others says emptied
+      at
+      (took_sends ports tells to from_sure (grandmaster_of setup kept1.pools events place) t from octets taken one.before one.after (sym was.0) was.1 (idle place one.before one.was) both.0 one.changed)
+      stand last others says emptied both.1 kept_sure
 
   pub turn_happened : (ports : Ports MemoryPort) (tells : (p : MemoryPort) → ports.sent p ≡ Some p.sent)
-      (t place table : ℕ) (turned : TableTurned) (kept2 kept3 : KeptPools MemoryPort) (texts texts' : List (List ℕ)) → turned.failed ≡ 0 →
+      (to : (p : MemoryPort) (ds : List Departure) → IsSure p ds → ports.is_sure p ds) (from_sure : (p : MemoryPort) → ports.is_sure p [] → IsSure p [])
+      (t place table : ℕ) (turned : TableTurned) (kept2 kept3 : KeptPools MemoryPort) (texts texts' : List (List ℕ)) →
+      ((gm : KeptGm MemoryPort) → slice_get kept1.gms place ≡ Some gm →
+      HasRoom (length (table_at table gm).rows) (length (table_at table gm).rows * 64) (table_at table gm).port) →
       ChangesOne place (TookTurn ports t table turned) kept1 kept2 →
       StandFor (config_of setup) kept2 (events ++ Turned t place table ∷ []) →
       GoOn kept2 kept3 → AreOthersSame place kept2 kept3 →
       ((gm : KeptGm MemoryPort) → slice_get kept2.gms place ≡ Some gm → texts' ≡ texts ++ sent_texts line (place + 1) (in_ports gm)) →
       ((gm : KeptGm MemoryPort) → slice_get kept3.gms place ≡ Some gm → AreIdle gm) →
+      (AreAllSure kept2 → AreAllSure kept3) →
       HasHappened setup line events (Turned t place table) kept0 kept3 texts texts'
-  turn_happened ports tells t place table turned kept2 kept3 texts texts' none one stand last others says emptied =
+  turn_happened ports tells to from_sure t place table turned kept2 kept3 texts texts' room one stand last others says emptied kept_sure =
       let was = stood.each place one.before one.was in
+      let both = turn_surely ports tells to from_sure t table turned one.before one.after (sure place one.before one.was) (room one.before one.was) one.changed in
       one_happened place (Turned t place table) (TookTurn ports t table turned) kept2 kept3 texts texts' one refl
-      (turn_sends ports tells (grandmaster_of setup kept1.pools events place) t table turned one.before one.after (sym was.0) was.1 (idle place one.before one.was) none one.changed)
-      stand last others says emptied
+      (turn_sends ports tells to from_sure (grandmaster_of setup kept1.pools events place) t table turned one.before one.after (sym was.0) was.1 (idle place one.before one.was) both.0 one.changed)
+      stand last others says emptied both.1 kept_sure

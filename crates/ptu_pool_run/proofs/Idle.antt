@@ -9,7 +9,7 @@ use Rattle.ptu_script.specs.declared.command.GrandmasterSetup.{GrandmasterSetup}
 use Rattle.ptu_pools.specs.declared.pool.Pool.{Pool}
 use Rattle.ptu_pools.specs.Refusal.{Share}
 use Rattle.ptu_pools.specs.Standing.{KeptPools, StandFor, ports_of_all}
-use Rattle.ptu_nodes.specs.Standing.{AreIdle, IsIdle}
+use Rattle.ptu_nodes.specs.Standing.{AreIdle, AreSure, IsIdle, IsUnfailing}
 use Rattle.ptu_pool_run.specs.Sending.{config_of}
 use Rattle.ptu_pool_run.specs.Standing.{AreSold}
 
@@ -18,14 +18,20 @@ idle_by [] all i gm is = absurd cc
 idle_by (g ∷ gms) (e0, (e1, (e2, (e3, (e4, rest))))) zero gm is = let same : g ≡ gm = cc in subst AreIdle same (e0, e1, e2, e3, e4)
 idle_by (g ∷ gms) (e0, (e1, (e2, (e3, (e4, rest))))) (suc i) gm is = idle_by gms rest i gm is
 
+sure_by : (gms : List (KeptGm MemoryPort)) → AllByRecursion IsUnfailing (ports_of_all gms) → (i : ℕ) (gm : KeptGm MemoryPort) → slice_get gms i ≡ Some gm → AreSure gm
+sure_by [] all i gm is = absurd cc
+sure_by (g ∷ gms) (e0, (e1, (e2, (e3, (e4, rest))))) zero gm is = let same : g ≡ gm = cc in subst AreSure same (e0, e1, e2, e3, e4)
+sure_by (g ∷ gms) (e0, (e1, (e2, (e3, (e4, rest))))) (suc i) gm is = sure_by gms rest i gm is
+
 pub sold_fresh : (setup : GrandmasterSetup) (before : List Pool) (pool : Pool) (kept : KeptPools MemoryPort) (ports : List MemoryPort) →
     Share setup.capacity (before ++ pool ∷ []) → All (λ (other : Pool). IsCapacity other.capacity) before → IsCapacity pool.capacity →
-    kept.pools ≡ before ++ pool ∷ [] → ports_of_all kept.gms ≡ ports → All (λ (port : MemoryPort). port.sent ≡ []) ports → StandFor (config_of setup) kept [] →
+    kept.pools ≡ before ++ pool ∷ [] → ports_of_all kept.gms ≡ ports → All (λ (port : MemoryPort). port.sent ≡ []) ports → All (λ (port : MemoryPort). port.failing_sends ≡ []) ports → StandFor (config_of setup) kept [] →
     AreSold setup kept []
-sold_fresh setup before pool kept ports share capacities capacity pools_are ports_are idle stand = record {
+sold_fresh setup before pool kept ports share capacities capacity pools_are ports_are idle sure stand = record {
   some = subst (λ (l : List Pool). 1 ≤ length l) (sym pools_are) (omega (arith, length-append before (pool ∷ [])));
   share = subst (Share setup.capacity) (sym pools_are) share;
   capacities = subst (All (λ (other : Pool). IsCapacity other.capacity)) (sym pools_are) (All-push (λ (other : Pool). IsCapacity other.capacity) before pool capacities capacity);
   stand = stand;
   idle = idle_by kept.gms (recursion_from_All IsIdle (ports_of_all kept.gms) (subst (All (λ (port : MemoryPort). port.sent ≡ [])) (sym ports_are) idle));
+  sure = sure_by kept.gms (recursion_from_All IsUnfailing (ports_of_all kept.gms) (subst (All (λ (port : MemoryPort). port.failing_sends ≡ [])) (sym ports_are) sure));
 }

@@ -1,13 +1,19 @@
 -- The ports of one pool, lent and given back.
-use Rattle.std.proofs.Common.{◌≡◌, ◌≢◌, ◌∙◌, ◌⊎◌, inl, inr, ℕ, zero, suc, ◌+◌, ◌<◌, ◌≤◌, ◌==◌, Bool, true, false, cond, length, List, [], ◌∷◌, slice_get, option_map, Option, Some, None, refl, sym, ap, subst, arith}
+use Rattle.std.proofs.Common.{◌≡◌, ◌≢◌, ◌∙◌, ◌⊎◌, inl, inr, ℕ, zero, suc, ◌+◌, ◌*◌, ◌<◌, ◌≤◌, ◌==◌, Bool, true, false, cond, length, List, [], ◌∷◌, slice_get, option_map, Option, Some, None, Result, Ok, Err, refl, sym, ap, subst, arith}
+use Rattle.std.specs.Result.{OnOk}
 use Rattle.std.proofs.lemmas.Bool.{cases_eq, ne_eqb}
 use Rattle.ptu_outside.specs.MemoryPort.{MemoryPort}
 use Rattle.ptu_shard.specs.Table.{Kept}
 use Rattle.ptu_grandmaster.specs.Gm.{KeptGm, port_at, table_at, with_port}
 use Rattle.ptu_pools.specs.Ported.{with_port_at, with_port_of}
 use Rattle.ptu_pools.specs.Standing.{KeptPools}
-use Rattle.ptu_nodes.specs.Standing.{AreIdle}
-use Rattle.ptu_pool_run.specs.Ports.{AreAllIdle}
+use Rattle.ptu_nodes.specs.GrandmasterPorts.{HasReplyRoom, HasRoom}
+use Rattle.ptu_nodes.specs.Standing.{AreIdle, AreSure}
+use Rattle.ptu_pool_run.specs.Ports.{AreAllIdle, AreAllSure}
+
+pub on_ok_two : {T E P Q R : Type 0} (r : Result T E) → (P → Q → R) → OnOk r P → OnOk r Q → OnOk r R
+on_ok_two (Ok x) f p q = f p q
+on_ok_two (Err e) f p q = tt
 
 -- ---- one grandmaster of all
 
@@ -80,6 +86,40 @@ still_idle kept place index before port at same idle i after now = by (cases_eq 
     by (inl same) = here (subst (λ j. slice_get (with_port_at place index port kept.gms) j ≡ Some after) same now)
     by (inr other) = idle i after (sym (others_ported kept.gms place index port i other) ∙ now)
 
+-- ---- ports of which no send is to fail
+
+sure_with : (four first one two : Bool) (port : MemoryPort) (gm : KeptGm MemoryPort) → AreSure gm → port.failing_sends ≡ [] → AreSure (with_by four first one two port gm)
+sure_with true first one two port gm (e0, e1, e2, e3, e4) none = (e0, e1, e2, e3, none)
+sure_with false true one two port gm (e0, e1, e2, e3, e4) none = (none, e1, e2, e3, e4)
+sure_with false false true two port gm (e0, e1, e2, e3, e4) none = (e0, none, e2, e3, e4)
+sure_with false false false true port gm (e0, e1, e2, e3, e4) none = (e0, e1, none, e3, e4)
+sure_with false false false false port gm (e0, e1, e2, e3, e4) none = (e0, e1, e2, none, e4)
+
+sure_at : (four first one two : Bool) (gm : KeptGm MemoryPort) → AreSure gm → (cond four gm.reply (table_by first one two gm).port).failing_sends ≡ []
+sure_at true first one two gm (e0, e1, e2, e3, e4) = e4
+sure_at false true one two gm (e0, e1, e2, e3, e4) = e0
+sure_at false false true two gm (e0, e1, e2, e3, e4) = e1
+sure_at false false false true gm (e0, e1, e2, e3, e4) = e2
+sure_at false false false false gm (e0, e1, e2, e3, e4) = e3
+
+-- where no send of any port was to fail, and of one that was lent the same are to fail, none is
+pub still_sure : (kept : KeptPools MemoryPort) (place index : ℕ) (before port : MemoryPort) →
+    ((gm : KeptGm MemoryPort) → slice_get kept.gms place ≡ Some gm → port_at index gm ≡ before) → port.failing_sends ≡ before.failing_sends →
+    AreAllSure kept → AreAllSure (with_port_of place index port kept)
+still_sure kept place index before port at same sure i after now = by (cases_eq i place)
+  where
+    here : slice_get (with_port_at place index port kept.gms) place ≡ Some after → AreSure after
+    here there =
+        let lent = there_ported kept.gms place index port after there in
+        let was : AreSure lent.before = sure place lent.before lent.was in
+        let none : port.failing_sends ≡ [] =
+        same ∙ ap (λ (p : MemoryPort). p.failing_sends) (sym (at lent.before lent.was)) ∙ sure_at (index == 4) (index == 0) (index == 1) (index == 2) lent.before was in
+        subst AreSure (sym lent.now) (sure_with (index == 4) (index == 0) (index == 1) (index == 2) port lent.before was none)
+
+    by : (i ≡ place) ⊎ (i ≡ place → ⊥) → AreSure after
+    by (inl same) = here (subst (λ j. slice_get (with_port_at place index port kept.gms) j ≡ Some after) same now)
+    by (inr other) = sure i after (sym (others_ported kept.gms place index port i other) ∙ now)
+
 -- the port that was lent is that of the grandmaster at the place
 pub lent_is : (gms : List (KeptGm MemoryPort)) (place index : ℕ) (gm : KeptGm MemoryPort) (port : MemoryPort) → slice_get gms place ≡ Some gm →
     option_map (port_at index) (slice_get gms place) ≡ Some port → port_at index gm ≡ port
@@ -128,8 +168,8 @@ port_left gms place index port gm now =
 pub room_for_turn : (kept : KeptPools MemoryPort) (place table count : ℕ) (port : MemoryPort) (gm : KeptGm MemoryPort) → table < 4 →
     option_map (λ (g : KeptGm MemoryPort). length (table_at table g).rows) (slice_get kept.gms place) ≡ Some count →
     slice_get (with_port_at place table port kept.gms) place ≡ Some gm →
-    length (port_at table gm).sent + count ≤ (port_at table gm).datagrams →
-    length (table_at table gm).port.sent + length (table_at table gm).rows ≤ (table_at table gm).port.datagrams
+    HasRoom count (count * 64) (port_at table gm) →
+    HasRoom (length (table_at table gm).rows) (length (table_at table gm).rows * 64) (table_at table gm).port
 room_for_turn kept place table count port gm lt counted now room =
     let lent = there_ported kept.gms place table port gm now in
     let rows : (table_at table gm).rows ≡ (table_at table lent.before).rows =
@@ -138,5 +178,33 @@ room_for_turn kept place table count port gm lt counted now room =
     ap (option_map (λ (g : KeptGm MemoryPort). length (table_at table g).rows)) (sym lent.was) ∙ counted in
     let same : length (table_at table lent.before).rows ≡ count = cc in
     let at : port_at table gm ≡ (table_at table gm).port = ap (λ b. cond b gm.reply (table_at table gm).port) (ne_eqb table 4 (λ e. omega (arith, e, lt))) in
-    subst (λ (p : MemoryPort). length p.sent + length (table_at table gm).rows ≤ p.datagrams) at
-    (subst (λ n. length (port_at table gm).sent + n ≤ (port_at table gm).datagrams) (sym (ap length rows ∙ same)) room)
+    subst (λ (p : MemoryPort). HasRoom (length (table_at table gm).rows) (length (table_at table gm).rows * 64) p) at
+    (subst (λ n. HasRoom n (n * 64) (port_at table gm)) (sym (ap length rows ∙ same)) room)
+
+-- room that was made in one port after the other is there in all of them
+pub room_for_replies : (place : ℕ) (l0 l1 l2 l3 l4 l5 : List (KeptGm MemoryPort)) (p0 p1 p2 p3 p4 : MemoryPort) →
+    l1 ≡ with_port_at place 0 p0 l0 → l2 ≡ with_port_at place 1 p1 l1 → l3 ≡ with_port_at place 2 p2 l2 → l4 ≡ with_port_at place 3 p3 l3 → l5 ≡ with_port_at place 4 p4 l4 →
+    ((gm : KeptGm MemoryPort) → slice_get l1 place ≡ Some gm → HasRoom 1 54 gm.s0.port) → ((gm : KeptGm MemoryPort) → slice_get l2 place ≡ Some gm → HasRoom 1 54 gm.s1.port) →
+    ((gm : KeptGm MemoryPort) → slice_get l3 place ≡ Some gm → HasRoom 1 54 gm.s2.port) → ((gm : KeptGm MemoryPort) → slice_get l4 place ≡ Some gm → HasRoom 1 54 gm.s3.port) →
+    ((gm : KeptGm MemoryPort) → slice_get l5 place ≡ Some gm → HasRoom 1 428 gm.reply) →
+    (gm : KeptGm MemoryPort) → slice_get l5 place ≡ Some gm → HasReplyRoom gm
+room_for_replies place l0 l1 l2 l3 l4 l5 p0 p1 p2 p3 p4 e1 e2 e3 e4 e5 r0 r1 r2 r3 r4 gm now =
+    let at5 = there_ported l4 place 4 p4 gm (ap (λ l. slice_get l place) (sym e5) ∙ now) in
+    let at4 = there_ported l3 place 3 p3 at5.before (ap (λ l. slice_get l place) (sym e4) ∙ at5.was) in
+    let at3 = there_ported l2 place 2 p2 at4.before (ap (λ l. slice_get l place) (sym e3) ∙ at4.was) in
+    let at2 = there_ported l1 place 1 p1 at3.before (ap (λ l. slice_get l place) (sym e2) ∙ at3.was) in
+    let s0 : gm.s0.port ≡ at2.before.s0.port =
+    ap (λ (g : KeptGm MemoryPort). g.s0.port) at5.now ∙ ap (λ (g : KeptGm MemoryPort). g.s0.port) at4.now ∙ ap (λ (g : KeptGm MemoryPort). g.s0.port) at3.now ∙ ap (λ (g : KeptGm MemoryPort). g.s0.port) at2.now in
+    let s1 : gm.s1.port ≡ at3.before.s1.port =
+    ap (λ (g : KeptGm MemoryPort). g.s1.port) at5.now ∙ ap (λ (g : KeptGm MemoryPort). g.s1.port) at4.now ∙ ap (λ (g : KeptGm MemoryPort). g.s1.port) at3.now in
+    let s2 : gm.s2.port ≡ at4.before.s2.port = ap (λ (g : KeptGm MemoryPort). g.s2.port) at5.now ∙ ap (λ (g : KeptGm MemoryPort). g.s2.port) at4.now in
+    let s3 : gm.s3.port ≡ at5.before.s3.port = ap (λ (g : KeptGm MemoryPort). g.s3.port) at5.now in
+    record {
+      tables = (
+        subst (HasRoom 1 54) (sym s0) (r0 at2.before at2.was),
+        subst (HasRoom 1 54) (sym s1) (r1 at3.before at3.was),
+        subst (HasRoom 1 54) (sym s2) (r2 at4.before at4.was),
+        subst (HasRoom 1 54) (sym s3) (r3 at5.before at5.was),
+      );
+      reply = r4 gm now;
+    }

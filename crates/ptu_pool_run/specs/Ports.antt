@@ -7,12 +7,16 @@ use Rattle.ptu_grandmaster.specs.Gm.{KeptGm}
 use Rattle.ptu_pools.specs.Events.{PoolEvent}
 use Rattle.ptu_pools.specs.Standing.{KeptPools, StandFor}
 use Rattle.ptu_pool_run.specs.Output.{line_text}
-use Rattle.ptu_nodes.specs.Standing.{AreIdle}
+use Rattle.ptu_nodes.specs.Standing.{AreIdle, AreSure}
 use Rattle.ptu_pool_run.specs.Sending.{sent_line}
 
 -- nothing that was sent stands in a port of any grandmaster
 abbrev pub AreAllIdle : KeptPools MemoryPort → Type 0
 AreAllIdle kept = (i : ℕ) (gm : KeptGm MemoryPort) → slice_get kept.gms i ≡ Some gm → AreIdle gm
+
+-- nor is any send of them to fail
+abbrev pub AreAllSure : KeptPools MemoryPort → Type 0
+AreAllSure kept = (i : ℕ) (gm : KeptGm MemoryPort) → slice_get kept.gms i ≡ Some gm → AreSure gm
 
 -- they are the same pools, and stand for all that they stood for
 pub record GoOn (old new : KeptPools MemoryPort) : Type 0 where

@@ -12,7 +12,7 @@ use Rattle.ptu_pool_run.specs.declared.pouring.Pouring.{Pouring}
 use Rattle.ptu_pool_run.specs.Reading.{At, Told, events_of}
 use Rattle.ptu_pool_run.specs.Output.{line_text}
 use Rattle.ptu_pool_run.specs.Sending.{config_of, lines_of_event}
-use Rattle.ptu_pool_run.specs.Ports.{AreAllIdle}
+use Rattle.ptu_pool_run.specs.Ports.{AreAllIdle, AreAllSure}
 
 -- there was an event
 abbrev pub has_events : List At → Bool
@@ -31,6 +31,7 @@ pub record AreSold (setup : GrandmasterSetup) (kept : KeptPools MemoryPort) (eve
   pub capacities : All (λ pool. IsCapacity pool.capacity) kept.pools
   pub stand : StandFor (config_of setup) kept events
   pub idle : AreAllIdle kept
+  pub sure : AreAllSure kept
 
 -- at this line the event has happened to pools that were sold, after these events: the texts are those of what is written of it
 pub record HasHappened (setup : GrandmasterSetup) (line : ℕ) (before : List PoolEvent) (event : PoolEvent) (old new : KeptPools MemoryPort)

@@ -1,35 +1,31 @@
 //! What happens to pools at a line of a script, and what is told of it.
 
-ghost use Rattle.std.specs.Prelude.{◌<◌, List, OnOk, IsTrue, length};
-ghost use Rattle.ptu_nodes.specs.GrandmasterStatements.{IsSent};
+ghost use Rattle.std.specs.Prelude.{◌≡◌, ◌<◌, ℕ, List, OnOk, Some, length, slice_get};
+ghost use Rattle.std.specs.List.{position};
+ghost use Rattle.ptu_outside.specs.MemoryPort.{MemoryPort};
+ghost use Rattle.ptu_grandmaster.specs.Gm.{KeptGm};
+ghost use Rattle.ptu_nodes.specs.GrandmasterPorts.{HasReplyRoom};
 ghost use Rattle.ptu_pools.specs.Events.{Came, PoolEvent, Turned as TurnedEvent};
-ghost use Rattle.ptu_pool_run.specs.Ports.{AreAllIdle, GoOn};
+ghost use Rattle.ptu_pools.specs.Pool.{is_in};
+ghost use Rattle.ptu_pool_run.specs.Ports.{AreAllIdle, AreAllSure, GoOn};
 ghost use Rattle.ptu_pool_run.specs.Standing.{AreSold, HasHappened};
 ghost use Rattle.ptu_script.specs.declared.command.GrandmasterSetup.{GrandmasterSetup};
 
 use crate::output::PoolLine;
 use crate::room::{reserve_replies, reserve_turn, tell_ports};
-use ptu_grandmaster::{Reply, Taken};
 use ptu_outside::MemPort;
 use ptu_pools::{PoolTaken, Pools};
 use ptu_report::Texts;
-use ptu_shard::Answered;
 use ptu_units::{Moment, OutOfMemory};
-
-// No send of the answer has failed.
-fn is_sent(taken: &Taken) -> bool
-    ensures { IsTrue result → IsSent taken.now }
-{
-    !matches!(
-        taken,
-        Taken::Delay(Answered::Failed { .. }) | Taken::Asked(_, Reply::Failed)
-    )
-}
 
 // Makes room for what the pool that the address is in may answer, if it is in any.
 fn reserve_for(pools: &mut Pools<MemPort>, from: u32) -> Result<(), OutOfMemory>
+    ensures room { OnOk result ((place : ℕ) (gm : KeptGm MemoryPort) →
+        position (is_in from) pools.old.pools ≡ Some place →
+        slice_get pools.new.gms place ≡ Some gm → HasReplyRoom gm) }
     ensures go_on { GoOn pools.old pools.new }
     ensures idle { AreAllIdle pools.old → AreAllIdle pools.new }
+    ensures sure { AreAllSure pools.old → AreAllSure pools.new }
 {
     match pools.pools().iter().position(|pool| pool.contains(from)) {
         None => Ok(()),
@@ -42,7 +38,7 @@ fn reserve_for(pools: &mut Pools<MemPort>, from: u32) -> Result<(), OutOfMemory>
 /// stranger.
 ///
 /// # Errors
-/// `OutOfMemory`, also where room for what is sent was not found.
+/// `OutOfMemory`.
 pub fn receive(
     pools: &mut Pools<MemPort>,
     at: Moment,
@@ -59,8 +55,7 @@ pub fn receive(
     reserve_for(pools, from)?;
     match pools.take(at, from, octets)? {
         PoolTaken::Stranger => texts.add(&PoolLine::Stranger { line }),
-        PoolTaken::In(place, taken) if is_sent(&taken) => { tell_ports(pools, place, line, texts) }
-        PoolTaken::In(..) => Err(OutOfMemory),
+        PoolTaken::In(place, _) => tell_ports(pools, place, line, texts),
     }
 }
 
@@ -68,7 +63,7 @@ pub fn receive(
 /// those of the script's line of this number.
 ///
 /// # Errors
-/// `OutOfMemory`, also where room for what is sent was not found.
+/// `OutOfMemory`.
 pub fn turn(
     pools: &mut Pools<MemPort>,
     at: Moment,
@@ -85,9 +80,6 @@ pub fn turn(
         texts.old texts.new) }
 {
     reserve_turn(pools, place, table)?;
-    let turned = pools.turn(place, table, at);
-    if turned.failed > 0 {
-        return Err(OutOfMemory);
-    }
+    pools.turn(place, table, at);
     tell_ports(pools, place, line, texts)
 }

@@ -48,7 +48,7 @@ impl Pouring {
     /// answers why it is refused.
     ///
     /// # Errors
-    /// `OutOfMemory`, also where room for what is sent was not found.
+    /// `OutOfMemory`.
     pub fn step(
         &mut self,
         alloc: Global,

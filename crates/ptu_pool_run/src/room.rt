@@ -1,12 +1,12 @@
 //! The ports of pools: room is made in them before an event, and what was sent is told after it.
 
-ghost use Rattle.std.specs.Prelude.{◌≡◌, ◌<◌, ◌≤◌, ◌+◌, ◌++◌, [], Some, length, slice_get, OnOk};
+ghost use Rattle.std.specs.Prelude.{◌≡◌, ◌<◌, ◌*◌, ◌+◌, ◌++◌, [], Some, length, slice_get, OnOk};
 ghost use Rattle.ptu_outside.specs.MemoryPort.{MemoryPort};
 ghost use Rattle.ptu_grandmaster.specs.Gm.{KeptGm, port_at, table_at, with_port};
-ghost use Rattle.ptu_nodes.specs.GrandmasterPorts.{in_ports};
+ghost use Rattle.ptu_nodes.specs.GrandmasterPorts.{HasReplyRoom, HasRoom, in_ports};
 ghost use Rattle.ptu_nodes.specs.Standing.{AreIdle};
 ghost use Rattle.ptu_pools.specs.Ported.{with_port_of};
-ghost use Rattle.ptu_pool_run.specs.Ports.{AreAllIdle, AreOthersSame, GoOn, sent_texts};
+ghost use Rattle.ptu_pool_run.specs.Ports.{AreAllIdle, AreAllSure, AreOthersSame, GoOn, sent_texts};
 
 use crate::output::PoolLine;
 use ptu_lines::LentOctets;
@@ -17,7 +17,7 @@ use ptu_report::Texts;
 use ptu_units::OutOfMemory;
 
 // Makes room in the port of this index for this many datagrams more, and for this many octets in
-// each.
+// them.
 fn reserve(
     pools: &mut Pools<MemPort>,
     place: usize,
@@ -28,14 +28,14 @@ fn reserve(
     requires pool { place < length pools.old.pools }
     requires index { index < 5 }
     ensures room { OnOk result ((gm : KeptGm MemoryPort) → slice_get pools.new.gms place ≡ Some gm →
-        length (port_at index gm).sent + datagrams ≤ (port_at index gm).datagrams) }
+        HasRoom datagrams octets (port_at index gm)) }
     ensures rest { (port : MemoryPort)
         × (pools.new ≡ with_port_of place index port pools.old) }
     ensures go_on { GoOn pools.old pools.new }
     ensures idle { AreAllIdle pools.old → AreAllIdle pools.new }
+    ensures sure { AreAllSure pools.old → AreAllSure pools.new }
 {
-    let all = datagrams.saturating_mul(octets);
-    pools.ports(place, index).reserve(datagrams, all)
+    pools.ports(place, index).reserve(datagrams, octets)
 }
 
 /// Makes room for the one datagram that may answer another: a Delay_Resp in the port of each table
@@ -45,8 +45,11 @@ fn reserve(
 /// `OutOfMemory`.
 pub fn reserve_replies(pools: &mut Pools<MemPort>, place: usize) -> Result<(), OutOfMemory>
     requires { place < length pools.old.pools }
+    ensures room { OnOk result ((gm : KeptGm MemoryPort) → slice_get pools.new.gms place ≡ Some gm →
+        HasReplyRoom gm) }
     ensures go_on { GoOn pools.old pools.new }
     ensures idle { AreAllIdle pools.old → AreAllIdle pools.new }
+    ensures sure { AreAllSure pools.old → AreAllSure pools.new }
 {
     reserve(pools, place, 0, 1, DELAY_RESP)?;
     reserve(pools, place, 1, 1, DELAY_RESP)?;
@@ -67,13 +70,15 @@ pub fn reserve_turn(
     requires pool { place < length pools.old.pools }
     requires table { table < 4 }
     ensures room { OnOk result ((gm : KeptGm MemoryPort) → slice_get pools.new.gms place ≡ Some gm →
-        length (table_at table gm).port.sent + length (table_at table gm).rows
-        ≤ (table_at table gm).port.datagrams) }
+        HasRoom (length (table_at table gm).rows) (length (table_at table gm).rows * 64)
+        (table_at table gm).port) }
     ensures go_on { GoOn pools.old pools.new }
     ensures idle { AreAllIdle pools.old → AreAllIdle pools.new }
+    ensures sure { AreAllSure pools.old → AreAllSure pools.new }
 {
     let datagrams = pools.count(place, table);
-    reserve(pools, place, table, datagrams, ANNOUNCE)
+    let octets = datagrams.checked_mul(ANNOUNCE).ok_or(OutOfMemory)?;
+    reserve(pools, place, table, datagrams, octets)
 }
 
 // The number of the pool at this place, which is that of the pools up to it.
@@ -124,6 +129,7 @@ fn tell_port(
         slice_get pools.old.gms place ≡ Some gm →
         slice_get pools.new.gms place
         ≡ Some (with_port index (record (port_at index gm) { sent = [] }) gm)) }
+    ensures sure { OnOk result (AreAllSure pools.old → AreAllSure pools.new) }
 {
     let number = number_of(pools, place);
     tell(pools.ports(place, index), number, line, texts)
@@ -147,6 +153,7 @@ pub fn tell_ports(
         texts.new ≡ texts.old ++ sent_texts line (place + 1) (in_ports gm)) }
     ensures idle { OnOk result ((gm : KeptGm MemoryPort) → slice_get pools.new.gms place ≡ Some gm →
         AreIdle gm) }
+    ensures sure { OnOk result (AreAllSure pools.old → AreAllSure pools.new) }
 {
     tell_port(pools, place, 0, line, texts)?;
     tell_port(pools, place, 1, line, texts)?;

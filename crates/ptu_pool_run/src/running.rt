@@ -104,8 +104,8 @@ impl Reporter for Pourer {
 ///
 /// # Errors
 /// `Line` exactly where a line is refused, after the line of output that names it was written.
-/// `Read` exactly where the source failed, `Write` exactly where the sink failed, and
-/// `OutOfMemory`, also where room for what is sent was not found.
+/// `Read` exactly where the source failed, `Write` exactly where the sink failed, and else
+/// `OutOfMemory`.
 pub fn pools<S: Source, K: Sink>(
     alloc: Global,
     source: &mut S,

@@ -43,6 +43,7 @@ fn config_of(setup: &GrandmasterSetup) -> GmConfig
 fn idle_ports(alloc: Global, count: usize) -> Result<Vec<MemPort>, OutOfMemory>
     ensures count { IfOk result (λ ports. length ports.items ≡ count) }
     ensures idle { IfOk result (λ ports. All (λ port. port.sent ≡ []) ports.items) }
+    ensures sure { IfOk result (λ ports. All (λ port. port.failing_sends ≡ []) ports.items) }
 {
     let mut ports = Vec::new(alloc);
     for _ in 0..count {

@@ -1,12 +1,12 @@
-use Rattle.std.proofs.Common.{◌≡◌, arith, refl}
-use Rattle.ptu_pool_run.proofs.Happening.{on_ok_four, turn_happened}
+use Rattle.std.proofs.Common.{refl}
+use Rattle.ptu_pool_run.proofs.Happening.{on_ok_five, turn_happened}
 use Rattle.ptu_pool_run.proofs.events.turn.Goals as goal
 
 pub returns : goal.returns
 returns c =
-    let none : c.turn-turned.result.failed ≡ 0 = omega arith in
-    on_ok_four c.tell_ports.result (λ last others says idle setup events sold.
-    turn_happened setup c.args.line events c.args.pools.now c.reserve_turn.new.pools sold c.in_ok-reserve_turn.ensures.go_on c.in_ok-reserve_turn.ensures.idle
-    _ (λ port. refl) c.args.at c.args.place c.args.table c.turn-turned.result c.turn-turned.new.self c.tell_ports.new.pools c.args.texts.now c.tell_ports.new.texts none
-    c.turn-turned.ensures.turned (c.turn-turned.ensures.stands _ events (c.in_ok-reserve_turn.ensures.go_on.stand _ events sold.stand)) last others says idle)
-    c.tell_ports.ensures.go_on c.tell_ports.ensures.others c.tell_ports.ensures.says c.tell_ports.ensures.idle
+    on_ok_five c.tell_ports.result (λ last others says idle sure setup events sold.
+    turn_happened setup c.args.line events c.args.pools.now c.reserve_turn.new.pools sold c.in_ok-reserve_turn.ensures.go_on c.in_ok-reserve_turn.ensures.idle c.in_ok-reserve_turn.ensures.sure
+    _ (λ port. refl) (λ port ds s. s) (λ port s. s) c.args.at c.args.place c.args.table c.turn.result c.turn.new.self c.tell_ports.new.pools c.args.texts.now c.tell_ports.new.texts
+    c.in_ok-reserve_turn.ensures.room
+    c.turn.ensures.turned (c.turn.ensures.stands _ events (c.in_ok-reserve_turn.ensures.go_on.stand _ events sold.stand)) last others says idle sure)
+    c.tell_ports.ensures.go_on c.tell_ports.ensures.others c.tell_ports.ensures.says c.tell_ports.ensures.idle c.tell_ports.ensures.sure

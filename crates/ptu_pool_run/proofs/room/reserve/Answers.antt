@@ -1,8 +1,8 @@
 use Rattle.std.proofs.Common.{◌+◌, ◌≤◌, refl, sym, ap, length, List, subst}
-use Rattle.std.proofs.lemmas.Result.{on_ok_weaker}
 use Rattle.ptu_outside.specs.Departure.{Departure}
-use Rattle.ptu_outside.specs.MemoryPort.{MemoryPort}
-use Rattle.ptu_pool_run.proofs.Lent.{lent_is, port_left, still_idle}
+use Rattle.ptu_outside.specs.MemoryPort.{MemoryPort, octets_of}
+use Rattle.ptu_nodes.specs.GrandmasterPorts.{HasRoom}
+use Rattle.ptu_pool_run.proofs.Lent.{lent_is, on_ok_two, port_left, still_idle, still_sure}
 use Rattle.ptu_pool_run.proofs.room.reserve.Goals as goal
 
 pub returns-clause-go_on : goal.returns-clause-go_on
@@ -14,12 +14,18 @@ returns-clause-idle c =
     (λ gm at. lent_is c.args.pools.now.gms c.args.place c.args.index gm c.ports.result.now at c.ports.ensures.value)
     (ap (λ (p : MemoryPort). p.sent) c.reserve.ensures.same)
 
+pub returns-clause-sure : goal.returns-clause-sure
+returns-clause-sure c =
+    still_sure c.args.pools.now c.args.place c.args.index c.ports.result.now c.reserve.new.self
+    (λ gm at. lent_is c.args.pools.now.gms c.args.place c.args.index gm c.ports.result.now at c.ports.ensures.value)
+    (ap (λ (p : MemoryPort). p.failing_sends) c.reserve.ensures.same)
+
 pub returns-clause-rest : goal.returns-clause-rest
 returns-clause-rest c = (c.reserve.new.self, refl)
 
 pub returns-clause-room : goal.returns-clause-room
-returns-clause-room c = on_ok_weaker c.reserve.result (λ room gm now.
-    subst (λ (p : MemoryPort). length p.sent + c.args.datagrams ≤ p.datagrams)
-    (sym (port_left c.args.pools.now.gms c.args.place c.args.index c.reserve.new.self gm now))
-    (subst (λ (l : List Departure). length l + c.args.datagrams ≤ c.reserve.new.self.datagrams) (sym (ap (λ (p : MemoryPort). p.sent) c.reserve.ensures.same)) room))
-    c.reserve.ensures.datagrams
+returns-clause-room c = on_ok_two c.reserve.result (λ room wider gm now.
+    subst (HasRoom c.args.datagrams c.args.octets) (sym (port_left c.args.pools.now.gms c.args.place c.args.index c.reserve.new.self gm now))
+    (subst (λ (l : List Departure). (length l + c.args.datagrams ≤ c.reserve.new.self.datagrams) × (octets_of l + c.args.octets ≤ c.reserve.new.self.octets))
+    (sym (ap (λ (p : MemoryPort). p.sent) c.reserve.ensures.same)) (room, wider)))
+    c.reserve.ensures.datagrams c.reserve.ensures.octets

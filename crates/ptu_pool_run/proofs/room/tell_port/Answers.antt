@@ -3,7 +3,7 @@ use Rattle.std.proofs.lemmas.Result.{on_ok_weaker}
 use Rattle.ptu_outside.specs.MemoryPort.{MemoryPort}
 use Rattle.ptu_grandmaster.specs.Gm.{with_port}
 use Rattle.ptu_pool_run.specs.Ports.{sent_texts}
-use Rattle.ptu_pool_run.proofs.Lent.{here_ported, lent_is, lent_there, others_ported}
+use Rattle.ptu_pool_run.proofs.Lent.{here_ported, lent_is, lent_there, others_ported, still_sure}
 use Rattle.ptu_pool_run.proofs.room.tell_port.Goals as goal
 
 pub returns-clause-go_on : goal.returns-clause-go_on
@@ -26,3 +26,10 @@ returns-clause-cleared c = on_ok_weaker c.tell.result (λ cleared gm at.
 
 pub returns-clause-there : goal.returns-clause-there
 returns-clause-there c = lent_there c.args.index c.ports.result.now (slice_get c.args.pools.now.gms c.args.place) c.ports.ensures.value
+
+pub returns-clause-sure : goal.returns-clause-sure
+returns-clause-sure c = on_ok_weaker c.tell.result (λ cleared.
+    still_sure c.args.pools.now c.args.place c.args.index c.ports.result.now c.tell.new.port
+    (λ gm at. lent_is c.args.pools.now.gms c.args.place c.args.index gm c.ports.result.now at c.ports.ensures.value)
+    (ap (λ (p : MemoryPort). p.failing_sends) cleared))
+    c.tell.ensures.cleared

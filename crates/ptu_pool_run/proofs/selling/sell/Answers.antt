@@ -37,5 +37,5 @@ pub returns-in-Ok-clause-sold : goal.returns-in-Ok-clause-sold
 returns-in-Ok-clause-sold c =
     let all : c.deref.result.now ≡ c.args.before.now ++ c.args.pool ∷ [] = c.deref.ensures.value ∙ c.in_ok-all.ensures in
     sold_fresh c.args.setup.now c.args.before.now c.args.pool c.in-Ok.pools c.in_ok-ports.ports.items (subst (Share c.args.setup.now.capacity) all c.in-Ok.ensures.share)
-    c.requires.capacities c.requires.capacity (c.in-Ok.ensures.pools ∙ all) c.in-Ok.ensures.ports c.in_ok-ports.ensures.idle
+    c.requires.capacities c.requires.capacity (c.in-Ok.ensures.pools ∙ all) c.in-Ok.ensures.ports c.in_ok-ports.ensures.idle c.in_ok-ports.ensures.sure
     (subst (λ (config : GmConfig). StandFor config c.in-Ok.pools []) c.config_of.ensures.value c.in-Ok.ensures.stands)
