@@ -7,6 +7,16 @@ use Rattle.ptu_world.specs.Deeds.{Slave}
 use Rattle.ptu_lab.specs.NodeStanding.{IsNode, IsSlaveNode}
 use Rattle.ptu_lab.specs.SlaveWords.{HasRoom}
 
+-- where room was made in the port that it gets
+pub room_made : (before after port : MemoryPort) (count size : ℕ) → port ≡ after → after ≡ record before { datagrams = after.datagrams; octets = after.octets }
+    → length before.sent + count ≤ after.datagrams → octets_of before.sent + size ≤ after.octets → HasRoom port count size
+room_made before after port count size is same more wider =
+    let sent : after.sent ≡ before.sent = ap (λ (p : MemoryPort). p.sent) same in
+    subst (λ p. HasRoom p count size) (sym is) (record {
+      datagrams = subst (λ ds. length ds + count ≤ after.datagrams) (sym sent) more;
+      octets = subst (λ ds. octets_of ds + size ≤ after.octets) (sym sent) wider;
+    })
+
 -- of a port of which no send is to fail, this is also so with room
 pub sure_room : (old room : MemoryPort) (datagrams octets : ℕ) → room.failing_sends ≡ old.failing_sends → HasRoom room datagrams octets → IsSure old [] → IsSure room []
 sure_room old room datagrams octets listed has sure = record {
