@@ -17,7 +17,7 @@ returns g c = λ ip begun s h.
     let is_node = roomed ip (seen (λ i. (g.dyn-1.0.entry i).1.Judge) c.args.slave.now) (seen (λ i. (g.dyn-1.0.entry i).1.Judge) c.make_room.new.slave) begun s 16 6848 c.make_room.ensures.rest c.make_room.ensures.same c.make_room.ensures.listed c.in_ok-make_room.ensures.room h in
     let stated = sends.2 s.opened.openings s.taken is_node.stands in
     let sure = hands_surely _ _ _ _ _ _ sends.1 (sure_stop room.kept.config room.kept.masters room.port all_ones (setup_of room.kept.config s.opened.openings) s.taken c.stop.result.at sends.0 stated
-        (omega (arith, is_node.stands.each_opening, is_node.distinct.few)) is_node.sure c.in_ok-make_room.ensures.room) in
+    (omega (arith, is_node.stands.each_opening, is_node.distinct.few)) is_node.sure c.in_ok-make_room.ensures.room) in
     plain_stepped ip room.kept new.kept room.judges new.judges room.port room.port new.port begun s c.args.at c.stop.result.at Stop
     sends.0 is_node (λ m is. absurd (cc is)) tt c.stop.ensures.same
     (c.stop.ensures.stopped.steps s.opened.openings s.taken is_node.stands) c.stop.ensures.stopped.at refl
