@@ -105,6 +105,7 @@ module _ {J B : Type 0} {I : J → Type 0} (see : SlaveNode J I → Seen MemoryP
       ruled = h.1.ruled;
       fresh = λ e. absurd cc;
       idle = h.1.idle;
+      sure = h.1.sure;
     },
   )
 

@@ -1,6 +1,7 @@
 pub mod SlaveEvents
 pub mod SlaveMasters
 pub mod SlaveHearing
+pub mod SlaveSends
 pub mod LoadCounts
 pub mod LabNodes
 pub mod LabCommands

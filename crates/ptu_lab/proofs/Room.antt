@@ -1,14 +1,42 @@
 -- A slave whose port got room.
-use Rattle.std.proofs.Common.{◌≡◌, ◌∙◌, ℕ, Bool, ap, subst, sym}
-use Rattle.ptu_outside.specs.MemoryPort.{MemoryPort}
+use Rattle.std.proofs.Common.{◌≡◌, ◌∙◌, ℕ, ◌+◌, ◌≤◌, Bool, List, [], ◌∷◌, length, ap, arith, subst, sym}
+use Rattle.ptu_outside.specs.Departure.{Departure}
+use Rattle.ptu_outside.specs.MemoryPort.{IsSure, MemoryPort, octets_of}
 use Rattle.ptu_slave.specs.Seen.{Seen}
 use Rattle.ptu_world.specs.Deeds.{Slave}
 use Rattle.ptu_lab.specs.NodeStanding.{IsNode, IsSlaveNode}
+use Rattle.ptu_lab.specs.SlaveWords.{HasRoom}
+
+-- where room was made in the port that it gets
+pub room_made : (before after port : MemoryPort) (count size : ℕ) → port ≡ after → after ≡ record before { datagrams = after.datagrams; octets = after.octets }
+    → length before.sent + count ≤ after.datagrams → octets_of before.sent + size ≤ after.octets → HasRoom port count size
+room_made before after port count size is same more wider =
+    let sent : after.sent ≡ before.sent = ap (λ (p : MemoryPort). p.sent) same in
+    subst (λ p. HasRoom p count size) (sym is) (record {
+      datagrams = subst (λ ds. length ds + count ≤ after.datagrams) (sym sent) more;
+      octets = subst (λ ds. octets_of ds + size ≤ after.octets) (sym sent) wider;
+    })
+
+-- of a port of which no send is to fail, this is also so with room
+pub sure_room : (old room : MemoryPort) (datagrams octets : ℕ) → room.failing_sends ≡ old.failing_sends → HasRoom room datagrams octets → IsSure old [] → IsSure room []
+sure_room old room datagrams octets listed has sure = record {
+  unlisted = listed ∙ sure.unlisted;
+  datagrams = omega (arith, has.datagrams);
+  octets = omega (arith, has.octets);
+}
+
+-- and when it is cleared
+pub sure_cleared : (port : MemoryPort) → IsSure port [] → IsSure (record port { sent = [] }) []
+sure_cleared port sure = record {
+  unlisted = sure.unlisted;
+  datagrams = omega arith;
+  octets = omega arith;
+}
 
 -- it stands for the same slave of a world
-pub roomed : {B : Type 0} (ip : ℕ) (old room : Seen MemoryPort B) (begun : Bool) (s : Slave) → room ≡ record old { port = room.port } → room.port.sent ≡ old.port.sent
-    → IsNode ip old begun s → IsNode ip room begun s
-roomed ip old room begun s rest sent h =
+pub roomed : {B : Type 0} (ip : ℕ) (old room : Seen MemoryPort B) (begun : Bool) (s : Slave) (datagrams octets : ℕ) → room ≡ record old { port = room.port } → room.port.sent ≡ old.port.sent
+    → room.port.failing_sends ≡ old.port.failing_sends → HasRoom room.port datagrams octets → IsNode ip old begun s → IsNode ip room begun s
+roomed ip old room begun s datagrams octets rest sent listed has h =
     subst (λ (x : Seen MemoryPort _). IsNode ip x begun s) (sym rest) (record {
       address = h.address;
       config = h.config;
@@ -19,4 +47,5 @@ roomed ip old room begun s rest sent h =
       ruled = h.ruled;
       fresh = h.fresh;
       idle = sent ∙ h.idle;
+      sure = sure_room old.port room.port datagrams octets listed has h.sure;
     })

@@ -5,7 +5,7 @@ use Rattle.std.specs.List.{AllByRecursion, range_with_len}
 use Rattle.std.specs.Option.{option_map}
 use Rattle.std.specs.Prelude.{IfSome, IsSome, OnOk, Result, Ok, Err}
 use Rattle.ptu_outside.specs.Departure.{Departure}
-use Rattle.ptu_outside.specs.MemoryPort.{MemoryPort}
+use Rattle.ptu_outside.specs.MemoryPort.{IsSure, MemoryPort}
 use Rattle.ptu_record.specs.declared.rule.Rule.{Rule}
 use Rattle.ptu_record.specs.Lists.{places}
 use Rattle.ptu_record.specs.Record.{Record, event_moment}
@@ -35,6 +35,7 @@ use Rattle.ptu_nodes.proofs.Noting.{said_nothing, sent_nothing}
 use Rattle.ptu_lab.specs.NodeStanding.{IsSlaveNode, StandsAsSlave}
 use Rattle.ptu_nodes.specs.Standing.{IsIdle}
 use Rattle.ptu_lab.specs.SlaveWords.{HasStepped, selection_by}
+use Rattle.ptu_lab.proofs.Room.{sure_cleared}
 
 -- ---- what was sent
 
@@ -55,9 +56,9 @@ pub stepped : (ip : ℕ) (old new : Kept) (judges news : List Held) (before afte
     → IsSlaveNode ip old judges before begun s → ((m : ℕ) → e ≢ ReplaceJudge m None)
     → AllByRecursion (λ m. m < length old.masters) (judged_masters (length old.masters) e) → IsSame old new
     → Steps s.opened.openings old new news s.taken t e → deed.entries ≡ (slave_step (node_setup s.opened) s.taken t e).entries
-    → after.sent ≡ deed.datagrams → HasStepped ip new news after s deed
-stepped ip old new judges news before after begun s t e deed h ruled within same steps entries sends = record {
-  node = λ cleared idle. record {
+    → after.sent ≡ deed.datagrams → IsSure after [] → HasStepped ip new news after s deed
+stepped ip old new judges news before after begun s t e deed h ruled within same steps entries sends sure = record {
+  node = λ cleared idle ready. record {
     address = h.address;
     config = h.config ∙ sym same.config;
     masters = h.masters ∙ sym same.masters;
@@ -67,8 +68,10 @@ stepped ip old new judges news before after begun s t e deed h ruled within same
     ruled = still;
     fresh = λ (is : true ≡ false). absurd (false≢true (sym is));
     idle = idle;
+    sure = ready;
   };
   sends = sends;
+  sure = sure;
 }
   where
     openings : List (Option Rule)
@@ -91,23 +94,24 @@ pub plain_stepped : (ip : ℕ) (old new : Kept) (judges news : List Held) (befor
     → AllByRecursion (λ m. m < length old.masters) (judged_masters (length old.masters) e) → IsSame old new
     → Steps s.opened.openings old new news s.taken t e → at ≡ max t old.moment → room.sent ≡ before.sent
     → Some (room.sent ++ map (departure_of old.config old.masters all_ones) handed) ≡ Some after.sent
-    → handed ≡ sendings (setup_of old.config s.opened.openings) s.taken at e
+    → handed ≡ sendings (setup_of old.config s.opened.openings) s.taken at e → IsSure after []
     → HasStepped ip new news after s (deed s.opened s.taken t e)
-plain_stepped ip old new judges news before room after begun s t at e handed h ruled within same steps is kept told stated =
+plain_stepped ip old new judges news before room after begun s t at e handed h ruled within same steps is kept told stated sure =
     stepped ip old new judges news before after begun s t e (deed s.opened s.taken t e) h ruled within same steps refl
     (all_sent room after _ (kept ∙ h.idle) told
     ∙ ap (map (departure_of old.config old.masters all_ones)) stated
     ∙ ap (λ x. map (departure_of old.config old.masters all_ones) (sendings (setup_of old.config s.opened.openings) s.taken x e)) (is ∙ moment_is s.opened.openings old judges s.taken t h.stands)
     ∙ ap₂ (λ (config : SlaveConfig) (masters : List Master). map (departure_of config masters all_ones) (sendings (setup_of config s.opened.openings) s.taken (event_moment s.taken t) e)) (sym h.config) (sym h.masters))
+    sure
 
 -- ---- what is said
 
--- what is said of an event, and what it sent was handed over
+-- what is said of an event, and what it sent was handed over, which cleared the port
 pub event_done : (ip t : ℕ) (new : Kept) (news : List Held) (after last : MemoryPort) (s : Slave) (said : List Statement) (deed : Deed) (old middle noted : Noted)
-    → HasStepped ip new news after s deed → IsIdle last → middle ≡ with_said said old
+    → HasStepped ip new news after s deed → last ≡ record after { sent = [] } → middle ≡ with_said said old
     → ((openings : List (Option Rule)) (L : Record) → StandsFor openings new news L → noted ≡ with_said (selection_by ip new L t ∷ []) (with_handed ip after.sent middle))
     → HasDone (StandsAsSlave ip new news last true) ip (event_deed s t said deed) old noted
-event_done ip t new news after last s said deed old middle noted h idle before says = record {
+event_done ip t new news after last s said deed old middle noted h cleared before says = record {
   node = node;
   noted = says s.opened.openings (s.taken ++ deed.entries) node.stands
       ∙ ap (λ st. with_said (st ∷ []) (with_handed ip after.sent middle)) selection
@@ -116,7 +120,7 @@ event_done ip t new news after last s said deed old middle noted h idle before s
 }
   where
     node : IsSlaveNode ip new news last true (entered s deed)
-    node = h.node last idle
+    node = h.node last (ap (λ (p : MemoryPort). p.sent) cleared) (subst (λ p. IsSure p []) (sym cleared) (sure_cleared after h.sure))
 
     selection : selection_by ip new (s.taken ++ deed.entries) t ≡ selection_said (entered s deed) t
     selection =
@@ -131,14 +135,14 @@ on_ok_both (Err x) f a b = tt
 
 -- the same of what is kept, and is the same, at the end
 pub ended : (ip ip' t : ℕ) (new kept : Kept) (news judges : List Held) (after last : MemoryPort) (s : Slave) (said : List Statement) (deed : Deed) (old middle noted : Noted)
-    → ip' ≡ ip → kept ≡ new → judges ≡ news → HasStepped ip new news after s deed → middle ≡ with_said said old → IsIdle last
+    → ip' ≡ ip → kept ≡ new → judges ≡ news → HasStepped ip new news after s deed → middle ≡ with_said said old → last ≡ record after { sent = [] }
     → ((openings : List (Option Rule)) (L : Record) → StandsFor openings new news L → noted ≡ with_said (selection_by ip new L t ∷ []) (with_handed ip after.sent middle))
     → HasDone (StandsAsSlave ip' kept judges last true) ip (event_deed s t said deed) old noted
-ended ip ip' t new kept news judges after last s said deed old middle noted same_ip same_kept same_judges h before idle says =
+ended ip ip' t new kept news judges after last s said deed old middle noted same_ip same_kept same_judges h before cleared says =
     subst (λ a. HasDone (StandsAsSlave a kept judges last true) ip (event_deed s t said deed) old noted) (sym same_ip)
     (subst (λ k. HasDone (StandsAsSlave ip k judges last true) ip (event_deed s t said deed) old noted) (sym same_kept)
     (subst (λ js. HasDone (StandsAsSlave ip new js last true) ip (event_deed s t said deed) old noted) (sym same_judges)
-    (event_done ip t new news after last s said deed old middle noted h idle before says)))
+    (event_done ip t new news after last s said deed old middle noted h cleared before says)))
 
 -- where nothing is sent
 pub quietly_ended : (ip ip' t : ℕ) (new kept : Kept) (news judges : List Held) (before after last : MemoryPort) (s : Slave) (deed : Deed) (old noted : Noted)
@@ -146,7 +150,7 @@ pub quietly_ended : (ip ip' t : ℕ) (new kept : Kept) (news judges : List Held)
     → ((openings : List (Option Rule)) (L : Record) → StandsFor openings new news L → noted ≡ with_said (selection_by ip new L t ∷ []) old)
     → HasDone (StandsAsSlave ip' kept judges last true) ip (event_deed s t [] deed) old noted
 quietly_ended ip ip' t new kept news judges before after last s deed old noted same_ip same_kept h same_judges still kept_port idle says =
-    ended ip ip' t new kept news judges after last s [] deed old old noted same_ip same_kept same_judges h (sym (said_nothing old)) (ap (λ (p : MemoryPort). p.sent) kept_port ∙ none)
+    ended ip ip' t new kept news judges after last s [] deed old old noted same_ip same_kept same_judges h (sym (said_nothing old)) (kept_port ∙ ap (λ l. record after { sent = l }) none)
     (λ openings L stands. says openings L stands ∙ ap (with_said (selection_by ip new L t ∷ [])) (sym (ap (λ ds. with_handed ip ds old) none ∙ sent_nothing old)))
   where
     none : after.sent ≡ []
@@ -159,7 +163,7 @@ pub replaced : (ip : ℕ) (old new : Kept) (judges news : List Held) (judge : He
 replaced ip old new judges news judge before after begun s t m rule is h within same steps still =
     stepped ip old new judges news before after begun s t (ReplaceJudge m (Some rule)) (deed s.opened s.taken t (ReplaceJudge m (Some rule))) h (λ n other. absurd (cc other)) (within, tt) same
     (subst (λ (j : Held). Steps s.opened.openings old new news s.taken t (ReplaceJudge m j.rule)) is steps) refl
-    (ap (λ (p : MemoryPort). p.sent) still ∙ h.idle)
+    (ap (λ (p : MemoryPort). p.sent) still ∙ h.idle) (subst (λ p. IsSure p []) (sym still) h.sure)
 
 -- a judge that is fresh
 pub fresh_is : (held : Held) (rule : Rule) → held ≡ fresh rule → IsFresh held

@@ -4,14 +4,14 @@ use Rattle.std.proofs.lemmas.Bool.{false≢true}
 use Rattle.std.proofs.lemmas.List.{append-nil}
 use Rattle.std.proofs.lemmas.List.Quantifiers.{position-Some}
 use Rattle.std.specs.List.{AllByRecursion}
-use Rattle.std.specs.Prelude.{Result, if◌then◌else◌, ◌==◌, not}
+use Rattle.std.specs.Prelude.{IfOk, IsOk, OnOk, Result, if◌then◌else◌, ◌==◌, not}
 use Rattle.ptu_header.specs.declared.header.Header.{Header}
 use Rattle.ptu_messages.specs.declared.fault.MessageFault.{MessageFault}
 use Rattle.ptu_messages.specs.declared.message.Body.{Body}
 use Rattle.ptu_messages.specs.declared.message.Body.TheVariants as body
 use Rattle.ptu_messages.specs.declared.message.Message.{Message}
 use Rattle.ptu_messages.specs.Reading.{message_in}
-use Rattle.ptu_outside.specs.MemoryPort.{MemoryPort}
+use Rattle.ptu_outside.specs.MemoryPort.{IsSure, MemoryPort}
 use Rattle.ptu_record.specs.declared.rule.Rule.{Rule}
 use Rattle.ptu_record.specs.declared.wants.Wants.{Wants}
 use Rattle.ptu_record.specs.Record.{Record, event_moment}
@@ -44,24 +44,31 @@ use Rattle.ptu_nodes.specs.Noted.{Noted, with_handed, with_said, with_sent}
 use Rattle.ptu_nodes.proofs.Noting.{said_nothing, sent_nothing}
 use Rattle.ptu_lab.specs.NodeStanding.{IsSlaveNode, StandsAsSlave}
 use Rattle.ptu_nodes.specs.Standing.{IsIdle}
-use Rattle.ptu_lab.specs.SlaveStatements.{IsOfOne, is_ignored, is_unsent}
+use Rattle.ptu_lab.specs.SlaveStatements.{IsOfOne, is_ignored}
 use Rattle.ptu_lab.specs.SlaveWords.{HasStepped, selection_by}
 use Rattle.ptu_lab.proofs.SlaveEvents.{all_sent, ended, stepped}
+
+-- ---- what a slave answered
+
+-- what follows for an answer from what two clauses say of it
+pub of_answer : {A E : Type 0} (P Q R : A → Type 0) (r : Result A E) → ((x : A) → P x → Q x → R x) → IfOk r P → IfOk r Q → IfOk r R
+of_answer P Q R (Ok x) f p q = f x p q
+of_answer P Q R (Err e) f p q = tt
+
+-- the same where nothing is said of the answer
+pub where_answered : {A E : Type 0} (P : A → Type 0) (R : Type 0) (r : Result A E) → ((x : A) → IsOk r → P x → R) → IfOk r P → OnOk r R
+where_answered P R (Ok x) f p = f x refl p
+where_answered P R (Err e) f p = tt
 
 -- ---- the reply
 
 -- that of one that does not fail is sent where there is one
-one_of : {A : Type 0} (r : HeardReply) (xs : List A) → is_unsent r ≡ false → sent_by r + failed_by r ≡ length xs → length xs < 2 → r ≡ reply_by xs
+one_of : {A : Type 0} (r : HeardReply) (xs : List A) → failed_by r ≡ 0 → sent_by r + failed_by r ≡ length xs → length xs < 2 → r ≡ reply_by xs
 one_of Sent [] sent each few = absurd (omega arith)
 one_of Sent (x ∷ xs) sent each few = refl
-one_of Failed xs sent each few = absurd (false≢true (sym sent))
+one_of Failed xs sent each few = absurd (omega (arith, sent))
 one_of Nothing [] sent each few = refl
 one_of Nothing (x ∷ xs) sent each few = absurd (omega arith)
-
-pub none_failed : (r : HeardReply) → is_unsent r ≡ false → failed_by r ≡ 0
-none_failed Sent sent = refl
-none_failed Failed sent = absurd (false≢true (sym sent))
-none_failed Nothing sent = refl
 
 length-same : {A B : Type 0} (f : A → B) (xs : List A) → length (map f xs) ≡ length xs
 length-same f [] = refl
@@ -72,7 +79,7 @@ few_replies m number [] = omega arith
 few_replies m number (code ∷ codes) = omega arith
 
 heard_body : (node : Node) (x m : ℕ) (header : Header) (b : Body) (h : Heard) → h ≡ heard_of node.config.wants x (reply_in h) (m, record { header = header; body = b })
-    → is_unsent (reply_in h) ≡ false → sent_by (reply_in h) + failed_by (reply_in h) ≡ length (replies_to m (record { header = header; body = b }))
+    → failed_by (reply_in h) ≡ 0 → sent_by (reply_in h) + failed_by (reply_in h) ≡ length (replies_to m (record { header = header; body = b }))
     → h ≡ heard_of node.config.wants x (reply_by (replies_to m (record { header = header; body = b }))) (m, record { header = header; body = b })
 heard_body node x m header (body.Announce announce) h is sent each = is
 heard_body node x m header (body.Sync stamp) h is sent each = is
@@ -84,7 +91,7 @@ heard_body node x m header (body.DelayReq stamp) h is sent each = is
 heard_body node x m header body.Ignored h is sent each = is
 
 heard_is : (node : Node) (L : Record) (t x : ℕ) (r : Result (ℕ × Message) SlaveReason) (h : Heard) → x ≡ event_moment L t → h ≡ answer_of node.config.wants x (reply_in h) r
-    → is_unsent (reply_in h) ≡ false → sent_by (reply_in h) + failed_by (reply_in h) ≡ length (replies_in node.config node.masters r) → h ≡ reception_heard node L t r
+    → failed_by (reply_in h) ≡ 0 → sent_by (reply_in h) + failed_by (reply_in h) ≡ length (replies_in node.config node.masters r) → h ≡ reception_heard node L t r
 heard_is node L t x (Err reason) h at is sent each = is
 heard_is node L t x (Ok (m, message)) h at is sent each =
     heard_body node x m message.header message.body h is sent (each ∙ length-same (departure_of node.config node.masters message.header.source) (replies_to m message))
@@ -92,7 +99,7 @@ heard_is node L t x (Ok (m, message)) h at is sent each =
 
 pub heard_datagram : (ip : ℕ) (old : Kept) (judges : List Held) (port : MemoryPort) (begun : Bool) (s : Slave) (t from : ℕ) (octets : List ℕ) (h : Heard)
     → IsSlaveNode ip old judges port begun s → h ≡ answer_of old.config.wants (max t old.moment) (reply_in h) (reception old.config old.masters from octets)
-    → is_unsent (reply_in h) ≡ false
+    → failed_by (reply_in h) ≡ 0
     → sent_by (reply_in h) + failed_by (reply_in h) ≡ length (replies_in old.config old.masters (reception old.config old.masters from octets))
     → h ≡ datagram_heard s.opened s.taken t from octets
 heard_datagram ip old judges port begun s t from octets h node is sent each =
@@ -178,17 +185,18 @@ judged_within m n header body.Ignored lt = tt
 
 -- where nothing happened
 unstepped : (ip : ℕ) (old new : Kept) (judges news : List Held) (before after : MemoryPort) (begun : Bool) (s : Slave) → IsSlaveNode ip old judges before begun s → new ≡ old → news ≡ judges
-    → after.sent ≡ [] → HasStepped ip new news after s (record { entries = []; datagrams = [] })
-unstepped ip old new judges news before after begun s h same same_judges sent =
+    → after.sent ≡ [] → IsSure after [] → HasStepped ip new news after s (record { entries = []; datagrams = [] })
+unstepped ip old new judges news before after begun s h same same_judges sent sure =
     subst (λ k. HasStepped ip k news after s (record { entries = []; datagrams = [] })) (sym same)
     (subst (λ js. HasStepped ip old js after s (record { entries = []; datagrams = [] })) (sym same_judges)
     (record {
-      node = λ cleared idle. subst (λ L. IsSlaveNode ip old judges cleared true (record s { taken = L })) (sym (append-nil s.taken)) (anew cleared idle);
+      node = λ cleared idle ready. subst (λ L. IsSlaveNode ip old judges cleared true (record s { taken = L })) (sym (append-nil s.taken)) (anew cleared idle ready);
       sends = sent;
+      sure = sure;
     }))
   where
-    anew : (cleared : MemoryPort) → IsIdle cleared → IsSlaveNode ip old judges cleared true s
-    anew cleared idle = record {
+    anew : (cleared : MemoryPort) → IsIdle cleared → IsSure cleared [] → IsSlaveNode ip old judges cleared true s
+    anew cleared idle ready = record {
       address = h.address;
       config = h.config;
       masters = h.masters;
@@ -198,6 +206,7 @@ unstepped ip old new judges news before after begun s h same same_judges sent =
       ruled = h.ruled;
       fresh = λ (is : true ≡ false). absurd (false≢true (sym is));
       idle = idle;
+      sure = ready;
     }
 
 pub datagram_stepped : (ip : ℕ) (old new : Kept) (judges news : List Held) (before room after : MemoryPort) (begun : Bool) (s : Slave) (t from : ℕ) (octets : List ℕ)
@@ -205,9 +214,9 @@ pub datagram_stepped : (ip : ℕ) (old new : Kept) (judges news : List Held) (be
     → ((reason : SlaveReason) → reception old.config old.masters from octets ≡ Err reason → (new ≡ old) × (news ≡ judges))
     → ((m : ℕ) (message : Message) → reception old.config old.masters from octets ≡ Ok (m, message) → Steps s.opened.openings old new news s.taken t (event_of m message))
     → room.sent ≡ before.sent
-    → Some (room.sent ++ replies_in old.config old.masters (reception old.config old.masters from octets)) ≡ Some after.sent
+    → Some (room.sent ++ replies_in old.config old.masters (reception old.config old.masters from octets)) ≡ Some after.sent → IsSure after []
     → HasStepped ip new news after s (datagram_deed s.opened s.taken t from octets)
-datagram_stepped ip old new judges news before room after begun s t from octets h same ignored steps kept told =
+datagram_stepped ip old new judges news before room after begun s t from octets h same ignored steps kept told sure =
     subst (λ (n : Node). HasStepped ip new news after s (datagram_deed n s.taken t from octets)) same_node
     (by_reception (reception old.config old.masters from octets) refl (all_sent room after _ (kept ∙ h.idle) told ∙ node_replies node s.taken t from octets))
   where
@@ -219,11 +228,11 @@ datagram_stepped ip old new judges news before room after begun s t from octets 
 
     by_reception : (r : Result (ℕ × Message) SlaveReason) → reception old.config old.masters from octets ≡ r → after.sent ≡ (reception_deed node s.taken t r).datagrams
         → HasStepped ip new news after s (reception_deed node s.taken t r)
-    by_reception (Err reason) taken sends = unstepped ip old new judges news before after begun s h (ignored reason taken).0 (ignored reason taken).1 sends
+    by_reception (Err reason) taken sends = unstepped ip old new judges news before after begun s h (ignored reason taken).0 (ignored reason taken).1 sends sure
     by_reception (Ok (m, message)) taken sends =
         stepped ip old new judges news before after begun s t (event_of m message) (reception_deed node s.taken t (Ok (m, message))) h (λ n. no_judge m n message.header message.body)
         (judged_within m (length old.masters) message.header message.body (taken_within old.config old.masters from m message octets taken)) same (steps m message taken)
-        (ap (λ (n : Node). (reception_deed n s.taken t (Ok (m, message))).entries) same_node) sends
+        (ap (λ (n : Node). (reception_deed n s.taken t (Ok (m, message))).entries) same_node) sends sure
 
 -- ---- what is said
 
@@ -253,14 +262,14 @@ event_heard s t d (heard.Signals x m list reply) is = refl
 pub event_received : (ip ip' t from : ℕ) (octets : List ℕ) (old new kept : Kept) (masters : List Master) (news judges : List Held) (after last : MemoryPort) (s : Slave) (h : Heard) (noted middle noted' : Noted)
     → ip' ≡ ip → kept ≡ new → judges ≡ news → s.opened.masters ≡ old.masters
     → HasStepped ip new news after s (datagram_deed s.opened s.taken t from octets) → h ≡ datagram_heard s.opened s.taken t from octets
-    → is_ignored h ≡ false → masters ≡ old.masters → middle ≡ with_said (heard_said masters h) noted → IsIdle last
+    → is_ignored h ≡ false → masters ≡ old.masters → middle ≡ with_said (heard_said masters h) noted → last ≡ record after { sent = [] }
     → ((openings : List (Option Rule)) (L : Record) → StandsFor openings new news L → noted' ≡ with_said (selection_by ip new L t ∷ []) (with_handed ip after.sent middle))
     → HasDone (StandsAsSlave ip' kept judges last true) ip (slaves.datagram_deed s t from octets) noted noted'
-event_received ip ip' t from octets old new kept masters news judges after last s h noted middle noted' same_ip same_kept same_judges opened stepped is event same before idle says =
+event_received ip ip' t from octets old new kept masters news judges after last s h noted middle noted' same_ip same_kept same_judges opened stepped is event same before cleared says =
     subst (λ d. HasDone (StandsAsSlave ip' kept judges last true) ip d noted noted')
     (sym (ap (heard_deed s t deed) (sym is) ∙ event_heard s t deed h event))
     (ended ip ip' t new kept news judges after last s (heard_said s.opened.masters h) deed noted middle noted' same_ip same_kept same_judges stepped
-    (before ∙ ap (λ ms. with_said (heard_said ms h) noted) (same ∙ sym opened)) idle says)
+    (before ∙ ap (λ ms. with_said (heard_said ms h) noted) (same ∙ sym opened)) cleared says)
   where
     deed : Deed
     deed = datagram_deed s.opened s.taken t from octets
@@ -283,7 +292,7 @@ nothing_received ip t from octets new masters news after s h noted noted' steppe
 
     node : IsSlaveNode ip new news after true s
     node =
-        subst (λ L. IsSlaveNode ip new news after true (record s { taken = L })) (ap (λ (d : Deed). s.taken ++ d.entries) empty ∙ append-nil s.taken) (stepped.node after idle)
+        subst (λ L. IsSlaveNode ip new news after true (record s { taken = L })) (ap (λ (d : Deed). s.taken ++ d.entries) empty ∙ append-nil s.taken) (stepped.node after idle stepped.sure)
 
     by_heard : (g : Heard) → is_ignored g ≡ true → noted' ≡ with_said (heard_said masters g) noted → HasDone (StandsAsSlave ip new news after true) ip (heard_deed s t deed g) noted noted'
     by_heard (heard.Ignored reason) same said = record {

@@ -8,7 +8,7 @@ use Rattle.std.proofs.lemmas.List.Sums.{fails_before_first}
 use Rattle.std.specs.List.{All, AllByRecursion, position_or_len, slice_get, slice_index_or}
 use Rattle.std.specs.Prelude.{IsSome, nat_lt, ◌==◌}
 use Rattle.ptu_history.proofs.Keys.{eq-eqb-self}
-use Rattle.ptu_outside.specs.MemoryPort.{MemoryPort}
+use Rattle.ptu_outside.specs.MemoryPort.{IsSure, MemoryPort}
 use Rattle.ptu_record.specs.declared.rule.Rule.{Rule}
 use Rattle.ptu_judges.specs.Held.{Held, IsFresh, fresh}
 use Rattle.ptu_slave_messages.specs.declared.config.Master.{Master}
@@ -84,6 +84,7 @@ one_master_more ip address priority old new judges judge before after s rule h i
   ruled = all_push (λ held. IsSome held.rule) judges judge h.ruled (fresh_ruled judge rule is);
   fresh = λ first. (empty, judges_fresh ip old judges before s judge rule h is);
   idle = subst IsIdle (sym port) h.idle;
+  sure = subst (λ p. IsSure p []) (sym port) h.sure;
 }
   where
     master : Master

@@ -1,7 +1,7 @@
 -- Which slave of a world a slave with a port in memory stands for.
 use Rattle.std.specs.Prelude.{◌≡◌, ℕ, Bool, false, List, [], IsSome}
 use Rattle.std.specs.List.{AllByRecursion}
-use Rattle.ptu_outside.specs.MemoryPort.{MemoryPort}
+use Rattle.ptu_outside.specs.MemoryPort.{IsSure, MemoryPort}
 use Rattle.ptu_judges.specs.Held.{Held, IsFresh}
 use Rattle.ptu_slave_messages.specs.Config.{AreMasters, IsWithinLimits}
 use Rattle.ptu_slave.specs.Kept.{Kept}
@@ -12,7 +12,7 @@ use Rattle.ptu_world.specs.Deeds as world
 
 -- a slave at this address, of which this is kept, whose judges hold this and whose messages go by
 -- this port, stands for the slave of a world, with its record; before the first event of the script
--- nothing was told to its judges
+-- nothing was told to its judges, and no send of the port is to fail
 pub record IsSlaveNode (ip : ℕ) (kept : Kept) (judges : List Held) (port : MemoryPort)
     (begun : Bool) (s : world.Slave) : Type 0 where
   pub address : s.ip ≡ ip
@@ -24,6 +24,7 @@ pub record IsSlaveNode (ip : ℕ) (kept : Kept) (judges : List Held) (port : Mem
   pub ruled : AllByRecursion (λ held. IsSome held.rule) judges
   pub fresh : begun ≡ false → (s.taken ≡ []) × AllByRecursion IsFresh judges
   pub idle : IsIdle port
+  pub sure : IsSure port []
 
 -- it stands for the node of a world
 abbrev pub StandsAsSlave : ℕ → Kept → List Held → MemoryPort → Bool → world.Node → Type 0

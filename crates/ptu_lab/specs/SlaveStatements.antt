@@ -3,8 +3,6 @@ use Rattle.std.specs.Prelude.{ℕ, ◌<◌, Bool, true, false}
 use Rattle.ptu_slave_messages.specs.declared.heard.Heard.{Heard}
 use Rattle.ptu_slave_messages.specs.declared.heard.Heard.TheVariants.{Ignored, Announce, Sync}
 use Rattle.ptu_slave_messages.specs.declared.heard.Heard.TheVariants.{FollowUp, DelayResp, Signals}
-use Rattle.ptu_slave_messages.specs.declared.heard.HeardReply.{HeardReply}
-use Rattle.ptu_slave_messages.specs.declared.heard.HeardReply.TheVariants.{Failed}
 
 -- the master of whom it is stands in a list of this length
 abbrev pub IsOfOne : ℕ → Heard → Type 0
@@ -19,8 +17,3 @@ IsOfOne masters (Signals x m list reply) = m < masters
 abbrev pub is_ignored : Heard → Bool
 is_ignored (Ignored reason) = true
 is_ignored heard = false
-
--- a reply failed to be sent
-abbrev pub is_unsent : HeardReply → Bool
-is_unsent Failed = true
-is_unsent reply = false

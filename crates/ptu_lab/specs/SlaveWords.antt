@@ -1,6 +1,6 @@
 -- What a slave of a script is set up with, and what is said of what it selects.
-use Rattle.std.specs.Prelude.{◌≡◌, ℕ, true, List}
-use Rattle.ptu_outside.specs.MemoryPort.{MemoryPort}
+use Rattle.std.specs.Prelude.{◌≡◌, ◌≤◌, ◌+◌, ℕ, true, List, [], length}
+use Rattle.ptu_outside.specs.MemoryPort.{IsSure, MemoryPort, octets_of}
 use Rattle.ptu_judges.specs.Held.{Held}
 use Rattle.ptu_slave_messages.specs.Node.{Deed}
 use Rattle.ptu_world.specs.Deeds.{Slave}
@@ -33,13 +33,20 @@ new_config setup = record {
 }
 
 -- an event has made of the slave of a world the slave with the entries of this deed, of which this
--- is kept then, and whose judges hold this; its port holds what the deed sends, until it is cleared
+-- is kept then, and whose judges hold this; its port holds what the deed sends, until it is cleared,
+-- and no send of it is to fail
 pub record HasStepped (ip : ℕ) (kept : Kept) (judges : List Held) (port : MemoryPort) (s : Slave)
     (deed : Deed) : Type 0 where
-  pub node : (cleared : MemoryPort) → IsIdle cleared
+  pub node : (cleared : MemoryPort) → IsIdle cleared → IsSure cleared []
       → IsSlaveNode ip kept judges cleared true (entered s deed)
   pub sends : port.sent ≡ deed.datagrams
+  pub sure : IsSure port []
 
 -- the same of what is seen of a slave
 abbrev pub HasSteppedTo : {B : Type 0} → ℕ → Seen MemoryPort B → Slave → Deed → Type 0
 HasSteppedTo ip seen s deed = HasStepped ip seen.kept seen.judges seen.port s deed
+
+-- beside what was sent the port has room for so many datagrams, of so many octets in all
+pub record HasRoom (port : MemoryPort) (count size : ℕ) : Type 0 where
+  pub datagrams : length port.sent + count ≤ port.datagrams
+  pub octets : octets_of port.sent + size ≤ port.octets

@@ -54,7 +54,8 @@ impl Reporter for Replayer {
     ghost stands_for = { λ replayer course.
         StandsFor (λ n. seen_by (λ j. (Judge-box j).Judge) n.slave)
         (map (λ j. (Judge-box j).Judge.held j.value) replayer.lab.stock.flags.items)
-        (map (λ j. (Judge-box j).Judge.held j.value) replayer.lab.stock.gaps.items) replayer.lab course };
+        (map (λ j. (Judge-box j).Judge.held j.value) replayer.lab.stock.gaps.items)
+        replayer.lab course };
 
     #[tactic(auto, unfolding(ptu_world::specs::Report::rules))]
     fn take(

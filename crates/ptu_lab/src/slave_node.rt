@@ -17,14 +17,15 @@ ghost use Rattle.ptu_world.specs.World.{with_master as described_with_master};
 ghost use Rattle.ptu_nodes.specs.Doing.{HasDone};
 ghost use Rattle.ptu_nodes.specs.Noted.{with_handed, with_said};
 ghost use Rattle.ptu_nodes.specs.Standing.{IsIdle};
+ghost use Rattle.ptu_outside.specs.MemoryPort.{IsSure};
 ghost use Rattle.ptu_lab.specs.Acts.{IsActWithin, act_deed, of_master, stock_after};
 ghost use Rattle.ptu_lab.specs.NodeStanding.{IsNode, StandsAsNode};
 ghost use Rattle.ptu_lab.specs.SlaveStatements.{IsOfOne};
-ghost use Rattle.ptu_lab.specs.SlaveWords.{HasSteppedTo, new_config, selection_by};
+ghost use Rattle.ptu_lab.specs.SlaveWords.{HasRoom, HasSteppedTo, new_config, selection_by};
 ghost use Rattle.ptu_lab.specs.Steps.{HasActed, HasActedLeaving, stock_of};
 
 use crate::act::Act;
-use crate::slave_statements::{say_heard, was_ignored, was_unsent};
+use crate::slave_statements::{say_heard, was_ignored};
 use crate::stock::{Reserve, take_judge};
 use ptu_header::PortIdentity;
 use ptu_judges::{Judge, Rule};
@@ -121,7 +122,7 @@ impl SlaveNode {
     /// one, or no judge is left.
     ///
     /// # Errors
-    /// `OutOfMemory`, also where room for what it sends was not found.
+    /// `OutOfMemory`.
     pub fn act(
         &mut self,
         at: Moment,
@@ -312,7 +313,8 @@ impl SlaveNode {
             (seen ⟦<dyn Judge as Judge>⟧ self.old.slave).kept }
         ensures judges { (seen ⟦<dyn Judge as Judge>⟧ self.new.slave).judges
             ≡ (seen ⟦<dyn Judge as Judge>⟧ self.old.slave).judges }
-        ensures idle { OnOk result (IsIdle (seen ⟦<dyn Judge as Judge>⟧ self.new.slave).port) }
+        ensures cleared { OnOk result ((seen ⟦<dyn Judge as Judge>⟧ self.new.slave).port
+            ≡ record (seen ⟦<dyn Judge as Judge>⟧ self.old.slave).port { sent = [] }) }
         ensures noted { OnOk result ((openings : List (Option Rule)) (L : Record) →
             StandsFor openings (seen ⟦<dyn Judge as Judge>⟧ self.old.slave).kept
             (seen ⟦<dyn Judge as Judge>⟧ self.old.slave).judges L →
@@ -367,9 +369,10 @@ fn config_of(setup: &SlaveSetup) -> SlaveConfig
     }
 }
 
-// A port at which nothing waits and nothing was sent, without room.
+// A port at which nothing waits, nothing was sent and no send is to fail, without room.
 fn quiet_port(alloc: Global) -> MemPort
-    ensures { IsIdle result }
+    ensures idle { IsIdle result }
+    ensures sure { IsSure result [] }
 {
     MemPort::new(alloc, Vec::new(alloc), Vec::new(alloc), Vec::new(alloc))
 }
@@ -384,6 +387,10 @@ fn make_room(
     requires few { datagrams ≤ 32 }
     ensures same { (seen ⟦<dyn Judge as Judge>⟧ slave.new).port.sent ≡
         (seen ⟦<dyn Judge as Judge>⟧ slave.old).port.sent }
+    ensures listed { (seen ⟦<dyn Judge as Judge>⟧ slave.new).port.failing_sends ≡
+        (seen ⟦<dyn Judge as Judge>⟧ slave.old).port.failing_sends }
+    ensures room { OnOk result (HasRoom (seen ⟦<dyn Judge as Judge>⟧ slave.new).port
+        datagrams octets) }
     ensures rest { seen ⟦<dyn Judge as Judge>⟧ slave.new ≡ record
         (seen ⟦<dyn Judge as Judge>⟧ slave.old)
         { port = (seen ⟦<dyn Judge as Judge>⟧ slave.new).port } }
@@ -416,11 +423,7 @@ fn take(
         (node.datagram_deed s.opened s.taken at from octets.now)) }
 {
     make_room(alloc, slave, 1, SIGNALING)?;
-    let heard = slave.take(alloc, at, from, octets)?;
-    if was_unsent(&heard) {
-        return Err(OutOfMemory);
-    }
-    Ok(heard)
+    slave.take(alloc, at, from, octets)
 }
 
 // The slave ticks, with room for all that it may send.
@@ -433,10 +436,7 @@ fn tick(alloc: Global, slave: &mut Slave<MemPort>, at: Moment) -> Result<(), Out
 {
     let octets = MASTERS * (SIGNALING + DELAY_REQ);
     make_room(alloc, slave, 2 * MASTERS, octets)?;
-    let ticked = slave.tick(at);
-    if ticked.failed > 0 {
-        return Err(OutOfMemory);
-    }
+    slave.tick(at);
     Ok(())
 }
 
@@ -449,10 +449,7 @@ fn stop(alloc: Global, slave: &mut Slave<MemPort>, at: Moment) -> Result<(), Out
         (node.deed s.opened s.taken at Stop)) }
 {
     make_room(alloc, slave, MASTERS, MASTERS * SIGNALING)?;
-    let ticked = slave.stop(at);
-    if ticked.failed > 0 {
-        return Err(OutOfMemory);
-    }
+    slave.stop(at);
     Ok(())
 }
 

@@ -1,14 +1,13 @@
 //! What is said of what a slave of a script heard.
 
 ghost use Rattle.std.specs.Prelude.{◌≡◌, length, map, OnOk};
-ghost use Rattle.ptu_slave_messages.specs.Heard.{failed_by, reply_in};
 ghost use Rattle.ptu_world.specs.Slaves.{heard_said, reason_of, signal_said};
 ghost use Rattle.ptu_nodes.specs.Noted.{with_said};
-ghost use Rattle.ptu_lab.specs.SlaveStatements.{IsOfOne, is_ignored, is_unsent};
+ghost use Rattle.ptu_lab.specs.SlaveStatements.{IsOfOne, is_ignored};
 
 use ptu_nodes::Journal;
 use ptu_report_lines::{Hearing, Reason, Received, Statement};
-use ptu_slave::{Heard, HeardReply, Master, Signal, SlaveReason};
+use ptu_slave::{Heard, Master, Signal, SlaveReason};
 use ptu_units::OutOfMemory;
 
 // Why a slave ignored a datagram, as it is said.
@@ -94,14 +93,4 @@ pub fn was_ignored(heard: &Heard) -> bool
     ensures { result ≡ is_ignored heard.now }
 {
     matches!(heard, Heard::Ignored(_))
-}
-
-/// Whether a reply to the datagram failed to be sent.
-pub fn was_unsent(heard: &Heard) -> bool
-    ensures { result ≡ is_unsent (reply_in heard.now) }
-{
-    match heard {
-        Heard::Signals { reply, .. } => matches!(reply, HeardReply::Failed),
-        _ => false,
-    }
 }

@@ -1,6 +1,6 @@
-use Rattle.std.proofs.Common.{◌∙◌, ap, refl}
+use Rattle.std.proofs.Common.{◌∙◌, [], ap, refl, subst, sym}
 use Rattle.std.proofs.lemmas.Result.{on_ok_weaker}
-use Rattle.ptu_outside.specs.MemoryPort.{MemoryPort}
+use Rattle.ptu_outside.specs.MemoryPort.{IsSure, MemoryPort}
 use Rattle.ptu_record.specs.Step.{TellFlag}
 use Rattle.ptu_slave_messages.specs.Node.{deed}
 use Rattle.ptu_slave.specs.Seen.{Seen, seen}
@@ -15,6 +15,6 @@ returns-clause-done g c =
     c.say_selected.ensures.ip (ap (λ (s : Seen _ _). s.kept) c.say_selected.ensures.unchanged)
     (stepped c.args.self.now.ip (seen (λ i. (g.dyn-1.0.entry i).1.Judge) c.args.self.now.slave).kept (seen (λ i. (g.dyn-1.0.entry i).1.Judge) c.flag.new.self).kept _ _ (seen (λ i. (g.dyn-1.0.entry i).1.Judge) c.args.self.now.slave).port (seen (λ i. (g.dyn-1.0.entry i).1.Judge) c.flag.new.self).port begun s c.args.at (TellFlag c.args.master c.args.unusable)
     (deed s.opened s.taken c.args.at (TellFlag c.args.master c.args.unusable)) h (λ m is. absurd (cc is)) (c.requires, tt) c.flag.ensures.same (c.flag.ensures.flagged.steps s.opened.openings s.taken h.stands) refl
-    (ap (λ (p : MemoryPort). p.sent) c.flag.ensures.flagged.port ∙ h.idle))
+    (ap (λ (p : MemoryPort). p.sent) c.flag.ensures.flagged.port ∙ h.idle) (subst (λ p. IsSure p []) (sym c.flag.ensures.flagged.port) h.sure))
     (ap (λ (s : Seen _ _). s.judges) c.say_selected.ensures.unchanged) c.flag.ensures.flagged.port (ap (λ (s : Seen _ _). s.port) c.say_selected.ensures.unchanged) h.idle says)
     c.say_selected.ensures.says

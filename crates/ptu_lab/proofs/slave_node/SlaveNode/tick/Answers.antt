@@ -8,8 +8,8 @@ use Rattle.ptu_lab.proofs.slave_node.SlaveNode.tick.Goals as goal
 
 pub returns-clause-done : goal.returns-clause-done
 returns-clause-done g c =
-    on_ok_both c.conclude.result (λ idle noted begun s h.
+    on_ok_both c.conclude.result (λ cleared noted begun s h.
     ended c.args.self.now.ip c.conclude.new.self.ip c.args.at (seen (λ i. (g.dyn-1.0.entry i).1.Judge) c.tick.new.slave).kept (seen (λ i. (g.dyn-1.0.entry i).1.Judge) c.conclude.new.self.slave).kept _ _ (seen (λ i. (g.dyn-1.0.entry i).1.Judge) c.tick.new.slave).port (seen (λ i. (g.dyn-1.0.entry i).1.Judge) c.conclude.new.self.slave).port s []
     (deed s.opened s.taken c.args.at Tick) c.args.journal.now c.args.journal.now c.conclude.new.journal
-    c.conclude.ensures.ip c.conclude.ensures.core c.conclude.ensures.judges (c.in_ok-tick.ensures c.args.self.now.ip begun s h) (sym (said_nothing c.args.journal.now)) idle noted)
-    c.conclude.ensures.idle c.conclude.ensures.noted
+    c.conclude.ensures.ip c.conclude.ensures.core c.conclude.ensures.judges (c.in_ok-tick.ensures c.args.self.now.ip begun s h) (sym (said_nothing c.args.journal.now)) cleared noted)
+    c.conclude.ensures.cleared c.conclude.ensures.noted

@@ -1,0 +1,243 @@
+-- How much a slave sends at an event, and that its port, with room for that much, is sure to send it.
+use Rattle.std.proofs.Common.{◌≡◌, ℕ, ◌+◌, ◌*◌, ◌≤◌, Bool, true, false, cond, List, [], ◌∷◌, ◌++◌, length, map, Ok, Err, refl, ap, sym, subst, arith, length-append}
+use Rattle.std.proofs.lemmas.List.{length-map, map-append}
+use Rattle.std.proofs.lemmas.List.FromFn.{length-range_with_len}
+use Rattle.std.proofs.lemmas.List.Sums.{count_by-le-length, length-filter, sum_by-append, sum_by-cons}
+use Rattle.std.specs.List.{filter, filter_map, flat_map, list_any}
+use Rattle.std.specs.Prelude.{Result, is_some}
+use Rattle.ptu_units.specs.declared.kind.Kind.{Kind}
+use Rattle.ptu_units.specs.Kind.{kinds}
+use Rattle.ptu_header.specs.declared.header.Header.{Header}
+use Rattle.ptu_header.specs.declared.header.PortIdentity.{PortIdentity}
+use Rattle.ptu_header.specs.Sent.{sent_header, sent_identity}
+use Rattle.ptu_tlvs.specs.declared.tlv.Tlv.{Tlv}
+use Rattle.ptu_tlvs.specs.declared.tlv.Tlv.TheVariants as tlv
+use Rattle.ptu_tlvs.specs.Sent.{sent_tlv}
+use Rattle.ptu_messages.specs.declared.fault.MessageFault.{MessageFault}
+use Rattle.ptu_messages.specs.declared.message.Body.{Body}
+use Rattle.ptu_messages.specs.declared.message.Body.TheVariants as body
+use Rattle.ptu_messages.specs.declared.message.Message.{Message}
+use Rattle.ptu_messages.specs.Message.{SpellsBody, SpellsMessage}
+use Rattle.ptu_messages.specs.Reading.{message_in}
+use Rattle.ptu_messages.specs.Sent.{signaling}
+use Rattle.ptu_messages.proofs.Readings.{found_is}
+use Rattle.ptu_outside.specs.Departure.{Departure}
+use Rattle.ptu_outside.specs.MemoryPort.{IsSure, MemoryPort, octets_of}
+use Rattle.ptu_outside.proofs.Sure.{sure_within}
+use Rattle.ptu_record.specs.declared.wants.Wants.{Wants}
+use Rattle.ptu_record.specs.Lists.{places}
+use Rattle.ptu_record.specs.Record.{Record, record_of}
+use Rattle.ptu_record.specs.Asks.{due_kinds, is_due}
+use Rattle.ptu_record.specs.Grants.{is_live, live_kinds}
+use Rattle.ptu_record.specs.Step.{SlaveSetup, Signal, AckTlv, CancelTlv, GrantTlv, Stop, Tick, cancel_code, one_reply, sendings}
+use Rattle.ptu_record.specs.Tick.{Acknowledgements, Cancels, DelayReq, Requests, Sending, cancels_to, delay_req_number, is_probe_due, is_stop, one_signaling, requests_to, signaling_number}
+use Rattle.ptu_record.specs.Wants.{wanted_kinds, wanted_log}
+use Rattle.ptu_slave_messages.specs.declared.config.Master.{Master}
+use Rattle.ptu_slave_messages.specs.declared.config.SlaveConfig.{SlaveConfig}
+use Rattle.ptu_slave_messages.specs.declared.reason.SlaveReason.{SlaveReason}
+use Rattle.ptu_slave_messages.specs.Heard.{replies_in, replies_to, said_by}
+use Rattle.ptu_slave_messages.specs.Reception.{beside, of_reading, reception, sender_of}
+use Rattle.ptu_slave_messages.specs.Sending.{cancel_of, departure_of, header_of, message_of, octets_sent, request_of}
+use Rattle.ptu_lab.specs.SlaveWords.{HasRoom}
+
+-- ---- counts
+
+-- at most so many datagrams, with at most so many octets in all
+pub record AreWithin (datagrams octets : ℕ) (ds : List Departure) : Type 0 where
+  pub few : length ds ≤ datagrams
+  pub short : octets_of ds ≤ octets
+
+within_none : (datagrams octets : ℕ) → AreWithin datagrams octets []
+within_none datagrams octets = record { few = omega arith; short = omega arith }
+
+within_one : (octets : ℕ) (d : Departure) → length d.bytes ≤ octets → AreWithin 1 octets (d ∷ [])
+within_one octets d le = record {
+  few = omega arith;
+  short = rw (sum_by-cons (λ (d : Departure). length d.bytes) d []) (omega (arith, le));
+}
+
+within-append : (a b m n : ℕ) (ds es : List Departure) → AreWithin a m ds → AreWithin b n es → AreWithin (a + b) (m + n) (ds ++ es)
+within-append a b m n ds es h k = record {
+  few = rw (length-append ds es) (omega (arith, h.few, k.few));
+  short = rw (sum_by-append (λ (d : Departure). length d.bytes) ds es) (omega (arith, h.short, k.short));
+}
+
+within_more : (a b m n : ℕ) (ds : List Departure) → a ≤ b → m ≤ n → AreWithin a m ds → AreWithin b n ds
+within_more a b m n ds more wider h = record { few = omega (arith, h.few, more); short = omega (arith, h.short, wider) }
+
+-- so many for each of several masters
+within_each : (departure : Sending → Departure) (f : ℕ → List Sending) (count size : ℕ) → ((m : ℕ) → AreWithin count size (map departure (f m)))
+    → (ms : List ℕ) → AreWithin (length ms * count) (length ms * size) (map departure (flat_map f ms))
+within_each departure f count size each [] = within_none (0 * count) (0 * size)
+within_each departure f count size each (m ∷ ms) =
+    subst (AreWithin (length (m ∷ ms) * count) (length (m ∷ ms) * size)) (sym (map-append departure (f m) (flat_map f ms)))
+    (within_more (count + length ms * count) (length (m ∷ ms) * count) (size + length ms * size) (length (m ∷ ms) * size)
+    (map departure (f m) ++ map departure (flat_map f ms)) (omega arith) (omega arith)
+    (within-append count (length ms * count) size (length ms * size) (map departure (f m)) (map departure (flat_map f ms)) (each m)
+    (within_each departure f count size each ms)))
+
+-- ---- octets
+
+tlv_short : (v : Tlv) → length (sent_tlv v) ≤ 12
+tlv_short (tlv.Request ask) = omega arith
+tlv_short (tlv.Grant ask invited) = omega arith
+tlv_short (tlv.Cancel code) = omega arith
+tlv_short (tlv.Ack code) = omega arith
+tlv_short (tlv.Other t n) = omega arith
+
+tlvs_short : (tlvs : List Tlv) → length (flat_map sent_tlv tlvs) ≤ 12 * length tlvs
+tlvs_short [] = omega arith
+tlvs_short (v ∷ tlvs) = omega (arith, length-append (sent_tlv v) (flat_map sent_tlv tlvs), tlv_short v, tlvs_short tlvs)
+
+-- a Signaling with the TLVs that it has room for
+signaling_short : (header : Header) (target : PortIdentity) (tlvs : List Tlv) → length tlvs ≤ 32 → length (octets_sent (signaling header target tlvs)) ≤ 428
+unfolding octets_sent
+signaling_short header target tlvs few =
+    let values : List ℕ = flat_map sent_tlv tlvs in
+    let n : ℕ = 34 + length (sent_identity target ++ values) in
+    let front : length (sent_header header n) ≡ 34 = refl in
+    let identity : length (sent_identity target) ≡ 10 = refl in
+    omega (arith, length-append (sent_header header n) (sent_identity target ++ values), length-append (sent_identity target) values, front, identity, tlvs_short tlvs, few)
+
+delay_req_short : (config : SlaveConfig) (target : PortIdentity) (m number : ℕ) → length (octets_sent (message_of config target (DelayReq m number))) ≤ 44
+unfolding octets_sent
+delay_req_short config target m number = omega arith
+
+-- ---- kinds
+
+fewer : {X : Type 0} (p : X → Bool) (xs : List X) → length (filter p xs) ≤ length xs
+fewer p xs = omega (arith, length-filter p xs, count_by-le-length p xs)
+
+due_few : (wants : Wants) (L : Record) (x : ℕ) → length (due_kinds wants L x) ≤ 3
+due_few wants L x = omega (arith, fewer (λ k. is_due k L x) (wanted_kinds wants), fewer (λ k. is_some (wanted_log wants k)) kinds)
+
+live_few : (L : Record) (x : ℕ) → length (live_kinds L x) ≤ 3
+live_few L x = fewer (λ k. is_live k L x) kinds
+
+-- ---- a tick, and the stop
+
+module _ (config : SlaveConfig) (masters : List Master) (target : PortIdentity) where
+  within_requests : (m number : ℕ) (ks : List Kind) → length ks ≤ 3 → AreWithin 1 428 (map (departure_of config masters target) (one_signaling (Requests m number) ks))
+  within_requests m number [] few = within_none 1 428
+  within_requests m number (k ∷ ks) few =
+      within_one 428 (departure_of config masters target (Requests m number (k ∷ ks)))
+      (signaling_short (header_of config 12 number) target (map (request_of config.wants) (k ∷ ks)) (omega (arith, few, length-map (k ∷ ks) (request_of config.wants))))
+
+  within_cancels : (m number : ℕ) (ks : List Kind) → length ks ≤ 3 → AreWithin 1 428 (map (departure_of config masters target) (one_signaling (Cancels m number) ks))
+  within_cancels m number [] few = within_none 1 428
+  within_cancels m number (k ∷ ks) few =
+      within_one 428 (departure_of config masters target (Cancels m number (k ∷ ks)))
+      (signaling_short (header_of config 12 number) target (map cancel_of (k ∷ ks)) (omega (arith, few, length-map (k ∷ ks) cancel_of)))
+
+  within_probe : (is : Bool) (m number : ℕ) → AreWithin 1 44 (map (departure_of config masters target) (cond is (DelayReq m number ∷ []) []))
+  within_probe true m number = within_one 44 (departure_of config masters target (DelayReq m number)) (delay_req_short config target m number)
+  within_probe false m number = within_none 1 44
+
+  within_one_tick : (wants : Wants) (L : Record) (x m : ℕ) → AreWithin 2 472 (map (departure_of config masters target) (requests_to wants L x m))
+  within_one_tick wants L x m =
+      let own : Record = record_of m L in
+      let asks : List Sending = one_signaling (Requests m (signaling_number own)) (due_kinds wants own x) in
+      let probe : List Sending = cond (is_probe_due wants own x) (DelayReq m (delay_req_number own) ∷ []) [] in
+      subst (AreWithin 2 472) (sym (map-append (departure_of config masters target) asks probe))
+      (within-append 1 1 428 44 (map (departure_of config masters target) asks) (map (departure_of config masters target) probe)
+      (within_requests m (signaling_number own) (due_kinds wants own x) (due_few wants own x))
+      (within_probe (is_probe_due wants own x) m (delay_req_number own)))
+
+  within_tick : (setup : SlaveSetup) (L : Record) (x : ℕ) → length setup.openings ≤ 16 → AreWithin 32 7552 (map (departure_of config masters target) (sendings setup L x Tick))
+  within_tick setup L x few = by_stop (list_any is_stop L)
+    where
+      n : ℕ
+      n = length setup.openings
+
+      all : AreWithin (length (places n) * 2) (length (places n) * 472) (map (departure_of config masters target) (flat_map (requests_to setup.wants L x) (places n)))
+      all = within_each (departure_of config masters target) (requests_to setup.wants L x) 2 472 (within_one_tick setup.wants L x) (places n)
+
+      by_stop : (b : Bool) → AreWithin 32 7552 (map (departure_of config masters target) (cond b [] (flat_map (requests_to setup.wants L x) (places n))))
+      by_stop true = within_none 32 7552
+      by_stop false = within_more (length (places n) * 2) 32 (length (places n) * 472) 7552 _ (omega (arith, length-range_with_len 0 n, few)) (omega (arith, length-range_with_len 0 n, few)) all
+
+  within_stop : (setup : SlaveSetup) (L : Record) (x : ℕ) → length setup.openings ≤ 16 → AreWithin 16 6848 (map (departure_of config masters target) (sendings setup L x Stop))
+  within_stop setup L x few =
+      let n : ℕ = length setup.openings in
+      within_more (length (places n) * 1) 16 (length (places n) * 428) 6848 _ (omega (arith, length-range_with_len 0 n, few)) (omega (arith, length-range_with_len 0 n, few))
+      (within_each (departure_of config masters target) (cancels_to L x) 1 428
+      (λ m. within_cancels m (signaling_number (record_of m L)) (live_kinds (record_of m L) x) (live_few (record_of m L) x)) (places n))
+
+-- ---- a reply
+
+codes_few : (signals : List Signal) → length (filter_map cancel_code signals) ≤ length signals
+codes_few [] = omega arith
+codes_few (GrantTlv code seconds ∷ signals) = omega (arith, codes_few signals)
+codes_few (CancelTlv code ∷ signals) = omega (arith, codes_few signals)
+codes_few (AckTlv code ∷ signals) = omega (arith, codes_few signals)
+
+said_few : (tlvs : List Tlv) → length (filter_map said_by tlvs) ≤ length tlvs
+said_few [] = omega arith
+said_few (tlv.Request ask ∷ tlvs) = omega (arith, said_few tlvs)
+said_few (tlv.Grant ask invited ∷ tlvs) = omega (arith, said_few tlvs)
+said_few (tlv.Cancel code ∷ tlvs) = omega (arith, said_few tlvs)
+said_few (tlv.Ack code ∷ tlvs) = omega (arith, said_few tlvs)
+said_few (tlv.Other t n ∷ tlvs) = omega (arith, said_few tlvs)
+
+module _ (config : SlaveConfig) (masters : List Master) where
+  within_reply : (target : PortIdentity) (m number : ℕ) (codes : List ℕ) → length codes ≤ 32 → AreWithin 1 428 (map (departure_of config masters target) (one_reply m number codes))
+  within_reply target m number [] few = within_none 1 428
+  within_reply target m number (code ∷ codes) few =
+      within_one 428 (departure_of config masters target (Acknowledgements m number (code ∷ codes)))
+      (signaling_short (header_of config 12 number) target (map tlv.Ack (code ∷ codes)) (omega (arith, few, length-map (code ∷ codes) tlv.Ack)))
+
+  within_replies : (octets : List ℕ) (n m : ℕ) (header : Header) (b : Body) → SpellsBody octets n b
+      → AreWithin 1 428 (map (departure_of config masters header.source) (replies_to m (record { header = header; body = b })))
+  within_replies octets n m header (body.Announce announce) spelled = within_none 1 428
+  within_replies octets n m header (body.Sync stamp) spelled = within_none 1 428
+  within_replies octets n m header (body.FollowUp stamp) spelled = within_none 1 428
+  within_replies octets n m header (body.DelayResp stamp requester) spelled = within_none 1 428
+  within_replies octets n m header (body.Signaling target tlvs) spelled =
+      within_reply header.source m header.sequence (filter_map cancel_code (filter_map said_by tlvs))
+      (omega (arith, codes_few (filter_map said_by tlvs), said_few tlvs, spelled.1.few))
+  within_replies octets n m header (body.DelayReq stamp) spelled = within_none 1 428
+  within_replies octets n m header body.Ignored spelled = within_none 1 428
+
+  -- what is taken was read
+  read_is : (read message : Message) (m : ℕ) (sender : Result ℕ SlaveReason) → beside read sender ≡ Ok (m, message) → read ≡ message
+  read_is read message m (Err reason) is = absurd (cc is)
+  read_is read message m (Ok place) is = ap behind is
+    where
+      behind : Result (ℕ × Message) SlaveReason → Message
+      behind (Ok taken) = taken.1
+      behind (Err reason) = read
+
+  was_read : (ip m : ℕ) (message : Message) (r : Result Message MessageFault) → of_reading config masters ip r ≡ Ok (m, message) → r ≡ Ok message
+  was_read ip m message (Err fault) is = absurd (cc is)
+  was_read ip m message (Ok read) is = ap Ok (read_is read message m (sender_of config masters ip read) is)
+
+  within_taken : (ip : ℕ) (octets : List ℕ) (r : Result (ℕ × Message) SlaveReason) → reception config masters ip octets ≡ r → AreWithin 1 428 (replies_in config masters r)
+  within_taken ip octets (Err reason) is = within_none 1 428
+  within_taken ip octets (Ok (m, message)) is =
+      let spelled : SpellsMessage octets message = found_is octets message (was_read ip m message (message_in octets) is) in
+      within_replies octets spelled.n m message.header message.body spelled.body
+
+  within_answer : (ip : ℕ) (octets : List ℕ) → AreWithin 1 428 (replies_in config masters (reception config masters ip octets))
+  within_answer ip octets = within_taken ip octets (reception config masters ip octets) refl
+
+-- ---- the port
+
+sure_of : (port : MemoryPort) (ds : List Departure) (datagrams octets : ℕ) → IsSure port [] → HasRoom port datagrams octets → AreWithin datagrams octets ds → IsSure port ds
+sure_of port ds datagrams octets sure room within = sure_within port ds datagrams octets sure.unlisted room.datagrams room.octets within.few within.short
+
+module _ (config : SlaveConfig) (masters : List Master) where
+  pub sure_tick : (port : MemoryPort) (target : PortIdentity) (setup : SlaveSetup) (L : Record) (x : ℕ) (handed : List Sending) → handed ≡ sendings setup L x Tick
+      → length setup.openings ≤ 16 → IsSure port [] → HasRoom port 32 7552 → IsSure port (map (departure_of config masters target) handed)
+  sure_tick port target setup L x handed stated few sure room =
+      sure_of port (map (departure_of config masters target) handed) 32 7552 sure room
+      (subst (λ ss. AreWithin 32 7552 (map (departure_of config masters target) ss)) (sym stated) (within_tick config masters target setup L x few))
+
+  pub sure_stop : (port : MemoryPort) (target : PortIdentity) (setup : SlaveSetup) (L : Record) (x : ℕ) (handed : List Sending) → handed ≡ sendings setup L x Stop
+      → length setup.openings ≤ 16 → IsSure port [] → HasRoom port 16 6848 → IsSure port (map (departure_of config masters target) handed)
+  sure_stop port target setup L x handed stated few sure room =
+      sure_of port (map (departure_of config masters target) handed) 16 6848 sure room
+      (subst (λ ss. AreWithin 16 6848 (map (departure_of config masters target) ss)) (sym stated) (within_stop config masters target setup L x few))
+
+  pub sure_answer : (port : MemoryPort) (ip : ℕ) (octets : List ℕ) → IsSure port [] → HasRoom port 1 428 → IsSure port (replies_in config masters (reception config masters ip octets))
+  sure_answer port ip octets sure room =
+      sure_of port (replies_in config masters (reception config masters ip octets)) 1 428 sure room (within_answer config masters ip octets)
