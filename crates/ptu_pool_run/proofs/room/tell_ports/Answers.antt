@@ -16,3 +16,8 @@ returns-clause-idle c = on_ok_weaker c.tell_port-5.result (λ cleared.
     c.tell_port-5.new.pools.gms c.in_ok-tell_port.ensures.there.1
     c.in_ok-tell_port.ensures.cleared c.in_ok-tell_port-2.ensures.cleared c.in_ok-tell_port-3.ensures.cleared c.in_ok-tell_port-4.ensures.cleared cleared)
     c.tell_port-5.ensures.cleared
+
+pub returns-clause-sure : goal.returns-clause-sure
+returns-clause-sure c = on_ok_weaker c.tell_port-5.result (λ last sure.
+    last (c.in_ok-tell_port-4.ensures.sure (c.in_ok-tell_port-3.ensures.sure (c.in_ok-tell_port-2.ensures.sure (c.in_ok-tell_port.ensures.sure sure)))))
+    c.tell_port-5.ensures.sure
