@@ -100,8 +100,8 @@ impl<P: Port> Gm<P> {
         }
     }
 
-    /// Takes back what a datagram came to, when it is done with. The room of its outcomes serves the
-    /// next Signaling.
+    /// Takes back what a datagram came to, when it is done with. The room of its outcomes serves
+    /// the next Signaling.
     pub fn give_back(&mut self, taken: Taken)
         ensures { self.new ≡ self.old }
     {
