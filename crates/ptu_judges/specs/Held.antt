@@ -1,5 +1,5 @@
 -- What a judge keeps of the record of its master.
-use Rattle.std.specs.Prelude.{◌≡◌, ℕ, Bool, false, ◌||◌, nat_le, List, Option, Some, IfSome}
+use Rattle.std.specs.Prelude.{◌≡◌, ℕ, ◌+◌, ◌==◌, if◌then◌else◌, Bool, false, ◌||◌, nat_le, List, [], length, Option, Some, IfSome}
 use Rattle.std.specs.List.{AllByRecursion}
 use Rattle.ptu_record.specs.declared.rule.Rule.{Rule}
 use Rattle.ptu_record.specs.declared.rule.Rule.TheVariants.{Flag, Gap}
@@ -56,3 +56,28 @@ pub record StandsFor (opening : Option Rule) (L : Record) (held : Held) : Type 0
 pub record IsStock (flags gaps : List Held) : Type 0 where
   pub flags_fresh : AllByRecursion (λ held. held ≡ fresh Flag) flags
   pub gaps_fresh : AllByRecursion (λ held. held ≡ fresh (Gap 4)) gaps
+
+-- of the judges of a stock those of the rule: there are judges of Flag, and of a gap of 4
+abbrev pub of_rule : Rule → (flags gaps : List Held) → List Held
+of_rule Flag flags gaps = flags
+of_rule (Gap n) flags gaps = if n == 4 then gaps else []
+
+-- a stock whose judges hold this has none of the rule left
+abbrev pub HasNone : Rule → (flags gaps : List Held) → Type 0
+HasNone rule flags gaps = length (of_rule rule flags gaps) ≡ 0
+
+-- how many judges of Flag one of the rule is, and how many of a gap
+abbrev pub as_flag : Rule → ℕ
+as_flag Flag = 1
+as_flag (Gap n) = 0
+
+abbrev pub as_gap : Rule → ℕ
+as_gap Flag = 0
+as_gap (Gap n) = 1
+
+-- from a stock whose judges hold this one of the rule was taken, which is fresh, and these are left
+pub record HasTaken (rule : Rule) (flags gaps flags' gaps' : List Held) (judge : Held) : Type 0 where
+  pub is_fresh : judge ≡ fresh rule
+  pub flags_left : length flags' + as_flag rule ≡ length flags
+  pub gaps_left : length gaps' + as_gap rule ≡ length gaps
+  pub stock : IsStock flags' gaps'

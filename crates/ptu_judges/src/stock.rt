@@ -1,4 +1,9 @@
+ghost use Rattle.std.specs.Prelude.{map};
+ghost use Rattle.std.specs.Option.{MatchOption};
+ghost use Rattle.ptu_judges.specs.Held.{HasNone, HasTaken, IsStock};
+
 use crate::judge::Judge;
+use ptu_record::Rule;
 
 /// Judges in reserve, of which a call takes those that it needs: of the rule Flag, and of the rule
 /// Gap of 4. A call that takes a stock asks that all of them are fresh (`IsStock`).
@@ -6,4 +11,25 @@ use crate::judge::Judge;
 pub struct Stock {
     pub flags: Vec<Box<dyn Judge>>,
     pub gaps: Vec<Box<dyn Judge>>,
+}
+
+impl Stock {
+    /// Takes the last judge of a rule; `None` where none is left. Of a gap of another length than 4
+    /// a stock has none.
+    pub fn take(&mut self, rule: Rule) -> Option<Box<dyn Judge>>
+        requires { IsStock (map (λ j. held j) self.old.flags.items)
+            (map (λ j. held j) self.old.gaps.items) }
+        ensures { MatchOption result
+            (HasNone rule (map (λ j. held j) self.old.flags.items)
+            (map (λ j. held j) self.old.gaps.items))
+            (λ judge. HasTaken rule (map (λ j. held j) self.old.flags.items)
+            (map (λ j. held j) self.old.gaps.items) (map (λ j. held j) self.new.flags.items)
+            (map (λ j. held j) self.new.gaps.items) (held judge)) }
+    {
+        match rule {
+            Rule::Flag => self.flags.pop(),
+            Rule::Gap(4) => self.gaps.pop(),
+            Rule::Gap(_) => None,
+        }
+    }
 }

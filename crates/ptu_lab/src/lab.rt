@@ -11,7 +11,6 @@ ghost use Rattle.ptu_lab.specs.Steps.{HasStepped};
 
 use crate::order::{Order, order_of};
 use crate::slave_node::SlaveNode;
-use crate::stock::Reserve;
 use ptu_judges::{Judge, Stock};
 use ptu_nodes::{GrandmasterNode, Journal};
 use ptu_report::Texts;
@@ -35,7 +34,7 @@ pub struct Lab {
     /// What they sent, and what is said of a line.
     pub journal: Journal,
     /// The judges that are left.
-    pub stock: Reserve,
+    pub stock: Stock,
     /// Whether there was an event.
     pub has_begun: bool,
 }
@@ -53,10 +52,7 @@ impl Lab {
         Lab {
             nodes: HashMap::new(alloc),
             journal: Journal::new(alloc),
-            stock: Reserve {
-                flags: stock.flags,
-                gaps: stock.gaps,
-            },
+            stock,
             has_begun: false,
         }
     }

@@ -26,9 +26,8 @@ ghost use Rattle.ptu_lab.specs.Steps.{HasActed, HasActedLeaving, stock_of};
 
 use crate::act::Act;
 use crate::slave_statements::{say_heard, was_ignored};
-use crate::stock::{Reserve, take_judge};
 use ptu_header::PortIdentity;
-use ptu_judges::{Judge, Rule};
+use ptu_judges::{Judge, Rule, Stock};
 use ptu_nodes::{Journal, SIGNALING};
 use ptu_outside::MemPort;
 use ptu_report_lines::Statement;
@@ -127,7 +126,7 @@ impl SlaveNode {
         &mut self,
         at: Moment,
         act: Act<'_>,
-        stock: &mut Reserve,
+        stock: &mut Stock,
         journal: &mut Journal,
     ) -> Result<Option<Cause>, OutOfMemory>
         requires stock { IsStock (map (λ j. held j) stock.old.flags.items)
@@ -257,7 +256,7 @@ impl SlaveNode {
         at: Moment,
         master: u32,
         rule: Rule,
-        stock: &mut Reserve,
+        stock: &mut Stock,
         journal: &mut Journal,
     ) -> Result<Option<Cause>, OutOfMemory>
         requires stock { IsStock (map (λ j. held j) stock.old.flags.items)
@@ -276,7 +275,7 @@ impl SlaveNode {
         let Some(place) = self.place(master) else {
             return Ok(Some(Cause::Node));
         };
-        let Some(judge) = take_judge(stock, rule) else {
+        let Some(judge) = stock.take(rule) else {
             return Ok(Some(Cause::Stock));
         };
         self.set_judge(at, place, judge, journal)?;

@@ -10,7 +10,7 @@ use Rattle.std.proofs.lemmas.List.Kept.{AllPairs-cons}
 use Rattle.std.proofs.lemmas.List.Elements.{All-from_recursion}
 use Rattle.std.proofs.lemmas.List.Sums.{sum_by-cons}
 use Rattle.ptu_record.specs.declared.rule.Rule.TheVariants.{Flag, Gap}
-use Rattle.ptu_judges.specs.Held.{Held, IsFresh, IsStock, fresh}
+use Rattle.ptu_judges.specs.Held.{HasNone, HasTaken, Held, IsFresh, fresh}
 use Rattle.ptu_config.specs.declared.master.MasterSetting.{MasterSetting}
 use Rattle.ptu_config.specs.declared.settings.SlaveSettings.{SlaveSettings}
 use Rattle.ptu_config.specs.Masters.{are_distinct, are_masters}
@@ -18,7 +18,7 @@ use Rattle.ptu_slave_messages.specs.declared.config.Master.{Master}
 use Rattle.ptu_slave_messages.specs.Config.{AreMasters}
 use Rattle.ptu_slave.specs.Kept.{Kept}
 use Rattle.ptu_slave.specs.Standing.{StandsFor}
-use Rattle.ptu_slave_daemon.specs.Opening.{HasNone, HasTaken, are_enough, config_of, master_of, node_of, rule_of}
+use Rattle.ptu_slave_daemon.specs.Opening.{are_enough, config_of, master_of, node_of, rule_of}
 use Rattle.ptu_slave_daemon.specs.Running.{IsAt}
 
 -- ---- masters
@@ -88,10 +88,10 @@ counted : (p : MasterSetting → Bool) (m : MasterSetting) (masters : List Maste
 counted p m masters = sum_by-cons (λ x. cond (p x) 1 0) m masters
 
 -- there is a judge for the first of them
-pub enough_first : (m : MasterSetting) (masters : List MasterSetting) (flags gaps : List Held) → Enough (m ∷ masters) (length flags) (length gaps) → HasNone m.gap flags gaps → ⊥
+pub enough_first : (m : MasterSetting) (masters : List MasterSetting) (flags gaps : List Held) → Enough (m ∷ masters) (length flags) (length gaps) → HasNone (rule_of m) flags gaps → ⊥
 enough_first m masters flags gaps enough none = pick m.gap refl none
   where
-    pick : (b : Bool) → m.gap ≡ b → HasNone b flags gaps → ⊥
+    pick : (b : Bool) → m.gap ≡ b → HasNone (cond b (Gap 4) Flag) flags gaps → ⊥
     pick true is none =
         let one : one_if m.gap ≡ 1 = ap one_if is in
         omega (arith, one, none, enough.gaps_are, counted (λ m. m.gap) m masters)
@@ -101,10 +101,10 @@ enough_first m masters flags gaps enough none = pick m.gap refl none
 
 -- and then enough are left for the others
 pub enough_rest : (m : MasterSetting) (masters : List MasterSetting) (flags gaps flags' gaps' : List Held) (judge : Held) → Enough (m ∷ masters) (length flags) (length gaps)
-    → HasTaken m.gap flags gaps flags' gaps' judge → Enough masters (length flags') (length gaps')
+    → HasTaken (rule_of m) flags gaps flags' gaps' judge → Enough masters (length flags') (length gaps')
 enough_rest m masters flags gaps flags' gaps' judge enough taken = pick m.gap refl taken
   where
-    pick : (b : Bool) → m.gap ≡ b → HasTaken b flags gaps flags' gaps' judge → Enough masters (length flags') (length gaps')
+    pick : (b : Bool) → m.gap ≡ b → HasTaken (cond b (Gap 4) Flag) flags gaps flags' gaps' judge → Enough masters (length flags') (length gaps')
     pick true is taken =
         let one : one_if m.gap ≡ 1 = ap one_if is in
         let none : one_if (not m.gap) ≡ 0 = ap (λ b. one_if (not b)) is in
@@ -121,44 +121,6 @@ enough_rest m masters flags gaps flags' gaps' judge enough taken = pick m.gap re
         }
 
 module _ {A : Type 0} (f : A → Held) where
-  all_but_last : (P : Held → Type 0) (xs : List A) (x : A) → AllByRecursion P (map f (xs ++ x ∷ [])) → AllByRecursion P (map f xs) × P (f x)
-  all_but_last P [] x h = (tt, h.0)
-  all_but_last P (y ∷ ys) x h = let rest = all_but_last P ys x h.1 in ((h.0, rest.0), rest.1)
-
-  one_less : (xs : List A) (x : A) → length (map f (xs ++ x ∷ [])) ≡ length (map f xs) + 1
-  one_less xs x = length-same f (xs ++ x ∷ []) ∙ (length-append xs (x ∷ []) ∙ ap (λ n. n + 1) (sym (length-same f xs)))
-
-  empty : (old : List A) (n : ℕ) → n ≡ length old → n ≡ 0 → length (map f old) ≡ 0
-  empty old n many none = length-same f old ∙ (sym many ∙ none)
-
-  pub took_flag : (old new other : List A) (found : Option A) (n m : ℕ) → old ≡ new ++ option_to_list found → n ≡ length old
-      → MatchOption found ((n ≡ 0) × (m ≡ 0)) (λ _. m + 1 ≡ n) → IsStock (map f old) (map f other)
-      → MatchOption found (HasNone false (map f old) (map f other)) (λ judge. HasTaken false (map f old) (map f other) (map f new) (map f other) (f judge))
-  took_flag old new other None n m is many count stock = empty old n many count.0
-  took_flag old new other (Some judge) n m is many count stock =
-      let parts = all_but_last (λ held. held ≡ fresh Flag) new judge (subst (λ l. AllByRecursion (λ held. held ≡ fresh Flag) (map f l)) is stock.flags_fresh) in
-      record {
-        is_fresh = parts.1;
-        flags_left = sym (ap (λ l. length (map f l)) is ∙ one_less new judge);
-        gaps_left = omega arith;
-        stock = record { flags_fresh = parts.0; gaps_fresh = stock.gaps_fresh };
-      }
-
-  pub took_gap : (old new other : List A) (found : Option A) (n m : ℕ) → old ≡ new ++ option_to_list found → n ≡ length old
-      → MatchOption found ((n ≡ 0) × (m ≡ 0)) (λ _. m + 1 ≡ n) → IsStock (map f other) (map f old)
-      → MatchOption found (HasNone true (map f other) (map f old)) (λ judge. HasTaken true (map f other) (map f old) (map f other) (map f new) (f judge))
-  took_gap old new other None n m is many count stock = empty old n many count.0
-  took_gap old new other (Some judge) n m is many count stock =
-      let parts = all_but_last (λ held. held ≡ fresh (Gap 4)) new judge (subst (λ l. AllByRecursion (λ held. held ≡ fresh (Gap 4)) (map f l)) is stock.gaps_fresh) in
-      record {
-        is_fresh = parts.1;
-        flags_left = omega arith;
-        gaps_left = sym (ap (λ l. length (map f l)) is ∙ one_less new judge);
-        stock = record { flags_fresh = stock.flags_fresh; gaps_fresh = parts.0 };
-      }
-
-  -- ---- the judges of the masters
-
   -- the judge of each master is fresh
   abbrev pub AreFresh : List A → List MasterSetting → Type 0
   AreFresh judges masters = map f judges ≡ map (λ m. fresh (rule_of m)) masters
@@ -177,12 +139,12 @@ module _ {A : Type 0} (f : A → Held) where
       (subst (λ ms. Enough ms (length flags) (length gaps)) (drop-cons masters i d lt ∙ ap (λ n. get_or masters i d ∷ drop n masters) (sym (add-one i))) enough))
 
   pub none_missing : (masters : List MasterSetting) (i : ℕ) (d : MasterSetting) (flags gaps : List A) → i < length masters → Enough (drop i masters) (length flags) (length gaps)
-      → HasNone (get_or masters i d).gap (map f flags) (map f gaps) → ⊥
+      → HasNone (rule_of (get_or masters i d)) (map f flags) (map f gaps) → ⊥
   none_missing masters i d flags gaps lt enough none =
       enough_first (get_or masters i d) (drop (i + 1) masters) (map f flags) (map f gaps) (first_left masters i d flags gaps lt enough) none
 
   pub enough_left : (masters : List MasterSetting) (i : ℕ) (d : MasterSetting) (flags gaps flags' gaps' : List A) (judge : A) → i < length masters → Enough (drop i masters) (length flags) (length gaps)
-      → HasTaken (get_or masters i d).gap (map f flags) (map f gaps) (map f flags') (map f gaps') (f judge) → Enough (drop (i + 1) masters) (length flags') (length gaps')
+      → HasTaken (rule_of (get_or masters i d)) (map f flags) (map f gaps) (map f flags') (map f gaps') (f judge) → Enough (drop (i + 1) masters) (length flags') (length gaps')
   enough_left masters i d flags gaps flags' gaps' judge lt enough taken =
       subst (λ n. Enough (drop (i + 1) masters) n (length gaps')) (length-same f flags') (subst (λ n. Enough (drop (i + 1) masters) (length (map f flags')) n) (length-same f gaps')
       (enough_rest (get_or masters i d) (drop (i + 1) masters) (map f flags) (map f gaps) (map f flags') (map f gaps') (f judge) (first_left masters i d flags gaps lt enough) taken))

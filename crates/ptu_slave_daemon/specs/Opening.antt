@@ -1,9 +1,8 @@
 -- What the settings of a slave's daemon open.
-use Rattle.std.specs.Prelude.{◌≡◌, ℕ, ◌+◌, Bool, not, ◌&&◌, cond, List, length, map, nat_le, Some}
+use Rattle.std.specs.Prelude.{ℕ, Bool, not, ◌&&◌, cond, List, map, nat_le, Some}
 use Rattle.std.specs.List.{count_by}
 use Rattle.ptu_record.specs.declared.rule.Rule.{Rule}
 use Rattle.ptu_record.specs.declared.rule.Rule.TheVariants.{Flag, Gap}
-use Rattle.ptu_judges.specs.Held.{Held, IsStock, fresh}
 use Rattle.ptu_config.specs.declared.master.MasterSetting.{MasterSetting}
 use Rattle.ptu_config.specs.declared.settings.SlaveSettings.{SlaveSettings}
 use Rattle.ptu_slave_messages.specs.declared.config.Master.{Master}
@@ -41,14 +40,3 @@ node_of s = record {
 abbrev pub are_enough : List MasterSetting → (flags gaps : ℕ) → Bool
 are_enough masters flags gaps =
     nat_le (count_by (λ m. not m.gap) masters) flags && nat_le (count_by (λ m. m.gap) masters) gaps
-
--- a stock whose judges hold this has none of the rule left
-abbrev pub HasNone : (gap : Bool) → (flags gaps : List Held) → Type 0
-HasNone gap flags gaps = length (cond gap gaps flags) ≡ 0
-
--- from a stock whose judges hold this a judge of the rule was taken, which is fresh, and these are left
-pub record HasTaken (gap : Bool) (flags gaps flags' gaps' : List Held) (judge : Held) : Type 0 where
-  pub is_fresh : judge ≡ fresh (cond gap (Gap 4) Flag)
-  pub flags_left : length flags' + cond gap 0 1 ≡ length flags
-  pub gaps_left : length gaps' + cond gap 1 0 ≡ length gaps
-  pub stock : IsStock flags' gaps'

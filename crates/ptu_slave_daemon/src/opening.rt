@@ -2,17 +2,16 @@
 
 ghost use Rattle.std.specs.Prelude.{◌≡◌, [], length, map, not, true, IfOk};
 ghost use Rattle.std.specs.List.{count_by};
-ghost use Rattle.std.specs.Option.{MatchOption};
 ghost use Rattle.ptu_config.specs.Limits.{IsSlaveInRange};
 ghost use Rattle.ptu_judges.specs.Held.{IsStock, fresh};
 ghost use Rattle.ptu_slave_messages.specs.Config.{IsWithinLimits};
-ghost use Rattle.ptu_slave_daemon.specs.Opening.{HasNone, HasTaken, are_enough, config_of, master_of, node_of, rule_of};
+ghost use Rattle.ptu_slave_daemon.specs.Opening.{are_enough, config_of, master_of, node_of, rule_of};
 ghost use Rattle.ptu_slave_daemon.specs.Running.{Stands};
 ghost use Rattle.ptu_slave.specs.Seen.{HasJudges, seen};
 
 use ptu_config::{MasterSetting, SlaveSettings};
 use ptu_header::PortIdentity;
-use ptu_judges::{Judge, Stock};
+use ptu_judges::{Judge, Rule, Stock};
 use ptu_outside::Port;
 use ptu_record::Wants;
 use ptu_slave::{Master, Slave, SlaveConfig};
@@ -83,21 +82,14 @@ fn new_masters(alloc: Global, masters: &[MasterSetting]) -> Result<Vec<Master>, 
     Ok(list)
 }
 
-// Takes the last judge of a rule from the stock.
-fn take_judge(stock: &mut Stock, gap: bool) -> Option<Box<dyn Judge>>
-    requires { IsStock (map (λ j. held j) stock.old.flags.items)
-        (map (λ j. held j) stock.old.gaps.items) }
-    ensures { MatchOption result
-        (HasNone gap (map (λ j. held j) stock.old.flags.items)
-        (map (λ j. held j) stock.old.gaps.items))
-        (λ judge. HasTaken gap (map (λ j. held j) stock.old.flags.items)
-        (map (λ j. held j) stock.old.gaps.items) (map (λ j. held j) stock.new.flags.items)
-        (map (λ j. held j) stock.new.gaps.items) (held judge)) }
+// The rule of the judge of a master.
+fn rule(master: &MasterSetting) -> Rule
+    ensures { result ≡ rule_of master.now }
 {
-    if gap {
-        stock.gaps.pop()
+    if master.gap {
+        Rule::Gap(4)
     } else {
-        stock.flags.pop()
+        Rule::Flag
     }
 }
 
@@ -116,7 +108,7 @@ fn new_judges(
 {
     let mut judges = Vec::new(alloc);
     for master in masters {
-        let Some(judge) = take_judge(&mut stock, master.gap) else {
+        let Some(judge) = stock.take(rule(master)) else {
             unreachable!();
         };
         judges.push(judge)?;
