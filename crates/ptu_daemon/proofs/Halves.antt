@@ -27,9 +27,10 @@ use Rattle.ptu_history.specs.Live as live
 use Rattle.ptu_history.specs.Shedding.{shed_grants}
 use Rattle.ptu_history.specs.Step.{delay_answer}
 use Rattle.ptu_history.specs.Turns.{due_grants, message_of}
-use Rattle.ptu_shard.specs.declared.config.GmConfig.{GmConfig}
+use Rattle.ptu_profile.specs.declared.grandmaster.GmConfig.{GmConfig}
 use Rattle.ptu_shard.specs.Answered.{responses}
-use Rattle.ptu_shard.specs.Messages.{channel_of, departure_of, message_of_response, message_of_turn, octets_sent, response_of}
+use Rattle.ptu_messages.specs.Sent.{octets_sent}
+use Rattle.ptu_shard.specs.Messages.{channel_of, departure_of, message_of_response, message_of_turn, response_of}
 use Rattle.ptu_items.specs.declared.heard.Heard.{Heard}
 use Rattle.ptu_items.specs.declared.heard.Heard.TheVariants as heard
 use Rattle.ptu_items.specs.declared.reason.GmReason.{GmReason}

@@ -10,7 +10,7 @@ use Rattle.ptu_history.specs.History.{Record}
 use Rattle.ptu_history.specs.Shedding.{shed_grants}
 use Rattle.ptu_history.specs.Step.{delay_answer}
 use Rattle.ptu_history.specs.Turns.{due_grants, message_of}
-use Rattle.ptu_shard.specs.declared.config.GmConfig.{GmConfig}
+use Rattle.ptu_profile.specs.declared.grandmaster.GmConfig.{GmConfig}
 use Rattle.ptu_shard.specs.Answered.{responses}
 use Rattle.ptu_shard.specs.Messages.{departure_of, response_of}
 use Rattle.ptu_items.specs.declared.heard.Heard.{Heard}

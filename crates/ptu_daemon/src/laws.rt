@@ -4,7 +4,7 @@ ghost use Rattle.std.specs.Prelude.{◌≡◌, ℕ, List, false};
 ghost use Rattle.std.specs.List.{AllByRecursion};
 ghost use Rattle.ptu_units.specs.declared.kind.Kind.{Kind};
 ghost use Rattle.ptu_history.specs.declared.client.Client.{Client};
-ghost use Rattle.ptu_shard.specs.declared.config.GmConfig.{GmConfig};
+ghost use Rattle.ptu_profile.specs.declared.grandmaster.GmConfig.{GmConfig};
 ghost use Rattle.ptu_items.specs.Replies.{cancels_to};
 ghost use Rattle.ptu_grandmaster.specs.declared.driving.GmEvent.{GmEvent};
 ghost use Rattle.ptu_lanes.specs.Rounds.{Exchange, replies};

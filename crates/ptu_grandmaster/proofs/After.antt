@@ -18,7 +18,7 @@ use Rattle.ptu_history.specs.Verdict.{Config, verdict}
 use Rattle.ptu_history.proofs.Counts.{counts-asked, counts-empty, counts-ended, counts-granted, counts-nothing, counts-sent, counts-shed, counts-short}
 use Rattle.ptu_tlvs.specs.declared.tlv.Ask.{Ask}
 use Rattle.ptu_shard.specs.Table.{StandsFor as TableStandsFor}
-use Rattle.ptu_shard.specs.declared.config.GmConfig.{GmConfig}
+use Rattle.ptu_profile.specs.declared.grandmaster.GmConfig.{GmConfig}
 use Rattle.ptu_admit.specs.declared.verdict.Verdict.{Verdict}
 use Rattle.ptu_admit.specs.declared.verdict.Verdict.TheVariants.{Granted, Short, Outside}
 use Rattle.ptu_admit.specs.declared.ending.Cancelled.{Cancelled}

@@ -29,9 +29,9 @@ use Rattle.ptu_laws.specs.Changes.{IsUpTo}
 use Rattle.ptu_laws.proofs.Bounds.{sent-up_to}
 use Rattle.ptu_shard.specs.declared.answered.Answered.{Answered}
 use Rattle.ptu_shard.specs.declared.answered.Answered.TheVariants as answers
-use Rattle.ptu_shard.specs.declared.config.GmConfig.{GmConfig}
+use Rattle.ptu_profile.specs.declared.grandmaster.GmConfig.{GmConfig}
 use Rattle.ptu_shard.specs.Answered.{failed_by, met_by, sent_by}
-use Rattle.ptu_admit.specs.Book.{IsCapacity}
+use Rattle.ptu_profile.specs.Limits.{IsCapacity}
 use Rattle.ptu_items.specs.declared.item.Item.{Item}
 use Rattle.ptu_items.specs.declared.item.Item.TheVariants as items
 use Rattle.ptu_items.specs.declared.heard.Heard.TheVariants as heard

@@ -13,7 +13,7 @@ use Rattle.ptu_history.specs.Core.{core_step, history_after}
 use Rattle.ptu_history.specs.Events.{Event}
 use Rattle.ptu_history.specs.History.{Record}
 use Rattle.ptu_history.specs.Verdict.{Config}
-use Rattle.ptu_shard.specs.declared.config.GmConfig.{GmConfig}
+use Rattle.ptu_profile.specs.declared.grandmaster.GmConfig.{GmConfig}
 use Rattle.ptu_items.specs.declared.item.Item.{Item}
 use Rattle.ptu_items.specs.declared.reason.GmReason.{GmReason}
 use Rattle.ptu_items.specs.declared.reason.GmReason.TheVariants as reasons

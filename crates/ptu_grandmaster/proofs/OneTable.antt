@@ -15,7 +15,7 @@ use Rattle.ptu_history.specs.Step.{delay_answer, step}
 use Rattle.ptu_history.specs.Turns.{due_grants, message_of}
 use Rattle.ptu_history.specs.Verdict.{Config, verdict}
 use Rattle.ptu_tlvs.specs.declared.tlv.Ask.{Ask}
-use Rattle.ptu_shard.specs.declared.config.GmConfig.{GmConfig}
+use Rattle.ptu_profile.specs.declared.grandmaster.GmConfig.{GmConfig}
 use Rattle.ptu_shard.specs.declared.answered.Answered.{Answered}
 use Rattle.ptu_shard.specs.Answered.{met_by}
 use Rattle.ptu_shard.specs.Table.{Kept, StandsAt}

@@ -1,8 +1,7 @@
 //! Replies to the items of a Signaling.
 
 ghost use Rattle.std.specs.Prelude.{◌≡◌, ◌↔◌, ◌≤◌, [], map, take, drop};
-ghost use Rattle.ptu_messages.specs.Sent.{AlwaysSpells};
-ghost use Rattle.ptu_shard.specs.Messages.{octets_sent};
+ghost use Rattle.ptu_messages.specs.Sent.{AlwaysSpells, octets_sent};
 ghost use Rattle.ptu_items.specs.Deciding.{answer_to};
 ghost use Rattle.ptu_items.specs.Items.{AreAnswerable};
 ghost use Rattle.ptu_items.specs.Replies.{reply_to, signaling_of};
@@ -15,7 +14,7 @@ use ptu_header::{Header, PortIdentity};
 use ptu_items::write_reply;
 use ptu_messages::ToTlv;
 use ptu_outside::{Channel, Port, hand};
-use ptu_shard::GmConfig;
+use ptu_profile::GmConfig;
 use ptu_tlvs::{Ask, Tlv};
 
 impl ToTlv for Outcome {

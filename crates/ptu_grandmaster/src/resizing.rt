@@ -6,7 +6,7 @@ ghost use Rattle.ptu_history.specs.Core.{book_step_moment, core_step};
 ghost use Rattle.ptu_history.specs.Events as events;
 ghost use Rattle.ptu_history.specs.History.{Record};
 ghost use Rattle.ptu_history.specs.Shedding.{shed_grants};
-ghost use Rattle.ptu_admit.specs.Book.{IsCapacity};
+ghost use Rattle.ptu_profile.specs.Limits.{IsCapacity};
 ghost use Rattle.ptu_admit.specs.Lent.{moment_for_all};
 ghost use Rattle.ptu_admit.specs.Shed.{shed_of};
 ghost use Rattle.ptu_items.specs.Deciding.{opened_with};
@@ -18,7 +18,7 @@ use crate::gm::Gm;
 use ptu_admit::{Shed, ShedList, resize};
 use ptu_items::cancel_of;
 use ptu_outside::{Channel, Failed, Port, Sends, hand};
-use ptu_shard::GmConfig;
+use ptu_profile::GmConfig;
 use ptu_units::{Moment, OutOfMemory};
 
 /// What a change of capacity did.

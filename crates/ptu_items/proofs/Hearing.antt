@@ -13,7 +13,7 @@ use Rattle.ptu_messages.specs.Message.{SpellsMessage, least_length}
 use Rattle.ptu_messages.specs.MessageFault.{IsSignaling}
 use Rattle.ptu_messages.specs.Reading.{message_in}
 use Rattle.ptu_messages.proofs.Readings.{found_is, refused_is}
-use Rattle.ptu_shard.specs.declared.config.GmConfig.{GmConfig}
+use Rattle.ptu_profile.specs.declared.grandmaster.GmConfig.{GmConfig}
 use Rattle.ptu_items.specs.declared.item.Item.{Item}
 use Rattle.ptu_items.specs.declared.reason.GmReason.{GmReason}
 use Rattle.ptu_items.specs.declared.reason.GmReason.TheVariants as reasons

@@ -17,7 +17,7 @@ use Rattle.ptu_history.specs.Events as events
 use Rattle.ptu_history.specs.Events.{Event}
 use Rattle.ptu_history.specs.Core.{core_step, table_step_moment}
 use Rattle.ptu_outside.specs.Departure.{Departure}
-use Rattle.ptu_shard.specs.declared.config.GmConfig.{GmConfig}
+use Rattle.ptu_profile.specs.declared.grandmaster.GmConfig.{GmConfig}
 use Rattle.ptu_items.specs.declared.item.Item.{Item}
 use Rattle.ptu_items.specs.declared.item.Item.TheVariants.{Request, Cancel}
 use Rattle.ptu_items.specs.declared.reason.GmReason.{GmReason}

@@ -9,13 +9,13 @@ use Rattle.ptu_tlvs.specs.declared.tlv.Ask.{Ask}
 use Rattle.ptu_tlvs.specs.declared.tlv.Tlv.{Tlv}
 use Rattle.ptu_tlvs.specs.declared.tlv.Tlv.TheVariants.{Grant, Cancel}
 use Rattle.ptu_messages.specs.declared.message.Message.{Message}
-use Rattle.ptu_messages.specs.Sent.{signaling}
+use Rattle.ptu_messages.specs.Sent.{octets_sent, signaling}
 use Rattle.ptu_outside.specs.declared.channel.Channel.TheVariants.{General}
 use Rattle.ptu_outside.specs.Departure.{Departure}
 use Rattle.ptu_history.specs.declared.client.Client.{Client}
 use Rattle.ptu_history.specs.Live as live
-use Rattle.ptu_shard.specs.declared.config.GmConfig.{GmConfig}
-use Rattle.ptu_shard.specs.Messages.{header_of, octets_sent}
+use Rattle.ptu_profile.specs.declared.grandmaster.GmConfig.{GmConfig}
+use Rattle.ptu_profile.specs.Grandmaster.{header_of}
 
 -- a grant of this duration, in seconds, of what was asked for: R is set
 abbrev pub grant_of : Ask → ℕ → Tlv

@@ -8,8 +8,8 @@ use Rattle.ptu_messages.specs.declared.fault.MessageFault.TheVariants.{Header}
 use Rattle.ptu_messages.specs.Samples as messages
 use Rattle.ptu_history.specs.declared.client.Client.{Client}
 use Rattle.ptu_history.specs.Events as events
-use Rattle.ptu_shard.specs.declared.config.GmConfig.{GmConfig}
-use Rattle.ptu_shard.specs.Messages.{octets_sent}
+use Rattle.ptu_profile.specs.declared.grandmaster.GmConfig.{GmConfig}
+use Rattle.ptu_messages.specs.Sent.{octets_sent}
 use Rattle.ptu_items.specs.declared.item.Item.TheVariants.{Request, Cancel}
 use Rattle.ptu_items.specs.declared.reason.GmReason.TheVariants as reason
 use Rattle.ptu_items.specs.declared.heard.Heard.TheVariants as heard

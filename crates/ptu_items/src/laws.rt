@@ -10,7 +10,7 @@ ghost use Rattle.ptu_history.specs.declared.client.Client.{Client};
 ghost use Rattle.ptu_history.specs.Core.{history_after};
 ghost use Rattle.ptu_history.specs.History.{Record};
 ghost use Rattle.ptu_history.specs.Verdict.{Config};
-ghost use Rattle.ptu_shard.specs.declared.config.GmConfig.{GmConfig};
+ghost use Rattle.ptu_profile.specs.declared.grandmaster.GmConfig.{GmConfig};
 ghost use Rattle.ptu_items.specs.declared.item.Item.{Item};
 ghost use Rattle.ptu_items.specs.declared.reason.GmReason.{GmReason};
 ghost use Rattle.ptu_items.specs.Items.{heard_by, heard_in, items_by, items_in};

@@ -14,7 +14,7 @@ use crate::reason::GmReason;
 use crate::room::HearingRoom;
 use ptu_header::{Header, PortIdentity};
 use ptu_messages::{Body, Message, MessageFault, TlvList, read_message_in};
-use ptu_shard::GmConfig;
+use ptu_profile::GmConfig;
 use ptu_tlvs::Tlv;
 use ptu_units::OutOfMemory;
 use std::alloc::{AllocError, Global};

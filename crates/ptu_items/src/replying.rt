@@ -1,40 +1,22 @@
 //! The Signaling messages of a grandmaster (IEEE 1588-2019 clauses 13.12 and 16.1).
 
-ghost use Rattle.std.specs.Prelude.{◌≡◌, ◌≤◌, [], ◌∷◌, length, map, take, drop, All, pos};
+ghost use Rattle.std.specs.Prelude.{◌≡◌, ◌≤◌, [], ◌∷◌, length, map, take, drop, All};
 ghost use Rattle.ptu_tlvs.specs.Sent.{IsSendable};
-ghost use Rattle.ptu_messages.specs.Sent.{AlwaysSpells};
-ghost use Rattle.ptu_shard.specs.Messages.{header_of, octets_sent};
+ghost use Rattle.ptu_messages.specs.Sent.{AlwaysSpells, octets_sent};
 ghost use Rattle.ptu_units.specs.Kind.{code_of};
 ghost use Rattle.ptu_items.specs.Replies.{identity_of, signaling_of};
 
-use ptu_header::{Header, PortIdentity};
+use ptu_header::PortIdentity;
 use ptu_history::Client;
 use ptu_messages::{ToTlv, write_signaling_of};
-use ptu_shard::GmConfig;
+use ptu_profile::GmConfig;
 use ptu_tlvs::Tlv;
 use ptu_units::Kind;
 
 /// The messageType of a Signaling.
 const SIGNALING: u8 = 12;
 
-/// The flagField of every message: unicastFlag alone.
-const FLAGS: u16 = 0x0400;
-
-// The header of a Signaling of the grandmaster.
-fn header(config: &GmConfig, sequence: u16) -> Header
-    ensures { result ≡ header_of config.now 12 (pos 0) sequence }
-{
-    Header {
-        message_type: SIGNALING,
-        domain: config.domain,
-        flags: FLAGS,
-        correction: 0,
-        source: config.identity,
-        sequence,
-    }
-}
-
-#[tactic(auto, unfolding(ptu_shard::specs::Messages::octets_sent))]
+#[tactic(auto, unfolding(ptu_messages::specs::Sent::octets_sent))]
 /// Writes the reply with these answers, to this port and with this sequenceId, to the front of
 /// `out`. It answers the size in octets and leaves the rest of `out` (IEEE 1588-2019 clause
 /// 16.1.4).
@@ -56,13 +38,12 @@ pub fn write_reply<T: ToTlv>(
     ensures again { AlwaysSpells (take result out.new)
         (signaling_of config.now to.now sequence (map T.tlv answers.now)) }
 {
-    write_signaling_of(&header(config, sequence), to, answers, out)
+    write_signaling_of(&config.header(SIGNALING, 0, sequence), to, answers, out)
 }
 
 /// Writes the CANCEL to a client whose grant of the kind was shed, with this sequenceId, to the
 /// front of `out`. It answers the size in octets and leaves the rest of `out` (IEEE 1588-2019
-/// clause
-/// 16.1.4.3).
+/// clause 16.1.4.3).
 pub fn cancel_of(
     config: &GmConfig,
     client: &Client,

@@ -1,7 +1,7 @@
 use super::*;
 use ptu_header::PortIdentity;
 use ptu_history::Client;
-use ptu_shard::GmConfig;
+use ptu_profile::GmConfig;
 use ptu_tlvs::{Ask, Tlv};
 use ptu_units::Kind;
 use std::test::Fail;

@@ -11,7 +11,7 @@ use Rattle.ptu_messages.specs.declared.message.Body.TheVariants as body
 use Rattle.ptu_messages.specs.declared.message.Message.{Message}
 use Rattle.ptu_messages.specs.declared.fault.MessageFault.{MessageFault}
 use Rattle.ptu_messages.specs.Reading.{message_in}
-use Rattle.ptu_shard.specs.declared.config.GmConfig.{GmConfig}
+use Rattle.ptu_profile.specs.declared.grandmaster.GmConfig.{GmConfig}
 use Rattle.ptu_shared.specs.Seats.{Counts}
 use Rattle.ptu_items.specs.declared.heard.Heard.{Heard}
 use Rattle.ptu_items.specs.declared.heard.Heard.TheVariants as heard

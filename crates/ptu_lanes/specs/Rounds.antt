@@ -10,7 +10,7 @@ use Rattle.ptu_outside.specs.Faults.{HasRisen, HasRisenBy, HasRisenJust, HasNotF
 use Rattle.ptu_outside.specs.HandsOver.{HandsOver}
 use Rattle.ptu_header.specs.declared.header.Header.{Header}
 use Rattle.ptu_tlvs.specs.declared.tlv.Tlv.{Tlv}
-use Rattle.ptu_shard.specs.declared.config.GmConfig.{GmConfig}
+use Rattle.ptu_profile.specs.declared.grandmaster.GmConfig.{GmConfig}
 use Rattle.ptu_shared.specs.Seats.{Counts}
 use Rattle.ptu_items.specs.declared.heard.Heard.{Heard}
 use Rattle.ptu_items.specs.declared.heard.Heard.TheVariants as heard

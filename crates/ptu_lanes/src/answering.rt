@@ -3,7 +3,7 @@
 ghost use Rattle.std.specs.Prelude.{◌≡◌, ◌+◌, ◌^◌, ◌<◌, ◌≤◌, List, [], ◌∷◌, length, map, IfOk, OnErr};
 ghost use Rattle.ptu_outside.specs.HandsOver.{HandsOver};
 ghost use Rattle.ptu_units.specs.Kind.{kind_of};
-ghost use Rattle.ptu_shard.specs.Config.{IsWithinLimits};
+ghost use Rattle.ptu_profile.specs.Grandmaster.{IsWithinLimits};
 ghost use Rattle.ptu_tlvs.specs.declared.tlv.Tlv.{Tlv};
 ghost use Rattle.ptu_items.specs.Deciding.{answer_to};
 ghost use Rattle.ptu_items.specs.Items.{AreAnswerable};
@@ -20,7 +20,7 @@ use ptu_header::Header;
 use ptu_history::Client;
 use ptu_items::{Heard, Item, hear};
 use ptu_outside::{Channel, Port, Sends, hand};
-use ptu_shard::GmConfig;
+use ptu_profile::GmConfig;
 use ptu_shared::{Rates, Seat};
 use ptu_units::{Kind, Moment, OutOfMemory};
 use std::sync::Wait;

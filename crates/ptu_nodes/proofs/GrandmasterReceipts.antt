@@ -14,7 +14,7 @@ use Rattle.ptu_history.specs.History.{Record}
 use Rattle.ptu_history.specs.Step.{delay_answer}
 use Rattle.ptu_shard.specs.declared.answered.Answered.{Answered}
 use Rattle.ptu_shard.specs.declared.answered.Answered.TheVariants as answers
-use Rattle.ptu_shard.specs.declared.config.GmConfig.{GmConfig}
+use Rattle.ptu_profile.specs.declared.grandmaster.GmConfig.{GmConfig}
 use Rattle.ptu_shard.specs.Answered.{failed_by, met_by, moment_of_answer, responses, sent_by}
 use Rattle.ptu_shard.specs.Messages.{response_of}
 use Rattle.ptu_items.specs.declared.heard.Heard.{Heard}

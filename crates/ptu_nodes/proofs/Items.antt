@@ -10,7 +10,7 @@ use Rattle.ptu_messages.specs.declared.fault.MessageFault.{MessageFault}
 use Rattle.ptu_messages.specs.Message.{SpellsMessage}
 use Rattle.ptu_messages.specs.Reading.{message_in}
 use Rattle.ptu_messages.proofs.Readings.{found_is}
-use Rattle.ptu_shard.specs.declared.config.GmConfig.{GmConfig}
+use Rattle.ptu_profile.specs.declared.grandmaster.GmConfig.{GmConfig}
 use Rattle.ptu_items.specs.declared.heard.Heard.{Heard}
 use Rattle.ptu_items.specs.declared.heard.Heard.TheVariants as heard
 use Rattle.ptu_items.specs.declared.item.Item.{Item}

@@ -19,7 +19,7 @@ use Rattle.ptu_history.specs.Events.{Answer}
 use Rattle.ptu_history.proofs.Order.{IsPermutation-in_order}
 use Rattle.ptu_shard.specs.declared.answered.Answered.{Answered}
 use Rattle.ptu_shard.specs.declared.answered.Answered.TheVariants as answers
-use Rattle.ptu_shard.specs.declared.config.GmConfig.{GmConfig}
+use Rattle.ptu_profile.specs.declared.grandmaster.GmConfig.{GmConfig}
 use Rattle.ptu_shard.specs.declared.lease.Row.{Row}
 use Rattle.ptu_shard.specs.Answered.{failed_by, met_by, moment_of_answer, responses, sent_by}
 use Rattle.ptu_shard.specs.Messages.{departure_of, response_of}

@@ -1,7 +1,7 @@
 -- Grandmasters that are made for pools.
 use Rattle.std.proofs.Common.{◌≡◌, ℕ, zero, suc, ◌+◌, ◌*◌, ◌<◌, ◌≤◌, List, [], ◌∷◌, ◌++◌, length, slice_get, Option, Some, None, refl, sym, ap, subst, ◌∙◌, arith, length-append, IsSome, MatchOption}
 use Rattle.std.proofs.lemmas.List.{append-nil}
-use Rattle.ptu_shard.specs.declared.config.GmConfig.{GmConfig}
+use Rattle.ptu_profile.specs.declared.grandmaster.GmConfig.{GmConfig}
 use Rattle.ptu_history.specs.Core.{core_history}
 use Rattle.ptu_history.specs.History.{Record}
 use Rattle.ptu_history.proofs.Histories.{history-none}

@@ -17,7 +17,7 @@ use Rattle.ptu_history.proofs.AfterSteps.{capacity_in_force-quiet}
 use Rattle.ptu_laws.specs.Changes.{is_resize}
 use Rattle.ptu_laws.proofs.Budget.{count-constant, history-unchanged}
 use Rattle.ptu_laws.proofs.Capacity.{held-within}
-use Rattle.ptu_shard.specs.declared.config.GmConfig.{GmConfig}
+use Rattle.ptu_profile.specs.declared.grandmaster.GmConfig.{GmConfig}
 use Rattle.ptu_items.specs.declared.heard.Heard.{Heard}
 use Rattle.ptu_items.specs.declared.heard.Heard.TheVariants as heard
 use Rattle.ptu_items.specs.declared.item.Item.{Item}

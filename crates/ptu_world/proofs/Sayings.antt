@@ -17,7 +17,7 @@ use Rattle.ptu_record.specs.Record.{event_moment}
 use Rattle.ptu_record.proofs.Choice.{selected_is}
 use Rattle.ptu_record.specs.declared.rule.Rule.{Rule}
 use Rattle.ptu_record.specs.Step as slave_events
-use Rattle.ptu_slave_messages.specs.Config.{address_of, place_of, priorities, timeouts}
+use Rattle.ptu_profile.specs.Slave.{address_of, place_of, priorities, timeouts}
 use Rattle.ptu_slave_messages.specs.declared.heard.Heard as slave_heard
 use Rattle.ptu_slave_messages.specs.declared.heard.Heard.TheVariants as slave_heards
 use Rattle.ptu_slave_messages.specs.declared.signal.Signal.{Signal}

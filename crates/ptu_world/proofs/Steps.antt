@@ -9,7 +9,7 @@ use Rattle.ptu_items.specs.declared.reason.GmReason.{GmReason}
 use Rattle.ptu_items.specs.Items.{heard_in}
 use Rattle.ptu_record.specs.declared.rule.Rule.{Rule}
 use Rattle.ptu_record.specs.Step as slave_events
-use Rattle.ptu_slave_messages.specs.Config.{place_of}
+use Rattle.ptu_profile.specs.Slave.{place_of}
 use Rattle.ptu_slave_messages.specs.declared.heard.Heard as slave_heard
 use Rattle.ptu_slave_messages.specs.declared.heard.Heard.TheVariants as slave_heards
 use Rattle.ptu_script.specs.declared.cause.Cause.{Cause}

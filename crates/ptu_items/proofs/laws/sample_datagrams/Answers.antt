@@ -7,7 +7,7 @@ use Rattle.ptu_history.specs.Live.{standing, live_grants, last_decision}
 use Rattle.ptu_history.specs.Moments.{book_moment, table_moment}
 use Rattle.ptu_history.specs.Verdict.{others, verdict}
 use Rattle.ptu_history.specs.Core.{table_step_moment}
-use Rattle.ptu_shard.specs.Messages.{octets_sent}
+use Rattle.ptu_messages.specs.Sent.{octets_sent}
 use Rattle.ptu_items.specs.Items.{heard_in, items_in}
 use Rattle.ptu_items.specs.Deciding.{placed}
 use Rattle.ptu_items.proofs.laws.sample_datagrams.Goals as goal

@@ -1,4 +1,7 @@
-use ptu_header::PortIdentity;
+ghost use Rattle.std.specs.Prelude.{◌≡◌};
+
+use crate::headers::header_from;
+use ptu_header::{Header, PortIdentity};
 use ptu_record::Wants;
 
 /// A master of a slave.
@@ -29,4 +32,15 @@ pub struct SlaveConfig {
     pub delay_timeout: u8,
     /// The wait to restore, from 0 to 720 seconds.
     pub wait: u32,
+}
+
+impl SlaveConfig {
+    ghost use Rattle.ptu_profile.specs.Slave.{header_of};
+
+    /// The header of a message of this type and with this sequenceId; its correctionField is 0.
+    pub fn header(&self, message_type: u8, sequence: u16) -> Header
+        ensures { result ≡ header_of self.now message_type sequence }
+    {
+        header_from(self.identity, self.domain, message_type, 0, sequence)
+    }
 }
