@@ -5,7 +5,7 @@ ghost use Rattle.std.specs.List.{AllByRecursion};
 ghost use Rattle.ptu_units.specs.declared.kind.Kind.{Kind};
 ghost use Rattle.ptu_history.specs.declared.client.Client.{Client};
 ghost use Rattle.ptu_profile.specs.declared.grandmaster.GmConfig.{GmConfig};
-ghost use Rattle.ptu_items.specs.Replies.{cancels_to};
+ghost use Rattle.ptu_gm_messages.specs.Replies.{cancels_to};
 ghost use Rattle.ptu_grandmaster.specs.declared.driving.GmEvent.{GmEvent};
 ghost use Rattle.ptu_lanes.specs.Rounds.{Exchange, replies};
 ghost use Rattle.ptu_daemon.specs.Sends.{Standing, sends_by};

@@ -24,9 +24,9 @@ use Rattle.ptu_admit.specs.declared.verdict.Verdict.TheVariants.{Granted, Short,
 use Rattle.ptu_admit.specs.declared.ending.Cancelled.{Cancelled}
 use Rattle.ptu_admit.specs.Lent.{EachStandsAt, Lent, StandFor, shares}
 use Rattle.ptu_admit.specs.Verdict.{IsAt, verdict_of}
-use Rattle.ptu_items.specs.declared.item.Item.TheVariants as items
-use Rattle.ptu_items.specs.Deciding as deciding
-use Rattle.ptu_items.specs.Deciding.{Judged, asked_by, item_moment, moment_of_verdict, opened_with}
+use Rattle.ptu_gm_messages.specs.declared.item.Item.TheVariants as items
+use Rattle.ptu_gm_messages.specs.Deciding as deciding
+use Rattle.ptu_gm_messages.specs.Deciding.{Judged, asked_by, item_moment, moment_of_verdict, opened_with}
 use Rattle.ptu_grandmaster.specs.Deciding.{Comes, Decides, EndsBy, counting}
 use Rattle.ptu_units.specs.Counts.{counted}
 use Rattle.ptu_grandmaster.specs.Gm.{KeptGm, StandsFor, tables}

@@ -28,7 +28,7 @@ use Rattle.ptu_admit.specs.Lent.{Lent, StandFor, is_lent, lent_as}
 use Rattle.ptu_admit.proofs.Lending.{are_at, at_back, at_front, stand_for}
 use Rattle.ptu_admit.proofs.Sendings.{delay_req_stands, turn_stands}
 use Rattle.ptu_admit.proofs.StepMoments.{moment-one}
-use Rattle.ptu_items.specs.Deciding.{asked_by, item_moment, opened_with}
+use Rattle.ptu_gm_messages.specs.Deciding.{asked_by, item_moment, opened_with}
 
 pub lent_first : (opening : ℕ) (before : List Lent) (t : Lent) (after : List Lent) (book : KeptBook) (history : List Record) →
     StandFor opening (before ++ t ∷ after) book history → StandFor opening (t ∷ before ++ after) book history

@@ -7,7 +7,7 @@ ghost use Rattle.ptu_history.specs.Held.{budget, count};
 ghost use Rattle.ptu_history.specs.History.{Record};
 ghost use Rattle.ptu_profile.specs.Grandmaster.{IsWithinLimits};
 ghost use Rattle.ptu_profile.specs.Limits.{IsCapacity};
-ghost use Rattle.ptu_items.specs.Deciding.{opened_with};
+ghost use Rattle.ptu_gm_messages.specs.Deciding.{opened_with};
 ghost use Rattle.ptu_grandmaster.specs.Driven.{IsPossible, IsSetUpAs, IsTimely, driven_history, events_of, sent_taken};
 ghost use Rattle.ptu_grandmaster.specs.Gm.{StandsFor};
 

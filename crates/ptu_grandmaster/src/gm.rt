@@ -8,7 +8,7 @@ ghost use Rattle.ptu_grandmaster.specs.Lends.{LendsPort};
 
 use crate::outcome::{Outcome, Taken};
 use ptu_admit::Book;
-use ptu_items::HearingRoom;
+use ptu_gm_messages::HearingRoom;
 use ptu_outside::Port;
 use ptu_profile::GmConfig;
 use ptu_shard::Shard;

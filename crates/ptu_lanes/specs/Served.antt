@@ -12,7 +12,7 @@ use Rattle.ptu_history.specs.declared.client.Client.{Client}
 use Rattle.ptu_profile.specs.declared.grandmaster.GmConfig.{GmConfig}
 use Rattle.ptu_shared.specs.Opening.{HaveFailed, Seen, seen_of}
 use Rattle.ptu_shared.specs.Seats.{no_verdicts}
-use Rattle.ptu_items.specs.Replies.{cancels_to}
+use Rattle.ptu_gm_messages.specs.Replies.{cancels_to}
 use Rattle.ptu_config.specs.declared.settings.GmSettings.{GmSettings}
 use Rattle.ptu_rounds.specs.Ports.{HaveRisenBy, HaveRisenJust, ports_of}
 use Rattle.ptu_lanes.specs.Rounds.{Exchange, Exchanged, IsAnswered, asks_in, datagrams, grants_in, replies}

@@ -10,7 +10,7 @@ use crate::answering::Origin;
 use crate::client::client;
 use crate::service::Service;
 use crate::signaling::MOST_DATAGRAMS;
-use ptu_items::{Heard, hear};
+use ptu_gm_messages::{Heard, hear};
 use ptu_outside::{Clock, Port};
 use ptu_profile::GmConfig;
 use ptu_shard::Answered;

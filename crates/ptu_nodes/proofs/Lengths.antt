@@ -17,7 +17,7 @@ use Rattle.ptu_history.specs.declared.client.Client.{Client}
 use Rattle.ptu_history.specs.Events.{Message}
 use Rattle.ptu_profile.specs.declared.grandmaster.GmConfig.{GmConfig}
 use Rattle.ptu_shard.specs.Messages.{body_of, departure_of, message_of_turn, response_of, message_of_response}
-use Rattle.ptu_items.specs.Replies.{cancels_to, identity_of, signaling_of, signaling_to}
+use Rattle.ptu_gm_messages.specs.Replies.{cancels_to, identity_of, signaling_of, signaling_to}
 
 -- the header has 34 octets, whatever stands in it
 header_octets : (header : Header) (n : ℕ) → length (sent_header header n) ≡ 34

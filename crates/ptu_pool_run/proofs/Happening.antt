@@ -8,7 +8,7 @@ use Rattle.ptu_outside.specs.declared.port.Port.{Ghosts as Ports}
 use Rattle.ptu_outside.specs.MemoryPort.{IsSure, MemoryPort}
 use Rattle.ptu_shard.specs.declared.answered.Turned.{Turned as TableTurned}
 use Rattle.ptu_profile.specs.declared.grandmaster.GmConfig.{GmConfig}
-use Rattle.ptu_items.specs.Items.{heard_in}
+use Rattle.ptu_gm_messages.specs.Items.{heard_in}
 use Rattle.ptu_grandmaster.specs.declared.outcome.Taken.{Taken}
 use Rattle.ptu_grandmaster.specs.Gm.{KeptGm, StandsFor, table_at}
 use Rattle.ptu_pools.specs.declared.pool.Pool.{Pool}

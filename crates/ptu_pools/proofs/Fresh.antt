@@ -5,7 +5,7 @@ use Rattle.ptu_profile.specs.declared.grandmaster.GmConfig.{GmConfig}
 use Rattle.ptu_history.specs.Core.{core_history}
 use Rattle.ptu_history.specs.History.{Record}
 use Rattle.ptu_history.proofs.Histories.{history-none}
-use Rattle.ptu_items.specs.Deciding.{opened_with}
+use Rattle.ptu_gm_messages.specs.Deciding.{opened_with}
 use Rattle.ptu_grandmaster.specs.Gm.{KeptGm, StandsFor}
 use Rattle.ptu_pools.specs.declared.pool.Pool.{Pool}
 use Rattle.ptu_pools.specs.Pool.{capacity_at}

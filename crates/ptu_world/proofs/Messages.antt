@@ -31,15 +31,15 @@ use Rattle.ptu_history.proofs.Orders.{due_grants-distinct, due_grants-members, i
 use Rattle.ptu_profile.specs.declared.grandmaster.GmConfig.{GmConfig}
 use Rattle.ptu_shard.specs.Answered.{responses}
 use Rattle.ptu_shard.specs.Messages.{departure_of, response_of}
-use Rattle.ptu_items.specs.declared.item.Item.{Item}
-use Rattle.ptu_items.specs.declared.item.Item.TheVariants as items
-use Rattle.ptu_items.specs.declared.heard.Heard as gm_heard
-use Rattle.ptu_items.specs.declared.heard.Heard.TheVariants.{DelayReq, Asks}
-use Rattle.ptu_items.specs.declared.reason.GmReason.{GmReason}
-use Rattle.ptu_items.specs.Items.{heard_in}
-use Rattle.ptu_items.specs.Deciding.{asked_by, client_of, events_of_items, item_moment, item_records}
-use Rattle.ptu_items.specs.Replies.{cancels_to, lease_of}
-use Rattle.ptu_items.proofs.Placing.{history_after-items}
+use Rattle.ptu_gm_messages.specs.declared.item.Item.{Item}
+use Rattle.ptu_gm_messages.specs.declared.item.Item.TheVariants as items
+use Rattle.ptu_gm_messages.specs.declared.heard.Heard as gm_heard
+use Rattle.ptu_gm_messages.specs.declared.heard.Heard.TheVariants.{DelayReq, Asks}
+use Rattle.ptu_gm_messages.specs.declared.reason.GmReason.{GmReason}
+use Rattle.ptu_gm_messages.specs.Items.{heard_in}
+use Rattle.ptu_gm_messages.specs.Deciding.{asked_by, client_of, events_of_items, item_moment, item_records}
+use Rattle.ptu_gm_messages.specs.Replies.{cancels_to, lease_of}
+use Rattle.ptu_gm_messages.proofs.Placing.{history_after-items}
 use Rattle.ptu_record.specs.declared.rule.Rule.{Rule}
 use Rattle.ptu_record.specs.Step as slave_events
 use Rattle.ptu_profile.specs.Slave.{place_of}

@@ -16,8 +16,8 @@ use Rattle.ptu_history.specs.Step.{delay_answer}
 use Rattle.ptu_history.specs.Turns.{due_grants}
 use Rattle.ptu_history.specs.Verdict.{others, own_rate, verdict}
 use Rattle.ptu_messages.specs.Sent.{octets_sent}
-use Rattle.ptu_items.specs.Deciding.{placed}
-use Rattle.ptu_items.specs.Items.{items_in, heard_in}
+use Rattle.ptu_gm_messages.specs.Deciding.{placed}
+use Rattle.ptu_gm_messages.specs.Items.{items_in, heard_in}
 use Rattle.ptu_script.specs.Command.{grandmaster_in, slave_in, fields_in, command_of}
 use Rattle.ptu_world.specs.World.{step}
 use Rattle.ptu_world.proofs.examples.one_ask_answered.Goals as goal
