@@ -15,7 +15,7 @@ use Rattle.ptu_history.specs.Step.{verdict_records}
 use Rattle.ptu_history.proofs.Capacities.{capacity_in_force-unchanged}
 use Rattle.ptu_history.proofs.Verdicts.{verdict-outside}
 use Rattle.ptu_history.proofs.Rates.{rates-own, rates-tables, table_below}
-use Rattle.ptu_shard.specs.declared.config.GmConfig.{GmConfig}
+use Rattle.ptu_profile.specs.declared.grandmaster.GmConfig.{GmConfig}
 use Rattle.ptu_shard.specs.declared.lease.Row.{Row}
 use Rattle.ptu_shard.specs.Row.{IsDistinctByLease, share_of, without_row}
 use Rattle.ptu_shard.specs.Table.{Kept, StandsAt}

@@ -6,7 +6,7 @@ use Rattle.ptu_history.specs.declared.client.Client.{Client}
 use Rattle.ptu_history.specs.Verdict as history
 use Rattle.ptu_history.specs.Verdict.{Config, GrantedFor, OutsideCause, OutsideCode, OutsideDuration, OutsideLog, ShortOf, profile}
 use Rattle.ptu_tlvs.specs.declared.tlv.Ask.{Ask}
-use Rattle.ptu_shard.specs.declared.config.GmConfig.{GmConfig}
+use Rattle.ptu_profile.specs.declared.grandmaster.GmConfig.{GmConfig}
 use Rattle.ptu_admit.specs.declared.verdict.Outside.{Outside as Cause}
 use Rattle.ptu_admit.specs.declared.verdict.Outside.TheVariants as cause
 use Rattle.ptu_admit.specs.declared.verdict.Verdict.{Verdict}

@@ -7,7 +7,7 @@ ghost use Rattle.ptu_history.specs.History.{Record};
 ghost use Rattle.ptu_history.specs.Verdict.{verdict};
 ghost use Rattle.ptu_history.specs.Events.{Request};
 ghost use Rattle.ptu_history.specs.Step.{step, verdict_records};
-ghost use Rattle.ptu_shard.specs.Config.{IsWithinLimits};
+ghost use Rattle.ptu_profile.specs.Grandmaster.{IsWithinLimits};
 ghost use Rattle.ptu_shard.specs.Row.{share_of};
 ghost use Rattle.ptu_admit.specs.Lent.{EachStandsAt, Lent, StandFor, four, is_lent, live_others, moment_for, moment_of_lent, rows_of_lent, shares, table_for};
 ghost use Rattle.ptu_admit.specs.Rows.{kept_rate};
@@ -21,7 +21,8 @@ use crate::sweeping::sweep_all;
 use crate::verdict::Verdict;
 use ptu_history::{Client, table_of};
 use ptu_outside::Port;
-use ptu_shard::{GmConfig, Shard};
+use ptu_profile::GmConfig;
+use ptu_shard::Shard;
 use ptu_tlvs::Ask;
 use ptu_units::{Moment, rate};
 

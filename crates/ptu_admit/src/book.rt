@@ -1,5 +1,5 @@
 ghost use Rattle.std.specs.Prelude.{◌≡◌, ◌≤◌, ◌+◌, ◌-◌, List, []};
-ghost use Rattle.ptu_admit.specs.Book.{IsCapacity};
+ghost use Rattle.ptu_profile.specs.Limits.{IsCapacity};
 ghost use Rattle.ptu_admit.specs.Lent.{EachStandsAt, Lent, StandFor, shares};
 
 use ptu_units::Moment;
@@ -17,7 +17,8 @@ pub struct Book {
 
 impl Model for Book {
     ghost use Rattle.std.specs.Prelude.{◌≤◌};
-    ghost use Rattle.ptu_admit.specs.Book.{IsCapacity, KeptBook};
+    ghost use Rattle.ptu_admit.specs.Book.{KeptBook};
+    ghost use Rattle.ptu_profile.specs.Limits.{IsCapacity};
 
     ghost Value = { KeptBook };
 

@@ -5,7 +5,7 @@ ghost use Rattle.ptu_units.specs.Log.{period_of, rate_of};
 ghost use Rattle.ptu_history.specs.Client.{table_of};
 ghost use Rattle.ptu_history.specs.History.{Record, Granted};
 ghost use Rattle.ptu_history.specs.Step.{verdict_records};
-ghost use Rattle.ptu_shard.specs.Config.{IsWithinLimits};
+ghost use Rattle.ptu_profile.specs.Grandmaster.{IsWithinLimits};
 ghost use Rattle.ptu_shard.specs.Row.{IsDistinctByLease, share_of};
 ghost use Rattle.ptu_shard.specs.Table.{StandsBeside};
 ghost use Rattle.ptu_admit.specs.Rows.{kept_rate};
@@ -17,7 +17,8 @@ use crate::profile::Wanted;
 use crate::verdict::{Grant, Shortage, Verdict};
 use ptu_history::Client;
 use ptu_outside::Port;
-use ptu_shard::{GmConfig, Lease, Shard};
+use ptu_profile::GmConfig;
+use ptu_shard::{Lease, Shard};
 use ptu_units::timescale::NANOS_PER_SECOND;
 use ptu_units::{Kind, Log, Moment, period, rate};
 

@@ -6,7 +6,7 @@ ghost use Rattle.ptu_history.specs.Verdict.{Config};
 ghost use Rattle.ptu_history.specs.Events.{Resize};
 ghost use Rattle.ptu_history.specs.Shedding.{shed_grants};
 ghost use Rattle.ptu_history.specs.Step.{step};
-ghost use Rattle.ptu_admit.specs.Book.{IsCapacity};
+ghost use Rattle.ptu_profile.specs.Limits.{IsCapacity};
 ghost use Rattle.ptu_admit.specs.Lent.{StandFor, four, moment_for_all, shares};
 ghost use Rattle.ptu_admit.specs.Newest.{rows_in};
 ghost use Rattle.ptu_admit.specs.Shed.{shed_of};

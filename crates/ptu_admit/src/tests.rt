@@ -1,12 +1,13 @@
 ghost use Rattle.std.specs.Prelude.{◌≡◌};
-ghost use Rattle.ptu_shard.specs.Config.{IsWithinLimits};
+ghost use Rattle.ptu_profile.specs.Grandmaster.{IsWithinLimits};
 ghost use Rattle.ptu_admit.specs.Lent.{four, shares};
 
 use super::*;
 use ptu_header::PortIdentity;
 use ptu_history::Client;
 use ptu_outside::MemPort;
-use ptu_shard::{GmConfig, Shard};
+use ptu_profile::GmConfig;
+use ptu_shard::Shard;
 use ptu_tlvs::Ask;
 use ptu_units::{Kind, Moment};
 use std::alloc::Global;

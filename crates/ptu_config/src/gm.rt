@@ -5,6 +5,7 @@ ghost use Rattle.ptu_config.specs.Rules.{gm_keys, setting_of, number};
 ghost use Rattle.ptu_config.specs.Documents.{IsSaid, Reads, Refuses, Says, first_bad, refusal_of};
 ghost use Rattle.ptu_config.specs.Entries.{gm_entries, number_or_nothing};
 ghost use Rattle.ptu_config.specs.Limits.{IsGmInRange};
+ghost use Rattle.ptu_profile.specs.Limits.{IsCapacity};
 
 use crate::common::common_of;
 use crate::document::document;
@@ -42,7 +43,7 @@ const MOST_CAPACITY: u64 = 1 << 24;
 fn new_capacity(table: &Table, change_round: u32) -> Result<Option<u64>, SettingFault>
     requires { setting_of (table_view table.now) Key.ChangeRound ≡ Some (number change_round) }
     ensures said { IsSaid (table_view table.now) Key.NewCapacity number_or_nothing result }
-    ensures range { IfOk result (λ found. IfSome found (λ n. (1 ≤ n) × (n ≤ 16777216))) }
+    ensures range { IfOk result (λ found. IfSome found IsCapacity) }
     ensures change { IfOk result (λ found. 0 < change_round → IsSome found) }
 {
     match lookup(table, Key::NewCapacity.name()) {

@@ -11,11 +11,11 @@ use Rattle.ptu_history.specs.Counts.{counts}
 use Rattle.ptu_history.specs.Events as events
 use Rattle.ptu_history.specs.History.{Record}
 use Rattle.ptu_history.specs.Shedding.{shed_grants}
-use Rattle.ptu_shard.specs.declared.config.GmConfig.{GmConfig}
+use Rattle.ptu_profile.specs.declared.grandmaster.GmConfig.{GmConfig}
 use Rattle.ptu_admit.specs.declared.shed_list.Shed.{Shed}
 use Rattle.ptu_admit.specs.Shed.{shed_of}
-use Rattle.ptu_items.specs.Deciding.{opened_with}
-use Rattle.ptu_items.specs.Replies.{cancel_to, cancels_to, lease_of}
+use Rattle.ptu_gm_messages.specs.Deciding.{opened_with}
+use Rattle.ptu_gm_messages.specs.Replies.{cancel_to, cancels_to, lease_of}
 use Rattle.ptu_grandmaster.specs.declared.driving.GmEvent.TheVariants.{Capacity}
 use Rattle.ptu_grandmaster.specs.Changed.{leases_shed}
 use Rattle.ptu_grandmaster.specs.Gm.{KeptGm, StandsFor}

@@ -13,7 +13,7 @@ use Rattle.ptu_history.specs.Counts.{counts}
 use Rattle.ptu_history.specs.History.{Record}
 use Rattle.ptu_history.specs.Verdict.{table_rates}
 use Rattle.ptu_history.proofs.Histories.{history_after-append}
-use Rattle.ptu_items.specs.Deciding.{opened_with}
+use Rattle.ptu_gm_messages.specs.Deciding.{opened_with}
 use Rattle.ptu_grandmaster.specs.declared.driving.GmEvent.{GmEvent}
 use Rattle.ptu_grandmaster.specs.Driven.{events_of}
 use Rattle.ptu_units.specs.Counts.{counted}

@@ -27,15 +27,16 @@ use Rattle.ptu_history.specs.Live as live
 use Rattle.ptu_history.specs.Shedding.{shed_grants}
 use Rattle.ptu_history.specs.Step.{delay_answer}
 use Rattle.ptu_history.specs.Turns.{due_grants, message_of}
-use Rattle.ptu_shard.specs.declared.config.GmConfig.{GmConfig}
+use Rattle.ptu_profile.specs.declared.grandmaster.GmConfig.{GmConfig}
 use Rattle.ptu_shard.specs.Answered.{responses}
-use Rattle.ptu_shard.specs.Messages.{channel_of, departure_of, message_of_response, message_of_turn, octets_sent, response_of}
-use Rattle.ptu_items.specs.declared.heard.Heard.{Heard}
-use Rattle.ptu_items.specs.declared.heard.Heard.TheVariants as heard
-use Rattle.ptu_items.specs.declared.reason.GmReason.{GmReason}
-use Rattle.ptu_items.specs.Items.{heard_in}
-use Rattle.ptu_items.specs.Deciding.{answer_to, client_of, decisions_of, opened_with, reply_after}
-use Rattle.ptu_items.specs.Replies.{cancels_to, identity_of, lease_of, signaling_of, signaling_to}
+use Rattle.ptu_messages.specs.Sent.{octets_sent}
+use Rattle.ptu_shard.specs.Messages.{channel_of, departure_of, message_of_response, message_of_turn, response_of}
+use Rattle.ptu_gm_messages.specs.declared.heard.Heard.{Heard}
+use Rattle.ptu_gm_messages.specs.declared.heard.Heard.TheVariants as heard
+use Rattle.ptu_gm_messages.specs.declared.reason.GmReason.{GmReason}
+use Rattle.ptu_gm_messages.specs.Items.{heard_in}
+use Rattle.ptu_gm_messages.specs.Deciding.{answer_to, client_of, decisions_of, opened_with, reply_after}
+use Rattle.ptu_gm_messages.specs.Replies.{cancels_to, identity_of, lease_of, signaling_of, signaling_to}
 use Rattle.ptu_grandmaster.specs.declared.driving.GmEvent.{GmEvent}
 use Rattle.ptu_grandmaster.specs.declared.driving.GmEvent.TheVariants.{Take, Turn, Class, Capacity}
 use Rattle.ptu_lanes.specs.Rounds.{Exchange, replies, reply_if_any, reply_in, reply_with}

@@ -9,7 +9,7 @@ use Rattle.ptu_outside.specs.declared.port.Port.{Ghosts as Ports}
 use Rattle.ptu_outside.specs.Departure.{Departure}
 use Rattle.ptu_outside.specs.Faults.{HasRisen}
 use Rattle.ptu_outside.specs.Telling.{IfTold, append_told}
-use Rattle.ptu_items.specs.Replies.{cancels_to}
+use Rattle.ptu_gm_messages.specs.Replies.{cancels_to}
 use Rattle.ptu_config.specs.declared.settings.GmSettings.{GmSettings}
 use Rattle.ptu_rounds.specs.Ports.{HaveNotRisen, WereSent, senders_of}
 use Rattle.ptu_rounds.specs.declared.fault.DaemonFault.{DaemonFault}

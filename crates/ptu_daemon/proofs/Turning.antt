@@ -11,7 +11,7 @@ use Rattle.ptu_history.specs.Live.{Grant}
 use Rattle.ptu_history.specs.Turns.{due_grants, message_of}
 use Rattle.ptu_shard.specs.Messages.{departure_of}
 use Rattle.ptu_shard.specs.Turn.{due_messages}
-use Rattle.ptu_items.specs.Deciding.{opened_with}
+use Rattle.ptu_gm_messages.specs.Deciding.{opened_with}
 use Rattle.ptu_grandmaster.specs.declared.driving.GmEvent.TheVariants.{Turn}
 use Rattle.ptu_grandmaster.specs.Gm.{KeptGm, StandsFor, table_at, with_table}
 use Rattle.ptu_daemon.specs.Ran.{AllHandled, Does, Handled, five}

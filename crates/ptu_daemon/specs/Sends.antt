@@ -10,15 +10,15 @@ use Rattle.ptu_history.specs.History.{Record}
 use Rattle.ptu_history.specs.Shedding.{shed_grants}
 use Rattle.ptu_history.specs.Step.{delay_answer}
 use Rattle.ptu_history.specs.Turns.{due_grants, message_of}
-use Rattle.ptu_shard.specs.declared.config.GmConfig.{GmConfig}
+use Rattle.ptu_profile.specs.declared.grandmaster.GmConfig.{GmConfig}
 use Rattle.ptu_shard.specs.Answered.{responses}
 use Rattle.ptu_shard.specs.Messages.{departure_of, response_of}
-use Rattle.ptu_items.specs.declared.heard.Heard.{Heard}
-use Rattle.ptu_items.specs.declared.heard.Heard.TheVariants as heard
-use Rattle.ptu_items.specs.declared.reason.GmReason.{GmReason}
-use Rattle.ptu_items.specs.Items.{heard_in}
-use Rattle.ptu_items.specs.Deciding.{client_of, opened_with, reply_after}
-use Rattle.ptu_items.specs.Replies.{cancels_to, lease_of}
+use Rattle.ptu_gm_messages.specs.declared.heard.Heard.{Heard}
+use Rattle.ptu_gm_messages.specs.declared.heard.Heard.TheVariants as heard
+use Rattle.ptu_gm_messages.specs.declared.reason.GmReason.{GmReason}
+use Rattle.ptu_gm_messages.specs.Items.{heard_in}
+use Rattle.ptu_gm_messages.specs.Deciding.{client_of, opened_with, reply_after}
+use Rattle.ptu_gm_messages.specs.Replies.{cancels_to, lease_of}
 use Rattle.ptu_grandmaster.specs.declared.driving.GmEvent.{GmEvent}
 use Rattle.ptu_grandmaster.specs.declared.driving.GmEvent.TheVariants.{Take, Turn, Class, Capacity}
 use Rattle.ptu_grandmaster.specs.Driven.{events_of}

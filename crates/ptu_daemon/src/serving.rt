@@ -3,7 +3,7 @@
 ghost use Rattle.std.specs.Prelude.{◌≡◌, ◌≢◌, ◌≤◌, ◌∷◌, [], IfOk, IfErr, OnOk, OnErr};
 ghost use Rattle.ptu_outside.specs.Faults.{HasRisen};
 ghost use Rattle.ptu_outside.specs.Handing.{HasPut, HasPutFront};
-ghost use Rattle.ptu_shard.specs.Config.{IsWithinLimits};
+ghost use Rattle.ptu_profile.specs.Grandmaster.{IsWithinLimits};
 ghost use Rattle.ptu_config.specs.Limits.{IsGmInRange};
 ghost use Rattle.ptu_lanes.specs.Served.{ServesByLanes};
 ghost use Rattle.ptu_daemon.specs.Events.{config_of, endpoint_of};
@@ -18,8 +18,8 @@ use ptu_grandmaster::Gm;
 use ptu_header::PortIdentity;
 use ptu_lanes::serve_lanes;
 use ptu_outside::{Clock, Host, Opened, Port, Sink, write_whole};
+use ptu_profile::GmConfig;
 use ptu_rounds::DaemonFault;
-use ptu_shard::GmConfig;
 use ptu_units::OutOfMemory;
 use std::alloc::Global;
 use std::sync::Wait;

@@ -18,15 +18,15 @@ use Rattle.ptu_history.specs.Verdict.{Config, verdict}
 use Rattle.ptu_history.proofs.Counts.{counts-asked, counts-empty, counts-ended, counts-granted, counts-nothing, counts-sent, counts-shed, counts-short}
 use Rattle.ptu_tlvs.specs.declared.tlv.Ask.{Ask}
 use Rattle.ptu_shard.specs.Table.{StandsFor as TableStandsFor}
-use Rattle.ptu_shard.specs.declared.config.GmConfig.{GmConfig}
+use Rattle.ptu_profile.specs.declared.grandmaster.GmConfig.{GmConfig}
 use Rattle.ptu_admit.specs.declared.verdict.Verdict.{Verdict}
 use Rattle.ptu_admit.specs.declared.verdict.Verdict.TheVariants.{Granted, Short, Outside}
 use Rattle.ptu_admit.specs.declared.ending.Cancelled.{Cancelled}
 use Rattle.ptu_admit.specs.Lent.{EachStandsAt, Lent, StandFor, shares}
 use Rattle.ptu_admit.specs.Verdict.{IsAt, verdict_of}
-use Rattle.ptu_items.specs.declared.item.Item.TheVariants as items
-use Rattle.ptu_items.specs.Deciding as deciding
-use Rattle.ptu_items.specs.Deciding.{Judged, asked_by, item_moment, moment_of_verdict, opened_with}
+use Rattle.ptu_gm_messages.specs.declared.item.Item.TheVariants as items
+use Rattle.ptu_gm_messages.specs.Deciding as deciding
+use Rattle.ptu_gm_messages.specs.Deciding.{Judged, asked_by, item_moment, moment_of_verdict, opened_with}
 use Rattle.ptu_grandmaster.specs.Deciding.{Comes, Decides, EndsBy, counting}
 use Rattle.ptu_units.specs.Counts.{counted}
 use Rattle.ptu_grandmaster.specs.Gm.{KeptGm, StandsFor, tables}

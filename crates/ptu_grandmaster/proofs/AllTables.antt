@@ -8,7 +8,7 @@ use Rattle.ptu_history.specs.Events as events
 use Rattle.ptu_history.specs.History.{Record}
 use Rattle.ptu_history.specs.Step.{step}
 use Rattle.ptu_history.specs.Verdict.{verdict}
-use Rattle.ptu_shard.specs.declared.config.GmConfig.{GmConfig}
+use Rattle.ptu_profile.specs.declared.grandmaster.GmConfig.{GmConfig}
 use Rattle.ptu_shard.specs.Table.{Kept}
 use Rattle.ptu_admit.specs.declared.verdict.Verdict.{Verdict}
 use Rattle.ptu_admit.specs.Book.{KeptBook}
@@ -17,7 +17,7 @@ use Rattle.ptu_admit.specs.Tables.{KeepsPort, fall_of}
 use Rattle.ptu_admit.specs.Verdict.{IsAt, ask_of, config_of, verdict_of}
 use Rattle.ptu_admit.proofs.Lending.{all_lent}
 use Rattle.ptu_admit.proofs.StepMoments.{moment-own}
-use Rattle.ptu_items.specs.Deciding.{asked_by, item_moment, opened_with}
+use Rattle.ptu_gm_messages.specs.Deciding.{asked_by, item_moment, opened_with}
 
 module _ {P : Type 0} (config : GmConfig) (t : ℕ) (c : Client) (a b d e a' b' d' e' : Kept P) (book book' : KeptBook) (ask : Ask) (v : Verdict) where
   pub asked_all : IsAt (moment_for t book c (four a b d e)) v →

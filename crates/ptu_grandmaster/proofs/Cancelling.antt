@@ -6,9 +6,9 @@ use Rattle.ptu_outside.specs.declared.port.Port.{Ghosts as Ports}
 use Rattle.ptu_outside.specs.HandsOver.{HandsOver}
 use Rattle.ptu_outside.proofs.HandsOver.{hands-append, hands_none}
 use Rattle.ptu_history.specs.declared.client.Client.{Client}
-use Rattle.ptu_shard.specs.declared.config.GmConfig.{GmConfig}
+use Rattle.ptu_profile.specs.declared.grandmaster.GmConfig.{GmConfig}
 use Rattle.ptu_admit.specs.declared.shed_list.Shed.{Shed}
-use Rattle.ptu_items.specs.Replies.{cancel_to, cancels_to}
+use Rattle.ptu_gm_messages.specs.Replies.{cancel_to, cancels_to}
 use Rattle.ptu_grandmaster.specs.Changed.{leases_shed}
 
 pub cancels_to-push : (config : GmConfig) (n : ℕ) (xs : List (Client × Kind)) (x : Client × Kind) →

@@ -29,15 +29,15 @@ use Rattle.ptu_laws.specs.Changes.{IsUpTo}
 use Rattle.ptu_laws.proofs.Bounds.{sent-up_to}
 use Rattle.ptu_shard.specs.declared.answered.Answered.{Answered}
 use Rattle.ptu_shard.specs.declared.answered.Answered.TheVariants as answers
-use Rattle.ptu_shard.specs.declared.config.GmConfig.{GmConfig}
+use Rattle.ptu_profile.specs.declared.grandmaster.GmConfig.{GmConfig}
 use Rattle.ptu_shard.specs.Answered.{failed_by, met_by, sent_by}
-use Rattle.ptu_admit.specs.Book.{IsCapacity}
-use Rattle.ptu_items.specs.declared.item.Item.{Item}
-use Rattle.ptu_items.specs.declared.item.Item.TheVariants as items
-use Rattle.ptu_items.specs.declared.heard.Heard.TheVariants as heard
-use Rattle.ptu_items.specs.Deciding.{client_of, event_of, events_heard, events_of_items, item_moment, item_records, opened_with, asked_by}
-use Rattle.ptu_items.specs.Items.{heard_in}
-use Rattle.ptu_items.proofs.Placing.{history_after-items}
+use Rattle.ptu_profile.specs.Limits.{IsCapacity}
+use Rattle.ptu_gm_messages.specs.declared.item.Item.{Item}
+use Rattle.ptu_gm_messages.specs.declared.item.Item.TheVariants as items
+use Rattle.ptu_gm_messages.specs.declared.heard.Heard.TheVariants as heard
+use Rattle.ptu_gm_messages.specs.Deciding.{client_of, event_of, events_heard, events_of_items, item_moment, item_records, opened_with, asked_by}
+use Rattle.ptu_gm_messages.specs.Items.{heard_in}
+use Rattle.ptu_gm_messages.proofs.Placing.{history_after-items}
 use Rattle.ptu_grandmaster.specs.declared.driving.GmEvent.{GmEvent}
 use Rattle.ptu_grandmaster.specs.declared.driving.GmEvent.TheVariants.{Take, Turn, Class, Capacity}
 use Rattle.ptu_grandmaster.specs.declared.outcome.Taken.{Taken}

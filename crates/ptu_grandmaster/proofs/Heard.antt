@@ -13,14 +13,14 @@ use Rattle.ptu_history.specs.Core.{core_step, history_after}
 use Rattle.ptu_history.specs.Events.{Event}
 use Rattle.ptu_history.specs.History.{Record}
 use Rattle.ptu_history.specs.Verdict.{Config}
-use Rattle.ptu_shard.specs.declared.config.GmConfig.{GmConfig}
-use Rattle.ptu_items.specs.declared.item.Item.{Item}
-use Rattle.ptu_items.specs.declared.reason.GmReason.{GmReason}
-use Rattle.ptu_items.specs.declared.reason.GmReason.TheVariants as reasons
-use Rattle.ptu_items.specs.declared.heard.Heard.{Heard}
-use Rattle.ptu_items.specs.declared.heard.Heard.TheVariants as heard
-use Rattle.ptu_items.specs.Items.{HasTlvs, heard_by, heard_in, of_message}
-use Rattle.ptu_items.proofs.Hearing.{signaling_alone}
+use Rattle.ptu_profile.specs.declared.grandmaster.GmConfig.{GmConfig}
+use Rattle.ptu_gm_messages.specs.declared.item.Item.{Item}
+use Rattle.ptu_gm_messages.specs.declared.reason.GmReason.{GmReason}
+use Rattle.ptu_gm_messages.specs.declared.reason.GmReason.TheVariants as reasons
+use Rattle.ptu_gm_messages.specs.declared.heard.Heard.{Heard}
+use Rattle.ptu_gm_messages.specs.declared.heard.Heard.TheVariants as heard
+use Rattle.ptu_gm_messages.specs.Items.{HasTlvs, heard_by, heard_in, of_message}
+use Rattle.ptu_gm_messages.proofs.Hearing.{signaling_alone}
 
 pub history_after-none : (opened : Config) (history : List Record) → history_after opened history [] ≡ history
 unfolding history_after

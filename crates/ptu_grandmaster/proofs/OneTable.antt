@@ -15,7 +15,7 @@ use Rattle.ptu_history.specs.Step.{delay_answer, step}
 use Rattle.ptu_history.specs.Turns.{due_grants, message_of}
 use Rattle.ptu_history.specs.Verdict.{Config, verdict}
 use Rattle.ptu_tlvs.specs.declared.tlv.Ask.{Ask}
-use Rattle.ptu_shard.specs.declared.config.GmConfig.{GmConfig}
+use Rattle.ptu_profile.specs.declared.grandmaster.GmConfig.{GmConfig}
 use Rattle.ptu_shard.specs.declared.answered.Answered.{Answered}
 use Rattle.ptu_shard.specs.Answered.{met_by}
 use Rattle.ptu_shard.specs.Table.{Kept, StandsAt}
@@ -28,7 +28,7 @@ use Rattle.ptu_admit.specs.Lent.{Lent, StandFor, is_lent, lent_as}
 use Rattle.ptu_admit.proofs.Lending.{are_at, at_back, at_front, stand_for}
 use Rattle.ptu_admit.proofs.Sendings.{delay_req_stands, turn_stands}
 use Rattle.ptu_admit.proofs.StepMoments.{moment-one}
-use Rattle.ptu_items.specs.Deciding.{asked_by, item_moment, opened_with}
+use Rattle.ptu_gm_messages.specs.Deciding.{asked_by, item_moment, opened_with}
 
 pub lent_first : (opening : ℕ) (before : List Lent) (t : Lent) (after : List Lent) (book : KeptBook) (history : List Record) →
     StandFor opening (before ++ t ∷ after) book history → StandFor opening (t ∷ before ++ after) book history

@@ -4,9 +4,9 @@ use Rattle.std.proofs.lemmas.List.{append-nil, map-append}
 use Rattle.ptu_history.specs.declared.client.Client.{Client}
 use Rattle.ptu_history.specs.History.{Record}
 use Rattle.ptu_history.specs.Core.{history_after}
-use Rattle.ptu_items.specs.declared.item.Item.{Item}
-use Rattle.ptu_items.specs.Deciding.{decision_of, decisions_of, events_of_items, item_records, opened_with, placed}
-use Rattle.ptu_items.proofs.Placing.{decisions_of-push, history_after-items}
+use Rattle.ptu_gm_messages.specs.declared.item.Item.{Item}
+use Rattle.ptu_gm_messages.specs.Deciding.{decision_of, decisions_of, events_of_items, item_records, opened_with, placed}
+use Rattle.ptu_gm_messages.proofs.Placing.{decisions_of-push, history_after-items}
 use Rattle.ptu_history.specs.Verdict.{Config}
 use Rattle.ptu_grandmaster.specs.declared.outcome.Outcome.{Outcome}
 use Rattle.ptu_grandmaster.specs.Deciding.{AllCome, Comes, Lowers, spare_of}

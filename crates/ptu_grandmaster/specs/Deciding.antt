@@ -15,8 +15,8 @@ use Rattle.ptu_admit.specs.declared.verdict.Verdict.{Verdict}
 use Rattle.ptu_admit.specs.declared.verdict.Verdict.TheVariants.{Granted, Short, Outside}
 use Rattle.ptu_admit.specs.Lent.{StandFor}
 use Rattle.ptu_admit.specs.Verdict.{IsAt, verdict_of}
-use Rattle.ptu_items.specs.declared.item.Item.{Item}
-use Rattle.ptu_items.specs.Deciding.{Decision, asked_by, decision_of, decisions_of, events_of_items, item_moment, item_records, opened_with}
+use Rattle.ptu_gm_messages.specs.declared.item.Item.{Item}
+use Rattle.ptu_gm_messages.specs.Deciding.{Decision, asked_by, decision_of, decisions_of, events_of_items, item_moment, item_records, opened_with}
 use Rattle.ptu_units.specs.Counts.{counted}
 use Rattle.ptu_grandmaster.specs.Gm.{KeptGm, HasKeptPorts, StandsFor, tables, table_at}
 

@@ -4,9 +4,9 @@ use Rattle.ptu_history.specs.Core.{core_history}
 use Rattle.ptu_history.specs.Events as events
 use Rattle.ptu_history.specs.Events.{Event}
 use Rattle.ptu_history.specs.History.{Record}
-use Rattle.ptu_shard.specs.declared.config.GmConfig.{GmConfig}
-use Rattle.ptu_admit.specs.Book.{IsCapacity}
-use Rattle.ptu_items.specs.Deciding.{events_of_datagram, opened_with}
+use Rattle.ptu_profile.specs.declared.grandmaster.GmConfig.{GmConfig}
+use Rattle.ptu_profile.specs.Limits.{IsCapacity}
+use Rattle.ptu_gm_messages.specs.Deciding.{events_of_datagram, opened_with}
 use Rattle.ptu_shard.specs.Answered.{failed_by, sent_by}
 use Rattle.ptu_grandmaster.specs.declared.outcome.Taken.{Taken}
 use Rattle.ptu_grandmaster.specs.declared.outcome.Taken.TheVariants.{Ignored, Delay, Asked}

@@ -4,7 +4,7 @@ use Rattle.std.specs.List.Sorted.{IsPermutation}
 use Rattle.ptu_units.specs.Counts.{counted}
 use Rattle.ptu_history.specs.Counts.{counts}
 use Rattle.ptu_history.specs.History.{Record}
-use Rattle.ptu_shard.specs.declared.config.GmConfig.{GmConfig}
+use Rattle.ptu_profile.specs.declared.grandmaster.GmConfig.{GmConfig}
 use Rattle.ptu_shard.specs.Table.{Kept}
 use Rattle.ptu_admit.specs.Book.{KeptBook}
 use Rattle.ptu_admit.specs.Lent.{Lent, StandFor, four}

@@ -5,9 +5,9 @@ use Rattle.ptu_admit.specs.declared.ending.Cancelled.{Cancelled}
 use Rattle.ptu_admit.specs.declared.verdict.Verdict.{Verdict as Given}
 use Rattle.ptu_admit.specs.declared.verdict.Verdict.TheVariants as given
 use Rattle.ptu_admit.specs.Verdict.{verdict_of}
-use Rattle.ptu_items.specs.declared.item.Item.{Item}
-use Rattle.ptu_items.specs.declared.item.Item.TheVariants as items
-use Rattle.ptu_items.specs.Deciding.{Decision, Ended, Judged, answer_to}
+use Rattle.ptu_gm_messages.specs.declared.item.Item.{Item}
+use Rattle.ptu_gm_messages.specs.declared.item.Item.TheVariants as items
+use Rattle.ptu_gm_messages.specs.Deciding.{Decision, Ended, Judged, answer_to}
 use Rattle.ptu_grandmaster.specs.declared.outcome.Outcome.{Outcome}
 use Rattle.ptu_grandmaster.specs.declared.outcome.Outcome.TheVariants.{Verdict, Cancel}
 

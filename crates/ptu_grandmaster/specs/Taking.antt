@@ -11,13 +11,13 @@ use Rattle.ptu_history.specs.History.{Record}
 use Rattle.ptu_history.specs.Step.{delay_answer}
 use Rattle.ptu_history.specs.Verdict.{Config}
 use Rattle.ptu_shard.specs.declared.answered.Answered.{Answered}
-use Rattle.ptu_shard.specs.declared.config.GmConfig.{GmConfig}
+use Rattle.ptu_profile.specs.declared.grandmaster.GmConfig.{GmConfig}
 use Rattle.ptu_shard.specs.Answered.{failed_by, met_by, moment_of_answer, responses, sent_by}
 use Rattle.ptu_shard.specs.Messages.{response_of}
-use Rattle.ptu_items.specs.declared.heard.Heard.{Heard}
-use Rattle.ptu_items.specs.declared.heard.Heard.TheVariants as heard
-use Rattle.ptu_items.specs.declared.reason.GmReason.{GmReason}
-use Rattle.ptu_items.specs.Deciding.{client_of, decisions_of}
+use Rattle.ptu_gm_messages.specs.declared.heard.Heard.{Heard}
+use Rattle.ptu_gm_messages.specs.declared.heard.Heard.TheVariants as heard
+use Rattle.ptu_gm_messages.specs.declared.reason.GmReason.{GmReason}
+use Rattle.ptu_gm_messages.specs.Deciding.{client_of, decisions_of}
 use Rattle.ptu_grandmaster.specs.declared.outcome.Outcome.{Outcome}
 use Rattle.ptu_grandmaster.specs.declared.outcome.Reply.{Reply}
 use Rattle.ptu_grandmaster.specs.declared.outcome.Reply.TheVariants.{Sent, Failed, Nothing}

@@ -9,8 +9,8 @@ ghost use Rattle.ptu_grandmaster.specs.Outcomes.{decision_seen, decisions_seen, 
 use crate::gm::Gm;
 use crate::outcome::{Outcome, Outcomes};
 use ptu_admit::{Cancelled, Verdict, cancel, decide_all, decide_one};
+use ptu_gm_messages::Item;
 use ptu_history::{Client, table_of};
-use ptu_items::Item;
 use ptu_outside::Port;
 use ptu_tlvs::Ask;
 use ptu_units::{Kind, Moment, OutOfMemory};

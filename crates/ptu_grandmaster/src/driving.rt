@@ -5,16 +5,17 @@ ghost use Rattle.ptu_history.specs.Core.{history_after};
 ghost use Rattle.ptu_history.specs.Counts.{counts};
 ghost use Rattle.ptu_history.specs.Held.{budget, count};
 ghost use Rattle.ptu_history.specs.History.{Record};
-ghost use Rattle.ptu_shard.specs.Config.{IsWithinLimits};
-ghost use Rattle.ptu_admit.specs.Book.{IsCapacity};
-ghost use Rattle.ptu_items.specs.Deciding.{opened_with};
+ghost use Rattle.ptu_profile.specs.Grandmaster.{IsWithinLimits};
+ghost use Rattle.ptu_profile.specs.Limits.{IsCapacity};
+ghost use Rattle.ptu_gm_messages.specs.Deciding.{opened_with};
 ghost use Rattle.ptu_grandmaster.specs.Driven.{IsPossible, IsSetUpAs, IsTimely, driven_history, events_of, sent_taken};
 ghost use Rattle.ptu_grandmaster.specs.Gm.{StandsFor};
 
 use crate::gm::Gm;
 use crate::outcome::Taken;
 use ptu_outside::{Datagram, Port};
-use ptu_shard::{Answered, GmConfig};
+use ptu_profile::GmConfig;
+use ptu_shard::Answered;
 use ptu_units::{Moment, OutOfMemory};
 use std::alloc::Global;
 

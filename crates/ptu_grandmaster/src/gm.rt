@@ -1,16 +1,17 @@
 ghost use Rattle.std.specs.Prelude.{◌≡◌, ◌<◌, ℕ, [], List, length};
 ghost use Rattle.std.specs.Borrow.{sem};
 ghost use Rattle.ptu_history.specs.History.{Record};
-ghost use Rattle.ptu_shard.specs.Config.{IsWithinLimits};
-ghost use Rattle.ptu_admit.specs.Book.{IsCapacity};
+ghost use Rattle.ptu_profile.specs.Grandmaster.{IsWithinLimits};
+ghost use Rattle.ptu_profile.specs.Limits.{IsCapacity};
 ghost use Rattle.ptu_grandmaster.specs.Gm.{StandsFor, port_at, table_at};
 ghost use Rattle.ptu_grandmaster.specs.Lends.{LendsPort};
 
 use crate::outcome::{Outcome, Taken};
 use ptu_admit::Book;
-use ptu_items::HearingRoom;
+use ptu_gm_messages::HearingRoom;
 use ptu_outside::Port;
-use ptu_shard::{GmConfig, Shard};
+use ptu_profile::GmConfig;
+use ptu_shard::Shard;
 use std::alloc::Global;
 use std::marker::Model;
 
@@ -37,7 +38,7 @@ pub struct Gm<P: Port> {
 
 impl<P: Port> Model for Gm<P> {
     ghost use Rattle.std.specs.Prelude.{◌≡◌};
-    ghost use Rattle.ptu_shard.specs.Config.{IsWithinLimits};
+    ghost use Rattle.ptu_profile.specs.Grandmaster.{IsWithinLimits};
     ghost use Rattle.ptu_admit.specs.Lent.{four, shares};
     ghost use Rattle.ptu_grandmaster.specs.Gm.{KeptGm};
 

@@ -15,7 +15,7 @@ mod turning;
 pub use driving::{Driven, GmEvent, drive};
 pub use gm::Gm;
 pub use outcome::{Outcome, Outcomes, Reply, Taken};
-pub use ptu_items::{GmReason, Item, Items, asks_of, cancel_of};
+pub use ptu_gm_messages::{GmReason, Item, Items, asks_of, cancel_of};
 pub use replying::reply_of;
 pub use resizing::{Changed, send_cancels};
 

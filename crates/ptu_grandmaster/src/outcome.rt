@@ -1,5 +1,5 @@
 use ptu_admit::{Cancelled, Verdict};
-use ptu_items::GmReason;
+use ptu_gm_messages::GmReason;
 use ptu_shard::Answered;
 use ptu_tlvs::Ask;
 use std::marker::Model;

@@ -1,21 +1,20 @@
 //! Replies to the items of a Signaling.
 
 ghost use Rattle.std.specs.Prelude.{◌≡◌, ◌↔◌, ◌≤◌, [], map, take, drop};
-ghost use Rattle.ptu_messages.specs.Sent.{AlwaysSpells};
-ghost use Rattle.ptu_shard.specs.Messages.{octets_sent};
-ghost use Rattle.ptu_items.specs.Deciding.{answer_to};
-ghost use Rattle.ptu_items.specs.Items.{AreAnswerable};
-ghost use Rattle.ptu_items.specs.Replies.{reply_to, signaling_of};
+ghost use Rattle.ptu_messages.specs.Sent.{AlwaysSpells, octets_sent};
+ghost use Rattle.ptu_gm_messages.specs.Deciding.{answer_to};
+ghost use Rattle.ptu_gm_messages.specs.Items.{AreAnswerable};
+ghost use Rattle.ptu_gm_messages.specs.Replies.{reply_to, signaling_of};
 ghost use Rattle.ptu_grandmaster.specs.Outcomes.{answers_seen, decision_seen, item_seen};
 ghost use Rattle.ptu_grandmaster.specs.Taking.{Replies};
 
 use crate::outcome::{Outcome, Outcomes, Reply};
 use ptu_admit::Verdict;
+use ptu_gm_messages::write_reply;
 use ptu_header::{Header, PortIdentity};
-use ptu_items::write_reply;
 use ptu_messages::ToTlv;
 use ptu_outside::{Channel, Port, hand};
-use ptu_shard::GmConfig;
+use ptu_profile::GmConfig;
 use ptu_tlvs::{Ask, Tlv};
 
 impl ToTlv for Outcome {

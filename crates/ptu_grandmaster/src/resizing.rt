@@ -6,19 +6,19 @@ ghost use Rattle.ptu_history.specs.Core.{book_step_moment, core_step};
 ghost use Rattle.ptu_history.specs.Events as events;
 ghost use Rattle.ptu_history.specs.History.{Record};
 ghost use Rattle.ptu_history.specs.Shedding.{shed_grants};
-ghost use Rattle.ptu_admit.specs.Book.{IsCapacity};
+ghost use Rattle.ptu_profile.specs.Limits.{IsCapacity};
 ghost use Rattle.ptu_admit.specs.Lent.{moment_for_all};
 ghost use Rattle.ptu_admit.specs.Shed.{shed_of};
-ghost use Rattle.ptu_items.specs.Deciding.{opened_with};
-ghost use Rattle.ptu_items.specs.Replies.{cancel_to, cancels_to};
+ghost use Rattle.ptu_gm_messages.specs.Deciding.{opened_with};
+ghost use Rattle.ptu_gm_messages.specs.Replies.{cancel_to, cancels_to};
 ghost use Rattle.ptu_grandmaster.specs.Changed.{leases_shed};
 ghost use Rattle.ptu_grandmaster.specs.Gm.{StandsFor, tables};
 
 use crate::gm::Gm;
 use ptu_admit::{Shed, ShedList, resize};
-use ptu_items::cancel_of;
+use ptu_gm_messages::cancel_of;
 use ptu_outside::{Channel, Failed, Port, Sends, hand};
-use ptu_shard::GmConfig;
+use ptu_profile::GmConfig;
 use ptu_units::{Moment, OutOfMemory};
 
 /// What a change of capacity did.

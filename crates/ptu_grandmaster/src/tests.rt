@@ -1,13 +1,14 @@
 ghost use Rattle.std.specs.Prelude.{IfOk};
 ghost use Rattle.std.specs.List.{All};
-ghost use Rattle.ptu_admit.specs.Book.{IsCapacity};
+ghost use Rattle.ptu_profile.specs.Limits.{IsCapacity};
 ghost use Rattle.ptu_grandmaster.specs.Driven.{IsPossible};
 
 use super::*;
 use ptu_admit::{Cancelled, Verdict};
 use ptu_header::PortIdentity;
 use ptu_outside::{Channel, Datagram, MemPort};
-use ptu_shard::{Answered, GmConfig, Turned};
+use ptu_profile::GmConfig;
+use ptu_shard::{Answered, Turned};
 use ptu_units::Moment;
 use std::alloc::Global;
 use std::process::Abort;

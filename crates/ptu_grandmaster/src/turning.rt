@@ -11,7 +11,7 @@ ghost use Rattle.ptu_history.specs.Turns.{due_grants, message_of};
 ghost use Rattle.ptu_shard.specs.Answered.{met_by, moment_of_answer};
 ghost use Rattle.ptu_shard.specs.Messages.{departure_of};
 ghost use Rattle.ptu_shard.specs.Turn.{due_messages};
-ghost use Rattle.ptu_items.specs.Deciding.{opened_with};
+ghost use Rattle.ptu_gm_messages.specs.Deciding.{opened_with};
 ghost use Rattle.ptu_grandmaster.specs.Gm.{StandsFor, table_at, with_table};
 ghost use Rattle.ptu_grandmaster.specs.Taking.{Responds};
 

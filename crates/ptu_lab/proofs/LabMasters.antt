@@ -5,7 +5,7 @@ use Rattle.std.specs.HashMap.{get}
 use Rattle.ptu_outside.specs.MemoryPort.{MemoryPort}
 use Rattle.ptu_record.specs.declared.rule.Rule.{Rule}
 use Rattle.ptu_judges.specs.Held.{HasTaken, Held, fresh}
-use Rattle.ptu_slave_messages.specs.Config.{place_of}
+use Rattle.ptu_profile.specs.Slave.{place_of}
 use Rattle.ptu_report.specs.Rules.{IsOutcome}
 use Rattle.ptu_script.specs.Fields.{◌>>=◌}
 use Rattle.ptu_script.specs.declared.cause.Cause.{Cause}

@@ -9,7 +9,7 @@ use Rattle.ptu_units.specs.Counts.{counted}
 use Rattle.ptu_report_lines.specs.declared.sent.Sent.{Sent}
 use Rattle.ptu_report_lines.specs.declared.statement.Statement.TheVariants as statements
 use Rattle.ptu_record.specs.declared.rule.Rule.{Rule}
-use Rattle.ptu_slave_messages.specs.Config.{place_of}
+use Rattle.ptu_profile.specs.Slave.{place_of}
 use Rattle.ptu_report.specs.Rules.{IsOutcome}
 use Rattle.ptu_script.specs.Fields.{◌>>=◌}
 use Rattle.ptu_script.specs.declared.cause.Cause.{Cause}

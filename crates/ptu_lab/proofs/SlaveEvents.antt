@@ -15,9 +15,9 @@ use Rattle.ptu_record.proofs.Choice.{chosen_best}
 use Rattle.ptu_record.specs.Tick.{Sending}
 use Rattle.ptu_record.specs.Step.{ReplaceJudge, SlaveEvent, judged_masters, sendings, slave_step}
 use Rattle.ptu_judges.specs.Held.{Held, IsFresh, fresh}
-use Rattle.ptu_slave_messages.specs.declared.config.Master.{Master}
-use Rattle.ptu_slave_messages.specs.declared.config.SlaveConfig.{SlaveConfig}
-use Rattle.ptu_slave_messages.specs.Config.{AreMasters, IsWithinLimits, address_of, priorities, timeouts}
+use Rattle.ptu_profile.specs.declared.slave.Master.{Master}
+use Rattle.ptu_profile.specs.declared.slave.SlaveConfig.{SlaveConfig}
+use Rattle.ptu_profile.specs.Slave.{AreMasters, IsWithinLimits, address_of, priorities, timeouts}
 use Rattle.ptu_slave_messages.specs.Node.{Deed, deed, node_setup}
 use Rattle.ptu_slave_messages.specs.Sending.{all_ones, departure_of}
 use Rattle.ptu_slave.specs.Kept.{IsSame, Kept}

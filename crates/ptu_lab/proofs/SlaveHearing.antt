@@ -17,8 +17,8 @@ use Rattle.ptu_record.specs.declared.wants.Wants.{Wants}
 use Rattle.ptu_record.specs.Record.{Record, event_moment}
 use Rattle.ptu_record.specs.Step.{ReplaceJudge, judged_masters, one_reply}
 use Rattle.ptu_judges.specs.Held.{Held}
-use Rattle.ptu_slave_messages.specs.declared.config.Master.{Master}
-use Rattle.ptu_slave_messages.specs.declared.config.SlaveConfig.{SlaveConfig}
+use Rattle.ptu_profile.specs.declared.slave.Master.{Master}
+use Rattle.ptu_profile.specs.declared.slave.SlaveConfig.{SlaveConfig}
 use Rattle.ptu_slave_messages.specs.declared.heard.Heard.{Heard}
 use Rattle.ptu_slave_messages.specs.declared.heard.Heard.TheVariants as heard
 use Rattle.ptu_slave_messages.specs.declared.heard.HeardReply.{HeardReply}
@@ -27,7 +27,7 @@ use Rattle.ptu_slave_messages.specs.declared.reason.SlaveReason.{SlaveReason}
 use Rattle.ptu_slave_messages.specs.declared.reason.SlaveReason.TheVariants.{Domain, Other, Target, UnknownType}
 use Rattle.ptu_slave_messages.specs.declared.signal.Signal.{Signal}
 use Rattle.ptu_slave_messages.specs.declared.signal.Signal.TheVariants as signals
-use Rattle.ptu_slave_messages.specs.Config.{place_of}
+use Rattle.ptu_profile.specs.Slave.{place_of}
 use Rattle.ptu_slave_messages.specs.Heard.{answer_of, event_of, failed_by, heard_of, replies_in, replies_to, reply_by, reply_in, sent_by}
 use Rattle.ptu_slave_messages.specs.Node.{Deed, Node, datagram_deed, datagram_heard, reception_deed, reception_heard}
 use Rattle.ptu_slave_messages.specs.Reception.{beside, from_master, is_delay_req, is_for, is_unknown, of_reading, reception, sender_of}

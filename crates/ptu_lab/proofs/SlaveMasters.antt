@@ -11,8 +11,8 @@ use Rattle.ptu_history.proofs.Keys.{eq-eqb-self}
 use Rattle.ptu_outside.specs.MemoryPort.{IsSure, MemoryPort}
 use Rattle.ptu_record.specs.declared.rule.Rule.{Rule}
 use Rattle.ptu_judges.specs.Held.{Held, IsFresh, fresh}
-use Rattle.ptu_slave_messages.specs.declared.config.Master.{Master}
-use Rattle.ptu_slave_messages.specs.Config.{AreMasters, IsWithinLimits, place_of}
+use Rattle.ptu_profile.specs.declared.slave.Master.{Master}
+use Rattle.ptu_profile.specs.Slave.{AreMasters, IsWithinLimits, place_of}
 use Rattle.ptu_slave.specs.Kept.{Kept}
 use Rattle.ptu_slave.specs.Standing.{StandsFor}
 use Rattle.ptu_world.specs.Deeds.{Slave}

@@ -19,7 +19,7 @@ use Rattle.ptu_messages.specs.declared.message.Body.TheVariants as body
 use Rattle.ptu_messages.specs.declared.message.Message.{Message}
 use Rattle.ptu_messages.specs.Message.{SpellsBody, SpellsMessage}
 use Rattle.ptu_messages.specs.Reading.{message_in}
-use Rattle.ptu_messages.specs.Sent.{signaling}
+use Rattle.ptu_messages.specs.Sent.{octets_sent, signaling}
 use Rattle.ptu_messages.proofs.Readings.{found_is}
 use Rattle.ptu_outside.specs.Departure.{Departure}
 use Rattle.ptu_outside.specs.MemoryPort.{IsSure, MemoryPort, octets_of}
@@ -32,12 +32,13 @@ use Rattle.ptu_record.specs.Grants.{is_live, live_kinds}
 use Rattle.ptu_record.specs.Step.{SlaveSetup, Signal, AckTlv, CancelTlv, GrantTlv, Stop, Tick, cancel_code, one_reply, sendings}
 use Rattle.ptu_record.specs.Tick.{Acknowledgements, Cancels, DelayReq, Requests, Sending, cancels_to, delay_req_number, is_probe_due, is_stop, one_signaling, requests_to, signaling_number}
 use Rattle.ptu_record.specs.Wants.{wanted_kinds, wanted_log}
-use Rattle.ptu_slave_messages.specs.declared.config.Master.{Master}
-use Rattle.ptu_slave_messages.specs.declared.config.SlaveConfig.{SlaveConfig}
+use Rattle.ptu_profile.specs.declared.slave.Master.{Master}
+use Rattle.ptu_profile.specs.declared.slave.SlaveConfig.{SlaveConfig}
+use Rattle.ptu_profile.specs.Slave.{header_of}
 use Rattle.ptu_slave_messages.specs.declared.reason.SlaveReason.{SlaveReason}
 use Rattle.ptu_slave_messages.specs.Heard.{replies_in, replies_to, said_by}
 use Rattle.ptu_slave_messages.specs.Reception.{beside, of_reading, reception, sender_of}
-use Rattle.ptu_slave_messages.specs.Sending.{cancel_of, departure_of, header_of, message_of, octets_sent, request_of}
+use Rattle.ptu_slave_messages.specs.Sending.{cancel_of, departure_of, message_of, request_of}
 use Rattle.ptu_lab.specs.SlaveWords.{HasRoom}
 
 -- ---- counts

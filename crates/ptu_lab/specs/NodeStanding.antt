@@ -3,7 +3,7 @@ use Rattle.std.specs.Prelude.{◌≡◌, ℕ, Bool, false, List, [], IsSome}
 use Rattle.std.specs.List.{AllByRecursion}
 use Rattle.ptu_outside.specs.MemoryPort.{IsSure, MemoryPort}
 use Rattle.ptu_judges.specs.Held.{Held, IsFresh}
-use Rattle.ptu_slave_messages.specs.Config.{AreMasters, IsWithinLimits}
+use Rattle.ptu_profile.specs.Slave.{AreMasters, IsWithinLimits}
 use Rattle.ptu_slave.specs.Kept.{Kept}
 use Rattle.ptu_slave.specs.Seen.{Seen}
 use Rattle.ptu_slave.specs.Standing as slave

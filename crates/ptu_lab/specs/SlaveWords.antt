@@ -8,7 +8,7 @@ use Rattle.ptu_world.specs.Slaves.{entered}
 use Rattle.ptu_lab.specs.NodeStanding.{IsSlaveNode}
 use Rattle.ptu_nodes.specs.Standing.{IsIdle}
 use Rattle.ptu_record.specs.Record.{Record}
-use Rattle.ptu_slave_messages.specs.declared.config.SlaveConfig.{SlaveConfig}
+use Rattle.ptu_profile.specs.declared.slave.SlaveConfig.{SlaveConfig}
 use Rattle.ptu_script.specs.declared.command.SlaveSetup.{SlaveSetup}
 use Rattle.ptu_report_lines.specs.declared.statement.Statement.{Statement}
 use Rattle.ptu_report_lines.specs.declared.statement.Statement.TheVariants.{Selected}

@@ -4,7 +4,7 @@ ghost use Rattle.ptu_record.specs.declared.rule.Rule.{Rule};
 ghost use Rattle.ptu_record.specs.Record.{Record};
 ghost use Rattle.ptu_record.specs.Step.{ReplaceJudge, Stop, TellFlag, Tick};
 ghost use Rattle.ptu_judges.specs.Held.{IsStock, fresh};
-ghost use Rattle.ptu_slave_messages.specs.Config.{IsWithinLimits, place_of};
+ghost use Rattle.ptu_profile.specs.Slave.{IsWithinLimits, place_of};
 ghost use Rattle.ptu_slave_messages.specs.Node as node;
 ghost use Rattle.ptu_slave_messages.specs.Node.{datagram_heard};
 ghost use Rattle.ptu_slave.specs.Seen.{seen};

@@ -18,11 +18,11 @@ use Rattle.ptu_outside.specs.HandsOver.{HandsOver}
 use Rattle.ptu_outside.proofs.HandsOver.{goes_on_both, none_failed, not_fallen_both, rises_first, rises_second, told_both}
 use Rattle.ptu_outside.proofs.Told.{HasRisenBy-after, HasRisenBy-before}
 use Rattle.ptu_history.specs.declared.client.Client.{Client}
-use Rattle.ptu_shard.specs.declared.config.GmConfig.{GmConfig}
+use Rattle.ptu_profile.specs.declared.grandmaster.GmConfig.{GmConfig}
 use Rattle.ptu_shared.specs.Opening.{HaveFailed, Seen, seen_of}
 use Rattle.ptu_shared.specs.Seats.{Counts, no_verdicts}
 use Rattle.ptu_shared.proofs.Failing.{failed_hands, failed_none}
-use Rattle.ptu_items.specs.Replies.{cancels_to}
+use Rattle.ptu_gm_messages.specs.Replies.{cancels_to}
 use Rattle.ptu_config.specs.declared.settings.GmSettings.{GmSettings}
 use Rattle.ptu_lanes.specs.Answers.{asks_among, grants_among}
 use Rattle.ptu_rounds.specs.Ports.{HaveRisenBy, HaveRisenJust}

@@ -18,13 +18,13 @@ use Rattle.ptu_outside.specs.Telling.{IfTold, IsFirstTold, append_told, rest_tol
 use Rattle.ptu_outside.proofs.Telling.{IfTold-refl}
 use Rattle.ptu_header.specs.declared.header.Header.{Header}
 use Rattle.ptu_tlvs.specs.declared.tlv.Tlv.{Tlv}
-use Rattle.ptu_shard.specs.declared.config.GmConfig.{GmConfig}
+use Rattle.ptu_profile.specs.declared.grandmaster.GmConfig.{GmConfig}
 use Rattle.ptu_shared.specs.Seats.{Counts}
-use Rattle.ptu_items.specs.declared.heard.Heard.{Heard}
-use Rattle.ptu_items.specs.declared.heard.Heard.TheVariants as heard
-use Rattle.ptu_items.specs.declared.reason.GmReason.{GmReason}
-use Rattle.ptu_items.specs.declared.item.Item.{Item}
-use Rattle.ptu_items.specs.Items.{heard_in, items_in}
+use Rattle.ptu_gm_messages.specs.declared.heard.Heard.{Heard}
+use Rattle.ptu_gm_messages.specs.declared.heard.Heard.TheVariants as heard
+use Rattle.ptu_gm_messages.specs.declared.reason.GmReason.{GmReason}
+use Rattle.ptu_gm_messages.specs.declared.item.Item.{Item}
+use Rattle.ptu_gm_messages.specs.Items.{heard_in, items_in}
 use Rattle.ptu_lanes.specs.Answers.{HasAnswered, asks_among, grants_among}
 use Rattle.ptu_lanes.specs.Rounds.{BrokeOff, Exchange, Exchanged, HasReplied, HasServed, IsAnswered, IsRound, IsUnanswered, asks_in, datagrams, found_items, items_of, replies, reply_if_any, reply_in, reply_with}
 use Rattle.ptu_lanes.proofs.Items.{answered_none, asks-le, heard_items, items_heard}

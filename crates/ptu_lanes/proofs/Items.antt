@@ -11,17 +11,17 @@ use Rattle.ptu_messages.specs.declared.message.Body.TheVariants as body
 use Rattle.ptu_messages.specs.declared.message.Message.{Message}
 use Rattle.ptu_messages.specs.declared.fault.MessageFault.{MessageFault}
 use Rattle.ptu_messages.specs.Reading.{message_in}
-use Rattle.ptu_shard.specs.declared.config.GmConfig.{GmConfig}
+use Rattle.ptu_profile.specs.declared.grandmaster.GmConfig.{GmConfig}
 use Rattle.ptu_shared.specs.Seats.{Counts}
-use Rattle.ptu_items.specs.declared.heard.Heard.{Heard}
-use Rattle.ptu_items.specs.declared.heard.Heard.TheVariants as heard
-use Rattle.ptu_items.specs.declared.item.Item.{Item}
-use Rattle.ptu_items.specs.declared.item.Item.TheVariants.{Request, Cancel}
-use Rattle.ptu_items.specs.declared.reason.GmReason.{GmReason}
-use Rattle.ptu_items.specs.declared.reason.GmReason.TheVariants as reasons
-use Rattle.ptu_items.specs.Deciding.{answer_to, asked_by}
-use Rattle.ptu_items.specs.Items.{heard_by, heard_in, items_by, items_in, of_message, with_items}
-use Rattle.ptu_items.specs.Replies.{reply_to}
+use Rattle.ptu_gm_messages.specs.declared.heard.Heard.{Heard}
+use Rattle.ptu_gm_messages.specs.declared.heard.Heard.TheVariants as heard
+use Rattle.ptu_gm_messages.specs.declared.item.Item.{Item}
+use Rattle.ptu_gm_messages.specs.declared.item.Item.TheVariants.{Request, Cancel}
+use Rattle.ptu_gm_messages.specs.declared.reason.GmReason.{GmReason}
+use Rattle.ptu_gm_messages.specs.declared.reason.GmReason.TheVariants as reasons
+use Rattle.ptu_gm_messages.specs.Deciding.{answer_to, asked_by}
+use Rattle.ptu_gm_messages.specs.Items.{heard_by, heard_in, items_by, items_in, of_message, with_items}
+use Rattle.ptu_gm_messages.specs.Replies.{reply_to}
 use Rattle.ptu_grandmaster.specs.declared.outcome.Outcome.{Outcome}
 use Rattle.ptu_grandmaster.specs.Outcomes.{answers_seen, decision_seen, item_seen}
 use Rattle.ptu_lanes.specs.Answers.{FitEach, HasAnswered, ask_count, asks_among, grants_among, grant_count, one_if_ok}

@@ -12,7 +12,7 @@ use Rattle.ptu_outside.specs.declared.port.Port.{Ghosts as Ports}
 use Rattle.ptu_outside.specs.Faults.{HasRisen}
 use Rattle.ptu_outside.proofs.Telling.{IfTold-refl}
 use Rattle.ptu_outside.proofs.HandsOver.{goes_on_both, not_fallen_both, not_fallen_none, rises_first, rises_second, told_both, told_none}
-use Rattle.ptu_shard.specs.declared.config.GmConfig.{GmConfig}
+use Rattle.ptu_profile.specs.declared.grandmaster.GmConfig.{GmConfig}
 use Rattle.ptu_shared.specs.Opening.{HaveFailed}
 use Rattle.ptu_shared.specs.Seats.{Counts}
 use Rattle.ptu_shared.proofs.Failing.{failed-append, failed_bounded}

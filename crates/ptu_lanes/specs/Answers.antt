@@ -9,14 +9,14 @@ use Rattle.ptu_history.specs.Verdict.{profile}
 use Rattle.ptu_tlvs.specs.declared.tlv.Ask.{Ask}
 use Rattle.ptu_tlvs.specs.declared.tlv.Tlv.{Tlv}
 use Rattle.ptu_tlvs.specs.declared.tlv.Tlv.TheVariants as tlv
-use Rattle.ptu_shard.specs.declared.config.GmConfig.{GmConfig}
+use Rattle.ptu_profile.specs.declared.grandmaster.GmConfig.{GmConfig}
 use Rattle.ptu_admit.specs.declared.ending.Cancelled.{Cancelled}
 use Rattle.ptu_shared.specs.Answers.{AnswersAsk}
 use Rattle.ptu_shared.specs.Seats.{Counts}
-use Rattle.ptu_items.specs.declared.item.Item.{Item}
-use Rattle.ptu_items.specs.declared.item.Item.TheVariants.{Request, Cancel}
-use Rattle.ptu_items.specs.Deciding.{asked_by}
-use Rattle.ptu_items.specs.Replies.{denial_of, grant_of}
+use Rattle.ptu_gm_messages.specs.declared.item.Item.{Item}
+use Rattle.ptu_gm_messages.specs.declared.item.Item.TheVariants.{Request, Cancel}
+use Rattle.ptu_gm_messages.specs.Deciding.{asked_by}
+use Rattle.ptu_gm_messages.specs.Replies.{denial_of, grant_of}
 use Rattle.ptu_grandmaster.specs.declared.outcome.Outcome.{Outcome}
 use Rattle.ptu_grandmaster.specs.declared.outcome.Outcome.TheVariants as outcome
 

@@ -5,7 +5,7 @@ use Rattle.ptu_outside.specs.declared.arrival.Arrival.{Arrival}
 use Rattle.ptu_outside.specs.declared.clock.Clock.{Ghosts as Clocks}
 use Rattle.ptu_outside.specs.declared.port.Port.{Ghosts as Ports}
 use Rattle.ptu_outside.specs.Faults.{HasNotFallen, HasRisen}
-use Rattle.ptu_shard.specs.declared.config.GmConfig.{GmConfig}
+use Rattle.ptu_profile.specs.declared.grandmaster.GmConfig.{GmConfig}
 use Rattle.ptu_shared.specs.Opening.{HaveFailed}
 use Rattle.ptu_shared.specs.Seats.{Counts}
 use Rattle.ptu_lanes.specs.Rounds.{Exchange, Exchanged, IsAnswered, asks_in, datagrams, grants_in, replies}

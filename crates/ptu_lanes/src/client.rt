@@ -1,5 +1,5 @@
 ghost use Rattle.std.specs.Prelude.{◌≡◌};
-ghost use Rattle.ptu_items.specs.Deciding.{client_of};
+ghost use Rattle.ptu_gm_messages.specs.Deciding.{client_of};
 
 use ptu_header::Header;
 use ptu_history::Client;

@@ -2,7 +2,7 @@
 
 ghost use Rattle.std.specs.Prelude.{◌≡◌, ◌+◌, ◌≤◌, [], false, if◌then◌else◌, IfOk, IfSome, OnErr};
 ghost use Rattle.ptu_outside.specs.Faults.{HasNotFallen, HasRisen};
-ghost use Rattle.ptu_shard.specs.Config.{IsWithinLimits};
+ghost use Rattle.ptu_profile.specs.Grandmaster.{IsWithinLimits};
 ghost use Rattle.ptu_shared.specs.Opening.{HaveFailed};
 ghost use Rattle.ptu_lanes.specs.Waiting.{GaveFirst, HasTaken, Took};
 
@@ -10,9 +10,10 @@ use crate::answering::Origin;
 use crate::client::client;
 use crate::service::Service;
 use crate::signaling::MOST_DATAGRAMS;
-use ptu_items::{Heard, hear};
+use ptu_gm_messages::{Heard, hear};
 use ptu_outside::{Clock, Port};
-use ptu_shard::{Answered, GmConfig};
+use ptu_profile::GmConfig;
+use ptu_shard::Answered;
 use ptu_shared::{Rates, Shared};
 use ptu_units::OutOfMemory;
 use std::alloc::Global;

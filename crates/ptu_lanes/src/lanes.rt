@@ -1,7 +1,7 @@
 //! The lanes of a grandmaster, with what each keeps from round to round.
 
 ghost use Rattle.std.specs.Prelude.{◌≡◌, ◌+◌, ◌-◌, ◌*◌, ◌^◌, ◌≤◌, ◌<◌, min, IfOk};
-ghost use Rattle.ptu_shard.specs.Config.{IsWithinLimits};
+ghost use Rattle.ptu_profile.specs.Grandmaster.{IsWithinLimits};
 ghost use Rattle.ptu_lanes.specs.Stretches.{HaveTurned, TookDelayReqs, TookSignaling};
 ghost use Rattle.ptu_lanes.specs.Waiting.{PassedBy, TurnedOwn, own_tables};
 

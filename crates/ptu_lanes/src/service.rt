@@ -1,7 +1,7 @@
 //! What the calls of the lanes have in common.
 
 use ptu_outside::Port;
-use ptu_shard::GmConfig;
+use ptu_profile::GmConfig;
 use ptu_shared::{Rates, Shared};
 use std::alloc::Global;
 use std::sync::ledger::Ledger;

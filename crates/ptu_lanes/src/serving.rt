@@ -2,7 +2,7 @@
 
 ghost use Rattle.std.specs.Prelude.{◌≡◌, ◌+◌, ◌*◌, ◌≤◌, [], IfOk, IfSome};
 ghost use Rattle.ptu_outside.specs.Faults.{HasRisen};
-ghost use Rattle.ptu_shard.specs.Config.{IsWithinLimits};
+ghost use Rattle.ptu_profile.specs.Grandmaster.{IsWithinLimits};
 ghost use Rattle.ptu_shared.specs.Opening.{HaveFailed, seen_of};
 ghost use Rattle.ptu_shared.specs.Seats.{no_verdicts};
 ghost use Rattle.ptu_config.specs.Limits.{IsGmInRange};
@@ -19,7 +19,7 @@ use crate::stretches::{Lanes, stretch};
 use ptu_admit::Closed;
 use ptu_config::GmSettings;
 use ptu_outside::{Clock, Opened, Port};
-use ptu_shard::GmConfig;
+use ptu_profile::GmConfig;
 use ptu_shared::{Failures, Rates, Seat, Shared};
 use ptu_units::OutOfMemory;
 use std::alloc::Global;

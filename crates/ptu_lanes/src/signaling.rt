@@ -2,14 +2,14 @@
 
 ghost use Rattle.std.specs.Prelude.{◌≡◌, ◌+◌, ◌^◌, ◌≤◌, List, [], length, true, false, if◌then◌else◌, IfOk, IfSome, OnErr};
 ghost use Rattle.ptu_outside.specs.Faults.{HasNotFallen, HasRisen, HasRisenBy, HasRisenJust};
-ghost use Rattle.ptu_shard.specs.Config.{IsWithinLimits};
+ghost use Rattle.ptu_profile.specs.Grandmaster.{IsWithinLimits};
 ghost use Rattle.ptu_lanes.specs.Rounds.{BrokeOff, Exchange, Exchanged, HasServed, IsRound, IsUnanswered};
 ghost use Rattle.ptu_lanes.specs.Waiting.{PassedBy};
 
 use crate::answering::{Origin, answer_datagram};
 use crate::service::Service;
 use ptu_outside::{Clock, Port};
-use ptu_shard::GmConfig;
+use ptu_profile::GmConfig;
 use ptu_shared::{Rates, Seat, Shared};
 use ptu_units::OutOfMemory;
 use std::alloc::Global;

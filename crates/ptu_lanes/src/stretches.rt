@@ -1,7 +1,7 @@
 //! Rounds of a grandmaster's lanes, side by side, in threads that stay.
 
 ghost use Rattle.std.specs.Prelude.{◌≡◌, ◌+◌, ◌^◌, ◌≤◌, IfOk};
-ghost use Rattle.ptu_shard.specs.Config.{IsWithinLimits};
+ghost use Rattle.ptu_profile.specs.Grandmaster.{IsWithinLimits};
 ghost use Rattle.ptu_lanes.specs.Stretches.{HaveTurned, TookDelayReqs, TookSignaling};
 
 use crate::lanes::{

@@ -1,5 +1,5 @@
 ghost use Rattle.std.specs.Prelude.{◌≡◌, ◌≤◌, ℕ, length, IfOk};
-ghost use Rattle.ptu_admit.specs.Book.{IsCapacity};
+ghost use Rattle.ptu_profile.specs.Limits.{IsCapacity};
 ghost use Rattle.ptu_shared.specs.Opening.{idle_port};
 
 use super::*;
@@ -7,7 +7,7 @@ use ptu_admit::{Closed, Verdict};
 use ptu_header::PortIdentity;
 use ptu_history::Client;
 use ptu_outside::{Arrival, Channel, Datagram, MemClock, MemPort, Sends};
-use ptu_shard::GmConfig;
+use ptu_profile::GmConfig;
 use ptu_shared::{Rates, Seat, Shared};
 use ptu_tlvs::Ask;
 use ptu_units::Moment;

@@ -1,11 +1,11 @@
 //! Rounds of a lane that turns tables.
 
 ghost use Rattle.std.specs.Prelude.{◌≡◌, ◌≤◌, ◌<◌, ◌%◌, ◌==◌, if◌then◌else◌};
-ghost use Rattle.ptu_shard.specs.Config.{IsWithinLimits};
+ghost use Rattle.ptu_profile.specs.Grandmaster.{IsWithinLimits};
 ghost use Rattle.ptu_lanes.specs.Waiting.{PassedBy, own_tables};
 
 use ptu_outside::{Clock, Port, Sends};
-use ptu_shard::GmConfig;
+use ptu_profile::GmConfig;
 use ptu_shared::{Rates, Shared};
 use std::sync::Wait;
 use std::sync::ledger::Ledger;

@@ -45,6 +45,10 @@ sent_body Ignored = []
 abbrev pub sent_message : Message → List ℕ
 sent_message message = sent_header message.header (34 + length (sent_body message.body)) ++ sent_body message.body
 
+-- the same, for those who need not look into them
+unfoldable pub octets_sent : Message → List ℕ
+octets_sent message = sent_message message
+
 -- a Signaling with these TLVs
 abbrev pub signaling : Header → PortIdentity → List Tlv → Message
 signaling header target tlvs = record { header = header; body = Signaling target tlvs }

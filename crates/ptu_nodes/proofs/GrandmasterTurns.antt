@@ -9,11 +9,11 @@ use Rattle.ptu_history.specs.Events as events
 use Rattle.ptu_history.specs.History.{Record}
 use Rattle.ptu_history.specs.Live.{Grant}
 use Rattle.ptu_history.specs.Turns.{due_grants, message_of}
-use Rattle.ptu_shard.specs.declared.config.GmConfig.{GmConfig}
+use Rattle.ptu_profile.specs.declared.grandmaster.GmConfig.{GmConfig}
 use Rattle.ptu_shard.specs.Messages.{departure_of}
 use Rattle.ptu_shard.specs.Table.{Kept}
 use Rattle.ptu_shard.specs.Turn.{due_messages}
-use Rattle.ptu_items.specs.Deciding.{opened_with}
+use Rattle.ptu_gm_messages.specs.Deciding.{opened_with}
 use Rattle.ptu_grandmaster.specs.Gm.{KeptGm, StandsFor, table_at, with_table}
 use Rattle.ptu_world.specs.Deeds.{Grandmaster}
 use Rattle.ptu_world.specs.Grandmasters.{turn_deed}

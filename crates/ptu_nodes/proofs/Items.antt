@@ -10,13 +10,13 @@ use Rattle.ptu_messages.specs.declared.fault.MessageFault.{MessageFault}
 use Rattle.ptu_messages.specs.Message.{SpellsMessage}
 use Rattle.ptu_messages.specs.Reading.{message_in}
 use Rattle.ptu_messages.proofs.Readings.{found_is}
-use Rattle.ptu_shard.specs.declared.config.GmConfig.{GmConfig}
-use Rattle.ptu_items.specs.declared.heard.Heard.{Heard}
-use Rattle.ptu_items.specs.declared.heard.Heard.TheVariants as heard
-use Rattle.ptu_items.specs.declared.item.Item.{Item}
-use Rattle.ptu_items.specs.declared.reason.GmReason.{GmReason}
-use Rattle.ptu_items.specs.declared.reason.GmReason.TheVariants as reasons
-use Rattle.ptu_items.specs.Items.{heard_by, heard_in, is_for, item_of, items_among, of_message, with_items}
+use Rattle.ptu_profile.specs.declared.grandmaster.GmConfig.{GmConfig}
+use Rattle.ptu_gm_messages.specs.declared.heard.Heard.{Heard}
+use Rattle.ptu_gm_messages.specs.declared.heard.Heard.TheVariants as heard
+use Rattle.ptu_gm_messages.specs.declared.item.Item.{Item}
+use Rattle.ptu_gm_messages.specs.declared.reason.GmReason.{GmReason}
+use Rattle.ptu_gm_messages.specs.declared.reason.GmReason.TheVariants as reasons
+use Rattle.ptu_gm_messages.specs.Items.{heard_by, heard_in, is_for, item_of, items_among, of_message, with_items}
 
 no_more : (o : Option Item) (items : List Item) → length (cons_option o items) ≤ length items + 1
 no_more None items = omega arith

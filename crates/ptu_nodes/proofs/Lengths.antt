@@ -12,12 +12,12 @@ use Rattle.ptu_tlvs.specs.declared.tlv.Tlv.{Tlv}
 use Rattle.ptu_tlvs.specs.declared.tlv.Tlv.TheVariants.{Request, Grant, Cancel, Ack, Other}
 use Rattle.ptu_tlvs.specs.Sent.{sent_tlv}
 use Rattle.ptu_messages.specs.declared.message.Message.{Message as Timed}
-use Rattle.ptu_messages.specs.Sent.{sent_body}
+use Rattle.ptu_messages.specs.Sent.{octets_sent, sent_body}
 use Rattle.ptu_history.specs.declared.client.Client.{Client}
 use Rattle.ptu_history.specs.Events.{Message}
-use Rattle.ptu_shard.specs.declared.config.GmConfig.{GmConfig}
-use Rattle.ptu_shard.specs.Messages.{body_of, departure_of, message_of_turn, octets_sent, response_of, message_of_response}
-use Rattle.ptu_items.specs.Replies.{cancels_to, identity_of, signaling_of, signaling_to}
+use Rattle.ptu_profile.specs.declared.grandmaster.GmConfig.{GmConfig}
+use Rattle.ptu_shard.specs.Messages.{body_of, departure_of, message_of_turn, response_of, message_of_response}
+use Rattle.ptu_gm_messages.specs.Replies.{cancels_to, identity_of, signaling_of, signaling_to}
 
 -- the header has 34 octets, whatever stands in it
 header_octets : (header : Header) (n : ℕ) → length (sent_header header n) ≡ 34

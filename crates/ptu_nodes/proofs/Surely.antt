@@ -19,19 +19,19 @@ use Rattle.ptu_history.specs.Events.{Answer}
 use Rattle.ptu_history.proofs.Order.{IsPermutation-in_order}
 use Rattle.ptu_shard.specs.declared.answered.Answered.{Answered}
 use Rattle.ptu_shard.specs.declared.answered.Answered.TheVariants as answers
-use Rattle.ptu_shard.specs.declared.config.GmConfig.{GmConfig}
+use Rattle.ptu_profile.specs.declared.grandmaster.GmConfig.{GmConfig}
 use Rattle.ptu_shard.specs.declared.lease.Row.{Row}
 use Rattle.ptu_shard.specs.Answered.{failed_by, met_by, moment_of_answer, responses, sent_by}
 use Rattle.ptu_shard.specs.Messages.{departure_of, response_of}
 use Rattle.ptu_shard.specs.Table.{Kept}
 use Rattle.ptu_shard.specs.Turn.{due_messages, due_rows, is_due_row, message_of_row, row_cmp}
 use Rattle.ptu_admit.proofs.RowKeys.{length-filter-le}
-use Rattle.ptu_items.specs.declared.heard.Heard.{Heard}
-use Rattle.ptu_items.specs.declared.heard.Heard.TheVariants as heard
-use Rattle.ptu_items.specs.declared.item.Item.{Item}
-use Rattle.ptu_items.specs.declared.reason.GmReason.{GmReason}
-use Rattle.ptu_items.specs.Deciding.{answer_to, client_of}
-use Rattle.ptu_items.specs.Replies.{cancels_to, reply_to}
+use Rattle.ptu_gm_messages.specs.declared.heard.Heard.{Heard}
+use Rattle.ptu_gm_messages.specs.declared.heard.Heard.TheVariants as heard
+use Rattle.ptu_gm_messages.specs.declared.item.Item.{Item}
+use Rattle.ptu_gm_messages.specs.declared.reason.GmReason.{GmReason}
+use Rattle.ptu_gm_messages.specs.Deciding.{answer_to, client_of}
+use Rattle.ptu_gm_messages.specs.Replies.{cancels_to, reply_to}
 use Rattle.ptu_grandmaster.specs.declared.outcome.Outcome.{Outcome}
 use Rattle.ptu_grandmaster.specs.declared.outcome.Reply.{Reply}
 use Rattle.ptu_grandmaster.specs.declared.outcome.Reply.TheVariants as sending

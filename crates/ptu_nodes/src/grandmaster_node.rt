@@ -1,5 +1,5 @@
 ghost use Rattle.std.specs.Prelude.{◌≡◌, ◌<◌, [], IfSome, OnOk};
-ghost use Rattle.ptu_admit.specs.Book.{IsCapacity};
+ghost use Rattle.ptu_profile.specs.Limits.{IsCapacity};
 ghost use Rattle.ptu_script.specs.Limits.{IsGrandmasterWithin};
 ghost use Rattle.ptu_world.specs.Deeds.{Grandmaster};
 ghost use Rattle.ptu_world.specs.Grandmasters.{capacity_deed, class_deed, datagram_deed, turn_deed};
@@ -14,9 +14,9 @@ use crate::journal::{Journal, SIGNALING};
 use ptu_grandmaster::Gm;
 use ptu_header::PortIdentity;
 use ptu_outside::MemPort;
+use ptu_profile::GmConfig;
 use ptu_report_lines::Statement;
 use ptu_script::GrandmasterSetup;
-use ptu_shard::GmConfig;
 use ptu_units::{Moment, OutOfMemory};
 use std::alloc::Global;
 

@@ -3,7 +3,7 @@ use Rattle.std.proofs.Common.{◌≡◌, ◌∙◌, ℕ, ◌-◌, ◌<◌, ◌�
 use Rattle.std.proofs.lemmas.Bool.{le-leb, lt-leb}
 use Rattle.std.proofs.lemmas.List.{map-append}
 use Rattle.ptu_outside.specs.MemoryPort.{MemoryPort}
-use Rattle.ptu_admit.specs.Book.{IsCapacity}
+use Rattle.ptu_profile.specs.Limits.{IsCapacity}
 use Rattle.ptu_report.specs.Rules.{IsOutcome, Outcome, Refuses}
 use Rattle.ptu_script.specs.declared.command.GrandmasterSetup.{GrandmasterSetup}
 use Rattle.ptu_script.specs.Limits.{IsGrandmasterWithin}

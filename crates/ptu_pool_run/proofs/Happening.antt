@@ -7,8 +7,8 @@ use Rattle.ptu_outside.specs.Departure.{Departure}
 use Rattle.ptu_outside.specs.declared.port.Port.{Ghosts as Ports}
 use Rattle.ptu_outside.specs.MemoryPort.{IsSure, MemoryPort}
 use Rattle.ptu_shard.specs.declared.answered.Turned.{Turned as TableTurned}
-use Rattle.ptu_shard.specs.declared.config.GmConfig.{GmConfig}
-use Rattle.ptu_items.specs.Items.{heard_in}
+use Rattle.ptu_profile.specs.declared.grandmaster.GmConfig.{GmConfig}
+use Rattle.ptu_gm_messages.specs.Items.{heard_in}
 use Rattle.ptu_grandmaster.specs.declared.outcome.Taken.{Taken}
 use Rattle.ptu_grandmaster.specs.Gm.{KeptGm, StandsFor, table_at}
 use Rattle.ptu_pools.specs.declared.pool.Pool.{Pool}
@@ -16,7 +16,7 @@ use Rattle.ptu_pools.specs.Changes.{TookDatagram, TookTurn}
 use Rattle.ptu_pools.specs.Events.{PoolEvent, Came, Turned}
 use Rattle.ptu_pools.specs.Pool.{AreApart, is_in, is_in_at}
 use Rattle.ptu_pools.specs.Refusal.{Share}
-use Rattle.ptu_admit.specs.Book.{IsCapacity}
+use Rattle.ptu_profile.specs.Limits.{IsCapacity}
 use Rattle.ptu_pools.specs.Standing.{ChangesOne, KeptPools, StandFor}
 use Rattle.ptu_pools.proofs.Places.{found_in, none_in, one_place}
 use Rattle.ptu_pools.proofs.Standing.{get-set_other, get-set_same}

@@ -3,7 +3,7 @@
 use Rattle.std.specs.Prelude.{ℕ, ◌+◌, List, ◌∷◌, [], map, Option, Some, None}
 use Rattle.std.specs.List.{position}
 use Rattle.ptu_outside.specs.Departure.{Departure}
-use Rattle.ptu_shard.specs.declared.config.GmConfig.{GmConfig}
+use Rattle.ptu_profile.specs.declared.grandmaster.GmConfig.{GmConfig}
 use Rattle.ptu_pools.specs.declared.pool.Pool.{Pool}
 use Rattle.ptu_pools.specs.Pool.{capacity_at, is_in}
 use Rattle.ptu_pools.specs.Events.{PoolEvent, Came, Turned, pool_history}

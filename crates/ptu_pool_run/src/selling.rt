@@ -1,10 +1,10 @@
 //! Pools are sold one after the other.
 
 ghost use Rattle.std.specs.Prelude.{◌≡◌, ◌++◌, ◌∷◌, [], All, IfErr, IfOk, None, Some, length};
-ghost use Rattle.ptu_admit.specs.Book.{IsCapacity};
+ghost use Rattle.ptu_profile.specs.Limits.{IsCapacity};
 ghost use Rattle.ptu_pools.specs.Refusal.{Share};
 ghost use Rattle.ptu_script.specs.Limits.{IsGrandmasterWithin};
-ghost use Rattle.ptu_shard.specs.Config.{IsWithinLimits};
+ghost use Rattle.ptu_profile.specs.Grandmaster.{IsWithinLimits};
 ghost use Rattle.ptu_pool_run.specs.Sending as sending;
 ghost use Rattle.ptu_pool_run.specs.Selling.{refusal_of};
 ghost use Rattle.ptu_pool_run.specs.Standing.{AreSold};
@@ -13,8 +13,8 @@ use crate::cause::PoolCause;
 use ptu_header::PortIdentity;
 use ptu_outside::MemPort;
 use ptu_pools::{Pool, Pools, PoolsFault};
+use ptu_profile::GmConfig;
 use ptu_script::GrandmasterSetup;
-use ptu_shard::GmConfig;
 use ptu_units::OutOfMemory;
 use std::alloc::Global;
 

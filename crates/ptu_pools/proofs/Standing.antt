@@ -8,8 +8,8 @@ use Rattle.std.proofs.lemmas.List.Concat.{flat_map-append}
 use Rattle.ptu_history.specs.Core.{core_history, history_after}
 use Rattle.ptu_history.specs.History.{Record}
 use Rattle.ptu_history.proofs.Histories.{history_after-append}
-use Rattle.ptu_shard.specs.declared.config.GmConfig.{GmConfig}
-use Rattle.ptu_items.specs.Deciding.{opened_with}
+use Rattle.ptu_profile.specs.declared.grandmaster.GmConfig.{GmConfig}
+use Rattle.ptu_gm_messages.specs.Deciding.{opened_with}
 use Rattle.ptu_grandmaster.specs.declared.driving.GmEvent.{GmEvent}
 use Rattle.ptu_grandmaster.specs.Driven.{driven_history, events_of}
 use Rattle.ptu_grandmaster.specs.Gm.{KeptGm, StandsFor}

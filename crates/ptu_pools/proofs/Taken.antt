@@ -3,9 +3,9 @@ use Rattle.std.proofs.Common.{◌≡◌, ℕ, ◌++◌, ◌∷◌, [], ◌<◌, 
 use Rattle.ptu_history.specs.Core.{core_step}
 use Rattle.ptu_history.specs.Events as happenings
 use Rattle.ptu_history.specs.History.{Record}
-use Rattle.ptu_shard.specs.declared.config.GmConfig.{GmConfig}
+use Rattle.ptu_profile.specs.declared.grandmaster.GmConfig.{GmConfig}
 use Rattle.ptu_shard.specs.Table.{Kept}
-use Rattle.ptu_items.specs.Deciding.{opened_with}
+use Rattle.ptu_gm_messages.specs.Deciding.{opened_with}
 use Rattle.ptu_grandmaster.specs.Gm.{KeptGm, StandsFor, with_table}
 use Rattle.ptu_grandmaster.proofs.Heard.{history_after-one}
 use Rattle.ptu_pools.specs.Pool.{AreApart, is_in, is_in_at}

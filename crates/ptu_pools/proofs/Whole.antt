@@ -17,14 +17,14 @@ use Rattle.ptu_history.proofs.AfterSteps.{capacity_in_force-quiet}
 use Rattle.ptu_laws.specs.Changes.{is_resize}
 use Rattle.ptu_laws.proofs.Budget.{count-constant, history-unchanged}
 use Rattle.ptu_laws.proofs.Capacity.{held-within}
-use Rattle.ptu_shard.specs.declared.config.GmConfig.{GmConfig}
-use Rattle.ptu_items.specs.declared.heard.Heard.{Heard}
-use Rattle.ptu_items.specs.declared.heard.Heard.TheVariants as heard
-use Rattle.ptu_items.specs.declared.item.Item.{Item}
-use Rattle.ptu_items.specs.declared.item.Item.TheVariants as items
-use Rattle.ptu_items.specs.declared.reason.GmReason.{GmReason}
-use Rattle.ptu_items.specs.Deciding.{asked_by, client_of, event_of, events_heard, events_of_items, opened_with}
-use Rattle.ptu_items.specs.Items.{heard_in}
+use Rattle.ptu_profile.specs.declared.grandmaster.GmConfig.{GmConfig}
+use Rattle.ptu_gm_messages.specs.declared.heard.Heard.{Heard}
+use Rattle.ptu_gm_messages.specs.declared.heard.Heard.TheVariants as heard
+use Rattle.ptu_gm_messages.specs.declared.item.Item.{Item}
+use Rattle.ptu_gm_messages.specs.declared.item.Item.TheVariants as items
+use Rattle.ptu_gm_messages.specs.declared.reason.GmReason.{GmReason}
+use Rattle.ptu_gm_messages.specs.Deciding.{asked_by, client_of, event_of, events_heard, events_of_items, opened_with}
+use Rattle.ptu_gm_messages.specs.Items.{heard_in}
 use Rattle.ptu_grandmaster.specs.Driven.{events_of}
 use Rattle.ptu_pools.specs.declared.pool.Pool.{Pool}
 use Rattle.ptu_pools.specs.Pool.{capacity_at}

@@ -9,9 +9,9 @@ use Rattle.ptu_history.specs.Turns.{due_grants, message_of}
 use Rattle.ptu_shard.specs.declared.answered.Turned.{Turned}
 use Rattle.ptu_shard.specs.Messages.{departure_of}
 use Rattle.ptu_shard.specs.Turn.{due_messages}
-use Rattle.ptu_items.specs.Deciding.{client_of, opened_with}
-use Rattle.ptu_items.specs.Items.{heard_in}
-use Rattle.ptu_items.specs.Replies.{reply_to}
+use Rattle.ptu_gm_messages.specs.Deciding.{client_of, opened_with}
+use Rattle.ptu_gm_messages.specs.Items.{heard_in}
+use Rattle.ptu_gm_messages.specs.Replies.{reply_to}
 use Rattle.ptu_grandmaster.specs.declared.outcome.Taken.{Taken}
 use Rattle.ptu_grandmaster.specs.Gm.{KeptGm, StandsFor, table_at, with_table}
 use Rattle.ptu_grandmaster.specs.Outcomes.{answers_seen}

@@ -2,7 +2,7 @@
 use Rattle.std.specs.Prelude.{ℕ, ◌==◌, Bool, List, length, map, filter, sum_by}
 use Rattle.std.specs.List.{range_with_len}
 use Rattle.ptu_history.specs.History.{Record}
-use Rattle.ptu_shard.specs.declared.config.GmConfig.{GmConfig}
+use Rattle.ptu_profile.specs.declared.grandmaster.GmConfig.{GmConfig}
 use Rattle.ptu_grandmaster.specs.declared.driving.GmEvent.{GmEvent}
 use Rattle.ptu_grandmaster.specs.declared.driving.GmEvent.TheVariants as gm
 use Rattle.ptu_grandmaster.specs.Driven.{driven_history}

@@ -2,7 +2,7 @@
 
 ghost use Rattle.std.specs.Prelude.{◌≡◌, ◌↔◌, ℕ, ◌*◌, ◌≤◌, false, List, ◌∷◌, ◌++◌, slice_get, IsTrue};
 ghost use Rattle.ptu_history.specs.Held.{count, held};
-ghost use Rattle.ptu_shard.specs.declared.config.GmConfig.{GmConfig};
+ghost use Rattle.ptu_profile.specs.declared.grandmaster.GmConfig.{GmConfig};
 ghost use Rattle.ptu_pools.specs.declared.fault.PoolsFault.{PoolsFault};
 ghost use Rattle.ptu_pools.specs.declared.fault.PoolsFault.TheVariants.{OutOfMemory};
 ghost use Rattle.ptu_pools.specs.declared.pool.Pool.{Pool};

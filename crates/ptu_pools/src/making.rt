@@ -2,15 +2,15 @@
 
 ghost use Rattle.std.specs.Prelude.{◌≡◌, ◌<◌, ◌≤◌, ◌*◌, ◌∷◌, [], All, length, IfOk, MatchOption};
 ghost use Rattle.std.specs.Vec.Iter.{into_iter_items};
-ghost use Rattle.ptu_shard.specs.Config.{IsWithinLimits};
-ghost use Rattle.ptu_admit.specs.Book.{IsCapacity};
+ghost use Rattle.ptu_profile.specs.Grandmaster.{IsWithinLimits};
+ghost use Rattle.ptu_profile.specs.Limits.{IsCapacity};
 ghost use Rattle.ptu_pools.specs.Making.{AreFresh};
 ghost use Rattle.ptu_pools.specs.Standing.{ports_of_all};
 
 use crate::pool::Pool;
 use ptu_grandmaster::Gm;
 use ptu_outside::Port;
-use ptu_shard::GmConfig;
+use ptu_profile::GmConfig;
 use ptu_units::OutOfMemory;
 use std::alloc::Global;
 use std::vec::IntoIter;

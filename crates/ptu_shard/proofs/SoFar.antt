@@ -9,7 +9,7 @@ use Rattle.ptu_outside.specs.declared.port.Port.{Ghosts as Ports}
 use Rattle.ptu_outside.specs.Departure.{Departure}
 use Rattle.ptu_outside.specs.HandsOver.{HandsOver}
 use Rattle.ptu_outside.proofs.HandsOver.{hands-append, hands_none}
-use Rattle.ptu_shard.specs.declared.config.GmConfig.{GmConfig}
+use Rattle.ptu_profile.specs.declared.grandmaster.GmConfig.{GmConfig}
 use Rattle.ptu_shard.specs.declared.lease.Row.{Row}
 use Rattle.ptu_shard.specs.Messages.{departure_of}
 use Rattle.ptu_shard.specs.Turn.{due_messages, due_rows, is_due_row, message_of_row, row_cmp}

@@ -1,4 +1,3 @@
-pub mod Config
 pub mod Messages
 pub mod Answered
 pub mod Row

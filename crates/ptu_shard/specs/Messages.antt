@@ -1,6 +1,6 @@
 -- The timing messages of a grandmaster, and the datagrams that carry them (IEEE 1588-2019 clause 13; the values of an
 -- Announce are the project's own choice).
-use Rattle.std.specs.Prelude.{ℕ, ◌+◌, ◌/◌, ◌%◌, List, ℤ, pos}
+use Rattle.std.specs.Prelude.{ℕ, ◌+◌, ◌/◌, ◌%◌, pos}
 use Rattle.ptu_units.specs.declared.kind.Kind.{Kind}
 use Rattle.ptu_units.specs.declared.kind.Kind.TheVariants.{Announce, Sync, DelayResp}
 use Rattle.ptu_units.specs.declared.stamp.Stamp.{Stamp}
@@ -10,29 +10,18 @@ use Rattle.ptu_messages.specs.declared.message.AnnounceBody.{AnnounceBody}
 use Rattle.ptu_messages.specs.declared.message.Body.{Body}
 use Rattle.ptu_messages.specs.declared.message.Body.TheVariants as body
 use Rattle.ptu_messages.specs.declared.message.Message.{Message as Timed}
-use Rattle.ptu_messages.specs.Sent.{sent_message}
+use Rattle.ptu_messages.specs.Sent.{octets_sent}
 use Rattle.ptu_outside.specs.declared.channel.Channel.{Channel}
 use Rattle.ptu_outside.specs.declared.channel.Channel.TheVariants.{Event, General}
 use Rattle.ptu_outside.specs.Departure.{Departure}
 use Rattle.ptu_history.specs.declared.client.Client.{Client}
 use Rattle.ptu_history.specs.Events.{Message}
-use Rattle.ptu_shard.specs.declared.config.GmConfig.{GmConfig}
+use Rattle.ptu_profile.specs.declared.grandmaster.GmConfig.{GmConfig}
+use Rattle.ptu_profile.specs.Grandmaster.{header_of}
 
 -- the timestamp of a moment
 abbrev pub stamp_of : GmConfig → ℕ → Stamp
 stamp_of config x = record { seconds = config.epoch + x / 1000000000; nanos = x % 1000000000 }
-
--- the header of a message of this type: own domain and identity, and the unicastFlag alone of the flags
-abbrev pub header_of : GmConfig → ℕ → ℤ → ℕ → Header
-header_of config message_type correction sequence =
-    record {
-      message_type = message_type;
-      domain = config.domain;
-      flags = 0x0400;
-      correction = correction;
-      source = config.identity;
-      sequence = sequence;
-    }
 
 -- the body of an Announce: a timescale of its own, of unknown accuracy, from an internal oscillator
 abbrev pub announce_of : GmConfig → ℕ → AnnounceBody
@@ -69,10 +58,6 @@ message_of_response config x request =
       header = header_of config 9 request.correction request.sequence;
       body = body.DelayResp (stamp_of config x) request.source;
     }
-
--- the octets of a message as `write_fixed` writes them
-unfoldable pub octets_sent : Timed → List ℕ
-octets_sent m = sent_message m
 
 -- the channel of a kind (IEEE 1588-2019 annex C)
 abbrev pub channel_of : Kind → Channel

@@ -2,17 +2,17 @@
 
 ghost use Rattle.std.specs.Prelude.{◌≡◌};
 ghost use Rattle.ptu_shard.specs.Answered.{answer_by, failed_by, met_by, moment_of_answer, responses, sent_by};
-ghost use Rattle.ptu_shard.specs.Config.{IsWithinLimits};
+ghost use Rattle.ptu_profile.specs.Grandmaster.{IsWithinLimits};
 ghost use Rattle.ptu_outside.specs.HandsOver.{HandsOver};
 ghost use Rattle.ptu_shard.specs.Messages.{response_of};
 
 use crate::answered::Answered;
-use crate::config::GmConfig;
 use crate::lease::Lease;
 use crate::sending::send_response;
 use ptu_header::Header;
 use ptu_history::Client;
 use ptu_outside::Port;
+use ptu_profile::GmConfig;
 use ptu_units::Moment;
 
 /// Answers a Delay_Req of the client, whose lease of Delay_Resps this is, if there is one.

@@ -4,7 +4,6 @@
 
 mod answered;
 mod answering;
-mod config;
 pub mod laws;
 mod lease;
 mod messages;
@@ -17,8 +16,8 @@ mod sweeping;
 mod turning;
 
 pub use answered::{Answered, Turned};
-pub use config::GmConfig;
 pub use lease::{Lease, Row};
+pub use ptu_profile::GmConfig;
 pub use shard::Shard;
 
 #[cfg(test)]

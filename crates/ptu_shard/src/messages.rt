@@ -2,37 +2,20 @@
 
 ghost use Rattle.std.specs.Prelude.{◌≡◌, [], ◌∷◌, List, true};
 ghost use Rattle.ptu_history.specs.Turns.{is_turned};
-ghost use Rattle.ptu_messages.specs.Sent.{IsFixed};
+ghost use Rattle.ptu_messages.specs.Sent.{IsFixed, octets_sent};
 ghost use Rattle.ptu_outside.specs.HandsOver.{HandsOver, failed_in, sent_in};
-ghost use Rattle.ptu_shard.specs.Config.{IsWithinLimits};
-ghost use Rattle.ptu_shard.specs.Messages.{announce_of, header_of, message_of_response, message_of_turn, octets_sent};
+ghost use Rattle.ptu_profile.specs.Grandmaster.{IsWithinLimits};
+ghost use Rattle.ptu_shard.specs.Messages.{announce_of, message_of_response, message_of_turn};
 
-use crate::config::GmConfig;
 use ptu_header::Header;
 use ptu_messages::{AnnounceBody, Body, Message, write_fixed};
 use ptu_outside::{Channel, Failed, Port, hand};
+use ptu_profile::GmConfig;
 use ptu_units::timescale::stamp;
 use ptu_units::{Kind, Moment};
 
-/// The flagField of every message: unicastFlag alone.
-const FLAGS: u16 = 0x0400;
-
 /// The messageType of a Delay_Resp.
 const DELAY_RESP: u8 = 9;
-
-// The header of a message of this type.
-fn header(config: &GmConfig, message_type: u8, correction: i64, sequence: u16) -> Header
-    ensures { result ≡ header_of config.now message_type correction sequence }
-{
-    Header {
-        message_type,
-        domain: config.domain,
-        flags: FLAGS,
-        correction,
-        source: config.identity,
-        sequence,
-    }
-}
 
 // The body of an Announce, whose timescale is the grandmaster's own.
 fn announce(config: &GmConfig, at: Moment) -> AnnounceBody
@@ -60,7 +43,7 @@ pub(crate) fn turn_message(config: &GmConfig, at: Moment, kind: Kind, sequence: 
     ensures fixed { is_turned kind ≡ true → IsFixed result }
 {
     Message {
-        header: header(config, kind.code(), 0, sequence),
+        header: config.header(kind.code(), 0, sequence),
         body: match kind {
             Kind::Announce => Body::Announce(announce(config, at)),
             Kind::Sync => Body::Sync(stamp(config.epoch, at)),
@@ -76,7 +59,7 @@ pub(crate) fn response_message(config: &GmConfig, at: Moment, request: &Header) 
     ensures fixed { IsFixed result }
 {
     Message {
-        header: header(config, DELAY_RESP, request.correction, request.sequence),
+        header: config.header(DELAY_RESP, request.correction, request.sequence),
         body: Body::DelayResp(stamp(config.epoch, at), request.source),
     }
 }

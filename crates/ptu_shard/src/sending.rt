@@ -3,16 +3,16 @@
 ghost use Rattle.std.specs.Prelude.{◌≡◌, ◌∷◌, [], List, true};
 ghost use Rattle.ptu_outside.specs.HandsOver.{HandsOver, failed_in, sent_in};
 ghost use Rattle.ptu_history.specs.Turns.{is_turned};
-ghost use Rattle.ptu_shard.specs.Config.{IsWithinLimits};
+ghost use Rattle.ptu_profile.specs.Grandmaster.{IsWithinLimits};
 ghost use Rattle.ptu_shard.specs.Messages.{channel_of, departure_of, response_of};
 ghost use Rattle.ptu_shard.specs.Turn.{message_of_row};
 
-use crate::config::GmConfig;
 use crate::lease::Row;
 use crate::messages::{response_message, send_fixed, turn_message};
 use ptu_header::Header;
 use ptu_history::Client;
 use ptu_outside::{Channel, Failed, Port};
+use ptu_profile::GmConfig;
 use ptu_units::{Kind, Moment};
 
 // The channel of a kind (IEEE 1588-2019 annex C).

@@ -11,7 +11,7 @@ ghost use Rattle.ptu_history.specs.Step.{delay_answer, step};
 ghost use Rattle.ptu_history.specs.Turns.{due_grants, message_of};
 ghost use Rattle.ptu_units.specs.declared.kind.Kind.TheVariants.{DelayResp};
 ghost use Rattle.ptu_shard.specs.Answered.{answer_by, failed_by, met_by, moment_of_answer, responses, sent_by};
-ghost use Rattle.ptu_shard.specs.Config.{IsWithinLimits};
+ghost use Rattle.ptu_profile.specs.Grandmaster.{IsWithinLimits};
 ghost use Rattle.ptu_outside.specs.HandsOver.{HandsOver};
 ghost use Rattle.ptu_shard.specs.Lends.{LendsPort};
 ghost use Rattle.ptu_shard.specs.Messages.{departure_of, response_of};
@@ -21,7 +21,6 @@ ghost use Rattle.ptu_shard.specs.Turn.{is_answering_row, is_due_row, due_message
 
 use crate::answered::{Answered, Turned};
 use crate::answering::answer_request;
-use crate::config::GmConfig;
 use crate::lease::{Lease, Row};
 use crate::queue::Queue;
 use crate::queueing::keep_row;
@@ -32,6 +31,7 @@ use indexmap::IndexMap;
 use ptu_header::Header;
 use ptu_history::Client;
 use ptu_outside::Port;
+use ptu_profile::GmConfig;
 use ptu_units::{Kind, Moment, OutOfMemory, rate};
 use std::alloc::Global;
 use std::marker::Model;

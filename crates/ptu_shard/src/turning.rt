@@ -3,7 +3,7 @@
 ghost use Rattle.std.specs.Prelude.{◌≡◌, ◌<◌, ◌≤◌, [], ◌∷◌, map, true, IfNone, IfSome};
 ghost use Rattle.indexmap.specs.IndexMap.{spare};
 ghost use Rattle.ptu_outside.specs.HandsOver.{HandsOver};
-ghost use Rattle.ptu_shard.specs.Config.{IsWithinLimits};
+ghost use Rattle.ptu_profile.specs.Grandmaster.{IsWithinLimits};
 ghost use Rattle.ptu_shard.specs.Fields.{rows_of};
 ghost use Rattle.ptu_shard.specs.Messages.{departure_of};
 ghost use Rattle.ptu_shard.specs.Queue.{HasEdges};
@@ -11,7 +11,6 @@ ghost use Rattle.ptu_shard.specs.Row.{IsDistinctByLease};
 ghost use Rattle.ptu_shard.specs.Turn.{due_messages, due_rows, is_due_row, spent_where};
 ghost use Rattle.ptu_history.specs.Turns.{is_turned};
 
-use crate::config::GmConfig;
 use crate::lease::{Lease, Row};
 use crate::queue::Queue;
 use crate::queueing::edge_of;
@@ -19,6 +18,7 @@ use crate::rows::{Key, spend_due};
 use crate::sending::send_message;
 use indexmap::IndexMap;
 use ptu_outside::{Port, Sends};
+use ptu_profile::GmConfig;
 use ptu_units::Moment;
 
 /// The next row that is due at the moment, as it was before it spends a period and a sequence

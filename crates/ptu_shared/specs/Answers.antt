@@ -4,7 +4,7 @@ use Rattle.ptu_units.specs.Log.{rate_of}
 use Rattle.ptu_history.specs.declared.client.Client.{Client}
 use Rattle.ptu_history.specs.Verdict.{profile}
 use Rattle.ptu_tlvs.specs.declared.tlv.Ask.{Ask}
-use Rattle.ptu_shard.specs.declared.config.GmConfig.{GmConfig}
+use Rattle.ptu_profile.specs.declared.grandmaster.GmConfig.{GmConfig}
 use Rattle.ptu_admit.specs.declared.verdict.Verdict.{Verdict}
 use Rattle.ptu_admit.specs.declared.verdict.Verdict.TheVariants.{Granted, Short, Outside}
 use Rattle.ptu_admit.specs.Terms.{Lack, Terms}

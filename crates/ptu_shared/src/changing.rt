@@ -8,7 +8,7 @@ ghost use Rattle.ptu_history.specs.Verdict.{Config};
 ghost use Rattle.ptu_history.specs.Events.{Cancel, Resize};
 ghost use Rattle.ptu_history.specs.Shedding.{shed_grants};
 ghost use Rattle.ptu_history.specs.Step.{step};
-ghost use Rattle.ptu_admit.specs.Book.{IsCapacity};
+ghost use Rattle.ptu_profile.specs.Limits.{IsCapacity};
 ghost use Rattle.ptu_admit.specs.Lent.{Lent, StandFor, four, is_lent, moment_for_all, shares, table_for};
 ghost use Rattle.ptu_admit.specs.Rows.{has_live_row};
 ghost use Rattle.ptu_admit.specs.Shed.{shed_of};

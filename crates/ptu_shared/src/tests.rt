@@ -1,5 +1,5 @@
 ghost use Rattle.std.specs.Prelude.{◌≡◌, ◌≤◌, ◌<◌, ℕ, [], None, IfOk};
-ghost use Rattle.ptu_admit.specs.Book.{IsCapacity};
+ghost use Rattle.ptu_profile.specs.Limits.{IsCapacity};
 ghost use Rattle.ptu_shared.specs.Opening.{idle_port};
 
 use super::*;
@@ -7,7 +7,8 @@ use ptu_admit::{Closed, Verdict};
 use ptu_header::{Header, PortIdentity};
 use ptu_history::Client;
 use ptu_outside::{MemPort, Port};
-use ptu_shard::{Answered, GmConfig};
+use ptu_profile::GmConfig;
+use ptu_shard::Answered;
 use ptu_tlvs::Ask;
 use ptu_units::{Kind, Moment};
 use std::alloc::Global;

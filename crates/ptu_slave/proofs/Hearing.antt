@@ -18,13 +18,13 @@ use Rattle.ptu_record.specs.Step.{TakeSignaling, TakeSync, cancel_code, one_repl
 use Rattle.ptu_judges.specs.Held.{Held, IsFresh}
 use Rattle.ptu_judges.specs.Held as judge
 use Rattle.ptu_judges.proofs.Holding.{fresh_stands}
-use Rattle.ptu_slave_messages.specs.declared.config.Master.{Master}
-use Rattle.ptu_slave_messages.specs.declared.config.SlaveConfig.{SlaveConfig}
+use Rattle.ptu_profile.specs.declared.slave.Master.{Master}
+use Rattle.ptu_profile.specs.declared.slave.SlaveConfig.{SlaveConfig}
 use Rattle.ptu_slave_messages.specs.declared.content.Content.TheVariants as content
 use Rattle.ptu_slave_messages.specs.declared.content.Taken.{Taken}
 use Rattle.ptu_slave_messages.specs.declared.reason.SlaveReason.{SlaveReason}
 use Rattle.ptu_slave_messages.specs.declared.signal.Signal.{Signal}
-use Rattle.ptu_slave_messages.specs.Config.{address_of}
+use Rattle.ptu_profile.specs.Slave.{address_of}
 use Rattle.ptu_slave_messages.specs.Heard.{acks_of, content_of, event_of, replies_to, reply_datagrams, said_by, signals_of, taken_of, taken_or_not}
 use Rattle.ptu_slave_messages.specs.Sending.{departure_of, departure_to}
 use Rattle.ptu_slave.specs.Kept.{Kept}

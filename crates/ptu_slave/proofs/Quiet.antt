@@ -16,7 +16,7 @@ use Rattle.ptu_select.proofs.Masters.{unwatched_by}
 use Rattle.ptu_judges.specs.Held as judge
 use Rattle.ptu_judges.specs.Held.{Held}
 use Rattle.ptu_judges.proofs.Holding.{other_entry}
-use Rattle.ptu_slave_messages.specs.Config.{priorities, timeouts}
+use Rattle.ptu_profile.specs.Slave.{priorities, timeouts}
 use Rattle.ptu_slave.specs.declared.counters.Counters.{Counters}
 use Rattle.ptu_slave.specs.Kept.{CountFor, Kept}
 use Rattle.ptu_slave.specs.Standing.{Asks, Each, Judge, Selects}

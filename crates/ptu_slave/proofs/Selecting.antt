@@ -5,8 +5,8 @@ use Rattle.ptu_record.specs.Record.{Record}
 use Rattle.ptu_record.specs.Selection.{selected_master}
 use Rattle.ptu_record.specs.SignalFails.{Timeouts}
 use Rattle.ptu_record.proofs.Choice.{chosen_best}
-use Rattle.ptu_slave_messages.specs.declared.config.Master.{Master}
-use Rattle.ptu_slave_messages.specs.Config.{priorities}
+use Rattle.ptu_profile.specs.declared.slave.Master.{Master}
+use Rattle.ptu_profile.specs.Slave.{priorities}
 
 -- it stands in the list
 pub chosen_within : (timeouts : Timeouts) (priorities : List ℕ) (L : Record) (t : ℕ) (o : Option ℕ) → o ≡ selected_master timeouts priorities L t → IfSome o (λ m. m < length priorities)

@@ -18,11 +18,11 @@ use Rattle.ptu_record.proofs.Others.{record_of-others, requests_one}
 use Rattle.ptu_record.proofs.StepParts.{asked_all}
 use Rattle.ptu_requester.specs.Requester.{all_cancels}
 use Rattle.ptu_requester.proofs.Stops.{all_cancels-before, all_cancels-next}
-use Rattle.ptu_slave_messages.specs.declared.config.Master.{Master}
-use Rattle.ptu_slave_messages.specs.declared.config.SlaveConfig.{SlaveConfig}
+use Rattle.ptu_profile.specs.declared.slave.Master.{Master}
+use Rattle.ptu_profile.specs.declared.slave.SlaveConfig.{SlaveConfig}
 use Rattle.ptu_slave_messages.specs.declared.plan.StopPlan.{StopPlan}
 use Rattle.ptu_slave_messages.specs.declared.plan.TickPlan.{TickPlan}
-use Rattle.ptu_slave_messages.specs.Config.{address_of}
+use Rattle.ptu_profile.specs.Slave.{address_of}
 use Rattle.ptu_slave_messages.specs.Sending.{all_ones, are_some, departure_of, departure_to, kinds_in, stop_plan, tick_plan}
 use Rattle.ptu_outside.specs.declared.port.Port.{Ghosts as Ports}
 use Rattle.ptu_outside.proofs.HandsOver.{hands-append}

@@ -14,8 +14,8 @@ use Rattle.ptu_requester.specs.Requester as requester
 use Rattle.ptu_select.specs.Selecting.{SelectsBy}
 use Rattle.ptu_judges.specs.Held.{Held}
 use Rattle.ptu_judges.specs.Held as judge
-use Rattle.ptu_slave_messages.specs.declared.config.SlaveConfig.{SlaveConfig}
-use Rattle.ptu_slave_messages.specs.Config.{address_of, priorities, timeouts}
+use Rattle.ptu_profile.specs.declared.slave.SlaveConfig.{SlaveConfig}
+use Rattle.ptu_profile.specs.Slave.{address_of, priorities, timeouts}
 use Rattle.ptu_slave.specs.Kept.{CountFor, Kept}
 
 -- what is kept of each master is what a fact says of it and of the master's record

@@ -5,7 +5,7 @@ ghost use Rattle.ptu_record.specs.Record.{Record, record_of, Announce, Sync, Res
 ghost use Rattle.ptu_record.specs.Grants.{live_kinds};
 ghost use Rattle.ptu_record.specs.Selection.{selected_master};
 ghost use Rattle.ptu_record.specs.Tick.{requests_to, sending_entries};
-ghost use Rattle.ptu_slave_messages.specs.Config.{AreMasters, IsWithinLimits, address_of, priorities, timeouts};
+ghost use Rattle.ptu_profile.specs.Slave.{AreMasters, IsWithinLimits, address_of, priorities, timeouts};
 ghost use Rattle.ptu_requester.specs.Due as due;
 ghost use Rattle.ptu_select.specs.Selecting.{SelectsBy};
 ghost use Rattle.ptu_slave_messages.specs.Sending.{kinds_in, stop_plan, tick_plan};
@@ -15,9 +15,10 @@ ghost use Rattle.ptu_slave.specs.Standing.{Asks, Selects};
 
 use crate::asking::{ask_each, end_each, enter_each, is_probe_due, live};
 use crate::counters::Counters;
+use ptu_profile::{Master, SlaveConfig};
 use ptu_requester::{Due, Requester};
 use ptu_select::Selector;
-use ptu_slave_messages::{Kinds, Master, Signal, SlaveConfig, StopPlan, TickPlan};
+use ptu_slave_messages::{Kinds, Signal, StopPlan, TickPlan};
 use ptu_units::{Log, Moment, OutOfMemory, period};
 use std::alloc::{AllocError, Global};
 use std::marker::Model;

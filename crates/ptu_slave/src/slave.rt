@@ -12,7 +12,7 @@ ghost use Rattle.ptu_record.specs.Selection.{selected_master};
 ghost use Rattle.ptu_record.specs.Step.{TakeSync};
 ghost use Rattle.ptu_judges.specs.Held.{IsFresh};
 ghost use Rattle.ptu_judges.specs.Calls.{OfOne, Then, WasAsked, WasHeard};
-ghost use Rattle.ptu_slave_messages.specs.Config.{AreMasters, IsWithinLimits, address_of, priorities, timeouts};
+ghost use Rattle.ptu_profile.specs.Slave.{AreMasters, IsWithinLimits, address_of, priorities, timeouts};
 ghost use Rattle.ptu_slave_messages.specs.Heard.{FitsReply, answer_of, event_of, failed_by, heard_of, replies_in, reply_datagrams, reply_in, sent_by, taken_of};
 ghost use Rattle.ptu_slave_messages.specs.Reception.{reception};
 ghost use Rattle.ptu_slave_messages.specs.declared.reason.SlaveReason.{SlaveReason};
@@ -30,7 +30,8 @@ use crate::ticked::Ticked;
 use crate::ticks::{end_all, tick_all};
 use ptu_judges::{Conduct, Judge};
 use ptu_outside::{Failed, Port};
-use ptu_slave_messages::{Content, Heard, Master, SlaveConfig, Taken, receive, send_reply};
+use ptu_profile::{Master, SlaveConfig};
+use ptu_slave_messages::{Content, Heard, Taken, receive, send_reply};
 use ptu_units::{Moment, OutOfMemory};
 use std::alloc::Global;
 

@@ -2,7 +2,7 @@
 ghost use Rattle.std.specs.Prelude.{◌≡◌, ◌≤◌, All, IfOk, None, false, length};
 ghost use Rattle.ptu_judges.specs.Held.{IsFresh};
 ghost use Rattle.ptu_record.specs.Marks.{fresh_marks};
-ghost use Rattle.ptu_slave_messages.specs.Config.{IsWithinLimits};
+ghost use Rattle.ptu_profile.specs.Slave.{IsWithinLimits};
 ghost use Rattle.ptu_slave.specs.Kept.{IsSame};
 ghost use Rattle.ptu_slave.specs.Seen.{seen};
 

@@ -20,11 +20,11 @@ use Rattle.ptu_record.specs.SignalFails.{Timeouts}
 use Rattle.ptu_record.proofs.Choice.{chosen_best}
 use Rattle.ptu_record.specs.Step.{ReplaceJudge, SlaveEvent, Stop, Tick, judged_masters, sendings, slave_step}
 use Rattle.ptu_judges.specs.Held.{Held}
-use Rattle.ptu_slave_messages.specs.declared.config.Master.{Master}
-use Rattle.ptu_slave_messages.specs.declared.config.SlaveConfig.{SlaveConfig}
+use Rattle.ptu_profile.specs.declared.slave.Master.{Master}
+use Rattle.ptu_profile.specs.declared.slave.SlaveConfig.{SlaveConfig}
 use Rattle.ptu_slave_messages.specs.declared.reason.SlaveReason.{SlaveReason}
 use Rattle.ptu_slave_messages.specs.declared.reason.SlaveReason.TheVariants.{Domain, Other, Target, UnknownType}
-use Rattle.ptu_slave_messages.specs.Config.{address_of, place_of, priorities, timeouts}
+use Rattle.ptu_profile.specs.Slave.{address_of, place_of, priorities, timeouts}
 use Rattle.ptu_slave_messages.specs.Heard.{event_of, replies_in}
 use Rattle.ptu_slave_messages.specs.Node.{Node, datagram_deed, deed, node_selection, node_setup, reception_deed}
 use Rattle.ptu_slave_messages.specs.Reception.{beside, from_master, is_delay_req, is_for, is_unknown, of_reading, reception, sender_of}

@@ -14,8 +14,8 @@ use Rattle.ptu_judges.specs.Held.{HasNone, HasTaken, Held, IsFresh, fresh}
 use Rattle.ptu_config.specs.declared.master.MasterSetting.{MasterSetting}
 use Rattle.ptu_config.specs.declared.settings.SlaveSettings.{SlaveSettings}
 use Rattle.ptu_config.specs.Masters.{are_distinct, are_masters}
-use Rattle.ptu_slave_messages.specs.declared.config.Master.{Master}
-use Rattle.ptu_slave_messages.specs.Config.{AreMasters}
+use Rattle.ptu_profile.specs.declared.slave.Master.{Master}
+use Rattle.ptu_profile.specs.Slave.{AreMasters}
 use Rattle.ptu_slave.specs.Kept.{Kept}
 use Rattle.ptu_slave.specs.Standing.{StandsFor}
 use Rattle.ptu_slave_daemon.specs.Opening.{are_enough, config_of, master_of, node_of, rule_of}

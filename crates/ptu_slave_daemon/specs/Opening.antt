@@ -5,8 +5,8 @@ use Rattle.ptu_record.specs.declared.rule.Rule.{Rule}
 use Rattle.ptu_record.specs.declared.rule.Rule.TheVariants.{Flag, Gap}
 use Rattle.ptu_config.specs.declared.master.MasterSetting.{MasterSetting}
 use Rattle.ptu_config.specs.declared.settings.SlaveSettings.{SlaveSettings}
-use Rattle.ptu_slave_messages.specs.declared.config.Master.{Master}
-use Rattle.ptu_slave_messages.specs.declared.config.SlaveConfig.{SlaveConfig}
+use Rattle.ptu_profile.specs.declared.slave.Master.{Master}
+use Rattle.ptu_profile.specs.declared.slave.SlaveConfig.{SlaveConfig}
 use Rattle.ptu_slave_messages.specs.Node.{Node}
 
 -- what the slave is set up with

@@ -6,8 +6,8 @@ use Rattle.ptu_header.specs.declared.fault.HeaderFault.TheVariants as headers
 use Rattle.ptu_messages.specs.declared.fault.MessageFault.TheVariants as faults
 use Rattle.ptu_messages.specs.Sent.{sent_message}
 use Rattle.ptu_record.specs.Tick.{Acknowledgements, Cancels, DelayReq, Requests}
-use Rattle.ptu_slave_messages.specs.declared.config.Master.{Master}
-use Rattle.ptu_slave_messages.specs.declared.config.SlaveConfig.{SlaveConfig}
+use Rattle.ptu_profile.specs.declared.slave.Master.{Master}
+use Rattle.ptu_profile.specs.declared.slave.SlaveConfig.{SlaveConfig}
 use Rattle.ptu_slave_messages.specs.declared.reason.SlaveReason.TheVariants as reasons
 use Rattle.ptu_slave_messages.specs.Reception.{reception}
 use Rattle.ptu_slave_messages.specs.Sending.{all_ones, message_of}

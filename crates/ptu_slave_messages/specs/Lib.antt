@@ -1,4 +1,3 @@
-pub mod Config
 pub mod Sending
 pub mod Reception
 pub mod Heard

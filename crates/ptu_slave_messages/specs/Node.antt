@@ -8,12 +8,12 @@ use Rattle.ptu_record.specs.declared.rule.Rule.{Rule}
 use Rattle.ptu_record.specs.Record.{Record, event_moment}
 use Rattle.ptu_record.specs.Selection.{selected_master}
 use Rattle.ptu_record.specs.Step.{SlaveEvent, SlaveSetup, slave_step}
-use Rattle.ptu_slave_messages.specs.declared.config.Master.{Master}
-use Rattle.ptu_slave_messages.specs.declared.config.SlaveConfig.{SlaveConfig}
+use Rattle.ptu_profile.specs.declared.slave.Master.{Master}
+use Rattle.ptu_profile.specs.declared.slave.SlaveConfig.{SlaveConfig}
 use Rattle.ptu_slave_messages.specs.declared.heard.Heard.{Heard}
 use Rattle.ptu_slave_messages.specs.declared.heard.Heard.TheVariants.{Ignored}
 use Rattle.ptu_slave_messages.specs.declared.reason.SlaveReason.{SlaveReason}
-use Rattle.ptu_slave_messages.specs.Config.{priorities, timeouts}
+use Rattle.ptu_profile.specs.Slave.{priorities, timeouts}
 use Rattle.ptu_slave_messages.specs.Heard.{event_of, heard_of, replies_to, reply_by}
 use Rattle.ptu_slave_messages.specs.Reception.{reception}
 use Rattle.ptu_slave_messages.specs.Sending.{all_ones, departure_of}

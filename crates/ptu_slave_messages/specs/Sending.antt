@@ -3,39 +3,26 @@ use Rattle.std.specs.Prelude.{ℕ, List, [], ◌∷◌, ◌++◌, map, filter, o
 use Rattle.ptu_units.specs.declared.kind.Kind.{Kind}
 use Rattle.ptu_units.specs.declared.kind.Kind.TheVariants.{Announce, Sync, DelayResp}
 use Rattle.ptu_units.specs.Kind.{code_of, kinds}
-use Rattle.ptu_header.specs.declared.header.Header.{Header}
 use Rattle.ptu_header.specs.declared.header.PortIdentity.{PortIdentity}
 use Rattle.ptu_tlvs.specs.declared.tlv.Tlv.{Tlv}
 use Rattle.ptu_tlvs.specs.declared.tlv.Tlv.TheVariants as tlv
 use Rattle.ptu_messages.specs.declared.message.Body.TheVariants as body
 use Rattle.ptu_messages.specs.declared.message.Message.{Message}
-use Rattle.ptu_messages.specs.Sent.{sent_message, signaling}
+use Rattle.ptu_messages.specs.Sent.{octets_sent, signaling}
 use Rattle.ptu_outside.specs.declared.channel.Channel.{Channel}
 use Rattle.ptu_outside.specs.declared.channel.Channel.TheVariants.{Event, General}
 use Rattle.ptu_outside.specs.Departure.{Departure}
 use Rattle.ptu_record.specs.declared.wants.Wants.{Wants}
 use Rattle.ptu_record.specs.Tick.{Sending, Requests, Cancels, Acknowledgements, DelayReq, one_signaling}
 use Rattle.ptu_record.specs.Wants.{wanted_log}
-use Rattle.ptu_slave_messages.specs.declared.config.Master.{Master}
-use Rattle.ptu_slave_messages.specs.declared.config.SlaveConfig.{SlaveConfig}
+use Rattle.ptu_profile.specs.declared.slave.Master.{Master}
+use Rattle.ptu_profile.specs.declared.slave.SlaveConfig.{SlaveConfig}
 use Rattle.ptu_slave_messages.specs.declared.kinds.Kinds.{Kinds}
 use Rattle.ptu_slave_messages.specs.declared.plan.TickPlan.{TickPlan}
 use Rattle.ptu_slave_messages.specs.declared.plan.StopPlan.{StopPlan}
-use Rattle.ptu_slave_messages.specs.Config.{address_of}
+use Rattle.ptu_profile.specs.Slave.{address_of, header_of}
 
 -- ---- messages
-
--- the header of a message of this type: own domain and identity, and the unicastFlag alone of the flags
-abbrev pub header_of : SlaveConfig → ℕ → ℕ → Header
-header_of config message_type sequence =
-    record {
-      message_type = message_type;
-      domain = config.domain;
-      flags = 0x0400;
-      correction = pos 0;
-      source = config.identity;
-      sequence = sequence;
-    }
 
 -- the targetPortIdentity of a Signaling that is no reply: every port of every clock
 abbrev pub all_ones : PortIdentity
@@ -73,10 +60,6 @@ receiver (Requests m number ks) = m
 receiver (Cancels m number ks) = m
 receiver (Acknowledgements m number codes) = m
 receiver (DelayReq m number) = m
-
--- the octets of a message as they are sent
-unfoldable pub octets_sent : Message → List ℕ
-octets_sent message = sent_message message
 
 -- the datagram of a sending, to this IPv4 address
 abbrev pub departure_to : SlaveConfig → ℕ → PortIdentity → Sending → Departure

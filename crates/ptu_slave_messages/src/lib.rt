@@ -2,7 +2,6 @@
 //! sent (IEEE 1588-2019 clauses 13 and 16.1).
 #![tactic(auto)]
 
-mod config;
 mod content;
 mod heard;
 mod kinds;
@@ -15,12 +14,12 @@ mod signal;
 mod signaling;
 mod sorting;
 
-pub use config::{Master, SlaveConfig};
 pub use content::{Content, Taken};
 pub use heard::{Heard, HeardReply};
 pub use kinds::Kinds;
 pub use laws::sample_datagrams;
 pub use plan::{StopPlan, TickPlan};
+pub use ptu_profile::{Master, SlaveConfig};
 pub use reason::SlaveReason;
 pub use receiving::{receive, requested};
 pub use sending::{send_reply, send_stop, send_tick};

@@ -9,12 +9,12 @@ ghost use Rattle.ptu_record.specs.Step.{wanted_kind};
 ghost use Rattle.ptu_slave_messages.specs.Heard.{FitsReply, HasTlvs, ack_by, acks_of, content_of, grant_signal, signal_by, signals_of, taken_or_not};
 ghost use Rattle.ptu_slave_messages.specs.Reception.{reception};
 
-use crate::config::{Master, SlaveConfig};
 use crate::content::{Content, Taken};
 use crate::reason::SlaveReason;
 use crate::signal::{Signal, SignalList};
 use crate::sorting::sender;
 use ptu_messages::{Body, Message, MessageFault, TlvList, read_message};
+use ptu_profile::{Master, SlaveConfig};
 use ptu_record::Wants;
 use ptu_tlvs::Tlv;
 use ptu_units::{Kind, OutOfMemory};

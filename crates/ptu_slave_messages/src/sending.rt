@@ -2,23 +2,24 @@
 
 ghost use Rattle.std.specs.Prelude.{◌≡◌, ◌+◌, ◌≤◌, ◌∷◌, [], ℕ, List, map, length, All, option_map, option_to_list};
 ghost use Rattle.ptu_header.specs.declared.header.PortIdentity.{PortIdentity};
-ghost use Rattle.ptu_messages.specs.Sent.{signaling};
+ghost use Rattle.ptu_messages.specs.Sent.{octets_sent, signaling};
 ghost use Rattle.ptu_outside.specs.HandsOver.{HandsOver};
 ghost use Rattle.ptu_record.specs.Step.{one_reply};
 ghost use Rattle.ptu_record.specs.Tick.{Requests, Cancels, DelayReq, one_signaling};
 ghost use Rattle.ptu_tlvs.specs.Sent.{IsSendable};
 ghost use Rattle.ptu_tlvs.specs.declared.tlv.Tlv.TheVariants.{Ack};
 ghost use Rattle.ptu_slave_messages.specs.Heard.{failed_by, sent_by};
-ghost use Rattle.ptu_slave_messages.specs.Sending.{all_ones, tick_plan, departure_to, stop_plan, header_of, kinds_in, octets_sent};
+ghost use Rattle.ptu_slave_messages.specs.Sending.{all_ones, tick_plan, departure_to, stop_plan, kinds_in};
+ghost use Rattle.ptu_profile.specs.Slave.{header_of};
 
-use crate::config::SlaveConfig;
 use crate::heard::HeardReply;
 use crate::kinds::Kinds;
 use crate::plan::{StopPlan, TickPlan};
-use crate::signaling::{ALL_ONES, SIGNALING, delay_req, header, put_cancels, put_requests};
+use crate::signaling::{ALL_ONES, SIGNALING, delay_req, put_cancels, put_requests};
 use ptu_header::PortIdentity;
 use ptu_messages::{write_fixed, write_signaling};
 use ptu_outside::{Channel, Port, Sends, hand};
+use ptu_profile::SlaveConfig;
 use ptu_tlvs::Tlv;
 
 // Hands a Signaling with these TLVs to the port.
@@ -41,12 +42,7 @@ fn send_signaling<P: Port>(
         result.sent result.failed }
 {
     let mut octets = [0; 428];
-    let size = write_signaling(
-        &header(config, SIGNALING, number),
-        target,
-        tlvs,
-        &mut octets,
-    );
+    let size = write_signaling(&config.header(SIGNALING, number), target, tlvs, &mut octets);
     Sends::of(hand(port, ip, Channel::General, &octets[..size]))
 }
 

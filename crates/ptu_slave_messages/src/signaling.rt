@@ -3,18 +3,15 @@
 ghost use Rattle.std.specs.Prelude.{◌≡◌, ◌+◌, ◌<◌, ◌++◌, ◌∷◌, [], List, cond, take, map};
 ghost use Rattle.ptu_messages.specs.Sent.{IsFixed};
 ghost use Rattle.ptu_record.specs.Tick.{DelayReq};
-ghost use Rattle.ptu_slave_messages.specs.Sending.{all_ones, cancel_of, header_of, kinds_in, message_of, request_of};
+ghost use Rattle.ptu_slave_messages.specs.Sending.{all_ones, cancel_of, kinds_in, message_of, request_of};
 
-use crate::config::SlaveConfig;
 use crate::kinds::Kinds;
-use ptu_header::{Header, PortIdentity};
+use ptu_header::PortIdentity;
 use ptu_messages::{Body, Message};
+use ptu_profile::SlaveConfig;
 use ptu_record::Wants;
 use ptu_tlvs::{Ask, Tlv};
 use ptu_units::{Kind, Stamp};
-
-/// The flagField of every message: unicastFlag alone.
-const FLAGS: u16 = 0x0400;
 
 /// The messageType of a Delay_Req.
 const DELAY_REQ: u8 = 1;
@@ -28,27 +25,13 @@ pub(crate) const ALL_ONES: PortIdentity = PortIdentity {
     port: 0xffff,
 };
 
-/// The header of a message of this type.
-pub(crate) fn header(config: &SlaveConfig, message_type: u8, sequence: u16) -> Header
-    ensures { result ≡ header_of config.now message_type sequence }
-{
-    Header {
-        message_type,
-        domain: config.domain,
-        flags: FLAGS,
-        correction: 0,
-        source: config.identity,
-        sequence,
-    }
-}
-
 /// A Delay_Req with this sequenceId.
 pub(crate) fn delay_req(config: &SlaveConfig, sequence: u16) -> Message
     ensures message { result ≡ message_of config.now all_ones (DelayReq 0 sequence) }
     ensures fixed { IsFixed result }
 {
     Message {
-        header: header(config, DELAY_REQ, sequence),
+        header: config.header(DELAY_REQ, sequence),
         body: Body::DelayReq(Stamp {
             seconds: 0,
             nanos: 0,

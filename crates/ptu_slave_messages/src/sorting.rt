@@ -1,14 +1,14 @@
 //! Which messages a slave takes, and why it ignores the others.
 
 ghost use Rattle.std.specs.Prelude.{◌≡◌};
-ghost use Rattle.ptu_slave_messages.specs.Config.{place_of};
+ghost use Rattle.ptu_profile.specs.Slave.{place_of};
 ghost use Rattle.ptu_slave_messages.specs.Reception.{is_delay_req, is_for, is_target, is_unknown, sender_of};
 
-use crate::config::{Master, SlaveConfig};
 use crate::reason::SlaveReason;
 use crate::signaling::ALL_ONES;
 use ptu_header::PortIdentity;
 use ptu_messages::{Body, Message};
+use ptu_profile::{Master, SlaveConfig};
 
 // The place of the master that has the address.
 fn place(masters: &[Master], ip: u32) -> Option<usize>

@@ -23,16 +23,16 @@ use Rattle.ptu_history.specs.History.{Record}
 use Rattle.ptu_history.specs.Live.{Grant}
 use Rattle.ptu_history.specs.Shedding.{shed_grants}
 use Rattle.ptu_history.specs.Verdict.{Config}
-use Rattle.ptu_shard.specs.declared.config.GmConfig.{GmConfig}
-use Rattle.ptu_items.specs.declared.heard.Heard as gm_heard
-use Rattle.ptu_items.specs.declared.heard.Heard.TheVariants.{DelayReq, Asks}
-use Rattle.ptu_items.specs.declared.item.Item.{Item}
-use Rattle.ptu_items.specs.declared.reason.GmReason.{GmReason}
-use Rattle.ptu_items.specs.declared.reason.GmReason.TheVariants as ignored
-use Rattle.ptu_items.specs.Deciding.{Decision, client_of, decision_of, decisions_of, item_records, placed}
-use Rattle.ptu_items.specs.Items.{heard_by, heard_in, is_for, item_of, items_among, items_by, of_message, with_items}
+use Rattle.ptu_profile.specs.declared.grandmaster.GmConfig.{GmConfig}
+use Rattle.ptu_gm_messages.specs.declared.heard.Heard as gm_heard
+use Rattle.ptu_gm_messages.specs.declared.heard.Heard.TheVariants.{DelayReq, Asks}
+use Rattle.ptu_gm_messages.specs.declared.item.Item.{Item}
+use Rattle.ptu_gm_messages.specs.declared.reason.GmReason.{GmReason}
+use Rattle.ptu_gm_messages.specs.declared.reason.GmReason.TheVariants as ignored
+use Rattle.ptu_gm_messages.specs.Deciding.{Decision, client_of, decision_of, decisions_of, item_records, placed}
+use Rattle.ptu_gm_messages.specs.Items.{heard_by, heard_in, is_for, item_of, items_among, items_by, of_message, with_items}
 use Rattle.ptu_record.specs.Step as slave_events
-use Rattle.ptu_slave_messages.specs.declared.config.Master.{Master}
+use Rattle.ptu_profile.specs.declared.slave.Master.{Master}
 use Rattle.ptu_slave_messages.specs.declared.heard.Heard as slave_heard
 use Rattle.ptu_slave_messages.specs.declared.heard.Heard.TheVariants as slave_heards
 use Rattle.ptu_slave_messages.specs.declared.signal.Signal.{Signal}

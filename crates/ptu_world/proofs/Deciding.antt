@@ -16,12 +16,12 @@ use Rattle.ptu_history.specs.Verdict.{Config, Verdict, GrantedFor, ShortOf, Outs
 use Rattle.ptu_history.proofs.Verdicts.{verdict-outside, verdict-within}
 use Rattle.ptu_laws.specs.Granted.{is_granted}
 use Rattle.ptu_laws.proofs.Verdicts.{granted_where_room, short_where_no_room}
-use Rattle.ptu_items.specs.declared.item.Item.{Item}
-use Rattle.ptu_items.specs.declared.item.Item.TheVariants as items
-use Rattle.ptu_items.specs.declared.heard.Heard.TheVariants as heard
-use Rattle.ptu_items.specs.Deciding.{Decision, answer_by, answer_to, asked_by, decision_of, decisions_of, events_of_items, item_records, moment_of_verdict, placed, reply_after}
-use Rattle.ptu_items.specs.Replies.{denial_of, grant_of, reply_to}
-use Rattle.ptu_items.proofs.Placing.{history_after-items}
+use Rattle.ptu_gm_messages.specs.declared.item.Item.{Item}
+use Rattle.ptu_gm_messages.specs.declared.item.Item.TheVariants as items
+use Rattle.ptu_gm_messages.specs.declared.heard.Heard.TheVariants as heard
+use Rattle.ptu_gm_messages.specs.Deciding.{Decision, answer_by, answer_to, asked_by, decision_of, decisions_of, events_of_items, item_records, moment_of_verdict, placed, reply_after}
+use Rattle.ptu_gm_messages.specs.Replies.{denial_of, grant_of, reply_to}
+use Rattle.ptu_gm_messages.proofs.Placing.{history_after-items}
 use Rattle.ptu_script.specs.declared.command.Command.{Command}
 use Rattle.ptu_script.specs.declared.command.Command.TheVariants as commands
 use Rattle.ptu_script.specs.declared.cause.Cause.{Cause}

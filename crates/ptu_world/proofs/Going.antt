@@ -3,14 +3,14 @@ use Rattle.std.proofs.Common.{◌≡◌, ◌∙◌, ℕ, List, [], ◌∷◌, le
 use Rattle.ptu_history.specs.Core.{history_after}
 use Rattle.ptu_history.specs.Events as events
 use Rattle.ptu_history.specs.Events.{Event}
-use Rattle.ptu_items.specs.declared.heard.Heard as gm_heard
-use Rattle.ptu_items.specs.declared.heard.Heard.TheVariants.{DelayReq, Asks}
-use Rattle.ptu_items.specs.declared.reason.GmReason.{GmReason}
-use Rattle.ptu_items.specs.Items.{heard_in}
-use Rattle.ptu_items.specs.Deciding.{events_heard, events_of_datagram}
+use Rattle.ptu_gm_messages.specs.declared.heard.Heard as gm_heard
+use Rattle.ptu_gm_messages.specs.declared.heard.Heard.TheVariants.{DelayReq, Asks}
+use Rattle.ptu_gm_messages.specs.declared.reason.GmReason.{GmReason}
+use Rattle.ptu_gm_messages.specs.Items.{heard_in}
+use Rattle.ptu_gm_messages.specs.Deciding.{events_heard, events_of_datagram}
 use Rattle.ptu_record.specs.declared.rule.Rule.{Rule}
 use Rattle.ptu_record.specs.Step as slave_events
-use Rattle.ptu_slave_messages.specs.Config.{place_of}
+use Rattle.ptu_profile.specs.Slave.{place_of}
 use Rattle.ptu_script.specs.declared.cause.Cause.{Cause}
 use Rattle.ptu_script.specs.declared.cause.Cause.TheVariants as causes
 use Rattle.ptu_script.specs.Fields.{◌>>=◌}

@@ -2,6 +2,7 @@
 use Rattle.std.proofs.Common.{◌≡◌, ℕ, ◌≤◌, ◌&&◌, List, Option, Some, None, Result, Ok, Err, IfOk, IfSome, ◌-◌, ◌^◌, Bool, true, false, cond, leb, refl, subst, option_and_then, leb-true}
 use Rattle.std.proofs.lemmas.Bool.{and_parts}
 use Rattle.ptu_lines.specs.Words.{within, number_of, word_of, ip_of, clock_of, octets_of}
+use Rattle.ptu_profile.specs.Limits.{IsCapacity}
 use Rattle.ptu_script.specs.declared.cause.Cause.{Cause}
 use Rattle.ptu_script.specs.declared.command.Command.{Command}
 use Rattle.ptu_script.specs.declared.command.Command.TheVariants as commands
@@ -56,7 +57,7 @@ number_is least greatest k n line e =
 -- a grandmaster's numbers are within their limits, and so is a capacity
 abbrev pub IsWithin : Command → Type 0
 IsWithin (commands.Grandmaster setup) = IsGrandmasterWithin setup
-IsWithin (commands.Capacity at ip capacity) = (1 ≤ capacity) × (capacity ≤ 16777216)
+IsWithin (commands.Capacity at ip capacity) = IsCapacity capacity
 IsWithin _ = Unit {0}
 
 grandmaster_within : (line : List ℕ) → IfOk (grandmaster_in line) IsGrandmasterWithin

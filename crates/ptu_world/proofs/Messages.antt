@@ -9,7 +9,7 @@ use Rattle.ptu_units.specs.declared.kind.Kind.TheVariants as kinds
 use Rattle.ptu_units.specs.Kind.{code_of, kind_of}
 use Rattle.ptu_octets.specs.Number.{octets_of}
 use Rattle.ptu_header.specs.declared.header.Header.{Header}
-use Rattle.ptu_messages.specs.Sent.{sent_stamp}
+use Rattle.ptu_messages.specs.Sent.{octets_sent, sent_stamp}
 use Rattle.ptu_outside.specs.Departure.{Departure}
 use Rattle.ptu_history.specs.declared.client.Client.{Client}
 use Rattle.ptu_history.specs.Client.{same_lease, table_of}
@@ -28,21 +28,21 @@ use Rattle.ptu_history.proofs.Alike.{sequence_number-alike}
 use Rattle.ptu_history.proofs.Keys.{same_lease-sym}
 use Rattle.ptu_history.proofs.LeaseRecords.{lease_records-push}
 use Rattle.ptu_history.proofs.Orders.{due_grants-distinct, due_grants-members, is_due-parts}
-use Rattle.ptu_shard.specs.declared.config.GmConfig.{GmConfig}
+use Rattle.ptu_profile.specs.declared.grandmaster.GmConfig.{GmConfig}
 use Rattle.ptu_shard.specs.Answered.{responses}
-use Rattle.ptu_shard.specs.Messages.{departure_of, octets_sent, response_of}
-use Rattle.ptu_items.specs.declared.item.Item.{Item}
-use Rattle.ptu_items.specs.declared.item.Item.TheVariants as items
-use Rattle.ptu_items.specs.declared.heard.Heard as gm_heard
-use Rattle.ptu_items.specs.declared.heard.Heard.TheVariants.{DelayReq, Asks}
-use Rattle.ptu_items.specs.declared.reason.GmReason.{GmReason}
-use Rattle.ptu_items.specs.Items.{heard_in}
-use Rattle.ptu_items.specs.Deciding.{asked_by, client_of, events_of_items, item_moment, item_records}
-use Rattle.ptu_items.specs.Replies.{cancels_to, lease_of}
-use Rattle.ptu_items.proofs.Placing.{history_after-items}
+use Rattle.ptu_shard.specs.Messages.{departure_of, response_of}
+use Rattle.ptu_gm_messages.specs.declared.item.Item.{Item}
+use Rattle.ptu_gm_messages.specs.declared.item.Item.TheVariants as items
+use Rattle.ptu_gm_messages.specs.declared.heard.Heard as gm_heard
+use Rattle.ptu_gm_messages.specs.declared.heard.Heard.TheVariants.{DelayReq, Asks}
+use Rattle.ptu_gm_messages.specs.declared.reason.GmReason.{GmReason}
+use Rattle.ptu_gm_messages.specs.Items.{heard_in}
+use Rattle.ptu_gm_messages.specs.Deciding.{asked_by, client_of, events_of_items, item_moment, item_records}
+use Rattle.ptu_gm_messages.specs.Replies.{cancels_to, lease_of}
+use Rattle.ptu_gm_messages.proofs.Placing.{history_after-items}
 use Rattle.ptu_record.specs.declared.rule.Rule.{Rule}
 use Rattle.ptu_record.specs.Step as slave_events
-use Rattle.ptu_slave_messages.specs.Config.{place_of}
+use Rattle.ptu_profile.specs.Slave.{place_of}
 use Rattle.ptu_slave_messages.specs.declared.heard.Heard as slave_heard
 use Rattle.ptu_slave_messages.specs.declared.heard.Heard.TheVariants as slave_heards
 use Rattle.ptu_script.specs.declared.cause.Cause.{Cause}

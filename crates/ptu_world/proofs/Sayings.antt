@@ -8,16 +8,16 @@ use Rattle.ptu_history.specs.Events as events
 use Rattle.ptu_history.specs.Events.{Answer}
 use Rattle.ptu_history.specs.Shedding.{shed_grants}
 use Rattle.ptu_history.specs.Step.{delay_answer}
-use Rattle.ptu_items.specs.declared.heard.Heard as gm_heard
-use Rattle.ptu_items.specs.declared.heard.Heard.TheVariants.{DelayReq, Asks}
-use Rattle.ptu_items.specs.declared.reason.GmReason.{GmReason}
-use Rattle.ptu_items.specs.Items.{heard_in}
-use Rattle.ptu_items.specs.Deciding.{Decision, Judged, Ended, client_of, decisions_of}
+use Rattle.ptu_gm_messages.specs.declared.heard.Heard as gm_heard
+use Rattle.ptu_gm_messages.specs.declared.heard.Heard.TheVariants.{DelayReq, Asks}
+use Rattle.ptu_gm_messages.specs.declared.reason.GmReason.{GmReason}
+use Rattle.ptu_gm_messages.specs.Items.{heard_in}
+use Rattle.ptu_gm_messages.specs.Deciding.{Decision, Judged, Ended, client_of, decisions_of}
 use Rattle.ptu_record.specs.Record.{event_moment}
 use Rattle.ptu_record.proofs.Choice.{selected_is}
 use Rattle.ptu_record.specs.declared.rule.Rule.{Rule}
 use Rattle.ptu_record.specs.Step as slave_events
-use Rattle.ptu_slave_messages.specs.Config.{address_of, place_of, priorities, timeouts}
+use Rattle.ptu_profile.specs.Slave.{address_of, place_of, priorities, timeouts}
 use Rattle.ptu_slave_messages.specs.declared.heard.Heard as slave_heard
 use Rattle.ptu_slave_messages.specs.declared.heard.Heard.TheVariants as slave_heards
 use Rattle.ptu_slave_messages.specs.declared.signal.Signal.{Signal}

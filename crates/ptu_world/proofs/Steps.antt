@@ -3,13 +3,13 @@ use Rattle.std.proofs.Common.{◌≡◌, ◌∙◌, ℕ, ◌++◌, List, [], Opt
 use Rattle.ptu_history.specs.Core.{core_history, history_after}
 use Rattle.ptu_history.specs.Events.{Event}
 use Rattle.ptu_history.proofs.Histories.{history_after-append, history-none}
-use Rattle.ptu_items.specs.declared.heard.Heard as gm_heard
-use Rattle.ptu_items.specs.declared.heard.Heard.TheVariants.{DelayReq, Asks}
-use Rattle.ptu_items.specs.declared.reason.GmReason.{GmReason}
-use Rattle.ptu_items.specs.Items.{heard_in}
+use Rattle.ptu_gm_messages.specs.declared.heard.Heard as gm_heard
+use Rattle.ptu_gm_messages.specs.declared.heard.Heard.TheVariants.{DelayReq, Asks}
+use Rattle.ptu_gm_messages.specs.declared.reason.GmReason.{GmReason}
+use Rattle.ptu_gm_messages.specs.Items.{heard_in}
 use Rattle.ptu_record.specs.declared.rule.Rule.{Rule}
 use Rattle.ptu_record.specs.Step as slave_events
-use Rattle.ptu_slave_messages.specs.Config.{place_of}
+use Rattle.ptu_profile.specs.Slave.{place_of}
 use Rattle.ptu_slave_messages.specs.declared.heard.Heard as slave_heard
 use Rattle.ptu_slave_messages.specs.declared.heard.Heard.TheVariants as slave_heards
 use Rattle.ptu_script.specs.declared.cause.Cause.{Cause}

@@ -2,7 +2,7 @@
 use Rattle.std.specs.Prelude.{ℕ, List}
 use Rattle.ptu_outside.specs.Departure.{Departure}
 use Rattle.ptu_history.specs.History as history
-use Rattle.ptu_shard.specs.declared.config.GmConfig.{GmConfig}
+use Rattle.ptu_profile.specs.declared.grandmaster.GmConfig.{GmConfig}
 use Rattle.ptu_record.specs.Record as entries
 use Rattle.ptu_slave_messages.specs.Node as slave
 use Rattle.ptu_report_lines.specs.declared.statement.Statement.{Statement}

@@ -16,14 +16,14 @@ use Rattle.ptu_history.specs.Turns.{due_grants, message_of}
 use Rattle.ptu_history.specs.Verdict.{Config, Verdict, GrantedFor, ShortOf, Outside, OutsideCause, OutsideCode, OutsideLog, OutsideDuration}
 use Rattle.ptu_shard.specs.Answered.{responses}
 use Rattle.ptu_shard.specs.Messages.{departure_of, response_of}
-use Rattle.ptu_items.specs.declared.item.Item.{Item}
-use Rattle.ptu_items.specs.declared.heard.Heard.{Heard}
-use Rattle.ptu_items.specs.declared.heard.Heard.TheVariants as heard
-use Rattle.ptu_items.specs.declared.reason.GmReason.{GmReason}
-use Rattle.ptu_items.specs.declared.reason.GmReason.TheVariants as ignored
-use Rattle.ptu_items.specs.Items.{heard_in}
-use Rattle.ptu_items.specs.Deciding.{Decision, Judged, Ended, client_of, decisions_of, events_of_items, opened_with, reply_after}
-use Rattle.ptu_items.specs.Replies.{cancels_to, lease_of}
+use Rattle.ptu_gm_messages.specs.declared.item.Item.{Item}
+use Rattle.ptu_gm_messages.specs.declared.heard.Heard.{Heard}
+use Rattle.ptu_gm_messages.specs.declared.heard.Heard.TheVariants as heard
+use Rattle.ptu_gm_messages.specs.declared.reason.GmReason.{GmReason}
+use Rattle.ptu_gm_messages.specs.declared.reason.GmReason.TheVariants as ignored
+use Rattle.ptu_gm_messages.specs.Items.{heard_in}
+use Rattle.ptu_gm_messages.specs.Deciding.{Decision, Judged, Ended, client_of, decisions_of, events_of_items, opened_with, reply_after}
+use Rattle.ptu_gm_messages.specs.Replies.{cancels_to, lease_of}
 use Rattle.ptu_report_lines.specs.declared.decision.Decision as said
 use Rattle.ptu_report_lines.specs.declared.decision.Decision.TheVariants as decisions
 use Rattle.ptu_report_lines.specs.declared.delay.DelayAnswer.TheVariants as delays

@@ -22,13 +22,14 @@ use Rattle.ptu_history.specs.Runs.{sequence_number}
 use Rattle.ptu_history.specs.Verdict.{Config, Verdict, Outside, OutsideCause, granted_seconds, others, profile, verdict}
 use Rattle.ptu_laws.specs.Granted.{is_granted, is_short}
 use Rattle.ptu_laws.specs.Paid.{IsBefore, IsPaid}
-use Rattle.ptu_shard.specs.Config.{IsWithinLimits}
-use Rattle.ptu_items.specs.declared.item.Item.{Item}
-use Rattle.ptu_items.specs.declared.item.Item.TheVariants as items
-use Rattle.ptu_items.specs.declared.heard.Heard.TheVariants as heard
-use Rattle.ptu_items.specs.Items.{heard_in}
-use Rattle.ptu_items.specs.Deciding.{answer_by, asked_by, client_of, events_of_items, item_moment}
-use Rattle.ptu_items.specs.Replies.{denial_of, grant_of, reply_to}
+use Rattle.ptu_profile.specs.Grandmaster.{IsWithinLimits}
+use Rattle.ptu_profile.specs.Limits.{IsCapacity}
+use Rattle.ptu_gm_messages.specs.declared.item.Item.{Item}
+use Rattle.ptu_gm_messages.specs.declared.item.Item.TheVariants as items
+use Rattle.ptu_gm_messages.specs.declared.heard.Heard.TheVariants as heard
+use Rattle.ptu_gm_messages.specs.Items.{heard_in}
+use Rattle.ptu_gm_messages.specs.Deciding.{answer_by, asked_by, client_of, events_of_items, item_moment}
+use Rattle.ptu_gm_messages.specs.Replies.{denial_of, grant_of, reply_to}
 use Rattle.ptu_script.specs.declared.command.Command.{Command}
 use Rattle.ptu_script.specs.declared.command.Command.TheVariants as commands
 use Rattle.ptu_report_lines.specs.declared.sent.Sent as sending
@@ -44,7 +45,7 @@ use Rattle.ptu_world.specs.World.{World, Done, datagram_numbered, sent_from, ste
 pub record IsRun (ip : ℕ) (gm : Grandmaster) : Type 0 where
   pub address : gm.ip ≡ ip
   pub config : IsWithinLimits gm.config
-  pub capacity : (1 ≤ gm.capacity) × (gm.capacity ≤ 16777216)
+  pub capacity : IsCapacity gm.capacity
   pub events : List (ℕ × Event)
   pub past : gm.past ≡ core_history (opening gm) events
 

@@ -5,7 +5,7 @@ use Rattle.ptu_record.specs.Record.{event_moment}
 use Rattle.ptu_record.specs.Selection.{IsSelected}
 use Rattle.ptu_slave_messages.specs.declared.heard.Heard.{Heard}
 use Rattle.ptu_slave_messages.specs.declared.heard.Heard.TheVariants as heard
-use Rattle.ptu_slave_messages.specs.Config.{address_of, priorities, timeouts}
+use Rattle.ptu_profile.specs.Slave.{address_of, priorities, timeouts}
 use Rattle.ptu_script.specs.declared.command.Command.{Command}
 use Rattle.ptu_script.specs.declared.command.Command.TheVariants as commands
 use Rattle.ptu_report_lines.specs.declared.sent.Sent as sending

@@ -1,14 +1,14 @@
 -- What a slave of a script does.
 use Rattle.std.specs.Prelude.{ℕ, List, [], ◌∷◌, ◌++◌, map, option_map}
 use Rattle.ptu_record.specs.Step.{SlaveEvent}
-use Rattle.ptu_slave_messages.specs.declared.config.Master.{Master}
+use Rattle.ptu_profile.specs.declared.slave.Master.{Master}
 use Rattle.ptu_slave_messages.specs.declared.heard.Heard.{Heard}
 use Rattle.ptu_slave_messages.specs.declared.heard.Heard.TheVariants as heard
 use Rattle.ptu_slave_messages.specs.declared.reason.SlaveReason.{SlaveReason}
 use Rattle.ptu_slave_messages.specs.declared.reason.SlaveReason.TheVariants as ignored
 use Rattle.ptu_slave_messages.specs.declared.signal.Signal.{Signal}
 use Rattle.ptu_slave_messages.specs.declared.signal.Signal.TheVariants as signals
-use Rattle.ptu_slave_messages.specs.Config.{address_of}
+use Rattle.ptu_profile.specs.Slave.{address_of}
 use Rattle.ptu_slave_messages.specs.Node as slave
 use Rattle.ptu_report_lines.specs.declared.hearing.Hearing.TheVariants as hearings
 use Rattle.ptu_report_lines.specs.declared.reason.Reason.{Reason}

@@ -5,7 +5,7 @@ ghost use Rattle.std.specs.Prelude.{◌≡◌, ◌≢◌, ℕ, List, [], ◌∷�
 ghost use Rattle.ptu_script.specs.declared.command.Command.{Command};
 ghost use Rattle.ptu_script.specs.declared.command.Command.TheVariants as commands;
 ghost use Rattle.ptu_history.specs.Events as events;
-ghost use Rattle.ptu_items.specs.Deciding.{events_of_datagram};
+ghost use Rattle.ptu_gm_messages.specs.Deciding.{events_of_datagram};
 ghost use Rattle.ptu_world.specs.Deeds.{Grandmaster, IsGrandmaster};
 ghost use Rattle.ptu_world.specs.Grandmasters as gm;
 ghost use Rattle.ptu_world.specs.World.{World, Stock, Done, opening, step, node_at};

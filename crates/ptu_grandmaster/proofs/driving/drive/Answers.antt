@@ -2,7 +2,7 @@ use Rattle.std.proofs.Common.{◌+◌, ◌<◌, arith, take}
 use Rattle.std.specs.List.{flat_map}
 use Rattle.std.proofs.lemmas.List.{take_all}
 use Rattle.ptu_laws.proofs.Budget.{count-within}
-use Rattle.ptu_items.specs.Deciding.{opened_with}
+use Rattle.ptu_gm_messages.specs.Deciding.{opened_with}
 use Rattle.ptu_grandmaster.specs.Driven.{events_of}
 use Rattle.ptu_grandmaster.proofs.Followed.{next_event, no_event, sent_fits}
 use Rattle.ptu_grandmaster.proofs.driving.drive.Goals as goal

@@ -3,9 +3,8 @@ use Rattle.std.specs.List.{All}
 use Rattle.std.proofs.lemmas.List.{length-map}
 use Rattle.ptu_tlvs.specs.declared.tlv.Tlv.{Tlv}
 use Rattle.ptu_tlvs.specs.Sent.{IsSendable}
-use Rattle.ptu_messages.specs.Sent.{AlwaysSpells}
-use Rattle.ptu_shard.specs.Messages.{octets_sent}
-use Rattle.ptu_items.specs.Replies.{signaling_of}
+use Rattle.ptu_messages.specs.Sent.{AlwaysSpells, octets_sent}
+use Rattle.ptu_gm_messages.specs.Replies.{signaling_of}
 use Rattle.ptu_grandmaster.specs.declared.outcome.Outcome.{Outcome}
 use Rattle.ptu_grandmaster.specs.Outcomes.{answers_seen, item_seen}
 use Rattle.ptu_grandmaster.proofs.Answering.{answer_of, answers-each, answers_sendable}

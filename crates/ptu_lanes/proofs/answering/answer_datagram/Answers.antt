@@ -1,7 +1,7 @@
 use Rattle.std.proofs.Common.{◌≡◌, ◌∙◌, [], refl, sym, ap, Ok}
-use Rattle.ptu_items.specs.declared.heard.Heard.{Heard}
-use Rattle.ptu_items.specs.declared.heard.Heard.TheVariants as heard
-use Rattle.ptu_items.specs.Items.{AreAnswerable}
+use Rattle.ptu_gm_messages.specs.declared.heard.Heard.{Heard}
+use Rattle.ptu_gm_messages.specs.declared.heard.Heard.TheVariants as heard
+use Rattle.ptu_gm_messages.specs.Items.{AreAnswerable}
 use Rattle.ptu_lanes.proofs.Exchanges.{both_ok, ignored_is, replied_is}
 use Rattle.ptu_lanes.proofs.answering.answer_datagram.Goals as goal
 

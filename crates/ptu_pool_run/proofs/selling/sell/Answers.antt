@@ -3,7 +3,7 @@ use Rattle.ptu_pools.specs.Pool.{is_network}
 use Rattle.ptu_pools.specs.Refusal.{IsRefused, Share}
 use Rattle.ptu_pools.specs.Standing.{StandFor}
 use Rattle.ptu_pools.specs.declared.fault.PoolsFault.TheVariants.{OutOfMemory}
-use Rattle.ptu_shard.specs.declared.config.GmConfig.{GmConfig}
+use Rattle.ptu_profile.specs.declared.grandmaster.GmConfig.{GmConfig}
 use Rattle.ptu_pool_run.proofs.Idle.{sold_fresh}
 use Rattle.ptu_pool_run.proofs.Sold.{cause_of_fault, refused_for}
 use Rattle.ptu_pool_run.proofs.selling.sell.Goals as goal

@@ -1,6 +1,6 @@
 use Rattle.std.proofs.Common.{[], ◌∷◌, subst}
 use Rattle.ptu_outside.specs.HandsOver.{HandsOver, failed_in, sent_in}
-use Rattle.ptu_shard.specs.Messages.{octets_sent}
+use Rattle.ptu_messages.specs.Sent.{octets_sent}
 use Rattle.ptu_shard.proofs.messages.send_fixed.Goals as goal
 
 pub returns : goal.returns

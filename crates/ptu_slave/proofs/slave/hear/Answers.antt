@@ -3,7 +3,7 @@ use Rattle.std.specs.List.{filter_map}
 use Rattle.ptu_outside.specs.HandsOver.{HandsOver}
 use Rattle.ptu_record.specs.Step.{cancel_code}
 use Rattle.ptu_slave_messages.specs.declared.content.Taken.{Taken}
-use Rattle.ptu_slave_messages.specs.Config.{address_of}
+use Rattle.ptu_profile.specs.Slave.{address_of}
 use Rattle.ptu_slave_messages.specs.Heard.{failed_by, said_by, sent_by}
 use Rattle.ptu_slave.proofs.Hearing.{acks_are, event_sync, reply_is, said_in}
 use Rattle.ptu_slave.proofs.slave.hear.Goals as goal

@@ -1,6 +1,6 @@
 use Rattle.std.proofs.Common.{◌∙◌, ap, map, sym, subst}
 use Rattle.ptu_judges.specs.Held.{fresh}
-use Rattle.ptu_slave_messages.specs.Config.{AreMasters}
+use Rattle.ptu_profile.specs.Slave.{AreMasters}
 use Rattle.ptu_slave_daemon.specs.Opening.{master_of, rule_of}
 use Rattle.ptu_slave_daemon.proofs.Judges.{judges_fresh, judges_many, masters_are, opened_at}
 use Rattle.ptu_slave.specs.Seen.{seen}

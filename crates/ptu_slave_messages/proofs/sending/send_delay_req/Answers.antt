@@ -1,8 +1,7 @@
 use Rattle.std.proofs.Common.{[], ◌∷◌, ap, ◌∙◌, subst}
-use Rattle.ptu_messages.specs.Sent.{sent_message}
+use Rattle.ptu_messages.specs.Sent.{octets_sent, sent_message}
 use Rattle.ptu_outside.specs.declared.channel.Channel.TheVariants.{Event}
 use Rattle.ptu_outside.specs.HandsOver.{HandsOver, failed_in, sent_in}
-use Rattle.ptu_slave_messages.specs.Sending.{octets_sent}
 use Rattle.ptu_slave_messages.proofs.sending.send_delay_req.Goals as goal
 
 pub returns-clause-sends : goal.returns-clause-sends

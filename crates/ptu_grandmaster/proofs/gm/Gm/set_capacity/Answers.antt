@@ -7,7 +7,7 @@ use Rattle.ptu_history.specs.Step.{step}
 use Rattle.ptu_admit.specs.Lent.{StandFor, four, lent_as}
 use Rattle.ptu_admit.specs.Shed.{shed_of}
 use Rattle.ptu_admit.proofs.StepMoments.{moment-all}
-use Rattle.ptu_items.specs.Deciding.{opened_with}
+use Rattle.ptu_gm_messages.specs.Deciding.{opened_with}
 use Rattle.ptu_grandmaster.proofs.After.{after_change}
 use Rattle.ptu_grandmaster.proofs.gm.Gm.set_capacity.Goals as goal
 

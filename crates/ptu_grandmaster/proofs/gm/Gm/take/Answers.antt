@@ -3,8 +3,8 @@ use Rattle.ptu_history.specs.declared.client.Client.{Client}
 use Rattle.ptu_history.specs.Core.{core_step, history_after}
 use Rattle.ptu_history.specs.Events as events
 use Rattle.ptu_history.specs.History.{Record}
-use Rattle.ptu_items.specs.declared.item.Item.{Item}
-use Rattle.ptu_items.specs.Deciding.{client_of, events_of_items, opened_with}
+use Rattle.ptu_gm_messages.specs.declared.item.Item.{Item}
+use Rattle.ptu_gm_messages.specs.Deciding.{client_of, events_of_items, opened_with}
 use Rattle.ptu_grandmaster.specs.Gm.{KeptGm, StandsFor}
 use Rattle.ptu_grandmaster.proofs.Heard.{asked_is, heard_ok, history_after-none, history_after-one, on_err}
 use Rattle.ptu_grandmaster.proofs.gm.Gm.take.Goals as goal

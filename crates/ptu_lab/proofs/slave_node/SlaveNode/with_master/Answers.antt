@@ -1,4 +1,4 @@
-use Rattle.ptu_slave_messages.specs.declared.config.Master.{Master}
+use Rattle.ptu_profile.specs.declared.slave.Master.{Master}
 use Rattle.ptu_slave.specs.Seen.{seen}
 use Rattle.ptu_lab.proofs.SlaveMasters.{judges_fresh, master_added, masters_more}
 use Rattle.ptu_lab.proofs.slave_node.SlaveNode.with_master.Goals as goal

@@ -1,6 +1,6 @@
 use Rattle.std.proofs.Common.{ap, ◌∙◌}
 use Rattle.ptu_record.specs.Selection.{selected_master}
-use Rattle.ptu_slave_messages.specs.Config.{priorities, timeouts}
+use Rattle.ptu_profile.specs.Slave.{priorities, timeouts}
 use Rattle.ptu_slave.proofs.Stepping.{moment_is}
 use Rattle.ptu_slave.specs.Seen.{seen_by}
 use Rattle.ptu_slave.proofs.slave.Slave.selected.Goals as goal

@@ -3,7 +3,7 @@ use Rattle.std.specs.Option.{option_map}
 use Rattle.std.specs.Prelude.{IfSome}
 use Rattle.ptu_record.specs.Record.{event_moment}
 use Rattle.ptu_record.specs.Selection.{selected_master}
-use Rattle.ptu_slave_messages.specs.Config.{address_of, priorities, timeouts}
+use Rattle.ptu_profile.specs.Slave.{address_of, priorities, timeouts}
 use Rattle.ptu_slave.specs.Kept.{Kept}
 use Rattle.ptu_slave.specs.Seen.{seen_by}
 use Rattle.ptu_slave.proofs.Selecting.{chosen_within, priorities_many}

@@ -1,7 +1,7 @@
 use Rattle.std.proofs.Common.{◌∙◌, List, ap, ap₂, subst, sym}
 use Rattle.ptu_outside.specs.HandsOver.{HandsOver}
-use Rattle.ptu_slave_messages.specs.declared.config.Master.{Master}
-use Rattle.ptu_slave_messages.specs.declared.config.SlaveConfig.{SlaveConfig}
+use Rattle.ptu_profile.specs.declared.slave.Master.{Master}
+use Rattle.ptu_profile.specs.declared.slave.SlaveConfig.{SlaveConfig}
 use Rattle.ptu_slave_messages.specs.declared.content.Taken.{Taken}
 use Rattle.ptu_slave_messages.specs.Heard.{content_of, failed_by, replies_in, reply_in, sent_by, taken_or_not}
 use Rattle.ptu_slave_messages.specs.Reception.{reception}

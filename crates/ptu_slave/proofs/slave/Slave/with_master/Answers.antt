@@ -1,5 +1,5 @@
 use Rattle.std.proofs.Common.{◌∙◌, ◌∷◌, ◌++◌, [], ap, subst, sym}
-use Rattle.ptu_slave_messages.specs.Config.{AreMasters}
+use Rattle.ptu_profile.specs.Slave.{AreMasters}
 use Rattle.ptu_slave.specs.Seen.{seen_by}
 use Rattle.ptu_slave.proofs.Adding.{fresh_pushed, held_pushed, stands_held}
 use Rattle.ptu_slave.proofs.slave.Slave.with_master.Goals as goal

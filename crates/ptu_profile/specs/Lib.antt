@@ -1,0 +1,4 @@
+pub mod Limits
+pub mod Headers
+pub mod Grandmaster
+pub mod Slave

@@ -1,0 +1,29 @@
+//! The headers of unicast messages (IEEE 1588-2019 clause 13.3).
+
+ghost use Rattle.std.specs.Prelude.{◌≡◌};
+ghost use Rattle.ptu_profile.specs.Headers.{unicast_header};
+
+use ptu_header::{Header, PortIdentity};
+
+/// The flagField of every message: unicastFlag alone (IEEE 1588-2019 clause 13.3.2).
+const UNICAST_FLAG: u16 = 0x0400;
+
+/// The header of a message of this type that a port of a domain sends to one address.
+pub(crate) fn header_from(
+    source: PortIdentity,
+    domain: u8,
+    message_type: u8,
+    correction: i64,
+    sequence: u16,
+) -> Header
+    ensures { result ≡ unicast_header source domain message_type correction sequence }
+{
+    Header {
+        message_type,
+        domain,
+        flags: UNICAST_FLAG,
+        correction,
+        source,
+        sequence,
+    }
+}

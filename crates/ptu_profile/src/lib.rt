@@ -1,0 +1,10 @@
+//! What a grandmaster and a slave are set up with, and the limits of each setting (the project's
+//! own choice).
+#![tactic(auto)]
+
+mod grandmaster;
+mod headers;
+mod slave;
+
+pub use grandmaster::GmConfig;
+pub use slave::{Master, SlaveConfig};
