@@ -1,43 +1,11 @@
 //! What a report tells that a grandmaster did.
 
-ghost use Rattle.std.specs.Prelude.{◌≡◌, ◌<◌, ◌^◌, length};
-
 use ptu_history::Client;
 use ptu_trail::{NoCause, Shedding};
-use ptu_units::{Kind, Log, Stamp};
-use std::marker::Model;
+use ptu_units::{Kind, Listed, Log, Stamp};
 
 /// The grants that a change of capacity sheds, in order. A clause sees them as their list.
-#[derive(Drop)]
-pub(crate) struct Sheddings {
-    members: Vec<Shedding>,
-}
-
-impl Model for Sheddings {
-    ghost use Rattle.std.specs.Prelude.{List};
-    ghost use Rattle.ptu_trail.specs.declared.cause.Shedding.{Shedding};
-
-    ghost Value = { List Shedding };
-
-    ghost view = { λ s. s.members.items };
-}
-
-impl Sheddings {
-    /// These.
-    pub(crate) fn new(list: Vec<Shedding>) -> Sheddings
-        ensures { result ≡ list.items }
-    {
-        Sheddings { members: list }
-    }
-
-    /// Them.
-    pub(crate) fn list(&self) -> &[Shedding]
-        ensures list { result.now ≡ self.now }
-        ensures few { length result.now < 2 ^ 63 }
-    {
-        &self.members
-    }
-}
+pub(crate) type Sheddings = Listed<Shedding>;
 
 /// What was done. Moments are in nanoseconds, capacities in sixteenths of a message per second.
 #[derive(Drop)]

@@ -1,6 +1,4 @@
-ghost use Rattle.std.specs.Prelude.{◌≡◌};
-
-use std::marker::Model;
+use ptu_units::Listed;
 
 /// A master of a slave, as its settings name it.
 #[derive(Clone, Copy, Debug, PartialEq, Eq, Hash)]
@@ -14,32 +12,4 @@ pub struct MasterSetting {
 }
 
 /// The masters of a slave, in their order. A clause sees them as a list.
-#[derive(Debug, Drop)]
-pub struct MasterList {
-    masters: Vec<MasterSetting>,
-}
-
-impl Model for MasterList {
-    ghost use Rattle.std.specs.Prelude.{List};
-    ghost use Rattle.ptu_config.specs.declared.master.MasterSetting.{MasterSetting};
-
-    ghost Value = { List MasterSetting };
-
-    ghost view = { λ l. l.masters.items };
-}
-
-impl MasterList {
-    /// A list of exactly these masters.
-    pub fn new(list: Vec<MasterSetting>) -> MasterList
-        ensures { result ≡ list.items }
-    {
-        MasterList { masters: list }
-    }
-
-    /// The masters.
-    pub fn list(&self) -> &[MasterSetting]
-        ensures { result.now ≡ self.now }
-    {
-        &self.masters
-    }
-}
+pub type MasterList = Listed<MasterSetting>;

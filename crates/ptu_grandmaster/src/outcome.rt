@@ -2,7 +2,7 @@ use ptu_admit::{Cancelled, Verdict};
 use ptu_gm_messages::GmReason;
 use ptu_shard::Answered;
 use ptu_tlvs::Ask;
-use std::marker::Model;
+use ptu_units::Listed;
 
 /// What an item of a Signaling came to.
 #[derive(Clone, Copy, Debug, PartialEq, Eq)]
@@ -14,45 +14,7 @@ pub enum Outcome {
 }
 
 /// The outcomes of a Signaling's items, in their order. A clause sees it as their list.
-#[derive(Debug, Drop)]
-pub struct Outcomes {
-    members: Vec<Outcome>,
-}
-
-impl Model for Outcomes {
-    ghost use Rattle.std.specs.Prelude.{List};
-    ghost use Rattle.ptu_grandmaster.specs.declared.outcome.Outcome.{Outcome};
-
-    ghost Value = { List Outcome };
-
-    ghost view = { λ l. l.members.items };
-}
-
-impl Outcomes {
-    ghost use Rattle.std.specs.Prelude.{◌≡◌};
-
-    /// The list of exactly these outcomes.
-    pub fn new(list: Vec<Outcome>) -> Outcomes
-        ensures { result ≡ list.items }
-    {
-        Outcomes { members: list }
-    }
-
-    /// The outcomes.
-    pub fn list(&self) -> &[Outcome]
-        ensures { result.now ≡ self.now }
-    {
-        &self.members
-    }
-
-    /// The list itself, which may have room for more.
-    pub fn into_list(self) -> Vec<Outcome>
-        ensures { result.items ≡ self }
-    {
-        let Outcomes { members } = self;
-        members
-    }
-}
+pub type Outcomes = Listed<Outcome>;
 
 /// What became of a reply.
 #[derive(Clone, Copy, Debug, PartialEq, Eq)]

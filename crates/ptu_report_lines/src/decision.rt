@@ -7,7 +7,7 @@ ghost use Rattle.ptu_report_lines.specs.declared.decision.Decision.TheVariants a
 use crate::words::{Word, put_words};
 use ptu_texts::KindText;
 use ptu_units::{Kind, Moment};
-use ptu_writing::LineText;
+use ptu_writing::{LinePart, LineText};
 
 /// What a grandmaster decided on a REQUEST or a CANCEL. Rates and capacities are in sixteenths of a
 /// message per second.
@@ -60,13 +60,12 @@ pub enum Decision {
     },
 }
 
-impl Decision {
-    /// Puts its text before what stands in the line.
-    pub fn put(self, line: &mut LineText)
-        requires { 131 ≤ line.old.room }
-        ensures text { line.new.text ≡ decision_text self ++ line.old.text }
-        ensures room { line.old.room ≤ line.new.room + 131 }
-    {
+impl LinePart for Decision {
+    ghost text = { decision_text };
+
+    ghost most = { λ _. 131 };
+
+    fn put(self, line: &mut LineText) {
         match self {
             Decision::Granted {
                 kind,

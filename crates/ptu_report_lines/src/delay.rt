@@ -3,7 +3,7 @@ ghost use Rattle.ptu_report_lines.specs.Statements.{delay_text};
 
 use crate::words::{Word, put_words};
 use ptu_units::Moment;
-use ptu_writing::LineText;
+use ptu_writing::{LinePart, LineText};
 
 /// What a Delay_Req came to at a grandmaster.
 #[derive(Clone, Copy, Debug, PartialEq, Eq)]
@@ -16,13 +16,12 @@ pub enum DelayAnswer {
     TooSoon { at: Moment, earliest: u64 },
 }
 
-impl DelayAnswer {
-    /// Puts its text before what stands in the line.
-    pub fn put(self, line: &mut LineText)
-        requires { 70 ≤ line.old.room }
-        ensures text { line.new.text ≡ delay_text self ++ line.old.text }
-        ensures room { line.old.room ≤ line.new.room + 70 }
-    {
+impl LinePart for DelayAnswer {
+    ghost text = { delay_text };
+
+    ghost most = { λ _. 70 };
+
+    fn put(self, line: &mut LineText) {
         match self {
             DelayAnswer::Answered { at } => put_words(
                 &[

@@ -5,7 +5,7 @@ ghost use Rattle.ptu_report_lines.specs.Statements.{hearing_text, words_text};
 
 use crate::words::{Word, put_words};
 use ptu_units::Moment;
-use ptu_writing::LineText;
+use ptu_writing::{LinePart, LineText};
 
 /// What a slave heard of a master, which is named by its address.
 #[derive(Clone, Copy, Debug, PartialEq, Eq)]
@@ -20,13 +20,12 @@ pub enum Hearing {
     DelayResp { master: u32, seq: u16, at: Moment },
 }
 
-impl Hearing {
-    /// Puts its text before what stands in the line.
-    pub fn put(self, line: &mut LineText)
-        requires { 80 ≤ line.old.room }
-        ensures text { line.new.text ≡ hearing_text self ++ line.old.text }
-        ensures room { line.old.room ≤ line.new.room + 80 }
-    {
+impl LinePart for Hearing {
+    ghost text = { hearing_text };
+
+    ghost most = { λ _. 80 };
+
+    fn put(self, line: &mut LineText) {
         match self {
             Hearing::Announce { master, class, at } => put_words(
                 &[

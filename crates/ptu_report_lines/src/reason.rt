@@ -3,7 +3,7 @@ ghost use Rattle.ptu_report_lines.specs.Statements.{reason_text};
 
 use ptu_messages::MessageFault;
 use ptu_texts::FaultText;
-use ptu_writing::LineText;
+use ptu_writing::{LinePart, LineText};
 
 /// Why a node ignored a datagram.
 #[derive(Clone, Copy, Debug, PartialEq, Eq)]
@@ -22,13 +22,12 @@ pub enum Reason {
     Target,
 }
 
-impl Reason {
-    /// Puts its text before what stands in the line.
-    pub fn put(self, line: &mut LineText)
-        requires { 86 ≤ line.old.room }
-        ensures text { line.new.text ≡ reason_text self ++ line.old.text }
-        ensures room { line.old.room ≤ line.new.room + 86 }
-    {
+impl LinePart for Reason {
+    ghost text = { reason_text };
+
+    ghost most = { λ _. 86 };
+
+    fn put(self, line: &mut LineText) {
         match self {
             Reason::Fault(fault) => {
                 FaultText(fault).put(line);

@@ -3,7 +3,7 @@ ghost use Rattle.ptu_report_lines.specs.Statements.{received_text};
 
 use crate::words::{Word, put_words};
 use ptu_units::Kind;
-use ptu_writing::LineText;
+use ptu_writing::{LinePart, LineText};
 
 /// What a TLV of a Signaling said to a slave.
 #[derive(Clone, Copy, Debug, PartialEq, Eq)]
@@ -18,13 +18,12 @@ pub enum Received {
     Ack { code: u8 },
 }
 
-impl Received {
-    /// Puts its text before what stands in the line.
-    pub fn put(self, line: &mut LineText)
-        requires { 40 ≤ line.old.room }
-        ensures text { line.new.text ≡ received_text self ++ line.old.text }
-        ensures room { line.old.room ≤ line.new.room + 40 }
-    {
+impl LinePart for Received {
+    ghost text = { received_text };
+
+    ghost most = { λ _. 40 };
+
+    fn put(self, line: &mut LineText) {
         match self {
             Received::Grant { kind, seconds } => put_words(
                 &[

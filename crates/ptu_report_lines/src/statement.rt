@@ -17,7 +17,7 @@ use ptu_header::PortIdentity;
 use ptu_history::Client;
 use ptu_script::Cause;
 use ptu_units::{Kind, Log, Moment, OutOfMemory};
-use ptu_writing::{Draft, LineText, Text};
+use ptu_writing::{Draft, LinePart, LineText, Text};
 
 /// What happened at a line of a script.
 #[derive(Debug, Drop)]

@@ -6,7 +6,7 @@ use ptu_header::PortIdentity;
 use ptu_outside::Channel;
 use ptu_texts::{AddressText, IdentityText, KindText};
 use ptu_units::Kind;
-use ptu_writing::LineText;
+use ptu_writing::{LinePart, LineText};
 use std::fmt;
 
 /// A word of a line.
@@ -32,13 +32,12 @@ pub enum Word {
     Selected(Option<u32>),
 }
 
-impl Word {
-    // Puts it before what stands in the line.
-    fn put(self, line: &mut LineText)
-        requires { most self ≤ line.old.room }
-        ensures text { line.new.text ≡ word_text self ++ line.old.text }
-        ensures room { line.old.room ≤ line.new.room + most self }
-    {
+impl LinePart for Word {
+    ghost text = { word_text };
+
+    ghost most = { λ w. most w };
+
+    fn put(self, line: &mut LineText) {
         match self {
             Word::Name(name) => line.put_str(name),
             Word::Number(number) => line.put_number(number),

@@ -6,7 +6,7 @@ ghost use Rattle.ptu_texts.specs.Faults.{fault_text, header_fault_text, tlv_faul
 use ptu_header::HeaderFault;
 use ptu_messages::MessageFault;
 use ptu_tlvs::TlvFault;
-use ptu_writing::LineText;
+use ptu_writing::{LinePart, LineText};
 use std::fmt;
 
 /// Why octets spell no message: one word for the fault, and its numbers. `MessageFault` itself
@@ -14,13 +14,12 @@ use std::fmt;
 #[derive(Clone, Copy, Debug, PartialEq, Eq)]
 pub struct FaultText(pub MessageFault);
 
-impl FaultText {
-    /// Puts it before what stands in the line.
-    pub fn put(self, line: &mut LineText)
-        requires { 80 ≤ line.old.room }
-        ensures text { line.new.text ≡ fault_text self.0 ++ line.old.text }
-        ensures room { line.old.room ≤ line.new.room + 80 }
-    {
+impl LinePart for FaultText {
+    ghost text = { λ t. fault_text t.0 };
+
+    ghost most = { λ _. 80 };
+
+    fn put(self, line: &mut LineText) {
         match self.0 {
             MessageFault::Header(fault) => HeaderFaultText(fault).put(line),
             MessageFault::Body { said, need } => {
@@ -68,13 +67,12 @@ impl fmt::Display for FaultText {
 #[derive(Clone, Copy)]
 struct HeaderFaultText(HeaderFault);
 
-impl HeaderFaultText {
-    // Puts it before what stands in the line.
-    fn put(self, line: &mut LineText)
-        requires { 50 ≤ line.old.room }
-        ensures text { line.new.text ≡ header_fault_text self.0 ++ line.old.text }
-        ensures room { line.old.room ≤ line.new.room + 50 }
-    {
+impl LinePart for HeaderFaultText {
+    ghost text = { λ t. header_fault_text t.0 };
+
+    ghost most = { λ _. 50 };
+
+    fn put(self, line: &mut LineText) {
         match self.0 {
             HeaderFault::Short { have } => {
                 line.put_number(have as u64);
@@ -115,13 +113,12 @@ impl fmt::Display for HeaderFaultText {
 #[derive(Clone, Copy)]
 struct TlvFaultText(TlvFault);
 
-impl TlvFaultText {
-    // Puts it before what stands in the line.
-    fn put(self, line: &mut LineText)
-        requires { 50 ≤ line.old.room }
-        ensures text { line.new.text ≡ tlv_fault_text self.0 ++ line.old.text }
-        ensures room { line.old.room ≤ line.new.room + 50 }
-    {
+impl LinePart for TlvFaultText {
+    ghost text = { λ t. tlv_fault_text t.0 };
+
+    ghost most = { λ _. 50 };
+
+    fn put(self, line: &mut LineText) {
         match self.0 {
             TlvFault::Short { have } => {
                 line.put_number(have as u64);

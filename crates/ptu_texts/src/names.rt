@@ -7,20 +7,19 @@ ghost use Rattle.ptu_texts.specs.Texts.{address_text, clock_text, identity_text,
 use crate::octets::OctetsText;
 use ptu_header::PortIdentity;
 use ptu_units::{Kind, Log};
-use ptu_writing::LineText;
+use ptu_writing::{LinePart, LineText};
 use std::fmt;
 
 /// An IPv4 address, in dotted decimal.
 #[derive(Clone, Copy, Debug, PartialEq, Eq)]
 pub struct AddressText(pub u32);
 
-impl AddressText {
-    /// Puts it before what stands in the line.
-    pub fn put(self, line: &mut LineText)
-        requires { 15 ≤ line.old.room }
-        ensures text { line.new.text ≡ address_text self.0 ++ line.old.text }
-        ensures room { line.old.room ≤ line.new.room + 15 }
-    {
+impl LinePart for AddressText {
+    ghost text = { λ t. address_text t.0 };
+
+    ghost most = { λ _. 15 };
+
+    fn put(self, line: &mut LineText) {
         let [a, b, c, d] = self.0.to_be_bytes();
         line.put_octet(d);
         line.put_str(".");
@@ -45,13 +44,12 @@ impl fmt::Display for AddressText {
 #[derive(Clone, Copy, Debug, PartialEq, Eq)]
 pub struct ClockText(pub u64);
 
-impl ClockText {
-    /// Puts it before what stands in the line.
-    pub fn put(self, line: &mut LineText)
-        requires { 16 ≤ line.old.room }
-        ensures text { line.new.text ≡ clock_text self.0 ++ line.old.text }
-        ensures room { line.old.room ≤ line.new.room + 16 }
-    {
+impl LinePart for ClockText {
+    ghost text = { λ t. clock_text t.0 };
+
+    ghost most = { λ _. 16 };
+
+    fn put(self, line: &mut LineText) {
         line.put_digits(&self.0.to_be_bytes());
     }
 }
@@ -70,13 +68,12 @@ impl fmt::Display for ClockText {
 #[derive(Clone, Copy, Debug, PartialEq, Eq)]
 pub struct IdentityText(pub PortIdentity);
 
-impl IdentityText {
-    /// Puts it before what stands in the line.
-    pub fn put(self, line: &mut LineText)
-        requires { 37 ≤ line.old.room }
-        ensures text { line.new.text ≡ identity_text self.0 ++ line.old.text }
-        ensures room { line.old.room ≤ line.new.room + 37 }
-    {
+impl LinePart for IdentityText {
+    ghost text = { λ t. identity_text t.0 };
+
+    ghost most = { λ _. 37 };
+
+    fn put(self, line: &mut LineText) {
         line.put_number(u64::from(self.0.port));
         line.put_str("/");
         ClockText(self.0.clock).put(line);
@@ -97,13 +94,12 @@ impl fmt::Display for IdentityText {
 #[derive(Clone, Copy, Debug, PartialEq, Eq)]
 pub struct KindText(pub Kind);
 
-impl KindText {
-    /// Puts it before what stands in the line.
-    pub fn put(self, line: &mut LineText)
-        requires { 10 ≤ line.old.room }
-        ensures text { line.new.text ≡ kind_text self.0 ++ line.old.text }
-        ensures room { line.old.room ≤ line.new.room + 10 }
-    {
+impl LinePart for KindText {
+    ghost text = { λ t. kind_text t.0 };
+
+    ghost most = { λ _. 10 };
+
+    fn put(self, line: &mut LineText) {
         line.put_str(match self.0 {
             Kind::Announce => "announce",
             Kind::Sync => "sync",
@@ -116,13 +112,12 @@ impl KindText {
 #[derive(Clone, Copy, Debug, PartialEq, Eq)]
 pub struct LogText(pub Log);
 
-impl LogText {
-    /// Puts it before what stands in the line.
-    pub fn put(self, line: &mut LineText)
-        requires { 4 ≤ line.old.room }
-        ensures text { line.new.text ≡ signed_decimal self.0 ++ line.old.text }
-        ensures room { line.old.room ≤ line.new.room + 4 }
-    {
+impl LinePart for LogText {
+    ghost text = { λ t. signed_decimal t.0 };
+
+    ghost most = { λ _. 4 };
+
+    fn put(self, line: &mut LineText) {
         line.put_signed(self.0.value());
     }
 }

@@ -3,7 +3,7 @@ use ptu_header::PortIdentity;
 use ptu_messages::MessageFault;
 use ptu_tlvs::TlvFault;
 use ptu_units::{Kind, Log};
-use ptu_writing::LineText;
+use ptu_writing::{LinePart, LineText};
 use std::test::Fail;
 
 #[test]

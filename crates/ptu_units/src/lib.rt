@@ -2,6 +2,7 @@
 #![tactic(auto)]
 
 mod kind;
+mod listed;
 mod log;
 mod memory;
 mod moment;
@@ -9,6 +10,7 @@ mod stamp;
 pub mod timescale;
 
 pub use kind::Kind;
+pub use listed::Listed;
 pub use log::{Log, period, rate};
 pub use memory::OutOfMemory;
 pub use moment::Moment;

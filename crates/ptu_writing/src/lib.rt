@@ -4,10 +4,12 @@
 
 mod draft;
 mod line;
+mod part;
 mod text;
 
 pub use draft::Draft;
 pub use line::LineText;
+pub use part::LinePart;
 pub use text::Text;
 
 #[cfg(test)]
