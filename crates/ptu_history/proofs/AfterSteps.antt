@@ -78,70 +78,49 @@ module _ (to : Client → Kind → Record) (own : (c : Client) (k : Kind) (d : C
       at true = sym (lease_records-push_own history (to c k) c k (own c k c k ∙ same_lease-refl c k))
       at false = refl
 
+-- a value at what is there after a test, from the values at both
+either : {A : Type 0} (value : List Record → A) (of : Bool → A) (after on off : List Record) (b : Bool) → value after ≡ value (cond b on off) → value on ≡ of true → value off ≡ of false → value after ≡ of b
+either value of after on off true same at_on at_off = same ∙ at_on
+either value of after on off false same at_on at_off = same ∙ at_off
+
 -- a turn that sends a message of each of these grants
 module _ (history : List Record) (x j : ℕ) (gs : List Grant) (distinct : IsDistinctByLease gs) (c : Client) (k : Kind) where
-  after : List Record
+  abbrev after : List Record
   after = history ++ Looked x j ∷ map (sent_record x) gs
 
-  one_of : Bool → List Record
-  one_of b = cond b (history ++ Sent x c k ∷ []) history
+  abbrev sent : List Record
+  sent = history ++ Sent x c k ∷ []
 
   module _ (b : Bool) (is : list_any (is_of c k) gs ≡ b) where
-    records-looked : lease_records after c k ≡ lease_records (one_of b) c k
-    unfolding after one_of
-    records-looked = records-each (Sent x) (λ c k d j. refl) c k history (Looked x j) gs refl distinct ∙ ap (λ b. lease_records (cond b (history ++ Sent x c k ∷ []) history) c k) is
+    abbrev one : List Record
+    one = cond b sent history
 
-    pub last_decision-looked : last_decision (history ++ Looked x j ∷ map (sent_record x) gs) c k ≡ last_decision history c k
-    unfolding after one_of
-    last_decision-looked = last_decision-alike after (one_of b) c k records-looked ∙ at b
-      where
-        at : (b : Bool) → last_decision (cond b (history ++ Sent x c k ∷ []) history) c k ≡ last_decision history c k
-        at true = last_pushed history (Sent x c k) c k
-        at false = refl
+    records-looked : lease_records after c k ≡ lease_records one c k
+    records-looked = records-each (Sent x) (λ c k d j. refl) c k history (Looked x j) gs refl distinct ∙ ap (λ b. lease_records (cond b sent history) c k) is
 
-    pub live-looked : (y : ℕ) → live (history ++ Looked x j ∷ map (sent_record x) gs) y c k ≡ live history y c k
+    pub last_decision-looked : last_decision after c k ≡ last_decision history c k
+    last_decision-looked = either (λ h. last_decision h c k) (λ _. last_decision history c k) after sent history b (last_decision-alike after one c k records-looked) (last_pushed history (Sent x c k) c k) refl
+
+    pub live-looked : (y : ℕ) → live after y c k ≡ live history y c k
     unfolding live
     live-looked y = ap (λ d. is_live y d) last_decision-looked
 
-    pub root-looked : root (history ++ Looked x j ∷ map (sent_record x) gs) c k ≡ root history c k
-    unfolding after one_of
-    root-looked = root-alike after (one_of b) c k records-looked ∙ at b
-      where
-        at : (b : Bool) → root (cond b (history ++ Sent x c k ∷ []) history) c k ≡ root history c k
-        at true = root-sent history x c k
-        at false = refl
+    pub root-looked : root after c k ≡ root history c k
+    root-looked = either (λ h. root h c k) (λ _. root history c k) after sent history b (root-alike after one c k records-looked) (root-sent history x c k) refl
 
-    pub chain-looked : chain (history ++ Looked x j ∷ map (sent_record x) gs) c k ≡ chain history c k
-    unfolding after one_of
-    chain-looked = chain-alike after (one_of b) c k records-looked ∙ at b
-      where
-        at : (b : Bool) → chain (cond b (history ++ Sent x c k ∷ []) history) c k ≡ chain history c k
-        at true = chain-sent history x c k
-        at false = refl
+    pub chain-looked : chain after c k ≡ chain history c k
+    chain-looked = either (λ h. chain h c k) (λ _. chain history c k) after sent history b (chain-alike after one c k records-looked) (chain-sent history x c k) refl
 
-    pub last_period-looked : last_period (history ++ Looked x j ∷ map (sent_record x) gs) c k ≡ last_period history c k
-    unfolding after one_of
-    last_period-looked = last_period-alike after (one_of b) c k records-looked ∙ at b
-      where
-        at : (b : Bool) → last_period (cond b (history ++ Sent x c k ∷ []) history) c k ≡ last_period history c k
-        at true = last_period-sent history x c k
-        at false = refl
+    pub last_period-looked : last_period after c k ≡ last_period history c k
+    last_period-looked = either (λ h. last_period h c k) (λ _. last_period history c k) after sent history b (last_period-alike after one c k records-looked) (last_period-sent history x c k) refl
 
-    pub earliest-looked : earliest (history ++ Looked x j ∷ map (sent_record x) gs) c k ≡ cond b (earliest (history ++ Sent x c k ∷ []) c k) (earliest history c k)
-    unfolding after one_of
-    earliest-looked = earliest-alike after (one_of b) c k records-looked ∙ at b
-      where
-        at : (b : Bool) → earliest (cond b (history ++ Sent x c k ∷ []) history) c k ≡ cond b (earliest (history ++ Sent x c k ∷ []) c k) (earliest history c k)
-        at true = refl
-        at false = refl
+    pub earliest-looked : earliest after c k ≡ cond b (earliest sent c k) (earliest history c k)
+    earliest-looked = either (λ h. earliest h c k) (λ b. cond b (earliest sent c k) (earliest history c k)) after sent history b (earliest-alike after one c k records-looked) refl refl
 
-    pub sequence_number-looked : sequence_number (history ++ Looked x j ∷ map (sent_record x) gs) c k ≡ cond b ((sequence_number history c k + 1) % 65536) (sequence_number history c k)
-    unfolding after one_of
-    sequence_number-looked = sequence_number-alike after (one_of b) c k records-looked ∙ at b
-      where
-        at : (b : Bool) → sequence_number (cond b (history ++ Sent x c k ∷ []) history) c k ≡ cond b ((sequence_number history c k + 1) % 65536) (sequence_number history c k)
-        at true = sequence_sent history x c k
-        at false = refl
+    pub sequence_number-looked : sequence_number after c k ≡ cond b ((sequence_number history c k + 1) % 65536) (sequence_number history c k)
+    sequence_number-looked =
+        either (λ h. sequence_number h c k) (λ b. cond b ((sequence_number history c k + 1) % 65536) (sequence_number history c k)) after sent history b
+        (sequence_number-alike after one c k records-looked) (sequence_sent history x c k) refl
 
 -- records that decide nothing
 pub standing-quiet : (history more : List Record) → list_any is_decision more ≡ false → standing (history ++ more) ≡ standing history

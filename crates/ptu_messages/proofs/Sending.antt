@@ -23,7 +23,7 @@ use Rattle.ptu_messages.specs.declared.message.Body.{Body}
 use Rattle.ptu_messages.specs.declared.message.Body.TheVariants.{Sync, DelayReq, FollowUp, DelayResp, Announce, Signaling, Ignored}
 use Rattle.ptu_messages.specs.declared.message.Message.{Message}
 use Rattle.ptu_messages.specs.Tlvs.{AreSpelled}
-use Rattle.ptu_messages.specs.Message.{HasAnnounceWidths, HasBodyWidths, HasStampWidths, IsBodyOf, announce_at, stamp_at}
+use Rattle.ptu_messages.specs.Message.{HasAnnounceWidths, HasBodyWidths, HasStampWidths, IsBodyOf, SpellsBody, SpellsMessage, announce_at, least_length, stamp_at}
 use Rattle.ptu_messages.specs.Sent.{AlwaysSpells, IsFixed, IsFixedBody, sent_announce, sent_body, sent_message, sent_stamp, signaling}
 
 -- ---- the header, and the parts behind it
@@ -71,43 +71,21 @@ announce_behind header n body rest wide = λ i. record {
 
 -- ---- messages of a fixed length
 
+-- where the header comes first and the octets behind it are those of the body
+fixed_spelled : (header : Header) (body : Body) (n : ℕ) (rest : List ℕ) → n ≡ 34 + length (sent_body body) → AlwaysSpellsHeader (sent_header header n) header n
+    → least_length header.message_type ≤ n → IsBodyOf header.message_type body → SpellsBody ((sent_header header n ++ sent_body body) ++ rest) n body
+    → SpellsMessage ((sent_header header n ++ sent_body body) ++ rest) (record { header = header; body = body })
+fixed_spelled header body n rest e again least kind behind = record { n = n; header = header_spelled header n (sent_body body) rest again e; least = least; kind = kind; body = behind }
+
 pub fixed_spells : (header : Header) (body : Body) (n : ℕ) → n ≡ 34 + length (sent_body body) → AlwaysSpellsHeader (sent_header header n) header n
     → IsBodyOf header.message_type body → IsFixedBody body → HasBodyWidths body → AlwaysSpells (sent_header header n ++ sent_body body) (record { header = header; body = body })
-fixed_spells header (Sync stamp) n e again kind fixed wide rest = record {
-  n = n;
-  header = header_spelled header n (sent_stamp stamp) rest again e;
-  least = rw kind (omega arith);
-  kind = kind;
-  body = sym (stamp_behind header n stamp rest wide);
-}
-fixed_spells header (DelayReq stamp) n e again kind fixed wide rest = record {
-  n = n;
-  header = header_spelled header n (sent_stamp stamp) rest again e;
-  least = rw kind (omega arith);
-  kind = kind;
-  body = sym (stamp_behind header n stamp rest wide);
-}
-fixed_spells header (FollowUp stamp) n e again kind fixed wide rest = record {
-  n = n;
-  header = header_spelled header n (sent_stamp stamp) rest again e;
-  least = rw kind (omega arith);
-  kind = kind;
-  body = sym (stamp_behind header n stamp rest wide);
-}
-fixed_spells header (DelayResp stamp requester) n e again kind fixed wide rest = record {
-  n = n;
-  header = header_spelled header n (sent_stamp stamp ++ sent_identity requester) rest again e;
-  least = rw kind (omega arith);
-  kind = kind;
-  body = (sym (stamp_behind header n stamp (sent_identity requester ++ rest) wide.0), sym (requester_behind header n stamp requester rest wide.1));
-}
-fixed_spells header (Announce body) n e again kind fixed wide rest = record {
-  n = n;
-  header = header_spelled header n (sent_announce body) rest again e;
-  least = rw kind (omega arith);
-  kind = kind;
-  body = sym (announce_behind header n body rest wide);
-}
+fixed_spells header (Sync stamp) n e again kind fixed wide rest = fixed_spelled header (Sync stamp) n rest e again (rw kind (omega arith)) kind (sym (stamp_behind header n stamp rest wide))
+fixed_spells header (DelayReq stamp) n e again kind fixed wide rest = fixed_spelled header (DelayReq stamp) n rest e again (rw kind (omega arith)) kind (sym (stamp_behind header n stamp rest wide))
+fixed_spells header (FollowUp stamp) n e again kind fixed wide rest = fixed_spelled header (FollowUp stamp) n rest e again (rw kind (omega arith)) kind (sym (stamp_behind header n stamp rest wide))
+fixed_spells header (DelayResp stamp requester) n e again kind fixed wide rest =
+    fixed_spelled header (DelayResp stamp requester) n rest e again (rw kind (omega arith)) kind
+    (sym (stamp_behind header n stamp (sent_identity requester ++ rest) wide.0), sym (requester_behind header n stamp requester rest wide.1))
+fixed_spells header (Announce body) n e again kind fixed wide rest = fixed_spelled header (Announce body) n rest e again (rw kind (omega arith)) kind (sym (announce_behind header n body rest wide))
 fixed_spells header (Signaling target tlvs) n e again kind fixed wide rest = absurd fixed
 fixed_spells header Ignored n e again kind fixed wide rest = absurd fixed
 

@@ -79,3 +79,6 @@ number_at-lt octets place (suc count) fits =
       | inr le ↦ rw (get_or_past octets (place + count) 0 le) (omega arith)
     ] in
     omega (arith, before, here)
+
+-- what is written is read
+pub ruleset written_is_read = (length-octets_of, number_at-octets_of, number_at-append, number_at-behind, number_at-lt)

@@ -16,3 +16,6 @@ signed_at-octets_16 z fits = ap (cast_signed w16) (number_at-octets_of 2 (cast_u
 
 pub signed_at-octets_64 : (z : ℤ) → FitsSigned w64 z → signed_at w64 (signed_octets w64 z) 0 ≡ z
 signed_at-octets_64 z fits = ap (cast_signed w64) (number_at-octets_of 8 (cast_unsigned w64 z) (search (arith, Fits-of_z, fits))) ∙ to_z-of_z w64 z fits
+
+-- and with a sign
+pub ruleset signs_are_read = (signed_at-octets_64, signed_at-octets_16, signed_at-octets_8)

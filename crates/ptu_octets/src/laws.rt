@@ -8,6 +8,7 @@ ghost use Rattle.ptu_octets.specs.Number.{number_at, octets_of, signed_at, signe
 ghost use Rattle.ptu_octets.specs.Samples.{NumbersAreRead, SignsAreRead, NibblesAreRead};
 
 /// What was written is read at its place, whatever stands before and behind it.
+#[tactic(auto, using(crate::proofs::Numbers::written_is_read))]
 pub fn written_is_read()
     ensures many { (count n : ℕ) → length (octets_of count n) ≡ count }
     ensures again { (count n : ℕ) → n < 256 ^ count → number_at (octets_of count n) 0 count ≡ n }
@@ -22,6 +23,7 @@ pub fn written_is_read()
 {}
 
 /// A sign is two's complement, and what was written is read.
+#[tactic(auto, using(crate::proofs::Signs::signs_are_read))]
 pub fn twos_complement()
     ensures low { (n : ℕ) → n < 2 ^ 63 → cast_signed w64 n ≡ pos n }
     ensures high { (n : ℕ) → 2 ^ 63 ≤ n → n < 2 ^ 64 → cast_signed w64 n +ℤ pos (2 ^ 64) ≡ pos n }

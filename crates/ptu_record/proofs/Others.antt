@@ -97,3 +97,6 @@ requests_one wants m n L x differ =
 
 pub cancels_to_one : (m n : ℕ) (L : Record) (x : ℕ) → m ≢ n → AllByRecursion (λ e. concerns m e ≡ false) (flat_map (sending_entries x) (cancels_to L x n))
 cancels_to_one m n L x differ = cancels_one m n (signaling_number (record_of n L)) x (live_kinds (record_of n L) x) (ne_eqb n m (λ e. differ (sym e)))
+
+-- what the entries of others leave
+pub ruleset others = (event_moment_over, event_moment-push, record_of-others, cancels_to_one)

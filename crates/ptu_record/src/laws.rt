@@ -25,6 +25,7 @@ ghost use Rattle.ptu_record.specs.Wants.{is_kind};
 ghost use Rattle.ptu_record.specs.Grants.{grant, grant_change, is_live, live_kinds, run_start};
 
 /// The moment of an event, and the record of one master.
+#[tactic(auto, using(crate::proofs::Others::others))]
 pub fn records()
     ensures not_before { (L : Record) (t : ℕ) → t ≤ event_moment L t }
     ensures not_before_an_entry { (L M : Record) (e : Entry) (t : ℕ) →

@@ -2,9 +2,4 @@ use Rattle.ptu_history.proofs.Held.{force-before, force-now, held-before, held-n
 use Rattle.ptu_history.proofs.laws.held_over_time.Goals as goal
 
 pub returns : goal.returns
-returns _ = record {
-  held_now = held-now;
-  held_before = held-before;
-  force_now = force-now;
-  force_before = force-before;
-}
+returns _ = search (held-now, held-before, force-now, force-before)

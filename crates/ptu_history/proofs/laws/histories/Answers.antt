@@ -2,9 +2,4 @@ use Rattle.ptu_history.proofs.Histories.{history-event, history-none, outcomes-e
 use Rattle.ptu_history.proofs.laws.histories.Goals as goal
 
 pub returns : goal.returns
-returns _ = record {
-  none = history-none;
-  event = history-event;
-  no_outcome = outcomes-none;
-  outcome = outcomes-event;
-}
+returns _ = search (history-none, history-event, outcomes-none, outcomes-event)

@@ -2,9 +2,4 @@ use Rattle.ptu_history.proofs.Decisions.{live-ended, live-granted, live-shed, li
 use Rattle.ptu_history.proofs.laws.last_decision_decides.Goals as goal
 
 pub returns : goal.returns
-returns _ = record {
-  granted = live-granted;
-  ended = live-ended;
-  shed = live-shed;
-  undecided = live-undecided;
-}
+returns _ = search (live-granted, live-ended, live-shed, live-undecided)

@@ -2,8 +2,4 @@ use Rattle.ptu_history.proofs.Strangers.{same_lease-other_client, same_lease-oth
 use Rattle.ptu_history.proofs.laws.leases.Goals as goal
 
 pub returns : goal.returns
-returns _ = record {
-  other_client = same_lease-other_client;
-  other_kind = same_lease-other_kind;
-  own = same_lease-own;
-}
+returns _ = search (same_lease-other_client, same_lease-other_kind, same_lease-own)

@@ -2,12 +2,4 @@ use Rattle.ptu_history.proofs.Runs.{chain-fixed, chain-run, root-fixed, root-non
 use Rattle.ptu_history.proofs.laws.runs.Goals as goal
 
 pub returns : goal.returns
-returns _ = record {
-  root_run = root-run;
-  root = root-fixed;
-  sequence = sequence_number-fixed;
-  chain_run = chain-run;
-  chain = chain-fixed;
-  sent = sent_in_chain-fixed;
-  none = root-none;
-}
+returns _ = search (root-run, root-fixed, sequence_number-fixed, chain-run, chain-fixed, sent_in_chain-fixed, root-none)

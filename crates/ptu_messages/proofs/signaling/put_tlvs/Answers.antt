@@ -28,18 +28,7 @@ loop-member-preserved g c =
     (c.to_tlv.ensures ∙ ap g.T.ToTlv.tlv c.member-item.is)
     c.write_tlv-count.ensures.again (omega (arith, c.told-out)) c.loop-member-test.true c.loop-member.invariant c.write_tlv-count.ensures.size c.write_tlv-count.ensures.octets few c.put.ensures
 
-pub returns-clause-size : goal.returns-clause-size
-returns-clause-size g c =
-    (IsPut-all g.T.ToTlv.tlv c.args.out.now c.loop-member.out c.loop-member.size c.loop-member.member-index c.args.members.now c.loop-member-test.false c.loop-member.auto.member-index-end c.loop-member.invariant).size_is
-
-pub returns-clause-within : goal.returns-clause-within
-returns-clause-within g c =
-    (IsPut-all g.T.ToTlv.tlv c.args.out.now c.loop-member.out c.loop-member.size c.loop-member.member-index c.args.members.now c.loop-member-test.false c.loop-member.auto.member-index-end c.loop-member.invariant).within
-
-pub returns-clause-octets : goal.returns-clause-octets
-returns-clause-octets g c =
-    (IsPut-all g.T.ToTlv.tlv c.args.out.now c.loop-member.out c.loop-member.size c.loop-member.member-index c.args.members.now c.loop-member-test.false c.loop-member.auto.member-index-end c.loop-member.invariant).octets
-
-pub returns-clause-spelled : goal.returns-clause-spelled
-returns-clause-spelled g c =
-    (IsPut-all g.T.ToTlv.tlv c.args.out.now c.loop-member.out c.loop-member.size c.loop-member.member-index c.args.members.now c.loop-member-test.false c.loop-member.auto.member-index-end c.loop-member.invariant).spelled
+pub returns : goal.returns
+returns g c =
+    let put = IsPut-all g.T.ToTlv.tlv c.args.out.now c.loop-member.out c.loop-member.size c.loop-member.member-index c.args.members.now c.loop-member-test.false c.loop-member.auto.member-index-end c.loop-member.invariant in
+    record { size = put.size_is; within = put.within; octets = put.octets; spelled = put.spelled }
