@@ -17,6 +17,7 @@ use ptu_outside::{Sink, write_whole};
 use ptu_show::LabFault;
 use ptu_texts::OctetsText;
 use ptu_tlvs::{Ask, Tlv};
+use ptu_units::sizes::LONGEST_SIGNALING;
 use std::alloc::Global;
 use std::fmt;
 
@@ -75,7 +76,7 @@ fn log_from(x: u64) -> i8
 // Writes the Signaling in which a client asks for Sync at this logarithm for 300 s to the front of
 // `out`, and answers its size in octets.
 #[tactic(auto, unfolding(crate::specs::Generated::request_of))]
-fn write_request(client: u64, log: i8, out: &mut [u8; 428]) -> usize
+fn write_request(client: u64, log: i8, out: &mut [u8; LONGEST_SIGNALING]) -> usize
     requires { client < 2000 }
     ensures size { result ≤ 428 }
     ensures octets { take result out.new ≡ request_of client log }
@@ -145,7 +146,7 @@ fn put_client<K: Sink>(alloc: Global, number: u64, x: u64, sink: &mut K) -> Resu
     ensures cause { IfErr result IsWriteOrMemory }
     ensures counts { CountsWrite result (K.faults sink.old) (K.faults sink.new) }
 {
-    let mut octets = [0; 428];
+    let mut octets = [0; LONGEST_SIGNALING];
     let size = write_request(number, log_from(x), &mut octets);
     let datagram = OctetsText(&octets[..size]);
     put_line(alloc, &LoadLine::Client { number, datagram }, sink)

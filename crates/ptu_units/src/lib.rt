@@ -5,6 +5,7 @@ mod kind;
 mod log;
 mod memory;
 mod moment;
+pub mod sizes;
 mod stamp;
 pub mod timescale;
 
