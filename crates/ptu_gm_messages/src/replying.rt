@@ -12,10 +12,8 @@ use ptu_messages::{ToTlv, write_signaling_of};
 use ptu_profile::GmConfig;
 use ptu_tlvs::Tlv;
 use ptu_units::Kind;
+use ptu_units::message_types::SIGNALING;
 use ptu_units::sizes::LONGEST_SIGNALING;
-
-/// The messageType of a Signaling.
-const SIGNALING: u8 = 12;
 
 #[tactic(auto, unfolding(ptu_messages::specs::Sent::octets_sent))]
 /// Writes the reply with these answers, to this port and with this sequenceId, to the front of

@@ -11,12 +11,13 @@ ghost use Rattle.ptu_load.specs.Generated.{log_by, number_after, request_of};
 ghost use Rattle.ptu_load.specs.Whole.{LoadsAreWhole};
 ghost use Rattle.ptu_load.specs.Samples.{LinesAre, LinesAreCounted, LogarithmsAre, QuotientsAre};
 
-use ptu_header::{Header, PortIdentity};
+use ptu_header::{Header, PortIdentity, flags};
 use ptu_messages::write_signaling;
 use ptu_outside::{Sink, write_whole};
 use ptu_show::LabFault;
 use ptu_texts::OctetsText;
 use ptu_tlvs::{Ask, Tlv};
+use ptu_units::message_types::SIGNALING;
 use ptu_units::sizes::LONGEST_SIGNALING;
 use std::alloc::Global;
 use std::fmt;
@@ -86,9 +87,9 @@ fn write_request(client: u64, log: i8, out: &mut [u8; LONGEST_SIGNALING]) -> usi
         port: 1,
     };
     let header = Header {
-        message_type: 12,
+        message_type: SIGNALING,
         domain: 4,
-        flags: 0x0400,
+        flags: flags::UNICAST,
         correction: 0,
         source,
         sequence: 0,

@@ -4,6 +4,7 @@
 mod kind;
 mod log;
 mod memory;
+pub mod message_types;
 mod moment;
 pub mod sizes;
 mod stamp;
