@@ -24,6 +24,7 @@ use ptu_lines::LineCause;
 use ptu_report::{Reporter, Texts};
 use ptu_trail::NoCause;
 use ptu_units::OutOfMemory;
+use ptu_units::sizes::LONGEST_DATAGRAM;
 use std::alloc::Global;
 use std::marker::Model;
 
@@ -227,7 +228,7 @@ impl Reporter for Auditor {
         line: &[u8],
         _: &mut Texts,
     ) -> Result<Option<AuditCause>, OutOfMemory> {
-        let mut buffer = [0; 2048];
+        let mut buffer = [0; LONGEST_DATAGRAM];
         match read_line(line, &mut buffer) {
             None => Ok(Some(AuditCause::Form)),
             Some(

@@ -11,6 +11,7 @@ use crate::words::{
 };
 use ptu_history::Client;
 use ptu_lines::WordList;
+use ptu_units::sizes::LONGEST_DATAGRAM;
 
 #[tactic(auto, unfolding(crate::specs::Entry::granted_in))]
 fn granted(line: &WordList) -> Option<Decision>
@@ -180,7 +181,7 @@ fn shed<'a>(line: &WordList) -> Option<Entry<'a>>
 }
 
 #[tactic(auto, unfolding(crate::specs::Entry::send_in))]
-fn send<'a>(line: &WordList, buffer: &'a mut [u8; 2048]) -> Option<Entry<'a>>
+fn send<'a>(line: &WordList, buffer: &'a mut [u8; LONGEST_DATAGRAM]) -> Option<Entry<'a>>
     ensures { result ≡ specs.send_in line.now }
 {
     fitting("NUM send NUM IP IP CHANNEL WORD", line)?;
@@ -309,7 +310,7 @@ fn plain_entry<'a>(line: &WordList) -> Option<Entry<'a>>
 
 // What stands behind the number.
 #[tactic(auto, unfolding(crate::specs::Entry::entry_of))]
-fn entry<'a>(line: &WordList, buffer: &'a mut [u8; 2048]) -> Option<Entry<'a>>
+fn entry<'a>(line: &WordList, buffer: &'a mut [u8; LONGEST_DATAGRAM]) -> Option<Entry<'a>>
     ensures { result ≡ specs.entry_of line.now }
 {
     match send(line, buffer) {
@@ -319,7 +320,7 @@ fn entry<'a>(line: &WordList, buffer: &'a mut [u8; 2048]) -> Option<Entry<'a>>
 }
 
 #[tactic(auto, unfolding(crate::specs::Entry::numbered_in))]
-fn numbered<'a>(line: &WordList, buffer: &'a mut [u8; 2048]) -> Option<ReportLine<'a>>
+fn numbered<'a>(line: &WordList, buffer: &'a mut [u8; LONGEST_DATAGRAM]) -> Option<ReportLine<'a>>
     ensures { result ≡ specs.numbered_in line.now }
 {
     let number = number_field(line, 1)?;
@@ -342,7 +343,7 @@ fn end<'a>(line: &WordList) -> Option<ReportLine<'a>>
 /// a datagram that was sent are put into the buffer; after any other line its content is not said.
 /// No memory is taken.
 #[tactic(auto, unfolding(crate::specs::Entry::line_of))]
-pub fn read_line<'a>(line: &[u8], buffer: &'a mut [u8; 2048]) -> Option<ReportLine<'a>>
+pub fn read_line<'a>(line: &[u8], buffer: &'a mut [u8; LONGEST_DATAGRAM]) -> Option<ReportLine<'a>>
     ensures { result ≡ specs.line_of line.now }
 {
     let words = WordList::new(line);

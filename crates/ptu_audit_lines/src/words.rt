@@ -9,6 +9,7 @@ ghost use Rattle.ptu_lines.specs.Words.{int_within, ip_of, number_within, octets
 ghost use Rattle.ptu_audit_lines.specs.Words as forms;
 
 use ptu_lines::{LentOctets, WordList, clock, ip, log, number, octets};
+use ptu_units::sizes::LONGEST_DATAGRAM;
 use ptu_units::{Kind, Log};
 
 /// A number.
@@ -111,7 +112,7 @@ fn is_lower(word: &[u8]) -> bool
     word.iter().all(|octet| !(65 <= *octet && *octet <= 90))
 }
 
-fn hex_of<'a>(word: &[u8], buffer: &'a mut [u8; 2048]) -> Option<LentOctets<'a>>
+fn hex_of<'a>(word: &[u8], buffer: &'a mut [u8; LONGEST_DATAGRAM]) -> Option<LentOctets<'a>>
     ensures { result ≡ forms.hex_of word.now }
 {
     if !is_lower(word) {
@@ -125,7 +126,7 @@ fn hex_of<'a>(word: &[u8], buffer: &'a mut [u8; 2048]) -> Option<LentOctets<'a>>
 pub fn hex_field<'a>(
     line: &WordList,
     k: usize,
-    buffer: &'a mut [u8; 2048],
+    buffer: &'a mut [u8; LONGEST_DATAGRAM],
 ) -> Option<LentOctets<'a>>
     ensures { result ≡ forms.field k forms.hex_of line.now }
 {

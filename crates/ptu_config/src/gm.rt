@@ -1,5 +1,5 @@
 //! The settings of a grandmaster.
-ghost use Rattle.std.specs.Prelude.{◌≡◌, ◌<◌, ◌≤◌, None, Some, IsSome, IfSome, IfOk, IfErr, OnOk, option_map};
+ghost use Rattle.std.specs.Prelude.{◌≡◌, ◌<◌, None, Some, IsSome, IfSome, IfOk, IfErr, OnOk, option_map};
 ghost use Rattle.toml.specs.View.{table_view};
 ghost use Rattle.ptu_config.specs.Rules.{gm_keys, setting_of, number};
 ghost use Rattle.ptu_config.specs.Documents.{IsSaid, Reads, Refuses, Says, first_bad, refusal_of};

@@ -14,6 +14,7 @@ use ptu_config::GmSettings;
 use ptu_grandmaster::Gm;
 use ptu_outside::{Channel, Clock, Failed, Port};
 use ptu_units::OutOfMemory;
+use ptu_units::sizes::LONGEST_DATAGRAM;
 
 /// How many datagrams of a channel a round takes at most.
 const MOST: u32 = 64;
@@ -108,7 +109,7 @@ impl<P: Port, C: Clock> Daemon<P, C> {
     fn receive(
         &mut self,
         channel: Channel,
-        buf: &mut [u8; 2048],
+        buf: &mut [u8; LONGEST_DATAGRAM],
     ) -> Result<Option<(u32, usize)>, Failed>
         ensures { Received P.Port C.Clock channel self.old self.new buf.new result }
     {
@@ -119,7 +120,11 @@ impl<P: Port, C: Clock> Daemon<P, C> {
     }
 
     // Takes the next datagram of the channel.
-    fn take_next(&mut self, channel: Channel, buf: &mut [u8; 2048]) -> Result<Next, OutOfMemory>
+    fn take_next(
+        &mut self,
+        channel: Channel,
+        buf: &mut [u8; LONGEST_DATAGRAM],
+    ) -> Result<Next, OutOfMemory>
         ensures { IfOk result (λ next.
             CameTo P.Port C.Clock channel self.old self.new next) }
     {
@@ -136,7 +141,7 @@ impl<P: Port, C: Clock> Daemon<P, C> {
             TookChannel P.Port C.Clock channel self.old self.new tally) }
         ensures small { IfOk result (λ tally. IsSmall 64 tally) }
     {
-        let mut buf = [0; 2048];
+        let mut buf = [0; LONGEST_DATAGRAM];
         let mut tally = Tally::default();
         for _ in 0..MOST {
             match self.take_next(channel, &mut buf)? {

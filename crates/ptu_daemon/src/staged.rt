@@ -9,6 +9,7 @@ use ptu_config::GmSettings;
 use ptu_outside::{
     Arrival, Channel, Datagram, Failed, Host, MemClock, MemPort, MemSink, Opened, Port,
 };
+use ptu_units::sizes::LONGEST_DATAGRAM;
 use std::alloc::Global;
 use std::process::Abort;
 use std::sync::Wait;
@@ -80,11 +81,14 @@ impl Port for StagedPort {
         }
     }
 
-    fn receive(&mut self, buf: &mut [u8; 2048]) -> Result<Option<(u32, usize)>, Failed> {
+    fn receive(
+        &mut self,
+        buf: &mut [u8; LONGEST_DATAGRAM],
+    ) -> Result<Option<(u32, usize)>, Failed> {
         match self.gives.pop() {
             Some(Given::Datagram(arrival)) => {
                 let bytes = arrival.bytes.bytes();
-                let size = bytes.len().min(2048);
+                let size = bytes.len().min(LONGEST_DATAGRAM);
                 buf[..size].copy_from_slice(&bytes[..size]);
                 Ok(Some((arrival.ip, size)))
             }

@@ -12,9 +12,8 @@ use ptu_messages::{ToTlv, write_signaling_of};
 use ptu_profile::GmConfig;
 use ptu_tlvs::Tlv;
 use ptu_units::Kind;
-
-/// The messageType of a Signaling.
-const SIGNALING: u8 = 12;
+use ptu_units::message_types::SIGNALING;
+use ptu_units::sizes::LONGEST_SIGNALING;
 
 #[tactic(auto, unfolding(ptu_messages::specs::Sent::octets_sent))]
 /// Writes the reply with these answers, to this port and with this sequenceId, to the front of
@@ -25,7 +24,7 @@ pub fn write_reply<T: ToTlv>(
     to: &PortIdentity,
     sequence: u16,
     answers: &[T],
-    out: &mut [u8; 428],
+    out: &mut [u8; LONGEST_SIGNALING],
 ) -> usize
     requires few { length answers.now ≤ 32 }
     requires sendable { All IsSendable (map T.tlv answers.now) }
@@ -49,7 +48,7 @@ pub fn cancel_of(
     client: &Client,
     kind: Kind,
     sequence: u16,
-    out: &mut [u8; 428],
+    out: &mut [u8; LONGEST_SIGNALING],
 ) -> usize
     ensures octets { take result out.new
         ≡ octets_sent (signaling_of config.now (identity_of client.now) sequence

@@ -16,6 +16,7 @@ use ptu_messages::ToTlv;
 use ptu_outside::{Channel, Port, hand};
 use ptu_profile::GmConfig;
 use ptu_tlvs::{Ask, Tlv};
+use ptu_units::sizes::LONGEST_SIGNALING;
 
 impl ToTlv for Outcome {
     ghost tlv = { λ outcome. answer_to (decision_seen outcome) };
@@ -48,7 +49,7 @@ pub fn reply_of(
     to: &PortIdentity,
     sequence: u16,
     outcomes: &Outcomes,
-    out: &mut [u8; 428],
+    out: &mut [u8; LONGEST_SIGNALING],
 ) -> usize
     requires { AreAnswerable (map item_seen outcomes.now) }
     ensures octets { take result out.new
@@ -79,7 +80,7 @@ pub(crate) fn send_reply<P: Port>(
     if outcomes.list().is_empty() {
         return Reply::Nothing;
     }
-    let mut out = [0; 428];
+    let mut out = [0; LONGEST_SIGNALING];
     let size = reply_of(config, &header.source, header.sequence, outcomes, &mut out);
     match hand(port, from, Channel::General, &out[..size]) {
         Ok(()) => Reply::Sent,

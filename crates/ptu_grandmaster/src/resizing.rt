@@ -19,6 +19,7 @@ use ptu_admit::{Shed, ShedList, resize};
 use ptu_gm_messages::cancel_of;
 use ptu_outside::{Channel, Failed, Port, Sends, hand};
 use ptu_profile::GmConfig;
+use ptu_units::sizes::LONGEST_SIGNALING;
 use ptu_units::{Moment, OutOfMemory};
 
 /// What a change of capacity did.
@@ -45,7 +46,7 @@ fn send_cancel<P: Port>(
         (cancel_to config.now shed.now.client shed.now.kind sequence ∷ [])
         (sent_in result) (failed_in result) }
 {
-    let mut out = [0; 428];
+    let mut out = [0; LONGEST_SIGNALING];
     let size = cancel_of(config, &shed.client, shed.kind, sequence, &mut out);
     hand(port, shed.client.ip, Channel::General, &out[..size])
 }

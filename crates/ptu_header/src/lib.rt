@@ -2,6 +2,7 @@
 #![tactic(auto)]
 
 mod fault;
+pub mod flags;
 mod header;
 mod laws;
 mod reading;

@@ -3,6 +3,7 @@ ghost use Rattle.ptu_header.specs.Header.{HasWidths, AlwaysSpellsHeader};
 ghost use Rattle.ptu_header.specs.Sent.{control_of, sent_header};
 
 use crate::header::Header;
+use ptu_units::message_types::{DELAY_REQ, DELAY_RESP, FOLLOW_UP, SYNC};
 
 /// minorVersionPTP 1 and versionPTP 2.
 const SENT_VERSION: u8 = 0x12;
@@ -15,10 +16,10 @@ fn control(message_type: u8) -> u8
     ensures { result ≡ control_of message_type }
 {
     match message_type {
-        0 => 0,
-        1 => 1,
-        8 => 2,
-        9 => 3,
+        SYNC => 0,
+        DELAY_REQ => 1,
+        FOLLOW_UP => 2,
+        DELAY_RESP => 3,
         _ => 5,
     }
 }

@@ -22,6 +22,7 @@ use ptu_report_lines::{ReportLine, Statement};
 use ptu_script::{Cause, read_command};
 use ptu_show::LabFault;
 use ptu_units::OutOfMemory;
+use ptu_units::sizes::LONGEST_DATAGRAM;
 use std::alloc::Global;
 use std::marker::Model;
 
@@ -40,7 +41,7 @@ impl Model for CourseSoFar {
 #[derive(Drop)]
 pub struct Replayer {
     pub lab: Lab,
-    pub line_room: [u8; 2048],
+    pub line_room: [u8; LONGEST_DATAGRAM],
     pub sent_room: Vec<u8>,
 }
 
@@ -150,7 +151,7 @@ pub fn replay<S: Source, K: Sink>(
     let lab = Lab::new(alloc, stock);
     let mut replayer = Replayer {
         lab,
-        line_room: [0; 2048],
+        line_room: [0; LONGEST_DATAGRAM],
         sent_room: Vec::new(alloc),
     };
     match report(alloc, &mut replayer, source, sink) {

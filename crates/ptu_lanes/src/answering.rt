@@ -22,6 +22,7 @@ use ptu_history::Client;
 use ptu_outside::{Channel, Port, Sends, hand};
 use ptu_profile::GmConfig;
 use ptu_shared::{Rates, Seat};
+use ptu_units::sizes::LONGEST_SIGNALING;
 use ptu_units::{Kind, Moment, OutOfMemory};
 use std::sync::Wait;
 use std::sync::ledger::Ledger;
@@ -121,7 +122,7 @@ fn send_reply<P: Port>(
     if outcomes.list().is_empty() {
         return Sends::none();
     }
-    let mut out = [0; 428];
+    let mut out = [0; LONGEST_SIGNALING];
     let size = reply_of(config, &header.source, header.sequence, outcomes, &mut out);
     Sends::of(hand(port, from, Channel::General, &out[..size]))
 }

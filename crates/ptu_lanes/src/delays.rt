@@ -16,6 +16,7 @@ use ptu_profile::GmConfig;
 use ptu_shard::Answered;
 use ptu_shared::{Rates, Shared};
 use ptu_units::OutOfMemory;
+use ptu_units::sizes::LONGEST_DATAGRAM;
 use std::alloc::Global;
 use std::sync::Wait;
 use std::sync::ledger::Ledger;
@@ -78,7 +79,7 @@ fn take_one<P: Port + Send, C: Clock, L: Rates, G: Ledger, R: Ledger, W: Wait>(
     service: &Service<'_, P, L, G, R, W>,
     port: &mut P,
     clock: &mut C,
-    buffer: &mut [u8; 2048],
+    buffer: &mut [u8; LONGEST_DATAGRAM],
 ) -> Result<(Delays, bool), OutOfMemory>
     requires { IsWithinLimits service.now.config.now }
     ensures most { IfOk result (λ r. r.0.sent + r.0.failed + r.0.missed ≤ 1) }
@@ -141,7 +142,7 @@ pub fn delay_round<P: Port + Send, C: Clock, L: Rates, G: Ledger, R: Ledger>(
         config,
     };
     let mut delays = IDLE;
-    let mut buffer = [0; 2048];
+    let mut buffer = [0; LONGEST_DATAGRAM];
     for _i in 0..MOST_DATAGRAMS {
         let (one, goes_on) = take_one(&service, port, clock, &mut buffer)?;
         delays.sent += one.sent;

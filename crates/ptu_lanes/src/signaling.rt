@@ -12,6 +12,7 @@ use ptu_outside::{Clock, Port};
 use ptu_profile::GmConfig;
 use ptu_shared::{Rates, Seat, Shared};
 use ptu_units::OutOfMemory;
+use ptu_units::sizes::LONGEST_DATAGRAM;
 use std::alloc::Global;
 use std::sync::Wait;
 use std::sync::ledger::Ledger;
@@ -44,7 +45,7 @@ fn take_one<P: Port + Send, C: Clock, L: Rates, G: Ledger, R: Ledger, W: Wait>(
     seat: &mut Seat<G, R>,
     port: &mut P,
     clock: &mut C,
-    buffer: &mut [u8; 2048],
+    buffer: &mut [u8; LONGEST_DATAGRAM],
 ) -> Result<(Control, bool), OutOfMemory>
     requires ledger { L.parts ≡ 4 }
     requires limits { IsWithinLimits service.now.config.now }
@@ -129,7 +130,7 @@ pub fn control_round<P: Port + Send, C: Clock, L: Rates, G: Ledger, R: Ledger>(
         config,
     };
     let mut control = IDLE;
-    let mut buffer = [0; 2048];
+    let mut buffer = [0; LONGEST_DATAGRAM];
     for _i in 0..MOST_DATAGRAMS {
         let (one, goes_on) = take_one(&service, seat, port, clock, &mut buffer)?;
         control.asks += one.asks;

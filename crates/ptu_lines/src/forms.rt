@@ -2,6 +2,8 @@ ghost use Rattle.std.specs.Prelude.{◌≡◌, ◌<◌, ◌≤◌, ◌^◌, ◌-
 ghost use Rattle.std.specs.Char.{digit_value, is_digit};
 ghost use Rattle.ptu_lines.specs.Words.{value_of, number_of, number_within, bytes_of, first_of_several, has_sign, int_within, log_within, ip_of, clock_of, octets_of};
 
+use ptu_units::sizes::LONGEST_DATAGRAM;
+
 /// The most digits of a NUM.
 const MOST_DIGITS: usize = 19;
 
@@ -141,7 +143,7 @@ pub fn clock(word: &[u8]) -> Option<u64>
 /// HEX: how many octets the word writes, put at the front of `out`, or `None` where the word is of
 /// another form: an even number of hexadecimal digits of either case, for 1 to 2048 octets, or `-`
 /// for none. After `None` the content of `out` is not said.
-pub fn octets(word: &[u8], out: &mut [u8; 2048]) -> Option<usize>
+pub fn octets(word: &[u8], out: &mut [u8; LONGEST_DATAGRAM]) -> Option<usize>
     ensures form { MatchOption (octets_of word.now) (result ≡ None)
         (λ octets. result ≡ Some (length octets)) }
     ensures octets { IfSome (octets_of word.now) (λ octets. take (length octets) out.new ≡ octets) }

@@ -11,12 +11,14 @@ ghost use Rattle.ptu_load.specs.Generated.{log_by, number_after, request_of};
 ghost use Rattle.ptu_load.specs.Whole.{LoadsAreWhole};
 ghost use Rattle.ptu_load.specs.Samples.{LinesAre, LinesAreCounted, LogarithmsAre, QuotientsAre};
 
-use ptu_header::{Header, PortIdentity};
+use ptu_header::{Header, PortIdentity, flags};
 use ptu_messages::write_signaling;
 use ptu_outside::{Sink, write_whole};
 use ptu_show::LabFault;
 use ptu_texts::OctetsText;
 use ptu_tlvs::{Ask, Tlv};
+use ptu_units::message_types::SIGNALING;
+use ptu_units::sizes::LONGEST_SIGNALING;
 use std::alloc::Global;
 use std::fmt;
 
@@ -75,7 +77,7 @@ fn log_from(x: u64) -> i8
 // Writes the Signaling in which a client asks for Sync at this logarithm for 300 s to the front of
 // `out`, and answers its size in octets.
 #[tactic(auto, unfolding(crate::specs::Generated::request_of))]
-fn write_request(client: u64, log: i8, out: &mut [u8; 428]) -> usize
+fn write_request(client: u64, log: i8, out: &mut [u8; LONGEST_SIGNALING]) -> usize
     requires { client < 2000 }
     ensures size { result ≤ 428 }
     ensures octets { take result out.new ≡ request_of client log }
@@ -85,9 +87,9 @@ fn write_request(client: u64, log: i8, out: &mut [u8; 428]) -> usize
         port: 1,
     };
     let header = Header {
-        message_type: 12,
+        message_type: SIGNALING,
         domain: 4,
-        flags: 0x0400,
+        flags: flags::UNICAST,
         correction: 0,
         source,
         sequence: 0,
@@ -145,7 +147,7 @@ fn put_client<K: Sink>(alloc: Global, number: u64, x: u64, sink: &mut K) -> Resu
     ensures cause { IfErr result IsWriteOrMemory }
     ensures counts { CountsWrite result (K.faults sink.old) (K.faults sink.new) }
 {
-    let mut octets = [0; 428];
+    let mut octets = [0; LONGEST_SIGNALING];
     let size = write_request(number, log_from(x), &mut octets);
     let datagram = OctetsText(&octets[..size]);
     put_line(alloc, &LoadLine::Client { number, datagram }, sink)

@@ -13,6 +13,7 @@ use crate::stamps::stamp;
 use crate::tlv_list::TlvList;
 use ptu_header::{PortIdentity, read_header};
 use ptu_tlvs::{Tlv, next_tlv};
+use ptu_units::message_types::{ANNOUNCE, DELAY_REQ, DELAY_RESP, FOLLOW_UP, SIGNALING, SYNC};
 use std::alloc::Global;
 use std::mem::replace;
 
@@ -24,9 +25,9 @@ fn least(message_type: u8) -> usize
     ensures { result ≡ least_length message_type }
 {
     match message_type {
-        0 | 1 | 8 | 12 => 44,
-        9 => 54,
-        11 => 64,
+        SYNC | DELAY_REQ | FOLLOW_UP | SIGNALING => 44,
+        DELAY_RESP => 54,
+        ANNOUNCE => 64,
         _ => 34,
     }
 }
@@ -73,12 +74,12 @@ fn read_body(
     ensures memory { result ≡ Err MessageFault.OutOfMemory → message_type ≡ 12 }
 {
     match message_type {
-        0 => Ok(Body::Sync(stamp(bytes, 34))),
-        1 => Ok(Body::DelayReq(stamp(bytes, 34))),
-        8 => Ok(Body::FollowUp(stamp(bytes, 34))),
-        9 => Ok(Body::DelayResp(stamp(bytes, 34), PortIdentity::at(bytes, 44))),
-        11 => Ok(Body::Announce(announce(bytes))),
-        12 => {
+        SYNC => Ok(Body::Sync(stamp(bytes, 34))),
+        DELAY_REQ => Ok(Body::DelayReq(stamp(bytes, 34))),
+        FOLLOW_UP => Ok(Body::FollowUp(stamp(bytes, 34))),
+        DELAY_RESP => Ok(Body::DelayResp(stamp(bytes, 34), PortIdentity::at(bytes, 44))),
+        ANNOUNCE => Ok(Body::Announce(announce(bytes))),
+        SIGNALING => {
             let tlvs = read_tlvs(replace(room, Vec::new(alloc)), bytes, said)?;
             Ok(Body::Signaling(PortIdentity::at(bytes, 34), TlvList::new(tlvs)))
         }

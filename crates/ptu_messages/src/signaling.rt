@@ -8,9 +8,10 @@ use crate::putting::put;
 use crate::to_tlv::ToTlv;
 use ptu_header::{Header, PortIdentity, write_header};
 use ptu_tlvs::{Tlv, write_tlv};
+use ptu_units::sizes::LONGEST_SIGNALING;
 
 // Puts the TLVs at octet 44 and behind, and says where they end.
-fn put_tlvs<T: ToTlv>(out: &mut [u8; 428], members: &[T]) -> usize
+fn put_tlvs<T: ToTlv>(out: &mut [u8; LONGEST_SIGNALING], members: &[T]) -> usize
     requires few { length members.now ≤ 32 }
     requires sendable { All IsSendable (map T.tlv members.now) }
     ensures size { result ≡ 44 + length (flat_map sent_tlv (map T.tlv members.now)) }
@@ -36,7 +37,7 @@ pub fn write_signaling_of<T: ToTlv>(
     header: &Header,
     target: &PortIdentity,
     members: &[T],
-    out: &mut [u8; 428],
+    out: &mut [u8; LONGEST_SIGNALING],
 ) -> usize
     requires message_type { header.now.message_type ≡ 12 }
     requires few { length members.now ≤ 32 }
@@ -65,7 +66,7 @@ pub fn write_signaling(
     header: &Header,
     target: &PortIdentity,
     tlvs: &[Tlv],
-    out: &mut [u8; 428],
+    out: &mut [u8; LONGEST_SIGNALING],
 ) -> usize
     requires message_type { header.now.message_type ≡ 12 }
     requires few { length tlvs.now ≤ 32 }

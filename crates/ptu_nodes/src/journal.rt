@@ -6,12 +6,13 @@ use ptu_outside::MemPort;
 use ptu_report::Texts;
 use ptu_report_lines::{Decision, ReportLine, SentLine, SentList, SentRef, Statement};
 use ptu_units::OutOfMemory;
+use ptu_units::sizes::LONGEST_SIGNALING;
 use std::alloc::Global;
 use std::marker::Model;
 use std::mem::swap;
 
 /// How many octets a Signaling has at most, with 32 TLVs.
-pub const SIGNALING: usize = 428;
+pub const SIGNALING: usize = LONGEST_SIGNALING;
 
 /// The report on a script in the making: the number of the script's line, the texts of that line,
 /// the datagrams that were sent so far, in order, and of how many asks it was said so far that they

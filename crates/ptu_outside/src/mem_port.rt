@@ -9,6 +9,7 @@ use crate::channel::Channel;
 use crate::failed::Failed;
 use crate::port::Port;
 use ptu_units::OutOfMemory;
+use ptu_units::sizes::LONGEST_DATAGRAM;
 use std::alloc::Global;
 use std::marker::Model;
 
@@ -183,7 +184,7 @@ fn add(
 }
 
 // Copies the datagram to the front, and gives its length.
-fn copy_out(arrival: &Arrival, buf: &mut [u8; 2048]) -> usize
+fn copy_out(arrival: &Arrival, buf: &mut [u8; LONGEST_DATAGRAM]) -> usize
     requires { length arrival.now.bytes ≤ 2048 }
     ensures length { result ≡ length arrival.now.bytes }
     ensures copied { take result buf.new ≡ arrival.now.bytes }
@@ -241,7 +242,7 @@ impl Port for MemPort {
         Ok(())
     }
 
-    fn receive(&mut self, buf: &mut [u8; 2048]) -> Result<Option<(u32, usize)>, Failed>
+    fn receive(&mut self, buf: &mut [u8; LONGEST_DATAGRAM]) -> Result<Option<(u32, usize)>, Failed>
         ensures within { IfOk result (λ got. IfSome got (λ a. a.1 ≤ 2048)) }
         ensures first { IfOk result (λ got. IfSome got (λ a. IsFirstTold (Some self.old.waiting)
             (record { ip = a.0; bytes = take a.1 buf.new }))) }

@@ -6,6 +6,7 @@ ghost use Rattle.ptu_outside.specs.Telling.{IfTold, IsFirstTold, IsEmptyTold, ap
 
 use crate::channel::Channel;
 use crate::failed::Failed;
+use ptu_units::sizes::LONGEST_DATAGRAM;
 
 /// Where datagrams are sent and received.
 pub trait Port: Drop {
@@ -56,7 +57,7 @@ pub trait Port: Drop {
 
     /// Takes the first datagram that waits: the sender's IPv4 address and the length. The datagram
     /// is that many octets from the front of `buf`. `None` where none waits.
-    fn receive(&mut self, buf: &mut [u8; 2048]) -> Result<Option<(u32, usize)>, Failed>
+    fn receive(&mut self, buf: &mut [u8; LONGEST_DATAGRAM]) -> Result<Option<(u32, usize)>, Failed>
         ensures within { IfOk result (λ got. IfSome got (λ a. a.1 ≤ 2048)) }
         ensures first { IfOk result (λ got. IfSome got (λ a. IsFirstTold (waiting self.old)
             (record { ip = a.0; bytes = take a.1 buf.new }))) }

@@ -15,6 +15,7 @@ use ptu_script::Cause;
 use ptu_script::fields::{ip_field, moment_field, number_field, octets_field};
 use ptu_script::setups::grandmaster;
 use ptu_units::Moment;
+use ptu_units::sizes::LONGEST_DATAGRAM;
 
 // `gm IP CLOCK PORT DOMAIN CLASS CAPACITY MAX`
 #[tactic(auto, unfolding(crate::specs::Command::fields_in))]
@@ -68,7 +69,7 @@ fn handed(line: &WordList) -> Result<(Moment, u32), Cause>
 
 // `rx T IP HEX`. The octets are put into the room.
 #[tactic(auto, unfolding(crate::specs::Command::fields_in))]
-fn rx<'a>(line: &WordList, room: &'a mut [u8; 2048]) -> Result<PoolCommand<'a>, Cause>
+fn rx<'a>(line: &WordList, room: &'a mut [u8; LONGEST_DATAGRAM]) -> Result<PoolCommand<'a>, Cause>
     ensures value { result ≡ fields_in verbs.Rx line.now }
     ensures within { IfOk result IsWithinLimits }
 {
@@ -81,7 +82,7 @@ fn rx<'a>(line: &WordList, room: &'a mut [u8; 2048]) -> Result<PoolCommand<'a>, 
 fn fields<'a>(
     verb: PoolVerb,
     line: &WordList,
-    room: &'a mut [u8; 2048],
+    room: &'a mut [u8; LONGEST_DATAGRAM],
 ) -> Result<PoolCommand<'a>, Cause>
     ensures value { result ≡ fields_in verb line.now }
     ensures within { IfOk result IsWithinLimits }
@@ -95,7 +96,7 @@ fn fields<'a>(
 }
 
 // The command of a line that is no comment.
-fn command<'a>(line: &[u8], room: &'a mut [u8; 2048]) -> Result<PoolCommand<'a>, Cause>
+fn command<'a>(line: &[u8], room: &'a mut [u8; LONGEST_DATAGRAM]) -> Result<PoolCommand<'a>, Cause>
     ensures value { result
         ≡ command_by (verb_named (unwrap_or (word_of line.now 1) [])) line.now }
     ensures within { IfOk result IsWithinLimits }
@@ -119,7 +120,7 @@ fn command<'a>(line: &[u8], room: &'a mut [u8; 2048]) -> Result<PoolCommand<'a>,
 #[tactic(auto, unfolding(crate::specs::Command::command_of))]
 pub fn read_pool_command<'a>(
     line: &[u8],
-    room: &'a mut [u8; 2048],
+    room: &'a mut [u8; LONGEST_DATAGRAM],
 ) -> Result<Option<PoolCommand<'a>>, Cause>
     ensures value { result ≡ command_of line.now }
     ensures within { IfOk result (λ command. IfSome command IsWithinLimits) }

@@ -21,6 +21,7 @@ use ptu_lines::LineCause;
 use ptu_outside::{Sink, Source};
 use ptu_report::{Ending, Reporter, Stop, Texts, report};
 use ptu_units::OutOfMemory;
+use ptu_units::sizes::LONGEST_DATAGRAM;
 use std::alloc::Global;
 use std::marker::Model;
 
@@ -39,7 +40,7 @@ impl Model for ToldSoFar {
 #[derive(Drop)]
 pub struct Pourer {
     pub pouring: Pouring,
-    pub room: [u8; 2048],
+    pub room: [u8; LONGEST_DATAGRAM],
 }
 
 impl Reporter for Pourer {
@@ -137,7 +138,7 @@ pub fn pools<S: Source, K: Sink>(
     let pouring = Pouring::new();
     let mut pourer = Pourer {
         pouring,
-        room: [0; 2048],
+        room: [0; LONGEST_DATAGRAM],
     };
     match report(alloc, &mut pourer, source, sink) {
         Ok(Ending::Whole { lines }) => Ok(lines),

@@ -3,12 +3,10 @@
 ghost use Rattle.std.specs.Prelude.{◌≡◌};
 ghost use Rattle.ptu_profile.specs.Headers.{unicast_header};
 
-use ptu_header::{Header, PortIdentity};
+use ptu_header::{Header, PortIdentity, flags};
 
-/// The flagField of every message: unicastFlag alone (IEEE 1588-2019 clause 13.3.2).
-const UNICAST_FLAG: u16 = 0x0400;
-
-/// The header of a message of this type that a port of a domain sends to one address.
+/// The header of a message of this type that a port of a domain sends to one address: the
+/// unicastFlag alone of the flags.
 pub(crate) fn header_from(
     source: PortIdentity,
     domain: u8,
@@ -21,7 +19,7 @@ pub(crate) fn header_from(
     Header {
         message_type,
         domain,
-        flags: UNICAST_FLAG,
+        flags: flags::UNICAST,
         correction,
         source,
         sequence,

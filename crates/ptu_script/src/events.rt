@@ -9,6 +9,7 @@ use crate::command::Command;
 use crate::fields::{ip_field, moment_field, number_field, octets_field, rule_field, truth_field};
 use ptu_lines::WordList;
 use ptu_units::Moment;
+use ptu_units::sizes::LONGEST_DATAGRAM;
 
 /// A datagram that was sent is handed to its node.
 #[tactic(auto, unfolding(crate::specs::Command::fields_in))]
@@ -137,7 +138,7 @@ fn handed(line: &WordList) -> Result<(Moment, u32, u32), Cause>
 
 /// A datagram is handed to a node. Its octets are put into the room.
 #[tactic(auto, unfolding(crate::specs::Command::fields_in))]
-pub fn rx<'a>(line: &WordList, room: &'a mut [u8; 2048]) -> Result<Command<'a>, Cause>
+pub fn rx<'a>(line: &WordList, room: &'a mut [u8; LONGEST_DATAGRAM]) -> Result<Command<'a>, Cause>
     ensures value { result ≡ fields_in verbs.Rx line.now }
     ensures within { IfOk result IsWithinLimits }
 {

@@ -11,6 +11,7 @@ ghost use Rattle.ptu_script.specs.Limits.{IsNamed};
 use crate::cause::Cause;
 use ptu_lines::{LentOctets, WordList, clock, ip, log, number, octets};
 use ptu_record::Rule;
+use ptu_units::sizes::LONGEST_DATAGRAM;
 use ptu_units::{Kind, Log, Moment};
 
 // The value that there is, or that the word with this number is outside its form.
@@ -166,7 +167,7 @@ pub fn truth_field(line: &WordList, k: u8) -> Result<bool, Cause>
 }
 
 // The number of octets that a word spells, which stand at the front of the room.
-fn octets_at(line: &WordList, k: u8, room: &mut [u8; 2048]) -> Option<usize>
+fn octets_at(line: &WordList, k: u8, room: &mut [u8; LONGEST_DATAGRAM]) -> Option<usize>
     ensures form { MatchOption (option_and_then octets_of (word_of line.now k)) (result ≡ None)
         (λ octets. (result ≡ Some (length octets)) × (take (length octets) room.new ≡ octets)) }
     ensures within { IfSome result (λ n. n ≤ 2048) }
@@ -178,7 +179,7 @@ fn octets_at(line: &WordList, k: u8, room: &mut [u8; 2048]) -> Option<usize>
 pub fn octets_field<'a>(
     line: &WordList,
     k: u8,
-    room: &'a mut [u8; 2048],
+    room: &'a mut [u8; LONGEST_DATAGRAM],
 ) -> Result<LentOctets<'a>, Cause>
     ensures value { result ≡ field k octets_of line.now }
     ensures within { IfOk result (λ octets. length octets ≤ 2048) }

@@ -11,9 +11,14 @@ use crate::events::{capacity, class, deliver, flag, judge, rx, stop, tick, turn}
 use crate::setups::{gm, master, new_slave};
 use crate::verb::Verb;
 use ptu_lines::WordList;
+use ptu_units::sizes::LONGEST_DATAGRAM;
 
 // What stands behind the first word.
-fn fields<'a>(verb: Verb, line: &WordList, room: &'a mut [u8; 2048]) -> Result<Command<'a>, Cause>
+fn fields<'a>(
+    verb: Verb,
+    line: &WordList,
+    room: &'a mut [u8; LONGEST_DATAGRAM],
+) -> Result<Command<'a>, Cause>
     ensures value { result ≡ fields_in verb line.now }
     ensures within { IfOk result IsWithinLimits }
 {
@@ -48,7 +53,7 @@ fn is_counted(verb: Verb, line: &WordList) -> bool
 }
 
 // The command of a line that is no comment.
-fn command<'a>(line: &[u8], room: &'a mut [u8; 2048]) -> Result<Command<'a>, Cause>
+fn command<'a>(line: &[u8], room: &'a mut [u8; LONGEST_DATAGRAM]) -> Result<Command<'a>, Cause>
     ensures value { result
         ≡ command_by (verb_named (unwrap_or (word_of line.now 1) [])) line.now }
     ensures within { IfOk result IsWithinLimits }
@@ -70,7 +75,10 @@ fn command<'a>(line: &[u8], room: &'a mut [u8; 2048]) -> Result<Command<'a>, Cau
 /// words than its command (`Count`), or the word with the least such number is outside its form or
 /// range (`Field`), in this order. No other cause is given.
 #[tactic(auto, unfolding(crate::specs::Command::command_of))]
-pub fn read_command<'a>(line: &[u8], room: &'a mut [u8; 2048]) -> Result<Option<Command<'a>>, Cause>
+pub fn read_command<'a>(
+    line: &[u8],
+    room: &'a mut [u8; LONGEST_DATAGRAM],
+) -> Result<Option<Command<'a>>, Cause>
     ensures value { result ≡ command_of line.now }
     ensures within { IfOk result (λ command. IfSome command IsWithinLimits) }
 {

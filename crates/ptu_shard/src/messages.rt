@@ -11,11 +11,9 @@ use ptu_header::Header;
 use ptu_messages::{AnnounceBody, Body, Message, write_fixed};
 use ptu_outside::{Channel, Failed, Port, hand};
 use ptu_profile::GmConfig;
+use ptu_units::message_types::DELAY_RESP;
 use ptu_units::timescale::stamp;
 use ptu_units::{Kind, Moment};
-
-/// The messageType of a Delay_Resp.
-const DELAY_RESP: u8 = 9;
 
 // The body of an Announce, whose timescale is the grandmaster's own.
 fn announce(config: &GmConfig, at: Moment) -> AnnounceBody

@@ -10,6 +10,7 @@ use ptu_messages::{Body, Message};
 use ptu_texts::{ClockText, IdentityText};
 use ptu_tlvs::{Ask, Tlv};
 use ptu_units::Stamp;
+use ptu_units::message_types::{ANNOUNCE, DELAY_REQ, DELAY_RESP, FOLLOW_UP, SIGNALING, SYNC};
 use std::fmt;
 
 // The name of a messageType, or its number.
@@ -21,12 +22,12 @@ impl fmt::Display for TypeText {
 
     fn fmt<W: fmt::Write>(&self, f: &mut fmt::Formatter<W>) -> fmt::Result {
         match self.0 {
-            0 => f.write_str("sync"),
-            1 => f.write_str("delay_req"),
-            8 => f.write_str("follow_up"),
-            9 => f.write_str("delay_resp"),
-            11 => f.write_str("announce"),
-            12 => f.write_str("signaling"),
+            SYNC => f.write_str("sync"),
+            DELAY_REQ => f.write_str("delay_req"),
+            FOLLOW_UP => f.write_str("follow_up"),
+            DELAY_RESP => f.write_str("delay_resp"),
+            ANNOUNCE => f.write_str("announce"),
+            SIGNALING => f.write_str("signaling"),
             message_type => write!(f, "type {message_type}"),
         }
     }

@@ -20,12 +20,13 @@ use ptu_report::{Ending, Reporter, Stop, Texts, report};
 use ptu_script::Cause;
 use ptu_texts::FaultText;
 use ptu_units::OutOfMemory;
+use ptu_units::sizes::LONGEST_DATAGRAM;
 use std::alloc::Global;
 
 // Decodes each line for itself, in room for a datagram.
 #[derive(Drop)]
 struct Decoder {
-    room: [u8; 2048],
+    room: [u8; LONGEST_DATAGRAM],
 }
 
 // Adds the line of a datagram.
@@ -137,7 +138,9 @@ pub fn show<S: Source, K: Sink>(
     ensures source_counts { CountsRead result (S.faults source.old) (S.faults source.new) }
     ensures sink_counts { CountsWrite result (K.faults sink.old) (K.faults sink.new) }
 {
-    let mut decoder = Decoder { room: [0; 2048] };
+    let mut decoder = Decoder {
+        room: [0; LONGEST_DATAGRAM],
+    };
     match report(alloc, &mut decoder, source, sink) {
         Ok(Ending::Whole { lines }) => Ok(lines),
         Ok(Ending::Refused { number, cause }) => Err(LabFault::Line { number, cause }),

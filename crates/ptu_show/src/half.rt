@@ -5,12 +5,9 @@ ghost use Rattle.ptu_messages.specs.Sent.{IsFixed};
 ghost use Rattle.ptu_show.specs.Halves.{has_two_steps, half_by, is_other, joined, key_of, sync_of};
 ghost use Rattle.ptu_show.specs.Waiting.{IsHalf, IsHeaderOf};
 
-use ptu_header::{Header, PortIdentity};
+use ptu_header::{Header, PortIdentity, flags};
 use ptu_messages::{Body, Message};
 use ptu_units::Stamp;
-
-/// twoStepFlag in the flagField (IEEE 1588-2019 table 37).
-const TWO_STEP_FLAG: u16 = 0x0200;
 
 /// What the halves of one Sync have in common.
 #[derive(Clone, Copy, Debug, PartialEq, Eq, Hash)]
@@ -59,7 +56,7 @@ pub struct Half {
 fn has_two_steps(header: &Header) -> bool
     ensures { result ≡ has_two_steps header.now }
 {
-    header.flags / TWO_STEP_FLAG % 2 == 1
+    header.flags / flags::TWO_STEP % 2 == 1
 }
 
 // The Sync in one step, of a Sync in two and its Follow_Up.
@@ -74,7 +71,7 @@ fn sync_of(sync: &Half, follow_up: &Half) -> Option<Message>
         .correction
         .checked_add(follow_up.header.correction)?;
     let header = Header {
-        flags: sync.header.flags - TWO_STEP_FLAG,
+        flags: sync.header.flags - flags::TWO_STEP,
         correction,
         ..sync.header
     };

@@ -24,6 +24,7 @@ use ptu_report::{Ending, Reporter, Stop, Texts, report};
 use ptu_script::Cause;
 use ptu_texts::OctetsText;
 use ptu_units::OutOfMemory;
+use ptu_units::sizes::LONGEST_DATAGRAM;
 use std::alloc::Global;
 use std::marker::Model;
 
@@ -41,7 +42,7 @@ impl Model for DatagramsSoFar {
 // Joins each half with the one before it, in room for a datagram.
 #[derive(Drop)]
 struct Joiner {
-    room: [u8; 2048],
+    room: [u8; LONGEST_DATAGRAM],
     waiting: Waiting,
 }
 
@@ -187,7 +188,7 @@ pub fn join<S: Source, K: Sink>(
         (K.faults sink.new) }
 {
     let mut joiner = Joiner {
-        room: [0; 2048],
+        room: [0; LONGEST_DATAGRAM],
         waiting: Waiting::new(alloc),
     };
     match report(alloc, &mut joiner, source, sink) {

@@ -6,6 +6,7 @@ ghost use Rattle.ptu_script.specs.Command.{is_comment};
 ghost use Rattle.ptu_show.specs.Reading.{datagram_in};
 
 use ptu_lines::{LineCause, octets};
+use ptu_units::sizes::LONGEST_DATAGRAM;
 
 // Whether a line is empty or begins with `#`.
 fn is_comment_line(line: &[u8]) -> bool
@@ -23,7 +24,10 @@ fn is_comment_line(line: &[u8]) -> bool
 ///
 /// # Errors
 /// `Field(1)` exactly where the line is of another form; then the content of the room is not said.
-pub fn read_datagram(line: &[u8], room: &mut [u8; 2048]) -> Result<Option<usize>, LineCause>
+pub fn read_datagram(
+    line: &[u8],
+    room: &mut [u8; LONGEST_DATAGRAM],
+) -> Result<Option<usize>, LineCause>
     ensures datagram { result_map_both (option_map (λ size. take size room.new)) (λ cause. cause)
         result ≡ datagram_in line.now }
     ensures within { IfOk result (λ size. IfSome size (λ n. n ≤ 2048)) }

@@ -32,6 +32,7 @@ use ptu_judges::{Conduct, Judge};
 use ptu_outside::{Failed, Port};
 use ptu_profile::{Master, SlaveConfig};
 use ptu_slave_messages::{Content, Heard, Taken, receive, send_reply};
+use ptu_units::sizes::LONGEST_DATAGRAM;
 use ptu_units::{Moment, OutOfMemory};
 use std::alloc::Global;
 
@@ -299,7 +300,10 @@ impl<P: Port> Slave<P> {
 
     /// Takes the first datagram that waits at the port, as `Port::receive` does.
     #[tactic(auto, unfolding(crate::specs::Seen::seen_by))]
-    pub fn receive(&mut self, buf: &mut [u8; 2048]) -> Result<Option<(u32, usize)>, Failed>
+    pub fn receive(
+        &mut self,
+        buf: &mut [u8; LONGEST_DATAGRAM],
+    ) -> Result<Option<(u32, usize)>, Failed>
         ensures within { IfOk result (λ got. IfSome got (λ a. a.1 ≤ 2048)) }
         ensures first { IfOk result (λ got. IfSome got (λ a.
             IsFirstTold (P.waiting (seen ⟦<dyn Judge as Judge>⟧ self.old).port)

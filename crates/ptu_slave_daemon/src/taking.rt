@@ -13,13 +13,11 @@ use ptu_judges::Judge;
 use ptu_outside::{Clock, Port};
 use ptu_slave::Slave;
 use ptu_units::OutOfMemory;
+use ptu_units::sizes::LONGEST_DATAGRAM;
 use std::alloc::Global;
 
 /// So many datagrams of a channel a round takes at most.
 const MOST: usize = 64;
-
-/// So many octets a datagram has at most.
-const LONGEST: usize = 2048;
 
 // Takes the next datagram of the general channel, which comes by the slave's own port; false where
 // none is received.
@@ -44,7 +42,7 @@ fn take_general<P: Port, C: Clock>(
         (sees P.sent P.faults C.moments (seen ⟦<dyn Judge as Judge>⟧ slave.new) clock.new)
         arrivals sent failed) }
 {
-    let mut octets = [0; LONGEST];
+    let mut octets = [0; LONGEST_DATAGRAM];
     match slave.receive(&mut octets) {
         Ok(Some((from, length))) => {
             take(alloc, slave, clock, from, &octets[..length], counts)?;
@@ -83,7 +81,7 @@ fn take_event<P: Port, C: Clock>(
         (sees P.sent P.faults C.moments (seen ⟦<dyn Judge as Judge>⟧ slave.new) clock.new)
         arrivals sent failed) }
 {
-    let mut octets = [0; LONGEST];
+    let mut octets = [0; LONGEST_DATAGRAM];
     match event.receive(&mut octets) {
         Ok(Some((from, length))) => {
             take(alloc, slave, clock, from, &octets[..length], counts)?;

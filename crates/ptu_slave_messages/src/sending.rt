@@ -15,12 +15,14 @@ ghost use Rattle.ptu_profile.specs.Slave.{header_of};
 use crate::heard::HeardReply;
 use crate::kinds::Kinds;
 use crate::plan::{StopPlan, TickPlan};
-use crate::signaling::{ALL_ONES, SIGNALING, delay_req, put_cancels, put_requests};
+use crate::signaling::{ALL_ONES, delay_req, put_cancels, put_requests};
 use ptu_header::PortIdentity;
 use ptu_messages::{write_fixed, write_signaling};
 use ptu_outside::{Channel, Port, Sends, hand};
 use ptu_profile::SlaveConfig;
 use ptu_tlvs::Tlv;
+use ptu_units::message_types::SIGNALING;
+use ptu_units::sizes::LONGEST_SIGNALING;
 
 // Hands a Signaling with these TLVs to the port.
 fn send_signaling<P: Port>(
@@ -41,7 +43,7 @@ fn send_signaling<P: Port>(
         } ∷ [])
         result.sent result.failed }
 {
-    let mut octets = [0; 428];
+    let mut octets = [0; LONGEST_SIGNALING];
     let size = write_signaling(&config.header(SIGNALING, number), target, tlvs, &mut octets);
     Sends::of(hand(port, ip, Channel::General, &octets[..size]))
 }

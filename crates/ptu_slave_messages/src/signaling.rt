@@ -11,13 +11,8 @@ use ptu_messages::{Body, Message};
 use ptu_profile::SlaveConfig;
 use ptu_record::Wants;
 use ptu_tlvs::{Ask, Tlv};
+use ptu_units::message_types::DELAY_REQ;
 use ptu_units::{Kind, Stamp};
-
-/// The messageType of a Delay_Req.
-const DELAY_REQ: u8 = 1;
-
-/// The messageType of a Signaling.
-pub(crate) const SIGNALING: u8 = 12;
 
 /// The targetPortIdentity of a Signaling that is no reply: every port of every clock.
 pub(crate) const ALL_ONES: PortIdentity = PortIdentity {

@@ -9,6 +9,7 @@ ghost use Rattle.ptu_twostep.specs.Telling.{HandsPair, is_half, told_by};
 use crate::step::{Step, find_step};
 use ptu_octets::high_nibble;
 use ptu_outside::{Channel, Failed, Port, hand};
+use ptu_units::sizes::LONGEST_DATAGRAM;
 use std::marker::Model;
 
 /// A port that sends each Sync in two steps, over another port: what it is handed as a Sync in one
@@ -132,7 +133,10 @@ impl<P: Port> Port for TwoStep<P> {
         sent
     }
 
-    fn receive(&mut self, buf: &mut [u8; 2048]) -> Result<Option<(u32, usize)>, Failed> {
+    fn receive(
+        &mut self,
+        buf: &mut [u8; LONGEST_DATAGRAM],
+    ) -> Result<Option<(u32, usize)>, Failed> {
         self.port.receive(buf)
     }
 }

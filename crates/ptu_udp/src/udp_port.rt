@@ -5,15 +5,12 @@ ghost use Rattle.ptu_outside.specs.Telling.{IfTold, IsEmptyTold, IsFirstTold, ap
 use crate::pause::Pause;
 use crate::traffic::Traffic;
 use ptu_outside::{Channel, Failed, Port};
+use ptu_units::sizes::LONGEST_DATAGRAM;
 use std::io;
 use std::io::ErrorKind;
 use std::marker::Model;
 use std::net::{Ipv4Addr, Net, SocketAddr, SocketAddrV4, UdpSocket};
 use std::time::Clock;
-
-/// How many octets a datagram may have. No message of PTP over UDP and IPv4 that a node takes is
-/// longer.
-const LONGEST: usize = 2048;
 
 /// How many datagrams that are longer a call leaves out before it fails.
 const MOST_LEFT_OUT: u32 = 64;
@@ -83,16 +80,16 @@ impl<R: Net + Clock + Drop> UdpPort<R> {
 
     // The next datagram of at most 2048 octets: its sender and its length. Longer ones are left
     // out, up to 64 of them. `None` where nothing waits.
-    fn take_whole(&self, buf: &mut [u8; 2048]) -> Result<Option<(u32, usize)>, Failed>
+    fn take_whole(&self, buf: &mut [u8; LONGEST_DATAGRAM]) -> Result<Option<(u32, usize)>, Failed>
         ensures within { IfOk result (λ taken. IfSome taken (λ got. got.1 ≤ 2048)) }
     {
         // One octet more tells a longer datagram from one that fits.
-        let mut taken = [0; LONGEST + 1];
+        let mut taken = [0; LONGEST_DATAGRAM + 1];
         for _ in 0..MOST_LEFT_OUT {
             match self.take_next(&mut taken) {
                 Ok((length, SocketAddr::V4(from))) => {
                     self.traffic.note();
-                    if length <= LONGEST {
+                    if length <= LONGEST_DATAGRAM {
                         buf[..length].copy_from_slice(&taken[..length]);
                         return Ok(Some((from.ip().to_bits(), length)));
                     }
@@ -155,7 +152,10 @@ impl<R: Net + Clock + Drop> Port for UdpPort<R> {
 
     /// A receive that was interrupted is tried again. A datagram of more than 2048 octets is left
     /// out, and the next one is taken. After 64 that are left out the call fails.
-    fn receive(&mut self, buf: &mut [u8; 2048]) -> Result<Option<(u32, usize)>, Failed> {
+    fn receive(
+        &mut self,
+        buf: &mut [u8; LONGEST_DATAGRAM],
+    ) -> Result<Option<(u32, usize)>, Failed> {
         match self.take_whole(buf) {
             Ok(Some(got)) => Ok(Some(got)),
             Ok(None) => {

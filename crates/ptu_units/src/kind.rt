@@ -1,6 +1,8 @@
 ghost use Rattle.std.specs.Prelude.{◌≡◌, ◌<◌};
 ghost use Rattle.ptu_units.specs.Kind.{code_of, kind_of};
 
+use crate::message_types::{ANNOUNCE, DELAY_RESP, SYNC};
+
 /// A kind of message that a grandmaster grants by unicast negotiation, in the order in which kinds
 /// are listed (IEEE 1588-2019 clause 16.1.1).
 #[derive(Clone, Copy, Debug, PartialEq, Eq, PartialOrd, Ord, Hash)]
@@ -16,9 +18,9 @@ impl Kind {
         ensures { result ≡ kind_of code }
     {
         match code {
-            11 => Some(Kind::Announce),
-            0 => Some(Kind::Sync),
-            9 => Some(Kind::DelayResp),
+            ANNOUNCE => Some(Kind::Announce),
+            SYNC => Some(Kind::Sync),
+            DELAY_RESP => Some(Kind::DelayResp),
             _ => None,
         }
     }
@@ -29,9 +31,9 @@ impl Kind {
         ensures four_bits { result < 16 }
     {
         match self {
-            Kind::Announce => 11,
-            Kind::Sync => 0,
-            Kind::DelayResp => 9,
+            Kind::Announce => ANNOUNCE,
+            Kind::Sync => SYNC,
+            Kind::DelayResp => DELAY_RESP,
         }
     }
 }

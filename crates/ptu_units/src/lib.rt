@@ -5,7 +5,9 @@ mod kind;
 mod listed;
 mod log;
 mod memory;
+pub mod message_types;
 mod moment;
+pub mod sizes;
 mod stamp;
 pub mod timescale;
 
