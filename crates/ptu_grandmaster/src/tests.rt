@@ -5,26 +5,13 @@ ghost use Rattle.ptu_grandmaster.specs.Driven.{IsPossible};
 
 use super::*;
 use ptu_admit::{Cancelled, Verdict};
-use ptu_header::PortIdentity;
 use ptu_outside::{Channel, Datagram, MemPort};
-use ptu_shard::{Answered, GmConfig, Turned};
+use ptu_shard::samples::{CONFIG, SECOND};
+use ptu_shard::{Answered, Turned};
 use ptu_units::Moment;
 use std::alloc::Global;
 use std::process::Abort;
 use std::test::Fail;
-
-const SECOND: u64 = 1_000_000_000;
-
-const CONFIG: GmConfig = GmConfig {
-    identity: PortIdentity {
-        clock: 0x0a00_0000_0000_0001,
-        port: 1,
-    },
-    domain: 4,
-    class: 84,
-    max_duration: 300,
-    epoch: 0,
-};
 
 /// The addresses of two clients, one of table 2 and one of table 3.
 const FIRST: u32 = 0x0a00_0111;

@@ -1,27 +1,9 @@
 use super::*;
 use ptu_header::PortIdentity;
-use ptu_history::Client;
-use ptu_shard::GmConfig;
+use ptu_shard::samples::{CONFIG, THREE};
 use ptu_tlvs::{Ask, Tlv};
 use ptu_units::Kind;
 use std::test::Fail;
-
-const CONFIG: GmConfig = GmConfig {
-    identity: PortIdentity {
-        clock: 0x0a00_0000_0000_0001,
-        port: 1,
-    },
-    domain: 4,
-    class: 84,
-    max_duration: 300,
-    epoch: 0,
-};
-
-const CLIENT: Client = Client {
-    ip: 0x0a00_0112,
-    clock: 0x0a00_0000_0000_0012,
-    port: 1,
-};
 
 const ASK: Ask = Ask {
     code: 0,
@@ -81,7 +63,7 @@ fn signalings_are_written(rt: HostRuntime) -> Result<(), Fail> {
          0007057f0a0000000000000100010005000800000000012c0001000700023000",
     )?;
     assert_eq!(rt; out.get(..size), Some(reply.as_slice()));
-    let size = cancel_of(&CONFIG, &CLIENT, Kind::Announce, 0, &mut out);
+    let size = cancel_of(&CONFIG, &THREE, Kind::Announce, 0, &mut out);
     let cancel = hex::decode(
         rt.alloc(),
         "0c120032040004000000000000000000000000000a000000000000010001\

@@ -1,23 +1,12 @@
 use super::*;
 use ptu_grandmaster::{Reply, Taken};
-use ptu_header::PortIdentity;
 use ptu_outside::{Channel, MemPort};
-use ptu_shard::{GmConfig, Turned};
+use ptu_shard::Turned;
+use ptu_shard::samples::CONFIG;
 use ptu_units::Moment;
 use std::alloc::Global;
 use std::process::Abort;
 use std::test::Fail;
-
-const CONFIG: GmConfig = GmConfig {
-    identity: PortIdentity {
-        clock: 0x0a00_0000_0000_0001,
-        port: 1,
-    },
-    domain: 4,
-    class: 84,
-    max_duration: 300,
-    epoch: 0,
-};
 
 /// REQUESTs of Announce for 300 s, at logarithms 1 and 4, and of Sync at logarithm 0.
 const ANNOUNCE: &str = "00040006b0010000012c";
