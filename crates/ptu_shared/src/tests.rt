@@ -498,7 +498,7 @@ where
         × (G.parts ≡ L.seats) }
     requires refused { (blanks.refused.name ≡ R.name) × (blanks.refused.parts ≡ R.parts)
         × (R.parts ≡ L.seats) }
-    requires capacity { IsCapacity capacity × (8 ≤ capacity) }
+    requires capacity { (IsCapacity capacity) × (8 ≤ capacity) }
     requires most { capacity ≤ L.most }
     requires seats { (1 ≤ seats) × (seats ≤ 64) × (seats ≡ L.seats) }
     requires ports { (i : ℕ) → L.opened i ≡ idle_port }
@@ -531,7 +531,7 @@ fn run<W: Wait + Abort + Threads + Sync>(
     seats: usize,
     scene: Scene,
 ) -> Result<(), Fail>
-    requires capacity { IsCapacity capacity × (8 ≤ capacity) }
+    requires capacity { (IsCapacity capacity) × (8 ≤ capacity) }
     requires seats { (1 ≤ seats) × (seats ≤ 64) }
 {
     let blanks = Blanks::new(seats);
