@@ -3,6 +3,8 @@ use ptu_header::PortIdentity;
 use ptu_shard::samples::{CONFIG, THREE};
 use ptu_tlvs::{Ask, Tlv};
 use ptu_units::Kind;
+use std::alloc::Global;
+use std::process::Abort;
 use std::test::Fail;
 
 const ASK: Ask = Ask {
@@ -47,6 +49,18 @@ fn datagrams_are_heard(rt: HostRuntime) -> Result<(), Fail> {
     Ok(())
 }
 
+// These octets were written.
+fn assert_written(
+    rt: &impl Abort,
+    alloc: Global,
+    written: Option<&[u8]>,
+    digits: &str,
+) -> Result<(), Fail> {
+    let octets = hex::decode(alloc, digits)?;
+    assert_eq!(rt; written, Some(octets.as_slice()));
+    Ok(())
+}
+
 #[test]
 fn signalings_are_written(rt: HostRuntime) -> Result<(), Fail> {
     let mut out = [0xdd; 428];
@@ -57,18 +71,11 @@ fn signalings_are_written(rt: HostRuntime) -> Result<(), Fail> {
         &[Tlv::Grant(ASK, true), Tlv::Ack(3)],
         &mut out,
     );
-    let reply = hex::decode(
-        rt.alloc(),
-        "0c12003e040004000000000000000000000000000a000000000000010001\
-         0007057f0a0000000000000100010005000800000000012c0001000700023000",
-    )?;
-    assert_eq!(rt; out.get(..size), Some(reply.as_slice()));
+    let reply = "0c12003e040004000000000000000000000000000a000000000000010001\
+         0007057f0a0000000000000100010005000800000000012c0001000700023000";
+    assert_written(&rt, rt.alloc(), out.get(..size), reply)?;
     let size = cancel_of(&CONFIG, &THREE, Kind::Announce, 0, &mut out);
-    let cancel = hex::decode(
-        rt.alloc(),
-        "0c120032040004000000000000000000000000000a000000000000010001\
-         0000057f0a00000000000012000100060002b000",
-    )?;
-    assert_eq!(rt; out.get(..size), Some(cancel.as_slice()));
-    Ok(())
+    let cancel = "0c120032040004000000000000000000000000000a000000000000010001\
+         0000057f0a00000000000012000100060002b000";
+    assert_written(&rt, rt.alloc(), out.get(..size), cancel)
 }
