@@ -3,46 +3,20 @@ ghost use Rattle.ptu_profile.specs.Grandmaster.{IsWithinLimits};
 ghost use Rattle.ptu_admit.specs.Lent.{four, shares};
 
 use super::*;
-use ptu_header::PortIdentity;
 use ptu_history::Client;
 use ptu_outside::MemPort;
 use ptu_profile::GmConfig;
 use ptu_shard::Shard;
+use ptu_shard::samples::{CONFIG, SECOND, THREE, TWO};
 use ptu_tlvs::Ask;
 use ptu_units::{Kind, Moment};
 use std::alloc::Global;
 use std::process::Abort;
 use std::test::Fail;
 
-const SECOND: u64 = 1_000_000_000;
-
-// Client A is of table 2, client B of table 3.
-const A: Client = Client {
-    ip: 0x0a00_0111,
-    clock: 0x0a00_0000_0000_0011,
-    port: 1,
-};
-
-const B: Client = Client {
-    ip: 0x0a00_0112,
-    clock: 0x0a00_0000_0000_0012,
-    port: 1,
-};
-
 const ANNOUNCE: u8 = 11;
 
 const SYNC: u8 = 0;
-
-const CONFIG: GmConfig = GmConfig {
-    identity: PortIdentity {
-        clock: 0x0a00_0000_0000_0001,
-        port: 1,
-    },
-    domain: 4,
-    class: 84,
-    max_duration: 300,
-    epoch: 0,
-};
 
 // What a verdict says, in numbers.
 #[derive(Clone, Copy, Debug, PartialEq, Eq)]
@@ -252,7 +226,7 @@ fn take_steps(
 // Exactly full.
 const EXACTLY_FULL: [Step; 1] = [Step::Sync(
     0,
-    A,
+    TWO,
     -7,
     Told::Granted {
         at: 0,
@@ -263,7 +237,7 @@ const EXACTLY_FULL: [Step; 1] = [Step::Sync(
 // One short.
 const ONE_SHORT: [Step; 1] = [Step::Sync(
     0,
-    A,
+    TWO,
     -7,
     Told::Short {
         at: 0,
@@ -277,7 +251,7 @@ const ONE_SHORT: [Step; 1] = [Step::Sync(
 const FULL: [Step; 3] = [
     Step::Announce(
         0,
-        A,
+        TWO,
         1,
         Told::Granted {
             at: 0,
@@ -286,7 +260,7 @@ const FULL: [Step; 3] = [
     ),
     Step::Announce(
         5 * SECOND,
-        A,
+        TWO,
         1,
         Told::Granted {
             at: 5 * SECOND,
@@ -295,7 +269,7 @@ const FULL: [Step; 3] = [
     ),
     Step::Announce(
         5 * SECOND,
-        B,
+        THREE,
         4,
         Told::Short {
             at: 5 * SECOND,
@@ -310,7 +284,7 @@ const FULL: [Step; 3] = [
 const REFUSED: [Step; 4] = [
     Step::Announce(
         0,
-        A,
+        TWO,
         1,
         Told::Granted {
             at: 0,
@@ -319,7 +293,7 @@ const REFUSED: [Step; 4] = [
     ),
     Step::Announce(
         0,
-        B,
+        THREE,
         1,
         Told::Granted {
             at: 0,
@@ -328,7 +302,7 @@ const REFUSED: [Step; 4] = [
     ),
     Step::Announce(
         10 * SECOND,
-        A,
+        TWO,
         0,
         Told::Short {
             at: 10 * SECOND,
@@ -344,7 +318,7 @@ const REFUSED: [Step; 4] = [
 const OVER: [Step; 4] = [
     Step::Announce(
         0,
-        A,
+        TWO,
         1,
         Told::Granted {
             at: 0,
@@ -353,7 +327,7 @@ const OVER: [Step; 4] = [
     ),
     Step::Announce(
         60 * SECOND,
-        A,
+        TWO,
         1,
         Told::Granted {
             at: 60 * SECOND,
@@ -368,7 +342,7 @@ const OVER: [Step; 4] = [
 const LOWER: [Step; 6] = [
     Step::Announce(
         0,
-        A,
+        TWO,
         1,
         Told::Granted {
             at: 0,
@@ -377,17 +351,17 @@ const LOWER: [Step; 6] = [
     ),
     Step::Announce(
         SECOND,
-        B,
+        THREE,
         1,
         Told::Granted {
             at: SECOND,
             until: 301 * SECOND,
         },
     ),
-    Step::Change(2 * SECOND, 8, Some(B)),
+    Step::Change(2 * SECOND, 8, Some(THREE)),
     Step::Announce(
         2 * SECOND,
-        B,
+        THREE,
         1,
         Told::Short {
             at: 2 * SECOND,
@@ -399,7 +373,7 @@ const LOWER: [Step; 6] = [
     Step::Change(3 * SECOND, 16, None),
     Step::Announce(
         0,
-        B,
+        THREE,
         1,
         Told::Granted {
             at: 3 * SECOND,
@@ -435,7 +409,7 @@ fn one_table_alone(rt: HostRuntime) -> Result<(), Fail> {
         &mut site.book,
         &CONFIG,
         Moment::default(),
-        &A,
+        &TWO,
         &ask,
     );
     assert_eq!(rt;
@@ -451,7 +425,7 @@ fn one_table_alone(rt: HostRuntime) -> Result<(), Fail> {
         &mut site.book,
         &CONFIG,
         Moment::default(),
-        &B,
+        &THREE,
         &ask,
     );
     assert_eq!(rt; second, None);
@@ -461,7 +435,7 @@ fn one_table_alone(rt: HostRuntime) -> Result<(), Fail> {
             &mut site.s2,
             &mut site.book,
             moment(SECOND)?,
-            &A,
+            &TWO,
             Kind::Announce
         )
         .ended

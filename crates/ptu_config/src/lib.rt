@@ -13,6 +13,7 @@ mod master;
 mod master_tables;
 mod octets;
 mod refusal;
+pub mod samples;
 mod settings;
 mod setup;
 mod setup_fault;

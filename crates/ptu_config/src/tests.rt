@@ -1,4 +1,5 @@
 use super::*;
+use crate::samples::GM_SETTINGS;
 use ptu_units::{Kind, Log};
 use std::alloc::{AllocError, Global};
 use std::process::Abort;
@@ -194,24 +195,7 @@ fn refusals_hold(
 fn settings_of_a_grandmaster(rt: HostRuntime) -> Result<(), Fail> {
     let text = text_of(rt.alloc(), &GM_LINES, "", "")?;
     let settings = gm_settings(rt.alloc(), text.as_bytes())?;
-    let expected = GmSettings {
-        ip: 0x7F00_0001,
-        event_port: 319,
-        general_port: 320,
-        clock: 0x0A00_0000_0000_0001,
-        port: 1,
-        domain: 4,
-        rounds: 1,
-        class: 84,
-        capacity: 8,
-        max_duration: 1000,
-        epoch: 0,
-        senders: 0,
-        change_round: 0,
-        new_capacity: None,
-        two_step: false,
-    };
-    assert_eq!(rt; settings, expected);
+    assert_eq!(rt; settings, GM_SETTINGS);
     Ok(())
 }
 

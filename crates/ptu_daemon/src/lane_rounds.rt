@@ -25,6 +25,7 @@ ghost use Rattle.ptu_config.specs.Limits.{IsGmInRange};
 
 use crate::staged::{Given, OnceHost, StagedPort, arriving, assert_said};
 use ptu_config::GmSettings;
+use ptu_config::samples::GM_SETTINGS;
 use ptu_outside::{Channel, Clock, MemClock, Opened};
 use ptu_units::Moment;
 use std::alloc::Global;
@@ -34,21 +35,10 @@ use std::test::Fail;
 use std::thread::Threads;
 
 const SETTINGS: GmSettings = GmSettings {
-    ip: 0x7f00_0001,
-    event_port: 319,
-    general_port: 320,
-    clock: 0x0a00_0000_0000_0001,
-    port: 1,
-    domain: 4,
     rounds: 3,
-    class: 84,
     capacity: 65,
-    max_duration: 1000,
-    epoch: 0,
     senders: 1,
-    change_round: 0,
-    new_capacity: None,
-    two_step: false,
+    ..GM_SETTINGS
 };
 
 // A client: its address, and its sourcePortIdentity in digits.

@@ -1,7 +1,9 @@
 ghost use Rattle.std.specs.Prelude.{◌≡◌, None};
 
 use crate::staged::{Given, OnceHost, StagedPort, arriving, assert_said};
+use crate::waiting::{SYNC, request};
 use ptu_config::GmSettings;
+use ptu_config::samples::GM_SETTINGS;
 use ptu_outside::{Channel, Failed, MemClock, Opened, Port};
 use ptu_units::Moment;
 use std::alloc::Global;
@@ -12,35 +14,16 @@ use std::test::Fail;
 use std::thread::Threads;
 
 const SETTINGS: GmSettings = GmSettings {
-    ip: 0x7f00_0001,
-    event_port: 319,
-    general_port: 320,
-    clock: 0x0a00_0000_0000_0001,
-    port: 1,
-    domain: 4,
     rounds: 2,
-    class: 84,
     capacity: 32,
-    max_duration: 1000,
-    epoch: 0,
     senders: 2,
-    change_round: 0,
-    new_capacity: None,
-    two_step: false,
+    ..GM_SETTINGS
 };
 
 // The limit of looks at a count.
 const LOOKS: u64 = 1_000_000_000;
 
-// REQUESTs of Sync at logarithm 0, which is a rate of 16, for 300 s, by a client of table 0 and by
-// one of table 1.
-const OF_TABLE_0: &str = "0c120036040004000000000000000000000000000a0000000000000300010000\
-    057fffffffffffffffffffff0004000600000000012c";
-
-const OF_TABLE_1: &str = "0c120036040004000000000000000000000000000a0000000000000400010000\
-    057fffffffffffffffffffff0004000600000000012c";
-
-// A Delay_Req of the former.
+// A Delay_Req of the client of table 0.
 const DELAY_REQ: &str = "0112002c040004000000000000000000000000000a0000000000000300010000\
     017f00000000000000000000";
 
@@ -148,12 +131,12 @@ fn going(alloc: Global) -> Result<MemClock, Fail> {
     Ok(MemClock::new(list))
 }
 
-// A host at whose general channel the two REQUESTs wait, and at whose event channel the Delay_Req
-// comes in the second round.
+// A host at whose general channel clients of tables 0 and 1 ask for Syncs, and at whose event
+// channel the Delay_Req comes in the second round.
 fn host(alloc: Global, seen: &Seen) -> Result<OnceHost<LanePort<'_>>, Fail> {
     let asks = vec![in alloc;
-        arriving(alloc, 0x0a00_0103, OF_TABLE_0)?,
-        arriving(alloc, 0x0a00_0104, OF_TABLE_1)?,
+        arriving(alloc, 0x0a00_0103, request(alloc, "03", SYNC)?.as_str())?,
+        arriving(alloc, 0x0a00_0104, request(alloc, "04", SYNC)?.as_str())?,
     ]?;
     let delay = vec![in alloc; Given::Nothing, arriving(alloc, 0x0a00_0103, DELAY_REQ)?]?;
     let opened = Opened {

@@ -29,3 +29,5 @@ mod table_ports;
 mod tests;
 #[cfg(test)]
 mod two_step_tests;
+#[cfg(test)]
+mod waiting;

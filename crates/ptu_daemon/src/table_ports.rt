@@ -5,7 +5,9 @@
 ghost use Rattle.ptu_config.specs.Limits.{IsGmInRange};
 
 use crate::staged::{OnceHost, StagedPort, arriving, assert_said};
+use crate::waiting::{ANNOUNCE, CLIENT, request};
 use ptu_config::GmSettings;
+use ptu_config::samples::GM_SETTINGS;
 use ptu_outside::{Channel, MemClock, Opened};
 use ptu_units::Moment;
 use std::alloc::Global;
@@ -14,28 +16,12 @@ use std::sync::Wait;
 use std::test::Fail;
 use std::thread::Threads;
 
-/// The address of the client.
-const CLIENT: u32 = 0x0a00_0111;
-
 /// The last octet of the clock identity of a client of each table.
 const OCTETS: [&str; 4] = ["13", "10", "11", "12"];
 
 const SETTINGS: GmSettings = GmSettings {
-    ip: 0x7f00_0001,
-    event_port: 319,
-    general_port: 320,
-    clock: 0x0a00_0000_0000_0001,
-    port: 1,
-    domain: 4,
     rounds: 3,
-    class: 84,
-    capacity: 8,
-    max_duration: 1000,
-    epoch: 0,
-    senders: 0,
-    change_round: 0,
-    new_capacity: None,
-    two_step: false,
+    ..GM_SETTINGS
 };
 
 // A port that gives nothing, whose first send fails or not.
@@ -51,10 +37,7 @@ fn quiet(alloc: Global, fails: bool) -> Result<StagedPort, Fail> {
 // Port 4, at which the client of the table requests Announces every 2 s.
 fn asked(alloc: Global, table: usize) -> Result<StagedPort, Fail> {
     let octet = OCTETS.get(table).ok_or("there are four tables")?;
-    let ask = format!(in alloc;
-        "0c120036040004000000000000000000000000000a000000000000{octet}00010000057f\
-         ffffffffffffffffffff00040006b0010000012c"
-    )?;
+    let ask = request(alloc, octet, ANNOUNCE)?;
     let gives = vec![in alloc; arriving(alloc, CLIENT, ask.as_str())?]?;
     Ok(StagedPort::new(alloc, gives, Vec::new(alloc)))
 }

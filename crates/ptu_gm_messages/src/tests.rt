@@ -1,21 +1,12 @@
 use super::*;
 use ptu_header::PortIdentity;
 use ptu_history::Client;
-use ptu_profile::GmConfig;
+use ptu_profile::samples::CONFIG;
 use ptu_tlvs::{Ask, Tlv};
 use ptu_units::Kind;
+use std::alloc::Global;
+use std::process::Abort;
 use std::test::Fail;
-
-const CONFIG: GmConfig = GmConfig {
-    identity: PortIdentity {
-        clock: 0x0a00_0000_0000_0001,
-        port: 1,
-    },
-    domain: 4,
-    class: 84,
-    max_duration: 300,
-    epoch: 0,
-};
 
 const CLIENT: Client = Client {
     ip: 0x0a00_0112,
@@ -65,6 +56,18 @@ fn datagrams_are_heard(rt: HostRuntime) -> Result<(), Fail> {
     Ok(())
 }
 
+// These octets were written.
+fn assert_written(
+    rt: &impl Abort,
+    alloc: Global,
+    written: Option<&[u8]>,
+    digits: &str,
+) -> Result<(), Fail> {
+    let octets = hex::decode(alloc, digits)?;
+    assert_eq!(rt; written, Some(octets.as_slice()));
+    Ok(())
+}
+
 #[test]
 fn signalings_are_written(rt: HostRuntime) -> Result<(), Fail> {
     let mut out = [0xdd; 428];
@@ -75,18 +78,11 @@ fn signalings_are_written(rt: HostRuntime) -> Result<(), Fail> {
         &[Tlv::Grant(ASK, true), Tlv::Ack(3)],
         &mut out,
     );
-    let reply = hex::decode(
-        rt.alloc(),
-        "0c12003e040004000000000000000000000000000a000000000000010001\
-         0007057f0a0000000000000100010005000800000000012c0001000700023000",
-    )?;
-    assert_eq!(rt; out.get(..size), Some(reply.as_slice()));
+    let reply = "0c12003e040004000000000000000000000000000a000000000000010001\
+         0007057f0a0000000000000100010005000800000000012c0001000700023000";
+    assert_written(&rt, rt.alloc(), out.get(..size), reply)?;
     let size = cancel_of(&CONFIG, &CLIENT, Kind::Announce, 0, &mut out);
-    let cancel = hex::decode(
-        rt.alloc(),
-        "0c120032040004000000000000000000000000000a000000000000010001\
-         0000057f0a00000000000012000100060002b000",
-    )?;
-    assert_eq!(rt; out.get(..size), Some(cancel.as_slice()));
-    Ok(())
+    let cancel = "0c120032040004000000000000000000000000000a000000000000010001\
+         0000057f0a00000000000012000100060002b000";
+    assert_written(&rt, rt.alloc(), out.get(..size), cancel)
 }

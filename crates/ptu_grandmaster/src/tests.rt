@@ -5,27 +5,13 @@ ghost use Rattle.ptu_grandmaster.specs.Driven.{IsPossible};
 
 use super::*;
 use ptu_admit::{Cancelled, Verdict};
-use ptu_header::PortIdentity;
 use ptu_outside::{Channel, Datagram, MemPort};
-use ptu_profile::GmConfig;
+use ptu_shard::samples::{CONFIG, SECOND};
 use ptu_shard::{Answered, Turned};
 use ptu_units::Moment;
 use std::alloc::Global;
 use std::process::Abort;
 use std::test::Fail;
-
-const SECOND: u64 = 1_000_000_000;
-
-const CONFIG: GmConfig = GmConfig {
-    identity: PortIdentity {
-        clock: 0x0a00_0000_0000_0001,
-        port: 1,
-    },
-    domain: 4,
-    class: 84,
-    max_duration: 300,
-    epoch: 0,
-};
 
 /// The addresses of two clients, one of table 2 and one of table 3.
 const FIRST: u32 = 0x0a00_0111;
@@ -79,6 +65,23 @@ fn grandmaster(alloc: Global, fails: Vec<u64>, reply_fails: Vec<u64>) -> Gm<MemP
     Gm::new(alloc, CONFIG, 16, p0, p1, p2, p3, reply)
 }
 
+// The port of replies was sent these octets at this place, to this address.
+fn assert_sent(
+    rt: &impl Abort,
+    alloc: Global,
+    gm: &mut Gm<MemPort>,
+    sent: (usize, u32),
+    digits: &str,
+) -> Result<(), Fail> {
+    let (place, to) = sent;
+    let octets = hex::decode(alloc, digits)?;
+    assert_eq!(rt;
+        gm.ports(4).sent(place),
+        Some((to, Channel::General, octets.as_slice()))
+    );
+    Ok(())
+}
+
 // A grant of Sync is sent in its periods, of which a failed send spends one, until it is cancelled.
 fn assert_sent_and_cancelled(
     rt: &impl Abort,
@@ -115,16 +118,9 @@ fn assert_sent_and_cancelled(
         assert_eq!(rt; *found, answer);
     }
     assert_eq!(rt; gm.turn(2, moment(7 * SECOND)?).sent, 0);
-    let reply = hex::decode(
-        alloc,
-        "0c120038040004000000000000000000000000000a0000000000000100010000\
-         057f0a0000000000001100010005000800000000012c0001",
-    )?;
-    assert_eq!(rt;
-        gm.ports(4).sent(0),
-        Some((FIRST, Channel::General, reply.as_slice()))
-    );
-    Ok(())
+    let reply = "0c120038040004000000000000000000000000000a0000000000000100010000\
+         057f0a0000000000001100010005000800000000012c0001";
+    assert_sent(rt, alloc, gm, (0, FIRST), reply)
 }
 
 #[test]
@@ -148,15 +144,9 @@ fn assert_shed(rt: &impl Abort, alloc: Global, gm: &mut Gm<MemPort>) -> Result<(
         (changed.shed.list().len(), changed.sent, changed.failed),
         (1, 1, 0)
     );
-    let cancel = hex::decode(
-        alloc,
-        "0c120032040004000000000000000000000000000a000000000000010001\
-         0000057f0a00000000000012000100060002b000",
-    )?;
-    assert_eq!(rt;
-        gm.ports(4).sent(2),
-        Some((SECOND_CLIENT, Channel::General, cancel.as_slice()))
-    );
+    let cancel = "0c120032040004000000000000000000000000000a000000000000010001\
+         0000057f0a00000000000012000100060002b000";
+    assert_sent(rt, alloc, gm, (2, SECOND_CLIENT), cancel)?;
     let taken = gm.take(moment(2 * SECOND)?, SECOND_CLIENT, &request)?;
     let Taken::Asked(outcomes, Reply::Sent) = &taken else {
         return Err(Fail::new("a Signaling is answered"));

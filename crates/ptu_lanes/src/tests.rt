@@ -1,13 +1,12 @@
-ghost use Rattle.std.specs.Prelude.{◌≡◌, ◌≤◌, ℕ, length, IfOk};
+ghost use Rattle.std.specs.Prelude.{◌≡◌, ◌≤◌, ℕ, [], length, IfOk};
 ghost use Rattle.ptu_profile.specs.Limits.{IsCapacity};
 ghost use Rattle.ptu_shared.specs.Opening.{idle_port};
 
 use super::*;
 use ptu_admit::{Closed, Verdict};
-use ptu_header::PortIdentity;
 use ptu_history::Client;
 use ptu_outside::{Arrival, Channel, Datagram, MemClock, MemPort, Sends};
-use ptu_profile::GmConfig;
+use ptu_shard::samples::{CONFIG, ONE, TWO, ZERO};
 use ptu_shared::{Rates, Seat, Shared};
 use ptu_tlvs::Ask;
 use ptu_units::Moment;
@@ -18,21 +17,7 @@ use std::sync::Wait;
 use std::sync::ledger::{Blank, Ledger};
 use std::test::Fail;
 
-const CONFIG: GmConfig = GmConfig {
-    identity: PortIdentity {
-        clock: 0x0a00_0000_0000_0001,
-        port: 1,
-    },
-    domain: 4,
-    class: 84,
-    max_duration: 300,
-    epoch: 0,
-};
-
-// The address of a client.
-const CLIENT: u32 = 0x0a00_0111;
-
-// Its REQUEST of Announce at logarithm 1 for 300 s, to every port.
+// A REQUEST of Announce of the client of table 2 at logarithm 1 for 300 s, to every port.
 const REQUEST: &str = "0c120036040004000000000000000000000000000a000000000000110001\
                        0000057fffffffffffffffffffff00040006b0010000012c";
 
@@ -56,25 +41,6 @@ const DELAY_RESP: &str = "09120036040004000000000000000000000000000a000000000000
 const SYNC: &str = "0012002c040004000000000000000000000000000a000000000000010001\
                     0000007f00000000000100000000";
 
-// Clients of tables 0, 1 and 2. The last one has the address above.
-const ZERO: Client = Client {
-    ip: 0x0a00_0103,
-    clock: 0x0a00_0000_0000_0003,
-    port: 1,
-};
-
-const ONE: Client = Client {
-    ip: 0x0a00_0104,
-    clock: 0x0a00_0000_0000_0004,
-    port: 1,
-};
-
-const TWO: Client = Client {
-    ip: CLIENT,
-    clock: 0x0a00_0000_0000_0011,
-    port: 1,
-};
-
 fn arrival(alloc: Global, datagram: &str) -> Result<Arrival, Fail>
     ensures { IfOk result (λ a. length a.bytes ≤ 2048) }
 {
@@ -83,7 +49,7 @@ fn arrival(alloc: Global, datagram: &str) -> Result<Arrival, Fail>
         return Err(Fail::new("a datagram has at most 2048 octets"));
     }
     Ok(Arrival {
-        ip: CLIENT,
+        ip: TWO.ip,
         bytes: Datagram::new(bytes),
     })
 }
@@ -97,29 +63,11 @@ fn port(alloc: Global, fails: Vec<u64>) -> Result<MemPort, Fail> {
     Ok(port)
 }
 
-// Shared tables over ports in memory.
-fn open<L: Rates, G: Ledger, R: Ledger>(
-    alloc: Global,
-    rates: Blank,
-    granted: Blank,
-    refused: Blank,
-    capacity: u64,
-) -> Result<(Shared<MemPort, L, G, R>, Vec<Seat<G, R>>), Fail>
-    requires rates { (rates.name ≡ L.name) × (rates.parts ≡ L.parts) × (L.parts ≡ 4) }
-    requires granted { (granted.name ≡ G.name) × (granted.parts ≡ G.parts)
-        × (G.parts ≡ L.seats) }
-    requires refused { (refused.name ≡ R.name) × (refused.parts ≡ R.parts)
-        × (R.parts ≡ L.seats) }
-    requires capacity { IsCapacity capacity }
-    requires most { capacity ≤ L.most }
-    requires seats { L.seats ≡ 1 }
-    requires ports { (i : ℕ) → L.opened i ≡ idle_port }
+// A port in memory at which nothing waits.
+fn idle(alloc: Global) -> MemPort
+    ensures { (result.waiting ≡ []) × (result.faults ≡ 0) }
 {
-    let p0 = MemPort::new(alloc, Vec::new(alloc), Vec::new(alloc), Vec::new(alloc));
-    let p1 = MemPort::new(alloc, Vec::new(alloc), Vec::new(alloc), Vec::new(alloc));
-    let p2 = MemPort::new(alloc, Vec::new(alloc), Vec::new(alloc), Vec::new(alloc));
-    let p3 = MemPort::new(alloc, Vec::new(alloc), Vec::new(alloc), Vec::new(alloc));
-    Ok(Shared::new(alloc, rates, granted, refused, capacity, 1, p0, p1, p2, p3)?)
+    MemPort::new(alloc, Vec::new(alloc), Vec::new(alloc), Vec::new(alloc))
 }
 
 // A round at this port.
@@ -158,7 +106,7 @@ fn ask_once<L: Rates, G: Ledger, R: Ledger, W: Wait + Abort>(
     };
     assert_eq!(rt; round(rt, alloc, shared, seats, port), sent);
     let reply = port.sent(0).expect(rt, "a reply is sent");
-    assert_eq!(rt; (reply.0, reply.1), (CLIENT, Channel::General));
+    assert_eq!(rt; (reply.0, reply.1), (TWO.ip, Channel::General));
     assert_eq!(rt; reply.2, grant);
     assert!(rt; port.sent(1).is_none());
 }
@@ -182,38 +130,25 @@ fn ask_in_vain<L: Rates, G: Ledger, R: Ledger, W: Wait + Abort>(
     assert!(rt; failing.sent(0).is_none());
 }
 
-fn asking<L: Rates, G: Ledger, R: Ledger, W: Wait + Abort>(
+fn ask_twice<L: Rates, G: Ledger, R: Ledger, W: Wait + Abort>(
     rt: &W,
     alloc: Global,
-    rates: Blank,
-    granted: Blank,
-    refused: Blank,
-    capacity: u64,
+    shared: &Shared<MemPort, L, G, R>,
+    seats: &mut [Seat<G, R>],
 ) -> Result<(), Fail>
-    requires rates { (rates.name ≡ L.name) × (rates.parts ≡ L.parts) × (L.parts ≡ 4) }
-    requires granted { (granted.name ≡ G.name) × (granted.parts ≡ G.parts)
-        × (G.parts ≡ L.seats) }
-    requires refused { (refused.name ≡ R.name) × (refused.parts ≡ R.parts)
-        × (R.parts ≡ L.seats) }
-    requires capacity { IsCapacity capacity }
-    requires most { capacity ≤ L.most }
-    requires seats { L.seats ≡ 1 }
-    requires ports { (i : ℕ) → L.opened i ≡ idle_port }
+    requires { L.parts ≡ 4 }
 {
     let grant = hex::decode(alloc, GRANT)?;
     let mut first = port(alloc, Vec::new(alloc))?;
     let mut failing = port(alloc, vec![in alloc; 1]?)?;
-    let (shared, mut seats) = open::<L, G, R>(alloc, rates, granted, refused, capacity)?;
-    let seats = seats.as_mut_slice();
-    ask_once(rt, alloc, &shared, seats, &mut first, &grant);
-    ask_in_vain(rt, alloc, &shared, seats, &mut failing);
+    ask_once(rt, alloc, shared, seats, &mut first, &grant);
+    ask_in_vain(rt, alloc, shared, seats, &mut failing);
     Ok(())
 }
 
 #[test]
 fn a_request_is_answered_once(rt: HostRuntime) -> Result<(), Fail> {
-    let (rates, granted, refused) = (Blank::new(4), Blank::new(1), Blank::new(1));
-    asking::<Brand, Brand, Brand, HostRuntime>(&rt, rt.alloc(), rates, granted, refused, 8)
+    run(&rt, rt.alloc(), 8, Scene::Requests)
 }
 
 // The client is granted the kind of this code, at logarithm 0.
@@ -291,29 +226,18 @@ fn check_sent(rt: &impl Abort, closed: &Closed<MemPort>, sync: &[u8], answer: &[
     check_one(rt, &closed.p2, TWO.ip, Channel::General, answer);
 }
 
-fn sending<L: Rates, G: Ledger, R: Ledger, W: Wait + Abort>(
+fn send_and_close<L: Rates, G: Ledger, R: Ledger, W: Wait + Abort>(
     rt: &W,
     alloc: Global,
-    rates: Blank,
-    granted: Blank,
-    refused: Blank,
-    capacity: u64,
+    shared: Shared<MemPort, L, G, R>,
+    mut seats: Vec<Seat<G, R>>,
 ) -> Result<(), Fail>
-    requires rates { (rates.name ≡ L.name) × (rates.parts ≡ L.parts) × (L.parts ≡ 4) }
-    requires granted { (granted.name ≡ G.name) × (granted.parts ≡ G.parts)
-        × (G.parts ≡ L.seats) }
-    requires refused { (refused.name ≡ R.name) × (refused.parts ≡ R.parts)
-        × (R.parts ≡ L.seats) }
-    requires capacity { IsCapacity capacity }
-    requires most { capacity ≤ L.most }
-    requires seats { L.seats ≡ 1 }
-    requires ports { (i : ℕ) → L.opened i ≡ idle_port }
+    requires { (L.parts ≡ 4) × (G.parts ≡ L.seats) × (R.parts ≡ L.seats) }
 {
     let sync = hex::decode(alloc, SYNC)?;
     let answer = hex::decode(alloc, DELAY_RESP)?;
     let waiting = vec![in alloc; arrival(alloc, DELAY_REQ)?]?;
     let mut port = MemPort::new(alloc, waiting, Vec::new(alloc), Vec::new(alloc));
-    let (shared, mut seats) = open::<L, G, R>(alloc, rates, granted, refused, capacity)?;
     grant_four(rt, &shared, seats.as_mut_slice());
     answer_and_turn(rt, alloc, &shared, &mut port)?;
     match shared.close(seats) {
@@ -325,6 +249,48 @@ fn sending<L: Rates, G: Ledger, R: Ledger, W: Wait + Abort>(
 
 #[test]
 fn lanes_answer_and_turn(rt: HostRuntime) -> Result<(), Fail> {
-    let (rates, granted, refused) = (Blank::new(4), Blank::new(1), Blank::new(1));
-    sending::<Brand, Brand, Brand, HostRuntime>(&rt, rt.alloc(), rates, granted, refused, 64)
+    run(&rt, rt.alloc(), 64, Scene::Lanes)
+}
+
+// What is done with shared tables.
+#[derive(Clone, Copy)]
+enum Scene {
+    Requests,
+    Lanes,
+}
+
+// Plays the scene with tables over ports in memory and one seat, whatever the ledgers are.
+fn play<L: Rates, G: Ledger, R: Ledger, W: Wait + Abort>(
+    rt: &W,
+    alloc: Global,
+    blanks: (Blank, Blank, Blank),
+    capacity: u64,
+    scene: Scene,
+) -> Result<(), Fail>
+    requires rates { (blanks.0.name ≡ L.name) × (blanks.0.parts ≡ L.parts) × (L.parts ≡ 4) }
+    requires granted { (blanks.1.name ≡ G.name) × (blanks.1.parts ≡ G.parts)
+        × (G.parts ≡ L.seats) }
+    requires refused { (blanks.2.name ≡ R.name) × (blanks.2.parts ≡ R.parts)
+        × (R.parts ≡ L.seats) }
+    requires capacity { (IsCapacity capacity) × (capacity ≤ L.most) }
+    requires seats { L.seats ≡ 1 }
+    requires ports { (i : ℕ) → L.opened i ≡ idle_port }
+{
+    let (p0, p1, p2, p3) = (idle(alloc), idle(alloc), idle(alloc), idle(alloc));
+    let (rates, granted, refused) = blanks;
+    let (shared, mut seats) = Shared::<MemPort, L, G, R>::new(
+        alloc, rates, granted, refused, capacity, 1, p0, p1, p2, p3,
+    )?;
+    match scene {
+        Scene::Requests => ask_twice(rt, alloc, &shared, seats.as_mut_slice()),
+        Scene::Lanes => send_and_close(rt, alloc, shared, seats),
+    }
+}
+
+// Plays the scene with this capacity.
+fn run<W: Wait + Abort>(rt: &W, alloc: Global, capacity: u64, scene: Scene) -> Result<(), Fail>
+    requires { IsCapacity capacity }
+{
+    let blanks = (Blank::new(4), Blank::new(1), Blank::new(1));
+    play::<Brand, Brand, Brand, W>(rt, alloc, blanks, capacity, scene)
 }

@@ -1,24 +1,12 @@
 use super::*;
 use ptu_grandmaster::{Reply, Taken};
-use ptu_header::PortIdentity;
 use ptu_outside::{Channel, MemPort};
-use ptu_profile::GmConfig;
 use ptu_shard::Turned;
+use ptu_shard::samples::CONFIG;
 use ptu_units::Moment;
 use std::alloc::Global;
 use std::process::Abort;
 use std::test::Fail;
-
-const CONFIG: GmConfig = GmConfig {
-    identity: PortIdentity {
-        clock: 0x0a00_0000_0000_0001,
-        port: 1,
-    },
-    domain: 4,
-    class: 84,
-    max_duration: 300,
-    epoch: 0,
-};
 
 /// REQUESTs of Announce for 300 s, at logarithms 1 and 4, and of Sync at logarithm 0.
 const ANNOUNCE: &str = "00040006b0010000012c";
@@ -55,31 +43,29 @@ fn made(
     Ok(Pools::new(alloc, CONFIG, capacity, pools, ports))
 }
 
-// A Signaling of 54 octets of the client with this last octet of its clock identity.
-fn signaling(alloc: Global, client: u8, tlvs: &str) -> Result<Vec<u8>, Fail> {
-    let mut bytes = hex::decode(
-        alloc,
-        "0c120036040004000000000000000000000000000a000000000000110001\
-         0000057fffffffffffffffffffff",
-    )?;
-    if let Some(last) = bytes.get_mut(27) {
+// The first 44 octets of a Signaling of 54 to every port, and where the last octet of a client's
+// clock identity stands there.
+const ASKING: (&str, usize) = (
+    "0c120036040004000000000000000000000000000a000000000000110001\
+     0000057fffffffffffffffffffff",
+    27,
+);
+
+// Those of a reply of 56 octets with one answer.
+const REPLY: (&str, usize) = (
+    "0c120038040004000000000000000000000000000a000000000000010001\
+     0000057f0a000000000000110001",
+    41,
+);
+
+// A Signaling from or to the client with this last octet, with these TLVs.
+fn signaling(alloc: Global, front: (&str, usize), client: u8, tlvs: &str) -> Result<Vec<u8>, Fail> {
+    let (digits, place) = front;
+    let mut bytes = hex::decode(alloc, digits)?;
+    if let Some(last) = bytes.get_mut(place) {
         *last = client;
     }
     bytes.extend_from_slice(&hex::decode(alloc, tlvs)?)?;
-    Ok(bytes)
-}
-
-// The reply to the client with one answer.
-fn reply(alloc: Global, client: u8, answer: &str) -> Result<Vec<u8>, Fail> {
-    let mut bytes = hex::decode(
-        alloc,
-        "0c120038040004000000000000000000000000000a000000000000010001\
-         0000057f0a000000000000110001",
-    )?;
-    if let Some(last) = bytes.get_mut(41) {
-        *last = client;
-    }
-    bytes.extend_from_slice(&hex::decode(alloc, answer)?)?;
     Ok(bytes)
 }
 
@@ -129,7 +115,7 @@ fn two_customers(rt: HostRuntime) -> Result<(), Fail> {
         (0x0a00_0301, 0x11, ANNOUNCE, None),
     ];
     for (from, client, tlvs, place) in asks {
-        let taken = pools.take(start, from, &signaling(alloc, client, tlvs)?)?;
+        let taken = pools.take(start, from, &signaling(alloc, ASKING, client, tlvs)?)?;
         let answered = match taken {
             PoolTaken::Stranger => None,
             PoolTaken::In(at, Taken::Asked(_, Reply::Sent)) => Some(at),
@@ -137,8 +123,8 @@ fn two_customers(rt: HostRuntime) -> Result<(), Fail> {
         };
         assert_eq!(rt; answered, place);
     }
-    let granted = reply(alloc, 0x11, "00050008b0010000012c0001")?;
-    let denied = reply(alloc, 0x12, "00050008b004000000000000")?;
+    let granted = signaling(alloc, REPLY, 0x11, "00050008b0010000012c0001")?;
+    let denied = signaling(alloc, REPLY, 0x12, "00050008b004000000000000")?;
     for (place, at, sent) in [
         (
             0,

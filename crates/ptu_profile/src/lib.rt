@@ -4,6 +4,7 @@
 
 mod grandmaster;
 mod headers;
+pub mod samples;
 mod slave;
 
 pub use grandmaster::GmConfig;

@@ -10,6 +10,7 @@ mod messages;
 mod queue;
 mod queueing;
 mod rows;
+pub mod samples;
 mod sending;
 mod shard;
 mod sweeping;

@@ -1,42 +1,11 @@
 use super::*;
-use ptu_header::{Header, PortIdentity};
+use crate::samples::{CONFIG, DELAY_REQ, SECOND, TWO};
 use ptu_history::Client;
 use ptu_outside::{Channel, MemPort};
 use ptu_units::{Kind, Log, Moment, rate};
 use std::alloc::Global;
 use std::process::Abort;
 use std::test::Fail;
-
-const SECOND: u64 = 1_000_000_000;
-
-const CONFIG: GmConfig = GmConfig {
-    identity: PortIdentity {
-        clock: 0x0a00_0000_0000_0001,
-        port: 1,
-    },
-    domain: 4,
-    class: 84,
-    max_duration: 300,
-    epoch: 0,
-};
-
-const CLIENT: Client = Client {
-    ip: 0x0a00_0111,
-    clock: 0x0a00_0000_0000_0011,
-    port: 1,
-};
-
-const REQUEST: Header = Header {
-    message_type: 1,
-    domain: 4,
-    flags: 0x0400,
-    correction: 0,
-    source: PortIdentity {
-        clock: 0x0a00_0000_0000_0011,
-        port: 1,
-    },
-    sequence: 7,
-};
 
 fn moment(nanos: u64) -> Result<Moment, Fail> {
     Ok(Moment::of(nanos).ok_or("a moment is below 2^62")?)
@@ -67,7 +36,7 @@ fn table(
     let lease = fresh_lease(kind)?;
     assert_eq!(rt; shard.held(), 0);
     assert_eq!(rt; rate(lease.log), 16);
-    shard.put(CLIENT, kind, lease);
+    shard.put(TWO, kind, lease);
     Ok(shard)
 }
 
@@ -101,7 +70,7 @@ fn a_turn_sends_in_its_own_period(rt: HostRuntime) -> Result<(), Fail> {
     )?;
     assert_eq!(rt;
         port.sent(0),
-        Some((CLIENT.ip, Channel::Event, sync.as_slice()))
+        Some((TWO.ip, Channel::Event, sync.as_slice()))
     );
     Ok(())
 }
@@ -128,12 +97,12 @@ fn a_delay_req_has_a_credit_of_two(rt: HostRuntime) -> Result<(), Fail> {
     ];
     for (at, answer) in answers {
         assert_eq!(rt;
-            shard.answer_delay(&CONFIG, moment(at)?, &CLIENT, &REQUEST),
+            shard.answer_delay(&CONFIG, moment(at)?, &TWO, &DELAY_REQ),
             answer
         );
     }
-    assert!(rt; shard.remove(&CLIENT, Kind::DelayResp));
-    let none = shard.answer_delay(&CONFIG, Moment::default(), &CLIENT, &REQUEST);
+    assert!(rt; shard.remove(&TWO, Kind::DelayResp));
+    let none = shard.answer_delay(&CONFIG, Moment::default(), &TWO, &DELAY_REQ);
     assert_eq!(rt; none, Answered::NoGrant { at: late });
     let response = hex::decode(
         rt.alloc(),
@@ -143,7 +112,7 @@ fn a_delay_req_has_a_credit_of_two(rt: HostRuntime) -> Result<(), Fail> {
     let port = shard.into_port();
     assert_eq!(rt;
         port.sent(0),
-        Some((CLIENT.ip, Channel::General, response.as_slice()))
+        Some((TWO.ip, Channel::General, response.as_slice()))
     );
     assert_eq!(rt; port.sent(2), None);
     Ok(())
@@ -173,7 +142,7 @@ fn a_failed_send_spends_its_period(rt: HostRuntime) -> Result<(), Fail> {
     assert_eq!(rt; shard.held(), 16);
     assert_eq!(rt;
         shard.port().sent(0),
-        Some((CLIENT.ip, Channel::General, announce.as_slice()))
+        Some((TWO.ip, Channel::General, announce.as_slice()))
     );
     Ok(())
 }

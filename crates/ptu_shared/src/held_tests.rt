@@ -3,8 +3,9 @@ ghost use Rattle.ptu_profile.specs.Limits.{IsCapacity};
 ghost use Rattle.ptu_shared.specs.Opening.{untold_port};
 
 use super::*;
-use crate::tests::{ANNOUNCE, B, Blanks, ONE, SYNC, Told, ZERO, ask, moment, turn};
+use crate::tests::{ANNOUNCE, Blanks, GRANTED, SYNC, Told, ask, moment, turn};
 use ptu_outside::{Channel, Failed, Port};
+use ptu_shard::samples::{ONE, THREE, ZERO};
 use ptu_units::Kind;
 use std::alloc::Global;
 use std::marker::Brand;
@@ -153,7 +154,7 @@ fn call_held<L: Rates, G: Ledger, R: Ledger, W: Wait + Abort>(
             let _ = ask(rt, shared, &mut seat, at, &ZERO, (ANNOUNCE, 1));
         }
         Call::AskOfAll => {
-            let _ = ask(rt, shared, &mut seat, at, &B, (ANNOUNCE, -2));
+            let _ = ask(rt, shared, &mut seat, at, &THREE, (ANNOUNCE, -2));
         }
         Call::Resize => {
             let _ = shared.resize(rt, moment(rt, at), 64);
@@ -184,88 +185,6 @@ fn ask_beside<L: Rates, G: Ledger, R: Ledger, W: Wait + Abort>(
     gate.open();
 }
 
-// Shared tables whose table 0 has this gate; clients of tables 0 and 1 were granted Syncs.
-fn open_held<'a, L: Rates, G: Ledger, R: Ledger, W: Wait + Abort>(
-    rt: &W,
-    alloc: Global,
-    blanks: Blanks,
-    capacity: u64,
-    gate: &'a Gate,
-) -> Result<(Shared<HeldPort<'a>, L, G, R>, Seat<G, R>, Seat<G, R>), Fail>
-    requires rates { (blanks.rates.name ≡ L.name) × (blanks.rates.parts ≡ L.parts)
-        × (L.parts ≡ 4) }
-    requires granted { (blanks.granted.name ≡ G.name) × (blanks.granted.parts ≡ G.parts)
-        × (G.parts ≡ L.seats) }
-    requires refused { (blanks.refused.name ≡ R.name) × (blanks.refused.parts ≡ R.parts)
-        × (R.parts ≡ L.seats) }
-    requires capacity { IsCapacity capacity }
-    requires most { capacity ≤ L.most }
-    requires seats { L.seats ≡ 2 }
-    requires ports { (i : ℕ) → L.opened i ≡ untold_port }
-{
-    let p0 = HeldPort { gate: Some(gate) };
-    let p1 = HeldPort { gate: None };
-    let p2 = HeldPort { gate: None };
-    let p3 = HeldPort { gate: None };
-    let (shared, mut seats) = Shared::new(
-        alloc,
-        blanks.rates,
-        blanks.granted,
-        blanks.refused,
-        capacity,
-        2,
-        p0,
-        p1,
-        p2,
-        p3,
-    )?;
-    let mut seat = seats.pop().expect(rt, "there are two seats");
-    let other = seats.pop().expect(rt, "there are two seats");
-    let granted = Told::Granted {
-        at: 0,
-        until: 300_000_000_000,
-    };
-    assert_eq!(rt; ask(rt, &shared, &mut seat, 0, &ZERO, (SYNC, 0)), granted);
-    assert_eq!(rt; ask(rt, &shared, &mut seat, 0, &ONE, (SYNC, 0)), granted);
-    Ok((shared, seat, other))
-}
-
-// Table 0 is held in a turn, and beside it table 1 takes a turn.
-fn hold_beside_a_turn<L, G, R, W>(
-    rt: &W,
-    alloc: Global,
-    blanks: Blanks,
-    capacity: u64,
-    gate: &Gate,
-) -> Result<(), Fail>
-where
-    L: Rates + Sync,
-    G: Ledger + Sync,
-    R: Ledger + Sync,
-    W: Wait + Abort + Threads + Sync,
-    requires rates { (blanks.rates.name ≡ L.name) × (blanks.rates.parts ≡ L.parts)
-        × (L.parts ≡ 4) }
-    requires granted { (blanks.granted.name ≡ G.name) × (blanks.granted.parts ≡ G.parts)
-        × (G.parts ≡ L.seats) }
-    requires refused { (blanks.refused.name ≡ R.name) × (blanks.refused.parts ≡ R.parts)
-        × (R.parts ≡ L.seats) }
-    requires capacity { IsCapacity capacity }
-    requires most { capacity ≤ L.most }
-    requires seats { L.seats ≡ 2 }
-    requires ports { (i : ℕ) → L.opened i ≡ untold_port }
-{
-    let (shared, _seat, _other) = open_held::<L, G, R, W>(rt, alloc, blanks, capacity, gate)?;
-    let lent = &shared;
-    let (first, second) = thread::join(
-        rt,
-        move || turn_held(rt, lent),
-        move || turn_beside(rt, lent, gate),
-    );
-    assert_eq!(rt; (first, second), ((1, 0), (1, 0)));
-    assert!(rt; !gate.is_late());
-    Ok(())
-}
-
 // While table 0 is held, a call waits for it, and beside it a client of table 1 asks.
 fn call_and_ask<L, G, R, W>(
     rt: &W,
@@ -294,14 +213,70 @@ where
     );
 }
 
-// Table 0 is held in a turn, a call waits for it, and beside it a client of table 1 asks.
-fn hold_beside_an_ask<L, G, R, W>(
+// While table 0 is held, table 1 takes a turn; or a call waits for table 0, and the client of table
+// 1 asks.
+fn go_on_beside<L, G, R, W>(
+    rt: &W,
+    shared: &Shared<HeldPort<'_>, L, G, R>,
+    gate: &Gate,
+    call: Option<Call>,
+    first: Seat<G, R>,
+    second: Seat<G, R>,
+)
+where
+    L: Rates + Sync,
+    G: Ledger + Sync,
+    R: Ledger + Sync,
+    W: Wait + Abort + Threads + Sync,
+    requires ledger { L.parts ≡ 4 }
+    requires most { 64 ≤ L.most }
+{
+    match call {
+        None => assert_eq!(rt; turn_beside(rt, shared, gate), (1, 0)),
+        Some(call) => call_and_ask(rt, shared, gate, call, first, second),
+    }
+}
+
+// Clients of tables 0 and 1 are granted Syncs. Table 0 is held in a turn, and beside it table 1
+// takes a turn, or a call waits for table 0 and the client of table 1 asks.
+fn turn_and_call<L, G, R, W>(
+    rt: &W,
+    shared: &Shared<HeldPort<'_>, L, G, R>,
+    mut seats: Vec<Seat<G, R>>,
+    gate: &Gate,
+    call: Option<Call>,
+)
+where
+    L: Rates + Sync,
+    G: Ledger + Sync,
+    R: Ledger + Sync,
+    W: Wait + Abort + Threads + Sync,
+    requires ledger { L.parts ≡ 4 }
+    requires most { 64 ≤ L.most }
+{
+    let mut seat = seats.pop().expect(rt, "there are two seats");
+    let other = seats.pop().expect(rt, "there are two seats");
+    assert_eq!(rt; ask(rt, shared, &mut seat, 0, &ZERO, (SYNC, 0)), GRANTED);
+    assert_eq!(rt; ask(rt, shared, &mut seat, 0, &ONE, (SYNC, 0)), GRANTED);
+    let (turned, ()) = thread::join(
+        rt,
+        move || turn_held(rt, shared),
+        move ||
+            requires { (L.parts ≡ 4) × (64 ≤ L.most) }
+        { go_on_beside(rt, shared, gate, call, other, seat) },
+    );
+    assert_eq!(rt; turned, (1, 0));
+    assert!(rt; !gate.is_late(), "the ask went on");
+}
+
+// Plays this with two seats, whatever the ledgers are.
+fn play_held<L, G, R, W>(
     rt: &W,
     alloc: Global,
     blanks: Blanks,
     capacity: u64,
     gate: &Gate,
-    call: Call,
+    call: Option<Call>,
 ) -> Result<(), Fail>
 where
     L: Rates + Sync,
@@ -319,42 +294,42 @@ where
     requires seats { L.seats ≡ 2 }
     requires ports { (i : ℕ) → L.opened i ≡ untold_port }
 {
-    let (shared, seat, other) = open_held::<L, G, R, W>(rt, alloc, blanks, capacity, gate)?;
-    let lent = &shared;
-    let (turned, _) = thread::join(
-        rt,
-        move || turn_held(rt, lent),
-        move ||
-            requires { (L.parts ≡ 4) × (64 ≤ L.most) }
-        { call_and_ask(rt, lent, gate, call, other, seat) },
-    );
-    assert_eq!(rt; turned, (1, 0));
-    assert!(rt; !gate.is_late(), "the ask went on");
+    let p0 = HeldPort { gate: Some(gate) };
+    let p1 = HeldPort { gate: None };
+    let p2 = HeldPort { gate: None };
+    let p3 = HeldPort { gate: None };
+    let Blanks {
+        rates,
+        granted,
+        refused,
+    } = blanks;
+    let (shared, seats) = Shared::<HeldPort<'_>, L, G, R>::new(
+        alloc, rates, granted, refused, capacity, 2, p0, p1, p2, p3,
+    )?;
+    turn_and_call(rt, &shared, seats, gate, call);
     Ok(())
+}
+
+fn hold_beside<W: Wait + Abort + Threads + Sync>(
+    rt: &W,
+    alloc: Global,
+    call: Option<Call>,
+) -> Result<(), Fail> {
+    let blanks = Blanks::new(2);
+    let gate = closed_gate();
+    play_held::<Brand, Brand, Brand, W>(rt, alloc, blanks, 64, &gate, call)
 }
 
 #[test]
 fn a_turn_goes_on_beside_a_held_table(rt: HostRuntime) -> Result<(), Fail> {
-    let blanks = Blanks::new(2);
-    let gate = closed_gate();
-    hold_beside_a_turn::<Brand, Brand, Brand, HostRuntime>(&rt, rt.alloc(), blanks, 64, &gate)
+    hold_beside(&rt, rt.alloc(), None)
 }
 
 // Nothing that waits for a table holds the book.
-fn hold_beside<W: Wait + Abort + Threads + Sync>(
-    rt: &W,
-    alloc: Global,
-    call: Call,
-) -> Result<(), Fail> {
-    let blanks = Blanks::new(2);
-    let gate = closed_gate();
-    hold_beside_an_ask::<Brand, Brand, Brand, W>(rt, alloc, blanks, 64, &gate, call)
-}
-
 #[test]
 fn an_ask_goes_on_beside_a_held_table(rt: HostRuntime) -> Result<(), Fail> {
     for call in CALLS {
-        hold_beside(&rt, rt.alloc(), call)?;
+        hold_beside(&rt, rt.alloc(), Some(call))?;
     }
     Ok(())
 }

@@ -4,11 +4,10 @@ ghost use Rattle.ptu_shared.specs.Opening.{idle_port};
 
 use super::*;
 use ptu_admit::{Closed, Verdict};
-use ptu_header::{Header, PortIdentity};
 use ptu_history::Client;
 use ptu_outside::{MemPort, Port};
-use ptu_profile::GmConfig;
 use ptu_shard::Answered;
+use ptu_shard::samples::{CONFIG, DELAY_REQ, ONE, THREE, TWO, ZERO};
 use ptu_tlvs::Ask;
 use ptu_units::{Kind, Moment};
 use std::alloc::Global;
@@ -29,10 +28,11 @@ pub(crate) struct Blanks {
 
 impl Blanks {
     // Those of so many seats.
-    pub fn new(seats: u64) -> Blanks
+    pub fn new(seats: usize) -> Blanks
         ensures { (result.rates.parts ≡ 4) × (result.granted.parts ≡ seats)
             × (result.refused.parts ≡ seats) }
     {
+        let seats = seats as u64;
         Blanks {
             rates: Blank::new(4),
             granted: Blank::new(seats),
@@ -40,55 +40,6 @@ impl Blanks {
         }
     }
 }
-
-// A client of table 0 and one of table 1; A is of table 2, and B of table 3.
-pub(crate) const ZERO: Client = Client {
-    ip: 0x0a00_0103,
-    clock: 0x0a00_0000_0000_0003,
-    port: 1,
-};
-
-pub(crate) const ONE: Client = Client {
-    ip: 0x0a00_0104,
-    clock: 0x0a00_0000_0000_0004,
-    port: 1,
-};
-
-const A: Client = Client {
-    ip: 0x0a00_0111,
-    clock: 0x0a00_0000_0000_0011,
-    port: 1,
-};
-
-pub(crate) const B: Client = Client {
-    ip: 0x0a00_0112,
-    clock: 0x0a00_0000_0000_0012,
-    port: 1,
-};
-
-const CONFIG: GmConfig = GmConfig {
-    identity: PortIdentity {
-        clock: 0x0a00_0000_0000_0001,
-        port: 1,
-    },
-    domain: 4,
-    class: 84,
-    max_duration: 300,
-    epoch: 0,
-};
-
-// The header of a Delay_Req of client A.
-const DELAY_REQ: Header = Header {
-    message_type: 1,
-    domain: 4,
-    flags: 0x0400,
-    correction: 0,
-    source: PortIdentity {
-        clock: 0x0a00_0000_0000_0011,
-        port: 1,
-    },
-    sequence: 7,
-};
 
 pub(crate) const ANNOUNCE: u8 = 11;
 
@@ -111,6 +62,19 @@ pub(crate) enum Told {
     },
     Outside,
 }
+
+// What is told of a grant at 0, and of a shortage beside it in a capacity of 8.
+pub(crate) const GRANTED: Told = Told::Granted {
+    at: 0,
+    until: 300_000_000_000,
+};
+
+const SHORT: Told = Told::Short {
+    at: 0,
+    others: 8,
+    rate: 1,
+    capacity: 8,
+};
 
 fn numbers_of(verdict: &Verdict) -> Told {
     match verdict {
@@ -189,43 +153,8 @@ fn roomy(alloc: Global) -> Result<MemPort, Fail>
     Ok(port)
 }
 
-// Shared tables over ports in memory.
-fn open<L: Rates, G: Ledger, R: Ledger>(
-    alloc: Global,
-    blanks: Blanks,
-    capacity: u64,
-    seats: usize,
-) -> Result<(Shared<MemPort, L, G, R>, Vec<Seat<G, R>>), Fail>
-    requires rates { (blanks.rates.name ≡ L.name) × (blanks.rates.parts ≡ L.parts)
-        × (L.parts ≡ 4) }
-    requires granted { (blanks.granted.name ≡ G.name) × (blanks.granted.parts ≡ G.parts)
-        × (G.parts ≡ L.seats) }
-    requires refused { (blanks.refused.name ≡ R.name) × (blanks.refused.parts ≡ R.parts)
-        × (R.parts ≡ L.seats) }
-    requires capacity { IsCapacity capacity }
-    requires most { capacity ≤ L.most }
-    requires seats { (1 ≤ seats) × (seats ≤ 64) × (seats ≡ L.seats) }
-    requires ports { (i : ℕ) → L.opened i ≡ idle_port }
-{
-    let p0 = roomy(alloc)?;
-    let p1 = roomy(alloc)?;
-    let p2 = roomy(alloc)?;
-    let p3 = roomy(alloc)?;
-    Ok(Shared::new(
-        alloc,
-        blanks.rates,
-        blanks.granted,
-        blanks.refused,
-        capacity,
-        seats,
-        p0,
-        p1,
-        p2,
-        p3,
-    )?)
-}
-
-// A is granted what is there, and B is short. An ask outside the profile is not counted.
+// The client of table 2 is granted what is there, and that of table 3 is short. An ask outside the
+// profile is not counted.
 fn ask_for_both<L: Rates, G: Ledger, R: Ledger, W: Wait + Abort>(
     rt: &W,
     shared: &Shared<MemPort, L, G, R>,
@@ -235,31 +164,22 @@ fn ask_for_both<L: Rates, G: Ledger, R: Ledger, W: Wait + Abort>(
 {
     assert_eq!(rt; seats.len(), 1);
     let seat = &mut seats[0];
-    let granted = Told::Granted {
-        at: 0,
-        until: 300_000_000_000,
-    };
-    assert_eq!(rt; ask(rt, shared, seat, 0, &A, (ANNOUNCE, 1)), granted);
-    let short = Told::Short {
-        at: 0,
-        others: 8,
-        rate: 1,
-        capacity: 8,
-    };
-    assert_eq!(rt; ask(rt, shared, seat, 0, &B, (ANNOUNCE, 4)), short);
-    assert_eq!(rt; ask(rt, shared, seat, 0, &B, (3, 4)), Told::Outside);
+    assert_eq!(rt; ask(rt, shared, seat, 0, &TWO, (ANNOUNCE, 1)), GRANTED);
+    assert_eq!(rt; ask(rt, shared, seat, 0, &THREE, (ANNOUNCE, 4)), SHORT);
+    assert_eq!(rt; ask(rt, shared, seat, 0, &THREE, (3, 4)), Told::Outside);
     assert_eq!(rt; (seat.granted(), seat.refused()), (1, 1));
 }
 
-// Closes with no seat, which is refused, and then with the seats.
-fn close_twice<L: Rates, G: Ledger, R: Ledger, W: Wait + Abort>(
+// Asks, closes with no seat, which is refused, and then with the seats.
+fn ask_and_close<L: Rates, G: Ledger, R: Ledger, W: Wait + Abort>(
     rt: &W,
     shared: Shared<MemPort, L, G, R>,
-    seats: Vec<Seat<G, R>>,
+    mut seats: Vec<Seat<G, R>>,
     none: Vec<Seat<G, R>>,
 )
     requires { (L.parts ≡ 4) × (G.parts ≡ L.seats) × (R.parts ≡ L.seats) }
 {
+    ask_for_both(rt, &shared, seats.as_mut_slice());
     let Err(fault) = shared.close(none) else {
         panic!(rt; "a seat is missing")
     };
@@ -271,42 +191,18 @@ fn close_twice<L: Rates, G: Ledger, R: Ledger, W: Wait + Abort>(
     check_closed(rt, &closed, [0, 0, 8, 0], 1, 1);
 }
 
-fn admission<L: Rates, G: Ledger, R: Ledger, W: Wait + Abort>(
-    rt: &W,
-    alloc: Global,
-    blanks: Blanks,
-    capacity: u64,
-) -> Result<(), Fail>
-    requires rates { (blanks.rates.name ≡ L.name) × (blanks.rates.parts ≡ L.parts)
-        × (L.parts ≡ 4) }
-    requires granted { (blanks.granted.name ≡ G.name) × (blanks.granted.parts ≡ G.parts)
-        × (G.parts ≡ L.seats) }
-    requires refused { (blanks.refused.name ≡ R.name) × (blanks.refused.parts ≡ R.parts)
-        × (R.parts ≡ L.seats) }
-    requires capacity { IsCapacity capacity }
-    requires most { capacity ≤ L.most }
-    requires seats { L.seats ≡ 1 }
-    requires ports { (i : ℕ) → L.opened i ≡ idle_port }
-{
-    let (shared, mut seats) = open::<L, G, R>(alloc, blanks, capacity, 1)?;
-    ask_for_both(rt, &shared, seats.as_mut_slice());
-    close_twice(rt, shared, seats, Vec::new(alloc));
-    Ok(())
-}
-
 #[test]
 fn a_close_wants_every_seat(rt: HostRuntime) -> Result<(), Fail> {
-    let blanks = Blanks::new(1);
-    admission::<Brand, Brand, Brand, HostRuntime>(&rt, rt.alloc(), blanks, 8)
+    run(&rt, rt.alloc(), 8, 1, Scene::Admission)
 }
 
-// What a Delay_Req of A meets.
+// What a Delay_Req of the client of table 2 meets.
 fn delay<L: Rates, G: Ledger, R: Ledger, W: Wait + Abort>(
     rt: &W,
     shared: &Shared<MemPort, L, G, R>,
     t: u64,
 ) -> Answered {
-    shared.answer_delay(rt, &CONFIG, moment(rt, t), &A, &DELAY_REQ)
+    shared.answer_delay(rt, &CONFIG, moment(rt, t), &TWO, &DELAY_REQ)
 }
 
 fn call_in_order<L: Rates, G: Ledger, R: Ledger, W: Wait + Abort>(
@@ -320,11 +216,7 @@ fn call_in_order<L: Rates, G: Ledger, R: Ledger, W: Wait + Abort>(
     let seat = &mut seats[0];
     let two = moment(rt, 2_000_000_000);
     let three = moment(rt, 3_000_000_000);
-    let granted = Told::Granted {
-        at: 0,
-        until: 300_000_000_000,
-    };
-    assert_eq!(rt; ask(rt, shared, seat, 0, &A, (ANNOUNCE, 1)), granted);
+    assert_eq!(rt; ask(rt, shared, seat, 0, &TWO, (ANNOUNCE, 1)), GRANTED);
     assert_eq!(rt; turn(rt, shared, 2, 2_000_000_000), (1, 0));
     assert_eq!(rt;
         delay(rt, shared, 2_000_000_000),
@@ -335,7 +227,7 @@ fn call_in_order<L: Rates, G: Ledger, R: Ledger, W: Wait + Abort>(
         until: 302_000_000_000,
     };
     assert_eq!(rt;
-        ask(rt, shared, seat, 2_000_000_000, &A, (DELAY_RESP, 0)),
+        ask(rt, shared, seat, 2_000_000_000, &TWO, (DELAY_RESP, 0)),
         granted
     );
     assert_eq!(rt;
@@ -347,8 +239,8 @@ fn call_in_order<L: Rates, G: Ledger, R: Ledger, W: Wait + Abort>(
         earliest: 4_000_000_000,
     };
     assert_eq!(rt; delay(rt, shared, 3_000_000_000), soon);
-    assert!(rt; shared.cancel(rt, three, &A, Kind::Announce).ended);
-    assert!(rt; !shared.cancel(rt, three, &A, Kind::Announce).ended);
+    assert!(rt; shared.cancel(rt, three, &TWO, Kind::Announce).ended);
+    assert!(rt; !shared.cancel(rt, three, &TWO, Kind::Announce).ended);
     assert_eq!(rt; turn(rt, shared, 2, 9_000_000_000), (0, 0));
 }
 
@@ -365,33 +257,20 @@ fn close_all<L: Rates, G: Ledger, R: Ledger, W: Wait + Abort>(
     }
 }
 
-fn order<L: Rates, G: Ledger, R: Ledger, W: Wait + Abort>(
+fn call_and_close<L: Rates, G: Ledger, R: Ledger, W: Wait + Abort>(
     rt: &W,
-    alloc: Global,
-    blanks: Blanks,
-    capacity: u64,
-) -> Result<(), Fail>
-    requires rates { (blanks.rates.name ≡ L.name) × (blanks.rates.parts ≡ L.parts)
-        × (L.parts ≡ 4) }
-    requires granted { (blanks.granted.name ≡ G.name) × (blanks.granted.parts ≡ G.parts)
-        × (G.parts ≡ L.seats) }
-    requires refused { (blanks.refused.name ≡ R.name) × (blanks.refused.parts ≡ R.parts)
-        × (R.parts ≡ L.seats) }
-    requires capacity { IsCapacity capacity }
-    requires most { capacity ≤ L.most }
-    requires seats { L.seats ≡ 1 }
-    requires ports { (i : ℕ) → L.opened i ≡ idle_port }
+    shared: Shared<MemPort, L, G, R>,
+    mut seats: Vec<Seat<G, R>>,
+)
+    requires { (L.parts ≡ 4) × (G.parts ≡ L.seats) × (R.parts ≡ L.seats) }
 {
-    let (shared, mut seats) = open::<L, G, R>(alloc, blanks, capacity, 1)?;
     call_in_order(rt, &shared, seats.as_mut_slice());
     check_closed(rt, &close_all(rt, shared, seats), [0, 0, 16, 0], 2, 0);
-    Ok(())
 }
 
 #[test]
 fn calls_in_order(rt: HostRuntime) -> Result<(), Fail> {
-    let blanks = Blanks::new(1);
-    order::<Brand, Brand, Brand, HostRuntime>(&rt, rt.alloc(), blanks, 24)
+    run(&rt, rt.alloc(), 24, 1, Scene::Order)
 }
 
 fn lower_capacity<L: Rates, G: Ledger, R: Ledger, W: Wait + Abort>(
@@ -409,46 +288,33 @@ fn lower_capacity<L: Rates, G: Ledger, R: Ledger, W: Wait + Abort>(
         until: 301_000_000_000,
     };
     assert_eq!(rt;
-        ask(rt, shared, seat, 1_000_000_000, &A, (ANNOUNCE, 1)),
+        ask(rt, shared, seat, 1_000_000_000, &TWO, (ANNOUNCE, 1)),
         granted
     );
-    assert_eq!(rt; ask(rt, shared, seat, 0, &B, (ANNOUNCE, 1)), granted);
+    assert_eq!(rt; ask(rt, shared, seat, 0, &THREE, (ANNOUNCE, 1)), granted);
     let resized = shared.resize(rt, moment(rt, 2_000_000_000), 8);
     let resized = resized.expect(rt, "memory is found");
     assert_eq!(rt; resized.at, moment(rt, 2_000_000_000));
     let shed = resized.shed.list();
     assert_eq!(rt; shed.len(), 1);
-    assert_eq!(rt; (shed[0].client, shed[0].kind), (B, Kind::Announce));
+    assert_eq!(rt; (shed[0].client, shed[0].kind), (THREE, Kind::Announce));
 }
 
-fn shedding<L: Rates, G: Ledger, R: Ledger, W: Wait + Abort>(
+fn shed_and_close<L: Rates, G: Ledger, R: Ledger, W: Wait + Abort>(
     rt: &W,
-    alloc: Global,
-    blanks: Blanks,
-    capacity: u64,
-) -> Result<(), Fail>
-    requires rates { (blanks.rates.name ≡ L.name) × (blanks.rates.parts ≡ L.parts)
-        × (L.parts ≡ 4) }
-    requires granted { (blanks.granted.name ≡ G.name) × (blanks.granted.parts ≡ G.parts)
-        × (G.parts ≡ L.seats) }
-    requires refused { (blanks.refused.name ≡ R.name) × (blanks.refused.parts ≡ R.parts)
-        × (R.parts ≡ L.seats) }
-    requires capacity { IsCapacity capacity }
-    requires most { capacity ≤ L.most }
-    requires enough { 8 ≤ capacity }
-    requires seats { L.seats ≡ 1 }
-    requires ports { (i : ℕ) → L.opened i ≡ idle_port }
+    shared: Shared<MemPort, L, G, R>,
+    mut seats: Vec<Seat<G, R>>,
+)
+    requires ledgers { (L.parts ≡ 4) × (G.parts ≡ L.seats) × (R.parts ≡ L.seats) }
+    requires most { 8 ≤ L.most }
 {
-    let (shared, mut seats) = open::<L, G, R>(alloc, blanks, capacity, 1)?;
     lower_capacity(rt, &shared, seats.as_mut_slice());
     check_closed(rt, &close_all(rt, shared, seats), [0, 0, 8, 0], 2, 0);
-    Ok(())
 }
 
 #[test]
 fn a_lower_capacity_sheds_the_newest(rt: HostRuntime) -> Result<(), Fail> {
-    let blanks = Blanks::new(1);
-    shedding::<Brand, Brand, Brand, HostRuntime>(&rt, rt.alloc(), blanks, 16)
+    run(&rt, rt.alloc(), 16, 1, Scene::Shedding)
 }
 
 // The client asks for Announces from a seat of its own, which is handed back.
@@ -483,49 +349,37 @@ where
         rt,
         move ||
             requires { L.parts ≡ 4 }
-        { ask_from(rt, shared, first, &A) },
+        { ask_from(rt, shared, first, &TWO) },
         move ||
             requires { L.parts ≡ 4 }
-        { ask_from(rt, shared, second, &B) },
+        { ask_from(rt, shared, second, &THREE) },
     );
     seats.push(a.1).expect(rt, "there is room");
     seats.push(b.1).expect(rt, "there is room");
     (a.0, b.0)
 }
 
-fn two_seats<L, G, R, W>(rt: &W, alloc: Global, blanks: Blanks, capacity: u64) -> Result<(), Fail>
+fn ask_from_two_seats<L, G, R, W>(
+    rt: &W,
+    shared: Shared<MemPort, L, G, R>,
+    mut seats: Vec<Seat<G, R>>,
+)
 where
     L: Rates + Sync,
     G: Ledger + Sync,
     R: Ledger + Sync,
     W: Wait + Abort + Threads + Sync,
-    requires rates { (blanks.rates.name ≡ L.name) × (blanks.rates.parts ≡ L.parts)
-        × (L.parts ≡ 4) }
-    requires granted { (blanks.granted.name ≡ G.name) × (blanks.granted.parts ≡ G.parts)
-        × (G.parts ≡ L.seats) }
-    requires refused { (blanks.refused.name ≡ R.name) × (blanks.refused.parts ≡ R.parts)
-        × (R.parts ≡ L.seats) }
-    requires capacity { IsCapacity capacity }
-    requires most { capacity ≤ L.most }
-    requires seats { L.seats ≡ 2 }
-    requires ports { (i : ℕ) → L.opened i ≡ idle_port }
+    requires { (L.parts ≡ 4) × (G.parts ≡ L.seats) × (R.parts ≡ L.seats) }
 {
-    let (shared, mut seats) = open::<L, G, R>(alloc, blanks, capacity, 2)?;
-    let granted = Told::Granted {
-        at: 0,
-        until: 300_000_000_000,
-    };
     let (a, b) = ask_at_once(rt, &shared, &mut seats);
-    assert!(rt; (a == granted) != (b == granted));
+    assert!(rt; (a == GRANTED) != (b == GRANTED));
     let closed = close_all(rt, shared, seats);
     assert_eq!(rt; (closed.total, closed.granted, closed.refused), (8, 1, 1));
-    Ok(())
 }
 
 #[test]
 fn one_of_two_threads_is_short(rt: HostRuntime) -> Result<(), Fail> {
-    let blanks = Blanks::new(2);
-    two_seats::<Brand, Brand, Brand, HostRuntime>(&rt, rt.alloc(), blanks, 8)
+    run(&rt, rt.alloc(), 8, 2, Scene::TwoSeats)
 }
 
 // Closes with one of two seats, which has counted one grant. That is enough where the other has
@@ -571,58 +425,115 @@ fn close_with_both<L: Rates, G: Ledger, R: Ledger, W: Wait + Abort>(
     check_closed(rt, &close_all(rt, shared, seats), [0, 0, 8, 0], 1, 1);
 }
 
-// A is granted what is there from one of two seats; where the other counts too, B is short there.
-fn without_a_seat<L: Rates, G: Ledger, R: Ledger, W: Wait + Abort>(
+// The client of table 2 is granted what is there from one of two seats; where the other counts too,
+// that of table 3 is short there.
+fn ask_without_a_seat<L: Rates, G: Ledger, R: Ledger, W: Wait + Abort>(
     rt: &W,
-    alloc: Global,
-    blanks: Blanks,
-    capacity: u64,
+    shared: Shared<MemPort, L, G, R>,
+    mut seats: Vec<Seat<G, R>>,
     counted: bool,
 ) -> Result<(), Fail>
-    requires rates { (blanks.rates.name ≡ L.name) × (blanks.rates.parts ≡ L.parts)
-        × (L.parts ≡ 4) }
-    requires granted { (blanks.granted.name ≡ G.name) × (blanks.granted.parts ≡ G.parts)
-        × (G.parts ≡ L.seats) }
-    requires refused { (blanks.refused.name ≡ R.name) × (blanks.refused.parts ≡ R.parts)
-        × (R.parts ≡ L.seats) }
-    requires capacity { IsCapacity capacity }
-    requires most { capacity ≤ L.most }
-    requires seats { L.seats ≡ 2 }
-    requires ports { (i : ℕ) → L.opened i ≡ idle_port }
+    requires { (L.parts ≡ 4) × (G.parts ≡ L.seats) × (R.parts ≡ L.seats) }
 {
-    let (shared, mut seats) = open::<L, G, R>(alloc, blanks, capacity, 2)?;
     let mut missing = seats.pop().expect(rt, "there are two seats");
     let mut seat = seats.pop().expect(rt, "there are two seats");
-    let granted = Told::Granted {
-        at: 0,
-        until: 300_000_000_000,
-    };
-    assert_eq!(rt; ask(rt, &shared, &mut seat, 0, &A, (ANNOUNCE, 1)), granted);
+    assert_eq!(rt;
+        ask(rt, &shared, &mut seat, 0, &TWO, (ANNOUNCE, 1)),
+        GRANTED
+    );
     if counted {
-        let short = Told::Short {
-            at: 0,
-            others: 8,
-            rate: 1,
-            capacity: 8,
-        };
-        assert_eq!(rt; ask(rt, &shared, &mut missing, 0, &B, (ANNOUNCE, 4)), short);
+        assert_eq!(rt;
+            ask(rt, &shared, &mut missing, 0, &THREE, (ANNOUNCE, 4)),
+            SHORT
+        );
     }
     seats.push(seat)?;
     close_with_one(rt, shared, seats, missing, counted);
     Ok(())
 }
 
-fn close_without_a_seat<W: Wait + Abort>(rt: &W, alloc: Global, counted: bool) -> Result<(), Fail> {
-    let blanks = Blanks::new(2);
-    without_a_seat::<Brand, Brand, Brand, W>(rt, alloc, blanks, 8, counted)
-}
-
 #[test]
 fn a_seat_that_has_counted_is_missed(rt: HostRuntime) -> Result<(), Fail> {
-    close_without_a_seat(&rt, rt.alloc(), true)
+    run(&rt, rt.alloc(), 8, 2, Scene::WithoutASeat { counted: true })
 }
 
 #[test]
 fn a_seat_that_has_counted_nothing_is_not_missed(rt: HostRuntime) -> Result<(), Fail> {
-    close_without_a_seat(&rt, rt.alloc(), false)
+    run(
+        &rt,
+        rt.alloc(),
+        8,
+        2,
+        Scene::WithoutASeat { counted: false },
+    )
+}
+
+// What is done with shared tables and their seats.
+#[derive(Clone, Copy)]
+enum Scene {
+    Admission,
+    Order,
+    Shedding,
+    TwoSeats,
+    WithoutASeat { counted: bool },
+}
+
+// Plays the scene with tables over ports in memory, whatever the ledgers are.
+fn play<L, G, R, W>(
+    rt: &W,
+    alloc: Global,
+    blanks: Blanks,
+    capacity: u64,
+    seats: usize,
+    scene: Scene,
+) -> Result<(), Fail>
+where
+    L: Rates + Sync,
+    G: Ledger + Sync,
+    R: Ledger + Sync,
+    W: Wait + Abort + Threads + Sync,
+    requires rates { (blanks.rates.name ≡ L.name) × (blanks.rates.parts ≡ L.parts)
+        × (L.parts ≡ 4) }
+    requires granted { (blanks.granted.name ≡ G.name) × (blanks.granted.parts ≡ G.parts)
+        × (G.parts ≡ L.seats) }
+    requires refused { (blanks.refused.name ≡ R.name) × (blanks.refused.parts ≡ R.parts)
+        × (R.parts ≡ L.seats) }
+    requires capacity { (IsCapacity capacity) × (8 ≤ capacity) }
+    requires most { capacity ≤ L.most }
+    requires seats { (1 ≤ seats) × (seats ≤ 64) × (seats ≡ L.seats) }
+    requires ports { (i : ℕ) → L.opened i ≡ idle_port }
+{
+    let (p0, p1) = (roomy(alloc)?, roomy(alloc)?);
+    let (p2, p3) = (roomy(alloc)?, roomy(alloc)?);
+    let Blanks {
+        rates,
+        granted,
+        refused,
+    } = blanks;
+    let (shared, seats) = Shared::<MemPort, L, G, R>::new(
+        alloc, rates, granted, refused, capacity, seats, p0, p1, p2, p3,
+    )?;
+    match scene {
+        Scene::Admission => ask_and_close(rt, shared, seats, Vec::new(alloc)),
+        Scene::Order => call_and_close(rt, shared, seats),
+        Scene::Shedding => shed_and_close(rt, shared, seats),
+        Scene::TwoSeats => ask_from_two_seats(rt, shared, seats),
+        Scene::WithoutASeat { counted } => ask_without_a_seat(rt, shared, seats, counted)?,
+    }
+    Ok(())
+}
+
+// Plays the scene with this capacity and so many seats.
+fn run<W: Wait + Abort + Threads + Sync>(
+    rt: &W,
+    alloc: Global,
+    capacity: u64,
+    seats: usize,
+    scene: Scene,
+) -> Result<(), Fail>
+    requires capacity { (IsCapacity capacity) × (8 ≤ capacity) }
+    requires seats { (1 ≤ seats) × (seats ≤ 64) }
+{
+    let blanks = Blanks::new(seats);
+    play::<Brand, Brand, Brand, W>(rt, alloc, blanks, capacity, seats, scene)
 }

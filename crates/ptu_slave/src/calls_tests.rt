@@ -1,8 +1,8 @@
 //! The calls of a judge, as it writes them down itself.
-ghost use Rattle.std.specs.Prelude.{◌≡◌};
+ghost use Rattle.std.specs.Prelude.{◌≡◌, false, IfOk};
 ghost use Rattle.ptu_judges.specs.Held.{flag_held};
 
-use super::tests::{FIRST, Row, SECOND, config, one_judge, play, quiet_port};
+use super::tests::{Row, SECOND, config, play, quiet_port, slave_of_one};
 use super::*;
 use ptu_judges::{Conduct, Judge};
 use ptu_record::Rule;
@@ -76,24 +76,26 @@ impl Judge for Listing {
     }
 }
 
-// Each event makes its calls of the judge once: a Sync, the operator's word, and a tick.
-#[test]
-fn a_judge_is_called_once_for_each_event(rt: HostRuntime) -> Result<(), Fail> {
-    let alloc = rt.alloc();
-    let masters = vec![in alloc;
-        Master {
-            ip: FIRST,
-            priority: 1
-        },
-    ]?;
+// A judge that lists its calls, and the list.
+fn new_listing(alloc: Global) -> Result<(Rc<Cell<Calls>>, Listing), Fail>
+    ensures { IfOk result (λ pair. pair.1.unusable ≡ false) }
+{
     let calls: Rc<Cell<Calls>> = Rc::new(alloc, Cell::new([None; 6]))?;
     let listing = Listing {
         unusable: false,
         calls: calls.clone()?,
     };
-    let judges = one_judge(alloc, Box::new(alloc, listing)?)?;
+    Ok((calls, listing))
+}
+
+// Each event makes its calls of the judge once: a Sync, the operator's word, and a tick.
+#[test]
+fn a_judge_is_called_once_for_each_event(rt: HostRuntime) -> Result<(), Fail> {
+    let alloc = rt.alloc();
+    let (calls, judge) = new_listing(alloc)?;
     let config = config(4, 4, false, 0)?;
-    let mut slave = Slave::new(alloc, config, masters, judges, quiet_port(alloc))?;
+    let judge = Box::new(alloc, judge)?;
+    let mut slave = slave_of_one(alloc, config, judge, quiet_port(alloc))?;
     play(&rt, alloc, &mut slave, 0, Row::Announce(1, 84))?;
     play(&rt, alloc, &mut slave, 0, Row::Sync(1, 7))?;
     slave.flag(Moment::of(SECOND).ok_or("below 2^62")?, 0, true);
@@ -116,27 +118,13 @@ fn a_judge_is_called_once_for_each_event(rt: HostRuntime) -> Result<(), Fail> {
 #[test]
 fn a_judge_that_takes_over_is_asked_once(rt: HostRuntime) -> Result<(), Fail> {
     let alloc = rt.alloc();
-    let masters = vec![in alloc;
-        Master {
-            ip: FIRST,
-            priority: 1
-        },
-    ]?;
-    let former_calls: Rc<Cell<Calls>> = Rc::new(alloc, Cell::new([None; 6]))?;
-    let former = Listing {
-        unusable: false,
-        calls: former_calls.clone()?,
-    };
-    let judges = one_judge(alloc, Box::new(alloc, former)?)?;
+    let (former_calls, former) = new_listing(alloc)?;
     let config = config(4, 4, false, 0)?;
-    let mut slave = Slave::new(alloc, config, masters, judges, quiet_port(alloc))?;
-    let calls: Rc<Cell<Calls>> = Rc::new(alloc, Cell::new([None; 6]))?;
-    let listing = Listing {
-        unusable: false,
-        calls: calls.clone()?,
-    };
+    let former = Box::new(alloc, former)?;
+    let mut slave = slave_of_one(alloc, config, former, quiet_port(alloc))?;
+    let (calls, judge) = new_listing(alloc)?;
     let at = Moment::of(SECOND).ok_or("below 2^62")?;
-    slave.set_judge(at, 0, Box::new(alloc, listing)?);
+    slave.set_judge(at, 0, Box::new(alloc, judge)?);
     assert_eq!(rt; former_calls.get(), [None; 6]);
     assert_eq!(rt;
         calls.get(),

@@ -1,7 +1,7 @@
 //! Datagrams that are cut: no front of one is heard.
 use super::*;
 use crate::tests::{
-    ANNOUNCE, DELAY_RESP, FIRST, Row, SECOND, SYNC, config, one_judge, play, quiet_port,
+    ANNOUNCE, DELAY_RESP, FIRST, Row, SECOND, SYNC, config, play, quiet_port, slave_of_one,
 };
 use ptu_header::HeaderFault;
 use ptu_judges::FlagJudge;
@@ -97,16 +97,10 @@ fn play_cut(rt: &impl Abort, alloc: Global, slave: &mut Slave<MemPort>) -> Resul
 #[test]
 fn a_cut_datagram_is_ignored(rt: HostRuntime) -> Result<(), Fail> {
     let alloc = rt.alloc();
-    let masters = vec![in alloc;
-        Master {
-            ip: FIRST,
-            priority: 1
-        },
-    ]?;
     let mut port = quiet_port(alloc);
     port.reserve(2, 2 * 64)?;
-    let judges = one_judge(alloc, Box::new(alloc, FlagJudge::new())?)?;
-    let mut slave = Slave::new(alloc, config(4, 4, false, 0)?, masters, judges, port)?;
+    let judge = Box::new(alloc, FlagJudge::new())?;
+    let mut slave = slave_of_one(alloc, config(4, 4, false, 0)?, judge, port)?;
     play_cut(&rt, alloc, &mut slave)?;
     let port = slave.into_port();
     // The tick's requests, and the reply to the CANCEL.

@@ -195,18 +195,34 @@ pub(crate) fn one_judge(alloc: Global, judge: Box<dyn Judge>) -> Result<Vec<Box<
     Ok(judges)
 }
 
-#[test]
-fn a_master_is_lost_and_restored(rt: HostRuntime) -> Result<(), Fail> {
-    let alloc = rt.alloc();
+// A slave of one master, with this judge and this port.
+pub(crate) fn slave_of_one(
+    alloc: Global,
+    config: SlaveConfig,
+    judge: Box<dyn Judge>,
+    port: MemPort,
+) -> Result<Slave<MemPort>, Fail>
+    requires limits { IsWithinLimits config }
+    requires fresh { IsFresh (held judge) }
+    ensures one { IfOk result (λ s.
+        length (seen ⟦<dyn Judge as Judge>⟧ s).kept.masters ≡ 1) }
+{
     let masters = vec![in alloc;
         Master {
             ip: FIRST,
             priority: 1
         },
     ]?;
-    let judges = one_judge(alloc, Box::new(alloc, FlagJudge::new())?)?;
+    let judges = one_judge(alloc, judge)?;
+    Ok(Slave::new(alloc, config, masters, judges, port)?)
+}
+
+#[test]
+fn a_master_is_lost_and_restored(rt: HostRuntime) -> Result<(), Fail> {
+    let alloc = rt.alloc();
+    let judge = Box::new(alloc, FlagJudge::new())?;
     let config = config(4, 4, false, 60)?;
-    let mut slave = Slave::new(alloc, config, masters, judges, quiet_port(alloc))?;
+    let mut slave = slave_of_one(alloc, config, judge, quiet_port(alloc))?;
     play_all(
         &rt,
         alloc,
@@ -238,15 +254,9 @@ fn a_master_is_lost_and_restored(rt: HostRuntime) -> Result<(), Fail> {
 #[test]
 fn delay_resps_are_lost_and_restored(rt: HostRuntime) -> Result<(), Fail> {
     let alloc = rt.alloc();
-    let masters = vec![in alloc;
-        Master {
-            ip: FIRST,
-            priority: 1
-        },
-    ]?;
-    let judges = one_judge(alloc, Box::new(alloc, FlagJudge::new())?)?;
+    let judge = Box::new(alloc, FlagJudge::new())?;
     let config = config(4, 4, true, 60)?;
-    let mut slave = Slave::new(alloc, config, masters, judges, quiet_port(alloc))?;
+    let mut slave = slave_of_one(alloc, config, judge, quiet_port(alloc))?;
     play_all(
         &rt,
         alloc,
@@ -330,19 +340,12 @@ impl Judge for Own {
 #[test]
 fn judges_are_asked_and_replaced(rt: HostRuntime) -> Result<(), Fail> {
     let alloc = rt.alloc();
-    let masters = vec![in alloc;
-        Master {
-            ip: FIRST,
-            priority: 1
-        },
-    ]?;
     let dropped = Rc::new(alloc, Cell::new(false))?;
     let own = Own {
         dropped: dropped.clone()?,
     };
-    let judges = one_judge(alloc, Box::new(alloc, own)?)?;
     let config = config(4, 4, false, 0)?;
-    let mut slave = Slave::new(alloc, config, masters, judges, quiet_port(alloc))?;
+    let mut slave = slave_of_one(alloc, config, Box::new(alloc, own)?, quiet_port(alloc))?;
     play(&rt, alloc, &mut slave, 0, Row::Announce(1, 84))?;
     play(&rt, alloc, &mut slave, SECOND, Row::Sync(1, 0))?;
     play(&rt, alloc, &mut slave, SECOND, Row::Selects(Some(0)))?;
