@@ -16,7 +16,7 @@ use Rattle.ptu_history.specs.Shedding.{shed_cmp}
 use Rattle.ptu_history.proofs.Unique.{Contains-cons_cases}
 use Rattle.ptu_shard.specs.declared.lease.Row.{Row}
 use Rattle.ptu_shard.specs.Table.{Kept}
-use Rattle.ptu_shard.proofs.Heap.{kind_cmp_is}
+use Rattle.ptu_history.proofs.Order.{kind_cmp_is}
 use Rattle.ptu_admit.specs.contracts.newest.CandidateOrd.TheImpl as candidates
 use Rattle.ptu_admit.specs.declared.newest.Candidate.{Candidate}
 use Rattle.ptu_admit.specs.declared.newest.Found.{Found}

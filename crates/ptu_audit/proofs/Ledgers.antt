@@ -1,6 +1,5 @@
 -- The trails of all grandmasters, after one more act.
-use Rattle.std.proofs.Common.{◌≡◌, ◌∙◌, ℕ, ◌+◌, ◌<◌, ◌++◌, eqb, ltb, Bool, true, false, cond, List, [], ◌∷◌, Option, Some, None, refl, sym, ap, subst, arith}
-use Rattle.std.specs.Prelude.{IfNone}
+use Rattle.std.proofs.Common.{◌≡◌, ◌∙◌, ℕ, ◌+◌, ◌<◌, ◌++◌, eqb, ltb, Bool, true, false, cond, List, [], ◌∷◌, Option, Some, refl, sym, ap, subst, arith}
 use Rattle.std.specs.List.{filter, fold}
 use Rattle.std.specs.Ordering.{is_eq, nat_cmp}
 use Rattle.std.specs.declared.cmp.Ordering.TheVariants.{Less, Equal, Greater}
@@ -14,14 +13,6 @@ use Rattle.ptu_audit.specs.declared.deed.Act.{Act}
 use Rattle.ptu_audit.specs.Standing.{IsKept}
 use Rattle.ptu_units.specs.Counts.{counted}
 use Rattle.ptu_audit.specs.Trails.{grants_in, is_by, is_grant, is_message, messages_in, trail_of, trail_with}
-
-pub if_none_map : {A P Q : Type 0} (o : Option A) → (o ≡ None → P → Q) → IfNone o P → IfNone o Q
-if_none_map None f p = f refl p
-if_none_map (Some x) f p = tt
-
-pub if_none_at : {A P : Type 0} (o : Option A) → o ≡ None → IfNone o P → P
-if_none_at None e p = p
-if_none_at (Some x) e p = absurd cc
 
 -- the comparison of two numbers says whether they are one
 cmp_same : (m n : ℕ) → is_eq (nat_cmp m n) ≡ eqb m n

@@ -1,5 +1,5 @@
 -- What parts of the daemon have done, one after the other.
-use Rattle.std.proofs.Common.{◌≡◌, ◌∙◌, ℕ, suc, zero, ◌+◌, List, [], ◌∷◌, ◌++◌, length, Option, Some, None, refl, sym, ap, subst, arith, append_assoc, length-append, Result, Ok, Err}
+use Rattle.std.proofs.Common.{◌≡◌, ◌∙◌, ℕ, ◌+◌, List, [], ◌∷◌, ◌++◌, length, Option, Some, None, refl, sym, ap, subst, arith, append_assoc, length-append, Result, Ok, Err}
 use Rattle.std.specs.Result.{IfOk}
 use Rattle.std.specs.Option.{option_map}
 use Rattle.std.proofs.lemmas.List.{append-nil}
@@ -17,21 +17,13 @@ use Rattle.ptu_daemon.specs.Events.{Happening}
 use Rattle.ptu_daemon.specs.Ran.{AllHandled, Does, Gives, Handled, Ran, Takes, after_all, five, standing_as}
 use Rattle.ptu_daemon.specs.Sends.{Standing, event_sends, sends_by, standing_after}
 use Rattle.ptu_daemon.proofs.Handling.{all_more, all_same, five_handled, handled_more, handled_same}
+use Rattle.ptu_lanes.proofs.Moments.{moments_add}
 
 pub ok_more : {T E : Type 0} {A B : T → Type 0} (r : Result T E) → ((x : T) → A x → B x) → IfOk r A → IfOk r B
 ok_more (Ok x) f h = f x h
 ok_more (Err e) f h = tt
 
 -- ---- moments
-
-pub moments_add : (m n : ℕ) (moments : List ℕ) → moments_after (m + n) moments ≡ moments_after n (moments_after m moments)
-unfolding moments_after
-moments_add zero n moments =
-    let e : zero + n ≡ n = omega arith in
-    ap (λ k. moments_after k moments) e
-moments_add (suc m) n moments =
-    let e : suc m + n ≡ suc (m + n) = omega arith in
-    ap (λ k. moments_after k moments) e ∙ moments_add m n (after_first moments)
 
 pub timed-append : (moments : List ℕ) (xs ys : List Happening) → timed moments (xs ++ ys) ≡ timed moments xs ++ timed (moments_after (length xs) moments) ys
 unfolding timed moments_after

@@ -71,7 +71,8 @@ no_more : (o : Option Item) (items : List Item) → length (cons_option o items)
 no_more None items = omega arith
 no_more (Some item) items = omega arith
 
-few_among : (tlvs : List Tlv) → length (items_among tlvs) ≤ length tlvs
+-- a Signaling has at most as many items as TLVs
+pub few_among : (tlvs : List Tlv) → length (items_among tlvs) ≤ length tlvs
 few_among [] = omega arith
 few_among (t ∷ tlvs) = omega (arith, few_among tlvs, no_more (item_of t) (items_among tlvs))
 

@@ -81,22 +81,12 @@ standing-undecided history (Sent x c k) other = standing_all history (Sent x c k
 live_one : (x : ℕ) (c : Client) (k : Kind) (r : Record) → decides c k r ≡ true → is_live x (Some r) ≡ list_any (is_live_of x c k) (standing (r ∷ []))
 unfolding standing
 live_one x c k (Granted n c' k' l u) own = sym (or-false (same_lease c k c' k' && ltb x u) ∙ ap (λ b. b && ltb x u) own)
-live_one x c k (Short n c') own = refl
-live_one x c k (Ended n c' k') own = refl
-live_one x c k (Capacity n capacity) own = refl
-live_one x c k (Shed n c' k') own = refl
-live_one x c k (Looked n j) own = refl
-live_one x c k (Sent n c' k') own = refl
+live_one x c k _ own = refl
 
 stranger_one : (x : ℕ) (c : Client) (k : Kind) (r : Record) → decides c k r ≡ false → list_any (is_live_of x c k) (standing (r ∷ [])) ≡ false
 unfolding standing
 stranger_one x c k (Granted n c' k' l u) other = or-false (same_lease c k c' k' && ltb x u) ∙ ap (λ b. b && ltb x u) other
-stranger_one x c k (Short n c') other = refl
-stranger_one x c k (Ended n c' k') other = refl
-stranger_one x c k (Capacity n capacity) other = refl
-stranger_one x c k (Shed n c' k') other = refl
-stranger_one x c k (Looked n j) other = refl
-stranger_one x c k (Sent n c' k') other = refl
+stranger_one x c k _ other = refl
 
 -- the record decides alike on two pairs that are one
 decides_alike : (c : Client) (k : Kind) (g : Grant) (r : Record) → same_lease c k g.client g.kind ≡ true → decides g.client g.kind r ≡ decides c k r

@@ -48,12 +48,7 @@ live-grant history x c k e = at (last_decision history c k) refl e
     at : (d : Option Record) → last_decision history c k ≡ d → is_live x d ≡ true → LiveGrant history x c k
     at None is h = absurd (false≢true h)
     at (Some (Granted n d j l u)) is h = record { start = n; log = l; until = u; last = last-own history c d k j n l u is; before = ltb-true x u h }
-    at (Some (Short n d)) is h = absurd (false≢true h)
-    at (Some (Ended n d j)) is h = absurd (false≢true h)
-    at (Some (Capacity n capacity)) is h = absurd (false≢true h)
-    at (Some (Shed n d j)) is h = absurd (false≢true h)
-    at (Some (Looked n j)) is h = absurd (false≢true h)
-    at (Some (Sent n d j)) is h = absurd (false≢true h)
+    at (Some _) is h = absurd (false≢true h)
 
 -- a grant that goes on with a chain
 pub record Continued (history : List Record) (n : ℕ) (c : Client) (k : Kind) (l : ℤ) : Type 0 where
@@ -76,9 +71,4 @@ continued history n c k l u e = at (last_decision history c k) refl e
           last = last-own history c d k j m i v is ∙ ap (λ z. Some (Granted m c k z v)) (sym same);
           before = ltb-true n v parts.0;
         }
-    at (Some (Short m d)) is h = absurd (false≢true h)
-    at (Some (Ended m d j)) is h = absurd (false≢true h)
-    at (Some (Capacity m capacity)) is h = absurd (false≢true h)
-    at (Some (Shed m d j)) is h = absurd (false≢true h)
-    at (Some (Looked m j)) is h = absurd (false≢true h)
-    at (Some (Sent m d j)) is h = absurd (false≢true h)
+    at (Some _) is h = absurd (false≢true h)

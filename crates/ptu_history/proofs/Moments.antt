@@ -149,3 +149,11 @@ table_moment-looked history x i j gs own =
         at true false f = omega arith
         at false true f = absurd (false≢true (f refl))
         at false false f = omega arith
+
+-- a record's part in a table's moment is at most its moment
+pub table_part-le : (j : ℕ) (r : Record) → table_part j r ≤ moment_of r
+table_part-le j r = at (is_of_table j r)
+  where
+    at : (b : Bool) → cond b (moment_of r) 0 ≤ moment_of r
+    at true = omega arith
+    at false = omega arith

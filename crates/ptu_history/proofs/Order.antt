@@ -17,6 +17,9 @@ use Rattle.ptu_history.specs.Order.{in_order, insert_in_order}
 use Rattle.ptu_history.specs.Verdict.{rate_sum}
 use Rattle.ptu_history.specs.Turns.{turn_cmp}
 use Rattle.ptu_history.specs.Shedding.{shed_prefix, shed_cmp}
+use Rattle.ptu_units.specs.declared.kind.Kind.{Kind}
+use Rattle.ptu_units.specs.declared.kind.Kind.TheVariants.{Announce, Sync, DelayResp}
+use Rattle.ptu_units.specs.contracts.kind.KindOrd.TheImpl as kinds
 
 -- the rest fits
 pub shed_prefix-rest : (capacity : ℕ) (grants : List Grant) → (rest : List Grant) × (shed_prefix capacity grants ++ rest ≡ grants) × (rate_sum rest ≤ capacity)
@@ -125,3 +128,15 @@ pub shed_cmp-total : IsTotalOrder shed_cmp
 shed_cmp-total =
     then_total (back_total (on_total (λ (g : Grant). g.start) nat_cmp_total))
     (then_total (back_total (on_total (λ (g : Grant). g.client) client_cmp-total)) (back_total (on_total (λ (g : Grant). g.kind) kind_cmp-total)))
+
+-- the derived order of kinds
+pub kind_cmp_is : (j k : Kind) → kinds.cmp-value.it j k ≡ kind_cmp j k
+kind_cmp_is Announce Announce = refl
+kind_cmp_is Announce Sync = refl
+kind_cmp_is Announce DelayResp = refl
+kind_cmp_is Sync Announce = refl
+kind_cmp_is Sync Sync = refl
+kind_cmp_is Sync DelayResp = refl
+kind_cmp_is DelayResp Announce = refl
+kind_cmp_is DelayResp Sync = refl
+kind_cmp_is DelayResp DelayResp = refl

@@ -51,7 +51,7 @@ unfolding live_grants
 live_distinct history x = AllPairs-filter Differ (λ g. ltb x g.until) (standing history) (standing-distinct history)
 
 -- where the orders tie, the clients and kinds are one
-nat_tie : (a b : ℕ) → nat_cmp a b ≡ Equal → eqb a b ≡ true
+pub nat_tie : (a b : ℕ) → nat_cmp a b ≡ Equal → eqb a b ≡ true
 nat_tie a b e = at (ltb a b) (eqb a b) e
   where
     at : (s t : Bool) → cond s Less (cond t Equal Greater) ≡ Equal → t ≡ true
@@ -59,7 +59,7 @@ nat_tie a b e = at (ltb a b) (eqb a b) e
     at false true e = refl
     at false false e = absurd (cc)
 
-then_parts : (a b : Ordering) → ordering_then a b ≡ Equal → (a ≡ Equal) × (b ≡ Equal)
+pub then_parts : (a b : Ordering) → ordering_then a b ≡ Equal → (a ≡ Equal) × (b ≡ Equal)
 then_parts Less b e = absurd (cc)
 then_parts Equal b e = (refl, e)
 then_parts Greater b e = absurd (cc)

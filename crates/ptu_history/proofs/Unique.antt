@@ -75,7 +75,8 @@ Apart-in_order R back cmp perm (x ∷ xs) apart =
 abbrev pub Rises : {A : Type 0} → (A → A → Ordering) → List A → Type 0
 Rises cmp xs = Apart (λ x y. cmp x y ≡ Less) xs
 
-below_from : (a b : Ordering) → a ≡ ordering_reverse b → is_lt b ≡ false → (a ≡ Equal → ⊥) → a ≡ Less
+-- what is not above and not equal is below
+pub below_from : (a b : Ordering) → a ≡ ordering_reverse b → is_lt b ≡ false → (a ≡ Equal → ⊥) → a ≡ Less
 below_from Less b e f differ = refl
 below_from Equal b e f differ = absurd (differ refl)
 below_from Greater Less e f differ = absurd (true≢false f)

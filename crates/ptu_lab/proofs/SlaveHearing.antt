@@ -1,21 +1,17 @@
 -- What a slave of a script heard, and what it does of it.
-use Rattle.std.proofs.Common.{◌≡◌, ◌≢◌, ℕ, suc, ◌+◌, ◌<◌, max, Bool, true, false, List, [], ◌∷◌, ◌++◌, length, map, Option, Some, None, Ok, Err, refl, ap, ap₂, sym, subst, ◌∙◌, arith}
+use Rattle.std.proofs.Common.{◌≡◌, ◌≢◌, ℕ, suc, ◌+◌, ◌<◌, max, Bool, true, false, List, [], ◌∷◌, ◌++◌, length, map, Option, Some, Ok, Err, refl, ap, ap₂, sym, subst, ◌∙◌, arith}
 use Rattle.std.proofs.lemmas.Bool.{false≢true}
 use Rattle.std.proofs.lemmas.List.{append-nil}
-use Rattle.std.proofs.lemmas.List.Quantifiers.{position-Some}
-use Rattle.std.specs.List.{AllByRecursion}
-use Rattle.std.specs.Prelude.{IfOk, IsOk, OnOk, Result, if◌then◌else◌, ◌==◌, not}
+use Rattle.std.specs.Prelude.{IfOk, IsOk, OnOk, Result, not}
 use Rattle.ptu_header.specs.declared.header.Header.{Header}
-use Rattle.ptu_messages.specs.declared.fault.MessageFault.{MessageFault}
 use Rattle.ptu_messages.specs.declared.message.Body.{Body}
 use Rattle.ptu_messages.specs.declared.message.Body.TheVariants as body
 use Rattle.ptu_messages.specs.declared.message.Message.{Message}
-use Rattle.ptu_messages.specs.Reading.{message_in}
 use Rattle.ptu_outside.specs.MemoryPort.{IsSure, MemoryPort}
 use Rattle.ptu_record.specs.declared.rule.Rule.{Rule}
 use Rattle.ptu_record.specs.declared.wants.Wants.{Wants}
 use Rattle.ptu_record.specs.Record.{Record, event_moment}
-use Rattle.ptu_record.specs.Step.{ReplaceJudge, judged_masters, one_reply}
+use Rattle.ptu_record.specs.Step.{one_reply}
 use Rattle.ptu_judges.specs.Held.{Held}
 use Rattle.ptu_profile.specs.declared.slave.Master.{Master}
 use Rattle.ptu_profile.specs.declared.slave.SlaveConfig.{SlaveConfig}
@@ -24,13 +20,9 @@ use Rattle.ptu_slave_messages.specs.declared.heard.Heard.TheVariants as heard
 use Rattle.ptu_slave_messages.specs.declared.heard.HeardReply.{HeardReply}
 use Rattle.ptu_slave_messages.specs.declared.heard.HeardReply.TheVariants.{Sent, Failed, Nothing}
 use Rattle.ptu_slave_messages.specs.declared.reason.SlaveReason.{SlaveReason}
-use Rattle.ptu_slave_messages.specs.declared.reason.SlaveReason.TheVariants.{Domain, Other, Target, UnknownType}
-use Rattle.ptu_slave_messages.specs.declared.signal.Signal.{Signal}
-use Rattle.ptu_slave_messages.specs.declared.signal.Signal.TheVariants as signals
-use Rattle.ptu_profile.specs.Slave.{place_of}
 use Rattle.ptu_slave_messages.specs.Heard.{answer_of, event_of, failed_by, heard_of, replies_in, replies_to, reply_by, reply_in, sent_by}
 use Rattle.ptu_slave_messages.specs.Node.{Deed, Node, datagram_deed, datagram_heard, reception_deed, reception_heard}
-use Rattle.ptu_slave_messages.specs.Reception.{beside, from_master, is_delay_req, is_for, is_unknown, of_reading, reception, sender_of}
+use Rattle.ptu_slave_messages.specs.Reception.{reception}
 use Rattle.ptu_slave_messages.specs.Sending.{departure_of}
 use Rattle.ptu_slave.specs.Kept.{IsSame, Kept}
 use Rattle.ptu_slave.specs.Standing.{StandsFor, Steps}
@@ -38,7 +30,7 @@ use Rattle.ptu_slave.proofs.Nodes.{node_replies}
 use Rattle.ptu_slave.proofs.Stepping.{moment_is}
 use Rattle.ptu_world.specs.Deeds.{Slave}
 use Rattle.ptu_world.specs.Slaves as slaves
-use Rattle.ptu_world.specs.Slaves.{event_deed, heard_deed, heard_said, signal_said}
+use Rattle.ptu_world.specs.Slaves.{event_deed, heard_deed, heard_said}
 use Rattle.ptu_nodes.specs.Doing.{HasDone}
 use Rattle.ptu_nodes.specs.Noted.{Noted, with_handed, with_said, with_sent}
 use Rattle.ptu_nodes.proofs.Noting.{said_nothing, sent_nothing}
@@ -47,6 +39,7 @@ use Rattle.ptu_nodes.specs.Standing.{IsIdle}
 use Rattle.ptu_lab.specs.SlaveStatements.{IsOfOne, is_ignored}
 use Rattle.ptu_lab.specs.SlaveWords.{HasStepped, selection_by}
 use Rattle.ptu_lab.proofs.SlaveEvents.{all_sent, ended, stepped}
+use Rattle.ptu_slave_messages.proofs.Senders.{judged_within, no_judge, taken_within}
 
 -- ---- what a slave answered
 
@@ -121,39 +114,6 @@ of_body wants x m n header (body.Signaling target tlvs) reply lt = lt
 of_body wants x m n header (body.DelayReq stamp) reply lt = lt
 of_body wants x m n header body.Ignored reply lt = lt
 
-past : {A E : Type 0} (b : Bool) (e : E) (r : Result A E) (x : A) → (if b then Err e else r) ≡ Ok x → r ≡ Ok x
-past true e r x is = absurd (cc is)
-past false e r x is = is
-
-from_place : (config : SlaveConfig) (masters : List Master) (ip n : ℕ) (message : Message) (place : Option ℕ) → place_of masters ip ≡ place → from_master config message place ≡ Ok n → n < length masters
-from_place config masters ip n message None at is = absurd (cc is)
-from_place config masters ip n message (Some k) at is =
-    let here : (if not (is_for config.identity message.body) then Err Target else Ok k) ≡ Ok n =
-    past (not (message.header.domain == config.domain)) (Domain message.header.domain) (if not (is_for config.identity message.body) then Err Target else Ok k) n is in
-    let taken : Ok k ≡ Ok n = past (not (is_for config.identity message.body)) Target (Ok k) n here in
-    let same : k ≡ n = cc taken in
-    subst (λ i. i < length masters) same (position-Some (λ (master : Master). master.ip == ip) masters k (record { ip = 0; priority = 0 }) at).0
-
-from_beside : (config : SlaveConfig) (masters : List Master) (ip m : ℕ) (read message : Message) (o : Result ℕ SlaveReason) → sender_of config masters ip read ≡ o → beside read o ≡ Ok (m, message) → m < length masters
-from_beside config masters ip m read message (Err reason) sender is = absurd (cc is)
-from_beside config masters ip m read message (Ok n) sender is =
-    let known : (if is_delay_req read.body then Err (Other read.header.message_type) else from_master config read (place_of masters ip)) ≡ Ok n =
-    past (is_unknown read.body) (UnknownType read.header.message_type) (if is_delay_req read.body then Err (Other read.header.message_type) else from_master config read (place_of masters ip)) n sender in
-    subst (λ i. i < length masters) (ap first is)
-    (from_place config masters ip n read (place_of masters ip) refl (past (is_delay_req read.body) (Other read.header.message_type) (from_master config read (place_of masters ip)) n known))
-  where
-    first : Result (ℕ × Message) SlaveReason → ℕ
-    first (Err reason) = 0
-    first (Ok taken) = taken.0
-
--- who sends a message that is taken stands in the list
-pub taken_within : (config : SlaveConfig) (masters : List Master) (ip m : ℕ) (message : Message) (octets : List ℕ) → reception config masters ip octets ≡ Ok (m, message) → m < length masters
-taken_within config masters ip m message octets = by_reading (message_in octets)
-  where
-    by_reading : (r : Result Message MessageFault) → of_reading config masters ip r ≡ Ok (m, message) → m < length masters
-    by_reading (Err fault) is = absurd (cc is)
-    by_reading (Ok read) is = from_beside config masters ip m read message (sender_of config masters ip read) refl is
-
 pub answer_within : (config : SlaveConfig) (masters : List Master) (x ip : ℕ) (octets : List ℕ) (reply : HeardReply) (h : Heard) → h ≡ answer_of config.wants x reply (reception config masters ip octets)
     → IsOfOne (length masters) h
 answer_within config masters x ip octets reply h is = by_reception (reception config masters ip octets) refl is
@@ -164,24 +124,6 @@ answer_within config masters x ip octets reply h is = by_reception (reception co
         subst (IsOfOne (length masters)) (sym same) (of_body config.wants x m (length masters) message.header message.body reply (taken_within config masters ip m message octets taken))
 
 -- ---- the step
-
-no_judge : (m n : ℕ) (header : Header) (b : Body) → event_of m (record { header = header; body = b }) ≢ ReplaceJudge n None
-no_judge m n header (body.Announce announce) = λ is. absurd (cc is)
-no_judge m n header (body.Sync stamp) = λ is. absurd (cc is)
-no_judge m n header (body.FollowUp stamp) = λ is. absurd (cc is)
-no_judge m n header (body.DelayResp stamp requester) = λ is. absurd (cc is)
-no_judge m n header (body.Signaling target tlvs) = λ is. absurd (cc is)
-no_judge m n header (body.DelayReq stamp) = λ is. absurd (cc is)
-no_judge m n header body.Ignored = λ is. absurd (cc is)
-
-judged_within : (m n : ℕ) (header : Header) (b : Body) → m < n → AllByRecursion (λ k. k < n) (judged_masters n (event_of m (record { header = header; body = b })))
-judged_within m n header (body.Announce announce) lt = tt
-judged_within m n header (body.Sync stamp) lt = (lt, tt)
-judged_within m n header (body.FollowUp stamp) lt = tt
-judged_within m n header (body.DelayResp stamp requester) lt = tt
-judged_within m n header (body.Signaling target tlvs) lt = tt
-judged_within m n header (body.DelayReq stamp) lt = tt
-judged_within m n header body.Ignored lt = tt
 
 -- where nothing happened
 unstepped : (ip : ℕ) (old new : Kept) (judges news : List Held) (before after : MemoryPort) (begun : Bool) (s : Slave) → IsSlaveNode ip old judges before begun s → new ≡ old → news ≡ judges

@@ -1,5 +1,5 @@
 mod Items
-mod Moments
+pub mod Moments
 mod Exchanges
 mod Taking
 mod Stretching

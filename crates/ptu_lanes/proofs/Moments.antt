@@ -10,7 +10,8 @@ use Rattle.ptu_lanes.specs.declared.lanes.SendingLanes.{SendingLanes}
 use Rattle.ptu_lanes.specs.Waiting.{PassedBy, TurnedOwn, own_below, own_tables}
 use Rattle.ptu_lanes.specs.Stretches.{HaveTurned}
 
-moments_add : (m n : ℕ) (moments : List ℕ) → moments_after (m + n) moments ≡ moments_after n (moments_after m moments)
+-- moments after two numbers of readings are those after their sum
+pub moments_add : (m n : ℕ) (moments : List ℕ) → moments_after (m + n) moments ≡ moments_after n (moments_after m moments)
 unfolding moments_after
 moments_add zero n moments =
     let e : zero + n ≡ n = omega arith in

@@ -22,7 +22,8 @@ use Rattle.ptu_history.proofs.Histories.{history-event, history-none}
 use Rattle.ptu_laws.specs.Changes.{IsUpTo}
 use Rattle.ptu_laws.proofs.Budget.{count-within, step_unchanged}
 use Rattle.ptu_history.proofs.PaymentLists.{payments_after-append}
-use Rattle.ptu_laws.proofs.Steps.{AllAt, book_part-le, step-at, table_part-le}
+use Rattle.ptu_laws.proofs.Steps.{AllAt, book_part-le, step-at}
+use Rattle.ptu_history.proofs.Moments.{table_part-le}
 
 -- the front of a list, and its last
 all_front : {A : Type 0} (P : A → Type 0) (xs : List A) (x : A) → All P (xs ++ x ∷ []) → All P xs × P x

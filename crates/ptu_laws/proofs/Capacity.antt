@@ -86,32 +86,27 @@ fits-granted opening n c k l u history room =
     ∙ ap (λ gs. rate_sum gs + rate_sum (filter p (this ∷ []))) (filter-comm p q (standing history)) in
     omega (arith, parts, rate_sum-filter p (this ∷ []), sum_by-cons (λ (g : Grant). rate_of g.log) this [], capacity_in_force-unchanged opening history (Granted n c k l u) refl, room)
 
-fits-ended : (opening n : ℕ) (c : Client) (k : Kind) (history : List Record) → Fits opening history n → Fits opening (history ++ Ended n c k ∷ []) n
+-- a record that takes away what stands of a client and kind
+fits-without : (opening n : ℕ) (c : Client) (k : Kind) (history : List Record) (r : Record) → standing (history ++ r ∷ []) ≡ without c k (standing history) → is_change r ≡ false
+    → Fits opening history n → Fits opening (history ++ r ∷ []) n
 unfolding live_grants
-fits-ended opening n c k history fits =
+fits-without opening n c k history r taken quiet fits =
     let p : Grant → Bool = λ g. ltb n g.until in
     let q : Grant → Bool = λ g. not (same_lease c k g.client g.kind) in
     omega (
       arith,
-      ap (λ gs. rate_sum (filter p gs)) (standing-ended history n c k) ∙ ap rate_sum (filter-comm p q (standing history)),
+      ap (λ gs. rate_sum (filter p gs)) taken ∙ ap rate_sum (filter-comm p q (standing history)),
       rate_sum-filter q (filter p (standing history)),
-      capacity_in_force-unchanged opening history (Ended n c k) refl,
+      capacity_in_force-unchanged opening history r quiet,
       fits,
     )
 
+fits-ended : (opening n : ℕ) (c : Client) (k : Kind) (history : List Record) → Fits opening history n → Fits opening (history ++ Ended n c k ∷ []) n
+fits-ended opening n c k history = fits-without opening n c k history (Ended n c k) (standing-ended history n c k) refl
+
 -- a shedding takes away
 fits-shed : (opening n : ℕ) (c : Client) (k : Kind) (history : List Record) → Fits opening history n → Fits opening (history ++ Shed n c k ∷ []) n
-unfolding live_grants
-fits-shed opening n c k history fits =
-    let p : Grant → Bool = λ g. ltb n g.until in
-    let q : Grant → Bool = λ g. not (same_lease c k g.client g.kind) in
-    omega (
-      arith,
-      ap (λ gs. rate_sum (filter p gs)) (standing-shed history n c k) ∙ ap rate_sum (filter-comm p q (standing history)),
-      rate_sum-filter q (filter p (standing history)),
-      capacity_in_force-unchanged opening history (Shed n c k) refl,
-      fits,
-    )
+fits-shed opening n c k history = fits-without opening n c k history (Shed n c k) (standing-shed history n c k) refl
 
 -- a change whose sheddings are still to come: before its moment all is well, and what they leave fits
 record IsChanging (opening : ℕ) (history : List Record) (x : ℕ) (rest : List Record) : Type 0 where

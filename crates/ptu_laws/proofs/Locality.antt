@@ -71,6 +71,12 @@ decides-part j c k on r own = subst (λ i. is_of_clients i r ≡ true) (eqb-true
     at true e = e
     at false e = absurd (false≢true e)
 
+-- a record that leaves what stands as it is, whether it is in the part or not
+with_part : (j : ℕ) (r : Record) (part : List Record) (all : List Grant) (b : Bool) → standing (r ∷ part) ≡ standing part → filter (is_on j) (standing part) ≡ filter (is_on j) all →
+    filter (is_on j) (standing (cond b (r ∷ part) part)) ≡ filter (is_on j) all
+with_part j r part all true same ih = ap (filter (is_on j)) same ∙ ih
+with_part j r part all false same ih = ih
+
 standing-part : (j : ℕ) (history : List Record) → filter (is_on j) (standing (part_of_clients j history)) ≡ filter (is_on j) (standing history)
 unfolding standing
 standing-part j [] = refl
@@ -95,32 +101,12 @@ standing-part j (Granted n c k l u ∷ history) = at (eqb (table_of c) j) refl (
         by_any : (b : Bool) → filter (is_on j) (cond b (standing history) (this ∷ standing history)) ≡ filter (is_on j) (standing history)
         by_any true = refl
         by_any false = ap (λ a. cond a (this ∷ filter (is_on j) (standing history)) (filter (is_on j) (standing history))) off
-standing-part j (Short n c ∷ history) = at (eqb (table_of c) j) (standing-part j history)
-  where
-    at : (b : Bool) → filter (is_on j) (standing (part_of_clients j history)) ≡ filter (is_on j) (standing history) →
-        filter (is_on j) (standing (cond b (Short n c ∷ part_of_clients j history) (part_of_clients j history))) ≡ filter (is_on j) (standing history)
-    at true ih = ih
-    at false ih = ih
-standing-part j (Ended n c k ∷ history) = at (eqb (table_of c) j) (standing-part j history)
-  where
-    at : (b : Bool) → filter (is_on j) (standing (part_of_clients j history)) ≡ filter (is_on j) (standing history) →
-        filter (is_on j) (standing (cond b (Ended n c k ∷ part_of_clients j history) (part_of_clients j history))) ≡ filter (is_on j) (standing history)
-    at true ih = ih
-    at false ih = ih
+standing-part j (Short n c ∷ history) = with_part j (Short n c) (part_of_clients j history) (standing history) (eqb (table_of c) j) refl (standing-part j history)
+standing-part j (Ended n c k ∷ history) = with_part j (Ended n c k) (part_of_clients j history) (standing history) (eqb (table_of c) j) refl (standing-part j history)
 standing-part j (Capacity n capacity ∷ history) = standing-part j history
-standing-part j (Shed n c k ∷ history) = at (eqb (table_of c) j) (standing-part j history)
-  where
-    at : (b : Bool) → filter (is_on j) (standing (part_of_clients j history)) ≡ filter (is_on j) (standing history) →
-        filter (is_on j) (standing (cond b (Shed n c k ∷ part_of_clients j history) (part_of_clients j history))) ≡ filter (is_on j) (standing history)
-    at true ih = ih
-    at false ih = ih
+standing-part j (Shed n c k ∷ history) = with_part j (Shed n c k) (part_of_clients j history) (standing history) (eqb (table_of c) j) refl (standing-part j history)
 standing-part j (Looked n i ∷ history) = standing-part j history
-standing-part j (Sent n c k ∷ history) = at (eqb (table_of c) j) (standing-part j history)
-  where
-    at : (b : Bool) → filter (is_on j) (standing (part_of_clients j history)) ≡ filter (is_on j) (standing history) →
-        filter (is_on j) (standing (cond b (Sent n c k ∷ part_of_clients j history) (part_of_clients j history))) ≡ filter (is_on j) (standing history)
-    at true ih = ih
-    at false ih = ih
+standing-part j (Sent n c k ∷ history) = with_part j (Sent n c k) (part_of_clients j history) (standing history) (eqb (table_of c) j) refl (standing-part j history)
 
 -- the test is of the table's own grants
 abbrev IsOn : ℕ → Grant → Type 0

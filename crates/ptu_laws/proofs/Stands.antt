@@ -191,14 +191,10 @@ sent_part-le c k (Sent x d j) = at (same_lease c k d j) refl
         let e : ◌≡◌ {A = ℕ} (cond (eqb (table_of d) (table_of c)) x 0) x = ap (λ b. cond b x 0) same in
         omega arith
     at false own = omega arith
-sent_part-le c k (Granted n d j l u) = omega arith
-sent_part-le c k (Short n d) = omega arith
-sent_part-le c k (Ended n d j) = omega arith
-sent_part-le c k (Capacity n capacity) = omega arith
-sent_part-le c k (Shed n d j) = omega arith
-sent_part-le c k (Looked n j) = omega arith
+sent_part-le c k _ = omega arith
 
-greatest-le : (f g : Record → ℕ) → ((r : Record) → f r ≤ g r) → (rs : List Record) → greatest_by f rs ≤ greatest_by g rs
+-- the greatest of what is less is less
+pub greatest-le : (f g : Record → ℕ) → ((r : Record) → f r ≤ g r) → (rs : List Record) → greatest_by f rs ≤ greatest_by g rs
 greatest-le f g le [] = omega arith
 greatest-le f g le (r ∷ rs) = omega (arith, le r, greatest-le f g le rs)
 

@@ -1,10 +1,10 @@
 -- Every record of a step has the step's moment, which is not before the book's or the table's.
-use Rattle.std.proofs.Common.{◌≡◌, ℕ, ◌≤◌, ◌++◌, max, List, [], ◌∷◌, map, Bool, true, false, cond, refl, arith, append_assoc, subst, sym}
+use Rattle.std.proofs.Common.{◌≡◌, ℕ, ◌≤◌, ◌++◌, max, List, [], ◌∷◌, map, refl, arith, append_assoc, subst, sym}
 use Rattle.std.proofs.lemmas.List.{append-nil}
 use Rattle.ptu_history.specs.declared.client.Client.{Client}
 use Rattle.ptu_history.specs.Client.{table_of}
 use Rattle.ptu_history.specs.History.{Record, Granted, Short, Ended, Capacity, Shed, Looked, Sent, moment_of}
-use Rattle.ptu_history.specs.Moments.{book_moment, book_part, is_of_table, table_moment, table_part}
+use Rattle.ptu_history.specs.Moments.{book_moment, book_part, table_moment, table_part}
 use Rattle.ptu_history.specs.Live.{Grant}
 use Rattle.ptu_history.specs.Verdict.{Config, Verdict, verdict, GrantedFor, ShortOf, Outside}
 use Rattle.ptu_history.specs.Events.{Event, Request, Cancel, Turn, DelayReq, Resize, Answer, Answered, NoGrant, TooSoon}
@@ -15,6 +15,7 @@ use Rattle.ptu_history.specs.Core.{core_moment, core_step, core_history}
 use Rattle.ptu_history.proofs.Lists.{by_push}
 use Rattle.ptu_history.proofs.Histories.{history-event, history-none}
 use Rattle.ptu_history.proofs.Moments.{book_moment-push, book_step_moment-bounds, table_moment-push, table_step_moment-bounds}
+use Rattle.ptu_history.proofs.Moments.{table_part-le}
 
 -- each of the records has this moment
 abbrev pub AllAt : ℕ → List Record → Type 0
@@ -51,13 +52,6 @@ book_part-le (Capacity n capacity) = omega arith
 book_part-le (Shed n c k) = omega arith
 book_part-le (Looked n j) = omega arith
 book_part-le (Sent n c k) = omega arith
-
-pub table_part-le : (j : ℕ) (r : Record) → table_part j r ≤ moment_of r
-table_part-le j r = at (is_of_table j r)
-  where
-    at : (b : Bool) → cond b (moment_of r) 0 ≤ moment_of r
-    at true = omega arith
-    at false = omega arith
 
 -- records of a moment leave the book's moment at most there
 pub book_moment-at : (x : ℕ) (rs history : List Record) → AllAt x rs → book_moment history ≤ x → book_moment (history ++ rs) ≤ x

@@ -1,8 +1,6 @@
 -- How many items a Signaling has.
-use Rattle.std.proofs.Common.{◌≡◌, ◌+◌, ℕ, ◌≤◌, List, [], ◌∷◌, Bool, true, false, ◌==◌, if◌then◌else◌, length, refl, arith, Option, Some, None, Result, Ok, Err}
-use Rattle.std.specs.List.{cons_option}
+use Rattle.std.proofs.Common.{◌≡◌, ℕ, ◌≤◌, List, Bool, true, false, ◌==◌, if◌then◌else◌, length, refl, arith, Result, Ok, Err}
 use Rattle.ptu_header.specs.declared.header.Header.{Header}
-use Rattle.ptu_tlvs.specs.declared.tlv.Tlv.{Tlv}
 use Rattle.ptu_messages.specs.declared.message.Body.{Body}
 use Rattle.ptu_messages.specs.declared.message.Body.TheVariants as body
 use Rattle.ptu_messages.specs.declared.message.Message.{Message}
@@ -16,15 +14,8 @@ use Rattle.ptu_gm_messages.specs.declared.heard.Heard.TheVariants as heard
 use Rattle.ptu_gm_messages.specs.declared.item.Item.{Item}
 use Rattle.ptu_gm_messages.specs.declared.reason.GmReason.{GmReason}
 use Rattle.ptu_gm_messages.specs.declared.reason.GmReason.TheVariants as reasons
-use Rattle.ptu_gm_messages.specs.Items.{heard_by, heard_in, is_for, item_of, items_among, of_message, with_items}
-
-no_more : (o : Option Item) (items : List Item) → length (cons_option o items) ≤ length items + 1
-no_more None items = omega arith
-no_more (Some item) items = omega arith
-
-few_among : (tlvs : List Tlv) → length (items_among tlvs) ≤ length tlvs
-few_among [] = omega arith
-few_among (t ∷ tlvs) = omega (arith, few_among tlvs, no_more (item_of t) (items_among tlvs))
+use Rattle.ptu_gm_messages.specs.Items.{heard_by, heard_in, is_for, items_among, of_message, with_items}
+use Rattle.ptu_gm_messages.proofs.Octets.{few_among}
 
 -- one reply is enough
 abbrev pub AreFew : Result Heard GmReason → Type 0

@@ -1,5 +1,5 @@
 -- The ports of one pool, lent and given back.
-use Rattle.std.proofs.Common.{◌≡◌, ◌≢◌, ◌∙◌, ◌⊎◌, inl, inr, ℕ, zero, suc, ◌+◌, ◌*◌, ◌<◌, ◌≤◌, ◌==◌, Bool, true, false, cond, length, List, [], ◌∷◌, slice_get, option_map, Option, Some, None, Result, Ok, Err, refl, sym, ap, subst, arith}
+use Rattle.std.proofs.Common.{◌≡◌, ◌≢◌, ◌∙◌, ◌⊎◌, inl, inr, ℕ, zero, suc, ◌*◌, ◌<◌, ◌==◌, Bool, true, false, cond, length, List, [], ◌∷◌, slice_get, option_map, Option, Some, None, Result, Ok, Err, refl, sym, ap, subst, arith}
 use Rattle.std.specs.Result.{OnOk}
 use Rattle.std.proofs.lemmas.Bool.{cases_eq, ne_eqb}
 use Rattle.ptu_outside.specs.MemoryPort.{MemoryPort}
@@ -8,7 +8,6 @@ use Rattle.ptu_grandmaster.specs.Gm.{KeptGm, port_at, table_at, with_port}
 use Rattle.ptu_pools.specs.Ported.{with_port_at, with_port_of}
 use Rattle.ptu_pools.specs.Standing.{KeptPools}
 use Rattle.ptu_nodes.specs.GrandmasterPorts.{HasReplyRoom, HasRoom}
-use Rattle.ptu_nodes.specs.Standing.{AreIdle, AreSure}
 use Rattle.ptu_pool_run.specs.Ports.{AreAllIdle, AreAllSure}
 
 pub on_ok_two : {T E P Q R : Type 0} (r : Result T E) → (P → Q → R) → OnOk r P → OnOk r Q → OnOk r R
@@ -55,70 +54,53 @@ with_by four first one two port gm =
     cond four (record gm { reply = port })
     (cond first (record gm { s0 = table }) (cond one (record gm { s1 = table }) (cond two (record gm { s2 = table }) (record gm { s3 = table }))))
 
-idle_with : (four first one two : Bool) (port : MemoryPort) (gm : KeptGm MemoryPort) → AreIdle gm → port.sent ≡ [] → AreIdle (with_by four first one two port gm)
-idle_with true first one two port gm (e0, e1, e2, e3, e4) none = (e0, e1, e2, e3, none)
-idle_with false true one two port gm (e0, e1, e2, e3, e4) none = (none, e1, e2, e3, e4)
-idle_with false false true two port gm (e0, e1, e2, e3, e4) none = (e0, none, e2, e3, e4)
-idle_with false false false true port gm (e0, e1, e2, e3, e4) none = (e0, e1, none, e3, e4)
-idle_with false false false false port gm (e0, e1, e2, e3, e4) none = (e0, e1, e2, none, e4)
+-- what is so of every port of a grandmaster
+abbrev AllPorts : (MemoryPort → Type 0) → KeptGm MemoryPort → Type 0
+AllPorts P gm = P gm.s0.port × P gm.s1.port × P gm.s2.port × P gm.s3.port × P gm.reply
 
-idle_at : (four first one two : Bool) (gm : KeptGm MemoryPort) → AreIdle gm → (cond four gm.reply (table_by first one two gm).port).sent ≡ []
-idle_at true first one two gm (e0, e1, e2, e3, e4) = e4
-idle_at false true one two gm (e0, e1, e2, e3, e4) = e0
-idle_at false false true two gm (e0, e1, e2, e3, e4) = e1
-idle_at false false false true gm (e0, e1, e2, e3, e4) = e2
-idle_at false false false false gm (e0, e1, e2, e3, e4) = e3
+all_with : (P : MemoryPort → Type 0) (four first one two : Bool) (port : MemoryPort) (gm : KeptGm MemoryPort) → AllPorts P gm → P port → AllPorts P (with_by four first one two port gm)
+all_with P true first one two port gm (e0, e1, e2, e3, e4) own = (e0, e1, e2, e3, own)
+all_with P false true one two port gm (e0, e1, e2, e3, e4) own = (own, e1, e2, e3, e4)
+all_with P false false true two port gm (e0, e1, e2, e3, e4) own = (e0, own, e2, e3, e4)
+all_with P false false false true port gm (e0, e1, e2, e3, e4) own = (e0, e1, own, e3, e4)
+all_with P false false false false port gm (e0, e1, e2, e3, e4) own = (e0, e1, e2, own, e4)
+
+own_of_all : (P : MemoryPort → Type 0) (four first one two : Bool) (gm : KeptGm MemoryPort) → AllPorts P gm → P (cond four gm.reply (table_by first one two gm).port)
+own_of_all P true first one two gm (e0, e1, e2, e3, e4) = e4
+own_of_all P false true one two gm (e0, e1, e2, e3, e4) = e0
+own_of_all P false false true two gm (e0, e1, e2, e3, e4) = e1
+own_of_all P false false false true gm (e0, e1, e2, e3, e4) = e2
+own_of_all P false false false false gm (e0, e1, e2, e3, e4) = e3
+
+-- what was so of every port, and goes over from the port that was lent to the one given back, is so still
+still : (P : MemoryPort → Type 0) (kept : KeptPools MemoryPort) (place index : ℕ) (before port : MemoryPort) →
+    ((gm : KeptGm MemoryPort) → slice_get kept.gms place ≡ Some gm → port_at index gm ≡ before) → (P before → P port) →
+    ((i : ℕ) (gm : KeptGm MemoryPort) → slice_get kept.gms i ≡ Some gm → AllPorts P gm) →
+    (i : ℕ) (gm : KeptGm MemoryPort) → slice_get (with_port_at place index port kept.gms) i ≡ Some gm → AllPorts P gm
+still P kept place index before port at over all i after now = by (cases_eq i place)
+  where
+    here : slice_get (with_port_at place index port kept.gms) place ≡ Some after → AllPorts P after
+    here there =
+        let lent = there_ported kept.gms place index port after there in
+        let was : AllPorts P lent.before = all place lent.before lent.was in
+        let own : P port = over (subst P (at lent.before lent.was) (own_of_all P (index == 4) (index == 0) (index == 1) (index == 2) lent.before was)) in
+        subst (AllPorts P) (sym lent.now) (all_with P (index == 4) (index == 0) (index == 1) (index == 2) port lent.before was own)
+
+    by : (i ≡ place) ⊎ (i ≡ place → ⊥) → AllPorts P after
+    by (inl same) = here (subst (λ j. slice_get (with_port_at place index port kept.gms) j ≡ Some after) same now)
+    by (inr other) = all i after (sym (others_ported kept.gms place index port i other) ∙ now)
 
 -- where nothing stood in any port, and as much stands in one that was lent, nothing does
 pub still_idle : (kept : KeptPools MemoryPort) (place index : ℕ) (before port : MemoryPort) →
     ((gm : KeptGm MemoryPort) → slice_get kept.gms place ≡ Some gm → port_at index gm ≡ before) → port.sent ≡ before.sent →
     AreAllIdle kept → AreAllIdle (with_port_of place index port kept)
-still_idle kept place index before port at same idle i after now = by (cases_eq i place)
-  where
-    here : slice_get (with_port_at place index port kept.gms) place ≡ Some after → AreIdle after
-    here there =
-        let lent = there_ported kept.gms place index port after there in
-        let was : AreIdle lent.before = idle place lent.before lent.was in
-        let none : port.sent ≡ [] = same ∙ ap (λ (p : MemoryPort). p.sent) (sym (at lent.before lent.was)) ∙ idle_at (index == 4) (index == 0) (index == 1) (index == 2) lent.before was in
-        subst AreIdle (sym lent.now) (idle_with (index == 4) (index == 0) (index == 1) (index == 2) port lent.before was none)
-
-    by : (i ≡ place) ⊎ (i ≡ place → ⊥) → AreIdle after
-    by (inl same) = here (subst (λ j. slice_get (with_port_at place index port kept.gms) j ≡ Some after) same now)
-    by (inr other) = idle i after (sym (others_ported kept.gms place index port i other) ∙ now)
-
--- ---- ports of which no send is to fail
-
-sure_with : (four first one two : Bool) (port : MemoryPort) (gm : KeptGm MemoryPort) → AreSure gm → port.failing_sends ≡ [] → AreSure (with_by four first one two port gm)
-sure_with true first one two port gm (e0, e1, e2, e3, e4) none = (e0, e1, e2, e3, none)
-sure_with false true one two port gm (e0, e1, e2, e3, e4) none = (none, e1, e2, e3, e4)
-sure_with false false true two port gm (e0, e1, e2, e3, e4) none = (e0, none, e2, e3, e4)
-sure_with false false false true port gm (e0, e1, e2, e3, e4) none = (e0, e1, none, e3, e4)
-sure_with false false false false port gm (e0, e1, e2, e3, e4) none = (e0, e1, e2, none, e4)
-
-sure_at : (four first one two : Bool) (gm : KeptGm MemoryPort) → AreSure gm → (cond four gm.reply (table_by first one two gm).port).failing_sends ≡ []
-sure_at true first one two gm (e0, e1, e2, e3, e4) = e4
-sure_at false true one two gm (e0, e1, e2, e3, e4) = e0
-sure_at false false true two gm (e0, e1, e2, e3, e4) = e1
-sure_at false false false true gm (e0, e1, e2, e3, e4) = e2
-sure_at false false false false gm (e0, e1, e2, e3, e4) = e3
+still_idle kept place index before port at same = still (λ p. p.sent ≡ []) kept place index before port at (λ none. same ∙ none)
 
 -- where no send of any port was to fail, and of one that was lent the same are to fail, none is
 pub still_sure : (kept : KeptPools MemoryPort) (place index : ℕ) (before port : MemoryPort) →
     ((gm : KeptGm MemoryPort) → slice_get kept.gms place ≡ Some gm → port_at index gm ≡ before) → port.failing_sends ≡ before.failing_sends →
     AreAllSure kept → AreAllSure (with_port_of place index port kept)
-still_sure kept place index before port at same sure i after now = by (cases_eq i place)
-  where
-    here : slice_get (with_port_at place index port kept.gms) place ≡ Some after → AreSure after
-    here there =
-        let lent = there_ported kept.gms place index port after there in
-        let was : AreSure lent.before = sure place lent.before lent.was in
-        let none : port.failing_sends ≡ [] =
-        same ∙ ap (λ (p : MemoryPort). p.failing_sends) (sym (at lent.before lent.was)) ∙ sure_at (index == 4) (index == 0) (index == 1) (index == 2) lent.before was in
-        subst AreSure (sym lent.now) (sure_with (index == 4) (index == 0) (index == 1) (index == 2) port lent.before was none)
-
-    by : (i ≡ place) ⊎ (i ≡ place → ⊥) → AreSure after
-    by (inl same) = here (subst (λ j. slice_get (with_port_at place index port kept.gms) j ≡ Some after) same now)
-    by (inr other) = sure i after (sym (others_ported kept.gms place index port i other) ∙ now)
+still_sure kept place index before port at same = still (λ p. p.failing_sends ≡ []) kept place index before port at (λ none. same ∙ none)
 
 -- the port that was lent is that of the grandmaster at the place
 pub lent_is : (gms : List (KeptGm MemoryPort)) (place index : ℕ) (gm : KeptGm MemoryPort) (port : MemoryPort) → slice_get gms place ≡ Some gm →

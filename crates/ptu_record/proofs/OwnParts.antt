@@ -230,34 +230,34 @@ own_count-other p m e es is = own_count-append p m (e ∷ []) es ∙ ap (λ n. n
 
 -- ---- Signalings and Delay_Reqs alone take numbers
 
-granted_none : (p : Entry → Bool) (x m : ℕ) → ((k : Kind) → p (Denied x m k) ≡ false) → ((seconds : ℕ) (k : Kind) → p (Granted x m k seconds) ≡ false)
-    → (b : Bool) (seconds : ℕ) (k : Kind) → p (cond b (Denied x m k) (Granted x m k seconds)) ≡ false
-granted_none p x m denied granted true seconds k = denied k
-granted_none p x m denied granted false seconds k = granted seconds k
+-- it takes none of either
+abbrev TakesNone : Entry → Type 0
+TakesNone f = (is_signalled f ≡ false) × (is_probed f ≡ false)
+
+granted_none : (x m : ℕ) (b : Bool) (seconds : ℕ) (k : Kind) → TakesNone (cond b (Denied x m k) (Granted x m k seconds))
+granted_none x m true seconds k = (refl, refl)
+granted_none x m false seconds k = (refl, refl)
+
+own_takes_none : (wants : Wants) (x : ℕ) (e : SlaveEvent) → AllByRecursion TakesNone (own_entries wants x e)
+own_takes_none wants x (TakeAnnounce m class) = ((refl, refl), tt)
+own_takes_none wants x (TakeSync m number) = ((refl, refl), tt)
+own_takes_none wants x (TakeFollowUp m) = tt
+own_takes_none wants x (TakeDelayResp m number) = ((refl, refl), tt)
+own_takes_none wants x (TakeSignaling m number signals) = signals_all TakesNone wants x m (λ seconds. granted_none x m (eqb seconds 0) seconds) (λ k. (refl, refl)) signals
+own_takes_none wants x (TellFlag m unusable) = ((refl, refl), tt)
+own_takes_none wants x (ReplaceJudge m rule) = ((refl, refl), tt)
+own_takes_none wants x Tick = tt
+own_takes_none wants x Stop = tt
+
+weaker : (P Q : Entry → Type 0) → ((f : Entry) → P f → Q f) → (es : Record) → AllByRecursion P es → AllByRecursion Q es
+weaker P Q over [] h = tt
+weaker P Q over (f ∷ es) h = (over f h.0, weaker P Q over es h.1)
 
 own_unsignalled : (wants : Wants) (x : ℕ) (e : SlaveEvent) → AllByRecursion (λ f. is_signalled f ≡ false) (own_entries wants x e)
-own_unsignalled wants x (TakeAnnounce m class) = (refl, tt)
-own_unsignalled wants x (TakeSync m number) = (refl, tt)
-own_unsignalled wants x (TakeFollowUp m) = tt
-own_unsignalled wants x (TakeDelayResp m number) = (refl, tt)
-own_unsignalled wants x (TakeSignaling m number signals) =
-    signals_all (λ f. is_signalled f ≡ false) wants x m (λ seconds. granted_none is_signalled x m (λ k. refl) (λ s k. refl) (eqb seconds 0) seconds) (λ k. refl) signals
-own_unsignalled wants x (TellFlag m unusable) = (refl, tt)
-own_unsignalled wants x (ReplaceJudge m rule) = (refl, tt)
-own_unsignalled wants x Tick = tt
-own_unsignalled wants x Stop = tt
+own_unsignalled wants x e = weaker TakesNone (λ f. is_signalled f ≡ false) (λ f h. h.0) (own_entries wants x e) (own_takes_none wants x e)
 
 own_unprobed : (wants : Wants) (x : ℕ) (e : SlaveEvent) → AllByRecursion (λ f. is_probed f ≡ false) (own_entries wants x e)
-own_unprobed wants x (TakeAnnounce m class) = (refl, tt)
-own_unprobed wants x (TakeSync m number) = (refl, tt)
-own_unprobed wants x (TakeFollowUp m) = tt
-own_unprobed wants x (TakeDelayResp m number) = (refl, tt)
-own_unprobed wants x (TakeSignaling m number signals) =
-    signals_all (λ f. is_probed f ≡ false) wants x m (λ seconds. granted_none is_probed x m (λ k. refl) (λ s k. refl) (eqb seconds 0) seconds) (λ k. refl) signals
-own_unprobed wants x (TellFlag m unusable) = (refl, tt)
-own_unprobed wants x (ReplaceJudge m rule) = (refl, tt)
-own_unprobed wants x Tick = tt
-own_unprobed wants x Stop = tt
+own_unprobed wants x e = weaker TakesNone (λ f. is_probed f ≡ false) (λ f h. h.1) (own_entries wants x e) (own_takes_none wants x e)
 
 stop_none : (p : Entry → Bool) (x : ℕ) (e : SlaveEvent) → p (Stopped x) ≡ false → AllByRecursion (λ f. p f ≡ false) (stop_entry x e)
 stop_none p x (TakeAnnounce m class) h = tt

@@ -2,9 +2,8 @@
 use Rattle.std.proofs.Common.{◌≡◌, ◌∙◌, ◌⊎◌, inl, inr, ℕ, ◌<◌, ◌≤◌, List, [], ◌∷◌, Bool, true, false, ◌&&◌, cond, ltb, leb, refl, sym, ap, ap₂, drop, suc, subst, arith}
 use Rattle.std.specs.List.{All, AllPairs, Contains, filter}
 use Rattle.std.specs.List.Sorted.{IsPermutation}
-use Rattle.std.specs.Ordering.{is_lt, ordering_reverse}
-use Rattle.std.specs.declared.cmp.Ordering.{Ordering}
-use Rattle.std.specs.declared.cmp.Ordering.TheVariants.{Less, Equal, Greater}
+use Rattle.std.specs.Ordering.{is_lt}
+use Rattle.std.specs.declared.cmp.Ordering.TheVariants.{Less}
 use Rattle.std.proofs.lemmas.Bool.{and_from, and_parts, false_from_ne_true, le-leb, leb-true, lt-ltb, ltb-true, true≢false}
 use Rattle.std.proofs.lemmas.List.Elements.{All-contains}
 use Rattle.std.proofs.lemmas.List.Kept.{AllPairs-filter}
@@ -24,6 +23,7 @@ use Rattle.ptu_shard.proofs.RowLists.{Differ}
 use Rattle.ptu_shard.proofs.Sorting.{row_cmp-differ, row_cmp-total}
 use Rattle.ptu_shard.proofs.Spending.{Contains-image, IsImage, distinct_spent, image}
 use Rattle.ptu_shard.proofs.Members.{in_order_from, in_order_to, map_agree, map_same, one_row, rises_in_order}
+use Rattle.ptu_history.proofs.Unique.{below_from}
 
 due_from : (x : ℕ) (rows : List Row) (z : Row) → Contains (due_rows x rows) z → Contains rows z × (is_due_row x z ≡ true)
 due_from x rows z h = Contains-from_filter (is_due_row x) rows z (in_order_from (filter (is_due_row x) rows) z h)
@@ -84,13 +84,6 @@ taken_first all e first = subst (IsPermutation all) first (IsPermutation-refl al
 pub least_first : (all : List Entry) (e : Entry) → IsNoneBelow e all → IsNoneBelow e (drop 1 all)
 least_first [] e least k d lt = absurd (omega arith)
 least_first (f ∷ rest) e least k d lt = least (suc k) d (omega (arith, lt))
-
-below_from : (a b : Ordering) → a ≡ ordering_reverse b → is_lt b ≡ false → (a ≡ Equal → ⊥) → a ≡ Less
-below_from Less b e f differ = refl
-below_from Equal b e f differ = absurd (differ refl)
-below_from Greater Less e f differ = absurd (true≢false f)
-below_from Greater Equal e f differ = absurd (cc)
-below_from Greater Greater e f differ = absurd (cc)
 
 -- one row that is due spends a period
 module _ (x : ℕ) (rows : List Row) (pairs : AllPairs Differ rows) (r : Row) (kept : Contains rows r) (due : is_due_row x r ≡ true) (later : is_due_row x (spent_row x r) ≡ false) where

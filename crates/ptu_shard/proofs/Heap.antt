@@ -11,24 +11,11 @@ use Rattle.std.specs.declared.cmp.Ordering.TheVariants.{Less, Equal, Greater}
 use Rattle.std.specs.declared.cmp.Reverse.{Reverse}
 use Rattle.std.proofs.lemmas.Bool.{false≢true, true≢false}
 use Rattle.std.proofs.lemmas.List.Elements.{All-from_recursion, All-map, All-weaker}
-use Rattle.ptu_units.specs.declared.kind.Kind.{Kind}
-use Rattle.ptu_units.specs.declared.kind.Kind.TheVariants.{Announce, Sync, DelayResp}
-use Rattle.ptu_units.specs.contracts.kind.KindOrd.TheImpl as kinds
 use Rattle.ptu_history.specs.Client.{client_cmp, kind_cmp}
 use Rattle.ptu_shard.specs.declared.queue.Entry.{Entry}
 use Rattle.ptu_shard.specs.contracts.queue.EntryOrd.TheImpl as entries
 use Rattle.ptu_shard.specs.Queue.{IsNoneBelow, entry_cmp}
-
-pub kind_cmp_is : (j k : Kind) → kinds.cmp-value.it j k ≡ kind_cmp j k
-kind_cmp_is Announce Announce = refl
-kind_cmp_is Announce Sync = refl
-kind_cmp_is Announce DelayResp = refl
-kind_cmp_is Sync Announce = refl
-kind_cmp_is Sync Sync = refl
-kind_cmp_is Sync DelayResp = refl
-kind_cmp_is DelayResp Announce = refl
-kind_cmp_is DelayResp Sync = refl
-kind_cmp_is DelayResp DelayResp = refl
+use Rattle.ptu_history.proofs.Order.{kind_cmp_is}
 
 entry_cmp_is : (a b : Entry) → entries.cmp-value.it a b ≡ entry_cmp a b
 entry_cmp_is a b = ap (λ o. ordering_then (nat_cmp a.moment b.moment) (ordering_then (client_cmp a.client b.client) o)) (kind_cmp_is a.kind b.kind)

@@ -23,7 +23,7 @@ pub record HasSent {P : Type 0} (ports : Ports P) (config : GmConfig) (x : ℕ) 
   pub so_far : due_rows x before ≡ done ++ due_rows x now
   pub sends : HandsOver ports old new (map (datagram config x) done) sent failed
 
-length-filter-le : {A : Type 0} (p : A → Bool) (xs : List A) → length (filter p xs) ≤ length xs
+pub length-filter-le : {A : Type 0} (p : A → Bool) (xs : List A) → length (filter p xs) ≤ length xs
 length-filter-le p [] = omega arith
 length-filter-le p (x ∷ xs) = at (p x) (length-filter-le p xs)
   where

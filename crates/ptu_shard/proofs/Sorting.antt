@@ -1,9 +1,8 @@
 -- Rows in the order of sending: a list of rows without two of one client and kind has one such order.
-use Rattle.std.proofs.Common.{◌≡◌, ◌∙◌, ℕ, zero, suc, ◌+◌, ◌≤◌, List, [], ◌∷◌, Bool, true, false, ◌&&◌, cond, eqb, ltb, refl, sym, ap, arith}
+use Rattle.std.proofs.Common.{◌≡◌, ◌∙◌, ℕ, zero, suc, ◌+◌, ◌≤◌, List, [], ◌∷◌, Bool, true, false, ◌&&◌, cond, eqb, refl, sym, ap, arith}
 use Rattle.std.specs.Cmp.{IsTotalOrder}
 use Rattle.std.specs.Ordering.{nat_cmp, ordering_then}
-use Rattle.std.specs.declared.cmp.Ordering.{Ordering}
-use Rattle.std.specs.declared.cmp.Ordering.TheVariants.{Less, Equal, Greater}
+use Rattle.std.specs.declared.cmp.Ordering.TheVariants.{Equal}
 use Rattle.std.specs.List.{AllPairs, Contains, sum_by}
 use Rattle.std.specs.List.Sorted.{IsPermutation}
 use Rattle.std.proofs.lemmas.Bool.{false_from_ne_true, true≢false, and_from}
@@ -19,6 +18,7 @@ use Rattle.ptu_shard.specs.declared.lease.Row.{Row}
 use Rattle.ptu_shard.specs.Row.{is_row_of}
 use Rattle.ptu_shard.specs.Turn.{row_cmp}
 use Rattle.ptu_shard.proofs.RowLists.{Differ}
+use Rattle.ptu_history.proofs.Orders.{nat_tie, then_parts}
 
 -- how many rows there are of a client and kind
 abbrev copies : Client → Kind → List Row → ℕ
@@ -87,28 +87,14 @@ row_cmp-total =
     then_total (on_total (λ (row : Row). row.lease.edge) nat_cmp_total)
     (then_total (on_total (λ (row : Row). row.client) client_cmp-total) (on_total (λ (row : Row). row.kind) kind_cmp-total))
 
--- where the order ties, the client and kind are one
-tie_of_numbers : (a b : ℕ) → nat_cmp a b ≡ Equal → eqb a b ≡ true
-tie_of_numbers a b e = at (ltb a b) (eqb a b) e
-  where
-    at : (s t : Bool) → cond s Less (cond t Equal Greater) ≡ Equal → t ≡ true
-    at true t e = absurd (cc)
-    at false true e = refl
-    at false false e = absurd (cc)
-
-both_tie : (a b : Ordering) → ordering_then a b ≡ Equal → (a ≡ Equal) × (b ≡ Equal)
-both_tie Less b e = absurd (cc)
-both_tie Equal b e = (refl, e)
-both_tie Greater b e = absurd (cc)
-
 pub row_cmp-differ : (a b : Row) → Differ a b → row_cmp a b ≡ Equal → ⊥
 row_cmp-differ a b differ e =
-    let rest = (both_tie (nat_cmp a.lease.edge b.lease.edge) (ordering_then (client_cmp a.client b.client) (kind_cmp a.kind b.kind)) e).1 in
-    let keys = both_tie (client_cmp a.client b.client) (kind_cmp a.kind b.kind) rest in
-    let ip = both_tie (nat_cmp a.client.ip b.client.ip) (ordering_then (nat_cmp a.client.clock b.client.clock) (nat_cmp a.client.port b.client.port)) keys.0 in
-    let clock = both_tie (nat_cmp a.client.clock b.client.clock) (nat_cmp a.client.port b.client.port) ip.1 in
+    let rest = (then_parts (nat_cmp a.lease.edge b.lease.edge) (ordering_then (client_cmp a.client b.client) (kind_cmp a.kind b.kind)) e).1 in
+    let keys = then_parts (client_cmp a.client b.client) (kind_cmp a.kind b.kind) rest in
+    let ip = then_parts (nat_cmp a.client.ip b.client.ip) (ordering_then (nat_cmp a.client.clock b.client.clock) (nat_cmp a.client.port b.client.port)) keys.0 in
+    let clock = then_parts (nat_cmp a.client.clock b.client.clock) (nat_cmp a.client.port b.client.port) ip.1 in
     true≢false (sym (and_from (same_client a.client b.client) (same_kind a.kind b.kind)
     (and_from (eqb a.client.ip b.client.ip && eqb a.client.clock b.client.clock) (eqb a.client.port b.client.port)
-    (and_from (eqb a.client.ip b.client.ip) (eqb a.client.clock b.client.clock) (tie_of_numbers a.client.ip b.client.ip ip.0) (tie_of_numbers a.client.clock b.client.clock clock.0))
-    (tie_of_numbers a.client.port b.client.port clock.1))
-    (tie_of_numbers (kind_place a.kind) (kind_place b.kind) keys.1)) ∙ differ)
+    (and_from (eqb a.client.ip b.client.ip) (eqb a.client.clock b.client.clock) (nat_tie a.client.ip b.client.ip ip.0) (nat_tie a.client.clock b.client.clock clock.0))
+    (nat_tie a.client.port b.client.port clock.1))
+    (nat_tie (kind_place a.kind) (kind_place b.kind) keys.1)) ∙ differ)

@@ -24,7 +24,8 @@ use Rattle.ptu_shard.specs.Row.{is_row_of, lease_of, share_of}
 use Rattle.ptu_shard.specs.Table.{IsLeaseOf, StandsAt}
 use Rattle.ptu_shard.specs.Turn.{edge_after, spent_row, spent_where}
 use Rattle.ptu_shard.proofs.RowLists.{Differ, missing_none, none_missing}
-use Rattle.ptu_shard.proofs.Standing.{IsLeaseOf-push, table_part-le}
+use Rattle.ptu_shard.proofs.Standing.{IsLeaseOf-push}
+use Rattle.ptu_history.proofs.Moments.{table_part-le}
 
 abbrev spent_if : (Row → Bool) → ℕ → Row → Row
 spent_if test x row = cond (test row) (spent_row x row) row

@@ -6,7 +6,7 @@ use Rattle.ptu_units.specs.declared.kind.Kind.{Kind}
 use Rattle.ptu_history.specs.declared.client.Client.{Client}
 use Rattle.ptu_history.specs.Client.{same_lease, table_of}
 use Rattle.ptu_history.specs.History.{Record, Granted, concerns, is_decision, moment_of}
-use Rattle.ptu_history.specs.Moments.{is_of_table, table_moment, table_part}
+use Rattle.ptu_history.specs.Moments.{table_moment, table_part}
 use Rattle.ptu_history.specs.Live.{last_decision}
 use Rattle.ptu_history.proofs.Keys.{same_lease-sym, same_lease-true}
 use Rattle.ptu_history.proofs.Moments.{table_moment-push}
@@ -18,6 +18,7 @@ use Rattle.ptu_shard.specs.declared.lease.Row.{Row}
 use Rattle.ptu_shard.specs.Row.{is_row_of, lease_of, without_row}
 use Rattle.ptu_shard.specs.Table.{IsLeaseOf, StandsAt}
 use Rattle.ptu_shard.proofs.RowLists.{HasSameMembers, IsMissing, IsPresent, lease_cases, missing_none, none_missing, present_some}
+use Rattle.ptu_history.proofs.Moments.{table_part-le}
 
 -- the order of the rows does not matter
 pub stands_same : (book j moment : ℕ) (history : List Record) (xs ys : List Row) → HasSameMembers xs ys → StandsAt book j xs moment history → StandsAt book j ys moment history
@@ -84,13 +85,6 @@ IsLeaseOf-push history r c k lease other h = record {
     undecided : (b : Bool) → cond b (concerns c k r) false ≡ false
     undecided true = other
     undecided false = refl
-
-pub table_part-le : (j : ℕ) (r : Record) → table_part j r ≤ moment_of r
-table_part-le j r = at (is_of_table j r)
-  where
-    at : (b : Bool) → cond b (moment_of r) 0 ≤ moment_of r
-    at true = omega arith
-    at false = omega arith
 
 -- a decision on one client and kind, at a moment that the table has reached
 module _ (book j moment : ℕ) (history : List Record) (rows : List Row) (s : StandsAt book j rows moment history) (c : Client) (k : Kind) (r : Record)

@@ -1,33 +1,24 @@
 -- What one event makes of a slave that stands for a node with a record.
-use Rattle.std.proofs.Common.{◌≡◌, ◌≢◌, ℕ, zero, suc, ◌+◌, ◌<◌, ◌≤◌, max, Bool, true, false, List, [], ◌∷◌, ◌++◌, length, map, Option, Some, None, Ok, Err, refl, ap, ap₂, sym, subst, ◌∙◌, arith}
+use Rattle.std.proofs.Common.{◌≡◌, ◌≢◌, ℕ, zero, suc, ◌+◌, ◌<◌, ◌≤◌, max, List, [], ◌∷◌, ◌++◌, length, map, Option, None, Ok, Err, refl, ap, ap₂, sym, subst, ◌∙◌, arith}
 use Rattle.std.proofs.lemmas.List.{append-nil}
-use Rattle.std.proofs.lemmas.List.Quantifiers.{position-Some}
 use Rattle.std.specs.List.{AllByRecursion, range_with_len}
 use Rattle.std.specs.Option.{option_map}
-use Rattle.std.specs.Prelude.{IfSome, IsSome, Result, if◌then◌else◌, ◌==◌, not}
-use Rattle.ptu_header.specs.declared.header.Header.{Header}
-use Rattle.ptu_messages.specs.declared.fault.MessageFault.{MessageFault}
-use Rattle.ptu_messages.specs.declared.message.Body.{Body}
-use Rattle.ptu_messages.specs.declared.message.Body.TheVariants as body
+use Rattle.std.specs.Prelude.{IsSome, Result}
 use Rattle.ptu_messages.specs.declared.message.Message.{Message}
-use Rattle.ptu_messages.specs.Reading.{message_in}
 use Rattle.ptu_outside.specs.declared.arrival.Arrival.{Arrival}
 use Rattle.ptu_record.specs.declared.rule.Rule.{Rule}
 use Rattle.ptu_record.specs.Lists.{places}
 use Rattle.ptu_record.specs.Record.{Record, event_moment}
 use Rattle.ptu_record.specs.Selection.{selected_master}
-use Rattle.ptu_record.specs.SignalFails.{Timeouts}
-use Rattle.ptu_record.proofs.Choice.{chosen_best}
 use Rattle.ptu_record.specs.Step.{ReplaceJudge, SlaveEvent, Stop, Tick, judged_masters, sendings, slave_step}
 use Rattle.ptu_judges.specs.Held.{Held}
 use Rattle.ptu_profile.specs.declared.slave.Master.{Master}
 use Rattle.ptu_profile.specs.declared.slave.SlaveConfig.{SlaveConfig}
 use Rattle.ptu_slave_messages.specs.declared.reason.SlaveReason.{SlaveReason}
-use Rattle.ptu_slave_messages.specs.declared.reason.SlaveReason.TheVariants.{Domain, Other, Target, UnknownType}
-use Rattle.ptu_profile.specs.Slave.{address_of, place_of, priorities, timeouts}
+use Rattle.ptu_profile.specs.Slave.{address_of, priorities, timeouts}
 use Rattle.ptu_slave_messages.specs.Heard.{event_of, replies_in}
 use Rattle.ptu_slave_messages.specs.Node.{Node, datagram_deed, deed, node_selection, node_setup, reception_deed}
-use Rattle.ptu_slave_messages.specs.Reception.{beside, from_master, is_delay_req, is_for, is_unknown, of_reading, reception, sender_of}
+use Rattle.ptu_slave_messages.specs.Reception.{reception}
 use Rattle.ptu_slave_messages.specs.Sending.{all_ones, departure_of}
 use Rattle.ptu_slave.specs.Kept.{IsSame, Kept}
 use Rattle.ptu_slave.specs.Standing.{StandsFor, Steps, setup_of}
@@ -37,59 +28,9 @@ use Rattle.ptu_slave.proofs.Staying.{rules_stay}
 use Rattle.ptu_slave.proofs.Stepping.{moment_is}
 use Rattle.ptu_slave_daemon.specs.Happenings.{Arrives, Stops, Ticks}
 use Rattle.ptu_slave_daemon.specs.Running.{AreTimed, IsAt, PortDid, Ran, View}
+use Rattle.ptu_slave_messages.proofs.Senders.{judged_within, no_judge, taken_within}
 
 -- ---- masters
-
-past : {A E : Type 0} (b : Bool) (e : E) (r : Result A E) (x : A) → (if b then Err e else r) ≡ Ok x → r ≡ Ok x
-past true e r x is = absurd (cc is)
-past false e r x is = is
-
-from_place : (config : SlaveConfig) (masters : List Master) (ip n : ℕ) (message : Message) (place : Option ℕ) → place_of masters ip ≡ place → from_master config message place ≡ Ok n → n < length masters
-from_place config masters ip n message None at is = absurd (cc is)
-from_place config masters ip n message (Some k) at is =
-    let here : (if not (is_for config.identity message.body) then Err Target else Ok k) ≡ Ok n =
-    past (not (message.header.domain == config.domain)) (Domain message.header.domain) (if not (is_for config.identity message.body) then Err Target else Ok k) n is in
-    let taken : Ok k ≡ Ok n = past (not (is_for config.identity message.body)) Target (Ok k) n here in
-    let same : k ≡ n = cc taken in
-    subst (λ i. i < length masters) same (position-Some (λ (master : Master). master.ip == ip) masters k (record { ip = 0; priority = 0 }) at).0
-
-from_beside : (config : SlaveConfig) (masters : List Master) (ip m : ℕ) (read message : Message) (o : Result ℕ SlaveReason) → sender_of config masters ip read ≡ o → beside read o ≡ Ok (m, message) → m < length masters
-from_beside config masters ip m read message (Err reason) sender is = absurd (cc is)
-from_beside config masters ip m read message (Ok n) sender is =
-    let known : (if is_delay_req read.body then Err (Other read.header.message_type) else from_master config read (place_of masters ip)) ≡ Ok n =
-    past (is_unknown read.body) (UnknownType read.header.message_type) (if is_delay_req read.body then Err (Other read.header.message_type) else from_master config read (place_of masters ip)) n sender in
-    subst (λ i. i < length masters) (ap first is)
-    (from_place config masters ip n read (place_of masters ip) refl (past (is_delay_req read.body) (Other read.header.message_type) (from_master config read (place_of masters ip)) n known))
-  where
-    first : Result (ℕ × Message) SlaveReason → ℕ
-    first (Err reason) = 0
-    first (Ok taken) = taken.0
-
--- who sends a message that is taken stands in the list
-taken_within : (config : SlaveConfig) (masters : List Master) (ip m : ℕ) (message : Message) (octets : List ℕ) → reception config masters ip octets ≡ Ok (m, message) → m < length masters
-taken_within config masters ip m message octets = by_reading (message_in octets)
-  where
-    by_reading : (r : Result Message MessageFault) → of_reading config masters ip r ≡ Ok (m, message) → m < length masters
-    by_reading (Err fault) is = absurd (cc is)
-    by_reading (Ok read) is = from_beside config masters ip m read message (sender_of config masters ip read) refl is
-
-no_judge : (m n : ℕ) (header : Header) (b : Body) → event_of m (record { header = header; body = b }) ≢ ReplaceJudge n None
-no_judge m n header (body.Announce announce) = λ is. absurd (cc is)
-no_judge m n header (body.Sync stamp) = λ is. absurd (cc is)
-no_judge m n header (body.FollowUp stamp) = λ is. absurd (cc is)
-no_judge m n header (body.DelayResp stamp requester) = λ is. absurd (cc is)
-no_judge m n header (body.Signaling target tlvs) = λ is. absurd (cc is)
-no_judge m n header (body.DelayReq stamp) = λ is. absurd (cc is)
-no_judge m n header body.Ignored = λ is. absurd (cc is)
-
-judged_within : (m n : ℕ) (header : Header) (b : Body) → m < n → AllByRecursion (λ k. k < n) (judged_masters n (event_of m (record { header = header; body = b })))
-judged_within m n header (body.Announce announce) lt = tt
-judged_within m n header (body.Sync stamp) lt = (lt, tt)
-judged_within m n header (body.FollowUp stamp) lt = tt
-judged_within m n header (body.DelayResp stamp requester) lt = tt
-judged_within m n header (body.Signaling target tlvs) lt = tt
-judged_within m n header (body.DelayReq stamp) lt = tt
-judged_within m n header body.Ignored lt = tt
 
 places_within : (a n k : ℕ) → a + n ≤ k → AllByRecursion (λ m. m < k) (range_with_len a n)
 places_within a zero k le = tt

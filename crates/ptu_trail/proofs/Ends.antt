@@ -12,9 +12,6 @@ use Rattle.std.proofs.lemmas.Bool.{and_parts, eqb-true, false_from_ne_true, fals
 use Rattle.std.proofs.lemmas.List.Elements.{All-head, All-tail, filter_agree}
 use Rattle.std.proofs.lemmas.List.Sums.{sum_by-cons}
 use Rattle.std.proofs.lemmas.Map.Entries.{sum_by-insert_entry, sum_by-remove_entry}
-use Rattle.ptu_units.specs.declared.kind.Kind.{Kind}
-use Rattle.ptu_units.specs.declared.kind.Kind.TheVariants.{Announce, Sync, DelayResp}
-use Rattle.ptu_units.specs.contracts.kind.KindOrd.TheImpl as kinds
 use Rattle.ptu_history.specs.Client.{client_cmp, kind_cmp, same_client, same_lease}
 use Rattle.ptu_history.specs.declared.client.Client.{Client}
 use Rattle.ptu_trail.specs.declared.live.End.{End}
@@ -22,19 +19,9 @@ use Rattle.ptu_trail.specs.contracts.live.EndOrd.TheImpl as ends
 use Rattle.ptu_trail.specs.contracts.live.EndOrd.TheImpl.Laws.{total-law}
 use Rattle.ptu_trail.specs.Live.{is_live_entry, is_other_entry, total_of}
 use Rattle.ptu_trail.proofs.Accounts.{cmp_same}
+use Rattle.ptu_history.proofs.Order.{kind_cmp_is}
 
 -- ---- the order of ends
-
-kind_cmp_is : (j k : Kind) → kinds.cmp-value.it j k ≡ kind_cmp j k
-kind_cmp_is Announce Announce = refl
-kind_cmp_is Announce Sync = refl
-kind_cmp_is Announce DelayResp = refl
-kind_cmp_is Sync Announce = refl
-kind_cmp_is Sync Sync = refl
-kind_cmp_is Sync DelayResp = refl
-kind_cmp_is DelayResp Announce = refl
-kind_cmp_is DelayResp Sync = refl
-kind_cmp_is DelayResp DelayResp = refl
 
 -- by moment, then client, then kind
 abbrev pub end_cmp : End → End → Ordering

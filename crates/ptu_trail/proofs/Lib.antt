@@ -1,4 +1,4 @@
-mod Accounts
+pub mod Accounts
 mod Ends
 mod Faultless
 mod Judging

@@ -5,12 +5,13 @@ use Rattle.ptu_units.specs.declared.kind.Kind.{Kind}
 use Rattle.ptu_history.specs.declared.client.Client.{Client}
 use Rattle.ptu_history.specs.Client.{same_client, same_kind}
 use Rattle.ptu_history.specs.History.{Record, Granted, Short, Ended, Capacity, Shed, Looked, Sent}
-use Rattle.ptu_history.specs.Moments.{book_moment, greatest_by}
+use Rattle.ptu_history.specs.Moments.{book_moment}
 use Rattle.ptu_history.specs.Live.{live}
 use Rattle.ptu_history.specs.Lawful.{earliest, lawful}
 use Rattle.ptu_laws.specs.Sound.{IsInOrder, IsSound, MayStand, last_sent, sent_part}
 use Rattle.ptu_trail.specs.declared.cause.NoCause.{NoCause}
 use Rattle.ptu_trail.specs.Faults.{AreInRange, IsFaultless, IsInRange, first_of, tests_of, is_back, last_sent_to, sent_to_part}
+use Rattle.ptu_laws.proofs.Stands.{greatest-le}
 
 abbrev pub AreFalse : List (Bool × NoCause) → Type 0
 AreFalse [] = Unit {0}
@@ -34,16 +35,7 @@ part-le false b x = omega arith
 
 one-le : (c : Client) (k : Kind) (r : Record) → sent_part c k r ≤ sent_to_part c r
 one-le c k (Sent x d j) = part-le (same_client c d) (same_kind k j) x
-one-le c k (Granted n d j l u) = omega arith
-one-le c k (Short n d) = omega arith
-one-le c k (Ended n d j) = omega arith
-one-le c k (Capacity x capacity) = omega arith
-one-le c k (Shed x d j) = omega arith
-one-le c k (Looked x j) = omega arith
-
-greatest-le : (f g : Record → ℕ) → ((r : Record) → f r ≤ g r) → (rs : List Record) → greatest_by f rs ≤ greatest_by g rs
-greatest-le f g each [] = omega arith
-greatest-le f g each (r ∷ rs) = omega (arith, each r, greatest-le f g each rs)
+one-le c k _ = omega arith
 
 last_sent-le : (before : List Record) (c : Client) (k : Kind) → last_sent before c k ≤ last_sent_to before c
 unfolding last_sent last_sent_to

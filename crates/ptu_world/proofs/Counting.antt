@@ -2,12 +2,11 @@
 -- few.
 use Rattle.std.proofs.Common.{◌≡◌, ◌∙◌, ℕ, suc, ◌+◌, ◌*◌, ◌-◌, ◌^◌, ◌≤◌, ◌==◌, Bool, true, false, cond, List, [], ◌∷◌, ◌++◌, length, map, Option, Some, None, Result, Ok, Err, IfOk, refl, sym, ap, arith}
 use Rattle.std.proofs.lemmas.List.{length-map}
-use Rattle.std.specs.List.{count_by, cons_option}
+use Rattle.std.specs.List.{count_by}
 use Rattle.std.proofs.lemmas.List.Sums.{count_by-le-length, sum_by-append, sum_by-cons}
 use Rattle.ptu_lines.specs.Script.{ScriptLine, Whole, Refused, script_lines}
 use Rattle.ptu_report.proofs.FewLines.{few_lines}
 use Rattle.ptu_header.specs.declared.header.Header.{Header}
-use Rattle.ptu_tlvs.specs.declared.tlv.Tlv.{Tlv}
 use Rattle.ptu_messages.specs.declared.fault.MessageFault.{MessageFault}
 use Rattle.ptu_messages.specs.declared.message.Body.{Body}
 use Rattle.ptu_messages.specs.declared.message.Body.TheVariants as body
@@ -30,7 +29,7 @@ use Rattle.ptu_gm_messages.specs.declared.item.Item.{Item}
 use Rattle.ptu_gm_messages.specs.declared.reason.GmReason.{GmReason}
 use Rattle.ptu_gm_messages.specs.declared.reason.GmReason.TheVariants as ignored
 use Rattle.ptu_gm_messages.specs.Deciding.{Decision, client_of, decision_of, decisions_of, item_records, placed}
-use Rattle.ptu_gm_messages.specs.Items.{heard_by, heard_in, is_for, item_of, items_among, items_by, of_message, with_items}
+use Rattle.ptu_gm_messages.specs.Items.{heard_by, heard_in, is_for, items_among, items_by, of_message, with_items}
 use Rattle.ptu_record.specs.Step as slave_events
 use Rattle.ptu_profile.specs.declared.slave.Master.{Master}
 use Rattle.ptu_slave_messages.specs.declared.heard.Heard as slave_heard
@@ -57,6 +56,7 @@ use Rattle.ptu_world.specs.Slaves as slaves
 use Rattle.ptu_world.specs.Report.{granted_count, is_granted_line, is_short_line, lines_by, lines_by_line, lines_from, report_lines, short_count}
 use Rattle.ptu_world.specs.World.{World, Stock, Done, add_master, at_grandmaster, at_slave, datagram_deed, datagram_numbered, delivered_to, done_by, grandmaster_by, node_at, opening, or_cause, place_in, quietly, sending_said, sent_from, set_up, slave_at, slave_by, step, stock_without}
 use Rattle.ptu_world.proofs.Limits.{ok_bound}
+use Rattle.ptu_gm_messages.proofs.Octets.{few_among}
 
 -- ---- counts
 
@@ -102,14 +102,6 @@ short_decided (At n _) = omega arith
 short_decided (End lines datagrams) = omega arith
 
 -- ---- a Signaling has few items
-
-no_more : (o : Option Item) (items : List Item) → length (cons_option o items) ≤ length items + 1
-no_more None items = omega arith
-no_more (Some item) items = omega arith
-
-few_among : (tlvs : List Tlv) → length (items_among tlvs) ≤ length tlvs
-few_among [] = omega arith
-few_among (t ∷ tlvs) = omega (arith, few_among tlvs, no_more (item_of t) (items_among tlvs))
 
 abbrev AreFew : List Item → Type 0
 AreFew items = length items ≤ 32

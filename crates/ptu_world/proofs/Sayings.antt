@@ -54,39 +54,26 @@ plain_each : {A : Type 0} (f : A → Statement) (list : List A) → ((x : A) →
 plain_each f [] h = refl
 plain_each f (x ∷ list) h = ap (λ b. b && list_all is_plain (map f list)) (h x) ∙ plain_each f list h
 
+-- of what is plain none is picked out by what picks nothing plain
+none_picked : {A : Type 0} (pick : Statement → Option A) → ((s : Statement) → is_plain s ≡ true → pick s ≡ None) → (said : List Statement) → IsPlain said → filter_map pick said ≡ []
+none_picked pick none [] h = refl
+none_picked pick none (s ∷ said) h =
+    let parts = and_parts (is_plain s) (list_all is_plain said) h in
+    ap (λ o. cons_option o (filter_map pick said)) (none s parts.0) ∙ none_picked pick none said parts.1
+
+plain_sent : (s : Statement) → is_plain s ≡ true → sent_in s ≡ None
+plain_sent (statements.Sent number sent) h = absurd cc
+plain_sent _ h = refl
+
 no_sent : (said : List Statement) → IsPlain said → filter_map sent_in said ≡ []
-no_sent [] h = refl
-no_sent (s ∷ said) h = by s (and_parts (is_plain s) (list_all is_plain said) h).0 (no_sent said (and_parts (is_plain s) (list_all is_plain said) h).1)
-  where
-    by : (s : Statement) → is_plain s ≡ true → filter_map sent_in said ≡ [] → cons_option (sent_in s) (filter_map sent_in said) ≡ []
-    by (statements.Sent number sent) h e = absurd cc
-    by (statements.Decided x) h e = e
-    by (statements.Asked x) h e = e
-    by (statements.Heard x) h e = e
-    by (statements.Received x) h e = e
-    by (statements.Ignored x) h e = e
-    by (statements.Capacity x y z) h e = e
-    by (statements.Shed x y z) h e = e
-    by statements.Nobody h e = e
-    by (statements.Selected x y) h e = e
-    by (statements.Bad x) h e = e
+no_sent = none_picked sent_in plain_sent
+
+plain_selected : (s : Statement) → is_plain s ≡ true → selected_in s ≡ None
+plain_selected (statements.Selected x y) h = absurd cc
+plain_selected _ h = refl
 
 no_selected : (said : List Statement) → IsPlain said → filter_map selected_in said ≡ []
-no_selected [] h = refl
-no_selected (s ∷ said) h = by s (and_parts (is_plain s) (list_all is_plain said) h).0 (no_selected said (and_parts (is_plain s) (list_all is_plain said) h).1)
-  where
-    by : (s : Statement) → is_plain s ≡ true → filter_map selected_in said ≡ [] → cons_option (selected_in s) (filter_map selected_in said) ≡ []
-    by (statements.Selected x y) h e = absurd cc
-    by (statements.Sent number sent) h e = e
-    by (statements.Decided x) h e = e
-    by (statements.Asked x) h e = e
-    by (statements.Heard x) h e = e
-    by (statements.Received x) h e = e
-    by (statements.Ignored x) h e = e
-    by (statements.Capacity x y z) h e = e
-    by (statements.Shed x y z) h e = e
-    by statements.Nobody h e = e
-    by (statements.Bad x) h e = e
+no_selected = none_picked selected_in plain_selected
 
 -- ---- what is said of an event
 

@@ -1,9 +1,10 @@
 use Rattle.std.proofs.Common.{◌≤◌, arith, refl}
 use Rattle.ptu_history.specs.History.{Short}
 use Rattle.ptu_history.specs.Moments.{table_part}
-use Rattle.ptu_shard.proofs.Standing.{stands_elsewhere, table_part-le}
+use Rattle.ptu_shard.proofs.Standing.{stands_elsewhere}
 use Rattle.ptu_admit.proofs.Lending.{stands_later}
 use Rattle.ptu_admit.proofs.granting.decide_swept.Goals as goal
+use Rattle.ptu_history.proofs.Moments.{table_part-le}
 
 pub returns-else-others-rate-clause-stands : goal.returns-else-others-rate-clause-stands
 returns-else-others-rate-clause-stands g c = λ b j history s own le.

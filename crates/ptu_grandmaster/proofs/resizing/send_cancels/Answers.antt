@@ -1,4 +1,4 @@
-use Rattle.std.proofs.Common.{◌≡◌, ◌+◌, ◌++◌, ◌∷◌, [], length, length-take, take, refl, sym, ap, ◌∙◌, arith}
+use Rattle.std.proofs.Common.{◌≡◌, ◌+◌, ◌++◌, ◌∷◌, [], length, length-take, take, sym, ap, ◌∙◌, arith}
 use Rattle.std.proofs.lemmas.List.{take_all, take_more}
 use Rattle.ptu_outside.specs.HandsOver.{failed_in, sent_in}
 use Rattle.ptu_grandmaster.proofs.Cancelling.{cancels_many, cancels_more, no_cancels}
@@ -7,19 +7,12 @@ use Rattle.ptu_grandmaster.proofs.resizing.send_cancels.Goals as goal
 pub loop-grant-init : goal.loop-grant-init
 loop-grant-init g c = rw (c.none-sends.ensures) (no_cancels g.P.Port c.args.config.now c.args.first c.args.port.now c.ranges.first.fits)
 
-pub and-sends-requires-clause-sent : goal.and-sends-requires-clause-sent
-and-sends-requires-clause-sent g c =
+pub and-sends-requires : goal.and-sends-requires
+and-sends-requires g c =
     let i = c.loop-grant.grant-index in
     let many = cancels_many g.P.Port c.args.config.now c.args.first (take i c.args.shed.now) _ _ _ _ _ c.loop-grant.invariant in
     let one : sent_in c.send_cancel.result + failed_in c.send_cancel.result ≡ 1 = c.send_cancel.ensures.each in
-    rw (c.of.ensures) (omega (arith, many, one, length-take i c.args.shed.now))
-
-pub and-sends-requires-clause-failed : goal.and-sends-requires-clause-failed
-and-sends-requires-clause-failed g c =
-    let i = c.loop-grant.grant-index in
-    let many = cancels_many g.P.Port c.args.config.now c.args.first (take i c.args.shed.now) _ _ _ _ _ c.loop-grant.invariant in
-    let one : sent_in c.send_cancel.result + failed_in c.send_cancel.result ≡ 1 = c.send_cancel.ensures.each in
-    rw (c.of.ensures) (omega (arith, many, one, length-take i c.args.shed.now))
+    record { sent = rw (c.of.ensures) (omega (arith, many, one, length-take i c.args.shed.now)); failed = rw (c.of.ensures) (omega (arith, many, one, length-take i c.args.shed.now)) }
 
 pub loop-grant-preserved : goal.loop-grant-preserved
 loop-grant-preserved g c =

@@ -18,13 +18,4 @@ unfolding capacity_in_force
 no_change opening = refl
 
 pub returns : goal.returns
-returns _ = record {
-  no_book = no_book;
-  book = book_moment-push;
-  no_table = no_table;
-  table = table_moment-push;
-  opening = no_change;
-  changed = capacity_in_force-changed;
-  unchanged = capacity_in_force-unchanged;
-  constant_budget = budget-same;
-}
+returns _ = search (no_book, book_moment-push, no_table, table_moment-push, no_change, capacity_in_force-changed, capacity_in_force-unchanged, budget-same)

@@ -17,11 +17,4 @@ unfolding due_grants
 ordered history x j = IsSorted-in_order (turn_cmp history) (IsAsymmetric-total (turn_cmp history) (turn_cmp-total history)) (filter (is_due history x j) (live_grants history x))
 
 pub returns : goal.returns
-returns _ = record {
-  due = is_due-parts;
-  permutes = permutes;
-  members = due_grants-members;
-  ordered = ordered;
-  distinct = due_grants-distinct;
-  only = due_grants-only;
-}
+returns _ = search (is_due-parts, permutes, due_grants-members, ordered, due_grants-distinct, due_grants-only)

@@ -3,9 +3,4 @@ use Rattle.ptu_laws.proofs.Bounds.{count-up_to, sent-up_to}
 use Rattle.ptu_laws.proofs.laws.messages_within_budget.Goals as goal
 
 pub returns : goal.returns
-returns _ = record {
-  within = count-within;
-  constant = count-constant;
-  greatest = count-up_to;
-  in_all = sent-up_to;
-}
+returns _ = search (count-within, count-constant, count-up_to, sent-up_to)

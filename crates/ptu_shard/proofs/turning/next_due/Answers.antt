@@ -1,4 +1,4 @@
-use Rattle.std.proofs.Common.{◌∙◌, ◌∷◌, drop, length, sym, ap, subst, arith}
+use Rattle.std.proofs.Common.{rules, ◌∙◌, ◌∷◌, drop, length, sym, ap, subst, arith}
 use Rattle.std.specs.List.{AllPairs, Contains}
 use Rattle.std.specs.List.Sorted.{IsPermutation}
 use Rattle.std.proofs.lemmas.List.Sorted.{length_permutation}
@@ -13,41 +13,30 @@ use Rattle.ptu_shard.proofs.turning.next_due.Goals as goal
 pub replace_first-requires : goal.replace_first-requires
 replace_first-requires c = omega (arith, ap length c.in-Some.ensures.first)
 
-pub returns-in-Some-spend_due-clause-due : goal.returns-in-Some-spend_due-clause-due
-returns-in-Some-spend_due-clause-due c =
+pub returns-in-Some-spend_due : goal.returns-in-Some-spend_due
+returns-in-Some-spend_due c =
     let rows = rows_of c.args.rows.now.entries in
     let r = c.in-Some-spend_due.row in
     let inv = c.loop-entry.invariant in
     let h = c.in-Some-spend_due.ensures in
     let kept : Contains rows r = subst (λ l. Contains l r) inv.rows h.due.0 in
     let pairs : AllPairs Differ rows = subst (AllPairs Differ) inv.rows h.distinct in
-    due_first c.args.at rows pairs r kept h.due.2 h.later c.loop-entry.edges.entries (drop 1 c.loop-entry.edges.entries) c.in-Some.entry inv.edges
-    (taken_first c.loop-entry.edges.entries c.in-Some.entry c.in-Some.ensures.first) h.due.1 (least_first c.loop-entry.edges.entries c.in-Some.entry c.in-Some.ensures.least)
-    ∙ ap (λ l. r ∷ due_rows c.args.at l) (sym (h.spent ∙ ap (spent_where (is_row_of r.client r.kind) c.args.at) inv.rows))
-
-pub returns-in-Some-spend_due-clause-spent : goal.returns-in-Some-spend_due-clause-spent
-returns-in-Some-spend_due-clause-spent c =
-    let rows = rows_of c.args.rows.now.entries in
-    let r = c.in-Some-spend_due.row in
-    let inv = c.loop-entry.invariant in
-    let h = c.in-Some-spend_due.ensures in
-    let kept : Contains rows r = subst (λ l. Contains l r) inv.rows h.due.0 in
-    let pairs : AllPairs Differ rows = subst (AllPairs Differ) inv.rows h.distinct in
-    ap (spent_where (is_due_row c.args.at) c.args.at) (h.spent ∙ ap (spent_where (is_row_of r.client r.kind) c.args.at) inv.rows)
-    ∙ spent_after c.args.at rows pairs r kept h.due.2 h.later
-
-pub returns-in-Some-spend_due-clause-edges : goal.returns-in-Some-spend_due-clause-edges
-returns-in-Some-spend_due-clause-edges c =
-    let rows = rows_of c.args.rows.now.entries in
-    let r = c.in-Some-spend_due.row in
-    let inv = c.loop-entry.invariant in
-    let h = c.in-Some-spend_due.ensures in
-    let kept : Contains rows r = subst (λ l. Contains l r) inv.rows h.due.0 in
-    let pairs : AllPairs Differ rows = subst (AllPairs Differ) inv.rows h.distinct in
-    let put = subst (λ e. IsPermutation (e ∷ drop 1 c.loop-entry.edges.entries) c.replace_first.new.self.entries) (c.edge_of.ensures ∙ ap edge_entry c.spent.ensures.row) c.replace_first.ensures.entries in
-    subst (λ l. HasEdges c.args.at l c.replace_first.new.self.entries) (sym (h.spent ∙ ap (spent_where (is_row_of r.client r.kind) c.args.at) inv.rows))
-    (edges_after c.args.at rows pairs r kept h.due.2 h.later c.loop-entry.edges.entries (drop 1 c.loop-entry.edges.entries) c.in-Some.entry inv.edges
-    (taken_first c.loop-entry.edges.entries c.in-Some.entry c.in-Some.ensures.first) h.due.1 c.replace_first.new.self.entries put)
+    let spent = h.spent ∙ ap (spent_where (is_row_of r.client r.kind) c.args.at) inv.rows in
+    let behind = drop 1 c.loop-entry.edges.entries in
+    let first = taken_first c.loop-entry.edges.entries c.in-Some.entry c.in-Some.ensures.first in
+    let put = subst (λ e. IsPermutation (e ∷ behind) c.replace_first.new.self.entries) (c.edge_of.ensures ∙ ap edge_entry c.spent.ensures.row) c.replace_first.ensures.entries in
+    record {
+      due = due_first c.args.at rows pairs r kept h.due.2 h.later c.loop-entry.edges.entries behind c.in-Some.entry inv.edges first h.due.1 (least_first c.loop-entry.edges.entries c.in-Some.entry c.in-Some.ensures.least)
+          ∙ ap (λ l. r ∷ due_rows c.args.at l) (sym spent);
+      turned = search rules;
+      none = tt;
+      same = tt;
+      spent = ap (spent_where (is_due_row c.args.at) c.args.at) spent ∙ spent_after c.args.at rows pairs r kept h.due.2 h.later;
+      edges = subst (λ l. HasEdges c.args.at l c.replace_first.new.self.entries) (sym spent)
+          (edges_after c.args.at rows pairs r kept h.due.2 h.later c.loop-entry.edges.entries behind c.in-Some.entry inv.edges first h.due.1 c.replace_first.new.self.entries put);
+      spare = h.spare ∙ inv.spare;
+      capacity = search rules;
+    }
 
 pub loop-entry-smaller : goal.loop-entry-smaller
 loop-entry-smaller c =

@@ -15,29 +15,14 @@ loop-row-init g c =
       capacity = omega arith;
     })
 
-pub and-sends-requires-clause-sent : goal.and-sends-requires-clause-sent
-and-sends-requires-clause-sent g c =
+pub and-sends-requires : goal.and-sends-requires
+and-sends-requires g c =
     let more = sent_more g.P.Port c.args.config.now c.args.at (rows_of c.args.rows.now.entries) (rows_of c.loop-row.rows.entries) (rows_of c.next_due.new.rows.entries) c.args.port.now c.loop-row.port
     c.send_message.new.port c.loop-row.sends.sent c.loop-row.sends.failed _ _ c.in-Some.row c.loop-row.invariant.sends c.in-Some.ensures.due c.send_message.ensures in
-    rw (c.of.ensures) (omega (
-      arith,
-      sent_within g.P.Port c.args.config.now c.args.at (rows_of c.args.rows.now.entries) (rows_of c.next_due.new.rows.entries) c.args.port.now c.send_message.new.port _ _ more,
-      length-map c.args.rows.now.entries row_of,
-      c.len-count.ensures.len,
-      c.len-count.ensures.small,
-    ))
-
-pub and-sends-requires-clause-failed : goal.and-sends-requires-clause-failed
-and-sends-requires-clause-failed g c =
-    let more = sent_more g.P.Port c.args.config.now c.args.at (rows_of c.args.rows.now.entries) (rows_of c.loop-row.rows.entries) (rows_of c.next_due.new.rows.entries) c.args.port.now c.loop-row.port
-    c.send_message.new.port c.loop-row.sends.sent c.loop-row.sends.failed _ _ c.in-Some.row c.loop-row.invariant.sends c.in-Some.ensures.due c.send_message.ensures in
-    rw (c.of.ensures) (omega (
-      arith,
-      sent_within g.P.Port c.args.config.now c.args.at (rows_of c.args.rows.now.entries) (rows_of c.next_due.new.rows.entries) c.args.port.now c.send_message.new.port _ _ more,
-      length-map c.args.rows.now.entries row_of,
-      c.len-count.ensures.len,
-      c.len-count.ensures.small,
-    ))
+    let within = sent_within g.P.Port c.args.config.now c.args.at (rows_of c.args.rows.now.entries) (rows_of c.next_due.new.rows.entries) c.args.port.now c.send_message.new.port _ _ more in
+    let rows = length-map c.args.rows.now.entries row_of in
+    let count = c.len-count.ensures in
+    record { sent = rw (c.of.ensures) (omega (arith, within, rows, count.len, count.small)); failed = rw (c.of.ensures) (omega (arith, within, rows, count.len, count.small)) }
 
 pub loop-row-preserved : goal.loop-row-preserved
 loop-row-preserved g c =

@@ -22,26 +22,6 @@ use Rattle.ptu_script.specs.Command.{grandmaster_in, slave_in, fields_in, comman
 use Rattle.ptu_world.specs.World.{step}
 use Rattle.ptu_world.proofs.examples.grandmasters.Goals as goal
 
-pub returns-clause-ignored : goal.returns-clause-ignored
+pub returns : goal.returns
 unfolding digits grandmaster_in slave_in fields_in command_of step decode_pairs encode_with header_in tlv_in tlvs_in body_in message_in table_step_moment book_step_moment history_after counts lease_records capacity_in_force last_period earliest lawful last_decision live standing live_grants book_moment table_moment root chain sent_in_chain sequence_number shed_order shed_grants delay_answer due_grants others own_rate verdict octets_sent placed items_in heard_in
-returns-clause-ignored c = refl
-
-pub returns-clause-turns : goal.returns-clause-turns
-unfolding digits grandmaster_in slave_in fields_in command_of step decode_pairs encode_with header_in tlv_in tlvs_in body_in message_in table_step_moment book_step_moment history_after counts lease_records capacity_in_force last_period earliest lawful last_decision live standing live_grants book_moment table_moment root chain sent_in_chain sequence_number shed_order shed_grants delay_answer due_grants others own_rate verdict octets_sent placed items_in heard_in
-returns-clause-turns c = refl
-
-pub returns-clause-class : goal.returns-clause-class
-unfolding digits grandmaster_in slave_in fields_in command_of step decode_pairs encode_with header_in tlv_in tlvs_in body_in message_in table_step_moment book_step_moment history_after counts lease_records capacity_in_force last_period earliest lawful last_decision live standing live_grants book_moment table_moment root chain sent_in_chain sequence_number shed_order shed_grants delay_answer due_grants others own_rate verdict octets_sent placed items_in heard_in
-returns-clause-class c = refl
-
-pub returns-clause-cancels : goal.returns-clause-cancels
-unfolding digits grandmaster_in slave_in fields_in command_of step decode_pairs encode_with header_in tlv_in tlvs_in body_in message_in table_step_moment book_step_moment history_after counts lease_records capacity_in_force last_period earliest lawful last_decision live standing live_grants book_moment table_moment root chain sent_in_chain sequence_number shed_order shed_grants delay_answer due_grants others own_rate verdict octets_sent placed items_in heard_in
-returns-clause-cancels c = refl
-
-pub returns-clause-delay_reqs : goal.returns-clause-delay_reqs
-unfolding digits grandmaster_in slave_in fields_in command_of step decode_pairs encode_with header_in tlv_in tlvs_in body_in message_in table_step_moment book_step_moment history_after counts lease_records capacity_in_force last_period earliest lawful last_decision live standing live_grants book_moment table_moment root chain sent_in_chain sequence_number shed_order shed_grants delay_answer due_grants others own_rate verdict octets_sent placed items_in heard_in
-returns-clause-delay_reqs c = refl
-
-pub returns-clause-capacity : goal.returns-clause-capacity
-unfolding digits grandmaster_in slave_in fields_in command_of step decode_pairs encode_with header_in tlv_in tlvs_in body_in message_in table_step_moment book_step_moment history_after counts lease_records capacity_in_force last_period earliest lawful last_decision live standing live_grants book_moment table_moment root chain sent_in_chain sequence_number shed_order shed_grants delay_answer due_grants others own_rate verdict octets_sent placed items_in heard_in
-returns-clause-capacity c = refl
+returns c = record { ignored = refl; turns = refl; class = refl; cancels = refl; delay_reqs = refl; capacity = refl }

@@ -22,22 +22,6 @@ use Rattle.ptu_script.specs.Command.{grandmaster_in, slave_in, fields_in, comman
 use Rattle.ptu_world.specs.World.{step}
 use Rattle.ptu_world.proofs.examples.slaves.Goals as goal
 
-pub returns-clause-both_ends : goal.returns-clause-both_ends
+pub returns : goal.returns
 unfolding digits grandmaster_in slave_in fields_in command_of step decode_pairs encode_with header_in tlv_in tlvs_in body_in message_in table_step_moment book_step_moment history_after counts lease_records capacity_in_force last_period earliest lawful last_decision live standing live_grants book_moment table_moment root chain sent_in_chain sequence_number shed_order shed_grants delay_answer due_grants others own_rate verdict octets_sent placed items_in heard_in
-returns-clause-both_ends c = refl
-
-pub returns-clause-shed : goal.returns-clause-shed
-unfolding digits grandmaster_in slave_in fields_in command_of step decode_pairs encode_with header_in tlv_in tlvs_in body_in message_in table_step_moment book_step_moment history_after counts lease_records capacity_in_force last_period earliest lawful last_decision live standing live_grants book_moment table_moment root chain sent_in_chain sequence_number shed_order shed_grants delay_answer due_grants others own_rate verdict octets_sent placed items_in heard_in
-returns-clause-shed c = refl
-
-pub returns-clause-loss : goal.returns-clause-loss
-unfolding digits grandmaster_in slave_in fields_in command_of step decode_pairs encode_with header_in tlv_in tlvs_in body_in message_in table_step_moment book_step_moment history_after counts lease_records capacity_in_force last_period earliest lawful last_decision live standing live_grants book_moment table_moment root chain sent_in_chain sequence_number shed_order shed_grants delay_answer due_grants others own_rate verdict octets_sent placed items_in heard_in
-returns-clause-loss c = refl
-
-pub returns-clause-gaps : goal.returns-clause-gaps
-unfolding digits grandmaster_in slave_in fields_in command_of step decode_pairs encode_with header_in tlv_in tlvs_in body_in message_in table_step_moment book_step_moment history_after counts lease_records capacity_in_force last_period earliest lawful last_decision live standing live_grants book_moment table_moment root chain sent_in_chain sequence_number shed_order shed_grants delay_answer due_grants others own_rate verdict octets_sent placed items_in heard_in
-returns-clause-gaps c = refl
-
-pub returns-clause-nobody : goal.returns-clause-nobody
-unfolding digits grandmaster_in slave_in fields_in command_of step decode_pairs encode_with header_in tlv_in tlvs_in body_in message_in table_step_moment book_step_moment history_after counts lease_records capacity_in_force last_period earliest lawful last_decision live standing live_grants book_moment table_moment root chain sent_in_chain sequence_number shed_order shed_grants delay_answer due_grants others own_rate verdict octets_sent placed items_in heard_in
-returns-clause-nobody c = refl
+returns c = record { both_ends = refl; shed = refl; loss = refl; gaps = refl; nobody = refl }

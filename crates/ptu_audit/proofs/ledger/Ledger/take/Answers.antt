@@ -3,8 +3,9 @@ use Rattle.std.specs.BTreeMap.{get}
 use Rattle.ptu_audit.specs.Standing.{IsKept}
 use Rattle.ptu_units.specs.Counts.{counted}
 use Rattle.ptu_audit.specs.Trails.{grants_in, is_grant, is_message, messages_in, trail_of}
-use Rattle.ptu_audit.proofs.Ledgers.{counted_more, grants-push, if_none_map, kept_more, messages-push}
+use Rattle.ptu_audit.proofs.Ledgers.{counted_more, grants-push, kept_more, messages-push}
 use Rattle.ptu_audit.proofs.ledger.Ledger.take.Goals as goal
+use Rattle.ptu_trail.proofs.Accounts.{if_none_map}
 
 pub returns-clause-kept : goal.returns-clause-kept
 returns-clause-kept c = if_none_map c.in_ok-fault.fault (λ none goes before kept.
