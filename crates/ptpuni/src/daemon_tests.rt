@@ -3,10 +3,9 @@
 ghost use Rattle.std.specs.Prelude.{◌≡◌, IfOk, map, length};
 ghost use Rattle.ptu_judges.specs.Held.{IsStock};
 
-use crate::run::run;
-use crate::tests::{no_judges, one_judge, opened_with, port};
+use crate::tests::{no_judges, one_judge, opened_with, port, ran};
 use ptu_judges::{FlagJudge, Stock};
-use ptu_outside::{Arrival, Channel, Datagram, MemHost, MemPort, MemSink, MemSource};
+use ptu_outside::{Arrival, Channel, Datagram, MemHost, MemPort};
 use std::alloc::Global;
 use std::sync::Wait;
 use std::test::Fail;
@@ -57,28 +56,6 @@ fn empty_port(alloc: Global) -> Result<MemPort, Fail> {
     Ok(port)
 }
 
-// The status and the output of a run over this host.
-fn ran(
-    rt: &(impl AllocGlobal + Threads + Wait + Sync),
-    word: &str,
-    settings: &str,
-    host: &mut MemHost,
-    stock: Stock,
-) -> Result<(u8, String), Fail>
-    requires { IsStock (map (λ j. held (j.vtable, j.value)) stock.flags.items)
-        (map (λ j. held (j.vtable, j.value)) stock.gaps.items) }
-{
-    let alloc = rt.alloc();
-    let bytes = Vec::from_slice(alloc, settings.as_bytes())?;
-    let mut source = MemSource::new(bytes, Vec::new(alloc));
-    let mut sink = MemSink::new(alloc, Vec::new(alloc));
-    let status = run(rt, &[word], &mut source, &mut sink, host, stock);
-    let text = String::from_utf8(sink.into_bytes())
-        .ok()
-        .ok_or("plain text")?;
-    Ok((status, text))
-}
-
 // What port 4 was sent first, where it was given back.
 fn is_answered(host: &MemHost, octets: &[u8]) -> bool {
     match host.back() {
@@ -98,7 +75,14 @@ fn served(
 ) -> Result<((u8, String), bool), Fail> {
     let alloc = rt.alloc();
     let mut host = MemHost::new(opened_with(alloc, asked_port(alloc)?), fails);
-    let found = ran(rt, "serve", settings, &mut host, no_judges(alloc))?;
+    let found = ran(
+        rt,
+        &["serve"],
+        settings,
+        (0, 0),
+        &mut host,
+        no_judges(alloc),
+    )?;
     Ok((found, is_answered(&host, &GRANT)))
 }
 
@@ -172,7 +156,7 @@ fn followed(
 {
     let alloc = rt.alloc();
     let mut host = MemHost::new(opened_with(alloc, empty_port(alloc)?), false);
-    ran(rt, "slave", SLAVE, &mut host, stock)
+    ran(rt, &["slave"], SLAVE, (0, 0), &mut host, stock)
 }
 
 #[test]

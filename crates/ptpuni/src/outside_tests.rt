@@ -4,9 +4,9 @@ ghost use Rattle.std.specs.Prelude.{◌≡◌, None, map};
 ghost use Rattle.ptu_judges.specs.Held.{IsStock};
 
 use crate::run::run;
-use crate::tests::{ONE_ASK, ONE_GRANT, no_judges, one_judge, opened_with, port};
+use crate::tests::{ONE_ASK, ONE_GRANT, no_judges, one_judge, opened_with, port, ran, shut};
 use ptu_judges::{FlagJudge, Stock};
-use ptu_outside::{Failed, MemHost, MemSink, MemSource, Sink, Source};
+use ptu_outside::{Failed, MemHost, Sink, Source};
 use std::alloc::Global;
 use std::cell::Cell;
 use std::sync::Wait;
@@ -117,8 +117,7 @@ fn calls_of(
         faults: 0,
         diary: &diary,
     };
-    let mut host = MemHost::new(opened_with(alloc, port(alloc)), true);
-    let status = run(rt, words, &mut source, &mut sink, &mut host, stock);
+    let status = run(rt, words, &mut source, &mut sink, &mut shut(alloc), stock);
     Ok((status, diary.get()))
 }
 
@@ -148,29 +147,9 @@ fn reads_and_writes_take_turns(rt: HostRuntime) -> Result<(), Fail> {
     Ok(())
 }
 
-// The status and the output of a run, with a read and a write that fail, and whether the host gave
-// its ports and took them back.
-fn ran(
-    rt: &(impl AllocGlobal + Threads + Wait + Sync),
-    words: &[&str],
-    input: &str,
-    failing_read: u64,
-    failing_write: u64,
-    stock: Stock,
-) -> Result<(u8, String, bool), Fail>
-    requires { IsStock (map (λ j. held (j.vtable, j.value)) stock.flags.items)
-        (map (λ j. held (j.vtable, j.value)) stock.gaps.items) }
-{
-    let alloc = rt.alloc();
-    let bytes = input.as_bytes().to_vec(alloc)?;
-    let mut source = MemSource::new(bytes, vec![in alloc; failing_read]?);
-    let mut sink = MemSink::new(alloc, vec![in alloc; failing_write]?);
-    let mut host = MemHost::new(opened_with(alloc, port(alloc)), false);
-    let status = run(rt, words, &mut source, &mut sink, &mut host, stock);
-    let text = String::from_utf8(sink.into_bytes())
-        .ok()
-        .ok_or("plain text")?;
-    Ok((status, text, host.back().is_some()))
+// A host in memory that opens.
+fn open(alloc: Global) -> MemHost {
+    MemHost::new(opened_with(alloc, port(alloc)), false)
 }
 
 // Settings that can't be read open nothing, and a daemon whose line is not taken gives its ports
@@ -186,10 +165,11 @@ fn input_and_output_of_daemons_fail(rt: HostRuntime) -> Result<(), Fail> {
         ("slave", SLAVE, 2, 0, 66, false),
     ] {
         let stock = no_judges(rt.alloc());
-        let (found, text, back) = ran(&rt, &[word], input, read, write, stock)?;
+        let mut host = open(rt.alloc());
+        let (found, text) = ran(&rt, &[word], input, (read, write), &mut host, stock)?;
         assert_eq!(rt; found, status);
         assert_eq!(rt; text.as_str(), "");
-        assert_eq!(rt; back, is_back);
+        assert_eq!(rt; host.back().is_some(), is_back);
     }
     Ok(())
 }
@@ -198,10 +178,11 @@ fn input_and_output_of_daemons_fail(rt: HostRuntime) -> Result<(), Fail> {
 fn the_output_of_a_slave_fails(rt: HostRuntime) -> Result<(), Fail> {
     let alloc = rt.alloc();
     let stock = one_judge(alloc, Box::new(alloc, FlagJudge::new())?)?;
-    let (status, text, is_back) = ran(&rt, &["slave"], SLAVE, 0, 1, stock)?;
+    let mut host = open(alloc);
+    let (status, text) = ran(&rt, &["slave"], SLAVE, (0, 1), &mut host, stock)?;
     assert_eq!(rt; status, 67);
     assert_eq!(rt; text.as_str(), "");
-    assert_eq!(rt; is_back, true);
+    assert!(rt; host.back().is_some());
     Ok(())
 }
 
@@ -216,7 +197,8 @@ fn the_output_of_a_load_fails(rt: HostRuntime) -> Result<(), Fail> {
         (1, 67, ""),
     ] {
         let stock = no_judges(rt.alloc());
-        let (found, text, _) = ran(&rt, &["load", "1"], "", 0, write, stock)?;
+        let mut host = open(rt.alloc());
+        let (found, text) = ran(&rt, &["load", "1"], "", (0, write), &mut host, stock)?;
         assert_eq!(rt; found, status);
         assert_eq!(rt; text.as_str(), output);
     }
@@ -234,7 +216,15 @@ fn bad_scripts_are_refused(rt: HostRuntime) -> Result<(), Fail> {
         (long.as_str(), "1 bad long\n"),
         ("turn 0 10.0.0.9 0\n", "1 bad node\n"),
     ] {
-        let (status, text, _) = ran(&rt, &["replay"], script, 0, 0, no_judges(alloc))?;
+        let mut host = open(alloc);
+        let (status, text) = ran(
+            &rt,
+            &["replay"],
+            script,
+            (0, 0),
+            &mut host,
+            no_judges(alloc),
+        )?;
         assert_eq!(rt; status, 65);
         assert_eq!(rt; text.as_str(), output);
     }

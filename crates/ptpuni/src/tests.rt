@@ -108,25 +108,30 @@ pub(crate) fn opened_with(alloc: Global, p4: MemPort) -> Opened<MemPort, MemCloc
     }
 }
 
-// What a run over memory answers and writes, with a read and a write that fail; none has the number
-// 0.
-fn ran(
+/// A host in memory that does not open.
+pub(crate) fn shut(alloc: Global) -> MemHost {
+    MemHost::new(opened_with(alloc, port(alloc)), true)
+}
+
+/// What a run over memory and this host answers and writes, with a read and a write that fail; none
+/// has the number 0.
+pub(crate) fn ran(
     rt: &(impl AllocGlobal + Threads + Wait + Sync),
     words: &[&str],
     input: &str,
-    failing_read: u64,
-    failing_write: u64,
+    failing: (u64, u64),
+    host: &mut MemHost,
     stock: Stock,
 ) -> Result<(u8, String), Fail>
     requires { IsStock (map (λ j. held (j.vtable, j.value)) stock.flags.items)
         (map (λ j. held (j.vtable, j.value)) stock.gaps.items) }
 {
     let alloc = rt.alloc();
+    let (read, write) = failing;
     let bytes = Vec::from_slice(alloc, input.as_bytes())?;
-    let mut source = MemSource::new(bytes, vec![in alloc; failing_read]?);
-    let mut sink = MemSink::new(alloc, vec![in alloc; failing_write]?);
-    let mut host = MemHost::new(opened_with(alloc, port(alloc)), true);
-    let status = run(rt, words, &mut source, &mut sink, &mut host, stock);
+    let mut source = MemSource::new(bytes, vec![in alloc; read]?);
+    let mut sink = MemSink::new(alloc, vec![in alloc; write]?);
+    let status = run(rt, words, &mut source, &mut sink, host, stock);
     let text = String::from_utf8(sink.into_bytes())
         .ok()
         .ok_or("plain text")?;
@@ -146,7 +151,7 @@ fn each_read_fails_in_turn(rt: HostRuntime) -> Result<(), Fail> {
         // The first read gives the script, the second its end.
         for (read, status, lines) in [(1, 66, 0), (2, 66, whole.saturating_sub(1)), (3, 0, whole)] {
             let stock = one_judge(alloc, Box::new(alloc, FlagJudge::new())?)?;
-            let (found, text) = ran(&rt, &["replay"], script, read, 0, stock)?;
+            let (found, text) = ran(&rt, &["replay"], script, (read, 0), &mut shut(alloc), stock)?;
             assert_eq!(rt; found, status);
             assert!(rt; report.starts_with(text.as_str()), "{text}");
             assert_eq!(rt; lines_in(text.as_str()), lines);
@@ -163,7 +168,14 @@ fn each_write_fails_in_turn(rt: HostRuntime) -> Result<(), Fail> {
         for lines in 0..=whole {
             let stock = one_judge(alloc, Box::new(alloc, FlagJudge::new())?)?;
             let write = (lines as u64).saturating_add(1);
-            let (found, text) = ran(&rt, &["replay"], script, 0, write, stock)?;
+            let (found, text) = ran(
+                &rt,
+                &["replay"],
+                script,
+                (0, write),
+                &mut shut(alloc),
+                stock,
+            )?;
             assert_eq!(rt; found, if lines < whole { 67 } else { 0 });
             assert!(rt; report.starts_with(text.as_str()), "{text}");
             assert_eq!(rt; lines_in(text.as_str()), lines);
@@ -174,7 +186,15 @@ fn each_write_fails_in_turn(rt: HostRuntime) -> Result<(), Fail> {
 
 // Whether the words are refused before anything is read or written.
 fn refuses(rt: &(impl AllocGlobal + Threads + Wait + Sync), words: &[&str]) -> Result<bool, Fail> {
-    let (status, text) = ran(rt, words, ONE_ASK, 1, 1, no_judges(rt.alloc()))?;
+    let alloc = rt.alloc();
+    let (status, text) = ran(
+        rt,
+        words,
+        ONE_ASK,
+        (1, 1),
+        &mut shut(alloc),
+        no_judges(alloc),
+    )?;
     Ok(status == 64 && text.is_empty())
 }
 
@@ -200,10 +220,24 @@ fn halves_are_joined(rt: HostRuntime) -> Result<(), Fail> {
         1 wait\n\
         2 pair 0012002c040004000000000000000000000000000a000000000000010001000000\
         7f00000000000100000000\nend 2 0\n";
-    let (found, text) = ran(&rt, &["join"], input, 0, 0, no_judges(alloc))?;
+    let (found, text) = ran(
+        &rt,
+        &["join"],
+        input,
+        (0, 0),
+        &mut shut(alloc),
+        no_judges(alloc),
+    )?;
     assert_eq!(rt; found, 0);
     assert_eq!(rt; text.as_str(), output);
-    let (found, text) = ran(&rt, &["join"], input, 2, 0, no_judges(alloc))?;
+    let (found, text) = ran(
+        &rt,
+        &["join"],
+        input,
+        (2, 0),
+        &mut shut(alloc),
+        no_judges(alloc),
+    )?;
     assert_eq!(rt; found, 66);
     assert!(rt; output.starts_with(text.as_str()), "{text}");
     Ok(())
@@ -228,7 +262,14 @@ fn datagrams_are_shown(rt: HostRuntime) -> Result<(), Fail> {
         ),
         ("0c1\n", "1 bad field 1\n", 65),
     ] {
-        let (found, text) = ran(&rt, &["show"], input, 0, 0, no_judges(alloc))?;
+        let (found, text) = ran(
+            &rt,
+            &["show"],
+            input,
+            (0, 0),
+            &mut shut(alloc),
+            no_judges(alloc),
+        )?;
         assert_eq!(rt; found, status);
         assert_eq!(rt; text.as_str(), output);
     }
@@ -284,7 +325,14 @@ fn a_report_is_audited(rt: HostRuntime) -> Result<(), Fail> {
         ("7", ONE_GRANT, "no 1 fit\n", 70),
         ("7", "", "1 bad end\n", 65),
     ] {
-        let (found, text) = ran(&rt, &["audit", capacity], report, 0, 0, no_judges(alloc))?;
+        let (found, text) = ran(
+            &rt,
+            &["audit", capacity],
+            report,
+            (0, 0),
+            &mut shut(alloc),
+            no_judges(alloc),
+        )?;
         assert_eq!(rt; found, status);
         assert_eq!(rt; text.as_str(), output);
     }
@@ -312,7 +360,14 @@ fn pools_are_poured(rt: HostRuntime) -> Result<(), Fail> {
             65,
         ),
     ] {
-        let (found, text) = ran(&rt, &["pools"], script, 0, 0, no_judges(alloc))?;
+        let (found, text) = ran(
+            &rt,
+            &["pools"],
+            script,
+            (0, 0),
+            &mut shut(alloc),
+            no_judges(alloc),
+        )?;
         assert_eq!(rt; found, status);
         assert_eq!(rt; text.as_str(), output);
     }

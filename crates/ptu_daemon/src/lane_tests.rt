@@ -4,6 +4,7 @@ use crate::staged::{Given, OnceHost, StagedPort, arriving, assert_said};
 use crate::waiting::{SYNC, request};
 use ptu_config::GmSettings;
 use ptu_config::samples::GM_SETTINGS;
+use ptu_outside::samples::still_clock;
 use ptu_outside::{Channel, Failed, MemClock, Opened, Port};
 use ptu_units::Moment;
 use std::alloc::Global;
@@ -116,11 +117,6 @@ fn port<'a>(alloc: Global, seen: &'a Seen, role: Role, gives: Vec<Given>) -> Lan
     }
 }
 
-// A clock at 0.
-fn still(alloc: Global) -> MemClock {
-    MemClock::new(Vec::new(alloc))
-}
-
 // A clock that is read twice at 0, and then at 1 s.
 fn going(alloc: Global) -> Result<MemClock, Fail> {
     let moments = [0, 0, 1_000_000_000, 1_000_000_000];
@@ -146,12 +142,12 @@ fn host(alloc: Global, seen: &Seen) -> Result<OnceHost<LanePort<'_>>, Fail> {
         p3: port(alloc, seen, Role::Plain, Vec::new(alloc)),
         p4: port(alloc, seen, Role::Plain, asks),
         p5: port(alloc, seen, Role::Event, delay),
-        c0: still(alloc),
-        c1: still(alloc),
+        c0: still_clock(alloc),
+        c1: still_clock(alloc),
         c2: going(alloc)?,
         c3: going(alloc)?,
-        c4: still(alloc),
-        c5: still(alloc),
+        c4: still_clock(alloc),
+        c5: still_clock(alloc),
     };
     Ok(OnceHost::new(opened))
 }

@@ -2,39 +2,21 @@ ghost use Rattle.std.specs.Prelude.{◌≤◌};
 ghost use Rattle.ptu_config.specs.Limits.{IsGmInRange};
 
 use crate::staged::assert_said;
-use crate::waiting::{ANNOUNCE, CLIENT, asking, grant, idle, port};
+use crate::waiting::{ANNOUNCE, CLIENT, asking, grant, port};
 use crate::{DaemonFault, serve};
 use ptu_config::GmSettings;
 use ptu_config::samples::GM_SETTINGS;
-use ptu_outside::{Channel, MemClock, MemHost, MemPort, MemSink, Opened};
+use ptu_outside::samples::{idle_port, opened_with};
+use ptu_outside::{Channel, MemHost, MemPort, MemSink};
 use std::alloc::Global;
 use std::process::Abort;
 use std::sync::Wait;
 use std::test::Fail;
 use std::thread::Threads;
 
-// A clock at 0.
-fn clock(alloc: Global) -> MemClock {
-    MemClock::new(Vec::new(alloc))
-}
-
 // A host whose clocks are at 0, with this port of the general channel.
 fn host(alloc: Global, general: MemPort, fails: bool) -> MemHost {
-    let opened = Opened {
-        p0: idle(alloc),
-        p1: idle(alloc),
-        p2: idle(alloc),
-        p3: idle(alloc),
-        p4: general,
-        p5: idle(alloc),
-        c0: clock(alloc),
-        c1: clock(alloc),
-        c2: clock(alloc),
-        c3: clock(alloc),
-        c4: clock(alloc),
-        c5: clock(alloc),
-    };
-    MemHost::new(opened, fails)
+    MemHost::new(opened_with(alloc, general), fails)
 }
 
 // The ask waits at the port of the general channel, which fails at these sends and receives.
@@ -162,7 +144,7 @@ fn a_failed_receive_ends_the_taking(rt: HostRuntime) -> Result<(), Fail> {
 #[test]
 fn a_host_that_does_not_open_is_a_fault(rt: HostRuntime) {
     let alloc = rt.alloc();
-    let mut host = host(alloc, idle(alloc), true);
+    let mut host = host(alloc, idle_port(alloc), true);
     let mut sink = MemSink::new(alloc, Vec::new(alloc));
     let outcome = serve(&rt, alloc, &GM_SETTINGS, &mut host, &mut sink);
     assert!(rt; outcome == Err(DaemonFault::Open));

@@ -1,10 +1,11 @@
 ghost use Rattle.std.specs.Prelude.{◌≤◌};
 
-use crate::waiting::{CLIENT, SYNC, asking, grant, idle, port};
+use crate::waiting::{CLIENT, SYNC, asking, grant, port};
 use crate::{serve, serve_in_two_steps};
 use ptu_config::GmSettings;
 use ptu_config::samples::GM_SETTINGS;
-use ptu_outside::{Channel, MemClock, MemHost, MemPort, MemSink, Opened};
+use ptu_outside::samples::opened_with;
+use ptu_outside::{Channel, MemClock, MemHost, MemPort, MemSink};
 use ptu_twostep::{Flags, TwoHost};
 use ptu_units::Moment;
 use std::alloc::Global;
@@ -43,20 +44,14 @@ fn clock(alloc: Global, zeros: usize) -> Result<MemClock, Fail> {
 fn host(alloc: Global, failing_sends: &[u64]) -> Result<MemHost, Fail> {
     let general = port(alloc, asking(alloc, SYNC)?, &[], &[])?;
     let table = port(alloc, Vec::new(alloc), failing_sends, &[])?;
-    let opened = Opened {
-        p0: idle(alloc),
-        p1: idle(alloc),
-        p2: table,
-        p3: idle(alloc),
-        p4: general,
-        p5: idle(alloc),
-        c0: clock(alloc, 5)?,
-        c1: clock(alloc, 0)?,
-        c2: clock(alloc, 2)?,
-        c3: clock(alloc, 2)?,
-        c4: clock(alloc, 0)?,
-        c5: clock(alloc, 0)?,
-    };
+    let mut opened = opened_with(alloc, general);
+    opened.p2 = table;
+    opened.c0 = clock(alloc, 5)?;
+    opened.c1 = clock(alloc, 0)?;
+    opened.c2 = clock(alloc, 2)?;
+    opened.c3 = clock(alloc, 2)?;
+    opened.c4 = clock(alloc, 0)?;
+    opened.c5 = clock(alloc, 0)?;
     Ok(MemHost::new(opened, false))
 }
 

@@ -46,11 +46,6 @@ pub(crate) fn port(
     Ok(MemPort::new(alloc, waiting, sends, receives))
 }
 
-/// A port at which nothing waits, and no call is to fail.
-pub(crate) fn idle(alloc: Global) -> MemPort {
-    MemPort::new(alloc, Vec::new(alloc), Vec::new(alloc), Vec::new(alloc))
-}
-
 /// The REQUEST of the client above, as it waits.
 pub(crate) fn asking(alloc: Global, asked: &str) -> Result<Vec<Arrival>, Fail>
     ensures { IfOk result (λ waiting. FitAll waiting.items) }

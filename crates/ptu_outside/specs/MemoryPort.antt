@@ -18,6 +18,16 @@ pub record MemoryPort : Type 0 where
   pub receives : ℕ
   pub faults : ℕ
 
+-- nothing waits, nothing was sent or received, and no call has failed or is to fail
+pub record IsIdle (port : MemoryPort) : Type 0 where
+  pub sent : port.sent ≡ []
+  pub waiting : port.waiting ≡ []
+  pub failing_sends : port.failing_sends ≡ []
+  pub failing_receives : port.failing_receives ≡ []
+  pub sends : port.sends ≡ 0
+  pub receives : port.receives ≡ 0
+  pub faults : port.faults ≡ 0
+
 -- how many octets the datagrams have together
 abbrev pub octets_of : List Departure → ℕ
 octets_of sent = sum_by (λ d. length d.bytes) sent

@@ -17,6 +17,7 @@ mod mem_sink;
 mod mem_source;
 mod opened;
 mod port;
+pub mod samples;
 mod sends;
 mod sink;
 mod source;

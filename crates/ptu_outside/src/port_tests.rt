@@ -1,6 +1,7 @@
 ghost use Rattle.std.specs.Prelude.{◌≡◌, length, IfOk};
 
 use super::*;
+use crate::samples::{idle_port, opened_with};
 use ptu_units::Moment;
 use std::alloc::Global;
 use std::test::Fail;
@@ -72,29 +73,8 @@ fn a_clock_answers_its_last_moment_again(rt: HostRuntime) -> Result<(), Fail> {
     Ok(())
 }
 
-fn port(alloc: Global) -> MemPort {
-    MemPort::new(alloc, Vec::new(alloc), Vec::new(alloc), Vec::new(alloc))
-}
-
-fn clock(alloc: Global) -> MemClock {
-    MemClock::new(Vec::new(alloc))
-}
-
 fn ports(alloc: Global) -> Opened<MemPort, MemClock> {
-    Opened {
-        p0: port(alloc),
-        p1: port(alloc),
-        p2: port(alloc),
-        p3: port(alloc),
-        p4: port(alloc),
-        p5: port(alloc),
-        c0: clock(alloc),
-        c1: clock(alloc),
-        c2: clock(alloc),
-        c3: clock(alloc),
-        c4: clock(alloc),
-        c5: clock(alloc),
-    }
+    opened_with(alloc, idle_port(alloc))
 }
 
 fn open_and_close<H: Host>(host: &mut H) -> Result<(), Failed> {

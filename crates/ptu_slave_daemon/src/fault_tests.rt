@@ -10,8 +10,9 @@ ghost use Rattle.ptu_judges.specs.Held.{IsStock};
 ghost use Rattle.ptu_outside.specs.MemoryPort.{FitAll};
 
 use super::*;
-use crate::tests::{ANNOUNCE, ASK, SYNC, host_at, idle, one_judge, settings};
+use crate::tests::{ANNOUNCE, ASK, SYNC, host_at, one_judge, settings};
 use ptu_judges::{FlagJudge, Stock};
+use ptu_outside::samples::idle_port;
 use ptu_outside::{Arrival, Channel, Datagram, MemClock, MemHost, MemPort, MemSink};
 use ptu_rounds::DaemonFault;
 use ptu_units::Moment;
@@ -265,7 +266,13 @@ fn the_last_line_fails(rt: HostRuntime) -> Result<(), Fail> {
 fn a_host_that_does_not_open_is_a_fault(rt: HostRuntime) -> Result<(), Fail> {
     let alloc = rt.alloc();
     let stock = one_judge(alloc, Box::new(alloc, FlagJudge::new())?)?;
-    let mut host = host_at(alloc, clock(alloc, &[])?, idle(alloc), idle(alloc), true);
+    let mut host = host_at(
+        alloc,
+        clock(alloc, &[])?,
+        idle_port(alloc),
+        idle_port(alloc),
+        true,
+    );
     let mut sink = MemSink::new(alloc, Vec::new(alloc));
     let settings = settings(alloc, 1)?;
     assert!(rt; has_judges(&settings, &stock));

@@ -9,7 +9,8 @@ ghost use Rattle.ptu_record.specs.declared.rule.Rule.TheVariants.{Flag};
 use super::*;
 use ptu_config::{MasterList, MasterSetting, SlaveSettings};
 use ptu_judges::{FlagJudge, Judge, Stock};
-use ptu_outside::{Arrival, Channel, Datagram, MemClock, MemHost, MemPort, MemSink, Opened};
+use ptu_outside::samples::{idle_port, opened_with, still_clock};
+use ptu_outside::{Arrival, Channel, Datagram, MemClock, MemHost, MemPort, MemSink};
 use ptu_units::{Kind, Log, Moment};
 use std::alloc::{AllocError, Global};
 use std::process::Abort;
@@ -91,19 +92,9 @@ fn waiting(alloc: Global, text: &str) -> Result<Vec<Arrival>, Fail>
     Ok(list)
 }
 
-/// A port at which nothing waits.
-pub(crate) fn idle(alloc: Global) -> MemPort {
-    MemPort::new(alloc, Vec::new(alloc), Vec::new(alloc), Vec::new(alloc))
-}
-
-// A clock that tells 0.
-fn clock(alloc: Global) -> MemClock {
-    MemClock::new(Vec::new(alloc))
-}
-
 // A host with these ports 4 and 5.
 fn host(alloc: Global, p4: MemPort, p5: MemPort) -> MemHost {
-    host_at(alloc, clock(alloc), p4, p5, false)
+    host_at(alloc, still_clock(alloc), p4, p5, false)
 }
 
 /// A host with this clock and these ports 4 and 5, which does not open where it fails.
@@ -114,20 +105,9 @@ pub(crate) fn host_at(
     p5: MemPort,
     fails: bool,
 ) -> MemHost {
-    let opened = Opened {
-        p0: idle(alloc),
-        p1: idle(alloc),
-        p2: idle(alloc),
-        p3: idle(alloc),
-        p4,
-        p5,
-        c0,
-        c1: clock(alloc),
-        c2: clock(alloc),
-        c3: clock(alloc),
-        c4: clock(alloc),
-        c5: clock(alloc),
-    };
+    let mut opened = opened_with(alloc, p4);
+    opened.p5 = p5;
+    opened.c0 = c0;
     MemHost::new(opened, fails)
 }
 
@@ -175,7 +155,7 @@ fn assert_asked(rt: &impl Abort, alloc: Global, host: &MemHost) -> Result<(), Fa
 fn a_slave_that_hears_nothing_asks_and_selects_none(rt: HostRuntime) -> Result<(), Fail> {
     let alloc = rt.alloc();
     let stock = one_judge(alloc, Box::new(alloc, FlagJudge::new())?)?;
-    let mut host = host(alloc, port(alloc, "", Vec::new(alloc))?, idle(alloc));
+    let mut host = host(alloc, port(alloc, "", Vec::new(alloc))?, idle_port(alloc));
     let output = "round 1 selected none\nrounds 1 sent 1 failed 0\n";
     assert_output(&rt, alloc, &settings(alloc, 1)?, &mut host, stock, output)?;
     assert_asked(&rt, alloc, &host)

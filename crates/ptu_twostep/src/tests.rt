@@ -1,5 +1,6 @@
 use super::*;
-use ptu_outside::{Channel, Host, MemClock, MemHost, MemPort, Opened, Port};
+use ptu_outside::samples::{idle_port, opened_with};
+use ptu_outside::{Channel, Host, MemHost, MemPort, Port};
 use std::alloc::Global;
 use std::test::Fail;
 
@@ -66,31 +67,11 @@ fn both_halves_are_handed_over_where_one_fails(rt: HostRuntime) -> Result<(), Fa
     Ok(())
 }
 
-fn port(alloc: Global) -> MemPort {
-    MemPort::new(alloc, Vec::new(alloc), Vec::new(alloc), Vec::new(alloc))
-}
-
-fn clock(alloc: Global) -> MemClock {
-    MemClock::new(Vec::new(alloc))
-}
-
 #[test]
 fn a_host_gives_the_ports_below_back(rt: HostRuntime) -> Result<(), Fail> {
     let alloc = rt.alloc();
-    let opened = Opened {
-        p0: port(alloc),
-        p1: port(alloc),
-        p2: below(alloc, Vec::new(alloc))?,
-        p3: port(alloc),
-        p4: port(alloc),
-        p5: port(alloc),
-        c0: clock(alloc),
-        c1: clock(alloc),
-        c2: clock(alloc),
-        c3: clock(alloc),
-        c4: clock(alloc),
-        c5: clock(alloc),
-    };
+    let mut opened = opened_with(alloc, idle_port(alloc));
+    opened.p2 = below(alloc, Vec::new(alloc))?;
     let mut host = MemHost::new(opened, false);
     let mut two = TwoHost::new(&mut host);
     let mut opened = two.open(0x7f00_0001, 319, 320)?;
