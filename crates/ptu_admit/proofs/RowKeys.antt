@@ -19,6 +19,7 @@ use Rattle.ptu_shard.specs.declared.lease.Row.{Row}
 use Rattle.ptu_shard.specs.Row.{IsDistinctByLease, is_row_of, lease_of, share_of}
 use Rattle.ptu_shard.proofs.RowLists.{Differ, HasSameMembers, IsPresent, lease_cases, missing_none, present_some, same_permuted}
 use Rattle.ptu_admit.specs.Rows.{has_live_row, kept_rate, live_rows}
+use Rattle.ptu_shard.proofs.SoFar.{length-filter-le}
 
 abbrev is_live_row : ℕ → Row → Bool
 is_live_row x row = ltb x row.lease.until
@@ -73,14 +74,6 @@ kept_rate-member xs row distinct h = at (lease_cases (lease_of row.client row.ki
         let p : IsPresent row.client row.kind xs l = present_some row.client row.kind xs l e in
         let one : p.row ≡ row = same_row row.client row.kind xs (Apart-from_pairs Differ xs distinct) p.row row p.contained h p.own (same_lease-refl row.client row.kind) in
         ap (λ o. option_map_or (λ (lease : Lease). rate_of lease.log) o 0) e ∙ ap (λ (lease : Lease). rate_of lease.log) (sym p.lease_is) ∙ ap (λ (x : Row). rate_of x.lease.log) one
-
-pub length-filter-le : (p : Row → Bool) (xs : List Row) → length (filter p xs) ≤ length xs
-length-filter-le p [] = omega arith
-length-filter-le p (x ∷ xs) = at (p x) (length-filter-le p xs)
-  where
-    at : (b : Bool) → length (filter p xs) ≤ length xs → length (cond b (x ∷ filter p xs) (filter p xs)) ≤ length (x ∷ xs)
-    at true ih = omega arith
-    at false ih = omega arith
 
 -- a filter that a member does not pass is shorter
 pub length-filter-lt : (p : Row → Bool) (xs : List Row) (row : Row) → Contains xs row → p row ≡ false → length (filter p xs) + 1 ≤ length xs

@@ -29,7 +29,7 @@ use Rattle.ptu_admit.specs.Newest.{AreDistinct, AreListed, IsThinned, candidate_
 use Rattle.ptu_admit.specs.Shed.{shed_of}
 use Rattle.ptu_admit.specs.Rows.{live_rows}
 use Rattle.ptu_admit.specs.Tables.{IsSwept}
-use Rattle.ptu_admit.proofs.RowKeys.{length-filter-le}
+use Rattle.ptu_shard.proofs.SoFar.{length-filter-le}
 use Rattle.ptu_admit.proofs.Candidates.{NotAfter, listed_without}
 use Rattle.ptu_admit.proofs.ShedOrder.{AllLive, IsPlaced, shed_next, shed_no_more}
 use Rattle.ptu_admit.proofs.Sums.{share_of-left}

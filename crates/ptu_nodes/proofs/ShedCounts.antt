@@ -29,7 +29,7 @@ use Rattle.ptu_admit.specs.Newest.{grant_of}
 use Rattle.ptu_admit.specs.Rows.{live_rows}
 use Rattle.ptu_admit.specs.Shed.{shed_of}
 use Rattle.ptu_admit.proofs.Grants.{row_of_live}
-use Rattle.ptu_admit.proofs.RowKeys.{length-filter-le}
+use Rattle.ptu_shard.proofs.SoFar.{length-filter-le}
 use Rattle.ptu_admit.proofs.Sums.{Contains-map, IsMapped}
 use Rattle.ptu_grandmaster.specs.Changed.{leases_shed}
 use Rattle.ptu_grandmaster.specs.Gm.{KeptGm, StandsFor}

@@ -25,7 +25,7 @@ use Rattle.ptu_shard.specs.Answered.{failed_by, met_by, moment_of_answer, respon
 use Rattle.ptu_shard.specs.Messages.{departure_of, response_of}
 use Rattle.ptu_shard.specs.Table.{Kept}
 use Rattle.ptu_shard.specs.Turn.{due_messages, due_rows, is_due_row, message_of_row, row_cmp}
-use Rattle.ptu_admit.proofs.RowKeys.{length-filter-le}
+use Rattle.ptu_shard.proofs.SoFar.{length-filter-le}
 use Rattle.ptu_gm_messages.specs.declared.heard.Heard.{Heard}
 use Rattle.ptu_gm_messages.specs.declared.heard.Heard.TheVariants as heard
 use Rattle.ptu_gm_messages.specs.declared.item.Item.{Item}
