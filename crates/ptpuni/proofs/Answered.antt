@@ -1,9 +1,15 @@
 -- What a status says of the answer that it stands for.
 use Rattle.std.proofs.Common.{◌≡◌, ◌∙◌, ℕ, ◌++◌, arith, lit<, Bool, true, false, List, [], ◌∷◌, Option, Result, Ok, Err, refl, sym, ap, inl, inr}
 use Rattle.std.specs.Prelude.{◌≢◌, ◌⊎◌, Contains, OnOk, if◌then◌else◌}
-use Rattle.std.specs.Io.KnownBytes.{IsAtEnd}
+use Rattle.std.specs.Io.KnownBytes.{IsAtEnd, append_known}
 use Rattle.ptu_outside.specs.Faults.{HasRisen}
+use Rattle.ptu_outside.specs.Handing.{HasPut, joined}
+use Rattle.ptu_report.specs.declared.ending.Ending.{Ending}
 use Rattle.ptu_report.specs.declared.ending.Ending.TheVariants.{Whole, Refused}
+use Rattle.ptu_report.specs.declared.fault.RunFault.{RunFault}
+use Rattle.ptu_report.specs.declared.fault.RunFault.TheVariants.{Line, Read, Write, OutOfMemory}
+use Rattle.ptu_report.specs.Runs.{CountsRead, CountsWrite, IfWritten}
+use Rattle.ptu_report.proofs.Answered.{written_weaker}
 use Rattle.ptu_report_lines.specs.declared.report_line.ReportLine.{ReportLine}
 use Rattle.ptu_report_lines.specs.declared.report_line.ReportLine.TheVariants.{At, End}
 use Rattle.ptu_world.specs.World.{World, Stock}
@@ -11,18 +17,19 @@ use Rattle.ptu_world.specs.Facts.{EndsBy, world_of}
 use Rattle.ptu_world.specs.Report.{report_lines}
 use Rattle.ptu_script.specs.declared.cause.Cause.{Cause}
 use Rattle.ptu_lab.specs.declared.done.Done.{Done}
-use Rattle.ptu_show.specs.declared.fault.LabFault.{LabFault}
-use Rattle.ptu_show.specs.declared.fault.LabFault.TheVariants.{Line, Read, Write, OutOfMemory}
-use Rattle.ptu_show.specs.Answers.{CountsRead, CountsWrite, IfWritten}
 use Rattle.ptu_lab.specs.Replayed.{HasReplayed, IfReplayed}
 use Rattle.ptu_show.specs.Shown.{HasShown}
-use Rattle.ptu_words.specs.declared.command.Command.TheVariants.{Replay, Show}
-use Rattle.ptpuni.specs.Run.{HasRun, IsStatusOf, has_end, is_whole, status_of_answer, statuses}
+use Rattle.ptu_show.specs.Joined.{HasJoined}
+use Rattle.ptu_pool_run.specs.declared.cause.PoolCause.{PoolCause}
+use Rattle.ptu_pool_run.specs.Answers.{HasPoured}
+use Rattle.ptu_words.specs.declared.command.Command.{Command}
+use Rattle.ptu_words.specs.declared.command.Command.TheVariants.{Join, Pools, Replay, Show}
+use Rattle.ptpuni.specs.Run.{HasRun, IsStatusOf, ends_whole, has_end, is_whole, output_of, status_of_answer, statuses}
 
 -- ---- of every answer
 
-module _ {A : Type 0} where
-  pub is_status : (r : Result A LabFault) → Contains statuses (status_of_answer r)
+module _ {A C : Type 0} where
+  pub is_status : (r : Result A (RunFault C)) → Contains statuses (status_of_answer r)
   is_status (Ok x) = (0, lit< tt, refl)
   is_status (Err (Line number cause)) = (2, lit< tt, refl)
   is_status (Err Read) = (3, lit< tt, refl)
@@ -30,14 +37,14 @@ module _ {A : Type 0} where
   is_status (Err OutOfMemory) = (7, lit< tt, refl)
 
   -- it says that the output was written to its end
-  abbrev pub IsWritten : Result A LabFault → Type 0
+  abbrev pub IsWritten : Result A (RunFault C) → Type 0
   IsWritten (Ok x) = Unit {0}
   IsWritten (Err (Line number cause)) = Unit {0}
   IsWritten (Err Read) = ⊥
   IsWritten (Err Write) = ⊥
   IsWritten (Err OutOfMemory) = ⊥
 
-  pub by_status : (r : Result A LabFault) → (status_of_answer r ≡ 0) ⊎ (status_of_answer r ≡ 65) → IsWritten r
+  pub by_status : (r : Result A (RunFault C)) → (status_of_answer r ≡ 0) ⊎ (status_of_answer r ≡ 65) → IsWritten r
   by_status (Ok x) h = tt
   by_status (Err (Line number cause)) h = tt
   by_status (Err Read) (inl e) = omega (arith, e)
@@ -47,12 +54,50 @@ module _ {A : Type 0} where
   by_status (Err OutOfMemory) (inl e) = omega (arith, e)
   by_status (Err OutOfMemory) (inr e) = omega (arith, e)
 
-  pub by_counts : (r : Result A LabFault) (a b c d : ℕ) → CountsRead r a b → CountsWrite r c d → (HasRisen a b → ⊥) → (HasRisen c d → ⊥) → status_of_answer r ≢ 71 → IsWritten r
+  pub by_counts : (r : Result A (RunFault C)) (a b c d : ℕ) → CountsRead r a b → CountsWrite r c d → (HasRisen a b → ⊥) → (HasRisen c d → ⊥) → status_of_answer r ≢ 71 → IsWritten r
   by_counts (Ok x) a b c d reads writes no_read no_write memory = tt
   by_counts (Err (Line number cause)) a b c d reads writes no_read no_write memory = tt
   by_counts (Err Read) a b c d reads writes no_read no_write memory = no_read reads
   by_counts (Err Write) a b c d reads writes no_read no_write memory = no_write writes
   by_counts (Err OutOfMemory) a b c d reads writes no_read no_write memory = memory refl
+
+-- ---- the counts of faults
+
+module _ {A C : Type 0} (a b : ℕ) where
+  pub source_fault : (r : Result A (RunFault C)) → CountsRead r a b → status_of_answer r ≡ 66 → HasRisen a b
+  source_fault (Ok x) reads e = absurd (omega (arith, e))
+  source_fault (Err (Line number cause)) reads e = absurd (omega (arith, e))
+  source_fault (Err Read) reads e = reads
+  source_fault (Err Write) reads e = absurd (omega (arith, e))
+  source_fault (Err OutOfMemory) reads e = absurd (omega (arith, e))
+
+  pub source_still : (r : Result A (RunFault C)) → CountsRead r a b → status_of_answer r ≢ 66 → b ≡ a
+  source_still (Ok x) reads other = reads
+  source_still (Err (Line number cause)) reads other = reads
+  source_still (Err Read) reads other = absurd (other refl)
+  source_still (Err Write) reads other = reads
+  source_still (Err OutOfMemory) reads other = reads
+
+  pub sink_fault : (r : Result A (RunFault C)) → CountsWrite r a b → status_of_answer r ≡ 67 → HasRisen a b
+  sink_fault (Ok x) writes e = absurd (omega (arith, e))
+  sink_fault (Err (Line number cause)) writes e = absurd (omega (arith, e))
+  sink_fault (Err Read) writes e = absurd (omega (arith, e))
+  sink_fault (Err Write) writes e = writes
+  sink_fault (Err OutOfMemory) writes e = absurd (omega (arith, e))
+
+  pub sink_still : (r : Result A (RunFault C)) → CountsWrite r a b → status_of_answer r ≢ 67 → b ≡ a
+  sink_still (Ok x) writes other = writes
+  sink_still (Err (Line number cause)) writes other = writes
+  sink_still (Err Read) writes other = writes
+  sink_still (Err Write) writes other = absurd (other refl)
+  sink_still (Err OutOfMemory) writes other = writes
+
+pub no_usage : {A C : Type 0} (r : Result A (RunFault C)) → status_of_answer r ≢ 64
+no_usage (Ok x) e = omega (arith, e)
+no_usage (Err (Line number cause)) e = omega (arith, e)
+no_usage (Err Read) e = omega (arith, e)
+no_usage (Err Write) e = omega (arith, e)
+no_usage (Err OutOfMemory) e = omega (arith, e)
 
 -- ---- how a report ends
 
@@ -99,7 +144,7 @@ zero_at_end report left status is read = record {
 -- ---- what was written
 
 module _ {K : Type 0} (written : K → Option (List ℕ)) (handed : K → Option (List (List ℕ))) (old new : K) (stock : Stock) (input : List ℕ) (left : Option (List ℕ)) where
-  pub replayed : (r : Result Done LabFault) → IsWritten r → IfReplayed r (λ ending. HasReplayed written handed old new stock input ending) → OnOk r (IsAtEnd left)
+  pub replayed : (r : Result Done (RunFault Cause)) → IsWritten r → IfReplayed r (λ ending. HasReplayed written handed old new stock input ending) → OnOk r (IsAtEnd left)
       → HasRun written handed old new stock Replay input left (status_of_answer r)
   replayed (Ok done) is h end = record {
     output_is = h.written_is;
@@ -117,20 +162,45 @@ module _ {K : Type 0} (written : K → Option (List ℕ)) (handed : K → Option
   replayed (Err Write) is h end = absurd is
   replayed (Err OutOfMemory) is h end = absurd is
 
-  pub shown : (r : Result ℕ LabFault) → IsWritten r → IfWritten r (λ ending. HasShown written handed old new input ending) → OnOk r (IsAtEnd left)
+-- the same of a program that answers how many lines it read
+module _ {K : Type 0} (written : K → Option (List ℕ)) (handed : K → Option (List (List ℕ))) (old new : K) (stock : Stock) (input : List ℕ) (left : Option (List ℕ)) {C : Type 0} (r : Result ℕ (RunFault C)) where
+  -- the output of the command was written, and it ends so
+  abbrev IsOutput : Command → Ending C → Type 0
+  IsOutput command ending =
+      (written new ≡ append_known (written old) (joined (output_of stock command input))) × HasPut written handed old new (output_of stock command input)
+      × (is_whole ending ≡ ends_whole stock command input)
+
+  has_run : (command : Command) → IsWritten r → IfWritten r (λ ending. IsOutput command ending) → OnOk r (IsAtEnd left)
+      → HasRun written handed old new stock command input left (status_of_answer r)
+  has_run command is h end = by r is h end
+    where
+      by : (r : Result ℕ (RunFault C)) → IsWritten r → IfWritten r (λ ending. IsOutput command ending) → OnOk r (IsAtEnd left)
+          → HasRun written handed old new stock command input left (status_of_answer r)
+      by (Ok lines) is h end = record {
+        output_is = h.0;
+        in_pieces = h.1;
+        status_is = ap by_end h.2;
+        read_whole = λ reads e. end;
+      }
+      by (Err (Line number cause)) is h end = record {
+        output_is = h.0;
+        in_pieces = h.1;
+        status_is = ap by_end h.2;
+        read_whole = λ reads e. absurd (omega (arith, e));
+      }
+      by (Err Read) is h end = absurd is
+      by (Err Write) is h end = absurd is
+      by (Err OutOfMemory) is h end = absurd is
+
+module _ {K : Type 0} (written : K → Option (List ℕ)) (handed : K → Option (List (List ℕ))) (old new : K) (stock : Stock) (input : List ℕ) (left : Option (List ℕ)) where
+  pub shown : (r : Result ℕ (RunFault Cause)) → IsWritten r → IfWritten r (λ ending. HasShown written handed old new input ending) → OnOk r (IsAtEnd left)
       → HasRun written handed old new stock Show input left (status_of_answer r)
-  shown (Ok lines) is h end = record {
-    output_is = h.written_is;
-    in_pieces = h.in_pieces;
-    status_is = ap (λ e. by_end (is_whole e)) h.ends;
-    read_whole = λ reads e. end;
-  }
-  shown (Err (Line number cause)) is h end = record {
-    output_is = h.written_is;
-    in_pieces = h.in_pieces;
-    status_is = ap (λ e. by_end (is_whole e)) h.ends;
-    read_whole = λ reads e. absurd (omega (arith, e));
-  }
-  shown (Err Read) is h end = absurd is
-  shown (Err Write) is h end = absurd is
-  shown (Err OutOfMemory) is h end = absurd is
+  shown r is h end = has_run written handed old new stock input left r Show is (written_weaker _ _ (λ ending s. (s.written_is, s.in_pieces, ap (λ e. is_whole e) s.ends)) r h) end
+
+  pub joined_run : (r : Result ℕ (RunFault Cause)) → IsWritten r → IfWritten r (λ ending. HasJoined written handed old new input ending) → OnOk r (IsAtEnd left)
+      → HasRun written handed old new stock Join input left (status_of_answer r)
+  joined_run r is h end = has_run written handed old new stock input left r Join is (written_weaker _ _ (λ ending j. (j.written_is, j.in_pieces, ap (λ e. is_whole e) j.ends)) r h) end
+
+  pub poured_run : (r : Result ℕ (RunFault PoolCause)) → IsWritten r → IfWritten r (λ ending. HasPoured written handed old new input ending) → OnOk r (IsAtEnd left)
+      → HasRun written handed old new stock Pools input left (status_of_answer r)
+  poured_run r is h end = has_run written handed old new stock input left r Pools is (written_weaker _ _ (λ ending p. (p.written_is, p.in_pieces, ap (λ e. is_whole e) p.ends)) r h) end

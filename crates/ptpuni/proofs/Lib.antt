@@ -2,5 +2,4 @@ pub mod Answered
 pub mod Audited
 pub mod Completed
 pub mod DaemonRuns
-pub mod Ended
 pub mod Loaded

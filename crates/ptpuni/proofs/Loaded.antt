@@ -4,8 +4,9 @@ use Rattle.std.specs.Prelude.{IfErr, OnOk}
 use Rattle.std.specs.Io.KnownBytes.{append_known}
 use Rattle.ptu_outside.specs.Handing.{HasPut, HasPutPart}
 use Rattle.ptu_world.specs.World.{Stock}
-use Rattle.ptu_show.specs.declared.fault.LabFault.{LabFault}
-use Rattle.ptu_show.specs.declared.fault.LabFault.TheVariants.{Line, Read, Write, OutOfMemory}
+use Rattle.ptu_report.specs.declared.fault.RunFault.{RunFault}
+use Rattle.ptu_script.specs.declared.cause.Cause.{Cause}
+use Rattle.ptu_report.specs.declared.fault.RunFault.TheVariants.{Line, Read, Write, OutOfMemory}
 use Rattle.ptu_load.specs.Generated.{IsWriteOrMemory}
 use Rattle.ptu_lab.specs.Load.{summary}
 use Rattle.ptu_words.specs.declared.command.Command.TheVariants.{Load}
@@ -14,7 +15,7 @@ use Rattle.ptpuni.proofs.Answered.{IsWritten}
 
 module _ {K : Type 0} (written : K → Option (List ℕ)) (handed : K → Option (List (List ℕ))) (old new : K) (number : ℕ) where
   -- an answer that says that the line was written
-  pub loaded : (stock : Stock) (input : List ℕ) (left : Option (List ℕ)) (r : Result (Unit {0}) LabFault) → IsWritten r → IfErr r IsWriteOrMemory
+  pub loaded : (stock : Stock) (input : List ℕ) (left : Option (List ℕ)) (r : Result (Unit {0}) (RunFault Cause)) → IsWritten r → IfErr r IsWriteOrMemory
       → OnOk r (HasPut written handed old new (summary number ∷ [])) → HasRun written handed old new stock (Load number) input left (status_of_answer r)
   loaded stock input left (Ok x) is cause put = record {
     output_is = put.written_is;
@@ -29,7 +30,7 @@ module _ {K : Type 0} (written : K → Option (List ℕ)) (handed : K → Option
 
   module _ {S : Type 0} (source source' : S) (unread : source' ≡ source) (front : HasPutPart written handed old new (summary number ∷ [])) where
     -- every answer
-    pub has_loaded : (r : Result (Unit {0}) LabFault) → IfErr r IsWriteOrMemory → OnOk r (HasPut written handed old new (summary number ∷ []))
+    pub has_loaded : (r : Result (Unit {0}) (RunFault Cause)) → IfErr r IsWriteOrMemory → OnOk r (HasPut written handed old new (summary number ∷ []))
         → OnOk r (written new ≡ append_known (written old) (summary number)) → HasLoaded written handed old new source source' number (status_of_answer r)
     has_loaded (Ok x) cause put line = record { unread = unread; statuses = inl refl; whole = λ e. put; line = λ e. line; front = front }
     has_loaded (Err (Line number cause)) never put line = absurd never

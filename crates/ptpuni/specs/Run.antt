@@ -4,21 +4,16 @@ use Rattle.std.specs.Io.KnownBytes.{IsAtEnd, append_known}
 use Rattle.ptu_outside.specs.Handing.{HasPut, HasPutPart, joined}
 use Rattle.ptu_report.specs.declared.ending.Ending.{Ending}
 use Rattle.ptu_report.specs.declared.ending.Ending.TheVariants.{Whole, Refused}
-use Rattle.ptu_report.specs.declared.stop.Stop.{Stop}
-use Rattle.ptu_report.specs.declared.stop.Stop.TheVariants as stops
+use Rattle.ptu_report.specs.declared.fault.RunFault.{RunFault}
+use Rattle.ptu_report.specs.declared.fault.RunFault.TheVariants.{Line, Read, Write, OutOfMemory}
 use Rattle.ptu_report.specs.Reported.{HasReportedAllRead}
 use Rattle.ptu_script.specs.declared.cause.Cause.{Cause}
 use Rattle.ptu_report_lines.specs.declared.report_line.ReportLine.{ReportLine}
 use Rattle.ptu_report_lines.specs.declared.report_line.ReportLine.TheVariants.{End}
 use Rattle.ptu_world.specs.World.{Stock}
 use Rattle.ptu_world.specs.Report.{course_opening, report, report_lines, rules}
-use Rattle.ptu_show.specs.declared.fault.LabFault.{LabFault}
-use Rattle.ptu_show.specs.declared.fault.LabFault.TheVariants.{Line, Read, Write, OutOfMemory}
 use Rattle.ptu_lab.specs.Load.{summary}
-use Rattle.ptu_show.specs.declared.join_fault.JoinFault.{JoinFault}
-use Rattle.ptu_show.specs.Joined.{join_ending, join_rules, joined_ending, joined_lines}
-use Rattle.ptu_pool_run.specs.declared.fault.PoolRunFault.{PoolRunFault}
-use Rattle.ptu_pool_run.specs.Answers.{run_ending}
+use Rattle.ptu_show.specs.Joined.{join_rules, joined_ending, joined_lines}
 use Rattle.ptu_pool_run.specs.Poured.{end_of, poured_texts}
 use Rattle.ptu_pool_run.specs.Reading as pools
 use Rattle.ptu_show.specs.Shown.{show_rules, shown_ending, shown_lines}
@@ -26,8 +21,7 @@ use Rattle.ptu_report.specs.Rules.{ending_of, texts_of}
 use Rattle.ptu_lines.specs.Script.{script_lines}
 use Rattle.ptu_audit.specs.declared.answer.Answer.{Answer}
 use Rattle.ptu_audit.specs.declared.answer.Answer.TheVariants.{Yes, No}
-use Rattle.ptu_audit.specs.declared.answer.AuditFault.{AuditFault}
-use Rattle.ptu_audit.specs.declared.answer.AuditFault.TheVariants as audits
+use Rattle.ptu_audit.specs.declared.answer.AuditCause.{AuditCause}
 use Rattle.ptu_audit.specs.Audited.{AnswerIsWritten, IsAnswer, IsKept}
 use Rattle.ptu_audit.specs.Reading.{audit_rules, opening}
 use Rattle.ptu_config.specs.Refusals.{gm_refusal, slave_refusal}
@@ -49,38 +43,23 @@ IsOfLab Join = Unit {0}
 IsOfLab (Audit capacity) = ⊥
 IsOfLab Pools = Unit {0}
 
--- the status of what a program of the lab answers
-abbrev pub status_of_answer : {A : Type 0} → Result A LabFault → ℕ
+-- the status of why a program over lines did not read its input to the end
+abbrev pub status_of_fault : {C : Type 0} → RunFault C → ℕ
+status_of_fault (Line number cause) = 65
+status_of_fault Read = 66
+status_of_fault Write = 67
+status_of_fault OutOfMemory = 71
+
+-- the status of what a program over lines answers
+abbrev pub status_of_answer : {A C : Type 0} → Result A (RunFault C) → ℕ
 status_of_answer (Ok x) = 0
-status_of_answer (Err (Line number cause)) = 65
-status_of_answer (Err Read) = 66
-status_of_answer (Err Write) = 67
-status_of_answer (Err OutOfMemory) = 71
-
--- the status of how an output ended, or of why it stopped before its end
-abbrev pub status_of_ending : {C : Type 0} → Result (Ending C) Stop → ℕ
-status_of_ending (Ok (Whole lines)) = 0
-status_of_ending (Ok (Refused number cause)) = 65
-status_of_ending (Err stops.Read) = 66
-status_of_ending (Err stops.Write) = 67
-status_of_ending (Err stops.OutOfMemory) = 71
-
--- the status of what `join` answers
-abbrev pub status_of_joined : Result ℕ JoinFault → ℕ
-status_of_joined answer = status_of_ending (join_ending answer)
-
--- the status of what `pools` answers
-abbrev pub status_of_poured : Result ℕ PoolRunFault → ℕ
-status_of_poured answer = status_of_ending (run_ending answer)
+status_of_answer (Err fault) = status_of_fault fault
 
 -- the status of what an audit answers: 70 where a promise was not kept
-abbrev pub status_of_audit : Result Answer AuditFault → ℕ
+abbrev pub status_of_audit : Result Answer (RunFault AuditCause) → ℕ
 status_of_audit (Ok (Yes granted sent)) = 0
 status_of_audit (Ok (No line cause)) = 70
-status_of_audit (Err (audits.Line number cause)) = 65
-status_of_audit (Err audits.Read) = 66
-status_of_audit (Err audits.Write) = 67
-status_of_audit (Err audits.OutOfMemory) = 71
+status_of_audit (Err fault) = status_of_fault fault
 
 -- the numbers of judges of each rule that are handed in
 abbrev pub stock_of : {A : Type 0} → List A → List A → Stock
@@ -198,7 +177,7 @@ module _ {K : Type 0} (written : K → Option (List ℕ)) (handed : K → Option
 
   -- an audit with this opening capacity ended with the status of an answer
   pub record HasAudited {H : Type 0} (host host' : H) (left left' : Option (List ℕ)) (capacity status : ℕ) : Type 0 where
-    pub answer : Result Answer AuditFault
+    pub answer : Result Answer (RunFault AuditCause)
     pub status_is : status ≡ status_of_audit answer
     -- the answer is that to all lines of the report, or names the first that is refused
     pub exact : (input : List ℕ) → left ≡ Some input → IsAnswer capacity input answer

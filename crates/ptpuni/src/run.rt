@@ -17,8 +17,7 @@ ghost use Rattle.ptpuni.specs.Run.{output_of, statuses, stock_of, HasAudited, Ha
 
 use crate::daemons::{run_serve, run_slave};
 use crate::status::{
-    BAD_LINE, HOST_FAULT, OUT_OF_MEMORY, SINK_FAULT, SOURCE_FAULT, USAGE, audit_status,
-    join_status, pools_status, status_of,
+    BAD_LINE, HOST_FAULT, OUT_OF_MEMORY, SINK_FAULT, SOURCE_FAULT, USAGE, audit_status, status_of,
 };
 use ptu_audit::audit;
 use ptu_lab::{Stock, load, replay, show};
@@ -94,9 +93,9 @@ fn run_command<W: Threads + Wait + Sync, S: Source, K: Sink, H: Host>(
         Command::Load(number) => status_of(load(alloc, number, sink)),
         Command::Serve => run_serve(rt, alloc, source, sink, host),
         Command::Slave => run_slave(alloc, source, sink, host, stock),
-        Command::Join => join_status(join(alloc, source, sink)),
+        Command::Join => status_of(join(alloc, source, sink)),
         Command::Audit(capacity) => audit_status(audit(alloc, capacity, source, sink)),
-        Command::Pools => pools_status(pools(alloc, source, sink)),
+        Command::Pools => status_of(pools(alloc, source, sink)),
     }
 }
 

@@ -2,13 +2,11 @@
 
 ghost use Rattle.std.specs.Prelude.{◌≡◌};
 ghost use Rattle.ptpuni.specs.Daemons.{status_of_daemon};
-ghost use Rattle.ptpuni.specs.Run.{status_of_answer, status_of_audit, status_of_joined, status_of_poured};
+ghost use Rattle.ptpuni.specs.Run.{status_of_answer, status_of_audit, status_of_fault};
 
 use ptu_audit::{Answer, AuditFault};
-use ptu_lab::LabFault;
-use ptu_pool_run::PoolRunFault;
+use ptu_report::RunFault;
 use ptu_rounds::DaemonFault;
-use ptu_show::JoinFault;
 
 /// The command line does not match the words.
 pub const USAGE: u8 = 64;
@@ -31,42 +29,25 @@ pub const BROKEN_PROMISE: u8 = 70;
 /// No memory was found.
 pub const OUT_OF_MEMORY: u8 = 71;
 
-/// The status of an answer of the lab.
-pub(crate) fn status_of<A: Drop>(answer: Result<A, LabFault>) -> u8
+/// The status of why a program over lines did not read its input to the end.
+fn fault_status<C: Drop>(fault: RunFault<C>) -> u8
+    ensures { result ≡ status_of_fault fault }
+{
+    match fault {
+        RunFault::Line { .. } => BAD_LINE,
+        RunFault::Read => SOURCE_FAULT,
+        RunFault::Write => SINK_FAULT,
+        RunFault::OutOfMemory => OUT_OF_MEMORY,
+    }
+}
+
+/// The status of an answer of a program over lines.
+pub(crate) fn status_of<A: Drop, C: Drop>(answer: Result<A, RunFault<C>>) -> u8
     ensures { result ≡ status_of_answer answer }
 {
     match answer {
         Ok(_) => 0,
-        Err(LabFault::Line { .. }) => BAD_LINE,
-        Err(LabFault::Read) => SOURCE_FAULT,
-        Err(LabFault::Write) => SINK_FAULT,
-        Err(LabFault::OutOfMemory) => OUT_OF_MEMORY,
-    }
-}
-
-/// The status of an answer of `join`.
-pub(crate) fn join_status(answer: Result<u64, JoinFault>) -> u8
-    ensures { result ≡ status_of_joined answer }
-{
-    match answer {
-        Ok(_) => 0,
-        Err(JoinFault::Line { .. }) => BAD_LINE,
-        Err(JoinFault::Read) => SOURCE_FAULT,
-        Err(JoinFault::Write) => SINK_FAULT,
-        Err(JoinFault::OutOfMemory) => OUT_OF_MEMORY,
-    }
-}
-
-/// The status of an answer of `pools`.
-pub(crate) fn pools_status(answer: Result<u64, PoolRunFault>) -> u8
-    ensures { result ≡ status_of_poured answer }
-{
-    match answer {
-        Ok(_) => 0,
-        Err(PoolRunFault::Line { .. }) => BAD_LINE,
-        Err(PoolRunFault::Read) => SOURCE_FAULT,
-        Err(PoolRunFault::Write) => SINK_FAULT,
-        Err(PoolRunFault::OutOfMemory) => OUT_OF_MEMORY,
+        Err(fault) => fault_status(fault),
     }
 }
 
@@ -77,10 +58,7 @@ pub(crate) fn audit_status(answer: Result<Answer, AuditFault>) -> u8
     match answer {
         Ok(Answer::Yes { .. }) => 0,
         Ok(Answer::No { .. }) => BROKEN_PROMISE,
-        Err(AuditFault::Line { .. }) => BAD_LINE,
-        Err(AuditFault::Read) => SOURCE_FAULT,
-        Err(AuditFault::Write) => SINK_FAULT,
-        Err(AuditFault::OutOfMemory) => OUT_OF_MEMORY,
+        Err(fault) => fault_status(fault),
     }
 }
 

@@ -8,3 +8,4 @@ mod Promises
 mod Counts
 mod Answering
 mod Exact
+mod Refusing

@@ -1,9 +1,10 @@
 -- What an audit answers, and what a report keeps to that it answers yes.
 use Rattle.std.specs.Prelude.{◌≡◌, ℕ, ◌≤◌, ◌*◌, List, [], ◌++◌, ◌∷◌, Option, Some, option_map, Result, Ok, Err, ℤ, ◌<◌}
 use Rattle.std.specs.List.{AllPairs}
-use Rattle.ptu_outside.specs.Faults.{HasRisen}
 use Rattle.ptu_outside.specs.Handing.{HasPut}
 use Rattle.ptu_lines.specs.Script.{script_lines}
+use Rattle.ptu_report.specs.declared.fault.RunFault.{RunFault}
+use Rattle.ptu_report.specs.declared.fault.RunFault.TheVariants.{Line as Refused, Read, Write, OutOfMemory}
 use Rattle.ptu_report.specs.declared.ending.Ending.TheVariants as endings
 use Rattle.ptu_report.specs.Rules.{ending_of, meaning_of}
 use Rattle.ptu_units.specs.declared.kind.Kind.{Kind}
@@ -14,8 +15,7 @@ use Rattle.ptu_history.specs.Live.{last_decision}
 use Rattle.ptu_laws.specs.Paid.{IsBefore, IsPaid}
 use Rattle.ptu_audit.specs.declared.answer.Answer.{Answer}
 use Rattle.ptu_audit.specs.declared.answer.Answer.TheVariants as answers
-use Rattle.ptu_audit.specs.declared.answer.AuditFault.{AuditFault}
-use Rattle.ptu_audit.specs.declared.answer.AuditFault.TheVariants.{Line as Refused, Read, Write, OutOfMemory}
+use Rattle.ptu_audit.specs.declared.answer.AuditCause.{AuditCause}
 use Rattle.ptu_audit.specs.declared.line.Line.{Line}
 use Rattle.ptu_audit.specs.Groups.{groups_of}
 use Rattle.ptu_audit.specs.Reading.{audit_rules, opening}
@@ -27,7 +27,7 @@ abbrev pub report_lines : ℕ → List ℕ → Option (List Line)
 report_lines capacity input = option_map (λ r. r.lines) (meaning_of audit_rules (opening capacity) (script_lines input))
 
 -- no line is refused, and this is the answer to all of them; or this line is the first that is refused
-abbrev pub IsAnswer : ℕ → List ℕ → Result Answer AuditFault → Type 0
+abbrev pub IsAnswer : ℕ → List ℕ → Result Answer (RunFault AuditCause) → Type 0
 IsAnswer capacity input (Ok answer) =
     (lines : List Line) × (report_lines capacity input ≡ Some lines) × (answer ≡ answer_of capacity lines)
 IsAnswer capacity input (Err (Refused number cause)) =
@@ -38,7 +38,7 @@ IsAnswer capacity input (Err OutOfMemory) = Unit {0}
 
 -- the one line of output that says the answer was put, in one piece
 abbrev pub AnswerIsWritten : {K : Type 0} → (K → Option (List ℕ)) → (K → Option (List (List ℕ))) → K → K
-    → Result Answer AuditFault → Type 0
+    → Result Answer (RunFault AuditCause) → Type 0
 AnswerIsWritten written handed old new (Ok answer) = HasPut written handed old new (answer_text answer ∷ [])
 AnswerIsWritten written handed old new (Err (Refused number cause)) =
     HasPut written handed old new (refusal_text number cause ∷ [])
@@ -62,26 +62,10 @@ AllKeepPromises capacity lines = (grandmaster : ℕ) → KeepsPromises capacity 
 
 -- the answer is yes exactly where the report is sound: each group is as it must be, and no grandmaster's trail has a
 -- fault; where it is yes, they kept their promises
-abbrev pub IsKept : ℕ → List ℕ → Result Answer AuditFault → Type 0
+abbrev pub IsKept : ℕ → List ℕ → Result Answer (RunFault AuditCause) → Type 0
 IsKept capacity input (Ok (answers.Yes granted sent)) =
     (lines : List Line) × (report_lines capacity input ≡ Some lines) × AreSound capacity (groups_of lines)
     × AllKeepPromises capacity lines
 IsKept capacity input (Ok (answers.No line cause)) =
     (lines : List Line) × (report_lines capacity input ≡ Some lines) × (AreSound capacity (groups_of lines) → ⊥)
 IsKept capacity input (Err fault) = Unit {0}
-
--- the source's count rises exactly where the answer is that the source failed
-abbrev pub CountsRead : {A : Type 0} → Result A AuditFault → ℕ → ℕ → Type 0
-CountsRead (Ok x) old new = new ≡ old
-CountsRead (Err (Refused number cause)) old new = new ≡ old
-CountsRead (Err Read) old new = HasRisen old new
-CountsRead (Err Write) old new = new ≡ old
-CountsRead (Err OutOfMemory) old new = new ≡ old
-
--- the sink's count rises exactly where the answer is that the sink failed
-abbrev pub CountsWrite : {A : Type 0} → Result A AuditFault → ℕ → ℕ → Type 0
-CountsWrite (Ok x) old new = new ≡ old
-CountsWrite (Err (Refused number cause)) old new = new ≡ old
-CountsWrite (Err Read) old new = new ≡ old
-CountsWrite (Err Write) old new = HasRisen old new
-CountsWrite (Err OutOfMemory) old new = new ≡ old

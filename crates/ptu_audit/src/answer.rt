@@ -1,7 +1,6 @@
 use ptu_lines::LineCause;
+use ptu_report::RunFault;
 use ptu_trail::NoCause;
-use std::error::Error;
-use std::fmt;
 
 /// What an audit says of a report of which no line is refused.
 #[derive(Clone, Copy, Debug, PartialEq, Eq, Hash)]
@@ -31,29 +30,7 @@ pub enum AuditCause {
 }
 
 /// Why a report was not audited.
-#[derive(Clone, Copy, Debug, PartialEq, Eq, Hash)]
-pub enum AuditFault {
-    /// The line with this number, from 1, is the first that is refused.
-    Line { number: u64, cause: AuditCause },
-    /// The source failed.
-    Read,
-    /// The sink failed.
-    Write,
-    OutOfMemory,
-}
-
-impl fmt::Display for AuditFault {
-    fn fmt<W: fmt::Write>(&self, f: &mut fmt::Formatter<W>) -> fmt::Result {
-        match *self {
-            AuditFault::Line { number, cause } => write!(f, "line {number} is refused: {cause}"),
-            AuditFault::Read => f.write_str("the source failed"),
-            AuditFault::Write => f.write_str("the sink failed"),
-            AuditFault::OutOfMemory => f.write_str("no memory was found"),
-        }
-    }
-}
-
-impl Error for AuditFault {}
+pub type AuditFault = RunFault<AuditCause>;
 
 impl AuditCause {
     ghost use Rattle.std.specs.Prelude.{◌≡◌};

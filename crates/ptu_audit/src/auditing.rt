@@ -5,13 +5,14 @@ ghost use Rattle.ptu_outside.specs.Handing.{HasPutPart};
 ghost use Rattle.ptu_lines.specs.Script.{script_lines};
 ghost use Rattle.ptu_report.specs.Reported.{HasReportedAllRead};
 ghost use Rattle.ptu_report.specs.Rules.{texts_of};
-ghost use Rattle.ptu_audit.specs.Audited.{AnswerIsWritten, CountsRead, CountsWrite, IsAnswer, IsKept};
+ghost use Rattle.ptu_report.specs.Runs.{CountsRead, CountsWrite};
+ghost use Rattle.ptu_audit.specs.Audited.{AnswerIsWritten, IsAnswer, IsKept};
 ghost use Rattle.ptu_audit.specs.Reading.{audit_rules, opening};
 
 use crate::answer::{Answer, AuditFault};
 use crate::auditor::Auditor;
 use ptu_outside::{Sink, Source};
-use ptu_report::{Ending, Stop, report};
+use ptu_report::{RunFault, run};
 use ptu_trail::laws::{faultless_so_far, faultless_trails};
 use std::alloc::Global;
 
@@ -50,7 +51,7 @@ pub fn audit<S: Source, K: Sink>(
         → HasPutPart K.written K.handed sink.old sink.new
         (texts_of audit_rules (opening capacity) (script_lines input)) }
     // Where the source failed, nothing was written.
-    ensures all_read { IsErrOf result AuditFault.Read
+    ensures all_read { IsErrOf result RunFault.Read
         → HasReportedAllRead K.written K.handed sink.old sink.new audit_rules (opening capacity)
         (S.left source.old) (S.left source.new) }
     ensures taken { (octets : List ℕ)
@@ -65,14 +66,11 @@ pub fn audit<S: Source, K: Sink>(
     faultless_so_far();
     faultless_trails();
     let mut auditor = Auditor::new(alloc, capacity);
-    match report(alloc, &mut auditor, source, sink) {
-        Ok(Ending::Whole { .. }) => match auditor.answer() {
+    match run(alloc, &mut auditor, source, sink) {
+        Ok(_) => match auditor.answer() {
             Ok(answer) => Ok(answer),
-            Err(_) => Err(AuditFault::OutOfMemory),
+            Err(_) => Err(RunFault::OutOfMemory),
         },
-        Ok(Ending::Refused { number, cause }) => Err(AuditFault::Line { number, cause }),
-        Err(Stop::Read) => Err(AuditFault::Read),
-        Err(Stop::Write) => Err(AuditFault::Write),
-        Err(Stop::OutOfMemory) => Err(AuditFault::OutOfMemory),
+        Err(fault) => Err(fault),
     }
 }

@@ -9,7 +9,10 @@ use Rattle.ptu_report.specs.Rules.{Goes, IsOutcome, Outcome, Refuses, Rules, end
 use Rattle.ptu_judges.specs.Held.{Held}
 use Rattle.ptu_outside.specs.Handing.{HasPut}
 use Rattle.ptu_units.specs.Counts.{counted}
+use Rattle.ptu_report.specs.declared.fault.RunFault.{RunFault}
 use Rattle.ptu_report.specs.Reported.{HasReported}
+use Rattle.ptu_report.specs.Runs.{IfRefused}
+use Rattle.ptu_report.proofs.Answered.{refused_weaker}
 use Rattle.ptu_script.specs.declared.cause.Cause.{Cause}
 use Rattle.ptu_outside.specs.MemoryPort.{MemoryPort}
 use Rattle.ptu_slave.specs.Seen.{Seen}
@@ -96,3 +99,10 @@ replayed written handed old new stock script ending reported =
       in_pieces = put;
       ends = subst (λ e. EndsBy e (world_of stock script) (report_lines stock script)) (sym reported.ends) (ends_of_rules stock script);
     }
+
+-- the same where a line is refused
+pub has_replayed : {K : Type 0} (written : K → Option (List ℕ)) (handed : K → Option (List (List ℕ))) (old new : K) (stock : Stock) (script : List ℕ) (fault : RunFault Cause)
+    → IfRefused fault (λ ending. HasReported written handed old new rules (course_opening stock) (script_lines script) ending)
+    → IfRefused fault (λ ending. HasReplayed written handed old new stock script ending)
+has_replayed written handed old new stock script fault h =
+    refused_weaker _ _ (λ ending reported. replayed written handed old new stock script ending reported) fault h

@@ -15,12 +15,12 @@ use Rattle.ptu_world.specs.World.{World, Stock, Done, opening, step}
 use Rattle.ptu_world.specs.Facts.{EndsBy, world_of}
 use Rattle.ptu_world.specs.Report.{course_opening, lines_by, lines_by_line, lines_from, report_lines, rules}
 use Rattle.ptu_world.proofs.Reported.{ends_of_rules}
-use Rattle.ptu_show.specs.Answers.{CountsRead, CountsWrite}
+use Rattle.ptu_report.specs.Runs.{CountsRead, CountsWrite}
 use Rattle.ptu_lab.specs.Load.{no_stock, numbers_of}
 use Rattle.ptu_lab.specs.Replayed.{AreCounts, HasReplayed, IfReplayed}
 use Rattle.ptu_lab.specs.declared.done.Done.{Done as Answer}
-use Rattle.ptu_show.specs.declared.fault.LabFault.{LabFault}
-use Rattle.ptu_show.specs.declared.fault.LabFault.TheVariants.{Line, Read, Write, OutOfMemory}
+use Rattle.ptu_report.specs.declared.fault.RunFault.{RunFault}
+use Rattle.ptu_report.specs.declared.fault.RunFault.TheVariants.{Line, Read, Write, OutOfMemory}
 
 -- how many lines the last `end` line counts; where there is none, what was found before
 last_end : Option ℕ → List ReportLine → Option ℕ
@@ -107,12 +107,12 @@ module _ {K : Type 0} (W : K → Option (List ℕ)) (H : K → Option (List (Lis
   numbers_are done r counts =
       rw (counts_all (opening no_stock) (script_lines script) r.ends.0 done.lines _ r.ends.1, counts.datagrams, counts.granted, counts.refused) refl
 
-  pub numbers : (stock : Stock) (answer : Result Answer LabFault) → stock ≡ no_stock → IfReplayed answer (HasReplayed W H old new stock script)
+  pub numbers : (stock : Stock) (answer : Result Answer (RunFault Cause)) → stock ≡ no_stock → IfReplayed answer (HasReplayed W H old new stock script)
       → IfOk answer (AreCounts stock script) → IfOk answer (λ done. done ≡ numbers_of script)
   numbers stock (Ok done) e r counts = numbers_are done (subst (λ s. HasReplayed W H old new s script (endings.Whole done.lines)) e r) (subst (λ s. AreCounts s script done) e counts)
   numbers stock (Err fault) e r counts = tt
 
-  pub causes : (stock : Stock) (answer : Result Answer LabFault) (count : ℕ) → ending_of rules (course_opening stock) (script_lines script) ≡ endings.Whole count
+  pub causes : (stock : Stock) (answer : Result Answer (RunFault Cause)) (count : ℕ) → ending_of rules (course_opening stock) (script_lines script) ≡ endings.Whole count
       → IfReplayed answer (HasReplayed W H old new stock script) → CountsRead answer 0 0 → CountsWrite answer 0 0 → IfErr answer (λ fault. fault ≡ OutOfMemory)
   causes stock (Ok done) count whole r reads writes = tt
   causes stock (Err (Line number cause)) count whole r reads writes = absurd (not_refused stock script count number cause whole r.ends)

@@ -4,21 +4,18 @@ use Rattle.std.specs.Io.KnownBytes.{append_known}
 use Rattle.ptu_outside.specs.Handing.{HasPut, joined}
 use Rattle.ptu_report.specs.declared.ending.Ending.{Ending}
 use Rattle.ptu_report.specs.declared.ending.Ending.TheVariants as endings
+use Rattle.ptu_report.specs.declared.fault.RunFault.{RunFault}
+use Rattle.ptu_report.specs.Runs.{IfRefused}
 use Rattle.ptu_script.specs.declared.cause.Cause.{Cause}
 use Rattle.ptu_world.specs.World.{Stock}
 use Rattle.ptu_world.specs.Facts.{EndsBy, world_of}
 use Rattle.ptu_world.specs.Report.{granted_count, report, report_lines, short_count}
 use Rattle.ptu_lab.specs.declared.done.Done.{Done}
-use Rattle.ptu_show.specs.declared.fault.LabFault.{LabFault}
-use Rattle.ptu_show.specs.declared.fault.LabFault.TheVariants.{Line, Read, Write, OutOfMemory}
 
 -- it says that the report was written to its end; with this ending it then meets P
-abbrev pub IfReplayed : Result Done LabFault → (Ending Cause → Type 0) → Type 0
+abbrev pub IfReplayed : Result Done (RunFault Cause) → (Ending Cause → Type 0) → Type 0
 IfReplayed (Ok done) P = P (endings.Whole done.lines)
-IfReplayed (Err (Line number cause)) P = P (endings.Refused number cause)
-IfReplayed (Err Read) P = Unit {0}
-IfReplayed (Err Write) P = Unit {0}
-IfReplayed (Err OutOfMemory) P = Unit {0}
+IfReplayed (Err fault) P = IfRefused fault P
 
 -- the report on the script was written, each line handed over in one piece, and it ends so
 pub record HasReplayed {K : Type 0} (written : K → Option (List ℕ))

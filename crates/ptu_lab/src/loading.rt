@@ -5,7 +5,7 @@ ghost use Rattle.std.specs.Io.KnownBytes.{append_known};
 ghost use Rattle.std.specs.String.{string_bytes};
 ghost use Rattle.serde_json.specs.View.{view};
 ghost use Rattle.ptu_outside.specs.Handing.{HasPut, HasPutPart};
-ghost use Rattle.ptu_show.specs.Answers.{CountsWrite};
+ghost use Rattle.ptu_report.specs.Runs.{CountsWrite};
 ghost use Rattle.ptu_load.specs.Generated.{IsWriteOrMemory, generated};
 ghost use Rattle.ptu_lab.specs.SummarySamples.{FiveClients, OneClient};
 ghost use Rattle.ptu_lab.specs.Load.{numbers_of, object_text, summary, summary_data, summary_text};
@@ -15,6 +15,7 @@ use crate::replaying::replay;
 use ptu_judges::Stock;
 use ptu_load::{generate, put};
 use ptu_outside::{Failed, MemSink, Sink, Source};
+use ptu_report::RunFault;
 use ptu_show::LabFault;
 use serde_json::{Value, json};
 use std::alloc::{AllocError, Global};
@@ -62,13 +63,13 @@ fn script_of(alloc: Global, number: u64) -> Result<Vec<u8>, LabFault>
     requires least { 1 ≤ number }
     requires most { number ≤ 2000 }
     ensures octets { IfOk result (λ octets. octets.items ≡ generated number) }
-    ensures cause { IfErr result (λ fault. fault ≡ LabFault.OutOfMemory) }
+    ensures cause { IfErr result (λ fault. fault ≡ RunFault.OutOfMemory) }
 {
     let mut sink = MemSink::new(alloc, Vec::new(alloc));
     // It fails only for want of memory.
     match generate(alloc, number, &mut sink) {
         Ok(()) => Ok(sink.into_bytes()),
-        Err(_) => Err(LabFault::OutOfMemory),
+        Err(_) => Err(RunFault::OutOfMemory),
     }
 }
 
@@ -77,7 +78,7 @@ fn replayed(alloc: Global, octets: &[u8]) -> Result<Done, LabFault>
     ensures numbers { IfOk result (λ done. done ≡ numbers_of octets.now) }
     // No line of the script of a load is refused.
     ensures cause { (n : ℕ) → 1 ≤ n → n ≤ 2000 → octets.now ≡ generated n
-        → IfErr result (λ fault. fault ≡ LabFault.OutOfMemory) }
+        → IfErr result (λ fault. fault ≡ RunFault.OutOfMemory) }
 {
     let mut source = ScriptSource { left: octets };
     let stock = Stock {
@@ -131,14 +132,14 @@ pub fn load<K: Sink>(alloc: Global, number: u64, sink: &mut K) -> Result<(), Lab
         (K.written sink.new ≡ append_known (K.written sink.old) (summary number)) }
     ensures front { HasPutPart K.written K.handed sink.old sink.new (summary number ∷ []) }
     ensures cause { IfErr result IsWriteOrMemory }
-    ensures nothing { IfErr result (λ fault. fault ≢ LabFault.Write → sink.new ≡ sink.old) }
+    ensures nothing { IfErr result (λ fault. fault ≢ RunFault.Write → sink.new ≡ sink.old) }
     ensures counts { CountsWrite result (K.faults sink.old) (K.faults sink.new) }
 {
     let octets = script_of(alloc, number)?;
     let done = replayed(alloc, &octets)?;
     match summary_line(alloc, done) {
         Ok(line) => put(line.as_str(), sink),
-        Err(_) => Err(LabFault::OutOfMemory),
+        Err(_) => Err(RunFault::OutOfMemory),
     }
 }
 

@@ -5,8 +5,8 @@ ghost use Rattle.ptu_outside.specs.Ends.{StopsAtEnd};
 ghost use Rattle.ptu_outside.specs.Handing.{HasPutPart};
 ghost use Rattle.ptu_judges.specs.Held.{IsStock};
 ghost use Rattle.ptu_report.specs.Reported.{HasReportedAllRead};
+ghost use Rattle.ptu_report.specs.Runs.{CountsRead, CountsWrite};
 ghost use Rattle.ptu_world.specs.Report.{course_opening, report, rules};
-ghost use Rattle.ptu_show.specs.Answers.{CountsRead, CountsWrite};
 ghost use Rattle.ptu_slave.specs.Seen.{seen_by};
 ghost use Rattle.ptu_lab.specs.Headline.{KeepsHeadline};
 ghost use Rattle.ptu_lab.specs.Replayed.{AreCounts, HasReplayed, IfReplayed};
@@ -17,7 +17,7 @@ use crate::lab::Lab;
 use ptu_judges::{Judge, Stock};
 use ptu_lines::LineCause;
 use ptu_outside::{Sink, Source};
-use ptu_report::{Ending, Reporter, Stop, Texts, report};
+use ptu_report::{Reporter, RunFault, Texts, run};
 use ptu_report_lines::{ReportLine, Statement};
 use ptu_script::{Cause, read_command};
 use ptu_show::LabFault;
@@ -135,7 +135,7 @@ pub fn replay<S: Source, K: Sink>(
         → HasPutPart K.written K.handed sink.old sink.new (report
         (record { flags = length stock.flags.items; gaps = length stock.gaps.items }) script) }
     // Where the source failed, that is all that belongs to the lines that were read whole.
-    ensures all_read { IsErrOf result LabFault.Read
+    ensures all_read { IsErrOf result RunFault.Read
         → HasReportedAllRead K.written K.handed sink.old sink.new rules (course_opening
         (record { flags = length stock.flags.items; gaps = length stock.gaps.items }))
         (S.left source.old) (S.left source.new) }
@@ -153,16 +153,13 @@ pub fn replay<S: Source, K: Sink>(
         line_room: [0; 2048],
         sent_room: Vec::new(alloc),
     };
-    match report(alloc, &mut replayer, source, sink) {
-        Ok(Ending::Whole { lines }) => Ok(Done {
+    match run(alloc, &mut replayer, source, sink) {
+        Ok(lines) => Ok(Done {
             lines,
             datagrams: replayer.lab.journal.sent().count() as u64,
             granted: replayer.lab.journal.granted(),
             refused: replayer.lab.journal.short(),
         }),
-        Ok(Ending::Refused { number, cause }) => Err(LabFault::Line { number, cause }),
-        Err(Stop::Read) => Err(LabFault::Read),
-        Err(Stop::Write) => Err(LabFault::Write),
-        Err(Stop::OutOfMemory) => Err(LabFault::OutOfMemory),
+        Err(fault) => Err(fault),
     }
 }

@@ -11,8 +11,9 @@ use Rattle.ptu_header.specs.declared.header.PortIdentity.{PortIdentity}
 use Rattle.ptu_tlvs.specs.declared.tlv.Tlv.TheVariants.{Request}
 use Rattle.ptu_messages.specs.Sent.{sent_message, signaling}
 use Rattle.ptu_outside.specs.Handing.{joined}
-use Rattle.ptu_show.specs.declared.fault.LabFault.{LabFault}
-use Rattle.ptu_show.specs.declared.fault.LabFault.TheVariants as faults
+use Rattle.ptu_report.specs.declared.fault.RunFault.{RunFault}
+use Rattle.ptu_report.specs.declared.fault.RunFault.TheVariants as faults
+use Rattle.ptu_script.specs.declared.cause.Cause.{Cause}
 use Rattle.ptu_load.specs.declared.generating.LoadLine.{LoadLine}
 use Rattle.ptu_load.specs.declared.generating.LoadLine.TheVariants.{Grandmaster, Client, Turn}
 
@@ -114,7 +115,7 @@ generated n = joined (generated_lines n)
 -- ---- why it is not written
 
 -- the sink failed, or memory was wanted
-abbrev pub IsWriteOrMemory : LabFault → Type 0
+abbrev pub IsWriteOrMemory : RunFault Cause → Type 0
 IsWriteOrMemory (faults.Line number cause) = ⊥
 IsWriteOrMemory faults.Read = ⊥
 IsWriteOrMemory faults.Write = Unit {0}

@@ -3,7 +3,7 @@
 ghost use Rattle.std.specs.Prelude.{◌≡◌, ◌≤◌, ◌<◌, ◌^◌, ◌∷◌, [], Some, take, IfErr, OnErr, OnOk};
 ghost use Rattle.std.specs.Io.KnownBytes.{append_known};
 ghost use Rattle.ptu_outside.specs.Handing.{HasPut, HasPutPart};
-ghost use Rattle.ptu_show.specs.Answers.{CountsWrite};
+ghost use Rattle.ptu_report.specs.Runs.{CountsWrite};
 ghost use Rattle.ptu_load.specs.Generated.{IsWriteOrMemory, client_text, load_text};
 ghost use Rattle.ptu_load.specs.Generated.{ask_lines, turn_lines, turn_lines_at};
 ghost use Rattle.ptu_load.specs.Generated.{generated, generated_lines};
@@ -14,6 +14,7 @@ ghost use Rattle.ptu_load.specs.Samples.{LinesAre, LinesAreCounted, LogarithmsAr
 use ptu_header::{Header, PortIdentity};
 use ptu_messages::write_signaling;
 use ptu_outside::{Sink, write_whole};
+use ptu_report::RunFault;
 use ptu_show::LabFault;
 use ptu_texts::OctetsText;
 use ptu_tlvs::{Ask, Tlv};
@@ -111,12 +112,12 @@ fn write_request(client: u64, log: i8, out: &mut [u8; 428]) -> usize
 pub fn put<K: Sink>(text: &str, sink: &mut K) -> Result<(), LabFault>
     ensures whole { OnOk result (HasPut K.written K.handed sink.old sink.new (text.now ∷ [])) }
     ensures part { OnErr result (HasPutPart K.written K.handed sink.old sink.new (text.now ∷ [])) }
-    ensures cause { IfErr result (λ fault. fault ≡ LabFault.Write) }
+    ensures cause { IfErr result (λ fault. fault ≡ RunFault.Write) }
     ensures counts { CountsWrite result (K.faults sink.old) (K.faults sink.new) }
 {
     match write_whole(sink, text.as_bytes()) {
         Ok(()) => Ok(()),
-        Err(_) => Err(LabFault::Write),
+        Err(_) => Err(RunFault::Write),
     }
 }
 
@@ -131,7 +132,7 @@ fn put_line<K: Sink>(alloc: Global, line: &LoadLine, sink: &mut K) -> Result<(),
 {
     match format!(in alloc; "{line}") {
         Ok(text) => put(text.as_str(), sink),
-        Err(_) => Err(LabFault::OutOfMemory),
+        Err(_) => Err(RunFault::OutOfMemory),
     }
 }
 

@@ -1,9 +1,12 @@
 -- What was put for the rules is the output on a script.
-use Rattle.std.proofs.Common.{ℕ, List, Option, subst}
+use Rattle.std.proofs.Common.{ℕ, List, Option, Result, subst}
 use Rattle.ptu_lines.specs.Script.{script_lines}
 use Rattle.ptu_outside.specs.Handing.{HasPut}
 use Rattle.ptu_report.specs.declared.ending.Ending.{Ending}
+use Rattle.ptu_report.specs.declared.fault.RunFault.{RunFault}
 use Rattle.ptu_report.specs.Reported.{HasReported}
+use Rattle.ptu_report.specs.Runs.{IfWritten}
+use Rattle.ptu_report.proofs.Answered.{written_weaker}
 use Rattle.ptu_pool_run.specs.declared.cause.PoolCause.{PoolCause}
 use Rattle.ptu_pool_run.specs.Answers.{HasPoured}
 use Rattle.ptu_pool_run.specs.Poured.{poured_texts}
@@ -16,3 +19,9 @@ pub poured_whole : {K : Type 0} (written : K → Option (List ℕ)) (handed : K 
 poured_whole written handed old new script ending reported =
     let put : HasPut written handed old new (poured_texts script) = subst (HasPut written handed old new) (texts_of_script script) reported.put in
     record { written_is = put.written_is; in_pieces = put; ends = reported.ends }
+
+-- the answer, likewise
+pub has_poured : {K : Type 0} (written : K → Option (List ℕ)) (handed : K → Option (List (List ℕ))) (old new : K) (script : List ℕ) (r : Result ℕ (RunFault PoolCause))
+    → IfWritten r (λ ending. HasReported written handed old new rules opening (script_lines script) ending)
+    → IfWritten r (λ ending. HasPoured written handed old new script ending)
+has_poured written handed old new script r h = written_weaker _ _ (λ ending reported. poured_whole written handed old new script ending reported) r h

@@ -5,8 +5,8 @@ ghost use Rattle.std.specs.Io.KnownBytes.{IsAtEnd, prepend_known};
 ghost use Rattle.ptu_outside.specs.Ends.{StopsAtEnd};
 ghost use Rattle.ptu_outside.specs.Handing.{HasPutPart};
 ghost use Rattle.ptu_report.specs.Reported.{HasReportedAllRead};
-ghost use Rattle.ptu_report.specs.Stops.{CountsRead, CountsWrite};
-ghost use Rattle.ptu_pool_run.specs.Answers.{HasPoured, run_ending};
+ghost use Rattle.ptu_report.specs.Runs.{CountsRead, CountsWrite, IfWritten};
+ghost use Rattle.ptu_pool_run.specs.Answers.{HasPoured};
 ghost use Rattle.ptu_pool_run.specs.Poured.{poured_texts};
 ghost use Rattle.ptu_pool_run.specs.Promises.{KeepsPools};
 ghost use Rattle.ptu_pool_run.specs.Reading.{opening, rules};
@@ -19,7 +19,7 @@ use crate::pouring::Pouring;
 use crate::reading::read_pool_command;
 use ptu_lines::LineCause;
 use ptu_outside::{Sink, Source};
-use ptu_report::{Ending, Reporter, Stop, Texts, report};
+use ptu_report::{Reporter, RunFault, Texts, run};
 use ptu_units::OutOfMemory;
 use std::alloc::Global;
 use std::marker::Model;
@@ -112,7 +112,7 @@ pub fn pools<S: Source, K: Sink>(
     sink: &mut K,
 ) -> Result<u64, PoolRunFault>
     // The whole output was written, and the answer says how it ends.
-    ensures whole { (script : List ℕ) → S.left source.old ≡ Some script → IfOk (run_ending result)
+    ensures whole { (script : List ℕ) → S.left source.old ≡ Some script → IfWritten result
         (λ ending. HasPoured K.written K.handed sink.old sink.new script ending) }
     ensures end { OnOk result (IsAtEnd (S.left source.new)) }
     // What every script keeps to: each pool stands apart, and all are within the whole.
@@ -121,7 +121,7 @@ pub fn pools<S: Source, K: Sink>(
     ensures front { (script : List ℕ) → S.left source.old ≡ Some script
         → HasPutPart K.written K.handed sink.old sink.new (poured_texts script) }
     // Where the source failed, that is all that belongs to the lines that were read whole.
-    ensures all_read { IsErrOf result PoolRunFault.Read
+    ensures all_read { IsErrOf result RunFault.Read
         → HasReportedAllRead K.written K.handed sink.old sink.new rules opening
         (S.left source.old) (S.left source.new) }
     ensures taken { (octets : List ℕ)
@@ -129,21 +129,13 @@ pub fn pools<S: Source, K: Sink>(
         × (length octets ≤ 67108865) }
     ensures ends { StopsAtEnd (S.ends source.old) (S.ends source.new) }
     // A fault is answered exactly where there was one.
-    ensures source_counts { CountsRead (run_ending result) (S.faults source.old)
-        (S.faults source.new) }
-    ensures sink_counts { CountsWrite (run_ending result) (K.faults sink.old)
-        (K.faults sink.new) }
+    ensures source_counts { CountsRead result (S.faults source.old) (S.faults source.new) }
+    ensures sink_counts { CountsWrite result (K.faults sink.old) (K.faults sink.new) }
 {
     let pouring = Pouring::new();
     let mut pourer = Pourer {
         pouring,
         room: [0; 2048],
     };
-    match report(alloc, &mut pourer, source, sink) {
-        Ok(Ending::Whole { lines }) => Ok(lines),
-        Ok(Ending::Refused { number, cause }) => Err(PoolRunFault::Line { number, cause }),
-        Err(Stop::Read) => Err(PoolRunFault::Read),
-        Err(Stop::Write) => Err(PoolRunFault::Write),
-        Err(Stop::OutOfMemory) => Err(PoolRunFault::OutOfMemory),
-    }
+    run(alloc, &mut pourer, source, sink)
 }

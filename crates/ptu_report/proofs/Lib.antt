@@ -1,3 +1,4 @@
+pub mod Answered
 pub mod FewLines
 pub mod OneLine
 pub mod Spans

@@ -1,5 +1,6 @@
 pub mod Rules
 pub mod Stops
+pub mod Runs
 pub mod Spans
 pub mod Reported
 pub mod Step

@@ -3,14 +3,18 @@
 
 mod driver;
 mod ending;
+mod fault;
 mod reporter;
+mod running;
 mod span;
 mod stop;
 mod texts;
 
 pub use driver::report;
 pub use ending::Ending;
+pub use fault::RunFault;
 pub use reporter::Reporter;
+pub use running::run;
 pub use stop::Stop;
 pub use texts::Texts;
 

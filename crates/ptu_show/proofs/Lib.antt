@@ -1,4 +1,5 @@
 pub mod ShowCauses
 pub mod JoinCauses
+pub mod Answered
 pub mod Partners
 pub mod Relation

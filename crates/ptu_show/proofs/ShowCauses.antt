@@ -9,6 +9,7 @@ use Rattle.ptu_lines.specs.Words.{octets_of}
 use Rattle.ptu_script.specs.Cause.{cause_of_line}
 use Rattle.ptu_script.specs.Command.{is_comment}
 use Rattle.ptu_report.specs.declared.ending.Ending.{Ending}
+use Rattle.ptu_report.specs.declared.ending.Ending.TheVariants as endings
 use Rattle.ptu_report.specs.Rules.{ending_after, ending_at}
 use Rattle.ptu_script.specs.declared.cause.Cause.{Cause}
 use Rattle.ptu_show.specs.Reading.{datagram_by}
@@ -40,6 +41,13 @@ lines_from-causes before (piece ∷ rest) =
     (cause_by (passes_limit before piece) (nat_lt 8192 (length (text_of piece))) (list_all is_plain (text_of piece)))
     (lines_from-causes (before + length piece) rest)
 
+pub of_reader : (number : ℕ) (cause : LineCause) → IsOfReader cause → HasShowCause (endings.Refused number (cause_of_line cause))
+of_reader number cause h =
+    elim h [
+      | inl e ↦ inl (ap cause_of_line e)
+      | inr o ↦ elim o [ inl e ↦ inr (inl (ap cause_of_line e)) | inr e ↦ inr (inr (inl (ap cause_of_line e))) ]
+    ]
+
 step_by : (number : ℕ) (b : Bool) (octets : Option (List ℕ)) (later : Unit {0} → Ending Cause) → HasShowCause (later tt)
     → HasShowCause (ending_at number (shown_by number (if b then Ok None else datagram_by octets)) later)
 step_by number true octets later h = h
@@ -49,10 +57,7 @@ step_by number false (Some octets) later h = h
 ending-causes : (before : ℕ) (lines : List ScriptLine) → AreOfReader lines → HasShowCause (ending_after show_rules tt before lines)
 ending-causes before [] h = tt
 ending-causes before (Refused cause ∷ rest) h =
-    elim h.0 [
-      | inl e ↦ inl (ap cause_of_line e)
-      | inr o ↦ elim o [ inl e ↦ inr (inl (ap cause_of_line e)) | inr e ↦ inr (inr (inl (ap cause_of_line e))) ]
-    ]
+    of_reader (before + 1) cause h.0
 ending-causes before (Whole text ∷ rest) h =
     step_by (before + 1) (is_comment text) (octets_of text) (λ after. ending_after show_rules after (before + 1) rest) (ending-causes (before + 1) rest h)
 

@@ -1,4 +1,3 @@
-pub mod Answers
 pub mod Datagram
 pub mod Reading
 pub mod Shown

@@ -4,7 +4,7 @@ ghost use Rattle.std.specs.Io.KnownBytes.{IsAtEnd, prepend_known};
 ghost use Rattle.ptu_outside.specs.Ends.{StopsAtEnd};
 ghost use Rattle.ptu_outside.specs.Handing.{HasPutPart};
 ghost use Rattle.ptu_report.specs.Reported.{HasReportedAllRead};
-ghost use Rattle.ptu_show.specs.Answers.{CountsRead, CountsWrite, IfWritten};
+ghost use Rattle.ptu_report.specs.Runs.{CountsRead, CountsWrite, IfWritten};
 ghost use Rattle.ptu_show.specs.Datagram.{datagram_text};
 ghost use Rattle.ptu_show.specs.Shown.{numbered, shown_lines, show_rules, HasShowCause, HasShown};
 
@@ -16,7 +16,7 @@ use ptu_lines::LineCause;
 use ptu_messages::{MessageFault, read_message};
 use ptu_octets::u16_at;
 use ptu_outside::{Sink, Source};
-use ptu_report::{Ending, Reporter, Stop, Texts, report};
+use ptu_report::{Reporter, RunFault, Texts, run};
 use ptu_script::Cause;
 use ptu_texts::FaultText;
 use ptu_units::OutOfMemory;
@@ -126,7 +126,7 @@ pub fn show<S: Source, K: Sink>(
     ensures front { (input : List ℕ) → S.left source.old ≡ Some input
         → HasPutPart K.written K.handed sink.old sink.new (shown_lines input) }
     // Where the source failed, that is all that belongs to the lines that were read whole.
-    ensures all_read { IsErrOf result LabFault.Read
+    ensures all_read { IsErrOf result RunFault.Read
         → HasReportedAllRead K.written K.handed sink.old sink.new show_rules tt
         (S.left source.old) (S.left source.new) }
     ensures taken { (octets : List ℕ)
@@ -138,11 +138,5 @@ pub fn show<S: Source, K: Sink>(
     ensures sink_counts { CountsWrite result (K.faults sink.old) (K.faults sink.new) }
 {
     let mut decoder = Decoder { room: [0; 2048] };
-    match report(alloc, &mut decoder, source, sink) {
-        Ok(Ending::Whole { lines }) => Ok(lines),
-        Ok(Ending::Refused { number, cause }) => Err(LabFault::Line { number, cause }),
-        Err(Stop::Read) => Err(LabFault::Read),
-        Err(Stop::Write) => Err(LabFault::Write),
-        Err(Stop::OutOfMemory) => Err(LabFault::OutOfMemory),
-    }
+    run(alloc, &mut decoder, source, sink)
 }

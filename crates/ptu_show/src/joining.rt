@@ -4,23 +4,23 @@ ghost use Rattle.std.specs.Io.KnownBytes.{IsAtEnd, prepend_known};
 ghost use Rattle.ptu_outside.specs.Ends.{StopsAtEnd};
 ghost use Rattle.ptu_outside.specs.Handing.{HasPutPart};
 ghost use Rattle.ptu_report.specs.Reported.{HasReportedAllRead};
-ghost use Rattle.ptu_report.specs.Stops.{CountsRead, CountsWrite};
+ghost use Rattle.ptu_report.specs.Runs.{CountsRead, CountsWrite, IfWritten};
 ghost use Rattle.ptu_show.specs.Halves.{half_in, is_other};
-ghost use Rattle.ptu_show.specs.Joined.{half_text, halves_of, join_ending, join_rules};
-ghost use Rattle.ptu_show.specs.Joined.{joined_lines, text_behind, HasJoined, HasJoinCause};
-ghost use Rattle.ptu_show.specs.Shown.{numbered};
+ghost use Rattle.ptu_show.specs.Joined.{half_text, halves_of, join_rules};
+ghost use Rattle.ptu_show.specs.Joined.{joined_lines, text_behind, HasJoined};
+ghost use Rattle.ptu_show.specs.Shown.{numbered, HasShowCause};
 ghost use Rattle.ptu_show.specs.Waiting.{IsHalf, StandsFor};
 
+use crate::fault::LabFault;
 use crate::half::Half;
 use crate::halving::read_half;
-use crate::join_fault::JoinFault;
 use crate::join_lines::JoinLine;
 use crate::reading::read_datagram;
 use crate::waiting::Waiting;
 use ptu_lines::LineCause;
 use ptu_messages::write_fixed;
 use ptu_outside::{Sink, Source};
-use ptu_report::{Ending, Reporter, Stop, Texts, report};
+use ptu_report::{Reporter, RunFault, Texts, run};
 use ptu_script::Cause;
 use ptu_texts::OctetsText;
 use ptu_units::OutOfMemory;
@@ -98,7 +98,7 @@ fn add_datagram(
 impl Reporter for Joiner {
     type Meaning = DatagramsSoFar;
 
-    type Cause = LineCause;
+    type Cause = Cause;
 
     ghost rules = { join_rules };
 
@@ -110,7 +110,7 @@ impl Reporter for Joiner {
         number: u64,
         line: &[u8],
         texts: &mut Texts,
-    ) -> Result<Option<LineCause>, OutOfMemory> {
+    ) -> Result<Option<Cause>, OutOfMemory> {
         match read_datagram(line, &mut self.room) {
             Ok(None) => Ok(None),
             Ok(Some(size)) => {
@@ -118,7 +118,7 @@ impl Reporter for Joiner {
                 add_datagram(alloc, number, bytes, &mut self.waiting, texts)?;
                 Ok(None)
             }
-            Err(cause) => Ok(Some(cause)),
+            Err(cause) => Ok(Some(Cause::from(cause))),
         }
     }
 
@@ -127,19 +127,19 @@ impl Reporter for Joiner {
         _: Global,
         lines: u64,
         texts: &mut Texts,
-    ) -> Result<Option<LineCause>, OutOfMemory> {
+    ) -> Result<Option<Cause>, OutOfMemory> {
         let keys = self.waiting.count() as u64;
         texts.add(&JoinLine::End { lines, keys })?;
         Ok(None)
     }
 
-    fn refuse(number: u64, cause: &LineCause, texts: &mut Texts) -> Result<(), OutOfMemory> {
-        let cause = Cause::from(*cause);
+    fn refuse(number: u64, cause: &Cause, texts: &mut Texts) -> Result<(), OutOfMemory> {
+        let cause = *cause;
         texts.add(&JoinLine::Bad { number, cause })
     }
 
-    fn cause_of(cause: LineCause) -> LineCause {
-        cause
+    fn cause_of(cause: LineCause) -> Cause {
+        Cause::from(cause)
     }
 }
 
@@ -161,19 +161,18 @@ pub fn join<S: Source, K: Sink>(
     alloc: Global,
     source: &mut S,
     sink: &mut K,
-) -> Result<u64, JoinFault>
+) -> Result<u64, LabFault>
     // The whole output was written, and the answer says how it ends.
-    ensures whole { (input : List ℕ) → S.left source.old ≡ Some input
-        → IfOk (join_ending result)
+    ensures whole { (input : List ℕ) → S.left source.old ≡ Some input → IfWritten result
         (λ ending. HasJoined K.written K.handed sink.old sink.new input ending) }
     ensures causes { (input : List ℕ) → S.left source.old ≡ Some input
-        → IfOk (join_ending result) HasJoinCause }
+        → IfWritten result HasShowCause }
     ensures end { OnOk result (IsAtEnd (S.left source.new)) }
     // What was written is a front of the output, whatever is answered.
     ensures front { (input : List ℕ) → S.left source.old ≡ Some input
         → HasPutPart K.written K.handed sink.old sink.new (joined_lines input) }
     // Where the source failed, that is all that belongs to the lines that were read whole.
-    ensures all_read { IsErrOf result JoinFault.Read
+    ensures all_read { IsErrOf result RunFault.Read
         → HasReportedAllRead K.written K.handed sink.old sink.new join_rules []
         (S.left source.old) (S.left source.new) }
     ensures taken { (octets : List ℕ)
@@ -181,20 +180,12 @@ pub fn join<S: Source, K: Sink>(
         × (length octets ≤ 67108865) }
     ensures ends { StopsAtEnd (S.ends source.old) (S.ends source.new) }
     // A fault is answered exactly where there was one.
-    ensures source_counts { CountsRead (join_ending result) (S.faults source.old)
-        (S.faults source.new) }
-    ensures sink_counts { CountsWrite (join_ending result) (K.faults sink.old)
-        (K.faults sink.new) }
+    ensures source_counts { CountsRead result (S.faults source.old) (S.faults source.new) }
+    ensures sink_counts { CountsWrite result (K.faults sink.old) (K.faults sink.new) }
 {
     let mut joiner = Joiner {
         room: [0; 2048],
         waiting: Waiting::new(alloc),
     };
-    match report(alloc, &mut joiner, source, sink) {
-        Ok(Ending::Whole { lines }) => Ok(lines),
-        Ok(Ending::Refused { number, cause }) => Err(JoinFault::Line { number, cause }),
-        Err(Stop::Read) => Err(JoinFault::Read),
-        Err(Stop::Write) => Err(JoinFault::Write),
-        Err(Stop::OutOfMemory) => Err(JoinFault::OutOfMemory),
-    }
+    run(alloc, &mut joiner, source, sink)
 }

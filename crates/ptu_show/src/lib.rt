@@ -7,7 +7,6 @@ mod decoding;
 mod fault;
 mod half;
 mod halving;
-mod join_fault;
 mod join_lines;
 mod joining;
 mod laws;
@@ -17,7 +16,6 @@ mod waiting;
 
 pub use decoding::show;
 pub use fault::LabFault;
-pub use join_fault::JoinFault;
 pub use joining::join;
 pub use laws::{joining_is_relation, sample_joins, sample_lines, two_steps_are_undone};
 pub use ptu_lines::LineCause;

@@ -4,7 +4,7 @@ use Rattle.ptu_words.specs.declared.command.Command.{Command}
 use Rattle.ptu_words.specs.declared.command.Command.TheVariants.{Audit, Load, Replay}
 use Rattle.ptu_words.specs.CommandLine.{IsRefused, command_of}
 use Rattle.ptu_words.proofs.Matching.{refused, unnamed}
-use Rattle.ptu_audit.specs.declared.answer.AuditFault.TheVariants.{OutOfMemory}
+use Rattle.ptu_report.specs.declared.fault.RunFault.TheVariants.{OutOfMemory}
 use Rattle.ptu_world.specs.Report.{report_lines}
 use Rattle.ptpuni.specs.Run.{HasRun, IsOfLab, status_of, stock_of}
 use Rattle.ptpuni.proofs.Answered.{zero_at_end}

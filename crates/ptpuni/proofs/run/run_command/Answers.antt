@@ -1,11 +1,8 @@
 use Rattle.std.proofs.Common.{◌≡◌, ◌∙◌, refl, sym, subst}
 use Rattle.ptu_words.specs.declared.command.Command.TheVariants.{Audit}
 use Rattle.ptpuni.specs.Run.{HasAudited, stock_of}
-use Rattle.ptpuni.proofs.Answered.{by_counts, by_status, is_status, replayed, shown}
+use Rattle.ptpuni.proofs.Answered.{by_counts, by_status, is_status, joined_run, no_usage, poured_run, replayed, shown, sink_fault, sink_still, source_fault, source_still}
 use Rattle.ptpuni.proofs.Audited as of_audit
-use Rattle.ptu_pool_run.specs.Answers.{run_ending}
-use Rattle.ptu_show.specs.Joined.{join_ending}
-use Rattle.ptpuni.proofs.Ended as ended
 use Rattle.ptpuni.proofs.Loaded.{has_loaded, loaded}
 use Rattle.ptpuni.proofs.run.run_command.Goals as goal
 
@@ -43,34 +40,34 @@ pub returns-in-Load-clause-statuses : goal.returns-in-Load-clause-statuses
 returns-in-Load-clause-statuses g c = rw c.status_of-in-Load.ensures (is_status c.load.result)
 
 pub returns-in-Join-clause-statuses : goal.returns-in-Join-clause-statuses
-returns-in-Join-clause-statuses g c = rw c.join_status.ensures (ended.is_status (join_ending c.join.result))
+returns-in-Join-clause-statuses g c = rw c.status_of-in-Join.ensures (is_status c.join.result)
 
 pub returns-in-Join-clause-other : goal.returns-in-Join-clause-other
-returns-in-Join-clause-other g c = λ e. ended.no_usage (join_ending c.join.result) (sym c.join_status.ensures ∙ e)
+returns-in-Join-clause-other g c = λ e. no_usage c.join.result (sym c.status_of-in-Join.ensures ∙ e)
 
 pub returns-in-Join-clause-output : goal.returns-in-Join-clause-output
 returns-in-Join-clause-output g c = λ lab input told still_source still_sink memory.
-    let is = ended.by_counts (join_ending c.join.result) _ _ _ _ c.join.ensures.source_counts c.join.ensures.sink_counts still_source still_sink (rw c.join_status.ensures at memory) in
-    rw (c.join_status.ensures, c.in-Join.is)
-    (ended.joined_run g.K.Sink.written g.K.Sink.handed c.args.sink.now c.join.new.sink (stock_of c.args.stock.flags.items c.args.stock.gaps.items) input (g.S.Source.left c.join.new.source) c.join.result is (c.join.ensures.whole input told) c.join.ensures.end)
+    let is = by_counts c.join.result _ _ _ _ c.join.ensures.source_counts c.join.ensures.sink_counts still_source still_sink (rw c.status_of-in-Join.ensures at memory) in
+    rw (c.status_of-in-Join.ensures, c.in-Join.is)
+    (joined_run g.K.Sink.written g.K.Sink.handed c.args.sink.now c.join.new.sink (stock_of c.args.stock.flags.items c.args.stock.gaps.items) input (g.S.Source.left c.join.new.source) c.join.result is (c.join.ensures.whole input told) c.join.ensures.end)
 
 pub returns-in-Join-clause-answered : goal.returns-in-Join-clause-answered
 returns-in-Join-clause-answered g c = λ was lab input told.
-    let is = ended.by_status (join_ending c.join.result) (rw c.join_status.ensures at was) in
-    rw (c.join_status.ensures, c.in-Join.is)
-    (ended.joined_run g.K.Sink.written g.K.Sink.handed c.args.sink.now c.join.new.sink (stock_of c.args.stock.flags.items c.args.stock.gaps.items) input (g.S.Source.left c.join.new.source) c.join.result is (c.join.ensures.whole input told) c.join.ensures.end)
+    let is = by_status c.join.result (rw c.status_of-in-Join.ensures at was) in
+    rw (c.status_of-in-Join.ensures, c.in-Join.is)
+    (joined_run g.K.Sink.written g.K.Sink.handed c.args.sink.now c.join.new.sink (stock_of c.args.stock.flags.items c.args.stock.gaps.items) input (g.S.Source.left c.join.new.source) c.join.result is (c.join.ensures.whole input told) c.join.ensures.end)
 
 pub returns-in-Join-clause-source_fault : goal.returns-in-Join-clause-source_fault
-returns-in-Join-clause-source_fault g c = λ e. ended.source_fault _ _ (join_ending c.join.result) c.join.ensures.source_counts (sym c.join_status.ensures ∙ e)
+returns-in-Join-clause-source_fault g c = λ e. source_fault _ _ c.join.result c.join.ensures.source_counts (sym c.status_of-in-Join.ensures ∙ e)
 
 pub returns-in-Join-clause-source_still : goal.returns-in-Join-clause-source_still
-returns-in-Join-clause-source_still g c = λ other. ended.source_still _ _ (join_ending c.join.result) c.join.ensures.source_counts (rw c.join_status.ensures at other)
+returns-in-Join-clause-source_still g c = λ other. source_still _ _ c.join.result c.join.ensures.source_counts (rw c.status_of-in-Join.ensures at other)
 
 pub returns-in-Join-clause-sink_fault : goal.returns-in-Join-clause-sink_fault
-returns-in-Join-clause-sink_fault g c = λ e. ended.sink_fault _ _ (join_ending c.join.result) c.join.ensures.sink_counts (sym c.join_status.ensures ∙ e)
+returns-in-Join-clause-sink_fault g c = λ e. sink_fault _ _ c.join.result c.join.ensures.sink_counts (sym c.status_of-in-Join.ensures ∙ e)
 
 pub returns-in-Join-clause-sink_still : goal.returns-in-Join-clause-sink_still
-returns-in-Join-clause-sink_still g c = λ other. ended.sink_still _ _ (join_ending c.join.result) c.join.ensures.sink_counts (rw c.join_status.ensures at other)
+returns-in-Join-clause-sink_still g c = λ other. sink_still _ _ c.join.result c.join.ensures.sink_counts (rw c.status_of-in-Join.ensures at other)
 
 pub returns-in-Audit-clause-statuses : goal.returns-in-Audit-clause-statuses
 returns-in-Audit-clause-statuses g c = rw c.audit_status.ensures (of_audit.is_audit_status c.audit.result)
@@ -111,31 +108,31 @@ returns-in-Audit-clause-audited g c = λ capacity is.
     })
 
 pub returns-in-Pools-clause-statuses : goal.returns-in-Pools-clause-statuses
-returns-in-Pools-clause-statuses g c = rw c.pools_status.ensures (ended.is_status (run_ending c.pools.result))
+returns-in-Pools-clause-statuses g c = rw c.status_of-in-Pools.ensures (is_status c.pools.result)
 
 pub returns-in-Pools-clause-other : goal.returns-in-Pools-clause-other
-returns-in-Pools-clause-other g c = λ e. ended.no_usage (run_ending c.pools.result) (sym c.pools_status.ensures ∙ e)
+returns-in-Pools-clause-other g c = λ e. no_usage c.pools.result (sym c.status_of-in-Pools.ensures ∙ e)
 
 pub returns-in-Pools-clause-output : goal.returns-in-Pools-clause-output
 returns-in-Pools-clause-output g c = λ lab input told still_source still_sink memory.
-    let is = ended.by_counts (run_ending c.pools.result) _ _ _ _ c.pools.ensures.source_counts c.pools.ensures.sink_counts still_source still_sink (rw c.pools_status.ensures at memory) in
-    rw (c.pools_status.ensures, c.in-Pools.is)
-    (ended.poured_run g.K.Sink.written g.K.Sink.handed c.args.sink.now c.pools.new.sink (stock_of c.args.stock.flags.items c.args.stock.gaps.items) input (g.S.Source.left c.pools.new.source) c.pools.result is (c.pools.ensures.whole input told) c.pools.ensures.end)
+    let is = by_counts c.pools.result _ _ _ _ c.pools.ensures.source_counts c.pools.ensures.sink_counts still_source still_sink (rw c.status_of-in-Pools.ensures at memory) in
+    rw (c.status_of-in-Pools.ensures, c.in-Pools.is)
+    (poured_run g.K.Sink.written g.K.Sink.handed c.args.sink.now c.pools.new.sink (stock_of c.args.stock.flags.items c.args.stock.gaps.items) input (g.S.Source.left c.pools.new.source) c.pools.result is (c.pools.ensures.whole input told) c.pools.ensures.end)
 
 pub returns-in-Pools-clause-answered : goal.returns-in-Pools-clause-answered
 returns-in-Pools-clause-answered g c = λ was lab input told.
-    let is = ended.by_status (run_ending c.pools.result) (rw c.pools_status.ensures at was) in
-    rw (c.pools_status.ensures, c.in-Pools.is)
-    (ended.poured_run g.K.Sink.written g.K.Sink.handed c.args.sink.now c.pools.new.sink (stock_of c.args.stock.flags.items c.args.stock.gaps.items) input (g.S.Source.left c.pools.new.source) c.pools.result is (c.pools.ensures.whole input told) c.pools.ensures.end)
+    let is = by_status c.pools.result (rw c.status_of-in-Pools.ensures at was) in
+    rw (c.status_of-in-Pools.ensures, c.in-Pools.is)
+    (poured_run g.K.Sink.written g.K.Sink.handed c.args.sink.now c.pools.new.sink (stock_of c.args.stock.flags.items c.args.stock.gaps.items) input (g.S.Source.left c.pools.new.source) c.pools.result is (c.pools.ensures.whole input told) c.pools.ensures.end)
 
 pub returns-in-Pools-clause-source_fault : goal.returns-in-Pools-clause-source_fault
-returns-in-Pools-clause-source_fault g c = λ e. ended.source_fault _ _ (run_ending c.pools.result) c.pools.ensures.source_counts (sym c.pools_status.ensures ∙ e)
+returns-in-Pools-clause-source_fault g c = λ e. source_fault _ _ c.pools.result c.pools.ensures.source_counts (sym c.status_of-in-Pools.ensures ∙ e)
 
 pub returns-in-Pools-clause-source_still : goal.returns-in-Pools-clause-source_still
-returns-in-Pools-clause-source_still g c = λ other. ended.source_still _ _ (run_ending c.pools.result) c.pools.ensures.source_counts (rw c.pools_status.ensures at other)
+returns-in-Pools-clause-source_still g c = λ other. source_still _ _ c.pools.result c.pools.ensures.source_counts (rw c.status_of-in-Pools.ensures at other)
 
 pub returns-in-Pools-clause-sink_fault : goal.returns-in-Pools-clause-sink_fault
-returns-in-Pools-clause-sink_fault g c = λ e. ended.sink_fault _ _ (run_ending c.pools.result) c.pools.ensures.sink_counts (sym c.pools_status.ensures ∙ e)
+returns-in-Pools-clause-sink_fault g c = λ e. sink_fault _ _ c.pools.result c.pools.ensures.sink_counts (sym c.status_of-in-Pools.ensures ∙ e)
 
 pub returns-in-Pools-clause-sink_still : goal.returns-in-Pools-clause-sink_still
-returns-in-Pools-clause-sink_still g c = λ other. ended.sink_still _ _ (run_ending c.pools.result) c.pools.ensures.sink_counts (rw c.pools_status.ensures at other)
+returns-in-Pools-clause-sink_still g c = λ other. sink_still _ _ c.pools.result c.pools.ensures.sink_counts (rw c.status_of-in-Pools.ensures at other)

@@ -1,28 +1,17 @@
-use Rattle.std.proofs.Common.{[], sym, subst}
-use Rattle.ptu_outside.proofs.Putting.{HasPutPart-whole}
-use Rattle.ptu_show.specs.Joined.{HasJoinCause}
-use Rattle.ptu_show.proofs.JoinCauses.{joined_ending-causes}
+use Rattle.std.proofs.Common.{[]}
+use Rattle.ptu_show.proofs.Answered.{causes_joined, has_joined}
 use Rattle.ptu_show.proofs.joining.join.Goals as goal
 
-pub returns-in-Ok-Whole-clause-whole : goal.returns-in-Ok-Whole-clause-whole
-returns-in-Ok-Whole-clause-whole g c = λ input told.
-    let reported = rw c.in-Ok-Whole.field-0-is at (c.in-Ok-Whole.ensures.whole [] c.new.ensures input told) in
-    record { written_is = reported.put.written_is; in_pieces = reported.put; ends = reported.ends }
+pub returns-clause-whole : goal.returns-clause-whole
+returns-clause-whole g c = λ input told.
+    has_joined g.K.Sink.written g.K.Sink.handed c.args.sink.now c.run.new.sink input c.run.result (c.run.ensures.whole [] c.new.ensures input told)
 
-pub returns-in-Ok-Whole-clause-front : goal.returns-in-Ok-Whole-clause-front
-returns-in-Ok-Whole-clause-front g c = λ input told.
-    HasPutPart-whole g.K.Sink.written g.K.Sink.handed c.args.sink.now c.report.new.sink _ (c.in-Ok-Whole.ensures.whole [] c.new.ensures input told).put
+pub returns-clause-causes : goal.returns-clause-causes
+returns-clause-causes g c = λ input told.
+    causes_joined g.K.Sink.written g.K.Sink.handed c.args.sink.now c.run.new.sink input c.run.result (c.run.ensures.whole [] c.new.ensures input told)
 
-pub returns-in-Ok-Refused-clause-whole : goal.returns-in-Ok-Refused-clause-whole
-returns-in-Ok-Refused-clause-whole g c = λ input told.
-    let reported = rw c.in-Ok-Refused.field-0-is at (c.in-Ok-Refused.ensures.whole [] c.new.ensures input told) in
-    record { written_is = reported.put.written_is; in_pieces = reported.put; ends = reported.ends }
+pub returns-clause-front : goal.returns-clause-front
+returns-clause-front g c = λ input told. c.run.ensures.front [] c.new.ensures input told
 
-pub returns-in-Ok-Refused-clause-front : goal.returns-in-Ok-Refused-clause-front
-returns-in-Ok-Refused-clause-front g c = λ input told.
-    HasPutPart-whole g.K.Sink.written g.K.Sink.handed c.args.sink.now c.report.new.sink _ (c.in-Ok-Refused.ensures.whole [] c.new.ensures input told).put
-
-pub returns-in-Ok-Refused-clause-causes : goal.returns-in-Ok-Refused-clause-causes
-returns-in-Ok-Refused-clause-causes g c = λ input told.
-    let reported = rw c.in-Ok-Refused.field-0-is at (c.in-Ok-Refused.ensures.whole [] c.new.ensures input told) in
-    subst HasJoinCause (sym reported.ends) (joined_ending-causes input)
+pub returns-clause-all_read : goal.returns-clause-all_read
+returns-clause-all_read g c = λ failed. c.run.ensures.all_read failed [] c.new.ensures
