@@ -1,5 +1,5 @@
 -- What an audit answers where it did not read its report to the end.
-use Rattle.std.proofs.Common.{ℕ, List, ◌∷◌, [], Option, Err, sym, subst}
+use Rattle.std.proofs.Common.{ℕ, List, Option, Err, sym, subst}
 use Rattle.ptu_lines.specs.Script.{script_lines}
 use Rattle.ptu_outside.specs.Handing.{HasPut}
 use Rattle.ptu_report.specs.declared.fault.RunFault.{RunFault}

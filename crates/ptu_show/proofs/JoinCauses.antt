@@ -1,5 +1,5 @@
 -- For which causes `join` refuses a line.
-use Rattle.std.proofs.Common.{ℕ, ◌+◌, Bool, true, false, List, [], ◌∷◌, Option, Some, None, Ok, inl, inr, refl}
+use Rattle.std.proofs.Common.{ℕ, ◌+◌, Bool, true, false, List, [], ◌∷◌, Option, Some, None, Ok, inr, refl}
 use Rattle.std.specs.Prelude.{if◌then◌else◌}
 use Rattle.ptu_lines.specs.Script.{ScriptLine, Whole, Refused, pieces, script_lines}
 use Rattle.ptu_lines.specs.Words.{octets_of}
