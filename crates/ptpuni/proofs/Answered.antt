@@ -4,6 +4,7 @@ use Rattle.std.specs.Prelude.{◌≢◌, ◌⊎◌, Contains, OnOk, if◌then◌
 use Rattle.std.specs.Io.KnownBytes.{IsAtEnd, append_known}
 use Rattle.ptu_outside.specs.Faults.{HasRisen}
 use Rattle.ptu_outside.specs.Handing.{HasPut, joined}
+use Rattle.ptu_lines.specs.declared.cause.LineCause.{LineCause}
 use Rattle.ptu_report.specs.declared.ending.Ending.{Ending}
 use Rattle.ptu_report.specs.declared.ending.Ending.TheVariants.{Whole, Refused}
 use Rattle.ptu_report.specs.declared.fault.RunFault.{RunFault}
@@ -197,7 +198,7 @@ module _ {K : Type 0} (written : K → Option (List ℕ)) (handed : K → Option
       → HasRun written handed old new stock Show input left (status_of_answer r)
   shown r is h end = has_run written handed old new stock input left r Show is (written_weaker _ _ (λ ending s. (s.written_is, s.in_pieces, ap (λ e. is_whole e) s.ends)) r h) end
 
-  pub joined_run : (r : Result ℕ (RunFault Cause)) → IsWritten r → IfWritten r (λ ending. HasJoined written handed old new input ending) → OnOk r (IsAtEnd left)
+  pub joined_run : (r : Result ℕ (RunFault LineCause)) → IsWritten r → IfWritten r (λ ending. HasJoined written handed old new input ending) → OnOk r (IsAtEnd left)
       → HasRun written handed old new stock Join input left (status_of_answer r)
   joined_run r is h end = has_run written handed old new stock input left r Join is (written_weaker _ _ (λ ending j. (j.written_is, j.in_pieces, ap (λ e. is_whole e) j.ends)) r h) end
 

@@ -1,3 +1,6 @@
+use std::error::Error;
+use std::fmt;
+
 /// Why a line is refused. The reader of lines gives `Size`, `Long` and `Text` alone.
 #[derive(Clone, Copy, Debug, PartialEq, Eq, Hash)]
 pub enum LineCause {
@@ -14,3 +17,18 @@ pub enum LineCause {
     /// The word with this number, from 1, is outside its form or range.
     Field(u8),
 }
+
+impl fmt::Display for LineCause {
+    fn fmt<W: fmt::Write>(&self, f: &mut fmt::Formatter<W>) -> fmt::Result {
+        match self {
+            LineCause::Size => f.write_str("size"),
+            LineCause::Long => f.write_str("long"),
+            LineCause::Text => f.write_str("text"),
+            LineCause::Word => f.write_str("word"),
+            LineCause::Count => f.write_str("count"),
+            LineCause::Field(number) => write!(f, "field {number}"),
+        }
+    }
+}
+
+impl Error for LineCause {}

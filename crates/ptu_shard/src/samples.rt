@@ -1,10 +1,9 @@
 //! Values for tests and examples: a client of each table of a grandmaster, and the header of a
 //! Delay_Req; and those of `ptu_profile`.
 
-pub use ptu_profile::samples::CONFIG;
-
 use ptu_header::{Header, PortIdentity};
 use ptu_history::Client;
+pub use ptu_profile::samples::CONFIG;
 
 /// The nanoseconds of a second.
 pub const SECOND: u64 = 1_000_000_000;

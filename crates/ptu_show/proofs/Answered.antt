@@ -1,5 +1,6 @@
 -- What `show` and `join` answer, by what was put for their rules.
 use Rattle.std.proofs.Common.{ℕ, List, [], Option, Result, sym, subst}
+use Rattle.ptu_lines.specs.declared.cause.LineCause.{LineCause}
 use Rattle.ptu_lines.specs.Script.{script_lines}
 use Rattle.ptu_report.specs.declared.fault.RunFault.{RunFault}
 use Rattle.ptu_report.specs.Reported.{HasReported}
@@ -7,7 +8,7 @@ use Rattle.ptu_report.specs.Runs.{IfWritten}
 use Rattle.ptu_report.proofs.Answered.{written_weaker}
 use Rattle.ptu_script.specs.declared.cause.Cause.{Cause}
 use Rattle.ptu_show.specs.Shown.{HasShowCause, HasShown, show_rules}
-use Rattle.ptu_show.specs.Joined.{HasJoined, join_rules}
+use Rattle.ptu_show.specs.Joined.{HasJoinCause, HasJoined, join_rules}
 use Rattle.ptu_show.proofs.ShowCauses.{shown_ending-causes}
 use Rattle.ptu_show.proofs.JoinCauses.{joined_ending-causes}
 
@@ -23,6 +24,7 @@ module _ {K : Type 0} (written : K → Option (List ℕ)) (handed : K → Option
   causes_shown h =
       written_weaker _ _ (λ ending reported. subst HasShowCause (sym reported.ends) (shown_ending-causes input)) r h
 
+module _ {K : Type 0} (written : K → Option (List ℕ)) (handed : K → Option (List (List ℕ))) (old new : K) (input : List ℕ) (r : Result ℕ (RunFault LineCause)) where
   abbrev IsJoined : Type 0
   IsJoined = IfWritten r (λ ending. HasReported written handed old new join_rules [] (script_lines input) ending)
 
@@ -30,6 +32,6 @@ module _ {K : Type 0} (written : K → Option (List ℕ)) (handed : K → Option
   has_joined h =
       written_weaker _ _ (λ ending reported. record { written_is = reported.put.written_is; in_pieces = reported.put; ends = reported.ends }) r h
 
-  pub causes_joined : IsJoined → IfWritten r HasShowCause
+  pub causes_joined : IsJoined → IfWritten r HasJoinCause
   causes_joined h =
-      written_weaker _ _ (λ ending reported. subst HasShowCause (sym reported.ends) (joined_ending-causes input)) r h
+      written_weaker _ _ (λ ending reported. subst HasJoinCause (sym reported.ends) (joined_ending-causes input)) r h

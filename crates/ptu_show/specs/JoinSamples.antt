@@ -5,7 +5,7 @@ use Rattle.ptu_messages.specs.declared.message.Body.TheVariants as bodies
 use Rattle.ptu_messages.specs.declared.message.Message.{Message}
 use Rattle.ptu_messages.specs.Samples.{client, delay_req, grandmaster}
 use Rattle.ptu_report.specs.declared.ending.Ending.TheVariants.{Whole, Refused}
-use Rattle.ptu_script.specs.declared.cause.Cause.TheVariants.{Field}
+use Rattle.ptu_lines.specs.declared.cause.LineCause.TheVariants.{Field}
 use Rattle.ptu_show.specs.declared.half.Half.{Half}
 use Rattle.ptu_show.specs.declared.half.Part.TheVariants.{Sync, FollowUp}
 use Rattle.ptu_show.specs.Halves.{half_in, joined, key_of}

@@ -1,6 +1,6 @@
 -- What `join` writes for an input: a line for each datagram, up to the first line that is refused
 -- or to the end.
-use Rattle.std.specs.Prelude.{◌≡◌, ℕ, List, [], ◌∷◌, ◌++◌, codes, Option, Some, None, Result}
+use Rattle.std.specs.Prelude.{◌≡◌, ◌⊎◌, ℕ, List, [], ◌∷◌, ◌++◌, codes, Option, Some, None, Result}
 use Rattle.std.specs.Prelude.{Ok, Err}
 use Rattle.std.specs.Fmt.{decimal}
 use Rattle.std.specs.List.{filter_map}
@@ -9,11 +9,12 @@ use Rattle.hex.specs.Hex.{encode_lower}
 use Rattle.ptu_outside.specs.Handing.{HasPut, joined as together}
 use Rattle.ptu_lines.specs.Script.{script_lines}
 use Rattle.ptu_lines.specs.declared.cause.LineCause.{LineCause}
+use Rattle.ptu_lines.specs.declared.cause.LineCause.TheVariants.{Size, Long, Text, Field}
 use Rattle.ptu_messages.specs.declared.message.Message.{Message}
 use Rattle.ptu_messages.specs.Sent.{sent_message}
 use Rattle.ptu_report.specs.declared.ending.Ending.{Ending}
+use Rattle.ptu_report.specs.declared.ending.Ending.TheVariants as endings
 use Rattle.ptu_report.specs.Rules.{Rules, Outcome, Goes, Refuses, ending_of, texts_of}
-use Rattle.ptu_script.specs.declared.cause.Cause.{Cause}
 use Rattle.ptu_script.specs.Cause.{cause_of_line}
 use Rattle.ptu_show.specs.declared.half.Half.{Half}
 use Rattle.ptu_show.specs.Halves.{half_in, joined}
@@ -48,25 +49,25 @@ joins_end_line lines keys =
 
 -- what a line does behind these datagrams, the last of them first, by what it writes
 abbrev pub joined_by_line : List (List ℕ) → ℕ → Result (Option (List ℕ)) LineCause
-    → Outcome (List (List ℕ)) Cause
+    → Outcome (List (List ℕ)) LineCause
 joined_by_line past number (Ok None) = Goes past []
 joined_by_line past number (Ok (Some octets)) =
     Goes (octets ∷ past) (numbered number (text_behind (halves_of past) (half_in octets)) ∷ [])
-joined_by_line past number (Err cause) = Refuses (cause_of_line cause)
+joined_by_line past number (Err cause) = Refuses cause
 
-abbrev pub join_rules : Rules (List (List ℕ)) Cause
+abbrev pub join_rules : Rules (List (List ℕ)) LineCause
 join_rules = record {
   step = λ past number line. joined_by_line past number (datagram_in line);
   close = λ past lines. Goes past (joins_end_line lines (waiting_keys (halves_of past)) ∷ []);
-  refusal = bad_line;
-  cause_of = cause_of_line;
+  refusal = λ number cause. bad_line number (cause_of_line cause);
+  cause_of = λ cause. cause;
 }
 
 -- the lines of output for an input, how they end, and their octets
 abbrev pub joined_lines : List ℕ → List (List ℕ)
 joined_lines input = texts_of join_rules [] (script_lines input)
 
-abbrev pub joined_ending : List ℕ → Ending Cause
+abbrev pub joined_ending : List ℕ → Ending LineCause
 joined_ending input = ending_of join_rules [] (script_lines input)
 
 abbrev pub joined_output : List ℕ → List ℕ
@@ -75,7 +76,13 @@ joined_output input = together (joined_lines input)
 -- all that belongs to the input was written, each line handed over in one piece, and it ends so
 pub record HasJoined {K : Type 0} (written : K → Option (List ℕ))
     (handed : K → Option (List (List ℕ))) (old new : K) (input : List ℕ)
-    (ending : Ending Cause) : Type 0 where
+    (ending : Ending LineCause) : Type 0 where
   pub written_is : written new ≡ append_known (written old) (joined_output input)
   pub in_pieces : HasPut written handed old new (joined_lines input)
   pub ends : ending ≡ joined_ending input
+
+-- no line is refused but for these causes
+abbrev pub HasJoinCause : Ending LineCause → Type 0
+HasJoinCause (endings.Whole lines) = Unit {0}
+HasJoinCause (endings.Refused number cause) =
+    (cause ≡ Size) ⊎ (cause ≡ Long) ⊎ (cause ≡ Text) ⊎ (cause ≡ Field 1)

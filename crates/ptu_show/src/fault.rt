@@ -1,5 +1,9 @@
+use ptu_lines::LineCause;
 use ptu_report::RunFault;
 use ptu_script::Cause;
 
 /// Why a program of the lab did not read its input to the end.
 pub type LabFault = RunFault<Cause>;
+
+/// Why `join` did not read its input to the end.
+pub type JoinFault = RunFault<LineCause>;

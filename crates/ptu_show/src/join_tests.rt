@@ -9,7 +9,7 @@ fn joined(
     input: &str,
     failing_read: u64,
     failing_write: u64,
-) -> Result<(Result<u64, LabFault>, String), Fail> {
+) -> Result<(Result<u64, JoinFault>, String), Fail> {
     let bytes = Vec::from_slice(alloc, input.as_bytes())?;
     let mut source = MemSource::new(bytes, vec![in alloc; failing_read]?);
     let mut sink = MemSink::new(alloc, vec![in alloc; failing_write]?);
@@ -206,18 +206,18 @@ fn corrections_are_summed(rt: HostRuntime) -> Result<(), Fail> {
 #[test]
 fn a_refused_line_or_a_fault_ends_the_output(rt: HostRuntime) -> Result<(), Fail> {
     let alloc = rt.alloc();
-    let refused = |number, cause| Err(LabFault::Line { number, cause });
+    let refused = |number, cause| Err(JoinFault::Line { number, cause });
     for (input, failing_read, failing_write, answer, output) in [
         (
             "-\n0c1",
             0,
             0,
-            refused(2, Cause::Field(1)),
+            refused(2, LineCause::Field(1)),
             "1 pass\n2 bad field 1\n",
         ),
-        ("#\t\n", 0, 0, refused(1, Cause::Text), "1 bad text\n"),
-        ("-\n", 2, 0, Err(LabFault::Read), "1 pass\n"),
-        ("-\n", 0, 2, Err(LabFault::Write), "1 pass\n"),
+        ("#\t\n", 0, 0, refused(1, LineCause::Text), "1 bad text\n"),
+        ("-\n", 2, 0, Err(JoinFault::Read), "1 pass\n"),
+        ("-\n", 0, 2, Err(JoinFault::Write), "1 pass\n"),
     ] {
         let (found, text) = joined(alloc, input, failing_read, failing_write)?;
         assert_eq!(rt; found, answer);

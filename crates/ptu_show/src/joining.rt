@@ -7,11 +7,11 @@ ghost use Rattle.ptu_report.specs.Reported.{HasReportedAllRead};
 ghost use Rattle.ptu_report.specs.Runs.{CountsRead, CountsWrite, IfWritten};
 ghost use Rattle.ptu_show.specs.Halves.{half_in, is_other};
 ghost use Rattle.ptu_show.specs.Joined.{half_text, halves_of, join_rules};
-ghost use Rattle.ptu_show.specs.Joined.{joined_lines, text_behind, HasJoined};
-ghost use Rattle.ptu_show.specs.Shown.{numbered, HasShowCause};
+ghost use Rattle.ptu_show.specs.Joined.{joined_lines, text_behind, HasJoined, HasJoinCause};
+ghost use Rattle.ptu_show.specs.Shown.{numbered};
 ghost use Rattle.ptu_show.specs.Waiting.{IsHalf, StandsFor};
 
-use crate::fault::LabFault;
+use crate::fault::JoinFault;
 use crate::half::Half;
 use crate::halving::read_half;
 use crate::join_lines::JoinLine;
@@ -99,7 +99,7 @@ fn add_datagram(
 impl Reporter for Joiner {
     type Meaning = DatagramsSoFar;
 
-    type Cause = Cause;
+    type Cause = LineCause;
 
     ghost rules = { join_rules };
 
@@ -111,7 +111,7 @@ impl Reporter for Joiner {
         number: u64,
         line: &[u8],
         texts: &mut Texts,
-    ) -> Result<Option<Cause>, OutOfMemory> {
+    ) -> Result<Option<LineCause>, OutOfMemory> {
         match read_datagram(line, &mut self.room) {
             Ok(None) => Ok(None),
             Ok(Some(size)) => {
@@ -119,7 +119,7 @@ impl Reporter for Joiner {
                 add_datagram(alloc, number, bytes, &mut self.waiting, texts)?;
                 Ok(None)
             }
-            Err(cause) => Ok(Some(Cause::from(cause))),
+            Err(cause) => Ok(Some(cause)),
         }
     }
 
@@ -128,19 +128,19 @@ impl Reporter for Joiner {
         _: Global,
         lines: u64,
         texts: &mut Texts,
-    ) -> Result<Option<Cause>, OutOfMemory> {
+    ) -> Result<Option<LineCause>, OutOfMemory> {
         let keys = self.waiting.count() as u64;
         texts.add(&JoinLine::End { lines, keys })?;
         Ok(None)
     }
 
-    fn refuse(number: u64, cause: &Cause, texts: &mut Texts) -> Result<(), OutOfMemory> {
-        let cause = *cause;
+    fn refuse(number: u64, cause: &LineCause, texts: &mut Texts) -> Result<(), OutOfMemory> {
+        let cause = Cause::from(*cause);
         texts.add(&JoinLine::Bad { number, cause })
     }
 
-    fn cause_of(cause: LineCause) -> Cause {
-        Cause::from(cause)
+    fn cause_of(cause: LineCause) -> LineCause {
+        cause
     }
 }
 
@@ -162,12 +162,12 @@ pub fn join<S: Source, K: Sink>(
     alloc: Global,
     source: &mut S,
     sink: &mut K,
-) -> Result<u64, LabFault>
+) -> Result<u64, JoinFault>
     // The whole output was written, and the answer says how it ends.
     ensures whole { (input : List ℕ) → S.left source.old ≡ Some input → IfWritten result
         (λ ending. HasJoined K.written K.handed sink.old sink.new input ending) }
     ensures causes { (input : List ℕ) → S.left source.old ≡ Some input
-        → IfWritten result HasShowCause }
+        → IfWritten result HasJoinCause }
     ensures end { OnOk result (IsAtEnd (S.left source.new)) }
     // What was written is a front of the output, whatever is answered.
     ensures front { (input : List ℕ) → S.left source.old ≡ Some input

@@ -15,7 +15,7 @@ mod reading;
 mod waiting;
 
 pub use decoding::show;
-pub use fault::LabFault;
+pub use fault::{JoinFault, LabFault};
 pub use joining::join;
 pub use laws::{joining_is_relation, sample_joins, sample_lines, two_steps_are_undone};
 pub use ptu_lines::LineCause;

@@ -86,11 +86,7 @@ fn new_masters(alloc: Global, masters: &[MasterSetting]) -> Result<Vec<Master>, 
 fn rule(master: &MasterSetting) -> Rule
     ensures { result ≡ rule_of master.now }
 {
-    if master.gap {
-        Rule::Gap(4)
-    } else {
-        Rule::Flag
-    }
+    if master.gap { Rule::Gap(4) } else { Rule::Flag }
 }
 
 // A judge for each master, of the rule that its settings say.
