@@ -174,7 +174,7 @@ fn trails_are_judged(rt: HostRuntime) -> Result<(), Fail> {
 #[test]
 fn lines_are_refused(rt: HostRuntime) -> Result<(), Fail> {
     let alloc = rt.alloc();
-    let line = |number, cause| Err(RunFault::Line { number, cause });
+    let line = |number, cause| Err(AuditFault::Line { number, cause });
     for (input, failing_read, failing_write, answer, output) in [
         ("", 0, 0, line(1, AuditCause::End), "1 bad end\n"),
         (
@@ -245,8 +245,8 @@ fn lines_are_refused(rt: HostRuntime) -> Result<(), Fail> {
             line(3, AuditCause::Order),
             "3 bad order\n",
         ),
-        ("end 0 0", 2, 0, Err(RunFault::Read), ""),
-        ("end 0 0", 0, 1, Err(RunFault::Write), ""),
+        ("end 0 0", 2, 0, Err(AuditFault::Read), ""),
+        ("end 0 0", 0, 1, Err(AuditFault::Write), ""),
     ] {
         let (found, text) = audited(alloc, 8, input, failing_read, failing_write)?;
         assert_eq!(rt; found, answer);
