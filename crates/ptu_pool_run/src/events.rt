@@ -63,10 +63,7 @@ pub fn receive(
     reserve_for(pools, from)?;
     match pools.take(at, from, octets)? {
         PoolTaken::Stranger => texts.add(&PoolLine::Stranger { line }),
-        PoolTaken::In(place, taken) => {
-            pools.give_back(place, taken);
-            tell_ports(pools, place, line, texts)
-        }
+        PoolTaken::In(place, _) => tell_ports(pools, place, line, texts),
     }
 }
 

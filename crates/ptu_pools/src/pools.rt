@@ -149,15 +149,6 @@ impl<P: Port> Pools<P> {
         Ok(PoolTaken::In(place, taken))
     }
 
-    /// Takes back what a datagram came to at the pool at this place, when it is done with. The room
-    /// of its outcomes serves that pool's next Signaling.
-    pub fn give_back(&mut self, pool: usize, taken: Taken)
-        requires { pool < length self.old.pools }
-        ensures { self.new ≡ self.old }
-    {
-        self.gms[pool].give_back(taken);
-    }
-
     /// A table of the pool at this place takes a turn, at the core's moment for `t`. No memory.
     pub fn turn(&mut self, pool: usize, table: usize, t: Moment) -> Turned
         requires pool { pool < length self.old.pools }
