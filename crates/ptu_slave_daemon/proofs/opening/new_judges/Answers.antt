@@ -8,10 +8,10 @@ unreachable-requires g c =
 
 pub loop-master-preserved : goal.loop-master-preserved
 loop-master-preserved g c =
-  let taken = rw c.rule.ensures at c.in-Some.ensures in record {
-  judges = fresh_next (λ j. (goal.Judge-dyn g (j.vtable, j.value)).Judge.held j.value) c.loop-master.judges.items c.push.new.self.items c.in-Some.judge c.args.masters.now c.loop-master.master-index _
-      c.loop-master-test.true c.loop-master.invariant.judges c.in_ok-push.ensures.items taken.is_fresh;
-  enough = enough_left (λ j. (goal.Judge-dyn g (j.vtable, j.value)).Judge.held j.value) c.args.masters.now c.loop-master.master-index _ c.loop-master.stock.flags.items c.loop-master.stock.gaps.items
-      c.take.new.self.flags.items c.take.new.self.gaps.items c.in-Some.judge c.loop-master-test.true c.loop-master.invariant.enough taken;
-  stock = taken.stock;
-}
+    let taken = rw c.rule.ensures at c.in-Some.ensures in record {
+      judges = fresh_next (λ j. (goal.Judge-dyn g (j.vtable, j.value)).Judge.held j.value) c.loop-master.judges.items c.push.new.self.items c.in-Some.judge c.args.masters.now c.loop-master.master-index _
+          c.loop-master-test.true c.loop-master.invariant.judges c.in_ok-push.ensures.items taken.is_fresh;
+      enough = enough_left (λ j. (goal.Judge-dyn g (j.vtable, j.value)).Judge.held j.value) c.args.masters.now c.loop-master.master-index _ c.loop-master.stock.flags.items c.loop-master.stock.gaps.items
+          c.take.new.self.flags.items c.take.new.self.gaps.items c.in-Some.judge c.loop-master-test.true c.loop-master.invariant.enough taken;
+      stock = taken.stock;
+    }
