@@ -4,7 +4,7 @@ use Rattle.std.specs.Prelude.{if◌then◌else◌, nat_eq, nat_le}
 use Rattle.std.specs.HashMap.{get}
 use Rattle.ptu_outside.specs.MemoryPort.{MemoryPort}
 use Rattle.ptu_record.specs.declared.rule.Rule.{Rule}
-use Rattle.ptu_judges.specs.Held.{HasTaken, Held, fresh}
+use Rattle.ptu_judges.specs.Held.{Held, fresh}
 use Rattle.ptu_profile.specs.Slave.{place_of}
 use Rattle.ptu_report.specs.Rules.{IsOutcome}
 use Rattle.ptu_script.specs.Fields.{◌>>=◌}
@@ -21,8 +21,7 @@ use Rattle.ptu_lab.specs.declared.slave_node.SlaveNode.{SlaveNode}
 use Rattle.ptu_lab.specs.declared.lab.Node.{Node}
 use Rattle.ptu_lab.specs.declared.lab.Node.TheVariants as nodes
 use Rattle.ptu_lab.specs.declared.lab.Lab.{Lab}
-use Rattle.ptu_lab.proofs.LabStock.{one_taken}
-use Rattle.ptu_lab.specs.Steps.{IsNoSlave, stock_of}
+use Rattle.ptu_lab.specs.Steps.{HasTaken, IsNoSlave, stock_of}
 use Rattle.ptu_lab.specs.NodeStanding.{IsNode, StandsAsNode}
 use Rattle.ptu_lab.specs.Standing.{Agrees, StandsFor}
 use Rattle.ptu_lab.proofs.LabNodes.{placed_agree}
@@ -144,7 +143,7 @@ module _ {J B : Type 0} {I : J → Type 0} (see : SlaveNode J I → Seen MemoryP
         let at = slave_found node found in
         let not_begun : c.world.has_begun ≡ false = sym stands.has_begun ∙ begun in
         let here : at.slave_is.ip ≡ slave = at.stands_as.address ∙ at.address in
-        rw (made_is false false (Ok (stock_of flags' gaps')) other full (one_taken rule flags gaps flags' gaps' judge taken)) (
+        rw (made_is false false (Ok (stock_of flags' gaps')) other full taken.left) (
           record {
             nodes = subst (λ a. (q : ℕ) → Agrees see q c.world.has_begun (get nat_eq lab'.nodes q) (node_at (placed a (world.IsSlave (with_master ip priority rule at.slave_is)) c.world.nodes) q)) (sym here)
                 (placed_agree see lab.nodes lab'.nodes c.world.nodes c.world.has_begun slave (nodes.Slave new) (world.IsSlave (with_master ip priority rule at.slave_is)) stands.nodes changed (

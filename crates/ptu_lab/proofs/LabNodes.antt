@@ -4,7 +4,7 @@ use Rattle.std.specs.Prelude.{nat_eq}
 use Rattle.std.specs.List.{count_by}
 use Rattle.std.specs.HashMap.{HashMap, get}
 use Rattle.ptu_outside.specs.MemoryPort.{MemoryPort}
-use Rattle.ptu_judges.specs.Held.{HasTaken, Held, IsStock}
+use Rattle.ptu_judges.specs.Held.{Held, IsStock}
 use Rattle.ptu_units.specs.Counts.{counted}
 use Rattle.ptu_report_lines.specs.declared.sent.Sent.{Sent}
 use Rattle.ptu_report_lines.specs.declared.statement.Statement.TheVariants as statements
@@ -35,8 +35,7 @@ use Rattle.ptu_lab.specs.declared.lab.Lab.{Lab}
 use Rattle.ptu_lab.specs.Acts.{act_deed, command_of, of_master, stock_after}
 use Rattle.ptu_lab.specs.NodeStanding.{IsNode, StandsAsNode}
 use Rattle.ptu_lab.specs.Standing.{Agrees, StandsAs, StandsFor}
-use Rattle.ptu_lab.proofs.LabStock.{one_taken}
-use Rattle.ptu_lab.specs.Steps.{HasActed, HasActedLeaving, stock_of}
+use Rattle.ptu_lab.specs.Steps.{HasActed, HasActedLeaving, HasTaken, stock_of}
 use Rattle.ptu_lab.proofs.LabCommands.{after_acted, at_found, command_is, deliver_is}
 
 -- what follows from a fact on what was answered
@@ -279,7 +278,7 @@ module _ {J B : Type 0} {I : J → Type 0} (see : SlaveNode J I → Seen MemoryP
       → HasActedLeaving (StandsAsNode new.ip (see new) true) old.ip noted noted' flags' gaps' (of_master master deed (world.IsSlave s)) (stock_without rule (stock_of flags gaps)) None
   judge_acts old new master place deed noted noted' rule flags gaps flags' gaps' judge found taken done begun s h =
       let here : place_of s.opened.masters master ≡ Some place = ap (λ masters. place_of masters master) h.masters ∙ found in
-      rw (here, (one_taken rule flags gaps flags' gaps' judge taken)) (done begun s h, refl, taken.stock)
+      rw (here, taken.left) (done begun s h, refl, taken.stock)
 
   -- ---- a datagram that was sent
 

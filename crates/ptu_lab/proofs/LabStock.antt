@@ -1,29 +1,47 @@
--- A judge that a script names is taken from the stock.
-use Rattle.std.proofs.Common.{◌≡◌, ◌+◌, ◌-◌, List, length, Ok, Err, false, eqb, ap₂, subst, arith, ne_eqb}
-use Rattle.std.specs.Prelude.{◌==◌, if◌then◌else◌, []}
-use Rattle.ptu_record.specs.declared.rule.Rule.{Rule}
+-- A judge is taken from the end of a list of the stock.
+use Rattle.std.proofs.Common.{◌≡◌, ◌∙◌, ℕ, ◌+◌, ◌-◌, ◌++◌, List, [], ◌∷◌, map, length, Option, Some, None, option_to_list, MatchOption, Ok, false, eqb, refl, sym, ap, subst, arith, length-append, ne_eqb}
+use Rattle.std.specs.List.{AllByRecursion}
+use Rattle.std.proofs.lemmas.List.{length-map}
 use Rattle.ptu_record.specs.declared.rule.Rule.TheVariants.{Flag, Gap}
-use Rattle.ptu_judges.specs.Held.{HasNone, HasTaken, Held}
-use Rattle.ptu_script.specs.declared.cause.Cause.TheVariants as causes
-use Rattle.ptu_script.specs.Limits.{IsNamed}
-use Rattle.ptu_world.specs.World.{stock_without}
-use Rattle.ptu_lab.specs.Steps.{stock_of}
+use Rattle.ptu_judges.specs.Held.{Held, IsStock, fresh}
+use Rattle.ptu_lab.specs.Steps.{HasNone, HasTaken}
 
-pub none_left : (rule : Rule) (flags gaps : List Held) → IsNamed rule → HasNone rule flags gaps → stock_without rule (stock_of flags gaps) ≡ Err causes.Stock
-none_left Flag flags gaps named none = rw none refl
-none_left (Gap n) flags gaps named none =
-    let gone : length gaps ≡ 0 = subst (λ k. length (if k == 4 then gaps else []) ≡ 0) named none in
-    rw gone refl
+module _ {A : Type 0} (f : A → Held) where
+  all_but_last : (P : Held → Type 0) (xs : List A) (x : A) → AllByRecursion P (map f (xs ++ x ∷ [])) → AllByRecursion P (map f xs) × P (f x)
+  all_but_last P [] x h = (tt, h.0)
+  all_but_last P (y ∷ ys) x h = let rest = all_but_last P ys x h.1 in ((h.0, rest.0), rest.1)
 
-pub one_taken : (rule : Rule) (flags gaps flags' gaps' : List Held) (judge : Held) → HasTaken rule flags gaps flags' gaps' judge
-    → stock_without rule (stock_of flags gaps) ≡ Ok (stock_of flags' gaps')
-one_taken Flag flags gaps flags' gaps' judge taken =
-    let some : eqb (length flags) 0 ≡ false = ne_eqb _ 0 (λ none. omega (arith, taken.flags_left, none)) in
-    let less : length flags - 1 ≡ length flags' = omega (arith, taken.flags_left) in
-    let same : length gaps ≡ length gaps' = omega (arith, taken.gaps_left) in
-    rw some (ap₂ (λ k l. Ok (record { flags = k; gaps = l })) less same)
-one_taken (Gap n) flags gaps flags' gaps' judge taken =
-    let some : eqb (length gaps) 0 ≡ false = ne_eqb _ 0 (λ none. omega (arith, taken.gaps_left, none)) in
-    let less : length gaps - 1 ≡ length gaps' = omega (arith, taken.gaps_left) in
-    let same : length flags ≡ length flags' = omega (arith, taken.flags_left) in
-    rw some (ap₂ (λ k l. Ok (record { flags = k; gaps = l })) same less)
+  one_less : (xs : List A) (x : A) → length (map f (xs ++ x ∷ [])) ≡ length (map f xs) + 1
+  one_less xs x = length-map (xs ++ x ∷ []) f ∙ (length-append xs (x ∷ []) ∙ ap (λ n. n + 1) (sym (length-map xs f)))
+
+  not_empty : (xs : List A) (x : A) → eqb (length (map f (xs ++ x ∷ []))) 0 ≡ false
+  not_empty xs x = ne_eqb _ 0 (λ none. omega (arith, one_less xs x))
+
+  empty : (old : List A) (n : ℕ) → n ≡ length old → n ≡ 0 → length (map f old) ≡ 0
+  empty old n many none = length-map old f ∙ (sym many ∙ none)
+
+  pub took_flag : (old new other : List A) (found : Option A) (n m : ℕ) → old ≡ new ++ option_to_list found → n ≡ length old
+      → MatchOption found ((n ≡ 0) × (m ≡ 0)) (λ _. m + 1 ≡ n) → IsStock (map f old) (map f other)
+      → MatchOption found (HasNone Flag (map f old) (map f other)) (λ judge. HasTaken Flag (map f old) (map f other) (map f new) (map f other) (f judge))
+  took_flag old new other None n m is many count stock = rw (empty old n many count.0) refl
+  took_flag old new other (Some judge) n m is many count stock =
+      let parts = all_but_last (λ held. held ≡ fresh Flag) new judge (subst (λ l. AllByRecursion (λ held. held ≡ fresh Flag) (map f l)) is stock.flags_fresh) in
+      let less : length (map f (new ++ judge ∷ [])) - 1 ≡ length (map f new) = omega (arith, one_less new judge) in
+      rw is (record {
+        is_fresh = parts.1;
+        left = rw (not_empty new judge) (ap (λ k. Ok (record { flags = k; gaps = length (map f other) })) less);
+        stock = record { flags_fresh = parts.0; gaps_fresh = stock.gaps_fresh };
+      })
+
+  pub took_gap : (old new other : List A) (found : Option A) (n m : ℕ) → old ≡ new ++ option_to_list found → n ≡ length old
+      → MatchOption found ((n ≡ 0) × (m ≡ 0)) (λ _. m + 1 ≡ n) → IsStock (map f other) (map f old)
+      → MatchOption found (HasNone (Gap 4) (map f other) (map f old)) (λ judge. HasTaken (Gap 4) (map f other) (map f old) (map f other) (map f new) (f judge))
+  took_gap old new other None n m is many count stock = rw (empty old n many count.0) refl
+  took_gap old new other (Some judge) n m is many count stock =
+      let parts = all_but_last (λ held. held ≡ fresh (Gap 4)) new judge (subst (λ l. AllByRecursion (λ held. held ≡ fresh (Gap 4)) (map f l)) is stock.gaps_fresh) in
+      let less : length (map f (new ++ judge ∷ [])) - 1 ≡ length (map f new) = omega (arith, one_less new judge) in
+      rw is (record {
+        is_fresh = parts.1;
+        left = rw (not_empty new judge) (ap (λ k. Ok (record { flags = length (map f other); gaps = k })) less);
+        stock = record { flags_fresh = stock.flags_fresh; gaps_fresh = parts.0 };
+      })

@@ -1,7 +1,7 @@
 -- What the lab has done at a command.
 use Rattle.std.specs.Prelude.{◌≡◌, ℕ, List, [], length, Option, Some, None, Result, Ok, Err}
 use Rattle.ptu_record.specs.declared.rule.Rule.{Rule}
-use Rattle.ptu_judges.specs.Held.{Held, IsStock}
+use Rattle.ptu_judges.specs.Held.{Held, IsStock, fresh}
 use Rattle.ptu_report.specs.Rules.{IsOutcome}
 use Rattle.ptu_script.specs.declared.cause.Cause.{Cause}
 use Rattle.ptu_script.specs.declared.cause.Cause.TheVariants as causes
@@ -31,6 +31,17 @@ HasSetUp before after ip node refused = (line : ℕ) (c : Course) → before c
 -- how many judges are left, of which this is held
 abbrev pub stock_of : List Held → List Held → Stock
 stock_of flags gaps = record { flags = length flags; gaps = length gaps }
+
+-- a fresh judge of the rule was taken, and these are left
+pub record HasTaken (rule : Rule) (flags gaps flags' gaps' : List Held)
+    (judge : Held) : Type 0 where
+  pub is_fresh : judge ≡ fresh rule
+  pub left : stock_without rule (stock_of flags gaps) ≡ Ok (stock_of flags' gaps')
+  pub stock : IsStock flags' gaps'
+
+-- no judge of the rule was left
+abbrev pub HasNone : Rule → List Held → List Held → Type 0
+HasNone rule flags gaps = stock_without rule (stock_of flags gaps) ≡ Err causes.Stock
 
 -- ---- what one node does
 

@@ -12,7 +12,8 @@ ghost use Rattle.ptu_lab.specs.Standing.{StandsAs, StandsFor};
 
 use crate::act::Act;
 use crate::lab::{Lab, Node};
-use ptu_judges::{Judge, Stock};
+use crate::stock::Reserve;
+use ptu_judges::Judge;
 use ptu_lines::LentOctets;
 use ptu_nodes::{GrandmasterNode, Journal};
 use ptu_report_lines::Statement;
@@ -67,7 +68,7 @@ impl Node {
         &mut self,
         at: Moment,
         act: Act<'_>,
-        stock: &mut Stock,
+        stock: &mut Reserve,
         journal: &mut Journal,
     ) -> Result<Option<Cause>, OutOfMemory>
         requires means { (ip : ℕ) × (begun : Bool) × (w : world.Node)

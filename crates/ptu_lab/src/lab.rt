@@ -11,6 +11,7 @@ ghost use Rattle.ptu_lab.specs.Steps.{HasStepped};
 
 use crate::order::{Order, order_of};
 use crate::slave_node::SlaveNode;
+use crate::stock::Reserve;
 use ptu_judges::{Judge, Stock};
 use ptu_nodes::{GrandmasterNode, Journal};
 use ptu_report::Texts;
@@ -34,7 +35,7 @@ pub struct Lab {
     /// What they sent, and what is said of a line.
     pub journal: Journal,
     /// The judges that are left.
-    pub stock: Stock,
+    pub stock: Reserve,
     /// Whether there was an event.
     pub has_begun: bool,
 }
@@ -52,7 +53,10 @@ impl Lab {
         Lab {
             nodes: HashMap::new(alloc),
             journal: Journal::new(alloc),
-            stock,
+            stock: Reserve {
+                flags: stock.flags,
+                gaps: stock.gaps,
+            },
             has_begun: false,
         }
     }

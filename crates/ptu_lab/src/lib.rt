@@ -12,6 +12,7 @@ mod replaying;
 mod setting_up;
 mod slave_node;
 mod slave_statements;
+mod stock;
 
 pub use done::Done;
 pub use loading::{load, sample_summaries};

@@ -13,6 +13,7 @@ ghost use Rattle.ptu_lab.specs.Standing.{StandsAs, StandsFor};
 
 use crate::lab::{Lab, Node};
 use crate::slave_node::SlaveNode;
+use crate::stock::take_judge;
 use ptu_judges::{Judge, Rule};
 use ptu_nodes::GrandmasterNode;
 use ptu_script::{Cause, GrandmasterSetup, SlaveSetup};
@@ -139,7 +140,7 @@ impl Lab {
         if node.masters() >= 16 {
             return Ok(Some(Cause::Full));
         }
-        let judge = match self.stock.take(rule) {
+        let judge = match take_judge(&mut self.stock, rule) {
             None => return Ok(Some(Cause::Stock)),
             Some(judge) => judge,
         };

@@ -26,8 +26,9 @@ ghost use Rattle.ptu_lab.specs.Steps.{HasActed, HasActedLeaving, stock_of};
 
 use crate::act::Act;
 use crate::slave_statements::{say_heard, was_ignored};
+use crate::stock::{Reserve, take_judge};
 use ptu_header::PortIdentity;
-use ptu_judges::{Judge, Rule, Stock};
+use ptu_judges::{Judge, Rule};
 use ptu_nodes::{Journal, SIGNALING};
 use ptu_outside::MemPort;
 use ptu_report_lines::Statement;
@@ -126,7 +127,7 @@ impl SlaveNode {
         &mut self,
         at: Moment,
         act: Act<'_>,
-        stock: &mut Stock,
+        stock: &mut Reserve,
         journal: &mut Journal,
     ) -> Result<Option<Cause>, OutOfMemory>
         requires stock { IsStock (map (λ j. held j) stock.old.flags.items)
@@ -256,7 +257,7 @@ impl SlaveNode {
         at: Moment,
         master: u32,
         rule: Rule,
-        stock: &mut Stock,
+        stock: &mut Reserve,
         journal: &mut Journal,
     ) -> Result<Option<Cause>, OutOfMemory>
         requires stock { IsStock (map (λ j. held j) stock.old.flags.items)
@@ -275,7 +276,7 @@ impl SlaveNode {
         let Some(place) = self.place(master) else {
             return Ok(Some(Cause::Node));
         };
-        let Some(judge) = stock.take(rule) else {
+        let Some(judge) = take_judge(stock, rule) else {
             return Ok(Some(Cause::Stock));
         };
         self.set_judge(at, place, judge, journal)?;

@@ -4,7 +4,7 @@ ghost use Rattle.ptu_lab.specs.Acts.{IsActWithin};
 
 use crate::act::Act;
 use crate::slave_node::SlaveNode;
-use ptu_judges::Stock;
+use crate::stock::Reserve;
 use ptu_lines::LentOctets;
 use ptu_nodes::Journal;
 use ptu_record::Wants;
@@ -59,7 +59,7 @@ fn act(
 ) -> Result<Option<Cause>, Fail>
     requires { IsActWithin act }
 {
-    let mut stock = Stock {
+    let mut stock = Reserve {
         flags: Vec::new(alloc),
         gaps: Vec::new(alloc),
     };

@@ -3,7 +3,6 @@ use Rattle.std.specs.Prelude.{nat_eq}
 use Rattle.std.proofs.lemmas.Bool.{lt-leb}
 use Rattle.ptu_slave.specs.Seen.{seen}
 use Rattle.ptu_lab.proofs.LabMasters.{added, has_it, is_full, means, no_judge, no_slave, put_back, too_late}
-use Rattle.ptu_lab.proofs.LabStock.{none_left}
 use Rattle.ptu_lab.proofs.lab.Lab.add_master.Goals as goal
 
 few : (n : ℕ) → n < 16 → leb 16 n ≡ false
@@ -24,10 +23,10 @@ returns-then-masters-ge16-clause-made g c = λ line course stands.
     is_full (λ n. seen (λ i. (g.dyn-1.0.entry i).1.Judge) n.slave) _ _ _ course c.args.slave c.args.ip c.args.priority c.args.rule stands c.in-Some.node c.if-self.false c.in-Some.ensures.found line _ _ (sym (ap is_some c.place.ensures) ∙ (sym c.is_some.ensures ∙ c.if-is_some.false))
     (ap (leb 16) (sym c.masters.ensures) ∙ le-leb 16 c.masters.result c.if-masters-ge16.true)
 
-pub returns-in-None-take-clause-made : goal.returns-in-None-take-clause-made
-returns-in-None-take-clause-made g c = λ line course stands.
+pub returns-in-None-take_judge-clause-made : goal.returns-in-None-take_judge-clause-made
+returns-in-None-take_judge-clause-made g c = λ line course stands.
     no_judge (λ n. seen (λ i. (g.dyn-1.0.entry i).1.Judge) n.slave) _ _ _ course c.args.slave c.args.ip c.args.priority c.args.rule stands c.in-Some.node c.if-self.false c.in-Some.ensures.found line _ _ (sym (ap is_some c.place.ensures) ∙ (sym c.is_some.ensures ∙ c.if-is_some.false))
-    (ap (leb 16) (sym c.masters.ensures) ∙ few c.masters.result c.if-masters-ge16.false) (none_left c.args.rule _ _ c.requires.named c.in-None-take.ensures)
+    (ap (leb 16) (sym c.masters.ensures) ∙ few c.masters.result c.if-masters-ge16.false) c.in-None-take_judge.ensures
 
 pub with_master-requires-clause-means : goal.with_master-requires-clause-means
 with_master-requires-clause-means g c =
@@ -37,5 +36,5 @@ pub returns-clause-made : goal.returns-clause-made
 returns-clause-made g c = λ line course stands.
     added (λ n. seen (λ i. (g.dyn-1.0.entry i).1.Judge) n.slave) _ _ _ course c.args.slave c.args.ip c.args.priority c.args.rule stands c.in-Some.node c.if-self.false c.in-Some.ensures.found _ _ _ line c.in_ok-node.node _ (sym (ap is_some c.place.ensures) ∙ (sym c.is_some.ensures ∙ c.if-is_some.false))
     (ap (leb 16) (sym c.masters.ensures) ∙ few c.masters.result c.if-masters-ge16.false)
-    c.in-Some-take.ensures c.in_ok-node.ensures.ip (λ s r is fresh. c.in_ok-node.ensures.stands s r is fresh)
+    c.in-Some-take_judge.ensures c.in_ok-node.ensures.ip (λ s r is fresh. c.in_ok-node.ensures.stands s r is fresh)
     (λ q. put_back (nat_eq c.args.slave q) _ _ _ _ _ (c.in_ok-insert.ensures.updates.0 q) (c.take_slave.ensures.others q)) refl refl
