@@ -12,7 +12,8 @@ use Rattle.ptu_script.specs.Command.{command_of, fields_in, grandmaster_in, is_c
 use Rattle.ptu_script.specs.Fields.{◌>>=◌, from_to}
 use Rattle.ptu_script.specs.Verb.{counts_of, verb_named}
 use Rattle.ptu_load.proofs.Going.{address}
-use Rattle.ptu_load.proofs.Words.{address_read, client_words, decimal_glyphs, decimal_within, grandmaster_words, octets_glyphs, octets_read, turn_words}
+use Rattle.ptu_texts.proofs.Read.{decimal_glyphs, decimal_within, octets_glyphs, octets_read}
+use Rattle.ptu_load.proofs.Words.{address_read, client_words, grandmaster_words, turn_words}
 
 -- a line with these words begins with a verb, and has as many words as the verb asks for
 of_verb : (line : List ℕ) (words : List (List ℕ)) (verb : Verb) → is_comment line ≡ false → words_of line ≡ words → verb_named (unwrap_or (slice_get words 0) []) ≡ Some verb

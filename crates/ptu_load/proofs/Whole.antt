@@ -19,7 +19,8 @@ use Rattle.ptu_load.proofs.Commands.{client_address, client_line, client_says, g
 use Rattle.ptu_load.proofs.Going.{IsGoing, address, goes_whole, receive_taken, setup_taken, turn_taken}
 use Rattle.ptu_load.proofs.Lines.{IsShortText, ended, lines_whole}
 use Rattle.ptu_load.proofs.Requests.{length-request, request_bytes}
-use Rattle.ptu_load.proofs.Words.{decimal_glyphs, octets_glyphs, plain_alone, plain_behind}
+use Rattle.ptu_texts.proofs.Read.{decimal_glyphs, octets_glyphs}
+use Rattle.ptu_load.proofs.Words.{plain_alone, plain_behind}
 
 -- a short plain text with a 0A, which is taken wherever the grandmaster stands
 record IsLine (line : List ℕ) : Type 0 where

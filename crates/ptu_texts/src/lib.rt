@@ -8,7 +8,7 @@ mod names;
 mod octets;
 
 pub use faults::FaultText;
-pub use laws::sample_texts;
+pub use laws::{sample_texts, words_are_read_again};
 pub use names::{AddressText, ClockText, IdentityText, KindText, LogText};
 pub use octets::OctetsText;
 
