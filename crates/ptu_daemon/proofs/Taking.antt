@@ -19,14 +19,15 @@ use Rattle.ptu_gm_messages.specs.Items.{heard_in}
 use Rattle.ptu_gm_messages.specs.Replies.{reply_to}
 use Rattle.ptu_grandmaster.specs.declared.driving.GmEvent.TheVariants.{Take}
 use Rattle.ptu_grandmaster.specs.declared.outcome.Outcome.{Outcome}
-use Rattle.ptu_grandmaster.specs.declared.outcome.Reply.{Reply}
-use Rattle.ptu_grandmaster.specs.declared.outcome.Reply.TheVariants as replies
+use Rattle.ptu_outside.specs.declared.reply.Reply.{Reply}
+use Rattle.ptu_outside.specs.declared.reply.Reply.TheVariants as replies
 use Rattle.ptu_grandmaster.specs.declared.outcome.Taken.{Taken}
 use Rattle.ptu_grandmaster.specs.declared.outcome.Taken.TheVariants.{Ignored, Delay, Asked}
 use Rattle.ptu_grandmaster.specs.Gm.{KeptGm, StandsFor, table_at, with_table}
 use Rattle.ptu_grandmaster.specs.Outcomes.{answers_seen, decisions_seen}
 use Rattle.ptu_grandmaster.specs.Taking.{ComesTo, IsAnswerTo, OnAsked, OnDelay, OnIgnored, Replies, Responds}
-use Rattle.ptu_daemon.specs.Counting.{failed_for, reply_failed, reply_sent, sent_for}
+use Rattle.ptu_outside.specs.Replies.{reply_failed, reply_sent}
+use Rattle.ptu_daemon.specs.Counting.{failed_for, sent_for}
 use Rattle.ptu_daemon.specs.Ran.{AllHandled, Does, Handled, five, standing_as}
 use Rattle.ptu_daemon.specs.Sends.{by, heard_sends}
 use Rattle.ptu_daemon.proofs.Changing.{reply_handled}

@@ -1,20 +1,9 @@
 -- How many datagrams answered a datagram that was taken.
 use Rattle.std.specs.Prelude.{ℕ}
 use Rattle.ptu_shard.specs.Answered as delays
-use Rattle.ptu_grandmaster.specs.declared.outcome.Reply.{Reply}
-use Rattle.ptu_grandmaster.specs.declared.outcome.Reply.TheVariants.{Sent, Failed, Nothing}
+use Rattle.ptu_outside.specs.Replies.{reply_failed, reply_sent}
 use Rattle.ptu_grandmaster.specs.declared.outcome.Taken.{Taken}
 use Rattle.ptu_grandmaster.specs.declared.outcome.Taken.TheVariants.{Ignored, Delay, Asked}
-
-abbrev pub reply_sent : Reply → ℕ
-reply_sent Sent = 1
-reply_sent Failed = 0
-reply_sent Nothing = 0
-
-abbrev pub reply_failed : Reply → ℕ
-reply_failed Sent = 0
-reply_failed Failed = 1
-reply_failed Nothing = 0
 
 -- so many were sent
 abbrev pub sent_for : Taken → ℕ

@@ -19,8 +19,8 @@ use Rattle.ptu_gm_messages.specs.declared.heard.Heard.TheVariants as heard
 use Rattle.ptu_gm_messages.specs.declared.reason.GmReason.{GmReason}
 use Rattle.ptu_gm_messages.specs.Deciding.{client_of, decisions_of}
 use Rattle.ptu_grandmaster.specs.declared.outcome.Outcome.{Outcome}
-use Rattle.ptu_grandmaster.specs.declared.outcome.Reply.{Reply}
-use Rattle.ptu_grandmaster.specs.declared.outcome.Reply.TheVariants.{Sent, Failed, Nothing}
+use Rattle.ptu_outside.specs.declared.reply.Reply.{Reply}
+use Rattle.ptu_outside.specs.declared.reply.Reply.TheVariants.{Sent, Failed, Nothing}
 use Rattle.ptu_grandmaster.specs.declared.outcome.Taken.{Taken}
 use Rattle.ptu_grandmaster.specs.declared.outcome.Taken.TheVariants.{Ignored, Delay, Asked}
 use Rattle.ptu_grandmaster.specs.Outcomes.{answers_seen, decisions_seen, item_seen}

@@ -14,8 +14,9 @@ mod turning;
 
 pub use driving::{Driven, GmEvent, drive};
 pub use gm::Gm;
-pub use outcome::{Outcome, Outcomes, Reply, Taken};
+pub use outcome::{Outcome, Outcomes, Taken};
 pub use ptu_gm_messages::{GmReason, Item, Items, asks_of, cancel_of};
+pub use ptu_outside::Reply;
 pub use replying::reply_of;
 pub use resizing::{Changed, send_cancels};
 

@@ -1,5 +1,6 @@
 use ptu_admit::{Cancelled, Verdict};
 use ptu_gm_messages::GmReason;
+use ptu_outside::Reply;
 use ptu_shard::Answered;
 use ptu_tlvs::Ask;
 use ptu_units::Listed;
@@ -15,17 +16,6 @@ pub enum Outcome {
 
 /// The outcomes of a Signaling's items, in their order. A clause sees it as their list.
 pub type Outcomes = Listed<Outcome>;
-
-/// What became of a reply.
-#[derive(Clone, Copy, Debug, PartialEq, Eq)]
-pub enum Reply {
-    /// It was sent.
-    Sent,
-    /// Its send failed. The decisions stand.
-    Failed,
-    /// There was nothing to answer.
-    Nothing,
-}
 
 /// What a grandmaster did with a datagram.
 #[derive(Debug, Drop)]

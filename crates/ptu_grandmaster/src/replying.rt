@@ -8,12 +8,12 @@ ghost use Rattle.ptu_gm_messages.specs.Replies.{reply_to, signaling_of};
 ghost use Rattle.ptu_grandmaster.specs.Outcomes.{answers_seen, decision_seen, item_seen};
 ghost use Rattle.ptu_grandmaster.specs.Taking.{Replies};
 
-use crate::outcome::{Outcome, Outcomes, Reply};
+use crate::outcome::{Outcome, Outcomes};
 use ptu_admit::Verdict;
 use ptu_gm_messages::write_reply;
 use ptu_header::{Header, PortIdentity};
 use ptu_messages::ToTlv;
-use ptu_outside::{Channel, Port, hand};
+use ptu_outside::{Channel, Port, Reply, hand};
 use ptu_profile::GmConfig;
 use ptu_tlvs::{Ask, Tlv};
 use ptu_units::sizes::LONGEST_SIGNALING;

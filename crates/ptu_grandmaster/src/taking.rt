@@ -14,12 +14,12 @@ ghost use Rattle.ptu_grandmaster.specs.Outcomes.{answers_seen, decisions_seen, i
 ghost use Rattle.ptu_grandmaster.specs.Taking.{ComesTo, IsAnswerTo, OnAsked, OnDelay, OnIgnored, Replies, Responds};
 
 use crate::gm::Gm;
-use crate::outcome::{Outcomes, Reply, Taken};
+use crate::outcome::{Outcomes, Taken};
 use crate::replying::send_reply;
 use ptu_gm_messages::{Heard, Item, hear_in};
 use ptu_header::Header;
 use ptu_history::Client;
-use ptu_outside::Port;
+use ptu_outside::{Port, Reply};
 use ptu_units::{Moment, OutOfMemory};
 use std::mem::replace;
 

@@ -17,10 +17,11 @@ use Rattle.ptu_profile.specs.declared.slave.Master.{Master}
 use Rattle.ptu_profile.specs.declared.slave.SlaveConfig.{SlaveConfig}
 use Rattle.ptu_slave_messages.specs.declared.heard.Heard.{Heard}
 use Rattle.ptu_slave_messages.specs.declared.heard.Heard.TheVariants as heard
-use Rattle.ptu_slave_messages.specs.declared.heard.HeardReply.{HeardReply}
-use Rattle.ptu_slave_messages.specs.declared.heard.HeardReply.TheVariants.{Sent, Failed, Nothing}
+use Rattle.ptu_outside.specs.declared.reply.Reply.{Reply}
+use Rattle.ptu_outside.specs.declared.reply.Reply.TheVariants.{Sent, Failed, Nothing}
 use Rattle.ptu_slave_messages.specs.declared.reason.SlaveReason.{SlaveReason}
-use Rattle.ptu_slave_messages.specs.Heard.{answer_of, event_of, failed_by, heard_of, replies_in, replies_to, reply_by, reply_in, sent_by}
+use Rattle.ptu_outside.specs.Replies.{reply_failed, reply_sent}
+use Rattle.ptu_slave_messages.specs.Heard.{answer_of, event_of, heard_of, replies_in, replies_to, reply_by, reply_in}
 use Rattle.ptu_slave_messages.specs.Node.{Deed, Node, datagram_deed, datagram_heard, reception_deed, reception_heard}
 use Rattle.ptu_slave_messages.specs.Reception.{reception}
 use Rattle.ptu_slave_messages.specs.Sending.{departure_of}
@@ -56,7 +57,7 @@ where_answered P R (Err e) f p = tt
 -- ---- the reply
 
 -- that of one that does not fail is sent where there is one
-one_of : {A : Type 0} (r : HeardReply) (xs : List A) → failed_by r ≡ 0 → sent_by r + failed_by r ≡ length xs → length xs < 2 → r ≡ reply_by xs
+one_of : {A : Type 0} (r : Reply) (xs : List A) → reply_failed r ≡ 0 → reply_sent r + reply_failed r ≡ length xs → length xs < 2 → r ≡ reply_by xs
 one_of Sent [] sent each few = absurd (omega arith)
 one_of Sent (x ∷ xs) sent each few = refl
 one_of Failed xs sent each few = absurd (omega (arith, sent))
@@ -72,7 +73,7 @@ few_replies m number [] = omega arith
 few_replies m number (code ∷ codes) = omega arith
 
 heard_body : (node : Node) (x m : ℕ) (header : Header) (b : Body) (h : Heard) → h ≡ heard_of node.config.wants x (reply_in h) (m, record { header = header; body = b })
-    → failed_by (reply_in h) ≡ 0 → sent_by (reply_in h) + failed_by (reply_in h) ≡ length (replies_to m (record { header = header; body = b }))
+    → reply_failed (reply_in h) ≡ 0 → reply_sent (reply_in h) + reply_failed (reply_in h) ≡ length (replies_to m (record { header = header; body = b }))
     → h ≡ heard_of node.config.wants x (reply_by (replies_to m (record { header = header; body = b }))) (m, record { header = header; body = b })
 heard_body node x m header (body.Announce announce) h is sent each = is
 heard_body node x m header (body.Sync stamp) h is sent each = is
@@ -84,7 +85,7 @@ heard_body node x m header (body.DelayReq stamp) h is sent each = is
 heard_body node x m header body.Ignored h is sent each = is
 
 heard_is : (node : Node) (L : Record) (t x : ℕ) (r : Result (ℕ × Message) SlaveReason) (h : Heard) → x ≡ event_moment L t → h ≡ answer_of node.config.wants x (reply_in h) r
-    → failed_by (reply_in h) ≡ 0 → sent_by (reply_in h) + failed_by (reply_in h) ≡ length (replies_in node.config node.masters r) → h ≡ reception_heard node L t r
+    → reply_failed (reply_in h) ≡ 0 → reply_sent (reply_in h) + reply_failed (reply_in h) ≡ length (replies_in node.config node.masters r) → h ≡ reception_heard node L t r
 heard_is node L t x (Err reason) h at is sent each = is
 heard_is node L t x (Ok (m, message)) h at is sent each =
     heard_body node x m message.header message.body h is sent (each ∙ length-same (departure_of node.config node.masters message.header.source) (replies_to m message))
@@ -92,8 +93,8 @@ heard_is node L t x (Ok (m, message)) h at is sent each =
 
 pub heard_datagram : (ip : ℕ) (old : Kept) (judges : List Held) (port : MemoryPort) (begun : Bool) (s : Slave) (t from : ℕ) (octets : List ℕ) (h : Heard)
     → IsSlaveNode ip old judges port begun s → h ≡ answer_of old.config.wants (max t old.moment) (reply_in h) (reception old.config old.masters from octets)
-    → failed_by (reply_in h) ≡ 0
-    → sent_by (reply_in h) + failed_by (reply_in h) ≡ length (replies_in old.config old.masters (reception old.config old.masters from octets))
+    → reply_failed (reply_in h) ≡ 0
+    → reply_sent (reply_in h) + reply_failed (reply_in h) ≡ length (replies_in old.config old.masters (reception old.config old.masters from octets))
     → h ≡ datagram_heard s.opened s.taken t from octets
 heard_datagram ip old judges port begun s t from octets h node is sent each =
     subst (λ (n : Node). h ≡ datagram_heard n s.taken t from octets) same
@@ -105,7 +106,7 @@ heard_datagram ip old judges port begun s t from octets h node is sent each =
 
 -- ---- the master
 
-of_body : (wants : Wants) (x m n : ℕ) (header : Header) (b : Body) (reply : HeardReply) → m < n → IsOfOne n (heard_of wants x reply (m, record { header = header; body = b }))
+of_body : (wants : Wants) (x m n : ℕ) (header : Header) (b : Body) (reply : Reply) → m < n → IsOfOne n (heard_of wants x reply (m, record { header = header; body = b }))
 of_body wants x m n header (body.Announce announce) reply lt = lt
 of_body wants x m n header (body.Sync stamp) reply lt = lt
 of_body wants x m n header (body.FollowUp stamp) reply lt = lt
@@ -114,7 +115,7 @@ of_body wants x m n header (body.Signaling target tlvs) reply lt = lt
 of_body wants x m n header (body.DelayReq stamp) reply lt = lt
 of_body wants x m n header body.Ignored reply lt = lt
 
-pub answer_within : (config : SlaveConfig) (masters : List Master) (x ip : ℕ) (octets : List ℕ) (reply : HeardReply) (h : Heard) → h ≡ answer_of config.wants x reply (reception config masters ip octets)
+pub answer_within : (config : SlaveConfig) (masters : List Master) (x ip : ℕ) (octets : List ℕ) (reply : Reply) (h : Heard) → h ≡ answer_of config.wants x reply (reception config masters ip octets)
     → IsOfOne (length masters) h
 answer_within config masters x ip octets reply h is = by_reception (reception config masters ip octets) refl is
   where
@@ -183,7 +184,7 @@ nothing_done : (node : Node) (L : Record) (t : ℕ) (r : Result (ℕ × Message)
 nothing_done node L t (Err reason) is = refl
 nothing_done node L t (Ok (m, message)) is = absurd (false≢true (by_body message.header message.body (reply_by (replies_to m message)) ∙ is))
   where
-    by_body : (header : Header) (b : Body) (reply : HeardReply) → false ≡ is_ignored (heard_of node.config.wants (event_moment L t) reply (m, record { header = header; body = b }))
+    by_body : (header : Header) (b : Body) (reply : Reply) → false ≡ is_ignored (heard_of node.config.wants (event_moment L t) reply (m, record { header = header; body = b }))
     by_body header (body.Announce announce) reply = refl
     by_body header (body.Sync stamp) reply = refl
     by_body header (body.FollowUp stamp) reply = refl

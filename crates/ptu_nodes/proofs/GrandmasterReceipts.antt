@@ -24,8 +24,8 @@ use Rattle.ptu_gm_messages.specs.declared.reason.GmReason.{GmReason}
 use Rattle.ptu_gm_messages.specs.Deciding.{answer_to, client_of, decisions_of, events_heard, events_of_datagram, opened_with}
 use Rattle.ptu_gm_messages.specs.Items.{heard_in}
 use Rattle.ptu_gm_messages.specs.Replies.{reply_to}
-use Rattle.ptu_grandmaster.specs.declared.outcome.Reply.{Reply}
-use Rattle.ptu_grandmaster.specs.declared.outcome.Reply.TheVariants as sending
+use Rattle.ptu_outside.specs.declared.reply.Reply.{Reply}
+use Rattle.ptu_outside.specs.declared.reply.Reply.TheVariants as sending
 use Rattle.ptu_grandmaster.specs.declared.outcome.Taken.{Taken}
 use Rattle.ptu_grandmaster.specs.declared.outcome.Taken.TheVariants.{Ignored, Delay, Asked}
 use Rattle.ptu_grandmaster.specs.Gm.{KeptGm, StandsFor, table_at, with_table}

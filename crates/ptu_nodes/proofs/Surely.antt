@@ -33,8 +33,8 @@ use Rattle.ptu_gm_messages.specs.declared.reason.GmReason.{GmReason}
 use Rattle.ptu_gm_messages.specs.Deciding.{answer_to, client_of}
 use Rattle.ptu_gm_messages.specs.Replies.{cancels_to, reply_to}
 use Rattle.ptu_grandmaster.specs.declared.outcome.Outcome.{Outcome}
-use Rattle.ptu_grandmaster.specs.declared.outcome.Reply.{Reply}
-use Rattle.ptu_grandmaster.specs.declared.outcome.Reply.TheVariants as sending
+use Rattle.ptu_outside.specs.declared.reply.Reply.{Reply}
+use Rattle.ptu_outside.specs.declared.reply.Reply.TheVariants as sending
 use Rattle.ptu_grandmaster.specs.declared.outcome.Taken.{Taken}
 use Rattle.ptu_grandmaster.specs.declared.outcome.Taken.TheVariants.{Ignored, Delay, Asked}
 use Rattle.ptu_grandmaster.specs.Gm.{KeptGm, port_at, table_at, with_port, with_table}

@@ -10,3 +10,4 @@ pub mod MemoryClock
 pub mod MemoryHost
 pub mod Standard
 pub mod HandsOver
+pub mod Replies

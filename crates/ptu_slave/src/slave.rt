@@ -13,7 +13,8 @@ ghost use Rattle.ptu_record.specs.Step.{TakeSync};
 ghost use Rattle.ptu_judges.specs.Held.{IsFresh};
 ghost use Rattle.ptu_judges.specs.Calls.{OfOne, Then, WasAsked, WasHeard};
 ghost use Rattle.ptu_profile.specs.Slave.{AreMasters, IsWithinLimits, address_of, priorities, timeouts};
-ghost use Rattle.ptu_slave_messages.specs.Heard.{FitsReply, answer_of, event_of, failed_by, heard_of, replies_in, reply_datagrams, reply_in, sent_by, taken_of};
+ghost use Rattle.ptu_outside.specs.Replies.{reply_failed, reply_sent};
+ghost use Rattle.ptu_slave_messages.specs.Heard.{FitsReply, answer_of, event_of, heard_of, replies_in, reply_datagrams, reply_in, taken_of};
 ghost use Rattle.ptu_slave_messages.specs.Reception.{reception};
 ghost use Rattle.ptu_slave_messages.specs.declared.reason.SlaveReason.{SlaveReason};
 ghost use Rattle.ptu_slave.specs.Kept.{IsSame};
@@ -181,7 +182,7 @@ impl<P: Port> Slave<P> {
             HandsOver P.Port old.port (seen ⟦<dyn Judge as Judge>⟧ self.new).port
             (replies_in old.kept.config old.kept.masters
             (reception old.kept.config old.kept.masters from bytes.now))
-            (sent_by (reply_in heard)) (failed_by (reply_in heard))) }
+            (reply_sent (reply_in heard)) (reply_failed (reply_in heard))) }
         ensures same { IsSame (seen ⟦<dyn Judge as Judge>⟧ self.old).kept
             (seen ⟦<dyn Judge as Judge>⟧ self.new).kept }
     {
@@ -419,7 +420,7 @@ fn hear<P: Port>(
         taken ≡ taken_of core.old.config.wants (taken.master, message) →
         HandsOver P.Port port.old port.new
         (reply_datagrams core.old.config core.old.masters (taken.master, message))
-        (sent_by (reply_in result)) (failed_by (reply_in result)) }
+        (reply_sent (reply_in result)) (reply_failed (reply_in result)) }
     ensures same { IsSame core.old core.new }
     ensures judges { length judges.new.items ≡ length judges.old.items }
 {

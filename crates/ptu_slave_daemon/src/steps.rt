@@ -3,15 +3,16 @@
 ghost use Rattle.std.specs.Prelude.{◌≡◌, ◌^◌, ℕ, List, [], ◌∷◌, OnOk};
 ghost use Rattle.ptu_record.specs.Record.{Record};
 ghost use Rattle.ptu_slave.specs.Seen.{seen};
-ghost use Rattle.ptu_slave_messages.specs.Heard.{failed_by, reply_in, sent_by};
+ghost use Rattle.ptu_outside.specs.Replies.{reply_failed, reply_sent};
+ghost use Rattle.ptu_slave_messages.specs.Heard.{reply_in};
 ghost use Rattle.ptu_slave_messages.specs.Node.{Node};
 ghost use Rattle.ptu_slave_daemon.specs.Happenings.{Happening, Stops, Ticks};
 ghost use Rattle.ptu_slave_daemon.specs.Running.{Counted, Grows, IsFew, Ran, Stands, Took, sees};
 
 use crate::counts::Counts;
 use ptu_judges::Judge;
-use ptu_outside::{Clock, Port};
-use ptu_slave::{Heard, HeardReply, Slave};
+use ptu_outside::{Clock, Port, Reply};
+use ptu_slave::{Heard, Slave};
 use ptu_units::OutOfMemory;
 use std::alloc::Global;
 
@@ -19,14 +20,14 @@ use std::alloc::Global;
 fn count_reply(counts: &mut Counts, heard: &Heard)
     requires few { IsFew 1 counts.old }
     ensures grows { Grows 1 counts.old counts.new }
-    ensures counted { Counted (sent_by (reply_in heard.now)) (failed_by (reply_in heard.now))
+    ensures counted { Counted (reply_sent (reply_in heard.now)) (reply_failed (reply_in heard.now))
         counts.old counts.new }
 {
     if let Heard::Signals { reply, .. } = heard {
         match reply {
-            HeardReply::Sent => counts.add(1, 0),
-            HeardReply::Failed => counts.add(0, 1),
-            HeardReply::Nothing => (),
+            Reply::Sent => counts.add(1, 0),
+            Reply::Failed => counts.add(0, 1),
+            Reply::Nothing => (),
         }
     }
 }

@@ -18,8 +18,8 @@ use Rattle.ptu_slave_messages.specs.declared.content.Content.TheVariants as cont
 use Rattle.ptu_slave_messages.specs.declared.content.Taken.{Taken}
 use Rattle.ptu_slave_messages.specs.declared.heard.Heard.{Heard}
 use Rattle.ptu_slave_messages.specs.declared.heard.Heard.TheVariants as heard
-use Rattle.ptu_slave_messages.specs.declared.heard.HeardReply.{HeardReply}
-use Rattle.ptu_slave_messages.specs.declared.heard.HeardReply.TheVariants.{Sent, Failed, Nothing}
+use Rattle.ptu_outside.specs.declared.reply.Reply.{Reply}
+use Rattle.ptu_outside.specs.declared.reply.Reply.TheVariants.{Sent, Nothing}
 use Rattle.ptu_slave_messages.specs.declared.reason.SlaveReason.{SlaveReason}
 use Rattle.ptu_slave_messages.specs.declared.signal.Signal.{Signal}
 use Rattle.ptu_slave_messages.specs.declared.signal.Signal.TheVariants.{Grant, Denial, Cancel, Ack}
@@ -79,7 +79,7 @@ abbrev pub signals_of : Wants → List Tlv → List Signal
 signals_of wants tlvs = filter_map (signal_by wants) tlvs
 
 -- of a message at the moment x
-abbrev pub heard_of : Wants → ℕ → HeardReply → ℕ × Message → Heard
+abbrev pub heard_of : Wants → ℕ → Reply → ℕ × Message → Heard
 heard_of wants x reply (m, message) = elim message.body as (λ _. Heard) [
   | body.Announce announce ↦ heard.Announce x m announce.class
   | body.Sync stamp ↦ heard.Sync x m message.header.sequence
@@ -91,28 +91,17 @@ heard_of wants x reply (m, message) = elim message.body as (λ _. Heard) [
 ]
 
 -- of a datagram, by what it is to the slave
-abbrev pub answer_of : Wants → ℕ → HeardReply → Result (ℕ × Message) SlaveReason → Heard
+abbrev pub answer_of : Wants → ℕ → Reply → Result (ℕ × Message) SlaveReason → Heard
 answer_of wants x reply (Err reason) = heard.Ignored reason
 answer_of wants x reply (Ok taken) = heard_of wants x reply taken
 
 -- what became of the reply to a CANCEL
-abbrev pub reply_in : Heard → HeardReply
+abbrev pub reply_in : Heard → Reply
 reply_in (heard.Signals x m list reply) = reply
 reply_in h = Nothing
 
--- how many replies were sent, and how many failed to be sent
-abbrev pub sent_by : HeardReply → ℕ
-sent_by Sent = 1
-sent_by Failed = 0
-sent_by Nothing = 0
-
-abbrev pub failed_by : HeardReply → ℕ
-failed_by Sent = 0
-failed_by Failed = 1
-failed_by Nothing = 0
-
 -- what became of so many replies that were all sent
-abbrev pub reply_by : {A : Type 0} → List A → HeardReply
+abbrev pub reply_by : {A : Type 0} → List A → Reply
 reply_by [] = Nothing
 reply_by (x ∷ xs) = Sent
 

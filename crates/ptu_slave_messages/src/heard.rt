@@ -1,5 +1,6 @@
 use crate::reason::SlaveReason;
 use crate::signal::SignalList;
+use ptu_outside::Reply;
 use ptu_units::Moment;
 
 /// What a slave makes of a datagram: it ignores it, or hears a message of one of its masters, which
@@ -34,16 +35,9 @@ pub enum Heard {
         at: Moment,
         master: usize,
         list: SignalList,
-        reply: HeardReply,
+        reply: Reply,
     },
 }
 
-/// What became of the reply to the CANCELs of a Signaling.
-#[derive(Clone, Copy, Debug, PartialEq, Eq, Hash)]
-pub enum HeardReply {
-    Sent,
-    /// The port counted a fault.
-    Failed,
-    /// There is no CANCEL.
-    Nothing,
-}
+/// What became of the reply to the CANCELs of a Signaling: `Nothing` where there is no CANCEL.
+pub type HeardReply = Reply;

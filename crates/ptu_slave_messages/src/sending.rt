@@ -8,17 +8,16 @@ ghost use Rattle.ptu_record.specs.Step.{one_reply};
 ghost use Rattle.ptu_record.specs.Tick.{Requests, Cancels, DelayReq, one_signaling};
 ghost use Rattle.ptu_tlvs.specs.Sent.{IsSendable};
 ghost use Rattle.ptu_tlvs.specs.declared.tlv.Tlv.TheVariants.{Ack};
-ghost use Rattle.ptu_slave_messages.specs.Heard.{failed_by, sent_by};
+ghost use Rattle.ptu_outside.specs.Replies.{reply_failed, reply_sent};
 ghost use Rattle.ptu_slave_messages.specs.Sending.{all_ones, tick_plan, departure_to, stop_plan, kinds_in};
 ghost use Rattle.ptu_profile.specs.Slave.{header_of};
 
-use crate::heard::HeardReply;
 use crate::kinds::Kinds;
 use crate::plan::{StopPlan, TickPlan};
 use crate::signaling::{ALL_ONES, delay_req, put_cancels, put_requests};
 use ptu_header::PortIdentity;
 use ptu_messages::{write_fixed, write_signaling};
-use ptu_outside::{Channel, Port, Sends, hand};
+use ptu_outside::{Channel, Port, Reply, Sends, hand};
 use ptu_profile::SlaveConfig;
 use ptu_tlvs::Tlv;
 use ptu_units::message_types::SIGNALING;
@@ -127,21 +126,21 @@ pub fn send_reply<P: Port>(
     target: &PortIdentity,
     number: u16,
     acks: &[Tlv],
-) -> HeardReply
+) -> Reply
     requires few { length acks.now ≤ 32 }
     requires sendable { All IsSendable acks.now }
     ensures sends { (m : ℕ) (codes : List ℕ) → acks.now ≡ map Ack codes →
         HandsOver P.Port port.old port.new
         (map (departure_to config.now ip target.now) (one_reply m number codes))
-        (sent_by result) (failed_by result) }
+        (reply_sent result) (reply_failed result) }
 {
     if acks.is_empty() {
-        return HeardReply::Nothing;
+        return Reply::Nothing;
     }
     let sends = send_signaling(port, config, ip, target, number, acks);
     if sends.failed == 0 {
-        HeardReply::Sent
+        Reply::Sent
     } else {
-        HeardReply::Failed
+        Reply::Failed
     }
 }

@@ -4,7 +4,8 @@ use Rattle.ptu_outside.specs.HandsOver.{HandsOver}
 use Rattle.ptu_record.specs.Step.{cancel_code}
 use Rattle.ptu_slave_messages.specs.declared.content.Taken.{Taken}
 use Rattle.ptu_profile.specs.Slave.{address_of}
-use Rattle.ptu_slave_messages.specs.Heard.{failed_by, said_by, sent_by}
+use Rattle.ptu_outside.specs.Replies.{reply_failed, reply_sent}
+use Rattle.ptu_slave_messages.specs.Heard.{said_by}
 use Rattle.ptu_slave.proofs.Hearing.{acks_are, event_sync, reply_is, said_in}
 use Rattle.ptu_slave.proofs.slave.hear.Goals as goal
 
@@ -26,7 +27,7 @@ returns-in-Signals-clause-sends g c = λ message is.
     let said = said_in c.args.core.now.config.wants c.args.taken.master message c.in-Signals.list c.in-Signals.acks (sym (ap (λ (k : Taken). k.content) is) ∙ c.in-Signals.is) in
     let codes = filter_map cancel_code (filter_map said_by said.tlvs) in
     subst (λ ds. HandsOver g.P.Port c.args.port.now c.send_reply-reply.new.port ds
-    (sent_by c.send_reply-reply.result) (failed_by c.send_reply-reply.result))
+    (reply_sent c.send_reply-reply.result) (reply_failed c.send_reply-reply.result))
     (reply_is c.args.core.now.config c.config.result.now c.args.core.now.masters c.args.taken.master c.address-ip.result c.args.taken.sequence c.args.taken.source codes message
     (c.config.ensures ∙ c.take_signaling-at.ensures.same.config) (c.address-ip.ensures ∙ ap (λ ms. address_of ms c.args.taken.master) c.take_signaling-at.ensures.same.masters)
     (ap (λ (k : Taken). k.source) is) (ap (λ (k : Taken). k.sequence) is) said.replies)

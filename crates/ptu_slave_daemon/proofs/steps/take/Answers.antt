@@ -1,6 +1,7 @@
 use Rattle.std.proofs.Common.{[], ◌∷◌, ap, refl}
 use Rattle.ptu_slave.specs.Seen.{Seen}
-use Rattle.ptu_slave_messages.specs.Heard.{failed_by, reply_in, sent_by}
+use Rattle.ptu_outside.specs.Replies.{reply_failed, reply_sent}
+use Rattle.ptu_slave_messages.specs.Heard.{reply_in}
 use Rattle.ptu_slave_daemon.specs.Happenings.{Arrives}
 use Rattle.ptu_slave_daemon.proofs.Events.{ran_taken}
 use Rattle.ptu_slave_daemon.proofs.Ports.{port_handed}
@@ -9,8 +10,8 @@ use Rattle.ptu_slave_daemon.proofs.steps.take.Goals as goal
 
 pub returns-clause-ran : goal.returns-clause-ran
 returns-clause-ran g c = λ node L h. (
-  sent_by (reply_in c.in_ok-heard.heard),
-  failed_by (reply_in c.in_ok-heard.heard),
+  reply_sent (reply_in c.in_ok-heard.heard),
+  reply_failed (reply_in c.in_ok-heard.heard),
   c.count_reply.ensures.counted,
   (
     Arrives (record { ip = c.args.from; bytes = c.args.octets.now }) c.now-at.result ∷ [],

@@ -3,7 +3,8 @@ use Rattle.ptu_outside.specs.HandsOver.{HandsOver}
 use Rattle.ptu_profile.specs.declared.slave.Master.{Master}
 use Rattle.ptu_profile.specs.declared.slave.SlaveConfig.{SlaveConfig}
 use Rattle.ptu_slave_messages.specs.declared.content.Taken.{Taken}
-use Rattle.ptu_slave_messages.specs.Heard.{content_of, failed_by, replies_in, reply_in, sent_by, taken_or_not}
+use Rattle.ptu_outside.specs.Replies.{reply_failed, reply_sent}
+use Rattle.ptu_slave_messages.specs.Heard.{content_of, replies_in, reply_in, taken_or_not}
 use Rattle.ptu_slave_messages.specs.Reception.{reception}
 use Rattle.ptu_slave.proofs.Hearing.{event_sync, same_taken, taken_from}
 use Rattle.ptu_slave.specs.Seen.{seen_by}
@@ -24,7 +25,7 @@ returns-in-Ok-clause-sends g c =
     ∙ ap₂ (λ (config : SlaveConfig) (masters : List Master). taken_or_not config.wants (reception config masters c.args.from c.args.bytes.now)) c.config.ensures c.masters.ensures.masters in
     let is = taken_from c.args.self.now.core.config.wants (reception c.args.self.now.core.config c.args.self.now.core.masters c.args.from c.args.bytes.now) c.in-Ok.taken answer in
     subst (λ r. HandsOver g.P.Port c.args.self.now.port c.hear.new.port
-    (replies_in c.args.self.now.core.config c.args.self.now.core.masters r) (sent_by (reply_in c.hear.result)) (failed_by (reply_in c.hear.result)))
+    (replies_in c.args.self.now.core.config c.args.self.now.core.masters r) (reply_sent (reply_in c.hear.result)) (reply_failed (reply_in c.hear.result)))
     (sym is.received) (c.hear.ensures.sends is.message is.kept)
 
 pub returns-in-Ok-clause-judge : goal.returns-in-Ok-clause-judge

@@ -1,0 +1,10 @@
+/// What became of the reply to a datagram.
+#[derive(Clone, Copy, Debug, PartialEq, Eq, Hash)]
+pub enum Reply {
+    /// It was sent.
+    Sent,
+    /// The port counted a fault. What was decided stands.
+    Failed,
+    /// There was nothing to answer.
+    Nothing,
+}
