@@ -1,11 +1,7 @@
-ghost use Rattle.std.specs.Prelude.{◌≡◌, ◌≤◌, ◌++◌, ◌∷◌, [], ℕ, List, Some, length, OnOk, IsErrOf};
-ghost use Rattle.std.specs.Io.KnownBytes.{IsAtEnd, prepend_known};
-ghost use Rattle.ptu_outside.specs.Ends.{StopsAtEnd};
-ghost use Rattle.ptu_outside.specs.Handing.{HasPutPart};
+ghost use Rattle.std.specs.Prelude.{◌≡◌, ◌++◌, ◌∷◌, [], ℕ, List, Some};
 ghost use Rattle.ptu_lines.specs.Script.{script_lines};
-ghost use Rattle.ptu_report.specs.Reported.{HasReportedAllRead};
 ghost use Rattle.ptu_report.specs.Rules.{texts_of};
-ghost use Rattle.ptu_report.specs.Runs.{CountsRead, CountsWrite};
+ghost use Rattle.ptu_report.specs.Runs.{HasRunThrough};
 ghost use Rattle.ptu_audit.specs.Audited.{AnswerIsWritten, IsAnswer, IsKept};
 ghost use Rattle.ptu_audit.specs.Reading.{audit_rules, opening};
 
@@ -45,22 +41,10 @@ pub fn audit<S: Source, K: Sink>(
     // It was written.
     ensures written { (input : List ℕ) → S.left source.old ≡ Some input →
         AnswerIsWritten K.written K.handed sink.old sink.new result }
-    ensures end { OnOk result (IsAtEnd (S.left source.new)) }
-    // What was written is a front of the output, whatever is answered.
-    ensures front { (input : List ℕ) → S.left source.old ≡ Some input
-        → HasPutPart K.written K.handed sink.old sink.new
-        (texts_of audit_rules (opening capacity) (script_lines input)) }
-    // Where the source failed, nothing was written.
-    ensures all_read { IsErrOf result RunFault.Read
-        → HasReportedAllRead K.written K.handed sink.old sink.new audit_rules (opening capacity)
-        (S.left source.old) (S.left source.new) }
-    ensures taken { (octets : List ℕ)
-        × (S.left source.old ≡ prepend_known octets (S.left source.new))
-        × (length octets ≤ 67108865) }
-    ensures ends { StopsAtEnd (S.ends source.old) (S.ends source.new) }
-    // A fault is answered exactly where there was one.
-    ensures source_counts { CountsRead result (S.faults source.old) (S.faults source.new) }
-    ensures sink_counts { CountsWrite result (K.faults sink.old) (K.faults sink.new) }
+    // What was read and written, whatever is answered: where the source failed, nothing.
+    ensures ran { HasRunThrough S.Source K.Sink source.old source.new sink.old sink.new audit_rules
+        (opening capacity) (λ input. texts_of audit_rules (opening capacity) (script_lines input))
+        result }
 {
     // A trail without a fault is sound.
     faultless_so_far();

@@ -29,7 +29,7 @@ HasSetUp before after ip node refused = (line : ℕ) (c : Course) → before c
 -- ---- judges
 
 -- how many judges are left, of which this is held
-abbrev pub stock_of : List Held → List Held → Stock
+abbrev pub stock_of : {A : Type 0} → List A → List A → Stock
 stock_of flags gaps = record { flags = length flags; gaps = length gaps }
 
 -- a fresh judge of the rule was taken, and these are left

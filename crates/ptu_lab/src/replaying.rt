@@ -1,23 +1,19 @@
-ghost use Rattle.std.specs.Prelude.{◌≡◌, ◌≤◌, ℕ, List, [], ◌∷◌, length, map, Some, OnOk, OnErr};
-ghost use Rattle.std.specs.Prelude.{IfOk, IsErrOf};
-ghost use Rattle.std.specs.Io.KnownBytes.{IsAtEnd, prepend_known};
-ghost use Rattle.ptu_outside.specs.Ends.{StopsAtEnd};
-ghost use Rattle.ptu_outside.specs.Handing.{HasPutPart};
+ghost use Rattle.std.specs.Prelude.{◌≡◌, ℕ, List, [], ◌∷◌, map, Some, IfOk, OnOk};
 ghost use Rattle.ptu_judges.specs.Held.{IsStock};
-ghost use Rattle.ptu_report.specs.Reported.{HasReportedAllRead};
-ghost use Rattle.ptu_report.specs.Runs.{CountsRead, CountsWrite};
+ghost use Rattle.ptu_report.specs.Runs.{HasRunThrough};
 ghost use Rattle.ptu_world.specs.Report.{course_opening, report, rules};
 ghost use Rattle.ptu_slave.specs.Seen.{seen_by};
 ghost use Rattle.ptu_lab.specs.Headline.{KeepsHeadline};
 ghost use Rattle.ptu_lab.specs.Replayed.{AreCounts, HasReplayed, IfReplayed};
 ghost use Rattle.ptu_lab.specs.Standing.{StandsFor};
+ghost use Rattle.ptu_lab.specs.Steps.{stock_of};
 
 use crate::done::Done;
 use crate::lab::Lab;
 use ptu_judges::{Judge, Stock};
 use ptu_lines::LineCause;
 use ptu_outside::{Sink, Source};
-use ptu_report::{Reporter, RunFault, Texts, run};
+use ptu_report::{Reporter, Texts, run};
 use ptu_report_lines::{ReportLine, Statement};
 use ptu_script::{Cause, read_command};
 use ptu_show::LabFault;
@@ -122,31 +118,16 @@ pub fn replay<S: Source, K: Sink>(
     // The whole report was written, and the answer says how it ends.
     ensures whole { (script : List ℕ) → S.left source.old ≡ Some script → IfReplayed result
         (λ ending. HasReplayed K.written K.handed sink.old sink.new
-        (record { flags = length stock.flags.items; gaps = length stock.gaps.items }) script
-        ending) }
+        (stock_of stock.flags.items stock.gaps.items) script ending) }
     ensures counts { (script : List ℕ) → S.left source.old ≡ Some script → IfOk result
-        (AreCounts (record { flags = length stock.flags.items; gaps = length stock.gaps.items })
-        script) }
-    ensures end { OnOk result (IsAtEnd (S.left source.new)) }
+        (AreCounts (stock_of stock.flags.items stock.gaps.items) script) }
     // The headline, of the script that is read.
     ensures headline { (script : List ℕ) → S.left source.old ≡ Some script → KeepsHeadline
-        (record { flags = length stock.flags.items; gaps = length stock.gaps.items }) script }
-    // What was written is a front of the report, whatever is answered.
-    ensures front { (script : List ℕ) → S.left source.old ≡ Some script
-        → HasPutPart K.written K.handed sink.old sink.new (report
-        (record { flags = length stock.flags.items; gaps = length stock.gaps.items }) script) }
-    // Where the source failed, that is all that belongs to the lines that were read whole.
-    ensures all_read { IsErrOf result RunFault.Read
-        → HasReportedAllRead K.written K.handed sink.old sink.new rules (course_opening
-        (record { flags = length stock.flags.items; gaps = length stock.gaps.items }))
-        (S.left source.old) (S.left source.new) }
-    ensures taken { (octets : List ℕ)
-        × (S.left source.old ≡ prepend_known octets (S.left source.new))
-        × (length octets ≤ 67108865) }
-    ensures ends { StopsAtEnd (S.ends source.old) (S.ends source.new) }
-    // A fault is answered exactly where there was one.
-    ensures source_counts { CountsRead result (S.faults source.old) (S.faults source.new) }
-    ensures sink_counts { CountsWrite result (K.faults sink.old) (K.faults sink.new) }
+        (stock_of stock.flags.items stock.gaps.items) script }
+    // What was read and written, whatever is answered.
+    ensures ran { HasRunThrough S.Source K.Sink source.old source.new sink.old sink.new rules
+        (course_opening (stock_of stock.flags.items stock.gaps.items))
+        (report (stock_of stock.flags.items stock.gaps.items)) result }
 {
     let lab = Lab::new(alloc, stock);
     let mut replayer = Replayer {

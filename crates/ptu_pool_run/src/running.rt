@@ -1,11 +1,7 @@
 //! The program: each line of a script is read, and what it does is told.
 
-ghost use Rattle.std.specs.Prelude.{◌≡◌, ◌≤◌, ◌∷◌, ℕ, List, [], length, Some, IfOk, OnOk, IsErrOf};
-ghost use Rattle.std.specs.Io.KnownBytes.{IsAtEnd, prepend_known};
-ghost use Rattle.ptu_outside.specs.Ends.{StopsAtEnd};
-ghost use Rattle.ptu_outside.specs.Handing.{HasPutPart};
-ghost use Rattle.ptu_report.specs.Reported.{HasReportedAllRead};
-ghost use Rattle.ptu_report.specs.Runs.{CountsRead, CountsWrite, IfWritten};
+ghost use Rattle.std.specs.Prelude.{◌≡◌, ◌∷◌, ℕ, List, [], Some, IfOk, OnOk};
+ghost use Rattle.ptu_report.specs.Runs.{HasRunThrough, IfWritten};
 ghost use Rattle.ptu_pool_run.specs.Answers.{HasPoured};
 ghost use Rattle.ptu_pool_run.specs.Poured.{poured_texts};
 ghost use Rattle.ptu_pool_run.specs.Promises.{KeepsPools};
@@ -19,7 +15,7 @@ use crate::pouring::Pouring;
 use crate::reading::read_pool_command;
 use ptu_lines::LineCause;
 use ptu_outside::{Sink, Source};
-use ptu_report::{Reporter, RunFault, Texts, run};
+use ptu_report::{Reporter, Texts, run};
 use ptu_units::OutOfMemory;
 use ptu_units::sizes::LONGEST_DATAGRAM;
 use std::alloc::Global;
@@ -115,23 +111,11 @@ pub fn pools<S: Source, K: Sink>(
     // The whole output was written, and the answer says how it ends.
     ensures whole { (script : List ℕ) → S.left source.old ≡ Some script → IfWritten result
         (λ ending. HasPoured K.written K.handed sink.old sink.new script ending) }
-    ensures end { OnOk result (IsAtEnd (S.left source.new)) }
     // What every script keeps to: each pool stands apart, and all are within the whole.
     ensures headline { (script : List ℕ) → S.left source.old ≡ Some script → KeepsPools script }
-    // What was written is a front of the output, whatever is answered.
-    ensures front { (script : List ℕ) → S.left source.old ≡ Some script
-        → HasPutPart K.written K.handed sink.old sink.new (poured_texts script) }
-    // Where the source failed, that is all that belongs to the lines that were read whole.
-    ensures all_read { IsErrOf result RunFault.Read
-        → HasReportedAllRead K.written K.handed sink.old sink.new rules opening
-        (S.left source.old) (S.left source.new) }
-    ensures taken { (octets : List ℕ)
-        × (S.left source.old ≡ prepend_known octets (S.left source.new))
-        × (length octets ≤ 67108865) }
-    ensures ends { StopsAtEnd (S.ends source.old) (S.ends source.new) }
-    // A fault is answered exactly where there was one.
-    ensures source_counts { CountsRead result (S.faults source.old) (S.faults source.new) }
-    ensures sink_counts { CountsWrite result (K.faults sink.old) (K.faults sink.new) }
+    // What was read and written, whatever is answered.
+    ensures ran { HasRunThrough S.Source K.Sink source.old source.new sink.old sink.new
+        rules opening poured_texts result }
 {
     let pouring = Pouring::new();
     let mut pourer = Pourer {

@@ -1,12 +1,12 @@
 //! The driver: lines are read and reported one after the other.
 
-ghost use Rattle.std.specs.Prelude.{◌≡◌, ◌≢◌, ◌≤◌, ◌+◌, ℕ, List, [], ◌∷◌, Some, length, option_map, IfOk, IfErr, OnOk, OnErr, IfNone, IfSome, IsErrOf};
-ghost use Rattle.std.specs.Io.KnownBytes.{IsAtEnd, prepend_known};
-ghost use Rattle.ptu_outside.specs.Ends.{StopsAtEnd};
+ghost use Rattle.std.specs.Prelude.{◌≡◌, ◌≢◌, ◌≤◌, ◌+◌, ℕ, List, [], ◌∷◌, Some, option_map, IfOk, IfErr, OnOk, OnErr, IfNone, IfSome, IsErrOf};
+ghost use Rattle.std.specs.Io.KnownBytes.{IsAtEnd};
 ghost use Rattle.ptu_outside.specs.Handing.{HasPut, HasPutPart};
 ghost use Rattle.ptu_lines.specs.Script.{ScriptLine, script_lines};
 ghost use Rattle.ptu_lines.specs.Reading.{octets_taken, lines_left, AgreesOnEnd, Gives, IsReadToEnd, IsStopped};
 ghost use Rattle.ptu_report.specs.Rules.{closing, meaning_of, texts_of, texts_until};
+ghost use Rattle.ptu_report.specs.Runs.{IsReadWithin};
 ghost use Rattle.ptu_report.specs.Stops.{CountsRead, CountsWrite};
 ghost use Rattle.ptu_report.specs.Reported.{HasReported, HasReportedAllRead};
 ghost use Rattle.ptu_report.specs.Step.{texts_taken, is_whole, HasStepped};
@@ -182,10 +182,7 @@ pub fn report<R: Reporter, S: Source, K: Sink>(
         → (meaning : R.Meaning) → R.stands_for reporter.old meaning
         → HasReportedAllRead K.written K.handed sink.old sink.new R.rules meaning
         (S.left source.old) (S.left source.new) }
-    ensures taken { (octets : List ℕ)
-        × (S.left source.old ≡ prepend_known octets (S.left source.new))
-        × (length octets ≤ 67108865) }
-    ensures ends { StopsAtEnd (S.ends source.old) (S.ends source.new) }
+    ensures bounded { IsReadWithin S.Source source.old source.new 67108865 }
     // A fault always shows.
     ensures source_counts { CountsRead result (S.faults source.old) (S.faults source.new) }
     ensures sink_counts { CountsWrite result (K.faults sink.old) (K.faults sink.new) }

@@ -1,5 +1,4 @@
 pub mod ShowCauses
 pub mod JoinCauses
-pub mod Answered
 pub mod Partners
 pub mod Relation

@@ -1,26 +1,25 @@
 -- What `join` writes for an input: a line for each datagram, up to the first line that is refused
 -- or to the end.
-use Rattle.std.specs.Prelude.{◌≡◌, ◌⊎◌, ℕ, List, [], ◌∷◌, ◌++◌, codes, Option, Some, None, Result}
+use Rattle.std.specs.Prelude.{ℕ, List, [], ◌∷◌, ◌++◌, codes, Option, Some, None, Result}
 use Rattle.std.specs.Prelude.{Ok, Err}
 use Rattle.std.specs.Fmt.{decimal}
 use Rattle.std.specs.List.{filter_map}
-use Rattle.std.specs.Io.KnownBytes.{append_known}
 use Rattle.hex.specs.Hex.{encode_lower}
-use Rattle.ptu_outside.specs.Handing.{HasPut, joined as together}
+use Rattle.ptu_outside.specs.Handing.{joined as together}
 use Rattle.ptu_lines.specs.Script.{script_lines}
 use Rattle.ptu_lines.specs.declared.cause.LineCause.{LineCause}
 use Rattle.ptu_lines.specs.declared.cause.LineCause.TheVariants.{Size, Long, Text, Field}
 use Rattle.ptu_messages.specs.declared.message.Message.{Message}
 use Rattle.ptu_messages.specs.Sent.{sent_message}
 use Rattle.ptu_report.specs.declared.ending.Ending.{Ending}
-use Rattle.ptu_report.specs.declared.ending.Ending.TheVariants as endings
+use Rattle.ptu_report.specs.Reported.{HasWritten}
 use Rattle.ptu_report.specs.Rules.{Rules, Outcome, Goes, Refuses, ending_of, texts_of}
 use Rattle.ptu_script.specs.Cause.{cause_of_line}
 use Rattle.ptu_show.specs.declared.half.Half.{Half}
 use Rattle.ptu_show.specs.Halves.{half_in, joined}
 use Rattle.ptu_show.specs.Joins.{partner, waiting_keys}
 use Rattle.ptu_show.specs.Reading.{datagram_in}
-use Rattle.ptu_show.specs.Shown.{bad_line, numbered}
+use Rattle.ptu_show.specs.Shown.{bad_line, numbered, IsRefusedFor}
 
 -- the halves among datagrams, in their order
 abbrev pub halves_of : List (List ℕ) → List Half
@@ -74,15 +73,11 @@ abbrev pub joined_output : List ℕ → List ℕ
 joined_output input = together (joined_lines input)
 
 -- all that belongs to the input was written, each line handed over in one piece, and it ends so
-pub record HasJoined {K : Type 0} (written : K → Option (List ℕ))
-    (handed : K → Option (List (List ℕ))) (old new : K) (input : List ℕ)
-    (ending : Ending LineCause) : Type 0 where
-  pub written_is : written new ≡ append_known (written old) (joined_output input)
-  pub in_pieces : HasPut written handed old new (joined_lines input)
-  pub ends : ending ≡ joined_ending input
+abbrev pub HasJoined : {K : Type 0} → (K → Option (List ℕ)) → (K → Option (List (List ℕ)))
+    → K → K → List ℕ → Ending LineCause → Type 0
+HasJoined written handed old new input ending =
+    HasWritten written handed old new (joined_lines input) (joined_ending input) ending
 
 -- no line is refused but for these causes
 abbrev pub HasJoinCause : Ending LineCause → Type 0
-HasJoinCause (endings.Whole lines) = Unit {0}
-HasJoinCause (endings.Refused number cause) =
-    (cause ≡ Size) ⊎ (cause ≡ Long) ⊎ (cause ≡ Text) ⊎ (cause ≡ Field 1)
+HasJoinCause ending = IsRefusedFor Size Long Text (Field 1) ending

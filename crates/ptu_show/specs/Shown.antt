@@ -3,12 +3,12 @@
 use Rattle.std.specs.Prelude.{◌≡◌, ◌⊎◌, ℕ, List, [], ◌∷◌, ◌++◌, codes, Option, Some, None, Result}
 use Rattle.std.specs.Prelude.{Ok, Err}
 use Rattle.std.specs.Fmt.{decimal}
-use Rattle.std.specs.Io.KnownBytes.{append_known}
-use Rattle.ptu_outside.specs.Handing.{HasPut, joined}
+use Rattle.ptu_outside.specs.Handing.{joined}
 use Rattle.ptu_lines.specs.Script.{script_lines}
 use Rattle.ptu_lines.specs.declared.cause.LineCause.{LineCause}
 use Rattle.ptu_report.specs.declared.ending.Ending.{Ending}
 use Rattle.ptu_report.specs.declared.ending.Ending.TheVariants as endings
+use Rattle.ptu_report.specs.Reported.{HasWritten}
 use Rattle.ptu_report.specs.Rules.{Rules, Outcome, Goes, Refuses, ending_of, texts_of}
 use Rattle.ptu_script.specs.declared.cause.Cause.{Cause}
 use Rattle.ptu_script.specs.declared.cause.Cause.TheVariants.{Size, Long, Text, Field}
@@ -54,15 +54,16 @@ abbrev pub shown : List ℕ → List ℕ
 shown input = joined (shown_lines input)
 
 -- all that belongs to the input was written, each line handed over in one piece, and it ends so
-pub record HasShown {K : Type 0} (written : K → Option (List ℕ))
-    (handed : K → Option (List (List ℕ))) (old new : K) (input : List ℕ)
-    (ending : Ending Cause) : Type 0 where
-  pub written_is : written new ≡ append_known (written old) (shown input)
-  pub in_pieces : HasPut written handed old new (shown_lines input)
-  pub ends : ending ≡ shown_ending input
+abbrev pub HasShown : {K : Type 0} → (K → Option (List ℕ)) → (K → Option (List (List ℕ)))
+    → K → K → List ℕ → Ending Cause → Type 0
+HasShown written handed old new input ending =
+    HasWritten written handed old new (shown_lines input) (shown_ending input) ending
 
 -- no line is refused but for these causes
+abbrev pub IsRefusedFor : {C : Type 0} → (size long text field : C) → Ending C → Type 0
+IsRefusedFor size long text field (endings.Whole lines) = Unit {0}
+IsRefusedFor size long text field (endings.Refused number cause) =
+    (cause ≡ size) ⊎ (cause ≡ long) ⊎ (cause ≡ text) ⊎ (cause ≡ field)
+
 abbrev pub HasShowCause : Ending Cause → Type 0
-HasShowCause (endings.Whole lines) = Unit {0}
-HasShowCause (endings.Refused number cause) =
-    (cause ≡ Size) ⊎ (cause ≡ Long) ⊎ (cause ≡ Text) ⊎ (cause ≡ Field 1)
+HasShowCause ending = IsRefusedFor Size Long Text (Field 1) ending

@@ -1,10 +1,5 @@
-ghost use Rattle.std.specs.Prelude.{◌≡◌, ◌≤◌, ◌++◌, ◌∷◌, [], ℕ, List, length, IfOk, OnOk, OnErr};
-ghost use Rattle.std.specs.Prelude.{IsErrOf};
-ghost use Rattle.std.specs.Io.KnownBytes.{IsAtEnd, prepend_known};
-ghost use Rattle.ptu_outside.specs.Ends.{StopsAtEnd};
-ghost use Rattle.ptu_outside.specs.Handing.{HasPutPart};
-ghost use Rattle.ptu_report.specs.Reported.{HasReportedAllRead};
-ghost use Rattle.ptu_report.specs.Runs.{CountsRead, CountsWrite, IfWritten};
+ghost use Rattle.std.specs.Prelude.{◌≡◌, ◌++◌, ◌∷◌, [], ℕ, List, Some, IfOk, OnOk, OnErr};
+ghost use Rattle.ptu_report.specs.Runs.{HasRunThrough, IfWritten};
 ghost use Rattle.ptu_show.specs.Datagram.{datagram_text};
 ghost use Rattle.ptu_show.specs.Shown.{numbered, shown_lines, show_rules, HasShowCause, HasShown};
 
@@ -16,7 +11,7 @@ use ptu_lines::LineCause;
 use ptu_messages::{MessageFault, read_message};
 use ptu_octets::u16_at;
 use ptu_outside::{Sink, Source};
-use ptu_report::{Reporter, RunFault, Texts, run};
+use ptu_report::{Reporter, Texts, run};
 use ptu_script::Cause;
 use ptu_texts::FaultText;
 use ptu_units::OutOfMemory;
@@ -122,21 +117,9 @@ pub fn show<S: Source, K: Sink>(
         (λ ending. HasShown K.written K.handed sink.old sink.new input ending) }
     ensures causes { (input : List ℕ) → S.left source.old ≡ Some input
         → IfWritten result HasShowCause }
-    ensures end { OnOk result (IsAtEnd (S.left source.new)) }
-    // What was written is a front of the output, whatever is answered.
-    ensures front { (input : List ℕ) → S.left source.old ≡ Some input
-        → HasPutPart K.written K.handed sink.old sink.new (shown_lines input) }
-    // Where the source failed, that is all that belongs to the lines that were read whole.
-    ensures all_read { IsErrOf result RunFault.Read
-        → HasReportedAllRead K.written K.handed sink.old sink.new show_rules tt
-        (S.left source.old) (S.left source.new) }
-    ensures taken { (octets : List ℕ)
-        × (S.left source.old ≡ prepend_known octets (S.left source.new))
-        × (length octets ≤ 67108865) }
-    ensures ends { StopsAtEnd (S.ends source.old) (S.ends source.new) }
-    // A fault is answered exactly where there was one.
-    ensures source_counts { CountsRead result (S.faults source.old) (S.faults source.new) }
-    ensures sink_counts { CountsWrite result (K.faults sink.old) (K.faults sink.new) }
+    // What was read and written, whatever is answered.
+    ensures ran { HasRunThrough S.Source K.Sink source.old source.new sink.old sink.new
+        show_rules tt shown_lines result }
 {
     let mut decoder = Decoder {
         room: [0; LONGEST_DATAGRAM],

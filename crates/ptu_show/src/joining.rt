@@ -1,10 +1,5 @@
-ghost use Rattle.std.specs.Prelude.{◌≡◌, ◌≤◌, ◌++◌, ◌∷◌, [], ℕ, List, Some, length, true, IfOk};
-ghost use Rattle.std.specs.Prelude.{IfSome, OnOk, OnErr, IsErrOf};
-ghost use Rattle.std.specs.Io.KnownBytes.{IsAtEnd, prepend_known};
-ghost use Rattle.ptu_outside.specs.Ends.{StopsAtEnd};
-ghost use Rattle.ptu_outside.specs.Handing.{HasPutPart};
-ghost use Rattle.ptu_report.specs.Reported.{HasReportedAllRead};
-ghost use Rattle.ptu_report.specs.Runs.{CountsRead, CountsWrite, IfWritten};
+ghost use Rattle.std.specs.Prelude.{◌≡◌, ◌++◌, ◌∷◌, [], ℕ, List, Some, true, IfOk, IfSome, OnOk};
+ghost use Rattle.ptu_report.specs.Runs.{HasRunThrough, IfWritten};
 ghost use Rattle.ptu_show.specs.Halves.{half_in, is_other};
 ghost use Rattle.ptu_show.specs.Joined.{half_text, halves_of, join_rules};
 ghost use Rattle.ptu_show.specs.Joined.{joined_lines, text_behind, HasJoined, HasJoinCause};
@@ -20,7 +15,7 @@ use crate::waiting::Waiting;
 use ptu_lines::LineCause;
 use ptu_messages::write_fixed;
 use ptu_outside::{Sink, Source};
-use ptu_report::{Reporter, RunFault, Texts, run};
+use ptu_report::{Reporter, Texts, run};
 use ptu_script::Cause;
 use ptu_texts::OctetsText;
 use ptu_units::OutOfMemory;
@@ -168,21 +163,9 @@ pub fn join<S: Source, K: Sink>(
         (λ ending. HasJoined K.written K.handed sink.old sink.new input ending) }
     ensures causes { (input : List ℕ) → S.left source.old ≡ Some input
         → IfWritten result HasJoinCause }
-    ensures end { OnOk result (IsAtEnd (S.left source.new)) }
-    // What was written is a front of the output, whatever is answered.
-    ensures front { (input : List ℕ) → S.left source.old ≡ Some input
-        → HasPutPart K.written K.handed sink.old sink.new (joined_lines input) }
-    // Where the source failed, that is all that belongs to the lines that were read whole.
-    ensures all_read { IsErrOf result RunFault.Read
-        → HasReportedAllRead K.written K.handed sink.old sink.new join_rules []
-        (S.left source.old) (S.left source.new) }
-    ensures taken { (octets : List ℕ)
-        × (S.left source.old ≡ prepend_known octets (S.left source.new))
-        × (length octets ≤ 67108865) }
-    ensures ends { StopsAtEnd (S.ends source.old) (S.ends source.new) }
-    // A fault is answered exactly where there was one.
-    ensures source_counts { CountsRead result (S.faults source.old) (S.faults source.new) }
-    ensures sink_counts { CountsWrite result (K.faults sink.old) (K.faults sink.new) }
+    // What was read and written, whatever is answered.
+    ensures ran { HasRunThrough S.Source K.Sink source.old source.new sink.old sink.new
+        join_rules [] joined_lines result }
 {
     let mut joiner = Joiner {
         room: [0; LONGEST_DATAGRAM],

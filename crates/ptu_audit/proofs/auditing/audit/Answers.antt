@@ -1,7 +1,8 @@
-use Rattle.std.proofs.Common.{◌∙◌, ◌∷◌, [], ap, sym, subst}
+use Rattle.std.proofs.Common.{◌∙◌, ◌∷◌, [], refl, ap, sym, subst}
 use Rattle.ptu_lines.specs.Script.{script_lines}
 use Rattle.ptu_outside.specs.Handing.{HasPut}
-use Rattle.ptu_audit.specs.Reading.{opening}
+use Rattle.ptu_report.proofs.Answered.{answers_also, answers_none, fails_also}
+use Rattle.ptu_audit.specs.Reading.{audit_rules, opening}
 use Rattle.ptu_audit.specs.Texts.{answer_text}
 use Rattle.ptu_audit.proofs.Answering.{answer_is, lines_are, told}
 use Rattle.ptu_audit.proofs.Promises.{answer_kept, whole_read}
@@ -41,3 +42,15 @@ returns-clause-exact g c = λ input is.
 pub returns-clause-written : goal.returns-clause-written
 returns-clause-written g c = λ input is.
     refusal_written g.K.Sink.written g.K.Sink.handed c.args.sink.now c.run.new.sink c.args.capacity input c.in-Err.fault (rw c.in-Err.is at (c.run.ensures.whole (opening c.args.capacity) c.new-auditor.ensures input is))
+
+pub returns-in-Ok-answer-clause-ran : goal.returns-in-Ok-answer-clause-ran
+returns-in-Ok-answer-clause-ran g c =
+    answers_also g.S.Source g.K.Sink c.args.source.now c.run.new.source c.args.sink.now c.run.new.sink audit_rules (opening c.args.capacity) _ _ _ (rw c.in-Ok.is at (c.run.ensures.ran (opening c.args.capacity) c.new-auditor.ensures))
+
+pub returns-in-Ok-clause-ran : goal.returns-in-Ok-clause-ran
+returns-in-Ok-clause-ran g c =
+    answers_none g.S.Source g.K.Sink c.args.source.now c.run.new.source c.args.sink.now c.run.new.sink audit_rules (opening c.args.capacity) _ _ refl _ (rw c.in-Ok.is at (c.run.ensures.ran (opening c.args.capacity) c.new-auditor.ensures))
+
+pub returns-clause-ran : goal.returns-clause-ran
+returns-clause-ran g c =
+    fails_also g.S.Source g.K.Sink c.args.source.now c.run.new.source c.args.sink.now c.run.new.sink audit_rules (opening c.args.capacity) _ c.in-Err.fault c.run.result _ c.in-Err.is refl (c.run.ensures.ran (opening c.args.capacity) c.new-auditor.ensures)

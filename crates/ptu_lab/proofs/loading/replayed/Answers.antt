@@ -11,4 +11,4 @@ returns-clause-numbers c =
 pub returns-clause-cause : goal.returns-clause-cause
 returns-clause-cause c = λ n least most is.
     causes _ _ _ _ c.args.octets.now _ c.replay.result (n + 33) (whole_script c.args.octets.now _ n least most is) (c.replay.ensures.whole c.args.octets.now refl)
-    c.replay.ensures.source_counts c.replay.ensures.sink_counts
+    c.replay.ensures.ran.source_counts c.replay.ensures.ran.sink_counts

@@ -1,4 +1,4 @@
-use Rattle.std.proofs.Common.{◌≡◌, ◌∙◌, true, false, Err, refl, sym, ap, subst, [], ◌++◌, arith}
+use Rattle.std.proofs.Common.{rules, ◌≡◌, ◌∙◌, true, false, Err, refl, sym, ap, subst, [], ◌++◌, arith}
 use Rattle.std.proofs.lemmas.Result.{err_from_is_err_and}
 use Rattle.ptu_outside.proofs.Putting.{HasPutPart-none}
 use Rattle.ptu_lines.proofs.Giving.{Gives-append, Gives-none}
@@ -6,6 +6,9 @@ use Rattle.ptu_report.specs.declared.stop.Stop.TheVariants.{Read}
 use Rattle.ptu_report.specs.Reported.{HasReportedAllRead}
 use Rattle.ptu_report.proofs.Underway.{Progress-start, all_read, ended, few_taken, in_part, means_last, one_more}
 use Rattle.ptu_report.proofs.driver.report.Goals as goal
+
+pub returns-in_err-reader-clause-bounded : goal.returns-in_err-reader-clause-bounded
+returns-in_err-reader-clause-bounded g c = record { taken = search rules; ends = search rules }
 
 pub returns-in_err-reader-clause-part : goal.returns-in_err-reader-clause-part
 returns-in_err-reader-clause-part g c =
@@ -63,10 +66,12 @@ returns-in_err-ended-clause-all_read g c = λ h m st.
     subst (λ k. HasReportedAllRead g.K.Sink.written g.K.Sink.handed c.args.sink.now k g.R.Reporter.rules m (g.S.Source.left c.args.source.now) (g.S.Source.left c.one_line.new.source)) (sym (c.in_err-ended.ensures.nothing (ap (λ s. Err s) read)))
     (all_read g.K.Sink.written g.K.Sink.handed g.R.Reporter.rules (g.R.Reporter.stands_for c.lines.reporter) m c.in_ok-reader.reader c.lines.reader (g.S.Source.left c.args.source.now) (g.S.Source.left c.lines.source) c.args.sink.now c.lines.sink c.in_ok-reader.ensures p c.one_line.new.reader (g.S.Source.left c.one_line.new.source) (c.in_err-ended.ensures.stopped (ap (λ s. Err s) read)))
 
-pub returns-in_err-ended-clause-taken : goal.returns-in_err-ended-clause-taken
-returns-in_err-ended-clause-taken g c =
-    few_taken c.in_ok-reader.reader c.one_line.new.reader (g.S.Source.left c.args.source.now) (g.S.Source.left c.one_line.new.source) (c.lines.invariant.gives.0 ++ c.in_err-ended.ensures.gives.0) c.in_ok-reader.ensures
-    (Gives-append c.in_ok-reader.reader c.lines.reader c.one_line.new.reader (g.S.Source.left c.args.source.now) (g.S.Source.left c.lines.source) (g.S.Source.left c.one_line.new.source) c.lines.invariant.gives.0 c.in_err-ended.ensures.gives.0 c.lines.invariant.gives.1 c.in_err-ended.ensures.gives.1) c.in_err-ended.ensures.bounded
+pub returns-in_err-ended-clause-bounded : goal.returns-in_err-ended-clause-bounded
+returns-in_err-ended-clause-bounded g c = record {
+  ends = search rules;
+  taken = few_taken c.in_ok-reader.reader c.one_line.new.reader (g.S.Source.left c.args.source.now) (g.S.Source.left c.one_line.new.source) (c.lines.invariant.gives.0 ++ c.in_err-ended.ensures.gives.0) c.in_ok-reader.ensures
+      (Gives-append c.in_ok-reader.reader c.lines.reader c.one_line.new.reader (g.S.Source.left c.args.source.now) (g.S.Source.left c.lines.source) (g.S.Source.left c.one_line.new.source) c.lines.invariant.gives.0 c.in_err-ended.ensures.gives.0 c.lines.invariant.gives.1 c.in_err-ended.ensures.gives.1) c.in_err-ended.ensures.bounded;
+}
 
 pub returns-in-Some-clause-whole : goal.returns-in-Some-clause-whole
 returns-in-Some-clause-whole g c = λ m st input told.
@@ -78,7 +83,9 @@ returns-in-Some-clause-last g c = λ whole m st input told.
     let p = c.lines.invariant.progress m st in
     means_last g.K.Sink.written g.K.Sink.handed g.R.Reporter.rules (g.R.Reporter.stands_for c.lines.reporter) m c.in_ok-reader.reader c.lines.reader (g.S.Source.left c.args.source.now) (g.S.Source.left c.lines.source) c.args.sink.now c.lines.sink c.in_ok-reader.ensures p input told (g.R.Reporter.stands_for c.one_line.new.reporter) c.one_line.new.reader (g.S.Source.left c.one_line.new.source) c.one_line.new.sink c.in-Some.ending (rw c.in-Some.is at (c.in_ok-ended.ensures.stepped p.after p.stands_now)) whole
 
-pub returns-in-Some-clause-taken : goal.returns-in-Some-clause-taken
-returns-in-Some-clause-taken g c =
-    few_taken c.in_ok-reader.reader c.one_line.new.reader (g.S.Source.left c.args.source.now) (g.S.Source.left c.one_line.new.source) (c.lines.invariant.gives.0 ++ c.in_ok-ended.ensures.gives.0) c.in_ok-reader.ensures
-    (Gives-append c.in_ok-reader.reader c.lines.reader c.one_line.new.reader (g.S.Source.left c.args.source.now) (g.S.Source.left c.lines.source) (g.S.Source.left c.one_line.new.source) c.lines.invariant.gives.0 c.in_ok-ended.ensures.gives.0 c.lines.invariant.gives.1 c.in_ok-ended.ensures.gives.1) c.in_ok-ended.ensures.bounded
+pub returns-in-Some-clause-bounded : goal.returns-in-Some-clause-bounded
+returns-in-Some-clause-bounded g c = record {
+  ends = search rules;
+  taken = few_taken c.in_ok-reader.reader c.one_line.new.reader (g.S.Source.left c.args.source.now) (g.S.Source.left c.one_line.new.source) (c.lines.invariant.gives.0 ++ c.in_ok-ended.ensures.gives.0) c.in_ok-reader.ensures
+      (Gives-append c.in_ok-reader.reader c.lines.reader c.one_line.new.reader (g.S.Source.left c.args.source.now) (g.S.Source.left c.lines.source) (g.S.Source.left c.one_line.new.source) c.lines.invariant.gives.0 c.in_ok-ended.ensures.gives.0 c.lines.invariant.gives.1 c.in_ok-ended.ensures.gives.1) c.in_ok-ended.ensures.bounded;
+}

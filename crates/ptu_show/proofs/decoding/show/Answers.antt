@@ -1,16 +1,13 @@
-use Rattle.ptu_show.proofs.Answered.{causes_shown, has_shown}
+use Rattle.ptu_report.proofs.Answered.{ends_written, has_written}
+use Rattle.ptu_show.specs.Shown.{HasShowCause, show_rules}
+use Rattle.ptu_show.proofs.ShowCauses.{shown_ending-causes}
 use Rattle.ptu_show.proofs.decoding.show.Goals as goal
 
 pub returns-clause-whole : goal.returns-clause-whole
-returns-clause-whole g c = λ input told.
-    has_shown g.K.Sink.written g.K.Sink.handed c.args.sink.now c.run.new.sink input c.run.result (c.run.ensures.whole tt tt input told)
+returns-clause-whole g c = λ input told. has_written g.K.Sink.written g.K.Sink.handed c.args.sink.now c.run.new.sink show_rules tt _ c.run.result (c.run.ensures.whole tt tt input told)
 
 pub returns-clause-causes : goal.returns-clause-causes
-returns-clause-causes g c = λ input told.
-    causes_shown g.K.Sink.written g.K.Sink.handed c.args.sink.now c.run.new.sink input c.run.result (c.run.ensures.whole tt tt input told)
+returns-clause-causes g c = λ input told. ends_written g.K.Sink.written g.K.Sink.handed c.args.sink.now c.run.new.sink show_rules tt _ c.run.result (c.run.ensures.whole tt tt input told) HasShowCause (shown_ending-causes input)
 
-pub returns-clause-front : goal.returns-clause-front
-returns-clause-front g c = λ input told. c.run.ensures.front tt tt input told
-
-pub returns-clause-all_read : goal.returns-clause-all_read
-returns-clause-all_read g c = λ failed. c.run.ensures.all_read failed tt tt
+pub returns-clause-ran : goal.returns-clause-ran
+returns-clause-ran g c = c.run.ensures.ran tt tt
