@@ -1,15 +1,19 @@
 -- Which worlds the lab stands for.
-use Rattle.std.specs.Prelude.{◌≡◌, ℕ, Bool, nat_eq, List, length, Option, Some, None}
+use Rattle.std.specs.Prelude.{◌≡◌, ℕ, Bool, nat_eq, List, length, map, Option, Some, None}
 use Rattle.std.specs.HashMap.{get}
+use Rattle.std.specs.declared.dyn_box.DynBox.{DynBox}
 use Rattle.ptu_outside.specs.MemoryPort.{MemoryPort}
 use Rattle.ptu_judges.specs.Held.{Held, IsStock}
-use Rattle.ptu_slave.specs.Seen.{Seen}
+use Rattle.ptu_judges.specs.declared.judge.Judge.{Ghosts}
+use Rattle.ptu_slave.specs.Seen.{Seen, seen}
 use Rattle.ptu_world.specs.Deeds as world
 use Rattle.ptu_world.specs.World.{node_at}
 use Rattle.ptu_units.specs.Counts.{counted}
 use Rattle.ptu_world.specs.Report.{Course}
 use Rattle.ptu_lab.specs.declared.slave_node.SlaveNode.{SlaveNode}
-use Rattle.ptu_lab.specs.NodeStanding.{StandsAsNode}
+use Rattle.ptu_lab.specs.NodeStanding.{IsNode, StandsAsNode}
+use Rattle.ptu_nodes.specs.Doing.{HasDone}
+use Rattle.ptu_nodes.specs.Noted.{Noted}
 use Rattle.ptu_nodes.specs.Standing.{StandsAsGrandmaster}
 use Rattle.ptu_lab.specs.declared.lab.Node.{Node}
 use Rattle.ptu_lab.specs.declared.lab.Node.TheVariants as nodes
@@ -43,3 +47,19 @@ module _ {J B : Type 0} {I : J → Type 0} (see : SlaveNode J I → Seen MemoryP
     pub stock : IsStock flag_judges gap_judges
     pub granted : lab.journal.granted ≡ counted c.granted
     pub short : lab.journal.short ≡ counted c.short
+
+-- the same, by what the members of each judge mean
+module _ {X : Type 0} {F : X → Type 0} (judge : (i : X) → Ghosts (F i)) where
+  abbrev pub NodeStandsAs : ℕ → Bool → Node X F → world.Node → Type 0
+  NodeStandsAs ip begun node w = StandsAs (λ n. seen judge n.slave) ip begun node w
+
+  abbrev pub LabStandsFor : Lab X F → Course → Type 0
+  LabStandsFor lab c =
+      StandsFor (λ n. seen judge n.slave) (map (λ j. (judge j.vtable).held j.value) lab.stock.flags.items)
+      (map (λ j. (judge j.vtable).held j.value) lab.stock.gaps.items) lab c
+
+  -- whatever slave of a world it stood for, a slave did the deed of that one
+  abbrev pub HasDoneAsSlave : (old new : SlaveNode X F) → (world.Slave → world.Deed) → (noted noted' : Noted) → Type 0
+  HasDoneAsSlave old new deed noted noted' = (begun : Bool) (s : world.Slave)
+      → IsNode old.ip (seen judge old.slave) begun s
+      → HasDone (StandsAsNode new.ip (seen judge new.slave) true) old.ip (deed s) noted noted'

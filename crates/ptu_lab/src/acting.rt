@@ -2,13 +2,12 @@
 ghost use Rattle.std.specs.Prelude.{◌≡◌, ℕ, Bool, [], true, map, IfOk, OnOk};
 ghost use Rattle.ptu_judges.specs.Held.{IsStock};
 ghost use Rattle.ptu_script.specs.declared.command.Command.TheVariants as commands;
-ghost use Rattle.ptu_slave.specs.Seen.{seen};
 ghost use Rattle.ptu_world.specs.Deeds as world;
 ghost use Rattle.ptu_world.specs.Report.{Course};
 ghost use Rattle.ptu_nodes.specs.Standing.{IsGrandmasterNode, StandsAsGrandmaster};
 ghost use Rattle.ptu_lab.specs.Acts.{IsActWithin, act_deed, command_of, stock_after};
 ghost use Rattle.ptu_lab.specs.Steps.{HasActed, HasActedLeaving, HasStepped, stock_of};
-ghost use Rattle.ptu_lab.specs.Standing.{StandsAs, StandsFor};
+ghost use Rattle.ptu_lab.specs.Standing.{LabStandsFor, NodeStandsAs};
 
 use crate::act::Act;
 use crate::lab::{Lab, Node};
@@ -72,14 +71,13 @@ impl Node {
         journal: &mut Journal,
     ) -> Result<Option<Cause>, OutOfMemory>
         requires means { (ip : ℕ) × (begun : Bool) × (w : world.Node)
-            × StandsAs (λ n. seen ⟦<dyn Judge as Judge>⟧ n.slave) ip begun self.old w }
+            × NodeStandsAs ⟦<dyn Judge as Judge>⟧ ip begun self.old w }
         requires stock { IsStock (map (λ j. held j) stock.old.flags.items)
             (map (λ j. held j) stock.old.gaps.items) }
         requires within { IsActWithin act }
         ensures { IfOk result (λ refused. (ip : ℕ) (begun : Bool) (w : world.Node) →
-            StandsAs (λ n. seen ⟦<dyn Judge as Judge>⟧ n.slave) ip begun self.old w →
-            HasActedLeaving (StandsAs
-            (λ n. seen ⟦<dyn Judge as Judge>⟧ n.slave) ip true self.new)
+            NodeStandsAs ⟦<dyn Judge as Judge>⟧ ip begun self.old w →
+            HasActedLeaving (NodeStandsAs ⟦<dyn Judge as Judge>⟧ ip true self.new)
             ip journal.old journal.new (map (λ j. held j) stock.new.flags.items)
             (map (λ j. held j) stock.new.gaps.items) (act_deed at act.entry w)
             (stock_after act.entry (stock_of (map (λ j. held j) stock.old.flags.items)
@@ -108,19 +106,12 @@ impl Lab {
     /// # Errors
     /// `OutOfMemory`.
     pub fn act(&mut self, at: Moment, ip: u32, act: Act<'_>) -> Result<Option<Cause>, OutOfMemory>
-        requires means { (c : Course) × StandsFor
-            (λ n. seen ⟦<dyn Judge as Judge>⟧ n.slave)
-            (map (λ j. held j) self.old.stock.flags.items)
-            (map (λ j. held j) self.old.stock.gaps.items) self.old c }
+        requires means { (c : Course) × LabStandsFor ⟦<dyn Judge as Judge>⟧ self.old c }
         requires within { IsActWithin act }
         requires empty { self.old.journal.texts ≡ [] }
         ensures { IfOk result (HasStepped self.old.journal.line
-            (StandsFor (λ n. seen ⟦<dyn Judge as Judge>⟧ n.slave)
-            (map (λ j. held j) self.old.stock.flags.items)
-            (map (λ j. held j) self.old.stock.gaps.items) self.old)
-            (StandsFor (λ n. seen ⟦<dyn Judge as Judge>⟧ n.slave)
-            (map (λ j. held j) self.new.stock.flags.items)
-            (map (λ j. held j) self.new.stock.gaps.items) self.new)
+            (LabStandsFor ⟦<dyn Judge as Judge>⟧ self.old)
+            (LabStandsFor ⟦<dyn Judge as Judge>⟧ self.new)
             self.new.journal.texts (command_of ip at act.entry)) }
     {
         match self.nodes.get_mut(&ip) {
@@ -144,18 +135,11 @@ impl Lab {
         number: u64,
         room: &mut Vec<u8>,
     ) -> Result<Option<Cause>, OutOfMemory>
-        requires means { (c : Course) × StandsFor
-            (λ n. seen ⟦<dyn Judge as Judge>⟧ n.slave)
-            (map (λ j. held j) self.old.stock.flags.items)
-            (map (λ j. held j) self.old.stock.gaps.items) self.old c }
+        requires means { (c : Course) × LabStandsFor ⟦<dyn Judge as Judge>⟧ self.old c }
         requires empty { self.old.journal.texts ≡ [] }
         ensures { IfOk result (HasStepped self.old.journal.line
-            (StandsFor (λ n. seen ⟦<dyn Judge as Judge>⟧ n.slave)
-            (map (λ j. held j) self.old.stock.flags.items)
-            (map (λ j. held j) self.old.stock.gaps.items) self.old)
-            (StandsFor (λ n. seen ⟦<dyn Judge as Judge>⟧ n.slave)
-            (map (λ j. held j) self.new.stock.flags.items)
-            (map (λ j. held j) self.new.stock.gaps.items) self.new)
+            (LabStandsFor ⟦<dyn Judge as Judge>⟧ self.old)
+            (LabStandsFor ⟦<dyn Judge as Judge>⟧ self.new)
             self.new.journal.texts (commands.Deliver at number)) }
     {
         let Some(sent) = datagram_of(self.journal.sent(), number) else {

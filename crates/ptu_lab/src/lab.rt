@@ -1,13 +1,12 @@
-ghost use Rattle.std.specs.Prelude.{◌≡◌, [], map, length, IfOk};
+ghost use Rattle.std.specs.Prelude.{◌≡◌, [], map, IfOk};
 ghost use Rattle.ptu_judges.specs.Held.{IsStock};
 ghost use Rattle.ptu_report.specs.Rules.{IsOutcome};
 ghost use Rattle.ptu_script.specs.Limits.{IsWithinLimits};
 ghost use Rattle.ptu_world.specs.World.{step};
 ghost use Rattle.ptu_world.specs.Report.{Course, course_opening, outcome_by};
-ghost use Rattle.ptu_slave.specs.Seen.{seen};
 ghost use Rattle.ptu_lab.specs.Orders.{IsOrderWithin, command_in};
-ghost use Rattle.ptu_lab.specs.Standing.{StandsFor};
-ghost use Rattle.ptu_lab.specs.Steps.{HasStepped};
+ghost use Rattle.ptu_lab.specs.Standing.{LabStandsFor};
+ghost use Rattle.ptu_lab.specs.Steps.{HasStepped, stock_of};
 
 use crate::order::{Order, order_of};
 use crate::slave_node::SlaveNode;
@@ -45,10 +44,8 @@ impl Lab {
     pub fn new(alloc: Global, stock: Stock) -> Lab
         requires { IsStock (map (λ j. held j) stock.flags.items)
             (map (λ j. held j) stock.gaps.items) }
-        ensures opening { StandsFor (λ n. seen ⟦<dyn Judge as Judge>⟧ n.slave)
-            (map (λ j. held j) result.stock.flags.items)
-            (map (λ j. held j) result.stock.gaps.items) result (course_opening
-            (record { flags = length stock.flags.items; gaps = length stock.gaps.items })) }
+        ensures opening { LabStandsFor ⟦<dyn Judge as Judge>⟧ result (course_opening
+            (stock_of stock.flags.items stock.gaps.items)) }
     {
         Lab {
             nodes: HashMap::new(alloc),
@@ -73,19 +70,12 @@ impl Lab {
         room: &mut Vec<u8>,
         texts: &mut Texts,
     ) -> Result<Option<Cause>, OutOfMemory>
-        requires means { (c : Course) × StandsFor
-            (λ n. seen ⟦<dyn Judge as Judge>⟧ n.slave)
-            (map (λ j. held j) self.old.stock.flags.items)
-            (map (λ j. held j) self.old.stock.gaps.items) self.old c }
+        requires means { (c : Course) × LabStandsFor ⟦<dyn Judge as Judge>⟧ self.old c }
         requires limits { IsWithinLimits command }
         ensures { IfOk result (λ refused. (c : Course) →
-            StandsFor (λ n. seen ⟦<dyn Judge as Judge>⟧ n.slave)
-            (map (λ j. held j) self.old.stock.flags.items)
-            (map (λ j. held j) self.old.stock.gaps.items) self.old c →
+            LabStandsFor ⟦<dyn Judge as Judge>⟧ self.old c →
             IsOutcome (outcome_by c line (step c.world command.entry))
-            (λ after. StandsFor (λ n. seen ⟦<dyn Judge as Judge>⟧ n.slave)
-            (map (λ j. held j) self.new.stock.flags.items)
-            (map (λ j. held j) self.new.stock.gaps.items) self.new after) texts.new refused) }
+            (λ after. LabStandsFor ⟦<dyn Judge as Judge>⟧ self.new after) texts.new refused) }
     {
         self.journal.begin(line);
         let refused = self.obey(order_of(command), room)?;
@@ -95,19 +85,12 @@ impl Lab {
 
     // Does what is asked at the line that the journal has begun.
     fn obey(&mut self, order: Order<'_>, room: &mut Vec<u8>) -> Result<Option<Cause>, OutOfMemory>
-        requires means { (c : Course) × StandsFor
-            (λ n. seen ⟦<dyn Judge as Judge>⟧ n.slave)
-            (map (λ j. held j) self.old.stock.flags.items)
-            (map (λ j. held j) self.old.stock.gaps.items) self.old c }
+        requires means { (c : Course) × LabStandsFor ⟦<dyn Judge as Judge>⟧ self.old c }
         requires within { IsOrderWithin order }
         requires empty { self.old.journal.texts ≡ [] }
         ensures { IfOk result (HasStepped self.old.journal.line
-            (StandsFor (λ n. seen ⟦<dyn Judge as Judge>⟧ n.slave)
-            (map (λ j. held j) self.old.stock.flags.items)
-            (map (λ j. held j) self.old.stock.gaps.items) self.old)
-            (StandsFor (λ n. seen ⟦<dyn Judge as Judge>⟧ n.slave)
-            (map (λ j. held j) self.new.stock.flags.items)
-            (map (λ j. held j) self.new.stock.gaps.items) self.new)
+            (LabStandsFor ⟦<dyn Judge as Judge>⟧ self.old)
+            (LabStandsFor ⟦<dyn Judge as Judge>⟧ self.new)
             self.new.journal.texts (command_in order.entry)) }
     {
         match order {

@@ -1,15 +1,14 @@
 //! The lab's nodes are set up.
-ghost use Rattle.std.specs.Prelude.{◌≡◌, ℕ, [], map, false, cond, nat_eq, Some, None, IfOk};
+ghost use Rattle.std.specs.Prelude.{◌≡◌, ℕ, [], false, cond, nat_eq, Some, None, IfOk};
 ghost use Rattle.std.specs.Option.{MatchOption};
 ghost use Rattle.std.specs.HashMap.{get};
 ghost use Rattle.ptu_script.specs.Limits.{IsGrandmasterWithin, IsNamed, IsSlaveWithin};
 ghost use Rattle.ptu_script.specs.declared.command.Command.TheVariants as commands;
 ghost use Rattle.ptu_world.specs.Deeds as world;
 ghost use Rattle.ptu_world.specs.Report.{Course};
-ghost use Rattle.ptu_slave.specs.Seen.{seen};
 ghost use Rattle.ptu_lab.specs.declared.lab.Node.TheVariants as described;
 ghost use Rattle.ptu_lab.specs.Steps.{HasSetUp, HasStepped, IsNoSlave};
-ghost use Rattle.ptu_lab.specs.Standing.{StandsAs, StandsFor};
+ghost use Rattle.ptu_lab.specs.Standing.{LabStandsFor, NodeStandsAs};
 
 use crate::lab::{Lab, Node};
 use crate::slave_node::SlaveNode;
@@ -37,14 +36,10 @@ impl Lab {
     // A new node at an address that no other has, before the first event.
     fn set_up(&mut self, ip: u32, node: Node) -> Result<Option<Cause>, OutOfMemory>
         ensures made { IfOk result (λ refused. (w : world.Node) →
-            StandsAs (λ n. seen ⟦<dyn Judge as Judge>⟧ n.slave) ip false node w
+            NodeStandsAs ⟦<dyn Judge as Judge>⟧ ip false node w
             → HasSetUp
-            (StandsFor (λ n. seen ⟦<dyn Judge as Judge>⟧ n.slave)
-            (map (λ j. held j) self.old.stock.flags.items)
-            (map (λ j. held j) self.old.stock.gaps.items) self.old)
-            (StandsFor (λ n. seen ⟦<dyn Judge as Judge>⟧ n.slave)
-            (map (λ j. held j) self.new.stock.flags.items)
-            (map (λ j. held j) self.new.stock.gaps.items) self.new)
+            (LabStandsFor ⟦<dyn Judge as Judge>⟧ self.old)
+            (LabStandsFor ⟦<dyn Judge as Judge>⟧ self.new)
             ip w refused) }
         ensures journal { self.new.journal ≡ self.old.journal }
     {
@@ -68,12 +63,8 @@ impl Lab {
     ) -> Result<Option<Cause>, OutOfMemory>
         requires limits { IsGrandmasterWithin setup.now }
         ensures made { IfOk result (λ refused. (line : ℕ) → HasStepped line
-            (StandsFor (λ n. seen ⟦<dyn Judge as Judge>⟧ n.slave)
-            (map (λ j. held j) self.old.stock.flags.items)
-            (map (λ j. held j) self.old.stock.gaps.items) self.old)
-            (StandsFor (λ n. seen ⟦<dyn Judge as Judge>⟧ n.slave)
-            (map (λ j. held j) self.new.stock.flags.items)
-            (map (λ j. held j) self.new.stock.gaps.items) self.new)
+            (LabStandsFor ⟦<dyn Judge as Judge>⟧ self.old)
+            (LabStandsFor ⟦<dyn Judge as Judge>⟧ self.new)
             [] (commands.Grandmaster setup.now) refused) }
         ensures journal { self.new.journal ≡ self.old.journal }
     {
@@ -88,12 +79,8 @@ impl Lab {
     pub fn set_up_slave(&mut self, setup: &SlaveSetup) -> Result<Option<Cause>, OutOfMemory>
         requires limits { IsSlaveWithin setup.now }
         ensures made { IfOk result (λ refused. (line : ℕ) → HasStepped line
-            (StandsFor (λ n. seen ⟦<dyn Judge as Judge>⟧ n.slave)
-            (map (λ j. held j) self.old.stock.flags.items)
-            (map (λ j. held j) self.old.stock.gaps.items) self.old)
-            (StandsFor (λ n. seen ⟦<dyn Judge as Judge>⟧ n.slave)
-            (map (λ j. held j) self.new.stock.flags.items)
-            (map (λ j. held j) self.new.stock.gaps.items) self.new)
+            (LabStandsFor ⟦<dyn Judge as Judge>⟧ self.old)
+            (LabStandsFor ⟦<dyn Judge as Judge>⟧ self.new)
             [] (commands.Slave setup.now) refused) }
         ensures journal { self.new.journal ≡ self.old.journal }
     {
@@ -112,18 +99,11 @@ impl Lab {
         priority: u8,
         rule: Rule,
     ) -> Result<Option<Cause>, OutOfMemory>
-        requires means { (c : Course) × StandsFor
-            (λ n. seen ⟦<dyn Judge as Judge>⟧ n.slave)
-            (map (λ j. held j) self.old.stock.flags.items)
-            (map (λ j. held j) self.old.stock.gaps.items) self.old c }
+        requires means { (c : Course) × LabStandsFor ⟦<dyn Judge as Judge>⟧ self.old c }
         requires named { IsNamed rule }
         ensures made { IfOk result (λ refused. (line : ℕ) → HasStepped line
-            (StandsFor (λ n. seen ⟦<dyn Judge as Judge>⟧ n.slave)
-            (map (λ j. held j) self.old.stock.flags.items)
-            (map (λ j. held j) self.old.stock.gaps.items) self.old)
-            (StandsFor (λ n. seen ⟦<dyn Judge as Judge>⟧ n.slave)
-            (map (λ j. held j) self.new.stock.flags.items)
-            (map (λ j. held j) self.new.stock.gaps.items) self.new)
+            (LabStandsFor ⟦<dyn Judge as Judge>⟧ self.old)
+            (LabStandsFor ⟦<dyn Judge as Judge>⟧ self.new)
             [] (commands.Master slave ip priority rule) refused) }
         ensures journal { self.new.journal ≡ self.old.journal }
     {

@@ -22,6 +22,7 @@ ghost use Rattle.ptu_lab.specs.Acts.{IsActWithin, act_deed, of_master, stock_aft
 ghost use Rattle.ptu_lab.specs.NodeStanding.{IsNode, StandsAsNode};
 ghost use Rattle.ptu_lab.specs.SlaveStatements.{IsOfOne};
 ghost use Rattle.ptu_lab.specs.SlaveWords.{HasRoom, HasSteppedTo, new_config, selection_by};
+ghost use Rattle.ptu_lab.specs.Standing.{HasDoneAsSlave};
 ghost use Rattle.ptu_lab.specs.Steps.{HasActed, HasActedLeaving, stock_of};
 
 use crate::act::Act;
@@ -171,10 +172,8 @@ impl SlaveNode {
         journal: &mut Journal,
     ) -> Result<(), OutOfMemory>
         ensures ip { self.new.ip ≡ self.old.ip }
-        ensures done { OnOk result ((begun : Bool) (s : Described) →
-            IsNode self.old.ip (seen ⟦<dyn Judge as Judge>⟧ self.old.slave) begun s →
-            HasDone (StandsAsNode self.new.ip (seen ⟦<dyn Judge as Judge>⟧ self.new.slave) true)
-            self.old.ip (datagram_deed s at from octets.now) journal.old journal.new) }
+        ensures done { OnOk result (HasDoneAsSlave ⟦<dyn Judge as Judge>⟧ self.old self.new
+            (λ s. datagram_deed s at from octets.now) journal.old journal.new) }
     {
         let heard = take(journal.alloc(), &mut self.slave, at, from, octets)?;
         say_heard(&heard, self.slave.masters(), journal)?;
@@ -187,10 +186,8 @@ impl SlaveNode {
     // A tick.
     fn tick(&mut self, at: Moment, journal: &mut Journal) -> Result<(), OutOfMemory>
         ensures ip { self.new.ip ≡ self.old.ip }
-        ensures done { OnOk result ((begun : Bool) (s : Described) →
-            IsNode self.old.ip (seen ⟦<dyn Judge as Judge>⟧ self.old.slave) begun s →
-            HasDone (StandsAsNode self.new.ip (seen ⟦<dyn Judge as Judge>⟧ self.new.slave) true)
-            self.old.ip (plain_deed s at Tick) journal.old journal.new) }
+        ensures done { OnOk result (HasDoneAsSlave ⟦<dyn Judge as Judge>⟧ self.old self.new
+            (λ s. plain_deed s at Tick) journal.old journal.new) }
     {
         tick(journal.alloc(), &mut self.slave, at)?;
         self.conclude(at, journal)
@@ -199,10 +196,8 @@ impl SlaveNode {
     // The stop.
     fn stop(&mut self, at: Moment, journal: &mut Journal) -> Result<(), OutOfMemory>
         ensures ip { self.new.ip ≡ self.old.ip }
-        ensures done { OnOk result ((begun : Bool) (s : Described) →
-            IsNode self.old.ip (seen ⟦<dyn Judge as Judge>⟧ self.old.slave) begun s →
-            HasDone (StandsAsNode self.new.ip (seen ⟦<dyn Judge as Judge>⟧ self.new.slave) true)
-            self.old.ip (plain_deed s at Stop) journal.old journal.new) }
+        ensures done { OnOk result (HasDoneAsSlave ⟦<dyn Judge as Judge>⟧ self.old self.new
+            (λ s. plain_deed s at Stop) journal.old journal.new) }
     {
         stop(journal.alloc(), &mut self.slave, at)?;
         self.conclude(at, journal)
@@ -241,10 +236,8 @@ impl SlaveNode {
     ) -> Result<(), OutOfMemory>
         requires { master < length (seen ⟦<dyn Judge as Judge>⟧ self.old.slave).kept.masters }
         ensures ip { self.new.ip ≡ self.old.ip }
-        ensures done { OnOk result ((begun : Bool) (s : Described) →
-            IsNode self.old.ip (seen ⟦<dyn Judge as Judge>⟧ self.old.slave) begun s →
-            HasDone (StandsAsNode self.new.ip (seen ⟦<dyn Judge as Judge>⟧ self.new.slave) true)
-            self.old.ip (plain_deed s at (TellFlag master unusable)) journal.old journal.new) }
+        ensures done { OnOk result (HasDoneAsSlave ⟦<dyn Judge as Judge>⟧ self.old self.new
+            (λ s. plain_deed s at (TellFlag master unusable)) journal.old journal.new) }
     {
         self.slave.flag(at, master, unusable);
         self.say_selected(at, journal)
