@@ -1,7 +1,8 @@
 -- What a status says of the answer that it stands for.
 use Rattle.std.proofs.Common.{◌≡◌, ◌∙◌, ℕ, ◌++◌, arith, lit<, Bool, true, false, List, [], ◌∷◌, Option, Result, Ok, Err, refl, sym, ap, inl, inr}
-use Rattle.std.specs.Prelude.{◌≢◌, ◌⊎◌, Contains, OnOk, if◌then◌else◌}
+use Rattle.std.specs.Prelude.{◌≢◌, ◌⊎◌, ◌≤◌, Contains, OnOk, if◌then◌else◌}
 use Rattle.std.specs.Io.KnownBytes.{IsAtEnd, append_known}
+use Rattle.ptu_outside.specs.declared.source.Source.{Ghosts as Sources}
 use Rattle.ptu_outside.specs.Faults.{HasRisen}
 use Rattle.ptu_outside.specs.Handing.{HasPut, joined}
 use Rattle.ptu_lines.specs.declared.cause.LineCause.{LineCause}
@@ -9,7 +10,7 @@ use Rattle.ptu_report.specs.declared.ending.Ending.{Ending}
 use Rattle.ptu_report.specs.declared.ending.Ending.TheVariants.{Whole, Refused}
 use Rattle.ptu_report.specs.declared.fault.RunFault.{RunFault}
 use Rattle.ptu_report.specs.declared.fault.RunFault.TheVariants.{Line, Read, Write, OutOfMemory}
-use Rattle.ptu_report.specs.Runs.{CountsRead, CountsWrite, IfWritten}
+use Rattle.ptu_report.specs.Runs.{CountsRead, CountsWrite, IfWritten, IsReadWithin}
 use Rattle.ptu_report.proofs.Answered.{written_weaker}
 use Rattle.ptu_report_lines.specs.declared.report_line.ReportLine.{ReportLine}
 use Rattle.ptu_report_lines.specs.declared.report_line.ReportLine.TheVariants.{At, End}
@@ -25,18 +26,102 @@ use Rattle.ptu_pool_run.specs.declared.cause.PoolCause.{PoolCause}
 use Rattle.ptu_pool_run.specs.Answers.{HasPoured}
 use Rattle.ptu_words.specs.declared.command.Command.{Command}
 use Rattle.ptu_words.specs.declared.command.Command.TheVariants.{Join, Pools, Replay, Show}
-use Rattle.ptpuni.specs.Run.{HasRun, IsStatusOf, ends_whole, has_end, is_whole, output_of, status_of_answer, statuses}
+use Rattle.ptpuni.specs.Answers.{AreFaultsAnswered, HasEnded, IsFaultAnswered}
+use Rattle.ptpuni.specs.Run.{HasRun, HasRunUnlessFailed, IsStatusOf, ends_whole, has_end, is_whole, output_of, status_by, status_of_answer, statuses}
 
--- ---- of every answer
+-- ---- the counts of faults
 
-module _ {A C : Type 0} where
-  pub is_status : (r : Result A (RunFault C)) → Contains statuses (status_of_answer r)
-  is_status (Ok x) = (0, lit< tt, refl)
+-- no count rose for a status that is none of a fault
+pub answered_still : (fault status old new : ℕ) → status ≢ fault → new ≡ old → IsFaultAnswered fault status old new
+answered_still fault status old new other same = record { risen = λ e. absurd (other e); still = λ _. same }
+
+pub answered_risen : (fault old new : ℕ) → HasRisen old new → IsFaultAnswered fault fault old new
+answered_risen fault old new rises = record { risen = λ _. rises; still = λ other. absurd (other refl) }
+
+-- a status that is none of a fault, where nothing was touched
+pub none_answered : (status reads writes opens : ℕ) → status ≢ 66 → status ≢ 67 → status ≢ 69 → AreFaultsAnswered status reads reads writes writes opens opens
+none_answered status reads writes opens read write opening = record {
+  source = answered_still 66 status reads reads read refl;
+  sink = answered_still 67 status writes writes write refl;
+  host = answered_still 69 status opens opens opening refl;
+}
+
+-- ---- of every answer, whose statuses without a fault are these
+
+no_fault : {A : Type 0} (found : A → ℕ) → ((x : A) → (found x ≡ 0) ⊎ (found x ≡ 70)) → (x : A) (n : ℕ) → 64 ≤ n → n ≤ 69 → found x ≢ n
+no_fault found is_found x n least most e =
+    elim (is_found x) [
+      | inl zero ↦ omega (arith, zero, least, most, e)
+      | inr kept ↦ omega (arith, kept, least, most, e)
+    ]
+
+module _ {A C : Type 0} (found : A → ℕ) (is_found : (x : A) → (found x ≡ 0) ⊎ (found x ≡ 70)) where
+  is_status : (r : Result A (RunFault C)) → Contains statuses (status_by found r)
+  is_status (Ok x) =
+      elim (is_found x) [
+        | inl zero ↦ (0, lit< tt, sym zero)
+        | inr kept ↦ (6, lit< tt, sym kept)
+      ]
   is_status (Err (Line number cause)) = (2, lit< tt, refl)
   is_status (Err Read) = (3, lit< tt, refl)
   is_status (Err Write) = (4, lit< tt, refl)
   is_status (Err OutOfMemory) = (7, lit< tt, refl)
 
+  no_usage : (r : Result A (RunFault C)) → status_by found r ≢ 64
+  no_usage (Ok x) e = no_fault found is_found x 64 (omega arith) (omega arith) e
+  no_usage (Err (Line number cause)) e = omega (arith, e)
+  no_usage (Err Read) e = omega (arith, e)
+  no_usage (Err Write) e = omega (arith, e)
+  no_usage (Err OutOfMemory) e = omega (arith, e)
+
+  -- 66 is answered where the source failed
+  pub read_failed : (r : Result A (RunFault C)) → status_by found r ≡ 66 → r ≡ Err Read
+  read_failed (Ok x) e = absurd (no_fault found is_found x 66 (omega arith) (omega arith) e)
+  read_failed (Err (Line number cause)) e = absurd (omega (arith, e))
+  read_failed (Err Read) e = refl
+  read_failed (Err Write) e = absurd (omega (arith, e))
+  read_failed (Err OutOfMemory) e = absurd (omega (arith, e))
+
+  module _ (reads reads' writes writes' opens : ℕ) where
+    faults_answered : (r : Result A (RunFault C)) → CountsRead r reads reads' → CountsWrite r writes writes'
+        → AreFaultsAnswered (status_by found r) reads reads' writes writes' opens opens
+    faults_answered (Ok x) read write = record {
+      source = answered_still 66 (found x) reads reads' (no_fault found is_found x 66 (omega arith) (omega arith)) read;
+      sink = answered_still 67 (found x) writes writes' (no_fault found is_found x 67 (omega arith) (omega arith)) write;
+      host = answered_still 69 (found x) opens opens (no_fault found is_found x 69 (omega arith) (omega arith)) refl;
+    }
+    faults_answered (Err (Line number cause)) read write = record {
+      source = answered_still 66 65 reads reads' (λ e. omega (arith, e)) read;
+      sink = answered_still 67 65 writes writes' (λ e. omega (arith, e)) write;
+      host = answered_still 69 65 opens opens (λ e. omega (arith, e)) refl;
+    }
+    faults_answered (Err Read) read write = record {
+      source = answered_risen 66 reads reads' read;
+      sink = answered_still 67 66 writes writes' (λ e. omega (arith, e)) write;
+      host = answered_still 69 66 opens opens (λ e. omega (arith, e)) refl;
+    }
+    faults_answered (Err Write) read write = record {
+      source = answered_still 66 67 reads reads' (λ e. omega (arith, e)) read;
+      sink = answered_risen 67 writes writes' write;
+      host = answered_still 69 67 opens opens (λ e. omega (arith, e)) refl;
+    }
+    faults_answered (Err OutOfMemory) read write = record {
+      source = answered_still 66 71 reads reads' (λ e. omega (arith, e)) read;
+      sink = answered_still 67 71 writes writes' (λ e. omega (arith, e)) write;
+      host = answered_still 69 71 opens opens (λ e. omega (arith, e)) refl;
+    }
+
+    pub ended_by : (r : Result A (RunFault C)) → CountsRead r reads reads' → CountsWrite r writes writes'
+        → HasEnded (status_by found r) reads reads' writes writes' opens opens
+    ended_by r read write = record { statuses = is_status r; other = no_usage r; faults = faults_answered r read write }
+
+-- of an answer that is 0 without a fault
+module _ {A C : Type 0} (reads reads' writes writes' opens : ℕ) where
+  pub has_ended : (r : Result A (RunFault C)) → CountsRead r reads reads' → CountsWrite r writes writes'
+      → HasEnded (status_of_answer r) reads reads' writes writes' opens opens
+  has_ended r read write = ended_by (λ (x : A). 0) (λ x. inl refl) reads reads' writes writes' opens r read write
+
+module _ {A C : Type 0} where
   -- it says that the output was written to its end
   abbrev pub IsWritten : Result A (RunFault C) → Type 0
   IsWritten (Ok x) = Unit {0}
@@ -45,7 +130,7 @@ module _ {A C : Type 0} where
   IsWritten (Err Write) = ⊥
   IsWritten (Err OutOfMemory) = ⊥
 
-  pub by_status : (r : Result A (RunFault C)) → (status_of_answer r ≡ 0) ⊎ (status_of_answer r ≡ 65) → IsWritten r
+  by_status : (r : Result A (RunFault C)) → (status_of_answer r ≡ 0) ⊎ (status_of_answer r ≡ 65) → IsWritten r
   by_status (Ok x) h = tt
   by_status (Err (Line number cause)) h = tt
   by_status (Err Read) (inl e) = omega (arith, e)
@@ -55,50 +140,31 @@ module _ {A C : Type 0} where
   by_status (Err OutOfMemory) (inl e) = omega (arith, e)
   by_status (Err OutOfMemory) (inr e) = omega (arith, e)
 
-  pub by_counts : (r : Result A (RunFault C)) (a b c d : ℕ) → CountsRead r a b → CountsWrite r c d → (HasRisen a b → ⊥) → (HasRisen c d → ⊥) → status_of_answer r ≢ 71 → IsWritten r
+  by_counts : (r : Result A (RunFault C)) (a b c d : ℕ) → CountsRead r a b → CountsWrite r c d → (HasRisen a b → ⊥) → (HasRisen c d → ⊥) → status_of_answer r ≢ 71 → IsWritten r
   by_counts (Ok x) a b c d reads writes no_read no_write memory = tt
   by_counts (Err (Line number cause)) a b c d reads writes no_read no_write memory = tt
   by_counts (Err Read) a b c d reads writes no_read no_write memory = no_read reads
   by_counts (Err Write) a b c d reads writes no_read no_write memory = no_write writes
   by_counts (Err OutOfMemory) a b c d reads writes no_read no_write memory = memory refl
 
--- ---- the counts of faults
+  -- a program whose output was written wherever its answer says so has run, unless it failed
+  pub unless_failed : {K : Type 0} (written : K → Option (List ℕ)) (handed : K → Option (List (List ℕ))) (old new : K) (stock : Stock) (command : Command) (input : List ℕ) (left : Option (List ℕ))
+      (r : Result A (RunFault C)) (a b c d : ℕ) → CountsRead r a b → CountsWrite r c d
+      → (IsWritten r → HasRun written handed old new stock command input left (status_of_answer r))
+      → HasRunUnlessFailed written handed old new stock command input left (status_of_answer r) a b c d
+  unless_failed written handed old new stock command input left r a b c d reads writes run = record {
+    answered = λ was. run (by_status r was);
+    output = λ no_read no_write memory. run (by_counts r a b c d reads writes no_read no_write memory);
+  }
 
-module _ {A C : Type 0} (a b : ℕ) where
-  pub source_fault : (r : Result A (RunFault C)) → CountsRead r a b → status_of_answer r ≡ 66 → HasRisen a b
-  source_fault (Ok x) reads e = absurd (omega (arith, e))
-  source_fault (Err (Line number cause)) reads e = absurd (omega (arith, e))
-  source_fault (Err Read) reads e = reads
-  source_fault (Err Write) reads e = absurd (omega (arith, e))
-  source_fault (Err OutOfMemory) reads e = absurd (omega (arith, e))
+-- ---- what was read
 
-  pub source_still : (r : Result A (RunFault C)) → CountsRead r a b → status_of_answer r ≢ 66 → b ≡ a
-  source_still (Ok x) reads other = reads
-  source_still (Err (Line number cause)) reads other = reads
-  source_still (Err Read) reads other = absurd (other refl)
-  source_still (Err Write) reads other = reads
-  source_still (Err OutOfMemory) reads other = reads
-
-  pub sink_fault : (r : Result A (RunFault C)) → CountsWrite r a b → status_of_answer r ≡ 67 → HasRisen a b
-  sink_fault (Ok x) writes e = absurd (omega (arith, e))
-  sink_fault (Err (Line number cause)) writes e = absurd (omega (arith, e))
-  sink_fault (Err Read) writes e = absurd (omega (arith, e))
-  sink_fault (Err Write) writes e = writes
-  sink_fault (Err OutOfMemory) writes e = absurd (omega (arith, e))
-
-  pub sink_still : (r : Result A (RunFault C)) → CountsWrite r a b → status_of_answer r ≢ 67 → b ≡ a
-  sink_still (Ok x) writes other = writes
-  sink_still (Err (Line number cause)) writes other = writes
-  sink_still (Err Read) writes other = writes
-  sink_still (Err Write) writes other = absurd (other refl)
-  sink_still (Err OutOfMemory) writes other = writes
-
-pub no_usage : {A C : Type 0} (r : Result A (RunFault C)) → status_of_answer r ≢ 64
-no_usage (Ok x) e = omega (arith, e)
-no_usage (Err (Line number cause)) e = omega (arith, e)
-no_usage (Err Read) e = omega (arith, e)
-no_usage (Err Write) e = omega (arith, e)
-no_usage (Err OutOfMemory) e = omega (arith, e)
+-- where few octets are read, no more are
+pub reads_less : {S : Type 0} (sources : Sources S) (source source' : S) (few most : ℕ) → few ≤ most → IsReadWithin sources source source' few → IsReadWithin sources source source' most
+reads_less sources source source' few most less h = record {
+  taken = (h.taken.0, h.taken.1, omega (arith, h.taken.2, less));
+  ends = h.ends;
+}
 
 -- ---- how a report ends
 

@@ -1,8 +1,7 @@
 -- What each status of a run is answered for, whatever its words ask for.
-use Rattle.std.specs.Prelude.{◌≡◌, ◌≢◌, ◌⊎◌, ◌≤◌, ℕ, List, length, Option}
-use Rattle.std.specs.Io.KnownBytes.{prepend_known}
-use Rattle.ptu_outside.specs.Ends.{StopsAtEnd}
+use Rattle.std.specs.Prelude.{◌≡◌, ◌≢◌, ◌⊎◌, ℕ, Contains}
 use Rattle.ptu_outside.specs.Faults.{HasRisen}
+use Rattle.ptpuni.specs.Run.{statuses}
 
 -- words are answered with 64 only where the command line does not match them; where it does not, with that, or no memory was
 -- found, and then nothing was touched
@@ -22,7 +21,8 @@ pub record AreFaultsAnswered (status reads reads' writes writes' opens opens' : 
   pub sink : IsFaultAnswered 67 status writes writes'
   pub host : IsFaultAnswered 69 status opens opens'
 
--- at most so many octets of what a source has left are read, and nothing behind its end
-pub record IsReadWithin (most : ℕ) (left left' : Option (List ℕ)) (stops stops' : Option ℕ) : Type 0 where
-  pub taken : (octets : List ℕ) × (left ≡ prepend_known octets left') × (length octets ≤ most)
-  pub ends : StopsAtEnd stops stops'
+-- a command ended with one of the statuses, but not with that of faulty words, and a fault is answered so
+pub record HasEnded (status reads reads' writes writes' opens opens' : ℕ) : Type 0 where
+  pub statuses : Contains statuses status
+  pub other : status ≢ 64
+  pub faults : AreFaultsAnswered status reads reads' writes writes' opens opens'

@@ -1,6 +1,7 @@
 -- What a run of the program answers.
-use Rattle.std.specs.Prelude.{◌≡◌, ◌↔◌, ◌⊎◌, ℕ, Bool, true, false, if◌then◌else◌, List, [], ◌∷◌, ◌++◌, length, Option, Some, None, Result, Ok, Err, OnOk}
+use Rattle.std.specs.Prelude.{◌≡◌, ◌≢◌, ◌↔◌, ◌⊎◌, ℕ, Bool, true, false, if◌then◌else◌, List, [], ◌∷◌, ◌++◌, Option, Some, None, Result, Ok, Err, OnOk}
 use Rattle.std.specs.Io.KnownBytes.{IsAtEnd, append_known}
+use Rattle.ptu_outside.specs.Faults.{HasRisen}
 use Rattle.ptu_outside.specs.Handing.{HasPut, HasPutPart, joined}
 use Rattle.ptu_report.specs.declared.ending.Ending.{Ending}
 use Rattle.ptu_report.specs.declared.ending.Ending.TheVariants.{Whole, Refused}
@@ -50,20 +51,22 @@ status_of_fault Read = 66
 status_of_fault Write = 67
 status_of_fault OutOfMemory = 71
 
--- the status of what a program over lines answers
+-- the status of what a program over lines answers, by that of its answers without a fault
+abbrev pub status_by : {A C : Type 0} → (A → ℕ) → Result A (RunFault C) → ℕ
+status_by answered (Ok x) = answered x
+status_by answered (Err fault) = status_of_fault fault
+
+-- 0 for all of them
 abbrev pub status_of_answer : {A C : Type 0} → Result A (RunFault C) → ℕ
-status_of_answer (Ok x) = 0
-status_of_answer (Err fault) = status_of_fault fault
+status_of_answer r = status_by (λ x. 0) r
 
--- the status of what an audit answers: 70 where a promise was not kept
+-- the status of what an audit found: 70 where a promise was not kept
+abbrev pub status_found : Answer → ℕ
+status_found (Yes granted sent) = 0
+status_found (No line cause) = 70
+
 abbrev pub status_of_audit : Result Answer (RunFault AuditCause) → ℕ
-status_of_audit (Ok (Yes granted sent)) = 0
-status_of_audit (Ok (No line cause)) = 70
-status_of_audit (Err fault) = status_of_fault fault
-
--- the numbers of judges of each rule that are handed in
-abbrev pub stock_of : {A : Type 0} → List A → List A → Stock
-stock_of flags gaps = record { flags = length flags; gaps = length gaps }
+status_of_audit r = status_by status_found r
 
 -- the output of a program of the lab for an input, line by line
 abbrev pub output_of : Stock → Command → List ℕ → List (List ℕ)
@@ -153,6 +156,11 @@ module _ {K : Type 0} (written : K → Option (List ℕ)) (handed : K → Option
     pub in_pieces : HasPut written handed old new (output_of stock command input)
     pub status_is : status ≡ status_of stock command input
     pub read_whole : reads command ≡ true → status ≡ 0 → IsAtEnd left
+
+  -- it has run so wherever 0 or 65 is answered, and where no count of faults rose and memory was found
+  pub record HasRunUnlessFailed (command : Command) (input : List ℕ) (left : Option (List ℕ)) (status reads reads' writes writes' : ℕ) : Type 0 where
+    pub answered : (status ≡ 0) ⊎ (status ≡ 65) → HasRun command input left status
+    pub output : (HasRisen reads reads' → ⊥) → (HasRisen writes writes' → ⊥) → status ≢ 71 → HasRun command input left status
 
   -- of what the source had left, all was written that belongs to the lines that were read whole, and nothing else
   abbrev pub HasReadAll : Command → Option (List ℕ) → Option (List ℕ) → Type 0

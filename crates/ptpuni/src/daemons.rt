@@ -1,22 +1,17 @@
 //! The words `serve` and `slave`: settings in, a daemon over the host.
 
-ghost use Rattle.std.specs.Prelude.{◌≡◌, ◌≢◌, ◌⊎◌, ◌∷◌, [], length, map, Contains, IfErr, OnOk};
-ghost use Rattle.ptu_outside.specs.Ends.{StopsAtEnd};
+ghost use Rattle.std.specs.Prelude.{◌≡◌, ◌≢◌, ◌⊎◌, ◌∷◌, [], length, map};
 ghost use Rattle.ptu_outside.specs.Faults.{HasRisen};
 ghost use Rattle.ptu_outside.specs.Handing.{HasPut, HasPutFront};
 ghost use Rattle.ptu_judges.specs.Held.{IsStock};
+ghost use Rattle.ptu_report.specs.Runs.{IsReadWithin};
 ghost use Rattle.ptu_config.specs.Limits.{IsGmInRange};
-ghost use Rattle.ptu_rounds.specs.Opening.{OpenedAt};
-ghost use Rattle.ptu_daemon.specs.Events.{endpoint_of};
-ghost use Rattle.ptu_daemon.specs.Served.{Said, closing_line};
-ghost use Rattle.ptu_config.specs.Reading.{HasTakenSome};
+ghost use Rattle.ptu_daemon.specs.Answers.{HasAnswered};
 ghost use Rattle.ptu_config.specs.Refusals.{refusal_text};
+ghost use Rattle.ptpuni.specs.Answers.{HasEnded};
 ghost use Rattle.ptpuni.specs.Daemons.{HasRunServe, HasRunSlave, IsServed};
-ghost use Rattle.ptpuni.specs.Run.{statuses};
 
-use crate::status::{
-    BAD_LINE, HOST_FAULT, OUT_OF_MEMORY, SINK_FAULT, SOURCE_FAULT, USAGE, daemon_status,
-};
+use crate::status::{BAD_LINE, OUT_OF_MEMORY, SINK_FAULT, SOURCE_FAULT, daemon_status};
 use ptu_config::{GmSettings, RefusalLine, SetupFault, gm_setup, slave_setup};
 use ptu_daemon::{DaemonFault, serve, serve_in_two_steps};
 use ptu_judges::Stock;
@@ -55,23 +50,9 @@ fn serve_by<W: Threads + Wait + Sync, H: Host, K: Sink>(
     sink: &mut K,
 ) -> Result<(), DaemonFault>
     requires range { IsGmInRange settings.now }
-    ensures served { OnOk result ((said : Said)
-        × HasPut K.written K.handed sink.old sink.new (closing_line settings.now.rounds said ∷ [])
-        × IsServed H.P.Port H.C.Clock (H.opening host.old) (H.back host.new) settings.now said) }
-    ensures part { IfErr result (λ fault. fault ≡ DaemonFault.Write → ((said : Said)
-        × HasPutFront K.written K.handed sink.old sink.new (closing_line settings.now.rounds said)
-        × IsServed H.P.Port H.C.Clock (H.opening host.old) (H.back host.new)
-        settings.now said)) }
-    ensures nothing { IfErr result (λ fault. fault ≢ DaemonFault.Write → sink.new ≡ sink.old) }
-    ensures open { IfErr result (λ fault. fault ≡ DaemonFault.Open
-        → HasRisen (H.faults host.old) (H.faults host.new)) }
-    ensures write { IfErr result (λ fault. fault ≡ DaemonFault.Write
-        → HasRisen (K.faults sink.old) (K.faults sink.new)) }
-    ensures still { OnOk result (K.faults sink.new ≡ K.faults sink.old) }
-    ensures opens { OnOk result (H.faults host.new ≡ H.faults host.old) }
-    ensures at { OpenedAt result (H.opened_at host.new) (endpoint_of settings.now) }
-    ensures host_still { IfErr result (λ fault. fault ≢ DaemonFault.Open
-        → H.faults host.new ≡ H.faults host.old) }
+    ensures answer { HasAnswered K.Sink sink.old sink.new (H.faults host.old) (H.faults host.new)
+        (H.opened_at host.new) settings.now (λ said. IsServed H.P.Port H.C.Clock
+        (H.opening host.old) (H.back host.new) settings.now said) result }
 {
     if settings.two_step {
         serve_in_two_steps(rt, alloc, settings, host, sink)
@@ -89,22 +70,12 @@ pub(crate) fn run_serve<W: Threads + Wait + Sync, S: Source, K: Sink, H: Host>(
     sink: &mut K,
     host: &mut H,
 ) -> u8
-    ensures statuses { Contains statuses result }
-    ensures other { result ≢ USAGE }
     ensures served { HasRunServe H.P.Port H.C.Clock K.written K.handed sink.old sink.new
         (H.opening host.old) (H.back host.new) (H.opened_at host.new)
         (S.left source.old) (S.left source.new) host.old host.new result }
-    ensures source_fault { result ≡ SOURCE_FAULT
-        → HasRisen (S.faults source.old) (S.faults source.new) }
-    ensures source_still { result ≢ SOURCE_FAULT → S.faults source.new ≡ S.faults source.old }
-    ensures sink_fault { result ≡ SINK_FAULT
-        → HasRisen (K.faults sink.old) (K.faults sink.new) }
-    ensures sink_still { result ≢ SINK_FAULT → K.faults sink.new ≡ K.faults sink.old }
-    ensures host_fault { result ≡ HOST_FAULT
-        → HasRisen (H.faults host.old) (H.faults host.new) }
-    ensures host_still { result ≢ HOST_FAULT → H.faults host.new ≡ H.faults host.old }
-    ensures taken { HasTakenSome (S.left source.old) (S.left source.new) }
-    ensures ends { StopsAtEnd (S.ends source.old) (S.ends source.new) }
+    ensures ended { HasEnded result (S.faults source.old) (S.faults source.new)
+        (K.faults sink.old) (K.faults sink.new) (H.faults host.old) (H.faults host.new) }
+    ensures bounded { IsReadWithin S.Source source.old source.new 65537 }
 {
     match gm_setup(alloc, source) {
         Ok(settings) => daemon_status(serve_by(rt, alloc, &settings, host, sink)),
@@ -125,23 +96,13 @@ pub(crate) fn run_slave<S: Source, K: Sink, H: Host>(
 ) -> u8
     requires stock { IsStock (map (λ j. held (j.vtable, j.value)) stock.flags.items)
         (map (λ j. held (j.vtable, j.value)) stock.gaps.items) }
-    ensures statuses { Contains statuses result }
-    ensures other { result ≢ USAGE }
     ensures followed { HasRunSlave H.P.Port H.C.Clock K.written K.handed sink.old sink.new
         (H.opening host.old) (H.back host.new) (H.opened_at host.new)
         (length stock.flags.items) (length stock.gaps.items)
         (S.left source.old) (S.left source.new) host.old host.new result }
-    ensures source_fault { result ≡ SOURCE_FAULT
-        → HasRisen (S.faults source.old) (S.faults source.new) }
-    ensures source_still { result ≢ SOURCE_FAULT → S.faults source.new ≡ S.faults source.old }
-    ensures sink_fault { result ≡ SINK_FAULT
-        → HasRisen (K.faults sink.old) (K.faults sink.new) }
-    ensures sink_still { result ≢ SINK_FAULT → K.faults sink.new ≡ K.faults sink.old }
-    ensures host_fault { result ≡ HOST_FAULT
-        → HasRisen (H.faults host.old) (H.faults host.new) }
-    ensures host_still { result ≢ HOST_FAULT → H.faults host.new ≡ H.faults host.old }
-    ensures taken { HasTakenSome (S.left source.old) (S.left source.new) }
-    ensures ends { StopsAtEnd (S.ends source.old) (S.ends source.new) }
+    ensures ended { HasEnded result (S.faults source.old) (S.faults source.new)
+        (K.faults sink.old) (K.faults sink.new) (H.faults host.old) (H.faults host.new) }
+    ensures bounded { IsReadWithin S.Source source.old source.new 65537 }
 {
     match slave_setup(alloc, source, stock.flags.len(), stock.gaps.len()) {
         Ok(settings) => daemon_status(slave(alloc, &settings, host, sink, stock)),

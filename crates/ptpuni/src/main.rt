@@ -62,30 +62,8 @@ fn texts_of(alloc: Global, words: &[String]) -> Result<Vec<&str>, AllocError>
     Ok(texts)
 }
 
-// Runs the words over this input, this output, and this host.
-fn run_over<W, I, O, H>(
-    rt: &W,
-    words: &[&str],
-    input: I,
-    output: O,
-    host: &mut H,
-    stock: Stock,
-) -> u8
-where
-    W: AllocGlobal + Threads + Wait + Sync,
-    I: Read + Drop,
-    O: Write + Drop,
-    H: Host,
-    requires { IsStock (map (λ j. held (j.vtable, j.value)) stock.flags.items)
-        (map (λ j. held (j.vtable, j.value)) stock.gaps.items) }
-{
-    let mut source = StdSource::new(input);
-    let mut sink = StdSink::new(output);
-    run::run(rt, words, &mut source, &mut sink, host, stock)
-}
-
-// The same, over an output that gets it block by block. What a run leaves in the last block is
-// handed on whatever the run came to.
+// Runs the words over this input, this output, which gets it block by block, and this host. What a
+// run leaves in the last block is handed on whatever the run came to.
 fn run_in_blocks<W, I, O, H>(
     rt: &W,
     words: &[&str],
@@ -105,7 +83,11 @@ where
     let Ok(mut blocks) = BufWriter::with_capacity(rt.alloc(), BLOCK, output) else {
         return OUT_OF_MEMORY;
     };
-    let status = run_over(rt, words, input, &mut blocks, host, stock);
+    let mut source = StdSource::new(input);
+    let status = {
+        let mut sink = StdSink::new(&mut blocks);
+        run::run(rt, words, &mut source, &mut sink, host, stock)
+    };
     match blocks.flush() {
         Ok(()) => status,
         Err(_) => SINK_FAULT,
@@ -141,7 +123,9 @@ where
         return OUT_OF_MEMORY;
     };
     if output.is_terminal() || is_daemon(&texts) {
-        run_over(rt, &texts, input, output, host, stock)
+        let mut source = StdSource::new(input);
+        let mut sink = StdSink::new(output);
+        run::run(rt, &texts, &mut source, &mut sink, host, stock)
     } else {
         run_in_blocks(rt, &texts, input, output, host, stock)
     }

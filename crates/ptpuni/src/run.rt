@@ -1,24 +1,22 @@
 //! What the program does: the words of its command line, and the status that it ends with.
 
-ghost use Rattle.std.specs.Prelude.{◌≡◌, ◌≢◌, ◌⊎◌, ◌≤◌, [], ◌∷◌, ℕ, List, Some, length, map, Contains};
-ghost use Rattle.std.specs.Io.KnownBytes.{prepend_known};
-ghost use Rattle.ptu_outside.specs.Ends.{StopsAtEnd};
+ghost use Rattle.std.specs.Prelude.{◌≡◌, ◌≢◌, ◌⊎◌, [], ◌∷◌, ℕ, List, Some, length, map, Contains};
 ghost use Rattle.ptu_outside.specs.Faults.{HasRisen};
 ghost use Rattle.ptu_outside.specs.Handing.{HasPut, HasPutPart};
 ghost use Rattle.ptu_judges.specs.Held.{IsStock};
+ghost use Rattle.ptu_report.specs.Runs.{IsReadWithin};
 ghost use Rattle.ptu_lab.specs.Headline.{KeepsHeadline};
+ghost use Rattle.ptu_lab.specs.Steps.{stock_of};
 ghost use Rattle.ptu_pool_run.specs.Promises.{KeepsPools};
 ghost use Rattle.ptu_words.specs.CommandLine.{command_of, IsInRange, IsRefused};
 ghost use Rattle.ptu_words.specs.declared.command.Command.{Command};
 ghost use Rattle.ptu_world.specs.Report.{report_lines};
 ghost use Rattle.ptpuni.specs.Daemons.{HasRunServe, HasRunSlave};
-ghost use Rattle.ptpuni.specs.Answers.{AreFaultsAnswered, AreWordsAnswered, IsReadWithin};
-ghost use Rattle.ptpuni.specs.Run.{output_of, statuses, stock_of, HasAudited, HasLoaded, HasReadAll, HasRun, IsAccepted, IsOfLab, IsStatusOf, IsWholeStatus};
+ghost use Rattle.ptpuni.specs.Answers.{AreFaultsAnswered, AreWordsAnswered, HasEnded};
+ghost use Rattle.ptpuni.specs.Run.{output_of, statuses, HasAudited, HasLoaded, HasReadAll, HasRun, HasRunUnlessFailed, IsAccepted, IsOfLab, IsStatusOf, IsWholeStatus};
 
 use crate::daemons::{run_serve, run_slave};
-use crate::status::{
-    BAD_LINE, HOST_FAULT, OUT_OF_MEMORY, SINK_FAULT, SOURCE_FAULT, USAGE, audit_status, status_of,
-};
+use crate::status::{BAD_LINE, OUT_OF_MEMORY, SOURCE_FAULT, USAGE, audit_status, status_of};
 use ptu_audit::audit;
 use ptu_lab::{Stock, load, replay, show};
 use ptu_outside::{Host, Sink, Source};
@@ -42,17 +40,10 @@ fn run_command<W: Threads + Wait + Sync, S: Source, K: Sink, H: Host>(
     requires stock { IsStock (map (λ j. held (j.vtable, j.value)) stock.flags.items)
         (map (λ j. held (j.vtable, j.value)) stock.gaps.items) }
     requires range { IsInRange command }
-    ensures statuses { Contains statuses result }
-    ensures other { result ≢ USAGE }
     ensures output { IsOfLab command → (input : List ℕ) → S.left source.old ≡ Some input
-        → (HasRisen (S.faults source.old) (S.faults source.new) → ⊥)
-        → (HasRisen (K.faults sink.old) (K.faults sink.new) → ⊥) → result ≢ OUT_OF_MEMORY
-        → HasRun K.written K.handed sink.old sink.new
-        (stock_of stock.flags.items stock.gaps.items) command input (S.left source.new) result }
-    ensures answered { (result ≡ 0) ⊎ (result ≡ BAD_LINE)
-        → IsOfLab command → (input : List ℕ) → S.left source.old ≡ Some input
-        → HasRun K.written K.handed sink.old sink.new
-        (stock_of stock.flags.items stock.gaps.items) command input (S.left source.new) result }
+        → HasRunUnlessFailed K.written K.handed sink.old sink.new
+        (stock_of stock.flags.items stock.gaps.items) command input (S.left source.new) result
+        (S.faults source.old) (S.faults source.new) (K.faults sink.old) (K.faults sink.new) }
     ensures loaded { (number : ℕ) → command ≡ Command.Load number →
         HasLoaded K.written K.handed sink.old sink.new source.old source.new number result }
     ensures audited { (capacity : ℕ) → command ≡ Command.Audit capacity →
@@ -66,15 +57,8 @@ fn run_command<W: Threads + Wait + Sync, S: Source, K: Sink, H: Host>(
         (length stock.flags.items) (length stock.gaps.items)
         (S.left source.old) (S.left source.new) host.old host.new result }
     ensures unused { IsOfLab command → host.new ≡ host.old }
-    ensures source_fault { result ≡ SOURCE_FAULT
-        → HasRisen (S.faults source.old) (S.faults source.new) }
-    ensures source_still { result ≢ SOURCE_FAULT → S.faults source.new ≡ S.faults source.old }
-    ensures sink_fault { result ≡ SINK_FAULT
-        → HasRisen (K.faults sink.old) (K.faults sink.new) }
-    ensures sink_still { result ≢ SINK_FAULT → K.faults sink.new ≡ K.faults sink.old }
-    ensures host_fault { result ≡ HOST_FAULT
-        → HasRisen (H.faults host.old) (H.faults host.new) }
-    ensures host_still { result ≢ HOST_FAULT → H.faults host.new ≡ H.faults host.old }
+    ensures ended { HasEnded result (S.faults source.old) (S.faults source.new)
+        (K.faults sink.old) (K.faults sink.new) (H.faults host.old) (H.faults host.new) }
     ensures front { IsOfLab command → (input : List ℕ) → S.left source.old ≡ Some input
         → HasPutPart K.written K.handed sink.old sink.new
         (output_of (stock_of stock.flags.items stock.gaps.items) command input) }
@@ -82,10 +66,7 @@ fn run_command<W: Threads + Wait + Sync, S: Source, K: Sink, H: Host>(
         → HasReadAll K.written K.handed sink.old sink.new
         (stock_of stock.flags.items stock.gaps.items) command
         (S.left source.old) (S.left source.new) }
-    ensures taken { (octets : List ℕ)
-        × (S.left source.old ≡ prepend_known octets (S.left source.new))
-        × (length octets ≤ 67108865) }
-    ensures ends { StopsAtEnd (S.ends source.old) (S.ends source.new) }
+    ensures bounded { IsReadWithin S.Source source.old source.new 67108865 }
 {
     match command {
         Command::Replay => status_of(replay(alloc, source, sink, stock)),
@@ -203,8 +184,7 @@ pub fn run<W: AllocGlobal + Threads + Wait + Sync, S: Source, K: Sink, H: Host>(
         (S.left source.old) (S.left source.new) }
 
     // At most 67108865 octets are read, and nothing behind the end.
-    ensures bounded { IsReadWithin 67108865 (S.left source.old) (S.left source.new)
-        (S.ends source.old) (S.ends source.new) }
+    ensures bounded { IsReadWithin S.Source source.old source.new 67108865 }
 {
     let alloc = rt.alloc();
     match read_words(alloc, words) {

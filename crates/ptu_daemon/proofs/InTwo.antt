@@ -1,13 +1,16 @@
 -- From what is said of ports in two steps by their flags, to what is said of them by the counts of the ports below.
-use Rattle.std.proofs.Common.{◌≡◌, ◌∙◌, ℕ, suc, zero, ◌+◌, ◌-◌, ◌^◌, ◌≤◌, ◌||◌, Bool, true, false, leb, List, ◌++◌, length, map, Option, Some, None, IsSome, IfSome, option_map, Result, Ok, Err, refl, sym, ap, subst, inl, inr}
+use Rattle.std.proofs.Common.{◌≡◌, ◌∙◌, ℕ, suc, zero, ◌+◌, ◌-◌, ◌^◌, ◌≤◌, ◌||◌, Bool, true, false, leb, List, [], ◌∷◌, ◌++◌, length, map, Option, Some, None, IsSome, IfSome, option_map, Result, Ok, Err, refl, sym, ap, subst, inl, inr}
 use Rattle.std.specs.Prelude.{IfErr, OnOk}
 use Rattle.std.proofs.lemmas.Bool.{leb-true, le-leb}
 use Rattle.ptu_outside.specs.declared.arrival.Arrival.{Arrival}
 use Rattle.ptu_outside.specs.declared.clock.Clock.{Ghosts as Clocks}
+use Rattle.ptu_outside.specs.declared.endpoint.Endpoint.{Endpoint}
 use Rattle.ptu_outside.specs.declared.opened.Opened.{Opened}
 use Rattle.ptu_outside.specs.declared.port.Port.{Ghosts as Ports}
+use Rattle.ptu_outside.specs.declared.sink.Sink.{Ghosts as Sinks}
 use Rattle.ptu_outside.specs.Departure.{Departure}
 use Rattle.ptu_outside.specs.Faults.{HasRisen}
+use Rattle.ptu_outside.specs.Handing.{HasPut, HasPutFront}
 use Rattle.ptu_outside.specs.Telling.{IfTold, append_told}
 use Rattle.ptu_gm_messages.specs.Replies.{cancels_to}
 use Rattle.ptu_config.specs.declared.settings.GmSettings.{GmSettings}
@@ -21,8 +24,9 @@ use Rattle.ptu_twostep.specs.Hosts.{clear, flagged_by, two_steps}
 use Rattle.ptu_twostep.specs.Pairs.{pairs}
 use Rattle.ptu_twostep.specs.Telling.{told_by}
 use Rattle.ptu_twostep.proofs.Pairs.{grown-pairs}
+use Rattle.ptu_daemon.specs.Answers.{HasAnswered}
 use Rattle.ptu_daemon.specs.Events.{Given, config_of}
-use Rattle.ptu_daemon.specs.Served.{Said, numbers_in, opened_as, served_by}
+use Rattle.ptu_daemon.specs.Served.{Said, closing_line, numbers_in, opened_as, served_by}
 use Rattle.ptu_daemon.specs.Serving.{AreServed, HasServed, IsGiven, Serves}
 use Rattle.ptu_daemon.specs.ServingInTwo.{AreSentInPairs, HasServedInTwo, by_counts, has_risen}
 use Rattle.ptu_daemon.proofs.Halves.{AreWhole, whole_both, whole_cancels, whole_replies, whole_sends}
@@ -326,12 +330,28 @@ module _ {P C : Type 0} (ports : Ports P) (clocks : Clocks C) (settings : GmSett
 
 -- ---- of an answer
 
-pub on_ok_said : {T E : Type 0} (W A B : Said → Type 0) (r : Result T E) → ((said : Said) → A said → B said)
+on_ok_said : {T E : Type 0} (W A B : Said → Type 0) (r : Result T E) → ((said : Said) → A said → B said)
     → OnOk r ((said : Said) × W said × A said) → OnOk r ((said : Said) × W said × B said)
 on_ok_said W A B (Ok x) f (said, put, served) = (said, put, f said served)
 on_ok_said W A B (Err e) f h = tt
 
-pub if_err_said : {T : Type 0} (W A B : Said → Type 0) (r : Result T DaemonFault) → ((said : Said) → A said → B said)
+if_err_said : {T : Type 0} (W A B : Said → Type 0) (r : Result T DaemonFault) → ((said : Said) → A said → B said)
     → IfErr r (λ fault. fault ≡ faults.Write → ((said : Said) × W said × A said)) → IfErr r (λ fault. fault ≡ faults.Write → ((said : Said) × W said × B said))
 if_err_said W A B (Ok x) f h = tt
 if_err_said W A B (Err e) f h = λ is. let (said, put, served) = h is in (said, put, f said served)
+
+-- another word for what was served
+pub answered_by : {K : Type 0} (sinks : Sinks K) (sink sink' : K) (failed failed' : ℕ) (opened_at : Option Endpoint) (settings : GmSettings) (A B : Said → Type 0)
+    (r : Result (Unit {0}) DaemonFault) → ((said : Said) → A said → B said)
+    → HasAnswered sinks sink sink' failed failed' opened_at settings A r → HasAnswered sinks sink sink' failed failed' opened_at settings B r
+answered_by sinks sink sink' failed failed' opened_at settings A B r f h = record {
+  served = on_ok_said (λ said. HasPut sinks.written sinks.handed sink sink' (closing_line settings.rounds said ∷ [])) A B r f h.served;
+  part = if_err_said (λ said. HasPutFront sinks.written sinks.handed sink sink' (closing_line settings.rounds said)) A B r f h.part;
+  nothing = h.nothing;
+  write = h.write;
+  still = h.still;
+  unopened = h.unopened;
+  opens = h.opens;
+  host_still = h.host_still;
+  at = h.at;
+}

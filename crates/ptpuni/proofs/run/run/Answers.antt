@@ -6,8 +6,9 @@ use Rattle.ptu_words.specs.CommandLine.{IsRefused, command_of}
 use Rattle.ptu_words.proofs.Matching.{refused, unnamed}
 use Rattle.ptu_report.specs.declared.fault.RunFault.TheVariants.{OutOfMemory}
 use Rattle.ptu_world.specs.Report.{report_lines}
-use Rattle.ptpuni.specs.Run.{HasRun, IsOfLab, status_of, stock_of}
-use Rattle.ptpuni.proofs.Answered.{zero_at_end}
+use Rattle.ptpuni.specs.Run.{HasRun, IsOfLab, status_of}
+use Rattle.ptu_lab.specs.Steps.{stock_of}
+use Rattle.ptpuni.proofs.Answered.{none_answered, zero_at_end}
 use Rattle.ptpuni.proofs.Audited.{audit_completes}
 use Rattle.ptpuni.proofs.Completed.{completed}
 use Rattle.ptu_lab.proofs.KeepingHeadline.{keeps_headline}
@@ -26,7 +27,7 @@ returns-in-Ok-Some-clause-words g c =
     let never : IsRefused (map (λ w. w.now) c.args.words.now) → ⊥ =
     not_refused (map (λ w. w.now) c.args.words.now) c.in-Ok-Some.command (sym c.in-Ok-Some.field-0-is ∙ c.in-Ok-Some.ensures.command) in
     record {
-      usage = λ e. absurd (c.run_command.ensures.other e);
+      usage = λ e. absurd (c.run_command.ensures.ended.other e);
       refused = λ h. absurd (never h);
       untouched = λ h. absurd (never h);
     }
@@ -45,29 +46,20 @@ returns-in-Err-clause-words g c = record {
   untouched = λ _. (refl, refl, refl);
 }
 
+pub returns-in-Ok-Some-clause-statuses : goal.returns-in-Ok-Some-clause-statuses
+returns-in-Ok-Some-clause-statuses g c = c.run_command.ensures.ended.statuses
+
 pub returns-in-Ok-Some-clause-faults : goal.returns-in-Ok-Some-clause-faults
-returns-in-Ok-Some-clause-faults g c = record {
-  source = record { risen = c.run_command.ensures.source_fault; still = c.run_command.ensures.source_still };
-  sink = record { risen = c.run_command.ensures.sink_fault; still = c.run_command.ensures.sink_still };
-  host = record { risen = c.run_command.ensures.host_fault; still = c.run_command.ensures.host_still };
-}
+returns-in-Ok-Some-clause-faults g c = c.run_command.ensures.ended.faults
 
 pub returns-in-Ok-None-clause-faults : goal.returns-in-Ok-None-clause-faults
-returns-in-Ok-None-clause-faults g c = record {
-  source = record { risen = λ e. absurd (omega (arith, e)); still = λ _. refl };
-  sink = record { risen = λ e. absurd (omega (arith, e)); still = λ _. refl };
-  host = record { risen = λ e. absurd (omega (arith, e)); still = λ _. refl };
-}
+returns-in-Ok-None-clause-faults g c = none_answered 64 _ _ _ (λ e. omega (arith, e)) (λ e. omega (arith, e)) (λ e. omega (arith, e))
 
 pub returns-in-Err-clause-faults : goal.returns-in-Err-clause-faults
-returns-in-Err-clause-faults g c = record {
-  source = record { risen = λ e. absurd (omega (arith, e)); still = λ _. refl };
-  sink = record { risen = λ e. absurd (omega (arith, e)); still = λ _. refl };
-  host = record { risen = λ e. absurd (omega (arith, e)); still = λ _. refl };
-}
+returns-in-Err-clause-faults g c = none_answered 71 _ _ _ (λ e. omega (arith, e)) (λ e. omega (arith, e)) (λ e. omega (arith, e))
 
 pub returns-in-Ok-Some-clause-bounded : goal.returns-in-Ok-Some-clause-bounded
-returns-in-Ok-Some-clause-bounded g c = record { taken = c.run_command.ensures.taken; ends = c.run_command.ensures.ends }
+returns-in-Ok-Some-clause-bounded g c = c.run_command.ensures.bounded
 
 pub returns-in-Ok-None-clause-bounded : goal.returns-in-Ok-None-clause-bounded
 returns-in-Ok-None-clause-bounded g c = record { taken = search rules; ends = search rules }
@@ -79,32 +71,32 @@ pub returns-in-Ok-Some-clause-complete : goal.returns-in-Ok-Some-clause-complete
 returns-in-Ok-Some-clause-complete g c = λ command is input told accepted source_still sink_still host_still.
     let same = one_command (map (λ w. w.now) c.args.words.now) c.in-Ok-Some.command command (sym c.in-Ok-Some.field-0-is ∙ c.in-Ok-Some.ensures.command) is in
     completed (stock_of c.args.stock.flags.items c.args.stock.gaps.items) command input c.run_command.result accepted
-    (λ lab memory. (c.run_command.ensures.output (subst IsOfLab (sym same) lab) input told source_still sink_still memory).status_is ∙ ap (λ k. status_of (stock_of c.args.stock.flags.items c.args.stock.gaps.items) k input) same)
+    (λ lab memory. ((c.run_command.ensures.output (subst IsOfLab (sym same) lab) input told).output source_still sink_still memory).status_is ∙ ap (λ k. status_of (stock_of c.args.stock.flags.items c.args.stock.gaps.items) k input) same)
     (λ e none. (c.run_command.ensures.served (same ∙ e)).accepts input told none)
     (λ e none. (c.run_command.ensures.followed (same ∙ e)).accepts input told none)
     (λ capacity e whole.
     let audited = c.run_command.ensures.audited capacity (same ∙ e) in
     subst (λ s. ((s ≡ 0) ⊎ (s ≡ 70)) ⊎ (s ≡ 71)) (sym audited.status_is)
     (audit_completes capacity input audited.answer (audited.exact input told) whole
-    (λ failed. source_still (c.run_command.ensures.source_fault (audited.status_is ∙ failed)))
-    (λ failed. sink_still (c.run_command.ensures.sink_fault (audited.status_is ∙ failed)))))
-    (λ e. source_still (c.run_command.ensures.source_fault e))
-    (λ e. sink_still (c.run_command.ensures.sink_fault e))
-    (λ e. host_still (c.run_command.ensures.host_fault e))
+    (λ failed. source_still (c.run_command.ensures.ended.faults.source.risen (audited.status_is ∙ failed)))
+    (λ failed. sink_still (c.run_command.ensures.ended.faults.sink.risen (audited.status_is ∙ failed)))))
+    (λ e. source_still (c.run_command.ensures.ended.faults.source.risen e))
+    (λ e. sink_still (c.run_command.ensures.ended.faults.sink.risen e))
+    (λ e. host_still (c.run_command.ensures.ended.faults.host.risen e))
 
 pub returns-in-Ok-Some-clause-output : goal.returns-in-Ok-Some-clause-output
 returns-in-Ok-Some-clause-output g c = λ command is lab input told still_source still_sink memory.
     let same = one_command (map (λ w. w.now) c.args.words.now) c.in-Ok-Some.command command (sym c.in-Ok-Some.field-0-is ∙ c.in-Ok-Some.ensures.command) is in
     subst (λ k. HasRun g.K.Sink.written g.K.Sink.handed c.args.sink.now c.run_command.new.sink (stock_of c.args.stock.flags.items c.args.stock.gaps.items) k input (g.S.Source.left c.run_command.new.source) c.run_command.result)
     same
-    (c.run_command.ensures.output (subst IsOfLab (sym same) lab) input told still_source still_sink memory)
+    ((c.run_command.ensures.output (subst IsOfLab (sym same) lab) input told).output still_source still_sink memory)
 
 pub returns-in-Ok-Some-clause-answered : goal.returns-in-Ok-Some-clause-answered
 returns-in-Ok-Some-clause-answered g c = λ ended command is lab input told.
     let same = one_command (map (λ w. w.now) c.args.words.now) c.in-Ok-Some.command command (sym c.in-Ok-Some.field-0-is ∙ c.in-Ok-Some.ensures.command) is in
     subst (λ k. HasRun g.K.Sink.written g.K.Sink.handed c.args.sink.now c.run_command.new.sink (stock_of c.args.stock.flags.items c.args.stock.gaps.items) k input (g.S.Source.left c.run_command.new.source) c.run_command.result)
     same
-    (c.run_command.ensures.answered ended (subst IsOfLab (sym same) lab) input told)
+    ((c.run_command.ensures.output (subst IsOfLab (sym same) lab) input told).answered ended)
 
 pub returns-in-Ok-Some-clause-status : goal.returns-in-Ok-Some-clause-status
 returns-in-Ok-Some-clause-status g c = λ ended is script told.
@@ -112,7 +104,7 @@ returns-in-Ok-Some-clause-status g c = λ ended is script told.
     let same = one_command (map (λ w. w.now) c.args.words.now) c.in-Ok-Some.command Replay (sym c.in-Ok-Some.field-0-is ∙ c.in-Ok-Some.ensures.command) is in
     let run : HasRun g.K.Sink.written g.K.Sink.handed c.args.sink.now c.run_command.new.sink stock Replay script (g.S.Source.left c.run_command.new.source) c.run_command.result =
     subst (λ k. HasRun g.K.Sink.written g.K.Sink.handed c.args.sink.now c.run_command.new.sink stock k script (g.S.Source.left c.run_command.new.source) c.run_command.result)
-    same (c.run_command.ensures.answered ended (subst IsOfLab (sym same) tt) script told) in
+    same ((c.run_command.ensures.output (subst IsOfLab (sym same) tt) script told).answered ended) in
     zero_at_end (report_lines stock script) (g.S.Source.left c.run_command.new.source) c.run_command.result run.status_is (run.read_whole refl)
 
 pub returns-in-Err-clause-front : goal.returns-in-Err-clause-front

@@ -1,0 +1,32 @@
+-- What each answer of a grandmaster's daemon says.
+use Rattle.std.specs.Prelude.{◌≡◌, ◌≢◌, ◌∷◌, [], ℕ, Option, Result, IfErr, OnOk}
+use Rattle.ptu_outside.specs.declared.endpoint.Endpoint.{Endpoint}
+use Rattle.ptu_outside.specs.declared.sink.Sink.{Ghosts as Sinks}
+use Rattle.ptu_outside.specs.Faults.{HasRisen}
+use Rattle.ptu_outside.specs.Handing.{HasPut, HasPutFront}
+use Rattle.ptu_config.specs.declared.settings.GmSettings.{GmSettings}
+use Rattle.ptu_rounds.specs.declared.fault.DaemonFault.{DaemonFault}
+use Rattle.ptu_rounds.specs.declared.fault.DaemonFault.TheVariants.{Open, Write}
+use Rattle.ptu_rounds.specs.Opening.{OpenedAt}
+use Rattle.ptu_daemon.specs.Events.{endpoint_of}
+use Rattle.ptu_daemon.specs.Served.{Said, closing_line}
+
+-- The daemon of these settings answers so, over a host that opened there and had so many faults. `IsServed` says what was served where
+-- the line has these numbers.
+module _ {K : Type 0} (sinks : Sinks K) (sink sink' : K) (failed failed' : ℕ) (opened_at : Option Endpoint) (settings : GmSettings) where
+  pub record HasAnswered (IsServed : Said → Type 0) (result : Result (Unit {0}) DaemonFault) : Type 0 where
+    -- the line was written: its numbers, and what the ports were sent, are those of what is served
+    pub served : OnOk result ((said : Said) × HasPut sinks.written sinks.handed sink sink' (closing_line settings.rounds said ∷ []) × IsServed said)
+    -- the sink failed in it
+    pub part : IfErr result (λ fault. fault ≡ Write → ((said : Said)
+        × HasPutFront sinks.written sinks.handed sink sink' (closing_line settings.rounds said) × IsServed said))
+    -- else nothing was written
+    pub nothing : IfErr result (λ fault. fault ≢ Write → sink' ≡ sink)
+    pub write : IfErr result (λ fault. fault ≡ Write → HasRisen (sinks.faults sink) (sinks.faults sink'))
+    pub still : OnOk result (sinks.faults sink' ≡ sinks.faults sink)
+    -- the host did not open, and its count rose; every other answer leaves that as it was
+    pub unopened : IfErr result (λ fault. fault ≡ Open → HasRisen failed failed')
+    pub opens : OnOk result (failed' ≡ failed)
+    pub host_still : IfErr result (λ fault. fault ≢ Open → failed' ≡ failed)
+    -- it was opened at the settings' address and ports
+    pub at : OpenedAt result opened_at (endpoint_of settings)
