@@ -25,6 +25,8 @@ pub use replaying::replay;
 #[cfg(test)]
 mod load_tests;
 #[cfg(test)]
+mod pieces;
+#[cfg(test)]
 mod replay_slave_tests;
 #[cfg(test)]
 mod replay_tests;

@@ -5,6 +5,7 @@ ghost use Rattle.ptu_judges.specs.Held.{IsStock, fresh};
 ghost use Rattle.ptu_record.specs.declared.rule.Rule.{Rule};
 
 use super::*;
+use crate::pieces::spelled;
 use crate::replay_tests::{no_judges, replayed};
 use ptu_judges::{FlagJudge, GapJudge, Judge};
 use std::alloc::{AllocFailed, Global};
@@ -44,411 +45,279 @@ fn assert_slaves_reported(
     let gap = Box::new(alloc, GapJudge::new(4))?;
     add_judges(&mut stock, first, second, gap)?;
     let (_, text) = replayed(alloc, script, stock)?;
-    assert_eq!(rt; text.as_str(), report);
+    let report = spelled(alloc, report)?;
+    assert_eq!(rt; text.as_str(), report.as_str());
     Ok(())
 }
 
-#[test]
-fn a_lost_master_is_restored(rt: HostRuntime) -> Result<(), Fail> {
-    assert_slaves_reported(
-        &rt,
-        rt.alloc(),
-        "\
-            slave 10.0.2.1 0a00000000000021 1 4 60 3 3 4 4 - 300\n\
-            master 10.0.2.1 10.0.0.1 1 flag\n\
-            master 10.0.2.1 10.0.0.2 1 flag\n\
-            rx 0 10.0.2.1 10.0.0.1 0b120040040004000000000000000000000000000a000000000000010\
-            0010000057f000000000000000000000000008054feffff800a000000000000010000a0\n\
-            rx 0 10.0.2.1 10.0.0.1 0012002c040004000000000000000000000000000a000000000000010\
-            0010000007f00000000000000000000\n\
-            rx 0 10.0.2.1 10.0.0.2 0b120040040004000000000000000000000000000a000000000000020\
-            0010000057f00000000000000000000000000805afeffff800a000000000000020000a0\n\
-            rx 0 10.0.2.1 10.0.0.2 0012002c040004000000000000000000000000000a000000000000020\
-            0010000007f00000000000000000000\n\
-            rx 48000000000 10.0.2.1 10.0.0.1 0b120040040004000000000000000000000000000a00000\
-            00000000100010000057f000000000000000000000000008054feffff800a000000000000010000a\
-            0\n\
-            rx 48000000000 10.0.2.1 10.0.0.1 0012002c040004000000000000000000000000000a00000\
-            00000000100010000007f00000000000000000000\n\
-            rx 48000000000 10.0.2.1 10.0.0.2 0b120040040004000000000000000000000000000a00000\
-            00000000200010000057f00000000000000000000000000805afeffff800a000000000000020000a\
-            0\n\
-            rx 48000000000 10.0.2.1 10.0.0.2 0012002c040004000000000000000000000000000a00000\
-            00000000200010000007f00000000000000000000\n\
-            flag 48000000000 10.0.2.1 10.0.0.1 0\n\
-            rx 96000000000 10.0.2.1 10.0.0.2 0b120040040004000000000000000000000000000a00000\
-            00000000200010000057f00000000000000000000000000805afeffff800a000000000000020000a\
-            0\n\
-            rx 96000000000 10.0.2.1 10.0.0.2 0012002c040004000000000000000000000000000a00000\
-            00000000200010000007f00000000000000000000\n\
-            flag 96000000000 10.0.2.1 10.0.0.1 0\n\
-            flag 96000000001 10.0.2.1 10.0.0.1 0\n\
-            rx 100000000000 10.0.2.1 10.0.0.1 0b120040040004000000000000000000000000000a0000\
-            000000000100010000057f000000000000000000000000008054feffff800a000000000000010000\
-            a0\n\
-            rx 100000000000 10.0.2.1 10.0.0.1 0012002c040004000000000000000000000000000a0000\
-            000000000100010000007f00000000000000000000\n\
-            flag 100000000000 10.0.2.1 10.0.0.1 0\n\
-            rx 140000000000 10.0.2.1 10.0.0.1 0b120040040004000000000000000000000000000a0000\
-            000000000100010000057f000000000000000000000000008054feffff800a000000000000010000\
-            a0\n\
-            rx 140000000000 10.0.2.1 10.0.0.1 0012002c040004000000000000000000000000000a0000\
-            000000000100010000007f00000000000000000000\n\
-            rx 140000000000 10.0.2.1 10.0.0.2 0b120040040004000000000000000000000000000a0000\
-            000000000200010000057f00000000000000000000000000805afeffff800a000000000000020000\
-            a0\n\
-            rx 140000000000 10.0.2.1 10.0.0.2 0012002c040004000000000000000000000000000a0000\
-            000000000200010000007f00000000000000000000\n\
-            flag 159999999999 10.0.2.1 10.0.0.1 0\n\
-            flag 160000000000 10.0.2.1 10.0.0.1 0\n",
-        "\
-            4 heard announce 10.0.0.1 class 84 at 0\n\
-            4 selected 10.0.2.1 none\n\
-            5 heard sync 10.0.0.1 seq 0 at 0\n\
-            5 selected 10.0.2.1 10.0.0.1\n\
-            6 heard announce 10.0.0.2 class 90 at 0\n\
-            6 selected 10.0.2.1 10.0.0.1\n\
-            7 heard sync 10.0.0.2 seq 0 at 0\n\
-            7 selected 10.0.2.1 10.0.0.1\n\
-            8 heard announce 10.0.0.1 class 84 at 48000000000\n\
-            8 selected 10.0.2.1 10.0.0.1\n\
-            9 heard sync 10.0.0.1 seq 0 at 48000000000\n\
-            9 selected 10.0.2.1 10.0.0.1\n\
-            10 heard announce 10.0.0.2 class 90 at 48000000000\n\
-            10 selected 10.0.2.1 10.0.0.1\n\
-            11 heard sync 10.0.0.2 seq 0 at 48000000000\n\
-            11 selected 10.0.2.1 10.0.0.1\n\
-            12 selected 10.0.2.1 10.0.0.1\n\
-            13 heard announce 10.0.0.2 class 90 at 96000000000\n\
-            13 selected 10.0.2.1 10.0.0.1\n\
-            14 heard sync 10.0.0.2 seq 0 at 96000000000\n\
-            14 selected 10.0.2.1 10.0.0.1\n\
-            15 selected 10.0.2.1 10.0.0.1\n\
-            16 selected 10.0.2.1 10.0.0.2\n\
-            17 heard announce 10.0.0.1 class 84 at 100000000000\n\
-            17 selected 10.0.2.1 10.0.0.2\n\
-            18 heard sync 10.0.0.1 seq 0 at 100000000000\n\
-            18 selected 10.0.2.1 10.0.0.2\n\
-            19 selected 10.0.2.1 10.0.0.2\n\
-            20 heard announce 10.0.0.1 class 84 at 140000000000\n\
-            20 selected 10.0.2.1 10.0.0.2\n\
-            21 heard sync 10.0.0.1 seq 0 at 140000000000\n\
-            21 selected 10.0.2.1 10.0.0.2\n\
-            22 heard announce 10.0.0.2 class 90 at 140000000000\n\
-            22 selected 10.0.2.1 10.0.0.2\n\
-            23 heard sync 10.0.0.2 seq 0 at 140000000000\n\
-            23 selected 10.0.2.1 10.0.0.2\n\
-            24 selected 10.0.2.1 10.0.0.2\n\
-            25 selected 10.0.2.1 10.0.0.1\n\
-            end 25 0\n",
-    )
+// What comes to the slave 10.0.2.1 of the master with this last octet, or of the first one.
+#[derive(Clone, Copy)]
+enum Event {
+    // An Announce of this clock class.
+    Announce(u8, u8),
+    // A Sync with this sequenceId.
+    Sync(u8, u16),
+    DelayResp,
+    // Its flag is clear.
+    Flag,
+    // A judge of flags takes the place of its judge.
+    Judge,
 }
 
-#[test]
-fn ties_go_to_the_first_and_dnu_to_none(rt: HostRuntime) -> Result<(), Fail> {
-    assert_slaves_reported(
-        &rt,
-        rt.alloc(),
-        "\
-            slave 10.0.2.1 0a00000000000021 1 4 60 3 3 4 4 - 300\n\
-            master 10.0.2.1 10.0.0.1 1 flag\n\
-            master 10.0.2.1 10.0.0.2 1 flag\n\
-            rx 0 10.0.2.1 10.0.0.1 0b120040040004000000000000000000000000000a000000000000010\
-            0010000057f000000000000000000000000008054feffff800a000000000000010000a0\n\
-            rx 0 10.0.2.1 10.0.0.2 0b120040040004000000000000000000000000000a000000000000020\
-            0010000057f000000000000000000000000008054feffff800a000000000000020000a0\n\
-            rx 0 10.0.2.1 10.0.0.1 0012002c040004000000000000000000000000000a000000000000010\
-            0010000007f00000000000000000000\n\
-            rx 0 10.0.2.1 10.0.0.2 0012002c040004000000000000000000000000000a000000000000020\
-            0010000007f00000000000000000000\n\
-            rx 1000000000 10.0.2.1 10.0.0.1 0b120040040004000000000000000000000000000a000000\
-            0000000100010000057f00000000000000000000000000806efeffff800a000000000000010000a0\
-            \n\
-            rx 1000000000 10.0.2.1 10.0.0.2 0b120040040004000000000000000000000000000a000000\
-            0000000200010000057f00000000000000000000000000806efeffff800a000000000000020000a0\
-            \n",
-        "\
-            4 heard announce 10.0.0.1 class 84 at 0\n\
-            4 selected 10.0.2.1 none\n\
-            5 heard announce 10.0.0.2 class 84 at 0\n\
-            5 selected 10.0.2.1 none\n\
-            6 heard sync 10.0.0.1 seq 0 at 0\n\
-            6 selected 10.0.2.1 10.0.0.1\n\
-            7 heard sync 10.0.0.2 seq 0 at 0\n\
-            7 selected 10.0.2.1 10.0.0.1\n\
-            8 heard announce 10.0.0.1 class 110 at 1000000000\n\
-            8 selected 10.0.2.1 10.0.0.2\n\
-            9 heard announce 10.0.0.2 class 110 at 1000000000\n\
-            9 selected 10.0.2.1 none\n\
-            end 9 0\n",
-    )
+// The selections.
+const NONE: &str = "none";
+
+const FIRST: &str = "10.0.0.1";
+
+const SECOND: &str = "10.0.0.2";
+
+// At these nanoseconds this comes, and then this is selected.
+type Step = (u64, Event, &'static str);
+
+// A master that is lost, and restored.
+const RESTORED: [Step; 22] = [
+    (0, Event::Announce(1, 84), NONE),
+    (0, Event::Sync(1, 0), FIRST),
+    (0, Event::Announce(2, 90), FIRST),
+    (0, Event::Sync(2, 0), FIRST),
+    (48_000_000_000, Event::Announce(1, 84), FIRST),
+    (48_000_000_000, Event::Sync(1, 0), FIRST),
+    (48_000_000_000, Event::Announce(2, 90), FIRST),
+    (48_000_000_000, Event::Sync(2, 0), FIRST),
+    (48_000_000_000, Event::Flag, FIRST),
+    (96_000_000_000, Event::Announce(2, 90), FIRST),
+    (96_000_000_000, Event::Sync(2, 0), FIRST),
+    (96_000_000_000, Event::Flag, FIRST),
+    (96_000_000_001, Event::Flag, SECOND),
+    (100_000_000_000, Event::Announce(1, 84), SECOND),
+    (100_000_000_000, Event::Sync(1, 0), SECOND),
+    (100_000_000_000, Event::Flag, SECOND),
+    (140_000_000_000, Event::Announce(1, 84), SECOND),
+    (140_000_000_000, Event::Sync(1, 0), SECOND),
+    (140_000_000_000, Event::Announce(2, 90), SECOND),
+    (140_000_000_000, Event::Sync(2, 0), SECOND),
+    (159_999_999_999, Event::Flag, SECOND),
+    (160_000_000_000, Event::Flag, FIRST),
+];
+
+// Ties go to the first, and masters of class 110 are not selected.
+const TIES: [Step; 6] = [
+    (0, Event::Announce(1, 84), NONE),
+    (0, Event::Announce(2, 84), NONE),
+    (0, Event::Sync(1, 0), FIRST),
+    (0, Event::Sync(2, 0), FIRST),
+    (1_000_000_000, Event::Announce(1, 110), SECOND),
+    (1_000_000_000, Event::Announce(2, 110), NONE),
+];
+
+// A judge of gaps judges, until one of flags does.
+const GAPS: [Step; 5] = [
+    (0, Event::Announce(1, 84), NONE),
+    (0, Event::Sync(1, 0), FIRST),
+    (1_000_000_000, Event::Sync(1, 5), NONE),
+    (2_000_000_000, Event::Sync(1, 3), FIRST),
+    (2_000_000_000, Event::Judge, FIRST),
+];
+
+// A master that sends no Delay_Resp for more than three seconds, and then one every three seconds,
+// until it has been without fault for sixty.
+const LOST_AND_BACK: [Step; 33] = [
+    (0, Event::Announce(1, 84), NONE),
+    (0, Event::Sync(1, 0), NONE),
+    (0, Event::Flag, NONE),
+    (1_000_000_000, Event::DelayResp, FIRST),
+    (1_000_000_000, Event::Flag, FIRST),
+    (4_000_000_000, Event::Flag, FIRST),
+    (4_000_000_001, Event::Flag, NONE),
+    (5_000_000_000, Event::DelayResp, NONE),
+    (5_000_000_000, Event::Flag, NONE),
+    (8_000_000_000, Event::DelayResp, NONE),
+    (11_000_000_000, Event::DelayResp, NONE),
+    (14_000_000_000, Event::DelayResp, NONE),
+    (17_000_000_000, Event::DelayResp, NONE),
+    (20_000_000_000, Event::DelayResp, NONE),
+    (23_000_000_000, Event::DelayResp, NONE),
+    (26_000_000_000, Event::DelayResp, NONE),
+    (29_000_000_000, Event::DelayResp, NONE),
+    (32_000_000_000, Event::DelayResp, NONE),
+    (35_000_000_000, Event::DelayResp, NONE),
+    (38_000_000_000, Event::DelayResp, NONE),
+    (40_000_000_000, Event::Announce(1, 84), NONE),
+    (40_000_000_000, Event::Sync(1, 0), NONE),
+    (41_000_000_000, Event::DelayResp, NONE),
+    (44_000_000_000, Event::DelayResp, NONE),
+    (47_000_000_000, Event::DelayResp, NONE),
+    (50_000_000_000, Event::DelayResp, NONE),
+    (53_000_000_000, Event::DelayResp, NONE),
+    (56_000_000_000, Event::DelayResp, NONE),
+    (59_000_000_000, Event::DelayResp, NONE),
+    (62_000_000_000, Event::DelayResp, NONE),
+    (64_999_999_999, Event::Flag, NONE),
+    (65_000_000_000, Event::DelayResp, FIRST),
+    (65_000_000_000, Event::Flag, FIRST),
+];
+
+// The line of the script.
+fn line_of(alloc: Global, at: u64, event: Event) -> Result<String, Fail> {
+    Ok(match event {
+        Event::Announce(master, class) => format!(in alloc;
+            "rx {at} 10.0.2.1 10.0.0.{master} 0b120040<from-{master}>0000057f<never>00000080\
+             {class:02x}feffff80<clock-{master}>0000a0\n"
+        )?,
+        Event::Sync(master, sequence) => format!(in alloc;
+            "rx {at} 10.0.2.1 10.0.0.{master} 0012002c<from-{master}>{sequence:04x}007f<never>\n"
+        )?,
+        Event::DelayResp => format!(in alloc;
+            "rx {at} 10.0.2.1 10.0.0.1 09120036<from-1>0000037f<never><port-33>\n"
+        )?,
+        Event::Flag => format!(in alloc; "flag {at} 10.0.2.1 10.0.0.1 0\n")?,
+        Event::Judge => format!(in alloc; "judge {at} 10.0.2.1 10.0.0.1 flag\n")?,
+    })
 }
 
-#[test]
-fn a_judge_of_gaps_judges(rt: HostRuntime) -> Result<(), Fail> {
-    assert_slaves_reported(
-        &rt,
-        rt.alloc(),
-        "\
-            slave 10.0.2.1 0a00000000000021 1 4 0 3 3 4 4 - 300\n\
-            master 10.0.2.1 10.0.0.1 1 gap\n\
-            rx 0 10.0.2.1 10.0.0.1 0b120040040004000000000000000000000000000a000000000000010\
-            0010000057f000000000000000000000000008054feffff800a000000000000010000a0\n\
-            rx 0 10.0.2.1 10.0.0.1 0012002c040004000000000000000000000000000a000000000000010\
-            0010000007f00000000000000000000\n\
-            rx 1000000000 10.0.2.1 10.0.0.1 0012002c040004000000000000000000000000000a000000\
-            0000000100010005007f00000000000000000000\n\
-            rx 2000000000 10.0.2.1 10.0.0.1 0012002c040004000000000000000000000000000a000000\
-            0000000100010003007f00000000000000000000\n\
-            judge 2000000000 10.0.2.1 10.0.0.1 flag\n",
-        "\
-            3 heard announce 10.0.0.1 class 84 at 0\n\
-            3 selected 10.0.2.1 none\n\
-            4 heard sync 10.0.0.1 seq 0 at 0\n\
-            4 selected 10.0.2.1 10.0.0.1\n\
-            5 heard sync 10.0.0.1 seq 5 at 1000000000\n\
-            5 selected 10.0.2.1 none\n\
-            6 heard sync 10.0.0.1 seq 3 at 2000000000\n\
-            6 selected 10.0.2.1 10.0.0.1\n\
-            7 selected 10.0.2.1 10.0.0.1\n\
-            end 7 0\n",
-    )
+// What is said of a message that was heard, behind the number of its line.
+fn heard_of(alloc: Global, at: u64, event: Event) -> Result<String, Fail> {
+    Ok(match event {
+        Event::Announce(master, class) => format!(in alloc;
+            "heard announce 10.0.0.{master} class {class} at {at}\n"
+        )?,
+        Event::Sync(master, sequence) => format!(in alloc;
+            "heard sync 10.0.0.{master} seq {sequence} at {at}\n"
+        )?,
+        Event::DelayResp => format!(in alloc; "heard delay_resp 10.0.0.1 seq 0 at {at}\n")?,
+        Event::Flag | Event::Judge => String::new(alloc),
+    })
 }
 
-// A slave whose only master sends no Delay_Resp for more than three seconds, and then one every
-// three seconds, until it has been without fault for sixty.
-const LOST_AND_BACK: &str = "\
-    slave 10.0.2.1 0a00000000000021 1 4 60 3 3 4 4 0 300 3\n\
+// The report on a slave that is set up so, and to which all this comes.
+fn assert_selected(
+    rt: &impl Abort,
+    alloc: Global,
+    setup: &str,
+    steps: &[Step],
+) -> Result<(), Fail> {
+    let mut script = String::from_str(alloc, setup)?;
+    let mut report = String::new(alloc);
+    let mut number = setup.lines().count();
+    for (at, event, selected) in steps {
+        number = number.saturating_add(1);
+        script.push_str(line_of(alloc, *at, *event)?.as_str())?;
+        let heard = heard_of(alloc, *at, *event)?;
+        if !heard.is_empty() {
+            report.push_str(format!(in alloc; "{number} {heard}")?.as_str())?;
+        }
+        let line = format!(in alloc; "{number} selected 10.0.2.1 {selected}\n")?;
+        report.push_str(line.as_str())?;
+    }
+    report.push_str(format!(in alloc; "end {number} 0\n")?.as_str())?;
+    assert_slaves_reported(rt, alloc, script.as_str(), report.as_str())
+}
+
+// A slave with two masters of one priority.
+const TWO_MASTERS: &str = "\
+    slave 10.0.2.1 0a00000000000021 1 4 60 3 3 4 4 - 300\n\
     master 10.0.2.1 10.0.0.1 1 flag\n\
-    rx 0 10.0.2.1 10.0.0.1 0b120040040004000000000000000000000000000a000000000000010\
-    0010000057f000000000000000000000000008054feffff800a000000000000010000a0\n\
-    rx 0 10.0.2.1 10.0.0.1 0012002c040004000000000000000000000000000a000000000000010\
-    0010000007f00000000000000000000\n\
-    flag 0 10.0.2.1 10.0.0.1 0\n\
-    rx 1000000000 10.0.2.1 10.0.0.1 09120036040004000000000000000000000000000a000000\
-    0000000100010000037f000000000000000000000a000000000000210001\n\
-    flag 1000000000 10.0.2.1 10.0.0.1 0\n\
-    flag 4000000000 10.0.2.1 10.0.0.1 0\n\
-    flag 4000000001 10.0.2.1 10.0.0.1 0\n\
-    rx 5000000000 10.0.2.1 10.0.0.1 09120036040004000000000000000000000000000a000000\
-    0000000100010000037f000000000000000000000a000000000000210001\n\
-    flag 5000000000 10.0.2.1 10.0.0.1 0\n\
-    rx 8000000000 10.0.2.1 10.0.0.1 09120036040004000000000000000000000000000a000000\
-    0000000100010000037f000000000000000000000a000000000000210001\n\
-    rx 11000000000 10.0.2.1 10.0.0.1 09120036040004000000000000000000000000000a00000\
-    00000000100010000037f000000000000000000000a000000000000210001\n\
-    rx 14000000000 10.0.2.1 10.0.0.1 09120036040004000000000000000000000000000a00000\
-    00000000100010000037f000000000000000000000a000000000000210001\n\
-    rx 17000000000 10.0.2.1 10.0.0.1 09120036040004000000000000000000000000000a00000\
-    00000000100010000037f000000000000000000000a000000000000210001\n\
-    rx 20000000000 10.0.2.1 10.0.0.1 09120036040004000000000000000000000000000a00000\
-    00000000100010000037f000000000000000000000a000000000000210001\n\
-    rx 23000000000 10.0.2.1 10.0.0.1 09120036040004000000000000000000000000000a00000\
-    00000000100010000037f000000000000000000000a000000000000210001\n\
-    rx 26000000000 10.0.2.1 10.0.0.1 09120036040004000000000000000000000000000a00000\
-    00000000100010000037f000000000000000000000a000000000000210001\n\
-    rx 29000000000 10.0.2.1 10.0.0.1 09120036040004000000000000000000000000000a00000\
-    00000000100010000037f000000000000000000000a000000000000210001\n\
-    rx 32000000000 10.0.2.1 10.0.0.1 09120036040004000000000000000000000000000a00000\
-    00000000100010000037f000000000000000000000a000000000000210001\n\
-    rx 35000000000 10.0.2.1 10.0.0.1 09120036040004000000000000000000000000000a00000\
-    00000000100010000037f000000000000000000000a000000000000210001\n\
-    rx 38000000000 10.0.2.1 10.0.0.1 09120036040004000000000000000000000000000a00000\
-    00000000100010000037f000000000000000000000a000000000000210001\n\
-    rx 40000000000 10.0.2.1 10.0.0.1 0b120040040004000000000000000000000000000a00000\
-    00000000100010000057f000000000000000000000000008054feffff800a000000000000010000a\
-    0\n\
-    rx 40000000000 10.0.2.1 10.0.0.1 0012002c040004000000000000000000000000000a00000\
-    00000000100010000007f00000000000000000000\n\
-    rx 41000000000 10.0.2.1 10.0.0.1 09120036040004000000000000000000000000000a00000\
-    00000000100010000037f000000000000000000000a000000000000210001\n\
-    rx 44000000000 10.0.2.1 10.0.0.1 09120036040004000000000000000000000000000a00000\
-    00000000100010000037f000000000000000000000a000000000000210001\n\
-    rx 47000000000 10.0.2.1 10.0.0.1 09120036040004000000000000000000000000000a00000\
-    00000000100010000037f000000000000000000000a000000000000210001\n\
-    rx 50000000000 10.0.2.1 10.0.0.1 09120036040004000000000000000000000000000a00000\
-    00000000100010000037f000000000000000000000a000000000000210001\n\
-    rx 53000000000 10.0.2.1 10.0.0.1 09120036040004000000000000000000000000000a00000\
-    00000000100010000037f000000000000000000000a000000000000210001\n\
-    rx 56000000000 10.0.2.1 10.0.0.1 09120036040004000000000000000000000000000a00000\
-    00000000100010000037f000000000000000000000a000000000000210001\n\
-    rx 59000000000 10.0.2.1 10.0.0.1 09120036040004000000000000000000000000000a00000\
-    00000000100010000037f000000000000000000000a000000000000210001\n\
-    rx 62000000000 10.0.2.1 10.0.0.1 09120036040004000000000000000000000000000a00000\
-    00000000100010000037f000000000000000000000a000000000000210001\n\
-    flag 64999999999 10.0.2.1 10.0.0.1 0\n\
-    rx 65000000000 10.0.2.1 10.0.0.1 09120036040004000000000000000000000000000a00000\
-    00000000100010000037f000000000000000000000a000000000000210001\n\
-    flag 65000000000 10.0.2.1 10.0.0.1 0\n";
-
-// The report on it.
-const LOST_AND_BACK_REPORT: &str = "\
-    3 heard announce 10.0.0.1 class 84 at 0\n\
-    3 selected 10.0.2.1 none\n\
-    4 heard sync 10.0.0.1 seq 0 at 0\n\
-    4 selected 10.0.2.1 none\n\
-    5 selected 10.0.2.1 none\n\
-    6 heard delay_resp 10.0.0.1 seq 0 at 1000000000\n\
-    6 selected 10.0.2.1 10.0.0.1\n\
-    7 selected 10.0.2.1 10.0.0.1\n\
-    8 selected 10.0.2.1 10.0.0.1\n\
-    9 selected 10.0.2.1 none\n\
-    10 heard delay_resp 10.0.0.1 seq 0 at 5000000000\n\
-    10 selected 10.0.2.1 none\n\
-    11 selected 10.0.2.1 none\n\
-    12 heard delay_resp 10.0.0.1 seq 0 at 8000000000\n\
-    12 selected 10.0.2.1 none\n\
-    13 heard delay_resp 10.0.0.1 seq 0 at 11000000000\n\
-    13 selected 10.0.2.1 none\n\
-    14 heard delay_resp 10.0.0.1 seq 0 at 14000000000\n\
-    14 selected 10.0.2.1 none\n\
-    15 heard delay_resp 10.0.0.1 seq 0 at 17000000000\n\
-    15 selected 10.0.2.1 none\n\
-    16 heard delay_resp 10.0.0.1 seq 0 at 20000000000\n\
-    16 selected 10.0.2.1 none\n\
-    17 heard delay_resp 10.0.0.1 seq 0 at 23000000000\n\
-    17 selected 10.0.2.1 none\n\
-    18 heard delay_resp 10.0.0.1 seq 0 at 26000000000\n\
-    18 selected 10.0.2.1 none\n\
-    19 heard delay_resp 10.0.0.1 seq 0 at 29000000000\n\
-    19 selected 10.0.2.1 none\n\
-    20 heard delay_resp 10.0.0.1 seq 0 at 32000000000\n\
-    20 selected 10.0.2.1 none\n\
-    21 heard delay_resp 10.0.0.1 seq 0 at 35000000000\n\
-    21 selected 10.0.2.1 none\n\
-    22 heard delay_resp 10.0.0.1 seq 0 at 38000000000\n\
-    22 selected 10.0.2.1 none\n\
-    23 heard announce 10.0.0.1 class 84 at 40000000000\n\
-    23 selected 10.0.2.1 none\n\
-    24 heard sync 10.0.0.1 seq 0 at 40000000000\n\
-    24 selected 10.0.2.1 none\n\
-    25 heard delay_resp 10.0.0.1 seq 0 at 41000000000\n\
-    25 selected 10.0.2.1 none\n\
-    26 heard delay_resp 10.0.0.1 seq 0 at 44000000000\n\
-    26 selected 10.0.2.1 none\n\
-    27 heard delay_resp 10.0.0.1 seq 0 at 47000000000\n\
-    27 selected 10.0.2.1 none\n\
-    28 heard delay_resp 10.0.0.1 seq 0 at 50000000000\n\
-    28 selected 10.0.2.1 none\n\
-    29 heard delay_resp 10.0.0.1 seq 0 at 53000000000\n\
-    29 selected 10.0.2.1 none\n\
-    30 heard delay_resp 10.0.0.1 seq 0 at 56000000000\n\
-    30 selected 10.0.2.1 none\n\
-    31 heard delay_resp 10.0.0.1 seq 0 at 59000000000\n\
-    31 selected 10.0.2.1 none\n\
-    32 heard delay_resp 10.0.0.1 seq 0 at 62000000000\n\
-    32 selected 10.0.2.1 none\n\
-    33 selected 10.0.2.1 none\n\
-    34 heard delay_resp 10.0.0.1 seq 0 at 65000000000\n\
-    34 selected 10.0.2.1 10.0.0.1\n\
-    35 selected 10.0.2.1 10.0.0.1\n\
-    end 35 0\n";
+    master 10.0.2.1 10.0.0.2 1 flag\n";
 
 #[test]
-fn a_master_without_delay_resps_is_lost(rt: HostRuntime) -> Result<(), Fail> {
-    assert_slaves_reported(&rt, rt.alloc(), LOST_AND_BACK, LOST_AND_BACK_REPORT)
+fn masters_are_selected(rt: HostRuntime) -> Result<(), Fail> {
+    let alloc = rt.alloc();
+    assert_selected(&rt, alloc, TWO_MASTERS, &RESTORED)?;
+    assert_selected(&rt, alloc, TWO_MASTERS, &TIES)?;
+    let setup = "\
+        slave 10.0.2.1 0a00000000000021 1 4 0 3 3 4 4 - 300\n\
+        master 10.0.2.1 10.0.0.1 1 gap\n";
+    assert_selected(&rt, alloc, setup, &GAPS)?;
+    let setup = "\
+        slave 10.0.2.1 0a00000000000021 1 4 60 3 3 4 4 0 300 3\n\
+        master 10.0.2.1 10.0.0.1 1 flag\n";
+    assert_selected(&rt, alloc, setup, &LOST_AND_BACK)
 }
 
-#[test]
-fn asks_without_an_answer_wait(rt: HostRuntime) -> Result<(), Fail> {
-    assert_slaves_reported(
-        &rt,
-        rt.alloc(),
+// Scripts with their reports.
+const CASES: [(&str, &str); 4] = [
+    // Asks without an answer wait.
+    (
         "\
-            slave 10.0.1.17 0a00000000000011 1 4 300 3 3 1 0 - 300\n\
-            master 10.0.1.17 10.0.0.1 1 flag\n\
-            tick 0 10.0.1.17\n\
-            tick 1000000000 10.0.1.17\n\
-            tick 2000000000 10.0.1.17\n\
-            tick 3000000000 10.0.1.17\n\
-            tick 61999999999 10.0.1.17\n\
-            tick 62000000000 10.0.1.17\n",
+         slave 10.0.1.17 0a00000000000011 1 4 300 3 3 1 0 - 300\n\
+         master 10.0.1.17 10.0.0.1 1 flag\n\
+         tick 0 10.0.1.17\n\
+         tick 1000000000 10.0.1.17\n\
+         tick 2000000000 10.0.1.17\n\
+         tick 3000000000 10.0.1.17\n\
+         tick 61999999999 10.0.1.17\n\
+         tick 62000000000 10.0.1.17\n",
         "\
-            3 send 1 10.0.1.17 10.0.0.1 general 0c120040040004000000000000000000000000000a00\
-            00000000001100010000057fffffffffffffffffffff00040006b0010000012c0004000600000000\
-            012c\n\
-            3 selected 10.0.1.17 none\n\
-            4 send 2 10.0.1.17 10.0.0.1 general 0c120040040004000000000000000000000000000a00\
-            00000000001100010001057fffffffffffffffffffff00040006b0010000012c0004000600000000\
-            012c\n\
-            4 selected 10.0.1.17 none\n\
-            5 send 3 10.0.1.17 10.0.0.1 general 0c120040040004000000000000000000000000000a00\
-            00000000001100010002057fffffffffffffffffffff00040006b0010000012c0004000600000000\
-            012c\n\
-            5 selected 10.0.1.17 none\n\
-            6 selected 10.0.1.17 none\n\
-            7 selected 10.0.1.17 none\n\
-            8 send 4 10.0.1.17 10.0.0.1 general 0c120040040004000000000000000000000000000a00\
-            00000000001100010003057fffffffffffffffffffff00040006b0010000012c0004000600000000\
-            012c\n\
-            8 selected 10.0.1.17 none\n\
-            end 8 4\n",
-    )
-}
-
-#[test]
-fn a_grandmaster_and_a_slave_meet(rt: HostRuntime) -> Result<(), Fail> {
-    assert_slaves_reported(
-        &rt,
-        rt.alloc(),
+         3 send 1 10.0.1.17 10.0.0.1 general 0c120040<from-17>0000<to-all>\
+         00040006b0010000012c0004000600000000012c\n\
+         3 selected 10.0.1.17 none\n\
+         4 send 2 10.0.1.17 10.0.0.1 general 0c120040<from-17>0001<to-all>\
+         00040006b0010000012c0004000600000000012c\n\
+         4 selected 10.0.1.17 none\n\
+         5 send 3 10.0.1.17 10.0.0.1 general 0c120040<from-17>0002<to-all>\
+         00040006b0010000012c0004000600000000012c\n\
+         5 selected 10.0.1.17 none\n\
+         6 selected 10.0.1.17 none\n\
+         7 selected 10.0.1.17 none\n\
+         8 send 4 10.0.1.17 10.0.0.1 general 0c120040<from-17>0003<to-all>\
+         00040006b0010000012c0004000600000000012c\n\
+         8 selected 10.0.1.17 none\n\
+         end 8 4\n",
+    ),
+    // A grandmaster and a slave meet.
+    (
         "\
-            gm 10.0.0.1 0a00000000000001 1 4 84 2048 300\n\
-            slave 10.0.1.17 0a00000000000011 1 4 300 3 3 1 0 - 300\n\
-            master 10.0.1.17 10.0.0.1 1 flag\n\
-            tick 0 10.0.1.17\n\
-            deliver 1000000 1\n\
-            deliver 2000000 2\n\
-            turn 2001000000 10.0.0.1 2\n\
-            deliver 2002000000 3\n\
-            deliver 2003000000 4\n",
+         gm 10.0.0.1 0a00000000000001 1 4 84 2048 300\n\
+         slave 10.0.1.17 0a00000000000011 1 4 300 3 3 1 0 - 300\n\
+         master 10.0.1.17 10.0.0.1 1 flag\n\
+         tick 0 10.0.1.17\n\
+         deliver 1000000 1\n\
+         deliver 2000000 2\n\
+         turn 2001000000 10.0.0.1 2\n\
+         deliver 2002000000 3\n\
+         deliver 2003000000 4\n",
         "\
-            4 send 1 10.0.1.17 10.0.0.1 general 0c120040040004000000000000000000000000000a00\
-            00000000001100010000057fffffffffffffffffffff00040006b0010000012c0004000600000000\
-            012c\n\
-            4 selected 10.0.1.17 none\n\
-            5 granted announce 1 at 1000000 until 300001000000\n\
-            5 granted sync 0 at 1000000 until 300001000000\n\
-            5 send 2 10.0.0.1 10.0.1.17 general 0c120044040004000000000000000000000000000a00\
-            00000000000100010000057f0a00000000000011000100050008b0010000012c0001000500080000\
-            0000012c0001\n\
-            6 grant announce 300\n\
-            6 grant sync 300\n\
-            6 selected 10.0.1.17 none\n\
-            7 send 3 10.0.0.1 10.0.1.17 event 0012002c040004000000000000000000000000000a0000\
-            000000000100010000007f000000000002000f4240\n\
-            7 send 4 10.0.0.1 10.0.1.17 general 0b120040040004000000000000000000000000000a00\
-            00000000000100010000057f000000000002000f42400000008054feffff800a0000000000000100\
-            00a0\n\
-            8 heard sync 10.0.0.1 seq 0 at 2002000000\n\
-            8 selected 10.0.1.17 none\n\
-            9 heard announce 10.0.0.1 class 84 at 2003000000\n\
-            9 selected 10.0.1.17 10.0.0.1\n\
-            end 9 4\n",
-    )
-}
-
-#[test]
-fn a_master_stands_once(rt: HostRuntime) -> Result<(), Fail> {
-    assert_slaves_reported(
-        &rt,
-        rt.alloc(),
+         4 send 1 10.0.1.17 10.0.0.1 general 0c120040<from-17>0000<to-all>\
+         00040006b0010000012c0004000600000000012c\n\
+         4 selected 10.0.1.17 none\n\
+         5 granted announce 1 at 1000000 until 300001000000\n\
+         5 granted sync 0 at 1000000 until 300001000000\n\
+         5 send 2 10.0.0.1 10.0.1.17 general 0c120044<from-1>0000<to-17>\
+         00050008b0010000012c00010005000800000000012c0001\n\
+         6 grant announce 300\n\
+         6 grant sync 300\n\
+         6 selected 10.0.1.17 none\n\
+         7 send 3 10.0.0.1 10.0.1.17 event 0012002c<from-1>0000007f000000000002000f4240\n\
+         7 send 4 10.0.0.1 10.0.1.17 general 0b120040<from-1>\
+         0000057f000000000002000f42400000008054feffff80<clock-1>0000a0\n\
+         8 heard sync 10.0.0.1 seq 0 at 2002000000\n\
+         8 selected 10.0.1.17 none\n\
+         9 heard announce 10.0.0.1 class 84 at 2003000000\n\
+         9 selected 10.0.1.17 10.0.0.1\n\
+         end 9 4\n",
+    ),
+    // A master stands once.
+    (
         "\
-            slave 10.0.2.1 0a00000000000021 1 4 60 3 3 4 4 - 300\n\
-            master 10.0.2.1 10.0.0.1 1 flag\n\
-            master 10.0.2.1 10.0.0.1 2 gap\n",
+         slave 10.0.2.1 0a00000000000021 1 4 60 3 3 4 4 - 300\n\
+         master 10.0.2.1 10.0.0.1 1 flag\n\
+         master 10.0.2.1 10.0.0.1 2 gap\n",
         "3 bad node\n",
-    )
-}
+    ),
+    // Judges run out.
+    (
+        "\
+         slave 10.0.2.1 0a00000000000021 1 4 60 3 3 4 4 - 300\n\
+         master 10.0.2.1 10.0.0.1 1 gap\n\
+         judge 0 10.0.2.1 10.0.0.1 gap\n",
+        "3 bad stock\n",
+    ),
+];
 
 #[test]
-fn judges_run_out(rt: HostRuntime) -> Result<(), Fail> {
-    assert_slaves_reported(
-        &rt,
-        rt.alloc(),
-        "\
-            slave 10.0.2.1 0a00000000000021 1 4 60 3 3 4 4 - 300\n\
-            master 10.0.2.1 10.0.0.1 1 gap\n\
-            judge 0 10.0.2.1 10.0.0.1 gap\n",
-        "3 bad stock\n",
-    )
+fn slaves_are_reported(rt: HostRuntime) -> Result<(), Fail> {
+    for (script, report) in &CASES {
+        assert_slaves_reported(&rt, rt.alloc(), script, report)?;
+    }
+    Ok(())
 }
