@@ -106,14 +106,14 @@ fn take(trail: &mut Trail, log: Log, step: Step) -> Result<Option<Fault>, OutOfM
 }
 
 // No step but the last has a fault, and that one has this, on a grandmaster of this capacity.
-fn check<R: Abort>(
-    rt: &R,
+fn check(
+    rt: &impl Abort,
     alloc: Global,
     capacity: u64,
     steps: &[Step],
     fault: Option<Fault>,
 ) -> Result<(), Fail> {
-    let log = Log::of(Kind::Sync, 1).expect(rt, "in range");
+    let log = Log::of(Kind::Sync, 1).ok_or("in range")?;
     let mut trail = Trail::new(alloc, capacity);
     let mut last = None;
     for step in steps {
@@ -121,6 +121,19 @@ fn check<R: Abort>(
         last = take(&mut trail, log, *step)?;
     }
     assert_eq!(rt; last, fault);
+    Ok(())
+}
+
+// Each of these lists of steps has this fault.
+fn check_all(
+    rt: &impl Abort,
+    alloc: Global,
+    capacity: u64,
+    cases: &[(&[Step], Option<Fault>)],
+) -> Result<(), Fail> {
+    for (steps, fault) in cases {
+        check(rt, alloc, capacity, steps, *fault)?;
+    }
     Ok(())
 }
 
@@ -133,164 +146,73 @@ fn at(place: usize, cause: NoCause) -> Option<Fault> {
 fn faults_of_decisions(rt: HostRuntime) -> Result<(), Fail> {
     let alloc = rt.alloc();
     let first = grant(5, A, 300 * SECOND);
-    check(
-        &rt,
-        alloc,
-        16,
-        &[first, end(5, OTHER)],
-        at(0, NoCause::Shared),
-    )?;
-    check(&rt, alloc, 16, &[first, end(5, A), end(5, B)], None)?;
-    check(&rt, alloc, 16, &[end(1 << 62, A)], at(0, NoCause::Stamp))?;
-    check(&rt, alloc, 16, &[end((1 << 62) - 1, A)], None)?;
-    check(&rt, alloc, 16, &[first, end(4, B)], at(0, NoCause::Moment))?;
-    check(
-        &rt,
-        alloc,
-        16,
-        &[first, message(2, 5, A), end(2 * SECOND + 4, A)],
-        at(0, NoCause::Moment),
-    )?;
-    check(
-        &rt,
-        alloc,
-        16,
-        &[first, message(2, 5, A), end(2 * SECOND + 5, A)],
-        None,
-    )?;
-    check(
-        &rt,
-        alloc,
-        15,
-        &[first, grant(5, B, 300 * SECOND)],
-        at(0, NoCause::Fit),
-    )?;
-    check(&rt, alloc, 16, &[first, grant(5, B, 300 * SECOND)], None)?;
-    check(&rt, alloc, 8, &[first, grant(6, A, 400 * SECOND)], None)?;
-    check(
-        &rt,
-        alloc,
-        8,
-        &[first, grant(300 * SECOND - 1, B, 400 * SECOND)],
-        at(0, NoCause::Fit),
-    )?;
-    check(
-        &rt,
-        alloc,
-        8,
-        &[first, grant(300 * SECOND, B, 400 * SECOND)],
-        None,
-    )?;
-    Ok(())
+    let sent = message(2, 5, A);
+    let full: [(&[Step], Option<Fault>); 8] = [
+        (&[first, end(5, OTHER)], at(0, NoCause::Shared)),
+        (&[first, end(5, A), end(5, B)], None),
+        (&[end(1 << 62, A)], at(0, NoCause::Stamp)),
+        (&[end((1 << 62) - 1, A)], None),
+        (&[first, end(4, B)], at(0, NoCause::Moment)),
+        (
+            &[first, sent, end(2 * SECOND + 4, A)],
+            at(0, NoCause::Moment),
+        ),
+        (&[first, sent, end(2 * SECOND + 5, A)], None),
+        (&[first, grant(5, B, 300 * SECOND)], None),
+    ];
+    check_all(&rt, alloc, 16, &full)?;
+    let short = [first, grant(5, B, 300 * SECOND)];
+    check(&rt, alloc, 15, &short, at(0, NoCause::Fit))?;
+    let later = 300 * SECOND;
+    let half: [(&[Step], Option<Fault>); 3] = [
+        (&[first, grant(6, A, 400 * SECOND)], None),
+        (
+            &[first, grant(later - 1, B, 400 * SECOND)],
+            at(0, NoCause::Fit),
+        ),
+        (&[first, grant(later, B, 400 * SECOND)], None),
+    ];
+    check_all(&rt, alloc, 8, &half)
 }
 
 #[test]
 fn faults_of_changes(rt: HostRuntime) -> Result<(), Fail> {
-    let alloc = rt.alloc();
     let first = grant(5, A, 300 * SECOND);
     let second = grant(5, B, 300 * SECOND);
-    check(
-        &rt,
-        alloc,
-        16,
-        &[first, change(4, 16)],
-        at(0, NoCause::Moment),
-    )?;
-    check(
-        &rt,
-        alloc,
-        16,
-        &[first, change(1 << 62, 16)],
-        at(0, NoCause::Stamp),
-    )?;
-    check(
-        &rt,
-        alloc,
-        16,
-        &[first, second, change(5, 15)],
-        at(0, NoCause::Over),
-    )?;
-    check(&rt, alloc, 16, &[first, second, shed(5, 8, B)], None)?;
-    check(
-        &rt,
-        alloc,
-        16,
-        &[first, second, shed(5, 7, B)],
-        at(0, NoCause::Over),
-    )?;
-    check(
-        &rt,
-        alloc,
-        16,
-        &[first, shed(5, 8, OTHER)],
-        at(1, NoCause::Shared),
-    )?;
-    check(
-        &rt,
-        alloc,
-        16,
-        &[first, shed(5, 0, A), grant(5, B, 300 * SECOND)],
-        at(0, NoCause::Fit),
-    )?;
-    Ok(())
+    let cases: [(&[Step], Option<Fault>); 7] = [
+        (&[first, change(4, 16)], at(0, NoCause::Moment)),
+        (&[first, change(1 << 62, 16)], at(0, NoCause::Stamp)),
+        (&[first, second, change(5, 15)], at(0, NoCause::Over)),
+        (&[first, second, shed(5, 8, B)], None),
+        (&[first, second, shed(5, 7, B)], at(0, NoCause::Over)),
+        (&[first, shed(5, 8, OTHER)], at(1, NoCause::Shared)),
+        (&[first, shed(5, 0, A), second], at(0, NoCause::Fit)),
+    ];
+    check_all(&rt, rt.alloc(), 16, &cases)
 }
 
 #[test]
 fn faults_of_messages(rt: HostRuntime) -> Result<(), Fail> {
-    let alloc = rt.alloc();
     let first = grant(0, A, 300 * SECOND);
-    check(
-        &rt,
-        alloc,
-        8,
-        &[first, message(2, 0, B)],
-        at(0, NoCause::Grant),
-    )?;
-    check(
-        &rt,
-        alloc,
-        8,
-        &[first, message(2, 1_000_000_000, A)],
-        at(0, NoCause::Stamp),
-    )?;
-    check(
-        &rt,
-        alloc,
-        8,
-        &[first, message(1, 999_999_999, A)],
-        at(0, NoCause::Early),
-    )?;
-    check(&rt, alloc, 8, &[first, message(2, 0, A)], None)?;
-    check(
-        &rt,
-        alloc,
-        8,
-        &[first, message(2, 5, A), message(4, 4, A)],
-        at(0, NoCause::Early),
-    )?;
-    check(&rt, alloc, 8, &[first, message(299, 999_999_999, A)], None)?;
-    check(
-        &rt,
-        alloc,
-        8,
-        &[first, message(300, 0, A)],
-        at(0, NoCause::Grant),
-    )?;
-    check(
-        &rt,
-        alloc,
-        8,
-        &[first, end(2 * SECOND, A), message(2, 0, A)],
-        at(0, NoCause::Grant),
-    )?;
     let renewed = grant(3 * SECOND, A, 300 * SECOND);
-    check(
-        &rt,
-        alloc,
-        8,
-        &[first, renewed, message(2, 0, A)],
-        at(0, NoCause::Moment),
-    )?;
-    check(&rt, alloc, 8, &[first, renewed, message(3, 0, A)], None)?;
-    Ok(())
+    let due = message(2, 0, A);
+    let cases: [(&[Step], Option<Fault>); 10] = [
+        (&[first, message(2, 0, B)], at(0, NoCause::Grant)),
+        (
+            &[first, message(2, 1_000_000_000, A)],
+            at(0, NoCause::Stamp),
+        ),
+        (&[first, message(1, 999_999_999, A)], at(0, NoCause::Early)),
+        (&[first, due], None),
+        (
+            &[first, message(2, 5, A), message(4, 4, A)],
+            at(0, NoCause::Early),
+        ),
+        (&[first, message(299, 999_999_999, A)], None),
+        (&[first, message(300, 0, A)], at(0, NoCause::Grant)),
+        (&[first, end(2 * SECOND, A), due], at(0, NoCause::Grant)),
+        (&[first, renewed, due], at(0, NoCause::Moment)),
+        (&[first, renewed, message(3, 0, A)], None),
+    ];
+    check_all(&rt, rt.alloc(), 8, &cases)
 }
