@@ -71,6 +71,69 @@ const QUIET: Case = Case {
     sent: &[ASK],
 };
 
+const CASES: [Case; 7] = [
+    // The first ask: the next one, a second later, has the next number.
+    Case {
+        seconds: &[0, 1],
+        rounds: 2,
+        sends: &[1],
+        output: "round 1 selected none\nrounds 2 sent 1 failed 1\n",
+        sent: &[NEXT_ASK],
+        ..QUIET
+    },
+    // It is not sent again at once.
+    Case {
+        rounds: 2,
+        sends: &[1],
+        output: "round 1 selected none\nrounds 2 sent 0 failed 1\n",
+        sent: &[],
+        ..QUIET
+    },
+    // A receive of the general channel, which gives the grants in round 2, and the CANCEL at the
+    // stop.
+    Case {
+        rounds: 2,
+        general: &[GRANT],
+        general_receives: &[1],
+        sends: &[2],
+        output: "round 1 selected none\nrounds 2 sent 1 failed 2\n",
+        ..QUIET
+    },
+    // The acknowledgement of the master's CANCEL; the stop cancels what is left.
+    Case {
+        rounds: 2,
+        general: &[GRANT, CANCEL],
+        general_receives: &[1],
+        sends: &[2],
+        output: "round 1 selected none\nrounds 2 sent 2 failed 2\n",
+        sent: &[ASK, LAST_CANCEL],
+        ..QUIET
+    },
+    // A receive of the event channel: the Sync is heard in round 2.
+    Case {
+        rounds: 2,
+        general: &[ANNOUNCE],
+        event: &[SYNC],
+        event_receives: &[1],
+        output: "round 1 selected none\nround 2 selected 10.0.0.1\nrounds 2 sent 1 failed 1\n",
+        ..QUIET
+    },
+    // The first line, and the last one.
+    Case {
+        rounds: 2,
+        writes: &[1],
+        answer: Err(DaemonFault::Write),
+        output: "",
+        ..QUIET
+    },
+    Case {
+        writes: &[2],
+        answer: Err(DaemonFault::Write),
+        output: "round 1 selected none\n",
+        ..QUIET
+    },
+];
+
 // A datagram of the master.
 fn arrival(alloc: Global, digits: &str) -> Result<Arrival, Fail>
     ensures { IfOk result (λ a. length a.bytes ≤ 2048) }
@@ -153,113 +216,14 @@ fn assert_case(rt: &impl Abort, alloc: Global, case: &Case, stock: Stock) -> Res
     assert_sent(rt, alloc, &back.p4, case.sent)
 }
 
-// The first ask: the next one, a second later, has the next number.
 #[test]
-fn a_tick_fails(rt: HostRuntime) -> Result<(), Fail> {
+fn calls_fail_once(rt: HostRuntime) -> Result<(), Fail> {
     let alloc = rt.alloc();
-    let stock = one_judge(alloc, Box::new(alloc, FlagJudge::new())?)?;
-    let case = Case {
-        seconds: &[0, 1],
-        rounds: 2,
-        sends: &[1],
-        output: "round 1 selected none\nrounds 2 sent 1 failed 1\n",
-        sent: &[NEXT_ASK],
-        ..QUIET
-    };
-    assert_case(&rt, alloc, &case, stock)
-}
-
-// It is not sent again at once.
-#[test]
-fn an_ask_is_not_sent_again_at_once(rt: HostRuntime) -> Result<(), Fail> {
-    let alloc = rt.alloc();
-    let stock = one_judge(alloc, Box::new(alloc, FlagJudge::new())?)?;
-    let case = Case {
-        rounds: 2,
-        sends: &[1],
-        output: "round 1 selected none\nrounds 2 sent 0 failed 1\n",
-        sent: &[],
-        ..QUIET
-    };
-    assert_case(&rt, alloc, &case, stock)
-}
-
-// A receive of the general channel, which gives the grants in round 2, and the CANCEL at
-// the stop.
-#[test]
-fn a_receive_and_the_stop_fail(rt: HostRuntime) -> Result<(), Fail> {
-    let alloc = rt.alloc();
-    let stock = one_judge(alloc, Box::new(alloc, FlagJudge::new())?)?;
-    let case = Case {
-        rounds: 2,
-        general: &[GRANT],
-        general_receives: &[1],
-        sends: &[2],
-        output: "round 1 selected none\nrounds 2 sent 1 failed 2\n",
-        ..QUIET
-    };
-    assert_case(&rt, alloc, &case, stock)
-}
-
-// The acknowledgement of the master's CANCEL; the stop cancels what is left.
-#[test]
-fn an_acknowledgement_fails(rt: HostRuntime) -> Result<(), Fail> {
-    let alloc = rt.alloc();
-    let stock = one_judge(alloc, Box::new(alloc, FlagJudge::new())?)?;
-    let case = Case {
-        rounds: 2,
-        general: &[GRANT, CANCEL],
-        general_receives: &[1],
-        sends: &[2],
-        output: "round 1 selected none\nrounds 2 sent 2 failed 2\n",
-        sent: &[ASK, LAST_CANCEL],
-        ..QUIET
-    };
-    assert_case(&rt, alloc, &case, stock)
-}
-
-// A receive of the event channel: the Sync is heard in round 2.
-#[test]
-fn a_receive_of_the_event_channel_fails(rt: HostRuntime) -> Result<(), Fail> {
-    let alloc = rt.alloc();
-    let stock = one_judge(alloc, Box::new(alloc, FlagJudge::new())?)?;
-    let case = Case {
-        rounds: 2,
-        general: &[ANNOUNCE],
-        event: &[SYNC],
-        event_receives: &[1],
-        output: "round 1 selected none\nround 2 selected 10.0.0.1\nrounds 2 sent 1 failed 1\n",
-        ..QUIET
-    };
-    assert_case(&rt, alloc, &case, stock)
-}
-
-// The first line, and the last one.
-#[test]
-fn the_first_line_fails(rt: HostRuntime) -> Result<(), Fail> {
-    let alloc = rt.alloc();
-    let stock = one_judge(alloc, Box::new(alloc, FlagJudge::new())?)?;
-    let case = Case {
-        rounds: 2,
-        writes: &[1],
-        answer: Err(DaemonFault::Write),
-        output: "",
-        ..QUIET
-    };
-    assert_case(&rt, alloc, &case, stock)
-}
-
-#[test]
-fn the_last_line_fails(rt: HostRuntime) -> Result<(), Fail> {
-    let alloc = rt.alloc();
-    let stock = one_judge(alloc, Box::new(alloc, FlagJudge::new())?)?;
-    let case = Case {
-        writes: &[2],
-        answer: Err(DaemonFault::Write),
-        output: "round 1 selected none\n",
-        ..QUIET
-    };
-    assert_case(&rt, alloc, &case, stock)
+    for case in &CASES {
+        let stock = one_judge(alloc, Box::new(alloc, FlagJudge::new())?)?;
+        assert_case(&rt, alloc, case, stock)?;
+    }
+    Ok(())
 }
 
 #[test]

@@ -9,7 +9,7 @@ ghost use Rattle.ptu_record.specs.declared.rule.Rule.TheVariants.{Flag};
 use super::*;
 use ptu_config::{MasterList, MasterSetting, SlaveSettings};
 use ptu_judges::{FlagJudge, Judge, Stock};
-use ptu_outside::samples::{idle_port, opened_with, still_clock};
+use ptu_outside::samples::{opened_with, still_clock};
 use ptu_outside::{Arrival, Channel, Datagram, MemClock, MemHost, MemPort, MemSink};
 use ptu_units::{Kind, Log, Moment};
 use std::alloc::{AllocError, Global};
@@ -151,34 +151,55 @@ fn assert_asked(rt: &impl Abort, alloc: Global, host: &MemHost) -> Result<(), Fa
     Ok(())
 }
 
-#[test]
-fn a_slave_that_hears_nothing_asks_and_selects_none(rt: HostRuntime) -> Result<(), Fail> {
-    let alloc = rt.alloc();
-    let stock = one_judge(alloc, Box::new(alloc, FlagJudge::new())?)?;
-    let mut host = host(alloc, port(alloc, "", Vec::new(alloc))?, idle_port(alloc));
-    let output = "round 1 selected none\nrounds 1 sent 1 failed 0\n";
-    assert_output(&rt, alloc, &settings(alloc, 1)?, &mut host, stock, output)?;
-    assert_asked(&rt, alloc, &host)
+// What waits at the ports of the general and the event channel, the receive of the former that is
+// to fail, the rounds, and what is written.
+type Row = (&'static str, &'static str, u64, u32, &'static str);
+
+const ROWS: [Row; 3] = [
+    // A slave that hears nothing asks and selects none.
+    (
+        "",
+        "",
+        0,
+        1,
+        "round 1 selected none\nrounds 1 sent 1 failed 0\n",
+    ),
+    // It writes its selection once.
+    (
+        ANNOUNCE,
+        SYNC,
+        0,
+        2,
+        "round 1 selected 10.0.0.1\nrounds 2 sent 1 failed 0\n",
+    ),
+    // A failed receive is counted, and it goes on.
+    (
+        ANNOUNCE,
+        SYNC,
+        1,
+        2,
+        "round 1 selected none\nround 2 selected 10.0.0.1\nrounds 2 sent 1 failed 1\n",
+    ),
+];
+
+fn assert_row(rt: &impl Abort, alloc: Global, row: Row, stock: Stock) -> Result<(), Fail>
+    requires { IsStock (map (λ j. held (j.vtable, j.value)) stock.flags.items)
+        (map (λ j. held (j.vtable, j.value)) stock.gaps.items) }
+{
+    let (general, event, failing, rounds, output) = row;
+    let p4 = port(alloc, general, vec![in alloc; failing]?)?;
+    let mut host = host(alloc, p4, port(alloc, event, Vec::new(alloc))?);
+    let settings = settings(alloc, rounds.max(1))?;
+    assert_output(rt, alloc, &settings, &mut host, stock, output)?;
+    assert_asked(rt, alloc, &host)
 }
 
 #[test]
-fn a_slave_writes_its_selection_once(rt: HostRuntime) -> Result<(), Fail> {
+fn slaves_ask_and_write_their_selections(rt: HostRuntime) -> Result<(), Fail> {
     let alloc = rt.alloc();
-    let stock = one_judge(alloc, Box::new(alloc, FlagJudge::new())?)?;
-    let p4 = port(alloc, ANNOUNCE, Vec::new(alloc))?;
-    let mut host = host(alloc, p4, port(alloc, SYNC, Vec::new(alloc))?);
-    let output = "round 1 selected 10.0.0.1\nrounds 2 sent 1 failed 0\n";
-    assert_output(&rt, alloc, &settings(alloc, 2)?, &mut host, stock, output)?;
-    assert_asked(&rt, alloc, &host)
-}
-
-#[test]
-fn a_failed_receive_is_counted_and_the_slave_goes_on(rt: HostRuntime) -> Result<(), Fail> {
-    let alloc = rt.alloc();
-    let stock = one_judge(alloc, Box::new(alloc, FlagJudge::new())?)?;
-    let p4 = port(alloc, ANNOUNCE, vec![in alloc; 1]?)?;
-    let mut host = host(alloc, p4, port(alloc, SYNC, Vec::new(alloc))?);
-    let output = "round 1 selected none\nround 2 selected 10.0.0.1\nrounds 2 sent 1 failed 1\n";
-    assert_output(&rt, alloc, &settings(alloc, 2)?, &mut host, stock, output)?;
-    assert_asked(&rt, alloc, &host)
+    for row in ROWS {
+        let stock = one_judge(alloc, Box::new(alloc, FlagJudge::new())?)?;
+        assert_row(&rt, alloc, row, stock)?;
+    }
+    Ok(())
 }
