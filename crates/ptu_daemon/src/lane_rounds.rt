@@ -42,46 +42,24 @@ const SETTINGS: GmSettings = GmSettings {
 };
 
 // A client: its address, and its sourcePortIdentity in digits.
-#[derive(Clone, Copy)]
-struct Peer {
-    ip: u32,
-    identity: &'static str,
-}
+type Peer = (u32, &'static str);
 
 // Clients of tables 0, 1, 2 and 3: the last octet of the clock identity plus the port number,
 // modulo 4.
-const ZERO: Peer = Peer {
-    ip: 0x0a00_0103,
-    identity: "0a000000000000030001",
-};
+const ZERO: Peer = (0x0a00_0103, "0a000000000000030001");
 
-const ONE: Peer = Peer {
-    ip: 0x0a00_0104,
-    identity: "0a000000000000040001",
-};
+const ONE: Peer = (0x0a00_0104, "0a000000000000040001");
 
-const TWO: Peer = Peer {
-    ip: 0x0a00_0111,
-    identity: "0a000000000000110001",
-};
+const TWO: Peer = (0x0a00_0111, "0a000000000000110001");
 
-const THREE: Peer = Peer {
-    ip: 0x0a00_0112,
-    identity: "0a000000000000120001",
-};
+const THREE: Peer = (0x0a00_0112, "0a000000000000120001");
 
 // Another client of table 1, at 10.0.0.9, whose octets are another address backwards, and which is
 // the least address.
-const LATE: Peer = Peer {
-    ip: 0x0a00_0009,
-    identity: "0a000000000000080001",
-};
+const LATE: Peer = (0x0a00_0009, "0a000000000000080001");
 
 // Another client of table 3, at the address of the former one.
-const NEIGHBOUR: Peer = Peer {
-    ip: 0x0a00_0112,
-    identity: "0a000000000000160001",
-};
+const NEIGHBOUR: Peer = (0x0a00_0112, "0a000000000000160001");
 
 // The sourcePortIdentity of the grandmaster, and that of every port.
 const MASTER: &str = "0a000000000000010001";
@@ -192,69 +170,23 @@ enum Fault {
     Receive(usize),
 }
 
-type Case = (Change, Fault, &'static str);
+// What happens, how many datagrams are then sent and how many calls fail, and the rate that is held
+// at the end.
+type Case = (Change, Fault, u8, u8, u8);
 
 const CASES: [Case; 12] = [
-    (
-        Change::Never,
-        Fault::Nothing,
-        "rounds 3 sent 16 failed 0 granted 7 refused 1 held 65\n",
-    ),
-    (
-        Change::First,
-        Fault::Nothing,
-        "rounds 3 sent 16 failed 0 granted 7 refused 1 held 65\n",
-    ),
-    (
-        Change::Third,
-        Fault::Nothing,
-        "rounds 3 sent 17 failed 0 granted 7 refused 1 held 17\n",
-    ),
-    (
-        Change::Never,
-        Fault::Send(0, 0),
-        "rounds 3 sent 15 failed 1 granted 7 refused 1 held 65\n",
-    ),
-    (
-        Change::Never,
-        Fault::Send(1, 0),
-        "rounds 3 sent 15 failed 1 granted 7 refused 1 held 65\n",
-    ),
-    (
-        Change::Never,
-        Fault::Send(2, 0),
-        "rounds 3 sent 15 failed 1 granted 7 refused 1 held 65\n",
-    ),
-    (
-        Change::Never,
-        Fault::Send(3, 0),
-        "rounds 3 sent 15 failed 1 granted 7 refused 1 held 65\n",
-    ),
-    (
-        Change::Never,
-        Fault::Send(3, 1),
-        "rounds 3 sent 15 failed 1 granted 7 refused 1 held 65\n",
-    ),
-    (
-        Change::Never,
-        Fault::Send(4, 0),
-        "rounds 3 sent 15 failed 1 granted 7 refused 1 held 65\n",
-    ),
-    (
-        Change::Third,
-        Fault::Send(4, 9),
-        "rounds 3 sent 16 failed 1 granted 7 refused 1 held 17\n",
-    ),
-    (
-        Change::Never,
-        Fault::Receive(4),
-        "rounds 3 sent 16 failed 1 granted 7 refused 1 held 65\n",
-    ),
-    (
-        Change::Never,
-        Fault::Receive(5),
-        "rounds 3 sent 16 failed 1 granted 7 refused 1 held 65\n",
-    ),
+    (Change::Never, Fault::Nothing, 16, 0, 65),
+    (Change::First, Fault::Nothing, 16, 0, 65),
+    (Change::Third, Fault::Nothing, 17, 0, 17),
+    (Change::Never, Fault::Send(0, 0), 15, 1, 65),
+    (Change::Never, Fault::Send(1, 0), 15, 1, 65),
+    (Change::Never, Fault::Send(2, 0), 15, 1, 65),
+    (Change::Never, Fault::Send(3, 0), 15, 1, 65),
+    (Change::Never, Fault::Send(3, 1), 15, 1, 65),
+    (Change::Never, Fault::Send(4, 0), 15, 1, 65),
+    (Change::Third, Fault::Send(4, 9), 16, 1, 17),
+    (Change::Never, Fault::Receive(4), 16, 1, 65),
+    (Change::Never, Fault::Receive(5), 16, 1, 65),
 ];
 
 // The digits of a Signaling from this sourcePortIdentity to this targetPortIdentity.
@@ -278,11 +210,13 @@ fn sync(alloc: Global, sequence: u16, second: u64) -> Result<String, Fail> {
     )?)
 }
 
-// The digits of a Delay_Req.
-fn delay_req(alloc: Global, source: &str) -> Result<String, Fail> {
-    Ok(format!(in alloc;
+// A Delay_Req from a client.
+fn delay_req(alloc: Global, peer: Peer) -> Result<Given, Fail> {
+    let (ip, source) = peer;
+    let digits = format!(in alloc;
         "0112002c04000400000000000000000000000000{source}0007017f00000000000000000000"
-    )?)
+    )?;
+    arriving(alloc, ip, digits.as_str())
 }
 
 // The digits of the Delay_Resp at 7 s.
@@ -303,9 +237,9 @@ fn pause(fault: Fault, port: usize) -> Given {
 
 // A Signaling from a client.
 fn asking(alloc: Global, note: Note) -> Result<Given, Fail> {
-    let (peer, sequence, tlvs) = note;
-    let digits = signaling(alloc, peer.identity, EVERY, sequence, tlvs)?;
-    arriving(alloc, peer.ip, digits.as_str())
+    let ((ip, identity), sequence, tlvs) = note;
+    let digits = signaling(alloc, identity, EVERY, sequence, tlvs)?;
+    arriving(alloc, ip, digits.as_str())
 }
 
 // What the general channel gives.
@@ -321,12 +255,10 @@ fn general(alloc: Global, fault: Fault) -> Result<Vec<Given>, Fail> {
 
 // What the event channel gives: in round 2 a Delay_Req without a grant and one with it.
 fn event(alloc: Global, fault: Fault) -> Result<Vec<Given>, Fail> {
-    let three = delay_req(alloc, THREE.identity)?;
-    let neighbour = delay_req(alloc, NEIGHBOUR.identity)?;
     Ok(vec![in alloc;
         pause(fault, 5),
-        arriving(alloc, NEIGHBOUR.ip, neighbour.as_str())?,
-        arriving(alloc, THREE.ip, three.as_str())?,
+        delay_req(alloc, NEIGHBOUR)?,
+        delay_req(alloc, THREE)?,
     ]?)
 }
 
@@ -385,7 +317,7 @@ fn turning(alloc: Global, senders: u8, lane: usize) -> Result<MemClock, Fail>
 fn host(alloc: Global, senders: u8, case: Case) -> Result<OnceHost<StagedPort>, Fail>
     requires { 1 ≤ senders }
 {
-    let (change, fault, _) = case;
+    let (change, fault, ..) = case;
     let control = if change == Change::First {
         &CONTROL[..]
     } else {
@@ -447,9 +379,9 @@ fn expect(alloc: Global, ip: u32, channel: Channel, digits: &str) -> Result<Expe
 
 // Adds Signalings of the grandmaster.
 fn add_notes(alloc: Global, expected: &mut Vec<Expected>, notes: &[Note]) -> Result<(), Fail> {
-    for (peer, sequence, tlvs) in notes {
-        let digits = signaling(alloc, MASTER, peer.identity, *sequence, tlvs)?;
-        expected.push(expect(alloc, peer.ip, Channel::General, digits.as_str())?)?;
+    for ((ip, identity), sequence, tlvs) in notes {
+        let digits = signaling(alloc, MASTER, identity, *sequence, tlvs)?;
+        expected.push(expect(alloc, *ip, Channel::General, digits.as_str())?)?;
     }
     Ok(())
 }
@@ -461,10 +393,10 @@ fn add_syncs(
     table: usize,
     syncs: &[Timed],
 ) -> Result<(), Fail> {
-    for (owner, peer, sequence, second) in syncs {
+    for (owner, (ip, _), sequence, second) in syncs {
         if *owner == table {
             let digits = sync(alloc, *sequence, *second)?;
-            expected.push(expect(alloc, peer.ip, Channel::Event, digits.as_str())?)?;
+            expected.push(expect(alloc, *ip, Channel::Event, digits.as_str())?)?;
         }
     }
     Ok(())
@@ -481,8 +413,9 @@ fn wanted(alloc: Global, index: usize, change: Change) -> Result<Vec<Expected>, 
         return Ok(expected);
     }
     if index == 3 {
-        let digits = delay_resp(alloc, THREE.identity)?;
-        expected.push(expect(alloc, THREE.ip, Channel::General, digits.as_str())?)?;
+        let (ip, identity) = THREE;
+        let digits = delay_resp(alloc, identity)?;
+        expected.push(expect(alloc, ip, Channel::General, digits.as_str())?)?;
     }
     if change == Change::Third {
         add_syncs(alloc, &mut expected, index, &SYNCS_KEPT)?;
@@ -575,21 +508,29 @@ fn assert_case(
 ) -> Result<(), Fail>
     requires { (1 ≤ senders) × (senders ≤ 4) }
 {
+    let (change, _, sent, failed, held) = case;
     let mut host = host(alloc, senders, case)?;
-    assert_said(rt, alloc, &settings(senders, case.0), &mut host, case.2);
+    let line = format!(in alloc;
+        "rounds 3 sent {sent} failed {failed} granted 7 refused 1 held {held}\n"
+    )?;
+    assert_said(
+        rt,
+        alloc,
+        &settings(senders, change),
+        &mut host,
+        line.as_str(),
+    );
     let back = host.back.take().expect(rt, "the ports are given back");
     assert_back(rt, alloc, back, case)
 }
 
-// Serves all cases so.
-fn assert_cases(
+// Serves a case by each number of lanes.
+fn assert_all_serve(
     rt: &(impl Abort + Threads + Wait + Sync),
     alloc: Global,
-    senders: u8,
-) -> Result<(), Fail>
-    requires { (1 ≤ senders) × (senders ≤ 4) }
-{
-    for case in CASES {
+    case: Case,
+) -> Result<(), Fail> {
+    for senders in 1..5 {
         assert_case(rt, alloc, senders, case)?;
     }
     Ok(())
@@ -597,8 +538,8 @@ fn assert_cases(
 
 #[test]
 fn lanes_serve_three_rounds(rt: HostRuntime) -> Result<(), Fail> {
-    for senders in 1..5 {
-        assert_cases(&rt, rt.alloc(), senders)?;
+    for case in CASES {
+        assert_all_serve(&rt, rt.alloc(), case)?;
     }
     Ok(())
 }
@@ -656,19 +597,21 @@ fn assert_cancels(rt: &impl Abort, alloc: Global, port: &StagedPort) -> Result<(
     Ok(())
 }
 
+// In round 2 the capacity is that of one client.
+const SHEDDING: GmSettings = GmSettings {
+    rounds: 2,
+    capacity: 65536,
+    change_round: 2,
+    new_capacity: Some(1),
+    ..SETTINGS
+};
+
 #[test]
 fn a_change_sheds_forty_grants(rt: HostRuntime) -> Result<(), Fail> {
     let alloc = rt.alloc();
-    let settings = GmSettings {
-        rounds: 2,
-        capacity: 65536,
-        change_round: 2,
-        new_capacity: Some(1),
-        ..SETTINGS
-    };
     let mut host = still_host(alloc, many(alloc)?)?;
     let line = "rounds 2 sent 81 failed 0 granted 41 refused 0 held 1\n";
-    assert_said(&rt, alloc, &settings, &mut host, line);
+    assert_said(&rt, alloc, &SHEDDING, &mut host, line);
     let back = host.back.take().expect(&rt, "the ports are given back");
     assert_cancels(&rt, alloc, &back.p4)
 }

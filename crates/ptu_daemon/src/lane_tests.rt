@@ -40,6 +40,15 @@ struct Seen {
     late: AtomicU64,
 }
 
+fn nothing_seen() -> Seen {
+    Seen {
+        given: AtomicU64::new(0),
+        of_table_0: AtomicU64::new(0),
+        of_table_1: AtomicU64::new(0),
+        late: AtomicU64::new(0),
+    }
+}
+
 // Looks at the count until something was counted, or the limit is reached.
 fn await_one(seen: &Seen, count: &AtomicU64) {
     for _ in 0..LOOKS {
@@ -167,12 +176,7 @@ fn assert_serves(
 
 #[test]
 fn lanes_run_beside_each_other(rt: HostRuntime) -> Result<(), Fail> {
-    let seen = Seen {
-        given: AtomicU64::new(0),
-        of_table_0: AtomicU64::new(0),
-        of_table_1: AtomicU64::new(0),
-        late: AtomicU64::new(0),
-    };
+    let seen = nothing_seen();
     let line = "rounds 2 sent 4 failed 0 granted 2 refused 0 held 32\n";
     assert_serves(&rt, rt.alloc(), &seen, line)?;
     assert!(rt; seen.of_table_0.load(Ordering::SeqCst) == 1);

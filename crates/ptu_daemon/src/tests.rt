@@ -39,105 +39,66 @@ fn assert_line(
     host
 }
 
-// The ask is granted by so many senders, and the grant is sent.
-fn assert_granted(
-    rt: &(impl Abort + Threads + Wait + Sync),
-    alloc: Global,
-    senders: u8,
-) -> Result<(), Fail>
-    requires { senders ≤ 4 }
-{
-    let grant = hex::decode(alloc, grant(alloc, ANNOUNCE)?.as_str())?;
-    let settings = GmSettings {
-        senders,
-        ..GM_SETTINGS
-    };
-    let line = "rounds 1 sent 1 failed 0 granted 1 refused 0 held 8\n";
-    let host = assert_line(rt, alloc, &settings, asked(alloc, &[], &[])?, line);
-    let sent = host.back().and_then(|back| back.p4.sent(0));
-    assert!(rt; sent == Some((CLIENT, Channel::General, grant.as_slice())));
-    Ok(())
-}
-
+// By one thread and by lanes.
 #[test]
 fn an_ask_is_granted(rt: HostRuntime) -> Result<(), Fail> {
-    assert_granted(&rt, rt.alloc(), 0)
-}
-
-#[test]
-fn lanes_grant_an_ask(rt: HostRuntime) -> Result<(), Fail> {
-    assert_granted(&rt, rt.alloc(), 2)
-}
-
-// A change of the capacity in round 2 sheds the grant, by so many senders.
-fn assert_shed(
-    rt: &(impl Abort + Threads + Wait + Sync),
-    alloc: Global,
-    senders: u8,
-) -> Result<(), Fail>
-    requires { senders ≤ 4 }
-{
-    let settings = GmSettings {
-        rounds: 2,
-        change_round: 2,
-        new_capacity: Some(4),
-        senders,
-        ..GM_SETTINGS
-    };
-    let line = "rounds 2 sent 2 failed 0 granted 1 refused 0 held 0\n";
-    let _ = assert_line(rt, alloc, &settings, asked(alloc, &[], &[])?, line);
+    let alloc = rt.alloc();
+    let grant = hex::decode(alloc, grant(alloc, ANNOUNCE)?.as_str())?;
+    let line = "rounds 1 sent 1 failed 0 granted 1 refused 0 held 8\n";
+    for senders in [0, 2] {
+        let settings = GmSettings {
+            senders,
+            ..GM_SETTINGS
+        };
+        let host = assert_line(&rt, alloc, &settings, asked(alloc, &[], &[])?, line);
+        let sent = host.back().and_then(|back| back.p4.sent(0));
+        assert!(rt; sent == Some((CLIENT, Channel::General, grant.as_slice())));
+    }
     Ok(())
-}
-
-#[test]
-fn a_change_beside_lanes_sheds_the_grant(rt: HostRuntime) -> Result<(), Fail> {
-    assert_shed(&rt, rt.alloc(), 2)
 }
 
 #[test]
 fn a_change_sheds_the_grant(rt: HostRuntime) -> Result<(), Fail> {
-    assert_shed(&rt, rt.alloc(), 0)
-}
-
-#[test]
-fn a_failed_send_is_counted(rt: HostRuntime) -> Result<(), Fail> {
-    let alloc = rt.alloc();
-    let general = asked(alloc, &[1], &[])?;
-    let line = "rounds 1 sent 0 failed 1 granted 1 refused 0 held 8\n";
-    let _ = assert_line(&rt, alloc, &GM_SETTINGS, general, line);
+    for senders in [0, 2] {
+        let settings = GmSettings {
+            rounds: 2,
+            change_round: 2,
+            new_capacity: Some(4),
+            senders,
+            ..GM_SETTINGS
+        };
+        let general = asked(rt.alloc(), &[], &[])?;
+        let line = "rounds 2 sent 2 failed 0 granted 1 refused 0 held 0\n";
+        let _ = assert_line(&rt, rt.alloc(), &settings, general, line);
+    }
     Ok(())
 }
 
-// What waits is taken in the next round. Refuses a channel that is taken from again in the round in
-// which it failed.
+// The ask waits at a port whose first receive fails.
+fn failing(alloc: Global) -> Result<MemPort, Fail> {
+    asked(alloc, &[], &[1])
+}
+
+// A call that fails is counted. What waits after a receive that failed is not taken in this round,
+// on one thread and by lanes, but in the next one. Refuses a channel that goes on after it.
 #[test]
-fn a_failed_receive_is_counted(rt: HostRuntime) -> Result<(), Fail> {
+fn failed_calls_are_counted(rt: HostRuntime) -> Result<(), Fail> {
     let alloc = rt.alloc();
-    let general = asked(alloc, &[], &[1])?;
+    let line = "rounds 1 sent 0 failed 1 granted 1 refused 0 held 8\n";
+    let _ = assert_line(&rt, alloc, &GM_SETTINGS, asked(alloc, &[1], &[])?, line);
     let line = "rounds 1 sent 0 failed 1 granted 0 refused 0 held 0\n";
-    let _ = assert_line(&rt, alloc, &GM_SETTINGS, general, line);
-    let general = asked(alloc, &[], &[1])?;
-    let settings = GmSettings {
+    let _ = assert_line(&rt, alloc, &GM_SETTINGS, failing(alloc)?, line);
+    let lanes = GmSettings {
+        senders: 2,
+        ..GM_SETTINGS
+    };
+    let _ = assert_line(&rt, alloc, &lanes, failing(alloc)?, line);
+    let longer = GmSettings {
         rounds: 2,
         ..GM_SETTINGS
     };
     let line = "rounds 2 sent 1 failed 1 granted 1 refused 0 held 8\n";
-    let _ = assert_line(&rt, alloc, &settings, general, line);
-    Ok(())
-}
-
-// What waits after a receive that fails is not taken in this round, on one thread and by lanes. It
-// refuses a channel that goes on after it.
-#[test]
-fn a_failed_receive_ends_the_taking(rt: HostRuntime) -> Result<(), Fail> {
-    let alloc = rt.alloc();
-    let line = "rounds 1 sent 0 failed 1 granted 0 refused 0 held 0\n";
-    let _ = assert_line(&rt, alloc, &GM_SETTINGS, asked(alloc, &[], &[1])?, line);
-    let settings = GmSettings {
-        senders: 2,
-        ..GM_SETTINGS
-    };
-    let _ = assert_line(&rt, alloc, &settings, asked(alloc, &[], &[1])?, line);
+    let _ = assert_line(&rt, alloc, &longer, failing(alloc)?, line);
     Ok(())
 }
 
