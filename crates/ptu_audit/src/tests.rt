@@ -104,17 +104,19 @@ fn report_of(alloc: Global, groups: &[Group]) -> Result<String, AllocError> {
     Ok(text)
 }
 
-// What is answered and written for a report in memory, with calls that fail.
+type Answered = (Result<Answer, AuditFault>, String);
+
+// What is answered and written for a report in memory; the read and the write with these numbers
+// fail, of which none has the number 0.
 fn audited(
     alloc: Global,
     capacity: u64,
     input: &str,
-    failing_read: u64,
-    failing_write: u64,
-) -> Result<(Result<Answer, AuditFault>, String), Fail> {
+    failing: (u64, u64),
+) -> Result<Answered, Fail> {
     let bytes = Vec::from_slice(alloc, input.as_bytes())?;
-    let mut source = MemSource::new(bytes, vec![in alloc; failing_read]?);
-    let mut sink = MemSink::new(alloc, vec![in alloc; failing_write]?);
+    let mut source = MemSource::new(bytes, vec![in alloc; failing.0]?);
+    let mut sink = MemSink::new(alloc, vec![in alloc; failing.1]?);
     let answer = audit(alloc, capacity, &mut source, &mut sink);
     let text = String::from_utf8(sink.into_bytes())
         .ok()
@@ -170,7 +172,7 @@ fn trails_are_judged(rt: HostRuntime) -> Result<(), Fail> {
     ];
     for (capacity, groups, output) in cases {
         let input = report_of(alloc, groups)?;
-        let (_, text) = audited(alloc, capacity, input.as_str(), 0, 0)?;
+        let (_, text) = audited(alloc, capacity, input.as_str(), (0, 0))?;
         assert_eq!(rt; text.as_str(), output);
     }
     Ok(())
@@ -186,7 +188,7 @@ fn assert_refused(
 ) -> Result<(), Fail> {
     for (input, number) in cases {
         let number = *number;
-        let (found, text) = audited(alloc, 8, input, 0, 0)?;
+        let (found, text) = audited(alloc, 8, input, (0, 0))?;
         assert_eq!(rt; found, Err(AuditFault::Line { number, cause }));
         let output = format!(in alloc; "{number} bad {name}\n")?;
         assert_eq!(rt; text.as_str(), output.as_str());
@@ -218,10 +220,10 @@ fn lines_are_refused(rt: HostRuntime) -> Result<(), Fail> {
 #[test]
 fn reports_without_a_last_line_feed_or_a_reply_are_answered(rt: HostRuntime) -> Result<(), Fail> {
     let alloc = rt.alloc();
-    let (found, text) = audited(alloc, 8, "end 0 0", 0, 0)?;
+    let (found, text) = audited(alloc, 8, "end 0 0", (0, 0))?;
     assert_eq!(rt; found, Ok(Answer::Yes { grants: 0, sent: 0 }));
     assert_eq!(rt; text.as_str(), "yes grants 0 sent 0\n");
-    let (found, text) = audited(alloc, 8, "2 nothing 3\nend 2 0\n", 0, 0)?;
+    let (found, text) = audited(alloc, 8, "2 nothing 3\nend 2 0\n", (0, 0))?;
     let cause = NoCause::Reply;
     assert_eq!(rt; found, Ok(Answer::No { line: 1, cause }));
     assert_eq!(rt; text.as_str(), "no 1 reply\n");
@@ -230,8 +232,8 @@ fn reports_without_a_last_line_feed_or_a_reply_are_answered(rt: HostRuntime) -> 
 
 #[test]
 fn a_read_or_a_write_that_fails_ends_the_output(rt: HostRuntime) -> Result<(), Fail> {
-    for (read, write, fault) in [(2, 0, AuditFault::Read), (0, 1, AuditFault::Write)] {
-        let answer = audited(rt.alloc(), 8, "end 0 0", read, write)?;
+    for (failing, fault) in [((2, 0), AuditFault::Read), ((0, 1), AuditFault::Write)] {
+        let answer = audited(rt.alloc(), 8, "end 0 0", failing)?;
         assert_eq!(rt; answer, (Err(fault), String::new(rt.alloc())));
     }
     Ok(())

@@ -25,4 +25,6 @@ pub use reading::read_datagram;
 #[cfg(test)]
 mod join_tests;
 #[cfg(test)]
+mod memory;
+#[cfg(test)]
 mod tests;

@@ -1,23 +1,13 @@
 use super::*;
-use ptu_outside::{MemSink, MemSource};
+use crate::memory::{Answered, ends, written};
 use std::alloc::Global;
 use std::test::Fail;
 
 // What is answered and written for an input in memory, with calls that fail.
-fn shown(
-    alloc: Global,
-    input: &str,
-    failing_read: u64,
-    failing_write: u64,
-) -> Result<(Result<u64, LabFault>, String), Fail> {
-    let bytes = Vec::from_slice(alloc, input.as_bytes())?;
-    let mut source = MemSource::new(bytes, vec![in alloc; failing_read]?);
-    let mut sink = MemSink::new(alloc, vec![in alloc; failing_write]?);
+fn shown(alloc: Global, input: &str, failing: (u64, u64)) -> Result<Answered<LabFault>, Fail> {
+    let (mut source, mut sink) = ends(alloc, input, failing)?;
     let answer = show(alloc, &mut source, &mut sink);
-    let text = String::from_utf8(sink.into_bytes())
-        .ok()
-        .ok_or("plain text")?;
-    Ok((answer, text))
+    Ok((answer, written(sink)?))
 }
 
 // A REQUEST of Announce; a Sync; a Delay_Resp; a CANCEL; and several TLVs with octets behind them.
@@ -73,7 +63,7 @@ fn datagrams_are_decoded_line_by_line(rt: HostRuntime) -> Result<(), Fail> {
         ),
     ] {
         let wanted = format!(in alloc; "1 {line}\nend 1\n")?;
-        let (answer, text) = shown(alloc, datagram, 0, 0)?;
+        let (answer, text) = shown(alloc, datagram, (0, 0))?;
         assert_eq!(rt; answer, Ok(1));
         assert_eq!(rt; text.as_str(), wanted.as_str());
     }
@@ -81,24 +71,28 @@ fn datagrams_are_decoded_line_by_line(rt: HostRuntime) -> Result<(), Fail> {
 }
 
 #[test]
-fn the_output_ends_at_a_refused_line_or_a_fault(rt: HostRuntime) -> Result<(), Fail> {
-    let alloc = rt.alloc();
-    let refused = |number, cause| Err(LabFault::Line { number, cause });
-    for (input, failing_read, failing_write, answer, output) in [
-        ("0c1", 0, 0, refused(1, Cause::Field(1)), "1 bad field 1\n"),
-        (
-            "# note\n\n-\n-",
-            0,
-            0,
-            Ok(4),
-            "3 fault short 0\n4 fault short 0\nend 4\n",
-        ),
-        ("-\n", 2, 0, Err(LabFault::Read), "1 fault short 0\n"),
-        ("-\n", 0, 2, Err(LabFault::Write), "1 fault short 0\n"),
-    ] {
-        let (found, text) = shown(alloc, input, failing_read, failing_write)?;
-        assert_eq!(rt; found, answer);
-        assert_eq!(rt; text.as_str(), output);
+fn the_output_ends_at_a_refused_line(rt: HostRuntime) -> Result<(), Fail> {
+    let (answer, text) = shown(rt.alloc(), "0c1", (0, 0))?;
+    let cause = Cause::Field(1);
+    assert_eq!(rt; answer, Err(LabFault::Line { number: 1, cause }));
+    assert_eq!(rt; text.as_str(), "1 bad field 1\n");
+    Ok(())
+}
+
+#[test]
+fn lines_without_a_datagram_are_counted(rt: HostRuntime) -> Result<(), Fail> {
+    let (answer, text) = shown(rt.alloc(), "# note\n\n-\n-", (0, 0))?;
+    assert_eq!(rt; answer, Ok(4));
+    assert_eq!(rt; text.as_str(), "3 fault short 0\n4 fault short 0\nend 4\n");
+    Ok(())
+}
+
+#[test]
+fn the_output_ends_at_a_fault(rt: HostRuntime) -> Result<(), Fail> {
+    for (failing, fault) in [((2, 0), LabFault::Read), ((0, 2), LabFault::Write)] {
+        let (answer, text) = shown(rt.alloc(), "-\n", failing)?;
+        assert_eq!(rt; answer, Err(fault));
+        assert_eq!(rt; text.as_str(), "1 fault short 0\n");
     }
     Ok(())
 }
