@@ -3,17 +3,19 @@
 ghost use Rattle.std.specs.Prelude.{◌≡◌, IfOk, map, length};
 ghost use Rattle.ptu_judges.specs.Held.{IsStock};
 
-use crate::tests::{no_judges, one_judge, opened_with, port, ran};
+use crate::tests::{no_judges, one_judge, ran};
 use ptu_judges::{FlagJudge, Stock};
+use ptu_outside::samples::{idle_port, opened_with};
 use ptu_outside::{Arrival, Channel, Datagram, MemHost, MemPort};
 use std::alloc::Global;
 use std::sync::Wait;
 use std::test::Fail;
 use std::thread::Threads;
 
-const SERVE: &str = "ip = \"127.0.0.1\"\nclock = \"0a00000000000001\"\ncapacity = 8\nrounds = 1\n";
+pub(crate) const SERVE: &str =
+    "ip = \"127.0.0.1\"\nclock = \"0a00000000000001\"\ncapacity = 8\nrounds = 1\n";
 
-const SLAVE: &str = "ip = \"127.0.0.1\"\nclock = \"0a00000000000011\"\nrounds = 1\n\
+pub(crate) const SLAVE: &str = "ip = \"127.0.0.1\"\nclock = \"0a00000000000011\"\nrounds = 1\n\
     [[masters]]\nip = \"10.0.0.1\"\n";
 
 // A client at 10.0.1.17 asks for Announces at the logarithm 1, for 300 s.
@@ -51,7 +53,7 @@ fn asked_port(alloc: Global) -> Result<MemPort, Fail> {
 
 // A port at which nothing waits, with room for a datagram.
 fn empty_port(alloc: Global) -> Result<MemPort, Fail> {
-    let mut port = port(alloc);
+    let mut port = idle_port(alloc);
     port.reserve(4, 1024)?;
     Ok(port)
 }

@@ -3,22 +3,17 @@
 ghost use Rattle.std.specs.Prelude.{◌≡◌, None, map};
 ghost use Rattle.ptu_judges.specs.Held.{IsStock};
 
+use crate::daemon_tests::{SERVE, SLAVE};
 use crate::run::run;
-use crate::tests::{ONE_ASK, ONE_GRANT, no_judges, one_judge, opened_with, port, ran, shut};
+use crate::tests::{HALVES, ONE_ASK, ONE_GRANT, no_judges, one_judge, ran, shut};
 use ptu_judges::{FlagJudge, Stock};
+use ptu_outside::samples::{idle_port, opened_with};
 use ptu_outside::{Failed, MemHost, Sink, Source};
 use std::alloc::Global;
 use std::cell::Cell;
 use std::sync::Wait;
 use std::test::Fail;
 use std::thread::Threads;
-
-/// The two halves of a Sync, each of which is also a datagram to be shown.
-const HALVES: &str = "\
-    0812002c040004000000000000000000000000000a000000000000010001000002\
-    7f00000000000100000000\n\
-    0012002c040006000000000000000000000000000a000000000000010001000000\
-    7f00000000000000000000\n";
 
 /// A slave without masters ticks, and its grandmaster's table takes a turn for nobody.
 const NO_MASTERS: &str = "\
@@ -27,11 +22,6 @@ const NO_MASTERS: &str = "\
     tick 0 10.0.1.17\n\
     turn 1 10.0.0.1 0\n\
     tick 2 10.0.1.17\n";
-
-const SERVE: &str = "ip = \"127.0.0.1\"\nclock = \"0a00000000000001\"\ncapacity = 8\nrounds = 1\n";
-
-const SLAVE: &str = "ip = \"127.0.0.1\"\nclock = \"0a00000000000011\"\nrounds = 1\n\
-    [[masters]]\nip = \"10.0.0.1\"\n";
 
 // Writes down one call more, as a binary digit behind those of the calls before.
 fn note(diary: &Cell<u64>, digit: u64) {
@@ -149,7 +139,7 @@ fn reads_and_writes_take_turns(rt: HostRuntime) -> Result<(), Fail> {
 
 // A host in memory that opens.
 fn open(alloc: Global) -> MemHost {
-    MemHost::new(opened_with(alloc, port(alloc)), false)
+    MemHost::new(opened_with(alloc, idle_port(alloc)), false)
 }
 
 // Settings that can't be read open nothing, and a daemon whose line is not taken gives its ports
@@ -217,14 +207,8 @@ fn bad_scripts_are_refused(rt: HostRuntime) -> Result<(), Fail> {
         ("turn 0 10.0.0.9 0\n", "1 bad node\n"),
     ] {
         let mut host = open(alloc);
-        let (status, text) = ran(
-            &rt,
-            &["replay"],
-            script,
-            (0, 0),
-            &mut host,
-            no_judges(alloc),
-        )?;
+        let stock = no_judges(alloc);
+        let (status, text) = ran(&rt, &["replay"], script, (0, 0), &mut host, stock)?;
         assert_eq!(rt; status, 65);
         assert_eq!(rt; text.as_str(), output);
     }

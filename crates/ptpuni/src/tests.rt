@@ -6,7 +6,8 @@ ghost use Rattle.ptu_judges.specs.Held.{IsStock, fresh};
 use crate::run::run;
 use crate::{is_daemon, run_in_blocks};
 use ptu_judges::{FlagJudge, Judge, Rule, Stock};
-use ptu_outside::{MemClock, MemHost, MemPort, MemSink, MemSource, Opened};
+use ptu_outside::samples::{idle_port, opened_with};
+use ptu_outside::{MemHost, MemSink, MemSource};
 use std::alloc::{AllocError, Global};
 use std::io::{self, ErrorKind, Write};
 use std::sync::Wait;
@@ -80,37 +81,9 @@ pub(crate) fn one_judge(alloc: Global, flag: Box<dyn Judge>) -> Result<Stock, Al
     Ok(stock)
 }
 
-/// A port in memory at which nothing waits.
-pub(crate) fn port(alloc: Global) -> MemPort {
-    MemPort::new(alloc, Vec::new(alloc), Vec::new(alloc), Vec::new(alloc))
-}
-
-// A clock in memory that stands at 0.
-fn clock(alloc: Global) -> MemClock {
-    MemClock::new(Vec::new(alloc))
-}
-
-/// Six ports and six clocks in memory, of which port 4 is handed in.
-pub(crate) fn opened_with(alloc: Global, p4: MemPort) -> Opened<MemPort, MemClock> {
-    Opened {
-        p0: port(alloc),
-        p1: port(alloc),
-        p2: port(alloc),
-        p3: port(alloc),
-        p4,
-        p5: port(alloc),
-        c0: clock(alloc),
-        c1: clock(alloc),
-        c2: clock(alloc),
-        c3: clock(alloc),
-        c4: clock(alloc),
-        c5: clock(alloc),
-    }
-}
-
 /// A host in memory that does not open.
 pub(crate) fn shut(alloc: Global) -> MemHost {
-    MemHost::new(opened_with(alloc, port(alloc)), true)
+    MemHost::new(opened_with(alloc, idle_port(alloc)), true)
 }
 
 /// What a run over memory and this host answers and writes, with a read and a write that fail; none
@@ -186,15 +159,7 @@ fn each_write_fails_in_turn(rt: HostRuntime) -> Result<(), Fail> {
 
 // Whether the words are refused before anything is read or written.
 fn refuses(rt: &(impl AllocGlobal + Threads + Wait + Sync), words: &[&str]) -> Result<bool, Fail> {
-    let alloc = rt.alloc();
-    let (status, text) = ran(
-        rt,
-        words,
-        ONE_ASK,
-        (1, 1),
-        &mut shut(alloc),
-        no_judges(alloc),
-    )?;
+    let (status, text) = ran_alone(rt, words, ONE_ASK, (1, 1))?;
     Ok(status == 64 && text.is_empty())
 }
 
@@ -208,71 +173,100 @@ fn words_of_no_command(rt: HostRuntime) -> Result<(), Fail> {
     Ok(())
 }
 
-#[test]
-fn halves_are_joined(rt: HostRuntime) -> Result<(), Fail> {
+/// The two halves of a Sync, each of which is also a datagram to be shown.
+pub(crate) const HALVES: &str = "\
+    0812002c040004000000000000000000000000000a000000000000010001000002\
+    7f00000000000100000000\n\
+    0012002c040006000000000000000000000000000a000000000000010001000000\
+    7f00000000000000000000\n";
+
+const JOINED: &str = "\
+    1 wait\n\
+    2 pair 0012002c040004000000000000000000000000000a000000000000010001000000\
+    7f00000000000100000000\nend 2 0\n";
+
+// A customer asks, and a stranger sends no octets.
+const POURED: &str = "\
+    gm 10.0.0.1 0a00000000000001 1 4 84 16 300\n\
+    pool 10.0.1.0 24 8\n\
+    rx 0 10.0.1.18 0c120036040004000000000000000000000000000a00000000000012\
+    00010000057fffffffffffffffffffff00040006b0040000012c\n\
+    rx 0 10.0.3.1 -";
+
+// Words, an input, the status and the output.
+type Run = (&'static [&'static str], &'static str, u8, &'static str);
+
+const RUNS: [Run; 9] = [
+    (&["join"], HALVES, 0, JOINED),
+    (
+        &["show"],
+        "0c120036040004000000000000000000000000000a0000000000001100010000057f\
+         ffffffffffffffffffff00040006b0010000012c\n",
+        0,
+        "1 signaling length 54 domain 4 from 0a00000000000011/1 seq 0 to \
+         ffffffffffffffff/65535 request 11 1 300\nend 1\n",
+    ),
+    (
+        &["show"],
+        "0012002c040004000000000000000000000000000a000000000000010001\
+         0000007f00000000000100000000",
+        0,
+        "1 sync length 44 domain 4 from 0a00000000000001/1 seq 0 stamp 1 0\nend 1\n",
+    ),
+    (&["show"], "0c1\n", 65, "1 bad field 1\n"),
+    (&["audit", "32"], ONE_GRANT, 0, "yes grants 1 sent 0\n"),
+    (&["audit", "7"], ONE_GRANT, 70, "no 1 fit\n"),
+    (&["audit", "7"], "", 65, "1 bad end\n"),
+    (
+        &["pools"],
+        POURED,
+        0,
+        "3 pool 1 send general 10.0.1.18 0c120038040004000000000000000000000000000a000000\
+         0000000100010000057f0a00000000000012000100050008b0040000012c0001\n\
+         4 stranger\nend 4\n",
+    ),
+    (
+        &["pools"],
+        "gm 10.0.0.1 0a00000000000001 1 4 84 16 300\npool 10.0.1.0 24 17\n",
+        65,
+        "2 bad over\n",
+    ),
+];
+
+// What a run of these words over this input, with a read and a write that fail, answers and writes
+// where there are no judges and no host opens.
+fn ran_alone(
+    rt: &(impl AllocGlobal + Threads + Wait + Sync),
+    words: &[&str],
+    input: &str,
+    failing: (u64, u64),
+) -> Result<(u8, String), Fail> {
     let alloc = rt.alloc();
-    let input = "\
-        0812002c040004000000000000000000000000000a000000000000010001000002\
-        7f00000000000100000000\n\
-        0012002c040006000000000000000000000000000a000000000000010001000000\
-        7f00000000000000000000\n";
-    let output = "\
-        1 wait\n\
-        2 pair 0012002c040004000000000000000000000000000a000000000000010001000000\
-        7f00000000000100000000\nend 2 0\n";
-    let (found, text) = ran(
-        &rt,
-        &["join"],
+    ran(
+        rt,
+        words,
         input,
-        (0, 0),
+        failing,
         &mut shut(alloc),
         no_judges(alloc),
-    )?;
-    assert_eq!(rt; found, 0);
-    assert_eq!(rt; text.as_str(), output);
-    let (found, text) = ran(
-        &rt,
-        &["join"],
-        input,
-        (2, 0),
-        &mut shut(alloc),
-        no_judges(alloc),
-    )?;
-    assert_eq!(rt; found, 66);
-    assert!(rt; output.starts_with(text.as_str()), "{text}");
+    )
+}
+
+#[test]
+fn runs_have_their_outputs(rt: HostRuntime) -> Result<(), Fail> {
+    for (words, input, status, output) in RUNS {
+        let (found, text) = ran_alone(&rt, words, input, (0, 0))?;
+        assert_eq!(rt; found, status);
+        assert_eq!(rt; text.as_str(), output);
+    }
     Ok(())
 }
 
 #[test]
-fn datagrams_are_shown(rt: HostRuntime) -> Result<(), Fail> {
-    let alloc = rt.alloc();
-    for (input, output, status) in [
-        (
-            "0c120036040004000000000000000000000000000a0000000000001100010000057f\
-             ffffffffffffffffffff00040006b0010000012c\n",
-            "1 signaling length 54 domain 4 from 0a00000000000011/1 seq 0 to \
-             ffffffffffffffff/65535 request 11 1 300\nend 1\n",
-            0,
-        ),
-        (
-            "0012002c040004000000000000000000000000000a000000000000010001\
-             0000007f00000000000100000000",
-            "1 sync length 44 domain 4 from 0a00000000000001/1 seq 0 stamp 1 0\nend 1\n",
-            0,
-        ),
-        ("0c1\n", "1 bad field 1\n", 65),
-    ] {
-        let (found, text) = ran(
-            &rt,
-            &["show"],
-            input,
-            (0, 0),
-            &mut shut(alloc),
-            no_judges(alloc),
-        )?;
-        assert_eq!(rt; found, status);
-        assert_eq!(rt; text.as_str(), output);
-    }
+fn a_join_whose_input_fails(rt: HostRuntime) -> Result<(), Fail> {
+    let (found, text) = ran_alone(&rt, &["join"], HALVES, (2, 0))?;
+    assert_eq!(rt; found, 66);
+    assert!(rt; JOINED.starts_with(text.as_str()), "{text}");
     Ok(())
 }
 
@@ -295,7 +289,7 @@ impl Write for Lost {
 fn a_last_block_that_is_lost_is_a_fault_of_the_output(rt: HostRuntime) -> Result<(), Fail> {
     let alloc = rt.alloc();
     for (word, input) in [("replay", ONE_ASK), ("show", "0c1\n"), ("show", "")] {
-        let mut host = MemHost::new(opened_with(alloc, port(alloc)), true);
+        let mut host = MemHost::new(opened_with(alloc, idle_port(alloc)), true);
         let stock = no_judges(alloc);
         let status = run_in_blocks(&rt, &[word], input.as_bytes(), Lost, &mut host, stock);
         assert_eq!(rt; status, 67);
@@ -313,63 +307,6 @@ fn lines_of_daemons_are_waited_for(rt: HostRuntime) -> Result<(), Fail> {
         ([].as_slice(), false),
     ] {
         assert_eq!(rt; is_daemon(words), waits);
-    }
-    Ok(())
-}
-
-#[test]
-fn a_report_is_audited(rt: HostRuntime) -> Result<(), Fail> {
-    let alloc = rt.alloc();
-    for (capacity, report, output, status) in [
-        ("32", ONE_GRANT, "yes grants 1 sent 0\n", 0),
-        ("7", ONE_GRANT, "no 1 fit\n", 70),
-        ("7", "", "1 bad end\n", 65),
-    ] {
-        let (found, text) = ran(
-            &rt,
-            &["audit", capacity],
-            report,
-            (0, 0),
-            &mut shut(alloc),
-            no_judges(alloc),
-        )?;
-        assert_eq!(rt; found, status);
-        assert_eq!(rt; text.as_str(), output);
-    }
-    Ok(())
-}
-
-#[test]
-fn pools_are_poured(rt: HostRuntime) -> Result<(), Fail> {
-    let alloc = rt.alloc();
-    for (script, output, status) in [
-        (
-            "gm 10.0.0.1 0a00000000000001 1 4 84 16 300\n\
-             pool 10.0.1.0 24 8\n\
-             rx 0 10.0.1.18 0c120036040004000000000000000000000000000a00000000000012\
-             00010000057fffffffffffffffffffff00040006b0040000012c\n\
-             rx 0 10.0.3.1 -",
-            "3 pool 1 send general 10.0.1.18 0c120038040004000000000000000000000000000a000000\
-             0000000100010000057f0a00000000000012000100050008b0040000012c0001\n\
-             4 stranger\nend 4\n",
-            0,
-        ),
-        (
-            "gm 10.0.0.1 0a00000000000001 1 4 84 16 300\npool 10.0.1.0 24 17\n",
-            "2 bad over\n",
-            65,
-        ),
-    ] {
-        let (found, text) = ran(
-            &rt,
-            &["pools"],
-            script,
-            (0, 0),
-            &mut shut(alloc),
-            no_judges(alloc),
-        )?;
-        assert_eq!(rt; found, status);
-        assert_eq!(rt; text.as_str(), output);
     }
     Ok(())
 }

@@ -4,6 +4,7 @@ use super::*;
 use crate::cause::PoolCause;
 use ptu_outside::{MemSink, MemSource};
 use std::alloc::Global;
+use std::process::Abort;
 use std::test::Fail;
 
 // What is answered and written for a script in memory, whose source and sink fail at these calls.
@@ -58,8 +59,6 @@ fn two_customers(rt: HostRuntime) -> Result<(), Fail> {
 
 const GM: &str = "gm 10.0.0.1 0a00000000000001 1 4 84 16 300\n";
 
-const GM_LINE: &str = "gm 10.0.0.2 0a00000000000002 1 4 84 16 300";
-
 /// A grandmaster of 16 sixteenths, and two customers of half of them each.
 const TWO_POOLS: &str = "gm 10.0.0.1 0a00000000000001 1 4 84 16 300\n\
     pool 10.0.1.0 24 8\n\
@@ -68,57 +67,93 @@ const TWO_POOLS: &str = "gm 10.0.0.1 0a00000000000001 1 4 84 16 300\n\
 /// A grandmaster of 16 sixteenths, and one customer of half of them.
 const ONE_CUSTOMER: &str = "gm 10.0.0.1 0a00000000000001 1 4 84 16 300\npool 10.0.1.0 24 8\n";
 
-// Which line of a script that begins with one customer is refused, and why.
-#[test]
-fn lines_are_refused(rt: HostRuntime) -> Result<(), Fail> {
-    let alloc = rt.alloc();
-    for (begins, line, number, cause) in [
-        ("", "pool 10.0.1.0 24 8", 1, PoolCause::Order),
-        ("", "rx 0 10.0.1.17 -", 1, PoolCause::Order),
-        ("", "turn 0 1 0", 1, PoolCause::Order),
-        (
-            "",
-            "gm 10.0.0.1 0a00000000000001 1 4 84 0 300",
-            1,
-            PoolCause::Field(7),
-        ),
-        (GM, "gm 10.0.0.2 x 1 4 84 16 300", 2, PoolCause::Field(3)),
-        (GM, "pool 0.0.0.1 0 8", 2, PoolCause::Net),
-        (GM, "pool 10.0.1.1 24 17", 2, PoolCause::Net),
-        (GM, "pool 10.0.1.1 24 8", 2, PoolCause::Net),
-        (GM, "pool 10.0.1.0 24 17", 2, PoolCause::Over),
-        (GM, "rx 0 10.0.1.17 -", 2, PoolCause::Order),
-        (GM, "turn 0 1 0", 2, PoolCause::Order),
-        (ONE_CUSTOMER, "pool 10.0.2.0 24 9", 3, PoolCause::Over),
-        (ONE_CUSTOMER, "pool 10.0.0.0 16 8", 3, PoolCause::Overlap),
-        (ONE_CUSTOMER, "pool 10.0.1.128 25 9", 3, PoolCause::Overlap),
-        (ONE_CUSTOMER, "pool 10.0.1.128 24 9", 3, PoolCause::Net),
-        (ONE_CUSTOMER, "pool 0.0.0.0 0 1", 3, PoolCause::Overlap),
-        (ONE_CUSTOMER, "pool 10.0.1.17 32 1", 3, PoolCause::Overlap),
-        (ONE_CUSTOMER, GM_LINE, 3, PoolCause::Order),
-        (ONE_CUSTOMER, "turn 0 2 0", 3, PoolCause::Number),
-        (ONE_CUSTOMER, "turn 0 17 0", 3, PoolCause::Field(3)),
-        (ONE_CUSTOMER, "rx 0 10.0.1.17", 3, PoolCause::Count),
-        (ONE_CUSTOMER, "tick 0 10.0.1.17", 3, PoolCause::Word),
-        (
-            ONE_CUSTOMER,
+// Behind which lines, at which line, and why each of these is refused.
+type Refusal = (&'static str, u64, PoolCause, &'static [&'static str]);
+
+const REFUSALS: [Refusal; 16] = [
+    (
+        "",
+        1,
+        PoolCause::Order,
+        &["pool 10.0.1.0 24 8", "rx 0 10.0.1.17 -", "turn 0 1 0"],
+    ),
+    (
+        "",
+        1,
+        PoolCause::Field(7),
+        &["gm 10.0.0.1 0a00000000000001 1 4 84 0 300"],
+    ),
+    (GM, 2, PoolCause::Field(3), &["gm 10.0.0.2 x 1 4 84 16 300"]),
+    (
+        GM,
+        2,
+        PoolCause::Net,
+        &[
+            "pool 0.0.0.1 0 8",
+            "pool 10.0.1.1 24 17",
+            "pool 10.0.1.1 24 8",
+        ],
+    ),
+    (GM, 2, PoolCause::Over, &["pool 10.0.1.0 24 17"]),
+    (GM, 2, PoolCause::Order, &["rx 0 10.0.1.17 -", "turn 0 1 0"]),
+    (ONE_CUSTOMER, 3, PoolCause::Over, &["pool 10.0.2.0 24 9"]),
+    (
+        ONE_CUSTOMER,
+        3,
+        PoolCause::Overlap,
+        &[
+            "pool 10.0.0.0 16 8",
+            "pool 10.0.1.128 25 9",
+            "pool 0.0.0.0 0 1",
+            "pool 10.0.1.17 32 1",
+        ],
+    ),
+    (ONE_CUSTOMER, 3, PoolCause::Net, &["pool 10.0.1.128 24 9"]),
+    (
+        ONE_CUSTOMER,
+        3,
+        PoolCause::Order,
+        &["gm 10.0.0.2 0a00000000000002 1 4 84 16 300"],
+    ),
+    (ONE_CUSTOMER, 3, PoolCause::Number, &["turn 0 2 0"]),
+    (ONE_CUSTOMER, 3, PoolCause::Field(3), &["turn 0 17 0"]),
+    (ONE_CUSTOMER, 3, PoolCause::Count, &["rx 0 10.0.1.17"]),
+    (ONE_CUSTOMER, 3, PoolCause::Word, &["tick 0 10.0.1.17"]),
+    (
+        ONE_CUSTOMER,
+        4,
+        PoolCause::Order,
+        &[
             "turn 0 1 0\npool 10.0.2.0 24 8",
-            4,
-            PoolCause::Order,
-        ),
-        (
-            ONE_CUSTOMER,
             "rx 0 10.0.9.9 -\npool 10.0.2.0 24 8",
-            4,
-            PoolCause::Order,
-        ),
-        (ONE_CUSTOMER, "\t", 3, PoolCause::Text),
-    ] {
+        ],
+    ),
+    (ONE_CUSTOMER, 3, PoolCause::Text, &["\t"]),
+];
+
+fn assert_refused(
+    rt: &impl Abort,
+    alloc: Global,
+    begins: &str,
+    number: u64,
+    cause: PoolCause,
+    lines: &[&str],
+) -> Result<(), Fail> {
+    let named = format!(in alloc; "{number} bad {cause}\n")?;
+    for line in lines {
         let script = format!(in alloc; "{begins}{line}\n")?;
         let (answer, output) = run(alloc, script.as_str(), 0, 0)?;
         assert_eq!(rt; answer, Err(PoolRunFault::Line { number, cause }));
-        let named = format!(in alloc; "{number} bad {cause}\n")?;
         assert!(rt; output.as_str().ends_with(named.as_str()));
+    }
+    Ok(())
+}
+
+#[test]
+fn lines_are_refused(rt: HostRuntime) -> Result<(), Fail> {
+    let alloc = rt.alloc();
+    for (begins, number, cause, lines) in REFUSALS {
+        assert_refused(&rt, alloc, begins, number, cause, lines)?;
     }
     Ok(())
 }
