@@ -169,11 +169,24 @@ fn values_have(
 }
 
 // The values at both ends of the range of these settings are taken, and those past them refused.
-fn range_holds(rt: &impl Abort, alloc: Global, ends: Ends) -> Result<(), AllocError> {
-    let (keys, taken, refused) = ends;
+fn range_holds(
+    rt: &impl Abort,
+    alloc: Global,
+    keys: &[Key],
+    taken: &[&str],
+    refused: &[&str],
+) -> Result<(), AllocError> {
     for key in keys {
-        values_have(rt, alloc, *key, &taken, None)?;
-        values_have(rt, alloc, *key, &refused, Some(SettingFault::Bad(*key)))?;
+        values_have(rt, alloc, *key, taken, None)?;
+        values_have(rt, alloc, *key, refused, Some(SettingFault::Bad(*key)))?;
+    }
+    Ok(())
+}
+
+// Each of these ranges holds.
+fn ranges_hold(rt: &impl Abort, alloc: Global, rows: &[Ends]) -> Result<(), AllocError> {
+    for (keys, taken, refused) in rows {
+        range_holds(rt, alloc, keys, taken, refused)?;
     }
     Ok(())
 }
@@ -234,9 +247,7 @@ fn settings_of_a_slave(rt: HostRuntime) -> Result<(), Fail> {
 
 #[test]
 fn each_setting_at_the_ends_of_its_range(rt: HostRuntime) -> Result<(), Fail> {
-    for ends in ENDS {
-        range_holds(&rt, rt.alloc(), ends)?;
-    }
+    ranges_hold(&rt, rt.alloc(), &ENDS)?;
     Ok(())
 }
 

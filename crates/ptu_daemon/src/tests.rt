@@ -39,37 +39,41 @@ fn assert_line(
     host
 }
 
-// By one thread and by lanes.
-#[test]
-fn an_ask_is_granted(rt: HostRuntime) -> Result<(), Fail> {
-    let alloc = rt.alloc();
+// The ask is granted by so many senders, and the grant is sent; a change of the capacity in round 2
+// sheds it.
+fn assert_granted(
+    rt: &(impl Abort + Threads + Wait + Sync),
+    alloc: Global,
+    senders: u8,
+) -> Result<(), Fail>
+    requires { senders ≤ 4 }
+{
     let grant = hex::decode(alloc, grant(alloc, ANNOUNCE)?.as_str())?;
+    let settings = GmSettings {
+        senders,
+        ..GM_SETTINGS
+    };
     let line = "rounds 1 sent 1 failed 0 granted 1 refused 0 held 8\n";
-    for senders in [0, 2] {
-        let settings = GmSettings {
-            senders,
-            ..GM_SETTINGS
-        };
-        let host = assert_line(&rt, alloc, &settings, asked(alloc, &[], &[])?, line);
-        let sent = host.back().and_then(|back| back.p4.sent(0));
-        assert!(rt; sent == Some((CLIENT, Channel::General, grant.as_slice())));
-    }
+    let host = assert_line(rt, alloc, &settings, asked(alloc, &[], &[])?, line);
+    let sent = host.back().and_then(|back| back.p4.sent(0));
+    assert!(rt; sent == Some((CLIENT, Channel::General, grant.as_slice())));
+    let shedding = GmSettings {
+        rounds: 2,
+        change_round: 2,
+        new_capacity: Some(4),
+        senders,
+        ..GM_SETTINGS
+    };
+    let line = "rounds 2 sent 2 failed 0 granted 1 refused 0 held 0\n";
+    let _ = assert_line(rt, alloc, &shedding, asked(alloc, &[], &[])?, line);
     Ok(())
 }
 
+// By one thread and by lanes.
 #[test]
-fn a_change_sheds_the_grant(rt: HostRuntime) -> Result<(), Fail> {
+fn an_ask_is_granted_and_its_grant_shed(rt: HostRuntime) -> Result<(), Fail> {
     for senders in [0, 2] {
-        let settings = GmSettings {
-            rounds: 2,
-            change_round: 2,
-            new_capacity: Some(4),
-            senders,
-            ..GM_SETTINGS
-        };
-        let general = asked(rt.alloc(), &[], &[])?;
-        let line = "rounds 2 sent 2 failed 0 granted 1 refused 0 held 0\n";
-        let _ = assert_line(&rt, rt.alloc(), &settings, general, line);
+        assert_granted(&rt, rt.alloc(), senders)?;
     }
     Ok(())
 }

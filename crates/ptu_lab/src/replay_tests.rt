@@ -331,17 +331,20 @@ fn scripts_are_reported(rt: HostRuntime) -> Result<(), Fail> {
     assert_all_reported(&rt, rt.alloc(), &CASES)
 }
 
+fn done(lines: u64, datagrams: u64, granted: u64, refused: u64) -> Done {
+    Done {
+        lines,
+        datagrams,
+        granted,
+        refused,
+    }
+}
+
 #[test]
 fn the_answer_has_the_numbers_of_the_report(rt: HostRuntime) -> Result<(), Fail> {
     let alloc = rt.alloc();
     let (answer, _) = replayed(alloc, FULL_TABLE, no_judges(alloc))?;
-    let wanted = Done {
-        lines: 4,
-        datagrams: 3,
-        granted: 2,
-        refused: 1,
-    };
-    assert_eq!(rt; answer, Ok(wanted));
+    assert_eq!(rt; answer, Ok(done(4, 3, 2, 1)));
     Ok(())
 }
 
@@ -434,12 +437,6 @@ fn cut_datagrams(rt: HostRuntime) -> Result<(), Fail> {
     let script = fronts(alloc)?;
     let (answer, text) = replayed(alloc, script.as_str(), no_judges(alloc))?;
     assert!(rt; text.starts_with(cut.as_str()), "{text}");
-    let wanted = Done {
-        lines: 84,
-        datagrams: 3,
-        granted: 9,
-        refused: 0,
-    };
-    assert_eq!(rt; answer, Ok(wanted));
+    assert_eq!(rt; answer, Ok(done(84, 3, 9, 0)));
     Ok(())
 }
