@@ -16,16 +16,11 @@ const A: Client = Client {
 // The identity of A at another address.
 const B: Client = Client {
     ip: 0x0a00_0112,
-    clock: 0x0a00_0000_0000_0011,
-    port: 1,
+    ..A
 };
 
 // Another identity at the address of A.
-const OTHER: Client = Client {
-    ip: 0x0a00_0111,
-    clock: 0x0a00_0000_0000_0011,
-    port: 2,
-};
+const OTHER: Client = Client { port: 2, ..A };
 
 // One call about a client. A grant is of Syncs, one in two seconds.
 #[derive(Clone, Copy)]
