@@ -124,53 +124,55 @@ fn audited(
     Ok((answer, text))
 }
 
+// A capacity, the groups of a report, and what is said of it.
+const TRAILS: [(u64, &[Group], &str); 21] = [
+    (16, &[GRANTED, REPLY, END], "yes grants 1 sent 0\n"),
+    (15, &[GRANTED, REPLY, END], "no 1 fit\n"),
+    (16, &[LONGER, REPLY, END], "no 1 reply\n"),
+    (16, &[GRANTED, END], "no 1 reply\n"),
+    (16, &[GRANTED, GRANTED, REPLY, END], "no 1 reply\n"),
+    (16, &[GRANTED, REPLY, DUE, END], "yes grants 1 sent 1\n"),
+    (16, &[GRANTED, REPLY, EARLY, END], "no 3 early\n"),
+    (16, &[GRANTED, REPLY, LATEST, END], "yes grants 1 sent 1\n"),
+    (16, &[GRANTED, REPLY, STAMPED, END], "no 3 stamp\n"),
+    (16, &[GRANTED, REPLY, STRANGER, END], "no 3 grant\n"),
+    (16, &[GRANTED, REPLY, UNANSWERED, END], "no 3 reply\n"),
+    (
+        16,
+        &[GRANTED, REPLY, CANCELLED, AGAIN, END],
+        "yes grants 1 sent 0\n",
+    ),
+    (
+        16,
+        &[GRANTED, REPLY, CANCELLED, BEFORE, END],
+        "no 5 moment\n",
+    ),
+    (
+        16,
+        &[GRANTED, REPLY, CANCELLED, OTHER, END],
+        "no 5 shared\n",
+    ),
+    (16, &[GRANTED, REPLY, SAME, END], "yes grants 1 sent 0\n"),
+    (16, &[GRANTED, REPLY, LOWER, END], "no 3 over\n"),
+    (
+        16,
+        &[GRANTED, REPLY, LOWER, SHED, TOLD, END],
+        "yes grants 1 sent 0\n",
+    ),
+    (16, &[GRANTED, REPLY, LOWER, SHED, END], "no 3 reply\n"),
+    (
+        16,
+        &[GRANTED, REPLY, LOWER, TOLD, SHED, END],
+        "no 3 reply\n",
+    ),
+    (16, &[GRANTED, REPLY, SHED, TOLD, END], "no 3 reply\n"),
+    (15, &[GRANTED, REPLY, EARLY], "4 bad end\n"),
+];
+
 #[test]
 fn trails_are_judged(rt: HostRuntime) -> Result<(), Fail> {
     let alloc = rt.alloc();
-    let cases: [(u64, &[Group], &str); 21] = [
-        (16, &[GRANTED, REPLY, END], "yes grants 1 sent 0\n"),
-        (15, &[GRANTED, REPLY, END], "no 1 fit\n"),
-        (16, &[LONGER, REPLY, END], "no 1 reply\n"),
-        (16, &[GRANTED, END], "no 1 reply\n"),
-        (16, &[GRANTED, GRANTED, REPLY, END], "no 1 reply\n"),
-        (16, &[GRANTED, REPLY, DUE, END], "yes grants 1 sent 1\n"),
-        (16, &[GRANTED, REPLY, EARLY, END], "no 3 early\n"),
-        (16, &[GRANTED, REPLY, LATEST, END], "yes grants 1 sent 1\n"),
-        (16, &[GRANTED, REPLY, STAMPED, END], "no 3 stamp\n"),
-        (16, &[GRANTED, REPLY, STRANGER, END], "no 3 grant\n"),
-        (16, &[GRANTED, REPLY, UNANSWERED, END], "no 3 reply\n"),
-        (
-            16,
-            &[GRANTED, REPLY, CANCELLED, AGAIN, END],
-            "yes grants 1 sent 0\n",
-        ),
-        (
-            16,
-            &[GRANTED, REPLY, CANCELLED, BEFORE, END],
-            "no 5 moment\n",
-        ),
-        (
-            16,
-            &[GRANTED, REPLY, CANCELLED, OTHER, END],
-            "no 5 shared\n",
-        ),
-        (16, &[GRANTED, REPLY, SAME, END], "yes grants 1 sent 0\n"),
-        (16, &[GRANTED, REPLY, LOWER, END], "no 3 over\n"),
-        (
-            16,
-            &[GRANTED, REPLY, LOWER, SHED, TOLD, END],
-            "yes grants 1 sent 0\n",
-        ),
-        (16, &[GRANTED, REPLY, LOWER, SHED, END], "no 3 reply\n"),
-        (
-            16,
-            &[GRANTED, REPLY, LOWER, TOLD, SHED, END],
-            "no 3 reply\n",
-        ),
-        (16, &[GRANTED, REPLY, SHED, TOLD, END], "no 3 reply\n"),
-        (15, &[GRANTED, REPLY, EARLY], "4 bad end\n"),
-    ];
-    for (capacity, groups, output) in cases {
+    for (capacity, groups, output) in TRAILS {
         let input = report_of(alloc, groups)?;
         let (_, text) = audited(alloc, capacity, input.as_str(), (0, 0))?;
         assert_eq!(rt; text.as_str(), output);

@@ -5,7 +5,7 @@ use std::test::Fail;
 
 // What stands in each datagram of grandmaster 1 or 2 or client 17 or 18 between its length and its
 // sequenceId (domain 4, no flags, no correction, and the sourcePortIdentity); what stands in each
-// Signaling between its sequenceId and its TLVs (with the targetPortIdentity at the end); clocks and
+// Signaling between its sequenceId and its TLVs (the targetPortIdentity is at the end); clocks and
 // ports by their identities; a timestamp of 0; and eight TLVs without a value.
 const PIECES: [(&str, &str); 14] = [
     ("", ""),

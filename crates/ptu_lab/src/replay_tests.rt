@@ -351,42 +351,45 @@ fn the_answer_has_the_numbers_of_the_report(rt: HostRuntime) -> Result<(), Fail>
 // The grandmaster that lines are refused behind.
 const SET_UP: &str = "gm 10.0.0.1 0a00000000000001 1 4 84 8 300\n";
 
+// Lines behind it, and the reports.
+const REFUSALS: [(&str, &str); 17] = [
+    ("deliver 0 1\n", "2 bad number\n"),
+    (
+        "class 10.0.0.1 90\ngm 10.0.0.1 0a00000000000001 1 4 84 8 300\n",
+        "3 bad order\n",
+    ),
+    ("rx 0 10.0.0.1 10.0.1.17 0c1\n", "2 bad field 5\n"),
+    (
+        "rx 0 10.0.0.1 10.0.1.17 -\n",
+        "2 ignored fault short 0\nend 2 0\n",
+    ),
+    ("turn 0 10.0.0.1 4\n", "2 bad field 4\n"),
+    ("turn 0 10.0.0.1\n", "2 bad count\n"),
+    ("turn  0 10.0.0.1 0\n", "2 bad count\n"),
+    ("turn 4611686018427387904 10.0.0.1 0\n", "2 bad field 2\n"),
+    ("turn 01 10.0.0.1 0\n", "2 bad field 2\n"),
+    ("class 10.0.0.1 256\n", "2 bad field 3\n"),
+    ("walk\n", "2 bad word\n"),
+    (
+        "gm 10.0.0.1 0a00000000000001 1 4 84 8 300\n",
+        "2 bad node\n",
+    ),
+    ("tick 0 10.0.0.1\n", "2 bad node\n"),
+    ("\t\n", "2 bad text\n"),
+    ("deliver 0 0\n", "2 bad number\n"),
+    ("# note\n", "end 2 0\n"),
+    (
+        "\
+            slave 10.0.2.1 0a00000000000021 1 4 60 3 3 4 4 - 300\n\
+            master 10.0.2.1 10.0.0.1 1 flag\n",
+        "3 bad stock\n",
+    ),
+];
+
 #[test]
 fn lines_are_refused(rt: HostRuntime) -> Result<(), Fail> {
     let alloc = rt.alloc();
-    for (lines, report) in [
-        ("deliver 0 1\n", "2 bad number\n"),
-        (
-            "class 10.0.0.1 90\ngm 10.0.0.1 0a00000000000001 1 4 84 8 300\n",
-            "3 bad order\n",
-        ),
-        ("rx 0 10.0.0.1 10.0.1.17 0c1\n", "2 bad field 5\n"),
-        (
-            "rx 0 10.0.0.1 10.0.1.17 -\n",
-            "2 ignored fault short 0\nend 2 0\n",
-        ),
-        ("turn 0 10.0.0.1 4\n", "2 bad field 4\n"),
-        ("turn 0 10.0.0.1\n", "2 bad count\n"),
-        ("turn  0 10.0.0.1 0\n", "2 bad count\n"),
-        ("turn 4611686018427387904 10.0.0.1 0\n", "2 bad field 2\n"),
-        ("turn 01 10.0.0.1 0\n", "2 bad field 2\n"),
-        ("class 10.0.0.1 256\n", "2 bad field 3\n"),
-        ("walk\n", "2 bad word\n"),
-        (
-            "gm 10.0.0.1 0a00000000000001 1 4 84 8 300\n",
-            "2 bad node\n",
-        ),
-        ("tick 0 10.0.0.1\n", "2 bad node\n"),
-        ("\t\n", "2 bad text\n"),
-        ("deliver 0 0\n", "2 bad number\n"),
-        ("# note\n", "end 2 0\n"),
-        (
-            "\
-                slave 10.0.2.1 0a00000000000021 1 4 60 3 3 4 4 - 300\n\
-                master 10.0.2.1 10.0.0.1 1 flag\n",
-            "3 bad stock\n",
-        ),
-    ] {
+    for (lines, report) in REFUSALS {
         let script = format!(in alloc; "{SET_UP}{lines}")?;
         assert_reported(&rt, alloc, script.as_str(), report)?;
     }

@@ -254,6 +254,86 @@ const CANCELLED: &str = "00060002b000";
 
 const ACKNOWLEDGED: &str = "00070002b000";
 
+// The line, the nanoseconds, the pool, the last octet of the address and of the clock identity, and
+// the lengths and TLVs of what is asked and answered.
+type Exchange = (
+    u64,
+    u64,
+    u8,
+    u8,
+    u8,
+    (&'static str, &'static str),
+    (&'static str, &'static str),
+);
+
+const EXCHANGES: [Exchange; 9] = [
+    (4, 0, 1, 17, 0x11, ("36", ALL), ("38", ALL_GRANTED)),
+    (5, 0, 2, 1, 0x21, ("36", ALL), ("38", ALL_GRANTED)),
+    (
+        6,
+        1_000_000_000,
+        2,
+        2,
+        0x22,
+        ("36", LITTLE),
+        ("38", LITTLE_DENIED),
+    ),
+    (
+        7,
+        100_000_000_000,
+        1,
+        17,
+        0x11,
+        ("36", ALL),
+        ("38", ALL_GRANTED),
+    ),
+    (
+        8,
+        101_000_000_000,
+        1,
+        18,
+        0x12,
+        ("36", LITTLE),
+        ("38", LITTLE_DENIED),
+    ),
+    (
+        9,
+        200_000_000_000,
+        1,
+        17,
+        0x11,
+        ("32", CANCELLED),
+        ("32", ACKNOWLEDGED),
+    ),
+    (
+        10,
+        200_000_000_000,
+        1,
+        18,
+        0x12,
+        ("36", LITTLE),
+        ("38", LITTLE_GRANTED),
+    ),
+    (
+        11,
+        200_000_000_000,
+        2,
+        2,
+        0x22,
+        ("36", LITTLE),
+        ("38", LITTLE_DENIED),
+    ),
+    (
+        12,
+        300_000_000_000,
+        2,
+        2,
+        0x22,
+        ("36", LITTLE),
+        ("38", LITTLE_GRANTED),
+    ),
+];
+
 // A renewal and a CANCEL in one pool while the other is at its end: what is free in the one is not
 // free in the other, until a grant of its own has ended.
 #[test]
@@ -261,73 +341,7 @@ fn a_full_pool_beside_one_that_is_not(rt: HostRuntime) -> Result<(), Fail> {
     let alloc = rt.alloc();
     let mut script = String::from_str(alloc, TWO_POOLS)?;
     let mut output = String::new(alloc);
-    for (line, at, pool, host, client, ask, answer) in [
-        (4, 0_u64, 1, 17, 0x11, ("36", ALL), ("38", ALL_GRANTED)),
-        (5, 0, 2, 1, 0x21, ("36", ALL), ("38", ALL_GRANTED)),
-        (
-            6,
-            1_000_000_000,
-            2,
-            2,
-            0x22,
-            ("36", LITTLE),
-            ("38", LITTLE_DENIED),
-        ),
-        (
-            7,
-            100_000_000_000,
-            1,
-            17,
-            0x11,
-            ("36", ALL),
-            ("38", ALL_GRANTED),
-        ),
-        (
-            8,
-            101_000_000_000,
-            1,
-            18,
-            0x12,
-            ("36", LITTLE),
-            ("38", LITTLE_DENIED),
-        ),
-        (
-            9,
-            200_000_000_000,
-            1,
-            17,
-            0x11,
-            ("32", CANCELLED),
-            ("32", ACKNOWLEDGED),
-        ),
-        (
-            10,
-            200_000_000_000,
-            1,
-            18,
-            0x12,
-            ("36", LITTLE),
-            ("38", LITTLE_GRANTED),
-        ),
-        (
-            11,
-            200_000_000_000,
-            2,
-            2,
-            0x22,
-            ("36", LITTLE),
-            ("38", LITTLE_DENIED),
-        ),
-        (
-            12,
-            300_000_000_000,
-            2,
-            2,
-            0x22,
-            ("36", LITTLE),
-            ("38", LITTLE_GRANTED),
-        ),
-    ] {
+    for (line, at, pool, host, client, ask, answer) in EXCHANGES {
         let came = asked(alloc, client, ask.0, ask.1)?;
         let event = format!(in alloc; "rx {at} 10.0.{pool}.{host} {came}\n")?;
         script.push_str(event.as_str())?;
