@@ -3,41 +3,27 @@ ghost use Rattle.ptu_config.specs.declared.fault.SettingFault.TheVariants.{OutOf
 
 use crate::key::Key;
 use ptu_units::OutOfMemory;
-use std::error::Error;
-use std::fmt;
+use thiserror::Error;
 
 /// Why settings are refused: the first of these that applies.
-#[derive(Clone, Copy, Debug, PartialEq, Eq, Hash)]
+#[derive(Clone, Copy, Debug, PartialEq, Eq, Hash, Error)]
 pub enum SettingFault {
     /// There are more than 65536 octets.
+    #[error("there are more than 65536 octets")]
     Size,
     /// The octets are not UTF-8, or no TOML document.
+    #[error("the octets are no TOML document")]
     Text,
     /// The document has a key that is none of the settings.
+    #[error("there is an unknown key")]
     Unknown,
     /// The first setting that is required and not there, of another type or out of range.
+    #[error("{} is missing, malformed or out of range", .0.name())]
     Bad(Key),
     /// No memory was found.
+    #[error("out of memory")]
     OutOfMemory,
 }
-
-impl fmt::Display for SettingFault {
-    fn fmt<W: fmt::Write>(&self, f: &mut fmt::Formatter<W>) -> fmt::Result {
-        match self {
-            SettingFault::Size => f.write_str("there are more than 65536 octets"),
-            SettingFault::Text => f.write_str("the octets are no TOML document"),
-            SettingFault::Unknown => f.write_str("there is an unknown key"),
-            SettingFault::Bad(key) => write!(
-                f,
-                "{} is missing, malformed or out of range",
-                key.name()
-            ),
-            SettingFault::OutOfMemory => f.write_str("out of memory"),
-        }
-    }
-}
-
-impl Error for SettingFault {}
 
 impl From<OutOfMemory> for SettingFault {
     ghost from_gives = { λ _ fault. fault ≡ NoMemory };

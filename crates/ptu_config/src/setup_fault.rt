@@ -6,31 +6,21 @@ use crate::fault::SettingFault;
 use crate::refusal::RefusalLine;
 use ptu_outside::Failed;
 use std::alloc::AllocError;
-use std::error::Error;
-use std::fmt;
+use thiserror::Error;
 
 /// Why there are no settings.
-#[derive(Clone, Copy, Debug, PartialEq, Eq, Hash)]
+#[derive(Clone, Copy, Debug, PartialEq, Eq, Hash, Error)]
 pub enum SetupFault {
     /// They are refused, by this line of output.
+    #[error("the settings are refused")]
     Refused(RefusalLine),
     /// The source failed.
+    #[error("the source failed")]
     Read,
     /// No memory was found.
+    #[error("out of memory")]
     OutOfMemory,
 }
-
-impl fmt::Display for SetupFault {
-    fn fmt<W: fmt::Write>(&self, f: &mut fmt::Formatter<W>) -> fmt::Result {
-        match self {
-            SetupFault::Refused(_) => f.write_str("the settings are refused"),
-            SetupFault::Read => f.write_str("the source failed"),
-            SetupFault::OutOfMemory => f.write_str("out of memory"),
-        }
-    }
-}
-
-impl Error for SetupFault {}
 
 impl From<Failed> for SetupFault {
     ghost from_gives = { λ _ fault. fault ≡ HasFailed };
