@@ -117,13 +117,15 @@ fn nothing_is_read_behind_the_end(rt: HostRuntime) -> Result<(), Fail> {
     Ok(())
 }
 
+// What is wrong with the line of this number.
+fn fault_of(number: u64, cause: LineCause) -> Option<LinesFault> {
+    Some(LinesFault::Line { number, cause })
+}
+
 #[test]
 fn a_line_has_at_most_8192_octets(rt: HostRuntime) -> Result<(), Fail> {
     let alloc = rt.alloc();
-    let long = Some(LinesFault::Line {
-        number: 1,
-        cause: LineCause::Long,
-    });
+    let long = fault_of(1, LineCause::Long);
     for (size, ended, answer) in [
         (8192, false, (1, None)),
         (8192, true, (1, None)),
@@ -144,10 +146,7 @@ fn a_line_has_at_most_8192_octets(rt: HostRuntime) -> Result<(), Fail> {
 #[test]
 fn a_script_has_at_most_67108864_octets(rt: HostRuntime) -> Result<(), Fail> {
     let alloc = rt.alloc();
-    let size = Some(LinesFault::Line {
-        number: 8193,
-        cause: LineCause::Size,
-    });
+    let size = fault_of(8193, LineCause::Size);
     for (octets, answer) in [(67_108_864, (8192, None)), (67_108_865, (8192, size))] {
         let mut script = vec![in alloc; b'a'; octets]?;
         // Each line has 8192 octets, its 0A counted.

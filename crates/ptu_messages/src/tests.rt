@@ -1,3 +1,5 @@
+ghost use Rattle.ptu_messages.specs.Sent.{IsFixed};
+
 use super::*;
 use ptu_header::{Header, HeaderFault, PortIdentity};
 use ptu_tlvs::{Ask, Tlv, TlvFault};
@@ -24,6 +26,18 @@ const REQUEST: [u8; 54] = [
     0xb0, 0x01, 0x00, 0x00, 0x01, 0x2c,
 ];
 
+// A header in domain 4 with the unicastFlag alone.
+fn header(message_type: u8, source: PortIdentity, sequence: u16) -> Header {
+    Header {
+        message_type,
+        domain: 4,
+        flags: 0x0400,
+        correction: 0,
+        source,
+        sequence,
+    }
+}
+
 // Asserts that the octets are read as this message, whatever follows.
 fn assert_read(
     rt: &impl Abort,
@@ -42,42 +56,40 @@ fn assert_read(
     Ok(())
 }
 
+// Asserts that the message is sent as these octets, and that they are read as it.
+fn assert_carried(
+    rt: &impl Abort,
+    alloc: Global,
+    message: &Message,
+    octets: &[u8],
+) -> Result<(), Fail>
+    requires { IsFixed message.now }
+{
+    let mut out = [0xdd; 64];
+    let size = write_fixed(message, &mut out);
+    assert_eq!(rt; out.get(..size), Some(octets));
+    assert!(rt; out.iter().skip(size).all(|octet| *octet == 0xdd));
+    assert_read(rt, alloc, message, octets)
+}
+
 #[test]
 fn messages_of_a_fixed_length(rt: HostRuntime) -> Result<(), Fail> {
     let alloc = rt.alloc();
-    let mut out = [0xdd; 64];
     let sync = Message {
-        header: Header {
-            message_type: 0,
-            domain: 4,
-            flags: 0x0400,
-            correction: 0,
-            source: GRANDMASTER,
-            sequence: 0,
-        },
+        header: header(0, GRANDMASTER, 0),
         body: Body::Sync(Stamp {
             seconds: 1,
             nanos: 0,
         }),
     };
-    let size = write_fixed(&sync, &mut out);
     let octets = [
         0x00, 0x12, 0x00, 0x2c, 0x04, 0x00, 0x04, 0x00, 0x00, 0x00, 0x00, 0x00, 0x00, 0x00, 0x00,
         0x00, 0x00, 0x00, 0x00, 0x00, 0x0a, 0x00, 0x00, 0x00, 0x00, 0x00, 0x00, 0x01, 0x00, 0x01,
         0x00, 0x00, 0x00, 0x7f, 0x00, 0x00, 0x00, 0x00, 0x00, 0x01, 0x00, 0x00, 0x00, 0x00,
     ];
-    assert_eq!(rt; out.get(..size), Some(octets.as_slice()));
-    assert!(rt; out.iter().skip(size).all(|octet| *octet == 0xdd));
-    assert_read(&rt, alloc, &sync, &octets)?;
+    assert_carried(&rt, alloc, &sync, &octets)?;
     let response = Message {
-        header: Header {
-            message_type: 9,
-            domain: 4,
-            flags: 0x0400,
-            correction: 0,
-            source: GRANDMASTER,
-            sequence: 7,
-        },
+        header: header(9, GRANDMASTER, 7),
         body: Body::DelayResp(
             Stamp {
                 seconds: 10,
@@ -86,29 +98,19 @@ fn messages_of_a_fixed_length(rt: HostRuntime) -> Result<(), Fail> {
             CLIENT,
         ),
     };
-    let size = write_fixed(&response, &mut out);
     let octets = [
         0x09, 0x12, 0x00, 0x36, 0x04, 0x00, 0x04, 0x00, 0x00, 0x00, 0x00, 0x00, 0x00, 0x00, 0x00,
         0x00, 0x00, 0x00, 0x00, 0x00, 0x0a, 0x00, 0x00, 0x00, 0x00, 0x00, 0x00, 0x01, 0x00, 0x01,
         0x00, 0x07, 0x03, 0x7f, 0x00, 0x00, 0x00, 0x00, 0x00, 0x0a, 0x00, 0x00, 0x00, 0x00, 0x0a,
         0x00, 0x00, 0x00, 0x00, 0x00, 0x00, 0x11, 0x00, 0x01,
     ];
-    assert_eq!(rt; out.get(..size), Some(octets.as_slice()));
-    assert_read(&rt, alloc, &response, &octets)
+    assert_carried(&rt, alloc, &response, &octets)
 }
 
 #[test]
 fn an_announce(rt: HostRuntime) -> Result<(), Fail> {
-    let mut out = [0xdd; 64];
     let announce = Message {
-        header: Header {
-            message_type: 11,
-            domain: 4,
-            flags: 0x0400,
-            correction: 0,
-            source: GRANDMASTER,
-            sequence: 0,
-        },
+        header: header(11, GRANDMASTER, 0),
         body: Body::Announce(AnnounceBody {
             origin: Stamp {
                 seconds: 2,
@@ -125,7 +127,6 @@ fn an_announce(rt: HostRuntime) -> Result<(), Fail> {
             time_source: 0xa0,
         }),
     };
-    let size = write_fixed(&announce, &mut out);
     let octets = [
         0x0b, 0x12, 0x00, 0x40, 0x04, 0x00, 0x04, 0x00, 0x00, 0x00, 0x00, 0x00, 0x00, 0x00, 0x00,
         0x00, 0x00, 0x00, 0x00, 0x00, 0x0a, 0x00, 0x00, 0x00, 0x00, 0x00, 0x00, 0x01, 0x00, 0x01,
@@ -133,21 +134,13 @@ fn an_announce(rt: HostRuntime) -> Result<(), Fail> {
         0x00, 0x00, 0x80, 0x54, 0xfe, 0xff, 0xff, 0x80, 0x0a, 0x00, 0x00, 0x00, 0x00, 0x00, 0x00,
         0x01, 0x00, 0x00, 0xa0,
     ];
-    assert_eq!(rt; out.get(..size), Some(octets.as_slice()));
-    assert_read(&rt, rt.alloc(), &announce, &octets)
+    assert_carried(&rt, rt.alloc(), &announce, &octets)
 }
 
 #[test]
 fn a_signaling(rt: HostRuntime) -> Result<(), Fail> {
     let alloc = rt.alloc();
-    let header = Header {
-        message_type: 12,
-        domain: 4,
-        flags: 0x0400,
-        correction: 0,
-        source: CLIENT,
-        sequence: 0,
-    };
+    let header = header(12, CLIENT, 0);
     let target = PortIdentity {
         clock: u64::MAX,
         port: u16::MAX,
@@ -190,6 +183,11 @@ fn assert_changed(
     Ok(())
 }
 
+// What is wrong where it is wrong with the first TLV.
+fn first_tlv(fault: TlvFault) -> MessageFault {
+    MessageFault::Tlv { at: 44, fault }
+}
+
 #[test]
 fn refused_datagrams(rt: HostRuntime) -> Result<(), Fail> {
     let alloc = rt.alloc();
@@ -198,37 +196,18 @@ fn refused_datagrams(rt: HostRuntime) -> Result<(), Fail> {
         cut,
         Some(MessageFault::Header(HeaderFault::Short { have: 33 }))
     );
+    let length = HeaderFault::Length { said: 55, have: 54 };
+    let version = HeaderFault::Version { found: 1 };
+    let wrong_length = TlvFault::Length {
+        tlv_type: 4,
+        said: 5,
+    };
     for (place, octet, fault) in [
-        (
-            3,
-            0x37,
-            MessageFault::Header(HeaderFault::Length { said: 55, have: 54 }),
-        ),
-        (
-            1,
-            0x11,
-            MessageFault::Header(HeaderFault::Version { found: 1 }),
-        ),
+        (3, 0x37, MessageFault::Header(length)),
+        (1, 0x11, MessageFault::Header(version)),
         (3, 0x2b, MessageFault::Body { said: 43, need: 44 }),
-        (
-            3,
-            0x35,
-            MessageFault::Tlv {
-                at: 44,
-                fault: TlvFault::Overrun { said: 6, have: 5 },
-            },
-        ),
-        (
-            47,
-            0x05,
-            MessageFault::Tlv {
-                at: 44,
-                fault: TlvFault::Length {
-                    tlv_type: 4,
-                    said: 5,
-                },
-            },
-        ),
+        (3, 0x35, first_tlv(TlvFault::Overrun { said: 6, have: 5 })),
+        (47, 0x05, first_tlv(wrong_length)),
     ] {
         assert_changed(&rt, alloc, &[(place, octet)], fault)?;
     }
@@ -248,10 +227,7 @@ fn refused_datagrams(rt: HostRuntime) -> Result<(), Fail> {
 
 #[test]
 fn a_fault_is_named(rt: HostRuntime) -> Result<(), Fail> {
-    let fault = MessageFault::Tlv {
-        at: 44,
-        fault: TlvFault::Overrun { said: 6, have: 5 },
-    };
+    let fault = first_tlv(TlvFault::Overrun { said: 6, have: 5 });
     let text = format!(in rt.alloc(); "{fault}")?;
     assert_eq!(rt;
         text.as_str(),

@@ -1,6 +1,7 @@
 use super::*;
 use crate::samples::{CONFIG, DELAY_REQ, SECOND, TWO};
 use ptu_history::Client;
+use ptu_outside::samples::idle_port;
 use ptu_outside::{Channel, MemPort};
 use ptu_units::{Kind, Log, Moment, rate};
 use std::alloc::Global;
@@ -20,6 +21,11 @@ fn fresh_lease(kind: Kind) -> Result<Lease, Fail> {
         edge: SECOND,
         seq: 0,
     })
+}
+
+// A table without leases, whose port has no room.
+fn empty_table(alloc: Global) -> Shard<MemPort> {
+    Shard::new(alloc, idle_port(alloc))
 }
 
 // A table with one such lease, whose port has room and fails at the listed sends.
@@ -195,8 +201,7 @@ fn idle_turns(rt: &impl Abort, shard: &mut Shard<MemPort>) -> Result<(), Fail> {
 #[test]
 fn idle_turns_do_not_look_at_every_lease(rt: HostRuntime) -> Result<(), Fail> {
     let alloc = rt.alloc();
-    let port = MemPort::new(alloc, Vec::new(alloc), Vec::new(alloc), Vec::new(alloc));
-    let mut shard = Shard::new(alloc, port);
+    let mut shard = empty_table(alloc);
     idle_turns(&rt, &mut shard)
 }
 
@@ -285,8 +290,7 @@ fn same_steps(
 #[test]
 fn a_plain_table_does_the_same(rt: HostRuntime) -> Result<(), Fail> {
     let alloc = rt.alloc();
-    let port = MemPort::new(alloc, Vec::new(alloc), Vec::new(alloc), Vec::new(alloc));
-    let mut shard = Shard::new(alloc, port);
+    let mut shard = empty_table(alloc);
     let mut rows = Vec::new(alloc);
     let mut ips = Vec::new(alloc);
     same_steps(&rt, &mut shard, &mut rows, &mut ips)

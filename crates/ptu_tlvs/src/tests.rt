@@ -24,6 +24,20 @@ fn assert_read(rt: &impl Abort, alloc: Global, tlv: Tlv, octets: &[u8]) -> Resul
     Ok(())
 }
 
+// Asserts that the TLV is sent as this head and value, and that they are read as it.
+fn assert_carried(
+    rt: &impl Abort,
+    alloc: Global,
+    tlv: Tlv,
+    head: [u8; 4],
+    value: &[u8],
+) -> Result<(), AllocError> {
+    let mut octets = Vec::from_slice(alloc, &head)?;
+    octets.extend_from_slice(value)?;
+    assert_sent(rt, tlv, &octets);
+    assert_read(rt, alloc, tlv, &octets)
+}
+
 // What is asked for: messages of the type `code` at a logarithm, for some seconds.
 fn ask(code: u8, log: i8, seconds: u32) -> Ask {
     Ask { code, log, seconds }
@@ -31,95 +45,39 @@ fn ask(code: u8, log: i8, seconds: u32) -> Ask {
 
 #[test]
 fn requests_are_read_and_written(rt: HostRuntime) -> Result<(), Fail> {
-    for (asked, octets) in [
+    for (asked, value) in [
         // Announce at 1, Sync at 0 and Delay_Resp at 0, for 300 s.
-        (
-            ask(11, 1, 300),
-            [0x00, 0x04, 0x00, 0x06, 0xb0, 0x01, 0x00, 0x00, 0x01, 0x2c],
-        ),
-        (
-            ask(0, 0, 300),
-            [0x00, 0x04, 0x00, 0x06, 0x00, 0x00, 0x00, 0x00, 0x01, 0x2c],
-        ),
-        (
-            ask(9, 0, 300),
-            [0x00, 0x04, 0x00, 0x06, 0x90, 0x00, 0x00, 0x00, 0x01, 0x2c],
-        ),
+        (ask(11, 1, 300), [0xb0, 0x01, 0, 0, 0x01, 0x2c]),
+        (ask(0, 0, 300), [0x00, 0x00, 0, 0, 0x01, 0x2c]),
+        (ask(9, 0, 300), [0x90, 0x00, 0, 0, 0x01, 0x2c]),
         // Each outside the profile: by its logarithm, by its duration and by its type.
-        (
-            ask(11, -4, 300),
-            [0x00, 0x04, 0x00, 0x06, 0xb0, 0xfc, 0x00, 0x00, 0x01, 0x2c],
-        ),
-        (
-            ask(0, 0, 59),
-            [0x00, 0x04, 0x00, 0x06, 0x00, 0x00, 0x00, 0x00, 0x00, 0x3b],
-        ),
-        (
-            ask(3, 0, 300),
-            [0x00, 0x04, 0x00, 0x06, 0x30, 0x00, 0x00, 0x00, 0x01, 0x2c],
-        ),
+        (ask(11, -4, 300), [0xb0, 0xfc, 0, 0, 0x01, 0x2c]),
+        (ask(0, 0, 59), [0x00, 0x00, 0, 0, 0x00, 0x3b]),
+        (ask(3, 0, 300), [0x30, 0x00, 0, 0, 0x01, 0x2c]),
         // The least and the greatest of each field, and the fastest Sync.
-        (
-            ask(0, -128, 0),
-            [0x00, 0x04, 0x00, 0x06, 0x00, 0x80, 0x00, 0x00, 0x00, 0x00],
-        ),
-        (
-            ask(15, 127, u32::MAX),
-            [0x00, 0x04, 0x00, 0x06, 0xf0, 0x7f, 0xff, 0xff, 0xff, 0xff],
-        ),
-        (
-            ask(0, -7, 1),
-            [0x00, 0x04, 0x00, 0x06, 0x00, 0xf9, 0x00, 0x00, 0x00, 0x01],
-        ),
+        (ask(0, -128, 0), [0x00, 0x80, 0, 0, 0x00, 0x00]),
+        (ask(15, 127, u32::MAX), [0xf0, 0x7f, 0xff, 0xff, 0xff, 0xff]),
+        (ask(0, -7, 1), [0x00, 0xf9, 0, 0, 0x00, 0x01]),
     ] {
-        assert_sent(&rt, Tlv::Request(asked), &octets);
-        assert_read(&rt, rt.alloc(), Tlv::Request(asked), &octets)?;
+        let head = [0x00, 0x04, 0x00, 0x06];
+        assert_carried(&rt, rt.alloc(), Tlv::Request(asked), head, &value)?;
     }
     Ok(())
 }
 
 #[test]
 fn grants_are_read_and_written(rt: HostRuntime) -> Result<(), Fail> {
-    for (granted, invited, octets) in [
-        (
-            ask(11, 1, 300),
-            true,
-            [
-                0x00, 0x05, 0x00, 0x08, 0xb0, 0x01, 0x00, 0x00, 0x01, 0x2c, 0x00, 0x01,
-            ],
-        ),
-        (
-            ask(9, 0, 300),
-            true,
-            [
-                0x00, 0x05, 0x00, 0x08, 0x90, 0x00, 0x00, 0x00, 0x01, 0x2c, 0x00, 0x01,
-            ],
-        ),
+    for (granted, invited, value) in [
+        (ask(11, 1, 300), true, [0xb0, 0x01, 0, 0, 0x01, 0x2c, 0, 1]),
+        (ask(9, 0, 300), true, [0x90, 0x00, 0, 0, 0x01, 0x2c, 0, 1]),
         // Denials.
-        (
-            ask(11, -4, 0),
-            false,
-            [
-                0x00, 0x05, 0x00, 0x08, 0xb0, 0xfc, 0x00, 0x00, 0x00, 0x00, 0x00, 0x00,
-            ],
-        ),
-        (
-            ask(0, 0, 0),
-            false,
-            [
-                0x00, 0x05, 0x00, 0x08, 0x00, 0x00, 0x00, 0x00, 0x00, 0x00, 0x00, 0x00,
-            ],
-        ),
-        (
-            ask(3, 0, 0),
-            false,
-            [
-                0x00, 0x05, 0x00, 0x08, 0x30, 0x00, 0x00, 0x00, 0x00, 0x00, 0x00, 0x00,
-            ],
-        ),
+        (ask(11, -4, 0), false, [0xb0, 0xfc, 0, 0, 0, 0, 0, 0]),
+        (ask(0, 0, 0), false, [0x00, 0x00, 0, 0, 0, 0, 0, 0]),
+        (ask(3, 0, 0), false, [0x30, 0x00, 0, 0, 0, 0, 0, 0]),
     ] {
-        assert_sent(&rt, Tlv::Grant(granted, invited), &octets);
-        assert_read(&rt, rt.alloc(), Tlv::Grant(granted, invited), &octets)?;
+        let head = [0x00, 0x05, 0x00, 0x08];
+        let tlv = Tlv::Grant(granted, invited);
+        assert_carried(&rt, rt.alloc(), tlv, head, &value)?;
     }
     Ok(())
 }
@@ -181,59 +139,39 @@ fn reserved_bits_and_other_types_are_free(rt: HostRuntime) -> Result<(), Fail> {
     Ok(())
 }
 
+// What is wrong with a TLV of this type and length.
+fn wrong_length(tlv_type: u16, said: usize) -> TlvFault {
+    TlvFault::Length { tlv_type, said }
+}
+
+// What is wrong where fewer octets follow than the length says.
+fn overrun(said: usize, have: usize) -> TlvFault {
+    TlvFault::Overrun { said, have }
+}
+
 #[test]
 fn faults_come_in_their_order(rt: HostRuntime) {
     for (octets, fault) in [
         ([].as_slice(), TlvFault::Short { have: 0 }),
         ([0x00, 0x04, 0x00].as_slice(), TlvFault::Short { have: 3 }),
+        ([0, 4, 0, 6].as_slice(), overrun(6, 0)),
+        ([0, 4, 0, 6, 0xb0, 1, 0, 0, 1].as_slice(), overrun(6, 5)),
         (
-            [0x00, 0x04, 0x00, 0x06].as_slice(),
-            TlvFault::Overrun { said: 6, have: 0 },
-        ),
-        (
-            [0x00, 0x04, 0x00, 0x06, 0xb0, 0x01, 0, 0, 1].as_slice(),
-            TlvFault::Overrun { said: 6, have: 5 },
-        ),
-        (
-            [0x30, 0x00, 0xff, 0xff, 0xab, 0xcd].as_slice(),
-            TlvFault::Overrun {
-                said: 65535,
-                have: 2,
-            },
+            [0x30, 0, 255, 255, 0xab, 0xcd].as_slice(),
+            overrun(65535, 2),
         ),
         // A wrong length of a known type is told only where its octets are there.
+        ([0, 4, 0, 7, 0, 0, 0, 0, 0, 0].as_slice(), overrun(7, 6)),
         (
-            [0x00, 0x04, 0x00, 0x07, 0, 0, 0, 0, 0, 0].as_slice(),
-            TlvFault::Overrun { said: 7, have: 6 },
+            [0, 4, 0, 5, 0xb0, 1, 0, 0, 1, 44].as_slice(),
+            wrong_length(4, 5),
         ),
         (
-            [0x00, 0x04, 0x00, 0x05, 0xb0, 0x01, 0, 0, 1, 0x2c].as_slice(),
-            TlvFault::Length {
-                tlv_type: 4,
-                said: 5,
-            },
+            [0, 5, 0, 6, 0xb0, 1, 0, 0, 1, 44].as_slice(),
+            wrong_length(5, 6),
         ),
-        (
-            [0x00, 0x05, 0x00, 0x06, 0xb0, 0x01, 0, 0, 1, 0x2c].as_slice(),
-            TlvFault::Length {
-                tlv_type: 5,
-                said: 6,
-            },
-        ),
-        (
-            [0x00, 0x06, 0x00, 0x00].as_slice(),
-            TlvFault::Length {
-                tlv_type: 6,
-                said: 0,
-            },
-        ),
-        (
-            [0x00, 0x07, 0x00, 0x03, 0xb0, 0, 0].as_slice(),
-            TlvFault::Length {
-                tlv_type: 7,
-                said: 3,
-            },
-        ),
+        ([0, 6, 0, 0].as_slice(), wrong_length(6, 0)),
+        ([0, 7, 0, 3, 0xb0, 0, 0].as_slice(), wrong_length(7, 3)),
     ] {
         assert_eq!(rt; next_tlv(octets), Err(fault));
     }

@@ -36,17 +36,33 @@ fn next<P: Port>(rt: &impl Abort, port: &mut P, buf: &mut [u8; 2048]) -> (u32, u
     panic!(rt; "nothing came");
 }
 
+// What one port sends by a channel is the next that comes to the other, and nothing comes after it.
+fn assert_comes<P: Port>(
+    rt: &impl Abort,
+    from: &mut P,
+    to: &mut P,
+    channel: Channel,
+    bytes: &[u8],
+) {
+    assert!(rt; from.send(LOOPBACK, channel, bytes).is_ok());
+    let mut buf = [0; 2048];
+    let (sender, length) = next(rt, to, &mut buf);
+    assert_eq!(rt; sender, LOOPBACK);
+    assert_eq!(rt; buf.get(..length), Some(bytes));
+    assert_eq!(rt; to.receive(&mut buf), Ok(None));
+}
+
 #[test]
 fn a_datagram_of_port_0_comes_to_port_4(rt: HostRuntime) -> Result<(), Fail> {
     let mut host = UdpHost::new(rt.alloc(), rt)?;
     let mut opened = open(&rt, &mut host, 21319);
-    let sent = opened.p0.send(LOOPBACK, Channel::General, b"eight by");
-    assert!(rt; sent.is_ok());
-    let mut buf = [0; 2048];
-    let (from, length) = next(&rt, &mut opened.p4, &mut buf);
-    assert_eq!(rt; from, LOOPBACK);
-    assert_eq!(rt; length, 8);
-    assert!(rt; buf[..8].iter().eq(b"eight by".iter()));
+    assert_comes(
+        &rt,
+        &mut opened.p0,
+        &mut opened.p4,
+        Channel::General,
+        b"eight by",
+    );
     host.close(opened);
     Ok(())
 }
@@ -57,14 +73,14 @@ fn a_datagram_of_port_0_comes_to_port_4(rt: HostRuntime) -> Result<(), Fail> {
 fn a_datagram_of_the_event_channel_comes_to_port_5(rt: HostRuntime) -> Result<(), Fail> {
     let mut host = UdpHost::new(rt.alloc(), rt)?;
     let mut opened = open(&rt, &mut host, 21519);
-    let sent = opened.p1.send(LOOPBACK, Channel::Event, b"event");
-    assert!(rt; sent.is_ok());
-    let mut buf = [0; 2048];
-    let (from, length) = next(&rt, &mut opened.p5, &mut buf);
-    assert_eq!(rt; from, LOOPBACK);
-    assert_eq!(rt; length, 5);
-    assert!(rt; buf[..5].iter().eq(b"event".iter()));
-    assert_eq!(rt; opened.p4.receive(&mut buf), Ok(None));
+    assert_comes(
+        &rt,
+        &mut opened.p1,
+        &mut opened.p5,
+        Channel::Event,
+        b"event",
+    );
+    assert_eq!(rt; opened.p4.receive(&mut [0; 2048]), Ok(None));
     host.close(opened);
     Ok(())
 }
