@@ -6,3 +6,4 @@ pub mod Lent
 pub mod Tables
 pub mod Newest
 pub mod Shed
+pub mod Samples

@@ -12,6 +12,7 @@ pub mod laws;
 mod newest;
 mod profile;
 mod resizing;
+pub mod samples;
 mod shed_list;
 mod shedding;
 mod sweeping;

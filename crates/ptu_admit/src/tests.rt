@@ -1,10 +1,13 @@
-ghost use Rattle.std.specs.Prelude.{◌≡◌};
+ghost use Rattle.std.specs.Prelude.{◌≡◌, ◌<◌, ◌≤◌};
+ghost use Rattle.ptu_shard.specs.Row.{share_of};
 ghost use Rattle.ptu_profile.specs.Grandmaster.{IsWithinLimits};
 ghost use Rattle.ptu_admit.specs.Lent.{four, shares};
 
 use super::*;
+use crate::samples::{Told, numbers_of};
 use ptu_history::Client;
 use ptu_outside::MemPort;
+use ptu_outside::samples::idle_port;
 use ptu_profile::GmConfig;
 use ptu_shard::Shard;
 use ptu_shard::samples::{CONFIG, SECOND, THREE, TWO};
@@ -18,38 +21,6 @@ const ANNOUNCE: u8 = 11;
 
 const SYNC: u8 = 0;
 
-// What a verdict says, in numbers.
-#[derive(Clone, Copy, Debug, PartialEq, Eq)]
-enum Told {
-    Granted {
-        at: u64,
-        until: u64,
-    },
-    Short {
-        at: u64,
-        others: u64,
-        rate: u64,
-        capacity: u64,
-    },
-    Outside(Outside),
-}
-
-fn numbers_of(verdict: &Verdict) -> Told {
-    match verdict {
-        Verdict::Granted(grant) => Told::Granted {
-            at: grant.at().nanos(),
-            until: grant.until(),
-        },
-        Verdict::Short(shortage) => Told::Short {
-            at: shortage.at().nanos(),
-            others: shortage.others(),
-            rate: shortage.rate(),
-            capacity: shortage.capacity(),
-        },
-        Verdict::Outside(outside) => Told::Outside(*outside),
-    }
-}
-
 // Four tables and a book.
 #[derive(Drop)]
 struct Site {
@@ -61,7 +32,7 @@ struct Site {
 }
 
 fn table(alloc: Global) -> Result<Shard<MemPort>, Fail> {
-    let mut port = MemPort::new(alloc, Vec::new(alloc), Vec::new(alloc), Vec::new(alloc));
+    let mut port = idle_port(alloc);
     port.reserve(4, 4 * 64)?;
     let mut shard = Shard::new(alloc, port);
     shard.reserve(4)?;
@@ -223,163 +194,48 @@ fn take_steps(
     Ok(())
 }
 
+const MINUTE: u64 = 60 * SECOND;
+
+// What is told of a grant at 0.
+const GRANTED: Told = Told::Granted(0, 300 * SECOND);
+
 // Exactly full.
-const EXACTLY_FULL: [Step; 1] = [Step::Sync(
-    0,
-    TWO,
-    -7,
-    Told::Granted {
-        at: 0,
-        until: 300 * SECOND,
-    },
-)];
+const EXACTLY_FULL: [Step; 1] = [Step::Sync(0, TWO, -7, GRANTED)];
 
 // One short.
-const ONE_SHORT: [Step; 1] = [Step::Sync(
-    0,
-    TWO,
-    -7,
-    Told::Short {
-        at: 0,
-        others: 0,
-        rate: 2048,
-        capacity: 2047,
-    },
-)];
+const ONE_SHORT: [Step; 1] = [Step::Sync(0, TWO, -7, Told::Short(0, 0, 2048, 2047))];
 
 // A renewal in a full table.
 const FULL: [Step; 3] = [
-    Step::Announce(
-        0,
-        TWO,
-        1,
-        Told::Granted {
-            at: 0,
-            until: 300 * SECOND,
-        },
-    ),
-    Step::Announce(
-        5 * SECOND,
-        TWO,
-        1,
-        Told::Granted {
-            at: 5 * SECOND,
-            until: 305 * SECOND,
-        },
-    ),
-    Step::Announce(
-        5 * SECOND,
-        THREE,
-        4,
-        Told::Short {
-            at: 5 * SECOND,
-            others: 8,
-            rate: 1,
-            capacity: 8,
-        },
-    ),
+    Step::Announce(0, TWO, 1, GRANTED),
+    Step::Announce(5 * SECOND, TWO, 1, Told::Granted(5 * SECOND, 305 * SECOND)),
+    Step::Announce(5 * SECOND, THREE, 4, Told::Short(5 * SECOND, 8, 1, 8)),
 ];
 
 // A refused renewal leaves the former grant.
 const REFUSED: [Step; 4] = [
-    Step::Announce(
-        0,
-        TWO,
-        1,
-        Told::Granted {
-            at: 0,
-            until: 300 * SECOND,
-        },
-    ),
-    Step::Announce(
-        0,
-        THREE,
-        1,
-        Told::Granted {
-            at: 0,
-            until: 300 * SECOND,
-        },
-    ),
-    Step::Announce(
-        10 * SECOND,
-        TWO,
-        0,
-        Told::Short {
-            at: 10 * SECOND,
-            others: 8,
-            rate: 16,
-            capacity: 16,
-        },
-    ),
+    Step::Announce(0, TWO, 1, GRANTED),
+    Step::Announce(0, THREE, 1, GRANTED),
+    Step::Announce(10 * SECOND, TWO, 0, Told::Short(10 * SECOND, 8, 16, 16)),
     Step::Turn(10 * SECOND, 1),
 ];
 
 // At the moment at which a grant is over, the next one finds none live.
 const OVER: [Step; 4] = [
-    Step::Announce(
-        0,
-        TWO,
-        1,
-        Told::Granted {
-            at: 0,
-            until: 60 * SECOND,
-        },
-    ),
-    Step::Announce(
-        60 * SECOND,
-        TWO,
-        1,
-        Told::Granted {
-            at: 60 * SECOND,
-            until: 120 * SECOND,
-        },
-    ),
+    Step::Announce(0, TWO, 1, Told::Granted(0, MINUTE)),
+    Step::Announce(MINUTE, TWO, 1, Told::Granted(MINUTE, 2 * MINUTE)),
     Step::Turn(61_999_999_999, 0),
     Step::Turn(62 * SECOND, 1),
 ];
 
 // A lower capacity sheds the newest grant.
 const LOWER: [Step; 6] = [
-    Step::Announce(
-        0,
-        TWO,
-        1,
-        Told::Granted {
-            at: 0,
-            until: 300 * SECOND,
-        },
-    ),
-    Step::Announce(
-        SECOND,
-        THREE,
-        1,
-        Told::Granted {
-            at: SECOND,
-            until: 301 * SECOND,
-        },
-    ),
+    Step::Announce(0, TWO, 1, GRANTED),
+    Step::Announce(SECOND, THREE, 1, Told::Granted(SECOND, 301 * SECOND)),
     Step::Change(2 * SECOND, 8, Some(THREE)),
-    Step::Announce(
-        2 * SECOND,
-        THREE,
-        1,
-        Told::Short {
-            at: 2 * SECOND,
-            others: 8,
-            rate: 8,
-            capacity: 8,
-        },
-    ),
+    Step::Announce(2 * SECOND, THREE, 1, Told::Short(2 * SECOND, 8, 8, 8)),
     Step::Change(3 * SECOND, 16, None),
-    Step::Announce(
-        0,
-        THREE,
-        1,
-        Told::Granted {
-            at: 3 * SECOND,
-            until: 303 * SECOND,
-        },
-    ),
+    Step::Announce(0, THREE, 1, Told::Granted(3 * SECOND, 303 * SECOND)),
 ];
 
 #[test]
@@ -393,42 +249,24 @@ fn worked_rows(rt: HostRuntime) -> Result<(), Fail> {
     Ok(())
 }
 
+// What is told of an ask for Announces at 0, over one table and the book alone.
+fn ask_one(shard: &mut Shard<MemPort>, book: &mut Book, client: &Client) -> Option<Told>
+    requires { (0 < shard.old.spare) × (share_of shard.old.rows ≤ book.old.total) }
+{
+    let ask = ask_of(ANNOUNCE, 1);
+    let verdict = decide_one(shard, book, &CONFIG, Moment::default(), client, &ask);
+    verdict.map(|verdict| numbers_of(&verdict))
+}
+
 #[test]
 fn one_table_alone(rt: HostRuntime) -> Result<(), Fail> {
-    let ask = Ask {
-        code: ANNOUNCE,
-        log: 1,
-        seconds: 300,
-    };
     let mut site = open_site(&rt, rt.alloc(), 8)?;
     site.s2.reserve(1)?;
     site.s3.reserve(1)?;
     check_sum(&rt, &site);
-    let first = decide_one(
-        &mut site.s2,
-        &mut site.book,
-        &CONFIG,
-        Moment::default(),
-        &TWO,
-        &ask,
-    );
-    assert_eq!(rt;
-        first.map(|verdict| numbers_of(&verdict)),
-        Some(Told::Granted {
-            at: 0,
-            until: 300 * SECOND,
-        })
-    );
+    assert_eq!(rt; ask_one(&mut site.s2, &mut site.book, &TWO), Some(GRANTED));
     check_sum(&rt, &site);
-    let second = decide_one(
-        &mut site.s3,
-        &mut site.book,
-        &CONFIG,
-        Moment::default(),
-        &THREE,
-        &ask,
-    );
-    assert_eq!(rt; second, None);
+    assert_eq!(rt; ask_one(&mut site.s3, &mut site.book, &THREE), None);
     check_sum(&rt, &site);
     assert!(rt;
         cancel(

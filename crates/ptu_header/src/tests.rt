@@ -121,13 +121,7 @@ const TIMING: [Sent; 5] = [
     (1, CLIENT, 7, 44, &[(0, 1), (3, 44), (31, 7), (32, 1)]),
     (9, GRANDMASTER, 7, 54, &[(0, 9), (27, 1), (31, 7), (32, 3)]),
     // A Sync, a Follow_Up and an Announce.
-    (
-        0,
-        GRANDMASTER,
-        0,
-        44,
-        &[(0, 0), (3, 44), (27, 1), (32, 0)],
-    ),
+    (0, GRANDMASTER, 0, 44, &[(0, 0), (3, 44), (27, 1), (32, 0)]),
     (
         8,
         GRANDMASTER,
@@ -212,6 +206,11 @@ fn assert_changed(
     Ok(())
 }
 
+// What is wrong where 54 octets say this length.
+fn wrong_length(said: u16) -> HeaderFault {
+    HeaderFault::Length { said, have: 54 }
+}
+
 #[test]
 fn faults_come_in_their_order(rt: HostRuntime) -> Result<(), Fail> {
     let sound = Ok((header(12, CLIENT, 0), 54));
@@ -233,45 +232,22 @@ fn faults_come_in_their_order(rt: HostRuntime) -> Result<(), Fail> {
         sound,
     )?;
     assert_changed(&rt, alloc, &[(3, 43)], Ok((header(12, CLIENT, 0), 43)))?;
-    assert_changed(
-        &rt,
-        alloc,
-        &[(3, 55)],
-        Err(HeaderFault::Length { said: 55, have: 54 }),
-    )?;
-    assert_changed(
-        &rt,
-        alloc,
-        &[(3, 33)],
-        Err(HeaderFault::Length { said: 33, have: 54 }),
-    )?;
-    assert_changed(
-        &rt,
-        alloc,
-        &[(2, 1)],
-        Err(HeaderFault::Length {
-            said: 310,
-            have: 54,
-        }),
-    )?;
-    assert_changed(
-        &rt,
-        alloc,
-        &[(1, 0x11)],
-        Err(HeaderFault::Version { found: 1 }),
-    )?;
-    assert_changed(
-        &rt,
-        alloc,
-        &[(0, 0x3c), (3, 55)],
-        Err(HeaderFault::Sdo { found: 3 }),
-    )?;
-    assert_changed(
-        &rt,
-        alloc,
-        &[(0, 0x3c), (1, 0x21)],
-        Err(HeaderFault::Version { found: 1 }),
-    )?;
+    for (changes, fault) in [
+        ([(3, 55)].as_slice(), wrong_length(55)),
+        ([(3, 33)].as_slice(), wrong_length(33)),
+        ([(2, 1)].as_slice(), wrong_length(310)),
+        ([(1, 0x11)].as_slice(), HeaderFault::Version { found: 1 }),
+        (
+            [(0, 0x3c), (3, 55)].as_slice(),
+            HeaderFault::Sdo { found: 3 },
+        ),
+        (
+            [(0, 0x3c), (1, 0x21)].as_slice(),
+            HeaderFault::Version { found: 1 },
+        ),
+    ] {
+        assert_changed(&rt, alloc, changes, Err(fault))?;
+    }
     for have in 0..34 {
         let cut = datagram(alloc, &[], have)?;
         assert_eq!(rt; read_header(&cut), Err(HeaderFault::Short { have }));
@@ -281,7 +257,7 @@ fn faults_come_in_their_order(rt: HostRuntime) -> Result<(), Fail> {
 
 #[test]
 fn a_fault_is_named(rt: HostRuntime) -> Result<(), Fail> {
-    let fault = HeaderFault::Length { said: 55, have: 54 };
+    let fault = wrong_length(55);
     let text = format!(in rt.alloc(); "{fault}")?;
     assert_eq!(rt; text.as_str(), "messageLength is 55 and not from 34 to 54");
     Ok(())

@@ -1,11 +1,12 @@
-ghost use Rattle.std.specs.Prelude.{◌≡◌, ◌≤◌, ℕ, [], length, IfOk};
+ghost use Rattle.std.specs.Prelude.{◌≡◌, ◌≤◌, ℕ, length, IfOk};
 ghost use Rattle.ptu_profile.specs.Limits.{IsCapacity};
+ghost use Rattle.ptu_shared.specs.Blanks.{IsBlankOf};
 ghost use Rattle.ptu_shared.specs.Opening.{idle_port};
 
 use super::*;
 use ptu_admit::{Closed, Verdict};
 use ptu_history::Client;
-use ptu_outside::{Arrival, Channel, Datagram, MemClock, MemPort, Sends};
+use ptu_outside::{Arrival, Channel, Datagram, MemClock, MemPort, Sends, samples};
 use ptu_shard::samples::{CONFIG, ONE, TWO, ZERO};
 use ptu_shared::{Rates, Seat, Shared};
 use ptu_tlvs::Ask;
@@ -61,13 +62,6 @@ fn port(alloc: Global, fails: Vec<u64>) -> Result<MemPort, Fail> {
     let mut port = MemPort::new(alloc, waiting, fails, Vec::new(alloc));
     port.reserve(2, 2 * 64)?;
     Ok(port)
-}
-
-// A port in memory at which nothing waits.
-fn idle(alloc: Global) -> MemPort
-    ensures { (result.waiting ≡ []) × (result.faults ≡ 0) }
-{
-    MemPort::new(alloc, Vec::new(alloc), Vec::new(alloc), Vec::new(alloc))
 }
 
 // A round at this port.
@@ -267,16 +261,15 @@ fn play<L: Rates, G: Ledger, R: Ledger, W: Wait + Abort>(
     capacity: u64,
     scene: Scene,
 ) -> Result<(), Fail>
-    requires rates { (blanks.0.name ≡ L.name) × (blanks.0.parts ≡ L.parts) × (L.parts ≡ 4) }
-    requires granted { (blanks.1.name ≡ G.name) × (blanks.1.parts ≡ G.parts)
-        × (G.parts ≡ L.seats) }
-    requires refused { (blanks.2.name ≡ R.name) × (blanks.2.parts ≡ R.parts)
-        × (R.parts ≡ L.seats) }
+    requires rates { IsBlankOf L.name L.parts 4 blanks.0 }
+    requires granted { IsBlankOf G.name G.parts L.seats blanks.1 }
+    requires refused { IsBlankOf R.name R.parts L.seats blanks.2 }
     requires capacity { (IsCapacity capacity) × (capacity ≤ L.most) }
     requires seats { L.seats ≡ 1 }
     requires ports { (i : ℕ) → L.opened i ≡ idle_port }
 {
-    let (p0, p1, p2, p3) = (idle(alloc), idle(alloc), idle(alloc), idle(alloc));
+    let (p0, p1) = (samples::idle_port(alloc), samples::idle_port(alloc));
+    let (p2, p3) = (samples::idle_port(alloc), samples::idle_port(alloc));
     let (rates, granted, refused) = blanks;
     let (shared, mut seats) = Shared::<MemPort, L, G, R>::new(
         alloc, rates, granted, refused, capacity, 1, p0, p1, p2, p3,

@@ -1,3 +1,4 @@
+ghost use Rattle.std.specs.Prelude.{IfOk};
 ghost use Rattle.ptu_world.specs.Deeds.{Grandmaster};
 ghost use Rattle.ptu_nodes.specs.Standing.{IsGrandmasterNode};
 
@@ -57,6 +58,48 @@ fn moment(seconds: u64) -> Result<Moment, Fail> {
     Ok(Moment::of(nanos).ok_or("a moment is below 2^62")?)
 }
 
+// What happens to a grandmaster.
+#[derive(Clone, Copy)]
+enum Event {
+    // A datagram comes from this address.
+    Comes(u32, &'static str),
+    // This table takes a turn.
+    Turns(usize),
+    // Its capacity is changed.
+    Changes(u64),
+}
+
+// An event of these seconds, in the line of this number.
+fn take_event(
+    rt: &impl Abort,
+    alloc: Global,
+    node: &mut GrandmasterNode,
+    event: (u64, u64, Event),
+    journal: &mut Journal,
+) -> Result<(), Fail>
+    requires { (g : Grandmaster) × IsGrandmasterNode node.old g }
+    ensures { IfOk result (λ _. (g : Grandmaster) × IsGrandmasterNode node.new g) }
+{
+    let (number, seconds, event) = event;
+    let at = moment(seconds)?;
+    journal.begin(number);
+    match event {
+        Event::Comes(from, text) => {
+            let octets = hex::decode(alloc, text)?;
+            node.receive(at, from, &octets, journal)?;
+        }
+        Event::Turns(table) => {
+            assert!(rt; table < 4);
+            node.turn(at, table, journal)?;
+        }
+        Event::Changes(capacity) => {
+            assert!(rt; 1 <= capacity && capacity <= 16_777_216);
+            node.set_capacity(at, capacity, journal)?;
+        }
+    }
+    Ok(())
+}
+
 // What is said of the line that was begun last.
 fn assert_said(rt: &impl Abort, journal: &Journal, said: &[&str]) -> Result<(), Fail> {
     let texts = journal.texts();
@@ -77,20 +120,15 @@ fn assert_all_said(
 ) -> Result<(), Fail>
     requires { (g : Grandmaster) × IsGrandmasterNode node.old g }
 {
-    let sync = hex::decode(alloc, SYNC)?;
-    let announce = hex::decode(alloc, ANNOUNCE)?;
-    journal.begin(2);
-    node.receive(moment(0)?, FIRST, &sync, journal)?;
-    assert_said(rt, journal, &GRANTED)?;
-    journal.begin(3);
-    node.turn(moment(1)?, 2, journal)?;
-    assert_said(rt, journal, &TURNED)?;
-    journal.begin(4);
-    node.receive(moment(1)?, SECOND, &announce, journal)?;
-    assert_said(rt, journal, &SHORT)?;
-    journal.begin(5);
-    node.set_capacity(moment(2)?, 8, journal)?;
-    assert_said(rt, journal, &SHED)?;
+    for (event, said) in [
+        ((2, 0, Event::Comes(FIRST, SYNC)), GRANTED.as_slice()),
+        ((3, 1, Event::Turns(2)), TURNED.as_slice()),
+        ((4, 1, Event::Comes(SECOND, ANNOUNCE)), SHORT.as_slice()),
+        ((5, 2, Event::Changes(8)), SHED.as_slice()),
+    ] {
+        take_event(rt, alloc, node, event, journal)?;
+        assert_said(rt, journal, said)?;
+    }
     let counts = (journal.sent().count(), journal.granted(), journal.short());
     assert_eq!(rt; counts, (4, 1, 1));
     Ok(())

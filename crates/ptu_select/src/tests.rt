@@ -1,4 +1,4 @@
-ghost use Rattle.std.specs.Prelude.{◌≡◌, length};
+ghost use Rattle.std.specs.Prelude.{◌≡◌, ◌<◌, ◌^◌, ForSome, length};
 
 use super::*;
 use ptu_fails::WatchState;
@@ -10,39 +10,62 @@ use std::process::Abort;
 const SECOND: u64 = 1_000_000_000;
 
 // A master's Announce of this class and Sync at so many seconds, after which its judge finds
-// nothing.
-#[derive(Clone, Copy)]
-struct Pair {
-    second: u64,
-    master: usize,
-    class: u8,
-}
+// nothing: the second, the master and the class.
+type Pair = (u64, usize, u8);
 
 fn at(rt: &impl Abort, nanos: u64) -> Moment {
     Moment::of(nanos).expect(rt, "below 2^62")
 }
 
-fn heard(second: u64, master: usize, class: u8) -> Pair {
-    Pair {
-        second,
-        master,
-        class,
-    }
+// A selector with timeouts of 48 s, this one for Delay_Resp, and this time to wait.
+fn selector(
+    rt: &impl Abort,
+    alloc: Global,
+    delay: Option<u64>,
+    wait: u64,
+    priorities: &[u8],
+) -> Selector
+    requires { (ForSome delay (λ timeout. timeout < 2 ^ 62)) × (wait < 2 ^ 62) }
+    ensures { length result ≡ length priorities.now }
+{
+    let timeout = 48 * SECOND;
+    let selector = Selector::new(alloc, timeout, timeout, delay, wait, priorities);
+    selector.expect(rt, "memory")
 }
 
 fn take(rt: &impl Abort, selector: &mut Selector, masters: usize, pair: Pair)
     requires { length selector.old ≡ masters }
     ensures { length selector.new ≡ masters }
 {
-    assert!(rt; pair.master < masters);
-    assert!(rt; pair.second < 1000);
-    let t = at(rt, pair.second * SECOND);
-    selector.announce(t, pair.master, pair.class);
-    selector.sync(t, pair.master);
-    selector.flag(t, pair.master, false);
+    let (second, master, class) = pair;
+    assert!(rt; master < masters);
+    assert!(rt; second < 1000);
+    let t = at(rt, second * SECOND);
+    selector.announce(t, master, class);
+    selector.sync(t, master);
+    selector.flag(t, master, false);
 }
 
-// The choice after what is not later, with timeouts of 48 s and a minute of waiting.
+// The selector hears what came from a second on and up to another.
+fn take_between(
+    rt: &impl Abort,
+    selector: &mut Selector,
+    masters: usize,
+    pairs: &[Pair],
+    from: u64,
+    to: u64,
+)
+    requires { length selector.old ≡ masters }
+    ensures { length selector.new ≡ masters }
+{
+    for &pair in pairs {
+        if from <= pair.0 && pair.0 <= to {
+            take(rt, selector, masters, pair);
+        }
+    }
+}
+
+// The choice after what is not later, with a minute of waiting.
 fn choice(
     rt: &impl Abort,
     alloc: Global,
@@ -50,30 +73,45 @@ fn choice(
     pairs: &[Pair],
     nanos: u64,
 ) -> Option<usize> {
-    let timeout = 48 * SECOND;
-    let mut selector = Selector::new(alloc, timeout, timeout, None, 60 * SECOND, priorities).expect(
-        rt, "memory",
+    let mut selector = selector(rt, alloc, None, 60 * SECOND, priorities);
+    take_between(
+        rt,
+        &mut selector,
+        priorities.len(),
+        pairs,
+        0,
+        nanos / SECOND,
     );
-    for &pair in pairs {
-        if pair.second <= nanos / SECOND {
-            take(rt, &mut selector, priorities.len(), pair);
-        }
-    }
     selector.select(at(rt, nanos))
+}
+
+// The choice at each moment is this one, in a fresh look and in two of a selector that is kept.
+fn assert_choices(
+    rt: &impl Abort,
+    alloc: Global,
+    priorities: &[u8],
+    pairs: &[Pair],
+    looks: &[(u64, Option<usize>)],
+) {
+    let mut kept = selector(rt, alloc, None, 60 * SECOND, priorities);
+    let mut from = 0;
+    for &(nanos, selected) in looks {
+        take_between(rt, &mut kept, priorities.len(), pairs, from, nanos / SECOND);
+        from = nanos / SECOND + 1;
+        assert_eq!(rt; choice(rt, alloc, priorities, pairs, nanos), selected);
+        assert_eq!(rt; kept.select(at(rt, nanos)), selected);
+        assert_eq!(rt; kept.select(at(rt, nanos)), selected);
+    }
 }
 
 // The choice of a slave that measures, with a timeout of 3 s for Delay_Resp: there is one at 1 s,
 // and from 5 s on every third second.
 fn measured_choice(rt: &impl Abort, alloc: Global, nanos: u64) -> Option<usize> {
-    let timeout = 48 * SECOND;
-    let delay = Some(3 * SECOND);
-    let mut selector = Selector::new(alloc, timeout, timeout, delay, 60 * SECOND, &[1]).expect(
-        rt, "memory",
-    );
+    let mut selector = selector(rt, alloc, Some(3 * SECOND), 60 * SECOND, &[1]);
     for second in 0..66 {
         if second * SECOND <= nanos {
             if second % 40 == 0 {
-                take(rt, &mut selector, 1, heard(second, 0, 84));
+                take(rt, &mut selector, 1, (second, 0, 84));
             }
             if second == 1 || second >= 5 && second % 3 == 2 {
                 selector.resp(at(rt, second * SECOND), 0);
@@ -83,44 +121,41 @@ fn measured_choice(rt: &impl Abort, alloc: Global, nanos: u64) -> Option<usize> 
     selector.select(at(rt, nanos))
 }
 
+const LOSS: [Pair; 8] = [
+    (0, 0, 84),
+    (0, 1, 90),
+    (48, 0, 84),
+    (48, 1, 90),
+    (96, 1, 90),
+    (100, 0, 84),
+    (140, 0, 84),
+    (140, 1, 90),
+];
+
+const RESTORATION: [(u64, Option<usize>); 6] = [
+    (48_000_000_000, Some(0)),
+    (96_000_000_000, Some(0)),
+    (96_000_000_001, Some(1)),
+    (100_000_000_000, Some(1)),
+    (159_999_999_999, Some(1)),
+    (160_000_000_000, Some(0)),
+];
+
 #[test]
 fn loss_and_restoration(rt: HostRuntime) {
-    let pairs = [
-        heard(0, 0, 84),
-        heard(0, 1, 90),
-        heard(48, 0, 84),
-        heard(48, 1, 90),
-        heard(96, 1, 90),
-        heard(100, 0, 84),
-        heard(140, 0, 84),
-        heard(140, 1, 90),
-    ];
-    for (nanos, selected) in [
-        (48_000_000_000, Some(0)),
-        (96_000_000_000, Some(0)),
-        (96_000_000_001, Some(1)),
-        (100_000_000_000, Some(1)),
-        (159_999_999_999, Some(1)),
-        (160_000_000_000, Some(0)),
-    ] {
-        assert_eq!(rt; choice(&rt, rt.alloc(), &[1, 1], &pairs, nanos), selected);
-        assert_eq!(rt; choice(&rt, rt.alloc(), &[2, 1], &pairs, nanos), selected);
-    }
+    assert_choices(&rt, rt.alloc(), &[1, 1], &LOSS, &RESTORATION);
+    assert_choices(&rt, rt.alloc(), &[2, 1], &LOSS, &RESTORATION);
 }
+
+const TIE: [Pair; 4] = [(0, 0, 84), (0, 1, 84), (1, 0, 110), (1, 1, 110)];
 
 #[test]
 fn ties_and_do_not_use(rt: HostRuntime) {
-    let pairs = [
-        heard(0, 0, 84),
-        heard(0, 1, 84),
-        heard(1, 0, 110),
-        heard(1, 1, 110),
-    ];
-    assert_eq!(rt; choice(&rt, rt.alloc(), &[1, 1], &pairs, 0), Some(0));
-    assert_eq!(rt; choice(&rt, rt.alloc(), &[2, 1], &pairs, 0), Some(1));
-    assert_eq!(rt; choice(&rt, rt.alloc(), &[1, 1], &pairs, SECOND), None);
-    assert_eq!(rt; choice(&rt, rt.alloc(), &[1], &[heard(0, 0, 6)], 0), None);
-    assert_eq!(rt; choice(&rt, rt.alloc(), &[], &[], 0), None);
+    let alloc = rt.alloc();
+    assert_choices(&rt, alloc, &[1, 1], &TIE, &[(0, Some(0)), (SECOND, None)]);
+    assert_choices(&rt, alloc, &[2, 1], &TIE, &[(0, Some(1))]);
+    assert_choices(&rt, alloc, &[1], &[(0, 0, 6)], &[(0, None)]);
+    assert_choices(&rt, alloc, &[], &[], &[(0, None)]);
 }
 
 #[test]
@@ -143,7 +178,7 @@ fn the_state_of_one_master(rt: HostRuntime) {
     let mut selector = Selector::new(rt.alloc(), SECOND, SECOND, None, 0, &[1, 1]).expect(
         &rt, "memory",
     );
-    take(&rt, &mut selector, 2, heard(0, 1, 96));
+    take(&rt, &mut selector, 2, (0, 1, 96));
     selector.flag(at(&rt, SECOND), 1, true);
     let unusable = WatchState {
         loss_announce: false,
@@ -157,69 +192,36 @@ fn the_state_of_one_master(rt: HostRuntime) {
     assert!(rt; selector.state(at(&rt, SECOND), 0).loss_announce);
 }
 
-// The selector hears what came from a second on and up to another.
-fn take_between(
-    rt: &impl Abort,
-    selector: &mut Selector,
-    masters: usize,
-    pairs: &[Pair],
-    from: u64,
-    to: u64,
-)
-    requires { length selector.old ≡ masters }
-    ensures { length selector.new ≡ masters }
-{
-    for &pair in pairs {
-        if from <= pair.second && pair.second <= to {
-            take(rt, selector, masters, pair);
-        }
-    }
-}
+const KEPT: [Pair; 5] = [
+    (0, 0, 84),
+    (0, 1, 90),
+    (48, 1, 90),
+    (50, 0, 84),
+    (98, 0, 110),
+];
 
 #[test]
 fn a_kept_choice_is_that_of_a_fresh_look(rt: HostRuntime) {
-    let pairs = [
-        heard(0, 0, 84),
-        heard(0, 1, 90),
-        heard(48, 1, 90),
-        heard(50, 0, 84),
-        heard(98, 0, 110),
-    ];
-    let priorities = [1, 1];
-    let timeout = 48 * SECOND;
-    let mut selector = Selector::new(
+    assert_choices(
+        &rt,
         rt.alloc(),
-        timeout,
-        timeout,
-        None,
-        60 * SECOND,
-        &priorities,
-    ).expect(&rt, "memory");
-    let mut from = 0;
-    for nanos in [
-        0,
-        48_000_000_000,
-        48_000_000_001,
-        50_000_000_000,
-        96_000_000_000,
-        96_000_000_001,
-        98_000_000_001,
-    ] {
-        take_between(&rt, &mut selector, 2, &pairs, from, nanos / SECOND);
-        from = nanos / SECOND + 1;
-        let fresh = choice(&rt, rt.alloc(), &priorities, &pairs, nanos);
-        assert_eq!(rt; selector.select(at(&rt, nanos)), fresh);
-        assert_eq!(rt; selector.select(at(&rt, nanos)), fresh);
-    }
+        &[1, 1],
+        &KEPT,
+        &[
+            (0, Some(0)),
+            (48_000_000_000, Some(0)),
+            (48_000_000_001, Some(1)),
+            (50_000_000_000, Some(1)),
+            (96_000_000_000, Some(1)),
+            (96_000_000_001, None),
+            (98_000_000_001, None),
+        ],
+    );
 }
 
 #[test]
 fn ten_million_looks_at_one_choice(rt: HostRuntime) {
-    let timeout = 48 * SECOND;
-    let priorities = [0; 20000];
-    let mut selector = Selector::new(rt.alloc(), timeout, timeout, None, 0, &priorities).expect(
-        &rt, "memory",
-    );
+    let mut selector = selector(&rt, rt.alloc(), None, 0, &[0; 20000]);
     let start = at(&rt, 0);
     selector.announce(start, 7, 84);
     selector.sync(start, 7);

@@ -46,28 +46,34 @@ fn table(
     Ok(shard)
 }
 
+// The turn at each moment sends so many messages, and so many of its sends fail.
+fn assert_turns(
+    rt: &impl Abort,
+    shard: &mut Shard<MemPort>,
+    turns: &[(u64, u64, u64)],
+) -> Result<(), Fail> {
+    for &(nanos, sent, failed) in turns {
+        let at = moment(nanos)?;
+        let turned = shard.turn(&CONFIG, at);
+        assert_eq!(rt; turned, Turned { at, sent, failed });
+    }
+    Ok(())
+}
+
 #[test]
 fn a_turn_sends_in_its_own_period(rt: HostRuntime) -> Result<(), Fail> {
     let mut shard = table(&rt, rt.alloc(), Kind::Sync, Vec::new(rt.alloc()))?;
-    // The moment of each turn, and how many messages it sends.
-    let turns = [
-        (999_999_999, 0),
-        (SECOND, 1),
-        (11 * SECOND, 1),
-        (11_999_999_999, 0),
-        (12 * SECOND, 1),
-    ];
-    for (at, sent) in turns {
-        let turned = shard.turn(&CONFIG, moment(at)?);
-        assert_eq!(rt;
-            turned,
-            Turned {
-                at: moment(at)?,
-                sent,
-                failed: 0
-            }
-        );
-    }
+    assert_turns(
+        &rt,
+        &mut shard,
+        &[
+            (999_999_999, 0, 0),
+            (SECOND, 1, 0),
+            (11 * SECOND, 1, 0),
+            (11_999_999_999, 0, 0),
+            (12 * SECOND, 1, 0),
+        ],
+    )?;
     let port = shard.into_port();
     let sync = hex::decode(
         rt.alloc(),
@@ -127,19 +133,8 @@ fn a_delay_req_has_a_credit_of_two(rt: HostRuntime) -> Result<(), Fail> {
 #[test]
 fn a_failed_send_spends_its_period(rt: HostRuntime) -> Result<(), Fail> {
     let mut shard = table(&rt, rt.alloc(), Kind::Announce, vec![in rt.alloc(); 1]?)?;
-    // The moment of each turn, how many messages it sends, and how many sends fail.
     let turns = [(SECOND, 0, 1), (1_999_999_999, 0, 0), (2 * SECOND, 1, 0)];
-    for (at, sent, failed) in turns {
-        let turned = shard.turn(&CONFIG, moment(at)?);
-        assert_eq!(rt;
-            turned,
-            Turned {
-                at: moment(at)?,
-                sent,
-                failed
-            }
-        );
-    }
+    assert_turns(&rt, &mut shard, &turns)?;
     let announce = hex::decode(
         rt.alloc(),
         "0b120040040004000000000000000000000000000a0000000000000100010001057f\

@@ -2,3 +2,4 @@ pub mod Seats
 pub mod Answers
 pub mod Delays
 pub mod Opening
+pub mod Blanks

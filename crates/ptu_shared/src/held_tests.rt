@@ -1,11 +1,12 @@
 ghost use Rattle.std.specs.Prelude.{◌≡◌, ◌≤◌, ℕ, None};
 ghost use Rattle.ptu_profile.specs.Limits.{IsCapacity};
+ghost use Rattle.ptu_shared.specs.Blanks.{IsBlankOf};
 ghost use Rattle.ptu_shared.specs.Opening.{untold_port};
 
 use super::*;
-use crate::tests::{ANNOUNCE, Blanks, GRANTED, SYNC, Told, ask, moment, turn};
+use crate::tests::{ANNOUNCE, Blanks, GRANTED, GRANTED_LATER, SYNC, ask, moment, turn};
 use ptu_outside::{Channel, Failed, Port};
-use ptu_shard::samples::{ONE, THREE, ZERO};
+use ptu_shard::samples::{ONE, SECOND, THREE, ZERO};
 use ptu_units::Kind;
 use std::alloc::Global;
 use std::marker::Brand;
@@ -99,26 +100,6 @@ impl Port for HeldPort<'_> {
     }
 }
 
-// A turn of table 0, which is held in its send.
-fn turn_held<L: Rates, G: Ledger, R: Ledger, W: Wait + Abort>(
-    rt: &W,
-    shared: &Shared<HeldPort<'_>, L, G, R>,
-) -> (u64, u64) {
-    turn(rt, shared, 0, 1_000_000_000)
-}
-
-// While table 0 is held, a turn of table 1 returns; then table 0 goes on.
-fn turn_beside<L: Rates, G: Ledger, R: Ledger, W: Wait + Abort>(
-    rt: &W,
-    shared: &Shared<HeldPort<'_>, L, G, R>,
-    gate: &Gate,
-) -> (u64, u64) {
-    gate.await_flag(&gate.entered);
-    let turned = turn(rt, shared, 1, 1_000_000_000);
-    gate.open();
-    turned
-}
-
 // What wants table 0.
 #[derive(Clone, Copy)]
 enum Call {
@@ -132,141 +113,115 @@ enum Call {
 
 const CALLS: [Call; 4] = [Call::Cancel, Call::Ask, Call::AskOfAll, Call::Resize];
 
-// While table 0 is held, this waits for it, and holds no lock that others want.
-fn call_held<L: Rates, G: Ledger, R: Ledger, W: Wait + Abort>(
-    rt: &W,
-    shared: &Shared<HeldPort<'_>, L, G, R>,
-    gate: &Gate,
-    mut seat: Seat<G, R>,
-    call: Call,
-)
-    requires ledger { L.parts ≡ 4 }
-    requires most { 64 ≤ L.most }
-{
-    gate.await_flag(&gate.entered);
-    gate.called.store(1, Ordering::SeqCst);
-    let at = 1_000_000_000;
-    match call {
-        Call::Cancel => {
-            let _ = shared.cancel(rt, moment(rt, at), &ZERO, Kind::Sync);
-        }
-        Call::Ask => {
-            let _ = ask(rt, shared, &mut seat, at, &ZERO, (ANNOUNCE, 1));
-        }
-        Call::AskOfAll => {
-            let _ = ask(rt, shared, &mut seat, at, &THREE, (ANNOUNCE, -2));
-        }
-        Call::Resize => {
-            let _ = shared.resize(rt, moment(rt, at), 64);
+// Tables of which the first is held at a gate.
+#[derive(Drop)]
+struct Held<'s, 'g, L: Rates, G: Ledger, R: Ledger> {
+    shared: &'s Shared<HeldPort<'g>, L, G, R>,
+    gate: &'g Gate,
+}
+
+impl<L: Rates + Sync, G: Ledger + Sync, R: Ledger + Sync> Held<'_, '_, L, G, R> {
+    // While table 0 is held, a turn of table 1 returns; then table 0 goes on.
+    fn turn_beside(&self, rt: &(impl Wait + Abort)) -> (u64, u64) {
+        self.gate.await_flag(&self.gate.entered);
+        let turned = turn(rt, self.shared, 1, SECOND);
+        self.gate.open();
+        turned
+    }
+
+    // While table 0 is held, this waits for it, and holds no lock that others want.
+    fn call_held(&self, rt: &(impl Wait + Abort), mut seat: Seat<G, R>, call: Call)
+        requires ledger { L.parts ≡ 4 }
+        requires most { 64 ≤ L.most }
+    {
+        self.gate.await_flag(&self.gate.entered);
+        self.gate.called.store(1, Ordering::SeqCst);
+        match call {
+            Call::Cancel => {
+                let _ = self
+                    .shared
+                    .cancel(rt, moment(rt, SECOND), &ZERO, Kind::Sync);
+            }
+            Call::Ask => {
+                let _ = ask(rt, self.shared, &mut seat, SECOND, &ZERO, (ANNOUNCE, 1));
+            }
+            Call::AskOfAll => {
+                let _ = ask(rt, self.shared, &mut seat, SECOND, &THREE, (ANNOUNCE, -2));
+            }
+            Call::Resize => {
+                let _ = self.shared.resize(rt, moment(rt, SECOND), 64);
+            }
         }
     }
-}
 
-// While table 0 is held, and a call waits for it, a client of table 1 asks again and again and is
-// granted each time; then table 0 goes on.
-fn ask_beside<L: Rates, G: Ledger, R: Ledger, W: Wait + Abort>(
-    rt: &W,
-    shared: &Shared<HeldPort<'_>, L, G, R>,
-    gate: &Gate,
-    mut seat: Seat<G, R>,
-)
-    requires { L.parts ≡ 4 }
-{
-    let granted = Told::Granted {
-        at: 1_000_000_000,
-        until: 301_000_000_000,
-    };
-    gate.await_flag(&gate.called);
-    for _ in 0..20 {
-        gate.look_on();
-        let told = ask(rt, shared, &mut seat, 1_000_000_000, &ONE, (ANNOUNCE, 1));
-        assert_eq!(rt; told, granted);
+    // While table 0 is held, and a call waits for it, a client of table 1 asks again and again and
+    // is granted each time; then table 0 goes on.
+    fn ask_beside(&self, rt: &(impl Wait + Abort), mut seat: Seat<G, R>)
+        requires { L.parts ≡ 4 }
+    {
+        self.gate.await_flag(&self.gate.called);
+        for _ in 0..20 {
+            self.gate.look_on();
+            let told = ask(rt, self.shared, &mut seat, SECOND, &ONE, (ANNOUNCE, 1));
+            assert_eq!(rt; told, GRANTED_LATER);
+        }
+        self.gate.open();
     }
-    gate.open();
-}
 
-// While table 0 is held, a call waits for it, and beside it a client of table 1 asks.
-fn call_and_ask<L, G, R, W>(
-    rt: &W,
-    shared: &Shared<HeldPort<'_>, L, G, R>,
-    gate: &Gate,
-    call: Call,
-    first: Seat<G, R>,
-    second: Seat<G, R>,
-)
-where
-    L: Rates + Sync,
-    G: Ledger + Sync,
-    R: Ledger + Sync,
-    W: Wait + Abort + Threads + Sync,
-    requires ledger { L.parts ≡ 4 }
-    requires most { 64 ≤ L.most }
-{
-    let _ = thread::join(
-        rt,
-        move ||
-            requires { (L.parts ≡ 4) × (64 ≤ L.most) }
-        { call_held(rt, shared, gate, first, call) },
-        move ||
-            requires { L.parts ≡ 4 }
-        { ask_beside(rt, shared, gate, second) },
-    );
-}
-
-// While table 0 is held, table 1 takes a turn; or a call waits for table 0, and the client of table
-// 1 asks.
-fn go_on_beside<L, G, R, W>(
-    rt: &W,
-    shared: &Shared<HeldPort<'_>, L, G, R>,
-    gate: &Gate,
-    call: Option<Call>,
-    first: Seat<G, R>,
-    second: Seat<G, R>,
-)
-where
-    L: Rates + Sync,
-    G: Ledger + Sync,
-    R: Ledger + Sync,
-    W: Wait + Abort + Threads + Sync,
-    requires ledger { L.parts ≡ 4 }
-    requires most { 64 ≤ L.most }
-{
-    match call {
-        None => assert_eq!(rt; turn_beside(rt, shared, gate), (1, 0)),
-        Some(call) => call_and_ask(rt, shared, gate, call, first, second),
+    // While table 0 is held, table 1 takes a turn; or a call waits for table 0, and beside it the
+    // client of table 1 asks.
+    fn go_on_beside<W: Wait + Abort + Threads + Sync>(
+        &self,
+        rt: &W,
+        call: Option<Call>,
+        first: Seat<G, R>,
+        second: Seat<G, R>,
+    )
+        requires ledger { L.parts ≡ 4 }
+        requires most { 64 ≤ L.most }
+    {
+        let Some(call) = call else {
+            assert_eq!(rt; self.turn_beside(rt), (1, 0));
+            return;
+        };
+        let _ = thread::join(
+            rt,
+            move ||
+                requires { (L.parts ≡ 4) × (64 ≤ L.most) }
+            { self.call_held(rt, first, call) },
+            move ||
+                requires { L.parts ≡ 4 }
+            { self.ask_beside(rt, second) },
+        );
     }
-}
 
-// Clients of tables 0 and 1 are granted Syncs. Table 0 is held in a turn, and beside it table 1
-// takes a turn, or a call waits for table 0 and the client of table 1 asks.
-fn turn_and_call<L, G, R, W>(
-    rt: &W,
-    shared: &Shared<HeldPort<'_>, L, G, R>,
-    mut seats: Vec<Seat<G, R>>,
-    gate: &Gate,
-    call: Option<Call>,
-)
-where
-    L: Rates + Sync,
-    G: Ledger + Sync,
-    R: Ledger + Sync,
-    W: Wait + Abort + Threads + Sync,
-    requires ledger { L.parts ≡ 4 }
-    requires most { 64 ≤ L.most }
-{
-    let mut seat = seats.pop().expect(rt, "there are two seats");
-    let other = seats.pop().expect(rt, "there are two seats");
-    assert_eq!(rt; ask(rt, shared, &mut seat, 0, &ZERO, (SYNC, 0)), GRANTED);
-    assert_eq!(rt; ask(rt, shared, &mut seat, 0, &ONE, (SYNC, 0)), GRANTED);
-    let (turned, ()) = thread::join(
-        rt,
-        move || turn_held(rt, shared),
-        move ||
-            requires { (L.parts ≡ 4) × (64 ≤ L.most) }
-        { go_on_beside(rt, shared, gate, call, other, seat) },
-    );
-    assert_eq!(rt; turned, (1, 0));
-    assert!(rt; !gate.is_late(), "the ask went on");
+    // Clients of tables 0 and 1 are granted Syncs. Table 0 is held in a turn, and beside it table 1
+    // takes a turn, or a call waits for table 0 and the client of table 1 asks.
+    fn turn_and_call<W: Wait + Abort + Threads + Sync>(
+        &self,
+        rt: &W,
+        mut seats: Vec<Seat<G, R>>,
+        call: Option<Call>,
+    )
+        requires ledger { L.parts ≡ 4 }
+        requires most { 64 ≤ L.most }
+    {
+        let mut seat = seats.pop().expect(rt, "there are two seats");
+        let other = seats.pop().expect(rt, "there are two seats");
+        for client in [ZERO, ONE] {
+            let told = ask(rt, self.shared, &mut seat, 0, &client, (SYNC, 0));
+            assert_eq!(rt; told, GRANTED);
+        }
+        let (turned, ()) = thread::join(
+            rt,
+            move || turn(rt, self.shared, 0, SECOND),
+            move ||
+                requires { (L.parts ≡ 4) × (64 ≤ L.most) }
+            { self.go_on_beside(rt, call, other, seat) },
+        );
+        assert_eq!(rt; turned, (1, 0));
+        assert!(rt; !self.gate.is_late(), "the ask went on");
+    }
 }
 
 // Plays this with two seats, whatever the ledgers are.
@@ -283,12 +238,9 @@ where
     G: Ledger + Sync,
     R: Ledger + Sync,
     W: Wait + Abort + Threads + Sync,
-    requires rates { (blanks.rates.name ≡ L.name) × (blanks.rates.parts ≡ L.parts)
-        × (L.parts ≡ 4) }
-    requires granted { (blanks.granted.name ≡ G.name) × (blanks.granted.parts ≡ G.parts)
-        × (G.parts ≡ L.seats) }
-    requires refused { (blanks.refused.name ≡ R.name) × (blanks.refused.parts ≡ R.parts)
-        × (R.parts ≡ L.seats) }
+    requires rates { IsBlankOf L.name L.parts 4 blanks.rates }
+    requires granted { IsBlankOf G.name G.parts L.seats blanks.granted }
+    requires refused { IsBlankOf R.name R.parts L.seats blanks.refused }
     requires capacity { IsCapacity capacity }
     requires most { (capacity ≤ L.most) × (64 ≤ capacity) }
     requires seats { L.seats ≡ 2 }
@@ -306,7 +258,11 @@ where
     let (shared, seats) = Shared::<HeldPort<'_>, L, G, R>::new(
         alloc, rates, granted, refused, capacity, 2, p0, p1, p2, p3,
     )?;
-    turn_and_call(rt, &shared, seats, gate, call);
+    let held = Held {
+        shared: &shared,
+        gate,
+    };
+    held.turn_and_call(rt, seats, call);
     Ok(())
 }
 

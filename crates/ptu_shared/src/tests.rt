@@ -1,13 +1,15 @@
 ghost use Rattle.std.specs.Prelude.{◌≡◌, ◌≤◌, ◌<◌, ℕ, [], None, IfOk};
 ghost use Rattle.ptu_profile.specs.Limits.{IsCapacity};
+ghost use Rattle.ptu_shared.specs.Blanks.{IsBlankOf};
 ghost use Rattle.ptu_shared.specs.Opening.{idle_port};
 
 use super::*;
-use ptu_admit::{Closed, Verdict};
+use ptu_admit::samples::{Told, numbers_of};
+use ptu_admit::{Closed, Outside};
 use ptu_history::Client;
-use ptu_outside::{MemPort, Port};
+use ptu_outside::{MemPort, Port, samples};
 use ptu_shard::Answered;
-use ptu_shard::samples::{CONFIG, DELAY_REQ, ONE, THREE, TWO, ZERO};
+use ptu_shard::samples::{CONFIG, DELAY_REQ, SECOND, THREE, TWO};
 use ptu_tlvs::Ask;
 use ptu_units::{Kind, Moment};
 use std::alloc::Global;
@@ -47,50 +49,12 @@ pub(crate) const SYNC: u8 = 0;
 
 const DELAY_RESP: u8 = 9;
 
-// What a verdict says, in numbers.
-#[derive(Clone, Copy, Debug, PartialEq, Eq)]
-pub(crate) enum Told {
-    Granted {
-        at: u64,
-        until: u64,
-    },
-    Short {
-        at: u64,
-        others: u64,
-        rate: u64,
-        capacity: u64,
-    },
-    Outside,
-}
+// What is told of a grant at 0 or at 1 s, and of a shortage beside it in a capacity of 8.
+pub(crate) const GRANTED: Told = Told::Granted(0, 300 * SECOND);
 
-// What is told of a grant at 0, and of a shortage beside it in a capacity of 8.
-pub(crate) const GRANTED: Told = Told::Granted {
-    at: 0,
-    until: 300_000_000_000,
-};
+pub(crate) const GRANTED_LATER: Told = Told::Granted(SECOND, 301 * SECOND);
 
-const SHORT: Told = Told::Short {
-    at: 0,
-    others: 8,
-    rate: 1,
-    capacity: 8,
-};
-
-fn numbers_of(verdict: &Verdict) -> Told {
-    match verdict {
-        Verdict::Granted(grant) => Told::Granted {
-            at: grant.at().nanos(),
-            until: grant.until(),
-        },
-        Verdict::Short(shortage) => Told::Short {
-            at: shortage.at().nanos(),
-            others: shortage.others(),
-            rate: shortage.rate(),
-            capacity: shortage.capacity(),
-        },
-        Verdict::Outside(_) => Told::Outside,
-    }
-}
+const SHORT: Told = Told::Short(0, 8, 1, 8);
 
 pub(crate) fn moment(rt: &impl Abort, nanos: u64) -> Moment {
     Moment::of(nanos).expect(rt, "a moment is below 2^62")
@@ -130,191 +94,239 @@ pub(crate) fn turn<P: Port + Send, L: Rates, G: Ledger, R: Ledger, W: Wait + Abo
     (turned.sent, turned.failed)
 }
 
-fn check_closed<P: Drop>(
-    rt: &impl Abort,
-    closed: &Closed<P>,
-    counts: [u64; 4],
-    granted: u64,
-    refused: u64,
-) {
-    assert_eq!(rt; closed.counts, counts);
-    assert!(rt; counts[0] < 1 << 32 && counts[1] < 1 << 32);
-    assert!(rt; counts[2] < 1 << 32 && counts[3] < 1 << 32);
-    assert_eq!(rt; closed.total, counts[0] + counts[1] + counts[2] + counts[3]);
-    assert_eq!(rt; (closed.granted, closed.refused), (granted, refused));
-}
-
 // A port in memory with room.
 fn roomy(alloc: Global) -> Result<MemPort, Fail>
     ensures { IfOk result (λ port. (port.waiting ≡ []) × (port.faults ≡ 0)) }
 {
-    let mut port = MemPort::new(alloc, Vec::new(alloc), Vec::new(alloc), Vec::new(alloc));
+    let mut port = samples::idle_port(alloc);
     port.reserve(4, 4 * 64)?;
     Ok(port)
 }
 
-// The client of table 2 is granted what is there, and that of table 3 is short. An ask outside the
-// profile is not counted.
-fn ask_for_both<L: Rates, G: Ledger, R: Ledger, W: Wait + Abort>(
-    rt: &W,
-    shared: &Shared<MemPort, L, G, R>,
-    seats: &mut [Seat<G, R>],
-)
-    requires { L.parts ≡ 4 }
-{
-    assert_eq!(rt; seats.len(), 1);
-    let seat = &mut seats[0];
-    assert_eq!(rt; ask(rt, shared, seat, 0, &TWO, (ANNOUNCE, 1)), GRANTED);
-    assert_eq!(rt; ask(rt, shared, seat, 0, &THREE, (ANNOUNCE, 4)), SHORT);
-    assert_eq!(rt; ask(rt, shared, seat, 0, &THREE, (3, 4)), Told::Outside);
-    assert_eq!(rt; (seat.granted(), seat.refused()), (1, 1));
+// What happens to tables in a capacity and from seats, and what it comes to.
+#[derive(Clone, Copy)]
+enum Step {
+    // The client asks from the seat of this place for the kind of this code at this logarithm.
+    Ask(usize, Client, (u8, i8), Told),
+    // So many asks were granted at the seat of this place, and so many refused.
+    Counts(usize, u64, u64),
+    // A turn of this table sends so many messages, and no send fails.
+    Turn(usize, u64),
+    // A Delay_Req of the client of table 2 is answered, meets no grant, or comes before this moment.
+    Answers,
+    MeetsNoGrant,
+    ComesTooSoon(u64),
+    // The grant of Announces of the client of table 2 is cancelled, if it is live.
+    Cancel(bool),
+    // The capacity becomes 8, and the grant of Announces of this client alone is shed.
+    Shed(Client),
 }
 
-// Asks, closes with no seat, which is refused, and then with the seats.
-fn ask_and_close<L: Rates, G: Ledger, R: Ledger, W: Wait + Abort>(
-    rt: &W,
-    shared: Shared<MemPort, L, G, R>,
-    mut seats: Vec<Seat<G, R>>,
-    none: Vec<Seat<G, R>>,
-)
-    requires { (L.parts ≡ 4) × (G.parts ≡ L.seats) × (R.parts ≡ L.seats) }
-{
-    ask_for_both(rt, &shared, seats.as_mut_slice());
-    let Err(fault) = shared.close(none) else {
-        panic!(rt; "a seat is missing")
-    };
-    assert_eq!(rt; (fault.granted, fault.refused), (1, 1));
-    assert_eq!(rt; (fault.seats_granted, fault.seats_refused), (0, 0));
-    let Ok(closed) = fault.shared.close(seats) else {
-        panic!(rt; "no seat is missing")
-    };
-    check_closed(rt, &closed, [0, 0, 8, 0], 1, 1);
+// When the last seat is handed in to a close.
+#[derive(Clone, Copy)]
+enum Last {
+    // With the others.
+    InTime,
+    // After a close that was refused, since the others have counted so many grants and refusals.
+    Late(u64, u64),
+    // Not at all, and it is not missed.
+    Never,
 }
 
-#[test]
-fn a_close_wants_every_seat(rt: HostRuntime) -> Result<(), Fail> {
-    run(&rt, rt.alloc(), 8, 1, Scene::Admission)
+// Steps at their moments, the close after them, the shares that it counts, and the verdicts.
+#[derive(Clone, Copy)]
+struct Course {
+    steps: &'static [(u64, Step)],
+    last: Last,
+    shares: [u64; 4],
+    granted: u64,
+    refused: u64,
 }
 
-// What a Delay_Req of the client of table 2 meets.
-fn delay<L: Rates, G: Ledger, R: Ledger, W: Wait + Abort>(
-    rt: &W,
-    shared: &Shared<MemPort, L, G, R>,
-    t: u64,
-) -> Answered {
-    shared.answer_delay(rt, &CONFIG, moment(rt, t), &TWO, &DELAY_REQ)
-}
-
-fn call_in_order<L: Rates, G: Ledger, R: Ledger, W: Wait + Abort>(
-    rt: &W,
-    shared: &Shared<MemPort, L, G, R>,
-    seats: &mut [Seat<G, R>],
-)
-    requires { L.parts ≡ 4 }
-{
-    assert_eq!(rt; seats.len(), 1);
-    let seat = &mut seats[0];
-    let two = moment(rt, 2_000_000_000);
-    let three = moment(rt, 3_000_000_000);
-    assert_eq!(rt; ask(rt, shared, seat, 0, &TWO, (ANNOUNCE, 1)), GRANTED);
-    assert_eq!(rt; turn(rt, shared, 2, 2_000_000_000), (1, 0));
-    assert_eq!(rt;
-        delay(rt, shared, 2_000_000_000),
-        Answered::NoGrant { at: two }
-    );
-    let granted = Told::Granted {
-        at: 2_000_000_000,
-        until: 302_000_000_000,
-    };
-    assert_eq!(rt;
-        ask(rt, shared, seat, 2_000_000_000, &TWO, (DELAY_RESP, 0)),
-        granted
-    );
-    assert_eq!(rt;
-        delay(rt, shared, 3_000_000_000),
-        Answered::Sent { at: three }
-    );
-    let soon = Answered::TooSoon {
-        at: three,
-        earliest: 4_000_000_000,
-    };
-    assert_eq!(rt; delay(rt, shared, 3_000_000_000), soon);
-    assert!(rt; shared.cancel(rt, three, &TWO, Kind::Announce).ended);
-    assert!(rt; !shared.cancel(rt, three, &TWO, Kind::Announce).ended);
-    assert_eq!(rt; turn(rt, shared, 2, 9_000_000_000), (0, 0));
-}
-
-fn close_all<L: Rates, G: Ledger, R: Ledger, W: Wait + Abort>(
-    rt: &W,
+// Tables over ports in memory, and their seats.
+#[derive(Drop)]
+struct Site<L: Rates, G: Ledger, R: Ledger> {
     shared: Shared<MemPort, L, G, R>,
     seats: Vec<Seat<G, R>>,
-) -> Closed<MemPort>
-    requires { (L.parts ≡ 4) × (G.parts ≡ L.seats) × (R.parts ≡ L.seats) }
-{
-    match shared.close(seats) {
-        Ok(closed) => closed,
-        Err(_) => panic!(rt; "no seat is missing"),
+}
+
+impl<L: Rates, G: Ledger, R: Ledger> Site<L, G, R> {
+    // What a Delay_Req of the client of table 2 meets.
+    fn delay(&self, rt: &impl Wait, at: Moment) -> Answered {
+        self.shared.answer_delay(rt, &CONFIG, at, &TWO, &DELAY_REQ)
+    }
+
+    // The capacity becomes 8, and one grant is shed.
+    fn shed(&self, rt: &(impl Wait + Abort), at: Moment, client: Client)
+        requires ledger { L.parts ≡ 4 }
+        requires most { 8 ≤ L.most }
+    {
+        let resized = self.shared.resize(rt, at, 8);
+        let resized = resized.expect(rt, "memory is found");
+        assert_eq!(rt; resized.at, at);
+        let shed = resized.shed.list();
+        assert_eq!(rt; shed.len(), 1);
+        assert_eq!(rt; (shed[0].client, shed[0].kind), (client, Kind::Announce));
+    }
+
+    fn take_step(&mut self, rt: &(impl Wait + Abort), t: u64, step: Step)
+        requires ledger { L.parts ≡ 4 }
+        requires most { 8 ≤ L.most }
+    {
+        let at = moment(rt, t);
+        match step {
+            Step::Ask(place, client, kind, told) => {
+                assert!(rt; place < self.seats.len());
+                let seat = &mut self.seats[place];
+                assert_eq!(rt; ask(rt, &self.shared, seat, t, &client, kind), told);
+            }
+            Step::Counts(place, granted, refused) => {
+                assert!(rt; place < self.seats.len());
+                let seat = &self.seats[place];
+                assert_eq!(rt; (seat.granted(), seat.refused()), (granted, refused));
+            }
+            Step::Turn(table, sent) => {
+                assert!(rt; table < 4);
+                assert_eq!(rt; turn(rt, &self.shared, table, t), (sent, 0));
+            }
+            Step::Answers => assert_eq!(rt; self.delay(rt, at), Answered::Sent { at }),
+            Step::MeetsNoGrant => assert_eq!(rt; self.delay(rt, at), Answered::NoGrant { at }),
+            Step::ComesTooSoon(earliest) => {
+                assert_eq!(rt; self.delay(rt, at), Answered::TooSoon { at, earliest });
+            }
+            Step::Cancel(ended) => {
+                let cancelled = self.shared.cancel(rt, at, &TWO, Kind::Announce);
+                assert_eq!(rt; cancelled.ended, ended);
+            }
+            Step::Shed(client) => self.shed(rt, at, client),
+        }
+    }
+
+    fn take_steps(&mut self, rt: &(impl Wait + Abort), steps: &[(u64, Step)])
+        requires ledger { L.parts ≡ 4 }
+        requires most { 8 ≤ L.most }
+    {
+        for &(t, step) in steps {
+            self.take_step(rt, t, step);
+        }
+    }
+
+    // Closes with all seats.
+    fn close(self, rt: &impl Abort) -> Closed<MemPort>
+        requires { (L.parts ≡ 4) × (G.parts ≡ L.seats) × (R.parts ≡ L.seats) }
+    {
+        match self.shared.close(self.seats) {
+            Ok(closed) => closed,
+            Err(_) => panic!(rt; "no seat is missing"),
+        }
+    }
+
+    // Closes without the last seat, which is refused, and then with all.
+    fn close_late(self, rt: &impl Abort, all: (u64, u64), others: (u64, u64)) -> Closed<MemPort>
+        requires { (L.parts ≡ 4) × (G.parts ≡ L.seats) × (R.parts ≡ L.seats) }
+    {
+        let Site { shared, mut seats } = self;
+        let missing = seats.pop().expect(rt, "there is a seat");
+        let left = seats.len();
+        let Err(fault) = shared.close(seats) else {
+            panic!(rt; "a seat is missing")
+        };
+        assert_eq!(rt; (fault.granted, fault.refused), all);
+        assert_eq!(rt; (fault.seats_granted, fault.seats_refused), others);
+        let CloseFault {
+            shared,
+            mut seats,
+            ..
+        } = fault;
+        assert_eq!(rt; seats.len(), left);
+        seats.push(missing).expect(rt, "memory is found");
+        Site { shared, seats }.close(rt)
+    }
+
+    // Takes the steps, closes, and compares what is counted.
+    fn run(self, rt: &(impl Wait + Abort), course: &Course)
+        requires ledgers { (L.parts ≡ 4) × (G.parts ≡ L.seats) × (R.parts ≡ L.seats) }
+        requires most { 8 ≤ L.most }
+    {
+        let mut site = self;
+        site.take_steps(rt, course.steps);
+        let all = (course.granted, course.refused);
+        let closed = match course.last {
+            Last::InTime => site.close(rt),
+            Last::Late(granted, refused) => site.close_late(rt, all, (granted, refused)),
+            Last::Never => {
+                let _missing = site.seats.pop();
+                site.close(rt)
+            }
+        };
+        assert_eq!(rt; closed.counts, course.shares);
+        let [s0, s1, s2, s3] = course.shares;
+        assert!(rt; s0 < 1 << 32 && s1 < 1 << 32 && s2 < 1 << 32 && s3 < 1 << 32);
+        assert_eq!(rt; closed.total, s0 + s1 + s2 + s3);
+        assert_eq!(rt; (closed.granted, closed.refused), all);
     }
 }
 
-fn call_and_close<L: Rates, G: Ledger, R: Ledger, W: Wait + Abort>(
-    rt: &W,
-    shared: Shared<MemPort, L, G, R>,
-    mut seats: Vec<Seat<G, R>>,
-)
-    requires { (L.parts ≡ 4) × (G.parts ≡ L.seats) × (R.parts ≡ L.seats) }
-{
-    call_in_order(rt, &shared, seats.as_mut_slice());
-    check_closed(rt, &close_all(rt, shared, seats), [0, 0, 16, 0], 2, 0);
+// The client of table 2 is granted what is there, and that of table 3 is short. An ask outside the
+// profile is not counted. The close wants the seat.
+const ADMISSION: Course = Course {
+    steps: &[
+        (0, Step::Ask(0, TWO, (ANNOUNCE, 1), GRANTED)),
+        (0, Step::Ask(0, THREE, (ANNOUNCE, 4), SHORT)),
+        (0, Step::Ask(0, THREE, (3, 4), Told::Outside(Outside::Code))),
+        (0, Step::Counts(0, 1, 1)),
+    ],
+    last: Last::Late(0, 0),
+    shares: [0, 0, 8, 0],
+    granted: 1,
+    refused: 1,
+};
+
+#[test]
+fn a_close_wants_every_seat(rt: HostRuntime) -> Result<(), Fail> {
+    run(&rt, rt.alloc(), 8, 1, Scene::Course(ADMISSION))
 }
+
+const GRANTED_AT_2: Told = Told::Granted(2 * SECOND, 302 * SECOND);
+
+const ORDER: Course = Course {
+    steps: &[
+        (0, Step::Ask(0, TWO, (ANNOUNCE, 1), GRANTED)),
+        (2 * SECOND, Step::Turn(2, 1)),
+        (2 * SECOND, Step::MeetsNoGrant),
+        (2 * SECOND, Step::Ask(0, TWO, (DELAY_RESP, 0), GRANTED_AT_2)),
+        (3 * SECOND, Step::Answers),
+        (3 * SECOND, Step::ComesTooSoon(4 * SECOND)),
+        (3 * SECOND, Step::Cancel(true)),
+        (3 * SECOND, Step::Cancel(false)),
+        (9 * SECOND, Step::Turn(2, 0)),
+    ],
+    last: Last::InTime,
+    shares: [0, 0, 16, 0],
+    granted: 2,
+    refused: 0,
+};
 
 #[test]
 fn calls_in_order(rt: HostRuntime) -> Result<(), Fail> {
-    run(&rt, rt.alloc(), 24, 1, Scene::Order)
+    run(&rt, rt.alloc(), 24, 1, Scene::Course(ORDER))
 }
 
-fn lower_capacity<L: Rates, G: Ledger, R: Ledger, W: Wait + Abort>(
-    rt: &W,
-    shared: &Shared<MemPort, L, G, R>,
-    seats: &mut [Seat<G, R>],
-)
-    requires ledger { L.parts ≡ 4 }
-    requires most { 8 ≤ L.most }
-{
-    assert_eq!(rt; seats.len(), 1);
-    let seat = &mut seats[0];
-    let granted = Told::Granted {
-        at: 1_000_000_000,
-        until: 301_000_000_000,
-    };
-    assert_eq!(rt;
-        ask(rt, shared, seat, 1_000_000_000, &TWO, (ANNOUNCE, 1)),
-        granted
-    );
-    assert_eq!(rt; ask(rt, shared, seat, 0, &THREE, (ANNOUNCE, 1)), granted);
-    let resized = shared.resize(rt, moment(rt, 2_000_000_000), 8);
-    let resized = resized.expect(rt, "memory is found");
-    assert_eq!(rt; resized.at, moment(rt, 2_000_000_000));
-    let shed = resized.shed.list();
-    assert_eq!(rt; shed.len(), 1);
-    assert_eq!(rt; (shed[0].client, shed[0].kind), (THREE, Kind::Announce));
-}
-
-fn shed_and_close<L: Rates, G: Ledger, R: Ledger, W: Wait + Abort>(
-    rt: &W,
-    shared: Shared<MemPort, L, G, R>,
-    mut seats: Vec<Seat<G, R>>,
-)
-    requires ledgers { (L.parts ≡ 4) × (G.parts ≡ L.seats) × (R.parts ≡ L.seats) }
-    requires most { 8 ≤ L.most }
-{
-    lower_capacity(rt, &shared, seats.as_mut_slice());
-    check_closed(rt, &close_all(rt, shared, seats), [0, 0, 8, 0], 2, 0);
-}
+const SHEDDING: Course = Course {
+    steps: &[
+        (SECOND, Step::Ask(0, TWO, (ANNOUNCE, 1), GRANTED_LATER)),
+        (0, Step::Ask(0, THREE, (ANNOUNCE, 1), GRANTED_LATER)),
+        (2 * SECOND, Step::Shed(THREE)),
+    ],
+    last: Last::InTime,
+    shares: [0, 0, 8, 0],
+    granted: 2,
+    refused: 0,
+};
 
 #[test]
 fn a_lower_capacity_sheds_the_newest(rt: HostRuntime) -> Result<(), Fail> {
-    run(&rt, rt.alloc(), 16, 1, Scene::Shedding)
+    run(&rt, rt.alloc(), 16, 1, Scene::Course(SHEDDING))
 }
 
 // The client asks for Announces from a seat of its own, which is handed back.
@@ -359,11 +371,7 @@ where
     (a.0, b.0)
 }
 
-fn ask_from_two_seats<L, G, R, W>(
-    rt: &W,
-    shared: Shared<MemPort, L, G, R>,
-    mut seats: Vec<Seat<G, R>>,
-)
+fn ask_from_two_seats<L, G, R, W>(rt: &W, site: Site<L, G, R>)
 where
     L: Rates + Sync,
     G: Ledger + Sync,
@@ -371,111 +379,55 @@ where
     W: Wait + Abort + Threads + Sync,
     requires { (L.parts ≡ 4) × (G.parts ≡ L.seats) × (R.parts ≡ L.seats) }
 {
-    let (a, b) = ask_at_once(rt, &shared, &mut seats);
+    let mut site = site;
+    let (a, b) = ask_at_once(rt, &site.shared, &mut site.seats);
     assert!(rt; (a == GRANTED) != (b == GRANTED));
-    let closed = close_all(rt, shared, seats);
+    let closed = site.close(rt);
     assert_eq!(rt; (closed.total, closed.granted, closed.refused), (8, 1, 1));
 }
 
 #[test]
 fn one_of_two_threads_is_short(rt: HostRuntime) -> Result<(), Fail> {
-    run(&rt, rt.alloc(), 8, 2, Scene::TwoSeats)
+    run(&rt, rt.alloc(), 8, 2, Scene::TwoThreads)
 }
 
-// Closes with one of two seats, which has counted one grant. That is enough where the other has
-// counted nothing; else everything is handed back, and both are.
-fn close_with_one<L: Rates, G: Ledger, R: Ledger, W: Wait + Abort>(
-    rt: &W,
-    shared: Shared<MemPort, L, G, R>,
-    seats: Vec<Seat<G, R>>,
-    missing: Seat<G, R>,
-    counted: bool,
-)
-    requires { (L.parts ≡ 4) × (G.parts ≡ L.seats) × (R.parts ≡ L.seats) }
-{
-    match shared.close(seats) {
-        Ok(closed) => {
-            assert!(rt; !counted);
-            check_closed(rt, &closed, [0, 0, 8, 0], 1, 0);
-        }
-        Err(fault) => {
-            assert!(rt; counted);
-            close_with_both(rt, fault, missing);
-        }
-    }
-}
-
-// The missing seat has counted a refusal.
-fn close_with_both<L: Rates, G: Ledger, R: Ledger, W: Wait + Abort>(
-    rt: &W,
-    fault: CloseFault<MemPort, L, G, R>,
-    missing: Seat<G, R>,
-)
-    requires { (L.parts ≡ 4) × (G.parts ≡ L.seats) × (R.parts ≡ L.seats) }
-{
-    assert_eq!(rt; (fault.granted, fault.refused), (1, 1));
-    assert_eq!(rt; (fault.seats_granted, fault.seats_refused), (1, 0));
-    let CloseFault {
-        shared,
-        mut seats,
-        ..
-    } = fault;
-    assert_eq!(rt; seats.len(), 1);
-    seats.push(missing).expect(rt, "memory is found");
-    check_closed(rt, &close_all(rt, shared, seats), [0, 0, 8, 0], 1, 1);
-}
-
-// The client of table 2 is granted what is there from one of two seats; where the other counts too,
-// that of table 3 is short there.
-fn ask_without_a_seat<L: Rates, G: Ledger, R: Ledger, W: Wait + Abort>(
-    rt: &W,
-    shared: Shared<MemPort, L, G, R>,
-    mut seats: Vec<Seat<G, R>>,
-    counted: bool,
-) -> Result<(), Fail>
-    requires { (L.parts ≡ 4) × (G.parts ≡ L.seats) × (R.parts ≡ L.seats) }
-{
-    let mut missing = seats.pop().expect(rt, "there are two seats");
-    let mut seat = seats.pop().expect(rt, "there are two seats");
-    assert_eq!(rt;
-        ask(rt, &shared, &mut seat, 0, &TWO, (ANNOUNCE, 1)),
-        GRANTED
-    );
-    if counted {
-        assert_eq!(rt;
-            ask(rt, &shared, &mut missing, 0, &THREE, (ANNOUNCE, 4)),
-            SHORT
-        );
-    }
-    seats.push(seat)?;
-    close_with_one(rt, shared, seats, missing, counted);
-    Ok(())
-}
+// The client of table 2 is granted what is there from one of two seats, and that of table 3 is short
+// at the other.
+const COUNTED: Course = Course {
+    steps: &[
+        (0, Step::Ask(0, TWO, (ANNOUNCE, 1), GRANTED)),
+        (0, Step::Ask(1, THREE, (ANNOUNCE, 4), SHORT)),
+    ],
+    last: Last::Late(1, 0),
+    shares: [0, 0, 8, 0],
+    granted: 1,
+    refused: 1,
+};
 
 #[test]
 fn a_seat_that_has_counted_is_missed(rt: HostRuntime) -> Result<(), Fail> {
-    run(&rt, rt.alloc(), 8, 2, Scene::WithoutASeat { counted: true })
+    run(&rt, rt.alloc(), 8, 2, Scene::Course(COUNTED))
 }
+
+// One of two seats has counted one grant, and the other nothing.
+const NOT_COUNTED: Course = Course {
+    steps: &[(0, Step::Ask(0, TWO, (ANNOUNCE, 1), GRANTED))],
+    last: Last::Never,
+    shares: [0, 0, 8, 0],
+    granted: 1,
+    refused: 0,
+};
 
 #[test]
 fn a_seat_that_has_counted_nothing_is_not_missed(rt: HostRuntime) -> Result<(), Fail> {
-    run(
-        &rt,
-        rt.alloc(),
-        8,
-        2,
-        Scene::WithoutASeat { counted: false },
-    )
+    run(&rt, rt.alloc(), 8, 2, Scene::Course(NOT_COUNTED))
 }
 
 // What is done with shared tables and their seats.
 #[derive(Clone, Copy)]
 enum Scene {
-    Admission,
-    Order,
-    Shedding,
-    TwoSeats,
-    WithoutASeat { counted: bool },
+    Course(Course),
+    TwoThreads,
 }
 
 // Plays the scene with tables over ports in memory, whatever the ledgers are.
@@ -492,12 +444,9 @@ where
     G: Ledger + Sync,
     R: Ledger + Sync,
     W: Wait + Abort + Threads + Sync,
-    requires rates { (blanks.rates.name ≡ L.name) × (blanks.rates.parts ≡ L.parts)
-        × (L.parts ≡ 4) }
-    requires granted { (blanks.granted.name ≡ G.name) × (blanks.granted.parts ≡ G.parts)
-        × (G.parts ≡ L.seats) }
-    requires refused { (blanks.refused.name ≡ R.name) × (blanks.refused.parts ≡ R.parts)
-        × (R.parts ≡ L.seats) }
+    requires rates { IsBlankOf L.name L.parts 4 blanks.rates }
+    requires granted { IsBlankOf G.name G.parts L.seats blanks.granted }
+    requires refused { IsBlankOf R.name R.parts L.seats blanks.refused }
     requires capacity { (IsCapacity capacity) × (8 ≤ capacity) }
     requires most { capacity ≤ L.most }
     requires seats { (1 ≤ seats) × (seats ≤ 64) × (seats ≡ L.seats) }
@@ -513,12 +462,10 @@ where
     let (shared, seats) = Shared::<MemPort, L, G, R>::new(
         alloc, rates, granted, refused, capacity, seats, p0, p1, p2, p3,
     )?;
+    let site = Site { shared, seats };
     match scene {
-        Scene::Admission => ask_and_close(rt, shared, seats, Vec::new(alloc)),
-        Scene::Order => call_and_close(rt, shared, seats),
-        Scene::Shedding => shed_and_close(rt, shared, seats),
-        Scene::TwoSeats => ask_from_two_seats(rt, shared, seats),
-        Scene::WithoutASeat { counted } => ask_without_a_seat(rt, shared, seats, counted)?,
+        Scene::Course(course) => site.run(rt, &course),
+        Scene::TwoThreads => ask_from_two_seats(rt, site),
     }
     Ok(())
 }

@@ -1,10 +1,13 @@
 //! The calls of a judge, as it writes them down itself.
-ghost use Rattle.std.specs.Prelude.{◌≡◌, false, IfOk};
+ghost use Rattle.std.specs.Prelude.{◌≡◌, false, IfOk, length};
 ghost use Rattle.ptu_judges.specs.Held.{flag_held};
+ghost use Rattle.ptu_slave.specs.Seen.{seen};
 
-use super::tests::{Row, SECOND, config, play, quiet_port, slave_of_one};
+use super::tests::{Row, SECOND, config, play, slave_of_one};
 use super::*;
 use ptu_judges::{Conduct, Judge};
+use ptu_outside::MemPort;
+use ptu_outside::samples::idle_port;
 use ptu_record::Rule;
 use ptu_units::Moment;
 use std::alloc::Global;
@@ -88,14 +91,22 @@ fn new_listing(alloc: Global) -> Result<(Rc<Cell<Calls>>, Listing), Fail>
     Ok((calls, listing))
 }
 
+// A slave of one master with such a judge, and the judge's list.
+fn slave_of_listing(alloc: Global) -> Result<(Rc<Cell<Calls>>, Slave<MemPort>), Fail>
+    ensures { IfOk result (λ pair.
+        length (seen ⟦<dyn Judge as Judge>⟧ pair.1).kept.masters ≡ 1) }
+{
+    let (calls, judge) = new_listing(alloc)?;
+    let config = config(4, 4, false, 0)?;
+    let slave = slave_of_one(alloc, config, Box::new(alloc, judge)?, idle_port(alloc))?;
+    Ok((calls, slave))
+}
+
 // Each event makes its calls of the judge once: a Sync, the operator's word, and a tick.
 #[test]
 fn a_judge_is_called_once_for_each_event(rt: HostRuntime) -> Result<(), Fail> {
     let alloc = rt.alloc();
-    let (calls, judge) = new_listing(alloc)?;
-    let config = config(4, 4, false, 0)?;
-    let judge = Box::new(alloc, judge)?;
-    let mut slave = slave_of_one(alloc, config, judge, quiet_port(alloc))?;
+    let (calls, mut slave) = slave_of_listing(alloc)?;
     play(&rt, alloc, &mut slave, 0, Row::Announce(1, 84))?;
     play(&rt, alloc, &mut slave, 0, Row::Sync(1, 7))?;
     slave.flag(Moment::of(SECOND).ok_or("below 2^62")?, 0, true);
@@ -118,10 +129,7 @@ fn a_judge_is_called_once_for_each_event(rt: HostRuntime) -> Result<(), Fail> {
 #[test]
 fn a_judge_that_takes_over_is_asked_once(rt: HostRuntime) -> Result<(), Fail> {
     let alloc = rt.alloc();
-    let (former_calls, former) = new_listing(alloc)?;
-    let config = config(4, 4, false, 0)?;
-    let former = Box::new(alloc, former)?;
-    let mut slave = slave_of_one(alloc, config, former, quiet_port(alloc))?;
+    let (former_calls, mut slave) = slave_of_listing(alloc)?;
     let (calls, judge) = new_listing(alloc)?;
     let at = Moment::of(SECOND).ok_or("below 2^62")?;
     slave.set_judge(at, 0, Box::new(alloc, judge)?);

@@ -1,10 +1,7 @@
 //! Datagrams that are cut: no front of one is heard.
 use super::*;
-use crate::tests::{
-    ANNOUNCE, DELAY_RESP, FIRST, Row, SECOND, SYNC, config, play, quiet_port, slave_of_one,
-};
+use crate::tests::{ANNOUNCE, DELAY_RESP, FIRST, Row, SECOND, SYNC, config, flagged, play};
 use ptu_header::HeaderFault;
-use ptu_judges::FlagJudge;
 use ptu_messages::MessageFault;
 use ptu_outside::MemPort;
 use ptu_units::Moment;
@@ -79,17 +76,9 @@ fn play_cut(rt: &impl Abort, alloc: Global, slave: &mut Slave<MemPort>) -> Resul
         let octets = hex::decode(alloc, text)?;
         take_fronts(rt, alloc, slave, late, &octets)?;
     }
+    play(rt, alloc, slave, SECOND, Row::Ticks(1))?;
+    play(rt, alloc, slave, SECOND, Row::Selects(Some(0)))?;
     let at = Moment::of(SECOND).ok_or("below 2^62")?;
-    let ticked = slave.tick(at);
-    assert_eq!(rt;
-        ticked,
-        Ticked {
-            at,
-            sent: 1,
-            failed: 0
-        }
-    );
-    assert_eq!(rt; slave.selected(at), Some(0));
     take_whole(rt, alloc, slave, at)
 }
 
@@ -97,10 +86,7 @@ fn play_cut(rt: &impl Abort, alloc: Global, slave: &mut Slave<MemPort>) -> Resul
 #[test]
 fn a_cut_datagram_is_ignored(rt: HostRuntime) -> Result<(), Fail> {
     let alloc = rt.alloc();
-    let mut port = quiet_port(alloc);
-    port.reserve(2, 2 * 64)?;
-    let judge = Box::new(alloc, FlagJudge::new())?;
-    let mut slave = slave_of_one(alloc, config(4, 4, false, 0)?, judge, port)?;
+    let mut slave = flagged(alloc, config(4, 4, false, 0)?, 2)?;
     play_cut(&rt, alloc, &mut slave)?;
     let port = slave.into_port();
     // The tick's requests, and the reply to the CANCEL.

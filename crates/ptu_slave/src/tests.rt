@@ -9,6 +9,7 @@ ghost use Rattle.ptu_slave.specs.Seen.{seen};
 use super::*;
 use ptu_header::PortIdentity;
 use ptu_judges::{Conduct, FlagJudge, GapJudge, Judge};
+use ptu_outside::samples::idle_port;
 use ptu_outside::{Channel, MemPort};
 use ptu_record::{Rule, Wants};
 use ptu_units::{Kind, Log, Moment};
@@ -74,6 +75,8 @@ pub(crate) enum Row {
     DelayResp(u8),
     /// This place is selected.
     Selects(Option<usize>),
+    /// A tick sends so many datagrams, and no send fails.
+    Ticks(u64),
 }
 
 // The octets with some of them replaced.
@@ -112,57 +115,17 @@ pub(crate) fn play(
             assert_eq!(rt; slave.selected(at), place, "at {nanos}");
             return Ok(());
         }
-    };
-    slave.take(alloc, at, FIRST - 1 + u32::from(master), &octets)?;
-    Ok(())
-}
-
-#[test]
-fn asks_without_an_answer(rt: HostRuntime) -> Result<(), Fail> {
-    let alloc = rt.alloc();
-    let mut port = MemPort::new(alloc, Vec::new(alloc), Vec::new(alloc), Vec::new(alloc));
-    port.reserve(4, 4 * 64)?;
-    let masters = vec![in alloc;
-        Master {
-            ip: FIRST,
-            priority: 1
-        },
-    ]?;
-    let judges = one_judge(alloc, Box::new(alloc, FlagJudge::new())?)?;
-    let mut slave = Slave::new(alloc, config(1, 0, false, 300)?, masters, judges, port)?;
-    // The moment of each tick, and how many datagrams it sends.
-    let ticks = [
-        (0, 1),
-        (SECOND, 1),
-        (2 * SECOND, 1),
-        (3 * SECOND, 0),
-        (61_999_999_999, 0),
-        (62 * SECOND, 1),
-    ];
-    for (nanos, sent) in ticks {
-        let at = Moment::of(nanos).ok_or("below 2^62")?;
-        let ticked = slave.tick(at);
-        assert_eq!(rt;
-            ticked,
-            Ticked {
+        Row::Ticks(sent) => {
+            let ticked = Ticked {
                 at,
                 sent,
-                failed: 0
-            },
-            "at {nanos}"
-        );
-        assert_eq!(rt; slave.selected(at), None);
-    }
-    let port = slave.into_port();
-    let last = hex::decode(
-        alloc,
-        "0c120040040004000000000000000000000000000a0000000000002100010003057f\
-         ffffffffffffffffffff00040006b0010000012c0004000600000000012c",
-    )?;
-    assert_eq!(rt;
-        port.sent(3),
-        Some((FIRST, Channel::General, last.as_slice()))
-    );
+                failed: 0,
+            };
+            assert_eq!(rt; slave.tick(at), ticked, "at {nanos}");
+            return Ok(());
+        }
+    };
+    slave.take(alloc, at, FIRST - 1 + u32::from(master), &octets)?;
     Ok(())
 }
 
@@ -172,16 +135,14 @@ pub(crate) fn play_all(
     alloc: Global,
     slave: &mut Slave<MemPort>,
     rows: &[(u64, Row)],
-) -> Result<(), Fail> {
+) -> Result<(), Fail>
+    ensures { (seen ⟦<dyn Judge as Judge>⟧ slave.new).kept.masters
+        ≡ (seen ⟦<dyn Judge as Judge>⟧ slave.old).kept.masters }
+{
     for &(nanos, row) in rows {
         play(rt, alloc, slave, nanos, row)?;
     }
     Ok(())
-}
-
-// A port at which nothing waits, without room.
-pub(crate) fn quiet_port(alloc: Global) -> MemPort {
-    MemPort::new(alloc, Vec::new(alloc), Vec::new(alloc), Vec::new(alloc))
 }
 
 // The judges of one master.
@@ -217,84 +178,119 @@ pub(crate) fn slave_of_one(
     Ok(Slave::new(alloc, config, masters, judges, port)?)
 }
 
+// The ticks of a slave of one master, which never answers.
+const UNANSWERED: [(u64, Row); 12] = [
+    (0, Row::Ticks(1)),
+    (0, Row::Selects(None)),
+    (SECOND, Row::Ticks(1)),
+    (SECOND, Row::Selects(None)),
+    (2 * SECOND, Row::Ticks(1)),
+    (2 * SECOND, Row::Selects(None)),
+    (3 * SECOND, Row::Ticks(0)),
+    (3 * SECOND, Row::Selects(None)),
+    (61_999_999_999, Row::Ticks(0)),
+    (61_999_999_999, Row::Selects(None)),
+    (62 * SECOND, Row::Ticks(1)),
+    (62 * SECOND, Row::Selects(None)),
+];
+
+// A slave of one master with the operator's judge, whose port has room for so many datagrams.
+pub(crate) fn flagged(alloc: Global, config: SlaveConfig, room: u8) -> Result<Slave<MemPort>, Fail>
+    requires { IsWithinLimits config }
+{
+    let room = usize::from(room);
+    let mut port = idle_port(alloc);
+    port.reserve(room, room * 64)?;
+    slave_of_one(alloc, config, Box::new(alloc, FlagJudge::new())?, port)
+}
+
+#[test]
+fn asks_without_an_answer(rt: HostRuntime) -> Result<(), Fail> {
+    let alloc = rt.alloc();
+    let mut slave = flagged(alloc, config(1, 0, false, 300)?, 4)?;
+    play_all(&rt, alloc, &mut slave, &UNANSWERED)?;
+    let port = slave.into_port();
+    let last = hex::decode(
+        alloc,
+        "0c120040040004000000000000000000000000000a0000000000002100010003057f\
+         ffffffffffffffffffff00040006b0010000012c0004000600000000012c",
+    )?;
+    assert_eq!(rt;
+        port.sent(3),
+        Some((FIRST, Channel::General, last.as_slice()))
+    );
+    Ok(())
+}
+
+// A slave of one master with the operator's judge, at the greatest intervals and with a minute to
+// wait after a loss, plays rows.
+fn play_flagged(
+    rt: &impl Abort,
+    alloc: Global,
+    delay: bool,
+    rows: &[(u64, Row)],
+) -> Result<(), Fail> {
+    let mut slave = flagged(alloc, config(4, 4, delay, 60)?, 0)?;
+    play_all(rt, alloc, &mut slave, rows)
+}
+
+const LOST: [(u64, Row); 17] = [
+    (0, Row::Announce(1, 84)),
+    (0, Row::Sync(1, 0)),
+    (48 * SECOND, Row::Announce(1, 84)),
+    (48 * SECOND, Row::Sync(1, 0)),
+    (48 * SECOND, Row::Selects(Some(0))),
+    (96 * SECOND, Row::Selects(Some(0))),
+    (96 * SECOND + 1, Row::Selects(None)),
+    (100 * SECOND, Row::Announce(1, 84)),
+    (100 * SECOND, Row::Sync(1, 0)),
+    (100 * SECOND, Row::Selects(None)),
+    // A stranger changes nothing.
+    (110 * SECOND, Row::Announce(2, 110)),
+    (140 * SECOND, Row::Announce(1, 84)),
+    (140 * SECOND, Row::Sync(1, 0)),
+    (160 * SECOND - 1, Row::Selects(None)),
+    (160 * SECOND, Row::Selects(Some(0))),
+    // QL-DNU is never selected.
+    (161 * SECOND, Row::Announce(1, 110)),
+    (161 * SECOND, Row::Selects(None)),
+];
+
 #[test]
 fn a_master_is_lost_and_restored(rt: HostRuntime) -> Result<(), Fail> {
-    let alloc = rt.alloc();
-    let judge = Box::new(alloc, FlagJudge::new())?;
-    let config = config(4, 4, false, 60)?;
-    let mut slave = slave_of_one(alloc, config, judge, quiet_port(alloc))?;
-    play_all(
-        &rt,
-        alloc,
-        &mut slave,
-        &[
-            (0, Row::Announce(1, 84)),
-            (0, Row::Sync(1, 0)),
-            (48 * SECOND, Row::Announce(1, 84)),
-            (48 * SECOND, Row::Sync(1, 0)),
-            (48 * SECOND, Row::Selects(Some(0))),
-            (96 * SECOND, Row::Selects(Some(0))),
-            (96 * SECOND + 1, Row::Selects(None)),
-            (100 * SECOND, Row::Announce(1, 84)),
-            (100 * SECOND, Row::Sync(1, 0)),
-            (100 * SECOND, Row::Selects(None)),
-            // A stranger changes nothing.
-            (110 * SECOND, Row::Announce(2, 110)),
-            (140 * SECOND, Row::Announce(1, 84)),
-            (140 * SECOND, Row::Sync(1, 0)),
-            (160 * SECOND - 1, Row::Selects(None)),
-            (160 * SECOND, Row::Selects(Some(0))),
-            // QL-DNU is never selected.
-            (161 * SECOND, Row::Announce(1, 110)),
-            (161 * SECOND, Row::Selects(None)),
-        ],
-    )
+    play_flagged(&rt, rt.alloc(), false, &LOST)
 }
+
+const DELAY_LOST: [(u64, Row); 7] = [
+    (0, Row::Announce(1, 84)),
+    (0, Row::Sync(1, 0)),
+    (0, Row::Selects(None)),
+    (SECOND, Row::DelayResp(1)),
+    (SECOND, Row::Selects(Some(0))),
+    (4 * SECOND, Row::Selects(Some(0))),
+    (4 * SECOND + 1, Row::Selects(None)),
+];
+
+const DELAY_RESTORED: [(u64, Row); 3] = [
+    (65 * SECOND - 1, Row::Selects(None)),
+    (65 * SECOND, Row::DelayResp(1)),
+    (65 * SECOND, Row::Selects(Some(0))),
+];
 
 #[test]
 fn delay_resps_are_lost_and_restored(rt: HostRuntime) -> Result<(), Fail> {
     let alloc = rt.alloc();
-    let judge = Box::new(alloc, FlagJudge::new())?;
-    let config = config(4, 4, true, 60)?;
-    let mut slave = slave_of_one(alloc, config, judge, quiet_port(alloc))?;
-    play_all(
-        &rt,
-        alloc,
-        &mut slave,
-        &[
-            (0, Row::Announce(1, 84)),
-            (0, Row::Sync(1, 0)),
-            (0, Row::Selects(None)),
-            (SECOND, Row::DelayResp(1)),
-            (SECOND, Row::Selects(Some(0))),
-            (4 * SECOND, Row::Selects(Some(0))),
-            (4 * SECOND + 1, Row::Selects(None)),
-        ],
-    )?;
+    let mut rows = DELAY_LOST.to_vec(alloc)?;
     // From 5 s on a Delay_Resp comes every three seconds.
     for third in 0..20 {
         if third == 12 {
-            play(&rt, alloc, &mut slave, 40 * SECOND, Row::Announce(1, 84))?;
-            play(&rt, alloc, &mut slave, 40 * SECOND, Row::Sync(1, 0))?;
+            rows.push((40 * SECOND, Row::Announce(1, 84)))?;
+            rows.push((40 * SECOND, Row::Sync(1, 0)))?;
         }
-        play(
-            &rt,
-            alloc,
-            &mut slave,
-            (5 + 3 * third) * SECOND,
-            Row::DelayResp(1),
-        )?;
+        rows.push(((5 + 3 * third) * SECOND, Row::DelayResp(1)))?;
     }
-    play_all(
-        &rt,
-        alloc,
-        &mut slave,
-        &[
-            (65 * SECOND - 1, Row::Selects(None)),
-            (65 * SECOND, Row::DelayResp(1)),
-            (65 * SECOND, Row::Selects(Some(0))),
-        ],
-    )
+    rows.extend_from_slice(&DELAY_RESTORED)?;
+    play_flagged(&rt, alloc, true, &rows)
 }
 
 // A judge of another's making, which tells when it is dropped.
@@ -337,6 +333,24 @@ impl Judge for Own {
     }
 }
 
+const ASKED: [(u64, Row); 5] = [
+    (0, Row::Announce(1, 84)),
+    (SECOND, Row::Sync(1, 0)),
+    (SECOND, Row::Selects(Some(0))),
+    (2 * SECOND, Row::Sync(1, 1)),
+    (2 * SECOND, Row::Selects(None)),
+];
+
+const REPLACED: [(u64, Row); 7] = [
+    (2 * SECOND, Row::Selects(Some(0))),
+    (2 * SECOND, Row::Sync(1, 0)),
+    (2 * SECOND, Row::Selects(Some(0))),
+    (3 * SECOND, Row::Sync(1, 5)),
+    (3 * SECOND, Row::Selects(None)),
+    (4 * SECOND, Row::Sync(1, 3)),
+    (4 * SECOND, Row::Selects(Some(0))),
+];
+
 #[test]
 fn judges_are_asked_and_replaced(rt: HostRuntime) -> Result<(), Fail> {
     let alloc = rt.alloc();
@@ -345,62 +359,40 @@ fn judges_are_asked_and_replaced(rt: HostRuntime) -> Result<(), Fail> {
         dropped: dropped.clone()?,
     };
     let config = config(4, 4, false, 0)?;
-    let mut slave = slave_of_one(alloc, config, Box::new(alloc, own)?, quiet_port(alloc))?;
-    play(&rt, alloc, &mut slave, 0, Row::Announce(1, 84))?;
-    play(&rt, alloc, &mut slave, SECOND, Row::Sync(1, 0))?;
-    play(&rt, alloc, &mut slave, SECOND, Row::Selects(Some(0)))?;
-    play(&rt, alloc, &mut slave, 2 * SECOND, Row::Sync(1, 1))?;
-    play(&rt, alloc, &mut slave, 2 * SECOND, Row::Selects(None))?;
+    let mut slave = slave_of_one(alloc, config, Box::new(alloc, own)?, idle_port(alloc))?;
+    play_all(&rt, alloc, &mut slave, &ASKED)?;
     assert!(rt; !dropped.get());
     let gap: Box<dyn Judge> = Box::new(alloc, GapJudge::new(4))?;
     slave.set_judge(Moment::of(2 * SECOND).ok_or("below 2^62")?, 0, gap);
     assert!(rt; dropped.get());
-    play_all(
-        &rt,
-        alloc,
-        &mut slave,
-        &[
-            (2 * SECOND, Row::Selects(Some(0))),
-            (2 * SECOND, Row::Sync(1, 0)),
-            (2 * SECOND, Row::Selects(Some(0))),
-            (3 * SECOND, Row::Sync(1, 5)),
-            (3 * SECOND, Row::Selects(None)),
-            (4 * SECOND, Row::Sync(1, 3)),
-            (4 * SECOND, Row::Selects(Some(0))),
-        ],
-    )
+    play_all(&rt, alloc, &mut slave, &REPLACED)
 }
+
+const GAP: [(u64, Row); 6] = [
+    (0, Row::Announce(1, 84)),
+    (0, Row::Sync(1, 0)),
+    (SECOND, Row::Sync(1, 5)),
+    (SECOND, Row::Selects(None)),
+    (2 * SECOND, Row::Sync(1, 3)),
+    (2 * SECOND, Row::Selects(Some(0))),
+];
+
+// To the operator's judge a gap is nothing.
+const NO_GAP: [(u64, Row); 3] = [
+    (2 * SECOND, Row::Selects(Some(0))),
+    (3 * SECOND, Row::Sync(1, 99)),
+    (3 * SECOND, Row::Selects(Some(0))),
+];
 
 // A judge of gaps finds one, and then none; the operator's takes over, and the master stays.
 #[test]
 fn a_judge_of_gaps_is_replaced(rt: HostRuntime) -> Result<(), Fail> {
     let alloc = rt.alloc();
-    let masters = vec![in alloc;
-        Master {
-            ip: FIRST,
-            priority: 1
-        },
-    ]?;
-    let judges = one_judge(alloc, Box::new(alloc, GapJudge::new(4))?)?;
     let config = config(4, 4, false, 0)?;
-    let mut slave = Slave::new(alloc, config, masters, judges, quiet_port(alloc))?;
-    play(&rt, alloc, &mut slave, 0, Row::Announce(1, 84))?;
-    play(&rt, alloc, &mut slave, 0, Row::Sync(1, 0))?;
-    play(&rt, alloc, &mut slave, SECOND, Row::Sync(1, 5))?;
-    play(&rt, alloc, &mut slave, SECOND, Row::Selects(None))?;
-    play(&rt, alloc, &mut slave, 2 * SECOND, Row::Sync(1, 3))?;
-    play(&rt, alloc, &mut slave, 2 * SECOND, Row::Selects(Some(0)))?;
+    let judge = Box::new(alloc, GapJudge::new(4))?;
+    let mut slave = slave_of_one(alloc, config, judge, idle_port(alloc))?;
+    play_all(&rt, alloc, &mut slave, &GAP)?;
     let flag: Box<dyn Judge> = Box::new(alloc, FlagJudge::new())?;
     slave.set_judge(Moment::of(2 * SECOND).ok_or("below 2^62")?, 0, flag);
-    // To the operator's judge a gap is nothing.
-    play_all(
-        &rt,
-        alloc,
-        &mut slave,
-        &[
-            (2 * SECOND, Row::Selects(Some(0))),
-            (3 * SECOND, Row::Sync(1, 99)),
-            (3 * SECOND, Row::Selects(Some(0))),
-        ],
-    )
+    play_all(&rt, alloc, &mut slave, &NO_GAP)
 }
