@@ -207,7 +207,7 @@ fn assert_changed(
 }
 
 // What is wrong where 54 octets say this length.
-fn wrong_length(said: u16) -> HeaderFault {
+fn wrong_length(said: usize) -> HeaderFault {
     HeaderFault::Length { said, have: 54 }
 }
 
