@@ -14,6 +14,12 @@ pub record Seen : Type 0 where
 abbrev pub seen_of : {P : Type 0} → Ports P → P → Seen
 seen_of ports port = record { waiting = ports.waiting port; faults = ports.faults port }
 
+-- what waits at each of the four tables' ports is what waited there when it was opened
+abbrev pub AreAsOpened : {P : Type 0} → Ports P → (ℕ → Seen) → P → P → P → P → Type 0
+AreAsOpened ports opened p0 p1 p2 p3 =
+    (ports.waiting p0 ≡ (opened 0).waiting) × (ports.waiting p1 ≡ (opened 1).waiting) × (ports.waiting p2 ≡ (opened 2).waiting)
+    × (ports.waiting p3 ≡ (opened 3).waiting)
+
 -- a port at which nothing waits, and one that does not tell what waits; neither has had a fault
 abbrev pub idle_port : Seen
 idle_port = record { waiting = Some []; faults = 0 }

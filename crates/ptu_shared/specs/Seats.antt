@@ -1,5 +1,5 @@
 -- What a seat has counted.
-use Rattle.std.specs.Prelude.{ℕ, ◌+◌, List}
+use Rattle.std.specs.Prelude.{◌≡◌, ℕ, ◌+◌, List}
 use Rattle.std.specs.List.{sum_by}
 use Rattle.ptu_admit.specs.declared.verdict.Verdict.{Verdict}
 use Rattle.ptu_admit.specs.declared.verdict.Verdict.TheVariants.{Granted, Short, Outside}
@@ -25,3 +25,9 @@ granted_in seats = sum_by (λ seat. seat.granted) seats
 
 abbrev pub refused_in : List Counts → ℕ
 refused_in seats = sum_by (λ seat. seat.refused) seats
+
+-- the second counts are those of the seats, and differ from the first
+pub record AreUnsettled (book sums : Counts) (seats : List Counts) : Type 0 where
+  pub granted : sums.granted ≡ granted_in seats
+  pub refused : sums.refused ≡ refused_in seats
+  pub differ : (sums.granted ≡ book.granted) × (sums.refused ≡ book.refused) → ⊥

@@ -134,13 +134,7 @@ pub(crate) fn ask_all<P: Port, L: Rates, G: Ledger, R: Ledger>(
         (moment_for demand.now.at desk.old.book demand.now.client.now lent)
         (Request demand.now.client.now (ask_of demand.now.ask.now))).records) }
 {
-    audit_tables(t0, t1, t2, t3, desk);
-    let before = (
-        t0.shard.held(),
-        t1.shard.held(),
-        t2.shard.held(),
-        t3.shard.held(),
-    );
+    let before = audit_tables(t0, t1, t2, t3, desk);
     let verdict = decide_all(
         &mut t0.shard,
         &mut t1.shard,

@@ -99,13 +99,7 @@ pub(crate) fn resize_all<P: Port, L: Rates, G: Ledger, R: Ledger>(
         (four t0.new.shard t1.new.shard t2.new.shard t3.new.shard) desk.new.book
         (history ++ (step opened history r.at (Resize change.capacity)).records)) }
 {
-    audit_tables(t0, t1, t2, t3, desk);
-    let before = (
-        t0.shard.held(),
-        t1.shard.held(),
-        t2.shard.held(),
-        t3.shard.held(),
-    );
+    let before = audit_tables(t0, t1, t2, t3, desk);
     let resized = resize(
         change.alloc,
         &mut t0.shard,
@@ -142,13 +136,7 @@ pub(crate) fn finish_all<P: Port, L: Rates, G: Ledger, R: Ledger>(
     ensures desk { (desk.new.granted ≡ desk.old.granted)
         × (desk.new.refused ≡ desk.old.refused) }
 {
-    audit_tables(t0, t1, t2, t3, desk);
-    let before = (
-        t0.shard.held(),
-        t1.shard.held(),
-        t2.shard.held(),
-        t3.shard.held(),
-    );
+    let before = audit_tables(t0, t1, t2, t3, desk);
     finish(
         &mut t0.shard,
         &mut t1.shard,

@@ -4,8 +4,8 @@ ghost use Rattle.std.specs.Prelude.{◌≡◌, ◌≤◌, ◌<◌, ◌+◌, ◌*
 ghost use Rattle.ptu_shard.specs.Row.{share_of};
 ghost use Rattle.ptu_admit.specs.Lent.{four, moment_for_all};
 ghost use Rattle.ptu_admit.specs.Rows.{live_rows};
-ghost use Rattle.ptu_shared.specs.Opening.{HaveFailed};
-ghost use Rattle.ptu_shared.specs.Seats.{granted_in, refused_in};
+ghost use Rattle.ptu_shared.specs.Opening.{AreAsOpened, HaveFailed};
+ghost use Rattle.ptu_shared.specs.Seats.{AreUnsettled, granted_in, refused_in};
 
 use crate::changing::finish_all;
 use crate::desk::Desk;
@@ -144,10 +144,8 @@ fn close_tables<P: Port, L: Rates, G: Ledger, R: Ledger>(
     ensures verdicts { (result.0.granted ≡ desk.granted) × (result.0.refused ≡ desk.refused) }
     ensures ports { (result.0.p0 ≡ t0.shard.port) × (result.0.p1 ≡ t1.shard.port)
         × (result.0.p2 ≡ t2.shard.port) × (result.0.p3 ≡ t3.shard.port) }
-    ensures opened { (P.waiting result.0.p0 ≡ (L.opened 0).waiting)
-        × (P.waiting result.0.p1 ≡ (L.opened 1).waiting)
-        × (P.waiting result.0.p2 ≡ (L.opened 2).waiting)
-        × (P.waiting result.0.p3 ≡ (L.opened 3).waiting) }
+    ensures opened { AreAsOpened P.Port L.opened
+        result.0.p0 result.0.p1 result.0.p2 result.0.p3 }
     ensures failures { let once = P.counts_once in
         HaveFailed once result.1.p0 (L.opened 0).faults (P.faults result.0.p0)
         × HaveFailed P.counts_once result.1.p1 (L.opened 1).faults (P.faults result.0.p1)
@@ -203,17 +201,10 @@ impl<P: Port + Send, L: Rates, G: Ledger, R: Ledger> Shared<P, L, G, R> {
         ensures most { IfOk result (λ closed. closed.total ≤ L.most) }
         // Each port is that of its table: what waits there is what the ledger names.
         ensures opened { IfOk result (λ closed.
-            (P.waiting closed.p0 ≡ (L.opened 0).waiting)
-            × (P.waiting closed.p1 ≡ (L.opened 1).waiting)
-            × (P.waiting closed.p2 ≡ (L.opened 2).waiting)
-            × (P.waiting closed.p3 ≡ (L.opened 3).waiting)) }
-        ensures fault { IfErr result (λ fault.
-            (fault.seats_granted ≡ granted_in seats.items)
-            × (fault.seats_refused ≡ refused_in seats.items)
-            × (fault.seats.items ≡ seats.items)) }
-        ensures differ { IfErr result (λ fault.
-            ((fault.seats_granted ≡ fault.granted) × (fault.seats_refused ≡ fault.refused))
-            → ⊥) }
+            AreAsOpened P.Port L.opened closed.p0 closed.p1 closed.p2 closed.p3) }
+        ensures fault { IfErr result (λ fault. (fault.seats.items ≡ seats.items)
+            × AreUnsettled (record { granted = fault.granted; refused = fault.refused })
+            (record { granted = fault.seats_granted; refused = fault.seats_refused }) seats.items) }
         ensures all { vec_len seats ≡ L.seats → IsOk result }
     {
         match self.close_with_failures(seats) {
@@ -235,23 +226,17 @@ impl<P: Port + Send, L: Rates, G: Ledger, R: Ledger> Shared<P, L, G, R> {
             × (r.0.refused ≡ refused_in seats.items)) }
         ensures total { IfOk result (λ r. r.0.total ≡ sum r.0.counts) }
         ensures most { IfOk result (λ r. r.0.total ≤ L.most) }
-        ensures opened { IfOk result (λ r. (P.waiting r.0.p0 ≡ (L.opened 0).waiting)
-            × (P.waiting r.0.p1 ≡ (L.opened 1).waiting)
-            × (P.waiting r.0.p2 ≡ (L.opened 2).waiting)
-            × (P.waiting r.0.p3 ≡ (L.opened 3).waiting)) }
+        ensures opened { IfOk result (λ r.
+            AreAsOpened P.Port L.opened r.0.p0 r.0.p1 r.0.p2 r.0.p3) }
         // Each failed send is a fault of that port, and there are no other faults.
         ensures failures { IfOk result (λ r.
             HaveFailed P.counts_once r.1.p0 (L.opened 0).faults (P.faults r.0.p0)
             × HaveFailed P.counts_once r.1.p1 (L.opened 1).faults (P.faults r.0.p1)
             × HaveFailed P.counts_once r.1.p2 (L.opened 2).faults (P.faults r.0.p2)
             × HaveFailed P.counts_once r.1.p3 (L.opened 3).faults (P.faults r.0.p3)) }
-        ensures fault { IfErr result (λ fault.
-            (fault.seats_granted ≡ granted_in seats.items)
-            × (fault.seats_refused ≡ refused_in seats.items)
-            × (fault.seats.items ≡ seats.items)) }
-        ensures differ { IfErr result (λ fault.
-            ((fault.seats_granted ≡ fault.granted) × (fault.seats_refused ≡ fault.refused))
-            → ⊥) }
+        ensures fault { IfErr result (λ fault. (fault.seats.items ≡ seats.items)
+            × AreUnsettled (record { granted = fault.granted; refused = fault.refused })
+            (record { granted = fault.seats_granted; refused = fault.seats_refused }) seats.items) }
         ensures all { vec_len seats ≡ L.seats → IsOk result }
     {
         let Shared {

@@ -148,15 +148,18 @@ pub(crate) fn audit_table<P: Port, L: Rates, G: Ledger, R: Ledger, J: Place>(
     desk.rates.audit(&mut table.part);
 }
 
-// Nothing changes. The shares of the four tables sum to the total of the book.
+// Nothing changes. The shares of the four tables, which sum to the total of the book.
 pub(crate) fn audit_tables<P: Port, L: Rates, G: Ledger, R: Ledger>(
     t0: &mut Table<P, L, First>,
     t1: &mut Table<P, L, Second>,
     t2: &mut Table<P, L, Third>,
     t3: &mut Table<P, L, Fourth>,
     desk: &mut Desk<L, G, R>,
-)
+) -> (u64, u64, u64, u64)
     requires { L.parts ≡ 4 }
+    ensures shares { (result.0 ≡ share_of t0.old.shard.rows)
+        × (result.1 ≡ share_of t1.old.shard.rows) × (result.2 ≡ share_of t2.old.shard.rows)
+        × (result.3 ≡ share_of t3.old.shard.rows) }
     ensures sum { desk.old.book.total
         ≡ shares (four t0.old.shard t1.old.shard t2.old.shard t3.old.shard) }
     ensures tables { (t0.new.shard ≡ t0.old.shard) × (t1.new.shard ≡ t1.old.shard)
@@ -164,13 +167,19 @@ pub(crate) fn audit_tables<P: Port, L: Rates, G: Ledger, R: Ledger>(
     ensures desk { (desk.new.book ≡ desk.old.book) × (desk.new.granted ≡ desk.old.granted)
         × (desk.new.refused ≡ desk.old.refused) }
 {
-    let amounts = (t1.shard.held(), t2.shard.held(), t3.shard.held());
+    let held = (
+        t0.shard.held(),
+        t1.shard.held(),
+        t2.shard.held(),
+        t3.shard.held(),
+    );
     audit_parts(
         &mut desk.rates,
         &mut t0.part,
         &mut t1.part,
         &mut t2.part,
         &mut t3.part,
-        amounts,
+        (held.1, held.2, held.3),
     );
+    held
 }

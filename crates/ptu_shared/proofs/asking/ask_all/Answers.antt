@@ -8,5 +8,5 @@ returns-clause-verdict g c = answers_ask g.L.Rates.most c.args.demand.now.config
 
 pub returns-clause-answer : goal.returns-clause-answer
 returns-clause-answer g c =
-    let tables = c.audit_tables.ensures.tables in
-    rw (tables.0, tables.1, tables.2, tables.3, c.audit_tables.ensures.desk.0) at c.decide_all-verdict.ensures.answer
+    let tables = c.audit_tables-before.ensures.tables in
+    rw (tables.0, tables.1, tables.2, tables.3, c.audit_tables-before.ensures.desk.0) at c.decide_all-verdict.ensures.answer
