@@ -270,3 +270,13 @@ sent_fits config capacity done gm sent f limits =
     let all = sent-up_to (opened_with capacity config) (flat_map (events_of config) done) (2 ^ 24) (2 ^ 62) (omega arith) f.within.capacity f.within.handed in
     let is : sent ≡ count_by is_sent (driven_history config capacity done) = f.sent_is in
     omega (arith, all, is)
+
+-- also after the event at the next place
+pub next_fits : {P : Type 0} (config : GmConfig) (capacity : ℕ) (all : List GmEvent) (i : ℕ) (e : GmEvent) (gm new : KeptGm P) (sent more failed : ℕ) → Follows config capacity (take i all) gm sent →
+    i < length all → e ≡ get_or all i e → All IsPossible all → IsTimely e → IsSetUpAs gm.config new.config →
+    ((opening : ℕ) (history : List Record) → StandsFor opening gm history →
+    let after = history_after (opened_with opening gm.config) history (events_of gm.config e) in
+    StandsFor opening new after × ((counts after).sent ≡ (counts history).sent + (more + failed))) →
+    IsCapacity capacity → sent + more + failed < 2 ^ 63
+next_fits config capacity all i e gm new sent more failed f lt is possible timely set_up follows =
+    sent_fits config capacity (take (i + 1) all) new (sent + more + failed) (next_event config capacity all i e gm new sent more failed f lt is possible timely set_up follows)

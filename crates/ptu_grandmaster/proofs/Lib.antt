@@ -7,4 +7,5 @@ pub mod Answering
 pub mod Heard
 pub mod Closes
 pub mod Cancelling
+pub mod Cancels
 pub mod Followed

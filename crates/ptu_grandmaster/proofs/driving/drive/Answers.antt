@@ -1,10 +1,10 @@
-use Rattle.std.proofs.Common.{◌+◌, ◌<◌, arith, take}
+use Rattle.std.proofs.Common.{arith}
 use Rattle.std.specs.List.{flat_map}
 use Rattle.std.proofs.lemmas.List.{take_all}
 use Rattle.ptu_laws.proofs.Budget.{count-within}
 use Rattle.ptu_gm_messages.specs.Deciding.{opened_with}
 use Rattle.ptu_grandmaster.specs.Driven.{events_of}
-use Rattle.ptu_grandmaster.proofs.Followed.{next_event, no_event, sent_fits}
+use Rattle.ptu_grandmaster.proofs.Followed.{next_event, next_fits, no_event}
 use Rattle.ptu_grandmaster.proofs.driving.drive.Goals as goal
 
 pub loop-event-init : goal.loop-event-init
@@ -17,18 +17,14 @@ loop-event-preserved g c =
 
 pub overflow_add-sent : goal.overflow_add-sent
 overflow_add-sent g c =
-    let next = next_event c.args.config c.args.capacity c.args.events.now c.loop-event.event-index c.event-item.result c.loop-event.gm c.follow.new.self c.loop-event.sent c.in_ok-more.more c.in_ok-more.failed
-    c.loop-event.invariant c.loop-event-test.true c.event-item.is c.requires.possible c.in_ok-more.ensures.timely c.in_ok-more.ensures.config c.in_ok-more.ensures.follows in
-    let fits = sent_fits c.args.config c.args.capacity (take (c.loop-event.event-index + 1) c.args.events.now) c.follow.new.self (c.loop-event.sent + c.in_ok-more.more + c.in_ok-more.failed) next
-    c.requires.capacity in
+    let fits = next_fits c.args.config c.args.capacity c.args.events.now c.loop-event.event-index c.event-item.result c.loop-event.gm c.follow.new.self c.loop-event.sent c.in_ok-more.more c.in_ok-more.failed
+    c.loop-event.invariant c.loop-event-test.true c.event-item.is c.requires.possible c.in_ok-more.ensures.timely c.in_ok-more.ensures.config c.in_ok-more.ensures.follows c.requires.capacity in
     omega (arith, fits)
 
 pub overflow_add-sent-in-loop-event : goal.overflow_add-sent-in-loop-event
 overflow_add-sent-in-loop-event g c =
-    let next = next_event c.args.config c.args.capacity c.args.events.now c.loop-event.event-index c.event-item.result c.loop-event.gm c.follow.new.self c.loop-event.sent c.in_ok-more.more c.in_ok-more.failed
-    c.loop-event.invariant c.loop-event-test.true c.event-item.is c.requires.possible c.in_ok-more.ensures.timely c.in_ok-more.ensures.config c.in_ok-more.ensures.follows in
-    let fits = sent_fits c.args.config c.args.capacity (take (c.loop-event.event-index + 1) c.args.events.now) c.follow.new.self (c.loop-event.sent + c.in_ok-more.more + c.in_ok-more.failed) next
-    c.requires.capacity in
+    let fits = next_fits c.args.config c.args.capacity c.args.events.now c.loop-event.event-index c.event-item.result c.loop-event.gm c.follow.new.self c.loop-event.sent c.in_ok-more.more c.in_ok-more.failed
+    c.loop-event.invariant c.loop-event-test.true c.event-item.is c.requires.possible c.in_ok-more.ensures.timely c.in_ok-more.ensures.config c.in_ok-more.ensures.follows c.requires.capacity in
     omega (arith, fits)
 
 pub returns-in_err-more-clause-budget : goal.returns-in_err-more-clause-budget
