@@ -11,6 +11,8 @@ use Rattle.ptu_shared.specs.Seats.{Counts}
 use Rattle.ptu_lanes.specs.Rounds.{Exchange, Exchanged, IsAnswered, asks_in, datagrams, grants_in, replies}
 use Rattle.ptu_lanes.specs.Sending.{GoesOn, WasSent}
 use Rattle.ptu_lanes.specs.Waiting.{GaveFirst, Took, TurnedOwn}
+use Rattle.ptu_lanes.specs.declared.lanes.ControlLane.{ControlLane}
+use Rattle.ptu_lanes.specs.declared.lanes.EventLane.{EventLane}
 use Rattle.ptu_lanes.specs.declared.lanes.SendingLanes.{SendingLanes}
 
 -- so many rounds at a port that tells what waits: the lane took the first 64 datagrams for each round, or all where there are
@@ -42,6 +44,11 @@ pub record TookSignaling {P C : Type 0} (ports : Ports P) (clocks : Clocks C) (c
   pub failures : CountsFailures ports.counts_once (ports.faults port) (ports.faults port') failed failed'
   pub no_fall : HasNotFallen (ports.faults port) (ports.faults port')
 
+-- the same of the lane, before and after
+abbrev pub ControlLaneDid : {P C G R : Type 0} → Ports P → Clocks C → GmConfig → ℕ → ControlLane P C G R → ControlLane P C G R → Type 0
+ControlLaneDid ports clocks config rounds old new =
+    TookSignaling ports clocks config rounds old.port new.port old.clock new.clock old.seat new.seat old.tally.failed new.tally.failed
+
 -- what the lane that takes Delay_Reqs did in so many rounds: its port, its clock and how many receives failed, before and after; the
 -- port was sent nothing, and goes on to tell that
 pub record TookDelayReqs {P C : Type 0} (ports : Ports P) (clocks : Clocks C) (rounds : ℕ) (port port' : P) (clock clock' : C) (failed failed' : ℕ) : Type 0 where
@@ -51,6 +58,10 @@ pub record TookDelayReqs {P C : Type 0} (ports : Ports P) (clocks : Clocks C) (r
   pub goes_on : ports.has_ceased port' ≡ ports.has_ceased port
   pub failures : CountsFailures ports.counts_once (ports.faults port) (ports.faults port') failed failed'
   pub no_fall : HasNotFallen (ports.faults port) (ports.faults port')
+
+-- the same of the lane, before and after
+abbrev pub EventLaneDid : {P C : Type 0} → Ports P → Clocks C → ℕ → EventLane P C → EventLane P C → Type 0
+EventLaneDid ports clocks rounds old new = TookDelayReqs ports clocks rounds old.port new.port old.clock new.clock old.tally.failed new.tally.failed
 
 -- the lanes that turn tables, of which so many are at work, did so many rounds
 pub record HaveTurned {C : Type 0} (clocks : Clocks C) (lanes rounds : ℕ) (old new : SendingLanes C) : Type 0 where

@@ -1,21 +1,15 @@
 //! A grandmaster that is served by lanes, from its ports to its last numbers.
 
-ghost use Rattle.std.specs.Prelude.{◌≡◌, ◌+◌, ◌*◌, ◌≤◌, [], IfOk, IfSome};
-ghost use Rattle.ptu_outside.specs.Faults.{HasRisen};
+ghost use Rattle.std.specs.Prelude.{◌≡◌, ◌+◌, ◌≤◌, [], IfOk};
 ghost use Rattle.ptu_profile.specs.Grandmaster.{IsWithinLimits};
-ghost use Rattle.ptu_shared.specs.Opening.{HaveFailed, seen_of};
-ghost use Rattle.ptu_shared.specs.Seats.{no_verdicts};
+ghost use Rattle.ptu_shared.specs.Opening.{seen_of};
 ghost use Rattle.ptu_config.specs.Limits.{IsGmInRange};
-ghost use Rattle.ptu_lanes.specs.Rounds.{Exchanged};
-ghost use Rattle.ptu_lanes.specs.Stretches.{HaveTurned};
-ghost use Rattle.ptu_lanes.specs.Waiting.{GaveFirst, Took};
-ghost use Rattle.ptu_lanes.specs.Changing.{change_moments, greatest_capacity};
-ghost use Rattle.ptu_lanes.specs.Served.{IsControlled, ServesByLanes, TablesAreBack, numbers_of};
+ghost use Rattle.ptu_lanes.specs.Changing.{greatest_capacity};
+ghost use Rattle.ptu_lanes.specs.Served.{ServesByLanes, TablesAreBack, numbers_of};
 
-use crate::changing::{change, change_capacity};
 use crate::lanes::{ControlLane, EventLane, SendingLane, SendingLanes, Tally};
 use crate::service::Service;
-use crate::stretches::{Lanes, stretch};
+use crate::stretches::Lanes;
 use ptu_admit::Closed;
 use ptu_config::GmSettings;
 use ptu_outside::{Clock, Opened, Port};
@@ -41,69 +35,6 @@ pub struct Totals {
     pub refused: u64,
     /// The rates of the grants that are live, in sixteenths of a message per second.
     pub held: u64,
-}
-
-// How many lanes turn tables.
-fn sender_count(settings: &GmSettings) -> usize
-    ensures { result ≡ settings.now.senders }
-{
-    usize::from(settings.senders)
-}
-
-// All rounds, with the change of capacity where there is one.
-fn all_rounds<P, C, L, G, R, W>(
-    service: &Service<'_, P, L, G, R, W>,
-    settings: &GmSettings,
-    lanes: Lanes<P, C, G, R>,
-) -> Result<Lanes<P, C, G, R>, OutOfMemory>
-where
-    P: Port + Send,
-    C: Clock + Send,
-    L: Rates + Sync,
-    G: Ledger + Sync,
-    R: Ledger + Sync,
-    W: Threads + Wait + Sync,
-    requires range { IsGmInRange settings.now }
-    requires senders { 1 ≤ settings.now.senders }
-    requires limits { IsWithinLimits service.now.config.now }
-    requires ledger { L.parts ≡ 4 }
-    requires most { greatest_capacity settings.now ≤ L.most }
-    requires seat { lanes.control.seat ≡ no_verdicts }
-    requires tallies { (lanes.control.tally.failed ≡ 0) × (lanes.event.tally.failed ≡ 0) }
-    ensures control { IfOk result (λ new.
-        ¬ HasRisen (P.faults lanes.control.port) (P.faults new.control.port)
-        → IfSome (P.waiting new.control.port) (λ left. IsControlled P.Port settings.now
-        service.now.config.now lanes.control.port new.control.port left
-        new.control.seat.granted new.control.seat.refused)) }
-    ensures event { IfOk result (λ new.
-        ¬ HasRisen (P.faults lanes.event.port) (P.faults new.event.port)
-        → GaveFirst (64 * settings.now.rounds)
-        (P.waiting lanes.event.port) (P.waiting new.event.port)) }
-    ensures exchanged { IfOk result (λ new. Exchanged P.Port C.Clock service.now.config.now
-        (64 * settings.now.rounds) (change_moments settings.now)
-        lanes.control.port new.control.port lanes.control.clock new.control.clock
-        no_verdicts new.control.seat) }
-    ensures took { IfOk result (λ new. Took P.Port C.Clock (64 * settings.now.rounds) 0
-        lanes.event.port new.event.port lanes.event.clock new.event.clock) }
-    ensures unsent { IfOk result (λ new. P.sent new.event.port ≡ P.sent lanes.event.port) }
-    ensures goes_on { IfOk result (λ new.
-        P.has_ceased new.event.port ≡ P.has_ceased lanes.event.port) }
-    ensures turned { IfOk result (λ new. HaveTurned C.Clock settings.now.senders
-        settings.now.rounds lanes.sending new.sending) }
-    ensures failed { IfOk result (λ new. HaveFailed P.counts_once new.control.tally.failed
-        (P.faults lanes.control.port) (P.faults new.control.port)) }
-    ensures missed { IfOk result (λ new. HaveFailed P.counts_once new.event.tally.failed
-        (P.faults lanes.event.port) (P.faults new.event.port)) }
-{
-    let senders = sender_count(settings);
-    let Some(capacity) = change(settings) else {
-        return stretch(service, senders, settings.rounds, lanes);
-    };
-    let early = settings.change_round - 1;
-    let late = settings.rounds - early;
-    let mut lanes = stretch(service, senders, early, lanes)?;
-    change_capacity(service, capacity, &mut lanes.control)?;
-    stretch(service, senders, late, lanes)
 }
 
 // The lanes that turn tables at these clocks, before their first round.
@@ -275,7 +206,7 @@ where
         shared: &shared,
         config,
     };
-    let lanes = all_rounds(&service, settings, lanes)?;
+    let lanes = service.all_rounds(settings, lanes)?;
     close(shared, seats, lanes)
 }
 

@@ -1,6 +1,6 @@
 use Rattle.std.proofs.Common.{◌+◌, arith}
 use Rattle.ptu_lanes.proofs.Moments.{own_none, turned_idle}
-use Rattle.ptu_lanes.proofs.lanes.turn_two.Goals as goal
+use Rattle.ptu_lanes.proofs.service.Service.turn_two.Goals as goal
 
 pub returns-then-count-index-clause-next : goal.returns-then-count-index-clause-next
 returns-then-count-index-clause-next g c =

@@ -1,6 +1,6 @@
 use Rattle.std.proofs.Common.{arith, rules}
 use Rattle.ptu_lanes.proofs.Moments.{own_none, turned_idle}
-use Rattle.ptu_lanes.proofs.lanes.turn_tables.Goals as goal
+use Rattle.ptu_lanes.proofs.service.Service.turn_tables.Goals as goal
 
 pub returns : goal.returns
 returns g c = record {

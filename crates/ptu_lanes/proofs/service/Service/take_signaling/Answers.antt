@@ -1,8 +1,8 @@
 use Rattle.ptu_lanes.proofs.Stretching.{signaling_one}
-use Rattle.ptu_lanes.proofs.lanes.take_signaling.Goals as goal
+use Rattle.ptu_lanes.proofs.service.Service.take_signaling.Goals as goal
 
 pub returns : goal.returns
 returns g c =
     let did = c.in_ok-control.ensures in
-    signaling_one g.P.Port g.C.Clock c.args.service.now.config.now _ _ _ _ _ _ _ _ _ _ _ did.counts did.most.0 did.round did.exchanged
+    signaling_one g.P.Port g.C.Clock c.args.self.now.config.now _ _ _ _ _ _ _ _ _ _ _ did.counts did.most.0 did.round did.exchanged
     (record { risen = did.failed; just = did.just; quiet = did.quiet; no_fall = did.no_fall }) c.plus-lane.ensures

@@ -3,12 +3,12 @@ use Rattle.ptu_lanes.specs.Changing.{change_of}
 use Rattle.ptu_lanes.proofs.Controlled.{controlled_changed, exchanged_changed, exchanged_unchanged, failed_changed, failed_from, gave_more, if_ok, unchanged_controlled}
 use Rattle.ptu_lanes.proofs.Moments.{all_turned-append}
 use Rattle.ptu_lanes.proofs.Taking.{took-append}
-use Rattle.ptu_lanes.proofs.serving.all_rounds.Goals as goal
+use Rattle.ptu_lanes.proofs.service.Service.all_rounds.Goals as goal
 
 pub returns-in_default-clause-control : goal.returns-in_default-clause-control
 returns-in_default-clause-control g c =
     let none : change_of c.args.settings.now ≡ None = sym c.change.ensures.change ∙ c.in_default.is in
-    if_ok c.stretch.result _ _ (λ new took still. unchanged_controlled g.P.Port c.args.settings.now c.args.service.now.config.now _ _ c.args.lanes.control.seat new.control.seat none c.requires.seat
+    if_ok c.stretch.result _ _ (λ new took still. unchanged_controlled g.P.Port c.args.settings.now c.args.self.now.config.now _ _ c.args.lanes.control.seat new.control.seat none c.requires.seat
     (took.did still)) c.stretch.ensures.control
 
 pub returns-in_default-clause-event : goal.returns-in_default-clause-event
@@ -24,7 +24,7 @@ returns-clause-control g c =
     let early = c.in_ok-lanes.ensures.control in
     let changed = c.in_ok-change_capacity.ensures in
     if_ok c.stretch-3.result _ _ (λ new late.
-    controlled_changed g.P.Port g.C.Clock c.args.settings.now c.args.service.now.config.now c.in-Some.capacity (c.args.settings.now.change_round - 1) _ _ _ _ _ _ _ _ _ _ _ _ _ _ _ _ _
+    controlled_changed g.P.Port g.C.Clock c.args.settings.now c.args.self.now.config.now c.in-Some.capacity (c.args.settings.now.change_round - 1) _ _ _ _ _ _ _ _ _ _ _ _ _ _ _ _ _
     some refl (omega (arith, round.0, round.1)) c.requires.seat early changed.sends changed.seat late)
     c.stretch-3.ensures.control
 
@@ -48,7 +48,7 @@ returns-clause-goes_on g c = if_ok c.stretch-3.result _ _ (λ new late. late.goe
 pub returns-in_default-clause-exchanged : goal.returns-in_default-clause-exchanged
 returns-in_default-clause-exchanged g c =
     let none : change_of c.args.settings.now ≡ None = sym c.change.ensures.change ∙ c.in_default.is in
-    if_ok c.stretch.result _ _ (λ new took. exchanged_unchanged g.P.Port g.C.Clock c.args.settings.now c.args.service.now.config.now _ _ _ _ _ _ none c.requires.seat took.exchanged) c.stretch.ensures.control
+    if_ok c.stretch.result _ _ (λ new took. exchanged_unchanged g.P.Port g.C.Clock c.args.settings.now c.args.self.now.config.now _ _ _ _ _ _ none c.requires.seat took.exchanged) c.stretch.ensures.control
 
 pub returns-clause-exchanged : goal.returns-clause-exchanged
 returns-clause-exchanged g c =
@@ -56,7 +56,7 @@ returns-clause-exchanged g c =
     let round = c.in-Some.ensures.round refl in
     let changed = c.in_ok-change_capacity.ensures in
     if_ok c.stretch-3.result _ _ (λ new late.
-    exchanged_changed g.P.Port g.C.Clock c.args.settings.now c.args.service.now.config.now c.in-Some.capacity (c.args.settings.now.change_round - 1) _ _ _ _ _ _ _ _ _ _ _ _ _ _ _ _ _
+    exchanged_changed g.P.Port g.C.Clock c.args.settings.now c.args.self.now.config.now c.in-Some.capacity (c.args.settings.now.change_round - 1) _ _ _ _ _ _ _ _ _ _ _ _ _ _ _ _ _
     some (omega (arith, round.0, round.1)) c.requires.seat c.in_ok-lanes.ensures.control changed.sends changed.moment changed.seat late)
     c.stretch-3.ensures.control
 
@@ -86,7 +86,7 @@ returns-in_default-clause-failed g c = if_ok c.stretch.result _ _ (λ new took. 
 pub returns-clause-failed : goal.returns-clause-failed
 returns-clause-failed g c =
     if_ok c.stretch-3.result _ _ (λ new late.
-    failed_changed g.P.Port c.args.service.now.config.now _ _ _ _ _ _ _ _ c.requires.tallies.0 c.in_ok-lanes.ensures.control.failures c.in_ok-change_capacity.ensures.sends late.failures)
+    failed_changed g.P.Port c.args.self.now.config.now _ _ _ _ _ _ _ _ c.requires.tallies.0 c.in_ok-lanes.ensures.control.failures c.in_ok-change_capacity.ensures.sends late.failures)
     c.stretch-3.ensures.control
 
 pub returns-in_default-clause-missed : goal.returns-in_default-clause-missed

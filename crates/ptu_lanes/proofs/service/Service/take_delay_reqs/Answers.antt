@@ -1,5 +1,5 @@
 use Rattle.ptu_lanes.proofs.Stretching.{delays_one}
-use Rattle.ptu_lanes.proofs.lanes.take_delay_reqs.Goals as goal
+use Rattle.ptu_lanes.proofs.service.Service.take_delay_reqs.Goals as goal
 
 pub returns : goal.returns
 returns g c =
