@@ -1,40 +1,23 @@
 -- That the capacity has changed.
-use Rattle.std.proofs.Common.{◌≡◌, ◌∙◌, ℕ, ◌+◌, ◌%◌, List, [], ◌∷◌, ◌++◌, map, refl, sym, ap, ap₂, arith}
-use Rattle.std.proofs.lemmas.Simd.{map-map}
-use Rattle.ptu_units.specs.declared.kind.Kind.{Kind}
+use Rattle.std.proofs.Common.{◌≡◌, ℕ, List, ◌++◌, map, sym, ap, arith}
 use Rattle.ptu_outside.specs.declared.port.Port.{Ghosts as Ports}
 use Rattle.ptu_outside.specs.Departure.{Departure}
 use Rattle.ptu_outside.specs.HandsOver.{HandsOver}
-use Rattle.ptu_history.specs.declared.client.Client.{Client}
 use Rattle.ptu_history.specs.Core.{book_step_moment, core_step, history_after}
-use Rattle.ptu_history.specs.Counts.{counts}
 use Rattle.ptu_history.specs.Events as events
 use Rattle.ptu_history.specs.History.{Record}
 use Rattle.ptu_history.specs.Shedding.{shed_grants}
-use Rattle.ptu_profile.specs.declared.grandmaster.GmConfig.{GmConfig}
 use Rattle.ptu_admit.specs.declared.shed_list.Shed.{Shed}
 use Rattle.ptu_admit.specs.Shed.{shed_of}
 use Rattle.ptu_gm_messages.specs.Deciding.{opened_with}
-use Rattle.ptu_gm_messages.specs.Replies.{cancel_to, cancels_to, lease_of}
+use Rattle.ptu_gm_messages.specs.Replies.{cancels_to}
 use Rattle.ptu_grandmaster.specs.declared.driving.GmEvent.TheVariants.{Capacity}
 use Rattle.ptu_grandmaster.specs.Changed.{leases_shed}
 use Rattle.ptu_grandmaster.specs.Gm.{KeptGm, StandsFor}
+use Rattle.ptu_grandmaster.proofs.Cancels.{cancels_shed}
 use Rattle.ptu_daemon.specs.Ran.{AllHandled, Does, Handled, five}
 use Rattle.ptu_daemon.specs.Sends.{by}
 use Rattle.ptu_daemon.proofs.Handling.{all_same, five_handled, handled_same, hands_handled}
-
--- ---- CANCELs are numbered by the grants that were shed, and the numbers begin again
-
-next_number : (m n : ℕ) → m % 65536 ≡ n % 65536 → (m + 1) % 65536 ≡ (n + 1) % 65536
-next_number m n same = omega arith
-
-cancels_to-same : (config : GmConfig) (m n : ℕ) (leases : List (Client × Kind)) → m % 65536 ≡ n % 65536 → cancels_to config m leases ≡ cancels_to config n leases
-cancels_to-same config m n [] same = refl
-cancels_to-same config m n (lease ∷ leases) same =
-    ap₂ (λ k ds. cancel_to config lease.0 lease.1 k ∷ ds) same (cancels_to-same config (m + 1) (n + 1) leases (next_number m n same))
-
-begins_again : (n : ℕ) → n % 65536 % 65536 ≡ n % 65536
-begins_again n = omega arith
 
 module _ {P : Type 0} (ports : Ports P) where
   -- the port of the Signaling messages alone was sent something
@@ -63,17 +46,7 @@ module _ {P : Type 0} (ports : Ports P) where
     does = λ opening past stood. (
       stands opening past stood,
       all_same ports (λ i. by i 4 (cancels_to old.config old.sequence (leases_shed shed))) _ 0 sent failed (five old) (five new)
-          (λ i. ap (by i 4) (sym (are opening past stood)))
+          (λ i. ap (by i 4) (sym (cancels_shed old.config old.sequence past at _ capacity shed stood.sequence (found opening past stood).0 (found opening past stood).1)))
           (reply_handled old new _ sent failed same (hands_handled ports _ _ _ sent failed sends)),
     );
   }
-    where
-      are : (opening : ℕ) (past : List Record) → StandsFor opening old past →
-          cancels_to old.config old.sequence (leases_shed shed)
-          ≡ cancels_to old.config (counts past).shed (map lease_of (shed_grants past (book_step_moment past t) capacity))
-      are opening past stood =
-          ap (λ n. cancels_to old.config n (leases_shed shed)) stood.sequence
-          ∙ cancels_to-same old.config ((counts past).shed % 65536) (counts past).shed (leases_shed shed) (begins_again (counts past).shed)
-          ∙ ap (λ l. cancels_to old.config (counts past).shed (leases_shed l)) (found opening past stood).1
-          ∙ ap (cancels_to old.config (counts past).shed) (map-map (λ (s : Shed). (s.client, s.kind)) shed_of (shed_grants past at capacity))
-          ∙ ap (λ x. cancels_to old.config (counts past).shed (map lease_of (shed_grants past x capacity))) (found opening past stood).0

@@ -279,35 +279,27 @@ module _ {P C : Type 0} (ports : Ports P) (clocks : Clocks C) where
           (subst (λ (l : List P). HaveNotRisen (map ports.faults l) (map ports.faults (five gm1 ++ event ∷ []))) (sym opened_are)
           (subst (λ (l : List P). HaveNotRisen (faults_of ports opened) (map ports.faults l)) (sym closed_are) still))
 
-      one_sent : (i : ℕ) (old new old' new' : P) → old ≡ old' → new' ≡ new →
-          IfTold (ports.sent new) (append_told (ports.sent old) (sends_by (standing_as gm0 settings.capacity []) i did.ran.events)) →
-          WasSent ports old' new' (served_by settings given i)
-      one_sent i old new old' new' a b h =
-          subst (λ p. WasSent ports p new' (served_by settings given i)) a
-          (subst (λ p. WasSent ports old p (served_by settings given i)) (sym b)
-          (subst (λ l. WasSent ports old new l) (sends i) h))
-
-      one_tells : (i : ℕ) (old new old' new' : P) → old ≡ old' → new' ≡ new →
-          GoesOn ports old new (sends_by (standing_as gm0 settings.capacity []) i did.ran.events) →
-          GoesOn ports old' new' (served_by settings given i)
-      one_tells i old new old' new' a b h =
-          subst (λ p. GoesOn ports p new' (served_by settings given i)) a
-          (subst (λ p. GoesOn ports old p (served_by settings given i)) (sym b)
-          (subst (λ l. GoesOn ports old new l) (sends i) h))
+      -- what is so of one of the five for what the events make it send is so for what is served
+      one_served : (F : P → P → List Departure → Type 0) (i : ℕ) (old new old' new' : P) → old ≡ old' → new' ≡ new →
+          F old new (sends_by (standing_as gm0 settings.capacity []) i did.ran.events) → F old' new' (served_by settings given i)
+      one_served F i old new old' new' a b h =
+          subst (λ p. F p new' (served_by settings given i)) a
+          (subst (λ p. F old p (served_by settings given i)) (sym b)
+          (subst (λ l. F old new l) (sends i) h))
 
       are_served : AreServed ports settings given opened closed said
       are_served = record {
-        p0 = one_sent 0 _ _ _ _ p0 q0 five_sent.p0;
-        p1 = one_sent 1 _ _ _ _ p1 q1 five_sent.p1;
-        p2 = one_sent 2 _ _ _ _ p2 q2 five_sent.p2;
-        p3 = one_sent 3 _ _ _ _ p3 q3 five_sent.p3;
-        p4 = one_sent 4 _ _ _ _ p4 q4 five_sent.p4;
+        p0 = one_served (WasSent ports) 0 _ _ _ _ p0 q0 five_sent.p0;
+        p1 = one_served (WasSent ports) 1 _ _ _ _ p1 q1 five_sent.p1;
+        p2 = one_served (WasSent ports) 2 _ _ _ _ p2 q2 five_sent.p2;
+        p3 = one_served (WasSent ports) 3 _ _ _ _ p3 q3 five_sent.p3;
+        p4 = one_served (WasSent ports) 4 _ _ _ _ p4 q4 five_sent.p4;
         p5 = ap ports.sent q5 ∙ did.ran.event_sent;
-        tells0 = one_tells 0 _ _ _ _ p0 q0 five_sent.tells0;
-        tells1 = one_tells 1 _ _ _ _ p1 q1 five_sent.tells1;
-        tells2 = one_tells 2 _ _ _ _ p2 q2 five_sent.tells2;
-        tells3 = one_tells 3 _ _ _ _ p3 q3 five_sent.tells3;
-        tells4 = one_tells 4 _ _ _ _ p4 q4 five_sent.tells4;
+        tells0 = one_served (GoesOn ports) 0 _ _ _ _ p0 q0 five_sent.tells0;
+        tells1 = one_served (GoesOn ports) 1 _ _ _ _ p1 q1 five_sent.tells1;
+        tells2 = one_served (GoesOn ports) 2 _ _ _ _ p2 q2 five_sent.tells2;
+        tells3 = one_served (GoesOn ports) 3 _ _ _ _ p3 q3 five_sent.tells3;
+        tells4 = one_served (GoesOn ports) 4 _ _ _ _ p4 q4 five_sent.tells4;
         tells5 = ap ports.has_ceased q5 ∙ did.ran.event_goes_on;
         line = said_is said (served_said settings given)
             (sent_is ∙ five_sent.many ∙ many_are)

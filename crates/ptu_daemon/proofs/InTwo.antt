@@ -119,14 +119,7 @@ module _ {P C : Type 0} (ports : Ports P) (clocks : Clocks C) (settings : GmSett
 
     module _ (given : Given) (is : IsGiven ports clocks before after given) (still : HaveNotRisen (faults_of ports before) (faults_of ports after)) where
       by_flags : AreServed (two_steps ports) settings given (flagged_by clear before) (flagged_by flags after) said
-      by_flags = s.served given (record {
-        general = is.general;
-        event = is.event;
-        moments = is.moments;
-        general_still = is.general_still;
-        event_still = is.event_still;
-        moments_still = is.moments_still;
-      }) still
+      by_flags = s.served given is still
 
       are_served : AreServed (two_steps ports) settings given (flagged_by clear before) (flagged_by (by_counts ports before after) after) said
       are_served = record {
@@ -177,25 +170,8 @@ module _ {P C : Type 0} (ports : Ports P) (clocks : Clocks C) (settings : GmSett
           p4 = λ still all. still_not _ _ still;
         },
       );
-      served = λ given is. are_served given (record {
-        general = is.general;
-        event = is.event;
-        moments = is.moments;
-        general_still = is.general_still;
-        event_still = is.event_still;
-        moments_still = is.moments_still;
-      });
-      took = record {
-        general = s.took.general;
-        event = s.took.event;
-        general_few = s.took.general_few;
-        event_few = s.took.event_few;
-        general_given = s.took.general_given;
-        event_given = s.took.event_given;
-        moments = s.took.moments;
-        moments_few = s.took.moments_few;
-        passed = s.took.passed;
-      };
+      served = are_served;
+      took = s.took;
       c1 = s.c1;
       c2 = s.c2;
       c3 = s.c3;

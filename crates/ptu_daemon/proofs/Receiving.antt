@@ -1,17 +1,15 @@
 -- That a datagram was received, or none.
 use Rattle.std.proofs.Common.{◌≡◌, ◌∙◌, ℕ, true, ◌+◌, ◌≤◌, List, [], ◌∷◌, take, drop, Option, Some, None, Result, Ok, Err, refl, sym, ap, arith}
 use Rattle.std.specs.Option.{IfNone, IfSome}
-use Rattle.std.specs.Result.{IfOk, OnErr, OnOk}
 use Rattle.ptu_outside.specs.declared.arrival.Arrival.{Arrival}
 use Rattle.ptu_outside.specs.declared.channel.Channel.TheVariants as channels
 use Rattle.ptu_outside.specs.declared.clock.Clock.{Ghosts as Clocks}
 use Rattle.ptu_outside.specs.declared.failed.Failed.{Failed}
 use Rattle.ptu_outside.specs.declared.port.Port.{Ghosts as Ports}
-use Rattle.ptu_outside.specs.Faults.{HasNotFallen, HasRisen, one_more}
 use Rattle.ptu_outside.specs.Telling.{IfTold, IsEmptyTold, IsFirstTold, rest_told}
 use Rattle.ptu_outside.proofs.HandsOver.{just_once}
 use Rattle.ptu_daemon.specs.declared.daemon.Daemon.{Daemon}
-use Rattle.ptu_daemon.specs.Ran.{Gives, Handled, Ran, Received, arrived}
+use Rattle.ptu_daemon.specs.Ran.{Gives, Handled, Ran, Received, Receives, arrived}
 use Rattle.ptu_daemon.proofs.Handling.{handled_idle, handled_quietly, handled_same}
 use Rattle.ptu_daemon.proofs.Running.{gives_none, ran_quietly}
 
@@ -39,22 +37,7 @@ lost (Ok got) = 0
 lost (Err failed) = 1
 
 module _ {P C : Type 0} (ports : Ports P) (clocks : Clocks C) where
-  -- what one receive of a port does
-  pub record Receives (port port' : P) (bytes : List ℕ) (result : Result (Option (ℕ × ℕ)) Failed) : Type 0 where
-    pub within : IfOk result (λ got. IfSome got (λ a. a.1 ≤ 2048))
-    pub first : IfOk result (λ got. IfSome got (λ a. IsFirstTold (ports.waiting port) (arrived a.0 (take a.1 bytes))))
-    pub nothing : IfOk result (λ got. IfNone got (IsEmptyTold (ports.waiting port)))
-    pub rest : IfOk result (λ got. IfSome got (λ a. IfTold (ports.waiting port') (rest_told (ports.waiting port))))
-    pub left : IfOk result (λ got. IfNone got (IfTold (ports.waiting port') (ports.waiting port)))
-    pub kept : OnErr result (IfTold (ports.waiting port') (ports.waiting port))
-    pub sent : ports.sent port' ≡ ports.sent port
-    pub risen : OnErr result (HasRisen (ports.faults port) (ports.faults port'))
-    pub once : OnErr result (ports.counts_once ≡ true → ports.faults port' ≡ one_more (ports.faults port))
-    pub quiet : OnOk result (ports.faults port' ≡ ports.faults port)
-    pub no_fall : HasNotFallen (ports.faults port) (ports.faults port')
-    pub goes_on : ports.has_ceased port' ≡ ports.has_ceased port
-
-  receive_handled : (port port' : P) (bytes : List ℕ) (result : Result (Option (ℕ × ℕ)) Failed) → Receives port port' bytes result →
+  receive_handled : (port port' : P) (bytes : List ℕ) (result : Result (Option (ℕ × ℕ)) Failed) → Receives ports port port' bytes result →
       Handled ports [] 0 (lost result) port port'
   receive_handled port port' bytes (Ok got) r = handled_quietly ports port port' r.sent r.goes_on r.quiet
   receive_handled port port' bytes (Err failed) r =
@@ -78,7 +61,7 @@ module _ {P C : Type 0} (ports : Ports P) (clocks : Clocks C) where
       sent goes_on handled (gives_none (ports.waiting old.gm.reply)) gives
 
   pub received_general : (old : Daemon P C) (port' : P) (bytes : List ℕ) (result : Result (Option (ℕ × ℕ)) Failed) →
-      Receives old.gm.reply port' bytes result →
+      Receives ports old.gm.reply port' bytes result →
       Received ports clocks channels.General old (record old { gm = record (old.gm) { reply = port' } }) bytes result
   received_general old port' bytes (Ok (Some got)) r = (
     r.within,
@@ -93,7 +76,7 @@ module _ {P C : Type 0} (ports : Ports P) (clocks : Clocks C) where
       came_general old port' [] 1 (receive_handled old.gm.reply port' bytes (Err e) r) (gives_kept (ports.waiting old.gm.reply) (ports.waiting port') r.kept)
 
   pub received_event : (old : Daemon P C) (port' : P) (bytes : List ℕ) (result : Result (Option (ℕ × ℕ)) Failed) →
-      Receives old.event port' bytes result →
+      Receives ports old.event port' bytes result →
       Received ports clocks channels.Event old (record old { event = port' }) bytes result
   received_event old port' bytes (Ok (Some got)) r = (
     r.within,

@@ -41,19 +41,13 @@ module _ {P : Type 0} (ports : Ports P) where
       (handled_same ports _ _ (ap (λ g. g.reply) rest)) (omega arith) (omega arith)
   table_handled (suc (suc (suc (suc j)))) old new sends sent failed below rest h = absurd (omega arith)
 
-  pub table_config : (j : ℕ) (old new : KeptGm P) → j < 4 → new ≡ with_table j (table_at j new) old → new.config ≡ old.config
-  table_config zero old new below rest = ap (λ g. g.config) rest
-  table_config (suc zero) old new below rest = ap (λ g. g.config) rest
-  table_config (suc (suc zero)) old new below rest = ap (λ g. g.config) rest
-  table_config (suc (suc (suc zero))) old new below rest = ap (λ g. g.config) rest
-  table_config (suc (suc (suc (suc j)))) old new below rest = absurd (omega arith)
-
-  pub table_reply : (j : ℕ) (old new : KeptGm P) → j < 4 → new ≡ with_table j (table_at j new) old → new.reply ≡ old.reply
-  table_reply zero old new below rest = ap (λ g. g.reply) rest
-  table_reply (suc zero) old new below rest = ap (λ g. g.reply) rest
-  table_reply (suc (suc zero)) old new below rest = ap (λ g. g.reply) rest
-  table_reply (suc (suc (suc zero))) old new below rest = ap (λ g. g.reply) rest
-  table_reply (suc (suc (suc (suc j)))) old new below rest = absurd (omega arith)
+  -- the settings and the port of the Signaling messages have not
+  pub table_beside : (j : ℕ) (old new : KeptGm P) → j < 4 → new ≡ with_table j (table_at j new) old → (new.config ≡ old.config) × (new.reply ≡ old.reply)
+  table_beside zero old new below rest = (ap (λ g. g.config) rest, ap (λ g. g.reply) rest)
+  table_beside (suc zero) old new below rest = (ap (λ g. g.config) rest, ap (λ g. g.reply) rest)
+  table_beside (suc (suc zero)) old new below rest = (ap (λ g. g.config) rest, ap (λ g. g.reply) rest)
+  table_beside (suc (suc (suc zero))) old new below rest = (ap (λ g. g.config) rest, ap (λ g. g.reply) rest)
+  table_beside (suc (suc (suc (suc j)))) old new below rest = absurd (omega arith)
 
   pub turn_does : (t j at sent failed : ℕ) (old new : KeptGm P) → j < 4 →
       HandsOver ports (table_at j old).port (table_at j new).port
@@ -66,8 +60,8 @@ module _ {P : Type 0} (ports : Ports P) where
       Does ports old new (Turn t j) sent failed
   unfolding history_after
   turn_does t j at sent failed old new below sends rest messages stands = record {
-    config = table_config j old new below rest;
-    waiting = ap ports.waiting (table_reply j old new below rest);
+    config = (table_beside j old new below rest).0;
+    waiting = ap ports.waiting (table_beside j old new below rest).1;
     does = λ opening past stood. (
       stands opening past stood,
       all_same ports (λ i. by i j (map (departure_of old.config at) (due_messages at (table_at j old).rows))) _ 0 sent failed (five old) (five new)

@@ -1,5 +1,5 @@
 -- What a part of the daemon has done so far.
-use Rattle.std.specs.Prelude.{◌≡◌, ◌⊎◌, ℕ, ◌+◌, ◌*◌, ◌^◌, ◌≤◌, List, [], ◌∷◌, ◌++◌, length, map, take, true, Option, Some, None, Result, Ok, Err, IfSome}
+use Rattle.std.specs.Prelude.{◌≡◌, ◌⊎◌, ℕ, ◌+◌, ◌*◌, ◌^◌, ◌≤◌, List, [], ◌∷◌, ◌++◌, length, map, take, true, Option, Some, None, Result, Ok, Err, IfSome, IfNone, IfOk, OnOk, OnErr}
 use Rattle.ptu_outside.specs.declared.arrival.Arrival.{Arrival}
 use Rattle.ptu_outside.specs.declared.channel.Channel.{Channel}
 use Rattle.ptu_outside.specs.declared.channel.Channel.TheVariants as channels
@@ -7,8 +7,9 @@ use Rattle.ptu_outside.specs.declared.clock.Clock.{Ghosts as Clocks}
 use Rattle.ptu_outside.specs.declared.failed.Failed.{Failed}
 use Rattle.ptu_outside.specs.declared.port.Port.{Ghosts as Ports}
 use Rattle.ptu_outside.specs.Departure.{Departure}
-use Rattle.ptu_outside.specs.Faults.{HasNotFallen, HasRisen, HasRisenBy, HasRisenJust}
+use Rattle.ptu_outside.specs.Faults.{HasNotFallen, HasRisen, HasRisenBy, HasRisenJust, one_more}
 use Rattle.ptu_outside.specs.HandsOver.{SentOf}
+use Rattle.ptu_outside.specs.Telling.{IfTold, IsEmptyTold, IsFirstTold, rest_told}
 use Rattle.ptu_history.specs.History.{Record}
 use Rattle.ptu_grandmaster.specs.declared.driving.GmEvent.{GmEvent}
 use Rattle.ptu_grandmaster.specs.Gm.{KeptGm, StandsFor}
@@ -113,6 +114,21 @@ IsSmall steps tally = (tally.sent ≤ steps * 2 ^ 64) × (tally.failed ≤ steps
 -- the datagram that came from the address
 abbrev pub arrived : ℕ → List ℕ → Arrival
 arrived from bytes = record { ip = from; bytes = bytes }
+
+-- what one receive of a port does, with what it leaves in the room for the octets, and its result
+pub record Receives {P : Type 0} (ports : Ports P) (port port' : P) (bytes : List ℕ) (result : Result (Option (ℕ × ℕ)) Failed) : Type 0 where
+  pub within : IfOk result (λ got. IfSome got (λ a. a.1 ≤ 2048))
+  pub first : IfOk result (λ got. IfSome got (λ a. IsFirstTold (ports.waiting port) (arrived a.0 (take a.1 bytes))))
+  pub nothing : IfOk result (λ got. IfNone got (IsEmptyTold (ports.waiting port)))
+  pub rest : IfOk result (λ got. IfSome got (λ a. IfTold (ports.waiting port') (rest_told (ports.waiting port))))
+  pub left : IfOk result (λ got. IfNone got (IfTold (ports.waiting port') (ports.waiting port)))
+  pub kept : OnErr result (IfTold (ports.waiting port') (ports.waiting port))
+  pub sent : ports.sent port' ≡ ports.sent port
+  pub risen : OnErr result (HasRisen (ports.faults port) (ports.faults port'))
+  pub once : OnErr result (ports.counts_once ≡ true → ports.faults port' ≡ one_more (ports.faults port))
+  pub quiet : OnOk result (ports.faults port' ≡ ports.faults port)
+  pub no_fall : HasNotFallen (ports.faults port) (ports.faults port')
+  pub goes_on : ports.has_ceased port' ≡ ports.has_ceased port
 
 -- of what is received of one channel, that of the general, and of the event channel
 abbrev pub on_general : Channel → List Arrival → List Arrival

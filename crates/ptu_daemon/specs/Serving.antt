@@ -17,14 +17,27 @@ use Rattle.ptu_daemon.specs.Events.{Given, config_of}
 use Rattle.ptu_daemon.specs.Served.{Said, numbers_in, opened_as, served_by, served_said}
 use Rattle.ptu_daemon.specs.Sends.{sends_by}
 
+-- what the ports of the two channels tell that waits, and clock 0 of its moments
+pub record Told : Type 0 where
+  pub general : Option (List Arrival)
+  pub event : Option (List Arrival)
+  pub moments : Option (List ℕ)
+
+abbrev pub told_of : {P C : Type 0} → Ports P → Clocks C → Opened P C → Told
+told_of ports clocks o = record { general = ports.waiting o.p4; event = ports.waiting o.p5; moments = clocks.moments o.c0 }
+
+-- what is told is what is given, and something is still told later
+pub record TellGiven (opened closed : Told) (given : Given) : Type 0 where
+  pub general : opened.general ≡ Some given.general
+  pub event : opened.event ≡ Some given.event
+  pub moments : opened.moments ≡ Some given.moments
+  pub general_still : IsSome closed.general
+  pub event_still : IsSome closed.event
+  pub moments_still : IsSome closed.moments
+
 -- the ports and clocks tell that this is given, and still tell it when they are given back
-pub record IsGiven {P C : Type 0} (ports : Ports P) (clocks : Clocks C) (opened closed : Opened P C) (given : Given) : Type 0 where
-  pub general : ports.waiting opened.p4 ≡ Some given.general
-  pub event : ports.waiting opened.p5 ≡ Some given.event
-  pub moments : clocks.moments opened.c0 ≡ Some given.moments
-  pub general_still : IsSome (ports.waiting closed.p4)
-  pub event_still : IsSome (ports.waiting closed.p5)
-  pub moments_still : IsSome (clocks.moments closed.c0)
+abbrev pub IsGiven : {P C : Type 0} → Ports P → Clocks C → Opened P C → Opened P C → Given → Type 0
+IsGiven ports clocks opened closed given = TellGiven (told_of ports clocks opened) (told_of ports clocks closed) given
 
 -- each port was sent what is served for what is given, and goes on to tell, unless it was such that it may cease to; and the
 -- numbers of the last line are those of this
@@ -55,16 +68,19 @@ pub record GoOn {P C : Type 0} (ports : Ports P) (sends : ℕ → List Departure
 -- whatever the counts did, and whether or not a port tells: of each channel at most 64 datagrams were taken for each round, the first
 -- that waited where its port still tells that; and at most so many moments of clock 0 were taken: one for each of these, and for four
 -- turns and a change of the capacity in each round
-pub record TakesFew {P C : Type 0} (ports : Ports P) (clocks : Clocks C) (rounds : ℕ) (opened closed : Opened P C) : Type 0 where
+pub record TellFew (rounds : ℕ) (opened closed : Told) : Type 0 where
   pub general : List Arrival
   pub event : List Arrival
   pub general_few : length general ≤ 64 * rounds
   pub event_few : length event ≤ 64 * rounds
-  pub general_given : IfSome (ports.waiting closed.p4) (λ later. ports.waiting opened.p4 ≡ Some (general ++ later))
-  pub event_given : IfSome (ports.waiting closed.p5) (λ later. ports.waiting opened.p5 ≡ Some (event ++ later))
+  pub general_given : IfSome closed.general (λ later. opened.general ≡ Some (general ++ later))
+  pub event_given : IfSome closed.event (λ later. opened.event ≡ Some (event ++ later))
   pub moments : ℕ
   pub moments_few : moments ≤ length general + length event + 5 * rounds
-  pub passed : PassedBy moments (clocks.moments opened.c0) (clocks.moments closed.c0)
+  pub passed : PassedBy moments opened.moments closed.moments
+
+abbrev pub TakesFew : {P C : Type 0} → Ports P → Clocks C → ℕ → Opened P C → Opened P C → Type 0
+TakesFew ports clocks rounds opened closed = TellFew rounds (told_of ports clocks opened) (told_of ports clocks closed)
 
 -- between these ports and clocks as they were opened, and as they are to be given back, this was said of the serving
 pub record Serves {P C : Type 0} (ports : Ports P) (clocks : Clocks C) (settings : GmSettings) (opened closed : Opened P C) (said : Said) : Type 0 where

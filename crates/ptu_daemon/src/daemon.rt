@@ -5,7 +5,7 @@ ghost use Rattle.ptu_profile.specs.Limits.{IsCapacity};
 ghost use Rattle.ptu_grandmaster.specs.declared.driving.GmEvent.{GmEvent};
 ghost use Rattle.ptu_config.specs.Limits.{IsGmInRange};
 ghost use Rattle.ptu_daemon.specs.Events.{change_in, change_to, taking, turns};
-ghost use Rattle.ptu_daemon.specs.Ran.{CameTo, DidRound, DidRounds, IsSmall, Ran, Received, TookChannel, arrived};
+ghost use Rattle.ptu_daemon.specs.Ran.{CameTo, DidRound, DidRounds, IsSmall, Ran, Received, Receives, TookChannel, arrived};
 
 use crate::events;
 use crate::next::Next;
@@ -44,6 +44,16 @@ fn change_before(settings: &GmSettings, before: u32) -> Option<u64>
     } else {
         None
     }
+}
+
+// Receives the next datagram of a port.
+fn receive_from<P: Port>(
+    port: &mut P,
+    buf: &mut [u8; LONGEST_DATAGRAM],
+) -> Result<Option<(u32, usize)>, Failed>
+    ensures { Receives P.Port port.old port.new buf.new result }
+{
+    port.receive(buf)
 }
 
 impl<P: Port, C: Clock> Daemon<P, C> {
@@ -114,8 +124,8 @@ impl<P: Port, C: Clock> Daemon<P, C> {
         ensures { Received P.Port C.Clock channel self.old self.new buf.new result }
     {
         match channel {
-            Channel::General => self.gm.ports(SIGNALING_PORT).receive(buf),
-            Channel::Event => self.event.receive(buf),
+            Channel::General => receive_from(self.gm.ports(SIGNALING_PORT), buf),
+            Channel::Event => receive_from(&mut self.event, buf),
         }
     }
 
