@@ -206,7 +206,7 @@ set_up_first old new e = e ∙ ap (λ (m : GmConfig). record old { class = m.cla
 
 -- ---- one event more
 
-driven-push : (config : GmConfig) (capacity : ℕ) (done : List GmEvent) (e : GmEvent) →
+pub driven-push : (config : GmConfig) (capacity : ℕ) (done : List GmEvent) (e : GmEvent) →
     driven_history config capacity (done ++ e ∷ []) ≡ history_after (opened_with capacity config) (driven_history config capacity done) (events_of config e)
 unfolding core_history
 driven-push config capacity done e =

@@ -1,18 +1,16 @@
 -- Each pool goes on with its own events.
 use Rattle.std.proofs.Common.{◌≡◌, ◌≢◌, ◌⊎◌, ℕ, zero, suc, ◌+◌, ◌<◌, Bool, true, false, eqb, List, [], ◌∷◌, ◌++◌, length, map, set, slice_get, position, filter, Option, Some, None, refl, sym, ap, subst, ◌∙◌, inl, inr, arith}
-use Rattle.std.specs.List.{flat_map}
 use Rattle.std.proofs.lemmas.Bool.{cases_eq, eq-eqb, ne_eqb}
 use Rattle.std.proofs.lemmas.List.{append-nil, map-append}
 use Rattle.std.proofs.lemmas.List.Elements.{filter-append}
-use Rattle.std.proofs.lemmas.List.Concat.{flat_map-append}
-use Rattle.ptu_history.specs.Core.{core_history, history_after}
+use Rattle.ptu_history.specs.Core.{history_after}
 use Rattle.ptu_history.specs.History.{Record}
-use Rattle.ptu_history.proofs.Histories.{history_after-append}
 use Rattle.ptu_profile.specs.declared.grandmaster.GmConfig.{GmConfig}
 use Rattle.ptu_gm_messages.specs.Deciding.{opened_with}
 use Rattle.ptu_grandmaster.specs.declared.driving.GmEvent.{GmEvent}
 use Rattle.ptu_grandmaster.specs.Driven.{driven_history, events_of}
 use Rattle.ptu_grandmaster.specs.Gm.{KeptGm, StandsFor}
+use Rattle.ptu_grandmaster.proofs.Followed.{driven-push}
 use Rattle.ptu_pools.specs.declared.pool.Pool.{Pool}
 use Rattle.ptu_pools.specs.Pool.{capacity_at}
 use Rattle.ptu_pools.specs.Events.{PoolEvent, gm_event, is_own, own, pool_history}
@@ -40,20 +38,12 @@ own-mine pools i events e is = filter-append (is_own pools i) events (e ∷ []) 
 own-other : (pools : List Pool) (i : ℕ) (events : List PoolEvent) (e : PoolEvent) → is_own pools i e ≡ false → own pools i (events ++ e ∷ []) ≡ own pools i events
 own-other pools i events e is = filter-append (is_own pools i) events (e ∷ []) ∙ rw is (append-nil (own pools i events))
 
-driven-more : (config : GmConfig) (capacity : ℕ) (done : List GmEvent) (e : GmEvent) →
-    driven_history config capacity (done ++ e ∷ []) ≡ history_after (opened_with capacity config) (driven_history config capacity done) (events_of config e)
-unfolding core_history
-driven-more config capacity done e =
-    let opened = opened_with capacity config in
-    ap (history_after opened []) (flat_map-append (events_of config) done (e ∷ []) ∙ ap (λ es. flat_map (events_of config) done ++ es) (append-nil (events_of config e)))
-    ∙ history_after-append opened [] (flat_map (events_of config) done) (events_of config e)
-
 pub history-mine : (config : GmConfig) (pools : List Pool) (i : ℕ) (events : List PoolEvent) (e : PoolEvent) → is_own pools i e ≡ true →
     pool_history config pools i (events ++ e ∷ [])
     ≡ history_after (opened_with (capacity_at pools i) config) (pool_history config pools i events) (events_of config (gm_event e))
 history-mine config pools i events e is =
     ap (driven_history config (capacity_at pools i)) (ap (map gm_event) (own-mine pools i events e is) ∙ map-append gm_event (own pools i events) (e ∷ []))
-    ∙ driven-more config (capacity_at pools i) (map gm_event (own pools i events)) (gm_event e)
+    ∙ driven-push config (capacity_at pools i) (map gm_event (own pools i events)) (gm_event e)
 
 pub history-other : (config : GmConfig) (pools : List Pool) (i : ℕ) (events : List PoolEvent) (e : PoolEvent) → is_own pools i e ≡ false →
     pool_history config pools i (events ++ e ∷ []) ≡ pool_history config pools i events

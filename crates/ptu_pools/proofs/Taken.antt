@@ -1,5 +1,6 @@
 -- What pools are after a datagram and after a turn.
-use Rattle.std.proofs.Common.{◌≡◌, ℕ, ◌++◌, ◌∷◌, [], ◌<◌, Bool, true, false, cond, eqb, List, map, set, slice_get, position, option_map, Option, Some, None, Result, Ok, Err, OnErr, IsTrue, refl, sym, ap, subst, ◌∙◌}
+use Rattle.std.proofs.Common.{◌≡◌, ℕ, ◌++◌, ◌∷◌, [], ◌<◌, Bool, true, false, cond, eqb, List, get_or, length, map, set, slice_get, position, option_map, Option, Some, None, Result, Ok, Err, OnErr, IsTrue, refl, sym, ap, subst, ◌∙◌, arith}
+use Rattle.std.proofs.lemmas.Option.{slice_get-get_or}
 use Rattle.ptu_history.specs.Core.{core_step}
 use Rattle.ptu_history.specs.Events as happenings
 use Rattle.ptu_history.specs.History.{Record}
@@ -8,6 +9,7 @@ use Rattle.ptu_shard.specs.Table.{Kept}
 use Rattle.ptu_gm_messages.specs.Deciding.{opened_with}
 use Rattle.ptu_grandmaster.specs.Gm.{KeptGm, StandsFor, with_table}
 use Rattle.ptu_grandmaster.proofs.Heard.{history_after-one}
+use Rattle.ptu_pools.specs.declared.pool.Pool.{Pool}
 use Rattle.ptu_pools.specs.Pool.{AreApart, is_in, is_in_at}
 use Rattle.ptu_pools.specs.Events.{PoolEvent, Came, Turned, gm_event}
 use Rattle.ptu_pools.specs.Standing.{ChangesOne, KeptPools, StandFor}
@@ -17,6 +19,17 @@ use Rattle.ptu_pools.proofs.Standing.{GoesOn, stand-none, stand-one, stand-still
 pub on_err : {A E : Type 0} (r : Result A E) (F : Type 0) → F → OnErr r F
 on_err (Ok x) F f = tt
 on_err (Err e) F f = f
+
+-- the place that was found among the pools, and the grandmaster that was read there
+pub at_place : {P : Type 0} (kept : KeptPools P) (from place : ℕ) (gm : KeptGm P) (pools : List Pool) (found : Option ℕ) → pools ≡ kept.pools → found ≡ position (is_in from) pools →
+    found ≡ Some place → place < length pools → length kept.pools ≡ length kept.gms → gm ≡ get_or kept.gms place gm →
+    (position (is_in from) kept.pools ≡ Some place) × (slice_get kept.gms place ≡ Some gm)
+at_place kept from place gm pools found same is some within each read =
+    let inside : place < length kept.pools = subst (λ l. place < length l) same within in
+    let inside_gms : place < length kept.gms = omega (arith, inside, each) in (
+      subst (λ l. position (is_in from) l ≡ Some place) same (sym is ∙ some),
+      slice_get-get_or kept.gms place gm inside_gms ∙ ap Some (sym read),
+    )
 
 -- the pools with another grandmaster at this place
 abbrev pub changed_at : {P : Type 0} → ℕ → KeptGm P → KeptPools P → KeptPools P
