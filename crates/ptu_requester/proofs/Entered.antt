@@ -68,33 +68,28 @@ kept_granted k L at m seconds n term start given begun h =
       granted = unwrap_or (cond b (Some (Some (at, seconds))) None) (option_map term_of n.granted);
     }
 
+-- a kind that was refused at a moment, or not, where it is granted this
+abbrev refused_at : Negotiation → ℕ → (Bool → Option (ℕ × ℕ)) → Bool → KindState
+refused_at n at granted b = record {
+  unanswered = cond b 0 ((n.unanswered + 0) % 3);
+  asked = cond b None n.asked;
+  refused = newest_of (cond b (Some at) None) n.refused;
+  granted = granted b;
+}
+
 pub kept_denied : (k : Kind) (L : Record) (at m : ℕ) (n : Negotiation)
     → IsKept k L n → IsKept k (L ++ Denied at m k ∷ []) (record n { asked = None; unanswered = 0; refused = Some at })
 kept_denied k L at m n h =
-    entered k L (Denied at m k) n (record n { asked = None; unanswered = 0; refused = Some at }) (sym (ap after (is_kind-self k)))
+    entered k L (Denied at m k) n (record n { asked = None; unanswered = 0; refused = Some at })
+    (sym (ap (refused_at n at (λ b. option_map term_of n.granted)) (is_kind-self k)))
     (h.run_start ∙ sym (run_kept k L (Denied at m k) refl)) h
-  where
-    after : Bool → KindState
-    after b = record {
-      unanswered = cond b 0 ((n.unanswered + 0) % 3);
-      asked = cond b None n.asked;
-      refused = newest_of (cond b (Some at) None) n.refused;
-      granted = option_map term_of n.granted;
-    }
 
 pub kept_cancelled : (k : Kind) (L : Record) (at m : ℕ) (n : Negotiation)
     → IsKept k L n → IsKept k (L ++ Cancelled at m k ∷ []) (record n { asked = None; unanswered = 0; refused = Some at; granted = None })
 kept_cancelled k L at m n h =
-    entered k L (Cancelled at m k) n (record n { asked = None; unanswered = 0; refused = Some at; granted = None }) (sym (ap after (is_kind-self k)))
+    entered k L (Cancelled at m k) n (record n { asked = None; unanswered = 0; refused = Some at; granted = None })
+    (sym (ap (refused_at n at (λ b. unwrap_or (cond b (Some None) None) (option_map term_of n.granted))) (is_kind-self k)))
     (h.run_start ∙ sym (run_kept k L (Cancelled at m k) (ap (λ b. unwrap_or (cond b (Some None) None) None) (is_kind-self k)))) h
-  where
-    after : Bool → KindState
-    after b = record {
-      unanswered = cond b 0 ((n.unanswered + 0) % 3);
-      asked = cond b None n.asked;
-      refused = newest_of (cond b (Some at) None) n.refused;
-      granted = unwrap_or (cond b (Some None) None) (option_map term_of n.granted);
-    }
 
 -- what an entry leaves that says nothing of the kind
 pub record SaysNothing (k : Kind) (e : Entry) : Type 0 where
