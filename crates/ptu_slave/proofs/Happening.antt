@@ -7,8 +7,8 @@ use Rattle.ptu_record.specs.Step.{SlaveEvent, TakeAnnounce, TakeDelayResp, TakeF
 use Rattle.ptu_judges.specs.Held.{Held}
 use Rattle.ptu_slave.specs.Kept.{Kept}
 use Rattle.ptu_slave.specs.Parts.{OneJudged}
-use Rattle.ptu_slave.specs.Standing.{Asks, Selects, StandsFor, Steps, StepsBy}
-use Rattle.ptu_slave.proofs.Quiet.{Unasked, asks_kept, judge_kept, selects_kept}
+use Rattle.ptu_slave.specs.Standing.{Asks, Judge, Selects, StandsFor, Steps, StepsBy}
+use Rattle.ptu_slave.proofs.Quiet.{Unasked, Untold, asks_kept, judge_kept, selects_kept}
 use Rattle.ptu_slave.proofs.Stepping.{Entered, Moves, step_of}
 
 -- the slave is as before, but for its moment and its selector
@@ -35,32 +35,24 @@ pub selects_begun : (old mid : Kept) (at : ℕ) (L : Record) → mid ≡ record 
 selects_begun old mid at L first h = subst (λ k. Selects k L) (sym first) h
 
 module _ (openings : List (Option Rule)) (old new : Kept) (L : Record) (t at : ℕ) (is : at ≡ max t old.moment) (begun : Begun old new at) where
+  -- an entry that no judge is told of and no ask follows from
+  plain_event : (judges : List Held) (e : SlaveEvent) (entry : Entry) → Unasked entry → Untold entry
+      → ((asks : (told : Record) → Asks old told L → Asks new (told ++ entry ∷ []) (L ++ entry ∷ [])) → Judge openings judges (L ++ entry ∷ [])
+      → Entered openings old new judges judges L e [] at) → StandsFor openings old judges L → Steps openings old new judges L t e
+  plain_event judges e entry unasked untold enters h = (step_of openings old new judges judges L t at e [] h is begun.moves begun.stopped refl
+      (enters (λ told asks. asks_kept old new told L (entry ∷ []) begun.requester begun.counters (unasked, tt) asks) (judge_kept openings judges L (entry ∷ []) (untold, tt) h.judge))).0
+
   pub announced : (judges : List Held) (m class : ℕ) → Selects new (L ++ Announce at m class ∷ []) → StandsFor openings old judges L → Steps openings old new judges L t (TakeAnnounce m class)
-  announced judges m class selects h = (step_of openings old new judges judges L t at (TakeAnnounce m class) [] h is begun.moves begun.stopped refl (record {
-    unstopped = refl;
-    found = tt;
-    asks = λ told same asks. asks_kept old new told L (Announce at m class ∷ []) begun.requester begun.counters (record { no_negotiation = refl; uncounted = record { no_signaling = refl; no_delay_req = refl; no_moment = refl } }, tt) asks;
-    selects = selects;
-    judge = judge_kept openings judges L (Announce at m class ∷ []) (record { no_judge = refl; no_rule = refl; no_word = refl; no_sync = refl }, tt) h.judge;
-  })).0
+  announced judges m class selects h = plain_event judges (TakeAnnounce m class) (Announce at m class) (record { no_negotiation = refl; uncounted = record { no_signaling = refl; no_delay_req = refl; no_moment = refl } }) (record { no_judge = refl; no_rule = refl; no_word = refl; no_sync = refl })
+      (λ asks judge. record { unstopped = refl; found = tt; asks = λ told same a. asks told a; selects = selects; judge = judge }) h
 
   pub responded : (judges : List Held) (m number : ℕ) → Selects new (L ++ Resp at m number ∷ []) → StandsFor openings old judges L → Steps openings old new judges L t (TakeDelayResp m number)
-  responded judges m number selects h = (step_of openings old new judges judges L t at (TakeDelayResp m number) [] h is begun.moves begun.stopped refl (record {
-    unstopped = refl;
-    found = tt;
-    asks = λ told same asks. asks_kept old new told L (Resp at m number ∷ []) begun.requester begun.counters (record { no_negotiation = refl; uncounted = record { no_signaling = refl; no_delay_req = refl; no_moment = refl } }, tt) asks;
-    selects = selects;
-    judge = judge_kept openings judges L (Resp at m number ∷ []) (record { no_judge = refl; no_rule = refl; no_word = refl; no_sync = refl }, tt) h.judge;
-  })).0
+  responded judges m number selects h = plain_event judges (TakeDelayResp m number) (Resp at m number) (record { no_negotiation = refl; uncounted = record { no_signaling = refl; no_delay_req = refl; no_moment = refl } }) (record { no_judge = refl; no_rule = refl; no_word = refl; no_sync = refl })
+      (λ asks judge. record { unstopped = refl; found = tt; asks = λ told same a. asks told a; selects = selects; judge = judge }) h
 
   pub followed_up : (judges : List Held) (m : ℕ) → Selects new L → StandsFor openings old judges L → Steps openings old new judges L t (TakeFollowUp m)
-  followed_up judges m selects h = (step_of openings old new judges judges L t at (TakeFollowUp m) [] h is begun.moves begun.stopped refl (record {
-    unstopped = refl;
-    found = tt;
-    asks = λ told same asks. asks_kept old new told L (Event at ∷ []) begun.requester begun.counters (record { no_negotiation = refl; uncounted = record { no_signaling = refl; no_delay_req = refl; no_moment = refl } }, tt) asks;
-    selects = selects_kept new L (Event at ∷ []) (refl, tt) selects;
-    judge = judge_kept openings judges L (Event at ∷ []) (record { no_judge = refl; no_rule = refl; no_word = refl; no_sync = refl }, tt) h.judge;
-  })).0
+  followed_up judges m selects h = plain_event judges (TakeFollowUp m) (Event at) (record { no_negotiation = refl; uncounted = record { no_signaling = refl; no_delay_req = refl; no_moment = refl } }) (record { no_judge = refl; no_rule = refl; no_word = refl; no_sync = refl })
+      (λ asks judge. record { unstopped = refl; found = tt; asks = λ told same a. asks told a; selects = selects_kept new L (Event at ∷ []) (refl, tt) selects; judge = judge }) h
 
   -- an entry that a judge is told of, and what it finds
   pub judged_event : (olds news : List Held) (m : ℕ) (e : SlaveEvent) (entry : Entry) (unusable : Bool) → Unasked entry

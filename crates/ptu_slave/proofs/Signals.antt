@@ -64,26 +64,22 @@ signals_enter wants x m (tlv.Other t n ∷ tlvs) = signals_enter wants x m tlvs
 
 -- what it enters is nothing that a judge is told of, and so on
 module _ (wants : Wants) (x m : ℕ) where
-  untold : (signals : List step.Signal) → AllByRecursion Untold (filter_map (step.signal_entry wants x m) signals)
-  untold signals = signals_all Untold wants x m (λ seconds k. granted (eqb seconds 0) seconds k) (λ k. record { no_judge = refl; no_rule = refl; no_word = refl; no_sync = refl }) signals
+  every : (P : Entry → Type 0) → ((k : Kind) → P (Denied x m k)) → ((seconds : ℕ) (k : Kind) → P (Granted x m k seconds)) → ((k : Kind) → P (Cancelled x m k))
+      → (signals : List step.Signal) → AllByRecursion P (filter_map (step.signal_entry wants x m) signals)
+  every P denied granted cancelled signals = signals_all P wants x m (λ seconds k. by (eqb seconds 0) seconds k) cancelled signals
     where
-      granted : (b : Bool) (seconds : ℕ) (k : Kind) → Untold (cond b (Denied x m k) (Granted x m k seconds))
-      granted true seconds k = record { no_judge = refl; no_rule = refl; no_word = refl; no_sync = refl }
-      granted false seconds k = record { no_judge = refl; no_rule = refl; no_word = refl; no_sync = refl }
+      by : (b : Bool) (seconds : ℕ) (k : Kind) → P (cond b (Denied x m k) (Granted x m k seconds))
+      by true seconds k = denied k
+      by false seconds k = granted seconds k
+
+  untold : (signals : List step.Signal) → AllByRecursion Untold (filter_map (step.signal_entry wants x m) signals)
+  untold signals = every Untold (λ k. record { no_judge = refl; no_rule = refl; no_word = refl; no_sync = refl }) (λ seconds k. record { no_judge = refl; no_rule = refl; no_word = refl; no_sync = refl }) (λ k. record { no_judge = refl; no_rule = refl; no_word = refl; no_sync = refl }) signals
 
   unwatched : (signals : List step.Signal) → AllByRecursion (λ e. is_watched e ≡ false) (filter_map (step.signal_entry wants x m) signals)
-  unwatched signals = signals_all (λ e. is_watched e ≡ false) wants x m (λ seconds k. granted (eqb seconds 0) seconds k) (λ k. refl) signals
-    where
-      granted : (b : Bool) (seconds : ℕ) (k : Kind) → is_watched (cond b (Denied x m k) (Granted x m k seconds)) ≡ false
-      granted true seconds k = refl
-      granted false seconds k = refl
+  unwatched signals = every (λ e. is_watched e ≡ false) (λ k. refl) (λ seconds k. refl) (λ k. refl) signals
 
   unstopped : (signals : List step.Signal) → AllByRecursion (λ e. is_stop e ≡ false) (filter_map (step.signal_entry wants x m) signals)
-  unstopped signals = signals_all (λ e. is_stop e ≡ false) wants x m (λ seconds k. granted (eqb seconds 0) seconds k) (λ k. refl) signals
-    where
-      granted : (b : Bool) (seconds : ℕ) (k : Kind) → is_stop (cond b (Denied x m k) (Granted x m k seconds)) ≡ false
-      granted true seconds k = refl
-      granted false seconds k = refl
+  unstopped signals = every (λ e. is_stop e ≡ false) (λ k. refl) (λ seconds k. refl) (λ k. refl) signals
 
 module _ (setup : SlaveSetup) (L : Record) (x m number : ℕ) (signals : List step.Signal) where
   all_entries : (P : Entry → Type 0) → AllByRecursion P (filter_map (step.signal_entry setup.wants x m) signals) → P (Event x) → AllByRecursion P (entries_by setup [] L x (TakeSignaling m number signals))

@@ -1,9 +1,10 @@
 -- What the parts of a slave do in an event.
 use Rattle.std.specs.Prelude.{◌≡◌, ℕ, Bool, true, false, List, [], ◌∷◌, ◌++◌, flat_map, length, Option, Some, None, option_map}
+use Rattle.ptu_units.specs.declared.kind.Kind.{Kind}
 use Rattle.ptu_record.specs.declared.rule.Rule.{Rule}
 use Rattle.ptu_record.specs.declared.wants.Wants.{Wants}
 use Rattle.ptu_record.specs.Lists.{places}
-use Rattle.ptu_record.specs.Record.{Entry, Record, record_of, Judged, Cancelled}
+use Rattle.ptu_record.specs.Record.{Entry, Record, record_of, Asked, Judged, Cancelled}
 use Rattle.ptu_record.specs.Judges.{AreAssessments, IsAssessment, opening_of}
 use Rattle.ptu_record.specs.Grants.{live_kinds}
 use Rattle.ptu_record.specs.Tick.{Sending, Cancels, one_signaling, requests_to, sending_entries, signaling_number}
@@ -12,6 +13,8 @@ use Rattle.ptu_requester.specs.Requester.{all_cancels}
 use Rattle.ptu_judges.specs.Held.{Held}
 use Rattle.ptu_slave_messages.specs.declared.signal.Signal.{Signal}
 use Rattle.ptu_slave_messages.specs.declared.signal.Signal.TheVariants.{Grant, Denial, Cancel, Ack}
+use Rattle.ptu_slave.specs.declared.asking.KindEntry.{KindEntry}
+use Rattle.ptu_slave.specs.declared.asking.KindEntry.TheVariants as kind_entries
 use Rattle.ptu_slave.specs.Kept.{Kept}
 use Rattle.ptu_slave.specs.Standing.{Asks, Judge, Selects}
 
@@ -23,6 +26,11 @@ signal_entry wants x m (Grant k seconds) = Some (grant_entry x m seconds k)
 signal_entry wants x m (Denial k) = Some (grant_entry x m 0 k)
 signal_entry wants x m (Cancel code) = option_map (Cancelled x m) (wanted_kind wants code)
 signal_entry wants x m (Ack code) = None
+
+-- what is entered of a kind that a master is sent
+abbrev pub kind_entry : KindEntry → ℕ → ℕ → Kind → Entry
+kind_entry kind_entries.Asked = Asked
+kind_entry kind_entries.Cancelled = Cancelled
 
 -- ---- judges
 

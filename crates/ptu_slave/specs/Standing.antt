@@ -1,5 +1,5 @@
 -- Which records a slave stands for, and what a step of it is.
-use Rattle.std.specs.Prelude.{◌≡◌, ℕ, ◌<◌, ◌≤◌, Bool, false, List, ◌++◌, length, map, slice_get, Option, Some, option_map}
+use Rattle.std.specs.Prelude.{◌≡◌, ℕ, ◌<◌, ◌≤◌, Bool, false, List, [], ◌∷◌, ◌++◌, length, map, slice_get, Option, Some, option_map}
 use Rattle.std.specs.List.{list_any}
 use Rattle.ptu_units.specs.declared.kind.Kind.{Kind}
 use Rattle.ptu_record.specs.declared.rule.Rule.{Rule}
@@ -77,3 +77,8 @@ StepsBy found openings old new judges L t e = (steps : Steps openings old new ju
 abbrev pub selected_address : Kept → Record → ℕ → Option ℕ
 selected_address kept L t =
     option_map (address_of kept.masters) (selected_master (timeouts kept.config) (priorities kept.masters) L (event_moment L t))
+
+-- a judge found this by such a call between these boxes, and the slave steps by that, whatever it stands for
+abbrev pub StepsFound : {B : Type 0} → (Bool → List B → List B → Type 0) → List B → List B → (old new : Kept) → (olds news : List Held) → ℕ → SlaveEvent → Type 0
+StepsFound Calls boxes boxes' old new olds news t e = (found : Bool) × Calls found boxes boxes'
+    × ((openings : List (Option Rule)) (L : Record) → StandsFor openings old olds L → StepsBy (found ∷ []) openings old new news L t e)

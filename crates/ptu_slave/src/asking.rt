@@ -3,13 +3,13 @@
 ghost use Rattle.std.specs.Prelude.{◌≡◌, ℕ, ◌<◌, ◌^◌, List, [], ◌∷◌, ◌++◌, cond, map, length, filter_map, option_to_list};
 ghost use Rattle.ptu_units.specs.Log.{period_of};
 ghost use Rattle.ptu_record.specs.Lists.{maximum};
-ghost use Rattle.ptu_record.specs.Record.{Record, record_of, Asked, Cancelled};
+ghost use Rattle.ptu_record.specs.Record.{Record, record_of};
 ghost use Rattle.ptu_record.specs.Grants.{live_kinds};
 ghost use Rattle.ptu_record.specs.Tick.{is_probe_due};
 ghost use Rattle.ptu_requester.specs.Requester.{StandsFor};
 ghost use Rattle.ptu_slave_messages.specs.Sending.{kinds_in};
 ghost use Rattle.ptu_slave.specs.Kept.{CountFor};
-ghost use Rattle.ptu_slave.specs.Parts.{signal_entry};
+ghost use Rattle.ptu_slave.specs.Parts.{kind_entry, signal_entry};
 
 use crate::counters::Counters;
 use ptu_record::Wants;
@@ -53,30 +53,53 @@ pub(crate) fn is_probe_due(
     later(counters.probed, start) + period(log) <= at.nanos()
 }
 
-// Enters an ask of one kind, where it is sent.
-fn ask(requester: &mut Requester, at: Moment, master: usize, kind: Kind, is_sent: bool)
+/// What is entered of a kind: that the master is asked for it, or that its grant is cancelled.
+#[derive(Clone, Copy)]
+pub(crate) enum KindEntry {
+    Asked,
+    Cancelled,
+}
+
+// Enters this of one kind, where it is sent.
+fn enter_kind(
+    requester: &mut Requester,
+    entry: KindEntry,
+    at: Moment,
+    master: usize,
+    kind: Kind,
+    is_sent: bool,
+)
     requires { master < length requester.old.masters }
-    ensures asked { (L : Record) → StandsFor requester.old L →
-        StandsFor requester.new (L ++ cond is_sent (Asked at master kind ∷ []) []) }
+    ensures entered { (L : Record) → StandsFor requester.old L →
+        StandsFor requester.new (L ++ cond is_sent (kind_entry entry at master kind ∷ []) []) }
     ensures wants { requester.new.wants ≡ requester.old.wants }
     ensures masters { length requester.new.masters ≡ length requester.old.masters }
 {
     if is_sent {
-        requester.asked(at, master, kind);
+        match entry {
+            KindEntry::Asked => requester.asked(at, master, kind),
+            KindEntry::Cancelled => requester.cancelled(at, master, kind),
+        }
     }
 }
 
-/// Enters an ask of each of the kinds.
-pub(crate) fn ask_each(requester: &mut Requester, at: Moment, master: usize, kinds: Kinds)
+/// Enters this of each of the kinds.
+pub(crate) fn enter_kinds(
+    requester: &mut Requester,
+    entry: KindEntry,
+    at: Moment,
+    master: usize,
+    kinds: Kinds,
+)
     requires { master < length requester.old.masters }
-    ensures asked { (L : Record) → StandsFor requester.old L →
-        StandsFor requester.new (L ++ map (Asked at master) (kinds_in kinds)) }
+    ensures entered { (L : Record) → StandsFor requester.old L →
+        StandsFor requester.new (L ++ map (kind_entry entry at master) (kinds_in kinds)) }
     ensures wants { requester.new.wants ≡ requester.old.wants }
     ensures masters { length requester.new.masters ≡ length requester.old.masters }
 {
-    ask(requester, at, master, Kind::Announce, kinds.announce);
-    ask(requester, at, master, Kind::Sync, kinds.sync);
-    ask(requester, at, master, Kind::DelayResp, kinds.delay);
+    enter_kind(requester, entry, at, master, Kind::Announce, kinds.announce);
+    enter_kind(requester, entry, at, master, Kind::Sync, kinds.sync);
+    enter_kind(requester, entry, at, master, Kind::DelayResp, kinds.delay);
 }
 
 /// The kinds whose grants are live.
@@ -90,32 +113,6 @@ pub(crate) fn live(requester: &Requester, at: Moment, master: usize) -> Kinds
         sync: requester.live(at, master, Kind::Sync),
         delay: requester.live(at, master, Kind::DelayResp),
     }
-}
-
-// Enters that one kind is cancelled, where it is.
-fn end(requester: &mut Requester, at: Moment, master: usize, kind: Kind, is_sent: bool)
-    requires { master < length requester.old.masters }
-    ensures ended { (L : Record) → StandsFor requester.old L →
-        StandsFor requester.new (L ++ cond is_sent (Cancelled at master kind ∷ []) []) }
-    ensures wants { requester.new.wants ≡ requester.old.wants }
-    ensures masters { length requester.new.masters ≡ length requester.old.masters }
-{
-    if is_sent {
-        requester.cancelled(at, master, kind);
-    }
-}
-
-/// Enters that each of the kinds is cancelled.
-pub(crate) fn end_each(requester: &mut Requester, at: Moment, master: usize, kinds: Kinds)
-    requires { master < length requester.old.masters }
-    ensures ended { (L : Record) → StandsFor requester.old L →
-        StandsFor requester.new (L ++ map (Cancelled at master) (kinds_in kinds)) }
-    ensures wants { requester.new.wants ≡ requester.old.wants }
-    ensures masters { length requester.new.masters ≡ length requester.old.masters }
-{
-    end(requester, at, master, Kind::Announce, kinds.announce);
-    end(requester, at, master, Kind::Sync, kinds.sync);
-    end(requester, at, master, Kind::DelayResp, kinds.delay);
 }
 
 // Enters what a master said by one TLV.

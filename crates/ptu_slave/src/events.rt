@@ -1,6 +1,6 @@
 //! The events of a slave that send nothing but a reply.
 
-ghost use Rattle.std.specs.Prelude.{◌≡◌, ℕ, ◌<◌, max, Bool, List, [], ◌∷◌, map, filter_map, length, Option};
+ghost use Rattle.std.specs.Prelude.{◌≡◌, ℕ, ◌<◌, max, List, map, filter_map, length, Option};
 ghost use Rattle.ptu_record.specs.declared.rule.Rule.{Rule};
 ghost use Rattle.ptu_record.specs.Record.{Record};
 ghost use Rattle.ptu_record.specs.Step.{TakeAnnounce, TakeSync, TakeFollowUp, TakeDelayResp, TakeSignaling, TellFlag, ReplaceJudge};
@@ -9,7 +9,7 @@ ghost use Rattle.ptu_judges.specs.Held.{Held, IsFresh};
 ghost use Rattle.ptu_judges.specs.Calls.{OfOne, Then, WasAsked, WasHeard, WasTold};
 ghost use Rattle.ptu_slave_messages.specs.Heard.{signals_of, said_by};
 ghost use Rattle.ptu_slave.specs.Kept.{IsSame};
-ghost use Rattle.ptu_slave.specs.Standing.{StandsFor, Steps, StepsBy};
+ghost use Rattle.ptu_slave.specs.Standing.{StandsFor, Steps, StepsFound};
 
 use crate::judging::{judge_anew, judge_flag, judge_sync};
 use crate::node::Core;
@@ -93,14 +93,11 @@ pub(crate) fn take_sync(
     ensures at { result ≡ max t core.old.moment }
     ensures same { IsSame core.old core.new }
     ensures judges { length judges.new.items ≡ length judges.old.items }
-    ensures judge { (found : Bool) × OfOne master (Then (WasHeard ⟦<dyn Judge as Conduct>⟧
+    ensures judge { StepsFound (λ found. OfOne master (Then (WasHeard ⟦<dyn Judge as Conduct>⟧
         (max t core.old.moment) seq)
-        (WasAsked ⟦<dyn Judge as Conduct>⟧ (max t core.old.moment) found))
-        judges.old.items judges.new.items
-        × ((openings : List (Option Rule)) (L : Record) →
-        StandsFor openings core.old (map (λ j. held j) judges.old.items) L →
-        StepsBy (found ∷ []) openings core.old core.new (map (λ j. held j) judges.new.items) L t
-        (TakeSync master seq)) }
+        (WasAsked ⟦<dyn Judge as Conduct>⟧ (max t core.old.moment) found)))
+        judges.old.items judges.new.items core.old core.new (map (λ j. held j) judges.old.items)
+        (map (λ j. held j) judges.new.items) t (TakeSync master seq) }
 {
     let at = core.begin(t);
     core.sync(at, master);
@@ -121,14 +118,11 @@ pub(crate) fn tell_flag(
     requires judges { length judges.old.items ≡ length core.old.masters }
     ensures same { IsSame core.old core.new }
     ensures judges { length judges.new.items ≡ length judges.old.items }
-    ensures judge { (found : Bool) × OfOne master (Then (WasTold ⟦<dyn Judge as Conduct>⟧
+    ensures judge { StepsFound (λ found. OfOne master (Then (WasTold ⟦<dyn Judge as Conduct>⟧
         (max t core.old.moment) unusable)
-        (WasAsked ⟦<dyn Judge as Conduct>⟧ (max t core.old.moment) found))
-        judges.old.items judges.new.items
-        × ((openings : List (Option Rule)) (L : Record) →
-        StandsFor openings core.old (map (λ j. held j) judges.old.items) L →
-        StepsBy (found ∷ []) openings core.old core.new (map (λ j. held j) judges.new.items) L t
-        (TellFlag master unusable)) }
+        (WasAsked ⟦<dyn Judge as Conduct>⟧ (max t core.old.moment) found)))
+        judges.old.items judges.new.items core.old core.new (map (λ j. held j) judges.old.items)
+        (map (λ j. held j) judges.new.items) t (TellFlag master unusable) }
 {
     let at = core.begin(t);
     let found = judge_flag(judges, at, master, unusable);
@@ -148,13 +142,10 @@ pub(crate) fn replace_judge(
     requires fresh { IsFresh (held judge) }
     ensures same { IsSame core.old core.new }
     ensures judges { length judges.new.items ≡ length judges.old.items }
-    ensures judge { (found : Bool) × OfOne master (λ old new.
-        WasAsked ⟦<dyn Judge as Conduct>⟧ (max t core.old.moment) found judge new)
-        judges.old.items judges.new.items
-        × ((openings : List (Option Rule)) (L : Record) →
-        StandsFor openings core.old (map (λ j. held j) judges.old.items) L →
-        StepsBy (found ∷ []) openings core.old core.new (map (λ j. held j) judges.new.items) L t
-        (ReplaceJudge master (held judge).rule)) }
+    ensures judge { StepsFound (λ found. OfOne master (λ old new.
+        WasAsked ⟦<dyn Judge as Conduct>⟧ (max t core.old.moment) found judge new))
+        judges.old.items judges.new.items core.old core.new (map (λ j. held j) judges.old.items)
+        (map (λ j. held j) judges.new.items) t (ReplaceJudge master (held judge).rule) }
 {
     let at = core.begin(t);
     let unusable = judge_anew(judges, at, master, judge);

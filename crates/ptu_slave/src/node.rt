@@ -13,7 +13,7 @@ ghost use Rattle.ptu_slave.specs.Kept.{CountFor, Kept};
 ghost use Rattle.ptu_slave.specs.Parts.{cancels_by, signal_entry};
 ghost use Rattle.ptu_slave.specs.Standing.{Asks, Selects};
 
-use crate::asking::{ask_each, end_each, enter_each, is_probe_due, live};
+use crate::asking::{KindEntry, enter_each, enter_kinds, is_probe_due, live};
 use crate::counters::Counters;
 use ptu_profile::{Master, SlaveConfig};
 use ptu_requester::{Due, Requester};
@@ -272,7 +272,7 @@ impl Core {
         let is_probed = is_probe_due(&self.requester, &self.config.wants, counters, at, master);
         let number = counters.signal(at, kinds.any());
         let delay_req = counters.probe(at, is_probed);
-        ask_each(&mut self.requester, at, master, kinds);
+        enter_kinds(&mut self.requester, KindEntry::Asked, at, master, kinds);
         TickPlan {
             kinds,
             number,
@@ -296,7 +296,7 @@ impl Core {
     {
         let kinds = live(&self.requester, at, master);
         let number = self.counters[master].signal(at, kinds.any());
-        end_each(&mut self.requester, at, master, kinds);
+        enter_kinds(&mut self.requester, KindEntry::Cancelled, at, master, kinds);
         StopPlan { kinds, number }
     }
 }

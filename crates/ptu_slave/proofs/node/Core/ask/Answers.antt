@@ -39,4 +39,4 @@ returns-clause-asks c =
     (asks_planned _ _ c.args.at c.args.master c.index_mut-counters.result.now c.probe-delay_req.new.self L (kinds_in c.kinds_due-kinds.result) c.is_probe_due-is_probed.result
     c.signal-number.new.self inside c.index_mut-counters.ensures.value refl
     (λ own n k. subst (λ b. CountFor c.signal-number.new.self (own ++ cond b (Signalled c.args.at n ∷ []) [])) c.any.ensures (c.signal-number.ensures.counted own n k))
-    c.probe-delay_req.ensures.counted c.ask_each.ensures.asked h))
+    c.probe-delay_req.ensures.counted c.enter_kinds.ensures.entered h))

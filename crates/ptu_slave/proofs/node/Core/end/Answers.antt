@@ -29,7 +29,7 @@ returns-clause-asks c =
     h.counters.of_master c.args.master c.index_mut.result.now
     (slice_get_read c.self.inside.counters.items (length c.self.inside.counters.items) c.args.master c.index_mut.result.now refl inside c.index_mut.ensures.value) in
     record {
-      requester = subst (λ ks. StandsFor c.end_each.new.requester (told ++ map (Cancelled c.args.at c.args.master) ks)) (c.live-kinds.ensures told h.requester) (c.end_each.ensures.ended told h.requester);
+      requester = subst (λ ks. StandsFor c.enter_kinds.new.requester (told ++ map (Cancelled c.args.at c.args.master) ks)) (c.live-kinds.ensures told h.requester) (c.enter_kinds.ensures.entered told h.requester);
       counters = rw (cancel_entries c.args.at c.args.master c.signal-number.result (kinds_in c.live-kinds.result))
           (each_own (λ m. CountFor) c.self.inside.counters.items L (cond (are_some (kinds_in c.live-kinds.result)) (Signalled c.args.at c.args.master ∷ []) []) c.args.master c.signal-number.new.self inside
           (own_signalled c.args.at c.args.master (are_some (kinds_in c.live-kinds.result)))
