@@ -4,12 +4,15 @@ use Rattle.std.proofs.lemmas.List.{map-append}
 use Rattle.ptu_outside.specs.declared.arrival.Arrival.{Arrival}
 use Rattle.ptu_outside.specs.Faults.{HasNotFallen, HasRisen}
 use Rattle.ptu_outside.specs.Telling.{IfTold, IsEmptyTold, IsFirstTold, rest_told}
+use Rattle.ptu_outside.specs.Departure.{Departure}
+use Rattle.ptu_outside.proofs.Telling.{IfTold-refl}
 use Rattle.ptu_record.specs.Record.{Record}
 use Rattle.ptu_slave_messages.specs.Node.{Node}
+use Rattle.ptu_slave.specs.Seen.{Seen}
 use Rattle.ptu_slave_daemon.specs.declared.counts.Counts.{Counts}
 use Rattle.ptu_slave_daemon.specs.Happenings.{arrive, record_after}
-use Rattle.ptu_slave_daemon.specs.Running.{CameFrom, Counted, HasFailed, IsAt, Ran, RoundTook, Took, TookOne, View}
-use Rattle.ptu_slave_daemon.proofs.Ports.{still_after, still_before}
+use Rattle.ptu_slave_daemon.specs.Running.{CameFrom, Counted, HasFailed, IsAt, Ran, RoundTook, Took, TookEvent, TookGeneral, TookOne, View}
+use Rattle.ptu_slave_daemon.proofs.Ports.{failed_append, failed_none, still_after, still_before}
 use Rattle.ptu_slave_daemon.proofs.Runs.{ran_append, ran_still}
 
 -- ---- counts
@@ -59,21 +62,18 @@ empty_later (Some list) (Some left) same none = let is : list ≡ left = cc same
 -- ---- one datagram
 
 pub one_came : (before after : Option (List Arrival)) (old new : ℕ) (arrival : Arrival) → IsFirstTold before arrival → IfTold after (rest_told before)
-    → TookOne before after old new true (arrival ∷ [])
+    → TookOne true before after old new (arrival ∷ [])
 one_came before after old new arrival first rest = record { came = came_first before after arrival first rest; many = refl; none = λ no. absurd (cc no) }
 
-pub none_came : (before after : Option (List Arrival)) (old new : ℕ) → IfTold after before → IsEmptyTold before → TookOne before after old new false []
+pub none_came : (before after : Option (List Arrival)) (old new : ℕ) → IfTold after before → IsEmptyTold before → TookOne false before after old new []
 none_came before after old new same none = record { came = came_none before after same; many = refl; none = λ no still. empty_later before after same none }
 
-pub none_received : (before after : Option (List Arrival)) (old new : ℕ) → IfTold after before → HasRisen old new → TookOne before after old new false []
+pub none_received : (before after : Option (List Arrival)) (old new : ℕ) → IfTold after before → HasRisen old new → TookOne false before after old new []
 none_received before after old new same rises = record { came = came_none before after same; many = refl; none = λ no still. absurd (still rises) }
 
 -- how many one more are
 abbrev one_if : Bool → ℕ
 one_if more = cond more 1 0
-
-pub one_length : (before after : Option (List Arrival)) (old new : ℕ) (more : Bool) (xs : List Arrival) → more ≡ true → TookOne before after old new more xs → length xs ≡ 1
-one_length before after old new more xs is one = one.many ∙ ap one_if is
 
 -- ---- several
 
@@ -91,18 +91,96 @@ module _ (node : Node) where
         (ran_append node L old now new (map arrive xs) (map arrive ys) p.0 q.0 [] [] s t f g p.1 q.1),
   )
 
+-- so many of them came
+pub record CameSoFar (n : ℕ) (before after : Option (List Arrival)) (old new : ℕ) (arrivals : List Arrival) : Type 0 where
+  pub came : CameFrom before after arrivals
+  pub many : length arrivals ≡ n
+
+pub so_far_more : (n : ℕ) (before now after : Option (List Arrival)) (old mid new : ℕ) (more : Bool) → more ≡ true → (xs ys : List Arrival)
+    → CameSoFar n before now old mid xs → TookOne more now after mid new ys → HasNotFallen old mid → CameSoFar (n + 1) before after old new (xs ++ ys)
+so_far_more n before now after old mid new more is xs ys came one keeps = record {
+  came = came_append before now after xs ys came.came one.came;
+  many = length-append xs ys ∙ ap₂ (λ m k. m + k) came.many (one.many ∙ ap one_if is);
+}
+
 -- 64 of them
-pub round_full : (before after : Option (List Arrival)) (old new : ℕ) (xs : List Arrival) → CameFrom before after xs → length xs ≡ 64 → RoundTook before after old new xs
-round_full before after old new xs came many = record { came = came; few = omega (arith, many); whole = λ still. inl many }
+pub round_full : (n : ℕ) (before after : Option (List Arrival)) (old new : ℕ) → n ≡ 64 → (xs : List Arrival) → CameSoFar n before after old new xs → RoundTook before after old new xs
+round_full n before after old new full xs came = record { came = came.came; few = omega (arith, full, came.many); whole = λ still. inl (came.many ∙ full) }
 
 -- fewer, and then none was received
-pub round_short : (before now after : Option (List Arrival)) (old mid new : ℕ) (more : Bool) (xs ys : List Arrival) → CameFrom before now xs → length xs < 64 → HasNotFallen old mid
-    → more ≡ false → TookOne now after mid new more ys → RoundTook before after old new (xs ++ ys)
-round_short before now after old mid new more xs ys came few keeps none one = record {
-  came = came_append before now after xs ys came one.came;
-  few = let empty : length ys ≡ 0 = one.many ∙ ap one_if none in omega (arith, few, empty, length-append xs ys);
+pub round_short : (n : ℕ) (before now after : Option (List Arrival)) (old mid new : ℕ) (more : Bool) → n < 64 → more ≡ false → (xs ys : List Arrival)
+    → CameSoFar n before now old mid xs → TookOne more now after mid new ys → HasNotFallen old mid → RoundTook before after old new (xs ++ ys)
+round_short n before now after old mid new more few none xs ys came one keeps = record {
+  came = came_append before now after xs ys came.came one.came;
+  few = let empty : length ys ≡ 0 = one.many ∙ ap one_if none in omega (arith, few, empty, came.many, length-append xs ys);
   whole = λ still. inr (one.none none (still_after old mid new keeps still));
 }
+
+-- how arrivals were taken of a port with these counts of faults
+abbrev Way : Type 1
+Way = (before after : Option (List Arrival)) → (old new : ℕ) → List Arrival → Type 0
+
+module _ {P B C : Type 0} (sent : P → Option (List Departure)) (waiting : P → Option (List Arrival)) (faults : P → ℕ) (moments : C → Option (List ℕ)) where
+  -- none was taken of the slave's port so far
+  pub general_none : (slave : Seen P B) (clock : C) (counts : Counts) → TookGeneral sent waiting faults moments slave slave clock clock (CameSoFar 0) counts counts
+  general_none slave clock counts = λ node L h. (
+    [],
+    0,
+    0,
+    counted_none counts,
+    record { came = came_none _ _ (IfTold-refl (waiting slave.port)); many = refl },
+    took_none node L _ _ 0 h refl refl refl refl (failed_none _ _ refl),
+  )
+
+  -- and none of the event channel's
+  pub event_none : (slave : Seen P B) (clock : C) (event : P) (counts : Counts)
+      → TookEvent sent waiting faults moments slave slave clock clock event event (CameSoFar 0) counts counts
+  event_none slave clock event counts = λ node L h. (
+    [],
+    0,
+    0,
+    0,
+    counted_none counts,
+    failed_none _ _ refl,
+    record { came = came_none _ _ (IfTold-refl (waiting event)); many = refl },
+    took_none node L _ _ 0 h refl refl refl refl (failed_none _ _ refl),
+  )
+
+  module _ (First Next Both : Way) (old now new : Seen P B) (clock mid clock' : C) (a b c : Counts) where
+    -- some were taken of it, and then more
+    pub general_more : ((xs ys : List Arrival) → First (waiting old.port) (waiting now.port) (faults old.port) (faults now.port) xs
+        → Next (waiting now.port) (waiting new.port) (faults now.port) (faults new.port) ys → HasNotFallen (faults old.port) (faults now.port)
+        → Both (waiting old.port) (waiting new.port) (faults old.port) (faults new.port) (xs ++ ys))
+        → TookGeneral sent waiting faults moments old now clock mid First a b → TookGeneral sent waiting faults moments now new mid clock' Next b c
+        → TookGeneral sent waiting faults moments old new clock clock' Both a c
+    general_more both first next = λ node L h.
+        let p = first node L h in
+        let q = next node (record_after node L p.5.0) p.5.1.stands in (
+          p.0 ++ q.0,
+          p.1 + q.1,
+          p.2 + q.2,
+          counted_append a b c p.1 q.1 p.2 q.2 p.3 q.3,
+          both p.0 q.0 p.4 q.4 p.5.1.port.no_fall,
+          took_append node L _ _ _ p.0 q.0 p.1 q.1 p.2 q.2 p.5 q.5,
+        )
+
+    pub event_more : (event between event' : P) → ((xs ys : List Arrival) → First (waiting event) (waiting between) (faults event) (faults between) xs
+        → Next (waiting between) (waiting event') (faults between) (faults event') ys → HasNotFallen (faults event) (faults between)
+        → Both (waiting event) (waiting event') (faults event) (faults event') (xs ++ ys))
+        → TookEvent sent waiting faults moments old now clock mid event between First a b → TookEvent sent waiting faults moments now new mid clock' between event' Next b c
+        → TookEvent sent waiting faults moments old new clock clock' event event' Both a c
+    event_more event between event' both first next = λ node L h.
+        let p = first node L h in
+        let q = next node (record_after node L p.7.0) p.7.1.stands in (
+          p.0 ++ q.0,
+          p.1 + q.1,
+          p.2 + q.2,
+          p.3 + q.3,
+          counted_both a b c p.1 q.1 p.2 q.2 p.3 q.3 p.4 q.4,
+          failed_append _ _ _ p.3 q.3 p.5 q.5,
+          both p.0 q.0 p.6 q.6 p.5.no_fall,
+          took_append node L _ _ _ p.0 q.0 p.1 q.1 p.2 q.2 p.7 q.7,
+        )
 
 -- while other things happen
 pub round_later : (before after later : Option (List Arrival)) (old mid new : ℕ) (xs : List Arrival) → RoundTook before after old mid xs → later ≡ after → HasNotFallen mid new

@@ -1,5 +1,5 @@
 -- What a run comes to over the ports and clocks that were opened.
-use Rattle.std.proofs.Common.{◌≡◌, ◌∙◌, inl, ℕ, ◌+◌, List, [], map, refl, sym, ap, subst, arith, add-zero, Option, None}
+use Rattle.std.proofs.Common.{◌≡◌, ◌∙◌, inl, ℕ, ◌+◌, List, [], ◌∷◌, map, refl, sym, ap, subst, arith, add-zero, Option, None}
 use Rattle.std.proofs.lemmas.List.{map-append}
 use Rattle.std.specs.Prelude.{IsSome}
 use Rattle.ptu_outside.specs.declared.arrival.Arrival.{Arrival}
@@ -27,45 +27,55 @@ risen_none n = inl (omega arith)
 zero_more : (n : ℕ) → n ≡ 0 + n
 zero_more n = omega arith
 
+-- nor have several more, of which the first stands still
+still_first : (n old new : ℕ) (olds news : List ℕ) → new ≡ old → HaveRisenBy n olds news → HaveRisenBy n (old ∷ olds) (new ∷ news)
+still_first n old new olds news same others = (0, n, zero_more n, subst (HasRisenBy 0 old) (sym same) (risen_none old), others)
+
+-- or the first four
+four_still : (n a b c d a' b' c' d' : ℕ) (olds news : List ℕ) → a' ≡ a → b' ≡ b → c' ≡ c → d' ≡ d → HaveRisenBy n olds news
+    → HaveRisenBy n (a ∷ b ∷ c ∷ d ∷ olds) (a' ∷ b' ∷ c' ∷ d' ∷ news)
+four_still n a b c d a' b' c' d' olds news p q r s others =
+    still_first n a a' (b ∷ c ∷ d ∷ olds) (b' ∷ c' ∷ d' ∷ news) p
+    (still_first n b b' (c ∷ d ∷ olds) (c' ∷ d' ∷ news) q (still_first n c c' (d ∷ olds) (d' ∷ news) r (still_first n d d' olds news s others)))
+
+-- what is given back: the slave's port, the port of the event channel and the clock, and what was opened beside them
+abbrev pub given_back : {P C : Type 0} → Opened P C → P → P → C → Opened P C
+given_back opened own event clock = record {
+  p0 = opened.p0;
+  p1 = opened.p1;
+  p2 = opened.p2;
+  p3 = opened.p3;
+  p4 = own;
+  p5 = event;
+  c0 = clock;
+  c1 = opened.c1;
+  c2 = opened.c2;
+  c3 = opened.c3;
+  c4 = opened.c4;
+  c5 = opened.c5;
+}
+
+pub aside_of : {P C : Type 0} (sent : P → Option (List Departure)) (opened : Opened P C) (own event : P) (clock : C) → sent event ≡ sent opened.p5
+    → AreAside sent opened (given_back opened own event clock)
+aside_of sent opened own event clock same = record { p0 = refl; p1 = refl; p2 = refl; p3 = refl; p5 = same; c1 = refl; c2 = refl; c3 = refl; c4 = refl; c5 = refl }
+
 module _ {P C K : Type 0} (sent : P → Option (List Departure)) (waiting : P → Option (List Arrival)) (faults : P → ℕ)
     (moments : C → Option (List ℕ)) (written : K → Option (List ℕ)) (handed : K → Option (List (List ℕ))) where
   module _ (settings : SlaveSettings) (before after : Opened P C) (old new : K) (kept kept' : Kept) (judges judges' : List Held)
       (selections : List Selection) (sends failures : ℕ) (aside : AreAside sent before after)
       (put : HasPut written handed old new (texts_of (output settings.rounds (changes None selections) sends failures)))
-      (r : RunDone settings.rounds (node_of settings) [] (view_of sent faults moments kept judges before.p4 before.c0) (view_of sent faults moments kept' judges' after.p4 after.c0)
-      (waiting before.p4) (waiting after.p4) (waiting before.p5) (waiting after.p5) (faults before.p5) (faults after.p5) selections sends failures) where
+      (r : RunDone settings.rounds selections sends failures (node_of settings) [] (view_of sent faults moments kept judges before.p4 before.c0) (view_of sent faults moments kept' judges' after.p4 after.c0)
+      (waiting before.p4) (waiting after.p4) (waiting before.p5) (waiting after.p5) (faults before.p5) (faults after.p5)) where
     have_failed : HaveRisenBy failures (map faults (ports_of before)) (map faults (ports_of after))
-    have_failed = (
-      0,
-      failures,
-      zero_more failures,
-      subst (λ p. HasRisenBy 0 (faults before.p0) (faults p)) (sym aside.p0) (risen_none (faults before.p0)),
-      (
-        0,
-        failures,
-        zero_more failures,
-        subst (λ p. HasRisenBy 0 (faults before.p1) (faults p)) (sym aside.p1) (risen_none (faults before.p1)),
-        (
-          0,
-          failures,
-          zero_more failures,
-          subst (λ p. HasRisenBy 0 (faults before.p2) (faults p)) (sym aside.p2) (risen_none (faults before.p2)),
-          (
-            0,
-            failures,
-            zero_more failures,
-            subst (λ p. HasRisenBy 0 (faults before.p3) (faults p)) (sym aside.p3) (risen_none (faults before.p3)),
-            (
-              r.failed,
-              r.event_failed,
-              r.failures_are,
-              r.ran.port.risen,
-              (r.event_failed, 0, sym (add-zero r.event_failed), r.event_fails.risen, refl),
-            ),
-          ),
-        ),
-      ),
-    )
+    have_failed =
+        four_still failures _ _ _ _ _ _ _ _ (faults before.p4 ∷ faults before.p5 ∷ []) (faults after.p4 ∷ faults after.p5 ∷ [])
+        (ap faults aside.p0) (ap faults aside.p1) (ap faults aside.p2) (ap faults aside.p3) (
+          r.failed,
+          r.event_failed,
+          r.failures_are,
+          r.ran.port.risen,
+          (r.event_failed, 0, sym (add-zero r.event_failed), r.event_fails.risen, refl),
+        )
 
     done_as_said : (general event : List Arrival) (times : List ℕ) → Tell waiting moments before after general event times
         → HaveNotRisen (map faults (ports_of before)) (map faults (ports_of after))
@@ -97,21 +107,21 @@ module _ {P C K : Type 0} (sent : P → Option (List Departure)) (waiting : P �
   pub has_served_by : (settings : SlaveSettings) (before after : Opened P C) (old new : K) (kept kept' : Kept) (judges judges' : List Held) (p q : P)
       (selections : List Selection) (sends failures : ℕ) → AreAside sent before after → p ≡ before.p4 → after.p4 ≡ q
       → HasPut written handed old new (texts_of (output settings.rounds (changes None selections) sends failures))
-      → RunDone settings.rounds (node_of settings) [] (view_of sent faults moments kept judges p before.c0) (view_of sent faults moments kept' judges' q after.c0)
-      (waiting p) (waiting q) (waiting before.p5) (waiting after.p5) (faults before.p5) (faults after.p5) selections sends failures
+      → RunDone settings.rounds selections sends failures (node_of settings) [] (view_of sent faults moments kept judges p before.c0) (view_of sent faults moments kept' judges' q after.c0)
+      (waiting p) (waiting q) (waiting before.p5) (waiting after.p5) (faults before.p5) (faults after.p5)
       → HasServed sent waiting faults moments written handed settings before after old new
   has_served_by settings before after old new kept kept' judges judges' p q selections sends failures aside own back put r =
       has_served settings before after old new kept kept' judges judges' selections sends failures aside put
-      (subst (λ x. RunDone settings.rounds (node_of settings) [] (view_of sent faults moments kept judges before.p4 before.c0) (view_of sent faults moments kept' judges' x after.c0)
-      (waiting before.p4) (waiting x) (waiting before.p5) (waiting after.p5) (faults before.p5) (faults after.p5) selections sends failures) (sym back)
-      (subst (λ x. RunDone settings.rounds (node_of settings) [] (view_of sent faults moments kept judges x before.c0) (view_of sent faults moments kept' judges' q after.c0)
-      (waiting x) (waiting q) (waiting before.p5) (waiting after.p5) (faults before.p5) (faults after.p5) selections sends failures) own r))
+      (subst (λ x. RunDone settings.rounds selections sends failures (node_of settings) [] (view_of sent faults moments kept judges before.p4 before.c0) (view_of sent faults moments kept' judges' x after.c0)
+      (waiting before.p4) (waiting x) (waiting before.p5) (waiting after.p5) (faults before.p5) (faults after.p5)) (sym back)
+      (subst (λ x. RunDone settings.rounds selections sends failures (node_of settings) [] (view_of sent faults moments kept judges x before.c0) (view_of sent faults moments kept' judges' q after.c0)
+      (waiting x) (waiting q) (waiting before.p5) (waiting after.p5) (faults before.p5) (faults after.p5)) own r))
 
   -- the sink failed
   pub has_stopped : (settings : SlaveSettings) (before after : Opened P C) (old new : K) (kept kept' : Kept) (judges judges' : List Held) (p q : P) (lines : List SlaveLine)
       → AreAside sent before after → p ≡ before.p4 → after.p4 ≡ q → HasPutPart written handed old new (texts_of lines)
-      → IsFront settings.rounds (node_of settings) [] (view_of sent faults moments kept judges p before.c0) (view_of sent faults moments kept' judges' q after.c0)
-      (waiting p) (waiting q) (waiting before.p5) (waiting after.p5) (faults before.p5) (faults after.p5) lines
+      → IsFront settings.rounds lines (node_of settings) [] (view_of sent faults moments kept judges p before.c0) (view_of sent faults moments kept' judges' q after.c0)
+      (waiting p) (waiting q) (waiting before.p5) (waiting after.p5) (faults before.p5) (faults after.p5)
       → HasStopped sent waiting faults moments written handed settings before after old new
   has_stopped settings before after old new kept kept' judges judges' p q lines aside own back part front = record {
     aside = aside;

@@ -48,7 +48,7 @@ rounds_are n general general' event event' faults faults' event_faults event_fau
 
 module _ (node : Node) (L : Record) (old new : View) (general general' event event' : Option (List Arrival)) (event_faults event_faults' : ℕ) where
   pub run_is : (rounds : ℕ) (selections : List Selection) (sends failures : ℕ) (all event_all : List Arrival) (times : List ℕ)
-      → (r : RunDone rounds node L old new general general' event event' event_faults event_faults' selections sends failures)
+      → (r : RunDone rounds selections sends failures node L old new general general' event event' event_faults event_faults')
       → general ≡ Some all → event ≡ Some event_all → old.times ≡ Some times → IsSome general' → IsSome event' → IsSome new.times
       → ¬ HasRisen old.faults new.faults → ¬ HasRisen event_faults event_faults' → r.hs ≡ happenings rounds all event_all times
   run_is rounds selections sends failures all event_all times r is event_is times_are told event_told times_told still event_still =
@@ -57,7 +57,7 @@ module _ (node : Node) (L : Record) (old new : View) (general general' event eve
       (rounds_are rounds general general' event event' old.faults new.faults event_faults event_faults' r.acts all event_all r.as_said still event_still is event_is told event_told)
 
   -- where no port failed
-  pub run_output : (rounds : ℕ) (selections : List Selection) (sends failures : ℕ) (r : RunDone rounds node L old new general general' event event' event_faults event_faults' selections sends failures)
+  pub run_output : (rounds : ℕ) (selections : List Selection) (sends failures : ℕ) (r : RunDone rounds selections sends failures node L old new general general' event event' event_faults event_faults')
       → ¬ HasRisen old.faults new.faults → ¬ HasRisen event_faults event_faults' → output rounds (changes None selections) sends failures ≡ output_from rounds node L r.hs
   run_output rounds selections sends failures r still event_still =
       ap (λ ss. output rounds (changes None ss) sends failures) (sym r.ran.selects)
@@ -70,8 +70,8 @@ module _ (node : Node) (L : Record) (old new : View) (general general' event eve
           omega (arith, a, b, r.failures_are)
 
   -- the sink failed in the closing line
-  pub front_run : (rounds : ℕ) (selections : List Selection) (sends failures : ℕ) → RunDone rounds node L old new general general' event event' event_faults event_faults' selections sends failures
-      → IsFront rounds node L old new general general' event event' event_faults event_faults' (output rounds (changes None selections) sends failures)
+  pub front_run : (rounds : ℕ) (selections : List Selection) (sends failures : ℕ) → RunDone rounds selections sends failures node L old new general general' event event' event_faults event_faults'
+      → IsFront rounds (output rounds (changes None selections) sends failures) node L old new general general' event event' event_faults event_faults'
   front_run rounds selections sends failures r = λ all event_all times is event_is times_are told event_told times_told still event_still. (
     [],
     sym (ap (output_from rounds node L) (run_is rounds selections sends failures all event_all times r is event_is times_are told event_told times_told still event_still))
@@ -80,8 +80,8 @@ module _ (node : Node) (L : Record) (old new : View) (general general' event eve
 
   -- or in the line of a round
   pub front_rounds : (n rounds : ℕ) (selections : List Selection) (sends failures : ℕ) → n ≤ rounds
-      → RoundsDone n node L old new general general' event event' event_faults event_faults' selections sends failures
-      → IsFront rounds node L old new general general' event event' event_faults event_faults' (map selected_line (changes None selections))
+      → RoundsDone n selections sends failures node L old new general general' event event' event_faults event_faults'
+      → IsFront rounds (map selected_line (changes None selections)) node L old new general general' event event' event_faults event_faults'
   front_rounds n rounds selections sends failures le r = λ all event_all times is event_is times_are told event_told times_told still event_still.
       let round = round_of all event_all in
       let acts = rounds_are n general general' event event' old.faults new.faults event_faults event_faults' r.acts all event_all r.as_said still event_still is event_is told event_told in

@@ -103,7 +103,7 @@ module _ (general event : Option (List Arrival)) where
 -- ---- with what the slave did
 
 module _ (node : Node) (L : Record) (old : View) (general event : Option (List Arrival)) (event_faults : ℕ) where
-  pub done_none : (sent failures : ℕ) → sent ≡ 0 → failures ≡ 0 → IsAt node old.kept old.judges L → RoundsDone 0 node L old old general general event event event_faults event_faults [] sent failures
+  pub done_none : (sent failures : ℕ) → sent ≡ 0 → failures ≡ 0 → IsAt node old.kept old.judges L → RoundsDone 0 [] sent failures node L old old general general event event event_faults event_faults
   done_none sent failures none none_failed h = record {
     acts = [];
     hs = [];
@@ -117,11 +117,11 @@ module _ (node : Node) (L : Record) (old : View) (general event : Option (List A
 
   pub done_more : (n : ℕ) (now new : View) (general' general'' event' event'' : Option (List Arrival)) (event_faults' event_faults'' : ℕ) (ss : List Selection) (s : Selection)
       (before after : Counts) (xs ys : List Arrival) (hs : List Happening) (sent failed event_failed : ℕ)
-      → (p : RoundsDone n node L old now general general' event event' event_faults event_faults' ss before.sent before.failed)
+      → (p : RoundsDone n ss before.sent before.failed node L old now general general' event event' event_faults event_faults')
       → Counted sent (failed + event_failed) before after → HasFailed event_faults' event_faults'' event_failed
       → RoundTook general' general'' now.faults new.faults xs → RoundTook event' event'' event_faults' event_faults'' ys
       → Ran node (record_after node L p.hs) now new (map arrive (xs ++ ys) ++ Ticks (n + 1) ∷ []) hs (s ∷ []) sent failed
-      → RoundsDone (n + 1) node L old new general general'' event event'' event_faults event_faults'' (ss ++ s ∷ []) after.sent after.failed
+      → RoundsDone (n + 1) (ss ++ s ∷ []) after.sent after.failed node L old new general general'' event event'' event_faults event_faults''
   done_more n now new general' general'' event' event'' event_faults' event_faults'' ss s before after xs ys hs sent failed event_failed p counted fails took event_took ran = record {
     acts = p.acts ++ (map arrive (xs ++ ys) ++ Ticks (n + 1) ∷ []);
     hs = p.hs ++ hs;
@@ -138,10 +138,10 @@ module _ (node : Node) (L : Record) (old : View) (general event : Option (List A
   -- and the stop
   pub done_run : (n : ℕ) (now new : View) (general' general'' event' : Option (List Arrival)) (event_faults' : ℕ) (ss : List Selection)
       (before after : Counts) (hs : List Happening) (sent failed : ℕ)
-      → (p : RoundsDone n node L old now general general' event event' event_faults event_faults' ss before.sent before.failed)
+      → (p : RoundsDone n ss before.sent before.failed node L old now general general' event event' event_faults event_faults')
       → Counted sent failed before after → general'' ≡ general'
       → Ran node (record_after node L p.hs) now new (Stops ∷ []) hs [] sent failed
-      → RunDone n node L old new general general'' event event' event_faults event_faults' ss after.sent after.failed
+      → RunDone n ss after.sent after.failed node L old new general general'' event event' event_faults event_faults'
   done_run n now new general' general'' event' event_faults' ss before after hs sent failed p counted same ran = record {
     acts = p.acts;
     hs = p.hs ++ hs;

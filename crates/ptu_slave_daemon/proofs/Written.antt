@@ -1,7 +1,10 @@
 -- The selections that are written, one after the other.
-use Rattle.std.proofs.Common.{◌≡◌, ◌∙◌, ℕ, ◌++◌, Bool, true, false, cond, List, [], ◌∷◌, map, refl, ap, arith, Option, Some, None}
+use Rattle.std.proofs.Common.{◌≡◌, ◌∙◌, ℕ, ◌++◌, Bool, true, false, cond, List, [], ◌∷◌, map, refl, sym, subst, ap, arith, Option, Some, None}
 use Rattle.std.proofs.lemmas.List.{map-append}
 use Rattle.std.specs.Prelude.{◌==◌}
+use Rattle.ptu_outside.specs.Handing.{HasPut, HasPutPart}
+use Rattle.ptu_outside.proofs.Putting.{HasPut-append, HasPut-part}
+use Rattle.ptu_slave_daemon.specs.declared.line.SlaveLine.{SlaveLine}
 use Rattle.ptu_slave_daemon.specs.Happenings.{Selection}
 use Rattle.ptu_slave_daemon.specs.Lines.{changes, is_said, is_same, line_text, said_next, selected_line, texts_of}
 
@@ -59,3 +62,31 @@ texts-push said ss s =
     ap (λ l. texts_of (map selected_line l)) (changes-push said ss s)
     ∙ ap texts_of (map-append selected_line (changes said ss) (said_next (said_after said ss) s))
     ∙ map-append line_text (map selected_line (changes said ss)) (map selected_line (said_next (said_after said ss) s))
+
+-- ---- written behind what was written
+
+module _ {K : Type 0} (written : K → Option (List ℕ)) (handed : K → Option (List (List ℕ))) (old mid new : K) where
+  -- one line more
+  pub put_behind : (lines : List SlaveLine) (line : SlaveLine) → HasPut written handed old mid (texts_of lines) → HasPut written handed mid new (texts_of (line ∷ []))
+      → HasPut written handed old new (texts_of (lines ++ line ∷ []))
+  put_behind lines line p q = subst (HasPut written handed old new) (sym (map-append line_text lines (line ∷ [])))
+      (HasPut-append written handed old mid new (texts_of lines) (texts_of (line ∷ [])) p q)
+
+  -- or a part of it
+  pub part_behind : (lines : List SlaveLine) (line : SlaveLine) → HasPut written handed old mid (texts_of lines) → HasPutPart written handed mid new (texts_of (line ∷ []))
+      → HasPutPart written handed old new (texts_of (lines ++ line ∷ []))
+  part_behind lines line p q = subst (HasPutPart written handed old new) (sym (map-append line_text lines (line ∷ [])))
+      (HasPut-part written handed old mid new (texts_of lines) (texts_of (line ∷ [])) p q)
+
+  -- the line of one selection more
+  pub selection_behind : (said : Option (Option ℕ)) (ss : List Selection) (s : Selection) → said ≡ said_after None ss → HasPut written handed old mid (texts_of (map selected_line (changes None ss)))
+      → HasPut written handed mid new (texts_of (map selected_line (said_next said s))) → HasPut written handed old new (texts_of (map selected_line (changes None (ss ++ s ∷ []))))
+  selection_behind said ss s is p q = subst (HasPut written handed old new) (sym (texts-push None ss s))
+      (HasPut-append written handed old mid new (texts_of (map selected_line (changes None ss))) (texts_of (map selected_line (said_next (said_after None ss) s))) p
+      (subst (λ last. HasPut written handed mid new (texts_of (map selected_line (said_next last s)))) is q))
+
+  pub part_of_selection : (said : Option (Option ℕ)) (ss : List Selection) (s : Selection) → said ≡ said_after None ss → HasPut written handed old mid (texts_of (map selected_line (changes None ss)))
+      → HasPutPart written handed mid new (texts_of (map selected_line (said_next said s))) → HasPutPart written handed old new (texts_of (map selected_line (changes None (ss ++ s ∷ []))))
+  part_of_selection said ss s is p q = subst (HasPutPart written handed old new) (sym (texts-push None ss s))
+      (HasPut-part written handed old mid new (texts_of (map selected_line (changes None ss))) (texts_of (map selected_line (said_next (said_after None ss) s))) p
+      (subst (λ last. HasPutPart written handed mid new (texts_of (map selected_line (said_next last s)))) is q))

@@ -7,21 +7,17 @@ use Rattle.ptu_outside.specs.Telling.{IfTold}
 use Rattle.ptu_slave_daemon.specs.declared.halt.Halt.{Halt}
 use Rattle.ptu_slave_daemon.specs.declared.halt.Halt.TheVariants as halts
 use Rattle.ptu_rounds.specs.declared.fault.DaemonFault.{DaemonFault}
-use Rattle.ptu_rounds.specs.declared.fault.DaemonFault.TheVariants.{Open, Write, OutOfMemory}
+use Rattle.ptu_rounds.specs.declared.fault.DaemonFault.TheVariants.{Open, Write}
 
 -- the count of faults of the host rose exactly where it opened nothing
 abbrev pub CountsOpen : {A : Type 0} → Result A DaemonFault → ℕ → ℕ → Type 0
-CountsOpen (Ok x) old new = new ≡ old
 CountsOpen (Err Open) old new = HasRisen old new
-CountsOpen (Err Write) old new = new ≡ old
-CountsOpen (Err OutOfMemory) old new = new ≡ old
+CountsOpen _ old new = new ≡ old
 
 -- the count of faults of the sink rose exactly where the output was not written
 abbrev pub CountsWrite : {A : Type 0} → Result A DaemonFault → ℕ → ℕ → Type 0
-CountsWrite (Ok x) old new = new ≡ old
-CountsWrite (Err Open) old new = new ≡ old
 CountsWrite (Err Write) old new = HasRisen old new
-CountsWrite (Err OutOfMemory) old new = new ≡ old
+CountsWrite _ old new = new ≡ old
 
 -- these were opened, as far as it was told what would be
 abbrev pub WasOpened : {P C : Type 0} → Option (Opened P C) → Opened P C → Type 0
@@ -33,9 +29,8 @@ WasGivenBack told opened = IfTold told (Some opened)
 
 -- the count of faults of the sink rose exactly where the daemon did not come to its end by it
 abbrev pub Halts : {A : Type 0} → Result A Halt → ℕ → ℕ → Type 0
-Halts (Ok x) old new = new ≡ old
 Halts (Err halts.Write) old new = HasRisen old new
-Halts (Err halts.OutOfMemory) old new = new ≡ old
+Halts _ old new = new ≡ old
 
 -- the count of faults of the sink rose exactly where it failed
 abbrev pub FailsWith : {A : Type 0} → Result A Failed → ℕ → ℕ → Type 0

@@ -138,45 +138,71 @@ abbrev pub Stands : {P B : Type 0} → Node → Seen P B → Record → Type 0
 Stands node slave L = IsAt node slave.kept slave.judges L
 
 -- one datagram was taken of a port, or none, and then none waited or a receive failed
-pub record TookOne (before after : Option (List Arrival)) (old new : ℕ) (more : Bool) (arrivals : List Arrival) : Type 0 where
+pub record TookOne (more : Bool) (before after : Option (List Arrival)) (old new : ℕ) (arrivals : List Arrival) : Type 0 where
   pub came : CameFrom before after arrivals
   pub many : length arrivals ≡ cond more 1 0
   pub none : more ≡ false → ¬ HasRisen old new → IsEmptyTold after
 
--- so many rounds were gone through, which began at the record L, and after which this was selected
-pub record RoundsDone (rounds : ℕ) (node : Node) (L : Record) (old new : View)
-    (general general' event event' : Option (List Arrival)) (event_faults event_faults' : ℕ)
-    (selections : List Selection) (sent failures : ℕ) : Type 0 where
+-- what is said of a node's record, of its slave as it was and is seen, of what waited and waits on the general channel and on
+-- the event channel, and of the faults of the latter's port
+abbrev pub Course : Type 1
+Course = Node → Record → (old new : View) → (general general' event event' : Option (List Arrival))
+    → (event_faults event_faults' : ℕ) → Type 0
+
+-- so many rounds were gone through, which began at the record L, and after which this was selected; what happened is what
+-- happened in them, with its end
+pub record WentThrough (ended : List (ℕ → Happening) → List (ℕ → Happening)) (rounds : ℕ) (selections : List Selection)
+    (sent failures : ℕ) (node : Node) (L : Record) (old new : View)
+    (general general' event event' : Option (List Arrival)) (event_faults event_faults' : ℕ) : Type 0 where
   pub acts : List (ℕ → Happening)
   pub hs : List Happening
   pub failed : ℕ
   pub event_failed : ℕ
   pub failures_are : failures ≡ failed + event_failed
-  pub ran : Ran node L old new acts hs selections sent failed
+  pub ran : Ran node L old new (ended acts) hs selections sent failed
   pub event_fails : HasFailed event_faults event_faults' event_failed
   pub as_said : AreRounds rounds general general' event event' old.faults new.faults event_faults event_faults' acts
 
--- so many rounds were gone through and the slave has stopped
-pub record RunDone (rounds : ℕ) (node : Node) (L : Record) (old new : View)
-    (general general' event event' : Option (List Arrival)) (event_faults event_faults' : ℕ)
-    (selections : List Selection) (sent failures : ℕ) : Type 0 where
-  pub acts : List (ℕ → Happening)
-  pub hs : List Happening
-  pub failed : ℕ
-  pub event_failed : ℕ
-  pub failures_are : failures ≡ failed + event_failed
-  pub ran : Ran node L old new (acts ++ Stops ∷ []) hs selections sent failed
-  pub event_fails : HasFailed event_faults event_faults' event_failed
-  pub as_said : AreRounds rounds general general' event event' old.faults new.faults event_faults event_faults' acts
+-- the rounds alone
+abbrev pub RoundsDone : ℕ → List Selection → (sent failures : ℕ) → Course
+RoundsDone = WentThrough (λ acts. acts)
+
+-- and the slave has stopped
+abbrev pub RunDone : ℕ → List Selection → (sent failures : ℕ) → Course
+RunDone = WentThrough (λ acts. acts ++ Stops ∷ [])
 
 -- ---- fronts of the output
 
 -- where no port has failed and all is still told, these lines are a front of the whole output of so many rounds
-abbrev pub IsFront : ℕ → Node → Record → (old new : View) → (general general' event event' : Option (List Arrival))
-    → (event_faults event_faults' : ℕ) → List SlaveLine → Type 0
-IsFront rounds node L old new general general' event event' event_faults event_faults' lines =
+abbrev pub IsFront : ℕ → List SlaveLine → Course
+IsFront rounds lines node L old new general general' event event' event_faults event_faults' =
     (all : List Arrival) (event_all : List Arrival) (times : List ℕ)
     → general ≡ Some all → event ≡ Some event_all → old.times ≡ Some times
     → IsSome general' → IsSome event' → IsSome new.times
     → ¬ HasRisen old.faults new.faults → ¬ HasRisen event_faults event_faults'
     → (rest : List SlaveLine) × (output_from rounds node L (happenings rounds all event_all times) ≡ lines ++ rest)
+
+-- ---- over the ports
+
+module _ {P B C : Type 0} (sent : P → Option (List Departure)) (waiting : P → Option (List Arrival)) (faults : P → ℕ)
+    (moments : C → Option (List ℕ)) (old new : Seen P B) (clock clock' : C) where
+  -- it is so of the slave, of its port, of the port of the event channel and of the clock, whatever node and record it stood for
+  abbrev pub Went : (event event' : P) → Course → Type 0
+  Went event event' course = (node : Node) (L : Record) → Stands node old L
+      → course node L (sees sent faults moments old clock) (sees sent faults moments new clock')
+      (waiting old.port) (waiting new.port) (waiting event) (waiting event') (faults event) (faults event')
+
+  -- arrivals were taken of the slave's own port, in this way
+  abbrev pub TookGeneral : (Option (List Arrival) → Option (List Arrival) → ℕ → ℕ → List Arrival → Type 0) → Counts → Counts → Type 0
+  TookGeneral Way counts counts' = (node : Node) (L : Record) → Stands node old L
+      → (arrivals : List Arrival) × (ok : ℕ) × (failed : ℕ) × Counted ok failed counts counts'
+      × Way (waiting old.port) (waiting new.port) (faults old.port) (faults new.port) arrivals
+      × Took node L (sees sent faults moments old clock) (sees sent faults moments new clock') arrivals ok failed
+
+  -- of the event channel's port
+  abbrev pub TookEvent : (event event' : P) → (Option (List Arrival) → Option (List Arrival) → ℕ → ℕ → List Arrival → Type 0) → Counts → Counts → Type 0
+  TookEvent event event' Way counts counts' = (node : Node) (L : Record) → Stands node old L
+      → (arrivals : List Arrival) × (ok : ℕ) × (failed : ℕ) × (event_failed : ℕ) × Counted ok (failed + event_failed) counts counts'
+      × HasFailed (faults event) (faults event') event_failed
+      × Way (waiting event) (waiting event') (faults event) (faults event') arrivals
+      × Took node L (sees sent faults moments old clock) (sees sent faults moments new clock') arrivals ok failed

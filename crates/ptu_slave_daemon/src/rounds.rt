@@ -9,7 +9,7 @@ ghost use Rattle.ptu_slave_daemon.specs.declared.line.SlaveLine.{SlaveLine};
 ghost use Rattle.ptu_slave_daemon.specs.Answers.{Halts};
 ghost use Rattle.ptu_slave_daemon.specs.Happenings.{Happening, Selection, Ticks, arrive};
 ghost use Rattle.ptu_slave_daemon.specs.Lines.{changes, output, selected_line, texts_of};
-ghost use Rattle.ptu_slave_daemon.specs.Running.{Counted, Grows, HasFailed, IsFew, IsFront, Ran, RoundTook, RoundsDone, RunDone, Stands, sees};
+ghost use Rattle.ptu_slave_daemon.specs.Running.{Counted, Grows, HasFailed, IsFew, IsFront, Ran, RoundTook, RoundsDone, RunDone, Stands, Went, sees};
 ghost use Rattle.ptu_slave.specs.Seen.{HasJudges, seen};
 
 use crate::counts::Counts;
@@ -72,14 +72,9 @@ fn run_rounds<P: Port, C: Clock, K: Sink>(
     ensures done { IfOk result (λ counts. (selections : List Selection)
         × HasPut K.written K.handed sink.old sink.new
         (texts_of (map selected_line (changes None selections)))
-        × ((node : Node) (L : Record) → Stands node (seen ⟦<dyn Judge as Judge>⟧ slave.old) L →
-        RoundsDone rounds node L
-        (sees P.sent P.faults C.moments (seen ⟦<dyn Judge as Judge>⟧ slave.old) clock.old)
-        (sees P.sent P.faults C.moments (seen ⟦<dyn Judge as Judge>⟧ slave.new) clock.new)
-        (P.waiting (seen ⟦<dyn Judge as Judge>⟧ slave.old).port) (P.waiting
-        (seen ⟦<dyn Judge as Judge>⟧ slave.new).port)
-        (P.waiting event.old) (P.waiting event.new) (P.faults event.old) (P.faults event.new)
-        selections counts.sent counts.failed)) }
+        × Went P.sent P.waiting P.faults C.moments (seen ⟦<dyn Judge as Judge>⟧ slave.old)
+        (seen ⟦<dyn Judge as Judge>⟧ slave.new) clock.old clock.new event.old event.new
+        (RoundsDone rounds selections counts.sent counts.failed)) }
     ensures part { OnErr result ((selections : List Selection)
         × HasPutPart K.written K.handed sink.old sink.new
         (texts_of (map selected_line selections))) }
@@ -87,14 +82,9 @@ fn run_rounds<P: Port, C: Clock, K: Sink>(
         × (sends : ℕ) × (failures : ℕ) × (n ≤ rounds)
         × HasPutPart K.written K.handed sink.old sink.new
         (texts_of (map selected_line (changes None selections)))
-        × ((node : Node) (L : Record) → Stands node (seen ⟦<dyn Judge as Judge>⟧ slave.old) L →
-        RoundsDone n node L
-        (sees P.sent P.faults C.moments (seen ⟦<dyn Judge as Judge>⟧ slave.old) clock.old)
-        (sees P.sent P.faults C.moments (seen ⟦<dyn Judge as Judge>⟧ slave.new) clock.new)
-        (P.waiting (seen ⟦<dyn Judge as Judge>⟧ slave.old).port) (P.waiting
-        (seen ⟦<dyn Judge as Judge>⟧ slave.new).port)
-        (P.waiting event.old) (P.waiting event.new) (P.faults event.old) (P.faults event.new)
-        selections sends failures) }
+        × Went P.sent P.waiting P.faults C.moments (seen ⟦<dyn Judge as Judge>⟧ slave.old)
+        (seen ⟦<dyn Judge as Judge>⟧ slave.new) clock.old clock.new event.old event.new
+        (RoundsDone n selections sends failures) }
     ensures counts { Halts result (K.faults sink.old) (K.faults sink.new) }
 {
     let mut counts = Counts::new();
@@ -126,27 +116,17 @@ pub(crate) fn run<P: Port, C: Clock, K: Sink>(
     ensures done { OnOk result ((selections : List Selection) × (sends : ℕ) × (failures : ℕ)
         × HasPut K.written K.handed sink.old sink.new
         (texts_of (output rounds (changes None selections) sends failures))
-        × ((node : Node) (L : Record) → Stands node (seen ⟦<dyn Judge as Judge>⟧ slave.old) L →
-        RunDone rounds node L
-        (sees P.sent P.faults C.moments (seen ⟦<dyn Judge as Judge>⟧ slave.old) clock.old)
-        (sees P.sent P.faults C.moments (seen ⟦<dyn Judge as Judge>⟧ slave.new) clock.new)
-        (P.waiting (seen ⟦<dyn Judge as Judge>⟧ slave.old).port) (P.waiting
-        (seen ⟦<dyn Judge as Judge>⟧ slave.new).port)
-        (P.waiting event.old) (P.waiting event.new) (P.faults event.old) (P.faults event.new)
-        selections sends failures)) }
+        × Went P.sent P.waiting P.faults C.moments (seen ⟦<dyn Judge as Judge>⟧ slave.old)
+        (seen ⟦<dyn Judge as Judge>⟧ slave.new) clock.old clock.new event.old event.new
+        (RunDone rounds selections sends failures)) }
     ensures part { OnErr result ((selections : List Selection) × (sends : ℕ) × (failures : ℕ)
         × HasPutPart K.written K.handed sink.old sink.new
         (texts_of (output rounds selections sends failures))) }
     ensures stopped { IsErrOf result Halt.Write → (lines : List SlaveLine)
         × HasPutPart K.written K.handed sink.old sink.new (texts_of lines)
-        × ((node : Node) (L : Record) → Stands node (seen ⟦<dyn Judge as Judge>⟧ slave.old) L →
-        IsFront rounds node L
-        (sees P.sent P.faults C.moments (seen ⟦<dyn Judge as Judge>⟧ slave.old) clock.old)
-        (sees P.sent P.faults C.moments (seen ⟦<dyn Judge as Judge>⟧ slave.new) clock.new)
-        (P.waiting (seen ⟦<dyn Judge as Judge>⟧ slave.old).port) (P.waiting
-        (seen ⟦<dyn Judge as Judge>⟧ slave.new).port)
-        (P.waiting event.old) (P.waiting event.new) (P.faults event.old) (P.faults event.new)
-        lines) }
+        × Went P.sent P.waiting P.faults C.moments (seen ⟦<dyn Judge as Judge>⟧ slave.old)
+        (seen ⟦<dyn Judge as Judge>⟧ slave.new) clock.old clock.new event.old event.new
+        (IsFront rounds lines) }
     ensures counts { Halts result (K.faults sink.old) (K.faults sink.new) }
 {
     let mut counts = run_rounds(alloc, rounds, slave, event, clock, sink)?;

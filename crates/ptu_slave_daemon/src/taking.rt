@@ -1,10 +1,7 @@
 //! What waits on a channel is taken, at most 64 datagrams a round.
 
-ghost use Rattle.std.specs.Prelude.{◌≡◌, ◌+◌, ℕ, Bool, List, map, IfOk, OnOk};
-ghost use Rattle.ptu_outside.specs.declared.arrival.Arrival.{Arrival};
-ghost use Rattle.ptu_record.specs.Record.{Record};
-ghost use Rattle.ptu_slave_messages.specs.Node.{Node};
-ghost use Rattle.ptu_slave_daemon.specs.Running.{Counted, Grows, HasFailed, IsFew, RoundTook, Took, TookOne, Stands, sees};
+ghost use Rattle.std.specs.Prelude.{◌≡◌, map, IfOk, OnOk};
+ghost use Rattle.ptu_slave_daemon.specs.Running.{Grows, IsFew, RoundTook, TookEvent, TookGeneral, TookOne};
 ghost use Rattle.ptu_slave.specs.Seen.{seen};
 
 use crate::counts::Counts;
@@ -29,18 +26,9 @@ fn take_general<P: Port, C: Clock>(
 ) -> Result<bool, OutOfMemory>
     requires few { IsFew 1 counts.old }
     ensures grows { Grows 1 counts.old counts.new }
-    ensures took { IfOk result (λ more. (node : Node) (L : Record) → Stands node
-        (seen ⟦<dyn Judge as Judge>⟧ slave.old) L →
-        (arrivals : List Arrival) × (sent : ℕ) × (failed : ℕ)
-        × Counted sent failed counts.old counts.new
-        × TookOne (P.waiting (seen ⟦<dyn Judge as Judge>⟧ slave.old).port) (P.waiting
-        (seen ⟦<dyn Judge as Judge>⟧ slave.new).port)
-        (P.faults (seen ⟦<dyn Judge as Judge>⟧ slave.old).port) (P.faults
-        (seen ⟦<dyn Judge as Judge>⟧ slave.new).port) more arrivals
-        × Took node L
-        (sees P.sent P.faults C.moments (seen ⟦<dyn Judge as Judge>⟧ slave.old) clock.old)
-        (sees P.sent P.faults C.moments (seen ⟦<dyn Judge as Judge>⟧ slave.new) clock.new)
-        arrivals sent failed) }
+    ensures took { IfOk result (λ more. TookGeneral P.sent P.waiting P.faults C.moments
+        (seen ⟦<dyn Judge as Judge>⟧ slave.old) (seen ⟦<dyn Judge as Judge>⟧ slave.new)
+        clock.old clock.new (TookOne more) counts.old counts.new) }
 {
     let mut octets = [0; LONGEST_DATAGRAM];
     match slave.receive(&mut octets) {
@@ -69,17 +57,9 @@ fn take_event<P: Port, C: Clock>(
     ensures waiting { P.waiting (seen ⟦<dyn Judge as Judge>⟧ slave.new).port ≡ P.waiting
         (seen ⟦<dyn Judge as Judge>⟧ slave.old).port }
     ensures sent { P.sent event.new ≡ P.sent event.old }
-    ensures took { IfOk result (λ more. (node : Node) (L : Record) → Stands node
-        (seen ⟦<dyn Judge as Judge>⟧ slave.old) L →
-        (arrivals : List Arrival) × (sent : ℕ) × (failed : ℕ) × (event_failed : ℕ)
-        × Counted sent (failed + event_failed) counts.old counts.new
-        × HasFailed (P.faults event.old) (P.faults event.new) event_failed
-        × TookOne (P.waiting event.old) (P.waiting event.new)
-        (P.faults event.old) (P.faults event.new) more arrivals
-        × Took node L
-        (sees P.sent P.faults C.moments (seen ⟦<dyn Judge as Judge>⟧ slave.old) clock.old)
-        (sees P.sent P.faults C.moments (seen ⟦<dyn Judge as Judge>⟧ slave.new) clock.new)
-        arrivals sent failed) }
+    ensures took { IfOk result (λ more. TookEvent P.sent P.waiting P.faults C.moments
+        (seen ⟦<dyn Judge as Judge>⟧ slave.old) (seen ⟦<dyn Judge as Judge>⟧ slave.new)
+        clock.old clock.new event.old event.new (TookOne more) counts.old counts.new) }
 {
     let mut octets = [0; LONGEST_DATAGRAM];
     match event.receive(&mut octets) {
@@ -107,18 +87,9 @@ pub(crate) fn take_all_general<P: Port, C: Clock>(
 ) -> Result<(), OutOfMemory>
     requires few { IsFew 64 counts.old }
     ensures grows { Grows 64 counts.old counts.new }
-    ensures took { OnOk result ((node : Node) (L : Record) → Stands node
-        (seen ⟦<dyn Judge as Judge>⟧ slave.old) L →
-        (arrivals : List Arrival) × (sent : ℕ) × (failed : ℕ)
-        × Counted sent failed counts.old counts.new
-        × RoundTook (P.waiting (seen ⟦<dyn Judge as Judge>⟧ slave.old).port) (P.waiting
-        (seen ⟦<dyn Judge as Judge>⟧ slave.new).port)
-        (P.faults (seen ⟦<dyn Judge as Judge>⟧ slave.old).port) (P.faults
-        (seen ⟦<dyn Judge as Judge>⟧ slave.new).port) arrivals
-        × Took node L
-        (sees P.sent P.faults C.moments (seen ⟦<dyn Judge as Judge>⟧ slave.old) clock.old)
-        (sees P.sent P.faults C.moments (seen ⟦<dyn Judge as Judge>⟧ slave.new) clock.new)
-        arrivals sent failed) }
+    ensures took { OnOk result (TookGeneral P.sent P.waiting P.faults C.moments
+        (seen ⟦<dyn Judge as Judge>⟧ slave.old) (seen ⟦<dyn Judge as Judge>⟧ slave.new)
+        clock.old clock.new RoundTook counts.old counts.new) }
 {
     for _taken in 0..MOST {
         if !take_general(alloc, slave, clock, counts)? {
@@ -144,17 +115,9 @@ pub(crate) fn take_all_event<P: Port, C: Clock>(
     ensures waiting { P.waiting (seen ⟦<dyn Judge as Judge>⟧ slave.new).port ≡ P.waiting
         (seen ⟦<dyn Judge as Judge>⟧ slave.old).port }
     ensures sent { P.sent event.new ≡ P.sent event.old }
-    ensures took { OnOk result ((node : Node) (L : Record) → Stands node
-        (seen ⟦<dyn Judge as Judge>⟧ slave.old) L →
-        (arrivals : List Arrival) × (sent : ℕ) × (failed : ℕ) × (event_failed : ℕ)
-        × Counted sent (failed + event_failed) counts.old counts.new
-        × HasFailed (P.faults event.old) (P.faults event.new) event_failed
-        × RoundTook (P.waiting event.old) (P.waiting event.new)
-        (P.faults event.old) (P.faults event.new) arrivals
-        × Took node L
-        (sees P.sent P.faults C.moments (seen ⟦<dyn Judge as Judge>⟧ slave.old) clock.old)
-        (sees P.sent P.faults C.moments (seen ⟦<dyn Judge as Judge>⟧ slave.new) clock.new)
-        arrivals sent failed) }
+    ensures took { OnOk result (TookEvent P.sent P.waiting P.faults C.moments
+        (seen ⟦<dyn Judge as Judge>⟧ slave.old) (seen ⟦<dyn Judge as Judge>⟧ slave.new)
+        clock.old clock.new event.old event.new RoundTook counts.old counts.new) }
 {
     for _taken in 0..MOST {
         if !take_event(alloc, slave, event, clock, counts)? {

@@ -1,9 +1,9 @@
-use Rattle.std.proofs.Common.{[], ◌∙◌, Err, ap, map, refl}
+use Rattle.std.proofs.Common.{[], ◌∙◌, Err, ap, map}
 use Rattle.std.proofs.lemmas.Result.{err_from_is_err_and}
 use Rattle.ptu_outside.proofs.Putting.{HasPutPart-none}
 use Rattle.ptu_slave.specs.Seen.{seen}
 use Rattle.ptu_slave_daemon.specs.Opening.{node_of}
-use Rattle.ptu_slave_daemon.proofs.Ended.{has_served_by, has_stopped}
+use Rattle.ptu_slave_daemon.proofs.Ended.{aside_of, given_back, has_served_by, has_stopped}
 use Rattle.ptu_slave_daemon.proofs.daemon.run_over.Goals as goal
 use Rattle.ptu_slave_daemon.proofs.daemon.run_over.Goals.{in-Ok, in-Err+in-Write}
 
@@ -19,22 +19,9 @@ returns-clause-served g c =
           let d = w.in-Ok.ensures.done in
           rw w.written-is
           (has_served_by g.P.Port.sent g.P.Port.waiting g.P.Port.faults g.C.Clock.moments g.K.Sink.written g.K.Sink.handed c.args.settings.now c.args.opened
-          (record {
-            p0 = c.args.opened.p0;
-            p1 = c.args.opened.p1;
-            p2 = c.args.opened.p2;
-            p3 = c.args.opened.p3;
-            p4 = c.into_port.result;
-            p5 = c.run-answer.new.event;
-            c0 = c.run-answer.new.clock;
-            c1 = c.args.opened.c1;
-            c2 = c.args.opened.c2;
-            c3 = c.args.opened.c3;
-            c4 = c.args.opened.c4;
-            c5 = c.args.opened.c5;
-          })
+          (given_back c.args.opened c.into_port.result c.run-answer.new.event c.run-answer.new.clock)
           c.args.sink.now c.run-answer.new.sink (seen (λ i. (g.dyn-1.0.entry i).1.Judge) c.in_ok-slave.slave).kept (seen (λ i. (g.dyn-1.0.entry i).1.Judge) c.run-answer.new.slave).kept _ _ (seen (λ i. (g.dyn-1.0.entry i).1.Judge) c.in_ok-slave.slave).port (seen (λ i. (g.dyn-1.0.entry i).1.Judge) c.run-answer.new.slave).port d.0 d.1 d.2
-          (record { p0 = refl; p1 = refl; p2 = refl; p3 = refl; p5 = c.run-answer.ensures.sent; c1 = refl; c2 = refl; c3 = refl; c4 = refl; c5 = refl })
+          (aside_of g.P.Port.sent c.args.opened c.into_port.result c.run-answer.new.event c.run-answer.new.clock c.run-answer.ensures.sent)
           c.in_ok-slave.ensures.port c.into_port.ensures d.3 (d.4 (node_of c.args.settings.now) [] c.in_ok-slave.ensures.stands))
       | in-Err+in-Write w ↦ rw w.written-is tt
     ]
@@ -48,22 +35,9 @@ returns-clause-front g c =
           let d = c.run-answer.ensures.stopped is in
           rw w.written-is
           (has_stopped g.P.Port.sent g.P.Port.waiting g.P.Port.faults g.C.Clock.moments g.K.Sink.written g.K.Sink.handed c.args.settings.now c.args.opened
-          (record {
-            p0 = c.args.opened.p0;
-            p1 = c.args.opened.p1;
-            p2 = c.args.opened.p2;
-            p3 = c.args.opened.p3;
-            p4 = c.into_port.result;
-            p5 = c.run-answer.new.event;
-            c0 = c.run-answer.new.clock;
-            c1 = c.args.opened.c1;
-            c2 = c.args.opened.c2;
-            c3 = c.args.opened.c3;
-            c4 = c.args.opened.c4;
-            c5 = c.args.opened.c5;
-          })
+          (given_back c.args.opened c.into_port.result c.run-answer.new.event c.run-answer.new.clock)
           c.args.sink.now c.run-answer.new.sink (seen (λ i. (g.dyn-1.0.entry i).1.Judge) c.in_ok-slave.slave).kept (seen (λ i. (g.dyn-1.0.entry i).1.Judge) c.run-answer.new.slave).kept
           (seen (λ i. (g.dyn-1.0.entry i).1.Judge) c.in_ok-slave.slave).judges (seen (λ i. (g.dyn-1.0.entry i).1.Judge) c.run-answer.new.slave).judges (seen (λ i. (g.dyn-1.0.entry i).1.Judge) c.in_ok-slave.slave).port (seen (λ i. (g.dyn-1.0.entry i).1.Judge) c.run-answer.new.slave).port d.0
-          (record { p0 = refl; p1 = refl; p2 = refl; p3 = refl; p5 = c.run-answer.ensures.sent; c1 = refl; c2 = refl; c3 = refl; c4 = refl; c5 = refl })
+          (aside_of g.P.Port.sent c.args.opened c.into_port.result c.run-answer.new.event c.run-answer.new.clock c.run-answer.ensures.sent)
           c.in_ok-slave.ensures.port c.into_port.ensures d.1 (d.2 (node_of c.args.settings.now) [] c.in_ok-slave.ensures.stands))
     ]

@@ -1,8 +1,8 @@
 use Rattle.std.proofs.Common.{◌≡◌, [], ◌∷◌, ◌++◌, None, Err, ap, map, subst, sym}
 use Rattle.std.proofs.lemmas.List.{map-append}
 use Rattle.std.proofs.lemmas.Result.{err_from_is_err_and, on_err_weaker, on_ok_weaker}
-use Rattle.ptu_outside.specs.Handing.{HasPut, HasPutPart}
-use Rattle.ptu_outside.proofs.Putting.{HasPut-append, HasPut-part, HasPutPart-append}
+use Rattle.ptu_outside.specs.Handing.{HasPutPart}
+use Rattle.ptu_outside.proofs.Putting.{HasPutPart-append}
 use Rattle.ptu_slave_daemon.specs.declared.line.SlaveLine.TheVariants.{Closing}
 use Rattle.ptu_slave_daemon.specs.Happenings.{record_after}
 use Rattle.ptu_slave_daemon.specs.Lines.{changes, line_text, selected_line, texts_of}
@@ -10,19 +10,17 @@ use Rattle.ptu_slave_daemon.specs.declared.halt.Halt.{Halt}
 use Rattle.ptu_slave_daemon.specs.declared.halt.Halt.TheVariants.{Write}
 use Rattle.ptu_slave_daemon.proofs.Fronts.{front_rounds, front_run, of_err}
 use Rattle.ptu_slave_daemon.proofs.OneRound.{done_run}
+use Rattle.ptu_slave_daemon.proofs.Written.{part_behind, put_behind}
 use Rattle.ptu_slave_daemon.proofs.rounds.run.Goals as goal
 
 pub returns-clause-done : goal.returns-clause-done
 returns-clause-done g c =
     let done = c.in_ok-counts.ensures.done in
-    let lines = map selected_line (changes None done.0) in
-    let line = Closing c.args.rounds c.stop.new.counts.sent c.stop.new.counts.failed in
     on_ok_weaker c.write_line.result (λ put. (
       done.0,
       c.stop.new.counts.sent,
       c.stop.new.counts.failed,
-      subst (HasPut g.K.Sink.written g.K.Sink.handed c.args.sink.now c.write_line.new.sink) (sym (map-append line_text lines (line ∷ [])))
-          (HasPut-append g.K.Sink.written g.K.Sink.handed c.args.sink.now c.run_rounds.new.sink c.write_line.new.sink (texts_of lines) (texts_of (line ∷ [])) done.1 put),
+      put_behind g.K.Sink.written g.K.Sink.handed c.args.sink.now c.run_rounds.new.sink c.write_line.new.sink (map selected_line (changes None done.0)) (Closing c.args.rounds c.stop.new.counts.sent c.stop.new.counts.failed) done.1 put,
       λ node L h.
           let p = done.2 node L h in
           let t = c.stop.ensures.ran node (record_after node L p.hs) p.ran.stands in
@@ -32,14 +30,11 @@ returns-clause-done g c =
 pub returns-clause-part : goal.returns-clause-part
 returns-clause-part g c =
     let done = c.in_ok-counts.ensures.done in
-    let lines = map selected_line (changes None done.0) in
-    let line = Closing c.args.rounds c.stop.new.counts.sent c.stop.new.counts.failed in
     on_err_weaker c.write_line.result (λ part. (
       changes None done.0,
       c.stop.new.counts.sent,
       c.stop.new.counts.failed,
-      subst (HasPutPart g.K.Sink.written g.K.Sink.handed c.args.sink.now c.write_line.new.sink) (sym (map-append line_text lines (line ∷ [])))
-          (HasPut-part g.K.Sink.written g.K.Sink.handed c.args.sink.now c.run_rounds.new.sink c.write_line.new.sink (texts_of lines) (texts_of (line ∷ [])) done.1 part),
+      part_behind g.K.Sink.written g.K.Sink.handed c.args.sink.now c.run_rounds.new.sink c.write_line.new.sink (map selected_line (changes None done.0)) (Closing c.args.rounds c.stop.new.counts.sent c.stop.new.counts.failed) done.1 part,
     )) c.write_line.ensures.part
 
 pub returns-in_err-counts-clause-part : goal.returns-in_err-counts-clause-part
@@ -59,13 +54,10 @@ returns-in_err-counts-clause-part g c =
 -- the sink failed in the closing line
 pub returns-clause-stopped : goal.returns-clause-stopped
 returns-clause-stopped g c = λ is.
-    let done = c.in_ok-counts.ensures.done in
-    let lines = map selected_line (changes None done.0) in
-    let line = Closing c.args.rounds c.stop.new.counts.sent c.stop.new.counts.failed in (
-      lines ++ line ∷ [],
-      subst (HasPutPart g.K.Sink.written g.K.Sink.handed c.args.sink.now c.write_line.new.sink) (sym (map-append line_text lines (line ∷ [])))
-          (HasPut-part g.K.Sink.written g.K.Sink.handed c.args.sink.now c.run_rounds.new.sink c.write_line.new.sink (texts_of lines) (texts_of (line ∷ [])) done.1
-          (of_err c.write_line.result Write is c.write_line.ensures.part)),
+    let done = c.in_ok-counts.ensures.done in (
+      map selected_line (changes None done.0) ++ Closing c.args.rounds c.stop.new.counts.sent c.stop.new.counts.failed ∷ [],
+      part_behind g.K.Sink.written g.K.Sink.handed c.args.sink.now c.run_rounds.new.sink c.write_line.new.sink (map selected_line (changes None done.0)) (Closing c.args.rounds c.stop.new.counts.sent c.stop.new.counts.failed) done.1
+          (of_err c.write_line.result Write is c.write_line.ensures.part),
       λ node L h.
           let p = done.2 node L h in
           let t = c.stop.ensures.ran node (record_after node L p.hs) p.ran.stands in

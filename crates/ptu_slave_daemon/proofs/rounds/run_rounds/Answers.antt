@@ -1,12 +1,11 @@
-use Rattle.std.proofs.Common.{[], ◌∷◌, ◌++◌, ◌+◌, ◌≡◌, ◌∙◌, None, ap, arith, map, refl, subst, sym}
+use Rattle.std.proofs.Common.{[], ◌∷◌, ◌++◌, ◌+◌, ◌≡◌, ◌∙◌, None, ap, arith, refl, sym}
 use Rattle.std.proofs.lemmas.Result.{err_from_is_err_and}
-use Rattle.ptu_outside.specs.Handing.{HasPut, HasPutPart}
-use Rattle.ptu_outside.proofs.Putting.{HasPut-append, HasPut-none, HasPut-part, HasPutPart-whole}
+use Rattle.ptu_outside.proofs.Putting.{HasPut-none, HasPutPart-whole}
 use Rattle.ptu_slave_daemon.specs.declared.counts.Counts.{Counts}
 use Rattle.ptu_slave_daemon.specs.Happenings.{Selection, record_after}
-use Rattle.ptu_slave_daemon.specs.Lines.{changes, said_next, selected_line, texts_of}
+use Rattle.ptu_slave_daemon.specs.Lines.{changes}
 use Rattle.ptu_slave_daemon.proofs.OneRound.{done_more, done_none}
-use Rattle.ptu_slave_daemon.proofs.Written.{said_after, said_after-push, texts-push}
+use Rattle.ptu_slave_daemon.proofs.Written.{part_of_selection, said_after-push, selection_behind}
 use Rattle.ptu_slave_daemon.proofs.rounds.run_rounds.Goals as goal
 
 pub loop-before-init : goal.loop-before-init
@@ -36,10 +35,7 @@ loop-before-preserved g c =
       done = (
         done.0 ++ s ∷ [],
         sym (said_after-push None done.0 s),
-        subst (HasPut g.K.Sink.written g.K.Sink.handed c.args.sink.now c.say.new.sink) (sym (texts-push None done.0 s))
-            (HasPut-append g.K.Sink.written g.K.Sink.handed c.args.sink.now c.loop-before.sink c.say.new.sink (texts_of (map selected_line (changes None done.0)))
-            (texts_of (map selected_line (said_next (said_after None done.0) s))) done.2
-            (subst (λ said. HasPut g.K.Sink.written g.K.Sink.handed c.loop-before.sink c.say.new.sink (texts_of (map selected_line (said_next said s)))) done.1 c.in_ok-say.ensures.whole)),
+        selection_behind g.K.Sink.written g.K.Sink.handed c.args.sink.now c.loop-before.sink c.say.new.sink c.loop-before.said done.0 s done.1 done.2 c.in_ok-say.ensures.whole,
         λ node L h.
             let p = done.3 node L h in
             let q = c.in-Ok.ensures.ran node (record_after node L p.hs) (c.loop-before.before + 1) p.ran.stands in
@@ -59,10 +55,7 @@ returns-in_err-say-clause-part g c =
     let p = err_from_is_err_and c.from_residual.result c.from_residual.ensures.1 in
     rw p.1 (
       changes None (done.0 ++ s ∷ []),
-      subst (HasPutPart g.K.Sink.written g.K.Sink.handed c.args.sink.now c.say.new.sink) (sym (texts-push None done.0 s))
-          (HasPut-part g.K.Sink.written g.K.Sink.handed c.args.sink.now c.loop-before.sink c.say.new.sink (texts_of (map selected_line (changes None done.0)))
-          (texts_of (map selected_line (said_next (said_after None done.0) s))) done.2
-          (subst (λ said. HasPutPart g.K.Sink.written g.K.Sink.handed c.loop-before.sink c.say.new.sink (texts_of (map selected_line (said_next said s)))) done.1 c.in_err-say.ensures.part)),
+      part_of_selection g.K.Sink.written g.K.Sink.handed c.args.sink.now c.loop-before.sink c.say.new.sink c.loop-before.said done.0 s done.1 done.2 c.in_err-say.ensures.part,
     )
 
 pub returns-in_err-say-clause-stopped : goal.returns-in_err-say-clause-stopped
@@ -74,10 +67,7 @@ returns-in_err-say-clause-stopped g c = λ is.
       c.happen.new.counts.sent,
       c.happen.new.counts.failed,
       omega (arith, c.loop-before-test.true),
-      subst (HasPutPart g.K.Sink.written g.K.Sink.handed c.args.sink.now c.say.new.sink) (sym (texts-push None done.0 s))
-          (HasPut-part g.K.Sink.written g.K.Sink.handed c.args.sink.now c.loop-before.sink c.say.new.sink (texts_of (map selected_line (changes None done.0)))
-          (texts_of (map selected_line (said_next (said_after None done.0) s))) done.2
-          (subst (λ said. HasPutPart g.K.Sink.written g.K.Sink.handed c.loop-before.sink c.say.new.sink (texts_of (map selected_line (said_next said s)))) done.1 c.in_err-say.ensures.part)),
+      part_of_selection g.K.Sink.written g.K.Sink.handed c.args.sink.now c.loop-before.sink c.say.new.sink c.loop-before.said done.0 s done.1 done.2 c.in_err-say.ensures.part,
       λ node L h.
           let p = done.3 node L h in
           let q = c.in-Ok.ensures.ran node (record_after node L p.hs) (c.loop-before.before + 1) p.ran.stands in

@@ -1,12 +1,9 @@
 use Rattle.std.proofs.Common.{◌≡◌, ◌*◌, ◌^◌, ◌≤◌, List, None, map}
 use Rattle.ptu_outside.specs.Handing.{HasPut}
-use Rattle.ptu_record.specs.Record.{Record}
-use Rattle.ptu_slave_messages.specs.Node.{Node}
 use Rattle.ptu_slave.specs.Seen.{seen}
-use Rattle.ptu_slave_daemon.specs.Running.{Stands, sees}
 use Rattle.ptu_slave_daemon.specs.Happenings.{Selection}
 use Rattle.ptu_slave_daemon.specs.Lines.{changes, selected_line, texts_of}
-use Rattle.ptu_slave_daemon.specs.Running.{IsAt, RoundsDone, view_of}
+use Rattle.ptu_slave_daemon.specs.Running.{RoundsDone, Went}
 use Rattle.ptu_slave_daemon.proofs.Written.{said_after}
 use Rattle.ptu_slave_daemon.proofs.rounds.run_rounds.Given as goal
 
@@ -17,10 +14,6 @@ invariant-loop-before g l = record {
   still : g.K.Sink.faults l.sink ≡ g.K.Sink.faults l.fn.sink;
   done : (selections : List Selection) × (l.said ≡ said_after None selections)
       × HasPut g.K.Sink.written g.K.Sink.handed l.fn.sink l.sink (texts_of (map selected_line (changes None selections)))
-      × ((node : Node) (L : Record) → Stands node (seen (λ i. (g.dyn-1.0.entry i).1.Judge) l.fn.slave) L →
-      RoundsDone l.before node L
-      (sees g.P.Port.sent g.P.Port.faults g.C.Clock.moments (seen (λ i. (g.dyn-1.0.entry i).1.Judge) l.fn.slave) l.fn.clock)
-      (sees g.P.Port.sent g.P.Port.faults g.C.Clock.moments (seen (λ i. (g.dyn-1.0.entry i).1.Judge) l.slave) l.clock)
-      (g.P.Port.waiting (seen (λ i. (g.dyn-1.0.entry i).1.Judge) l.fn.slave).port) (g.P.Port.waiting (seen (λ i. (g.dyn-1.0.entry i).1.Judge) l.slave).port) (g.P.Port.waiting l.fn.event) (g.P.Port.waiting l.event) (g.P.Port.faults l.fn.event) (g.P.Port.faults l.event)
-      selections l.counts.sent l.counts.failed);
+      × Went g.P.Port.sent g.P.Port.waiting g.P.Port.faults g.C.Clock.moments (seen (λ i. (g.dyn-1.0.entry i).1.Judge) l.fn.slave) (seen (λ i. (g.dyn-1.0.entry i).1.Judge) l.slave)
+      l.fn.clock l.clock l.fn.event l.event (RoundsDone l.before selections l.counts.sent l.counts.failed);
 }

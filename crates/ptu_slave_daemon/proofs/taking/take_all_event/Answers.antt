@@ -1,8 +1,7 @@
-use Rattle.std.proofs.Common.{[], ◌++◌, ◌+◌, ◌≡◌, ◌<◌, ◌∙◌, ap₂, arith, length, length-append, refl}
-use Rattle.ptu_outside.proofs.Telling.{IfTold-refl}
-use Rattle.ptu_slave_daemon.specs.Happenings.{record_after}
-use Rattle.ptu_slave_daemon.proofs.Arrived.{came_append, came_none, counted_both, counted_none, one_length, round_full, round_short, took_append, took_none}
-use Rattle.ptu_slave_daemon.proofs.Ports.{failed_append, failed_none}
+use Rattle.std.proofs.Common.{◌+◌, ◌≡◌, ◌∙◌, arith, refl}
+use Rattle.ptu_slave.specs.Seen.{seen}
+use Rattle.ptu_slave_daemon.specs.Running.{RoundTook, TookOne}
+use Rattle.ptu_slave_daemon.proofs.Arrived.{CameSoFar, event_more, event_none, round_full, round_short, so_far_more}
 use Rattle.ptu_slave_daemon.proofs.taking.take_all_event.Goals as goal
 
 pub loop-taken-init : goal.loop-taken-init
@@ -10,17 +9,7 @@ loop-taken-init g c = record {
   grows = (omega arith, omega arith);
   waiting = refl;
   sent = refl;
-  took = λ node L h. (
-    [],
-    0,
-    0,
-    0,
-    counted_none c.args.counts.now,
-    failed_none _ _ refl,
-    came_none _ _ (IfTold-refl (g.P.Port.waiting c.args.event.now)),
-    refl,
-    took_none node L _ _ 0 h refl refl refl refl (failed_none _ _ refl),
-  );
+  took = event_none g.P.Port.sent g.P.Port.waiting g.P.Port.faults g.C.Clock.moments (seen (λ i. (g.dyn-1.0.entry i).1.Judge) c.args.slave.now) c.args.clock.now c.args.event.now c.args.counts.now;
 }
 
 pub loop-taken-preserved : goal.loop-taken-preserved
@@ -28,38 +17,19 @@ loop-taken-preserved g c = record {
   grows = (omega (arith, c.loop-taken.invariant.grows, c.take_event.ensures.grows), omega (arith, c.loop-taken.invariant.grows, c.take_event.ensures.grows));
   waiting = c.take_event.ensures.waiting ∙ c.loop-taken.invariant.waiting;
   sent = c.take_event.ensures.sent ∙ c.loop-taken.invariant.sent;
-  took = λ node L h.
-      let p = c.loop-taken.invariant.took node L h in
-      let q = c.in_ok-take_event.ensures.took node (record_after node L p.8.0) p.8.1.stands in (
-        p.0 ++ q.0,
-        p.1 + q.1,
-        p.2 + q.2,
-        p.3 + q.3,
-        counted_both _ _ _ p.1 q.1 p.2 q.2 p.3 q.3 p.4 q.4,
-        failed_append _ _ _ p.3 q.3 p.5 q.5,
-        came_append _ _ _ p.0 q.0 p.6 q.6.came,
-        length-append p.0 q.0 ∙ ap₂ (λ m n. m + n) p.7 (one_length _ _ _ _ _ q.0 c.if-not-branch.false q.6),
-        took_append node L _ _ _ p.0 q.0 p.1 q.1 p.2 q.2 p.8 q.7,
-      );
+  took = event_more g.P.Port.sent g.P.Port.waiting g.P.Port.faults g.C.Clock.moments (CameSoFar c.loop-taken._taken) (TookOne _) (CameSoFar (c.loop-taken._taken + 1))
+      (seen (λ i. (g.dyn-1.0.entry i).1.Judge) c.args.slave.now) (seen (λ i. (g.dyn-1.0.entry i).1.Judge) c.loop-taken.slave) (seen (λ i. (g.dyn-1.0.entry i).1.Judge) c.take_event.new.slave) c.args.clock.now c.loop-taken.clock c.take_event.new.clock c.args.counts.now c.loop-taken.counts c.take_event.new.counts c.args.event.now c.loop-taken.event c.take_event.new.event
+      (so_far_more c.loop-taken._taken _ _ _ _ _ _ _ c.if-not-branch.false) c.loop-taken.invariant.took c.in_ok-take_event.ensures.took;
 }
 
 pub returns-then-not-branch-clause-took : goal.returns-then-not-branch-clause-took
-returns-then-not-branch-clause-took g c = λ node L h.
-    let p = c.loop-taken.invariant.took node L h in
-    let q = c.in_ok-take_event.ensures.took node (record_after node L p.8.0) p.8.1.stands in
-    let few : length p.0 < 64 = omega (arith, p.7, c.loop-taken-test.true) in (
-      p.0 ++ q.0,
-      p.1 + q.1,
-      p.2 + q.2,
-      p.3 + q.3,
-      counted_both _ _ _ p.1 q.1 p.2 q.2 p.3 q.3 p.4 q.4,
-      failed_append _ _ _ p.3 q.3 p.5 q.5,
-      round_short _ _ _ _ _ _ _ p.0 q.0 p.6 few p.5.no_fall c.if-not-branch.true q.6,
-      took_append node L _ _ _ p.0 q.0 p.1 q.1 p.2 q.2 p.8 q.7,
-    )
+returns-then-not-branch-clause-took g c =
+    event_more g.P.Port.sent g.P.Port.waiting g.P.Port.faults g.C.Clock.moments (CameSoFar c.loop-taken._taken) (TookOne _) RoundTook
+    (seen (λ i. (g.dyn-1.0.entry i).1.Judge) c.args.slave.now) (seen (λ i. (g.dyn-1.0.entry i).1.Judge) c.loop-taken.slave) (seen (λ i. (g.dyn-1.0.entry i).1.Judge) c.take_event.new.slave) c.args.clock.now c.loop-taken.clock c.take_event.new.clock c.args.counts.now c.loop-taken.counts c.take_event.new.counts c.args.event.now c.loop-taken.event c.take_event.new.event
+    (round_short c.loop-taken._taken _ _ _ _ _ _ _ c.loop-taken-test.true c.if-not-branch.true) c.loop-taken.invariant.took c.in_ok-take_event.ensures.took
 
 pub returns-clause-took : goal.returns-clause-took
 returns-clause-took g c = λ node L h.
     let p = c.loop-taken.invariant.took node L h in
-    let many : length p.0 ≡ 64 = omega (arith, p.7, c.loop-taken-test.false, c.loop-taken.auto._taken-end) in
-    (p.0, p.1, p.2, p.3, p.4, p.5, round_full _ _ _ _ p.0 p.6 many, p.8)
+    let all : c.loop-taken._taken ≡ 64 = omega (arith, c.loop-taken-test.false, c.loop-taken.auto._taken-end) in
+    (p.0, p.1, p.2, p.3, p.4, p.5, round_full c.loop-taken._taken _ _ _ _ all p.0 p.6, p.7)

@@ -1,10 +1,7 @@
-use Rattle.std.proofs.Common.{◌≡◌, ℕ, ◌+◌, List, map, length}
-use Rattle.ptu_outside.specs.declared.arrival.Arrival.{Arrival}
-use Rattle.ptu_record.specs.Record.{Record}
-use Rattle.ptu_slave_messages.specs.Node.{Node}
+use Rattle.std.proofs.Common.{◌≡◌, map}
 use Rattle.ptu_slave.specs.Seen.{seen}
-use Rattle.ptu_slave_daemon.specs.Running.{Stands, sees}
-use Rattle.ptu_slave_daemon.specs.Running.{CameFrom, Counted, Grows, HasFailed, IsAt, Took, view_of}
+use Rattle.ptu_slave_daemon.specs.Running.{Grows, TookEvent}
+use Rattle.ptu_slave_daemon.proofs.Arrived.{CameSoFar}
 use Rattle.ptu_slave_daemon.proofs.taking.take_all_event.Given as goal
 
 abbrev pub invariant-loop-taken : goal.invariant-loop-taken
@@ -12,12 +9,5 @@ invariant-loop-taken g l = record {
   grows : Grows l._taken l.fn.counts l.counts;
   waiting : g.P.Port.waiting (seen (λ i. (g.dyn-1.0.entry i).1.Judge) l.slave).port ≡ g.P.Port.waiting (seen (λ i. (g.dyn-1.0.entry i).1.Judge) l.fn.slave).port;
   sent : g.P.Port.sent l.event ≡ g.P.Port.sent l.fn.event;
-  took : (node : Node) (L : Record) → Stands node (seen (λ i. (g.dyn-1.0.entry i).1.Judge) l.fn.slave) L →
-      (arrivals : List Arrival) × (sent : ℕ) × (failed : ℕ) × (event_failed : ℕ) × Counted sent (failed + event_failed) l.fn.counts l.counts
-      × HasFailed (g.P.Port.faults l.fn.event) (g.P.Port.faults l.event) event_failed
-      × CameFrom (g.P.Port.waiting l.fn.event) (g.P.Port.waiting l.event) arrivals × (length arrivals ≡ l._taken)
-      × Took node L
-      (sees g.P.Port.sent g.P.Port.faults g.C.Clock.moments (seen (λ i. (g.dyn-1.0.entry i).1.Judge) l.fn.slave) l.fn.clock)
-      (sees g.P.Port.sent g.P.Port.faults g.C.Clock.moments (seen (λ i. (g.dyn-1.0.entry i).1.Judge) l.slave) l.clock)
-      arrivals sent failed;
+  took : TookEvent g.P.Port.sent g.P.Port.waiting g.P.Port.faults g.C.Clock.moments (seen (λ i. (g.dyn-1.0.entry i).1.Judge) l.fn.slave) (seen (λ i. (g.dyn-1.0.entry i).1.Judge) l.slave) l.fn.clock l.clock l.fn.event l.event (CameSoFar l._taken) l.fn.counts l.counts;
 }
