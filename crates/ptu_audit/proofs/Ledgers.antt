@@ -1,28 +1,18 @@
 -- The trails of all grandmasters, after one more act.
-use Rattle.std.proofs.Common.{◌≡◌, ◌∙◌, ℕ, ◌+◌, ◌<◌, ◌++◌, eqb, ltb, Bool, true, false, cond, List, [], ◌∷◌, Option, Some, refl, sym, ap, subst, arith}
+use Rattle.std.proofs.Common.{◌≡◌, ◌∙◌, ℕ, ◌+◌, ◌++◌, eqb, Bool, true, false, cond, List, [], ◌∷◌, Option, Some, refl, sym, ap, subst, arith}
 use Rattle.std.specs.List.{filter, fold}
 use Rattle.std.specs.Ordering.{is_eq, nat_cmp}
-use Rattle.std.specs.declared.cmp.Ordering.TheVariants.{Less, Equal, Greater}
-use Rattle.std.proofs.lemmas.Bool.{eq-eqb, eqb-true, ltb-true}
+use Rattle.std.proofs.lemmas.Bool.{eq-eqb, eqb-true}
 use Rattle.std.proofs.lemmas.List.{append-nil}
 use Rattle.std.proofs.lemmas.List.Elements.{filter-append}
 use Rattle.std.proofs.lemmas.List.Sums.{fold-append, sum_by-append}
 use Rattle.ptu_trail.specs.declared.trail.Trail.{Trail}
 use Rattle.ptu_trail.specs.Trail.{StandsFor as IsTrail}
+use Rattle.ptu_trail.proofs.Accounts.{cmp_same}
 use Rattle.ptu_audit.specs.declared.deed.Act.{Act}
 use Rattle.ptu_audit.specs.Standing.{IsKept}
 use Rattle.ptu_units.specs.Counts.{counted}
 use Rattle.ptu_audit.specs.Trails.{grants_in, is_by, is_grant, is_message, messages_in, trail_of, trail_with}
-
--- the comparison of two numbers says whether they are one
-cmp_same : (m n : ℕ) → is_eq (nat_cmp m n) ≡ eqb m n
-cmp_same m n = at (ltb m n) refl (eqb m n) refl
-  where
-    at : (b : Bool) → ltb m n ≡ b → (e : Bool) → eqb m n ≡ e → is_eq (cond b Less (cond e Equal Greater)) ≡ e
-    at true is true same = let lt : m < n = ltb-true m n is in let eq : m ≡ n = eqb-true m n same in absurd (omega arith)
-    at true is false same = refl
-    at false is true same = refl
-    at false is false same = refl
 
 pub trail_of-push : (g : ℕ) (before : List Act) (act : Act) (b : Bool) → eqb act.grandmaster g ≡ b → trail_of g (before ++ act ∷ []) ≡ cond b (trail_with (trail_of g before) act) (trail_of g before)
 unfolding trail_of

@@ -1,11 +1,11 @@
 -- The logarithms of grants that a report's lines name are in the range of their kind.
-use Rattle.std.proofs.Common.{◌≡◌, ℕ, ◌||◌, Bool, true, false, cond, List, [], ◌∷◌, Option, Some, None, refl, subst, arith}
+use Rattle.std.proofs.Common.{◌≡◌, ℕ, ◌||◌, Bool, true, false, cond, List, ◌∷◌, Option, Some, None, refl, subst, arith}
 use Rattle.std.proofs.lemmas.Int.{ints}
 use Rattle.std.specs.Prelude.{ℤ, pos, IfSome, option_and_then, codes, Result, Ok, Err}
 use Rattle.ptu_units.specs.declared.kind.Kind.{Kind}
 use Rattle.ptu_units.specs.declared.kind.Kind.TheVariants as kinds
 use Rattle.ptu_units.specs.Log.{IsLogOf, least_log}
-use Rattle.ptu_lines.specs.Words.{int_within, ip_of, log_of, word_of}
+use Rattle.ptu_lines.specs.Words.{int_within, log_of, word_of}
 use Rattle.ptu_messages.specs.declared.message.Body.{Body}
 use Rattle.ptu_messages.specs.declared.message.Body.TheVariants as bodies
 use Rattle.ptu_messages.specs.declared.message.Message.{Message}
@@ -18,7 +18,7 @@ use Rattle.ptu_audit_lines.specs.declared.entry.Entry.TheVariants as entries
 use Rattle.ptu_audit_lines.specs.declared.entry.ReportLine.{ReportLine}
 use Rattle.ptu_audit_lines.specs.declared.entry.ReportLine.TheVariants as report
 use Rattle.ptu_audit_lines.specs.Forms.{fitting}
-use Rattle.ptu_audit_lines.specs.Words.{◌>>=◌, any_number, field, hex_of, identity_of, kind_named, log_of_kind, log_outside}
+use Rattle.ptu_audit_lines.specs.Words.{◌>>=◌, any_number, field, kind_named, log_of_kind}
 use Rattle.ptu_audit_lines.specs.Entry.{cancelled_in, capacity_in, decided_in, decision_in, end_in, entry_of, datagram_forms, first_of, granted_in, is_among, slave_forms, line_of, nothing_code_in, nothing_in, numbered_in, other_in, outside_duration_in, outside_log_in, outside_type_in, plain_entry_in, send_in, shed_in, short_in}
 use Rattle.ptu_audit.specs.declared.line.Said.{Said}
 use Rattle.ptu_audit.specs.declared.line.Said.TheVariants as said
@@ -44,6 +44,9 @@ IsLineInRange (report.End count datagrams) = Unit {0}
 bound : {A B : Type 0} (P : B → Type 0) (o : Option A) (f : A → Option B) → ((x : A) → o ≡ Some x → IfSome (f x) P) → IfSome (o >>= f) P
 bound P None f h = tt
 bound P (Some x) f h = h x refl
+
+each : {A B : Type 0} (P : B → Type 0) (o : Option A) (f : A → Option B) → ((x : A) → IfSome (f x) P) → IfSome (o >>= f) P
+each P o f h = bound P o f (λ x _. h x)
 
 first : {A : Type 0} (P : A → Type 0) (o : Option A) (rest : List (Option A)) → IfSome o P → IfSome (first_of rest) P → IfSome (first_of (o ∷ rest)) P
 first P None rest here later = later
@@ -77,76 +80,10 @@ granted line =
     bound IsDecisionInRange (field 8 any_number line) _ (λ until _.
     field_within kind 4 line log is)))))
 
-short : (line : List ℕ) → IfSome (short_in line) IsDecisionInRange
-unfolding short_in
-short line =
-    bound IsDecisionInRange (fitting (codes "NUM short KIND LOG at NUM others NUM rate NUM capacity NUM") line) _ (λ form _.
-    bound IsDecisionInRange (field 3 kind_named line) _ (λ kind _.
-    bound IsDecisionInRange (field 4 (log_of_kind kind) line) _ (λ log _.
-    bound IsDecisionInRange (field 6 any_number line) _ (λ at _.
-    bound IsDecisionInRange (field 8 any_number line) _ (λ others _.
-    bound IsDecisionInRange (field 10 any_number line) _ (λ rate _.
-    bound IsDecisionInRange (field 12 any_number line) _ (λ capacity _.
-    tt)))))))
-
-outside_type : (line : List ℕ) → IfSome (outside_type_in line) IsDecisionInRange
-unfolding outside_type_in
-outside_type line =
-    bound IsDecisionInRange (fitting (codes "NUM outside type NUM") line) _ (λ form _.
-    bound IsDecisionInRange (field 4 any_number line) _ (λ code _.
-    tt))
-
-outside_log : (line : List ℕ) → IfSome (outside_log_in line) IsDecisionInRange
-unfolding outside_log_in
-outside_log line =
-    bound IsDecisionInRange (fitting (codes "NUM outside log KIND LOG") line) _ (λ form _.
-    bound IsDecisionInRange (field 4 kind_named line) _ (λ kind _.
-    bound IsDecisionInRange (field 5 (log_outside kind) line) _ (λ log _.
-    tt)))
-
-outside_duration : (line : List ℕ) → IfSome (outside_duration_in line) IsDecisionInRange
-unfolding outside_duration_in
-outside_duration line =
-    bound IsDecisionInRange (fitting (codes "NUM outside duration KIND LOG NUM") line) _ (λ form _.
-    bound IsDecisionInRange (field 4 kind_named line) _ (λ kind _.
-    bound IsDecisionInRange (field 5 (log_of_kind kind) line) _ (λ log _.
-    bound IsDecisionInRange (field 6 any_number line) _ (λ seconds _.
-    tt))))
-
-cancelled : (line : List ℕ) → IfSome (cancelled_in line) IsDecisionInRange
-unfolding cancelled_in
-cancelled line =
-    bound IsDecisionInRange (fitting (codes "NUM cancelled KIND at NUM") line) _ (λ form _.
-    bound IsDecisionInRange (field 3 kind_named line) _ (λ kind _.
-    bound IsDecisionInRange (field 5 any_number line) _ (λ at _.
-    tt)))
-
-nothing : (line : List ℕ) → IfSome (nothing_in line) IsDecisionInRange
-unfolding nothing_in
-nothing line =
-    bound IsDecisionInRange (fitting (codes "NUM nothing KIND at NUM") line) _ (λ form _.
-    bound IsDecisionInRange (field 3 kind_named line) _ (λ kind _.
-    bound IsDecisionInRange (field 5 any_number line) _ (λ at _.
-    tt)))
-
-nothing_code : (line : List ℕ) → IfSome (nothing_code_in line) IsDecisionInRange
-unfolding nothing_code_in
-nothing_code line =
-    bound IsDecisionInRange (fitting (codes "NUM nothing NUM") line) _ (λ form _.
-    bound IsDecisionInRange (field 3 any_number line) _ (λ code _.
-    tt))
-
+-- every other decision has no grant
 decision : (line : List ℕ) → IfSome (decision_in line) IsDecisionInRange
-unfolding decision_in
-decision line =
-    first IsDecisionInRange (granted_in line) _ (granted line)
-    (first IsDecisionInRange (short_in line) _ (short line)
-    (first IsDecisionInRange (outside_type_in line) _ (outside_type line)
-    (first IsDecisionInRange (outside_log_in line) _ (outside_log line)
-    (first IsDecisionInRange (outside_duration_in line) _ (outside_duration line)
-    (first IsDecisionInRange (cancelled_in line) _ (cancelled line)
-    (first IsDecisionInRange (nothing_in line) _ (nothing line)
-    (first IsDecisionInRange (nothing_code_in line) [] (nothing_code line) tt)))))))
+unfolding decision_in short_in outside_type_in outside_log_in outside_duration_in cancelled_in nothing_in nothing_code_in
+decision line = search (granted, first, each) depth 30 fits 4000
 
 some_of : {A : Type 0} (P : A → Type 0) (o : Option A) (x : A) → o ≡ Some x → IfSome o P → P x
 some_of P o x e h = subst (λ (p : Option _). IfSome p P) e h
@@ -154,35 +91,6 @@ some_of P o x e h = subst (λ (p : Option _). IfSome p P) e h
 decided : (line : List ℕ) → IfSome (decided_in line) IsEntryInRange
 unfolding decided_in
 decided line = bound IsEntryInRange (decision_in line) _ (λ d is. some_of IsDecisionInRange (decision_in line) d is (decision line))
-
-capacity : (line : List ℕ) → IfSome (capacity_in line) IsEntryInRange
-unfolding capacity_in
-capacity line =
-    bound IsEntryInRange (fitting (codes "NUM capacity IP NUM at NUM") line) _ (λ form _.
-    bound IsEntryInRange (field 3 ip_of line) _ (λ grandmaster _.
-    bound IsEntryInRange (field 4 any_number line) _ (λ n _.
-    bound IsEntryInRange (field 6 any_number line) _ (λ at _.
-    tt))))
-
-shed : (line : List ℕ) → IfSome (shed_in line) IsEntryInRange
-unfolding shed_in
-shed line =
-    bound IsEntryInRange (fitting (codes "NUM shed KIND LOG IP WORD") line) _ (λ form _.
-    bound IsEntryInRange (field 3 kind_named line) _ (λ kind _.
-    bound IsEntryInRange (field 4 (log_of_kind kind) line) _ (λ log _.
-    bound IsEntryInRange (field 5 ip_of line) _ (λ ip _.
-    bound IsEntryInRange (field 6 identity_of line) _ (λ identity _.
-    tt)))))
-
-send : (line : List ℕ) → IfSome (send_in line) IsEntryInRange
-unfolding send_in
-send line =
-    bound IsEntryInRange (fitting (codes "NUM send NUM IP IP CHANNEL WORD") line) _ (λ form _.
-    bound IsEntryInRange (field 3 any_number line) _ (λ number _.
-    bound IsEntryInRange (field 4 ip_of line) _ (λ from _.
-    bound IsEntryInRange (field 5 ip_of line) _ (λ to _.
-    bound IsEntryInRange (field 7 hex_of line) _ (λ octets _.
-    tt)))))
 
 other_by : (b : Bool) → IfSome (cond b (Some entries.Other) None) IsEntryInRange
 other_by true = tt
@@ -192,33 +100,18 @@ other : (line : List ℕ) → IfSome (other_in line) IsEntryInRange
 unfolding other_in
 other line = other_by (is_among slave_forms line || is_among datagram_forms line)
 
-plain : (line : List ℕ) → IfSome (plain_entry_in line) IsEntryInRange
-unfolding plain_entry_in
-plain line =
-    first IsEntryInRange (decided_in line) _ (decided line)
-    (first IsEntryInRange (capacity_in line) _ (capacity line)
-    (first IsEntryInRange (shed_in line) _ (shed line)
-    (first IsEntryInRange (other_in line) [] (other line) tt)))
-
+-- nor has what is no decision
 entry : (line : List ℕ) → IfSome (entry_of line) IsEntryInRange
-unfolding entry_of
-entry line = first IsEntryInRange (send_in line) _ (send line) (first IsEntryInRange (plain_entry_in line) [] (plain line) tt)
+unfolding entry_of send_in plain_entry_in capacity_in shed_in
+entry line = search (decided, other, first, each) depth 30 fits 4000
 
 numbered : (line : List ℕ) → IfSome (numbered_in line) IsLineInRange
 unfolding numbered_in
 numbered line = bound IsLineInRange (field 1 any_number line) _ (λ number _. bound IsLineInRange (entry_of line) _ (λ e is. some_of IsEntryInRange (entry_of line) e is (entry line)))
 
-end : (line : List ℕ) → IfSome (end_in line) IsLineInRange
-unfolding end_in
-end line =
-    bound IsLineInRange (fitting (codes "end NUM NUM") line) _ (λ form _.
-    bound IsLineInRange (field 2 any_number line) _ (λ count _.
-    bound IsLineInRange (field 3 any_number line) _ (λ datagrams _.
-    tt)))
-
 line_in_range : (line : List ℕ) → IfSome (line_of line) IsLineInRange
-unfolding line_of
-line_in_range line = first IsLineInRange (numbered_in line) _ (numbered line) (first IsLineInRange (end_in line) [] (end line) tt)
+unfolding line_of end_in
+line_in_range line = search (numbered, first, each) depth 30 fits 4000
 
 sent_in_range : (from to : ℕ) (body : Body) → IsSaidInRange (sent_by from to body)
 sent_in_range from to (bodies.Sync stamp) = tt

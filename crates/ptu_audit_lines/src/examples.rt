@@ -3,7 +3,7 @@
 
 ghost use Rattle.std.specs.Prelude.{◌≡◌, ◌∷◌, [], Some, None, pos, negsuc, codes};
 ghost use Rattle.ptu_units.specs.declared.kind.Kind.TheVariants as kinds;
-ghost use Rattle.ptu_audit_lines.specs.Entry.{line_of};
+ghost use Rattle.ptu_audit_lines.specs.Entry.{IsOther, line_of};
 ghost use Rattle.ptu_audit_lines.specs.declared.entry.Decision.TheVariants as decisions;
 ghost use Rattle.ptu_audit_lines.specs.declared.entry.Entry.TheVariants as entries;
 ghost use Rattle.ptu_audit_lines.specs.declared.entry.ReportLine.TheVariants as lines;
@@ -54,70 +54,40 @@ pub fn changes_and_datagrams()
 
 /// Lines that say nothing of a grandmaster's promises: what slaves do and hear.
 pub fn lines_of_nodes()
-    ensures selected { line_of (codes "9 selected 10.0.1.17 10.0.0.1")
-        ≡ Some (lines.At 9 entries.Other) }
-    ensures selected_none { line_of (codes "4 selected 10.0.1.17 none")
-        ≡ Some (lines.At 4 entries.Other) }
-    ensures nobody { line_of (codes "2 nobody")
-        ≡ Some (lines.At 2 entries.Other) }
-    ensures announce { line_of (codes "9 heard announce 10.0.0.1 class 84 at 2003")
-        ≡ Some (lines.At 9 entries.Other) }
-    ensures sync { line_of (codes "8 heard sync 10.0.0.1 seq 6 at 2002")
-        ≡ Some (lines.At 8 entries.Other) }
-    ensures follow_up { line_of (codes "8 heard follow_up 10.0.0.1 at 3")
-        ≡ Some (lines.At 8 entries.Other) }
-    ensures delay_resp { line_of (codes "8 heard delay_resp 10.0.0.1 seq 7 at 4")
-        ≡ Some (lines.At 8 entries.Other) }
-    ensures answered { line_of (codes "3 answered at 10")
-        ≡ Some (lines.At 3 entries.Other) }
-    ensures no_grant { line_of (codes "3 silent nogrant at 0")
-        ≡ Some (lines.At 3 entries.Other) }
-    ensures too_soon { line_of (codes "5 silent soon at 10 earliest 11")
-        ≡ Some (lines.At 5 entries.Other) }
-    ensures grant { line_of (codes "6 grant announce 300")
-        ≡ Some (lines.At 6 entries.Other) }
-    ensures denial { line_of (codes "6 denial sync")
-        ≡ Some (lines.At 6 entries.Other) }
-    ensures cancel { line_of (codes "6 cancel delay_resp")
-        ≡ Some (lines.At 6 entries.Other) }
-    ensures cancel_code { line_of (codes "6 cancel 10")
-        ≡ Some (lines.At 6 entries.Other) }
-    ensures ack { line_of (codes "6 ack sync")
-        ≡ Some (lines.At 6 entries.Other) }
-    ensures ack_code { line_of (codes "6 ack 10")
-        ≡ Some (lines.At 6 entries.Other) }
+    ensures selected { IsOther 9 (codes "9 selected 10.0.1.17 10.0.0.1") }
+    ensures selected_none { IsOther 4 (codes "4 selected 10.0.1.17 none") }
+    ensures nobody { IsOther 2 (codes "2 nobody") }
+    ensures announce { IsOther 9 (codes "9 heard announce 10.0.0.1 class 84 at 2003") }
+    ensures sync { IsOther 8 (codes "8 heard sync 10.0.0.1 seq 6 at 2002") }
+    ensures follow_up { IsOther 8 (codes "8 heard follow_up 10.0.0.1 at 3") }
+    ensures delay_resp { IsOther 8 (codes "8 heard delay_resp 10.0.0.1 seq 7 at 4") }
+    ensures answered { IsOther 3 (codes "3 answered at 10") }
+    ensures no_grant { IsOther 3 (codes "3 silent nogrant at 0") }
+    ensures too_soon { IsOther 5 (codes "5 silent soon at 10 earliest 11") }
+    ensures grant { IsOther 6 (codes "6 grant announce 300") }
+    ensures denial { IsOther 6 (codes "6 denial sync") }
+    ensures cancel { IsOther 6 (codes "6 cancel delay_resp") }
+    ensures cancel_code { IsOther 6 (codes "6 cancel 10") }
+    ensures ack { IsOther 6 (codes "6 ack sync") }
+    ensures ack_code { IsOther 6 (codes "6 ack 10") }
 {}
 
 /// Lines that say nothing of a grandmaster's promises: why a datagram was ignored.
 pub fn lines_of_ignored_datagrams()
-    ensures type_of_no_message { line_of (codes "2 ignored type 13")
-        ≡ Some (lines.At 2 entries.Other) }
-    ensures other { line_of (codes "2 ignored other 1")
-        ≡ Some (lines.At 2 entries.Other) }
-    ensures stranger { line_of (codes "2 ignored stranger")
-        ≡ Some (lines.At 2 entries.Other) }
-    ensures domain { line_of (codes "2 ignored domain 5")
-        ≡ Some (lines.At 2 entries.Other) }
-    ensures target { line_of (codes "2 ignored target")
-        ≡ Some (lines.At 2 entries.Other) }
-    ensures short { line_of (codes "2 ignored fault short 33")
-        ≡ Some (lines.At 2 entries.Other) }
-    ensures version { line_of (codes "2 ignored fault version 1")
-        ≡ Some (lines.At 2 entries.Other) }
-    ensures sdo { line_of (codes "2 ignored fault sdo 3")
-        ≡ Some (lines.At 2 entries.Other) }
-    ensures length { line_of (codes "2 ignored fault length 55 54")
-        ≡ Some (lines.At 2 entries.Other) }
-    ensures body { line_of (codes "2 ignored fault body 43 44")
-        ≡ Some (lines.At 2 entries.Other) }
-    ensures too_many { line_of (codes "2 ignored fault toomany 172")
-        ≡ Some (lines.At 2 entries.Other) }
-    ensures tlv_short { line_of (codes "2 ignored fault tlv 54 short 3")
-        ≡ Some (lines.At 2 entries.Other) }
-    ensures tlv_overrun { line_of (codes "2 ignored fault tlv 44 overrun 6 5")
-        ≡ Some (lines.At 2 entries.Other) }
-    ensures tlv_length { line_of (codes "2 ignored fault tlv 44 length 4 5")
-        ≡ Some (lines.At 2 entries.Other) }
+    ensures type_of_no_message { IsOther 2 (codes "2 ignored type 13") }
+    ensures other { IsOther 2 (codes "2 ignored other 1") }
+    ensures stranger { IsOther 2 (codes "2 ignored stranger") }
+    ensures domain { IsOther 2 (codes "2 ignored domain 5") }
+    ensures target { IsOther 2 (codes "2 ignored target") }
+    ensures short { IsOther 2 (codes "2 ignored fault short 33") }
+    ensures version { IsOther 2 (codes "2 ignored fault version 1") }
+    ensures sdo { IsOther 2 (codes "2 ignored fault sdo 3") }
+    ensures length { IsOther 2 (codes "2 ignored fault length 55 54") }
+    ensures body { IsOther 2 (codes "2 ignored fault body 43 44") }
+    ensures too_many { IsOther 2 (codes "2 ignored fault toomany 172") }
+    ensures tlv_short { IsOther 2 (codes "2 ignored fault tlv 54 short 3") }
+    ensures tlv_overrun { IsOther 2 (codes "2 ignored fault tlv 44 overrun 6 5") }
+    ensures tlv_length { IsOther 2 (codes "2 ignored fault tlv 44 length 4 5") }
 {}
 
 /// Lines of none of the forms.

@@ -75,6 +75,18 @@ grant_test opening history n c k l u capacity fits placed in_force is =
     flip true = refl
     flip false = refl
 
+-- what it comes to, by whether it fits
+pub fit_fault : (opening : ℕ) (history : List Record) (n : ℕ) (c : Client) (k : Kind) (l : ℤ) (u : ℕ) (old : Trail) (known : Known) (lease : Option Lease) (advanced left : List (End × ℕ)) (fits b : Bool)
+    → fits ≡ b → IsPlaced history n c × IsKnown history c known → lease ≡ lease_at k known
+    → ((history : List Record) (m : ℕ) → m ≤ n → AreLive history m old.live → AreLive history n advanced)
+    → ((grants : List Grant) → AreOf grants advanced → IsLeaseOf c k lease grants → AreOf (without c k grants) left)
+    → ((grants : List Grant) → AreOf grants left → fits ≡ not (ltb old.capacity (rate_sum grants + rate_of l)))
+    → StandsFor opening old history → cond b None (Some causes.Fit) ≡ fault_of opening history (Granted n c k l u) []
+fit_fault opening history n c k l u old known lease advanced left fits b by judged is advance remove sum s =
+    ap (λ t. cond t None (Some causes.Fit)) (sym by)
+    ∙ grant_test opening history n c k l u old.capacity fits judged.0 s.capacity
+    (sum (without c k (live_grants history n)) (beside opening history n c k old known lease advanced left s judged is advance remove))
+
 -- ---- moments
 
 pub moment_one : (history : List Record) (r : Record) (n : ℕ) → book_moment history ≤ n → book_part r ≡ n → n ≡ book_moment (history ++ r ∷ [])
@@ -184,3 +196,16 @@ judged_live opening history x capacity shed old advanced left s le advance remov
       past,
       live_changed history x capacity shed left (remove (history ++ Capacity x capacity ∷ []) x x (begin_known history x capacity old.clients s.clients) (live-undecided history x (Capacity x capacity) advanced refl (advance history (book_moment history) past s.live))),
     )
+
+-- what it comes to, by whether what is live is more than the capacity
+pub over_fault : (opening : ℕ) (history : List Record) (x capacity : ℕ) (shed : List Shedding) (old : Trail) (advanced left : List (End × ℕ)) (total : ℕ) (b : Bool)
+    → ltb capacity total ≡ b → x < 2 ^ 62 → old.moment ≤ x
+    → ((history : List Record) (m : ℕ) → m ≤ x → AreLive history m old.live → AreLive history x advanced)
+    → ((history : List Record) (n at : ℕ) → AreKnown history old.clients → AreLive history n advanced → AreLive (history ++ map (record_of at) shed) n left)
+    → ((grants : List Grant) → AreOf grants left → total ≡ rate_sum grants)
+    → StandsFor opening old history → cond b (Some causes.Over) None ≡ fault_of opening history (Capacity x capacity) (map (record_of x) shed)
+over_fault opening history x capacity shed old advanced left total b by below le advance remove sum s =
+    let live = judged_live opening history x capacity shed old advanced left s le advance remove in
+    ap (λ t. cond t (Some causes.Over) None) (sym by)
+    ∙ change_test x (book_moment history) total _ capacity below live.0
+    (over_is history x capacity shed total (sum (live_grants (history ++ Capacity x capacity ∷ map (record_of x) shed) x) live.1))

@@ -1,26 +1,16 @@
-use Rattle.std.proofs.Common.{◌∙◌, Some, None, cond, ap, refl, sym}
+use Rattle.std.proofs.Common.{refl}
 use Rattle.ptu_history.specs.History.{Granted}
-use Rattle.ptu_history.specs.Live.{live_grants, without}
-use Rattle.ptu_trail.specs.declared.cause.NoCause.TheVariants as causes
 use Rattle.ptu_trail.specs.declared.trail.Trail.{Trail}
-use Rattle.ptu_trail.proofs.Judging.{beside, grant_test, placed_le, stands_decided}
+use Rattle.ptu_trail.proofs.Judging.{beside, fit_fault, placed_le, stands_decided}
 use Rattle.ptu_trail.proofs.trail.Trail.grant.Goals as goal
 
 pub returns-then-not-fits-clause-fault : goal.returns-then-not-fits-clause-fault
 returns-then-not-fits-clause-fault c = λ opening history s.
-    let judged = c.in-Ok.ensures.judged history s.clients s.moment in
-    let left = beside opening history c.args.at c.args.client c.args.kind c.args.self.now c.in-Ok.known c.lease.result c.advance.new.self c.remove.new.self s judged c.lease.ensures c.advance.ensures c.remove.ensures in
-    ap (λ b. cond b None (Some causes.Fit)) (sym c.if-not-fits.true)
-    ∙ grant_test opening history c.args.at c.args.client c.args.kind c.args.log c.args.until c.args.self.now.capacity c.fits.result judged.0 s.capacity
-    (c.fits.ensures.fits (without c.args.client c.args.kind (live_grants history c.args.at)) left)
+    fit_fault opening history c.args.at c.args.client c.args.kind c.args.log c.args.until c.args.self.now c.in-Ok.known c.lease.result c.advance.new.self c.remove.new.self c.fits.result _ c.if-not-fits.true (c.in-Ok.ensures.judged history s.clients s.moment) c.lease.ensures c.advance.ensures c.remove.ensures c.fits.ensures.fits s
 
 pub returns-clause-fault : goal.returns-clause-fault
 returns-clause-fault c = λ opening history s.
-    let judged = c.in-Ok.ensures.judged history s.clients s.moment in
-    let left = beside opening history c.args.at c.args.client c.args.kind c.args.self.now c.in-Ok.known c.lease.result c.advance.new.self c.remove.new.self s judged c.lease.ensures c.advance.ensures c.remove.ensures in
-    ap (λ b. cond b None (Some causes.Fit)) (sym c.if-not-fits.false)
-    ∙ grant_test opening history c.args.at c.args.client c.args.kind c.args.log c.args.until c.args.self.now.capacity c.fits.result judged.0 s.capacity
-    (c.fits.ensures.fits (without c.args.client c.args.kind (live_grants history c.args.at)) left)
+    fit_fault opening history c.args.at c.args.client c.args.kind c.args.log c.args.until c.args.self.now c.in-Ok.known c.lease.result c.advance.new.self c.remove.new.self c.fits.result _ c.if-not-fits.false (c.in-Ok.ensures.judged history s.clients s.moment) c.lease.ensures c.advance.ensures c.remove.ensures c.fits.ensures.fits s
 
 pub returns-clause-stands : goal.returns-clause-stands
 returns-clause-stands c = λ opening history s.
