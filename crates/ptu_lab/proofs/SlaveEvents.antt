@@ -34,7 +34,7 @@ use Rattle.ptu_nodes.specs.Noted.{Noted, with_handed, with_said}
 use Rattle.ptu_nodes.proofs.Noting.{said_nothing, sent_nothing}
 use Rattle.ptu_lab.specs.NodeStanding.{IsSlaveNode, StandsAsSlave}
 use Rattle.ptu_nodes.specs.Standing.{IsIdle}
-use Rattle.ptu_lab.specs.SlaveWords.{HasStepped, selection_by}
+use Rattle.ptu_lab.specs.SlaveWords.{HasSlaveStepped, selection_by}
 use Rattle.ptu_lab.proofs.Room.{sure_cleared}
 
 -- ---- what was sent
@@ -56,7 +56,7 @@ pub stepped : (ip : ℕ) (old new : Kept) (judges news : List Held) (before afte
     → IsSlaveNode ip old judges before begun s → ((m : ℕ) → e ≢ ReplaceJudge m None)
     → AllByRecursion (λ m. m < length old.masters) (judged_masters (length old.masters) e) → IsSame old new
     → Steps s.opened.openings old new news s.taken t e → deed.entries ≡ (slave_step (node_setup s.opened) s.taken t e).entries
-    → after.sent ≡ deed.datagrams → IsSure after [] → HasStepped ip new news after s deed
+    → after.sent ≡ deed.datagrams → IsSure after [] → HasSlaveStepped ip new news after s deed
 stepped ip old new judges news before after begun s t e deed h ruled within same steps entries sends sure = record {
   node = λ cleared idle ready. record {
     address = h.address;
@@ -95,7 +95,7 @@ pub plain_stepped : (ip : ℕ) (old new : Kept) (judges news : List Held) (befor
     → Steps s.opened.openings old new news s.taken t e → at ≡ max t old.moment → room.sent ≡ before.sent
     → Some (room.sent ++ map (departure_of old.config old.masters all_ones) handed) ≡ Some after.sent
     → handed ≡ sendings (setup_of old.config s.opened.openings) s.taken at e → IsSure after []
-    → HasStepped ip new news after s (deed s.opened s.taken t e)
+    → HasSlaveStepped ip new news after s (deed s.opened s.taken t e)
 plain_stepped ip old new judges news before room after begun s t at e handed h ruled within same steps is kept told stated sure =
     stepped ip old new judges news before after begun s t e (deed s.opened s.taken t e) h ruled within same steps refl
     (all_sent room after _ (kept ∙ h.idle) told
@@ -108,7 +108,7 @@ plain_stepped ip old new judges news before room after begun s t at e handed h r
 
 -- what is said of an event, and what it sent was handed over, which cleared the port
 pub event_done : (ip t : ℕ) (new : Kept) (news : List Held) (after last : MemoryPort) (s : Slave) (said : List Statement) (deed : Deed) (old middle noted : Noted)
-    → HasStepped ip new news after s deed → last ≡ record after { sent = [] } → middle ≡ with_said said old
+    → HasSlaveStepped ip new news after s deed → last ≡ record after { sent = [] } → middle ≡ with_said said old
     → ((openings : List (Option Rule)) (L : Record) → StandsFor openings new news L → noted ≡ with_said (selection_by ip new L t ∷ []) (with_handed ip after.sent middle))
     → HasDone (StandsAsSlave ip new news last true) ip (event_deed s t said deed) old noted
 event_done ip t new news after last s said deed old middle noted h cleared before says = record {
@@ -135,7 +135,7 @@ on_ok_both (Err x) f a b = tt
 
 -- the same of what is kept, and is the same, at the end
 pub ended : (ip ip' t : ℕ) (new kept : Kept) (news judges : List Held) (after last : MemoryPort) (s : Slave) (said : List Statement) (deed : Deed) (old middle noted : Noted)
-    → ip' ≡ ip → kept ≡ new → judges ≡ news → HasStepped ip new news after s deed → middle ≡ with_said said old → last ≡ record after { sent = [] }
+    → ip' ≡ ip → kept ≡ new → judges ≡ news → HasSlaveStepped ip new news after s deed → middle ≡ with_said said old → last ≡ record after { sent = [] }
     → ((openings : List (Option Rule)) (L : Record) → StandsFor openings new news L → noted ≡ with_said (selection_by ip new L t ∷ []) (with_handed ip after.sent middle))
     → HasDone (StandsAsSlave ip' kept judges last true) ip (event_deed s t said deed) old noted
 ended ip ip' t new kept news judges after last s said deed old middle noted same_ip same_kept same_judges h before cleared says =
@@ -146,7 +146,7 @@ ended ip ip' t new kept news judges after last s said deed old middle noted same
 
 -- where nothing is sent
 pub quietly_ended : (ip ip' t : ℕ) (new kept : Kept) (news judges : List Held) (before after last : MemoryPort) (s : Slave) (deed : Deed) (old noted : Noted)
-    → ip' ≡ ip → kept ≡ new → HasStepped ip new news after s deed → judges ≡ news → after ≡ before → last ≡ after → IsIdle before
+    → ip' ≡ ip → kept ≡ new → HasSlaveStepped ip new news after s deed → judges ≡ news → after ≡ before → last ≡ after → IsIdle before
     → ((openings : List (Option Rule)) (L : Record) → StandsFor openings new news L → noted ≡ with_said (selection_by ip new L t ∷ []) old)
     → HasDone (StandsAsSlave ip' kept judges last true) ip (event_deed s t [] deed) old noted
 quietly_ended ip ip' t new kept news judges before after last s deed old noted same_ip same_kept h same_judges still kept_port idle says =
@@ -159,7 +159,7 @@ quietly_ended ip ip' t new kept news judges before after last s deed old noted s
 -- a fresh judge of this rule took over
 pub replaced : (ip : ℕ) (old new : Kept) (judges news : List Held) (judge : Held) (before after : MemoryPort) (begun : Bool) (s : Slave) (t m : ℕ) (rule : Rule)
     → judge ≡ fresh rule → IsSlaveNode ip old judges before begun s → m < length old.masters → IsSame old new
-    → Steps s.opened.openings old new news s.taken t (ReplaceJudge m judge.rule) → after ≡ before → HasStepped ip new news after s (deed s.opened s.taken t (ReplaceJudge m (Some rule)))
+    → Steps s.opened.openings old new news s.taken t (ReplaceJudge m judge.rule) → after ≡ before → HasSlaveStepped ip new news after s (deed s.opened s.taken t (ReplaceJudge m (Some rule)))
 replaced ip old new judges news judge before after begun s t m rule is h within same steps still =
     stepped ip old new judges news before after begun s t (ReplaceJudge m (Some rule)) (deed s.opened s.taken t (ReplaceJudge m (Some rule))) h (λ n other. absurd (cc other)) (within, tt) same
     (subst (λ (j : Held). Steps s.opened.openings old new news s.taken t (ReplaceJudge m j.rule)) is steps) refl

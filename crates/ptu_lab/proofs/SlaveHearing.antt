@@ -38,7 +38,7 @@ use Rattle.ptu_nodes.proofs.Noting.{said_nothing, sent_nothing}
 use Rattle.ptu_lab.specs.NodeStanding.{IsSlaveNode, StandsAsSlave}
 use Rattle.ptu_nodes.specs.Standing.{IsIdle}
 use Rattle.ptu_lab.specs.SlaveStatements.{IsOfOne, is_ignored}
-use Rattle.ptu_lab.specs.SlaveWords.{HasStepped, selection_by}
+use Rattle.ptu_lab.specs.SlaveWords.{HasSlaveStepped, selection_by}
 use Rattle.ptu_lab.proofs.SlaveEvents.{all_sent, ended, stepped}
 use Rattle.ptu_slave_messages.proofs.Senders.{judged_within, no_judge, taken_within}
 
@@ -128,10 +128,10 @@ answer_within config masters x ip octets reply h is = by_reception (reception co
 
 -- where nothing happened
 unstepped : (ip : ℕ) (old new : Kept) (judges news : List Held) (before after : MemoryPort) (begun : Bool) (s : Slave) → IsSlaveNode ip old judges before begun s → new ≡ old → news ≡ judges
-    → after.sent ≡ [] → IsSure after [] → HasStepped ip new news after s (record { entries = []; datagrams = [] })
+    → after.sent ≡ [] → IsSure after [] → HasSlaveStepped ip new news after s (record { entries = []; datagrams = [] })
 unstepped ip old new judges news before after begun s h same same_judges sent sure =
-    subst (λ k. HasStepped ip k news after s (record { entries = []; datagrams = [] })) (sym same)
-    (subst (λ js. HasStepped ip old js after s (record { entries = []; datagrams = [] })) (sym same_judges)
+    subst (λ k. HasSlaveStepped ip k news after s (record { entries = []; datagrams = [] })) (sym same)
+    (subst (λ js. HasSlaveStepped ip old js after s (record { entries = []; datagrams = [] })) (sym same_judges)
     (record {
       node = λ cleared idle ready. subst (λ L. IsSlaveNode ip old judges cleared true (record s { taken = L })) (sym (append-nil s.taken)) (anew cleared idle ready);
       sends = sent;
@@ -158,9 +158,9 @@ pub datagram_stepped : (ip : ℕ) (old new : Kept) (judges news : List Held) (be
     → ((m : ℕ) (message : Message) → reception old.config old.masters from octets ≡ Ok (m, message) → Steps s.opened.openings old new news s.taken t (event_of m message))
     → room.sent ≡ before.sent
     → Some (room.sent ++ replies_in old.config old.masters (reception old.config old.masters from octets)) ≡ Some after.sent → IsSure after []
-    → HasStepped ip new news after s (datagram_deed s.opened s.taken t from octets)
+    → HasSlaveStepped ip new news after s (datagram_deed s.opened s.taken t from octets)
 datagram_stepped ip old new judges news before room after begun s t from octets h same ignored steps kept told sure =
-    subst (λ (n : Node). HasStepped ip new news after s (datagram_deed n s.taken t from octets)) same_node
+    subst (λ (n : Node). HasSlaveStepped ip new news after s (datagram_deed n s.taken t from octets)) same_node
     (by_reception (reception old.config old.masters from octets) refl (all_sent room after _ (kept ∙ h.idle) told ∙ node_replies node s.taken t from octets))
   where
     node : Node
@@ -170,7 +170,7 @@ datagram_stepped ip old new judges news before room after begun s t from octets 
     same_node = ap₂ (λ (config : SlaveConfig) (masters : List Master). let n : Node = record { config = config; masters = masters; openings = s.opened.openings } in n) (sym h.config) (sym h.masters)
 
     by_reception : (r : Result (ℕ × Message) SlaveReason) → reception old.config old.masters from octets ≡ r → after.sent ≡ (reception_deed node s.taken t r).datagrams
-        → HasStepped ip new news after s (reception_deed node s.taken t r)
+        → HasSlaveStepped ip new news after s (reception_deed node s.taken t r)
     by_reception (Err reason) taken sends = unstepped ip old new judges news before after begun s h (ignored reason taken).0 (ignored reason taken).1 sends sure
     by_reception (Ok (m, message)) taken sends =
         stepped ip old new judges news before after begun s t (event_of m message) (reception_deed node s.taken t (Ok (m, message))) h (λ n. no_judge m n message.header message.body)
@@ -204,7 +204,7 @@ event_heard s t d (heard.Signals x m list reply) is = refl
 
 pub event_received : (ip ip' t from : ℕ) (octets : List ℕ) (old new kept : Kept) (masters : List Master) (news judges : List Held) (after last : MemoryPort) (s : Slave) (h : Heard) (noted middle noted' : Noted)
     → ip' ≡ ip → kept ≡ new → judges ≡ news → s.opened.masters ≡ old.masters
-    → HasStepped ip new news after s (datagram_deed s.opened s.taken t from octets) → h ≡ datagram_heard s.opened s.taken t from octets
+    → HasSlaveStepped ip new news after s (datagram_deed s.opened s.taken t from octets) → h ≡ datagram_heard s.opened s.taken t from octets
     → is_ignored h ≡ false → masters ≡ old.masters → middle ≡ with_said (heard_said masters h) noted → last ≡ record after { sent = [] }
     → ((openings : List (Option Rule)) (L : Record) → StandsFor openings new news L → noted' ≡ with_said (selection_by ip new L t ∷ []) (with_handed ip after.sent middle))
     → HasDone (StandsAsSlave ip' kept judges last true) ip (slaves.datagram_deed s t from octets) noted noted'
@@ -218,7 +218,7 @@ event_received ip ip' t from octets old new kept masters news judges after last 
     deed = datagram_deed s.opened s.taken t from octets
 
 pub nothing_received : (ip t from : ℕ) (octets : List ℕ) (new : Kept) (masters : List Master) (news : List Held) (after : MemoryPort) (s : Slave) (h : Heard) (noted noted' : Noted)
-    → HasStepped ip new news after s (datagram_deed s.opened s.taken t from octets) → h ≡ datagram_heard s.opened s.taken t from octets
+    → HasSlaveStepped ip new news after s (datagram_deed s.opened s.taken t from octets) → h ≡ datagram_heard s.opened s.taken t from octets
     → is_ignored h ≡ true → noted' ≡ with_said (heard_said masters h) noted
     → HasDone (StandsAsSlave ip new news after true) ip (slaves.datagram_deed s t from octets) noted noted'
 nothing_received ip t from octets new masters news after s h noted noted' stepped is none says =

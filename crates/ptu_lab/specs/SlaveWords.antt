@@ -35,7 +35,7 @@ new_config setup = record {
 -- an event has made of the slave of a world the slave with the entries of this deed, of which this
 -- is kept then, and whose judges hold this; its port holds what the deed sends, until it is cleared,
 -- and no send of it is to fail
-pub record HasStepped (ip : ℕ) (kept : Kept) (judges : List Held) (port : MemoryPort) (s : Slave)
+pub record HasSlaveStepped (ip : ℕ) (kept : Kept) (judges : List Held) (port : MemoryPort) (s : Slave)
     (deed : Deed) : Type 0 where
   pub node : (cleared : MemoryPort) → IsIdle cleared → IsSure cleared []
       → IsSlaveNode ip kept judges cleared true (entered s deed)
@@ -44,7 +44,7 @@ pub record HasStepped (ip : ℕ) (kept : Kept) (judges : List Held) (port : Memo
 
 -- the same of what is seen of a slave
 abbrev pub HasSteppedTo : {B : Type 0} → ℕ → Seen MemoryPort B → Slave → Deed → Type 0
-HasSteppedTo ip seen s deed = HasStepped ip seen.kept seen.judges seen.port s deed
+HasSteppedTo ip seen s deed = HasSlaveStepped ip seen.kept seen.judges seen.port s deed
 
 -- beside what was sent the port has room for so many datagrams, of so many octets in all
 pub record HasRoom (port : MemoryPort) (count size : ℕ) : Type 0 where

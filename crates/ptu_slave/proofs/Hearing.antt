@@ -21,7 +21,7 @@ use Rattle.ptu_judges.proofs.Holding.{fresh_stands}
 use Rattle.ptu_profile.specs.declared.slave.Master.{Master}
 use Rattle.ptu_profile.specs.declared.slave.SlaveConfig.{SlaveConfig}
 use Rattle.ptu_slave_messages.specs.declared.content.Content.TheVariants as content
-use Rattle.ptu_slave_messages.specs.declared.content.Taken.{Taken}
+use Rattle.ptu_slave_messages.specs.declared.content.Accepted.{Accepted}
 use Rattle.ptu_slave_messages.specs.declared.reason.SlaveReason.{SlaveReason}
 use Rattle.ptu_slave_messages.specs.declared.signal.Signal.{Signal}
 use Rattle.ptu_profile.specs.Slave.{address_of}
@@ -118,12 +118,12 @@ stands_fresh f xs core fresh many moment stopped asks selects = record {
 -- ---- datagrams
 
 -- what is taken is a message of the master
-pub record IsTaken (wants : Wants) (r : Result (ℕ × Message) SlaveReason) (taken : Taken) : Type 0 where
+pub record IsTaken (wants : Wants) (r : Result (ℕ × Message) SlaveReason) (taken : Accepted) : Type 0 where
   pub message : Message
   pub received : r ≡ Ok (taken.master, message)
   pub kept : taken ≡ taken_of wants (taken.master, message)
 
-pub taken_from : (wants : Wants) (r : Result (ℕ × Message) SlaveReason) (taken : Taken) → Ok taken ≡ taken_or_not wants r → IsTaken wants r taken
+pub taken_from : (wants : Wants) (r : Result (ℕ × Message) SlaveReason) (taken : Accepted) → Ok taken ≡ taken_or_not wants r → IsTaken wants r taken
 taken_from wants (Err reason) taken is = absurd (cc is)
 taken_from wants (Ok (m, message)) taken is = record {
   message = message;
@@ -135,9 +135,9 @@ taken_from wants (Ok (m, message)) taken is = record {
     same = cc is
 
     master : taken.master ≡ m
-    master = ap (λ (k : Taken). k.master) same
+    master = ap (λ (k : Accepted). k.master) same
 
-pub same_taken : (wants : Wants) (r : Result (ℕ × Message) SlaveReason) (taken : Taken) (m : ℕ) (message : Message) → r ≡ Ok (m, message) → Ok taken ≡ taken_or_not wants r
+pub same_taken : (wants : Wants) (r : Result (ℕ × Message) SlaveReason) (taken : Accepted) (m : ℕ) (message : Message) → r ≡ Ok (m, message) → Ok taken ≡ taken_or_not wants r
     → (taken.master ≡ m) × (taken ≡ taken_of wants (taken.master, message))
 same_taken wants r taken m message received is = (master, subst (λ n. taken ≡ taken_of wants (n, message)) (sym master) same)
   where
@@ -145,4 +145,4 @@ same_taken wants r taken m message received is = (master, subst (λ n. taken ≡
     same = let e : Ok taken ≡ Ok (taken_of wants (m, message)) = is ∙ ap (taken_or_not wants) received in cc e
 
     master : taken.master ≡ m
-    master = ap (λ (k : Taken). k.master) same
+    master = ap (λ (k : Accepted). k.master) same

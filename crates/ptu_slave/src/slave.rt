@@ -32,7 +32,7 @@ use crate::ticks::{end_all, tick_all};
 use ptu_judges::{Conduct, Judge};
 use ptu_outside::{Failed, Port};
 use ptu_profile::{Master, SlaveConfig};
-use ptu_slave_messages::{Content, Heard, Taken, receive, send_reply};
+use ptu_slave_messages::{Accepted, Content, Heard, receive, send_reply};
 use ptu_units::sizes::LONGEST_DATAGRAM;
 use ptu_units::{Moment, OutOfMemory};
 use std::alloc::Global;
@@ -393,7 +393,7 @@ fn hear<P: Port>(
     judges: &mut Vec<Box<dyn Judge>>,
     port: &mut P,
     t: Moment,
-    taken: Taken,
+    taken: Accepted,
 ) -> Heard
     requires master { taken.master < length core.old.masters }
     requires judges { length judges.old.items ≡ length core.old.masters }
@@ -424,7 +424,7 @@ fn hear<P: Port>(
     ensures same { IsSame core.old core.new }
     ensures judges { length judges.new.items ≡ length judges.old.items }
 {
-    let Taken {
+    let Accepted {
         master,
         source,
         sequence: seq,

@@ -15,7 +15,7 @@ use Rattle.ptu_profile.specs.declared.slave.Master.{Master}
 use Rattle.ptu_profile.specs.declared.slave.SlaveConfig.{SlaveConfig}
 use Rattle.ptu_slave_messages.specs.declared.content.Content.{Content}
 use Rattle.ptu_slave_messages.specs.declared.content.Content.TheVariants as content
-use Rattle.ptu_slave_messages.specs.declared.content.Taken.{Taken}
+use Rattle.ptu_slave_messages.specs.declared.content.Accepted.{Accepted}
 use Rattle.ptu_slave_messages.specs.declared.heard.Heard.{Heard}
 use Rattle.ptu_slave_messages.specs.declared.heard.Heard.TheVariants as heard
 use Rattle.ptu_outside.specs.declared.reply.Reply.{Reply}
@@ -134,7 +134,7 @@ content_of wants (body.Signaling target tlvs) = content.Signals (signals_of want
 content_of wants (body.DelayReq stamp) = content.FollowUp
 content_of wants body.Ignored = content.FollowUp
 
-abbrev pub taken_of : Wants → ℕ × Message → Taken
+abbrev pub taken_of : Wants → ℕ × Message → Accepted
 taken_of wants (m, message) = record {
   master = m;
   source = message.header.source;
@@ -142,6 +142,6 @@ taken_of wants (m, message) = record {
   content = content_of wants message.body;
 }
 
-abbrev pub taken_or_not : Wants → Result (ℕ × Message) SlaveReason → Result Taken SlaveReason
+abbrev pub taken_or_not : Wants → Result (ℕ × Message) SlaveReason → Result Accepted SlaveReason
 taken_or_not wants (Err reason) = Err reason
 taken_or_not wants (Ok taken) = Ok (taken_of wants taken)

@@ -4,7 +4,7 @@ use ptu_messages::TlvList;
 
 /// What a slave needs of a message that it takes.
 #[derive(Debug, Drop)]
-pub struct Taken {
+pub struct Accepted {
     /// The place of the master that sent it.
     pub master: usize,
     /// The sourcePortIdentity.

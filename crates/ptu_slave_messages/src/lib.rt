@@ -14,7 +14,7 @@ mod signal;
 mod signaling;
 mod sorting;
 
-pub use content::{Content, Taken};
+pub use content::{Accepted, Content};
 pub use heard::{Heard, HeardReply};
 pub use kinds::Kinds;
 pub use laws::sample_datagrams;

@@ -9,7 +9,7 @@ ghost use Rattle.ptu_record.specs.Step.{wanted_kind};
 ghost use Rattle.ptu_slave_messages.specs.Heard.{FitsReply, HasTlvs, ack_by, acks_of, content_of, grant_signal, signal_by, signals_of, taken_or_not};
 ghost use Rattle.ptu_slave_messages.specs.Reception.{reception};
 
-use crate::content::{Content, Taken};
+use crate::content::{Accepted, Content};
 use crate::reason::SlaveReason;
 use crate::signal::{Signal, SignalList};
 use crate::sorting::sender;
@@ -123,7 +123,7 @@ pub fn receive(
     masters: &[Master],
     from: u32,
     bytes: &[u8],
-) -> Result<Result<Taken, SlaveReason>, OutOfMemory>
+) -> Result<Result<Accepted, SlaveReason>, OutOfMemory>
     ensures answer { IfOk result (λ answer. answer ≡
         taken_or_not config.now.wants (reception config.now masters.now from bytes.now)) }
     ensures reply { IfOk result (λ answer. IfOk answer (λ taken. FitsReply taken.content)) }
@@ -138,7 +138,7 @@ pub fn receive(
         Err(reason) => return Ok(Err(reason)),
     };
     let content = content(alloc, &config.wants, &message.body)?;
-    Ok(Ok(Taken {
+    Ok(Ok(Accepted {
         master,
         source: message.header.source,
         sequence: message.header.sequence,

@@ -2,7 +2,7 @@ use Rattle.std.proofs.Common.{◌∙◌, List, ap, ap₂, subst, sym}
 use Rattle.ptu_outside.specs.HandsOver.{HandsOver}
 use Rattle.ptu_profile.specs.declared.slave.Master.{Master}
 use Rattle.ptu_profile.specs.declared.slave.SlaveConfig.{SlaveConfig}
-use Rattle.ptu_slave_messages.specs.declared.content.Taken.{Taken}
+use Rattle.ptu_slave_messages.specs.declared.content.Accepted.{Accepted}
 use Rattle.ptu_outside.specs.Replies.{reply_failed, reply_sent}
 use Rattle.ptu_slave_messages.specs.Heard.{content_of, replies_in, reply_in, taken_or_not}
 use Rattle.ptu_slave_messages.specs.Reception.{reception}
@@ -34,8 +34,8 @@ returns-in-Ok-clause-judge g c = λ m message stamp received body_is ok.
     let answer = sym c.in-Ok.is ∙ c.in_ok-received.ensures.answer
     ∙ ap₂ (λ (config : SlaveConfig) (masters : List Master). taken_or_not config.wants (reception config masters c.args.from c.args.bytes.now)) c.config.ensures c.masters.ensures.masters in
     let is = same_taken c.args.self.now.core.config.wants (reception c.args.self.now.core.config c.args.self.now.core.masters c.args.from c.args.bytes.now) c.in-Ok.taken m message received answer in
-    rw (← is.0, ← ap (λ (k : Taken). k.sequence) is.1)
-    (c.hear.ensures.judge (ap (λ (k : Taken). k.content) is.1 ∙ ap (content_of c.args.self.now.core.config.wants) body_is))
+    rw (← is.0, ← ap (λ (k : Accepted). k.sequence) is.1)
+    (c.hear.ensures.judge (ap (λ (k : Accepted). k.content) is.1 ∙ ap (content_of c.args.self.now.core.config.wants) body_is))
 
 pub returns-in-Ok-clause-others : goal.returns-in-Ok-clause-others
 unfolding seen_by
@@ -43,4 +43,4 @@ returns-in-Ok-clause-others g c = λ m message received differs.
     let answer = sym c.in-Ok.is ∙ c.in_ok-received.ensures.answer
     ∙ ap₂ (λ (config : SlaveConfig) (masters : List Master). taken_or_not config.wants (reception config masters c.args.from c.args.bytes.now)) c.config.ensures c.masters.ensures.masters in
     let is = same_taken c.args.self.now.core.config.wants (reception c.args.self.now.core.config c.args.self.now.core.masters c.args.from c.args.bytes.now) c.in-Ok.taken m message received answer in
-    c.hear.ensures.others (λ sync. differs (event_sync c.args.self.now.core.config.wants m message (sym (ap (λ (k : Taken). k.content) is.1) ∙ sync)))
+    c.hear.ensures.others (λ sync. differs (event_sync c.args.self.now.core.config.wants m message (sym (ap (λ (k : Accepted). k.content) is.1) ∙ sync)))
