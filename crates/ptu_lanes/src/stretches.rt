@@ -216,7 +216,8 @@ where
             (ControlLaneDid P.Port C.Clock self.now.config.now rounds.now.count lanes.control) }
         ensures event { IfOk result.0.1
             (EventLaneDid P.Port C.Clock rounds.now.count lanes.event) }
-        ensures sending { IfOk result.1 (HaveTurned C.Clock senders rounds.now.count lanes.sending) }
+        ensures sending { IfOk result.1
+            (HaveTurned C.Clock senders rounds.now.count lanes.sending) }
     {
         let Lanes {
             control,
