@@ -1,5 +1,5 @@
 -- What a command makes of the grandmaster that it addresses, and that it leaves the other nodes as they are.
-use Rattle.std.proofs.Common.{◌≡◌, ◌∙◌, ℕ, List, [], ◌∷◌, length, Option, Some, None, option_map, Result, Ok, Err, IfOk, Bool, true, false, cond, eqb, leb, refl, sym, ap, subst, is_some, eq-eqb, eqb-true}
+use Rattle.std.proofs.Common.{◌≡◌, ◌∙◌, ℕ, List, [], ◌∷◌, Option, Some, None, option_map, Result, Ok, Err, IfOk, Bool, true, false, cond, eqb, refl, sym, ap, subst, eq-eqb, eqb-true}
 use Rattle.ptu_history.specs.Core.{history_after}
 use Rattle.ptu_history.specs.Events as events
 use Rattle.ptu_history.specs.Events.{Event}
@@ -10,7 +10,6 @@ use Rattle.ptu_gm_messages.specs.Items.{heard_in}
 use Rattle.ptu_gm_messages.specs.Deciding.{events_heard, events_of_datagram}
 use Rattle.ptu_record.specs.declared.rule.Rule.{Rule}
 use Rattle.ptu_record.specs.Step as slave_events
-use Rattle.ptu_profile.specs.Slave.{place_of}
 use Rattle.ptu_script.specs.declared.cause.Cause.{Cause}
 use Rattle.ptu_script.specs.declared.cause.Cause.TheVariants as causes
 use Rattle.ptu_script.specs.Fields.{◌>>=◌}
@@ -21,9 +20,9 @@ use Rattle.ptu_world.specs.Deeds.{Grandmaster, Slave, Node, IsGrandmaster, IsSla
 use Rattle.ptu_world.specs.Grandmasters as gm
 use Rattle.ptu_world.specs.Slaves as slaves
 use Rattle.ptu_world.specs.Promises.{GoesOn, Handed, addressed, delivery, handed_by}
-use Rattle.ptu_world.specs.World.{World, Stock, Done, add_master, at_grandmaster, datagram_deed, datagram_numbered, delivered_to, done_by, grandmaster_at, grandmaster_by, new_grandmaster, new_slave, or_cause, place_in, placed, quietly, set_up, slave_at, step, stock_without, with_master, node_at, Nodes}
+use Rattle.ptu_world.specs.World.{World, Done, add_master, at_grandmaster, datagram_deed, datagram_numbered, delivered_to, done_by, grandmaster_at, grandmaster_by, new_grandmaster, new_slave, or_cause, place_in, placed, quietly, set_up, slave_at, step, stock_without, with_master, node_at, Nodes}
 use Rattle.ptu_world.proofs.Limits.{ok_bound}
-use Rattle.ptu_world.proofs.Steps.{AllStand, found_slave}
+use Rattle.ptu_world.proofs.Steps.{AllStand, add_master_is, found_slave, set_up_is}
 use Rattle.ptu_world.proofs.Deciding.{taken_by}
 
 placed-there : (ip : ℕ) (node : Node) (nodes : Nodes) → node_at (placed ip node nodes) ip ≡ Some node
@@ -83,23 +82,11 @@ module _ (w : World) (all : AllStand w.nodes) (a : ℕ) where
   quiet_leaves (Err cause) e = tt
 
   set_up_leaves : (ip : ℕ) (node : Node) → (Some ip ≡ Some a → ⊥) → IfOk (quietly (set_up w ip node)) Left
-  set_up_leaves ip node ne = quiet_leaves (set_up w ip node) (by w.has_begun (is_some (node_at w.nodes ip)))
-    where
-      by : (b c : Bool) → IfOk (cond b (Err causes.Order) (cond c (Err causes.Node) (Ok (record w { nodes = placed ip node w.nodes })))) Stays
-      by true c = tt
-      by false true = tt
-      by false false = placed-other ip node ne
-
-  abbrev with_stock : Slave → ℕ → ℕ → Rule → Stock → World
-  with_stock s ip priority rule stock = record w { nodes = placed s.ip (IsSlave (with_master ip priority rule s)) w.nodes; stock = stock }
+  set_up_leaves ip node ne = quiet_leaves (set_up w ip node) (set_up_is Stays w ip node (λ _. placed-other ip node ne))
 
   master_leaves : (s : Slave) (ip priority : ℕ) (rule : Rule) → (Some s.ip ≡ Some a → ⊥) → IfOk (quietly (add_master w s ip priority rule)) Left
-  master_leaves s ip priority rule ne = quiet_leaves (add_master w s ip priority rule) (by (is_some (place_of (s.opened.masters) ip)) (leb 16 (length (s.opened.masters))))
-    where
-      by : (b c : Bool) → IfOk (cond b (Err causes.Node) (cond c (Err causes.Full) (stock_without rule w.stock >>= λ stock. Ok (with_stock s ip priority rule stock)))) Stays
-      by true c = tt
-      by false true = tt
-      by false false = ok_bound Stays (stock_without rule w.stock) (λ stock. Ok (with_stock s ip priority rule stock)) (λ stock _. placed-other s.ip (IsSlave (with_master ip priority rule s)) ne)
+  master_leaves s ip priority rule ne = quiet_leaves (add_master w s ip priority rule)
+      (add_master_is Stays w s ip priority rule (λ stock. placed-other s.ip (IsSlave (with_master ip priority rule s)) ne))
 
   delivered_leaves : (t : ℕ) (sent : Sent) (o : Option Node) → (Some sent.to ≡ Some a → ⊥) → Left (delivered_to w t sent o)
   delivered_leaves t sent None ne = refl

@@ -1,5 +1,5 @@
 -- The messages of a grandmaster's history are the datagrams that it sent.
-use Rattle.std.proofs.Common.{◌≡◌, ◌≢◌, ◌∙◌, ℕ, suc, ◌+◌, ◌/◌, ◌%◌, ◌++◌, List, [], ◌∷◌, map, Option, Some, None, option_map, Result, Ok, Err, IfOk, Bool, true, false, cond, eqb, leb, length, refl, sym, ap, subst, arith, get_or, is_some, filter_map, append-nil, append_assoc, eq-eqb, eqb-true, ne_eqb}
+use Rattle.std.proofs.Common.{◌≡◌, ◌≢◌, ◌∙◌, ℕ, suc, ◌+◌, ◌/◌, ◌%◌, ◌++◌, List, [], ◌∷◌, map, Option, Some, None, option_map, Result, Ok, Err, IfOk, Bool, true, false, cond, eqb, refl, sym, ap, subst, arith, get_or, is_some, filter_map, append-nil, append_assoc, eq-eqb, eqb-true, ne_eqb}
 use Rattle.std.specs.List.{All, cons_option}
 use Rattle.std.specs.Prelude.{slice_index_or}
 use Rattle.std.specs.Option.{option_map_or}
@@ -42,10 +42,8 @@ use Rattle.ptu_gm_messages.specs.Replies.{cancels_to, lease_of}
 use Rattle.ptu_gm_messages.proofs.Placing.{history_after-items}
 use Rattle.ptu_record.specs.declared.rule.Rule.{Rule}
 use Rattle.ptu_record.specs.Step as slave_events
-use Rattle.ptu_profile.specs.Slave.{place_of}
 use Rattle.ptu_slave_messages.specs.declared.heard.Heard as slave_heard
 use Rattle.ptu_slave_messages.specs.declared.heard.Heard.TheVariants as slave_heards
-use Rattle.ptu_script.specs.declared.cause.Cause.{Cause}
 use Rattle.ptu_script.specs.declared.cause.Cause.TheVariants as causes
 use Rattle.ptu_script.specs.Fields.{◌>>=◌}
 use Rattle.ptu_script.specs.declared.command.Command.{Command}
@@ -56,8 +54,9 @@ use Rattle.ptu_world.specs.Grandmasters as gm
 use Rattle.ptu_slave_messages.specs.Node as slave
 use Rattle.ptu_world.specs.Slaves as slaves
 use Rattle.ptu_world.specs.Promises.{Timing, mark_of, messages_in, message_in, timing_from, timing_to}
-use Rattle.ptu_world.specs.World.{World, Stock, Done, add_master, at_grandmaster, datagram_deed, datagram_numbered, delivered_to, done_by, grandmaster_by, new_grandmaster, new_slave, or_cause, place_in, placed, quietly, sent_from, set_up, slave_at, step, stock_without, with_master, node_at, Nodes}
+use Rattle.ptu_world.specs.World.{World, Done, add_master, at_grandmaster, datagram_deed, datagram_numbered, delivered_to, done_by, grandmaster_by, new_grandmaster, new_slave, or_cause, place_in, placed, quietly, sent_from, set_up, slave_at, step, stock_without, with_master, node_at, Nodes}
 use Rattle.ptu_world.proofs.Limits.{ok_bound}
+use Rattle.ptu_world.proofs.Steps.{add_master_is, set_up_is}
 
 abbrev heads : List Departure → List Timing
 heads sends = filter_map (λ (d : Departure). timing_to d.ip d.bytes) sends
@@ -294,28 +293,12 @@ InWorld w = AllSent w
 
 module _ (w : World) (all : AllSent w) where
   set_up_sent : (ip : ℕ) (node : Node) → (filter_map (timing_from ip) w.sent ≡ [] → SentBy ip w.sent (Some node)) → IfOk (quietly (set_up w ip node)) Fine
-  set_up_sent ip node new = ok_bound Fine (set_up w ip node) _ (λ made e. subst (λ r. IfOk r InWorld) e (by w.has_begun (is_some (node_at w.nodes ip)) refl))
-    where
-      by : (a b : Bool) → is_some (node_at w.nodes ip) ≡ b → IfOk (cond a (Err causes.Order) (cond b (Err causes.Node) (Ok (record w { nodes = placed ip node w.nodes })))) InWorld
-      by true b e = tt
-      by false true e = tt
-      by false false e = instead w.nodes w.sent all ip node (new (nobody_sent ip w.sent (node_at w.nodes ip) (all ip) e))
-
-  abbrev with_stock : Slave → ℕ → ℕ → Rule → Stock → World
-  with_stock s ip priority rule stock = record w { nodes = placed s.ip (IsSlave (with_master ip priority rule s)) w.nodes; stock = stock }
-
-  abbrev joined : Slave → ℕ → ℕ → Rule → Result World Cause
-  joined s ip priority rule = stock_without rule w.stock >>= λ stock. Ok (with_stock s ip priority rule stock)
-
-  added_sent : (s : Slave) (ip priority : ℕ) (rule : Rule) (a b : Bool) → IfOk (cond a (Err causes.Node) (cond b (Err causes.Full) (joined s ip priority rule))) InWorld
-  added_sent s ip priority rule true b = tt
-  added_sent s ip priority rule false true = tt
-  added_sent s ip priority rule false false = ok_bound InWorld (stock_without rule w.stock) (λ stock. Ok (with_stock s ip priority rule stock))
-      (λ stock _. instead w.nodes w.sent all s.ip (IsSlave (with_master ip priority rule s)) tt)
+  set_up_sent ip node new = ok_bound Fine (set_up w ip node) _ (λ made e. subst (λ r. IfOk r InWorld) e
+      (set_up_is InWorld w ip node (λ none. instead w.nodes w.sent all ip node (new (nobody_sent ip w.sent (node_at w.nodes ip) (all ip) none)))))
 
   master_sent : (s : Slave) (ip priority : ℕ) (rule : Rule) → IfOk (quietly (add_master w s ip priority rule)) Fine
   master_sent s ip priority rule = ok_bound Fine (add_master w s ip priority rule) _ (λ made e. subst (λ r. IfOk r InWorld) e
-      (added_sent s ip priority rule (is_some (place_of (s.opened.masters) ip)) (leb 16 (length (s.opened.masters)))))
+      (add_master_is InWorld w s ip priority rule (λ stock. instead w.nodes w.sent all s.ip (IsSlave (with_master ip priority rule s)) tt)))
 
   at_grandmaster_sent : (ip : ℕ) (deed : Grandmaster → Deed) → ((g : Grandmaster) → IsTold g (deed g)) → IfOk (at_grandmaster w ip deed) Fine
   at_grandmaster_sent ip deed told = ok_bound Fine (grandmaster_by (node_at w.nodes ip)) (λ g. Ok (done_by w ip (deed g)))

@@ -1,5 +1,5 @@
 -- The report is what the driver makes of the rules, it ends as the driver says, and its counts are those of the course.
-use Rattle.std.proofs.Common.{◌≡◌, ℕ, ◌+◌, List, [], ◌∷◌, ◌++◌, Option, Some, None, IfSome, Result, Ok, Err, refl, sym, ◌∙◌, ap, append_assoc, arith}
+use Rattle.std.proofs.Common.{◌≡◌, ℕ, ◌+◌, Bool, List, [], ◌∷◌, ◌++◌, Option, Some, None, IfSome, Result, Ok, Err, refl, sym, ◌∙◌, ap, append_assoc, arith}
 use Rattle.std.specs.Prelude.{map, if◌then◌else◌}
 use Rattle.std.specs.List.{count_by}
 use Rattle.std.proofs.lemmas.List.Sums.{sum_by-cons}
@@ -77,20 +77,15 @@ ends_of_rules stock script = ends_from (script_lines script) (course_opening sto
 
 -- ---- the counts
 
-granted_said : (number : ℕ) (said : List Statement) (more : List ReportLine) → granted_count (map (At number) said ++ more) ≡ count_by is_granted said + granted_count more
-granted_said number [] more = omega arith
-granted_said number (s ∷ said) more =
-    let rest = granted_said number said more in
-    let own : count_by is_granted (s ∷ said) ≡ (if is_granted s then 1 else 0) + count_by is_granted said = sum_by-cons (λ x. if is_granted x then 1 else 0) s said in
-    let all : granted_count (map (At number) (s ∷ said) ++ more) ≡ (if is_granted s then 1 else 0) + granted_count (map (At number) said ++ more) = sum_by-cons (λ x. if is_granted_line x then 1 else 0) (At number s) (map (At number) said ++ more) in
-    omega (arith, rest, own, all)
-
-short_said : (number : ℕ) (said : List Statement) (more : List ReportLine) → short_count (map (At number) said ++ more) ≡ count_by is_short said + short_count more
-short_said number [] more = omega arith
-short_said number (s ∷ said) more =
-    let rest = short_said number said more in
-    let own : count_by is_short (s ∷ said) ≡ (if is_short s then 1 else 0) + count_by is_short said = sum_by-cons (λ x. if is_short x then 1 else 0) s said in
-    let all : short_count (map (At number) (s ∷ said) ++ more) ≡ (if is_short s then 1 else 0) + short_count (map (At number) said ++ more) = sum_by-cons (λ x. if is_short_line x then 1 else 0) (At number s) (map (At number) said ++ more) in
+-- those of a line's statements and those of the lines behind it
+counted_said : (is : Statement → Bool) (is_line : ReportLine → Bool) (number : ℕ) → ((s : Statement) → is_line (At number s) ≡ is s)
+    → (said : List Statement) (more : List ReportLine) → count_by is_line (map (At number) said ++ more) ≡ count_by is said + count_by is_line more
+counted_said is is_line number same [] more = omega arith
+counted_said is is_line number same (s ∷ said) more =
+    let rest = counted_said is is_line number same said more in
+    let own : count_by is (s ∷ said) ≡ (if is s then 1 else 0) + count_by is said = sum_by-cons (λ x. if is x then 1 else 0) s said in
+    let all : count_by is_line (map (At number) (s ∷ said) ++ more) ≡ (if is s then 1 else 0) + count_by is_line (map (At number) said ++ more) =
+    sum_by-cons (λ x. if is_line x then 1 else 0) (At number s) (map (At number) said ++ more) ∙ ap (λ b. (if b then 1 else 0) + count_by is_line (map (At number) said ++ more)) (same s) in
     omega (arith, rest, own, all)
 
 -- the course comes to this from another, over these lines of the report
@@ -100,8 +95,8 @@ Comes last c w lines = IfSome last (λ e. (e.world ≡ w) × (e.granted ≡ c.gr
 comes_on : (c : Course) (number : ℕ) (done : Done) (last : Option Course) (w : World) (lines : List ReportLine) → Comes last (course_after c done) w lines → Comes last c w (map (At number) done.said ++ lines)
 comes_on c number done None w lines e = tt
 comes_on c number done (Some last) w lines (world, granted, short) =
-    let more = granted_said number done.said lines in
-    let fewer = short_said number done.said lines in
+    let more = counted_said is_granted is_granted_line number (λ s. refl) done.said lines in
+    let fewer = counted_said is_short is_short_line number (λ s. refl) done.said lines in
     (world, omega (arith, granted, more), omega (arith, short, fewer))
 
 module _ (later : Course → Option Course) (final : World → World) (lines : World → List ReportLine) (same : (c : Course) → Comes (later c) c (final c.world) (lines c.world)) where

@@ -1,5 +1,5 @@
 -- What a command makes the report say of datagrams and of selections.
-use Rattle.std.proofs.Common.{◌≡◌, ◌∙◌, ℕ, ◌+◌, ◌++◌, List, [], ◌∷◌, map, length, Option, Some, None, option_map, Result, Ok, Err, IfOk, IfSome, Bool, true, false, cond, leb, All, ◌&&◌, refl, sym, ap, subst, is_some, filter_map, append-nil, eq-eqb}
+use Rattle.std.proofs.Common.{◌≡◌, ◌∙◌, ℕ, ◌+◌, ◌++◌, List, [], ◌∷◌, map, length, Option, Some, None, option_map, Result, Ok, Err, IfOk, IfSome, Bool, true, false, cond, All, ◌&&◌, refl, sym, ap, subst, filter_map, append-nil, eq-eqb}
 use Rattle.std.specs.List.{cons_option, list_all}
 use Rattle.std.proofs.lemmas.List.Elements.{All-cons, All-nil, filter_map-append}
 use Rattle.std.proofs.lemmas.Bool.{and_parts}
@@ -17,7 +17,7 @@ use Rattle.ptu_record.specs.Record.{event_moment}
 use Rattle.ptu_record.proofs.Choice.{selected_is}
 use Rattle.ptu_record.specs.declared.rule.Rule.{Rule}
 use Rattle.ptu_record.specs.Step as slave_events
-use Rattle.ptu_profile.specs.Slave.{address_of, place_of, priorities, timeouts}
+use Rattle.ptu_profile.specs.Slave.{address_of, priorities, timeouts}
 use Rattle.ptu_slave_messages.specs.declared.heard.Heard as slave_heard
 use Rattle.ptu_slave_messages.specs.declared.heard.Heard.TheVariants as slave_heards
 use Rattle.ptu_slave_messages.specs.declared.signal.Signal.{Signal}
@@ -35,11 +35,11 @@ use Rattle.ptu_world.specs.Grandmasters as gm
 use Rattle.ptu_slave_messages.specs.Node as slave
 use Rattle.ptu_world.specs.Slaves as slaves
 use Rattle.ptu_world.specs.Sayings.{IsBestChoice, NamesSelection, is_event, moment_handed, numbered, selected_in, sent_in, slave_of}
-use Rattle.ptu_world.specs.World.{World, Stock, Done, add_master, datagram_deed, datagram_numbered, delivered_to, done_by, grandmaster_at, new_grandmaster, new_slave, or_cause, place_in, placed, quietly, sending_said, sent_from, set_up, slave_at, step, stock_without, with_master, node_at}
+use Rattle.ptu_world.specs.World.{World, Stock, Done, add_master, datagram_deed, datagram_numbered, delivered_to, done_by, grandmaster_at, new_grandmaster, new_slave, or_cause, place_in, quietly, sending_said, sent_from, set_up, slave_at, step, stock_without, node_at}
 use Rattle.ptu_world.specs.Promises.{Handed, handed_by}
 use Rattle.ptu_world.proofs.Deciding.{taken_by}
 use Rattle.ptu_world.proofs.Limits.{ok_bound}
-use Rattle.ptu_world.proofs.Steps.{AllStand, StandsAt, found, found_slave, there}
+use Rattle.ptu_world.proofs.Steps.{AllStand, StandsAt, add_master_is, found, found_slave, set_up_is, there}
 
 -- it says nothing of a datagram that was sent, and nothing of a selection
 abbrev pub is_plain : Statement → Bool
@@ -143,23 +143,10 @@ module _ (w : World) (all : AllStand w.nodes) where
   quiet_says t (Err cause) e = tt
 
   set_up_says : (t ip : ℕ) (node : Node) → IfOk (quietly (set_up w ip node)) (SaysSo t)
-  set_up_says t ip node = quiet_says t (set_up w ip node) (by w.has_begun (is_some (node_at w.nodes ip)))
-    where
-      by : (a b : Bool) → IfOk (cond a (Err causes.Order) (cond b (Err causes.Node) (Ok (record w { nodes = placed ip node w.nodes })))) (λ v. v.sent ≡ w.sent)
-      by true b = tt
-      by false true = tt
-      by false false = refl
-
-  abbrev with_stock : Slave → ℕ → ℕ → Rule → Stock → World
-  with_stock s ip priority rule stock = record w { nodes = placed s.ip (IsSlave (with_master ip priority rule s)) w.nodes; stock = stock }
+  set_up_says t ip node = quiet_says t (set_up w ip node) (set_up_is (λ v. v.sent ≡ w.sent) w ip node (λ _. refl))
 
   master_says : (t : ℕ) (s : Slave) (ip priority : ℕ) (rule : Rule) → IfOk (quietly (add_master w s ip priority rule)) (SaysSo t)
-  master_says t s ip priority rule = quiet_says t (add_master w s ip priority rule) (by (is_some (place_of (s.opened.masters) ip)) (leb 16 (length (s.opened.masters))))
-    where
-      by : (a b : Bool) → IfOk (cond a (Err causes.Node) (cond b (Err causes.Full) (stock_without rule w.stock >>= λ stock. Ok (with_stock s ip priority rule stock)))) (λ v. v.sent ≡ w.sent)
-      by true b = tt
-      by false true = tt
-      by false false = ok_bound (λ v. v.sent ≡ w.sent) (stock_without rule w.stock) (λ stock. Ok (with_stock s ip priority rule stock)) (λ stock _. refl)
+  master_says t s ip priority rule = quiet_says t (add_master w s ip priority rule) (add_master_is (λ v. v.sent ≡ w.sent) w s ip priority rule (λ stock. refl))
 
   delivered_says : (t : ℕ) (sent : sending.Sent) (o : Option Node) → IfSome o (StandsAt sent.to) → SaysSo t (delivered_to w t sent o)
   delivered_says t sent None at = Nothing refl refl

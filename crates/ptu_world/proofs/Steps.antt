@@ -125,26 +125,32 @@ module _ (nodes : Nodes) (all : AllStand nodes) where
       by (Some (IsGrandmaster y)) s e = absurd cc
       by (Some (IsSlave y)) s e = subst (λ z. z.ip ≡ ip) (let same : y ≡ x = cc in same) s
 
+-- ---- what is so of a world in which a node was set up
+
+pub set_up_is : (P : World → Type 0) (w : World) (ip : ℕ) (node : Node) → (is_some (node_at w.nodes ip) ≡ false → P (record w { nodes = placed ip node w.nodes }))
+    → IfOk (set_up w ip node) P
+set_up_is P w ip node new = ok_either P w.has_begun _ _ (λ _. tt) (λ _. ok_either P (is_some (node_at w.nodes ip)) _ _ (λ _. tt) new)
+
+abbrev with_stock : World → Slave → ℕ → ℕ → Rule → Stock → World
+with_stock w s ip priority rule stock = record w { nodes = placed s.ip (IsSlave (with_master ip priority rule s)) w.nodes; stock = stock }
+
+-- or a slave was given a master
+pub add_master_is : (P : World → Type 0) (w : World) (s : Slave) (ip priority : ℕ) (rule : Rule)
+    → ((stock : Stock) → P (record w { nodes = placed s.ip (IsSlave (with_master ip priority rule s)) w.nodes; stock = stock })) → IfOk (add_master w s ip priority rule) P
+add_master_is P w s ip priority rule new = by (is_some (place_of (s.opened.masters) ip)) (leb 16 (length (s.opened.masters)))
+  where
+    by : (a b : Bool) → IfOk (cond a (Err causes.Node) (cond b (Err causes.Full) (stock_without rule w.stock >>= λ stock. Ok (with_stock w s ip priority rule stock)))) P
+    by true b = tt
+    by false true = tt
+    by false false = ok_bound P (stock_without rule w.stock) (λ stock. Ok (with_stock w s ip priority rule stock)) (λ stock _. new stock)
+
 module _ (w : World) (all : AllStand w.nodes) where
   set_up_stand : (ip : ℕ) (node : Node) → StandsAt ip node → IfOk (quietly (set_up w ip node)) Stand
-  set_up_stand ip node stands = ok_bound Stand (set_up w ip node) _ (λ made e. subst (λ r. IfOk r InWorld) e
-      (ok_either InWorld w.has_begun _ _ (λ _. tt) (λ _. ok_either InWorld (is_some (node_at w.nodes ip)) _ _ (λ _. tt) (λ _. placed_stand w.nodes all ip node stands))))
-
-  abbrev with_stock : Slave → ℕ → ℕ → Rule → Stock → World
-  with_stock s ip priority rule stock = record w { nodes = placed s.ip (IsSlave (with_master ip priority rule s)) w.nodes; stock = stock }
-
-  abbrev joined : Slave → ℕ → ℕ → Rule → Result World Cause
-  joined s ip priority rule = stock_without rule w.stock >>= λ stock. Ok (with_stock s ip priority rule stock)
-
-  added : (s : Slave) (ip priority : ℕ) (rule : Rule) (a b : Bool) → IfOk (cond a (Err causes.Node) (cond b (Err causes.Full) (joined s ip priority rule))) InWorld
-  added s ip priority rule true b = tt
-  added s ip priority rule false true = tt
-  added s ip priority rule false false = ok_bound InWorld (stock_without rule w.stock) (λ stock. Ok (with_stock s ip priority rule stock))
-      (λ stock _. placed_stand w.nodes all s.ip (IsSlave (with_master ip priority rule s)) refl)
+  set_up_stand ip node stands = ok_bound Stand (set_up w ip node) _ (λ made e. subst (λ r. IfOk r InWorld) e (set_up_is InWorld w ip node (λ _. placed_stand w.nodes all ip node stands)))
 
   master_stand : (s : Slave) (ip priority : ℕ) (rule : Rule) → IfOk (quietly (add_master w s ip priority rule)) Stand
   master_stand s ip priority rule = ok_bound Stand (add_master w s ip priority rule) _ (λ made e. subst (λ r. IfOk r InWorld) e
-      (added s ip priority rule (is_some (place_of (s.opened.masters) ip)) (leb 16 (length (s.opened.masters)))))
+      (add_master_is InWorld w s ip priority rule (λ stock. placed_stand w.nodes all s.ip (IsSlave (with_master ip priority rule s)) refl)))
 
   at_grandmaster_stand : (ip : ℕ) (deed : Grandmaster → Deed) → ((g : Grandmaster) → IsRun ip g → StandsAt ip (deed g).node) → IfOk (at_grandmaster w ip deed) Stand
   at_grandmaster_stand ip deed keeps = ok_bound Stand (grandmaster_by (node_at w.nodes ip)) _ (λ g e. placed_stand w.nodes all ip (deed g).node (keeps g (found_grandmaster w.nodes all ip g e)))
