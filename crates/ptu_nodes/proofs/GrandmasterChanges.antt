@@ -1,22 +1,20 @@
 -- That the capacity of a grandmaster of a script has changed.
-use Rattle.std.proofs.Common.{◌≡◌, ◌∙◌, ℕ, ◌+◌, ◌%◌, List, [], ◌∷◌, ◌++◌, map, refl, sym, ap, ap₂, subst, arith, Some}
+use Rattle.std.proofs.Common.{◌≡◌, ◌∙◌, ℕ, List, [], ◌∷◌, ◌++◌, map, refl, sym, ap, ap₂, subst, Some}
 use Rattle.std.proofs.lemmas.Simd.{map-map}
-use Rattle.ptu_units.specs.declared.kind.Kind.{Kind}
 use Rattle.ptu_outside.specs.Departure.{Departure}
 use Rattle.ptu_outside.specs.MemoryPort.{MemoryPort}
-use Rattle.ptu_history.specs.declared.client.Client.{Client}
 use Rattle.ptu_history.specs.Core.{book_step_moment, core_step, history_after}
 use Rattle.ptu_history.specs.Counts.{counts}
 use Rattle.ptu_history.specs.Events as events
 use Rattle.ptu_history.specs.History.{Record}
 use Rattle.ptu_history.specs.Shedding.{shed_grants}
-use Rattle.ptu_profile.specs.declared.grandmaster.GmConfig.{GmConfig}
 use Rattle.ptu_admit.specs.declared.shed_list.Shed.{Shed}
 use Rattle.ptu_admit.specs.Shed.{shed_of}
 use Rattle.ptu_gm_messages.specs.Deciding.{opened_with}
-use Rattle.ptu_gm_messages.specs.Replies.{cancel_to, cancels_to, lease_of}
+use Rattle.ptu_gm_messages.specs.Replies.{cancels_to, lease_of}
 use Rattle.ptu_grandmaster.specs.Changed.{leases_shed}
 use Rattle.ptu_grandmaster.specs.Gm.{KeptGm, StandsFor}
+use Rattle.ptu_grandmaster.proofs.Cancels.{cancels_shed}
 use Rattle.ptu_report_lines.specs.declared.statement.Statement.TheVariants as statements
 use Rattle.ptu_world.specs.Deeds.{Grandmaster}
 use Rattle.ptu_world.specs.Grandmasters.{capacity_deed, shed_said}
@@ -39,19 +37,6 @@ in_ports-reply old new (e0, e1, e2, e3, e4) (p0, p1, p2, p3) =
     let q2 : new.s2.port.sent ≡ [] = ap (λ p. p.sent) p2 ∙ e2 in
     let q3 : new.s3.port.sent ≡ [] = ap (λ p. p.sent) p3 ∙ e3 in
     simp (q0, q1, q2, q3)
-
--- ---- CANCELs are numbered by the grants that were shed, and the numbers begin again
-
-next_number : (m n : ℕ) → m % 65536 ≡ n % 65536 → (m + 1) % 65536 ≡ (n + 1) % 65536
-next_number m n same = omega arith
-
-cancels_to-same : (config : GmConfig) (m n : ℕ) (leases : List (Client × Kind)) → m % 65536 ≡ n % 65536 → cancels_to config m leases ≡ cancels_to config n leases
-cancels_to-same config m n [] same = refl
-cancels_to-same config m n (lease ∷ leases) same =
-    ap₂ (λ k ds. cancel_to config lease.0 lease.1 k ∷ ds) same (cancels_to-same config (m + 1) (n + 1) leases (next_number m n same))
-
-begins_again : (n : ℕ) → n % 65536 % 65536 ≡ n % 65536
-begins_again n = omega arith
 
 -- ---- a change of capacity
 
@@ -92,10 +77,7 @@ change_done ip t capacity gm0 gm1 gm2 gm3 at shed old begun said new g is first 
     in_ports_are : in_ports gm2 ≡ cancels_to g.config (counts g.past).shed (map lease_of (shed_grants g.past (book_step_moment g.past t) capacity))
     in_ports_are =
         in_ports-reply gm1 gm2 (idle is.idle) ports ∙ told
-        ∙ ap (λ n. cancels_to gm1.config n (leases_shed shed)) stood.sequence
-        ∙ cancels_to-same gm1.config ((counts g.past).shed % 65536) (counts g.past).shed (leases_shed shed) (begins_again (counts g.past).shed)
-        ∙ ap (λ l. cancels_to gm1.config (counts g.past).shed (leases_shed l)) shed_is
-        ∙ ap (cancels_to gm1.config (counts g.past).shed) (map-map (λ (s : Shed). (s.client, s.kind)) shed_of (shed_grants g.past (book_step_moment g.past t) capacity))
+        ∙ cancels_shed gm1.config gm1.sequence g.past at (book_step_moment g.past t) capacity shed stood.sequence moment (found g.capacity g.past stood).1
         ∙ ap (λ c. cancels_to c (counts g.past).shed (map lease_of (shed_grants g.past (book_step_moment g.past t) capacity))) (sym config)
 
     seen : map shed_seen shed ≡ map shed_said (shed_grants g.past (book_step_moment g.past t) capacity)
