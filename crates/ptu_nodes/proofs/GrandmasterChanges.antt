@@ -8,6 +8,7 @@ use Rattle.ptu_history.specs.Counts.{counts}
 use Rattle.ptu_history.specs.Events as events
 use Rattle.ptu_history.specs.History.{Record}
 use Rattle.ptu_history.specs.Shedding.{shed_grants}
+use Rattle.ptu_profile.specs.declared.grandmaster.GmConfig.{GmConfig}
 use Rattle.ptu_admit.specs.declared.shed_list.Shed.{Shed}
 use Rattle.ptu_admit.specs.Shed.{shed_of}
 use Rattle.ptu_gm_messages.specs.Deciding.{opened_with}

@@ -3,7 +3,7 @@ use Rattle.std.specs.Prelude.{◌≡◌, ℕ}
 use Rattle.std.specs.declared.sync.ledger.Blank.{Blank}
 
 -- the blank becomes the ledger of this name and with these parts, of which there are so many
-pub record IsBlankOf (name parts count : ℕ) (blank : Blank) : Type 0 where
-  pub name : blank.name ≡ name
-  pub parts : blank.parts ≡ parts
-  pub count : parts ≡ count
+pub record IsBlankOf (own_name own_parts many : ℕ) (blank : Blank) : Type 0 where
+  pub name : blank.name ≡ own_name
+  pub parts : blank.parts ≡ own_parts
+  pub count : own_parts ≡ many

@@ -112,7 +112,7 @@ enum Step {
     Counts(usize, u64, u64),
     // A turn of this table sends so many messages, and no send fails.
     Turn(usize, u64),
-    // A Delay_Req of the client of table 2 is answered, meets no grant, or comes before this moment.
+    // A Delay_Req of the client of table 2 is answered, meets no grant, or comes too soon.
     Answers,
     MeetsNoGrant,
     ComesTooSoon(u64),
@@ -391,8 +391,8 @@ fn one_of_two_threads_is_short(rt: HostRuntime) -> Result<(), Fail> {
     run(&rt, rt.alloc(), 8, 2, Scene::TwoThreads)
 }
 
-// The client of table 2 is granted what is there from one of two seats, and that of table 3 is short
-// at the other.
+// The client of table 2 is granted what is there from one of two seats, and that of table 3 is
+// short at the other.
 const COUNTED: Course = Course {
     steps: &[
         (0, Step::Ask(0, TWO, (ANNOUNCE, 1), GRANTED)),
