@@ -261,8 +261,8 @@ impl<L: Rates, G: Ledger, R: Ledger> Site<L, G, R> {
         };
         assert_eq!(rt; closed.counts, course.shares);
         let [s0, s1, s2, s3] = course.shares;
-        assert!(rt; s0 < 1 << 32 && s1 < 1 << 32 && s2 < 1 << 32 && s3 < 1 << 32);
-        assert_eq!(rt; closed.total, s0 + s1 + s2 + s3);
+        let total = s0.saturating_add(s1).saturating_add(s2).saturating_add(s3);
+        assert_eq!(rt; closed.total, total);
         assert_eq!(rt; (closed.granted, closed.refused), all);
     }
 }

@@ -1,5 +1,6 @@
 //! Two masters of one slave, whose octets, moments and answers were made out by hand.
 ghost use Rattle.std.specs.Prelude.{◌≡◌, []};
+ghost use Rattle.ptu_judges.specs.Held.{IsFresh};
 ghost use Rattle.ptu_slave.specs.Seen.{seen};
 
 use super::*;
@@ -11,9 +12,16 @@ use std::alloc::Global;
 use std::process::Abort;
 use std::test::Fail;
 
-// A slave of two masters of equal priority and with the operator's judges, at the greatest intervals
-// and with a minute to wait after a loss.
-fn slave_of_two(alloc: Global) -> Result<Slave<MemPort>, Fail> {
+// A slave of two masters of equal priority, at the greatest intervals and with a minute to wait
+// after a loss.
+fn slave_of_two(
+    alloc: Global,
+    first: Box<dyn Judge>,
+    second: Box<dyn Judge>,
+) -> Result<Slave<MemPort>, Fail>
+    requires first { IsFresh (held first) }
+    requires second { IsFresh (held second) }
+{
     let masters = vec![in alloc;
         Master {
             ip: FIRST,
@@ -24,16 +32,18 @@ fn slave_of_two(alloc: Global) -> Result<Slave<MemPort>, Fail> {
             priority: 1
         },
     ]?;
-    let mut judges = one_judge(alloc, Box::new(alloc, FlagJudge::new())?)?;
-    judges.push(Box::new(alloc, FlagJudge::new())?)?;
+    let mut judges = one_judge(alloc, first)?;
+    judges.push(second)?;
     let config = config(4, 4, false, 60)?;
     let slave = Slave::new(alloc, config, masters, judges, idle_port(alloc))?;
     Ok(slave)
 }
 
-// A slave of two masters plays rows, and sends nothing.
+// A slave of two masters with the operator's judges plays rows, and sends nothing.
 fn play_of_two(rt: &impl Abort, alloc: Global, rows: &[(u64, Row)]) -> Result<(), Fail> {
-    let mut slave = slave_of_two(alloc)?;
+    let first = Box::new(alloc, FlagJudge::new())?;
+    let second = Box::new(alloc, FlagJudge::new())?;
+    let mut slave = slave_of_two(alloc, first, second)?;
     play_all(rt, alloc, &mut slave, rows)?;
     clear_port(&mut slave);
     assert_eq!(rt; slave.into_port().sent(0), None);
