@@ -1,5 +1,5 @@
 -- Which worlds the lab stands for.
-use Rattle.std.specs.Prelude.{◌≡◌, ℕ, Bool, nat_eq, List, length, map, Option, Some, None}
+use Rattle.std.specs.Prelude.{◌≡◌, ℕ, Bool, true, nat_eq, List, length, map, Option, Some, None}
 use Rattle.std.specs.HashMap.{get}
 use Rattle.std.specs.declared.dyn_box.DynBox.{DynBox}
 use Rattle.ptu_outside.specs.MemoryPort.{MemoryPort}

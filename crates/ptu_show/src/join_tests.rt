@@ -147,6 +147,30 @@ fn halves_of_one_key_are_joined(rt: HostRuntime) -> Result<(), Fail> {
     Ok(())
 }
 
+// A Sync with this correction joins with no Follow_Up of the other, and its neighbour does, with the
+// same sum.
+fn assert_summed(
+    rt: &impl Abort,
+    alloc: Global,
+    end: &str,
+    step: &str,
+    neighbour: &str,
+) -> Result<(), Fail> {
+    let follow_up = text_of(alloc, &[FOLLOW_UP_OF, step, AT_FOLLOW_UP])?;
+    let follow_up = follow_up.as_str();
+    let input = [
+        SYNC_OF, end, AT_SYNC, follow_up, SYNC_OF, neighbour, AT_SYNC, follow_up,
+    ];
+    let output = [
+        "1 wait\n2 overflow\n3 wait\n4 pair ",
+        JOINED_OF,
+        end,
+        AT_SYNC,
+        "end 4 0\n",
+    ];
+    assert_joined(rt, alloc, &input, &output)
+}
+
 // A sum of corrections that does not fit, on either side, and its neighbour.
 #[test]
 fn corrections_are_summed(rt: HostRuntime) -> Result<(), Fail> {
@@ -154,19 +178,7 @@ fn corrections_are_summed(rt: HostRuntime) -> Result<(), Fail> {
         ("7fffffffffffffff", "0000000000000001", "7ffffffffffffffe"),
         ("8000000000000000", "ffffffffffffffff", "8000000000000001"),
     ] {
-        let follow_up = text_of(rt.alloc(), &[FOLLOW_UP_OF, step, AT_FOLLOW_UP])?;
-        let follow_up = follow_up.as_str();
-        let input = [
-            SYNC_OF, end, AT_SYNC, follow_up, SYNC_OF, neighbour, AT_SYNC, follow_up,
-        ];
-        let output = [
-            "1 wait\n2 overflow\n3 wait\n4 pair ",
-            JOINED_OF,
-            end,
-            AT_SYNC,
-            "end 4 0\n",
-        ];
-        assert_joined(&rt, rt.alloc(), &input, &output)?;
+        assert_summed(&rt, rt.alloc(), end, step, neighbour)?;
     }
     Ok(())
 }
