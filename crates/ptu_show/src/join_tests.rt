@@ -147,8 +147,8 @@ fn halves_of_one_key_are_joined(rt: HostRuntime) -> Result<(), Fail> {
     Ok(())
 }
 
-// A Sync with this correction joins with no Follow_Up of the other, and its neighbour does, with the
-// same sum.
+// A Sync with the first correction joins with no Follow_Up with the second, and one with its
+// neighbour does.
 fn assert_summed(
     rt: &impl Abort,
     alloc: Global,
