@@ -1,3 +1,4 @@
+ghost use Rattle.std.specs.Prelude.{◌≡◌, pos};
 ghost use Rattle.ptu_messages.specs.Sent.{IsFixed};
 
 use super::*;
@@ -27,7 +28,16 @@ const REQUEST: [u8; 54] = [
 ];
 
 // A header in domain 4 with the unicastFlag alone.
-fn header(message_type: u8, source: PortIdentity, sequence: u16) -> Header {
+fn header(message_type: u8, source: PortIdentity, sequence: u16) -> Header
+    ensures { result ≡ record {
+      message_type = message_type;
+      domain = 4;
+      flags = 0x0400;
+      correction = pos 0;
+      source = source;
+      sequence = sequence;
+    } }
+{
     Header {
         message_type,
         domain: 4,
