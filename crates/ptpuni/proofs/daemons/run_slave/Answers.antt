@@ -26,7 +26,7 @@ returns-in-Ok-clause-followed g c =
 
 pub returns-in-Err-Refused-clause-ended : goal.returns-in-Err-Refused-clause-ended
 returns-in-Err-Refused-clause-ended g c =
-    refused_ended _ _ _ _ _ c.write_refusal.result c.write_refusal.ensures.statuses c.in-Err-Refused.ensures.counts c.write_refusal.ensures.fault c.write_refusal.ensures.still
+    refused_ended _ _ _ _ _ c.write_refusal.result c.write_refusal.ensures.statuses (rw c.in-Err-Refused.field-0-is at c.in-Err-Refused.ensures.counts) c.write_refusal.ensures.fault c.write_refusal.ensures.still
 
 pub returns-in-Err-Read-clause-ended : goal.returns-in-Err-Read-clause-ended
-returns-in-Err-Read-clause-ended g c = unread_ended _ _ _ _ c.in-Err-Read.ensures.counts
+returns-in-Err-Read-clause-ended g c = unread_ended _ _ _ _ (rw c.in-Err-Read.field-0-is at c.in-Err-Read.ensures.counts)
