@@ -1,15 +1,12 @@
 //! The words `serve` and `slave`: settings in, a daemon over the host.
 
 ghost use Rattle.std.specs.Prelude.{◌≡◌, ◌≢◌, ◌⊎◌, ◌∷◌, [], length, map};
-ghost use Rattle.ptu_outside.specs.Faults.{HasRisen};
-ghost use Rattle.ptu_outside.specs.Handing.{HasPut, HasPutFront};
+ghost use Rattle.ptu_outside.specs.{Faults.{HasRisen}, Handing.{HasPut, HasPutFront}};
 ghost use Rattle.ptu_judges.specs.Held.{IsStock};
 ghost use Rattle.ptu_report.specs.Runs.{IsReadWithin};
-ghost use Rattle.ptu_config.specs.Limits.{IsGmInRange};
+ghost use Rattle.ptu_config.specs.{Limits.{IsGmInRange}, Refusals.{refusal_text}};
 ghost use Rattle.ptu_daemon.specs.Answers.{HasAnswered};
-ghost use Rattle.ptu_config.specs.Refusals.{refusal_text};
-ghost use Rattle.ptpuni.specs.Answers.{HasEnded};
-ghost use Rattle.ptpuni.specs.Daemons.{HasRunServe, HasRunSlave, IsServed};
+ghost use Rattle.ptpuni.specs.{Answers.{HasEnded}, Daemons.{HasRunServe, HasRunSlave, IsServed}};
 
 use crate::status::{BAD_LINE, OUT_OF_MEMORY, SINK_FAULT, SOURCE_FAULT, daemon_status};
 use ptu_config::{GmSettings, RefusalLine, SetupFault, gm_setup, slave_setup};

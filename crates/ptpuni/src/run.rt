@@ -1,12 +1,10 @@
 //! What the program does: the words of its command line, and the status that it ends with.
 
 ghost use Rattle.std.specs.Prelude.{◌≡◌, ◌≢◌, ◌⊎◌, [], ◌∷◌, ℕ, List, Some, length, map, Contains};
-ghost use Rattle.ptu_outside.specs.Faults.{HasRisen};
-ghost use Rattle.ptu_outside.specs.Handing.{HasPut, HasPutPart};
+ghost use Rattle.ptu_outside.specs.{Faults.{HasRisen}, Handing.{HasPut, HasPutPart}};
 ghost use Rattle.ptu_judges.specs.Held.{IsStock};
 ghost use Rattle.ptu_report.specs.Runs.{IsReadWithin};
-ghost use Rattle.ptu_lab.specs.Headline.{KeepsHeadline};
-ghost use Rattle.ptu_lab.specs.Steps.{stock_of};
+ghost use Rattle.ptu_lab.specs.{Headline.{KeepsHeadline}, Steps.{stock_of}};
 ghost use Rattle.ptu_pool_run.specs.Promises.{KeepsPools};
 ghost use Rattle.ptu_words.specs.CommandLine.{command_of, IsInRange, IsRefused};
 ghost use Rattle.ptu_words.specs.declared.command.Command.{Command};

@@ -2,16 +2,13 @@
 
 ghost use Rattle.std.specs.Prelude.{◌≡◌, ℕ, ◌+◌, ◌-◌, ◌≤◌, ◌<◌, max, false, List, [], ◌∷◌, ◌++◌, IfSome, IfNone, OnSome};
 ghost use Rattle.std.specs.Option.{option_map};
-ghost use Rattle.ptu_history.specs.Client.{table_of as table_of_client};
-ghost use Rattle.ptu_history.specs.History.{Record};
-ghost use Rattle.ptu_history.specs.Verdict.{verdict};
-ghost use Rattle.ptu_history.specs.Events.{Request};
+ghost use Rattle.ptu_history.specs.{Client.{table_of as table_of_client}, History.{Record}};
+ghost use Rattle.ptu_history.specs.{Verdict.{verdict}, Events.{Request}};
 ghost use Rattle.ptu_history.specs.Step.{step, verdict_records};
 ghost use Rattle.ptu_profile.specs.Grandmaster.{IsWithinLimits};
 ghost use Rattle.ptu_shard.specs.Row.{share_of};
 ghost use Rattle.ptu_admit.specs.Lent.{EachStandsAt, Lent, StandFor, four, is_lent, live_others, moment_for, moment_of_lent, rows_of_lent, shares, table_for};
-ghost use Rattle.ptu_admit.specs.Rows.{kept_rate};
-ghost use Rattle.ptu_admit.specs.Tables.{KeepsPort, fall_of};
+ghost use Rattle.ptu_admit.specs.{Rows.{kept_rate}, Tables.{KeepsPort, fall_of}};
 ghost use Rattle.ptu_admit.specs.Verdict.{IsAt, IsFor, OnOutside, OnWithin, ask_of, config_of, unless_short, verdict_beside, verdict_of, verdict_on};
 
 use crate::book::Book;

@@ -1,16 +1,12 @@
 //! The ends of grants: a cancel, and the closing of all tables.
 
 ghost use Rattle.std.specs.Prelude.{◌≡◌, ℕ, ◌+◌, ◌≤◌, max, false, List, ◌∷◌, ◌++◌};
-ghost use Rattle.ptu_history.specs.Client.{table_of as table_of_client};
-ghost use Rattle.ptu_history.specs.History.{Record};
-ghost use Rattle.ptu_history.specs.Live.{live};
-ghost use Rattle.ptu_history.specs.Verdict.{Config, table_rates};
-ghost use Rattle.ptu_history.specs.Events.{Cancel};
+ghost use Rattle.ptu_history.specs.{Client.{table_of as table_of_client}, History.{Record}};
+ghost use Rattle.ptu_history.specs.{Live.{live}, Verdict.{Config, table_rates}, Events.{Cancel}};
 ghost use Rattle.ptu_history.specs.Step.{step};
 ghost use Rattle.ptu_shard.specs.Row.{share_of};
 ghost use Rattle.ptu_admit.specs.Lent.{Lent, StandFor, four, is_lent, moment_for_all, shares, table_for};
-ghost use Rattle.ptu_admit.specs.Rows.{has_live_row};
-ghost use Rattle.ptu_admit.specs.Tables.{IsSwept, KeepsPort};
+ghost use Rattle.ptu_admit.specs.{Rows.{has_live_row}, Tables.{IsSwept, KeepsPort}};
 
 use crate::book::Book;
 use crate::sweeping::{latest_of, sweep_all};

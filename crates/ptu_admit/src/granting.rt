@@ -2,14 +2,11 @@
 
 ghost use Rattle.std.specs.Prelude.{◌≡◌, ◌≢◌, ℕ, ◌+◌, ◌-◌, ◌*◌, ◌≤◌, ◌<◌, min, List, [], ◌∷◌, ◌++◌, IfSome, IfNone};
 ghost use Rattle.ptu_units.specs.Log.{period_of, rate_of};
-ghost use Rattle.ptu_history.specs.Client.{table_of};
-ghost use Rattle.ptu_history.specs.History.{Record, Granted};
+ghost use Rattle.ptu_history.specs.{Client.{table_of}, History.{Record, Granted}};
 ghost use Rattle.ptu_history.specs.Step.{verdict_records};
 ghost use Rattle.ptu_profile.specs.Grandmaster.{IsWithinLimits};
-ghost use Rattle.ptu_shard.specs.Row.{IsDistinctByLease, share_of};
-ghost use Rattle.ptu_shard.specs.Table.{StandsBeside};
-ghost use Rattle.ptu_admit.specs.Rows.{kept_rate};
-ghost use Rattle.ptu_admit.specs.Tables.{KeepsPort};
+ghost use Rattle.ptu_shard.specs.{Row.{IsDistinctByLease, share_of}, Table.{StandsBeside}};
+ghost use Rattle.ptu_admit.specs.{Rows.{kept_rate}, Tables.{KeepsPort}};
 ghost use Rattle.ptu_admit.specs.Verdict.{IsAt, IsFor, OnOutside, config_of, verdict_of, verdict_on};
 
 use crate::book::Book;

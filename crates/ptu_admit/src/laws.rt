@@ -3,18 +3,13 @@
 
 ghost use Rattle.std.specs.Prelude.{◌≡◌, ℕ, ◌≤◌, ◌⊎◌, max, Bool, true, false, List, [], ◌∷◌, ◌++◌};
 ghost use Rattle.std.specs.List.Sorted.{IsPermutation};
-ghost use Rattle.ptu_history.specs.declared.client.Client.{Client};
-ghost use Rattle.ptu_history.specs.Client.{table_of};
+ghost use Rattle.ptu_history.specs.{declared.client.Client.{Client}, Client.{table_of}};
 ghost use Rattle.ptu_history.specs.Core.{book_step_moment, table_step_moment};
-ghost use Rattle.ptu_history.specs.Events.{DelayReq, Turn};
-ghost use Rattle.ptu_history.specs.History.{Record};
-ghost use Rattle.ptu_history.specs.Moments.{book_moment};
-ghost use Rattle.ptu_history.specs.Step.{step};
+ghost use Rattle.ptu_history.specs.{Events.{DelayReq, Turn}, History.{Record}};
+ghost use Rattle.ptu_history.specs.{Moments.{book_moment}, Step.{step}};
 ghost use Rattle.ptu_history.specs.Verdict.{Config, table_rates};
-ghost use Rattle.ptu_shard.specs.declared.lease.Row.{Row};
-ghost use Rattle.ptu_shard.specs.Row.{IsDistinctByLease, share_of};
-ghost use Rattle.ptu_shard.specs.Table.{StandsAt};
-ghost use Rattle.ptu_shard.specs.Turn.{spent_where};
+ghost use Rattle.ptu_shard.specs.{declared.lease.Row.{Row}, Row.{IsDistinctByLease, share_of}};
+ghost use Rattle.ptu_shard.specs.{Table.{StandsAt}, Turn.{spent_where}};
 ghost use Rattle.ptu_admit.specs.Book.{KeptBook};
 ghost use Rattle.ptu_admit.specs.Lent.{Lent, StandFor, is_lent, moment_for, moment_for_all};
 ghost use Rattle.ptu_admit.specs.Rows.{live_rows};

@@ -1,9 +1,7 @@
 //! The rows of four tables in the order in which a change of capacity sheds them.
 
-ghost use Rattle.std.specs.Prelude.{◌≡◌, [], ◌∷◌, false, IfNone, IfSome};
-ghost use Rattle.std.specs.List.{All};
-ghost use Rattle.std.specs.List.Sorted.{IsPermutation};
-ghost use Rattle.std.specs.Ordering.{is_lt};
+ghost use Rattle.std.specs.{Prelude.{◌≡◌, [], ◌∷◌, false, IfNone, IfSome}, List.{All}};
+ghost use Rattle.std.specs.{List.Sorted.{IsPermutation}, Ordering.{is_lt}};
 ghost use Rattle.ptu_admit.specs.Newest.{candidate_cmp};
 
 use ptu_history::Client;
@@ -36,8 +34,7 @@ pub(crate) struct Newest {
 }
 
 impl Model for Newest {
-    ghost use Rattle.std.specs.Prelude.{List};
-    ghost use Rattle.std.specs.BinaryHeap.{IsHeap, heap_items};
+    ghost use Rattle.std.specs.{Prelude.{List}, BinaryHeap.{IsHeap, heap_items}};
     ghost use Rattle.ptu_admit.specs.declared.newest.Candidate.{Candidate};
     ghost use Rattle.ptu_admit.specs.Newest.{candidate_cmp};
 

@@ -1,16 +1,11 @@
 //! Changes of capacity.
 
 ghost use Rattle.std.specs.Prelude.{◌≡◌, ℕ, ◌+◌, ◌<◌, ◌≤◌, max, List, map, ◌++◌, IfOk, OnErr, OnOk};
-ghost use Rattle.ptu_history.specs.History.{Record};
-ghost use Rattle.ptu_history.specs.Verdict.{Config};
-ghost use Rattle.ptu_history.specs.Events.{Resize};
-ghost use Rattle.ptu_history.specs.Shedding.{shed_grants};
-ghost use Rattle.ptu_history.specs.Step.{step};
+ghost use Rattle.ptu_history.specs.{History.{Record}, Verdict.{Config}, Events.{Resize}};
+ghost use Rattle.ptu_history.specs.{Shedding.{shed_grants}, Step.{step}};
 ghost use Rattle.ptu_profile.specs.Limits.{IsCapacity};
-ghost use Rattle.ptu_admit.specs.Lent.{StandFor, four, moment_for_all, shares};
-ghost use Rattle.ptu_admit.specs.Newest.{rows_in};
-ghost use Rattle.ptu_admit.specs.Shed.{shed_of};
-ghost use Rattle.ptu_admit.specs.Tables.{KeepsPort};
+ghost use Rattle.ptu_admit.specs.{Lent.{StandFor, four, moment_for_all, shares}, Newest.{rows_in}};
+ghost use Rattle.ptu_admit.specs.{Shed.{shed_of}, Tables.{KeepsPort}};
 
 use crate::book::Book;
 use crate::shed_list::ShedList;

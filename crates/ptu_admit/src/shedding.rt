@@ -3,16 +3,13 @@
 ghost use Rattle.std.specs.Prelude.{◌≡◌, ℕ, ◌+◌, ◌-◌, ◌<◌, ◌≤◌, false, List, [], ◌∷◌, ◌++◌, map, length, vec_capacity, IfNone, IfSome};
 ghost use Rattle.std.specs.List.{Contains};
 ghost use Rattle.ptu_units.specs.Log.{rate_of};
-ghost use Rattle.ptu_history.specs.Client.{same_lease};
-ghost use Rattle.ptu_history.specs.History.{Record, Shed as ShedRecord};
+ghost use Rattle.ptu_history.specs.{Client.{same_lease}, History.{Record, Shed as ShedRecord}};
 ghost use Rattle.ptu_history.specs.Shedding.{shed_order, shed_prefix};
 ghost use Rattle.ptu_shard.specs.declared.lease.Row.{Row as KeptRow};
-ghost use Rattle.ptu_shard.specs.Row.{IsDistinctByLease, share_of};
-ghost use Rattle.ptu_shard.specs.Table.{StandsBeside};
+ghost use Rattle.ptu_shard.specs.{Row.{IsDistinctByLease, share_of}, Table.{StandsBeside}};
 ghost use Rattle.ptu_admit.specs.Lent.{EachStandsAt, four, rows_of_lent, shares};
 ghost use Rattle.ptu_admit.specs.Newest.{AreDistinct, AreListed, IsThinned, candidate_of, found_in, rows_in, shed_at};
-ghost use Rattle.ptu_admit.specs.declared.newest.Found.{Found as FoundRow};
-ghost use Rattle.ptu_admit.specs.Shed.{shed_of};
+ghost use Rattle.ptu_admit.specs.{declared.newest.Found.{Found as FoundRow}, Shed.{shed_of}};
 
 use crate::book::Book;
 use crate::gathering::newest_of;

@@ -2,8 +2,7 @@
 
 ghost use Rattle.std.specs.Prelude.{◌≡◌, ◌+◌, ◌-◌, ◌≤◌};
 ghost use Rattle.ptu_shard.specs.Row.{IsDistinctByLease, share_of};
-ghost use Rattle.ptu_admit.specs.Lent.{four, moment_for_all, shares};
-ghost use Rattle.ptu_admit.specs.Tables.{IsSwept};
+ghost use Rattle.ptu_admit.specs.{Lent.{four, moment_for_all, shares}, Tables.{IsSwept}};
 
 use crate::book::Book;
 use ptu_outside::Port;

@@ -1,7 +1,6 @@
 ghost use Rattle.std.specs.Prelude.{◌≡◌, ◌++◌, ◌∷◌, [], ℕ, List, Some};
 ghost use Rattle.ptu_lines.specs.Script.{script_lines};
-ghost use Rattle.ptu_report.specs.Rules.{texts_of};
-ghost use Rattle.ptu_report.specs.Runs.{HasRunThrough};
+ghost use Rattle.ptu_report.specs.{Rules.{texts_of}, Runs.{HasRunThrough}};
 ghost use Rattle.ptu_audit.specs.Audited.{AnswerIsWritten, IsAnswer, IsKept};
 ghost use Rattle.ptu_audit.specs.Reading.{audit_rules, opening};
 

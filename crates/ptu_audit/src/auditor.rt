@@ -1,17 +1,15 @@
 //! An auditor: it reads a report line by line, and judges each group when it is whole.
 
 ghost use Rattle.std.specs.Prelude.{◌≡◌, ◌++◌, ◌∷◌, [], ℕ, IfOk, IfNone, OnOk, List};
+ghost use Rattle.std.specs.{Prelude.{Some, true, false}, Option.{unwrap_or}};
 ghost use Rattle.ptu_report.specs.Rules.{IsOutcome};
-ghost use Rattle.ptu_audit.specs.declared.line.Line.{Line};
-ghost use Rattle.ptu_audit.specs.declared.deed.Act.{Act};
+ghost use Rattle.ptu_audit.specs.{declared.line.Line.{Line}, declared.deed.Act.{Act}};
 ghost use Rattle.ptu_audit.specs.Groups.{acts_of as acts_told};
 ghost use Rattle.ptu_audit.specs.Reading.{Reading, audit_rules, cause_of_line, is_disordered, line_read, opening, with_entry};
 ghost use Rattle.ptu_audit.specs.Standing.{AreKept, HasAdded, HasClosed, StandsFor};
 ghost use Rattle.ptu_audit.specs.Trails.{answer_of, as_counted, first_line, group_finding};
-ghost use Rattle.ptu_audit_lines.specs.declared.entry.ReportLine.TheVariants as report;
-ghost use Rattle.std.specs.Prelude.{Some, true, false};
-ghost use Rattle.std.specs.Option.{unwrap_or};
 ghost use Rattle.ptu_audit.specs.Lines.{said_by as said_of};
+ghost use Rattle.ptu_audit_lines.specs.declared.entry.ReportLine.TheVariants as report;
 
 use crate::answer::{Answer, AuditCause};
 use crate::deed::Finding;

@@ -2,8 +2,7 @@
 //! of groups of lines, wherever it comes from.
 
 ghost use Rattle.std.specs.Prelude.{◌≡◌, [], ℕ, List, None};
-ghost use Rattle.ptu_audit.specs.declared.line.Line.{Line};
-ghost use Rattle.ptu_audit.specs.Trails.{AreSound, groups_finding};
+ghost use Rattle.ptu_audit.specs.{declared.line.Line.{Line}, Trails.{AreSound, groups_finding}};
 
 use ptu_trail::laws::faultless_so_far;
 

@@ -1,16 +1,12 @@
 //! The trails of all grandmasters.
 
 ghost use Rattle.std.specs.Prelude.{◌≡◌, ◌<◌, ◌^◌, ◌++◌, ◌∷◌, [], ℕ, List, None, IfOk, IfNone, IfSome, option_map, ◌+◌, if◌then◌else◌};
-ghost use Rattle.std.specs.BTreeMap.{get};
-ghost use Rattle.std.specs.Ordering.{is_eq, nat_cmp};
-ghost use Rattle.std.specs.Prelude.{false};
+ghost use Rattle.std.specs.{BTreeMap.{get}, Ordering.{is_eq, nat_cmp}, Prelude.{false}};
 ghost use Rattle.ptu_history.specs.History.{Record};
-ghost use Rattle.ptu_trail.specs.Faults.{first_fault, or_behind};
-ghost use Rattle.ptu_trail.specs.Trail.{StandsFor as IsTrail};
-ghost use Rattle.ptu_audit.specs.declared.deed.Act.{Act};
-ghost use Rattle.ptu_audit.specs.Standing.{AreKept, IsKept};
-ghost use Rattle.ptu_units.specs.Counts.{counted};
+ghost use Rattle.ptu_trail.specs.{Faults.{first_fault, or_behind}, Trail.{StandsFor as IsTrail}};
+ghost use Rattle.ptu_audit.specs.{declared.deed.Act.{Act}, Standing.{AreKept, IsKept}};
 ghost use Rattle.ptu_audit.specs.Trails.{act_finding, acts_finding, finding_of, is_grant, is_message, records_of};
+ghost use Rattle.ptu_units.specs.Counts.{counted};
 
 use crate::deed::{Act, Deed, Finding};
 use ptu_trail::{Fault, NoCause, Trail};

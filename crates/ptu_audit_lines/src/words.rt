@@ -2,8 +2,7 @@
 #![tactic(auto, unfolding(crate::specs::Words::field, crate::specs::Words::any_number, crate::specs::Words::kind_named, crate::specs::Words::is_channel, crate::specs::Words::octet_log, crate::specs::Words::log_of_kind, crate::specs::Words::log_outside, crate::specs::Words::hex_of, crate::specs::Words::lower_clock, crate::specs::Words::identity_of))]
 
 ghost use Rattle.std.specs.Prelude.{◌≡◌, ◌==◌, ◌≤◌, ◌≤ℤ◌, pos, Some, None, IfSome, MatchOption, option_and_then, option_copied, length, take};
-ghost use Rattle.std.specs.Option.{is_some};
-ghost use Rattle.std.specs.Str.{bytes_eq};
+ghost use Rattle.std.specs.{Option.{is_some}, Str.{bytes_eq}};
 ghost use Rattle.ptu_units.specs.Log.{IsLogOf, least_log};
 ghost use Rattle.ptu_lines.specs.Words.{int_within, ip_of, number_within, octets_of, word_of};
 ghost use Rattle.ptu_audit_lines.specs.Words as forms;

@@ -1,8 +1,7 @@
 //! The settings of both nodes.
 ghost use Rattle.std.specs.Prelude.{◌≡◌, Some, None, IfOk, IfErr, OnOk, option_map};
 ghost use Rattle.toml.specs.View.{table_view};
-ghost use Rattle.ptu_config.specs.Rules.{common_keys};
-ghost use Rattle.ptu_config.specs.Documents.{Says, first_bad};
+ghost use Rattle.ptu_config.specs.{Rules.{common_keys}, Documents.{Says, first_bad}};
 ghost use Rattle.ptu_config.specs.Common.{IsCommonInRange, common_entries};
 
 use crate::fault::SettingFault;

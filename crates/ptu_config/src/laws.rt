@@ -6,10 +6,8 @@ ghost use Rattle.toml.specs.Data.{Members, integer, string, no_members, array, n
 ghost use Rattle.toml.specs.Parse.{parse_document};
 ghost use Rattle.ptu_config.specs.declared.key.Key.{Key};
 ghost use Rattle.ptu_config.specs.declared.settings.GmSettings.{GmSettings};
-ghost use Rattle.ptu_config.specs.declared.settings.SlaveSettings.{SlaveSettings};
-ghost use Rattle.ptu_config.specs.Key.{name_of};
-ghost use Rattle.ptu_config.specs.Forms.{address_in, identity_in};
-ghost use Rattle.ptu_config.specs.Masters.{masters_in};
+ghost use Rattle.ptu_config.specs.{declared.settings.SlaveSettings.{SlaveSettings}, Key.{name_of}};
+ghost use Rattle.ptu_config.specs.{Forms.{address_in, identity_in}, Masters.{masters_in}};
 ghost use Rattle.ptu_config.specs.Rules.{Value, gm_keys, slave_keys, setting_of, number, nothing};
 ghost use Rattle.ptu_config.specs.Documents.{Reads, Says, document_of, refusal_of, table_refusal};
 ghost use Rattle.ptu_config.specs.Entries.{gm_entries, slave_entries};

@@ -1,8 +1,7 @@
 //! The masters of a document.
 ghost use Rattle.std.specs.Prelude.{◌≡◌, ◌==◌, ◌⊎◌, codes, IfErr, Some, None, option_map, option_and_then, IfOk, IfSome, true, false};
 ghost use Rattle.std.specs.List.{list_any};
-ghost use Rattle.toml.specs.Data.{get_member, as_table};
-ghost use Rattle.toml.specs.View.{view, table_view, items_view};
+ghost use Rattle.toml.specs.{Data.{get_member, as_table}, View.{view, table_view, items_view}};
 ghost use Rattle.ptu_config.specs.Forms.{given, address_in, whole_in, has_only};
 ghost use Rattle.ptu_config.specs.Masters.{judge_in, is_master_name, master_of, masters_of, masters_in, are_distinct, are_masters};
 ghost use Rattle.ptu_config.specs.Rules.{setting_of, masters};

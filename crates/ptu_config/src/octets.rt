@@ -2,8 +2,7 @@
 
 ghost use Rattle.std.specs.Prelude.{◌≡◌, ◌<◌, ◌≤◌, ◌+◌, ◌==◌, ℕ, List, Some, false, length, take, IfOk, IfErr, OnOk, OnErr, slice_range};
 ghost use Rattle.std.specs.Io.KnownBytes.{IsAtEnd, prepend_known};
-ghost use Rattle.ptu_outside.specs.Ends.{CountsEnd, StopsAtEnd};
-ghost use Rattle.ptu_outside.specs.Faults.{HasRisen};
+ghost use Rattle.ptu_outside.specs.{Ends.{CountsEnd, StopsAtEnd}, Faults.{HasRisen}};
 ghost use Rattle.ptu_config.specs.Reading.{CountsRead, HasTaken, HasTakenSome, IsNoRefusal};
 
 use crate::setup_fault::SetupFault;

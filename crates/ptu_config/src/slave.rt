@@ -3,8 +3,7 @@ ghost use Rattle.std.specs.Prelude.{◌≡◌, ◌⊎◌, None, Some, IfOk, IfEr
 ghost use Rattle.toml.specs.View.{table_view};
 ghost use Rattle.ptu_config.specs.Rules.{slave_keys};
 ghost use Rattle.ptu_config.specs.Documents.{Reads, Refuses, Says, first_bad, refusal_of};
-ghost use Rattle.ptu_config.specs.Entries.{slave_entries};
-ghost use Rattle.ptu_config.specs.Limits.{IsSlaveInRange};
+ghost use Rattle.ptu_config.specs.{Entries.{slave_entries}, Limits.{IsSlaveInRange}};
 ghost use Rattle.ptu_config.specs.declared.fault.SettingFault.TheVariants.{OutOfMemory as NoMemory};
 
 use crate::common::common_of;

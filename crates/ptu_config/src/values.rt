@@ -1,13 +1,11 @@
 //! What a document's table says of one setting.
 ghost use Rattle.std.specs.Prelude.{◌≡◌, ◌≤◌, ◌<◌, ◌^◌, Some, None, option_map, option_copied, option_and_then, IfOk, IfErr, IfSome, IfNone, MatchOption, pos, ◌≤ℤ◌};
-ghost use Rattle.toml.specs.Data.{get_member};
-ghost use Rattle.toml.specs.View.{view, table_view};
+ghost use Rattle.toml.specs.{Data.{get_member}, View.{view, table_view}};
 ghost use Rattle.ptu_units.specs.Log.{IsLogOf, least_log};
 ghost use Rattle.ptu_config.specs.Key.{name_of};
 ghost use Rattle.ptu_config.specs.Forms.{address_in, identity_in, whole_in, signed_in};
 ghost use Rattle.ptu_config.specs.Rules.{rule_of, required, optional, address, identity, whole, log, boolean, number, logarithm, truth, nothing};
-ghost use Rattle.ptu_config.specs.Documents.{IsSaid};
-ghost use Rattle.ptu_config.specs.Entries.{logarithm_or_nothing};
+ghost use Rattle.ptu_config.specs.{Documents.{IsSaid}, Entries.{logarithm_or_nothing}};
 
 use crate::fault::SettingFault;
 use crate::key::Key;

@@ -1,7 +1,6 @@
 //! The last line of the daemon.
 
-ghost use Rattle.std.specs.Prelude.{Some, IfOk, ◌≡◌};
-ghost use Rattle.std.specs.String.{string_bytes};
+ghost use Rattle.std.specs.{Prelude.{Some, IfOk, ◌≡◌}, String.{string_bytes}};
 ghost use Rattle.ptu_daemon.specs.Served.{closing_line, said_by};
 
 use ptu_units::OutOfMemory;

@@ -3,8 +3,7 @@
 ghost use Rattle.std.specs.Prelude.{◌≡◌, ◌<◌, IfOk};
 ghost use Rattle.ptu_profile.specs.Limits.{IsCapacity};
 ghost use Rattle.ptu_grandmaster.specs.declared.driving.GmEvent.{GmEvent};
-ghost use Rattle.ptu_daemon.specs.Counting.{failed_for, sent_for};
-ghost use Rattle.ptu_daemon.specs.Ran.{Does, IsSmall};
+ghost use Rattle.ptu_daemon.specs.{Counting.{failed_for, sent_for}, Ran.{Does, IsSmall}};
 
 use crate::tally::Tally;
 use ptu_grandmaster::{Gm, Reply, Taken};

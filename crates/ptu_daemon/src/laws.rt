@@ -1,7 +1,6 @@
 //! What holds of all that a grandmaster sends. The function does nothing: its contract is the law.
 
-ghost use Rattle.std.specs.Prelude.{◌≡◌, ℕ, List, false};
-ghost use Rattle.std.specs.List.{AllByRecursion};
+ghost use Rattle.std.specs.{Prelude.{◌≡◌, ℕ, List, false}, List.{AllByRecursion}};
 ghost use Rattle.ptu_units.specs.declared.kind.Kind.{Kind};
 ghost use Rattle.ptu_history.specs.declared.client.Client.{Client};
 ghost use Rattle.ptu_profile.specs.declared.grandmaster.GmConfig.{GmConfig};
@@ -9,8 +8,7 @@ ghost use Rattle.ptu_gm_messages.specs.Replies.{cancels_to};
 ghost use Rattle.ptu_grandmaster.specs.declared.driving.GmEvent.{GmEvent};
 ghost use Rattle.ptu_lanes.specs.Rounds.{Exchange, replies};
 ghost use Rattle.ptu_daemon.specs.Sends.{Standing, sends_by};
-ghost use Rattle.ptu_twostep.specs.Pairs.{step_at};
-ghost use Rattle.ptu_twostep.specs.Telling.{is_half};
+ghost use Rattle.ptu_twostep.specs.{Pairs.{step_at}, Telling.{is_half}};
 
 /// Nothing that a grandmaster sends is a Sync in two steps or a Follow_Up: what events make it send
 /// by any of its ports, and the replies and CANCELs of lanes.

@@ -1,15 +1,12 @@
 //! The daemon of a grandmaster.
 
 ghost use Rattle.std.specs.Prelude.{◌≡◌, ◌≤◌, ◌∷◌, [], IfOk, IfErr, OnOk, OnErr};
-ghost use Rattle.ptu_outside.specs.Faults.{HasRisen};
-ghost use Rattle.ptu_outside.specs.Handing.{HasPut, HasPutFront};
+ghost use Rattle.ptu_outside.specs.{Faults.{HasRisen}, Handing.{HasPut, HasPutFront}};
 ghost use Rattle.ptu_profile.specs.Grandmaster.{IsWithinLimits};
 ghost use Rattle.ptu_config.specs.Limits.{IsGmInRange};
 ghost use Rattle.ptu_lanes.specs.Served.{ServesByLanes};
-ghost use Rattle.ptu_daemon.specs.Answers.{HasAnswered};
-ghost use Rattle.ptu_daemon.specs.Events.{config_of};
-ghost use Rattle.ptu_daemon.specs.Served.{numbers_in, said_by};
-ghost use Rattle.ptu_daemon.specs.Serving.{HasServed, Serves};
+ghost use Rattle.ptu_daemon.specs.{Answers.{HasAnswered}, Events.{config_of}};
+ghost use Rattle.ptu_daemon.specs.{Served.{numbers_in, said_by}, Serving.{HasServed, Serves}};
 
 use crate::closing::{Closing, closing_text};
 use crate::daemon::Daemon;

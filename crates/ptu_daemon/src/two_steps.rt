@@ -1,8 +1,7 @@
 //! The daemon of a grandmaster, over a host in two steps.
 
 ghost use Rattle.ptu_config.specs.Limits.{IsGmInRange};
-ghost use Rattle.ptu_daemon.specs.Answers.{HasAnswered};
-ghost use Rattle.ptu_daemon.specs.ServingInTwo.{HasServedInTwo};
+ghost use Rattle.ptu_daemon.specs.{Answers.{HasAnswered}, ServingInTwo.{HasServedInTwo}};
 
 use crate::serving::serve;
 use ptu_config::GmSettings;

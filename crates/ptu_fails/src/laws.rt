@@ -1,8 +1,6 @@
 //! What holds of every watch. Each clause is a law of the definitions; the bodies are empty.
-ghost use Rattle.std.specs.Prelude.{◌≡◌, false, ◌++◌};
-ghost use Rattle.std.specs.List.{AllByRecursion};
-ghost use Rattle.ptu_record.specs.Record.{Record};
-ghost use Rattle.ptu_record.specs.SignalFails.{Timeouts};
+ghost use Rattle.std.specs.{Prelude.{◌≡◌, false, ◌++◌}, List.{AllByRecursion}};
+ghost use Rattle.ptu_record.specs.{Record.{Record}, SignalFails.{Timeouts}};
 ghost use Rattle.ptu_fails.specs.Watched.{StandsFor, Watched, is_watched};
 
 /// What a watch does not go by leaves what it stands for.

@@ -1,8 +1,7 @@
 //! Comparisons of moments that may not be there yet.
 ghost use Rattle.std.specs.Prelude.{◌≡◌, ◌≢◌, ℕ, ◌<◌, ◌≤◌, ◌^◌, ◌-◌, cond, false, not, ◌&&◌, option_map, unwrap_or};
 ghost use Rattle.std.specs.Option.{ForSome};
-ghost use Rattle.ptu_record.specs.Lists.{later_of};
-ghost use Rattle.ptu_record.specs.OutageEnds.{is_within, late_at};
+ghost use Rattle.ptu_record.specs.{Lists.{later_of}, OutageEnds.{is_within, late_at}};
 ghost use Rattle.ptu_record.specs.SignalFails.{is_lost as is_lost_at};
 
 use ptu_units::Moment;

@@ -1,6 +1,5 @@
 ghost use Rattle.std.specs.Prelude.{◌≡◌, ℕ};
-ghost use Rattle.ptu_record.specs.Record.{Record};
-ghost use Rattle.ptu_record.specs.SignalFails.{Timeouts, is_eligible};
+ghost use Rattle.ptu_record.specs.{Record.{Record}, SignalFails.{Timeouts, is_eligible}};
 
 use ptu_record::Quality;
 

@@ -2,8 +2,7 @@ ghost use Rattle.std.specs.Prelude.{◌≡◌, ◌≢◌, ℕ, ◌<◌, ◌≤�
 ghost use Rattle.std.specs.Option.{ForSome};
 ghost use Rattle.ptu_record.specs.Record.{Record, Announce, Sync, Resp, Judged};
 ghost use Rattle.ptu_record.specs.SignalFails.{Timeouts};
-ghost use Rattle.ptu_fails.specs.Watched.{StandsFor};
-ghost use Rattle.ptu_fails.specs.WatchState.{state_at, state_of};
+ghost use Rattle.ptu_fails.specs.{Watched.{StandsFor}, WatchState.{state_at, state_of}};
 
 use crate::moments::{
     awaited_until, cleared_moment, delay_loss_after, is_awaited, is_delay_lost, is_lost,
@@ -31,8 +30,7 @@ pub struct Watch {
 }
 
 impl Model for Watch {
-    ghost use Rattle.std.specs.Prelude.{◌<◌, ◌^◌};
-    ghost use Rattle.std.specs.Option.{ForSome};
+    ghost use Rattle.std.specs.{Prelude.{◌<◌, ◌^◌}, Option.{ForSome}};
     ghost use Rattle.ptu_fails.specs.Watched.{Watched};
 
     ghost Value = { Watched };

@@ -4,12 +4,9 @@
 ghost use Rattle.std.specs.Prelude.{◌≡◌, ℕ, List, [], ◌∷◌, ◌++◌, map, Err};
 ghost use Rattle.ptu_messages.specs.declared.message.Message.{Message};
 ghost use Rattle.ptu_messages.specs.declared.fault.MessageFault.{MessageFault};
-ghost use Rattle.ptu_messages.specs.Message.{SpellsMessage};
-ghost use Rattle.ptu_messages.specs.MessageFault.{HasMessageFault};
-ghost use Rattle.ptu_history.specs.declared.client.Client.{Client};
-ghost use Rattle.ptu_history.specs.Core.{history_after};
-ghost use Rattle.ptu_history.specs.History.{Record};
-ghost use Rattle.ptu_history.specs.Verdict.{Config};
+ghost use Rattle.ptu_messages.specs.{Message.{SpellsMessage}, MessageFault.{HasMessageFault}};
+ghost use Rattle.ptu_history.specs.{declared.client.Client.{Client}, Core.{history_after}};
+ghost use Rattle.ptu_history.specs.{History.{Record}, Verdict.{Config}};
 ghost use Rattle.ptu_profile.specs.declared.grandmaster.GmConfig.{GmConfig};
 ghost use Rattle.ptu_gm_messages.specs.declared.item.Item.{Item};
 ghost use Rattle.ptu_gm_messages.specs.declared.reason.GmReason.{GmReason};

@@ -1,13 +1,10 @@
 //! The close of a grandmaster.
 
 ghost use Rattle.std.specs.Prelude.{◌≡◌, ◌+◌, ℕ, List, [], ◌∷◌};
-ghost use Rattle.ptu_history.specs.Core.{book_step_moment};
-ghost use Rattle.ptu_history.specs.Counts.{counts};
-ghost use Rattle.ptu_history.specs.History.{Record};
+ghost use Rattle.ptu_history.specs.{Core.{book_step_moment}, Counts.{counts}, History.{Record}};
 ghost use Rattle.ptu_history.specs.Verdict.{table_rates};
 ghost use Rattle.ptu_shard.specs.Row.{share_of};
-ghost use Rattle.ptu_admit.specs.Lent.{moment_for_all};
-ghost use Rattle.ptu_admit.specs.Rows.{live_rows};
+ghost use Rattle.ptu_admit.specs.{Lent.{moment_for_all}, Rows.{live_rows}};
 ghost use Rattle.ptu_units.specs.Counts.{counted};
 ghost use Rattle.ptu_grandmaster.specs.Gm.{StandsFor, tables};
 

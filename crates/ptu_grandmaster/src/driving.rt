@@ -1,12 +1,9 @@
 //! A grandmaster that is driven by a list of events.
 
 ghost use Rattle.std.specs.Prelude.{◌≡◌, ◌+◌, ◌*◌, ◌^◌, ◌<◌, ◌≤◌, ℕ, List, All, IfOk, OnOk};
-ghost use Rattle.ptu_history.specs.Core.{history_after};
-ghost use Rattle.ptu_history.specs.Counts.{counts};
-ghost use Rattle.ptu_history.specs.Held.{budget, count};
+ghost use Rattle.ptu_history.specs.{Core.{history_after}, Counts.{counts}, Held.{budget, count}};
 ghost use Rattle.ptu_history.specs.History.{Record};
-ghost use Rattle.ptu_profile.specs.Grandmaster.{IsWithinLimits};
-ghost use Rattle.ptu_profile.specs.Limits.{IsCapacity};
+ghost use Rattle.ptu_profile.specs.{Grandmaster.{IsWithinLimits}, Limits.{IsCapacity}};
 ghost use Rattle.ptu_gm_messages.specs.Deciding.{opened_with};
 ghost use Rattle.ptu_grandmaster.specs.Driven.{IsPossible, IsSetUpAs, IsTimely, driven_history, events_of, sent_taken};
 ghost use Rattle.ptu_grandmaster.specs.Gm.{StandsFor};

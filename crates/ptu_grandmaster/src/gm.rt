@@ -1,10 +1,7 @@
-ghost use Rattle.std.specs.Prelude.{◌≡◌, ◌<◌, ℕ, [], List, length};
-ghost use Rattle.std.specs.Borrow.{sem};
+ghost use Rattle.std.specs.{Prelude.{◌≡◌, ◌<◌, ℕ, [], List, length}, Borrow.{sem}};
 ghost use Rattle.ptu_history.specs.History.{Record};
-ghost use Rattle.ptu_profile.specs.Grandmaster.{IsWithinLimits};
-ghost use Rattle.ptu_profile.specs.Limits.{IsCapacity};
-ghost use Rattle.ptu_grandmaster.specs.Gm.{StandsFor, port_at, table_at};
-ghost use Rattle.ptu_grandmaster.specs.Lends.{LendsPort};
+ghost use Rattle.ptu_profile.specs.{Grandmaster.{IsWithinLimits}, Limits.{IsCapacity}};
+ghost use Rattle.ptu_grandmaster.specs.{Gm.{StandsFor, port_at, table_at}, Lends.{LendsPort}};
 
 use crate::outcome::{Outcome, Taken};
 use ptu_admit::Book;

@@ -2,8 +2,7 @@
 
 ghost use Rattle.std.specs.Prelude.{◌≡◌, ◌↔◌, ◌≤◌, [], map, take, drop};
 ghost use Rattle.ptu_messages.specs.Sent.{AlwaysSpells, octets_sent};
-ghost use Rattle.ptu_gm_messages.specs.Deciding.{answer_to};
-ghost use Rattle.ptu_gm_messages.specs.Items.{AreAnswerable};
+ghost use Rattle.ptu_gm_messages.specs.{Deciding.{answer_to}, Items.{AreAnswerable}};
 ghost use Rattle.ptu_gm_messages.specs.Replies.{reply_to, signaling_of};
 ghost use Rattle.ptu_grandmaster.specs.Outcomes.{answers_seen, decision_seen, item_seen};
 ghost use Rattle.ptu_grandmaster.specs.Taking.{Replies};

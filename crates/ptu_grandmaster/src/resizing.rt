@@ -2,17 +2,13 @@
 
 ghost use Rattle.std.specs.Prelude.{◌≡◌, ◌+◌, ◌%◌, ℕ, List, [], ◌∷◌, ◌++◌, map, length, IfOk, OnErr};
 ghost use Rattle.ptu_outside.specs.HandsOver.{HandsOver, failed_in, sent_in};
-ghost use Rattle.ptu_history.specs.Core.{book_step_moment, core_step};
-ghost use Rattle.ptu_history.specs.Events as events;
-ghost use Rattle.ptu_history.specs.History.{Record};
+ghost use Rattle.ptu_history.specs.{Core.{book_step_moment, core_step}, History.{Record}};
 ghost use Rattle.ptu_history.specs.Shedding.{shed_grants};
+ghost use Rattle.ptu_history.specs.Events as events;
 ghost use Rattle.ptu_profile.specs.Limits.{IsCapacity};
-ghost use Rattle.ptu_admit.specs.Lent.{moment_for_all};
-ghost use Rattle.ptu_admit.specs.Shed.{shed_of};
-ghost use Rattle.ptu_gm_messages.specs.Deciding.{opened_with};
-ghost use Rattle.ptu_gm_messages.specs.Replies.{cancel_to, cancels_to};
-ghost use Rattle.ptu_grandmaster.specs.Changed.{leases_shed};
-ghost use Rattle.ptu_grandmaster.specs.Gm.{StandsFor, tables};
+ghost use Rattle.ptu_admit.specs.{Lent.{moment_for_all}, Shed.{shed_of}};
+ghost use Rattle.ptu_gm_messages.specs.{Deciding.{opened_with}, Replies.{cancel_to, cancels_to}};
+ghost use Rattle.ptu_grandmaster.specs.{Changed.{leases_shed}, Gm.{StandsFor, tables}};
 
 use crate::gm::Gm;
 use ptu_admit::{Shed, ShedList, resize};

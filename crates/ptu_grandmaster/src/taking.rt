@@ -2,12 +2,9 @@
 
 ghost use Rattle.std.specs.Prelude.{◌≡◌, ℕ, List, IfOk, OnErr, map};
 ghost use Rattle.ptu_messages.specs.MessageFault.{IsSignaling};
-ghost use Rattle.ptu_history.specs.Client.{table_of};
-ghost use Rattle.ptu_history.specs.Core.{history_after};
-ghost use Rattle.ptu_history.specs.History.{Record};
+ghost use Rattle.ptu_history.specs.{Client.{table_of}, Core.{history_after}, History.{Record}};
 ghost use Rattle.ptu_gm_messages.specs.Deciding.{client_of, events_of_datagram, opened_with};
-ghost use Rattle.ptu_gm_messages.specs.Items.{AreAnswerable, heard_in};
-ghost use Rattle.ptu_gm_messages.specs.Replies.{reply_to};
+ghost use Rattle.ptu_gm_messages.specs.{Items.{AreAnswerable, heard_in}, Replies.{reply_to}};
 ghost use Rattle.ptu_grandmaster.specs.Deciding.{AllCome};
 ghost use Rattle.ptu_grandmaster.specs.Gm.{HasKeptPorts, IsUnchanged, StandsFor, table_at, with_table};
 ghost use Rattle.ptu_grandmaster.specs.Outcomes.{answers_seen, decisions_seen, item_seen};

@@ -3,17 +3,13 @@
 ghost use Rattle.std.specs.Prelude.{◌≡◌, ◌<◌, ℕ, max, List, ◌++◌, map};
 ghost use Rattle.ptu_outside.specs.HandsOver.{HandsOver};
 ghost use Rattle.ptu_history.specs.Client.{table_of as table_of_client};
-ghost use Rattle.ptu_history.specs.Core.{core_step, table_step_moment};
+ghost use Rattle.ptu_history.specs.{Core.{core_step, table_step_moment}, History.{Record}};
+ghost use Rattle.ptu_history.specs.{Step.{delay_answer}, Turns.{due_grants, message_of}};
 ghost use Rattle.ptu_history.specs.Events as events;
-ghost use Rattle.ptu_history.specs.History.{Record};
-ghost use Rattle.ptu_history.specs.Step.{delay_answer};
-ghost use Rattle.ptu_history.specs.Turns.{due_grants, message_of};
-ghost use Rattle.ptu_shard.specs.Answered.{met_by, moment_of_answer};
-ghost use Rattle.ptu_shard.specs.Messages.{departure_of};
+ghost use Rattle.ptu_shard.specs.{Answered.{met_by, moment_of_answer}, Messages.{departure_of}};
 ghost use Rattle.ptu_shard.specs.Turn.{due_messages};
 ghost use Rattle.ptu_gm_messages.specs.Deciding.{opened_with};
-ghost use Rattle.ptu_grandmaster.specs.Gm.{StandsFor, table_at, with_table};
-ghost use Rattle.ptu_grandmaster.specs.Taking.{Responds};
+ghost use Rattle.ptu_grandmaster.specs.{Gm.{StandsFor, table_at, with_table}, Taking.{Responds}};
 
 use crate::gm::Gm;
 use ptu_header::Header;

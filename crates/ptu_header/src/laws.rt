@@ -3,8 +3,7 @@
 
 ghost use Rattle.std.specs.Prelude.{◌≡◌, ◌⊎◌, ◌↔◌, ◌<◌, ◌≤◌, ◌^◌, ℕ, List, All, Ok, Err};
 ghost use Rattle.ptu_header.specs.Header.{HasWidths, SpellsHeader, AlwaysSpellsHeader};
-ghost use Rattle.ptu_header.specs.HeaderFault.{HasHeaderFault};
-ghost use Rattle.ptu_header.specs.Reading.{header_in};
+ghost use Rattle.ptu_header.specs.{HeaderFault.{HasHeaderFault}, Reading.{header_in}};
 ghost use Rattle.ptu_header.specs.Sent.{sent_header};
 ghost use Rattle.ptu_header.specs.Samples.{HeadersAreSpelled, FaultsAreFound, HeadersAreSent};
 ghost use Rattle.ptu_header.specs.declared.header.Header.{Header};

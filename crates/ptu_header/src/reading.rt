@@ -1,7 +1,6 @@
 ghost use Rattle.std.specs.Prelude.{◌≡◌, ◌↔◌, ℕ, ◌≤◌, length, IsErr, IfOk, IfErr, MatchResult};
 ghost use Rattle.ptu_header.specs.Header.{BeginsMessage, SpellsHeader, header_at};
-ghost use Rattle.ptu_header.specs.HeaderFault.{HasHeaderFault};
-ghost use Rattle.ptu_header.specs.Reading.{header_in};
+ghost use Rattle.ptu_header.specs.{HeaderFault.{HasHeaderFault}, Reading.{header_in}};
 ghost use Rattle.ptu_header.specs.declared.header.Header.{Header};
 ghost use Rattle.ptu_header.specs.declared.fault.HeaderFault.{HeaderFault};
 

@@ -7,8 +7,7 @@ ghost use Rattle.std.specs.declared.cmp.Ordering.TheVariants.{Less};
 ghost use Rattle.std.specs.List.Sorted.{IsPermutation, IsSorted};
 ghost use Rattle.ptu_units.specs.declared.kind.Kind.{Kind};
 ghost use Rattle.ptu_units.specs.declared.kind.Kind.TheVariants.{Announce, Sync, DelayResp};
-ghost use Rattle.ptu_units.specs.Kind.{kind_of};
-ghost use Rattle.ptu_units.specs.Log.{IsLogOf, period_of, rate_of};
+ghost use Rattle.ptu_units.specs.{Kind.{kind_of}, Log.{IsLogOf, period_of, rate_of}};
 ghost use Rattle.ptu_history.specs.declared.client.Client.{Client};
 ghost use Rattle.ptu_history.specs.Client.{same_lease, table_of, client_cmp, kind_cmp};
 ghost use Rattle.ptu_history.specs.Order.{in_order};
@@ -20,11 +19,9 @@ ghost use Rattle.ptu_history.specs.Lawful.{earliest, last_period, lawful};
 ghost use Rattle.ptu_history.specs.Verdict.{Config, Ask, OutsideCause, OutsideCode, OutsideLog, OutsideDuration, others, profile, rate_sum, verdict, GrantedFor, ShortOf, Outside, own_rate, table_rates};
 ghost use Rattle.ptu_history.specs.Events.{Event, Request, Cancel, Turn, DelayReq, Resize, Cancelled, Responded, Answered, NoGrant, TooSoon};
 ghost use Rattle.ptu_history.specs.Turns.{due_grants, is_due, turn_cmp, sends};
-ghost use Rattle.ptu_history.specs.Shedding.{shed_cmp, shed_grants, shed_order};
-ghost use Rattle.ptu_history.specs.Step.{step};
+ghost use Rattle.ptu_history.specs.{Shedding.{shed_cmp, shed_grants, shed_order}, Step.{step}};
 ghost use Rattle.ptu_history.specs.Core.{core_moment, core_step, core_history, core_outcomes};
-ghost use Rattle.ptu_history.specs.Counts.{counts};
-ghost use Rattle.ptu_history.specs.Held.{budget, force, held, payment, payments};
+ghost use Rattle.ptu_history.specs.{Counts.{counts}, Held.{budget, force, held, payment, payments}};
 
 /// The last decision on a client and kind decides whether a grant of theirs is live.
 pub fn last_decision_decides()

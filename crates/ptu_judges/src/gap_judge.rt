@@ -1,7 +1,6 @@
 ghost use Rattle.std.specs.Prelude.{◌≡◌, ◌<◌, ◌≤◌, not, count_by};
 ghost use Rattle.ptu_record.specs.Marks.{marks_up, marks_after};
-ghost use Rattle.ptu_judges.specs.Held.{fresh, gaps_find, gaps_held};
-ghost use Rattle.ptu_judges.specs.Shifting.{shifted};
+ghost use Rattle.ptu_judges.specs.{Held.{fresh, gaps_find, gaps_held}, Shifting.{shifted}};
 
 use crate::judge::{Conduct, Judge};
 use ptu_record::Rule;

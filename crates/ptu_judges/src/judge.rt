@@ -1,6 +1,5 @@
 ghost use Rattle.std.specs.Prelude.{◌≡◌, ℕ, Bool, [], ◌∷◌, ◌++◌, Option};
-ghost use Rattle.ptu_record.specs.declared.rule.Rule.{Rule};
-ghost use Rattle.ptu_record.specs.Record.{Record, Sync, Told, Judged};
+ghost use Rattle.ptu_record.specs.{declared.rule.Rule.{Rule}, Record.{Record, Sync, Told, Judged}};
 ghost use Rattle.ptu_record.specs.Judges.{IsAssessment};
 ghost use Rattle.ptu_judges.specs.Held.{Held, StandsFor};
 

@@ -2,8 +2,7 @@
 //! body is empty.
 ghost use Rattle.std.specs.Prelude.{◌≡◌, ℕ, Bool, false, List, [], ◌∷◌, ◌++◌, Option, None};
 ghost use Rattle.std.specs.List.{AllByRecursion};
-ghost use Rattle.ptu_record.specs.declared.rule.Rule.{Rule};
-ghost use Rattle.ptu_record.specs.Lists.{since_last};
+ghost use Rattle.ptu_record.specs.{declared.rule.Rule.{Rule}, Lists.{since_last}};
 ghost use Rattle.ptu_record.specs.Record.{Entry, Record, Judge};
 ghost use Rattle.ptu_record.specs.Judges.{is_judge, rule_given, told_flag, sync_number, rule_in_force};
 ghost use Rattle.ptu_judges.specs.Held.{Held, StandsFor, IsFresh, IsStock};

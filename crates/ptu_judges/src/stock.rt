@@ -1,5 +1,4 @@
-ghost use Rattle.std.specs.Prelude.{map};
-ghost use Rattle.std.specs.Option.{MatchOption};
+ghost use Rattle.std.specs.{Prelude.{map}, Option.{MatchOption}};
 ghost use Rattle.ptu_judges.specs.Held.{HasNone, HasTaken, IsStock};
 
 use crate::judge::Judge;

@@ -1,8 +1,6 @@
 ghost use Rattle.std.specs.Prelude.{◌≡◌, ◌≤◌, ℕ, [], ◌∷◌, ◌++◌, Option, None, false};
-ghost use Rattle.ptu_record.specs.declared.rule.Rule.{Rule};
-ghost use Rattle.ptu_record.specs.Judges.{IsAssessment};
-ghost use Rattle.ptu_record.specs.Marks.{fresh_marks};
-ghost use Rattle.ptu_record.specs.Record.{Record, Told, Judged};
+ghost use Rattle.ptu_record.specs.{declared.rule.Rule.{Rule}, Judges.{IsAssessment}};
+ghost use Rattle.ptu_record.specs.{Marks.{fresh_marks}, Record.{Record, Told, Judged}};
 ghost use Rattle.ptu_judges.specs.Held.{StandsFor};
 
 use super::*;

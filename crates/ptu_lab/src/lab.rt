@@ -2,10 +2,8 @@ ghost use Rattle.std.specs.Prelude.{◌≡◌, [], map, IfOk};
 ghost use Rattle.ptu_judges.specs.Held.{IsStock};
 ghost use Rattle.ptu_report.specs.Rules.{IsOutcome};
 ghost use Rattle.ptu_script.specs.Limits.{IsWithinLimits};
-ghost use Rattle.ptu_world.specs.World.{step};
-ghost use Rattle.ptu_world.specs.Report.{Course, course_opening, outcome_by};
-ghost use Rattle.ptu_lab.specs.Orders.{IsOrderWithin, command_in};
-ghost use Rattle.ptu_lab.specs.Standing.{LabStandsFor};
+ghost use Rattle.ptu_world.specs.{World.{step}, Report.{Course, course_opening, outcome_by}};
+ghost use Rattle.ptu_lab.specs.{Orders.{IsOrderWithin, command_in}, Standing.{LabStandsFor}};
 ghost use Rattle.ptu_lab.specs.Steps.{HasStepped, stock_of};
 
 use crate::order::{Order, order_of};

@@ -1,8 +1,7 @@
 //! The load: a generated script is replayed, and what it came to is written.
 
 ghost use Rattle.std.specs.Prelude.{◌≡◌, ◌≢◌, ◌≤◌, ◌∷◌, [], ℕ, List, Some, None, IfOk, IfErr, OnOk};
-ghost use Rattle.std.specs.Io.KnownBytes.{append_known};
-ghost use Rattle.std.specs.String.{string_bytes};
+ghost use Rattle.std.specs.{Io.KnownBytes.{append_known}, String.{string_bytes}};
 ghost use Rattle.serde_json.specs.View.{view};
 ghost use Rattle.ptu_outside.specs.Handing.{HasPut, HasPutPart};
 ghost use Rattle.ptu_report.specs.Runs.{CountsWrite};

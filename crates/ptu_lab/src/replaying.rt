@@ -5,8 +5,7 @@ ghost use Rattle.ptu_world.specs.Report.{course_opening, report, rules};
 ghost use Rattle.ptu_slave.specs.Seen.{seen_by};
 ghost use Rattle.ptu_lab.specs.Headline.{KeepsHeadline};
 ghost use Rattle.ptu_lab.specs.Replayed.{AreCounts, HasReplayed, IfReplayed};
-ghost use Rattle.ptu_lab.specs.Standing.{StandsFor};
-ghost use Rattle.ptu_lab.specs.Steps.{stock_of};
+ghost use Rattle.ptu_lab.specs.{Standing.{StandsFor}, Steps.{stock_of}};
 
 use crate::done::Done;
 use crate::lab::Lab;

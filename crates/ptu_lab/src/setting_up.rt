@@ -1,7 +1,6 @@
 //! The lab's nodes are set up.
 ghost use Rattle.std.specs.Prelude.{◌≡◌, ℕ, [], false, cond, nat_eq, Some, None, IfOk};
-ghost use Rattle.std.specs.Option.{MatchOption};
-ghost use Rattle.std.specs.HashMap.{get};
+ghost use Rattle.std.specs.{Option.{MatchOption}, HashMap.{get}};
 ghost use Rattle.ptu_script.specs.Limits.{IsGrandmasterWithin, IsNamed, IsSlaveWithin};
 ghost use Rattle.ptu_script.specs.declared.command.Command.TheVariants as commands;
 ghost use Rattle.ptu_world.specs.Deeds as world;

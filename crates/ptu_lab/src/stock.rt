@@ -1,6 +1,5 @@
 //! Judges that are taken as a script names them.
-ghost use Rattle.std.specs.Prelude.{map};
-ghost use Rattle.std.specs.Option.{MatchOption};
+ghost use Rattle.std.specs.{Prelude.{map}, Option.{MatchOption}};
 ghost use Rattle.ptu_judges.specs.Held.{IsStock};
 ghost use Rattle.ptu_script.specs.Limits.{IsNamed};
 ghost use Rattle.ptu_lab.specs.Steps.{HasNone, HasTaken};

@@ -7,8 +7,7 @@ ghost use Rattle.ptu_history.specs.declared.client.Client.{Client};
 ghost use Rattle.ptu_profile.specs.Limits.{IsCapacity};
 ghost use Rattle.ptu_gm_messages.specs.Replies.{cancels_to};
 ghost use Rattle.ptu_config.specs.Limits.{IsGmInRange};
-ghost use Rattle.ptu_lanes.specs.Changing.{change_of};
-ghost use Rattle.ptu_lanes.specs.Waiting.{PassedBy};
+ghost use Rattle.ptu_lanes.specs.{Changing.{change_of}, Waiting.{PassedBy}};
 
 use crate::lanes::{ControlLane, Tally};
 use crate::service::Service;

@@ -4,8 +4,7 @@
 ghost use Rattle.std.specs.Prelude.{◌≡◌, ◌+◌, ◌*◌, ◌^◌, ◌≤◌, ◌<◌, IfOk, IfSome};
 ghost use Rattle.ptu_outside.specs.Faults.{HasRisen};
 ghost use Rattle.ptu_profile.specs.Grandmaster.{IsWithinLimits};
-ghost use Rattle.ptu_shared.specs.Opening.{HaveFailed};
-ghost use Rattle.ptu_shared.specs.Seats.{no_verdicts};
+ghost use Rattle.ptu_shared.specs.{Opening.{HaveFailed}, Seats.{no_verdicts}};
 ghost use Rattle.ptu_config.specs.Limits.{IsGmInRange};
 ghost use Rattle.ptu_lanes.specs.Rounds.{Exchanged};
 ghost use Rattle.ptu_lanes.specs.Stretches.{ControlLaneDid, EventLaneDid, HaveTurned};

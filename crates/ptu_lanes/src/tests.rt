@@ -1,7 +1,6 @@
 ghost use Rattle.std.specs.Prelude.{◌≡◌, ◌≤◌, ℕ, length, IfOk};
 ghost use Rattle.ptu_profile.specs.Limits.{IsCapacity};
-ghost use Rattle.ptu_shared.specs.Blanks.{IsBlankOf};
-ghost use Rattle.ptu_shared.specs.Opening.{idle_port};
+ghost use Rattle.ptu_shared.specs.{Blanks.{IsBlankOf}, Opening.{idle_port}};
 
 use super::*;
 use ptu_admit::{Closed, Verdict};

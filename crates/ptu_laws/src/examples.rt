@@ -4,8 +4,7 @@
 ghost use Rattle.std.specs.Prelude.{◌≡◌, ℕ, ◌*◌, List, [], ◌∷◌, pos};
 ghost use Rattle.ptu_units.specs.declared.kind.Kind.TheVariants.{Announce, Sync};
 ghost use Rattle.ptu_history.specs.History.{Granted, Ended, Capacity, Shed, Sent};
-ghost use Rattle.ptu_history.specs.Events.{Request, Resize};
-ghost use Rattle.ptu_history.specs.Core.{core_history};
+ghost use Rattle.ptu_history.specs.{Events.{Request, Resize}, Core.{core_history}};
 ghost use Rattle.ptu_history.specs.Held.{budget, count, force, held};
 ghost use Rattle.ptu_history.specs.Examples.{ask_of, config_of, first_client, lower_capacity, second_client, seconds, sync_and_turns, third_client};
 ghost use Rattle.ptu_laws.specs.Sound.{IsSound};

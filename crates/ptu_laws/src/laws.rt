@@ -4,24 +4,19 @@
 
 ghost use Rattle.std.specs.Prelude.{◌≡◌, ◌↔◌, ℕ, ◌+◌, ◌*◌, ◌<◌, ◌≤◌, false, List, [], ◌∷◌, ◌++◌, map, ℤ, IsTrue, Ok, Some};
 ghost use Rattle.std.specs.List.{All, AllPairs, Contains, count_by, list_any};
-ghost use Rattle.ptu_units.specs.declared.kind.Kind.{Kind};
-ghost use Rattle.ptu_units.specs.Log.{rate_of};
+ghost use Rattle.ptu_units.specs.{declared.kind.Kind.{Kind}, Log.{rate_of}};
 ghost use Rattle.ptu_history.specs.declared.client.Client.{Client};
 ghost use Rattle.ptu_history.specs.History.{Record, Granted, Capacity, Sent, capacity_in_force, is_sent, moment_of};
 ghost use Rattle.ptu_history.specs.Live.{Grant, last_decision, live, live_grants};
 ghost use Rattle.ptu_history.specs.Lawful.{earliest};
 ghost use Rattle.ptu_history.specs.Verdict.{Config, Ask, others, profile, rate_sum, verdict};
-ghost use Rattle.ptu_history.specs.Client.{table_of};
-ghost use Rattle.ptu_history.specs.Moments.{book_moment};
+ghost use Rattle.ptu_history.specs.{Client.{table_of}, Moments.{book_moment}};
 ghost use Rattle.ptu_history.specs.Events.{Event, Request, Turn, DelayReq, Outcome, Decided};
-ghost use Rattle.ptu_history.specs.Shedding.{shed_record};
-ghost use Rattle.ptu_history.specs.Step.{step};
+ghost use Rattle.ptu_history.specs.{Shedding.{shed_record}, Step.{step}};
 ghost use Rattle.ptu_history.specs.Core.{core_moment, core_step, core_history, core_outcomes};
 ghost use Rattle.ptu_history.specs.Held.{budget, count, force, held, payment, payments};
-ghost use Rattle.ptu_laws.specs.Granted.{is_granted, is_short};
-ghost use Rattle.ptu_laws.specs.Changes.{IsUpTo, is_resize};
-ghost use Rattle.ptu_laws.specs.Paid.{IsBefore, IsPaid};
-ghost use Rattle.ptu_laws.specs.Sound.{IsSound, MayStand, last_sent};
+ghost use Rattle.ptu_laws.specs.{Granted.{is_granted, is_short}, Changes.{IsUpTo, is_resize}};
+ghost use Rattle.ptu_laws.specs.{Paid.{IsBefore, IsPaid}, Sound.{IsSound, MayStand, last_sent}};
 ghost use Rattle.ptu_laws.specs.Part.{part_of_clients, part_of_table};
 
 /// At every moment the rates that are held sum to at most the capacity in force.

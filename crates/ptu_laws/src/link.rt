@@ -1,8 +1,5 @@
-ghost use Rattle.std.specs.Prelude.{◌≡◌, ℕ, ◌*◌, ◌/◌, ◌^◌, ◌≤◌, List};
-ghost use Rattle.std.specs.List.{All};
-ghost use Rattle.ptu_history.specs.Verdict.{Config};
-ghost use Rattle.ptu_history.specs.Events.{Event};
-ghost use Rattle.ptu_history.specs.Core.{core_history};
+ghost use Rattle.std.specs.{Prelude.{◌≡◌, ℕ, ◌*◌, ◌/◌, ◌^◌, ◌≤◌, List}, List.{All}};
+ghost use Rattle.ptu_history.specs.{Verdict.{Config}, Events.{Event}, Core.{core_history}};
 ghost use Rattle.ptu_history.specs.Held.{count};
 ghost use Rattle.ptu_laws.specs.Changes.{IsUpTo};
 

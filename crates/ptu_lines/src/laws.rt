@@ -1,7 +1,6 @@
 //! What the definitions of lines and words mean, for every script and every word.
 ghost use Rattle.std.specs.Prelude.{◌≡◌, ◌↔◌, ◌<◌, ◌≤◌, ◌^◌, ℕ, ℤ, negsuc, Option, Some, None, List, [], ◌∷◌, ◌++◌, length, count_by, ◌+◌, ◌==◌, unsigned_abs, decimal, codes, option_map};
-ghost use Rattle.std.specs.Fmt.{signed_decimal};
-ghost use Rattle.std.specs.List.{join_with_byte, flat_map};
+ghost use Rattle.std.specs.{Fmt.{signed_decimal}, List.{join_with_byte, flat_map}};
 ghost use Rattle.ptu_lines.specs.Script.{HasNoEnd, pieces, script_lines, Whole, Refused};
 ghost use Rattle.ptu_lines.specs.Reading.{Reader, IsFresh, lines_left};
 ghost use Rattle.ptu_lines.specs.Words.{words_of, number_of, log_of, ip_of, clock_of, octets_of};

@@ -1,9 +1,7 @@
 ghost use Rattle.std.specs.Prelude.{◌≡◌, ◌<◌, ◌≤◌, ◌+◌, ◌-◌, ◌++◌, ◌==◌, ℕ, [], List, false, true, length, take, drop, IfOk, OnOk, OnErr, IfSome, IfNone, IsTrue, position, slice_range};
 ghost use Rattle.std.specs.Io.KnownBytes.{IsAtEnd, prepend_known};
-ghost use Rattle.ptu_outside.specs.Ends.{CountsEnd};
-ghost use Rattle.ptu_outside.specs.Faults.{HasRisen};
-ghost use Rattle.ptu_lines.specs.Script.{is_end};
-ghost use Rattle.ptu_lines.specs.Reading.{AgreesOnEnd, IsReadToEnd};
+ghost use Rattle.ptu_outside.specs.{Ends.{CountsEnd}, Faults.{HasRisen}};
+ghost use Rattle.ptu_lines.specs.{Script.{is_end}, Reading.{AgreesOnEnd, IsReadToEnd}};
 
 use ptu_outside::{Failed, Source};
 use ptu_units::OutOfMemory;

@@ -1,6 +1,5 @@
 ghost use Rattle.std.specs.Prelude.{◌≡◌, ◌<◌, ◌≤◌, ◌+◌, ◌++◌, ℕ, List, Some, None, false, length, take, IfOk, IfNone, OnSome, OnOk, OnErr, IsTrue, position};
-ghost use Rattle.std.specs.List.{list_all, AllPass};
-ghost use Rattle.std.specs.Io.KnownBytes.{IsAtEnd, prepend_known};
+ghost use Rattle.std.specs.{List.{list_all, AllPass}, Io.KnownBytes.{IsAtEnd, prepend_known}};
 ghost use Rattle.ptu_outside.specs.Faults.{HasRisen};
 ghost use Rattle.ptu_lines.specs.Script.{is_end, is_plain, cause_of, text_of};
 ghost use Rattle.ptu_lines.specs.Reading.{known_of, octets_taken, AgreesOnEnd, CountsRead, HasNext, IsEnough, IsFresh, IsReadToEnd};

@@ -1,8 +1,6 @@
 ghost use Rattle.std.specs.Prelude.{◌≡◌, ◌<◌, ◌∷◌, [], ◌==◌, length, ℕ, position, slice_get, slice_index, IfNone, IfSome};
-ghost use Rattle.std.specs.List.{slice_split};
-ghost use Rattle.std.specs.Option.{option_copied};
-ghost use Rattle.ptu_lines.specs.Words.{words_of, word_of};
-ghost use Rattle.ptu_lines.specs.Cut.{HasEnds};
+ghost use Rattle.std.specs.{List.{slice_split}, Option.{option_copied}};
+ghost use Rattle.ptu_lines.specs.{Words.{words_of, word_of}, Cut.{HasEnds}};
 
 use memchr::memchr;
 use std::marker::Model;

@@ -1,5 +1,4 @@
-ghost use Rattle.std.specs.Prelude.{◌≡◌, ◌≤◌, length, IfOk, OnSome};
-ghost use Rattle.std.specs.List.{AllPass};
+ghost use Rattle.std.specs.{Prelude.{◌≡◌, ◌≤◌, length, IfOk, OnSome}, List.{AllPass}};
 ghost use Rattle.ptu_lines.specs.Script.{is_plain};
 ghost use Rattle.ptu_lines.specs.Reading.{octets_taken, AgreesOnEnd, CountsRead, HasNext, IsFresh, IsReadToEnd};
 

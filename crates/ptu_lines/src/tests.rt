@@ -1,6 +1,5 @@
 ghost use Rattle.std.specs.Prelude.{◌<◌, None};
-ghost use Rattle.ptu_lines.specs.Lines.{reader_of, source_of};
-ghost use Rattle.ptu_lines.specs.Reading.{AgreesOnEnd};
+ghost use Rattle.ptu_lines.specs.{Lines.{reader_of, source_of}, Reading.{AgreesOnEnd}};
 
 use super::*;
 use ptu_outside::{Failed, MemSource, Source};

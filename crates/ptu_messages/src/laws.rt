@@ -5,16 +5,13 @@ ghost use Rattle.std.specs.Prelude.{◌≡◌, ◌⊎◌, ◌↔◌, ◌≤◌, 
 ghost use Rattle.ptu_header.specs.declared.header.Header.{Header};
 ghost use Rattle.ptu_header.specs.declared.header.PortIdentity.{PortIdentity};
 ghost use Rattle.ptu_header.specs.Header as headers;
-ghost use Rattle.ptu_tlvs.specs.declared.tlv.Tlv.{Tlv};
+ghost use Rattle.ptu_tlvs.specs.{declared.tlv.Tlv.{Tlv}, Sent.{IsSendable}, Tlv.{HasWidths}};
 ghost use Rattle.ptu_messages.specs.declared.message.Message.{Message};
 ghost use Rattle.ptu_messages.specs.declared.fault.MessageFault.{MessageFault};
-ghost use Rattle.ptu_tlvs.specs.Sent.{IsSendable};
-ghost use Rattle.ptu_tlvs.specs.Tlv.{HasWidths};
 ghost use Rattle.ptu_messages.specs.Message.{HasBodyWidths, SpellsMessage};
 ghost use Rattle.ptu_messages.specs.Sent.{AlwaysSpells, IsFixed, sent_message, signaling};
 ghost use Rattle.ptu_messages.specs.Samples.{MessagesAreSpelled, FaultsAreFound, MessagesAreSent};
-ghost use Rattle.ptu_messages.specs.MessageFault.{HasMessageFault};
-ghost use Rattle.ptu_messages.specs.Reading.{message_in};
+ghost use Rattle.ptu_messages.specs.{MessageFault.{HasMessageFault}, Reading.{message_in}};
 
 /// Every list of octets spells one message, or has one fault, and never both.
 pub fn one_reading()

@@ -1,8 +1,7 @@
 ghost use Rattle.std.specs.Prelude.{◌≡◌, ◌↔◌, ◌⊎◌, ◌≤◌, ℕ, List, length, slice_range, IfOk, IfErr};
 ghost use Rattle.ptu_messages.specs.Message.{least_length, SpellsMessage};
 ghost use Rattle.ptu_messages.specs.MessageFault.{HasMessageFault, IsSignaling};
-ghost use Rattle.ptu_messages.specs.Reading.{tlvs_in, body_in, message_in};
-ghost use Rattle.ptu_messages.specs.Outcome.{Gives};
+ghost use Rattle.ptu_messages.specs.{Reading.{tlvs_in, body_in, message_in}, Outcome.{Gives}};
 ghost use Rattle.ptu_messages.specs.declared.message.Message.{Message};
 ghost use Rattle.ptu_messages.specs.declared.fault.MessageFault.{MessageFault};
 

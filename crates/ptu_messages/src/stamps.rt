@@ -1,8 +1,7 @@
 //! Timestamps in octets (IEEE 1588-2019 clause 5.3.3).
 
 ghost use Rattle.std.specs.Prelude.{◌≡◌, ◌+◌, ◌≤◌, ◌<◌, ◌^◌, length};
-ghost use Rattle.ptu_messages.specs.Message.{HasStampWidths, stamp_at};
-ghost use Rattle.ptu_messages.specs.Sent.{sent_stamp};
+ghost use Rattle.ptu_messages.specs.{Message.{HasStampWidths, stamp_at}, Sent.{sent_stamp}};
 
 use ptu_octets::{u32_at, u48_at, u48_octets};
 use ptu_units::Stamp;

@@ -4,8 +4,7 @@ ghost use Rattle.ptu_script.specs.Limits.{IsGrandmasterWithin};
 ghost use Rattle.ptu_world.specs.Deeds.{Grandmaster};
 ghost use Rattle.ptu_world.specs.Grandmasters.{capacity_deed, class_deed, datagram_deed, turn_deed};
 ghost use Rattle.ptu_world.specs.World.{new_grandmaster};
-ghost use Rattle.ptu_nodes.specs.Doing.{HasDone};
-ghost use Rattle.ptu_nodes.specs.GrandmasterPorts.{rows_kept};
+ghost use Rattle.ptu_nodes.specs.{Doing.{HasDone}, GrandmasterPorts.{rows_kept}};
 ghost use Rattle.ptu_nodes.specs.Standing.{IsGrandmasterNode, StandsAsGrandmaster};
 
 use crate::grandmaster_ports::{ANNOUNCE, SIGNALING_PORT, hand_over_all, reserve, reserve_replies};

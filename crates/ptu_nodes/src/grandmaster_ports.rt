@@ -3,8 +3,7 @@
 ghost use Rattle.std.specs.Prelude.{◌≡◌, ◌<◌, [], OnOk};
 ghost use Rattle.ptu_grandmaster.specs.Gm.{port_at, with_port};
 ghost use Rattle.ptu_nodes.specs.GrandmasterPorts.{GoesOn, HasRoom, in_ports};
-ghost use Rattle.ptu_nodes.specs.Noted.{with_handed};
-ghost use Rattle.ptu_nodes.specs.Standing.{AreIdle, AreSure};
+ghost use Rattle.ptu_nodes.specs.{Noted.{with_handed}, Standing.{AreIdle, AreSure}};
 
 use crate::journal::{Journal, SIGNALING};
 use ptu_grandmaster::Gm;

@@ -1,5 +1,4 @@
-ghost use Rattle.std.specs.Prelude.{◌≡◌, ◌+◌, ◌≤◌, ◌<◌, ◌^◌, length};
-ghost use Rattle.std.specs.Int.{w16, w64};
+ghost use Rattle.std.specs.{Prelude.{◌≡◌, ◌+◌, ◌≤◌, ◌<◌, ◌^◌, length}, Int.{w16, w64}};
 ghost use Rattle.ptu_octets.specs.Number.{number_at, signed_at, high_nibble_at, low_nibble_at};
 
 /// The number in the two octets from a place on.

@@ -1,6 +1,5 @@
 ghost use Rattle.std.specs.Prelude.{◌≡◌, ◌≢◌, ℕ, List, [], Option, Some, option_map};
-ghost use Rattle.ptu_outside.specs.Clocks.{after_first};
-ghost use Rattle.ptu_outside.specs.Faults.{HasNotFallen};
+ghost use Rattle.ptu_outside.specs.{Clocks.{after_first}, Faults.{HasNotFallen}};
 ghost use Rattle.ptu_outside.specs.Telling.{IfTold, IsFirstTold};
 
 use ptu_units::Moment;

@@ -1,8 +1,7 @@
 ghost use Rattle.std.specs.Prelude.{◌≡◌, ℕ, Option, Some, IfOk, OnOk, OnErr, IfSome};
 ghost use Rattle.ptu_outside.specs.declared.opened.Opened.{Opened};
 ghost use Rattle.ptu_outside.specs.declared.endpoint.Endpoint.{Endpoint};
-ghost use Rattle.ptu_outside.specs.Faults.{HasRisen, HasNotFallen};
-ghost use Rattle.ptu_outside.specs.Telling.{IfTold};
+ghost use Rattle.ptu_outside.specs.{Faults.{HasRisen, HasNotFallen}, Telling.{IfTold}};
 
 use crate::clock::Clock;
 use crate::failed::Failed;

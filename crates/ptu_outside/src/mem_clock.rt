@@ -1,6 +1,5 @@
 ghost use Rattle.std.specs.Prelude.{◌≡◌, [], Some, option_map};
-ghost use Rattle.ptu_outside.specs.Clocks.{after_first};
-ghost use Rattle.ptu_outside.specs.Faults.{HasNotFallen};
+ghost use Rattle.ptu_outside.specs.{Clocks.{after_first}, Faults.{HasNotFallen}};
 ghost use Rattle.ptu_outside.specs.MemoryClock.{moments_of, clock_of};
 ghost use Rattle.ptu_outside.specs.Telling.{IfTold, IsFirstTold};
 

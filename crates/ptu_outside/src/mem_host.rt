@@ -1,6 +1,5 @@
 ghost use Rattle.std.specs.Prelude.{◌≡◌, Some, None, IfOk, OnOk, OnErr, IfSome, IsErr, ◌↔◌, is_err, if◌then◌else◌, option_copied};
-ghost use Rattle.ptu_outside.specs.Faults.{HasRisen, HasNotFallen, one_more};
-ghost use Rattle.ptu_outside.specs.Telling.{IfTold};
+ghost use Rattle.ptu_outside.specs.{Faults.{HasRisen, HasNotFallen, one_more}, Telling.{IfTold}};
 
 use crate::endpoint::Endpoint;
 use crate::failed::Failed;

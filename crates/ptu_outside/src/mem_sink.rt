@@ -1,7 +1,6 @@
 ghost use Rattle.std.specs.Prelude.{◌≡◌, ◌<◌, ◌≤◌, ◌+◌, [], ◌∷◌, Some, None, length, take, IfOk, OnOk, OnErr, IsErr, IsOk, is_err, if◌then◌else◌, Contains};
 ghost use Rattle.std.specs.Io.KnownBytes.{append_known};
-ghost use Rattle.ptu_outside.specs.Faults.{HasRisen, one_more};
-ghost use Rattle.ptu_outside.specs.Handing.{Grows};
+ghost use Rattle.ptu_outside.specs.{Faults.{HasRisen, one_more}, Handing.{Grows}};
 
 use crate::failed::Failed;
 use crate::sink::Sink;

@@ -1,7 +1,6 @@
 ghost use Rattle.std.specs.Prelude.{◌≡◌, ◌<◌, ◌≤◌, ◌↔◌, ◌==◌, ◌&&◌, false, Some, None, length, take, min, nat_lt, IfOk, OnOk, OnErr, IsErr, is_err, if◌then◌else◌, Contains};
 ghost use Rattle.std.specs.Io.KnownBytes.{IsAtEnd, prepend_known};
-ghost use Rattle.ptu_outside.specs.Ends.{CountsEnd};
-ghost use Rattle.ptu_outside.specs.Faults.{HasRisen, one_more};
+ghost use Rattle.ptu_outside.specs.{Ends.{CountsEnd}, Faults.{HasRisen, one_more}};
 
 use crate::failed::Failed;
 use crate::source::Source;

@@ -1,6 +1,5 @@
 ghost use Rattle.std.specs.Prelude.{◌≡◌, ◌≤◌, ℕ, Bool, true, false, List, [], ◌∷◌, Option, take, IfOk, IsOk, OnOk, OnErr, IfSome, IfNone};
-ghost use Rattle.ptu_outside.specs.declared.arrival.Arrival.{Arrival};
-ghost use Rattle.ptu_outside.specs.Departure.{Departure};
+ghost use Rattle.ptu_outside.specs.{declared.arrival.Arrival.{Arrival}, Departure.{Departure}};
 ghost use Rattle.ptu_outside.specs.Faults.{HasRisen, HasNotFallen, one_more};
 ghost use Rattle.ptu_outside.specs.Telling.{IfTold, IsFirstTold, IsEmptyTold, append_told, rest_told};
 

@@ -2,8 +2,7 @@
 //! host with such ports and clocks opens.
 
 ghost use Rattle.std.specs.Prelude.{◌≡◌, []};
-ghost use Rattle.ptu_outside.specs.MemoryPort.{IsIdle};
-ghost use Rattle.ptu_outside.specs.MemoryClock.{clock_of};
+ghost use Rattle.ptu_outside.specs.{MemoryPort.{IsIdle}, MemoryClock.{clock_of}};
 
 use crate::mem_clock::MemClock;
 use crate::mem_port::MemPort;

@@ -1,7 +1,6 @@
 ghost use Rattle.std.specs.Prelude.{◌≡◌, ◌<◌, ◌≤◌, ◌∷◌, [], ℕ, List, Option, length, take, IfOk, OnOk, OnErr};
 ghost use Rattle.std.specs.Io.KnownBytes.{append_known};
-ghost use Rattle.ptu_outside.specs.Faults.{HasRisen};
-ghost use Rattle.ptu_outside.specs.Handing.{Grows, HasPut, HasPutFront};
+ghost use Rattle.ptu_outside.specs.{Faults.{HasRisen}, Handing.{Grows, HasPut, HasPutFront}};
 
 use crate::failed::Failed;
 

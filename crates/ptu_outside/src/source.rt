@@ -1,7 +1,6 @@
 ghost use Rattle.std.specs.Prelude.{◌≡◌, ◌<◌, ◌≤◌, ◌==◌, ◌&&◌, ℕ, List, Option, false, length, take, nat_lt, IfOk, OnOk, OnErr};
 ghost use Rattle.std.specs.Io.KnownBytes.{IsAtEnd, prepend_known};
-ghost use Rattle.ptu_outside.specs.Ends.{CountsEnd};
-ghost use Rattle.ptu_outside.specs.Faults.{HasRisen};
+ghost use Rattle.ptu_outside.specs.{Ends.{CountsEnd}, Faults.{HasRisen}};
 
 use crate::failed::Failed;
 

@@ -1,8 +1,6 @@
 ghost use Rattle.std.specs.Prelude.{◌≡◌, ◌<◌, ◌≤◌, ◌==◌, ◌&&◌, ◌∷◌, [], None, false, length, nat_lt, take, IfOk, OnOk, OnErr};
 ghost use Rattle.std.specs.Io.KnownBytes.{IsAtEnd, ReadConsumes, WriteAppends, append_known, prepend_known};
-ghost use Rattle.ptu_outside.specs.Ends.{CountsEnd};
-ghost use Rattle.ptu_outside.specs.Faults.{HasRisen};
-ghost use Rattle.ptu_outside.specs.Handing.{Grows};
+ghost use Rattle.ptu_outside.specs.{Ends.{CountsEnd}, Faults.{HasRisen}, Handing.{Grows}};
 
 use crate::failed::Failed;
 use crate::sink::Sink;

@@ -3,8 +3,7 @@
 ghost use Rattle.std.specs.Prelude.{◌≡◌, ◌∷◌, [], Some, None, Ok, Err, codes};
 ghost use Rattle.ptu_script.specs.declared.cause.Cause.TheVariants as causes;
 ghost use Rattle.ptu_outside.specs.declared.channel.Channel.TheVariants as channels;
-ghost use Rattle.ptu_pool_run.specs.Command.{command_of};
-ghost use Rattle.ptu_pool_run.specs.Output.{line_text};
+ghost use Rattle.ptu_pool_run.specs.{Command.{command_of}, Output.{line_text}};
 ghost use Rattle.ptu_pool_run.specs.declared.cause.PoolCause.TheVariants as refused;
 ghost use Rattle.ptu_pool_run.specs.declared.command.PoolCommand.TheVariants as commands;
 ghost use Rattle.ptu_pool_run.specs.declared.output.PoolLine.TheVariants as lines;

@@ -7,8 +7,7 @@ ghost use Rattle.ptu_report.specs.Rules.{IsOutcome};
 ghost use Rattle.ptu_script.specs.Limits.{IsGrandmasterWithin};
 ghost use Rattle.ptu_pool_run.specs.Limits.{IsWithinLimits};
 ghost use Rattle.ptu_pool_run.specs.Reading.{Told, behind_pools, happened, opening, set_up, sold};
-ghost use Rattle.ptu_pool_run.specs.Reading.{step, turned};
-ghost use Rattle.ptu_pool_run.specs.Standing.{StandsFor, pools_of};
+ghost use Rattle.ptu_pool_run.specs.{Reading.{step, turned}, Standing.{StandsFor, pools_of}};
 
 use crate::cause::PoolCause;
 use crate::command::PoolCommand;

@@ -3,8 +3,7 @@
 ghost use Rattle.std.specs.Prelude.{◌≡◌, IfOk, IfSome, unwrap_or, []};
 ghost use Rattle.ptu_lines.specs.Words.{word_of};
 ghost use Rattle.ptu_pool_run.specs.Command.{command_by, command_of, fields_in, handed_in};
-ghost use Rattle.ptu_pool_run.specs.Limits.{IsWithinLimits};
-ghost use Rattle.ptu_pool_run.specs.Verb.{verb_named};
+ghost use Rattle.ptu_pool_run.specs.{Limits.{IsWithinLimits}, Verb.{verb_named}};
 ghost use Rattle.ptu_pool_run.specs.declared.verb.PoolVerb.TheVariants as verbs;
 
 use crate::command::PoolCommand;

@@ -2,10 +2,8 @@
 
 ghost use Rattle.std.specs.Prelude.{◌≡◌, ◌∷◌, ℕ, List, [], Some, IfOk, OnOk};
 ghost use Rattle.ptu_report.specs.Runs.{HasRunThrough, IfWritten};
-ghost use Rattle.ptu_pool_run.specs.Answers.{HasPoured};
-ghost use Rattle.ptu_pool_run.specs.Poured.{poured_texts};
-ghost use Rattle.ptu_pool_run.specs.Promises.{KeepsPools};
-ghost use Rattle.ptu_pool_run.specs.Reading.{opening, rules};
+ghost use Rattle.ptu_pool_run.specs.{Answers.{HasPoured}, Poured.{poured_texts}};
+ghost use Rattle.ptu_pool_run.specs.{Promises.{KeepsPools}, Reading.{opening, rules}};
 ghost use Rattle.ptu_pool_run.specs.Standing.{StandsFor};
 
 use crate::cause::PoolCause;

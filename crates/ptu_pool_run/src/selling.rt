@@ -1,13 +1,11 @@
 //! Pools are sold one after the other.
 
 ghost use Rattle.std.specs.Prelude.{◌≡◌, ◌++◌, ◌∷◌, [], All, IfErr, IfOk, None, Some, length};
-ghost use Rattle.ptu_profile.specs.Limits.{IsCapacity};
+ghost use Rattle.ptu_profile.specs.{Limits.{IsCapacity}, Grandmaster.{IsWithinLimits}};
 ghost use Rattle.ptu_pools.specs.Refusal.{Share};
 ghost use Rattle.ptu_script.specs.Limits.{IsGrandmasterWithin};
-ghost use Rattle.ptu_profile.specs.Grandmaster.{IsWithinLimits};
 ghost use Rattle.ptu_pool_run.specs.Sending as sending;
-ghost use Rattle.ptu_pool_run.specs.Selling.{refusal_of};
-ghost use Rattle.ptu_pool_run.specs.Standing.{AreSold};
+ghost use Rattle.ptu_pool_run.specs.{Selling.{refusal_of}, Standing.{AreSold}};
 
 use crate::cause::PoolCause;
 use ptu_header::PortIdentity;

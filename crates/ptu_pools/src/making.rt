@@ -2,10 +2,8 @@
 
 ghost use Rattle.std.specs.Prelude.{◌≡◌, ◌<◌, ◌≤◌, ◌*◌, ◌∷◌, [], All, length, IfOk, MatchOption};
 ghost use Rattle.std.specs.Vec.Iter.{into_iter_items};
-ghost use Rattle.ptu_profile.specs.Grandmaster.{IsWithinLimits};
-ghost use Rattle.ptu_profile.specs.Limits.{IsCapacity};
-ghost use Rattle.ptu_pools.specs.Making.{AreFresh};
-ghost use Rattle.ptu_pools.specs.Standing.{ports_of_all};
+ghost use Rattle.ptu_profile.specs.{Grandmaster.{IsWithinLimits}, Limits.{IsCapacity}};
+ghost use Rattle.ptu_pools.specs.{Making.{AreFresh}, Standing.{ports_of_all}};
 
 use crate::pool::Pool;
 use ptu_grandmaster::Gm;

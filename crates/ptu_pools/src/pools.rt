@@ -1,20 +1,15 @@
 //! Pools: a grandmaster for each, beside one another.
 
 ghost use Rattle.std.specs.Prelude.{◌≡◌, ◌<◌, ◌≤◌, ◌*◌, ◌∷◌, [], ◌++◌, ℕ, List, All, length, Option, Some, slice_get, option_map, IfOk, IfErr, IfSome, OnOk, OnErr, IsTrue};
-ghost use Rattle.std.specs.Borrow.{sem};
-ghost use Rattle.std.specs.List.{position};
+ghost use Rattle.std.specs.{Borrow.{sem}, List.{position}};
 ghost use Rattle.ptu_messages.specs.MessageFault.{IsSignaling};
 ghost use Rattle.ptu_profile.specs.declared.grandmaster.GmConfig.{GmConfig};
-ghost use Rattle.ptu_profile.specs.Grandmaster.{IsWithinLimits};
-ghost use Rattle.ptu_profile.specs.Limits.{IsCapacity};
+ghost use Rattle.ptu_profile.specs.{Grandmaster.{IsWithinLimits}, Limits.{IsCapacity}};
 ghost use Rattle.ptu_grandmaster.specs.Gm.{IsUnchanged, port_at, table_at};
-ghost use Rattle.ptu_pools.specs.Pool.{is_in, is_in_at};
-ghost use Rattle.ptu_pools.specs.Refusal.{IsRefused, Share};
+ghost use Rattle.ptu_pools.specs.{Pool.{is_in, is_in_at}, Refusal.{IsRefused, Share}};
 ghost use Rattle.ptu_pools.specs.Events.{PoolEvent, Came, Turned as TurnedEvent};
-ghost use Rattle.ptu_pools.specs.Making.{AreFresh};
-ghost use Rattle.ptu_pools.specs.Standing.{ChangesOne, StandFor, ports_of_all};
-ghost use Rattle.ptu_pools.specs.Changes.{Took, TookTurn};
-ghost use Rattle.ptu_pools.specs.Ported.{with_port_of};
+ghost use Rattle.ptu_pools.specs.{Making.{AreFresh}, Standing.{ChangesOne, StandFor, ports_of_all}};
+ghost use Rattle.ptu_pools.specs.{Changes.{Took, TookTurn}, Ported.{with_port_of}};
 ghost use Rattle.ptu_pools.specs.Lends.{LendsPort};
 
 use crate::fault::PoolsFault;
@@ -38,8 +33,7 @@ pub struct Pools<P: Port> {
 
 impl<P: Port> Model for Pools<P> {
     ghost use Rattle.std.specs.Prelude.{◌≡◌, ◌≤◌, length};
-    ghost use Rattle.ptu_pools.specs.Pool.{AreApart};
-    ghost use Rattle.ptu_pools.specs.Standing.{KeptPools};
+    ghost use Rattle.ptu_pools.specs.{Pool.{AreApart}, Standing.{KeptPools}};
 
     ghost Value = { KeptPools P };
 

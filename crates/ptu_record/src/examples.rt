@@ -7,8 +7,7 @@ ghost use Rattle.ptu_record.specs.Judges.{AreAssessments, assessment, clear_plac
 ghost use Rattle.ptu_record.specs.SignalFails.{is_waiting, loss_announce, loss_delay, loss_sync, outage_ends};
 ghost use Rattle.ptu_record.specs.Tick.{Requests, Cancels, Acknowledgements, DelayReq, delay_req_number, is_probe_due, signaling_number};
 ghost use Rattle.ptu_record.specs.Step.{GrantTlv, CancelTlv, AckTlv, TakeFollowUp, TakeSignaling, TakeSync, Tick, Stop, slave_step};
-ghost use Rattle.ptu_record.specs.Asks.{gate, is_due};
-ghost use Rattle.ptu_record.specs.Grants.{is_live, live_kinds, run_start};
+ghost use Rattle.ptu_record.specs.{Asks.{gate, is_due}, Grants.{is_live, live_kinds, run_start}};
 ghost use Rattle.ptu_record.specs.Wants.{timeouts_of, wanted_kinds};
 ghost use Rattle.ptu_record.specs.Examples.{announces_missing, syncs_missing, one_of_each, second, record_until, message_pair, slow_wants, restored_master, tied_masters, choice, gaps, replaced_judge, prompt_choice, plain_wants, ticked_record, answered_ask, denied_ask, measuring_wants, renewed_grant, second_grant, measured_choice, record_after, plain_setup, measuring_setup, measuring_at, tick_requests, six_asks, prompt_timeouts, two_judges};
 

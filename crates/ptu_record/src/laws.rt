@@ -4,12 +4,10 @@
 //! may keep these in place of the record.
 ghost use Rattle.std.specs.Prelude.{◌≡◌, ◌≢◌, ◌↔◌, ℕ, ◌+◌, ◌-◌, ◌*◌, ◌%◌, ◌<◌, ◌≤◌, max, Bool, true, false, cond, not, List, [], ◌∷◌, ◌++◌, length, map, flat_map, Option, Some, None, is_some, IsSome, IsTrue, unwrap_or, option_map, option_to_list, filter_map, fold, ◌&&◌, ◌||◌, ◌==◌, nat_lt, nat_le, ℤ};
 ghost use Rattle.std.specs.List.{list_all, list_any, AllByRecursion};
-ghost use Rattle.ptu_units.specs.Log.{period_of};
+ghost use Rattle.ptu_units.specs.{Log.{period_of}, declared.kind.Kind.{Kind}};
 ghost use Rattle.ptu_record.specs.declared.rule.Rule.TheVariants.{Gap};
 ghost use Rattle.ptu_record.specs.Marks.{clear_count, fresh_marks, marks_after, marks_of};
-ghost use Rattle.ptu_units.specs.declared.kind.Kind.{Kind};
-ghost use Rattle.ptu_record.specs.declared.quality.Quality.{Quality};
-ghost use Rattle.ptu_record.specs.declared.rule.Rule.{Rule};
+ghost use Rattle.ptu_record.specs.{declared.quality.Quality.{Quality}, declared.rule.Rule.{Rule}};
 ghost use Rattle.ptu_record.specs.declared.wants.Wants.{Wants};
 ghost use Rattle.ptu_record.specs.Lists.{last, maximum, latest_of, later_of, newest_of};
 ghost use Rattle.ptu_record.specs.Quality.{class_of, is_usable, level_of};

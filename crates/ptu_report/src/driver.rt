@@ -6,8 +6,7 @@ ghost use Rattle.ptu_outside.specs.Handing.{HasPut, HasPutPart};
 ghost use Rattle.ptu_lines.specs.Script.{ScriptLine, script_lines};
 ghost use Rattle.ptu_lines.specs.Reading.{octets_taken, lines_left, AgreesOnEnd, Gives, IsReadToEnd, IsStopped};
 ghost use Rattle.ptu_report.specs.Rules.{closing, meaning_of, texts_of, texts_until};
-ghost use Rattle.ptu_report.specs.Runs.{IsReadWithin};
-ghost use Rattle.ptu_report.specs.Stops.{CountsRead, CountsWrite};
+ghost use Rattle.ptu_report.specs.{Runs.{IsReadWithin}, Stops.{CountsRead, CountsWrite}};
 ghost use Rattle.ptu_report.specs.Reported.{HasReported, HasReportedAllRead};
 ghost use Rattle.ptu_report.specs.Step.{texts_taken, is_whole, HasStepped};
 

@@ -1,5 +1,4 @@
-ghost use Rattle.std.specs.Prelude.{◌≡◌, ◌≤◌, ◌∷◌, [], IfOk, OnOk, length};
-ghost use Rattle.std.specs.List.{AllPass};
+ghost use Rattle.std.specs.{Prelude.{◌≡◌, ◌≤◌, ◌∷◌, [], IfOk, OnOk, length}, List.{AllPass}};
 ghost use Rattle.ptu_lines.specs.Script.{is_plain};
 ghost use Rattle.ptu_report.specs.Rules.{Rules, IsOutcome};
 

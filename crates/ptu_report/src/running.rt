@@ -2,8 +2,7 @@
 
 ghost use Rattle.std.specs.Prelude.{◌≡◌, ℕ, List, Some, OnOk, IfSome};
 ghost use Rattle.ptu_lines.specs.Script.{script_lines};
-ghost use Rattle.ptu_report.specs.Rules.{meaning_of, texts_of};
-ghost use Rattle.ptu_report.specs.Reported.{HasReported};
+ghost use Rattle.ptu_report.specs.{Rules.{meaning_of, texts_of}, Reported.{HasReported}};
 ghost use Rattle.ptu_report.specs.Runs.{HasRunThrough, IfWritten};
 
 use crate::driver::report;

@@ -1,8 +1,6 @@
-ghost use Rattle.std.specs.Prelude.{◌≡◌, ◌++◌, codes};
-ghost use Rattle.std.specs.Fmt.{decimal};
+ghost use Rattle.std.specs.{Prelude.{◌≡◌, ◌++◌, codes}, Fmt.{decimal}};
 ghost use Rattle.ptu_texts.specs.Texts.{address_text};
-ghost use Rattle.ptu_report_lines.specs.Statements.{channel_text};
-ghost use Rattle.ptu_report_lines.specs.Report.{line_text};
+ghost use Rattle.ptu_report_lines.specs.{Statements.{channel_text}, Report.{line_text}};
 ghost use Rattle.ptu_report_lines.specs.declared.report_line.ReportLine.TheVariants as lines;
 ghost use Rattle.ptu_report_lines.specs.declared.statement.Statement.TheVariants as statements;
 

@@ -26,8 +26,7 @@ pub struct SentList {
 
 impl Model for SentList {
     ghost use Rattle.std.specs.Prelude.{◌≡◌, List, length};
-    ghost use Rattle.ptu_report_lines.specs.declared.sent.Sent.{Sent};
-    ghost use Rattle.ptu_report_lines.specs.Sendings.{sent_in};
+    ghost use Rattle.ptu_report_lines.specs.{declared.sent.Sent.{Sent}, Sendings.{sent_in}};
 
     ghost Value = { List Sent };
 

@@ -1,8 +1,6 @@
-ghost use Rattle.std.specs.Prelude.{◌≡◌, ◌≤◌, ◌+◌, ◌++◌, ◌∷◌, OnOk};
-ghost use Rattle.std.specs.Fmt.{decimal};
+ghost use Rattle.std.specs.{Prelude.{◌≡◌, ◌≤◌, ◌+◌, ◌++◌, ◌∷◌, OnOk}, Fmt.{decimal}};
 ghost use Rattle.ptu_script.specs.Cause as causes;
-ghost use Rattle.ptu_report_lines.specs.Report.{line_text};
-ghost use Rattle.ptu_report_lines.specs.Statements.{statement_text};
+ghost use Rattle.ptu_report_lines.specs.{Report.{line_text}, Statements.{statement_text}};
 ghost use Rattle.ptu_report_lines.specs.declared.report_line.ReportLine.TheVariants as lines;
 ghost use Rattle.ptu_report_lines.specs.declared.statement.Statement.TheVariants as statements;
 

@@ -2,11 +2,9 @@
 //! the definitions, or a case that they compute; the bodies are empty.
 ghost use Rattle.std.specs.Prelude.{◌≡◌, ◌+◌, ◌≤◌, ◌<◌, ℕ, true, false, [], ◌∷◌, ◌++◌, filter, map};
 ghost use Rattle.std.specs.List.{AllByRecursion};
-ghost use Rattle.ptu_units.specs.declared.kind.Kind.{Kind};
-ghost use Rattle.ptu_units.specs.Kind.{kinds};
+ghost use Rattle.ptu_units.specs.{declared.kind.Kind.{Kind}, Kind.{kinds}};
 ghost use Rattle.ptu_record.specs.Record.{Record, record_of, Asked, Granted, Denied, Cancelled, Stopped, Event};
-ghost use Rattle.ptu_record.specs.Examples.{one_of_each};
-ghost use Rattle.ptu_record.specs.Grants.{is_live, live_kinds};
+ghost use Rattle.ptu_record.specs.{Examples.{one_of_each}, Grants.{is_live, live_kinds}};
 ghost use Rattle.ptu_requester.specs.Due.{kinds_of};
 ghost use Rattle.ptu_requester.specs.Requester.{Kept, StandsFor, is_negotiation, all_cancels};
 

@@ -1,12 +1,8 @@
 //! The negotiations of all kinds with one master.
 
 ghost use Rattle.std.specs.Prelude.{◌≡◌, ℕ, ◌++◌, ◌∷◌, [], All, IfOk, vec_len};
-ghost use Rattle.ptu_record.specs.Record.{Record};
-ghost use Rattle.ptu_record.specs.Grants.{is_live, run_start};
-ghost use Rattle.ptu_record.specs.Asks.{due_kinds};
-ghost use Rattle.ptu_requester.specs.Due.{kinds_of};
-ghost use Rattle.ptu_requester.specs.Negotiation.{entry_of};
-ghost use Rattle.ptu_requester.specs.Requester.{AreKept};
+ghost use Rattle.ptu_record.specs.{Record.{Record}, Grants.{is_live, run_start}, Asks.{due_kinds}};
+ghost use Rattle.ptu_requester.specs.{Due.{kinds_of}, Negotiation.{entry_of}, Requester.{AreKept}};
 
 use crate::due::Due;
 use crate::negotiation::{Change, Negotiation};

@@ -1,10 +1,8 @@
 ghost use Rattle.std.specs.Prelude.{◌≡◌, ◌<◌, ◌++◌, ◌∷◌, [], length, IfOk};
 ghost use Rattle.ptu_record.specs.Record.{Record, record_of, Asked, Cancelled};
-ghost use Rattle.ptu_record.specs.Grants.{is_live, run_start};
-ghost use Rattle.ptu_record.specs.Asks.{due_kinds};
+ghost use Rattle.ptu_record.specs.{Grants.{is_live, run_start}, Asks.{due_kinds}};
 ghost use Rattle.ptu_record.specs.Step.{grant_entry};
-ghost use Rattle.ptu_requester.specs.Due.{kinds_of};
-ghost use Rattle.ptu_requester.specs.Negotiation.{entry_of};
+ghost use Rattle.ptu_requester.specs.{Due.{kinds_of}, Negotiation.{entry_of}};
 ghost use Rattle.ptu_requester.specs.Requester.{StandsFor, ChangesOnly};
 
 use crate::due::Due;

@@ -1,7 +1,6 @@
 //! The lines that are events.
 ghost use Rattle.std.specs.Prelude.{◌≡◌, IfOk};
-ghost use Rattle.ptu_script.specs.Command.{fields_in, handed_in};
-ghost use Rattle.ptu_script.specs.Limits.{IsWithinLimits};
+ghost use Rattle.ptu_script.specs.{Command.{fields_in, handed_in}, Limits.{IsWithinLimits}};
 ghost use Rattle.ptu_script.specs.declared.verb.Verb.TheVariants as verbs;
 
 use crate::cause::Cause;

@@ -5,8 +5,7 @@ ghost use Rattle.ptu_units.specs.Log.{IsLogOf, least_log};
 ghost use Rattle.ptu_units.specs.declared.kind.Kind.TheVariants as kinds;
 ghost use Rattle.ptu_lines.specs.Words.{word_of, int_within, ip_of, clock_of, octets_of};
 ghost use Rattle.ptu_script.specs.Fields.{or_field, field, from_to, log_of_kind, delay_log, rule_named, truth_of};
-ghost use Rattle.ptu_script.specs.Command.{moment_of};
-ghost use Rattle.ptu_script.specs.Limits.{IsNamed};
+ghost use Rattle.ptu_script.specs.{Command.{moment_of}, Limits.{IsNamed}};
 
 use crate::cause::Cause;
 use ptu_lines::{LentOctets, WordList, clock, ip, log, number, octets};

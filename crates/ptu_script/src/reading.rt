@@ -1,9 +1,8 @@
 ghost use Rattle.std.specs.Prelude.{◌≡◌, ◌≢◌, IfOk, IfSome, unwrap_or, []};
 ghost use Rattle.ptu_script.specs.Command.{fields_in, has_count, is_comment, command_by, command_of};
-ghost use Rattle.ptu_lines.specs.Words.{word_of};
-ghost use Rattle.ptu_script.specs.Limits.{IsWithinLimits};
-ghost use Rattle.ptu_script.specs.Verb.{verb_named, counts_of};
+ghost use Rattle.ptu_script.specs.{Limits.{IsWithinLimits}, Verb.{verb_named, counts_of}};
 ghost use Rattle.ptu_script.specs.declared.verb.Verb.TheVariants.{Rx};
+ghost use Rattle.ptu_lines.specs.Words.{word_of};
 
 use crate::cause::Cause;
 use crate::command::Command;

@@ -1,7 +1,5 @@
-ghost use Rattle.std.specs.Prelude.{◌≡◌, ℕ, ◌<◌, ◌≤◌};
-ghost use Rattle.std.specs.Option.{ForSome, option_map};
-ghost use Rattle.ptu_select.specs.Candidate.{best_of};
-ghost use Rattle.ptu_select.specs.Choice.{Stands};
+ghost use Rattle.std.specs.{Prelude.{◌≡◌, ℕ, ◌<◌, ◌≤◌}, Option.{ForSome, option_map}};
+ghost use Rattle.ptu_select.specs.{Candidate.{best_of}, Choice.{Stands}};
 
 use crate::candidate::{Candidate, better_of};
 use crate::master::WatchedMaster;

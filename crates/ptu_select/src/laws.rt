@@ -1,8 +1,6 @@
 //! What holds of every selector. Each clause is a law of the definitions; the bodies are empty.
-ghost use Rattle.std.specs.Prelude.{◌≡◌, ℕ, false, List, ◌++◌};
-ghost use Rattle.std.specs.List.{AllByRecursion};
-ghost use Rattle.ptu_record.specs.Record.{Record};
-ghost use Rattle.ptu_record.specs.SignalFails.{Timeouts};
+ghost use Rattle.std.specs.{Prelude.{◌≡◌, ℕ, false, List, ◌++◌}, List.{AllByRecursion}};
+ghost use Rattle.ptu_record.specs.{Record.{Record}, SignalFails.{Timeouts}};
 ghost use Rattle.ptu_fails.specs.Watched.{is_watched};
 ghost use Rattle.ptu_select.specs.declared.master.WatchedMaster.{WatchedMaster};
 ghost use Rattle.ptu_select.specs.Selecting.{SelectsBy};

@@ -1,8 +1,7 @@
 ghost use Rattle.std.specs.Prelude.{◌≡◌, ℕ, ◌<◌, ◌^◌, List, ◌++◌, ◌∷◌, [], length, IfOk};
 ghost use Rattle.std.specs.Option.{ForSome};
 ghost use Rattle.ptu_record.specs.Record.{Record, record_of, Announce, Sync, Resp, Judged};
-ghost use Rattle.ptu_record.specs.SignalFails.{Timeouts};
-ghost use Rattle.ptu_record.specs.Selection.{selected_master};
+ghost use Rattle.ptu_record.specs.{SignalFails.{Timeouts}, Selection.{selected_master}};
 ghost use Rattle.ptu_fails.specs.WatchState.{state_at};
 ghost use Rattle.ptu_select.specs.Selecting.{SelectsBy};
 
@@ -23,8 +22,7 @@ pub struct Selector {
 }
 
 impl Model for Selector {
-    ghost use Rattle.std.specs.Prelude.{List};
-    ghost use Rattle.std.specs.Option.{ForSome};
+    ghost use Rattle.std.specs.{Prelude.{List}, Option.{ForSome}};
     ghost use Rattle.ptu_select.specs.Choice.{Stands};
     ghost use Rattle.ptu_select.specs.declared.master.WatchedMaster.{WatchedMaster};
 

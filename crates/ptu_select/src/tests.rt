@@ -1,5 +1,4 @@
-ghost use Rattle.std.specs.Option.{ForSome};
-ghost use Rattle.std.specs.Prelude.{◌≡◌, ◌<◌, ◌^◌, length};
+ghost use Rattle.std.specs.{Option.{ForSome}, Prelude.{◌≡◌, ◌<◌, ◌^◌, length}};
 
 use super::*;
 use ptu_fails::WatchState;

@@ -3,14 +3,9 @@
 ghost use Rattle.std.specs.Prelude.{◌≡◌, ℕ, ◌≤◌, ◌⊎◌, ◌++◌, [], ◌∷◌, List, false, nat_lt};
 ghost use Rattle.std.specs.Option.{option_map_or};
 ghost use Rattle.ptu_units.specs.declared.kind.Kind.{Kind};
-ghost use Rattle.ptu_history.specs.declared.client.Client.{Client};
-ghost use Rattle.ptu_history.specs.Client.{table_of};
-ghost use Rattle.ptu_history.specs.History.{Record, concerns};
-ghost use Rattle.ptu_history.specs.Moments.{table_part};
-ghost use Rattle.ptu_history.specs.Live.{live};
-ghost use Rattle.ptu_shard.specs.declared.lease.Row.{Row};
-ghost use Rattle.ptu_shard.specs.Row.{lease_of};
-ghost use Rattle.ptu_shard.specs.Table.{StandsAt};
+ghost use Rattle.ptu_history.specs.{declared.client.Client.{Client}, Client.{table_of}};
+ghost use Rattle.ptu_history.specs.{History.{Record, concerns}, Moments.{table_part}, Live.{live}};
+ghost use Rattle.ptu_shard.specs.{declared.lease.Row.{Row}, Row.{lease_of}, Table.{StandsAt}};
 
 /// What the rows of a table say of its clients, at a moment that the book or the table has reached.
 pub fn live_leases()

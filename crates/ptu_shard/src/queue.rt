@@ -1,10 +1,8 @@
 //! Queues of moments: when a row is next due, and when it is over.
 
 ghost use Rattle.std.specs.Prelude.{◌≡◌, ◌<◌, ◌≤◌, [], ◌∷◌, drop, length, max, nat_le, IfNone, IfSome, OnOk, OnErr};
-ghost use Rattle.std.specs.BinaryHeap.{IsHeap, heap_capacity, heap_items, heap_len};
-ghost use Rattle.std.specs.List.{All};
-ghost use Rattle.std.specs.List.Sorted.{IsPermutation};
-ghost use Rattle.std.specs.Ordering.{is_lt};
+ghost use Rattle.std.specs.{BinaryHeap.{IsHeap, heap_capacity, heap_items, heap_len}, List.{All}};
+ghost use Rattle.std.specs.{List.Sorted.{IsPermutation}, Ordering.{is_lt}};
 ghost use Rattle.ptu_shard.specs.Queue.{IsNoneBelow, entry_cmp};
 ghost use Rattle.ptu_shard.specs.declared.queue.Entry.{Entry as QueuedEntry};
 
@@ -31,8 +29,7 @@ pub(crate) struct Queue {
 }
 
 impl Model for Queue {
-    ghost use Rattle.std.specs.Prelude.{map};
-    ghost use Rattle.std.specs.BinaryHeap.{IsHeap, heap_capacity, heap_items};
+    ghost use Rattle.std.specs.{Prelude.{map}, BinaryHeap.{IsHeap, heap_capacity, heap_items}};
     ghost use Rattle.ptu_shard.specs.Queue.{Queued, entry_cmp};
 
     ghost Value = { Queued };

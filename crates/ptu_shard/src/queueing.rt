@@ -1,8 +1,7 @@
 //! Rows in the two queues of a table. Where a queue is full it is filled anew from the rows, so
 //! that no memory is taken, and entries that no row has any more are gone.
 
-ghost use Rattle.std.specs.Prelude.{◌≡◌, ◌<◌, ◌≤◌, ◌+◌, ◌∷◌, length, true};
-ghost use Rattle.std.specs.List.{Contains};
+ghost use Rattle.std.specs.{Prelude.{◌≡◌, ◌<◌, ◌≤◌, ◌+◌, ◌∷◌, length, true}, List.{Contains}};
 ghost use Rattle.std.specs.List.Sorted.{IsPermutation};
 ghost use Rattle.indexmap.specs.IndexMap.{spare};
 ghost use Rattle.ptu_units.specs.Log.{rate_of};

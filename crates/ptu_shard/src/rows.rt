@@ -4,13 +4,10 @@
 //! stands in it twice.
 
 ghost use Rattle.std.specs.Prelude.{◌≡◌, ◌<◌, ◌≤◌, ◌+◌, ◌*◌, ◌^◌, [], ◌∷◌, false, if◌then◌else◌, length, map, nat_lt, slice_get, true, IfNone, IfSome};
-ghost use Rattle.std.specs.List.{Contains, filter};
-ghost use Rattle.std.specs.List.Sorted.{IsPermutation};
-ghost use Rattle.ptu_units.specs.declared.kind.Kind.TheVariants.{DelayResp};
+ghost use Rattle.std.specs.{List.{Contains, filter}, List.Sorted.{IsPermutation}};
+ghost use Rattle.ptu_units.specs.{declared.kind.Kind.TheVariants.{DelayResp}, Log.{rate_of}};
 ghost use Rattle.indexmap.specs.IndexMap.{spare};
-ghost use Rattle.ptu_units.specs.Log.{rate_of};
-ghost use Rattle.ptu_shard.specs.Fields.{rows_of};
-ghost use Rattle.ptu_shard.specs.Queue.{edge_entry, end_entry, row_by};
+ghost use Rattle.ptu_shard.specs.{Fields.{rows_of}, Queue.{edge_entry, end_entry, row_by}};
 ghost use Rattle.ptu_shard.specs.Row.{IsDistinctByLease, is_row_of, lease_of, rate_of_lease, share_of, without_row};
 ghost use Rattle.ptu_shard.specs.Turn.{answered_lease, is_answering_row, is_due_row, spent_row, spent_where};
 

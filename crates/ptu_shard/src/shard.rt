@@ -1,23 +1,16 @@
 ghost use Rattle.std.specs.Prelude.{◌≡◌, ◌<◌, ◌≤◌, ◌+◌, ◌*◌, ◌^◌, ℕ, IfOk, max, [], ◌∷◌, ◌++◌, List, map, OnErr, OnOk, length, is_some, slice_get, nat_lt};
-ghost use Rattle.std.specs.Borrow.{sem};
-ghost use Rattle.std.specs.List.{filter};
-ghost use Rattle.std.specs.List.Sorted.{IsPermutation};
-ghost use Rattle.ptu_units.specs.Log.{rate_of};
-ghost use Rattle.ptu_history.specs.Client.{table_of};
-ghost use Rattle.ptu_history.specs.History.{Record, Granted, Ended, Shed};
-ghost use Rattle.ptu_history.specs.Verdict.{Config};
-ghost use Rattle.ptu_history.specs.Events.{DelayReq, Turn};
-ghost use Rattle.ptu_history.specs.Step.{delay_answer, step};
-ghost use Rattle.ptu_history.specs.Turns.{due_grants, message_of};
-ghost use Rattle.ptu_units.specs.declared.kind.Kind.TheVariants.{DelayResp};
+ghost use Rattle.std.specs.{Borrow.{sem}, List.{filter}, List.Sorted.{IsPermutation}};
+ghost use Rattle.ptu_units.specs.{Log.{rate_of}, declared.kind.Kind.TheVariants.{DelayResp}};
+ghost use Rattle.ptu_history.specs.{Client.{table_of}, History.{Record, Granted, Ended, Shed}};
+ghost use Rattle.ptu_history.specs.{Verdict.{Config}, Events.{DelayReq, Turn}};
+ghost use Rattle.ptu_history.specs.{Step.{delay_answer, step}, Turns.{due_grants, message_of}};
 ghost use Rattle.ptu_shard.specs.Answered.{answer_by, failed_by, met_by, moment_of_answer, responses, sent_by};
-ghost use Rattle.ptu_profile.specs.Grandmaster.{IsWithinLimits};
-ghost use Rattle.ptu_outside.specs.HandsOver.{HandsOver};
-ghost use Rattle.ptu_shard.specs.Lends.{LendsPort};
-ghost use Rattle.ptu_shard.specs.Messages.{departure_of, response_of};
+ghost use Rattle.ptu_shard.specs.{Lends.{LendsPort}, Messages.{departure_of, response_of}};
 ghost use Rattle.ptu_shard.specs.Row.{IsDistinctByLease, lease_of, share_of, without_row};
 ghost use Rattle.ptu_shard.specs.Table.{IsLeaseOf, StandsBeside, StandsFor};
 ghost use Rattle.ptu_shard.specs.Turn.{is_answering_row, is_due_row, due_messages, spent_where};
+ghost use Rattle.ptu_profile.specs.Grandmaster.{IsWithinLimits};
+ghost use Rattle.ptu_outside.specs.HandsOver.{HandsOver};
 
 use crate::answered::{Answered, Turned};
 use crate::answering::answer_request;
@@ -55,8 +48,7 @@ pub struct Shard<P: Port> {
 impl<P: Port> Model for Shard<P> {
     ghost use Rattle.std.specs.Prelude.{◌-◌, length};
     ghost use Rattle.indexmap.specs.IndexMap.{spare as spare_of};
-    ghost use Rattle.ptu_shard.specs.Fields.{AreFields, rows_of};
-    ghost use Rattle.ptu_shard.specs.Table.{Kept};
+    ghost use Rattle.ptu_shard.specs.{Fields.{AreFields, rows_of}, Table.{Kept}};
 
     ghost Value = { Kept P };
 

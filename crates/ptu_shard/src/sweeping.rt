@@ -1,11 +1,9 @@
 //! Dropping the rows that are over.
 
-ghost use Rattle.std.specs.Prelude.{◌≡◌, ◌<◌, ◌≤◌, ◌+◌, ◌^◌, length, nat_lt};
-ghost use Rattle.std.specs.List.{filter};
+ghost use Rattle.std.specs.{Prelude.{◌≡◌, ◌<◌, ◌≤◌, ◌+◌, ◌^◌, length, nat_lt}, List.{filter}};
 ghost use Rattle.std.specs.List.Sorted.{IsPermutation};
 ghost use Rattle.indexmap.specs.IndexMap.{spare};
-ghost use Rattle.ptu_shard.specs.Fields.{rows_of};
-ghost use Rattle.ptu_shard.specs.Queue.{HasEnds};
+ghost use Rattle.ptu_shard.specs.{Fields.{rows_of}, Queue.{HasEnds}};
 ghost use Rattle.ptu_shard.specs.Row.{IsDistinctByLease, share_of};
 
 use crate::lease::Lease;

@@ -4,9 +4,7 @@ ghost use Rattle.std.specs.Prelude.{◌≡◌, ◌<◌, ◌≤◌, [], ◌∷◌
 ghost use Rattle.indexmap.specs.IndexMap.{spare};
 ghost use Rattle.ptu_outside.specs.HandsOver.{HandsOver};
 ghost use Rattle.ptu_profile.specs.Grandmaster.{IsWithinLimits};
-ghost use Rattle.ptu_shard.specs.Fields.{rows_of};
-ghost use Rattle.ptu_shard.specs.Messages.{departure_of};
-ghost use Rattle.ptu_shard.specs.Queue.{HasEdges};
+ghost use Rattle.ptu_shard.specs.{Fields.{rows_of}, Messages.{departure_of}, Queue.{HasEdges}};
 ghost use Rattle.ptu_shard.specs.Row.{IsDistinctByLease};
 ghost use Rattle.ptu_shard.specs.Turn.{due_messages, due_rows, is_due_row, spent_where};
 ghost use Rattle.ptu_history.specs.Turns.{is_turned};

@@ -2,10 +2,8 @@
 
 ghost use Rattle.std.specs.Prelude.{◌≡◌, ℕ, ◌-◌, ◌≤◌, ◌<◌, ◌^◌, max, false, List, ◌∷◌, ◌++◌, IfSome, IfNone, OnSome};
 ghost use Rattle.std.specs.Option.{option_map};
-ghost use Rattle.ptu_history.specs.Client.{table_of as table_of_client};
-ghost use Rattle.ptu_history.specs.History.{Record};
-ghost use Rattle.ptu_history.specs.Events.{Request};
-ghost use Rattle.ptu_history.specs.Step.{step};
+ghost use Rattle.ptu_history.specs.{Client.{table_of as table_of_client}, History.{Record}};
+ghost use Rattle.ptu_history.specs.{Events.{Request}, Step.{step}};
 ghost use Rattle.ptu_history.specs.Verdict.{verdict as verdict_after};
 ghost use Rattle.ptu_profile.specs.Grandmaster.{IsWithinLimits};
 ghost use Rattle.ptu_admit.specs.Lent.{Lent, StandFor, four, is_lent, live_others, moment_for, table_for};

@@ -1,18 +1,12 @@
 //! Cancels, changes of capacity and the last sweep, on the values that the locks lend.
 
 ghost use Rattle.std.specs.Prelude.{◌≡◌, ℕ, ◌+◌, ◌≤◌, max, false, List, ◌∷◌, ◌++◌, map, IfOk, OnErr};
-ghost use Rattle.ptu_history.specs.Client.{table_of as table_of_client};
-ghost use Rattle.ptu_history.specs.History.{Record};
-ghost use Rattle.ptu_history.specs.Live.{live};
-ghost use Rattle.ptu_history.specs.Verdict.{Config};
-ghost use Rattle.ptu_history.specs.Events.{Cancel, Resize};
-ghost use Rattle.ptu_history.specs.Shedding.{shed_grants};
-ghost use Rattle.ptu_history.specs.Step.{step};
+ghost use Rattle.ptu_history.specs.{Client.{table_of as table_of_client}, History.{Record}};
+ghost use Rattle.ptu_history.specs.{Live.{live}, Verdict.{Config}, Events.{Cancel, Resize}};
+ghost use Rattle.ptu_history.specs.{Shedding.{shed_grants}, Step.{step}};
 ghost use Rattle.ptu_profile.specs.Limits.{IsCapacity};
 ghost use Rattle.ptu_admit.specs.Lent.{Lent, StandFor, four, is_lent, moment_for_all, shares, table_for};
-ghost use Rattle.ptu_admit.specs.Rows.{has_live_row};
-ghost use Rattle.ptu_admit.specs.Shed.{shed_of};
-ghost use Rattle.ptu_admit.specs.Tables.{IsSwept};
+ghost use Rattle.ptu_admit.specs.{Rows.{has_live_row}, Shed.{shed_of}, Tables.{IsSwept}};
 
 use crate::desk::{Desk, audit_table, audit_tables};
 use crate::place::{First, Fourth, Place, Second, Third};

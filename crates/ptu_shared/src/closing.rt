@@ -2,8 +2,7 @@
 
 ghost use Rattle.std.specs.Prelude.{◌≡◌, ◌≤◌, ◌<◌, ◌+◌, ◌*◌, ◌^◌, ◌↔◌, [], ◌∷◌, IfErr, IfOk, IsOk, IsTrue, length, sum, vec_len};
 ghost use Rattle.ptu_shard.specs.Row.{share_of};
-ghost use Rattle.ptu_admit.specs.Lent.{four, moment_for_all};
-ghost use Rattle.ptu_admit.specs.Rows.{live_rows};
+ghost use Rattle.ptu_admit.specs.{Lent.{four, moment_for_all}, Rows.{live_rows}};
 ghost use Rattle.ptu_shared.specs.Opening.{AreAsOpened, HaveFailed};
 ghost use Rattle.ptu_shared.specs.Seats.{AreUnsettled, granted_in, refused_in};
 

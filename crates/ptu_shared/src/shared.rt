@@ -1,12 +1,9 @@
 ghost use Rattle.std.specs.Prelude.{◌≡◌, ◌≤◌, ◌<◌, ◌^◌, IfNone, IfOk, IfSome, OnErr, replicate};
 ghost use Rattle.ptu_history.specs.Client.{table_of as table_of_client};
 ghost use Rattle.ptu_shard.specs.Answered.{moment_of_answer};
-ghost use Rattle.ptu_profile.specs.Grandmaster.{IsWithinLimits};
-ghost use Rattle.ptu_profile.specs.Limits.{IsCapacity};
-ghost use Rattle.ptu_shared.specs.Answers.{AnswersAsk};
-ghost use Rattle.ptu_shared.specs.Delays.{IsLaterIfTooSoon};
-ghost use Rattle.ptu_shared.specs.Opening.{seen_of};
-ghost use Rattle.ptu_shared.specs.Seats.{counting, no_verdicts};
+ghost use Rattle.ptu_profile.specs.{Grandmaster.{IsWithinLimits}, Limits.{IsCapacity}};
+ghost use Rattle.ptu_shared.specs.{Answers.{AnswersAsk}, Delays.{IsLaterIfTooSoon}};
+ghost use Rattle.ptu_shared.specs.{Opening.{seen_of}, Seats.{counting, no_verdicts}};
 
 use crate::asking::{Demand, ask_all, ask_one};
 use crate::changing::{Change, cancel_one, resize_all};

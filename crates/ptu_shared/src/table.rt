@@ -1,20 +1,14 @@
 ghost use Rattle.std.specs.Prelude.{◌≡◌, ◌≤◌, ℕ, [], ◌++◌, List, OnErr, OnOk, map, max};
 ghost use Rattle.std.specs.List.Sorted.{IsPermutation};
 ghost use Rattle.ptu_outside.specs.HandsOver.{HandsOver};
-ghost use Rattle.ptu_history.specs.Client.{table_of};
-ghost use Rattle.ptu_history.specs.History.{Record};
-ghost use Rattle.ptu_history.specs.Verdict.{Config};
-ghost use Rattle.ptu_history.specs.Events.{DelayReq, Turn};
-ghost use Rattle.ptu_history.specs.Step.{delay_answer, step};
+ghost use Rattle.ptu_history.specs.{Client.{table_of}, History.{Record}, Verdict.{Config}};
+ghost use Rattle.ptu_history.specs.{Events.{DelayReq, Turn}, Step.{delay_answer, step}};
 ghost use Rattle.ptu_history.specs.Turns.{due_grants, message_of};
 ghost use Rattle.ptu_shard.specs.Answered.{failed_by, met_by, moment_of_answer, responses, sent_by};
+ghost use Rattle.ptu_shard.specs.{Messages.{departure_of, response_of}, Row.{share_of}};
+ghost use Rattle.ptu_shard.specs.{Table.{StandsBeside, StandsFor}, Turn.{due_messages}};
 ghost use Rattle.ptu_profile.specs.Grandmaster.{IsWithinLimits};
-ghost use Rattle.ptu_shard.specs.Messages.{departure_of, response_of};
-ghost use Rattle.ptu_shard.specs.Row.{share_of};
-ghost use Rattle.ptu_shard.specs.Table.{StandsBeside, StandsFor};
-ghost use Rattle.ptu_shard.specs.Turn.{due_messages};
-ghost use Rattle.ptu_shared.specs.Delays.{IsLaterIfTooSoon};
-ghost use Rattle.ptu_shared.specs.Opening.{AreCounted, seen_of};
+ghost use Rattle.ptu_shared.specs.{Delays.{IsLaterIfTooSoon}, Opening.{AreCounted, seen_of}};
 
 use crate::place::Place;
 use crate::rates::Rates;

@@ -1,8 +1,6 @@
 //! A datagram in words.
 
-ghost use Rattle.std.specs.Prelude.{◌≡◌, Some};
-ghost use Rattle.std.specs.Fmt.{WritesOnOk};
-ghost use Rattle.std.specs.List.{flat_map};
+ghost use Rattle.std.specs.{Prelude.{◌≡◌, Some}, Fmt.{WritesOnOk}, List.{flat_map}};
 ghost use Rattle.ptu_show.specs.Datagram.{ask_text, body_text, message_text, renewal_text};
 ghost use Rattle.ptu_show.specs.Datagram.{stamp_text, tlv_text, type_text};
 

@@ -1,8 +1,7 @@
 //! The half that a datagram spells.
 
 ghost use Rattle.std.specs.Prelude.{◌≡◌, IfOk, IfSome};
-ghost use Rattle.ptu_show.specs.Halves.{half_in};
-ghost use Rattle.ptu_show.specs.Waiting.{IsHalf};
+ghost use Rattle.ptu_show.specs.{Halves.{half_in}, Waiting.{IsHalf}};
 
 use crate::half::Half;
 use ptu_messages::{MessageFault, read_message};

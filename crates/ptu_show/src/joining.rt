@@ -3,8 +3,7 @@ ghost use Rattle.ptu_report.specs.Runs.{HasRunThrough, IfWritten};
 ghost use Rattle.ptu_show.specs.Halves.{half_in, is_other};
 ghost use Rattle.ptu_show.specs.Joined.{half_text, halves_of, join_rules};
 ghost use Rattle.ptu_show.specs.Joined.{joined_lines, text_behind, HasJoined, HasJoinCause};
-ghost use Rattle.ptu_show.specs.Shown.{numbered};
-ghost use Rattle.ptu_show.specs.Waiting.{IsHalf, StandsFor};
+ghost use Rattle.ptu_show.specs.{Shown.{numbered}, Waiting.{IsHalf, StandsFor}};
 
 use crate::fault::JoinFault;
 use crate::half::Half;

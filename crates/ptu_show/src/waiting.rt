@@ -1,8 +1,7 @@
 //! Halves that wait for their others.
 
 ghost use Rattle.std.specs.Prelude.{◌≡◌, ◌∷◌, [], ℕ, List, IfOk, IfSome, Some, true};
-ghost use Rattle.ptu_show.specs.declared.half.Half.{Half};
-ghost use Rattle.ptu_show.specs.Halves.{is_other};
+ghost use Rattle.ptu_show.specs.{declared.half.Half.{Half}, Halves.{is_other}};
 ghost use Rattle.ptu_show.specs.Joins.{other_of, partner, waiting_keys};
 ghost use Rattle.ptu_show.specs.Waiting.{IsHalf, StandsFor};
 

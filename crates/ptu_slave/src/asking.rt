@@ -2,14 +2,11 @@
 
 ghost use Rattle.std.specs.Prelude.{◌≡◌, ℕ, ◌<◌, ◌^◌, List, [], ◌∷◌, ◌++◌, cond, map, length, filter_map, option_to_list};
 ghost use Rattle.ptu_units.specs.Log.{period_of};
-ghost use Rattle.ptu_record.specs.Lists.{maximum};
-ghost use Rattle.ptu_record.specs.Record.{Record, record_of};
-ghost use Rattle.ptu_record.specs.Grants.{live_kinds};
-ghost use Rattle.ptu_record.specs.Tick.{is_probe_due};
+ghost use Rattle.ptu_record.specs.{Lists.{maximum}, Record.{Record, record_of}};
+ghost use Rattle.ptu_record.specs.{Grants.{live_kinds}, Tick.{is_probe_due}};
 ghost use Rattle.ptu_requester.specs.Requester.{StandsFor};
 ghost use Rattle.ptu_slave_messages.specs.Sending.{kinds_in};
-ghost use Rattle.ptu_slave.specs.Kept.{CountFor};
-ghost use Rattle.ptu_slave.specs.Parts.{kind_entry, signal_entry};
+ghost use Rattle.ptu_slave.specs.{Kept.{CountFor}, Parts.{kind_entry, signal_entry}};
 
 use crate::counters::Counters;
 use ptu_record::Wants;

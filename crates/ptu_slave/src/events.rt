@@ -1,15 +1,13 @@
 //! The events of a slave that send nothing but a reply.
 
 ghost use Rattle.std.specs.Prelude.{◌≡◌, ℕ, ◌<◌, max, List, map, filter_map, length, Option};
-ghost use Rattle.ptu_record.specs.declared.rule.Rule.{Rule};
-ghost use Rattle.ptu_record.specs.Record.{Record};
+ghost use Rattle.ptu_record.specs.{declared.rule.Rule.{Rule}, Record.{Record}};
 ghost use Rattle.ptu_record.specs.Step.{TakeAnnounce, TakeSync, TakeFollowUp, TakeDelayResp, TakeSignaling, TellFlag, ReplaceJudge};
 ghost use Rattle.ptu_tlvs.specs.declared.tlv.Tlv.{Tlv};
 ghost use Rattle.ptu_judges.specs.Held.{Held, IsFresh};
 ghost use Rattle.ptu_judges.specs.Calls.{OfOne, Then, WasAsked, WasHeard, WasTold};
 ghost use Rattle.ptu_slave_messages.specs.Heard.{signals_of, said_by};
-ghost use Rattle.ptu_slave.specs.Kept.{IsSame};
-ghost use Rattle.ptu_slave.specs.Standing.{StandsFor, Steps, StepsFound};
+ghost use Rattle.ptu_slave.specs.{Kept.{IsSame}, Standing.{StandsFor, Steps, StepsFound}};
 
 use crate::judging::{judge_anew, judge_flag, judge_sync};
 use crate::node::Core;

@@ -1,10 +1,9 @@
 //! The judges of a slave, who are told of Syncs and flags, and asked.
 
 ghost use Rattle.std.specs.Prelude.{◌≡◌, ◌<◌, ℕ, Bool, List, [], ◌∷◌, ◌++◌, map, length, Option};
-ghost use Rattle.ptu_record.specs.declared.rule.Rule.{Rule};
-ghost use Rattle.ptu_record.specs.Record.{Record, Sync, Told, Judged};
-ghost use Rattle.ptu_record.specs.Record as entry;
+ghost use Rattle.ptu_record.specs.{declared.rule.Rule.{Rule}, Record.{Record, Sync, Told, Judged}};
 ghost use Rattle.ptu_record.specs.Judges.{IsAssessment};
+ghost use Rattle.ptu_record.specs.Record as entry;
 ghost use Rattle.ptu_judges.specs.Held.{IsFresh, StandsFor};
 ghost use Rattle.ptu_judges.specs.Calls.{OfAll, OfOne, Then, WasAsked, WasHeard, WasTold};
 ghost use Rattle.ptu_slave.specs.Parts.{AllJudged, OneAsked, OneJudged};

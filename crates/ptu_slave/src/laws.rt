@@ -1,16 +1,13 @@
 //! What holds of every slave. Each clause is a law of the definitions; the bodies are empty.
 ghost use Rattle.std.specs.Prelude.{◌≡◌, ◌≢◌, ◌<◌, ℕ, List, ◌++◌, length, map, Option, None, IsSome};
 ghost use Rattle.std.specs.List.{AllByRecursion};
-ghost use Rattle.ptu_record.specs.declared.rule.Rule.{Rule};
-ghost use Rattle.ptu_record.specs.Record.{Record, event_moment};
+ghost use Rattle.ptu_record.specs.{declared.rule.Rule.{Rule}, Record.{Record, event_moment}};
 ghost use Rattle.ptu_record.specs.Step.{ReplaceJudge, SlaveEvent, Tick, judged_masters, sendings, slave_step};
 ghost use Rattle.ptu_judges.specs.Held.{Held};
-ghost use Rattle.ptu_slave.specs.Kept.{Kept};
-ghost use Rattle.ptu_slave_messages.specs.Heard.{replies_in};
-ghost use Rattle.ptu_slave_messages.specs.Reception.{reception};
+ghost use Rattle.ptu_slave.specs.{Kept.{Kept}, Standing.{StandsFor, Steps, setup_of}};
+ghost use Rattle.ptu_slave_messages.specs.{Heard.{replies_in}, Reception.{reception}};
 ghost use Rattle.ptu_slave_messages.specs.Sending.{all_ones, departure_of};
 ghost use Rattle.ptu_slave_messages.specs.Node.{Node, datagram_deed, deed};
-ghost use Rattle.ptu_slave.specs.Standing.{StandsFor, Steps, setup_of};
 
 /// Where each judge has a rule, a step is the one step of the event.
 pub fn ruled_judges()

@@ -2,15 +2,13 @@ ghost use Rattle.std.specs.Prelude.{◌≡◌, ℕ, ◌<◌, ◌≤◌, max, Lis
 ghost use Rattle.std.specs.Option.{ForSome};
 ghost use Rattle.ptu_units.specs.Log.{period_of};
 ghost use Rattle.ptu_record.specs.Record.{Record, record_of, Announce, Sync, Resp, Judged, Cancelled};
-ghost use Rattle.ptu_record.specs.Grants.{live_kinds};
-ghost use Rattle.ptu_record.specs.Selection.{selected_master};
+ghost use Rattle.ptu_record.specs.{Grants.{live_kinds}, Selection.{selected_master}};
 ghost use Rattle.ptu_record.specs.Tick.{requests_to, sending_entries};
 ghost use Rattle.ptu_profile.specs.Slave.{AreMasters, IsWithinLimits, address_of, priorities, timeouts};
 ghost use Rattle.ptu_requester.specs.Due as due;
 ghost use Rattle.ptu_select.specs.Selecting.{SelectsBy};
 ghost use Rattle.ptu_slave_messages.specs.Sending.{kinds_in, stop_plan, tick_plan};
-ghost use Rattle.ptu_slave.specs.Kept.{CountFor, Kept};
-ghost use Rattle.ptu_slave.specs.Parts.{cancels_by, signal_entry};
+ghost use Rattle.ptu_slave.specs.{Kept.{CountFor, Kept}, Parts.{cancels_by, signal_entry}};
 ghost use Rattle.ptu_slave.specs.Standing.{Asks, Selects};
 
 use crate::asking::{KindEntry, enter_each, enter_kinds, is_probe_due, live};

@@ -1,5 +1,4 @@
-ghost use Rattle.std.specs.Borrow.{Lends, sem};
-ghost use Rattle.std.specs.Prelude.{◌≡◌};
+ghost use Rattle.std.specs.{Borrow.{Lends, sem}, Prelude.{◌≡◌}};
 
 /// What has a port. A clause names the type of what is lent from, boxed judges and all, only in a
 /// trait, so the loan stands in one.

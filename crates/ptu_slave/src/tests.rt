@@ -3,8 +3,7 @@ ghost use Rattle.std.specs.Prelude.{◌≡◌, ◌≤◌, All, IfOk, None, false
 ghost use Rattle.ptu_judges.specs.Held.{IsFresh};
 ghost use Rattle.ptu_record.specs.Marks.{fresh_marks};
 ghost use Rattle.ptu_profile.specs.Slave.{IsWithinLimits};
-ghost use Rattle.ptu_slave.specs.Kept.{IsSame};
-ghost use Rattle.ptu_slave.specs.Seen.{seen};
+ghost use Rattle.ptu_slave.specs.{Kept.{IsSame}, Seen.{seen}};
 
 use super::*;
 use ptu_header::PortIdentity;

@@ -1,12 +1,10 @@
 ghost use Rattle.std.specs.Prelude.{◌≡◌, ℕ, List, length, map, IfOk, OnOk, OnErr, IsErrOf, true};
-ghost use Rattle.ptu_outside.specs.declared.opened.Opened.{Opened};
-ghost use Rattle.ptu_outside.specs.Handing.{HasPutPart};
+ghost use Rattle.ptu_outside.specs.{declared.opened.Opened.{Opened}, Handing.{HasPutPart}};
 ghost use Rattle.ptu_config.specs.Limits.{IsSlaveInRange};
 ghost use Rattle.ptu_judges.specs.Held.{IsStock};
 ghost use Rattle.ptu_rounds.specs.Opening.{OpenedAt};
 ghost use Rattle.ptu_slave_daemon.specs.Answers.{CountsOpen, CountsWrite, FailsWith, WasGivenBack, WasOpened};
-ghost use Rattle.ptu_slave_daemon.specs.Happenings.{Selection};
-ghost use Rattle.ptu_slave_daemon.specs.Lines.{output, texts_of};
+ghost use Rattle.ptu_slave_daemon.specs.{Happenings.{Selection}, Lines.{output, texts_of}};
 ghost use Rattle.ptu_slave_daemon.specs.Opening.{are_enough};
 ghost use Rattle.ptu_slave_daemon.specs.Served.{AreAside, HasServed, HasStopped};
 

@@ -1,7 +1,6 @@
 //! The slave that settings open.
 
-ghost use Rattle.std.specs.Prelude.{◌≡◌, [], length, map, not, true, IfOk};
-ghost use Rattle.std.specs.List.{count_by};
+ghost use Rattle.std.specs.{Prelude.{◌≡◌, [], length, map, not, true, IfOk}, List.{count_by}};
 ghost use Rattle.ptu_config.specs.Limits.{IsSlaveInRange};
 ghost use Rattle.ptu_judges.specs.Held.{IsStock, fresh};
 ghost use Rattle.ptu_profile.specs.Slave.{IsWithinLimits};

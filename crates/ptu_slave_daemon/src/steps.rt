@@ -4,8 +4,7 @@ ghost use Rattle.std.specs.Prelude.{◌≡◌, ◌^◌, ℕ, List, [], ◌∷◌
 ghost use Rattle.ptu_record.specs.Record.{Record};
 ghost use Rattle.ptu_slave.specs.Seen.{seen};
 ghost use Rattle.ptu_outside.specs.Replies.{reply_failed, reply_sent};
-ghost use Rattle.ptu_slave_messages.specs.Heard.{reply_in};
-ghost use Rattle.ptu_slave_messages.specs.Node.{Node};
+ghost use Rattle.ptu_slave_messages.specs.{Heard.{reply_in}, Node.{Node}};
 ghost use Rattle.ptu_slave_daemon.specs.Happenings.{Happening, Stops, Ticks};
 ghost use Rattle.ptu_slave_daemon.specs.Running.{Counted, Grows, IsFew, Ran, Stands, Took, sees};
 

@@ -3,12 +3,10 @@
 ghost use Rattle.std.specs.Prelude.{◌≡◌, ◌+◌, ◌≤◌, ◌∷◌, [], ℕ, List, map, length, All, option_map, option_to_list};
 ghost use Rattle.ptu_header.specs.declared.header.PortIdentity.{PortIdentity};
 ghost use Rattle.ptu_messages.specs.Sent.{octets_sent, signaling};
-ghost use Rattle.ptu_outside.specs.HandsOver.{HandsOver};
+ghost use Rattle.ptu_outside.specs.{HandsOver.{HandsOver}, Replies.{reply_failed, reply_sent}};
 ghost use Rattle.ptu_record.specs.Step.{one_reply};
 ghost use Rattle.ptu_record.specs.Tick.{Requests, Cancels, DelayReq, one_signaling};
-ghost use Rattle.ptu_tlvs.specs.Sent.{IsSendable};
-ghost use Rattle.ptu_tlvs.specs.declared.tlv.Tlv.TheVariants.{Ack};
-ghost use Rattle.ptu_outside.specs.Replies.{reply_failed, reply_sent};
+ghost use Rattle.ptu_tlvs.specs.{Sent.{IsSendable}, declared.tlv.Tlv.TheVariants.{Ack}};
 ghost use Rattle.ptu_slave_messages.specs.Sending.{all_ones, tick_plan, departure_to, stop_plan, kinds_in};
 ghost use Rattle.ptu_profile.specs.Slave.{header_of};
 

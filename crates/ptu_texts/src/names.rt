@@ -1,7 +1,6 @@
 //! Addresses, identities, kinds and logarithms.
 
-ghost use Rattle.std.specs.Prelude.{◌≡◌, ◌≤◌, ◌+◌, ◌++◌, Some};
-ghost use Rattle.std.specs.Fmt.{signed_decimal};
+ghost use Rattle.std.specs.{Prelude.{◌≡◌, ◌≤◌, ◌+◌, ◌++◌, Some}, Fmt.{signed_decimal}};
 ghost use Rattle.ptu_texts.specs.Texts.{address_text, clock_text, identity_text, kind_text};
 
 use crate::octets::OctetsText;

@@ -1,5 +1,4 @@
-ghost use Rattle.std.specs.Prelude.{Some, length, ◌≤◌};
-ghost use Rattle.std.specs.Fmt.{WritesOnOk};
+ghost use Rattle.std.specs.{Prelude.{Some, length, ◌≤◌}, Fmt.{WritesOnOk}};
 ghost use Rattle.hex.specs.Hex.{encode_lower};
 
 use std::fmt;

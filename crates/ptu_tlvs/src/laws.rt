@@ -3,12 +3,10 @@
 
 ghost use Rattle.std.specs.Prelude.{◌≡◌, ◌⊎◌, ◌↔◌, ◌<◌, ℕ, List, All, Ok, Err};
 ghost use Rattle.ptu_tlvs.specs.Tlv.{HasWidths, SpellsTlv, BeginsWithTlv, AlwaysBeginsWithTlv};
-ghost use Rattle.ptu_tlvs.specs.TlvFault.{HasTlvFault};
-ghost use Rattle.ptu_tlvs.specs.Reading.{tlv_in};
+ghost use Rattle.ptu_tlvs.specs.{TlvFault.{HasTlvFault}, Reading.{tlv_in}};
 ghost use Rattle.ptu_tlvs.specs.Sent.{IsSendable, sent_tlv};
 ghost use Rattle.ptu_tlvs.specs.Samples.{TlvsAreSpelled, FaultsAreFound, TlvsAreSent};
-ghost use Rattle.ptu_tlvs.specs.declared.tlv.Tlv.{Tlv};
-ghost use Rattle.ptu_tlvs.specs.declared.fault.TlvFault.{TlvFault};
+ghost use Rattle.ptu_tlvs.specs.{declared.tlv.Tlv.{Tlv}, declared.fault.TlvFault.{TlvFault}};
 
 /// Every list of octets begins with one TLV of one size, or has one fault, and never both.
 pub fn one_reading()

@@ -1,8 +1,6 @@
 ghost use Rattle.std.specs.Prelude.{◌≡◌, ◌↔◌, ◌+◌, ◌≤◌, ℕ, length, IsErr, IfOk, IfErr, MatchResult};
 ghost use Rattle.ptu_tlvs.specs.Tlv.{IsWhole, IsFirst, ask_at, SpellsTlv, BeginsWithTlv};
-ghost use Rattle.ptu_tlvs.specs.TlvFault.{HasTlvFault};
-ghost use Rattle.ptu_tlvs.specs.Reading.{tlv_in};
-ghost use Rattle.ptu_tlvs.specs.declared.tlv.Tlv.{Tlv};
+ghost use Rattle.ptu_tlvs.specs.{TlvFault.{HasTlvFault}, Reading.{tlv_in}, declared.tlv.Tlv.{Tlv}};
 ghost use Rattle.ptu_tlvs.specs.declared.fault.TlvFault.{TlvFault};
 
 use crate::fault::TlvFault;

@@ -1,13 +1,10 @@
 ghost use Rattle.std.specs.Prelude.{◌≡◌, ◌<◌, ◌≤◌, ◌^◌, ◌∷◌, [], ◌++◌, ℕ, List, Some, false, true, length, IfNone, IfSome, MatchOption, MatchResult, OnOk, IfOk, map};
-ghost use Rattle.std.specs.BTreeMap.{get};
-ghost use Rattle.std.specs.Ordering.{nat_cmp};
-ghost use Rattle.ptu_history.specs.History.{Record, Ended, Sent, Shed};
-ghost use Rattle.ptu_history.specs.Live.{live_grants};
+ghost use Rattle.std.specs.{BTreeMap.{get}, Ordering.{nat_cmp}};
+ghost use Rattle.ptu_history.specs.{History.{Record, Ended, Sent, Shed}, Live.{live_grants}};
 ghost use Rattle.ptu_history.specs.Moments.{book_moment};
 ghost use Rattle.ptu_trail.specs.Clients.{AreKnown, IsPlaced};
 ghost use Rattle.ptu_trail.specs.Faults.{behind, client_at, decided_clients, decision_tests, fault_of, first_fault, first_of, is_shared, record_of};
-ghost use Rattle.ptu_trail.specs.Known.{IsKnown};
-ghost use Rattle.ptu_trail.specs.Live.{IsLeaseOf};
+ghost use Rattle.ptu_trail.specs.{Known.{IsKnown}, Live.{IsLeaseOf}};
 
 use crate::cause::{Fault, NoCause, Shedding};
 use crate::known::{Known, Lease};

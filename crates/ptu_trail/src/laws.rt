@@ -3,15 +3,12 @@
 
 ghost use Rattle.std.specs.Prelude.{◌≡◌, ◌≢◌, ℕ, ◌+◌, ◌*◌, ◌≤◌, ◌<◌, ◌^◌, false, List, [], ◌∷◌, ◌++◌, map, ℤ, IsTrue, Option, None, Some};
 ghost use Rattle.std.specs.List.{All, AllPairs, list_any};
-ghost use Rattle.ptu_units.specs.declared.kind.Kind.{Kind};
-ghost use Rattle.ptu_units.specs.declared.stamp.Stamp.{Stamp};
+ghost use Rattle.ptu_units.specs.{declared.kind.Kind.{Kind}, declared.stamp.Stamp.{Stamp}};
 ghost use Rattle.ptu_history.specs.declared.client.Client.{Client};
 ghost use Rattle.ptu_history.specs.History.{Record, Granted, Capacity, Sent};
-ghost use Rattle.ptu_history.specs.Live.{last_decision, live};
-ghost use Rattle.ptu_history.specs.Lawful.{earliest};
+ghost use Rattle.ptu_history.specs.{Live.{last_decision, live}, Lawful.{earliest}};
 ghost use Rattle.ptu_history.specs.Held.{budget, count, force, held, payment, payments};
-ghost use Rattle.ptu_laws.specs.Paid.{IsBefore, IsPaid};
-ghost use Rattle.ptu_laws.specs.Sound.{IsSound};
+ghost use Rattle.ptu_laws.specs.{Paid.{IsBefore, IsPaid}, Sound.{IsSound}};
 ghost use Rattle.ptu_trail.specs.declared.cause.NoCause.TheVariants as causes;
 ghost use Rattle.ptu_trail.specs.declared.cause.Shedding.{Shedding};
 ghost use Rattle.ptu_trail.specs.Faults.{AreInRange, IsFaultless, decided_clients, fault_of, first_fault, is_shedding, message_to, record_of};

@@ -3,8 +3,7 @@
 ghost use Rattle.std.specs.Prelude.{◌≡◌, ◌<◌, ◌≤◌, ◌+◌, ◌^◌, ◌∷◌, [], ◌++◌, ℕ, List, IfOk, IfSome, IfNone, OnErr, OnOk, true};
 ghost use Rattle.std.specs.List.{filter, list_all, sum_by};
 ghost use Rattle.ptu_units.specs.Log.{rate_of};
-ghost use Rattle.ptu_history.specs.History.{Record, Granted};
-ghost use Rattle.ptu_history.specs.Live.{Grant, live_grants, without};
+ghost use Rattle.ptu_history.specs.{History.{Record, Granted}, Live.{Grant, live_grants, without}};
 ghost use Rattle.ptu_history.specs.Verdict.{rate_sum};
 ghost use Rattle.ptu_trail.specs.Live.{AreLive, AreOf, IsLeaseOf, is_live_entry, is_other_entry, total_of};
 
@@ -34,8 +33,7 @@ pub(crate) struct LiveGrants {
 
 impl Model for LiveGrants {
     ghost use Rattle.std.specs.Prelude.{ℕ, ◌≡◌, List};
-    ghost use Rattle.ptu_trail.specs.declared.live.End.{End};
-    ghost use Rattle.ptu_trail.specs.Live.{total_of};
+    ghost use Rattle.ptu_trail.specs.{declared.live.End.{End}, Live.{total_of}};
 
     ghost Value = { List (End × ℕ) };
 

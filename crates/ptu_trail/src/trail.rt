@@ -1,13 +1,10 @@
 ghost use Rattle.std.specs.Prelude.{◌≡◌, ◌<◌, ◌≤◌, ◌+◌, ◌^◌, ◌∷◌, [], ◌++◌, ℕ, List, length, IfNone, IfSome, IfOk, MatchOption, map, nat_lt, not, true};
 ghost use Rattle.ptu_units.specs.Log.{rate_of};
 ghost use Rattle.ptu_history.specs.History.{Record, Capacity, Ended, Granted};
-ghost use Rattle.ptu_history.specs.Moments.{book_moment};
-ghost use Rattle.ptu_history.specs.Live.{Grant};
-ghost use Rattle.ptu_history.specs.Verdict.{rate_sum};
+ghost use Rattle.ptu_history.specs.{Moments.{book_moment}, Live.{Grant}, Verdict.{rate_sum}};
 ghost use Rattle.ptu_trail.specs.Clients.{AreKnown};
 ghost use Rattle.ptu_trail.specs.Faults.{fault_of, first_fault, is_no_moment, message_to, moment_of_stamp, record_of};
-ghost use Rattle.ptu_trail.specs.Live.{AreLive, AreOf, total_of};
-ghost use Rattle.ptu_trail.specs.Trail.{StandsFor};
+ghost use Rattle.ptu_trail.specs.{Live.{AreLive, AreOf, total_of}, Trail.{StandsFor}};
 
 use crate::cause::{Fault, NoCause, Shedding};
 use crate::clients::Clients;

@@ -3,8 +3,7 @@
 
 ghost use Rattle.std.specs.Prelude.{◌≡◌, ◌++◌, ◌∷◌, [], Bool, false, List, Option, Some, option_map};
 ghost use Rattle.std.specs.List.{AllByRecursion};
-ghost use Rattle.ptu_outside.specs.Departure.{Departure};
-ghost use Rattle.ptu_outside.specs.Telling.{IfTold, append_told};
+ghost use Rattle.ptu_outside.specs.{Departure.{Departure}, Telling.{IfTold, append_told}};
 ghost use Rattle.ptu_twostep.specs.Pairs.{all_spelled, pair, pairs, step_at, unpair};
 ghost use Rattle.ptu_twostep.specs.Telling.{is_half, told_by};
 

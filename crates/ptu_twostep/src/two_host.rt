@@ -1,6 +1,5 @@
 ghost use Rattle.std.specs.Prelude.{◌≡◌, Some, option_map, IfOk, IfSome, OnOk, OnErr};
-ghost use Rattle.ptu_outside.specs.Faults.{HasRisen, HasNotFallen};
-ghost use Rattle.ptu_outside.specs.Telling.{IfTold};
+ghost use Rattle.ptu_outside.specs.{Faults.{HasRisen, HasNotFallen}, Telling.{IfTold}};
 ghost use Rattle.ptu_twostep.specs.Hosts.{below_of, clear, flagged_by, flags_of};
 
 use crate::two_step::TwoStep;

@@ -2,8 +2,7 @@ ghost use Rattle.std.specs.Prelude.{◌≡◌, ◌≤◌, ◌∷◌, [], ◌||�
 ghost use Rattle.ptu_outside.specs.Faults.{HasRisen, HasNotFallen, one_more};
 ghost use Rattle.ptu_outside.specs.HandsOver.{HandsOver};
 ghost use Rattle.ptu_outside.specs.Telling.{IfTold, IsFirstTold, IsEmptyTold, append_told, rest_told};
-ghost use Rattle.ptu_twostep.specs.Pairs.{pair, pair_by, step_at};
-ghost use Rattle.ptu_twostep.specs.Steps.{step_of};
+ghost use Rattle.ptu_twostep.specs.{Pairs.{pair, pair_by, step_at}, Steps.{step_of}};
 ghost use Rattle.ptu_twostep.specs.Telling.{HandsPair, is_half, told_by};
 
 use crate::step::{Step, find_step};

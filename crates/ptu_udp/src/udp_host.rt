@@ -1,6 +1,5 @@
 ghost use Rattle.std.specs.Prelude.{◌≡◌, None, Some, IfOk, IfSome, OnOk, OnErr};
-ghost use Rattle.ptu_outside.specs.Faults.{HasNotFallen, HasRisen};
-ghost use Rattle.ptu_outside.specs.Telling.{IfTold};
+ghost use Rattle.ptu_outside.specs.{Faults.{HasNotFallen, HasRisen}, Telling.{IfTold}};
 
 use crate::pause::Pause;
 use crate::sys_clock::SysClock;

@@ -3,8 +3,7 @@
 
 ghost use Rattle.std.specs.Prelude.{◌≡◌, ◌↔◌, List};
 ghost use Rattle.clap.specs.Words.{Text};
-ghost use Rattle.ptu_words.specs.CommandLine.{command_of, IsRefused};
-ghost use Rattle.ptu_words.specs.Samples.{WordsAreRead};
+ghost use Rattle.ptu_words.specs.{CommandLine.{command_of, IsRefused}, Samples.{WordsAreRead}};
 
 /// Words have a command exactly where the command line matches them.
 pub fn matched_words()

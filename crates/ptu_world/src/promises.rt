@@ -7,12 +7,12 @@ ghost use Rattle.ptu_script.specs.declared.command.Command.TheVariants as comman
 ghost use Rattle.ptu_history.specs.Events as events;
 ghost use Rattle.ptu_gm_messages.specs.Deciding.{events_of_datagram};
 ghost use Rattle.ptu_world.specs.Deeds.{Grandmaster, IsGrandmaster};
-ghost use Rattle.ptu_world.specs.Grandmasters as gm;
 ghost use Rattle.ptu_world.specs.World.{World, Stock, Done, opening, step, node_at};
 ghost use Rattle.ptu_world.specs.Facts.{world_of};
 ghost use Rattle.ptu_world.specs.Headline.{DecidesByRoom, NumbersDatagrams, PaysPeriods, SaysSo, SelectsBest, WithinBudget, WithinCapacity};
 ghost use Rattle.ptu_world.specs.Reached.{Reaches};
 ghost use Rattle.ptu_world.specs.Promises.{AreMessagesSent, GoesOn, Handed, addressed, handed_by, IsRun, KeepsPromises};
+ghost use Rattle.ptu_world.specs.Grandmasters as gm;
 
 /// The headline: over every script, at every moment the granted rates of each grandmaster sum to at
 /// most its capacity; each REQUEST that a datagram brings is granted exactly where its rate fits
