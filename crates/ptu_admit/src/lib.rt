@@ -25,6 +25,3 @@ pub use ending::{Cancelled, cancel, finish};
 pub use resizing::{Resized, resize};
 pub use shed_list::{Shed, ShedList};
 pub use verdict::{Grant, Outside, Shortage, Verdict};
-
-#[cfg(test)]
-mod tests;

@@ -16,18 +16,3 @@ pub use laws::sends_no_half;
 pub use ptu_rounds::DaemonFault;
 pub use serving::serve;
 pub use two_steps::serve_in_two_steps;
-
-#[cfg(test)]
-mod lane_rounds;
-#[cfg(test)]
-mod lane_tests;
-#[cfg(test)]
-mod staged;
-#[cfg(test)]
-mod table_ports;
-#[cfg(test)]
-mod tests;
-#[cfg(test)]
-mod two_step_tests;
-#[cfg(test)]
-mod waiting;

@@ -19,6 +19,3 @@ pub use ptu_gm_messages::{GmReason, Item, Items, asks_of, cancel_of};
 pub use ptu_outside::Reply;
 pub use replying::reply_of;
 pub use resizing::{Changed, send_cancels};
-
-#[cfg(test)]
-mod tests;

@@ -22,13 +22,3 @@ pub use ptu_script::Cause;
 pub use ptu_show::{LabFault, show};
 pub use replaying::replay;
 
-#[cfg(test)]
-mod load_tests;
-#[cfg(test)]
-mod pieces;
-#[cfg(test)]
-mod replay_slave_tests;
-#[cfg(test)]
-mod replay_tests;
-#[cfg(test)]
-mod slave_tests;

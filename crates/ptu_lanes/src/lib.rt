@@ -24,5 +24,3 @@ pub use turns::turn_round;
 
 #[cfg(test)]
 mod meeting_tests;
-#[cfg(test)]
-mod tests;

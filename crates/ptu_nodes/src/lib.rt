@@ -13,6 +13,3 @@ pub use grandmaster_ports::{
     ANNOUNCE, DELAY_RESP, SIGNALING_PORT, hand_over_all, reserve, reserve_replies,
 };
 pub use journal::{Journal, SIGNALING};
-
-#[cfg(test)]
-mod grandmaster_tests;

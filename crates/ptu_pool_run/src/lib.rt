@@ -22,8 +22,3 @@ pub use output::PoolLine;
 pub use reading::read_pool_command;
 pub use running::pools;
 pub use verb::PoolVerb;
-
-#[cfg(test)]
-mod script_tests;
-#[cfg(test)]
-mod tests;

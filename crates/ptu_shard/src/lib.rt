@@ -20,6 +20,3 @@ pub use answered::{Answered, Turned};
 pub use lease::{Lease, Row};
 pub use ptu_profile::GmConfig;
 pub use shard::Shard;
-
-#[cfg(test)]
-mod tests;

@@ -21,8 +21,3 @@ pub use closing::{CloseFault, Failures};
 pub use rates::Rates;
 pub use seat::Seat;
 pub use shared::Shared;
-
-#[cfg(test)]
-mod held_tests;
-#[cfg(test)]
-mod tests;

@@ -21,10 +21,3 @@ pub use laws::{joining_is_relation, sample_joins, sample_lines, two_steps_are_un
 pub use ptu_lines::LineCause;
 pub use ptu_script::Cause;
 pub use reading::read_datagram;
-
-#[cfg(test)]
-mod join_tests;
-#[cfg(test)]
-mod memory;
-#[cfg(test)]
-mod tests;

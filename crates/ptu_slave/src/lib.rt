@@ -21,12 +21,3 @@ pub use ptu_slave_messages::{
 };
 pub use slave::Slave;
 pub use ticked::Ticked;
-
-#[cfg(test)]
-mod calls_tests;
-#[cfg(test)]
-mod cut_tests;
-#[cfg(test)]
-mod pair_tests;
-#[cfg(test)]
-mod tests;

@@ -16,8 +16,3 @@ mod writing;
 pub use daemon::slave;
 pub use line::SlaveLine;
 pub use opening::has_judges;
-
-#[cfg(test)]
-mod fault_tests;
-#[cfg(test)]
-mod tests;

@@ -1,0 +1,343 @@
+ghost use Rattle.std.specs.Prelude.{◌≡◌, ◌<◌, ◌≤◌};
+ghost use Rattle.ptu_shard.specs.Row.{share_of};
+ghost use Rattle.ptu_profile.specs.Grandmaster.{IsWithinLimits};
+ghost use Rattle.ptu_admit.specs.Lent.{four, shares};
+
+use ptu_admit::samples::{Told, numbers_of};
+use ptu_admit::{Book, Resized, Verdict, cancel, decide_all, decide_one, finish, resize};
+use ptu_history::Client;
+use ptu_outside::MemPort;
+use ptu_outside::samples::idle_port;
+use ptu_profile::GmConfig;
+use ptu_shard::Shard;
+use ptu_shard::samples::{CONFIG, SECOND, THREE, TWO};
+use ptu_tlvs::Ask;
+use ptu_units::{Kind, Moment};
+use std::alloc::Global;
+use std::process::Abort;
+use std::test::Fail;
+
+const ANNOUNCE: u8 = 11;
+
+const SYNC: u8 = 0;
+
+// Four tables and a book.
+#[derive(Drop)]
+struct Site {
+    s0: Shard<MemPort>,
+    s1: Shard<MemPort>,
+    s2: Shard<MemPort>,
+    s3: Shard<MemPort>,
+    book: Book,
+}
+
+fn table(alloc: Global) -> Result<Shard<MemPort>, Fail> {
+    let mut port = idle_port(alloc);
+    port.reserve(4, 4 * 64)?;
+    let mut shard = Shard::new(alloc, port);
+    shard.reserve(4)?;
+    Ok(shard)
+}
+
+fn open_site(rt: &impl Abort, alloc: Global, capacity: u64) -> Result<Site, Fail> {
+    assert!(rt; 1 <= capacity && capacity <= 16_777_216);
+    Ok(Site {
+        s0: table(alloc)?,
+        s1: table(alloc)?,
+        s2: table(alloc)?,
+        s3: table(alloc)?,
+        book: Book::new(capacity),
+    })
+}
+
+fn moment(nanos: u64) -> Result<Moment, Fail> {
+    Ok(Moment::of(nanos).ok_or("a moment is below 2^62")?)
+}
+
+// The shares sum to the total.
+fn check_sum(rt: &impl Abort, site: &Site)
+    ensures { site.now.book.total ≡ shares (four site.now.s0 site.now.s1 site.now.s2 site.now.s3) }
+{
+    let held = [
+        site.s0.held(),
+        site.s1.held(),
+        site.s2.held(),
+        site.s3.held(),
+    ];
+    assert!(rt; held[0] < SECOND && held[1] < SECOND && held[2] < SECOND && held[3] < SECOND);
+    assert_eq!(rt; site.book.total(), held[0] + held[1] + held[2] + held[3]);
+}
+
+fn config_of(max_duration: u32) -> GmConfig
+    ensures { IsWithinLimits result }
+{
+    if max_duration == 60 {
+        GmConfig {
+            max_duration,
+            ..CONFIG
+        }
+    } else {
+        CONFIG
+    }
+}
+
+// What may happen to a grandmaster, and what it answers.
+#[derive(Clone, Copy, Debug, PartialEq, Eq)]
+enum Step {
+    // The client asks for Announces, or for Syncs, at a logarithm, for 300 seconds.
+    Announce(u64, Client, i8, Told),
+    Sync(u64, Client, i8, Told),
+    // Its capacity is changed, and this client's grant is shed.
+    Change(u64, u64, Option<Client>),
+    // Table 2 takes a turn, which sends so many messages.
+    Turn(u64, u64),
+}
+
+fn ask_of(code: u8, log: i8) -> Ask {
+    Ask {
+        code,
+        log,
+        seconds: 300,
+    }
+}
+
+fn ask_all(
+    rt: &impl Abort,
+    site: &mut Site,
+    config: &GmConfig,
+    t: u64,
+    client: &Client,
+    ask: &Ask,
+) -> Result<Verdict, Fail>
+    requires { IsWithinLimits config.now }
+{
+    site.s0.reserve(1)?;
+    site.s1.reserve(1)?;
+    site.s2.reserve(1)?;
+    site.s3.reserve(1)?;
+    check_sum(rt, site);
+    let t = moment(t)?;
+    let Site {
+        s0,
+        s1,
+        s2,
+        s3,
+        book,
+    } = site;
+    Ok(decide_all(s0, s1, s2, s3, book, config, t, client, ask))
+}
+
+fn change(
+    rt: &impl Abort,
+    alloc: Global,
+    site: &mut Site,
+    t: u64,
+    capacity: u64,
+) -> Result<Resized, Fail> {
+    assert!(rt; 1 <= capacity && capacity <= 16_777_216);
+    check_sum(rt, site);
+    Ok(resize(
+        alloc,
+        &mut site.s0,
+        &mut site.s1,
+        &mut site.s2,
+        &mut site.s3,
+        &mut site.book,
+        moment(t)?,
+        capacity,
+    )?)
+}
+
+fn take_step(
+    rt: &impl Abort,
+    alloc: Global,
+    site: &mut Site,
+    config: &GmConfig,
+    step: &Step,
+) -> Result<(), Fail>
+    requires { IsWithinLimits config.now }
+{
+    match *step {
+        Step::Announce(t, client, log, told) => {
+            let verdict = ask_all(rt, site, config, t, &client, &ask_of(ANNOUNCE, log))?;
+            assert_eq!(rt; numbers_of(&verdict), told);
+        }
+        Step::Sync(t, client, log, told) => {
+            let verdict = ask_all(rt, site, config, t, &client, &ask_of(SYNC, log))?;
+            assert_eq!(rt; numbers_of(&verdict), told);
+        }
+        Step::Change(t, capacity, shed) => {
+            let resized = change(rt, alloc, site, t, capacity)?;
+            assert_eq!(rt; resized.at, moment(t)?);
+            assert_eq!(rt; resized.shed.list().first().map(|shed| shed.client), shed);
+        }
+        Step::Turn(t, sent) => {
+            assert_eq!(rt; site.s2.turn(config, moment(t)?).sent, sent);
+        }
+    }
+    Ok(())
+}
+
+// A grandmaster with this capacity and longest duration takes the steps.
+fn take_steps(
+    rt: &impl Abort,
+    alloc: Global,
+    capacity: u64,
+    max_duration: u32,
+    steps: &[Step],
+) -> Result<(), Fail> {
+    let config = config_of(max_duration);
+    let mut site = open_site(rt, alloc, capacity)?;
+    for step in steps {
+        take_step(rt, alloc, &mut site, &config, step)?;
+    }
+    Ok(())
+}
+
+const MINUTE: u64 = 60 * SECOND;
+
+// What is told of a grant at 0.
+const GRANTED: Told = Told::Granted(0, 300 * SECOND);
+
+// Exactly full.
+const EXACTLY_FULL: [Step; 1] = [Step::Sync(0, TWO, -7, GRANTED)];
+
+// One short.
+const ONE_SHORT: [Step; 1] = [Step::Sync(0, TWO, -7, Told::Short(0, 0, 2048, 2047))];
+
+// A renewal in a full table.
+const FULL: [Step; 3] = [
+    Step::Announce(0, TWO, 1, GRANTED),
+    Step::Announce(5 * SECOND, TWO, 1, Told::Granted(5 * SECOND, 305 * SECOND)),
+    Step::Announce(5 * SECOND, THREE, 4, Told::Short(5 * SECOND, 8, 1, 8)),
+];
+
+// A refused renewal leaves the former grant.
+const REFUSED: [Step; 4] = [
+    Step::Announce(0, TWO, 1, GRANTED),
+    Step::Announce(0, THREE, 1, GRANTED),
+    Step::Announce(10 * SECOND, TWO, 0, Told::Short(10 * SECOND, 8, 16, 16)),
+    Step::Turn(10 * SECOND, 1),
+];
+
+// At the moment at which a grant is over, the next one finds none live.
+const OVER: [Step; 4] = [
+    Step::Announce(0, TWO, 1, Told::Granted(0, MINUTE)),
+    Step::Announce(MINUTE, TWO, 1, Told::Granted(MINUTE, 2 * MINUTE)),
+    Step::Turn(61_999_999_999, 0),
+    Step::Turn(62 * SECOND, 1),
+];
+
+// A lower capacity sheds the newest grant.
+const LOWER: [Step; 6] = [
+    Step::Announce(0, TWO, 1, GRANTED),
+    Step::Announce(SECOND, THREE, 1, Told::Granted(SECOND, 301 * SECOND)),
+    Step::Change(2 * SECOND, 8, Some(THREE)),
+    Step::Announce(2 * SECOND, THREE, 1, Told::Short(2 * SECOND, 8, 8, 8)),
+    Step::Change(3 * SECOND, 16, None),
+    Step::Announce(0, THREE, 1, Told::Granted(3 * SECOND, 303 * SECOND)),
+];
+
+#[test]
+fn worked_rows(rt: HostRuntime) -> Result<(), Fail> {
+    take_steps(&rt, rt.alloc(), 2048, 300, &EXACTLY_FULL)?;
+    take_steps(&rt, rt.alloc(), 2047, 300, &ONE_SHORT)?;
+    take_steps(&rt, rt.alloc(), 8, 300, &FULL)?;
+    take_steps(&rt, rt.alloc(), 16, 300, &REFUSED)?;
+    take_steps(&rt, rt.alloc(), 8, 60, &OVER)?;
+    take_steps(&rt, rt.alloc(), 16, 300, &LOWER)?;
+    Ok(())
+}
+
+// What is told of an ask for Announces at 0, over one table and the book alone.
+fn ask_one(shard: &mut Shard<MemPort>, book: &mut Book, client: &Client) -> Option<Told>
+    requires { (0 < shard.old.spare) × (share_of shard.old.rows ≤ book.old.total) }
+{
+    let ask = ask_of(ANNOUNCE, 1);
+    let verdict = decide_one(shard, book, &CONFIG, Moment::default(), client, &ask);
+    verdict.map(|verdict| numbers_of(&verdict))
+}
+
+#[test]
+fn one_table_alone(rt: HostRuntime) -> Result<(), Fail> {
+    let mut site = open_site(&rt, rt.alloc(), 8)?;
+    site.s2.reserve(1)?;
+    site.s3.reserve(1)?;
+    check_sum(&rt, &site);
+    assert_eq!(rt; ask_one(&mut site.s2, &mut site.book, &TWO), Some(GRANTED));
+    check_sum(&rt, &site);
+    assert_eq!(rt; ask_one(&mut site.s3, &mut site.book, &THREE), None);
+    check_sum(&rt, &site);
+    assert!(rt;
+        cancel(
+            &mut site.s2,
+            &mut site.book,
+            moment(SECOND)?,
+            &TWO,
+            Kind::Announce
+        )
+        .ended
+    );
+    check_sum(&rt, &site);
+    finish(
+        &mut site.s0,
+        &mut site.s1,
+        &mut site.s2,
+        &mut site.s3,
+        &mut site.book,
+    );
+    assert_eq!(rt; site.book.total(), 0);
+    Ok(())
+}
+
+// How many grants are made, and how many of them a change of capacity sheds. Were all rows looked
+// at for each, that alone would take minutes.
+const MANY: u32 = 160_000;
+
+const MOST: u32 = 120_000;
+
+// A client, of any of the four tables, whose numbers grow with this one.
+fn client_of(number: u32) -> Client {
+    Client {
+        ip: number,
+        clock: 0x0b00_0000_0000_0000,
+        port: (number % 4) as u16,
+    }
+}
+
+// Grants Announces at logarithm 4 to this many clients, two at each moment.
+fn grant_many(rt: &impl Abort, site: &mut Site, count: u32) -> Result<(), Fail> {
+    for number in 0..count {
+        let t = (number / 2) as u64;
+        let verdict = ask_all(
+            rt,
+            site,
+            &CONFIG,
+            t,
+            &client_of(number),
+            &ask_of(ANNOUNCE, 4),
+        )?;
+        assert!(rt; matches!(verdict, Verdict::Granted(_)));
+    }
+    Ok(())
+}
+
+// The greatest numbers are shed, in order.
+fn check_shed(rt: &impl Abort, resized: &Resized) {
+    let mut number = MANY;
+    for shed in resized.shed.list() {
+        number = number.saturating_sub(1);
+        assert_eq!(rt; shed.client, client_of(number));
+    }
+    assert_eq!(rt; number, MANY - MOST);
+}
+
+#[test]
+fn most_of_many_grants_are_shed(rt: HostRuntime) -> Result<(), Fail> {
+    let alloc = rt.alloc();
+    let mut site = open_site(&rt, alloc, MANY as u64)?;
+    grant_many(&rt, &mut site, MANY)?;
+    let resized = change(&rt, alloc, &mut site, MANY as u64, (MANY - MOST) as u64)?;
+    check_shed(&rt, &resized);
+    Ok(())
+}

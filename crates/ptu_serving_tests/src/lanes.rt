@@ -1,0 +1,288 @@
+ghost use Rattle.std.specs.Prelude.{◌≡◌, ◌≤◌, ℕ, length, IfOk};
+ghost use Rattle.ptu_profile.specs.Limits.{IsCapacity};
+ghost use Rattle.ptu_shared.specs.{Blanks.{IsBlankOf}, Opening.{idle_port}};
+
+use ptu_lanes::{Control, Delays, control_round, delay_round, turn_round};
+use ptu_admit::{Closed, Verdict};
+use ptu_history::Client;
+use ptu_outside::{Arrival, Channel, Datagram, MemClock, MemPort, Sends, samples};
+use ptu_shard::samples::{CONFIG, ONE, TWO, ZERO};
+use ptu_shared::{Rates, Seat, Shared};
+use ptu_tlvs::Ask;
+use ptu_units::Moment;
+use std::alloc::Global;
+use std::marker::Brand;
+use std::process::Abort;
+use std::sync::Wait;
+use std::sync::ledger::{Blank, Ledger};
+use std::test::Fail;
+
+// A REQUEST of Announce of the client of table 2 at logarithm 1 for 300 s, to every port.
+const REQUEST: &str = "0c120036040004000000000000000000000000000a000000000000110001\
+                       0000057fffffffffffffffffffff00040006b0010000012c";
+
+// Its Signaling without TLVs.
+const EMPTY: &str = "0c12002c040004000000000000000000000000000a000000000000110001\
+                     0000057fffffffffffffffffffff";
+
+// The grant of what it asks for.
+const GRANT: &str = "0c120038040004000000000000000000000000000a0000000000000100010000\
+                     057f0a00000000000011000100050008b0010000012c0001";
+
+// Its Delay_Req.
+const DELAY_REQ: &str = "0112002c040004000000000000000000000000000a000000000000110001\
+                         0007017f00000000000000000000";
+
+// The answer to it, at 1 s.
+const DELAY_RESP: &str = "09120036040004000000000000000000000000000a000000000000010001\
+                          0007037f000000000001000000000a000000000000110001";
+
+// The first Sync to a client, at 1 s.
+const SYNC: &str = "0012002c040004000000000000000000000000000a000000000000010001\
+                    0000007f00000000000100000000";
+
+fn arrival(alloc: Global, datagram: &str) -> Result<Arrival, Fail>
+    ensures { IfOk result (λ a. length a.bytes ≤ 2048) }
+{
+    let bytes = hex::decode(alloc, datagram)?;
+    if bytes.len() > 2048 {
+        return Err(Fail::new("a datagram has at most 2048 octets"));
+    }
+    Ok(Arrival {
+        ip: TWO.ip,
+        bytes: Datagram::new(bytes),
+    })
+}
+
+// A port at which the Signaling without TLVs waits, and then the REQUEST. It fails at the listed
+// sends.
+fn port(alloc: Global, fails: Vec<u64>) -> Result<MemPort, Fail> {
+    let waiting = vec![in alloc; arrival(alloc, EMPTY)?, arrival(alloc, REQUEST)?]?;
+    let mut port = MemPort::new(alloc, waiting, fails, Vec::new(alloc));
+    port.reserve(2, 2 * 64)?;
+    Ok(port)
+}
+
+// A round at this port.
+fn round<L: Rates, G: Ledger, R: Ledger, W: Wait + Abort>(
+    rt: &W,
+    alloc: Global,
+    shared: &Shared<MemPort, L, G, R>,
+    seats: &mut [Seat<G, R>],
+    port: &mut MemPort,
+) -> Control
+    requires { L.parts ≡ 4 }
+{
+    assert_eq!(rt; seats.len(), 1);
+    let seat = &mut seats[0];
+    assert!(rt; seat.granted() <= 1 << 47 && seat.refused() <= 1 << 47);
+    let mut clock = MemClock::new(Vec::new(alloc));
+    let control = control_round(rt, alloc, shared, seat, &CONFIG, port, &mut clock);
+    control.expect(rt, "memory is found")
+}
+
+// The REQUEST is granted, and the Signaling without TLVs gets no reply.
+fn ask_once<L: Rates, G: Ledger, R: Ledger, W: Wait + Abort>(
+    rt: &W,
+    alloc: Global,
+    shared: &Shared<MemPort, L, G, R>,
+    seats: &mut [Seat<G, R>],
+    port: &mut MemPort,
+    grant: &[u8],
+)
+    requires { L.parts ≡ 4 }
+{
+    let sent = Control {
+        asks: 1,
+        sent: 1,
+        failed: 0,
+    };
+    assert_eq!(rt; round(rt, alloc, shared, seats, port), sent);
+    let reply = port.sent(0).expect(rt, "a reply is sent");
+    assert_eq!(rt; (reply.0, reply.1), (TWO.ip, Channel::General));
+    assert_eq!(rt; reply.2, grant);
+    assert!(rt; port.sent(1).is_none());
+}
+
+// The same asks, at a port whose first send fails.
+fn ask_in_vain<L: Rates, G: Ledger, R: Ledger, W: Wait + Abort>(
+    rt: &W,
+    alloc: Global,
+    shared: &Shared<MemPort, L, G, R>,
+    seats: &mut [Seat<G, R>],
+    failing: &mut MemPort,
+)
+    requires { L.parts ≡ 4 }
+{
+    let failed = Control {
+        asks: 1,
+        sent: 0,
+        failed: 1,
+    };
+    assert_eq!(rt; round(rt, alloc, shared, seats, failing), failed);
+    assert!(rt; failing.sent(0).is_none());
+}
+
+fn ask_twice<L: Rates, G: Ledger, R: Ledger, W: Wait + Abort>(
+    rt: &W,
+    alloc: Global,
+    shared: &Shared<MemPort, L, G, R>,
+    seats: &mut [Seat<G, R>],
+) -> Result<(), Fail>
+    requires { L.parts ≡ 4 }
+{
+    let grant = hex::decode(alloc, GRANT)?;
+    let mut first = port(alloc, Vec::new(alloc))?;
+    let mut failing = port(alloc, vec![in alloc; 1]?)?;
+    ask_once(rt, alloc, shared, seats, &mut first, &grant);
+    ask_in_vain(rt, alloc, shared, seats, &mut failing);
+    Ok(())
+}
+
+#[test]
+fn a_request_is_answered_once(rt: HostRuntime) -> Result<(), Fail> {
+    run(&rt, rt.alloc(), 8, Scene::Requests)
+}
+
+// The client is granted the kind of this code, at logarithm 0.
+fn grant<L: Rates, G: Ledger, R: Ledger, W: Wait + Abort>(
+    rt: &W,
+    shared: &Shared<MemPort, L, G, R>,
+    seat: &mut Seat<G, R>,
+    client: &Client,
+    code: u8,
+)
+    requires { L.parts ≡ 4 }
+{
+    assert!(rt; seat.granted() < 1 << 48 && seat.refused() < 1 << 48);
+    let ask = Ask {
+        code,
+        log: 0,
+        seconds: 300,
+    };
+    let verdict = shared.admit(rt, seat, &CONFIG, Moment::default(), client, &ask);
+    let verdict = verdict.expect(rt, "memory is found");
+    assert!(rt; matches!(verdict, Verdict::Granted(_)));
+}
+
+// Syncs are granted to the clients of tables 0, 1 and 2, and Delay_Resps to that of table 2.
+fn grant_four<L: Rates, G: Ledger, R: Ledger, W: Wait + Abort>(
+    rt: &W,
+    shared: &Shared<MemPort, L, G, R>,
+    seats: &mut [Seat<G, R>],
+)
+    requires { L.parts ≡ 4 }
+{
+    assert_eq!(rt; seats.len(), 1);
+    let seat = &mut seats[0];
+    grant(rt, shared, seat, &ZERO, 0);
+    grant(rt, shared, seat, &ONE, 0);
+    grant(rt, shared, seat, &TWO, 0);
+    grant(rt, shared, seat, &TWO, 9);
+}
+
+// At 1 s, what waits at the port is taken, and tables 1 and 3 are turned. A Delay_Req turns no
+// table, whatever is due there.
+fn answer_and_turn<L: Rates, G: Ledger, R: Ledger, W: Wait + Abort>(
+    rt: &W,
+    alloc: Global,
+    shared: &Shared<MemPort, L, G, R>,
+    port: &mut MemPort,
+) -> Result<(), Fail> {
+    let second = Moment::of(1_000_000_000).expect(rt, "a moment is below 2^62");
+    let mut clock = MemClock::new(vec![in alloc; second]?);
+    let answered = delay_round(rt, alloc, shared, &CONFIG, port, &mut clock)?;
+    let sent = Delays {
+        sent: 1,
+        failed: 0,
+        missed: 0,
+    };
+    assert_eq!(rt; answered, sent);
+    assert!(rt; port.sent(0).is_none());
+    let turned = turn_round(rt, shared, &CONFIG, &mut clock, 1, 2);
+    assert_eq!(rt; turned, Sends { sent: 1, failed: 0 });
+    Ok(())
+}
+
+// One datagram was sent at the port.
+fn check_one(rt: &impl Abort, port: &MemPort, ip: u32, channel: Channel, bytes: &[u8]) {
+    let first = port.sent(0).expect(rt, "a datagram is sent");
+    assert_eq!(rt; (first.0, first.1), (ip, channel));
+    assert_eq!(rt; first.2, bytes);
+    assert!(rt; port.sent(1).is_none());
+}
+
+// Table 1 sent a Sync, table 2 the answer, and the others nothing.
+fn check_sent(rt: &impl Abort, closed: &Closed<MemPort>, sync: &[u8], answer: &[u8]) {
+    assert!(rt; closed.p0.sent(0).is_none() && closed.p3.sent(0).is_none());
+    check_one(rt, &closed.p1, ONE.ip, Channel::Event, sync);
+    check_one(rt, &closed.p2, TWO.ip, Channel::General, answer);
+}
+
+fn send_and_close<L: Rates, G: Ledger, R: Ledger, W: Wait + Abort>(
+    rt: &W,
+    alloc: Global,
+    shared: Shared<MemPort, L, G, R>,
+    mut seats: Vec<Seat<G, R>>,
+) -> Result<(), Fail>
+    requires { (L.parts ≡ 4) × (G.parts ≡ L.seats) × (R.parts ≡ L.seats) }
+{
+    let sync = hex::decode(alloc, SYNC)?;
+    let answer = hex::decode(alloc, DELAY_RESP)?;
+    let waiting = vec![in alloc; arrival(alloc, DELAY_REQ)?]?;
+    let mut port = MemPort::new(alloc, waiting, Vec::new(alloc), Vec::new(alloc));
+    grant_four(rt, &shared, seats.as_mut_slice());
+    answer_and_turn(rt, alloc, &shared, &mut port)?;
+    match shared.close(seats) {
+        Ok(closed) => check_sent(rt, &closed, &sync, &answer),
+        Err(_) => panic!(rt; "no seat is missing"),
+    }
+    Ok(())
+}
+
+#[test]
+fn lanes_answer_and_turn(rt: HostRuntime) -> Result<(), Fail> {
+    run(&rt, rt.alloc(), 64, Scene::Lanes)
+}
+
+// What is done with shared tables.
+#[derive(Clone, Copy)]
+enum Scene {
+    Requests,
+    Lanes,
+}
+
+// Plays the scene with tables over ports in memory and one seat, whatever the ledgers are.
+fn play<L: Rates, G: Ledger, R: Ledger, W: Wait + Abort>(
+    rt: &W,
+    alloc: Global,
+    blanks: (Blank, Blank, Blank),
+    capacity: u64,
+    scene: Scene,
+) -> Result<(), Fail>
+    requires rates { IsBlankOf L.name L.parts 4 blanks.0 }
+    requires granted { IsBlankOf G.name G.parts L.seats blanks.1 }
+    requires refused { IsBlankOf R.name R.parts L.seats blanks.2 }
+    requires capacity { (IsCapacity capacity) × (capacity ≤ L.most) }
+    requires seats { L.seats ≡ 1 }
+    requires ports { (i : ℕ) → L.opened i ≡ idle_port }
+{
+    let (p0, p1) = (samples::idle_port(alloc), samples::idle_port(alloc));
+    let (p2, p3) = (samples::idle_port(alloc), samples::idle_port(alloc));
+    let (rates, granted, refused) = blanks;
+    let (shared, mut seats) = Shared::<MemPort, L, G, R>::new(
+        alloc, rates, granted, refused, capacity, 1, p0, p1, p2, p3,
+    )?;
+    match scene {
+        Scene::Requests => ask_twice(rt, alloc, &shared, seats.as_mut_slice()),
+        Scene::Lanes => send_and_close(rt, alloc, shared, seats),
+    }
+}
+
+// Plays the scene with this capacity.
+fn run<W: Wait + Abort>(rt: &W, alloc: Global, capacity: u64, scene: Scene) -> Result<(), Fail>
+    requires { IsCapacity capacity }
+{
+    let blanks = (Blank::new(4), Blank::new(1), Blank::new(1));
+    play::<Brand, Brand, Brand, W>(rt, alloc, blanks, capacity, scene)
+}

@@ -1,0 +1,19 @@
+//! Tests of lanes and of a grandmaster's daemon, by what their crates export.
+#![tactic(auto)]
+
+#[cfg(test)]
+mod lanes;
+#[cfg(test)]
+mod daemon;
+#[cfg(test)]
+mod daemon_lanes;
+#[cfg(test)]
+mod two_steps;
+#[cfg(test)]
+mod staged;
+#[cfg(test)]
+mod waiting;
+#[cfg(test)]
+mod lane_rounds;
+#[cfg(test)]
+mod table_ports;

@@ -1,0 +1,165 @@
+//! Ports and a host for tests, which say what comes when and keep what is sent.
+
+ghost use Rattle.std.specs.Prelude.{◌≡◌, None};
+ghost use Rattle.ptu_outside.specs.Faults.{HasNotFallen, one_more};
+ghost use Rattle.ptu_config.specs.Limits.{IsGmInRange};
+
+use ptu_daemon::serve;
+use ptu_config::GmSettings;
+use ptu_outside::{
+    Arrival, Channel, Datagram, Failed, Host, MemClock, MemPort, MemSink, Opened, Port,
+};
+use ptu_units::sizes::LONGEST_DATAGRAM;
+use std::alloc::Global;
+use std::process::Abort;
+use std::sync::Wait;
+use std::test::Fail;
+use std::thread::Threads;
+
+/// What a receive gives.
+#[derive(Drop)]
+pub(crate) enum Given {
+    Datagram(Arrival),
+    /// Nothing waits, as if what stands behind came in a later round.
+    Nothing,
+    Failure,
+}
+
+/// A datagram from this IPv4 address, of these octets.
+pub(crate) fn arriving(alloc: Global, ip: u32, datagram: &str) -> Result<Given, Fail> {
+    let bytes = Datagram::new(hex::decode(alloc, datagram)?);
+    Ok(Given::Datagram(Arrival { ip, bytes }))
+}
+
+/// A port that gives one after the other at its receives, and then nothing. It keeps what it is
+/// sent, and fails at the listed sends, which are counted from 1.
+#[derive(Drop)]
+pub(crate) struct StagedPort {
+    out: MemPort,
+    // What is still to come, the first at the end.
+    gives: Vec<Given>,
+    faults: u64,
+}
+
+impl StagedPort {
+    pub fn new(alloc: Global, gives: Vec<Given>, failing_sends: Vec<u64>) -> StagedPort {
+        let mut gives = gives;
+        gives.reverse();
+        StagedPort {
+            out: MemPort::new(alloc, Vec::new(alloc), failing_sends, Vec::new(alloc)),
+            gives,
+            faults: 0,
+        }
+    }
+
+    /// The datagram that was sent at this place, from 0: its IPv4 address, channel and octets.
+    pub fn sent(&self, index: usize) -> Option<(u32, Channel, &[u8])> {
+        self.out.sent(index)
+    }
+
+    // Counts a fault.
+    fn fail(&mut self) -> Failed
+        ensures risen { self.new.faults ≡ one_more self.old.faults }
+        ensures no_fall { HasNotFallen self.old.faults self.new.faults }
+    {
+        self.faults = self.faults.saturating_add(1);
+        Failed
+    }
+}
+
+impl Port for StagedPort {
+    ghost sent = { λ _. None };
+
+    ghost waiting = { λ _. None };
+
+    ghost faults = { λ p. p.faults };
+
+    fn send(&mut self, ip: u32, channel: Channel, bytes: &[u8]) -> Result<(), Failed> {
+        match self.out.send(ip, channel, bytes) {
+            Ok(()) => Ok(()),
+            Err(Failed) => Err(self.fail()),
+        }
+    }
+
+    fn receive(
+        &mut self,
+        buf: &mut [u8; LONGEST_DATAGRAM],
+    ) -> Result<Option<(u32, usize)>, Failed> {
+        match self.gives.pop() {
+            Some(Given::Datagram(arrival)) => {
+                let bytes = arrival.bytes.bytes();
+                let size = bytes.len().min(LONGEST_DATAGRAM);
+                buf[..size].copy_from_slice(&bytes[..size]);
+                Ok(Some((arrival.ip, size)))
+            }
+            Some(Given::Nothing) | None => Ok(None),
+            Some(Given::Failure) => Err(self.fail()),
+        }
+    }
+}
+
+/// A host that opens these ports and clocks once, and keeps what it is given back.
+#[derive(Drop)]
+pub(crate) struct OnceHost<P: Drop> {
+    pub opened: Option<Opened<P, MemClock>>,
+    pub back: Option<Opened<P, MemClock>>,
+    faults: u64,
+}
+
+impl<P: Drop> OnceHost<P> {
+    pub fn new(opened: Opened<P, MemClock>) -> OnceHost<P> {
+        OnceHost {
+            opened: Some(opened),
+            back: None,
+            faults: 0,
+        }
+    }
+}
+
+impl<P: Port + Send> Host for OnceHost<P> {
+    type P = P;
+
+    type C = MemClock;
+
+    ghost opening = { λ _. None };
+
+    ghost back = { λ _. None };
+
+    ghost opened_at = { λ _. None };
+
+    ghost faults = { λ h. h.faults };
+
+    fn open(
+        &mut self,
+        _ip: u32,
+        _event_port: u16,
+        _general_port: u16,
+    ) -> Result<Opened<P, MemClock>, Failed> {
+        let opened = self.opened.take();
+        if opened.is_none() {
+            self.faults = self.faults.saturating_add(1);
+        }
+        opened.ok_or(Failed)
+    }
+
+    fn close(&mut self, opened: Opened<P, MemClock>)
+        ensures quiet { self.new.faults ≡ self.old.faults }
+    {
+        self.back = Some(opened);
+    }
+}
+
+/// Serving over this host writes this line.
+pub(crate) fn assert_said<H: Host>(
+    rt: &(impl Abort + Threads + Wait + Sync),
+    alloc: Global,
+    settings: &GmSettings,
+    host: &mut H,
+    line: &str,
+)
+    requires { IsGmInRange settings.now }
+{
+    let mut sink = MemSink::new(alloc, Vec::new(alloc));
+    assert!(rt; serve(rt, alloc, settings, host, &mut sink).is_ok());
+    assert!(rt; sink.bytes() == line.as_bytes(), "the line is {line}");
+}
