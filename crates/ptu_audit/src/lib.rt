@@ -16,6 +16,3 @@ mod texts;
 pub use answer::{Answer, AuditCause, AuditFault};
 pub use auditing::audit;
 pub use ptu_trail::NoCause;
-
-#[cfg(test)]
-mod tests;

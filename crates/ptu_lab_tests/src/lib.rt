@@ -1,6 +1,8 @@
-//! Tests of programs over lines: show, join, replay and pools.
+//! Tests of the programs over lines: show, join, replay, load, pools and audit.
 #![tactic(auto)]
 
+#[cfg(test)]
+mod audit;
 #[cfg(test)]
 mod join;
 #[cfg(test)]

@@ -1,10 +1,13 @@
-//! Tests of tables of leases, of admission and of a grandmaster, by what their crates export.
+//! Tests of tables of leases, of admission, of a grandmaster, of shared tables and of pools, by what
+//! their crates export.
 #![tactic(auto)]
 
 #[cfg(test)]
 mod admit;
 #[cfg(test)]
 mod grandmaster;
+#[cfg(test)]
+mod pools;
 #[cfg(test)]
 mod shard;
 #[cfg(test)]

@@ -13,6 +13,3 @@ mod pools;
 pub use fault::PoolsFault;
 pub use pool::Pool;
 pub use pools::{PoolTaken, Pools};
-
-#[cfg(test)]
-mod tests;

@@ -2,18 +2,18 @@
 #![tactic(auto)]
 
 #[cfg(test)]
-mod lanes;
-#[cfg(test)]
 mod daemon;
 #[cfg(test)]
 mod daemon_lanes;
 #[cfg(test)]
-mod two_steps;
+mod lane_rounds;
+#[cfg(test)]
+mod lanes;
 #[cfg(test)]
 mod staged;
 #[cfg(test)]
-mod waiting;
-#[cfg(test)]
-mod lane_rounds;
-#[cfg(test)]
 mod table_ports;
+#[cfg(test)]
+mod two_steps;
+#[cfg(test)]
+mod waiting;

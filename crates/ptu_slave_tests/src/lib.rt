@@ -2,14 +2,14 @@
 #![tactic(auto)]
 
 #[cfg(test)]
-mod slave;
-#[cfg(test)]
-mod judge_calls;
-#[cfg(test)]
 mod cut_datagrams;
-#[cfg(test)]
-mod pairs;
 #[cfg(test)]
 mod daemon;
 #[cfg(test)]
 mod daemon_faults;
+#[cfg(test)]
+mod judge_calls;
+#[cfg(test)]
+mod pairs;
+#[cfg(test)]
+mod slave;

@@ -1,4 +1,4 @@
-use super::*;
+use ptu_audit::{Answer, AuditCause, AuditFault, NoCause, audit};
 use ptu_outside::{MemSink, MemSource};
 use std::alloc::{AllocError, Global};
 use std::process::Abort;

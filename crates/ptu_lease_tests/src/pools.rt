@@ -1,6 +1,6 @@
-use super::*;
 use ptu_grandmaster::{Reply, Taken};
 use ptu_outside::{Channel, MemPort};
+use ptu_pools::{Pool, PoolTaken, Pools, PoolsFault};
 use ptu_shard::Turned;
 use ptu_shard::samples::CONFIG;
 use ptu_units::Moment;
