@@ -21,4 +21,3 @@ pub use ptu_load::generate;
 pub use ptu_script::Cause;
 pub use ptu_show::{LabFault, show};
 pub use replaying::replay;
-

@@ -6,11 +6,11 @@ ghost use Rattle.ptu_lanes.specs.Stretches.{ControlLaneDid, EventLaneDid};
 ghost use Rattle.ptu_lanes.specs.Waiting.{PassedBy, TurnedOwn, own_tables};
 
 use crate::delays::delay_round;
-use crate::meeting::Meeting;
 use crate::service::Service;
 use crate::signaling::control_round;
 use crate::turns::turn_round;
 use ptu_outside::{Clock, Port};
+use ptu_rounds::Meeting;
 use ptu_shared::{Rates, Seat};
 use ptu_units::OutOfMemory;
 use std::sync::Wait;

@@ -9,7 +9,6 @@ mod client;
 mod delays;
 mod lanes;
 mod laws;
-mod meeting;
 mod service;
 mod serving;
 mod signaling;
@@ -21,6 +20,3 @@ pub use laws::sample_changes;
 pub use serving::{Totals, serve_lanes};
 pub use signaling::{Control, control_round};
 pub use turns::turn_round;
-
-#[cfg(test)]
-mod meeting_tests;

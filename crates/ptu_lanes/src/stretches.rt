@@ -14,15 +14,18 @@ ghost use Rattle.ptu_lanes.specs.Served.{IsControlled};
 
 use crate::changing::{change, change_capacity};
 use crate::lanes::{ControlLane, EventLane, Position, Rounds, SendingLane, SendingLanes};
-use crate::meeting::{LOOKS, Meeting};
 use crate::service::Service;
 use ptu_config::GmSettings;
 use ptu_outside::{Clock, Port};
+use ptu_rounds::Meeting;
 use ptu_shared::Rates;
 use ptu_units::OutOfMemory;
 use std::sync::Wait;
 use std::sync::ledger::Ledger;
 use std::thread::{Threads, join};
+
+// How often a lane looks at its start whether the others have started, which takes seconds.
+const LOOKS: u32 = 10_000_000;
 
 /// All lanes of a grandmaster.
 #[derive(Drop)]

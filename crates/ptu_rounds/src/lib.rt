@@ -1,7 +1,12 @@
-//! What the daemons of a grandmaster and of a slave share: their faults, and, for contracts, the
-//! rounds in which they take what waits at their ports.
+//! What the daemons of a grandmaster and of a slave share: their faults, where lanes meet after each
+//! round, and, for contracts, the rounds in which they take what waits at their ports.
 #![tactic(auto)]
 
 mod fault;
+mod meeting;
 
 pub use fault::DaemonFault;
+pub use meeting::Meeting;
+
+#[cfg(test)]
+mod meeting_tests;

@@ -3,9 +3,9 @@ ghost use Rattle.ptu_config.specs.Limits.{IsGmInRange};
 
 use crate::staged::assert_said;
 use crate::waiting::{ANNOUNCE, CLIENT, asking, grant, port};
-use ptu_daemon::{DaemonFault, serve};
 use ptu_config::GmSettings;
 use ptu_config::samples::GM_SETTINGS;
+use ptu_daemon::{DaemonFault, serve};
 use ptu_outside::samples::{idle_port, opened_with};
 use ptu_outside::{Channel, MemHost, MemPort, MemSink};
 use std::alloc::Global;

@@ -2,9 +2,9 @@ ghost use Rattle.std.specs.Prelude.{◌≡◌, ◌≤◌, ℕ, length, IfOk};
 ghost use Rattle.ptu_profile.specs.Limits.{IsCapacity};
 ghost use Rattle.ptu_shared.specs.{Blanks.{IsBlankOf}, Opening.{idle_port}};
 
-use ptu_lanes::{Control, Delays, control_round, delay_round, turn_round};
 use ptu_admit::{Closed, Verdict};
 use ptu_history::Client;
+use ptu_lanes::{Control, Delays, control_round, delay_round, turn_round};
 use ptu_outside::{Arrival, Channel, Datagram, MemClock, MemPort, Sends, samples};
 use ptu_shard::samples::{CONFIG, ONE, TWO, ZERO};
 use ptu_shared::{Rates, Seat, Shared};

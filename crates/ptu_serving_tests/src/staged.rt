@@ -4,8 +4,8 @@ ghost use Rattle.std.specs.Prelude.{◌≡◌, None};
 ghost use Rattle.ptu_outside.specs.Faults.{HasNotFallen, one_more};
 ghost use Rattle.ptu_config.specs.Limits.{IsGmInRange};
 
-use ptu_daemon::serve;
 use ptu_config::GmSettings;
+use ptu_daemon::serve;
 use ptu_outside::{
     Arrival, Channel, Datagram, Failed, Host, MemClock, MemPort, MemSink, Opened, Port,
 };

@@ -1,9 +1,9 @@
 ghost use Rattle.std.specs.Prelude.{◌≤◌};
 
 use crate::waiting::{CLIENT, SYNC, asking, grant, port};
-use ptu_daemon::{serve, serve_in_two_steps};
 use ptu_config::GmSettings;
 use ptu_config::samples::GM_SETTINGS;
+use ptu_daemon::{serve, serve_in_two_steps};
 use ptu_outside::samples::opened_with;
 use ptu_outside::{Channel, MemClock, MemHost, MemPort, MemSink};
 use ptu_twostep::{Flags, TwoHost};

@@ -1,9 +1,9 @@
 //! Datagrams that are cut: no front of one is heard.
-use ptu_slave::{Heard, Slave, SlaveReason};
 use crate::slave::{ANNOUNCE, DELAY_RESP, FIRST, Row, SECOND, SYNC, config, flagged, play};
 use ptu_header::HeaderFault;
 use ptu_messages::MessageFault;
 use ptu_outside::MemPort;
+use ptu_slave::{Heard, Slave, SlaveReason};
 use ptu_units::Moment;
 use std::alloc::Global;
 use std::process::Abort;

@@ -6,11 +6,11 @@ ghost use Rattle.ptu_config.specs.Limits.{IsSlaveInRange};
 ghost use Rattle.ptu_judges.specs.Held.{IsStock, fresh};
 ghost use Rattle.ptu_record.specs.declared.rule.Rule.TheVariants.{Flag};
 
-use ptu_slave_daemon::{has_judges, slave};
 use ptu_config::{MasterList, MasterSetting, SlaveSettings};
 use ptu_judges::{FlagJudge, Judge, Stock};
 use ptu_outside::samples::{opened_with, still_clock};
 use ptu_outside::{Arrival, Channel, Datagram, MemClock, MemHost, MemPort, MemSink};
+use ptu_slave_daemon::{has_judges, slave};
 use ptu_units::{Kind, Log, Moment};
 use std::alloc::{AllocError, Global};
 use std::process::Abort;

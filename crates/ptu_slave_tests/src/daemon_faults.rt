@@ -9,12 +9,12 @@ ghost use Rattle.std.specs.Prelude.{◌≤◌, length, map, IfOk};
 ghost use Rattle.ptu_judges.specs.Held.{IsStock};
 ghost use Rattle.ptu_outside.specs.MemoryPort.{FitAll};
 
-use ptu_slave_daemon::{has_judges, slave};
 use crate::daemon::{ANNOUNCE, ASK, SYNC, host_at, one_judge, settings};
 use ptu_judges::{FlagJudge, Stock};
 use ptu_outside::samples::idle_port;
 use ptu_outside::{Arrival, Channel, Datagram, MemClock, MemHost, MemPort, MemSink};
 use ptu_rounds::DaemonFault;
+use ptu_slave_daemon::{has_judges, slave};
 use ptu_units::Moment;
 use std::alloc::Global;
 use std::process::Abort;

@@ -4,11 +4,11 @@ ghost use Rattle.ptu_judges.specs.Held.{flag_held};
 ghost use Rattle.ptu_slave.specs.Seen.{seen};
 
 use crate::slave::{Row, SECOND, config, play, slave_of_one};
-use ptu_slave::Slave;
 use ptu_judges::{Conduct, Judge};
 use ptu_outside::MemPort;
 use ptu_outside::samples::idle_port;
 use ptu_record::Rule;
+use ptu_slave::Slave;
 use ptu_units::Moment;
 use std::alloc::Global;
 use std::cell::Cell;

@@ -3,11 +3,11 @@ ghost use Rattle.std.specs.Prelude.{◌≡◌, []};
 ghost use Rattle.ptu_judges.specs.Held.{IsFresh};
 ghost use Rattle.ptu_slave.specs.Seen.{seen};
 
-use ptu_slave::{HasPort, Master, Slave};
 use crate::slave::{FIRST, Row, SECOND, config, one_judge, play_all};
 use ptu_judges::{FlagJudge, Judge};
 use ptu_outside::MemPort;
 use ptu_outside::samples::idle_port;
+use ptu_slave::{HasPort, Master, Slave};
 use std::alloc::Global;
 use std::process::Abort;
 use std::test::Fail;

@@ -5,12 +5,12 @@ ghost use Rattle.ptu_record.specs.Marks.{fresh_marks};
 ghost use Rattle.ptu_profile.specs.Slave.{IsWithinLimits};
 ghost use Rattle.ptu_slave.specs.{Kept.{IsSame}, Seen.{seen}};
 
-use ptu_slave::{Master, Slave, SlaveConfig, Ticked};
 use ptu_header::PortIdentity;
 use ptu_judges::{Conduct, FlagJudge, GapJudge, Judge};
 use ptu_outside::samples::idle_port;
 use ptu_outside::{Channel, MemPort};
 use ptu_record::{Rule, Wants};
+use ptu_slave::{Master, Slave, SlaveConfig, Ticked};
 use ptu_units::{Kind, Log, Moment};
 use std::alloc::Global;
 use std::cell::Cell;

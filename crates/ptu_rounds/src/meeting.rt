@@ -5,9 +5,6 @@ ghost use Rattle.std.specs.Prelude.{◌≡◌, ◌≤◌};
 use std::sync::{Condvar, Mutex, Wait};
 use std::thread::yield_now;
 
-/// How often a lane looks at its start whether the others have started, which takes seconds.
-pub(crate) const LOOKS: u32 = 10_000_000;
-
 // How many lanes have entered, how many take part, how many of these have come, how many rounds are
 // over, and whether a lane has given up.
 #[derive(Drop)]
@@ -53,7 +50,7 @@ impl Count {
 /// none waits for one that has not entered: where the system refuses a thread for a lane, it enters
 /// once another has left, and does its rounds then.
 #[derive(Drop)]
-pub(crate) struct Meeting {
+pub struct Meeting {
     expected: u64,
     looks: u32,
     count: Mutex<Count>,
@@ -63,7 +60,7 @@ pub(crate) struct Meeting {
 impl Meeting {
     /// A meeting before the first round of so many lanes, which look so often at their start
     /// whether all have entered.
-    pub(crate) fn new(expected: u64, looks: u32) -> Meeting {
+    pub fn new(expected: u64, looks: u32) -> Meeting {
         Meeting {
             expected,
             looks,
@@ -80,7 +77,7 @@ impl Meeting {
 
     /// Takes part from now on, and waits a while for the others to enter, so that none runs ahead
     /// while their threads start.
-    pub(crate) fn enter(&self, rt: &impl Wait) {
+    pub fn enter(&self, rt: &impl Wait) {
         self.count.lock(rt).enter();
         for _ in 0..self.looks {
             if self.expected <= self.count.lock(rt).entered {
@@ -93,7 +90,7 @@ impl Meeting {
     /// Comes after the round of this number, from 0, and waits until all have come that take part.
     /// Where the others have ended that round before, it goes on at once. Says whether no lane has
     /// given up.
-    pub(crate) fn meet(&self, rt: &impl Wait, round: u32) -> bool {
+    pub fn meet(&self, rt: &impl Wait, round: u32) -> bool {
         let mut count = self.count.lock(rt);
         if count.over <= u64::from(round) {
             count.come();
@@ -108,7 +105,7 @@ impl Meeting {
     }
 
     /// Takes part no more. A lane that gives up ends the work of all.
-    pub(crate) fn leave(&self, rt: &impl Wait, gives_up: bool) {
+    pub fn leave(&self, rt: &impl Wait, gives_up: bool) {
         let mut count = self.count.lock(rt);
         count.short = count.short || gives_up;
         count.leave();
