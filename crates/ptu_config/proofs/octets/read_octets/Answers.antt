@@ -12,12 +12,10 @@ pub loop-count-preserved : goal.loop-count-preserved
 loop-count-preserved g c =
     let octets = c.loop-count.octets in
     let new = c.read_behind.new.octets in
-    let size : octets.len ≡ length octets.items = search rules in
     let same : length new ≡ length octets.items = search rules in
-    let over = written_over octets.items new octets.len size same in
     let front : take c.loop-count.count new ≡ take c.loop-count.count octets.items = search rules in
     let none : (c.in_ok-taken.taken == 0) ≡ false = ne_eqb c.in_ok-taken.taken 0 c.if-taken-eq0.false in
-    rw over (IsTaking-more g.S.Source.left g.S.Source.ends g.S.Source.faults c.args.source.now c.loop-count.source c.read_behind.new.source octets.items new c.loop-count.count c.in_ok-taken.taken
+    rw (written_over octets.items new octets.len (search rules) same) (IsTaking-more g.S.Source.left g.S.Source.ends g.S.Source.faults c.args.source.now c.loop-count.source c.read_behind.new.source octets.items new c.loop-count.count c.in_ok-taken.taken
     c.loop-count.invariant front same c.in_ok-taken.ensures.read c.in_ok-taken.ensures.fits
     (subst (λ b. CountsEnd b (g.S.Source.ends c.loop-count.source) (g.S.Source.ends c.read_behind.new.source)) none c.in_ok-taken.ensures.ends) c.in_ok-taken.ensures.still)
 
@@ -29,12 +27,10 @@ pub returns-then-taken-eq0-clause-taken : goal.returns-then-taken-eq0-clause-tak
 returns-then-taken-eq0-clause-taken g c =
     let octets = c.loop-count.octets in
     let new = c.read_behind.new.octets in
-    let size : octets.len ≡ length octets.items = search rules in
     let same : length new ≡ length octets.items = search rules in
-    let over = written_over octets.items new octets.len size same in
     let front : take c.loop-count.count new ≡ take c.loop-count.count octets.items = search rules in
     let none : c.in_ok-taken.taken ≡ 0 = search rules in
-    rw (c.truncate.ensures.items, over)
+    rw (c.truncate.ensures.items, written_over octets.items new octets.len (search rules) same)
     (IsTaking-end g.S.Source.left g.S.Source.ends g.S.Source.faults c.args.source.now c.loop-count.source c.read_behind.new.source octets.items new c.loop-count.count c.in_ok-taken.taken
     c.loop-count.invariant front same c.in_ok-taken.ensures.read none (c.in_ok-taken.ensures.end none))
 
