@@ -1,10 +1,19 @@
 -- Which grandmaster of a world a grandmaster with ports in memory stands for.
 use Rattle.std.specs.Prelude.{◌≡◌, []}
 use Rattle.ptu_outside.specs.MemoryPort.{MemoryPort}
+use Rattle.ptu_header.specs.declared.header.PortIdentity.{PortIdentity}
+use Rattle.ptu_profile.specs.declared.grandmaster.GmConfig.{GmConfig}
+use Rattle.ptu_script.specs.declared.command.GrandmasterSetup.{GrandmasterSetup}
 use Rattle.ptu_grandmaster.specs.Gm.{KeptGm}
 use Rattle.ptu_grandmaster.specs.Gm as gm
 use Rattle.ptu_world.specs.Deeds as world
 use Rattle.ptu_nodes.specs.declared.grandmaster_node.GrandmasterNode.{GrandmasterNode}
+
+-- the settings of a grandmaster that a line sets up; its timescale begins at 0
+abbrev pub config_of : GrandmasterSetup → GmConfig
+config_of setup =
+    let identity : PortIdentity = record { clock = setup.clock; port = setup.port } in
+    record { identity = identity; domain = setup.domain; class = setup.class; max_duration = setup.max_duration; epoch = 0 }
 
 -- nothing that was sent stands in a port
 abbrev pub IsIdle : MemoryPort → Type 0

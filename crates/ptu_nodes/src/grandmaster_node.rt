@@ -1,10 +1,11 @@
 ghost use Rattle.std.specs.Prelude.{◌≡◌, ◌<◌, [], IfSome, OnOk};
-ghost use Rattle.ptu_profile.specs.Limits.{IsCapacity};
+ghost use Rattle.ptu_profile.specs.{Limits.{IsCapacity}, Grandmaster.{IsWithinLimits}};
 ghost use Rattle.ptu_script.specs.Limits.{IsGrandmasterWithin};
 ghost use Rattle.ptu_world.specs.Deeds.{Grandmaster};
 ghost use Rattle.ptu_world.specs.Grandmasters.{capacity_deed, class_deed, datagram_deed, turn_deed};
 ghost use Rattle.ptu_world.specs.World.{new_grandmaster};
 ghost use Rattle.ptu_nodes.specs.{Doing.{HasDone}, GrandmasterPorts.{rows_kept}};
+ghost use Rattle.ptu_nodes.specs.Standing as standing;
 ghost use Rattle.ptu_nodes.specs.Standing.{IsGrandmasterNode, StandsAsGrandmaster};
 
 use crate::grandmaster_ports::{ANNOUNCE, SIGNALING_PORT, hand_over_all, reserve, reserve_replies};
@@ -18,6 +19,24 @@ use ptu_report_lines::Statement;
 use ptu_script::GrandmasterSetup;
 use ptu_units::{Moment, OutOfMemory};
 use std::alloc::Global;
+
+/// The settings of a grandmaster that a line sets up. Its timescale begins at 0.
+pub fn config_of(setup: &GrandmasterSetup) -> GmConfig
+    requires { IsGrandmasterWithin setup.now }
+    ensures value { result ≡ standing.config_of setup.now }
+    ensures limits { IsWithinLimits result }
+{
+    GmConfig {
+        identity: PortIdentity {
+            clock: setup.clock,
+            port: setup.port,
+        },
+        domain: setup.domain,
+        class: setup.class,
+        max_duration: setup.max_duration,
+        epoch: 0,
+    }
+}
 
 /// A grandmaster of a script: it has ports in memory, in which nothing stands between events.
 #[derive(Drop)]
@@ -35,19 +54,9 @@ impl GrandmasterNode {
         ensures ip { result.ip ≡ setup.now.ip }
         ensures stands { StandsAsGrandmaster result (new_grandmaster setup.now) }
     {
-        let config = GmConfig {
-            identity: PortIdentity {
-                clock: setup.clock,
-                port: setup.port,
-            },
-            domain: setup.domain,
-            class: setup.class,
-            max_duration: setup.max_duration,
-            epoch: 0,
-        };
         let gm = Gm::new(
             alloc,
-            config,
+            config_of(setup),
             setup.capacity,
             idle_port(alloc),
             idle_port(alloc),

@@ -8,7 +8,7 @@ mod grandmaster_ports;
 mod grandmaster_statements;
 mod journal;
 
-pub use grandmaster_node::GrandmasterNode;
+pub use grandmaster_node::{GrandmasterNode, config_of};
 pub use grandmaster_ports::{
     ANNOUNCE, DELAY_RESP, SIGNALING_PORT, hand_over_all, reserve, reserve_replies,
 };

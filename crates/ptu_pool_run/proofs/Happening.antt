@@ -25,15 +25,15 @@ use Rattle.ptu_world.specs.Deeds.{Grandmaster}
 use Rattle.ptu_world.specs.Grandmasters.{datagram_deed, turn_deed}
 use Rattle.ptu_nodes.specs.GrandmasterPorts.{HasReplyRoom, HasRoom, in_ports}
 use Rattle.ptu_nodes.specs.GrandmasterStatements.{IsSent}
-use Rattle.ptu_nodes.specs.Standing.{AreIdle, AreSure}
+use Rattle.ptu_nodes.specs.Standing.{AreIdle, AreSure, config_of}
 use Rattle.ptu_nodes.proofs.GrandmasterReceipts.{sends_heard, told_all}
 use Rattle.ptu_nodes.proofs.GrandmasterTurns.{sends_turned}
 use Rattle.ptu_nodes.proofs.Items.{few_heard}
 use Rattle.ptu_nodes.proofs.Surely.{surely_taken, surely_turned}
 use Rattle.ptu_pool_run.specs.declared.output.PoolLine.TheVariants as lines
 use Rattle.ptu_pool_run.specs.Output.{line_text}
-use Rattle.ptu_pool_run.specs.Ports.{AreAllIdle, AreAllSure, AreOthersSame, GoOn, sent_texts}
-use Rattle.ptu_pool_run.specs.Sending.{config_of, grandmaster_of, lines_by, lines_of_event, place_of, sends_at, sent_line}
+use Rattle.ptu_pool_run.specs.Ports.{AreAllIdle, AreAllSure, AreOthersSame, GoOn, GoOnIdle, sent_texts}
+use Rattle.ptu_pool_run.specs.Sending.{grandmaster_of, lines_by, lines_of_event, place_of, sends_at, sent_line}
 use Rattle.ptu_pool_run.specs.Standing.{AreSold, HasHappened}
 
 pub on_ok_five : {T E P Q R S U V : Type 0} (r : Result T E) → (P → Q → R → S → U → V) → OnOk r P → OnOk r Q → OnOk r R → OnOk r S → OnOk r U → OnOk r V
@@ -87,19 +87,27 @@ nowhere pools ip (Some found) none e = absurd (both_ways (is_in_at pools found i
 
 -- ---- what happens
 
+-- what the pool at this place sent was told, and its ports were cleared
+pub record WasTold (line place : ℕ) (old new : KeptPools MemoryPort) (texts texts' : List (List ℕ)) : Type 0 where
+  pub last : GoOn old new
+  pub others : AreOthersSame place old new
+  pub says : (gm : KeptGm MemoryPort) → slice_get old.gms place ≡ Some gm → texts' ≡ texts ++ sent_texts line (place + 1) (in_ports gm)
+  pub emptied : (gm : KeptGm MemoryPort) → slice_get new.gms place ≡ Some gm → AreIdle gm
+  pub kept_sure : AreAllSure old → AreAllSure new
+
 module _ (setup : GrandmasterSetup) (line : ℕ) (events : List PoolEvent) (kept0 kept1 : KeptPools MemoryPort) (sold : AreSold setup kept0 events)
-    (first : GoOn kept0 kept1) (still : AreAllIdle kept0 → AreAllIdle kept1) (surely : AreAllSure kept0 → AreAllSure kept1) where
+    (first : GoOnIdle kept0 kept1) where
   stood : StandFor (config_of setup) kept1 events
-  stood = first.stand (config_of setup) events sold.stand
+  stood = first.go_on.stand (config_of setup) events sold.stand
 
   idle : AreAllIdle kept1
-  idle = still sold.idle
+  idle = first.idle sold.idle
 
   sure : AreAllSure kept1
-  sure = surely sold.sure
+  sure = first.sure sold.sure
 
   apart : AreApart kept1.pools
-  apart = subst AreApart (sym first.pools) sold.share.apart
+  apart = subst AreApart (sym first.go_on.pools) sold.share.apart
 
   -- pools that stand for one event more
   sold_after : (event : PoolEvent) (kept : KeptPools MemoryPort) → kept.pools ≡ kept0.pools → StandFor (config_of setup) kept (events ++ event ∷ []) → AreAllIdle kept → AreAllSure kept →
@@ -118,23 +126,20 @@ module _ (setup : GrandmasterSetup) (line : ℕ) (events : List PoolEvent) (kept
       texts' ≡ texts ++ line_text (lines.Stranger line) ∷ [] →
       HasHappened setup line events (Came t from octets) kept0 kept2 texts texts'
   stranger_came t from octets kept2 texts texts' none same stand says =
-      let pools : kept2.pools ≡ kept0.pools = ap (λ (k : KeptPools MemoryPort). k.pools) same ∙ first.pools in record {
+      let pools : kept2.pools ≡ kept0.pools = ap (λ (k : KeptPools MemoryPort). k.pools) same ∙ first.go_on.pools in record {
         pools = pools;
         sold = sold_after (Came t from octets) kept2 pools stand (subst AreAllIdle (sym same) idle) (subst AreAllSure (sym same) sure);
         says = says ∙ ap (λ o. texts ++ map line_text (lines_by setup kept0.pools events line (Came t from octets) o))
-            (sym (subst (λ (l : List Pool). position (is_in from) l ≡ None) first.pools (nowhere kept1.pools from (position (is_in from) kept1.pools) none refl)));
+            (sym (subst (λ (l : List Pool). position (is_in from) l ≡ None) first.go_on.pools (nowhere kept1.pools from (position (is_in from) kept1.pools) none refl)));
       }
 
   module _ (place : ℕ) (event : PoolEvent) (Change : KeptGm MemoryPort → KeptGm MemoryPort → Type 0) (kept2 kept3 : KeptPools MemoryPort) (texts texts' : List (List ℕ))
       (one : ChangesOne place Change kept1 kept2) (at : place_of kept1.pools event ≡ Some place)
       (sends : in_ports one.after ≡ sends_at (grandmaster_of setup kept1.pools events place) event)
       (stand : StandFor (config_of setup) kept2 (events ++ event ∷ []))
-      (last : GoOn kept2 kept3) (others : AreOthersSame place kept2 kept3)
-      (says : (gm : KeptGm MemoryPort) → slice_get kept2.gms place ≡ Some gm → texts' ≡ texts ++ sent_texts line (place + 1) (in_ports gm))
-      (emptied : (gm : KeptGm MemoryPort) → slice_get kept3.gms place ≡ Some gm → AreIdle gm)
-      (one_sure : AreSure one.after) (kept_sure : AreAllSure kept2 → AreAllSure kept3) where
+      (told : WasTold line place kept2 kept3 texts texts') (one_sure : AreSure one.after) where
     pools_are : kept3.pools ≡ kept0.pools
-    pools_are = last.pools ∙ (ap (λ (k : KeptPools MemoryPort). k.pools) one.now ∙ first.pools)
+    pools_are = told.last.pools ∙ (ap (λ (k : KeptPools MemoryPort). k.pools) one.now ∙ first.go_on.pools)
 
     gms_are : kept2.gms ≡ set kept1.gms place one.after
     gms_are = ap (λ (k : KeptPools MemoryPort). k.gms) one.now
@@ -143,10 +148,10 @@ module _ (setup : GrandmasterSetup) (line : ℕ) (events : List PoolEvent) (kept
     all_idle i gm now = by (cases_eq i place)
       where
         by : (i ≡ place) ⊎ (i ≡ place → ⊥) → AreIdle gm
-        by (inl same) = emptied gm (subst (λ j. slice_get kept3.gms j ≡ Some gm) same now)
+        by (inl same) = told.emptied gm (subst (λ j. slice_get kept3.gms j ≡ Some gm) same now)
         by (inr other) =
             idle i gm (sym (get-set_other kept1.gms place i one.after other)
-            ∙ (sym (ap (λ (l : List (KeptGm MemoryPort)). slice_get l i) gms_are) ∙ (sym (others i other) ∙ now)))
+            ∙ (sym (ap (λ (l : List (KeptGm MemoryPort)). slice_get l i) gms_are) ∙ (sym (told.others i other) ∙ now)))
 
     after_is : slice_get kept2.gms place ≡ Some one.after
     after_is = ap (λ (l : List (KeptGm MemoryPort)). slice_get l place) gms_are ∙ get-set_same kept1.gms place one.before one.after one.was
@@ -165,7 +170,7 @@ module _ (setup : GrandmasterSetup) (line : ℕ) (events : List PoolEvent) (kept
     -- the same in terms of the pools as they were
     written : texts' ≡ texts ++ map line_text (lines_of_event setup kept1.pools events line event)
     written =
-        says one.after after_is
+        told.says one.after after_is
         ∙ ap (λ ds. texts ++ sent_texts line (place + 1) ds) sends
         ∙ ap (λ l. texts ++ l) (sym (map-map line_text (sent_line line (place + 1)) (sends_at (grandmaster_of setup kept1.pools events place) event)))
         ∙ ap (λ o. texts ++ map line_text (lines_by setup kept1.pools events line event o)) (sym at)
@@ -173,8 +178,8 @@ module _ (setup : GrandmasterSetup) (line : ℕ) (events : List PoolEvent) (kept
     pub one_happened : HasHappened setup line events event kept0 kept3 texts texts'
     one_happened = record {
       pools = pools_are;
-      sold = sold_after event kept3 pools_are (last.stand (config_of setup) (events ++ event ∷ []) stand) all_idle (kept_sure all_sure);
-      says = written ∙ ap (λ (l : List Pool). texts ++ map line_text (lines_of_event setup l events line event)) first.pools;
+      sold = sold_after event kept3 pools_are (told.last.stand (config_of setup) (events ++ event ∷ []) stand) all_idle (told.kept_sure all_sure);
+      says = written ∙ ap (λ (l : List Pool). texts ++ map line_text (lines_of_event setup l events line event)) first.go_on.pools;
     }
 
   pub came_happened : (ports : Ports MemoryPort) (tells : (p : MemoryPort) → ports.sent p ≡ Some p.sent)
@@ -183,20 +188,17 @@ module _ (setup : GrandmasterSetup) (line : ℕ) (events : List PoolEvent) (kept
       ((place : ℕ) (gm : KeptGm MemoryPort) → position (is_in from) kept0.pools ≡ Some place → slice_get kept1.gms place ≡ Some gm → HasReplyRoom gm) →
       is_in_at kept1.pools place from ≡ true → ChangesOne place (TookDatagram ports t from octets taken) kept1 kept2 →
       StandFor (config_of setup) kept2 (events ++ Came t from octets ∷ []) →
-      GoOn kept2 kept3 → AreOthersSame place kept2 kept3 →
-      ((gm : KeptGm MemoryPort) → slice_get kept2.gms place ≡ Some gm → texts' ≡ texts ++ sent_texts line (place + 1) (in_ports gm)) →
-      ((gm : KeptGm MemoryPort) → slice_get kept3.gms place ≡ Some gm → AreIdle gm) →
-      (AreAllSure kept2 → AreAllSure kept3) →
+      WasTold line place kept2 kept3 texts texts' →
       HasHappened setup line events (Came t from octets) kept0 kept3 texts texts'
-  came_happened ports tells to from_sure t from place octets taken kept2 kept3 texts texts' room inside one stand last others says emptied kept_sure =
+  came_happened ports tells to from_sure t from place octets taken kept2 kept3 texts texts' room inside one stand told =
       let was = stood.each place one.before one.was in
       let at = here kept1.pools from place (position (is_in from) kept1.pools) apart inside refl in
       let both = took_surely ports tells to from_sure t from octets taken one.before one.after (sure place one.before one.was)
-      (room place one.before (subst (λ (l : List Pool). position (is_in from) l ≡ Some place) first.pools at) one.was) one.changed in
+      (room place one.before (subst (λ (l : List Pool). position (is_in from) l ≡ Some place) first.go_on.pools at) one.was) one.changed in
       one_happened place (Came t from octets) (TookDatagram ports t from octets taken) kept2 kept3 texts texts' one
       at
       (took_sends ports tells to from_sure (grandmaster_of setup kept1.pools events place) t from octets taken one.before one.after (sym was.0) was.1 (idle place one.before one.was) both.0 one.changed)
-      stand last others says emptied both.1 kept_sure
+      stand told both.1
 
   pub turn_happened : (ports : Ports MemoryPort) (tells : (p : MemoryPort) → ports.sent p ≡ Some p.sent)
       (to : (p : MemoryPort) (ds : List Departure) → IsSure p ds → ports.is_sure p ds) (from_sure : (p : MemoryPort) → ports.is_sure p [] → IsSure p [])
@@ -205,14 +207,11 @@ module _ (setup : GrandmasterSetup) (line : ℕ) (events : List PoolEvent) (kept
       HasRoom (length (table_at table gm).rows) (length (table_at table gm).rows * 64) (table_at table gm).port) →
       ChangesOne place (TookTurn ports t table turned) kept1 kept2 →
       StandFor (config_of setup) kept2 (events ++ Turned t place table ∷ []) →
-      GoOn kept2 kept3 → AreOthersSame place kept2 kept3 →
-      ((gm : KeptGm MemoryPort) → slice_get kept2.gms place ≡ Some gm → texts' ≡ texts ++ sent_texts line (place + 1) (in_ports gm)) →
-      ((gm : KeptGm MemoryPort) → slice_get kept3.gms place ≡ Some gm → AreIdle gm) →
-      (AreAllSure kept2 → AreAllSure kept3) →
+      WasTold line place kept2 kept3 texts texts' →
       HasHappened setup line events (Turned t place table) kept0 kept3 texts texts'
-  turn_happened ports tells to from_sure t place table turned kept2 kept3 texts texts' room one stand last others says emptied kept_sure =
+  turn_happened ports tells to from_sure t place table turned kept2 kept3 texts texts' room one stand told =
       let was = stood.each place one.before one.was in
       let both = turn_surely ports tells to from_sure t table turned one.before one.after (sure place one.before one.was) (room one.before one.was) one.changed in
       one_happened place (Turned t place table) (TookTurn ports t table turned) kept2 kept3 texts texts' one refl
       (turn_sends ports tells to from_sure (grandmaster_of setup kept1.pools events place) t table turned one.before one.after (sym was.0) was.1 (idle place one.before one.was) both.0 one.changed)
-      stand last others says emptied both.1 kept_sure
+      stand told both.1

@@ -9,8 +9,7 @@ use Rattle.ptu_script.specs.declared.command.GrandmasterSetup.{GrandmasterSetup}
 use Rattle.ptu_pools.specs.declared.pool.Pool.{Pool}
 use Rattle.ptu_pools.specs.Refusal.{Share}
 use Rattle.ptu_pools.specs.Standing.{KeptPools, StandFor, ports_of_all}
-use Rattle.ptu_nodes.specs.Standing.{AreIdle, AreSure, IsIdle, IsUnfailing}
-use Rattle.ptu_pool_run.specs.Sending.{config_of}
+use Rattle.ptu_nodes.specs.Standing.{AreIdle, AreSure, IsIdle, IsUnfailing, config_of}
 use Rattle.ptu_pool_run.specs.Standing.{AreSold}
 
 idle_by : (gms : List (KeptGm MemoryPort)) → AllByRecursion IsIdle (ports_of_all gms) → (i : ℕ) (gm : KeptGm MemoryPort) → slice_get gms i ≡ Some gm → AreIdle gm

@@ -11,6 +11,7 @@ use Rattle.ptu_pools.specs.Events.{PoolEvent, Came, Turned}
 use Rattle.ptu_pools.specs.Pool.{AreApart}
 use Rattle.ptu_pools.specs.Refusal.{Share}
 use Rattle.ptu_pools.proofs.Whole.{count_whole, held_own, held_whole}
+use Rattle.ptu_nodes.specs.Standing.{config_of}
 use Rattle.ptu_pool_run.specs.declared.cause.PoolCause.{PoolCause}
 use Rattle.ptu_pool_run.specs.declared.cause.PoolCause.TheVariants.{Number}
 use Rattle.ptu_pool_run.specs.declared.command.PoolCommand.{PoolCommand}
@@ -21,7 +22,7 @@ use Rattle.ptu_pool_run.specs.Poured.{end_of, last_line, lines_after, lines_by_s
 use Rattle.ptu_pool_run.specs.Promises.{KeepsPools, SayAlike}
 use Rattle.ptu_pool_run.specs.Reading.{At, Told, events_of, happened, opening, outcome_by, rules, sold_by, step, turned}
 use Rattle.ptu_pool_run.specs.Selling.{refusal_of}
-use Rattle.ptu_pool_run.specs.Sending.{config_of, lines_of_event}
+use Rattle.ptu_pool_run.specs.Sending.{lines_of_event}
 use Rattle.ptu_pool_run.proofs.OutputLines.{own_of}
 use Rattle.ptu_pool_run.proofs.Sold.{none_share, sold_share}
 

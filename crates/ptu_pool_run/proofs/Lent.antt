@@ -8,11 +8,30 @@ use Rattle.ptu_grandmaster.specs.Gm.{KeptGm, port_at, table_at, with_port}
 use Rattle.ptu_pools.specs.Ported.{with_port_at, with_port_of}
 use Rattle.ptu_pools.specs.Standing.{KeptPools}
 use Rattle.ptu_nodes.specs.GrandmasterPorts.{HasReplyRoom, HasRoom}
-use Rattle.ptu_pool_run.specs.Ports.{AreAllIdle, AreAllSure}
+use Rattle.ptu_pool_run.specs.Ports.{AreAllIdle, AreAllSure, GoOnIdle}
 
 pub on_ok_two : {T E P Q R : Type 0} (r : Result T E) → (P → Q → R) → OnOk r P → OnOk r Q → OnOk r R
 on_ok_two (Ok x) f p q = f p q
 on_ok_two (Err e) f p q = tt
+
+-- ---- all pools
+
+pub go_on_same : (kept : KeptPools MemoryPort) → GoOnIdle kept kept
+go_on_same kept = record {
+  go_on = record { pools = refl; stand = λ config events stood. stood };
+  idle = λ all. all;
+  sure = λ all. all;
+}
+
+pub go_on_twice : {old between new : KeptPools MemoryPort} → GoOnIdle old between → GoOnIdle between new → GoOnIdle old new
+go_on_twice first second = record {
+  go_on = record {
+    pools = second.go_on.pools ∙ first.go_on.pools;
+    stand = λ config events stood. second.go_on.stand config events (first.go_on.stand config events stood);
+  };
+  idle = λ all. second.idle (first.idle all);
+  sure = λ all. second.sure (first.sure all);
+}
 
 -- ---- one grandmaster of all
 

@@ -1,4 +1,4 @@
-mod Lent
+pub mod Lent
 mod Telling
 mod Sold
 mod Idle

@@ -12,11 +12,12 @@ use Rattle.ptu_pools.specs.declared.pool.Pool.{Pool}
 use Rattle.ptu_pools.specs.Events.{PoolEvent, Came, Turned, gm_event, is_own, own}
 use Rattle.ptu_pools.specs.Pool.{AreApart, capacity_at, is_in, is_in_at}
 use Rattle.ptu_pools.proofs.Places.{found_mine, none_in}
+use Rattle.ptu_nodes.specs.Standing.{config_of}
 use Rattle.ptu_pool_run.specs.declared.cause.PoolCause.{PoolCause}
 use Rattle.ptu_pool_run.specs.declared.output.PoolLine.{PoolLine}
 use Rattle.ptu_pool_run.specs.Reading.{At}
 use Rattle.ptu_pool_run.specs.Poured.{is_line_of, last_line, lines_after, lines_by_setup, own_at, own_lines, own_lines_by}
-use Rattle.ptu_pool_run.specs.Sending.{config_of, grandmaster_of, lines_by, lines_of_event, sends_at, sent_line}
+use Rattle.ptu_pool_run.specs.Sending.{grandmaster_of, lines_by, lines_of_event, sends_at, sent_line}
 
 -- ---- the lines of one event
 

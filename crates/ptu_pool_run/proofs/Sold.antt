@@ -112,8 +112,13 @@ module _ (capacity : ℕ) (before : List Pool) (pool : Pool) (share : Share capa
       by None e = where_apart (all_apart all (length before + 1) (omega (arith, many)) (none_found all (length before) pool (meeting ∙ e) none_before)) e
           (cases_lt capacity (capacities before + pool.capacity))
 
-  pub refused_for : (fault : PoolsFault) → IsRefused capacity all fault → refusal_of capacity before pool ≡ cause_of_fault fault
+  refused_for : (fault : PoolsFault) → IsRefused capacity all fault → refusal_of capacity before pool ≡ cause_of_fault fault
   refused_for fault is = let e = expected in e.is ∙ ap cause_of_fault (one_refused capacity all e.fault fault e.refused is)
+
+-- the same of pools that are those before it and it
+pub refused_so : (capacity : ℕ) (before all : List Pool) (pool : Pool) → Share capacity before → is_network pool ≡ true → length before < 16 → all ≡ before ++ pool ∷ [] →
+    (fault : PoolsFault) → IsRefused capacity all fault → refusal_of capacity before pool ≡ cause_of_fault fault
+refused_so capacity before all pool share network few are fault is = refused_for capacity before pool share network few fault (subst (λ l. IsRefused capacity l fault) are is)
 
 -- where it is sold, all share the capacity
 pub sold_share : (capacity : ℕ) (before : List Pool) (pool : Pool) → Share capacity before → refusal_of capacity before pool ≡ None →

@@ -2,7 +2,7 @@
 use Rattle.std.specs.Prelude.{ℕ, List, ◌++◌, codes}
 use Rattle.std.specs.Fmt.{decimal}
 use Rattle.ptu_lines.specs.declared.cause.LineCause.{LineCause}
-use Rattle.ptu_lines.specs.declared.cause.LineCause.TheVariants as lines
+use Rattle.ptu_script.specs.Cause.{cause_of_line as script_cause}
 use Rattle.ptu_script.specs.declared.cause.Cause.{Cause}
 use Rattle.ptu_script.specs.declared.cause.Cause.TheVariants as scripts
 use Rattle.ptu_pool_run.specs.declared.cause.PoolCause.{PoolCause}
@@ -22,15 +22,6 @@ text_of Overlap = codes "overlap"
 text_of Over = codes "over"
 text_of Number = codes "number"
 
--- the cause of the same name
-abbrev pub cause_of_line : LineCause → PoolCause
-cause_of_line lines.Size = Size
-cause_of_line lines.Long = Long
-cause_of_line lines.Text = Text
-cause_of_line lines.Word = Word
-cause_of_line lines.Count = Count
-cause_of_line (lines.Field number) = Field number
-
 -- the cause of the same name; a line that is read names no node and no judge
 abbrev pub cause_of_script : Cause → PoolCause
 cause_of_script scripts.Size = Size
@@ -44,3 +35,7 @@ cause_of_script scripts.Node = Word
 cause_of_script scripts.Full = Full
 cause_of_script scripts.Number = Number
 cause_of_script scripts.Stock = Word
+
+-- the cause of the same name
+abbrev pub cause_of_line : LineCause → PoolCause
+cause_of_line cause = cause_of_script (script_cause cause)

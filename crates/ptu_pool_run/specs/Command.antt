@@ -1,5 +1,5 @@
 -- What a line of a script of pools commands, or why it is refused. The forms are the project's own choice.
-use Rattle.std.specs.Prelude.{ℕ, ◌==◌, if◌then◌else◌, List, [], length, Option, Some, None, Result, Ok, Err, unwrap_or}
+use Rattle.std.specs.Prelude.{◌≡◌, ℕ, ◌==◌, if◌then◌else◌, List, [], length, Option, Some, None, Result, Ok, Err, unwrap_or}
 use Rattle.ptu_lines.specs.Words.{words_of, word_of, ip_of, octets_of}
 use Rattle.ptu_script.specs.declared.cause.Cause.{Cause}
 use Rattle.ptu_script.specs.declared.cause.Cause.TheVariants.{Word, Count}
@@ -51,3 +51,7 @@ command_of line =
     else do
       command ← command_by (verb_named (unwrap_or (word_of line 1) [])) line
       Ok (Some command)
+
+-- a line is refused for this cause
+abbrev pub IsRefused : List ℕ → Cause → Type 0
+IsRefused line cause = command_of line ≡ Err cause

@@ -24,6 +24,12 @@ pub record GoOn (old new : KeptPools MemoryPort) : Type 0 where
   pub stand : (config : GmConfig) (events : List PoolEvent) → StandFor config old events
       → StandFor config new events
 
+-- and nothing more stands in a port, nor is any send more to fail
+pub record GoOnIdle (old new : KeptPools MemoryPort) : Type 0 where
+  pub go_on : GoOn old new
+  pub idle : AreAllIdle old → AreAllIdle new
+  pub sure : AreAllSure old → AreAllSure new
+
 -- the grandmasters of all other pools are as they were
 abbrev pub AreOthersSame : ℕ → KeptPools MemoryPort → KeptPools MemoryPort → Type 0
 AreOthersSame place old new =

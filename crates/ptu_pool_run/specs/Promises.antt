@@ -7,7 +7,7 @@ use Rattle.ptu_history.specs.History.{Record}
 use Rattle.ptu_pools.specs.Events.{over_all, pool_history}
 use Rattle.ptu_pools.specs.Pool.{capacity_at}
 use Rattle.ptu_script.specs.declared.command.GrandmasterSetup.{GrandmasterSetup}
-use Rattle.ptu_pool_run.specs.Sending.{config_of}
+use Rattle.ptu_nodes.specs.Standing.{config_of}
 use Rattle.ptu_pool_run.specs.Reading.{Told, events_of, opening, rules}
 use Rattle.ptu_pool_run.specs.Poured.{lines_of_pool, own_at, own_lines_by, poured_texts, told_by}
 

@@ -3,25 +3,15 @@
 use Rattle.std.specs.Prelude.{ℕ, ◌+◌, List, ◌∷◌, [], map, Option, Some, None}
 use Rattle.std.specs.List.{position}
 use Rattle.ptu_outside.specs.Departure.{Departure}
-use Rattle.ptu_profile.specs.declared.grandmaster.GmConfig.{GmConfig}
 use Rattle.ptu_pools.specs.declared.pool.Pool.{Pool}
 use Rattle.ptu_pools.specs.Pool.{capacity_at, is_in}
 use Rattle.ptu_pools.specs.Events.{PoolEvent, Came, Turned, pool_history}
 use Rattle.ptu_script.specs.declared.command.GrandmasterSetup.{GrandmasterSetup}
 use Rattle.ptu_world.specs.Deeds.{Grandmaster}
 use Rattle.ptu_world.specs.Grandmasters.{datagram_deed, turn_deed}
+use Rattle.ptu_nodes.specs.Standing.{config_of}
 use Rattle.ptu_pool_run.specs.declared.output.PoolLine.{PoolLine}
 use Rattle.ptu_pool_run.specs.declared.output.PoolLine.TheVariants.{Sent, Stranger}
-
--- the settings of the grandmaster of each pool; its timescale begins at 0
-abbrev pub config_of : GrandmasterSetup → GmConfig
-config_of setup = record {
-  identity = record { clock = setup.clock; port = setup.port };
-  domain = setup.domain;
-  class = setup.class;
-  max_duration = setup.max_duration;
-  epoch = 0;
-}
 
 -- the grandmaster of the pool at this place, after the events
 abbrev pub grandmaster_of : GrandmasterSetup → List Pool → List PoolEvent → ℕ → Grandmaster

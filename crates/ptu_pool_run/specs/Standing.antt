@@ -8,10 +8,11 @@ use Rattle.ptu_pools.specs.Refusal.{Share}
 use Rattle.ptu_pools.specs.Standing.{KeptPools, StandFor}
 use Rattle.ptu_script.specs.declared.command.GrandmasterSetup.{GrandmasterSetup}
 use Rattle.ptu_script.specs.Limits.{IsGrandmasterWithin}
+use Rattle.ptu_nodes.specs.Standing.{config_of}
 use Rattle.ptu_pool_run.specs.declared.pouring.Pouring.{Pouring}
 use Rattle.ptu_pool_run.specs.Reading.{At, Told, events_of}
 use Rattle.ptu_pool_run.specs.Output.{line_text}
-use Rattle.ptu_pool_run.specs.Sending.{config_of, lines_of_event}
+use Rattle.ptu_pool_run.specs.Sending.{lines_of_event}
 use Rattle.ptu_pool_run.specs.Ports.{AreAllIdle, AreAllSure}
 
 -- there was an event

@@ -64,14 +64,7 @@ impl From<LineCause> for PoolCause {
     ghost from_gives = { λ line cause. cause ≡ cause_of_line line };
 
     fn from(cause: LineCause) -> PoolCause {
-        match cause {
-            LineCause::Size => PoolCause::Size,
-            LineCause::Long => PoolCause::Long,
-            LineCause::Text => PoolCause::Text,
-            LineCause::Word => PoolCause::Word,
-            LineCause::Count => PoolCause::Count,
-            LineCause::Field(number) => PoolCause::Field(number),
-        }
+        PoolCause::from(Cause::from(cause))
     }
 }
 

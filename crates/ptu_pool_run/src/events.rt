@@ -6,7 +6,7 @@ ghost use Rattle.ptu_outside.specs.MemoryPort.{MemoryPort};
 ghost use Rattle.ptu_grandmaster.specs.Gm.{KeptGm};
 ghost use Rattle.ptu_nodes.specs.GrandmasterPorts.{HasReplyRoom};
 ghost use Rattle.ptu_pools.specs.{Events.{Came, PoolEvent, Turned as TurnedEvent}, Pool.{is_in}};
-ghost use Rattle.ptu_pool_run.specs.Ports.{AreAllIdle, AreAllSure, GoOn};
+ghost use Rattle.ptu_pool_run.specs.Ports.{GoOnIdle};
 ghost use Rattle.ptu_pool_run.specs.Standing.{AreSold, HasHappened};
 ghost use Rattle.ptu_script.specs.declared.command.GrandmasterSetup.{GrandmasterSetup};
 
@@ -26,13 +26,12 @@ fn place_of(pools: &[Pool], from: u32) -> Option<usize>
 }
 
 // Makes room for what the pool that the address is in may answer, if it is in any.
+#[tactic(auto, using(crate::proofs::Lent::go_on_same))]
 fn reserve_for(pools: &mut Pools<MemPort>, from: u32) -> Result<(), OutOfMemory>
     ensures room { OnOk result ((place : ℕ) (gm : KeptGm MemoryPort) →
         position (is_in from) pools.old.pools ≡ Some place →
         slice_get pools.new.gms place ≡ Some gm → HasReplyRoom gm) }
-    ensures go_on { GoOn pools.old pools.new }
-    ensures idle { AreAllIdle pools.old → AreAllIdle pools.new }
-    ensures sure { AreAllSure pools.old → AreAllSure pools.new }
+    ensures kept { GoOnIdle pools.old pools.new }
 {
     match place_of(pools.pools(), from) {
         None => Ok(()),

@@ -1,9 +1,9 @@
 //! Small lines and what they are. Each clause is one line; the bodies are empty.
 
-ghost use Rattle.std.specs.Prelude.{◌≡◌, ◌∷◌, [], Some, None, Ok, Err, codes};
+ghost use Rattle.std.specs.Prelude.{◌≡◌, ◌∷◌, [], Some, None, Ok, codes};
 ghost use Rattle.ptu_script.specs.declared.cause.Cause.TheVariants as causes;
 ghost use Rattle.ptu_outside.specs.declared.channel.Channel.TheVariants as channels;
-ghost use Rattle.ptu_pool_run.specs.{Command.{command_of}, Output.{line_text}};
+ghost use Rattle.ptu_pool_run.specs.{Command.{IsRefused, command_of}, Output.{line_text}};
 ghost use Rattle.ptu_pool_run.specs.declared.cause.PoolCause.TheVariants as refused;
 ghost use Rattle.ptu_pool_run.specs.declared.command.PoolCommand.TheVariants as commands;
 ghost use Rattle.ptu_pool_run.specs.declared.output.PoolLine.TheVariants as lines;
@@ -36,20 +36,20 @@ pub fn good_lines()
 /// Lines that are refused, each for the first cause that applies.
 #[tactic(auto, unfolding(crate::specs::Command::command_of, crate::specs::Command::fields_in, ptu_script::specs::Command::grandmaster_in))]
 pub fn refused_lines()
-    ensures word { command_of (codes "slave 1 2 3") ≡ Err causes.Word }
-    ensures word_of_a_blank { command_of (codes " turn 0 1 0") ≡ Err causes.Word }
-    ensures count { command_of (codes "pool 10.0.1.0 24") ≡ Err causes.Count }
-    ensures count_of_two_spaces { command_of (codes "turn  0 1 0") ≡ Err causes.Count }
-    ensures rx_of_a_node { command_of (codes "rx 0 10.0.0.1 10.0.1.17 -") ≡ Err causes.Count }
-    ensures bits { command_of (codes "pool 10.0.1.0 33 8") ≡ Err (causes.Field 3) }
-    ensures capacity { command_of (codes "pool 10.0.1.0 24 16777217") ≡ Err (causes.Field 4) }
-    ensures no_capacity { command_of (codes "pool 10.0.1.0 24 0") ≡ Err (causes.Field 4) }
-    ensures least_field { command_of (codes "pool 10.0.1 33 0") ≡ Err (causes.Field 2) }
-    ensures moment { command_of (codes "turn 4611686018427387904 0 4") ≡ Err (causes.Field 2) }
-    ensures pool_zero { command_of (codes "turn 0 0 0") ≡ Err (causes.Field 3) }
-    ensures pool_seventeen { command_of (codes "turn 0 17 0") ≡ Err (causes.Field 3) }
-    ensures table { command_of (codes "turn 0 1 4") ≡ Err (causes.Field 4) }
-    ensures octets { command_of (codes "rx 0 10.0.1.17 0c1") ≡ Err (causes.Field 4) }
+    ensures word { IsRefused (codes "slave 1 2 3") causes.Word }
+    ensures word_of_a_blank { IsRefused (codes " turn 0 1 0") causes.Word }
+    ensures count { IsRefused (codes "pool 10.0.1.0 24") causes.Count }
+    ensures count_of_two_spaces { IsRefused (codes "turn  0 1 0") causes.Count }
+    ensures rx_of_a_node { IsRefused (codes "rx 0 10.0.0.1 10.0.1.17 -") causes.Count }
+    ensures bits { IsRefused (codes "pool 10.0.1.0 33 8") (causes.Field 3) }
+    ensures capacity { IsRefused (codes "pool 10.0.1.0 24 16777217") (causes.Field 4) }
+    ensures no_capacity { IsRefused (codes "pool 10.0.1.0 24 0") (causes.Field 4) }
+    ensures least_field { IsRefused (codes "pool 10.0.1 33 0") (causes.Field 2) }
+    ensures moment { IsRefused (codes "turn 4611686018427387904 0 4") (causes.Field 2) }
+    ensures pool_zero { IsRefused (codes "turn 0 0 0") (causes.Field 3) }
+    ensures pool_seventeen { IsRefused (codes "turn 0 17 0") (causes.Field 3) }
+    ensures table { IsRefused (codes "turn 0 1 4") (causes.Field 4) }
+    ensures octets { IsRefused (codes "rx 0 10.0.1.17 0c1") (causes.Field 4) }
 {}
 
 /// One line of output of each form.

@@ -12,12 +12,13 @@ ghost use Rattle.ptu_pool_run.specs.{Reading.{step, turned}, Standing.{StandsFor
 use crate::cause::PoolCause;
 use crate::command::PoolCommand;
 use crate::events::{receive, turn};
+use crate::fault::Stepped;
 use crate::selling::sell;
 use ptu_outside::MemPort;
 use ptu_pools::{Pool, Pools};
 use ptu_report::Texts;
 use ptu_script::GrandmasterSetup;
-use ptu_units::{Moment, OutOfMemory};
+use ptu_units::Moment;
 use std::alloc::Global;
 
 /// A grandmaster whose capacity is sold by pools. Between lines nothing stands in a port.
@@ -54,7 +55,7 @@ impl Pouring {
         command: PoolCommand<'_>,
         line: u64,
         texts: &mut Texts,
-    ) -> Result<Option<PoolCause>, OutOfMemory>
+    ) -> Stepped
         requires means { (told : Told) × StandsFor self.old told }
         requires limits { IsWithinLimits command }
         requires empty { texts.old ≡ [] }
@@ -95,7 +96,7 @@ impl Pouring {
     }
 
     // A pool is sold.
-    fn sell(&mut self, alloc: Global, pool: Pool) -> Result<Option<PoolCause>, OutOfMemory>
+    fn sell(&mut self, alloc: Global, pool: Pool) -> Stepped
         requires means { (told : Told) × StandsFor self.old told }
         requires capacity { IsCapacity pool.capacity }
         ensures { IfOk result (λ refused. (told : Told) → StandsFor self.old told →
@@ -124,7 +125,7 @@ impl Pouring {
         octets: &[u8],
         line: u64,
         texts: &mut Texts,
-    ) -> Result<Option<PoolCause>, OutOfMemory>
+    ) -> Stepped
         requires empty { texts.old ≡ [] }
         ensures { IfOk result (λ refused. (told : Told) → StandsFor self.old told →
             IsOutcome (behind_pools told.setup told.pools
@@ -147,7 +148,7 @@ impl Pouring {
         table: usize,
         line: u64,
         texts: &mut Texts,
-    ) -> Result<Option<PoolCause>, OutOfMemory>
+    ) -> Stepped
         requires pool { 1 ≤ pool }
         requires table { table < 4 }
         requires empty { texts.old ≡ [] }

@@ -6,7 +6,7 @@ ghost use Rattle.ptu_grandmaster.specs.Gm.{KeptGm, port_at, table_at, with_port}
 ghost use Rattle.ptu_nodes.specs.GrandmasterPorts.{HasReplyRoom, HasRoom, in_ports};
 ghost use Rattle.ptu_nodes.specs.Standing.{AreIdle};
 ghost use Rattle.ptu_pools.specs.Ported.{with_port_of};
-ghost use Rattle.ptu_pool_run.specs.Ports.{AreAllIdle, AreAllSure, AreOthersSame, GoOn, sent_texts};
+ghost use Rattle.ptu_pool_run.specs.Ports.{AreAllSure, AreOthersSame, GoOn, GoOnIdle, sent_texts};
 
 use crate::output::PoolLine;
 use ptu_lines::LentOctets;
@@ -31,9 +31,7 @@ fn reserve(
         HasRoom datagrams octets (port_at index gm)) }
     ensures rest { (port : MemoryPort)
         × (pools.new ≡ with_port_of place index port pools.old) }
-    ensures go_on { GoOn pools.old pools.new }
-    ensures idle { AreAllIdle pools.old → AreAllIdle pools.new }
-    ensures sure { AreAllSure pools.old → AreAllSure pools.new }
+    ensures kept { GoOnIdle pools.old pools.new }
 {
     pools.ports(place, index).reserve(datagrams, octets)
 }
@@ -47,9 +45,7 @@ pub fn reserve_replies(pools: &mut Pools<MemPort>, place: usize) -> Result<(), O
     requires { place < length pools.old.pools }
     ensures room { OnOk result ((gm : KeptGm MemoryPort) → slice_get pools.new.gms place ≡ Some gm →
         HasReplyRoom gm) }
-    ensures go_on { GoOn pools.old pools.new }
-    ensures idle { AreAllIdle pools.old → AreAllIdle pools.new }
-    ensures sure { AreAllSure pools.old → AreAllSure pools.new }
+    ensures kept { GoOnIdle pools.old pools.new }
 {
     reserve(pools, place, 0, 1, DELAY_RESP)?;
     reserve(pools, place, 1, 1, DELAY_RESP)?;
@@ -62,6 +58,7 @@ pub fn reserve_replies(pools: &mut Pools<MemPort>, place: usize) -> Result<(), O
 ///
 /// # Errors
 /// `OutOfMemory`.
+#[tactic(auto, using(crate::proofs::Lent::go_on_same))]
 pub fn reserve_turn(
     pools: &mut Pools<MemPort>,
     place: usize,
@@ -72,9 +69,7 @@ pub fn reserve_turn(
     ensures room { OnOk result ((gm : KeptGm MemoryPort) → slice_get pools.new.gms place ≡ Some gm →
         HasRoom (length (table_at table gm).rows) (length (table_at table gm).rows * 64)
         (table_at table gm).port) }
-    ensures go_on { GoOn pools.old pools.new }
-    ensures idle { AreAllIdle pools.old → AreAllIdle pools.new }
-    ensures sure { AreAllSure pools.old → AreAllSure pools.new }
+    ensures kept { GoOnIdle pools.old pools.new }
 {
     let datagrams = pools.count(place, table);
     let octets = datagrams.checked_mul(ANNOUNCE).ok_or(OutOfMemory)?;

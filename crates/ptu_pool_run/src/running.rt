@@ -1,13 +1,13 @@
 //! The program: each line of a script is read, and what it does is told.
 
-ghost use Rattle.std.specs.Prelude.{◌≡◌, ◌∷◌, ℕ, List, [], Some, IfOk, OnOk};
+ghost use Rattle.std.specs.Prelude.{◌≡◌, ℕ, List, Some};
 ghost use Rattle.ptu_report.specs.Runs.{HasRunThrough, IfWritten};
 ghost use Rattle.ptu_pool_run.specs.{Answers.{HasPoured}, Poured.{poured_texts}};
 ghost use Rattle.ptu_pool_run.specs.{Promises.{KeepsPools}, Reading.{opening, rules}};
 ghost use Rattle.ptu_pool_run.specs.Standing.{StandsFor};
 
 use crate::cause::PoolCause;
-use crate::fault::PoolRunFault;
+use crate::fault::{PoolRunFault, Stepped};
 use crate::output::PoolLine;
 use crate::pouring::Pouring;
 use crate::reading::read_pool_command;
@@ -47,13 +47,7 @@ impl Reporter for Pourer {
     ghost stands_for = { λ pourer told. StandsFor pourer.pouring told };
 
     #[tactic(auto, unfolding(crate::specs::Reading::rules))]
-    fn take(
-        &mut self,
-        alloc: Global,
-        number: u64,
-        line: &[u8],
-        texts: &mut Texts,
-    ) -> Result<Option<PoolCause>, OutOfMemory> {
+    fn take(&mut self, alloc: Global, number: u64, line: &[u8], texts: &mut Texts) -> Stepped {
         match read_pool_command(line, &mut self.room) {
             Ok(None) => Ok(None),
             Ok(Some(command)) => self.pouring.step(alloc, command, number, texts),
@@ -62,21 +56,13 @@ impl Reporter for Pourer {
     }
 
     #[tactic(auto, unfolding(crate::specs::Reading::rules))]
-    fn close(
-        &mut self,
-        _: Global,
-        lines: u64,
-        texts: &mut Texts,
-    ) -> Result<Option<PoolCause>, OutOfMemory> {
+    fn close(&mut self, _: Global, lines: u64, texts: &mut Texts) -> Stepped {
         texts.add(&PoolLine::End { lines })?;
         Ok(None)
     }
 
     #[tactic(auto, unfolding(crate::specs::Reading::rules))]
-    fn refuse(number: u64, cause: &PoolCause, texts: &mut Texts) -> Result<(), OutOfMemory>
-        requires { texts.old ≡ [] }
-        ensures { OnOk result (texts.new ≡ rules.refusal number cause.now ∷ []) }
-    {
+    fn refuse(number: u64, cause: &PoolCause, texts: &mut Texts) -> Result<(), OutOfMemory> {
         texts.add(&PoolLine::Bad {
             line: number,
             cause: *cause,
@@ -84,9 +70,7 @@ impl Reporter for Pourer {
     }
 
     #[tactic(auto, unfolding(crate::specs::Reading::rules))]
-    fn cause_of(cause: LineCause) -> PoolCause
-        ensures { result ≡ rules.cause_of cause }
-    {
+    fn cause_of(cause: LineCause) -> PoolCause {
         PoolCause::from(cause)
     }
 }

@@ -1,41 +1,21 @@
 //! Pools are sold one after the other.
 
 ghost use Rattle.std.specs.Prelude.{◌≡◌, ◌++◌, ◌∷◌, [], All, IfErr, IfOk, None, Some, length};
-ghost use Rattle.ptu_profile.specs.{Limits.{IsCapacity}, Grandmaster.{IsWithinLimits}};
+ghost use Rattle.ptu_profile.specs.Limits.{IsCapacity};
 ghost use Rattle.ptu_pools.specs.Refusal.{Share};
 ghost use Rattle.ptu_script.specs.Limits.{IsGrandmasterWithin};
-ghost use Rattle.ptu_pool_run.specs.Sending as sending;
 ghost use Rattle.ptu_pool_run.specs.{Selling.{refusal_of}, Standing.{AreSold}};
 
 use crate::cause::PoolCause;
-use ptu_header::PortIdentity;
+use ptu_nodes::config_of;
 use ptu_outside::MemPort;
 use ptu_pools::{Pool, Pools, PoolsFault};
-use ptu_profile::GmConfig;
 use ptu_script::GrandmasterSetup;
 use ptu_units::OutOfMemory;
 use std::alloc::Global;
 
 /// So many pools there are at most.
 const MOST: usize = 16;
-
-// The settings of the grandmaster of each pool. Its timescale begins at 0.
-fn config_of(setup: &GrandmasterSetup) -> GmConfig
-    requires { IsGrandmasterWithin setup.now }
-    ensures value { result ≡ sending.config_of setup.now }
-    ensures limits { IsWithinLimits result }
-{
-    GmConfig {
-        identity: PortIdentity {
-            clock: setup.clock,
-            port: setup.port,
-        },
-        domain: setup.domain,
-        class: setup.class,
-        max_duration: setup.max_duration,
-        epoch: 0,
-    }
-}
 
 // So many ports in memory, at which nothing waits and no call is to fail.
 fn idle_ports(alloc: Global, count: usize) -> Result<Vec<MemPort>, OutOfMemory>

@@ -1,6 +1,6 @@
 use Rattle.std.proofs.Common.{refl}
 use Rattle.std.proofs.lemmas.Result.{on_ok_weaker}
-use Rattle.ptu_pool_run.specs.Sending.{config_of}
+use Rattle.ptu_nodes.specs.Standing.{config_of}
 use Rattle.ptu_pool_run.proofs.Happening.{came_happened, on_ok_five, stranger_came}
 use Rattle.ptu_pool_run.proofs.events.receive.Goals.{in-Stranger, in-In}
 use Rattle.ptu_pool_run.proofs.events.receive.Goals as goal
@@ -13,16 +13,16 @@ returns c =
       | in-Stranger w ↦
           let took = rw w.in-Stranger.is at taken.took in
           rw (w.result-is, w.pools-is, w.texts-is) (on_ok_weaker w.add.result (λ says setup events sold.
-          stranger_came setup c.args.line events c.args.pools.now c.reserve_for.new.pools sold room.go_on room.idle room.sure
+          stranger_came setup c.args.line events c.args.pools.now c.reserve_for.new.pools sold room.kept
           c.args.at c.args.from c.args.octets.now c.take.new.self c.args.texts.now w.add.new.self took.0 took.1
-          (taken.stands (config_of setup) events (room.go_on.stand (config_of setup) events sold.stand)) says)
+          (taken.stands (config_of setup) events (room.kept.go_on.stand (config_of setup) events sold.stand)) says)
           w.add.ensures.added)
       | in-In w ↦
           let took = rw w.in-In.is at taken.took in
           rw (w.result-is, w.pools-is, w.texts-is) (on_ok_five w.tell_ports.result (λ last others says idle sure setup events sold.
-          came_happened setup c.args.line events c.args.pools.now c.reserve_for.new.pools sold room.go_on room.idle room.sure
+          came_happened setup c.args.line events c.args.pools.now c.reserve_for.new.pools sold room.kept
           _ (λ port. refl) (λ port ds s. s) (λ port s. s) c.args.at c.args.from w.in-In.place c.args.octets.now _ c.take.new.self w.tell_ports.new.pools c.args.texts.now w.tell_ports.new.texts
           room.room took.0 took.1
-          (taken.stands (config_of setup) events (room.go_on.stand (config_of setup) events sold.stand)) last others says idle sure)
+          (taken.stands (config_of setup) events (room.kept.go_on.stand (config_of setup) events sold.stand)) (record { last = last; others = others; says = says; emptied = idle; kept_sure = sure }))
           w.tell_ports.ensures.go_on w.tell_ports.ensures.others w.tell_ports.ensures.says w.tell_ports.ensures.idle w.tell_ports.ensures.sure)
     ]

@@ -1,24 +1,20 @@
-use Rattle.std.proofs.Common.{◌+◌, ◌≤◌, refl, sym, ap, length, List, subst}
+use Rattle.std.proofs.Common.{◌≡◌, ◌+◌, ◌≤◌, refl, sym, ap, length, List, Some, slice_get, subst}
 use Rattle.ptu_outside.specs.Departure.{Departure}
 use Rattle.ptu_outside.specs.MemoryPort.{MemoryPort, octets_of}
+use Rattle.ptu_grandmaster.specs.Gm.{KeptGm}
 use Rattle.ptu_nodes.specs.GrandmasterPorts.{HasRoom}
 use Rattle.ptu_pool_run.proofs.Lent.{lent_is, on_ok_two, port_left, still_idle, still_sure}
 use Rattle.ptu_pool_run.proofs.room.reserve.Goals as goal
 
-pub returns-clause-go_on : goal.returns-clause-go_on
-returns-clause-go_on c = record { pools = refl; stand = c.ports.ensures.stands c.reserve.new.self }
-
-pub returns-clause-idle : goal.returns-clause-idle
-returns-clause-idle c =
-    still_idle c.args.pools.now c.args.place c.args.index c.ports.result.now c.reserve.new.self
-    (λ gm at. lent_is c.args.pools.now.gms c.args.place c.args.index gm c.ports.result.now at c.ports.ensures.value)
-    (ap (λ (p : MemoryPort). p.sent) c.reserve.ensures.same)
-
-pub returns-clause-sure : goal.returns-clause-sure
-returns-clause-sure c =
-    still_sure c.args.pools.now c.args.place c.args.index c.ports.result.now c.reserve.new.self
-    (λ gm at. lent_is c.args.pools.now.gms c.args.place c.args.index gm c.ports.result.now at c.ports.ensures.value)
-    (ap (λ (p : MemoryPort). p.failing_sends) c.reserve.ensures.same)
+pub returns-clause-kept : goal.returns-clause-kept
+returns-clause-kept c =
+    let lent = λ (gm : KeptGm MemoryPort) (at : slice_get c.args.pools.now.gms c.args.place ≡ Some gm).
+    lent_is c.args.pools.now.gms c.args.place c.args.index gm c.ports.result.now at c.ports.ensures.value in
+    record {
+      go_on = record { pools = refl; stand = c.ports.ensures.stands c.reserve.new.self };
+      idle = still_idle c.args.pools.now c.args.place c.args.index c.ports.result.now c.reserve.new.self lent (ap (λ (p : MemoryPort). p.sent) c.reserve.ensures.same);
+      sure = still_sure c.args.pools.now c.args.place c.args.index c.ports.result.now c.reserve.new.self lent (ap (λ (p : MemoryPort). p.failing_sends) c.reserve.ensures.same);
+    }
 
 pub returns-clause-rest : goal.returns-clause-rest
 returns-clause-rest c = (c.reserve.new.self, refl)

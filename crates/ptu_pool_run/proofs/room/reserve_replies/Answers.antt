@@ -2,26 +2,22 @@ use Rattle.std.proofs.Common.{ap}
 use Rattle.std.proofs.lemmas.Result.{on_ok_weaker}
 use Rattle.ptu_outside.specs.MemoryPort.{MemoryPort}
 use Rattle.ptu_pools.specs.Standing.{KeptPools}
-use Rattle.ptu_pool_run.proofs.Lent.{room_for_replies}
+use Rattle.ptu_pool_run.proofs.Lent.{go_on_twice as both, room_for_replies}
 use Rattle.ptu_pool_run.proofs.room.reserve_replies.Goals as goal
 
-pub returns-in_err-reserve-3-clause-idle : goal.returns-in_err-reserve-3-clause-idle
-returns-in_err-reserve-3-clause-idle c = λ h. c.reserve-3.ensures.idle (c.reserve-2.ensures.idle (c.reserve.ensures.idle h))
+pub returns-in_err-reserve-2-clause-kept : goal.returns-in_err-reserve-2-clause-kept
+returns-in_err-reserve-2-clause-kept c = both c.reserve.ensures.kept c.reserve-2.ensures.kept
 
-pub returns-in_err-reserve-4-clause-idle : goal.returns-in_err-reserve-4-clause-idle
-returns-in_err-reserve-4-clause-idle c = λ h. c.reserve-4.ensures.idle (c.reserve-3.ensures.idle (c.reserve-2.ensures.idle (c.reserve.ensures.idle h)))
+pub returns-in_err-reserve-3-clause-kept : goal.returns-in_err-reserve-3-clause-kept
+returns-in_err-reserve-3-clause-kept c = both (both c.reserve.ensures.kept c.reserve-2.ensures.kept) c.reserve-3.ensures.kept
 
-pub returns-clause-idle : goal.returns-clause-idle
-returns-clause-idle c = λ h. c.reserve-5.ensures.idle (c.reserve-4.ensures.idle (c.reserve-3.ensures.idle (c.reserve-2.ensures.idle (c.reserve.ensures.idle h))))
+pub returns-in_err-reserve-4-clause-kept : goal.returns-in_err-reserve-4-clause-kept
+returns-in_err-reserve-4-clause-kept c =
+    both (both (both c.reserve.ensures.kept c.reserve-2.ensures.kept) c.reserve-3.ensures.kept) c.reserve-4.ensures.kept
 
-pub returns-in_err-reserve-3-clause-sure : goal.returns-in_err-reserve-3-clause-sure
-returns-in_err-reserve-3-clause-sure c = λ h. c.reserve-3.ensures.sure (c.reserve-2.ensures.sure (c.reserve.ensures.sure h))
-
-pub returns-in_err-reserve-4-clause-sure : goal.returns-in_err-reserve-4-clause-sure
-returns-in_err-reserve-4-clause-sure c = λ h. c.reserve-4.ensures.sure (c.reserve-3.ensures.sure (c.reserve-2.ensures.sure (c.reserve.ensures.sure h)))
-
-pub returns-clause-sure : goal.returns-clause-sure
-returns-clause-sure c = λ h. c.reserve-5.ensures.sure (c.reserve-4.ensures.sure (c.reserve-3.ensures.sure (c.reserve-2.ensures.sure (c.reserve.ensures.sure h))))
+pub returns-clause-kept : goal.returns-clause-kept
+returns-clause-kept c =
+    both (both (both (both c.reserve.ensures.kept c.reserve-2.ensures.kept) c.reserve-3.ensures.kept) c.reserve-4.ensures.kept) c.reserve-5.ensures.kept
 
 pub returns-clause-room : goal.returns-clause-room
 returns-clause-room c = on_ok_weaker c.reserve-5.result (λ room gm now.

@@ -1,37 +1,26 @@
-use Rattle.std.proofs.Common.{rules, arith, ◌≡◌, ◌∙◌, ◌<◌, ◌++◌, ◌∷◌, [], true, length, ap, subst}
-use Rattle.ptu_pools.specs.Pool.{is_network}
-use Rattle.ptu_pools.specs.Refusal.{IsRefused, Share}
+use Rattle.std.proofs.Common.{rules, arith, ◌≡◌, ◌∙◌, ◌++◌, ◌∷◌, [], ap, subst}
+use Rattle.ptu_pools.specs.Refusal.{Share}
 use Rattle.ptu_pools.specs.Standing.{StandFor}
 use Rattle.ptu_pools.specs.declared.fault.PoolsFault.TheVariants.{OutOfMemory}
 use Rattle.ptu_profile.specs.declared.grandmaster.GmConfig.{GmConfig}
 use Rattle.ptu_pool_run.proofs.Idle.{sold_fresh}
-use Rattle.ptu_pool_run.proofs.Sold.{cause_of_fault, refused_for}
+use Rattle.ptu_pool_run.proofs.Sold.{cause_of_fault, refused_so}
 use Rattle.ptu_pool_run.proofs.selling.sell.Goals as goal
 
 pub returns-in-Err-Overlap-clause-refused : goal.returns-in-Err-Overlap-clause-refused
 returns-in-Err-Overlap-clause-refused c =
-    let network : is_network c.args.pool ≡ true = search rules in
-    let few : length c.args.before.now < 16 = omega arith in
-    let all : c.deref.result.now ≡ c.args.before.now ++ c.args.pool ∷ [] = c.deref.ensures.value ∙ c.in_ok-all.ensures in
-    refused_for c.args.setup.now.capacity c.args.before.now c.args.pool c.requires.share network few c.in-Err-Overlap.field-0
-    (subst (λ l. IsRefused c.args.setup.now.capacity l c.in-Err-Overlap.field-0) all c.in-Err-Overlap.ensures.refused)
-    ∙ ap cause_of_fault c.in-Err-Overlap.field-0-is
+    refused_so c.args.setup.now.capacity c.args.before.now c.deref.result.now c.args.pool c.requires.share (search rules) (omega arith)
+    (c.deref.ensures.value ∙ c.in_ok-all.ensures) c.in-Err-Overlap.field-0 c.in-Err-Overlap.ensures.refused ∙ ap cause_of_fault c.in-Err-Overlap.field-0-is
 
 pub returns-in-Err-Over-clause-refused : goal.returns-in-Err-Over-clause-refused
 returns-in-Err-Over-clause-refused c =
-    let network : is_network c.args.pool ≡ true = search rules in
-    let few : length c.args.before.now < 16 = omega arith in
-    let all : c.deref.result.now ≡ c.args.before.now ++ c.args.pool ∷ [] = c.deref.ensures.value ∙ c.in_ok-all.ensures in
-    refused_for c.args.setup.now.capacity c.args.before.now c.args.pool c.requires.share network few c.in-Err-Over.field-0
-    (subst (λ l. IsRefused c.args.setup.now.capacity l c.in-Err-Over.field-0) all c.in-Err-Over.ensures.refused)
-    ∙ ap cause_of_fault c.in-Err-Over.field-0-is
+    refused_so c.args.setup.now.capacity c.args.before.now c.deref.result.now c.args.pool c.requires.share (search rules) (omega arith)
+    (c.deref.ensures.value ∙ c.in_ok-all.ensures) c.in-Err-Over.field-0 c.in-Err-Over.ensures.refused ∙ ap cause_of_fault c.in-Err-Over.field-0-is
 
 pub returns-in-Ok-clause-none : goal.returns-in-Ok-clause-none
 returns-in-Ok-clause-none c =
-    let network : is_network c.args.pool ≡ true = search rules in
-    let few : length c.args.before.now < 16 = omega arith in
-    let all : c.deref.result.now ≡ c.args.before.now ++ c.args.pool ∷ [] = c.deref.ensures.value ∙ c.in_ok-all.ensures in
-    refused_for c.args.setup.now.capacity c.args.before.now c.args.pool c.requires.share network few OutOfMemory (subst (Share c.args.setup.now.capacity) all c.in-Ok.ensures.share)
+    refused_so c.args.setup.now.capacity c.args.before.now c.deref.result.now c.args.pool c.requires.share (search rules) (omega arith)
+    (c.deref.ensures.value ∙ c.in_ok-all.ensures) OutOfMemory c.in-Ok.ensures.share
 
 pub returns-in-Ok-clause-sold : goal.returns-in-Ok-clause-sold
 returns-in-Ok-clause-sold c =

@@ -1,10 +1,10 @@
-use Rattle.std.proofs.Common.{rules, refl, ap, ◌∙◌}
+use Rattle.std.proofs.Common.{rules, refl, sym, ap, ◌∙◌}
 use Rattle.ptu_nodes.proofs.grandmaster_node.GrandmasterNode.new.Goals as goal
 
 pub returns-clause-stands : goal.returns-clause-stands
 returns-clause-stands c = record {
   ip = refl;
-  config = search rules;
+  config = sym (c.new-gm.ensures.config ∙ c.config_of.ensures.value);
   stands = search (rules, c.new-gm.ensures.stands);
   idle = (
     ap (λ p. p.sent) c.new-gm.ensures.ports.0 ∙ c.idle_port.ensures.idle,
