@@ -1,5 +1,5 @@
 -- What a line of a report says. The forms are the project's own choice.
-use Rattle.std.specs.Prelude.{◌≡◌, ℕ, Bool, ◌||◌, if◌then◌else◌, List, [], ◌∷◌, Option, Some, None, codes}
+use Rattle.std.specs.Prelude.{◌≡◌, ℕ, Bool, ◌||◌, if◌then◌else◌, List, [], ◌∷◌, ◌++◌, Option, Some, None, codes}
 use Rattle.std.specs.List.{list_any}
 use Rattle.ptu_lines.specs.Words.{ip_of}
 use Rattle.ptu_audit_lines.specs.declared.entry.Decision.{Decision}
@@ -225,3 +225,7 @@ line_of line = first_of (numbered_in line ∷ end_in line ∷ [])
 -- the line has this number, and says nothing of a grandmaster's promises
 abbrev pub IsOther : ℕ → List ℕ → Type 0
 IsOther number line = line_of line ≡ Some (lines.At number entries.Other)
+
+-- so it is with a line that says why a datagram was ignored
+abbrev pub IsIgnored : List ℕ → Type 0
+IsIgnored cause = IsOther 2 (codes "2 ignored " ++ cause)

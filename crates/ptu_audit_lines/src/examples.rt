@@ -3,7 +3,7 @@
 
 ghost use Rattle.std.specs.Prelude.{◌≡◌, ◌∷◌, [], Some, None, pos, negsuc, codes};
 ghost use Rattle.ptu_units.specs.declared.kind.Kind.TheVariants as kinds;
-ghost use Rattle.ptu_audit_lines.specs.Entry.{IsOther, line_of};
+ghost use Rattle.ptu_audit_lines.specs.Entry.{IsIgnored, IsOther, line_of};
 ghost use Rattle.ptu_audit_lines.specs.declared.entry.Decision.TheVariants as decisions;
 ghost use Rattle.ptu_audit_lines.specs.declared.entry.Entry.TheVariants as entries;
 ghost use Rattle.ptu_audit_lines.specs.declared.entry.ReportLine.TheVariants as lines;
@@ -74,20 +74,20 @@ pub fn lines_of_nodes()
 
 /// Lines that say nothing of a grandmaster's promises: why a datagram was ignored.
 pub fn lines_of_ignored_datagrams()
-    ensures type_of_no_message { IsOther 2 (codes "2 ignored type 13") }
-    ensures other { IsOther 2 (codes "2 ignored other 1") }
-    ensures stranger { IsOther 2 (codes "2 ignored stranger") }
-    ensures domain { IsOther 2 (codes "2 ignored domain 5") }
-    ensures target { IsOther 2 (codes "2 ignored target") }
-    ensures short { IsOther 2 (codes "2 ignored fault short 33") }
-    ensures version { IsOther 2 (codes "2 ignored fault version 1") }
-    ensures sdo { IsOther 2 (codes "2 ignored fault sdo 3") }
-    ensures length { IsOther 2 (codes "2 ignored fault length 55 54") }
-    ensures body { IsOther 2 (codes "2 ignored fault body 43 44") }
-    ensures too_many { IsOther 2 (codes "2 ignored fault toomany 172") }
-    ensures tlv_short { IsOther 2 (codes "2 ignored fault tlv 54 short 3") }
-    ensures tlv_overrun { IsOther 2 (codes "2 ignored fault tlv 44 overrun 6 5") }
-    ensures tlv_length { IsOther 2 (codes "2 ignored fault tlv 44 length 4 5") }
+    ensures type_of_no_message { IsIgnored (codes "type 13") }
+    ensures other { IsIgnored (codes "other 1") }
+    ensures stranger { IsIgnored (codes "stranger") }
+    ensures domain { IsIgnored (codes "domain 5") }
+    ensures target { IsIgnored (codes "target") }
+    ensures short { IsIgnored (codes "fault short 33") }
+    ensures version { IsIgnored (codes "fault version 1") }
+    ensures sdo { IsIgnored (codes "fault sdo 3") }
+    ensures length { IsIgnored (codes "fault length 55 54") }
+    ensures body { IsIgnored (codes "fault body 43 44") }
+    ensures too_many { IsIgnored (codes "fault toomany 172") }
+    ensures tlv_short { IsIgnored (codes "fault tlv 54 short 3") }
+    ensures tlv_overrun { IsIgnored (codes "fault tlv 44 overrun 6 5") }
+    ensures tlv_length { IsIgnored (codes "fault tlv 44 length 4 5") }
 {}
 
 /// Lines of none of the forms.
