@@ -9,19 +9,14 @@ use Rattle.ptu_shard.specs.contracts.rows.KeyPartialEq.TheImpl as keys
 
 kind_eq : (j k : Kind) → kinds.eq-value.it j k ≡ same_kind j k
 kind_eq Announce Announce = refl
-kind_eq Announce Sync = refl
-kind_eq Announce DelayResp = refl
-kind_eq Sync Announce = refl
 kind_eq Sync Sync = refl
-kind_eq Sync DelayResp = refl
-kind_eq DelayResp Announce = refl
-kind_eq DelayResp Sync = refl
 kind_eq DelayResp DelayResp = refl
-
-and_assoc : (p q r : Bool) → (p && (q && r)) ≡ ((p && q) && r)
-and_assoc true q r = refl
-and_assoc false q r = refl
+kind_eq j k = refl
 
 pub key_eq : (a b : Key) → keys.eq-value.it a b ≡ same_lease a.client a.kind b.client b.kind
 key_eq a b =
     ap₂ (λ c k. c && k) (and_assoc (eqb a.client.ip b.client.ip) (eqb a.client.clock b.client.clock) (eqb a.client.port b.client.port)) (kind_eq a.kind b.kind)
+  where
+    and_assoc : (p q r : Bool) → (p && (q && r)) ≡ ((p && q) && r)
+    and_assoc true q r = refl
+    and_assoc false q r = refl

@@ -30,27 +30,20 @@ use Rattle.ptu_history.proofs.Moments.{table_part-le}
 abbrev spent_if : (Row → Bool) → ℕ → Row → Row
 spent_if test x row = cond (test row) (spent_row x row) row
 
+-- what a message leaves of a row stays, whether one is sent or not
+left_alone : {A : Type 0} (field : Row → A) (x : ℕ) (row : Row) → field (spent_row x row) ≡ field row → (b : Bool) → field (cond b (spent_row x row) row) ≡ field row
+left_alone field x row same true = same
+left_alone field x row same false = refl
+
 -- a message leaves the client, kind and logarithm
 same_client_is : (test : Row → Bool) (x : ℕ) (row : Row) → (spent_if test x row).client ≡ row.client
-same_client_is test x row = at (test row)
-  where
-    at : (b : Bool) → (cond b (spent_row x row) row).client ≡ row.client
-    at true = refl
-    at false = refl
+same_client_is test x row = left_alone (λ (r : Row). r.client) x row refl (test row)
 
 same_kind_is : (test : Row → Bool) (x : ℕ) (row : Row) → (spent_if test x row).kind ≡ row.kind
-same_kind_is test x row = at (test row)
-  where
-    at : (b : Bool) → (cond b (spent_row x row) row).kind ≡ row.kind
-    at true = refl
-    at false = refl
+same_kind_is test x row = left_alone (λ (r : Row). r.kind) x row refl (test row)
 
 same_rate_is : (test : Row → Bool) (x : ℕ) (row : Row) → rate_of (spent_if test x row).lease.log ≡ rate_of row.lease.log
-same_rate_is test x row = at (test row)
-  where
-    at : (b : Bool) → rate_of (cond b (spent_row x row) row).lease.log ≡ rate_of row.lease.log
-    at true = refl
-    at false = refl
+same_rate_is test x row = left_alone (λ (r : Row). rate_of r.lease.log) x row refl (test row)
 
 pub share_of-spent : (test : Row → Bool) (x : ℕ) (rows : List Row) → share_of (spent_where test x rows) ≡ share_of rows
 share_of-spent test x [] = refl
