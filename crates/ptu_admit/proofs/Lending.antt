@@ -93,6 +93,28 @@ each_passes n j r (t ∷ lent) history of none s =
       each_passes n j r lent history of apart.1 s.1,
     )
 
+module _ (b n j : ℕ) (history more : List Record)
+    (passes : (t : Lent) → eqb j t.index ≡ false → StandsAt b t.index t.rows t.moment history → StandsAt n t.index t.rows t.moment more) where
+  others_pass : (lent : List Lent) → is_lent j lent ≡ false → EachStandsAt b lent history → EachStandsAt n lent more
+  others_pass [] none s = tt
+  others_pass (t ∷ lent) none s =
+      let apart : (eqb t.index j ≡ false) × (is_lent j lent ≡ false) = or_first (eqb t.index j) (is_lent j lent) none in
+      (passes t (same_false j t.index apart.0) s.0, others_pass lent apart.1 s.1)
+
+  -- where one of the lent tables goes on, and the others pass what it goes on with, each goes on
+  pub each_goes_on : (before : List Lent) (old new : Lent) (after : List Lent) → is_lent j (before ++ after) ≡ false →
+      (StandsAt b old.index old.rows old.moment history → StandsAt n new.index new.rows new.moment more) →
+      EachStandsAt b (before ++ old ∷ after) history → EachStandsAt n (before ++ new ∷ after) more
+  each_goes_on [] old new after none goes_on s = (goes_on s.0, others_pass after none s.1)
+  each_goes_on (t ∷ before) old new after none goes_on s =
+      let apart : (eqb t.index j ≡ false) × (is_lent j (before ++ after) ≡ false) = or_first (eqb t.index j) (is_lent j (before ++ after)) none in
+      (passes t (same_false j t.index apart.0) s.0, each_goes_on before old new after apart.1 goes_on s.1)
+
+-- each of the lent tables stands for the history
+pub one_of_each : (n : ℕ) (history : List Record) (before : List Lent) (t : Lent) (after : List Lent) → EachStandsAt n (before ++ t ∷ after) history → StandsAt n t.index t.rows t.moment history
+one_of_each n history [] t after s = s.0
+one_of_each n history (u ∷ before) t after s = one_of_each n history before t after s.1
+
 -- so do the grants of the clients of other tables
 pub last_passes : (j : ℕ) (r : Record) (history : List Record) (g : Grant) → IsOfTable j r → eqb j (table_of g.client) ≡ false → IsLastDecision (history ++ r ∷ []) g → IsLastDecision history g
 last_passes j r history g of other last =

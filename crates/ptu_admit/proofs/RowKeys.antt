@@ -18,6 +18,8 @@ use Rattle.ptu_shard.specs.declared.lease.Lease.{Lease}
 use Rattle.ptu_shard.specs.declared.lease.Row.{Row}
 use Rattle.ptu_shard.specs.Row.{IsDistinctByLease, is_row_of, lease_of, share_of}
 use Rattle.ptu_shard.proofs.RowLists.{Differ, HasSameMembers, IsPresent, lease_cases, missing_none, present_some, same_permuted}
+use Rattle.ptu_admit.specs.Lent.{Lent, shares}
+use Rattle.ptu_admit.specs.Newest.{rows_in}
 use Rattle.ptu_admit.specs.Rows.{has_live_row, kept_rate, live_rows}
 use Rattle.ptu_shard.proofs.SoFar.{length-filter-le}
 
@@ -90,6 +92,11 @@ rate_of-positive : (l : ℤ) → 0 < rate_of l
 rate_of-positive (pos n) = pow_pos (4 - n)
 rate_of-positive (negsuc n) = pow_pos (5 + n)
 
-pub length-share : (xs : List Row) → length xs ≤ share_of xs
+length-share : (xs : List Row) → length xs ≤ share_of xs
 length-share [] = omega arith
 length-share (x ∷ xs) = omega (arith, length-share xs, rate_of-positive x.lease.log, sum_by-cons (λ (row : Row). rate_of row.lease.log) x xs)
+
+-- so lent tables have no more rows than their shares sum to
+pub rows_in-shares : (lent : List Lent) → rows_in lent ≤ shares lent
+rows_in-shares [] = omega arith
+rows_in-shares (t ∷ lent) = omega (arith, length-share t.rows, rows_in-shares lent)

@@ -1,6 +1,6 @@
 -- Sums of rates over lists of grants and of rows.
 use Rattle.std.proofs.Common.{◌≡◌, ◌∙◌, ◌⊎◌, inl, inr, ℕ, ◌+◌, ◌≤◌, List, [], ◌∷◌, map, Bool, true, false, not, cond, refl, sym, ap, subst, arith, Some}
-use Rattle.std.specs.List.{Contains, filter, find, sum_by}
+use Rattle.std.specs.List.{Contains, filter, find}
 use Rattle.std.specs.List.Sorted.{IsPermutation}
 use Rattle.std.specs.Option.{option_map, option_map_or}
 use Rattle.std.proofs.lemmas.Bool.{true≢false}
@@ -17,6 +17,7 @@ use Rattle.ptu_history.proofs.Keys.{same_lease-refl, same_lease-true}
 use Rattle.ptu_history.proofs.Members.{Differ}
 use Rattle.ptu_history.proofs.Standing.{Contains-filter}
 use Rattle.ptu_history.proofs.Unique.{Apart, Apart-from_pairs, Contains-cons_cases, Contains-first, Contains-later}
+use Rattle.ptu_laws.proofs.Sums.{sum-filter}
 use Rattle.ptu_shard.specs.declared.lease.Row.{Row}
 use Rattle.ptu_shard.specs.declared.lease.Lease.{Lease}
 use Rattle.ptu_shard.specs.Row.{IsDistinctByLease, is_row_of, share_of, without_row}
@@ -120,19 +121,11 @@ pub share_of-without : (c : Client) (k : Kind) (xs : List Row) → IsDistinctByL
 share_of-without c k xs distinct = without_apart c k xs (Apart-from_pairs rows.Differ xs distinct)
 
 -- a sum does not know the order, also of a filter
-pub sum_by-filter : {A : Type 0} (f : A → ℕ) (p : A → Bool) (xs : List A) → sum_by f (filter p xs) ≡ sum_by (λ x. cond (p x) (f x) 0) xs
-sum_by-filter f p [] = refl
-sum_by-filter f p (x ∷ xs) = at (p x) (sum_by-filter f p xs) ∙ sym (sum_by-cons (λ y. cond (p y) (f y) 0) x xs)
-  where
-    at : (b : Bool) → sum_by f (filter p xs) ≡ sum_by (λ x. cond (p x) (f x) 0) xs → sum_by f (cond b (x ∷ filter p xs) (filter p xs)) ≡ cond b (f x) 0 + sum_by (λ x. cond (p x) (f x) 0) xs
-    at true ih = sum_by-cons f x (filter p xs) ∙ ap (λ n. f x + n) ih
-    at false ih = omega (arith, ih)
-
 pub share_of-permuted : (xs ys : List Row) → IsPermutation xs ys → share_of ys ≡ share_of xs
 share_of-permuted xs ys h = sum_by-IsPermutation row_rate xs ys h
 
 pub share_of-filter-permuted : (p : Row → Bool) (xs ys : List Row) → IsPermutation xs ys → share_of (filter p ys) ≡ share_of (filter p xs)
-share_of-filter-permuted p xs ys h = sum_by-filter row_rate p ys ∙ sum_by-IsPermutation (λ row. cond (p row) (row_rate row) 0) xs ys h ∙ sym (sum_by-filter row_rate p xs)
+share_of-filter-permuted p xs ys h = sum-filter p row_rate ys ∙ sum_by-IsPermutation (λ row. cond (p row) (row_rate row) 0) xs ys h ∙ sym (sum-filter p row_rate xs)
 
 -- so what a client and kind hold of distinct rows
 pub kept_rate-permuted : (c : Client) (k : Kind) (xs ys : List Row) → IsPermutation xs ys → IsDistinctByLease xs → IsDistinctByLease ys → kept_rate c k ys ≡ kept_rate c k xs
@@ -147,3 +140,6 @@ kept_rate-permuted c k xs ys h dx dy = omega (
 -- what is left of a table holds no more
 pub share_of-left : (p : Row → Bool) (xs ys : List Row) → IsPermutation (filter p xs) ys → share_of ys ≤ share_of xs
 share_of-left p xs ys h = omega (arith, share_of-permuted (filter p xs) ys h, rows.share_of-filter-le p xs)
+
+pub share_of-removed : (c : Client) (k : Kind) (xs ys : List Row) → IsPermutation (without_row c k xs) ys → share_of ys ≤ share_of xs
+share_of-removed c k xs ys h = share_of-left (λ row. not (is_row_of c k row)) xs ys h

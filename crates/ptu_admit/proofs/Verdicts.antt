@@ -1,6 +1,7 @@
 -- Verdicts by the rates of the other live grants.
 use Rattle.std.proofs.Common.{◌≡◌, ◌∙◌, inl, ℕ, zero, suc, ◌+◌, ◌-◌, ◌<◌, ◌≤◌, ◌++◌, List, [], ◌∷◌, append-nil, Bool, true, false, not, ◌||◌, cond, eqb, ltb, refl, sym, ap, subst, arith, Ok, Err, Result}
 use Rattle.std.specs.Prelude.{IsOk}
+use Rattle.std.specs.List.{Contains}
 use Rattle.std.specs.List.Sorted.{IsPermutation}
 use Rattle.std.proofs.lemmas.Bool.{eq-eqb, eqb-true}
 use Rattle.std.proofs.lemmas.List.Kept.{AllPairs-filter}
@@ -21,12 +22,12 @@ use Rattle.ptu_shard.specs.Row.{IsDistinctByLease, share_of, without_row}
 use Rattle.ptu_shard.specs.Table.{Kept, StandsAt}
 use Rattle.ptu_shard.proofs.RowLists as rows
 use Rattle.ptu_admit.specs.Book.{KeptBook}
-use Rattle.ptu_admit.specs.Lent.{EachStandsAt, Lent, StandFor, four, live_others, others_in, rates_elsewhere, rows_of_lent, shares}
+use Rattle.ptu_admit.specs.Lent.{EachStandsAt, Lent, StandFor, four, is_lent, live_others, others_in, rates_elsewhere, rows_of_lent, shares}
 use Rattle.ptu_admit.specs.Rows.{kept_rate, live_rows}
 use Rattle.ptu_admit.specs.Tables.{IsSwept}
 use Rattle.ptu_admit.specs.Verdict.{config_of, verdict_beside, verdict_by, verdict_on}
 use Rattle.ptu_admit.proofs.Grants.{elsewhere-fewer, elsewhere-none, live_others-own, live_share, without_live-le}
-use Rattle.ptu_admit.proofs.Lending.{all_lent, each_passes, elsewhere-later, nothing_elsewhere, of_granted, of_shed, of_short, one_lent, same_false, stand_for, stands_later}
+use Rattle.ptu_admit.proofs.Lending.{all_lent, each_goes_on, each_passes, elsewhere-later, nothing_elsewhere, of_granted, of_shed, of_short, one_lent, one_of_each, same_false, stand_for, stands_later}
 use Rattle.ptu_admit.proofs.Sums.{kept_rate-permuted, share_of-permuted, share_of-without}
 
 module _ (opening n : ℕ) (config : GmConfig) (h : List Record) (c : Client) (ask : history.Ask) where
@@ -164,6 +165,15 @@ passes_verdict b n i xs moment h c (history.ShortOf k l others rate capacity) s 
 passes_verdict b n i xs moment h c (history.Outside cause) s le other =
     subst (λ h'. StandsAt n i xs moment h') (sym (append-nil h)) (stands_later b n i xs moment h le s)
 
+-- so of lent tables each goes on with the verdict, where the client's does
+pub each_decided : (b n : ℕ) (h : List Record) (c : Client) (v : history.Verdict) → b ≤ n → (before : List Lent) (old new : Lent) (after : List Lent) → table_of c ≡ old.index →
+    is_lent old.index (before ++ after) ≡ false →
+    (StandsAt b old.index old.rows old.moment h → StandsAt n new.index new.rows new.moment (h ++ verdict_records n c v)) →
+    EachStandsAt b (before ++ old ∷ after) h → EachStandsAt n (before ++ new ∷ after) (h ++ verdict_records n c v)
+each_decided b n h c v le before old new after own none =
+    each_goes_on b n (table_of c) h (h ++ verdict_records n c v) (λ t other s. passes_verdict b n t.index t.rows t.moment h c v s le other)
+    before old new after (ap (λ i. is_lent i (before ++ after)) own ∙ none)
+
 -- four tables, a book and a history that the tables stand for beside it
 pub four_stand : {P : Type 0} (opening n : ℕ) (a b c d : Kept P) (book : KeptBook) (h : List Record) → EachStandsAt n (four a b c d) h → book_moment h ≡ n → book.moment ≡ n →
     book.capacity ≡ capacity_in_force opening h → book.total ≡ shares (four a b c d) → StandFor opening (four a b c d) book h
@@ -188,3 +198,12 @@ ok_profile ask k e = subst (λ (p : Result Kind OutsideCause). IsOk p) (sym e) r
 pub passes_shed : (b n i : ℕ) (xs : List Row) (moment : ℕ) (h : List Record) (c : Client) (k : Kind) → StandsAt b i xs moment h → eqb (table_of c) i ≡ false → StandsAt b i xs moment (h ++ Shed n c k ∷ [])
 passes_shed b n i xs moment h c k s other =
     (each_passes b (table_of c) (Shed n c k) (record { index = i; rows = xs; moment = moment } ∷ []) h (of_shed n c k) (not_lent c i other) (s, tt)).0
+
+-- so of lent tables each goes on with the shedding, where that does which has the row
+pub each_shed : (b n : ℕ) (h : List Record) (row : Row) (before : List Lent) (old new : Lent) (after : List Lent) → is_lent old.index (before ++ after) ≡ false → Contains old.rows row →
+    (StandsAt b old.index old.rows old.moment h → StandsAt b new.index new.rows new.moment (h ++ Shed n row.client row.kind ∷ [])) →
+    EachStandsAt b (before ++ old ∷ after) h → EachStandsAt b (before ++ new ∷ after) (h ++ Shed n row.client row.kind ∷ [])
+each_shed b n h row before old new after none contained goes_on s =
+    let own : table_of row.client ≡ old.index = ((one_of_each b h before old after s).kept row contained).0 in
+    each_goes_on b b (table_of row.client) h (h ++ Shed n row.client row.kind ∷ []) (λ t other stands. passes_shed b n t.index t.rows t.moment h row.client row.kind stands other)
+    before old new after (ap (λ i. is_lent i (before ++ after)) own ∙ none) goes_on s

@@ -1,6 +1,7 @@
 -- The history that tables and a book stand for, while the tables are lent beside the book.
-use Rattle.std.specs.Prelude.{◌≡◌, ℕ, ◌+◌, ◌≤◌, max, Bool, true, false, not, ◌||◌, ◌==◌, List, [], ◌∷◌, if◌then◌else◌}
+use Rattle.std.specs.Prelude.{◌≡◌, ℕ, ◌+◌, ◌≤◌, max, Bool, true, false, not, ◌||◌, ◌==◌, List, [], ◌∷◌, ◌++◌, if◌then◌else◌}
 use Rattle.std.specs.List.{filter}
+use Rattle.std.specs.List.Sorted.{IsPermutation}
 use Rattle.ptu_units.specs.declared.kind.Kind.{Kind}
 use Rattle.ptu_history.specs.declared.client.Client.{Client}
 use Rattle.ptu_history.specs.Client.{table_of}
@@ -11,6 +12,7 @@ use Rattle.ptu_history.specs.Verdict.{rate_sum}
 use Rattle.ptu_shard.specs.declared.lease.Row.{Row}
 use Rattle.ptu_shard.specs.Row.{share_of, without_row}
 use Rattle.ptu_shard.specs.Table.{Kept, StandsAt}
+use Rattle.ptu_shard.specs.Turn.{spent_where}
 use Rattle.ptu_admit.specs.Book.{KeptBook}
 use Rattle.ptu_admit.specs.Rows.{live_rows}
 
@@ -65,6 +67,16 @@ pub record StandFor (opening : ℕ) (lent : List Lent) (book : KeptBook) (histor
   pub others : shares lent + rates_elsewhere lent history (book_moment history) ≤ book.total
   -- where the table of every client is lent, it has nothing beyond them
   pub whole : ((c : Client) → is_lent (table_of c) lent ≡ true) → book.total ≡ shares lent
+
+-- where the table of this index sends, the lent tables and the book stand for the history with the records of it, as the
+-- table does
+abbrev pub StandAfterSends : ℕ → ℕ → ℕ → List Record → List Record → Type 0
+StandAfterSends opening x j history more =
+    (test : Row → Bool) (moment after : ℕ) (rows spent : List Row) (rest : List Lent) (book : KeptBook) →
+    StandFor opening (record { index = j; rows = rows; moment = moment } ∷ rest) book history →
+    is_lent j rest ≡ false → IsPermutation (spent_where test x rows) spent →
+    StandsAt (book_moment (history ++ more)) j spent after (history ++ more) →
+    StandFor opening (record { index = j; rows = spent; moment = after } ∷ rest) book (history ++ more)
 
 -- the rows of the table that are live at the moment, but for that of the client and kind; a client's rows stand in
 -- its own table

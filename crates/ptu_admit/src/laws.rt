@@ -1,17 +1,16 @@
 //! Laws of what lent tables and a book stand for. Each function does nothing: its contract is the
 //! law.
 
-ghost use Rattle.std.specs.Prelude.{◌≡◌, ℕ, ◌≤◌, ◌⊎◌, max, Bool, true, false, List, [], ◌∷◌, ◌++◌};
-ghost use Rattle.std.specs.List.Sorted.{IsPermutation};
+ghost use Rattle.std.specs.Prelude.{◌≡◌, ℕ, ◌≤◌, ◌⊎◌, max, true, List, [], ◌∷◌, ◌++◌};
 ghost use Rattle.ptu_history.specs.{declared.client.Client.{Client}, Client.{table_of}};
 ghost use Rattle.ptu_history.specs.Core.{book_step_moment, table_step_moment};
 ghost use Rattle.ptu_history.specs.{Events.{DelayReq, Turn}, History.{Record}};
-ghost use Rattle.ptu_history.specs.{Moments.{book_moment}, Step.{step}};
+ghost use Rattle.ptu_history.specs.Step.{step};
 ghost use Rattle.ptu_history.specs.Verdict.{Config, table_rates};
 ghost use Rattle.ptu_shard.specs.{declared.lease.Row.{Row}, Row.{IsDistinctByLease, share_of}};
-ghost use Rattle.ptu_shard.specs.{Table.{StandsAt}, Turn.{spent_where}};
+ghost use Rattle.ptu_shard.specs.Table.{StandsAt};
 ghost use Rattle.ptu_admit.specs.Book.{KeptBook};
-ghost use Rattle.ptu_admit.specs.Lent.{Lent, StandFor, is_lent, moment_for, moment_for_all};
+ghost use Rattle.ptu_admit.specs.Lent.{Lent, StandAfterSends, StandFor, is_lent, moment_for, moment_for_all};
 ghost use Rattle.ptu_admit.specs.Rows.{live_rows};
 
 /// The order in which tables are lent does not matter: each may be the first.
@@ -60,24 +59,9 @@ pub fn live_shares()
 /// After a turn of a lent table, or a Delay_Req of one of its clients, the tables and the book
 /// stand for the history with it, as the table does.
 pub fn sendings()
-    ensures turn { (opening x : ℕ) (opened : Config) (test : Row → Bool) (j moment after : ℕ)
-        (rows spent : List Row) (rest : List Lent) (book : KeptBook) (history : List Record) →
-        StandFor opening (record { index = j; rows = rows; moment = moment } ∷ rest) book history
-        → is_lent j rest ≡ false →
-        IsPermutation (spent_where test x rows) spent →
-        (let more = (step opened history x (Turn j)).records in
-        StandsAt (book_moment (history ++ more)) j spent after (history ++ more) →
-        StandFor opening (record { index = j; rows = spent; moment = after } ∷ rest) book
-        (history ++ more)) }
-    ensures delay_req { (opening x : ℕ) (opened : Config) (test : Row → Bool) (c : Client)
-        (moment after : ℕ) (rows spent : List Row) (rest : List Lent) (book : KeptBook)
-        (history : List Record) →
-        let j = table_of c in
-        StandFor opening (record { index = j; rows = rows; moment = moment } ∷ rest) book history
-        → is_lent j rest ≡ false →
-        IsPermutation (spent_where test x rows) spent →
-        (let more = (step opened history x (DelayReq c)).records in
-        StandsAt (book_moment (history ++ more)) j spent after (history ++ more) →
-        StandFor opening (record { index = j; rows = spent; moment = after } ∷ rest) book
-        (history ++ more)) }
+    ensures turn { (opening x j : ℕ) (opened : Config) (history : List Record) →
+        StandAfterSends opening x j history (step opened history x (Turn j)).records }
+    ensures delay_req { (opening x : ℕ) (opened : Config) (c : Client) (history : List Record) →
+        StandAfterSends opening x (table_of c) history
+        (step opened history x (DelayReq c)).records }
 {}

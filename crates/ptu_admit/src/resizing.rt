@@ -90,25 +90,10 @@ fn count_above<P: Port>(
     ensures { capacity < book.now.total →
         result ≡ rows_in (four s0.now s1.now s2.now s3.now) }
 {
-    if book.total() > capacity {
-        count_rows(s0, s1, s2, s3, book)
-    } else {
-        0
-    }
-}
-
-// How many rows four tables have.
-fn count_rows<P: Port>(
-    s0: &Shard<P>,
-    s1: &Shard<P>,
-    s2: &Shard<P>,
-    s3: &Shard<P>,
-    book: &Book,
-) -> usize
-    requires { book.now.total ≡ shares (four s0.now s1.now s2.now s3.now) }
-    ensures { result ≡ rows_in (four s0.now s1.now s2.now s3.now) }
-{
     // Each row has a rate of at least 1, so that there are no more than the total says.
-    let _total = book.total();
+    let total = book.total();
+    if total <= capacity {
+        return 0;
+    }
     s0.count() + s1.count() + s2.count() + s3.count()
 }

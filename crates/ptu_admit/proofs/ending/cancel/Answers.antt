@@ -1,14 +1,13 @@
-use Rattle.std.proofs.Common.{◌≡◌, ◌∙◌, ◌≤◌, ◌++◌, ◌∷◌, [], max, arith, inl, ltb, not, refl, subst, sym}
+use Rattle.std.proofs.Common.{◌≡◌, ◌∙◌, ◌≤◌, ◌++◌, ◌∷◌, [], max, arith, inl, ltb, refl, subst, sym}
 use Rattle.ptu_history.specs.Client.{table_of}
 use Rattle.ptu_history.specs.History.{Ended}
 use Rattle.ptu_history.specs.Moments.{book_moment}
-use Rattle.ptu_shard.specs.Row.{is_row_of}
 use Rattle.ptu_shard.specs.Table.{StandsAt}
 use Rattle.ptu_shard.proofs.Turns.{live_kept}
 use Rattle.ptu_admit.specs.Lent.{table_for}
 use Rattle.ptu_admit.proofs.Lending.{are_at, of_ended, taken}
 use Rattle.ptu_admit.proofs.RowKeys.{has_live-swept}
-use Rattle.ptu_admit.proofs.Sums.{share_of-left}
+use Rattle.ptu_admit.proofs.Sums.{share_of-left, share_of-removed}
 use Rattle.ptu_admit.proofs.ending.cancel.Goals as goal
 
 pub settle-requires-clause-fits : goal.settle-requires-clause-fits
@@ -18,7 +17,7 @@ settle-requires-clause-fits g c =
       c.held.ensures.share,
       c.held-before.ensures.share,
       share_of-left (λ row. ltb c.latest-at.result row.lease.until) c.args.shard.now.rows c.sweep.new.self.rows c.sweep.ensures.rows,
-      share_of-left (λ row. not (is_row_of c.args.client.now c.args.kind row)) c.sweep.new.self.rows c.remove-ended.new.self.rows c.remove-ended.ensures.rows,
+      share_of-removed c.args.client.now c.args.kind c.sweep.new.self.rows c.remove-ended.new.self.rows c.remove-ended.ensures.rows,
     )
 
 pub returns-clause-ended : goal.returns-clause-ended

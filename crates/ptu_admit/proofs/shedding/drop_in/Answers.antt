@@ -6,17 +6,11 @@ use Rattle.ptu_history.proofs.Unique.{Contains-from_filter}
 use Rattle.ptu_shard.specs.Row.{is_row_of, without_row}
 use Rattle.ptu_shard.proofs.RowLists.{same_permuted}
 use Rattle.ptu_admit.proofs.RowKeys.{kept_rate-member, length-filter-lt}
-use Rattle.ptu_admit.proofs.Sums.{share_of-left, share_of-permuted, share_of-without}
+use Rattle.ptu_admit.proofs.Sums.{share_of-permuted, share_of-removed, share_of-without}
 use Rattle.ptu_admit.proofs.shedding.drop_in.Goals as goal
 
 pub settle-requires-clause-fits : goal.settle-requires-clause-fits
-settle-requires-clause-fits g c =
-    omega (
-      arith,
-      c.held.ensures.share,
-      c.held-before.ensures.share,
-      share_of-left (λ row. not (is_row_of c.args.row.now.client c.args.row.now.kind row)) c.args.shard.now.rows c.remove.new.self.rows c.remove.ensures.rows,
-    )
+settle-requires-clause-fits g c = omega (arith, c.held.ensures.share, c.held-before.ensures.share, share_of-removed c.args.row.now.client c.args.row.now.kind c.args.shard.now.rows c.remove.new.self.rows c.remove.ensures.rows)
 
 pub returns-clause-thinned : goal.returns-clause-thinned
 returns-clause-thinned g c =
