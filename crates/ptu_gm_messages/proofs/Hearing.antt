@@ -65,7 +65,7 @@ signaling_alone octets m e h = by_body octets m.header m.body (found_is octets m
 
 -- ---- one reply answers what was heard
 
-abbrev AreFoundAnswerable : Result (List Item) GmReason → Type 0
+abbrev pub AreFoundAnswerable : Result (List Item) GmReason → Type 0
 AreFoundAnswerable found = IfOk found AreAnswerable
 
 for_target : (found : Result (List Item) GmReason) (b : Bool) → AreFoundAnswerable found → AreFoundAnswerable (if b then found else Err reasons.Target)
@@ -93,7 +93,7 @@ pub answerable_items : (config : GmConfig) (octets : List ℕ) (m : Message) →
     → AreFoundAnswerable (items_by config m.header m.body)
 answerable_items config octets m small e = by_items config octets m.header m.body (found_is octets m e) (are_octets octets small)
 
-abbrev IsFoundAnswerable : Result Heard GmReason → Type 0
+abbrev pub IsFoundAnswerable : Result Heard GmReason → Type 0
 IsFoundAnswerable found = IfOk found IsAnswerable
 
 of_items : (header : Header) (found : Result (List Item) GmReason) → AreFoundAnswerable found → IsFoundAnswerable (with_items header found)
@@ -119,36 +119,17 @@ answerable_heard config octets m small e = by_heard config m.header m.body (answ
 
 -- ---- the answers of calls
 
-abbrev ItemsAnswer : Type 0
-ItemsAnswer = Result (Result (List Item) GmReason) OutOfMemory
+abbrev Answer : Type 0 → Type 0
+Answer A = Result (Result A GmReason) OutOfMemory
 
-pub items_found : (config : GmConfig) (octets : List ℕ) (m : Message) (r : ItemsAnswer) → message_in octets ≡ Ok m → IfOk r (λ found. found ≡ items_by config m.header m.body)
-    → IfOk r (λ found. found ≡ items_in config octets)
-items_found config octets m (Ok found) e h = h ∙ sym (items_in-message config octets m e)
-items_found config octets m (Err memory) e h = tt
+pub answer_found : {A : Type 0} {told found : Result A GmReason} (r : Answer A) → found ≡ told → IfOk r (λ value. value ≡ told) → IfOk r (λ value. value ≡ found)
+answer_found (Ok value) same h = h ∙ sym same
+answer_found (Err memory) same h = tt
 
-pub items_answerable : (config : GmConfig) (octets : List ℕ) (m : Message) (r : ItemsAnswer) → ((i : ℕ) → get_or octets i 0 < 256) → message_in octets ≡ Ok m
-    → IfOk r (λ found. found ≡ items_by config m.header m.body) → IfOk r AreFoundAnswerable
-items_answerable config octets m (Ok found) small e h = subst AreFoundAnswerable (sym h) (answerable_items config octets m small e)
-items_answerable config octets m (Err memory) small e h = tt
+pub answer_answerable : {A : Type 0} {told : Result A GmReason} (holds : Result A GmReason → Type 0) (r : Answer A) → holds told → IfOk r (λ value. value ≡ told) → IfOk r holds
+answer_answerable holds (Ok value) good h = subst holds (sym h) good
+answer_answerable holds (Err memory) good h = tt
 
-pub items_memory : (octets : List ℕ) (m : Message) (r : ItemsAnswer) → message_in octets ≡ Ok m → OnErr r (HasTlvs m.body) → OnErr r (IsAsked octets)
-items_memory octets m (Ok found) e h = tt
-items_memory octets m (Err memory) e h = signaling_alone octets m e h
-
-abbrev HeardAnswer : Type 0
-HeardAnswer = Result (Result Heard GmReason) OutOfMemory
-
-pub heard_found : (config : GmConfig) (octets : List ℕ) (m : Message) (r : HeardAnswer) → message_in octets ≡ Ok m → IfOk r (λ found. found ≡ heard_by config m.header m.body)
-    → IfOk r (λ found. found ≡ heard_in config octets)
-heard_found config octets m (Ok found) e h = h ∙ sym (heard_in-message config octets m e)
-heard_found config octets m (Err memory) e h = tt
-
-pub heard_answerable : (config : GmConfig) (octets : List ℕ) (m : Message) (r : HeardAnswer) → ((i : ℕ) → get_or octets i 0 < 256) → message_in octets ≡ Ok m
-    → IfOk r (λ found. found ≡ heard_by config m.header m.body) → IfOk r IsFoundAnswerable
-heard_answerable config octets m (Ok found) small e h = subst IsFoundAnswerable (sym h) (answerable_heard config octets m small e)
-heard_answerable config octets m (Err memory) small e h = tt
-
-pub heard_memory : (octets : List ℕ) (m : Message) (r : HeardAnswer) → message_in octets ≡ Ok m → OnErr r (HasTlvs m.body) → OnErr r (IsAsked octets)
-heard_memory octets m (Ok found) e h = tt
-heard_memory octets m (Err memory) e h = signaling_alone octets m e h
+pub answer_memory : {A : Type 0} (octets : List ℕ) (m : Message) (r : Answer A) → message_in octets ≡ Ok m → OnErr r (HasTlvs m.body) → OnErr r (IsAsked octets)
+answer_memory octets m (Ok value) e h = tt
+answer_memory octets m (Err memory) e h = signaling_alone octets m e h
