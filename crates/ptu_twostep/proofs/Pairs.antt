@@ -38,23 +38,15 @@ onto-more x d None = refl
 onto-more x d (Some datagrams) = refl
 
 -- what comes first, by its step
-unpair_two : (x : Departure) (rest : List Departure) → step_at x ≡ TwoStepSync → unpair_behind None (x ∷ rest) ≡ unpair_behind (Some (one_step_of x)) rest
-unfolding unpair_behind
-unpair_two x rest is = ap (λ (s : Step). elim s [
-  | OneStepSync ↦ option_map (λ told. sync_of x ∷ told) (unpair_behind None rest)
-  | TwoStepSync ↦ unpair_behind (Some (one_step_of x)) rest
-  | FollowUp ↦ None
-  | Other ↦ option_map (λ datagrams. x ∷ datagrams) (unpair_behind None rest)
-]) is
+abbrev by_first : Departure → List Departure → Step → Datagrams
+by_first x rest OneStepSync = option_map (λ told. sync_of x ∷ told) (unpair_behind None rest)
+by_first x rest TwoStepSync = unpair_behind (Some (one_step_of x)) rest
+by_first x rest FollowUp = None
+by_first x rest Other = option_map (λ told. x ∷ told) (unpair_behind None rest)
 
-unpair_other : (x : Departure) (rest : List Departure) → step_at x ≡ Other → unpair_behind None (x ∷ rest) ≡ option_map (λ datagrams. x ∷ datagrams) (unpair_behind None rest)
+unpair_first : (x : Departure) (rest : List Departure) (step : Step) → step_at x ≡ step → unpair_behind None (x ∷ rest) ≡ by_first x rest step
 unfolding unpair_behind
-unpair_other x rest is = ap (λ (s : Step). elim s [
-  | OneStepSync ↦ option_map (λ told. sync_of x ∷ told) (unpair_behind None rest)
-  | TwoStepSync ↦ unpair_behind (Some (one_step_of x)) rest
-  | FollowUp ↦ None
-  | Other ↦ option_map (λ datagrams. x ∷ datagrams) (unpair_behind None rest)
-]) is
+unpair_first x rest step is = ap (by_first x rest) is
 
 unpair_follow_up : (sync x : Departure) (rest : List Departure) (b : Bool) → is_follow_up_by (step_at x) sync x ≡ b
     → unpair_behind (Some sync) (x ∷ rest) ≡ cond b (option_map (λ datagrams. sync ∷ datagrams) (unpair_behind None rest)) None
@@ -70,29 +62,19 @@ pub unpair-pair : (waits : Option Departure) (sent : List Departure) (d : Depart
 unfolding unpair_behind
 unpair-pair waits sent d TwoStepSync is whole = absurd cc
 unpair-pair waits sent d FollowUp is whole = absurd cc
-unpair-pair None [] d Other is whole = unpair_other d [] is
+unpair-pair None [] d Other is whole = unpair_first d [] Other is
 unpair-pair (Some sync) [] d Other is whole =
     unpair_follow_up sync d [] false (ap (λ (s : Step). is_follow_up_by s sync d) is)
 unpair-pair None [] d OneStepSync is whole =
     let one = sync_is false d.channel d.bytes is in
-    unpair_two (sync_of d) (follow_up_of d ∷ []) (flagged_is d.channel d.bytes one)
+    unpair_first (sync_of d) (follow_up_of d ∷ []) TwoStepSync (flagged_is d.channel d.bytes one)
     ∙ (ap (λ (x : Departure). unpair_behind (Some x) (follow_up_of d ∷ [])) (one_step-sync d one)
     ∙ unpair_follow_up d (follow_up_of d) [] true (is_own d one))
 unpair-pair (Some sync) [] d OneStepSync is whole =
     let one = sync_is false d.channel d.bytes is in
     unpair_follow_up sync (sync_of d) (follow_up_of d ∷ []) false (ap (λ (s : Step). is_follow_up_by s sync (sync_of d)) (flagged_is d.channel d.bytes one))
 unpair-pair None (x ∷ sent) d step is whole =
-    elim (step_at x) as (λ s. elim s [
-      | OneStepSync ↦ option_map (λ told. sync_of x ∷ told) (unpair_behind None (sent ++ pair_by step d))
-      | TwoStepSync ↦ unpair_behind (Some (one_step_of x)) (sent ++ pair_by step d)
-      | FollowUp ↦ None
-      | Other ↦ option_map (λ told. x ∷ told) (unpair_behind None (sent ++ pair_by step d))
-    ] ≡ more (elim s [
-      | OneStepSync ↦ option_map (λ told. sync_of x ∷ told) (unpair_behind None sent)
-      | TwoStepSync ↦ unpair_behind (Some (one_step_of x)) sent
-      | FollowUp ↦ None
-      | Other ↦ option_map (λ told. x ∷ told) (unpair_behind None sent)
-    ]) d) [
+    elim (step_at x) as (λ s. by_first x (sent ++ pair_by step d) s ≡ more (by_first x sent s) d) [
       | OneStepSync ↦ ap (option_map (λ told. sync_of x ∷ told)) (unpair-pair None sent d step is whole) ∙ onto-more (sync_of x) d (unpair_behind None sent)
       | TwoStepSync ↦ unpair-pair (Some (one_step_of x)) sent d step is whole
       | FollowUp ↦ refl
@@ -181,12 +163,7 @@ spelled-unpair None [] told e = let d : told ≡ [] = sym cc in sym (ap all_spel
 spelled-unpair (Some sync) [] told e = absurd cc
 spelled-unpair None (x ∷ rest) told e = by_step (λ waits d h. spelled-unpair waits rest d h) (step_at x) refl e
   where
-    by_step : ((waits : Option Departure) (d : List Departure) → unpair_behind waits rest ≡ Some d → IsSpelledBehind waits rest d) → (step : Step) → step_at x ≡ step → elim step [
-      | OneStepSync ↦ option_map (λ later. sync_of x ∷ later) (unpair_behind None rest)
-      | TwoStepSync ↦ unpair_behind (Some (one_step_of x)) rest
-      | FollowUp ↦ None
-      | Other ↦ option_map (λ later. x ∷ later) (unpair_behind None rest)
-    ] ≡ Some told → x ∷ rest ≡ all_spelled told
+    by_step : ((waits : Option Departure) (d : List Departure) → unpair_behind waits rest ≡ Some d → IsSpelledBehind waits rest d) → (step : Step) → step_at x ≡ step → by_first x rest step ≡ Some told → x ∷ rest ≡ all_spelled told
     by_step deeper OneStepSync is e =
         let parts = onto_parts (sync_of x) (unpair_behind None rest) told e in
         spelled_one x parts.0 rest is (deeper None parts.0 parts.1) ∙ ap all_spelled (sym parts.2)
