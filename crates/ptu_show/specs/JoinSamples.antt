@@ -1,5 +1,5 @@
 -- Halves that were made out by hand, and which of them join.
-use Rattle.std.specs.Prelude.{◌≡◌, [], ◌∷◌, codes, drop, slice_set, ℤ, pos, negsuc, Some, None}
+use Rattle.std.specs.Prelude.{◌≡◌, ℕ, [], ◌∷◌, codes, drop, slice_set, ℤ, pos, negsuc, Some, None}
 use Rattle.ptu_header.specs.declared.header.Header.{Header}
 use Rattle.ptu_messages.specs.declared.message.Body.TheVariants as bodies
 use Rattle.ptu_messages.specs.declared.message.Message.{Message}
@@ -12,43 +12,30 @@ use Rattle.ptu_show.specs.Halves.{half_in, joined, key_of}
 use Rattle.ptu_show.specs.Joins.{partner, waiting, waiting_keys}
 use Rattle.ptu_show.specs.Joined.{joined_ending, joined_output, text_behind}
 
+-- a header of this messageType with these flags and this correctionField, from the client
+abbrev pub header_of : ℕ → ℕ → ℤ → Header
+header_of message_type flags correction = record {
+  message_type = message_type;
+  domain = 4;
+  flags = flags;
+  correction = correction;
+  source = client;
+  sequence = 7;
+}
+
 -- a Sync with twoStepFlag, sent at 1 s, and its Follow_Up, at 1 s and 300 ns
 abbrev pub sync : Half
 sync = record {
   part = Sync;
-  header = record {
-    message_type = 0;
-    domain = 4;
-    flags = 0x0600;
-    correction = pos 768;
-    source = client;
-    sequence = 7;
-  };
+  header = header_of 0 0x0600 (pos 768);
   stamp = record { seconds = 1; nanos = 0 };
 }
 
 abbrev pub follow_up : Half
 follow_up = record {
   part = FollowUp;
-  header = record {
-    message_type = 8;
-    domain = 4;
-    flags = 0x0400;
-    correction = negsuc 255;
-    source = client;
-    sequence = 7;
-  };
+  header = header_of 8 0x0400 (negsuc 255);
   stamp = record { seconds = 1; nanos = 300 };
-}
-
-abbrev pub one_step : Header
-one_step = record {
-  message_type = 0;
-  domain = 4;
-  flags = 0x0400;
-  correction = pos 512;
-  source = client;
-  sequence = 7;
 }
 
 -- a half with another header, or with another correctionField
@@ -60,8 +47,7 @@ with_correction half z = with_header half (record half.header { correction = z }
 
 -- a Sync in one step at the time of the Follow_Up, with this correctionField
 abbrev pub one_step_with : ℤ → Message
-one_step_with z =
-    record { header = record one_step { correction = z }; body = bodies.Sync follow_up.stamp }
+one_step_with z = record { header = header_of 0 0x0400 z; body = bodies.Sync follow_up.stamp }
 
 -- a Sync of another domain
 abbrev pub elsewhere : Half
