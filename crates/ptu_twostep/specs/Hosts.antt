@@ -1,6 +1,7 @@
 -- A host in two steps, over a host.
-use Rattle.std.specs.Prelude.{Bool, false, Option}
+use Rattle.std.specs.Prelude.{◌≡◌, Bool, false, Option, Some}
 use Rattle.ptu_outside.specs.declared.opened.Opened.{Opened}
+use Rattle.ptu_outside.specs.Telling.{IfTold}
 use Rattle.ptu_twostep.specs.declared.two_host.Flags.{Flags}
 use Rattle.ptu_outside.specs.declared.port.Port.{Ghosts as Ports}
 use Rattle.ptu_twostep.specs.Telling.{InTwoSteps, is_half, told_by}
@@ -39,30 +40,8 @@ flagged_by flags below = record {
 abbrev pub clear : Flags
 clear = record { p0 = false; p1 = false; p2 = false; p3 = false; p4 = false; p5 = false }
 
--- the ports below those in two steps
-abbrev pub below_of : {P C : Type 0} → Opened (InTwoSteps P) C → Opened P C
-below_of o = record {
-  p0 = o.p0.port;
-  p1 = o.p1.port;
-  p2 = o.p2.port;
-  p3 = o.p3.port;
-  p4 = o.p4.port;
-  p5 = o.p5.port;
-  c0 = o.c0;
-  c1 = o.c1;
-  c2 = o.c2;
-  c3 = o.c3;
-  c4 = o.c4;
-  c5 = o.c5;
-}
-
--- their flags
-abbrev pub flags_of : {P C : Type 0} → Opened (InTwoSteps P) C → Flags
-flags_of o = record {
-  p0 = o.p0.is_flagged;
-  p1 = o.p1.is_flagged;
-  p2 = o.p2.is_flagged;
-  p3 = o.p3.is_flagged;
-  p4 = o.p4.is_flagged;
-  p5 = o.p5.is_flagged;
-}
+-- the host below was given these ports and clocks back, over which the ports in two steps with these flags stood
+pub record GivesBackBelow {P C : Type 0} (flags : Flags) (opened : Opened (InTwoSteps P) C) (back : Option (Opened P C)) : Type 0 where
+  pub below : Opened P C
+  pub over : opened ≡ flagged_by flags below
+  pub told : IfTold back (Some below)

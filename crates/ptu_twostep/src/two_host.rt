@@ -1,6 +1,6 @@
 ghost use Rattle.std.specs.Prelude.{◌≡◌, Some, option_map, IfOk, IfSome, OnOk, OnErr};
 ghost use Rattle.ptu_outside.specs.{Faults.{HasRisen, HasNotFallen}, Telling.{IfTold}};
-ghost use Rattle.ptu_twostep.specs.Hosts.{below_of, clear, flagged_by, flags_of};
+ghost use Rattle.ptu_twostep.specs.Hosts.{GivesBackBelow, clear, flagged_by};
 
 use crate::two_step::TwoStep;
 use ptu_outside::{Failed, Host, Opened};
@@ -104,8 +104,7 @@ impl<H: Host> Host for TwoHost<'_, H> {
         ensures quiet { H.faults self.new.host.now ≡ H.faults self.old.host.now }
         ensures name { self.new.host.ghost_name ≡ self.old.host.ghost_name }
         // It keeps the flags, and gives the ports below back.
-        ensures flags { self.new.flags ≡ flags_of opened }
-        ensures below { IfTold (H.back self.new.host.now) (Some (below_of opened)) }
+        ensures below { GivesBackBelow self.new.flags opened (H.back self.new.host.now) }
     {
         self.flags = Flags {
             p0: opened.p0.is_flagged(),
