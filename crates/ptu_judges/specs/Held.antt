@@ -1,10 +1,10 @@
 -- What a judge keeps of the record of its master.
-use Rattle.std.specs.Prelude.{◌≡◌, ℕ, ◌+◌, ◌==◌, if◌then◌else◌, Bool, false, ◌||◌, nat_le, List, [], length, Option, Some, IfSome}
+use Rattle.std.specs.Prelude.{◌≡◌, ℕ, ◌+◌, ◌==◌, if◌then◌else◌, Bool, false, ◌||◌, nat_le, List, [], ◌∷◌, ◌++◌, length, Option, Some, IfSome}
 use Rattle.std.specs.List.{AllByRecursion}
 use Rattle.ptu_record.specs.declared.rule.Rule.{Rule}
 use Rattle.ptu_record.specs.declared.rule.Rule.TheVariants.{Flag, Gap}
-use Rattle.ptu_record.specs.Record.{Record}
-use Rattle.ptu_record.specs.Judges.{flag, numbers, positions, rule_in_force}
+use Rattle.ptu_record.specs.Record.{Entry, Record}
+use Rattle.ptu_record.specs.Judges.{IsAssessment, flag, numbers, positions, rule_in_force}
 use Rattle.ptu_record.specs.Marks.{Marks, clear_count, fresh_marks, marks_of}
 
 -- its rule, where it has one; the greatest sequenceId with the sixteen marks behind it; and the
@@ -50,6 +50,14 @@ Keeps (Gap n) L held = (held.flag ≡ flag L) × (held.marks ≡ marks_of (posit
 pub record StandsFor (opening : Option Rule) (L : Record) (held : Held) : Type 0 where
   pub rule : held.rule ≡ rule_in_force opening L
   pub keeps : IfSome held.rule (λ rule. Keeps rule L held)
+
+-- whatever record the judge stood for, it has come to stand for it with this entry of its master, whichever it is
+abbrev pub Enters : (ℕ → Entry) → (old new : Held) → Type 0
+Enters entry old new = (opening : Option Rule) (L : Record) (m : ℕ) → StandsFor opening L old → StandsFor opening (L ++ entry m ∷ []) new
+
+-- whatever record the judge stands for, this is an assessment of it
+abbrev pub Finds : Bool → Held → Type 0
+Finds unusable held = (opening : Option Rule) (L : Record) → StandsFor opening L held → IsAssessment opening L unusable
 
 -- what the judges of a stock hold: all are fresh, those of the first list of the rule Flag, those of
 -- the second of Gap 4

@@ -1,7 +1,6 @@
-ghost use Rattle.std.specs.Prelude.{◌≡◌, ℕ, Bool, [], ◌∷◌, ◌++◌, Option};
-ghost use Rattle.ptu_record.specs.{declared.rule.Rule.{Rule}, Record.{Record, Sync, Told, Judged}};
-ghost use Rattle.ptu_record.specs.Judges.{IsAssessment};
-ghost use Rattle.ptu_judges.specs.Held.{Held, StandsFor};
+ghost use Rattle.std.specs.Prelude.{◌≡◌, ℕ, Bool};
+ghost use Rattle.ptu_record.specs.Record.{Sync, Told, Judged};
+ghost use Rattle.ptu_judges.specs.Held.{Enters, Finds, Held};
 
 use ptu_record::Rule;
 use ptu_units::Moment;
@@ -31,26 +30,19 @@ pub trait Judge: Conduct + Drop {
     /// A Sync with this sequenceId was accepted from its master.
     fn heard(&mut self, t: Moment, seq: u16)
         ensures hears { Self.hears self.old t seq self.new }
-        ensures stands { (opening : Option Rule) (L : Record) (m : ℕ) →
-            StandsFor opening L (held self.old) →
-            StandsFor opening (L ++ Sync t m seq ∷ []) (held self.new) }
+        ensures stands { Enters (λ m. Sync t m seq) (held self.old) (held self.new) }
         ensures rule { (held self.new).rule ≡ (held self.old).rule };
 
     /// The operator said that its master is unusable, or that it is not.
     fn told(&mut self, t: Moment, unusable: bool)
         ensures told { Self.is_told self.old t unusable self.new }
-        ensures stands { (opening : Option Rule) (L : Record) (m : ℕ) →
-            StandsFor opening L (held self.old) →
-            StandsFor opening (L ++ Told t m unusable ∷ []) (held self.new) }
+        ensures stands { Enters (λ m. Told t m unusable) (held self.old) (held self.new) }
         ensures rule { (held self.new).rule ≡ (held self.old).rule };
 
     /// Whether its master is unusable.
     fn assess(&mut self, t: Moment) -> bool
         ensures finds { Self.finds self.old t result self.new }
-        ensures assessed { (opening : Option Rule) (L : Record) →
-            StandsFor opening L (held self.old) → IsAssessment opening L result }
-        ensures stands { (opening : Option Rule) (L : Record) (m : ℕ) →
-            StandsFor opening L (held self.old) →
-            StandsFor opening (L ++ Judged t m result ∷ []) (held self.new) }
+        ensures assessed { Finds result (held self.old) }
+        ensures stands { Enters (λ m. Judged t m result) (held self.old) (held self.new) }
         ensures rule { (held self.new).rule ≡ (held self.old).rule };
 }

@@ -6,6 +6,7 @@ mod flag_judge;
 mod gap_judge;
 mod judge;
 pub mod laws;
+pub mod samples;
 mod stock;
 
 pub use flag_judge::FlagJudge;

@@ -1,8 +1,9 @@
-ghost use Rattle.std.specs.{Prelude.{map}, Option.{MatchOption}};
+ghost use Rattle.std.specs.{Prelude.{◌≡◌, [], map}, Option.{MatchOption}};
 ghost use Rattle.ptu_judges.specs.Held.{HasNone, HasTaken, IsStock};
 
 use crate::judge::Judge;
 use ptu_record::Rule;
+use std::alloc::Global;
 
 /// Judges in reserve, of which a call takes those that it needs: of the rule Flag, and of the rule
 /// Gap of 4. A call that takes a stock asks that all of them are fresh (`IsStock`).
@@ -13,6 +14,18 @@ pub struct Stock {
 }
 
 impl Stock {
+    /// A stock without judges.
+    pub fn empty(alloc: Global) -> Stock
+        ensures none { (result.flags.items ≡ []) × (result.gaps.items ≡ []) }
+        ensures stock { IsStock (map (λ j. held j) result.flags.items)
+            (map (λ j. held j) result.gaps.items) }
+    {
+        Stock {
+            flags: Vec::new(alloc),
+            gaps: Vec::new(alloc),
+        }
+    }
+
     /// Takes the last judge of a rule; `None` where none is left. Of a gap of another length than 4
     /// a stock has none.
     pub fn take(&mut self, rule: Rule) -> Option<Box<dyn Judge>>

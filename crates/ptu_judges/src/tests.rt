@@ -1,11 +1,14 @@
-ghost use Rattle.std.specs.Prelude.{◌≡◌, ◌≤◌, ℕ, [], ◌∷◌, ◌++◌, Option, None, false};
+ghost use Rattle.std.specs.Prelude.{ℕ, [], ◌∷◌, ◌++◌, Option};
 ghost use Rattle.ptu_record.specs.{declared.rule.Rule.{Rule}, Judges.{IsAssessment}};
-ghost use Rattle.ptu_record.specs.{Marks.{fresh_marks}, Record.{Record, Told, Judged}};
-ghost use Rattle.ptu_judges.specs.Held.{StandsFor};
+ghost use Rattle.ptu_record.specs.Record.{Record, Told, Judged};
+ghost use Rattle.ptu_judges.specs.Held.{Enters, Finds, StandsFor};
 
 use super::*;
+use crate::samples::OwnJudge;
 use ptu_units::Moment;
+use std::cell::Cell;
 use std::process::Abort;
+use std::rc::Rc;
 use std::test::Fail;
 
 // Tells the judge of these Syncs, one after the other, and compares what it finds after each.
@@ -54,56 +57,15 @@ fn numbers_run_over_and_are_forgotten(rt: HostRuntime) {
     );
 }
 
-// A judge of another's making: it counts how often it is asked.
-#[derive(Drop)]
-struct Counting {
-    asked: u8,
-}
-
-impl Conduct for Counting {
-    ghost hears = { λ old t seq new. new ≡ old };
-
-    ghost is_told = { λ old t unusable new. new ≡ old };
-
-    ghost finds = { λ old t unusable new. old.asked ≤ new.asked };
-}
-
-impl Judge for Counting {
-    ghost held = { λ _. record { rule = None; marks = fresh_marks; flag = false } };
-
-    fn rule(&self) -> Option<Rule> {
-        None
-    }
-
-    fn heard(&mut self, t: Moment, seq: u16) {
-        let _ = (t, seq);
-    }
-
-    fn told(&mut self, t: Moment, unusable: bool) {
-        let _ = (t, unusable);
-    }
-
-    fn assess(&mut self, t: Moment) -> bool {
-        let _ = t;
-        self.asked = self.asked.saturating_add(1);
-        self.asked > 1
-    }
-}
-
 fn tell(judge: &mut Box<dyn Judge>, now: Moment, unusable: bool)
-    ensures { (opening : Option Rule) (L : Record) (m : ℕ) →
-        StandsFor opening L (held judge.old) →
-        StandsFor opening (L ++ Told now m unusable ∷ []) (held judge.new) }
+    ensures { Enters (λ m. Told now m unusable) (held judge.old) (held judge.new) }
 {
     judge.told(now, unusable);
 }
 
 fn ask(judge: &mut Box<dyn Judge>, now: Moment) -> bool
-    ensures assessed { (opening : Option Rule) (L : Record) →
-        StandsFor opening L (held judge.old) → IsAssessment opening L result }
-    ensures stands { (opening : Option Rule) (L : Record) (m : ℕ) →
-        StandsFor opening L (held judge.old) →
-        StandsFor opening (L ++ Judged now m result ∷ []) (held judge.new) }
+    ensures assessed { Finds result (held judge.old) }
+    ensures stands { Enters (λ m. Judged now m result) (held judge.old) (held judge.new) }
 {
     judge.assess(now)
 }
@@ -128,7 +90,8 @@ fn boxed_judges_answer_by_their_rule(rt: HostRuntime) -> Result<(), Fail> {
     assert_eq!(rt; tell_and_ask(&mut flag, false), false);
     let gap: Box<dyn Judge> = Box::new(alloc, GapJudge::new(4))?;
     assert_eq!(rt; gap.rule(), Some(Rule::Gap(4)));
-    let mut own: Box<dyn Judge> = Box::new(alloc, Counting { asked: 0 })?;
+    let dropped = Rc::new(alloc, Cell::new(false))?;
+    let mut own: Box<dyn Judge> = Box::new(alloc, OwnJudge::new(dropped))?;
     assert_eq!(rt; own.rule(), None);
     assert_eq!(rt; tell_and_ask(&mut own, true), false);
     assert_eq!(rt; tell_and_ask(&mut own, false), true);

@@ -1,5 +1,5 @@
 -- What is kept of one kind at one master.
-use Rattle.std.specs.Prelude.{◌≡◌, ℕ, option_map}
+use Rattle.std.specs.Prelude.{◌≡◌, ℕ, [], ◌∷◌, ◌++◌, option_map}
 use Rattle.ptu_units.specs.declared.kind.Kind.{Kind}
 use Rattle.ptu_record.specs.Record.{Entry, Record, Asked, Granted, Denied, Cancelled}
 use Rattle.ptu_record.specs.Grants.{run_start}
@@ -33,3 +33,7 @@ state_of n = record {
 pub record IsKept (k : Kind) (L : Record) (n : Negotiation) : Type 0 where
   pub state : state_of n ≡ kind_state k L
   pub run_start : n.run_start ≡ run_start k L
+
+-- whatever record this was kept of, it has come to be kept of it with this entry of the kind, whichever master it is
+abbrev pub Enters : ((master : ℕ) → Kind → Entry) → (old new : Negotiation) → Type 0
+Enters entry old new = (k : Kind) (L : Record) (m : ℕ) → IsKept k L old → IsKept k (L ++ entry m k ∷ []) new

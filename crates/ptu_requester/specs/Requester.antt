@@ -1,5 +1,5 @@
 -- What a requester stands for: the record of a slave.
-use Rattle.std.specs.Prelude.{◌≡◌, ◌≢◌, ℕ, Bool, true, false, List, map, flat_map, length, Some}
+use Rattle.std.specs.Prelude.{◌≡◌, ◌≢◌, ℕ, Bool, true, false, List, ◌++◌, map, flat_map, length, Some}
 use Rattle.std.specs.List.{slice_get}
 use Rattle.ptu_units.specs.declared.kind.Kind.{Kind}
 use Rattle.ptu_record.specs.declared.wants.Wants.{Wants}
@@ -23,6 +23,10 @@ pub record AreKept (L : Record) (ns : Negotiations) : Type 0 where
 -- what is kept of each master is what the slave's record says of it
 pub record StandsFor (r : Kept) (L : Record) : Type 0 where
   pub each : (m : ℕ) (ns : Negotiations) → slice_get r.masters m ≡ Some ns → AreKept (record_of m L) ns
+
+-- whatever record it stood for, it has come to stand for it with these entries
+abbrev pub Enters : (old new : Kept) → Record → Type 0
+Enters old new entries = (L : Record) → StandsFor old L → StandsFor new (L ++ entries)
 
 -- what is requested, and all other masters, are as before
 pub record ChangesOnly (old new : Kept) (master : ℕ) : Type 0 where

@@ -1,11 +1,11 @@
 //! The negotiation of one kind with one master.
 
-ghost use Rattle.std.specs.Prelude.{◌≡◌, ℕ, ◌++◌, ◌∷◌, [], unwrap_or};
+ghost use Rattle.std.specs.Prelude.{◌≡◌, [], unwrap_or};
 ghost use Rattle.ptu_units.specs.declared.kind.Kind.{Kind};
 ghost use Rattle.ptu_record.specs.Record.{Record, Asked, Granted, Denied, Cancelled};
 ghost use Rattle.ptu_record.specs.Grants.{is_live};
 ghost use Rattle.ptu_record.specs.Asks.{ask_gate, refusal_gate, renewal_gate, is_due};
-ghost use Rattle.ptu_requester.specs.Negotiation.{IsKept, entry_of};
+ghost use Rattle.ptu_requester.specs.Negotiation.{Enters, IsKept, entry_of};
 
 use ptu_units::Moment;
 use ptu_units::timescale::NANOS_PER_SECOND;
@@ -66,8 +66,7 @@ impl Negotiation {
 
     /// Enters a change at a moment.
     pub fn enter(&mut self, t: Moment, change: Change)
-        ensures { (k : Kind) (L : Record) (m : ℕ) → IsKept k L self.old →
-            IsKept k (L ++ entry_of change t m k ∷ []) self.new }
+        ensures { Enters (entry_of change t) self.old self.new }
     {
         match change {
             Change::Ask => self.ask(t),
@@ -78,8 +77,7 @@ impl Negotiation {
     }
 
     fn ask(&mut self, t: Moment)
-        ensures { (k : Kind) (L : Record) (m : ℕ) → IsKept k L self.old →
-            IsKept k (L ++ Asked t m k ∷ []) self.new }
+        ensures { Enters (Asked t) self.old self.new }
     {
         self.unanswered = if self.unanswered < 2 {
             self.unanswered + 1
@@ -90,8 +88,7 @@ impl Negotiation {
     }
 
     fn accept(&mut self, t: Moment, seconds: u32)
-        ensures { (k : Kind) (L : Record) (m : ℕ) → IsKept k L self.old →
-            IsKept k (L ++ Granted t m k seconds ∷ []) self.new }
+        ensures { Enters (λ m k. Granted t m k seconds) self.old self.new }
     {
         self.run_start = if self.is_live(t) {
             self.run_start
@@ -104,8 +101,7 @@ impl Negotiation {
     }
 
     fn deny(&mut self, t: Moment)
-        ensures { (k : Kind) (L : Record) (m : ℕ) → IsKept k L self.old →
-            IsKept k (L ++ Denied t m k ∷ []) self.new }
+        ensures { Enters (Denied t) self.old self.new }
     {
         self.asked = None;
         self.unanswered = 0;
@@ -113,8 +109,7 @@ impl Negotiation {
     }
 
     fn cancel(&mut self, t: Moment)
-        ensures { (k : Kind) (L : Record) (m : ℕ) → IsKept k L self.old →
-            IsKept k (L ++ Cancelled t m k ∷ []) self.new }
+        ensures { Enters (Cancelled t) self.old self.new }
     {
         self.asked = None;
         self.unanswered = 0;

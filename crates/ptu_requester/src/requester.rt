@@ -1,9 +1,9 @@
-ghost use Rattle.std.specs.Prelude.{◌≡◌, ◌<◌, ◌++◌, ◌∷◌, [], length, IfOk};
+ghost use Rattle.std.specs.Prelude.{◌≡◌, ◌<◌, ◌∷◌, [], length, IfOk};
 ghost use Rattle.ptu_record.specs.Record.{Record, record_of, Asked, Cancelled};
 ghost use Rattle.ptu_record.specs.{Grants.{is_live, run_start}, Asks.{due_kinds}};
 ghost use Rattle.ptu_record.specs.Step.{grant_entry};
 ghost use Rattle.ptu_requester.specs.{Due.{kinds_of}, Negotiation.{entry_of}};
-ghost use Rattle.ptu_requester.specs.Requester.{StandsFor, ChangesOnly};
+ghost use Rattle.ptu_requester.specs.Requester.{ChangesOnly, Enters, StandsFor};
 
 use crate::due::Due;
 use crate::negotiation::Change;
@@ -78,8 +78,7 @@ impl Requester {
     /// A REQUEST of the kind was sent to the master, or failed to be sent.
     pub fn asked(&mut self, t: Moment, master: usize, kind: Kind)
         requires { master < length self.old.masters }
-        ensures asked { (L : Record) → StandsFor self.old L →
-            StandsFor self.new (L ++ Asked t master kind ∷ []) }
+        ensures asked { Enters self.old self.new (Asked t master kind ∷ []) }
         ensures others { ChangesOnly self.old self.new master }
     {
         self.enter(t, master, kind, Change::Ask);
@@ -88,8 +87,7 @@ impl Requester {
     /// A GRANT of the kind for so many seconds was accepted of the master; one for 0 is a denial.
     pub fn answered(&mut self, t: Moment, master: usize, kind: Kind, seconds: u32)
         requires { master < length self.old.masters }
-        ensures answered { (L : Record) → StandsFor self.old L →
-            StandsFor self.new (L ++ grant_entry t master seconds kind ∷ []) }
+        ensures answered { Enters self.old self.new (grant_entry t master seconds kind ∷ []) }
         ensures others { ChangesOnly self.old self.new master }
     {
         let change = if seconds == 0 {
@@ -103,8 +101,7 @@ impl Requester {
     /// A CANCEL of the kind was accepted of the master.
     pub fn cancelled(&mut self, t: Moment, master: usize, kind: Kind)
         requires { master < length self.old.masters }
-        ensures cancelled { (L : Record) → StandsFor self.old L →
-            StandsFor self.new (L ++ Cancelled t master kind ∷ []) }
+        ensures cancelled { Enters self.old self.new (Cancelled t master kind ∷ []) }
         ensures others { ChangesOnly self.old self.new master }
     {
         self.enter(t, master, kind, Change::Cancel);
@@ -112,8 +109,7 @@ impl Requester {
 
     fn enter(&mut self, t: Moment, master: usize, kind: Kind, change: Change)
         requires { master < length self.old.masters }
-        ensures entered { (L : Record) → StandsFor self.old L →
-            StandsFor self.new (L ++ entry_of change t master kind ∷ []) }
+        ensures entered { Enters self.old self.new (entry_of change t master kind ∷ []) }
         ensures others { ChangesOnly self.old self.new master }
     {
         self.masters[master].enter(t, kind, change);

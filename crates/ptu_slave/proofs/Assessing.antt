@@ -12,7 +12,9 @@ use Rattle.ptu_record.proofs.Others.{record_of-others}
 use Rattle.ptu_judges.specs.Held.{Held, IsFresh, StandsFor}
 use Rattle.ptu_judges.proofs.Holding.{fresh_takes_over}
 use Rattle.ptu_slave.specs.Kept.{Kept}
-use Rattle.ptu_slave.specs.Parts.{AllJudged, OneAsked, OneJudged}
+use Rattle.ptu_slave.specs.declared.judging.News.{News}
+use Rattle.ptu_slave.specs.declared.judging.News.TheVariants as said
+use Rattle.ptu_slave.specs.Parts.{AllJudged, OneAsked, OneJudged, news_entry}
 use Rattle.ptu_slave.specs.Standing.{Judge, Selects}
 use Rattle.ptu_slave.proofs.Masters.{IsOf, each_own, own_of}
 
@@ -54,6 +56,11 @@ judged_at f xs x m e old y unusable within is of_m found judge = record {
       (subst (λ own. StandsFor (opening_of openings m) own (f y)) (append_assoc (record_of m L) (e ∷ []) (Judged x m unusable ∷ []))
       (judge (opening_of openings m) (record_of m L) (judges.of_master m (f old) (read f xs m old within is)))) judges;
 }
+
+-- what the judge of a master is told concerns this master alone
+pub news_of : (said : News) (x m : ℕ) → IsOf m (news_entry said x m)
+news_of (said.Sync number) x m n = refl
+news_of (said.Word unusable) x m n = refl
 
 -- a judge that took over, asked
 pub anew_at : {A : Type 0} (f : A → Held) (xs : List A) (x m : ℕ) (j y : A) (news : List Held) (unusable : Bool) → m < length xs → IsFresh (f j)

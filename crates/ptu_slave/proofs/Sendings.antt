@@ -27,7 +27,9 @@ use Rattle.ptu_slave_messages.specs.Sending.{all_ones, are_some, departure_of, d
 use Rattle.ptu_outside.specs.declared.port.Port.{Ghosts as Ports}
 use Rattle.ptu_outside.proofs.HandsOver.{hands-append}
 use Rattle.ptu_slave.specs.Kept.{Kept}
-use Rattle.ptu_slave.specs.Parts.{AllAsked, AllEnded, Ticks, cancels_by}
+use Rattle.ptu_slave.specs.declared.ticks.Occasion.{Occasion}
+use Rattle.ptu_slave.specs.declared.ticks.Occasion.TheVariants as occasions
+use Rattle.ptu_slave.specs.Parts.{AllAsked, AllEnded, AllSent, Ticks, cancels_by}
 use Rattle.ptu_slave.specs.Standing.{Asks}
 use Rattle.ptu_slave.proofs.Assessing.{places-more}
 use Rattle.ptu_slave.proofs.Entering.{cancel_entries}
@@ -165,26 +167,48 @@ stop_departures : (config : SlaveConfig) (masters : List Master) (m number : ℕ
 stop_departures config masters m number [] = refl
 stop_departures config masters m number (k ∷ ks) = refl
 
-module _ {P : Type 0} (ports : Ports P) (old now new : P) (core mid : Kept) (m ip : ℕ) (config : SlaveConfig) (ss : List Sending) (sent failed more worse : ℕ)
-    (first : config ≡ mid.config) (second : ip ≡ address_of mid.masters m) (same : mid.config ≡ core.config) (masters : mid.masters ≡ core.masters)
-    (hands : HandsOver ports old now (map (departure_of core.config core.masters all_ones) ss) sent failed) where
-  -- the datagrams of one master more
-  hands_more : (plan : List Sending) → map (departure_to core.config (address_of core.masters m) all_ones) plan ≡ map (departure_of core.config core.masters all_ones) plan
-      → HandsOver ports now new (map (departure_to config ip all_ones) plan) more worse
-      → HandsOver ports old new (map (departure_of core.config core.masters all_ones) (ss ++ plan)) (sent + more) (failed + worse)
-  hands_more plan is next =
-      subst (λ ds. HandsOver ports old new ds (sent + more) (failed + worse)) (sym (map-append (departure_of core.config core.masters all_ones) ss plan))
+-- those of one master
+module _ {P : Type 0} (ports : Ports P) (now new : P) (core mid : Kept) (m ip : ℕ) (config : SlaveConfig) (sent failed : ℕ)
+    (first : config ≡ mid.config) (second : ip ≡ address_of mid.masters m) (rest : mid ≡ record core { requester = mid.requester; counters = mid.counters }) where
+  hands_plan : (plan : List Sending) → map (departure_to core.config (address_of core.masters m) all_ones) plan ≡ map (departure_of core.config core.masters all_ones) plan
+      → HandsOver ports now new (map (departure_to config ip all_ones) plan) sent failed → HandsOver ports now new (map (departure_of core.config core.masters all_ones) plan) sent failed
+  hands_plan plan is =
+      subst (λ ds. HandsOver ports now new ds sent failed)
+      (ap₂ (λ c i. map (departure_to c i all_ones) plan) (first ∙ ap (λ (k : Kept). k.config) rest) (second ∙ ap (λ (k : Kept). address_of k.masters m) rest) ∙ is)
+
+  pub hands_tick : (plan : TickPlan) → ((n : ℕ) → HandsOver ports now new (map (departure_to config ip all_ones) (tick_plan n plan)) sent failed)
+      → HandsOver ports now new (map (departure_of core.config core.masters all_ones) (tick_plan m plan)) sent failed
+  hands_tick plan next = hands_plan (tick_plan m plan) (tick_departures core.config core.masters m plan.number (kinds_in plan.kinds) plan.delay_req) (next m)
+
+  pub hands_stop : (plan : StopPlan) → ((n : ℕ) → HandsOver ports now new (map (departure_to config ip all_ones) (stop_plan n plan)) sent failed)
+      → HandsOver ports now new (map (departure_of core.config core.masters all_ones) (stop_plan m plan)) sent failed
+  hands_stop plan next = hands_plan (stop_plan m plan) (stop_departures core.config core.masters m plan.number (kinds_in plan.kinds)) (next m)
+
+-- ---- both occasions
+
+pub none_sent : (occasion : Occasion) (x : ℕ) (kept : Kept) → AllSent occasion 0 x kept kept []
+none_sent occasions.Tick x kept = none_asked x kept
+none_sent occasions.Stop x kept = none_ended x kept
+
+sent_rest : (occasion : Occasion) (n x : ℕ) (old new : Kept) (ss : List Sending) → AllSent occasion n x old new ss → new ≡ record old { requester = new.requester; counters = new.counters }
+sent_rest occasions.Tick n x old new ss all = all.rest
+sent_rest occasions.Stop n x old new ss all = all.rest
+
+pub sent_masters : (occasion : Occasion) (n x : ℕ) (old new : Kept) (ss : List Sending) → AllSent occasion n x old new ss → new.masters ≡ old.masters
+sent_masters occasion n x old new ss all = ap (λ (k : Kept). k.masters) (sent_rest occasion n x old new ss all)
+
+-- what one master more is sent
+pub one_more_sent : {P : Type 0} (ports : Ports P) (old now new : P) (occasion : Occasion) (n x : ℕ) (first core last : Kept) (ss : List Sending) (sent failed more worse : ℕ)
+    → AllSent occasion n x first core ss → HandsOver ports old now (map (departure_of first.config first.masters all_ones) ss) sent failed
+    → ((es : List Sending) × AllSent occasion (n + 1) x first last (ss ++ es) × HandsOver ports now new (map (departure_of core.config core.masters all_ones) es) more worse)
+    → (es : List Sending) × AllSent occasion (n + 1) x first last es × HandsOver ports old new (map (departure_of first.config first.masters all_ones) es) (sent + more) (failed + worse)
+one_more_sent ports old now new occasion n x first core last ss sent failed more worse all hands one = (
+  ss ++ one.0,
+  one.1,
+  subst (λ ds. HandsOver ports old new ds (sent + more) (failed + worse)) (sym (map-append (departure_of first.config first.masters all_ones) ss one.0))
       (hands-append ports old now new _ _ sent failed more worse hands
-      (subst (λ ds. HandsOver ports now new ds more worse)
-      (ap₂ (λ c i. map (departure_to c i all_ones) plan) (first ∙ same) (second ∙ ap (λ ms. address_of ms m) masters) ∙ is) next))
-
-  pub hands_tick : (plan : TickPlan) → ((n : ℕ) → HandsOver ports now new (map (departure_to config ip all_ones) (tick_plan n plan)) more worse)
-      → HandsOver ports old new (map (departure_of core.config core.masters all_ones) (ss ++ tick_plan m plan)) (sent + more) (failed + worse)
-  hands_tick plan next = hands_more (tick_plan m plan) (tick_departures core.config core.masters m plan.number (kinds_in plan.kinds) plan.delay_req) (next m)
-
-  pub hands_stop : (plan : StopPlan) → ((n : ℕ) → HandsOver ports now new (map (departure_to config ip all_ones) (stop_plan n plan)) more worse)
-      → HandsOver ports old new (map (departure_of core.config core.masters all_ones) (ss ++ stop_plan m plan)) (sent + more) (failed + worse)
-  hands_stop plan next = hands_more (stop_plan m plan) (stop_departures core.config core.masters m plan.number (kinds_in plan.kinds)) (next m)
+      (subst (λ ds. HandsOver ports now new ds more worse) (ap (λ (k : Kept). map (departure_of k.config k.masters all_ones) one.0) (sent_rest occasion n x first core ss all)) one.2)),
+)
 
 -- ---- what is entered of what is sent
 

@@ -49,18 +49,22 @@ pub record HasStopped {P B : Type 0} (ports : Ports P) (t : ℕ) (old new : Seen
   pub judges : new.judges ≡ old.judges
   pub boxes : new.boxes ≡ old.boxes
 
--- the operator's word on the master at this place: its judge was told, and asked
-pub record IsFlagged {P X Z : Type 0} {F : X → Type 0} (conduct : (i : X) → Conducts (F i)) (t m : ℕ) (unusable : Bool)
-    (old new : Seen P (DynBox X Z F)) : Type 0 where
-  pub steps : Goes old new t (TellFlag m unusable)
-  pub told : (found : Bool) × OfOne m (Then (WasTold conduct (max t old.kept.moment) unusable) (WasAsked conduct (max t old.kept.moment) found))
-      old.boxes new.boxes × GoesBy (found ∷ []) old new t (TellFlag m unusable)
+-- at this event a judge was called so, and found this; nothing was sent
+pub record HasJudged {P B : Type 0} (Calls : Bool → List B → List B → Type 0) (t : ℕ) (e : SlaveEvent) (old new : Seen P B) : Type 0 where
+  pub steps : Goes old new t e
+  pub judged : (found : Bool) × Calls found old.boxes new.boxes × GoesBy (found ∷ []) old new t e
   pub port : new.port ≡ old.port
 
+-- the operator's word on the master at this place: its judge was told, and asked
+abbrev pub IsFlagged : {P X Z : Type 0} {F : X → Type 0} → ((i : X) → Conducts (F i)) → (t m : ℕ) → Bool
+    → (old new : Seen P (DynBox X Z F)) → Type 0
+IsFlagged conduct t m unusable old new =
+    HasJudged (λ found. OfOne m (Then (WasTold conduct (max t old.kept.moment) unusable) (WasAsked conduct (max t old.kept.moment) found)))
+    t (TellFlag m unusable) old new
+
 -- the judge in this box took over the master at this place, and was asked
-pub record IsReplaced {P X Z : Type 0} {F : X → Type 0} (judge : (i : X) → Judges (F i)) (conduct : (i : X) → Conducts (F i))
-    (t m : ℕ) (box : DynBox X Z F) (old new : Seen P (DynBox X Z F)) : Type 0 where
-  pub steps : Goes old new t (ReplaceJudge m ((judge box.vtable).held box.value).rule)
-  pub asked : (found : Bool) × OfOne m (λ _ judge_there. WasAsked conduct (max t old.kept.moment) found box judge_there)
-      old.boxes new.boxes × GoesBy (found ∷ []) old new t (ReplaceJudge m ((judge box.vtable).held box.value).rule)
-  pub port : new.port ≡ old.port
+abbrev pub IsReplaced : {P X Z : Type 0} {F : X → Type 0} → ((i : X) → Judges (F i)) → ((i : X) → Conducts (F i)) → (t m : ℕ)
+    → DynBox X Z F → (old new : Seen P (DynBox X Z F)) → Type 0
+IsReplaced judge conduct t m box old new =
+    HasJudged (λ found. OfOne m (λ _ judge_there. WasAsked conduct (max t old.kept.moment) found box judge_there))
+    t (ReplaceJudge m ((judge box.vtable).held box.value).rule) old new

@@ -1,20 +1,27 @@
 -- What the parts of a slave do in an event.
+use Rattle.std.specs.declared.dyn_box.DynBox.{DynBox}
 use Rattle.std.specs.Prelude.{◌≡◌, ℕ, Bool, true, false, List, [], ◌∷◌, ◌++◌, flat_map, length, Option, Some, None, option_map}
 use Rattle.ptu_units.specs.declared.kind.Kind.{Kind}
 use Rattle.ptu_record.specs.declared.rule.Rule.{Rule}
 use Rattle.ptu_record.specs.declared.wants.Wants.{Wants}
 use Rattle.ptu_record.specs.Lists.{places}
-use Rattle.ptu_record.specs.Record.{Entry, Record, record_of, Asked, Judged, Cancelled}
+use Rattle.ptu_record.specs.Record.{Entry, Record, record_of, Asked, Judged, Cancelled, Sync, Told}
 use Rattle.ptu_record.specs.Judges.{AreAssessments, IsAssessment, opening_of}
 use Rattle.ptu_record.specs.Grants.{live_kinds}
 use Rattle.ptu_record.specs.Tick.{Sending, Cancels, one_signaling, requests_to, sending_entries, signaling_number}
-use Rattle.ptu_record.specs.Step.{grant_entry, judged_entries, wanted_kind}
+use Rattle.ptu_record.specs.Step.{SlaveEvent, TakeSync, TellFlag, grant_entry, judged_entries, wanted_kind}
 use Rattle.ptu_requester.specs.Requester.{all_cancels}
 use Rattle.ptu_judges.specs.Held.{Held}
+use Rattle.ptu_judges.specs.Calls.{WasHeard, WasTold}
+use Rattle.ptu_judges.specs.declared.judge.Conduct.{Ghosts}
 use Rattle.ptu_slave_messages.specs.declared.signal.Signal.{Signal}
 use Rattle.ptu_slave_messages.specs.declared.signal.Signal.TheVariants.{Grant, Denial, Cancel, Ack}
 use Rattle.ptu_slave.specs.declared.asking.KindEntry.{KindEntry}
 use Rattle.ptu_slave.specs.declared.asking.KindEntry.TheVariants as kind_entries
+use Rattle.ptu_slave.specs.declared.judging.News.{News}
+use Rattle.ptu_slave.specs.declared.judging.News.TheVariants as news
+use Rattle.ptu_slave.specs.declared.ticks.Occasion.{Occasion}
+use Rattle.ptu_slave.specs.declared.ticks.Occasion.TheVariants as occasions
 use Rattle.ptu_slave.specs.Kept.{Kept}
 use Rattle.ptu_slave.specs.Standing.{Asks, Judge, Selects}
 
@@ -33,6 +40,20 @@ kind_entry kind_entries.Asked = Asked
 kind_entry kind_entries.Cancelled = Cancelled
 
 -- ---- judges
+
+-- what is entered of what a judge is told, and which event that is
+abbrev pub news_entry : News → ℕ → ℕ → Entry
+news_entry (news.Sync seq) x m = Sync x m seq
+news_entry (news.Word unusable) x m = Told x m unusable
+
+abbrev pub news_event : News → ℕ → SlaveEvent
+news_event (news.Sync seq) m = TakeSync m seq
+news_event (news.Word unusable) m = TellFlag m unusable
+
+-- a boxed judge was told this
+abbrev pub WasGiven : {X Z : Type 0} {F : X → Type 0} → ((i : X) → Ghosts (F i)) → ℕ → News → (old new : DynBox X Z F) → Type 0
+WasGiven conduct x (news.Sync seq) = WasHeard conduct x seq
+WasGiven conduct x (news.Word unusable) = WasTold conduct x unusable
 
 -- the judge of a master was asked, and found this
 pub record OneAsked (x m : ℕ) (olds news : List Held) (unusable : Bool) : Type 0 where
@@ -77,3 +98,8 @@ pub record AllEnded (masters x : ℕ) (old new : Kept) (sendings : List Sending)
   pub stated : (told L : Record) → Asks old told L → sendings ≡ flat_map (cancels_by told L x) (places masters)
   pub asks : (told L : Record) → Asks old told L → Asks new (told ++ all_cancels masters told x) (L ++ flat_map (sending_entries x) sendings)
   pub rest : new ≡ record old { requester = new.requester; counters = new.counters }
+
+-- the first masters were sent what a tick or the stop at x sends them
+abbrev pub AllSent : Occasion → (masters x : ℕ) → (old new : Kept) → List Sending → Type 0
+AllSent occasions.Tick = AllAsked
+AllSent occasions.Stop = AllEnded

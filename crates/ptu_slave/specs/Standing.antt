@@ -1,10 +1,10 @@
 -- Which records a slave stands for, and what a step of it is.
-use Rattle.std.specs.Prelude.{◌≡◌, ℕ, ◌<◌, ◌≤◌, Bool, false, List, [], ◌∷◌, ◌++◌, length, map, slice_get, Option, Some, option_map}
+use Rattle.std.specs.Prelude.{◌≡◌, ℕ, ◌<◌, ◌≤◌, max, Bool, false, List, [], ◌∷◌, ◌++◌, length, map, slice_get, Option, Some, option_map}
 use Rattle.std.specs.List.{list_any}
 use Rattle.ptu_units.specs.declared.kind.Kind.{Kind}
 use Rattle.ptu_record.specs.declared.rule.Rule.{Rule}
 use Rattle.ptu_record.specs.Lists.{maximum}
-use Rattle.ptu_record.specs.Record.{Record, event_moment, record_of, moment_of}
+use Rattle.ptu_record.specs.Record.{Entry, Record, event_moment, record_of, moment_of}
 use Rattle.ptu_record.specs.Grants.{is_live}
 use Rattle.ptu_record.specs.Judges.{opening_of}
 use Rattle.ptu_record.specs.Selection.{selected_master}
@@ -16,7 +16,7 @@ use Rattle.ptu_judges.specs.Held.{Held}
 use Rattle.ptu_judges.specs.Held as judge
 use Rattle.ptu_profile.specs.declared.slave.SlaveConfig.{SlaveConfig}
 use Rattle.ptu_profile.specs.Slave.{address_of, priorities, timeouts}
-use Rattle.ptu_slave.specs.Kept.{CountFor, Kept}
+use Rattle.ptu_slave.specs.Kept.{CountFor, IsSame, Kept}
 
 -- what is kept of each master is what a fact says of it and of the master's record
 pub record Each {X : Type 0} (F : ℕ → X → Record → Type 0) (xs : List X) (L : Record) : Type 0 where
@@ -37,6 +37,10 @@ pub record Asks (kept : Kept) (told L : Record) : Type 0 where
 -- what it selects by
 abbrev pub Selects : Kept → Record → Type 0
 Selects kept L = SelectsBy kept.selector (timeouts kept.config) (priorities kept.masters) L
+
+-- whatever record it selected by, it has come to select by it with this entry
+abbrev pub Shows : (old new : Kept) → Entry → Type 0
+Shows old new e = (L : Record) → Selects old L → Selects new (L ++ e ∷ [])
 
 -- its judges: each was told of the Syncs and flags of its own master, in order, and of nothing else
 abbrev pub Judge : List (Option Rule) → List Held → Record → Type 0
@@ -67,6 +71,13 @@ pub record Steps (openings : List (Option Rule)) (old new : Kept) (judges : List
   pub step : SlaveStep
   pub is_step : IsStep (setup_of old.config openings) L t e step
   pub stands : StandsFor openings new judges (L ++ step.entries)
+
+-- an event that is handed t, at which no judge is asked, has this moment; what the slave is stays, and it makes such a step
+-- from each record that it stood for
+pub record Takes (t : ℕ) (e : SlaveEvent) (old new : Kept) (x : ℕ) : Type 0 where
+  pub at : x ≡ max t old.moment
+  pub same : IsSame old new
+  pub steps : (openings : List (Option Rule)) (judges : List Held) (L : Record) → StandsFor openings old judges L → Steps openings old new judges L t e
 
 -- such a step, at which the judges who are asked find this
 abbrev pub StepsBy : List Bool → List (Option Rule) → (old new : Kept) → List Held → Record → ℕ → SlaveEvent → Type 0

@@ -4,7 +4,7 @@ ghost use Rattle.std.specs.Prelude.{◌≡◌, ℕ, ◌<◌, ◌^◌, List, [], 
 ghost use Rattle.ptu_units.specs.Log.{period_of};
 ghost use Rattle.ptu_record.specs.{Lists.{maximum}, Record.{Record, record_of}};
 ghost use Rattle.ptu_record.specs.{Grants.{live_kinds}, Tick.{is_probe_due}};
-ghost use Rattle.ptu_requester.specs.Requester.{StandsFor};
+ghost use Rattle.ptu_requester.specs.Requester.{Enters, StandsFor};
 ghost use Rattle.ptu_slave_messages.specs.Sending.{kinds_in};
 ghost use Rattle.ptu_slave.specs.{Kept.{CountFor}, Parts.{kind_entry, signal_entry}};
 
@@ -67,8 +67,8 @@ fn enter_kind(
     is_sent: bool,
 )
     requires { master < length requester.old.masters }
-    ensures entered { (L : Record) → StandsFor requester.old L →
-        StandsFor requester.new (L ++ cond is_sent (kind_entry entry at master kind ∷ []) []) }
+    ensures entered { Enters requester.old requester.new
+        (cond is_sent (kind_entry entry at master kind ∷ []) []) }
     ensures wants { requester.new.wants ≡ requester.old.wants }
     ensures masters { length requester.new.masters ≡ length requester.old.masters }
 {
@@ -89,8 +89,8 @@ pub(crate) fn enter_kinds(
     kinds: Kinds,
 )
     requires { master < length requester.old.masters }
-    ensures entered { (L : Record) → StandsFor requester.old L →
-        StandsFor requester.new (L ++ map (kind_entry entry at master) (kinds_in kinds)) }
+    ensures entered { Enters requester.old requester.new
+        (map (kind_entry entry at master) (kinds_in kinds)) }
     ensures wants { requester.new.wants ≡ requester.old.wants }
     ensures masters { length requester.new.masters ≡ length requester.old.masters }
 {
@@ -115,8 +115,8 @@ pub(crate) fn live(requester: &Requester, at: Moment, master: usize) -> Kinds
 // Enters what a master said by one TLV.
 fn enter(requester: &mut Requester, wants: &Wants, at: Moment, master: usize, signal: Signal)
     requires { master < length requester.old.masters }
-    ensures entered { (L : Record) → StandsFor requester.old L → StandsFor requester.new
-        (L ++ option_to_list (signal_entry wants.now at master signal)) }
+    ensures entered { Enters requester.old requester.new
+        (option_to_list (signal_entry wants.now at master signal)) }
     ensures wants { requester.new.wants ≡ requester.old.wants }
     ensures masters { length requester.new.masters ≡ length requester.old.masters }
 {
@@ -141,8 +141,8 @@ pub(crate) fn enter_each(
     signals: &[Signal],
 )
     requires { master < length requester.old.masters }
-    ensures entered { (L : Record) → StandsFor requester.old L → StandsFor requester.new
-        (L ++ filter_map (signal_entry wants.now at master) signals.now) }
+    ensures entered { Enters requester.old requester.new
+        (filter_map (signal_entry wants.now at master) signals.now) }
     ensures wants { requester.new.wants ≡ requester.old.wants }
     ensures masters { length requester.new.masters ≡ length requester.old.masters }
 {

@@ -2,14 +2,15 @@
 
 ghost use Rattle.std.specs.Prelude.{◌≡◌, ℕ, ◌<◌, max, List, map, filter_map, length, Option};
 ghost use Rattle.ptu_record.specs.{declared.rule.Rule.{Rule}, Record.{Record}};
-ghost use Rattle.ptu_record.specs.Step.{TakeAnnounce, TakeSync, TakeFollowUp, TakeDelayResp, TakeSignaling, TellFlag, ReplaceJudge};
+ghost use Rattle.ptu_record.specs.Step.{TakeAnnounce, TakeFollowUp, TakeDelayResp, TakeSignaling, ReplaceJudge};
 ghost use Rattle.ptu_tlvs.specs.declared.tlv.Tlv.{Tlv};
 ghost use Rattle.ptu_judges.specs.Held.{Held, IsFresh};
-ghost use Rattle.ptu_judges.specs.Calls.{OfOne, Then, WasAsked, WasHeard, WasTold};
+ghost use Rattle.ptu_judges.specs.Calls.{OfOne, Then, WasAsked};
 ghost use Rattle.ptu_slave_messages.specs.Heard.{signals_of, said_by};
-ghost use Rattle.ptu_slave.specs.{Kept.{IsSame}, Standing.{StandsFor, Steps, StepsFound}};
+ghost use Rattle.ptu_slave.specs.{Kept.{IsSame}, Parts.{WasGiven, news_event}};
+ghost use Rattle.ptu_slave.specs.Standing.{StandsFor, Steps, StepsFound, Takes};
 
-use crate::judging::{judge_anew, judge_flag, judge_sync};
+use crate::judging::{News, judge_anew, judge_news};
 use crate::node::Core;
 use ptu_judges::{Conduct, Judge};
 use ptu_slave_messages::Signal;
@@ -18,11 +19,7 @@ use ptu_units::Moment;
 /// An Announce of the master with this clockClass.
 pub(crate) fn take_announce(core: &mut Core, t: Moment, master: usize, class: u8) -> Moment
     requires { master < length core.old.masters }
-    ensures at { result ≡ max t core.old.moment }
-    ensures same { IsSame core.old core.new }
-    ensures steps { (openings : List (Option Rule)) (judges : List Held) (L : Record) →
-        StandsFor openings core.old judges L →
-        Steps openings core.old core.new judges L t (TakeAnnounce master class) }
+    ensures { Takes t (TakeAnnounce master class) core.old core.new result }
 {
     let at = core.begin(t);
     core.announce(at, master, class);
@@ -32,11 +29,7 @@ pub(crate) fn take_announce(core: &mut Core, t: Moment, master: usize, class: u8
 /// A Follow_Up of the master.
 pub(crate) fn take_follow_up(core: &mut Core, t: Moment, master: usize) -> Moment
     requires { master < length core.old.masters }
-    ensures at { result ≡ max t core.old.moment }
-    ensures same { IsSame core.old core.new }
-    ensures steps { (openings : List (Option Rule)) (judges : List Held) (L : Record) →
-        StandsFor openings core.old judges L →
-        Steps openings core.old core.new judges L t (TakeFollowUp master) }
+    ensures { Takes t (TakeFollowUp master) core.old core.new result }
 {
     let _ = master;
     core.begin(t)
@@ -45,11 +38,7 @@ pub(crate) fn take_follow_up(core: &mut Core, t: Moment, master: usize) -> Momen
 /// A Delay_Resp of the master with this sequenceId.
 pub(crate) fn take_delay_resp(core: &mut Core, t: Moment, master: usize, seq: u16) -> Moment
     requires { master < length core.old.masters }
-    ensures at { result ≡ max t core.old.moment }
-    ensures same { IsSame core.old core.new }
-    ensures steps { (openings : List (Option Rule)) (judges : List Held) (L : Record) →
-        StandsFor openings core.old judges L →
-        Steps openings core.old core.new judges L t (TakeDelayResp master seq) }
+    ensures { Takes t (TakeDelayResp master seq) core.old core.new result }
 {
     let _ = seq;
     let at = core.begin(t);
@@ -78,53 +67,30 @@ pub(crate) fn take_signaling(
     at
 }
 
-/// A Sync of the master with this sequenceId.
-pub(crate) fn take_sync(
+/// A Sync of the master, or the operator's word on it: its judge is told, and asked.
+pub(crate) fn take_news(
     core: &mut Core,
     judges: &mut Vec<Box<dyn Judge>>,
     t: Moment,
     master: usize,
-    seq: u16,
+    news: News,
 ) -> Moment
     requires master { master < length core.old.masters }
     requires judges { length judges.old.items ≡ length core.old.masters }
     ensures at { result ≡ max t core.old.moment }
     ensures same { IsSame core.old core.new }
     ensures judges { length judges.new.items ≡ length judges.old.items }
-    ensures judge { StepsFound (λ found. OfOne master (Then (WasHeard ⟦<dyn Judge as Conduct>⟧
-        (max t core.old.moment) seq)
+    ensures judge { StepsFound (λ found. OfOne master (Then (WasGiven ⟦<dyn Judge as Conduct>⟧
+        (max t core.old.moment) news)
         (WasAsked ⟦<dyn Judge as Conduct>⟧ (max t core.old.moment) found)))
         judges.old.items judges.new.items core.old core.new (map (λ j. held j) judges.old.items)
-        (map (λ j. held j) judges.new.items) t (TakeSync master seq) }
+        (map (λ j. held j) judges.new.items) t (news_event news master) }
 {
     let at = core.begin(t);
-    core.sync(at, master);
-    let unusable = judge_sync(judges, at, master, seq);
+    core.news(at, master, news);
+    let unusable = judge_news(judges, at, master, news);
     core.judged(at, master, unusable);
     at
-}
-
-/// The operator says whether the master is unusable.
-pub(crate) fn tell_flag(
-    core: &mut Core,
-    judges: &mut Vec<Box<dyn Judge>>,
-    t: Moment,
-    master: usize,
-    unusable: bool,
-)
-    requires master { master < length core.old.masters }
-    requires judges { length judges.old.items ≡ length core.old.masters }
-    ensures same { IsSame core.old core.new }
-    ensures judges { length judges.new.items ≡ length judges.old.items }
-    ensures judge { StepsFound (λ found. OfOne master (Then (WasTold ⟦<dyn Judge as Conduct>⟧
-        (max t core.old.moment) unusable)
-        (WasAsked ⟦<dyn Judge as Conduct>⟧ (max t core.old.moment) found)))
-        judges.old.items judges.new.items core.old core.new (map (λ j. held j) judges.old.items)
-        (map (λ j. held j) judges.new.items) t (TellFlag master unusable) }
-{
-    let at = core.begin(t);
-    let found = judge_flag(judges, at, master, unusable);
-    core.judged(at, master, found);
 }
 
 /// Another judge takes over the master; the former one is dropped.

@@ -1,23 +1,27 @@
 //! The judges of a slave, who are told of Syncs and flags, and asked.
 
-ghost use Rattle.std.specs.Prelude.{◌≡◌, ◌<◌, ℕ, Bool, List, [], ◌∷◌, ◌++◌, map, length, Option};
-ghost use Rattle.ptu_record.specs.{declared.rule.Rule.{Rule}, Record.{Record, Sync, Told, Judged}};
-ghost use Rattle.ptu_record.specs.Judges.{IsAssessment};
+ghost use Rattle.std.specs.Prelude.{◌≡◌, ◌<◌, Bool, List, map, length};
 ghost use Rattle.ptu_record.specs.Record as entry;
-ghost use Rattle.ptu_judges.specs.Held.{IsFresh, StandsFor};
+ghost use Rattle.ptu_record.specs.Record.{Judged, Sync, Told};
+ghost use Rattle.ptu_judges.specs.Held.{Enters, Finds, IsFresh};
 ghost use Rattle.ptu_judges.specs.Calls.{OfAll, OfOne, Then, WasAsked, WasHeard, WasTold};
-ghost use Rattle.ptu_slave.specs.Parts.{AllJudged, OneAsked, OneJudged};
+ghost use Rattle.ptu_slave.specs.Parts.{AllJudged, OneAsked, OneJudged, WasGiven, news_entry};
 
 use crate::node::Core;
 use ptu_judges::{Conduct, Judge};
 use ptu_units::Moment;
 
+/// What a judge is told: a Sync of its master with this sequenceId, or the operator's word.
+#[derive(Clone, Copy)]
+pub(crate) enum News {
+    Sync(u16),
+    Word(bool),
+}
+
 // Tells a judge of a Sync.
 fn hear(judge: &mut Box<dyn Judge>, at: Moment, seq: u16)
     ensures call { WasHeard ⟦<dyn Judge as Conduct>⟧ at seq judge.old judge.new }
-    ensures stands { (opening : Option Rule) (own : Record) (m : ℕ) →
-        StandsFor opening own (held judge.old) →
-        StandsFor opening (own ++ Sync at m seq ∷ []) (held judge.new) }
+    ensures stands { Enters (λ m. Sync at m seq) (held judge.old) (held judge.new) }
 {
     judge.heard(at, seq);
 }
@@ -25,60 +29,47 @@ fn hear(judge: &mut Box<dyn Judge>, at: Moment, seq: u16)
 // Tells a judge of the operator's word.
 fn tell(judge: &mut Box<dyn Judge>, at: Moment, unusable: bool)
     ensures call { WasTold ⟦<dyn Judge as Conduct>⟧ at unusable judge.old judge.new }
-    ensures stands { (opening : Option Rule) (own : Record) (m : ℕ) →
-        StandsFor opening own (held judge.old) →
-        StandsFor opening (own ++ Told at m unusable ∷ []) (held judge.new) }
+    ensures stands { Enters (λ m. Told at m unusable) (held judge.old) (held judge.new) }
 {
     judge.told(at, unusable);
+}
+
+// Tells a judge this.
+fn give(judge: &mut Box<dyn Judge>, at: Moment, news: News)
+    ensures call { WasGiven ⟦<dyn Judge as Conduct>⟧ at news judge.old judge.new }
+    ensures stands { Enters (news_entry news at) (held judge.old) (held judge.new) }
+{
+    match news {
+        News::Sync(seq) => hear(judge, at, seq),
+        News::Word(unusable) => tell(judge, at, unusable),
+    }
 }
 
 // Asks a judge.
 fn ask(judge: &mut Box<dyn Judge>, at: Moment) -> bool
     ensures call { WasAsked ⟦<dyn Judge as Conduct>⟧ at result judge.old judge.new }
-    ensures found { (opening : Option Rule) (own : Record) →
-        StandsFor opening own (held judge.old) → IsAssessment opening own result }
-    ensures judge { (opening : Option Rule) (own : Record) (m : ℕ) →
-        StandsFor opening own (held judge.old) →
-        StandsFor opening (own ++ Judged at m result ∷ []) (held judge.new) }
+    ensures found { Finds result (held judge.old) }
+    ensures judge { Enters (λ m. Judged at m result) (held judge.old) (held judge.new) }
 {
     judge.assess(at)
 }
 
-/// Tells the judge of a master of a Sync, and asks it.
-pub(crate) fn judge_sync(
+/// Tells the judge of a master this, and asks it.
+pub(crate) fn judge_news(
     judges: &mut Vec<Box<dyn Judge>>,
     at: Moment,
     master: usize,
-    seq: u16,
+    news: News,
 ) -> bool
     requires { master < length judges.old.items }
-    ensures calls { OfOne master (Then (WasHeard ⟦<dyn Judge as Conduct>⟧ at seq)
+    ensures calls { OfOne master (Then (WasGiven ⟦<dyn Judge as Conduct>⟧ at news)
         (WasAsked ⟦<dyn Judge as Conduct>⟧ at result)) judges.old.items judges.new.items }
-    ensures judged { OneJudged at master (Sync at master seq)
+    ensures judged { OneJudged at master (news_entry news at master)
         (map (λ j. held j) judges.old.items) (map (λ j. held j) judges.new.items) result }
     ensures length { length judges.new.items ≡ length judges.old.items }
 {
     let judge = &mut judges[master];
-    hear(judge, at, seq);
-    ask(judge, at)
-}
-
-/// Tells the judge of a master of the operator's word, and asks it.
-pub(crate) fn judge_flag(
-    judges: &mut Vec<Box<dyn Judge>>,
-    at: Moment,
-    master: usize,
-    unusable: bool,
-) -> bool
-    requires { master < length judges.old.items }
-    ensures calls { OfOne master (Then (WasTold ⟦<dyn Judge as Conduct>⟧ at unusable)
-        (WasAsked ⟦<dyn Judge as Conduct>⟧ at result)) judges.old.items judges.new.items }
-    ensures judged { OneJudged at master (Told at master unusable)
-        (map (λ j. held j) judges.old.items) (map (λ j. held j) judges.new.items) result }
-    ensures length { length judges.new.items ≡ length judges.old.items }
-{
-    let judge = &mut judges[master];
-    tell(judge, at, unusable);
+    give(judge, at, news);
     ask(judge, at)
 }
 

@@ -1,18 +1,19 @@
 ghost use Rattle.std.specs.Prelude.{◌≡◌, ℕ, ◌<◌, ◌≤◌, max, List, [], ◌∷◌, ◌++◌, length, map, flat_map, filter_map, IfOk, All, vec_len, ◌*◌, ◌^◌, true, false};
 ghost use Rattle.std.specs.Option.{ForSome};
 ghost use Rattle.ptu_units.specs.Log.{period_of};
-ghost use Rattle.ptu_record.specs.Record.{Record, record_of, Announce, Sync, Resp, Judged, Cancelled};
+ghost use Rattle.ptu_record.specs.Record.{Record, record_of, Announce, Resp, Judged, Cancelled};
 ghost use Rattle.ptu_record.specs.{Grants.{live_kinds}, Selection.{selected_master}};
 ghost use Rattle.ptu_record.specs.Tick.{requests_to, sending_entries};
 ghost use Rattle.ptu_profile.specs.Slave.{AreMasters, IsWithinLimits, address_of, priorities, timeouts};
 ghost use Rattle.ptu_requester.specs.Due as due;
 ghost use Rattle.ptu_select.specs.Selecting.{SelectsBy};
 ghost use Rattle.ptu_slave_messages.specs.Sending.{kinds_in, stop_plan, tick_plan};
-ghost use Rattle.ptu_slave.specs.{Kept.{CountFor, Kept}, Parts.{cancels_by, signal_entry}};
-ghost use Rattle.ptu_slave.specs.Standing.{Asks, Selects};
+ghost use Rattle.ptu_slave.specs.{Kept.{CountFor, Kept}, Parts.{cancels_by, news_entry, signal_entry}};
+ghost use Rattle.ptu_slave.specs.Standing.{Asks, Selects, Shows};
 
 use crate::asking::{KindEntry, enter_each, enter_kinds, is_probe_due, live};
 use crate::counters::Counters;
+use crate::judging::News;
 use ptu_profile::{Master, SlaveConfig};
 use ptu_requester::{Due, Requester};
 use ptu_select::Selector;
@@ -190,28 +191,29 @@ impl Core {
     /// An Announce of the master with this clockClass was accepted.
     pub(crate) fn announce(&mut self, at: Moment, master: usize, class: u8)
         requires { master < length self.old.masters }
-        ensures selects { (L : Record) → Selects self.old L →
-            Selects self.new (L ++ Announce at master class ∷ []) }
+        ensures selects { Shows self.old self.new (Announce at master class) }
         ensures rest { self.new ≡ record self.old { selector = self.new.selector } }
     {
         self.selector.announce(at, master, class);
     }
 
-    /// A Sync of the master was accepted, whatever its sequenceId.
-    pub(crate) fn sync(&mut self, at: Moment, master: usize)
+    /// The judge of the master is told this: where it is a Sync, that was accepted, whatever its
+    /// sequenceId.
+    pub(crate) fn news(&mut self, at: Moment, master: usize, news: News)
         requires { master < length self.old.masters }
-        ensures selects { (L : Record) (number : ℕ) → Selects self.old L →
-            Selects self.new (L ++ Sync at master number ∷ []) }
+        ensures selects { Shows self.old self.new (news_entry news at master) }
         ensures rest { self.new ≡ record self.old { selector = self.new.selector } }
     {
-        self.selector.sync(at, master);
+        match news {
+            News::Sync(_) => self.selector.sync(at, master),
+            News::Word(_) => (),
+        }
     }
 
     /// A Delay_Resp of the master was accepted, whatever its sequenceId.
     pub(crate) fn resp(&mut self, at: Moment, master: usize)
         requires { master < length self.old.masters }
-        ensures selects { (L : Record) (number : ℕ) → Selects self.old L →
-            Selects self.new (L ++ Resp at master number ∷ []) }
+        ensures selects { (number : ℕ) → Shows self.old self.new (Resp at master number) }
         ensures rest { self.new ≡ record self.old { selector = self.new.selector } }
     {
         self.selector.resp(at, master);
@@ -220,8 +222,7 @@ impl Core {
     /// The judge of the master found whether it is unusable.
     pub(crate) fn judged(&mut self, at: Moment, master: usize, unusable: bool)
         requires { master < length self.old.masters }
-        ensures selects { (L : Record) → Selects self.old L →
-            Selects self.new (L ++ Judged at master unusable ∷ []) }
+        ensures selects { Shows self.old self.new (Judged at master unusable) }
         ensures rest { self.new ≡ record self.old { selector = self.new.selector } }
     {
         self.selector.flag(at, master, unusable);

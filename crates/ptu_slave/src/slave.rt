@@ -17,14 +17,13 @@ ghost use Rattle.ptu_slave.specs.Kept.{IsSame};
 ghost use Rattle.ptu_slave.specs.Standing.{StandsFor, Steps, StepsBy, selected_address};
 
 use crate::events::{
-    replace_judge, take_announce, take_delay_resp, take_follow_up, take_signaling, take_sync,
-    tell_flag,
+    replace_judge, take_announce, take_delay_resp, take_follow_up, take_news, take_signaling,
 };
-use crate::judging::judge_all;
+use crate::judging::{News, judge_all};
 use crate::node::Core;
 use crate::porting::HasPort;
 use crate::ticked::Ticked;
-use crate::ticks::{end_all, tick_all};
+use crate::ticks::{Occasion, send_all, tick_all};
 use ptu_judges::{Conduct, Judge};
 use ptu_outside::{Failed, Port};
 use ptu_profile::{Master, SlaveConfig};
@@ -221,7 +220,7 @@ impl<P: Port> Slave<P> {
             (seen ⟦<dyn Judge as Judge>⟧ self.new) result }
     {
         let at = self.core.begin(t);
-        let sends = end_all(&mut self.core, &mut self.port, at);
+        let sends = send_all(&mut self.core, &mut self.port, at, Occasion::Stop);
         self.core.stop();
         Ticked {
             at,
@@ -240,7 +239,13 @@ impl<P: Port> Slave<P> {
         ensures flagged { IsFlagged ⟦<dyn Judge as Conduct>⟧ t master unusable
             (seen ⟦<dyn Judge as Judge>⟧ self.old) (seen ⟦<dyn Judge as Judge>⟧ self.new) }
     {
-        tell_flag(&mut self.core, &mut self.judges, t, master, unusable);
+        take_news(
+            &mut self.core,
+            &mut self.judges,
+            t,
+            master,
+            News::Word(unusable),
+        );
     }
 
     /// Another judge takes over the master at a place; it is fresh where it has a rule. The former
@@ -432,7 +437,7 @@ fn hear<P: Port>(
             Heard::Announce { at, master, class }
         }
         Content::Sync => {
-            let at = take_sync(core, judges, t, master, seq);
+            let at = take_news(core, judges, t, master, News::Sync(seq));
             Heard::Sync { at, master, seq }
         }
         Content::FollowUp => {

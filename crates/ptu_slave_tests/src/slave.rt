@@ -1,15 +1,15 @@
 //! Worked rows, whose octets, moments and answers were made out by hand.
-ghost use Rattle.std.specs.Prelude.{◌≡◌, ◌≤◌, All, IfOk, None, false, length};
+ghost use Rattle.std.specs.Prelude.{◌≡◌, ◌≤◌, All, IfOk, length};
 ghost use Rattle.ptu_judges.specs.Held.{IsFresh};
-ghost use Rattle.ptu_record.specs.Marks.{fresh_marks};
 ghost use Rattle.ptu_profile.specs.Slave.{IsWithinLimits};
 ghost use Rattle.ptu_slave.specs.{Kept.{IsSame}, Seen.{seen}};
 
 use ptu_header::PortIdentity;
-use ptu_judges::{Conduct, FlagJudge, GapJudge, Judge};
+use ptu_judges::samples::OwnJudge;
+use ptu_judges::{FlagJudge, GapJudge, Judge};
 use ptu_outside::samples::idle_port;
 use ptu_outside::{Channel, MemPort};
-use ptu_record::{Rule, Wants};
+use ptu_record::Wants;
 use ptu_slave::{Master, Slave, SlaveConfig, Ticked};
 use ptu_units::{Kind, Log, Moment};
 use std::alloc::Global;
@@ -292,46 +292,6 @@ fn delay_resps_are_lost_and_restored(rt: HostRuntime) -> Result<(), Fail> {
     play_flagged(&rt, alloc, true, &rows)
 }
 
-// A judge of another's making, which tells when it is dropped.
-struct Own {
-    dropped: Rc<Cell<bool>>,
-}
-
-impl Drop for Own {
-    fn drop(self) {
-        let Own { dropped } = self;
-        dropped.set(true);
-    }
-}
-
-impl Conduct for Own {
-    ghost hears = { λ old t seq new. new ≡ old };
-
-    ghost is_told = { λ old t unusable new. new ≡ old };
-
-    ghost finds = { λ old t unusable new. new ≡ old };
-}
-
-impl Judge for Own {
-    ghost held = { λ _. record { rule = None; marks = fresh_marks; flag = false } };
-
-    fn rule(&self) -> Option<Rule> {
-        None
-    }
-
-    fn heard(&mut self, t: Moment, seq: u16) {
-        let _ = (t, seq);
-    }
-
-    fn told(&mut self, t: Moment, unusable: bool) {
-        let _ = (t, unusable);
-    }
-
-    fn assess(&mut self, t: Moment) -> bool {
-        t.nanos() >= 2 * SECOND
-    }
-}
-
 const ASKED: [(u64, Row); 5] = [
     (0, Row::Announce(1, 84)),
     (SECOND, Row::Sync(1, 0)),
@@ -354,9 +314,7 @@ const REPLACED: [(u64, Row); 7] = [
 fn judges_are_asked_and_replaced(rt: HostRuntime) -> Result<(), Fail> {
     let alloc = rt.alloc();
     let dropped = Rc::new(alloc, Cell::new(false))?;
-    let own = Own {
-        dropped: dropped.clone()?,
-    };
+    let own = OwnJudge::new(dropped.clone()?);
     let config = config(4, 4, false, 0)?;
     let mut slave = slave_of_one(alloc, config, Box::new(alloc, own)?, idle_port(alloc))?;
     play_all(&rt, alloc, &mut slave, &ASKED)?;

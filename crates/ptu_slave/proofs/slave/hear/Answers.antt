@@ -15,7 +15,7 @@ returns-in-Sync-clause-steps g c = λ message is openings L h.
       event_sync c.args.core.now.config.wants c.args.taken.master message (sym (ap (λ (k : Accepted). k.content) is) ∙ c.in-Sync.is),
       ← ap (λ (k : Accepted). k.sequence) is,
     )
-    (c.take_sync-at.ensures.judge.2 openings L h).0
+    (c.take_news-at.ensures.judge.2 openings L h).0
 
 pub returns-in-Signals-clause-steps : goal.returns-in-Signals-clause-steps
 returns-in-Signals-clause-steps g c = λ message is openings L h.

@@ -12,8 +12,8 @@ returns-then-is_stopped g c = record {
 pub returns : goal.returns
 returns g c = record {
   sends = (
-    c.ask_all.ensures.sends.0,
-    ticks_going _ c.args.at c.args.core.now c.ask_all.new.core c.ask_all.ensures.sends.0 refl (sym c.is_stopped.ensures ∙ c.if-is_stopped.false) c.ask_all.ensures.sends.1,
-    c.ask_all.ensures.sends.2,
+    c.send_all.ensures.sends.0,
+    ticks_going _ c.args.at c.args.core.now c.send_all.new.core c.send_all.ensures.sends.0 refl (sym c.is_stopped.ensures ∙ c.if-is_stopped.false) c.send_all.ensures.sends.1,
+    c.send_all.ensures.sends.2,
   );
 }
