@@ -1,8 +1,11 @@
 -- A slave whose port got room.
-use Rattle.std.proofs.Common.{◌≡◌, ◌∙◌, ℕ, ◌+◌, ◌≤◌, Bool, List, [], ◌∷◌, length, ap, arith, subst, sym}
+use Rattle.std.proofs.Common.{◌≡◌, ◌∙◌, ℕ, ◌+◌, ◌≤◌, Bool, false, List, [], ◌∷◌, length, ap, arith, subst, sym}
 use Rattle.ptu_outside.specs.Departure.{Departure}
 use Rattle.ptu_outside.specs.MemoryPort.{IsSure, MemoryPort, octets_of}
+use Rattle.ptu_judges.specs.Held.{Held}
+use Rattle.ptu_slave.specs.Kept.{Kept}
 use Rattle.ptu_slave.specs.Seen.{Seen}
+use Rattle.ptu_nodes.specs.Standing.{IsIdle}
 use Rattle.ptu_world.specs.Deeds.{Slave}
 use Rattle.ptu_lab.specs.NodeStanding.{IsNode, IsSlaveNode}
 use Rattle.ptu_lab.specs.SlaveWords.{HasRoom}
@@ -33,19 +36,25 @@ sure_cleared port sure = record {
   octets = omega arith;
 }
 
--- it stands for the same slave of a world
+-- with another idle port it stands for the same slave of a world
+pub at_port : (ip : ℕ) (kept : Kept) (judges : List Held) (port other : MemoryPort) (begun still : Bool) (s : Slave) → (still ≡ false → begun ≡ false) → IsIdle other → IsSure other []
+    → IsSlaveNode ip kept judges port begun s → IsSlaveNode ip kept judges other still s
+at_port ip kept judges port other begun still s before idle sure h = record {
+  address = h.address;
+  config = h.config;
+  masters = h.masters;
+  limits = h.limits;
+  distinct = h.distinct;
+  stands = h.stands;
+  ruled = h.ruled;
+  fresh = λ is. h.fresh (before is);
+  idle = idle;
+  sure = sure;
+}
+
+-- so it does with room
 pub roomed : {B : Type 0} (ip : ℕ) (old room : Seen MemoryPort B) (begun : Bool) (s : Slave) (datagrams octets : ℕ) → room ≡ record old { port = room.port } → room.port.sent ≡ old.port.sent
     → room.port.failing_sends ≡ old.port.failing_sends → HasRoom room.port datagrams octets → IsNode ip old begun s → IsNode ip room begun s
 roomed ip old room begun s datagrams octets rest sent listed has h =
-    subst (λ (x : Seen MemoryPort _). IsNode ip x begun s) (sym rest) (record {
-      address = h.address;
-      config = h.config;
-      masters = h.masters;
-      limits = h.limits;
-      distinct = h.distinct;
-      stands = h.stands;
-      ruled = h.ruled;
-      fresh = h.fresh;
-      idle = sent ∙ h.idle;
-      sure = sure_room old.port room.port datagrams octets listed has h.sure;
-    })
+    subst (λ (x : Seen MemoryPort _). IsNode ip x begun s) (sym rest)
+    (at_port ip old.kept old.judges old.port room.port begun begun s (λ is. is) (sent ∙ h.idle) (sure_room old.port room.port datagrams octets listed has h.sure) h)

@@ -13,7 +13,7 @@ use Rattle.ptu_record.specs.Selection.{selected_master}
 use Rattle.ptu_record.specs.SignalFails.{Timeouts}
 use Rattle.ptu_record.proofs.Choice.{chosen_best}
 use Rattle.ptu_record.specs.Tick.{Sending}
-use Rattle.ptu_record.specs.Step.{ReplaceJudge, SlaveEvent, judged_masters, sendings, slave_step}
+use Rattle.ptu_record.specs.Step.{ReplaceJudge, SlaveEvent, SlaveSetup, judged_masters, sendings, slave_step}
 use Rattle.ptu_judges.specs.Held.{Held, IsFresh, fresh}
 use Rattle.ptu_profile.specs.declared.slave.Master.{Master}
 use Rattle.ptu_profile.specs.declared.slave.SlaveConfig.{SlaveConfig}
@@ -21,6 +21,7 @@ use Rattle.ptu_profile.specs.Slave.{AreMasters, IsWithinLimits, address_of, prio
 use Rattle.ptu_slave_messages.specs.Node.{Deed, deed, node_setup}
 use Rattle.ptu_slave_messages.specs.Sending.{all_ones, departure_of}
 use Rattle.ptu_slave.specs.Kept.{IsSame, Kept}
+use Rattle.ptu_slave.specs.Seen.{Seen}
 use Rattle.ptu_slave.specs.Standing.{StandsFor, Steps, setup_of}
 use Rattle.ptu_slave.proofs.Ruled.{ruled_step}
 use Rattle.ptu_slave.proofs.Staying.{rules_stay}
@@ -28,14 +29,14 @@ use Rattle.ptu_slave.proofs.Stepping.{moment_is}
 use Rattle.ptu_report_lines.specs.declared.statement.Statement.{Statement}
 use Rattle.ptu_report_lines.specs.declared.statement.Statement.TheVariants.{Selected}
 use Rattle.ptu_world.specs.Deeds.{Slave}
-use Rattle.ptu_world.specs.Slaves.{entered, event_deed, selection_said}
+use Rattle.ptu_world.specs.Slaves.{entered, event_deed, plain_deed, selection_said}
 use Rattle.ptu_nodes.specs.Doing.{HasDone}
 use Rattle.ptu_nodes.specs.Noted.{Noted, with_handed, with_said}
 use Rattle.ptu_nodes.proofs.Noting.{said_nothing, sent_nothing}
-use Rattle.ptu_lab.specs.NodeStanding.{IsSlaveNode, StandsAsSlave}
+use Rattle.ptu_lab.specs.NodeStanding.{IsNode, IsSlaveNode, StandsAsNode, StandsAsSlave}
 use Rattle.ptu_nodes.specs.Standing.{IsIdle}
-use Rattle.ptu_lab.specs.SlaveWords.{HasSlaveStepped, selection_by}
-use Rattle.ptu_lab.proofs.Room.{sure_cleared}
+use Rattle.ptu_lab.specs.SlaveWords.{HasRoom, HasSlaveStepped, HasSteppedTo, selection_by}
+use Rattle.ptu_lab.proofs.Room.{roomed, sure_cleared}
 
 -- ---- what was sent
 
@@ -168,3 +169,38 @@ replaced ip old new judges news judge before after begun s t m rule is h within 
 -- a judge that is fresh
 pub fresh_is : (held : Held) (rule : Rule) → held ≡ fresh rule → IsFresh held
 fresh_is held rule is = subst IsFresh (sym is) refl
+
+-- ---- an event that no datagram makes
+
+-- of what is seen of a slave as room is made, and as all is handed to its port
+pub plainly_stepped : {B : Type 0} (ip : ℕ) (old room new : Seen MemoryPort B) (begun : Bool) (s : Slave) (t at failed datagrams octets : ℕ) (e : SlaveEvent) (handed : List Sending)
+    → room ≡ record old { port = room.port } → room.port.sent ≡ old.port.sent → room.port.failing_sends ≡ old.port.failing_sends → HasRoom room.port datagrams octets
+    → IsNode ip old begun s → ((m : ℕ) → e ≢ ReplaceJudge m None) → AllByRecursion (λ m. m < length room.kept.masters) (judged_masters (length room.kept.masters) e)
+    → IsSame room.kept new.kept
+    → ((openings : List (Option Rule)) (L : Record) → StandsFor openings room.kept room.judges L → Steps openings room.kept new.kept new.judges L t e)
+    → at ≡ max t room.kept.moment
+    → ((openings : List (Option Rule)) (L : Record) → StandsFor openings room.kept room.judges L → handed ≡ sendings (setup_of room.kept.config openings) L at e)
+    → ((setup : SlaveSetup) (L : Record) (x : ℕ) (ss : List Sending) → ss ≡ sendings setup L x e → length setup.openings ≤ 16 → IsSure room.port [] → HasRoom room.port datagrams octets
+    → IsSure room.port (map (departure_of room.kept.config room.kept.masters all_ones) ss))
+    → (IsSure room.port (map (departure_of room.kept.config room.kept.masters all_ones) handed) → (failed ≡ 0) × IsSure new.port [])
+    → (failed ≡ 0 → Some (room.port.sent ++ map (departure_of room.kept.config room.kept.masters all_ones) handed) ≡ Some new.port.sent)
+    → HasSteppedTo ip new s (deed s.opened s.taken t e)
+plainly_stepped ip old room new begun s t at failed datagrams octets e handed rest idle listed has h ruled within same steps is states within_room surely whole =
+    let is_node : IsNode ip room begun s = roomed ip old room begun s datagrams octets rest idle listed has h in
+    let stated : handed ≡ sendings (setup_of room.kept.config s.opened.openings) s.taken at e = states s.opened.openings s.taken is_node.stands in
+    let sure : (failed ≡ 0) × IsSure new.port [] =
+    surely (within_room (setup_of room.kept.config s.opened.openings) s.taken at handed stated (omega (arith, is_node.stands.each_opening, is_node.distinct.few)) is_node.sure has) in
+    plain_stepped ip room.kept new.kept room.judges new.judges room.port room.port new.port begun s t at e
+    handed is_node ruled within same (steps s.opened.openings s.taken is_node.stands) is refl (whole sure.0) stated sure.1
+
+-- and what it does, once that is handed over and the slave says what it selects
+pub plainly_ended : {B T E : Type 0} (r : Result T E) (ip ip' t : ℕ) (e : SlaveEvent) (old mid last : Seen MemoryPort B) (journal noted : Noted)
+    → ip' ≡ ip → last.kept ≡ mid.kept → last.judges ≡ mid.judges
+    → ((begun : Bool) (s : Slave) → IsNode ip old begun s → HasSteppedTo ip mid s (deed s.opened s.taken t e))
+    → OnOk r (last.port ≡ record (mid.port) { sent = [] })
+    → OnOk r ((openings : List (Option Rule)) (L : Record) → StandsFor openings mid.kept mid.judges L
+    → noted ≡ with_said (selection_by ip mid.kept L t ∷ []) (with_handed ip mid.port.sent journal))
+    → OnOk r ((begun : Bool) (s : Slave) → IsNode ip old begun s → HasDone (StandsAsNode ip' last true) ip (plain_deed s t e) journal noted)
+plainly_ended r ip ip' t e old mid last journal noted same_ip same_kept same_judges steps =
+    on_ok_both r (λ cleared says begun s h. ended ip ip' t mid.kept last.kept mid.judges last.judges mid.port last.port s [] (deed s.opened s.taken t e) journal journal noted
+    same_ip same_kept same_judges (steps begun s h) (sym (said_nothing journal)) cleared says)

@@ -39,6 +39,7 @@ use Rattle.ptu_lab.specs.NodeStanding.{IsSlaveNode, StandsAsSlave}
 use Rattle.ptu_nodes.specs.Standing.{IsIdle}
 use Rattle.ptu_lab.specs.SlaveStatements.{IsOfOne, is_ignored}
 use Rattle.ptu_lab.specs.SlaveWords.{HasSlaveStepped, selection_by}
+use Rattle.ptu_lab.proofs.Room.{at_port}
 use Rattle.ptu_lab.proofs.SlaveEvents.{all_sent, ended, stepped}
 use Rattle.ptu_slave_messages.proofs.Senders.{judged_within, no_judge, taken_within}
 
@@ -133,24 +134,11 @@ unstepped ip old new judges news before after begun s h same same_judges sent su
     subst (λ k. HasSlaveStepped ip k news after s (record { entries = []; datagrams = [] })) (sym same)
     (subst (λ js. HasSlaveStepped ip old js after s (record { entries = []; datagrams = [] })) (sym same_judges)
     (record {
-      node = λ cleared idle ready. subst (λ L. IsSlaveNode ip old judges cleared true (record s { taken = L })) (sym (append-nil s.taken)) (anew cleared idle ready);
+      node = λ cleared idle ready. subst (λ L. IsSlaveNode ip old judges cleared true (record s { taken = L })) (sym (append-nil s.taken))
+          (at_port ip old judges before cleared begun true s (λ is. absurd (false≢true (sym is))) idle ready h);
       sends = sent;
       sure = sure;
     }))
-  where
-    anew : (cleared : MemoryPort) → IsIdle cleared → IsSure cleared [] → IsSlaveNode ip old judges cleared true s
-    anew cleared idle ready = record {
-      address = h.address;
-      config = h.config;
-      masters = h.masters;
-      limits = h.limits;
-      distinct = h.distinct;
-      stands = h.stands;
-      ruled = h.ruled;
-      fresh = λ (is : true ≡ false). absurd (false≢true (sym is));
-      idle = idle;
-      sure = ready;
-    }
 
 pub datagram_stepped : (ip : ℕ) (old new : Kept) (judges news : List Held) (before room after : MemoryPort) (begun : Bool) (s : Slave) (t from : ℕ) (octets : List ℕ)
     → IsSlaveNode ip old judges before begun s → IsSame old new

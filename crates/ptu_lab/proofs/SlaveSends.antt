@@ -1,9 +1,9 @@
 -- How much a slave sends at an event, and that its port, with room for that much, is sure to send it.
-use Rattle.std.proofs.Common.{◌≡◌, ℕ, ◌+◌, ◌*◌, ◌≤◌, Bool, true, false, cond, List, [], ◌∷◌, ◌++◌, length, map, Ok, Err, refl, ap, sym, subst, arith, length-append}
+use Rattle.std.proofs.Common.{◌≡◌, ℕ, ◌+◌, ◌*◌, ◌≤◌, Bool, true, false, cond, List, [], ◌∷◌, ◌++◌, length, map, Option, Some, None, Ok, Err, refl, ap, sym, subst, arith, length-append}
 use Rattle.std.proofs.lemmas.List.{length-map, map-append}
 use Rattle.std.proofs.lemmas.List.FromFn.{length-range_with_len}
 use Rattle.std.proofs.lemmas.List.Sums.{count_by-le-length, length-filter, sum_by-append, sum_by-cons}
-use Rattle.std.specs.List.{filter, filter_map, flat_map, list_any}
+use Rattle.std.specs.List.{cons_option, filter, filter_map, flat_map, list_any}
 use Rattle.std.specs.Prelude.{Result, is_some}
 use Rattle.ptu_units.specs.declared.kind.Kind.{Kind}
 use Rattle.ptu_units.specs.Kind.{kinds}
@@ -29,7 +29,7 @@ use Rattle.ptu_record.specs.Lists.{places}
 use Rattle.ptu_record.specs.Record.{Record, record_of}
 use Rattle.ptu_record.specs.Asks.{due_kinds, is_due}
 use Rattle.ptu_record.specs.Grants.{is_live, live_kinds}
-use Rattle.ptu_record.specs.Step.{SlaveSetup, Signal, AckTlv, CancelTlv, GrantTlv, Stop, Tick, cancel_code, one_reply, sendings}
+use Rattle.ptu_record.specs.Step.{SlaveSetup, Stop, Tick, cancel_code, one_reply, sendings}
 use Rattle.ptu_record.specs.Tick.{Acknowledgements, Cancels, DelayReq, Requests, Sending, cancels_to, delay_req_number, is_probe_due, is_stop, one_signaling, requests_to, signaling_number}
 use Rattle.ptu_record.specs.Wants.{wanted_kinds, wanted_log}
 use Rattle.ptu_profile.specs.declared.slave.Master.{Master}
@@ -166,19 +166,14 @@ module _ (config : SlaveConfig) (masters : List Master) (target : PortIdentity) 
 
 -- ---- a reply
 
-codes_few : (signals : List Signal) → length (filter_map cancel_code signals) ≤ length signals
-codes_few [] = omega arith
-codes_few (GrantTlv code seconds ∷ signals) = omega (arith, codes_few signals)
-codes_few (CancelTlv code ∷ signals) = omega (arith, codes_few signals)
-codes_few (AckTlv code ∷ signals) = omega (arith, codes_few signals)
+-- what a function gives of items is not more than they are
+one_given : {Y : Type 0} (given : Option Y) (ys : List Y) → length (cons_option given ys) ≤ length ys + 1
+one_given None ys = omega arith
+one_given (Some y) ys = omega arith
 
-said_few : (tlvs : List Tlv) → length (filter_map said_by tlvs) ≤ length tlvs
-said_few [] = omega arith
-said_few (tlv.Request ask ∷ tlvs) = omega (arith, said_few tlvs)
-said_few (tlv.Grant ask invited ∷ tlvs) = omega (arith, said_few tlvs)
-said_few (tlv.Cancel code ∷ tlvs) = omega (arith, said_few tlvs)
-said_few (tlv.Ack code ∷ tlvs) = omega (arith, said_few tlvs)
-said_few (tlv.Other t n ∷ tlvs) = omega (arith, said_few tlvs)
+given_few : {X Y : Type 0} (f : X → Option Y) (xs : List X) → length (filter_map f xs) ≤ length xs
+given_few f [] = omega arith
+given_few f (x ∷ xs) = omega (arith, one_given (f x) (filter_map f xs), given_few f xs)
 
 module _ (config : SlaveConfig) (masters : List Master) where
   within_reply : (target : PortIdentity) (m number : ℕ) (codes : List ℕ) → length codes ≤ 32 → AreWithin 1 428 (map (departure_of config masters target) (one_reply m number codes))
@@ -195,7 +190,7 @@ module _ (config : SlaveConfig) (masters : List Master) where
   within_replies octets n m header (body.DelayResp stamp requester) spelled = within_none 1 428
   within_replies octets n m header (body.Signaling target tlvs) spelled =
       within_reply header.source m header.sequence (filter_map cancel_code (filter_map said_by tlvs))
-      (omega (arith, codes_few (filter_map said_by tlvs), said_few tlvs, spelled.1.few))
+      (omega (arith, given_few cancel_code (filter_map said_by tlvs), given_few said_by tlvs, spelled.1.few))
   within_replies octets n m header (body.DelayReq stamp) spelled = within_none 1 428
   within_replies octets n m header body.Ignored spelled = within_none 1 428
 

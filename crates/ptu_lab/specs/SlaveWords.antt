@@ -1,15 +1,14 @@
--- What a slave of a script is set up with, and what is said of what it selects.
+-- What the slave of a node is set up with, and what is said of what it selects.
 use Rattle.std.specs.Prelude.{◌≡◌, ◌≤◌, ◌+◌, ℕ, true, List, [], length}
 use Rattle.ptu_outside.specs.MemoryPort.{IsSure, MemoryPort, octets_of}
 use Rattle.ptu_judges.specs.Held.{Held}
 use Rattle.ptu_slave_messages.specs.Node.{Deed}
-use Rattle.ptu_world.specs.Deeds.{Slave}
+use Rattle.ptu_world.specs.Deeds.{IsGrandmaster, IsSlave, Node, Slave}
 use Rattle.ptu_world.specs.Slaves.{entered}
 use Rattle.ptu_lab.specs.NodeStanding.{IsSlaveNode}
 use Rattle.ptu_nodes.specs.Standing.{IsIdle}
 use Rattle.ptu_record.specs.Record.{Record}
 use Rattle.ptu_profile.specs.declared.slave.SlaveConfig.{SlaveConfig}
-use Rattle.ptu_script.specs.declared.command.SlaveSetup.{SlaveSetup}
 use Rattle.ptu_report_lines.specs.declared.statement.Statement.{Statement}
 use Rattle.ptu_report_lines.specs.declared.statement.Statement.TheVariants.{Selected}
 use Rattle.ptu_slave.specs.Kept.{Kept}
@@ -20,17 +19,10 @@ use Rattle.ptu_slave.specs.Standing.{selected_address}
 abbrev pub selection_by : ℕ → Kept → Record → ℕ → Statement
 selection_by ip kept L t = Selected ip (selected_address kept L t)
 
--- what a line of a script sets a slave up with
-abbrev pub new_config : SlaveSetup → SlaveConfig
-new_config setup = record {
-  identity = record { clock = setup.clock; port = setup.port };
-  domain = setup.domain;
-  wants = setup.wants;
-  announce_timeout = setup.announce_timeout;
-  sync_timeout = setup.sync_timeout;
-  delay_timeout = setup.delay_timeout;
-  wait = setup.wait;
-}
+-- the node is a slave that is set up with this
+abbrev pub HasConfig : Node → SlaveConfig → Type 0
+HasConfig (IsSlave s) config = s.opened.config ≡ config
+HasConfig (IsGrandmaster g) config = ⊥
 
 -- an event has made of the slave of a world the slave with the entries of this deed, of which this
 -- is kept then, and whose judges hold this; its port holds what the deed sends, until it is cleared,

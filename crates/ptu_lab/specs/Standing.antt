@@ -6,12 +6,15 @@ use Rattle.ptu_outside.specs.MemoryPort.{MemoryPort}
 use Rattle.ptu_judges.specs.Held.{Held, IsStock}
 use Rattle.ptu_judges.specs.declared.judge.Judge.{Ghosts}
 use Rattle.ptu_slave.specs.Seen.{Seen, seen}
+use Rattle.ptu_script.specs.declared.cause.Cause.{Cause}
+use Rattle.ptu_script.specs.declared.command.Command.{Command}
 use Rattle.ptu_world.specs.Deeds as world
 use Rattle.ptu_world.specs.World.{node_at}
 use Rattle.ptu_units.specs.Counts.{counted}
 use Rattle.ptu_world.specs.Report.{Course}
 use Rattle.ptu_lab.specs.declared.slave_node.SlaveNode.{SlaveNode}
 use Rattle.ptu_lab.specs.NodeStanding.{IsNode, StandsAsNode}
+use Rattle.ptu_lab.specs.Steps.{HasStepped}
 use Rattle.ptu_nodes.specs.Doing.{HasDone}
 use Rattle.ptu_nodes.specs.Noted.{Noted}
 use Rattle.ptu_nodes.specs.Standing.{StandsAsGrandmaster}
@@ -57,6 +60,10 @@ module _ {X : Type 0} {F : X → Type 0} (judge : (i : X) → Ghosts (F i)) wher
   LabStandsFor lab c =
       StandsFor (λ n. seen judge n.slave) (map (λ j. (judge j.vtable).held j.value) lab.stock.flags.items)
       (map (λ j. (judge j.vtable).held j.value) lab.stock.gaps.items) lab c
+
+  -- the lab did what was commanded at the line of this number: the texts of that are these; or this is why it is refused
+  abbrev pub HasObeyed : (old new : Lab X F) → ℕ → List (List ℕ) → Command → Option Cause → Type 0
+  HasObeyed old new line texts command refused = HasStepped line (LabStandsFor old) (LabStandsFor new) texts command refused
 
   -- whatever slave of a world it stood for, a slave did the deed of that one
   abbrev pub HasDoneAsSlave : (old new : SlaveNode X F) → (world.Slave → world.Deed) → (noted noted' : Noted) → Type 0

@@ -6,8 +6,8 @@ ghost use Rattle.ptu_world.specs.Deeds as world;
 ghost use Rattle.ptu_world.specs.Report.{Course};
 ghost use Rattle.ptu_nodes.specs.Standing.{IsGrandmasterNode, StandsAsGrandmaster};
 ghost use Rattle.ptu_lab.specs.Acts.{IsActWithin, act_deed, command_of, stock_after};
-ghost use Rattle.ptu_lab.specs.Steps.{HasActed, HasActedLeaving, HasStepped, stock_of};
-ghost use Rattle.ptu_lab.specs.Standing.{LabStandsFor, NodeStandsAs};
+ghost use Rattle.ptu_lab.specs.Steps.{HasActed, HasActedLeaving, stock_of};
+ghost use Rattle.ptu_lab.specs.Standing.{HasObeyed, LabStandsFor, NodeStandsAs};
 
 use crate::act::Act;
 use crate::lab::{Lab, Node};
@@ -109,10 +109,8 @@ impl Lab {
         requires means { (c : Course) × LabStandsFor ⟦<dyn Judge as Judge>⟧ self.old c }
         requires within { IsActWithin act }
         requires empty { self.old.journal.texts ≡ [] }
-        ensures { IfOk result (HasStepped self.old.journal.line
-            (LabStandsFor ⟦<dyn Judge as Judge>⟧ self.old)
-            (LabStandsFor ⟦<dyn Judge as Judge>⟧ self.new)
-            self.new.journal.texts (command_of ip at act.entry)) }
+        ensures { IfOk result (HasObeyed ⟦<dyn Judge as Judge>⟧ self.old self.new
+            self.old.journal.line self.new.journal.texts (command_of ip at act.entry)) }
     {
         match self.nodes.get_mut(&ip) {
             None => Ok(Some(Cause::Node)),
@@ -137,10 +135,8 @@ impl Lab {
     ) -> Result<Option<Cause>, OutOfMemory>
         requires means { (c : Course) × LabStandsFor ⟦<dyn Judge as Judge>⟧ self.old c }
         requires empty { self.old.journal.texts ≡ [] }
-        ensures { IfOk result (HasStepped self.old.journal.line
-            (LabStandsFor ⟦<dyn Judge as Judge>⟧ self.old)
-            (LabStandsFor ⟦<dyn Judge as Judge>⟧ self.new)
-            self.new.journal.texts (commands.Deliver at number)) }
+        ensures { IfOk result (HasObeyed ⟦<dyn Judge as Judge>⟧ self.old self.new
+            self.old.journal.line self.new.journal.texts (commands.Deliver at number)) }
     {
         let Some(sent) = datagram_of(self.journal.sent(), number) else {
             return Ok(Some(Cause::Number));

@@ -3,8 +3,8 @@ ghost use Rattle.ptu_judges.specs.Held.{IsStock};
 ghost use Rattle.ptu_report.specs.Rules.{IsOutcome};
 ghost use Rattle.ptu_script.specs.Limits.{IsWithinLimits};
 ghost use Rattle.ptu_world.specs.{World.{step}, Report.{Course, course_opening, outcome_by}};
-ghost use Rattle.ptu_lab.specs.{Orders.{IsOrderWithin, command_in}, Standing.{LabStandsFor}};
-ghost use Rattle.ptu_lab.specs.Steps.{HasStepped, stock_of};
+ghost use Rattle.ptu_lab.specs.{Orders.{IsOrderWithin, command_in}, Steps.{stock_of}};
+ghost use Rattle.ptu_lab.specs.Standing.{HasObeyed, LabStandsFor};
 
 use crate::order::{Order, order_of};
 use crate::slave_node::SlaveNode;
@@ -86,10 +86,8 @@ impl Lab {
         requires means { (c : Course) × LabStandsFor ⟦<dyn Judge as Judge>⟧ self.old c }
         requires within { IsOrderWithin order }
         requires empty { self.old.journal.texts ≡ [] }
-        ensures { IfOk result (HasStepped self.old.journal.line
-            (LabStandsFor ⟦<dyn Judge as Judge>⟧ self.old)
-            (LabStandsFor ⟦<dyn Judge as Judge>⟧ self.new)
-            self.new.journal.texts (command_in order.entry)) }
+        ensures { IfOk result (HasObeyed ⟦<dyn Judge as Judge>⟧ self.old self.new
+            self.old.journal.line self.new.journal.texts (command_in order.entry)) }
     {
         match order {
             Order::Grandmaster(setup) => self.set_up_grandmaster(&setup),

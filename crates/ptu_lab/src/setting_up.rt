@@ -6,8 +6,8 @@ ghost use Rattle.ptu_script.specs.declared.command.Command.TheVariants as comman
 ghost use Rattle.ptu_world.specs.Deeds as world;
 ghost use Rattle.ptu_world.specs.Report.{Course};
 ghost use Rattle.ptu_lab.specs.declared.lab.Node.TheVariants as described;
-ghost use Rattle.ptu_lab.specs.Steps.{HasSetUp, HasStepped, IsNoSlave};
-ghost use Rattle.ptu_lab.specs.Standing.{LabStandsFor, NodeStandsAs};
+ghost use Rattle.ptu_lab.specs.Steps.{HasSetUp, IsNoSlave};
+ghost use Rattle.ptu_lab.specs.Standing.{HasObeyed, LabStandsFor, NodeStandsAs};
 
 use crate::lab::{Lab, Node};
 use crate::slave_node::SlaveNode;
@@ -61,10 +61,8 @@ impl Lab {
         setup: &GrandmasterSetup,
     ) -> Result<Option<Cause>, OutOfMemory>
         requires limits { IsGrandmasterWithin setup.now }
-        ensures made { IfOk result (λ refused. (line : ℕ) → HasStepped line
-            (LabStandsFor ⟦<dyn Judge as Judge>⟧ self.old)
-            (LabStandsFor ⟦<dyn Judge as Judge>⟧ self.new)
-            [] (commands.Grandmaster setup.now) refused) }
+        ensures made { IfOk result (λ refused. (line : ℕ) → HasObeyed ⟦<dyn Judge as Judge>⟧
+            self.old self.new line [] (commands.Grandmaster setup.now) refused) }
         ensures journal { self.new.journal ≡ self.old.journal }
     {
         let node = GrandmasterNode::new(self.journal.alloc(), setup);
@@ -77,10 +75,8 @@ impl Lab {
     /// `OutOfMemory`.
     pub fn set_up_slave(&mut self, setup: &SlaveSetup) -> Result<Option<Cause>, OutOfMemory>
         requires limits { IsSlaveWithin setup.now }
-        ensures made { IfOk result (λ refused. (line : ℕ) → HasStepped line
-            (LabStandsFor ⟦<dyn Judge as Judge>⟧ self.old)
-            (LabStandsFor ⟦<dyn Judge as Judge>⟧ self.new)
-            [] (commands.Slave setup.now) refused) }
+        ensures made { IfOk result (λ refused. (line : ℕ) → HasObeyed ⟦<dyn Judge as Judge>⟧
+            self.old self.new line [] (commands.Slave setup.now) refused) }
         ensures journal { self.new.journal ≡ self.old.journal }
     {
         let node = SlaveNode::new(self.journal.alloc(), setup)?;
@@ -100,10 +96,8 @@ impl Lab {
     ) -> Result<Option<Cause>, OutOfMemory>
         requires means { (c : Course) × LabStandsFor ⟦<dyn Judge as Judge>⟧ self.old c }
         requires named { IsNamed rule }
-        ensures made { IfOk result (λ refused. (line : ℕ) → HasStepped line
-            (LabStandsFor ⟦<dyn Judge as Judge>⟧ self.old)
-            (LabStandsFor ⟦<dyn Judge as Judge>⟧ self.new)
-            [] (commands.Master slave ip priority rule) refused) }
+        ensures made { IfOk result (λ refused. (line : ℕ) → HasObeyed ⟦<dyn Judge as Judge>⟧
+            self.old self.new line [] (commands.Master slave ip priority rule) refused) }
         ensures journal { self.new.journal ≡ self.old.journal }
     {
         if self.has_begun {

@@ -17,7 +17,7 @@ ghost use Rattle.ptu_nodes.specs.Standing.{IsIdle};
 ghost use Rattle.ptu_outside.specs.MemoryPort.{IsSure};
 ghost use Rattle.ptu_lab.specs.Acts.{IsActWithin, act_deed, of_master, stock_after};
 ghost use Rattle.ptu_lab.specs.{NodeStanding.{IsNode, StandsAsNode}, SlaveStatements.{IsOfOne}};
-ghost use Rattle.ptu_lab.specs.SlaveWords.{HasRoom, HasSteppedTo, new_config, selection_by};
+ghost use Rattle.ptu_lab.specs.SlaveWords.{HasConfig, HasRoom, HasSteppedTo, selection_by};
 ghost use Rattle.ptu_lab.specs.Standing.{HasDoneAsSlave};
 ghost use Rattle.ptu_lab.specs.Steps.{HasActed, HasActedLeaving, stock_of};
 
@@ -341,7 +341,7 @@ impl SlaveNode {
 // What a line sets a slave up with.
 fn config_of(setup: &SlaveSetup) -> SlaveConfig
     requires { IsSlaveWithin setup.now }
-    ensures config { result ≡ new_config setup.now }
+    ensures config { HasConfig (new_slave setup.now) result }
     ensures limits { IsWithinLimits result }
 {
     SlaveConfig {

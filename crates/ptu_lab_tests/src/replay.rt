@@ -29,17 +29,6 @@ pub(crate) fn replayed(
     Ok((answer, text))
 }
 
-// A stock without judges.
-pub(crate) fn no_judges(alloc: Global) -> Stock
-    ensures { IsStock (map (λ j. held (j.vtable, j.value)) result.flags.items)
-        (map (λ j. held (j.vtable, j.value)) result.gaps.items) }
-{
-    Stock {
-        flags: Vec::new(alloc),
-        gaps: Vec::new(alloc),
-    }
-}
-
 // A renewal in a full table, and a request that does not fit.
 const FULL_TABLE: &str = "\
     gm 10.0.0.1 0a00000000000001 1 4 84 8 300\n\
@@ -312,7 +301,7 @@ const CASES: [(&str, &str); 17] = [
 
 // The report on a script, for which there are no judges.
 fn assert_reported(rt: &impl Abort, alloc: Global, script: &str, report: &str) -> Result<(), Fail> {
-    let (_, text) = replayed(alloc, script, no_judges(alloc))?;
+    let (_, text) = replayed(alloc, script, Stock::empty(alloc))?;
     let report = spelled(alloc, report)?;
     assert_eq!(rt; text.as_str(), report.as_str());
     Ok(())
@@ -343,7 +332,7 @@ fn done(lines: u64, datagrams: u64, granted: u64, refused: u64) -> Done {
 #[test]
 fn the_answer_has_the_numbers_of_the_report(rt: HostRuntime) -> Result<(), Fail> {
     let alloc = rt.alloc();
-    let (answer, _) = replayed(alloc, FULL_TABLE, no_judges(alloc))?;
+    let (answer, _) = replayed(alloc, FULL_TABLE, Stock::empty(alloc))?;
     assert_eq!(rt; answer, Ok(done(4, 3, 2, 1)));
     Ok(())
 }
@@ -438,7 +427,7 @@ fn cut_datagrams(rt: HostRuntime) -> Result<(), Fail> {
         cut.push_str(said_of_cut(alloc, octets)?.as_str())?;
     }
     let script = fronts(alloc)?;
-    let (answer, text) = replayed(alloc, script.as_str(), no_judges(alloc))?;
+    let (answer, text) = replayed(alloc, script.as_str(), Stock::empty(alloc))?;
     assert!(rt; text.starts_with(cut.as_str()), "{text}");
     assert_eq!(rt; answer, Ok(done(84, 3, 9, 0)));
     Ok(())

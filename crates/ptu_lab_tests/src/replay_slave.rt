@@ -5,7 +5,7 @@ ghost use Rattle.ptu_judges.specs.Held.{IsStock, fresh};
 ghost use Rattle.ptu_record.specs.declared.rule.Rule.{Rule};
 
 use crate::pieces::spelled;
-use crate::replay::{no_judges, replayed};
+use crate::replay::replayed;
 use ptu_judges::{FlagJudge, GapJudge, Judge};
 use ptu_lab::Stock;
 use std::alloc::{AllocFailed, Global};
@@ -39,7 +39,7 @@ fn assert_slaves_reported(
     script: &str,
     report: &str,
 ) -> Result<(), Fail> {
-    let mut stock = no_judges(alloc);
+    let mut stock = Stock::empty(alloc);
     let first = Box::new(alloc, FlagJudge::new())?;
     let second = Box::new(alloc, FlagJudge::new())?;
     let gap = Box::new(alloc, GapJudge::new(4))?;
