@@ -2,7 +2,7 @@ ghost use Rattle.std.specs.Prelude.{◌≡◌, ◌≤◌, ◌<◌, ◌+◌, ◌*
 ghost use Rattle.ptu_shard.specs.Row.{share_of};
 ghost use Rattle.ptu_profile.specs.Limits.{IsCapacity};
 ghost use Rattle.ptu_admit.specs.Lent.{four, shares};
-ghost use Rattle.ptu_shared.specs.Seats.{counting, no_verdicts};
+ghost use Rattle.ptu_shared.specs.{Blanks.{IsBlankOf}, Seats.{counting, no_verdicts}};
 
 use crate::place::{First, Fourth, Place, Second, Third};
 use crate::rates::{Rates, audit_parts};
@@ -105,10 +105,8 @@ pub(crate) fn open_desk<L: Rates, G: Ledger, R: Ledger>(
     seats: usize,
 ) -> Result<(Desk<L, G, R>, Vec<Seat<G, R>>), OutOfMemory>
     requires rates { rates.total ≡ 0 }
-    requires granted { (granted.name ≡ G.name) × (granted.parts ≡ G.parts)
-        × (G.parts ≡ L.seats) }
-    requires refused { (refused.name ≡ R.name) × (refused.parts ≡ R.parts)
-        × (R.parts ≡ L.seats) }
+    requires granted { IsBlankOf G.name G.parts L.seats granted }
+    requires refused { IsBlankOf R.name R.parts L.seats refused }
     requires capacity { IsCapacity capacity }
     requires most { capacity ≤ L.most }
     requires seats { (1 ≤ seats) × (seats ≤ 64) × (seats ≡ L.seats) }

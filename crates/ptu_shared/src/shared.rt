@@ -2,8 +2,9 @@ ghost use Rattle.std.specs.Prelude.{◌≡◌, ◌≤◌, ◌<◌, ◌^◌, IfNo
 ghost use Rattle.ptu_history.specs.Client.{table_of as table_of_client};
 ghost use Rattle.ptu_shard.specs.Answered.{moment_of_answer};
 ghost use Rattle.ptu_profile.specs.{Grandmaster.{IsWithinLimits}, Limits.{IsCapacity}};
-ghost use Rattle.ptu_shared.specs.{Answers.{AnswersAsk}, Delays.{IsLaterIfTooSoon}};
-ghost use Rattle.ptu_shared.specs.{Opening.{seen_of}, Seats.{counting, no_verdicts}};
+ghost use Rattle.ptu_shared.specs.{Answers.{AnswersAsk}, Blanks.{IsBlankOf}};
+ghost use Rattle.ptu_shared.specs.{Delays.{IsLaterIfTooSoon}, Opening.{seen_of}};
+ghost use Rattle.ptu_shared.specs.Seats.{counting, no_verdicts};
 
 use crate::asking::{Demand, ask_all, ask_one};
 use crate::changing::{Change, cancel_one, resize_all};
@@ -63,11 +64,9 @@ impl<P: Port + Send, L: Rates, G: Ledger, R: Ledger> Shared<P, L, G, R> {
         p2: P,
         p3: P,
     ) -> Result<(Shared<P, L, G, R>, Vec<Seat<G, R>>), OutOfMemory>
-        requires rates { (rates.name ≡ L.name) × (rates.parts ≡ L.parts) × (L.parts ≡ 4) }
-        requires granted { (granted.name ≡ G.name) × (granted.parts ≡ G.parts)
-            × (G.parts ≡ L.seats) }
-        requires refused { (refused.name ≡ R.name) × (refused.parts ≡ R.parts)
-            × (R.parts ≡ L.seats) }
+        requires rates { IsBlankOf L.name L.parts 4 rates }
+        requires granted { IsBlankOf G.name G.parts L.seats granted }
+        requires refused { IsBlankOf R.name R.parts L.seats refused }
         requires capacity { IsCapacity capacity }
         requires most { capacity ≤ L.most }
         requires ports { (seen_of P.Port p0 ≡ L.opened 0) × (seen_of P.Port p1 ≡ L.opened 1)
