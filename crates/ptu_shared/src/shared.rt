@@ -119,33 +119,15 @@ impl<P: Port + Send, L: Rates, G: Ledger, R: Ledger> Shared<P, L, G, R> {
             client,
             ask,
         };
-        match self.admit_by_one(rt, seat, &demand)? {
+        let answered = match table_of(client) {
+            0 => self.admit_at(rt, &self.t0, seat, &demand),
+            1 => self.admit_at(rt, &self.t1, seat, &demand),
+            2 => self.admit_at(rt, &self.t2, seat, &demand),
+            _ => self.admit_at(rt, &self.t3, seat, &demand),
+        };
+        match answered? {
             Some(verdict) => Ok(verdict),
             None => self.admit_by_all(rt, seat, &demand),
-        }
-    }
-
-    // Decides an ask under the lock of the client's table and the book's, if that is enough.
-    fn admit_by_one(
-        &self,
-        rt: &impl Wait,
-        seat: &mut Seat<G, R>,
-        demand: &Demand<'_>,
-    ) -> Result<Option<Verdict>, OutOfMemory>
-        requires limits { IsWithinLimits demand.now.config.now }
-        requires counts { (seat.old.granted < 2 ^ 48) × (seat.old.refused < 2 ^ 48) }
-        ensures verdict { IfOk result (λ o. IfSome o
-            (AnswersAsk L.most demand.now.config.now demand.now.at demand.now.client.now
-            demand.now.ask.now)) }
-        ensures seat { IfOk result (λ o. IfSome o (λ v. seat.new ≡ counting v seat.old)) }
-        ensures none { IfOk result (λ o. IfNone o (seat.new ≡ seat.old)) }
-        ensures unchanged { OnErr result (seat.new ≡ seat.old) }
-    {
-        match table_of(demand.client) {
-            0 => self.admit_at(rt, &self.t0, seat, demand),
-            1 => self.admit_at(rt, &self.t1, seat, demand),
-            2 => self.admit_at(rt, &self.t2, seat, demand),
-            _ => self.admit_at(rt, &self.t3, seat, demand),
         }
     }
 
