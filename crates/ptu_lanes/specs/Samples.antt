@@ -1,27 +1,13 @@
 -- Settings that were made out by hand.
-use Rattle.std.specs.Prelude.{◌≡◌, ℕ, false, Option, Some, None}
+use Rattle.std.specs.Prelude.{◌≡◌, ℕ, Option, Some, None}
 use Rattle.ptu_config.specs.declared.settings.GmSettings.{GmSettings}
+use Rattle.ptu_config.specs.Examples.{gm_defaults}
 use Rattle.ptu_lanes.specs.Changing.{change_of, early_rounds, greatest_capacity}
 
 -- settings of capacity 8 with so many rounds, of which this one begins with a change to this capacity
 abbrev settings_with : ℕ → ℕ → Option ℕ → GmSettings
-settings_with rounds round capacity = record {
-  ip = 2130706433;
-  event_port = 319;
-  general_port = 320;
-  clock = 1;
-  port = 1;
-  domain = 4;
-  rounds = rounds;
-  class = 84;
-  capacity = 8;
-  max_duration = 300;
-  epoch = 0;
-  senders = 2;
-  change_round = round;
-  new_capacity = capacity;
-  two_step = false;
-}
+settings_with rounds round capacity =
+    record gm_defaults { clock = 1; rounds = rounds; max_duration = 300; senders = 2; change_round = round; new_capacity = capacity }
 
 -- a change comes after the rounds before its own; a round 0, or one behind the last, is none
 abbrev pub ChangesAre : Type 0

@@ -94,6 +94,5 @@ returns-in_default-clause-missed g c = if_ok c.stretch.result _ _ (λ new took. 
 
 pub returns-clause-missed : goal.returns-clause-missed
 returns-clause-missed g c =
-    if_ok c.stretch-3.result _ _ (λ new late.
-    failed_from g.P.Port _ _ _ _ c.requires.tallies.1 (λ start before. late.failures start (c.in_ok-lanes.ensures.event.failures start before)))
-    c.stretch-3.ensures.event
+    let early = c.in_ok-lanes.ensures.event.failures in
+    if_ok c.stretch-3.result _ _ (λ new late. failed_from g.P.Port _ _ _ _ c.requires.tallies.1 (λ start before. late.failures start (early start before))) c.stretch-3.ensures.event
