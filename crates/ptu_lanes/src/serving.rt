@@ -2,7 +2,7 @@
 
 ghost use Rattle.std.specs.Prelude.{◌≡◌, ◌+◌, ◌≤◌, [], IfOk};
 ghost use Rattle.ptu_profile.specs.Grandmaster.{IsWithinLimits};
-ghost use Rattle.ptu_shared.specs.Opening.{seen_of};
+ghost use Rattle.ptu_shared.specs.{Blanks.{IsBlankOf}, Opening.{seen_of}};
 ghost use Rattle.ptu_config.specs.Limits.{IsGmInRange};
 ghost use Rattle.ptu_lanes.specs.Changing.{greatest_capacity};
 ghost use Rattle.ptu_lanes.specs.Served.{ServesByLanes, TablesAreBack, numbers_of};
@@ -154,12 +154,9 @@ where
     G: Ledger + Sync,
     R: Ledger + Sync,
     W: Threads + Wait + Sync,
-    requires rates { (blanks.rates.name ≡ L.name) × (blanks.rates.parts ≡ L.parts)
-        × (L.parts ≡ 4) }
-    requires granted { (blanks.granted.name ≡ G.name) × (blanks.granted.parts ≡ G.parts)
-        × (G.parts ≡ L.seats) }
-    requires refused { (blanks.refused.name ≡ R.name) × (blanks.refused.parts ≡ R.parts)
-        × (R.parts ≡ L.seats) }
+    requires rates { IsBlankOf L.name L.parts 4 blanks.rates }
+    requires granted { IsBlankOf G.name G.parts L.seats blanks.granted }
+    requires refused { IsBlankOf R.name R.parts L.seats blanks.refused }
     requires most { L.most ≡ greatest_capacity settings.now }
     requires seats { L.seats ≡ 1 }
     requires ports { (seen_of P.Port opened.p0 ≡ L.opened 0)

@@ -1,5 +1,5 @@
-//! Tests of tables of leases, of admission, of a grandmaster, of shared tables and of pools, by what
-//! their crates export.
+//! Tests of tables of leases, of admission, of a grandmaster, of shared tables and of pools, by
+//! what their crates export.
 #![tactic(auto)]
 
 #[cfg(test)]

@@ -1,5 +1,5 @@
-//! What the daemons of a grandmaster and of a slave share: their faults, where lanes meet after each
-//! round, and, for contracts, the rounds in which they take what waits at their ports.
+//! What the daemons of a grandmaster and of a slave share: their faults, where lanes meet after
+//! each round, and, for contracts, the rounds in which they take what waits at their ports.
 #![tactic(auto)]
 
 mod fault;
