@@ -17,16 +17,18 @@ use Rattle.ptu_history.specs.Verdict.{Config, verdict}
 use Rattle.ptu_tlvs.specs.declared.tlv.Ask.{Ask}
 use Rattle.ptu_profile.specs.declared.grandmaster.GmConfig.{GmConfig}
 use Rattle.ptu_shard.specs.declared.answered.Answered.{Answered}
+use Rattle.ptu_shard.specs.declared.lease.Row.{Row}
 use Rattle.ptu_shard.specs.Answered.{met_by}
+use Rattle.ptu_shard.specs.Row.{share_of}
 use Rattle.ptu_shard.specs.Table.{Kept, StandsAt}
 use Rattle.ptu_shard.specs.Turn.{due_messages, is_answering_row, is_due_row, spent_where}
 use Rattle.ptu_admit.specs.declared.ending.Cancelled.{Cancelled}
 use Rattle.ptu_admit.specs.declared.verdict.Verdict.{Verdict}
 use Rattle.ptu_admit.specs.Verdict.{IsAt, ask_of, config_of, verdict_of}
 use Rattle.ptu_admit.specs.Book.{KeptBook}
-use Rattle.ptu_admit.specs.Lent.{Lent, StandFor, is_lent, lent_as}
+use Rattle.ptu_admit.specs.Lent.{Lent, StandFor, is_lent, lent_as, shares}
 use Rattle.ptu_admit.proofs.Lending.{are_at, at_back, at_front, stand_for}
-use Rattle.ptu_admit.proofs.Sendings.{delay_req_stands, turn_stands}
+use Rattle.ptu_admit.proofs.Sendings.{delay_req_stands, spent_all, turn_stands}
 use Rattle.ptu_admit.proofs.StepMoments.{moment-one}
 use Rattle.ptu_gm_messages.specs.Deciding.{asked_by, item_moment, opened_with}
 
@@ -126,6 +128,12 @@ module _ {P : Type 0} (config : GmConfig) (t : ℕ) (c : Client) (old new : Kept
       subst Own e (ask_own ask r before after at is stands) apart
 
 -- ---- a turn, and a Delay_Req
+
+-- what is sent from one of the tables leaves the sum of the shares
+pub shares_spent : {P : Type 0} (test : Row → Bool) (x i : ℕ) (before : List Lent) (old new : Kept P) (after : List Lent) → IsPermutation (spent_where test x old.rows) new.rows →
+    shares (before ++ lent_as i new ∷ after) ≡ shares (before ++ lent_as i old ∷ after)
+shares_spent test x i [] old new after spent = ap (λ n. n + shares after) (spent_all test x old.rows new.rows spent)
+shares_spent test x i (t ∷ before) old new after spent = ap (λ n. share_of t.rows + n) (shares_spent test x i before old new after spent)
 
 module _ {P : Type 0} (config : GmConfig) (t : ℕ) (old new : Kept P) (book : KeptBook) (at : ℕ) (is : at ≡ max (max t book.moment) old.moment) where
   abbrev pub TurnIs : Type 0

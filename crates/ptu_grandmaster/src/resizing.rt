@@ -1,14 +1,13 @@
 //! Changes of capacity.
 
-ghost use Rattle.std.specs.Prelude.{◌≡◌, ◌+◌, ◌%◌, ℕ, List, [], ◌∷◌, ◌++◌, map, length, IfOk, OnErr};
+ghost use Rattle.std.specs.Prelude.{◌≡◌, ◌+◌, ◌%◌, ℕ, List, [], ◌∷◌, ◌++◌, length, IfOk, OnErr};
 ghost use Rattle.ptu_outside.specs.HandsOver.{HandsOver, failed_in, sent_in};
-ghost use Rattle.ptu_history.specs.{Core.{book_step_moment, core_step}, History.{Record}};
-ghost use Rattle.ptu_history.specs.Shedding.{shed_grants};
+ghost use Rattle.ptu_history.specs.{Core.{core_step}, History.{Record}};
 ghost use Rattle.ptu_history.specs.Events as events;
 ghost use Rattle.ptu_profile.specs.Limits.{IsCapacity};
-ghost use Rattle.ptu_admit.specs.{Lent.{moment_for_all}, Shed.{shed_of}};
+ghost use Rattle.ptu_admit.specs.Lent.{moment_for_all};
 ghost use Rattle.ptu_gm_messages.specs.{Deciding.{opened_with}, Replies.{cancel_to, cancels_to}};
-ghost use Rattle.ptu_grandmaster.specs.{Changed.{leases_shed}, Gm.{StandsFor, tables}};
+ghost use Rattle.ptu_grandmaster.specs.{Changed.{AreShedAt, leases_shed}, Gm.{StandsFor, tables}};
 
 use crate::gm::Gm;
 use ptu_admit::{Shed, ShedList, resize};
@@ -95,9 +94,8 @@ impl<P: Port> Gm<P> {
         // They are those of the core's change after each history that the grandmaster stands for,
         // which goes on with it.
         ensures shed { (opening : ℕ) (history : List Record) →
-            StandsFor opening self.old history → IfOk result (λ c.
-            (c.at ≡ book_step_moment history t)
-            × (c.shed ≡ map shed_of (shed_grants history c.at capacity))) }
+            StandsFor opening self.old history →
+            IfOk result (λ c. AreShedAt history t capacity c.at c.shed) }
         ensures stands { (opening : ℕ) (history : List Record) →
             StandsFor opening self.old history → IfOk result (λ c.
             StandsFor opening self.new (history

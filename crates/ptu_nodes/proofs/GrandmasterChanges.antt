@@ -13,7 +13,7 @@ use Rattle.ptu_admit.specs.declared.shed_list.Shed.{Shed}
 use Rattle.ptu_admit.specs.Shed.{shed_of}
 use Rattle.ptu_gm_messages.specs.Deciding.{opened_with}
 use Rattle.ptu_gm_messages.specs.Replies.{cancels_to, lease_of}
-use Rattle.ptu_grandmaster.specs.Changed.{leases_shed}
+use Rattle.ptu_grandmaster.specs.Changed.{AreShedAt, leases_shed}
 use Rattle.ptu_grandmaster.specs.Gm.{KeptGm, StandsFor}
 use Rattle.ptu_grandmaster.proofs.Cancels.{cancels_shed}
 use Rattle.ptu_report_lines.specs.declared.statement.Statement.TheVariants as statements
@@ -46,8 +46,7 @@ pub change_done : (ip t capacity : ℕ) (gm0 gm1 gm2 gm3 : KeptGm MemoryPort) (a
     Some (gm1.reply.sent ++ cancels_to gm1.config gm1.sequence (leases_shed shed)) ≡ Some gm2.reply.sent →
     (gm2.s0.port ≡ gm1.s0.port) × (gm2.s1.port ≡ gm1.s1.port) × (gm2.s2.port ≡ gm1.s2.port) × (gm2.s3.port ≡ gm1.s3.port) →
     gm2.config ≡ gm1.config →
-    ((opening : ℕ) (history : List Record) → StandsFor opening gm1 history →
-    (at ≡ book_step_moment history t) × (shed ≡ map shed_of (shed_grants history at capacity))) →
+    ((opening : ℕ) (history : List Record) → StandsFor opening gm1 history → AreShedAt history t capacity at shed) →
     ((opening : ℕ) (history : List Record) → StandsFor opening gm1 history →
     StandsFor opening gm2 (history ++ (core_step (opened_with opening gm1.config) history t (events.Resize capacity)).records)) →
     begun ≡ with_said (statements.Capacity ip capacity at ∷ []) old → said ≡ with_said (map shed_seen shed) begun →

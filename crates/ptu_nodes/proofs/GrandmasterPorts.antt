@@ -5,6 +5,7 @@ use Rattle.ptu_shard.specs.Table.{Kept}
 use Rattle.ptu_grandmaster.specs.Gm.{KeptGm, port_at, with_port}
 use Rattle.ptu_nodes.specs.GrandmasterPorts.{GoesOn, in_ports}
 use Rattle.ptu_nodes.specs.Noted.{Noted, with_handed}
+use Rattle.ptu_nodes.specs.Standing.{IsIdle, IsUnfailing}
 use Rattle.ptu_nodes.proofs.Noting.{handed_more}
 
 -- ---- a port is lent
@@ -27,6 +28,12 @@ goes_on_by false false false false port gm = record { config = refl; stands = λ
 -- whatever port takes its place, the grandmaster goes on
 pub goes_on_lent : (i : ℕ) (port : MemoryPort) (gm : KeptGm MemoryPort) → GoesOn gm (with_port i port gm)
 goes_on_lent i port gm = goes_on_by (i == 4) (i == 0) (i == 1) (i == 2) port gm
+
+-- ---- a port is handed in
+
+-- what was idle and is to fail no send is so where it was handed in
+pub idle_again : {port given : MemoryPort} → port ≡ given → IsIdle given → IsUnfailing given → IsIdle port × IsUnfailing port
+idle_again is idle unfailing = (ap (λ (p : MemoryPort). p.sent) is ∙ idle, ap (λ (p : MemoryPort). p.failing_sends) is ∙ unfailing)
 
 -- ---- datagrams are handed over
 

@@ -31,7 +31,7 @@ use Rattle.ptu_admit.specs.Shed.{shed_of}
 use Rattle.ptu_admit.proofs.Grants.{row_of_live}
 use Rattle.ptu_shard.proofs.SoFar.{length-filter-le}
 use Rattle.ptu_admit.proofs.Sums.{Contains-map, IsMapped}
-use Rattle.ptu_grandmaster.specs.Changed.{leases_shed}
+use Rattle.ptu_grandmaster.specs.Changed.{AreShedAt, leases_shed}
 use Rattle.ptu_grandmaster.specs.Gm.{KeptGm, StandsFor}
 use Rattle.ptu_nodes.specs.GrandmasterPorts.{rows_kept}
 
@@ -141,7 +141,7 @@ shed_few opening gm history stood t capacity =
 
 -- so as many CANCELs at most
 pub cancels_few : (opening : ℕ) (gm : KeptGm MemoryPort) (history : List Record) → StandsFor opening gm history → (t capacity at : ℕ) (shed : List Shed) →
-    (at ≡ book_step_moment history t) × (shed ≡ map shed_of (shed_grants history at capacity)) → length (leases_shed shed) ≤ rows_kept gm
+    AreShedAt history t capacity at shed → length (leases_shed shed) ≤ rows_kept gm
 cancels_few opening gm history stood t capacity at shed found =
     let grants : List Grant = shed_grants history at capacity in
     let few : length grants ≤ rows_kept gm = subst (λ x. length (shed_grants history x capacity) ≤ rows_kept gm) (sym found.0) (shed_few opening gm history stood t capacity) in

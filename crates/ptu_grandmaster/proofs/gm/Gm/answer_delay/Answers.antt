@@ -3,17 +3,13 @@ use Rattle.ptu_admit.specs.Lent.{lent_as}
 use Rattle.ptu_history.specs.Client.{table_of}
 use Rattle.ptu_history.specs.Core.{table_step_moment}
 use Rattle.ptu_shard.specs.Turn.{is_answering_row}
-use Rattle.ptu_admit.proofs.Sendings.{spent_all}
 use Rattle.ptu_grandmaster.proofs.After.{after_delay}
-use Rattle.ptu_grandmaster.proofs.OneTable.{delay_on}
+use Rattle.ptu_grandmaster.proofs.OneTable.{delay_on, shares_spent}
 use Rattle.ptu_grandmaster.proofs.gm.Gm.answer_delay.Goals as goal
 
 pub invariant_of-self : goal.invariant_of-self
 invariant_of-self g c =
-    let x = c.answer_delay.new.self.moment in
-    let share = spent_all (is_answering_row x c.args.client.now) x c.self.inside.s0.rows c.answer_delay.new.self.rows c.answer_delay.ensures.rows in
-    let sum = c.self.invariant.0 in
-    (omega (arith, share, sum), c.self.invariant.1)
+    (c.self.invariant.0 ∙ sym (shares_spent (is_answering_row c.answer_delay.new.self.moment c.args.client.now) c.answer_delay.new.self.moment 0 [] c.self.inside.s0 c.answer_delay.new.self (lent_as 1 c.self.inside.s1 ∷ lent_as 2 c.self.inside.s2 ∷ lent_as 3 c.self.inside.s3 ∷ []) c.answer_delay.ensures.rows), c.self.invariant.1)
 
 pub returns-in-0-clause-met : goal.returns-in-0-clause-met
 returns-in-0-clause-met g c =
@@ -31,10 +27,7 @@ returns-in-0-clause-stands g c =
 
 pub invariant_of-self-in-1 : goal.invariant_of-self-in-1
 invariant_of-self-in-1 g c =
-    let x = c.answer_delay-in-1.new.self.moment in
-    let share = spent_all (is_answering_row x c.args.client.now) x c.self.inside.s1.rows c.answer_delay-in-1.new.self.rows c.answer_delay-in-1.ensures.rows in
-    let sum = c.self.invariant.0 in
-    (omega (arith, share, sum), c.self.invariant.1)
+    (c.self.invariant.0 ∙ sym (shares_spent (is_answering_row c.answer_delay-in-1.new.self.moment c.args.client.now) c.answer_delay-in-1.new.self.moment 1 (lent_as 0 c.self.inside.s0 ∷ []) c.self.inside.s1 c.answer_delay-in-1.new.self (lent_as 2 c.self.inside.s2 ∷ lent_as 3 c.self.inside.s3 ∷ []) c.answer_delay-in-1.ensures.rows), c.self.invariant.1)
 
 pub returns-in-1-clause-met : goal.returns-in-1-clause-met
 returns-in-1-clause-met g c =
@@ -52,10 +45,7 @@ returns-in-1-clause-stands g c =
 
 pub invariant_of-self-in-2 : goal.invariant_of-self-in-2
 invariant_of-self-in-2 g c =
-    let x = c.answer_delay-in-2.new.self.moment in
-    let share = spent_all (is_answering_row x c.args.client.now) x c.self.inside.s2.rows c.answer_delay-in-2.new.self.rows c.answer_delay-in-2.ensures.rows in
-    let sum = c.self.invariant.0 in
-    (omega (arith, share, sum), c.self.invariant.1)
+    (c.self.invariant.0 ∙ sym (shares_spent (is_answering_row c.answer_delay-in-2.new.self.moment c.args.client.now) c.answer_delay-in-2.new.self.moment 2 (lent_as 0 c.self.inside.s0 ∷ lent_as 1 c.self.inside.s1 ∷ []) c.self.inside.s2 c.answer_delay-in-2.new.self (lent_as 3 c.self.inside.s3 ∷ []) c.answer_delay-in-2.ensures.rows), c.self.invariant.1)
 
 pub returns-in-2-clause-met : goal.returns-in-2-clause-met
 returns-in-2-clause-met g c =
@@ -73,10 +63,7 @@ returns-in-2-clause-stands g c =
 
 pub invariant_of-self-in_default : goal.invariant_of-self-in_default
 invariant_of-self-in_default g c =
-    let x = c.answer_delay-in_default.new.self.moment in
-    let share = spent_all (is_answering_row x c.args.client.now) x c.self.inside.s3.rows c.answer_delay-in_default.new.self.rows c.answer_delay-in_default.ensures.rows in
-    let sum = c.self.invariant.0 in
-    (omega (arith, share, sum), c.self.invariant.1)
+    (c.self.invariant.0 ∙ sym (shares_spent (is_answering_row c.answer_delay-in_default.new.self.moment c.args.client.now) c.answer_delay-in_default.new.self.moment 3 (lent_as 0 c.self.inside.s0 ∷ lent_as 1 c.self.inside.s1 ∷ lent_as 2 c.self.inside.s2 ∷ []) c.self.inside.s3 c.answer_delay-in_default.new.self [] c.answer_delay-in_default.ensures.rows), c.self.invariant.1)
 
 pub returns-in_default-clause-met : goal.returns-in_default-clause-met
 returns-in_default-clause-met g c =

@@ -2,16 +2,13 @@ use Rattle.std.proofs.Common.{◌≡◌, ◌∙◌, ap, max, [], ◌∷◌, refl
 use Rattle.ptu_admit.specs.Lent.{lent_as}
 use Rattle.ptu_history.specs.Core.{table_step_moment}
 use Rattle.ptu_shard.specs.Turn.{is_due_row}
-use Rattle.ptu_admit.proofs.Sendings.{spent_all}
 use Rattle.ptu_grandmaster.proofs.After.{after_turn}
-use Rattle.ptu_grandmaster.proofs.OneTable.{turn_on}
+use Rattle.ptu_grandmaster.proofs.OneTable.{shares_spent, turn_on}
 use Rattle.ptu_grandmaster.proofs.gm.Gm.turn.Goals as goal
 
 pub invariant_of-self : goal.invariant_of-self
 invariant_of-self g c =
-    let share = spent_all (is_due_row c.turn.result.at) c.turn.result.at c.self.inside.s0.rows c.turn.new.self.rows c.turn.ensures.rows in
-    let sum = c.self.invariant.0 in
-    (omega (arith, share, sum), c.self.invariant.1)
+    (c.self.invariant.0 ∙ sym (shares_spent (is_due_row c.turn.result.at) c.turn.result.at 0 [] c.self.inside.s0 c.turn.new.self (lent_as 1 c.self.inside.s1 ∷ lent_as 2 c.self.inside.s2 ∷ lent_as 3 c.self.inside.s3 ∷ []) c.turn.ensures.rows), c.self.invariant.1)
 
 pub returns-in-0-clause-messages : goal.returns-in-0-clause-messages
 returns-in-0-clause-messages g c =
@@ -28,9 +25,7 @@ returns-in-0-clause-stands g c =
 
 pub invariant_of-self-in-1 : goal.invariant_of-self-in-1
 invariant_of-self-in-1 g c =
-    let share = spent_all (is_due_row c.turn-in-1.result.at) c.turn-in-1.result.at c.self.inside.s1.rows c.turn-in-1.new.self.rows c.turn-in-1.ensures.rows in
-    let sum = c.self.invariant.0 in
-    (omega (arith, share, sum), c.self.invariant.1)
+    (c.self.invariant.0 ∙ sym (shares_spent (is_due_row c.turn-in-1.result.at) c.turn-in-1.result.at 1 (lent_as 0 c.self.inside.s0 ∷ []) c.self.inside.s1 c.turn-in-1.new.self (lent_as 2 c.self.inside.s2 ∷ lent_as 3 c.self.inside.s3 ∷ []) c.turn-in-1.ensures.rows), c.self.invariant.1)
 
 pub returns-in-1-clause-messages : goal.returns-in-1-clause-messages
 returns-in-1-clause-messages g c =
@@ -47,9 +42,7 @@ returns-in-1-clause-stands g c =
 
 pub invariant_of-self-in-2 : goal.invariant_of-self-in-2
 invariant_of-self-in-2 g c =
-    let share = spent_all (is_due_row c.turn-in-2.result.at) c.turn-in-2.result.at c.self.inside.s2.rows c.turn-in-2.new.self.rows c.turn-in-2.ensures.rows in
-    let sum = c.self.invariant.0 in
-    (omega (arith, share, sum), c.self.invariant.1)
+    (c.self.invariant.0 ∙ sym (shares_spent (is_due_row c.turn-in-2.result.at) c.turn-in-2.result.at 2 (lent_as 0 c.self.inside.s0 ∷ lent_as 1 c.self.inside.s1 ∷ []) c.self.inside.s2 c.turn-in-2.new.self (lent_as 3 c.self.inside.s3 ∷ []) c.turn-in-2.ensures.rows), c.self.invariant.1)
 
 pub returns-in-2-clause-messages : goal.returns-in-2-clause-messages
 returns-in-2-clause-messages g c =
@@ -66,9 +59,7 @@ returns-in-2-clause-stands g c =
 
 pub invariant_of-self-in_default : goal.invariant_of-self-in_default
 invariant_of-self-in_default g c =
-    let share = spent_all (is_due_row c.turn-in_default.result.at) c.turn-in_default.result.at c.self.inside.s3.rows c.turn-in_default.new.self.rows c.turn-in_default.ensures.rows in
-    let sum = c.self.invariant.0 in
-    (omega (arith, share, sum), c.self.invariant.1)
+    (c.self.invariant.0 ∙ sym (shares_spent (is_due_row c.turn-in_default.result.at) c.turn-in_default.result.at 3 (lent_as 0 c.self.inside.s0 ∷ lent_as 1 c.self.inside.s1 ∷ lent_as 2 c.self.inside.s2 ∷ []) c.self.inside.s3 c.turn-in_default.new.self [] c.turn-in_default.ensures.rows), c.self.invariant.1)
 
 pub returns-in_default-clause-messages : goal.returns-in_default-clause-messages
 returns-in_default-clause-messages g c =
