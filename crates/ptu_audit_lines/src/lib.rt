@@ -9,6 +9,3 @@ mod words;
 
 pub use entry::{Decision, Entry, ReportLine};
 pub use reading::read_line;
-
-#[cfg(test)]
-mod tests;

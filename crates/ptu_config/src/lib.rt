@@ -29,8 +29,3 @@ pub use settings::{GmSettings, SlaveSettings};
 pub use setup::{gm_setup, slave_setup};
 pub use setup_fault::SetupFault;
 pub use slave::slave_settings;
-
-#[cfg(test)]
-mod setup_tests;
-#[cfg(test)]
-mod tests;

@@ -45,11 +45,7 @@ pub fn order_of<'a>(command: Command<'a>) -> Order<'a>
             octets,
         } => Order::Act(at, node, Act::Receive { from, octets }),
         Command::Deliver { at, number } => Order::Deliver { at, number },
-        Command::Turn {
-            at,
-            grandmaster,
-            table,
-        } => Order::Act(at, grandmaster, Act::Turn { table }),
+        Command::Turn { at, node, table } => Order::Act(at, node, Act::Turn { table }),
         Command::Tick { at, slave } => Order::Act(at, slave, Act::Tick),
         Command::Flag {
             at,
@@ -64,13 +60,13 @@ pub fn order_of<'a>(command: Command<'a>) -> Order<'a>
             rule,
         } => Order::Act(at, slave, Act::Judge { master, rule }),
         Command::Stop { at, slave } => Order::Act(at, slave, Act::Stop),
-        Command::Class { grandmaster, class } => {
-            Order::Act(Moment::default(), grandmaster, Act::Class { class })
+        Command::Class { node, class } => {
+            Order::Act(Moment::default(), node, Act::Class { class })
         }
-        Command::Capacity {
+        Command::Capacity { at, node, capacity } => Order::Act(
             at,
-            grandmaster,
-            capacity,
-        } => Order::Act(at, grandmaster, Act::Capacity { capacity }),
+            node,
+            Act::Capacity { capacity },
+        ),
     }
 }

@@ -23,3 +23,5 @@ mod replay;
 mod replay_slave;
 #[cfg(test)]
 mod show;
+#[cfg(test)]
+mod trail;

@@ -18,6 +18,3 @@ pub use lent_octets::LentOctets;
 pub use line_reader::LineReader;
 pub use line_words::{WordList, word};
 pub use lines::Lines;
-
-#[cfg(test)]
-mod tests;

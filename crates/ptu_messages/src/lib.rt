@@ -22,6 +22,3 @@ pub use reading::{read_message, read_message_in};
 pub use signaling::{write_signaling, write_signaling_of};
 pub use tlv_list::TlvList;
 pub use to_tlv::ToTlv;
-
-#[cfg(test)]
-mod tests;

@@ -44,8 +44,3 @@ pub use sends::Sends;
 pub use sink::{Sink, write_whole};
 pub use source::Source;
 pub use standard::{StdSink, StdSource};
-
-#[cfg(test)]
-mod port_tests;
-#[cfg(test)]
-mod tests;

@@ -17,6 +17,3 @@ pub use reporter::Reporter;
 pub use running::run;
 pub use stop::Stop;
 pub use texts::Texts;
-
-#[cfg(test)]
-mod tests;

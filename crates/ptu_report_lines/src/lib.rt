@@ -24,6 +24,3 @@ pub use sent_list::SentList;
 pub use signal::Received;
 pub use statement::Statement;
 pub use words::{ChannelText, Word, put_words};
-
-#[cfg(test)]
-mod tests;

@@ -95,9 +95,9 @@ fields_in Deliver line = do
   Ok (commands.Deliver at number)
 fields_in Turn line = do
   at ← field 2 moment_of line
-  grandmaster ← field 3 ip_of line
+  node ← field 3 ip_of line
   table ← field 4 (from_to 0 3) line
-  Ok (commands.Turn at grandmaster table)
+  Ok (commands.Turn at node table)
 fields_in Tick line = do
   at ← field 2 moment_of line
   slave ← field 3 ip_of line
@@ -119,14 +119,14 @@ fields_in Stop line = do
   slave ← field 3 ip_of line
   Ok (commands.Stop at slave)
 fields_in Class line = do
-  grandmaster ← field 2 ip_of line
+  node ← field 2 ip_of line
   class ← field 3 (from_to 0 255) line
-  Ok (commands.Class grandmaster class)
+  Ok (commands.Class node class)
 fields_in Capacity line = do
   at ← field 2 moment_of line
-  grandmaster ← field 3 ip_of line
+  node ← field 3 ip_of line
   capacity ← field 4 (from_to 1 16777216) line
-  Ok (commands.Capacity at grandmaster capacity)
+  Ok (commands.Capacity at node capacity)
 
 -- the line has one of these numbers of words
 abbrev pub has_count : List ℕ → List ℕ → Bool

@@ -75,7 +75,7 @@ pub enum Command<'a> {
     /// A table of a grandmaster, from 0 to 3, takes a turn.
     Turn {
         at: Moment,
-        grandmaster: u32,
+        node: u32,
         table: usize,
     },
     /// A slave takes a tick.
@@ -104,14 +104,14 @@ pub enum Command<'a> {
     },
     /// The clockClass of a grandmaster changes.
     Class {
-        grandmaster: u32,
+        node: u32,
         class: u8,
     },
     /// The capacity of a grandmaster changes to one from 1 to 16777216, in sixteenths of a message
     /// per second.
     Capacity {
         at: Moment,
-        grandmaster: u32,
+        node: u32,
         capacity: u64,
     },
 }

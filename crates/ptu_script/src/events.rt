@@ -28,11 +28,11 @@ pub fn turn<'a>(line: &WordList) -> Result<Command<'a>, Cause>
     ensures within { IfOk result IsWithinLimits }
 {
     let at = moment_field(line, 2)?;
-    let grandmaster = ip_field(line, 3)?;
+    let node = ip_field(line, 3)?;
     let table = number_field(line, 4, 0, 3)?;
     Ok(Command::Turn {
         at,
-        grandmaster,
+        node,
         table: table as usize,
     })
 }
@@ -101,10 +101,10 @@ pub fn class<'a>(line: &WordList) -> Result<Command<'a>, Cause>
     ensures value { result ≡ fields_in verbs.Class line.now }
     ensures within { IfOk result IsWithinLimits }
 {
-    let grandmaster = ip_field(line, 2)?;
+    let node = ip_field(line, 2)?;
     let class = number_field(line, 3, 0, 255)?;
     Ok(Command::Class {
-        grandmaster,
+        node,
         class: class as u8,
     })
 }
@@ -116,13 +116,9 @@ pub fn capacity<'a>(line: &WordList) -> Result<Command<'a>, Cause>
     ensures within { IfOk result IsWithinLimits }
 {
     let at = moment_field(line, 2)?;
-    let grandmaster = ip_field(line, 3)?;
+    let node = ip_field(line, 3)?;
     let capacity = number_field(line, 4, 1, 16_777_216)?;
-    Ok(Command::Capacity {
-        at,
-        grandmaster,
-        capacity,
-    })
+    Ok(Command::Capacity { at, node, capacity })
 }
 
 // The words T, NODE and FROM.

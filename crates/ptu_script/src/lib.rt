@@ -14,6 +14,3 @@ pub use cause::Cause;
 pub use command::{Command, GrandmasterSetup, SlaveSetup};
 pub use reading::read_command;
 pub use verb::Verb;
-
-#[cfg(test)]
-mod tests;

@@ -1,4 +1,4 @@
-//! Tests of lanes and of a grandmaster's daemon, by what their crates export.
+//! Tests of lanes, of Syncs in two steps and of a grandmaster's daemon, by what their crates export.
 #![tactic(auto)]
 
 #[cfg(test)]
@@ -13,6 +13,8 @@ mod lanes;
 mod staged;
 #[cfg(test)]
 mod table_ports;
+#[cfg(test)]
+mod two_step_ports;
 #[cfg(test)]
 mod two_steps;
 #[cfg(test)]

@@ -11,6 +11,3 @@ pub use faults::FaultText;
 pub use laws::{sample_texts, words_are_read_again};
 pub use names::{AddressText, ClockText, IdentityText, KindText, LogText};
 pub use octets::OctetsText;
-
-#[cfg(test)]
-mod tests;

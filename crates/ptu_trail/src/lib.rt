@@ -14,6 +14,3 @@ mod trail;
 
 pub use cause::{Fault, NoCause, Shedding};
 pub use trail::Trail;
-
-#[cfg(test)]
-mod tests;

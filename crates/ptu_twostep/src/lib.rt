@@ -11,6 +11,3 @@ pub use laws::{is_whole_where_read, sent_in_pairs};
 pub use step::Step;
 pub use two_host::{Flags, TwoHost};
 pub use two_step::TwoStep;
-
-#[cfg(test)]
-mod tests;

@@ -12,6 +12,3 @@ pub use reading::read_words;
 /// What is printed where the words are refused.
 pub const USAGE_TEXT: &str =
     "usage: ptpuni replay | show | load N | serve | slave | join | audit N | pools";
-
-#[cfg(test)]
-mod tests;

@@ -1,5 +1,5 @@
-use super::*;
-use crate::samples::GM_SETTINGS;
+use ptu_config::samples::GM_SETTINGS;
+use ptu_config::{Key, MasterSetting, SettingFault, gm_settings, slave_settings};
 use ptu_units::{Kind, Log};
 use std::alloc::{AllocError, Global};
 use std::process::Abort;

@@ -1,7 +1,9 @@
 ghost use Rattle.std.specs.Prelude.{◌<◌, None};
 ghost use Rattle.ptu_lines.specs.{Lines.{reader_of, source_of}, Reading.{AgreesOnEnd}};
 
-use super::*;
+use ptu_lines::{
+    LineCause, LineReader, Lines, LinesFault, WordList, clock, ip, log, number, octets, word,
+};
 use ptu_outside::{Failed, MemSource, Source};
 use std::alloc::{AllocError, Global};
 use std::test::Fail;

@@ -1,6 +1,6 @@
 //! Lines of each form, and lines that are refused.
 
-use super::*;
+use ptu_script::{Cause, read_command};
 use std::test::Fail;
 
 #[test]

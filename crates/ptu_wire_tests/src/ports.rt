@@ -1,7 +1,10 @@
 ghost use Rattle.std.specs.Prelude.{◌≡◌, length, IfOk};
 
-use super::*;
-use crate::samples::{idle_port, opened_with};
+use ptu_outside::samples::{idle_port, opened_with};
+use ptu_outside::{
+    Arrival, Channel, Clock, Datagram, Endpoint, Failed, Host, MemClock, MemHost, MemPort, Opened,
+    Port, Sends, hand,
+};
 use ptu_units::Moment;
 use std::alloc::Global;
 use std::test::Fail;

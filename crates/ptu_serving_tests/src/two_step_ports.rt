@@ -1,6 +1,6 @@
-use super::*;
 use ptu_outside::samples::{idle_port, opened_with};
 use ptu_outside::{Channel, Host, MemHost, MemPort, Port};
+use ptu_twostep::{TwoHost, TwoStep};
 use std::alloc::Global;
 use std::test::Fail;
 

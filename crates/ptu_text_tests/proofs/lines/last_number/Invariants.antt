@@ -1,6 +1,6 @@
 use Rattle.ptu_lines.specs.Lines.{reader_of, source_of}
 use Rattle.ptu_lines.specs.Reading.{AgreesOnEnd}
-use Rattle.ptu_lines.proofs.tests.record.Given as goal
+use Rattle.ptu_text_tests.proofs.lines.last_number.Given as goal
 
 abbrev pub invariant-loop : goal.invariant-loop
 invariant-loop g l = AgreesOnEnd (reader_of l.lines).is_ended (g.S.Source.left (source_of l.lines))

@@ -1,5 +1,5 @@
-use super::*;
 use ptu_history::Client;
+use ptu_trail::{Fault, NoCause, Shedding, Trail};
 use ptu_units::{Kind, Log, OutOfMemory, Stamp};
 use std::alloc::Global;
 use std::process::Abort;

@@ -1,4 +1,4 @@
-use super::*;
+use ptu_config::{Key, RefusalLine, SetupFault, gm_setup, slave_setup};
 use ptu_outside::MemSource;
 use std::alloc::{AllocError, Global};
 use std::test::Fail;

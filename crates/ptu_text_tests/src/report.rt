@@ -3,9 +3,9 @@ ghost use Rattle.std.specs.Fmt.{decimal};
 ghost use Rattle.ptu_lines.specs.declared.cause.LineCause.TheVariants.{Word};
 ghost use Rattle.ptu_report.specs.Rules.{Rules, Goes, Refuses};
 
-use super::*;
 use ptu_lines::LineCause;
 use ptu_outside::{MemSink, MemSource};
+use ptu_report::{Ending, Reporter, Stop, Texts, report};
 use ptu_units::OutOfMemory;
 use std::alloc::Global;
 use std::fmt;

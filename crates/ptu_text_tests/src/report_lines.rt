@@ -1,5 +1,5 @@
-use super::*;
 use ptu_outside::{Channel, Datagram};
+use ptu_report_lines::{Decision, ReportLine, Sent, Statement};
 use ptu_units::{Kind, Moment};
 use ptu_writing::{Draft, Text};
 use std::test::Fail;

@@ -1,8 +1,10 @@
 ghost use Rattle.std.specs.Prelude.{◌≡◌, pos};
 ghost use Rattle.ptu_messages.specs.Sent.{IsFixed};
 
-use super::*;
 use ptu_header::{Header, HeaderFault, PortIdentity};
+use ptu_messages::{
+    AnnounceBody, Body, Message, MessageFault, TlvList, read_message, write_fixed, write_signaling,
+};
 use ptu_tlvs::{Ask, Tlv, TlvFault};
 use ptu_units::Stamp;
 use std::alloc::Global;

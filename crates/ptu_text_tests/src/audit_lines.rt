@@ -1,4 +1,4 @@
-use super::*;
+use ptu_audit_lines::read_line;
 use std::test::Fail;
 
 // What a line says, as `Debug` writes it.

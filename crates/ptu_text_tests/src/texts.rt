@@ -1,6 +1,6 @@
-use super::*;
 use ptu_header::PortIdentity;
 use ptu_messages::MessageFault;
+use ptu_texts::{AddressText, FaultText, IdentityText, KindText, LogText, OctetsText};
 use ptu_tlvs::TlvFault;
 use ptu_units::{Kind, Log};
 use ptu_writing::{LinePart, LineText};

@@ -1,5 +1,5 @@
-use super::*;
 use ptu_units::OutOfMemory;
+use ptu_words::{Command, read_words};
 
 #[test]
 fn words_are_read(rt: HostRuntime) -> Result<(), OutOfMemory> {

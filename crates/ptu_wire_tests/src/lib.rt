@@ -1,0 +1,9 @@
+//! Tests of the outside and of messages, by what their crates export.
+#![tactic(auto)]
+
+#[cfg(test)]
+mod messages;
+#[cfg(test)]
+mod outside;
+#[cfg(test)]
+mod ports;
