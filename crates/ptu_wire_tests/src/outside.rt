@@ -1,7 +1,7 @@
 ghost use Rattle.std.specs.Prelude.{◌≡◌, ◌++◌, IsTrue, ◌∷◌, [], Some, None, map, IfOk, if◌then◌else◌};
 ghost use Rattle.ptu_outside.specs.Handing.{Grows};
 
-use ptu_outside::{Failed, MemSink, MemSource, Sink, StdSink, StdSource, write_whole};
+use ptu_outside::{Failed, MemSink, MemSource, Sink, Source, StdSink, StdSource, write_whole};
 use std::alloc::{AllocError, Global};
 use std::io;
 use std::io::{ErrorKind, Read, Write};
