@@ -2,28 +2,21 @@
 use Rattle.std.proofs.Common.{◌≡◌, ◌∙◌, ℕ, ◌++◌, arith, lit<, Bool, true, false, List, [], ◌∷◌, Option, Result, Ok, Err, refl, sym, ap, inl, inr}
 use Rattle.std.specs.Prelude.{◌≢◌, ◌⊎◌, ◌≤◌, Contains, OnOk, if◌then◌else◌}
 use Rattle.std.specs.Io.KnownBytes.{IsAtEnd, append_known}
-use Rattle.ptu_outside.specs.declared.source.Source.{Ghosts as Sources}
-use Rattle.ptu_outside.specs.Faults.{HasRisen}
+use Rattle.ptu_outside.specs.{declared.source.Source.{Ghosts as Sources}, Faults.{HasRisen}}
 use Rattle.ptu_outside.specs.Handing.{HasPut, joined}
 use Rattle.ptu_lines.specs.declared.cause.LineCause.{LineCause}
-use Rattle.ptu_report.specs.declared.ending.Ending.{Ending}
-use Rattle.ptu_report.specs.declared.ending.Ending.TheVariants.{Whole, Refused}
+use Rattle.ptu_report.specs.declared.ending.{Ending.{Ending}, Ending.TheVariants.{Whole, Refused}}
 use Rattle.ptu_report.specs.declared.fault.RunFault.{RunFault}
 use Rattle.ptu_report.specs.declared.fault.RunFault.TheVariants.{Line, Read, Write, OutOfMemory}
 use Rattle.ptu_report.specs.Runs.{CountsRead, CountsWrite, IfWritten, IsReadWithin}
 use Rattle.ptu_report.proofs.Answered.{written_weaker}
 use Rattle.ptu_report_lines.specs.declared.report_line.ReportLine.{ReportLine}
 use Rattle.ptu_report_lines.specs.declared.report_line.ReportLine.TheVariants.{At, End}
-use Rattle.ptu_world.specs.World.{World, Stock}
-use Rattle.ptu_world.specs.Facts.{EndsBy, world_of}
-use Rattle.ptu_world.specs.Report.{report_lines}
+use Rattle.ptu_world.specs.{World.{World, Stock}, Facts.{EndsBy, world_of}, Report.{report_lines}}
 use Rattle.ptu_script.specs.declared.cause.Cause.{Cause}
-use Rattle.ptu_lab.specs.declared.done.Done.{Done}
-use Rattle.ptu_lab.specs.Replayed.{HasReplayed, IfReplayed}
-use Rattle.ptu_show.specs.Shown.{HasShown}
-use Rattle.ptu_show.specs.Joined.{HasJoined}
-use Rattle.ptu_pool_run.specs.declared.cause.PoolCause.{PoolCause}
-use Rattle.ptu_pool_run.specs.Answers.{HasPoured}
+use Rattle.ptu_lab.specs.{declared.done.Done.{Done}, Replayed.{HasReplayed, IfReplayed}}
+use Rattle.ptu_show.specs.{Shown.{HasShown}, Joined.{HasJoined}}
+use Rattle.ptu_pool_run.specs.{declared.cause.PoolCause.{PoolCause}, Answers.{HasPoured}}
 use Rattle.ptu_words.specs.declared.command.Command.{Command}
 use Rattle.ptu_words.specs.declared.command.Command.TheVariants.{Join, Pools, Replay, Show}
 use Rattle.ptpuni.specs.Answers.{AreFaultsAnswered, HasEnded, IsFaultAnswered}

@@ -3,12 +3,10 @@ use Rattle.std.proofs.Common.{◌≡◌, ◌≢◌, ◌⊎◌, ◌∙◌, ℕ, L
 use Rattle.ptu_lines.specs.Script.{script_lines}
 use Rattle.ptu_report.specs.declared.ending.Ending.TheVariants as endings
 use Rattle.ptu_report.specs.Rules.{ending_of}
-use Rattle.ptu_audit.specs.declared.answer.Answer.{Answer}
-use Rattle.ptu_audit.specs.declared.answer.Answer.TheVariants.{Yes, No}
+use Rattle.ptu_audit.specs.declared.answer.{Answer.{Answer}, Answer.TheVariants.{Yes, No}}
 use Rattle.ptu_report.specs.declared.fault.RunFault.{RunFault}
 use Rattle.ptu_report.specs.declared.fault.RunFault.TheVariants.{Line, Read, Write, OutOfMemory}
-use Rattle.ptu_audit.specs.declared.answer.AuditCause.{AuditCause}
-use Rattle.ptu_audit.specs.Audited.{IsAnswer}
+use Rattle.ptu_audit.specs.{declared.answer.AuditCause.{AuditCause}, Audited.{IsAnswer}}
 use Rattle.ptu_audit.specs.Reading.{audit_rules, opening}
 use Rattle.ptpuni.specs.Run.{status_found, status_of_audit}
 

@@ -1,22 +1,17 @@
 -- What a status says of a daemon's run.
 use Rattle.std.proofs.Common.{◌≡◌, ℕ, List, [], ◌∷◌, Option, Some, None, Result, Ok, Err, arith, lit<, refl, ap, subst, sym, ◌∙◌, inl, inr}
 use Rattle.std.specs.Prelude.{◌≢◌, ◌⊎◌, Contains, OnErr, OnOk}
-use Rattle.ptu_outside.specs.declared.sink.Sink.{Ghosts as Sinks}
-use Rattle.ptu_outside.specs.Faults.{HasRisen}
-use Rattle.ptu_outside.specs.declared.endpoint.Endpoint.{Endpoint}
-use Rattle.ptu_outside.specs.Handing.{HasPut, HasPutFront}
+use Rattle.ptu_outside.specs.{declared.sink.Sink.{Ghosts as Sinks}, Faults.{HasRisen}}
+use Rattle.ptu_outside.specs.{declared.endpoint.Endpoint.{Endpoint}, Handing.{HasPut, HasPutFront}}
 use Rattle.ptu_outside.specs.Telling.{IfTold}
-use Rattle.ptu_config.specs.declared.key.Key.{Key}
-use Rattle.ptu_config.specs.Rules.{Value}
-use Rattle.ptu_config.specs.declared.refusal.RefusalLine.{RefusalLine}
-use Rattle.ptu_config.specs.Reading.{HasTakenSome}
+use Rattle.ptu_config.specs.{declared.key.Key.{Key}, Rules.{Value}}
+use Rattle.ptu_config.specs.{declared.refusal.RefusalLine.{RefusalLine}, Reading.{HasTakenSome}}
 use Rattle.ptu_config.specs.Refusals.{refusal_text}
 use Rattle.ptu_rounds.specs.declared.fault.DaemonFault.{DaemonFault}
 use Rattle.ptu_rounds.specs.declared.fault.DaemonFault.TheVariants.{Open, Write, OutOfMemory}
 use Rattle.ptu_rounds.specs.Opening.{OpenedAt}
 use Rattle.ptu_config.specs.declared.settings.GmSettings.{GmSettings}
-use Rattle.ptu_daemon.specs.Answers.{HasAnswered}
-use Rattle.ptu_daemon.specs.Served.{Said}
+use Rattle.ptu_daemon.specs.{Answers.{HasAnswered}, Served.{Said}}
 use Rattle.ptu_slave_daemon.specs.Answers.{CountsOpen, CountsWrite}
 use Rattle.ptpuni.specs.Answers.{AreFaultsAnswered, HasEnded}
 use Rattle.ptpuni.proofs.Answered.{answered_risen, answered_still}

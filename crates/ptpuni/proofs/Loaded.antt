@@ -1,7 +1,6 @@
 -- What a status says of a load.
 use Rattle.std.proofs.Common.{◌≡◌, ℕ, true, false, List, [], ◌∷◌, Option, Result, Ok, Err, arith, refl, inl, inr}
-use Rattle.std.specs.Prelude.{◌⊎◌, IfErr, OnOk}
-use Rattle.std.specs.Io.KnownBytes.{append_known}
+use Rattle.std.specs.{Prelude.{◌⊎◌, IfErr, OnOk}, Io.KnownBytes.{append_known}}
 use Rattle.ptu_outside.specs.Handing.{HasPut, HasPutPart}
 use Rattle.ptu_world.specs.World.{Stock}
 use Rattle.ptu_report.specs.declared.fault.RunFault.{RunFault}

@@ -1,28 +1,20 @@
 -- What a run of a daemon comes to: it reads its settings, opens its ports, and writes its output.
 use Rattle.std.specs.Prelude.{◌≡◌, ◌⊎◌, ℕ, true, false, List, [], ◌∷◌, Option, Some, None, Result, Ok, Err}
-use Rattle.ptu_outside.specs.declared.clock.Clock.{Ghosts as Clocks}
-use Rattle.ptu_outside.specs.declared.endpoint.Endpoint.{Endpoint}
-use Rattle.ptu_outside.specs.declared.opened.Opened.{Opened}
-use Rattle.ptu_outside.specs.declared.port.Port.{Ghosts as Ports}
-use Rattle.ptu_outside.specs.Handing.{HasPut, HasPutFront, HasPutPart}
-use Rattle.ptu_outside.specs.Telling.{IfTold}
-use Rattle.ptu_config.specs.declared.key.Key.{Key}
-use Rattle.ptu_config.specs.declared.settings.GmSettings.{GmSettings}
+use Rattle.ptu_outside.specs.declared.{clock.Clock.{Ghosts as Clocks}, endpoint.Endpoint.{Endpoint}}
+use Rattle.ptu_outside.specs.declared.{opened.Opened.{Opened}, port.Port.{Ghosts as Ports}}
+use Rattle.ptu_outside.specs.{Handing.{HasPut, HasPutFront, HasPutPart}, Telling.{IfTold}}
+use Rattle.ptu_config.specs.declared.{key.Key.{Key}, settings.GmSettings.{GmSettings}}
 use Rattle.ptu_config.specs.declared.settings.SlaveSettings.{SlaveSettings}
-use Rattle.ptu_config.specs.Entries.{gm_entries, slave_entries}
-use Rattle.ptu_config.specs.Rules.{Value}
+use Rattle.ptu_config.specs.{Entries.{gm_entries, slave_entries}, Rules.{Value}}
 use Rattle.ptu_config.specs.declared.setup_fault.SetupFault.TheVariants.{Refused}
 use Rattle.ptu_config.specs.declared.refusal.RefusalLine.{RefusalLine}
 use Rattle.ptu_config.specs.Reading.{Answers, HasSetUp, HasTakenSome}
 use Rattle.ptu_config.specs.Refusals.{gm_refusal, refusal_text, slave_refusal}
 use Rattle.ptu_rounds.specs.declared.fault.DaemonFault.{DaemonFault}
 use Rattle.ptu_rounds.specs.declared.fault.DaemonFault.TheVariants.{Open, Write, OutOfMemory}
-use Rattle.ptu_daemon.specs.Events.{endpoint_of}
-use Rattle.ptu_daemon.specs.Served.{Said, closing_line}
-use Rattle.ptu_daemon.specs.Serving.{HasServed}
+use Rattle.ptu_daemon.specs.{Events.{endpoint_of}, Served.{Said, closing_line}, Serving.{HasServed}}
 use Rattle.ptu_daemon.specs.ServingInTwo.{HasServedInTwo}
-use Rattle.ptu_slave_daemon.specs.Answers.{WasGivenBack, WasOpened}
-use Rattle.ptu_slave_daemon.specs.Happenings.{Selection}
+use Rattle.ptu_slave_daemon.specs.{Answers.{WasGivenBack, WasOpened}, Happenings.{Selection}}
 use Rattle.ptu_slave_daemon.specs.Lines.{output, texts_of}
 use Rattle.ptu_slave_daemon.specs.Served.{HasStopped, HasServed as HasFollowed}
 

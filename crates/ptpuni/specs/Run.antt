@@ -1,18 +1,15 @@
 -- What a run of the program answers.
 use Rattle.std.specs.Prelude.{◌≡◌, ◌≢◌, ◌↔◌, ◌⊎◌, ℕ, Bool, true, false, if◌then◌else◌, List, [], ◌∷◌, ◌++◌, Option, Some, None, Result, Ok, Err, OnOk}
 use Rattle.std.specs.Io.KnownBytes.{IsAtEnd, append_known}
-use Rattle.ptu_outside.specs.Faults.{HasRisen}
-use Rattle.ptu_outside.specs.Handing.{HasPut, HasPutPart, joined}
-use Rattle.ptu_report.specs.declared.ending.Ending.{Ending}
-use Rattle.ptu_report.specs.declared.ending.Ending.TheVariants.{Whole, Refused}
+use Rattle.ptu_outside.specs.{Faults.{HasRisen}, Handing.{HasPut, HasPutPart, joined}}
+use Rattle.ptu_report.specs.declared.ending.{Ending.{Ending}, Ending.TheVariants.{Whole, Refused}}
 use Rattle.ptu_report.specs.declared.fault.RunFault.{RunFault}
 use Rattle.ptu_report.specs.declared.fault.RunFault.TheVariants.{Line, Read, Write, OutOfMemory}
 use Rattle.ptu_report.specs.Reported.{HasReportedAllRead}
 use Rattle.ptu_script.specs.declared.cause.Cause.{Cause}
 use Rattle.ptu_report_lines.specs.declared.report_line.ReportLine.{ReportLine}
 use Rattle.ptu_report_lines.specs.declared.report_line.ReportLine.TheVariants.{End}
-use Rattle.ptu_world.specs.World.{Stock}
-use Rattle.ptu_world.specs.Report.{course_opening, report, report_lines, rules}
+use Rattle.ptu_world.specs.{World.{Stock}, Report.{course_opening, report, report_lines, rules}}
 use Rattle.ptu_lab.specs.Load.{summary}
 use Rattle.ptu_show.specs.Joined.{join_rules, joined_ending, joined_lines}
 use Rattle.ptu_pool_run.specs.Poured.{end_of, poured_texts}
@@ -20,8 +17,7 @@ use Rattle.ptu_pool_run.specs.Reading as pools
 use Rattle.ptu_show.specs.Shown.{show_rules, shown_ending, shown_lines}
 use Rattle.ptu_report.specs.Rules.{ending_of, texts_of}
 use Rattle.ptu_lines.specs.Script.{script_lines}
-use Rattle.ptu_audit.specs.declared.answer.Answer.{Answer}
-use Rattle.ptu_audit.specs.declared.answer.Answer.TheVariants.{Yes, No}
+use Rattle.ptu_audit.specs.declared.answer.{Answer.{Answer}, Answer.TheVariants.{Yes, No}}
 use Rattle.ptu_audit.specs.declared.answer.AuditCause.{AuditCause}
 use Rattle.ptu_audit.specs.Audited.{AnswerIsWritten, IsAnswer, IsKept}
 use Rattle.ptu_audit.specs.Reading.{audit_rules, opening}

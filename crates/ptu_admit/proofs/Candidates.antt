@@ -1,25 +1,19 @@
 -- Candidates for shedding, and the greatest of them.
 use Rattle.std.proofs.Common.{◌≡◌, ◌∙◌, ◌⊎◌, inl, inr, ℕ, zero, suc, ◌+◌, ◌<◌, ◌++◌, List, [], ◌∷◌, length, map, take, false, append_assoc, append-nil, refl, sym, ap, subst, arith, Option, Some, None}
-use Rattle.std.specs.Prelude.{slice_get, IfNone, IfSome}
-use Rattle.std.specs.BinaryHeap.{IsHeap, IsUpperBound}
-use Rattle.std.specs.List.{All, Contains}
-use Rattle.std.specs.List.Sorted.{IsPermutation}
-use Rattle.std.specs.Ordering.{is_lt, nat_cmp, ordering_then}
-use Rattle.std.specs.declared.cmp.Ordering.{Ordering}
+use Rattle.std.specs.{Prelude.{slice_get, IfNone, IfSome}, BinaryHeap.{IsHeap, IsUpperBound}}
+use Rattle.std.specs.{List.{All, Contains}, List.Sorted.{IsPermutation}}
+use Rattle.std.specs.{Ordering.{is_lt, nat_cmp, ordering_then}, declared.cmp.Ordering.{Ordering}}
 use Rattle.std.specs.declared.cmp.Ordering.TheVariants.{Less, Equal, Greater}
 use Rattle.std.proofs.lemmas.List.{map-append, map_more}
 use Rattle.std.proofs.lemmas.Option.{get_or_from_slice_get, slice_get_within}
 use Rattle.std.proofs.lemmas.List.Elements.{All-contains, All-from_recursion}
 use Rattle.std.proofs.lemmas.List.Sorted.{Contains-permutation}
-use Rattle.ptu_history.specs.Client.{client_cmp, kind_cmp}
-use Rattle.ptu_history.specs.Shedding.{shed_cmp}
+use Rattle.ptu_history.specs.{Client.{client_cmp, kind_cmp}, Shedding.{shed_cmp}}
 use Rattle.ptu_history.proofs.Unique.{Contains-cons_cases}
-use Rattle.ptu_shard.specs.declared.lease.Row.{Row}
-use Rattle.ptu_shard.specs.Table.{Kept}
+use Rattle.ptu_shard.specs.{declared.lease.Row.{Row}, Table.{Kept}}
 use Rattle.ptu_history.proofs.Order.{kind_cmp_is}
 use Rattle.ptu_admit.specs.contracts.newest.CandidateOrd.TheImpl as candidates
-use Rattle.ptu_admit.specs.declared.newest.Candidate.{Candidate}
-use Rattle.ptu_admit.specs.declared.newest.Found.{Found}
+use Rattle.ptu_admit.specs.declared.newest.{Candidate.{Candidate}, Found.{Found}}
 use Rattle.ptu_admit.specs.Lent.{Lent, four, rows_of_lent}
 use Rattle.ptu_admit.specs.Newest.{AreListed, candidate_cmp, candidate_of, found_in, grant_of}
 

@@ -1,36 +1,25 @@
 -- What the rows of a table say of the live grants of a history that it stands for.
 use Rattle.std.proofs.Common.{◌≡◌, ◌∙◌, ◌⊎◌, inl, inr, ℕ, ◌+◌, ◌<◌, ◌≤◌, max, List, [], map, Bool, true, false, not, eqb, ltb, refl, sym, ap, subst, arith, Some, None}
-use Rattle.std.specs.List.{Contains, filter}
-use Rattle.std.specs.Option.{option_map_or}
+use Rattle.std.specs.{List.{Contains, filter}, Option.{option_map_or}}
 use Rattle.std.proofs.lemmas.Bool.{eq-eqb, eqb-true, lt-ltb, ltb-true, not-true}
-use Rattle.std.proofs.lemmas.List.Filters.{sum_by-filter_both}
-use Rattle.std.proofs.lemmas.List.Kept.{AllPairs-filter}
-use Rattle.ptu_units.specs.declared.kind.Kind.{Kind}
-use Rattle.ptu_units.specs.Log.{rate_of}
-use Rattle.ptu_history.specs.declared.client.Client.{Client}
-use Rattle.ptu_history.specs.Client.{table_of}
+use Rattle.std.proofs.lemmas.List.{Filters.{sum_by-filter_both}, Kept.{AllPairs-filter}}
+use Rattle.ptu_units.specs.{declared.kind.Kind.{Kind}, Log.{rate_of}}
+use Rattle.ptu_history.specs.{declared.client.Client.{Client}, Client.{table_of}}
 use Rattle.ptu_history.specs.History.{Record, Granted}
 use Rattle.ptu_history.specs.Live.{Grant, IsLastDecision, last_decision, live_grants}
 use Rattle.ptu_history.specs.Verdict.{own_rate, rate_sum, table_rates}
-use Rattle.ptu_history.proofs.Keys.{same_lease-true}
-use Rattle.ptu_history.proofs.Lists.{filter-all, filter-comm}
-use Rattle.ptu_history.proofs.Members.{Differ}
-use Rattle.ptu_history.proofs.Orders.{live_distinct, live_members}
-use Rattle.ptu_history.proofs.Rates.{own_rate-live, own_rate-none}
-use Rattle.ptu_history.proofs.Standing.{Contains-filter}
+use Rattle.ptu_history.proofs.{Keys.{same_lease-true}, Lists.{filter-all, filter-comm}}
+use Rattle.ptu_history.proofs.{Members.{Differ}, Orders.{live_distinct, live_members}}
+use Rattle.ptu_history.proofs.{Rates.{own_rate-live, own_rate-none}, Standing.{Contains-filter}}
 use Rattle.ptu_history.proofs.Unique.{Apart, Apart-from_pairs, Contains-from_filter}
-use Rattle.ptu_shard.specs.declared.lease.Lease.{Lease}
-use Rattle.ptu_shard.specs.declared.lease.Row.{Row}
+use Rattle.ptu_shard.specs.declared.lease.{Lease.{Lease}, Row.{Row}}
 use Rattle.ptu_shard.specs.Row.{IsDistinctByLease, is_row_of, lease_of, share_of, without_row}
 use Rattle.ptu_shard.specs.Table.{Kept, StandsAt}
 use Rattle.ptu_shard.proofs.RowLists as rows
 use Rattle.ptu_shard.proofs.RowLists.{IsPresent, lease_cases, present_some, share_of-filter-le}
-use Rattle.ptu_shard.proofs.Standing.{granted_row, stands_swept}
-use Rattle.ptu_shard.proofs.Turns.{live_kept}
-use Rattle.ptu_admit.specs.Lent.{Lent, is_elsewhere, rates_elsewhere}
-use Rattle.ptu_admit.specs.Newest.{grant_of}
-use Rattle.ptu_admit.specs.Rows.{kept_rate, live_rows}
-use Rattle.ptu_admit.specs.Tables.{IsSwept}
+use Rattle.ptu_shard.proofs.{Standing.{granted_row, stands_swept}, Turns.{live_kept}}
+use Rattle.ptu_admit.specs.{Lent.{Lent, is_elsewhere, rates_elsewhere}, Newest.{grant_of}}
+use Rattle.ptu_admit.specs.{Rows.{kept_rate, live_rows}, Tables.{IsSwept}}
 use Rattle.ptu_admit.proofs.Sums.{Contains-from_map, Contains-map, IsMapped, distinct_grants, rate, rate_sum-within, share_of-grants, share_of-permuted, share_of-without}
 
 apart_filter : (p : Grant → Bool) (history : List Record) (x : ℕ) → Apart Differ (filter p (live_grants history x))

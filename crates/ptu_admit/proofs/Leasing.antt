@@ -1,29 +1,18 @@
 -- What is kept of a grant.
 use Rattle.std.proofs.Common.{◌≡◌, ◌≢◌, ◌∙◌, ◌⊎◌, inl, inr, ℕ, ◌+◌, ◌<◌, ◌≤◌, ◌++◌, List, [], ◌∷◌, Bool, true, false, cond, ltb, refl, sym, ap, subst, Option, Some, None, ℤ}
-use Rattle.std.specs.Prelude.{IfNone, IfSome}
-use Rattle.std.specs.List.{Contains}
-use Rattle.std.specs.Option.{option_map_or}
+use Rattle.std.specs.{Prelude.{IfNone, IfSome}, List.{Contains}, Option.{option_map_or}}
 use Rattle.std.specs.Ordering.{int_eq}
-use Rattle.std.proofs.lemmas.Bool.{lt-ltb, true≢false}
-use Rattle.std.proofs.lemmas.Bool.Decides.{Decides-int_eq}
-use Rattle.ptu_units.specs.declared.kind.Kind.{Kind}
-use Rattle.ptu_units.specs.Log.{period_of}
-use Rattle.ptu_history.specs.declared.client.Client.{Client}
-use Rattle.ptu_history.specs.Client.{table_of}
-use Rattle.ptu_history.specs.History.{Record, Granted}
-use Rattle.ptu_history.specs.Live.{last_decision, live}
-use Rattle.ptu_history.specs.Runs.{sequence_number}
-use Rattle.ptu_history.specs.Lawful.{earliest}
-use Rattle.ptu_history.proofs.AfterSteps.{live-last}
-use Rattle.ptu_history.proofs.Keys.{same_lease-refl, same_lease-true}
+use Rattle.std.proofs.lemmas.{Bool.{lt-ltb, true≢false}, Bool.Decides.{Decides-int_eq}}
+use Rattle.ptu_units.specs.{declared.kind.Kind.{Kind}, Log.{period_of}}
+use Rattle.ptu_history.specs.{declared.client.Client.{Client}, Client.{table_of}}
+use Rattle.ptu_history.specs.{History.{Record, Granted}, Live.{last_decision, live}}
+use Rattle.ptu_history.specs.{Runs.{sequence_number}, Lawful.{earliest}}
+use Rattle.ptu_history.proofs.{AfterSteps.{live-last}, Keys.{same_lease-refl, same_lease-true}}
 use Rattle.ptu_history.proofs.Renewals.{earliest_new, earliest_same, first_continues, other_continues, sequence_is}
 use Rattle.ptu_history.proofs.Standing.{last_pushed}
-use Rattle.ptu_shard.specs.declared.lease.Lease.{Lease}
-use Rattle.ptu_shard.specs.declared.lease.Row.{Row}
-use Rattle.ptu_shard.specs.Row.{lease_of}
+use Rattle.ptu_shard.specs.{declared.lease.Lease.{Lease}, declared.lease.Row.{Row}, Row.{lease_of}}
 use Rattle.ptu_shard.specs.Table.{IsLeaseOf, StandsAt}
-use Rattle.ptu_shard.proofs.RowLists.{IsPresent, lease_cases, present_some}
-use Rattle.ptu_shard.proofs.Turns.{live_kept}
+use Rattle.ptu_shard.proofs.{RowLists.{IsPresent, lease_cases, present_some}, Turns.{live_kept}}
 
 -- the lease of a grant at the moment, by the former lease
 pub record Follows (former : Option Lease) (n : ℕ) (l : ℤ) (u : ℕ) (lease : Lease) : Type 0 where

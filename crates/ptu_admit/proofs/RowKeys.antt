@@ -1,25 +1,17 @@
 -- Rows by client and kind.
 use Rattle.std.proofs.Common.{◌≡◌, ◌∙◌, ◌⊎◌, inl, inr, ℕ, ◌+◌, ◌-◌, ◌<◌, ◌≤◌, ℤ, pos, negsuc, length, List, [], ◌∷◌, Bool, true, false, cond, ltb, refl, sym, ap, arith, Some, None}
-use Rattle.std.specs.Prelude.{is_some}
-use Rattle.std.specs.List.{Contains, filter}
-use Rattle.std.specs.List.Sorted.{IsPermutation}
+use Rattle.std.specs.{Prelude.{is_some}, List.{Contains, filter}, List.Sorted.{IsPermutation}}
 use Rattle.std.specs.Option.{option_map_or}
-use Rattle.std.proofs.lemmas.Bool.{false_from_ne_true, true≢false}
-use Rattle.std.proofs.lemmas.List.Sums.{sum_by-cons}
+use Rattle.std.proofs.lemmas.{Bool.{false_from_ne_true, true≢false}, List.Sums.{sum_by-cons}}
 use Rattle.std.proofs.lemmas.Nat.{pow_pos}
-use Rattle.ptu_units.specs.declared.kind.Kind.{Kind}
-use Rattle.ptu_units.specs.Log.{rate_of}
-use Rattle.ptu_history.specs.declared.client.Client.{Client}
-use Rattle.ptu_history.specs.Client.{same_lease}
-use Rattle.ptu_history.proofs.Keys.{same_lease-refl, same_lease-true}
-use Rattle.ptu_history.proofs.Standing.{Contains-filter}
+use Rattle.ptu_units.specs.{declared.kind.Kind.{Kind}, Log.{rate_of}}
+use Rattle.ptu_history.specs.{declared.client.Client.{Client}, Client.{same_lease}}
+use Rattle.ptu_history.proofs.{Keys.{same_lease-refl, same_lease-true}, Standing.{Contains-filter}}
 use Rattle.ptu_history.proofs.Unique.{Apart, Apart-from_pairs, Contains-cons_cases, Contains-from_filter}
-use Rattle.ptu_shard.specs.declared.lease.Lease.{Lease}
-use Rattle.ptu_shard.specs.declared.lease.Row.{Row}
+use Rattle.ptu_shard.specs.declared.lease.{Lease.{Lease}, Row.{Row}}
 use Rattle.ptu_shard.specs.Row.{IsDistinctByLease, is_row_of, lease_of, share_of}
 use Rattle.ptu_shard.proofs.RowLists.{Differ, HasSameMembers, IsPresent, lease_cases, missing_none, present_some, same_permuted}
-use Rattle.ptu_admit.specs.Lent.{Lent, shares}
-use Rattle.ptu_admit.specs.Newest.{rows_in}
+use Rattle.ptu_admit.specs.{Lent.{Lent, shares}, Newest.{rows_in}}
 use Rattle.ptu_admit.specs.Rows.{has_live_row, kept_rate, live_rows}
 use Rattle.ptu_shard.proofs.SoFar.{length-filter-le}
 

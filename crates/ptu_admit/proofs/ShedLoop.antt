@@ -1,39 +1,25 @@
 -- Grants that are shed one by one.
 use Rattle.std.proofs.Common.{◌≡◌, ◌∙◌, ℕ, zero, suc, ◌+◌, ◌<◌, ◌≤◌, ◌++◌, List, [], ◌∷◌, length, ltb, map, append_assoc, append-nil, refl, sym, ap, subst, arith, true, false}
-use Rattle.std.specs.List.{Contains, filter}
-use Rattle.std.specs.List.Sorted.{IsPermutation}
-use Rattle.std.proofs.lemmas.Bool.{ltb-true, true≢false}
-use Rattle.std.proofs.lemmas.List.{map-append}
+use Rattle.std.specs.{List.{Contains, filter}, List.Sorted.{IsPermutation}}
+use Rattle.std.proofs.lemmas.{Bool.{ltb-true, true≢false}, List.{map-append}}
 use Rattle.std.proofs.lemmas.List.Sorted.{length_permutation}
-use Rattle.ptu_history.specs.Client.{same_lease}
-use Rattle.ptu_history.specs.Live.{Grant, live_grants}
-use Rattle.ptu_history.specs.History.{Record, Capacity, Shed, capacity_in_force}
-use Rattle.ptu_history.specs.Order.{in_order}
+use Rattle.ptu_history.specs.{Client.{same_lease}, Live.{Grant, live_grants}}
+use Rattle.ptu_history.specs.{History.{Record, Capacity, Shed, capacity_in_force}, Order.{in_order}}
 use Rattle.ptu_history.specs.Shedding.{shed_cmp, shed_grants, shed_order, shed_prefix, shed_record}
 use Rattle.ptu_history.proofs.AfterSteps.{capacity_in_force-sheds}
-use Rattle.ptu_history.proofs.Capacities.{capacity_in_force-append}
-use Rattle.ptu_history.proofs.Currents.{standing-undecided}
-use Rattle.ptu_history.proofs.Keys.{same_lease-refl}
-use Rattle.ptu_history.proofs.Unique.{Contains-from_filter}
-use Rattle.ptu_shard.specs.declared.lease.Row.{Row}
-use Rattle.ptu_shard.specs.Row.{share_of}
-use Rattle.ptu_shard.specs.Table.{Kept, StandsAt}
-use Rattle.ptu_shard.proofs.RowLists.{same_permuted}
-use Rattle.ptu_shard.proofs.Standing.{stands_elsewhere}
-use Rattle.ptu_admit.specs.Book.{KeptBook}
-use Rattle.ptu_admit.specs.declared.newest.Found.{Found}
-use Rattle.ptu_admit.specs.declared.shed_list.Shed.{Shed as Answer}
-use Rattle.ptu_admit.specs.declared.newest.Candidate.{Candidate}
+use Rattle.ptu_history.proofs.{Capacities.{capacity_in_force-append}, Currents.{standing-undecided}}
+use Rattle.ptu_history.proofs.{Keys.{same_lease-refl}, Unique.{Contains-from_filter}}
+use Rattle.ptu_shard.specs.{declared.lease.Row.{Row}, Row.{share_of}, Table.{Kept, StandsAt}}
+use Rattle.ptu_shard.proofs.{RowLists.{same_permuted}, Standing.{stands_elsewhere}}
+use Rattle.ptu_admit.specs.{Book.{KeptBook}, declared.newest.Found.{Found}}
+use Rattle.ptu_admit.specs.declared.{shed_list.Shed.{Shed as Answer}, newest.Candidate.{Candidate}}
 use Rattle.ptu_admit.specs.Lent.{EachStandsAt, four, rows_of_lent, shares}
 use Rattle.ptu_admit.specs.Newest.{AreDistinct, AreListed, IsThinned, candidate_of, rows_in, shed_at}
-use Rattle.ptu_admit.specs.Shed.{shed_of}
-use Rattle.ptu_admit.specs.Rows.{live_rows}
-use Rattle.ptu_admit.specs.Tables.{IsSwept}
+use Rattle.ptu_admit.specs.{Shed.{shed_of}, Rows.{live_rows}, Tables.{IsSwept}}
 use Rattle.ptu_shard.proofs.SoFar.{length-filter-le}
 use Rattle.ptu_admit.proofs.Candidates.{NotAfter, listed_without}
 use Rattle.ptu_admit.proofs.ShedOrder.{AllLive, IsPlaced, shed_next, shed_no_more}
-use Rattle.ptu_admit.proofs.Sums.{share_of-left}
-use Rattle.ptu_admit.proofs.Verdicts.{FourDistinct}
+use Rattle.ptu_admit.proofs.{Sums.{share_of-left}, Verdicts.{FourDistinct}}
 
 -- what was shed so far, and what is still to be shed, is all that is shed
 pub record SoFar {P : Type 0} (at capacity : ℕ) (a b c d a' b' c' d' : Kept P) (book book' : KeptBook) (list : List Answer) (len room : ℕ) : Type 0 where

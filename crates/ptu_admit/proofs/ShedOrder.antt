@@ -1,27 +1,19 @@
 -- The order of shedding, grant by grant.
 use Rattle.std.proofs.Common.{◌≡◌, ◌∙◌, ◌⊎◌, inl, inr, ℕ, zero, suc, ◌+◌, ◌<◌, ◌≤◌, ◌++◌, List, [], ◌∷◌, get_or, map, Bool, true, false, cond, ltb, refl, sym, ap, subst, arith, Some}
-use Rattle.std.specs.List.{Contains, filter}
-use Rattle.std.specs.List.Sorted.{IsSorted}
-use Rattle.std.specs.Ordering.{is_lt}
+use Rattle.std.specs.{List.{Contains, filter}, List.Sorted.{IsSorted}, Ordering.{is_lt}}
 use Rattle.std.proofs.lemmas.Bool.{le-leb, lt-leb, lt-ltb}
 use Rattle.std.proofs.lemmas.List.Elements.{Contains-append_cases, Contains-append_left, Contains-append_right}
 use Rattle.std.proofs.lemmas.List.Sorted.{sum_by-IsPermutation}
-use Rattle.ptu_history.specs.Client.{same_lease, table_of}
-use Rattle.ptu_history.specs.History.{Record, Granted, Shed}
+use Rattle.ptu_history.specs.{Client.{same_lease, table_of}, History.{Record, Granted, Shed}}
 use Rattle.ptu_history.specs.Live.{Grant, IsLastDecision, last_decision, live_grants}
-use Rattle.ptu_history.specs.Order.{in_order}
-use Rattle.ptu_history.specs.Verdict.{rate_sum}
+use Rattle.ptu_history.specs.{Order.{in_order}, Verdict.{rate_sum}}
 use Rattle.ptu_history.specs.Shedding.{shed_cmp, shed_order, shed_prefix}
-use Rattle.ptu_history.proofs.Keys.{same_lease-sym, same_lease-true}
-use Rattle.ptu_history.proofs.Members.{Differ}
+use Rattle.ptu_history.proofs.{Keys.{same_lease-sym, same_lease-true}, Members.{Differ}}
 use Rattle.ptu_history.proofs.Order.{IsAsymmetric-total, IsPermutation-in_order, IsSorted-in_order, shed_cmp-total}
 use Rattle.ptu_history.proofs.Orders.{shed_order-distinct, shed_order-members, shed_order-only}
-use Rattle.ptu_history.proofs.Rates.{rates-tables, table_below}
-use Rattle.ptu_history.proofs.Standing.{last_pushed}
+use Rattle.ptu_history.proofs.{Rates.{rates-tables, table_below}, Standing.{last_pushed}}
 use Rattle.ptu_history.proofs.Unique.{Apart-from_pairs, Contains-cons_cases, Contains-first, Contains-from_filter, Contains-later, pairs_from_Apart}
-use Rattle.ptu_shard.specs.declared.lease.Row.{Row}
-use Rattle.ptu_shard.specs.Row.{share_of}
-use Rattle.ptu_shard.specs.Table.{Kept, StandsAt}
+use Rattle.ptu_shard.specs.{declared.lease.Row.{Row}, Row.{share_of}, Table.{Kept, StandsAt}}
 use Rattle.ptu_shard.proofs.RowLists.{share_of-filter-le}
 use Rattle.ptu_admit.specs.declared.newest.Found.{Found}
 use Rattle.ptu_admit.specs.Lent.{EachStandsAt, Lent, four, lent_as, rows_of_lent, shares}

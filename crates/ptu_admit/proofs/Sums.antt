@@ -1,29 +1,20 @@
 -- Sums of rates over lists of grants and of rows.
 use Rattle.std.proofs.Common.{◌≡◌, ◌∙◌, ◌⊎◌, inl, inr, ℕ, ◌+◌, ◌≤◌, List, [], ◌∷◌, map, Bool, true, false, not, cond, refl, sym, ap, subst, arith, Some}
-use Rattle.std.specs.List.{Contains, filter, find}
-use Rattle.std.specs.List.Sorted.{IsPermutation}
+use Rattle.std.specs.{List.{Contains, filter, find}, List.Sorted.{IsPermutation}}
 use Rattle.std.specs.Option.{option_map, option_map_or}
-use Rattle.std.proofs.lemmas.Bool.{true≢false}
-use Rattle.std.proofs.lemmas.List.Filters.{sum_by-filter_both}
-use Rattle.std.proofs.lemmas.List.Sorted.{sum_by-IsPermutation}
-use Rattle.std.proofs.lemmas.List.Sums.{sum_by-cons}
-use Rattle.ptu_units.specs.declared.kind.Kind.{Kind}
-use Rattle.ptu_units.specs.Log.{rate_of}
-use Rattle.ptu_history.specs.declared.client.Client.{Client}
-use Rattle.ptu_history.specs.Client.{same_lease}
-use Rattle.ptu_history.specs.Live.{Grant, is_of, without}
-use Rattle.ptu_history.specs.Verdict.{rate_sum}
-use Rattle.ptu_history.proofs.Keys.{same_lease-refl, same_lease-true}
-use Rattle.ptu_history.proofs.Members.{Differ}
+use Rattle.std.proofs.lemmas.{Bool.{true≢false}, List.Filters.{sum_by-filter_both}}
+use Rattle.std.proofs.lemmas.List.{Sorted.{sum_by-IsPermutation}, Sums.{sum_by-cons}}
+use Rattle.ptu_units.specs.{declared.kind.Kind.{Kind}, Log.{rate_of}}
+use Rattle.ptu_history.specs.{declared.client.Client.{Client}, Client.{same_lease}}
+use Rattle.ptu_history.specs.{Live.{Grant, is_of, without}, Verdict.{rate_sum}}
+use Rattle.ptu_history.proofs.{Keys.{same_lease-refl, same_lease-true}, Members.{Differ}}
 use Rattle.ptu_history.proofs.Standing.{Contains-filter}
 use Rattle.ptu_history.proofs.Unique.{Apart, Apart-from_pairs, Contains-cons_cases, Contains-first, Contains-later}
 use Rattle.ptu_laws.proofs.Sums.{sum-filter}
-use Rattle.ptu_shard.specs.declared.lease.Row.{Row}
-use Rattle.ptu_shard.specs.declared.lease.Lease.{Lease}
+use Rattle.ptu_shard.specs.declared.lease.{Row.{Row}, Lease.{Lease}}
 use Rattle.ptu_shard.specs.Row.{IsDistinctByLease, is_row_of, share_of, without_row}
 use Rattle.ptu_shard.proofs.RowLists as rows
-use Rattle.ptu_admit.specs.Newest.{grant_of}
-use Rattle.ptu_admit.specs.Rows.{kept_rate}
+use Rattle.ptu_admit.specs.{Newest.{grant_of}, Rows.{kept_rate}}
 
 abbrev pub rate : Grant → ℕ
 rate g = rate_of g.log

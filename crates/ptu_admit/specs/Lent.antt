@@ -1,20 +1,13 @@
 -- The history that tables and a book stand for, while the tables are lent beside the book.
 use Rattle.std.specs.Prelude.{◌≡◌, ℕ, ◌+◌, ◌≤◌, max, Bool, true, false, not, ◌||◌, ◌==◌, List, [], ◌∷◌, ◌++◌, if◌then◌else◌}
-use Rattle.std.specs.List.{filter}
-use Rattle.std.specs.List.Sorted.{IsPermutation}
+use Rattle.std.specs.{List.{filter}, List.Sorted.{IsPermutation}}
 use Rattle.ptu_units.specs.declared.kind.Kind.{Kind}
-use Rattle.ptu_history.specs.declared.client.Client.{Client}
-use Rattle.ptu_history.specs.Client.{table_of}
-use Rattle.ptu_history.specs.History.{Record, capacity_in_force}
-use Rattle.ptu_history.specs.Moments.{book_moment}
-use Rattle.ptu_history.specs.Live.{Grant, live_grants}
-use Rattle.ptu_history.specs.Verdict.{rate_sum}
-use Rattle.ptu_shard.specs.declared.lease.Row.{Row}
-use Rattle.ptu_shard.specs.Row.{share_of, without_row}
-use Rattle.ptu_shard.specs.Table.{Kept, StandsAt}
-use Rattle.ptu_shard.specs.Turn.{spent_where}
-use Rattle.ptu_admit.specs.Book.{KeptBook}
-use Rattle.ptu_admit.specs.Rows.{live_rows}
+use Rattle.ptu_history.specs.{declared.client.Client.{Client}, Client.{table_of}}
+use Rattle.ptu_history.specs.{History.{Record, capacity_in_force}, Moments.{book_moment}}
+use Rattle.ptu_history.specs.{Live.{Grant, live_grants}, Verdict.{rate_sum}}
+use Rattle.ptu_shard.specs.{declared.lease.Row.{Row}, Row.{share_of, without_row}}
+use Rattle.ptu_shard.specs.{Table.{Kept, StandsAt}, Turn.{spent_where}}
+use Rattle.ptu_admit.specs.{Book.{KeptBook}, Rows.{live_rows}}
 
 -- a table that is lent: which of the four it is, its rows and its moment
 pub record Lent : Type 0 where

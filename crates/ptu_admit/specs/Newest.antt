@@ -1,18 +1,10 @@
 -- The order in which a change of capacity looks at the rows of lent tables.
-use Rattle.std.specs.Prelude.{◌≡◌, ℕ, ◌+◌, ◌<◌, List, [], ◌∷◌, ◌++◌, map, length}
-use Rattle.std.specs.List.{Contains}
-use Rattle.std.specs.Ordering.{nat_cmp, ordering_then}
-use Rattle.std.specs.declared.cmp.Ordering.{Ordering}
-use Rattle.ptu_history.specs.Client.{client_cmp, kind_cmp}
-use Rattle.ptu_history.specs.History.{Record, Shed}
-use Rattle.ptu_history.specs.Live.{Grant}
-use Rattle.ptu_shard.specs.declared.lease.Row.{Row}
-use Rattle.ptu_shard.specs.Row.{IsDistinctByLease}
-use Rattle.ptu_shard.specs.Table.{Kept}
-use Rattle.ptu_admit.specs.declared.newest.Candidate.{Candidate}
-use Rattle.ptu_admit.specs.declared.newest.Found.{Found}
-use Rattle.ptu_admit.specs.declared.shed_list.Shed.{Shed as Answer}
-use Rattle.ptu_admit.specs.Lent.{Lent, rows_of_lent}
+use Rattle.std.specs.{Prelude.{◌≡◌, ℕ, ◌+◌, ◌<◌, List, [], ◌∷◌, ◌++◌, map, length}, List.{Contains}}
+use Rattle.std.specs.{Ordering.{nat_cmp, ordering_then}, declared.cmp.Ordering.{Ordering}}
+use Rattle.ptu_history.specs.{Client.{client_cmp, kind_cmp}, History.{Record, Shed}, Live.{Grant}}
+use Rattle.ptu_shard.specs.{declared.lease.Row.{Row}, Row.{IsDistinctByLease}, Table.{Kept}}
+use Rattle.ptu_admit.specs.declared.newest.{Candidate.{Candidate}, Found.{Found}}
+use Rattle.ptu_admit.specs.{declared.shed_list.Shed.{Shed as Answer}, Lent.{Lent, rows_of_lent}}
 use Rattle.ptu_admit.specs.Tables.{KeepsPort}
 
 -- the grant of which a row is kept

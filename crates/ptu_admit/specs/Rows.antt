@@ -1,12 +1,8 @@
 -- Rows of a table at a moment.
-use Rattle.std.specs.Prelude.{ℕ, Bool, false, List, nat_lt}
-use Rattle.std.specs.List.{filter}
-use Rattle.std.specs.Option.{option_map_or}
-use Rattle.ptu_units.specs.declared.kind.Kind.{Kind}
-use Rattle.ptu_units.specs.Log.{rate_of}
+use Rattle.std.specs.{Prelude.{ℕ, Bool, false, List, nat_lt}, List.{filter}, Option.{option_map_or}}
+use Rattle.ptu_units.specs.{declared.kind.Kind.{Kind}, Log.{rate_of}}
 use Rattle.ptu_history.specs.declared.client.Client.{Client}
-use Rattle.ptu_shard.specs.declared.lease.Row.{Row}
-use Rattle.ptu_shard.specs.Row.{lease_of}
+use Rattle.ptu_shard.specs.{declared.lease.Row.{Row}, Row.{lease_of}}
 
 -- the rows whose grants are not over at the moment
 abbrev pub live_rows : ℕ → List Row → List Row

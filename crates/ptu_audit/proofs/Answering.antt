@@ -4,14 +4,10 @@ use Rattle.std.specs.Prelude.{IfSome}
 use Rattle.ptu_lines.specs.Script.{script_lines}
 use Rattle.ptu_report.specs.Rules.{meaning_of}
 use Rattle.ptu_report.proofs.FewLines.{few_lines}
-use Rattle.ptu_audit.specs.declared.answer.Answer.{Answer}
-use Rattle.ptu_audit.specs.declared.auditor.Auditor.{Auditor}
-use Rattle.ptu_audit.specs.Audited.{report_lines}
-use Rattle.ptu_audit.specs.Reading.{Reading, audit_rules, opening}
-use Rattle.ptu_audit.specs.Standing.{StandsFor}
-use Rattle.ptu_audit.specs.Trails.{answer_of, as_counted}
-use Rattle.ptu_audit.proofs.Counts.{counts_exact}
-use Rattle.ptu_audit.proofs.Promises.{IsRead}
+use Rattle.ptu_audit.specs.declared.{answer.Answer.{Answer}, auditor.Auditor.{Auditor}}
+use Rattle.ptu_audit.specs.{Audited.{report_lines}, Reading.{Reading, audit_rules, opening}}
+use Rattle.ptu_audit.specs.{Standing.{StandsFor}, Trails.{answer_of, as_counted}}
+use Rattle.ptu_audit.proofs.{Counts.{counts_exact}, Promises.{IsRead}}
 
 module _ (capacity : ℕ) (input : List ℕ) (read : IsRead (opening capacity) 0 (script_lines input)) (a : Auditor) (answer : Answer)
     (says : (r : Reading) → StandsFor a r → answer ≡ as_counted (answer_of r.capacity r.lines))

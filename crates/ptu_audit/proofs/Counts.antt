@@ -1,15 +1,12 @@
 -- The counts of an answer are exact, since no more is counted than there are lines.
 use Rattle.std.proofs.Common.{◌≡◌, ◌∙◌, ℕ, ◌+◌, ◌-◌, ◌^◌, ◌≤◌, ◌++◌, Bool, true, false, cond, List, [], ◌∷◌, length, take, Option, Some, None, refl, ap₂, arith, length-append}
-use Rattle.std.specs.Prelude.{IfSome, filter_map}
-use Rattle.std.specs.List.{cons_option, fold, list_any}
+use Rattle.std.specs.{Prelude.{IfSome, filter_map}, List.{cons_option, fold, list_any}}
 use Rattle.std.specs.Option.{unwrap_or}
 use Rattle.std.proofs.lemmas.List.Sums.{count_by-le-length}
 use Rattle.ptu_audit.specs.declared.answer.Answer.TheVariants as answers
 use Rattle.ptu_audit.specs.declared.deed.Act.{Act}
 use Rattle.ptu_audit.specs.declared.deed.Deed.TheVariants as deeds
-use Rattle.ptu_audit.specs.declared.deed.Finding.{Finding}
-use Rattle.ptu_audit.specs.declared.line.Line.{Line}
-use Rattle.ptu_audit.specs.declared.line.Said.{Said}
+use Rattle.ptu_audit.specs.declared.{deed.Finding.{Finding}, line.Line.{Line}, line.Said.{Said}}
 use Rattle.ptu_audit.specs.declared.line.Said.TheVariants as said
 use Rattle.ptu_audit.specs.Groups.{act_at, acts_by, acts_of, answered, answered_by, answered_client, are_answered, are_told, changed, decides, groups_of, in_front, is_of_script, last_apart, message_at, messages_in as messages_told, said_deed, shedding_of, sheddings, with_line}
 use Rattle.ptu_units.specs.Counts.{counted}

@@ -1,23 +1,15 @@
 -- Where each group is as it must be and no trail has a fault, nothing is found.
 use Rattle.std.proofs.Common.{◌≡◌, ◌∙◌, ℕ, ◌++◌, eqb, cond, false, List, [], ◌∷◌, map, Option, Some, None, option_map, refl, sym, ap, subst, append_assoc}
-use Rattle.std.specs.Prelude.{IsSome}
-use Rattle.std.specs.List.{AllByRecursion, filter, fold}
-use Rattle.std.specs.Option.{unwrap_or}
-use Rattle.std.proofs.lemmas.List.{append-nil}
-use Rattle.std.proofs.lemmas.List.Elements.{filter-append}
-use Rattle.std.proofs.lemmas.List.Concat.{flat_map-append}
-use Rattle.std.proofs.lemmas.List.Sums.{fold-append}
+use Rattle.std.specs.{Prelude.{IsSome}, List.{AllByRecursion, filter, fold}, Option.{unwrap_or}}
+use Rattle.std.proofs.lemmas.{List.{append-nil}, List.Elements.{filter-append}}
+use Rattle.std.proofs.lemmas.List.{Concat.{flat_map-append}, Sums.{fold-append}}
 use Rattle.std.proofs.lemmas.Bool.{true≢false}
 use Rattle.ptu_history.specs.History as history
 use Rattle.ptu_history.specs.History.{Record}
 use Rattle.ptu_laws.specs.Sound.{sheds_at}
-use Rattle.ptu_trail.specs.declared.cause.Fault.{Fault}
-use Rattle.ptu_trail.specs.declared.cause.NoCause.{NoCause}
-use Rattle.ptu_trail.specs.declared.cause.Shedding.{Shedding}
+use Rattle.ptu_trail.specs.declared.cause.{Fault.{Fault}, NoCause.{NoCause}, Shedding.{Shedding}}
 use Rattle.ptu_trail.specs.Faults.{behind, fault_of, first_fault, is_shedding, message_to, or_behind, record_of}
-use Rattle.ptu_audit.specs.declared.line.Line.{Line}
-use Rattle.ptu_audit.specs.declared.deed.Act.{Act}
-use Rattle.ptu_audit.specs.declared.deed.Deed.{Deed}
+use Rattle.ptu_audit.specs.declared.{line.Line.{Line}, deed.Act.{Act}, deed.Deed.{Deed}}
 use Rattle.ptu_audit.specs.declared.deed.Deed.TheVariants.{Granted, Ended, Changed, Sent}
 use Rattle.ptu_audit.specs.Groups.{acts_of}
 use Rattle.ptu_audit.specs.Trails.{AreSound, act_finding, acts_finding, acts_in, finding_of, first_line, group_finding, groups_finding, is_by, or_later, records_of, told_finding, trail_of, trail_with}

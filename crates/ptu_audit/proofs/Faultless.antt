@@ -1,20 +1,15 @@
 -- Where nothing is found, no trail has a fault.
 use Rattle.std.proofs.Common.{◌≡◌, ◌∙◌, ℕ, ◌++◌, eqb, Bool, true, false, List, [], ◌∷◌, map, Option, Some, None, option_map, refl, sym, ap, subst, append_assoc}
 use Rattle.std.specs.Option.{unwrap_or}
-use Rattle.std.proofs.lemmas.Bool.{eqb-true}
-use Rattle.std.proofs.lemmas.List.{append-nil}
-use Rattle.std.proofs.lemmas.List.Concat.{flat_map-append}
+use Rattle.std.proofs.lemmas.{Bool.{eqb-true}, List.{append-nil}, List.Concat.{flat_map-append}}
 use Rattle.ptu_history.specs.History.{Record}
 use Rattle.ptu_history.specs.History as history
 use Rattle.ptu_trail.specs.declared.cause.Shedding.{Shedding}
 use Rattle.ptu_trail.specs.Faults.{IsFaultless, fault_of, first_fault, is_shedding, message_to, or_behind, record_of}
 use Rattle.ptu_trail.specs.declared.cause.NoCause.{NoCause}
-use Rattle.ptu_audit.specs.declared.line.Line.{Line}
-use Rattle.ptu_audit.specs.declared.deed.Act.{Act}
-use Rattle.ptu_audit.specs.declared.deed.Deed.{Deed}
+use Rattle.ptu_audit.specs.declared.{line.Line.{Line}, deed.Act.{Act}, deed.Deed.{Deed}}
 use Rattle.ptu_audit.specs.declared.deed.Deed.TheVariants.{Granted, Ended, Changed, Sent}
-use Rattle.ptu_audit.specs.declared.deed.Finding.{Finding}
-use Rattle.ptu_audit.specs.Groups.{acts_of}
+use Rattle.ptu_audit.specs.{declared.deed.Finding.{Finding}, Groups.{acts_of}}
 use Rattle.ptu_audit.specs.Trails.{act_finding, acts_finding, acts_in, finding_of, first_line, group_finding, groups_finding, or_later, records_of, told_finding, trail_of}
 use Rattle.ptu_audit.proofs.Ledgers.{trail_of-push}
 

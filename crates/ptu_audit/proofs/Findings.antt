@@ -3,11 +3,8 @@ use Rattle.std.proofs.Common.{◌≡◌, ◌∙◌, ℕ, ◌+◌, ◌<◌, ◌�
 use Rattle.std.specs.Option.{unwrap_or}
 use Rattle.std.proofs.lemmas.List.{append-nil, drop_all, drop_more, take_all, take_more}
 use Rattle.std.proofs.lemmas.List.Concat.{flat_map-append}
-use Rattle.ptu_audit.specs.declared.line.Line.{Line}
-use Rattle.ptu_audit.specs.declared.deed.Act.{Act}
-use Rattle.ptu_audit.specs.declared.deed.Finding.{Finding}
-use Rattle.ptu_audit.specs.declared.ledger.Ledger.{Ledger}
-use Rattle.ptu_audit.specs.Groups.{acts_of}
+use Rattle.ptu_audit.specs.declared.{line.Line.{Line}, deed.Act.{Act}, deed.Finding.{Finding}}
+use Rattle.ptu_audit.specs.{declared.ledger.Ledger.{Ledger}, Groups.{acts_of}}
 use Rattle.ptu_audit.specs.Standing.{AreKept, one_group}
 use Rattle.ptu_audit.specs.Trails.{act_finding, acts_finding, acts_in, group_finding, groups_finding, or_later}
 

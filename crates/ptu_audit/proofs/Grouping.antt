@@ -3,8 +3,7 @@ use Rattle.std.proofs.Common.{◌≡◌, ◌∙◌, ℕ, ◌++◌, true, false, 
 use Rattle.std.proofs.lemmas.List.Sums.{fold-append}
 use Rattle.ptu_audit.specs.declared.line.Line.{Line}
 use Rattle.ptu_audit.specs.Groups.{groups_of, is_of_script, last_apart, with_line}
-use Rattle.ptu_audit.specs.Reading.{last_script}
-use Rattle.ptu_audit.specs.Standing.{IsBegun, one_group}
+use Rattle.ptu_audit.specs.{Reading.{last_script}, Standing.{IsBegun, one_group}}
 
 pub groups_of-push : (lines : List Line) (line : Line) → groups_of (lines ++ line ∷ []) ≡ with_line (groups_of lines) line
 unfolding groups_of

@@ -1,16 +1,11 @@
 -- The trails of all grandmasters, after one more act.
 use Rattle.std.proofs.Common.{◌≡◌, ◌∙◌, ℕ, ◌+◌, ◌++◌, eqb, Bool, true, false, cond, List, [], ◌∷◌, Option, Some, refl, sym, ap, subst, arith}
-use Rattle.std.specs.List.{filter, fold}
-use Rattle.std.specs.Ordering.{is_eq, nat_cmp}
-use Rattle.std.proofs.lemmas.Bool.{eq-eqb, eqb-true}
-use Rattle.std.proofs.lemmas.List.{append-nil}
-use Rattle.std.proofs.lemmas.List.Elements.{filter-append}
-use Rattle.std.proofs.lemmas.List.Sums.{fold-append, sum_by-append}
-use Rattle.ptu_trail.specs.declared.trail.Trail.{Trail}
-use Rattle.ptu_trail.specs.Trail.{StandsFor as IsTrail}
+use Rattle.std.specs.{List.{filter, fold}, Ordering.{is_eq, nat_cmp}}
+use Rattle.std.proofs.lemmas.{Bool.{eq-eqb, eqb-true}, List.{append-nil}}
+use Rattle.std.proofs.lemmas.List.{Elements.{filter-append}, Sums.{fold-append, sum_by-append}}
+use Rattle.ptu_trail.specs.{declared.trail.Trail.{Trail}, Trail.{StandsFor as IsTrail}}
 use Rattle.ptu_trail.proofs.Accounts.{cmp_same}
-use Rattle.ptu_audit.specs.declared.deed.Act.{Act}
-use Rattle.ptu_audit.specs.Standing.{IsKept}
+use Rattle.ptu_audit.specs.{declared.deed.Act.{Act}, Standing.{IsKept}}
 use Rattle.ptu_units.specs.Counts.{counted}
 use Rattle.ptu_audit.specs.Trails.{grants_in, is_by, is_grant, is_message, messages_in, trail_of, trail_with}
 

@@ -6,14 +6,12 @@ use Rattle.std.specs.Option.{unwrap_or}
 use Rattle.ptu_lines.specs.Script.{ScriptLine, Whole, Refused}
 use Rattle.ptu_report.specs.declared.ending.Ending.TheVariants as endings
 use Rattle.ptu_report.specs.Rules.{Outcome, Goes, Refuses, closing, ending_after, ending_at, meaning_after, meaning_at, texts_at, texts_until}
-use Rattle.ptu_laws.proofs.Budget.{count-sound}
-use Rattle.ptu_laws.proofs.Capacity.{held-sound}
+use Rattle.ptu_laws.proofs.{Budget.{count-sound}, Capacity.{held-sound}}
 use Rattle.ptu_laws.proofs.Payments.{message-paid, payments-apart}
 use Rattle.ptu_laws.proofs.Stands.{follow-stand, stand-from}
 use Rattle.ptu_laws.specs.Sound.{IsSound}
 use Rattle.ptu_units.specs.Log.{IsLogOf}
-use Rattle.ptu_history.specs.declared.client.Client.{Client}
-use Rattle.ptu_history.specs.History.{Record}
+use Rattle.ptu_history.specs.{declared.client.Client.{Client}, History.{Record}}
 use Rattle.ptu_trail.specs.declared.cause.Shedding.{Shedding}
 use Rattle.ptu_trail.specs.Faults.{AreInRange, IsFaultless, IsInRange, record_of}
 use Rattle.ptu_audit_lines.specs.declared.entry.Decision.{Decision}
@@ -23,23 +21,19 @@ use Rattle.ptu_audit_lines.specs.declared.entry.ReportLine.TheVariants as report
 use Rattle.ptu_audit_lines.specs.Entry.{line_of}
 use Rattle.ptu_audit.specs.declared.answer.AuditCause.{AuditCause}
 use Rattle.ptu_audit.specs.declared.answer.AuditCause.TheVariants as causes
-use Rattle.ptu_audit.specs.declared.line.Line.{Line}
-use Rattle.ptu_audit.specs.declared.line.Said.{Said}
+use Rattle.ptu_audit.specs.declared.line.{Line.{Line}, Said.{Said}}
 use Rattle.ptu_audit.specs.declared.line.Said.TheVariants as said
-use Rattle.ptu_audit.specs.declared.deed.Act.{Act}
-use Rattle.ptu_audit.specs.declared.deed.Deed.{Deed}
+use Rattle.ptu_audit.specs.declared.deed.{Act.{Act}, Deed.{Deed}}
 use Rattle.ptu_audit.specs.declared.deed.Deed.TheVariants as deeds
 use Rattle.ptu_audit.specs.Lines.{said_by}
 use Rattle.ptu_audit.specs.Groups.{act_at, acts_by, acts_of, answered, answered_by, answered_client, are_answered, are_told, changed, decides, deed_of, groups_of, is_of_script, last_apart, message_at, messages_in, said_deed, sheddings, shedding_of, with_line, in_front}
-use Rattle.ptu_audit.specs.Texts.{answer_text, refusal_text}
-use Rattle.ptu_audit.specs.declared.answer.Answer.{Answer}
+use Rattle.ptu_audit.specs.{Texts.{answer_text, refusal_text}, declared.answer.Answer.{Answer}}
 use Rattle.ptu_audit.specs.declared.answer.Answer.TheVariants as answers
 use Rattle.ptu_audit.specs.declared.deed.Finding.{Finding}
 use Rattle.ptu_audit.specs.Trails.{acts_in, answer_by, answer_of, as_counted, groups_finding, is_by, records_of, trail_of, trail_with}
 use Rattle.ptu_audit.specs.Reading.{Reading, audit_rules, cause_of_line, end_read, is_disordered, line_read, with_entry}
 use Rattle.ptu_audit.specs.Audited.{AllKeepPromises, IsKept, report_lines}
-use Rattle.ptu_audit.proofs.Exact.{none_from, sound_from}
-use Rattle.ptu_audit.proofs.Faultless.{Laws, faultless}
+use Rattle.ptu_audit.proofs.{Exact.{none_from, sound_from}, Faultless.{Laws, faultless}}
 use Rattle.ptu_audit.proofs.Ranges.{IsDecisionInRange, IsSaidInRange, said_within}
 
 abbrev AreLines : List Line → Type 0

@@ -9,8 +9,7 @@ use Rattle.ptu_lines.specs.Words.{int_within, log_of, word_of}
 use Rattle.ptu_messages.specs.declared.message.Body.{Body}
 use Rattle.ptu_messages.specs.declared.message.Body.TheVariants as bodies
 use Rattle.ptu_messages.specs.declared.message.Message.{Message}
-use Rattle.ptu_messages.specs.declared.fault.MessageFault.{MessageFault}
-use Rattle.ptu_messages.specs.Reading.{message_in}
+use Rattle.ptu_messages.specs.{declared.fault.MessageFault.{MessageFault}, Reading.{message_in}}
 use Rattle.ptu_audit_lines.specs.declared.entry.Decision.{Decision}
 use Rattle.ptu_audit_lines.specs.declared.entry.Decision.TheVariants as decisions
 use Rattle.ptu_audit_lines.specs.declared.entry.Entry.{Entry}

@@ -4,11 +4,9 @@ use Rattle.ptu_lines.specs.Script.{script_lines}
 use Rattle.ptu_outside.specs.Handing.{HasPut}
 use Rattle.ptu_report.specs.declared.fault.RunFault.{RunFault}
 use Rattle.ptu_report.specs.declared.fault.RunFault.TheVariants.{Line, Read, Write, OutOfMemory}
-use Rattle.ptu_report.specs.Reported.{HasReported}
-use Rattle.ptu_report.specs.Runs.{IfRefused}
+use Rattle.ptu_report.specs.{Reported.{HasReported}, Runs.{IfRefused}}
 use Rattle.ptu_audit.specs.declared.answer.AuditCause.{AuditCause}
-use Rattle.ptu_audit.specs.Audited.{AnswerIsWritten, IsAnswer}
-use Rattle.ptu_audit.specs.Reading.{audit_rules, opening}
+use Rattle.ptu_audit.specs.{Audited.{AnswerIsWritten, IsAnswer}, Reading.{audit_rules, opening}}
 use Rattle.ptu_audit.proofs.Promises.{refused_read}
 
 module _ {K : Type 0} (written : K → Option (List ℕ)) (handed : K → Option (List (List ℕ))) (old new : K) (capacity : ℕ) (input : List ℕ) where

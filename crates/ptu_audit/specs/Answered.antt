@@ -1,8 +1,7 @@
 -- How a grandmaster answers REQUESTs and CANCELs, and tells of a shedding (IEEE 1588-2019 clause 16.1.4).
 use Rattle.std.specs.Prelude.{ℕ, ◌+◌, ◌*◌, ◌==◌, Bool, false, not, ◌&&◌, List, [], ◌∷◌, ℤ}
 use Rattle.std.specs.Ordering.{int_eq}
-use Rattle.ptu_units.specs.declared.kind.Kind.{Kind}
-use Rattle.ptu_units.specs.Kind.{code_of}
+use Rattle.ptu_units.specs.{declared.kind.Kind.{Kind}, Kind.{code_of}}
 use Rattle.ptu_header.specs.declared.header.PortIdentity.{PortIdentity}
 use Rattle.ptu_tlvs.specs.declared.tlv.Tlv.{Tlv}
 use Rattle.ptu_tlvs.specs.declared.tlv.Tlv.TheVariants as tlvs

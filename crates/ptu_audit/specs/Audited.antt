@@ -8,17 +8,14 @@ use Rattle.ptu_report.specs.declared.fault.RunFault.TheVariants.{Line as Refused
 use Rattle.ptu_report.specs.declared.ending.Ending.TheVariants as endings
 use Rattle.ptu_report.specs.Rules.{ending_of, meaning_of}
 use Rattle.ptu_units.specs.declared.kind.Kind.{Kind}
-use Rattle.ptu_history.specs.declared.client.Client.{Client}
-use Rattle.ptu_history.specs.History.{Record, Granted, Sent}
+use Rattle.ptu_history.specs.{declared.client.Client.{Client}, History.{Record, Granted, Sent}}
 use Rattle.ptu_history.specs.Held.{budget, count, force, held, payment, payments}
 use Rattle.ptu_history.specs.Live.{last_decision}
 use Rattle.ptu_laws.specs.Paid.{IsBefore, IsPaid}
 use Rattle.ptu_audit.specs.declared.answer.Answer.{Answer}
 use Rattle.ptu_audit.specs.declared.answer.Answer.TheVariants as answers
-use Rattle.ptu_audit.specs.declared.answer.AuditCause.{AuditCause}
-use Rattle.ptu_audit.specs.declared.line.Line.{Line}
-use Rattle.ptu_audit.specs.Groups.{groups_of}
-use Rattle.ptu_audit.specs.Reading.{audit_rules, opening}
+use Rattle.ptu_audit.specs.declared.{answer.AuditCause.{AuditCause}, line.Line.{Line}}
+use Rattle.ptu_audit.specs.{Groups.{groups_of}, Reading.{audit_rules, opening}}
 use Rattle.ptu_audit.specs.Texts.{answer_text, refusal_text}
 use Rattle.ptu_audit.specs.Trails.{AreSound, acts_in, answer_of, trail_of}
 

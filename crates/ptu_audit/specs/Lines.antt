@@ -4,8 +4,7 @@ use Rattle.ptu_units.specs.declared.kind.Kind.TheVariants.{Announce, Sync, Delay
 use Rattle.ptu_messages.specs.declared.message.Body.{Body}
 use Rattle.ptu_messages.specs.declared.message.Body.TheVariants as bodies
 use Rattle.ptu_messages.specs.declared.message.Message.{Message}
-use Rattle.ptu_messages.specs.declared.fault.MessageFault.{MessageFault}
-use Rattle.ptu_messages.specs.Reading.{message_in}
+use Rattle.ptu_messages.specs.{declared.fault.MessageFault.{MessageFault}, Reading.{message_in}}
 use Rattle.ptu_audit_lines.specs.declared.entry.Entry.{Entry}
 use Rattle.ptu_audit_lines.specs.declared.entry.Entry.TheVariants as entries
 use Rattle.ptu_audit.specs.declared.line.Said.{Said}

@@ -4,16 +4,13 @@ use Rattle.std.specs.List.{fold}
 use Rattle.ptu_lines.specs.declared.cause.LineCause.{LineCause}
 use Rattle.ptu_lines.specs.declared.cause.LineCause.TheVariants as lines
 use Rattle.ptu_report.specs.Rules.{Rules, Outcome, Goes, Refuses}
-use Rattle.ptu_audit_lines.specs.declared.entry.Entry.{Entry}
-use Rattle.ptu_audit_lines.specs.declared.entry.ReportLine.{ReportLine}
+use Rattle.ptu_audit_lines.specs.declared.entry.{Entry.{Entry}, ReportLine.{ReportLine}}
 use Rattle.ptu_audit_lines.specs.declared.entry.ReportLine.TheVariants as report
 use Rattle.ptu_audit_lines.specs.Entry.{line_of}
 use Rattle.ptu_audit.specs.declared.answer.AuditCause.{AuditCause}
 use Rattle.ptu_audit.specs.declared.answer.AuditCause.TheVariants as causes
-use Rattle.ptu_audit.specs.declared.line.Line.{Line}
-use Rattle.ptu_audit.specs.Lines.{said_by}
-use Rattle.ptu_audit.specs.Texts.{answer_text, refusal_text}
-use Rattle.ptu_audit.specs.Trails.{answer_of, as_counted}
+use Rattle.ptu_audit.specs.{declared.line.Line.{Line}, Lines.{said_by}}
+use Rattle.ptu_audit.specs.{Texts.{answer_text, refusal_text}, Trails.{answer_of, as_counted}}
 
 -- what was read so far: the capacity that each grandmaster begins with, the lines, and whether the `end` line came
 pub record Reading : Type 0 where

@@ -1,16 +1,11 @@
 -- What an auditor stands for.
 use Rattle.std.specs.Prelude.{◌≡◌, ℕ, List, [], ◌∷◌, ◌++◌, Option, Some, None, IfNone, false}
-use Rattle.std.specs.BTreeMap.{get}
-use Rattle.std.specs.Ordering.{nat_cmp}
+use Rattle.std.specs.{BTreeMap.{get}, Ordering.{nat_cmp}}
 use Rattle.ptu_history.specs.History.{Record}
-use Rattle.ptu_trail.specs.declared.trail.Trail.{Trail}
-use Rattle.ptu_trail.specs.Trail.{StandsFor as IsTrail}
-use Rattle.ptu_audit.specs.declared.auditor.Auditor.{Auditor}
-use Rattle.ptu_audit.specs.declared.deed.Act.{Act}
-use Rattle.ptu_audit.specs.declared.ledger.Ledger.{Ledger}
-use Rattle.ptu_audit.specs.declared.line.Line.{Line}
-use Rattle.ptu_audit.specs.Groups.{groups_of}
-use Rattle.ptu_audit.specs.Reading.{Reading, last_script}
+use Rattle.ptu_trail.specs.{declared.trail.Trail.{Trail}, Trail.{StandsFor as IsTrail}}
+use Rattle.ptu_audit.specs.declared.{auditor.Auditor.{Auditor}, deed.Act.{Act}}
+use Rattle.ptu_audit.specs.declared.{ledger.Ledger.{Ledger}, line.Line.{Line}}
+use Rattle.ptu_audit.specs.{Groups.{groups_of}, Reading.{Reading, last_script}}
 use Rattle.ptu_units.specs.Counts.{counted}
 use Rattle.ptu_audit.specs.Trails.{acts_in, groups_finding, grants_in, messages_in, trail_of}
 

@@ -1,10 +1,8 @@
 -- What an audit writes.
-use Rattle.std.specs.Prelude.{ℕ, List, ◌++◌, codes}
-use Rattle.std.specs.Fmt.{decimal}
+use Rattle.std.specs.{Prelude.{ℕ, List, ◌++◌, codes}, Fmt.{decimal}}
 use Rattle.ptu_trail.specs.declared.cause.NoCause.{NoCause}
 use Rattle.ptu_trail.specs.declared.cause.NoCause.TheVariants as causes
-use Rattle.ptu_audit.specs.declared.answer.Answer.{Answer}
-use Rattle.ptu_audit.specs.declared.answer.Answer.TheVariants.{Yes, No}
+use Rattle.ptu_audit.specs.declared.answer.{Answer.{Answer}, Answer.TheVariants.{Yes, No}}
 use Rattle.ptu_audit.specs.declared.answer.AuditCause.{AuditCause}
 use Rattle.ptu_audit.specs.declared.answer.AuditCause.TheVariants.{Size, Long, Text, Form, Order, End}
 

@@ -2,8 +2,7 @@
 use Rattle.std.proofs.Common.{◌≡◌, ◌∙◌, inl, inr, ℕ, ◌+◌, ◌-◌, ◌≤◌, Bool, true, false, ◌&&◌, ◌==◌, List, [], ◌∷◌, length, drop, Option, Some, None, refl, sym, ap, arith}
 use Rattle.std.specs.Prelude.{slice_get}
 use Rattle.std.proofs.lemmas.Option.{slice_get_cases, slice_get_within, get_or_from_slice_get}
-use Rattle.std.proofs.lemmas.List.{drop_more, drop_all}
-use Rattle.std.proofs.lemmas.List.Splits.{length-slice_split}
+use Rattle.std.proofs.lemmas.{List.{drop_more, drop_all}, List.Splits.{length-slice_split}}
 use Rattle.std.proofs.lemmas.List.Sums.{count_by-le-length}
 use Rattle.ptu_lines.specs.Words.{word_of, words_of}
 use Rattle.ptu_audit_lines.specs.Forms.{fit, is_in_place}

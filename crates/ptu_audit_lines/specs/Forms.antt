@@ -1,8 +1,6 @@
 -- Forms of lines, written as lines: a word in upper case tells what stands in its place, and any other word is itself.
 use Rattle.std.specs.Prelude.{ℕ, Bool, true, false, ◌&&◌, if◌then◌else◌, List, [], ◌∷◌, Option, Some, None, codes}
-use Rattle.std.specs.Option.{is_some}
-use Rattle.std.specs.List.{list_any}
-use Rattle.std.specs.Str.{bytes_eq}
+use Rattle.std.specs.{Option.{is_some}, List.{list_any}, Str.{bytes_eq}}
 use Rattle.ptu_lines.specs.Words.{words_of, ip_of}
 use Rattle.ptu_audit_lines.specs.Words.{any_number, kind_named, is_channel, octet_log}
 

@@ -1,8 +1,6 @@
 -- The words of a report's line, each in the form that its place asks for.
 use Rattle.std.specs.Prelude.{ℕ, ◌-◌, ◌^◌, ℤ, pos, negsuc, nat_le, Bool, not, ◌&&◌, ◌||◌, ◌==◌, if◌then◌else◌, List, take, drop, slice_index, Option, Some, None, option_and_then, codes}
-use Rattle.std.specs.Option.{is_some}
-use Rattle.std.specs.List.{list_all}
-use Rattle.std.specs.Str.{bytes_eq}
+use Rattle.std.specs.{Option.{is_some}, List.{list_all}, Str.{bytes_eq}}
 use Rattle.ptu_units.specs.declared.kind.Kind.{Kind}
 use Rattle.ptu_units.specs.declared.kind.Kind.TheVariants as kinds
 use Rattle.ptu_units.specs.Log.{least_log}

@@ -1,11 +1,8 @@
 -- The names of a table's keys.
 use Rattle.std.proofs.Common.{◌≡◌, ◌↔◌, ℕ, Bool, true, false, ◌&&◌, List, [], ◌∷◌, String, Global, string_bytes, refl, sym, ap, ◌∙◌}
-use Rattle.std.specs.Prelude.{IsTrue}
-use Rattle.std.specs.List.{list_all, AllPass}
-use Rattle.std.specs.Map.{keys_of}
+use Rattle.std.specs.{Prelude.{IsTrue}, List.{list_all, AllPass}, Map.{keys_of}}
 use Rattle.std.proofs.lemmas.List.Sums.{AllPass-from_list_all, list_all-from_AllPass}
-use Rattle.toml.specs.declared.value.Value.{Value}
-use Rattle.toml.specs.View.{members_view}
+use Rattle.toml.specs.{declared.value.Value.{Value}, View.{members_view}}
 use Rattle.ptu_config.specs.Forms.{has_only}
 
 -- the names of the keys pass where those of the members do

@@ -3,8 +3,7 @@ use Rattle.std.proofs.Common.{◌≡◌, ℕ, zero, suc, nat_lt, ◌&&◌, nat_l
 use Rattle.std.proofs.lemmas.Bool.{cases_Bool}
 use Rattle.ptu_lines.specs.Words.{within}
 use Rattle.toml.specs.Data.{Data, string, integer, float, boolean, datetime, array, table, Members, get_member}
-use Rattle.ptu_config.specs.declared.key.Key.TheVariants.{ChangeRound}
-use Rattle.ptu_config.specs.Forms.{given}
+use Rattle.ptu_config.specs.{declared.key.Key.TheVariants.{ChangeRound}, Forms.{given}}
 use Rattle.ptu_config.specs.Rules.{number, whole, value_of, is_above_zero, setting_of}
 
 same_number : (a b : ℕ) → Some (number a) ≡ Some (number b) → a ≡ b

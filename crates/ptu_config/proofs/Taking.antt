@@ -2,8 +2,7 @@
 use Rattle.std.proofs.Common.{◌≡◌, ℕ, ◌+◌, ◌-◌, ◌≤◌, Bool, true, false, List, ◌++◌, length, take, Option, Some, None, refl, ap, sym, ◌∙◌, arith}
 use Rattle.std.specs.Prelude.{IfSome, if◌then◌else◌, slice_range}
 use Rattle.std.specs.Io.KnownBytes.{IsAtEnd, prepend_known}
-use Rattle.std.proofs.lemmas.List.{length-take, take_all}
-use Rattle.std.proofs.lemmas.Slice.{between_is}
+use Rattle.std.proofs.lemmas.{List.{length-take, take_all}, Slice.{between_is}}
 use Rattle.ptu_outside.specs.Ends.{CountsEnd, ends_after}
 use Rattle.ptu_outside.proofs.Told.{prepend_known-nil, prepend_known-append}
 use Rattle.ptu_lines.proofs.Ranges.{range-grow}

@@ -1,9 +1,7 @@
 -- The document of octets that are text, and of octets that are not.
 use Rattle.std.proofs.Common.{◌≡◌, ℕ, List, None, inl, inr}
-use Rattle.std.specs.Prelude.{IsUtf8}
-use Rattle.std.specs.Str.{is_utf8}
-use Rattle.std.proofs.lemmas.Bool.{cases_Bool}
-use Rattle.std.proofs.lemmas.Str.{IsUtf8-from_is_utf8, is_utf8-from_IsUtf8}
+use Rattle.std.specs.{Prelude.{IsUtf8}, Str.{is_utf8}}
+use Rattle.std.proofs.lemmas.{Bool.{cases_Bool}, Str.{IsUtf8-from_is_utf8, is_utf8-from_IsUtf8}}
 use Rattle.toml.specs.Parse.{parse_document}
 use Rattle.ptu_config.specs.Documents.{document_of}
 

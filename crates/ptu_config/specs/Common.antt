@@ -2,8 +2,7 @@
 use Rattle.std.specs.Prelude.{◌≤◌, List, [], ◌∷◌}
 use Rattle.ptu_config.specs.declared.key.Key.{Key}
 use Rattle.ptu_config.specs.declared.key.Key.TheVariants.{Ip, EventPort, GeneralPort, Clock, Port, Domain, Rounds}
-use Rattle.ptu_config.specs.declared.common.Common.{Common}
-use Rattle.ptu_config.specs.Rules.{Value, number}
+use Rattle.ptu_config.specs.{declared.common.Common.{Common}, Rules.{Value, number}}
 
 -- each setting of both nodes with its value, in the order of the settings
 abbrev pub common_entries : Common → List (Key × Value)

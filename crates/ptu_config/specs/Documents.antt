@@ -1,15 +1,10 @@
 -- Which octets are settings, and why others are not.
 use Rattle.std.specs.Prelude.{◌≡◌, ◌⊎◌, ℕ, Bool, nat_lt, Result, MatchResult, if◌then◌else◌, List, length, bytes_eq, find, Option, Some, None, option_map, is_none}
-use Rattle.std.specs.List.{AllByRecursion, list_any}
-use Rattle.std.specs.Str.{is_utf8}
-use Rattle.toml.specs.Data.{Members}
-use Rattle.toml.specs.Parse.{parse_document}
-use Rattle.ptu_config.specs.declared.key.Key.{Key}
-use Rattle.ptu_config.specs.declared.fault.SettingFault.{SettingFault}
+use Rattle.std.specs.{List.{AllByRecursion, list_any}, Str.{is_utf8}}
+use Rattle.toml.specs.{Data.{Members}, Parse.{parse_document}}
+use Rattle.ptu_config.specs.declared.{key.Key.{Key}, fault.SettingFault.{SettingFault}}
 use Rattle.ptu_config.specs.declared.fault.SettingFault.TheVariants.{Size, Text, Unknown, Bad, OutOfMemory}
-use Rattle.ptu_config.specs.Key.{name_of}
-use Rattle.ptu_config.specs.Forms.{has_only}
-use Rattle.ptu_config.specs.Rules.{Value, setting_of}
+use Rattle.ptu_config.specs.{Key.{name_of}, Forms.{has_only}, Rules.{Value, setting_of}}
 
 -- the table that octets are, where they are UTF-8 and a TOML document
 abbrev pub document_of : List ℕ → Option Members

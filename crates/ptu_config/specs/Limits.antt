@@ -4,8 +4,7 @@ use Rattle.ptu_units.specs.declared.kind.Kind.TheVariants.{Announce, Sync, Delay
 use Rattle.ptu_units.specs.Log.{IsLogOf}
 use Rattle.ptu_profile.specs.Limits.{IsCapacity, IsDomain, IsDuration, IsPort, IsTimeout, IsWait}
 use Rattle.ptu_config.specs.declared.settings.GmSettings.{GmSettings}
-use Rattle.ptu_config.specs.declared.settings.SlaveSettings.{SlaveSettings}
-use Rattle.ptu_config.specs.Masters.{are_masters}
+use Rattle.ptu_config.specs.{declared.settings.SlaveSettings.{SlaveSettings}, Masters.{are_masters}}
 
 -- the settings of a grandmaster are within their ranges
 pub record IsGmInRange (s : GmSettings) : Type 0 where

@@ -2,9 +2,7 @@
 use Rattle.std.specs.Prelude.{◌≡◌, ◌≤◌, ℕ, List, length, Option, Some, None, Result, Ok, Err}
 use Rattle.std.specs.Io.KnownBytes.{IsAtEnd, prepend_known}
 use Rattle.ptu_outside.specs.Faults.{HasRisen}
-use Rattle.ptu_config.specs.declared.key.Key.{Key}
-use Rattle.ptu_config.specs.Documents.{Reads}
-use Rattle.ptu_config.specs.Rules.{Value}
+use Rattle.ptu_config.specs.{declared.key.Key.{Key}, Documents.{Reads}, Rules.{Value}}
 use Rattle.ptu_config.specs.declared.setup_fault.SetupFault.{SetupFault}
 use Rattle.ptu_config.specs.declared.setup_fault.SetupFault.TheVariants.{Refused, Read, OutOfMemory}
 use Rattle.ptu_config.specs.declared.refusal.RefusalLine.{RefusalLine}

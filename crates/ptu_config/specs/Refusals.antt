@@ -5,8 +5,7 @@ use Rattle.ptu_config.specs.declared.key.Key.TheVariants.{Masters}
 use Rattle.ptu_config.specs.declared.fault.SettingFault.{SettingFault}
 use Rattle.ptu_config.specs.declared.fault.SettingFault.TheVariants as faults
 use Rattle.ptu_config.specs.declared.master.MasterSetting.{MasterSetting}
-use Rattle.ptu_config.specs.Documents.{document_of, refusal_of}
-use Rattle.ptu_config.specs.Key.{name_of}
+use Rattle.ptu_config.specs.{Documents.{document_of, refusal_of}, Key.{name_of}}
 use Rattle.ptu_config.specs.Rules.{Value, masters, gm_keys, setting_of, slave_keys}
 use Rattle.ptu_config.specs.declared.setup_fault.SetupFault.{SetupFault}
 use Rattle.ptu_config.specs.declared.setup_fault.SetupFault.TheVariants.{Refused, OutOfMemory}

@@ -4,8 +4,7 @@ use Rattle.std.specs.Prelude.{ℕ, suc, ◌-◌, ◌^◌, if◌then◌else◌, B
 use Rattle.toml.specs.Data.{Data, Members, as_bool, integer, get_member}
 use Rattle.ptu_config.specs.declared.key.Key.{Key}
 use Rattle.ptu_config.specs.declared.key.Key.TheVariants.{Ip, EventPort, GeneralPort, Clock, Port, Domain, Rounds, Class, Capacity, MaxDuration, Epoch, Senders, ChangeRound, NewCapacity, TwoStep, WaitToRestore, AnnounceTimeout, SyncTimeout, DelayTimeout, LogAnnounce, LogSync, LogDelay, Duration, Masters}
-use Rattle.ptu_config.specs.declared.master.MasterSetting.{MasterSetting}
-use Rattle.ptu_config.specs.Key.{name_of}
+use Rattle.ptu_config.specs.{declared.master.MasterSetting.{MasterSetting}, Key.{name_of}}
 use Rattle.ptu_config.specs.Forms.{address_in, identity_in, whole_in, signed_in, given}
 use Rattle.ptu_config.specs.Masters.{masters_in}
 

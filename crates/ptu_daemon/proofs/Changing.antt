@@ -1,22 +1,16 @@
 -- That the capacity has changed.
 use Rattle.std.proofs.Common.{◌≡◌, ℕ, List, ◌++◌, map, sym, ap, arith}
-use Rattle.ptu_outside.specs.declared.port.Port.{Ghosts as Ports}
-use Rattle.ptu_outside.specs.Departure.{Departure}
+use Rattle.ptu_outside.specs.{declared.port.Port.{Ghosts as Ports}, Departure.{Departure}}
 use Rattle.ptu_outside.specs.HandsOver.{HandsOver}
 use Rattle.ptu_history.specs.Core.{book_step_moment, core_step, history_after}
 use Rattle.ptu_history.specs.Events as events
-use Rattle.ptu_history.specs.History.{Record}
-use Rattle.ptu_history.specs.Shedding.{shed_grants}
-use Rattle.ptu_admit.specs.declared.shed_list.Shed.{Shed}
-use Rattle.ptu_admit.specs.Shed.{shed_of}
-use Rattle.ptu_gm_messages.specs.Deciding.{opened_with}
-use Rattle.ptu_gm_messages.specs.Replies.{cancels_to}
+use Rattle.ptu_history.specs.{History.{Record}, Shedding.{shed_grants}}
+use Rattle.ptu_admit.specs.{declared.shed_list.Shed.{Shed}, Shed.{shed_of}}
+use Rattle.ptu_gm_messages.specs.{Deciding.{opened_with}, Replies.{cancels_to}}
 use Rattle.ptu_grandmaster.specs.declared.driving.GmEvent.TheVariants.{Capacity}
-use Rattle.ptu_grandmaster.specs.Changed.{leases_shed}
-use Rattle.ptu_grandmaster.specs.Gm.{KeptGm, StandsFor}
+use Rattle.ptu_grandmaster.specs.{Changed.{leases_shed}, Gm.{KeptGm, StandsFor}}
 use Rattle.ptu_grandmaster.proofs.Cancels.{cancels_shed}
-use Rattle.ptu_daemon.specs.Ran.{AllHandled, Does, Handled, five}
-use Rattle.ptu_daemon.specs.Sends.{by}
+use Rattle.ptu_daemon.specs.{Ran.{AllHandled, Does, Handled, five}, Sends.{by}}
 use Rattle.ptu_daemon.proofs.Handling.{all_same, five_handled, handled_same, hands_handled}
 
 module _ {P : Type 0} (ports : Ports P) where

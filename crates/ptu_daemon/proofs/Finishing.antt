@@ -1,26 +1,19 @@
 -- What the daemon has served, once all rounds were done and the grandmaster was closed.
 use Rattle.std.proofs.Common.{◌≡◌, ◌∙◌, ℕ, ◌+◌, List, [], ◌∷◌, ◌++◌, length, map, flat_map, Option, Some, None, IsSome, refl, sym, ap, ap₂, subst, arith, true}
 use Rattle.std.specs.Prelude.{IfSome, option_map}
-use Rattle.ptu_outside.specs.declared.clock.Clock.{Ghosts as Clocks}
-use Rattle.ptu_outside.specs.declared.opened.Opened.{Opened}
-use Rattle.ptu_outside.specs.declared.port.Port.{Ghosts as Ports}
-use Rattle.ptu_outside.specs.Departure.{Departure}
+use Rattle.ptu_outside.specs.declared.{clock.Clock.{Ghosts as Clocks}, opened.Opened.{Opened}}
+use Rattle.ptu_outside.specs.{declared.port.Port.{Ghosts as Ports}, Departure.{Departure}}
 use Rattle.ptu_outside.specs.Faults.{HasRisen, HasRisenBy, HasRisenJust}
 use Rattle.ptu_outside.specs.Telling.{IfTold, append_told}
 use Rattle.ptu_outside.proofs.HandsOver.{none_failed}
-use Rattle.ptu_history.specs.Core.{book_step_moment, core_history, history_after}
-use Rattle.ptu_history.specs.Counts.{counts}
-use Rattle.ptu_history.specs.History.{Record}
-use Rattle.ptu_history.specs.Verdict.{table_rates}
+use Rattle.ptu_history.specs.{Core.{book_step_moment, core_history, history_after}, Counts.{counts}}
+use Rattle.ptu_history.specs.{History.{Record}, Verdict.{table_rates}}
 use Rattle.ptu_history.proofs.Histories.{history_after-append}
 use Rattle.ptu_gm_messages.specs.Deciding.{opened_with}
-use Rattle.ptu_grandmaster.specs.declared.driving.GmEvent.{GmEvent}
-use Rattle.ptu_grandmaster.specs.Driven.{events_of}
+use Rattle.ptu_grandmaster.specs.{declared.driving.GmEvent.{GmEvent}, Driven.{events_of}}
 use Rattle.ptu_units.specs.Counts.{counted}
 use Rattle.ptu_grandmaster.specs.Gm.{KeptGm, StandsFor}
-use Rattle.ptu_lanes.specs.Sending.{GoesOn, WasSent}
-use Rattle.ptu_lanes.specs.Served.{faults_of}
-use Rattle.ptu_lanes.specs.Waiting.{PassedBy}
+use Rattle.ptu_lanes.specs.{Sending.{GoesOn, WasSent}, Served.{faults_of}, Waiting.{PassedBy}}
 use Rattle.ptu_config.specs.declared.settings.GmSettings.{GmSettings}
 use Rattle.ptu_rounds.specs.Ports.{HaveNotRisen, HaveRisenBy, HaveRisenJust, WereSent, ports_of, senders_of}
 use Rattle.ptu_rounds.specs.Rounds.{in_rounds, moments_after, timed}

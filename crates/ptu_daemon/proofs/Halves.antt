@@ -2,30 +2,22 @@
 use Rattle.std.proofs.Common.{◌≡◌, ◌≢◌, ℕ, ◌+◌, ◌%◌, Bool, true, false, cond, eqb, List, [], ◌∷◌, ◌++◌, map, length, Result, Ok, Err, refl, sym, ap, ◌∙◌, arith}
 use Rattle.std.specs.List.{AllByRecursion}
 use Rattle.std.proofs.lemmas.Bool.{ne_eqb}
-use Rattle.ptu_units.specs.declared.kind.Kind.{Kind}
-use Rattle.ptu_units.specs.declared.kind.Kind.TheVariants.{Announce, Sync, DelayResp}
+use Rattle.ptu_units.specs.declared.kind.{Kind.{Kind}, Kind.TheVariants.{Announce, Sync, DelayResp}}
 use Rattle.ptu_units.specs.Kind.{code_of}
 use Rattle.ptu_octets.specs.Number.{low_nibble_at}
 use Rattle.ptu_outside.specs.declared.channel.Channel.TheVariants as channels
 use Rattle.ptu_outside.specs.Departure.{Departure}
-use Rattle.ptu_header.specs.declared.header.Header.{Header}
-use Rattle.ptu_header.specs.declared.header.PortIdentity.{PortIdentity}
-use Rattle.ptu_header.specs.declared.fault.HeaderFault.{HeaderFault}
-use Rattle.ptu_header.specs.Reading.{header_in}
+use Rattle.ptu_header.specs.declared.header.{Header.{Header}, PortIdentity.{PortIdentity}}
+use Rattle.ptu_header.specs.{declared.fault.HeaderFault.{HeaderFault}, Reading.{header_in}}
 use Rattle.ptu_header.proofs.Readings.{found_is}
-use Rattle.ptu_tlvs.specs.declared.tlv.Tlv.{Tlv}
-use Rattle.ptu_tlvs.specs.declared.tlv.Tlv.TheVariants.{Cancel}
+use Rattle.ptu_tlvs.specs.declared.tlv.{Tlv.{Tlv}, Tlv.TheVariants.{Cancel}}
 use Rattle.ptu_messages.specs.declared.message.Message.{Message}
-use Rattle.ptu_history.specs.declared.client.Client.{Client}
-use Rattle.ptu_history.specs.Client.{table_of}
-use Rattle.ptu_history.specs.Core.{core_moment}
-use Rattle.ptu_history.specs.Counts.{counts}
+use Rattle.ptu_history.specs.{declared.client.Client.{Client}, Client.{table_of}}
+use Rattle.ptu_history.specs.{Core.{core_moment}, Counts.{counts}}
 use Rattle.ptu_history.specs.Events as events
-use Rattle.ptu_history.specs.Events.{Answer}
-use Rattle.ptu_history.specs.History.{Record}
+use Rattle.ptu_history.specs.{Events.{Answer}, History.{Record}}
 use Rattle.ptu_history.specs.Live as live
-use Rattle.ptu_history.specs.Shedding.{shed_grants}
-use Rattle.ptu_history.specs.Step.{delay_answer}
+use Rattle.ptu_history.specs.{Shedding.{shed_grants}, Step.{delay_answer}}
 use Rattle.ptu_history.specs.Turns.{due_grants, message_of}
 use Rattle.ptu_profile.specs.declared.grandmaster.GmConfig.{GmConfig}
 use Rattle.ptu_shard.specs.Answered.{responses}
@@ -33,16 +25,14 @@ use Rattle.ptu_messages.specs.Sent.{octets_sent}
 use Rattle.ptu_shard.specs.Messages.{channel_of, departure_of, message_of_response, message_of_turn, response_of}
 use Rattle.ptu_gm_messages.specs.declared.heard.Heard.{Heard}
 use Rattle.ptu_gm_messages.specs.declared.heard.Heard.TheVariants as heard
-use Rattle.ptu_gm_messages.specs.declared.reason.GmReason.{GmReason}
-use Rattle.ptu_gm_messages.specs.Items.{heard_in}
+use Rattle.ptu_gm_messages.specs.{declared.reason.GmReason.{GmReason}, Items.{heard_in}}
 use Rattle.ptu_gm_messages.specs.Deciding.{answer_to, client_of, decisions_of, opened_with, reply_after}
 use Rattle.ptu_gm_messages.specs.Replies.{cancels_to, identity_of, lease_of, signaling_of, signaling_to}
 use Rattle.ptu_grandmaster.specs.declared.driving.GmEvent.{GmEvent}
 use Rattle.ptu_grandmaster.specs.declared.driving.GmEvent.TheVariants.{Take, Turn, Class, Capacity}
 use Rattle.ptu_lanes.specs.Rounds.{Exchange, replies, reply_if_any, reply_in, reply_with}
 use Rattle.ptu_daemon.specs.Sends.{Standing, event_sends, heard_sends, sends_by, standing_after}
-use Rattle.ptu_twostep.specs.Pairs.{step_at}
-use Rattle.ptu_twostep.specs.Steps.{has_two_steps, step_by, step_read, step_of}
+use Rattle.ptu_twostep.specs.{Pairs.{step_at}, Steps.{has_two_steps, step_by, step_read, step_of}}
 use Rattle.ptu_twostep.specs.declared.step.Step.TheVariants.{OneStepSync, TwoStepSync, FollowUp, Other}
 use Rattle.ptu_twostep.specs.Telling.{is_half}
 

@@ -1,12 +1,9 @@
 -- What was handed to ports, one after the other, and in several parts.
 use Rattle.std.proofs.Common.{◌≡◌, ◌∙◌, inl, ℕ, ◌+◌, ◌≤◌, true, List, [], ◌∷◌, ◌++◌, length, Option, Some, None, refl, sym, ap, subst, arith, length-append}
-use Rattle.std.specs.List.{items_where_true}
-use Rattle.std.specs.Option.{option_map}
-use Rattle.ptu_outside.specs.declared.port.Port.{Ghosts as Ports}
-use Rattle.ptu_outside.specs.Departure.{Departure}
+use Rattle.std.specs.{List.{items_where_true}, Option.{option_map}}
+use Rattle.ptu_outside.specs.{declared.port.Port.{Ghosts as Ports}, Departure.{Departure}}
 use Rattle.ptu_outside.specs.Faults.{HasNotFallen, HasRisen, HasRisenBy, HasRisenJust}
-use Rattle.ptu_outside.specs.HandsOver.{HandsOver, SentOf}
-use Rattle.ptu_outside.specs.Telling.{IfTold, append_told}
+use Rattle.ptu_outside.specs.{HandsOver.{HandsOver, SentOf}, Telling.{IfTold, append_told}}
 use Rattle.ptu_outside.proofs.HandsOver.{goes_on_both, just_both, none_failed, not_fallen_both, not_fallen_none, rises_first, rises_second, risen_both, sent_both, sent_none, told_both, told_none}
 use Rattle.ptu_grandmaster.specs.Gm.{KeptGm}
 use Rattle.ptu_daemon.specs.Ran.{AllHandled, Handled, five}

@@ -2,16 +2,11 @@
 use Rattle.std.proofs.Common.{◌≡◌, ◌∙◌, ℕ, suc, zero, ◌+◌, ◌-◌, ◌^◌, ◌≤◌, ◌||◌, Bool, true, false, leb, List, [], ◌∷◌, ◌++◌, length, map, Option, Some, None, IsSome, IfSome, option_map, Result, Ok, Err, refl, sym, ap, subst, inl, inr}
 use Rattle.std.specs.Prelude.{IfErr, OnOk}
 use Rattle.std.proofs.lemmas.Bool.{leb-true, le-leb}
-use Rattle.ptu_outside.specs.declared.arrival.Arrival.{Arrival}
-use Rattle.ptu_outside.specs.declared.clock.Clock.{Ghosts as Clocks}
-use Rattle.ptu_outside.specs.declared.endpoint.Endpoint.{Endpoint}
-use Rattle.ptu_outside.specs.declared.opened.Opened.{Opened}
-use Rattle.ptu_outside.specs.declared.port.Port.{Ghosts as Ports}
-use Rattle.ptu_outside.specs.declared.sink.Sink.{Ghosts as Sinks}
-use Rattle.ptu_outside.specs.Departure.{Departure}
-use Rattle.ptu_outside.specs.Faults.{HasRisen}
-use Rattle.ptu_outside.specs.Handing.{HasPut, HasPutFront}
-use Rattle.ptu_outside.specs.Telling.{IfTold, append_told}
+use Rattle.ptu_outside.specs.declared.{arrival.Arrival.{Arrival}, clock.Clock.{Ghosts as Clocks}}
+use Rattle.ptu_outside.specs.declared.{endpoint.Endpoint.{Endpoint}, opened.Opened.{Opened}}
+use Rattle.ptu_outside.specs.declared.{port.Port.{Ghosts as Ports}, sink.Sink.{Ghosts as Sinks}}
+use Rattle.ptu_outside.specs.{Departure.{Departure}, Faults.{HasRisen}}
+use Rattle.ptu_outside.specs.{Handing.{HasPut, HasPutFront}, Telling.{IfTold, append_told}}
 use Rattle.ptu_gm_messages.specs.Replies.{cancels_to}
 use Rattle.ptu_config.specs.declared.settings.GmSettings.{GmSettings}
 use Rattle.ptu_rounds.specs.Ports.{HaveNotRisen, WereSent, senders_of}
@@ -19,13 +14,10 @@ use Rattle.ptu_rounds.specs.declared.fault.DaemonFault.{DaemonFault}
 use Rattle.ptu_rounds.specs.declared.fault.DaemonFault.TheVariants as faults
 use Rattle.ptu_lanes.specs.Rounds.{replies}
 use Rattle.ptu_lanes.specs.Served.{IsControlled, Numbers, ServesByLanes, faults_of, waits_of}
-use Rattle.ptu_twostep.specs.declared.two_host.Flags.{Flags}
-use Rattle.ptu_twostep.specs.Hosts.{clear, flagged_by, two_steps}
-use Rattle.ptu_twostep.specs.Pairs.{pairs}
-use Rattle.ptu_twostep.specs.Telling.{told_by}
+use Rattle.ptu_twostep.specs.{declared.two_host.Flags.{Flags}, Hosts.{clear, flagged_by, two_steps}}
+use Rattle.ptu_twostep.specs.{Pairs.{pairs}, Telling.{told_by}}
 use Rattle.ptu_twostep.proofs.Pairs.{grown-pairs}
-use Rattle.ptu_daemon.specs.Answers.{HasAnswered}
-use Rattle.ptu_daemon.specs.Events.{Given, config_of}
+use Rattle.ptu_daemon.specs.{Answers.{HasAnswered}, Events.{Given, config_of}}
 use Rattle.ptu_daemon.specs.Served.{Said, closing_line, numbers_in, opened_as, served_by}
 use Rattle.ptu_daemon.specs.Serving.{AreServed, HasServed, IsGiven, Serves}
 use Rattle.ptu_daemon.specs.ServingInTwo.{AreSentInPairs, HasServedInTwo, by_counts, has_risen}

@@ -5,12 +5,10 @@ use Rattle.std.proofs.lemmas.List.{append-nil, drop-drop, drop_all, length-map, 
 use Rattle.std.specs.Option.{IfSome}
 use Rattle.ptu_outside.specs.declared.arrival.Arrival.{Arrival}
 use Rattle.ptu_outside.specs.declared.channel.Channel.TheVariants as channels
-use Rattle.ptu_outside.specs.declared.clock.Clock.{Ghosts as Clocks}
-use Rattle.ptu_outside.specs.declared.port.Port.{Ghosts as Ports}
+use Rattle.ptu_outside.specs.declared.{clock.Clock.{Ghosts as Clocks}, port.Port.{Ghosts as Ports}}
 use Rattle.ptu_config.specs.declared.settings.GmSettings.{GmSettings}
 use Rattle.ptu_rounds.specs.Rounds.{in_rounds, left_after, taken_in}
-use Rattle.ptu_daemon.specs.declared.daemon.Daemon.{Daemon}
-use Rattle.ptu_daemon.specs.declared.tally.Tally.{Tally}
+use Rattle.ptu_daemon.specs.declared.{daemon.Daemon.{Daemon}, tally.Tally.{Tally}}
 use Rattle.ptu_daemon.specs.Events.{Given, change_in, change_to, round_of, taking, turns}
 use Rattle.ptu_daemon.specs.Ran.{DidRound, DidRounds, Gives, IsSmall, Ran, TookChannel, Waits}
 use Rattle.ptu_daemon.proofs.Running.{ran_as, ran_more, ran_none}

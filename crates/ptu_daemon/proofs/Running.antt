@@ -1,19 +1,14 @@
 -- What parts of the daemon have done, one after the other.
 use Rattle.std.proofs.Common.{◌≡◌, ◌∙◌, ℕ, ◌+◌, List, [], ◌∷◌, ◌++◌, length, Option, Some, None, refl, sym, ap, subst, arith, append_assoc, length-append, Result, Ok, Err}
-use Rattle.std.specs.Result.{IfOk}
-use Rattle.std.specs.Option.{option_map}
+use Rattle.std.specs.{Result.{IfOk}, Option.{option_map}}
 use Rattle.std.proofs.lemmas.List.{append-nil}
-use Rattle.ptu_outside.specs.declared.arrival.Arrival.{Arrival}
-use Rattle.ptu_outside.specs.declared.clock.Clock.{Ghosts as Clocks}
-use Rattle.ptu_outside.specs.declared.port.Port.{Ghosts as Ports}
-use Rattle.ptu_outside.specs.Clocks.{after_first}
+use Rattle.ptu_outside.specs.declared.{arrival.Arrival.{Arrival}, clock.Clock.{Ghosts as Clocks}}
+use Rattle.ptu_outside.specs.{declared.port.Port.{Ghosts as Ports}, Clocks.{after_first}}
 use Rattle.ptu_outside.specs.Telling.{IfTold, IsFirstTold}
 use Rattle.ptu_history.specs.History.{Record}
-use Rattle.ptu_grandmaster.specs.declared.driving.GmEvent.{GmEvent}
-use Rattle.ptu_grandmaster.specs.Gm.{StandsFor}
+use Rattle.ptu_grandmaster.specs.{declared.driving.GmEvent.{GmEvent}, Gm.{StandsFor}}
 use Rattle.ptu_rounds.specs.Rounds.{moments_after, next_of, timed}
-use Rattle.ptu_daemon.specs.declared.daemon.Daemon.{Daemon}
-use Rattle.ptu_daemon.specs.Events.{Happening}
+use Rattle.ptu_daemon.specs.{declared.daemon.Daemon.{Daemon}, Events.{Happening}}
 use Rattle.ptu_daemon.specs.Ran.{AllHandled, Does, Gives, Handled, Ran, Takes, after_all, five, standing_as}
 use Rattle.ptu_daemon.specs.Sends.{Standing, event_sends, sends_by, standing_after}
 use Rattle.ptu_daemon.proofs.Handling.{all_more, all_same, five_handled, handled_more, handled_same}

@@ -1,22 +1,17 @@
 -- That a datagram was taken.
 use Rattle.std.proofs.Common.{◌≡◌, ◌↔◌, ℕ, ◌+◌, ◌%◌, ◌<◌, ◌==◌, Bool, true, false, if◌then◌else◌, List, [], ◌∷◌, map, refl, sym, ap, ap₂, subst, arith, Result, Ok, Err}
-use Rattle.ptu_outside.specs.declared.port.Port.{Ghosts as Ports}
-use Rattle.ptu_outside.specs.Departure.{Departure}
+use Rattle.ptu_outside.specs.{declared.port.Port.{Ghosts as Ports}, Departure.{Departure}}
 use Rattle.ptu_header.specs.declared.header.Header.{Header}
-use Rattle.ptu_history.specs.Client.{table_of}
-use Rattle.ptu_history.specs.Core.{history_after, table_step_moment}
-use Rattle.ptu_history.specs.History.{Record}
-use Rattle.ptu_history.specs.Step.{delay_answer}
+use Rattle.ptu_history.specs.{Client.{table_of}, Core.{history_after, table_step_moment}}
+use Rattle.ptu_history.specs.{History.{Record}, Step.{delay_answer}}
 use Rattle.ptu_shard.specs.declared.answered.Answered.{Answered}
 use Rattle.ptu_shard.specs.Answered.{failed_by, met_by, moment_of_answer, responses, sent_by}
 use Rattle.ptu_shard.specs.Messages.{response_of}
 use Rattle.ptu_gm_messages.specs.declared.heard.Heard.{Heard}
 use Rattle.ptu_gm_messages.specs.declared.heard.Heard.TheVariants as heard
-use Rattle.ptu_gm_messages.specs.declared.item.Item.{Item}
-use Rattle.ptu_gm_messages.specs.declared.reason.GmReason.{GmReason}
+use Rattle.ptu_gm_messages.specs.declared.{item.Item.{Item}, reason.GmReason.{GmReason}}
 use Rattle.ptu_gm_messages.specs.Deciding.{answer_to, client_of, decisions_of, events_of_datagram, opened_with}
-use Rattle.ptu_gm_messages.specs.Items.{heard_in}
-use Rattle.ptu_gm_messages.specs.Replies.{reply_to}
+use Rattle.ptu_gm_messages.specs.{Items.{heard_in}, Replies.{reply_to}}
 use Rattle.ptu_grandmaster.specs.declared.driving.GmEvent.TheVariants.{Take}
 use Rattle.ptu_grandmaster.specs.declared.outcome.Outcome.{Outcome}
 use Rattle.ptu_outside.specs.declared.reply.Reply.{Reply}

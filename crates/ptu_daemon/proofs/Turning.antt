@@ -1,21 +1,16 @@
 -- That a table has taken a turn.
 use Rattle.std.proofs.Common.{◌≡◌, ◌∙◌, ℕ, suc, zero, ◌<◌, List, ◌++◌, map, sym, ap, arith}
 use Rattle.std.proofs.lemmas.Simd.{map-map}
-use Rattle.ptu_outside.specs.declared.port.Port.{Ghosts as Ports}
-use Rattle.ptu_outside.specs.Departure.{Departure}
+use Rattle.ptu_outside.specs.{declared.port.Port.{Ghosts as Ports}, Departure.{Departure}}
 use Rattle.ptu_outside.specs.HandsOver.{HandsOver}
 use Rattle.ptu_history.specs.Core.{core_step, history_after, table_step_moment}
 use Rattle.ptu_history.specs.Events as events
-use Rattle.ptu_history.specs.History.{Record}
-use Rattle.ptu_history.specs.Live.{Grant}
-use Rattle.ptu_history.specs.Turns.{due_grants, message_of}
-use Rattle.ptu_shard.specs.Messages.{departure_of}
-use Rattle.ptu_shard.specs.Turn.{due_messages}
+use Rattle.ptu_history.specs.{History.{Record}, Live.{Grant}, Turns.{due_grants, message_of}}
+use Rattle.ptu_shard.specs.{Messages.{departure_of}, Turn.{due_messages}}
 use Rattle.ptu_gm_messages.specs.Deciding.{opened_with}
 use Rattle.ptu_grandmaster.specs.declared.driving.GmEvent.TheVariants.{Turn}
 use Rattle.ptu_grandmaster.specs.Gm.{KeptGm, StandsFor, table_at, with_table}
-use Rattle.ptu_daemon.specs.Ran.{AllHandled, Does, Handled, five}
-use Rattle.ptu_daemon.specs.Sends.{by}
+use Rattle.ptu_daemon.specs.{Ran.{AllHandled, Does, Handled, five}, Sends.{by}}
 use Rattle.ptu_daemon.proofs.Handling.{all_same, five_handled, handled_same, hands_handled}
 
 module _ {P : Type 0} (ports : Ports P) where

@@ -1,7 +1,6 @@
 -- What happens to a grandmaster that is served, in order (the project's own choice).
 use Rattle.std.specs.Prelude.{ℕ, ◌+◌, Bool, true, ◌==◌, List, [], ◌∷◌, ◌++◌, map, Option, Some}
-use Rattle.ptu_outside.specs.declared.arrival.Arrival.{Arrival}
-use Rattle.ptu_outside.specs.declared.endpoint.Endpoint.{Endpoint}
+use Rattle.ptu_outside.specs.declared.{arrival.Arrival.{Arrival}, endpoint.Endpoint.{Endpoint}}
 use Rattle.ptu_profile.specs.declared.grandmaster.GmConfig.{GmConfig}
 use Rattle.ptu_grandmaster.specs.declared.driving.GmEvent.{GmEvent}
 use Rattle.ptu_grandmaster.specs.declared.driving.GmEvent.TheVariants.{Take, Turn, Capacity}

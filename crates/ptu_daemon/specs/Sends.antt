@@ -2,21 +2,15 @@
 -- Signaling messages.
 use Rattle.std.specs.Prelude.{ℕ, ◌==◌, if◌then◌else◌, List, [], ◌∷◌, ◌++◌, map, Result, Ok, Err}
 use Rattle.ptu_outside.specs.Departure.{Departure}
-use Rattle.ptu_history.specs.Client.{table_of}
-use Rattle.ptu_history.specs.Core.{core_moment, history_after}
-use Rattle.ptu_history.specs.Counts.{counts}
+use Rattle.ptu_history.specs.{Client.{table_of}, Core.{core_moment, history_after}, Counts.{counts}}
 use Rattle.ptu_history.specs.Events as events
-use Rattle.ptu_history.specs.History.{Record}
-use Rattle.ptu_history.specs.Shedding.{shed_grants}
-use Rattle.ptu_history.specs.Step.{delay_answer}
+use Rattle.ptu_history.specs.{History.{Record}, Shedding.{shed_grants}, Step.{delay_answer}}
 use Rattle.ptu_history.specs.Turns.{due_grants, message_of}
 use Rattle.ptu_profile.specs.declared.grandmaster.GmConfig.{GmConfig}
-use Rattle.ptu_shard.specs.Answered.{responses}
-use Rattle.ptu_shard.specs.Messages.{departure_of, response_of}
+use Rattle.ptu_shard.specs.{Answered.{responses}, Messages.{departure_of, response_of}}
 use Rattle.ptu_gm_messages.specs.declared.heard.Heard.{Heard}
 use Rattle.ptu_gm_messages.specs.declared.heard.Heard.TheVariants as heard
-use Rattle.ptu_gm_messages.specs.declared.reason.GmReason.{GmReason}
-use Rattle.ptu_gm_messages.specs.Items.{heard_in}
+use Rattle.ptu_gm_messages.specs.{declared.reason.GmReason.{GmReason}, Items.{heard_in}}
 use Rattle.ptu_gm_messages.specs.Deciding.{client_of, opened_with, reply_after}
 use Rattle.ptu_gm_messages.specs.Replies.{cancels_to, lease_of}
 use Rattle.ptu_grandmaster.specs.declared.driving.GmEvent.{GmEvent}

@@ -1,17 +1,14 @@
 -- What a served grandmaster sends, and its last line (the project's own choice).
 use Rattle.std.specs.Prelude.{ℕ, ◌+◌, List, [], ◌++◌, length, codes, decimal}
 use Rattle.ptu_outside.specs.Departure.{Departure}
-use Rattle.ptu_history.specs.Core.{book_step_moment}
-use Rattle.ptu_history.specs.Counts.{counts}
-use Rattle.ptu_history.specs.History.{Record}
+use Rattle.ptu_history.specs.{Core.{book_step_moment}, Counts.{counts}, History.{Record}}
 use Rattle.ptu_history.specs.Verdict.{table_rates}
 use Rattle.ptu_grandmaster.specs.Driven.{driven_history}
 use Rattle.ptu_units.specs.Counts.{counted}
 use Rattle.ptu_lanes.specs.Served.{Numbers}
 use Rattle.ptu_config.specs.declared.settings.GmSettings.{GmSettings}
 use Rattle.ptu_daemon.specs.declared.closing.Closing.{Closing}
-use Rattle.ptu_daemon.specs.Events.{Given, config_of, served_events}
-use Rattle.ptu_daemon.specs.Sends.{Standing, sends_by}
+use Rattle.ptu_daemon.specs.{Events.{Given, config_of, served_events}, Sends.{Standing, sends_by}}
 
 -- the numbers of the last line: how many sends succeeded, how many sends and receives failed, how many asks were granted and
 -- how many within the profile did not fit, and the rates of the grants that are live at the greatest moment, in sixteenths of

@@ -1,17 +1,12 @@
 -- What a call that serves has done with the ports and clocks that it opened.
 use Rattle.std.specs.Prelude.{◌≡◌, ◌≤◌, ◌+◌, ◌*◌, ◌++◌, ℕ, true, List, length, map, Option, Some, IsSome, IfSome}
-use Rattle.ptu_outside.specs.declared.arrival.Arrival.{Arrival}
-use Rattle.ptu_outside.specs.declared.clock.Clock.{Ghosts as Clocks}
-use Rattle.ptu_outside.specs.declared.opened.Opened.{Opened}
-use Rattle.ptu_outside.specs.declared.port.Port.{Ghosts as Ports}
-use Rattle.ptu_outside.specs.Departure.{Departure}
-use Rattle.ptu_outside.specs.Faults.{HasRisen}
-use Rattle.ptu_outside.specs.Telling.{IfTold}
+use Rattle.ptu_outside.specs.declared.{arrival.Arrival.{Arrival}, clock.Clock.{Ghosts as Clocks}}
+use Rattle.ptu_outside.specs.declared.{opened.Opened.{Opened}, port.Port.{Ghosts as Ports}}
+use Rattle.ptu_outside.specs.{Departure.{Departure}, Faults.{HasRisen}, Telling.{IfTold}}
 use Rattle.ptu_grandmaster.specs.declared.driving.GmEvent.{GmEvent}
 use Rattle.ptu_config.specs.declared.settings.GmSettings.{GmSettings}
 use Rattle.ptu_rounds.specs.Ports.{HaveNotRisen, HaveRisenBy, HaveRisenJust, WereSent, senders_of}
-use Rattle.ptu_lanes.specs.Sending.{GoesOn, WasSent}
-use Rattle.ptu_lanes.specs.Served.{ServesByLanes, faults_of}
+use Rattle.ptu_lanes.specs.{Sending.{GoesOn, WasSent}, Served.{ServesByLanes, faults_of}}
 use Rattle.ptu_lanes.specs.Waiting.{PassedBy}
 use Rattle.ptu_daemon.specs.Events.{Given, config_of}
 use Rattle.ptu_daemon.specs.Served.{Said, numbers_in, opened_as, served_by, served_said}

@@ -1,19 +1,13 @@
 -- What a call that serves in two steps has done with the ports and clocks of the host below.
 use Rattle.std.specs.Prelude.{◌≡◌, ◌+◌, ◌-◌, ◌^◌, ◌||◌, nat_le, ℕ, Bool, false, Option, Some, None, IsSome, option_map}
-use Rattle.ptu_outside.specs.declared.clock.Clock.{Ghosts as Clocks}
-use Rattle.ptu_outside.specs.declared.opened.Opened.{Opened}
-use Rattle.ptu_outside.specs.declared.port.Port.{Ghosts as Ports}
-use Rattle.ptu_outside.specs.Telling.{append_told}
+use Rattle.ptu_outside.specs.declared.{clock.Clock.{Ghosts as Clocks}, opened.Opened.{Opened}}
+use Rattle.ptu_outside.specs.{declared.port.Port.{Ghosts as Ports}, Telling.{append_told}}
 use Rattle.ptu_lanes.specs.Served.{faults_of}
 use Rattle.ptu_config.specs.declared.settings.GmSettings.{GmSettings}
 use Rattle.ptu_rounds.specs.Ports.{HaveNotRisen}
-use Rattle.ptu_twostep.specs.declared.two_host.Flags.{Flags}
-use Rattle.ptu_twostep.specs.Hosts.{clear, flagged_by, two_steps}
-use Rattle.ptu_twostep.specs.Pairs.{pairs}
-use Rattle.ptu_twostep.specs.Telling.{InTwoSteps, told_by}
-use Rattle.ptu_daemon.specs.Events.{Given}
-use Rattle.ptu_daemon.specs.Served.{Said, served_by}
-use Rattle.ptu_daemon.specs.Serving.{HasServed, IsGiven}
+use Rattle.ptu_twostep.specs.{declared.two_host.Flags.{Flags}, Hosts.{clear, flagged_by, two_steps}}
+use Rattle.ptu_twostep.specs.{Pairs.{pairs}, Telling.{InTwoSteps, told_by}}
+use Rattle.ptu_daemon.specs.{Events.{Given}, Served.{Said, served_by}, Serving.{HasServed, IsGiven}}
 
 -- the count of faults has risen
 abbrev pub has_risen : ℕ → ℕ → Bool

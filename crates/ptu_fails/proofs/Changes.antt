@@ -1,10 +1,8 @@
 -- When the state of a watch changes without an entry.
 use Rattle.std.proofs.Common.{◌≡◌, ◌≢◌, ℕ, Bool, false, ◌<◌, ◌⊎◌, inl, inr, ap, subst, min, arith}
 use Rattle.std.specs.Option.{option_map, unwrap_or}
-use Rattle.ptu_record.specs.SignalFails.{is_lost}
-use Rattle.ptu_record.specs.OutageEnds.{is_within}
-use Rattle.ptu_fails.specs.Watched.{Watched}
-use Rattle.ptu_fails.specs.WatchState.{state_of}
+use Rattle.ptu_record.specs.{SignalFails.{is_lost}, OutageEnds.{is_within}}
+use Rattle.ptu_fails.specs.{Watched.{Watched}, WatchState.{state_of}}
 use Rattle.ptu_fails.specs.declared.state.WatchState.{WatchState}
 
 abbrev pub announce_lost : Watched → ℕ → Bool

@@ -1,10 +1,8 @@
 -- A watch with one entry of its master more, and its state.
 use Rattle.std.proofs.Common.{◌≡◌, ℕ, Bool, false, cond, not, ◌&&◌, [], ◌∷◌, ◌++◌, Option, Some, None, refl, ap, sym, subst, ◌∙◌, append_assoc}
 use Rattle.std.proofs.lemmas.List.{append-nil}
-use Rattle.std.specs.List.{AllByRecursion, filter_map}
-use Rattle.std.specs.Option.{option_map, unwrap_or}
-use Rattle.ptu_record.specs.Lists.{last, latest_of, later_of, newest_of}
-use Rattle.ptu_record.specs.Quality.{level_of}
+use Rattle.std.specs.{List.{AllByRecursion, filter_map}, Option.{option_map, unwrap_or}}
+use Rattle.ptu_record.specs.{Lists.{last, latest_of, later_of, newest_of}, Quality.{level_of}}
 use Rattle.ptu_record.specs.Record.{Entry, Record, Announce, Sync, Resp, Told, Judge, Judged, Asked, Granted, Denied, Cancelled, Probed, Signalled, Stopped, Event}
 use Rattle.ptu_record.specs.SignalFails.{Timeouts, announce_moment, announced_class, announces, is_unusable, judgement, loss_announce, loss_delay, loss_sync, outage_ends, quality, resp_moment, resps, sync_moment, syncs}
 use Rattle.ptu_record.specs.OutageEnds.{end_at, late_at}

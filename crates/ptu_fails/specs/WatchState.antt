@@ -1,11 +1,9 @@
 -- What a slave finds of a master at a moment.
 use Rattle.std.specs.Prelude.{ℕ, Bool, false, not, ◌&&◌, option_map, unwrap_or}
-use Rattle.ptu_record.specs.Quality.{is_usable}
-use Rattle.ptu_record.specs.Record.{Record}
+use Rattle.ptu_record.specs.{Quality.{is_usable}, Record.{Record}}
 use Rattle.ptu_record.specs.SignalFails.{Timeouts, is_lost, is_unusable, is_waiting, loss_announce, loss_delay, loss_sync, quality}
 use Rattle.ptu_record.specs.OutageEnds.{is_within}
-use Rattle.ptu_fails.specs.Watched.{Watched}
-use Rattle.ptu_fails.specs.declared.state.WatchState.{WatchState}
+use Rattle.ptu_fails.specs.{Watched.{Watched}, declared.state.WatchState.{WatchState}}
 
 -- the state at t of the master that has this record
 abbrev pub state_at : Timeouts → Record → ℕ → WatchState

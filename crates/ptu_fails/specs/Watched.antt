@@ -1,7 +1,6 @@
 -- What a watch keeps of the record of its master, and which records it stands for.
 use Rattle.std.specs.Prelude.{◌≡◌, ℕ, Bool, true, false, Option}
-use Rattle.ptu_record.specs.declared.quality.Quality.{Quality}
-use Rattle.ptu_record.specs.Lists.{last, latest_of}
+use Rattle.ptu_record.specs.{declared.quality.Quality.{Quality}, Lists.{last, latest_of}}
 use Rattle.ptu_record.specs.Record.{Entry, Record, Announce, Sync, Resp, Judged}
 use Rattle.ptu_record.specs.SignalFails.{Timeouts, announces, is_unusable, outage_ends, quality, resps, syncs}
 

@@ -4,27 +4,19 @@ use Rattle.std.specs.Prelude.{ℕ, List, [], ◌∷◌, ◌++◌, map, filter_ma
 use Rattle.std.specs.Option.{option_map_or}
 use Rattle.ptu_units.specs.Kind.{kind_of}
 use Rattle.ptu_header.specs.declared.header.Header.{Header}
-use Rattle.ptu_tlvs.specs.declared.tlv.Ask.{Ask}
-use Rattle.ptu_tlvs.specs.declared.tlv.Tlv.{Tlv}
-use Rattle.ptu_tlvs.specs.declared.tlv.Tlv.TheVariants.{Ack}
-use Rattle.ptu_history.specs.declared.client.Client.{Client}
-use Rattle.ptu_history.specs.Client.{table_of}
-use Rattle.ptu_history.specs.History.{Record}
+use Rattle.ptu_tlvs.specs.declared.tlv.{Ask.{Ask}, Tlv.{Tlv}, Tlv.TheVariants.{Ack}}
+use Rattle.ptu_history.specs.{declared.client.Client.{Client}, Client.{table_of}, History.{Record}}
 use Rattle.ptu_history.specs.Verdict as verdicts
 use Rattle.ptu_history.specs.Verdict.{Config, Verdict, GrantedFor, ShortOf, Outside, verdict}
 use Rattle.ptu_history.specs.Live.{live}
 use Rattle.ptu_history.specs.Events as events
-use Rattle.ptu_history.specs.Events.{Event}
-use Rattle.ptu_history.specs.Core.{core_step, table_step_moment}
+use Rattle.ptu_history.specs.{Events.{Event}, Core.{core_step, table_step_moment}}
 use Rattle.ptu_outside.specs.Departure.{Departure}
 use Rattle.ptu_profile.specs.declared.grandmaster.GmConfig.{GmConfig}
-use Rattle.ptu_gm_messages.specs.declared.item.Item.{Item}
-use Rattle.ptu_gm_messages.specs.declared.item.Item.TheVariants.{Request, Cancel}
-use Rattle.ptu_gm_messages.specs.declared.reason.GmReason.{GmReason}
-use Rattle.ptu_gm_messages.specs.declared.heard.Heard.{Heard}
+use Rattle.ptu_gm_messages.specs.declared.item.{Item.{Item}, Item.TheVariants.{Request, Cancel}}
+use Rattle.ptu_gm_messages.specs.declared.{reason.GmReason.{GmReason}, heard.Heard.{Heard}}
 use Rattle.ptu_gm_messages.specs.declared.heard.Heard.TheVariants as heard
-use Rattle.ptu_gm_messages.specs.Items.{heard_in}
-use Rattle.ptu_gm_messages.specs.Replies.{denial_of, grant_of, reply_to}
+use Rattle.ptu_gm_messages.specs.{Items.{heard_in}, Replies.{denial_of, grant_of, reply_to}}
 
 -- the client of a message with this header, which came from the address
 abbrev pub client_of : ℕ → Header → Client

@@ -1,21 +1,14 @@
 -- The Signaling messages of a grandmaster: the reply to one that it heard, and the CANCEL of a grant that it shed (IEEE
 -- 1588-2019 clause 16.1; the sequenceIds are the project's own choice).
 use Rattle.std.specs.Prelude.{ℕ, ◌+◌, ◌%◌, true, false, List, [], ◌∷◌, pos}
-use Rattle.ptu_units.specs.declared.kind.Kind.{Kind}
-use Rattle.ptu_units.specs.Kind.{code_of}
-use Rattle.ptu_header.specs.declared.header.Header.{Header}
-use Rattle.ptu_header.specs.declared.header.PortIdentity.{PortIdentity}
-use Rattle.ptu_tlvs.specs.declared.tlv.Ask.{Ask}
-use Rattle.ptu_tlvs.specs.declared.tlv.Tlv.{Tlv}
-use Rattle.ptu_tlvs.specs.declared.tlv.Tlv.TheVariants.{Grant, Cancel}
-use Rattle.ptu_messages.specs.declared.message.Message.{Message}
-use Rattle.ptu_messages.specs.Sent.{octets_sent, signaling}
-use Rattle.ptu_outside.specs.declared.channel.Channel.TheVariants.{General}
-use Rattle.ptu_outside.specs.Departure.{Departure}
+use Rattle.ptu_units.specs.{declared.kind.Kind.{Kind}, Kind.{code_of}}
+use Rattle.ptu_header.specs.declared.header.{Header.{Header}, PortIdentity.{PortIdentity}}
+use Rattle.ptu_tlvs.specs.declared.tlv.{Ask.{Ask}, Tlv.{Tlv}, Tlv.TheVariants.{Grant, Cancel}}
+use Rattle.ptu_messages.specs.{declared.message.Message.{Message}, Sent.{octets_sent, signaling}}
+use Rattle.ptu_outside.specs.{declared.channel.Channel.TheVariants.{General}, Departure.{Departure}}
 use Rattle.ptu_history.specs.declared.client.Client.{Client}
 use Rattle.ptu_history.specs.Live as live
-use Rattle.ptu_profile.specs.declared.grandmaster.GmConfig.{GmConfig}
-use Rattle.ptu_profile.specs.Grandmaster.{header_of}
+use Rattle.ptu_profile.specs.{declared.grandmaster.GmConfig.{GmConfig}, Grandmaster.{header_of}}
 
 -- a grant of this duration, in seconds, of what was asked for: R is set
 abbrev pub grant_of : Ask → ℕ → Tlv

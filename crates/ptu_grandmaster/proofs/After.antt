@@ -1,16 +1,11 @@
 -- What a grandmaster stands for after more records, by what its tables, its book and its counts are then.
 use Rattle.std.proofs.Common.{◌≡◌, ◌≢◌, ℕ, ◌+◌, ◌-◌, ◌%◌, ◌^◌, ◌≤◌, ◌++◌, List, [], ◌∷◌, Bool, true, false, length, map, min, refl, sym, ap, subst, ◌∙◌, arith, Option, Some, None}
-use Rattle.ptu_units.specs.declared.kind.Kind.{Kind}
-use Rattle.ptu_units.specs.Kind.{kind_of}
-use Rattle.ptu_history.specs.declared.client.Client.{Client}
-use Rattle.ptu_history.specs.Client.{table_of}
-use Rattle.ptu_history.specs.Counts.{counts}
+use Rattle.ptu_units.specs.{declared.kind.Kind.{Kind}, Kind.{kind_of}}
+use Rattle.ptu_history.specs.{declared.client.Client.{Client}, Client.{table_of}, Counts.{counts}}
 use Rattle.ptu_history.specs.Core.{core_step, table_step_moment}
 use Rattle.ptu_history.specs.Events as events
-use Rattle.ptu_history.specs.History.{Record, Capacity, Ended, Looked}
-use Rattle.ptu_history.specs.Live.{Grant}
-use Rattle.ptu_history.specs.Moments.{book_moment}
-use Rattle.ptu_history.specs.Shedding.{shed_record}
+use Rattle.ptu_history.specs.{History.{Record, Capacity, Ended, Looked}, Live.{Grant}}
+use Rattle.ptu_history.specs.{Moments.{book_moment}, Shedding.{shed_record}}
 use Rattle.ptu_history.specs.Step.{answer_records, delay_answer, step, verdict_records}
 use Rattle.ptu_history.specs.Turns.{due_grants, sent_record}
 use Rattle.ptu_history.specs.Verdict as verdicts
@@ -22,15 +17,13 @@ use Rattle.ptu_profile.specs.declared.grandmaster.GmConfig.{GmConfig}
 use Rattle.ptu_admit.specs.declared.verdict.Verdict.{Verdict}
 use Rattle.ptu_admit.specs.declared.verdict.Verdict.TheVariants.{Granted, Short, Outside}
 use Rattle.ptu_admit.specs.declared.ending.Cancelled.{Cancelled}
-use Rattle.ptu_admit.specs.Lent.{EachStandsAt, Lent, StandFor, shares}
-use Rattle.ptu_admit.specs.Verdict.{IsAt, verdict_of}
+use Rattle.ptu_admit.specs.{Lent.{EachStandsAt, Lent, StandFor, shares}, Verdict.{IsAt, verdict_of}}
 use Rattle.ptu_gm_messages.specs.declared.item.Item.TheVariants as items
 use Rattle.ptu_gm_messages.specs.Deciding as deciding
 use Rattle.ptu_gm_messages.specs.Deciding.{Judged, asked_by, item_moment, moment_of_verdict, opened_with}
 use Rattle.ptu_grandmaster.specs.Deciding.{Comes, Decides, EndsBy, counting}
 use Rattle.ptu_units.specs.Counts.{counted}
-use Rattle.ptu_grandmaster.specs.Gm.{KeptGm, StandsFor, tables}
-use Rattle.ptu_grandmaster.specs.Outcomes.{found_at}
+use Rattle.ptu_grandmaster.specs.{Gm.{KeptGm, StandsFor, tables}, Outcomes.{found_at}}
 
 -- the counts are those of what came before
 pub record HasSameCounts {P : Type 0} (old new : KeptGm P) : Type 0 where

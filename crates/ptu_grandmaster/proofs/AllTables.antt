@@ -2,21 +2,15 @@
 use Rattle.std.proofs.Common.{◌≡◌, ℕ, ◌+◌, ◌≤◌, ◌++◌, List, [], ◌∷◌, Bool, true, false, max, refl, sym, ap, subst, ◌∙◌, arith, cond}
 use Rattle.std.specs.Prelude.{◌==◌}
 use Rattle.ptu_tlvs.specs.declared.tlv.Ask.{Ask}
-use Rattle.ptu_history.specs.declared.client.Client.{Client}
-use Rattle.ptu_history.specs.Client.{table_of}
+use Rattle.ptu_history.specs.{declared.client.Client.{Client}, Client.{table_of}}
 use Rattle.ptu_history.specs.Events as events
-use Rattle.ptu_history.specs.History.{Record}
-use Rattle.ptu_history.specs.Step.{step}
-use Rattle.ptu_history.specs.Verdict.{verdict}
+use Rattle.ptu_history.specs.{History.{Record}, Step.{step}, Verdict.{verdict}}
 use Rattle.ptu_profile.specs.declared.grandmaster.GmConfig.{GmConfig}
 use Rattle.ptu_shard.specs.Table.{Kept}
-use Rattle.ptu_admit.specs.declared.verdict.Verdict.{Verdict}
-use Rattle.ptu_admit.specs.Book.{KeptBook}
-use Rattle.ptu_admit.specs.Lent.{Lent, StandFor, four, moment_for}
-use Rattle.ptu_admit.specs.Tables.{KeepsPort, fall_of}
+use Rattle.ptu_admit.specs.{declared.verdict.Verdict.{Verdict}, Book.{KeptBook}}
+use Rattle.ptu_admit.specs.{Lent.{Lent, StandFor, four, moment_for}, Tables.{KeepsPort, fall_of}}
 use Rattle.ptu_admit.specs.Verdict.{IsAt, ask_of, config_of, verdict_of}
-use Rattle.ptu_admit.proofs.Lending.{all_lent}
-use Rattle.ptu_admit.proofs.StepMoments.{moment-own}
+use Rattle.ptu_admit.proofs.{Lending.{all_lent}, StepMoments.{moment-own}}
 use Rattle.ptu_gm_messages.specs.Deciding.{asked_by, item_moment, opened_with}
 
 module _ {P : Type 0} (config : GmConfig) (t : ℕ) (c : Client) (a b d e a' b' d' e' : Kept P) (book book' : KeptBook) (ask : Ask) (v : Verdict) where

@@ -2,13 +2,10 @@
 use Rattle.std.proofs.Common.{◌≡◌, ◌∙◌, ℕ, ◌+◌, ◌%◌, List, [], ◌∷◌, map, refl, ap, ap₂, arith}
 use Rattle.std.proofs.lemmas.Simd.{map-map}
 use Rattle.ptu_units.specs.declared.kind.Kind.{Kind}
-use Rattle.ptu_history.specs.declared.client.Client.{Client}
-use Rattle.ptu_history.specs.Counts.{counts}
-use Rattle.ptu_history.specs.History.{Record}
+use Rattle.ptu_history.specs.{declared.client.Client.{Client}, Counts.{counts}, History.{Record}}
 use Rattle.ptu_history.specs.Shedding.{shed_grants}
 use Rattle.ptu_profile.specs.declared.grandmaster.GmConfig.{GmConfig}
-use Rattle.ptu_admit.specs.declared.shed_list.Shed.{Shed}
-use Rattle.ptu_admit.specs.Shed.{shed_of}
+use Rattle.ptu_admit.specs.{declared.shed_list.Shed.{Shed}, Shed.{shed_of}}
 use Rattle.ptu_gm_messages.specs.Replies.{cancel_to, cancels_to, lease_of}
 use Rattle.ptu_grandmaster.specs.Changed.{leases_shed}
 

@@ -1,21 +1,13 @@
 -- What is left at the close.
 use Rattle.std.proofs.Common.{◌≡◌, ◌⊎◌, inl, inr, ℕ, ◌+◌, ◌<◌, ◌≤◌, ◌++◌, List, [], ◌∷◌, Bool, true, false, cond, max, refl, sym, ap, ◌∙◌, arith}
-use Rattle.std.specs.Prelude.{nat_lt}
-use Rattle.std.specs.List.{filter}
-use Rattle.ptu_history.specs.Core.{book_step_moment}
-use Rattle.ptu_history.specs.History.{Record}
-use Rattle.ptu_history.specs.Moments.{book_moment}
+use Rattle.std.specs.{Prelude.{nat_lt}, List.{filter}}
+use Rattle.ptu_history.specs.{Core.{book_step_moment}, History.{Record}, Moments.{book_moment}}
 use Rattle.ptu_history.specs.Verdict.{table_rates}
-use Rattle.ptu_shard.specs.declared.lease.Row.{Row}
-use Rattle.ptu_shard.specs.Row.{IsDistinctByLease, share_of}
+use Rattle.ptu_shard.specs.{declared.lease.Row.{Row}, Row.{IsDistinctByLease, share_of}}
 use Rattle.ptu_shard.specs.Table.{Kept, StandsAt}
-use Rattle.ptu_admit.specs.Book.{KeptBook}
-use Rattle.ptu_admit.specs.Lent.{StandFor, four, lent_as, moment_for_all}
-use Rattle.ptu_admit.specs.Rows.{live_rows}
-use Rattle.ptu_admit.specs.Tables.{IsSwept}
-use Rattle.ptu_admit.proofs.Grants.{live_share}
-use Rattle.ptu_admit.proofs.Lending.{swept_stands}
-use Rattle.ptu_admit.proofs.StepMoments.{moment-all}
+use Rattle.ptu_admit.specs.{Book.{KeptBook}, Lent.{StandFor, four, lent_as, moment_for_all}}
+use Rattle.ptu_admit.specs.{Rows.{live_rows}, Tables.{IsSwept}}
+use Rattle.ptu_admit.proofs.{Grants.{live_share}, Lending.{swept_stands}, StepMoments.{moment-all}}
 use Rattle.ptu_admit.proofs.Sums.{share_of-filter-permuted, share_of-permuted}
 
 filter_again : {A : Type 0} (p : A → Bool) (xs : List A) → filter p (filter p xs) ≡ filter p xs

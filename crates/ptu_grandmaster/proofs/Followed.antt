@@ -2,25 +2,17 @@
 use Rattle.std.proofs.Common.{◌≡◌, ◌∙◌, ℕ, ◌+◌, ◌*◌, ◌^◌, ◌<◌, ◌≤◌, ◌++◌, List, [], ◌∷◌, Bool, true, false, cond, Option, Some, None, Ok, Err, get_or, length, map, take, refl, sym, ap, subst, arith}
 use Rattle.std.specs.List.{All, cons_option, count_by, filter_map, flat_map}
 use Rattle.std.specs.Option.{option_map, option_map_or}
-use Rattle.std.proofs.lemmas.Grind.{flat_map-append}
-use Rattle.std.proofs.lemmas.List.{append-nil, take_more}
+use Rattle.std.proofs.lemmas.{Grind.{flat_map-append}, List.{append-nil, take_more}}
 use Rattle.std.proofs.lemmas.List.Elements.{All-append, All-cons, All-map, All-nil}
-use Rattle.ptu_units.specs.declared.kind.Kind.{Kind}
-use Rattle.ptu_units.specs.declared.kind.Kind.TheVariants.{DelayResp}
+use Rattle.ptu_units.specs.declared.kind.{Kind.{Kind}, Kind.TheVariants.{DelayResp}}
 use Rattle.ptu_units.specs.Kind.{kind_of}
 use Rattle.ptu_history.specs.declared.client.Client.{Client}
 use Rattle.ptu_history.specs.Core.{core_history, core_step, history_after, table_step_moment}
-use Rattle.ptu_history.specs.Client.{table_of}
-use Rattle.ptu_history.specs.Counts.{counts}
+use Rattle.ptu_history.specs.{Client.{table_of}, Counts.{counts}}
 use Rattle.ptu_history.specs.Events as events
-use Rattle.ptu_history.specs.Events.{Event}
-use Rattle.ptu_history.specs.History.{Record, is_sent}
-use Rattle.ptu_history.specs.Lawful.{lawful}
-use Rattle.ptu_history.specs.Live.{live}
-use Rattle.ptu_history.specs.Step.{delay_answer, verdict_records}
-use Rattle.ptu_history.specs.Turns.{due_grants}
-use Rattle.ptu_history.specs.Shedding.{shed_grants}
-use Rattle.ptu_history.specs.Core.{book_step_moment}
+use Rattle.ptu_history.specs.{Events.{Event}, History.{Record, is_sent}, Lawful.{lawful}}
+use Rattle.ptu_history.specs.{Live.{live}, Step.{delay_answer, verdict_records}, Turns.{due_grants}}
+use Rattle.ptu_history.specs.{Shedding.{shed_grants}, Core.{book_step_moment}}
 use Rattle.ptu_history.specs.Verdict as verdicts
 use Rattle.ptu_history.specs.Verdict.{Config, verdict}
 use Rattle.ptu_history.proofs.Counts.{counts-asked, counts-empty, counts-ended, counts-granted, counts-nothing, counts-sent, counts-shed, counts-short}
@@ -43,8 +35,7 @@ use Rattle.ptu_grandmaster.specs.declared.driving.GmEvent.TheVariants.{Take, Tur
 use Rattle.ptu_grandmaster.specs.declared.outcome.Taken.{Taken}
 use Rattle.ptu_grandmaster.specs.declared.outcome.Taken.TheVariants.{Ignored, Delay, Asked}
 use Rattle.ptu_grandmaster.specs.Driven.{IsPossible, IsSetUpAs, IsTimely, driven_history, events_of, sent_taken}
-use Rattle.ptu_grandmaster.specs.Gm.{KeptGm, StandsFor}
-use Rattle.ptu_grandmaster.specs.Taking.{ComesTo, IsAnswerTo}
+use Rattle.ptu_grandmaster.specs.{Gm.{KeptGm, StandsFor}, Taking.{ComesTo, IsAnswerTo}}
 use Rattle.ptu_grandmaster.proofs.Heard.{Found, history_after-none, history_after-one}
 
 -- ---- how many messages the events of a datagram send

@@ -1,21 +1,16 @@
 -- What the events of a datagram make of a history.
 use Rattle.std.proofs.Common.{◌≡◌, ℕ, ◌≤◌, ◌++◌, List, [], ◌∷◌, Bool, true, false, Result, Ok, Err, refl, sym, ap, subst, ◌∙◌}
-use Rattle.std.specs.Prelude.{◌==◌, if◌then◌else◌}
-use Rattle.std.specs.Result.{OnErr}
+use Rattle.std.specs.{Prelude.{◌==◌, if◌then◌else◌}, Result.{OnErr}}
 use Rattle.ptu_header.specs.declared.header.Header.{Header}
 use Rattle.ptu_messages.specs.declared.message.Body.{Body}
 use Rattle.ptu_messages.specs.declared.message.Body.TheVariants as body
 use Rattle.ptu_messages.specs.declared.message.Message.{Message}
 use Rattle.ptu_messages.specs.declared.fault.MessageFault.{MessageFault}
-use Rattle.ptu_messages.specs.MessageFault.{IsSignaling}
-use Rattle.ptu_messages.specs.Reading.{message_in}
-use Rattle.ptu_history.specs.Core.{core_step, history_after}
-use Rattle.ptu_history.specs.Events.{Event}
-use Rattle.ptu_history.specs.History.{Record}
+use Rattle.ptu_messages.specs.{MessageFault.{IsSignaling}, Reading.{message_in}}
+use Rattle.ptu_history.specs.{Core.{core_step, history_after}, Events.{Event}, History.{Record}}
 use Rattle.ptu_history.specs.Verdict.{Config}
 use Rattle.ptu_profile.specs.declared.grandmaster.GmConfig.{GmConfig}
-use Rattle.ptu_gm_messages.specs.declared.item.Item.{Item}
-use Rattle.ptu_gm_messages.specs.declared.reason.GmReason.{GmReason}
+use Rattle.ptu_gm_messages.specs.declared.{item.Item.{Item}, reason.GmReason.{GmReason}}
 use Rattle.ptu_gm_messages.specs.declared.reason.GmReason.TheVariants as reasons
 use Rattle.ptu_gm_messages.specs.declared.heard.Heard.{Heard}
 use Rattle.ptu_gm_messages.specs.declared.heard.Heard.TheVariants as heard

@@ -1,31 +1,20 @@
 -- A step on one of the four tables, which is lent alone with the book.
 use Rattle.std.proofs.Common.{◌≡◌, ℕ, ◌+◌, ◌<◌, ◌≤◌, ◌++◌, List, [], ◌∷◌, Bool, true, false, max, refl, sym, ap, subst, ◌∙◌, arith, Option, Some, None}
-use Rattle.std.specs.Prelude.{IfSome, map}
-use Rattle.std.specs.Option.{OnSome}
-use Rattle.std.specs.List.Sorted.{IsPermutation}
+use Rattle.std.specs.{Prelude.{IfSome, map}, Option.{OnSome}, List.Sorted.{IsPermutation}}
 use Rattle.ptu_units.specs.declared.kind.Kind.{Kind}
-use Rattle.ptu_history.specs.declared.client.Client.{Client}
-use Rattle.ptu_history.specs.Client.{table_of}
+use Rattle.ptu_history.specs.{declared.client.Client.{Client}, Client.{table_of}}
 use Rattle.ptu_history.specs.Core.{core_step, table_step_moment}
 use Rattle.ptu_history.specs.Events as events
-use Rattle.ptu_history.specs.History.{Record}
-use Rattle.ptu_history.specs.Live.{live}
-use Rattle.ptu_history.specs.Moments.{book_moment}
-use Rattle.ptu_history.specs.Step.{delay_answer, step}
-use Rattle.ptu_history.specs.Turns.{due_grants, message_of}
+use Rattle.ptu_history.specs.{History.{Record}, Live.{live}, Moments.{book_moment}}
+use Rattle.ptu_history.specs.{Step.{delay_answer, step}, Turns.{due_grants, message_of}}
 use Rattle.ptu_history.specs.Verdict.{Config, verdict}
 use Rattle.ptu_tlvs.specs.declared.tlv.Ask.{Ask}
 use Rattle.ptu_profile.specs.declared.grandmaster.GmConfig.{GmConfig}
-use Rattle.ptu_shard.specs.declared.answered.Answered.{Answered}
-use Rattle.ptu_shard.specs.declared.lease.Row.{Row}
-use Rattle.ptu_shard.specs.Answered.{met_by}
-use Rattle.ptu_shard.specs.Row.{share_of}
-use Rattle.ptu_shard.specs.Table.{Kept, StandsAt}
+use Rattle.ptu_shard.specs.declared.{answered.Answered.{Answered}, lease.Row.{Row}}
+use Rattle.ptu_shard.specs.{Answered.{met_by}, Row.{share_of}, Table.{Kept, StandsAt}}
 use Rattle.ptu_shard.specs.Turn.{due_messages, is_answering_row, is_due_row, spent_where}
-use Rattle.ptu_admit.specs.declared.ending.Cancelled.{Cancelled}
-use Rattle.ptu_admit.specs.declared.verdict.Verdict.{Verdict}
-use Rattle.ptu_admit.specs.Verdict.{IsAt, ask_of, config_of, verdict_of}
-use Rattle.ptu_admit.specs.Book.{KeptBook}
+use Rattle.ptu_admit.specs.declared.{ending.Cancelled.{Cancelled}, verdict.Verdict.{Verdict}}
+use Rattle.ptu_admit.specs.{Verdict.{IsAt, ask_of, config_of, verdict_of}, Book.{KeptBook}}
 use Rattle.ptu_admit.specs.Lent.{Lent, StandFor, is_lent, lent_as, shares}
 use Rattle.ptu_admit.proofs.Lending.{are_at, at_back, at_front, stand_for}
 use Rattle.ptu_admit.proofs.Sendings.{delay_req_stands, spent_all, turn_stands}

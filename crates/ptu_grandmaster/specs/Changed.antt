@@ -1,12 +1,9 @@
 -- The CANCELs of a change of capacity.
 use Rattle.std.specs.Prelude.{◌≡◌, ℕ, List, map}
 use Rattle.ptu_units.specs.declared.kind.Kind.{Kind}
-use Rattle.ptu_history.specs.declared.client.Client.{Client}
-use Rattle.ptu_history.specs.Core.{book_step_moment}
-use Rattle.ptu_history.specs.History.{Record}
-use Rattle.ptu_history.specs.Shedding.{shed_grants}
-use Rattle.ptu_admit.specs.declared.shed_list.Shed.{Shed}
-use Rattle.ptu_admit.specs.Shed.{shed_of}
+use Rattle.ptu_history.specs.{declared.client.Client.{Client}, Core.{book_step_moment}}
+use Rattle.ptu_history.specs.{History.{Record}, Shedding.{shed_grants}}
+use Rattle.ptu_admit.specs.{declared.shed_list.Shed.{Shed}, Shed.{shed_of}}
 
 -- the clients and kinds of grants that were shed, in order
 abbrev pub leases_shed : List Shed → List (Client × Kind)

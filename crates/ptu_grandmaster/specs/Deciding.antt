@@ -2,19 +2,13 @@
 use Rattle.std.specs.Prelude.{◌≡◌, ℕ, ◌+◌, ◌≤◌, List, ◌++◌}
 use Rattle.ptu_units.specs.declared.kind.Kind.{Kind}
 use Rattle.ptu_tlvs.specs.declared.tlv.Ask.{Ask}
-use Rattle.ptu_history.specs.declared.client.Client.{Client}
-use Rattle.ptu_history.specs.Client.{table_of}
+use Rattle.ptu_history.specs.{declared.client.Client.{Client}, Client.{table_of}}
 use Rattle.ptu_history.specs.Core.{history_after}
 use Rattle.ptu_history.specs.Events as events
-use Rattle.ptu_history.specs.History.{Record}
-use Rattle.ptu_history.specs.Live.{live}
-use Rattle.ptu_history.specs.Step.{step}
-use Rattle.ptu_history.specs.Verdict.{verdict}
-use Rattle.ptu_admit.specs.declared.ending.Cancelled.{Cancelled}
-use Rattle.ptu_admit.specs.declared.verdict.Verdict.{Verdict}
+use Rattle.ptu_history.specs.{History.{Record}, Live.{live}, Step.{step}, Verdict.{verdict}}
+use Rattle.ptu_admit.specs.declared.{ending.Cancelled.{Cancelled}, verdict.Verdict.{Verdict}}
 use Rattle.ptu_admit.specs.declared.verdict.Verdict.TheVariants.{Granted, Short, Outside}
-use Rattle.ptu_admit.specs.Lent.{StandFor}
-use Rattle.ptu_admit.specs.Verdict.{IsAt, verdict_of}
+use Rattle.ptu_admit.specs.{Lent.{StandFor}, Verdict.{IsAt, verdict_of}}
 use Rattle.ptu_gm_messages.specs.declared.item.Item.{Item}
 use Rattle.ptu_gm_messages.specs.Deciding.{Decision, asked_by, decision_of, decisions_of, events_of_items, item_moment, item_records, opened_with}
 use Rattle.ptu_units.specs.Counts.{counted}

@@ -1,13 +1,10 @@
 -- What callers see of a grandmaster, and the histories that it stands for.
-use Rattle.std.specs.Prelude.{◌≡◌, ℕ, ◌%◌, ◌==◌, if◌then◌else◌, List}
-use Rattle.std.specs.List.Sorted.{IsPermutation}
+use Rattle.std.specs.{Prelude.{◌≡◌, ℕ, ◌%◌, ◌==◌, if◌then◌else◌, List}, List.Sorted.{IsPermutation}}
 use Rattle.ptu_units.specs.Counts.{counted}
-use Rattle.ptu_history.specs.Counts.{counts}
-use Rattle.ptu_history.specs.History.{Record}
+use Rattle.ptu_history.specs.{Counts.{counts}, History.{Record}}
 use Rattle.ptu_profile.specs.declared.grandmaster.GmConfig.{GmConfig}
 use Rattle.ptu_shard.specs.Table.{Kept}
-use Rattle.ptu_admit.specs.Book.{KeptBook}
-use Rattle.ptu_admit.specs.Lent.{Lent, StandFor, four}
+use Rattle.ptu_admit.specs.{Book.{KeptBook}, Lent.{Lent, StandFor, four}}
 
 -- its configuration, its four tables, its book, the port of its Signaling messages, how many asks it granted and how many
 -- it refused as short, and the sequenceId of its next CANCEL

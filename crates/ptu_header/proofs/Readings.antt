@@ -1,12 +1,10 @@
 -- Every list of octets spells a header, or has a fault.
 use Rattle.std.proofs.Common.{◌≡◌, ℕ, ◌≤◌, ◌⊎◌, inl, inr, true, false, cond, ltb, ◌||◌, List, length, Result, Ok, Err, refl, sym, ap, subst, ◌∙◌, arith, ◌<◌}
 use Rattle.std.proofs.lemmas.Bool.{cases_lt, cases_eq, le-ltb, lt-ltb, eq-eqb, ne_eqb}
-use Rattle.ptu_header.specs.declared.header.Header.{Header}
-use Rattle.ptu_header.specs.declared.fault.HeaderFault.{HeaderFault}
+use Rattle.ptu_header.specs.declared.{header.Header.{Header}, fault.HeaderFault.{HeaderFault}}
 use Rattle.ptu_header.specs.declared.fault.HeaderFault.TheVariants.{Short, Version, Sdo, Length}
 use Rattle.ptu_octets.specs.Number.{number_at, high_nibble_at, low_nibble_at}
-use Rattle.ptu_header.specs.Header.{SpellsHeader, header_at}
-use Rattle.ptu_header.specs.Reading.{by_length, header_in}
+use Rattle.ptu_header.specs.{Header.{SpellsHeader, header_at}, Reading.{by_length, header_in}}
 use Rattle.ptu_header.specs.HeaderFault.{HasHeaderFault}
 
 abbrev IsHeader : List ℕ → Type 0

@@ -2,10 +2,8 @@
 use Rattle.std.proofs.Common.{◌≡◌, ℕ, ◌^◌, ◌<◌, ◌≤◌, refl, sym, arith}
 use Rattle.std.specs.Prelude.{◌%◌, List, ◌++◌}
 use Rattle.std.proofs.Math.Nat.{mod-eq_of_lt}
-use Rattle.ptu_octets.proofs.Numbers.{number_at-octets_of}
-use Rattle.ptu_octets.proofs.Signs.{signed_at-octets_64}
-use Rattle.ptu_header.specs.declared.header.Header.{Header}
-use Rattle.ptu_header.specs.declared.header.PortIdentity.{PortIdentity}
+use Rattle.ptu_octets.proofs.{Numbers.{number_at-octets_of}, Signs.{signed_at-octets_64}}
+use Rattle.ptu_header.specs.declared.header.{Header.{Header}, PortIdentity.{PortIdentity}}
 use Rattle.ptu_header.specs.Header.{AlwaysSpellsHeader, HasIdentityWidths, HasWidths, header_at, identity_at}
 use Rattle.ptu_header.specs.Sent.{sent_header, sent_identity}
 

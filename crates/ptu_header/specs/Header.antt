@@ -1,10 +1,8 @@
 -- The common header of a message, and the octets that spell it (IEEE 1588-2019 clause 13.3).
 use Rattle.std.specs.Prelude.{◌≡◌, ℕ, ◌+◌, ◌-◌, ◌^◌, ◌<◌, ◌≤◌, List, ◌++◌, length, slice_index}
-use Rattle.std.specs.Int.{w64}
-use Rattle.std.specs.Int.RustNames.{FitsSigned}
+use Rattle.std.specs.{Int.{w64}, Int.RustNames.{FitsSigned}}
 use Rattle.ptu_octets.specs.Number.{number_at, signed_at, high_nibble_at, low_nibble_at}
-use Rattle.ptu_header.specs.declared.header.Header.{Header}
-use Rattle.ptu_header.specs.declared.header.PortIdentity.{PortIdentity}
+use Rattle.ptu_header.specs.declared.header.{Header.{Header}, PortIdentity.{PortIdentity}}
 
 -- each part is a number of as many bits as its octets have for it
 pub record HasIdentityWidths (identity : PortIdentity) : Type 0 where

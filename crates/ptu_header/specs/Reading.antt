@@ -1,8 +1,7 @@
 -- Reading a header: its fields and the messageLength, or the first fault.
 use Rattle.std.specs.Prelude.{ℕ, ◌==◌, ◌||◌, if◌then◌else◌, List, length, nat_lt, Result, Ok, Err}
 use Rattle.ptu_octets.specs.Number.{number_at, high_nibble_at, low_nibble_at}
-use Rattle.ptu_header.specs.declared.header.Header.{Header}
-use Rattle.ptu_header.specs.declared.fault.HeaderFault.{HeaderFault}
+use Rattle.ptu_header.specs.declared.{header.Header.{Header}, fault.HeaderFault.{HeaderFault}}
 use Rattle.ptu_header.specs.declared.fault.HeaderFault.TheVariants.{Short, Version, Sdo, Length}
 use Rattle.ptu_header.specs.Header.{header_at}
 

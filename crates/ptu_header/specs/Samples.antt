@@ -2,8 +2,7 @@
 use Rattle.std.specs.Prelude.{◌≡◌, ℕ, List, [], ◌∷◌, ◌++◌, take, replicate, slice_set, pos, negsuc}
 use Rattle.ptu_header.specs.declared.header.Header.{Header}
 use Rattle.ptu_header.specs.declared.fault.HeaderFault.TheVariants.{Short, Version, Sdo, Length}
-use Rattle.ptu_header.specs.Header.{SpellsHeader}
-use Rattle.ptu_header.specs.HeaderFault.{HasHeaderFault}
+use Rattle.ptu_header.specs.{Header.{SpellsHeader}, HeaderFault.{HasHeaderFault}}
 use Rattle.ptu_header.specs.Sent.{sent_header}
 
 -- a Signaling message of a client's port 1, of 54 octets in domain 4

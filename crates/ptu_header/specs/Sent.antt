@@ -1,9 +1,7 @@
 -- The octets of a header as they are sent.
-use Rattle.std.specs.Prelude.{ℕ, ◌==◌, if◌then◌else◌, List, [], ◌∷◌, ◌++◌}
-use Rattle.std.specs.Int.{w64}
+use Rattle.std.specs.{Prelude.{ℕ, ◌==◌, if◌then◌else◌, List, [], ◌∷◌, ◌++◌}, Int.{w64}}
 use Rattle.ptu_octets.specs.Number.{octets_of, signed_octets}
-use Rattle.ptu_header.specs.declared.header.Header.{Header}
-use Rattle.ptu_header.specs.declared.header.PortIdentity.{PortIdentity}
+use Rattle.ptu_header.specs.declared.header.{Header.{Header}, PortIdentity.{PortIdentity}}
 
 -- the ten octets of a port identity
 abbrev pub sent_identity : PortIdentity → List ℕ

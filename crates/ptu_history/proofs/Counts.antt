@@ -1,18 +1,12 @@
 -- The counts of a history after more records, and the payments of its messages.
 use Rattle.std.proofs.Common.{◌≡◌, ◌∙◌, ℕ, ◌+◌, ◌++◌, List, [], ◌∷◌, map, length, Bool, true, false, cond, refl, ap, arith, ℤ}
 use Rattle.std.specs.List.{count_by}
-use Rattle.std.proofs.lemmas.List.{append-nil}
-use Rattle.std.proofs.lemmas.List.Sums.{sum_by-append, sum_by-cons}
-use Rattle.ptu_units.specs.declared.kind.Kind.{Kind}
-use Rattle.ptu_units.specs.declared.kind.Kind.TheVariants.{DelayResp}
-use Rattle.ptu_history.specs.declared.client.Client.{Client}
-use Rattle.ptu_history.specs.Client.{table_of}
+use Rattle.std.proofs.lemmas.{List.{append-nil}, List.Sums.{sum_by-append, sum_by-cons}}
+use Rattle.ptu_units.specs.declared.kind.{Kind.{Kind}, Kind.TheVariants.{DelayResp}}
+use Rattle.ptu_history.specs.{declared.client.Client.{Client}, Client.{table_of}}
 use Rattle.ptu_history.specs.History.{Record, Granted, Short, Ended, Capacity, Looked, Sent, is_sent}
-use Rattle.ptu_history.specs.Live.{Grant}
-use Rattle.ptu_history.specs.Lawful.{lawful}
-use Rattle.ptu_history.specs.Turns.{sent_record}
-use Rattle.ptu_history.specs.Shedding.{shed_record}
-use Rattle.ptu_history.specs.Step.{answer_records, delay_answer}
+use Rattle.ptu_history.specs.{Live.{Grant}, Lawful.{lawful}, Turns.{sent_record}}
+use Rattle.ptu_history.specs.{Shedding.{shed_record}, Step.{answer_records, delay_answer}}
 use Rattle.ptu_history.specs.Counts.{Counts, counts, is_grant, is_shedding, is_shortage}
 use Rattle.ptu_history.proofs.AfterSteps.{answer_records-is}
 

@@ -1,14 +1,10 @@
 -- What one more record does to the grants that stand, and that a grant is live where it stands.
 use Rattle.std.proofs.Common.{◌≡◌, ◌∙◌, ℕ, ◌++◌, List, [], ◌∷◌, Bool, true, false, not, ◌&&◌, ◌||◌, cond, refl, sym, ap, Some, None, ℤ, ltb}
-use Rattle.std.specs.List.{filter, list_any}
-use Rattle.std.specs.Option.{option_or}
-use Rattle.std.proofs.lemmas.Bool.{and_parts, true≢false}
-use Rattle.std.proofs.lemmas.List.{append-nil}
-use Rattle.std.proofs.lemmas.List.Elements.{filter_agree}
-use Rattle.std.proofs.lemmas.List.Folds.{list_any-append}
+use Rattle.std.specs.{List.{filter, list_any}, Option.{option_or}}
+use Rattle.std.proofs.lemmas.{Bool.{and_parts, true≢false}, List.{append-nil}}
+use Rattle.std.proofs.lemmas.List.{Elements.{filter_agree}, Folds.{list_any-append}}
 use Rattle.ptu_units.specs.declared.kind.Kind.{Kind}
-use Rattle.ptu_history.specs.declared.client.Client.{Client}
-use Rattle.ptu_history.specs.Client.{same_lease}
+use Rattle.ptu_history.specs.{declared.client.Client.{Client}, Client.{same_lease}}
 use Rattle.ptu_history.specs.History.{Record, Granted, Short, Ended, Capacity, Shed, Looked, Sent, concerns, decides, is_decision, lease_records}
 use Rattle.ptu_history.specs.Live.{Grant, is_live, is_live_of, last_decision, live, standing, without}
 use Rattle.ptu_history.proofs.Keys.{same_lease-true, same_lease-sym}

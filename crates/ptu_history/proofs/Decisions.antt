@@ -1,7 +1,6 @@
 -- The last decision on a client and kind.
 use Rattle.std.proofs.Common.{◌≡◌, ◌∙◌, ℕ, ◌++◌, List, [], ◌∷◌, true, false, cond, refl, ap, Some, None, ℤ, ltb}
-use Rattle.std.specs.List.{list_any}
-use Rattle.std.specs.Option.{option_or}
+use Rattle.std.specs.{List.{list_any}, Option.{option_or}}
 use Rattle.std.proofs.lemmas.Bool.{or_parts}
 use Rattle.ptu_units.specs.declared.kind.Kind.{Kind}
 use Rattle.ptu_history.specs.declared.client.Client.{Client}

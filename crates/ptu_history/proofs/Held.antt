@@ -1,19 +1,14 @@
 -- What is held at a moment after the last decision, and before a new record.
 use Rattle.std.proofs.Common.{◌≡◌, ◌∙◌, ℕ, ◌+◌, ◌<◌, ◌≤◌, max, min, ◌++◌, List, [], ◌∷◌, Bool, true, false, ◌&&◌, ◌||◌, cond, leb, ltb, refl, sym, ap, subst, arith, Option, Some, None}
-use Rattle.std.specs.List.{filter, find, list_any, sum_by}
-use Rattle.std.specs.Option.{option_or}
+use Rattle.std.specs.{List.{filter, find, list_any, sum_by}, Option.{option_or}}
 use Rattle.std.proofs.lemmas.Bool.{and_left, and_right, le-leb, lt-leb, or_from, or_left, or_right, false≢true, lt-ltb, le-ltb, ltb-true, ltb-false, true≢false}
-use Rattle.std.proofs.lemmas.List.{append-nil}
-use Rattle.std.proofs.lemmas.List.Elements.{filter-append}
-use Rattle.std.proofs.lemmas.List.Folds.{find-append}
-use Rattle.std.proofs.lemmas.List.Sums.{sum_by-cons}
-use Rattle.ptu_units.specs.declared.kind.Kind.{Kind}
-use Rattle.ptu_units.specs.Log.{rate_of}
+use Rattle.std.proofs.lemmas.{List.{append-nil}, List.Elements.{filter-append}}
+use Rattle.std.proofs.lemmas.List.{Folds.{find-append}, Sums.{sum_by-cons}}
+use Rattle.ptu_units.specs.{declared.kind.Kind.{Kind}, Log.{rate_of}}
 use Rattle.ptu_history.specs.declared.client.Client.{Client}
 use Rattle.ptu_history.specs.History.{Record, Granted, Short, Ended, Capacity, Shed, Looked, Sent, concerns, decides, is_decision, moment_of, capacity_in_force, is_change}
 use Rattle.ptu_history.specs.Moments.{book_moment, book_part, greatest_by}
-use Rattle.ptu_history.specs.Live.{Grant, live_grants, standing}
-use Rattle.ptu_history.specs.Verdict.{rate_sum}
+use Rattle.ptu_history.specs.{Live.{Grant, live_grants, standing}, Verdict.{rate_sum}}
 use Rattle.ptu_history.proofs.Capacities.{capacity_in_force-unchanged}
 use Rattle.ptu_history.specs.Held.{Term, end_of, force, held, is_by, is_in_term, terms}
 

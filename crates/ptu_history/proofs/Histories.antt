@@ -1,8 +1,6 @@
 -- A history and its outcomes, event by event.
 use Rattle.std.proofs.Common.{◌≡◌, ℕ, ◌++◌, List, [], ◌∷◌, refl, ap}
-use Rattle.ptu_history.specs.History.{Record}
-use Rattle.ptu_history.specs.Verdict.{Config}
-use Rattle.ptu_history.specs.Events.{Event}
+use Rattle.ptu_history.specs.{History.{Record}, Verdict.{Config}, Events.{Event}}
 use Rattle.ptu_history.specs.Core.{core_moment, core_step, core_history, history_after, core_outcomes, outcomes_after}
 
 pub history_after-append : (config : Config) (before : List Record) (events more : List (ℕ × Event)) → history_after config before (events ++ more) ≡ history_after config (history_after config before events) more

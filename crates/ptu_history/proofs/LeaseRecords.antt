@@ -1,9 +1,7 @@
 -- What one more record does to what concerns a client and kind.
 use Rattle.std.proofs.Common.{◌≡◌, ◌∙◌, ◌++◌, List, [], ◌∷◌, Bool, true, false, cond, refl, sym, ap, reverse, Some, None}
-use Rattle.std.specs.List.{filter, find}
-use Rattle.std.specs.Option.{option_or}
-use Rattle.std.proofs.lemmas.List.{reverse-append, append-nil}
-use Rattle.std.proofs.lemmas.List.Elements.{filter-append}
+use Rattle.std.specs.{List.{filter, find}, Option.{option_or}}
+use Rattle.std.proofs.lemmas.{List.{reverse-append, append-nil}, List.Elements.{filter-append}}
 use Rattle.std.proofs.lemmas.List.Folds.{find-append}
 use Rattle.ptu_units.specs.declared.kind.Kind.{Kind}
 use Rattle.ptu_history.specs.declared.client.Client.{Client}

@@ -1,16 +1,12 @@
 -- A grant that is live is the last decision on its own client and kind.
 use Rattle.std.proofs.Common.{◌≡◌, ◌∙◌, ℕ, ◌<◌, ◌++◌, List, [], ◌∷◌, Bool, true, false, cond, ltb, refl, sym, ap, Option, Some, None, ℤ}
-use Rattle.std.proofs.lemmas.Bool.{and_parts, false≢true, ltb-true}
-use Rattle.std.proofs.lemmas.Bool.Decides.{Decides-int_eq}
+use Rattle.std.proofs.lemmas.{Bool.{and_parts, false≢true, ltb-true}, Bool.Decides.{Decides-int_eq}}
 use Rattle.std.specs.Ordering.{int_eq}
 use Rattle.ptu_units.specs.declared.kind.Kind.{Kind}
 use Rattle.ptu_history.specs.declared.client.Client.{Client}
 use Rattle.ptu_history.specs.History.{Record, Granted, Short, Ended, Capacity, Shed, Looked, Sent, decides, lease_records}
-use Rattle.ptu_history.specs.Live.{is_live, last_decision, live}
-use Rattle.ptu_history.specs.Runs.{continues}
-use Rattle.ptu_history.proofs.Keys.{same_lease-true}
-use Rattle.ptu_history.proofs.Lists.{by_push}
-use Rattle.ptu_history.proofs.Standing.{last_pushed}
+use Rattle.ptu_history.specs.{Live.{is_live, last_decision, live}, Runs.{continues}}
+use Rattle.ptu_history.proofs.{Keys.{same_lease-true}, Lists.{by_push}, Standing.{last_pushed}}
 
 none_last : (c : Client) (k : Kind) (r : Record) → last_decision [] c k ≡ Some r → decides c k r ≡ true
 unfolding last_decision lease_records

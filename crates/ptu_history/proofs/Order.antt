@@ -4,21 +4,14 @@ use Rattle.std.specs.List.Sorted.{IsPermutation, IsSorted}
 use Rattle.std.proofs.lemmas.Bool.{leb-true, le-leb, false≢true}
 use Rattle.std.proofs.lemmas.List.Sorted.{IsPermutation-refl, IsPermutation-cons, IsPermutation-trans, IsPermutation-middle, IsPermutation-sym}
 use Rattle.std.proofs.lemmas.Cmp.{nat_cmp_total, on_total, then_total, back_total}
-use Rattle.std.specs.Cmp.{IsTotalOrder}
-use Rattle.std.specs.Ordering.{is_lt, ordering_reverse}
-use Rattle.std.specs.declared.cmp.Ordering.{Ordering}
-use Rattle.std.specs.declared.cmp.Ordering.TheVariants.{Less, Equal, Greater}
+use Rattle.std.specs.{Cmp.{IsTotalOrder}, Ordering.{is_lt, ordering_reverse}}
+use Rattle.std.specs.declared.cmp.{Ordering.{Ordering}, Ordering.TheVariants.{Less, Equal, Greater}}
 use Rattle.ptu_history.specs.declared.client.Client.{Client}
-use Rattle.ptu_history.specs.Client.{client_cmp, kind_cmp, kind_place}
-use Rattle.ptu_history.specs.History.{Record}
-use Rattle.ptu_history.specs.Live.{Grant}
-use Rattle.ptu_history.specs.Lawful.{earliest}
-use Rattle.ptu_history.specs.Order.{in_order, insert_in_order}
-use Rattle.ptu_history.specs.Verdict.{rate_sum}
-use Rattle.ptu_history.specs.Turns.{turn_cmp}
+use Rattle.ptu_history.specs.{Client.{client_cmp, kind_cmp, kind_place}, History.{Record}}
+use Rattle.ptu_history.specs.{Live.{Grant}, Lawful.{earliest}, Order.{in_order, insert_in_order}}
+use Rattle.ptu_history.specs.{Verdict.{rate_sum}, Turns.{turn_cmp}}
 use Rattle.ptu_history.specs.Shedding.{shed_prefix, shed_cmp}
-use Rattle.ptu_units.specs.declared.kind.Kind.{Kind}
-use Rattle.ptu_units.specs.declared.kind.Kind.TheVariants.{Announce, Sync, DelayResp}
+use Rattle.ptu_units.specs.declared.kind.{Kind.{Kind}, Kind.TheVariants.{Announce, Sync, DelayResp}}
 use Rattle.ptu_units.specs.contracts.kind.KindOrd.TheImpl as kinds
 
 -- the rest fits

@@ -1,7 +1,6 @@
 -- The earliest lawful moment after a renewal and after a message.
 use Rattle.std.proofs.Common.{◌≡◌, ℕ, ◌+◌, ◌*◌, max, List, [], ◌∷◌, length, arith}
-use Rattle.ptu_history.specs.Moments.{greatest_by}
-use Rattle.ptu_history.specs.Lawful.{carried, earliest_credited}
+use Rattle.ptu_history.specs.{Moments.{greatest_by}, Lawful.{carried, earliest_credited}}
 
 -- one period more for each
 carried-later : (p b after : ℕ) (ts : List ℕ) → max (b + p) (greatest_by (λ t. t) (carried p (after + 1) ts)) ≡ max b (greatest_by (λ t. t) (carried p after ts)) + p

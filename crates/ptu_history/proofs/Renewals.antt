@@ -1,20 +1,16 @@
 -- Chains, earliest moments and sequence numbers after a grant and after a message.
 use Rattle.std.proofs.Common.{◌≡◌, ◌≢◌, ◌∙◌, ℕ, ◌+◌, ◌%◌, ◌<◌, max, ◌++◌, List, [], ◌∷◌, length, Bool, true, false, not, cond, refl, sym, ap, arith, Option, Some, None, ℤ, ltb}
-use Rattle.std.specs.List.{find}
-use Rattle.std.specs.Option.{option_map_or}
-use Rattle.std.specs.Ordering.{int_eq}
+use Rattle.std.specs.{List.{find}, Option.{option_map_or}, Ordering.{int_eq}}
 use Rattle.std.proofs.lemmas.Bool.{lt-ltb, and_from, and_right, and_left, false_from_ne_true}
 use Rattle.std.proofs.lemmas.Bool.Decides.{Decides-int_eq}
-use Rattle.ptu_units.specs.declared.kind.Kind.{Kind}
-use Rattle.ptu_units.specs.declared.kind.Kind.TheVariants.{Announce, Sync, DelayResp}
+use Rattle.ptu_units.specs.declared.kind.{Kind.{Kind}, Kind.TheVariants.{Announce, Sync, DelayResp}}
 use Rattle.ptu_units.specs.Log.{period_of}
 use Rattle.ptu_history.specs.declared.client.Client.{Client}
 use Rattle.ptu_history.specs.History.{Record, Granted, Short, Ended, Capacity, Shed, Looked, Sent, is_decision, moment_of, lease_records}
 use Rattle.ptu_history.specs.Live.{is_live, last_decision, live}
 use Rattle.ptu_history.specs.Runs.{follows, continues, first_of_run, sent_in_run, root, chain, sequence_number, sent_in_chain}
 use Rattle.ptu_history.specs.Lawful.{earliest, earliest_of, last_period, period_of_last}
-use Rattle.ptu_history.proofs.Keys.{same_lease-refl}
-use Rattle.ptu_history.proofs.LeaseRecords.{lease_records-push_own}
+use Rattle.ptu_history.proofs.{Keys.{same_lease-refl}, LeaseRecords.{lease_records-push_own}}
 use Rattle.ptu_history.proofs.Pacing.{earliest_credited-cons}
 
 -- the period of a grant that is the last decision

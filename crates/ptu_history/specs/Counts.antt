@@ -1,6 +1,5 @@
 -- How many records of each sort a history has (the project's own choice).
-use Rattle.std.specs.Prelude.{ℕ, Bool, true, false, List}
-use Rattle.std.specs.List.{count_by}
+use Rattle.std.specs.{Prelude.{ℕ, Bool, true, false, List}, List.{count_by}}
 use Rattle.ptu_history.specs.History.{Record, Granted, Short, Shed, is_sent}
 
 -- the record is a grant

@@ -2,9 +2,7 @@
 -- changes of capacity are the project's own choice).
 use Rattle.std.specs.Prelude.{ℕ, Bool, List}
 use Rattle.ptu_units.specs.declared.kind.Kind.{Kind}
-use Rattle.ptu_history.specs.declared.client.Client.{Client}
-use Rattle.ptu_history.specs.History.{Record}
-use Rattle.ptu_history.specs.Live.{Grant}
+use Rattle.ptu_history.specs.{declared.client.Client.{Client}, History.{Record}, Live.{Grant}}
 use Rattle.ptu_history.specs.Verdict.{Ask, Verdict}
 
 -- what may happen to a grandmaster

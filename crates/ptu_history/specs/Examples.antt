@@ -1,11 +1,9 @@
 -- Two clients, some asks, and short lists of events, on which the definitions compute.
 use Rattle.std.specs.Prelude.{ℕ, ◌*◌, List, [], ◌∷◌, ◌++◌, ℤ, pos, negsuc}
-use Rattle.ptu_units.specs.declared.kind.Kind.{Kind}
-use Rattle.ptu_units.specs.declared.kind.Kind.TheVariants.{Announce, Sync, DelayResp}
+use Rattle.ptu_units.specs.declared.kind.{Kind.{Kind}, Kind.TheVariants.{Announce, Sync, DelayResp}}
 use Rattle.ptu_units.specs.Kind.{code_of}
 use Rattle.ptu_history.specs.declared.client.Client.{Client}
-use Rattle.ptu_history.specs.Verdict.{Config, Ask, GrantedFor, ShortOf}
-use Rattle.ptu_history.specs.Held.{Payment}
+use Rattle.ptu_history.specs.{Verdict.{Config, Ask, GrantedFor, ShortOf}, Held.{Payment}}
 use Rattle.ptu_history.specs.Events.{Event, Request, Cancel, Turn, DelayReq, Resize, Outcome, Decided, Turned}
 
 -- 10.0.1.17 with port 1 of 0a00000000000011, of table 2

@@ -1,14 +1,11 @@
 -- When a timing message may be sent: in its own period, inside a live grant (the project's own
 -- choice).
 use Rattle.std.specs.Prelude.{ℕ, ◌+◌, ◌*◌, max, Bool, ◌&&◌, List, [], ◌∷◌, length, nat_le}
-use Rattle.ptu_units.specs.declared.kind.Kind.{Kind}
-use Rattle.ptu_units.specs.declared.kind.Kind.TheVariants.{Announce, Sync, DelayResp}
+use Rattle.ptu_units.specs.declared.kind.{Kind.{Kind}, Kind.TheVariants.{Announce, Sync, DelayResp}}
 use Rattle.ptu_units.specs.Log.{period_of}
 use Rattle.ptu_history.specs.declared.client.Client.{Client}
-use Rattle.ptu_history.specs.History.{Record, Granted, lease_records}
-use Rattle.ptu_history.specs.Moments.{greatest_by}
-use Rattle.ptu_history.specs.Live.{live}
-use Rattle.ptu_history.specs.Runs.{chain, sent_in_chain}
+use Rattle.ptu_history.specs.{History.{Record, Granted, lease_records}, Moments.{greatest_by}}
+use Rattle.ptu_history.specs.{Live.{live}, Runs.{chain, sent_in_chain}}
 
 -- of what concerns a client and kind, the latest first: the period of the last grant, or 0 where
 -- there is none

@@ -1,6 +1,5 @@
 -- Lists put in order.
-use Rattle.std.specs.Prelude.{List, [], ◌∷◌, if◌then◌else◌}
-use Rattle.std.specs.Ordering.{is_lt}
+use Rattle.std.specs.{Prelude.{List, [], ◌∷◌, if◌then◌else◌}, Ordering.{is_lt}}
 use Rattle.std.specs.declared.cmp.Ordering.{Ordering}
 
 -- the sorted list with one more, which goes before the first that is not below it

@@ -2,15 +2,12 @@
 use Rattle.std.proofs.Common.{◌≡◌, ℕ, ◌<◌, nat_le, Bool, false, ◌||◌, List, [], ◌∷◌, ◌++◌, Option, Some, None, IfSome, refl, sym, ap, ◌∙◌}
 use Rattle.std.specs.List.{AllByRecursion}
 use Rattle.std.proofs.lemmas.List.{append-nil}
-use Rattle.ptu_record.specs.declared.rule.Rule.{Rule}
-use Rattle.ptu_record.specs.declared.rule.Rule.TheVariants.{Flag, Gap}
-use Rattle.ptu_record.specs.Lists.{since_last}
-use Rattle.ptu_record.specs.Record.{Entry, Record, Sync, Told, Judge}
+use Rattle.ptu_record.specs.declared.rule.{Rule.{Rule}, Rule.TheVariants.{Flag, Gap}}
+use Rattle.ptu_record.specs.{Lists.{since_last}, Record.{Entry, Record, Sync, Told, Judge}}
 use Rattle.ptu_record.specs.Judges.{is_judge, rule_given, told_flag, sync_number, rule_in_force, flag, numbers, positions, IsAssessment}
 use Rattle.ptu_record.specs.Marks.{marks_after, clear_count}
 use Rattle.ptu_record.proofs.Judgements.{rule_in_force-push, numbers-push, flag-push}
-use Rattle.ptu_record.proofs.Shown.{marks_more, clear_count_is}
-use Rattle.ptu_record.proofs.ListLaws.{since_last-push}
+use Rattle.ptu_record.proofs.{Shown.{marks_more, clear_count_is}, ListLaws.{since_last-push}}
 use Rattle.ptu_judges.specs.Held.{Held, Gaps, Keeps, StandsFor, IsFresh, IsStock, fresh, flag_held, gaps_held}
 
 -- entries that no judge is told of

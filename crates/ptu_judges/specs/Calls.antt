@@ -1,6 +1,5 @@
 -- What is said of boxed judges one by one, of whatever type each is: which calls were made of one, and what it answered.
-use Rattle.std.specs.Prelude.{◌≡◌, ◌≢◌, ℕ, ◌<◌, ◌≤◌, Bool, List, length, Some}
-use Rattle.std.specs.List.{slice_get}
+use Rattle.std.specs.{Prelude.{◌≡◌, ◌≢◌, ℕ, ◌<◌, ◌≤◌, Bool, List, length, Some}, List.{slice_get}}
 use Rattle.std.specs.declared.dyn_box.DynBox.{DynBox}
 use Rattle.ptu_judges.specs.declared.judge.Conduct.{Ghosts}
 

@@ -1,8 +1,7 @@
 -- What a judge keeps of the record of its master.
 use Rattle.std.specs.Prelude.{◌≡◌, ℕ, ◌+◌, ◌==◌, if◌then◌else◌, Bool, false, ◌||◌, nat_le, List, [], ◌∷◌, ◌++◌, length, Option, Some, IfSome}
 use Rattle.std.specs.List.{AllByRecursion}
-use Rattle.ptu_record.specs.declared.rule.Rule.{Rule}
-use Rattle.ptu_record.specs.declared.rule.Rule.TheVariants.{Flag, Gap}
+use Rattle.ptu_record.specs.declared.rule.{Rule.{Rule}, Rule.TheVariants.{Flag, Gap}}
 use Rattle.ptu_record.specs.Record.{Entry, Record}
 use Rattle.ptu_record.specs.Judges.{IsAssessment, flag, numbers, positions, rule_in_force}
 use Rattle.ptu_record.specs.Marks.{Marks, clear_count, fresh_marks, marks_of}

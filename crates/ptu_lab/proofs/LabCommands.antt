@@ -3,8 +3,7 @@ use Rattle.std.proofs.Common.{◌≡◌, ℕ, List, true, Option, Some, None, Re
 use Rattle.ptu_record.specs.declared.rule.Rule.{Rule}
 use Rattle.ptu_record.specs.Step as slave_events
 use Rattle.ptu_profile.specs.Slave.{place_of}
-use Rattle.ptu_script.specs.Fields.{◌>>=◌}
-use Rattle.ptu_script.specs.declared.cause.Cause.{Cause}
+use Rattle.ptu_script.specs.{Fields.{◌>>=◌}, declared.cause.Cause.{Cause}}
 use Rattle.ptu_script.specs.declared.cause.Cause.TheVariants as causes
 use Rattle.ptu_script.specs.declared.command.Command.TheVariants as commands
 use Rattle.ptu_report_lines.specs.declared.sent.Sent.{Sent}

@@ -1,14 +1,12 @@
 -- A slave of the lab gets a master, or why it does not.
 use Rattle.std.proofs.Common.{◌≡◌, ◌∙◌, ℕ, ◌+◌, Bool, true, false, cond, List, [], length, Option, Some, None, Result, Ok, Err, is_some, refl, sym, ap, ap₂, subst, arith}
-use Rattle.std.specs.Prelude.{if◌then◌else◌, nat_eq, nat_le}
-use Rattle.std.specs.HashMap.{get}
+use Rattle.std.specs.{Prelude.{if◌then◌else◌, nat_eq, nat_le}, HashMap.{get}}
 use Rattle.ptu_outside.specs.MemoryPort.{MemoryPort}
 use Rattle.ptu_record.specs.declared.rule.Rule.{Rule}
 use Rattle.ptu_judges.specs.Held.{Held, fresh}
 use Rattle.ptu_profile.specs.Slave.{place_of}
 use Rattle.ptu_report.specs.Rules.{IsOutcome}
-use Rattle.ptu_script.specs.Fields.{◌>>=◌}
-use Rattle.ptu_script.specs.declared.cause.Cause.{Cause}
+use Rattle.ptu_script.specs.{Fields.{◌>>=◌}, declared.cause.Cause.{Cause}}
 use Rattle.ptu_script.specs.declared.cause.Cause.TheVariants as causes
 use Rattle.ptu_script.specs.declared.command.Command.TheVariants as commands
 use Rattle.ptu_world.specs.Deeds as world
@@ -17,13 +15,10 @@ use Rattle.ptu_world.specs.Report.{Course, outcome_by}
 use Rattle.ptu_units.specs.Counts.{counted}
 use Rattle.ptu_nodes.specs.Noted.{Noted}
 use Rattle.ptu_slave.specs.Seen.{Seen}
-use Rattle.ptu_lab.specs.declared.slave_node.SlaveNode.{SlaveNode}
-use Rattle.ptu_lab.specs.declared.lab.Node.{Node}
+use Rattle.ptu_lab.specs.declared.{slave_node.SlaveNode.{SlaveNode}, lab.Node.{Node}}
 use Rattle.ptu_lab.specs.declared.lab.Node.TheVariants as nodes
-use Rattle.ptu_lab.specs.declared.lab.Lab.{Lab}
-use Rattle.ptu_lab.specs.Steps.{HasTaken, IsNoSlave, stock_of}
-use Rattle.ptu_lab.specs.NodeStanding.{IsNode, StandsAsNode}
-use Rattle.ptu_lab.specs.Standing.{Agrees, StandsFor}
+use Rattle.ptu_lab.specs.{declared.lab.Lab.{Lab}, Steps.{HasTaken, IsNoSlave, stock_of}}
+use Rattle.ptu_lab.specs.{NodeStanding.{IsNode, StandsAsNode}, Standing.{Agrees, StandsFor}}
 use Rattle.ptu_lab.proofs.LabNodes.{placed_agree}
 
 -- ---- what the command makes of a world

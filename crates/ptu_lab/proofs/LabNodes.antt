@@ -1,8 +1,6 @@
 -- The lab's nodes agree with those of a world, and so does the lab with a course.
 use Rattle.std.proofs.Common.{◌≡◌, ◌∙◌, ℕ, ◌+◌, ◌++◌, Bool, true, false, cond, eqb, List, [], ◌∷◌, map, Option, Some, None, Result, Ok, Err, IfOk, is_some, refl, sym, ap, ap₂, subst, eqb-true, eq-eqb, arith}
-use Rattle.std.specs.Prelude.{nat_eq}
-use Rattle.std.specs.List.{count_by}
-use Rattle.std.specs.HashMap.{HashMap, get}
+use Rattle.std.specs.{Prelude.{nat_eq}, List.{count_by}, HashMap.{HashMap, get}}
 use Rattle.ptu_outside.specs.MemoryPort.{MemoryPort}
 use Rattle.ptu_judges.specs.Held.{Held, IsStock}
 use Rattle.ptu_units.specs.Counts.{counted}
@@ -11,13 +9,11 @@ use Rattle.ptu_report_lines.specs.declared.statement.Statement.TheVariants as st
 use Rattle.ptu_record.specs.declared.rule.Rule.{Rule}
 use Rattle.ptu_profile.specs.Slave.{place_of}
 use Rattle.ptu_report.specs.Rules.{IsOutcome}
-use Rattle.ptu_script.specs.Fields.{◌>>=◌}
-use Rattle.ptu_script.specs.declared.cause.Cause.{Cause}
+use Rattle.ptu_script.specs.{Fields.{◌>>=◌}, declared.cause.Cause.{Cause}}
 use Rattle.ptu_script.specs.declared.cause.Cause.TheVariants as causes
 use Rattle.ptu_script.specs.declared.command.Command.TheVariants as commands
 use Rattle.ptu_world.specs.Deeds as world
-use Rattle.ptu_world.specs.Deeds.{Deed}
-use Rattle.ptu_world.specs.Grandmasters.{class_deed}
+use Rattle.ptu_world.specs.{Deeds.{Deed}, Grandmasters.{class_deed}}
 use Rattle.ptu_world.specs.World.{Done, Nodes, Stock, datagram_numbered, delivered_to, done_by, node_at, or_cause, placed, said_by, sent_from, step, stock_without}
 use Rattle.ptu_world.specs.Report.{Course, course_after, is_granted, is_short, outcome_by, text_at}
 use Rattle.ptu_nodes.specs.declared.grandmaster_node.GrandmasterNode.{GrandmasterNode}
@@ -28,8 +24,7 @@ use Rattle.ptu_nodes.proofs.Noting.{counted_granted, counted_short, deed_texts, 
 use Rattle.ptu_slave.specs.Seen.{Seen}
 use Rattle.ptu_lab.specs.declared.act.Act.{Act}
 use Rattle.ptu_lab.specs.declared.act.Act.TheVariants as acts
-use Rattle.ptu_lab.specs.declared.slave_node.SlaveNode.{SlaveNode}
-use Rattle.ptu_lab.specs.declared.lab.Node.{Node}
+use Rattle.ptu_lab.specs.declared.{slave_node.SlaveNode.{SlaveNode}, lab.Node.{Node}}
 use Rattle.ptu_lab.specs.declared.lab.Node.TheVariants as nodes
 use Rattle.ptu_lab.specs.declared.lab.Lab.{Lab}
 use Rattle.ptu_lab.specs.Acts.{act_deed, command_of, of_master, stock_after}

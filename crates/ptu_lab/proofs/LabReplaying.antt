@@ -1,7 +1,6 @@
 -- What a replay has come to, where no line was refused.
 use Rattle.std.proofs.Common.{◌≡◌, ◌≤◌, ◌∙◌, ℕ, ◌+◌, ◌-◌, ◌^◌, true, false, List, [], ◌∷◌, length, Option, Some, None, IfSome, IsSome, refl, sym, ap, subst, arith}
-use Rattle.std.specs.Prelude.{nat_eq}
-use Rattle.std.specs.HashMap.{get}
+use Rattle.std.specs.{Prelude.{nat_eq}, HashMap.{get}}
 use Rattle.ptu_lines.specs.Script.{ScriptLine, Whole, Refused, script_lines}
 use Rattle.ptu_report.specs.declared.ending.Ending.{Ending}
 use Rattle.ptu_report.specs.declared.ending.Ending.TheVariants as endings
@@ -9,21 +8,17 @@ use Rattle.ptu_report.specs.Rules.{Goes, IsOutcome, Outcome, Refuses, Rules, end
 use Rattle.ptu_judges.specs.Held.{Held}
 use Rattle.ptu_outside.specs.Handing.{HasPut}
 use Rattle.ptu_units.specs.Counts.{counted}
-use Rattle.ptu_report.specs.declared.fault.RunFault.{RunFault}
-use Rattle.ptu_report.specs.Reported.{HasReported}
+use Rattle.ptu_report.specs.{declared.fault.RunFault.{RunFault}, Reported.{HasReported}}
 use Rattle.ptu_report.specs.Runs.{IfRefused}
 use Rattle.ptu_report.proofs.Answered.{refused_weaker}
 use Rattle.ptu_script.specs.declared.cause.Cause.{Cause}
 use Rattle.ptu_outside.specs.MemoryPort.{MemoryPort}
 use Rattle.ptu_slave.specs.Seen.{Seen}
-use Rattle.ptu_world.specs.Facts.{AreCounted, EndsBy, world_of}
-use Rattle.ptu_world.specs.World.{Stock, node_at}
+use Rattle.ptu_world.specs.{Facts.{AreCounted, EndsBy, world_of}, World.{Stock, node_at}}
 use Rattle.ptu_world.specs.Report.{Course, course_opening, granted_count, report, report_lines, rules, short_count}
 use Rattle.ptu_world.proofs.Reported.{counts_of_rules, ends_of_rules, texts_of_rules}
-use Rattle.ptu_lab.specs.declared.done.Done.{Done}
-use Rattle.ptu_lab.specs.declared.slave_node.SlaveNode.{SlaveNode}
-use Rattle.ptu_lab.specs.declared.lab.Lab.{Lab}
-use Rattle.ptu_lab.specs.Replayed.{AreCounts, HasReplayed}
+use Rattle.ptu_lab.specs.declared.{done.Done.{Done}, slave_node.SlaveNode.{SlaveNode}}
+use Rattle.ptu_lab.specs.{declared.lab.Lab.{Lab}, Replayed.{AreCounts, HasReplayed}}
 use Rattle.ptu_lab.specs.Standing.{Agrees, StandsFor}
 
 -- where no line is refused there is a meaning at the end

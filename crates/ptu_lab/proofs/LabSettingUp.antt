@@ -1,7 +1,6 @@
 -- A new node is set up, or why it is not.
 use Rattle.std.proofs.Common.{◌≡◌, ◌∙◌, ℕ, ◌+◌, Bool, true, false, cond, List, [], Option, Some, None, Result, Ok, Err, is_some, refl, sym, ap, ap₂, subst, arith}
-use Rattle.std.specs.Prelude.{if◌then◌else◌, nat_eq}
-use Rattle.std.specs.HashMap.{get}
+use Rattle.std.specs.{Prelude.{if◌then◌else◌, nat_eq}, HashMap.{get}}
 use Rattle.ptu_judges.specs.Held.{Held}
 use Rattle.ptu_report.specs.Rules.{IsOutcome}
 use Rattle.ptu_script.specs.declared.cause.Cause.{Cause}
@@ -13,9 +12,7 @@ use Rattle.ptu_slave.specs.Seen.{Seen}
 use Rattle.ptu_world.specs.Deeds as world
 use Rattle.ptu_world.specs.World.{World, node_at, placed, quietly, set_up}
 use Rattle.ptu_world.specs.Report.{Course, outcome_by}
-use Rattle.ptu_lab.specs.declared.slave_node.SlaveNode.{SlaveNode}
-use Rattle.ptu_lab.specs.declared.lab.Node.{Node}
-use Rattle.ptu_lab.specs.declared.lab.Lab.{Lab}
+use Rattle.ptu_lab.specs.declared.{slave_node.SlaveNode.{SlaveNode}, lab.Node.{Node}, lab.Lab.{Lab}}
 use Rattle.ptu_lab.specs.Standing.{Agrees, StandsAs, StandsFor}
 use Rattle.ptu_lab.proofs.LabNodes.{is_there, placed_agree}
 

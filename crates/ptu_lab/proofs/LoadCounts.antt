@@ -4,15 +4,13 @@ use Rattle.std.proofs.Common.{◌≡◌, ◌∙◌, ◌⊎◌, ℕ, ◌+◌, Lis
 use Rattle.ptu_lines.specs.Script.{ScriptLine, Whole, Refused, script_lines}
 use Rattle.ptu_report.specs.declared.ending.Ending.TheVariants as endings
 use Rattle.ptu_report.specs.Rules.{ending_of}
-use Rattle.ptu_script.specs.declared.cause.Cause.{Cause}
-use Rattle.ptu_script.specs.declared.command.Command.{Command}
+use Rattle.ptu_script.specs.declared.{cause.Cause.{Cause}, command.Command.{Command}}
 use Rattle.ptu_script.specs.Command.{command_of}
 use Rattle.ptu_report_lines.specs.declared.report_line.ReportLine.{ReportLine}
 use Rattle.ptu_report_lines.specs.declared.report_line.ReportLine.TheVariants.{At, End}
 use Rattle.ptu_report_lines.specs.declared.statement.Statement.{Statement}
 use Rattle.ptu_report_lines.specs.declared.statement.Statement.TheVariants.{Bad}
-use Rattle.ptu_world.specs.World.{World, Stock, Done, opening, step}
-use Rattle.ptu_world.specs.Facts.{EndsBy, world_of}
+use Rattle.ptu_world.specs.{World.{World, Stock, Done, opening, step}, Facts.{EndsBy, world_of}}
 use Rattle.ptu_world.specs.Report.{course_opening, lines_by, lines_by_line, lines_from, report_lines, rules}
 use Rattle.ptu_world.proofs.Reported.{ends_of_rules}
 use Rattle.ptu_report.specs.Runs.{CountsRead, CountsWrite}

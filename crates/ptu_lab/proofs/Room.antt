@@ -1,14 +1,11 @@
 -- A slave whose port got room.
 use Rattle.std.proofs.Common.{◌≡◌, ◌∙◌, ℕ, ◌+◌, ◌≤◌, Bool, false, List, [], ◌∷◌, length, ap, arith, subst, sym}
-use Rattle.ptu_outside.specs.Departure.{Departure}
-use Rattle.ptu_outside.specs.MemoryPort.{IsSure, MemoryPort, octets_of}
+use Rattle.ptu_outside.specs.{Departure.{Departure}, MemoryPort.{IsSure, MemoryPort, octets_of}}
 use Rattle.ptu_judges.specs.Held.{Held}
-use Rattle.ptu_slave.specs.Kept.{Kept}
-use Rattle.ptu_slave.specs.Seen.{Seen}
+use Rattle.ptu_slave.specs.{Kept.{Kept}, Seen.{Seen}}
 use Rattle.ptu_nodes.specs.Standing.{IsIdle}
 use Rattle.ptu_world.specs.Deeds.{Slave}
-use Rattle.ptu_lab.specs.NodeStanding.{IsNode, IsSlaveNode}
-use Rattle.ptu_lab.specs.SlaveWords.{HasRoom}
+use Rattle.ptu_lab.specs.{NodeStanding.{IsNode, IsSlaveNode}, SlaveWords.{HasRoom}}
 
 -- where room was made in the port that it gets
 pub room_made : (before after port : MemoryPort) (count size : ℕ) → port ≡ after → after ≡ record before { datagrams = after.datagrams; octets = after.octets }

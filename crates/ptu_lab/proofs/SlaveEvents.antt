@@ -1,37 +1,26 @@
 -- What an event makes of a slave of a script, and what is said of it.
 use Rattle.std.proofs.Common.{◌≡◌, ◌≢◌, ℕ, zero, suc, ◌+◌, ◌<◌, ◌≤◌, max, Bool, true, false, cond, List, [], ◌∷◌, ◌++◌, length, map, Option, Some, None, refl, ap, ap₂, sym, subst, ◌∙◌, arith, append_assoc}
 use Rattle.std.proofs.lemmas.Bool.{false≢true}
-use Rattle.std.specs.List.{AllByRecursion, range_with_len}
-use Rattle.std.specs.Option.{option_map}
+use Rattle.std.specs.{List.{AllByRecursion, range_with_len}, Option.{option_map}}
 use Rattle.std.specs.Prelude.{IfSome, IsSome, OnOk, Result, Ok, Err}
-use Rattle.ptu_outside.specs.Departure.{Departure}
-use Rattle.ptu_outside.specs.MemoryPort.{IsSure, MemoryPort}
-use Rattle.ptu_record.specs.declared.rule.Rule.{Rule}
-use Rattle.ptu_record.specs.Lists.{places}
-use Rattle.ptu_record.specs.Record.{Record, event_moment}
-use Rattle.ptu_record.specs.Selection.{selected_master}
+use Rattle.ptu_outside.specs.{Departure.{Departure}, MemoryPort.{IsSure, MemoryPort}}
+use Rattle.ptu_record.specs.{declared.rule.Rule.{Rule}, Lists.{places}}
+use Rattle.ptu_record.specs.{Record.{Record, event_moment}, Selection.{selected_master}}
 use Rattle.ptu_record.specs.SignalFails.{Timeouts}
 use Rattle.ptu_record.proofs.Choice.{chosen_best}
 use Rattle.ptu_record.specs.Tick.{Sending}
 use Rattle.ptu_record.specs.Step.{ReplaceJudge, SlaveEvent, SlaveSetup, judged_masters, sendings, slave_step}
 use Rattle.ptu_judges.specs.Held.{Held, IsFresh, fresh}
-use Rattle.ptu_profile.specs.declared.slave.Master.{Master}
-use Rattle.ptu_profile.specs.declared.slave.SlaveConfig.{SlaveConfig}
+use Rattle.ptu_profile.specs.declared.slave.{Master.{Master}, SlaveConfig.{SlaveConfig}}
 use Rattle.ptu_profile.specs.Slave.{AreMasters, IsWithinLimits, address_of, priorities, timeouts}
 use Rattle.ptu_slave_messages.specs.Node.{Deed, deed, node_setup}
 use Rattle.ptu_slave_messages.specs.Sending.{all_ones, departure_of}
-use Rattle.ptu_slave.specs.Kept.{IsSame, Kept}
-use Rattle.ptu_slave.specs.Seen.{Seen}
-use Rattle.ptu_slave.specs.Standing.{StandsFor, Steps, setup_of}
-use Rattle.ptu_slave.proofs.Ruled.{ruled_step}
-use Rattle.ptu_slave.proofs.Staying.{rules_stay}
-use Rattle.ptu_slave.proofs.Stepping.{moment_is}
+use Rattle.ptu_slave.specs.{Kept.{IsSame, Kept}, Seen.{Seen}, Standing.{StandsFor, Steps, setup_of}}
+use Rattle.ptu_slave.proofs.{Ruled.{ruled_step}, Staying.{rules_stay}, Stepping.{moment_is}}
 use Rattle.ptu_report_lines.specs.declared.statement.Statement.{Statement}
 use Rattle.ptu_report_lines.specs.declared.statement.Statement.TheVariants.{Selected}
-use Rattle.ptu_world.specs.Deeds.{Slave}
-use Rattle.ptu_world.specs.Slaves.{entered, event_deed, plain_deed, selection_said}
-use Rattle.ptu_nodes.specs.Doing.{HasDone}
-use Rattle.ptu_nodes.specs.Noted.{Noted, with_handed, with_said}
+use Rattle.ptu_world.specs.{Deeds.{Slave}, Slaves.{entered, event_deed, plain_deed, selection_said}}
+use Rattle.ptu_nodes.specs.{Doing.{HasDone}, Noted.{Noted, with_handed, with_said}}
 use Rattle.ptu_nodes.proofs.Noting.{said_nothing, sent_nothing}
 use Rattle.ptu_lab.specs.NodeStanding.{IsNode, IsSlaveNode, StandsAsNode, StandsAsSlave}
 use Rattle.ptu_nodes.specs.Standing.{IsIdle}

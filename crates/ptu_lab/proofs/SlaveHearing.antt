@@ -1,20 +1,16 @@
 -- What a slave of a script heard, and what it does of it.
 use Rattle.std.proofs.Common.{◌≡◌, ◌≢◌, ℕ, suc, ◌+◌, ◌<◌, max, Bool, true, false, List, [], ◌∷◌, ◌++◌, length, map, Option, Some, Ok, Err, refl, ap, ap₂, sym, subst, ◌∙◌, arith}
-use Rattle.std.proofs.lemmas.Bool.{false≢true}
-use Rattle.std.proofs.lemmas.List.{append-nil}
+use Rattle.std.proofs.lemmas.{Bool.{false≢true}, List.{append-nil}}
 use Rattle.std.specs.Prelude.{IfOk, IsOk, OnOk, Result, not}
 use Rattle.ptu_header.specs.declared.header.Header.{Header}
 use Rattle.ptu_messages.specs.declared.message.Body.{Body}
 use Rattle.ptu_messages.specs.declared.message.Body.TheVariants as body
 use Rattle.ptu_messages.specs.declared.message.Message.{Message}
 use Rattle.ptu_outside.specs.MemoryPort.{IsSure, MemoryPort}
-use Rattle.ptu_record.specs.declared.rule.Rule.{Rule}
-use Rattle.ptu_record.specs.declared.wants.Wants.{Wants}
-use Rattle.ptu_record.specs.Record.{Record, event_moment}
-use Rattle.ptu_record.specs.Step.{one_reply}
+use Rattle.ptu_record.specs.declared.{rule.Rule.{Rule}, wants.Wants.{Wants}}
+use Rattle.ptu_record.specs.{Record.{Record, event_moment}, Step.{one_reply}}
 use Rattle.ptu_judges.specs.Held.{Held}
-use Rattle.ptu_profile.specs.declared.slave.Master.{Master}
-use Rattle.ptu_profile.specs.declared.slave.SlaveConfig.{SlaveConfig}
+use Rattle.ptu_profile.specs.declared.slave.{Master.{Master}, SlaveConfig.{SlaveConfig}}
 use Rattle.ptu_slave_messages.specs.declared.heard.Heard.{Heard}
 use Rattle.ptu_slave_messages.specs.declared.heard.Heard.TheVariants as heard
 use Rattle.ptu_outside.specs.declared.reply.Reply.{Reply}
@@ -23,24 +19,19 @@ use Rattle.ptu_slave_messages.specs.declared.reason.SlaveReason.{SlaveReason}
 use Rattle.ptu_outside.specs.Replies.{reply_failed, reply_sent}
 use Rattle.ptu_slave_messages.specs.Heard.{answer_of, event_of, heard_of, replies_in, replies_to, reply_by, reply_in}
 use Rattle.ptu_slave_messages.specs.Node.{Deed, Node, datagram_deed, datagram_heard, reception_deed, reception_heard}
-use Rattle.ptu_slave_messages.specs.Reception.{reception}
-use Rattle.ptu_slave_messages.specs.Sending.{departure_of}
-use Rattle.ptu_slave.specs.Kept.{IsSame, Kept}
-use Rattle.ptu_slave.specs.Standing.{StandsFor, Steps}
-use Rattle.ptu_slave.proofs.Nodes.{node_replies}
-use Rattle.ptu_slave.proofs.Stepping.{moment_is}
+use Rattle.ptu_slave_messages.specs.{Reception.{reception}, Sending.{departure_of}}
+use Rattle.ptu_slave.specs.{Kept.{IsSame, Kept}, Standing.{StandsFor, Steps}}
+use Rattle.ptu_slave.proofs.{Nodes.{node_replies}, Stepping.{moment_is}}
 use Rattle.ptu_world.specs.Deeds.{Slave}
 use Rattle.ptu_world.specs.Slaves as slaves
 use Rattle.ptu_world.specs.Slaves.{event_deed, heard_deed, heard_said}
-use Rattle.ptu_nodes.specs.Doing.{HasDone}
-use Rattle.ptu_nodes.specs.Noted.{Noted, with_handed, with_said, with_sent}
+use Rattle.ptu_nodes.specs.{Doing.{HasDone}, Noted.{Noted, with_handed, with_said, with_sent}}
 use Rattle.ptu_nodes.proofs.Noting.{said_nothing, sent_nothing}
 use Rattle.ptu_lab.specs.NodeStanding.{IsSlaveNode, StandsAsSlave}
 use Rattle.ptu_nodes.specs.Standing.{IsIdle}
 use Rattle.ptu_lab.specs.SlaveStatements.{IsOfOne, is_ignored}
 use Rattle.ptu_lab.specs.SlaveWords.{HasSlaveStepped, selection_by}
-use Rattle.ptu_lab.proofs.Room.{at_port}
-use Rattle.ptu_lab.proofs.SlaveEvents.{all_sent, ended, stepped}
+use Rattle.ptu_lab.proofs.{Room.{at_port}, SlaveEvents.{all_sent, ended, stepped}}
 use Rattle.ptu_slave_messages.proofs.Senders.{judged_within, no_judge, taken_within}
 
 -- ---- what a slave answered

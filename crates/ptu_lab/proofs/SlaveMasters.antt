@@ -1,10 +1,7 @@
 -- A slave of a script with one master more.
 use Rattle.std.proofs.Common.{◌≡◌, ◌≢◌, ℕ, zero, suc, ◌<◌, Bool, true, false, cond, List, [], ◌∷◌, ◌++◌, length, map, Option, Some, None, refl, ap, ap₂, sym, subst, ◌∙◌, arith, length-append, get_or}
-use Rattle.std.proofs.lemmas.Bool.{false≢true}
-use Rattle.std.proofs.lemmas.Bool.Decides.{nat_tests}
-use Rattle.std.proofs.lemmas.List.{map-append}
-use Rattle.std.proofs.lemmas.List.Quantifiers.{all_pairs_push}
-use Rattle.std.proofs.lemmas.List.Sums.{fails_before_first}
+use Rattle.std.proofs.lemmas.{Bool.{false≢true}, Bool.Decides.{nat_tests}, List.{map-append}}
+use Rattle.std.proofs.lemmas.List.{Quantifiers.{all_pairs_push}, Sums.{fails_before_first}}
 use Rattle.std.specs.List.{All, AllByRecursion, position_or_len, slice_get, slice_index_or}
 use Rattle.std.specs.Prelude.{IsSome, nat_lt, ◌==◌}
 use Rattle.ptu_history.proofs.Keys.{eq-eqb-self}
@@ -13,10 +10,8 @@ use Rattle.ptu_record.specs.declared.rule.Rule.{Rule}
 use Rattle.ptu_judges.specs.Held.{Held, IsFresh, fresh}
 use Rattle.ptu_profile.specs.declared.slave.Master.{Master}
 use Rattle.ptu_profile.specs.Slave.{AreMasters, IsWithinLimits, place_of}
-use Rattle.ptu_slave.specs.Kept.{Kept}
-use Rattle.ptu_slave.specs.Standing.{StandsFor}
-use Rattle.ptu_world.specs.Deeds.{Slave}
-use Rattle.ptu_world.specs.World.{with_master}
+use Rattle.ptu_slave.specs.{Kept.{Kept}, Standing.{StandsFor}}
+use Rattle.ptu_world.specs.{Deeds.{Slave}, World.{with_master}}
 use Rattle.ptu_lab.specs.NodeStanding.{IsSlaveNode}
 use Rattle.ptu_nodes.specs.Standing.{IsIdle}
 

@@ -1,39 +1,30 @@
 -- How much a slave sends at an event, and that its port, with room for that much, is sure to send it.
 use Rattle.std.proofs.Common.{◌≡◌, ℕ, ◌+◌, ◌*◌, ◌≤◌, Bool, true, false, cond, List, [], ◌∷◌, ◌++◌, length, map, Option, Some, None, Ok, Err, refl, ap, sym, subst, arith, length-append}
-use Rattle.std.proofs.lemmas.List.{length-map, map-append}
-use Rattle.std.proofs.lemmas.List.FromFn.{length-range_with_len}
+use Rattle.std.proofs.lemmas.{List.{length-map, map-append}, List.FromFn.{length-range_with_len}}
 use Rattle.std.proofs.lemmas.List.Sums.{count_by-le-length, length-filter, sum_by-append, sum_by-cons}
 use Rattle.std.specs.List.{cons_option, filter, filter_map, flat_map, list_any}
 use Rattle.std.specs.Prelude.{Result, is_some}
-use Rattle.ptu_units.specs.declared.kind.Kind.{Kind}
-use Rattle.ptu_units.specs.Kind.{kinds}
-use Rattle.ptu_header.specs.declared.header.Header.{Header}
-use Rattle.ptu_header.specs.declared.header.PortIdentity.{PortIdentity}
+use Rattle.ptu_units.specs.{declared.kind.Kind.{Kind}, Kind.{kinds}}
+use Rattle.ptu_header.specs.declared.header.{Header.{Header}, PortIdentity.{PortIdentity}}
 use Rattle.ptu_header.specs.Sent.{sent_header, sent_identity}
 use Rattle.ptu_tlvs.specs.declared.tlv.Tlv.{Tlv}
 use Rattle.ptu_tlvs.specs.declared.tlv.Tlv.TheVariants as tlv
 use Rattle.ptu_tlvs.specs.Sent.{sent_tlv}
-use Rattle.ptu_messages.specs.declared.fault.MessageFault.{MessageFault}
-use Rattle.ptu_messages.specs.declared.message.Body.{Body}
+use Rattle.ptu_messages.specs.declared.{fault.MessageFault.{MessageFault}, message.Body.{Body}}
 use Rattle.ptu_messages.specs.declared.message.Body.TheVariants as body
 use Rattle.ptu_messages.specs.declared.message.Message.{Message}
-use Rattle.ptu_messages.specs.Message.{SpellsBody, SpellsMessage}
-use Rattle.ptu_messages.specs.Reading.{message_in}
+use Rattle.ptu_messages.specs.{Message.{SpellsBody, SpellsMessage}, Reading.{message_in}}
 use Rattle.ptu_messages.specs.Sent.{octets_sent, signaling}
 use Rattle.ptu_messages.proofs.Readings.{found_is}
-use Rattle.ptu_outside.specs.Departure.{Departure}
-use Rattle.ptu_outside.specs.MemoryPort.{IsSure, MemoryPort, octets_of}
+use Rattle.ptu_outside.specs.{Departure.{Departure}, MemoryPort.{IsSure, MemoryPort, octets_of}}
 use Rattle.ptu_outside.proofs.Sure.{sure_within}
-use Rattle.ptu_record.specs.declared.wants.Wants.{Wants}
-use Rattle.ptu_record.specs.Lists.{places}
-use Rattle.ptu_record.specs.Record.{Record, record_of}
-use Rattle.ptu_record.specs.Asks.{due_kinds, is_due}
+use Rattle.ptu_record.specs.{declared.wants.Wants.{Wants}, Lists.{places}}
+use Rattle.ptu_record.specs.{Record.{Record, record_of}, Asks.{due_kinds, is_due}}
 use Rattle.ptu_record.specs.Grants.{is_live, live_kinds}
 use Rattle.ptu_record.specs.Step.{SlaveSetup, Stop, Tick, cancel_code, one_reply, sendings}
 use Rattle.ptu_record.specs.Tick.{Acknowledgements, Cancels, DelayReq, Requests, Sending, cancels_to, delay_req_number, is_probe_due, is_stop, one_signaling, requests_to, signaling_number}
 use Rattle.ptu_record.specs.Wants.{wanted_kinds, wanted_log}
-use Rattle.ptu_profile.specs.declared.slave.Master.{Master}
-use Rattle.ptu_profile.specs.declared.slave.SlaveConfig.{SlaveConfig}
+use Rattle.ptu_profile.specs.declared.slave.{Master.{Master}, SlaveConfig.{SlaveConfig}}
 use Rattle.ptu_profile.specs.Slave.{header_of}
 use Rattle.ptu_slave_messages.specs.declared.reason.SlaveReason.{SlaveReason}
 use Rattle.ptu_slave_messages.specs.Heard.{replies_in, replies_to, said_by}

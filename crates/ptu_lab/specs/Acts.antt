@@ -2,9 +2,7 @@
 use Rattle.std.specs.Prelude.{ℕ, ◌≤◌, Some, Result, Ok}
 use Rattle.ptu_profile.specs.Limits.{IsCapacity}
 use Rattle.ptu_record.specs.Step.{ReplaceJudge, Stop, TellFlag, Tick}
-use Rattle.ptu_script.specs.Fields.{◌>>=◌}
-use Rattle.ptu_script.specs.Limits.{IsNamed}
-use Rattle.ptu_script.specs.declared.cause.Cause.{Cause}
+use Rattle.ptu_script.specs.{Fields.{◌>>=◌}, Limits.{IsNamed}, declared.cause.Cause.{Cause}}
 use Rattle.ptu_script.specs.declared.command.Command.{Command}
 use Rattle.ptu_script.specs.declared.command.Command.TheVariants as commands
 use Rattle.ptu_world.specs.Deeds.{Deed, Grandmaster, Node, Slave}

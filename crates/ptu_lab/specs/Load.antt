@@ -1,11 +1,9 @@
 -- What a load writes: one line with the numbers of the report on the generated script, as a compact
 -- JSON object.
-use Rattle.std.specs.Prelude.{ℕ, List, ◌++◌, codes, length}
-use Rattle.std.specs.Fmt.{decimal}
+use Rattle.std.specs.{Prelude.{ℕ, List, ◌++◌, codes, length}, Fmt.{decimal}}
 use Rattle.serde_json.specs.Data.{Data, number, unsigned, object, member, no_members}
 use Rattle.ptu_lines.specs.Script.{script_lines}
-use Rattle.ptu_world.specs.World.{Stock}
-use Rattle.ptu_world.specs.Facts.{world_of}
+use Rattle.ptu_world.specs.{World.{Stock}, Facts.{world_of}}
 use Rattle.ptu_world.specs.Report.{granted_count, report_lines, short_count}
 use Rattle.ptu_lab.specs.declared.done.Done.{Done}
 use Rattle.ptu_load.specs.Generated.{generated}

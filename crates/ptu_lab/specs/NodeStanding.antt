@@ -1,11 +1,9 @@
 -- Which slave of a world a slave with a port in memory stands for.
-use Rattle.std.specs.Prelude.{◌≡◌, ℕ, Bool, false, List, [], IsSome}
-use Rattle.std.specs.List.{AllByRecursion}
+use Rattle.std.specs.{Prelude.{◌≡◌, ℕ, Bool, false, List, [], IsSome}, List.{AllByRecursion}}
 use Rattle.ptu_outside.specs.MemoryPort.{IsSure, MemoryPort}
 use Rattle.ptu_judges.specs.Held.{Held, IsFresh}
 use Rattle.ptu_profile.specs.Slave.{AreMasters, IsWithinLimits}
-use Rattle.ptu_slave.specs.Kept.{Kept}
-use Rattle.ptu_slave.specs.Seen.{Seen}
+use Rattle.ptu_slave.specs.{Kept.{Kept}, Seen.{Seen}}
 use Rattle.ptu_slave.specs.Standing as slave
 use Rattle.ptu_nodes.specs.Standing.{IsIdle}
 use Rattle.ptu_world.specs.Deeds as world

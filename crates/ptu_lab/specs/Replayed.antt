@@ -4,11 +4,9 @@ use Rattle.std.specs.Io.KnownBytes.{append_known}
 use Rattle.ptu_outside.specs.Handing.{HasPut, joined}
 use Rattle.ptu_report.specs.declared.ending.Ending.{Ending}
 use Rattle.ptu_report.specs.declared.ending.Ending.TheVariants as endings
-use Rattle.ptu_report.specs.declared.fault.RunFault.{RunFault}
-use Rattle.ptu_report.specs.Runs.{IfRefused}
+use Rattle.ptu_report.specs.{declared.fault.RunFault.{RunFault}, Runs.{IfRefused}}
 use Rattle.ptu_script.specs.declared.cause.Cause.{Cause}
-use Rattle.ptu_world.specs.World.{Stock}
-use Rattle.ptu_world.specs.Facts.{EndsBy, world_of}
+use Rattle.ptu_world.specs.{World.{Stock}, Facts.{EndsBy, world_of}}
 use Rattle.ptu_world.specs.Report.{granted_count, report, report_lines, short_count}
 use Rattle.ptu_lab.specs.declared.done.Done.{Done}
 

@@ -3,17 +3,14 @@ use Rattle.std.specs.Prelude.{◌≡◌, ◌≤◌, ◌+◌, ℕ, true, List, []
 use Rattle.ptu_outside.specs.MemoryPort.{IsSure, MemoryPort, octets_of}
 use Rattle.ptu_judges.specs.Held.{Held}
 use Rattle.ptu_slave_messages.specs.Node.{Deed}
-use Rattle.ptu_world.specs.Deeds.{IsGrandmaster, IsSlave, Node, Slave}
-use Rattle.ptu_world.specs.Slaves.{entered}
+use Rattle.ptu_world.specs.{Deeds.{IsGrandmaster, IsSlave, Node, Slave}, Slaves.{entered}}
 use Rattle.ptu_lab.specs.NodeStanding.{IsSlaveNode}
 use Rattle.ptu_nodes.specs.Standing.{IsIdle}
 use Rattle.ptu_record.specs.Record.{Record}
 use Rattle.ptu_profile.specs.declared.slave.SlaveConfig.{SlaveConfig}
 use Rattle.ptu_report_lines.specs.declared.statement.Statement.{Statement}
 use Rattle.ptu_report_lines.specs.declared.statement.Statement.TheVariants.{Selected}
-use Rattle.ptu_slave.specs.Kept.{Kept}
-use Rattle.ptu_slave.specs.Seen.{Seen}
-use Rattle.ptu_slave.specs.Standing.{selected_address}
+use Rattle.ptu_slave.specs.{Kept.{Kept}, Seen.{Seen}, Standing.{selected_address}}
 
 -- what a slave selects, of which this is kept, as it is said of the slave at this address
 abbrev pub selection_by : ℕ → Kept → Record → ℕ → Statement

@@ -1,23 +1,17 @@
 -- Which worlds the lab stands for.
 use Rattle.std.specs.Prelude.{◌≡◌, ℕ, Bool, true, nat_eq, List, length, map, Option, Some, None}
-use Rattle.std.specs.HashMap.{get}
-use Rattle.std.specs.declared.dyn_box.DynBox.{DynBox}
+use Rattle.std.specs.{HashMap.{get}, declared.dyn_box.DynBox.{DynBox}}
 use Rattle.ptu_outside.specs.MemoryPort.{MemoryPort}
-use Rattle.ptu_judges.specs.Held.{Held, IsStock}
-use Rattle.ptu_judges.specs.declared.judge.Judge.{Ghosts}
+use Rattle.ptu_judges.specs.{Held.{Held, IsStock}, declared.judge.Judge.{Ghosts}}
 use Rattle.ptu_slave.specs.Seen.{Seen, seen}
-use Rattle.ptu_script.specs.declared.cause.Cause.{Cause}
-use Rattle.ptu_script.specs.declared.command.Command.{Command}
+use Rattle.ptu_script.specs.declared.{cause.Cause.{Cause}, command.Command.{Command}}
 use Rattle.ptu_world.specs.Deeds as world
 use Rattle.ptu_world.specs.World.{node_at}
 use Rattle.ptu_units.specs.Counts.{counted}
 use Rattle.ptu_world.specs.Report.{Course}
 use Rattle.ptu_lab.specs.declared.slave_node.SlaveNode.{SlaveNode}
-use Rattle.ptu_lab.specs.NodeStanding.{IsNode, StandsAsNode}
-use Rattle.ptu_lab.specs.Steps.{HasStepped}
-use Rattle.ptu_nodes.specs.Doing.{HasDone}
-use Rattle.ptu_nodes.specs.Noted.{Noted}
-use Rattle.ptu_nodes.specs.Standing.{StandsAsGrandmaster}
+use Rattle.ptu_lab.specs.{NodeStanding.{IsNode, StandsAsNode}, Steps.{HasStepped}}
+use Rattle.ptu_nodes.specs.{Doing.{HasDone}, Noted.{Noted}, Standing.{StandsAsGrandmaster}}
 use Rattle.ptu_lab.specs.declared.lab.Node.{Node}
 use Rattle.ptu_lab.specs.declared.lab.Node.TheVariants as nodes
 use Rattle.ptu_lab.specs.declared.lab.Lab.{Lab}

@@ -6,13 +6,11 @@ use Rattle.ptu_report.specs.Rules.{IsOutcome}
 use Rattle.ptu_script.specs.declared.cause.Cause.{Cause}
 use Rattle.ptu_script.specs.declared.cause.Cause.TheVariants as causes
 use Rattle.ptu_script.specs.declared.command.Command.{Command}
-use Rattle.ptu_world.specs.Deeds.{Deed, Node}
-use Rattle.ptu_world.specs.World.{Stock, quietly, set_up, step, stock_without}
+use Rattle.ptu_world.specs.{Deeds.{Deed, Node}, World.{Stock, quietly, set_up, step, stock_without}}
 use Rattle.ptu_world.specs.Report.{Course, outcome_by}
 use Rattle.ptu_lab.specs.declared.lab.Node.{Node as LabNode}
 use Rattle.ptu_lab.specs.declared.lab.Node.TheVariants as nodes
-use Rattle.ptu_nodes.specs.Doing.{HasDone}
-use Rattle.ptu_nodes.specs.Noted.{Noted}
+use Rattle.ptu_nodes.specs.{Doing.{HasDone}, Noted.{Noted}}
 
 -- whatever the course was, a lab that stood for it has come to stand for what the command makes of
 -- it, and the texts of the script's line of this number are these; or this is why it is refused

@@ -1,36 +1,27 @@
 -- The rounds before a change of capacity, the CANCELs, and the other rounds, one after the other.
 use Rattle.std.proofs.Common.{◌≡◌, ◌∙◌, ℕ, suc, zero, ◌+◌, ◌*◌, ◌-◌, ◌^◌, ◌≤◌, min, Bool, true, ◌++◌, List, [], ◌∷◌, take, drop, refl, sym, ap, subst, arith, Option, Some, None, Result, Ok, Err}
-use Rattle.std.specs.Prelude.{IfNone, IfOk, IfSome}
-use Rattle.std.specs.List.{All}
-use Rattle.std.proofs.lemmas.List.{append-nil, drop-drop, map-append}
-use Rattle.std.proofs.lemmas.List.Elements.{All-append}
-use Rattle.std.proofs.lemmas.List.Sums.{sum_by-append}
-use Rattle.std.proofs.Math.Seq.{take-add}
+use Rattle.std.specs.{Prelude.{IfNone, IfOk, IfSome}, List.{All}}
+use Rattle.std.proofs.lemmas.{List.{append-nil, drop-drop, map-append}, List.Elements.{All-append}}
+use Rattle.std.proofs.{lemmas.List.Sums.{sum_by-append}, Math.Seq.{take-add}}
 use Rattle.ptu_units.specs.declared.kind.Kind.{Kind}
-use Rattle.ptu_outside.specs.declared.arrival.Arrival.{Arrival}
-use Rattle.ptu_outside.specs.declared.opened.Opened.{Opened}
-use Rattle.ptu_outside.specs.declared.clock.Clock.{Ghosts as Clocks}
-use Rattle.ptu_outside.specs.declared.port.Port.{Ghosts as Ports}
+use Rattle.ptu_outside.specs.declared.{arrival.Arrival.{Arrival}, opened.Opened.{Opened}}
+use Rattle.ptu_outside.specs.declared.{clock.Clock.{Ghosts as Clocks}, port.Port.{Ghosts as Ports}}
 use Rattle.ptu_outside.specs.Telling.{IfTold}
 use Rattle.ptu_outside.proofs.Telling.{IfTold-refl}
-use Rattle.ptu_outside.specs.Faults.{HasRisen, HasNotFallen}
-use Rattle.ptu_outside.specs.HandsOver.{HandsOver}
+use Rattle.ptu_outside.specs.{Faults.{HasRisen, HasNotFallen}, HandsOver.{HandsOver}}
 use Rattle.ptu_outside.proofs.HandsOver.{goes_on_both, none_failed, not_fallen_both, rises_first, rises_second, told_both}
 use Rattle.ptu_outside.proofs.Told.{HasRisenBy-after, HasRisenBy-before}
 use Rattle.ptu_history.specs.declared.client.Client.{Client}
 use Rattle.ptu_profile.specs.declared.grandmaster.GmConfig.{GmConfig}
-use Rattle.ptu_shared.specs.Opening.{HaveFailed, Seen, seen_of}
-use Rattle.ptu_shared.specs.Seats.{Counts, no_verdicts}
+use Rattle.ptu_shared.specs.{Opening.{HaveFailed, Seen, seen_of}, Seats.{Counts, no_verdicts}}
 use Rattle.ptu_shared.proofs.Failing.{failed_hands, failed_none}
 use Rattle.ptu_gm_messages.specs.Replies.{cancels_to}
 use Rattle.ptu_config.specs.declared.settings.GmSettings.{GmSettings}
 use Rattle.ptu_lanes.specs.Answers.{asks_among, grants_among}
 use Rattle.ptu_rounds.specs.Ports.{HaveRisenBy, HaveRisenJust}
-use Rattle.ptu_lanes.specs.declared.lanes.SendingLanes.{SendingLanes}
-use Rattle.ptu_lanes.specs.declared.serving.Totals.{Totals}
+use Rattle.ptu_lanes.specs.declared.{lanes.SendingLanes.{SendingLanes}, serving.Totals.{Totals}}
 use Rattle.ptu_lanes.specs.Rounds.{Exchange, Exchanged, IsAnswered, asks_in, datagrams, grants_in, items_of, replies}
-use Rattle.ptu_lanes.specs.Sending.{GoesOn, WasSent}
-use Rattle.ptu_lanes.specs.Waiting.{GaveFirst, PassedBy, Took}
+use Rattle.ptu_lanes.specs.{Sending.{GoesOn, WasSent}, Waiting.{GaveFirst, PassedBy, Took}}
 use Rattle.ptu_lanes.specs.Changing.{change_moments, change_of, early_rounds, greatest_capacity, moments_to, rounds_before}
 use Rattle.ptu_lanes.specs.Served.{IsControlled, ServesByLanes, TablesAreBack, numbers_of, waits_of}
 use Rattle.ptu_lanes.specs.Stretches.{AreRounds, CountsFailures, HaveTurned, TookSignaling}

@@ -1,15 +1,11 @@
 -- What a lane has served, call by call.
 use Rattle.std.proofs.Common.{◌≡◌, ◌∙◌, ◌⊎◌, inl, inr, ℕ, ◌+◌, ◌≤◌, ◌<◌, ◌++◌, List, [], ◌∷◌, length, length-append, refl, sym, ap, subst, arith, Option, Some, None, Result, Ok, Err}
-use Rattle.std.specs.Prelude.{IfOk, IfSome, option_map, true, false}
-use Rattle.std.specs.List.{AllByRecursion}
+use Rattle.std.specs.{Prelude.{IfOk, IfSome, option_map, true, false}, List.{AllByRecursion}}
 use Rattle.std.proofs.lemmas.List.{append-nil, length-map, map-append}
-use Rattle.std.proofs.lemmas.List.Elements.{All-append, All-cons, All-nil}
-use Rattle.std.proofs.lemmas.List.Sums.{sum_by-append}
+use Rattle.std.proofs.lemmas.List.{Elements.{All-append, All-cons, All-nil}, Sums.{sum_by-append}}
 use Rattle.std.proofs.lemmas.Grind.{flat_map-append}
-use Rattle.ptu_outside.specs.declared.arrival.Arrival.{Arrival}
-use Rattle.ptu_outside.specs.Departure.{Departure}
-use Rattle.ptu_outside.specs.Clocks.{after_first}
-use Rattle.ptu_outside.specs.declared.clock.Clock.{Ghosts as Clocks}
+use Rattle.ptu_outside.specs.{declared.arrival.Arrival.{Arrival}, Departure.{Departure}}
+use Rattle.ptu_outside.specs.{Clocks.{after_first}, declared.clock.Clock.{Ghosts as Clocks}}
 use Rattle.ptu_outside.specs.declared.port.Port.{Ghosts as Ports}
 use Rattle.ptu_outside.specs.Faults.{HasRisen, HasRisenBy, HasRisenJust, HasNotFallen}
 use Rattle.ptu_outside.specs.HandsOver.{HandsOver}
@@ -22,8 +18,7 @@ use Rattle.ptu_profile.specs.declared.grandmaster.GmConfig.{GmConfig}
 use Rattle.ptu_shared.specs.Seats.{Counts}
 use Rattle.ptu_gm_messages.specs.declared.heard.Heard.{Heard}
 use Rattle.ptu_gm_messages.specs.declared.heard.Heard.TheVariants as heard
-use Rattle.ptu_gm_messages.specs.declared.reason.GmReason.{GmReason}
-use Rattle.ptu_gm_messages.specs.declared.item.Item.{Item}
+use Rattle.ptu_gm_messages.specs.declared.{reason.GmReason.{GmReason}, item.Item.{Item}}
 use Rattle.ptu_gm_messages.specs.Items.{heard_in, items_in}
 use Rattle.ptu_lanes.specs.Answers.{HasAnswered, asks_among, grants_among}
 use Rattle.ptu_lanes.specs.Rounds.{BrokeOff, Exchange, Exchanged, HasReplied, HasServed, IsAnswered, IsRound, IsUnanswered, asks_in, datagrams, found_items, items_of, replies, reply_if_any, reply_in, reply_with}

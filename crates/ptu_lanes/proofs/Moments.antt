@@ -2,8 +2,7 @@
 use Rattle.std.proofs.Common.{◌≡◌, ◌∙◌, ℕ, suc, zero, ◌+◌, ◌*◌, ◌≤◌, ◌<◌, List, refl, sym, ap, subst, arith, Option, Some, None}
 use Rattle.std.specs.Prelude.{option_map, ◌%◌, ◌==◌, Bool, if◌then◌else◌}
 use Rattle.std.proofs.Math.Nat.{mul-add}
-use Rattle.ptu_outside.specs.Clocks.{after_first}
-use Rattle.ptu_outside.specs.Telling.{IfTold}
+use Rattle.ptu_outside.specs.{Clocks.{after_first}, Telling.{IfTold}}
 use Rattle.ptu_outside.specs.declared.clock.Clock.{Ghosts as Clocks}
 use Rattle.ptu_rounds.specs.Rounds.{moments_after}
 use Rattle.ptu_lanes.specs.declared.lanes.SendingLanes.{SendingLanes}

@@ -1,28 +1,21 @@
 -- Rounds of lanes, one after the other.
 use Rattle.std.proofs.Common.{◌≡◌, ◌∙◌, ℕ, ◌+◌, ◌-◌, ◌*◌, ◌^◌, ◌≤◌, min, Bool, ◌++◌, List, [], take, drop, refl, sym, ap, subst, arith, Option, Some, None}
 use Rattle.std.specs.Prelude.{IfSome}
-use Rattle.std.proofs.lemmas.List.{drop-drop, map-append}
-use Rattle.std.proofs.lemmas.List.Elements.{All-append, All-nil}
-use Rattle.std.proofs.lemmas.List.Sums.{sum_by-append}
-use Rattle.std.proofs.lemmas.Grind.{flat_map-append}
+use Rattle.std.proofs.lemmas.{List.{drop-drop, map-append}, List.Elements.{All-append, All-nil}}
+use Rattle.std.proofs.lemmas.{List.Sums.{sum_by-append}, Grind.{flat_map-append}}
 use Rattle.std.proofs.Math.Seq.{take-add}
-use Rattle.ptu_outside.specs.declared.arrival.Arrival.{Arrival}
-use Rattle.ptu_outside.specs.declared.clock.Clock.{Ghosts as Clocks}
-use Rattle.ptu_outside.specs.declared.port.Port.{Ghosts as Ports}
-use Rattle.ptu_outside.specs.Faults.{HasRisen}
+use Rattle.ptu_outside.specs.declared.{arrival.Arrival.{Arrival}, clock.Clock.{Ghosts as Clocks}}
+use Rattle.ptu_outside.specs.{declared.port.Port.{Ghosts as Ports}, Faults.{HasRisen}}
 use Rattle.ptu_outside.proofs.Telling.{IfTold-refl}
 use Rattle.ptu_outside.proofs.HandsOver.{goes_on_both, not_fallen_both, not_fallen_none, rises_first, rises_second, told_both, told_none}
 use Rattle.ptu_profile.specs.declared.grandmaster.GmConfig.{GmConfig}
-use Rattle.ptu_shared.specs.Opening.{HaveFailed}
-use Rattle.ptu_shared.specs.Seats.{Counts}
+use Rattle.ptu_shared.specs.{Opening.{HaveFailed}, Seats.{Counts}}
 use Rattle.ptu_shared.proofs.Failing.{failed-append, failed_bounded}
 use Rattle.ptu_lanes.specs.Answers.{asks_among, grants_among}
 use Rattle.ptu_lanes.specs.Rounds.{Exchange, Exchanged, IsAnswered, IsRound, asks_in, datagrams, items_of, replies, reply_in}
-use Rattle.ptu_lanes.specs.Sending.{GoesOn, WasSent}
-use Rattle.ptu_lanes.specs.Waiting.{GaveFirst, Took}
+use Rattle.ptu_lanes.specs.{Sending.{GoesOn, WasSent}, Waiting.{GaveFirst, Took}}
 use Rattle.ptu_lanes.specs.Stretches.{AreRounds, CountsFailures, TookDelayReqs, TookSignaling}
-use Rattle.ptu_lanes.proofs.Exchanges.{exchanged-append, exchanged_nothing}
-use Rattle.ptu_lanes.proofs.Moments.{passed_none}
+use Rattle.ptu_lanes.proofs.{Exchanges.{exchanged-append, exchanged_nothing}, Moments.{passed_none}}
 use Rattle.ptu_lanes.proofs.Taking.{none_taken, took-append, took_up_to}
 
 -- ---- what waited

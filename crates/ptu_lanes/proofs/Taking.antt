@@ -1,13 +1,10 @@
 -- What was taken of what waits at a port, call by call.
 use Rattle.std.proofs.Common.{◌≡◌, ◌∙◌, ◌⊎◌, inl, inr, ℕ, ◌+◌, ◌≤◌, ◌++◌, List, [], ◌∷◌, length, length-append, take, drop, refl, sym, ap, subst, append_assoc, arith, Option, Some, None}
 use Rattle.std.specs.Prelude.{IfSome, option_map}
-use Rattle.std.proofs.lemmas.List.{append-nil, take_all}
-use Rattle.std.proofs.Math.ListN.{drop_of_length-le}
+use Rattle.std.proofs.{lemmas.List.{append-nil, take_all}, Math.ListN.{drop_of_length-le}}
 use Rattle.std.proofs.Math.Seq.{drop-append_seam, take-append_seam}
-use Rattle.ptu_outside.specs.declared.arrival.Arrival.{Arrival}
-use Rattle.ptu_outside.specs.declared.clock.Clock.{Ghosts as Clocks}
-use Rattle.ptu_outside.specs.declared.port.Port.{Ghosts as Ports}
-use Rattle.ptu_outside.specs.Clocks.{after_first}
+use Rattle.ptu_outside.specs.declared.{arrival.Arrival.{Arrival}, clock.Clock.{Ghosts as Clocks}}
+use Rattle.ptu_outside.specs.{declared.port.Port.{Ghosts as Ports}, Clocks.{after_first}}
 use Rattle.ptu_outside.specs.Telling.{IfTold, IsFirstTold, rest_told}
 use Rattle.ptu_outside.proofs.Telling.{IfTold-refl}
 use Rattle.ptu_shared.specs.Opening.{HaveFailed}

@@ -2,21 +2,15 @@
 -- clause 16.1.4).
 use Rattle.std.specs.Prelude.{◌≡◌, ◌⊎◌, ℕ, ◌+◌, ◌≤◌, min, if◌then◌else◌, List, [], ◌∷◌, Option, Some, None, IfSome, IsSome, Result, Ok, Err, IsOk}
 use Rattle.std.specs.List.{sum_by}
-use Rattle.ptu_units.specs.declared.kind.Kind.{Kind}
-use Rattle.ptu_units.specs.Kind.{kind_of}
-use Rattle.ptu_history.specs.declared.client.Client.{Client}
-use Rattle.ptu_history.specs.Verdict.{profile}
-use Rattle.ptu_tlvs.specs.declared.tlv.Ask.{Ask}
-use Rattle.ptu_tlvs.specs.declared.tlv.Tlv.{Tlv}
+use Rattle.ptu_units.specs.{declared.kind.Kind.{Kind}, Kind.{kind_of}}
+use Rattle.ptu_history.specs.{declared.client.Client.{Client}, Verdict.{profile}}
+use Rattle.ptu_tlvs.specs.declared.tlv.{Ask.{Ask}, Tlv.{Tlv}}
 use Rattle.ptu_tlvs.specs.declared.tlv.Tlv.TheVariants as tlv
 use Rattle.ptu_profile.specs.declared.grandmaster.GmConfig.{GmConfig}
 use Rattle.ptu_admit.specs.declared.ending.Cancelled.{Cancelled}
-use Rattle.ptu_shared.specs.Answers.{AnswersAsk}
-use Rattle.ptu_shared.specs.Seats.{Counts}
-use Rattle.ptu_gm_messages.specs.declared.item.Item.{Item}
-use Rattle.ptu_gm_messages.specs.declared.item.Item.TheVariants.{Request, Cancel}
-use Rattle.ptu_gm_messages.specs.Deciding.{asked_by}
-use Rattle.ptu_gm_messages.specs.Replies.{denial_of, grant_of}
+use Rattle.ptu_shared.specs.{Answers.{AnswersAsk}, Seats.{Counts}}
+use Rattle.ptu_gm_messages.specs.declared.item.{Item.{Item}, Item.TheVariants.{Request, Cancel}}
+use Rattle.ptu_gm_messages.specs.{Deciding.{asked_by}, Replies.{denial_of, grant_of}}
 use Rattle.ptu_grandmaster.specs.declared.outcome.Outcome.{Outcome}
 use Rattle.ptu_grandmaster.specs.declared.outcome.Outcome.TheVariants as outcome
 

@@ -2,10 +2,8 @@
 -- 16.1; that a round takes 64 at most is the project's own choice).
 use Rattle.std.specs.Prelude.{◌≡◌, ℕ, ◌+◌, ◌*◌, ◌≤◌, ◌<◌, List, [], ◌∷◌, ◌++◌, length, map, take, drop, true, Some, Result, Ok, Err, IfSome}
 use Rattle.std.specs.List.{All, flat_map, sum_by}
-use Rattle.ptu_outside.specs.declared.arrival.Arrival.{Arrival}
-use Rattle.ptu_outside.specs.Departure.{Departure}
-use Rattle.ptu_outside.specs.declared.clock.Clock.{Ghosts as Clocks}
-use Rattle.ptu_outside.specs.declared.port.Port.{Ghosts as Ports}
+use Rattle.ptu_outside.specs.{declared.arrival.Arrival.{Arrival}, Departure.{Departure}}
+use Rattle.ptu_outside.specs.declared.{clock.Clock.{Ghosts as Clocks}, port.Port.{Ghosts as Ports}}
 use Rattle.ptu_outside.specs.Faults.{HasRisen, HasRisenBy, HasRisenJust, HasNotFallen}
 use Rattle.ptu_outside.specs.HandsOver.{HandsOver}
 use Rattle.ptu_header.specs.declared.header.Header.{Header}
@@ -14,13 +12,10 @@ use Rattle.ptu_profile.specs.declared.grandmaster.GmConfig.{GmConfig}
 use Rattle.ptu_shared.specs.Seats.{Counts}
 use Rattle.ptu_gm_messages.specs.declared.heard.Heard.{Heard}
 use Rattle.ptu_gm_messages.specs.declared.heard.Heard.TheVariants as heard
-use Rattle.ptu_gm_messages.specs.declared.item.Item.{Item}
-use Rattle.ptu_gm_messages.specs.declared.reason.GmReason.{GmReason}
-use Rattle.ptu_gm_messages.specs.Items.{heard_in, items_in}
-use Rattle.ptu_gm_messages.specs.Replies.{reply_to}
+use Rattle.ptu_gm_messages.specs.declared.{item.Item.{Item}, reason.GmReason.{GmReason}}
+use Rattle.ptu_gm_messages.specs.{Items.{heard_in, items_in}, Replies.{reply_to}}
 use Rattle.ptu_lanes.specs.Answers.{FitEach, HasAnswered, asks_among, grants_among}
-use Rattle.ptu_lanes.specs.Sending.{GoesOn, WasSent}
-use Rattle.ptu_lanes.specs.Waiting.{PassedBy}
+use Rattle.ptu_lanes.specs.{Sending.{GoesOn, WasSent}, Waiting.{PassedBy}}
 
 -- the items that were found; there is none where the datagram is ignored
 abbrev pub found_items : Result (List Item) GmReason → List Item

@@ -1,7 +1,6 @@
 -- Settings that were made out by hand.
 use Rattle.std.specs.Prelude.{◌≡◌, ℕ, Option, Some, None}
-use Rattle.ptu_config.specs.declared.settings.GmSettings.{GmSettings}
-use Rattle.ptu_config.specs.Examples.{gm_defaults}
+use Rattle.ptu_config.specs.{declared.settings.GmSettings.{GmSettings}, Examples.{gm_defaults}}
 use Rattle.ptu_lanes.specs.Changing.{change_of, early_rounds, greatest_capacity}
 
 -- settings of capacity 8 with so many rounds, of which this one begins with a change to this capacity

@@ -1,8 +1,6 @@
 -- What was sent at a port, and whether it goes on to tell that.
-use Rattle.std.specs.Prelude.{◌≡◌, false, List}
-use Rattle.std.specs.List.{AllByRecursion}
-use Rattle.ptu_outside.specs.declared.port.Port.{Ghosts as Ports}
-use Rattle.ptu_outside.specs.Departure.{Departure}
+use Rattle.std.specs.{Prelude.{◌≡◌, false, List}, List.{AllByRecursion}}
+use Rattle.ptu_outside.specs.{declared.port.Port.{Ghosts as Ports}, Departure.{Departure}}
 use Rattle.ptu_outside.specs.Telling.{IfTold, append_told}
 
 -- what the port was sent, where it still tells it, grew by these datagrams

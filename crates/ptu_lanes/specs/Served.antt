@@ -3,21 +3,17 @@
 use Rattle.std.specs.Prelude.{◌≡◌, ℕ, suc, zero, ◌+◌, ◌*◌, ◌≤◌, true, List, [], ◌++◌, map, take, drop, Option, Some, IfNone, IfSome}
 use Rattle.std.specs.List.{All}
 use Rattle.ptu_units.specs.declared.kind.Kind.{Kind}
-use Rattle.ptu_outside.specs.declared.arrival.Arrival.{Arrival}
-use Rattle.ptu_outside.specs.declared.clock.Clock.{Ghosts as Clocks}
-use Rattle.ptu_outside.specs.declared.opened.Opened.{Opened}
-use Rattle.ptu_outside.specs.declared.port.Port.{Ghosts as Ports}
+use Rattle.ptu_outside.specs.declared.{arrival.Arrival.{Arrival}, clock.Clock.{Ghosts as Clocks}}
+use Rattle.ptu_outside.specs.declared.{opened.Opened.{Opened}, port.Port.{Ghosts as Ports}}
 use Rattle.ptu_outside.specs.Faults.{HasRisen}
 use Rattle.ptu_history.specs.declared.client.Client.{Client}
 use Rattle.ptu_profile.specs.declared.grandmaster.GmConfig.{GmConfig}
-use Rattle.ptu_shared.specs.Opening.{HaveFailed, Seen, seen_of}
-use Rattle.ptu_shared.specs.Seats.{no_verdicts}
+use Rattle.ptu_shared.specs.{Opening.{HaveFailed, Seen, seen_of}, Seats.{no_verdicts}}
 use Rattle.ptu_gm_messages.specs.Replies.{cancels_to}
 use Rattle.ptu_config.specs.declared.settings.GmSettings.{GmSettings}
 use Rattle.ptu_rounds.specs.Ports.{HaveRisenBy, HaveRisenJust, ports_of}
 use Rattle.ptu_lanes.specs.Rounds.{Exchange, Exchanged, IsAnswered, asks_in, datagrams, grants_in, replies}
-use Rattle.ptu_lanes.specs.Sending.{GoesOn, WasSent}
-use Rattle.ptu_lanes.specs.Waiting.{GaveFirst, Took, TurnedOwn}
+use Rattle.ptu_lanes.specs.{Sending.{GoesOn, WasSent}, Waiting.{GaveFirst, Took, TurnedOwn}}
 use Rattle.ptu_lanes.specs.Changing.{change_moments, change_of, early_rounds, greatest_capacity}
 use Rattle.ptu_lanes.specs.declared.serving.Totals.{Totals}
 

@@ -1,18 +1,13 @@
 -- Several rounds of the lanes.
 use Rattle.std.specs.Prelude.{◌≡◌, ℕ, Bool, ◌+◌, ◌*◌, ◌≤◌, List, take, drop, Some, IfSome}
 use Rattle.std.specs.List.{All}
-use Rattle.ptu_outside.specs.declared.arrival.Arrival.{Arrival}
-use Rattle.ptu_outside.specs.declared.clock.Clock.{Ghosts as Clocks}
-use Rattle.ptu_outside.specs.declared.port.Port.{Ghosts as Ports}
-use Rattle.ptu_outside.specs.Faults.{HasNotFallen, HasRisen}
+use Rattle.ptu_outside.specs.declared.{arrival.Arrival.{Arrival}, clock.Clock.{Ghosts as Clocks}}
+use Rattle.ptu_outside.specs.{declared.port.Port.{Ghosts as Ports}, Faults.{HasNotFallen, HasRisen}}
 use Rattle.ptu_profile.specs.declared.grandmaster.GmConfig.{GmConfig}
-use Rattle.ptu_shared.specs.Opening.{HaveFailed}
-use Rattle.ptu_shared.specs.Seats.{Counts}
+use Rattle.ptu_shared.specs.{Opening.{HaveFailed}, Seats.{Counts}}
 use Rattle.ptu_lanes.specs.Rounds.{Exchange, Exchanged, IsAnswered, asks_in, datagrams, grants_in, replies}
-use Rattle.ptu_lanes.specs.Sending.{GoesOn, WasSent}
-use Rattle.ptu_lanes.specs.Waiting.{GaveFirst, Took, TurnedOwn}
-use Rattle.ptu_lanes.specs.declared.lanes.ControlLane.{ControlLane}
-use Rattle.ptu_lanes.specs.declared.lanes.EventLane.{EventLane}
+use Rattle.ptu_lanes.specs.{Sending.{GoesOn, WasSent}, Waiting.{GaveFirst, Took, TurnedOwn}}
+use Rattle.ptu_lanes.specs.declared.lanes.{ControlLane.{ControlLane}, EventLane.{EventLane}}
 use Rattle.ptu_lanes.specs.declared.lanes.SendingLanes.{SendingLanes}
 
 -- so many rounds at a port that tells what waits: the lane took the first 64 datagrams for each round, or all where there are

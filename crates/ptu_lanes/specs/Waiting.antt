@@ -1,9 +1,7 @@
 -- What a lane takes of what waits at its port, and of the moments of its clock.
 use Rattle.std.specs.Prelude.{◌≡◌, ℕ, suc, zero, ◌+◌, ◌*◌, ◌%◌, ◌==◌, ◌≤◌, if◌then◌else◌, List, ◌++◌, length, drop, Option, Some, IfSome, option_map}
-use Rattle.ptu_outside.specs.declared.arrival.Arrival.{Arrival}
-use Rattle.ptu_outside.specs.declared.clock.Clock.{Ghosts as Clocks}
-use Rattle.ptu_outside.specs.declared.port.Port.{Ghosts as Ports}
-use Rattle.ptu_outside.specs.Telling.{IfTold}
+use Rattle.ptu_outside.specs.declared.{arrival.Arrival.{Arrival}, clock.Clock.{Ghosts as Clocks}}
+use Rattle.ptu_outside.specs.{declared.port.Port.{Ghosts as Ports}, Telling.{IfTold}}
 use Rattle.ptu_shared.specs.Opening.{HaveFailed}
 use Rattle.ptu_rounds.specs.Rounds.{moments_after}
 

@@ -2,25 +2,20 @@
 use Rattle.std.proofs.Common.{◌≡◌, ◌∙◌, ℕ, zero, suc, ◌+◌, ◌*◌, ◌≤◌, ◌++◌, List, [], ◌∷◌, map, Bool, true, false, ◌&&◌, ◌||◌, cond, leb, refl, sym, ap, arith}
 use Rattle.std.specs.List.{All, list_any, sum_by}
 use Rattle.std.proofs.lemmas.Bool.{leb-true, or_from, or_parts, true≢false}
-use Rattle.std.proofs.lemmas.List.Elements.{All-head, All-tail}
-use Rattle.std.proofs.lemmas.List.Folds.{list_any-append}
+use Rattle.std.proofs.lemmas.List.{Elements.{All-head, All-tail}, Folds.{list_any-append}}
 use Rattle.std.proofs.lemmas.List.Sums.{sum_by-cons}
 use Rattle.ptu_history.specs.declared.client.Client.{Client}
-use Rattle.ptu_history.specs.History.{Record, Granted, Sent, is_change, is_sent}
-use Rattle.ptu_history.specs.Live.{Grant}
+use Rattle.ptu_history.specs.{History.{Record, Granted, Sent, is_change, is_sent}, Live.{Grant}}
 use Rattle.ptu_history.specs.Verdict.{Config, Verdict, verdict, GrantedFor, ShortOf, Outside}
 use Rattle.ptu_history.specs.Events.{Event, Request, Cancel, Turn, DelayReq, Resize, Answer, Answered, NoGrant, TooSoon}
 use Rattle.ptu_history.specs.Turns.{due_grants, sent_record}
 use Rattle.ptu_history.specs.Step.{answer_records, delay_answer, verdict_records}
 use Rattle.ptu_history.specs.Core.{core_moment, core_step, core_history}
 use Rattle.ptu_history.specs.Held.{Payment, budget, count, force, held, is_by, payment, payments, payments_after}
-use Rattle.ptu_history.proofs.Lists.{by_push}
-use Rattle.ptu_history.proofs.Capacities.{budget-same}
+use Rattle.ptu_history.proofs.{Lists.{by_push}, Capacities.{budget-same}}
 use Rattle.ptu_history.proofs.Histories.{history-event, history-none}
-use Rattle.ptu_laws.specs.Changes.{is_resize}
-use Rattle.ptu_laws.specs.Sound.{IsSound}
-use Rattle.ptu_laws.proofs.Capacity.{held-sound}
-use Rattle.ptu_laws.proofs.Followed.{AllMayFollow}
+use Rattle.ptu_laws.specs.{Changes.{is_resize}, Sound.{IsSound}}
+use Rattle.ptu_laws.proofs.{Capacity.{held-sound}, Followed.{AllMayFollow}}
 use Rattle.ptu_laws.proofs.Stands.{follow-stand, sound-core, stand-from}
 use Rattle.ptu_laws.proofs.Covered.{IsPaidAny, is_in_payment, paid-within, weight, weight-whole}
 use Rattle.ptu_laws.proofs.Payments.{payments-apart, payments-paid}

@@ -1,21 +1,14 @@
 -- What is held at a moment is at most the capacity in force there, for every sound list of records.
 use Rattle.std.proofs.Common.{◌≡◌, ◌∙◌, ◌⊎◌, inl, inr, ℕ, ◌+◌, ◌<◌, ◌≤◌, max, ◌++◌, List, [], ◌∷◌, Bool, true, false, not, cond, eqb, ltb, refl, sym, ap, subst, arith, ℤ, append_assoc}
 use Rattle.std.specs.List.{filter}
-use Rattle.std.proofs.lemmas.Bool.{eqb-true, lt-ltb, ltb-true, ltb-false}
-use Rattle.std.proofs.lemmas.List.{append-nil}
-use Rattle.std.proofs.lemmas.List.Elements.{filter-append}
-use Rattle.std.proofs.lemmas.List.Sums.{sum_by-append, sum_by-cons}
-use Rattle.ptu_units.specs.declared.kind.Kind.{Kind}
-use Rattle.ptu_units.specs.Log.{rate_of}
-use Rattle.ptu_history.specs.declared.client.Client.{Client}
-use Rattle.ptu_history.specs.Client.{same_lease}
+use Rattle.std.proofs.lemmas.{Bool.{eqb-true, lt-ltb, ltb-true, ltb-false}, List.{append-nil}}
+use Rattle.std.proofs.lemmas.List.{Elements.{filter-append}, Sums.{sum_by-append, sum_by-cons}}
+use Rattle.ptu_units.specs.{declared.kind.Kind.{Kind}, Log.{rate_of}}
+use Rattle.ptu_history.specs.{declared.client.Client.{Client}, Client.{same_lease}}
 use Rattle.ptu_history.specs.History.{Record, Granted, Short, Ended, Capacity, Shed, Looked, Sent, capacity_in_force, is_change, is_decision, moment_of}
-use Rattle.ptu_history.specs.Moments.{book_moment}
-use Rattle.ptu_history.specs.Live.{Grant, live_grants, standing, without}
-use Rattle.ptu_history.specs.Verdict.{Config, others, rate_sum}
-use Rattle.ptu_history.specs.Events.{Event}
-use Rattle.ptu_history.specs.Core.{core_history}
-use Rattle.ptu_history.specs.Held.{force, held, terms}
+use Rattle.ptu_history.specs.{Moments.{book_moment}, Live.{Grant, live_grants, standing, without}}
+use Rattle.ptu_history.specs.{Verdict.{Config, others, rate_sum}, Events.{Event}}
+use Rattle.ptu_history.specs.{Core.{core_history}, Held.{force, held, terms}}
 use Rattle.ptu_history.proofs.Lists.{filter-comm}
 use Rattle.ptu_history.proofs.Capacities.{capacity_in_force-changed, capacity_in_force-unchanged}
 use Rattle.ptu_history.proofs.Currents.{standing-ended, standing-granted, standing-shed}

@@ -1,14 +1,10 @@
 -- Held time of one client and kind stays held when a record is added that does not decide on them before it.
 use Rattle.std.proofs.Common.{◌≡◌, ◌∙◌, ℕ, ◌<◌, ◌≤◌, min, ◌++◌, List, [], ◌∷◌, Bool, true, false, ◌&&◌, ◌||◌, cond, leb, ltb, refl, ap, arith, Option, Some, None, ℤ}
-use Rattle.std.specs.List.{find, list_any}
-use Rattle.std.specs.Option.{option_or}
-use Rattle.std.specs.Ordering.{int_eq}
+use Rattle.std.specs.{List.{find, list_any}, Option.{option_or}, Ordering.{int_eq}}
 use Rattle.std.proofs.lemmas.Bool.{and_from, and_parts, or_left, or_right, false≢true, le-leb, lt-ltb, ltb-true}
-use Rattle.std.proofs.lemmas.Bool.Decides.{Decides-int_eq}
-use Rattle.std.proofs.lemmas.List.Folds.{find-append}
+use Rattle.std.proofs.lemmas.{Bool.Decides.{Decides-int_eq}, List.Folds.{find-append}}
 use Rattle.ptu_units.specs.declared.kind.Kind.{Kind}
-use Rattle.ptu_history.specs.declared.client.Client.{Client}
-use Rattle.ptu_history.specs.Client.{same_lease}
+use Rattle.ptu_history.specs.{declared.client.Client.{Client}, Client.{same_lease}}
 use Rattle.ptu_history.specs.History.{Record, Granted, Short, Ended, Capacity, Shed, Looked, Sent, decides, moment_of}
 use Rattle.ptu_history.specs.Held.{Term, end_of, terms}
 use Rattle.ptu_history.proofs.Keys.{same_lease-refl, same_lease-true}

@@ -1,10 +1,7 @@
 -- Lists of which only a part matters: filters, orders and maps that agree on it.
 use Rattle.std.proofs.Common.{◌≡◌, ◌∙◌, List, [], ◌∷◌, map, Bool, true, false, cond, refl, sym, ap}
-use Rattle.std.specs.List.{All, filter}
-use Rattle.std.specs.Ordering.{is_lt}
-use Rattle.std.specs.declared.cmp.Ordering.{Ordering}
-use Rattle.std.proofs.lemmas.Bool.{false≢true}
-use Rattle.std.proofs.lemmas.List.Elements.{All-head, All-tail}
+use Rattle.std.specs.{List.{All, filter}, Ordering.{is_lt}, declared.cmp.Ordering.{Ordering}}
+use Rattle.std.proofs.lemmas.{Bool.{false≢true}, List.Elements.{All-head, All-tail}}
 use Rattle.std.proofs.lemmas.List.Sorted.{All-permutation}
 use Rattle.ptu_history.specs.Order.{in_order, insert_in_order}
 use Rattle.ptu_history.proofs.Order.{IsPermutation-in_order}

@@ -1,11 +1,9 @@
 -- Fewer grants have no larger sum of rates.
 use Rattle.std.proofs.Common.{◌≡◌, ◌≤◌, List, [], ◌∷◌, Bool, true, false, cond, refl, arith}
 use Rattle.std.specs.List.{filter}
-use Rattle.std.proofs.lemmas.Bool.{false≢true}
-use Rattle.std.proofs.lemmas.List.Sums.{sum_by-cons}
+use Rattle.std.proofs.lemmas.{Bool.{false≢true}, List.Sums.{sum_by-cons}}
 use Rattle.ptu_units.specs.Log.{rate_of}
-use Rattle.ptu_history.specs.Live.{Grant}
-use Rattle.ptu_history.specs.Verdict.{rate_sum}
+use Rattle.ptu_history.specs.{Live.{Grant}, Verdict.{rate_sum}}
 
 pub rate_sum-filter_le : (p q : Grant → Bool) → ((g : Grant) → p g ≡ true → q g ≡ true) → (gs : List Grant) → rate_sum (filter p gs) ≤ rate_sum (filter q gs)
 rate_sum-filter_le p q fewer [] = omega arith

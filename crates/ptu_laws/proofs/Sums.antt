@@ -1,8 +1,7 @@
 -- Sums over all moments below one, and the exchange of two sums.
 use Rattle.std.proofs.Common.{◌≡◌, ◌∙◌, ℕ, zero, suc, ◌+◌, ◌-◌, ◌*◌, ◌≤◌, min, List, [], ◌∷◌, Bool, true, false, ◌&&◌, cond, leb, ltb, refl, sym, ap, arith}
 use Rattle.std.specs.List.{filter, sum_by}
-use Rattle.std.proofs.Math.Nat.{mul-suc}
-use Rattle.std.proofs.lemmas.Bool.{leb-false, leb-true, ltb-false, ltb-true}
+use Rattle.std.proofs.{Math.Nat.{mul-suc}, lemmas.Bool.{leb-false, leb-true, ltb-false, ltb-true}}
 use Rattle.std.proofs.lemmas.List.Sums.{sum_by-cons}
 
 -- the sum over the moments below this one

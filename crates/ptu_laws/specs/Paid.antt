@@ -1,13 +1,9 @@
 -- When a message's payment is made of held time (the project's own choice).
-use Rattle.std.specs.Prelude.{◌≡◌, ℕ, ◌+◌, ◌<◌, ◌≤◌, Bool, ◌&&◌, List, ℤ, IsTrue}
-use Rattle.std.specs.List.{list_any}
+use Rattle.std.specs.{Prelude.{◌≡◌, ℕ, ◌+◌, ◌<◌, ◌≤◌, Bool, ◌&&◌, List, ℤ, IsTrue}, List.{list_any}}
 use Rattle.std.specs.Ordering.{int_eq}
-use Rattle.ptu_units.specs.declared.kind.Kind.{Kind}
-use Rattle.ptu_units.specs.Log.{IsLogOf, period_of}
-use Rattle.ptu_history.specs.declared.client.Client.{Client}
-use Rattle.ptu_history.specs.Client.{same_lease}
-use Rattle.ptu_history.specs.History.{Record}
-use Rattle.ptu_history.specs.Held.{Payment, Term, is_in_term, terms}
+use Rattle.ptu_units.specs.{declared.kind.Kind.{Kind}, Log.{IsLogOf, period_of}}
+use Rattle.ptu_history.specs.{declared.client.Client.{Client}, Client.{same_lease}}
+use Rattle.ptu_history.specs.{History.{Record}, Held.{Payment, Term, is_in_term, terms}}
 
 -- the term is of the client and kind at the logarithm, and the moment is in it
 abbrev pub is_term_at : Client → Kind → ℤ → ℕ → Term → Bool

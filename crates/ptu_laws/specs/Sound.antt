@@ -1,15 +1,11 @@
 -- Lists of records that keep a grandmaster's rules, wherever they come from (the project's own
 -- choice).
 use Rattle.std.specs.Prelude.{◌≡◌, ℕ, ◌+◌, ◌≤◌, List, [], ◌∷◌, ◌++◌, IsTrue, ◌==◌, if◌then◌else◌}
-use Rattle.ptu_units.specs.declared.kind.Kind.{Kind}
-use Rattle.ptu_units.specs.Log.{IsLogOf, rate_of}
-use Rattle.ptu_history.specs.declared.client.Client.{Client}
-use Rattle.ptu_history.specs.Client.{same_lease}
+use Rattle.ptu_units.specs.{declared.kind.Kind.{Kind}, Log.{IsLogOf, rate_of}}
+use Rattle.ptu_history.specs.{declared.client.Client.{Client}, Client.{same_lease}}
 use Rattle.ptu_history.specs.History.{Record, Granted, Short, Ended, Capacity, Shed, Looked, Sent, capacity_in_force}
-use Rattle.ptu_history.specs.Moments.{book_moment, greatest_by}
-use Rattle.ptu_history.specs.Live.{live_grants}
-use Rattle.ptu_history.specs.Lawful.{lawful}
-use Rattle.ptu_history.specs.Verdict.{others, rate_sum}
+use Rattle.ptu_history.specs.{Moments.{book_moment, greatest_by}, Live.{live_grants}}
+use Rattle.ptu_history.specs.{Lawful.{lawful}, Verdict.{others, rate_sum}}
 
 -- the moment of a message to the client and kind, or 0
 abbrev pub sent_part : Client → Kind → Record → ℕ

@@ -1,12 +1,9 @@
 -- An address by its numbers, one after the other.
 use Rattle.std.proofs.Common.{◌≡◌, ◌∙◌, ◌<◌, ◌≤◌, ◌+◌, ◌*◌, ◌==◌, ℕ, zero, suc, Bool, true, false, cond, eqb, List, [], ◌∷◌, length, take, drop, get_or, map, ◌⊎◌, Option, Some, None, refl, ap, inl, inr, arith}
-use Rattle.std.specs.Prelude.{option_map, option_and_then}
-use Rattle.std.specs.Char.{is_digit}
+use Rattle.std.specs.{Prelude.{option_map, option_and_then}, Char.{is_digit}}
 use Rattle.std.specs.List.{list_all, position, slice_split}
-use Rattle.std.proofs.lemmas.Bool.{cases_lt, eqb-true}
-use Rattle.std.proofs.lemmas.Fmt.{length-decimal-le}
-use Rattle.std.proofs.lemmas.List.{length-map, length-take-le}
-use Rattle.std.proofs.lemmas.List.Folds.{list_all_at}
+use Rattle.std.proofs.lemmas.{Bool.{cases_lt, eqb-true}, Fmt.{length-decimal-le}}
+use Rattle.std.proofs.lemmas.{List.{length-map, length-take-le}, List.Folds.{list_all_at}}
 use Rattle.std.proofs.lemmas.List.Splits.{length-slice_split}
 use Rattle.ptu_lines.specs.Words.{value_of, is_short, number_of, within, number_within, address_of, bytes_of, first_of_several, ip_of}
 use Rattle.ptu_lines.proofs.Numbers.{decimal-number_of}

@@ -2,8 +2,7 @@
 use Rattle.std.proofs.Common.{◌≡◌, ℕ, suc, ◌+◌, ◌<◌, ◌≤◌, min, nat_le, nat_lt, ◌&&◌, if◌then◌else◌, Bool, true, false, not, cond, List, [], ◌∷◌, ◌++◌, length, take, drop, Option, Some, None, IfSome, IfNone, refl, ap, subst, sym, ◌∙◌, inl, inr, ◌⊎◌, append_assoc, add-zero, arith}
 use Rattle.std.proofs.lemmas.List.{append-nil, take_at, take_all, drop_at, drop_all, length-append, nil_from_length, length-take, length-take-le, take-append-drop}
 use Rattle.std.proofs.lemmas.Bool.{cases_lt, ltb-false, eqb-true, lt-ltb, le-leb, le-ltb}
-use Rattle.std.proofs.lemmas.Bool.Decides.{nat_tests}
-use Rattle.std.proofs.Math.Nat.{le_refl}
+use Rattle.std.proofs.{lemmas.Bool.Decides.{nat_tests}, Math.Nat.{le_refl}}
 use Rattle.std.proofs.Math.Seq.{take-append-add}
 use Rattle.std.specs.List.{flat_map, list_all, onto_first, position, position_or_len, prefix_len}
 use Rattle.std.specs.Option.{option_map}

@@ -4,8 +4,7 @@ use Rattle.std.proofs.lemmas.Bool.{lt-ltb}
 use Rattle.std.proofs.lemmas.Int.Digits.{digits_value-lt, digits_value_more, digits_more}
 use Rattle.std.proofs.lemmas.List.{length-take-le, take_all}
 use Rattle.std.proofs.Math.Nat.{pow-suc, pow-le-pow_right, mul-le-mul_right}
-use Rattle.std.specs.Char.{digit_value, is_digit}
-use Rattle.std.specs.List.{list_all}
+use Rattle.std.specs.{Char.{digit_value, is_digit}, List.{list_all}}
 use Rattle.std.specs.Str.Parse.{digits_value, AllDigits}
 use Rattle.ptu_lines.specs.Words.{value_of}
 

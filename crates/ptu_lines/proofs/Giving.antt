@@ -1,10 +1,7 @@
 -- Lines that a reader gave in several calls.
 use Rattle.std.proofs.Common.{◌≡◌, ◌∙◌, ℕ, List, [], ◌∷◌, ◌++◌, map, Option, Some, None, refl, sym, ap, append_assoc, arith}
-use Rattle.std.specs.Option.{option_map}
-use Rattle.std.specs.List.{flat_map}
-use Rattle.std.specs.Io.KnownBytes.{prepend_known}
-use Rattle.std.proofs.lemmas.List.{append-nil, length-append}
-use Rattle.std.proofs.lemmas.List.Concat.{flat_map-append}
+use Rattle.std.specs.{Option.{option_map}, List.{flat_map}, Io.KnownBytes.{prepend_known}}
+use Rattle.std.proofs.lemmas.{List.{append-nil, length-append}, List.Concat.{flat_map-append}}
 use Rattle.ptu_outside.proofs.Told.{prepend_known-nil, prepend_known-append}
 use Rattle.ptu_lines.specs.Script.{ScriptLine, Whole, AreEnded, AreLines, lines_from, pieces, script_lines, text_of}
 use Rattle.ptu_lines.specs.Reading.{Reader, Gives, IsFresh, lines_left}

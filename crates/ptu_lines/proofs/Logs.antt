@@ -1,10 +1,7 @@
 -- A number in a range that lies in another range.
 use Rattle.std.proofs.Common.{◌≡◌, Bool, true, false, T, Option, Some, None, refl, subst, sym, ℤ, arith}
-use Rattle.std.proofs.lemmas.Int.{ints}
-use Rattle.std.proofs.Math.Bool.{and-false}
-use Rattle.std.specs.Option.{option_and_then}
-use Rattle.std.specs.Prelude.{int_le}
-use Rattle.std.specs.Int.Signed.{◌≤ℤ◌, le_z_yes}
+use Rattle.std.proofs.{lemmas.Int.{ints}, Math.Bool.{and-false}}
+use Rattle.std.specs.{Option.{option_and_then}, Prelude.{int_le}, Int.Signed.{◌≤ℤ◌, le_z_yes}}
 use Rattle.ptu_lines.specs.Words.{int_within}
 
 -- where a test holds only if another does, and that one fails, so does it

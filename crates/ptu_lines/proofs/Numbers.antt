@@ -3,14 +3,10 @@ use Rattle.std.proofs.Common.{◌≡◌, ℕ, suc, zero, ◌^◌, ◌<◌, ◌�
 use Rattle.std.proofs.lemmas.Bool.{cases_lt, and_parts, lt-ltb, le-leb, ltb-true, leb-true, eqb-true, eq-eqb}
 use Rattle.std.proofs.lemmas.Bool.Decides.{nat_tests}
 use Rattle.std.proofs.lemmas.Fmt.{digits_decimal, digits_value-decimal, decimal-digits_value, decimal_nonempty, length-decimal-le, first_decimal, decimal_digit}
-use Rattle.std.proofs.lemmas.Int.Digits.{digits_value-lt}
-use Rattle.std.proofs.lemmas.Str.Parse.{IsNumeralModel}
+use Rattle.std.proofs.lemmas.{Int.Digits.{digits_value-lt}, Str.Parse.{IsNumeralModel}}
 use Rattle.std.proofs.Math.Nat.{pow-le-pow_right}
-use Rattle.std.specs.Fmt.{signed_decimal}
-use Rattle.std.specs.Option.{option_and_then, option_map}
-use Rattle.std.specs.Prelude.{unsigned_abs}
-use Rattle.std.specs.Char.{is_digit}
-use Rattle.std.specs.List.{list_all}
+use Rattle.std.specs.{Fmt.{signed_decimal}, Option.{option_and_then, option_map}}
+use Rattle.std.specs.{Prelude.{unsigned_abs}, Char.{is_digit}, List.{list_all}}
 use Rattle.std.specs.Str.Parse.{digits_value, AllDigits}
 use Rattle.ptu_lines.specs.Words.{is_short, number_of, negative, has_sign, log_of}
 use Rattle.ptu_lines.proofs.Digits.{list_all-digits}

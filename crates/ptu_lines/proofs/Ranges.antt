@@ -1,8 +1,7 @@
 -- Parts of a list from one place to another.
 use Rattle.std.proofs.Common.{◌≡◌, ℕ, ◌+◌, ◌-◌, ◌≤◌, min, List, ◌++◌, length, take, drop, refl, ap, sym, ◌∙◌, arith}
 use Rattle.std.proofs.lemmas.List.{take_min, take_all, take-take, length-take, length-take-le, length-drop, drop-append-le, drop-drop, drop-take}
-use Rattle.std.proofs.lemmas.Slice.{between_is}
-use Rattle.std.proofs.Math.Seq.{take-add, take-append_seam}
+use Rattle.std.proofs.{lemmas.Slice.{between_is}, Math.Seq.{take-add, take-append_seam}}
 use Rattle.std.specs.List.{slice_range}
 
 -- lists with one front have one part within it

@@ -1,8 +1,7 @@
 -- A list cut at the first place that passes a test.
 use Rattle.std.proofs.Common.{◌≡◌, ◌<◌, ℕ, zero, suc, Bool, true, false, nat_lt, List, [], ◌∷◌, length, take, drop, slice_index, Option, None, Some, refl, sym, ◌∙◌, inl, inr, arith}
 use Rattle.std.specs.List.{position, position_or_len, slice_split}
-use Rattle.std.proofs.lemmas.Bool.{cases_lt, lt-ltb, ltb-true}
-use Rattle.std.proofs.lemmas.List.Quantifiers.{position-Some}
+use Rattle.std.proofs.lemmas.{Bool.{cases_lt, lt-ltb, ltb-true}, List.Quantifiers.{position-Some}}
 use Rattle.std.proofs.lemmas.List.Sums.{fails_before_first}
 use Rattle.memchr.specs.Find.{IsFirstByte}
 

@@ -1,8 +1,6 @@
 -- The lines of a source, as their callers see them.
-use Rattle.std.specs.Prelude.{◌≡◌}
-use Rattle.std.specs.Borrow.{MutBor}
-use Rattle.ptu_lines.specs.declared.line_reader.LineReader.{LineReader}
-use Rattle.ptu_lines.specs.declared.lines.Lines.{Lines}
+use Rattle.std.specs.{Prelude.{◌≡◌}, Borrow.{MutBor}}
+use Rattle.ptu_lines.specs.declared.{line_reader.LineReader.{LineReader}, lines.Lines.{Lines}}
 use Rattle.ptu_lines.specs.Reading.{Reader}
 
 -- the reader

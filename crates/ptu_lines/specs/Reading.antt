@@ -1,7 +1,6 @@
 -- What a reader of lines holds, and what it still has to give.
 use Rattle.std.specs.Prelude.{◌≡◌, ◌⊎◌, ℕ, ◌+◌, ◌≤◌, Bool, true, false, if◌then◌else◌, List, [], ◌∷◌, ◌++◌, length, take, map, Option, Some, None, Result, Ok, Err, IfSome, IsTrue, option_map}
-use Rattle.std.specs.List.{flat_map}
-use Rattle.std.specs.Io.KnownBytes.{IsAtEnd, prepend_known}
+use Rattle.std.specs.{List.{flat_map}, Io.KnownBytes.{IsAtEnd, prepend_known}}
 use Rattle.ptu_outside.specs.Faults.{HasRisen}
 use Rattle.ptu_lines.specs.declared.fault.LinesFault.{LinesFault}
 use Rattle.ptu_lines.specs.declared.fault.LinesFault.TheVariants.{Line, Read}

@@ -1,8 +1,6 @@
 -- The words of a line, and the forms that a word may have. They are the project's own choice.
 use Rattle.std.specs.Prelude.{ℕ, suc, zero, ◌+◌, ◌-◌, ◌*◌, nat_le, nat_lt, Bool, false, not, ◌&&◌, ◌||◌, ◌==◌, if◌then◌else◌, List, [], ◌∷◌, length, drop, slice_get, slice_index, map, Option, Some, None, option_map, option_and_then, ℤ, pos, negsuc, int_le}
-use Rattle.std.specs.Char.{is_digit}
-use Rattle.std.specs.List.{list_all, slice_split}
-use Rattle.std.specs.Str.Parse.{digits_value}
+use Rattle.std.specs.{Char.{is_digit}, List.{list_all, slice_split}, Str.Parse.{digits_value}}
 use Rattle.std.specs.Result.{result_ok}
 use Rattle.hex.specs.Hex.{decode_of}
 

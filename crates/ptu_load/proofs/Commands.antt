@@ -1,16 +1,13 @@
 -- What each line of a load commands.
 use Rattle.std.proofs.Common.{◌≡◌, ◌∙◌, ℕ, ◌+◌, ◌*◌, ◌-◌, ◌^◌, ◌<◌, ◌≤◌, ◌==◌, true, false, List, [], ◌∷◌, ◌++◌, length, codes, Some, Ok, refl, ap, decimal, arith}
-use Rattle.std.specs.Prelude.{slice_get, unwrap_or}
-use Rattle.std.specs.List.{list_any}
+use Rattle.std.specs.{Prelude.{slice_get, unwrap_or}, List.{list_any}}
 use Rattle.hex.specs.Hex.{IsBytes, encode_lower}
 use Rattle.ptu_lines.specs.Words.{ip_of, octets_of, words_of}
 use Rattle.ptu_script.specs.declared.command.GrandmasterSetup.{GrandmasterSetup}
 use Rattle.ptu_script.specs.declared.command.Command.TheVariants as commands
-use Rattle.ptu_script.specs.declared.verb.Verb.{Verb}
-use Rattle.ptu_script.specs.declared.verb.Verb.TheVariants.{Gm, Rx, Turn}
+use Rattle.ptu_script.specs.declared.verb.{Verb.{Verb}, Verb.TheVariants.{Gm, Rx, Turn}}
 use Rattle.ptu_script.specs.Command.{command_of, fields_in, grandmaster_in, is_comment, moment_of}
-use Rattle.ptu_script.specs.Fields.{◌>>=◌, from_to}
-use Rattle.ptu_script.specs.Verb.{counts_of, verb_named}
+use Rattle.ptu_script.specs.{Fields.{◌>>=◌, from_to}, Verb.{counts_of, verb_named}}
 use Rattle.ptu_load.proofs.Going.{address}
 use Rattle.ptu_texts.proofs.Read.{decimal_glyphs, decimal_within, octets_glyphs, octets_read}
 use Rattle.ptu_load.proofs.Words.{address_read, client_words, grandmaster_words, turn_words}

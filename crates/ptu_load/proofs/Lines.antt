@@ -1,8 +1,7 @@
 -- The lines of octets in which each of some short plain texts ends with a 0A.
 use Rattle.std.proofs.Common.{◌≡◌, ◌∙◌, ℕ, ◌+◌, ◌*◌, ◌≤◌, min, nat_lt, nat_le, ◌&&◌, Bool, true, false, if◌then◌else◌, List, [], ◌∷◌, ◌++◌, length, map, Option, Some, None, refl, ap, append_assoc, arith}
 use Rattle.std.specs.List.{AllByRecursion, list_all}
-use Rattle.std.proofs.lemmas.Bool.{and_parts, le-ltb, leb-true}
-use Rattle.std.proofs.lemmas.Bool.Decides.{nat_tests}
+use Rattle.std.proofs.lemmas.{Bool.{and_parts, le-ltb, leb-true}, Bool.Decides.{nat_tests}}
 use Rattle.std.proofs.lemmas.List.{length-append}
 use Rattle.ptu_outside.specs.Handing.{joined}
 use Rattle.ptu_lines.specs.declared.cause.LineCause.{LineCause}

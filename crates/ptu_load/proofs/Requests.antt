@@ -1,11 +1,8 @@
 -- The octets of the request of a client.
 use Rattle.std.proofs.Common.{◌≡◌, ℕ, zero, suc, ◌+◌, ◌<◌, nat_lt, true, List, [], ◌∷◌, ◌++◌, length, refl, sym, ap, subst, rules, arith}
-use Rattle.std.specs.Prelude.{ℤ}
-use Rattle.std.specs.Int.{byte_at, cast_unsigned, w8}
-use Rattle.std.specs.Int.RustNames.{FitsSigned}
+use Rattle.std.specs.{Prelude.{ℤ}, Int.{byte_at, cast_unsigned, w8}, Int.RustNames.{FitsSigned}}
 use Rattle.std.specs.List.{list_all}
-use Rattle.std.proofs.Math.Facts.{Fits-of_z}
-use Rattle.std.proofs.lemmas.Bool.{and_parts, lt-ltb, ltb-true}
+use Rattle.std.proofs.{Math.Facts.{Fits-of_z}, lemmas.Bool.{and_parts, lt-ltb, ltb-true}}
 use Rattle.hex.specs.Hex.{IsBytes}
 use Rattle.ptu_octets.specs.Number.{octets_of}
 use Rattle.ptu_load.specs.Generated.{log_by, request_of}

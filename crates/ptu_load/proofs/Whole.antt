@@ -1,8 +1,7 @@
 -- No line of the script of a load is refused.
 use Rattle.std.proofs.Common.{◌≡◌, ◌∙◌, ℕ, zero, suc, ◌+◌, ◌*◌, ◌/◌, ◌%◌, ◌^◌, ◌<◌, ◌≤◌, List, [], ◌∷◌, ◌++◌, length, map, codes, refl, sym, ap, append_assoc, decimal, arith}
 use Rattle.std.specs.List.{AllByRecursion, flat_map, range_with_len}
-use Rattle.std.proofs.lemmas.Fmt.{length-decimal-le}
-use Rattle.std.proofs.lemmas.List.{length-append}
+use Rattle.std.proofs.lemmas.{Fmt.{length-decimal-le}, List.{length-append}}
 use Rattle.std.proofs.lemmas.List.FromFn.{length-map-range_with_len}
 use Rattle.hex.specs.Hex.{IsBytes, encode_lower, lower_digits}
 use Rattle.hex.proofs.HexLemmas.{length-encode_with}
@@ -11,8 +10,7 @@ use Rattle.ptu_lines.specs.Script.{Whole, lines_from, pieces, script_lines}
 use Rattle.ptu_report.specs.declared.ending.Ending.TheVariants as endings
 use Rattle.ptu_report.specs.Rules.{ending_of}
 use Rattle.ptu_script.specs.declared.command.Command.TheVariants as commands
-use Rattle.ptu_world.specs.World.{Stock}
-use Rattle.ptu_world.specs.Report.{course_opening, rules}
+use Rattle.ptu_world.specs.{World.{Stock}, Report.{course_opening, rules}}
 use Rattle.ptu_load.specs.Generated.{ask_line, ask_lines, client_text, generated, generated_lines, grandmaster_text, log_by, request_of, turn_lines, turn_lines_at, turn_text, x_at}
 use Rattle.ptu_load.specs.Whole.{LoadsAreWhole}
 use Rattle.ptu_load.proofs.Commands.{client_address, client_line, client_says, grandmaster_line, grandmaster_says, setup_of, turn_line, turn_says}

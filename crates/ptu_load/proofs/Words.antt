@@ -1,11 +1,8 @@
 -- The words of the lines of a load, and what they are in the forms of their places.
 use Rattle.std.proofs.Common.{◌≡◌, ◌∙◌, ℕ, ◌+◌, ◌*◌, ◌≤◌, nat_le, ◌==◌, true, List, [], ◌∷◌, ◌++◌, codes, Some, refl, sym, ap, decimal, arith}
-use Rattle.std.specs.Fmt.{digits}
-use Rattle.std.specs.List.{list_all, onto_first, slice_split}
-use Rattle.std.proofs.lemmas.Bool.{le-leb}
-use Rattle.std.proofs.lemmas.List.{append-nil}
-use Rattle.ptu_lines.specs.Script.{is_plain}
-use Rattle.ptu_lines.specs.Words.{ip_of, words_of}
+use Rattle.std.specs.{Fmt.{digits}, List.{list_all, onto_first, slice_split}}
+use Rattle.std.proofs.lemmas.{Bool.{le-leb}, List.{append-nil}}
+use Rattle.ptu_lines.specs.{Script.{is_plain}, Words.{ip_of, words_of}}
 use Rattle.ptu_texts.proofs.Read.{AreGlyphs, dotted_read, split_alone, split_before, split_behind}
 
 -- glyphs are plain

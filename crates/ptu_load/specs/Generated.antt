@@ -2,12 +2,9 @@
 -- 0, and then eight seconds in which every table takes a turn each. The script is the project's own
 -- choice.
 use Rattle.std.specs.Prelude.{ℕ, zero, suc, ◌+◌, ◌*◌, ◌/◌, ◌%◌, ◌^◌, ℤ, pos, ◌-ℤ◌, List, [], ◌∷◌}
-use Rattle.std.specs.Prelude.{◌++◌, codes, map}
-use Rattle.std.specs.Fmt.{decimal}
-use Rattle.std.specs.List.{flat_map, range_with_len}
+use Rattle.std.specs.{Prelude.{◌++◌, codes, map}, Fmt.{decimal}, List.{flat_map, range_with_len}}
 use Rattle.hex.specs.Hex.{encode_lower}
-use Rattle.ptu_header.specs.declared.header.Header.{Header}
-use Rattle.ptu_header.specs.declared.header.PortIdentity.{PortIdentity}
+use Rattle.ptu_header.specs.declared.header.{Header.{Header}, PortIdentity.{PortIdentity}}
 use Rattle.ptu_tlvs.specs.declared.tlv.Tlv.TheVariants.{Request}
 use Rattle.ptu_messages.specs.Sent.{sent_message, signaling}
 use Rattle.ptu_outside.specs.Handing.{joined}

@@ -1,7 +1,6 @@
 -- What the script of a load is, at numbers that were made out by hand.
 use Rattle.std.specs.Prelude.{◌≡◌, ℕ, ◌+◌, ◌/◌, [], ◌∷◌, codes, drop, length, map, pos, negsuc}
-use Rattle.std.specs.Prelude.{take}
-use Rattle.std.specs.List.{range_with_len}
+use Rattle.std.specs.{Prelude.{take}, List.{range_with_len}}
 use Rattle.ptu_load.specs.Generated.{client_text, generated_lines, log_of_client, request_of, x_at}
 
 -- the quotients of x_1 to x_5 by 65536

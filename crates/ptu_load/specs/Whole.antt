@@ -1,10 +1,8 @@
 -- The script of a load is replayed to its end.
 use Rattle.std.specs.Prelude.{◌≡◌, ℕ, ◌+◌, ◌≤◌}
 use Rattle.ptu_lines.specs.Script.{script_lines}
-use Rattle.ptu_report.specs.declared.ending.Ending.TheVariants.{Whole}
-use Rattle.ptu_report.specs.Rules.{ending_of}
-use Rattle.ptu_world.specs.World.{Stock}
-use Rattle.ptu_world.specs.Report.{course_opening, rules}
+use Rattle.ptu_report.specs.{declared.ending.Ending.TheVariants.{Whole}, Rules.{ending_of}}
+use Rattle.ptu_world.specs.{World.{Stock}, Report.{course_opening, rules}}
 use Rattle.ptu_load.specs.Generated.{generated}
 
 -- whatever judges there are, no line of the script of a load is refused: its n + 33 lines are

@@ -4,10 +4,8 @@ use Rattle.std.specs.Prelude.{IfOk, IfErr}
 use Rattle.ptu_messages.specs.declared.message.Message.{Message}
 use Rattle.ptu_messages.specs.declared.fault.MessageFault.{MessageFault}
 use Rattle.ptu_messages.specs.declared.fault.MessageFault.TheVariants.{OutOfMemory}
-use Rattle.ptu_messages.specs.Message.{SpellsMessage}
-use Rattle.ptu_messages.specs.MessageFault.{HasMessageFault}
-use Rattle.ptu_messages.specs.Outcome.{Gives}
-use Rattle.ptu_messages.specs.Reading.{message_in}
+use Rattle.ptu_messages.specs.{Message.{SpellsMessage}, MessageFault.{HasMessageFault}}
+use Rattle.ptu_messages.specs.{Outcome.{Gives}, Reading.{message_in}}
 use Rattle.ptu_messages.proofs.Readings.{found_is, refused_is, message_in-spelled, message_in-faulty}
 
 abbrev Answer : Type 0

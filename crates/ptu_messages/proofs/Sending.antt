@@ -5,10 +5,8 @@ use Rattle.std.proofs.lemmas.List.Elements.{All-head, All-tail}
 use Rattle.std.specs.List.{flat_map}
 use Rattle.std.proofs.lemmas.List.{append-nil, take_at}
 use Rattle.ptu_units.specs.declared.stamp.Stamp.{Stamp}
-use Rattle.ptu_octets.proofs.Numbers.{number_at-octets_of}
-use Rattle.ptu_octets.proofs.Signs.{signed_at-octets_16}
-use Rattle.ptu_header.specs.declared.header.Header.{Header}
-use Rattle.ptu_header.specs.declared.header.PortIdentity.{PortIdentity}
+use Rattle.ptu_octets.proofs.{Numbers.{number_at-octets_of}, Signs.{signed_at-octets_16}}
+use Rattle.ptu_header.specs.declared.header.{Header.{Header}, PortIdentity.{PortIdentity}}
 use Rattle.ptu_header.specs.Header.{AlwaysSpellsHeader, HasIdentityWidths, SpellsHeader, identity_at}
 use Rattle.ptu_header.specs.Header as headers
 use Rattle.ptu_header.specs.Sent.{sent_header, sent_identity}
@@ -18,11 +16,9 @@ use Rattle.ptu_tlvs.specs.declared.tlv.Tlv.TheVariants.{Request, Grant, Cancel, 
 use Rattle.ptu_tlvs.specs.Tlv.{HasWidths, SpellsTlv, AlwaysBeginsWithTlv}
 use Rattle.ptu_tlvs.specs.Sent.{IsSendable, sent_tlv}
 use Rattle.ptu_tlvs.proofs.Sending.{sent_tlv_spells}
-use Rattle.ptu_messages.specs.declared.message.AnnounceBody.{AnnounceBody}
-use Rattle.ptu_messages.specs.declared.message.Body.{Body}
+use Rattle.ptu_messages.specs.declared.message.{AnnounceBody.{AnnounceBody}, Body.{Body}}
 use Rattle.ptu_messages.specs.declared.message.Body.TheVariants.{Sync, DelayReq, FollowUp, DelayResp, Announce, Signaling, Ignored}
-use Rattle.ptu_messages.specs.declared.message.Message.{Message}
-use Rattle.ptu_messages.specs.Tlvs.{AreSpelled}
+use Rattle.ptu_messages.specs.{declared.message.Message.{Message}, Tlvs.{AreSpelled}}
 use Rattle.ptu_messages.specs.Message.{HasAnnounceWidths, HasBodyWidths, HasStampWidths, IsBodyOf, SpellsBody, SpellsMessage, announce_at, least_length, stamp_at}
 use Rattle.ptu_messages.specs.Sent.{AlwaysSpells, IsFixed, IsFixedBody, sent_announce, sent_body, sent_message, sent_stamp, signaling}
 

@@ -3,16 +3,13 @@ use Rattle.std.proofs.Common.{◌≡◌, ℕ, zero, suc, ◌+◌, ◌-◌, ◌<�
 use Rattle.std.proofs.lemmas.List.{append-nil, drop_at, take-append-drop}
 use Rattle.ptu_tlvs.specs.declared.tlv.Tlv.{Tlv}
 use Rattle.ptu_tlvs.specs.declared.tlv.Tlv.TheVariants.{Request, Grant, Cancel, Ack, Other}
-use Rattle.ptu_tlvs.specs.declared.fault.TlvFault.{TlvFault}
-use Rattle.ptu_tlvs.specs.Tlv.{SpellsTlv, BeginsWithTlv}
-use Rattle.ptu_tlvs.specs.TlvFault.{HasTlvFault}
-use Rattle.ptu_tlvs.specs.Reading.{tlv_in}
+use Rattle.ptu_tlvs.specs.{declared.fault.TlvFault.{TlvFault}, Tlv.{SpellsTlv, BeginsWithTlv}}
+use Rattle.ptu_tlvs.specs.{TlvFault.{HasTlvFault}, Reading.{tlv_in}}
 use Rattle.ptu_tlvs.proofs.Readings.{one_or_other, tlv_in-spelled, tlv_in-faulty}
 use Rattle.ptu_tlvs.proofs.Sending.{begins}
 use Rattle.ptu_messages.specs.declared.fault.MessageFault.{MessageFault}
 use Rattle.ptu_messages.specs.declared.fault.MessageFault.TheVariants as faults
-use Rattle.ptu_messages.specs.Tlvs.{AreSpelled}
-use Rattle.ptu_messages.specs.Reading.{◌>>=◌, tlvs_in}
+use Rattle.ptu_messages.specs.{Tlvs.{AreSpelled}, Reading.{◌>>=◌, tlvs_in}}
 
 abbrev Found : Type 0
 Found = Result (List Tlv) MessageFault

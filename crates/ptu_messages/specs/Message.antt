@@ -1,16 +1,13 @@
 -- Messages, and the octets that spell them (IEEE 1588-2019 clauses 13.5 to 13.12).
 use Rattle.std.specs.Prelude.{◌≡◌, ◌≢◌, ℕ, ◌+◌, ◌^◌, ◌<◌, ◌≤◌, ◌==◌, ◌||◌, if◌then◌else◌, List, All, slice_index, slice_range}
-use Rattle.std.specs.Int.{w16}
-use Rattle.std.specs.Int.RustNames.{FitsSigned}
+use Rattle.std.specs.{Int.{w16}, Int.RustNames.{FitsSigned}}
 use Rattle.ptu_units.specs.declared.stamp.Stamp.{Stamp}
 use Rattle.ptu_octets.specs.Number.{number_at, signed_at}
 use Rattle.ptu_header.specs.Header.{SpellsHeader, HasIdentityWidths, identity_at}
 use Rattle.ptu_tlvs.specs.Tlv.{HasWidths}
-use Rattle.ptu_messages.specs.declared.message.AnnounceBody.{AnnounceBody}
-use Rattle.ptu_messages.specs.declared.message.Body.{Body}
+use Rattle.ptu_messages.specs.declared.message.{AnnounceBody.{AnnounceBody}, Body.{Body}}
 use Rattle.ptu_messages.specs.declared.message.Body.TheVariants.{Sync, DelayReq, FollowUp, DelayResp, Announce, Signaling, Ignored}
-use Rattle.ptu_messages.specs.declared.message.Message.{Message}
-use Rattle.ptu_messages.specs.Tlvs.{SpellsTlvs}
+use Rattle.ptu_messages.specs.{declared.message.Message.{Message}, Tlvs.{SpellsTlvs}}
 
 -- the least messageLength of a messageType: 34 where the type is not read
 abbrev pub least_length : ℕ → ℕ

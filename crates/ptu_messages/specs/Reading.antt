@@ -1,11 +1,8 @@
 -- Reading a message: its value, or the first fault.
 use Rattle.std.specs.Prelude.{ℕ, zero, suc, ◌+◌, ◌==◌, if◌then◌else◌, List, [], ◌∷◌, drop, nat_lt, slice_range, Result, Ok, Err}
-use Rattle.ptu_header.specs.declared.header.Header.{Header}
-use Rattle.ptu_header.specs.declared.fault.HeaderFault.{HeaderFault}
-use Rattle.ptu_header.specs.Header.{identity_at}
-use Rattle.ptu_header.specs.Reading.{header_in}
-use Rattle.ptu_tlvs.specs.declared.tlv.Tlv.{Tlv}
-use Rattle.ptu_tlvs.specs.declared.fault.TlvFault.{TlvFault}
+use Rattle.ptu_header.specs.declared.{header.Header.{Header}, fault.HeaderFault.{HeaderFault}}
+use Rattle.ptu_header.specs.{Header.{identity_at}, Reading.{header_in}}
+use Rattle.ptu_tlvs.specs.declared.{tlv.Tlv.{Tlv}, fault.TlvFault.{TlvFault}}
 use Rattle.ptu_tlvs.specs.Reading.{tlv_in}
 use Rattle.ptu_messages.specs.declared.message.Body.{Body}
 use Rattle.ptu_messages.specs.declared.message.Body.TheVariants.{Sync, DelayReq, FollowUp, DelayResp, Announce, Signaling, Ignored}

@@ -1,26 +1,18 @@
 -- That the capacity of a grandmaster of a script has changed.
 use Rattle.std.proofs.Common.{◌≡◌, ◌∙◌, ℕ, List, [], ◌∷◌, ◌++◌, map, refl, sym, ap, ap₂, subst, Some}
 use Rattle.std.proofs.lemmas.Simd.{map-map}
-use Rattle.ptu_outside.specs.Departure.{Departure}
-use Rattle.ptu_outside.specs.MemoryPort.{MemoryPort}
-use Rattle.ptu_history.specs.Core.{book_step_moment, core_step, history_after}
-use Rattle.ptu_history.specs.Counts.{counts}
+use Rattle.ptu_outside.specs.{Departure.{Departure}, MemoryPort.{MemoryPort}}
+use Rattle.ptu_history.specs.{Core.{book_step_moment, core_step, history_after}, Counts.{counts}}
 use Rattle.ptu_history.specs.Events as events
-use Rattle.ptu_history.specs.History.{Record}
-use Rattle.ptu_history.specs.Shedding.{shed_grants}
+use Rattle.ptu_history.specs.{History.{Record}, Shedding.{shed_grants}}
 use Rattle.ptu_profile.specs.declared.grandmaster.GmConfig.{GmConfig}
-use Rattle.ptu_admit.specs.declared.shed_list.Shed.{Shed}
-use Rattle.ptu_admit.specs.Shed.{shed_of}
-use Rattle.ptu_gm_messages.specs.Deciding.{opened_with}
-use Rattle.ptu_gm_messages.specs.Replies.{cancels_to, lease_of}
-use Rattle.ptu_grandmaster.specs.Changed.{AreShedAt, leases_shed}
-use Rattle.ptu_grandmaster.specs.Gm.{KeptGm, StandsFor}
+use Rattle.ptu_admit.specs.{declared.shed_list.Shed.{Shed}, Shed.{shed_of}}
+use Rattle.ptu_gm_messages.specs.{Deciding.{opened_with}, Replies.{cancels_to, lease_of}}
+use Rattle.ptu_grandmaster.specs.{Changed.{AreShedAt, leases_shed}, Gm.{KeptGm, StandsFor}}
 use Rattle.ptu_grandmaster.proofs.Cancels.{cancels_shed}
 use Rattle.ptu_report_lines.specs.declared.statement.Statement.TheVariants as statements
-use Rattle.ptu_world.specs.Deeds.{Grandmaster}
-use Rattle.ptu_world.specs.Grandmasters.{capacity_deed, shed_said}
-use Rattle.ptu_nodes.specs.Doing.{HasDone}
-use Rattle.ptu_nodes.specs.GrandmasterPorts.{GoesOn, in_ports}
+use Rattle.ptu_world.specs.{Deeds.{Grandmaster}, Grandmasters.{capacity_deed, shed_said}}
+use Rattle.ptu_nodes.specs.{Doing.{HasDone}, GrandmasterPorts.{GoesOn, in_ports}}
 use Rattle.ptu_nodes.specs.GrandmasterStatements.{shed_seen}
 use Rattle.ptu_nodes.specs.Noted.{Noted, with_handed, with_said}
 use Rattle.ptu_nodes.specs.Standing.{AreIdle, AreSure, IsGrandmasterNode, StandsAsGrandmaster}

@@ -1,17 +1,13 @@
 -- That a grandmaster of a script has taken a datagram.
 use Rattle.std.proofs.Common.{◌≡◌, ◌∙◌, ◌↔◌, ℕ, List, [], ◌∷◌, ◌++◌, map, refl, sym, ap, ap₂, subst, Some, Result, Ok, Err}
 use Rattle.std.proofs.lemmas.Simd.{map-map}
-use Rattle.ptu_outside.specs.Departure.{Departure}
-use Rattle.ptu_outside.specs.declared.port.Port.{Ghosts as Ports}
-use Rattle.ptu_outside.specs.HandsOver.{HandsOver}
-use Rattle.ptu_outside.specs.MemoryPort.{MemoryPort}
+use Rattle.ptu_outside.specs.{Departure.{Departure}, declared.port.Port.{Ghosts as Ports}}
+use Rattle.ptu_outside.specs.{HandsOver.{HandsOver}, MemoryPort.{MemoryPort}}
 use Rattle.ptu_outside.specs.Telling.{IfTold, append_told}
 use Rattle.ptu_outside.proofs.HandsOver.{hands_whole}
 use Rattle.ptu_header.specs.declared.header.Header.{Header}
-use Rattle.ptu_history.specs.Client.{table_of}
-use Rattle.ptu_history.specs.Core.{history_after, table_step_moment}
-use Rattle.ptu_history.specs.History.{Record}
-use Rattle.ptu_history.specs.Step.{delay_answer}
+use Rattle.ptu_history.specs.{Client.{table_of}, Core.{history_after, table_step_moment}}
+use Rattle.ptu_history.specs.{History.{Record}, Step.{delay_answer}}
 use Rattle.ptu_shard.specs.declared.answered.Answered.{Answered}
 use Rattle.ptu_shard.specs.declared.answered.Answered.TheVariants as answers
 use Rattle.ptu_profile.specs.declared.grandmaster.GmConfig.{GmConfig}
@@ -19,11 +15,9 @@ use Rattle.ptu_shard.specs.Answered.{failed_by, met_by, moment_of_answer, respon
 use Rattle.ptu_shard.specs.Messages.{response_of}
 use Rattle.ptu_gm_messages.specs.declared.heard.Heard.{Heard}
 use Rattle.ptu_gm_messages.specs.declared.heard.Heard.TheVariants as heard
-use Rattle.ptu_gm_messages.specs.declared.item.Item.{Item}
-use Rattle.ptu_gm_messages.specs.declared.reason.GmReason.{GmReason}
+use Rattle.ptu_gm_messages.specs.declared.{item.Item.{Item}, reason.GmReason.{GmReason}}
 use Rattle.ptu_gm_messages.specs.Deciding.{answer_to, client_of, decisions_of, events_heard, events_of_datagram, opened_with}
-use Rattle.ptu_gm_messages.specs.Items.{heard_in}
-use Rattle.ptu_gm_messages.specs.Replies.{reply_to}
+use Rattle.ptu_gm_messages.specs.{Items.{heard_in}, Replies.{reply_to}}
 use Rattle.ptu_outside.specs.declared.reply.Reply.{Reply}
 use Rattle.ptu_outside.specs.declared.reply.Reply.TheVariants as sending
 use Rattle.ptu_grandmaster.specs.declared.outcome.Taken.{Taken}
@@ -34,8 +28,7 @@ use Rattle.ptu_grandmaster.specs.Taking.{ComesTo, IsAnswerTo, OnAsked, OnDelay, 
 use Rattle.ptu_report_lines.specs.declared.statement.Statement.TheVariants as statements
 use Rattle.ptu_world.specs.Deeds.{Grandmaster, Node, IsGrandmaster}
 use Rattle.ptu_world.specs.Grandmasters.{answer_said, datagram_deed, decision_said, heard_deed, opening, reason_of, replies}
-use Rattle.ptu_nodes.specs.Doing.{HasDone}
-use Rattle.ptu_nodes.specs.GrandmasterPorts.{GoesOn, in_ports}
+use Rattle.ptu_nodes.specs.{Doing.{HasDone}, GrandmasterPorts.{GoesOn, in_ports}}
 use Rattle.ptu_nodes.specs.Noted.{Noted, with_handed, with_said}
 use Rattle.ptu_nodes.specs.GrandmasterStatements.{IsAnswerSent, IsReplySent, IsSent, taken_said}
 use Rattle.ptu_nodes.specs.Standing.{AreIdle, AreSure, IsGrandmasterNode, StandsAsGrandmaster}

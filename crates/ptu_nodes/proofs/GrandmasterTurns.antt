@@ -1,29 +1,20 @@
 -- That a grandmaster of a script has taken a turn.
 use Rattle.std.proofs.Common.{◌≡◌, ◌∙◌, ℕ, ◌==◌, List, [], ◌++◌, Bool, true, false, map, refl, sym, ap, subst, Some}
-use Rattle.std.proofs.lemmas.List.{append-nil}
-use Rattle.std.proofs.lemmas.Simd.{map-map}
-use Rattle.ptu_outside.specs.Departure.{Departure}
-use Rattle.ptu_outside.specs.MemoryPort.{MemoryPort}
+use Rattle.std.proofs.lemmas.{List.{append-nil}, Simd.{map-map}}
+use Rattle.ptu_outside.specs.{Departure.{Departure}, MemoryPort.{MemoryPort}}
 use Rattle.ptu_history.specs.Core.{core_step, history_after, table_step_moment}
 use Rattle.ptu_history.specs.Events as events
-use Rattle.ptu_history.specs.History.{Record}
-use Rattle.ptu_history.specs.Live.{Grant}
-use Rattle.ptu_history.specs.Turns.{due_grants, message_of}
+use Rattle.ptu_history.specs.{History.{Record}, Live.{Grant}, Turns.{due_grants, message_of}}
 use Rattle.ptu_profile.specs.declared.grandmaster.GmConfig.{GmConfig}
-use Rattle.ptu_shard.specs.Messages.{departure_of}
-use Rattle.ptu_shard.specs.Table.{Kept}
-use Rattle.ptu_shard.specs.Turn.{due_messages}
+use Rattle.ptu_shard.specs.{Messages.{departure_of}, Table.{Kept}, Turn.{due_messages}}
 use Rattle.ptu_gm_messages.specs.Deciding.{opened_with}
 use Rattle.ptu_grandmaster.specs.Gm.{KeptGm, StandsFor, table_at, with_table}
-use Rattle.ptu_world.specs.Deeds.{Grandmaster}
-use Rattle.ptu_world.specs.Grandmasters.{turn_deed}
-use Rattle.ptu_nodes.specs.Doing.{HasDone}
-use Rattle.ptu_nodes.specs.GrandmasterPorts.{GoesOn, in_ports}
+use Rattle.ptu_world.specs.{Deeds.{Grandmaster}, Grandmasters.{turn_deed}}
+use Rattle.ptu_nodes.specs.{Doing.{HasDone}, GrandmasterPorts.{GoesOn, in_ports}}
 use Rattle.ptu_nodes.specs.Noted.{Noted, with_handed}
 use Rattle.ptu_nodes.specs.Standing.{AreIdle, AreSure, IsGrandmasterNode, StandsAsGrandmaster}
 use Rattle.ptu_nodes.proofs.GrandmasterDone.{all_handed, has_done, stands_after}
-use Rattle.ptu_nodes.proofs.GrandmasterPorts.{table_by, with_by}
-use Rattle.ptu_nodes.proofs.Noting.{said_nothing}
+use Rattle.ptu_nodes.proofs.{GrandmasterPorts.{table_by, with_by}, Noting.{said_nothing}}
 
 -- ---- what stands in the ports, where all but one are idle
 

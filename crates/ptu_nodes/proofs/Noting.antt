@@ -1,15 +1,12 @@
 -- What is added to a journal in one go and in several.
 use Rattle.std.proofs.Common.{◌≡◌, ◌∙◌, ℕ, ◌+◌, List, [], ◌∷◌, ◌++◌, Bool, false, cond, length, map, refl, sym, ap, arith, append_assoc, length-append}
 use Rattle.std.specs.List.{count_by}
-use Rattle.std.proofs.lemmas.List.{append-nil, map-append}
-use Rattle.std.proofs.lemmas.List.Sums.{sum_by-append, sum_by-cons}
+use Rattle.std.proofs.lemmas.{List.{append-nil, map-append}, List.Sums.{sum_by-append, sum_by-cons}}
 use Rattle.ptu_outside.specs.Departure.{Departure}
 use Rattle.ptu_units.specs.Counts.{counted}
-use Rattle.ptu_report_lines.specs.declared.sent.Sent.{Sent}
-use Rattle.ptu_report_lines.specs.declared.statement.Statement.{Statement}
+use Rattle.ptu_report_lines.specs.declared.{sent.Sent.{Sent}, statement.Statement.{Statement}}
 use Rattle.ptu_report_lines.specs.declared.statement.Statement.TheVariants as statements
-use Rattle.ptu_world.specs.Deeds.{Deed}
-use Rattle.ptu_world.specs.Report.{is_granted, is_short, text_at}
+use Rattle.ptu_world.specs.{Deeds.{Deed}, Report.{is_granted, is_short, text_at}}
 use Rattle.ptu_world.specs.World.{said_by, sending_said, sent_from}
 use Rattle.ptu_nodes.specs.Noted.{Noted, counted_on, with_deed, with_handed, with_said, with_sent}
 

@@ -1,19 +1,13 @@
 -- That a port of a grandmaster of a script sends all that it is handed.
 use Rattle.std.proofs.Common.{◌≡◌, ◌∙◌, ℕ, ◌*◌, ◌<◌, ◌≤◌, ◌==◌, List, [], ◌∷◌, Bool, true, false, cond, length, map, refl, sym, ap, subst, arith, Result, Ok, Err}
 use Rattle.std.specs.List.{filter}
-use Rattle.std.proofs.lemmas.Bool.{ne_eqb}
-use Rattle.std.proofs.lemmas.List.{length-map}
-use Rattle.std.proofs.lemmas.List.Sorted.{length_permutation}
+use Rattle.std.proofs.lemmas.{Bool.{ne_eqb}, List.{length-map}, List.Sorted.{length_permutation}}
 use Rattle.ptu_units.specs.declared.kind.Kind.{Kind}
-use Rattle.ptu_outside.specs.Departure.{Departure}
-use Rattle.ptu_outside.specs.declared.port.Port.{Ghosts as Ports}
-use Rattle.ptu_outside.specs.HandsOver.{HandsOver}
-use Rattle.ptu_outside.specs.MemoryPort.{IsSure, MemoryPort}
-use Rattle.ptu_outside.proofs.HandsOver.{hands_surely}
-use Rattle.ptu_outside.proofs.Sure.{octets_within, sure_within}
+use Rattle.ptu_outside.specs.{Departure.{Departure}, declared.port.Port.{Ghosts as Ports}}
+use Rattle.ptu_outside.specs.{HandsOver.{HandsOver}, MemoryPort.{IsSure, MemoryPort}}
+use Rattle.ptu_outside.proofs.{HandsOver.{hands_surely}, Sure.{octets_within, sure_within}}
 use Rattle.ptu_header.specs.declared.header.Header.{Header}
-use Rattle.ptu_history.specs.declared.client.Client.{Client}
-use Rattle.ptu_history.specs.Client.{table_of}
+use Rattle.ptu_history.specs.{declared.client.Client.{Client}, Client.{table_of}}
 use Rattle.ptu_history.specs.Events as step
 use Rattle.ptu_history.specs.Events.{Answer}
 use Rattle.ptu_history.proofs.Order.{IsPermutation-in_order}
@@ -22,16 +16,13 @@ use Rattle.ptu_shard.specs.declared.answered.Answered.TheVariants as answers
 use Rattle.ptu_profile.specs.declared.grandmaster.GmConfig.{GmConfig}
 use Rattle.ptu_shard.specs.declared.lease.Row.{Row}
 use Rattle.ptu_shard.specs.Answered.{failed_by, met_by, moment_of_answer, responses, sent_by}
-use Rattle.ptu_shard.specs.Messages.{departure_of, response_of}
-use Rattle.ptu_shard.specs.Table.{Kept}
+use Rattle.ptu_shard.specs.{Messages.{departure_of, response_of}, Table.{Kept}}
 use Rattle.ptu_shard.specs.Turn.{due_messages, due_rows, is_due_row, message_of_row, row_cmp}
 use Rattle.ptu_shard.proofs.SoFar.{length-filter-le}
 use Rattle.ptu_gm_messages.specs.declared.heard.Heard.{Heard}
 use Rattle.ptu_gm_messages.specs.declared.heard.Heard.TheVariants as heard
-use Rattle.ptu_gm_messages.specs.declared.item.Item.{Item}
-use Rattle.ptu_gm_messages.specs.declared.reason.GmReason.{GmReason}
-use Rattle.ptu_gm_messages.specs.Deciding.{answer_to, client_of}
-use Rattle.ptu_gm_messages.specs.Replies.{cancels_to, reply_to}
+use Rattle.ptu_gm_messages.specs.declared.{item.Item.{Item}, reason.GmReason.{GmReason}}
+use Rattle.ptu_gm_messages.specs.{Deciding.{answer_to, client_of}, Replies.{cancels_to, reply_to}}
 use Rattle.ptu_grandmaster.specs.declared.outcome.Outcome.{Outcome}
 use Rattle.ptu_outside.specs.declared.reply.Reply.{Reply}
 use Rattle.ptu_outside.specs.declared.reply.Reply.TheVariants as sending
@@ -43,8 +34,7 @@ use Rattle.ptu_grandmaster.specs.Taking.{IsAnswerTo, OnAsked, OnDelay, OnIgnored
 use Rattle.ptu_nodes.specs.GrandmasterPorts.{HasReplyRoom, HasRoom}
 use Rattle.ptu_nodes.specs.GrandmasterStatements.{IsAnswerSent, IsReplySent, IsSent}
 use Rattle.ptu_nodes.specs.Standing.{AreSure}
-use Rattle.ptu_nodes.proofs.GrandmasterPorts.{table_by, with_by}
-use Rattle.ptu_nodes.proofs.Items.{AreFew}
+use Rattle.ptu_nodes.proofs.{GrandmasterPorts.{table_by, with_by}, Items.{AreFew}}
 use Rattle.ptu_nodes.proofs.Lengths.{cancel_octets, cancels_many, each_of_turn, response_octets, signaling_octets}
 
 -- ---- the ports of a grandmaster

@@ -1,7 +1,6 @@
 -- The ports of a grandmaster of a script.
 use Rattle.std.specs.Prelude.{◌≡◌, ℕ, ◌+◌, ◌≤◌, List, ◌++◌, length}
-use Rattle.ptu_outside.specs.Departure.{Departure}
-use Rattle.ptu_outside.specs.MemoryPort.{MemoryPort, octets_of}
+use Rattle.ptu_outside.specs.{Departure.{Departure}, MemoryPort.{MemoryPort, octets_of}}
 use Rattle.ptu_history.specs.History.{Record}
 use Rattle.ptu_grandmaster.specs.Gm.{KeptGm, StandsFor}
 

@@ -1,11 +1,8 @@
 -- What a journal of a script holds, and what is added to it.
-use Rattle.std.specs.Prelude.{ℕ, ◌+◌, ◌-◌, ◌^◌, min, List, [], ◌++◌, length, map}
-use Rattle.std.specs.List.{count_by}
+use Rattle.std.specs.{Prelude.{ℕ, ◌+◌, ◌-◌, ◌^◌, min, List, [], ◌++◌, length, map}, List.{count_by}}
 use Rattle.ptu_outside.specs.Departure.{Departure}
-use Rattle.ptu_report_lines.specs.declared.sent.Sent.{Sent}
-use Rattle.ptu_report_lines.specs.declared.statement.Statement.{Statement}
-use Rattle.ptu_world.specs.Deeds.{Deed}
-use Rattle.ptu_world.specs.Report.{is_granted, is_short, text_at}
+use Rattle.ptu_report_lines.specs.declared.{sent.Sent.{Sent}, statement.Statement.{Statement}}
+use Rattle.ptu_world.specs.{Deeds.{Deed}, Report.{is_granted, is_short, text_at}}
 use Rattle.ptu_world.specs.World.{sending_said, sent_from}
 
 -- the number of the script's line and the texts of that line; the datagrams that were sent so far, and of how many asks it was

@@ -1,6 +1,5 @@
 -- Numbers that were made out by hand, and what the definitions say of them.
-use Rattle.std.specs.Prelude.{◌≡◌, [], ◌∷◌, pos, negsuc}
-use Rattle.std.specs.Int.{w8, w16, w64}
+use Rattle.std.specs.{Prelude.{◌≡◌, [], ◌∷◌, pos, negsuc}, Int.{w8, w16, w64}}
 use Rattle.ptu_octets.specs.Number.{number_at, octets_of, signed_at, signed_octets, high_nibble_at, low_nibble_at}
 
 -- the first octet is the highest, and what stands before or after is not looked at

@@ -4,8 +4,7 @@ use Rattle.std.specs.List.{AllByRecursion, sum_by, slice_range}
 use Rattle.std.proofs.lemmas.List.{drop-append-le, take-append-le, length-take-le, map-append}
 use Rattle.std.proofs.Math.Seq.{drop-append_seam, take-length}
 use Rattle.std.proofs.lemmas.List.Sums.{sum_by-cons, sum_by-append}
-use Rattle.ptu_outside.specs.declared.mem_port.Slot.{Slot}
-use Rattle.ptu_outside.specs.Departure.{Departure}
+use Rattle.ptu_outside.specs.{declared.mem_port.Slot.{Slot}, Departure.{Departure}}
 use Rattle.ptu_outside.specs.MemoryPort.{IsLaidOut, departure_of, departures, octets_of}
 
 abbrev IsRange : List ℕ → Slot → Type 0

@@ -1,7 +1,6 @@
 -- What is told, read or written in several pieces.
 use Rattle.std.proofs.Common.{◌≡◌, ℕ, ◌+◌, ◌≤◌, List, [], ◌++◌, take, drop, Option, Some, None, refl, ap, sym, append_assoc, inl, inr, arith}
-use Rattle.std.proofs.lemmas.List.{append-nil}
-use Rattle.std.proofs.Math.Seq.{take-add}
+use Rattle.std.proofs.{lemmas.List.{append-nil}, Math.Seq.{take-add}}
 use Rattle.std.specs.Io.KnownBytes.{prepend_known, append_known}
 use Rattle.ptu_outside.specs.Faults.{HasRisenBy}
 

@@ -1,7 +1,6 @@
 -- How texts are handed to a sink: each in one piece, and what is left of it again until all is taken.
 use Rattle.std.specs.Prelude.{◌≡◌, ◌⊎◌, ℕ, ◌<◌, ◌≤◌, List, [], ◌∷◌, ◌++◌, length, drop, Option, Some, None}
-use Rattle.std.specs.List.{flat_map}
-use Rattle.std.specs.Io.KnownBytes.{append_known}
+use Rattle.std.specs.{List.{flat_map}, Io.KnownBytes.{append_known}}
 
 -- the pieces that are told grew by these, where they are still told; where they were not told, they are not told
 abbrev pub Grows : Option (List (List ℕ)) → Option (List (List ℕ)) → List (List ℕ) → Type 0

@@ -1,9 +1,7 @@
 -- What a host in memory holds.
 use Rattle.std.specs.Prelude.{ℕ, Option}
-use Rattle.ptu_outside.specs.declared.opened.Opened.{Opened}
-use Rattle.ptu_outside.specs.declared.endpoint.Endpoint.{Endpoint}
-use Rattle.ptu_outside.specs.MemoryPort.{MemoryPort}
-use Rattle.ptu_outside.specs.MemoryClock.{MemoryClock}
+use Rattle.ptu_outside.specs.declared.{opened.Opened.{Opened}, endpoint.Endpoint.{Endpoint}}
+use Rattle.ptu_outside.specs.{MemoryPort.{MemoryPort}, MemoryClock.{MemoryClock}}
 
 -- the ports and clocks that it will open, those that it was given back last, where it opened last, and how many
 -- faults there have been

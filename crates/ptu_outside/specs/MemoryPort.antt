@@ -1,8 +1,7 @@
 -- What a port in memory holds.
 use Rattle.std.specs.Prelude.{ℕ, ◌≡◌, ◌≤◌, ◌+◌, ◌-◌, List, [], length, map, sum_by, slice_range}
 use Rattle.std.specs.List.{AllByRecursion}
-use Rattle.ptu_outside.specs.declared.arrival.Arrival.{Arrival}
-use Rattle.ptu_outside.specs.declared.mem_port.Slot.{Slot}
+use Rattle.ptu_outside.specs.declared.{arrival.Arrival.{Arrival}, mem_port.Slot.{Slot}}
 use Rattle.ptu_outside.specs.Departure.{Departure}
 
 -- the datagrams that were sent, with the room in all for datagrams and for their octets; those that

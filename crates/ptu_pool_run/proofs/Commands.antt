@@ -1,23 +1,18 @@
 -- What a command makes of a grandmaster and its pools.
 use Rattle.std.proofs.Common.{◌≡◌, ◌∙◌, ℕ, ◌-◌, ◌<◌, ◌≤◌, All, true, false, cond, List, [], ◌∷◌, ◌++◌, length, map, Option, Some, None, IfSome, refl, sym, ap, subst, arith}
-use Rattle.std.proofs.lemmas.Bool.{le-leb, lt-leb}
-use Rattle.std.proofs.lemmas.List.{map-append}
+use Rattle.std.proofs.lemmas.{Bool.{le-leb, lt-leb}, List.{map-append}}
 use Rattle.ptu_outside.specs.MemoryPort.{MemoryPort}
 use Rattle.ptu_profile.specs.Limits.{IsCapacity}
 use Rattle.ptu_report.specs.Rules.{IsOutcome, Outcome, Refuses}
 use Rattle.ptu_script.specs.declared.command.GrandmasterSetup.{GrandmasterSetup}
 use Rattle.ptu_script.specs.Limits.{IsGrandmasterWithin}
-use Rattle.ptu_pools.specs.declared.pool.Pool.{Pool}
-use Rattle.ptu_pools.specs.Events.{PoolEvent, Turned}
-use Rattle.ptu_pools.specs.Refusal.{Share}
+use Rattle.ptu_pools.specs.{declared.pool.Pool.{Pool}, Events.{PoolEvent, Turned}, Refusal.{Share}}
 use Rattle.ptu_pools.specs.Standing.{KeptPools}
 use Rattle.ptu_pool_run.specs.declared.cause.PoolCause.{PoolCause}
 use Rattle.ptu_pool_run.specs.declared.cause.PoolCause.TheVariants.{Number, Order}
-use Rattle.ptu_pool_run.specs.Output.{line_text}
-use Rattle.ptu_pool_run.specs.declared.pouring.Pouring.{Pouring}
+use Rattle.ptu_pool_run.specs.{Output.{line_text}, declared.pouring.Pouring.{Pouring}}
 use Rattle.ptu_pool_run.specs.Reading.{At, Told, behind_pools, events_of, happened, set_up, sold, sold_by, turned}
-use Rattle.ptu_pool_run.specs.Selling.{refusal_of}
-use Rattle.ptu_pool_run.specs.Sending.{lines_of_event}
+use Rattle.ptu_pool_run.specs.{Selling.{refusal_of}, Sending.{lines_of_event}}
 use Rattle.ptu_pool_run.specs.Standing.{AreSold, HasHappened, HaveSold, StandsFor, has_events, pools_of}
 use Rattle.ptu_pool_run.proofs.Sold.{none_share}
 

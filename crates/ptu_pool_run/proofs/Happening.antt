@@ -1,34 +1,26 @@
 -- What has happened to pools at a line.
 use Rattle.std.proofs.Common.{◌≡◌, ◌+◌, ◌*◌, ◌∙◌, ◌⊎◌, All, inl, inr, ℕ, ◌≤◌, true, false, List, [], ◌∷◌, ◌++◌, length, map, position, set, slice_get, Option, Some, None, Result, Ok, Err, refl, sym, ap, subst, arith}
 use Rattle.std.specs.Result.{OnOk}
-use Rattle.std.proofs.lemmas.Bool.{both_ways, cases_eq}
-use Rattle.std.proofs.lemmas.Simd.{map-map}
-use Rattle.ptu_outside.specs.Departure.{Departure}
-use Rattle.ptu_outside.specs.declared.port.Port.{Ghosts as Ports}
+use Rattle.std.proofs.lemmas.{Bool.{both_ways, cases_eq}, Simd.{map-map}}
+use Rattle.ptu_outside.specs.{Departure.{Departure}, declared.port.Port.{Ghosts as Ports}}
 use Rattle.ptu_outside.specs.MemoryPort.{IsSure, MemoryPort}
 use Rattle.ptu_shard.specs.declared.answered.Turned.{Turned as TableTurned}
 use Rattle.ptu_profile.specs.declared.grandmaster.GmConfig.{GmConfig}
 use Rattle.ptu_gm_messages.specs.Items.{heard_in}
-use Rattle.ptu_grandmaster.specs.declared.outcome.Taken.{Taken}
-use Rattle.ptu_grandmaster.specs.Gm.{KeptGm, StandsFor, table_at}
-use Rattle.ptu_pools.specs.declared.pool.Pool.{Pool}
-use Rattle.ptu_pools.specs.Changes.{TookDatagram, TookTurn}
-use Rattle.ptu_pools.specs.Events.{PoolEvent, Came, Turned}
-use Rattle.ptu_pools.specs.Pool.{AreApart, is_in, is_in_at}
+use Rattle.ptu_grandmaster.specs.{declared.outcome.Taken.{Taken}, Gm.{KeptGm, StandsFor, table_at}}
+use Rattle.ptu_pools.specs.{declared.pool.Pool.{Pool}, Changes.{TookDatagram, TookTurn}}
+use Rattle.ptu_pools.specs.{Events.{PoolEvent, Came, Turned}, Pool.{AreApart, is_in, is_in_at}}
 use Rattle.ptu_pools.specs.Refusal.{Share}
 use Rattle.ptu_profile.specs.Limits.{IsCapacity}
 use Rattle.ptu_pools.specs.Standing.{ChangesOne, KeptPools, StandFor}
 use Rattle.ptu_pools.proofs.Places.{found_in, none_in, one_place}
 use Rattle.ptu_pools.proofs.Standing.{get-set_other, get-set_same}
 use Rattle.ptu_script.specs.declared.command.GrandmasterSetup.{GrandmasterSetup}
-use Rattle.ptu_world.specs.Deeds.{Grandmaster}
-use Rattle.ptu_world.specs.Grandmasters.{datagram_deed, turn_deed}
+use Rattle.ptu_world.specs.{Deeds.{Grandmaster}, Grandmasters.{datagram_deed, turn_deed}}
 use Rattle.ptu_nodes.specs.GrandmasterPorts.{HasReplyRoom, HasRoom, in_ports}
-use Rattle.ptu_nodes.specs.GrandmasterStatements.{IsSent}
-use Rattle.ptu_nodes.specs.Standing.{AreIdle, AreSure, config_of}
+use Rattle.ptu_nodes.specs.{GrandmasterStatements.{IsSent}, Standing.{AreIdle, AreSure, config_of}}
 use Rattle.ptu_nodes.proofs.GrandmasterReceipts.{sends_heard, told_all}
-use Rattle.ptu_nodes.proofs.GrandmasterTurns.{sends_turned}
-use Rattle.ptu_nodes.proofs.Items.{few_heard}
+use Rattle.ptu_nodes.proofs.{GrandmasterTurns.{sends_turned}, Items.{few_heard}}
 use Rattle.ptu_nodes.proofs.Surely.{surely_taken, surely_turned}
 use Rattle.ptu_pool_run.specs.declared.output.PoolLine.TheVariants as lines
 use Rattle.ptu_pool_run.specs.Output.{line_text}

@@ -6,8 +6,7 @@ use Rattle.ptu_outside.specs.MemoryPort.{MemoryPort}
 use Rattle.ptu_profile.specs.Limits.{IsCapacity}
 use Rattle.ptu_grandmaster.specs.Gm.{KeptGm}
 use Rattle.ptu_script.specs.declared.command.GrandmasterSetup.{GrandmasterSetup}
-use Rattle.ptu_pools.specs.declared.pool.Pool.{Pool}
-use Rattle.ptu_pools.specs.Refusal.{Share}
+use Rattle.ptu_pools.specs.{declared.pool.Pool.{Pool}, Refusal.{Share}}
 use Rattle.ptu_pools.specs.Standing.{KeptPools, StandFor, ports_of_all}
 use Rattle.ptu_nodes.specs.Standing.{AreIdle, AreSure, IsIdle, IsUnfailing, config_of}
 use Rattle.ptu_pool_run.specs.Standing.{AreSold}

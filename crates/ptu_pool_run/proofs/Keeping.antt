@@ -6,25 +6,19 @@ use Rattle.ptu_report.specs.declared.ending.Ending.{Ending}
 use Rattle.ptu_report.specs.Rules.{Goes, Outcome, Refuses, closing, ending_after, ending_at, texts_at, texts_of, texts_until}
 use Rattle.ptu_script.specs.declared.cause.Cause.{Cause}
 use Rattle.ptu_script.specs.declared.command.GrandmasterSetup.{GrandmasterSetup}
-use Rattle.ptu_pools.specs.declared.pool.Pool.{Pool}
-use Rattle.ptu_pools.specs.Events.{PoolEvent, Came, Turned}
-use Rattle.ptu_pools.specs.Pool.{AreApart}
-use Rattle.ptu_pools.specs.Refusal.{Share}
+use Rattle.ptu_pools.specs.{declared.pool.Pool.{Pool}, Events.{PoolEvent, Came, Turned}}
+use Rattle.ptu_pools.specs.{Pool.{AreApart}, Refusal.{Share}}
 use Rattle.ptu_pools.proofs.Whole.{count_whole, held_own, held_whole}
 use Rattle.ptu_nodes.specs.Standing.{config_of}
-use Rattle.ptu_pool_run.specs.declared.cause.PoolCause.{PoolCause}
-use Rattle.ptu_pool_run.specs.declared.cause.PoolCause.TheVariants.{Number}
+use Rattle.ptu_pool_run.specs.declared.cause.{PoolCause.{PoolCause}, PoolCause.TheVariants.{Number}}
 use Rattle.ptu_pool_run.specs.declared.command.PoolCommand.{PoolCommand}
 use Rattle.ptu_pool_run.specs.declared.command.PoolCommand.TheVariants as commands
-use Rattle.ptu_pool_run.specs.Command.{command_of}
-use Rattle.ptu_pool_run.specs.Output.{line_text}
+use Rattle.ptu_pool_run.specs.{Command.{command_of}, Output.{line_text}}
 use Rattle.ptu_pool_run.specs.Poured.{end_of, last_line, lines_after, lines_by_setup, lines_of_pool, own_at, own_lines_by, poured_texts, told_at, told_by, told_until}
 use Rattle.ptu_pool_run.specs.Promises.{KeepsPools, SayAlike}
 use Rattle.ptu_pool_run.specs.Reading.{At, Told, events_of, happened, opening, outcome_by, rules, sold_by, step, turned}
-use Rattle.ptu_pool_run.specs.Selling.{refusal_of}
-use Rattle.ptu_pool_run.specs.Sending.{lines_of_event}
-use Rattle.ptu_pool_run.proofs.OutputLines.{own_of}
-use Rattle.ptu_pool_run.proofs.Sold.{none_share, sold_share}
+use Rattle.ptu_pool_run.specs.{Selling.{refusal_of}, Sending.{lines_of_event}}
+use Rattle.ptu_pool_run.proofs.{OutputLines.{own_of}, Sold.{none_share, sold_share}}
 
 -- before the grandmaster is set up there is nothing; then its pools share its capacity
 abbrev pub AreSound : Option GrandmasterSetup → List Pool → List At → Type 0

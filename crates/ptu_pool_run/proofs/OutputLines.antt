@@ -1,8 +1,7 @@
 -- What is written of one pool is said by its own events.
 use Rattle.std.proofs.Common.{◌≡◌, ◌∙◌, ◌⊎◌, inl, inr, ℕ, ◌+◌, Bool, true, false, cond, eqb, List, [], ◌∷◌, ◌++◌, map, filter, position, Option, Some, None, refl, sym, ap, ap₂, arith}
 use Rattle.std.proofs.lemmas.Bool.{cases_Bool, eq-eqb, eqb-true, ne_eqb, both_ways}
-use Rattle.std.proofs.lemmas.List.{append-nil}
-use Rattle.std.proofs.lemmas.List.Elements.{filter-append}
+use Rattle.std.proofs.lemmas.{List.{append-nil}, List.Elements.{filter-append}}
 use Rattle.ptu_outside.specs.Departure.{Departure}
 use Rattle.ptu_grandmaster.specs.Driven.{driven_history}
 use Rattle.ptu_report.specs.declared.ending.Ending.{Ending}
@@ -13,8 +12,7 @@ use Rattle.ptu_pools.specs.Events.{PoolEvent, Came, Turned, gm_event, is_own, ow
 use Rattle.ptu_pools.specs.Pool.{AreApart, capacity_at, is_in, is_in_at}
 use Rattle.ptu_pools.proofs.Places.{found_mine, none_in}
 use Rattle.ptu_nodes.specs.Standing.{config_of}
-use Rattle.ptu_pool_run.specs.declared.cause.PoolCause.{PoolCause}
-use Rattle.ptu_pool_run.specs.declared.output.PoolLine.{PoolLine}
+use Rattle.ptu_pool_run.specs.declared.{cause.PoolCause.{PoolCause}, output.PoolLine.{PoolLine}}
 use Rattle.ptu_pool_run.specs.Reading.{At}
 use Rattle.ptu_pool_run.specs.Poured.{is_line_of, last_line, lines_after, lines_by_setup, own_at, own_lines, own_lines_by}
 use Rattle.ptu_pool_run.specs.Sending.{grandmaster_of, lines_by, lines_of_event, sends_at, sent_line}

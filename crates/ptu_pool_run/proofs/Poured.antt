@@ -2,15 +2,11 @@
 use Rattle.std.proofs.Common.{ℕ, List, Option, Result, subst}
 use Rattle.ptu_lines.specs.Script.{script_lines}
 use Rattle.ptu_outside.specs.Handing.{HasPut}
-use Rattle.ptu_report.specs.declared.ending.Ending.{Ending}
-use Rattle.ptu_report.specs.declared.fault.RunFault.{RunFault}
-use Rattle.ptu_report.specs.Reported.{HasReported}
-use Rattle.ptu_report.specs.Runs.{IfWritten}
+use Rattle.ptu_report.specs.declared.{ending.Ending.{Ending}, fault.RunFault.{RunFault}}
+use Rattle.ptu_report.specs.{Reported.{HasReported}, Runs.{IfWritten}}
 use Rattle.ptu_report.proofs.Answered.{written_weaker}
-use Rattle.ptu_pool_run.specs.declared.cause.PoolCause.{PoolCause}
-use Rattle.ptu_pool_run.specs.Answers.{HasPoured}
-use Rattle.ptu_pool_run.specs.Poured.{poured_texts}
-use Rattle.ptu_pool_run.specs.Reading.{opening, rules}
+use Rattle.ptu_pool_run.specs.{declared.cause.PoolCause.{PoolCause}, Answers.{HasPoured}}
+use Rattle.ptu_pool_run.specs.{Poured.{poured_texts}, Reading.{opening, rules}}
 use Rattle.ptu_pool_run.proofs.Keeping.{texts_of_script}
 
 pub poured_whole : {K : Type 0} (written : K → Option (List ℕ)) (handed : K → Option (List (List ℕ))) (old new : K) (script : List ℕ) (ending : Ending PoolCause)

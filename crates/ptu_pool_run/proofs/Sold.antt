@@ -8,8 +8,7 @@ use Rattle.std.proofs.lemmas.Option.{get_or_from_slice_get, slice_get-get_or}
 use Rattle.std.proofs.lemmas.List.Sums.{sum_by-append}
 use Rattle.ptu_pools.specs.declared.fault.PoolsFault.{PoolsFault}
 use Rattle.ptu_pools.specs.declared.fault.PoolsFault.TheVariants as faults
-use Rattle.ptu_pools.specs.declared.pool.Pool.{Pool}
-use Rattle.ptu_pools.specs.Pool.{AreApart, is_network, meets}
+use Rattle.ptu_pools.specs.{declared.pool.Pool.{Pool}, Pool.{AreApart, is_network, meets}}
 use Rattle.ptu_pools.specs.Refusal.{IsRefused, Share, capacities, first_wrong}
 use Rattle.ptu_pools.proofs.Apart.{NoneBelow, all_apart, first_found, none_found, none_passes}
 use Rattle.ptu_pools.proofs.Refused.{one_refused}

@@ -1,14 +1,10 @@
 -- The datagrams of ports are told one after the other.
 use Rattle.std.proofs.Common.{◌≡◌, ◌∙◌, ℕ, suc, ◌+◌, ◌-◌, ◌<◌, ◌≤◌, List, [], ◌∷◌, ◌++◌, length, drop, slice_get, Some, refl, sym, ap, subst, append_assoc, add-one, arith, drop-cons, length-append}
-use Rattle.std.proofs.lemmas.List.{map-append}
-use Rattle.std.proofs.lemmas.Option.{slice_get_within, get_or_from_slice_get}
-use Rattle.ptu_outside.specs.Departure.{Departure}
-use Rattle.ptu_outside.specs.MemoryPort.{MemoryPort}
+use Rattle.std.proofs.lemmas.{List.{map-append}, Option.{slice_get_within, get_or_from_slice_get}}
+use Rattle.ptu_outside.specs.{Departure.{Departure}, MemoryPort.{MemoryPort}}
 use Rattle.ptu_grandmaster.specs.Gm.{KeptGm, port_at, with_port}
-use Rattle.ptu_pool_run.specs.Output.{line_text}
-use Rattle.ptu_pool_run.specs.Sending.{sent_line}
-use Rattle.ptu_nodes.specs.GrandmasterPorts.{in_ports}
-use Rattle.ptu_nodes.specs.Standing.{AreIdle}
+use Rattle.ptu_pool_run.specs.{Output.{line_text}, Sending.{sent_line}}
+use Rattle.ptu_nodes.specs.{GrandmasterPorts.{in_ports}, Standing.{AreIdle}}
 use Rattle.ptu_pool_run.specs.Ports.{sent_texts}
 
 -- what is left of a list from the place of one of its elements on

@@ -1,9 +1,7 @@
 -- What the answer of the program says.
 use Rattle.std.specs.Prelude.{ℕ, List, Option}
-use Rattle.ptu_report.specs.declared.ending.Ending.{Ending}
-use Rattle.ptu_report.specs.Reported.{HasWritten}
-use Rattle.ptu_pool_run.specs.declared.cause.PoolCause.{PoolCause}
-use Rattle.ptu_pool_run.specs.Poured.{end_of, poured_texts}
+use Rattle.ptu_report.specs.{declared.ending.Ending.{Ending}, Reported.{HasWritten}}
+use Rattle.ptu_pool_run.specs.{declared.cause.PoolCause.{PoolCause}, Poured.{end_of, poured_texts}}
 
 -- the whole output on the script was written, each line handed over in one piece, and it ends so
 abbrev pub HasPoured : {K : Type 0} → (K → Option (List ℕ)) → (K → Option (List (List ℕ))) → K → K → List ℕ → Ending PoolCause → Type 0

@@ -1,9 +1,7 @@
 -- Why a line of a script of pools is refused, and how that is written (the project's own choice).
-use Rattle.std.specs.Prelude.{ℕ, List, ◌++◌, codes}
-use Rattle.std.specs.Fmt.{decimal}
+use Rattle.std.specs.{Prelude.{ℕ, List, ◌++◌, codes}, Fmt.{decimal}}
 use Rattle.ptu_lines.specs.declared.cause.LineCause.{LineCause}
-use Rattle.ptu_script.specs.Cause.{cause_of_line as script_cause}
-use Rattle.ptu_script.specs.declared.cause.Cause.{Cause}
+use Rattle.ptu_script.specs.{Cause.{cause_of_line as script_cause}, declared.cause.Cause.{Cause}}
 use Rattle.ptu_script.specs.declared.cause.Cause.TheVariants as scripts
 use Rattle.ptu_pool_run.specs.declared.cause.PoolCause.{PoolCause}
 use Rattle.ptu_pool_run.specs.declared.cause.PoolCause.TheVariants.{Size, Long, Text, Word, Count, Field, Order, Net, Full, Overlap, Over, Number}

@@ -1,8 +1,7 @@
 -- What a line of a script of pools commands, or why it is refused. The forms are the project's own choice.
 use Rattle.std.specs.Prelude.{◌≡◌, ℕ, ◌==◌, if◌then◌else◌, List, [], length, Option, Some, None, Result, Ok, Err, unwrap_or}
 use Rattle.ptu_lines.specs.Words.{words_of, word_of, ip_of, octets_of}
-use Rattle.ptu_script.specs.declared.cause.Cause.{Cause}
-use Rattle.ptu_script.specs.declared.cause.Cause.TheVariants.{Word, Count}
+use Rattle.ptu_script.specs.declared.cause.{Cause.{Cause}, Cause.TheVariants.{Word, Count}}
 use Rattle.ptu_script.specs.Fields.{◌>>=◌, field, from_to}
 use Rattle.ptu_script.specs.Command.{grandmaster_in, is_comment, moment_of}
 use Rattle.ptu_pool_run.specs.declared.command.PoolCommand.{PoolCommand}

@@ -1,11 +1,9 @@
 -- The lines of output on a script of pools. The words are the project's own choice.
-use Rattle.std.specs.Prelude.{ℕ, List, [], ◌∷◌, ◌++◌, codes}
-use Rattle.std.specs.Fmt.{decimal}
+use Rattle.std.specs.{Prelude.{ℕ, List, [], ◌∷◌, ◌++◌, codes}, Fmt.{decimal}}
 use Rattle.hex.specs.Hex.{encode_lower}
 use Rattle.ptu_texts.specs.Texts.{address_text}
 use Rattle.ptu_report_lines.specs.Statements.{channel_text, words_text}
-use Rattle.ptu_pool_run.specs.Cause.{text_of}
-use Rattle.ptu_pool_run.specs.declared.cause.PoolCause.{PoolCause}
+use Rattle.ptu_pool_run.specs.{Cause.{text_of}, declared.cause.PoolCause.{PoolCause}}
 use Rattle.ptu_pool_run.specs.declared.output.PoolLine.{PoolLine}
 use Rattle.ptu_pool_run.specs.declared.output.PoolLine.TheVariants.{Sent, Stranger, Bad, End}
 

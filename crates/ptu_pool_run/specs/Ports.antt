@@ -1,11 +1,9 @@
 -- The ports of pools in memory, and what is told of what was sent by them.
 use Rattle.std.specs.Prelude.{◌≡◌, ◌≢◌, ℕ, List, map, Some, slice_get}
-use Rattle.ptu_outside.specs.Departure.{Departure}
-use Rattle.ptu_outside.specs.MemoryPort.{MemoryPort}
+use Rattle.ptu_outside.specs.{Departure.{Departure}, MemoryPort.{MemoryPort}}
 use Rattle.ptu_profile.specs.declared.grandmaster.GmConfig.{GmConfig}
 use Rattle.ptu_grandmaster.specs.Gm.{KeptGm}
-use Rattle.ptu_pools.specs.Events.{PoolEvent}
-use Rattle.ptu_pools.specs.Standing.{KeptPools, StandFor}
+use Rattle.ptu_pools.specs.{Events.{PoolEvent}, Standing.{KeptPools, StandFor}}
 use Rattle.ptu_pool_run.specs.Output.{line_text}
 use Rattle.ptu_nodes.specs.Standing.{AreIdle, AreSure}
 use Rattle.ptu_pool_run.specs.Sending.{sent_line}

@@ -5,14 +5,11 @@ use Rattle.ptu_lines.specs.Script.{ScriptLine, Whole, Refused, script_lines}
 use Rattle.ptu_report.specs.declared.ending.Ending.{Ending}
 use Rattle.ptu_report.specs.declared.ending.Ending.TheVariants as endings
 use Rattle.ptu_report.specs.Rules.{Outcome, Goes, Refuses, ending_of}
-use Rattle.ptu_pools.specs.declared.pool.Pool.{Pool}
-use Rattle.ptu_pools.specs.Events.{PoolEvent, is_own}
+use Rattle.ptu_pools.specs.{declared.pool.Pool.{Pool}, Events.{PoolEvent, is_own}}
 use Rattle.ptu_script.specs.declared.command.GrandmasterSetup.{GrandmasterSetup}
-use Rattle.ptu_pool_run.specs.declared.cause.PoolCause.{PoolCause}
-use Rattle.ptu_pool_run.specs.declared.output.PoolLine.{PoolLine}
+use Rattle.ptu_pool_run.specs.declared.{cause.PoolCause.{PoolCause}, output.PoolLine.{PoolLine}}
 use Rattle.ptu_pool_run.specs.declared.output.PoolLine.TheVariants.{Sent, Stranger, Bad, End}
-use Rattle.ptu_pool_run.specs.Output.{line_text}
-use Rattle.ptu_pool_run.specs.Reading.{At, Told, opening, rules}
+use Rattle.ptu_pool_run.specs.{Output.{line_text}, Reading.{At, Told, opening, rules}}
 use Rattle.ptu_pool_run.specs.Sending.{grandmaster_of, lines_of_event, sends_at, sent_line}
 
 -- ---- what a script says

@@ -2,10 +2,8 @@
 use Rattle.std.specs.Prelude.{◌≡◌, ℕ, ◌*◌, ◌≤◌, List, Some}
 use Rattle.ptu_lines.specs.Script.{script_lines}
 use Rattle.ptu_report.specs.Rules.{texts_of}
-use Rattle.ptu_history.specs.Held.{count, held}
-use Rattle.ptu_history.specs.History.{Record}
-use Rattle.ptu_pools.specs.Events.{over_all, pool_history}
-use Rattle.ptu_pools.specs.Pool.{capacity_at}
+use Rattle.ptu_history.specs.{Held.{count, held}, History.{Record}}
+use Rattle.ptu_pools.specs.{Events.{over_all, pool_history}, Pool.{capacity_at}}
 use Rattle.ptu_script.specs.declared.command.GrandmasterSetup.{GrandmasterSetup}
 use Rattle.ptu_nodes.specs.Standing.{config_of}
 use Rattle.ptu_pool_run.specs.Reading.{Told, events_of, opening, rules}

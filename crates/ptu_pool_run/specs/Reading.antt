@@ -3,18 +3,14 @@ use Rattle.std.specs.Prelude.{ℕ, ◌-◌, nat_le, if◌then◌else◌, List, [
 use Rattle.ptu_report.specs.Rules.{Rules, Outcome, Goes, Refuses}
 use Rattle.ptu_script.specs.declared.cause.Cause.{Cause}
 use Rattle.ptu_script.specs.declared.command.GrandmasterSetup.{GrandmasterSetup}
-use Rattle.ptu_pools.specs.declared.pool.Pool.{Pool}
-use Rattle.ptu_pools.specs.Events.{PoolEvent, Came, Turned}
+use Rattle.ptu_pools.specs.{declared.pool.Pool.{Pool}, Events.{PoolEvent, Came, Turned}}
 use Rattle.ptu_pool_run.specs.declared.cause.PoolCause.{PoolCause}
 use Rattle.ptu_pool_run.specs.declared.cause.PoolCause.TheVariants.{Order, Number}
 use Rattle.ptu_pool_run.specs.declared.command.PoolCommand.{PoolCommand}
 use Rattle.ptu_pool_run.specs.declared.command.PoolCommand.TheVariants as commands
 use Rattle.ptu_pool_run.specs.declared.output.PoolLine.TheVariants.{Bad, End}
-use Rattle.ptu_pool_run.specs.Cause.{cause_of_line, cause_of_script}
-use Rattle.ptu_pool_run.specs.Command.{command_of}
-use Rattle.ptu_pool_run.specs.Output.{line_text}
-use Rattle.ptu_pool_run.specs.Sending.{lines_of_event}
-use Rattle.ptu_pool_run.specs.Selling.{refusal_of}
+use Rattle.ptu_pool_run.specs.{Cause.{cause_of_line, cause_of_script}, Command.{command_of}}
+use Rattle.ptu_pool_run.specs.{Output.{line_text}, Sending.{lines_of_event}, Selling.{refusal_of}}
 
 -- an event with the number of its line
 abbrev pub At : Type 0

@@ -1,14 +1,11 @@
 -- What the grandmaster of each pool sends at an event, and the lines of output on it: what the core does after the pool's own
 -- events, from the empty history and with the pool's own capacity (the project's own choice).
-use Rattle.std.specs.Prelude.{ℕ, ◌+◌, List, ◌∷◌, [], map, Option, Some, None}
-use Rattle.std.specs.List.{position}
+use Rattle.std.specs.{Prelude.{ℕ, ◌+◌, List, ◌∷◌, [], map, Option, Some, None}, List.{position}}
 use Rattle.ptu_outside.specs.Departure.{Departure}
-use Rattle.ptu_pools.specs.declared.pool.Pool.{Pool}
-use Rattle.ptu_pools.specs.Pool.{capacity_at, is_in}
+use Rattle.ptu_pools.specs.{declared.pool.Pool.{Pool}, Pool.{capacity_at, is_in}}
 use Rattle.ptu_pools.specs.Events.{PoolEvent, Came, Turned, pool_history}
 use Rattle.ptu_script.specs.declared.command.GrandmasterSetup.{GrandmasterSetup}
-use Rattle.ptu_world.specs.Deeds.{Grandmaster}
-use Rattle.ptu_world.specs.Grandmasters.{datagram_deed, turn_deed}
+use Rattle.ptu_world.specs.{Deeds.{Grandmaster}, Grandmasters.{datagram_deed, turn_deed}}
 use Rattle.ptu_nodes.specs.Standing.{config_of}
 use Rattle.ptu_pool_run.specs.declared.output.PoolLine.{PoolLine}
 use Rattle.ptu_pool_run.specs.declared.output.PoolLine.TheVariants.{Sent, Stranger}

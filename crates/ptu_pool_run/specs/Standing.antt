@@ -2,17 +2,13 @@
 use Rattle.std.specs.Prelude.{◌≡◌, ◌≤◌, ℕ, List, [], ◌∷◌, ◌++◌, length, map, All, Bool, true, false, Option, Some, None, IfSome}
 use Rattle.ptu_outside.specs.MemoryPort.{MemoryPort}
 use Rattle.ptu_profile.specs.Limits.{IsCapacity}
-use Rattle.ptu_pools.specs.declared.pool.Pool.{Pool}
-use Rattle.ptu_pools.specs.Events.{PoolEvent}
-use Rattle.ptu_pools.specs.Refusal.{Share}
+use Rattle.ptu_pools.specs.{declared.pool.Pool.{Pool}, Events.{PoolEvent}, Refusal.{Share}}
 use Rattle.ptu_pools.specs.Standing.{KeptPools, StandFor}
 use Rattle.ptu_script.specs.declared.command.GrandmasterSetup.{GrandmasterSetup}
 use Rattle.ptu_script.specs.Limits.{IsGrandmasterWithin}
 use Rattle.ptu_nodes.specs.Standing.{config_of}
-use Rattle.ptu_pool_run.specs.declared.pouring.Pouring.{Pouring}
-use Rattle.ptu_pool_run.specs.Reading.{At, Told, events_of}
-use Rattle.ptu_pool_run.specs.Output.{line_text}
-use Rattle.ptu_pool_run.specs.Sending.{lines_of_event}
+use Rattle.ptu_pool_run.specs.{declared.pouring.Pouring.{Pouring}, Reading.{At, Told, events_of}}
+use Rattle.ptu_pool_run.specs.{Output.{line_text}, Sending.{lines_of_event}}
 use Rattle.ptu_pool_run.specs.Ports.{AreAllIdle, AreAllSure}
 
 -- there was an event

@@ -4,8 +4,7 @@ use Rattle.std.specs.Option.{option_map_or}
 use Rattle.std.proofs.lemmas.List.Elements.{filter-append}
 use Rattle.ptu_profile.specs.declared.grandmaster.GmConfig.{GmConfig}
 use Rattle.ptu_grandmaster.specs.Driven.{driven_history}
-use Rattle.ptu_pools.specs.declared.pool.Pool.{Pool}
-use Rattle.ptu_pools.specs.Pool.{capacity_at, is_in}
+use Rattle.ptu_pools.specs.{declared.pool.Pool.{Pool}, Pool.{capacity_at, is_in}}
 use Rattle.ptu_pools.specs.Events.{PoolEvent, Came, Turned, gm_event, is_own, own, pool_history}
 
 pub same_own : (config : GmConfig) (pools : List Pool) (i : ℕ) (one other : List PoolEvent) → own pools i one ≡ own pools i other →

@@ -2,14 +2,11 @@
 use Rattle.std.proofs.Common.{◌≡◌, ℕ, zero, suc, ◌+◌, ◌*◌, ◌<◌, ◌≤◌, List, [], ◌∷◌, ◌++◌, length, slice_get, Option, Some, None, refl, sym, ap, subst, ◌∙◌, arith, length-append, IsSome, MatchOption}
 use Rattle.std.proofs.lemmas.List.{append-nil}
 use Rattle.ptu_profile.specs.declared.grandmaster.GmConfig.{GmConfig}
-use Rattle.ptu_history.specs.Core.{core_history}
-use Rattle.ptu_history.specs.History.{Record}
+use Rattle.ptu_history.specs.{Core.{core_history}, History.{Record}}
 use Rattle.ptu_history.proofs.Histories.{history-none}
 use Rattle.ptu_gm_messages.specs.Deciding.{opened_with}
 use Rattle.ptu_grandmaster.specs.Gm.{KeptGm, StandsFor}
-use Rattle.ptu_pools.specs.declared.pool.Pool.{Pool}
-use Rattle.ptu_pools.specs.Pool.{capacity_at}
-use Rattle.ptu_pools.specs.Events.{pool_history}
+use Rattle.ptu_pools.specs.{declared.pool.Pool.{Pool}, Pool.{capacity_at}, Events.{pool_history}}
 use Rattle.ptu_pools.specs.Making.{AreFresh}
 use Rattle.ptu_pools.specs.Standing.{KeptPools, StandFor, ports_of, ports_of_all}
 

@@ -4,8 +4,7 @@ use Rattle.std.specs.Option.{option_map_or}
 use Rattle.std.proofs.lemmas.Bool.{cases_Bool, cases_eq, cases_order, eq-eqb, ne_eqb}
 use Rattle.std.proofs.lemmas.List.Quantifiers.{position-Some}
 use Rattle.std.proofs.lemmas.Option.{get_or_from_slice_get, slice_get-get_or, slice_get_within}
-use Rattle.ptu_pools.specs.declared.pool.Pool.{Pool}
-use Rattle.ptu_pools.specs.Pool.{AreApart, is_in, is_in_at}
+use Rattle.ptu_pools.specs.{declared.pool.Pool.{Pool}, Pool.{AreApart, is_in, is_in_at}}
 use Rattle.ptu_pools.proofs.Apart.{none_passes}
 
 -- the address is in the pool that stands at this place

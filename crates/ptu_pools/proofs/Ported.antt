@@ -4,8 +4,7 @@ use Rattle.std.proofs.lemmas.Option.{slice_get-get_or}
 use Rattle.ptu_history.specs.History.{Record}
 use Rattle.ptu_profile.specs.declared.grandmaster.GmConfig.{GmConfig}
 use Rattle.ptu_grandmaster.specs.Gm.{KeptGm, StandsFor, with_port}
-use Rattle.ptu_pools.specs.Events.{PoolEvent}
-use Rattle.ptu_pools.specs.Ported.{with_port_at, with_port_of}
+use Rattle.ptu_pools.specs.{Events.{PoolEvent}, Ported.{with_port_at, with_port_of}}
 use Rattle.ptu_pools.specs.Standing.{KeptPools, StandFor}
 use Rattle.ptu_pools.proofs.Standing.{stand-still}
 

@@ -2,8 +2,7 @@
 use Rattle.std.proofs.Common.{◌≡◌, ℕ, ◌<◌, ◌≤◌, List, Option, Some, None, refl, sym, ap, ap₂, subst, ◌∙◌, arith}
 use Rattle.ptu_pools.specs.declared.fault.PoolsFault.{PoolsFault}
 use Rattle.ptu_pools.specs.declared.fault.PoolsFault.TheVariants.{Net, Overlap as Overlapping, Over, OutOfMemory}
-use Rattle.ptu_pools.specs.declared.pool.Pool.{Pool}
-use Rattle.ptu_pools.specs.Pool.{AreApart, Overlap}
+use Rattle.ptu_pools.specs.{declared.pool.Pool.{Pool}, Pool.{AreApart, Overlap}}
 use Rattle.ptu_pools.specs.Refusal.{IsFirstOverlap, IsRefused, Share, first_wrong}
 
 clash : {A : Type 0} (o : Option ℕ) (i : ℕ) → o ≡ None → o ≡ Some i → A

@@ -1,18 +1,14 @@
 -- Each pool goes on with its own events.
 use Rattle.std.proofs.Common.{◌≡◌, ◌≢◌, ◌⊎◌, ℕ, zero, suc, ◌+◌, ◌<◌, Bool, true, false, eqb, List, [], ◌∷◌, ◌++◌, length, map, set, slice_get, position, filter, Option, Some, None, refl, sym, ap, subst, ◌∙◌, inl, inr, arith}
-use Rattle.std.proofs.lemmas.Bool.{cases_eq, eq-eqb, ne_eqb}
-use Rattle.std.proofs.lemmas.List.{append-nil, map-append}
+use Rattle.std.proofs.lemmas.{Bool.{cases_eq, eq-eqb, ne_eqb}, List.{append-nil, map-append}}
 use Rattle.std.proofs.lemmas.List.Elements.{filter-append}
-use Rattle.ptu_history.specs.Core.{history_after}
-use Rattle.ptu_history.specs.History.{Record}
+use Rattle.ptu_history.specs.{Core.{history_after}, History.{Record}}
 use Rattle.ptu_profile.specs.declared.grandmaster.GmConfig.{GmConfig}
 use Rattle.ptu_gm_messages.specs.Deciding.{opened_with}
 use Rattle.ptu_grandmaster.specs.declared.driving.GmEvent.{GmEvent}
-use Rattle.ptu_grandmaster.specs.Driven.{driven_history, events_of}
-use Rattle.ptu_grandmaster.specs.Gm.{KeptGm, StandsFor}
+use Rattle.ptu_grandmaster.specs.{Driven.{driven_history, events_of}, Gm.{KeptGm, StandsFor}}
 use Rattle.ptu_grandmaster.proofs.Followed.{driven-push}
-use Rattle.ptu_pools.specs.declared.pool.Pool.{Pool}
-use Rattle.ptu_pools.specs.Pool.{capacity_at}
+use Rattle.ptu_pools.specs.{declared.pool.Pool.{Pool}, Pool.{capacity_at}}
 use Rattle.ptu_pools.specs.Events.{PoolEvent, gm_event, is_own, own, pool_history}
 use Rattle.ptu_pools.specs.Standing.{KeptPools, StandFor}
 

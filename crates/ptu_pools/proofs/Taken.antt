@@ -9,8 +9,7 @@ use Rattle.ptu_shard.specs.Table.{Kept}
 use Rattle.ptu_gm_messages.specs.Deciding.{opened_with}
 use Rattle.ptu_grandmaster.specs.Gm.{KeptGm, StandsFor, with_table}
 use Rattle.ptu_grandmaster.proofs.Heard.{history_after-one}
-use Rattle.ptu_pools.specs.declared.pool.Pool.{Pool}
-use Rattle.ptu_pools.specs.Pool.{AreApart, is_in, is_in_at}
+use Rattle.ptu_pools.specs.{declared.pool.Pool.{Pool}, Pool.{AreApart, is_in, is_in_at}}
 use Rattle.ptu_pools.specs.Events.{PoolEvent, Came, Turned, gm_event}
 use Rattle.ptu_pools.specs.Standing.{ChangesOne, KeptPools, StandFor}
 use Rattle.ptu_pools.proofs.Places.{found_in, found_mine, none_in}

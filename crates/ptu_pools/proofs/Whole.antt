@@ -2,21 +2,16 @@
 use Rattle.std.proofs.Common.{◌≡◌, ℕ, zero, suc, ◌+◌, ◌*◌, ◌≤◌, Bool, true, false, cond, ◌||◌, List, [], ◌∷◌, ◌++◌, length, map, filter, slice_get, sum_by, Option, Some, None, Result, Ok, Err, refl, sym, ap, subst, ◌∙◌, arith}
 use Rattle.std.specs.List.{cons_option, filter_map, flat_map, list_any, range_with_len}
 use Rattle.std.specs.Prelude.{option_map}
-use Rattle.std.proofs.lemmas.Bool.{or_parts}
-use Rattle.std.proofs.lemmas.List.Folds.{list_any-append}
-use Rattle.std.proofs.lemmas.List.Sums.{sum_by-cons}
-use Rattle.std.proofs.lemmas.Nat.{mul-le}
-use Rattle.ptu_units.specs.Kind.{kind_of}
-use Rattle.ptu_units.specs.declared.kind.Kind.{Kind}
+use Rattle.std.proofs.lemmas.{Bool.{or_parts}, List.Folds.{list_any-append}}
+use Rattle.std.proofs.lemmas.{List.Sums.{sum_by-cons}, Nat.{mul-le}}
+use Rattle.ptu_units.specs.{Kind.{kind_of}, declared.kind.Kind.{Kind}}
 use Rattle.ptu_history.specs.declared.client.Client.{Client}
 use Rattle.ptu_history.specs.Events as events
-use Rattle.ptu_history.specs.Events.{Event}
-use Rattle.ptu_history.specs.Held.{count, force, held, is_by}
+use Rattle.ptu_history.specs.{Events.{Event}, Held.{count, force, held, is_by}}
 use Rattle.ptu_history.specs.History.{Record, capacity_in_force, is_change}
 use Rattle.ptu_history.proofs.AfterSteps.{capacity_in_force-quiet}
 use Rattle.ptu_laws.specs.Changes.{is_resize}
-use Rattle.ptu_laws.proofs.Budget.{count-constant, history-unchanged}
-use Rattle.ptu_laws.proofs.Capacity.{held-within}
+use Rattle.ptu_laws.proofs.{Budget.{count-constant, history-unchanged}, Capacity.{held-within}}
 use Rattle.ptu_profile.specs.declared.grandmaster.GmConfig.{GmConfig}
 use Rattle.ptu_gm_messages.specs.declared.heard.Heard.{Heard}
 use Rattle.ptu_gm_messages.specs.declared.heard.Heard.TheVariants as heard
@@ -26,8 +21,7 @@ use Rattle.ptu_gm_messages.specs.declared.reason.GmReason.{GmReason}
 use Rattle.ptu_gm_messages.specs.Deciding.{asked_by, client_of, event_of, events_heard, events_of_items, opened_with}
 use Rattle.ptu_gm_messages.specs.Items.{heard_in}
 use Rattle.ptu_grandmaster.specs.Driven.{events_of}
-use Rattle.ptu_pools.specs.declared.pool.Pool.{Pool}
-use Rattle.ptu_pools.specs.Pool.{capacity_at}
+use Rattle.ptu_pools.specs.{declared.pool.Pool.{Pool}, Pool.{capacity_at}}
 use Rattle.ptu_pools.specs.Refusal.{Share, capacities}
 use Rattle.ptu_pools.specs.Events.{PoolEvent, Came, Turned, gm_event, over_all, own, pool_history}
 

@@ -1,24 +1,18 @@
 -- What a datagram and a turn do to the grandmaster of a pool, and to pools.
 use Rattle.std.specs.Prelude.{◌≡◌, ℕ, max, false, IsTrue, List, map}
-use Rattle.ptu_outside.specs.declared.port.Port.{Ghosts as Ports}
-use Rattle.ptu_outside.specs.HandsOver.{HandsOver}
-use Rattle.ptu_history.specs.Client.{table_of}
-use Rattle.ptu_history.specs.Core.{table_step_moment}
-use Rattle.ptu_history.specs.History.{Record}
+use Rattle.ptu_outside.specs.{declared.port.Port.{Ghosts as Ports}, HandsOver.{HandsOver}}
+use Rattle.ptu_history.specs.{Client.{table_of}, Core.{table_step_moment}, History.{Record}}
 use Rattle.ptu_history.specs.Turns.{due_grants, message_of}
-use Rattle.ptu_shard.specs.declared.answered.Turned.{Turned}
-use Rattle.ptu_shard.specs.Messages.{departure_of}
+use Rattle.ptu_shard.specs.{declared.answered.Turned.{Turned}, Messages.{departure_of}}
 use Rattle.ptu_shard.specs.Turn.{due_messages}
-use Rattle.ptu_gm_messages.specs.Deciding.{client_of, opened_with}
-use Rattle.ptu_gm_messages.specs.Items.{heard_in}
+use Rattle.ptu_gm_messages.specs.{Deciding.{client_of, opened_with}, Items.{heard_in}}
 use Rattle.ptu_gm_messages.specs.Replies.{reply_to}
 use Rattle.ptu_grandmaster.specs.declared.outcome.Taken.{Taken}
 use Rattle.ptu_grandmaster.specs.Gm.{KeptGm, StandsFor, table_at, with_table}
 use Rattle.ptu_grandmaster.specs.Outcomes.{answers_seen}
 use Rattle.ptu_grandmaster.specs.Taking.{ComesTo, IsAnswerTo, OnAsked, OnDelay, OnIgnored, Replies, Responds}
 use Rattle.ptu_pools.specs.declared.pools.PoolTaken.{PoolTaken}
-use Rattle.ptu_pools.specs.declared.pools.PoolTaken.TheVariants.{Stranger, In}
-use Rattle.ptu_pools.specs.Pool.{is_in_at}
+use Rattle.ptu_pools.specs.{declared.pools.PoolTaken.TheVariants.{Stranger, In}, Pool.{is_in_at}}
 use Rattle.ptu_pools.specs.Standing.{ChangesOne, KeptPools}
 
 -- what a grandmaster did with a datagram from the address that it was handed at the moment, before and after

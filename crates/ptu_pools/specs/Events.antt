@@ -6,8 +6,7 @@ use Rattle.ptu_profile.specs.declared.grandmaster.GmConfig.{GmConfig}
 use Rattle.ptu_grandmaster.specs.declared.driving.GmEvent.{GmEvent}
 use Rattle.ptu_grandmaster.specs.declared.driving.GmEvent.TheVariants as gm
 use Rattle.ptu_grandmaster.specs.Driven.{driven_history}
-use Rattle.ptu_pools.specs.declared.pool.Pool.{Pool}
-use Rattle.ptu_pools.specs.Pool.{capacity_at, is_in_at}
+use Rattle.ptu_pools.specs.{declared.pool.Pool.{Pool}, Pool.{capacity_at, is_in_at}}
 
 -- what may happen to pools
 pub data PoolEvent : Type 0 where

@@ -3,8 +3,7 @@ use Rattle.std.specs.Prelude.{ℕ, zero, suc, List, [], ◌∷◌}
 use Rattle.std.specs.Borrow.{Fml, Lends, MutBor, RattleType}
 use Rattle.ptu_outside.specs.declared.port.Port.{Ghosts}
 use Rattle.ptu_grandmaster.specs.Gm.{KeptGm, with_port}
-use Rattle.ptu_pools.specs.contracts.pools.Pools.{the_row}
-use Rattle.ptu_pools.specs.Standing.{KeptPools}
+use Rattle.ptu_pools.specs.{contracts.pools.Pools.{the_row}, Standing.{KeptPools}}
 use Rattle.ptu_pools.specs.Ported.{with_port_of}
 
 -- once the borrow r ends, the grandmaster of the pool at this place has the port of this index as it was left behind r, and all

@@ -1,7 +1,6 @@
 -- Pools of IPv4 addresses (the project's own choice).
 use Rattle.std.specs.Prelude.{◌≡◌, ℕ, ◌/◌, ◌%◌, ◌-◌, ◌^◌, ◌<◌, nat_le, ◌==◌, ◌&&◌, ◌||◌, Bool, true, false, IsTrue, List, slice_get, Option, Some}
-use Rattle.std.specs.Option.{option_map_or}
-use Rattle.std.specs.List.{position}
+use Rattle.std.specs.{Option.{option_map_or}, List.{position}}
 use Rattle.ptu_pools.specs.declared.pool.Pool.{Pool}
 
 -- the first bits of the address are those of the pool

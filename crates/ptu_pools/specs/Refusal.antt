@@ -1,8 +1,7 @@
 -- Why pools are refused: the first cause that applies (the project's own choice).
 use Rattle.std.specs.Prelude.{◌≡◌, ℕ, ◌<◌, ◌≤◌, not, List, Option, Some, None, sum_by}
 use Rattle.std.specs.List.{position}
-use Rattle.ptu_pools.specs.declared.pool.Pool.{Pool}
-use Rattle.ptu_pools.specs.declared.fault.PoolsFault.{PoolsFault}
+use Rattle.ptu_pools.specs.declared.{pool.Pool.{Pool}, fault.PoolsFault.{PoolsFault}}
 use Rattle.ptu_pools.specs.declared.fault.PoolsFault.TheVariants.{Net, Overlap as Overlapping, Over, OutOfMemory}
 use Rattle.ptu_pools.specs.Pool.{AreApart, Overlap, is_network}
 

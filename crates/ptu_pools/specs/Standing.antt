@@ -2,8 +2,7 @@
 use Rattle.std.specs.Prelude.{◌≡◌, ℕ, List, [], ◌∷◌, Option, Some, slice_get, slice_set, flat_map}
 use Rattle.ptu_profile.specs.declared.grandmaster.GmConfig.{GmConfig}
 use Rattle.ptu_grandmaster.specs.Gm.{KeptGm, StandsFor}
-use Rattle.ptu_pools.specs.declared.pool.Pool.{Pool}
-use Rattle.ptu_pools.specs.Pool.{capacity_at}
+use Rattle.ptu_pools.specs.{declared.pool.Pool.{Pool}, Pool.{capacity_at}}
 use Rattle.ptu_pools.specs.Events.{PoolEvent, pool_history}
 
 -- the pools, and the grandmaster of each, in the same order

@@ -1,8 +1,7 @@
 -- What a grandmaster is set up with, its limits (the project's own choice), and the headers of its messages.
 use Rattle.std.specs.Prelude.{ℕ, ◌<◌, ◌^◌, ℤ}
 use Rattle.ptu_header.specs.declared.header.Header.{Header}
-use Rattle.ptu_profile.specs.declared.grandmaster.GmConfig.{GmConfig}
-use Rattle.ptu_profile.specs.Headers.{unicast_header}
+use Rattle.ptu_profile.specs.{declared.grandmaster.GmConfig.{GmConfig}, Headers.{unicast_header}}
 use Rattle.ptu_profile.specs.Limits.{IsDomain, IsDuration}
 
 -- each value is within its limits

@@ -1,15 +1,11 @@
 -- What a slave is set up with, its limits (the project's own choice), and its masters.
 use Rattle.std.specs.Prelude.{◌≢◌, ℕ, ◌≤◌, List, length, map, slice_index, position, Option, ◌==◌, pos}
 use Rattle.std.specs.List.{AllPairs}
-use Rattle.ptu_units.specs.declared.kind.Kind.TheVariants.{Announce}
-use Rattle.ptu_units.specs.Log.{IsLogOf}
-use Rattle.ptu_record.specs.SignalFails.{Timeouts}
-use Rattle.ptu_record.specs.Wants.{timeouts_of}
+use Rattle.ptu_units.specs.{declared.kind.Kind.TheVariants.{Announce}, Log.{IsLogOf}}
+use Rattle.ptu_record.specs.{SignalFails.{Timeouts}, Wants.{timeouts_of}}
 use Rattle.ptu_header.specs.declared.header.Header.{Header}
-use Rattle.ptu_profile.specs.Headers.{unicast_header}
-use Rattle.ptu_profile.specs.Limits.{IsDomain, IsTimeout, IsWait}
-use Rattle.ptu_profile.specs.declared.slave.Master.{Master}
-use Rattle.ptu_profile.specs.declared.slave.SlaveConfig.{SlaveConfig}
+use Rattle.ptu_profile.specs.{Headers.{unicast_header}, Limits.{IsDomain, IsTimeout, IsWait}}
+use Rattle.ptu_profile.specs.declared.slave.{Master.{Master}, SlaveConfig.{SlaveConfig}}
 
 -- each value is within its limits
 pub record IsWithinLimits (config : SlaveConfig) : Type 0 where

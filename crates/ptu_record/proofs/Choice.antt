@@ -2,11 +2,8 @@
 use Rattle.std.proofs.Common.{◌≡◌, ℕ, zero, suc, ◌+◌, ◌<◌, ◌≤◌, Bool, true, false, not, ◌&&◌, ◌||◌, List, length, Option, Some, None, refl, ap, sym, ◌∙◌, arith, ltb, eqb, inl, inr}
 use Rattle.std.proofs.lemmas.Bool.{false≢true, and_parts, and_from, not-true, cases_lt, false_from_ne_true}
 use Rattle.std.proofs.lemmas.Bool.Decides.{nat_tests}
-use Rattle.std.specs.Prelude.{slice_index, IsTrue}
-use Rattle.std.specs.List.{list_all, find, range_with_len}
-use Rattle.ptu_record.specs.Lists.{places}
-use Rattle.ptu_record.specs.Quality.{is_usable, level_of}
-use Rattle.ptu_record.specs.Record.{Record}
+use Rattle.std.specs.{Prelude.{slice_index, IsTrue}, List.{list_all, find, range_with_len}}
+use Rattle.ptu_record.specs.{Lists.{places}, Quality.{is_usable, level_of}, Record.{Record}}
 use Rattle.ptu_record.specs.SignalFails.{Timeouts}
 use Rattle.ptu_record.specs.Selection.{level, is_better, is_candidate, IsBest, IsSelected, is_best, selected_master}
 

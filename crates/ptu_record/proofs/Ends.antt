@@ -1,7 +1,6 @@
 -- The outage ends of a master's record with one entry more.
 use Rattle.std.proofs.Common.{arith, ◌≡◌, ℕ, ◌+◌, ◌<◌, ◌≤◌, Bool, true, false, cond, not, ◌&&◌, List, [], ◌∷◌, ◌++◌, map, max, Option, Some, None, refl, ap, sym, subst, ◌∙◌, ltb, inl, inr, ◌⊎◌, append_assoc}
-use Rattle.std.proofs.lemmas.Bool.{ltb-true, ltb-false, lt-ltb, le-ltb}
-use Rattle.std.proofs.lemmas.List.{append-nil}
+use Rattle.std.proofs.lemmas.{Bool.{ltb-true, ltb-false, lt-ltb, le-ltb}, List.{append-nil}}
 use Rattle.std.proofs.lemmas.List.Elements.{filter-append}
 use Rattle.std.specs.List.{list_any, filter, filter_map}
 use Rattle.std.specs.Option.{option_map, option_to_list, unwrap_or}

@@ -1,9 +1,7 @@
 -- What a judge finds, with one entry more.
 use Rattle.std.proofs.Common.{◌≡◌, Bool, true, false, cond, [], ◌∷◌, ◌++◌, Option, Some, None, refl, ap, ◌∙◌}
-use Rattle.std.specs.List.{filter_map}
-use Rattle.std.specs.Option.{option_to_list, unwrap_or}
-use Rattle.ptu_record.specs.declared.rule.Rule.{Rule}
-use Rattle.ptu_record.specs.Lists.{last, since_last, newest_of}
+use Rattle.std.specs.{List.{filter_map}, Option.{option_to_list, unwrap_or}}
+use Rattle.ptu_record.specs.{declared.rule.Rule.{Rule}, Lists.{last, since_last, newest_of}}
 use Rattle.ptu_record.specs.Record.{Entry, Record}
 use Rattle.ptu_record.specs.Judges.{is_judge, rule_given, told_flag, sync_number, rule_in_force, flag, numbers, assessment, IsAssessment}
 use Rattle.ptu_record.proofs.ListLaws.{last-filter_map, filter_map-push, since_last-push}

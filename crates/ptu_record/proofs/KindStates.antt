@@ -1,16 +1,13 @@
 -- What is kept of a master's record about a kind, with one entry more, and the gate by it.
 use Rattle.std.proofs.Common.{◌≡◌, ◌≢◌, ℕ, ◌+◌, ◌*◌, ◌%◌, ◌≤◌, max, Bool, true, false, cond, ◌&&◌, ◌||◌, List, [], ◌∷◌, ◌++◌, map, Option, Some, None, length, refl, ap, sym, subst, ◌∙◌, arith, leb, eqb, inl, inr, append_assoc}
 use Rattle.std.proofs.lemmas.Bool.{cases_lt, eq-eqb, le-leb, le-ltb, ltb-false, or_right}
-use Rattle.std.proofs.lemmas.List.Elements.{filter_map-append}
-use Rattle.std.proofs.lemmas.Map.Views.{any-filter_same}
+use Rattle.std.proofs.lemmas.{List.Elements.{filter_map-append}, Map.Views.{any-filter_same}}
 use Rattle.std.specs.List.{cons_option, last_or, list_all, list_any, flat_map}
 use Rattle.std.specs.Option.{is_some, option_map, option_to_list, unwrap_or}
-use Rattle.ptu_units.specs.declared.kind.Kind.{Kind}
-use Rattle.ptu_units.specs.declared.kind.Kind.TheVariants.{Announce, Sync, DelayResp}
+use Rattle.ptu_units.specs.declared.kind.{Kind.{Kind}, Kind.TheVariants.{Announce, Sync, DelayResp}}
 use Rattle.ptu_units.specs.Kind.{kinds}
 use Rattle.ptu_record.specs.Lists.{last, latest_of, maximum}
-use Rattle.ptu_record.specs.Record.{Entry, Record, Cancelled, Stopped}
-use Rattle.ptu_record.specs.Wants.{is_kind}
+use Rattle.ptu_record.specs.{Record.{Entry, Record, Cancelled, Stopped}, Wants.{is_kind}}
 use Rattle.ptu_record.specs.Grants.{grant, grant_change, grant_changes, is_live, is_live_at, live_kinds}
 use Rattle.ptu_record.specs.Asks.{ask_moment, gate, is_answer, open_asks, pause, refusal_gate, refusal_moment, refusals, renewal_gate}
 use Rattle.ptu_record.specs.Kept.{kind_state, kind_state_after, gate_at}

@@ -1,17 +1,13 @@
 -- What a step enters for one master, and the numbers that it takes.
 use Rattle.std.proofs.Common.{◌≡◌, ◌≢◌, ℕ, zero, suc, ◌+◌, ◌-◌, ◌%◌, ◌<◌, ◌≤◌, Bool, true, false, cond, List, [], ◌∷◌, ◌++◌, map, count_by, Some, length, refl, ap, ap₂, sym, subst, ◌∙◌, arith, eqb, inl, inr, append_assoc, zero-add, add-zero}
-use Rattle.std.proofs.lemmas.Bool.{cases_lt, eq-eqb, ne_eqb}
-use Rattle.std.proofs.lemmas.Grind.{flat_map-append}
-use Rattle.std.proofs.lemmas.List.{append-nil}
-use Rattle.std.proofs.lemmas.List.Sums.{sum_by-append}
+use Rattle.std.proofs.lemmas.{Bool.{cases_lt, eq-eqb, ne_eqb}, Grind.{flat_map-append}}
+use Rattle.std.proofs.lemmas.{List.{append-nil}, List.Sums.{sum_by-append}}
 use Rattle.std.specs.List.{AllByRecursion, filter_map, flat_map, list_any, range_with_len}
 use Rattle.std.specs.Prelude.{slice_index_or}
 use Rattle.ptu_units.specs.declared.kind.Kind.{Kind}
-use Rattle.ptu_record.specs.declared.wants.Wants.{Wants}
-use Rattle.ptu_record.specs.Lists.{places}
+use Rattle.ptu_record.specs.{declared.wants.Wants.{Wants}, Lists.{places}}
 use Rattle.ptu_record.specs.Record.{Entry, Record, event_moment, concerns, record_of, Judged, Asked, Granted, Denied, Signalled, Probed, Stopped}
-use Rattle.ptu_record.specs.Grants.{live_kinds}
-use Rattle.ptu_record.specs.Asks.{due_kinds}
+use Rattle.ptu_record.specs.{Grants.{live_kinds}, Asks.{due_kinds}}
 use Rattle.ptu_record.specs.Tick.{Sending, is_probe_due, one_signaling, Requests, Cancels, Acknowledgements, DelayReq, cancels_to, delay_req_number, is_delay_req_to, is_probed, is_signaling_to, is_signalled, is_stop, requests_to, sending_entries, signaling_number}
 use Rattle.ptu_record.specs.Step.{SlaveEvent, TakeAnnounce, TakeSync, TakeFollowUp, TakeDelayResp, TakeSignaling, TellFlag, ReplaceJudge, Tick, Stop, SlaveSetup, cancel_code, entries_by, event_master, judged_entries, judged_masters, master_count, one_reply, own_entries, sendings, step_by, stop_entry}
 use Rattle.ptu_record.proofs.Others.{cancels_to_one, record_of-others, requests_one}

@@ -1,14 +1,11 @@
 -- What a tick goes by, with one entry more.
 use Rattle.std.proofs.Common.{◌≡◌, ℕ, ◌+◌, ◌*◌, ◌%◌, ◌≤◌, max, Bool, true, false, cond, ◌&&◌, List, [], ◌∷◌, ◌++◌, zip, count_by, Option, Some, None, length, refl, ap, sym, ◌∙◌, arith, leb, eqb, inl, inr, ◌⊎◌, length-append}
 use Rattle.std.proofs.lemmas.Bool.{false≢true, eq-eqb, le-leb, or_right, cond-true}
-use Rattle.std.proofs.lemmas.Bool.Decides.{nat_tests}
-use Rattle.std.proofs.lemmas.List.{append-nil}
-use Rattle.std.proofs.lemmas.List.Folds.{list_any-append}
-use Rattle.std.proofs.lemmas.List.Sums.{sum_by-append}
+use Rattle.std.proofs.lemmas.{Bool.Decides.{nat_tests}, List.{append-nil}}
+use Rattle.std.proofs.lemmas.List.{Folds.{list_any-append}, Sums.{sum_by-append}}
 use Rattle.std.specs.List.{filter_map, cons_option, last_or, list_all, list_any, flat_map}
 use Rattle.std.specs.Option.{is_some, option_map, option_to_list, unwrap_or}
-use Rattle.ptu_units.specs.declared.kind.Kind.{Kind}
-use Rattle.ptu_units.specs.declared.kind.Kind.TheVariants.{Announce, Sync, DelayResp}
+use Rattle.ptu_units.specs.declared.kind.{Kind.{Kind}, Kind.TheVariants.{Announce, Sync, DelayResp}}
 use Rattle.ptu_record.specs.declared.wants.Wants.{Wants}
 use Rattle.ptu_record.specs.Lists.{last, maximum, since_last, newest_of}
 use Rattle.ptu_record.specs.Record.{record_of, Entry, Record, Asked, Granted, Denied, Cancelled, Stopped}

@@ -1,11 +1,9 @@
 -- Sixteen marks that move up show the clear places of the positions.
 use Rattle.std.proofs.Common.{leb, ◌≡◌, ℕ, zero, suc, ◌+◌, ◌-◌, ◌%◌, ◌<◌, ◌≤◌, Bool, true, false, cond, not, ◌&&◌, ◌||◌, List, [], ◌∷◌, ◌++◌, map, get_or, set, length, count_by, Some, refl, ap, sym, ◌∙◌, arith, ltb, eqb, inl, inr}
 use Rattle.std.proofs.lemmas.Bool.{cases_lt, le-leb, lt-leb, eq-eqb, ne_eqb}
-use Rattle.std.proofs.lemmas.List.FromFn.{get_or-map-range_with_len}
-use Rattle.std.proofs.lemmas.List.Sums.{length-filter}
+use Rattle.std.proofs.lemmas.List.{FromFn.{get_or-map-range_with_len}, Sums.{length-filter}}
 use Rattle.std.specs.List.{range_with_len, fold, AllByRecursion}
-use Rattle.ptu_record.specs.Lists.{maximum, places}
-use Rattle.ptu_record.specs.declared.rule.Rule.TheVariants.{Gap}
+use Rattle.ptu_record.specs.{Lists.{maximum, places}, declared.rule.Rule.TheVariants.{Gap}}
 use Rattle.ptu_record.specs.Record.{Record}
 use Rattle.ptu_record.specs.Judges.{assessment, flag, numbers, distance, first_position, next_positions, positions, is_clear, clear_places}
 use Rattle.ptu_record.specs.Marks.{Marks, fresh_marks, marks_up, marks_at, marks_after, clear_count, marks_of}

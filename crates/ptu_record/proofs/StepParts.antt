@@ -1,21 +1,16 @@
 -- What a step of a slave enters: its moment, its parts, and the numbers that it takes.
 use Rattle.std.proofs.Common.{◌≡◌, ◌≢◌, ℕ, ◌≤◌, max, Bool, true, false, cond, List, [], ◌∷◌, ◌++◌, map, Option, Some, None, refl, ap, ap₂, sym, subst, ◌∙◌, arith, eqb}
-use Rattle.std.proofs.lemmas.Bool.{false≢true}
-use Rattle.std.proofs.lemmas.List.{map-append}
-use Rattle.std.proofs.lemmas.List.Elements.{filter-append}
+use Rattle.std.proofs.lemmas.{Bool.{false≢true}, List.{map-append}, List.Elements.{filter-append}}
 use Rattle.std.specs.List.{AllByRecursion, cons_option, filter_map, flat_map}
-use Rattle.std.specs.Option.{option_map, unwrap_or}
-use Rattle.std.specs.Prelude.{◌↔◌, IsSome, MatchOption}
+use Rattle.std.specs.{Option.{option_map, unwrap_or}, Prelude.{◌↔◌, IsSome, MatchOption}}
 use Rattle.ptu_units.specs.declared.kind.Kind.{Kind}
-use Rattle.ptu_record.specs.declared.rule.Rule.{Rule}
-use Rattle.ptu_record.specs.declared.wants.Wants.{Wants}
+use Rattle.ptu_record.specs.declared.{rule.Rule.{Rule}, wants.Wants.{Wants}}
 use Rattle.ptu_record.specs.Lists.{maximum}
 use Rattle.ptu_record.specs.Record.{Entry, Record, moment_of, event_moment, concerns, record_of, Judged, Asked, Granted, Denied, Cancelled, Event}
 use Rattle.ptu_record.specs.Judges.{IsAssessment, AreAssessments, assessment, opening_of, rule_in_force, ruled_assessment}
 use Rattle.ptu_record.specs.Tick.{Sending, Requests, Cancels, Acknowledgements, DelayReq, sending_entries}
 use Rattle.ptu_record.specs.Step.{Signal, GrantTlv, CancelTlv, AckTlv, SlaveEvent, TakeAnnounce, TakeSync, TakeFollowUp, TakeDelayResp, TakeSignaling, TellFlag, ReplaceJudge, Tick, Stop, SlaveSetup, SlaveStep, IsStep, entries_by, grant_entry, judged_entries, judged_masters, judged_record, master_count, or_event, own_entries, sendings, signal_entry, slave_step, step_by, stop_entry, wanted_kind}
-use Rattle.ptu_record.proofs.ListLaws.{maximum-append}
-use Rattle.ptu_record.proofs.Others.{record_of-others}
+use Rattle.ptu_record.proofs.{ListLaws.{maximum-append}, Others.{record_of-others}}
 
 -- ---- entries that all pass a test or stand at a moment
 

@@ -1,11 +1,9 @@
 -- When a slave asks a master for a kind (IEEE 1588-2019 clause 16.1; the pauses and the renewal at half of the duration are this project's own choice). Each record here is the record of one master.
 use Rattle.std.specs.Prelude.{ℕ, ◌+◌, ◌*◌, ◌%◌, Bool, false, cond, List, [], ◌∷◌, length, filter, filter_map, flat_map, Option, Some, None, option_map, option_to_list, ◌==◌, nat_le}
 use Rattle.ptu_units.specs.declared.kind.Kind.{Kind}
-use Rattle.ptu_record.specs.declared.wants.Wants.{Wants}
-use Rattle.ptu_record.specs.Lists.{last, maximum, since_last}
+use Rattle.ptu_record.specs.{declared.wants.Wants.{Wants}, Lists.{last, maximum, since_last}}
 use Rattle.ptu_record.specs.Record.{Entry, Record, Asked, Granted, Denied, Cancelled}
-use Rattle.ptu_record.specs.Wants.{is_kind, wanted_kinds}
-use Rattle.ptu_record.specs.Grants.{grant, is_live}
+use Rattle.ptu_record.specs.{Wants.{is_kind, wanted_kinds}, Grants.{grant, is_live}}
 
 abbrev pub ask_moment : Kind → Entry → Option ℕ
 ask_moment k (Asked at master kind) = cond (is_kind k kind) (Some at) None

@@ -2,11 +2,9 @@
 use Rattle.std.specs.Prelude.{ℕ, ◌+◌, ◌*◌, true, false, not, List, [], ◌∷◌, ◌++◌, map, filter, fold, replicate, Option, Some, None, is_some, nat_le, ℤ, pos}
 use Rattle.std.specs.List.{range_with_len}
 use Rattle.ptu_units.specs.declared.kind.Kind.{Kind}
-use Rattle.ptu_record.specs.declared.rule.Rule.TheVariants.{Flag, Gap}
-use Rattle.ptu_record.specs.declared.wants.Wants.{Wants}
+use Rattle.ptu_record.specs.declared.{rule.Rule.TheVariants.{Flag, Gap}, wants.Wants.{Wants}}
 use Rattle.ptu_record.specs.Record.{Record, Announce, Sync, Resp, Told, Judge, Judged, Asked, Granted, Denied, Cancelled, Probed, Signalled, moment_of}
-use Rattle.ptu_record.specs.SignalFails.{Timeouts, judgement}
-use Rattle.ptu_record.specs.Selection.{selected_master}
+use Rattle.ptu_record.specs.{SignalFails.{Timeouts, judgement}, Selection.{selected_master}}
 use Rattle.ptu_record.specs.Wants.{timeouts_of}
 use Rattle.ptu_record.specs.Step.{SlaveEvent, SlaveSetup, TakeSync, ReplaceJudge, Tick, slave_step}
 

@@ -1,9 +1,7 @@
 -- Which grant a slave has of a kind (IEEE 1588-2019 clause 16.1). Each record here is the record of one master.
 use Rattle.std.specs.Prelude.{ℕ, ◌+◌, ◌*◌, Bool, false, cond, List, ◌∷◌, filter, filter_map, zip, Option, Some, None, unwrap_or, nat_lt}
-use Rattle.ptu_units.specs.declared.kind.Kind.{Kind}
-use Rattle.ptu_units.specs.Kind.{kinds}
-use Rattle.ptu_record.specs.Lists.{last}
-use Rattle.ptu_record.specs.Record.{Entry, Record, Granted, Cancelled, Stopped}
+use Rattle.ptu_units.specs.{declared.kind.Kind.{Kind}, Kind.{kinds}}
+use Rattle.ptu_record.specs.{Lists.{last}, Record.{Entry, Record, Granted, Cancelled, Stopped}}
 use Rattle.ptu_record.specs.Wants.{is_kind}
 
 -- what an entry does to the grant of a kind: it is given at a moment for some seconds, or it ends

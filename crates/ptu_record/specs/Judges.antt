@@ -2,8 +2,7 @@
 -- A record is the record of one master, but in the last section.
 use Rattle.std.specs.Prelude.{◌≡◌, ℕ, ◌+◌, ◌-◌, ◌%◌, Bool, true, false, not, ◌&&◌, ◌||◌, cond, List, [], ◌∷◌, ◌++◌, length, filter, filter_map, fold, slice_index_or, Option, Some, None, unwrap_or, option_map, MatchOption, ⊤, ◌==◌, nat_lt, nat_le}
 use Rattle.std.specs.List.{list_any, AllZip}
-use Rattle.ptu_record.specs.declared.rule.Rule.{Rule}
-use Rattle.ptu_record.specs.declared.rule.Rule.TheVariants.{Flag, Gap}
+use Rattle.ptu_record.specs.declared.rule.{Rule.{Rule}, Rule.TheVariants.{Flag, Gap}}
 use Rattle.ptu_record.specs.Lists.{last, maximum, since_last, places}
 use Rattle.ptu_record.specs.Record.{Entry, Record, record_of, Sync, Told, Judge}
 

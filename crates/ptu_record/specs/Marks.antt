@@ -1,7 +1,6 @@
 -- Sixteen marks that move up, as a judge of gaps may keep them in place of all positions. A law says that they show the clear places.
 use Rattle.std.specs.Prelude.{ℕ, ◌+◌, ◌-◌, ◌%◌, Bool, true, cond, ◌||◌, ◌&&◌, List, [], ◌∷◌, map, replicate, slice_index_or, slice_set, count_by, not, Option, Some, None, ◌==◌, nat_lt, nat_le}
-use Rattle.ptu_record.specs.Lists.{maximum, places}
-use Rattle.ptu_record.specs.Judges.{is_clear}
+use Rattle.ptu_record.specs.{Lists.{maximum, places}, Judges.{is_clear}}
 
 -- the number at the greatest position, once there is one, and for each place from 0 to 15 whether it is set
 pub record Marks : Type 0 where

@@ -1,7 +1,6 @@
 -- Which outage end one entry more brings, so that a watch can keep the last one alone. Each record here is the record of one master.
 use Rattle.std.specs.Prelude.{ℕ, ◌+◌, Bool, false, cond, not, ◌&&◌, Option, Some, None, option_map, unwrap_or, nat_lt}
-use Rattle.ptu_record.specs.Lists.{last}
-use Rattle.ptu_record.specs.Record.{Entry, Record, Announce, Sync, Resp, Judged}
+use Rattle.ptu_record.specs.{Lists.{last}, Record.{Entry, Record, Announce, Sync, Resp, Judged}}
 use Rattle.ptu_record.specs.SignalFails.{Timeouts, announces, syncs, resps, is_unusable}
 
 -- the moment, where it comes more than the timeout after the one before

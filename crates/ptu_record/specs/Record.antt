@@ -1,8 +1,7 @@
 -- What a slave took and did, in order of happening. That it is seen as one list is this project's own choice.
 use Rattle.std.specs.Prelude.{ℕ, max, Bool, true, false, List, map, filter, ◌==◌, Option}
 use Rattle.ptu_units.specs.declared.kind.Kind.{Kind}
-use Rattle.ptu_record.specs.declared.rule.Rule.{Rule}
-use Rattle.ptu_record.specs.Lists.{maximum}
+use Rattle.ptu_record.specs.{declared.rule.Rule.{Rule}, Lists.{maximum}}
 
 -- one event or deed, with its moment; a master is named by its place in the slave's list
 pub data Entry : Type 0 where

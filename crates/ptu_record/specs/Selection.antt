@@ -1,9 +1,7 @@
 -- Which master a slave selects (G.8265.1: by quality level, then by priority; by place after that is this project's own). It is revertive.
 use Rattle.std.specs.Prelude.{◌≡◌, ℕ, ◌<◌, Bool, false, not, ◌&&◌, ◌||◌, List, length, slice_index, Option, Some, None, IsTrue, ◌==◌, nat_lt, find}
 use Rattle.std.specs.List.{list_all}
-use Rattle.ptu_record.specs.Lists.{places}
-use Rattle.ptu_record.specs.Quality.{rank_of}
-use Rattle.ptu_record.specs.Record.{Record, record_of}
+use Rattle.ptu_record.specs.{Lists.{places}, Quality.{rank_of}, Record.{Record, record_of}}
 use Rattle.ptu_record.specs.SignalFails.{Timeouts, is_eligible, quality}
 
 -- the rank of a master's quality level, 0 for the best

@@ -2,8 +2,7 @@
 -- Each record here is the record of one master.
 use Rattle.std.specs.Prelude.{ℕ, ◌+◌, Bool, true, false, not, ◌&&◌, List, [], ◌++◌, map, filter, filter_map, Option, Some, None, option_map, unwrap_or, nat_lt}
 use Rattle.std.specs.List.{list_any}
-use Rattle.ptu_record.specs.declared.quality.Quality.{Quality}
-use Rattle.ptu_record.specs.Lists.{last, neighbours}
+use Rattle.ptu_record.specs.{declared.quality.Quality.{Quality}, Lists.{last, neighbours}}
 use Rattle.ptu_record.specs.Quality.{level_of, is_usable}
 use Rattle.ptu_record.specs.Record.{Entry, Record, Announce, Sync, Resp, Judged}
 

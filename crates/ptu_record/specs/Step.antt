@@ -1,13 +1,10 @@
 -- What each event enters in a slave's record, and what it sends. What a slave takes is that of IEEE 1588-2019 clauses 13 and 16.1; ticks, the stop, flags and judges are this project's own.
 use Rattle.std.specs.Prelude.{◌≡◌, ℕ, Bool, cond, List, [], ◌∷◌, ◌++◌, length, map, filter_map, flat_map, zip, Option, Some, None, option_map, find, ◌==◌}
-use Rattle.ptu_units.specs.declared.kind.Kind.{Kind}
-use Rattle.ptu_units.specs.Kind.{code_of}
-use Rattle.ptu_record.specs.declared.rule.Rule.{Rule}
-use Rattle.ptu_record.specs.declared.wants.Wants.{Wants}
+use Rattle.ptu_units.specs.{declared.kind.Kind.{Kind}, Kind.{code_of}}
+use Rattle.ptu_record.specs.declared.{rule.Rule.{Rule}, wants.Wants.{Wants}}
 use Rattle.ptu_record.specs.Lists.{places}
 use Rattle.ptu_record.specs.Record.{Entry, Record, event_moment, Announce, Sync, Resp, Told, Judge, Judged, Granted, Denied, Cancelled, Stopped, Event}
-use Rattle.ptu_record.specs.Judges.{AreAssessments, ruled_assessment}
-use Rattle.ptu_record.specs.Wants.{wanted_kinds}
+use Rattle.ptu_record.specs.{Judges.{AreAssessments, ruled_assessment}, Wants.{wanted_kinds}}
 use Rattle.ptu_record.specs.Tick.{Sending, Acknowledgements, sending_entries, tick_sendings, stop_sendings}
 
 -- what a TLV of a Signaling says to a slave of a messageType

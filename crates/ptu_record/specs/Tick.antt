@@ -1,14 +1,11 @@
 -- What a slave sends at a tick and at the stop, and under which sequenceIds (IEEE 1588-2019 clauses 7.3.7, 9.5.11 and 16.1).
 use Rattle.std.specs.Prelude.{ℕ, ◌+◌, ◌%◌, Bool, true, false, ◌&&◌, cond, List, [], ◌∷◌, ◌++◌, map, filter_map, flat_map, count_by, Option, Some, None, option_map, option_to_list, unwrap_or, ◌==◌, nat_le, ℤ}
 use Rattle.std.specs.List.{list_any}
-use Rattle.ptu_units.specs.declared.kind.Kind.{Kind}
-use Rattle.ptu_units.specs.declared.kind.Kind.TheVariants.{DelayResp}
+use Rattle.ptu_units.specs.declared.kind.{Kind.{Kind}, Kind.TheVariants.{DelayResp}}
 use Rattle.ptu_units.specs.Log.{period_of}
-use Rattle.ptu_record.specs.declared.wants.Wants.{Wants}
-use Rattle.ptu_record.specs.Lists.{last, maximum, places}
+use Rattle.ptu_record.specs.{declared.wants.Wants.{Wants}, Lists.{last, maximum, places}}
 use Rattle.ptu_record.specs.Record.{Entry, Record, record_of, Asked, Probed, Signalled, Stopped}
-use Rattle.ptu_record.specs.Grants.{is_live, live_kinds, run_start}
-use Rattle.ptu_record.specs.Asks.{due_kinds}
+use Rattle.ptu_record.specs.{Grants.{is_live, live_kinds, run_start}, Asks.{due_kinds}}
 
 -- ---- Delay_Req and sequence numbers, over the record of one master
 

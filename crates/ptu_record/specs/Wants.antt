@@ -1,11 +1,8 @@
 -- What a slave requests of its masters, and the timeouts that follow (IEEE 1588-2019 clause 16.1.1; the receipt timeouts are those of this project's profile).
 use Rattle.std.specs.Prelude.{ℕ, ◌*◌, Bool, List, filter, Option, Some, option_map, is_some, ◌==◌, ℤ}
-use Rattle.ptu_units.specs.declared.kind.Kind.{Kind}
-use Rattle.ptu_units.specs.declared.kind.Kind.TheVariants.{Announce, Sync, DelayResp}
-use Rattle.ptu_units.specs.Kind.{code_of, kinds}
-use Rattle.ptu_units.specs.Log.{period_of}
-use Rattle.ptu_record.specs.declared.wants.Wants.{Wants}
-use Rattle.ptu_record.specs.SignalFails.{Timeouts}
+use Rattle.ptu_units.specs.declared.kind.{Kind.{Kind}, Kind.TheVariants.{Announce, Sync, DelayResp}}
+use Rattle.ptu_units.specs.{Kind.{code_of, kinds}, Log.{period_of}}
+use Rattle.ptu_record.specs.{declared.wants.Wants.{Wants}, SignalFails.{Timeouts}}
 
 abbrev pub is_kind : Kind → Kind → Bool
 is_kind k kind = code_of k == code_of kind

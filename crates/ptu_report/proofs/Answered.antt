@@ -1,16 +1,13 @@
 -- What the answer of a program over lines says, weakened.
 use Rattle.std.proofs.Common.{◌≡◌, ℕ, List, Option, Some, Result, Ok, Err, sym, ap, subst}
 use Rattle.ptu_outside.specs.declared.sink.Sink.{Ghosts as Sinks}
-use Rattle.ptu_outside.specs.declared.source.Source.{Ghosts as Sources}
-use Rattle.ptu_outside.specs.Handing.{HasPutPart}
+use Rattle.ptu_outside.specs.{declared.source.Source.{Ghosts as Sources}, Handing.{HasPutPart}}
 use Rattle.ptu_outside.proofs.Putting.{HasPutPart-whole}
 use Rattle.ptu_lines.specs.Script.{ScriptLine, script_lines}
-use Rattle.ptu_report.specs.declared.ending.Ending.{Ending}
-use Rattle.ptu_report.specs.declared.ending.Ending.TheVariants.{Whole, Refused}
+use Rattle.ptu_report.specs.declared.ending.{Ending.{Ending}, Ending.TheVariants.{Whole, Refused}}
 use Rattle.ptu_report.specs.declared.fault.RunFault.{RunFault}
 use Rattle.ptu_report.specs.declared.fault.RunFault.TheVariants.{Line, Read, Write, OutOfMemory}
-use Rattle.ptu_report.specs.Reported.{HasReported, HasWritten}
-use Rattle.ptu_report.specs.Rules.{Rules, ending_of, texts_of}
+use Rattle.ptu_report.specs.{Reported.{HasReported, HasWritten}, Rules.{Rules, ending_of, texts_of}}
 use Rattle.ptu_report.specs.Runs.{HasRunThrough, IfRefused, IfWritten}
 
 module _ {C : Type 0} (P Q : Ending C → Type 0) (then : (ending : Ending C) → P ending → Q ending) where

@@ -3,8 +3,7 @@ use Rattle.std.proofs.Common.{◌≡◌, ℕ, ◌+◌, ◌-◌, ◌≤◌, List,
 use Rattle.std.specs.List.{slice_range}
 use Rattle.std.proofs.lemmas.List.{drop-append-le, take-append-le, map-append}
 use Rattle.std.proofs.Math.Seq.{drop-append_seam, take-length}
-use Rattle.ptu_report.specs.declared.span.Span.{Span}
-use Rattle.ptu_report.specs.Spans.{AreWithin, text_in, texts_in}
+use Rattle.ptu_report.specs.{declared.span.Span.{Span}, Spans.{AreWithin, text_in, texts_in}}
 
 range-append : (octets more : List ℕ) (a b : ℕ) → a ≤ b → b ≤ length octets → slice_range (octets ++ more) a b ≡ slice_range octets a b
 range-append octets more a b le within =

@@ -1,8 +1,6 @@
 -- A program over lines that is under way: what was put, and the output for the lines that are left, are the whole one.
 use Rattle.std.proofs.Common.{◌≡◌, ◌∙◌, ℕ, ◌+◌, ◌≤◌, List, [], ◌∷◌, ◌++◌, length, map, Option, Some, None, refl, sym, ap, subst, append_assoc, length-append, arith}
-use Rattle.std.specs.Prelude.{IfSome}
-use Rattle.std.specs.Option.{option_map}
-use Rattle.std.specs.Io.KnownBytes.{prepend_known}
+use Rattle.std.specs.{Prelude.{IfSome}, Option.{option_map}, Io.KnownBytes.{prepend_known}}
 use Rattle.std.proofs.lemmas.List.{append-nil, map-append}
 use Rattle.ptu_outside.specs.Handing.{HasPut, HasPutPart}
 use Rattle.ptu_outside.proofs.Putting.{HasPut-append, HasPut-none, HasPut-part}

@@ -1,8 +1,7 @@
 -- The lines that are whole in the octets that were taken.
 use Rattle.std.proofs.Common.{◌≡◌, ◌∙◌, ℕ, nat_lt, Bool, true, false, cond, List, [], ◌∷◌, ◌++◌, length, refl, sym, ap, append_assoc, arith}
 use Rattle.std.specs.List.{filter, flat_map}
-use Rattle.std.proofs.lemmas.Bool.{lt-ltb, le-ltb}
-use Rattle.std.proofs.lemmas.List.{append-nil, length-append}
+use Rattle.std.proofs.lemmas.{Bool.{lt-ltb, le-ltb}, List.{append-nil, length-append}}
 use Rattle.std.proofs.Math.Nat.{le_refl}
 use Rattle.ptu_lines.specs.Script.{AreEnded, HasNoEnd, pieces, text_of}
 use Rattle.ptu_lines.proofs.Cutting.{pieces-last, pieces-line, text_of-append, text_of-line}

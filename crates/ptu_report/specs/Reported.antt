@@ -1,6 +1,5 @@
 -- What a program over lines has read and written.
-use Rattle.std.specs.Prelude.{◌≡◌, ℕ, Bool, nat_lt, List, length, map, Option}
-use Rattle.std.specs.List.{filter}
+use Rattle.std.specs.{Prelude.{◌≡◌, ℕ, Bool, nat_lt, List, length, map, Option}, List.{filter}}
 use Rattle.std.specs.Io.KnownBytes.{append_known, prepend_known}
 use Rattle.ptu_outside.specs.Handing.{HasPut, joined}
 use Rattle.ptu_lines.specs.Script.{ScriptLine, Whole, pieces, text_of}

@@ -2,16 +2,12 @@
 use Rattle.std.specs.Prelude.{◌≡◌, ◌≤◌, ℕ, List, length, Some, Result, Ok, Err, OnOk, IsErrOf}
 use Rattle.std.specs.Io.KnownBytes.{IsAtEnd, prepend_known}
 use Rattle.ptu_outside.specs.declared.sink.Sink.{Ghosts as Sinks}
-use Rattle.ptu_outside.specs.declared.source.Source.{Ghosts as Sources}
-use Rattle.ptu_outside.specs.Ends.{StopsAtEnd}
-use Rattle.ptu_outside.specs.Faults.{HasRisen}
-use Rattle.ptu_outside.specs.Handing.{HasPutPart}
-use Rattle.ptu_report.specs.declared.ending.Ending.{Ending}
-use Rattle.ptu_report.specs.declared.ending.Ending.TheVariants.{Whole, Refused}
+use Rattle.ptu_outside.specs.{declared.source.Source.{Ghosts as Sources}, Ends.{StopsAtEnd}}
+use Rattle.ptu_outside.specs.{Faults.{HasRisen}, Handing.{HasPutPart}}
+use Rattle.ptu_report.specs.declared.ending.{Ending.{Ending}, Ending.TheVariants.{Whole, Refused}}
 use Rattle.ptu_report.specs.declared.fault.RunFault.{RunFault}
 use Rattle.ptu_report.specs.declared.fault.RunFault.TheVariants.{Line, Read, Write, OutOfMemory}
-use Rattle.ptu_report.specs.Reported.{HasReportedAllRead}
-use Rattle.ptu_report.specs.Rules.{Rules}
+use Rattle.ptu_report.specs.{Reported.{HasReportedAllRead}, Rules.{Rules}}
 
 -- where a line is refused, the output was written to its end; with this ending it then meets P
 abbrev pub IfRefused : {C : Type 0} → RunFault C → (Ending C → Type 0) → Type 0

@@ -1,8 +1,7 @@
 -- What one line of the input was to a program over lines.
 use Rattle.std.specs.Prelude.{◌≡◌, ℕ, ◌+◌, List, [], ◌∷◌, Option, Some, None, IfSome}
 use Rattle.ptu_outside.specs.Handing.{HasPut}
-use Rattle.ptu_lines.specs.Script.{ScriptLine, text_of}
-use Rattle.ptu_lines.specs.Reading.{Reader, Gives, lines_left}
+use Rattle.ptu_lines.specs.{Script.{ScriptLine, text_of}, Reading.{Reader, Gives, lines_left}}
 use Rattle.ptu_report.specs.declared.ending.Ending.{Ending}
 use Rattle.ptu_report.specs.declared.ending.Ending.TheVariants as endings
 use Rattle.ptu_report.specs.Rules.{Rules, Goes, closing, texts_until, ending_after, meaning_after}

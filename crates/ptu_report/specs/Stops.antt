@@ -1,8 +1,7 @@
 -- Counts of faults of a program that may stop.
 use Rattle.std.specs.Prelude.{◌≡◌, ℕ, Result, Ok, Err}
 use Rattle.ptu_outside.specs.Faults.{HasRisen}
-use Rattle.ptu_report.specs.declared.stop.Stop.{Stop}
-use Rattle.ptu_report.specs.declared.stop.Stop.TheVariants.{Read, Write, OutOfMemory}
+use Rattle.ptu_report.specs.declared.stop.{Stop.{Stop}, Stop.TheVariants.{Read, Write, OutOfMemory}}
 
 -- the source's count rises exactly where it stops since the source failed
 abbrev pub CountsRead : {A : Type 0} → Result A Stop → ℕ → ℕ → Type 0

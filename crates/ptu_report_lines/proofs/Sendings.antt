@@ -2,8 +2,7 @@
 use Rattle.std.proofs.Common.{◌≡◌, ℕ, ◌≤◌, List, [], ◌∷◌, ◌++◌, zero, suc, Some, None, length, refl, ap, ◌∙◌, arith}
 use Rattle.std.specs.Prelude.{slice_get}
 use Rattle.std.proofs.lemmas.Option.{none-some, same_Some, slice_get_past}
-use Rattle.ptu_report_lines.specs.declared.sent_list.Head.{Head}
-use Rattle.ptu_report_lines.specs.Sendings.{sent_in, sent_of}
+use Rattle.ptu_report_lines.specs.{declared.sent_list.Head.{Head}, Sendings.{sent_in, sent_of}}
 
 pub sent_in-push : (heads : List Head) (octets : List (List ℕ)) (h : Head) (o : List ℕ) → length heads ≡ length octets
     → sent_in (heads ++ h ∷ []) (octets ++ o ∷ []) ≡ sent_in heads octets ++ sent_of h o ∷ []

@@ -1,8 +1,7 @@
 -- Words, each behind a space, and the room that they want.
 use Rattle.std.proofs.Common.{◌≡◌, ◌≤◌, ◌<◌, ℕ, zero, suc, ◌+◌, List, [], ◌∷◌, ◌++◌, length, drop, get_or, ap, sym, add-one, append-nil, arith}
 use Rattle.std.proofs.Math.Seq.{drop-cons}
-use Rattle.ptu_report_lines.specs.declared.words.Word.{Word}
-use Rattle.ptu_report_lines.specs.Statements.{words_text}
+use Rattle.ptu_report_lines.specs.{declared.words.Word.{Word}, Statements.{words_text}}
 use Rattle.ptu_report_lines.specs.Words.{most, most_of, spaced_text}
 
 -- the first word, and each other one behind a space

@@ -1,7 +1,6 @@
 -- The datagrams that the nodes of a script sent, by what is kept of each beside its octets.
 use Rattle.std.specs.Prelude.{ℕ, List, [], ◌∷◌}
-use Rattle.ptu_report_lines.specs.declared.sent.Sent.{Sent}
-use Rattle.ptu_report_lines.specs.declared.sent_list.Head.{Head}
+use Rattle.ptu_report_lines.specs.declared.{sent.Sent.{Sent}, sent_list.Head.{Head}}
 
 -- the datagram with these octets
 abbrev pub sent_of : Head → List ℕ → Sent

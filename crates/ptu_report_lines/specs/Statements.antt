@@ -2,13 +2,11 @@
 use Rattle.std.specs.Prelude.{ℕ, ◌∷◌, [], List, ◌++◌, codes, Option, Some, None}
 use Rattle.std.specs.Fmt.{decimal, signed_decimal}
 use Rattle.hex.specs.Hex.{encode_lower}
-use Rattle.ptu_units.specs.declared.kind.Kind.{Kind}
-use Rattle.ptu_units.specs.Kind.{kind_of}
+use Rattle.ptu_units.specs.{declared.kind.Kind.{Kind}, Kind.{kind_of}}
 use Rattle.ptu_outside.specs.declared.channel.Channel.{Channel}
 use Rattle.ptu_outside.specs.declared.channel.Channel.TheVariants.{Event, General}
 use Rattle.ptu_history.specs.declared.client.Client.{Client}
-use Rattle.ptu_texts.specs.Texts.{address_text, identity_text, kind_text}
-use Rattle.ptu_texts.specs.Faults.{fault_text}
+use Rattle.ptu_texts.specs.{Texts.{address_text, identity_text, kind_text}, Faults.{fault_text}}
 use Rattle.ptu_script.specs.Cause as causes
 use Rattle.ptu_report_lines.specs.declared.decision.Decision.{Decision}
 use Rattle.ptu_report_lines.specs.declared.decision.Decision.TheVariants as decisions
@@ -20,8 +18,7 @@ use Rattle.ptu_report_lines.specs.declared.signal.Received.{Received}
 use Rattle.ptu_report_lines.specs.declared.signal.Received.TheVariants as receipts
 use Rattle.ptu_report_lines.specs.declared.reason.Reason.{Reason}
 use Rattle.ptu_report_lines.specs.declared.reason.Reason.TheVariants as reasons
-use Rattle.ptu_report_lines.specs.declared.sent.Sent.{Sent}
-use Rattle.ptu_report_lines.specs.declared.statement.Statement.{Statement}
+use Rattle.ptu_report_lines.specs.declared.{sent.Sent.{Sent}, statement.Statement.{Statement}}
 use Rattle.ptu_report_lines.specs.declared.statement.Statement.TheVariants as statements
 
 -- words, with one space between two of them

@@ -1,13 +1,10 @@
 -- The kinds that are due, from the flag of each.
 use Rattle.std.proofs.Common.{◌≡◌, Bool, ◌&&◌, cond, List, [], ◌∷◌, Some, None, refl, ap, ◌∙◌}
 use Rattle.std.specs.Option.{is_some}
-use Rattle.ptu_units.specs.declared.kind.Kind.{Kind}
-use Rattle.ptu_units.specs.declared.kind.Kind.TheVariants.{Announce, Sync, DelayResp}
-use Rattle.ptu_record.specs.declared.wants.Wants.{Wants}
-use Rattle.ptu_record.specs.Record.{Record}
+use Rattle.ptu_units.specs.declared.kind.{Kind.{Kind}, Kind.TheVariants.{Announce, Sync, DelayResp}}
+use Rattle.ptu_record.specs.{declared.wants.Wants.{Wants}, Record.{Record}}
 use Rattle.ptu_record.specs.Asks.{is_due, due_kinds}
-use Rattle.ptu_requester.specs.declared.due.Due.{Due}
-use Rattle.ptu_requester.specs.Due.{kinds_of}
+use Rattle.ptu_requester.specs.{declared.due.Due.{Due}, Due.{kinds_of}}
 
 pub kinds_are : (wants : Wants) (L : Record) (t : _) (due : Due) → due.announce ≡ is_due Announce L t → due.sync ≡ is_due Sync L t
     → due.delay ≡ (is_some wants.delay && is_due DelayResp L t) → kinds_of due ≡ due_kinds wants L t

@@ -4,16 +4,14 @@ use Rattle.std.specs.Option.{is_some, option_map, unwrap_or}
 use Rattle.ptu_units.specs.declared.kind.Kind.{Kind}
 use Rattle.ptu_record.specs.Lists.{newest_of}
 use Rattle.ptu_record.specs.Record.{Entry, Record, Asked, Granted, Denied, Cancelled}
-use Rattle.ptu_record.specs.Wants.{is_kind}
-use Rattle.ptu_record.specs.Grants.{grant_change, is_live, run_start}
+use Rattle.ptu_record.specs.{Wants.{is_kind}, Grants.{grant_change, is_live, run_start}}
 use Rattle.ptu_record.specs.Asks.{ask_moment, is_answer, refusal_moment, open_asks}
 use Rattle.ptu_record.specs.Kept.{KindState, kind_state_after}
 use Rattle.ptu_record.proofs.Requests.{is_kind-self, run_granted, run_kept}
 use Rattle.ptu_record.proofs.KindStates.{kind_state-push}
 use Rattle.ptu_requester.specs.declared.negotiation.Change.{Change}
 use Rattle.ptu_requester.specs.declared.negotiation.Change.TheVariants.{Ask, Grant, Denial, Cancel}
-use Rattle.ptu_requester.specs.declared.negotiation.Negotiation.{Negotiation}
-use Rattle.ptu_requester.specs.declared.negotiation.Term.{Term}
+use Rattle.ptu_requester.specs.declared.negotiation.{Negotiation.{Negotiation}, Term.{Term}}
 use Rattle.ptu_requester.specs.Negotiation.{IsKept, entry_of, state_of, term_of}
 
 pub kept_third : (k : Kind) (L : Record) (n : Negotiation) → IsKept k L n → n.unanswered ≡ length (open_asks k L) % 3

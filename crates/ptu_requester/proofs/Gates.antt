@@ -1,15 +1,11 @@
 -- The gate of an ask, from what is kept.
 use Rattle.std.proofs.Common.{◌≡◌, ℕ, ◌+◌, ◌*◌, max, Bool, true, false, cond, [], ◌∷◌, Option, Some, None, refl, ap, sym, ◌∙◌, arith}
 use Rattle.std.proofs.lemmas.Bool.{cond-true, cond-false}
-use Rattle.std.specs.List.{flat_map}
-use Rattle.std.specs.Option.{option_map, option_to_list, unwrap_or}
+use Rattle.std.specs.{List.{flat_map}, Option.{option_map, option_to_list, unwrap_or}}
 use Rattle.ptu_units.specs.declared.kind.Kind.{Kind}
-use Rattle.ptu_record.specs.Lists.{maximum}
-use Rattle.ptu_record.specs.Record.{Record}
-use Rattle.ptu_record.specs.Grants.{is_live}
+use Rattle.ptu_record.specs.{Lists.{maximum}, Record.{Record}, Grants.{is_live}}
 use Rattle.ptu_record.specs.Asks.{renewal_gate}
-use Rattle.ptu_requester.specs.declared.negotiation.Negotiation.{Negotiation}
-use Rattle.ptu_requester.specs.declared.negotiation.Term.{Term}
+use Rattle.ptu_requester.specs.declared.negotiation.{Negotiation.{Negotiation}, Term.{Term}}
 use Rattle.ptu_requester.specs.Negotiation.{IsKept, term_of}
 
 -- the greatest of three moments, as far as they exist

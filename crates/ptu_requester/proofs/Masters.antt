@@ -1,7 +1,6 @@
 -- What is kept of each master, with one entry of the slave's record more.
 use Rattle.std.proofs.Common.{◌≡◌, ◌≢◌, ℕ, zero, suc, ◌<◌, Bool, true, false, cond, List, [], ◌∷◌, ◌++◌, Some, length, refl, ap, sym, subst, ◌∙◌, arith, eqb, set, get_or}
-use Rattle.std.proofs.lemmas.Bool.{eqb-true, eq-eqb}
-use Rattle.std.proofs.lemmas.Option.{slice_get_read, same_Some}
+use Rattle.std.proofs.lemmas.{Bool.{eqb-true, eq-eqb}, Option.{slice_get_read, same_Some}}
 use Rattle.std.specs.List.{slice_get}
 use Rattle.ptu_units.specs.declared.kind.Kind.{Kind}
 use Rattle.ptu_record.specs.Record.{Record, record_of, concerns}
@@ -9,8 +8,7 @@ use Rattle.ptu_record.proofs.Others.{record_of-push}
 use Rattle.ptu_requester.specs.declared.negotiation.Change.{Change}
 use Rattle.ptu_requester.specs.declared.negotiation.Change.TheVariants.{Ask, Grant, Denial, Cancel}
 use Rattle.ptu_requester.specs.declared.negotiations.Negotiations.{Negotiations}
-use Rattle.ptu_requester.specs.Negotiation.{entry_of}
-use Rattle.ptu_requester.specs.Requester.{Kept, AreKept, StandsFor}
+use Rattle.ptu_requester.specs.{Negotiation.{entry_of}, Requester.{Kept, AreKept, StandsFor}}
 
 -- a change concerns the one master
 concerns-entry_of : (n : ℕ) (change : Change) (at m : ℕ) (k : Kind) → concerns n (entry_of change at m k) ≡ eqb m n

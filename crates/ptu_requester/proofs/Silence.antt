@@ -1,10 +1,8 @@
 -- Entries that say nothing of asks and grants.
 use Rattle.std.proofs.Common.{◌≡◌, ℕ, Bool, true, false, cond, [], ◌∷◌, ◌++◌, refl, sym, subst, append_assoc}
-use Rattle.std.proofs.lemmas.Bool.{false≢true}
-use Rattle.std.proofs.lemmas.List.{append-nil}
+use Rattle.std.proofs.lemmas.{Bool.{false≢true}, List.{append-nil}}
 use Rattle.std.specs.List.{AllByRecursion}
-use Rattle.ptu_units.specs.declared.kind.Kind.{Kind}
-use Rattle.ptu_units.specs.declared.kind.Kind.TheVariants.{Announce, Sync, DelayResp}
+use Rattle.ptu_units.specs.declared.kind.{Kind.{Kind}, Kind.TheVariants.{Announce, Sync, DelayResp}}
 use Rattle.ptu_record.specs.Record.{Entry, Record, record_of, concerns, Announce as announced, Sync as synced, Resp, Told, Judge, Judged, Asked, Granted, Denied, Cancelled, Probed, Signalled, Stopped, Event}
 use Rattle.ptu_record.proofs.Others.{record_of-push}
 use Rattle.ptu_requester.specs.declared.negotiations.Negotiations.{Negotiations}

@@ -1,7 +1,6 @@
 -- The stop, and a CANCEL of each live grant of each master.
 use Rattle.std.proofs.Common.{append_assoc, ◌≡◌, ◌≢◌, ℕ, zero, suc, ◌+◌, ◌<◌, ◌≤◌, Bool, true, false, cond, List, [], ◌∷◌, ◌++◌, map, refl, ap, sym, ◌∙◌, arith, eqb, add-zero, add-one, zero-add}
-use Rattle.std.proofs.lemmas.Bool.{false≢true, ne_eqb, eq-eqb, eqb-true}
-use Rattle.std.proofs.lemmas.List.{append-nil}
+use Rattle.std.proofs.lemmas.{Bool.{false≢true, ne_eqb, eq-eqb, eqb-true}, List.{append-nil}}
 use Rattle.std.proofs.lemmas.List.Elements.{filter-append}
 use Rattle.std.specs.List.{flat_map, range_with_len}
 use Rattle.ptu_units.specs.declared.kind.Kind.{Kind}

@@ -1,7 +1,6 @@
 -- For which kinds a master is asked.
 use Rattle.std.specs.Prelude.{Bool, List, filter}
-use Rattle.ptu_units.specs.declared.kind.Kind.{Kind}
-use Rattle.ptu_units.specs.declared.kind.Kind.TheVariants.{Announce, Sync, DelayResp}
+use Rattle.ptu_units.specs.declared.kind.{Kind.{Kind}, Kind.TheVariants.{Announce, Sync, DelayResp}}
 use Rattle.ptu_units.specs.Kind.{kinds}
 use Rattle.ptu_requester.specs.declared.due.Due.{Due}
 

@@ -2,12 +2,10 @@
 use Rattle.std.specs.Prelude.{◌≡◌, ℕ, [], ◌∷◌, ◌++◌, option_map}
 use Rattle.ptu_units.specs.declared.kind.Kind.{Kind}
 use Rattle.ptu_record.specs.Record.{Entry, Record, Asked, Granted, Denied, Cancelled}
-use Rattle.ptu_record.specs.Grants.{run_start}
-use Rattle.ptu_record.specs.Kept.{KindState, kind_state}
+use Rattle.ptu_record.specs.{Grants.{run_start}, Kept.{KindState, kind_state}}
 use Rattle.ptu_requester.specs.declared.negotiation.Change.{Change}
 use Rattle.ptu_requester.specs.declared.negotiation.Change.TheVariants.{Ask, Grant, Denial, Cancel}
-use Rattle.ptu_requester.specs.declared.negotiation.Term.{Term}
-use Rattle.ptu_requester.specs.declared.negotiation.Negotiation.{Negotiation}
+use Rattle.ptu_requester.specs.declared.negotiation.{Term.{Term}, Negotiation.{Negotiation}}
 
 -- the entry of a change
 abbrev pub entry_of : Change → (at master : ℕ) → Kind → Entry

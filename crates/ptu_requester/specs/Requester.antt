@@ -2,9 +2,7 @@
 use Rattle.std.specs.Prelude.{◌≡◌, ◌≢◌, ℕ, Bool, true, false, List, ◌++◌, map, flat_map, length, Some}
 use Rattle.std.specs.List.{slice_get}
 use Rattle.ptu_units.specs.declared.kind.Kind.{Kind}
-use Rattle.ptu_record.specs.declared.wants.Wants.{Wants}
-use Rattle.ptu_record.specs.Lists.{places}
-use Rattle.ptu_record.specs.Grants.{live_kinds}
+use Rattle.ptu_record.specs.{declared.wants.Wants.{Wants}, Lists.{places}, Grants.{live_kinds}}
 use Rattle.ptu_record.specs.Record.{Entry, Record, record_of, Asked, Granted, Denied, Cancelled, Stopped}
 use Rattle.ptu_requester.specs.declared.negotiations.Negotiations.{Negotiations}
 use Rattle.ptu_requester.specs.Negotiation.{IsKept}

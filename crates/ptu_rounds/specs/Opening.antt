@@ -1,7 +1,6 @@
 -- Where a daemon opened its host.
 use Rattle.std.specs.Prelude.{Option, Some, Result, Ok, Err}
-use Rattle.ptu_outside.specs.declared.endpoint.Endpoint.{Endpoint}
-use Rattle.ptu_outside.specs.Telling.{IfTold}
+use Rattle.ptu_outside.specs.{declared.endpoint.Endpoint.{Endpoint}, Telling.{IfTold}}
 use Rattle.ptu_rounds.specs.declared.fault.DaemonFault.{DaemonFault}
 use Rattle.ptu_rounds.specs.declared.fault.DaemonFault.TheVariants.{Open, Write, OutOfMemory}
 

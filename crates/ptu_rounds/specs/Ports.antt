@@ -1,9 +1,7 @@
 -- The six ports of a daemon, at their opening and when they are given back.
 use Rattle.std.specs.Prelude.{◌≡◌, ℕ, ◌+◌, List, [], ◌∷◌, length, Option, option_map}
-use Rattle.ptu_outside.specs.declared.opened.Opened.{Opened}
-use Rattle.ptu_outside.specs.Departure.{Departure}
-use Rattle.ptu_outside.specs.Faults.{HasRisen, HasRisenBy, HasRisenJust}
-use Rattle.ptu_outside.specs.Telling.{IfTold}
+use Rattle.ptu_outside.specs.{declared.opened.Opened.{Opened}, Departure.{Departure}}
+use Rattle.ptu_outside.specs.{Faults.{HasRisen, HasRisenBy, HasRisenJust}, Telling.{IfTold}}
 
 -- the ports that send in a grandmaster's daemon
 abbrev pub senders_of : {P C : Type 0} → Opened P C → List P

@@ -1,7 +1,6 @@
 -- How what waits at the ports of a daemon, and the moments of its clock, become rounds (the project's own choice).
 use Rattle.std.specs.Prelude.{ℕ, suc, zero, ◌*◌, List, [], ◌∷◌, ◌++◌, take, drop}
-use Rattle.ptu_outside.specs.declared.arrival.Arrival.{Arrival}
-use Rattle.ptu_outside.specs.Clocks.{after_first}
+use Rattle.ptu_outside.specs.{declared.arrival.Arrival.{Arrival}, Clocks.{after_first}}
 
 -- how many datagrams a round takes of a channel at most
 abbrev pub most : ℕ

@@ -1,9 +1,7 @@
 -- A logarithm that is read in a wide range first.
-use Rattle.std.proofs.Common.{◌≡◌, ℕ, List, Some, None, refl, arith}
-use Rattle.std.proofs.lemmas.Int.{ints}
+use Rattle.std.proofs.{Common.{◌≡◌, ℕ, List, Some, None, refl, arith}, lemmas.Int.{ints}}
 use Rattle.std.specs.Prelude.{ℤ, pos, negsuc, option_and_then}
-use Rattle.ptu_units.specs.declared.kind.Kind.{Kind}
-use Rattle.ptu_units.specs.declared.kind.Kind.TheVariants.{Announce, Sync, DelayResp}
+use Rattle.ptu_units.specs.declared.kind.{Kind.{Kind}, Kind.TheVariants.{Announce, Sync, DelayResp}}
 use Rattle.ptu_units.specs.Log.{least_log}
 use Rattle.ptu_lines.specs.Words.{log_of, log_within, int_within}
 use Rattle.ptu_script.specs.Fields.{log_of_kind}

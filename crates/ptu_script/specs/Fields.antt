@@ -7,8 +7,7 @@ use Rattle.ptu_units.specs.Log.{least_log}
 use Rattle.ptu_lines.specs.Words.{word_of, number_within, log_within, is_dash}
 use Rattle.ptu_record.specs.declared.rule.Rule.{Rule}
 use Rattle.ptu_record.specs.declared.rule.Rule.TheVariants as rules
-use Rattle.ptu_script.specs.declared.cause.Cause.{Cause}
-use Rattle.ptu_script.specs.declared.cause.Cause.TheVariants.{Field}
+use Rattle.ptu_script.specs.declared.cause.{Cause.{Cause}, Cause.TheVariants.{Field}}
 
 infixl 10 ◌>>=◌
 abbrev pub ◌>>=◌ : {A B : Type 0} → Result A Cause → (A → Result B Cause) → Result B Cause

@@ -6,8 +6,7 @@ use Rattle.ptu_profile.specs.Limits.{IsCapacity, IsDomain, IsDuration, IsPort, I
 use Rattle.ptu_record.specs.declared.rule.Rule.{Rule}
 use Rattle.ptu_record.specs.declared.rule.Rule.TheVariants as rules
 use Rattle.ptu_script.specs.declared.command.GrandmasterSetup.{GrandmasterSetup}
-use Rattle.ptu_script.specs.declared.command.SlaveSetup.{SlaveSetup}
-use Rattle.ptu_script.specs.declared.command.Command.{Command}
+use Rattle.ptu_script.specs.declared.command.{SlaveSetup.{SlaveSetup}, Command.{Command}}
 use Rattle.ptu_script.specs.declared.command.Command.TheVariants.{Grandmaster, Slave, Master, Receive, Turn, Judge, Capacity}
 
 pub record IsGrandmasterWithin (setup : GrandmasterSetup) : Type 0 where

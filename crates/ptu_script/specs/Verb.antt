@@ -1,6 +1,5 @@
 -- The words that a line may begin with, and how many words it has.
-use Rattle.std.specs.Prelude.{ℕ, List, [], ◌∷◌, Option, find, codes}
-use Rattle.std.specs.Str.{bytes_eq}
+use Rattle.std.specs.{Prelude.{ℕ, List, [], ◌∷◌, Option, find, codes}, Str.{bytes_eq}}
 use Rattle.ptu_script.specs.declared.verb.Verb.{Verb}
 use Rattle.ptu_script.specs.declared.verb.Verb.TheVariants.{Gm, Slave, Master, Rx, Deliver, Turn, Tick, Flag, Judge, Stop, Class, Capacity}
 

@@ -1,16 +1,12 @@
 -- The best candidate is the selected master.
 use Rattle.std.proofs.Common.{◌≡◌, ℕ, zero, suc, ◌+◌, ◌<◌, Bool, true, false, cond, ◌&&◌, ◌||◌, List, [], ◌∷◌, map, length, Option, Some, None, refl, ap, sym, subst, ◌∙◌, arith, ltb, eqb, inl, inr, ◌⊎◌}
-use Rattle.std.proofs.lemmas.Bool.{false≢true, and_parts}
-use Rattle.std.proofs.lemmas.Bool.Decides.{nat_tests}
+use Rattle.std.proofs.lemmas.{Bool.{false≢true, and_parts}, Bool.Decides.{nat_tests}}
 use Rattle.std.proofs.lemmas.List.{length-map}
 use Rattle.std.proofs.lemmas.Option.{get_or_from_slice_get, slice_get-map, slice_get_within}
-use Rattle.std.specs.List.{enumerate_from, fold, slice_get}
-use Rattle.std.specs.Option.{option_map}
+use Rattle.std.specs.{List.{enumerate_from, fold, slice_get}, Option.{option_map}}
 use Rattle.std.specs.Prelude.{slice_index}
-use Rattle.ptu_record.specs.declared.quality.Quality.{Quality}
-use Rattle.ptu_record.specs.Quality.{is_usable, rank_of}
-use Rattle.ptu_record.specs.Record.{Record, record_of}
-use Rattle.ptu_record.specs.SignalFails.{Timeouts}
+use Rattle.ptu_record.specs.{declared.quality.Quality.{Quality}, Quality.{is_usable, rank_of}}
+use Rattle.ptu_record.specs.{Record.{Record, record_of}, SignalFails.{Timeouts}}
 use Rattle.ptu_record.specs.Selection.{IsBest, IsSelected, is_better, is_candidate, level, selected_master}
 use Rattle.ptu_record.proofs.Choice.{one_choice, selected_is}
 use Rattle.ptu_fails.specs.declared.state.WatchState.{WatchState}

@@ -1,19 +1,14 @@
 -- A selector with one entry more.
 use Rattle.std.proofs.Common.{◌≡◌, ◌≢◌, ℕ, ◌<◌, Bool, true, false, cond, List, [], ◌∷◌, ◌++◌, map, length, Option, Some, None, refl, ap, sym, subst, ◌∙◌, eqb, inl, inr, get_or, set}
-use Rattle.std.proofs.Math.Seq.{map-set_same}
-use Rattle.std.proofs.lemmas.Bool.{cases_eq, eq-eqb, ne_eqb}
+use Rattle.std.proofs.{Math.Seq.{map-set_same}, lemmas.Bool.{cases_eq, eq-eqb, ne_eqb}}
 use Rattle.std.proofs.lemmas.List.{length-set, get_or-set_same, get_or-set_other}
 use Rattle.std.proofs.lemmas.Option.{get_or_from_slice_get, slice_get-get_or, slice_get-map, slice_get_within}
-use Rattle.std.specs.List.{AllByRecursion, slice_get}
-use Rattle.std.specs.Option.{option_map}
-use Rattle.ptu_record.specs.Record.{Entry, Record, concerns, record_of}
-use Rattle.ptu_record.specs.SignalFails.{Timeouts}
-use Rattle.ptu_record.proofs.Others.{record_of-push}
-use Rattle.ptu_record.proofs.StepParts.{record_of-append}
+use Rattle.std.specs.{List.{AllByRecursion, slice_get}, Option.{option_map}}
+use Rattle.ptu_record.specs.{Record.{Entry, Record, concerns, record_of}, SignalFails.{Timeouts}}
+use Rattle.ptu_record.proofs.{Others.{record_of-push}, StepParts.{record_of-append}}
 use Rattle.ptu_fails.specs.Watched.{StandsFor, Watched, is_watched}
 use Rattle.ptu_fails.proofs.Watching.{unwatched}
-use Rattle.ptu_select.specs.declared.master.WatchedMaster.{WatchedMaster}
-use Rattle.ptu_select.specs.Selecting.{SelectsBy}
+use Rattle.ptu_select.specs.{declared.master.WatchedMaster.{WatchedMaster}, Selecting.{SelectsBy}}
 
 get-set_same : (xs : List WatchedMaster) (m : ℕ) (y : WatchedMaster) → m < length xs → slice_get (set xs m y) m ≡ Some y
 get-set_same xs m y lt =

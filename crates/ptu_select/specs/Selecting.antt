@@ -1,7 +1,6 @@
 -- Which records of a slave its selector stands for.
 use Rattle.std.specs.Prelude.{◌≡◌, ℕ, List, map, slice_get, Some}
-use Rattle.ptu_record.specs.Record.{Record, record_of}
-use Rattle.ptu_record.specs.SignalFails.{Timeouts}
+use Rattle.ptu_record.specs.{Record.{Record, record_of}, SignalFails.{Timeouts}}
 use Rattle.ptu_fails.specs.Watched.{StandsFor}
 use Rattle.ptu_select.specs.declared.master.WatchedMaster.{WatchedMaster}
 

@@ -1,26 +1,18 @@
 -- What is due, by the entries of rows in a queue.
 use Rattle.std.proofs.Common.{◌≡◌, ◌∙◌, ◌⊎◌, inl, inr, ℕ, ◌<◌, ◌≤◌, List, [], ◌∷◌, Bool, true, false, ◌&&◌, cond, ltb, leb, refl, sym, ap, ap₂, drop, suc, subst, arith}
-use Rattle.std.specs.List.{All, AllPairs, Contains, filter}
-use Rattle.std.specs.List.Sorted.{IsPermutation}
-use Rattle.std.specs.Ordering.{is_lt}
-use Rattle.std.specs.declared.cmp.Ordering.TheVariants.{Less}
+use Rattle.std.specs.{List.{All, AllPairs, Contains, filter}, List.Sorted.{IsPermutation}}
+use Rattle.std.specs.{Ordering.{is_lt}, declared.cmp.Ordering.TheVariants.{Less}}
 use Rattle.std.proofs.lemmas.Bool.{and_from, and_parts, false_from_ne_true, le-leb, leb-true, lt-ltb, ltb-true, true≢false}
-use Rattle.std.proofs.lemmas.List.Elements.{All-contains}
-use Rattle.std.proofs.lemmas.List.Kept.{AllPairs-filter}
+use Rattle.std.proofs.lemmas.List.{Elements.{All-contains}, Kept.{AllPairs-filter}}
 use Rattle.std.proofs.lemmas.List.Sorted.{Contains-permutation, IsPermutation-refl}
 use Rattle.std.proofs.lemmas.Simd.{map-map}
-use Rattle.ptu_history.specs.Client.{same_lease}
-use Rattle.ptu_history.specs.Turns.{is_turned}
-use Rattle.ptu_history.proofs.Keys.{same_lease-refl}
-use Rattle.ptu_history.proofs.Standing.{Contains-filter}
+use Rattle.ptu_history.specs.{Client.{same_lease}, Turns.{is_turned}}
+use Rattle.ptu_history.proofs.{Keys.{same_lease-refl}, Standing.{Contains-filter}}
 use Rattle.ptu_history.proofs.Unique.{Apart-from_pairs, Contains-cons_cases, Contains-first, Contains-from_filter, Contains-later, Rises-unique}
-use Rattle.ptu_shard.specs.declared.lease.Row.{Row}
-use Rattle.ptu_shard.specs.declared.queue.Entry.{Entry}
-use Rattle.ptu_shard.specs.Queue.{HasEdges, IsNoneBelow, edge_entry, entry_cmp}
-use Rattle.ptu_shard.specs.Row.{is_row_of}
+use Rattle.ptu_shard.specs.declared.{lease.Row.{Row}, queue.Entry.{Entry}}
+use Rattle.ptu_shard.specs.{Queue.{HasEdges, IsNoneBelow, edge_entry, entry_cmp}, Row.{is_row_of}}
 use Rattle.ptu_shard.specs.Turn.{due_rows, is_due_row, row_cmp, spent_row, spent_where}
-use Rattle.ptu_shard.proofs.RowLists.{Differ}
-use Rattle.ptu_shard.proofs.Sorting.{row_cmp-differ, row_cmp-total}
+use Rattle.ptu_shard.proofs.{RowLists.{Differ}, Sorting.{row_cmp-differ, row_cmp-total}}
 use Rattle.ptu_shard.proofs.Spending.{Contains-image, IsImage, distinct_spent, image}
 use Rattle.ptu_shard.proofs.Members.{in_order_from, in_order_to, map_agree, map_same, one_row, rises_in_order}
 use Rattle.ptu_history.proofs.Unique.{below_from}

@@ -1,22 +1,15 @@
 -- What is over, by the entries of rows in a queue.
 use Rattle.std.proofs.Common.{◌≡◌, ◌∙◌, ◌⊎◌, inl, inr, ℕ, ◌<◌, ◌≤◌, List, [], ◌∷◌, Bool, true, false, cond, not, ltb, refl, sym, ap, ap₂, arith, Some}
-use Rattle.std.specs.List.{All, AllPairs, Contains, filter}
-use Rattle.std.specs.List.Sorted.{IsPermutation}
+use Rattle.std.specs.{List.{All, AllPairs, Contains, filter}, List.Sorted.{IsPermutation}}
 use Rattle.std.proofs.lemmas.Bool.{false_from_ne_true, lt-ltb, ltb-true, true≢false}
-use Rattle.std.proofs.lemmas.List.Elements.{All-contains}
-use Rattle.std.proofs.lemmas.List.Kept.{AllPairs-filter}
+use Rattle.std.proofs.lemmas.List.{Elements.{All-contains}, Kept.{AllPairs-filter}}
 use Rattle.std.proofs.lemmas.List.Sorted.{Contains-permutation, IsPermutation-sym}
 use Rattle.ptu_units.specs.declared.kind.Kind.{Kind}
-use Rattle.ptu_history.specs.declared.client.Client.{Client}
-use Rattle.ptu_history.specs.Client.{same_lease}
-use Rattle.ptu_history.proofs.Keys.{same_lease-refl, same_lease-true}
-use Rattle.ptu_history.proofs.Standing.{Contains-filter}
+use Rattle.ptu_history.specs.{declared.client.Client.{Client}, Client.{same_lease}}
+use Rattle.ptu_history.proofs.{Keys.{same_lease-refl, same_lease-true}, Standing.{Contains-filter}}
 use Rattle.ptu_history.proofs.Unique.{Apart-from_pairs, Contains-cons_cases, Contains-first, Contains-from_filter, Contains-later}
-use Rattle.ptu_shard.specs.declared.lease.Lease.{Lease}
-use Rattle.ptu_shard.specs.declared.lease.Row.{Row}
-use Rattle.ptu_shard.specs.declared.queue.Entry.{Entry}
-use Rattle.ptu_shard.specs.Queue.{HasEnds, end_entry}
-use Rattle.ptu_shard.specs.Row.{is_row_of, lease_of, without_row}
+use Rattle.ptu_shard.specs.declared.{lease.Lease.{Lease}, lease.Row.{Row}, queue.Entry.{Entry}}
+use Rattle.ptu_shard.specs.{Queue.{HasEnds, end_entry}, Row.{is_row_of, lease_of, without_row}}
 use Rattle.ptu_shard.proofs.RowLists.{Differ}
 use Rattle.ptu_shard.proofs.Members.{other_rows, own_lease, same_rows, without_other}
 use Rattle.ptu_shard.proofs.Sorting.{distinct_permuted}

@@ -1,14 +1,11 @@
 -- Entries of rows that are put into a queue one by one.
 use Rattle.std.proofs.Common.{◌≡◌, ◌∙◌, ◌⊎◌, inl, inr, ℕ, zero, suc, ◌+◌, ◌<◌, ◌++◌, List, [], ◌∷◌, length, take, sym, ap, subst, arith, Some, None, slice_get}
-use Rattle.std.specs.List.{Contains}
-use Rattle.std.specs.List.Sorted.{IsPermutation}
-use Rattle.std.proofs.lemmas.List.{take_more}
-use Rattle.std.proofs.lemmas.List.Elements.{Contains-push_cases}
+use Rattle.std.specs.{List.{Contains}, List.Sorted.{IsPermutation}}
+use Rattle.std.proofs.lemmas.{List.{take_more}, List.Elements.{Contains-push_cases}}
 use Rattle.std.proofs.lemmas.List.Sorted.{Contains-permutation}
 use Rattle.std.proofs.lemmas.Option.{get_or_from_slice_get, slice_get_within}
 use Rattle.ptu_history.proofs.Unique.{Contains-first, Contains-later}
-use Rattle.ptu_shard.specs.declared.lease.Row.{Row}
-use Rattle.ptu_shard.specs.declared.queue.Entry.{Entry}
+use Rattle.ptu_shard.specs.declared.{lease.Row.{Row}, queue.Entry.{Entry}}
 
 pub none_within : {X : Type 0} (xs : List X) (i : ℕ) → i < length xs → slice_get xs i ≡ None → ⊥
 none_within [] i lt e = absurd (omega arith)

@@ -1,26 +1,17 @@
 -- What the fields of a table say of its rows, after what is done with them.
 use Rattle.std.proofs.Common.{◌≡◌, ◌∙◌, ◌⊎◌, inl, inr, ℕ, ◌+◌, ◌*◌, ◌<◌, ◌≤◌, List, ◌∷◌, length, Bool, true, false, cond, eqb, ltb, refl, sym, ap, subst, arith, Option, Some, None}
-use Rattle.std.specs.List.{Contains}
-use Rattle.std.specs.List.Sorted.{IsPermutation}
-use Rattle.std.proofs.lemmas.Bool.{and_parts, eqb-true, ltb-true, true≢false}
-use Rattle.std.proofs.lemmas.List.{length-map}
+use Rattle.std.specs.{List.{Contains}, List.Sorted.{IsPermutation}}
+use Rattle.std.proofs.lemmas.{Bool.{and_parts, eqb-true, ltb-true, true≢false}, List.{length-map}}
 use Rattle.std.proofs.lemmas.List.Sorted.{Contains-permutation, IsPermutation-sym}
-use Rattle.ptu_units.specs.declared.kind.Kind.{Kind}
-use Rattle.ptu_units.specs.declared.kind.Kind.TheVariants.{DelayResp}
-use Rattle.ptu_history.specs.declared.client.Client.{Client}
-use Rattle.ptu_history.specs.Turns.{is_turned}
-use Rattle.ptu_history.proofs.Keys.{same_lease-true}
-use Rattle.ptu_history.proofs.Unique.{Contains-cons_cases}
-use Rattle.ptu_shard.specs.declared.lease.Row.{Row}
-use Rattle.ptu_shard.specs.declared.queue.Entry.{Entry}
-use Rattle.ptu_shard.specs.declared.lease.Lease.{Lease}
-use Rattle.ptu_shard.specs.declared.rows.Key.{Key}
-use Rattle.ptu_shard.specs.Fields.{AreFields, row_of, rows_of}
+use Rattle.ptu_units.specs.declared.kind.{Kind.{Kind}, Kind.TheVariants.{DelayResp}}
+use Rattle.ptu_history.specs.{declared.client.Client.{Client}, Turns.{is_turned}}
+use Rattle.ptu_history.proofs.{Keys.{same_lease-true}, Unique.{Contains-cons_cases}}
+use Rattle.ptu_shard.specs.declared.{lease.Row.{Row}, queue.Entry.{Entry}, lease.Lease.{Lease}}
+use Rattle.ptu_shard.specs.{declared.rows.Key.{Key}, Fields.{AreFields, row_of, rows_of}}
 use Rattle.ptu_shard.specs.Queue.{HasEdges, HasEnds, Queued, edge_entry, end_entry, is_edge_kept}
 use Rattle.ptu_shard.specs.Row.{is_row_of, lease_of, without_row}
 use Rattle.ptu_shard.specs.Turn.{is_answering_row, is_lawful_row, spent_row, spent_where}
-use Rattle.ptu_shard.proofs.Members.{kept_row, other_rows}
-use Rattle.ptu_shard.proofs.Spending.{IsImage, image}
+use Rattle.ptu_shard.proofs.{Members.{kept_row, other_rows}, Spending.{IsImage, image}}
 
 -- fewer rows, at a later moment
 pub edges_fewer : (m n : ℕ) (rows new : List Row) (entries : List Entry) → m ≤ n → HasEdges m rows entries → ((z : Row) → Contains new z → Contains rows z) → HasEdges n new entries

@@ -1,22 +1,14 @@
 -- The entries of a map by client and kind, as rows.
 use Rattle.std.proofs.Common.{◌≡◌, ◌∙◌, List, [], ◌∷◌, Bool, true, false, cond, refl, sym, ap, ap₂, subst, map, Option, Some}
-use Rattle.std.specs.List.{find, IsDistinct}
-use Rattle.std.specs.Map.{keys_of, lookup, set_value}
+use Rattle.std.specs.{List.{find, IsDistinct}, Map.{keys_of, lookup, set_value}}
 use Rattle.std.specs.Option.{option_map}
-use Rattle.std.proofs.lemmas.Bool.{true≢false}
-use Rattle.std.proofs.lemmas.List.Elements.{All-contains, All-from_recursion}
+use Rattle.std.proofs.lemmas.{Bool.{true≢false}, List.Elements.{All-contains, All-from_recursion}}
 use Rattle.ptu_units.specs.declared.kind.Kind.{Kind}
-use Rattle.ptu_history.specs.declared.client.Client.{Client}
-use Rattle.ptu_history.specs.Client.{same_lease}
-use Rattle.ptu_history.proofs.Keys.{same_lease-true}
-use Rattle.ptu_history.proofs.Unique.{Apart}
-use Rattle.ptu_shard.specs.declared.lease.Lease.{Lease}
-use Rattle.ptu_shard.specs.declared.lease.Row.{Row}
-use Rattle.ptu_shard.specs.declared.rows.Key.{Key}
-use Rattle.ptu_shard.specs.Fields.{row_of, rows_of}
-use Rattle.ptu_shard.specs.Row.{is_row_of, lease_of}
-use Rattle.ptu_shard.proofs.RowLists.{Differ}
-use Rattle.ptu_shard.proofs.Spending.{Contains-image, IsImage, image}
+use Rattle.ptu_history.specs.{declared.client.Client.{Client}, Client.{same_lease}}
+use Rattle.ptu_history.proofs.{Keys.{same_lease-true}, Unique.{Apart}}
+use Rattle.ptu_shard.specs.declared.{lease.Lease.{Lease}, lease.Row.{Row}, rows.Key.{Key}}
+use Rattle.ptu_shard.specs.{Fields.{row_of, rows_of}, Row.{is_row_of, lease_of}}
+use Rattle.ptu_shard.proofs.{RowLists.{Differ}, Spending.{Contains-image, IsImage, image}}
 use Rattle.ptu_shard.proofs.Members.{map_same, missing_below}
 
 -- a test of keys that is the test of rows

@@ -1,7 +1,6 @@
 -- The test by which keys are found.
 use Rattle.std.proofs.Common.{◌≡◌, ◌&&◌, Bool, true, false, ap₂, eqb, refl}
-use Rattle.ptu_units.specs.declared.kind.Kind.{Kind}
-use Rattle.ptu_units.specs.declared.kind.Kind.TheVariants.{Announce, Sync, DelayResp}
+use Rattle.ptu_units.specs.declared.kind.{Kind.{Kind}, Kind.TheVariants.{Announce, Sync, DelayResp}}
 use Rattle.ptu_units.specs.contracts.kind.KindPartialEq.TheImpl as kinds
 use Rattle.ptu_history.specs.Client.{same_kind, same_lease}
 use Rattle.ptu_shard.specs.declared.rows.Key.{Key}

@@ -1,23 +1,18 @@
 -- Rows by their members: lists without two rows of one client and kind are given by what is in them, up to order.
 use Rattle.std.proofs.Common.{◌≡◌, ◌∙◌, ◌⊎◌, inl, inr, ◌+◌, List, [], ◌∷◌, Bool, true, false, not, cond, refl, sym, ap, ap₂, subst, map, arith, Option, Some, None, IfSome}
-use Rattle.std.specs.List.{AllPairs, Contains, find}
-use Rattle.std.specs.List.Sorted.{IsPermutation}
+use Rattle.std.specs.{List.{AllPairs, Contains, find}, List.Sorted.{IsPermutation}}
 use Rattle.std.specs.Option.{option_map}
-use Rattle.std.proofs.lemmas.Bool.{not-true, true≢false}
-use Rattle.std.proofs.lemmas.List.Kept.{AllPairs-filter}
+use Rattle.std.proofs.lemmas.{Bool.{not-true, true≢false}, List.Kept.{AllPairs-filter}}
 use Rattle.std.proofs.lemmas.List.Sorted.{Contains-permutation, IsPermutation-sym, IsPermutation-trans, sum_by-IsPermutation}
 use Rattle.std.proofs.lemmas.List.Sums.{sum_by-cons}
-use Rattle.ptu_units.specs.declared.kind.Kind.{Kind}
-use Rattle.ptu_units.specs.Log.{rate_of}
-use Rattle.ptu_history.specs.declared.client.Client.{Client}
-use Rattle.ptu_history.specs.Client.{same_lease}
+use Rattle.ptu_units.specs.{declared.kind.Kind.{Kind}, Log.{rate_of}}
+use Rattle.ptu_history.specs.{declared.client.Client.{Client}, Client.{same_lease}}
 use Rattle.ptu_history.specs.Order.{in_order}
 use Rattle.ptu_history.proofs.Keys.{same_lease-refl, same_lease-sym, same_lease-true}
 use Rattle.ptu_history.proofs.Order.{IsAsymmetric-total, IsPermutation-in_order, IsSorted-in_order}
 use Rattle.ptu_history.proofs.Standing.{Contains-filter}
 use Rattle.ptu_history.proofs.Unique.{Apart, Apart-from_pairs, Contains-cons_cases, Contains-first, Contains-from_filter, Contains-later, Rises, Rises-from_sorted, Rises-unique, pairs_from_Apart}
-use Rattle.ptu_shard.specs.declared.lease.Lease.{Lease}
-use Rattle.ptu_shard.specs.declared.lease.Row.{Row}
+use Rattle.ptu_shard.specs.declared.lease.{Lease.{Lease}, Row.{Row}}
 use Rattle.ptu_shard.specs.Row.{is_row_of, lease_of, rate_of_lease, share_of, without_row}
 use Rattle.ptu_shard.specs.Turn.{row_cmp}
 use Rattle.ptu_shard.proofs.RowLists.{Differ, HasSameMembers, IsMissing, IsPresent, missing_none, present_some}

@@ -1,24 +1,16 @@
 -- What a Delay_Req meets, by the rows.
 use Rattle.std.proofs.Common.{◌≡◌, ◌∙◌, inr, ℕ, ◌≤◌, ◌++◌, List, [], ◌∷◌, Bool, true, false, ◌&&◌, cond, ltb, leb, refl, sym, ap, ap₂, subst, arith, append_assoc, Option, Some, None}
-use Rattle.std.specs.List.{Contains}
-use Rattle.std.specs.Option.{option_map_or}
+use Rattle.std.specs.{List.{Contains}, Option.{option_map_or}}
 use Rattle.std.proofs.lemmas.Bool.{leb-true, ltb-true}
 use Rattle.ptu_units.specs.declared.kind.Kind.TheVariants.{DelayResp}
-use Rattle.ptu_history.specs.declared.client.Client.{Client}
-use Rattle.ptu_history.specs.Client.{table_of}
-use Rattle.ptu_history.specs.History.{Record, Looked, Sent}
-use Rattle.ptu_history.specs.Moments.{book_part, greatest_by}
-use Rattle.ptu_history.specs.Live.{live}
-use Rattle.ptu_history.specs.Lawful.{earliest, lawful}
+use Rattle.ptu_history.specs.{declared.client.Client.{Client}, Client.{table_of}}
+use Rattle.ptu_history.specs.{History.{Record, Looked, Sent}, Moments.{book_part, greatest_by}}
+use Rattle.ptu_history.specs.{Live.{live}, Lawful.{earliest, lawful}}
 use Rattle.ptu_history.specs.Events as step
-use Rattle.ptu_history.specs.Events.{Answer}
-use Rattle.ptu_history.specs.Step.{answer_records, delay_answer}
+use Rattle.ptu_history.specs.{Events.{Answer}, Step.{answer_records, delay_answer}}
 use Rattle.ptu_history.proofs.Keys.{same_lease-true}
-use Rattle.ptu_shard.specs.declared.lease.Lease.{Lease}
-use Rattle.ptu_shard.specs.declared.lease.Row.{Row}
-use Rattle.ptu_shard.specs.Answered.{answer_by}
-use Rattle.ptu_shard.specs.Row.{is_row_of, lease_of}
-use Rattle.ptu_shard.specs.Table.{StandsAt}
+use Rattle.ptu_shard.specs.declared.lease.{Lease.{Lease}, Row.{Row}}
+use Rattle.ptu_shard.specs.{Answered.{answer_by}, Row.{is_row_of, lease_of}, Table.{StandsAt}}
 use Rattle.ptu_shard.specs.Turn.{is_answering_row, is_lawful_row, spent_where}
 use Rattle.ptu_shard.proofs.RowLists.{IsPresent, present_some}
 use Rattle.ptu_shard.proofs.Spending.{spent_agree, spent_none, stands_looked, stands_sent}

@@ -1,18 +1,13 @@
 -- Members, filters and sums of rows.
 use Rattle.std.proofs.Common.{◌≡◌, ◌⊎◌, inl, inr, ◌≤◌, List, [], ◌∷◌, Bool, true, false, not, cond, refl, subst, arith, Option, Some, None}
-use Rattle.std.specs.List.{Contains, filter, find}
-use Rattle.std.specs.List.Sorted.{IsPermutation}
+use Rattle.std.specs.{List.{Contains, filter, find}, List.Sorted.{IsPermutation}}
 use Rattle.std.specs.Option.{option_map}
-use Rattle.std.proofs.lemmas.Bool.{true≢false}
-use Rattle.std.proofs.lemmas.List.Filters.{sum_by-filter_both}
+use Rattle.std.proofs.lemmas.{Bool.{true≢false}, List.Filters.{sum_by-filter_both}}
 use Rattle.std.proofs.lemmas.List.Sorted.{Contains-permutation, IsPermutation-sym}
-use Rattle.ptu_units.specs.declared.kind.Kind.{Kind}
-use Rattle.ptu_units.specs.Log.{rate_of}
-use Rattle.ptu_history.specs.declared.client.Client.{Client}
-use Rattle.ptu_history.specs.Client.{same_lease}
+use Rattle.ptu_units.specs.{declared.kind.Kind.{Kind}, Log.{rate_of}}
+use Rattle.ptu_history.specs.{declared.client.Client.{Client}, Client.{same_lease}}
 use Rattle.ptu_history.proofs.Unique.{Contains-cons_cases, Contains-first, Contains-later}
-use Rattle.ptu_shard.specs.declared.lease.Lease.{Lease}
-use Rattle.ptu_shard.specs.declared.lease.Row.{Row}
+use Rattle.ptu_shard.specs.declared.lease.{Lease.{Lease}, Row.{Row}}
 use Rattle.ptu_shard.specs.Row.{is_row_of, lease_of, share_of}
 
 pub share_of-filter-le : (p : Row → Bool) (rows : List Row) → share_of (filter p rows) ≤ share_of rows

@@ -1,22 +1,17 @@
 -- Rows in the order of sending: a list of rows without two of one client and kind has one such order.
 use Rattle.std.proofs.Common.{◌≡◌, ◌∙◌, ℕ, zero, suc, ◌+◌, ◌≤◌, List, [], ◌∷◌, Bool, true, false, ◌&&◌, cond, eqb, refl, sym, ap, arith}
-use Rattle.std.specs.Cmp.{IsTotalOrder}
-use Rattle.std.specs.Ordering.{nat_cmp, ordering_then}
-use Rattle.std.specs.declared.cmp.Ordering.TheVariants.{Equal}
-use Rattle.std.specs.List.{AllPairs, Contains, sum_by}
+use Rattle.std.specs.{Cmp.{IsTotalOrder}, Ordering.{nat_cmp, ordering_then}}
+use Rattle.std.specs.{declared.cmp.Ordering.TheVariants.{Equal}, List.{AllPairs, Contains, sum_by}}
 use Rattle.std.specs.List.Sorted.{IsPermutation}
 use Rattle.std.proofs.lemmas.Bool.{false_from_ne_true, true≢false, and_from}
 use Rattle.std.proofs.lemmas.Cmp.{nat_cmp_total, on_total, then_total}
-use Rattle.std.proofs.lemmas.List.Sorted.{sum_by-IsPermutation}
-use Rattle.std.proofs.lemmas.List.Sums.{sum_by-cons}
+use Rattle.std.proofs.lemmas.List.{Sorted.{sum_by-IsPermutation}, Sums.{sum_by-cons}}
 use Rattle.ptu_units.specs.declared.kind.Kind.{Kind}
 use Rattle.ptu_history.specs.declared.client.Client.{Client}
 use Rattle.ptu_history.specs.Client.{client_cmp, kind_cmp, kind_place, same_client, same_kind, same_lease}
 use Rattle.ptu_history.proofs.Keys.{same_lease-refl, same_lease-true}
 use Rattle.ptu_history.proofs.Unique.{Apart, Apart-from_pairs, Contains-first, Contains-later, pairs_from_Apart}
-use Rattle.ptu_shard.specs.declared.lease.Row.{Row}
-use Rattle.ptu_shard.specs.Row.{is_row_of}
-use Rattle.ptu_shard.specs.Turn.{row_cmp}
+use Rattle.ptu_shard.specs.{declared.lease.Row.{Row}, Row.{is_row_of}, Turn.{row_cmp}}
 use Rattle.ptu_shard.proofs.RowLists.{Differ}
 use Rattle.ptu_history.proofs.Orders.{nat_tie, then_parts}
 

@@ -1,27 +1,19 @@
 -- Rows after messages: what they keep, and what they stand for.
 use Rattle.std.proofs.Common.{◌≡◌, ◌∙◌, ◌⊎◌, inl, inr, ℕ, zero, suc, ◌+◌, ◌%◌, ◌<◌, ◌≤◌, max, ◌++◌, List, [], ◌∷◌, length, get_or, Bool, true, false, ◌||◌, cond, refl, sym, ap, subst, map, arith, append_assoc, ap₂, None}
 use Rattle.std.specs.List.{AllPairs, Contains, list_any}
-use Rattle.std.proofs.lemmas.List.{append-nil, get_or-map, length-map}
-use Rattle.std.proofs.lemmas.List.Sums.{sum_by-cons}
-use Rattle.ptu_units.specs.declared.kind.Kind.{Kind}
-use Rattle.ptu_units.specs.declared.kind.Kind.TheVariants.{Announce, Sync, DelayResp}
+use Rattle.std.proofs.lemmas.{List.{append-nil, get_or-map, length-map}, List.Sums.{sum_by-cons}}
+use Rattle.ptu_units.specs.declared.kind.{Kind.{Kind}, Kind.TheVariants.{Announce, Sync, DelayResp}}
 use Rattle.ptu_units.specs.Log.{period_of, rate_of}
-use Rattle.ptu_history.specs.declared.client.Client.{Client}
-use Rattle.ptu_history.specs.Client.{same_lease, table_of}
-use Rattle.ptu_history.specs.History.{Record, Looked, Sent}
-use Rattle.ptu_history.specs.Moments.{table_moment, table_part}
-use Rattle.ptu_history.specs.Live.{Grant}
-use Rattle.ptu_history.specs.Lawful.{earliest, last_period}
-use Rattle.ptu_history.specs.Turns.{sent_record}
+use Rattle.ptu_history.specs.{declared.client.Client.{Client}, Client.{same_lease, table_of}}
+use Rattle.ptu_history.specs.{History.{Record, Looked, Sent}, Moments.{table_moment, table_part}}
+use Rattle.ptu_history.specs.{Live.{Grant}, Lawful.{earliest, last_period}, Turns.{sent_record}}
 use Rattle.ptu_history.proofs.Keys.{eq-eqb-self, same_lease-sym, same_lease-true}
 use Rattle.ptu_history.proofs.Moments.{table_moment-push}
 use Rattle.ptu_history.proofs.Renewals.{earliest_delay, earliest_sent, last_period-granted, sequence_sent}
 use Rattle.ptu_history.proofs.Standing.{last_pushed}
 use Rattle.ptu_history.proofs.Unique.{Apart, Contains-cons_cases, Contains-first, Contains-later}
-use Rattle.ptu_shard.specs.declared.lease.Lease.{Lease}
-use Rattle.ptu_shard.specs.declared.lease.Row.{Row}
-use Rattle.ptu_shard.specs.Row.{is_row_of, lease_of, share_of}
-use Rattle.ptu_shard.specs.Table.{IsLeaseOf, StandsAt}
+use Rattle.ptu_shard.specs.declared.lease.{Lease.{Lease}, Row.{Row}}
+use Rattle.ptu_shard.specs.{Row.{is_row_of, lease_of, share_of}, Table.{IsLeaseOf, StandsAt}}
 use Rattle.ptu_shard.specs.Turn.{edge_after, spent_row, spent_where}
 use Rattle.ptu_shard.proofs.RowLists.{Differ, missing_none, none_missing}
 use Rattle.ptu_shard.proofs.Standing.{IsLeaseOf-push}

@@ -1,35 +1,28 @@
 -- The messages and records of a turn and of a Delay_Req, by the rows.
 use Rattle.std.proofs.Common.{◌≡◌, ◌∙◌, ◌⊎◌, inl, inr, ℕ, zero, suc, ◌+◌, ◌<◌, ◌≤◌, ◌++◌, List, [], ◌∷◌, length, get_or, Bool, true, false, ◌&&◌, ◌||◌, eqb, ltb, leb, refl, sym, ap, ap₂, subst, map, arith, append_assoc, Option, Some, None, ℤ}
 use Rattle.std.specs.List.{AllPairs, Contains, filter, list_any}
-use Rattle.std.specs.List.Sorted.{IsSorted, IsSortedBy}
-use Rattle.std.specs.Option.{option_map_or}
+use Rattle.std.specs.{List.Sorted.{IsSorted, IsSortedBy}, Option.{option_map_or}}
 use Rattle.std.specs.Ordering.{is_lt, nat_cmp, ordering_then}
 use Rattle.std.proofs.lemmas.Bool.{and_parts, eqb-true, false_from_ne_true, ltb-true, true≢false}
-use Rattle.std.proofs.lemmas.List.Elements.{All-contains}
-use Rattle.std.proofs.lemmas.List.Kept.{AllPairs-filter}
+use Rattle.std.proofs.lemmas.List.{Elements.{All-contains}, Kept.{AllPairs-filter}}
 use Rattle.std.proofs.lemmas.List.Sorted.{Contains-permutation, IsPermutation-sym}
 use Rattle.ptu_units.specs.declared.kind.Kind.{Kind}
 use Rattle.ptu_history.specs.declared.client.Client.{Client}
 use Rattle.ptu_history.specs.Client.{client_cmp, kind_cmp, same_lease, table_of}
 use Rattle.ptu_history.specs.History.{Record, Looked}
 use Rattle.ptu_history.specs.Live.{Grant, IsDistinctByLease, IsLastDecision, is_live, is_live_of, last_decision, live, standing}
-use Rattle.ptu_history.specs.Runs.{sequence_number}
-use Rattle.ptu_history.specs.Lawful.{earliest, lawful}
+use Rattle.ptu_history.specs.{Runs.{sequence_number}, Lawful.{earliest, lawful}}
 use Rattle.ptu_history.specs.Turns.{due_grants, is_due, is_turned, message_of, sent_record, turn_cmp}
-use Rattle.ptu_history.proofs.Currents.{live-standing}
-use Rattle.ptu_history.proofs.Keys.{same_lease-refl, same_lease-true}
+use Rattle.ptu_history.proofs.{Currents.{live-standing}, Keys.{same_lease-refl, same_lease-true}}
 use Rattle.ptu_history.proofs.Order.{IsAsymmetric-total, IsPermutation-in_order, IsSorted-in_order}
 use Rattle.ptu_history.proofs.Orders.{due_grants-distinct, due_grants-members, due_grants-only}
 use Rattle.ptu_history.proofs.Standing.{Contains-filter, standing-last}
 use Rattle.ptu_history.proofs.Unique.{Apart, Apart-from_pairs, Contains-cons_cases, Contains-first, Contains-from_filter, Contains-later, pairs_from_Apart}
-use Rattle.ptu_shard.specs.declared.lease.Lease.{Lease}
-use Rattle.ptu_shard.specs.declared.lease.Row.{Row}
-use Rattle.ptu_shard.specs.Row.{is_row_of, lease_of}
-use Rattle.ptu_shard.specs.Table.{StandsAt}
+use Rattle.ptu_shard.specs.declared.lease.{Lease.{Lease}, Row.{Row}}
+use Rattle.ptu_shard.specs.{Row.{is_row_of, lease_of}, Table.{StandsAt}}
 use Rattle.ptu_shard.specs.Turn.{due_messages, due_rows, is_due_row, is_lawful_row, message_of_row, row_cmp, spent_where}
 use Rattle.ptu_shard.proofs.RowLists.{Differ, IsPresent, lease_cases, missing_none, present_some}
-use Rattle.ptu_shard.proofs.Standing.{granted_row}
-use Rattle.ptu_shard.proofs.Sorting.{distinct_permuted, row_cmp-total}
+use Rattle.ptu_shard.proofs.{Standing.{granted_row}, Sorting.{distinct_permuted, row_cmp-total}}
 use Rattle.ptu_shard.proofs.Spending.{Contains-image, IsImage, image, is_among, spent_agree, spent_each, spent_each-among, stands_each, stands_looked}
 
 -- a test of another list that gives the same

@@ -3,8 +3,7 @@ use Rattle.std.specs.Prelude.{ℕ, List, [], ◌∷◌, Option, Some, None, nat_
 use Rattle.ptu_history.specs.Events as step
 use Rattle.ptu_history.specs.Events.{Answer}
 use Rattle.ptu_outside.specs.Departure.{Departure}
-use Rattle.ptu_shard.specs.declared.lease.Lease.{Lease}
-use Rattle.ptu_shard.specs.declared.answered.Answered.{Answered}
+use Rattle.ptu_shard.specs.declared.{lease.Lease.{Lease}, answered.Answered.{Answered}}
 use Rattle.ptu_shard.specs.declared.answered.Answered.TheVariants.{Sent, Failed, NoGrant, TooSoon}
 
 -- what a Delay_Req meets by the answer: whether or not the send failed, a Delay_Resp was lawful

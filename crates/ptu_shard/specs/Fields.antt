@@ -1,10 +1,7 @@
 -- How a table keeps its rows: leases by client and kind, and two queues of moments.
 use Rattle.std.specs.Prelude.{◌≡◌, ℕ, ◌+◌, ◌*◌, ◌≤◌, List, map, length}
-use Rattle.ptu_shard.specs.declared.lease.Lease.{Lease}
-use Rattle.ptu_shard.specs.declared.lease.Row.{Row}
-use Rattle.ptu_shard.specs.declared.rows.Key.{Key}
-use Rattle.ptu_shard.specs.Queue.{HasEdges, HasEnds, Queued}
-use Rattle.ptu_shard.specs.Row.{IsDistinctByLease, share_of}
+use Rattle.ptu_shard.specs.declared.{lease.Lease.{Lease}, lease.Row.{Row}, rows.Key.{Key}}
+use Rattle.ptu_shard.specs.{Queue.{HasEdges, HasEnds, Queued}, Row.{IsDistinctByLease, share_of}}
 
 -- a row, of a lease by its client and kind
 abbrev pub row_of : Key × Lease → Row

@@ -1,23 +1,17 @@
 -- The timing messages of a grandmaster, and the datagrams that carry them (IEEE 1588-2019 clause 13; the values of an
 -- Announce are the project's own choice).
 use Rattle.std.specs.Prelude.{ℕ, ◌+◌, ◌/◌, ◌%◌, pos}
-use Rattle.ptu_units.specs.declared.kind.Kind.{Kind}
-use Rattle.ptu_units.specs.declared.kind.Kind.TheVariants.{Announce, Sync, DelayResp}
-use Rattle.ptu_units.specs.declared.stamp.Stamp.{Stamp}
-use Rattle.ptu_units.specs.Kind.{code_of}
+use Rattle.ptu_units.specs.declared.kind.{Kind.{Kind}, Kind.TheVariants.{Announce, Sync, DelayResp}}
+use Rattle.ptu_units.specs.{declared.stamp.Stamp.{Stamp}, Kind.{code_of}}
 use Rattle.ptu_header.specs.declared.header.Header.{Header}
-use Rattle.ptu_messages.specs.declared.message.AnnounceBody.{AnnounceBody}
-use Rattle.ptu_messages.specs.declared.message.Body.{Body}
+use Rattle.ptu_messages.specs.declared.message.{AnnounceBody.{AnnounceBody}, Body.{Body}}
 use Rattle.ptu_messages.specs.declared.message.Body.TheVariants as body
-use Rattle.ptu_messages.specs.declared.message.Message.{Message as Timed}
-use Rattle.ptu_messages.specs.Sent.{octets_sent}
+use Rattle.ptu_messages.specs.{declared.message.Message.{Message as Timed}, Sent.{octets_sent}}
 use Rattle.ptu_outside.specs.declared.channel.Channel.{Channel}
 use Rattle.ptu_outside.specs.declared.channel.Channel.TheVariants.{Event, General}
 use Rattle.ptu_outside.specs.Departure.{Departure}
-use Rattle.ptu_history.specs.declared.client.Client.{Client}
-use Rattle.ptu_history.specs.Events.{Message}
-use Rattle.ptu_profile.specs.declared.grandmaster.GmConfig.{GmConfig}
-use Rattle.ptu_profile.specs.Grandmaster.{header_of}
+use Rattle.ptu_history.specs.{declared.client.Client.{Client}, Events.{Message}}
+use Rattle.ptu_profile.specs.{declared.grandmaster.GmConfig.{GmConfig}, Grandmaster.{header_of}}
 
 -- the timestamp of a moment
 abbrev pub stamp_of : GmConfig → ℕ → Stamp

@@ -1,13 +1,9 @@
 -- The rows of a table: its leases by client and kind.
 use Rattle.std.specs.Prelude.{◌≡◌, ℕ, Bool, false, not, List, Option}
-use Rattle.std.specs.List.{AllPairs, filter, find, sum_by}
-use Rattle.std.specs.Option.{option_map, option_map_or}
-use Rattle.ptu_units.specs.declared.kind.Kind.{Kind}
-use Rattle.ptu_units.specs.Log.{rate_of}
-use Rattle.ptu_history.specs.declared.client.Client.{Client}
-use Rattle.ptu_history.specs.Client.{same_lease}
-use Rattle.ptu_shard.specs.declared.lease.Lease.{Lease}
-use Rattle.ptu_shard.specs.declared.lease.Row.{Row}
+use Rattle.std.specs.{List.{AllPairs, filter, find, sum_by}, Option.{option_map, option_map_or}}
+use Rattle.ptu_units.specs.{declared.kind.Kind.{Kind}, Log.{rate_of}}
+use Rattle.ptu_history.specs.{declared.client.Client.{Client}, Client.{same_lease}}
+use Rattle.ptu_shard.specs.declared.lease.{Lease.{Lease}, Row.{Row}}
 
 -- the row is of the client and kind
 abbrev pub is_row_of : Client → Kind → Row → Bool

@@ -1,17 +1,10 @@
 -- What callers see of a table, and the histories that it stands for.
-use Rattle.std.specs.Prelude.{◌≡◌, ℕ, ◌≤◌, max, List, Some, None, ℤ}
-use Rattle.std.specs.List.{Contains}
+use Rattle.std.specs.{Prelude.{◌≡◌, ℕ, ◌≤◌, max, List, Some, None, ℤ}, List.{Contains}}
 use Rattle.ptu_units.specs.declared.kind.Kind.{Kind}
-use Rattle.ptu_history.specs.declared.client.Client.{Client}
-use Rattle.ptu_history.specs.Client.{table_of}
-use Rattle.ptu_history.specs.History.{Record, Granted}
-use Rattle.ptu_history.specs.Moments.{book_moment, table_moment}
-use Rattle.ptu_history.specs.Live.{last_decision}
-use Rattle.ptu_history.specs.Runs.{sequence_number}
-use Rattle.ptu_history.specs.Lawful.{earliest}
-use Rattle.ptu_shard.specs.declared.lease.Lease.{Lease}
-use Rattle.ptu_shard.specs.declared.lease.Row.{Row}
-use Rattle.ptu_shard.specs.Row.{lease_of}
+use Rattle.ptu_history.specs.{declared.client.Client.{Client}, Client.{table_of}}
+use Rattle.ptu_history.specs.{History.{Record, Granted}, Moments.{book_moment, table_moment}}
+use Rattle.ptu_history.specs.{Live.{last_decision}, Runs.{sequence_number}, Lawful.{earliest}}
+use Rattle.ptu_shard.specs.{declared.lease.Lease.{Lease}, declared.lease.Row.{Row}, Row.{lease_of}}
 
 -- a table: its rows, in an order that is left open, the greatest moment of its steps, for how many more rows there is
 -- room, and its port

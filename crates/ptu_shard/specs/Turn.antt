@@ -1,19 +1,12 @@
 -- Which rows may send at a moment, in which order, and what a message spends (the project's own choice).
 use Rattle.std.specs.Prelude.{ℕ, ◌+◌, ◌%◌, max, Bool, ◌&&◌, List, map, nat_lt, nat_le, if◌then◌else◌}
-use Rattle.std.specs.List.{filter}
-use Rattle.std.specs.Ordering.{nat_cmp, ordering_then}
+use Rattle.std.specs.{List.{filter}, Ordering.{nat_cmp, ordering_then}}
 use Rattle.std.specs.declared.cmp.Ordering.{Ordering}
-use Rattle.ptu_units.specs.declared.kind.Kind.{Kind}
-use Rattle.ptu_units.specs.declared.kind.Kind.TheVariants.{Announce, Sync, DelayResp}
+use Rattle.ptu_units.specs.declared.kind.{Kind.{Kind}, Kind.TheVariants.{Announce, Sync, DelayResp}}
 use Rattle.ptu_units.specs.Log.{period_of}
-use Rattle.ptu_history.specs.declared.client.Client.{Client}
-use Rattle.ptu_history.specs.Client.{client_cmp, kind_cmp}
-use Rattle.ptu_history.specs.Order.{in_order}
-use Rattle.ptu_history.specs.Events.{Message}
-use Rattle.ptu_history.specs.Turns.{is_turned}
-use Rattle.ptu_shard.specs.declared.lease.Lease.{Lease}
-use Rattle.ptu_shard.specs.declared.lease.Row.{Row}
-use Rattle.ptu_shard.specs.Row.{is_row_of}
+use Rattle.ptu_history.specs.{declared.client.Client.{Client}, Client.{client_cmp, kind_cmp}}
+use Rattle.ptu_history.specs.{Order.{in_order}, Events.{Message}, Turns.{is_turned}}
+use Rattle.ptu_shard.specs.{declared.lease.Lease.{Lease}, declared.lease.Row.{Row}, Row.{is_row_of}}
 
 -- the row's lease is live at the moment, and its earliest lawful moment is not after it
 abbrev pub is_lawful_row : ℕ → Row → Bool

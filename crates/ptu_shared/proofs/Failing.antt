@@ -2,10 +2,8 @@
 use Rattle.std.proofs.Common.{List, ◌≡◌, ◌∙◌, inl, inr, ℕ, ◌+◌, ◌-◌, ◌^◌, ◌≤◌, ◌<◌, min, Bool, true, refl, arith}
 use Rattle.std.specs.Prelude.{false, nat_le}
 use Rattle.std.proofs.lemmas.Bool.Decides.{nat_tests}
-use Rattle.ptu_outside.specs.declared.port.Port.{Ghosts as Ports}
-use Rattle.ptu_outside.specs.Departure.{Departure}
-use Rattle.ptu_outside.specs.Faults.{HasRisenBy, HasRisenJust}
-use Rattle.ptu_outside.specs.HandsOver.{HandsOver}
+use Rattle.ptu_outside.specs.{declared.port.Port.{Ghosts as Ports}, Departure.{Departure}}
+use Rattle.ptu_outside.specs.{Faults.{HasRisenBy, HasRisenJust}, HandsOver.{HandsOver}}
 use Rattle.ptu_outside.proofs.HandsOver.{just_both, not_fallen_both, not_fallen_none, risen_both}
 use Rattle.ptu_shared.specs.Opening.{AreCounted, HaveFailed}
 

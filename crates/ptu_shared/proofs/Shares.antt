@@ -1,9 +1,7 @@
 -- Shares of tables that were swept.
 use Rattle.std.proofs.Common.{◌≡◌, ◌∙◌, ℕ, List, [], ◌∷◌}
-use Rattle.ptu_shard.specs.Row.{share_of}
-use Rattle.ptu_shard.specs.Table.{Kept}
-use Rattle.ptu_admit.specs.Rows.{live_rows}
-use Rattle.ptu_admit.specs.Tables.{IsSwept}
+use Rattle.ptu_shard.specs.{Row.{share_of}, Table.{Kept}}
+use Rattle.ptu_admit.specs.{Rows.{live_rows}, Tables.{IsSwept}}
 use Rattle.ptu_admit.proofs.Sums.{share_of-permuted}
 
 -- what a swept table holds is what its live rows held

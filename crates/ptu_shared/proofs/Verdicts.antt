@@ -1,10 +1,8 @@
 -- A verdict that was found at a moment answers its ask.
 use Rattle.std.proofs.Common.{◌≡◌, ℕ, ◌+◌, ◌*◌, ◌≤◌, ◌<◌, min, Bool, true, false, refl, sym, arith, Ok, Err, Result, Option, Some, None}
-use Rattle.std.specs.Prelude.{nat_le, if◌then◌else◌, IfSome}
-use Rattle.std.specs.Option.{option_map}
+use Rattle.std.specs.{Prelude.{nat_le, if◌then◌else◌, IfSome}, Option.{option_map}}
 use Rattle.std.proofs.lemmas.Bool.Decides.{nat_tests}
-use Rattle.ptu_units.specs.declared.kind.Kind.{Kind}
-use Rattle.ptu_units.specs.Log.{rate_of}
+use Rattle.ptu_units.specs.{declared.kind.Kind.{Kind}, Log.{rate_of}}
 use Rattle.ptu_history.specs.declared.client.Client.{Client}
 use Rattle.ptu_history.specs.Verdict as history
 use Rattle.ptu_history.specs.Verdict.{GrantedFor, OutsideCause, ShortOf, profile}

@@ -1,14 +1,12 @@
 -- Which answers an ask may be given where the tables stand behind locks (IEEE 1588-2019 clause 16.1.4.1).
 use Rattle.std.specs.Prelude.{◌≡◌, ℕ, ◌+◌, ◌*◌, ◌≤◌, ◌<◌, min, Ok, Err}
 use Rattle.ptu_units.specs.Log.{rate_of}
-use Rattle.ptu_history.specs.declared.client.Client.{Client}
-use Rattle.ptu_history.specs.Verdict.{profile}
+use Rattle.ptu_history.specs.{declared.client.Client.{Client}, Verdict.{profile}}
 use Rattle.ptu_tlvs.specs.declared.tlv.Ask.{Ask}
 use Rattle.ptu_profile.specs.declared.grandmaster.GmConfig.{GmConfig}
 use Rattle.ptu_admit.specs.declared.verdict.Verdict.{Verdict}
 use Rattle.ptu_admit.specs.declared.verdict.Verdict.TheVariants.{Granted, Short, Outside}
-use Rattle.ptu_admit.specs.Terms.{Lack, Terms}
-use Rattle.ptu_admit.specs.Verdict.{ask_of, cause_of}
+use Rattle.ptu_admit.specs.{Terms.{Lack, Terms}, Verdict.{ask_of, cause_of}}
 
 -- a grant to the client of what was asked for, for the lesser of the asked and the longest duration, from a moment on that is
 -- not before the one that was handed in

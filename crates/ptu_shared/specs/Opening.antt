@@ -1,8 +1,7 @@
 -- What is known of the port of a table, which stands behind a lock: what it was like when it was opened, and how many of its sends
 -- failed since.
 use Rattle.std.specs.Prelude.{◌≡◌, ℕ, ◌+◌, ◌-◌, ◌^◌, ◌≤◌, ◌<◌, min, Bool, true, List, [], Option, Some, None}
-use Rattle.ptu_outside.specs.declared.arrival.Arrival.{Arrival}
-use Rattle.ptu_outside.specs.declared.port.Port.{Ghosts as Ports}
+use Rattle.ptu_outside.specs.declared.{arrival.Arrival.{Arrival}, port.Port.{Ghosts as Ports}}
 use Rattle.ptu_outside.specs.Faults.{HasRisenBy, HasRisenJust, HasNotFallen}
 
 -- what waits at a port, where it tells that, and its count of faults

@@ -1,6 +1,5 @@
 -- What a seat has counted.
-use Rattle.std.specs.Prelude.{◌≡◌, ℕ, ◌+◌, List}
-use Rattle.std.specs.List.{sum_by}
+use Rattle.std.specs.{Prelude.{◌≡◌, ℕ, ◌+◌, List}, List.{sum_by}}
 use Rattle.ptu_admit.specs.declared.verdict.Verdict.{Verdict}
 use Rattle.ptu_admit.specs.declared.verdict.Verdict.TheVariants.{Granted, Short, Outside}
 

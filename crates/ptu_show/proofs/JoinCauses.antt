@@ -5,8 +5,7 @@ use Rattle.ptu_lines.specs.declared.cause.LineCause.{LineCause}
 use Rattle.ptu_lines.specs.Script.{ScriptLine, Whole, Refused, pieces, script_lines}
 use Rattle.ptu_lines.specs.Words.{octets_of}
 use Rattle.ptu_script.specs.Command.{is_comment}
-use Rattle.ptu_report.specs.declared.ending.Ending.{Ending}
-use Rattle.ptu_report.specs.Rules.{ending_after, ending_at}
+use Rattle.ptu_report.specs.{declared.ending.Ending.{Ending}, Rules.{ending_after, ending_at}}
 use Rattle.ptu_show.specs.Reading.{datagram_by}
 use Rattle.ptu_show.specs.Joined.{HasJoinCause, join_rules, joined_by_line, joined_ending}
 use Rattle.ptu_show.proofs.ShowCauses.{AreOfReader, lines_from-causes}

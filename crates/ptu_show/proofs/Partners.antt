@@ -1,17 +1,11 @@
 -- What is kept of each key, when one half more is taken.
 use Rattle.std.proofs.Common.{◌≡◌, ◌∙◌, ◌&&◌, ◌||◌, Bool, true, false, cond, eqb, List, [], ◌∷◌, map, Option, Some, None, is_some, refl, sym, ap, ap₂, subst}
-use Rattle.std.specs.Bool.{Decides}
-use Rattle.std.specs.Cmp.{IsEquivalence, decided}
-use Rattle.std.specs.HashMap.{HashMap, IsUnique, get, hash_map_len}
-use Rattle.std.specs.List.{filter}
-use Rattle.std.specs.Map.{keys_of}
-use Rattle.std.specs.Prelude.{if◌then◌else◌, is_none, IfSome}
-use Rattle.std.specs.Set.{is_member}
-use Rattle.std.proofs.lemmas.Bool.Decides.{Decides-and, Decides-eqb}
-use Rattle.std.proofs.lemmas.Map.Entries.{length-keys_of}
+use Rattle.std.specs.{Bool.{Decides}, Cmp.{IsEquivalence, decided}}
+use Rattle.std.specs.{HashMap.{HashMap, IsUnique, get, hash_map_len}, List.{filter}, Map.{keys_of}}
+use Rattle.std.specs.{Prelude.{if◌then◌else◌, is_none, IfSome}, Set.{is_member}}
+use Rattle.std.proofs.lemmas.{Bool.Decides.{Decides-and, Decides-eqb}, Map.Entries.{length-keys_of}}
 use Rattle.std.proofs.lemmas.Map.Made.{alike_from_same, is_member-filter, is_some-lookup, length-from_keys}
-use Rattle.ptu_show.specs.declared.half.Half.{Half}
-use Rattle.ptu_show.specs.declared.half.HalfKey.{HalfKey}
+use Rattle.ptu_show.specs.declared.half.{Half.{Half}, HalfKey.{HalfKey}}
 use Rattle.ptu_show.specs.Halves.{is_other, key_of, same_key}
 use Rattle.ptu_show.specs.Joins.{other_of, partner, waiting, waiting_keys}
 use Rattle.ptu_show.specs.Waiting.{IsHalf, StandsFor}

@@ -1,16 +1,13 @@
 -- The half that one joins with, as a relation, and what two steps of a Sync come to.
 use Rattle.std.proofs.Common.{◌≡◌, ◌∙◌, ◌+◌, ◌-◌, ◌^◌, ◌&&◌, ◌++◌, Bool, true, false, pos, List, [], ◌∷◌, Option, Some, None, refl, sym, ap, ap₂, subst, arith}
-use Rattle.std.specs.List.{AllByRecursion}
-use Rattle.std.specs.Option.{unwrap_or}
+use Rattle.std.specs.{List.{AllByRecursion}, Option.{unwrap_or}}
 use Rattle.std.specs.Prelude.{if◌then◌else◌, is_none, is_some}
 use Rattle.std.proofs.lemmas.Bool.{true≢false}
 use Rattle.ptu_units.specs.declared.stamp.Stamp.{Stamp}
 use Rattle.ptu_header.specs.declared.header.Header.{Header}
 use Rattle.ptu_messages.specs.declared.message.Body.TheVariants as bodies
-use Rattle.ptu_show.specs.declared.half.Half.{Half}
-use Rattle.ptu_show.specs.declared.half.Part.TheVariants.{Sync, FollowUp}
-use Rattle.ptu_show.specs.Halves.{is_other, key_of, same_key, sync_of}
-use Rattle.ptu_show.specs.Joins.{JoinsWith, partner}
+use Rattle.ptu_show.specs.declared.half.{Half.{Half}, Part.TheVariants.{Sync, FollowUp}}
+use Rattle.ptu_show.specs.{Halves.{is_other, key_of, same_key, sync_of}, Joins.{JoinsWith, partner}}
 
 nothing : {A : Type 0} {x : A} → None ≡ Some x → ⊥
 nothing e = true≢false (sym (ap is_some e))

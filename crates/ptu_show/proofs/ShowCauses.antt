@@ -1,13 +1,11 @@
 -- For which causes `show` refuses a line.
 use Rattle.std.proofs.Common.{◌≡◌, ◌⊎◌, ℕ, ◌+◌, Bool, true, false, List, [], ◌∷◌, length, Option, Some, None, Ok, inl, inr, refl, ap}
-use Rattle.std.specs.Prelude.{if◌then◌else◌, IfSome, nat_lt}
-use Rattle.std.specs.List.{list_all}
+use Rattle.std.specs.{Prelude.{if◌then◌else◌, IfSome, nat_lt}, List.{list_all}}
 use Rattle.ptu_lines.specs.declared.cause.LineCause.{LineCause}
 use Rattle.ptu_lines.specs.declared.cause.LineCause.TheVariants.{Size, Long, Text}
 use Rattle.ptu_lines.specs.Script.{ScriptLine, Whole, Refused, cause_of, is_plain, line_then, lines_from, passes_limit, pieces, script_lines, text_of}
 use Rattle.ptu_lines.specs.Words.{octets_of}
-use Rattle.ptu_script.specs.Cause.{cause_of_line}
-use Rattle.ptu_script.specs.Command.{is_comment}
+use Rattle.ptu_script.specs.{Cause.{cause_of_line}, Command.{is_comment}}
 use Rattle.ptu_report.specs.declared.ending.Ending.{Ending}
 use Rattle.ptu_report.specs.declared.ending.Ending.TheVariants as endings
 use Rattle.ptu_report.specs.Rules.{ending_after, ending_at}

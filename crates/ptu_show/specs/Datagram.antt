@@ -1,19 +1,15 @@
 -- How a datagram is written as one line of text.
 use Rattle.std.specs.Prelude.{ℕ, ◌==◌, Bool, if◌then◌else◌, List, [], ◌++◌, codes, Result, Ok, Err}
-use Rattle.std.specs.List.{flat_map}
-use Rattle.std.specs.Fmt.{decimal, signed_decimal}
+use Rattle.std.specs.{List.{flat_map}, Fmt.{decimal, signed_decimal}}
 use Rattle.ptu_units.specs.declared.stamp.Stamp.{Stamp}
 use Rattle.ptu_octets.specs.Number.{number_at}
-use Rattle.ptu_tlvs.specs.declared.tlv.Ask.{Ask}
-use Rattle.ptu_tlvs.specs.declared.tlv.Tlv.{Tlv}
+use Rattle.ptu_tlvs.specs.declared.tlv.{Ask.{Ask}, Tlv.{Tlv}}
 use Rattle.ptu_tlvs.specs.declared.tlv.Tlv.TheVariants as tlvs
 use Rattle.ptu_messages.specs.declared.message.Body.{Body}
 use Rattle.ptu_messages.specs.declared.message.Body.TheVariants as bodies
 use Rattle.ptu_messages.specs.declared.message.Message.{Message}
-use Rattle.ptu_messages.specs.declared.fault.MessageFault.{MessageFault}
-use Rattle.ptu_messages.specs.Reading.{message_in}
-use Rattle.ptu_texts.specs.Texts.{clock_text, identity_text}
-use Rattle.ptu_texts.specs.Faults.{fault_text}
+use Rattle.ptu_messages.specs.{declared.fault.MessageFault.{MessageFault}, Reading.{message_in}}
+use Rattle.ptu_texts.specs.{Texts.{clock_text, identity_text}, Faults.{fault_text}}
 
 -- the name of a messageType (IEEE 1588-2019 table 36), or its number
 abbrev pub type_text : ℕ → List ℕ

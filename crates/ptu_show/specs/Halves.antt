@@ -3,17 +3,13 @@
 use Rattle.std.specs.Prelude.{ℕ, ◌-◌, ◌/◌, ◌%◌, ◌^◌, ◌==◌, ◌&&◌, List}
 use Rattle.std.specs.Prelude.{ℤ, pos, negsuc, ◌+ℤ◌, int_le, int_lt}
 use Rattle.std.specs.Prelude.{Bool, true, false, if◌then◌else◌, Option, Some, None, Result, Ok, Err}
-use Rattle.ptu_header.specs.declared.header.Header.{Header}
-use Rattle.ptu_header.specs.declared.header.PortIdentity.{PortIdentity}
+use Rattle.ptu_header.specs.declared.header.{Header.{Header}, PortIdentity.{PortIdentity}}
 use Rattle.ptu_messages.specs.declared.message.Body.{Body}
 use Rattle.ptu_messages.specs.declared.message.Body.TheVariants as bodies
 use Rattle.ptu_messages.specs.declared.message.Message.{Message}
-use Rattle.ptu_messages.specs.declared.fault.MessageFault.{MessageFault}
-use Rattle.ptu_messages.specs.Reading.{message_in}
-use Rattle.ptu_show.specs.declared.half.Part.{Part}
-use Rattle.ptu_show.specs.declared.half.Part.TheVariants.{Sync, FollowUp}
-use Rattle.ptu_show.specs.declared.half.Half.{Half}
-use Rattle.ptu_show.specs.declared.half.HalfKey.{HalfKey}
+use Rattle.ptu_messages.specs.{declared.fault.MessageFault.{MessageFault}, Reading.{message_in}}
+use Rattle.ptu_show.specs.declared.half.{Part.{Part}, Part.TheVariants.{Sync, FollowUp}}
+use Rattle.ptu_show.specs.declared.half.{Half.{Half}, HalfKey.{HalfKey}}
 
 -- twoStepFlag, bit 1 of the first octet of the flagField (IEEE 1588-2019 table 37), is set
 abbrev pub has_two_steps : Header → Bool

@@ -4,8 +4,7 @@ use Rattle.hex.specs.Hex.{encode_lower}
 use Rattle.ptu_show.specs.declared.join_lines.JoinLine.{JoinLine}
 use Rattle.ptu_show.specs.declared.join_lines.JoinLine.TheVariants.{Pair, Overflow, Wait, Pass}
 use Rattle.ptu_show.specs.declared.join_lines.JoinLine.TheVariants.{Bad, End}
-use Rattle.ptu_show.specs.Joined.{joins_end_line}
-use Rattle.ptu_show.specs.Shown.{bad_line, numbered}
+use Rattle.ptu_show.specs.{Joined.{joins_end_line}, Shown.{bad_line, numbered}}
 
 abbrev pub join_line_text : JoinLine → List ℕ
 join_line_text (Pair number sync) = numbered number (codes "pair " ++ encode_lower sync.0.now)

@@ -6,10 +6,8 @@ use Rattle.ptu_messages.specs.declared.message.Message.{Message}
 use Rattle.ptu_messages.specs.Samples.{client, delay_req, grandmaster}
 use Rattle.ptu_report.specs.declared.ending.Ending.TheVariants.{Whole, Refused}
 use Rattle.ptu_lines.specs.declared.cause.LineCause.TheVariants.{Field}
-use Rattle.ptu_show.specs.declared.half.Half.{Half}
-use Rattle.ptu_show.specs.declared.half.Part.TheVariants.{Sync, FollowUp}
-use Rattle.ptu_show.specs.Halves.{half_in, joined, key_of}
-use Rattle.ptu_show.specs.Joins.{partner, waiting, waiting_keys}
+use Rattle.ptu_show.specs.declared.half.{Half.{Half}, Part.TheVariants.{Sync, FollowUp}}
+use Rattle.ptu_show.specs.{Halves.{half_in, joined, key_of}, Joins.{partner, waiting, waiting_keys}}
 use Rattle.ptu_show.specs.Joined.{joined_ending, joined_output, text_behind}
 
 -- a header of this messageType with these flags and this correctionField, from the client

@@ -1,24 +1,17 @@
 -- What `join` writes for an input: a line for each datagram, up to the first line that is refused
 -- or to the end.
 use Rattle.std.specs.Prelude.{ℕ, List, [], ◌∷◌, ◌++◌, codes, Option, Some, None, Result}
-use Rattle.std.specs.Prelude.{Ok, Err}
-use Rattle.std.specs.Fmt.{decimal}
-use Rattle.std.specs.List.{filter_map}
+use Rattle.std.specs.{Prelude.{Ok, Err}, Fmt.{decimal}, List.{filter_map}}
 use Rattle.hex.specs.Hex.{encode_lower}
 use Rattle.ptu_outside.specs.Handing.{joined as together}
-use Rattle.ptu_lines.specs.Script.{script_lines}
-use Rattle.ptu_lines.specs.declared.cause.LineCause.{LineCause}
+use Rattle.ptu_lines.specs.{Script.{script_lines}, declared.cause.LineCause.{LineCause}}
 use Rattle.ptu_lines.specs.declared.cause.LineCause.TheVariants.{Size, Long, Text, Field}
-use Rattle.ptu_messages.specs.declared.message.Message.{Message}
-use Rattle.ptu_messages.specs.Sent.{sent_message}
-use Rattle.ptu_report.specs.declared.ending.Ending.{Ending}
-use Rattle.ptu_report.specs.Reported.{HasWritten}
+use Rattle.ptu_messages.specs.{declared.message.Message.{Message}, Sent.{sent_message}}
+use Rattle.ptu_report.specs.{declared.ending.Ending.{Ending}, Reported.{HasWritten}}
 use Rattle.ptu_report.specs.Rules.{Rules, Outcome, Goes, Refuses, ending_of, texts_of}
 use Rattle.ptu_script.specs.Cause.{cause_of_line}
-use Rattle.ptu_show.specs.declared.half.Half.{Half}
-use Rattle.ptu_show.specs.Halves.{half_in, joined}
-use Rattle.ptu_show.specs.Joins.{partner, waiting_keys}
-use Rattle.ptu_show.specs.Reading.{datagram_in}
+use Rattle.ptu_show.specs.{declared.half.Half.{Half}, Halves.{half_in, joined}}
+use Rattle.ptu_show.specs.{Joins.{partner, waiting_keys}, Reading.{datagram_in}}
 use Rattle.ptu_show.specs.Shown.{bad_line, numbered, IsRefusedFor}
 
 -- the halves among datagrams, in their order

@@ -1,10 +1,8 @@
 -- Which halves of a list join. Lists of halves stand with the last one first.
 use Rattle.std.specs.Prelude.{◌≡◌, ℕ, ◌&&◌, true, false, if◌then◌else◌, List, [], ◌∷◌, ◌++◌, map}
-use Rattle.std.specs.Prelude.{Option, Some, None, is_none, is_some}
-use Rattle.std.specs.List.{AllByRecursion, filter}
+use Rattle.std.specs.{Prelude.{Option, Some, None, is_none, is_some}, List.{AllByRecursion, filter}}
 use Rattle.std.specs.Set.{distinct_count}
-use Rattle.ptu_show.specs.declared.half.Half.{Half}
-use Rattle.ptu_show.specs.declared.half.HalfKey.{HalfKey}
+use Rattle.ptu_show.specs.declared.half.{Half.{Half}, HalfKey.{HalfKey}}
 use Rattle.ptu_show.specs.Halves.{is_other, key_of, same_key}
 
 -- a half behind these joins where the half of its key directly before it exists, does not itself

@@ -3,8 +3,7 @@ use Rattle.std.specs.Prelude.{ℕ, List, ◌++◌, codes}
 use Rattle.ptu_texts.specs.Faults.{fault_text}
 use Rattle.ptu_show.specs.declared.lines.ShowLine.{ShowLine}
 use Rattle.ptu_show.specs.declared.lines.ShowLine.TheVariants.{Message, Fault, Bad, End}
-use Rattle.ptu_show.specs.Datagram.{message_text}
-use Rattle.ptu_show.specs.Shown.{bad_line, end_line, numbered}
+use Rattle.ptu_show.specs.{Datagram.{message_text}, Shown.{bad_line, end_line, numbered}}
 
 abbrev pub line_text : ShowLine → List ℕ
 line_text (Message number text) = numbered number (message_text text.length text.message.now)

@@ -1,7 +1,6 @@
 -- What a line is to a program that reads one datagram a line.
 use Rattle.std.specs.Prelude.{ℕ, if◌then◌else◌, List, Option, Some, None, Result, Ok, Err}
-use Rattle.ptu_lines.specs.declared.cause.LineCause.{LineCause}
-use Rattle.ptu_lines.specs.declared.cause.LineCause.TheVariants.{Field}
+use Rattle.ptu_lines.specs.declared.cause.{LineCause.{LineCause}, LineCause.TheVariants.{Field}}
 use Rattle.ptu_lines.specs.Words.{octets_of}
 use Rattle.ptu_script.specs.Command.{is_comment}
 

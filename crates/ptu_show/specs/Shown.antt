@@ -1,11 +1,9 @@
 -- What `show` writes for an input: a line for each datagram, up to the first line that is refused
 -- or to the end.
 use Rattle.std.specs.Prelude.{◌≡◌, ◌⊎◌, ℕ, List, [], ◌∷◌, ◌++◌, codes, Option, Some, None, Result}
-use Rattle.std.specs.Prelude.{Ok, Err}
-use Rattle.std.specs.Fmt.{decimal}
+use Rattle.std.specs.{Prelude.{Ok, Err}, Fmt.{decimal}}
 use Rattle.ptu_outside.specs.Handing.{joined}
-use Rattle.ptu_lines.specs.Script.{script_lines}
-use Rattle.ptu_lines.specs.declared.cause.LineCause.{LineCause}
+use Rattle.ptu_lines.specs.{Script.{script_lines}, declared.cause.LineCause.{LineCause}}
 use Rattle.ptu_report.specs.declared.ending.Ending.{Ending}
 use Rattle.ptu_report.specs.declared.ending.Ending.TheVariants as endings
 use Rattle.ptu_report.specs.Reported.{HasWritten}
@@ -13,8 +11,7 @@ use Rattle.ptu_report.specs.Rules.{Rules, Outcome, Goes, Refuses, ending_of, tex
 use Rattle.ptu_script.specs.declared.cause.Cause.{Cause}
 use Rattle.ptu_script.specs.declared.cause.Cause.TheVariants.{Size, Long, Text, Field}
 use Rattle.ptu_script.specs.Cause.{cause_of_line, text_of}
-use Rattle.ptu_show.specs.Datagram.{datagram_text}
-use Rattle.ptu_show.specs.Reading.{datagram_in}
+use Rattle.ptu_show.specs.{Datagram.{datagram_text}, Reading.{datagram_in}}
 
 -- a line of output that begins with the number of a line of input
 abbrev pub numbered : ℕ → List ℕ → List ℕ

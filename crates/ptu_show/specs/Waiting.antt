@@ -1,13 +1,9 @@
 -- Which halves the halves that wait stand for.
-use Rattle.std.specs.Prelude.{◌≡◌, ◌<◌, ◌^◌, true, List, IfSome}
-use Rattle.std.specs.HashMap.{HashMap, get}
+use Rattle.std.specs.{Prelude.{◌≡◌, ◌<◌, ◌^◌, true, List, IfSome}, HashMap.{HashMap, get}}
 use Rattle.ptu_header.specs.declared.header.Header.{Header}
-use Rattle.ptu_show.specs.declared.half.Part.{Part}
-use Rattle.ptu_show.specs.declared.half.Part.TheVariants.{Sync, FollowUp}
-use Rattle.ptu_show.specs.declared.half.Half.{Half}
-use Rattle.ptu_show.specs.declared.half.HalfKey.{HalfKey}
-use Rattle.ptu_show.specs.Halves.{has_two_steps, same_key}
-use Rattle.ptu_show.specs.Joins.{waiting}
+use Rattle.ptu_show.specs.declared.half.{Part.{Part}, Part.TheVariants.{Sync, FollowUp}}
+use Rattle.ptu_show.specs.declared.half.{Half.{Half}, HalfKey.{HalfKey}}
+use Rattle.ptu_show.specs.{Halves.{has_two_steps, same_key}, Joins.{waiting}}
 
 -- the header of this part, as it was read
 abbrev pub IsHeaderOf : Part → Header → Type 0

@@ -3,8 +3,7 @@ use Rattle.std.proofs.Common.{◌≡◌, ℕ, zero, suc, List, [], ◌∷◌, �
 use Rattle.std.proofs.lemmas.List.{map-append}
 use Rattle.std.specs.List.{All, AllByRecursion}
 use Rattle.ptu_judges.specs.Held.{Held, IsFresh}
-use Rattle.ptu_slave.specs.Kept.{Kept}
-use Rattle.ptu_slave.specs.Standing.{StandsFor}
+use Rattle.ptu_slave.specs.{Kept.{Kept}, Standing.{StandsFor}}
 
 map-two : {A : Type 0} (f : A → Held) (xs : List A) → map (λ (h : Held). h.rule) (map f xs) ≡ map (λ x. (f x).rule) xs
 map-two f [] = refl

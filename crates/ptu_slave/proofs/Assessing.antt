@@ -1,18 +1,14 @@
 -- Judges that are told and asked, one by one.
 use Rattle.std.proofs.Common.{◌≡◌, ℕ, zero, suc, ◌+◌, ◌<◌, Bool, List, [], ◌∷◌, ◌++◌, map, length, Option, Some, refl, ap, sym, subst, ◌∙◌, arith, get_or, set, append_assoc, false, ◌≤◌, length-append, add-one}
-use Rattle.std.proofs.lemmas.Bool.{ne_eqb}
-use Rattle.std.proofs.lemmas.List.{append-nil, length-map, map-set}
+use Rattle.std.proofs.lemmas.{Bool.{ne_eqb}, List.{append-nil, length-map, map-set}}
 use Rattle.std.specs.List.{AllByRecursion, AllZip, range_with_len, slice_get, zip}
-use Rattle.ptu_record.specs.declared.rule.Rule.{Rule}
-use Rattle.ptu_record.specs.Lists.{places}
+use Rattle.ptu_record.specs.{declared.rule.Rule.{Rule}, Lists.{places}}
 use Rattle.ptu_record.specs.Record.{Entry, Record, record_of, concerns, Judge as Replaced, Judged}
-use Rattle.ptu_record.specs.Judges.{IsAssessment, opening_of}
-use Rattle.ptu_record.specs.Step.{judged_entries}
+use Rattle.ptu_record.specs.{Judges.{IsAssessment, opening_of}, Step.{judged_entries}}
 use Rattle.ptu_record.proofs.Others.{record_of-others}
 use Rattle.ptu_judges.specs.Held.{Held, IsFresh, StandsFor}
 use Rattle.ptu_judges.proofs.Holding.{fresh_takes_over}
-use Rattle.ptu_slave.specs.Kept.{Kept}
-use Rattle.ptu_slave.specs.declared.judging.News.{News}
+use Rattle.ptu_slave.specs.{Kept.{Kept}, declared.judging.News.{News}}
 use Rattle.ptu_slave.specs.declared.judging.News.TheVariants as said
 use Rattle.ptu_slave.specs.Parts.{AllJudged, OneAsked, OneJudged, news_entry}
 use Rattle.ptu_slave.specs.Standing.{Judge, Selects}

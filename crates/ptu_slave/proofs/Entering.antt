@@ -1,32 +1,26 @@
 -- What is entered of what one master is sent.
 use Rattle.std.proofs.Common.{◌≡◌, ℕ, ◌+◌, ◌%◌, Bool, true, false, cond, List, [], ◌∷◌, ◌++◌, map, Option, Some, None, ◌<◌, length, refl, ap, ap₂, sym, subst, ◌∙◌, append_assoc, get_or, set, All, zero, suc, eqb}
-use Rattle.std.proofs.lemmas.List.{append-nil}
-use Rattle.std.proofs.lemmas.Grind.{flat_map-append}
+use Rattle.std.proofs.lemmas.{List.{append-nil}, Grind.{flat_map-append}}
 use Rattle.std.proofs.lemmas.Option.{same_Some, slice_get_read}
 use Rattle.std.proofs.lemmas.List.Elements.{recursion_from_All}
 use Rattle.std.specs.List.{AllByRecursion, cons_option, filter_map, flat_map, slice_get}
 use Rattle.std.specs.Option.{option_map, option_to_list}
-use Rattle.ptu_units.specs.declared.kind.Kind.{Kind}
-use Rattle.ptu_units.specs.declared.kind.Kind.TheVariants.{Announce, Sync, DelayResp}
-use Rattle.ptu_record.specs.declared.wants.Wants.{Wants}
-use Rattle.ptu_record.specs.Asks.{due_kinds}
+use Rattle.ptu_units.specs.declared.kind.{Kind.{Kind}, Kind.TheVariants.{Announce, Sync, DelayResp}}
+use Rattle.ptu_record.specs.{declared.wants.Wants.{Wants}, Asks.{due_kinds}}
 use Rattle.ptu_record.specs.Record.{Entry, Record, record_of, Asked, Cancelled, Denied, Granted, Probed, Signalled}
 use Rattle.ptu_record.specs.Step.{wanted_kind}
 use Rattle.ptu_record.specs.Tick.{Cancels, DelayReq, Requests, delay_req_number, is_probe_due, one_signaling, requests_to, probe_moment, sending_entries, signaling_number}
 use Rattle.ptu_record.proofs.ListLaws.{last-filter_map}
 use Rattle.ptu_record.proofs.Requests.{delay_req_number-push, signaling_number-push}
-use Rattle.ptu_slave_messages.specs.declared.kinds.Kinds.{Kinds}
-use Rattle.ptu_slave_messages.specs.Sending.{are_some, kinds_in}
+use Rattle.ptu_slave_messages.specs.{declared.kinds.Kinds.{Kinds}, Sending.{are_some, kinds_in}}
 use Rattle.ptu_slave.specs.declared.counters.Counters.{Counters}
 use Rattle.ptu_requester.specs.Requester.{StandsFor, is_negotiation}
 use Rattle.ptu_requester.proofs.Silence.{stands_silent}
 use Rattle.ptu_slave.specs.Kept.{CountFor, Kept}
 use Rattle.ptu_slave_messages.specs.declared.signal.Signal.{Signal}
 use Rattle.ptu_slave_messages.specs.declared.signal.Signal.TheVariants.{Grant, Denial, Cancel, Ack}
-use Rattle.ptu_slave.specs.Parts.{signal_entry}
-use Rattle.ptu_slave.specs.Standing.{Asks, Each}
-use Rattle.ptu_slave.proofs.Masters.{IsOf, all_append, each_own}
-use Rattle.ptu_slave.proofs.Quiet.{Uncounted, counts_one}
+use Rattle.ptu_slave.specs.{Parts.{signal_entry}, Standing.{Asks, Each}}
+use Rattle.ptu_slave.proofs.{Masters.{IsOf, all_append, each_own}, Quiet.{Uncounted, counts_one}}
 
 -- one kind after the other
 three : (f : Kind → Entry) (L : Record) (a s d : Bool)

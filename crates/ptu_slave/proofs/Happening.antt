@@ -5,13 +5,11 @@ use Rattle.ptu_record.specs.declared.rule.Rule.{Rule}
 use Rattle.ptu_record.specs.Record.{Entry, Record, Announce, Event, Judge as J, Judged, Resp, Sync as S, Told as T}
 use Rattle.ptu_record.specs.Step.{SlaveEvent, TakeAnnounce, TakeDelayResp, TakeFollowUp, TakeSync, TellFlag, ReplaceJudge}
 use Rattle.ptu_judges.specs.Held.{Held}
-use Rattle.ptu_slave.specs.Kept.{Kept}
-use Rattle.ptu_slave.specs.declared.judging.News.{News}
+use Rattle.ptu_slave.specs.{Kept.{Kept}, declared.judging.News.{News}}
 use Rattle.ptu_slave.specs.declared.judging.News.TheVariants as said
 use Rattle.ptu_slave.specs.Parts.{OneJudged, news_entry, news_event}
 use Rattle.ptu_slave.specs.Standing.{Asks, Judge, Selects, Shows, StandsFor, StepsBy, StepsFound, Takes}
-use Rattle.ptu_slave.specs.Seen.{Seen}
-use Rattle.ptu_slave.specs.Events.{HasJudged}
+use Rattle.ptu_slave.specs.{Seen.{Seen}, Events.{HasJudged}}
 use Rattle.ptu_slave.proofs.Quiet.{Unasked, Untold, asks_kept, judge_kept, selects_kept}
 use Rattle.ptu_slave.proofs.Stepping.{Entered, Moves, same_of, step_of}
 

@@ -1,25 +1,20 @@
 -- What a message is, by what is kept of it; and a slave before its first event.
 use Rattle.std.proofs.Common.{◌≡◌, ℕ, zero, suc, false, List, [], ◌∷◌, All, length, map, Some, refl, ap, sym, subst, ◌∙◌}
-use Rattle.std.proofs.lemmas.List.{length-map}
-use Rattle.std.proofs.lemmas.List.Elements.{recursion_from_All}
+use Rattle.std.proofs.lemmas.{List.{length-map}, List.Elements.{recursion_from_All}}
 use Rattle.std.proofs.lemmas.Option.{same_Some}
-use Rattle.std.specs.List.{AllByRecursion, filter_map, slice_get}
-use Rattle.std.specs.Prelude.{Result, Ok, Err}
-use Rattle.ptu_header.specs.declared.header.Header.{Header}
-use Rattle.ptu_header.specs.declared.header.PortIdentity.{PortIdentity}
+use Rattle.std.specs.{List.{AllByRecursion, filter_map, slice_get}, Prelude.{Result, Ok, Err}}
+use Rattle.ptu_header.specs.declared.header.{Header.{Header}, PortIdentity.{PortIdentity}}
 use Rattle.ptu_tlvs.specs.declared.tlv.Tlv.{Tlv}
 use Rattle.ptu_tlvs.specs.declared.tlv.Tlv.TheVariants as tlv
 use Rattle.ptu_messages.specs.declared.message.Body.{Body}
 use Rattle.ptu_messages.specs.declared.message.Body.TheVariants as body
 use Rattle.ptu_messages.specs.declared.message.Message.{Message}
-use Rattle.ptu_record.specs.declared.wants.Wants.{Wants}
-use Rattle.ptu_record.specs.Judges.{opening_of}
+use Rattle.ptu_record.specs.{declared.wants.Wants.{Wants}, Judges.{opening_of}}
 use Rattle.ptu_record.specs.Step.{TakeSignaling, TakeSync, cancel_code, one_reply}
 use Rattle.ptu_judges.specs.Held.{Held, IsFresh}
 use Rattle.ptu_judges.specs.Held as judge
 use Rattle.ptu_judges.proofs.Holding.{fresh_stands}
-use Rattle.ptu_profile.specs.declared.slave.Master.{Master}
-use Rattle.ptu_profile.specs.declared.slave.SlaveConfig.{SlaveConfig}
+use Rattle.ptu_profile.specs.declared.slave.{Master.{Master}, SlaveConfig.{SlaveConfig}}
 use Rattle.ptu_slave_messages.specs.declared.content.Content.TheVariants as content
 use Rattle.ptu_slave_messages.specs.declared.content.Accepted.{Accepted}
 use Rattle.ptu_slave_messages.specs.declared.reason.SlaveReason.{SlaveReason}
@@ -27,8 +22,7 @@ use Rattle.ptu_slave_messages.specs.declared.signal.Signal.{Signal}
 use Rattle.ptu_profile.specs.Slave.{address_of}
 use Rattle.ptu_slave_messages.specs.Heard.{acks_of, content_of, event_of, replies_to, reply_datagrams, said_by, signals_of, taken_of, taken_or_not}
 use Rattle.ptu_slave_messages.specs.Sending.{departure_of, departure_to}
-use Rattle.ptu_slave.specs.Kept.{Kept}
-use Rattle.ptu_slave.specs.Standing.{Asks, Selects, StandsFor}
+use Rattle.ptu_slave.specs.{Kept.{Kept}, Standing.{Asks, Selects, StandsFor}}
 
 -- ---- messages
 

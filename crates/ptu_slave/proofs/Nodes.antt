@@ -5,12 +5,10 @@ use Rattle.ptu_header.specs.declared.header.Header.{Header}
 use Rattle.ptu_messages.specs.declared.message.Body.{Body}
 use Rattle.ptu_messages.specs.declared.message.Body.TheVariants as body
 use Rattle.ptu_messages.specs.declared.message.Message.{Message}
-use Rattle.ptu_record.specs.Record.{Record}
-use Rattle.ptu_record.specs.Step.{slave_step}
+use Rattle.ptu_record.specs.{Record.{Record}, Step.{slave_step}}
 use Rattle.ptu_slave_messages.specs.declared.reason.SlaveReason.{SlaveReason}
 use Rattle.ptu_slave_messages.specs.Heard.{event_of, replies_in, replies_to}
-use Rattle.ptu_slave_messages.specs.Reception.{reception}
-use Rattle.ptu_slave_messages.specs.Sending.{departure_of}
+use Rattle.ptu_slave_messages.specs.{Reception.{reception}, Sending.{departure_of}}
 use Rattle.ptu_slave_messages.specs.Node.{Node, datagram_deed, node_setup, reception_deed}
 
 replies : (node : Node) (L : Record) (t m : ℕ) (header : Header) (b : Body)

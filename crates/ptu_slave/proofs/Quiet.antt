@@ -2,8 +2,7 @@
 use Rattle.std.proofs.Common.{◌≡◌, ◌+◌, ◌%◌, false, cond, List, [], ◌∷◌, ◌++◌, Option, None, ap, sym, subst, ◌∙◌, append_assoc}
 use Rattle.std.proofs.lemmas.List.{append-nil}
 use Rattle.std.specs.List.{AllByRecursion}
-use Rattle.ptu_record.specs.declared.rule.Rule.{Rule}
-use Rattle.ptu_record.specs.Lists.{last, newest_of}
+use Rattle.ptu_record.specs.{declared.rule.Rule.{Rule}, Lists.{last, newest_of}}
 use Rattle.ptu_record.specs.Record.{Entry, Record}
 use Rattle.ptu_record.specs.Judges.{is_judge, opening_of, rule_given, sync_number, told_flag}
 use Rattle.ptu_record.specs.Tick.{delay_req_number, is_probed, is_signalled, probe_moment, probes, signaling_number}
@@ -17,8 +16,7 @@ use Rattle.ptu_judges.specs.Held as judge
 use Rattle.ptu_judges.specs.Held.{Held}
 use Rattle.ptu_judges.proofs.Holding.{other_entry}
 use Rattle.ptu_profile.specs.Slave.{priorities, timeouts}
-use Rattle.ptu_slave.specs.declared.counters.Counters.{Counters}
-use Rattle.ptu_slave.specs.Kept.{CountFor, Kept}
+use Rattle.ptu_slave.specs.{declared.counters.Counters.{Counters}, Kept.{CountFor, Kept}}
 use Rattle.ptu_slave.specs.Standing.{Asks, Each, Judge, Selects}
 use Rattle.ptu_slave.proofs.Masters.{each_kept}
 

@@ -1,20 +1,15 @@
 -- Where each judge has a rule there is one step.
 use Rattle.std.proofs.Common.{◌≡◌, ℕ, zero, suc, ◌<◌, Bool, true, false, cond, List, [], ◌∷◌, ◌++◌, length, Option, Some, None, refl, ap, sym, subst, ◌∙◌, arith}
-use Rattle.std.proofs.lemmas.List.{append-nil}
-use Rattle.std.proofs.lemmas.List.Elements.{filter_map-append}
+use Rattle.std.proofs.lemmas.{List.{append-nil}, List.Elements.{filter_map-append}}
 use Rattle.std.specs.List.{AllByRecursion, cons_option, filter_map, flat_map, slice_get}
-use Rattle.std.specs.Option.{unwrap_or}
-use Rattle.std.specs.Prelude.{IsSome}
-use Rattle.ptu_record.specs.declared.rule.Rule.{Rule}
-use Rattle.ptu_record.specs.Lists.{last}
+use Rattle.std.specs.{Option.{unwrap_or}, Prelude.{IsSome}}
+use Rattle.ptu_record.specs.{declared.rule.Rule.{Rule}, Lists.{last}}
 use Rattle.ptu_record.specs.Record.{Record, concerns, event_moment, record_of}
-use Rattle.ptu_record.specs.Judges.{opening_of, rule_given, rule_in_force}
-use Rattle.ptu_record.specs.Tick.{sending_entries}
+use Rattle.ptu_record.specs.{Judges.{opening_of, rule_given, rule_in_force}, Tick.{sending_entries}}
 use Rattle.ptu_record.specs.Step.{SlaveEvent, TakeAnnounce, TakeSync, TakeFollowUp, TakeDelayResp, TakeSignaling, TellFlag, ReplaceJudge, Tick, Stop, SlaveSetup, SlaveStep, entries_by, judged_entries, judged_masters, judged_record, master_count, or_event, own_entries, sendings, slave_step, stop_entry}
 use Rattle.ptu_record.proofs.StepParts.{judged_all, one_step, record_of-append}
 use Rattle.ptu_judges.specs.Held.{Held}
-use Rattle.ptu_slave.specs.Kept.{Kept}
-use Rattle.ptu_slave.specs.Standing.{StandsFor, Steps, setup_of}
+use Rattle.ptu_slave.specs.{Kept.{Kept}, Standing.{StandsFor, Steps, setup_of}}
 use Rattle.ptu_slave.proofs.Sendings.{sent_all}
 
 -- entries that give no rule

@@ -1,12 +1,9 @@
 -- The master that is selected.
 use Rattle.std.proofs.Common.{◌≡◌, ℕ, suc, ◌<◌, List, [], ◌∷◌, length, Option, Some, None, refl, ap, sym}
 use Rattle.std.specs.Prelude.{IfSome}
-use Rattle.ptu_record.specs.Record.{Record}
-use Rattle.ptu_record.specs.Selection.{selected_master}
-use Rattle.ptu_record.specs.SignalFails.{Timeouts}
+use Rattle.ptu_record.specs.{Record.{Record}, Selection.{selected_master}, SignalFails.{Timeouts}}
 use Rattle.ptu_record.proofs.Choice.{chosen_best}
-use Rattle.ptu_profile.specs.declared.slave.Master.{Master}
-use Rattle.ptu_profile.specs.Slave.{priorities}
+use Rattle.ptu_profile.specs.{declared.slave.Master.{Master}, Slave.{priorities}}
 
 -- it stands in the list
 pub chosen_within : (timeouts : Timeouts) (priorities : List ℕ) (L : Record) (t : ℕ) (o : Option ℕ) → o ≡ selected_master timeouts priorities L t → IfSome o (λ m. m < length priorities)

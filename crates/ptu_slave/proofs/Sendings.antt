@@ -1,38 +1,28 @@
 -- What is sent to one master after the other.
 use Rattle.std.proofs.Common.{◌≡◌, ◌≢◌, ℕ, zero, suc, ◌+◌, ◌≤◌, Bool, true, false, cond, List, [], ◌∷◌, ◌++◌, map, length, Option, Some, None, refl, ap, ap₂, sym, subst, ◌∙◌, arith, append_assoc}
-use Rattle.std.proofs.lemmas.Bool.{ne_eqb, false≢true}
-use Rattle.std.proofs.lemmas.Grind.{flat_map-append}
+use Rattle.std.proofs.lemmas.{Bool.{ne_eqb, false≢true}, Grind.{flat_map-append}}
 use Rattle.std.proofs.lemmas.List.{append-nil, map-append}
 use Rattle.std.specs.List.{AllByRecursion, flat_map, range_with_len}
 use Rattle.std.specs.Option.{option_map, option_to_list}
 use Rattle.ptu_units.specs.declared.kind.Kind.{Kind}
-use Rattle.ptu_outside.specs.Departure.{Departure}
-use Rattle.ptu_outside.specs.HandsOver.{HandsOver}
-use Rattle.ptu_record.specs.declared.wants.Wants.{Wants}
-use Rattle.ptu_record.specs.Lists.{places}
+use Rattle.ptu_outside.specs.{Departure.{Departure}, HandsOver.{HandsOver}}
+use Rattle.ptu_record.specs.{declared.wants.Wants.{Wants}, Lists.{places}}
 use Rattle.ptu_record.specs.Record.{Entry, Record, concerns, record_of, Asked, Cancelled, Probed, Signalled}
-use Rattle.ptu_record.specs.Asks.{due_kinds}
-use Rattle.ptu_record.specs.Grants.{live_kinds}
+use Rattle.ptu_record.specs.{Asks.{due_kinds}, Grants.{live_kinds}}
 use Rattle.ptu_record.specs.Tick.{Acknowledgements, Cancels, DelayReq, Requests, Sending, delay_req_number, is_probe_due, one_signaling, requests_to, sending_entries, signaling_number}
-use Rattle.ptu_record.proofs.Others.{record_of-others, requests_one}
-use Rattle.ptu_record.proofs.StepParts.{asked_all}
+use Rattle.ptu_record.proofs.{Others.{record_of-others, requests_one}, StepParts.{asked_all}}
 use Rattle.ptu_requester.specs.Requester.{all_cancels}
 use Rattle.ptu_requester.proofs.Stops.{all_cancels-before, all_cancels-next}
-use Rattle.ptu_profile.specs.declared.slave.Master.{Master}
-use Rattle.ptu_profile.specs.declared.slave.SlaveConfig.{SlaveConfig}
-use Rattle.ptu_slave_messages.specs.declared.plan.StopPlan.{StopPlan}
-use Rattle.ptu_slave_messages.specs.declared.plan.TickPlan.{TickPlan}
+use Rattle.ptu_profile.specs.declared.slave.{Master.{Master}, SlaveConfig.{SlaveConfig}}
+use Rattle.ptu_slave_messages.specs.declared.plan.{StopPlan.{StopPlan}, TickPlan.{TickPlan}}
 use Rattle.ptu_profile.specs.Slave.{address_of}
 use Rattle.ptu_slave_messages.specs.Sending.{all_ones, are_some, departure_of, departure_to, kinds_in, stop_plan, tick_plan}
 use Rattle.ptu_outside.specs.declared.port.Port.{Ghosts as Ports}
 use Rattle.ptu_outside.proofs.HandsOver.{hands-append}
-use Rattle.ptu_slave.specs.Kept.{Kept}
-use Rattle.ptu_slave.specs.declared.ticks.Occasion.{Occasion}
+use Rattle.ptu_slave.specs.{Kept.{Kept}, declared.ticks.Occasion.{Occasion}}
 use Rattle.ptu_slave.specs.declared.ticks.Occasion.TheVariants as occasions
-use Rattle.ptu_slave.specs.Parts.{AllAsked, AllEnded, AllSent, Ticks, cancels_by}
-use Rattle.ptu_slave.specs.Standing.{Asks}
-use Rattle.ptu_slave.proofs.Assessing.{places-more}
-use Rattle.ptu_slave.proofs.Entering.{cancel_entries}
+use Rattle.ptu_slave.specs.{Parts.{AllAsked, AllEnded, AllSent, Ticks, cancels_by}, Standing.{Asks}}
+use Rattle.ptu_slave.proofs.{Assessing.{places-more}, Entering.{cancel_entries}}
 use Rattle.ptu_slave.proofs.Masters.{all_append}
 
 -- ---- lists over places

@@ -6,8 +6,7 @@ use Rattle.std.specs.Option.{option_map}
 use Rattle.ptu_units.specs.declared.kind.Kind.{Kind}
 use Rattle.ptu_tlvs.specs.declared.tlv.Tlv.{Tlv}
 use Rattle.ptu_tlvs.specs.declared.tlv.Tlv.TheVariants as tlv
-use Rattle.ptu_record.specs.declared.rule.Rule.{Rule}
-use Rattle.ptu_record.specs.declared.wants.Wants.{Wants}
+use Rattle.ptu_record.specs.declared.{rule.Rule.{Rule}, wants.Wants.{Wants}}
 use Rattle.ptu_record.specs.Record.{Entry, Record, Cancelled, Denied, Event, Granted}
 use Rattle.ptu_record.specs.Tick.{is_stop, sending_entries}
 use Rattle.ptu_record.specs.Step as step
@@ -18,8 +17,7 @@ use Rattle.ptu_judges.specs.Held.{Held}
 use Rattle.ptu_slave_messages.specs.declared.signal.Signal.{Signal}
 use Rattle.ptu_slave_messages.specs.declared.signal.Signal.TheVariants.{Denial, Grant}
 use Rattle.ptu_slave_messages.specs.Heard.{grant_signal, said_by, signals_of}
-use Rattle.ptu_slave.specs.Kept.{Kept}
-use Rattle.ptu_slave.specs.Parts.{signal_entry}
+use Rattle.ptu_slave.specs.{Kept.{Kept}, Parts.{signal_entry}}
 use Rattle.ptu_slave.specs.Standing.{Asks, Selects, StandsFor, Steps, setup_of}
 use Rattle.ptu_slave.proofs.Quiet.{Untold, asks_kept, judge_kept, selects_kept}
 use Rattle.ptu_slave.proofs.Stepping.{Moves, step_of}

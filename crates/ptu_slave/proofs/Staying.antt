@@ -1,21 +1,15 @@
 -- Judges that have rules are followed by judges that have rules.
 use Rattle.std.proofs.Common.{◌≡◌, ◌≢◌, ℕ, suc, ◌<◌, Bool, true, false, cond, List, [], ◌∷◌, ◌++◌, length, Option, Some, None, refl, ap, sym, subst, ◌∙◌, arith, eqb}
-use Rattle.std.specs.List.{AllByRecursion, slice_get}
-use Rattle.std.specs.Option.{unwrap_or}
-use Rattle.std.specs.Prelude.{IsSome}
+use Rattle.std.specs.{List.{AllByRecursion, slice_get}, Option.{unwrap_or}, Prelude.{IsSome}}
 use Rattle.ptu_units.specs.declared.kind.Kind.{Kind}
-use Rattle.ptu_record.specs.declared.rule.Rule.{Rule}
-use Rattle.ptu_record.specs.declared.wants.Wants.{Wants}
-use Rattle.ptu_record.specs.Lists.{last}
+use Rattle.ptu_record.specs.{declared.rule.Rule.{Rule}, declared.wants.Wants.{Wants}, Lists.{last}}
 use Rattle.ptu_record.specs.Record.{Record, Denied, Granted, Judge, event_moment, record_of}
 use Rattle.ptu_record.specs.Judges.{opening_of, rule_given, rule_in_force}
 use Rattle.ptu_record.specs.Step.{SlaveEvent, TakeAnnounce, TakeSync, TakeFollowUp, TakeDelayResp, TakeSignaling, TellFlag, ReplaceJudge, Tick, Stop, SlaveStep, own_entries}
-use Rattle.ptu_record.proofs.Judgements.{rule_in_force-push}
-use Rattle.ptu_record.proofs.Others.{record_of-push}
+use Rattle.ptu_record.proofs.{Judgements.{rule_in_force-push}, Others.{record_of-push}}
 use Rattle.ptu_record.proofs.StepParts.{signals_all}
 use Rattle.ptu_judges.specs.Held.{Held}
-use Rattle.ptu_slave.specs.Kept.{Kept}
-use Rattle.ptu_slave.specs.Standing.{StandsFor, Steps, setup_of}
+use Rattle.ptu_slave.specs.{Kept.{Kept}, Standing.{StandsFor, Steps, setup_of}}
 use Rattle.ptu_slave.proofs.Ruled.{in_range, rules, same_rules}
 
 -- entries that give no rule leave the rule in force

@@ -2,12 +2,9 @@
 use Rattle.std.proofs.Common.{◌≡◌, ℕ, ◌≤◌, max, Bool, true, false, ◌||◌, List, ◌++◌, map, length, Option, refl, ap, sym, subst, ◌∙◌, arith, append_assoc}
 use Rattle.std.proofs.lemmas.List.Folds.{list_any-append}
 use Rattle.std.specs.List.{list_any}
-use Rattle.ptu_record.specs.declared.rule.Rule.{Rule}
-use Rattle.ptu_record.specs.Lists.{maximum}
-use Rattle.ptu_record.specs.Record.{Record, event_moment, moment_of, record_of}
-use Rattle.ptu_record.specs.Grants.{is_live}
-use Rattle.ptu_record.specs.Judges.{AreAssessments}
-use Rattle.ptu_record.specs.Tick.{is_stop}
+use Rattle.ptu_record.specs.{declared.rule.Rule.{Rule}, Lists.{maximum}}
+use Rattle.ptu_record.specs.{Record.{Record, event_moment, moment_of, record_of}, Grants.{is_live}}
+use Rattle.ptu_record.specs.{Judges.{AreAssessments}, Tick.{is_stop}}
 use Rattle.ptu_record.specs.Step.{SlaveEvent, SlaveSetup, entries_by, judged_masters, judged_record, master_count, step_by}
 use Rattle.ptu_record.proofs.StepParts.{step_moment}
 use Rattle.ptu_judges.specs.Held.{Held}

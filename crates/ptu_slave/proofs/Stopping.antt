@@ -1,15 +1,11 @@
 -- The stop of a slave.
 use Rattle.std.proofs.Common.{◌≡◌, ℕ, zero, suc, ◌+◌, ◌<◌, ◌≤◌, max, Bool, true, false, cond, ◌||◌, List, [], ◌∷◌, ◌++◌, map, length, Option, None, refl, ap, ap₂, sym, subst, ◌∙◌, arith, append_assoc}
-use Rattle.std.proofs.lemmas.Bool.{false≢true, or_right}
-use Rattle.std.proofs.lemmas.List.{append-nil}
-use Rattle.std.proofs.lemmas.List.Elements.{filter_map-append}
-use Rattle.std.proofs.lemmas.List.Folds.{list_any-append}
+use Rattle.std.proofs.lemmas.{Bool.{false≢true, or_right}, List.{append-nil}}
+use Rattle.std.proofs.lemmas.List.{Elements.{filter_map-append}, Folds.{list_any-append}}
 use Rattle.std.specs.List.{AllByRecursion, cons_option, filter_map, flat_map, list_any, range_with_len}
 use Rattle.std.specs.Option.{unwrap_or}
-use Rattle.ptu_units.specs.declared.kind.Kind.{Kind}
-use Rattle.ptu_units.specs.declared.kind.Kind.TheVariants.{Announce, Sync, DelayResp}
-use Rattle.ptu_record.specs.declared.rule.Rule.{Rule}
-use Rattle.ptu_record.specs.Lists.{last, maximum, places}
+use Rattle.ptu_units.specs.declared.kind.{Kind.{Kind}, Kind.TheVariants.{Announce, Sync, DelayResp}}
+use Rattle.ptu_record.specs.{declared.rule.Rule.{Rule}, Lists.{last, maximum, places}}
 use Rattle.ptu_record.specs.Record.{Entry, Record, concerns, event_moment, moment_of, record_of, Asked, Probed, Signalled, Stopped}
 use Rattle.ptu_record.specs.Grants.{grant_change, is_live, is_live_at, live_kinds}
 use Rattle.ptu_record.specs.Tick.{Cancels, Sending, cancels_to, is_stop, one_signaling, sending_entries, signaling_number}
@@ -19,13 +15,11 @@ use Rattle.ptu_fails.specs.Watched.{is_watched}
 use Rattle.ptu_requester.specs.Requester.{all_cancels}
 use Rattle.ptu_requester.proofs.Stops.{stop_lifted}
 use Rattle.ptu_judges.specs.Held.{Held}
-use Rattle.ptu_slave.specs.Kept.{CountFor, Kept}
-use Rattle.ptu_slave.specs.Parts.{AllEnded, cancels_by}
+use Rattle.ptu_slave.specs.{Kept.{CountFor, Kept}, Parts.{AllEnded, cancels_by}}
 use Rattle.ptu_slave.specs.Standing.{Asks, Each, SameGrants, Selects, StandsFor, Steps, setup_of}
 use Rattle.ptu_slave.proofs.Masters.{all_append}
 use Rattle.ptu_slave.proofs.Quiet.{Untold, counts_kept, judge_kept, selects_kept}
-use Rattle.ptu_slave.proofs.Sendings.{sent_all}
-use Rattle.ptu_slave.proofs.Stepping.{moment_after, moment_is}
+use Rattle.ptu_slave.proofs.{Sendings.{sent_all}, Stepping.{moment_after, moment_is}}
 
 abbrev kinds_by : Bool → Bool → Bool → List Kind
 kinds_by a s d = cond a (Announce ∷ cond s (Sync ∷ cond d (DelayResp ∷ []) []) (cond d (DelayResp ∷ []) [])) (cond s (Sync ∷ cond d (DelayResp ∷ []) []) (cond d (DelayResp ∷ []) []))

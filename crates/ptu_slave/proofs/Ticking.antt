@@ -2,22 +2,18 @@
 use Rattle.std.proofs.Common.{◌≡◌, ℕ, max, Bool, true, false, cond, List, [], ◌∷◌, ◌++◌, length, Option, refl, ap, sym, subst, ◌∙◌, append_assoc}
 use Rattle.std.proofs.lemmas.List.{append-nil}
 use Rattle.std.specs.List.{AllByRecursion, flat_map}
-use Rattle.ptu_record.specs.declared.rule.Rule.{Rule}
-use Rattle.ptu_record.specs.Lists.{places}
-use Rattle.ptu_record.specs.Record.{Entry, Record, Event}
-use Rattle.ptu_record.specs.Judges.{AreAssessments}
+use Rattle.ptu_record.specs.{declared.rule.Rule.{Rule}, Lists.{places}}
+use Rattle.ptu_record.specs.{Record.{Entry, Record, Event}, Judges.{AreAssessments}}
 use Rattle.ptu_record.specs.Tick.{Sending, is_stop, requests_to, sending_entries}
 use Rattle.ptu_record.specs.Step.{Tick, entries_by, judged_entries, or_event, sendings}
 use Rattle.ptu_record.proofs.StepParts.{judged_all}
 use Rattle.ptu_fails.specs.Watched.{is_watched}
 use Rattle.ptu_judges.specs.Held.{Held}
-use Rattle.ptu_slave.specs.Kept.{Kept}
-use Rattle.ptu_slave.specs.Parts.{AllJudged, Ticks}
+use Rattle.ptu_slave.specs.{Kept.{Kept}, Parts.{AllJudged, Ticks}}
 use Rattle.ptu_slave.specs.Standing.{Asks, Judge, Selects, StandsFor, StepsBy, setup_of}
 use Rattle.ptu_slave.proofs.Masters.{all_append}
 use Rattle.ptu_slave.proofs.Quiet.{Unasked, Untold, asks_kept, judge_kept, selects_kept}
-use Rattle.ptu_slave.proofs.Sendings.{sent_all}
-use Rattle.ptu_slave.proofs.Signals.{asks_or_event, none_stop}
+use Rattle.ptu_slave.proofs.{Sendings.{sent_all}, Signals.{asks_or_event, none_stop}}
 use Rattle.ptu_slave.proofs.Stepping.{Moves, step_of}
 
 -- ---- an event of which nothing else is entered

@@ -1,18 +1,14 @@
 -- What the events of a slave are to those who see it.
 use Rattle.std.specs.Prelude.{◌≡◌, ℕ, max, Bool, List, [], ◌∷◌, map, length, Option}
 use Rattle.std.specs.declared.dyn_box.DynBox.{DynBox}
-use Rattle.ptu_outside.specs.HandsOver.{HandsOver}
-use Rattle.ptu_outside.specs.declared.port.Port.{Ghosts as Ports}
-use Rattle.ptu_record.specs.declared.rule.Rule.{Rule}
-use Rattle.ptu_record.specs.Record.{Record}
+use Rattle.ptu_outside.specs.{HandsOver.{HandsOver}, declared.port.Port.{Ghosts as Ports}}
+use Rattle.ptu_record.specs.{declared.rule.Rule.{Rule}, Record.{Record}}
 use Rattle.ptu_record.specs.Step.{ReplaceJudge, SlaveEvent, Stop, TellFlag, Tick, sendings}
 use Rattle.ptu_record.specs.Tick.{Sending}
 use Rattle.ptu_judges.specs.Calls.{OfAll, OfOne, Then, WasAsked, WasTold}
-use Rattle.ptu_judges.specs.declared.judge.Conduct.{Ghosts as Conducts}
-use Rattle.ptu_judges.specs.declared.judge.Judge.{Ghosts as Judges}
+use Rattle.ptu_judges.specs.declared.judge.{Conduct.{Ghosts as Conducts}, Judge.{Ghosts as Judges}}
 use Rattle.ptu_slave_messages.specs.Sending.{all_ones, departure_of}
-use Rattle.ptu_slave.specs.Seen.{Seen}
-use Rattle.ptu_slave.specs.Standing.{StandsFor, Steps, StepsBy, setup_of}
+use Rattle.ptu_slave.specs.{Seen.{Seen}, Standing.{StandsFor, Steps, StepsBy, setup_of}}
 use Rattle.ptu_slave.specs.declared.ticked.Ticked.{Ticked}
 
 -- for each record that it stood for, it makes the step of this event

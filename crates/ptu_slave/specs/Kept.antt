@@ -1,12 +1,10 @@
 -- What a slave keeps beside its judges and its port.
 use Rattle.std.specs.Prelude.{◌≡◌, ℕ, Bool, List}
-use Rattle.ptu_record.specs.Record.{Record}
-use Rattle.ptu_record.specs.Lists.{last}
+use Rattle.ptu_record.specs.{Record.{Record}, Lists.{last}}
 use Rattle.ptu_record.specs.Tick.{delay_req_number, probes, signaling_number}
 use Rattle.ptu_requester.specs.Requester.{Kept as Negotiated}
 use Rattle.ptu_select.specs.declared.master.WatchedMaster.{WatchedMaster}
-use Rattle.ptu_profile.specs.declared.slave.Master.{Master}
-use Rattle.ptu_profile.specs.declared.slave.SlaveConfig.{SlaveConfig}
+use Rattle.ptu_profile.specs.declared.slave.{Master.{Master}, SlaveConfig.{SlaveConfig}}
 use Rattle.ptu_slave.specs.declared.counters.Counters.{Counters}
 
 -- what it is set up with and its masters; of each master what was asked and granted, what the selection goes by, and the

@@ -2,17 +2,14 @@
 use Rattle.std.specs.declared.dyn_box.DynBox.{DynBox}
 use Rattle.std.specs.Prelude.{◌≡◌, ℕ, Bool, true, false, List, [], ◌∷◌, ◌++◌, flat_map, length, Option, Some, None, option_map}
 use Rattle.ptu_units.specs.declared.kind.Kind.{Kind}
-use Rattle.ptu_record.specs.declared.rule.Rule.{Rule}
-use Rattle.ptu_record.specs.declared.wants.Wants.{Wants}
+use Rattle.ptu_record.specs.declared.{rule.Rule.{Rule}, wants.Wants.{Wants}}
 use Rattle.ptu_record.specs.Lists.{places}
 use Rattle.ptu_record.specs.Record.{Entry, Record, record_of, Asked, Judged, Cancelled, Sync, Told}
-use Rattle.ptu_record.specs.Judges.{AreAssessments, IsAssessment, opening_of}
-use Rattle.ptu_record.specs.Grants.{live_kinds}
+use Rattle.ptu_record.specs.{Judges.{AreAssessments, IsAssessment, opening_of}, Grants.{live_kinds}}
 use Rattle.ptu_record.specs.Tick.{Sending, Cancels, one_signaling, requests_to, sending_entries, signaling_number}
 use Rattle.ptu_record.specs.Step.{SlaveEvent, TakeSync, TellFlag, grant_entry, judged_entries, wanted_kind}
 use Rattle.ptu_requester.specs.Requester.{all_cancels}
-use Rattle.ptu_judges.specs.Held.{Held}
-use Rattle.ptu_judges.specs.Calls.{WasHeard, WasTold}
+use Rattle.ptu_judges.specs.{Held.{Held}, Calls.{WasHeard, WasTold}}
 use Rattle.ptu_judges.specs.declared.judge.Conduct.{Ghosts}
 use Rattle.ptu_slave_messages.specs.declared.signal.Signal.{Signal}
 use Rattle.ptu_slave_messages.specs.declared.signal.Signal.TheVariants.{Grant, Denial, Cancel, Ack}
@@ -22,8 +19,7 @@ use Rattle.ptu_slave.specs.declared.judging.News.{News}
 use Rattle.ptu_slave.specs.declared.judging.News.TheVariants as news
 use Rattle.ptu_slave.specs.declared.ticks.Occasion.{Occasion}
 use Rattle.ptu_slave.specs.declared.ticks.Occasion.TheVariants as occasions
-use Rattle.ptu_slave.specs.Kept.{Kept}
-use Rattle.ptu_slave.specs.Standing.{Asks, Judge, Selects}
+use Rattle.ptu_slave.specs.{Kept.{Kept}, Standing.{Asks, Judge, Selects}}
 
 -- ---- a Signaling
 

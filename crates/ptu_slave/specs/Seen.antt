@@ -1,11 +1,8 @@
 -- What is seen of a slave, whose fields are its own.
-use Rattle.std.specs.Prelude.{◌≡◌, List, length, map}
-use Rattle.std.specs.declared.alloc.Global.{Global}
+use Rattle.std.specs.{Prelude.{◌≡◌, List, length, map}, declared.alloc.Global.{Global}}
 use Rattle.std.specs.declared.dyn_box.DynBox.{DynBox}
-use Rattle.ptu_judges.specs.Held.{Held}
-use Rattle.ptu_judges.specs.declared.judge.Judge.{Ghosts}
-use Rattle.ptu_slave.specs.Kept.{Kept}
-use Rattle.ptu_slave.specs.declared.slave.Slave.{Slave}
+use Rattle.ptu_judges.specs.{Held.{Held}, declared.judge.Judge.{Ghosts}}
+use Rattle.ptu_slave.specs.{Kept.{Kept}, declared.slave.Slave.{Slave}}
 
 -- what it keeps, what its judges hold, these judges in their boxes, and its port
 pub record Seen (P B : Type 0) : Type 0 where

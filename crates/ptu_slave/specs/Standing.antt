@@ -2,14 +2,10 @@
 use Rattle.std.specs.Prelude.{◌≡◌, ℕ, ◌<◌, ◌≤◌, max, Bool, false, List, [], ◌∷◌, ◌++◌, length, map, slice_get, Option, Some, option_map}
 use Rattle.std.specs.List.{list_any}
 use Rattle.ptu_units.specs.declared.kind.Kind.{Kind}
-use Rattle.ptu_record.specs.declared.rule.Rule.{Rule}
-use Rattle.ptu_record.specs.Lists.{maximum}
+use Rattle.ptu_record.specs.{declared.rule.Rule.{Rule}, Lists.{maximum}}
 use Rattle.ptu_record.specs.Record.{Entry, Record, event_moment, record_of, moment_of}
-use Rattle.ptu_record.specs.Grants.{is_live}
-use Rattle.ptu_record.specs.Judges.{opening_of}
-use Rattle.ptu_record.specs.Selection.{selected_master}
-use Rattle.ptu_record.specs.Tick.{is_stop}
-use Rattle.ptu_record.specs.Step.{IsStep, SlaveEvent, SlaveSetup, SlaveStep}
+use Rattle.ptu_record.specs.{Grants.{is_live}, Judges.{opening_of}, Selection.{selected_master}}
+use Rattle.ptu_record.specs.{Tick.{is_stop}, Step.{IsStep, SlaveEvent, SlaveSetup, SlaveStep}}
 use Rattle.ptu_requester.specs.Requester as requester
 use Rattle.ptu_select.specs.Selecting.{SelectsBy}
 use Rattle.ptu_judges.specs.Held.{Held}

@@ -1,8 +1,7 @@
 -- Datagrams that are taken one after the other.
 use Rattle.std.proofs.Common.{◌≡◌, ◌∙◌, ◌⊎◌, inl, inr, ℕ, ◌+◌, ◌<◌, ◌++◌, Bool, true, false, cond, List, [], ◌∷◌, length, map, refl, sym, ap, ap₂, subst, arith, length-append, append_assoc, Option, Some, None}
 use Rattle.std.proofs.lemmas.List.{map-append}
-use Rattle.ptu_outside.specs.declared.arrival.Arrival.{Arrival}
-use Rattle.ptu_outside.specs.Faults.{HasNotFallen, HasRisen}
+use Rattle.ptu_outside.specs.{declared.arrival.Arrival.{Arrival}, Faults.{HasNotFallen, HasRisen}}
 use Rattle.ptu_outside.specs.Telling.{IfTold, IsEmptyTold, IsFirstTold, rest_told}
 use Rattle.ptu_outside.specs.Departure.{Departure}
 use Rattle.ptu_outside.proofs.Telling.{IfTold-refl}

@@ -2,10 +2,8 @@
 use Rattle.std.proofs.Common.{◌≡◌, ◌∙◌, inl, ℕ, ◌+◌, List, [], ◌∷◌, map, refl, sym, ap, subst, arith, add-zero, Option, None}
 use Rattle.std.proofs.lemmas.List.{map-append}
 use Rattle.std.specs.Prelude.{IsSome}
-use Rattle.ptu_outside.specs.declared.arrival.Arrival.{Arrival}
-use Rattle.ptu_outside.specs.declared.opened.Opened.{Opened}
-use Rattle.ptu_outside.specs.Departure.{Departure}
-use Rattle.ptu_outside.specs.Faults.{HasRisen, HasRisenBy}
+use Rattle.ptu_outside.specs.declared.{arrival.Arrival.{Arrival}, opened.Opened.{Opened}}
+use Rattle.ptu_outside.specs.{Departure.{Departure}, Faults.{HasRisen, HasRisenBy}}
 use Rattle.ptu_outside.specs.Handing.{HasPut, HasPutPart}
 use Rattle.ptu_outside.proofs.Putting.{HasPutPart-append}
 use Rattle.ptu_judges.specs.Held.{Held}
@@ -14,8 +12,7 @@ use Rattle.ptu_slave.specs.Kept.{Kept}
 use Rattle.ptu_rounds.specs.Ports.{HaveNotRisen, HaveRisenBy, ports_of}
 use Rattle.ptu_slave_daemon.specs.declared.line.SlaveLine.{SlaveLine}
 use Rattle.ptu_slave_daemon.specs.Happenings.{Selection, happenings}
-use Rattle.ptu_slave_daemon.specs.Lines.{changes, line_text, output, texts_of}
-use Rattle.ptu_slave_daemon.specs.Opening.{node_of}
+use Rattle.ptu_slave_daemon.specs.{Lines.{changes, line_text, output, texts_of}, Opening.{node_of}}
 use Rattle.ptu_slave_daemon.specs.Running.{IsFront, RunDone, view_of}
 use Rattle.ptu_slave_daemon.specs.Served.{AreAside, HasDone, HasServed, HasStopped, Tell}
 use Rattle.ptu_slave_daemon.proofs.Fronts.{run_is, run_output}

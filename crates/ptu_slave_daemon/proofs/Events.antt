@@ -1,30 +1,22 @@
 -- What one event makes of a slave that stands for a node with a record.
 use Rattle.std.proofs.Common.{◌≡◌, ◌≢◌, ℕ, zero, suc, ◌+◌, ◌<◌, ◌≤◌, max, List, [], ◌∷◌, ◌++◌, length, map, Option, None, Ok, Err, refl, ap, ap₂, sym, subst, ◌∙◌, arith}
 use Rattle.std.proofs.lemmas.List.{append-nil}
-use Rattle.std.specs.List.{AllByRecursion, range_with_len}
-use Rattle.std.specs.Option.{option_map}
+use Rattle.std.specs.{List.{AllByRecursion, range_with_len}, Option.{option_map}}
 use Rattle.std.specs.Prelude.{IsSome, Result}
 use Rattle.ptu_messages.specs.declared.message.Message.{Message}
 use Rattle.ptu_outside.specs.declared.arrival.Arrival.{Arrival}
-use Rattle.ptu_record.specs.declared.rule.Rule.{Rule}
-use Rattle.ptu_record.specs.Lists.{places}
-use Rattle.ptu_record.specs.Record.{Record, event_moment}
-use Rattle.ptu_record.specs.Selection.{selected_master}
+use Rattle.ptu_record.specs.{declared.rule.Rule.{Rule}, Lists.{places}}
+use Rattle.ptu_record.specs.{Record.{Record, event_moment}, Selection.{selected_master}}
 use Rattle.ptu_record.specs.Step.{ReplaceJudge, SlaveEvent, Stop, Tick, judged_masters, sendings, slave_step}
 use Rattle.ptu_judges.specs.Held.{Held}
-use Rattle.ptu_profile.specs.declared.slave.Master.{Master}
-use Rattle.ptu_profile.specs.declared.slave.SlaveConfig.{SlaveConfig}
+use Rattle.ptu_profile.specs.declared.slave.{Master.{Master}, SlaveConfig.{SlaveConfig}}
 use Rattle.ptu_slave_messages.specs.declared.reason.SlaveReason.{SlaveReason}
 use Rattle.ptu_profile.specs.Slave.{address_of, priorities, timeouts}
 use Rattle.ptu_slave_messages.specs.Heard.{event_of, replies_in}
 use Rattle.ptu_slave_messages.specs.Node.{Node, datagram_deed, deed, node_selection, node_setup, reception_deed}
-use Rattle.ptu_slave_messages.specs.Reception.{reception}
-use Rattle.ptu_slave_messages.specs.Sending.{all_ones, departure_of}
-use Rattle.ptu_slave.specs.Kept.{IsSame, Kept}
-use Rattle.ptu_slave.specs.Standing.{StandsFor, Steps, setup_of}
-use Rattle.ptu_slave.proofs.Nodes.{node_replies}
-use Rattle.ptu_slave.proofs.Ruled.{ruled_step}
-use Rattle.ptu_slave.proofs.Staying.{rules_stay}
+use Rattle.ptu_slave_messages.specs.{Reception.{reception}, Sending.{all_ones, departure_of}}
+use Rattle.ptu_slave.specs.{Kept.{IsSame, Kept}, Standing.{StandsFor, Steps, setup_of}}
+use Rattle.ptu_slave.proofs.{Nodes.{node_replies}, Ruled.{ruled_step}, Staying.{rules_stay}}
 use Rattle.ptu_slave.proofs.Stepping.{moment_is}
 use Rattle.ptu_slave_daemon.specs.Happenings.{Arrives, Stops, Ticks}
 use Rattle.ptu_slave_daemon.specs.Running.{AreTimed, IsAt, PortDid, Ran, View}

@@ -2,8 +2,7 @@
 use Rattle.std.proofs.Common.{◌≡◌, ◌∙◌, ℕ, ◌+◌, ◌-◌, ◌≤◌, ◌++◌, List, [], ◌∷◌, length, map, refl, sym, ap, ap₂, arith, append_assoc, Option, Some, None}
 use Rattle.std.proofs.lemmas.List.{append-nil, map-append}
 use Rattle.std.specs.Prelude.{IsErrOf, IsSome, OnErr, Result, Ok, Err}
-use Rattle.ptu_outside.specs.declared.arrival.Arrival.{Arrival}
-use Rattle.ptu_outside.specs.Faults.{HasRisen}
+use Rattle.ptu_outside.specs.{declared.arrival.Arrival.{Arrival}, Faults.{HasRisen}}
 use Rattle.ptu_record.specs.Record.{Record}
 use Rattle.ptu_slave_messages.specs.Node.{Node}
 use Rattle.ptu_rounds.specs.Rounds.{in_rounds, moments_after, timed}
@@ -11,10 +10,8 @@ use Rattle.ptu_slave_daemon.specs.declared.line.SlaveLine.TheVariants.{Closing}
 use Rattle.ptu_slave_daemon.specs.Happenings.{Happening, Selection, Stops, happenings, record_after, round_of, selections_in, sent_in}
 use Rattle.ptu_slave_daemon.specs.Lines.{changes, output, output_from, selected_line}
 use Rattle.ptu_slave_daemon.specs.Running.{AreRounds, AreTimed, IsFront, RoundsDone, RunDone, View}
-use Rattle.ptu_slave_daemon.proofs.OneRound.{in_rounds-add}
-use Rattle.ptu_slave_daemon.proofs.Ports.{none_risen}
-use Rattle.ptu_slave_daemon.proofs.Runs.{selections_in-append}
-use Rattle.ptu_slave_daemon.proofs.Times.{timed-append}
+use Rattle.ptu_slave_daemon.proofs.{OneRound.{in_rounds-add}, Ports.{none_risen}}
+use Rattle.ptu_slave_daemon.proofs.{Runs.{selections_in-append}, Times.{timed-append}}
 use Rattle.ptu_slave_daemon.proofs.Written.{changes-append, said_after}
 
 -- what is said of an error, at this one

@@ -2,22 +2,17 @@
 use Rattle.std.proofs.Common.{◌≡◌, ◌≢◌, ◌∙◌, ℕ, zero, suc, ◌+◌, ◌<◌, ◌≤◌, ◌++◌, Bool, true, false, not, cond, ◌&&◌, ◌||◌, eq-eqb, add-one, List, [], ◌∷◌, map, length, drop, take, get_or, Option, Some, None, option_to_list, MatchOption, refl, sym, ap, ap₂, subst, arith, length-append}
 use Rattle.std.specs.List.{All, AllByRecursion, AllPairs, count_by, list_any}
 use Rattle.std.specs.Prelude.{IsSome, nat_le, ◌==◌}
-use Rattle.std.proofs.lemmas.Bool.{false≢true}
-use Rattle.std.proofs.lemmas.Bool.Decides.{nat_tests}
-use Rattle.std.proofs.lemmas.List.{map-append, take_more}
-use Rattle.std.proofs.Math.Seq.{drop-cons}
-use Rattle.std.proofs.lemmas.List.Kept.{AllPairs-cons}
-use Rattle.std.proofs.lemmas.List.Elements.{All-from_recursion}
+use Rattle.std.proofs.lemmas.{Bool.{false≢true}, Bool.Decides.{nat_tests}}
+use Rattle.std.proofs.{lemmas.List.{map-append, take_more}, Math.Seq.{drop-cons}}
+use Rattle.std.proofs.lemmas.List.{Kept.{AllPairs-cons}, Elements.{All-from_recursion}}
 use Rattle.std.proofs.lemmas.List.Sums.{sum_by-cons}
 use Rattle.ptu_record.specs.declared.rule.Rule.TheVariants.{Flag, Gap}
 use Rattle.ptu_judges.specs.Held.{HasNone, HasTaken, Held, IsFresh, fresh}
 use Rattle.ptu_config.specs.declared.master.MasterSetting.{MasterSetting}
 use Rattle.ptu_config.specs.declared.settings.SlaveSettings.{SlaveSettings}
 use Rattle.ptu_config.specs.Masters.{are_distinct, are_masters}
-use Rattle.ptu_profile.specs.declared.slave.Master.{Master}
-use Rattle.ptu_profile.specs.Slave.{AreMasters}
-use Rattle.ptu_slave.specs.Kept.{Kept}
-use Rattle.ptu_slave.specs.Standing.{StandsFor}
+use Rattle.ptu_profile.specs.{declared.slave.Master.{Master}, Slave.{AreMasters}}
+use Rattle.ptu_slave.specs.{Kept.{Kept}, Standing.{StandsFor}}
 use Rattle.ptu_slave_daemon.specs.Opening.{are_enough, config_of, master_of, node_of, rule_of}
 use Rattle.ptu_slave_daemon.specs.Running.{IsAt}
 

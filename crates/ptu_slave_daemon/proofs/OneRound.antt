@@ -1,8 +1,7 @@
 -- One round after another.
 use Rattle.std.proofs.Common.{◌≡◌, ◌∙◌, ◌⊎◌, inl, inr, ℕ, zero, suc, ◌+◌, ◌*◌, ◌≤◌, ◌++◌, List, [], ◌∷◌, length, map, take, drop, refl, sym, ap, ap₂, subst, arith, add-zero, append_assoc, Option, Some}
 use Rattle.std.proofs.lemmas.List.{append-nil, drop-drop}
-use Rattle.ptu_outside.specs.declared.arrival.Arrival.{Arrival}
-use Rattle.ptu_outside.specs.Faults.{HasNotFallen, HasRisen}
+use Rattle.ptu_outside.specs.{declared.arrival.Arrival.{Arrival}, Faults.{HasNotFallen, HasRisen}}
 use Rattle.ptu_rounds.specs.Rounds.{in_rounds, left_after, taken_in}
 use Rattle.ptu_record.specs.Record.{Record}
 use Rattle.ptu_slave_messages.specs.Node.{Node}

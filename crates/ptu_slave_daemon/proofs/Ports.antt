@@ -1,11 +1,9 @@
 -- What became of a port over several calls.
 use Rattle.std.proofs.Common.{◌≡◌, ◌∙◌, inl, inr, ℕ, zero, suc, ◌+◌, ◌-◌, ◌^◌, ◌≤◌, ◌++◌, List, [], map, refl, sym, ap₂, subst, arith, length-append, Option}
 use Rattle.std.specs.List.{items_where_true}
-use Rattle.ptu_outside.specs.declared.port.Port.{Ghosts as Ports}
-use Rattle.ptu_outside.specs.Departure.{Departure}
+use Rattle.ptu_outside.specs.{declared.port.Port.{Ghosts as Ports}, Departure.{Departure}}
 use Rattle.ptu_outside.specs.Faults.{HasRisen, HasRisenBy, HasNotFallen}
-use Rattle.ptu_outside.specs.Telling.{IfTold, append_told}
-use Rattle.ptu_outside.specs.HandsOver.{HandsOver}
+use Rattle.ptu_outside.specs.{Telling.{IfTold, append_told}, HandsOver.{HandsOver}}
 use Rattle.ptu_outside.proofs.Told.{HasRisenBy-before, HasRisenBy-after}
 use Rattle.ptu_outside.proofs.Telling.{IfTold-refl, IfTold-append, append_told-nil}
 use Rattle.ptu_slave_daemon.specs.Running.{HasFailed, PortDid}

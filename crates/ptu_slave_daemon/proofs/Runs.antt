@@ -4,8 +4,7 @@ use Rattle.ptu_record.specs.Record.{Record}
 use Rattle.ptu_slave_messages.specs.Node.{Node}
 use Rattle.ptu_slave_daemon.specs.Happenings.{Happening, Selection, deed_at, entered_at, record_after, selection_at, selections_in, sent_in}
 use Rattle.ptu_slave_daemon.specs.Running.{AreTimed, HasFailed, IsAt, PortDid, Ran, View}
-use Rattle.ptu_slave_daemon.proofs.Ports.{port_append, port_still}
-use Rattle.ptu_slave_daemon.proofs.Times.{timed_more, timed_none}
+use Rattle.ptu_slave_daemon.proofs.{Ports.{port_append, port_still}, Times.{timed_more, timed_none}}
 
 module _ (node : Node) where
   pub record_after-append : (L : Record) (hs ks : List Happening) → record_after node L (hs ++ ks) ≡ record_after node (record_after node L hs) ks

@@ -1,11 +1,9 @@
 -- Things that happen each at a new moment.
 use Rattle.std.proofs.Common.{◌≡◌, ◌≢◌, ◌∙◌, ℕ, zero, suc, ◌+◌, ◌++◌, List, [], ◌∷◌, length, refl, sym, ap, ap₂, arith, length-append, Option, Some, None}
 use Rattle.std.specs.Prelude.{option_map}
-use Rattle.ptu_outside.specs.Clocks.{after_first}
-use Rattle.ptu_outside.specs.Telling.{IfTold, IsFirstTold}
+use Rattle.ptu_outside.specs.{Clocks.{after_first}, Telling.{IfTold, IsFirstTold}}
 use Rattle.ptu_rounds.specs.Rounds.{moments_after, next_of, timed}
-use Rattle.ptu_slave_daemon.specs.Happenings.{Happening}
-use Rattle.ptu_slave_daemon.specs.Running.{AreTimed}
+use Rattle.ptu_slave_daemon.specs.{Happenings.{Happening}, Running.{AreTimed}}
 
 pub moments_after-zero : (times : List ℕ) → moments_after 0 times ≡ times
 unfolding moments_after

@@ -4,8 +4,7 @@ use Rattle.std.proofs.lemmas.List.{map-append}
 use Rattle.std.specs.Prelude.{◌==◌}
 use Rattle.ptu_outside.specs.Handing.{HasPut, HasPutPart}
 use Rattle.ptu_outside.proofs.Putting.{HasPut-append, HasPut-part}
-use Rattle.ptu_slave_daemon.specs.declared.line.SlaveLine.{SlaveLine}
-use Rattle.ptu_slave_daemon.specs.Happenings.{Selection}
+use Rattle.ptu_slave_daemon.specs.{declared.line.SlaveLine.{SlaveLine}, Happenings.{Selection}}
 use Rattle.ptu_slave_daemon.specs.Lines.{changes, is_said, is_same, line_text, said_next, selected_line, texts_of}
 
 -- what was written last once these selections were made

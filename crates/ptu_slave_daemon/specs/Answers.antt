@@ -1,9 +1,7 @@
 -- What each answer of a slave's daemon says.
 use Rattle.std.specs.Prelude.{◌≡◌, ℕ, Option, Some, IfSome, Result, Ok, Err}
-use Rattle.ptu_outside.specs.declared.opened.Opened.{Opened}
-use Rattle.ptu_outside.specs.declared.failed.Failed.{Failed}
-use Rattle.ptu_outside.specs.Faults.{HasRisen}
-use Rattle.ptu_outside.specs.Telling.{IfTold}
+use Rattle.ptu_outside.specs.declared.{opened.Opened.{Opened}, failed.Failed.{Failed}}
+use Rattle.ptu_outside.specs.{Faults.{HasRisen}, Telling.{IfTold}}
 use Rattle.ptu_slave_daemon.specs.declared.halt.Halt.{Halt}
 use Rattle.ptu_slave_daemon.specs.declared.halt.Halt.TheVariants as halts
 use Rattle.ptu_rounds.specs.declared.fault.DaemonFault.{DaemonFault}

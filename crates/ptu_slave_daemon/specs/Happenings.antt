@@ -1,9 +1,7 @@
 -- What happens to a slave's daemon, and what its slave does then.
 use Rattle.std.specs.Prelude.{ℕ, ◌+◌, List, [], ◌∷◌, ◌++◌, map, Option, option_map}
-use Rattle.ptu_outside.specs.declared.arrival.Arrival.{Arrival}
-use Rattle.ptu_outside.specs.Departure.{Departure}
-use Rattle.ptu_record.specs.Record.{Record}
-use Rattle.ptu_record.specs.Step.{Stop, Tick}
+use Rattle.ptu_outside.specs.{declared.arrival.Arrival.{Arrival}, Departure.{Departure}}
+use Rattle.ptu_record.specs.{Record.{Record}, Step.{Stop, Tick}}
 use Rattle.ptu_profile.specs.Slave.{address_of}
 use Rattle.ptu_slave_messages.specs.Node.{Deed, Node, datagram_deed, deed, node_selection}
 use Rattle.ptu_rounds.specs.Rounds.{in_rounds, received_in, timed}

@@ -1,12 +1,9 @@
 -- What the settings of a slave's daemon open.
-use Rattle.std.specs.Prelude.{ℕ, Bool, not, ◌&&◌, cond, List, map, nat_le, Some}
-use Rattle.std.specs.List.{count_by}
-use Rattle.ptu_record.specs.declared.rule.Rule.{Rule}
-use Rattle.ptu_record.specs.declared.rule.Rule.TheVariants.{Flag, Gap}
+use Rattle.std.specs.{Prelude.{ℕ, Bool, not, ◌&&◌, cond, List, map, nat_le, Some}, List.{count_by}}
+use Rattle.ptu_record.specs.declared.rule.{Rule.{Rule}, Rule.TheVariants.{Flag, Gap}}
 use Rattle.ptu_config.specs.declared.master.MasterSetting.{MasterSetting}
 use Rattle.ptu_config.specs.declared.settings.SlaveSettings.{SlaveSettings}
-use Rattle.ptu_profile.specs.declared.slave.Master.{Master}
-use Rattle.ptu_profile.specs.declared.slave.SlaveConfig.{SlaveConfig}
+use Rattle.ptu_profile.specs.declared.slave.{Master.{Master}, SlaveConfig.{SlaveConfig}}
 use Rattle.ptu_slave_messages.specs.Node.{Node}
 
 -- what the slave is set up with

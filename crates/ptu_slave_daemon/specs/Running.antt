@@ -1,19 +1,15 @@
 -- What a slave's daemon did so far, whatever its ports tell.
 use Rattle.std.specs.Prelude.{◌≡◌, ◌⊎◌, ℕ, ◌+◌, ◌<◌, ◌≤◌, ◌^◌, Bool, false, cond, List, [], ◌∷◌, ◌++◌, length, map, Option, Some, IsSome, IfSome}
 use Rattle.std.specs.List.{AllByRecursion}
-use Rattle.ptu_outside.specs.declared.arrival.Arrival.{Arrival}
-use Rattle.ptu_outside.specs.Departure.{Departure}
+use Rattle.ptu_outside.specs.{declared.arrival.Arrival.{Arrival}, Departure.{Departure}}
 use Rattle.ptu_outside.specs.Faults.{HasNotFallen, HasRisen, HasRisenBy}
 use Rattle.ptu_outside.specs.Telling.{IfTold, IsEmptyTold, append_told}
 use Rattle.ptu_record.specs.Record.{Record}
 use Rattle.ptu_judges.specs.Held.{Held}
 use Rattle.ptu_slave_messages.specs.Node.{Node}
-use Rattle.ptu_slave.specs.Kept.{Kept}
-use Rattle.ptu_slave.specs.Seen.{Seen}
-use Rattle.ptu_slave.specs.Standing.{StandsFor}
+use Rattle.ptu_slave.specs.{Kept.{Kept}, Seen.{Seen}, Standing.{StandsFor}}
 use Rattle.ptu_rounds.specs.Rounds.{in_rounds, left_after, moments_after, timed}
-use Rattle.ptu_slave_daemon.specs.declared.counts.Counts.{Counts}
-use Rattle.ptu_slave_daemon.specs.declared.line.SlaveLine.{SlaveLine}
+use Rattle.ptu_slave_daemon.specs.declared.{counts.Counts.{Counts}, line.SlaveLine.{SlaveLine}}
 use Rattle.ptu_slave_daemon.specs.Happenings.{Happening, Stops, arrive, Selection, happenings, record_after, round_of, selections_in, sent_in}
 use Rattle.ptu_slave_daemon.specs.Lines.{output_from}
 

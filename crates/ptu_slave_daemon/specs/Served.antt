@@ -1,15 +1,12 @@
 -- What a slave's daemon has done.
 use Rattle.std.specs.Prelude.{◌≡◌, ℕ, List, [], length, map, Option, Some, IsSome}
-use Rattle.ptu_outside.specs.declared.arrival.Arrival.{Arrival}
-use Rattle.ptu_outside.specs.declared.opened.Opened.{Opened}
-use Rattle.ptu_outside.specs.Departure.{Departure}
-use Rattle.ptu_outside.specs.Handing.{HasPut, HasPutPart}
+use Rattle.ptu_outside.specs.declared.{arrival.Arrival.{Arrival}, opened.Opened.{Opened}}
+use Rattle.ptu_outside.specs.{Departure.{Departure}, Handing.{HasPut, HasPutPart}}
 use Rattle.ptu_outside.specs.Telling.{IfTold, append_told}
 use Rattle.ptu_config.specs.declared.settings.SlaveSettings.{SlaveSettings}
 use Rattle.ptu_rounds.specs.Ports.{HaveNotRisen, HaveRisenBy, ports_of}
 use Rattle.ptu_slave_daemon.specs.Happenings.{Happening, Selection, happenings, sent_in}
-use Rattle.ptu_slave_daemon.specs.Lines.{output, output_of, texts_of}
-use Rattle.ptu_slave_daemon.specs.Opening.{node_of}
+use Rattle.ptu_slave_daemon.specs.{Lines.{output, output_of, texts_of}, Opening.{node_of}}
 
 -- what a daemon does not use is given back as it was opened: the ports but the last two, and the clocks but the first; by
 -- port 5 nothing was sent

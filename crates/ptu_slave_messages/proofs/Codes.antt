@@ -2,19 +2,16 @@
 use Rattle.std.proofs.Common.{◌≡◌, ℕ, zero, suc, ◌-◌, ◌/◌, ◌<◌, ◌≤◌, List, [], ◌∷◌, ◌++◌, map, All, length, take, drop, get_or, arith, sym, subst, lit<}
 use Rattle.std.proofs.lemmas.List.Elements.{All-from_recursion}
 use Rattle.std.specs.List.{AllByRecursion, filter_map, slice_index, slice_range}
-use Rattle.ptu_units.specs.declared.kind.Kind.{Kind}
-use Rattle.ptu_units.specs.declared.kind.Kind.TheVariants.{Announce, Sync, DelayResp}
+use Rattle.ptu_units.specs.declared.kind.{Kind.{Kind}, Kind.TheVariants.{Announce, Sync, DelayResp}}
 use Rattle.ptu_units.specs.Kind.{code_of}
 use Rattle.ptu_tlvs.specs.declared.tlv.Tlv.{Tlv}
 use Rattle.ptu_tlvs.specs.declared.tlv.Tlv.TheVariants as tlv
-use Rattle.ptu_tlvs.specs.Sent.{IsSendable}
-use Rattle.ptu_tlvs.specs.Tlv.{SpellsTlv}
+use Rattle.ptu_tlvs.specs.{Sent.{IsSendable}, Tlv.{SpellsTlv}}
 use Rattle.ptu_messages.specs.declared.message.Body.{Body}
 use Rattle.ptu_messages.specs.declared.message.Body.TheVariants as body
 use Rattle.ptu_messages.specs.declared.message.Message.{Message}
 use Rattle.ptu_messages.specs.Message.{IsBodyOf, SpellsBody, SpellsMessage, least_length}
-use Rattle.ptu_messages.specs.MessageFault.{IsSignaling}
-use Rattle.ptu_messages.specs.Tlvs.{AreSpelled}
+use Rattle.ptu_messages.specs.{MessageFault.{IsSignaling}, Tlvs.{AreSpelled}}
 use Rattle.ptu_record.specs.declared.wants.Wants.{Wants}
 use Rattle.ptu_slave_messages.specs.Heard.{FitsReply, HasTlvs, ack_by, content_of}
 use Rattle.ptu_slave_messages.specs.Sending.{cancel_of, request_of}

@@ -1,17 +1,13 @@
 -- Who sends a message that is taken, and what its event judges.
 use Rattle.std.proofs.Common.{◌≡◌, ◌≢◌, ℕ, ◌<◌, Bool, true, false, List, length, Option, Some, None, Ok, Err, refl, ap, subst}
 use Rattle.std.proofs.lemmas.List.Quantifiers.{position-Some}
-use Rattle.std.specs.List.{AllByRecursion}
-use Rattle.std.specs.Prelude.{Result, if◌then◌else◌, ◌==◌, not}
+use Rattle.std.specs.{List.{AllByRecursion}, Prelude.{Result, if◌then◌else◌, ◌==◌, not}}
 use Rattle.ptu_header.specs.declared.header.Header.{Header}
-use Rattle.ptu_messages.specs.declared.fault.MessageFault.{MessageFault}
-use Rattle.ptu_messages.specs.declared.message.Body.{Body}
+use Rattle.ptu_messages.specs.declared.{fault.MessageFault.{MessageFault}, message.Body.{Body}}
 use Rattle.ptu_messages.specs.declared.message.Body.TheVariants as body
-use Rattle.ptu_messages.specs.declared.message.Message.{Message}
-use Rattle.ptu_messages.specs.Reading.{message_in}
+use Rattle.ptu_messages.specs.{declared.message.Message.{Message}, Reading.{message_in}}
 use Rattle.ptu_record.specs.Step.{ReplaceJudge, judged_masters}
-use Rattle.ptu_profile.specs.declared.slave.Master.{Master}
-use Rattle.ptu_profile.specs.declared.slave.SlaveConfig.{SlaveConfig}
+use Rattle.ptu_profile.specs.declared.slave.{Master.{Master}, SlaveConfig.{SlaveConfig}}
 use Rattle.ptu_slave_messages.specs.declared.reason.SlaveReason.{SlaveReason}
 use Rattle.ptu_slave_messages.specs.declared.reason.SlaveReason.TheVariants.{Domain, Other, Target, UnknownType}
 use Rattle.ptu_profile.specs.Slave.{place_of}

@@ -6,11 +6,9 @@ use Rattle.ptu_header.specs.declared.fault.HeaderFault.TheVariants as headers
 use Rattle.ptu_messages.specs.declared.fault.MessageFault.TheVariants as faults
 use Rattle.ptu_messages.specs.Sent.{sent_message}
 use Rattle.ptu_record.specs.Tick.{Acknowledgements, Cancels, DelayReq, Requests}
-use Rattle.ptu_profile.specs.declared.slave.Master.{Master}
-use Rattle.ptu_profile.specs.declared.slave.SlaveConfig.{SlaveConfig}
+use Rattle.ptu_profile.specs.declared.slave.{Master.{Master}, SlaveConfig.{SlaveConfig}}
 use Rattle.ptu_slave_messages.specs.declared.reason.SlaveReason.TheVariants as reasons
-use Rattle.ptu_slave_messages.specs.Reception.{reception}
-use Rattle.ptu_slave_messages.specs.Sending.{all_ones, message_of}
+use Rattle.ptu_slave_messages.specs.{Reception.{reception}, Sending.{all_ones, message_of}}
 
 -- a slave that requests Announce at logarithm 1 and Sync at logarithm 0 for 300 s
 abbrev pub slave : SlaveConfig

@@ -11,15 +11,12 @@ use Rattle.ptu_outside.specs.Departure.{Departure}
 use Rattle.ptu_record.specs.declared.wants.Wants.{Wants}
 use Rattle.ptu_record.specs.Step.{Signal as Said, GrantTlv, CancelTlv, AckTlv, SlaveEvent, TakeAnnounce, TakeSync, TakeFollowUp, TakeDelayResp, TakeSignaling, cancel_code, one_reply, wanted_kind}
 use Rattle.ptu_record.specs.Tick.{Sending}
-use Rattle.ptu_profile.specs.declared.slave.Master.{Master}
-use Rattle.ptu_profile.specs.declared.slave.SlaveConfig.{SlaveConfig}
+use Rattle.ptu_profile.specs.declared.slave.{Master.{Master}, SlaveConfig.{SlaveConfig}}
 use Rattle.ptu_slave_messages.specs.declared.content.Content.{Content}
 use Rattle.ptu_slave_messages.specs.declared.content.Content.TheVariants as content
-use Rattle.ptu_slave_messages.specs.declared.content.Accepted.{Accepted}
-use Rattle.ptu_slave_messages.specs.declared.heard.Heard.{Heard}
+use Rattle.ptu_slave_messages.specs.declared.{content.Accepted.{Accepted}, heard.Heard.{Heard}}
 use Rattle.ptu_slave_messages.specs.declared.heard.Heard.TheVariants as heard
-use Rattle.ptu_outside.specs.declared.reply.Reply.{Reply}
-use Rattle.ptu_outside.specs.declared.reply.Reply.TheVariants.{Sent, Nothing}
+use Rattle.ptu_outside.specs.declared.reply.{Reply.{Reply}, Reply.TheVariants.{Sent, Nothing}}
 use Rattle.ptu_slave_messages.specs.declared.reason.SlaveReason.{SlaveReason}
 use Rattle.ptu_slave_messages.specs.declared.signal.Signal.{Signal}
 use Rattle.ptu_slave_messages.specs.declared.signal.Signal.TheVariants.{Grant, Denial, Cancel, Ack}

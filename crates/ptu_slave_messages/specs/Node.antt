@@ -4,19 +4,14 @@ use Rattle.std.specs.Prelude.{ℕ, List, [], map, Option, Result, Ok, Err}
 use Rattle.ptu_header.specs.declared.header.PortIdentity.{PortIdentity}
 use Rattle.ptu_messages.specs.declared.message.Message.{Message}
 use Rattle.ptu_outside.specs.Departure.{Departure}
-use Rattle.ptu_record.specs.declared.rule.Rule.{Rule}
-use Rattle.ptu_record.specs.Record.{Record, event_moment}
-use Rattle.ptu_record.specs.Selection.{selected_master}
-use Rattle.ptu_record.specs.Step.{SlaveEvent, SlaveSetup, slave_step}
-use Rattle.ptu_profile.specs.declared.slave.Master.{Master}
-use Rattle.ptu_profile.specs.declared.slave.SlaveConfig.{SlaveConfig}
-use Rattle.ptu_slave_messages.specs.declared.heard.Heard.{Heard}
-use Rattle.ptu_slave_messages.specs.declared.heard.Heard.TheVariants.{Ignored}
+use Rattle.ptu_record.specs.{declared.rule.Rule.{Rule}, Record.{Record, event_moment}}
+use Rattle.ptu_record.specs.{Selection.{selected_master}, Step.{SlaveEvent, SlaveSetup, slave_step}}
+use Rattle.ptu_profile.specs.declared.slave.{Master.{Master}, SlaveConfig.{SlaveConfig}}
+use Rattle.ptu_slave_messages.specs.declared.heard.{Heard.{Heard}, Heard.TheVariants.{Ignored}}
 use Rattle.ptu_slave_messages.specs.declared.reason.SlaveReason.{SlaveReason}
 use Rattle.ptu_profile.specs.Slave.{priorities, timeouts}
 use Rattle.ptu_slave_messages.specs.Heard.{event_of, heard_of, replies_to, reply_by}
-use Rattle.ptu_slave_messages.specs.Reception.{reception}
-use Rattle.ptu_slave_messages.specs.Sending.{all_ones, departure_of}
+use Rattle.ptu_slave_messages.specs.{Reception.{reception}, Sending.{all_ones, departure_of}}
 
 -- what a slave is opened with: the rule of each master's first judge, where it has one
 pub record Node : Type 0 where

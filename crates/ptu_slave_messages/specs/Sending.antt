@@ -1,24 +1,20 @@
 -- What a slave sends to its masters, as datagrams (IEEE 1588-2019 clauses 13.6, 13.12 and 16.1.4).
 use Rattle.std.specs.Prelude.{ℕ, List, [], ◌∷◌, ◌++◌, map, filter, option_map, option_to_list, unwrap_or, Bool, true, false, pos}
-use Rattle.ptu_units.specs.declared.kind.Kind.{Kind}
-use Rattle.ptu_units.specs.declared.kind.Kind.TheVariants.{Announce, Sync, DelayResp}
+use Rattle.ptu_units.specs.declared.kind.{Kind.{Kind}, Kind.TheVariants.{Announce, Sync, DelayResp}}
 use Rattle.ptu_units.specs.Kind.{code_of, kinds}
 use Rattle.ptu_header.specs.declared.header.PortIdentity.{PortIdentity}
 use Rattle.ptu_tlvs.specs.declared.tlv.Tlv.{Tlv}
 use Rattle.ptu_tlvs.specs.declared.tlv.Tlv.TheVariants as tlv
 use Rattle.ptu_messages.specs.declared.message.Body.TheVariants as body
-use Rattle.ptu_messages.specs.declared.message.Message.{Message}
-use Rattle.ptu_messages.specs.Sent.{octets_sent, signaling}
+use Rattle.ptu_messages.specs.{declared.message.Message.{Message}, Sent.{octets_sent, signaling}}
 use Rattle.ptu_outside.specs.declared.channel.Channel.{Channel}
 use Rattle.ptu_outside.specs.declared.channel.Channel.TheVariants.{Event, General}
 use Rattle.ptu_outside.specs.Departure.{Departure}
 use Rattle.ptu_record.specs.declared.wants.Wants.{Wants}
 use Rattle.ptu_record.specs.Tick.{Sending, Requests, Cancels, Acknowledgements, DelayReq, one_signaling}
 use Rattle.ptu_record.specs.Wants.{wanted_log}
-use Rattle.ptu_profile.specs.declared.slave.Master.{Master}
-use Rattle.ptu_profile.specs.declared.slave.SlaveConfig.{SlaveConfig}
-use Rattle.ptu_slave_messages.specs.declared.kinds.Kinds.{Kinds}
-use Rattle.ptu_slave_messages.specs.declared.plan.TickPlan.{TickPlan}
+use Rattle.ptu_profile.specs.declared.slave.{Master.{Master}, SlaveConfig.{SlaveConfig}}
+use Rattle.ptu_slave_messages.specs.declared.{kinds.Kinds.{Kinds}, plan.TickPlan.{TickPlan}}
 use Rattle.ptu_slave_messages.specs.declared.plan.StopPlan.{StopPlan}
 use Rattle.ptu_profile.specs.Slave.{address_of, header_of}
 

@@ -1,9 +1,7 @@
 -- The digits of octets in a row.
 use Rattle.std.proofs.Common.{◌≡◌, ℕ, ◌/◌, ◌%◌, List, [], ◌∷◌, ◌++◌, true, nat_lt, slice_index, refl, ap}
-use Rattle.std.specs.List.{list_all}
-use Rattle.std.specs.Str.{IsAscii}
-use Rattle.std.proofs.lemmas.Bool.{and_parts, ltb-true}
-use Rattle.std.proofs.lemmas.Str.Ascii.{IsAscii-nil, IsAscii-cons}
+use Rattle.std.specs.{List.{list_all}, Str.{IsAscii}}
+use Rattle.std.proofs.lemmas.{Bool.{and_parts, ltb-true}, Str.Ascii.{IsAscii-nil, IsAscii-cons}}
 use Rattle.hex.specs.Hex.{encode_lower, encode_with, lower_digits}
 
 pub encode_lower-append : (xs ys : List ℕ) → encode_lower (xs ++ ys) ≡ encode_lower xs ++ encode_lower ys

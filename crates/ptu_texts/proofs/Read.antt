@@ -1,13 +1,9 @@
 -- Words that were written as texts, read by their forms.
 use Rattle.std.proofs.Common.{◌≡◌, ◌∙◌, ℕ, zero, suc, ◌+◌, ◌*◌, ◌/◌, ◌%◌, ◌^◌, ◌<◌, ◌≤◌, nat_le, nat_lt, ◌==◌, true, false, inl, inr, List, [], ◌∷◌, ◌++◌, length, map, take, get_or, slice_index, codes, Some, refl, sym, ap, decimal, arith, zero-add}
-use Rattle.std.specs.Char.{digit_value}
-use Rattle.std.specs.List.{AllByRecursion, onto_first, slice_split}
-use Rattle.std.specs.Option.{option_and_then}
-use Rattle.std.specs.Str.Parse.{digits_value, AllDigits}
-use Rattle.std.proofs.Math.Seq.{take-suc}
-use Rattle.std.proofs.lemmas.Bool.{cases_lt, le-leb, lt-ltb}
-use Rattle.std.proofs.lemmas.Bool.Decides.{nat_tests}
-use Rattle.std.proofs.lemmas.Fmt.{digits_decimal}
+use Rattle.std.specs.{Char.{digit_value}, List.{AllByRecursion, onto_first, slice_split}}
+use Rattle.std.specs.{Option.{option_and_then}, Str.Parse.{digits_value, AllDigits}}
+use Rattle.std.proofs.{Math.Seq.{take-suc}, lemmas.Bool.{cases_lt, le-leb, lt-ltb}}
+use Rattle.std.proofs.lemmas.{Bool.Decides.{nat_tests}, Fmt.{digits_decimal}}
 use Rattle.std.proofs.lemmas.Int.Digits.{digits_value_push}
 use Rattle.std.proofs.lemmas.List.{append-nil, append_assoc, take_all}
 use Rattle.std.proofs.lemmas.Str.Parse.{IsNumeralModel, digit_from_value}
@@ -16,8 +12,7 @@ use Rattle.hex.proofs.HexLemmas.{IsDigits-lower_digits, decode_of-encode_lower, 
 use Rattle.ptu_octets.specs.Number as numbers
 use Rattle.ptu_octets.proofs.Numbers.{length-octets_of, number_at-octets_of}
 use Rattle.ptu_lines.specs.Words.{address_of, clock_of, ip_of, number_within, octets_of, within}
-use Rattle.ptu_lines.proofs.Digits.{list_all-digits}
-use Rattle.ptu_lines.proofs.Numbers.{number_of-decimal}
+use Rattle.ptu_lines.proofs.{Digits.{list_all-digits}, Numbers.{number_of-decimal}}
 use Rattle.ptu_texts.specs.Texts.{address_text, clock_text}
 use Rattle.ptu_texts.proofs.Digits.{encode_lower-append}
 

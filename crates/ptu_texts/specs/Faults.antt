@@ -1,6 +1,5 @@
 -- How a fault of a datagram is written in lines of output: a word for it, and its numbers in the order of their names.
-use Rattle.std.specs.Prelude.{ℕ, List, ◌++◌, codes}
-use Rattle.std.specs.Fmt.{decimal}
+use Rattle.std.specs.{Prelude.{ℕ, List, ◌++◌, codes}, Fmt.{decimal}}
 use Rattle.ptu_header.specs.declared.fault.HeaderFault.{HeaderFault}
 use Rattle.ptu_header.specs.declared.fault.HeaderFault.TheVariants as headers
 use Rattle.ptu_tlvs.specs.declared.fault.TlvFault.{TlvFault}

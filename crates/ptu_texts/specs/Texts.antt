@@ -1,9 +1,7 @@
 -- How addresses, identities and kinds are written in lines of output.
-use Rattle.std.specs.Prelude.{ℕ, ◌/◌, ◌%◌, ◌^◌, List, ◌++◌, codes}
-use Rattle.std.specs.Fmt.{decimal}
+use Rattle.std.specs.{Prelude.{ℕ, ◌/◌, ◌%◌, ◌^◌, List, ◌++◌, codes}, Fmt.{decimal}}
 use Rattle.hex.specs.Hex.{encode_lower}
-use Rattle.ptu_units.specs.declared.kind.Kind.{Kind}
-use Rattle.ptu_units.specs.declared.kind.Kind.TheVariants.{Announce, Sync, DelayResp}
+use Rattle.ptu_units.specs.declared.kind.{Kind.{Kind}, Kind.TheVariants.{Announce, Sync, DelayResp}}
 use Rattle.ptu_octets.specs.Number.{octets_of}
 use Rattle.ptu_header.specs.declared.header.PortIdentity.{PortIdentity}
 

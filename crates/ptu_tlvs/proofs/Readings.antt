@@ -1,18 +1,15 @@
 -- Reading finds the TLV that octets begin with, or the fault that they have; and there is always one of the two.
 use Rattle.std.proofs.Common.{◌≡◌, ℕ, ne_eqb, ◌+◌, ◌-◌, ◌<◌, ◌≤◌, ◌⊎◌, inl, inr, false, List, length, take, Result, Ok, Err, refl, sym, ap, subst, ◌∙◌, arith}
 use Rattle.std.specs.Prelude.{◌==◌}
-use Rattle.std.proofs.lemmas.Bool.{cases_lt, cases_eq, le-ltb, lt-ltb}
-use Rattle.std.proofs.lemmas.List.{length-take-le}
+use Rattle.std.proofs.lemmas.{Bool.{cases_lt, cases_eq, le-ltb, lt-ltb}, List.{length-take-le}}
 use Rattle.ptu_octets.specs.Number.{number_at, high_nibble_at}
 use Rattle.ptu_octets.proofs.Numbers.{number_at-take}
-use Rattle.ptu_tlvs.specs.declared.tlv.Ask.{Ask}
-use Rattle.ptu_tlvs.specs.declared.tlv.Tlv.{Tlv}
+use Rattle.ptu_tlvs.specs.declared.tlv.{Ask.{Ask}, Tlv.{Tlv}}
 use Rattle.ptu_tlvs.specs.declared.tlv.Tlv.TheVariants.{Request, Grant, Cancel, Ack, Other}
 use Rattle.ptu_tlvs.specs.declared.fault.TlvFault.{TlvFault}
 use Rattle.ptu_tlvs.specs.declared.fault.TlvFault.TheVariants.{Short, Overrun, Length}
 use Rattle.ptu_tlvs.specs.Tlv.{HasHead, IsFirst, SpellsTlv, BeginsWithTlv, ask_at, renewal_at}
-use Rattle.ptu_tlvs.specs.TlvFault.{HasOtherLength, HasTlvFault}
-use Rattle.ptu_tlvs.specs.Reading.{whole_in, tlv_in}
+use Rattle.ptu_tlvs.specs.{TlvFault.{HasOtherLength, HasTlvFault}, Reading.{whole_in, tlv_in}}
 
 -- ---- the head of a front is the head of the whole
 

@@ -1,12 +1,9 @@
 -- What is sent spells the TLV, and is all that spells it, whatever follows.
 use Rattle.std.proofs.Common.{ℕ, Bool, true, false, List, ◌++◌, length, refl, sym, arith}
-use Rattle.std.specs.Prelude.{◌≡◌, ◌*◌, ◌/◌}
-use Rattle.std.specs.Int.{w8}
-use Rattle.std.proofs.lemmas.Int.{to_z-of_z}
-use Rattle.std.proofs.lemmas.List.{take_at, length-append}
+use Rattle.std.specs.{Prelude.{◌≡◌, ◌*◌, ◌/◌}, Int.{w8}}
+use Rattle.std.proofs.lemmas.{Int.{to_z-of_z}, List.{take_at, length-append}}
 use Rattle.ptu_octets.proofs.Numbers.{number_at-octets_of}
-use Rattle.ptu_tlvs.specs.declared.tlv.Ask.{Ask}
-use Rattle.ptu_tlvs.specs.declared.tlv.Tlv.{Tlv}
+use Rattle.ptu_tlvs.specs.declared.tlv.{Ask.{Ask}, Tlv.{Tlv}}
 use Rattle.ptu_tlvs.specs.declared.tlv.Tlv.TheVariants.{Request, Grant, Cancel, Ack, Other}
 use Rattle.ptu_tlvs.specs.Tlv.{HasAskWidths, HasWidths, ask_at, SpellsTlv, BeginsWithTlv, AlwaysBeginsWithTlv}
 use Rattle.ptu_tlvs.specs.Sent.{IsSendable, sent_tlv}

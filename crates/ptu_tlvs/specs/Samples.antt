@@ -2,9 +2,7 @@
 use Rattle.std.specs.Prelude.{◌≡◌, ℕ, List, [], ◌∷◌, ◌++◌, replicate, true, false, pos, negsuc}
 use Rattle.ptu_tlvs.specs.declared.tlv.Tlv.TheVariants.{Request, Grant, Cancel, Ack, Other}
 use Rattle.ptu_tlvs.specs.declared.fault.TlvFault.TheVariants.{Short, Overrun, Length}
-use Rattle.ptu_tlvs.specs.Tlv.{SpellsTlv, BeginsWithTlv}
-use Rattle.ptu_tlvs.specs.TlvFault.{HasTlvFault}
-use Rattle.ptu_tlvs.specs.Sent.{sent_tlv}
+use Rattle.ptu_tlvs.specs.{Tlv.{SpellsTlv, BeginsWithTlv}, TlvFault.{HasTlvFault}, Sent.{sent_tlv}}
 
 -- Announce at logarithm 1 for 300 s, and Sync at logarithm -7 for 300 s
 abbrev pub announce_request : List ℕ

@@ -1,10 +1,8 @@
 -- The TLVs of unicast negotiation, and the octets that spell them (IEEE 1588-2019 clauses 14.1 and 16.1.4).
 use Rattle.std.specs.Prelude.{◌≡◌, ℕ, ◌+◌, ◌%◌, ◌^◌, ◌<◌, ◌≤◌, ◌==◌, ◌⊎◌, Bool, List, ◌++◌, length, slice_index, take}
-use Rattle.std.specs.Int.{w8, cast_signed}
-use Rattle.std.specs.Int.RustNames.{FitsSigned}
+use Rattle.std.specs.{Int.{w8, cast_signed}, Int.RustNames.{FitsSigned}}
 use Rattle.ptu_octets.specs.Number.{number_at, high_nibble_at}
-use Rattle.ptu_tlvs.specs.declared.tlv.Ask.{Ask}
-use Rattle.ptu_tlvs.specs.declared.tlv.Tlv.{Tlv}
+use Rattle.ptu_tlvs.specs.declared.tlv.{Ask.{Ask}, Tlv.{Tlv}}
 use Rattle.ptu_tlvs.specs.declared.tlv.Tlv.TheVariants.{Request, Grant, Cancel, Ack, Other}
 
 -- each field is a number of as many bits as the octets have for it

@@ -1,11 +1,9 @@
 -- Trails without a fault, one record after the other.
 use Rattle.std.proofs.Common.{◌≡◌, ◌∙◌, ℕ, ◌++◌, List, [], ◌∷◌, false, cond, eqb, Option, Some, None, refl, sym, ap, subst, append_assoc}
-use Rattle.std.proofs.lemmas.List.{append-nil}
-use Rattle.std.proofs.lemmas.Bool.{true≢false}
+use Rattle.std.proofs.lemmas.{List.{append-nil}, Bool.{true≢false}}
 use Rattle.ptu_history.specs.History.{Record, Granted, Short, Ended, Capacity, Shed, Looked, Sent}
 use Rattle.ptu_laws.specs.Sound.{sheds_at}
-use Rattle.ptu_trail.specs.declared.cause.Fault.{Fault}
-use Rattle.ptu_trail.specs.declared.cause.NoCause.{NoCause}
+use Rattle.ptu_trail.specs.declared.cause.{Fault.{Fault}, NoCause.{NoCause}}
 use Rattle.ptu_trail.specs.Faults.{IsFaultless, behind, fault_of, first_fault, is_shedding, or_behind}
 
 behind-none : (later : Option Fault) → behind later ≡ None → later ≡ None

@@ -1,27 +1,21 @@
 -- What is known of a client after a message to it.
 use Rattle.std.proofs.Common.{◌≡◌, ◌∙◌, ℕ, ◌+◌, ◌^◌, ◌<◌, max, ltb, Bool, true, false, not, cond, ◌&&◌, List, [], ◌∷◌, ◌++◌, Option, Some, None, ℤ, refl, sym, ap, subst, arith}
-use Rattle.std.proofs.lemmas.Bool.{lt-leb, ltb-true, and_right}
-use Rattle.std.proofs.lemmas.Bool.Decides.{Decides-int_eq}
+use Rattle.std.proofs.lemmas.{Bool.{lt-leb, ltb-true, and_right}, Bool.Decides.{Decides-int_eq}}
 use Rattle.std.specs.Ordering.{int_eq}
-use Rattle.ptu_units.specs.declared.kind.Kind.{Kind}
-use Rattle.ptu_units.specs.declared.kind.Kind.TheVariants.{Announce, Sync, DelayResp}
+use Rattle.ptu_units.specs.declared.kind.{Kind.{Kind}, Kind.TheVariants.{Announce, Sync, DelayResp}}
 use Rattle.ptu_units.specs.Log.{period_of}
 use Rattle.ptu_history.specs.declared.client.Client.{Client}
 use Rattle.ptu_history.specs.Client.{same_client, same_kind, same_lease}
 use Rattle.ptu_history.specs.History.{Record, Ended, Granted, Sent, Shed, concerns, is_decision}
-use Rattle.ptu_history.specs.Moments.{greatest_by}
-use Rattle.ptu_history.specs.Live.{last_decision}
+use Rattle.ptu_history.specs.{Moments.{greatest_by}, Live.{last_decision}}
 use Rattle.ptu_history.specs.Lawful.{earliest, last_period}
-use Rattle.ptu_history.proofs.AfterSteps.{live-last}
-use Rattle.ptu_history.proofs.Keys.{same_client-refl, same_lease-refl}
-use Rattle.ptu_history.proofs.Decisions.{live-ended, live-shed}
-use Rattle.ptu_history.proofs.Lists.{greatest_by-push}
+use Rattle.ptu_history.proofs.{AfterSteps.{live-last}, Keys.{same_client-refl, same_lease-refl}}
+use Rattle.ptu_history.proofs.{Decisions.{live-ended, live-shed}, Lists.{greatest_by-push}}
 use Rattle.ptu_history.proofs.Renewals.{earliest_delay, earliest_new, earliest_same, earliest_sent, first_continues, last_period-granted, other_continues}
 use Rattle.ptu_history.proofs.Standing.{last_pushed}
 use Rattle.ptu_history.proofs.Strangers.{earliest-push, live-undecided_push}
 use Rattle.ptu_trail.specs.declared.cause.NoCause.TheVariants as causes
-use Rattle.ptu_trail.specs.declared.known.Known.{Known}
-use Rattle.ptu_trail.specs.declared.known.Lease.{Lease}
+use Rattle.ptu_trail.specs.declared.known.{Known.{Known}, Lease.{Lease}}
 use Rattle.ptu_trail.specs.Faults.{decided_part, fault_of, is_no_moment, last_decided, last_sent_to, sent_to_part}
 use Rattle.ptu_trail.specs.Known.{IsHeld, IsKnown, edge_after, edge_granted, fault_by, lease_at, with_lease}
 

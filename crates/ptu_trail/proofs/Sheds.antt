@@ -1,14 +1,10 @@
 -- The sheddings of a change of capacity, one after the other.
 use Rattle.std.proofs.Common.{◌≡◌, ◌∙◌, ℕ, ◌+◌, ◌≤◌, ◌<◌, max, ◌++◌, List, [], ◌∷◌, map, take, drop, length, get_or, Option, Some, None, refl, sym, ap, subst, arith, append_assoc}
 use Rattle.std.proofs.lemmas.List.{append-nil, drop_all, drop_more, map_more, take_all}
-use Rattle.ptu_history.specs.History.{Record, Shed}
-use Rattle.ptu_history.specs.Moments.{book_moment}
+use Rattle.ptu_history.specs.{History.{Record, Shed}, Moments.{book_moment}}
 use Rattle.ptu_history.proofs.Moments.{book_moment-push}
-use Rattle.ptu_trail.specs.declared.cause.Fault.{Fault}
-use Rattle.ptu_trail.specs.declared.cause.NoCause.{NoCause}
-use Rattle.ptu_trail.specs.declared.cause.Shedding.{Shedding}
-use Rattle.ptu_trail.specs.declared.clients.Clients.{Clients}
-use Rattle.ptu_trail.specs.Clients.{AreKnown}
+use Rattle.ptu_trail.specs.declared.cause.{Fault.{Fault}, NoCause.{NoCause}, Shedding.{Shedding}}
+use Rattle.ptu_trail.specs.{declared.clients.Clients.{Clients}, Clients.{AreKnown}}
 use Rattle.ptu_trail.specs.Faults.{behind, decision_tests, first_fault, first_of, or_behind, record_of}
 
 -- a fault so many places further back

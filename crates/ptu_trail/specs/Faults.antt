@@ -1,21 +1,15 @@
 -- What is wrong with a record of a trail: a list of grants, ends, changes of capacity, sheddings and
 -- messages of one grandmaster that a report tells, from the front (the project's own choice).
 use Rattle.std.specs.Prelude.{◌≡◌, ℕ, ◌+◌, ◌*◌, ◌^◌, nat_lt, nat_le, Bool, true, false, not, ◌&&◌, ◌||◌, ◌==◌, if◌then◌else◌, List, [], ◌∷◌, ◌++◌, Option, Some, None}
-use Rattle.std.specs.List.{AllByRecursion, find, list_any}
-use Rattle.std.specs.Option.{unwrap_or}
-use Rattle.ptu_units.specs.declared.kind.Kind.{Kind}
-use Rattle.ptu_units.specs.declared.stamp.Stamp.{Stamp}
+use Rattle.std.specs.{List.{AllByRecursion, find, list_any}, Option.{unwrap_or}}
+use Rattle.ptu_units.specs.declared.{kind.Kind.{Kind}, stamp.Stamp.{Stamp}}
 use Rattle.ptu_units.specs.Log.{IsLogOf, rate_of}
-use Rattle.ptu_history.specs.declared.client.Client.{Client}
-use Rattle.ptu_history.specs.Client.{same_client}
+use Rattle.ptu_history.specs.{declared.client.Client.{Client}, Client.{same_client}}
 use Rattle.ptu_history.specs.History.{Record, Granted, Short, Ended, Capacity, Shed, Looked, Sent, capacity_in_force}
-use Rattle.ptu_history.specs.Moments.{book_moment, greatest_by}
-use Rattle.ptu_history.specs.Live.{live, live_grants}
-use Rattle.ptu_history.specs.Lawful.{earliest}
-use Rattle.ptu_history.specs.Verdict.{others, rate_sum}
+use Rattle.ptu_history.specs.{Moments.{book_moment, greatest_by}, Live.{live, live_grants}}
+use Rattle.ptu_history.specs.{Lawful.{earliest}, Verdict.{others, rate_sum}}
 use Rattle.ptu_laws.specs.Sound.{sheds_at}
-use Rattle.ptu_trail.specs.declared.cause.Fault.{Fault}
-use Rattle.ptu_trail.specs.declared.cause.NoCause.{NoCause}
+use Rattle.ptu_trail.specs.declared.cause.{Fault.{Fault}, NoCause.{NoCause}}
 use Rattle.ptu_trail.specs.declared.cause.NoCause.TheVariants as causes
 use Rattle.ptu_trail.specs.declared.cause.Shedding.{Shedding}
 

@@ -1,15 +1,10 @@
 -- The rates of the grants that are live, by when they end.
 use Rattle.std.specs.Prelude.{◌≡◌, ℕ, not, nat_lt, Bool, true, ◌&&◌, ◌==◌, List, Option, None, Some}
-use Rattle.std.specs.List.{All, sum_by}
-use Rattle.std.specs.Map.{values_of}
-use Rattle.ptu_units.specs.declared.kind.Kind.{Kind}
-use Rattle.ptu_units.specs.Log.{rate_of}
-use Rattle.ptu_history.specs.declared.client.Client.{Client}
-use Rattle.ptu_history.specs.Client.{same_lease}
-use Rattle.ptu_history.specs.History.{Record}
-use Rattle.ptu_history.specs.Live.{Grant, is_of, live_grants}
-use Rattle.ptu_trail.specs.declared.known.Lease.{Lease}
-use Rattle.ptu_trail.specs.declared.live.End.{End}
+use Rattle.std.specs.{List.{All, sum_by}, Map.{values_of}}
+use Rattle.ptu_units.specs.{declared.kind.Kind.{Kind}, Log.{rate_of}}
+use Rattle.ptu_history.specs.{declared.client.Client.{Client}, Client.{same_lease}}
+use Rattle.ptu_history.specs.{History.{Record}, Live.{Grant, is_of, live_grants}}
+use Rattle.ptu_trail.specs.declared.{known.Lease.{Lease}, live.End.{End}}
 
 -- the end of a grant, and its rate
 abbrev pub entry_of : Grant → End × ℕ

@@ -1,10 +1,7 @@
 -- What a trail stands for.
 use Rattle.std.specs.Prelude.{◌≡◌, ℕ, List}
-use Rattle.ptu_history.specs.History.{Record, capacity_in_force}
-use Rattle.ptu_history.specs.Moments.{book_moment}
-use Rattle.ptu_trail.specs.declared.trail.Trail.{Trail}
-use Rattle.ptu_trail.specs.Clients.{AreKnown}
-use Rattle.ptu_trail.specs.Live.{AreLive}
+use Rattle.ptu_history.specs.{History.{Record, capacity_in_force}, Moments.{book_moment}}
+use Rattle.ptu_trail.specs.{declared.trail.Trail.{Trail}, Clients.{AreKnown}, Live.{AreLive}}
 
 -- the trail stands for the records so far, none of which has a fault, with the capacity that was in
 -- force before all of them: it keeps the capacity in force, the moment of the last decision or

@@ -1,8 +1,7 @@
 -- The pair of a datagram that is handed to a port.
 use Rattle.std.proofs.Common.{◌≡◌, ◌≤◌, ◌||◌, ◌∷◌, [], Bool, true, false, List, Option, arith, is_err, refl, Result, Ok, Err}
 use Rattle.std.specs.Result.{OnErr, OnOk, result_and}
-use Rattle.ptu_outside.specs.declared.port.Port.{Ghosts as Ports}
-use Rattle.ptu_outside.specs.Departure.{Departure}
+use Rattle.ptu_outside.specs.{declared.port.Port.{Ghosts as Ports}, Departure.{Departure}}
 use Rattle.ptu_outside.specs.HandsOver.{HandsOver, failed_in, sent_in}
 use Rattle.ptu_outside.specs.Telling.{IfTold, append_told}
 use Rattle.ptu_outside.proofs.HandsOver.{hands-append, hands_whole}

@@ -1,19 +1,15 @@
 -- Datagrams and their pairs.
 use Rattle.std.proofs.Common.{◌≡◌, ℕ, ◌+◌, Bool, true, false, cond, eqb, ◌&&◌, ◌||◌, List, [], ◌∷◌, ◌++◌, Option, Some, None, option_map, option_and_then, IsErr, is_err, Result, Ok, Err, OnOk, refl, sym, ap, ap₂, subst, ◌∙◌, inl, inr, arith, flat_map}
-use Rattle.std.proofs.lemmas.Bool.{eq-eqb, eqb-true, and_parts}
-use Rattle.std.proofs.lemmas.Slice.Eq.{bytes_eq-Decides}
+use Rattle.std.proofs.lemmas.{Bool.{eq-eqb, eqb-true, and_parts}, Slice.Eq.{bytes_eq-Decides}}
 use Rattle.std.proofs.lemmas.Grind.{flat_map-append}
-use Rattle.std.specs.List.{AllByRecursion}
-use Rattle.std.specs.Str.{bytes_eq}
+use Rattle.std.specs.{List.{AllByRecursion}, Str.{bytes_eq}}
 use Rattle.ptu_outside.specs.declared.channel.Channel.{Channel}
 use Rattle.ptu_outside.specs.declared.channel.Channel.TheVariants.{Event, General}
-use Rattle.ptu_outside.specs.Departure.{Departure}
-use Rattle.ptu_outside.specs.Telling.{IfTold, append_told}
+use Rattle.ptu_outside.specs.{Departure.{Departure}, Telling.{IfTold, append_told}}
 use Rattle.ptu_twostep.specs.declared.step.Step.{Step}
 use Rattle.ptu_twostep.specs.declared.step.Step.TheVariants.{OneStepSync, TwoStepSync, FollowUp, Other}
 use Rattle.ptu_twostep.specs.Pairs.{follow_up_octets, follow_up_of, is_follow_up_by, all_spelled, one_step_of, pair, pair_by, pairs, spelled, spelled_by, step_at, sync_of, unpair_behind, unpair}
-use Rattle.ptu_twostep.specs.Steps.{step_of}
-use Rattle.ptu_twostep.specs.Telling.{is_half, told_by}
+use Rattle.ptu_twostep.specs.{Steps.{step_of}, Telling.{is_half, told_by}}
 use Rattle.ptu_twostep.proofs.Steps.{IsSync, sync_is, flagged_is, flagged-unflagged, follow_up_general, follow_up_is, unflagged_is, unflagged-flagged}
 
 abbrev Datagrams : Type 0

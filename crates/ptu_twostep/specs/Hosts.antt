@@ -1,11 +1,9 @@
 -- A host in two steps, over a host.
 use Rattle.std.specs.Prelude.{◌≡◌, Bool, false, Option, Some}
-use Rattle.ptu_outside.specs.declared.opened.Opened.{Opened}
-use Rattle.ptu_outside.specs.Telling.{IfTold}
+use Rattle.ptu_outside.specs.{declared.opened.Opened.{Opened}, Telling.{IfTold}}
 use Rattle.ptu_twostep.specs.declared.two_host.Flags.{Flags}
 use Rattle.ptu_outside.specs.declared.port.Port.{Ghosts as Ports}
-use Rattle.ptu_twostep.specs.Telling.{InTwoSteps, is_half, told_by}
-use Rattle.ptu_twostep.specs.Pairs.{step_at}
+use Rattle.ptu_twostep.specs.{Telling.{InTwoSteps, is_half, told_by}, Pairs.{step_at}}
 
 -- what ports in two steps tell, by what those below tell
 abbrev pub two_steps : {P : Type 0} → Ports P → Ports (InTwoSteps P)

@@ -1,7 +1,6 @@
 -- Datagrams in one step and in two (IEEE 1588-2019 clause 9.5.9).
 use Rattle.std.specs.Prelude.{ℕ, ◌+◌, ◌-◌, ◌*◌, ◌==◌, ◌&&◌, Bool, true, false, if◌then◌else◌, List, [], ◌∷◌, Option, Some, None, option_map, slice_index, slice_set}
-use Rattle.std.specs.List.{flat_map}
-use Rattle.std.specs.Str.{bytes_eq}
+use Rattle.std.specs.{List.{flat_map}, Str.{bytes_eq}}
 use Rattle.ptu_octets.specs.Number.{high_nibble_at}
 use Rattle.ptu_outside.specs.declared.channel.Channel.{Channel}
 use Rattle.ptu_outside.specs.declared.channel.Channel.TheVariants.{Event, General}

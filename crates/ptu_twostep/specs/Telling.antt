@@ -1,7 +1,6 @@
 -- What a port in two steps tells of what was sent.
 use Rattle.std.specs.Prelude.{◌≡◌, ◌≤◌, ℕ, Bool, true, false, List, Option, None, Result, OnErr, OnOk, option_and_then}
-use Rattle.ptu_outside.specs.declared.port.Port.{Ghosts as Ports}
-use Rattle.ptu_outside.specs.HandsOver.{HandsOver}
+use Rattle.ptu_outside.specs.{declared.port.Port.{Ghosts as Ports}, HandsOver.{HandsOver}}
 use Rattle.ptu_outside.specs.Departure.{Departure}
 use Rattle.ptu_twostep.specs.declared.step.Step.{Step}
 use Rattle.ptu_twostep.specs.declared.step.Step.TheVariants.{OneStepSync, TwoStepSync, FollowUp, Other}

@@ -1,7 +1,6 @@
 -- The kinds of message that are granted, and their messageType (IEEE 1588-2019 table 36).
 use Rattle.std.specs.Prelude.{ℕ, List, [], ◌∷◌, Option, ◌==◌, find}
-use Rattle.ptu_units.specs.declared.kind.Kind.{Kind}
-use Rattle.ptu_units.specs.declared.kind.Kind.TheVariants.{Announce, Sync, DelayResp}
+use Rattle.ptu_units.specs.declared.kind.{Kind.{Kind}, Kind.TheVariants.{Announce, Sync, DelayResp}}
 
 -- the messageType of a kind
 abbrev pub code_of : Kind → ℕ

@@ -6,8 +6,7 @@ use Rattle.std.specs.Prelude.{◌&&◌, ◌||◌, not, find, if◌then◌else◌
 use Rattle.std.specs.Str.{bytes_eq}
 use Rattle.std.proofs.lemmas.Slice.Eq.{bytes_eq-Decides}
 use Rattle.clap.specs.Faults.{check_fault, defaults_fault, entered_fault, settle_fault, walk_fault}
-use Rattle.clap.specs.Kinds.{or_else}
-use Rattle.clap.specs.Simple.{built, entered, label_of, names_of, rows_at}
+use Rattle.clap.specs.{Kinds.{or_else}, Simple.{built, entered, label_of, names_of, rows_at}}
 use Rattle.clap.specs.Walk.{answers_to, finished, nothing_held, settled, walk, walk_from}
 use Rattle.clap.specs.Words.{App, Kinds, Row, Shape, Text, fault_of, first_of, is_simple, is_simple_and_free, subcommand_of}
 use Rattle.clap.proofs.OnLiterals.{clap_on_literals}

@@ -7,26 +7,19 @@ use Rattle.std.proofs.lemmas.List.Sums.{count_by-le-length, sum_by-append, sum_b
 use Rattle.ptu_lines.specs.Script.{ScriptLine, Whole, Refused, script_lines}
 use Rattle.ptu_report.proofs.FewLines.{few_lines}
 use Rattle.ptu_header.specs.declared.header.Header.{Header}
-use Rattle.ptu_messages.specs.declared.fault.MessageFault.{MessageFault}
-use Rattle.ptu_messages.specs.declared.message.Body.{Body}
+use Rattle.ptu_messages.specs.declared.{fault.MessageFault.{MessageFault}, message.Body.{Body}}
 use Rattle.ptu_messages.specs.declared.message.Body.TheVariants as body
-use Rattle.ptu_messages.specs.declared.message.Message.{Message}
-use Rattle.ptu_messages.specs.Message.{SpellsMessage}
+use Rattle.ptu_messages.specs.{declared.message.Message.{Message}, Message.{SpellsMessage}}
 use Rattle.ptu_messages.specs.Reading.{message_in}
 use Rattle.ptu_messages.proofs.Readings.{found_is}
 use Rattle.ptu_history.specs.declared.client.Client.{Client}
 use Rattle.ptu_history.specs.Events as events
-use Rattle.ptu_history.specs.Events.{Answer}
-use Rattle.ptu_history.specs.Core.{core_moment}
-use Rattle.ptu_history.specs.History.{Record}
-use Rattle.ptu_history.specs.Live.{Grant}
-use Rattle.ptu_history.specs.Shedding.{shed_grants}
-use Rattle.ptu_history.specs.Verdict.{Config}
+use Rattle.ptu_history.specs.{Events.{Answer}, Core.{core_moment}, History.{Record}, Live.{Grant}}
+use Rattle.ptu_history.specs.{Shedding.{shed_grants}, Verdict.{Config}}
 use Rattle.ptu_profile.specs.declared.grandmaster.GmConfig.{GmConfig}
 use Rattle.ptu_gm_messages.specs.declared.heard.Heard as gm_heard
 use Rattle.ptu_gm_messages.specs.declared.heard.Heard.TheVariants.{DelayReq, Asks}
-use Rattle.ptu_gm_messages.specs.declared.item.Item.{Item}
-use Rattle.ptu_gm_messages.specs.declared.reason.GmReason.{GmReason}
+use Rattle.ptu_gm_messages.specs.declared.{item.Item.{Item}, reason.GmReason.{GmReason}}
 use Rattle.ptu_gm_messages.specs.declared.reason.GmReason.TheVariants as ignored
 use Rattle.ptu_gm_messages.specs.Deciding.{Decision, client_of, decision_of, decisions_of, item_records, placed}
 use Rattle.ptu_gm_messages.specs.Items.{heard_by, heard_in, is_for, items_among, items_by, of_message, with_items}
@@ -41,14 +34,11 @@ use Rattle.ptu_script.specs.declared.cause.Cause.{Cause}
 use Rattle.ptu_script.specs.declared.cause.Cause.TheVariants as causes
 use Rattle.ptu_script.specs.declared.command.Command.{Command}
 use Rattle.ptu_script.specs.declared.command.Command.TheVariants as commands
-use Rattle.ptu_script.specs.Cause.{cause_of_line}
-use Rattle.ptu_script.specs.Command.{command_of}
-use Rattle.ptu_script.specs.Fields.{◌>>=◌}
+use Rattle.ptu_script.specs.{Cause.{cause_of_line}, Command.{command_of}, Fields.{◌>>=◌}}
 use Rattle.ptu_report_lines.specs.declared.decision.Decision.TheVariants as decisions
 use Rattle.ptu_report_lines.specs.declared.report_line.ReportLine.{ReportLine}
 use Rattle.ptu_report_lines.specs.declared.report_line.ReportLine.TheVariants.{At, End}
-use Rattle.ptu_report_lines.specs.declared.sent.Sent.{Sent}
-use Rattle.ptu_report_lines.specs.declared.statement.Statement.{Statement}
+use Rattle.ptu_report_lines.specs.declared.{sent.Sent.{Sent}, statement.Statement.{Statement}}
 use Rattle.ptu_report_lines.specs.declared.statement.Statement.TheVariants as statements
 use Rattle.ptu_world.specs.Deeds.{Deed, Grandmaster, IsGrandmaster, IsSlave, Node, Slave}
 use Rattle.ptu_world.specs.Grandmasters as gm

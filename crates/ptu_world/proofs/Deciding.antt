@@ -1,15 +1,10 @@
 -- How a REQUEST that a datagram brings is decided and answered.
 use Rattle.std.proofs.Common.{◌≡◌, ◌∙◌, ℕ, ◌+◌, ◌≤◌, ◌*◌, ◌++◌, List, [], ◌∷◌, map, length, Option, Some, None, option_map, unwrap_or, Result, Ok, Err, Bool, true, false, cond, leb, ltb, IsTrue, refl, sym, ap, subst, arith, append_assoc, append-nil, ltb-false, eq-eqb}
-use Rattle.std.proofs.lemmas.List.{map-append, length-map}
-use Rattle.std.proofs.lemmas.Bool.{false≢true}
-use Rattle.ptu_units.specs.declared.kind.Kind.{Kind}
-use Rattle.ptu_units.specs.Kind.{kind_of}
-use Rattle.ptu_units.specs.Log.{rate_of}
+use Rattle.std.proofs.lemmas.{List.{map-append, length-map}, Bool.{false≢true}}
+use Rattle.ptu_units.specs.{declared.kind.Kind.{Kind}, Kind.{kind_of}, Log.{rate_of}}
 use Rattle.ptu_header.specs.declared.header.Header.{Header}
-use Rattle.ptu_tlvs.specs.declared.tlv.Ask.{Ask}
-use Rattle.ptu_tlvs.specs.declared.tlv.Tlv.{Tlv}
-use Rattle.ptu_history.specs.declared.client.Client.{Client}
-use Rattle.ptu_history.specs.Core.{history_after}
+use Rattle.ptu_tlvs.specs.declared.tlv.{Ask.{Ask}, Tlv.{Tlv}}
+use Rattle.ptu_history.specs.{declared.client.Client.{Client}, Core.{history_after}}
 use Rattle.ptu_history.specs.History.{Record, capacity_in_force}
 use Rattle.ptu_history.specs.Verdict as verdicts
 use Rattle.ptu_history.specs.Verdict.{Config, Verdict, GrantedFor, ShortOf, Outside, OutsideCause, OutsideLog, OutsideDuration, granted_seconds, is_log_of, others, profile, profile_of, verdict}
@@ -28,8 +23,7 @@ use Rattle.ptu_script.specs.declared.cause.Cause.{Cause}
 use Rattle.ptu_script.specs.declared.cause.Cause.TheVariants as causes
 use Rattle.ptu_outside.specs.Departure.{Departure}
 use Rattle.ptu_script.specs.Fields.{◌>>=◌}
-use Rattle.ptu_report_lines.specs.declared.sent.Sent.{Sent}
-use Rattle.ptu_report_lines.specs.declared.statement.Statement.{Statement}
+use Rattle.ptu_report_lines.specs.declared.{sent.Sent.{Sent}, statement.Statement.{Statement}}
 use Rattle.ptu_report_lines.specs.declared.statement.Statement.TheVariants.{Decided}
 use Rattle.ptu_world.specs.Deeds.{Grandmaster, Node, IsGrandmaster, Deed}
 use Rattle.ptu_world.specs.Grandmasters as gm

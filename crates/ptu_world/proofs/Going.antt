@@ -5,15 +5,13 @@ use Rattle.ptu_history.specs.Events as events
 use Rattle.ptu_history.specs.Events.{Event}
 use Rattle.ptu_gm_messages.specs.declared.heard.Heard as gm_heard
 use Rattle.ptu_gm_messages.specs.declared.heard.Heard.TheVariants.{DelayReq, Asks}
-use Rattle.ptu_gm_messages.specs.declared.reason.GmReason.{GmReason}
-use Rattle.ptu_gm_messages.specs.Items.{heard_in}
+use Rattle.ptu_gm_messages.specs.{declared.reason.GmReason.{GmReason}, Items.{heard_in}}
 use Rattle.ptu_gm_messages.specs.Deciding.{events_heard, events_of_datagram}
 use Rattle.ptu_record.specs.declared.rule.Rule.{Rule}
 use Rattle.ptu_record.specs.Step as slave_events
 use Rattle.ptu_script.specs.declared.cause.Cause.{Cause}
 use Rattle.ptu_script.specs.declared.cause.Cause.TheVariants as causes
-use Rattle.ptu_script.specs.Fields.{◌>>=◌}
-use Rattle.ptu_script.specs.declared.command.Command.{Command}
+use Rattle.ptu_script.specs.{Fields.{◌>>=◌}, declared.command.Command.{Command}}
 use Rattle.ptu_script.specs.declared.command.Command.TheVariants as commands
 use Rattle.ptu_report_lines.specs.declared.sent.Sent.{Sent}
 use Rattle.ptu_world.specs.Deeds.{Grandmaster, Slave, Node, IsGrandmaster, IsSlave, Deed}

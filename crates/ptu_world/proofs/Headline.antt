@@ -1,13 +1,9 @@
 -- Every script keeps to the headline.
 use Rattle.std.proofs.Common.{ℕ, List}
-use Rattle.ptu_world.specs.Deeds.{Grandmaster}
-use Rattle.ptu_world.specs.Grandmasters.{opening}
-use Rattle.ptu_world.specs.Promises.{KeepsPromises}
+use Rattle.ptu_world.specs.{Deeds.{Grandmaster}, Grandmasters.{opening}, Promises.{KeepsPromises}}
 use Rattle.ptu_world.specs.Headline.{DecidesByRoom, HasGrandmaster, NumbersDatagrams, PaysPeriods, SaysSo, SelectsBest, WithinBudget, WithinCapacity}
-use Rattle.ptu_world.specs.Sayings.{moment_handed}
-use Rattle.ptu_world.specs.World.{World, Stock}
-use Rattle.ptu_world.proofs.Deciding.{is_answered, is_decided}
-use Rattle.ptu_world.proofs.Numbering.{all_numbered, delivers}
+use Rattle.ptu_world.specs.{Sayings.{moment_handed}, World.{World, Stock}}
+use Rattle.ptu_world.proofs.{Deciding.{is_answered, is_decided}, Numbering.{all_numbered, delivers}}
 use Rattle.ptu_world.proofs.Promising.{run_keeps}
 use Rattle.ptu_world.proofs.Reporting.{ended, malformed, next, refused, said}
 use Rattle.ptu_world.proofs.Sayings.{datagram_names, event_names, says_of, step_best}

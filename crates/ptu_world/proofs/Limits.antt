@@ -3,16 +3,13 @@ use Rattle.std.proofs.Common.{◌≡◌, ℕ, ◌≤◌, ◌&&◌, List, Option,
 use Rattle.std.proofs.lemmas.Bool.{and_parts}
 use Rattle.ptu_lines.specs.Words.{within, number_of, word_of, ip_of, clock_of, octets_of}
 use Rattle.ptu_profile.specs.Limits.{IsCapacity}
-use Rattle.ptu_script.specs.declared.cause.Cause.{Cause}
-use Rattle.ptu_script.specs.declared.command.Command.{Command}
+use Rattle.ptu_script.specs.declared.{cause.Cause.{Cause}, command.Command.{Command}}
 use Rattle.ptu_script.specs.declared.command.Command.TheVariants as commands
-use Rattle.ptu_script.specs.declared.command.GrandmasterSetup.{GrandmasterSetup}
-use Rattle.ptu_script.specs.declared.verb.Verb.{Verb}
+use Rattle.ptu_script.specs.declared.{command.GrandmasterSetup.{GrandmasterSetup}, verb.Verb.{Verb}}
 use Rattle.ptu_script.specs.declared.verb.Verb.TheVariants.{Gm, Slave, Master, Rx, Deliver, Turn, Tick, Flag, Judge, Stop, Class, Capacity}
 use Rattle.ptu_script.specs.Command.{command_by, command_of, fields_in, grandmaster_in, has_count, is_comment, moment_of, slave_in}
 use Rattle.ptu_script.specs.Fields.{◌>>=◌, field, from_to, or_field, rule_named, truth_of}
-use Rattle.ptu_script.specs.Limits.{IsGrandmasterWithin}
-use Rattle.ptu_script.specs.Verb.{counts_of}
+use Rattle.ptu_script.specs.{Limits.{IsGrandmasterWithin}, Verb.{counts_of}}
 
 -- ---- what is found through another
 

@@ -1,8 +1,6 @@
 -- The messages of a grandmaster's history are the datagrams that it sent.
 use Rattle.std.proofs.Common.{◌≡◌, ◌≢◌, ◌∙◌, ℕ, suc, ◌+◌, ◌/◌, ◌%◌, ◌++◌, List, [], ◌∷◌, map, Option, Some, None, option_map, Result, Ok, Err, IfOk, Bool, true, false, cond, eqb, refl, sym, ap, subst, arith, get_or, is_some, filter_map, append-nil, append_assoc, eq-eqb, eqb-true, ne_eqb}
-use Rattle.std.specs.List.{All, cons_option}
-use Rattle.std.specs.Prelude.{slice_index_or}
-use Rattle.std.specs.Option.{option_map_or}
+use Rattle.std.specs.{List.{All, cons_option}, Prelude.{slice_index_or}, Option.{option_map_or}}
 use Rattle.std.proofs.lemmas.List.Elements.{Contains-get_or, filter_map-append}
 use Rattle.ptu_units.specs.declared.kind.Kind.{Kind}
 use Rattle.ptu_units.specs.declared.kind.Kind.TheVariants as kinds
@@ -11,32 +9,26 @@ use Rattle.ptu_octets.specs.Number.{octets_of}
 use Rattle.ptu_header.specs.declared.header.Header.{Header}
 use Rattle.ptu_messages.specs.Sent.{octets_sent, sent_stamp}
 use Rattle.ptu_outside.specs.Departure.{Departure}
-use Rattle.ptu_history.specs.declared.client.Client.{Client}
-use Rattle.ptu_history.specs.Client.{same_lease, table_of}
-use Rattle.ptu_history.specs.Core.{core_moment, core_step, history_after}
-use Rattle.ptu_history.specs.Counts.{counts}
+use Rattle.ptu_history.specs.{declared.client.Client.{Client}, Client.{same_lease, table_of}}
+use Rattle.ptu_history.specs.{Core.{core_moment, core_step, history_after}, Counts.{counts}}
 use Rattle.ptu_history.specs.Events as events
 use Rattle.ptu_history.specs.Events.{Answer, Event}
 use Rattle.ptu_history.specs.History.{Record, Capacity, Looked, concerns, lease_records}
-use Rattle.ptu_history.specs.Live.{Grant, IsDistinctByLease}
-use Rattle.ptu_history.specs.Runs.{sequence_number}
+use Rattle.ptu_history.specs.{Live.{Grant, IsDistinctByLease}, Runs.{sequence_number}}
 use Rattle.ptu_history.specs.Shedding.{shed_grants, shed_record}
 use Rattle.ptu_history.specs.Step.{answer_records, delay_answer, verdict_records}
 use Rattle.ptu_history.specs.Turns.{due_grants, is_due, message_of, sent_record}
 use Rattle.ptu_history.specs.Verdict.{Config, Verdict, GrantedFor, ShortOf, Outside, verdict}
-use Rattle.ptu_history.proofs.Alike.{sequence_number-alike}
-use Rattle.ptu_history.proofs.Keys.{same_lease-sym}
+use Rattle.ptu_history.proofs.{Alike.{sequence_number-alike}, Keys.{same_lease-sym}}
 use Rattle.ptu_history.proofs.LeaseRecords.{lease_records-push}
 use Rattle.ptu_history.proofs.Orders.{due_grants-distinct, due_grants-members, is_due-parts}
 use Rattle.ptu_profile.specs.declared.grandmaster.GmConfig.{GmConfig}
-use Rattle.ptu_shard.specs.Answered.{responses}
-use Rattle.ptu_shard.specs.Messages.{departure_of, response_of}
+use Rattle.ptu_shard.specs.{Answered.{responses}, Messages.{departure_of, response_of}}
 use Rattle.ptu_gm_messages.specs.declared.item.Item.{Item}
 use Rattle.ptu_gm_messages.specs.declared.item.Item.TheVariants as items
 use Rattle.ptu_gm_messages.specs.declared.heard.Heard as gm_heard
 use Rattle.ptu_gm_messages.specs.declared.heard.Heard.TheVariants.{DelayReq, Asks}
-use Rattle.ptu_gm_messages.specs.declared.reason.GmReason.{GmReason}
-use Rattle.ptu_gm_messages.specs.Items.{heard_in}
+use Rattle.ptu_gm_messages.specs.{declared.reason.GmReason.{GmReason}, Items.{heard_in}}
 use Rattle.ptu_gm_messages.specs.Deciding.{asked_by, client_of, events_of_items, item_moment, item_records}
 use Rattle.ptu_gm_messages.specs.Replies.{cancels_to, lease_of}
 use Rattle.ptu_gm_messages.proofs.Placing.{history_after-items}
@@ -45,8 +37,7 @@ use Rattle.ptu_record.specs.Step as slave_events
 use Rattle.ptu_slave_messages.specs.declared.heard.Heard as slave_heard
 use Rattle.ptu_slave_messages.specs.declared.heard.Heard.TheVariants as slave_heards
 use Rattle.ptu_script.specs.declared.cause.Cause.TheVariants as causes
-use Rattle.ptu_script.specs.Fields.{◌>>=◌}
-use Rattle.ptu_script.specs.declared.command.Command.{Command}
+use Rattle.ptu_script.specs.{Fields.{◌>>=◌}, declared.command.Command.{Command}}
 use Rattle.ptu_script.specs.declared.command.Command.TheVariants as commands
 use Rattle.ptu_report_lines.specs.declared.sent.Sent.{Sent}
 use Rattle.ptu_world.specs.Deeds.{Grandmaster, Slave, Node, IsGrandmaster, IsSlave, Deed}
@@ -55,8 +46,7 @@ use Rattle.ptu_slave_messages.specs.Node as slave
 use Rattle.ptu_world.specs.Slaves as slaves
 use Rattle.ptu_world.specs.Promises.{Timing, mark_of, messages_in, message_in, timing_from, timing_to}
 use Rattle.ptu_world.specs.World.{World, Done, add_master, at_grandmaster, datagram_deed, datagram_numbered, delivered_to, done_by, grandmaster_by, new_grandmaster, new_slave, or_cause, place_in, placed, quietly, sent_from, set_up, slave_at, step, stock_without, with_master, node_at, Nodes}
-use Rattle.ptu_world.proofs.Limits.{ok_bound}
-use Rattle.ptu_world.proofs.Steps.{add_master_is, set_up_is}
+use Rattle.ptu_world.proofs.{Limits.{ok_bound}, Steps.{add_master_is, set_up_is}}
 
 abbrev heads : List Departure → List Timing
 heads sends = filter_map (λ (d : Departure). timing_to d.ip d.bytes) sends

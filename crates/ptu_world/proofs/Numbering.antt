@@ -1,22 +1,18 @@
 -- Datagrams are numbered from 1 in the order in which they were sent.
 use Rattle.std.proofs.Common.{◌≡◌, ◌∙◌, ℕ, zero, suc, ◌+◌, ◌-◌, ◌++◌, List, [], ◌∷◌, length, Option, Some, None, Result, Ok, Err, Bool, true, false, cond, eqb, Contains, refl, sym, ap, subst, arith, filter_map, append-nil, append_assoc, slice_get}
-use Rattle.std.proofs.lemmas.Bool.{eqb-false}
-use Rattle.std.proofs.lemmas.List.{length-append}
+use Rattle.std.proofs.lemmas.{Bool.{eqb-false}, List.{length-append}}
 use Rattle.std.proofs.lemmas.List.Elements.{Contains-append_right, filter_map-append}
 use Rattle.ptu_lines.specs.Script.{ScriptLine, Whole, Refused}
 use Rattle.ptu_script.specs.declared.cause.Cause.{Cause}
 use Rattle.ptu_script.specs.declared.cause.Cause.TheVariants as causes
-use Rattle.ptu_script.specs.Fields.{◌>>=◌}
-use Rattle.ptu_script.specs.declared.command.Command.{Command}
+use Rattle.ptu_script.specs.{Fields.{◌>>=◌}, declared.command.Command.{Command}}
 use Rattle.ptu_script.specs.declared.command.Command.TheVariants as commands
 use Rattle.ptu_script.specs.Command.{command_of}
-use Rattle.ptu_report_lines.specs.declared.sent.Sent.{Sent}
-use Rattle.ptu_report_lines.specs.declared.statement.Statement.{Statement}
+use Rattle.ptu_report_lines.specs.declared.{sent.Sent.{Sent}, statement.Statement.{Statement}}
 use Rattle.ptu_world.specs.World.{World, Stock, Done, datagram_numbered, delivered_to, opening, or_cause, step, node_at}
 use Rattle.ptu_world.specs.Reached.{Leads, Reaches, done_by_line, said_of}
 use Rattle.ptu_world.specs.Sayings.{IsDelivered, moment_handed, numbered, sent_in}
-use Rattle.ptu_world.proofs.Steps.{AllStand}
-use Rattle.ptu_world.proofs.Standing.{line_stands}
+use Rattle.ptu_world.proofs.{Steps.{AllStand}, Standing.{line_stands}}
 use Rattle.ptu_world.proofs.Sayings.{Numbers, says_of, step_numbers}
 
 numbered-append : (n : ℕ) (xs ys : List Sent) → numbered n (xs ++ ys) ≡ numbered n xs ++ numbered (n + length xs) ys

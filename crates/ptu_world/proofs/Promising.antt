@@ -1,19 +1,12 @@
 -- The promises hold of the history of every list of events, and so of each grandmaster's.
 use Rattle.std.proofs.Common.{◌≡◌, ◌∙◌, ℕ, ◌≤◌, List, Some, sym, subst}
 use Rattle.ptu_units.specs.declared.kind.Kind.{Kind}
-use Rattle.ptu_history.specs.declared.client.Client.{Client}
-use Rattle.ptu_history.specs.Core.{core_history}
-use Rattle.ptu_history.specs.Events.{Event}
-use Rattle.ptu_history.specs.History.{Record, Granted}
-use Rattle.ptu_history.specs.Verdict.{Config}
-use Rattle.ptu_laws.proofs.Bounds.{payment-there}
-use Rattle.ptu_laws.proofs.Budget.{count-within}
-use Rattle.ptu_laws.proofs.Capacity.{held-within}
+use Rattle.ptu_history.specs.{declared.client.Client.{Client}, Core.{core_history}, Events.{Event}}
+use Rattle.ptu_history.specs.{History.{Record, Granted}, Verdict.{Config}}
+use Rattle.ptu_laws.proofs.{Bounds.{payment-there}, Budget.{count-within}, Capacity.{held-within}}
 use Rattle.ptu_laws.proofs.Payments.{message-paid, payments-apart}
-use Rattle.ptu_laws.proofs.Stands.{follow-core, sent-live, sound-core}
-use Rattle.ptu_laws.proofs.Timely.{sent-inside}
-use Rattle.ptu_world.specs.Deeds.{Grandmaster}
-use Rattle.ptu_world.specs.Grandmasters.{opening}
+use Rattle.ptu_laws.proofs.{Stands.{follow-core, sent-live, sound-core}, Timely.{sent-inside}}
+use Rattle.ptu_world.specs.{Deeds.{Grandmaster}, Grandmasters.{opening}}
 use Rattle.ptu_world.specs.Promises.{IsRun, IsSentAfter, KeepsPromises, PaysItsPeriod}
 
 module _ (config : Config) (events : List (ℕ × Event)) where

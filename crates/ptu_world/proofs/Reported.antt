@@ -1,19 +1,16 @@
 -- The report is what the driver makes of the rules, it ends as the driver says, and its counts are those of the course.
 use Rattle.std.proofs.Common.{◌≡◌, ℕ, ◌+◌, Bool, List, [], ◌∷◌, ◌++◌, Option, Some, None, IfSome, Result, Ok, Err, refl, sym, ◌∙◌, ap, append_assoc, arith}
-use Rattle.std.specs.Prelude.{map, if◌then◌else◌}
-use Rattle.std.specs.List.{count_by}
+use Rattle.std.specs.{Prelude.{map, if◌then◌else◌}, List.{count_by}}
 use Rattle.std.proofs.lemmas.List.Sums.{sum_by-cons}
 use Rattle.ptu_lines.specs.Script.{ScriptLine, Whole, Refused, script_lines}
 use Rattle.ptu_report.specs.Rules.{closing, ending_after, ending_at, meaning_after, meaning_at, meaning_of, texts_at, texts_until, texts_of, ending_of}
 use Rattle.ptu_report.specs.declared.ending.Ending.{Ending}
 use Rattle.ptu_report.specs.declared.ending.Ending.TheVariants as endings
-use Rattle.ptu_script.specs.declared.cause.Cause.{Cause}
-use Rattle.ptu_script.specs.declared.command.Command.{Command}
+use Rattle.ptu_script.specs.declared.{cause.Cause.{Cause}, command.Command.{Command}}
 use Rattle.ptu_script.specs.Command.{command_of}
 use Rattle.ptu_report_lines.specs.declared.report_line.ReportLine.{ReportLine}
 use Rattle.ptu_report_lines.specs.declared.report_line.ReportLine.TheVariants.{At}
-use Rattle.ptu_report_lines.specs.declared.statement.Statement.{Statement}
-use Rattle.ptu_report_lines.specs.Report.{line_text}
+use Rattle.ptu_report_lines.specs.{declared.statement.Statement.{Statement}, Report.{line_text}}
 use Rattle.ptu_world.specs.World.{World, Stock, Done, step}
 use Rattle.ptu_world.specs.Report.{Course, course_after, course_opening, granted_count, is_granted, is_granted_line, is_short, is_short_line, lines_by, lines_by_line, lines_from, outcome_by, outcome_by_line, report, report_lines, rules, short_count, text_at}
 use Rattle.ptu_world.specs.Facts.{AreCounted, EndsBy, world_after, world_by, world_by_line, world_of}

@@ -5,13 +5,10 @@ use Rattle.std.proofs.lemmas.List.Elements.{All-cons, All-nil, filter_map-append
 use Rattle.std.proofs.lemmas.Bool.{and_parts}
 use Rattle.ptu_history.specs.Core.{core_moment}
 use Rattle.ptu_history.specs.Events as events
-use Rattle.ptu_history.specs.Events.{Answer}
-use Rattle.ptu_history.specs.Shedding.{shed_grants}
-use Rattle.ptu_history.specs.Step.{delay_answer}
+use Rattle.ptu_history.specs.{Events.{Answer}, Shedding.{shed_grants}, Step.{delay_answer}}
 use Rattle.ptu_gm_messages.specs.declared.heard.Heard as gm_heard
 use Rattle.ptu_gm_messages.specs.declared.heard.Heard.TheVariants.{DelayReq, Asks}
-use Rattle.ptu_gm_messages.specs.declared.reason.GmReason.{GmReason}
-use Rattle.ptu_gm_messages.specs.Items.{heard_in}
+use Rattle.ptu_gm_messages.specs.{declared.reason.GmReason.{GmReason}, Items.{heard_in}}
 use Rattle.ptu_gm_messages.specs.Deciding.{Decision, Judged, Ended, client_of, decisions_of}
 use Rattle.ptu_record.specs.Record.{event_moment}
 use Rattle.ptu_record.proofs.Choice.{selected_is}
@@ -24,8 +21,7 @@ use Rattle.ptu_slave_messages.specs.declared.signal.Signal.{Signal}
 use Rattle.ptu_slave_messages.specs.declared.signal.Signal.TheVariants as signals
 use Rattle.ptu_script.specs.declared.cause.Cause.{Cause}
 use Rattle.ptu_script.specs.declared.cause.Cause.TheVariants as causes
-use Rattle.ptu_script.specs.Fields.{◌>>=◌}
-use Rattle.ptu_script.specs.declared.command.Command.{Command}
+use Rattle.ptu_script.specs.{Fields.{◌>>=◌}, declared.command.Command.{Command}}
 use Rattle.ptu_script.specs.declared.command.Command.TheVariants as commands
 use Rattle.ptu_report_lines.specs.declared.sent.Sent as sending
 use Rattle.ptu_report_lines.specs.declared.statement.Statement.{Statement}
@@ -37,8 +33,7 @@ use Rattle.ptu_world.specs.Slaves as slaves
 use Rattle.ptu_world.specs.Sayings.{IsBestChoice, NamesSelection, is_event, moment_handed, numbered, selected_in, sent_in, slave_of}
 use Rattle.ptu_world.specs.World.{World, Stock, Done, add_master, datagram_deed, datagram_numbered, delivered_to, done_by, grandmaster_at, new_grandmaster, new_slave, or_cause, place_in, quietly, sending_said, sent_from, set_up, slave_at, step, stock_without, node_at}
 use Rattle.ptu_world.specs.Promises.{Handed, handed_by}
-use Rattle.ptu_world.proofs.Deciding.{taken_by}
-use Rattle.ptu_world.proofs.Limits.{ok_bound}
+use Rattle.ptu_world.proofs.{Deciding.{taken_by}, Limits.{ok_bound}}
 use Rattle.ptu_world.proofs.Steps.{AllStand, StandsAt, add_master_is, found, found_slave, set_up_is, there}
 
 -- it says nothing of a datagram that was sent, and nothing of a selection

@@ -1,11 +1,9 @@
 -- What holds of each world that a script reaches.
 use Rattle.std.proofs.Common.{◌≡◌, ℕ, List, [], ◌∷◌, Option, Some, None, Result, Ok, Err, IfOk, IfSome, refl, sym, subst}
 use Rattle.ptu_lines.specs.Script.{ScriptLine, Whole, Refused}
-use Rattle.ptu_script.specs.declared.cause.Cause.{Cause}
-use Rattle.ptu_script.specs.declared.command.Command.{Command}
+use Rattle.ptu_script.specs.declared.{cause.Cause.{Cause}, command.Command.{Command}}
 use Rattle.ptu_script.specs.Command.{command_of}
-use Rattle.ptu_world.specs.Deeds.{Grandmaster, IsGrandmaster}
-use Rattle.ptu_world.specs.Promises.{AreMessagesSent, IsRun}
+use Rattle.ptu_world.specs.{Deeds.{Grandmaster, IsGrandmaster}, Promises.{AreMessagesSent, IsRun}}
 use Rattle.ptu_world.specs.World.{World, Stock, Done, opening, step, node_at}
 use Rattle.ptu_world.specs.Reached.{Leads, Reaches, done_by_line}
 use Rattle.ptu_world.proofs.Limits.{IsWithin, command_within}

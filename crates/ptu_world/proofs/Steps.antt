@@ -1,12 +1,10 @@
 -- What the commands of a script keep of its nodes.
 use Rattle.std.proofs.Common.{◌≡◌, ◌∙◌, ℕ, ◌++◌, List, [], Option, Some, None, Result, Ok, Err, IfOk, IfSome, Bool, true, false, cond, eqb, refl, sym, ap, subst, eqb-true, is_some, arith, leb, length}
-use Rattle.ptu_history.specs.Core.{core_history, history_after}
-use Rattle.ptu_history.specs.Events.{Event}
+use Rattle.ptu_history.specs.{Core.{core_history, history_after}, Events.{Event}}
 use Rattle.ptu_history.proofs.Histories.{history_after-append, history-none}
 use Rattle.ptu_gm_messages.specs.declared.heard.Heard as gm_heard
 use Rattle.ptu_gm_messages.specs.declared.heard.Heard.TheVariants.{DelayReq, Asks}
-use Rattle.ptu_gm_messages.specs.declared.reason.GmReason.{GmReason}
-use Rattle.ptu_gm_messages.specs.Items.{heard_in}
+use Rattle.ptu_gm_messages.specs.{declared.reason.GmReason.{GmReason}, Items.{heard_in}}
 use Rattle.ptu_record.specs.declared.rule.Rule.{Rule}
 use Rattle.ptu_record.specs.Step as slave_events
 use Rattle.ptu_profile.specs.Slave.{place_of}
@@ -14,8 +12,7 @@ use Rattle.ptu_slave_messages.specs.declared.heard.Heard as slave_heard
 use Rattle.ptu_slave_messages.specs.declared.heard.Heard.TheVariants as slave_heards
 use Rattle.ptu_script.specs.declared.cause.Cause.{Cause}
 use Rattle.ptu_script.specs.declared.cause.Cause.TheVariants as causes
-use Rattle.ptu_script.specs.Fields.{◌>>=◌}
-use Rattle.ptu_script.specs.declared.command.GrandmasterSetup.{GrandmasterSetup}
+use Rattle.ptu_script.specs.{Fields.{◌>>=◌}, declared.command.GrandmasterSetup.{GrandmasterSetup}}
 use Rattle.ptu_script.specs.declared.command.Command.{Command}
 use Rattle.ptu_script.specs.declared.command.Command.TheVariants as commands
 use Rattle.ptu_script.specs.Limits.{IsGrandmasterWithin}

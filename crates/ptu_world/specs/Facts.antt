@@ -6,8 +6,7 @@ use Rattle.ptu_report.specs.declared.ending.Ending.TheVariants as endings
 use Rattle.ptu_report_lines.specs.declared.report_line.ReportLine.{ReportLine}
 use Rattle.ptu_report_lines.specs.declared.report_line.ReportLine.TheVariants.{At, End}
 use Rattle.ptu_report_lines.specs.declared.statement.Statement.TheVariants.{Bad}
-use Rattle.ptu_script.specs.declared.cause.Cause.{Cause}
-use Rattle.ptu_script.specs.declared.command.Command.{Command}
+use Rattle.ptu_script.specs.declared.{cause.Cause.{Cause}, command.Command.{Command}}
 use Rattle.ptu_script.specs.Command.{command_of}
 use Rattle.ptu_world.specs.World.{World, Stock, Done, opening, step}
 use Rattle.ptu_world.specs.Report.{Course, granted_count, report_lines, short_count}

@@ -1,23 +1,16 @@
 -- What a grandmaster of a script does.
 use Rattle.std.specs.Prelude.{ℕ, Bool, true, false, List, [], ◌∷◌, map, Option, Some, None, unwrap_or, Result, Ok, Err}
-use Rattle.ptu_units.specs.declared.kind.Kind.{Kind}
-use Rattle.ptu_units.specs.Kind.{kind_of}
+use Rattle.ptu_units.specs.{declared.kind.Kind.{Kind}, Kind.{kind_of}}
 use Rattle.ptu_tlvs.specs.declared.tlv.Ask.{Ask}
 use Rattle.ptu_outside.specs.Departure.{Departure}
 use Rattle.ptu_header.specs.declared.header.Header.{Header}
-use Rattle.ptu_history.specs.Counts.{counts}
-use Rattle.ptu_history.specs.Core.{core_moment, history_after}
+use Rattle.ptu_history.specs.{Counts.{counts}, Core.{core_moment, history_after}}
 use Rattle.ptu_history.specs.Events as events
-use Rattle.ptu_history.specs.Events.{Answer, Event}
-use Rattle.ptu_history.specs.Live.{Grant}
-use Rattle.ptu_history.specs.Shedding.{shed_grants}
-use Rattle.ptu_history.specs.Step.{delay_answer}
-use Rattle.ptu_history.specs.Turns.{due_grants, message_of}
+use Rattle.ptu_history.specs.{Events.{Answer, Event}, Live.{Grant}, Shedding.{shed_grants}}
+use Rattle.ptu_history.specs.{Step.{delay_answer}, Turns.{due_grants, message_of}}
 use Rattle.ptu_history.specs.Verdict.{Config, Verdict, GrantedFor, ShortOf, Outside, OutsideCause, OutsideCode, OutsideLog, OutsideDuration}
-use Rattle.ptu_shard.specs.Answered.{responses}
-use Rattle.ptu_shard.specs.Messages.{departure_of, response_of}
-use Rattle.ptu_gm_messages.specs.declared.item.Item.{Item}
-use Rattle.ptu_gm_messages.specs.declared.heard.Heard.{Heard}
+use Rattle.ptu_shard.specs.{Answered.{responses}, Messages.{departure_of, response_of}}
+use Rattle.ptu_gm_messages.specs.declared.{item.Item.{Item}, heard.Heard.{Heard}}
 use Rattle.ptu_gm_messages.specs.declared.heard.Heard.TheVariants as heard
 use Rattle.ptu_gm_messages.specs.declared.reason.GmReason.{GmReason}
 use Rattle.ptu_gm_messages.specs.declared.reason.GmReason.TheVariants as ignored

@@ -3,15 +3,12 @@ use Rattle.std.specs.Prelude.{◌≡◌, ℕ, ◌+◌, ◌*◌, ◌≤◌, true,
 use Rattle.std.specs.List.{All, AllPairs}
 use Rattle.ptu_units.specs.declared.kind.Kind.{Kind}
 use Rattle.ptu_history.specs.declared.client.Client.{Client}
-use Rattle.ptu_history.specs.Held.{budget, count, force, held, payments}
-use Rattle.ptu_history.specs.History.{Record}
+use Rattle.ptu_history.specs.{Held.{budget, count, force, held, payments}, History.{Record}}
 use Rattle.ptu_laws.specs.Paid.{IsBefore}
 use Rattle.ptu_lines.specs.declared.cause.LineCause.{LineCause}
 use Rattle.ptu_lines.specs.Script.{ScriptLine, Whole, Refused}
-use Rattle.ptu_script.specs.declared.cause.Cause.{Cause}
-use Rattle.ptu_script.specs.declared.command.Command.{Command}
-use Rattle.ptu_script.specs.declared.command.Command.TheVariants.{Deliver}
-use Rattle.ptu_script.specs.Cause.{cause_of_line}
+use Rattle.ptu_script.specs.declared.{cause.Cause.{Cause}, command.Command.{Command}}
+use Rattle.ptu_script.specs.{declared.command.Command.TheVariants.{Deliver}, Cause.{cause_of_line}}
 use Rattle.ptu_script.specs.Command.{command_of}
 use Rattle.ptu_report_lines.specs.declared.report_line.ReportLine.{ReportLine}
 use Rattle.ptu_report_lines.specs.declared.report_line.ReportLine.TheVariants.{At, End}

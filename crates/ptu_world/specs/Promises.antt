@@ -2,28 +2,19 @@
 -- of IEEE 1588-2019 clause 16.1.
 use Rattle.std.specs.Prelude.{◌≡◌, ◌↔◌, ℕ, ◌+◌, ◌*◌, ◌/◌, ◌%◌, ◌<◌, ◌≤◌, false, ◌==◌, if◌then◌else◌, filter_map, slice_index, List, [], ◌∷◌, ◌++◌, length, take, drop, ℤ, Option, Some, None, option_map, Ok, Err, IsTrue}
 use Rattle.std.specs.List.{AllPairs, Contains, cons_option}
-use Rattle.ptu_units.specs.declared.kind.Kind.{Kind}
-use Rattle.ptu_units.specs.declared.kind.Kind.TheVariants.{DelayResp}
-use Rattle.ptu_units.specs.Kind.{code_of}
-use Rattle.ptu_units.specs.Log.{rate_of}
+use Rattle.ptu_units.specs.declared.kind.{Kind.{Kind}, Kind.TheVariants.{DelayResp}}
+use Rattle.ptu_units.specs.{Kind.{code_of}, Log.{rate_of}}
 use Rattle.ptu_octets.specs.Number.{octets_of}
-use Rattle.ptu_header.specs.declared.header.Header.{Header}
-use Rattle.ptu_header.specs.Sent.{sent_identity}
-use Rattle.ptu_tlvs.specs.declared.tlv.Ask.{Ask}
-use Rattle.ptu_tlvs.specs.declared.tlv.Tlv.{Tlv}
+use Rattle.ptu_header.specs.{declared.header.Header.{Header}, Sent.{sent_identity}}
+use Rattle.ptu_tlvs.specs.declared.tlv.{Ask.{Ask}, Tlv.{Tlv}}
 use Rattle.ptu_messages.specs.Sent.{sent_stamp}
-use Rattle.ptu_history.specs.declared.client.Client.{Client}
-use Rattle.ptu_history.specs.Core.{core_history, history_after}
-use Rattle.ptu_history.specs.Events.{Event}
-use Rattle.ptu_history.specs.Held.{budget, count, force, held, payment, payments}
+use Rattle.ptu_history.specs.{declared.client.Client.{Client}, Core.{core_history, history_after}}
+use Rattle.ptu_history.specs.{Events.{Event}, Held.{budget, count, force, held, payment, payments}}
 use Rattle.ptu_history.specs.History.{Record, Granted, Sent, capacity_in_force}
-use Rattle.ptu_history.specs.Live.{last_decision, live}
-use Rattle.ptu_history.specs.Runs.{sequence_number}
+use Rattle.ptu_history.specs.{Live.{last_decision, live}, Runs.{sequence_number}}
 use Rattle.ptu_history.specs.Verdict.{Config, Verdict, Outside, OutsideCause, granted_seconds, others, profile, verdict}
-use Rattle.ptu_laws.specs.Granted.{is_granted, is_short}
-use Rattle.ptu_laws.specs.Paid.{IsBefore, IsPaid}
-use Rattle.ptu_profile.specs.Grandmaster.{IsWithinLimits}
-use Rattle.ptu_profile.specs.Limits.{IsCapacity}
+use Rattle.ptu_laws.specs.{Granted.{is_granted, is_short}, Paid.{IsBefore, IsPaid}}
+use Rattle.ptu_profile.specs.{Grandmaster.{IsWithinLimits}, Limits.{IsCapacity}}
 use Rattle.ptu_gm_messages.specs.declared.item.Item.{Item}
 use Rattle.ptu_gm_messages.specs.declared.item.Item.TheVariants as items
 use Rattle.ptu_gm_messages.specs.declared.heard.Heard.TheVariants as heard

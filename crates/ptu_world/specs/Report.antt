@@ -3,10 +3,8 @@ use Rattle.std.specs.Prelude.{ℕ, ◌+◌, Bool, true, false, List, [], ◌∷�
 use Rattle.std.specs.List.{count_by}
 use Rattle.ptu_lines.specs.Script.{ScriptLine, Whole, Refused, script_lines}
 use Rattle.ptu_report.specs.Rules.{Rules, Outcome, Goes, Refuses}
-use Rattle.ptu_script.specs.declared.cause.Cause.{Cause}
-use Rattle.ptu_script.specs.declared.command.Command.{Command}
-use Rattle.ptu_script.specs.Cause.{cause_of_line}
-use Rattle.ptu_script.specs.Command.{command_of}
+use Rattle.ptu_script.specs.declared.{cause.Cause.{Cause}, command.Command.{Command}}
+use Rattle.ptu_script.specs.{Cause.{cause_of_line}, Command.{command_of}}
 use Rattle.ptu_report_lines.specs.declared.decision.Decision.TheVariants as decisions
 use Rattle.ptu_report_lines.specs.declared.report_line.ReportLine.{ReportLine}
 use Rattle.ptu_report_lines.specs.declared.report_line.ReportLine.TheVariants.{At, End}

@@ -1,6 +1,5 @@
 -- Small scripts, and the reports that were made out for them by hand.
-use Rattle.std.specs.Prelude.{ℕ, zero, suc, List, [], ◌∷◌, ◌++◌, codes}
-use Rattle.std.specs.Fmt.{decimal}
+use Rattle.std.specs.{Prelude.{ℕ, zero, suc, List, [], ◌∷◌, ◌++◌, codes}, Fmt.{decimal}}
 use Rattle.std.specs.List.{flat_map}
 use Rattle.ptu_world.specs.World.{Stock}
 

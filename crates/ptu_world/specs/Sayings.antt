@@ -1,8 +1,7 @@
 -- What the report says of datagrams and of the masters that slaves select.
 use Rattle.std.specs.Prelude.{◌≡◌, ℕ, ◌+◌, Bool, true, false, filter_map, List, [], ◌∷◌, Option, Some, None, option_map}
 use Rattle.std.specs.List.{Contains}
-use Rattle.ptu_record.specs.Record.{event_moment}
-use Rattle.ptu_record.specs.Selection.{IsSelected}
+use Rattle.ptu_record.specs.{Record.{event_moment}, Selection.{IsSelected}}
 use Rattle.ptu_slave_messages.specs.declared.heard.Heard.{Heard}
 use Rattle.ptu_slave_messages.specs.declared.heard.Heard.TheVariants as heard
 use Rattle.ptu_profile.specs.Slave.{address_of, priorities, timeouts}
@@ -11,8 +10,7 @@ use Rattle.ptu_script.specs.declared.command.Command.TheVariants as commands
 use Rattle.ptu_report_lines.specs.declared.sent.Sent as sending
 use Rattle.ptu_report_lines.specs.declared.statement.Statement.{Statement}
 use Rattle.ptu_report_lines.specs.declared.statement.Statement.TheVariants.{Sent, Selected}
-use Rattle.ptu_world.specs.Deeds.{Slave, IsSlave}
-use Rattle.ptu_world.specs.World.{World, Done, delivered_to, node_at}
+use Rattle.ptu_world.specs.{Deeds.{Slave, IsSlave}, World.{World, Done, delivered_to, node_at}}
 
 -- ---- datagrams
 

@@ -9,12 +9,10 @@ use Rattle.ptu_profile.specs.Slave.{place_of}
 use Rattle.ptu_script.specs.declared.cause.Cause.{Cause}
 use Rattle.ptu_script.specs.declared.cause.Cause.TheVariants as causes
 use Rattle.ptu_script.specs.declared.command.GrandmasterSetup.{GrandmasterSetup}
-use Rattle.ptu_script.specs.declared.command.SlaveSetup.{SlaveSetup}
-use Rattle.ptu_script.specs.declared.command.Command.{Command}
+use Rattle.ptu_script.specs.declared.command.{SlaveSetup.{SlaveSetup}, Command.{Command}}
 use Rattle.ptu_script.specs.declared.command.Command.TheVariants as commands
 use Rattle.ptu_script.specs.Fields.{◌>>=◌}
-use Rattle.ptu_report_lines.specs.declared.sent.Sent.{Sent}
-use Rattle.ptu_report_lines.specs.declared.statement.Statement.{Statement}
+use Rattle.ptu_report_lines.specs.declared.{sent.Sent.{Sent}, statement.Statement.{Statement}}
 use Rattle.ptu_report_lines.specs.declared.statement.Statement.TheVariants as statements
 use Rattle.ptu_world.specs.Deeds.{Grandmaster, Slave, Node, IsGrandmaster, IsSlave, Deed}
 use Rattle.ptu_world.specs.Grandmasters as gm

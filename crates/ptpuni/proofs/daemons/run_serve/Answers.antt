@@ -1,7 +1,5 @@
-use Rattle.std.proofs.Common.{refl}
-use Rattle.std.proofs.lemmas.Result.{IfErr-at_err}
-use Rattle.ptu_config.specs.Entries.{gm_entries}
-use Rattle.ptu_config.specs.Refusals.{gm_refusal}
+use Rattle.std.proofs.{Common.{refl}, lemmas.Result.{IfErr-at_err}}
+use Rattle.ptu_config.specs.{Entries.{gm_entries}, Refusals.{gm_refusal}}
 use Rattle.ptpuni.proofs.DaemonRuns.{daemon_ended, refused_ended, unread_ended, opens_counted, writes_counted, opened_as, opened_on_ok, ran}
 use Rattle.ptpuni.proofs.daemons.run_serve.Goals as goal
 

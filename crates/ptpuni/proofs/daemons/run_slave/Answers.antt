@@ -1,6 +1,5 @@
 use Rattle.std.proofs.Common.{rules, ◌≡◌, length, refl}
-use Rattle.ptu_config.specs.Entries.{slave_entries}
-use Rattle.ptu_config.specs.Refusals.{slave_refusal}
+use Rattle.ptu_config.specs.{Entries.{slave_entries}, Refusals.{slave_refusal}}
 use Rattle.ptpuni.proofs.DaemonRuns.{if_on_err, daemon_ended, refused_ended, unread_ended, opened_as, opened_on_ok, ran}
 use Rattle.ptpuni.proofs.daemons.run_slave.Goals as goal
 

@@ -8,8 +8,7 @@ use Rattle.ptu_report.specs.declared.fault.RunFault.TheVariants.{OutOfMemory}
 use Rattle.ptu_world.specs.Report.{report_lines}
 use Rattle.ptpuni.specs.Run.{HasRun, IsOfLab, status_of}
 use Rattle.ptu_lab.specs.Steps.{stock_of}
-use Rattle.ptpuni.proofs.Answered.{none_answered, zero_at_end}
-use Rattle.ptpuni.proofs.Audited.{audit_completes}
+use Rattle.ptpuni.proofs.{Answered.{none_answered, zero_at_end}, Audited.{audit_completes}}
 use Rattle.ptpuni.proofs.Completed.{completed}
 use Rattle.ptu_lab.proofs.KeepingHeadline.{keeps_headline}
 use Rattle.ptu_pool_run.proofs.Keeping.{keeps_pools}

@@ -2,8 +2,7 @@ use Rattle.std.proofs.Common.{rules, arith, ◌≡◌, ◌∙◌, refl, sym, sub
 use Rattle.ptu_words.specs.declared.command.Command.TheVariants.{Audit}
 use Rattle.ptpuni.specs.Run.{HasAudited, status_found}
 use Rattle.ptpuni.proofs.Answered.{ended_by, has_ended, joined_run, poured_run, read_failed, reads_less, replayed, shown, unless_failed}
-use Rattle.ptpuni.proofs.Audited.{is_found}
-use Rattle.ptpuni.proofs.Loaded.{has_loaded, loaded, reads_nothing}
+use Rattle.ptpuni.proofs.{Audited.{is_found}, Loaded.{has_loaded, loaded, reads_nothing}}
 use Rattle.ptpuni.proofs.run.run_command.Goals as goal
 
 pub returns-in-Replay-clause-ended : goal.returns-in-Replay-clause-ended

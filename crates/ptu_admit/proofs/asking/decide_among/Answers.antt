@@ -1,7 +1,6 @@
 use Rattle.std.proofs.Common.{◌≡◌, ◌∙◌, [], ◌∷◌, arith, refl, sym}
 use Rattle.ptu_history.specs.Client.{table_of}
-use Rattle.ptu_admit.specs.Lent.{lent_as}
-use Rattle.ptu_admit.specs.Verdict.{verdict_of}
+use Rattle.ptu_admit.specs.{Lent.{lent_as}, Verdict.{verdict_of}}
 use Rattle.ptu_admit.proofs.Verdicts.{each_decided}
 use Rattle.ptu_admit.proofs.asking.decide_among.Goals as goal
 

@@ -1,12 +1,9 @@
 use Rattle.std.proofs.Common.{◌≡◌, ◌∙◌, ◌≤◌, ◌++◌, ◌∷◌, [], max, arith, inl, ltb, refl, subst, sym}
-use Rattle.ptu_history.specs.Client.{table_of}
-use Rattle.ptu_history.specs.History.{Ended}
-use Rattle.ptu_history.specs.Moments.{book_moment}
+use Rattle.ptu_history.specs.{Client.{table_of}, History.{Ended}, Moments.{book_moment}}
 use Rattle.ptu_shard.specs.Table.{StandsAt}
 use Rattle.ptu_shard.proofs.Turns.{live_kept}
 use Rattle.ptu_admit.specs.Lent.{table_for}
-use Rattle.ptu_admit.proofs.Lending.{are_at, of_ended, taken}
-use Rattle.ptu_admit.proofs.RowKeys.{has_live-swept}
+use Rattle.ptu_admit.proofs.{Lending.{are_at, of_ended, taken}, RowKeys.{has_live-swept}}
 use Rattle.ptu_admit.proofs.Sums.{share_of-left, share_of-removed}
 use Rattle.ptu_admit.proofs.ending.cancel.Goals as goal
 

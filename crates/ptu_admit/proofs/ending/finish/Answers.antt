@@ -1,6 +1,5 @@
 use Rattle.std.proofs.Common.{◌≡◌, ◌∙◌, ◌≤◌, ℕ, ap, arith}
-use Rattle.ptu_history.specs.Moments.{book_moment}
-use Rattle.ptu_history.specs.Verdict.{table_rates}
+use Rattle.ptu_history.specs.{Moments.{book_moment}, Verdict.{table_rates}}
 use Rattle.ptu_admit.specs.Lent.{four, moment_for_all}
 use Rattle.ptu_admit.proofs.Grants.{swept_share}
 use Rattle.ptu_admit.proofs.ending.finish.Goals as goal

@@ -1,7 +1,6 @@
 use Rattle.std.proofs.Common.{◌≡◌, ◌∙◌, ◌+◌, ◌<◌, ◌++◌, ◌∷◌, [], ap, arith, cond, sym, true, ℕ}
 use Rattle.std.specs.Prelude.{is_ok, vec_capacity, vec_len}
-use Rattle.ptu_admit.specs.Newest.{candidate_of, found_in}
-use Rattle.ptu_admit.specs.declared.newest.Candidate.{Candidate}
+use Rattle.ptu_admit.specs.{Newest.{candidate_of, found_in}, declared.newest.Candidate.{Candidate}}
 use Rattle.ptu_admit.proofs.Candidates.{got_within, listed_next}
 use Rattle.ptu_admit.proofs.gathering.list_rows.Goals as goal
 use Rattle.ptu_admit.proofs.gathering.list_rows.Goals.{in-Some, in_default}

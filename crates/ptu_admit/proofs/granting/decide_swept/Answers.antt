@@ -1,6 +1,5 @@
 use Rattle.std.proofs.Common.{◌≤◌, arith, refl}
-use Rattle.ptu_history.specs.History.{Short}
-use Rattle.ptu_history.specs.Moments.{table_part}
+use Rattle.ptu_history.specs.{History.{Short}, Moments.{table_part}}
 use Rattle.ptu_shard.proofs.Standing.{stands_elsewhere}
 use Rattle.ptu_admit.proofs.Lending.{stands_later}
 use Rattle.ptu_admit.proofs.granting.decide_swept.Goals as goal

@@ -1,12 +1,10 @@
 use Rattle.std.proofs.Common.{◌≡◌, ◌∙◌, ◌<◌, ◌++◌, ◌∷◌, [], max, ap, arith, ltb, not, subst, sym}
 use Rattle.std.specs.List.{Contains}
-use Rattle.std.proofs.lemmas.Bool.{ltb-true}
-use Rattle.std.proofs.lemmas.List.Sums.{sum_by-cons}
+use Rattle.std.proofs.lemmas.{Bool.{ltb-true}, List.Sums.{sum_by-cons}}
 use Rattle.ptu_units.specs.Log.{rate_of}
 use Rattle.ptu_history.specs.History.{Granted}
 use Rattle.ptu_history.proofs.Unique.{Contains-from_filter}
-use Rattle.ptu_shard.specs.declared.lease.Row.{Row}
-use Rattle.ptu_shard.specs.Row.{is_row_of, lease_of, without_row}
+use Rattle.ptu_shard.specs.{declared.lease.Row.{Row}, Row.{is_row_of, lease_of, without_row}}
 use Rattle.ptu_shard.specs.Table.{IsLeaseOf, StandsAt}
 use Rattle.ptu_shard.proofs.RowLists.{same_permuted}
 use Rattle.ptu_admit.specs.Rows.{live_rows}

@@ -1,12 +1,9 @@
 use Rattle.std.proofs.Common.{◌≡◌, ◌∙◌, ◌≤◌, ◌++◌, ◌∷◌, [], List, ℕ, ap, arith, map, subst, sym}
-use Rattle.ptu_history.specs.History.{Capacity}
-use Rattle.ptu_history.specs.Moments.{book_moment}
+use Rattle.ptu_history.specs.{History.{Capacity}, Moments.{book_moment}}
 use Rattle.ptu_history.specs.Shedding.{shed_grants, shed_record}
 use Rattle.ptu_history.proofs.Moments.{book_moment-resized}
-use Rattle.ptu_admit.specs.Book.{KeptBook}
-use Rattle.ptu_admit.specs.declared.shed_list.Shed.{Shed}
-use Rattle.ptu_admit.specs.Lent.{EachStandsAt, four}
-use Rattle.ptu_admit.specs.Newest.{rows_in, shed_at}
+use Rattle.ptu_admit.specs.{Book.{KeptBook}, declared.shed_list.Shed.{Shed}}
+use Rattle.ptu_admit.specs.{Lent.{EachStandsAt, four}, Newest.{rows_in, shed_at}}
 use Rattle.ptu_admit.proofs.Lending.{are_at, four_swept}
 use Rattle.ptu_admit.proofs.ShedLoop.{all_live, capacity_changed, passes_change, records_changed, swept_rows, swept_share}
 use Rattle.ptu_admit.proofs.Verdicts.{four_stand}

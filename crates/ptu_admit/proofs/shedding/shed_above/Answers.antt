@@ -1,10 +1,8 @@
 use Rattle.std.proofs.Common.{◌∙◌, ◌++◌, arith, append-nil, ap, map, subst, sym}
 use Rattle.std.proofs.lemmas.List.Sorted.{Contains-permutation}
-use Rattle.ptu_admit.specs.Shed.{shed_of}
-use Rattle.ptu_admit.specs.Lent.{EachStandsAt, four}
+use Rattle.ptu_admit.specs.{Shed.{shed_of}, Lent.{EachStandsAt, four}}
 use Rattle.ptu_admit.specs.Newest.{all_found, candidate_of, shed_at}
-use Rattle.ptu_admit.proofs.ShedOrder.{placed_found, shed_no_more}
-use Rattle.ptu_admit.proofs.Sums.{Contains-map}
+use Rattle.ptu_admit.proofs.{ShedOrder.{placed_found, shed_no_more}, Sums.{Contains-map}}
 use Rattle.ptu_admit.proofs.shedding.shed_above.Goals as goal
 
 pub shed_newest-requires-clause-listed : goal.shed_newest-requires-clause-listed

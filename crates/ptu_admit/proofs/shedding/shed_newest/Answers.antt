@@ -1,17 +1,13 @@
 use Rattle.std.proofs.Common.{◌≡◌, ◌∙◌, ◌+◌, ◌<◌, ◌++◌, ◌∷◌, [], List, ap, arith, cond, subst, sym, true, false}
-use Rattle.std.specs.Prelude.{is_ok, vec_capacity, vec_len}
-use Rattle.std.specs.List.{All}
-use Rattle.std.specs.List.Sorted.{IsPermutation}
-use Rattle.std.specs.Ordering.{is_lt}
+use Rattle.std.specs.{Prelude.{is_ok, vec_capacity, vec_len}, List.{All}}
+use Rattle.std.specs.{List.Sorted.{IsPermutation}, Ordering.{is_lt}}
 use Rattle.std.proofs.lemmas.List.Sorted.{length_permutation}
-use Rattle.ptu_admit.specs.Book.{KeptBook}
-use Rattle.ptu_admit.specs.declared.shed_list.Shed.{Shed}
+use Rattle.ptu_admit.specs.{Book.{KeptBook}, declared.shed_list.Shed.{Shed}}
 use Rattle.ptu_admit.specs.Lent.{Lent, four, shares}
 use Rattle.ptu_admit.specs.Newest.{AreListed, candidate_cmp, candidate_of}
 use Rattle.ptu_admit.proofs.Candidates.{NotAfter, first_of, listed_without}
 use Rattle.ptu_admit.proofs.ShedLoop.{SoFar, all_shed, four_distinct, listed_less, one_shed}
-use Rattle.ptu_admit.proofs.ShedOrder.{IsPlaced, none_held}
-use Rattle.ptu_admit.proofs.Verdicts.{FourDistinct}
+use Rattle.ptu_admit.proofs.{ShedOrder.{IsPlaced, none_held}, Verdicts.{FourDistinct}}
 use Rattle.ptu_admit.specs.declared.newest.Found.{Found}
 use Rattle.ptu_admit.proofs.shedding.shed_newest.Goals as goal
 

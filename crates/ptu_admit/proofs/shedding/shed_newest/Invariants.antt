@@ -1,7 +1,6 @@
 use Rattle.std.proofs.Common.{◌≡◌, length}
 use Rattle.std.specs.Prelude.{vec_capacity, vec_len}
-use Rattle.ptu_admit.specs.Lent.{four}
-use Rattle.ptu_admit.specs.Newest.{AreListed}
+use Rattle.ptu_admit.specs.{Lent.{four}, Newest.{AreListed}}
 use Rattle.ptu_admit.proofs.ShedLoop.{SoFar}
 use Rattle.ptu_admit.proofs.shedding.shed_newest.Given as goal
 

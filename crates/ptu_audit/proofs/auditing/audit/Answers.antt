@@ -2,8 +2,7 @@ use Rattle.std.proofs.Common.{◌∙◌, ◌∷◌, [], refl, ap, sym, subst}
 use Rattle.ptu_lines.specs.Script.{script_lines}
 use Rattle.ptu_outside.specs.Handing.{HasPut}
 use Rattle.ptu_report.proofs.Answered.{answers_also, answers_none, fails_also}
-use Rattle.ptu_audit.specs.Reading.{audit_rules, opening}
-use Rattle.ptu_audit.specs.Texts.{answer_text}
+use Rattle.ptu_audit.specs.{Reading.{audit_rules, opening}, Texts.{answer_text}}
 use Rattle.ptu_audit.proofs.Answering.{answer_is, lines_are, told}
 use Rattle.ptu_audit.proofs.Promises.{answer_kept, whole_read}
 use Rattle.ptu_audit.proofs.Refusing.{refusal_exact, refusal_written}

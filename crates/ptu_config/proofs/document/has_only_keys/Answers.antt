@@ -1,7 +1,5 @@
 use Rattle.std.proofs.Common.{rules, ◌↔◌, string_bytes}
-use Rattle.std.specs.Prelude.{IsTrue}
-use Rattle.std.specs.List.{AllPass}
-use Rattle.std.specs.BTreeMap.{keys}
+use Rattle.std.specs.{Prelude.{IsTrue}, List.{AllPass}, BTreeMap.{keys}}
 use Rattle.ptu_config.specs.Documents.{is_name_of}
 use Rattle.ptu_config.proofs.Names.{all_pass}
 use Rattle.ptu_config.proofs.document.has_only_keys.Goals as goal

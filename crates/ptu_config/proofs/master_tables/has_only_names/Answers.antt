@@ -1,7 +1,5 @@
 use Rattle.std.proofs.Common.{rules, ◌↔◌, string_bytes}
-use Rattle.std.specs.Prelude.{IsTrue}
-use Rattle.std.specs.List.{AllPass}
-use Rattle.std.specs.BTreeMap.{keys}
+use Rattle.std.specs.{Prelude.{IsTrue}, List.{AllPass}, BTreeMap.{keys}}
 use Rattle.ptu_config.specs.Masters.{is_master_name}
 use Rattle.ptu_config.proofs.Names.{all_pass}
 use Rattle.ptu_config.proofs.master_tables.has_only_names.Goals as goal

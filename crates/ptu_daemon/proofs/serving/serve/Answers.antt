@@ -2,8 +2,7 @@ use Rattle.std.proofs.Common.{rules, ◌≡◌, ◌∙◌, ◌∷◌, [], ap, su
 use Rattle.std.specs.Result.{IfErr, OnErr, OnOk}
 use Rattle.ptu_outside.specs.Handing.{HasPut, HasPutFront}
 use Rattle.ptu_rounds.specs.declared.fault.DaemonFault.TheVariants as faults
-use Rattle.ptu_daemon.specs.Served.{closing_line, said_by}
-use Rattle.ptu_daemon.specs.Serving.{HasServed}
+use Rattle.ptu_daemon.specs.{Served.{closing_line, said_by}, Serving.{HasServed}}
 use Rattle.ptu_daemon.proofs.serving.serve.Goals as goal
 
 on_ok_more : {T E A B : Type 0} (r : Result T E) → (A → B) → OnOk r A → OnOk r B

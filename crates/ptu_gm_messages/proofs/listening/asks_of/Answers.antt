@@ -1,5 +1,4 @@
-use Rattle.std.proofs.Common.{w8, sym, ◌∙◌}
-use Rattle.std.proofs.Math.Facts.{Fits-lt-pow}
+use Rattle.std.proofs.{Common.{w8, sym, ◌∙◌}, Math.Facts.{Fits-lt-pow}}
 use Rattle.ptu_gm_messages.proofs.Hearing.{AreFoundAnswerable, answer_answerable, answer_found, answer_memory, answerable_items, items_in-fault, items_in-message, no_memory}
 use Rattle.ptu_gm_messages.proofs.listening.asks_of.Goals as goal
 

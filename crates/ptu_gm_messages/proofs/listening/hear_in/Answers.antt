@@ -1,5 +1,4 @@
-use Rattle.std.proofs.Common.{w8, sym, ◌∙◌}
-use Rattle.std.proofs.Math.Facts.{Fits-lt-pow}
+use Rattle.std.proofs.{Common.{w8, sym, ◌∙◌}, Math.Facts.{Fits-lt-pow}}
 use Rattle.ptu_gm_messages.proofs.Hearing.{IsFoundAnswerable, answer_answerable, answer_found, answer_memory, answerable_heard, heard_in-fault, heard_in-message, no_memory}
 use Rattle.ptu_gm_messages.proofs.listening.hear_in.Goals as goal
 

@@ -1,7 +1,5 @@
 use Rattle.std.proofs.Common.{◌∙◌, rules}
-use Rattle.std.specs.Prelude.{slice_index}
-use Rattle.std.specs.Int.{w64}
-use Rattle.std.specs.Int.RustNames.{FitsSigned}
+use Rattle.std.specs.{Prelude.{slice_index}, Int.{w64}, Int.RustNames.{FitsSigned}}
 use Rattle.std.proofs.lemmas.Int.{to_z-of_z}
 use Rattle.ptu_header.proofs.reading.kept_fields.Goals as goal
 

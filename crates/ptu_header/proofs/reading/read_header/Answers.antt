@@ -1,5 +1,4 @@
-use Rattle.std.proofs.Common.{sym}
-use Rattle.std.proofs.lemmas.Result.{err_from_is_err_and}
+use Rattle.std.proofs.{Common.{sym}, lemmas.Result.{err_from_is_err_and}}
 use Rattle.ptu_header.proofs.Readings.{header_in-spelled, header_in-faulty}
 use Rattle.ptu_header.proofs.reading.read_header.Goals as goal
 

@@ -4,10 +4,8 @@ use Rattle.ptu_history.specs.Moments.{book_moment, table_moment}
 use Rattle.ptu_history.specs.Live.{last_decision, live, live_grants, standing}
 use Rattle.ptu_history.specs.Runs.{chain, sent_in_chain, sequence_number}
 use Rattle.ptu_history.specs.Lawful.{earliest, last_period, lawful}
-use Rattle.ptu_history.specs.Verdict.{others, own_rate, table_rates, verdict}
-use Rattle.ptu_history.specs.Counts.{counts}
-use Rattle.ptu_history.specs.Turns.{due_grants}
-use Rattle.ptu_history.specs.Shedding.{shed_grants, shed_order}
+use Rattle.ptu_history.specs.{Verdict.{others, own_rate, table_rates, verdict}, Counts.{counts}}
+use Rattle.ptu_history.specs.{Turns.{due_grants}, Shedding.{shed_grants, shed_order}}
 use Rattle.ptu_history.specs.Step.{delay_answer}
 use Rattle.ptu_history.specs.Core.{book_step_moment, core_history, history_after, core_outcomes, outcomes_after, table_step_moment}
 use Rattle.ptu_history.specs.Held.{budget, count, force, held, payments, payments_after, terms}

@@ -1,6 +1,5 @@
 use Rattle.std.proofs.Common.{◌∷◌, map, refl}
-use Rattle.ptu_history.specs.History.{Looked}
-use Rattle.ptu_history.specs.Turns.{due_grants, sends, sent_record}
+use Rattle.ptu_history.specs.{History.{Looked}, Turns.{due_grants, sends, sent_record}}
 use Rattle.ptu_history.proofs.AfterSteps.{capacity_in_force-quiet, chain-looked, due_of, earliest-turn, last_decision-looked, last_period-looked, live-looked, root-looked, sent_unchanged, sent_undecided, sequence_number-looked, standing-quiet}
 use Rattle.ptu_history.proofs.Orders.{due_grants-distinct}
 use Rattle.ptu_history.proofs.laws.after_turn.Goals as goal

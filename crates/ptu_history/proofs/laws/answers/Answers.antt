@@ -1,5 +1,4 @@
-use Rattle.std.proofs.Common.{◌∙◌, refl, ap}
-use Rattle.std.proofs.lemmas.Bool.{le-ltb, lt-ltb}
+use Rattle.std.proofs.{Common.{◌∙◌, refl, ap}, lemmas.Bool.{le-ltb, lt-ltb}}
 use Rattle.ptu_history.specs.Events.{Cancelled, Responded}
 use Rattle.ptu_history.proofs.AfterSteps.{answer-early, answer-lawful, answer-none, live-last}
 use Rattle.ptu_history.proofs.laws.answers.Goals as goal

@@ -1,7 +1,5 @@
 use Rattle.std.proofs.Common.{◌∙◌, ◌++◌, ap}
-use Rattle.ptu_history.specs.Turns.{due_grants}
-use Rattle.ptu_history.specs.Shedding.{shed_grants}
-use Rattle.ptu_history.specs.Step.{verdict_records}
+use Rattle.ptu_history.specs.{Turns.{due_grants}, Shedding.{shed_grants}, Step.{verdict_records}}
 use Rattle.ptu_history.specs.Counts.{counts}
 use Rattle.ptu_history.proofs.Counts.{counts-asked, counts-empty, counts-ended, counts-granted, counts-nothing, counts-sent, counts-shed, counts-short}
 use Rattle.ptu_history.proofs.laws.counting.Goals as goal

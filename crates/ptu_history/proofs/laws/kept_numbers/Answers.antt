@@ -1,6 +1,5 @@
 use Rattle.std.proofs.Common.{◌≡◌, ℕ, [], refl}
-use Rattle.ptu_history.specs.History.{capacity_in_force}
-use Rattle.ptu_history.specs.Moments.{book_moment, table_moment}
+use Rattle.ptu_history.specs.{History.{capacity_in_force}, Moments.{book_moment, table_moment}}
 use Rattle.ptu_history.proofs.Capacities.{budget-same, capacity_in_force-changed, capacity_in_force-unchanged}
 use Rattle.ptu_history.proofs.Moments.{book_moment-push, table_moment-push}
 use Rattle.ptu_history.proofs.laws.kept_numbers.Goals as goal

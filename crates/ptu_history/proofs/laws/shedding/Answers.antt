@@ -1,8 +1,6 @@
 use Rattle.std.proofs.Common.{ℕ, ◌≡◌, ◌≤◌, ◌++◌, List, length}
 use Rattle.std.specs.List.Sorted.{IsPermutation, IsSorted}
-use Rattle.ptu_history.specs.History.{Record}
-use Rattle.ptu_history.specs.Live.{Grant, live_grants}
-use Rattle.ptu_history.specs.Verdict.{rate_sum}
+use Rattle.ptu_history.specs.{History.{Record}, Live.{Grant, live_grants}, Verdict.{rate_sum}}
 use Rattle.ptu_history.specs.Shedding.{shed_cmp, shed_grants, shed_order}
 use Rattle.ptu_history.proofs.Order.{IsAsymmetric-total, IsPermutation-in_order, IsSorted-in_order, shed_cmp-total, shed_prefix-rest, shed_prefix-shortest}
 use Rattle.ptu_history.proofs.Orders.{shed_order-distinct, shed_order-members, shed_order-only}

@@ -1,8 +1,6 @@
 use Rattle.std.proofs.Common.{ℕ, List}
-use Rattle.std.specs.List.{filter}
-use Rattle.std.specs.List.Sorted.{IsPermutation, IsSorted}
-use Rattle.ptu_history.specs.History.{Record}
-use Rattle.ptu_history.specs.Live.{live_grants}
+use Rattle.std.specs.{List.{filter}, List.Sorted.{IsPermutation, IsSorted}}
+use Rattle.ptu_history.specs.{History.{Record}, Live.{live_grants}}
 use Rattle.ptu_history.specs.Turns.{due_grants, is_due, turn_cmp}
 use Rattle.ptu_history.proofs.Order.{IsAsymmetric-total, IsPermutation-in_order, IsSorted-in_order, turn_cmp-total}
 use Rattle.ptu_history.proofs.Orders.{due_grants-distinct, due_grants-members, due_grants-only, is_due-parts}

@@ -1,5 +1,4 @@
-use Rattle.std.proofs.Common.{◌∙◌, true, arith, length-set}
-use Rattle.std.proofs.lemmas.List.Edits.{fill_by_more}
+use Rattle.std.proofs.{Common.{◌∙◌, true, arith, length-set}, lemmas.List.Edits.{fill_by_more}}
 use Rattle.ptu_judges.specs.Shifting.{shifted}
 use Rattle.ptu_judges.proofs.Shifting.{marks_up_is}
 use Rattle.ptu_judges.proofs.gap_judge.moved_up.Goals as goal

@@ -1,8 +1,7 @@
 use Rattle.std.proofs.Common.{◌∙◌, length, map, refl, ap}
 use Rattle.ptu_report.proofs.Answered.{answers_also, fails_also, run_through_by}
 use Rattle.ptu_world.specs.Report.{course_opening, rules}
-use Rattle.ptu_world.proofs.Counting.{granted_within, short_within}
-use Rattle.ptu_world.proofs.Reported.{texts_of_rules}
+use Rattle.ptu_world.proofs.{Counting.{granted_within, short_within}, Reported.{texts_of_rules}}
 use Rattle.ptu_slave.specs.Seen.{seen}
 use Rattle.ptu_lab.specs.Steps.{stock_of}
 use Rattle.ptu_lab.proofs.LabReplaying.{has_replayed, numbers_told, replayed}

@@ -1,7 +1,6 @@
 use Rattle.std.proofs.Common.{ap}
 use Rattle.ptu_slave.specs.Seen.{Seen}
-use Rattle.ptu_lab.proofs.Room.{room_made}
-use Rattle.ptu_lab.proofs.SlaveEvents.{on_ok_both}
+use Rattle.ptu_lab.proofs.{Room.{room_made}, SlaveEvents.{on_ok_both}}
 use Rattle.ptu_lab.proofs.slave_node.make_room.Goals as goal
 
 pub returns-clause-room : goal.returns-clause-room

@@ -2,8 +2,7 @@ use Rattle.std.proofs.Common.{ap, arith, length, refl, subst}
 use Rattle.ptu_outside.proofs.HandsOver.{hands_surely, hands_whole}
 use Rattle.ptu_slave.specs.Seen.{Seen, seen}
 use Rattle.ptu_lab.specs.SlaveStatements.{IsOfOne}
-use Rattle.ptu_lab.proofs.LabNodes.{ok_also}
-use Rattle.ptu_lab.proofs.Room.{roomed}
+use Rattle.ptu_lab.proofs.{LabNodes.{ok_also}, Room.{roomed}}
 use Rattle.ptu_lab.proofs.SlaveHearing.{answer_within, datagram_stepped, heard_datagram, of_answer, where_answered}
 use Rattle.ptu_lab.proofs.SlaveSends.{sure_answer}
 use Rattle.ptu_lab.proofs.slave_node.take.Goals as goal

@@ -1,5 +1,4 @@
-use Rattle.std.proofs.Common.{◌≡◌, ◌++◌, List, [], ◌∷◌, take, sym, subst}
-use Rattle.std.proofs.lemmas.List.{take_more}
+use Rattle.std.proofs.{Common.{◌≡◌, ◌++◌, List, [], ◌∷◌, take, sym, subst}, lemmas.List.{take_more}}
 use Rattle.ptu_gm_messages.specs.declared.item.Item.{Item}
 use Rattle.ptu_lanes.proofs.Items.{Decided, none_decided, one_more, room_left}
 use Rattle.ptu_lanes.proofs.answering.answer_items.Goals as goal

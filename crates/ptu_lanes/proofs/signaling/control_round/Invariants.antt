@@ -1,6 +1,5 @@
 use Rattle.std.proofs.Common.{◌≡◌, ◌≤◌, List, length}
-use Rattle.ptu_lanes.specs.Rounds.{Exchange, HasServed}
-use Rattle.ptu_lanes.specs.Waiting.{PassedBy}
+use Rattle.ptu_lanes.specs.{Rounds.{Exchange, HasServed}, Waiting.{PassedBy}}
 use Rattle.ptu_lanes.proofs.signaling.control_round.Given as goal
 
 abbrev pub invariant-loop-i : goal.invariant-loop-i

@@ -1,16 +1,12 @@
 use Rattle.std.proofs.Common.{◌≡◌, ◌≤◌, ◌∙◌, ◌*◌, List, [], ◌∷◌, ap, arith, pos, refl, sym}
-use Rattle.std.proofs.lemmas.Bool.{false≢true}
-use Rattle.std.proofs.lemmas.Int.{ints}
-use Rattle.ptu_units.specs.declared.kind.Kind.TheVariants.{Sync}
-use Rattle.ptu_units.specs.Log.{IsLogOf}
+use Rattle.std.proofs.lemmas.{Bool.{false≢true}, Int.{ints}}
+use Rattle.ptu_units.specs.{declared.kind.Kind.TheVariants.{Sync}, Log.{IsLogOf}}
 use Rattle.ptu_history.specs.History.{Record, Granted, Ended, Capacity, Sent, capacity_in_force, lease_records}
 use Rattle.ptu_history.specs.Moments.{book_moment, table_moment}
 use Rattle.ptu_history.specs.Live.{last_decision, live, live_grants, standing}
 use Rattle.ptu_history.specs.Runs.{chain, sent_in_chain, sequence_number}
-use Rattle.ptu_history.specs.Lawful.{earliest, last_period, lawful}
-use Rattle.ptu_history.specs.Verdict.{others, verdict}
-use Rattle.ptu_history.specs.Turns.{due_grants}
-use Rattle.ptu_history.specs.Shedding.{shed_grants, shed_order}
+use Rattle.ptu_history.specs.{Lawful.{earliest, last_period, lawful}, Verdict.{others, verdict}}
+use Rattle.ptu_history.specs.{Turns.{due_grants}, Shedding.{shed_grants, shed_order}}
 use Rattle.ptu_history.specs.Step.{delay_answer}
 use Rattle.ptu_history.specs.Core.{book_step_moment, core_history, history_after, table_step_moment}
 use Rattle.ptu_history.specs.Held.{budget, count, force, held, terms}

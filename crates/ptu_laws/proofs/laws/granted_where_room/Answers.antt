@@ -1,5 +1,4 @@
-use Rattle.ptu_history.specs.Events.{Request}
-use Rattle.ptu_history.specs.Core.{core_moment, core_history}
+use Rattle.ptu_history.specs.{Events.{Request}, Core.{core_moment, core_history}}
 use Rattle.ptu_laws.proofs.Verdicts.{granted_where_room, outcome-at, short_where_no_room}
 use Rattle.ptu_laws.proofs.laws.granted_where_room.Goals as goal
 

@@ -1,6 +1,5 @@
 use Rattle.ptu_history.specs.Core.{core_history}
-use Rattle.ptu_laws.proofs.Stands.{sent-due, sent-live, sound-core}
-use Rattle.ptu_laws.proofs.Timely.{sent-inside}
+use Rattle.ptu_laws.proofs.{Stands.{sent-due, sent-live, sound-core}, Timely.{sent-inside}}
 use Rattle.ptu_laws.proofs.laws.messages_inside_grants.Goals as goal
 
 pub returns : goal.returns

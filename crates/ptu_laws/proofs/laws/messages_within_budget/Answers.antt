@@ -1,5 +1,4 @@
-use Rattle.ptu_laws.proofs.Budget.{count-constant, count-within}
-use Rattle.ptu_laws.proofs.Bounds.{count-up_to, sent-up_to}
+use Rattle.ptu_laws.proofs.{Budget.{count-constant, count-within}, Bounds.{count-up_to, sent-up_to}}
 use Rattle.ptu_laws.proofs.laws.messages_within_budget.Goals as goal
 
 pub returns : goal.returns

@@ -1,6 +1,5 @@
 use Rattle.std.proofs.Common.{[]}
-use Rattle.ptu_laws.proofs.Budget.{count-sound}
-use Rattle.ptu_laws.proofs.Capacity.{held-sound}
+use Rattle.ptu_laws.proofs.{Budget.{count-sound}, Capacity.{held-sound}}
 use Rattle.ptu_laws.proofs.Payments.{message-paid, payments-apart, payments-paid}
 use Rattle.ptu_laws.proofs.Stands.{follow-stand, sent-due, sent-live, sound-change, sound-core, sound-from, sound-one_more, stand-from}
 use Rattle.ptu_laws.proofs.laws.sound_histories.Goals as goal

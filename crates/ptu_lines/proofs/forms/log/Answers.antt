@@ -1,6 +1,5 @@
 use Rattle.std.proofs.Common.{rules, ◌≡◌, sym, ◌∙◌, ap, pos, negsuc}
-use Rattle.std.specs.Int.Signed.{◌≤ℤ◌}
-use Rattle.std.specs.Option.{option_and_then}
+use Rattle.std.specs.{Int.Signed.{◌≤ℤ◌}, Option.{option_and_then}}
 use Rattle.ptu_lines.specs.Words.{int_within, log_of}
 use Rattle.ptu_lines.proofs.Logs.{narrower}
 use Rattle.ptu_lines.proofs.forms.log.Goals as goal

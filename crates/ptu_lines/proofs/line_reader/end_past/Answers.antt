@@ -1,10 +1,8 @@
 use Rattle.std.proofs.Common.{◌≡◌, ℕ, ◌+◌, ◌≤◌, min, List, Option, Some, None, length, take, sym, ap, refl, ◌∙◌}
-use Rattle.std.specs.List.{position, slice_range}
-use Rattle.std.specs.Option.{option_map}
+use Rattle.std.specs.{List.{position, slice_range}, Option.{option_map}}
 use Rattle.std.proofs.lemmas.List.{length-take-le}
 use Rattle.ptu_lines.specs.Script.{is_end}
-use Rattle.ptu_lines.proofs.Ranges.{take-range-split}
-use Rattle.ptu_lines.proofs.Cutting.{position-past}
+use Rattle.ptu_lines.proofs.{Ranges.{take-range-split}, Cutting.{position-past}}
 use Rattle.ptu_lines.proofs.line_reader.end_past.Goals as goal
 
 -- the first 0A of the front, by what a search past the part that has none finds

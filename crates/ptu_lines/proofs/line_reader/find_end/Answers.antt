@@ -1,7 +1,6 @@
 use Rattle.std.proofs.Common.{rules, ◌≡◌, ◌+◌, ◌≤◌, ◌++◌, None, length, take, ap, sym, refl, ◌∙◌, arith}
 use Rattle.std.specs.List.{position}
-use Rattle.std.proofs.lemmas.List.{take_at, take_all, length-append}
-use Rattle.std.proofs.lemmas.Result.{err_from_is_err_and}
+use Rattle.std.proofs.lemmas.{List.{take_at, take_all, length-append}, Result.{err_from_is_err_and}}
 use Rattle.ptu_lines.specs.Script.{is_end}
 use Rattle.ptu_lines.proofs.HasRead.{told-more, waiting-more}
 use Rattle.ptu_lines.proofs.line_reader.find_end.Goals as goal

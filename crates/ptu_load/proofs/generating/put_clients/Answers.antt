@@ -1,6 +1,5 @@
 use Rattle.std.proofs.Common.{◌≡◌, ◌∙◌, ℕ, arith, ◌∷◌, [], ap, sym, subst, map, add-one}
-use Rattle.std.proofs.lemmas.List.{map-append}
-use Rattle.std.proofs.lemmas.Result.{err_from_is_err_and}
+use Rattle.std.proofs.lemmas.{List.{map-append}, Result.{err_from_is_err_and}}
 use Rattle.ptu_outside.specs.Handing.{HasPut, HasPutPart}
 use Rattle.ptu_load.specs.Generated.{ask_line, client_text, log_by, number_after, request_of, x_at}
 use Rattle.ptu_load.proofs.Writing.{wrote_more, wrote_part}

@@ -1,5 +1,4 @@
-use Rattle.std.proofs.Common.{◌∙◌, arith, ◌*◌, map}
-use Rattle.std.proofs.lemmas.List.{map-append}
+use Rattle.std.proofs.{Common.{◌∙◌, arith, ◌*◌, map}, lemmas.List.{map-append}}
 use Rattle.std.proofs.lemmas.Result.{err_from_is_err_and}
 use Rattle.ptu_load.specs.Generated.{turn_text}
 use Rattle.ptu_load.proofs.Writing.{wrote_more, wrote_part}

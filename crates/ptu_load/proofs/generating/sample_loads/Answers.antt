@@ -1,7 +1,6 @@
 use Rattle.std.proofs.Common.{◌∙◌, ◌+◌, suc, refl, ap, arith}
 use Rattle.std.specs.Fmt.{digits}
-use Rattle.std.proofs.lemmas.List.{length-append}
-use Rattle.std.proofs.lemmas.List.FromFn.{length-map-range_with_len}
+use Rattle.std.proofs.lemmas.{List.{length-append}, List.FromFn.{length-map-range_with_len}}
 use Rattle.hex.specs.Hex.{encode_with}
 use Rattle.ptu_load.specs.Generated.{ask_line, ask_lines, request_of, turn_lines}
 use Rattle.ptu_load.proofs.generating.sample_loads.Goals as goal

@@ -1,5 +1,4 @@
-use Rattle.std.proofs.Common.{◌≤◌, length, map, take, ap, ◌∙◌, arith}
-use Rattle.std.proofs.lemmas.List.{length-take}
+use Rattle.std.proofs.{Common.{◌≤◌, length, map, take, ap, ◌∙◌, arith}, lemmas.List.{length-take}}
 use Rattle.ptu_messages.proofs.Frames.{IsPut-none, IsPut-value, IsPut-length, IsPut-all, value_sendable}
 use Rattle.ptu_messages.proofs.signaling.put_tlvs.Goals as goal
 

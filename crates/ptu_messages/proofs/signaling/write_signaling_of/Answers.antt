@@ -1,5 +1,4 @@
-use Rattle.std.proofs.Common.{map, arith}
-use Rattle.std.proofs.lemmas.List.{length-map}
+use Rattle.std.proofs.{Common.{map, arith}, lemmas.List.{length-map}}
 use Rattle.ptu_messages.proofs.Frames.{written}
 use Rattle.ptu_messages.proofs.signaling.write_signaling_of.Goals as goal
 

@@ -1,6 +1,5 @@
 use Rattle.std.proofs.Common.{◌≡◌, map, take}
-use Rattle.ptu_nodes.specs.GrandmasterStatements.{shed_seen}
-use Rattle.ptu_nodes.specs.Noted.{with_said}
+use Rattle.ptu_nodes.specs.{GrandmasterStatements.{shed_seen}, Noted.{with_said}}
 use Rattle.ptu_nodes.proofs.grandmaster_statements.say_shed.Given as goal
 
 abbrev pub invariant-loop-grant : goal.invariant-loop-grant

@@ -1,6 +1,5 @@
 use Rattle.std.proofs.Common.{◌<◌, length, drop, arith, refl, ◌∙◌}
-use Rattle.std.proofs.lemmas.List.{take_rest, length-drop}
-use Rattle.std.proofs.lemmas.Result.{err_from_is_err_and}
+use Rattle.std.proofs.lemmas.{List.{take_rest, length-drop}, Result.{err_from_is_err_and}}
 use Rattle.ptu_outside.proofs.Putting.{IsPutting-start, IsPutting-more, IsPutting-end, IsPutting-failed}
 use Rattle.ptu_outside.proofs.sink.write_whole.Goals as goal
 

@@ -1,5 +1,4 @@
-use Rattle.std.proofs.Common.{refl}
-use Rattle.std.proofs.lemmas.Result.{on_ok_weaker}
+use Rattle.std.proofs.{Common.{refl}, lemmas.Result.{on_ok_weaker}}
 use Rattle.ptu_nodes.specs.Standing.{config_of}
 use Rattle.ptu_pool_run.proofs.Happening.{came_happened, on_ok_five, stranger_came}
 use Rattle.ptu_pool_run.proofs.events.receive.Goals.{in-Stranger, in-In}

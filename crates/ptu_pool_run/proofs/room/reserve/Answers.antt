@@ -1,6 +1,5 @@
 use Rattle.std.proofs.Common.{◌≡◌, ◌+◌, ◌≤◌, refl, sym, ap, length, List, Some, slice_get, subst}
-use Rattle.ptu_outside.specs.Departure.{Departure}
-use Rattle.ptu_outside.specs.MemoryPort.{MemoryPort, octets_of}
+use Rattle.ptu_outside.specs.{Departure.{Departure}, MemoryPort.{MemoryPort, octets_of}}
 use Rattle.ptu_grandmaster.specs.Gm.{KeptGm}
 use Rattle.ptu_nodes.specs.GrandmasterPorts.{HasRoom}
 use Rattle.ptu_pool_run.proofs.Lent.{lent_is, on_ok_two, port_left, still_idle, still_sure}

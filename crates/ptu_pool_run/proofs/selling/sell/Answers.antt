@@ -1,10 +1,8 @@
 use Rattle.std.proofs.Common.{rules, arith, ◌≡◌, ◌∙◌, ◌++◌, ◌∷◌, [], ap, subst}
-use Rattle.ptu_pools.specs.Refusal.{Share}
-use Rattle.ptu_pools.specs.Standing.{StandFor}
+use Rattle.ptu_pools.specs.{Refusal.{Share}, Standing.{StandFor}}
 use Rattle.ptu_pools.specs.declared.fault.PoolsFault.TheVariants.{OutOfMemory}
 use Rattle.ptu_profile.specs.declared.grandmaster.GmConfig.{GmConfig}
-use Rattle.ptu_pool_run.proofs.Idle.{sold_fresh}
-use Rattle.ptu_pool_run.proofs.Sold.{cause_of_fault, refused_so}
+use Rattle.ptu_pool_run.proofs.{Idle.{sold_fresh}, Sold.{cause_of_fault, refused_so}}
 use Rattle.ptu_pool_run.proofs.selling.sell.Goals as goal
 
 pub returns-in-Err-Overlap-clause-refused : goal.returns-in-Err-Overlap-clause-refused

@@ -1,5 +1,4 @@
-use Rattle.ptu_pools.proofs.Alone.{others_left_out, same_own, same_pool}
-use Rattle.ptu_pools.proofs.Places.{one_place}
+use Rattle.ptu_pools.proofs.{Alone.{others_left_out, same_own, same_pool}, Places.{one_place}}
 use Rattle.ptu_pools.proofs.laws.pools_stand_apart.Goals as goal
 
 pub returns : goal.returns

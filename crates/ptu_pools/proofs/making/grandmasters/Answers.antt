@@ -1,8 +1,7 @@
 use Rattle.std.proofs.Common.{◌≡◌, ◌∙◌, ◌++◌, ◌∷◌, [], refl, sym, ap, arith, length, length-append, slice_get}
 use Rattle.std.specs.Vec.Iter.{into_iter_items}
 use Rattle.std.proofs.lemmas.Option.{slice_get-get_or}
-use Rattle.ptu_pools.specs.declared.pool.Pool.{Pool}
-use Rattle.ptu_pools.specs.Standing.{ports_of_all}
+use Rattle.ptu_pools.specs.{declared.pool.Pool.{Pool}, Standing.{ports_of_all}}
 use Rattle.ptu_pools.proofs.Fresh.{at_some, five_are, fresh-push, ports-push, rest_long, rest_none}
 use Rattle.ptu_pools.proofs.making.grandmasters.Goals as goal
 

@@ -1,7 +1,6 @@
 use Rattle.std.proofs.Common.{◌≡◌, ◌++◌, length}
 use Rattle.std.specs.Vec.Iter.{into_iter_items}
-use Rattle.ptu_pools.specs.Making.{AreFresh}
-use Rattle.ptu_pools.specs.Standing.{ports_of_all}
+use Rattle.ptu_pools.specs.{Making.{AreFresh}, Standing.{ports_of_all}}
 use Rattle.ptu_pools.proofs.making.grandmasters.Given as goal
 
 abbrev pub invariant-loop-pool : goal.invariant-loop-pool

@@ -1,5 +1,4 @@
-use Rattle.ptu_record.specs.Record.{Granted, Denied, Cancelled}
-use Rattle.ptu_record.specs.Asks.{refusal_moment}
+use Rattle.ptu_record.specs.{Record.{Granted, Denied, Cancelled}, Asks.{refusal_moment}}
 use Rattle.ptu_record.proofs.ListLaws.{last-filter_map}
 use Rattle.ptu_record.proofs.Requests.{is_kind-self, answered_none, open_asks-push, asked_more, count_more, last_ask_more, gates_kept, second_after_ask, minute_after_third, minute_after_denial, minute_after_cancel, half_of_grant}
 use Rattle.ptu_record.specs.Asks.{gates}

@@ -1,5 +1,4 @@
-use Rattle.ptu_record.proofs.Requests.{stopped_everywhere}
-use Rattle.ptu_record.proofs.Others.{requests_one}
+use Rattle.ptu_record.proofs.{Requests.{stopped_everywhere}, Others.{requests_one}}
 use Rattle.ptu_record.proofs.laws.records.Goals as goal
 
 pub returns-clause-requests_concern_one : goal.returns-clause-requests_concern_one

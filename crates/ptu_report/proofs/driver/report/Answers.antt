@@ -2,8 +2,7 @@ use Rattle.std.proofs.Common.{rules, ◌≡◌, ◌∙◌, true, false, Err, ref
 use Rattle.std.proofs.lemmas.Result.{err_from_is_err_and}
 use Rattle.ptu_outside.proofs.Putting.{HasPutPart-none}
 use Rattle.ptu_lines.proofs.Giving.{Gives-append, Gives-none}
-use Rattle.ptu_report.specs.declared.stop.Stop.TheVariants.{Read}
-use Rattle.ptu_report.specs.Reported.{HasReportedAllRead}
+use Rattle.ptu_report.specs.{declared.stop.Stop.TheVariants.{Read}, Reported.{HasReportedAllRead}}
 use Rattle.ptu_report.proofs.Underway.{Progress-start, all_read, ended, few_taken, in_part, means_last, one_more}
 use Rattle.ptu_report.proofs.driver.report.Goals as goal
 

@@ -1,12 +1,9 @@
 use Rattle.std.proofs.Common.{◌≡◌, ◌∙◌, sym, arith, true, subst}
 use Rattle.std.specs.List.{Contains}
-use Rattle.std.proofs.lemmas.Bool.{true≢false}
-use Rattle.std.proofs.lemmas.List.{length-map, take_all}
+use Rattle.std.proofs.lemmas.{Bool.{true≢false}, List.{length-map, take_all}}
 use Rattle.std.proofs.lemmas.List.Sorted.{length_permutation}
 use Rattle.ptu_history.specs.Turns.{is_turned}
-use Rattle.ptu_shard.specs.Fields.{row_of, rows_of}
-use Rattle.ptu_shard.specs.Queue.{edge_entry}
-use Rattle.ptu_shard.specs.declared.lease.Row.{Row}
+use Rattle.ptu_shard.specs.{Fields.{row_of, rows_of}, Queue.{edge_entry}, declared.lease.Row.{Row}}
 use Rattle.ptu_shard.proofs.Filling.{filled, none_within, passed}
 use Rattle.ptu_shard.proofs.queueing.fill_edges.Goals as goal
 use Rattle.ptu_shard.proofs.queueing.fill_edges.Goals.{in-Some+then-is_turned, in-Some+else-is_turned, in_default}

@@ -1,9 +1,7 @@
 use Rattle.std.proofs.Common.{◌≡◌, ◌≤◌, length, take, true}
 use Rattle.std.specs.List.{Contains}
 use Rattle.ptu_history.specs.Turns.{is_turned}
-use Rattle.ptu_shard.specs.Fields.{rows_of}
-use Rattle.ptu_shard.specs.Queue.{edge_entry}
-use Rattle.ptu_shard.specs.declared.lease.Row.{Row}
+use Rattle.ptu_shard.specs.{Fields.{rows_of}, Queue.{edge_entry}, declared.lease.Row.{Row}}
 use Rattle.ptu_shard.proofs.queueing.fill_edges.Given as goal
 
 abbrev pub invariant-loop-index : goal.invariant-loop-index

@@ -1,8 +1,6 @@
-use Rattle.std.proofs.Common.{sym, arith, subst}
-use Rattle.std.proofs.lemmas.List.{length-map, take_all}
+use Rattle.std.proofs.{Common.{sym, arith, subst}, lemmas.List.{length-map, take_all}}
 use Rattle.std.proofs.lemmas.List.Sorted.{length_permutation}
-use Rattle.ptu_shard.specs.Fields.{row_of, rows_of}
-use Rattle.ptu_shard.specs.Queue.{HasEnds, end_entry}
+use Rattle.ptu_shard.specs.{Fields.{row_of, rows_of}, Queue.{HasEnds, end_entry}}
 use Rattle.ptu_shard.specs.declared.lease.Row.{Row}
 use Rattle.ptu_shard.proofs.Filling.{filled, none_within}
 use Rattle.ptu_shard.proofs.queueing.fill_ends.Goals as goal

@@ -1,6 +1,5 @@
 use Rattle.std.proofs.Common.{◌≤◌, length, take}
-use Rattle.ptu_shard.specs.Fields.{rows_of}
-use Rattle.ptu_shard.specs.Queue.{HasEnds}
+use Rattle.ptu_shard.specs.{Fields.{rows_of}, Queue.{HasEnds}}
 use Rattle.ptu_shard.proofs.queueing.fill_ends.Given as goal
 
 abbrev pub invariant-loop-index : goal.invariant-loop-index

@@ -1,10 +1,7 @@
 use Rattle.std.proofs.Common.{◌≡◌, ◌∙◌, sym, ap, arith, Some, None, refl}
 use Rattle.ptu_history.proofs.Unique.{pairs_from_Apart}
-use Rattle.ptu_shard.specs.Fields.{rows_of}
-use Rattle.ptu_shard.specs.declared.lease.Lease.{Lease}
-use Rattle.ptu_shard.proofs.RowLists.{Differ}
-use Rattle.ptu_shard.proofs.Keyed.{apart_keys}
-use Rattle.ptu_shard.proofs.Keys.{key_eq}
+use Rattle.ptu_shard.specs.{Fields.{rows_of}, declared.lease.Lease.{Lease}}
+use Rattle.ptu_shard.proofs.{RowLists.{Differ}, Keyed.{apart_keys}, Keys.{key_eq}}
 use Rattle.ptu_shard.proofs.Ends.{left_other, left_same, live_same}
 use Rattle.ptu_shard.proofs.rows.drop_over.Goals as goal
 

@@ -1,7 +1,6 @@
 use Rattle.std.proofs.Common.{◌∙◌}
 use Rattle.ptu_shard.specs.declared.rows.Key.{Key}
-use Rattle.ptu_shard.proofs.Keyed.{found_is}
-use Rattle.ptu_shard.proofs.Keys.{key_eq}
+use Rattle.ptu_shard.proofs.{Keyed.{found_is}, Keys.{key_eq}}
 use Rattle.ptu_shard.proofs.rows.find_lease.Goals as goal
 
 pub returns : goal.returns

@@ -1,11 +1,8 @@
 use Rattle.std.proofs.Common.{◌∙◌, Some}
 use Rattle.ptu_history.proofs.Unique.{pairs_from_Apart}
-use Rattle.ptu_shard.specs.Fields.{rows_of}
-use Rattle.ptu_shard.specs.declared.rows.Key.{Key}
-use Rattle.ptu_shard.proofs.RowLists.{Differ}
-use Rattle.ptu_shard.proofs.Keyed.{apart_keys, found_is, leases_after}
-use Rattle.ptu_shard.proofs.Keys.{key_eq}
-use Rattle.ptu_shard.proofs.Members.{rows_put, share_replaced}
+use Rattle.ptu_shard.specs.{Fields.{rows_of}, declared.rows.Key.{Key}}
+use Rattle.ptu_shard.proofs.{RowLists.{Differ}, Keyed.{apart_keys, found_is, leases_after}}
+use Rattle.ptu_shard.proofs.{Keys.{key_eq}, Members.{rows_put, share_replaced}}
 use Rattle.ptu_shard.proofs.rows.put_row.Goals as goal
 
 pub returns-in-Ok-clause-rows : goal.returns-in-Ok-clause-rows

@@ -1,10 +1,7 @@
 use Rattle.std.proofs.Common.{◌≡◌, ◌∙◌, sym, ap, Some, None}
 use Rattle.ptu_units.specs.declared.kind.Kind.TheVariants.{DelayResp}
-use Rattle.ptu_shard.specs.Fields.{rows_of}
-use Rattle.ptu_shard.specs.Row.{lease_of}
-use Rattle.ptu_shard.specs.declared.rows.Key.{Key}
-use Rattle.ptu_shard.proofs.Keyed.{apart_keys, found_is, rows_written}
-use Rattle.ptu_shard.proofs.Keys.{key_eq}
+use Rattle.ptu_shard.specs.{Fields.{rows_of}, Row.{lease_of}, declared.rows.Key.{Key}}
+use Rattle.ptu_shard.proofs.{Keyed.{apart_keys, found_is, rows_written}, Keys.{key_eq}}
 use Rattle.ptu_shard.proofs.Spent.{answering_is, answering_none}
 use Rattle.ptu_shard.proofs.rows.spend_answering.Goals as goal
 

@@ -1,12 +1,8 @@
 use Rattle.std.proofs.Common.{rules, ◌≡◌, ◌∙◌, sym, ap, Some}
 use Rattle.ptu_history.proofs.Unique.{pairs_from_Apart}
-use Rattle.ptu_shard.specs.Fields.{rows_of}
-use Rattle.ptu_shard.specs.Row.{lease_of}
-use Rattle.ptu_shard.specs.declared.rows.Key.{Key}
-use Rattle.ptu_shard.proofs.RowLists.{Differ}
-use Rattle.ptu_shard.proofs.Keyed.{apart_keys, found_is, rows_written}
-use Rattle.ptu_shard.proofs.Keys.{key_eq}
-use Rattle.ptu_shard.proofs.Spent.{due_is, no_entry, none_is, same_is, spent_is}
+use Rattle.ptu_shard.specs.{Fields.{rows_of}, Row.{lease_of}, declared.rows.Key.{Key}}
+use Rattle.ptu_shard.proofs.{RowLists.{Differ}, Keyed.{apart_keys, found_is, rows_written}}
+use Rattle.ptu_shard.proofs.{Keys.{key_eq}, Spent.{due_is, no_entry, none_is, same_is, spent_is}}
 use Rattle.ptu_shard.proofs.rows.spend_due.Goals as goal
 
 pub returns-in_default : goal.returns-in_default

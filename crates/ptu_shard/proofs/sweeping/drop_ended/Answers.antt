@@ -1,10 +1,7 @@
 use Rattle.std.proofs.Common.{◌∙◌, ◌∷◌, sym, subst, arith, nat_lt}
-use Rattle.std.specs.List.{filter}
-use Rattle.std.specs.List.Sorted.{IsPermutation}
+use Rattle.std.specs.{List.{filter}, List.Sorted.{IsPermutation}}
 use Rattle.std.proofs.lemmas.List.Sorted.{IsPermutation-trans, length_permutation}
-use Rattle.ptu_shard.specs.Fields.{rows_of}
-use Rattle.ptu_shard.specs.Queue.{HasEnds}
-use Rattle.ptu_shard.specs.declared.lease.Row.{Row}
+use Rattle.ptu_shard.specs.{Fields.{rows_of}, Queue.{HasEnds}, declared.lease.Row.{Row}}
 use Rattle.ptu_shard.proofs.Ends.{all_live, end_gone}
 use Rattle.ptu_shard.proofs.sweeping.drop_ended.Goals as goal
 

@@ -1,9 +1,6 @@
 use Rattle.std.proofs.Common.{◌≡◌, ◌≤◌, length, nat_lt}
-use Rattle.std.specs.List.{filter}
-use Rattle.std.specs.List.Sorted.{IsPermutation}
-use Rattle.ptu_shard.specs.Fields.{rows_of}
-use Rattle.ptu_shard.specs.Queue.{HasEnds}
-use Rattle.ptu_shard.specs.Row.{IsDistinctByLease, share_of}
+use Rattle.std.specs.{List.{filter}, List.Sorted.{IsPermutation}}
+use Rattle.ptu_shard.specs.{Fields.{rows_of}, Queue.{HasEnds}, Row.{IsDistinctByLease, share_of}}
 use Rattle.ptu_shard.specs.declared.lease.Row.{Row}
 use Rattle.indexmap.specs.IndexMap.{spare}
 use Rattle.ptu_shard.proofs.sweeping.drop_ended.Given as goal

@@ -1,10 +1,7 @@
 use Rattle.std.proofs.Common.{rules, ◌∙◌, ◌∷◌, drop, length, sym, ap, subst, arith}
-use Rattle.std.specs.List.{AllPairs, Contains}
-use Rattle.std.specs.List.Sorted.{IsPermutation}
+use Rattle.std.specs.{List.{AllPairs, Contains}, List.Sorted.{IsPermutation}}
 use Rattle.std.proofs.lemmas.List.Sorted.{length_permutation}
-use Rattle.ptu_shard.specs.Fields.{rows_of}
-use Rattle.ptu_shard.specs.Queue.{HasEdges, edge_entry}
-use Rattle.ptu_shard.specs.Row.{is_row_of}
+use Rattle.ptu_shard.specs.{Fields.{rows_of}, Queue.{HasEdges, edge_entry}, Row.{is_row_of}}
 use Rattle.ptu_shard.specs.Turn.{due_rows, is_due_row, spent_where}
 use Rattle.ptu_shard.proofs.RowLists.{Differ}
 use Rattle.ptu_shard.proofs.Dues.{due_first, edges_after, least_first, none_due, spent_after, stale, taken_first}

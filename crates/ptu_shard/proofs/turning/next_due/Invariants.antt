@@ -1,6 +1,5 @@
 use Rattle.std.proofs.Common.{◌≡◌, ◌≤◌, length}
-use Rattle.ptu_shard.specs.Fields.{rows_of}
-use Rattle.ptu_shard.specs.Queue.{HasEdges}
+use Rattle.ptu_shard.specs.{Fields.{rows_of}, Queue.{HasEdges}}
 use Rattle.indexmap.specs.IndexMap.{spare}
 use Rattle.ptu_shard.proofs.turning.next_due.Given as goal
 

@@ -1,5 +1,4 @@
-use Rattle.std.proofs.Common.{◌∙◌, sym, arith, refl}
-use Rattle.std.proofs.lemmas.List.{length-map}
+use Rattle.std.proofs.{Common.{◌∙◌, sym, arith, refl}, lemmas.List.{length-map}}
 use Rattle.ptu_shard.specs.Fields.{row_of, rows_of}
 use Rattle.ptu_shard.proofs.Dues.{spent_nothing}
 use Rattle.ptu_shard.proofs.SoFar.{sent_more, sent_none, sent_whole, sent_within}

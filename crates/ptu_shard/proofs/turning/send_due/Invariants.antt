@@ -1,6 +1,5 @@
 use Rattle.std.proofs.Common.{◌≡◌, ◌≤◌, length}
-use Rattle.ptu_shard.specs.Fields.{rows_of}
-use Rattle.ptu_shard.specs.Queue.{HasEdges}
+use Rattle.ptu_shard.specs.{Fields.{rows_of}, Queue.{HasEdges}}
 use Rattle.ptu_shard.specs.Turn.{due_rows, is_due_row, spent_where}
 use Rattle.indexmap.specs.IndexMap.{spare}
 use Rattle.ptu_shard.proofs.SoFar.{HasSent}

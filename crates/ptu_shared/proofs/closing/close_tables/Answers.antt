@@ -1,5 +1,4 @@
-use Rattle.ptu_shared.proofs.Failing.{failed_of}
-use Rattle.ptu_shared.proofs.Shares.{same_four, swept_share}
+use Rattle.ptu_shared.proofs.{Failing.{failed_of}, Shares.{same_four, swept_share}}
 use Rattle.ptu_shared.proofs.closing.close_tables.Goals as goal
 
 pub returns-clause-counts : goal.returns-clause-counts

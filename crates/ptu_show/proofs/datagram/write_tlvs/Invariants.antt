@@ -1,7 +1,6 @@
 -- The TLVs so far were written.
 use Rattle.std.proofs.Common.{take}
-use Rattle.std.specs.Fmt.{HasWritten, IsPlainFormatter}
-use Rattle.std.specs.List.{flat_map}
+use Rattle.std.specs.{Fmt.{HasWritten, IsPlainFormatter}, List.{flat_map}}
 use Rattle.ptu_show.specs.Datagram.{tlv_text}
 use Rattle.ptu_show.proofs.datagram.write_tlvs.Given as goal
 

@@ -1,12 +1,10 @@
 use Rattle.std.proofs.Common.{◌∙◌, ◌++◌, ap, sym, subst, get_or, take, append_assoc}
 use Rattle.std.proofs.lemmas.List.{take_all, take_more}
-use Rattle.std.specs.List.{filter_map}
-use Rattle.std.specs.Option.{option_to_list}
+use Rattle.std.specs.{List.{filter_map}, Option.{option_to_list}}
 use Rattle.ptu_record.proofs.ListLaws.{filter_map-push}
 use Rattle.ptu_requester.specs.Requester.{StandsFor}
 use Rattle.ptu_units.specs.declared.kind.Kind.TheVariants.{Announce}
-use Rattle.ptu_slave_messages.specs.declared.signal.Signal.{Signal}
-use Rattle.ptu_slave_messages.specs.declared.signal.Signal.TheVariants.{Grant}
+use Rattle.ptu_slave_messages.specs.declared.signal.{Signal.{Signal}, Signal.TheVariants.{Grant}}
 use Rattle.ptu_slave.specs.Parts.{signal_entry}
 use Rattle.ptu_slave.proofs.asking.enter_each.Goals as goal
 

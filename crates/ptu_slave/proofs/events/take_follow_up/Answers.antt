@@ -1,7 +1,6 @@
 use Rattle.std.proofs.Common.{[], ◌∷◌, refl}
 use Rattle.ptu_record.specs.Record.{Event}
-use Rattle.ptu_slave.proofs.Happening.{followed_up}
-use Rattle.ptu_slave.proofs.Quiet.{selects_kept}
+use Rattle.ptu_slave.proofs.{Happening.{followed_up}, Quiet.{selects_kept}}
 use Rattle.ptu_slave.proofs.events.take_follow_up.Goals as goal
 
 pub returns : goal.returns

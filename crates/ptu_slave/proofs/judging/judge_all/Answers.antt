@@ -2,8 +2,7 @@ use Rattle.std.proofs.Common.{[], ◌∷◌, ◌++◌, ◌≡◌, ◌∙◌, len
 use Rattle.ptu_judges.specs.Calls.{WasAsked}
 use Rattle.ptu_slave.specs.Kept.{Kept}
 use Rattle.ptu_slave.proofs.Assessing.{all_judged, none_judged, one_more_judged}
-use Rattle.ptu_slave.proofs.Calling.{of_all, of_more, of_none}
-use Rattle.ptu_slave.proofs.Happening.{same_length}
+use Rattle.ptu_slave.proofs.{Calling.{of_all, of_more, of_none}, Happening.{same_length}}
 use Rattle.ptu_slave.proofs.judging.judge_all.Goals as goal
 
 pub loop-master-init : goal.loop-master-init

@@ -1,5 +1,4 @@
-use Rattle.std.proofs.Common.{subst, sym, set, ◌<◌}
-use Rattle.std.proofs.lemmas.List.{length-set}
+use Rattle.std.proofs.{Common.{subst, sym, set, ◌<◌}, lemmas.List.{length-set}}
 use Rattle.ptu_slave.proofs.Assessing.{anew_at, asked_at}
 use Rattle.ptu_judges.specs.Calls.{WasAsked}
 use Rattle.ptu_slave.proofs.Calling.{of_new}

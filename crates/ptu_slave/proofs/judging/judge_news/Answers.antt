@@ -1,7 +1,6 @@
 use Rattle.std.proofs.Common.{[], ◌∷◌, ◌++◌}
 use Rattle.ptu_slave.specs.Parts.{news_entry}
-use Rattle.ptu_slave.proofs.Assessing.{judged_at, news_of}
-use Rattle.ptu_slave.proofs.Calling.{of_one}
+use Rattle.ptu_slave.proofs.{Assessing.{judged_at, news_of}, Calling.{of_one}}
 use Rattle.ptu_slave.proofs.judging.judge_news.Goals as goal
 
 pub returns-clause-judged : goal.returns-clause-judged

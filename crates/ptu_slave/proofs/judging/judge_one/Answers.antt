@@ -1,5 +1,4 @@
-use Rattle.ptu_slave.proofs.Assessing.{asked_at}
-use Rattle.ptu_slave.proofs.Calling.{of_one}
+use Rattle.ptu_slave.proofs.{Assessing.{asked_at}, Calling.{of_one}}
 use Rattle.ptu_slave.proofs.judging.judge_one.Goals as goal
 
 pub returns-clause-asked : goal.returns-clause-asked

@@ -1,8 +1,7 @@
 use Rattle.std.proofs.Common.{[], ◌∷◌, ◌++◌, ◌+◌, ◌∙◌, map}
 use Rattle.ptu_slave_daemon.specs.Happenings.{Ticks, arrive, record_after}
 use Rattle.ptu_slave_daemon.proofs.Arrived.{counted_round, round_later, took_append}
-use Rattle.ptu_slave_daemon.proofs.Ports.{not_fallen_append}
-use Rattle.ptu_slave_daemon.proofs.Runs.{ran_append}
+use Rattle.ptu_slave_daemon.proofs.{Ports.{not_fallen_append}, Runs.{ran_append}}
 use Rattle.ptu_slave_daemon.proofs.rounds.happen.Goals as goal
 
 pub returns-clause-ran : goal.returns-clause-ran

@@ -6,10 +6,8 @@ use Rattle.ptu_outside.proofs.Putting.{HasPutPart-append}
 use Rattle.ptu_slave_daemon.specs.declared.line.SlaveLine.TheVariants.{Closing}
 use Rattle.ptu_slave_daemon.specs.Happenings.{record_after}
 use Rattle.ptu_slave_daemon.specs.Lines.{changes, line_text, selected_line, texts_of}
-use Rattle.ptu_slave_daemon.specs.declared.halt.Halt.{Halt}
-use Rattle.ptu_slave_daemon.specs.declared.halt.Halt.TheVariants.{Write}
-use Rattle.ptu_slave_daemon.proofs.Fronts.{front_rounds, front_run, of_err}
-use Rattle.ptu_slave_daemon.proofs.OneRound.{done_run}
+use Rattle.ptu_slave_daemon.specs.declared.halt.{Halt.{Halt}, Halt.TheVariants.{Write}}
+use Rattle.ptu_slave_daemon.proofs.{Fronts.{front_rounds, front_run, of_err}, OneRound.{done_run}}
 use Rattle.ptu_slave_daemon.proofs.Written.{part_behind, put_behind}
 use Rattle.ptu_slave_daemon.proofs.rounds.run.Goals as goal
 

@@ -2,8 +2,7 @@ use Rattle.std.proofs.Common.{[], ◌∷◌, ◌++◌, ◌+◌, ◌≡◌, ◌�
 use Rattle.std.proofs.lemmas.Result.{err_from_is_err_and}
 use Rattle.ptu_outside.proofs.Putting.{HasPut-none, HasPutPart-whole}
 use Rattle.ptu_slave_daemon.specs.declared.counts.Counts.{Counts}
-use Rattle.ptu_slave_daemon.specs.Happenings.{Selection, record_after}
-use Rattle.ptu_slave_daemon.specs.Lines.{changes}
+use Rattle.ptu_slave_daemon.specs.{Happenings.{Selection, record_after}, Lines.{changes}}
 use Rattle.ptu_slave_daemon.proofs.OneRound.{done_more, done_none}
 use Rattle.ptu_slave_daemon.proofs.Written.{part_of_selection, said_after-push, selection_behind}
 use Rattle.ptu_slave_daemon.proofs.rounds.run_rounds.Goals as goal

@@ -1,8 +1,7 @@
 use Rattle.std.proofs.Common.{◌≡◌, ◌*◌, ◌^◌, ◌≤◌, List, None, map}
 use Rattle.ptu_outside.specs.Handing.{HasPut}
 use Rattle.ptu_slave.specs.Seen.{seen}
-use Rattle.ptu_slave_daemon.specs.Happenings.{Selection}
-use Rattle.ptu_slave_daemon.specs.Lines.{changes, selected_line, texts_of}
+use Rattle.ptu_slave_daemon.specs.{Happenings.{Selection}, Lines.{changes, selected_line, texts_of}}
 use Rattle.ptu_slave_daemon.specs.Running.{RoundsDone, Went}
 use Rattle.ptu_slave_daemon.proofs.Written.{said_after}
 use Rattle.ptu_slave_daemon.proofs.rounds.run_rounds.Given as goal

@@ -1,9 +1,6 @@
 use Rattle.std.proofs.Common.{[], ◌∷◌, ap}
-use Rattle.ptu_slave_daemon.specs.declared.counts.Counts.{Counts}
-use Rattle.ptu_slave_daemon.specs.Happenings.{Stops}
-use Rattle.ptu_slave_daemon.proofs.Events.{ran_stopped}
-use Rattle.ptu_slave_daemon.proofs.Ports.{port_stated}
-use Rattle.ptu_slave_daemon.proofs.Times.{timed_one}
+use Rattle.ptu_slave_daemon.specs.{declared.counts.Counts.{Counts}, Happenings.{Stops}}
+use Rattle.ptu_slave_daemon.proofs.{Events.{ran_stopped}, Ports.{port_stated}, Times.{timed_one}}
 use Rattle.ptu_slave_daemon.proofs.steps.stop.Goals as goal
 
 pub returns-clause-ran : goal.returns-clause-ran

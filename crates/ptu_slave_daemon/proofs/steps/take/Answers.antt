@@ -3,9 +3,7 @@ use Rattle.ptu_slave.specs.Seen.{Seen}
 use Rattle.ptu_outside.specs.Replies.{reply_failed, reply_sent}
 use Rattle.ptu_slave_messages.specs.Heard.{reply_in}
 use Rattle.ptu_slave_daemon.specs.Happenings.{Arrives}
-use Rattle.ptu_slave_daemon.proofs.Events.{ran_taken}
-use Rattle.ptu_slave_daemon.proofs.Ports.{port_handed}
-use Rattle.ptu_slave_daemon.proofs.Times.{timed_one}
+use Rattle.ptu_slave_daemon.proofs.{Events.{ran_taken}, Ports.{port_handed}, Times.{timed_one}}
 use Rattle.ptu_slave_daemon.proofs.steps.take.Goals as goal
 
 pub returns-clause-ran : goal.returns-clause-ran

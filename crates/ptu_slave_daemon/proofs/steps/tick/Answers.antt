@@ -1,11 +1,8 @@
 use Rattle.std.proofs.Common.{[], ◌∷◌, ap, refl}
 use Rattle.ptu_slave.specs.Seen.{Seen, seen}
-use Rattle.ptu_slave_daemon.specs.declared.counts.Counts.{Counts}
-use Rattle.ptu_slave_daemon.specs.Happenings.{Ticks}
+use Rattle.ptu_slave_daemon.specs.{declared.counts.Counts.{Counts}, Happenings.{Ticks}}
 use Rattle.ptu_slave_daemon.specs.Running.{sees}
-use Rattle.ptu_slave_daemon.proofs.Events.{ran_ticked}
-use Rattle.ptu_slave_daemon.proofs.Ports.{port_stated}
-use Rattle.ptu_slave_daemon.proofs.Runs.{ran_view}
+use Rattle.ptu_slave_daemon.proofs.{Events.{ran_ticked}, Ports.{port_stated}, Runs.{ran_view}}
 use Rattle.ptu_slave_daemon.proofs.Times.{timed_one}
 use Rattle.ptu_slave_daemon.proofs.steps.tick.Goals as goal
 

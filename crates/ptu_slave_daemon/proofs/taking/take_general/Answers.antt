@@ -1,12 +1,9 @@
 use Rattle.std.proofs.Common.{[], ◌∷◌, refl, ap, sym, subst, take}
 use Rattle.ptu_outside.specs.Telling.{IfTold, rest_told}
-use Rattle.ptu_slave.specs.Seen.{Seen}
-use Rattle.ptu_slave.specs.Seen.{seen}
-use Rattle.ptu_slave_daemon.specs.Running.{Stands, sees}
-use Rattle.ptu_slave_daemon.specs.declared.counts.Counts.{Counts}
+use Rattle.ptu_slave.specs.{Seen.{Seen}, Seen.{seen}}
+use Rattle.ptu_slave_daemon.specs.{Running.{Stands, sees}, declared.counts.Counts.{Counts}}
 use Rattle.ptu_slave_daemon.proofs.Arrived.{counted_none, none_came, none_received, one_came, took_none}
-use Rattle.ptu_slave_daemon.proofs.Ports.{failed_none, failed_once}
-use Rattle.ptu_slave_daemon.proofs.Runs.{ran_from}
+use Rattle.ptu_slave_daemon.proofs.{Ports.{failed_none, failed_once}, Runs.{ran_from}}
 use Rattle.ptu_slave_daemon.proofs.taking.take_general.Goals as goal
 
 pub returns-in_ok-take-in-Ok-Some-clause-took : goal.returns-in_ok-take-in-Ok-Some-clause-took

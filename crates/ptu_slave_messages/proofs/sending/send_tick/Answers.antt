@@ -1,5 +1,4 @@
-use Rattle.std.proofs.Common.{map}
-use Rattle.std.proofs.lemmas.List.{map-append}
+use Rattle.std.proofs.{Common.{map}, lemmas.List.{map-append}}
 use Rattle.std.specs.Option.{option_map, option_to_list}
 use Rattle.ptu_record.specs.Tick.{Requests, DelayReq, one_signaling}
 use Rattle.ptu_slave_messages.specs.Sending.{all_ones, departure_to, kinds_in}

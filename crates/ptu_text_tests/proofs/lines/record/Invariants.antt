@@ -1,5 +1,4 @@
-use Rattle.ptu_lines.specs.Lines.{reader_of, source_of}
-use Rattle.ptu_lines.specs.Reading.{AgreesOnEnd}
+use Rattle.ptu_lines.specs.{Lines.{reader_of, source_of}, Reading.{AgreesOnEnd}}
 use Rattle.ptu_text_tests.proofs.lines.record.Given as goal
 
 abbrev pub invariant-loop : goal.invariant-loop

@@ -1,7 +1,6 @@
 -- The digits of the parts so far were written; behind them come the digits of the octets that are left.
 use Rattle.std.proofs.Common.{◌≡◌, ℕ, List, ◌++◌}
-use Rattle.std.specs.Fmt.{HasWritten, IsPlainFormatter}
-use Rattle.std.specs.Slice.Iter.{chunks_rest, chunks_size}
+use Rattle.std.specs.{Fmt.{HasWritten, IsPlainFormatter}, Slice.Iter.{chunks_rest, chunks_size}}
 use Rattle.hex.specs.Hex.{encode_lower}
 use Rattle.ptu_texts.proofs.octets.write_digits.Given as goal
 

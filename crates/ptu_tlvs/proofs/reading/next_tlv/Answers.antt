@@ -1,7 +1,5 @@
-use Rattle.std.proofs.Common.{sym}
-use Rattle.std.proofs.lemmas.Result.{err_from_is_err_and}
-use Rattle.ptu_tlvs.specs.Tlv.{BeginsWithTlv}
-use Rattle.ptu_tlvs.specs.TlvFault.{HasTlvFault}
+use Rattle.std.proofs.{Common.{sym}, lemmas.Result.{err_from_is_err_and}}
+use Rattle.ptu_tlvs.specs.{Tlv.{BeginsWithTlv}, TlvFault.{HasTlvFault}}
 use Rattle.ptu_tlvs.proofs.Readings.{tlv_in-spelled, tlv_in-faulty, fault_of_first}
 use Rattle.ptu_tlvs.proofs.reading.next_tlv.Goals as goal
 

@@ -1,6 +1,5 @@
 use Rattle.std.proofs.Common.{◌≡◌, rules, take}
-use Rattle.ptu_tlvs.specs.Tlv.{HasWidths}
-use Rattle.ptu_tlvs.specs.Sent.{sent_tlv}
+use Rattle.ptu_tlvs.specs.{Tlv.{HasWidths}, Sent.{sent_tlv}}
 use Rattle.ptu_tlvs.proofs.Sending.{sent_is_read}
 use Rattle.ptu_tlvs.proofs.writing.write_tlv.Goals as goal
 

@@ -1,5 +1,4 @@
-use Rattle.ptu_laws.proofs.Budget.{count-sound}
-use Rattle.ptu_laws.proofs.Capacity.{held-sound}
+use Rattle.ptu_laws.proofs.{Budget.{count-sound}, Capacity.{held-sound}}
 use Rattle.ptu_laws.proofs.Payments.{message-paid, payments-apart, payments-paid}
 use Rattle.std.proofs.Common.{[]}
 use Rattle.ptu_laws.proofs.Stands.{follow-stand, sent-due, sent-live, stand-from}

@@ -1,6 +1,5 @@
 use Rattle.std.proofs.Common.{◌≡◌, ◌∙◌, ◌+◌, None, ap, subst}
-use Rattle.std.specs.BTreeMap.{is_at}
-use Rattle.std.specs.Map.{lookup}
+use Rattle.std.specs.{BTreeMap.{is_at}, Map.{lookup}}
 use Rattle.ptu_trail.specs.contracts.live.EndOrd.TheImpl as ends
 use Rattle.ptu_trail.specs.Live.{total_of}
 use Rattle.ptu_trail.proofs.Ends.{taken_out, taken_total}

@@ -1,8 +1,6 @@
 use Rattle.std.proofs.Common.{ℕ, List, ◌++◌, map, take}
 use Rattle.ptu_history.specs.History.{Record}
-use Rattle.ptu_trail.specs.Clients.{AreKnown}
-use Rattle.ptu_trail.specs.Faults.{record_of}
-use Rattle.ptu_trail.specs.Live.{AreLive}
+use Rattle.ptu_trail.specs.{Clients.{AreKnown}, Faults.{record_of}, Live.{AreLive}}
 use Rattle.ptu_trail.proofs.trail.drop_shed.Given as goal
 
 -- what is live after the sheddings so far

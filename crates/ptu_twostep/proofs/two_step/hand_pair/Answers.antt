@@ -2,8 +2,7 @@ use Rattle.std.proofs.Common.{◌∷◌, [], ℕ, ◌+◌, ◌*◌, List, false,
 use Rattle.ptu_octets.specs.Number.{high_nibble_at}
 use Rattle.ptu_outside.specs.declared.channel.Channel.TheVariants.{General}
 use Rattle.ptu_outside.specs.HandsOver.{HandsOver, failed_in, sent_in}
-use Rattle.ptu_twostep.proofs.Handing.{hands_both}
-use Rattle.ptu_twostep.proofs.Steps.{sync_is, flag_fits}
+use Rattle.ptu_twostep.proofs.{Handing.{hands_both}, Steps.{sync_is, flag_fits}}
 use Rattle.ptu_twostep.proofs.two_step.hand_pair.Goals as goal
 
 pub copy_from_slice-requires : goal.copy_from_slice-requires

@@ -1,5 +1,4 @@
-use Rattle.std.proofs.Common.{◌≡◌, ◌∙◌, ap, ap₂, codes, true, false}
-use Rattle.std.proofs.lemmas.Result.{IfOk-weaker}
+use Rattle.std.proofs.{Common.{◌≡◌, ◌∙◌, ap, ap₂, codes, true, false}, lemmas.Result.{IfOk-weaker}}
 use Rattle.std.specs.Prelude.{◌||◌}
 use Rattle.clap.specs.declared.builder.arg.Arg.{Arg}
 use Rattle.clap.specs.Words.{App, Rule, app_of, new_rule, rule_of, with_rule, with_subcommand}

@@ -5,19 +5,15 @@ use Rattle.ptu_header.specs.Reading.{header_in}
 use Rattle.ptu_tlvs.specs.Reading.{tlv_in}
 use Rattle.ptu_messages.specs.Reading.{tlvs_in, body_in, message_in}
 use Rattle.ptu_history.specs.Core.{table_step_moment, book_step_moment, history_after}
-use Rattle.ptu_history.specs.Counts.{counts}
-use Rattle.ptu_history.specs.History.{lease_records, capacity_in_force}
+use Rattle.ptu_history.specs.{Counts.{counts}, History.{lease_records, capacity_in_force}}
 use Rattle.ptu_history.specs.Lawful.{last_period, earliest, lawful}
 use Rattle.ptu_history.specs.Live.{last_decision, live, standing, live_grants}
 use Rattle.ptu_history.specs.Moments.{book_moment, table_moment}
 use Rattle.ptu_history.specs.Runs.{root, chain, sent_in_chain, sequence_number}
-use Rattle.ptu_history.specs.Shedding.{shed_order, shed_grants}
-use Rattle.ptu_history.specs.Step.{delay_answer}
-use Rattle.ptu_history.specs.Turns.{due_grants}
-use Rattle.ptu_history.specs.Verdict.{others, own_rate, verdict}
+use Rattle.ptu_history.specs.{Shedding.{shed_order, shed_grants}, Step.{delay_answer}}
+use Rattle.ptu_history.specs.{Turns.{due_grants}, Verdict.{others, own_rate, verdict}}
 use Rattle.ptu_messages.specs.Sent.{octets_sent}
-use Rattle.ptu_gm_messages.specs.Deciding.{placed}
-use Rattle.ptu_gm_messages.specs.Items.{items_in, heard_in}
+use Rattle.ptu_gm_messages.specs.{Deciding.{placed}, Items.{items_in, heard_in}}
 use Rattle.ptu_script.specs.Command.{grandmaster_in, slave_in, fields_in, command_of}
 use Rattle.ptu_world.specs.World.{step}
 use Rattle.ptu_world.proofs.examples.slaves.Goals as goal

@@ -1,5 +1,4 @@
-use Rattle.ptu_world.proofs.Promising.{run_keeps}
-use Rattle.ptu_world.proofs.Standing.{grandmaster_runs, messages_sent}
+use Rattle.ptu_world.proofs.{Promising.{run_keeps}, Standing.{grandmaster_runs, messages_sent}}
 use Rattle.ptu_world.proofs.promises.grandmasters.Goals as goal
 
 pub returns : goal.returns

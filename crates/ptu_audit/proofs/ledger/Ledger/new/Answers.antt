@@ -1,8 +1,6 @@
 use Rattle.std.proofs.Common.{[], nat_cmp, refl, sym, subst}
-use Rattle.std.specs.BTreeMap.{is_at}
-use Rattle.std.specs.Map.{lookup}
-use Rattle.ptu_audit.specs.Standing.{IsKept}
-use Rattle.ptu_audit.specs.Trails.{trail_of}
+use Rattle.std.specs.{BTreeMap.{is_at}, Map.{lookup}}
+use Rattle.ptu_audit.specs.{Standing.{IsKept}, Trails.{trail_of}}
 use Rattle.ptu_audit.proofs.Ledgers.{no_trail}
 use Rattle.ptu_audit.proofs.ledger.Ledger.new.Goals as goal
 

@@ -2,10 +2,8 @@ use Rattle.std.proofs.Common.{◌≡◌, ◌+◌, ◌∙◌, length, map, sym, a
 use Rattle.std.proofs.lemmas.List.{length-map}
 use Rattle.ptu_history.specs.Events as events
 use Rattle.ptu_history.specs.Turns.{due_grants, message_of}
-use Rattle.ptu_shard.specs.Messages.{departure_of}
-use Rattle.ptu_shard.specs.Turn.{due_messages}
-use Rattle.ptu_gm_messages.specs.Deciding.{opened_with}
-use Rattle.ptu_gm_messages.specs.Items.{heard_in}
+use Rattle.ptu_shard.specs.{Messages.{departure_of}, Turn.{due_messages}}
+use Rattle.ptu_gm_messages.specs.{Deciding.{opened_with}, Items.{heard_in}}
 use Rattle.ptu_grandmaster.specs.Gm.{table_at}
 use Rattle.ptu_grandmaster.proofs.Followed.{change_sent, nothing_sent, taken_sent, turn_sent}
 use Rattle.ptu_grandmaster.proofs.Heard.{history_after-none, history_after-one}

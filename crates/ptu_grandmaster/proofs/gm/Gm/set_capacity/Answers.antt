@@ -2,10 +2,8 @@ use Rattle.std.proofs.Common.{◌≡◌, ◌+◌, ◌++◌, ◌∙◌, List, ℕ
 use Rattle.std.proofs.lemmas.List.{length-map}
 use Rattle.ptu_history.specs.Core.{book_step_moment}
 use Rattle.ptu_history.specs.Events as events
-use Rattle.ptu_history.specs.Shedding.{shed_grants}
-use Rattle.ptu_history.specs.Step.{step}
-use Rattle.ptu_admit.specs.Lent.{StandFor, four, lent_as}
-use Rattle.ptu_admit.specs.Shed.{shed_of}
+use Rattle.ptu_history.specs.{Shedding.{shed_grants}, Step.{step}}
+use Rattle.ptu_admit.specs.{Lent.{StandFor, four, lent_as}, Shed.{shed_of}}
 use Rattle.ptu_admit.proofs.StepMoments.{moment-all}
 use Rattle.ptu_gm_messages.specs.Deciding.{opened_with}
 use Rattle.ptu_grandmaster.proofs.After.{after_change}

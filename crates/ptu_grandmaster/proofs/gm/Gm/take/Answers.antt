@@ -1,6 +1,5 @@
 use Rattle.std.proofs.Common.{◌≡◌, ◌∙◌, ◌++◌, List, ℕ, ap, sym, subst}
-use Rattle.ptu_history.specs.declared.client.Client.{Client}
-use Rattle.ptu_history.specs.Core.{core_step, history_after}
+use Rattle.ptu_history.specs.{declared.client.Client.{Client}, Core.{core_step, history_after}}
 use Rattle.ptu_history.specs.Events as events
 use Rattle.ptu_history.specs.History.{Record}
 use Rattle.ptu_gm_messages.specs.declared.item.Item.{Item}

@@ -2,8 +2,7 @@ use Rattle.std.proofs.Common.{◌≡◌, ◌∙◌, ap, max, [], ◌∷◌, refl
 use Rattle.ptu_admit.specs.Lent.{lent_as}
 use Rattle.ptu_history.specs.Core.{table_step_moment}
 use Rattle.ptu_shard.specs.Turn.{is_due_row}
-use Rattle.ptu_grandmaster.proofs.After.{after_turn}
-use Rattle.ptu_grandmaster.proofs.OneTable.{shares_spent, turn_on}
+use Rattle.ptu_grandmaster.proofs.{After.{after_turn}, OneTable.{shares_spent, turn_on}}
 use Rattle.ptu_grandmaster.proofs.gm.Gm.turn.Goals as goal
 
 pub invariant_of-self : goal.invariant_of-self

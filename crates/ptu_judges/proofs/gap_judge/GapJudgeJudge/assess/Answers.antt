@@ -1,6 +1,5 @@
 use Rattle.std.proofs.Common.{◌≡◌, ◌||◌, nat_le, refl}
-use Rattle.ptu_record.specs.Record.{Judged}
-use Rattle.ptu_record.specs.Marks.{clear_count}
+use Rattle.ptu_record.specs.{Record.{Judged}, Marks.{clear_count}}
 use Rattle.ptu_judges.specs.Held.{gaps_held}
 use Rattle.ptu_judges.proofs.Holding.{gaps_assessed, other_entry}
 use Rattle.ptu_judges.proofs.gap_judge.GapJudgeJudge.assess.Goals.{then-self, else-self}

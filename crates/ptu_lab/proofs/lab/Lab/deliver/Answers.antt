@@ -1,6 +1,5 @@
 use Rattle.std.proofs.Common.{◌≡◌, ◌∙◌, true, false, refl, sym, ap, rules}
-use Rattle.std.specs.Prelude.{is_some, nat_eq}
-use Rattle.std.specs.HashMap.{get}
+use Rattle.std.specs.{Prelude.{is_some, nat_eq}, HashMap.{get}}
 use Rattle.ptu_world.specs.World.{datagram_numbered}
 use Rattle.ptu_lab.proofs.LabNodes.{delivered_there, delivered_nobody, not_delivered, ok_also}
 use Rattle.ptu_lab.proofs.lab.Lab.deliver.Goals as goal

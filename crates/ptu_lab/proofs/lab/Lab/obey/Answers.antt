@@ -2,8 +2,7 @@ use Rattle.std.proofs.Common.{◌∙◌, map, ap}
 use Rattle.ptu_script.specs.declared.command.Command.TheVariants as commands
 use Rattle.ptu_slave.specs.Seen.{seen}
 use Rattle.ptu_nodes.specs.Noted.{Noted}
-use Rattle.ptu_lab.specs.Standing.{StandsFor}
-use Rattle.ptu_lab.specs.Steps.{HasStepped}
+use Rattle.ptu_lab.specs.{Standing.{StandsFor}, Steps.{HasStepped}}
 use Rattle.ptu_lab.proofs.LabNodes.{at_line}
 use Rattle.ptu_lab.proofs.lab.Lab.obey.Goals as goal
 

@@ -1,8 +1,7 @@
 use Rattle.std.proofs.Common.{◌∙◌, ◌∷◌, [], ap, subst, sym}
 use Rattle.ptu_outside.specs.MemoryPort.{MemoryPort}
 use Rattle.ptu_nodes.specs.Noted.{with_handed, with_said}
-use Rattle.ptu_slave.specs.Seen.{Seen, seen}
-use Rattle.ptu_slave.specs.Standing.{StandsFor}
+use Rattle.ptu_slave.specs.{Seen.{Seen, seen}, Standing.{StandsFor}}
 use Rattle.ptu_lab.specs.SlaveWords.{selection_by}
 use Rattle.ptu_lab.proofs.slave_node.SlaveNode.conclude.Goals as goal
 

@@ -1,5 +1,4 @@
-use Rattle.std.proofs.Common.{◌∙◌, ◌∷◌, [], ap}
-use Rattle.std.proofs.lemmas.Result.{on_ok_weaker}
+use Rattle.std.proofs.{Common.{◌∙◌, ◌∷◌, [], ap}, lemmas.Result.{on_ok_weaker}}
 use Rattle.ptu_report_lines.specs.declared.statement.Statement.TheVariants.{Selected}
 use Rattle.ptu_nodes.specs.Noted.{with_said}
 use Rattle.ptu_lab.proofs.slave_node.SlaveNode.say_selected.Goals as goal

@@ -1,5 +1,4 @@
-use Rattle.std.proofs.Common.{Some, ap}
-use Rattle.std.proofs.lemmas.Result.{on_ok_weaker}
+use Rattle.std.proofs.{Common.{Some, ap}, lemmas.Result.{on_ok_weaker}}
 use Rattle.ptu_record.specs.Step.{ReplaceJudge}
 use Rattle.ptu_slave_messages.specs.Node.{deed}
 use Rattle.ptu_slave.specs.Seen.{Seen, seen}

@@ -1,8 +1,7 @@
 use Rattle.std.proofs.Common.{◌≡◌, ◌∙◌, ◌*◌, ◌-◌, None, Some, refl, sym, arith}
 use Rattle.ptu_lanes.specs.Changing.{change_of}
 use Rattle.ptu_lanes.proofs.Controlled.{controlled_changed, exchanged_changed, exchanged_unchanged, failed_changed, failed_from, gave_more, if_ok, unchanged_controlled}
-use Rattle.ptu_lanes.proofs.Moments.{all_turned-append}
-use Rattle.ptu_lanes.proofs.Taking.{took-append}
+use Rattle.ptu_lanes.proofs.{Moments.{all_turned-append}, Taking.{took-append}}
 use Rattle.ptu_lanes.proofs.service.Service.all_rounds.Goals as goal
 
 pub returns-in_default-clause-control : goal.returns-in_default-clause-control

@@ -1,7 +1,6 @@
 use Rattle.std.proofs.Common.{rules, ◌≡◌, ◌≤◌, ◌+◌, length, take, ap, ◌∙◌}
 use Rattle.std.specs.List.{slice_range}
-use Rattle.std.proofs.lemmas.Result.{err_from_is_err_and}
-use Rattle.std.proofs.lemmas.Slice.{between_from_start}
+use Rattle.std.proofs.lemmas.{Result.{err_from_is_err_and}, Slice.{between_from_start}}
 use Rattle.ptu_lines.proofs.Ranges.{range-same, range-grow, written_over, length-range}
 use Rattle.ptu_lines.proofs.line_buffer.LineBuffer.fill.Goals.{then-self-ge-LONGEST_LINE, else-self-ge-LONGEST_LINE}
 use Rattle.ptu_lines.proofs.line_buffer.LineBuffer.fill.Goals as goal

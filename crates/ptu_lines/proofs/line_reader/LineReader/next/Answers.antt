@@ -1,9 +1,7 @@
 use Rattle.std.proofs.Common.{◌≡◌, ◌<◌, Some, None, length, take, ap, sym, ◌∙◌, arith}
-use Rattle.std.proofs.lemmas.List.{take-take}
-use Rattle.std.proofs.lemmas.Result.{err_from_is_err_and}
+use Rattle.std.proofs.lemmas.{List.{take-take}, Result.{err_from_is_err_and}}
 use Rattle.std.proofs.lemmas.List.Sums.{AllPass-from_list_all}
-use Rattle.ptu_lines.specs.Script.{is_plain, cause_of, text_of}
-use Rattle.ptu_lines.specs.Reading.{Reader, known_of}
+use Rattle.ptu_lines.specs.{Script.{is_plain, cause_of, text_of}, Reading.{Reader, known_of}}
 use Rattle.ptu_lines.proofs.Cutting.{HasNoEnd-from_position, cause_of-none}
 use Rattle.ptu_lines.proofs.NextLine.{all_given, is_given, is_refused, is_stopped}
 use Rattle.ptu_lines.proofs.line_reader.LineReader.next.Goals as goal

@@ -1,5 +1,4 @@
-use Rattle.std.proofs.Common.{arith, inr}
-use Rattle.std.proofs.lemmas.Result.{err_from_is_err_and}
+use Rattle.std.proofs.{Common.{arith, inr}, lemmas.Result.{err_from_is_err_and}}
 use Rattle.ptu_outside.proofs.Slots.{octets_of-departures}
 use Rattle.ptu_outside.proofs.mem_port.MemPort.reserve.Goals as goal
 

@@ -1,7 +1,5 @@
 use Rattle.std.proofs.Common.{◌≡◌, ◌∙◌, ◌≤◌, sym, ap, subst, arith, length, List}
-use Rattle.ptu_pools.specs.declared.pool.Pool.{Pool}
-use Rattle.ptu_pools.specs.Making.{AreFresh}
-use Rattle.ptu_pools.specs.Pool.{AreApart}
+use Rattle.ptu_pools.specs.{declared.pool.Pool.{Pool}, Making.{AreFresh}, Pool.{AreApart}}
 use Rattle.ptu_pools.specs.Standing.{KeptPools}
 use Rattle.ptu_pools.proofs.Fresh.{fresh-stand}
 use Rattle.ptu_pools.proofs.pools.Pools.assembled.Goals as goal

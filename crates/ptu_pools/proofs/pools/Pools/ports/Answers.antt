@@ -1,8 +1,7 @@
 use Rattle.std.proofs.Common.{◌≡◌, ◌∙◌, ◌<◌, List, refl, sym, ap, subst, arith, length, set, slice_get, option_map, Some}
 use Rattle.std.proofs.lemmas.Option.{slice_get-get_or}
 use Rattle.ptu_grandmaster.specs.Gm.{KeptGm, port_at, with_port}
-use Rattle.ptu_pools.specs.Ported.{with_port_at}
-use Rattle.ptu_pools.specs.Standing.{KeptPools}
+use Rattle.ptu_pools.specs.{Ported.{with_port_at}, Standing.{KeptPools}}
 use Rattle.ptu_pools.proofs.Ported.{stand-ported, with_port_set}
 use Rattle.ptu_pools.proofs.pools.Pools.ports.Goals as goal
 

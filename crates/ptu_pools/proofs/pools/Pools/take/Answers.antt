@@ -1,6 +1,5 @@
 use Rattle.std.proofs.Common.{◌≡◌, ◌∙◌, refl, sym, position, None, rules}
-use Rattle.ptu_pools.specs.Pool.{is_in}
-use Rattle.ptu_pools.specs.Standing.{KeptPools}
+use Rattle.ptu_pools.specs.{Pool.{is_in}, Standing.{KeptPools}}
 use Rattle.ptu_pools.proofs.Taken.{at_place, changes_one, in_none, is_there, on_err, still_stands, stranger_stands, taken_stands}
 use Rattle.ptu_pools.proofs.pools.Pools.take.Goals as goal
 

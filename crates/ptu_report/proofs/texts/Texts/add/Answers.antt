@@ -1,5 +1,4 @@
-use Rattle.std.proofs.Common.{subst, ◌≡◌, sym}
-use Rattle.std.proofs.Common.{OnOk}
+use Rattle.std.proofs.{Common.{subst, ◌≡◌, sym}, Common.{OnOk}}
 use Rattle.std.specs.String.{string_bytes}
 use Rattle.ptu_report.specs.Spans.{texts_in}
 use Rattle.ptu_report.proofs.Spans.{shown_added, texts_added}

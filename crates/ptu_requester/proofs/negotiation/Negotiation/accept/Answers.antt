@@ -1,5 +1,4 @@
-use Rattle.std.proofs.Common.{refl, sym, ◌∙◌}
-use Rattle.std.proofs.lemmas.Bool.{cond-true, cond-false}
+use Rattle.std.proofs.{Common.{refl, sym, ◌∙◌}, lemmas.Bool.{cond-true, cond-false}}
 use Rattle.ptu_requester.proofs.Entered.{kept_granted}
 use Rattle.ptu_requester.proofs.negotiation.Negotiation.accept.Goals as goal
 use Rattle.ptu_requester.proofs.negotiation.Negotiation.accept.Goals.{then-is_live, else-is_live}

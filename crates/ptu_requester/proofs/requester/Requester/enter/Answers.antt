@@ -1,5 +1,4 @@
-use Rattle.std.proofs.Common.{refl, length, ◌<◌}
-use Rattle.std.proofs.lemmas.List.{length-set}
+use Rattle.std.proofs.{Common.{refl, length, ◌<◌}, lemmas.List.{length-set}}
 use Rattle.ptu_requester.proofs.Masters.{kept_read, stands_entered, slice_get-set_other}
 use Rattle.ptu_requester.proofs.requester.Requester.enter.Goals as goal
 

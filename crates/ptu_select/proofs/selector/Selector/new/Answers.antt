@@ -1,8 +1,7 @@
 use Rattle.std.proofs.Common.{◌≡◌, List, sym, subst, ◌∙◌, ap, map, take, [], arith}
 use Rattle.std.proofs.Math.Seq.{take-length}
 use Rattle.ptu_record.specs.SignalFails.{Timeouts}
-use Rattle.ptu_select.specs.declared.master.WatchedMaster.{WatchedMaster}
-use Rattle.ptu_select.specs.Selecting.{SelectsBy}
+use Rattle.ptu_select.specs.{declared.master.WatchedMaster.{WatchedMaster}, Selecting.{SelectsBy}}
 use Rattle.ptu_select.proofs.Masters.{fresh_masters}
 use Rattle.ptu_select.proofs.selector.Selector.new.Goals as goal
 

@@ -1,7 +1,6 @@
 use Rattle.std.proofs.Common.{◌∙◌, ap, sym}
 use Rattle.std.specs.Option.{option_map}
-use Rattle.ptu_select.specs.declared.candidate.Candidate.{Candidate}
-use Rattle.ptu_select.specs.Candidate.{best_of}
+use Rattle.ptu_select.specs.{declared.candidate.Candidate.{Candidate}, Candidate.{best_of}}
 use Rattle.ptu_select.proofs.Choosing.{best_is_selected}
 use Rattle.ptu_select.proofs.selector.Selector.select.Goals as goal
 

@@ -1,6 +1,5 @@
 use Rattle.std.proofs.Common.{◌≡◌, arith, heap_items, length, Option, Some, None}
-use Rattle.std.specs.Prelude.{IfNone}
-use Rattle.std.specs.declared.cmp.Reverse.{Reverse}
+use Rattle.std.specs.{Prelude.{IfNone}, declared.cmp.Reverse.{Reverse}}
 use Rattle.ptu_shard.specs.declared.queue.Entry.{Entry}
 use Rattle.ptu_shard.proofs.Heap.{first_dropped, heap_without}
 use Rattle.ptu_shard.proofs.queue.Queue.drop_first.Goals as goal

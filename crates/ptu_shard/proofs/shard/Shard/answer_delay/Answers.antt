@@ -1,18 +1,12 @@
 use Rattle.std.proofs.Common.{◌≡◌, ◌∙◌, ◌++◌, ◌∷◌, sym, ap, arith, max, refl, subst}
 use Rattle.std.specs.List.{AllPairs}
 use Rattle.std.proofs.lemmas.List.{length-map}
-use Rattle.ptu_history.specs.Client.{table_of}
-use Rattle.ptu_history.specs.History.{Looked}
-use Rattle.ptu_history.specs.Moments.{book_moment}
+use Rattle.ptu_history.specs.{Client.{table_of}, History.{Looked}, Moments.{book_moment}}
 use Rattle.ptu_history.specs.Step.{answer_records, delay_answer}
-use Rattle.ptu_shard.specs.Fields.{row_of, rows_of}
-use Rattle.ptu_shard.specs.Queue.{HasEdges, HasEnds}
-use Rattle.ptu_shard.specs.Row.{share_of}
-use Rattle.ptu_shard.specs.Turn.{is_answering_row}
-use Rattle.ptu_shard.specs.Answered.{answer_by}
+use Rattle.ptu_shard.specs.{Fields.{row_of, rows_of}, Queue.{HasEdges, HasEnds}, Row.{share_of}}
+use Rattle.ptu_shard.specs.{Turn.{is_answering_row}, Answered.{answer_by}}
 use Rattle.ptu_history.proofs.Moments.{book_moment-none}
-use Rattle.ptu_shard.proofs.Keeping.{edges_answered, ends_spent, length-spent}
-use Rattle.ptu_shard.proofs.RowLists.{Differ}
+use Rattle.ptu_shard.proofs.{Keeping.{edges_answered, ends_spent, length-spent}, RowLists.{Differ}}
 use Rattle.ptu_shard.proofs.Responses.{answer_is, answer_looked, stands_answered}
 use Rattle.ptu_shard.proofs.Spending.{distinct_spent, share_of-spent}
 use Rattle.ptu_shard.proofs.shard.Shard.answer_delay.Goals as goal

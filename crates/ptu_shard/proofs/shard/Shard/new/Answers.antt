@@ -1,6 +1,5 @@
 use Rattle.std.proofs.Common.{arith}
-use Rattle.ptu_history.specs.Moments.{book_moment, table_moment}
-use Rattle.ptu_history.specs.Live.{last_decision}
+use Rattle.ptu_history.specs.{Moments.{book_moment, table_moment}, Live.{last_decision}}
 use Rattle.ptu_history.specs.History.{lease_records}
 use Rattle.ptu_shard.proofs.shard.Shard.new.Goals as goal
 

@@ -1,11 +1,8 @@
 use Rattle.std.proofs.Common.{◌-◌, ◌<◌, length, arith, ◌∷◌, [], ◌++◌, refl}
 use Rattle.std.proofs.lemmas.List.{length-map}
 use Rattle.ptu_history.specs.History.{Granted}
-use Rattle.ptu_shard.specs.Fields.{row_of, rows_of}
-use Rattle.ptu_shard.specs.Row.{without_row}
-use Rattle.ptu_shard.specs.declared.lease.Row.{Row}
-use Rattle.ptu_shard.proofs.RowLists.{same_permuted}
-use Rattle.ptu_shard.proofs.Standing.{stands_granted, stands_same}
+use Rattle.ptu_shard.specs.{Fields.{row_of, rows_of}, Row.{without_row}, declared.lease.Row.{Row}}
+use Rattle.ptu_shard.proofs.{RowLists.{same_permuted}, Standing.{stands_granted, stands_same}}
 use Rattle.ptu_shard.proofs.shard.Shard.put.Goals as goal
 
 pub invariant_of-self : goal.invariant_of-self

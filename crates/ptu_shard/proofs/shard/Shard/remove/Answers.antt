@@ -1,11 +1,8 @@
-use Rattle.std.proofs.Common.{◌∙◌, sym, arith, refl}
-use Rattle.std.proofs.lemmas.List.{length-map}
+use Rattle.std.proofs.{Common.{◌∙◌, sym, arith, refl}, lemmas.List.{length-map}}
 use Rattle.ptu_history.specs.History.{Ended, Shed}
-use Rattle.ptu_shard.specs.Fields.{row_of, rows_of}
-use Rattle.ptu_shard.specs.Row.{without_row}
+use Rattle.ptu_shard.specs.{Fields.{row_of, rows_of}, Row.{without_row}}
 use Rattle.ptu_shard.proofs.Keeping.{edges_fewer, ends_fewer, dropped_from}
-use Rattle.ptu_shard.proofs.RowLists.{same_permuted}
-use Rattle.ptu_shard.proofs.Standing.{stands_ended, stands_same}
+use Rattle.ptu_shard.proofs.{RowLists.{same_permuted}, Standing.{stands_ended, stands_same}}
 use Rattle.ptu_shard.proofs.shard.Shard.remove.Goals as goal
 
 pub invariant_of-self : goal.invariant_of-self

@@ -1,5 +1,4 @@
-use Rattle.std.proofs.Common.{length, sym, ap, arith}
-use Rattle.std.proofs.lemmas.List.{length-map}
+use Rattle.std.proofs.{Common.{length, sym, ap, arith}, lemmas.List.{length-map}}
 use Rattle.ptu_shard.specs.Fields.{row_of, rows_of}
 use Rattle.ptu_shard.proofs.Keeping.{kept_more}
 use Rattle.ptu_shard.proofs.shard.Shard.reserve.Goals as goal

@@ -3,10 +3,8 @@ use Rattle.std.specs.List.{filter}
 use Rattle.std.proofs.lemmas.List.{length-map}
 use Rattle.std.proofs.lemmas.List.Sorted.{Contains-permutation, IsPermutation-sym}
 use Rattle.ptu_history.proofs.Unique.{Contains-from_filter}
-use Rattle.ptu_shard.specs.Fields.{row_of, rows_of}
-use Rattle.ptu_shard.specs.declared.lease.Row.{Row}
-use Rattle.ptu_shard.proofs.Keeping.{edges_fewer}
-use Rattle.ptu_shard.proofs.RowLists.{same_permuted}
+use Rattle.ptu_shard.specs.{Fields.{row_of, rows_of}, declared.lease.Row.{Row}}
+use Rattle.ptu_shard.proofs.{Keeping.{edges_fewer}, RowLists.{same_permuted}}
 use Rattle.ptu_shard.proofs.Standing.{stands_same, stands_swept}
 use Rattle.ptu_shard.proofs.shard.Shard.sweep.Goals as goal
 

@@ -1,17 +1,11 @@
 use Rattle.std.proofs.Common.{◌≡◌, ◌∙◌, ◌++◌, sym, ap, arith, max, subst}
 use Rattle.std.specs.List.{AllPairs}
 use Rattle.std.proofs.lemmas.List.{length-map}
-use Rattle.ptu_history.specs.Moments.{book_moment}
-use Rattle.ptu_history.specs.Events.{Turn}
-use Rattle.ptu_history.specs.Step.{step}
-use Rattle.ptu_history.specs.Turns.{due_grants}
+use Rattle.ptu_history.specs.{Moments.{book_moment}, Events.{Turn}, Step.{step}, Turns.{due_grants}}
 use Rattle.ptu_history.proofs.Moments.{book_moment-none, greatest-sent}
-use Rattle.ptu_shard.specs.Fields.{row_of, rows_of}
-use Rattle.ptu_shard.specs.Queue.{HasEnds}
-use Rattle.ptu_shard.specs.Row.{share_of}
+use Rattle.ptu_shard.specs.{Fields.{row_of, rows_of}, Queue.{HasEnds}, Row.{share_of}}
 use Rattle.ptu_shard.specs.Turn.{is_due_row}
-use Rattle.ptu_shard.proofs.Keeping.{ends_spent, length-spent}
-use Rattle.ptu_shard.proofs.RowLists.{Differ}
+use Rattle.ptu_shard.proofs.{Keeping.{ends_spent, length-spent}, RowLists.{Differ}}
 use Rattle.ptu_shard.proofs.Spending.{distinct_spent, share_of-spent}
 use Rattle.ptu_shard.proofs.Turns.{stands_turned, turn_messages}
 use Rattle.ptu_shard.proofs.shard.Shard.turn.Goals as goal

@@ -1,7 +1,6 @@
 use Rattle.std.proofs.Common.{◌∙◌, ◌++◌, [], ◌∷◌, ◌<◌, cond, length, Some, None, refl, sym, ap, subst}
 use Rattle.std.proofs.lemmas.Option.{slice_get_read}
-use Rattle.ptu_record.specs.Asks.{due_kinds}
-use Rattle.ptu_record.specs.Record.{record_of, Signalled}
+use Rattle.ptu_record.specs.{Asks.{due_kinds}, Record.{record_of, Signalled}}
 use Rattle.ptu_record.specs.Tick.{delay_req_number}
 use Rattle.ptu_slave_messages.specs.Sending.{kinds_in}
 use Rattle.ptu_slave.specs.Kept.{CountFor}

@@ -5,8 +5,7 @@ use Rattle.ptu_record.specs.Tick.{Cancels, one_signaling}
 use Rattle.ptu_requester.specs.Requester.{StandsFor}
 use Rattle.ptu_slave_messages.specs.Sending.{are_some, kinds_in}
 use Rattle.ptu_slave.specs.Kept.{CountFor}
-use Rattle.ptu_slave.proofs.Entering.{cancel_entries, own_signalled}
-use Rattle.ptu_slave.proofs.Masters.{each_own}
+use Rattle.ptu_slave.proofs.{Entering.{cancel_entries, own_signalled}, Masters.{each_own}}
 use Rattle.ptu_slave.proofs.node.Core.end.Goals as goal
 
 pub returns-clause-stated : goal.returns-clause-stated

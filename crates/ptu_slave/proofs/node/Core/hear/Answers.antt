@@ -1,5 +1,4 @@
-use Rattle.ptu_slave.proofs.Entering.{uncounted_signals}
-use Rattle.ptu_slave.proofs.Quiet.{counts_kept}
+use Rattle.ptu_slave.proofs.{Entering.{uncounted_signals}, Quiet.{counts_kept}}
 use Rattle.ptu_slave.proofs.node.Core.hear.Goals as goal
 
 pub returns-clause-asks : goal.returns-clause-asks

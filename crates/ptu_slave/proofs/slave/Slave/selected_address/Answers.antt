@@ -1,13 +1,9 @@
 use Rattle.std.proofs.Common.{◌∙◌, ◌<◌, ◌≡◌, ap, ap₂, length, subst, sym}
-use Rattle.std.specs.Option.{option_map}
-use Rattle.std.specs.Prelude.{IfSome}
-use Rattle.ptu_record.specs.Record.{event_moment}
-use Rattle.ptu_record.specs.Selection.{selected_master}
+use Rattle.std.specs.{Option.{option_map}, Prelude.{IfSome}}
+use Rattle.ptu_record.specs.{Record.{event_moment}, Selection.{selected_master}}
 use Rattle.ptu_profile.specs.Slave.{address_of, priorities, timeouts}
-use Rattle.ptu_slave.specs.Kept.{Kept}
-use Rattle.ptu_slave.specs.Seen.{seen_by}
-use Rattle.ptu_slave.proofs.Selecting.{chosen_within, priorities_many}
-use Rattle.ptu_slave.proofs.Stepping.{moment_is}
+use Rattle.ptu_slave.specs.{Kept.{Kept}, Seen.{seen_by}}
+use Rattle.ptu_slave.proofs.{Selecting.{chosen_within, priorities_many}, Stepping.{moment_is}}
 use Rattle.ptu_slave.proofs.slave.Slave.selected_address.Goals as goal
 
 pub returns-clause-selected : goal.returns-clause-selected

@@ -1,7 +1,6 @@
 use Rattle.std.proofs.Common.{◌∙◌, List, ap, ap₂, subst, sym}
 use Rattle.ptu_outside.specs.HandsOver.{HandsOver}
-use Rattle.ptu_profile.specs.declared.slave.Master.{Master}
-use Rattle.ptu_profile.specs.declared.slave.SlaveConfig.{SlaveConfig}
+use Rattle.ptu_profile.specs.declared.slave.{Master.{Master}, SlaveConfig.{SlaveConfig}}
 use Rattle.ptu_slave_messages.specs.declared.content.Accepted.{Accepted}
 use Rattle.ptu_outside.specs.Replies.{reply_failed, reply_sent}
 use Rattle.ptu_slave_messages.specs.Heard.{content_of, replies_in, reply_in, taken_or_not}

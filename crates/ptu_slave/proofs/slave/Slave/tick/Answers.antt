@@ -1,8 +1,7 @@
 use Rattle.std.proofs.Common.{◌∙◌, ap, length, map, subst}
 use Rattle.ptu_outside.specs.HandsOver.{HandsOver}
 use Rattle.ptu_slave_messages.specs.Sending.{all_ones, departure_of}
-use Rattle.ptu_slave.specs.Kept.{Kept}
-use Rattle.ptu_slave.specs.Seen.{seen_by}
+use Rattle.ptu_slave.specs.{Kept.{Kept}, Seen.{seen_by}}
 use Rattle.ptu_slave.proofs.Ticking.{tick_states, ticked}
 use Rattle.ptu_slave.proofs.slave.Slave.tick.Goals as goal
 

@@ -1,8 +1,7 @@
 use Rattle.std.proofs.Common.{None, nat_cmp, sym, subst}
 use Rattle.std.specs.BTreeMap.{get}
 use Rattle.ptu_trail.specs.Known.{IsHeld}
-use Rattle.ptu_trail.proofs.Accounts.{shared_none}
-use Rattle.ptu_trail.proofs.Living.{lease_held}
+use Rattle.ptu_trail.proofs.{Accounts.{shared_none}, Living.{lease_held}}
 use Rattle.ptu_trail.proofs.clients.Clients.lease.Goals as goal
 
 pub returns-in-Some : goal.returns-in-Some

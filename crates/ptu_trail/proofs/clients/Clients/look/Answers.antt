@@ -1,7 +1,6 @@
 use Rattle.std.proofs.Common.{◌∙◌, sym, ap, subst}
 use Rattle.std.specs.Option.{option_copied}
-use Rattle.ptu_trail.specs.Clients.{IsAccount}
-use Rattle.ptu_trail.specs.Known.{IsKnown}
+use Rattle.ptu_trail.specs.{Clients.{IsAccount}, Known.{IsKnown}}
 use Rattle.ptu_trail.proofs.Accounts.{look_none, look_other, look_same}
 use Rattle.ptu_trail.proofs.clients.Clients.look.Goals as goal
 

@@ -1,9 +1,7 @@
 use Rattle.std.proofs.Common.{◌≡◌, ◌∙◌, ◌++◌, ◌∷◌, [], List, Some, nat_cmp, refl, sym, ap, subst}
-use Rattle.std.specs.BTreeMap.{get}
-use Rattle.std.specs.Option.{IsSome, option_copied_mut}
+use Rattle.std.specs.{BTreeMap.{get}, Option.{IsSome, option_copied_mut}}
 use Rattle.ptu_history.specs.History.{Record, Sent}
-use Rattle.ptu_trail.specs.declared.clients.Account.{Account}
-use Rattle.ptu_trail.specs.Clients.{AreKnown, IsAccount}
+use Rattle.ptu_trail.specs.{declared.clients.Account.{Account}, Clients.{AreKnown, IsAccount}}
 use Rattle.ptu_trail.specs.Faults.{fault_of}
 use Rattle.ptu_trail.proofs.Accounts.{client_found, if_none_map, none_at, sent_account}
 use Rattle.ptu_trail.proofs.clients.Clients.message.Goals as goal

@@ -1,6 +1,5 @@
 use Rattle.std.proofs.Common.{[], nat_cmp, sym, subst}
-use Rattle.std.specs.BTreeMap.{is_at}
-use Rattle.std.specs.Map.{lookup}
+use Rattle.std.specs.{BTreeMap.{is_at}, Map.{lookup}}
 use Rattle.ptu_trail.specs.Clients.{IsAccount}
 use Rattle.ptu_trail.proofs.Accounts.{no_account}
 use Rattle.ptu_trail.proofs.clients.Clients.new.Goals as goal

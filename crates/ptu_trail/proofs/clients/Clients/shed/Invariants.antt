@@ -1,6 +1,5 @@
 use Rattle.std.proofs.Common.{◌≡◌, ℕ, List}
-use Rattle.ptu_history.specs.History.{Record}
-use Rattle.ptu_history.specs.Moments.{book_moment}
+use Rattle.ptu_history.specs.{History.{Record}, Moments.{book_moment}}
 use Rattle.ptu_trail.specs.Clients.{AreKnown}
 use Rattle.ptu_trail.proofs.Sheds.{AreShed}
 use Rattle.ptu_trail.proofs.clients.Clients.shed.Given as goal

@@ -1,7 +1,6 @@
 use Rattle.std.proofs.Common.{◌∙◌, filter, sym, ap, subst}
 use Rattle.ptu_history.specs.Live.{without}
-use Rattle.ptu_trail.specs.Live.{AreOf, IsLeaseOf, is_other_entry}
-use Rattle.ptu_trail.specs.declared.live.End.{End}
+use Rattle.ptu_trail.specs.{Live.{AreOf, IsLeaseOf, is_other_entry}, declared.live.End.{End}}
 use Rattle.ptu_trail.proofs.Living.{of-none, of-without}
 use Rattle.ptu_trail.proofs.live.LiveGrants.remove.Goals as goal
 

@@ -1,7 +1,5 @@
 use Rattle.std.proofs.Common.{◌∙◌, refl, sym, subst}
-use Rattle.ptu_history.specs.History.{Ended}
-use Rattle.ptu_history.specs.Live.{live_grants}
-use Rattle.ptu_history.specs.Moments.{book_moment}
+use Rattle.ptu_history.specs.{History.{Ended}, Live.{live_grants}, Moments.{book_moment}}
 use Rattle.ptu_trail.specs.Live.{AreOf}
 use Rattle.ptu_trail.proofs.Living.{grants_ended}
 use Rattle.ptu_trail.specs.declared.trail.Trail.{Trail}

@@ -1,10 +1,8 @@
 use Rattle.std.proofs.Common.{◌≡◌, ◌++◌, ◌∷◌, [], refl, subst}
 use Rattle.ptu_history.specs.History.{Sent}
-use Rattle.ptu_trail.specs.declared.trail.Trail.{Trail}
-use Rattle.ptu_trail.specs.Faults.{client_at, fault_of}
+use Rattle.ptu_trail.specs.{declared.trail.Trail.{Trail}, Faults.{client_at, fault_of}}
 use Rattle.ptu_trail.specs.Trail.{StandsFor}
-use Rattle.ptu_trail.proofs.Accounts.{if_none_map}
-use Rattle.ptu_trail.proofs.Judging.{stands_sent}
+use Rattle.ptu_trail.proofs.{Accounts.{if_none_map}, Judging.{stands_sent}}
 use Rattle.ptu_trail.proofs.trail.Trail.message.Goals as goal
 
 pub returns-in-Some-clause-fault : goal.returns-in-Some-clause-fault

@@ -1,6 +1,5 @@
 use Rattle.std.proofs.Common.{sym}
-use Rattle.ptu_twostep.proofs.Handing.{kept_none, pair_told}
-use Rattle.ptu_twostep.proofs.Pairs.{told-send}
+use Rattle.ptu_twostep.proofs.{Handing.{kept_none, pair_told}, Pairs.{told-send}}
 use Rattle.ptu_twostep.proofs.two_step.TwoStepPort.send.Goals as goal
 
 pub returns-clause-handed : goal.returns-clause-handed

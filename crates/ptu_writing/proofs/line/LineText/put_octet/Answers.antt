@@ -1,5 +1,4 @@
-use Rattle.std.proofs.Common.{rules}
-use Rattle.std.proofs.lemmas.Fmt.{length-decimal-le}
+use Rattle.std.proofs.{Common.{rules}, lemmas.Fmt.{length-decimal-le}}
 use Rattle.ptu_writing.proofs.line.LineText.put_octet.Goals as goal
 
 pub write_digits-self-inside-requires : goal.write_digits-self-inside-requires
