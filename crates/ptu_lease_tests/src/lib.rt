@@ -3,14 +3,4 @@
 #![tactic(auto)]
 
 #[cfg(test)]
-mod admit;
-#[cfg(test)]
-mod grandmaster;
-#[cfg(test)]
-mod pools;
-#[cfg(test)]
-mod shard;
-#[cfg(test)]
-mod shared;
-#[cfg(test)]
-mod shared_held;
+mod tests;

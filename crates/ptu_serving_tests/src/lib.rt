@@ -2,20 +2,4 @@
 #![tactic(auto)]
 
 #[cfg(test)]
-mod daemon;
-#[cfg(test)]
-mod daemon_lanes;
-#[cfg(test)]
-mod lane_rounds;
-#[cfg(test)]
-mod lanes;
-#[cfg(test)]
-mod staged;
-#[cfg(test)]
-mod table_ports;
-#[cfg(test)]
-mod two_step_ports;
-#[cfg(test)]
-mod two_steps;
-#[cfg(test)]
-mod waiting;
+mod tests;

@@ -2,14 +2,4 @@
 #![tactic(auto)]
 
 #[cfg(test)]
-mod cut_datagrams;
-#[cfg(test)]
-mod daemon;
-#[cfg(test)]
-mod daemon_faults;
-#[cfg(test)]
-mod judge_calls;
-#[cfg(test)]
-mod pairs;
-#[cfg(test)]
-mod slave;
+mod tests;

@@ -2,8 +2,4 @@
 #![tactic(auto)]
 
 #[cfg(test)]
-mod messages;
-#[cfg(test)]
-mod outside;
-#[cfg(test)]
-mod ports;
+mod tests;

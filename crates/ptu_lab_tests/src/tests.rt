@@ -1,0 +1,12 @@
+mod audit;
+mod join;
+mod load;
+mod memory;
+mod nodes;
+mod pieces;
+mod pool_scripts;
+mod pools;
+mod replay;
+mod replay_slave;
+mod show;
+mod trail;

@@ -1,0 +1,290 @@
+ghost use Rattle.std.specs.Prelude.{◌≡◌, ◌≤◌, ℕ, None};
+ghost use Rattle.ptu_profile.specs.Limits.{IsCapacity};
+ghost use Rattle.ptu_shared.specs.{Blanks.{IsBlankOf}, Opening.{untold_port}};
+
+use super::shared::{ANNOUNCE, Blanks, GRANTED, GRANTED_LATER, SYNC, ask, moment, turn};
+use ptu_outside::{Channel, Failed, Port};
+use ptu_shard::samples::{ONE, SECOND, THREE, ZERO};
+use ptu_shared::{Rates, Seat, Shared};
+use ptu_units::Kind;
+use std::alloc::Global;
+use std::marker::Brand;
+use std::process::Abort;
+use std::sync::Wait;
+use std::sync::atomic::{AtomicU64, Ordering};
+use std::sync::ledger::Ledger;
+use std::test::Fail;
+use std::thread::{self, Threads};
+
+// How often a port that is held, or who waits for it, looks whether it goes on.
+const LOOKS: u64 = 1_000_000_000;
+
+// How often one who gives others time looks.
+const PAUSE: u64 = 1_000_000;
+
+// Where the port of a table is held in a send.
+#[derive(Drop)]
+struct Gate {
+    // A send has begun.
+    entered: AtomicU64,
+    // A call that wants the table is about to wait for it.
+    called: AtomicU64,
+    // The send may go on.
+    opened: AtomicU64,
+    // The limit of looks was reached.
+    late: AtomicU64,
+}
+
+fn closed_gate() -> Gate {
+    Gate {
+        entered: AtomicU64::new(0),
+        called: AtomicU64::new(0),
+        opened: AtomicU64::new(0),
+        late: AtomicU64::new(0),
+    }
+}
+
+impl Gate {
+    fn open(&self) {
+        self.opened.store(1, Ordering::SeqCst);
+    }
+
+    // Looks at the flag until it is set or the limit is reached.
+    fn await_flag(&self, flag: &AtomicU64) {
+        for _ in 0..LOOKS {
+            if flag.load(Ordering::SeqCst) == 1 {
+                return;
+            }
+        }
+        self.late.store(1, Ordering::SeqCst);
+    }
+
+    // Gives others time.
+    fn look_on(&self) {
+        for _ in 0..PAUSE {
+            if self.opened.load(Ordering::SeqCst) == 1 {
+                return;
+            }
+        }
+    }
+
+    fn is_late(&self) -> bool {
+        self.late.load(Ordering::SeqCst) == 1
+    }
+}
+
+// A port that sends nothing, and is held in each send where it has a gate.
+#[derive(Drop)]
+struct HeldPort<'a> {
+    gate: Option<&'a Gate>,
+}
+
+impl Port for HeldPort<'_> {
+    ghost sent = { λ _. None };
+
+    ghost waiting = { λ _. None };
+
+    ghost faults = { λ _. 0 };
+
+    fn send(&mut self, _ip: u32, _channel: Channel, _bytes: &[u8]) -> Result<(), Failed> {
+        if let Some(gate) = self.gate {
+            gate.entered.store(1, Ordering::SeqCst);
+            gate.await_flag(&gate.opened);
+        }
+        Ok(())
+    }
+
+    fn receive(&mut self, _buf: &mut [u8; 2048]) -> Result<Option<(u32, usize)>, Failed> {
+        Ok(None)
+    }
+}
+
+// What wants table 0.
+#[derive(Clone, Copy)]
+enum Call {
+    Cancel,
+    // An ask of its own client, which fits.
+    Ask,
+    // An ask of a client of table 3, which does not fit beside the total.
+    AskOfAll,
+    Resize,
+}
+
+const CALLS: [Call; 4] = [Call::Cancel, Call::Ask, Call::AskOfAll, Call::Resize];
+
+// Tables of which the first is held at a gate.
+#[derive(Drop)]
+struct Held<'s, 'g, L: Rates, G: Ledger, R: Ledger> {
+    shared: &'s Shared<HeldPort<'g>, L, G, R>,
+    gate: &'g Gate,
+}
+
+impl<L: Rates + Sync, G: Ledger + Sync, R: Ledger + Sync> Held<'_, '_, L, G, R> {
+    // While table 0 is held, a turn of table 1 returns; then table 0 goes on.
+    fn turn_beside(&self, rt: &(impl Wait + Abort)) -> (u64, u64) {
+        self.gate.await_flag(&self.gate.entered);
+        let turned = turn(rt, self.shared, 1, SECOND);
+        self.gate.open();
+        turned
+    }
+
+    // While table 0 is held, this waits for it, and holds no lock that others want.
+    fn call_held(&self, rt: &(impl Wait + Abort), mut seat: Seat<G, R>, call: Call)
+        requires ledger { L.parts ≡ 4 }
+        requires most { 64 ≤ L.most }
+    {
+        self.gate.await_flag(&self.gate.entered);
+        self.gate.called.store(1, Ordering::SeqCst);
+        match call {
+            Call::Cancel => {
+                let _ = self
+                    .shared
+                    .cancel(rt, moment(rt, SECOND), &ZERO, Kind::Sync);
+            }
+            Call::Ask => {
+                let _ = ask(rt, self.shared, &mut seat, SECOND, &ZERO, (ANNOUNCE, 1));
+            }
+            Call::AskOfAll => {
+                let _ = ask(rt, self.shared, &mut seat, SECOND, &THREE, (ANNOUNCE, -2));
+            }
+            Call::Resize => {
+                let _ = self.shared.resize(rt, moment(rt, SECOND), 64);
+            }
+        }
+    }
+
+    // While table 0 is held, and a call waits for it, a client of table 1 asks again and again and
+    // is granted each time; then table 0 goes on.
+    fn ask_beside(&self, rt: &(impl Wait + Abort), mut seat: Seat<G, R>)
+        requires { L.parts ≡ 4 }
+    {
+        self.gate.await_flag(&self.gate.called);
+        for _ in 0..20 {
+            self.gate.look_on();
+            let told = ask(rt, self.shared, &mut seat, SECOND, &ONE, (ANNOUNCE, 1));
+            assert_eq!(rt; told, GRANTED_LATER);
+        }
+        self.gate.open();
+    }
+
+    // While table 0 is held, table 1 takes a turn; or a call waits for table 0, and beside it the
+    // client of table 1 asks.
+    fn go_on_beside<W: Wait + Abort + Threads + Sync>(
+        &self,
+        rt: &W,
+        call: Option<Call>,
+        first: Seat<G, R>,
+        second: Seat<G, R>,
+    )
+        requires ledger { L.parts ≡ 4 }
+        requires most { 64 ≤ L.most }
+    {
+        let Some(call) = call else {
+            assert_eq!(rt; self.turn_beside(rt), (1, 0));
+            return;
+        };
+        let _ = thread::join(
+            rt,
+            move ||
+                requires { (L.parts ≡ 4) × (64 ≤ L.most) }
+            { self.call_held(rt, first, call) },
+            move ||
+                requires { L.parts ≡ 4 }
+            { self.ask_beside(rt, second) },
+        );
+    }
+
+    // Clients of tables 0 and 1 are granted Syncs. Table 0 is held in a turn, and beside it table 1
+    // takes a turn, or a call waits for table 0 and the client of table 1 asks.
+    fn turn_and_call<W: Wait + Abort + Threads + Sync>(
+        &self,
+        rt: &W,
+        mut seats: Vec<Seat<G, R>>,
+        call: Option<Call>,
+    )
+        requires ledger { L.parts ≡ 4 }
+        requires most { 64 ≤ L.most }
+    {
+        let mut seat = seats.pop().expect(rt, "there are two seats");
+        let other = seats.pop().expect(rt, "there are two seats");
+        for client in [ZERO, ONE] {
+            let told = ask(rt, self.shared, &mut seat, 0, &client, (SYNC, 0));
+            assert_eq!(rt; told, GRANTED);
+        }
+        let (turned, ()) = thread::join(
+            rt,
+            move || turn(rt, self.shared, 0, SECOND),
+            move ||
+                requires { (L.parts ≡ 4) × (64 ≤ L.most) }
+            { self.go_on_beside(rt, call, other, seat) },
+        );
+        assert_eq!(rt; turned, (1, 0));
+        assert!(rt; !self.gate.is_late(), "the ask went on");
+    }
+}
+
+// Plays this with two seats, whatever the ledgers are.
+fn play_held<L, G, R, W>(
+    rt: &W,
+    alloc: Global,
+    blanks: Blanks,
+    capacity: u64,
+    gate: &Gate,
+    call: Option<Call>,
+) -> Result<(), Fail>
+where
+    L: Rates + Sync,
+    G: Ledger + Sync,
+    R: Ledger + Sync,
+    W: Wait + Abort + Threads + Sync,
+    requires rates { IsBlankOf L.name L.parts 4 blanks.rates }
+    requires granted { IsBlankOf G.name G.parts L.seats blanks.granted }
+    requires refused { IsBlankOf R.name R.parts L.seats blanks.refused }
+    requires capacity { IsCapacity capacity }
+    requires most { (capacity ≤ L.most) × (64 ≤ capacity) }
+    requires seats { L.seats ≡ 2 }
+    requires ports { (i : ℕ) → L.opened i ≡ untold_port }
+{
+    let p0 = HeldPort { gate: Some(gate) };
+    let p1 = HeldPort { gate: None };
+    let p2 = HeldPort { gate: None };
+    let p3 = HeldPort { gate: None };
+    let Blanks {
+        rates,
+        granted,
+        refused,
+    } = blanks;
+    let (shared, seats) = Shared::<HeldPort<'_>, L, G, R>::new(
+        alloc, rates, granted, refused, capacity, 2, p0, p1, p2, p3,
+    )?;
+    let held = Held {
+        shared: &shared,
+        gate,
+    };
+    held.turn_and_call(rt, seats, call);
+    Ok(())
+}
+
+fn hold_beside<W: Wait + Abort + Threads + Sync>(
+    rt: &W,
+    alloc: Global,
+    call: Option<Call>,
+) -> Result<(), Fail> {
+    let blanks = Blanks::new(2);
+    let gate = closed_gate();
+    play_held::<Brand, Brand, Brand, W>(rt, alloc, blanks, 64, &gate, call)
+}
+
+#[test]
+fn a_turn_goes_on_beside_a_held_table(rt: HostRuntime) -> Result<(), Fail> {
+    hold_beside(&rt, rt.alloc(), None)
+}
+
+// Nothing that waits for a table holds the book.
+#[test]
+fn an_ask_goes_on_beside_a_held_table(rt: HostRuntime) -> Result<(), Fail> {
+    for call in CALLS {
+        hold_beside(&rt, rt.alloc(), Some(call))?;
+    }
+    Ok(())
+}

@@ -1,0 +1,185 @@
+ghost use Rattle.std.specs.Prelude.{◌≡◌, None};
+
+use super::staged::{Given, OnceHost, StagedPort, arriving, assert_said};
+use super::waiting::{SYNC, request};
+use ptu_config::GmSettings;
+use ptu_config::samples::GM_SETTINGS;
+use ptu_outside::samples::still_clock;
+use ptu_outside::{Channel, Failed, MemClock, Opened, Port};
+use ptu_units::Moment;
+use std::alloc::Global;
+use std::process::Abort;
+use std::sync::Wait;
+use std::sync::atomic::{AtomicU64, Ordering};
+use std::test::Fail;
+use std::thread::Threads;
+
+const SETTINGS: GmSettings = GmSettings {
+    rounds: 2,
+    capacity: 32,
+    senders: 2,
+    ..GM_SETTINGS
+};
+
+// The limit of looks at a count.
+const LOOKS: u64 = 1_000_000_000;
+
+// A Delay_Req of the client of table 0.
+const DELAY_REQ: &str = "0112002c040004000000000000000000000000000a0000000000000300010000\
+    017f00000000000000000000";
+
+// What lanes have done that work side by side.
+#[derive(Drop)]
+struct Seen {
+    // The datagrams that the port of the event channel gave.
+    given: AtomicU64,
+    // The Syncs that the ports of tables 0 and 1 were sent.
+    of_table_0: AtomicU64,
+    of_table_1: AtomicU64,
+    // The limit of looks was reached.
+    late: AtomicU64,
+}
+
+fn nothing_seen() -> Seen {
+    Seen {
+        given: AtomicU64::new(0),
+        of_table_0: AtomicU64::new(0),
+        of_table_1: AtomicU64::new(0),
+        late: AtomicU64::new(0),
+    }
+}
+
+// Looks at the count until something was counted, or the limit is reached.
+fn await_one(seen: &Seen, count: &AtomicU64) {
+    for _ in 0..LOOKS {
+        if count.load(Ordering::SeqCst) > 0 {
+            return;
+        }
+    }
+    seen.late.store(1, Ordering::SeqCst);
+}
+
+fn count_one(count: &AtomicU64) {
+    count.fetch_add(1, Ordering::SeqCst);
+}
+
+// What is special about a port.
+#[derive(Clone, Copy, PartialEq, Eq)]
+enum Role {
+    // It belongs to table 0: a send waits until the event port gave a datagram and the port of
+    // table 1 was sent one.
+    Held,
+    // It belongs to table 1.
+    Beside,
+    // It receives the event channel.
+    Event,
+    Plain,
+}
+
+// A port that counts what it gives and is sent.
+#[derive(Drop)]
+struct LanePort<'a> {
+    seen: &'a Seen,
+    role: Role,
+    port: StagedPort,
+}
+
+// Whether the octets are a Sync.
+fn is_sync(bytes: &[u8]) -> bool {
+    bytes.first().is_some_and(|octet| octet & 15 == 0)
+}
+
+impl Port for LanePort<'_> {
+    ghost sent = { λ _. None };
+
+    ghost waiting = { λ _. None };
+
+    ghost faults = { λ p. p.port.faults };
+
+    fn send(&mut self, ip: u32, channel: Channel, bytes: &[u8]) -> Result<(), Failed> {
+        let seen = self.seen;
+        if self.role == Role::Held && is_sync(bytes) {
+            await_one(seen, &seen.given);
+            await_one(seen, &seen.of_table_1);
+            count_one(&seen.of_table_0);
+        }
+        if self.role == Role::Beside && is_sync(bytes) {
+            count_one(&seen.of_table_1);
+        }
+        self.port.send(ip, channel, bytes)
+    }
+
+    fn receive(&mut self, buf: &mut [u8; 2048]) -> Result<Option<(u32, usize)>, Failed> {
+        let given = self.port.receive(buf)?;
+        if given.is_some() && self.role == Role::Event {
+            count_one(&self.seen.given);
+        }
+        Ok(given)
+    }
+}
+
+fn port<'a>(alloc: Global, seen: &'a Seen, role: Role, gives: Vec<Given>) -> LanePort<'a> {
+    LanePort {
+        seen,
+        role,
+        port: StagedPort::new(alloc, gives, Vec::new(alloc)),
+    }
+}
+
+// A clock that is read twice at 0, and then at 1 s.
+fn going(alloc: Global) -> Result<MemClock, Fail> {
+    let moments = [0, 0, 1_000_000_000, 1_000_000_000];
+    let mut list = Vec::new(alloc);
+    for moment in moments {
+        list.push(Moment::of(moment).ok_or("a moment is below 2^63")?)?;
+    }
+    Ok(MemClock::new(list))
+}
+
+// A host at whose general channel clients of tables 0 and 1 ask for Syncs, and at whose event
+// channel the Delay_Req comes in the second round.
+fn host(alloc: Global, seen: &Seen) -> Result<OnceHost<LanePort<'_>>, Fail> {
+    let asks = vec![in alloc;
+        arriving(alloc, 0x0a00_0103, request(alloc, "03", SYNC)?.as_str())?,
+        arriving(alloc, 0x0a00_0104, request(alloc, "04", SYNC)?.as_str())?,
+    ]?;
+    let delay = vec![in alloc; Given::Nothing, arriving(alloc, 0x0a00_0103, DELAY_REQ)?]?;
+    let opened = Opened {
+        p0: port(alloc, seen, Role::Held, Vec::new(alloc)),
+        p1: port(alloc, seen, Role::Beside, Vec::new(alloc)),
+        p2: port(alloc, seen, Role::Plain, Vec::new(alloc)),
+        p3: port(alloc, seen, Role::Plain, Vec::new(alloc)),
+        p4: port(alloc, seen, Role::Plain, asks),
+        p5: port(alloc, seen, Role::Event, delay),
+        c0: still_clock(alloc),
+        c1: still_clock(alloc),
+        c2: going(alloc)?,
+        c3: going(alloc)?,
+        c4: still_clock(alloc),
+        c5: still_clock(alloc),
+    };
+    Ok(OnceHost::new(opened))
+}
+
+// Serving by lanes over the host comes to its end before a limit, and writes this line.
+fn assert_serves(
+    rt: &(impl Abort + Threads + Wait + Sync),
+    alloc: Global,
+    seen: &Seen,
+    line: &str,
+) -> Result<(), Fail> {
+    let mut host = host(alloc, seen)?;
+    assert_said(rt, alloc, &SETTINGS, &mut host, line);
+    assert!(rt; seen.late.load(Ordering::SeqCst) == 0);
+    Ok(())
+}
+
+#[test]
+fn lanes_run_beside_each_other(rt: HostRuntime) -> Result<(), Fail> {
+    let seen = nothing_seen();
+    let line = "rounds 2 sent 4 failed 0 granted 2 refused 0 held 32\n";
+    assert_serves(&rt, rt.alloc(), &seen, line)?;
+    assert!(rt; seen.of_table_0.load(Ordering::SeqCst) == 1);
+    assert!(rt; seen.of_table_1.load(Ordering::SeqCst) == 1);
+    Ok(())
+}

@@ -1,0 +1,112 @@
+//! On one thread the port of each table fails once. Refuses a daemon that does not count the failed
+//! sends of a table, that tries one again in its period or with its number, or that sends by the
+//! port of another table.
+
+ghost use Rattle.ptu_config.specs.Limits.{IsGmInRange};
+
+use super::staged::{OnceHost, StagedPort, arriving, assert_said};
+use super::waiting::{ANNOUNCE, CLIENT, request};
+use ptu_config::GmSettings;
+use ptu_config::samples::GM_SETTINGS;
+use ptu_outside::{Channel, MemClock, Opened};
+use ptu_units::Moment;
+use std::alloc::Global;
+use std::process::Abort;
+use std::sync::Wait;
+use std::test::Fail;
+use std::thread::Threads;
+
+/// The last octet of the clock identity of a client of each table.
+const OCTETS: [&str; 4] = ["13", "10", "11", "12"];
+
+const SETTINGS: GmSettings = GmSettings {
+    rounds: 3,
+    ..GM_SETTINGS
+};
+
+// A port that gives nothing, whose first send fails or not.
+fn quiet(alloc: Global, fails: bool) -> Result<StagedPort, Fail> {
+    let failing = if fails {
+        vec![in alloc; 1]?
+    } else {
+        Vec::new(alloc)
+    };
+    Ok(StagedPort::new(alloc, Vec::new(alloc), failing))
+}
+
+// Port 4, at which the client of the table requests Announces every 2 s.
+fn asked(alloc: Global, table: usize) -> Result<StagedPort, Fail> {
+    let octet = OCTETS.get(table).ok_or("there are four tables")?;
+    let ask = request(alloc, octet, ANNOUNCE)?;
+    let gives = vec![in alloc; arriving(alloc, CLIENT, ask.as_str())?]?;
+    Ok(StagedPort::new(alloc, gives, Vec::new(alloc)))
+}
+
+// A clock that tells 0 for the datagram and each turn of the first round, 2 s for the turns of the
+// second, and then 4 s.
+fn clock(alloc: Global) -> Result<MemClock, Fail> {
+    let mut moments = Vec::new(alloc);
+    for second in [0_u64, 0, 0, 0, 0, 2, 2, 2, 2, 4] {
+        let nanos = second.saturating_mul(1_000_000_000);
+        moments.push(Moment::of(nanos).ok_or("a moment is below 2^62")?)?;
+    }
+    Ok(MemClock::new(moments))
+}
+
+fn still(alloc: Global) -> MemClock {
+    MemClock::new(Vec::new(alloc))
+}
+
+// A host with a client of this table, the first send of whose port fails.
+fn host(alloc: Global, table: usize) -> Result<OnceHost<StagedPort>, Fail> {
+    Ok(OnceHost::new(Opened {
+        p0: quiet(alloc, table == 0)?,
+        p1: quiet(alloc, table == 1)?,
+        p2: quiet(alloc, table == 2)?,
+        p3: quiet(alloc, table == 3)?,
+        p4: asked(alloc, table)?,
+        p5: quiet(alloc, false)?,
+        c0: clock(alloc)?,
+        c1: still(alloc),
+        c2: still(alloc),
+        c3: still(alloc),
+        c4: still(alloc),
+        c5: still(alloc),
+    }))
+}
+
+// The number of the one Announce that the port was sent, or `None` where it was sent another list.
+fn number_sent(port: &StagedPort) -> Option<u8> {
+    let (ip, channel, bytes) = port.sent(0)?;
+    if ip != CLIENT || channel != Channel::General || port.sent(1).is_some() {
+        return None;
+    }
+    bytes.get(31).copied()
+}
+
+fn assert_table(
+    rt: &(impl Abort + Threads + Wait + Sync),
+    alloc: Global,
+    table: usize,
+) -> Result<(), Fail> {
+    let mut host = host(alloc, table)?;
+    let line = "rounds 3 sent 2 failed 1 granted 1 refused 0 held 8\n";
+    assert_said(rt, alloc, &SETTINGS, &mut host, line);
+    let back = host.back.take().expect(rt, "the ports are given back");
+    for (index, port) in [&back.p0, &back.p1, &back.p2, &back.p3]
+        .into_iter()
+        .enumerate()
+    {
+        let wanted = if index == table { Some(1) } else { None };
+        assert_eq!(rt; number_sent(port), wanted);
+    }
+    Ok(())
+}
+
+#[test]
+fn the_port_of_each_table_fails_once(rt: HostRuntime) -> Result<(), Fail> {
+    for table in 0..4 {
+        assert_table(&rt, rt.alloc(), table)?;
+    }
+    Ok(())
+}

@@ -1,0 +1,146 @@
+ghost use Rattle.std.specs.Prelude.{◌≤◌};
+
+use super::waiting::{CLIENT, SYNC, asking, grant, port};
+use ptu_config::GmSettings;
+use ptu_config::samples::GM_SETTINGS;
+use ptu_daemon::{serve, serve_in_two_steps};
+use ptu_outside::samples::opened_with;
+use ptu_outside::{Channel, MemClock, MemHost, MemPort, MemSink};
+use ptu_twostep::{Flags, TwoHost};
+use ptu_units::Moment;
+use std::alloc::Global;
+use std::process::Abort;
+use std::sync::Wait;
+use std::test::Fail;
+use std::thread::Threads;
+
+const SETTINGS: GmSettings = GmSettings {
+    rounds: 2,
+    capacity: 16,
+    two_step: true,
+    ..GM_SETTINGS
+};
+
+// The Sync that is due after one second, as it is sent, and its Follow_Up.
+const SENT_SYNC: &str = "0012002c040006000000000000000000000000000a0000000000000100010000\
+    007f00000000000100000000";
+
+const FOLLOW_UP: &str = "0812002c040004000000000000000000000000000a0000000000000100010000\
+    027f00000000000100000000";
+
+// A clock that answers 0 so many times, and then one second.
+fn clock(alloc: Global, zeros: usize) -> Result<MemClock, Fail> {
+    let mut moments = Vec::new(alloc);
+    for _ in 0..zeros {
+        moments.push(Moment::default())?;
+    }
+    moments.push(Moment::of(1_000_000_000).ok_or("a moment is below 2^63")?)?;
+    Ok(MemClock::new(moments))
+}
+
+// A host at whose general channel the ask waits, and at whose port of table 2 the sends with these
+// numbers are to fail. The second round is at one second: a moment is read for the datagram and for
+// the turns of four tables, or, in a lane, for the turns of two.
+fn host(alloc: Global, failing_sends: &[u64]) -> Result<MemHost, Fail> {
+    let general = port(alloc, asking(alloc, SYNC)?, &[], &[])?;
+    let table = port(alloc, Vec::new(alloc), failing_sends, &[])?;
+    let mut opened = opened_with(alloc, general);
+    opened.p2 = table;
+    opened.c0 = clock(alloc, 5)?;
+    opened.c1 = clock(alloc, 0)?;
+    opened.c2 = clock(alloc, 2)?;
+    opened.c3 = clock(alloc, 2)?;
+    opened.c4 = clock(alloc, 0)?;
+    opened.c5 = clock(alloc, 0)?;
+    Ok(MemHost::new(opened, false))
+}
+
+// What the port was sent at this place was sent to the client on this channel.
+fn is_sent(
+    alloc: Global,
+    port: &MemPort,
+    index: usize,
+    channel: Channel,
+    octets: &str,
+) -> Result<bool, Fail> {
+    let octets = hex::decode(alloc, octets)?;
+    Ok(port.sent(index) == Some((CLIENT, channel, octets.as_slice())))
+}
+
+// Serving in two steps with so many senders, where these sends of the port of table 2 fail, writes
+// this line. The port as it was given back.
+fn served(
+    rt: &(impl Abort + Threads + Wait + Sync),
+    alloc: Global,
+    senders: u8,
+    failing_sends: &[u64],
+    line: &str,
+) -> Result<MemHost, Fail>
+    requires { senders ≤ 4 }
+{
+    let settings = GmSettings {
+        senders,
+        ..SETTINGS
+    };
+    let mut host = host(alloc, failing_sends)?;
+    let mut sink = MemSink::new(alloc, Vec::new(alloc));
+    assert!(rt; serve_in_two_steps(rt, alloc, &settings, &mut host, &mut sink).is_ok());
+    assert!(rt; sink.bytes() == line.as_bytes(), "the line is {line}");
+    Ok(host)
+}
+
+// Where these sends of the port of table 2 fail, this line is written, the reply is sent and that
+// port is sent just these.
+fn assert_served(
+    rt: &(impl Abort + Threads + Wait + Sync),
+    alloc: Global,
+    senders: u8,
+    failing_sends: &[u64],
+    line: &str,
+    sent: &[(Channel, &str)],
+) -> Result<(), Fail>
+    requires { senders ≤ 4 }
+{
+    let host = served(rt, alloc, senders, failing_sends, line)?;
+    let back = host.back().ok_or("ports are given back")?;
+    let reply = grant(alloc, SYNC)?;
+    assert!(rt; is_sent(alloc, &back.p4, 0, Channel::General, reply.as_str())?);
+    for (place, (channel, octets)) in sent.iter().enumerate() {
+        assert!(rt; is_sent(alloc, &back.p2, place, *channel, octets)?);
+    }
+    assert!(rt; back.p2.sent(sent.len()).is_none());
+    Ok(())
+}
+
+// A Sync fails where a half of it does.
+#[test]
+fn a_sync_is_served_in_two_steps(rt: HostRuntime) -> Result<(), Fail> {
+    let alloc = rt.alloc();
+    let whole = "rounds 2 sent 2 failed 0 granted 1 refused 0 held 16\n";
+    let halved = "rounds 2 sent 1 failed 1 granted 1 refused 0 held 16\n";
+    let sync = (Channel::Event, SENT_SYNC);
+    let follow_up = (Channel::General, FOLLOW_UP);
+    for senders in [0, 2] {
+        assert_served(&rt, alloc, senders, &[], whole, &[sync, follow_up])?;
+        assert_served(&rt, alloc, senders, &[1], halved, &[follow_up])?;
+        assert_served(&rt, alloc, senders, &[2], halved, &[sync])?;
+    }
+    Ok(())
+}
+
+#[test]
+fn the_flag_of_a_port_that_failed_is_given_back(rt: HostRuntime) -> Result<(), Fail> {
+    let alloc = rt.alloc();
+    for (failing_sends, p2) in [(0, false), (1, true), (2, true)] {
+        let mut host = host(alloc, &[failing_sends])?;
+        let mut two = TwoHost::new(&mut host);
+        let mut sink = MemSink::new(alloc, Vec::new(alloc));
+        serve(&rt, alloc, &SETTINGS, &mut two, &mut sink)?;
+        let wanted = Flags {
+            p2,
+            ..Flags::default()
+        };
+        assert!(rt; two.flags() == wanted);
+    }
+    Ok(())
+}

@@ -1,0 +1,9 @@
+mod audit_lines;
+mod config;
+mod config_setup;
+mod lines;
+mod report;
+mod report_lines;
+mod script;
+mod texts;
+mod words;
