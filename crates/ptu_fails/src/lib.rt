@@ -9,6 +9,3 @@ mod watch;
 
 pub use state::WatchState;
 pub use watch::Watch;
-
-#[cfg(test)]
-mod tests;

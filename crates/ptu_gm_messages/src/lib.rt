@@ -16,6 +16,3 @@ pub use listening::{asks_of, hear, hear_in};
 pub use reason::GmReason;
 pub use replying::{cancel_of, write_reply};
 pub use room::HearingRoom;
-
-#[cfg(test)]
-mod tests;

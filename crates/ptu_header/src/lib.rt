@@ -13,6 +13,3 @@ pub use header::{Header, PortIdentity};
 pub use laws::{one_reading, reading_is_spelling, sample_headers, sent_is_read};
 pub use reading::read_header;
 pub use writing::write_header;
-
-#[cfg(test)]
-mod tests;

@@ -7,6 +7,3 @@ pub mod examples;
 pub mod laws;
 
 pub use client::{Client, table_of};
-
-#[cfg(test)]
-mod tests;

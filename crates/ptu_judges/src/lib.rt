@@ -14,6 +14,3 @@ pub use gap_judge::GapJudge;
 pub use judge::{Conduct, Judge};
 pub use ptu_record::Rule;
 pub use stock::Stock;
-
-#[cfg(test)]
-mod tests;

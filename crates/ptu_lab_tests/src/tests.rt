@@ -1,6 +1,7 @@
 mod audit;
 mod join;
 mod load;
+mod loads;
 mod memory;
 mod nodes;
 mod pieces;

@@ -8,6 +8,3 @@ pub mod laws;
 mod link;
 
 pub use link::most_messages;
-
-#[cfg(test)]
-mod tests;

@@ -1,5 +1,4 @@
-//! Tests of tables of leases, of admission, of a grandmaster, of shared tables and of pools, by
-//! what their crates export.
+//! Tests of a grandmaster, from the orders of its clients to pools, by what its crates export.
 #![tactic(auto)]
 
 #[cfg(test)]

@@ -1,5 +1,8 @@
 mod admit;
+mod gm_messages;
 mod grandmaster;
+mod history;
+mod laws;
 mod pools;
 mod shard;
 mod shared;

@@ -5,6 +5,3 @@ mod generating;
 
 pub use generating::{generate, put, sample_loads, whole_loads};
 pub use ptu_show::LabFault;
-
-#[cfg(test)]
-mod tests;

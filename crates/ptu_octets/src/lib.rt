@@ -8,6 +8,3 @@ mod writing;
 pub use laws::{sample_numbers, twos_complement, written_is_read};
 pub use reading::{high_nibble, i16_at, i64_at, low_nibble, u16_at, u32_at, u48_at, u64_at};
 pub use writing::u48_octets;
-
-#[cfg(test)]
-mod tests;

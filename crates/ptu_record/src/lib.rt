@@ -13,6 +13,3 @@ mod wants;
 pub use quality::{Quality, quality_of};
 pub use rule::Rule;
 pub use wants::{Wants, receipt_timeout};
-
-#[cfg(test)]
-mod tests;

@@ -13,6 +13,3 @@ mod requester;
 
 pub use due::Due;
 pub use requester::Requester;
-
-#[cfg(test)]
-mod tests;

@@ -7,6 +7,3 @@ mod meeting;
 
 pub use fault::DaemonFault;
 pub use meeting::Meeting;
-
-#[cfg(test)]
-mod meeting_tests;

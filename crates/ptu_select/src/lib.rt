@@ -9,6 +9,3 @@ mod master;
 mod selector;
 
 pub use selector::Selector;
-
-#[cfg(test)]
-mod tests;

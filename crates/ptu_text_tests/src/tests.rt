@@ -7,3 +7,4 @@ mod report_lines;
 mod script;
 mod texts;
 mod words;
+mod writing;

@@ -13,6 +13,3 @@ pub use laws::{one_reading, reading_is_spelling, sample_tlvs, sent_is_read};
 pub use reading::next_tlv;
 pub use tlv::{Ask, Tlv};
 pub use writing::write_tlv;
-
-#[cfg(test)]
-mod tests;

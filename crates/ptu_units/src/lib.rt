@@ -17,6 +17,3 @@ pub use log::{Log, period, rate};
 pub use memory::OutOfMemory;
 pub use moment::Moment;
 pub use stamp::Stamp;
-
-#[cfg(test)]
-mod tests;

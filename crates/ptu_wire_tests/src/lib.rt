@@ -1,4 +1,4 @@
-//! Tests of the outside and of messages, by what their crates export.
+//! Tests of units, codecs, messages and the outside, by what their crates export.
 #![tactic(auto)]
 
 #[cfg(test)]

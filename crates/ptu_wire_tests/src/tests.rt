@@ -1,3 +1,7 @@
+mod header;
 mod messages;
+mod octets;
 mod outside;
 mod ports;
+mod tlvs;
+mod units;

@@ -11,6 +11,3 @@ pub use draft::Draft;
 pub use line::LineText;
 pub use part::LinePart;
 pub use text::Text;
-
-#[cfg(test)]
-mod tests;

@@ -1,4 +1,4 @@
-use super::*;
+use ptu_fails::Watch;
 use ptu_record::Quality;
 use ptu_units::Moment;
 

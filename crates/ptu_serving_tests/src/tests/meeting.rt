@@ -1,4 +1,4 @@
-use crate::meeting::Meeting;
+use ptu_rounds::Meeting;
 use std::process::Abort;
 use std::sync::Wait;
 use std::sync::atomic::{AtomicU64, Ordering};

@@ -1,8 +1,8 @@
 ghost use Rattle.std.specs.{Option.{ForSome}, Prelude.{◌≡◌, ◌<◌, ◌^◌, length}};
 
-use super::*;
 use ptu_fails::WatchState;
 use ptu_record::Quality;
+use ptu_select::Selector;
 use ptu_units::Moment;
 use std::alloc::Global;
 use std::process::Abort;

@@ -1,4 +1,4 @@
-use super::*;
+use ptu_writing::{Draft, LineText};
 use std::test::Fail;
 
 #[test]

@@ -1,6 +1,6 @@
 ghost use Rattle.std.specs.Prelude.{◌≤◌};
 
-use super::*;
+use ptu_load::generate;
 use ptu_outside::MemSink;
 use std::alloc::Global;
 use std::test::Fail;

@@ -1,4 +1,4 @@
-use super::*;
+use ptu_laws::most_messages;
 use ptu_units::Moment;
 
 #[test]

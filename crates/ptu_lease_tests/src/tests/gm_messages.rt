@@ -1,4 +1,4 @@
-use super::*;
+use ptu_gm_messages::{GmReason, Heard, Item, asks_of, cancel_of, hear, write_reply};
 use ptu_header::PortIdentity;
 use ptu_history::Client;
 use ptu_profile::samples::CONFIG;

@@ -1,4 +1,4 @@
-use super::*;
+use ptu_units::{Kind, Log, period, rate};
 
 #[test]
 fn rates_and_periods(rt: HostRuntime) {

@@ -1,6 +1,6 @@
 use Rattle.std.proofs.Common.{subst, sym}
 use Rattle.ptu_judges.specs.Held.{StandsFor}
-use Rattle.ptu_judges.proofs.tests.ask.Goals as goal
+use Rattle.ptu_slave_tests.proofs.tests.judges.ask.Goals as goal
 
 pub returns-clause-stands : goal.returns-clause-stands
 returns-clause-stands g c =

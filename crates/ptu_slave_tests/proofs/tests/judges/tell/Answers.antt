@@ -1,6 +1,6 @@
 use Rattle.std.proofs.Common.{subst, sym}
 use Rattle.ptu_judges.specs.Held.{StandsFor}
-use Rattle.ptu_judges.proofs.tests.tell.Goals as goal
+use Rattle.ptu_slave_tests.proofs.tests.judges.tell.Goals as goal
 
 pub returns : goal.returns
 returns g c =

@@ -1,4 +1,4 @@
-use super::*;
+use ptu_record::{Quality, Wants, quality_of, receipt_timeout};
 use ptu_units::{Kind, Log};
 
 #[test]

@@ -1,4 +1,4 @@
-use super::*;
+use ptu_header::{Header, HeaderFault, PortIdentity, read_header, write_header};
 use std::alloc::{AllocError, Global};
 use std::process::Abort;
 use std::test::Fail;

@@ -1,4 +1,4 @@
-use super::*;
+use ptu_tlvs::{Ask, Tlv, TlvFault, next_tlv, write_tlv};
 use std::alloc::{AllocError, Global};
 use std::process::Abort;
 use std::test::Fail;

@@ -3,8 +3,8 @@ ghost use Rattle.ptu_record.specs.{declared.rule.Rule.{Rule}, Judges.{IsAssessme
 ghost use Rattle.ptu_record.specs.Record.{Record, Told, Judged};
 ghost use Rattle.ptu_judges.specs.Held.{Enters, Finds, StandsFor};
 
-use super::*;
-use crate::samples::OwnJudge;
+use ptu_judges::samples::OwnJudge;
+use ptu_judges::{FlagJudge, GapJudge, Judge, Rule};
 use ptu_units::Moment;
 use std::cell::Cell;
 use std::process::Abort;

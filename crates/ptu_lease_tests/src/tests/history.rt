@@ -1,7 +1,7 @@
 ghost use Rattle.std.specs.Prelude.{◌≡◌};
 ghost use Rattle.ptu_history.specs.Client.{client_cmp, kind_cmp, same_client, same_kind};
 
-use super::*;
+use ptu_history::{Client, table_of};
 use ptu_units::Kind;
 use std::cmp::Ordering;
 

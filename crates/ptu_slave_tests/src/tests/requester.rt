@@ -1,8 +1,8 @@
 //! Worked rows, whose moments and answers were made out by hand.
 ghost use Rattle.std.specs.Prelude.{◌≡◌, ◌<◌, length};
 
-use super::*;
 use ptu_record::Wants;
+use ptu_requester::{Due, Requester};
 use ptu_units::{Kind, Log, Moment};
 use std::alloc::Global;
 use std::process::Abort;

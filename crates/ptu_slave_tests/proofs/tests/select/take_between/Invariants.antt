@@ -1,5 +1,5 @@
 use Rattle.std.proofs.Common.{◌≡◌, length}
-use Rattle.ptu_select.proofs.tests.take_between.Given as goal
+use Rattle.ptu_slave_tests.proofs.tests.select.take_between.Given as goal
 
 abbrev pub invariant-loop-pair : goal.invariant-loop-pair
 invariant-loop-pair g l = length l.selector ≡ l.fn.masters

@@ -1,4 +1,6 @@
-use super::*;
+use ptu_octets::{
+    high_nibble, i16_at, i64_at, low_nibble, u16_at, u32_at, u48_at, u48_octets, u64_at,
+};
 
 #[test]
 fn numbers_stand_in_their_octets(rt: HostRuntime) {
