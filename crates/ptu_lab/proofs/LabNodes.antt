@@ -1,5 +1,5 @@
 -- The lab's nodes agree with those of a world, and so does the lab with a course.
-use Rattle.std.proofs.Common.{◌≡◌, ◌∙◌, ℕ, ◌+◌, ◌++◌, Bool, true, false, cond, eqb, List, [], ◌∷◌, map, Option, Some, None, Result, Ok, Err, IfOk, is_some, refl, sym, ap, ap₂, subst, eqb-true, eq-eqb, arith}
+use Rattle.std.proofs.Common.{◌≡◌, ◌∙◌, ℕ, ◌+◌, ◌++◌, Bool, true, false, cond, eqb, List, [], ◌∷◌, map, Option, Some, None, Result, Ok, Err, IfOk, is_some, refl, sym, ap, ap₂, subst, eqb-true, eq-eqb}
 use Rattle.std.specs.{Prelude.{nat_eq}, List.{count_by}, HashMap.{HashMap, get}}
 use Rattle.ptu_outside.specs.MemoryPort.{MemoryPort}
 use Rattle.ptu_judges.specs.Held.{Held, IsStock}
@@ -9,12 +9,12 @@ use Rattle.ptu_report_lines.specs.declared.statement.Statement.TheVariants as st
 use Rattle.ptu_record.specs.declared.rule.Rule.{Rule}
 use Rattle.ptu_profile.specs.Slave.{place_of}
 use Rattle.ptu_report.specs.Rules.{IsOutcome}
-use Rattle.ptu_script.specs.{Fields.{◌>>=◌}, declared.cause.Cause.{Cause}}
+use Rattle.ptu_script.specs.{declared.cause.Cause.{Cause}}
 use Rattle.ptu_script.specs.declared.cause.Cause.TheVariants as causes
 use Rattle.ptu_script.specs.declared.command.Command.TheVariants as commands
 use Rattle.ptu_world.specs.Deeds as world
 use Rattle.ptu_world.specs.{Deeds.{Deed}, Grandmasters.{class_deed}}
-use Rattle.ptu_world.specs.World.{Done, Nodes, Stock, datagram_numbered, delivered_to, done_by, node_at, or_cause, placed, said_by, sent_from, step, stock_without}
+use Rattle.ptu_world.specs.World.{Nodes, Stock, datagram_numbered, delivered_to, done_by, node_at, placed, said_by, sent_from, step, stock_without}
 use Rattle.ptu_world.specs.Report.{Course, course_after, is_granted, is_short, outcome_by, text_at}
 use Rattle.ptu_nodes.specs.declared.grandmaster_node.GrandmasterNode.{GrandmasterNode}
 use Rattle.ptu_nodes.specs.Doing.{HasDone}

@@ -1,6 +1,6 @@
 -- A slave whose port got room.
-use Rattle.std.proofs.Common.{◌≡◌, ◌∙◌, ℕ, ◌+◌, ◌≤◌, Bool, false, List, [], ◌∷◌, length, ap, arith, subst, sym}
-use Rattle.ptu_outside.specs.{Departure.{Departure}, MemoryPort.{IsSure, MemoryPort, octets_of}}
+use Rattle.std.proofs.Common.{◌≡◌, ◌∙◌, ℕ, ◌+◌, ◌≤◌, Bool, false, List, [], length, ap, arith, subst, sym}
+use Rattle.ptu_outside.specs.{MemoryPort.{IsSure, MemoryPort, octets_of}}
 use Rattle.ptu_judges.specs.Held.{Held}
 use Rattle.ptu_slave.specs.{Kept.{Kept}, Seen.{Seen}}
 use Rattle.ptu_nodes.specs.Standing.{IsIdle}

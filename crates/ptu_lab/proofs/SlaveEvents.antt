@@ -1,13 +1,11 @@
 -- What an event makes of a slave of a script, and what is said of it.
-use Rattle.std.proofs.Common.{◌≡◌, ◌≢◌, ℕ, zero, suc, ◌+◌, ◌<◌, ◌≤◌, max, Bool, true, false, cond, List, [], ◌∷◌, ◌++◌, length, map, Option, Some, None, refl, ap, ap₂, sym, subst, ◌∙◌, arith, append_assoc}
+use Rattle.std.proofs.Common.{◌≡◌, ◌≢◌, ℕ, zero, suc, ◌+◌, ◌<◌, ◌≤◌, max, Bool, true, false, List, [], ◌∷◌, ◌++◌, length, map, Option, Some, None, refl, ap, ap₂, sym, subst, ◌∙◌, arith}
 use Rattle.std.proofs.lemmas.Bool.{false≢true}
 use Rattle.std.specs.{List.{AllByRecursion, range_with_len}, Option.{option_map}}
-use Rattle.std.specs.Prelude.{IfSome, IsSome, OnOk, Result, Ok, Err}
+use Rattle.std.specs.Prelude.{IsSome, OnOk, Result, Ok, Err}
 use Rattle.ptu_outside.specs.{Departure.{Departure}, MemoryPort.{IsSure, MemoryPort}}
 use Rattle.ptu_record.specs.{declared.rule.Rule.{Rule}, Lists.{places}}
 use Rattle.ptu_record.specs.{Record.{Record, event_moment}, Selection.{selected_master}}
-use Rattle.ptu_record.specs.SignalFails.{Timeouts}
-use Rattle.ptu_record.proofs.Choice.{chosen_best}
 use Rattle.ptu_record.specs.Tick.{Sending}
 use Rattle.ptu_record.specs.Step.{ReplaceJudge, SlaveEvent, SlaveSetup, judged_masters, sendings, slave_step}
 use Rattle.ptu_judges.specs.Held.{Held, IsFresh, fresh}

@@ -1,8 +1,8 @@
 -- A slave of a script with one master more.
-use Rattle.std.proofs.Common.{◌≡◌, ◌≢◌, ℕ, zero, suc, ◌<◌, Bool, true, false, cond, List, [], ◌∷◌, ◌++◌, length, map, Option, Some, None, refl, ap, ap₂, sym, subst, ◌∙◌, arith, length-append, get_or}
+use Rattle.std.proofs.Common.{◌≡◌, ◌≢◌, ℕ, suc, ◌<◌, Bool, true, false, cond, List, [], ◌∷◌, ◌++◌, length, map, Option, Some, None, refl, ap, ap₂, sym, subst, ◌∙◌, arith, length-append, get_or}
 use Rattle.std.proofs.lemmas.{Bool.{false≢true}, Bool.Decides.{nat_tests}, List.{map-append}}
 use Rattle.std.proofs.lemmas.List.{Quantifiers.{all_pairs_push}, Sums.{fails_before_first}}
-use Rattle.std.specs.List.{All, AllByRecursion, position_or_len, slice_get, slice_index_or}
+use Rattle.std.specs.List.{AllByRecursion, position_or_len, slice_get, slice_index_or}
 use Rattle.std.specs.Prelude.{IsSome, nat_lt, ◌==◌}
 use Rattle.ptu_history.proofs.Keys.{eq-eqb-self}
 use Rattle.ptu_outside.specs.MemoryPort.{IsSure, MemoryPort}

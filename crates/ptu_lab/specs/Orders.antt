@@ -1,5 +1,4 @@
 -- What a command asks of the lab.
-use Rattle.std.specs.Prelude.{ℕ}
 use Rattle.ptu_script.specs.Limits.{IsGrandmasterWithin, IsNamed, IsSlaveWithin}
 use Rattle.ptu_script.specs.declared.command.Command.{Command}
 use Rattle.ptu_script.specs.declared.command.Command.TheVariants as commands

@@ -1,6 +1,6 @@
 -- Which worlds the lab stands for.
 use Rattle.std.specs.Prelude.{◌≡◌, ℕ, Bool, true, nat_eq, List, length, map, Option, Some, None}
-use Rattle.std.specs.{HashMap.{get}, declared.dyn_box.DynBox.{DynBox}}
+use Rattle.std.specs.{HashMap.{get}}
 use Rattle.ptu_outside.specs.MemoryPort.{MemoryPort}
 use Rattle.ptu_judges.specs.{Held.{Held, IsStock}, declared.judge.Judge.{Ghosts}}
 use Rattle.ptu_slave.specs.Seen.{Seen, seen}

@@ -1,12 +1,12 @@
 -- What the lab has done at a command.
-use Rattle.std.specs.Prelude.{◌≡◌, ℕ, List, [], length, Option, Some, None, Result, Ok, Err}
+use Rattle.std.specs.Prelude.{◌≡◌, ℕ, Bool, List, length, Option, Some, None, Result, Ok, Err, if◌then◌else◌}
 use Rattle.ptu_record.specs.declared.rule.Rule.{Rule}
 use Rattle.ptu_judges.specs.Held.{Held, IsStock, fresh}
 use Rattle.ptu_report.specs.Rules.{IsOutcome}
 use Rattle.ptu_script.specs.declared.cause.Cause.{Cause}
 use Rattle.ptu_script.specs.declared.cause.Cause.TheVariants as causes
 use Rattle.ptu_script.specs.declared.command.Command.{Command}
-use Rattle.ptu_world.specs.{Deeds.{Deed, Node}, World.{Stock, quietly, set_up, step, stock_without}}
+use Rattle.ptu_world.specs.{Deeds.{Deed, Node}, World.{Stock, step, stock_without}}
 use Rattle.ptu_world.specs.Report.{Course, outcome_by}
 use Rattle.ptu_lab.specs.declared.lab.Node.{Node as LabNode}
 use Rattle.ptu_lab.specs.declared.lab.Node.TheVariants as nodes
@@ -19,10 +19,10 @@ abbrev pub HasStepped : ℕ → (before after : Course → Type 0) → List (Lis
 HasStepped line before after texts command refused = (c : Course) → before c
     → IsOutcome (outcome_by c line (step c.world command)) after texts refused
 
--- whatever the course was, the node was set up at the address, or this is why it is refused
-abbrev pub HasSetUp : (before after : Course → Type 0) → ℕ → Node → Option Cause → Type 0
-HasSetUp before after ip node refused = (line : ℕ) (c : Course) → before c
-    → IsOutcome (outcome_by c line (quietly (set_up c.world ip node))) after [] refused
+-- why no node is set up, where none is: there was an event, or the address has a node
+abbrev pub refusal : (has_begun has_node : Bool) → Option Cause
+refusal has_begun has_node =
+    if has_begun then Some causes.Order else if has_node then Some causes.Node else None
 
 -- ---- judges
 

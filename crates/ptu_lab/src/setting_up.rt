@@ -1,13 +1,12 @@
 //! The lab's nodes are set up.
-ghost use Rattle.std.specs.Prelude.{◌≡◌, ℕ, [], false, cond, nat_eq, Some, None, IfOk};
+ghost use Rattle.std.specs.Prelude.{◌≡◌, ℕ, [], cond, is_some, nat_eq, Some, None, IfOk};
 ghost use Rattle.std.specs.{Option.{MatchOption}, HashMap.{get}};
 ghost use Rattle.ptu_script.specs.Limits.{IsGrandmasterWithin, IsNamed, IsSlaveWithin};
 ghost use Rattle.ptu_script.specs.declared.command.Command.TheVariants as commands;
-ghost use Rattle.ptu_world.specs.Deeds as world;
 ghost use Rattle.ptu_world.specs.Report.{Course};
 ghost use Rattle.ptu_lab.specs.declared.lab.Node.TheVariants as described;
-ghost use Rattle.ptu_lab.specs.Steps.{HasSetUp, IsNoSlave};
-ghost use Rattle.ptu_lab.specs.Standing.{HasObeyed, LabStandsFor, NodeStandsAs};
+ghost use Rattle.ptu_lab.specs.Steps.{IsNoSlave, refusal};
+ghost use Rattle.ptu_lab.specs.Standing.{HasObeyed, LabStandsFor};
 
 use crate::lab::{Lab, Node};
 use crate::slave_node::SlaveNode;
@@ -18,6 +17,9 @@ use ptu_script::{Cause, GrandmasterSetup, SlaveSetup};
 use ptu_units::OutOfMemory;
 use std::collections::HashMap;
 
+// Drops a grandmaster, in one place.
+fn lose(_: GrandmasterNode) {}
+
 // Takes the slave at an address out, if one is there; what else is there is lost.
 fn take_slave(nodes: &mut HashMap<u32, Node>, ip: u32) -> Option<SlaveNode>
     ensures found { MatchOption result (IsNoSlave (get nat_eq nodes.old ip))
@@ -26,30 +28,27 @@ fn take_slave(nodes: &mut HashMap<u32, Node>, ip: u32) -> Option<SlaveNode>
         ≡ cond (nat_eq ip q) None (get nat_eq nodes.old q) }
 {
     match nodes.remove(&ip) {
-        None | Some(Node::Grandmaster(_)) => None,
+        None => None,
+        Some(Node::Grandmaster(node)) => {
+            lose(node);
+            None
+        }
         Some(Node::Slave(node)) => Some(node),
     }
 }
 
 impl Lab {
-    // A new node at an address that no other has, before the first event.
-    fn set_up(&mut self, ip: u32, node: Node) -> Result<Option<Cause>, OutOfMemory>
-        ensures made { IfOk result (λ refused. (w : world.Node) →
-            NodeStandsAs ⟦<dyn Judge as Judge>⟧ ip false node w
-            → HasSetUp
-            (LabStandsFor ⟦<dyn Judge as Judge>⟧ self.old)
-            (LabStandsFor ⟦<dyn Judge as Judge>⟧ self.new)
-            ip w refused) }
-        ensures journal { self.new.journal ≡ self.old.journal }
+    // Why no node is set up at an address, where none is: there was an event, or it has a node.
+    fn refusal(&self, ip: u32) -> Option<Cause>
+        ensures { result ≡ refusal self.now.has_begun (is_some (get nat_eq self.now.nodes ip)) }
     {
         if self.has_begun {
-            return Ok(Some(Cause::Order));
+            return Some(Cause::Order);
         }
         if self.nodes.contains_key(&ip) {
-            return Ok(Some(Cause::Node));
+            return Some(Cause::Node);
         }
-        self.nodes.insert(ip, node)?;
-        Ok(None)
+        None
     }
 
     /// A grandmaster is set up.
@@ -65,8 +64,12 @@ impl Lab {
             self.old self.new line [] (commands.Grandmaster setup.now) refused) }
         ensures journal { self.new.journal ≡ self.old.journal }
     {
+        if let Some(cause) = self.refusal(setup.ip) {
+            return Ok(Some(cause));
+        }
         let node = GrandmasterNode::new(self.journal.alloc(), setup);
-        self.set_up(setup.ip, Node::Grandmaster(node))
+        self.nodes.insert(setup.ip, Node::Grandmaster(node))?;
+        Ok(None)
     }
 
     /// A slave without masters is set up.
@@ -79,8 +82,12 @@ impl Lab {
             self.old self.new line [] (commands.Slave setup.now) refused) }
         ensures journal { self.new.journal ≡ self.old.journal }
     {
+        if let Some(cause) = self.refusal(setup.ip) {
+            return Ok(Some(cause));
+        }
         let node = SlaveNode::new(self.journal.alloc(), setup)?;
-        self.set_up(setup.ip, Node::Slave(node))
+        self.nodes.insert(setup.ip, Node::Slave(node))?;
+        Ok(None)
     }
 
     /// The slave at an address gets a master at the end of its list, with a judge of the rule.

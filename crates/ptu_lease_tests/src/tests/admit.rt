@@ -39,14 +39,24 @@ fn table(alloc: Global) -> Result<Shard<MemPort>, Fail> {
     Ok(shard)
 }
 
+// Two tables.
+fn two_tables(alloc: Global) -> Result<(Shard<MemPort>, Shard<MemPort>), Fail> {
+    let first = table(alloc)?;
+    let second = table(alloc)?;
+    Ok((first, second))
+}
+
 fn open_site(rt: &impl Abort, alloc: Global, capacity: u64) -> Result<Site, Fail> {
     assert!(rt; 1 <= capacity && capacity <= 16_777_216);
+    let book = Book::new(capacity);
+    let (s0, s1) = two_tables(alloc)?;
+    let (s2, s3) = two_tables(alloc)?;
     Ok(Site {
-        s0: table(alloc)?,
-        s1: table(alloc)?,
-        s2: table(alloc)?,
-        s3: table(alloc)?,
-        book: Book::new(capacity),
+        s0,
+        s1,
+        s2,
+        s3,
+        book,
     })
 }
 
@@ -178,6 +188,21 @@ fn take_step(
     Ok(())
 }
 
+fn take_all(
+    rt: &impl Abort,
+    alloc: Global,
+    site: &mut Site,
+    config: &GmConfig,
+    steps: &[Step],
+) -> Result<(), Fail>
+    requires { IsWithinLimits config.now }
+{
+    for step in steps {
+        take_step(rt, alloc, site, config, step)?;
+    }
+    Ok(())
+}
+
 // A grandmaster with this capacity and longest duration takes the steps.
 fn take_steps(
     rt: &impl Abort,
@@ -186,12 +211,8 @@ fn take_steps(
     max_duration: u32,
     steps: &[Step],
 ) -> Result<(), Fail> {
-    let config = config_of(max_duration);
     let mut site = open_site(rt, alloc, capacity)?;
-    for step in steps {
-        take_step(rt, alloc, &mut site, &config, step)?;
-    }
-    Ok(())
+    take_all(rt, alloc, &mut site, &config_of(max_duration), steps)
 }
 
 const MINUTE: u64 = 60 * SECOND;
@@ -258,36 +279,51 @@ fn ask_one(shard: &mut Shard<MemPort>, book: &mut Book, client: &Client) -> Opti
     verdict.map(|verdict| numbers_of(&verdict))
 }
 
+// Client 2 asks over table 2, and client 3 over table 3.
+fn ask_two(rt: &impl Abort, site: &mut Site) -> Result<Option<Told>, Fail> {
+    site.s2.reserve(1)?;
+    check_sum(rt, site);
+    Ok(ask_one(&mut site.s2, &mut site.book, &TWO))
+}
+
+fn ask_three(rt: &impl Abort, site: &mut Site) -> Result<Option<Told>, Fail> {
+    site.s3.reserve(1)?;
+    check_sum(rt, site);
+    Ok(ask_one(&mut site.s3, &mut site.book, &THREE))
+}
+
+// Client 2 cancels at a second: whether a grant ended.
+fn cancel_two(rt: &impl Abort, site: &mut Site) -> Result<bool, Fail> {
+    check_sum(rt, site);
+    let Site { s2, book, .. } = site;
+    Ok(cancel(s2, book, moment(SECOND)?, &TWO, Kind::Announce).ended)
+}
+
+fn close(rt: &impl Abort, site: &mut Site) {
+    check_sum(rt, site);
+    let Site {
+        s0,
+        s1,
+        s2,
+        s3,
+        book,
+    } = site;
+    finish(s0, s1, s2, s3, book);
+    assert_eq!(rt; site.book.total(), 0);
+}
+
+fn ask_and_cancel(rt: &impl Abort, site: &mut Site) -> Result<(), Fail> {
+    assert_eq!(rt; ask_two(rt, site)?, Some(GRANTED));
+    assert_eq!(rt; ask_three(rt, site)?, None);
+    assert!(rt; cancel_two(rt, site)?);
+    close(rt, site);
+    Ok(())
+}
+
 #[test]
 fn one_table_alone(rt: HostRuntime) -> Result<(), Fail> {
     let mut site = open_site(&rt, rt.alloc(), 8)?;
-    site.s2.reserve(1)?;
-    site.s3.reserve(1)?;
-    check_sum(&rt, &site);
-    assert_eq!(rt; ask_one(&mut site.s2, &mut site.book, &TWO), Some(GRANTED));
-    check_sum(&rt, &site);
-    assert_eq!(rt; ask_one(&mut site.s3, &mut site.book, &THREE), None);
-    check_sum(&rt, &site);
-    assert!(rt;
-        cancel(
-            &mut site.s2,
-            &mut site.book,
-            moment(SECOND)?,
-            &TWO,
-            Kind::Announce
-        )
-        .ended
-    );
-    check_sum(&rt, &site);
-    finish(
-        &mut site.s0,
-        &mut site.s1,
-        &mut site.s2,
-        &mut site.s3,
-        &mut site.book,
-    );
-    assert_eq!(rt; site.book.total(), 0);
-    Ok(())
+    ask_and_cancel(&rt, &mut site)
 }
 
 // How many grants are made, and how many of them a change of capacity sheds. Were all rows looked
@@ -332,12 +368,16 @@ fn check_shed(rt: &impl Abort, resized: &Resized) {
     assert_eq!(rt; number, MANY - MOST);
 }
 
+fn shed_most(rt: &impl Abort, alloc: Global, site: &mut Site) -> Result<(), Fail> {
+    grant_many(rt, site, MANY)?;
+    let resized = change(rt, alloc, site, MANY as u64, (MANY - MOST) as u64)?;
+    check_shed(rt, &resized);
+    Ok(())
+}
+
 #[test]
 fn most_of_many_grants_are_shed(rt: HostRuntime) -> Result<(), Fail> {
     let alloc = rt.alloc();
     let mut site = open_site(&rt, alloc, MANY as u64)?;
-    grant_many(&rt, &mut site, MANY)?;
-    let resized = change(&rt, alloc, &mut site, MANY as u64, (MANY - MOST) as u64)?;
-    check_shed(&rt, &resized);
-    Ok(())
+    shed_most(&rt, alloc, &mut site)
 }

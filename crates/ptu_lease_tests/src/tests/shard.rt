@@ -130,13 +130,15 @@ fn a_delay_req_has_a_credit_of_two(rt: HostRuntime) -> Result<(), Fail> {
     Ok(())
 }
 
-#[test]
-fn a_failed_send_spends_its_period(rt: HostRuntime) -> Result<(), Fail> {
-    let mut shard = table(&rt, rt.alloc(), Kind::Announce, vec![in rt.alloc(); 1]?)?;
+fn assert_fails_once(
+    rt: &impl Abort,
+    alloc: Global,
+    shard: &mut Shard<MemPort>,
+) -> Result<(), Fail> {
     let turns = [(SECOND, 0, 1), (1_999_999_999, 0, 0), (2 * SECOND, 1, 0)];
-    assert_turns(&rt, &mut shard, &turns)?;
+    assert_turns(rt, shard, &turns)?;
     let announce = hex::decode(
-        rt.alloc(),
+        alloc,
         "0b120040040004000000000000000000000000000a0000000000000100010001057f\
          000000000002000000000000008054feffff800a000000000000010000a0",
     )?;
@@ -146,6 +148,12 @@ fn a_failed_send_spends_its_period(rt: HostRuntime) -> Result<(), Fail> {
         Some((TWO.ip, Channel::General, announce.as_slice()))
     );
     Ok(())
+}
+
+#[test]
+fn a_failed_send_spends_its_period(rt: HostRuntime) -> Result<(), Fail> {
+    let mut shard = table(&rt, rt.alloc(), Kind::Announce, vec![in rt.alloc(); 1]?)?;
+    assert_fails_once(&rt, rt.alloc(), &mut shard)
 }
 
 // A row of the client of this number, granted at 0 for 300 s.

@@ -262,14 +262,19 @@ fn event(alloc: Global, fault: Fault) -> Result<Vec<Given>, Fail> {
     ]?)
 }
 
+// The sends of the port of this index that are to fail.
+fn failing_sends(alloc: Global, fault: Fault, index: usize) -> Result<Vec<u64>, Fail> {
+    match fault {
+        Fault::Send(port, place) if port == index => {
+            Ok(vec![in alloc; (place as u64).saturating_add(1)]?)
+        }
+        _ => Ok(Vec::new(alloc)),
+    }
+}
+
 // The port of this index, which gives these.
 fn port(alloc: Global, fault: Fault, index: usize, gives: Vec<Given>) -> Result<StagedPort, Fail> {
-    let mut failing = Vec::new(alloc);
-    if let Fault::Send(port, place) = fault
-        && port == index
-    {
-        failing.push((place as u64).saturating_add(1))?;
-    }
+    let failing = failing_sends(alloc, fault, index)?;
     Ok(StagedPort::new(alloc, gives, failing))
 }
 

@@ -1,4 +1,4 @@
-use Rattle.std.proofs.Common.{◌∙◌, length, map, refl, ap}
+use Rattle.std.proofs.Common.{◌∙◌, length, refl, ap}
 use Rattle.ptu_report.proofs.Answered.{answers_also, fails_also, run_through_by}
 use Rattle.ptu_world.specs.Report.{course_opening, rules}
 use Rattle.ptu_world.proofs.{Counting.{granted_within, short_within}, Reported.{texts_of_rules}}

@@ -1,4 +1,4 @@
-use Rattle.std.proofs.Common.{ap, arith, length, refl, subst}
+use Rattle.std.proofs.Common.{ap, length, refl, subst}
 use Rattle.ptu_outside.proofs.HandsOver.{hands_surely, hands_whole}
 use Rattle.ptu_slave.specs.Seen.{Seen, seen}
 use Rattle.ptu_lab.specs.SlaveStatements.{IsOfOne}

@@ -1,4 +1,4 @@
-use Rattle.std.proofs.Common.{map, subst}
+use Rattle.std.proofs.Common.{subst}
 use Rattle.ptu_slave.specs.Seen.{seen}
 use Rattle.ptu_lab.specs.Standing.{StandsAs}
 use Rattle.ptu_lab.proofs.LabNodes.{grandmaster_acts, grandmaster_means, ok_also, slave_acts}

@@ -1,5 +1,4 @@
 use Rattle.std.proofs.Common.{refl, sym}
-use Rattle.ptu_slave.specs.Seen.{seen}
 use Rattle.ptu_lab.proofs.LabNodes.{leaving, ok_also}
 use Rattle.ptu_lab.proofs.slave_node.SlaveNode.act.Goals as goal
 

@@ -1,4 +1,4 @@
-use Rattle.std.proofs.Common.{Some, map, sym, ◌∙◌}
+use Rattle.std.proofs.Common.{Some, sym, ◌∙◌}
 use Rattle.ptu_record.specs.Step.{ReplaceJudge}
 use Rattle.ptu_world.specs.Slaves.{plain_deed}
 use Rattle.ptu_slave.specs.Seen.{seen}
