@@ -144,6 +144,8 @@ fn host(alloc: Global, seen: &Seen) -> Result<OnceHost<LanePort<'_>>, Fail> {
         arriving(alloc, 0x0a00_0104, request(alloc, "04", SYNC)?.as_str())?,
     ]?;
     let delay = vec![in alloc; Given::Nothing, arriving(alloc, 0x0a00_0103, DELAY_REQ)?]?;
+    let c2 = going(alloc)?;
+    let c3 = going(alloc)?;
     let opened = Opened {
         p0: port(alloc, seen, Role::Held, Vec::new(alloc)),
         p1: port(alloc, seen, Role::Beside, Vec::new(alloc)),
@@ -153,8 +155,8 @@ fn host(alloc: Global, seen: &Seen) -> Result<OnceHost<LanePort<'_>>, Fail> {
         p5: port(alloc, seen, Role::Event, delay),
         c0: still_clock(alloc),
         c1: still_clock(alloc),
-        c2: going(alloc)?,
-        c3: going(alloc)?,
+        c2,
+        c3,
         c4: still_clock(alloc),
         c5: still_clock(alloc),
     };

@@ -23,7 +23,7 @@
 ghost use Rattle.std.specs.Prelude.{◌≤◌};
 ghost use Rattle.ptu_config.specs.Limits.{IsGmInRange};
 
-use super::staged::{Given, OnceHost, StagedPort, arriving, assert_said};
+use super::staged::{Given, OnceHost, StagedPort, arriving, assert_said, still};
 use ptu_config::GmSettings;
 use ptu_config::samples::GM_SETTINGS;
 use ptu_outside::{Channel, Clock, MemClock, Opened};
@@ -318,30 +318,51 @@ fn turning(alloc: Global, senders: u8, lane: usize) -> Result<MemClock, Fail>
     Ok(MemClock::new(moments))
 }
 
-// The host of a case.
-fn host(alloc: Global, senders: u8, case: Case) -> Result<OnceHost<StagedPort>, Fail>
+fn set_ports(
+    alloc: Global,
+    fault: Fault,
+    opened: &mut Opened<StagedPort, MemClock>,
+) -> Result<(), Fail> {
+    opened.p0 = quiet(alloc, fault, 0)?;
+    opened.p1 = quiet(alloc, fault, 1)?;
+    opened.p2 = quiet(alloc, fault, 2)?;
+    opened.p3 = quiet(alloc, fault, 3)?;
+    opened.p4 = port(alloc, fault, 4, general(alloc, fault)?)?;
+    opened.p5 = port(alloc, fault, 5, event(alloc, fault)?)?;
+    Ok(())
+}
+
+fn set_clocks(
+    alloc: Global,
+    senders: u8,
+    change: Change,
+    opened: &mut Opened<StagedPort, MemClock>,
+) -> Result<(), Fail>
     requires { 1 ≤ senders }
 {
-    let (change, fault, ..) = case;
     let control = if change == Change::First {
         &CONTROL[..]
     } else {
         &CONTROL[1..]
     };
-    Ok(OnceHost::new(Opened {
-        p0: quiet(alloc, fault, 0)?,
-        p1: quiet(alloc, fault, 1)?,
-        p2: quiet(alloc, fault, 2)?,
-        p3: quiet(alloc, fault, 3)?,
-        p4: port(alloc, fault, 4, general(alloc, fault)?)?,
-        p5: port(alloc, fault, 5, event(alloc, fault)?)?,
-        c0: clock(alloc, control)?,
-        c1: clock(alloc, &DELAYS)?,
-        c2: turning(alloc, senders, 0)?,
-        c3: turning(alloc, senders, 1)?,
-        c4: turning(alloc, senders, 2)?,
-        c5: turning(alloc, senders, 3)?,
-    }))
+    opened.c0 = clock(alloc, control)?;
+    opened.c1 = clock(alloc, &DELAYS)?;
+    opened.c2 = turning(alloc, senders, 0)?;
+    opened.c3 = turning(alloc, senders, 1)?;
+    opened.c4 = turning(alloc, senders, 2)?;
+    opened.c5 = turning(alloc, senders, 3)?;
+    Ok(())
+}
+
+// The host of a case.
+fn host(alloc: Global, senders: u8, case: Case) -> Result<OnceHost<StagedPort>, Fail>
+    requires { 1 ≤ senders }
+{
+    let (change, fault, ..) = case;
+    let mut opened = still(alloc);
+    set_ports(alloc, fault, &mut opened)?;
+    set_clocks(alloc, senders, change, &mut opened)?;
+    Ok(OnceHost::new(opened))
 }
 
 fn settings(senders: u8, change: Change) -> GmSettings
@@ -570,21 +591,10 @@ fn many(alloc: Global) -> Result<Vec<Given>, Fail> {
 }
 
 // A host whose clocks are at 0, and whose general channel gives these.
-fn still_host(alloc: Global, gives: Vec<Given>) -> Result<OnceHost<StagedPort>, Fail> {
-    Ok(OnceHost::new(Opened {
-        p0: quiet(alloc, Fault::Nothing, 0)?,
-        p1: quiet(alloc, Fault::Nothing, 1)?,
-        p2: quiet(alloc, Fault::Nothing, 2)?,
-        p3: quiet(alloc, Fault::Nothing, 3)?,
-        p4: port(alloc, Fault::Nothing, 4, gives)?,
-        p5: quiet(alloc, Fault::Nothing, 5)?,
-        c0: clock(alloc, &[])?,
-        c1: clock(alloc, &[])?,
-        c2: clock(alloc, &[])?,
-        c3: clock(alloc, &[])?,
-        c4: clock(alloc, &[])?,
-        c5: clock(alloc, &[])?,
-    }))
+fn still_host(alloc: Global, gives: Vec<Given>) -> OnceHost<StagedPort> {
+    let mut opened = still(alloc);
+    opened.p4 = StagedPort::new(alloc, gives, Vec::new(alloc));
+    OnceHost::new(opened)
 }
 
 // Behind the 41 grants stand the CANCELs of all but the first client, the greatest address first.
@@ -614,7 +624,7 @@ const SHEDDING: GmSettings = GmSettings {
 #[test]
 fn a_change_sheds_forty_grants(rt: HostRuntime) -> Result<(), Fail> {
     let alloc = rt.alloc();
-    let mut host = still_host(alloc, many(alloc)?)?;
+    let mut host = still_host(alloc, many(alloc)?);
     let line = "rounds 2 sent 81 failed 0 granted 41 refused 0 held 1\n";
     assert_said(&rt, alloc, &SHEDDING, &mut host, line);
     let back = host.back.take().expect(&rt, "the ports are given back");

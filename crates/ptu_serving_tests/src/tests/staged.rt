@@ -6,6 +6,7 @@ ghost use Rattle.ptu_config.specs.Limits.{IsGmInRange};
 
 use ptu_config::GmSettings;
 use ptu_daemon::serve;
+use ptu_outside::samples::still_clock;
 use ptu_outside::{
     Arrival, Channel, Datagram, Failed, Host, MemClock, MemPort, MemSink, Opened, Port,
 };
@@ -95,6 +96,29 @@ impl Port for StagedPort {
             Some(Given::Nothing) | None => Ok(None),
             Some(Given::Failure) => Err(self.fail()),
         }
+    }
+}
+
+// A port that gives nothing, no send of which fails.
+fn still_port(alloc: Global) -> StagedPort {
+    StagedPort::new(alloc, Vec::new(alloc), Vec::new(alloc))
+}
+
+/// Ports that give nothing and fail nowhere, and clocks that stand at 0.
+pub(crate) fn still(alloc: Global) -> Opened<StagedPort, MemClock> {
+    Opened {
+        p0: still_port(alloc),
+        p1: still_port(alloc),
+        p2: still_port(alloc),
+        p3: still_port(alloc),
+        p4: still_port(alloc),
+        p5: still_port(alloc),
+        c0: still_clock(alloc),
+        c1: still_clock(alloc),
+        c2: still_clock(alloc),
+        c3: still_clock(alloc),
+        c4: still_clock(alloc),
+        c5: still_clock(alloc),
     }
 }
 

@@ -4,7 +4,7 @@
 
 ghost use Rattle.ptu_config.specs.Limits.{IsGmInRange};
 
-use super::staged::{OnceHost, StagedPort, arriving, assert_said};
+use super::staged::{OnceHost, StagedPort, arriving, assert_said, still};
 use super::waiting::{ANNOUNCE, CLIENT, request};
 use ptu_config::GmSettings;
 use ptu_config::samples::GM_SETTINGS;
@@ -24,14 +24,9 @@ const SETTINGS: GmSettings = GmSettings {
     ..GM_SETTINGS
 };
 
-// A port that gives nothing, whose first send fails or not.
-fn quiet(alloc: Global, fails: bool) -> Result<StagedPort, Fail> {
-    let failing = if fails {
-        vec![in alloc; 1]?
-    } else {
-        Vec::new(alloc)
-    };
-    Ok(StagedPort::new(alloc, Vec::new(alloc), failing))
+// A port that gives nothing, whose first send fails.
+fn failing(alloc: Global) -> Result<StagedPort, Fail> {
+    Ok(StagedPort::new(alloc, Vec::new(alloc), vec![in alloc; 1]?))
 }
 
 // Port 4, at which the client of the table requests Announces every 2 s.
@@ -53,26 +48,25 @@ fn clock(alloc: Global) -> Result<MemClock, Fail> {
     Ok(MemClock::new(moments))
 }
 
-fn still(alloc: Global) -> MemClock {
-    MemClock::new(Vec::new(alloc))
+// The port of this table fails, the client asks at port 4, and clock 0 goes.
+fn set(alloc: Global, table: usize, opened: &mut Opened<StagedPort, MemClock>) -> Result<(), Fail> {
+    let port = failing(alloc)?;
+    match table {
+        0 => opened.p0 = port,
+        1 => opened.p1 = port,
+        2 => opened.p2 = port,
+        _ => opened.p3 = port,
+    }
+    opened.p4 = asked(alloc, table)?;
+    opened.c0 = clock(alloc)?;
+    Ok(())
 }
 
 // A host with a client of this table, the first send of whose port fails.
 fn host(alloc: Global, table: usize) -> Result<OnceHost<StagedPort>, Fail> {
-    Ok(OnceHost::new(Opened {
-        p0: quiet(alloc, table == 0)?,
-        p1: quiet(alloc, table == 1)?,
-        p2: quiet(alloc, table == 2)?,
-        p3: quiet(alloc, table == 3)?,
-        p4: asked(alloc, table)?,
-        p5: quiet(alloc, false)?,
-        c0: clock(alloc)?,
-        c1: still(alloc),
-        c2: still(alloc),
-        c3: still(alloc),
-        c4: still(alloc),
-        c5: still(alloc),
-    }))
+    let mut opened = still(alloc);
+    set(alloc, table, &mut opened)?;
+    Ok(OnceHost::new(opened))
 }
 
 // The number of the one Announce that the port was sent, or `None` where it was sent another list.

@@ -5,7 +5,7 @@ use ptu_config::GmSettings;
 use ptu_config::samples::GM_SETTINGS;
 use ptu_daemon::{serve, serve_in_two_steps};
 use ptu_outside::samples::opened_with;
-use ptu_outside::{Channel, MemClock, MemHost, MemPort, MemSink};
+use ptu_outside::{Channel, MemClock, MemHost, MemPort, MemSink, Opened};
 use ptu_twostep::{Flags, TwoHost};
 use ptu_units::Moment;
 use std::alloc::Global;
@@ -38,20 +38,26 @@ fn clock(alloc: Global, zeros: usize) -> Result<MemClock, Fail> {
     Ok(MemClock::new(moments))
 }
 
-// A host at whose general channel the ask waits, and at whose port of table 2 the sends with these
-// numbers are to fail. The second round is at one second: a moment is read for the datagram and for
-// the turns of four tables, or, in a lane, for the turns of two.
-fn host(alloc: Global, failing_sends: &[u64]) -> Result<MemHost, Fail> {
-    let general = port(alloc, asking(alloc, SYNC)?, &[], &[])?;
-    let table = port(alloc, Vec::new(alloc), failing_sends, &[])?;
-    let mut opened = opened_with(alloc, general);
-    opened.p2 = table;
+// The second round is at one second: a moment is read for the datagram and for the turns of four
+// tables, or, in a lane, for the turns of two.
+fn set_clocks(alloc: Global, opened: &mut Opened<MemPort, MemClock>) -> Result<(), Fail> {
     opened.c0 = clock(alloc, 5)?;
     opened.c1 = clock(alloc, 0)?;
     opened.c2 = clock(alloc, 2)?;
     opened.c3 = clock(alloc, 2)?;
     opened.c4 = clock(alloc, 0)?;
     opened.c5 = clock(alloc, 0)?;
+    Ok(())
+}
+
+// A host at whose general channel the ask waits, and at whose port of table 2 the sends with these
+// numbers are to fail.
+fn host(alloc: Global, failing_sends: &[u64]) -> Result<MemHost, Fail> {
+    let general = port(alloc, asking(alloc, SYNC)?, &[], &[])?;
+    let table = port(alloc, Vec::new(alloc), failing_sends, &[])?;
+    let mut opened = opened_with(alloc, general);
+    opened.p2 = table;
+    set_clocks(alloc, &mut opened)?;
     Ok(MemHost::new(opened, false))
 }
 
