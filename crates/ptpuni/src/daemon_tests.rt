@@ -84,8 +84,10 @@ fn served(
         (0, 0),
         &mut host,
         no_judges(alloc),
-    )?;
-    Ok((found, is_answered(&host, &GRANT)))
+    );
+    let answered = is_answered(&host, &GRANT);
+    drop(host);
+    Ok((found?, answered))
 }
 
 // The settings of a grandmaster with these behind them.
@@ -158,7 +160,9 @@ fn followed(
 {
     let alloc = rt.alloc();
     let mut host = MemHost::new(opened_with(alloc, empty_port(alloc)?), false);
-    ran(rt, &["slave"], SLAVE, (0, 0), &mut host, stock)
+    let found = ran(rt, &["slave"], SLAVE, (0, 0), &mut host, stock);
+    drop(host);
+    found
 }
 
 #[test]

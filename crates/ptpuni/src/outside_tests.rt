@@ -95,7 +95,6 @@ fn calls_of(
     requires { IsStock (map (λ j. held (j.vtable, j.value)) stock.flags.items)
         (map (λ j. held (j.vtable, j.value)) stock.gaps.items) }
 {
-    let alloc = rt.alloc();
     let diary = Cell::new(1);
     let mut source = Lines {
         text: input.as_bytes(),
@@ -107,7 +106,9 @@ fn calls_of(
         faults: 0,
         diary: &diary,
     };
-    let status = run(rt, words, &mut source, &mut sink, &mut shut(alloc), stock);
+    let mut host = shut(rt.alloc());
+    let status = run(rt, words, &mut source, &mut sink, &mut host, stock);
+    drop(host);
     Ok((status, diary.get()))
 }
 
@@ -156,10 +157,12 @@ fn input_and_output_of_daemons_fail(rt: HostRuntime) -> Result<(), Fail> {
     ] {
         let stock = no_judges(rt.alloc());
         let mut host = open(rt.alloc());
-        let (found, text) = ran(&rt, &[word], input, (read, write), &mut host, stock)?;
+        let run = ran(&rt, &[word], input, (read, write), &mut host, stock);
+        assert_eq!(rt; host.back().is_some(), is_back);
+        drop(host);
+        let (found, text) = run?;
         assert_eq!(rt; found, status);
         assert_eq!(rt; text.as_str(), "");
-        assert_eq!(rt; host.back().is_some(), is_back);
     }
     Ok(())
 }
@@ -169,10 +172,12 @@ fn the_output_of_a_slave_fails(rt: HostRuntime) -> Result<(), Fail> {
     let alloc = rt.alloc();
     let stock = one_judge(alloc, Box::new(alloc, FlagJudge::new())?)?;
     let mut host = open(alloc);
-    let (status, text) = ran(&rt, &["slave"], SLAVE, (0, 1), &mut host, stock)?;
+    let run = ran(&rt, &["slave"], SLAVE, (0, 1), &mut host, stock);
+    assert!(rt; host.back().is_some());
+    drop(host);
+    let (status, text) = run?;
     assert_eq!(rt; status, 67);
     assert_eq!(rt; text.as_str(), "");
-    assert!(rt; host.back().is_some());
     Ok(())
 }
 
@@ -188,7 +193,9 @@ fn the_output_of_a_load_fails(rt: HostRuntime) -> Result<(), Fail> {
     ] {
         let stock = no_judges(rt.alloc());
         let mut host = open(rt.alloc());
-        let (found, text) = ran(&rt, &["load", "1"], "", (0, write), &mut host, stock)?;
+        let run = ran(&rt, &["load", "1"], "", (0, write), &mut host, stock);
+        drop(host);
+        let (found, text) = run?;
         assert_eq!(rt; found, status);
         assert_eq!(rt; text.as_str(), output);
     }
@@ -208,7 +215,9 @@ fn bad_scripts_are_refused(rt: HostRuntime) -> Result<(), Fail> {
     ] {
         let mut host = open(alloc);
         let stock = no_judges(alloc);
-        let (status, text) = ran(&rt, &["replay"], script, (0, 0), &mut host, stock)?;
+        let run = ran(&rt, &["replay"], script, (0, 0), &mut host, stock);
+        drop(host);
+        let (status, text) = run?;
         assert_eq!(rt; status, 65);
         assert_eq!(rt; text.as_str(), output);
     }

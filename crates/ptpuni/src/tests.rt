@@ -111,6 +111,23 @@ pub(crate) fn ran(
     Ok((status, text))
 }
 
+// What a run over memory answers and writes where the host does not open.
+fn ran_shut(
+    rt: &(impl AllocGlobal + Threads + Wait + Sync),
+    words: &[&str],
+    input: &str,
+    failing: (u64, u64),
+    stock: Stock,
+) -> Result<(u8, String), Fail>
+    requires { IsStock (map (λ j. held (j.vtable, j.value)) stock.flags.items)
+        (map (λ j. held (j.vtable, j.value)) stock.gaps.items) }
+{
+    let mut host = shut(rt.alloc());
+    let found = ran(rt, words, input, failing, &mut host, stock);
+    drop(host);
+    found
+}
+
 // The number of lines of a text.
 fn lines_in(text: &str) -> usize {
     text.as_bytes().iter().filter(|b| **b == b'\n').count()
@@ -124,7 +141,7 @@ fn each_read_fails_in_turn(rt: HostRuntime) -> Result<(), Fail> {
         // The first read gives the script, the second its end.
         for (read, status, lines) in [(1, 66, 0), (2, 66, whole.saturating_sub(1)), (3, 0, whole)] {
             let stock = one_judge(alloc, Box::new(alloc, FlagJudge::new())?)?;
-            let (found, text) = ran(&rt, &["replay"], script, (read, 0), &mut shut(alloc), stock)?;
+            let (found, text) = ran_shut(&rt, &["replay"], script, (read, 0), stock)?;
             assert_eq!(rt; found, status);
             assert!(rt; report.starts_with(text.as_str()), "{text}");
             assert_eq!(rt; lines_in(text.as_str()), lines);
@@ -141,14 +158,7 @@ fn each_write_fails_in_turn(rt: HostRuntime) -> Result<(), Fail> {
         for lines in 0..=whole {
             let stock = one_judge(alloc, Box::new(alloc, FlagJudge::new())?)?;
             let write = (lines as u64).saturating_add(1);
-            let (found, text) = ran(
-                &rt,
-                &["replay"],
-                script,
-                (0, write),
-                &mut shut(alloc),
-                stock,
-            )?;
+            let (found, text) = ran_shut(&rt, &["replay"], script, (0, write), stock)?;
             assert_eq!(rt; found, if lines < whole { 67 } else { 0 });
             assert!(rt; report.starts_with(text.as_str()), "{text}");
             assert_eq!(rt; lines_in(text.as_str()), lines);
@@ -241,15 +251,7 @@ fn ran_alone(
     input: &str,
     failing: (u64, u64),
 ) -> Result<(u8, String), Fail> {
-    let alloc = rt.alloc();
-    ran(
-        rt,
-        words,
-        input,
-        failing,
-        &mut shut(alloc),
-        no_judges(alloc),
-    )
+    ran_shut(rt, words, input, failing, no_judges(rt.alloc()))
 }
 
 #[test]
@@ -292,6 +294,7 @@ fn a_last_block_that_is_lost_is_a_fault_of_the_output(rt: HostRuntime) -> Result
         let mut host = MemHost::new(opened_with(alloc, idle_port(alloc)), true);
         let stock = no_judges(alloc);
         let status = run_in_blocks(&rt, &[word], input.as_bytes(), Lost, &mut host, stock);
+        drop(host);
         assert_eq!(rt; status, 67);
     }
     Ok(())

@@ -17,9 +17,6 @@ use ptu_script::{Cause, GrandmasterSetup, SlaveSetup};
 use ptu_units::OutOfMemory;
 use std::collections::HashMap;
 
-// Drops a grandmaster, in one place.
-fn lose(_: GrandmasterNode) {}
-
 // Takes the slave at an address out, if one is there; what else is there is lost.
 fn take_slave(nodes: &mut HashMap<u32, Node>, ip: u32) -> Option<SlaveNode>
     ensures found { MatchOption result (IsNoSlave (get nat_eq nodes.old ip))
@@ -30,7 +27,7 @@ fn take_slave(nodes: &mut HashMap<u32, Node>, ip: u32) -> Option<SlaveNode>
     match nodes.remove(&ip) {
         None => None,
         Some(Node::Grandmaster(node)) => {
-            lose(node);
+            drop(node);
             None
         }
         Some(Node::Slave(node)) => Some(node),

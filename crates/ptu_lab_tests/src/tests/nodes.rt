@@ -138,5 +138,8 @@ fn a_grandmaster_says_what_it_does(rt: HostRuntime) -> Result<(), Fail> {
     let alloc = rt.alloc();
     let mut node = GrandmasterNode::new(alloc, &SETUP);
     let mut journal = Journal::new(alloc);
-    assert_all_said(&rt, alloc, &mut node, &mut journal)
+    let said = assert_all_said(&rt, alloc, &mut node, &mut journal);
+    drop(node);
+    drop(journal);
+    said
 }

@@ -177,9 +177,11 @@ fn take_step(
             assert_eq!(rt; numbers_of(&verdict), told);
         }
         Step::Change(t, capacity, shed) => {
+            let at = moment(t)?;
             let resized = change(rt, alloc, site, t, capacity)?;
-            assert_eq!(rt; resized.at, moment(t)?);
+            assert_eq!(rt; resized.at, at);
             assert_eq!(rt; resized.shed.list().first().map(|shed| shed.client), shed);
+            drop(resized);
         }
         Step::Turn(t, sent) => {
             assert_eq!(rt; site.s2.turn(config, moment(t)?).sent, sent);
@@ -212,7 +214,9 @@ fn take_steps(
     steps: &[Step],
 ) -> Result<(), Fail> {
     let mut site = open_site(rt, alloc, capacity)?;
-    take_all(rt, alloc, &mut site, &config_of(max_duration), steps)
+    let taken = take_all(rt, alloc, &mut site, &config_of(max_duration), steps);
+    drop(site);
+    taken
 }
 
 const MINUTE: u64 = 60 * SECOND;
@@ -323,7 +327,9 @@ fn ask_and_cancel(rt: &impl Abort, site: &mut Site) -> Result<(), Fail> {
 #[test]
 fn one_table_alone(rt: HostRuntime) -> Result<(), Fail> {
     let mut site = open_site(&rt, rt.alloc(), 8)?;
-    ask_and_cancel(&rt, &mut site)
+    let asked = ask_and_cancel(&rt, &mut site);
+    drop(site);
+    asked
 }
 
 // How many grants are made, and how many of them a change of capacity sheds. Were all rows looked
@@ -372,6 +378,7 @@ fn shed_most(rt: &impl Abort, alloc: Global, site: &mut Site) -> Result<(), Fail
     grant_many(rt, site, MANY)?;
     let resized = change(rt, alloc, site, MANY as u64, (MANY - MOST) as u64)?;
     check_shed(rt, &resized);
+    drop(resized);
     Ok(())
 }
 
@@ -379,5 +386,7 @@ fn shed_most(rt: &impl Abort, alloc: Global, site: &mut Site) -> Result<(), Fail
 fn most_of_many_grants_are_shed(rt: HostRuntime) -> Result<(), Fail> {
     let alloc = rt.alloc();
     let mut site = open_site(&rt, alloc, MANY as u64)?;
-    shed_most(&rt, alloc, &mut site)
+    let shed = shed_most(&rt, alloc, &mut site);
+    drop(site);
+    shed
 }

@@ -81,6 +81,17 @@ fn assert_sent(
     Ok(())
 }
 
+// What became of the one CANCEL.
+fn found(taken: &Taken) -> Result<Option<Cancelled>, Fail> {
+    let Taken::Asked(outcomes, Reply::Sent) = taken else {
+        return Err(Fail::new("a CANCEL is answered"));
+    };
+    let Some(Outcome::Cancel(_, found)) = outcomes.list().first() else {
+        return Err(Fail::new("a CANCEL has its answer"));
+    };
+    Ok(*found)
+}
+
 // A grant of Sync is sent in its periods, of which a failed send spends one, until it is cancelled.
 fn assert_sent_and_cancelled(
     rt: &impl Abort,
@@ -89,6 +100,7 @@ fn assert_sent_and_cancelled(
 ) -> Result<(), Fail> {
     let asked = gm.take(moment(0)?, FIRST, &signaling(alloc, FIRST, 54, SYNC)?)?;
     assert!(rt; matches!(&asked, Taken::Asked(_, Reply::Sent)));
+    drop(asked);
     assert_eq!(rt; gm.count(2), 1);
     // The moment of each turn, how many messages are sent, and how many sends fail.
     for (at, sent, failed) in [(SECOND, 0, 1), (1_999_999_999, 0, 0), (2 * SECOND, 1, 0)] {
@@ -108,13 +120,9 @@ fn assert_sent_and_cancelled(
     ];
     for (tlvs, answer) in answers {
         let taken = gm.take(moment(SECOND)?, FIRST, &signaling(alloc, FIRST, 50, tlvs)?)?;
-        let Taken::Asked(outcomes, Reply::Sent) = &taken else {
-            return Err(Fail::new("a CANCEL is answered"));
-        };
-        let Some(Outcome::Cancel(_, found)) = outcomes.list().first() else {
-            return Err(Fail::new("a CANCEL has its answer"));
-        };
-        assert_eq!(rt; *found, answer);
+        let found = found(&taken);
+        drop(taken);
+        assert_eq!(rt; found?, answer);
     }
     assert_eq!(rt; gm.turn(2, moment(7 * SECOND)?).sent, 0);
     let reply = "0c120038040004000000000000000000000000000a0000000000000100010000\
@@ -132,22 +140,9 @@ fn a_grant_is_sent_cancelled_and_closed(rt: HostRuntime) -> Result<(), Fail> {
     done
 }
 
-// A lower capacity sheds the newer of two grants, and its client asks in vain.
-fn assert_shed(rt: &impl Abort, alloc: Global, gm: &mut Gm<MemPort>) -> Result<(), Fail> {
-    gm.set_class(90);
-    gm.take(moment(0)?, FIRST, &signaling(alloc, FIRST, 54, ANNOUNCE)?)?;
-    let request = signaling(alloc, SECOND_CLIENT, 54, ANNOUNCE)?;
-    gm.take(moment(SECOND)?, SECOND_CLIENT, &request)?;
-    let changed = gm.set_capacity(moment(2 * SECOND)?, 8)?;
-    assert_eq!(rt;
-        (changed.shed.list().len(), changed.sent, changed.failed),
-        (1, 1, 0)
-    );
-    let cancel = "0c120032040004000000000000000000000000000a000000000000010001\
-         0000057f0a00000000000012000100060002b000";
-    assert_sent(rt, alloc, gm, (2, SECOND_CLIENT), cancel)?;
-    let taken = gm.take(moment(2 * SECOND)?, SECOND_CLIENT, &request)?;
-    let Taken::Asked(outcomes, Reply::Sent) = &taken else {
+// The one REQUEST does not fit.
+fn assert_short(rt: &impl Abort, taken: &Taken) -> Result<(), Fail> {
+    let Taken::Asked(outcomes, Reply::Sent) = taken else {
         return Err(Fail::new("a Signaling is answered"));
     };
     assert!(rt;
@@ -157,6 +152,27 @@ fn assert_shed(rt: &impl Abort, alloc: Global, gm: &mut Gm<MemPort>) -> Result<(
         )
     );
     Ok(())
+}
+
+// A lower capacity sheds the newer of two grants, and its client asks in vain.
+fn assert_shed(rt: &impl Abort, alloc: Global, gm: &mut Gm<MemPort>) -> Result<(), Fail> {
+    gm.set_class(90);
+    drop(gm.take(moment(0)?, FIRST, &signaling(alloc, FIRST, 54, ANNOUNCE)?)?);
+    let request = signaling(alloc, SECOND_CLIENT, 54, ANNOUNCE)?;
+    drop(gm.take(moment(SECOND)?, SECOND_CLIENT, &request)?);
+    let changed = gm.set_capacity(moment(2 * SECOND)?, 8)?;
+    assert_eq!(rt;
+        (changed.shed.list().len(), changed.sent, changed.failed),
+        (1, 1, 0)
+    );
+    drop(changed);
+    let cancel = "0c120032040004000000000000000000000000000a000000000000010001\
+         0000057f0a00000000000012000100060002b000";
+    assert_sent(rt, alloc, gm, (2, SECOND_CLIENT), cancel)?;
+    let taken = gm.take(moment(2 * SECOND)?, SECOND_CLIENT, &request)?;
+    let short = assert_short(rt, &taken);
+    drop(taken);
+    short
 }
 
 #[test]
@@ -174,16 +190,17 @@ fn a_lower_capacity_sheds_the_newest(rt: HostRuntime) -> Result<(), Fail> {
 fn assert_failures(rt: &impl Abort, alloc: Global, gm: &mut Gm<MemPort>) -> Result<(), Fail> {
     let asked = gm.take(moment(0)?, FIRST, &signaling(alloc, FIRST, 54, DELAY_RESP)?)?;
     assert!(rt; matches!(&asked, Taken::Asked(_, Reply::Failed)));
+    drop(asked);
     assert_eq!(rt; gm.count(2), 1);
-    let delay_req = hex::decode(alloc, DELAY_REQ)?;
-    let at = moment(SECOND)?;
-    let taken = gm.take(at, FIRST, &delay_req)?;
+    let taken = gm.take(moment(SECOND)?, FIRST, &hex::decode(alloc, DELAY_REQ)?)?;
     assert!(rt; matches!(&taken, Taken::Delay(Answered::Failed { .. })));
+    drop(taken);
     let changed = gm.set_capacity(moment(2 * SECOND)?, 8)?;
     assert_eq!(rt;
         (changed.shed.list().len(), changed.sent, changed.failed),
         (1, 0, 1)
     );
+    drop(changed);
     assert_eq!(rt; gm.count(2), 0);
     Ok(())
 }
@@ -225,7 +242,10 @@ fn sent_over(alloc: Global, capacity: u64, events: &[GmEvent]) -> Result<u64, Fa
     let p2 = port(alloc, Vec::new(alloc));
     let p3 = port(alloc, Vec::new(alloc));
     let reply = port(alloc, Vec::new(alloc));
-    Ok(drive(alloc, CONFIG, capacity, p0, p1, p2, p3, reply, events)?.sent)
+    let driven = drive(alloc, CONFIG, capacity, p0, p1, p2, p3, reply, events)?;
+    let sent = driven.sent;
+    drop(driven);
+    Ok(sent)
 }
 
 // How many messages are sent where a grant of Sync at logarithm 0 is followed by these turns.

@@ -28,6 +28,16 @@ fn empty_table(alloc: Global) -> Shard<MemPort> {
     Shard::new(alloc, idle_port(alloc))
 }
 
+// Puts one such lease.
+fn put_one(rt: &impl Abort, shard: &mut Shard<MemPort>, kind: Kind) -> Result<(), Fail> {
+    shard.reserve(1)?;
+    let lease = fresh_lease(kind)?;
+    assert_eq!(rt; shard.held(), 0);
+    assert_eq!(rt; rate(lease.log), 16);
+    shard.put(TWO, kind, lease);
+    Ok(())
+}
+
 // A table with one such lease, whose port has room and fails at the listed sends.
 fn table(
     rt: &impl Abort,
@@ -38,11 +48,7 @@ fn table(
     let mut port = MemPort::new(alloc, Vec::new(alloc), fails, Vec::new(alloc));
     port.reserve(8, 8 * 64)?;
     let mut shard = Shard::new(alloc, port);
-    shard.reserve(1)?;
-    let lease = fresh_lease(kind)?;
-    assert_eq!(rt; shard.held(), 0);
-    assert_eq!(rt; rate(lease.log), 16);
-    shard.put(TWO, kind, lease);
+    put_one(rt, &mut shard, kind)?;
     Ok(shard)
 }
 
@@ -60,36 +66,44 @@ fn assert_turns(
     Ok(())
 }
 
-#[test]
-fn a_turn_sends_in_its_own_period(rt: HostRuntime) -> Result<(), Fail> {
-    let mut shard = table(&rt, rt.alloc(), Kind::Sync, Vec::new(rt.alloc()))?;
-    assert_turns(
-        &rt,
-        &mut shard,
-        &[
-            (999_999_999, 0, 0),
-            (SECOND, 1, 0),
-            (11 * SECOND, 1, 0),
-            (11_999_999_999, 0, 0),
-            (12 * SECOND, 1, 0),
-        ],
-    )?;
-    let port = shard.into_port();
-    let sync = hex::decode(
-        rt.alloc(),
-        "0012002c040004000000000000000000000000000a000000000000010001\
-         0000007f00000000000100000000",
-    )?;
-    assert_eq!(rt;
-        port.sent(0),
-        Some((TWO.ip, Channel::Event, sync.as_slice()))
-    );
+// The port was sent these octets first, to the client.
+fn assert_first(
+    rt: &impl Abort,
+    alloc: Global,
+    port: &MemPort,
+    channel: Channel,
+    digits: &str,
+) -> Result<(), Fail> {
+    let octets = hex::decode(alloc, digits)?;
+    assert_eq!(rt; port.sent(0), Some((TWO.ip, channel, octets.as_slice())));
     Ok(())
 }
 
+// The first Sync to the client, at 1 s.
+const FIRST_SYNC: &str = "0012002c040004000000000000000000000000000a000000000000010001\
+                          0000007f00000000000100000000";
+
 #[test]
-fn a_delay_req_has_a_credit_of_two(rt: HostRuntime) -> Result<(), Fail> {
-    let mut shard = table(&rt, rt.alloc(), Kind::DelayResp, Vec::new(rt.alloc()))?;
+fn a_turn_sends_in_its_own_period(rt: HostRuntime) -> Result<(), Fail> {
+    let alloc = rt.alloc();
+    let mut shard = table(&rt, alloc, Kind::Sync, Vec::new(alloc))?;
+    let turns = [
+        (999_999_999, 0, 0),
+        (SECOND, 1, 0),
+        (11 * SECOND, 1, 0),
+        (11_999_999_999, 0, 0),
+        (12 * SECOND, 1, 0),
+    ];
+    let turned = assert_turns(&rt, &mut shard, &turns);
+    let port = shard.into_port();
+    turned?;
+    let sent = assert_first(&rt, alloc, &port, Channel::Event, FIRST_SYNC);
+    drop(port);
+    sent
+}
+
+// Two are answered at 10 s, and the next one comes too soon; once the grant is gone, there is none.
+fn assert_answers(rt: &impl Abort, shard: &mut Shard<MemPort>) -> Result<(), Fail> {
     let late = moment(10_999_999_999)?;
     let answers = [
         (
@@ -116,18 +130,24 @@ fn a_delay_req_has_a_credit_of_two(rt: HostRuntime) -> Result<(), Fail> {
     assert!(rt; shard.remove(&TWO, Kind::DelayResp));
     let none = shard.answer_delay(&CONFIG, Moment::default(), &TWO, &DELAY_REQ);
     assert_eq!(rt; none, Answered::NoGrant { at: late });
-    let response = hex::decode(
-        rt.alloc(),
-        "0912003604000400000000000000000000000000\
-         0a0000000000000100010007037f00000000000a000000000a000000000000110001",
-    )?;
-    let port = shard.into_port();
-    assert_eq!(rt;
-        port.sent(0),
-        Some((TWO.ip, Channel::General, response.as_slice()))
-    );
-    assert_eq!(rt; port.sent(2), None);
     Ok(())
+}
+
+// The first Delay_Resp to the client, at 10 s.
+const RESPONSE: &str = "0912003604000400000000000000000000000000\
+                        0a0000000000000100010007037f00000000000a000000000a000000000000110001";
+
+#[test]
+fn a_delay_req_has_a_credit_of_two(rt: HostRuntime) -> Result<(), Fail> {
+    let alloc = rt.alloc();
+    let mut shard = table(&rt, alloc, Kind::DelayResp, Vec::new(alloc))?;
+    let answered = assert_answers(&rt, &mut shard);
+    let port = shard.into_port();
+    answered?;
+    let sent = assert_first(&rt, alloc, &port, Channel::General, RESPONSE);
+    assert_eq!(rt; port.sent(2), None);
+    drop(port);
+    sent
 }
 
 fn assert_fails_once(
@@ -153,7 +173,9 @@ fn assert_fails_once(
 #[test]
 fn a_failed_send_spends_its_period(rt: HostRuntime) -> Result<(), Fail> {
     let mut shard = table(&rt, rt.alloc(), Kind::Announce, vec![in rt.alloc(); 1]?)?;
-    assert_fails_once(&rt, rt.alloc(), &mut shard)
+    let failed = assert_fails_once(&rt, rt.alloc(), &mut shard);
+    drop(shard);
+    failed
 }
 
 // A row of the client of this number, granted at 0 for 300 s.
@@ -205,7 +227,9 @@ fn idle_turns(rt: &impl Abort, shard: &mut Shard<MemPort>) -> Result<(), Fail> {
 fn idle_turns_do_not_look_at_every_lease(rt: HostRuntime) -> Result<(), Fail> {
     let alloc = rt.alloc();
     let mut shard = empty_table(alloc);
-    idle_turns(&rt, &mut shard)
+    let turned = idle_turns(&rt, &mut shard);
+    drop(shard);
+    turned
 }
 
 // The plain table goes over all of its rows at every call.

@@ -39,8 +39,7 @@ fn assert_line(
     host
 }
 
-// The ask is granted by so many senders, and the grant is sent; a change of the capacity in round 2
-// sheds it.
+// The ask is granted by so many senders, and the grant is sent.
 fn assert_granted(
     rt: &(impl Abort + Threads + Wait + Sync),
     alloc: Global,
@@ -57,7 +56,19 @@ fn assert_granted(
     let host = assert_line(rt, alloc, &settings, asked(alloc, &[], &[])?, line);
     let sent = host.back().and_then(|back| back.p4.sent(0));
     assert!(rt; sent == Some((CLIENT, Channel::General, grant.as_slice())));
-    let shedding = GmSettings {
+    drop(host);
+    Ok(())
+}
+
+// A change of the capacity in round 2 sheds the grant.
+fn assert_shed(
+    rt: &(impl Abort + Threads + Wait + Sync),
+    alloc: Global,
+    senders: u8,
+) -> Result<(), Fail>
+    requires { senders ≤ 4 }
+{
+    let settings = GmSettings {
         rounds: 2,
         change_round: 2,
         new_capacity: Some(4),
@@ -65,7 +76,7 @@ fn assert_granted(
         ..GM_SETTINGS
     };
     let line = "rounds 2 sent 2 failed 0 granted 1 refused 0 held 0\n";
-    let _ = assert_line(rt, alloc, &shedding, asked(alloc, &[], &[])?, line);
+    drop(assert_line(rt, alloc, &settings, asked(alloc, &[], &[])?, line));
     Ok(())
 }
 
@@ -74,6 +85,7 @@ fn assert_granted(
 fn an_ask_is_granted_and_its_grant_shed(rt: HostRuntime) -> Result<(), Fail> {
     for senders in [0, 2] {
         assert_granted(&rt, rt.alloc(), senders)?;
+        assert_shed(&rt, rt.alloc(), senders)?;
     }
     Ok(())
 }
@@ -89,20 +101,20 @@ fn failing(alloc: Global) -> Result<MemPort, Fail> {
 fn failed_calls_are_counted(rt: HostRuntime) -> Result<(), Fail> {
     let alloc = rt.alloc();
     let line = "rounds 1 sent 0 failed 1 granted 1 refused 0 held 8\n";
-    let _ = assert_line(&rt, alloc, &GM_SETTINGS, asked(alloc, &[1], &[])?, line);
+    drop(assert_line(&rt, alloc, &GM_SETTINGS, asked(alloc, &[1], &[])?, line));
     let line = "rounds 1 sent 0 failed 1 granted 0 refused 0 held 0\n";
-    let _ = assert_line(&rt, alloc, &GM_SETTINGS, failing(alloc)?, line);
+    drop(assert_line(&rt, alloc, &GM_SETTINGS, failing(alloc)?, line));
     let lanes = GmSettings {
         senders: 2,
         ..GM_SETTINGS
     };
-    let _ = assert_line(&rt, alloc, &lanes, failing(alloc)?, line);
+    drop(assert_line(&rt, alloc, &lanes, failing(alloc)?, line));
     let longer = GmSettings {
         rounds: 2,
         ..GM_SETTINGS
     };
     let line = "rounds 2 sent 1 failed 1 granted 1 refused 0 held 8\n";
-    let _ = assert_line(&rt, alloc, &longer, failing(alloc)?, line);
+    drop(assert_line(&rt, alloc, &longer, failing(alloc)?, line));
     Ok(())
 }
 

@@ -172,6 +172,7 @@ fn assert_serves(
 ) -> Result<(), Fail> {
     let mut host = host(alloc, seen)?;
     assert_said(rt, alloc, &SETTINGS, &mut host, line);
+    drop(host);
     assert!(rt; seen.late.load(Ordering::SeqCst) == 0);
     Ok(())
 }

@@ -464,6 +464,20 @@ fn assert_sent(rt: &impl Abort, port: &StagedPort, index: usize, expected: &[Exp
     );
 }
 
+// Takes out what the port of this index does not send in this case.
+fn take_failed(rt: &impl Abort, expected: &mut Vec<Expected>, index: usize, fault: Fault) {
+    let Fault::Send(failing, place) = fault else {
+        return;
+    };
+    if failing == index {
+        assert!(rt;
+            place < expected.len(),
+            "a send that fails is one of port {index}"
+        );
+        drop(expected.remove(place));
+    }
+}
+
 // The port was sent what it is to be sent in this case.
 fn assert_port(
     rt: &impl Abort,
@@ -473,21 +487,13 @@ fn assert_port(
     case: Case,
 ) -> Result<(), Fail> {
     let mut expected = wanted(alloc, index, case.0)?;
-    if let Fault::Send(failing, place) = case.1
-        && failing == index
-    {
-        assert!(rt;
-            place < expected.len(),
-            "a send that fails is one of port {index}"
-        );
-        let _ = expected.remove(place);
-    }
+    take_failed(rt, &mut expected, index, case.1);
     assert_sent(rt, port, index, expected.as_slice());
     Ok(())
 }
 
 // The clock of this index tells this next, in milliseconds.
-fn assert_left(rt: &impl Abort, mut clock: MemClock, index: usize, millis: u64) {
+fn assert_left(rt: &impl Abort, clock: &mut MemClock, index: usize, millis: u64) {
     let nanos = clock.now().nanos();
     assert!(rt;
         nanos == millis.saturating_mul(1_000_000),
@@ -507,7 +513,7 @@ fn control_left(change: Change) -> u64 {
 fn assert_back(
     rt: &impl Abort,
     alloc: Global,
-    back: Opened<StagedPort, MemClock>,
+    back: &mut Opened<StagedPort, MemClock>,
     case: Case,
 ) -> Result<(), Fail> {
     assert_port(rt, alloc, &back.p0, 0, case)?;
@@ -516,16 +522,35 @@ fn assert_back(
     assert_port(rt, alloc, &back.p3, 3, case)?;
     assert_port(rt, alloc, &back.p4, 4, case)?;
     assert_sent(rt, &back.p5, 5, &[]);
-    assert_left(rt, back.c0, 0, control_left(case.0));
-    assert_left(rt, back.c1, 1, 8000);
-    assert_left(rt, back.c2, 2, left_of(0));
-    assert_left(rt, back.c3, 3, left_of(1));
-    assert_left(rt, back.c4, 4, left_of(2));
-    assert_left(rt, back.c5, 5, left_of(3));
+    assert_left(rt, &mut back.c0, 0, control_left(case.0));
+    assert_left(rt, &mut back.c1, 1, 8000);
+    assert_left(rt, &mut back.c2, 2, left_of(0));
+    assert_left(rt, &mut back.c3, 3, left_of(1));
+    assert_left(rt, &mut back.c4, 4, left_of(2));
+    assert_left(rt, &mut back.c5, 5, left_of(3));
     Ok(())
 }
 
-// Serves a case by so many lanes that turn tables.
+// Serves a case over its host, by so many lanes that turn tables.
+fn assert_serves(
+    rt: &(impl Abort + Threads + Wait + Sync),
+    alloc: Global,
+    senders: u8,
+    case: Case,
+    host: &mut OnceHost<StagedPort>,
+) -> Result<(), Fail>
+    requires { (1 ≤ senders) × (senders ≤ 4) }
+{
+    let (change, _, sent, failed, held) = case;
+    let line = format!(in alloc;
+        "rounds 3 sent {sent} failed {failed} granted 7 refused 1 held {held}\n"
+    )?;
+    let settings = settings(senders, change);
+    assert_said(rt, alloc, &settings, host, line.as_str());
+    let back = host.back.as_mut();
+    assert_back(rt, alloc, back.expect(rt, "the ports are given back"), case)
+}
+
 fn assert_case(
     rt: &(impl Abort + Threads + Wait + Sync),
     alloc: Global,
@@ -534,20 +559,10 @@ fn assert_case(
 ) -> Result<(), Fail>
     requires { (1 ≤ senders) × (senders ≤ 4) }
 {
-    let (change, _, sent, failed, held) = case;
     let mut host = host(alloc, senders, case)?;
-    let line = format!(in alloc;
-        "rounds 3 sent {sent} failed {failed} granted 7 refused 1 held {held}\n"
-    )?;
-    assert_said(
-        rt,
-        alloc,
-        &settings(senders, change),
-        &mut host,
-        line.as_str(),
-    );
-    let back = host.back.take().expect(rt, "the ports are given back");
-    assert_back(rt, alloc, back, case)
+    let served = assert_serves(rt, alloc, senders, case, &mut host);
+    drop(host);
+    served
 }
 
 // Serves a case by each number of lanes.
@@ -621,12 +636,23 @@ const SHEDDING: GmSettings = GmSettings {
     ..SETTINGS
 };
 
+fn assert_sheds(
+    rt: &(impl Abort + Threads + Wait + Sync),
+    alloc: Global,
+    host: &mut OnceHost<StagedPort>,
+) -> Result<(), Fail> {
+    let line = "rounds 2 sent 81 failed 0 granted 41 refused 0 held 1\n";
+    assert_said(rt, alloc, &SHEDDING, host, line);
+    let back = host.back.as_ref();
+    let back = back.expect(rt, "the ports are given back");
+    assert_cancels(rt, alloc, &back.p4)
+}
+
 #[test]
 fn a_change_sheds_forty_grants(rt: HostRuntime) -> Result<(), Fail> {
     let alloc = rt.alloc();
     let mut host = still_host(alloc, many(alloc)?);
-    let line = "rounds 2 sent 81 failed 0 granted 41 refused 0 held 1\n";
-    assert_said(&rt, alloc, &SHEDDING, &mut host, line);
-    let back = host.back.take().expect(&rt, "the ports are given back");
-    assert_cancels(&rt, alloc, &back.p4)
+    let shed = assert_sheds(&rt, alloc, &mut host);
+    drop(host);
+    shed
 }

@@ -213,10 +213,27 @@ fn check_one(rt: &impl Abort, port: &MemPort, ip: u32, channel: Channel, bytes: 
 }
 
 // Table 1 sent a Sync, table 2 the answer, and the others nothing.
-fn check_sent(rt: &impl Abort, closed: &Closed<MemPort>, sync: &[u8], answer: &[u8]) {
+fn check_sent(rt: &impl Abort, alloc: Global, closed: &Closed<MemPort>) -> Result<(), Fail> {
+    let sync = hex::decode(alloc, SYNC)?;
+    let answer = hex::decode(alloc, DELAY_RESP)?;
     assert!(rt; closed.p0.sent(0).is_none() && closed.p3.sent(0).is_none());
-    check_one(rt, &closed.p1, ONE.ip, Channel::Event, sync);
-    check_one(rt, &closed.p2, TWO.ip, Channel::General, answer);
+    check_one(rt, &closed.p1, ONE.ip, Channel::Event, &sync);
+    check_one(rt, &closed.p2, TWO.ip, Channel::General, &answer);
+    Ok(())
+}
+
+fn send<L: Rates, G: Ledger, R: Ledger, W: Wait + Abort>(
+    rt: &W,
+    alloc: Global,
+    shared: &Shared<MemPort, L, G, R>,
+    seats: &mut [Seat<G, R>],
+) -> Result<(), Fail>
+    requires { L.parts ≡ 4 }
+{
+    let waiting = vec![in alloc; arrival(alloc, DELAY_REQ)?]?;
+    let mut port = MemPort::new(alloc, waiting, Vec::new(alloc), Vec::new(alloc));
+    grant_four(rt, shared, seats);
+    answer_and_turn(rt, alloc, shared, &mut port)
 }
 
 fn send_and_close<L: Rates, G: Ledger, R: Ledger, W: Wait + Abort>(
@@ -227,17 +244,14 @@ fn send_and_close<L: Rates, G: Ledger, R: Ledger, W: Wait + Abort>(
 ) -> Result<(), Fail>
     requires { (L.parts ≡ 4) × (G.parts ≡ L.seats) × (R.parts ≡ L.seats) }
 {
-    let sync = hex::decode(alloc, SYNC)?;
-    let answer = hex::decode(alloc, DELAY_RESP)?;
-    let waiting = vec![in alloc; arrival(alloc, DELAY_REQ)?]?;
-    let mut port = MemPort::new(alloc, waiting, Vec::new(alloc), Vec::new(alloc));
-    grant_four(rt, &shared, seats.as_mut_slice());
-    answer_and_turn(rt, alloc, &shared, &mut port)?;
-    match shared.close(seats) {
-        Ok(closed) => check_sent(rt, &closed, &sync, &answer),
+    send(rt, alloc, &shared, seats.as_mut_slice())?;
+    let closed = match shared.close(seats) {
+        Ok(closed) => closed,
         Err(_) => panic!(rt; "no seat is missing"),
-    }
-    Ok(())
+    };
+    let checked = check_sent(rt, alloc, &closed);
+    drop(closed);
+    checked
 }
 
 #[test]

@@ -78,15 +78,8 @@ fn number_sent(port: &StagedPort) -> Option<u8> {
     bytes.get(31).copied()
 }
 
-fn assert_table(
-    rt: &(impl Abort + Threads + Wait + Sync),
-    alloc: Global,
-    table: usize,
-) -> Result<(), Fail> {
-    let mut host = host(alloc, table)?;
-    let line = "rounds 3 sent 2 failed 1 granted 1 refused 0 held 8\n";
-    assert_said(rt, alloc, &SETTINGS, &mut host, line);
-    let back = host.back.take().expect(rt, "the ports are given back");
+// The port of this table alone was sent one Announce, of number 1.
+fn assert_numbers(rt: &impl Abort, back: &Opened<StagedPort, MemClock>, table: usize) {
     for (index, port) in [&back.p0, &back.p1, &back.p2, &back.p3]
         .into_iter()
         .enumerate()
@@ -94,6 +87,28 @@ fn assert_table(
         let wanted = if index == table { Some(1) } else { None };
         assert_eq!(rt; number_sent(port), wanted);
     }
+}
+
+fn assert_serves(
+    rt: &(impl Abort + Threads + Wait + Sync),
+    alloc: Global,
+    table: usize,
+    host: &mut OnceHost<StagedPort>,
+) {
+    let line = "rounds 3 sent 2 failed 1 granted 1 refused 0 held 8\n";
+    assert_said(rt, alloc, &SETTINGS, host, line);
+    let back = host.back.as_ref();
+    assert_numbers(rt, back.expect(rt, "the ports are given back"), table);
+}
+
+fn assert_table(
+    rt: &(impl Abort + Threads + Wait + Sync),
+    alloc: Global,
+    table: usize,
+) -> Result<(), Fail> {
+    let mut host = host(alloc, table)?;
+    assert_serves(rt, alloc, table, &mut host);
+    drop(host);
     Ok(())
 }
 

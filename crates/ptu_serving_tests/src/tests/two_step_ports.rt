@@ -2,6 +2,7 @@ use ptu_outside::samples::{idle_port, opened_with};
 use ptu_outside::{Channel, Host, MemHost, MemPort, Port};
 use ptu_twostep::{TwoHost, TwoStep};
 use std::alloc::Global;
+use std::process::Abort;
 use std::test::Fail;
 
 // A Sync in one step.
@@ -67,20 +68,34 @@ fn both_halves_are_handed_over_where_one_fails(rt: HostRuntime) -> Result<(), Fa
     Ok(())
 }
 
-#[test]
-fn a_host_gives_the_ports_below_back(rt: HostRuntime) -> Result<(), Fail> {
-    let alloc = rt.alloc();
-    let mut opened = opened_with(alloc, idle_port(alloc));
-    opened.p2 = below(alloc, Vec::new(alloc))?;
-    let mut host = MemHost::new(opened, false);
-    let mut two = TwoHost::new(&mut host);
+// Sends a Sync by the port of table 2 of what the host opens in two steps, and closes it.
+fn send_one(host: &mut MemHost) -> Result<(), Fail> {
+    let mut two = TwoHost::new(host);
     let mut opened = two.open(0x7f00_0001, 319, 320)?;
-    opened.p2.send(7, Channel::Event, &SYNC)?;
+    let sent = opened.p2.send(7, Channel::Event, &SYNC);
     two.close(opened);
+    sent?;
+    Ok(())
+}
+
+fn assert_given_back(rt: &impl Abort, host: &mut MemHost) -> Result<(), Fail> {
+    send_one(host)?;
     let back = host.back().ok_or("nothing was given back")?;
     assert!(rt; is_sent(&back.p2, 0, Channel::Event, &IN_TWO));
     assert!(rt; is_sent(&back.p2, 1, Channel::General, &FOLLOW_UP));
     assert!(rt; back.p1.sent(0).is_none());
     assert_eq!(rt; host.opened_at().map(|at| at.general_port), Some(320));
     Ok(())
+}
+
+#[test]
+fn a_host_gives_the_ports_below_back(rt: HostRuntime) -> Result<(), Fail> {
+    let alloc = rt.alloc();
+    let p2 = below(alloc, Vec::new(alloc))?;
+    let mut opened = opened_with(alloc, idle_port(alloc));
+    opened.p2 = p2;
+    let mut host = MemHost::new(opened, false);
+    let given = assert_given_back(&rt, &mut host);
+    drop(host);
+    given
 }

@@ -95,6 +95,23 @@ fn served(
     Ok(host)
 }
 
+// The reply was sent, and the port of table 2 was sent just these.
+fn assert_sent(
+    rt: &impl Abort,
+    alloc: Global,
+    host: &MemHost,
+    sent: &[(Channel, &str)],
+) -> Result<(), Fail> {
+    let back = host.back().ok_or("ports are given back")?;
+    let reply = grant(alloc, SYNC)?;
+    assert!(rt; is_sent(alloc, &back.p4, 0, Channel::General, reply.as_str())?);
+    for (place, (channel, octets)) in sent.iter().enumerate() {
+        assert!(rt; is_sent(alloc, &back.p2, place, *channel, octets)?);
+    }
+    assert!(rt; back.p2.sent(sent.len()).is_none());
+    Ok(())
+}
+
 // Where these sends of the port of table 2 fail, this line is written, the reply is sent and that
 // port is sent just these.
 fn assert_served(
@@ -108,14 +125,9 @@ fn assert_served(
     requires { senders ≤ 4 }
 {
     let host = served(rt, alloc, senders, failing_sends, line)?;
-    let back = host.back().ok_or("ports are given back")?;
-    let reply = grant(alloc, SYNC)?;
-    assert!(rt; is_sent(alloc, &back.p4, 0, Channel::General, reply.as_str())?);
-    for (place, (channel, octets)) in sent.iter().enumerate() {
-        assert!(rt; is_sent(alloc, &back.p2, place, *channel, octets)?);
-    }
-    assert!(rt; back.p2.sent(sent.len()).is_none());
-    Ok(())
+    let asserted = assert_sent(rt, alloc, &host, sent);
+    drop(host);
+    asserted
 }
 
 // A Sync fails where a half of it does.

@@ -87,10 +87,11 @@ fn play_cut(rt: &impl Abort, alloc: Global, slave: &mut Slave<MemPort>) -> Resul
 fn a_cut_datagram_is_ignored(rt: HostRuntime) -> Result<(), Fail> {
     let alloc = rt.alloc();
     let mut slave = flagged(alloc, config(4, 4, false, 0)?, 2)?;
-    play_cut(&rt, alloc, &mut slave)?;
+    let played = play_cut(&rt, alloc, &mut slave);
     let port = slave.into_port();
     // The tick's requests, and the reply to the CANCEL.
     assert!(rt; port.sent(1).is_some());
     assert_eq!(rt; port.sent(2), None);
-    Ok(())
+    drop(port);
+    played
 }

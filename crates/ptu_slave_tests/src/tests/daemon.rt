@@ -118,7 +118,7 @@ fn port(alloc: Global, text: &str, failing: Vec<u64>) -> Result<MemPort, Fail> {
     Ok(port)
 }
 
-// Runs a slave for so many rounds, and compares what it writes.
+// Runs a slave for so many rounds, and compares what it writes and sends.
 fn assert_output(
     rt: &impl Abort,
     alloc: Global,
@@ -136,7 +136,7 @@ fn assert_output(
     assert!(rt; has_judges(settings, &stock));
     assert_eq!(rt; slave(alloc, settings, host, &mut sink, stock), Ok(()));
     assert_eq!(rt; sink.bytes(), output.as_bytes());
-    Ok(())
+    assert_asked(rt, alloc, host)
 }
 
 // Compares what was sent by port 4 with the ask alone.
@@ -182,16 +182,23 @@ const ROWS: [Row; 3] = [
     ),
 ];
 
+// A host at whose ports these datagrams wait, where this receive of the general channel fails.
+fn host_with(alloc: Global, general: &str, event: &str, failing: u64) -> Result<MemHost, Fail> {
+    let p4 = port(alloc, general, vec![in alloc; failing]?)?;
+    let p5 = port(alloc, event, Vec::new(alloc))?;
+    Ok(host(alloc, p4, p5))
+}
+
 fn assert_row(rt: &impl Abort, alloc: Global, row: Row, stock: Stock) -> Result<(), Fail>
     requires { IsStock (map (λ j. held (j.vtable, j.value)) stock.flags.items)
         (map (λ j. held (j.vtable, j.value)) stock.gaps.items) }
 {
     let (general, event, failing, rounds, output) = row;
-    let p4 = port(alloc, general, vec![in alloc; failing]?)?;
-    let mut host = host(alloc, p4, port(alloc, event, Vec::new(alloc))?);
     let settings = settings(alloc, rounds.max(1))?;
-    assert_output(rt, alloc, &settings, &mut host, stock, output)?;
-    assert_asked(rt, alloc, &host)
+    let mut host = host_with(alloc, general, event, failing)?;
+    let written = assert_output(rt, alloc, &settings, &mut host, stock, output);
+    drop(host);
+    written
 }
 
 #[test]

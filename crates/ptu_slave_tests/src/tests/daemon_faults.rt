@@ -6,10 +6,12 @@
 //! after a line that was not taken.
 
 ghost use Rattle.std.specs.Prelude.{◌≤◌, length, map, IfOk};
+ghost use Rattle.ptu_config.specs.Limits.{IsSlaveInRange};
 ghost use Rattle.ptu_judges.specs.Held.{IsStock};
 ghost use Rattle.ptu_outside.specs.MemoryPort.{FitAll};
 
 use super::daemon::{ANNOUNCE, ASK, SYNC, host_at, one_judge, settings};
+use ptu_config::SlaveSettings;
 use ptu_judges::{FlagJudge, Stock};
 use ptu_outside::samples::idle_port;
 use ptu_outside::{Arrival, Channel, Datagram, MemClock, MemHost, MemPort, MemSink};
@@ -196,24 +198,45 @@ fn assert_sent(rt: &impl Abort, alloc: Global, port: &MemPort, sent: &[&str]) ->
     Ok(())
 }
 
-fn assert_case(rt: &impl Abort, alloc: Global, case: &Case, stock: Stock) -> Result<(), Fail>
-    requires { IsStock (map (λ j. held (j.vtable, j.value)) stock.flags.items)
-        (map (λ j. held (j.vtable, j.value)) stock.gaps.items) }
-{
+// The host of a case.
+fn host(alloc: Global, case: &Case) -> Result<MemHost, Fail> {
     let p4 = port(alloc, case.general, case.sends, case.general_receives)?;
     let p5 = port(alloc, case.event, &[], case.event_receives)?;
-    let mut host = host_at(alloc, clock(alloc, case.seconds)?, p4, p5, false);
+    let clock = clock(alloc, case.seconds)?;
+    Ok(host_at(alloc, clock, p4, p5, false))
+}
+
+// Runs the slave of a case over its host.
+fn assert_run(
+    rt: &impl Abort,
+    alloc: Global,
+    case: &Case,
+    settings: &SlaveSettings,
+    host: &mut MemHost,
+    stock: Stock,
+) -> Result<(), Fail>
+    requires range { IsSlaveInRange settings.now }
+    requires stock { IsStock (map (λ j. held (j.vtable, j.value)) stock.flags.items)
+        (map (λ j. held (j.vtable, j.value)) stock.gaps.items) }
+{
     let mut sink = MemSink::new(alloc, case.writes.to_vec(alloc)?);
-    let settings = settings(alloc, case.rounds.max(1))?;
-    assert!(rt; has_judges(&settings, &stock));
-    assert_eq!(rt;
-        slave(alloc, &settings, &mut host, &mut sink, stock),
-        case.answer
-    );
+    assert!(rt; has_judges(settings, &stock));
+    assert_eq!(rt; slave(alloc, settings, host, &mut sink, stock), case.answer);
     let output = str::from_utf8(sink.bytes()).ok().ok_or("plain text")?;
     assert_eq!(rt; output, case.output);
     let back = host.back().ok_or("given back")?;
     assert_sent(rt, alloc, &back.p4, case.sent)
+}
+
+fn assert_case(rt: &impl Abort, alloc: Global, case: &Case, stock: Stock) -> Result<(), Fail>
+    requires { IsStock (map (λ j. held (j.vtable, j.value)) stock.flags.items)
+        (map (λ j. held (j.vtable, j.value)) stock.gaps.items) }
+{
+    let settings = settings(alloc, case.rounds.max(1))?;
+    let mut host = host(alloc, case)?;
+    let run = assert_run(rt, alloc, case, &settings, &mut host, stock);
+    drop(host);
+    run
 }
 
 #[test]
@@ -229,18 +252,14 @@ fn calls_fail_once(rt: HostRuntime) -> Result<(), Fail> {
 #[test]
 fn a_host_that_does_not_open_is_a_fault(rt: HostRuntime) -> Result<(), Fail> {
     let alloc = rt.alloc();
-    let stock = one_judge(alloc, Box::new(alloc, FlagJudge::new())?)?;
-    let mut host = host_at(
-        alloc,
-        clock(alloc, &[])?,
-        idle_port(alloc),
-        idle_port(alloc),
-        true,
-    );
-    let mut sink = MemSink::new(alloc, Vec::new(alloc));
     let settings = settings(alloc, 1)?;
+    let clock = clock(alloc, &[])?;
+    let stock = one_judge(alloc, Box::new(alloc, FlagJudge::new())?)?;
+    let mut host = host_at(alloc, clock, idle_port(alloc), idle_port(alloc), true);
+    let mut sink = MemSink::new(alloc, Vec::new(alloc));
     assert!(rt; has_judges(&settings, &stock));
     let answer = slave(alloc, &settings, &mut host, &mut sink, stock);
+    drop(host);
     assert_eq!(rt; answer, Err(DaemonFault::Open));
     assert!(rt; sink.bytes().is_empty());
     Ok(())

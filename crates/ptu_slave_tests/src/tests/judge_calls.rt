@@ -3,7 +3,7 @@ ghost use Rattle.std.specs.Prelude.{◌≡◌, false, IfOk, length};
 ghost use Rattle.ptu_judges.specs.Held.{flag_held};
 ghost use Rattle.ptu_slave.specs.Seen.{seen};
 
-use super::slave::{Row, SECOND, config, play, slave_of_one};
+use super::slave::{Row, SECOND, config, play_all, slave_of_one};
 use ptu_judges::{Conduct, Judge};
 use ptu_outside::MemPort;
 use ptu_outside::samples::idle_port;
@@ -106,11 +106,14 @@ fn slave_of_listing(alloc: Global) -> Result<(Rc<Cell<Calls>>, Slave<MemPort>), 
 #[test]
 fn a_judge_is_called_once_for_each_event(rt: HostRuntime) -> Result<(), Fail> {
     let alloc = rt.alloc();
+    let at = Moment::of(SECOND).ok_or("below 2^62")?;
+    let later = Moment::of(2 * SECOND).ok_or("below 2^62")?;
     let (calls, mut slave) = slave_of_listing(alloc)?;
-    play(&rt, alloc, &mut slave, 0, Row::Announce(1, 84))?;
-    play(&rt, alloc, &mut slave, 0, Row::Sync(1, 7))?;
-    slave.flag(Moment::of(SECOND).ok_or("below 2^62")?, 0, true);
-    slave.tick(Moment::of(2 * SECOND).ok_or("below 2^62")?);
+    let rows = [(0, Row::Announce(1, 84)), (0, Row::Sync(1, 7))];
+    play_all(&rt, alloc, &mut slave, &rows)?;
+    slave.flag(at, 0, true);
+    slave.tick(later);
+    drop(slave);
     assert_eq!(rt;
         calls.get(),
         [
@@ -129,10 +132,12 @@ fn a_judge_is_called_once_for_each_event(rt: HostRuntime) -> Result<(), Fail> {
 #[test]
 fn a_judge_that_takes_over_is_asked_once(rt: HostRuntime) -> Result<(), Fail> {
     let alloc = rt.alloc();
-    let (former_calls, mut slave) = slave_of_listing(alloc)?;
-    let (calls, judge) = new_listing(alloc)?;
     let at = Moment::of(SECOND).ok_or("below 2^62")?;
-    slave.set_judge(at, 0, Box::new(alloc, judge)?);
+    let (calls, judge) = new_listing(alloc)?;
+    let judge = Box::new(alloc, judge)?;
+    let (former_calls, mut slave) = slave_of_listing(alloc)?;
+    slave.set_judge(at, 0, judge);
+    drop(slave);
     assert_eq!(rt; former_calls.get(), [None; 6]);
     assert_eq!(rt;
         calls.get(),

@@ -44,10 +44,12 @@ fn play_of_two(rt: &impl Abort, alloc: Global, rows: &[(u64, Row)]) -> Result<()
     let first = Box::new(alloc, FlagJudge::new())?;
     let second = Box::new(alloc, FlagJudge::new())?;
     let mut slave = slave_of_two(alloc, first, second)?;
-    play_all(rt, alloc, &mut slave, rows)?;
+    let played = play_all(rt, alloc, &mut slave, rows);
     clear_port(&mut slave);
-    assert_eq!(rt; slave.into_port().sent(0), None);
-    Ok(())
+    let port = slave.into_port();
+    assert_eq!(rt; port.sent(0), None);
+    drop(port);
+    played
 }
 
 // Empties the list of what a slave sent, and nothing else of it.

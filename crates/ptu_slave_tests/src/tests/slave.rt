@@ -10,7 +10,7 @@ use ptu_judges::{FlagJudge, GapJudge, Judge};
 use ptu_outside::samples::idle_port;
 use ptu_outside::{Channel, MemPort};
 use ptu_record::Wants;
-use ptu_slave::{Master, Slave, SlaveConfig, Ticked};
+use ptu_slave::{HasPort, Master, Slave, SlaveConfig, Ticked};
 use ptu_units::{Kind, Log, Moment};
 use std::alloc::Global;
 use std::cell::Cell;
@@ -203,22 +203,27 @@ pub(crate) fn flagged(alloc: Global, config: SlaveConfig, room: u8) -> Result<Sl
     slave_of_one(alloc, config, Box::new(alloc, FlagJudge::new())?, port)
 }
 
-#[test]
-fn asks_without_an_answer(rt: HostRuntime) -> Result<(), Fail> {
-    let alloc = rt.alloc();
-    let mut slave = flagged(alloc, config(1, 0, false, 300)?, 4)?;
-    play_all(&rt, alloc, &mut slave, &UNANSWERED)?;
-    let port = slave.into_port();
+fn assert_asks(rt: &impl Abort, alloc: Global, slave: &mut Slave<MemPort>) -> Result<(), Fail> {
+    play_all(rt, alloc, slave, &UNANSWERED)?;
     let last = hex::decode(
         alloc,
         "0c120040040004000000000000000000000000000a0000000000002100010003057f\
          ffffffffffffffffffff00040006b0010000012c0004000600000000012c",
     )?;
     assert_eq!(rt;
-        port.sent(3),
+        slave.port().sent(3),
         Some((FIRST, Channel::General, last.as_slice()))
     );
     Ok(())
+}
+
+#[test]
+fn asks_without_an_answer(rt: HostRuntime) -> Result<(), Fail> {
+    let alloc = rt.alloc();
+    let mut slave = flagged(alloc, config(1, 0, false, 300)?, 4)?;
+    let asked = assert_asks(&rt, alloc, &mut slave);
+    drop(slave);
+    asked
 }
 
 // A slave of one master with the operator's judge, at the greatest intervals and with a minute to
@@ -230,7 +235,9 @@ fn play_flagged(
     rows: &[(u64, Row)],
 ) -> Result<(), Fail> {
     let mut slave = flagged(alloc, config(4, 4, delay, 60)?, 0)?;
-    play_all(rt, alloc, &mut slave, rows)
+    let played = play_all(rt, alloc, &mut slave, rows);
+    drop(slave);
+    played
 }
 
 const LOST: [(u64, Row); 17] = [
@@ -316,13 +323,16 @@ fn judges_are_asked_and_replaced(rt: HostRuntime) -> Result<(), Fail> {
     let dropped = Rc::new(alloc, Cell::new(false))?;
     let own = OwnJudge::new(dropped.clone()?);
     let config = config(4, 4, false, 0)?;
+    let gap: Box<dyn Judge> = Box::new(alloc, GapJudge::new(4))?;
+    let at = Moment::of(2 * SECOND).ok_or("below 2^62")?;
     let mut slave = slave_of_one(alloc, config, Box::new(alloc, own)?, idle_port(alloc))?;
     play_all(&rt, alloc, &mut slave, &ASKED)?;
     assert!(rt; !dropped.get());
-    let gap: Box<dyn Judge> = Box::new(alloc, GapJudge::new(4))?;
-    slave.set_judge(Moment::of(2 * SECOND).ok_or("below 2^62")?, 0, gap);
+    slave.set_judge(at, 0, gap);
     assert!(rt; dropped.get());
-    play_all(&rt, alloc, &mut slave, &REPLACED)
+    let replaced = play_all(&rt, alloc, &mut slave, &REPLACED);
+    drop(slave);
+    replaced
 }
 
 const GAP: [(u64, Row); 6] = [
@@ -347,9 +357,12 @@ fn a_judge_of_gaps_is_replaced(rt: HostRuntime) -> Result<(), Fail> {
     let alloc = rt.alloc();
     let config = config(4, 4, false, 0)?;
     let judge = Box::new(alloc, GapJudge::new(4))?;
+    let flag: Box<dyn Judge> = Box::new(alloc, FlagJudge::new())?;
+    let at = Moment::of(2 * SECOND).ok_or("below 2^62")?;
     let mut slave = slave_of_one(alloc, config, judge, idle_port(alloc))?;
     play_all(&rt, alloc, &mut slave, &GAP)?;
-    let flag: Box<dyn Judge> = Box::new(alloc, FlagJudge::new())?;
-    slave.set_judge(Moment::of(2 * SECOND).ok_or("below 2^62")?, 0, flag);
-    play_all(&rt, alloc, &mut slave, &NO_GAP)
+    slave.set_judge(at, 0, flag);
+    let no_gap = play_all(&rt, alloc, &mut slave, &NO_GAP);
+    drop(slave);
+    no_gap
 }
