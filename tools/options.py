@@ -6,6 +6,8 @@ from argparse import ArgumentTypeError
 from collections.abc import Callable
 from ipaddress import AddressValueError, IPv4Address
 
+import ptp
+
 GREATEST_CAPACITY = 16777216
 PTP_PORTS = (319, 320)
 
@@ -30,6 +32,19 @@ def whole(least: int, greatest: int) -> Callable[[str], int]:
 
 capacity = whole(1, GREATEST_CAPACITY)
 port = whole(1, 65535)
+
+
+def capacities(text: str) -> tuple[int, ...]:
+    """Capacities, with commas between."""
+    return tuple(capacity(it) for it in text.split(","))
+
+
+def kinds(text: str) -> tuple[str, ...]:
+    """Kinds of messages, with commas between."""
+    for it in text.split(","):
+        if it not in ptp.CODES:
+            raise ArgumentTypeError(f"{it!r} is none of {', '.join(ptp.CODES)}")
+    return tuple(text.split(","))
 
 
 def ports(text: str) -> tuple[int, ...]:

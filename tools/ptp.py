@@ -3,6 +3,7 @@
 from __future__ import annotations
 
 import re
+import struct
 from collections.abc import Iterable, Iterator
 from dataclasses import dataclass
 from typing import NamedTuple
@@ -10,11 +11,21 @@ from typing import NamedTuple
 SECOND = 10**9
 CODES = {"announce": 11, "sync": 0, "delay_resp": 9}
 KINDS = {code: kind for kind, code in CODES.items()}
+# The logarithms at which each kind can be granted (docs/PROFILE.md).
+LEAST_LOG = {"announce": -3, "sync": -7, "delay_resp": -7}
+GREATEST_LOG = 4
+# The shortest duration that can be granted, in seconds.
+LEAST_DURATION = 60
 
 
 def rate_of(log: int) -> int:
     """The rate of messages that are 2^log seconds apart, in sixteenths of a message per second."""
     return 1 << (4 - log)
+
+
+def period_of(log: int) -> int:
+    """2^log seconds in nanoseconds, for logarithms in the range of a kind."""
+    return SECOND << log if log >= 0 else SECOND >> -log
 
 
 class Fault(ValueError):
@@ -73,6 +84,7 @@ class Message:
 
     type: int
     domain: int
+    flags: int
     source: PortIdentity
     sequence: int
     stamp: tuple[int, int] | None = None
@@ -84,6 +96,11 @@ class Message:
     def kind(self) -> str | None:
         """The kind of message that can be granted, or None for any other."""
         return KINDS.get(self.type)
+
+    @property
+    def is_two_step(self) -> bool:
+        """Whether a Sync has twoStepFlag: a Follow_Up has its timestamp."""
+        return bool(self.flags & 0x0200)
 
 
 LEAST_LENGTH = {0: 44, 1: 44, 8: 44, 9: 54, 11: 64, 12: 44}
@@ -98,8 +115,8 @@ def timestamp(octets: bytes) -> tuple[int, int]:
     return int.from_bytes(octets[:6]), int.from_bytes(octets[6:10])
 
 
-def read_tlvs(octets: bytes) -> Iterator[Tlv]:
-    """The TLVs of unicast negotiation, in order; others are skipped."""
+def cut_tlvs(octets: bytes) -> Iterator[tuple[int, bytes]]:
+    """The TLVs of unicast negotiation, in order, each as its type and value; others are skipped."""
     at = 0
     while at < len(octets):
         if at + 4 > len(octets):
@@ -112,8 +129,13 @@ def read_tlvs(octets: bytes) -> Iterator[Tlv]:
         if TLV_LENGTH.get(tlv_type, length) != length:
             raise Fault(f"tlv {at} length {tlv_type} {length}")
         at += 4 + length
-        if tlv_type not in TLV_LENGTH:
-            continue
+        if tlv_type in TLV_LENGTH:
+            yield tlv_type, value
+
+
+def read_tlvs(octets: bytes) -> Iterator[Tlv]:
+    """The TLVs of unicast negotiation, in order."""
+    for tlv_type, value in cut_tlvs(octets):
         code = value[0] >> 4
         if tlv_type in (4, 5):
             log = int.from_bytes(value[1:2], signed=True)
@@ -121,6 +143,24 @@ def read_tlvs(octets: bytes) -> Iterator[Tlv]:
             yield Request(code, log, seconds) if tlv_type == 4 else Grant(code, log, seconds)
         else:
             yield Cancel(code) if tlv_type == 6 else Acknowledge(code)
+
+
+def trimmed(octets: bytes) -> bytes:
+    """A message without what stands behind its messageLength."""
+    return octets[: int.from_bytes(octets[2:4])]
+
+
+def with_tlvs(octets: bytes, places: Iterable[int]) -> bytes:
+    """A Signaling with those alone of its TLVs of unicast negotiation that stand at these places."""
+    cut = list(cut_tlvs(trimmed(octets)[44:]))
+    kept = b"".join(struct.pack(">HH", cut[it][0], len(cut[it][1])) + cut[it][1] for it in places)
+    return octets[:2] + struct.pack(">H", 44 + len(kept)) + octets[4:44] + kept
+
+
+def with_stamp(octets: bytes, moment: int) -> bytes:
+    """A timing message with the timestamp of a moment, in nanoseconds."""
+    seconds, rest = divmod(moment, SECOND)
+    return octets[:34] + seconds.to_bytes(6) + rest.to_bytes(4) + octets[44:]
 
 
 def read_message(octets: bytes) -> Message:
@@ -137,7 +177,8 @@ def read_message(octets: bytes) -> Message:
     message_type = octets[0] & 15
     if length < LEAST_LENGTH.get(message_type, 34):
         raise Fault(f"body {length} {LEAST_LENGTH[message_type]}")
-    head = (message_type, octets[4], identity(octets[20:30]), int.from_bytes(octets[30:32]))
+    flags = int.from_bytes(octets[6:8])
+    head = (message_type, octets[4], flags, identity(octets[20:30]), int.from_bytes(octets[30:32]))
     body = octets[34:length]
     match message_type:
         case 0 | 1 | 8:
