@@ -113,7 +113,7 @@ class Clock:
 
 @dataclass(slots=True)
 class Wire:
-    """What was seen of the grandmaster of an address. `late` is the longest way of a message from its stamp to the wire."""
+    """What was seen of the grandmaster of an address. `late` is the longest way from a stamp to the wire."""
 
     ip: str
     start: int | None = None

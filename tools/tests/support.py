@@ -113,18 +113,22 @@ def pcap(frames: Iterable[tuple[int, bytes]], order: str = "<", link_type: int =
     return b"".join(made)
 
 
-def pcapng(frames: Iterable[tuple[int, bytes]], order: str = "<") -> bytes:
-    """A pcapng of frames with moments in nanoseconds, which it counts in nanoseconds too."""
+def pcapng(frames: Iterable[tuple[int, bytes]], order: str = "<", name: str = "", digits: int = 9) -> bytes:
+    """A section of pcapng with frames, their moments counted by so many digits of a second; its interface may be named."""
 
     def block(block_type: int, body: bytes) -> bytes:
         size = struct.pack(order + "I", len(body) + 12)
         return struct.pack(order + "I", block_type) + size + body + size
 
-    option = struct.pack(order + "HHBxxxHH", 9, 1, 9, 0, 0)
+    option = struct.pack(order + "HHBxxxHH", 9, 1, digits, 0, 0)
+    if name:
+        octets = name.encode()
+        option = struct.pack(order + "HH", 2, len(octets)) + octets + bytes(-len(octets) % 4) + option
     made = block(0x0A0D0D0A, struct.pack(order + "IHHq", 0x1A2B3C4D, 1, 0, -1))
     made += block(1, struct.pack(order + "HHI", 1, 0, 0) + option)
     for moment, frame in frames:
-        head = struct.pack(order + "IIIII", 0, moment >> 32, moment & 0xFFFFFFFF, len(frame), len(frame))
+        parts = moment * 10**digits // 10**9
+        head = struct.pack(order + "IIIII", 0, parts >> 32, parts & 0xFFFFFFFF, len(frame), len(frame))
         made += block(6, head + frame + bytes(-len(frame) % 4))
     return made
 

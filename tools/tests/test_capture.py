@@ -5,11 +5,14 @@ from __future__ import annotations
 import io
 import json
 import os
+import struct
 import subprocess
 import tempfile
+import time
 import unittest
 from pathlib import Path
 from typing import Any
+from unittest import mock
 
 import capture
 import ptp
@@ -79,6 +82,16 @@ class Captures(unittest.TestCase):
             got = [(it.moment, it.sender, it.receiver, it.octets.hex()) for it in read(octets)]
             self.assertEqual(got, [told], name)
 
+    def test_interfaces_of_any_name(self) -> None:
+        """Options of pcapng are padded to four octets, and the name stands before what counts time."""
+        for name in ("e", "lo", "sl0", "eth0", "wlan0", "wlp2s0", "enp0s31", "enp0s31f6"):
+            self.assertEqual([it.moment for it in read(pcapng([(MOMENT, FRAME)], name=name))], [MOMENT], name)
+
+    def test_sections(self) -> None:
+        """Each section of a pcapng has interfaces of its own: here they count time by other digits, and in other orders."""
+        octets = pcapng([(MOMENT, FRAME)], digits=9) + pcapng([(MOMENT, FRAME)], ">", digits=3)
+        self.assertEqual([it.moment for it in read(octets)], [MOMENT, MOMENT // 10**6 * 10**6])
+
     def test_octets_behind_the_datagram_are_padding(self) -> None:
         self.assertEqual(read(pcap([(MOMENT, FRAME + bytes(6))]))[0].octets.hex(), FIRST)
 
@@ -139,6 +152,67 @@ class FromPcap(unittest.TestCase):
         self.assertEqual(lines[1], f"master {SLAVE} {GM} 1 flag")
         self.assertEqual(sum(it.startswith("rx ") for it in lines), 60 - 14)
         self.assertEqual(sum(it.startswith("tick ") for it in lines), 6)
+
+    def test_turns_come_before_a_datagram_of_their_moment(self) -> None:
+        """Turns are due from one interval behind the first datagram on; one at a datagram's moment stands before it."""
+        moments = (0, 10**9, 10**9 + 1)
+        frames = [(MOMENT + it, ethernet(ip_packet(SLAVE, GM, 320, bytes.fromhex(FIRST)))) for it in moments]
+        given = pcap(frames, per_second=10**9)
+        lines = run("from-pcap", "script", "-", "--gm", GM, "--turn", "1", given=given).stdout.decode().splitlines()
+        turns = [f"turn {10**9} {GM} {table}" for table in range(4)]
+        of_rx = [f"rx {it} {GM} {SLAVE} {FIRST}" for it in moments]
+        self.assertEqual(lines[1:], [of_rx[0], *turns, *of_rx[1:]])
+
+    def test_ticks_begin_with_the_first_datagram(self) -> None:
+        frames = [(MOMENT + it, ethernet(ip_packet(SLAVE, GM, 320, bytes.fromhex(FIRST)))) for it in (0, 2 * 10**9)]
+        words = ("script", "-", "--slave", SLAVE, "--tick", "1")
+        lines = run("from-pcap", *words, given=pcap(frames, per_second=10**9)).stdout.decode().splitlines()
+        self.assertEqual(lines[2:], [f"tick {it * 10**9} {SLAVE}" for it in range(3)])
+
+    def slave(self, *asks: tuple[str, str]) -> list[str]:
+        """The first lines of a script with a slave that asks these addresses for these TLVs, all in hexadecimal digits."""
+        frames = []
+        for at, (ip, tlvs) in enumerate(asks):
+            octets = bytes.fromhex("0c12" + f"{44 + len(tlvs) // 2:04x}" + FIRST[8:88] + tlvs)
+            frames.append((MOMENT + at, ethernet(ip_packet(SLAVE, ip, 320, octets))))
+        ran = run("from-pcap", "script", "-", "--slave", SLAVE, given=pcap(frames))
+        self.assertEqual((ran.returncode, ran.stderr), (0, b""))
+        return ran.stdout.decode().splitlines()
+
+    def test_a_slave_asks_as_it_did_at_first(self) -> None:
+        """Of two asks of a kind the first counts, and of all that it asked at first the shortest duration."""
+        announce, sync = "00040006b0010000012c", "0004000600fc0000003c"
+        first = self.slave((GM, announce), (GM, sync), (GM, "00040006b0000000003c"), (GM, "0004000600fb0000003c"))[0]
+        self.assertEqual(first, f"slave {SLAVE} ee7bdcfffe2da55d 1 4 300 3 3 1 -4 - 60")
+        first = self.slave((GM, announce), (GM, "0004000600fc000000c8"))[0]
+        self.assertEqual(first.split()[-1], "200")
+
+    def test_a_slave_has_sixteen_masters(self) -> None:
+        asked = [(f"10.0.0.{it}", "00040006b0010000012c") for it in range(1, 18)]
+        lines = self.slave(*asked)
+        masters = [f"master {SLAVE} 10.0.0.{it} {it} flag" for it in range(1, 17)]
+        self.assertEqual([it for it in lines if it.startswith("master ")], masters)
+
+    def test_domains_and_ports(self) -> None:
+        """A script's nodes are in the domains 4 to 23, and have the ports 1 to 65534."""
+        for place, size, fitting, others in ((4, 1, (4, 23), (3, 24)), (28, 2, (1, 65534), (0, 65535))):
+            for value in (*fitting, *others):
+                octets = bytearray.fromhex(FIRST)
+                octets[place : place + size] = value.to_bytes(size)
+                frame = ethernet(ip_packet(SLAVE, GM, 320, bytes(octets)))
+                ran = run("from-pcap", "script", "-", "--slave", SLAVE, given=pcap([(MOMENT, frame)]))
+                self.assertEqual(ran.returncode, 0 if value in fitting else 65, value)
+
+    def test_sizes(self) -> None:
+        """A datagram has 1 to 2048 octets, and the output what the program reads at most."""
+        for size, status in ((0, 65), (1, 0), (2047, 0), (2048, 0), (2049, 65)):
+            frame = ethernet(ip_packet(SLAVE, GM, 320, bytes(size)))
+            ran = run("from-pcap", "show", "--plain", "-", given=pcap([(MOMENT, frame)]))
+            self.assertEqual((ran.returncode, len(ran.stdout)), (status, 0 if status else 2 * size + 1), size)
+        whole = len(run("from-pcap", "show", PTP4L).stdout)
+        for largest, status in ((whole, 0), (whole - 1, 65)):
+            with mock.patch.object(from_pcap, "LARGEST_SCRIPT", largest):
+                self.assertEqual(run("from-pcap", "show", PTP4L).returncode, status)
 
     def test_refused(self) -> None:
         other_domain = bytearray(FRAME)
@@ -262,6 +336,13 @@ class Observed(unittest.TestCase):
         self.assertEqual(lease.seen_per_second(30 * ptp.SECOND + 2, 10 * ptp.SECOND), 2.0)
         self.assertEqual(lease.seen_per_second(50 * ptp.SECOND, 10 * ptp.SECOND), 0.0)
 
+    def test_the_edge_of_the_window(self) -> None:
+        """A message exactly one window ago is not in it, and one a nanosecond later is."""
+        for moment, count in ((10 * ptp.SECOND, 0), (10 * ptp.SECOND + 1, 1)):
+            lease = Lease(0)
+            lease.see(moment)
+            self.assertEqual(lease.seen_per_second(20 * ptp.SECOND, 10 * ptp.SECOND), count / 10)
+
     def test_table(self) -> None:
         table = run("observe", GM, "--read", PTP4L, "--capacity", "640").stdout.decode()
         self.assertIn("granted 528/16 of a message per second, of a capacity of 640/16 (82 %)", table)
@@ -278,6 +359,78 @@ class Observed(unittest.TestCase):
             self.assertEqual(run("observe", GM, "--read", f"{folder}/it").returncode, 65)
         self.assertEqual(run("observe", GM, "--read", "/nowhere").returncode, 66)
         self.assertEqual(run("observe", "here", "--read", "/nowhere").returncode, 2)
+
+
+ETH, LO = ("eth0", 0x0800, 4), ("lo", 0x0800, 4)
+INCOMING = ("eth0", 0x0800, 0)
+
+
+class Socket:
+    """Stands in for a raw socket: what it hears, and how many packets it says were lost each time it is asked."""
+
+    def __init__(self, heard: list[tuple[bytes, tuple[str, int, int]]], lost: list[int]) -> None:
+        self.heard, self.lost = heard, lost
+
+    def recvfrom(self, size: int) -> tuple[bytes, tuple[str, int, int]]:
+        return self.heard.pop(0)
+
+    def getsockopt(self, level: int, option: int, size: int) -> bytes:
+        return struct.pack("II", 100, self.lost.pop(0))
+
+
+class Listening(unittest.TestCase):
+    """What is heard live, without a right to listen: the filter's program is run here, and the socket is a stand-in."""
+
+    def passes(self, protocol: int, packet: bytes) -> bool:
+        """Whether the system's filter lets a packet through: its program is run as the system would."""
+        program = tool("observe").filter_for(GM)
+        lines = [struct.unpack_from("HBBI", program, at) for at in range(0, len(program), 8)]
+        at = value = 0
+        while True:
+            code, yes, no, number = lines[at]
+            at += 1
+            match code:
+                case 0x28:
+                    self.assertEqual(number, 0xFFFFF000)
+                    value = protocol
+                case 0x30:
+                    value = packet[number]
+                case 0x20:
+                    value = int.from_bytes(packet[number : number + 4])
+                case 0x15:
+                    at += yes if value == number else no
+                case 0x06:
+                    return number > 0
+
+    def test_filter(self) -> None:
+        """UDP over IPv4 to the grandmaster and from it passes, and nothing else."""
+        to, other, away = (ip_packet(*it, 320, b"it") for it in ((SLAVE, GM), (SLAVE, "192.0.2.9"), (GM, SLAVE)))
+        tcp = to[:9] + b"\x06" + to[10:]
+        passed = [self.passes(0x0800, it) for it in (to, away, other, tcp)]
+        self.assertEqual((passed, self.passes(0x86DD, to)), ([True, True, False, False], False))
+
+    def listener(self, heard: list[tuple[bytes, tuple[str, int, int]]], lost: list[int]) -> Any:
+        observe = tool("observe")
+        with (
+            mock.patch.object(observe.socket, "socket", lambda *it: mock.Mock()),
+            mock.patch.object(observe.sys, "stdin", mock.Mock()),
+        ):
+            made = observe.Listener(GM, None)
+        made.socket = Socket(heard, lost)
+        return made
+
+    def test_what_this_machine_sends_is_heard_once(self) -> None:
+        """A packet that leaves by an interface is heard; on loopback each comes twice, and is heard as it comes in."""
+        packets = [ip_packet(GM, SLAVE, 320, bytes([it])) for it in range(4)]
+        ways = [ETH, INCOMING, LO, ("lo", 0x0800, 0)]
+        made = self.listener(list(zip(packets, ways)), [])
+        with mock.patch("select.select", lambda heard, *_: (heard if made.socket.heard else [], [], [])):
+            heard = [it.octets for it in made.hear(time.monotonic() + 60)]
+        self.assertEqual(heard, [b"\0", b"\1", b"\3"])
+
+    def test_what_was_missed_adds_up(self) -> None:
+        made = self.listener([], [3, 0, 4])
+        self.assertEqual([made.count_missed() for _ in range(3)], [3, 3, 7])
 
 
 if __name__ == "__main__":

@@ -56,6 +56,20 @@ class Stories(unittest.TestCase):
         self.assertEqual(master.held()[0], (0.001, 24))
         self.assertEqual([value for _, value in renewed.held()], [24, 24, 0])
 
+    def test_a_grant_that_is_over_holds_nothing(self) -> None:
+        """A grant to 300.001 s, and one at 400 s: between them nothing is held."""
+        lines = [it for it in REPORT.read_text().splitlines() if it.split()[0] == "10"]
+        first = [it.replace("10 ", "11 ", 1).replace("send 2", "send 1") for it in lines]
+        later = [it.replace(" 1000000 ", f" {400 * 10**9} ").replace("300001000000", "700000000000") for it in first]
+        later = [it.replace("11 ", "12 ", 1).replace("send 1", "send 2") for it in later]
+        master = plot.read_story([*first, *later, "end 12 2"], plot.Script(), {}).grandmasters["10.0.0.1"]
+        self.assertEqual(master.held(), [(0.001, 24), (300.001, 0), (400.0, 24), (700.0, 0)])
+
+    def test_an_event_that_tells_no_moment(self) -> None:
+        """Without a script a tick is drawn at the last moment that was told before it."""
+        lines = ["1 heard sync 10.0.0.1 seq 1 at 7000000000", "2 selected 10.0.1.17 10.0.0.1", "end 2 0"]
+        self.assertEqual(plot.read_story(lines, plot.Script(), {}).selections["10.0.1.17"], [(7.0, "10.0.0.1")])
+
     def test_a_cancel_ends_its_grant(self) -> None:
         lines = [it for it in REPORT.read_text().splitlines() if it.split()[0] == "10"]
         reply = next(it for it in lines if " send 2 " in it)

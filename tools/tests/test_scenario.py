@@ -41,6 +41,16 @@ class Plans(unittest.TestCase):
         # Table: the last octet of the clock identity plus the port number, modulo 4.
         self.assertEqual([it.table for it in made.slaves], [2, 3])
 
+    def test_ticks_by_delay_resps_and_turns_by_syncs(self) -> None:
+        """By default a slave ticks as often as Delay_Resps come, and a table turns as often as Announces and Syncs."""
+        for lines, tick, turn in (
+            ("log_sync = -2\nlog_delay = -4", 10**9 // 16, 10**9 // 4),
+            ("log_sync = -4\nlog_delay = -1", 10**9 // 2, 10**9 // 16),
+            ("log_announce = -3\nlog_sync = -1", 10**9, 10**9 // 8),
+        ):
+            made = plan.read_plan(SMALL.replace("log_sync = 0", lines))
+            self.assertEqual((made.tick, made.turn), (tick, turn), lines)
+
     def test_moments_are_exact(self) -> None:
         made = plan.read_plan(SMALL.replace("length = 20", "length = 4611686016.000000001"))
         self.assertEqual(made.length, 4611686016000000001)
@@ -147,6 +157,24 @@ class Runs(unittest.TestCase):
         self.assertEqual((numbers.count("1"), numbers.count("2")), (2, 2))
         half = self.moments(self.make(SMALL.replace("seed", "loss = 0.5\nseed")), "deliver")
         self.assertIn(len(half), range(10, 60))
+
+    def test_copies_go_their_own_ways(self) -> None:
+        """Where the delay is a range, two copies of a datagram do not arrive at one moment."""
+        words = self.make(SMALL.replace("seed", "repeat = 1\nseed"))
+        moments: dict[str, set[str]] = {}
+        for it in words:
+            if it[0] == "deliver":
+                moments.setdefault(it[2], set()).add(it[1])
+        twice = [len(it) for it in moments.values()]
+        self.assertGreater(len(twice), 30)
+        self.assertGreater(twice.count(2), 0.9 * len(twice))
+
+    def test_a_link_that_is_faster(self) -> None:
+        """Nothing arrives out of order where one link is faster than all others."""
+        link = '[[links]]\nbetween = ["10.0.1.2", "10.0.0.1"]\ndelay = 0.0001\n'
+        words = self.make(SMALL.replace("[0.001, 0.004]", "0.6").replace("spread = 1", "spread = 0.1") + link)
+        moments = [int(it[1]) for it in words if it[0] in ("tick", "turn", "deliver")]
+        self.assertEqual(moments, sorted(moments))
 
     def test_a_link_of_its_own(self) -> None:
         words = self.make(SMALL + '[[links]]\nbetween = ["10.0.1.2", "10.0.0.1"]\nloss = 1\n')
