@@ -8,6 +8,7 @@ from collections.abc import Iterator, Sequence
 from dataclasses import dataclass, field
 
 import ptp
+from endings import BadInput
 from ptp import SECOND
 from wire import Answer, Cancels, Client, Lease, Timed, Unanswered, Wire
 
@@ -20,7 +21,7 @@ Sent = tuple[str, str, bytes]
 Group = tuple[list[str], list[Sent]]
 
 
-class Untold(ValueError):
+class Untold(BadInput):
     """What a report lacks, and what to do."""
 
 

@@ -114,7 +114,7 @@ def pcap(frames: Iterable[tuple[int, bytes]], order: str = "<", link_type: int =
 
 
 def pcapng(frames: Iterable[tuple[int, bytes]], order: str = "<", name: str = "", digits: int = 9) -> bytes:
-    """A section of pcapng with frames, their moments counted by so many digits of a second; its interface may be named."""
+    """A section of pcapng with frames, whose moments are counted by so many digits of a second."""
 
     def block(block_type: int, body: bytes) -> bytes:
         size = struct.pack(order + "I", len(body) + 12)
