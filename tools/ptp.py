@@ -1,8 +1,7 @@
-"""PTP datagrams read from their octets, and reports of `ptpuni replay` read by their forms (docs/FORMATS.md)."""
+"""PTP datagrams read from their octets (docs/FORMATS.md)."""
 
 from __future__ import annotations
 
-import re
 import struct
 from collections.abc import Iterable, Iterator
 from dataclasses import dataclass
@@ -30,10 +29,6 @@ def period_of(log: int) -> int:
 
 class Fault(ValueError):
     """Why octets are no PTP message."""
-
-
-class Refused(ValueError):
-    """Why a text is no report: the number of its line, and the cause."""
 
 
 # -- Datagrams (IEEE 1588-2019 clauses 13 and 14) --------------------------------------------------------------------
@@ -190,148 +185,3 @@ def read_message(octets: bytes) -> Message:
         case 12:
             return Message(*head, target=identity(body), tlvs=tuple(read_tlvs(body[10:])))
     return Message(*head)
-
-
-# -- Reports ---------------------------------------------------------------------------------------------------------
-
-# The forms of a report's lines behind their number. A word of capitals is a field, whose form is below; where a form
-# has one field name twice the second has a 2.
-FORMS = """
-granted KIND LOG at AT until UNTIL
-short KIND LOG at AT others OTHERS rate RATE capacity CAPACITY
-outside type CODE
-outside log KIND LOG
-outside duration KIND LOG SECONDS
-cancelled KIND at AT
-nothing KIND at AT
-nothing CODE
-answered at AT
-silent nogrant at AT
-silent soon at AT earliest EARLIEST
-heard announce IP class CLASS at AT
-heard sync IP seq SEQ at AT
-heard follow_up IP at AT
-heard delay_resp IP seq SEQ at AT
-grant KIND SECONDS
-denial KIND
-cancel KIND
-cancel CODE
-ack KIND
-ack CODE
-ignored fault FAULT
-ignored type TYPE
-ignored other OTHER
-ignored stranger
-ignored domain DOMAIN
-ignored target
-capacity IP CAPACITY at AT
-shed KIND LOG IP IDENTITY
-nobody
-send NUMBER FROM TO CHANNEL HEX
-selected SLAVE MASTER
-bad CAUSE
-"""
-
-NUMERAL = r"0|[1-9][0-9]{0,18}"
-OCTET = "(?:25[0-5]|2[0-4][0-9]|1[0-9][0-9]|[1-9]?[0-9])"
-ADDRESS = rf"{OCTET}(?:\.{OCTET}){{3}}"
-FIELDS = {
-    "KIND": "announce|sync|delay_resp",
-    "LOG": r"0|-?[1-9][0-9]{0,2}",
-    "IP": ADDRESS,
-    "FROM": ADDRESS,
-    "TO": ADDRESS,
-    "SLAVE": ADDRESS,
-    "MASTER": f"none|{ADDRESS}",
-    "IDENTITY": rf"[0-9a-f]{{16}}/(?:{NUMERAL})",
-    "CHANNEL": "event|general",
-    "HEX": "(?:[0-9a-f]{2})+|-",
-    "FAULT": "(?:short|version|sdo|length|body|toomany|tlv)(?: [a-z0-9]+)+",
-    "CAUSE": "size|long|text|word|count|field [0-9]+|order|node|full|number|stock",
-}
-DIGITS = {"AT", "UNTIL", "OTHERS", "RATE", "CAPACITY", "SECONDS", "EARLIEST", "CLASS", "SEQ", "NUMBER", "LOG"}
-
-
-@dataclass(frozen=True, slots=True)
-class Form:
-    """One form: its first words, the pattern of a line, and which of its fields are numbers."""
-
-    words: str
-    pattern: re.Pattern[str]
-    numbers: tuple[str, ...]
-
-
-def form_of(text: str) -> Form:
-    words = text.split()
-    fields = [it for it in words if it.isupper()]
-    parts = [f"(?P<{it}>{FIELDS.get(it, NUMERAL)})" if it in fields else it for it in words]
-    literals = [it for it in words if not it.isupper()]
-    pattern = re.compile(rf"({NUMERAL}) " + " ".join(parts))
-    name = " ".join(literals[:2]) if literals[0] in ("outside", "silent", "heard", "ignored") else literals[0]
-    return Form(name, pattern, tuple(it for it in fields if it in DIGITS))
-
-
-def forms_by_word() -> dict[str, list[Form]]:
-    by_word: dict[str, list[Form]] = {}
-    for text in FORMS.split("\n"):
-        if text:
-            by_word.setdefault(text.split()[0], []).append(form_of(text))
-    return by_word
-
-
-BY_WORD = forms_by_word()
-END = re.compile(rf"end ({NUMERAL}) ({NUMERAL})")
-
-
-@dataclass(slots=True)
-class ReportLine:
-    """A line of a report: its own number, that of the script's line, the name of its form, and its fields."""
-
-    at: int
-    line: int
-    name: str
-    fields: dict[str, str]
-    numbers: dict[str, int]
-
-
-def read_line(at: int, text: str) -> ReportLine | None:
-    """The line by the form that it has, or None where it has none."""
-    words = text.split(" ", 2)
-    for form in BY_WORD.get(words[1] if len(words) > 1 else "", ()):
-        if found := form.pattern.fullmatch(text):
-            fields = found.groupdict()
-            numbers = {it: int(fields[it]) for it in form.numbers}
-            return ReportLine(at, int(found[1]), form.words, fields, numbers)
-    return None
-
-
-def short(text: str) -> str:
-    return text if len(text) <= 60 else text[:57] + "..."
-
-
-def read_report(lines: Iterable[str]) -> Iterator[ReportLine]:
-    """The lines of a whole report one by one, but its `end`; it raises Refused at the first that has no place in it."""
-    at, last, sent, ended = 0, 0, 0, ""
-    for at, text in enumerate((it.rstrip("\n") for it in lines), 1):
-        if ended:
-            raise Refused(f"line {at}: it stands behind the last line of a report, `{ended}`")
-        if found := END.fullmatch(text):
-            if int(found[1]) < last or int(found[2]) != sent:
-                raise Refused(f"line {at}: `{text}` ends a report of line {last} and {sent} datagrams")
-            ended = text
-            continue
-        line = read_line(at, text)
-        if line is None:
-            raise Refused(f"line {at}: no form of a report: `{short(text)}`")
-        if line.line < max(last, 1):
-            raise Refused(f"line {at}: its number {line.line} is lower than {max(last, 1)} above it")
-        if line.name == "send":
-            sent += 1
-            if line.numbers["NUMBER"] != sent:
-                raise Refused(f"line {at}: datagram {line.numbers['NUMBER']} stands where {sent} is next")
-        last = line.line
-        if line.name == "bad":
-            ended = text
-        yield line
-    if not ended:
-        raise Refused(f"line {at + 1}: the text ends without `end LINES DATAGRAMS`")

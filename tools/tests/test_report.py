@@ -1,0 +1,197 @@
+"""Reports by the forms of their lines, and beside their scripts."""
+
+from __future__ import annotations
+
+import io
+import unittest
+from typing import Any
+from unittest import mock
+
+import reader
+import report
+from script import Script
+from story import Story
+from support import EXAMPLES, REPORT, tool
+
+# One line of each form, as docs/FORMATS.md has them.
+LINES = """\
+1 granted announce 1 at 0 until 300000000000
+1 short sync -4 at 5 others 24 rate 256 capacity 24
+1 outside type 5
+1 outside log sync 9
+1 outside duration announce -3 59
+1 cancelled delay_resp at 7
+1 nothing sync at 7
+1 nothing 5
+1 answered at 4611686018427387903
+1 silent nogrant at 0
+1 silent soon at 1 earliest 2
+1 heard announce 10.0.0.1 class 84 at 3
+1 heard sync 10.0.0.1 seq 65535 at 3
+1 heard follow_up 255.255.255.255 at 3
+1 heard delay_resp 0.0.0.0 seq 0 at 3
+1 grant sync 300
+1 denial announce
+1 cancel sync
+1 cancel 5
+1 ack sync
+1 ack 5
+1 ignored fault short 33
+1 ignored fault tlv 44 length 4 7
+1 ignored type 2
+1 ignored other 13
+1 ignored stranger
+1 ignored domain 0
+1 ignored target
+1 capacity 10.0.0.1 24 at 10000000000
+1 shed sync 0 10.0.1.18 0a00000000000012/1
+1 nobody
+1 send 1 10.0.0.1 10.0.1.17 general 0c12
+1 send 2 10.0.0.1 10.0.1.17 event -
+1 selected 10.0.1.17 10.0.0.1
+1 selected 10.0.1.17 none
+1 bad field 3""".split("\n")
+
+NO_LINES = """\
+granted announce 1 at 0 until 3
+1 granted announce 1 at 0 until
+1 granted announce 01 at 0 until 3
+1 granted announce 1 at 0 until 3 4
+1 granted follow_up 1 at 0 until 3
+1  granted announce 1 at 0 until 3
+1 heard sync 10.0.0.256 seq 1 at 3
+1 heard sync 10.0.0 seq 1 at 3
+1 shed sync 0 10.0.1.18 0A00000000000012/1
+1 send 1 10.0.0.1 10.0.1.17 general 0c1
+1 send 1 10.0.0.1 10.0.1.17 multicast 0c12
+1 selected 10.0.1.17 10.0.0.1.
+1 ignored
+1 bad luck
+hello""".split("\n")
+
+
+
+
+def read(text: str, script: str | None = None) -> Story:
+    return reader.read_story(io.BytesIO(text.encode()), Script(script.encode()) if script is not None else None)
+
+
+def blocks(text: bytes) -> list[report.Block]:
+    reading = report.Reading()
+    return [reading.block(it) for it in report.texts(io.BytesIO(text))]
+
+
+class Reports(unittest.TestCase):
+    def test_forms(self) -> None:
+        for text in LINES:
+            self.assertTrue(report.has_form(text.encode()), text)
+        for text in NO_LINES:
+            self.assertFalse(report.has_form(text.encode()), text)
+
+    def test_each_form_in_a_report(self) -> None:
+        """The lines of which there are many are read in another way, which takes and refuses the same."""
+        decided = {"granted", "short", "outside", "cancelled", "nothing", "shed", "bad"}
+        for text in LINES:
+            if text.split()[1] not in decided and not text.endswith(("0c12", "-")):
+                read(f"{text}\nend 1 0\n")
+        for text in NO_LINES:
+            with self.assertRaises(report.Refused, msg=text) as caught:
+                read(f"1 nobody\n{text}\nend 1 0\n")
+            self.assertIn(f"line 2: no form of a report: `{text[:50]}", str(caught.exception))
+
+    def test_columns(self) -> None:
+        block = blocks(REPORT.read_bytes())[0]
+        words = [it[2].split()[0] for it in block.others]
+        counts = (len(block.sent), words.count(b"granted"), words.count(b"shed"), words.count(b"capacity"))
+        self.assertEqual(counts, (14, 6, 2, 2))
+        self.assertEqual((len(block.heard), len(block.selected)), (2, 13))
+
+    def test_refused(self) -> None:
+        refused = {
+            "": "line 1: the text ends without",
+            "1 nobody\n": "line 2: the text ends without",
+            "1 nobody\nhello\nend 1 0\n": "line 2: no form of a report: `hello`",
+            "1 nobody\n\nend 1 0\n": "line 2: no form of a report: ``",
+            "2 nobody\n1 nobody\nend 2 0\n": "line 2: its number 1 is lower than 2",
+            "2 selected 10.0.0.1 none\n1 selected 10.0.0.1 none\nend 2 0\n": "line 2: its number 1 is lower than 2",
+            "0 nobody\nend 1 0\n": "line 1: its number 0 is lower than 1",
+            "0 selected 10.0.0.1 none\nend 1 0\n": "line 1: its number 0 is lower than 1",
+            "01 selected 10.0.0.1 none\nend 1 0\n": "line 1: no form of a report",
+            "1 send 1 10.0.0.1 10.0.1.17 event -\nend 1 1\n": "line 1: the datagram is no PTP message: short 0",
+            "1 send 2 10.0.0.1 10.0.1.17 event 00\nend 1 1\n": "line 1: datagram 2 stands where 1 is next",
+            "1 nobody\nend 1 1\n": "line 2: `end 1 1` ends a report of line 1 and 0 datagrams",
+            "2 nobody\nend 1 0\n": "line 2: `end 1 0` ends",
+            "end 1 0\n2 nobody\n": "line 2: it stands behind the last line of a report, `end 1 0`",
+            "1 bad word\nend 1 0\n": "line 2: it stands behind the last line of a report, `1 bad word`",
+            "1 nobody\nend x 0\n": "line 2: no form of a report: `end x 0`",
+            "1 send 1 10.0.0.1 10.0.1.17 event 00\nend 1 1\n": "line 1: the datagram is no PTP message: short 1",
+        }
+        for size in (report.BLOCK, 1, 7):
+            for text, why in refused.items():
+                with mock.patch.object(report, "BLOCK", size), self.assertRaises(report.Refused, msg=text) as caught:
+                    read(text)
+                self.assertIn(why, str(caught.exception))
+
+    def test_report_of_a_refused_script(self) -> None:
+        self.assertEqual(read("1 nobody\n2 bad field 3").refused, "line 2 of the script was refused: field 3")
+
+    def test_in_blocks_of_any_size(self) -> None:
+        """A group of lines is read whole, wherever a block of the text ends."""
+        text, script = REPORT.read_text(), (EXAMPLES / "falling-capacity.script").read_text()
+        whole = tool("plot").draw(read(text, script), "it")
+        for size in (1, 100, 300, 1000):
+            with mock.patch.object(report, "BLOCK", size):
+                self.assertEqual(tool("plot").draw(read(text, script), "it"), whole, size)
+
+
+class Scripts(unittest.TestCase):
+    """A report is read beside its own script, and refused beside any other."""
+
+    TEXT, SCRIPT = REPORT.read_text(), (EXAMPLES / "falling-capacity.script").read_text()
+
+    def refused(self, script: str, text: str | None = None) -> str:
+        with self.assertRaises(report.Refused) as caught:
+            read(text or self.TEXT, script)
+        return str(caught.exception)
+
+    def changed(self, old: str, new: str) -> str:
+        self.assertIn(old, self.SCRIPT)
+        return self.refused(self.SCRIPT.replace(old, new, 1))
+
+    def test_its_own(self) -> None:
+        self.assertEqual(read(self.TEXT, self.SCRIPT).grandmasters["10.0.0.1"].opening, 48)
+
+    def test_others(self) -> None:
+        for other in ("under-load", "full-table", "two-masters", "lost-delay-resp"):
+            why = self.refused((EXAMPLES / f"{other}.script").read_text())
+            self.assertRegex(why, "line [0-9]+: it does not fit line [0-9]+ of the script: `|line [0-9]+: it ends")
+
+    def test_each_kind_of_difference(self) -> None:
+        """Another node, another word, another capacity, opening or later, a later moment, another length."""
+        first_tick = next(it for it in self.SCRIPT.splitlines() if it.startswith("tick "))
+        self.assertIn("it does not fit line", self.changed(first_tick, first_tick.replace("10.0.1.17", "10.0.1.18")))
+        self.assertIn("it does not fit line", self.changed(first_tick, first_tick.replace("tick", "class")))
+        self.assertIn("line 3: it does not fit line 10", self.changed("deliver 1000000 1", "deliver 1000000 999"))
+        self.assertIn("it does not fit line", self.changed("10000000000 10.0.0.1 24", "10000000000 10.0.0.1 23"))
+        self.assertIn("it does not fit line", self.changed("100000000000 10.0.0.1 48", "100000000001 10.0.0.1 48"))
+        lines = self.SCRIPT.count("\n")
+        self.assertIn(f"it ends {lines} lines, and the script has {lines + 1}", self.refused(self.SCRIPT + "\n"))
+
+    def test_a_denial_tells_the_capacity(self) -> None:
+        """The opening capacity stands in no line but a denial's."""
+        reply = next(it for it in self.TEXT.splitlines() if " send 2 " in it).split(" ", 3)[3]
+        text = f"2 short sync 0 at 5 others 24 rate 16 capacity 24\n2 send 1 {reply}\nend 2 1\n"
+        gm = "gm 10.0.0.1 0a00000000000001 1 4 84 {} 300\nrx 5 10.0.0.1 10.0.1.17 00\n"
+        self.assertEqual(read(text, gm.format(24)).grandmasters["10.0.0.1"].opening, 24)
+        self.assertIn("line 1: it does not fit line 2", self.refused(gm.format(25), text))
+
+    def test_behind_the_front_of_a_long_report(self) -> None:
+        """Of a long report some lines of each block are compared, and all changes of capacity."""
+        with mock.patch.object(reader, "ALL_LINES", 0), mock.patch.object(reader, "SOME_LINES", 3):
+            self.assertIn("it does not", self.changed("10000000000 10.0.0.1 24", "10000000000 10.0.0.1 23"))
+            first_tick = next(it for it in self.SCRIPT.splitlines() if it.startswith("tick "))
+            self.assertIn("it does not fit", self.changed(first_tick, first_tick.replace("10.0.1.17", "10.0.1.18")))
+
+
+if __name__ == "__main__":
+    unittest.main()
