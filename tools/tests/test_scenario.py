@@ -30,6 +30,19 @@ log_sync = 0
 """
 
 
+CAPACITY_FALLS = """
+[[changes]]
+at = 8
+node = "10.0.0.1"
+capacity = 80
+
+[[changes]]
+at = 12
+node = "10.0.0.1"
+capacity = 300
+"""
+
+
 class Plans(unittest.TestCase):
     def test_small(self) -> None:
         made = plan.read_plan(SMALL)
@@ -59,8 +72,13 @@ class Plans(unittest.TestCase):
         slave = '[[slaves]]\nip = "10.0.1.9"\nmasters = ["10.0.0.1"]\n'
         refused = {
             SMALL.replace("length = 20", ""): "length: it is required",
-            SMALL.replace("length", "lenght"): "length: it is required",
-            SMALL.replace("seed = 3", "sead = 3"): "sead: there is no such key here",
+            SMALL.replace("length", "lenth"): "lenth: there is no such key here: is length meant?",
+            SMALL.replace("seed = 3", "sead = 3"): "sead: there is no such key here: is seed meant?",
+            SMALL.replace("seed = 3", "colour = 3"): "colour: there is no such key here",
+            SMALL.replace("capacity", "capacty"): "[0].capacty: there is no such key here: is capacity meant?",
+            SMALL.replace("log_sync", "log_snyc"): "slaves[0].log_snyc: there is no such key here: is log_sync meant?",
+            SMALL.replace('["10.0.0.1"]', '["10.0.0.9"]'): "the master 10.0.0.9 of 10.0.1.1 is none of the",
+            SMALL.replace('masters = ["10.0.0.1"]', "masters = []"): "10.0.1.1 has 0 masters, and a slave has 1 to 16",
             SMALL.replace("capacity = 100", "capacity = 0"): "grandmasters[0].capacity: 0 is no whole number from 1",
             SMALL.replace("log_sync = 0", "log_sync = 9"): "slaves[0].log_sync: 9 is no whole number from -7 to 4",
             SMALL.replace("0.001, 0.004", "0.004, 0.001"): "delay: the first is the greater one",
@@ -78,6 +96,20 @@ class Plans(unittest.TestCase):
             with self.assertRaises(plan.PlanError, msg=why) as caught:
                 plan.read_plan(text)
             self.assertIn(why, str(caught.exception))
+
+    def test_judges(self) -> None:
+        """A script has 64 judges of each rule; a change of a judge takes one, too."""
+        plan.read_plan(SMALL.replace("count = 2", "count = 64"))
+        gap = SMALL.replace('["10.0.0.1"]', '[{ ip = "10.0.0.1", judge = "gap" }]')
+        change = '[[changes]]\nat = 1\nnode = "10.0.1.1"\nmaster = "10.0.0.1"\njudge = "{}"\n'
+        plan.read_plan(SMALL.replace("count = 2", "count = 64") + change.format("gap"))
+        for text, name in (
+            (SMALL.replace("count = 2", "count = 65"), "flag"),
+            (SMALL.replace("count = 2", "count = 64") + change.format("flag"), "flag"),
+            (gap.replace("count = 2", "count = 65"), "gap"),
+        ):
+            with self.assertRaisesRegex(plan.PlanError, f"slaves: the judge {name} is wanted 65 times, .* has 64:"):
+                plan.read_plan(text)
 
     def test_examples(self) -> None:
         lengths = {it.name: plan.read_plan(it.read_text()).length for it in self.examples()}
@@ -229,6 +261,7 @@ class Runs(unittest.TestCase):
             self.assertEqual((ran.returncode, ran.stdout), (70, b""))
             self.assertIn(why, ran.stderr)
         ran = run("scenario", file, "--ptpuni", "/nowhere/ptpuni")
+        self.assertEqual((ran.returncode, ran.stdout), (69, b""))
         self.assertIn(b"/nowhere/ptpuni does not start", ran.stderr)
         ran = run("scenario", "/nowhere/it.toml")
         self.assertEqual((ran.returncode, ran.stdout), (66, b""))
@@ -260,18 +293,23 @@ class WithTheProgram(unittest.TestCase):
         read: list[bytes] = []
 
         class Recorded(scenario.Replay):  # type: ignore[name-defined, misc]
-            def read_lines(self) -> list[bytes]:
-                lines: list[bytes] = super().read_lines()
-                read.extend(lines)
-                return lines
+            def read(self) -> bytes:
+                read.append(super().read())
+                return read[-1]
 
         replay = Recorded(str(program()))
         self.addCleanup(replay.close)
         text = SMALL.replace("seed", "loss = 0.1\nrepeat = 0.1\nseed")
+        text = text.replace("capacity = 100", "capacity = 400")
+        text = text.replace("log_sync = 0", "log_sync = -2\nlog_delay = -3") + CAPACITY_FALLS
         script = scenario.Scenario(plan.read_plan(text), replay, "it").run()
-        report = ptpuni("replay", "".join(f"{it}\n" for it in script).encode()).splitlines()
-        events = [it.split(b" ", 1)[1] for it in read if b" ignored fault short 0" not in it]
-        self.assertEqual(events[:-1], [it.split(b" ", 1)[1] for it in report[:-1]])
+        report = ptpuni("replay", "".join(f"{it}\n" for it in script).encode())
+        sent = [it.split(b" ", 1)[1] for it in b"".join(read).splitlines() if b" send " in it]
+        self.assertGreater(len(sent), 300)
+        self.assertEqual(sent, [it.split(b" ", 1)[1] for it in report.splitlines() if b" send " in it])
+        # Among them are CANCELs of the grandmaster, and what answers them.
+        self.assertIn(b" shed ", report)
+        self.assertIn(b" cancel ", report)
 
 
 if __name__ == "__main__":
