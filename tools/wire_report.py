@@ -257,7 +257,7 @@ class Reporter:
         early = timed.at or 0
         if known and at < min(known.until, known.edge) and known.edge - early <= self.slack:
             return known.edge
-        if at > early:
+        if known and at > early and at >= known.edge:
             self.forgiven.append(at - early)
             timed.octets = ptp.with_stamp(timed.octets, at)
         channel = "event" if timed.kind == "sync" else "general"

@@ -118,6 +118,17 @@ class Told(unittest.TestCase):
             ],
         )
 
+    def test_what_is_held_beside_a_denial(self) -> None:
+        """The client's own grant of the kind is not, nor one that is over; a request for 59 s is outside."""
+        faster, none = "0004000600fe0000003c", "0005000800fe000000000000"
+        events = [*GRANTED, sync(2 * SECOND, 0, 2000), asks(3 * SECOND, faster, 1), says(3 * SECOND + 9000, none, 1)]
+        events += [asks(70 * SECOND, ASK_DELAY, 2), says(70 * SECOND + 9000, DENY_SYNC.replace("0800", "0890"), 2)]
+        events += [asks(71 * SECOND, ASK_SYNC.replace("3c", "3b"), 3), says(71 * SECOND + 9000, DENY_SYNC, 3)]
+        lines = [it for it in told(reported(events, "--capacity", "32")[0]) if not it.startswith(("send", "granted"))]
+        wanted = ["short sync -2", "short delay_resp 0", "outside duration sync 0 59"]
+        self.assertEqual([it.split(" at ")[0] for it in lines], wanted)
+        self.assertEqual([it.split(" ")[-5] for it in lines[:2]], ["0", "0"])
+
     def test_a_denial_wants_a_capacity(self) -> None:
         events = [asks(SECOND, ASK_SYNC), says(SECOND, DENY_SYNC)]
         ran = run("from-pcap", "report", "-", "--grandmaster", GM, given=capture_of(events))
@@ -171,6 +182,13 @@ class Told(unittest.TestCase):
         self.assertEqual(told(lines)[0], "granted sync 0 at 2000000000 until 62000000000")
         self.assertIn("2 requests whose answer was not seen", said)
 
+    def test_answers_with_numbers_of_their_own(self) -> None:
+        """An answer whose sequenceId is no request's is one to the first request of its kind and logarithm."""
+        faster = "0004000600fe0000003c"
+        events = [asks(SECOND, ASK_SYNC, 1), asks(2 * SECOND, faster, 2), asks(3 * SECOND, faster, 3)]
+        events += [says(3 * SECOND + 9000, "0005000800fe0000003c0001", 77), sync(4 * SECOND, 0, 0)]
+        self.assertEqual(told(reported(events)[0])[0], "granted sync -2 at 2000000000 until 62000000000")
+
     def test_what_has_no_line(self) -> None:
         """A grant of another kind, or at another logarithm, has no line, and the rest of its Signaling has."""
         other_kind, other_log = "0005000830000000003c0001", "0005000800050000003c0001"
@@ -209,8 +227,28 @@ class Moments(unittest.TestCase):
         events = [*GRANTED, sync(2 * SECOND, 0, 2000)]
         events += [(ZERO + 100 * SECOND + 2000, GM, CLIENT, timing(0, GM_PORT, 1, 100 * SECOND + 10**8))]
         events += [asks(100 * SECOND + 5000, ASK_SYNC, 1), says(100 * SECOND + 9000, GIVE_SYNC, 1)]
-        at = 100 * SECOND + 10**8 + 3000
-        self.assertIn(f"granted sync 0 at {at} until {at + 60 * SECOND}", told(reported(events)[0]))
+        lines = told(reported(events)[0])
+        for at in (SECOND + 2000 - 2000, 100 * SECOND + 10**8 + 3000):
+            self.assertIn(f"granted sync 0 at {at} until {at + 60 * SECOND}", lines)
+
+    def test_the_clock_is_told_by_the_message_that_was_seen_soonest(self) -> None:
+        events = [*GRANTED, sync(2 * SECOND, 0, 500000), sync(3 * SECOND, 1, 2000)]
+        events += [sync(3 * SECOND + 9 * 10**8, 2, 900000), sync(5 * SECOND, 3, 900000)]
+        events += [asks(3 * SECOND + 2000, ASK_DELAY, 1), says(3 * SECOND + 52000, GIVE_DELAY, 1)]
+        self.assertIn(f"granted delay_resp 0 at {3 * SECOND} until {63 * SECOND}", told(reported(events)[0]))
+
+    def test_a_message_a_period_behind_is_of_the_new_grant(self) -> None:
+        """The answer was seen late, behind a Sync that it paid for."""
+        events = [FIRST, asks(SECOND, ASK_SYNC), sync(SECOND * 22 // 10, 0, 0), says(SECOND * 25 // 10, GIVE_SYNC)]
+        self.assertEqual(told(reported(events)[0])[0], f"granted sync 0 at {SECOND} until {61 * SECOND}")
+
+    def test_decisions_are_in_order(self) -> None:
+        """A request that was seen first and answered last is decided no sooner than the one answered before."""
+        other = {"ip": OTHER, "port": OTHER_PORT}
+        events = [asks(SECOND, ASK_SYNC, **other), asks(SECOND + 9000, ASK_SYNC), says(SECOND + 20000, GIVE_SYNC)]
+        events += [says(SECOND + 30000, GIVE_SYNC, **other), sync(3 * SECOND, 0, 0)]
+        granted = [it for it in told(reported(events)[0]) if it.startswith("granted")]
+        self.assertEqual(granted, [f"granted sync 0 at {SECOND + 9000} until {61 * SECOND + 9000}"] * 2)
 
 
 class Parts(unittest.TestCase):
@@ -234,7 +272,7 @@ class Parts(unittest.TestCase):
         self.assertEqual(len(told(reported(early)[0])), 3)
 
     def test_a_lost_request(self) -> None:
-        lines, said = reported([*GRANTED[1:], sync(SECOND + 10**6, 0), sync(3 * SECOND, 1)])
+        lines, said = reported([FIRST, *GRANTED[1:], sync(SECOND + 10**6, 0), sync(3 * SECOND, 1)])
         self.assertEqual(told(lines)[0], f"granted sync 0 at {SECOND + 50000} until {61 * SECOND + 50000}")
         self.assertIn("left out 1 early messages of a chain whose beginning was not seen", said)
 
@@ -246,6 +284,29 @@ class Parts(unittest.TestCase):
         self.assertIn("left out 1 messages behind a request whose answer was not seen", said)
         # Without the request it is told, and an audit says `grant`.
         self.assertEqual(len(told(reported([*THREE, sync(70 * SECOND, 9)])[0])), 6)
+
+    def test_a_grant_behind_a_lost_answer(self) -> None:
+        """It may continue one that was not seen, so that its first early Sync is left out."""
+        events = [FIRST, *THREE, asks(30 * SECOND, ASK_SYNC, 1), asks(62 * SECOND, ASK_SYNC, 2)]
+        events += [says(62 * SECOND + 9000, GIVE_SYNC, 2), sync(62 * SECOND + 10**8, 9), sync(63 * SECOND + 10**8, 10)]
+        lines, said = reported(events)
+        self.assertEqual(len(told(lines)), 5 + 3)
+        self.assertIn("left out 1 early messages of a chain whose beginning was not seen", said)
+
+    def test_delay_resps_of_a_chain_that_was_not_seen(self) -> None:
+        """Two periods may have been saved: a pair may come with a period, until a client paused for that long."""
+        pairs = [71, 80, 81, 120, 121, 122]
+        events = [(ZERO + 65 * SECOND // 10, CLIENT, GM, timing(1, CLIENT_PORT, 0, 0))]
+        events += [asks(7 * SECOND, ASK_DELAY), says(7 * SECOND + 9000, GIVE_DELAY)]
+        lines, said = reported([*events, *(delay_resp(it * SECOND // 10, it) for it in pairs)])
+        answered = [it for it in told(lines) if it.startswith("answered")]
+        self.assertEqual(answered, [f"answered at {it * SECOND // 10}" for it in (80, 120, 121, 122)])
+        self.assertIn("left out 2 early messages of a chain whose beginning was not seen", said)
+
+    def test_a_cancel_of_what_was_not_seen(self) -> None:
+        """Behind it nothing is granted, so that a Sync is told."""
+        events = [asks(SECOND, END_SYNC), says(SECOND + 9000, ENDED_SYNC), sync(2 * SECOND, 0)]
+        self.assertEqual(told(reported(events)[0])[-1], f"send {GM} {CLIENT} event")
 
     def test_what_is_after_a_cancel_is_told(self) -> None:
         events = [*THREE, asks(5 * SECOND, END_SYNC, 1), says(5 * SECOND + 5000, ENDED_SYNC, 1), sync(7 * SECOND, 3)]
@@ -278,6 +339,27 @@ class Slack(unittest.TestCase):
         _, said = reported(fast, "--slack", "100")
         self.assertIn("forgiven 2 messages before their time, of 80 ns at most (--slack 100)", said)
 
+    def test_a_grant_behind_the_end_begins_anew(self) -> None:
+        """Its first Sync is due a period behind it, whatever came before."""
+        again = [asks(100 * SECOND + 2000, ASK_SYNC, 1), says(100 * SECOND + 52000, GIVE_SYNC, 1)]
+        events = [FIRST, *GRANTED, sync(2 * SECOND, 0), *again, sync(101 * SECOND - 50, 1)]
+        _, said = reported(events, "--slack", "100")
+        self.assertIn("forgiven 1 messages before their time, of 50 ns at most (--slack 100)", said)
+
+    def test_one_that_stays_too_early_is_not_forgiven(self) -> None:
+        """Two Syncs in one period: the first is forgiven half a second, and the second stays where it is."""
+        half = SECOND // 2
+        events = [FIRST, *GRANTED, sync(2 * SECOND, 0), sync(2 * SECOND + half, 1), sync(2 * SECOND + half + 10, 2)]
+        lines, said = reported(events, "--slack", str(SECOND))
+        self.assertIn(f"forgiven 1 messages before their time, of {half} ns at most (--slack {SECOND})", said)
+        self.assertEqual(lines[-2][-20:], f"{2:012x}{half + 10:08x}")
+
+    def test_delay_resps_have_a_credit(self) -> None:
+        """Two of them in a period are in time, and need no slack."""
+        events = [FIRST, asks(SECOND, ASK_DELAY), says(SECOND + 9000, GIVE_DELAY)]
+        events += [delay_resp(3 * SECOND, 0), delay_resp(3 * SECOND + 5 * 10**8, 1)]
+        self.assertFalse(any("forgiven" in it for it in reported(events, "--slack", str(SECOND))[1]))
+
     def test_kinds(self) -> None:
         events = [asks(SECOND, ASK_DELAY), says(SECOND + 9000, GIVE_DELAY), delay_resp(3 * SECOND, 0)]
         self.assertEqual(told(reported(events)[0])[2:], ["answered at 3000000000", f"send {GM} {CLIENT} general"])
@@ -298,13 +380,13 @@ def both(length: int) -> list[Event]:
     return events
 
 
-def pieces(events: list[Event], limit: int) -> list[list[str]]:
+def pieces(events: list[Event], limit: int, capacities: tuple[int, ...] = ()) -> list[list[str]]:
     """The lines of each report, of at most so many octets."""
     seen = Wire(GM)
     for moment, sender, receiver, octets in events:
         seen.take(Datagram(moment, sender, 320, receiver, 320, octets))
     seen.finish()
-    made = wire_report.Reporter(seen, limit=limit)
+    made = wire_report.Reporter(seen, capacities, limit=limit)
     made.run()
     return [it.text().splitlines() for it in made.pieces]
 
@@ -323,6 +405,15 @@ class Pieces(unittest.TestCase):
         # And nothing is told by none of them.
         whole = {it.split()[-1] for it in pieces(both(100), 10**6)[0] if " event " in it}
         self.assertEqual({it.split()[-1] for lines in made for it in lines if " event " in it}, whole)
+
+    def test_each_piece_begins_with_the_capacity(self) -> None:
+        """Behind a change of capacity a piece tells it again, between the grants before it and those behind it."""
+        events = [*both(20), says(20 * SECOND + 9000, END_SYNC, 99), asks(21 * SECOND, ASK_SYNC, 98)]
+        events += [says(21 * SECOND + 9000, GIVE_SYNC, 98), *(sync(it * SECOND + 20000, it) for it in range(23, 60))]
+        made = pieces(events, 5000, (64, 40))
+        self.assertGreater(len(made), 2)
+        said = [it.split(" at ")[0] for it in told(made[-1]) if not it.startswith("send")]
+        self.assertEqual(said, ["granted delay_resp 0", "answered", f"capacity {GM} 40", "granted sync 0"])
 
     def test_in_pieces_by_the_command(self) -> None:
         with tempfile.TemporaryDirectory() as folder, mock.patch.object(wire_report, "LARGEST_REPORT", 8000):
@@ -366,6 +457,9 @@ class Audited(unittest.TestCase):
         events = both(100)
         self.assertEqual([audit(32, it)[:3] for it in pieces(events, 8000)], ["yes"] * 5)
         self.assertEqual([audit(31, it)[-3:] for it in pieces(events, 8000)], ["fit"] * 5)
+        # Wherever a piece begins it is sound.
+        for limit in range(4000, 7000, 91):
+            self.assertEqual({audit(32, it)[:3] for it in pieces(events, limit)}, {"yes"}, limit)
         # A Sync that is doubled is found in whichever piece it stands, also right behind a seam.
         for second in range(5, 95, 6):
             doubled = pieces([*events, sync(second * SECOND + 20000, second)], 8000)
