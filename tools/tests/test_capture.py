@@ -546,6 +546,21 @@ class Listening(unittest.TestCase):
             heard = [it.octets for it in made.hear(time.monotonic() + 60)]
         self.assertEqual(heard, [b"\0", b"\1", b"\3"])
 
+    def test_each_table_says_what_was_missed_since_the_last(self) -> None:
+        observe = tool("observe")
+        shown: list[tuple[int, int]] = []
+        stand_in = mock.Mock()
+        stand_in.hear = lambda until: iter(())
+        stand_in.count_missed = mock.Mock(side_effect=[3, 3, 7])
+        words = argparse.Namespace(interface=None, seconds=0.03, every=0.01, ports=(319, 320))
+        with (
+            mock.patch.object(observe, "Listener", lambda *_: stand_in),
+            mock.patch.object(observe, "write", lambda it, _: shown.append((it["missed"], it["missed_now"]))),
+            mock.patch.object(observe.time, "monotonic", lambda: 0.0),
+        ):
+            observe.watch_live(Ledger(GM, 10 * ptp.SECOND), words)
+        self.assertEqual(shown, [(3, 3), (3, 0), (7, 4)])
+
     def test_what_was_missed_adds_up(self) -> None:
         made = self.listener([], [3, 0, 4])
         self.assertEqual([made.count_missed() for _ in range(3)], [3, 3, 7])

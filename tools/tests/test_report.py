@@ -11,7 +11,7 @@ import reader
 import report
 from script import Script
 from story import Story
-from support import EXAMPLES, REPORT, tool
+from support import EXAMPLES, REPORT, timing, tool
 
 # One line of each form, as docs/FORMATS.md has them.
 LINES = """\
@@ -72,6 +72,9 @@ hello""".split("\n")
 
 
 
+SYNC = timing(0, "0a000000000000010001", 0, 10**9).hex()
+
+
 def read(text: str, script: str | None = None) -> Story:
     return reader.read_story(io.BytesIO(text.encode()), Script(script.encode()) if script is not None else None)
 
@@ -124,6 +127,10 @@ class Reports(unittest.TestCase):
             "end 1 0\n2 nobody\n": "line 2: it stands behind the last line of a report, `end 1 0`",
             "1 bad word\nend 1 0\n": "line 2: it stands behind the last line of a report, `1 bad word`",
             "1 nobody\nend x 0\n": "line 2: no form of a report: `end x 0`",
+            "1 heard sync 10.0.0.256 seq 1 at 3\n1 selected 10.0.1.17 none\nend 1 0\n": "line 1: no form",
+            "1 heard sync 10.0.0.1 class 1 at 3\n1 selected 10.0.1.17 none\nend 1 0\n": "line 1: no form",
+            "1 heard sync 10.0.0.1 seq 01 at 3\n1 selected 10.0.1.17 none\nend 1 0\n": "line 1: no form",
+            f"1 answered at 03\n1 send 1 10.0.0.1 10.0.1.17 general {SYNC}\nend 1 1\n": "line 1: no form",
             "1 send 1 10.0.0.1 10.0.1.17 event 00\nend 1 1\n": "line 1: the datagram is no PTP message: short 1",
         }
         for size in (report.BLOCK, 1, 7):
@@ -168,6 +175,7 @@ class Scripts(unittest.TestCase):
 
     def test_each_kind_of_difference(self) -> None:
         """Another node, another word, another capacity, opening or later, a later moment, another length."""
+        self.assertIn("it does not fit line 10", self.changed("deliver 1000000 1", "deliver 1000001 1"))
         first_tick = next(it for it in self.SCRIPT.splitlines() if it.startswith("tick "))
         self.assertIn("it does not fit line", self.changed(first_tick, first_tick.replace("10.0.1.17", "10.0.1.18")))
         self.assertIn("it does not fit line", self.changed(first_tick, first_tick.replace("tick", "class")))

@@ -291,11 +291,16 @@ class WithTheProgram(unittest.TestCase):
     def test_what_is_told_between_changes_nothing(self) -> None:
         """The report that was read while the script was made is that of the script."""
         read: list[bytes] = []
+        moments: list[int] = []
 
         class Recorded(scenario.Replay):  # type: ignore[name-defined, misc]
             def read(self) -> bytes:
                 read.append(super().read())
                 return read[-1]
+
+            def tell(self, lines: list[str]) -> None:
+                moments.extend(int(it.split()[1]) for it in lines if it.split()[1].isdigit())
+                super().tell(lines)
 
         replay = Recorded(str(program()))
         self.addCleanup(replay.close)
@@ -307,6 +312,8 @@ class WithTheProgram(unittest.TestCase):
         sent = [it.split(b" ", 1)[1] for it in b"".join(read).splitlines() if b" send " in it]
         self.assertGreater(len(sent), 300)
         self.assertEqual(sent, [it.split(b" ", 1)[1] for it in report.splitlines() if b" send " in it])
+        # It was told in the order in which it happens.
+        self.assertEqual(moments, sorted(moments))
         # Among them are CANCELs of the grandmaster, and what answers them.
         self.assertIn(b" shed ", report)
         self.assertIn(b" cancel ", report)

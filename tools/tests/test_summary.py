@@ -7,7 +7,7 @@ import unittest
 from typing import Any
 
 from story import Grandmaster, Slave, Story, Term
-from support import EXAMPLES, REPORT, run, tool
+from support import EXAMPLES, REPORT, run, timing, tool
 
 summary = tool("summary")
 SCRIPT = EXAMPLES / "falling-capacity.script"
@@ -112,6 +112,19 @@ class Commands(unittest.TestCase):
         self.assertIn("had a master for 45.83 % of the time on average, and for 0.00 % at least (10.0.1.18).", text)
         self.assertIn("The longest time without one was 131.0 s (10.0.1.18).", text)
         self.assertIn("10.0.0.1: 2 requests were denied and 2 grants shed; a capacity of 3 messages/s (48/16)", text)
+
+    def test_clients_of_a_capture(self) -> None:
+        """A report that tells of no slave has its clients: of 4 Syncs, a second apart, 3 were sent."""
+        group = [it for it in REPORT.read_text().splitlines() if it.split()[0] == "10"]
+        lines = [it.replace("10 ", "1 ", 1).replace("send 2", "send 1") for it in group]
+        for number, second in enumerate((1, 2, 4), 2):
+            octets = timing(0, "0a000000000000010001", number, second * 10**9 + 10**6).hex()
+            lines.append(f"{number} send {number} 10.0.0.1 10.0.1.17 event {octets}")
+        given = "".join(f"{it}\n" for it in [*lines, "end 4 4"]).encode()
+        told = json.loads(run("summary", "-", "--json", given=given).stdout)
+        self.assertEqual(told["clients"], [{"address": "10.0.1.17", "sent_of_granted": {"announce": 0, "sync": 0.75}}])
+        table = run("summary", "-", given=given).stdout.decode()
+        self.assertRegex(table, r"CLIENT +ANNOUNCE SENT +SYNC SENT\n10\.0\.1\.17 +0\.00 % +75\.00 %\n")
 
     def test_refused(self) -> None:
         ran = run("summary", "-", given=b"hello\n")
