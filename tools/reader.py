@@ -11,7 +11,6 @@ import pools
 import ptp
 import report
 import script as scripts
-from endings import reading
 from ptp import SECOND
 from report import Refused
 from script import Script
@@ -54,19 +53,25 @@ class Reader:
 
     def read(self, stream: report.Readable) -> Story:
         reading = report.Reading()
+        self.read_blocks(stream, reading)
+        self.see_end(reading)
+        return self.story
+
+    def read_blocks(self, stream: report.Readable, reading: report.Reading) -> None:
         for text in report.texts(stream):
             block = reading.block(text)
             if len(block.text) > 1:
                 self.take(block)
+        for way in self.ways.values():
+            way.tell()
+
+    def see_end(self, reading: report.Reading) -> None:
         if not reading.ended:
             raise Refused(f"line {reading.lines + 1}: the text ends without `end LINES DATAGRAMS`")
         found = report.END.fullmatch(reading.ended)
         if found and self.script and len(self.script.lines) != int(found[1]):
             lines = len(self.script.lines)
             raise Refused(f"line {reading.lines}: it ends {int(found[1])} lines, and the script has {lines}")
-        for way in self.ways.values():
-            way.tell()
-        return self.story
 
     def take(self, block: report.Block) -> None:
         if self.script:
@@ -114,7 +119,7 @@ class Reader:
         """Sees that each group can be what its line of the script comes to."""
         self.receivers += [it[2].split(b" ", 2)[1] for it in block.sent]
         is_whole = block.first < ALL_LINES
-        count = len(block.rows) if is_whole else SOME_LINES
+        count = len(block.numbers) if is_whole else SOME_LINES
         end = -1 if is_whole else block.text.find(b"\n", 40 * SOME_LINES)
         words = dict(reversed(report.GROUP.findall(block.text[:end])))
         nodes = {number: self.node(block, script, number, word) for number, word in reversed(words.items())}
@@ -174,7 +179,7 @@ class Reader:
                 self.slave(ip).selections.append((self.moment(block, number), name.decode()))
 
     def slave(self, ip: bytes) -> Slave:
-        return self.story.slaves.setdefault(ip.decode(), Slave(ip.decode()))
+        return self.story.slave(ip.decode())
 
     # -- lines that there are few of ---------------------------------------------------------------------------------
 
@@ -261,13 +266,3 @@ class Behind:
     def read(self, size: int) -> bytes:
         front, self.front = self.front, b""
         return front or self.stream.read(size)
-
-
-def story_of(name: str, script_name: str | None, capacities: dict[str, int]) -> Story:
-    """Reads the report of this name, or standard input for `-`, beside its script, where there is one."""
-    script = None
-    if script_name is not None:
-        with reading(script_name, "name the script of the report") as stream:
-            script = Script(stream.read())
-    with reading(name, "name a report of ptpuni replay, or - for standard input") as stream:
-        return read_story(stream, script, capacities)

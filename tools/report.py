@@ -5,6 +5,7 @@ from __future__ import annotations
 import re
 from collections.abc import Iterator, Sequence
 from dataclasses import dataclass, field
+from itertools import compress
 from typing import Protocol
 
 from endings import BadInput
@@ -137,9 +138,6 @@ def are_numbers(words: Sequence[bytes]) -> bool:
     return max(map(len, words), default=1) <= 19 and not ZEROS.search(b" " + b" ".join(words))
 
 
-Row = tuple[bytes, bytes, bytes, bytes, bytes, bytes, bytes, bytes, bytes]
-
-
 @dataclass(slots=True)
 class Block:
     """Lines of a report by columns. Its text has an end of line before each line, and one behind the last one.
@@ -151,7 +149,7 @@ class Block:
 
     first: int
     text: bytes
-    rows: list[Row] = field(default_factory=list)
+    numbers: Sequence[bytes] = ()
     sent: list[tuple[bytes, bytes, bytes, bytes]] = field(default_factory=list)
     selected: list[tuple[bytes, bytes]] = field(default_factory=list)
     heard: list[tuple[bytes, bytes]] = field(default_factory=list)
@@ -175,24 +173,24 @@ class Block:
 
     def cut(self) -> None:
         """Cuts the lines into columns, and sees that each has a form of a report."""
-        self.rows = rows = MANY.findall(self.text)
-        self.sent = [(it[0], *it[6:]) for it in rows if it[6]]
-        self.selected = [(it[0], it[4]) for it in rows if it[4]]
-        self.heard = [(it[1], it[4]) for it in rows if it[1]]
-        self.moments = [it[3] for it in rows if it[3]] + [it[5] for it in rows if it[5]]
+        rows = MANY.findall(self.text)
+        numbers, heads, seqs, heard, chosen, answered, datagrams, ways, digits = zip(*rows) if rows else [()] * 9
+        self.numbers = numbers
+        self.sent = list(compress(zip(numbers, datagrams, ways, digits), digits))
+        self.selected = list(compress(zip(numbers, chosen), chosen))
+        self.heard = list(compress(zip(heads, chosen), heads))
+        self.moments = [*filter(None, heard), *filter(None, answered)]
         counted = len(rows) + len(self.moments)
         if counted != self.text.count(b"\n") - 1:
             self.others = list(OTHER.finditer(self.text))
             counted += len(self.others)
         are_known = (
             counted == self.text.count(b"\n") - 1
-            and all(CHOSEN[it] for it in {it[1] for it in self.selected})
-            and all(WAY[it] for it in {it[2] for it in self.sent})
-            and all(HEAD[it] for it in {it[0] for it in self.heard})
-            and not any(it & 1 for it in {len(it[3]) for it in self.sent})
-            and are_numbers([it[2] for it in rows if it[2]])
-            and are_numbers([it[1] for it in self.sent])
-            and are_numbers(self.moments)
+            and all(CHOSEN[it] for it in set(filter(None, chosen)))
+            and all(WAY[it] for it in set(filter(None, ways)))
+            and all(HEAD[it] for it in set(filter(None, heads)))
+            and not any(it & 1 for it in set(map(len, digits)))
+            and are_numbers([*filter(None, seqs), *filter(None, datagrams), *self.moments])
         )
         if not are_known:
             self.see_forms(self.text[1:-1].split(b"\n"))
@@ -249,7 +247,7 @@ class Reading:
 
     def see_numbers(self, block: Block) -> None:
         # (where all lines are of rows, those that the rows do not number have the number of the one behind them)
-        numbers = NUMBER.findall(block.text) if block.others else [it[0] for it in block.rows]
+        numbers = NUMBER.findall(block.text) if block.others else block.numbers
         if not are_numbers(numbers):
             block.see_forms(block.text[1:-1].split(b"\n"))
         values = list(map(int, numbers))

@@ -213,6 +213,9 @@ class Story:
     def grandmaster(self, name: str) -> Grandmaster:
         return self.grandmasters.setdefault(name, Grandmaster(name))
 
+    def slave(self, ip: str) -> Slave:
+        return self.slaves.setdefault(ip, Slave(ip))
+
     def see(self, moment: float) -> None:
         self.start = moment if self.start is None else min(self.start, moment)
         self.end = max(self.end, moment)

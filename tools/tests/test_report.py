@@ -3,10 +3,14 @@
 from __future__ import annotations
 
 import io
+import tempfile
 import unittest
+from collections.abc import Callable
+from pathlib import Path
 from typing import Any
 from unittest import mock
 
+import parts
 import reader
 import report
 from script import Script
@@ -199,6 +203,114 @@ class Scripts(unittest.TestCase):
             self.assertIn("it does not", self.changed("10000000000 10.0.0.1 24", "10000000000 10.0.0.1 23"))
             first_tick = next(it for it in self.SCRIPT.splitlines() if it.startswith("tick "))
             self.assertIn("it does not fit", self.changed(first_tick, first_tick.replace("10.0.1.17", "10.0.1.18")))
+
+
+class Here:
+    """Stands in for a pool of processes."""
+
+    def __enter__(self) -> Here:
+        return self
+
+    def __exit__(self, *_: object) -> None:
+        pass
+
+    def map(self, read: Callable[[Any], Any], given: list[Any]) -> list[Any]:
+        return [read(it) for it in given]
+
+
+class Parts(unittest.TestCase):
+    """A long report is read in parts, one for each processor, to the same end."""
+
+    def setUp(self) -> None:
+        folder = tempfile.TemporaryDirectory()
+        self.addCleanup(folder.cleanup)
+        self.file = Path(folder.name) / "it"
+        four = mock.patch.object(parts.os, "sched_getaffinity", lambda _: {0, 1, 2, 3})
+        four.start()
+        self.addCleanup(four.stop)
+
+    def told(self, text: str, script: str | None, least: int) -> Story | None:
+        self.file.write_text(text)
+        with mock.patch.object(parts, "LEAST_PART", least):
+            return parts.read_in_parts(str(self.file), Script(script.encode()) if script else None)
+
+    def told_here(self, text: str, script: str | None) -> Story | None:
+        """The same in four parts, in this process, which takes a hundredth of the time."""
+        with mock.patch.object(parts, "get_context", lambda _: mock.Mock(Pool=lambda _: Here())):
+            return self.told(text, script, 1000)
+
+    def long(self) -> tuple[str, str]:
+        """A report of three slaves with grants, an answer that tells no moment, changes of capacity and of class."""
+        script = ["gm 10.0.0.1 0a00000000000001 1 4 84 48 300", *(f"slave 10.0.1.{it} x" for it in (17, 18, 19))]
+        granted, asked, reply = (it.split(" ", 1)[1] for it in REPORT.read_text().splitlines()[2:5])
+        lines: list[str] = []
+        sent = 0
+
+        def add(event: str, *said: str) -> None:
+            script.append(event)
+            nonlocal sent
+            for it in said:
+                sent += it.startswith("send ")
+                lines.append(f"{len(script)} {it.replace('send ', f'send {sent} ')}")
+
+        reply = reply.replace("send 2 ", "send ")
+        rest = "00000080{:02x}2100008000000000000000010000a0"
+        for second in range(1, 200):
+            now = second * 10**9
+            at = f"{now} 10.0.0.1"
+            if second % 60 == 1:
+                add("rx 1000000 10.0.0.1 10.0.1.17 00", granted, asked, reply)
+            elif second % 60 == 30:
+                add(f"capacity {at} {second}", f"capacity 10.0.0.1 {second} at {now}")
+            elif second % 60 == 45:
+                add(f"rx {at} 10.0.1.17 00", "outside log sync 9", reply)
+            elif second % 7 == 0:
+                octets = timing(11, "0a000000000000010001", 0, now, rest=rest.format(84 if second < 100 else 104)).hex()
+                add(f"turn {at} 2", f"send 10.0.0.1 10.0.1.17 general {octets}")
+            elif second % 2:
+                octets = timing(0, "0a000000000000010001", second, now).hex()
+                add(f"turn {at} 2", f"send 10.0.0.1 10.0.1.17 event {octets}")
+            else:
+                slave, name = f"10.0.1.{17 + second % 3}", "none" if second % 20 < 10 else "10.0.0.1"
+                heard = f"heard sync 10.0.0.1 seq {second} at {now}"
+                add(f"rx {now} {slave} 10.0.0.1 00", heard, f"selected {slave} {name}")
+        text = "".join(f"{it}\n" for it in [*lines, f"end {len(script)} {sent}"])
+        return text, "".join(f"{it}\n" for it in script)
+
+    def test_same_story(self) -> None:
+        text, script = self.long()
+        for given in (script, None):
+            whole = read(text, given)
+            self.assertEqual([it[1] for it in whole.grandmasters["10.0.0.1"].classes], [84, 104])
+            for least in (len(text) // 2, len(text) // 3, 1000):
+                made = self.told(text, given, least)
+                assert made
+                made.settle(Script(given.encode()) if given else None, {})
+                self.assertEqual(made, whole, least)
+                self.assertEqual(tool("plot").draw(made, "it"), tool("plot").draw(whole, "it"))
+
+    def test_a_short_report_is_read_at_once(self) -> None:
+        text, _ = self.long()
+        self.assertIsNone(self.told(text, None, len(text) // 2 + 1))
+
+    def test_what_is_refused_is_read_from_its_front(self) -> None:
+        """In whichever part a fault is, and at every seam, the report is said to be read anew."""
+        text, script = self.long()
+        lines = text.splitlines(keepends=True)
+        self.assertIsNotNone(self.told_here(text, script))
+        with self.file.open("rb") as stream:
+            seams = [text[:it].count("\n") for it in parts.cuts(stream, len(text), 4)[1:-1]]
+        self.assertEqual(len(seams), 3)
+        for at in sorted({*range(5, len(lines), 29), *(seam + it for seam in seams for it in range(-4, 5))}):
+            wrong = ("hello\n", "1 nobody\n", "end 1 1\n")[at % 3]
+            self.assertIsNone(self.told_here("".join([*lines[:at], wrong, *lines[at:]]), script), (at, wrong))
+            if " send " in lines[at]:
+                self.assertIsNone(self.told_here("".join([*lines[:at], *lines[at + 1 :]]), script), at)
+            if " heard " in lines[at]:
+                later = "".join(it.replace(it.split()[0], "900", 1) for it in lines[at : at + 2])
+                self.assertIsNone(self.told_here("".join([*lines[:at], later, *lines[at + 2 :]]), None), at)
+        self.assertIsNone(self.told_here(text, script.replace(" 10.0.0.1 2\n", " 10.0.0.2 2\n")))
+        self.assertIsNone(self.told_here(text, script + "\n"))
 
 
 if __name__ == "__main__":
