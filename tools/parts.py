@@ -35,7 +35,7 @@ class Slice:
 
 
 class PartReader(Reader):
-    """Reads a part by itself. Groups with lines of which there are few are kept, since they hang on those before them."""
+    """Reads a part by itself. Groups with lines of which there are few are kept: they hang on those before them."""
 
     def __init__(self, script: Script | None) -> None:
         super().__init__(script)
@@ -54,9 +54,9 @@ class PartReader(Reader):
 
 @dataclass(slots=True)
 class Part:
-    """What a part tells: its own story, the groups that were kept with their moments, and where its numbers begin and end.
+    """What a part tells: its own story, the groups that were kept with their moments, and where its numbers end.
 
-    Of those that begin, there is that of its first group, and that of the last datagram before it.
+    `number` is that of its first group, and `before` that of the last datagram before it.
     """
 
     story: Story
@@ -105,7 +105,7 @@ def read_given(stretch: tuple[int, int]) -> Part | None:
 
 
 def read_in_parts(name: str, script: Script | None) -> Story | None:
-    """The story of a long report, or nothing where it is short, or is to be read from its front to say what is wrong."""
+    """The story of a long report, or nothing where it is short, or where something in it is to be refused."""
     global given
     size = os.path.getsize(name)
     count = min(len(os.sched_getaffinity(0)), size // LEAST_PART)

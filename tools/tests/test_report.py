@@ -293,6 +293,26 @@ class Parts(unittest.TestCase):
         text, _ = self.long()
         self.assertIsNone(self.told(text, None, len(text) // 2 + 1))
 
+    def test_a_part_goes_on_where_the_one_before_it_ended(self) -> None:
+        text, _ = self.long()
+        self.file.write_text(text)
+
+        def made() -> list[parts.Part]:
+            places = [0, text.index("\n100 ") + 1, len(text)]
+            read_parts = [parts.read_part(str(self.file), *it, None) for it in zip(places, places[1:])]
+            return [it for it in read_parts if it]
+
+        self.assertIsNotNone(parts.joined(made(), None))
+        first, second = made()
+        second.number = first.progress.last - 1
+        self.assertIsNone(parts.joined([first, second], None))
+        first, second = made()
+        second.before += 1
+        self.assertIsNone(parts.joined([first, second], None))
+        first, second = made()
+        first.progress.ended = b"end 99 50"
+        self.assertIsNone(parts.joined([first, second], None))
+
     def test_what_is_refused_is_read_from_its_front(self) -> None:
         """In whichever part a fault is, and at every seam, the report is said to be read anew."""
         text, script = self.long()
