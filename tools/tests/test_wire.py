@@ -442,6 +442,27 @@ class Audited(unittest.TestCase):
         behind = reported([FIRST, *THREE, sync(70 * SECOND, 3)])[0]
         self.assertEqual(audit(16, behind), "no 6 grant")
 
+    def test_each_cause_of_no(self) -> None:
+        """What docs/AUDIT.md says of each cause, but for `early`, `grant` and `fit`, which are above."""
+        other = {"port": OTHER_PORT}
+        shared = [asks(5 * SECOND, ASK_SYNC, 1, **other), says(5 * SECOND + 9000, GIVE_SYNC, 1, **other)]
+        no_renewal = GIVE_DELAY[:-2] + "00"
+        reply = [asks(5 * SECOND, ASK_DELAY, 1), says(5 * SECOND + 9000, no_renewal, 1)]
+        nanos = bytearray(sync(5 * SECOND, 3)[3])
+        nanos[40:44] = (10**9).to_bytes(4)
+        stamp = [(ZERO + 5 * SECOND, GM, CLIENT, bytes(nanos))]
+        over = [asks(5 * SECOND, ASK_DELAY, 1), says(5 * SECOND + 9000, GIVE_DELAY, 1)]
+        over += [says(6 * SECOND, "000600029000", 9)]
+        for cause, events in {"shared": shared, "reply": reply, "stamp": stamp, "over": over}.items():
+            lines, _ = reported([FIRST, *THREE, *events], "--capacity", "32,15")
+            self.assertRegex(audit(32, lines), f"no [0-9]+ {cause}$")
+        # With the capacity that is left it is well, and timestamps that fall are early ones.
+        lines, _ = reported([FIRST, *THREE, *over], "--capacity", "32,16")
+        self.assertEqual(audit(32, lines), "yes grants 2 sent 3")
+        falling = [sync(2 * SECOND, 0), sync(4 * SECOND, 1), sync(3 * SECOND - 1, 2, 2 * SECOND)]
+        lines, _ = reported([FIRST, *GRANTED, *falling])
+        self.assertRegex(audit(16, lines), "no [0-9]+ early$")
+
     def test_a_capture_that_begins_in_the_middle(self) -> None:
         """Of Delay_Resps by twos, as their credit allows, wherever the capture begins."""
         events = [asks(SECOND, ASK_DELAY), says(SECOND + 9000, GIVE_DELAY)]
