@@ -150,7 +150,7 @@ class Drawn(unittest.TestCase):
         """It is far above what is held until 100 s: it is drawn from there on, and the legend says so."""
         svg = plot.draw(self.held(64000, [(100, 40), (200, 48)]), "it")
         self.assertIn("capacity (above until 100 s)", texts(svg))
-        heading = "Grandmaster 10.0.0.1: 1.5 messages/s held at most, capacity 4\u2009000, then 2.5, then 3"
+        heading = "Grandmaster 10.0.0.1: 1.5 messages/s held at most, capacity 2.5 to 4\u2009000"
         self.assertIn(heading, texts(svg))
         self.assertIn("capacity 2.5", texts(svg))
         # The panel has room for the capacities that lie near, so that its ticks go up to 3 messages a second.
@@ -294,11 +294,11 @@ class Commands(unittest.TestCase):
         shown = texts(ran.stdout.decode())
         for text in ("granted 6", "denied 2", "shed 2", "10.0.1.17", "10.0.1.18", "falling-capacity"):
             self.assertIn(text, shown)
-        self.assertIn("Grandmaster 10.0.0.1: 3 messages/s held at most, capacity 3, then 1.5, then 3", shown)
+        self.assertIn("Grandmaster 10.0.0.1: 3 messages/s held at most, capacity 1.5 to 3", shown)
 
     def test_capacity_from_the_command_line(self) -> None:
         for words in (("--capacity", "96"), ("--capacity", "10.0.0.1=96")):
-            self.assertIn(b"capacity 6, then 1.5", run("plot", "-", *words, given=REPORT.read_bytes()).stdout)
+            self.assertIn(b"capacity 1.5 to 6", run("plot", "-", *words, given=REPORT.read_bytes()).stdout)
         self.assertEqual(run("plot", "-", "--capacity", "0").returncode, 64)
 
     def test_refused(self) -> None:
