@@ -10,7 +10,7 @@ from dataclasses import dataclass, field
 import ptp
 from endings import BadInput
 from ptp import SECOND
-from wire import Answer, Cancels, Client, Lease, Timed, Unanswered, Wire
+from wire import Answer, Cancels, Lease, Timed, Unanswered, Wire
 
 # What `audit` reads at most, and room for the last line of a report.
 LARGEST_REPORT = 67108864
@@ -255,7 +255,7 @@ class Reporter:
             self.counts[why] += 1
             return None
         early = timed.at or 0
-        if known and at < min(known.until, known.edge) and known.edge - early <= self.slack:
+        if known and at < known.edge < known.until and known.edge - early <= self.slack:
             return known.edge
         if known and at > early and at >= known.edge:
             self.forgiven.append(at - early)
@@ -300,7 +300,8 @@ class Reporter:
     def remarks(self) -> Iterator[str]:
         """What the reports hold and lack, one thing in a line."""
         counts = self.counts
-        told = f"{counts['grants']} grants, {counts['denials']} denials, {counts['messages']} messages"
+        shed = f", {counts['sheddings']} sheddings" if counts["sheddings"] else ""
+        told = f"{counts['grants']} grants, {counts['denials']} denials{shed}, {counts['messages']} messages"
         yield f"{told}, {self.total.most} held at most, stamped up to {self.wire.late / 10**6:.3f} ms before the wire"
         for moment, clock_class in self.wire.classes[1:]:
             yield f"clockClass {clock_class} from {moment / SECOND:.3f} s on"

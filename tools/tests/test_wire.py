@@ -155,6 +155,7 @@ class Told(unittest.TestCase):
             ],
         )
         self.assertIn("left out 1 CANCELs of grants that are not known", said)
+        self.assertTrue(said[0].startswith("2 grants, 0 denials, 2 sheddings, 2 messages, 32 held at most"))
 
     def test_two_steps(self) -> None:
         """A Sync with twoStepFlag has the timestamp of its Follow_Up, in its place and in its octets."""
@@ -353,6 +354,13 @@ class Slack(unittest.TestCase):
         lines, said = reported(events, "--slack", str(SECOND))
         self.assertIn(f"forgiven 1 messages before their time, of {half} ns at most (--slack {SECOND})", said)
         self.assertEqual(lines[-2][-20:], f"{2:012x}{half + 10:08x}")
+
+    def test_what_is_due_behind_the_end_is_not_forgiven(self) -> None:
+        """A Sync just before the end of its grant, which is early by 100 ns, would be put behind the end."""
+        last = 61 * SECOND - 100
+        events = [FIRST, *GRANTED, sync(60 * SECOND, 0), sync(last, 1)]
+        lines, said = reported(events, "--slack", "100")
+        self.assertEqual((lines[3][-20:], len(said)), (f"{60:012x}{SECOND - 100:08x}", 1))
 
     def test_delay_resps_have_a_credit(self) -> None:
         """Two of them in a period are in time, and need no slack."""
