@@ -9,13 +9,15 @@ from dataclasses import dataclass, field
 from functools import lru_cache
 from typing import BinaryIO
 
+from endings import BadInput
+
 SECOND = 10**9
 ETHERNET, LOOPBACK, RAW, LINUX_SLL, LINUX_SLL2 = 1, 0, (12, 101, 228), 113, 276
 IPV4, IPV6, PTP_ETHERTYPE = 0x0800, 0x86DD, 0x88F7
 VLANS = (0x8100, 0x88A8)
 
 
-class NotACapture(ValueError):
+class NotACapture(BadInput):
     """Why a file is no capture."""
 
 

@@ -12,6 +12,11 @@ from capture import Datagram
 Owner = tuple[str, ptp.PortIdentity]
 # Whose a Sync or an Announce is, which name no client, while nothing else was seen at its address.
 NOBODY = ptp.PortIdentity(0, 0)
+# The states of a lease, in the order in which they are summed. Of one that was granted before the first datagram only
+# its messages are known.
+STATES = ("granted", "denied", "not seen yet", "over", "cancelled", "gave up")
+# Below this share of what it was granted a client gets less; a grant is judged after so many periods.
+ENOUGH, PERIODS = 0.8, 8
 
 
 def rate(log: int) -> float:
@@ -31,6 +36,10 @@ class Lease:
     last_answer: str = ""
     seen: int = 0
     recent: deque[int] = field(default_factory=deque)
+    # When the client asked for a message, where it asks for each.
+    asked: deque[int] = field(default_factory=deque)
+    is_asked: bool = False
+    granted_at: int = 0
 
     def is_live(self, now: int) -> bool:
         return now < self.until
@@ -39,11 +48,34 @@ class Lease:
         self.seen += 1
         self.recent.append(moment)
 
+    def ask(self, moment: int) -> None:
+        self.is_asked = True
+        self.asked.append(moment)
+
+    def per_second(self, moments: deque[int], now: int, window: int) -> float:
+        """How many of these a second in the window before now, or since it began, where that is later."""
+        while moments and moments[0] <= now - window:
+            moments.popleft()
+        return len(moments) * ptp.SECOND / max(min(window, now - self.since), ptp.SECOND)
+
     def seen_per_second(self, now: int, window: int) -> float:
-        """Messages a second in the window before now, or since it began, where that is later."""
-        while self.recent and self.recent[0] <= now - window:
-            self.recent.popleft()
-        return len(self.recent) * ptp.SECOND / max(min(window, now - self.since), ptp.SECOND)
+        return self.per_second(self.recent, now, window)
+
+    def state(self, now: int) -> str:
+        if self.is_live(now):
+            return "granted"
+        if not self.last_answer:
+            return "not seen yet"
+        return "over" if self.last_answer == "granted" else self.last_answer
+
+    def is_short(self, now: int, window: int) -> bool:
+        """Whether the client gets less than it was granted, and asked for where it asks for each message."""
+        if not self.is_live(now) or now - self.granted_at < min(PERIODS / rate(self.log) * ptp.SECOND, window):
+            return False
+        due = rate(self.log)
+        if self.is_asked:
+            due = min(due, self.per_second(self.asked, now, window))
+        return self.seen_per_second(now, window) < ENOUGH * due and window >= PERIODS / rate(self.log) * ptp.SECOND
 
 
 @dataclass(slots=True)
@@ -101,6 +133,7 @@ class Ledger:
             if tlv.seconds:
                 self.counts["grants"] += 1
                 lease.grants += 1
+                lease.granted_at = lease.granted_at if lease.is_live(moment) and lease.log == tlv.log else moment
                 lease.log, lease.until = tlv.log, moment + tlv.seconds * ptp.SECOND
                 lease.last_answer = "granted"
             else:
@@ -112,6 +145,8 @@ class Ledger:
         owner = (datagram.sender, message.source)
         if message.type == 1:
             self.counts["delay_reqs"] += 1
+            if lease := self.leases.get(owner, {}).get("delay_resp"):
+                lease.ask(datagram.moment)
         for tlv in message.tlvs:
             if isinstance(tlv, ptp.Request):
                 self.counts["requests"] += 1
@@ -154,9 +189,12 @@ class Ledger:
         live = (it for kinds in self.leases.values() for it in kinds.values() if it.is_live(now))
         return sum(16 * rate(it.log) for it in live)
 
-    def snapshot(self, now: int, missed: int = 0) -> dict[str, Any]:
-        """All of it at a moment, as it is written in JSON."""
+    def snapshot(self, now: int, missed: int = 0, missed_now: int = 0) -> dict[str, Any]:
+        """All of it at a moment, as it is written in JSON, those first that get less than they were granted."""
         held = self.held(now)
+        clients = [self.client(owner, kinds, now) for owner, kinds in sorted(self.leases.items(), key=by_address)]
+        clients.sort(key=lambda it: not it["short"])
+        leases = [it[kind] for it in clients for kind in ptp.CODES if kind in it]
         return {
             "moment": now / ptp.SECOND,
             "grandmaster": self.ip,
@@ -165,16 +203,20 @@ class Ledger:
             "class": self.clock_class,
             "capacity": self.capacity,
             "held": int(held) if held == int(held) else held,
+            "states": {it: sum(lease["state"] == it for lease in leases) for it in STATES},
+            "short": sum(it["short"] for it in clients),
             "counts": dict(sorted(self.counts.items())),
             "missed": missed,
-            "clients": [
-                {
-                    "address": owner[0],
-                    "identity": str(owner[1]) if owner[1].clock else None,
-                    **{kind: told(kinds[kind], now, self.window) for kind in ptp.CODES if kind in kinds},
-                }
-                for owner, kinds in sorted(self.leases.items(), key=by_address)
-            ],
+            "missed_now": missed_now,
+            "clients": clients,
+        }
+
+    def client(self, owner: Owner, kinds: dict[str, Lease], now: int) -> dict[str, Any]:
+        return {
+            "address": owner[0],
+            "identity": str(owner[1]) if owner[1].clock else None,
+            "short": any(it.is_short(now, self.window) for it in kinds.values()),
+            **{kind: told(kinds[kind], now, self.window) for kind in ptp.CODES if kind in kinds},
         }
 
 
@@ -183,12 +225,13 @@ def by_address(item: tuple[Owner, dict[str, Lease]]) -> tuple[list[int], ptp.Por
 
 
 def told(lease: Lease, now: int, window: int) -> dict[str, Any]:
-    is_live = lease.is_live(now)
-    ended = "over" if lease.last_answer == "granted" else lease.last_answer or "not asked"
+    state = lease.state(now)
     return {
-        "state": "granted" if is_live else ended,
+        "state": state,
+        "short": lease.is_short(now, window),
         "until": lease.until / ptp.SECOND if lease.until else None,
-        "granted_per_second": rate(lease.log) if is_live else 0,
+        # (of a grant that was not seen it is not known)
+        "granted_per_second": rate(lease.log) if state == "granted" else None if state == "not seen yet" else 0,
         "seen_per_second": round(lease.seen_per_second(now, window), 3),
         "seen": lease.seen,
         "grants": lease.grants,

@@ -2,13 +2,15 @@
 
 from __future__ import annotations
 
-from collections.abc import Iterable, Sequence
+from bisect import bisect_right
+from collections.abc import Callable, Iterable, Sequence
 from dataclasses import dataclass, field
 from html import escape
 from itertools import groupby, pairwise
 from math import hypot
 
-WIDTH, LEFT, RIGHT = 960, 150, 24
+# The places at which all panels begin and end, and the width of a picture without a column at the right.
+LEFT, END, WIDTH = 150, 936, 960
 INK, FAINT, GRID = "#222222", "#777777", "#e4e4e4"
 # Colours that people with any sight of colour tell apart (Okabe and Ito).
 BLUE, ORANGE, GREEN, RED, PURPLE, SKY, YELLOW = (
@@ -27,6 +29,8 @@ STYLE = f"""
 """
 
 Point = tuple[float, float]
+# From a moment to another in a colour.
+Bar = tuple[float, float, str]
 # Points of a curve of steps: from the first number on it has the second.
 Steps = Sequence[Point]
 
@@ -106,6 +110,7 @@ class Picture:
     subtitle: str
     time: Axis
     last: float
+    width: int = WIDTH
     elements: list[str] = field(default_factory=list)
     y: float = 62
 
@@ -119,15 +124,19 @@ class Picture:
     def line(self, x1: float, y1: float, x2: float, y2: float, kind: str) -> None:
         self.add(f'<line x1="{x1:.1f}" y1="{y1:.1f}" x2="{x2:.1f}" y2="{y2:.1f}" class="{kind}"/>')
 
-    def heading(self, text: str, legend: Iterable[tuple[str, str]] = ()) -> None:
-        """A panel's heading, with the colours of its curves and bars named at the right."""
+    def heading(self, text: str, legend: Iterable[tuple[str, str]] = (), dashed: str = "") -> None:
+        """A panel's heading, with the colours of its curves and bars named at the right, one of them as dashes."""
         self.y += 26
         self.text(LEFT, self.y, text, "head")
-        x = float(WIDTH - RIGHT)
+        x = float(END)
         for colour, name in reversed(list(legend)):
             x -= 6.9 * len(name)
             self.text(x, self.y, name)
-            self.add(f'<rect x="{x - 16:.1f}" y="{self.y - 9:.1f}" width="11" height="9" fill="{colour}"/>')
+            if name == dashed:
+                path, style = f"M{x - 18:.1f} {self.y - 4:.1f}h13", f'stroke="{colour}" stroke-width="2"'
+                self.add(f'<path d="{path}" {style} stroke-dasharray="5 3"/>')
+            else:
+                self.add(f'<rect x="{x - 16:.1f}" y="{self.y - 9:.1f}" width="11" height="9" fill="{colour}"/>')
             x -= 30
         self.y += 10
 
@@ -146,10 +155,10 @@ class Picture:
         axis = Axis(0, greatest, self.y + height, self.y)
         for value in ticks(0, greatest, 4):
             y = axis.place(value)
-            self.line(LEFT, y, WIDTH - RIGHT, y, "grid")
+            self.line(LEFT, y, END, y, "grid")
             self.text(LEFT - 6, y + 4, number(round(value, 9)), "small", "end")
         self.y += height
-        self.line(LEFT, self.y, WIDTH - RIGHT, self.y, "axis")
+        self.line(LEFT, self.y, END, self.y, "axis")
         return axis
 
     def steps(self, axis: Axis, steps: Steps, colour: str, filled: bool = False, dashes: str = "") -> None:
@@ -182,7 +191,7 @@ class Picture:
         """Begins a part that is cut off at the panel's border; `whole` ends it."""
         name = f"c{len(self.elements)}"
         height = axis.start - axis.end
-        box = f'<rect x="{LEFT}" y="{axis.end:.1f}" width="{WIDTH - LEFT - RIGHT}" height="{height:.1f}"/>'
+        box = f'<rect x="{LEFT}" y="{axis.end:.1f}" width="{END - LEFT}" height="{height:.1f}"/>'
         self.add(f'<clipPath id="{name}">{box}</clipPath><g clip-path="url(#{name})">')
 
     def whole(self) -> None:
@@ -193,26 +202,57 @@ class Picture:
         moments = list(moments)
         self.y += 15
         self.text(LEFT - 6, self.y, f"{name} {number(len(moments))}", "small", "end")
-        self.line(LEFT, self.y - 4, WIDTH - RIGHT, self.y - 4, "grid")
+        self.line(LEFT, self.y - 4, END, self.y - 4, "grid")
         places = sorted({round(self.time.place(it) * 2) / 2 for it in moments})
         path = "".join(f"M{x:g} {self.y - 10:.1f}v11" for x in places)
         self.add(f'<path d="{path}" stroke="{colour}" stroke-width="2"/>')
 
-    def bars(self, name: str, bars: Iterable[tuple[float, float, str]]) -> None:
-        """A row of bars, each from a moment to another in a colour, with the row's name at the left."""
+    def bars(self, name: str, bars: Iterable[Bar], cells: Iterable[tuple[float, str]] = ()) -> None:
+        """A row of bars, each from a moment to another in a colour, with the row's name at the left.
+
+        Cells are texts at places behind its end.
+        """
         self.y += 18
         self.text(LEFT - 6, self.y, name, "small", "end")
         for start, end, colour in bars:
             x, width = self.time.place(start), self.time.place(end) - self.time.place(start)
             size = f'width="{max(width, 0.5):.1f}" height="13"'
             self.add(f'<rect x="{x:.1f}" y="{self.y - 11:.1f}" {size} fill="{colour}"/>')
+        for place, text in cells:
+            self.text(END + place, self.y, text, "small", "end")
+
+    def band(self, axis: Axis, start: float, end: float, name: str) -> None:
+        """A time that is marked in a panel, with its name at its foot."""
+        x, width = self.time.place(start), self.time.place(end) - self.time.place(start)
+        size = f'width="{max(width, 0.5):.1f}" height="{axis.start - axis.end:.1f}"'
+        self.add(f'<rect x="{x:.1f}" y="{axis.end:.1f}" {size} fill="{FAINT}" fill-opacity="0.15"/>')
+        self.text(x + 3, axis.start - 4, name, "small")
+
+    def note(self, axis: Axis, moment: float, text: str, row: int = 1) -> None:
+        """A moment that is marked in a panel, with a text beside its foot."""
+        x = self.time.place(moment)
+        path = f"M{x:.1f} {axis.end:.1f}V{axis.start:.1f}"
+        self.add(f'<path d="{path}" stroke="{FAINT}" stroke-dasharray="2 3"/>')
+        self.text(x + 3, axis.start - 4 - 13 * row, text, "small")
+
+    def counted(self, moments: Sequence[bytes], digits_of: Callable[[float], bytes]) -> Steps:
+        """How many of the moments, in sorted digits, had come at each place of the axis at which there are more."""
+        points: list[Point] = []
+        span = (self.time.greatest - self.time.least) / (2 * (END - LEFT))
+        for column in range(2 * (END - LEFT) + 1):
+            at = self.time.least + span * column
+            count = bisect_right(moments, digits_of(at))
+            if count and (not points or count > points[-1][1]):
+                points.append((at, float(count)))
+        return points
 
     def svg(self) -> str:
         height = int(self.y + 24)
         head = (
-            f'<svg xmlns="http://www.w3.org/2000/svg" width="{WIDTH}" height="{height}" viewBox="0 0 {WIDTH} {height}">'
+            f'<svg xmlns="http://www.w3.org/2000/svg" width="{self.width}" height="{height}"'
+            f' viewBox="0 0 {self.width} {height}">'
         )
-        paper = f'<rect width="{WIDTH}" height="{height}" fill="#ffffff"/>'
+        paper = f'<rect width="{self.width}" height="{height}" fill="#ffffff"/>'
         title = f'<text x="{LEFT}" y="28" class="title">{escape(self.title)}</text>'
         subtitle = f'<text x="{LEFT}" y="48" class="small">{escape(self.subtitle)}</text>'
         return "\n".join([head, f"<style>{STYLE}</style>", paper, title, subtitle, *self.elements, "</svg>", ""])

@@ -3,18 +3,24 @@
 from __future__ import annotations
 
 import tomllib
-from collections.abc import Callable
+from collections import Counter
+from collections.abc import Callable, Iterable
 from dataclasses import dataclass, field
 from decimal import Decimal
+from difflib import get_close_matches
 from ipaddress import AddressValueError, IPv4Address
 from typing import Any
+
+from endings import BadInput
 
 SECOND = 10**9
 LONGEST = 2**62 // SECOND - 1
 RULES = ("flag", "gap")
+# How many judges of a rule a script has.
+JUDGES = 64
 
 
-class PlanError(ValueError):
+class PlanError(BadInput):
     """What is wrong in a scenario, and where."""
 
 
@@ -97,10 +103,14 @@ class Outage:
 
 @dataclass(frozen=True, slots=True)
 class Change:
-    """What an operator does at a moment: a line of the script."""
+    """What an operator does at a moment: a line of the script, by its words before its moment and behind it.
+
+    One that has no moment has nothing behind.
+    """
 
     at: int
-    line: str
+    words: str
+    rest: str = ""
 
 
 @dataclass(slots=True)
@@ -135,13 +145,22 @@ class Table:
             raise PlanError(f"{name}: it is no table")
         self.name = name
         self.entries = dict(entries)
+        self.keys: set[str] = set()
+
+    def meant(self, key: str, keys: Iterable[str]) -> str:
+        """Which of the keys one of a wrong name is like, as the end of a sentence."""
+        like = get_close_matches(key, list(keys), 1)
+        return f": is {like[0]} meant?" if like else ""
 
     def wrong(self, key: str, why: str) -> PlanError:
         return PlanError(f"{self.name}{'.' if self.name else ''}{key}: {why}")
 
     def take(self, key: str, read: Callable[[Any], Any], default: Any = REQUIRED) -> Any:
+        self.keys.add(key)
         if key not in self.entries:
             if default is REQUIRED:
+                for other in get_close_matches(key, list(self.entries), 1):
+                    raise self.wrong(other, f"there is no such key here: is {key} meant?")
                 raise self.wrong(key, "it is required")
             return default
         try:
@@ -165,7 +184,7 @@ class Table:
 
     def done(self) -> None:
         for key in self.entries:
-            raise self.wrong(key, "there is no such key here")
+            raise self.wrong(key, f"there is no such key here{self.meant(key, self.keys)}")
 
 
 def shown(value: Any) -> str:
@@ -302,23 +321,23 @@ def change(table: Table) -> Change:
     at, node = table.take("at", moment), table.take("node", address)
     match next(iter(table.entries), None):
         case "capacity":
-            line = f"capacity {at} {node} {table.number('capacity', 1, 16777216)}"
+            line = ("capacity", f"{node} {table.number('capacity', 1, 16777216)}")
         case "class":
-            line = f"class {node} {table.number('class', 0, 255)}"
+            line = (f"class {node} {table.number('class', 0, 255)}", "")
         case "stop":
             if not table.take("stop", truth):
                 raise table.wrong("stop", "it is false")
-            line = f"stop {at} {node}"
+            line = ("stop", node)
         case "master" | "unusable" | "judge":
             of = table.take("master", address)
             if "judge" in table.entries:
-                line = f"judge {at} {node} {of} {table.take('judge', rule)}"
+                line = ("judge", f"{node} {of} {table.take('judge', rule)}")
             else:
-                line = f"flag {at} {node} {of} {int(table.take('unusable', truth))}"
+                line = ("flag", f"{node} {of} {int(table.take('unusable', truth))}")
         case _:
             raise table.wrong("node", "none of capacity, class, stop, unusable and judge is there")
     table.done()
-    return Change(at, line)
+    return Change(at, *line)
 
 
 def check_nodes(plan: Plan) -> None:
@@ -328,12 +347,27 @@ def check_nodes(plan: Plan) -> None:
         raise PlanError("a scenario has at least one grandmaster and one slave")
     if len(nodes) != len(plan.grandmasters) + len(plan.slaves):
         raise PlanError("two nodes have one address")
+    for it in plan.slaves:
+        for ip in sorted({of.ip for of in it.masters} - masters):
+            raise PlanError(f"slaves: the master {ip} of {it.ip} is none of the grandmasters")
+        if not 1 <= len(it.masters) <= 16:
+            raise PlanError(f"slaves: {it.ip} has {len(it.masters)} masters, and a slave has 1 to 16")
     for it in plan.outages:
         if strangers := it.ends - nodes:
             raise PlanError(f"outages: {min(strangers)} is no node's address")
     for ends in plan.links:
         if strangers := ends - nodes:
             raise PlanError(f"links: {min(strangers)} is no node's address")
+
+
+def check_judges(plan: Plan) -> None:
+    """Each master of a slave takes a judge of its rule, and so does each change of a judge."""
+    taken = Counter(master.judge for slave in plan.slaves for master in slave.masters)
+    taken += Counter(it.rest.split()[-1] for it in plan.changes if it.words == "judge")
+    for rule_name, count in taken.items():
+        if count > JUDGES:
+            text = f"the judge {rule_name} is wanted {count} times, once a master of a slave and once a change of judge"
+            raise PlanError(f"slaves: {text}, and a script has {JUDGES}: take fewer slaves or masters")
 
 
 def read_plan(text: str) -> Plan:
@@ -364,4 +398,5 @@ def read_plan(text: str) -> Plan:
         table.done()
     top.done()
     check_nodes(plan)
+    check_judges(plan)
     return plan

@@ -1,8 +1,8 @@
-"""PTP datagrams read from their octets, and reports of `ptpuni replay` read by their forms (docs/FORMATS.md)."""
+"""PTP datagrams read from their octets (docs/FORMATS.md)."""
 
 from __future__ import annotations
 
-import re
+import struct
 from collections.abc import Iterable, Iterator
 from dataclasses import dataclass
 from typing import NamedTuple
@@ -10,6 +10,11 @@ from typing import NamedTuple
 SECOND = 10**9
 CODES = {"announce": 11, "sync": 0, "delay_resp": 9}
 KINDS = {code: kind for kind, code in CODES.items()}
+# The logarithms at which each kind can be granted (docs/PROFILE.md).
+LEAST_LOG = {"announce": -3, "sync": -7, "delay_resp": -7}
+GREATEST_LOG = 4
+# The shortest duration that can be granted, in seconds.
+LEAST_DURATION = 60
 
 
 def rate_of(log: int) -> int:
@@ -17,12 +22,13 @@ def rate_of(log: int) -> int:
     return 1 << (4 - log)
 
 
+def period_of(log: int) -> int:
+    """2^log seconds in nanoseconds, for logarithms in the range of a kind."""
+    return SECOND << log if log >= 0 else SECOND >> -log
+
+
 class Fault(ValueError):
     """Why octets are no PTP message."""
-
-
-class Refused(ValueError):
-    """Why a text is no report: the number of its line, and the cause."""
 
 
 # -- Datagrams (IEEE 1588-2019 clauses 13 and 14) --------------------------------------------------------------------
@@ -73,6 +79,7 @@ class Message:
 
     type: int
     domain: int
+    flags: int
     source: PortIdentity
     sequence: int
     stamp: tuple[int, int] | None = None
@@ -84,6 +91,11 @@ class Message:
     def kind(self) -> str | None:
         """The kind of message that can be granted, or None for any other."""
         return KINDS.get(self.type)
+
+    @property
+    def is_two_step(self) -> bool:
+        """Whether a Sync has twoStepFlag: a Follow_Up has its timestamp."""
+        return bool(self.flags & 0x0200)
 
 
 LEAST_LENGTH = {0: 44, 1: 44, 8: 44, 9: 54, 11: 64, 12: 44}
@@ -98,8 +110,8 @@ def timestamp(octets: bytes) -> tuple[int, int]:
     return int.from_bytes(octets[:6]), int.from_bytes(octets[6:10])
 
 
-def read_tlvs(octets: bytes) -> Iterator[Tlv]:
-    """The TLVs of unicast negotiation, in order; others are skipped."""
+def cut_tlvs(octets: bytes) -> Iterator[tuple[int, bytes]]:
+    """The TLVs of unicast negotiation, in order, each as its type and value; others are skipped."""
     at = 0
     while at < len(octets):
         if at + 4 > len(octets):
@@ -112,8 +124,13 @@ def read_tlvs(octets: bytes) -> Iterator[Tlv]:
         if TLV_LENGTH.get(tlv_type, length) != length:
             raise Fault(f"tlv {at} length {tlv_type} {length}")
         at += 4 + length
-        if tlv_type not in TLV_LENGTH:
-            continue
+        if tlv_type in TLV_LENGTH:
+            yield tlv_type, value
+
+
+def read_tlvs(octets: bytes) -> Iterator[Tlv]:
+    """The TLVs of unicast negotiation, in order."""
+    for tlv_type, value in cut_tlvs(octets):
         code = value[0] >> 4
         if tlv_type in (4, 5):
             log = int.from_bytes(value[1:2], signed=True)
@@ -121,6 +138,24 @@ def read_tlvs(octets: bytes) -> Iterator[Tlv]:
             yield Request(code, log, seconds) if tlv_type == 4 else Grant(code, log, seconds)
         else:
             yield Cancel(code) if tlv_type == 6 else Acknowledge(code)
+
+
+def trimmed(octets: bytes) -> bytes:
+    """A message without what stands behind its messageLength."""
+    return octets[: int.from_bytes(octets[2:4])]
+
+
+def with_tlvs(octets: bytes, places: Iterable[int]) -> bytes:
+    """A Signaling with those alone of its TLVs of unicast negotiation that stand at these places."""
+    cut = list(cut_tlvs(trimmed(octets)[44:]))
+    kept = b"".join(struct.pack(">HH", cut[it][0], len(cut[it][1])) + cut[it][1] for it in places)
+    return octets[:2] + struct.pack(">H", 44 + len(kept)) + octets[4:44] + kept
+
+
+def with_stamp(octets: bytes, moment: int) -> bytes:
+    """A timing message with the timestamp of a moment, in nanoseconds."""
+    seconds, rest = divmod(moment, SECOND)
+    return octets[:34] + seconds.to_bytes(6) + rest.to_bytes(4) + octets[44:]
 
 
 def read_message(octets: bytes) -> Message:
@@ -137,7 +172,8 @@ def read_message(octets: bytes) -> Message:
     message_type = octets[0] & 15
     if length < LEAST_LENGTH.get(message_type, 34):
         raise Fault(f"body {length} {LEAST_LENGTH[message_type]}")
-    head = (message_type, octets[4], identity(octets[20:30]), int.from_bytes(octets[30:32]))
+    flags = int.from_bytes(octets[6:8])
+    head = (message_type, octets[4], flags, identity(octets[20:30]), int.from_bytes(octets[30:32]))
     body = octets[34:length]
     match message_type:
         case 0 | 1 | 8:
@@ -149,148 +185,3 @@ def read_message(octets: bytes) -> Message:
         case 12:
             return Message(*head, target=identity(body), tlvs=tuple(read_tlvs(body[10:])))
     return Message(*head)
-
-
-# -- Reports ---------------------------------------------------------------------------------------------------------
-
-# The forms of a report's lines behind their number. A word of capitals is a field, whose form is below; where a form
-# has one field name twice the second has a 2.
-FORMS = """
-granted KIND LOG at AT until UNTIL
-short KIND LOG at AT others OTHERS rate RATE capacity CAPACITY
-outside type CODE
-outside log KIND LOG
-outside duration KIND LOG SECONDS
-cancelled KIND at AT
-nothing KIND at AT
-nothing CODE
-answered at AT
-silent nogrant at AT
-silent soon at AT earliest EARLIEST
-heard announce IP class CLASS at AT
-heard sync IP seq SEQ at AT
-heard follow_up IP at AT
-heard delay_resp IP seq SEQ at AT
-grant KIND SECONDS
-denial KIND
-cancel KIND
-cancel CODE
-ack KIND
-ack CODE
-ignored fault FAULT
-ignored type TYPE
-ignored other OTHER
-ignored stranger
-ignored domain DOMAIN
-ignored target
-capacity IP CAPACITY at AT
-shed KIND LOG IP IDENTITY
-nobody
-send NUMBER FROM TO CHANNEL HEX
-selected SLAVE MASTER
-bad CAUSE
-"""
-
-NUMERAL = r"0|[1-9][0-9]{0,18}"
-OCTET = "(?:25[0-5]|2[0-4][0-9]|1[0-9][0-9]|[1-9]?[0-9])"
-ADDRESS = rf"{OCTET}(?:\.{OCTET}){{3}}"
-FIELDS = {
-    "KIND": "announce|sync|delay_resp",
-    "LOG": r"0|-?[1-9][0-9]{0,2}",
-    "IP": ADDRESS,
-    "FROM": ADDRESS,
-    "TO": ADDRESS,
-    "SLAVE": ADDRESS,
-    "MASTER": f"none|{ADDRESS}",
-    "IDENTITY": rf"[0-9a-f]{{16}}/(?:{NUMERAL})",
-    "CHANNEL": "event|general",
-    "HEX": "(?:[0-9a-f]{2})+|-",
-    "FAULT": "(?:short|version|sdo|length|body|toomany|tlv)(?: [a-z0-9]+)+",
-    "CAUSE": "size|long|text|word|count|field [0-9]+|order|node|full|number|stock",
-}
-DIGITS = {"AT", "UNTIL", "OTHERS", "RATE", "CAPACITY", "SECONDS", "EARLIEST", "CLASS", "SEQ", "NUMBER", "LOG"}
-
-
-@dataclass(frozen=True, slots=True)
-class Form:
-    """One form: its first words, the pattern of a line, and which of its fields are numbers."""
-
-    words: str
-    pattern: re.Pattern[str]
-    numbers: tuple[str, ...]
-
-
-def form_of(text: str) -> Form:
-    words = text.split()
-    fields = [it for it in words if it.isupper()]
-    parts = [f"(?P<{it}>{FIELDS.get(it, NUMERAL)})" if it in fields else it for it in words]
-    literals = [it for it in words if not it.isupper()]
-    pattern = re.compile(rf"({NUMERAL}) " + " ".join(parts))
-    name = " ".join(literals[:2]) if literals[0] in ("outside", "silent", "heard", "ignored") else literals[0]
-    return Form(name, pattern, tuple(it for it in fields if it in DIGITS))
-
-
-def forms_by_word() -> dict[str, list[Form]]:
-    by_word: dict[str, list[Form]] = {}
-    for text in FORMS.split("\n"):
-        if text:
-            by_word.setdefault(text.split()[0], []).append(form_of(text))
-    return by_word
-
-
-BY_WORD = forms_by_word()
-END = re.compile(rf"end ({NUMERAL}) ({NUMERAL})")
-
-
-@dataclass(slots=True)
-class ReportLine:
-    """A line of a report: its own number, that of the script's line, the name of its form, and its fields."""
-
-    at: int
-    line: int
-    name: str
-    fields: dict[str, str]
-    numbers: dict[str, int]
-
-
-def read_line(at: int, text: str) -> ReportLine | None:
-    """The line by the form that it has, or None where it has none."""
-    words = text.split(" ", 2)
-    for form in BY_WORD.get(words[1] if len(words) > 1 else "", ()):
-        if found := form.pattern.fullmatch(text):
-            fields = found.groupdict()
-            numbers = {it: int(fields[it]) for it in form.numbers}
-            return ReportLine(at, int(found[1]), form.words, fields, numbers)
-    return None
-
-
-def short(text: str) -> str:
-    return text if len(text) <= 60 else text[:57] + "..."
-
-
-def read_report(lines: Iterable[str]) -> Iterator[ReportLine]:
-    """The lines of a whole report one by one, but its `end`; it raises Refused at the first that has no place in it."""
-    at, last, sent, ended = 0, 0, 0, ""
-    for at, text in enumerate((it.rstrip("\n") for it in lines), 1):
-        if ended:
-            raise Refused(f"line {at}: it stands behind the last line of a report, `{ended}`")
-        if found := END.fullmatch(text):
-            if int(found[1]) < last or int(found[2]) != sent:
-                raise Refused(f"line {at}: `{text}` ends a report of line {last} and {sent} datagrams")
-            ended = text
-            continue
-        line = read_line(at, text)
-        if line is None:
-            raise Refused(f"line {at}: no form of a report: `{short(text)}`")
-        if line.line < max(last, 1):
-            raise Refused(f"line {at}: its number {line.line} is lower than {max(last, 1)} above it")
-        if line.name == "send":
-            sent += 1
-            if line.numbers["NUMBER"] != sent:
-                raise Refused(f"line {at}: datagram {line.numbers['NUMBER']} stands where {sent} is next")
-        last = line.line
-        if line.name == "bad":
-            ended = text
-        yield line
-    if not ended:
-        raise Refused(f"line {at + 1}: the text ends without `end LINES DATAGRAMS`")

@@ -1,68 +1,11 @@
-"""Datagrams and reports by their forms."""
+"""Datagrams by their octets."""
 
 from __future__ import annotations
 
 import unittest
 
 import ptp
-from support import EXAMPLES, REPORT
-
-# One line of each form, as docs/FORMATS.md has them.
-LINES = """\
-1 granted announce 1 at 0 until 300000000000
-1 short sync -4 at 5 others 24 rate 256 capacity 24
-1 outside type 5
-1 outside log sync 9
-1 outside duration announce -3 59
-1 cancelled delay_resp at 7
-1 nothing sync at 7
-1 nothing 5
-1 answered at 4611686018427387903
-1 silent nogrant at 0
-1 silent soon at 1 earliest 2
-1 heard announce 10.0.0.1 class 84 at 3
-1 heard sync 10.0.0.1 seq 65535 at 3
-1 heard follow_up 255.255.255.255 at 3
-1 heard delay_resp 0.0.0.0 seq 0 at 3
-1 grant sync 300
-1 denial announce
-1 cancel sync
-1 cancel 5
-1 ack sync
-1 ack 5
-1 ignored fault short 33
-1 ignored fault tlv 44 length 4 7
-1 ignored type 2
-1 ignored other 13
-1 ignored stranger
-1 ignored domain 0
-1 ignored target
-1 capacity 10.0.0.1 24 at 10000000000
-1 shed sync 0 10.0.1.18 0a00000000000012/1
-1 nobody
-1 send 1 10.0.0.1 10.0.1.17 general 0c12
-1 send 2 10.0.0.1 10.0.1.17 event -
-1 selected 10.0.1.17 10.0.0.1
-1 selected 10.0.1.17 none
-1 bad field 3""".split("\n")
-
-NO_LINES = """\
-granted announce 1 at 0 until 3
-1 granted announce 1 at 0 until
-1 granted announce 01 at 0 until 3
-1 granted announce 1 at 0 until 3 4
-1 granted follow_up 1 at 0 until 3
-1  granted announce 1 at 0 until 3
-1 heard sync 10.0.0.256 seq 1 at 3
-1 heard sync 10.0.0 seq 1 at 3
-1 shed sync 0 10.0.1.18 0A00000000000012/1
-1 send 1 10.0.0.1 10.0.1.17 general 0c1
-1 send 1 10.0.0.1 10.0.1.17 multicast 0c12
-1 selected 10.0.1.17 10.0.0.1.
-1 ignored
-1 bad luck
-hello""".split("\n")
-
+from support import EXAMPLES
 
 class Datagrams(unittest.TestCase):
     def test_captured(self) -> None:
@@ -97,42 +40,21 @@ class Datagrams(unittest.TestCase):
             with self.assertRaisesRegex(ptp.Fault, fault):
                 ptp.read_message(bytes(octets))
 
+    def test_signalings_and_stamps_are_written(self) -> None:
+        """Of a Signaling some TLVs are kept, and a timing message gets another timestamp."""
+        head, other = "0c12{}040004" + "00" * 27 + "ff" * 10, "3000000212ab"
+        ask, give = "00040006b0010000012c", "000500080000000000000000"
+        whole = bytes.fromhex(head.format("0048") + ask + other + give + "beef")
+        for places, kept in (([0], ask), ([1], give), ([0, 1], ask + give), ([], "")):
+            length = f"{44 + len(kept) // 2:04x}"
+            self.assertEqual(ptp.with_tlvs(whole, places).hex(), head.format(length) + kept)
+        self.assertEqual(ptp.trimmed(whole), whole[:-2])
+        sync = bytes.fromhex("0012002c" + "00" * 40)
+        stamped = "0012002c" + "00" * 30 + "000000000003" + "00000005"
+        self.assertEqual(ptp.with_stamp(sync, 3 * 10**9 + 5).hex(), stamped)
 
-class Reports(unittest.TestCase):
-    def test_forms(self) -> None:
-        for text in LINES:
-            self.assertIsNotNone(ptp.read_line(1, text), text)
-        for text in NO_LINES:
-            self.assertIsNone(ptp.read_line(1, text), text)
-
-    def test_fields(self) -> None:
-        line = ptp.read_line(7, "3 short sync -4 at 5 others 24 rate 256 capacity 24")
-        assert line
-        self.assertEqual((line.at, line.line, line.name, line.fields["KIND"]), (7, 3, "short", "sync"))
-        self.assertEqual((line.numbers["LOG"], line.numbers["AT"], line.numbers["CAPACITY"]), (-4, 5, 24))
-
-    def test_whole_report(self) -> None:
-        with REPORT.open() as lines:
-            names = [it.name for it in ptp.read_report(lines)]
-        self.assertEqual((names.count("send"), names.count("granted"), names.count("shed")), (14, 6, 2))
-
-    def test_refused(self) -> None:
-        refused = {
-            "": "line 1: the text ends without",
-            "1 nobody\n": "line 2: the text ends without",
-            "1 nobody\nhello\nend 1 0\n": "line 2: no form of a report: `hello`",
-            "2 nobody\n1 nobody\nend 2 0\n": "line 2: its number 1 is lower than 2",
-            "0 nobody\nend 1 0\n": "line 1: its number 0 is lower than 1",
-            "1 send 2 10.0.0.1 10.0.1.17 event -\nend 1 1\n": "line 1: datagram 2 stands where 1 is next",
-            "1 nobody\nend 1 1\n": "line 2: `end 1 1` ends a report of line 1 and 0 datagrams",
-            "2 nobody\nend 1 0\n": "line 2: `end 1 0` ends",
-            "end 1 0\n2 nobody\n": "line 2: it stands behind the last line of a report, `end 1 0`",
-            "1 bad word\nend 1 0\n": "line 2: it stands behind the last line of a report, `1 bad word`",
-        }
-        for text, why in refused.items():
-            with self.assertRaises(ptp.Refused, msg=text) as caught:
-                list(ptp.read_report(text.splitlines()))
-            self.assertIn(why, str(caught.exception))
-
-    def test_report_of_a_refused_script(self) -> None:
-        self.assertEqual([it.name for it in ptp.read_report(["1 nobody", "2 bad field 3"])], ["nobody", "bad"])
+    def test_rates_and_periods(self) -> None:
+        """A rate times its period is 16 seconds, for each logarithm of a kind."""
+        for log in range(-7, 5):
+            self.assertEqual(ptp.rate_of(log) * ptp.period_of(log), 16 * 10**9)
+        self.assertEqual((ptp.period_of(-7), ptp.period_of(4)), (7_812_500, 16 * 10**9))

@@ -30,6 +30,19 @@ log_sync = 0
 """
 
 
+CAPACITY_FALLS = """
+[[changes]]
+at = 8
+node = "10.0.0.1"
+capacity = 80
+
+[[changes]]
+at = 12
+node = "10.0.0.1"
+capacity = 300
+"""
+
+
 class Plans(unittest.TestCase):
     def test_small(self) -> None:
         made = plan.read_plan(SMALL)
@@ -41,6 +54,16 @@ class Plans(unittest.TestCase):
         # Table: the last octet of the clock identity plus the port number, modulo 4.
         self.assertEqual([it.table for it in made.slaves], [2, 3])
 
+    def test_ticks_by_delay_resps_and_turns_by_syncs(self) -> None:
+        """By default a slave ticks as often as Delay_Resps come, and a table turns as often as Announces and Syncs."""
+        for lines, tick, turn in (
+            ("log_sync = -2\nlog_delay = -4", 10**9 // 16, 10**9 // 4),
+            ("log_sync = -4\nlog_delay = -1", 10**9 // 2, 10**9 // 16),
+            ("log_announce = -3\nlog_sync = -1", 10**9, 10**9 // 8),
+        ):
+            made = plan.read_plan(SMALL.replace("log_sync = 0", lines))
+            self.assertEqual((made.tick, made.turn), (tick, turn), lines)
+
     def test_moments_are_exact(self) -> None:
         made = plan.read_plan(SMALL.replace("length = 20", "length = 4611686016.000000001"))
         self.assertEqual(made.length, 4611686016000000001)
@@ -49,8 +72,13 @@ class Plans(unittest.TestCase):
         slave = '[[slaves]]\nip = "10.0.1.9"\nmasters = ["10.0.0.1"]\n'
         refused = {
             SMALL.replace("length = 20", ""): "length: it is required",
-            SMALL.replace("length", "lenght"): "length: it is required",
-            SMALL.replace("seed = 3", "sead = 3"): "sead: there is no such key here",
+            SMALL.replace("length", "lenth"): "lenth: there is no such key here: is length meant?",
+            SMALL.replace("seed = 3", "sead = 3"): "sead: there is no such key here: is seed meant?",
+            SMALL.replace("seed = 3", "colour = 3"): "colour: there is no such key here",
+            SMALL.replace("capacity", "capacty"): "[0].capacty: there is no such key here: is capacity meant?",
+            SMALL.replace("log_sync", "log_snyc"): "slaves[0].log_snyc: there is no such key here: is log_sync meant?",
+            SMALL.replace('["10.0.0.1"]', '["10.0.0.9"]'): "the master 10.0.0.9 of 10.0.1.1 is none of the",
+            SMALL.replace('masters = ["10.0.0.1"]', "masters = []"): "10.0.1.1 has 0 masters, and a slave has 1 to 16",
             SMALL.replace("capacity = 100", "capacity = 0"): "grandmasters[0].capacity: 0 is no whole number from 1",
             SMALL.replace("log_sync = 0", "log_sync = 9"): "slaves[0].log_sync: 9 is no whole number from -7 to 4",
             SMALL.replace("0.001, 0.004", "0.004, 0.001"): "delay: the first is the greater one",
@@ -68,6 +96,20 @@ class Plans(unittest.TestCase):
             with self.assertRaises(plan.PlanError, msg=why) as caught:
                 plan.read_plan(text)
             self.assertIn(why, str(caught.exception))
+
+    def test_judges(self) -> None:
+        """A script has 64 judges of each rule; a change of a judge takes one, too."""
+        plan.read_plan(SMALL.replace("count = 2", "count = 64"))
+        gap = SMALL.replace('["10.0.0.1"]', '[{ ip = "10.0.0.1", judge = "gap" }]')
+        change = '[[changes]]\nat = 1\nnode = "10.0.1.1"\nmaster = "10.0.0.1"\njudge = "{}"\n'
+        plan.read_plan(SMALL.replace("count = 2", "count = 64") + change.format("gap"))
+        for text, name in (
+            (SMALL.replace("count = 2", "count = 65"), "flag"),
+            (SMALL.replace("count = 2", "count = 64") + change.format("flag"), "flag"),
+            (gap.replace("count = 2", "count = 65"), "gap"),
+        ):
+            with self.assertRaisesRegex(plan.PlanError, f"slaves: the judge {name} is wanted 65 times, .* has 64:"):
+                plan.read_plan(text)
 
     def test_examples(self) -> None:
         lengths = {it.name: plan.read_plan(it.read_text()).length for it in self.examples()}
@@ -148,6 +190,24 @@ class Runs(unittest.TestCase):
         half = self.moments(self.make(SMALL.replace("seed", "loss = 0.5\nseed")), "deliver")
         self.assertIn(len(half), range(10, 60))
 
+    def test_copies_go_their_own_ways(self) -> None:
+        """Where the delay is a range, two copies of a datagram do not arrive at one moment."""
+        words = self.make(SMALL.replace("seed", "repeat = 1\nseed"))
+        moments: dict[str, set[str]] = {}
+        for it in words:
+            if it[0] == "deliver":
+                moments.setdefault(it[2], set()).add(it[1])
+        twice = [len(it) for it in moments.values()]
+        self.assertGreater(len(twice), 30)
+        self.assertGreater(twice.count(2), 0.9 * len(twice))
+
+    def test_a_link_that_is_faster(self) -> None:
+        """Nothing arrives out of order where one link is faster than all others."""
+        link = '[[links]]\nbetween = ["10.0.1.2", "10.0.0.1"]\ndelay = 0.0001\n'
+        words = self.make(SMALL.replace("[0.001, 0.004]", "0.6").replace("spread = 1", "spread = 0.1") + link)
+        moments = [int(it[1]) for it in words if it[0] in ("tick", "turn", "deliver")]
+        self.assertEqual(moments, sorted(moments))
+
     def test_a_link_of_its_own(self) -> None:
         words = self.make(SMALL + '[[links]]\nbetween = ["10.0.1.2", "10.0.0.1"]\nloss = 1\n')
         self.assertEqual(len(self.moments(words, "deliver")), 2 * 20)
@@ -201,6 +261,7 @@ class Runs(unittest.TestCase):
             self.assertEqual((ran.returncode, ran.stdout), (70, b""))
             self.assertIn(why, ran.stderr)
         ran = run("scenario", file, "--ptpuni", "/nowhere/ptpuni")
+        self.assertEqual((ran.returncode, ran.stdout), (69, b""))
         self.assertIn(b"/nowhere/ptpuni does not start", ran.stderr)
         ran = run("scenario", "/nowhere/it.toml")
         self.assertEqual((ran.returncode, ran.stdout), (66, b""))
@@ -230,20 +291,32 @@ class WithTheProgram(unittest.TestCase):
     def test_what_is_told_between_changes_nothing(self) -> None:
         """The report that was read while the script was made is that of the script."""
         read: list[bytes] = []
+        moments: list[int] = []
 
         class Recorded(scenario.Replay):  # type: ignore[name-defined, misc]
-            def read_lines(self) -> list[bytes]:
-                lines: list[bytes] = super().read_lines()
-                read.extend(lines)
-                return lines
+            def read(self) -> bytes:
+                read.append(super().read())
+                return read[-1]
+
+            def tell(self, lines: list[str]) -> None:
+                moments.extend(int(it.split()[1]) for it in lines if it.split()[1].isdigit())
+                super().tell(lines)
 
         replay = Recorded(str(program()))
         self.addCleanup(replay.close)
         text = SMALL.replace("seed", "loss = 0.1\nrepeat = 0.1\nseed")
+        text = text.replace("capacity = 100", "capacity = 400")
+        text = text.replace("log_sync = 0", "log_sync = -2\nlog_delay = -3") + CAPACITY_FALLS
         script = scenario.Scenario(plan.read_plan(text), replay, "it").run()
-        report = ptpuni("replay", "".join(f"{it}\n" for it in script).encode()).splitlines()
-        events = [it.split(b" ", 1)[1] for it in read if b" ignored fault short 0" not in it]
-        self.assertEqual(events[:-1], [it.split(b" ", 1)[1] for it in report[:-1]])
+        report = ptpuni("replay", "".join(f"{it}\n" for it in script).encode())
+        sent = [it.split(b" ", 1)[1] for it in b"".join(read).splitlines() if b" send " in it]
+        self.assertGreater(len(sent), 300)
+        self.assertEqual(sent, [it.split(b" ", 1)[1] for it in report.splitlines() if b" send " in it])
+        # It was told in the order in which it happens.
+        self.assertEqual(moments, sorted(moments))
+        # Among them are CANCELs of the grandmaster, and what answers them.
+        self.assertIn(b" shed ", report)
+        self.assertIn(b" cancel ", report)
 
 
 if __name__ == "__main__":
