@@ -1,0 +1,76 @@
+# shellcheck shell=bash
+# Tests of ptpuni-serve with addresses and ports, and with the right to low ports.
+
+# Holds a UDP port until it is let go, and tells its number, and by which name and number its process is known.
+hold_port() {
+    : >"$room/held"
+    python3 -c 'import os, socket, sys, time
+it = socket.socket(socket.AF_INET, socket.SOCK_DGRAM)
+it.bind((sys.argv[1], 0))
+print(it.getsockname()[1], os.getpid(), open("/proc/self/comm").read().strip(), flush=True)
+time.sleep(600)' "$1" >"$room/held" &
+    holder=$!
+    wait_for "$room/held"
+    read -r port number name <"$room/held"
+    settings | sed "s/^general_port = .*/general_port = $port/" >"$room/held.toml"
+}
+
+let_go() {
+    kill "$number" "$holder" 2>/dev/null
+    wait "$holder" 2>/dev/null
+}
+
+test_ports_in_use() {
+    local it port number name holder
+    for it in "$address" 0.0.0.0; do
+        hold_port "$it"
+        says "a port in use at $it" 69 "general_port = $port is in use at $address, by $name, process $number" \
+            launch --check "$room/held.toml"
+        let_go
+        says "a port at $it that is free again" 0 "all is well" launch --check "$room/held.toml"
+    done
+    hold_port "$beside"
+    says "a port in use at another address" 0 "all is well" launch --check "$room/held.toml"
+    let_go
+}
+
+# Whether this process has the right to ports below 1024, as the tenth bit of its rights says.
+may_bind_low() {
+    (((16#$(sed -n 's/^CapEff:[[:space:]]*//p' /proc/self/status) >> 10) & 1))
+}
+
+test_network() {
+    local -a nobody=(env)
+    if ! has_loopback; then
+        skip "addresses and ports: loopback is not up"
+        return
+    fi
+    settings | sed "s/^general_port = .*/general_port = $event/" >"$room/same.toml"
+    says "one port for both" 69 "both $event" launch --check "$room/same.toml"
+    if knows_addresses; then
+        # An address for documentation, which no machine has.
+        settings | sed "s/^ip = .*/ip = \"203.0.113.77\"/" >"$room/far.toml"
+        says "an address of another machine" 69 "is not an address of this machine, which has: " launch --check "$room/far.toml"
+        settings | sed "s/^ip = .*/ip = \"$beside\"/" >"$room/near.toml"
+        says "an address of loopback" 0 "all is well" launch --check "$room/near.toml"
+    else
+        skip "addresses: ip (iproute2) is not here, or the system lends addresses that it does not have"
+    fi
+    if [[ $(ip -4 route get 127.255.255.255 2>/dev/null) == broadcast\ * ]]; then
+        settings | sed "s/^ip = .*/ip = \"127.255.255.255\"/" >"$room/broad.toml"
+        says "a broadcast address" 69 "is a broadcast address" launch --check "$room/broad.toml"
+    else
+        skip "a broadcast address: ip (iproute2) names none of loopback"
+    fi
+    if has ss && has python3; then test_ports_in_use; else skip "ports in use: ss (iproute2) or python3 is not here"; fi
+    settings | sed "s/^event_port = .*/event_port = 319/; s/^general_port = .*/general_port = 320/" >"$room/low.toml"
+    ! may_bind_low || nobody=(setpriv --reuid=65534 --regid=65534 --clear-groups env)
+    if [ "$(cat /proc/sys/net/ipv4/ip_unprivileged_port_start)" -le 320 ]; then
+        skip "the right to low ports: this system has them free for all"
+    elif ! "${nobody[@]}" "$room/ptpuni-serve" --help >/dev/null 2>&1; then
+        skip "the right to low ports: setpriv is not here, or may not, or nobody else may read $room"
+    else
+        says "no right to low ports" 69 "event_port = 319 and general_port = 320: this user" \
+            "${nobody[@]}" PTPUNI_PROGRAM="$room/fake" "$room/ptpuni-serve" --check "$room/low.toml"
+    fi
+}
