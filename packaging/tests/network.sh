@@ -12,7 +12,7 @@ time.sleep(600)' "$1" >"$room/held" &
     holder=$!
     wait_for "$room/held"
     read -r port number name <"$room/held"
-    settings | sed "s/^general_port = .*/general_port = $port/" >"$room/held.toml"
+    settings_with "$room/held.toml" "general_port = $port"
 }
 
 let_go() {
@@ -39,38 +39,71 @@ may_bind_low() {
     (((16#$(sed -n 's/^CapEff:[[:space:]]*//p' /proc/self/status) >> 10) & 1))
 }
 
-test_network() {
+# Runs a command with these rights alone, in the words of setpriv: as root, or as one who is root to himself.
+bounded() {
+    local -a as=(unshare -r)
+    [ "$(id -u)" -ne 0 ] || as=()
+    "${as[@]}" setpriv --bounding-set="$1" "${@:2}"
+}
+
+test_addresses() {
+    local it
+    # An address for documentation, which no machine has, and the ones beside the multicast addresses.
+    for it in 203.0.113.77 223.255.255.255 240.0.0.1; do
+        settings_with "$room/far.toml" "ip = \"$it\""
+        says "$it, an address of another machine" 69 "ip = $it is not an address of this machine, which has: " \
+            launch --check "$room/far.toml"
+    done
+    settings_with "$room/near.toml" "ip = \"$beside\""
+    says "an address of loopback" 0 "all is well" launch --check "$room/near.toml"
+}
+
+test_rights() {
     local -a nobody=(env)
+    # (without ports: 319 and 320)
+    settings_with "$room/low.toml" "event_port " "general_port "
+    if [ "$(cat /proc/sys/net/ipv4/ip_unprivileged_port_start)" -le 320 ]; then
+        skip "the right to low ports: this system has them free for all"
+        return
+    fi
+    ! may_bind_low || nobody=(setpriv --reuid=65534 --regid=65534 --clear-groups env)
+    if ! "${nobody[@]}" "$room/ptpuni-serve" --help >/dev/null 2>&1; then
+        skip "no rights at all: setpriv is not here, or may not, or nobody else may read $room"
+    else
+        says "no right to low ports" 69 "event_port = 319 and general_port = 320: this user" \
+            "${nobody[@]}" PTPUNI_PROGRAM="$room/fake" "$room/ptpuni-serve" --check "$room/low.toml"
+    fi
+    if ! bounded -all,+net_bind_service true 2>/dev/null; then
+        skip "one right alone: setpriv or unshare is not here, or may not"
+        return
+    elif has ss && [ -n "$(ss -Huan 'sport = :319 or sport = :320' 2>/dev/null)" ]; then
+        skip "one right alone: another program has the ports 319 or 320"
+        return
+    fi
+    says "the right to low ports alone" 0 "all is well" bounded -all,+net_bind_service \
+        env PTPUNI_PROGRAM="$room/fake" "$room/ptpuni-serve" --check "$room/low.toml"
+    says "all rights but that to low ports" 69 "event_port = 319 and general_port = 320: this user" \
+        bounded -net_bind_service env PTPUNI_PROGRAM="$room/fake" "$room/ptpuni-serve" --check "$room/low.toml"
+}
+
+test_network() {
     if ! has_loopback; then
         skip "addresses and ports: loopback is not up"
         return
     fi
-    settings | sed "s/^general_port = .*/general_port = $event/" >"$room/same.toml"
+    settings_with "$room/same.toml" "general_port = $event"
     says "one port for both" 69 "both $event" launch --check "$room/same.toml"
     if knows_addresses; then
-        # An address for documentation, which no machine has.
-        settings | sed "s/^ip = .*/ip = \"203.0.113.77\"/" >"$room/far.toml"
-        says "an address of another machine" 69 "is not an address of this machine, which has: " launch --check "$room/far.toml"
-        settings | sed "s/^ip = .*/ip = \"$beside\"/" >"$room/near.toml"
-        says "an address of loopback" 0 "all is well" launch --check "$room/near.toml"
+        test_addresses
     else
         skip "addresses: ip (iproute2) is not here, or the system lends addresses that it does not have"
     fi
     if [[ $(ip -4 route get 127.255.255.255 2>/dev/null) == broadcast\ * ]]; then
-        settings | sed "s/^ip = .*/ip = \"127.255.255.255\"/" >"$room/broad.toml"
+        settings_with "$room/broad.toml" 'ip = "127.255.255.255"'
         says "a broadcast address" 69 "is a broadcast address" launch --check "$room/broad.toml"
     else
         skip "a broadcast address: ip (iproute2) names none of loopback"
     fi
     if has ss && has python3; then test_ports_in_use; else skip "ports in use: ss (iproute2) or python3 is not here"; fi
-    settings | sed "s/^event_port = .*/event_port = 319/; s/^general_port = .*/general_port = 320/" >"$room/low.toml"
-    ! may_bind_low || nobody=(setpriv --reuid=65534 --regid=65534 --clear-groups env)
-    if [ "$(cat /proc/sys/net/ipv4/ip_unprivileged_port_start)" -le 320 ]; then
-        skip "the right to low ports: this system has them free for all"
-    elif ! "${nobody[@]}" "$room/ptpuni-serve" --help >/dev/null 2>&1; then
-        skip "the right to low ports: setpriv is not here, or may not, or nobody else may read $room"
-    else
-        says "no right to low ports" 69 "event_port = 319 and general_port = 320: this user" \
-            "${nobody[@]}" PTPUNI_PROGRAM="$room/fake" "$room/ptpuni-serve" --check "$room/low.toml"
-    fi
+    test_rights
 }

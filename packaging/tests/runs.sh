@@ -33,15 +33,72 @@ is_stopped_whole() {
     [ "$status" -eq 143 ] && count "$room/stopped" 1
 }
 
-test_runs() {
-    if ! has_loopback; then
-        skip "runs of the launcher: loopback is not up"
-        return
-    fi
-    settings "epoch = 5" >"$room/good.toml"
-    says "a run" 0 "rounds 1 sent 0" launch --once "$room/good.toml"
-    holds "the epoch is TAI at the start, by leap-seconds.list" starts_at_second 141
-    holds "the other settings are handed over, and one epoch" given_as_written
+# Runs the launcher at a moment of its clock, in seconds with six digits behind the point. As soon as it sleeps it is nine
+# seconds later. (Bash reads the file of BASH_ENV before a script.)
+launch_at() {
+    printf '%s\n' "unset EPOCHSECONDS EPOCHREALTIME" "EPOCHSECONDS=${1%.*} EPOCHREALTIME=$1" \
+        "sleep() { EPOCHSECONDS=$((${1%.*} + 9)) EPOCHREALTIME=$((${1%.*} + 9)).000000; }" >"$room/moment"
+    # (a wait that is too short to sleep would never end)
+    timeout 60 env BASH_ENV="$room/moment" PTPUNI_ZONEINFO="$room/zones" PTPUNI_PROGRAM="$room/fake" \
+        "$room/ptpuni-serve" --once "$room/good.toml"
+}
+
+# 1814400000 is 2027-07-01 00:00:00 UTC. The program has half a second, and not less, until the second begins.
+test_moments() {
+    local it
+    for it in 000001 499999; do
+        says "a start $it us behind a second" 0 "from 2027-07-01 00:00:01 UTC on, which is TAI second 1814400142" \
+            launch_at "1814400000.$it"
+    done
+    for it in 500000 989999 999999; do
+        says "a start $it us behind a second" 0 "from 2027-07-01 00:00:02 UTC on, which is TAI second 1814400143" \
+            launch_at "1814400000.$it"
+    done
+}
+
+# Runs a command with one list of leap seconds alone, that of standard input, under this name.
+with_list() {
+    local ended
+    mv "$room/zones" "$room/kept"
+    mkdir "$room/zones"
+    cat >"$room/zones/$1"
+    "${@:2}"
+    ended=$?
+    rm -r "$room/zones"
+    mv "$room/kept" "$room/zones"
+    return "$ended"
+}
+
+# A leap second at the end of June 2027, and one before that was taken away.
+leapseconds() {
+    printf '%s\n' "# a test" "Leap 1972 Jun 30 23:59:60 + S" "Leap 1973 Dec 31 23:59:60 + S" "Leap 1974 Dec 31 23:59:59 - S" \
+        "Leap 2027 Jun 30 23:59:60 + S" "Leap 2099 Dec 31 23:59:60 + S" | with_list leapseconds "$@"
+}
+
+# The like in the form of the other list, whose moments count from 1900. It runs out when the leap second is over.
+leap_list() {
+    printf '%s\n' "# a test" "#@ 4023388800" "2272060800 10" "3692217600 11" "4023388800 12" "4481222400 42" |
+        with_list leap-seconds.list "$@"
+}
+
+has_run_out() {
+    leap_list launch_at "$1" 2>&1 | grep -q "has run out on 2027-07-01"
+}
+
+# Starts at the last second before the leap second, and at the first one behind it.
+test_leaps() {
+    says "leapseconds: a leap second on its own day" 0 "TAI second 1814400010 (UTC offset 11 s)" \
+        leapseconds launch_at 1814399998.400000
+    says "leapseconds: on the next day" 0 "TAI second 1814400012 (UTC offset 12 s)" leapseconds launch_at 1814399999.400000
+    says "leap-seconds.list: before a leap second" 0 "TAI second 1814400010 (UTC offset 11 s)" \
+        leap_list launch_at 1814399998.400000
+    says "leap-seconds.list: from a leap second on" 0 "TAI second 1814400012 (UTC offset 12 s)" \
+        leap_list launch_at 1814399999.400000
+    holds "leap-seconds.list: at its last second it has not run out" fails has_run_out 1814399999.400000
+    holds "leap-seconds.list: a second later it has" has_run_out 1814400000.400000
+}
+
+test_offsets() {
     says "an offset that is given" 0 "UTC offset 7 s" launch --once --utc-offset 7 "$room/good.toml"
     holds "the epoch is by the offset that is given" starts_at_second 7
     mv "$room/zones/leap-seconds.list" "$room/list"
@@ -53,6 +110,10 @@ test_runs() {
     sed 's/^#@.*/#@ 3944332800/' "$room/list" >"$room/zones/leap-seconds.list"
     says "a list that has run out" 0 "has run out on 2024-12-28" launch --once "$room/good.toml"
     mv "$room/list" "$room/zones/leap-seconds.list"
+    test_leaps
+}
+
+test_ends() {
     rm "$room/starts"
     echo 3 >"$room/times"
     echo 67 >"$room/status"
@@ -67,6 +128,29 @@ test_runs() {
     : >"$room/line"
     says "ports that are not had after all" 69 "could not be opened" launch "$room/good.toml"
     rm "$room/line" "$room/status"
+}
+
+# All keys of `serve`, each with another value than its default but two_step, which is given.
+all_settings() {
+    settings "epoch = 5" "port = 2" "domain = 5" "class = 110" "max_duration = 300" "senders = 2" "change_round = 7" \
+        "new_capacity = 8" "two_step = $1"
+}
+
+test_runs() {
+    local it
+    if ! has_loopback; then
+        skip "runs of the launcher: loopback is not up"
+        return
+    fi
+    for it in false true; do
+        all_settings "$it" >"$room/good.toml"
+        says "a run, two_step = $it" 0 "rounds 1 sent 0" launch --once "$room/good.toml"
+        holds "the epoch is TAI at the start, by leap-seconds.list" starts_at_second 141
+        holds "the other settings are handed over, and one epoch: two_step = $it" given_as_written
+    done
+    test_moments
+    test_offsets
+    test_ends
     mkdir "$room/without"
     printf '#!/bin/sh\nexit 1\n' >"$room/without/python3"
     chmod 755 "$room/without/python3"

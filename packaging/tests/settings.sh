@@ -32,25 +32,78 @@ launch() {
     env PTPUNI_ZONEINFO="$room/zones" PTPUNI_PROGRAM="$room/fake" "$room/ptpuni-serve" "$@"
 }
 
-# A refusal of settings: its name, the words that are said, and the lines that replace those of the same keys.
-refuses() {
-    local name=$1 words=$2 line key
-    shift 2
-    settings >"$room/bad.toml"
+# Writes settings to a file, in which each line that is given stands in place of the one of its key. A line that is a key
+# and a blank takes the key away.
+settings_with() {
+    local file=$1 line key
+    shift
+    settings >"$file"
     for line in "$@"; do
         key=${line%% *}
-        sed -i "/^$key /d" "$room/bad.toml"
-        [ "$line" = "$key " ] || echo "$line" >>"$room/bad.toml"
+        sed -i "/^$key /d" "$file"
+        [ "$line" = "$key " ] || echo "$line" >>"$file"
     done
+}
+
+# A refusal of settings: its name, the words that are said, and the lines that replace those of the same keys.
+refuses() {
+    local name=$1 words=$2
+    shift 2
+    settings_with "$room/bad.toml" "$@"
     says "$name" 65 "$words" launch --check "$room/bad.toml"
 }
 
-test_settings() {
-    if ! has_loopback; then
-        skip "settings: loopback is not up"
-        return
-    fi
-    settings >"$room/good.toml"
+# Settings that are taken: the name, and the lines.
+takes() {
+    local name=$1
+    shift
+    settings_with "$room/well.toml" "$@"
+    says "$name" 0 "all is well" launch --check "$room/well.toml"
+}
+
+# The ranges of whole numbers of a grandmaster, as docs/FORMATS.md has them: key, least and greatest value in each line.
+ranges() {
+    sed -n '/^| Key of both/,/^| Key of a slave/p' "$top/docs/FORMATS.md" | awk -F'|' '$3 ~ /^ *[0-9]+ to [0-9]+ *$/ {
+        split($3, range, " ")
+        count = split($2, keys, ",")
+        for (i = 1; i <= count; i++) { gsub(/[` ]/, "", keys[i]); print keys[i], range[1], range[3] }
+    }'
+}
+
+# The lines of settings with this value of a key, in the list `lines`. Both ports are one port: so nothing is started with
+# them, and their status is 69 where all values are taken, 65 where one is refused.
+lines_at() {
+    lines=("general_port = $event" "$1 = $2")
+    case $1 in
+    event_port) lines+=("general_port = $2") ;;
+    general_port) lines+=("event_port = $2") ;;
+    change_round) lines+=("new_capacity = 5") ;;
+    esac
+}
+
+test_edges() {
+    local key least most value lines
+    holds "docs/FORMATS.md has the ranges of twelve keys" [ "$(ranges | wc -l)" -eq 12 ]
+    while read -r key least most; do
+        for value in "$least" "$most"; do
+            lines_at "$key" "$value"
+            settings_with "$room/well.toml" "${lines[@]}"
+            says "the edge $key = $value is taken" 69 "have to be two ports" launch --check "$room/well.toml"
+        done
+        for value in $((least - 1)) $((most + 1)); do
+            lines_at "$key" "$value"
+            refuses "$key = $value is refused" "$key is $value, and has to be a whole number from $least to $most" "${lines[@]}"
+        done
+    done < <(ranges)
+}
+
+# Settings of so many octets, with a comment as their last line.
+settings_of_size() {
+    settings "$(head -c "$1" /dev/zero | tr '\0' '#')" | head -c $(($1 - 1))
+    echo
+}
+
+test_words() {
     says "good settings" 0 "all is well" launch --check "$room/good.toml"
     says "no file" 66 "no file that this user" launch "$room/nowhere.toml"
     says "no words" 64 "usage:" launch
@@ -60,10 +113,9 @@ test_settings() {
     says "help" 0 "usage: ptpuni-serve" launch --help
     says "no program" 1 "there is no program" "$room/ptpuni-serve" --program "$room/none" "$room/good.toml"
     says "a program that does not run" 1 "does not run" "$room/ptpuni-serve" --program /bin/false "$room/good.toml"
-    if ! python3 -c 'import tomllib' 2>/dev/null; then
-        skip "settings are looked at: python3 with tomllib (3.11) is not here"
-        return
-    fi
+}
+
+test_values() {
     refuses "a key that is none" "bad.toml:7: capacityy is no setting: is capacity meant?" "capacityy = 3"
     refuses "a slave's settings" "has settings of \`ptpuni slave\`: duration" "duration = 300"
     refuses "no TOML" "bad.toml:7: is no TOML" "class = "$'\n'"domain = 4"
@@ -71,6 +123,8 @@ test_settings() {
     refuses "not UTF-8" "bad.toml:7: is not UTF-8" $'class = "\xff"'
     refuses "the wildcard" "the wildcard" 'ip = "0.0.0.0"'
     refuses "multicast" "a multicast address" 'ip = "224.0.1.129"'
+    refuses "the first multicast address" "a multicast address" 'ip = "224.0.0.0"'
+    refuses "the last multicast address" "a multicast address" 'ip = "239.255.255.255"'
     refuses "broadcast to all" "the broadcast address" 'ip = "255.255.255.255"'
     refuses "no address" "has to be an IPv4 address" 'ip = "127.0.0.256"'
     refuses "a missing key" "capacity is missing" "capacity "
@@ -79,6 +133,25 @@ test_settings() {
     refuses "a clock" "16 hexadecimal digits" 'clock = "00b0aefffe00000"'
     refuses "a change without a capacity" "new_capacity is missing" "change_round = 5"
     refuses "two_step" "has to be true or false" "two_step = 1"
-    head -c 65537 /dev/zero | tr '\0' '#' >"$room/long.toml"
-    says "too long" 65 "more than 65536 octets" launch --check "$room/long.toml"
+    takes "two_step that is true" "two_step = true"
+    takes "two_step that is false" "two_step = false"
+    settings_of_size 65536 >"$room/long.toml"
+    says "65536 octets are taken" 0 "all is well" launch --check "$room/long.toml"
+    settings_of_size 65537 >"$room/long.toml"
+    says "65537 octets are too long" 65 "more than 65536 octets" launch --check "$room/long.toml"
+}
+
+test_settings() {
+    if ! has_loopback; then
+        skip "settings: loopback is not up"
+        return
+    fi
+    settings >"$room/good.toml"
+    test_words
+    if ! python3 -c 'import tomllib' 2>/dev/null; then
+        skip "settings are looked at: python3 with tomllib (3.11) is not here"
+        return
+    fi
+    test_values
+    test_edges
 }
