@@ -46,6 +46,11 @@ bounded() {
     "${as[@]}" setpriv --bounding-set="$1" "${@:2}"
 }
 
+# Whether a command says these words.
+said_by() {
+    "${@:2}" 2>&1 </dev/null | grep -qF "$1"
+}
+
 test_addresses() {
     local it
     # An address for documentation, which no machine has, and the ones beside the multicast addresses.
@@ -56,6 +61,16 @@ test_addresses() {
     done
     settings_with "$room/near.toml" "ip = \"$beside\""
     says "an address of loopback" 0 "all is well" launch --check "$room/near.toml"
+    says "an address of loopback serves this machine alone" 0 "ip = $beside is an address of loopback: it serves clients on" \
+        launch --check "$room/near.toml"
+    it=$(ip -4 -o address show scope global | awk '{ sub("/.*", "", $4); print $4; exit }')
+    if [ -z "$it" ]; then
+        skip "an address that is not of loopback: this machine has none"
+        return
+    fi
+    settings_with "$room/near.toml" "ip = \"$it\""
+    says "$it, an address of this machine" 0 "all is well" launch --check "$room/near.toml"
+    holds "$it is not said to be of loopback" fails said_by "of loopback" launch --check "$room/near.toml"
 }
 
 test_rights() {
@@ -82,6 +97,11 @@ test_rights() {
     fi
     says "the right to low ports alone" 0 "all is well" bounded -all,+net_bind_service \
         env PTPUNI_PROGRAM="$room/fake" "$room/ptpuni-serve" --check "$room/low.toml"
+    holds "319 and 320 are not remarked" fails said_by "serves only clients that have" bounded -all,+net_bind_service \
+        env PTPUNI_PROGRAM="$room/fake" "$room/ptpuni-serve" --check "$room/low.toml"
+    settings_with "$room/odd.toml" "event_port "
+    says "one port of the two is remarked" 0 "serve: general_port = $general: serves only clients that have" \
+        bounded -all,+net_bind_service env PTPUNI_PROGRAM="$room/fake" "$room/ptpuni-serve" --check "$room/odd.toml"
     says "all rights but that to low ports" 69 "event_port = 319 and general_port = 320: this user" \
         bounded -net_bind_service env PTPUNI_PROGRAM="$room/fake" "$room/ptpuni-serve" --check "$room/low.toml"
 }
@@ -91,6 +111,9 @@ test_network() {
         skip "addresses and ports: loopback is not up"
         return
     fi
+    settings >"$room/good.toml"
+    says "both ports are remarked" 0 "serve: event_port = $event and general_port = $general: serves only clients that have" \
+        launch --check "$room/good.toml"
     settings_with "$room/same.toml" "general_port = $event"
     says "one port for both" 69 "both $event" launch --check "$room/same.toml"
     if knows_addresses; then

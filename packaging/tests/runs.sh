@@ -157,5 +157,8 @@ test_runs() {
     says "without python3" 0 "by the program alone" env PATH="$room/without:$PATH" PTPUNI_PROGRAM="$room/fake" \
         "$room/ptpuni-serve" --once "$room/good.toml"
     holds "without python3 too, one epoch" given_as_written
+    settings_with "$room/ones.toml" 'clock = "ffffFFFFffffFFFF"'
+    says "without python3 too, no clock of all ones" 65 "clock is all ones" env PATH="$room/without:$PATH" \
+        PTPUNI_PROGRAM="$room/fake" "$room/ptpuni-serve" --once "$room/ones.toml"
     holds "SIGTERM stops the launcher and the program" is_stopped_whole
 }

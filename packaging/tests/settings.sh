@@ -116,6 +116,7 @@ test_words() {
 }
 
 test_values() {
+    local it
     refuses "a key that is none" "bad.toml:7: capacityy is no setting: is capacity meant?" "capacityy = 3"
     refuses "a slave's settings" "has settings of \`ptpuni slave\`: duration" "duration = 300"
     refuses "no TOML" "bad.toml:7: is no TOML" "class = "$'\n'"domain = 4"
@@ -131,6 +132,12 @@ test_values() {
     refuses "a number out of range" "bad.toml:6: rounds is 0" "rounds = 0"
     refuses "a truth value for a number" "class is true" "class = true"
     refuses "a clock" "16 hexadecimal digits" 'clock = "00b0aefffe00000"'
+    for it in ffffffffffffffff FFFFffffFFFFffff; do
+        refuses "a clock of all ones, $it" "bad.toml:6: clock is all ones" "clock = \"$it\""
+    done
+    for it in fffffffffffffffe 7fffffffffffffff 0000000000000000; do
+        takes "the clock $it" "clock = \"$it\""
+    done
     refuses "a change without a capacity" "new_capacity is missing" "change_round = 5"
     refuses "two_step" "has to be true or false" "two_step = 1"
     takes "two_step that is true" "two_step = true"
