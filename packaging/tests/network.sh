@@ -46,11 +46,6 @@ bounded() {
     "${as[@]}" setpriv --bounding-set="$1" "${@:2}"
 }
 
-# Whether a command says these words.
-said_by() {
-    "${@:2}" 2>&1 </dev/null | grep -qF "$1"
-}
-
 test_addresses() {
     local it
     # An address for documentation, which no machine has, and the ones beside the multicast addresses.

@@ -41,6 +41,11 @@ fails() {
     ! "$@"
 }
 
+# Whether a command says these words.
+said_by() {
+    "${@:2}" 2>&1 </dev/null | grep -qF "$1"
+}
+
 has() {
     command -v "$1" >/dev/null
 }
