@@ -114,7 +114,7 @@ test_files() {
     test_unit
     test_page
     test_sysctl
-    for it in "$top/ptpuni" "$here/ptpuni-serve" "$here/test.sh"; do
+    for it in "$top/ptpuni" "$here/ptpuni-serve" "$here/make-deb" "$here"/deb/* "$here/test.sh"; do
         # (other versions have other remarks)
         if has shellcheck; then holds "shellcheck $it" shellcheck -x -P "$here" --severity=warning "$it"; else skip "shellcheck $it: it is not here"; fi
     done
