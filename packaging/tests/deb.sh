@@ -111,7 +111,8 @@ has_contents() {
 # Every file that the unit and the manual page name by its whole name is there, but those that an operator writes.
 names_are_there() {
     local it missing=
-    for it in $(cat "$at/usr/lib/systemd/system/ptpuni.service" <(zcat "$at/usr/share/man/man1/ptpuni.1.gz") |
+    for it in $(cat "$at"/usr/lib/systemd/system/ptpuni.service "$at"/etc/ptpuni/serve.toml \
+        <(zcat "$at/usr/share/man/man1/ptpuni.1.gz") |
         grep -oE '(^|[^a-z])/(usr|etc)/[a-zA-Z0-9./_-]*[a-zA-Z0-9]' | sed 's|^[^/]*||' | sort -u); do
         [ -e "$at$it" ] || [ "$it" = /etc/default/ptpuni ] || missing+=" $it"
     done
@@ -125,7 +126,8 @@ test_contents() {
     holds "the program is the one that was built" cmp "$binary" "$at/usr/bin/ptpuni"
     holds "the launcher is that of the checkout" cmp "$here/ptpuni-serve" "$at/usr/lib/ptpuni/ptpuni-serve"
     holds "the examples are those of the checkout" diff -r "$top/examples" "$at/usr/share/doc/ptpuni/examples"
-    holds "the settings are those of the example" cmp "$top/examples/serve.toml" "$at/etc/ptpuni/serve.toml"
+    holds "the settings are those of the checkout, but for comments" diff \
+        <(grep -v '^#' "$here/serve.toml") <(grep -v '^#' "$at/etc/ptpuni/serve.toml")
     holds "the rooms for bursts are those of the checkout" cmp "$here/ptpuni-sysctl.conf" "$at/usr/lib/sysctl.d/60-ptpuni.conf"
     holds "the files that are named are there" names_are_there
     holds "no place is one of an installation by hand" fails grep -rq --exclude-dir=doc /usr/local "$at"
@@ -133,6 +135,24 @@ test_contents() {
         <(sed '1,/^$/d; s|/usr/local/lib|/usr/lib|' "$here/ptpuni.service") "$at/usr/lib/systemd/system/ptpuni.service"
     holds "the settings are kept by dpkg as the operator's" [ "$(dpkg-deb -I "$deb" conffiles)" = /etc/ptpuni/serve.toml ]
     says "the launcher tells the version" 0 "ptpuni $(field "$deb" Version): commit " "$at/usr/lib/ptpuni/ptpuni-serve" --version
+}
+
+# They are refused as they come, since they are nobody's: the operator has to write an address and a clock.
+test_settings_of_service() {
+    if ! python3 -c 'import tomllib' 2>/dev/null || ! has_loopback; then
+        skip "the settings of a service: python3 with tomllib (3.11) is not here, or loopback is not up"
+        return
+    fi
+    says "settings as they come: the clock" 65 "serve.toml:8: clock is all ones" launch --check "$at/etc/ptpuni/serve.toml"
+    sed 's/^clock = .*/clock = "00b0aefffe000001"/' "$at/etc/ptpuni/serve.toml" >"$room/mine.toml"
+    if knows_addresses && [[ $(ip -4 route get 192.0.2.1 2>/dev/null) != local\ * ]]; then
+        says "settings as they come: the address" 69 "ip = 192.0.2.1 is not an address of this machine" \
+            launch --check "$room/mine.toml"
+    else
+        skip "settings as they come: what addresses this machine has is not known, or 192.0.2.1 is one"
+    fi
+    sed -i "s/^ip = .*/ip = \"$address\"/; \$a event_port = $event\ngeneral_port = $general" "$room/mine.toml"
+    says "settings that were written" 0 "all is well" launch --check "$room/mine.toml"
 }
 
 test_unpacked_runs() {
@@ -249,6 +269,7 @@ test_deb() {
     test_refusals
     test_versions
     test_contents
+    test_settings_of_service
     test_unpacked_runs
     test_installation
     test_scripts
