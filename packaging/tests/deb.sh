@@ -26,8 +26,8 @@ put_proved() {
 }
 
 put_checked() {
-    install -D "$1" "$source/out/$2/ptpuni"
-    echo "commit $commit, rattle-kit-of-a-test logic 0123" >"$source/out/$2/version"
+    install -D "$1" "$source/out/checked/ptpuni"
+    echo "commit $commit, rattle-kit-of-a-test logic 0123" >"$source/out/checked/version"
 }
 
 # (the kit is that of the rt that stands in for it)
@@ -43,10 +43,10 @@ field() {
 test_refusals() {
     says "no program" 1 "there is no program" make_deb "$room/debs"
     PTPUNI=$binary says "none but one that PTPUNI names" 1 "there is no program" make_deb --unproved "$room/debs"
-    put_checked "$binary" plain
-    says "a program that is not optimised yet" 1 "is not optimised" make_deb --unproved "$room/debs"
-    rm -r "$source/out"
-    put_checked "$binary" checked
+    put_checked "$binary"
+    install -D "$binary" "$source/out/behind/module.bc"
+    says "a program that is not optimised yet" 1 "is not optimised yet" make_deb --unproved "$room/debs"
+    rm -r "$source/out/behind"
     says "a program that is not proved" 1 "is not proved: ./ptpuni --prove makes the proved one" make_deb "$room/debs"
     says "another option" 64 "no option --proved" make_deb --proved
     says "no folder" 1 "$room/nowhere: is no folder" make_deb --unproved "$room/nowhere"
@@ -245,7 +245,7 @@ test_scripts() {
 # program, for a trial, takes the first one's place.
 test_by_hand() {
     local hand=$room/hand line command settings commands=0
-    put_checked "$room/program" checked
+    put_checked "$room/program"
     while read -r line; do
         holds "by hand: $line" env -C "$source" bash -c "${line// \// $hand/}"
         commands=$((commands + 1))
