@@ -94,6 +94,10 @@ is_number() {
 
 test_sysctl() {
     local key value
+    # (4 MiB, of which docs/OPERATING.md has what they hold)
+    for key in rmem_default wmem_default; do
+        holds "the sysctl file has $key" grep -qx "net.core.$key = 4194304" "$here/ptpuni-sysctl.conf"
+    done
     while IFS=' =' read -r key value; do
         case $key in '' | '#'*) continue ;; esac
         holds "sysctl $key = $value is a number" is_number "$value"

@@ -101,7 +101,20 @@ test_rights() {
         bounded -net_bind_service env PTPUNI_PROGRAM="$room/fake" "$room/ptpuni-serve" --check "$room/low.toml"
 }
 
+# Without iproute2 it looks at what it can, and says what it does not look at.
+test_without_iproute2() {
+    mkdir "$room/few"
+    ln -s /usr/bin/* "$room/few/"
+    rm -f "$room"/few/{ip,ss}
+    for it in "ip (Debian package iproute2) is not here" "whether port $event is in use is not looked at" \
+        "whether port $general is in use is not looked at" "all is well"; do
+        says "without iproute2: $it" 0 "$it" env PATH="$room/few" PTPUNI_ZONEINFO="$room/zones" PTPUNI_PROGRAM="$room/fake" \
+            "$room/ptpuni-serve" --check "$room/good.toml"
+    done
+}
+
 test_network() {
+    local it
     if ! has_loopback; then
         skip "addresses and ports: loopback is not up"
         return
@@ -122,6 +135,7 @@ test_network() {
     else
         skip "a broadcast address: ip (iproute2) names none of loopback"
     fi
+    test_without_iproute2
     if has ss && has python3; then test_ports_in_use; else skip "ports in use: ss (iproute2) or python3 is not here"; fi
     test_rights
 }

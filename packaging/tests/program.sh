@@ -64,12 +64,14 @@ test_agreement() {
 }
 
 test_program() {
-    local it
+    local it words
     if [ -z "$program" ]; then
         skip "the launcher beside the program: it is not built (./ptpuni builds it)"
         return
     fi
-    for it in $("$program" 2>&1 | tr -d '|' | sed 's/^usage: ptpuni//; s/ N\b//g'); do
+    words=$("$program" 2>&1 | tr -d '|' | sed 's/^usage: ptpuni//; s/ N\b//g')
+    holds "the program has eight words" [ "$(wc -w <<<"$words")" -eq 8 ]
+    for it in $words; do
         holds "the manual page has the word $it" grep -qE "^\.(B|BI) \"?$it" "$here/ptpuni.1"
         says "the help has the word $it" 0 $'\n'"  $it " "$top/ptpuni" --help
     done

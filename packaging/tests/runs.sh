@@ -114,6 +114,7 @@ test_offsets() {
 }
 
 test_ends() {
+    local it
     rm "$room/starts"
     echo 3 >"$room/times"
     echo 67 >"$room/status"
@@ -124,9 +125,15 @@ test_ends() {
     echo 65 >"$room/status"
     echo "settings bad two_step" >"$room/line"
     says "what the program refuses is said in words" 65 "two_step is missing, of another type" launch "$room/good.toml"
+    for it in "text:is no TOML" "size:has more than 65536 octets" "unknown:has a key that is no setting"; do
+        echo "settings ${it%%:*}" >"$room/line"
+        says "the program refuses settings: ${it%%:*}" 65 "good.toml: ${it#*:}" launch "$room/good.toml"
+    done
     echo 69 >"$room/status"
     : >"$room/line"
     says "ports that are not had after all" 69 "could not be opened" launch "$room/good.toml"
+    echo 71 >"$room/status"
+    says "another status is said" 71 "ptpuni serve ended with the status 71" launch "$room/good.toml"
     rm "$room/line" "$room/status"
 }
 

@@ -63,6 +63,15 @@ wait_for() {
     done
 }
 
+# Waits until a command holds.
+wait_until() {
+    local until=$((SECONDS + PATIENCE))
+    while ! "$@"; do
+        ((SECONDS < until)) || return
+        sleep 0.2
+    done
+}
+
 # An address of loopback that is this run's own, so that no other run, and hardly any program, has ports there; the one
 # beside it; and two ports that no socket has at all, as far as ss tells.
 find_address() {
