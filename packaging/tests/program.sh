@@ -1,0 +1,93 @@
+# shellcheck shell=bash
+# Tests of ptpuni-serve beside the program, where that is built: the launcher refuses what the program refuses.
+
+# Whether the program and the launcher both end with this status for the settings of a file.
+agree_on() {
+    local wanted=$1 said
+    "$program" serve <"$2" >/dev/null 2>&1
+    said=$?
+    launch --check "$2" >/dev/null 2>&1
+    [ "$?" -eq "$wanted" ] && [ "$said" -eq "$wanted" ]
+}
+
+# The same for settings with these lines.
+agree() {
+    local wanted=$1
+    shift
+    settings_with "$room/try.toml" "$@"
+    agree_on "$wanted" "$room/try.toml"
+}
+
+# For settings of so many octets: their number, and the status.
+agree_on_size() {
+    settings_of_size "$1" >"$room/try.toml"
+    agree_on "$2" "$room/try.toml"
+}
+
+# Both edges of each range, on both sides: the docs, the launcher and the program have the same ones.
+test_edges_of_both() {
+    local key least most value lines
+    while read -r key least most; do
+        for value in "$least" "$most"; do
+            lines_at "$key" "$value"
+            holds "both take the edge $key = $value" agree 69 "${lines[@]}"
+        done
+        for value in $((least - 1)) $((most + 1)); do
+            lines_at "$key" "$value"
+            holds "both refuse $key = $value" agree 65 "${lines[@]}"
+        done
+    done < <(ranges)
+}
+
+test_agreement() {
+    local it
+    for it in "class = 255" "domain = 23" "max_duration = 60" "senders = 0" 'clock = "00B0AEFFFE000001"' "port = 65534" \
+        "epoch = 140737488355327" "rounds = 0x2" "capacity = 1_000" '"class" = 84' 'new_capacity = 5' "two_step = true"; do
+        holds "both take: $it" agree 0 "$it"
+    done
+    for it in "class = 256" "domain = 3" "domain = 24" "max_duration = 59" "max_duration = 1001" "senders = 5" "port = 0" \
+        "port = 65535" "epoch = 140737488355328" "epoch = -1" "rounds = 4294967296" "rounds = 1.0" "capacity = 0" \
+        "capacity = 16777217" "capacity = \"8\"" "event_port = 0" "general_port = 65536" 'ip = "127.0.0.01"' \
+        'ip = "127.0.0"' 'ip = 5' 'clock = "00b0aefffe00000g"' 'clock = 1' "new_capacity = 0" "change_round = 1" \
+        "two_step = 0" "duration = 60" "[table]" "class = [84]" "class = " "=" "ip " "rounds " "clock "; do
+        holds "both refuse: $it" agree 65 "$it"
+    done
+    for it in "65536 0" "65537 65"; do
+        holds "both: so many octets, this status: $it" agree_on_size "${it% *}" "${it#* }"
+    done
+    holds "both refuse one port for both" agree 69 "event_port = $general"
+    if knows_addresses; then
+        holds "both refuse an address of another machine" agree 69 'ip = "203.0.113.77"'
+    else
+        skip "both refuse an address of another machine: that is not known here"
+    fi
+}
+
+test_program() {
+    local it words
+    if [ -z "$program" ]; then
+        skip "the launcher beside the program: it is not built (./ptpuni builds it)"
+        return
+    fi
+    words=$("$program" 2>&1 | tr -d '|' | sed 's/^usage: ptpuni//; s/ N\b//g')
+    holds "the program has eight words" [ "$(wc -w <<<"$words")" -eq 8 ]
+    for it in $words; do
+        holds "the manual page has the word $it" grep -qE "^\.(B|BI) \"?$it" "$here/ptpuni.1"
+        says "the help has the word $it" 0 $'\n'"  $it " "$top/ptpuni" --help
+    done
+    if ! has_loopback; then
+        skip "the launcher beside the program: loopback is not up"
+        return
+    fi
+    if ! python3 -c 'import tomllib' 2>/dev/null; then
+        skip "the launcher beside the program: python3 with tomllib (3.11) is not here"
+        return
+    fi
+    test_agreement
+    test_edges_of_both
+    for it in false true; do
+        settings "two_step = $it" >"$room/real.toml"
+        says "the program is served by the launcher, two_step = $it" 0 "rounds 1 sent 0 failed 0" \
+            "$room/ptpuni-serve" --once --program "$program" "$room/real.toml"
+    done
+}
