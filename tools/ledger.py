@@ -70,12 +70,11 @@ class Lease:
 
     def is_short(self, now: int, window: int) -> bool:
         """Whether the client gets less than it was granted, and asked for where it asks for each message."""
-        if not self.is_live(now) or now - self.granted_at < min(PERIODS / rate(self.log) * ptp.SECOND, window):
+        asked, due = self.per_second(self.asked, now, window), rate(self.log)
+        judged = PERIODS / due * ptp.SECOND
+        if not self.is_live(now) or judged > window or now - self.granted_at < judged:
             return False
-        due = rate(self.log)
-        if self.is_asked:
-            due = min(due, self.per_second(self.asked, now, window))
-        return self.seen_per_second(now, window) < ENOUGH * due and window >= PERIODS / rate(self.log) * ptp.SECOND
+        return self.seen_per_second(now, window) < ENOUGH * (min(due, asked) if self.is_asked else due)
 
 
 @dataclass(slots=True)
@@ -92,6 +91,8 @@ class Ledger:
     domain: int | None = None
     clock_class: int | None = None
     last: int = 0
+    # When packets were missed last, by which rates are too low for the length of the window.
+    missed_at: int | None = None
 
     def take(self, datagram: Datagram) -> None:
         """Takes one datagram; what is neither to nor from the grandmaster is passed over."""
@@ -192,7 +193,10 @@ class Ledger:
     def snapshot(self, now: int, missed: int = 0, missed_now: int = 0) -> dict[str, Any]:
         """All of it at a moment, as it is written in JSON, those first that get less than they were granted."""
         held = self.held(now)
-        clients = [self.client(owner, kinds, now) for owner, kinds in sorted(self.leases.items(), key=by_address)]
+        self.missed_at = now if missed_now else self.missed_at
+        are_least = self.missed_at is not None and now - self.missed_at < self.window
+        owners = sorted(self.leases.items(), key=by_address)
+        clients = [self.client(owner, kinds, now, are_least) for owner, kinds in owners]
         clients.sort(key=lambda it: not it["short"])
         leases = [it[kind] for it in clients for kind in ptp.CODES if kind in it]
         return {
@@ -208,15 +212,18 @@ class Ledger:
             "counts": dict(sorted(self.counts.items())),
             "missed": missed,
             "missed_now": missed_now,
+            "rates_are_least": are_least,
             "clients": clients,
         }
 
-    def client(self, owner: Owner, kinds: dict[str, Lease], now: int) -> dict[str, Any]:
+    def client(self, owner: Owner, kinds: dict[str, Lease], now: int, are_least: bool) -> dict[str, Any]:
+        """What a client has. Where packets were missed nobody is said to get too little."""
+        leases = {kind: told(kinds[kind], now, self.window, are_least) for kind in ptp.CODES if kind in kinds}
         return {
             "address": owner[0],
             "identity": str(owner[1]) if owner[1].clock else None,
-            "short": any(it.is_short(now, self.window) for it in kinds.values()),
-            **{kind: told(kinds[kind], now, self.window) for kind in ptp.CODES if kind in kinds},
+            "short": any(it["short"] for it in leases.values()),
+            **leases,
         }
 
 
@@ -224,11 +231,11 @@ def by_address(item: tuple[Owner, dict[str, Lease]]) -> tuple[list[int], ptp.Por
     return [int(it) for it in item[0][0].split(".")], item[0][1]
 
 
-def told(lease: Lease, now: int, window: int) -> dict[str, Any]:
+def told(lease: Lease, now: int, window: int, are_least: bool) -> dict[str, Any]:
     state = lease.state(now)
     return {
         "state": state,
-        "short": lease.is_short(now, window),
+        "short": lease.is_short(now, window) and not are_least,
         "until": lease.until / ptp.SECOND if lease.until else None,
         # (of a grant that was not seen it is not known)
         "granted_per_second": rate(lease.log) if state == "granted" else None if state == "not seen yet" else 0,

@@ -97,8 +97,8 @@ class Outage:
     start: int
     until: int
 
-    def loses(self, ends: frozenset[str], moment: int) -> bool:
-        return self.start <= moment < self.until and self.ends <= ends
+    def covers(self, moment: int) -> bool:
+        return self.start <= moment < self.until
 
 
 @dataclass(frozen=True, slots=True)

@@ -421,8 +421,23 @@ class Observed(unittest.TestCase):
         self.assertRegex(table, r"10\.0\.1\.1 .* +1 +>=1 +30 ")
         self.assertNotIn(">=", self.written(self.many().snapshot(30 * ptp.SECOND, 7, 0)))
 
+    def test_rates_are_the_least_for_a_window(self) -> None:
+        """And as long nobody is said to get less than was granted."""
+        seen = self.many()
+        shown = [seen.snapshot(it * ptp.SECOND, 3, 3 if it == 30 else 0) for it in (29, 30, 31, 39, 40)]
+        self.assertEqual([it["rates_are_least"] for it in shown], [False, True, True, True, False])
+        self.assertEqual([it["short"] for it in shown], [1, 0, 0, 0, 3])
+
+    def test_what_is_asked_for_is_forgotten(self) -> None:
+        """Delay_Reqs behind the end of a grant are not kept for longer than the window."""
+        lease = self.lease(0, [])
+        for it in range(400):
+            lease.ask(it * ptp.SECOND)
+        lease.is_short(400 * ptp.SECOND, 10 * ptp.SECOND)
+        self.assertLessEqual(len(lease.asked), 10)
+
     def test_prometheus(self) -> None:
-        shown = self.many().snapshot(30 * ptp.SECOND, 7, 3)
+        shown = self.many().snapshot(30 * ptp.SECOND, 7)
         with tempfile.TemporaryDirectory() as folder:
             self.assertEqual(self.written(shown, prometheus=f"{folder}/it"), "")
             lines = Path(f"{folder}/it").read_text().splitlines()

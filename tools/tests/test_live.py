@@ -17,7 +17,7 @@ from typing import Any
 
 from support import PATIENCE, TOOLS, program, wants_program
 
-SECONDS = 4
+SECONDS = 5
 GM = """
 ip = "127.0.0.1"
 clock = "00b0aefffe000001"
@@ -93,10 +93,11 @@ class Live(unittest.TestCase):
     def see_observed(self, last: dict[str, Any]) -> None:
         self.assertEqual((last["held"], last["missed"]), (528, 0))
         self.assertEqual(last["counts"]["requests"], 3)
-        self.assertGreater(last["counts"]["delay_reqs"], 5)
+        self.assertGreater(last["counts"]["delay_reqs"], 1)
         (client,) = last["clients"]
         self.assertEqual(client["address"], "127.0.0.2")
-        for kind, least in (("announce", 1), ("sync", 16), ("delay_resp", 5)):
+        # (what is due three seconds long, less what a very busy machine may take)
+        for kind, least in (("announce", 1), ("sync", 5), ("delay_resp", 2)):
             self.assertEqual(client[kind]["state"], "granted")
             self.assertGreaterEqual(client[kind]["seen"], least)
 

@@ -6,6 +6,7 @@ import sys
 import tempfile
 import unittest
 from pathlib import Path
+from unittest import mock
 
 import plan
 from support import EXAMPLES, TOOLS, program, ptpuni, run, tool, wants_program, wants_terminal
@@ -203,10 +204,20 @@ class Runs(unittest.TestCase):
 
     def test_a_link_that_is_faster(self) -> None:
         """Nothing arrives out of order where one link is faster than all others."""
-        link = '[[links]]\nbetween = ["10.0.1.2", "10.0.0.1"]\ndelay = 0.0001\n'
-        words = self.make(SMALL.replace("[0.001, 0.004]", "0.6").replace("spread = 1", "spread = 0.1") + link)
+        link = '[[links]]\nbetween = ["10.0.1.1", "10.0.0.1"]\ndelay = 0.0001\n'
+        told: list[int] = []
+
+        def tell(replay: object, lines: list[str]) -> None:
+            told.extend(int(it.split()[1]) for it in lines if it.split()[1].isdigit())
+            really(replay, lines)
+
+        really = scenario.Replay.tell
+        with mock.patch.object(scenario.Replay, "tell", tell):
+            words = self.make(SMALL.replace("[0.001, 0.004]", "0.6").replace("spread = 1", "spread = 0.1") + link)
         moments = [int(it[1]) for it in words if it[0] in ("tick", "turn", "deliver")]
         self.assertEqual(moments, sorted(moments))
+        # Nor is it told to the replay beside out of order, by which the datagrams are numbered.
+        self.assertEqual(told, sorted(told))
 
     def test_a_link_of_its_own(self) -> None:
         words = self.make(SMALL + '[[links]]\nbetween = ["10.0.1.2", "10.0.0.1"]\nloss = 1\n')
