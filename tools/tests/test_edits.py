@@ -17,7 +17,9 @@ from support import PATIENCE, TOOLS
 RT = """\
 #!/bin/sh
 [ "$1" = version ] && exec echo "${KIT:-kit 1}"
-[ "$1" = ci ] || exit 9
+[ "$1" = help ] && exec echo "rt ci ${FLAGS-[--anew]}" >&2
+[ "$*" = ci ] || exit 9
+ls crates >"$SEEN"
 status=0
 for edit in crates/*/must-fail/*.edit; do
     [ -e "$edit" ] || continue
@@ -36,7 +38,8 @@ class Edits(unittest.TestCase):
         self.top = Path(folder.name) / "tree"
         path = f"{folder.name}/bin:{os.environ['PATH']}"
         names = {f"GIT_{who}_{what}": "a@b" for who in ("AUTHOR", "COMMITTER") for what in ("NAME", "EMAIL")}
-        self.env = {**os.environ, **names, "PATH": path}
+        self.seen = Path(folder.name) / "seen"
+        self.env = {**os.environ, **names, "PATH": path, "SEEN": str(self.seen)}
         self.put(Path(folder.name) / "bin/rt", RT)
         (Path(folder.name) / "bin/rt").chmod(0o755)
         self.put(self.top / "crates.txt", "low:\nhigh: low hex\nother:\n")
@@ -74,7 +77,7 @@ class Edits(unittest.TestCase):
         head = self.run_in("git", "rev-parse", "HEAD").stdout
         status, lines = self.edits()
         self.assertEqual(status, 0)
-        wanted = [f"refused: crates/{it}/must-fail/zero.edit" for it in ("high", "low", "other")]
+        wanted = [f"refused: crates/{it}/must-fail/zero.edit" for it in ("high", "other")]
         self.assertEqual(lines, wanted)
         self.assertEqual((self.top / "edits/PASSED").read_text(), head + "kit 1\n")
 
@@ -111,10 +114,46 @@ class Edits(unittest.TestCase):
     def test_all_are_tried_where_the_state_is_not_at_hand_or_of_another_kit(self) -> None:
         self.passes_all()
         self.env["KIT"] = "kit 2"
-        self.assertEqual(len(self.edits("changed")[1]), 3)
+        self.assertEqual(len(self.edits("changed")[1]), 2)
         self.put(self.top / "edits/PASSED", "0" * 40 + "\nkit 2\n")
         self.commit()
-        self.assertEqual(len(self.edits("changed")[1]), 3)
+        self.assertEqual(len(self.edits("changed")[1]), 2)
+
+    def test_a_kit_of_the_same_logic_counts_and_of_another_not(self) -> None:
+        self.env["KIT"] = "kit 1 logic abc"
+        self.passes_all()
+        self.env["KIT"] = "kit 2 logic abc"
+        self.assertEqual(self.edits("changed"), (0, []))
+        self.env["KIT"] = "kit 1 logic abd"
+        self.assertEqual(len(self.edits("changed")[1]), 2)
+
+    def test_only_what_the_crates_stand_on_is_proved_for_them(self) -> None:
+        self.edits("high")
+        self.assertEqual(self.seen.read_text().split(), ["high", "low"])
+        self.edits("other")
+        self.assertEqual(self.seen.read_text().split(), ["other"])
+
+    def test_edits_are_laid_for_the_gate_where_the_toolchain_keeps_nothing(self) -> None:
+        self.passes_all()
+        self.put(self.top / "crates/high/src/lib.rt", SOURCE + "// a remark\n")
+        self.commit()
+        self.assertEqual(self.edits("lay"), (0, []))
+        self.assertFalse((self.top / "crates/high/must-fail").exists())
+        self.env["FLAGS"] = ""
+        self.assertEqual(self.edits("lay"), (0, []))
+        self.assertTrue((self.top / "crates/high/must-fail/zero.edit").exists())
+        self.assertFalse((self.top / "crates/other/must-fail").exists())
+        self.assertEqual(self.edits("changed"), (0, []))
+        self.assertEqual(self.edits("lift"), (0, []))
+        self.assertEqual(self.run_in("git", "status", "--porcelain").stdout, "")
+        self.assertEqual(self.edits("changed"), (0, ["refused: crates/high/must-fail/zero.edit"]))
+
+    def test_an_edit_that_stands_in_both_sets_is_not_laid(self) -> None:
+        self.env["FLAGS"] = ""
+        self.put(self.top / "crates/other/must-fail/zero.edit", "file: src/lib.rt\n")
+        self.commit()
+        self.assertEqual(self.edits("lay"), (1, []))
+        self.assertFalse((self.top / "crates/high/must-fail").exists())
 
     def test_a_state_is_written_down_only_where_all_are_refused_and_committed(self) -> None:
         self.put(self.top / "crates/other/src/lib.rt", "")
