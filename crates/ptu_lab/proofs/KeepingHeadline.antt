@@ -2,15 +2,18 @@
 use Rattle.std.proofs.Common.{ℕ, List}
 use Rattle.ptu_lab.specs.Headline.{KeepsHeadline}
 use Rattle.ptu_world.specs.World.{Stock}
-use Rattle.ptu_world.proofs.Headline.{decides_by_room, numbers_datagrams, pays_periods, says_so, selects_best, within_budget, within_capacity}
+use Rattle.ptu_world.proofs.Headline.{decides_by_room, numbers_datagrams, pays_periods, records_deliveries, records_events, says_so, selects_best, signals_answers, within_budget, within_capacity}
 
 pub keeps_headline : (stock : Stock) (script : List ℕ) → KeepsHeadline stock script
 keeps_headline stock script = record {
   within_capacity = within_capacity stock script;
   granted_by_room = decides_by_room stock script;
   own_periods = pays_periods stock script;
+  recorded = records_events stock script;
+  signalled = signals_answers stock script;
   within_budget = within_budget stock script;
   best_master = selects_best stock script;
+  delivered = records_deliveries stock script;
   says_so = says_so stock script;
   datagrams = numbers_datagrams stock script;
 }

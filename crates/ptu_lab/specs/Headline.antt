@@ -1,6 +1,6 @@
 -- The headline, whole: what every script keeps to, and that its report says so.
 use Rattle.std.specs.Prelude.{ℕ, List}
-use Rattle.ptu_world.specs.Headline.{DecidesByRoom, NumbersDatagrams, PaysPeriods, SaysSo, SelectsBest, WithinBudget, WithinCapacity}
+use Rattle.ptu_world.specs.Headline.{DecidesByRoom, NumbersDatagrams, PaysPeriods, RecordsDeliveries, RecordsEvents, SaysSo, SelectsBest, SignalsAnswers, WithinBudget, WithinCapacity}
 use Rattle.ptu_world.specs.World.{Stock}
 
 -- what every script keeps to, with so many judges of each rule
@@ -11,10 +11,16 @@ pub record KeepsHeadline (stock : Stock) (script : List ℕ) : Type 0 where
   pub granted_by_room : DecidesByRoom stock script
   -- every message takes a period of its own inside a live grant
   pub own_periods : PaysPeriods stock script
-  -- and up to every moment all of them are within the capacity summed over it
+  -- which stands uncancelled: a history has just what was handed over, CANCELs and Delay_Reqs, turns, changes of capacity
+  pub recorded : RecordsEvents stock script
+  -- a grandmaster signals the one reply to each Signaling with items, and the CANCEL of each grant that is shed, and nothing else
+  pub signalled : SignalsAnswers stock script
+  -- up to every moment all timing messages are within the capacity summed over it
   pub within_budget : WithinBudget stock script
   -- each slave selects its best eligible master
   pub best_master : SelectsBest stock script
+  -- by a record that has just what was delivered to it, and the answers of its judges
+  pub delivered : RecordsDeliveries stock script
   -- the report says so, line by line, and nothing else
   pub says_so : SaysSo stock script
   -- and datagrams are numbered in the order in which they are sent, and delivered as they were

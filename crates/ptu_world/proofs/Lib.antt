@@ -9,5 +9,7 @@ pub mod Messages
 pub mod Sayings
 pub mod Numbering
 pub mod Going
+pub mod Signalling
+pub mod Receiving
 pub mod Headline
 pub mod Counting

@@ -85,10 +85,10 @@ numbers_stay past before x g due same distinct k d lt =
     ∙ same (suc k) d (omega (arith, lt))
 
 -- a turn sends no Delay_Resp
-abbrev IsTurned : Grant → Type 0
+abbrev pub IsTurned : Grant → Type 0
 IsTurned g = g.kind ≢ kinds.DelayResp
 
-due_turned : (history : List Record) (x j : ℕ) → All IsTurned (due_grants history x j)
+pub due_turned : (history : List Record) (x j : ℕ) → All IsTurned (due_grants history x j)
 due_turned history x j = λ i d lt.
     let g : Grant = get_or (due_grants history x j) i d in
     let due : is_due history x j g ≡ true = ((due_grants-members history x j g).0 (Contains-get_or (due_grants history x j) i d lt)).1 in

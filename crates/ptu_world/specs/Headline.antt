@@ -1,30 +1,55 @@
 -- The headline: what every script keeps to, in each world that it reaches, and that the report says so.
-use Rattle.std.specs.Prelude.{◌≡◌, ℕ, ◌+◌, ◌*◌, ◌≤◌, true, filter_map, List, [], ◌∷◌, ◌++◌, length, map, Some, Ok, Err}
+use Rattle.std.specs.Prelude.{◌≡◌, ◌≢◌, ℕ, ◌+◌, ◌*◌, ◌≤◌, ◌==◌, Bool, true, false, filter, filter_map, List, [], ◌∷◌, ◌++◌, length, map, Some, Ok, Err}
 use Rattle.std.specs.List.{All, AllPairs}
-use Rattle.ptu_units.specs.declared.kind.Kind.{Kind}
+use Rattle.ptu_units.specs.{declared.kind.Kind.{Kind}, Kind.{kind_of}}
+use Rattle.ptu_header.specs.declared.header.Header.{Header}
+use Rattle.ptu_tlvs.specs.declared.tlv.Tlv.{Tlv}
 use Rattle.ptu_history.specs.declared.client.Client.{Client}
+use Rattle.ptu_history.specs.{Core.{history_after}, Live.{live}}
+use Rattle.ptu_history.specs.Events as events
 use Rattle.ptu_history.specs.{Held.{budget, count, force, held, payments}, History.{Record}}
 use Rattle.ptu_laws.specs.Paid.{IsBefore}
+use Rattle.ptu_gm_messages.specs.declared.item.Item.{Item}
+use Rattle.ptu_gm_messages.specs.declared.item.Item.TheVariants as items
+use Rattle.ptu_gm_messages.specs.declared.heard.Heard.TheVariants as heard
+use Rattle.ptu_gm_messages.specs.Deciding.{client_of, events_of_datagram, events_of_items}
+use Rattle.ptu_gm_messages.specs.{Items.{heard_in}, Replies.{reply_to}}
 use Rattle.ptu_lines.specs.declared.cause.LineCause.{LineCause}
 use Rattle.ptu_lines.specs.Script.{ScriptLine, Whole, Refused}
 use Rattle.ptu_script.specs.declared.{cause.Cause.{Cause}, command.Command.{Command}}
-use Rattle.ptu_script.specs.{declared.command.Command.TheVariants.{Deliver}, Cause.{cause_of_line}}
+use Rattle.ptu_script.specs.declared.command.Command.TheVariants as commands
+use Rattle.ptu_script.specs.Cause.{cause_of_line}
 use Rattle.ptu_script.specs.Command.{command_of}
 use Rattle.ptu_report_lines.specs.declared.report_line.ReportLine.{ReportLine}
 use Rattle.ptu_report_lines.specs.declared.report_line.ReportLine.TheVariants.{At, End}
 use Rattle.ptu_report_lines.specs.declared.statement.Statement.TheVariants.{Bad}
-use Rattle.ptu_slave_messages.specs.Node.{datagram_heard}
+use Rattle.ptu_messages.specs.declared.message.Message.{Message}
+use Rattle.ptu_record.specs.declared.rule.Rule.{Rule}
+use Rattle.ptu_record.specs.Record as entries
+use Rattle.ptu_record.specs.Step as slave_events
+use Rattle.ptu_record.specs.{Record.{event_moment}, Step.{SlaveEvent, SlaveSetup, slave_step}}
+use Rattle.ptu_profile.specs.Slave.{place_of}
+use Rattle.ptu_slave_messages.specs.declared.reason.SlaveReason.{SlaveReason}
+use Rattle.ptu_slave_messages.specs.{Heard.{event_of}, Node.{datagram_heard}, Reception.{reception}, Sending.{all_ones}}
 use Rattle.ptu_world.specs.Deeds.{Grandmaster, Slave, IsGrandmaster, IsSlave}
-use Rattle.ptu_world.specs.World.{World, Stock, Done, node_at, opening, step}
+use Rattle.ptu_world.specs.Grandmasters.{opening as opening_of}
+use Rattle.ptu_world.specs.World.{World, Stock, Done, judges_of, node_at, opening, step}
 use Rattle.ptu_world.specs.Report.{report_lines}
 use Rattle.ptu_world.specs.Reached.{Reaches, done_by_line, lines_said, said_of}
-use Rattle.ptu_world.specs.Promises.{AreMessagesSent, Handed, IsAnswered, IsDecidedByRoom, IsHanded, IsSentAfter, PaysItsPeriod, Request, handed_by}
+use Rattle.ptu_world.specs.Promises.{AreMessagesSent, GoesOn, Handed, IsAnswered, IsDecidedByRoom, IsHanded, IsSentAfter, PaysItsPeriod, Request, addressed, handed_by}
+use Rattle.ptu_world.specs.Receiving.{AreJudged, Enters, Ignores, IsOwn, is_received, received_by}
+use Rattle.ptu_world.specs.Signaling.{AnswerEach, Signals, cancels_of, is_sent_by, shed_by}
 use Rattle.ptu_world.specs.Sayings.{IsBestChoice, IsDelivered, NamesSelection, is_event, moment_handed, numbered, selected_in, sent_in, slave_of}
 
 -- the script reaches the world, in which this grandmaster stands at the address
 pub record HasGrandmaster (stock : Stock) (script : List ℕ) (w : World) (ip : ℕ) (g : Grandmaster) : Type 0 where
   pub reached : Reaches stock script w
   pub node : node_at w.nodes ip ≡ Some (IsGrandmaster g)
+
+-- the script reaches the world, in which this slave stands at the address
+pub record HasSlave (stock : Stock) (script : List ℕ) (w : World) (ip : ℕ) (s : Slave) : Type 0 where
+  pub reached : Reaches stock script w
+  pub node : node_at w.nodes ip ≡ Some (IsSlave s)
 
 -- at every moment the granted rates of each grandmaster sum to at most its capacity, which is that in force
 pub record WithinCapacity (stock : Stock) (script : List ℕ) : Type 0 where
@@ -44,6 +69,40 @@ pub record PaysPeriods (stock : Stock) (script : List ℕ) : Type 0 where
   pub apart : (w : World) (ip : ℕ) (g : Grandmaster) → HasGrandmaster stock script w ip g → AllPairs IsBefore (payments g.past)
   pub sent : (w : World) (ip : ℕ) (g : Grandmaster) → HasGrandmaster stock script w ip g → AreMessagesSent w ip g
 
+-- each datagram that a grandmaster is handed, each of its turns and each change of its capacity makes its history go on with
+-- just the events that it is; behind a CANCEL that stands among its items no grant of that client and kind is live at any moment; a
+-- change of its clockClass is no event; and a command leaves each node as it is but the one that it addresses (IEEE 1588-2019 clause 16.1)
+pub record RecordsEvents (stock : Stock) (script : List ℕ) : Type 0 where
+  pub datagram : (w : World) (command : Command) (d : Handed) (g : Grandmaster) → HasGrandmaster stock script w d.node g → handed_by w command ≡ Some d
+      → GoesOn w command d.node g (events_of_datagram g.config d.at d.from d.octets)
+  pub cancelled : (w : World) (command : Command) (d : Handed) (g : Grandmaster) (header : Header) (before : List Item) (code : ℕ) (k : Kind) (behind : List Item) (x : ℕ)
+      → HasGrandmaster stock script w d.node g → handed_by w command ≡ Some d → heard_in g.config d.octets ≡ Ok (heard.Asks header (before ++ items.Cancel code ∷ behind))
+      → kind_of code ≡ Some k
+      → live (history_after (opening_of g) g.past (events_of_items d.at (client_of d.from header) (before ++ items.Cancel code ∷ []))) x (client_of d.from header) k ≡ false
+  pub turn : (w : World) (ip : ℕ) (g : Grandmaster) (t table : ℕ) → HasGrandmaster stock script w ip g → GoesOn w (commands.Turn t ip table) ip g ((t, events.Turn table) ∷ [])
+  pub capacity : (w : World) (ip : ℕ) (g : Grandmaster) (t capacity : ℕ) → HasGrandmaster stock script w ip g
+      → GoesOn w (commands.Capacity t ip capacity) ip g ((t, events.Resize capacity) ∷ [])
+  pub class : (w : World) (ip : ℕ) (g : Grandmaster) (class : ℕ) → HasGrandmaster stock script w ip g
+      → (done : Done) × (step w (commands.Class ip class) ≡ Ok done) × (node_at done.world.nodes ip ≡ Some (IsGrandmaster (record g { config = record (g.config) { class = class } })))
+  pub others : (w : World) (command : Command) (done : Done) (ip : ℕ) → Reaches stock script w → step w command ≡ Ok done → addressed w command ≢ Some ip
+      → node_at done.world.nodes ip ≡ node_at w.nodes ip
+
+-- each Signaling of a grandmaster is the one reply to a Signaling that it is handed with REQUESTs or CANCELs, with an answer for
+-- each, to its sender, or the CANCEL of a grant that a change of its capacity sheds, one for each; nothing else that it is handed,
+-- no turn, no change of its clockClass and no event at another node makes it send one (clause 16.1)
+pub record SignalsAnswers (stock : Stock) (script : List ℕ) : Type 0 where
+  pub replied : (w : World) (command : Command) (d : Handed) (g : Grandmaster) (header : Header) (item : Item) (items : List Item) → HasGrandmaster stock script w d.node g
+      → handed_by w command ≡ Some d → heard_in g.config d.octets ≡ Ok (heard.Asks header (item ∷ items))
+      → (answers : List Tlv) × AnswerEach (item ∷ items) answers × Signals w command d.node (reply_to g.config d.from header answers ∷ [])
+  pub unheard : (w : World) (command : Command) (d : Handed) (g : Grandmaster) → HasGrandmaster stock script w d.node g → handed_by w command ≡ Some d
+      → ((header : Header) (item : Item) (items : List Item) → heard_in g.config d.octets ≢ Ok (heard.Asks header (item ∷ items))) → Signals w command d.node []
+  pub turn : (w : World) (ip : ℕ) (g : Grandmaster) (t table : ℕ) → HasGrandmaster stock script w ip g → Signals w (commands.Turn t ip table) ip []
+  pub class : (w : World) (ip : ℕ) (g : Grandmaster) (class : ℕ) → HasGrandmaster stock script w ip g → Signals w (commands.Class ip class) ip []
+  pub capacity : (w : World) (ip : ℕ) (g : Grandmaster) (t capacity : ℕ) → HasGrandmaster stock script w ip g
+      → Signals w (commands.Capacity t ip capacity) ip (cancels_of g (shed_by g t capacity))
+  pub others : (w : World) (command : Command) (done : Done) (ip : ℕ) → Reaches stock script w → step w command ≡ Ok done → addressed w command ≢ Some ip
+      → filter (is_sent_by ip) done.world.sent ≡ filter (is_sent_by ip) w.sent
+
 -- up to every moment the messages of each grandmaster, at sixteen seconds of one sixteenth each, are at most its capacity
 -- summed over the nanoseconds before it
 pub record WithinBudget (stock : Stock) (script : List ℕ) : Type 0 where
@@ -60,6 +119,25 @@ pub record SelectsBest (stock : Stock) (script : List ℕ) : Type 0 where
   pub datagram : (w : World) (command : Command) (done : Done) (d : Handed) (s : Slave) → Reaches stock script w → handed_by w command ≡ Some d
       → node_at w.nodes d.node ≡ Some (IsSlave s) → is_event (datagram_heard s.opened s.taken d.at d.from d.octets) ≡ true → step w command ≡ Ok done
       → NamesSelection d.node done.said
+
+-- the record of a slave is what was delivered to it, and nothing else: each datagram that it accepts enters what it says, at its
+-- moment, and one that it ignores nothing; a tick, the stop, the operator's word and another judge enter theirs; each entry of a
+-- judge is that judge's answer; and what the slave sends is what its record makes it send (IEEE 1588-2019 clauses 13 and 16.1)
+pub record RecordsDeliveries (stock : Stock) (script : List ℕ) : Type 0 where
+  pub accepted : (w : World) (command : Command) (d : Handed) (s : Slave) (m : ℕ) (message : Message) → HasSlave stock script w d.node s → handed_by w command ≡ Some d
+      → reception s.opened.config s.opened.masters d.from d.octets ≡ Ok (m, message) → Enters w command d.node s d.at (event_of m message) message.header.source
+  pub ignored : (w : World) (command : Command) (d : Handed) (s : Slave) (reason : SlaveReason) → HasSlave stock script w d.node s → handed_by w command ≡ Some d
+      → reception s.opened.config s.opened.masters d.from d.octets ≡ Err reason → Ignores w command d.node s
+  pub tick : (w : World) (ip : ℕ) (s : Slave) (t : ℕ) → HasSlave stock script w ip s → Enters w (commands.Tick t ip) ip s t slave_events.Tick all_ones
+  pub stop : (w : World) (ip : ℕ) (s : Slave) (t : ℕ) → HasSlave stock script w ip s → Enters w (commands.Stop t ip) ip s t slave_events.Stop all_ones
+  pub flag : (w : World) (ip : ℕ) (s : Slave) (t master m : ℕ) (unusable : Bool) → HasSlave stock script w ip s → place_of s.opened.masters master ≡ Some m
+      → Enters w (commands.Flag t ip master unusable) ip s t (slave_events.TellFlag m unusable) all_ones
+  pub judge : (w : World) (ip : ℕ) (s : Slave) (t master m : ℕ) (rule : Rule) → HasSlave stock script w ip s → place_of s.opened.masters master ≡ Some m
+      → (judges_of rule w.stock == 0) ≡ false → Enters w (commands.Judge t ip master rule) ip s t (slave_events.ReplaceJudge m (Some rule)) all_ones
+  pub says : (setup : SlaveSetup) (L : entries.Record) (t m : ℕ) (message : Message)
+      → filter is_received (slave_step setup L t (event_of m message)).entries ≡ received_by setup.wants (event_moment L t) m message
+  pub quiet : (setup : SlaveSetup) (L : entries.Record) (t : ℕ) (e : SlaveEvent) → IsOwn e → filter is_received (slave_step setup L t e).entries ≡ []
+  pub judged : (setup : SlaveSetup) (L : entries.Record) (t : ℕ) (e : SlaveEvent) → AreJudged setup L t e
 
 -- the lines of the report that say what is said of the lines that were taken, each with the number of its line
 abbrev pub said_so_far : (stock : Stock) (script : List ℕ) (w : World) → Reaches stock script w → List ReportLine
@@ -86,5 +164,5 @@ pub record SaysSo (stock : Stock) (script : List ℕ) : Type 0 where
 -- once; and what is delivered under a number is the datagram that was said to be sent under it, to the node that it was sent to
 pub record NumbersDatagrams (stock : Stock) (script : List ℕ) : Type 0 where
   pub in_order : (w : World) (r : Reaches stock script w) → filter_map sent_in (said_of (opening stock) r.taken w r.leads) ≡ numbered 1 w.sent
-  pub delivered : (w : World) (r : Reaches stock script w) (t number : ℕ) (done : Done) → step w (Deliver t number) ≡ Ok done
+  pub delivered : (w : World) (r : Reaches stock script w) (t number : ℕ) (done : Done) → step w (commands.Deliver t number) ≡ Ok done
       → IsDelivered w t number (filter_map sent_in (said_of (opening stock) r.taken w r.leads)) done

@@ -7,5 +7,7 @@ pub mod Samples
 pub mod Facts
 pub mod Reached
 pub mod Promises
+pub mod Signaling
+pub mod Receiving
 pub mod Sayings
 pub mod Headline

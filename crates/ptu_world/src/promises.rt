@@ -1,32 +1,34 @@
 //! Laws of every world that a script reaches. Each function does nothing: its contract is the law,
 //! which holds for every script, whatever it sets up, hands over, loses, repeats or changes, at any
 //! moments in any order, and after each of its lines that is taken.
-ghost use Rattle.std.specs.Prelude.{◌≡◌, ◌≢◌, ℕ, List, [], ◌∷◌, Some, Ok};
-ghost use Rattle.ptu_script.specs.declared.command.Command.{Command};
-ghost use Rattle.ptu_script.specs.declared.command.Command.TheVariants as commands;
-ghost use Rattle.ptu_history.specs.Events as events;
-ghost use Rattle.ptu_gm_messages.specs.Deciding.{events_of_datagram};
+ghost use Rattle.std.specs.Prelude.{◌≡◌, ℕ, List, Some};
 ghost use Rattle.ptu_world.specs.Deeds.{Grandmaster, IsGrandmaster};
-ghost use Rattle.ptu_world.specs.World.{World, Stock, Done, opening, step, node_at};
+ghost use Rattle.ptu_world.specs.World.{World, Stock, opening, node_at};
 ghost use Rattle.ptu_world.specs.Facts.{world_of};
-ghost use Rattle.ptu_world.specs.Headline.{DecidesByRoom, NumbersDatagrams, PaysPeriods, SaysSo, SelectsBest, WithinBudget, WithinCapacity};
+ghost use Rattle.ptu_world.specs.Headline.{DecidesByRoom, NumbersDatagrams, PaysPeriods, RecordsDeliveries, RecordsEvents, SaysSo, SelectsBest, SignalsAnswers, WithinBudget, WithinCapacity};
 ghost use Rattle.ptu_world.specs.Reached.{Reaches};
-ghost use Rattle.ptu_world.specs.Promises.{AreMessagesSent, GoesOn, Handed, addressed, handed_by, IsRun, KeepsPromises};
+ghost use Rattle.ptu_world.specs.Promises.{AreMessagesSent, IsRun, KeepsPromises};
 ghost use Rattle.ptu_world.specs.Grandmasters as gm;
 
 /// The headline: over every script, at every moment the granted rates of each grandmaster sum to at
 /// most its capacity; each REQUEST that a datagram brings is granted exactly where its rate fits
 /// beside the other live grants, and else answered with the duration zero; each message takes a
-/// period of its own inside a live grant, and all messages are within the budget; each slave
-/// selects its best eligible master; the report says so of each line that is taken, and nothing
-/// else; and datagrams are numbered in the order in which they are sent, and delivered as they
-/// were.
+/// period of its own inside a live grant; what is handed to a grandmaster, each of its turns and
+/// each change of its capacity makes its history go on with just the events that it is, so that a
+/// CANCEL ends its grant; it signals the one reply to each Signaling with items and the CANCEL of
+/// each grant that it sheds, and nothing else; all messages are within the budget; each slave
+/// selects its best eligible master by a record of just what was delivered to it; the report says
+/// so of each line that is taken, and nothing else; and datagrams are numbered in the order in which
+/// they are sent, and delivered as they were.
 pub fn headline()
     ensures within_capacity { (stock : Stock) (script : List ℕ) → WithinCapacity stock script }
     ensures granted_by_room { (stock : Stock) (script : List ℕ) → DecidesByRoom stock script }
     ensures own_periods { (stock : Stock) (script : List ℕ) → PaysPeriods stock script }
+    ensures recorded { (stock : Stock) (script : List ℕ) → RecordsEvents stock script }
+    ensures signalled { (stock : Stock) (script : List ℕ) → SignalsAnswers stock script }
     ensures within_budget { (stock : Stock) (script : List ℕ) → WithinBudget stock script }
     ensures best_master { (stock : Stock) (script : List ℕ) → SelectsBest stock script }
+    ensures delivered { (stock : Stock) (script : List ℕ) → RecordsDeliveries stock script }
     ensures says_so { (stock : Stock) (script : List ℕ) → SaysSo stock script }
     ensures datagrams { (stock : Stock) (script : List ℕ) → NumbersDatagrams stock script }
 {}
@@ -51,33 +53,4 @@ pub fn grandmasters()
     ensures messages { (stock : Stock) (script : List ℕ) (w : World) (ip : ℕ) (g : Grandmaster) →
         Reaches stock script w → node_at w.nodes ip ≡ Some (IsGrandmaster g)
         → AreMessagesSent w ip g }
-{}
-
-/// A grandmaster goes on with the events of each datagram that it is handed, with its turns and
-/// with its changes of capacity, and with nothing else: a command leaves every node as it is but
-/// the one that it addresses. A change of its clockClass is no event.
-pub fn events()
-    ensures datagram { (stock : Stock) (script : List ℕ) (w : World) (command : Command)
-        (d : Handed) (g : Grandmaster) →
-        Reaches stock script w → handed_by w command ≡ Some d →
-        node_at w.nodes d.node ≡ Some (IsGrandmaster g) →
-        GoesOn w command d.node g (events_of_datagram g.config d.at d.from d.octets) }
-    ensures turn { (stock : Stock) (script : List ℕ) (w : World) (ip : ℕ) (g : Grandmaster)
-        (t table : ℕ) →
-        Reaches stock script w → node_at w.nodes ip ≡ Some (IsGrandmaster g) →
-        GoesOn w (commands.Turn t ip table) ip g ((t, events.Turn table) ∷ []) }
-    ensures capacity { (stock : Stock) (script : List ℕ) (w : World) (ip : ℕ) (g : Grandmaster)
-        (t capacity : ℕ) →
-        Reaches stock script w → node_at w.nodes ip ≡ Some (IsGrandmaster g) →
-        GoesOn w (commands.Capacity t ip capacity) ip g ((t, events.Resize capacity) ∷ []) }
-    ensures class { (stock : Stock) (script : List ℕ) (w : World) (ip : ℕ) (g : Grandmaster)
-        (class : ℕ) →
-        Reaches stock script w → node_at w.nodes ip ≡ Some (IsGrandmaster g) →
-        (done : Done) × (step w (commands.Class ip class) ≡ Ok done)
-        × (node_at done.world.nodes ip
-        ≡ Some (IsGrandmaster (record g { config = record (g.config) { class = class } }))) }
-    ensures others { (stock : Stock) (script : List ℕ) (w : World) (command : Command) (done : Done)
-        (ip : ℕ) →
-        Reaches stock script w → step w command ≡ Ok done → addressed w command ≢ Some ip →
-        node_at done.world.nodes ip ≡ node_at w.nodes ip }
 {}
