@@ -6,10 +6,7 @@ use Rattle.std.specs.Option.{unwrap_or}
 use Rattle.ptu_lines.specs.Script.{ScriptLine, Whole, Refused}
 use Rattle.ptu_report.specs.declared.ending.Ending.TheVariants as endings
 use Rattle.ptu_report.specs.Rules.{Outcome, Goes, Refuses, closing, ending_after, ending_at, meaning_after, meaning_at, texts_at, texts_until}
-use Rattle.ptu_laws.proofs.{Budget.{count-sound}, Capacity.{held-sound}}
-use Rattle.ptu_laws.proofs.Payments.{message-paid, payments-apart}
-use Rattle.ptu_laws.proofs.Stands.{follow-stand, stand-from}
-use Rattle.ptu_laws.specs.Sound.{IsSound}
+use Rattle.ptu_laws.specs.Promises.{KeepsPromises}
 use Rattle.ptu_units.specs.Log.{IsLogOf}
 use Rattle.ptu_history.specs.{declared.client.Client.{Client}, History.{Record}}
 use Rattle.ptu_trail.specs.declared.cause.Shedding.{Shedding}
@@ -308,31 +305,25 @@ refused_read r before number cause (Whole text ∷ rest) e = at (line_read r (be
         ap (λ ts. ts ++ texts_until audit_rules (closing audit_rules) after (before + 1) rest) (taken r (before + 1) text after texts (line_of text) refl is).quiet ∙ ih after f
 
 -- an auditor kept to its promises
-pub promises : Laws → ((opening : ℕ) (trail : List Record) → AreInRange trail → IsFaultless opening trail → IsSound opening trail)
+pub promises : Laws → ((opening : ℕ) (trail : List Record) → AreInRange trail → IsFaultless opening trail → KeepsPromises opening trail)
     → (capacity : ℕ) (lines : List Line) → AreLines lines → groups_finding capacity [] (groups_of lines) ≡ None → AllKeepPromises capacity lines
-promises laws sound capacity lines h none g =
+promises laws kept capacity lines h none g =
     let trail = trail_of g (acts_in (groups_of lines)) in
     let f : IsFaultless capacity trail = faultless laws capacity (groups_of lines) none g in
     let ranges : AreInRange trail = trail_in g (acts_in (groups_of lines)) (acts_in_range (groups_of lines) (groups_in lines h)) in
-    let s : IsSound capacity trail = sound capacity trail ranges f in
-    record {
-      within_capacity = λ x. held-sound capacity trail s x;
-      paid = λ before after x c k is. message-paid trail (follow-stand capacity [] trail (stand-from capacity trail s)) before after x c k is;
-      disjoint = payments-apart trail (follow-stand capacity [] trail (stand-from capacity trail s));
-      within_budget = λ x. count-sound capacity trail s x;
-    }
+    kept capacity trail ranges f
 
 -- the answer is yes exactly where the report is sound, and then they kept their promises
-pub answer_kept : Laws → ((opening : ℕ) (trail : List Record) → AreInRange trail → IsFaultless opening trail → IsSound opening trail)
+pub answer_kept : Laws → ((opening : ℕ) (trail : List Record) → AreInRange trail → IsFaultless opening trail → KeepsPromises opening trail)
     → (capacity : ℕ) (input : List ℕ) (lines : List Line) (answer : Answer) → report_lines capacity input ≡ Some lines → AreLines lines → answer ≡ answer_of capacity lines → IsKept capacity input (Ok answer)
-answer_kept laws sound capacity input lines (answers.Yes granted sent) is h e =
+answer_kept laws kept capacity input lines (answers.Yes granted sent) is h e =
     let found = none (groups_finding capacity [] (groups_of lines)) e in
-    (lines, is, sound_from laws capacity (groups_of lines) found, promises laws sound capacity lines h found)
+    (lines, is, sound_from laws capacity (groups_of lines) found, promises laws kept capacity lines h found)
   where
     none : (f : Option Finding) → answers.Yes granted sent ≡ answer_by f (acts_in (groups_of lines)) → f ≡ None
     none None k = refl
     none (Some finding) k = absurd cc
-answer_kept laws sound capacity input lines (answers.No line cause) is h e =
+answer_kept laws kept capacity input lines (answers.No line cause) is h e =
     (lines, is, λ s. found (groups_finding capacity [] (groups_of lines)) e (none_from laws capacity (groups_of lines) s))
   where
     found : (f : Option Finding) → answers.No line cause ≡ answer_by f (acts_in (groups_of lines)) → f ≡ None → ⊥

@@ -1,17 +1,12 @@
 -- What an audit answers, and what a report keeps to that it answers yes.
-use Rattle.std.specs.Prelude.{◌≡◌, ℕ, ◌≤◌, ◌*◌, List, [], ◌++◌, ◌∷◌, Option, Some, option_map, Result, Ok, Err, ℤ, ◌<◌}
-use Rattle.std.specs.List.{AllPairs}
+use Rattle.std.specs.Prelude.{◌≡◌, ℕ, List, [], ◌∷◌, Option, Some, option_map, Result, Ok, Err}
 use Rattle.ptu_outside.specs.Handing.{HasPut}
 use Rattle.ptu_lines.specs.Script.{script_lines}
 use Rattle.ptu_report.specs.declared.fault.RunFault.{RunFault}
 use Rattle.ptu_report.specs.declared.fault.RunFault.TheVariants.{Line as Refused, Read, Write, OutOfMemory}
 use Rattle.ptu_report.specs.declared.ending.Ending.TheVariants as endings
 use Rattle.ptu_report.specs.Rules.{ending_of, meaning_of}
-use Rattle.ptu_units.specs.declared.kind.Kind.{Kind}
-use Rattle.ptu_history.specs.{declared.client.Client.{Client}, History.{Record, Granted, Sent}}
-use Rattle.ptu_history.specs.Held.{budget, count, force, held, payment, payments}
-use Rattle.ptu_history.specs.Live.{last_decision}
-use Rattle.ptu_laws.specs.Paid.{IsBefore, IsPaid}
+use Rattle.ptu_laws.specs.Promises.{KeepsPromises}
 use Rattle.ptu_audit.specs.declared.answer.Answer.{Answer}
 use Rattle.ptu_audit.specs.declared.answer.Answer.TheVariants as answers
 use Rattle.ptu_audit.specs.declared.{answer.AuditCause.{AuditCause}, line.Line.{Line}}
@@ -42,16 +37,6 @@ AnswerIsWritten written handed old new (Err (Refused number cause)) =
 AnswerIsWritten written handed old new (Err Read) = Unit {0}
 AnswerIsWritten written handed old new (Err Write) = Unit {0}
 AnswerIsWritten written handed old new (Err OutOfMemory) = Unit {0}
-
--- a grandmaster that began with this capacity kept its promises: what it held was within the capacity in force, each
--- message was paid for by a period of its own in a live grant, and all messages were within the budget
-pub record KeepsPromises (capacity : ℕ) (trail : List Record) : Type 0 where
-  pub within_capacity : (x : ℕ) → held trail x ≤ force capacity trail x
-  pub paid : (before after : List Record) (x : ℕ) (c : Client) (k : Kind) → trail ≡ before ++ Sent x c k ∷ after →
-      (n : ℕ) × (l : ℤ) × (u : ℕ) × (last_decision before c k ≡ Some (Granted n c k l u)) × (x < u)
-      × IsPaid trail l (payment before x c k)
-  pub disjoint : AllPairs IsBefore (payments trail)
-  pub within_budget : (x : ℕ) → count trail x * (16 * 1000000000) ≤ budget capacity trail x
 
 -- each grandmaster of these lines kept its promises
 abbrev pub AllKeepPromises : ℕ → List Line → Type 0

@@ -3,3 +3,4 @@ pub mod Paid
 pub mod Changes
 pub mod Part
 pub mod Sound
+pub mod Promises

@@ -17,7 +17,7 @@ ghost use Rattle.ptu_history.specs.Core.{core_moment, core_step, core_history, c
 ghost use Rattle.ptu_history.specs.Held.{budget, count, force, held, payment, payments};
 ghost use Rattle.ptu_laws.specs.{Granted.{is_granted, is_short}, Changes.{IsUpTo, is_resize}};
 ghost use Rattle.ptu_laws.specs.{Paid.{IsBefore, IsPaid}, Sound.{IsSound, MayStand, last_sent}};
-ghost use Rattle.ptu_laws.specs.Part.{part_of_clients, part_of_table};
+ghost use Rattle.ptu_laws.specs.{Part.{part_of_clients, part_of_table}, Promises.{KeepsPromises}};
 
 /// At every moment the rates that are held sum to at most the capacity in force.
 pub fn total_within_capacity()
@@ -167,4 +167,11 @@ pub fn tables_apart()
 pub fn moments_within_handed()
     ensures within { (config : Config) (events : List (ℕ × Event)) (x : ℕ) →
         All (λ e. e.0 ≤ x) events → All (λ r. moment_of r ≤ x) (core_history config events) }
+{}
+
+/// Every history keeps the promises of a grandmaster that began with the configuration's capacity:
+/// capacity, payments and budget, in one fact.
+pub fn promises()
+    ensures kept { (config : Config) (events : List (ℕ × Event)) →
+        KeepsPromises config.capacity (core_history config events) }
 {}

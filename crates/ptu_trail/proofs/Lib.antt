@@ -6,3 +6,4 @@ mod Knowing
 mod Living
 mod Sheds
 mod Sound
+mod Starting

@@ -1,45 +1,35 @@
 //! Laws of trails. Each function does nothing: its contract is the law, which holds of every list
 //! of records, wherever it comes from.
 
-ghost use Rattle.std.specs.Prelude.{◌≡◌, ◌≢◌, ℕ, ◌+◌, ◌*◌, ◌≤◌, ◌<◌, ◌^◌, false, List, [], ◌∷◌, ◌++◌, map, ℤ, IsTrue, Option, None, Some};
-ghost use Rattle.std.specs.List.{All, AllPairs, list_any};
+ghost use Rattle.std.specs.Prelude.{◌≡◌, ◌≢◌, ℕ, ◌+◌, ◌*◌, ◌≤◌, ◌<◌, ◌^◌, false, List, [], ◌∷◌, ◌++◌, map, ℤ, None, Some};
+ghost use Rattle.std.specs.List.{All};
 ghost use Rattle.ptu_units.specs.{declared.kind.Kind.{Kind}, declared.stamp.Stamp.{Stamp}};
 ghost use Rattle.ptu_history.specs.declared.client.Client.{Client};
-ghost use Rattle.ptu_history.specs.History.{Record, Granted, Capacity, Sent};
-ghost use Rattle.ptu_history.specs.{Live.{last_decision, live}, Lawful.{earliest}};
-ghost use Rattle.ptu_history.specs.Held.{budget, count, force, held, payment, payments};
-ghost use Rattle.ptu_laws.specs.{Paid.{IsBefore, IsPaid}, Sound.{IsSound}};
+ghost use Rattle.ptu_history.specs.History.{Record, Capacity, Sent};
+ghost use Rattle.ptu_history.specs.Lawful.{earliest};
+ghost use Rattle.ptu_history.specs.Held.{payments};
+ghost use Rattle.ptu_laws.specs.{Paid.{IsPaid}, Promises.{KeepsPromises}, Sound.{IsSound}};
 ghost use Rattle.ptu_trail.specs.declared.cause.NoCause.TheVariants as causes;
 ghost use Rattle.ptu_trail.specs.declared.cause.Shedding.{Shedding};
 ghost use Rattle.ptu_trail.specs.Faults.{AreInRange, IsFaultless, decided_clients, fault_of, first_fault, is_shedding, message_to, record_of};
 
-/// A trail without a fault, whose grants' logarithms are in range, is sound: the rates held sum to
-/// at most the capacity in force at every moment, each message stands inside a live grant, not
-/// before its own period, and pays one whole period of held time, all payments of one client and
-/// kind are disjoint, and up to each moment all messages are within the budget.
+/// A trail without a fault, whose grants' logarithms are in range, is sound, and so keeps the
+/// promises: the rates held sum to at most the capacity in force at every moment, each message stands
+/// inside a live grant, at or after its start and not before its own period, and pays one whole
+/// period of held time, all payments of one client and kind are disjoint, and up to each moment all
+/// messages are within the budget.
 pub fn faultless_trails()
     ensures sound { (opening : ℕ) (trail : List Record) →
         AreInRange trail → IsFaultless opening trail → IsSound opening trail }
-    ensures within_capacity { (opening : ℕ) (trail : List Record) (x : ℕ) →
-        AreInRange trail → IsFaultless opening trail → held trail x ≤ force opening trail x }
-    ensures live { (opening : ℕ) (trail before after : List Record) (x : ℕ) (c : Client)
+    ensures promises { (opening : ℕ) (trail : List Record) →
+        AreInRange trail → IsFaultless opening trail → KeepsPromises opening trail }
+    ensures not_early { (opening : ℕ) (trail before after : List Record) (x : ℕ) (c : Client)
         (k : Kind) →
         AreInRange trail → IsFaultless opening trail → trail ≡ before ++ Sent x c k ∷ after →
-        IsTrue (live before x c k) × (earliest before c k ≤ x) }
-    ensures paid { (opening : ℕ) (trail before after : List Record) (x : ℕ) (c : Client)
-        (k : Kind) →
-        AreInRange trail → IsFaultless opening trail → trail ≡ before ++ Sent x c k ∷ after →
-        (n : ℕ) × (l : ℤ) × (u : ℕ) × (last_decision before c k ≡ Some (Granted n c k l u))
-        × (x < u)
-        × IsPaid trail l (payment before x c k) }
+        earliest before c k ≤ x }
     ensures all_paid { (opening : ℕ) (trail : List Record) →
         AreInRange trail → IsFaultless opening trail →
         All (λ p. (l : ℤ) × IsPaid trail l p) (payments trail) }
-    ensures disjoint { (opening : ℕ) (trail : List Record) →
-        AreInRange trail → IsFaultless opening trail → AllPairs IsBefore (payments trail) }
-    ensures within_budget { (opening : ℕ) (trail : List Record) (x : ℕ) →
-        AreInRange trail → IsFaultless opening trail →
-        count trail x * (16 * 1000000000) ≤ budget opening trail x }
 {}
 
 /// A trail without a fault stays so with more records that have none. A shedding stands behind its

@@ -1,7 +1,8 @@
 -- Every script keeps to the headline.
 use Rattle.std.proofs.Common.{ℕ, List}
 use Rattle.ptu_gm_messages.specs.Deciding.{client_of}
-use Rattle.ptu_world.specs.{Deeds.{Grandmaster}, Grandmasters.{opening}, Promises.{KeepsPromises}}
+use Rattle.ptu_laws.specs.Promises.{KeepsPromises}
+use Rattle.ptu_world.specs.{Deeds.{Grandmaster}, Grandmasters.{opening}}
 use Rattle.ptu_world.specs.Headline.{DecidesByRoom, HasGrandmaster, NumbersDatagrams, PaysPeriods, RecordsDeliveries, RecordsEvents, SaysSo, SelectsBest, SignalsAnswers, WithinBudget, WithinCapacity}
 use Rattle.ptu_world.specs.{Sayings.{moment_handed}, World.{World, Stock}}
 use Rattle.ptu_world.proofs.{Deciding.{is_answered, is_decided}, Numbering.{all_numbered, delivers}}
@@ -14,7 +15,7 @@ use Rattle.ptu_world.proofs.Signalling.{classed, replied, resized, turned, unhea
 use Rattle.ptu_world.proofs.Standing.{all_stand, grandmaster_runs, messages_sent}
 
 module _ (stock : Stock) (script : List ℕ) (w : World) (ip : ℕ) (g : Grandmaster) (h : HasGrandmaster stock script w ip g) where
-  keeps : KeepsPromises (opening g) g.past
+  keeps : KeepsPromises g.capacity g.past
   keeps = run_keeps ip g (grandmaster_runs stock script w ip g h.reached h.node)
 
 pub within_capacity : (stock : Stock) (script : List ℕ) → WithinCapacity stock script

@@ -8,7 +8,7 @@ use Rattle.ptu_history.specs.declared.client.Client.{Client}
 use Rattle.ptu_history.specs.{Core.{history_after}, Live.{live}}
 use Rattle.ptu_history.specs.Events as events
 use Rattle.ptu_history.specs.{Held.{budget, count, force, held, payments}, History.{Record}}
-use Rattle.ptu_laws.specs.Paid.{IsBefore}
+use Rattle.ptu_laws.specs.{Paid.{IsBefore}, Promises.{IsSentAfter, PaysItsPeriod}}
 use Rattle.ptu_gm_messages.specs.declared.item.Item.{Item}
 use Rattle.ptu_gm_messages.specs.declared.item.Item.TheVariants as items
 use Rattle.ptu_gm_messages.specs.declared.heard.Heard.TheVariants as heard
@@ -36,7 +36,7 @@ use Rattle.ptu_world.specs.Grandmasters.{opening as opening_of}
 use Rattle.ptu_world.specs.World.{World, Stock, Done, judges_of, node_at, opening, step}
 use Rattle.ptu_world.specs.Report.{report_lines}
 use Rattle.ptu_world.specs.Reached.{Reaches, done_by_line, lines_said, said_of}
-use Rattle.ptu_world.specs.Promises.{AreMessagesSent, GoesOn, Handed, IsAnswered, IsDecidedByRoom, IsHanded, IsSentAfter, PaysItsPeriod, Request, addressed, handed_by}
+use Rattle.ptu_world.specs.Promises.{AreMessagesSent, GoesOn, Handed, IsAnswered, IsDecidedByRoom, IsHanded, Request, addressed, handed_by}
 use Rattle.ptu_world.specs.Receiving.{AreJudged, Enters, Ignores, IsOwn, is_received, received_by}
 use Rattle.ptu_world.specs.Signaling.{AnswerEach, Signals, cancels_of, is_sent_by, shed_by}
 use Rattle.ptu_world.specs.Sayings.{IsBestChoice, IsDelivered, NamesSelection, is_event, moment_handed, numbered, selected_in, sent_in, slave_of}

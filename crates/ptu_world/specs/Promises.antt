@@ -1,7 +1,7 @@
--- What every grandmaster of a script keeps to. The budget and the payments are the project's own choice; requests are those
--- of IEEE 1588-2019 clause 16.1.
-use Rattle.std.specs.Prelude.{◌≡◌, ◌↔◌, ℕ, ◌+◌, ◌*◌, ◌/◌, ◌%◌, ◌<◌, ◌≤◌, false, ◌==◌, if◌then◌else◌, filter_map, slice_index, List, [], ◌∷◌, ◌++◌, length, take, drop, ℤ, Option, Some, None, option_map, Ok, Err, IsTrue}
-use Rattle.std.specs.List.{AllPairs, Contains, cons_option}
+-- What the grandmasters of a script do: the messages that they send, the events that they take, and how they decide on requests
+-- (IEEE 1588-2019 clause 16.1).
+use Rattle.std.specs.Prelude.{◌≡◌, ◌↔◌, ℕ, ◌+◌, ◌/◌, ◌%◌, ◌<◌, ◌≤◌, false, ◌==◌, if◌then◌else◌, filter_map, slice_index, List, [], ◌∷◌, ◌++◌, length, take, drop, Option, Some, None, option_map, Ok, Err, IsTrue}
+use Rattle.std.specs.List.{cons_option}
 use Rattle.ptu_units.specs.declared.kind.{Kind.{Kind}, Kind.TheVariants.{DelayResp}}
 use Rattle.ptu_units.specs.{Kind.{code_of}, Log.{rate_of}}
 use Rattle.ptu_octets.specs.Number.{octets_of}
@@ -9,11 +9,11 @@ use Rattle.ptu_header.specs.{declared.header.Header.{Header}, Sent.{sent_identit
 use Rattle.ptu_tlvs.specs.declared.tlv.{Ask.{Ask}, Tlv.{Tlv}}
 use Rattle.ptu_messages.specs.Sent.{sent_stamp}
 use Rattle.ptu_history.specs.{declared.client.Client.{Client}, Core.{core_history, history_after}}
-use Rattle.ptu_history.specs.{Events.{Event}, Held.{budget, count, force, held, payment, payments}}
-use Rattle.ptu_history.specs.History.{Record, Granted, Sent, capacity_in_force}
-use Rattle.ptu_history.specs.{Live.{last_decision, live}, Runs.{sequence_number}}
-use Rattle.ptu_history.specs.Verdict.{Config, Verdict, Outside, OutsideCause, granted_seconds, others, profile, verdict}
-use Rattle.ptu_laws.specs.{Granted.{is_granted, is_short}, Paid.{IsBefore, IsPaid}}
+use Rattle.ptu_history.specs.{Events.{Event}}
+use Rattle.ptu_history.specs.History.{Record, Sent, capacity_in_force}
+use Rattle.ptu_history.specs.{Runs.{sequence_number}}
+use Rattle.ptu_history.specs.Verdict.{Verdict, Outside, OutsideCause, granted_seconds, others, profile, verdict}
+use Rattle.ptu_laws.specs.{Granted.{is_granted, is_short}}
 use Rattle.ptu_profile.specs.{Grandmaster.{IsWithinLimits}, Limits.{IsCapacity}}
 use Rattle.ptu_gm_messages.specs.declared.item.Item.{Item}
 use Rattle.ptu_gm_messages.specs.declared.item.Item.TheVariants as items
@@ -30,7 +30,7 @@ use Rattle.ptu_world.specs.Deeds.{Grandmaster, IsGrandmaster}
 use Rattle.ptu_world.specs.Grandmasters.{opening, verdict_said}
 use Rattle.ptu_world.specs.World.{World, Done, datagram_numbered, sent_from, step, node_at}
 
--- ---- capacity, payment and budget
+-- ---- grandmasters
 
 -- a grandmaster stands at its address, within its limits, and its history is that of some events
 pub record IsRun (ip : ℕ) (gm : Grandmaster) : Type 0 where
@@ -39,30 +39,6 @@ pub record IsRun (ip : ℕ) (gm : Grandmaster) : Type 0 where
   pub capacity : IsCapacity gm.capacity
   pub events : List (ℕ × Event)
   pub past : gm.past ≡ core_history (opening gm) events
-
--- a message stands in a history, behind these records
-abbrev pub IsSentAfter : List Record → List Record → ℕ → Client → Kind → Type 0
-IsSentAfter history before x c k = (after : List Record) × (history ≡ before ++ Sent x c k ∷ after)
-
--- a message is sent inside a grant that is live at its moment, and pays with one whole period of held time, its own
-pub record PaysItsPeriod (history before : List Record) (x : ℕ) (c : Client) (k : Kind) : Type 0 where
-  pub live : IsTrue (live before x c k)
-  pub start : ℕ
-  pub log : ℤ
-  pub until : ℕ
-  pub grant : last_decision before c k ≡ Some (Granted start c k log until)
-  pub inside : (start ≤ x) × (x < until)
-  pub paid : IsPaid history log (payment before x c k)
-  pub own : Contains (payments history) (payment before x c k)
-
--- of a grandmaster that is opened with this, at every moment: the rates that are held sum to at most the capacity in
--- force; each message pays its period, and no two of one client and kind pay with the same time; and the messages so far,
--- at sixteen seconds of one sixteenth each, are at most the budget
-pub record KeepsPromises (config : Config) (history : List Record) : Type 0 where
-  pub within : (x : ℕ) → held history x ≤ force config.capacity history x
-  pub paid : (before : List Record) (x : ℕ) (c : Client) (k : Kind) → IsSentAfter history before x c k → PaysItsPeriod history before x c k
-  pub apart : AllPairs IsBefore (payments history)
-  pub budget : (x : ℕ) → count history x * (16 * 1000000000) ≤ budget config.capacity history x
 
 -- ---- messages
 

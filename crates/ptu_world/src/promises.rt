@@ -7,8 +7,8 @@ ghost use Rattle.ptu_world.specs.World.{World, Stock, opening, node_at};
 ghost use Rattle.ptu_world.specs.Facts.{world_of};
 ghost use Rattle.ptu_world.specs.Headline.{DecidesByRoom, NumbersDatagrams, PaysPeriods, RecordsDeliveries, RecordsEvents, SaysSo, SelectsBest, SignalsAnswers, WithinBudget, WithinCapacity};
 ghost use Rattle.ptu_world.specs.Reached.{Reaches};
-ghost use Rattle.ptu_world.specs.Promises.{AreMessagesSent, IsRun, KeepsPromises};
-ghost use Rattle.ptu_world.specs.Grandmasters as gm;
+ghost use Rattle.ptu_world.specs.Promises.{AreMessagesSent, IsRun};
+ghost use Rattle.ptu_laws.specs.Promises.{KeepsPromises};
 
 /// The headline: over every script, at every moment the granted rates of each grandmaster sum to at
 /// most its capacity; each REQUEST that a datagram brings is granted exactly where its rate fits
@@ -49,7 +49,7 @@ pub fn grandmasters()
         Reaches stock script w → node_at w.nodes ip ≡ Some (IsGrandmaster g) → IsRun ip g }
     ensures promises { (stock : Stock) (script : List ℕ) (w : World) (ip : ℕ) (g : Grandmaster) →
         Reaches stock script w → node_at w.nodes ip ≡ Some (IsGrandmaster g) →
-        KeepsPromises (gm.opening g) g.past }
+        KeepsPromises g.capacity g.past }
     ensures messages { (stock : Stock) (script : List ℕ) (w : World) (ip : ℕ) (g : Grandmaster) →
         Reaches stock script w → node_at w.nodes ip ≡ Some (IsGrandmaster g)
         → AreMessagesSent w ip g }

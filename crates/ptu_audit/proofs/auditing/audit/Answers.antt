@@ -21,7 +21,7 @@ returns-in-Ok-answer-clause-promises g c = λ input is.
     let read = whole_read (opening c.args.capacity) 0 _ (script_lines input) (sym reported.ends) in
     let last = (rw c.in-Ok.is at c.run.ensures.last) (opening c.args.capacity) c.new-auditor.ensures input is in
     let laws = c.faultless_so_far.ensures in
-    answer_kept (record { none = laws.none; one_more = laws.one_more; change = laws.change; first = laws.first }) c.faultless_trails.ensures.sound c.args.capacity input read.last.lines c.in-Ok-answer.answer
+    answer_kept (record { none = laws.none; one_more = laws.one_more; change = laws.change; first = laws.first }) c.faultless_trails.ensures.promises c.args.capacity input read.last.lines c.in-Ok-answer.answer
     (lines_are c.args.capacity input read c.run.new.reporter c.in-Ok-answer.answer c.in-Ok-answer.ensures.answer last) (read.in_range tt)
     (answer_is c.args.capacity input read c.run.new.reporter c.in-Ok-answer.answer c.in-Ok-answer.ensures.answer last)
 
