@@ -6,3 +6,4 @@ pub mod Texts
 pub mod Reading
 pub mod Standing
 pub mod Audited
+pub mod Samples

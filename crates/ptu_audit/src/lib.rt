@@ -7,6 +7,7 @@ mod answered;
 mod auditing;
 mod auditor;
 mod deed;
+pub mod examples;
 mod groups;
 pub mod laws;
 mod ledger;
