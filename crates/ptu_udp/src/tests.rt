@@ -2,7 +2,7 @@ use crate::pause::Pause;
 use crate::traffic::Traffic;
 use crate::{SysClock, UdpHost, UdpPort};
 use ptu_outside::{Channel, Clock, Host, Opened, Port};
-use std::net::Net;
+use std::net::{Net, UdpSocket};
 use std::process::Abort;
 use std::test::Fail;
 use std::time::{Duration, Instant};
@@ -16,7 +16,7 @@ fn open<R: Net + time::Clock + Copy + Send>(
     rt: &impl Abort,
     host: &mut UdpHost<R>,
     first: u16,
-) -> Opened<UdpPort<R>, SysClock<R>> {
+) -> Opened<UdpPort<R, UdpSocket>, SysClock<R>> {
     for pair in 0..100 {
         let number = first.saturating_add(2 * pair);
         if let Ok(opened) = host.open(LOOPBACK, number, number.saturating_add(1)) {
@@ -112,10 +112,12 @@ fn the_clocks_count_nanoseconds_from_one_zero(rt: HostRuntime) -> Result<(), Fai
     let mut opened = open(&rt, &mut host, 21919);
     let mut last = 0;
     for _ in 0..1000 {
-        let now = opened.c0.now().nanos();
-        let then = opened.c5.now().nanos();
-        assert!(rt; last <= now && now <= then);
-        last = then;
+        let before = opened.c0.now().nanos();
+        assert!(rt; last <= before);
+        let (one, two) = (opened.c1.now().nanos(), opened.c2.now().nanos());
+        let (three, four) = (opened.c3.now().nanos(), opened.c4.now().nanos());
+        last = opened.c5.now().nanos();
+        assert!(rt; before <= one && one <= two && two <= three && three <= four && four <= last);
     }
     let before = Instant::now(&rt).expect(&rt, "the clock is read");
     let first = opened.c0.now().nanos();

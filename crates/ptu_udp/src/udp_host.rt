@@ -10,7 +10,7 @@ use ptu_units::OutOfMemory;
 use std::alloc::Global;
 use std::io;
 use std::marker::Model;
-use std::net::{Ipv4Addr, Net, SocketAddrV4};
+use std::net::{Ipv4Addr, Net, SocketAddrV4, UdpSocket};
 use std::time::{Clock, Instant};
 
 /// Opens UDP sockets at one address: ports 0 to 3 at UDP port numbers that are free, port 4 at
@@ -52,13 +52,17 @@ impl<R: Net + Clock + Copy> UdpHost<R> {
         number: u16,
         numbers: Numbers,
         pause: Option<Pause>,
-    ) -> io::Result<UdpPort<R>> {
+    ) -> io::Result<UdpPort<R, UdpSocket>> {
         let address = SocketAddrV4::new(Ipv4Addr::from(ip), number);
         let traffic = self.traffic.share()?;
         UdpPort::open(self.runtime, address, numbers, traffic, pause)
     }
 
-    fn open_all(&self, ip: u32, numbers: Numbers) -> io::Result<Opened<UdpPort<R>, SysClock<R>>> {
+    fn open_all(
+        &self,
+        ip: u32,
+        numbers: Numbers,
+    ) -> io::Result<Opened<UdpPort<R, UdpSocket>, SysClock<R>>> {
         let start = Instant::now(&self.runtime)?;
         let pause = Pause::new(self.traffic.share()?);
         Ok(Opened {
@@ -79,7 +83,7 @@ impl<R: Net + Clock + Copy> UdpHost<R> {
 }
 
 impl<R: Net + Clock + Copy + Send> Host for UdpHost<R> {
-    type P = UdpPort<R>;
+    type P = UdpPort<R, UdpSocket>;
 
     type C = SysClock<R>;
 
@@ -98,7 +102,7 @@ impl<R: Net + Clock + Copy + Send> Host for UdpHost<R> {
         ip: u32,
         event_port: u16,
         general_port: u16,
-    ) -> Result<Opened<UdpPort<R>, SysClock<R>>, Failed>
+    ) -> Result<Opened<UdpPort<R, UdpSocket>, SysClock<R>>, Failed>
         ensures opened { IfOk result (λ ports. IfSome None (λ told. ports ≡ told)) }
         ensures risen { OnErr result (HasRisen self.old self.new) }
         ensures quiet { OnOk result (self.new ≡ self.old) }
@@ -118,7 +122,7 @@ impl<R: Net + Clock + Copy + Send> Host for UdpHost<R> {
     }
 
     /// Closes the sockets.
-    fn close(&mut self, opened: Opened<UdpPort<R>, SysClock<R>>)
+    fn close(&mut self, opened: Opened<UdpPort<R, UdpSocket>, SysClock<R>>)
         ensures back { IfTold None (Some opened) }
         ensures quiet { self.new ≡ self.old }
     {

@@ -2,18 +2,16 @@ ghost use Rattle.std.specs.Prelude.{◌≡◌, ◌≤◌, ◌∷◌, [], None, t
 ghost use Rattle.ptu_outside.specs.Faults.{HasNotFallen, HasRisen, one_more};
 ghost use Rattle.ptu_outside.specs.Telling.{IfTold, IsEmptyTold, IsFirstTold, append_told, rest_told};
 
+use crate::calls::{send_patiently, take_whole};
 use crate::pause::Pause;
+use crate::socket::Socket;
 use crate::traffic::Traffic;
 use ptu_outside::{Channel, Failed, Port};
 use ptu_units::sizes::LONGEST_DATAGRAM;
 use std::io;
-use std::io::ErrorKind;
 use std::marker::Model;
 use std::net::{Ipv4Addr, Net, SocketAddr, SocketAddrV4, UdpSocket};
 use std::time::Clock;
-
-/// How many datagrams that are longer a call leaves out before it fails.
-const MOST_LEFT_OUT: u32 = 64;
 
 /// The UDP port numbers of the two channels.
 #[derive(Clone, Copy, Debug, PartialEq, Eq)]
@@ -23,18 +21,18 @@ pub(crate) struct Numbers {
 }
 
 /// A UDP socket as a port. No call of it waits, but for a short rest where the port rests and
-/// nothing is there to receive.
+/// nothing is there to receive, and for 50 ms at most where the system has no room for a datagram.
 #[derive(Drop)]
-pub struct UdpPort<R> {
+pub struct UdpPort<R, S> {
     runtime: R,
-    socket: UdpSocket,
+    socket: S,
     numbers: Numbers,
     traffic: Traffic,
     pause: Option<Pause>,
     faults: u64,
 }
 
-impl<R> Model for UdpPort<R> {
+impl<R, S> Model for UdpPort<R, S> {
     ghost use Rattle.std.specs.Prelude.{ℕ};
 
     ghost Value = { ℕ };
@@ -42,7 +40,7 @@ impl<R> Model for UdpPort<R> {
     ghost view = { λ p. p.faults };
 }
 
-impl<R: Net + Clock + Drop> UdpPort<R> {
+impl<R: Net + Clock + Drop> UdpPort<R, UdpSocket> {
     // A port at this address and UDP port number, 0 being one that is free. It sends to these
     // numbers, and rests where there is a pause to make.
     pub(crate) fn open(
@@ -51,54 +49,30 @@ impl<R: Net + Clock + Drop> UdpPort<R> {
         numbers: Numbers,
         traffic: Traffic,
         pause: Option<Pause>,
-    ) -> io::Result<UdpPort<R>> {
+    ) -> io::Result<UdpPort<R, UdpSocket>> {
         let socket = UdpSocket::bind(&runtime, SocketAddr::V4(address))?;
         socket.set_nonblocking(true)?;
-        Ok(UdpPort {
+        Ok(UdpPort::over(runtime, socket, numbers, traffic, pause))
+    }
+}
+
+impl<R: Clock + Drop, S: Socket> UdpPort<R, S> {
+    // A port over this socket.
+    pub(crate) fn over(
+        runtime: R,
+        socket: S,
+        numbers: Numbers,
+        traffic: Traffic,
+        pause: Option<Pause>,
+    ) -> UdpPort<R, S> {
+        UdpPort {
             runtime,
             socket,
             numbers,
             traffic,
             pause,
             faults: 0,
-        })
-    }
-
-    // The next datagram, or its front where it is longer than `buf`: its length there, and the
-    // sender. A receive that was interrupted is tried again.
-    fn take_next(&self, buf: &mut [u8; 2049]) -> io::Result<(usize, SocketAddr)>
-        ensures within { IfOk result (λ got. got.0 ≤ 2049) }
-    {
-        for _ in 0..u64::MAX {
-            match self.socket.recv_from(buf) {
-                Err(error) if error.kind() == ErrorKind::Interrupted => {}
-                other => return other,
-            }
         }
-        Err(ErrorKind::Interrupted.into())
-    }
-
-    // The next datagram of at most 2048 octets: its sender and its length. Longer ones are left
-    // out, up to 64 of them. `None` where nothing waits.
-    fn take_whole(&self, buf: &mut [u8; LONGEST_DATAGRAM]) -> Result<Option<(u32, usize)>, Failed>
-        ensures within { IfOk result (λ taken. IfSome taken (λ got. got.1 ≤ 2048)) }
-    {
-        // One octet more tells a longer datagram from one that fits.
-        let mut taken = [0; LONGEST_DATAGRAM + 1];
-        for _ in 0..MOST_LEFT_OUT {
-            match self.take_next(&mut taken) {
-                Ok((length, SocketAddr::V4(from))) => {
-                    self.traffic.note();
-                    if length <= LONGEST_DATAGRAM {
-                        buf[..length].copy_from_slice(&taken[..length]);
-                        return Ok(Some((from.ip().to_bits(), length)));
-                    }
-                }
-                Err(error) if error.kind() == ErrorKind::WouldBlock => return Ok(None),
-                Ok(_) | Err(_) => break,
-            }
-        }
-        Err(Failed)
     }
 
     // Nothing is there to receive.
@@ -111,7 +85,7 @@ impl<R: Net + Clock + Drop> UdpPort<R> {
     }
 }
 
-impl<R> UdpPort<R> {
+impl<R, S> UdpPort<R, S> {
     // Counts a fault.
     fn fail(&mut self) -> Failed
         ensures risen { HasRisen self.old self.new }
@@ -123,31 +97,28 @@ impl<R> UdpPort<R> {
     }
 }
 
-impl<R: Net + Clock + Drop> Port for UdpPort<R> {
+impl<R: Clock + Drop, S: Socket> Port for UdpPort<R, S> {
     ghost sent = { λ _. None };
 
     ghost waiting = { λ _. None };
 
     ghost faults = { λ p. p };
 
-    /// A send that was interrupted is tried again.
+    /// A send that was interrupted is tried again. Where the system has no room for the datagram,
+    /// the send waits for it, for 50 ms at most.
     fn send(&mut self, ip: u32, channel: Channel, bytes: &[u8]) -> Result<(), Failed> {
         let number = match channel {
             Channel::Event => self.numbers.event,
             Channel::General => self.numbers.general,
         };
         let to = SocketAddr::V4(SocketAddrV4::new(Ipv4Addr::from(ip), number));
-        for _ in 0..u64::MAX {
-            match self.socket.send_to(bytes, to) {
-                Ok(taken) if taken == bytes.len() => {
-                    self.traffic.note();
-                    return Ok(());
-                }
-                Err(error) if error.kind() == ErrorKind::Interrupted => {}
-                Ok(_) | Err(_) => break,
+        match send_patiently(&self.runtime, &mut self.socket, bytes, to) {
+            Ok(taken) if taken == bytes.len() => {
+                self.traffic.note();
+                Ok(())
             }
+            Ok(_) | Err(_) => Err(self.fail()),
         }
-        Err(self.fail())
     }
 
     /// A receive that was interrupted is tried again. A datagram of more than 2048 octets is left
@@ -156,7 +127,7 @@ impl<R: Net + Clock + Drop> Port for UdpPort<R> {
         &mut self,
         buf: &mut [u8; LONGEST_DATAGRAM],
     ) -> Result<Option<(u32, usize)>, Failed> {
-        match self.take_whole(buf) {
+        match take_whole(&mut self.socket, &self.traffic, buf) {
             Ok(Some(got)) => Ok(Some(got)),
             Ok(None) => {
                 self.rest();
