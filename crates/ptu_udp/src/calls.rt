@@ -91,7 +91,7 @@ pub(crate) fn send_patiently<R: Clock, S: Socket>(
     bytes: &[u8],
     to: SocketAddr,
 ) -> io::Result<usize> {
-    let mut began = None;
+    let mut began: Option<Instant> = None;
     for _ in 0..u64::MAX {
         match socket.send_to(bytes, to) {
             Err(error) if error.kind() == ErrorKind::Interrupted => {}
