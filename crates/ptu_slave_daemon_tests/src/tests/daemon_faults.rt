@@ -164,19 +164,6 @@ fn arrivals(alloc: Global, datagrams: &[&str]) -> Result<Vec<Arrival>, Fail>
     }
 }
 
-// A port at which these datagrams wait, with room for what a slave sends, whose calls fail so.
-fn port(alloc: Global, waiting: &[&str], sends: &[u64], receives: &[u64]) -> Result<MemPort, Fail> {
-    let waiting = arrivals(alloc, waiting)?;
-    let mut port = MemPort::new(
-        alloc,
-        waiting,
-        sends.to_vec(alloc)?,
-        receives.to_vec(alloc)?,
-    );
-    port.reserve(8, 1024)?;
-    Ok(port)
-}
-
 fn clock(alloc: Global, seconds: &[u64]) -> Result<MemClock, Fail> {
     let mut moments = Vec::new(alloc);
     for second in seconds {
@@ -200,9 +187,14 @@ fn assert_sent(rt: &impl Abort, alloc: Global, port: &MemPort, sent: &[&str]) ->
 
 // The host of a case.
 fn host(alloc: Global, case: &Case) -> Result<MemHost, Fail> {
-    let p4 = port(alloc, case.general, case.sends, case.general_receives)?;
-    let p5 = port(alloc, case.event, &[], case.event_receives)?;
+    let at_general = arrivals(alloc, case.general)?;
+    let at_event = arrivals(alloc, case.event)?;
+    let sends = case.sends.to_vec(alloc)?;
+    let general_receives = case.general_receives.to_vec(alloc)?;
+    let event_receives = case.event_receives.to_vec(alloc)?;
     let clock = clock(alloc, case.seconds)?;
+    let p4 = MemPort::new(alloc, at_general, sends, general_receives);
+    let p5 = MemPort::new(alloc, at_event, Vec::new(alloc), event_receives);
     Ok(host_at(alloc, clock, p4, p5, false))
 }
 

@@ -111,13 +111,6 @@ pub(crate) fn host_at(
     MemHost::new(opened, fails)
 }
 
-// A port by which one datagram may be sent, at which this one waits.
-fn port(alloc: Global, text: &str, failing: Vec<u64>) -> Result<MemPort, Fail> {
-    let mut port = MemPort::new(alloc, waiting(alloc, text)?, Vec::new(alloc), failing);
-    port.reserve(1, 64)?;
-    Ok(port)
-}
-
 // Runs a slave for so many rounds, and compares what it writes and sends.
 fn assert_output(
     rt: &impl Abort,
@@ -184,8 +177,11 @@ const ROWS: [Row; 3] = [
 
 // A host at whose ports these datagrams wait, where this receive of the general channel fails.
 fn host_with(alloc: Global, general: &str, event: &str, failing: u64) -> Result<MemHost, Fail> {
-    let p4 = port(alloc, general, vec![in alloc; failing]?)?;
-    let p5 = port(alloc, event, Vec::new(alloc))?;
+    let at_general = waiting(alloc, general)?;
+    let at_event = waiting(alloc, event)?;
+    let receives = vec![in alloc; failing]?;
+    let p4 = MemPort::new(alloc, at_general, Vec::new(alloc), receives);
+    let p5 = MemPort::new(alloc, at_event, Vec::new(alloc), Vec::new(alloc));
     Ok(host(alloc, p4, p5))
 }
 
