@@ -1,5 +1,5 @@
 use Rattle.ptu_shared.specs.Opening.{untold_port}
-use Rattle.ptu_lease_tests.proofs.tests.shared_held.hold_beside.Given as goal
+use Rattle.ptu_shared_tests.proofs.tests.shared_held.hold_beside.Given as goal
 
 abbrev pub ghosts-play_held-L-Ledger : goal.ghosts-play_held-L-Ledger
 ghosts-play_held-L-Ledger g a = record { name = a.blanks.rates.name; parts = a.blanks.rates.parts }

@@ -1,5 +1,5 @@
 use Rattle.ptu_shared.specs.Opening.{idle_port}
-use Rattle.ptu_lease_tests.proofs.tests.shared.run.Given as goal
+use Rattle.ptu_shared_tests.proofs.tests.shared.run.Given as goal
 
 abbrev pub ghosts-play-L-Ledger : goal.ghosts-play-L-Ledger
 ghosts-play-L-Ledger g a = record { name = a.blanks.rates.name; parts = a.blanks.rates.parts }

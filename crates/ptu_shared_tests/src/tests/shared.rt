@@ -1,4 +1,4 @@
-ghost use Rattle.std.specs.Prelude.{◌≡◌, ◌≤◌, ◌<◌, ℕ, [], None, IfOk};
+ghost use Rattle.std.specs.Prelude.{◌≡◌, ◌≤◌, ◌<◌, ℕ};
 ghost use Rattle.ptu_profile.specs.Limits.{IsCapacity};
 ghost use Rattle.ptu_shared.specs.{Blanks.{IsBlankOf}, Opening.{idle_port}};
 
@@ -91,15 +91,6 @@ pub(crate) fn turn<P: Port + Send, L: Rates, G: Ledger, R: Ledger, W: Wait + Abo
 {
     let turned = shared.turn(rt, &CONFIG, table, moment(rt, t));
     (turned.sent, turned.failed)
-}
-
-// A port in memory with room.
-fn roomy(alloc: Global) -> Result<MemPort, Fail>
-    ensures { IfOk result (λ port. (port.waiting ≡ []) × (port.faults ≡ 0)) }
-{
-    let mut port = samples::idle_port(alloc);
-    port.reserve(4, 4 * 64)?;
-    Ok(port)
 }
 
 // What happens to tables in a capacity and from seats, and what it comes to.
@@ -451,8 +442,8 @@ where
     requires seats { (1 ≤ seats) × (seats ≤ 64) × (seats ≡ L.seats) }
     requires ports { (i : ℕ) → L.opened i ≡ idle_port }
 {
-    let (p0, p1) = (roomy(alloc)?, roomy(alloc)?);
-    let (p2, p3) = (roomy(alloc)?, roomy(alloc)?);
+    let (p0, p1) = (samples::idle_port(alloc), samples::idle_port(alloc));
+    let (p2, p3) = (samples::idle_port(alloc), samples::idle_port(alloc));
     let Blanks {
         rates,
         granted,
