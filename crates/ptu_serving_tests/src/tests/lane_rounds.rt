@@ -355,15 +355,14 @@ fn set_clocks(
     Ok(())
 }
 
-// The host of a case.
-fn host(alloc: Global, senders: u8, case: Case) -> Result<OnceHost<StagedPort>, Fail>
+// Sets the ports and clocks of a case.
+fn set(alloc: Global, senders: u8, case: Case, host: &mut OnceHost<StagedPort>) -> Result<(), Fail>
     requires { 1 ≤ senders }
 {
     let (change, fault, ..) = case;
-    let mut opened = still(alloc);
-    set_ports(alloc, fault, &mut opened)?;
-    set_clocks(alloc, senders, change, &mut opened)?;
-    Ok(OnceHost::new(opened))
+    let opened = host.opened.as_mut().ok_or("it is still to be opened")?;
+    set_ports(alloc, fault, opened)?;
+    set_clocks(alloc, senders, change, opened)
 }
 
 fn settings(senders: u8, change: Change) -> GmSettings
@@ -542,6 +541,7 @@ fn assert_serves(
 ) -> Result<(), Fail>
     requires { (1 ≤ senders) × (senders ≤ 4) }
 {
+    set(alloc, senders, case, host)?;
     let (change, _, sent, failed, held) = case;
     let line = format!(in alloc;
         "rounds 3 sent {sent} failed {failed} granted 7 refused 1 held {held}\n"
@@ -560,7 +560,7 @@ fn assert_case(
 ) -> Result<(), Fail>
     requires { (1 ≤ senders) × (senders ≤ 4) }
 {
-    let mut host = host(alloc, senders, case)?;
+    let mut host = OnceHost::new(still(alloc));
     let served = assert_serves(rt, alloc, senders, case, &mut host);
     drop(host);
     served

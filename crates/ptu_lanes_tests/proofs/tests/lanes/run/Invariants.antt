@@ -1,5 +1,5 @@
 use Rattle.ptu_shared.specs.Opening.{idle_port}
-use Rattle.ptu_serving_tests.proofs.tests.lanes.run.Given as goal
+use Rattle.ptu_lanes_tests.proofs.tests.lanes.run.Given as goal
 
 abbrev pub ghosts-play-L-Ledger : goal.ghosts-play-L-Ledger
 ghosts-play-L-Ledger g a = record { name = a.blanks.0.name; parts = a.blanks.0.parts }
