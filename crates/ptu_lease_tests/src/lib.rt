@@ -1,4 +1,5 @@
-//! Tests of a grandmaster, from the orders of its clients to pools, by what its crates export.
+//! Tests of what a grandmaster keeps, from the orders of its clients to its book, by what its
+//! crates export.
 #![tactic(auto)]
 
 #[cfg(test)]

@@ -1,9 +1,4 @@
 mod admit;
-mod gm_messages;
-mod grandmaster;
 mod history;
 mod laws;
-mod pools;
 mod shard;
-mod shared;
-mod shared_held;

@@ -1,5 +1,4 @@
-//! Tests of lanes, of Syncs in two steps and of a grandmaster's daemon, by what their crates
-//! export.
+//! Tests of a grandmaster's daemon, on one thread, by lanes and in two steps, over hosts in memory.
 #![tactic(auto)]
 
 #[cfg(test)]

@@ -1,10 +1,7 @@
 mod daemon;
 mod daemon_lanes;
 mod lane_rounds;
-mod lanes;
-mod meeting;
 mod staged;
 mod table_ports;
-mod two_step_ports;
 mod two_steps;
 mod waiting;

@@ -1,4 +1,4 @@
-//! Tests of a slave, from its record to its daemon, by what its crates export.
+//! Tests of a slave, from its record to its judges, by what its crates export.
 #![tactic(auto)]
 
 #[cfg(test)]

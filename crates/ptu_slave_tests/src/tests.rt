@@ -1,11 +1,5 @@
-mod cut_datagrams;
-mod daemon;
-mod daemon_faults;
-mod fails;
 mod judge_calls;
 mod judges;
-mod pairs;
 mod record;
-mod requester;
 mod select;
 mod slave;

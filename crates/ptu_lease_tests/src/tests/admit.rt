@@ -1,6 +1,5 @@
 ghost use Rattle.std.specs.Prelude.{◌≡◌, ◌<◌, ◌≤◌};
 ghost use Rattle.ptu_shard.specs.Row.{share_of};
-ghost use Rattle.ptu_profile.specs.Grandmaster.{IsWithinLimits};
 ghost use Rattle.ptu_admit.specs.Lent.{four, shares};
 
 use ptu_admit::samples::{Told, numbers_of};
@@ -8,7 +7,6 @@ use ptu_admit::{Book, Resized, Verdict, cancel, decide_all, decide_one, finish, 
 use ptu_history::Client;
 use ptu_outside::MemPort;
 use ptu_outside::samples::idle_port;
-use ptu_profile::GmConfig;
 use ptu_shard::Shard;
 use ptu_shard::samples::{CONFIG, SECOND, THREE, TWO};
 use ptu_tlvs::Ask;
@@ -16,10 +14,6 @@ use ptu_units::{Kind, Moment};
 use std::alloc::Global;
 use std::process::Abort;
 use std::test::Fail;
-
-const ANNOUNCE: u8 = 11;
-
-const SYNC: u8 = 0;
 
 // Four tables and a book.
 #[derive(Drop)]
@@ -31,33 +25,19 @@ struct Site {
     book: Book,
 }
 
-fn table(alloc: Global) -> Result<Shard<MemPort>, Fail> {
-    let mut port = idle_port(alloc);
-    port.reserve(4, 4 * 64)?;
-    let mut shard = Shard::new(alloc, port);
-    shard.reserve(4)?;
-    Ok(shard)
+fn table(alloc: Global) -> Shard<MemPort> {
+    Shard::new(alloc, idle_port(alloc))
 }
 
-// Two tables.
-fn two_tables(alloc: Global) -> Result<(Shard<MemPort>, Shard<MemPort>), Fail> {
-    let first = table(alloc)?;
-    let second = table(alloc)?;
-    Ok((first, second))
-}
-
-fn open_site(rt: &impl Abort, alloc: Global, capacity: u64) -> Result<Site, Fail> {
+fn open_site(rt: &impl Abort, alloc: Global, capacity: u64) -> Site {
     assert!(rt; 1 <= capacity && capacity <= 16_777_216);
-    let book = Book::new(capacity);
-    let (s0, s1) = two_tables(alloc)?;
-    let (s2, s3) = two_tables(alloc)?;
-    Ok(Site {
-        s0,
-        s1,
-        s2,
-        s3,
-        book,
-    })
+    Site {
+        s0: table(alloc),
+        s1: table(alloc),
+        s2: table(alloc),
+        s3: table(alloc),
+        book: Book::new(capacity),
+    }
 }
 
 fn moment(nanos: u64) -> Result<Moment, Fail> {
@@ -78,34 +58,10 @@ fn check_sum(rt: &impl Abort, site: &Site)
     assert_eq!(rt; site.book.total(), held[0] + held[1] + held[2] + held[3]);
 }
 
-fn config_of(max_duration: u32) -> GmConfig
-    ensures { IsWithinLimits result }
-{
-    if max_duration == 60 {
-        GmConfig {
-            max_duration,
-            ..CONFIG
-        }
-    } else {
-        CONFIG
-    }
-}
-
-// What may happen to a grandmaster, and what it answers.
-#[derive(Clone, Copy, Debug, PartialEq, Eq)]
-enum Step {
-    // The client asks for Announces, or for Syncs, at a logarithm, for 300 seconds.
-    Announce(u64, Client, i8, Told),
-    Sync(u64, Client, i8, Told),
-    // Its capacity is changed, and this client's grant is shed.
-    Change(u64, u64, Option<Client>),
-    // Table 2 takes a turn, which sends so many messages.
-    Turn(u64, u64),
-}
-
-fn ask_of(code: u8, log: i8) -> Ask {
+// A REQUEST of Announces at this logarithm, for 300 seconds.
+fn announces(log: i8) -> Ask {
     Ask {
-        code,
+        code: 11,
         log,
         seconds: 300,
     }
@@ -114,13 +70,10 @@ fn ask_of(code: u8, log: i8) -> Ask {
 fn ask_all(
     rt: &impl Abort,
     site: &mut Site,
-    config: &GmConfig,
     t: u64,
     client: &Client,
     ask: &Ask,
-) -> Result<Verdict, Fail>
-    requires { IsWithinLimits config.now }
-{
+) -> Result<Verdict, Fail> {
     site.s0.reserve(1)?;
     site.s1.reserve(1)?;
     site.s2.reserve(1)?;
@@ -134,7 +87,7 @@ fn ask_all(
         s3,
         book,
     } = site;
-    Ok(decide_all(s0, s1, s2, s3, book, config, t, client, ask))
+    Ok(decide_all(s0, s1, s2, s3, book, &CONFIG, t, client, ask))
 }
 
 fn change(
@@ -158,127 +111,14 @@ fn change(
     )?)
 }
 
-fn take_step(
-    rt: &impl Abort,
-    alloc: Global,
-    site: &mut Site,
-    config: &GmConfig,
-    step: &Step,
-) -> Result<(), Fail>
-    requires { IsWithinLimits config.now }
-{
-    match *step {
-        Step::Announce(t, client, log, told) => {
-            let verdict = ask_all(rt, site, config, t, &client, &ask_of(ANNOUNCE, log))?;
-            assert_eq!(rt; numbers_of(&verdict), told);
-        }
-        Step::Sync(t, client, log, told) => {
-            let verdict = ask_all(rt, site, config, t, &client, &ask_of(SYNC, log))?;
-            assert_eq!(rt; numbers_of(&verdict), told);
-        }
-        Step::Change(t, capacity, shed) => {
-            let at = moment(t)?;
-            let resized = change(rt, alloc, site, t, capacity)?;
-            assert_eq!(rt; resized.at, at);
-            assert_eq!(rt; resized.shed.list().first().map(|shed| shed.client), shed);
-            drop(resized);
-        }
-        Step::Turn(t, sent) => {
-            assert_eq!(rt; site.s2.turn(config, moment(t)?).sent, sent);
-        }
-    }
-    Ok(())
-}
-
-fn take_all(
-    rt: &impl Abort,
-    alloc: Global,
-    site: &mut Site,
-    config: &GmConfig,
-    steps: &[Step],
-) -> Result<(), Fail>
-    requires { IsWithinLimits config.now }
-{
-    for step in steps {
-        take_step(rt, alloc, site, config, step)?;
-    }
-    Ok(())
-}
-
-// A grandmaster with this capacity and longest duration takes the steps.
-fn take_steps(
-    rt: &impl Abort,
-    alloc: Global,
-    capacity: u64,
-    max_duration: u32,
-    steps: &[Step],
-) -> Result<(), Fail> {
-    let mut site = open_site(rt, alloc, capacity)?;
-    let taken = take_all(rt, alloc, &mut site, &config_of(max_duration), steps);
-    drop(site);
-    taken
-}
-
-const MINUTE: u64 = 60 * SECOND;
-
 // What is told of a grant at 0.
 const GRANTED: Told = Told::Granted(0, 300 * SECOND);
-
-// Exactly full.
-const EXACTLY_FULL: [Step; 1] = [Step::Sync(0, TWO, -7, GRANTED)];
-
-// One short.
-const ONE_SHORT: [Step; 1] = [Step::Sync(0, TWO, -7, Told::Short(0, 0, 2048, 2047))];
-
-// A renewal in a full table.
-const FULL: [Step; 3] = [
-    Step::Announce(0, TWO, 1, GRANTED),
-    Step::Announce(5 * SECOND, TWO, 1, Told::Granted(5 * SECOND, 305 * SECOND)),
-    Step::Announce(5 * SECOND, THREE, 4, Told::Short(5 * SECOND, 8, 1, 8)),
-];
-
-// A refused renewal leaves the former grant.
-const REFUSED: [Step; 4] = [
-    Step::Announce(0, TWO, 1, GRANTED),
-    Step::Announce(0, THREE, 1, GRANTED),
-    Step::Announce(10 * SECOND, TWO, 0, Told::Short(10 * SECOND, 8, 16, 16)),
-    Step::Turn(10 * SECOND, 1),
-];
-
-// At the moment at which a grant is over, the next one finds none live.
-const OVER: [Step; 4] = [
-    Step::Announce(0, TWO, 1, Told::Granted(0, MINUTE)),
-    Step::Announce(MINUTE, TWO, 1, Told::Granted(MINUTE, 2 * MINUTE)),
-    Step::Turn(61_999_999_999, 0),
-    Step::Turn(62 * SECOND, 1),
-];
-
-// A lower capacity sheds the newest grant.
-const LOWER: [Step; 6] = [
-    Step::Announce(0, TWO, 1, GRANTED),
-    Step::Announce(SECOND, THREE, 1, Told::Granted(SECOND, 301 * SECOND)),
-    Step::Change(2 * SECOND, 8, Some(THREE)),
-    Step::Announce(2 * SECOND, THREE, 1, Told::Short(2 * SECOND, 8, 8, 8)),
-    Step::Change(3 * SECOND, 16, None),
-    Step::Announce(0, THREE, 1, Told::Granted(3 * SECOND, 303 * SECOND)),
-];
-
-#[test]
-fn worked_rows(rt: HostRuntime) -> Result<(), Fail> {
-    take_steps(&rt, rt.alloc(), 2048, 300, &EXACTLY_FULL)?;
-    take_steps(&rt, rt.alloc(), 2047, 300, &ONE_SHORT)?;
-    take_steps(&rt, rt.alloc(), 8, 300, &FULL)?;
-    take_steps(&rt, rt.alloc(), 16, 300, &REFUSED)?;
-    take_steps(&rt, rt.alloc(), 8, 60, &OVER)?;
-    take_steps(&rt, rt.alloc(), 16, 300, &LOWER)?;
-    Ok(())
-}
 
 // What is told of an ask for Announces at 0, over one table and the book alone.
 fn ask_one(shard: &mut Shard<MemPort>, book: &mut Book, client: &Client) -> Option<Told>
     requires { (0 < shard.old.spare) × (share_of shard.old.rows ≤ book.old.total) }
 {
-    let ask = ask_of(ANNOUNCE, 1);
+    let ask = announces(1);
     let verdict = decide_one(shard, book, &CONFIG, Moment::default(), client, &ask);
     verdict.map(|verdict| numbers_of(&verdict))
 }
@@ -326,7 +166,7 @@ fn ask_and_cancel(rt: &impl Abort, site: &mut Site) -> Result<(), Fail> {
 
 #[test]
 fn one_table_alone(rt: HostRuntime) -> Result<(), Fail> {
-    let mut site = open_site(&rt, rt.alloc(), 8)?;
+    let mut site = open_site(&rt, rt.alloc(), 8);
     let asked = ask_and_cancel(&rt, &mut site);
     drop(site);
     asked
@@ -351,14 +191,7 @@ fn client_of(number: u32) -> Client {
 fn grant_many(rt: &impl Abort, site: &mut Site, count: u32) -> Result<(), Fail> {
     for number in 0..count {
         let t = (number / 2) as u64;
-        let verdict = ask_all(
-            rt,
-            site,
-            &CONFIG,
-            t,
-            &client_of(number),
-            &ask_of(ANNOUNCE, 4),
-        )?;
+        let verdict = ask_all(rt, site, t, &client_of(number), &announces(4))?;
         assert!(rt; matches!(verdict, Verdict::Granted(_)));
     }
     Ok(())
@@ -385,7 +218,7 @@ fn shed_most(rt: &impl Abort, alloc: Global, site: &mut Site) -> Result<(), Fail
 #[test]
 fn most_of_many_grants_are_shed(rt: HostRuntime) -> Result<(), Fail> {
     let alloc = rt.alloc();
-    let mut site = open_site(&rt, alloc, MANY as u64)?;
+    let mut site = open_site(&rt, alloc, MANY as u64);
     let shed = shed_most(&rt, alloc, &mut site);
     drop(site);
     shed

@@ -1,7 +1,7 @@
 ghost use Rattle.std.specs.Prelude.{◌≡◌};
 ghost use Rattle.ptu_history.specs.Client.{client_cmp, kind_cmp, same_client, same_kind};
 
-use ptu_history::{Client, table_of};
+use ptu_history::Client;
 use ptu_units::Kind;
 use std::cmp::Ordering;
 
@@ -32,14 +32,6 @@ fn is_same_kind(a: Kind, b: Kind) -> bool
     ensures { result ≡ same_kind a b }
 {
     a == b
-}
-
-#[test]
-fn tables(rt: HostRuntime) {
-    assert_eq!(rt; table_of(&client(0x0a00_0111, 0x0a00_0000_0000_0011, 1)), 2);
-    assert_eq!(rt; table_of(&client(0x0a00_0112, 0x0a00_0000_0000_0012, 1)), 3);
-    // 255 + 65535
-    assert_eq!(rt; table_of(&client(0, u64::MAX, u16::MAX)), 2);
 }
 
 #[test]

@@ -1,8 +1,8 @@
 use ptu_history::Client;
 use ptu_outside::samples::idle_port;
 use ptu_outside::{Channel, MemPort};
-use ptu_shard::samples::{CONFIG, DELAY_REQ, SECOND, TWO};
-use ptu_shard::{Answered, Lease, Row, Shard, Turned};
+use ptu_shard::samples::{CONFIG, SECOND, TWO};
+use ptu_shard::{Lease, Row, Shard, Turned};
 use ptu_units::{Kind, Log, Moment, period, rate};
 use std::alloc::Global;
 use std::process::Abort;
@@ -12,10 +12,10 @@ fn moment(nanos: u64) -> Result<Moment, Fail> {
     Ok(Moment::of(nanos).ok_or("a moment is below 2^62")?)
 }
 
-// A lease that was granted at 0 for 300 s, at the logarithm 0.
-fn fresh_lease(kind: Kind) -> Result<Lease, Fail> {
+// A lease of Announces that was granted at 0 for 300 s, at the logarithm 0.
+fn fresh_lease() -> Result<Lease, Fail> {
     Ok(Lease {
-        log: Log::of(kind, 0).ok_or("the logarithm is in the range of every kind")?,
+        log: Log::of(Kind::Announce, 0).ok_or("the logarithm is in the range of every kind")?,
         start: Moment::default(),
         until: 300 * SECOND,
         edge: SECOND,
@@ -29,27 +29,13 @@ fn empty_table(alloc: Global) -> Shard<MemPort> {
 }
 
 // Puts one such lease.
-fn put_one(rt: &impl Abort, shard: &mut Shard<MemPort>, kind: Kind) -> Result<(), Fail> {
+fn put_one(rt: &impl Abort, shard: &mut Shard<MemPort>) -> Result<(), Fail> {
     shard.reserve(1)?;
-    let lease = fresh_lease(kind)?;
+    let lease = fresh_lease()?;
     assert_eq!(rt; shard.held(), 0);
     assert_eq!(rt; rate(lease.log), 16);
-    shard.put(TWO, kind, lease);
+    shard.put(TWO, Kind::Announce, lease);
     Ok(())
-}
-
-// A table with one such lease, whose port has room and fails at the listed sends.
-fn table(
-    rt: &impl Abort,
-    alloc: Global,
-    kind: Kind,
-    fails: Vec<u64>,
-) -> Result<Shard<MemPort>, Fail> {
-    let mut port = MemPort::new(alloc, Vec::new(alloc), fails, Vec::new(alloc));
-    port.reserve(8, 8 * 64)?;
-    let mut shard = Shard::new(alloc, port);
-    put_one(rt, &mut shard, kind)?;
-    Ok(shard)
 }
 
 // The turn at each moment sends so many messages, and so many of its sends fail.
@@ -66,95 +52,12 @@ fn assert_turns(
     Ok(())
 }
 
-// The port was sent these octets first, to the client.
-fn assert_first(
-    rt: &impl Abort,
-    alloc: Global,
-    port: &MemPort,
-    channel: Channel,
-    digits: &str,
-) -> Result<(), Fail> {
-    let octets = hex::decode(alloc, digits)?;
-    assert_eq!(rt; port.sent(0), Some((TWO.ip, channel, octets.as_slice())));
-    Ok(())
-}
-
-// The first Sync to the client, at 1 s.
-const FIRST_SYNC: &str = "0012002c040004000000000000000000000000000a000000000000010001\
-                          0000007f00000000000100000000";
-
-#[test]
-fn a_turn_sends_in_its_own_period(rt: HostRuntime) -> Result<(), Fail> {
-    let alloc = rt.alloc();
-    let mut shard = table(&rt, alloc, Kind::Sync, Vec::new(alloc))?;
-    let turns = [
-        (999_999_999, 0, 0),
-        (SECOND, 1, 0),
-        (11 * SECOND, 1, 0),
-        (11_999_999_999, 0, 0),
-        (12 * SECOND, 1, 0),
-    ];
-    let turned = assert_turns(&rt, &mut shard, &turns);
-    let port = shard.into_port();
-    turned?;
-    let sent = assert_first(&rt, alloc, &port, Channel::Event, FIRST_SYNC);
-    drop(port);
-    sent
-}
-
-// Two are answered at 10 s, and the next one comes too soon; once the grant is gone, there is none.
-fn assert_answers(rt: &impl Abort, shard: &mut Shard<MemPort>) -> Result<(), Fail> {
-    let late = moment(10_999_999_999)?;
-    let answers = [
-        (
-            10 * SECOND,
-            Answered::Sent {
-                at: moment(10 * SECOND)?,
-            },
-        ),
-        (10_999_999_999, Answered::Sent { at: late }),
-        (
-            10_999_999_999,
-            Answered::TooSoon {
-                at: late,
-                earliest: 11 * SECOND,
-            },
-        ),
-    ];
-    for (at, answer) in answers {
-        assert_eq!(rt;
-            shard.answer_delay(&CONFIG, moment(at)?, &TWO, &DELAY_REQ),
-            answer
-        );
-    }
-    assert!(rt; shard.remove(&TWO, Kind::DelayResp));
-    let none = shard.answer_delay(&CONFIG, Moment::default(), &TWO, &DELAY_REQ);
-    assert_eq!(rt; none, Answered::NoGrant { at: late });
-    Ok(())
-}
-
-// The first Delay_Resp to the client, at 10 s.
-const RESPONSE: &str = "0912003604000400000000000000000000000000\
-                        0a0000000000000100010007037f00000000000a000000000a000000000000110001";
-
-#[test]
-fn a_delay_req_has_a_credit_of_two(rt: HostRuntime) -> Result<(), Fail> {
-    let alloc = rt.alloc();
-    let mut shard = table(&rt, alloc, Kind::DelayResp, Vec::new(alloc))?;
-    let answered = assert_answers(&rt, &mut shard);
-    let port = shard.into_port();
-    answered?;
-    let sent = assert_first(&rt, alloc, &port, Channel::General, RESPONSE);
-    assert_eq!(rt; port.sent(2), None);
-    drop(port);
-    sent
-}
-
 fn assert_fails_once(
     rt: &impl Abort,
     alloc: Global,
     shard: &mut Shard<MemPort>,
 ) -> Result<(), Fail> {
+    put_one(rt, shard)?;
     let turns = [(SECOND, 0, 1), (1_999_999_999, 0, 0), (2 * SECOND, 1, 0)];
     assert_turns(rt, shard, &turns)?;
     let announce = hex::decode(
@@ -172,8 +75,11 @@ fn assert_fails_once(
 
 #[test]
 fn a_failed_send_spends_its_period(rt: HostRuntime) -> Result<(), Fail> {
-    let mut shard = table(&rt, rt.alloc(), Kind::Announce, vec![in rt.alloc(); 1]?)?;
-    let failed = assert_fails_once(&rt, rt.alloc(), &mut shard);
+    let alloc = rt.alloc();
+    let fails = vec![in alloc; 1]?;
+    let port = MemPort::new(alloc, Vec::new(alloc), fails, Vec::new(alloc));
+    let mut shard = Shard::new(alloc, port);
+    let failed = assert_fails_once(&rt, alloc, &mut shard);
     drop(shard);
     failed
 }

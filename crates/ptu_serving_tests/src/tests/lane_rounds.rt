@@ -13,7 +13,8 @@
 //!   another moment. (The seconds in Syncs and Delay_Resps, the order of the CANCELs, and what the
 //!   clocks have left.)
 //! - CANCELs go to other clients, name other kinds, or come in another order. (Port 4.) Only 32 of
-//!   more are sent; the capacity is cut to 16 bits. (`a_change_sheds_forty_grants`.)
+//!   more are sent. (`a_change_sheds_forty_grants`.) The opening capacity is cut to 16 bits, or stops
+//!   at 65535. (`a_wide_capacity_is_filled`.)
 //!   A change is not made where nothing was granted yet. (`Change::First`.)
 //! - Failed sends or receives of a lane are not counted, nor failed CANCELs; a lane, or table 1 or
 //!   2, is left out of the sums. (The lines.)
@@ -354,15 +355,14 @@ fn set_clocks(
     Ok(())
 }
 
-// The host of a case.
-fn host(alloc: Global, senders: u8, case: Case) -> Result<OnceHost<StagedPort>, Fail>
+// Sets the ports and clocks of a case.
+fn set(alloc: Global, senders: u8, case: Case, host: &mut OnceHost<StagedPort>) -> Result<(), Fail>
     requires { 1 ≤ senders }
 {
     let (change, fault, ..) = case;
-    let mut opened = still(alloc);
-    set_ports(alloc, fault, &mut opened)?;
-    set_clocks(alloc, senders, change, &mut opened)?;
-    Ok(OnceHost::new(opened))
+    let opened = host.opened.as_mut().ok_or("it is still to be opened")?;
+    set_ports(alloc, fault, opened)?;
+    set_clocks(alloc, senders, change, opened)
 }
 
 fn settings(senders: u8, change: Change) -> GmSettings
@@ -541,6 +541,7 @@ fn assert_serves(
 ) -> Result<(), Fail>
     requires { (1 ≤ senders) × (senders ≤ 4) }
 {
+    set(alloc, senders, case, host)?;
     let (change, _, sent, failed, held) = case;
     let line = format!(in alloc;
         "rounds 3 sent {sent} failed {failed} granted 7 refused 1 held {held}\n"
@@ -559,7 +560,7 @@ fn assert_case(
 ) -> Result<(), Fail>
     requires { (1 ≤ senders) × (senders ≤ 4) }
 {
-    let mut host = host(alloc, senders, case)?;
+    let mut host = OnceHost::new(still(alloc));
     let served = assert_serves(rt, alloc, senders, case, &mut host);
     drop(host);
     served
@@ -594,12 +595,12 @@ fn identity_of(alloc: Global, index: u16) -> Result<String, Fail> {
     Ok(format!(in alloc; "0a000000000001{index:02x}0001")?)
 }
 
-// Each of 41 clients requests Announces at a rate of 1.
-fn many(alloc: Global) -> Result<Vec<Given>, Fail> {
+// Each of so many clients sends a Signaling with this REQUEST.
+fn many(alloc: Global, count: u16, request: &str) -> Result<Vec<Given>, Fail> {
     let mut gives = Vec::new(alloc);
-    for index in 0..41 {
+    for index in 0..count {
         let source = identity_of(alloc, index)?;
-        let ask = signaling(alloc, source.as_str(), EVERY, 0, "00040006b0040000012c")?;
+        let ask = signaling(alloc, source.as_str(), EVERY, 0, request)?;
         gives.push(arriving(alloc, address_of(index), ask.as_str())?)?;
     }
     Ok(gives)
@@ -627,6 +628,11 @@ fn assert_cancels(rt: &impl Abort, alloc: Global, port: &StagedPort) -> Result<(
     Ok(())
 }
 
+// Announces at a rate of 1, and Syncs at the greatest rate, 2048.
+const SELDOM: &str = "00040006b0040000012c";
+
+const OFTEN: &str = "0004000600f90000012c";
+
 // In round 2 the capacity is that of one client.
 const SHEDDING: GmSettings = GmSettings {
     rounds: 2,
@@ -651,8 +657,47 @@ fn assert_sheds(
 #[test]
 fn a_change_sheds_forty_grants(rt: HostRuntime) -> Result<(), Fail> {
     let alloc = rt.alloc();
-    let mut host = still_host(alloc, many(alloc)?);
+    let gives = many(alloc, 41, SELDOM)?;
+    let mut host = still_host(alloc, gives);
     let shed = assert_sheds(&rt, alloc, &mut host);
     drop(host);
     shed
+}
+
+// 33 clients request the greatest rate: serving them in one round writes this line.
+fn assert_fills(
+    rt: &(impl Abort + Threads + Wait + Sync),
+    alloc: Global,
+    settings: &GmSettings,
+    line: &str,
+) -> Result<(), Fail>
+    requires { IsGmInRange settings.now }
+{
+    let gives = many(alloc, 33, OFTEN)?;
+    let mut host = still_host(alloc, gives);
+    assert_said(rt, alloc, settings, &mut host, line);
+    drop(host);
+    Ok(())
+}
+
+// In 65536 there is room for 32 of them, and in 67584 for all.
+const WIDE: GmSettings = GmSettings {
+    rounds: 1,
+    capacity: 65536,
+    ..SETTINGS
+};
+
+const WIDER: GmSettings = GmSettings {
+    capacity: 67584,
+    ..WIDE
+};
+
+// Refuses an opening capacity that is cut to 65535, or to 16 bits.
+#[test]
+fn a_wide_capacity_is_filled(rt: HostRuntime) -> Result<(), Fail> {
+    let alloc = rt.alloc();
+    let line = "rounds 1 sent 33 failed 0 granted 32 refused 1 held 65536\n";
+    assert_fills(&rt, alloc, &WIDE, line)?;
+    let line = "rounds 1 sent 33 failed 0 granted 33 refused 0 held 67584\n";
+    assert_fills(&rt, alloc, &WIDER, line)
 }

@@ -49,7 +49,8 @@ fn clock(alloc: Global) -> Result<MemClock, Fail> {
 }
 
 // The port of this table fails, the client asks at port 4, and clock 0 goes.
-fn set(alloc: Global, table: usize, opened: &mut Opened<StagedPort, MemClock>) -> Result<(), Fail> {
+fn set(alloc: Global, table: usize, host: &mut OnceHost<StagedPort>) -> Result<(), Fail> {
+    let opened = host.opened.as_mut().ok_or("it is still to be opened")?;
     let port = failing(alloc)?;
     match table {
         0 => opened.p0 = port,
@@ -60,13 +61,6 @@ fn set(alloc: Global, table: usize, opened: &mut Opened<StagedPort, MemClock>) -
     opened.p4 = asked(alloc, table)?;
     opened.c0 = clock(alloc)?;
     Ok(())
-}
-
-// A host with a client of this table, the first send of whose port fails.
-fn host(alloc: Global, table: usize) -> Result<OnceHost<StagedPort>, Fail> {
-    let mut opened = still(alloc);
-    set(alloc, table, &mut opened)?;
-    Ok(OnceHost::new(opened))
 }
 
 // The number of the one Announce that the port was sent, or `None` where it was sent another list.
@@ -89,16 +83,19 @@ fn assert_numbers(rt: &impl Abort, back: &Opened<StagedPort, MemClock>, table: u
     }
 }
 
+// Serves over a host with a client of this table, the first send of whose port fails.
 fn assert_serves(
     rt: &(impl Abort + Threads + Wait + Sync),
     alloc: Global,
     table: usize,
     host: &mut OnceHost<StagedPort>,
-) {
+) -> Result<(), Fail> {
+    set(alloc, table, host)?;
     let line = "rounds 3 sent 2 failed 1 granted 1 refused 0 held 8\n";
     assert_said(rt, alloc, &SETTINGS, host, line);
     let back = host.back.as_ref();
     assert_numbers(rt, back.expect(rt, "the ports are given back"), table);
+    Ok(())
 }
 
 fn assert_table(
@@ -106,10 +103,10 @@ fn assert_table(
     alloc: Global,
     table: usize,
 ) -> Result<(), Fail> {
-    let mut host = host(alloc, table)?;
-    assert_serves(rt, alloc, table, &mut host);
+    let mut host = OnceHost::new(still(alloc));
+    let served = assert_serves(rt, alloc, table, &mut host);
     drop(host);
-    Ok(())
+    served
 }
 
 #[test]

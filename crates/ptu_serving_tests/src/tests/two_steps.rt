@@ -1,11 +1,11 @@
 ghost use Rattle.std.specs.Prelude.{◌≤◌};
 
-use super::waiting::{CLIENT, SYNC, asking, grant, port};
+use super::waiting::{CLIENT, SYNC, asking, grant};
 use ptu_config::GmSettings;
 use ptu_config::samples::GM_SETTINGS;
 use ptu_daemon::{serve, serve_in_two_steps};
 use ptu_outside::samples::opened_with;
-use ptu_outside::{Channel, MemClock, MemHost, MemPort, MemSink, Opened};
+use ptu_outside::{Channel, MemClock, MemHost, MemPort, MemSink};
 use ptu_twostep::{Flags, TwoHost};
 use ptu_units::Moment;
 use std::alloc::Global;
@@ -38,26 +38,27 @@ fn clock(alloc: Global, zeros: usize) -> Result<MemClock, Fail> {
     Ok(MemClock::new(moments))
 }
 
-// The second round is at one second: a moment is read for the datagram and for the turns of four
-// tables, or, in a lane, for the turns of two.
-fn set_clocks(alloc: Global, opened: &mut Opened<MemPort, MemClock>) -> Result<(), Fail> {
-    opened.c0 = clock(alloc, 5)?;
-    opened.c1 = clock(alloc, 0)?;
-    opened.c2 = clock(alloc, 2)?;
-    opened.c3 = clock(alloc, 2)?;
-    opened.c4 = clock(alloc, 0)?;
-    opened.c5 = clock(alloc, 0)?;
-    Ok(())
-}
-
 // A host at whose general channel the ask waits, and at whose port of table 2 the sends with these
-// numbers are to fail.
+// numbers are to fail. The second round is at one second: a moment is read for the datagram and for
+// the turns of four tables, or, in a lane, for the turns of two.
 fn host(alloc: Global, failing_sends: &[u64]) -> Result<MemHost, Fail> {
-    let general = port(alloc, asking(alloc, SYNC)?, &[], &[])?;
-    let table = port(alloc, Vec::new(alloc), failing_sends, &[])?;
+    let c0 = clock(alloc, 5)?;
+    let c1 = clock(alloc, 0)?;
+    let c2 = clock(alloc, 2)?;
+    let c3 = clock(alloc, 2)?;
+    let c4 = clock(alloc, 0)?;
+    let c5 = clock(alloc, 0)?;
+    let ask = asking(alloc, SYNC)?;
+    let sends = failing_sends.to_vec(alloc)?;
+    let general = MemPort::new(alloc, ask, Vec::new(alloc), Vec::new(alloc));
     let mut opened = opened_with(alloc, general);
-    opened.p2 = table;
-    set_clocks(alloc, &mut opened)?;
+    opened.p2 = MemPort::new(alloc, Vec::new(alloc), sends, Vec::new(alloc));
+    opened.c0 = c0;
+    opened.c1 = c1;
+    opened.c2 = c2;
+    opened.c3 = c3;
+    opened.c4 = c4;
+    opened.c5 = c5;
     Ok(MemHost::new(opened, false))
 }
 

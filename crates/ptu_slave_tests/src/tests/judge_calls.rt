@@ -97,7 +97,7 @@ fn slave_of_listing(alloc: Global) -> Result<(Rc<Cell<Calls>>, Slave<MemPort>), 
         length (seen ⟦<dyn Judge as Judge>⟧ pair.1).kept.masters ≡ 1) }
 {
     let (calls, judge) = new_listing(alloc)?;
-    let config = config(4, 4, false, 0)?;
+    let config = config()?;
     let slave = slave_of_one(alloc, config, Box::new(alloc, judge)?, idle_port(alloc))?;
     Ok((calls, slave))
 }
@@ -109,7 +109,7 @@ fn a_judge_is_called_once_for_each_event(rt: HostRuntime) -> Result<(), Fail> {
     let at = Moment::of(SECOND).ok_or("below 2^62")?;
     let later = Moment::of(2 * SECOND).ok_or("below 2^62")?;
     let (calls, mut slave) = slave_of_listing(alloc)?;
-    let rows = [(0, Row::Announce(1, 84)), (0, Row::Sync(1, 7))];
+    let rows = [(0, Row::Announce), (0, Row::Sync(7))];
     play_all(&rt, alloc, &mut slave, &rows)?;
     slave.flag(at, 0, true);
     slave.tick(later);

@@ -21,14 +21,6 @@ fn finds(rt: &impl Abort, judge: &mut GapJudge, syncs: &[(u16, bool)]) {
 }
 
 #[test]
-fn syncs_that_come_late_fill_the_gap(rt: HostRuntime) {
-    let mut judge = GapJudge::new(4);
-    finds(&rt, &mut judge, &[(0, false), (5, true), (3, false)]);
-    judge.told(Moment::default(), true);
-    finds(&rt, &mut judge, &[(4, true)]);
-}
-
-#[test]
 fn numbers_run_over_and_are_forgotten(rt: HostRuntime) {
     let mut judge = GapJudge::new(1);
     finds(

@@ -1,4 +1,4 @@
-ghost use Rattle.std.specs.{Option.{ForSome}, Prelude.{◌≡◌, ◌<◌, ◌^◌, length}};
+ghost use Rattle.std.specs.Prelude.{◌≡◌, ◌<◌, ◌^◌, length};
 
 use ptu_fails::WatchState;
 use ptu_record::Quality;
@@ -17,19 +17,13 @@ fn at(rt: &impl Abort, nanos: u64) -> Moment {
     Moment::of(nanos).expect(rt, "below 2^62")
 }
 
-// A selector with timeouts of 48 s, this one for Delay_Resp, and this time to wait.
-fn selector(
-    rt: &impl Abort,
-    alloc: Global,
-    delay: Option<u64>,
-    wait: u64,
-    priorities: &[u8],
-) -> Selector
-    requires { (ForSome delay (λ timeout. timeout < 2 ^ 62)) × (wait < 2 ^ 62) }
+// A selector with timeouts of 48 s and this time to wait.
+fn selector(rt: &impl Abort, alloc: Global, wait: u64, priorities: &[u8]) -> Selector
+    requires { wait < 2 ^ 62 }
     ensures { length result ≡ length priorities.now }
 {
     let timeout = 48 * SECOND;
-    let selector = Selector::new(alloc, timeout, timeout, delay, wait, priorities);
+    let selector = Selector::new(alloc, timeout, timeout, None, wait, priorities);
     selector.expect(rt, "memory")
 }
 
@@ -73,7 +67,7 @@ fn choice(
     pairs: &[Pair],
     nanos: u64,
 ) -> Option<usize> {
-    let mut selector = selector(rt, alloc, None, 60 * SECOND, priorities);
+    let mut selector = selector(rt, alloc, 60 * SECOND, priorities);
     take_between(
         rt,
         &mut selector,
@@ -93,7 +87,7 @@ fn assert_choices(
     pairs: &[Pair],
     looks: &[(u64, Option<usize>)],
 ) {
-    let mut kept = selector(rt, alloc, None, 60 * SECOND, priorities);
+    let mut kept = selector(rt, alloc, 60 * SECOND, priorities);
     let mut from = 0;
     for &(nanos, selected) in looks {
         take_between(rt, &mut kept, priorities.len(), pairs, from, nanos / SECOND);
@@ -102,23 +96,6 @@ fn assert_choices(
         assert_eq!(rt; kept.select(at(rt, nanos)), selected);
         assert_eq!(rt; kept.select(at(rt, nanos)), selected);
     }
-}
-
-// The choice of a slave that measures, with a timeout of 3 s for Delay_Resp: there is one at 1 s,
-// and from 5 s on every third second.
-fn measured_choice(rt: &impl Abort, alloc: Global, nanos: u64) -> Option<usize> {
-    let mut selector = selector(rt, alloc, Some(3 * SECOND), 60 * SECOND, &[1]);
-    for second in 0..66 {
-        if second * SECOND <= nanos {
-            if second % 40 == 0 {
-                take(rt, &mut selector, 1, (second, 0, 84));
-            }
-            if second == 1 || second >= 5 && second % 3 == 2 {
-                selector.resp(at(rt, second * SECOND), 0);
-            }
-        }
-    }
-    selector.select(at(rt, nanos))
 }
 
 const LOSS: [Pair; 8] = [
@@ -141,35 +118,48 @@ const RESTORATION: [(u64, Option<usize>); 6] = [
     (160_000_000_000, Some(0)),
 ];
 
-#[test]
-fn loss_and_restoration(rt: HostRuntime) {
-    assert_choices(&rt, rt.alloc(), &[1, 1], &LOSS, &RESTORATION);
-    assert_choices(&rt, rt.alloc(), &[2, 1], &LOSS, &RESTORATION);
-}
-
 const TIE: [Pair; 4] = [(0, 0, 84), (0, 1, 84), (1, 0, 110), (1, 1, 110)];
 
-#[test]
-fn ties_and_do_not_use(rt: HostRuntime) {
-    let alloc = rt.alloc();
-    assert_choices(&rt, alloc, &[1, 1], &TIE, &[(0, Some(0)), (SECOND, None)]);
-    assert_choices(&rt, alloc, &[2, 1], &TIE, &[(0, Some(1))]);
-    assert_choices(&rt, alloc, &[1], &[(0, 0, 6)], &[(0, None)]);
-    assert_choices(&rt, alloc, &[], &[], &[(0, None)]);
-}
+const KEPT: [Pair; 5] = [
+    (0, 0, 84),
+    (0, 1, 90),
+    (48, 1, 90),
+    (50, 0, 84),
+    (98, 0, 110),
+];
 
+const CHANGES: [(u64, Option<usize>); 7] = [
+    (0, Some(0)),
+    (48_000_000_000, Some(0)),
+    (48_000_000_001, Some(1)),
+    (50_000_000_000, Some(1)),
+    (96_000_000_000, Some(1)),
+    (96_000_000_001, None),
+    (98_000_000_001, None),
+];
+
+// The priorities of the masters, what is heard of them, and the choice at some moments.
+type Scene = (
+    &'static [u8],
+    &'static [Pair],
+    &'static [(u64, Option<usize>)],
+);
+
+const SCENES: [Scene; 7] = [
+    (&[1, 1], &LOSS, &RESTORATION),
+    (&[2, 1], &LOSS, &RESTORATION),
+    (&[1, 1], &TIE, &[(0, Some(0)), (SECOND, None)]),
+    (&[2, 1], &TIE, &[(0, Some(1))]),
+    (&[1], &[(0, 0, 6)], &[(0, None)]),
+    (&[], &[], &[(0, None)]),
+    (&[1, 1], &KEPT, &CHANGES),
+];
+
+// Refuses a choice that is kept over an event or a loss.
 #[test]
-fn a_lost_delay_resp(rt: HostRuntime) {
-    for (nanos, selected) in [
-        (0, None),
-        (1_000_000_000, Some(0)),
-        (4_000_000_000, Some(0)),
-        (4_000_000_001, None),
-        (5_000_000_000, None),
-        (64_999_999_999, None),
-        (65_000_000_000, Some(0)),
-    ] {
-        assert_eq!(rt; measured_choice(&rt, rt.alloc(), nanos), selected);
+fn a_kept_choice_is_that_of_a_fresh_look(rt: HostRuntime) {
+    for (priorities, pairs, looks) in SCENES {
+        assert_choices(&rt, rt.alloc(), priorities, pairs, looks);
     }
 }
 
@@ -192,36 +182,9 @@ fn the_state_of_one_master(rt: HostRuntime) {
     assert!(rt; selector.state(at(&rt, SECOND), 0).loss_announce);
 }
 
-const KEPT: [Pair; 5] = [
-    (0, 0, 84),
-    (0, 1, 90),
-    (48, 1, 90),
-    (50, 0, 84),
-    (98, 0, 110),
-];
-
-#[test]
-fn a_kept_choice_is_that_of_a_fresh_look(rt: HostRuntime) {
-    assert_choices(
-        &rt,
-        rt.alloc(),
-        &[1, 1],
-        &KEPT,
-        &[
-            (0, Some(0)),
-            (48_000_000_000, Some(0)),
-            (48_000_000_001, Some(1)),
-            (50_000_000_000, Some(1)),
-            (96_000_000_000, Some(1)),
-            (96_000_000_001, None),
-            (98_000_000_001, None),
-        ],
-    );
-}
-
 #[test]
 fn ten_million_looks_at_one_choice(rt: HostRuntime) {
-    let mut selector = selector(&rt, rt.alloc(), None, 0, &[0; 20000]);
+    let mut selector = selector(&rt, rt.alloc(), 0, &[0; 20000]);
     let start = at(&rt, 0);
     selector.announce(start, 7, 84);
     selector.sync(start, 7);

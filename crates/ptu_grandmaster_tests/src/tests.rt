@@ -1,0 +1,2 @@
+mod grandmaster;
+mod pools;

@@ -1,0 +1,3 @@
+mod lanes;
+mod meeting;
+mod two_step_ports;

@@ -1,0 +1,2 @@
+mod shared;
+mod shared_held;

@@ -1,0 +1,5 @@
+//! Tests of a slave's daemon, over hosts in memory.
+#![tactic(auto)]
+
+#[cfg(test)]
+mod tests;

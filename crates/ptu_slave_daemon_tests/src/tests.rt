@@ -1,0 +1,2 @@
+mod daemon;
+mod daemon_faults;
