@@ -1,13 +1,3 @@
-mod audit;
-mod join;
-mod load;
+mod answers;
+mod faults;
 mod loads;
-mod memory;
-mod nodes;
-mod pieces;
-mod pool_scripts;
-mod pools;
-mod replay;
-mod replay_slave;
-mod show;
-mod trail;

@@ -1,5 +1,5 @@
-//! Tests of what is read and written as text, by what their crates export: words, scripts,
-//! settings, reports and their lines.
+//! Tests of what is read and written as text, by what their crates export: settings, lines in
+//! pieces, words of a line, lines of a report that are read again.
 #![tactic(auto)]
 
 #[cfg(test)]

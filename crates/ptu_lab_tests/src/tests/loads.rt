@@ -36,10 +36,3 @@ fn the_script_of_one_client(rt: HostRuntime) -> Result<(), Fail> {
     assert_eq!(rt; script(alloc, 1)?.as_str(), wanted.as_str());
     Ok(())
 }
-
-#[test]
-fn the_greatest_script_has_its_lines(rt: HostRuntime) -> Result<(), Fail> {
-    let text = script(rt.alloc(), 2000)?;
-    assert_eq!(rt; text.as_str().lines().count(), 2033);
-    Ok(())
-}

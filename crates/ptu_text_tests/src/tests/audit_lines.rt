@@ -22,12 +22,7 @@ fn lines_are_read(rt: HostRuntime) -> Result<(), Fail> {
             "2 outside log announce -4",
             "Some(At { number: 2, entry: Decided(OutsideLog { kind: Announce, log: -4 }) })",
         ),
-        (
-            "2 ignored fault tlv 44 length 4 5",
-            "Some(At { number: 2, entry: Other })",
-        ),
         ("end 9 4", "Some(End { lines: 9, datagrams: 4 })"),
-        ("2 bad field 5", "None"),
     ] {
         let read = format!(in alloc; "{:?}", read_line(line.as_bytes(), &mut buffer))?;
         assert_eq!(rt; read.as_str(), said);
