@@ -6,29 +6,21 @@
 //! `ptpuni slave` read settings and run a grandmaster and a slave over UDP.
 #![tactic(auto)]
 
-mod daemons;
-mod run;
-mod status;
-
-ghost use Rattle.std.specs.Prelude.{◌≡◌, ◌≢◌, ◌+◌, IfOk, OnOk, length, map};
-ghost use Rattle.std.specs.String.{string_bytes};
+ghost use Rattle.std.specs.Prelude.{◌≡◌, ◌≢◌, ◌+◌, OnOk, length, map};
 ghost use Rattle.ptu_judges.specs.Held.{IsStock, fresh};
 
 use ptu_judges::{FlagJudge, GapJudge, Judge, Rule, Stock};
 use ptu_outside::{Host, StdSink, StdSource};
+use ptu_run::{OUT_OF_MEMORY, USAGE, run, run_in_blocks, texts_of, waits_for_lines};
 use ptu_udp::UdpHost;
 use ptu_words::USAGE_TEXT;
-use status::{OUT_OF_MEMORY, SINK_FAULT, USAGE};
-use std::alloc::{AllocError, Global};
+use std::alloc::AllocError;
 use std::env::Env;
-use std::io::{BufWriter, ErrorKind, IsTerminal, Read, Stdin, Stdout, Write};
+use std::io::{ErrorKind, IsTerminal, Stdin, Stdout};
 use std::process::ExitCode;
 use std::sync::Wait;
 use std::thread::Threads;
 use std::{env, io};
-
-// So many octets of output are handed on at once.
-const BLOCK: usize = 65536;
 
 // The status of a run whose words can't be had: one that is not UTF-8 makes a faulty command line.
 fn status_without_words(kind: ErrorKind) -> u8
@@ -51,57 +43,6 @@ fn words_of<R: Env + AllocGlobal>(rt: &R) -> io::Result<Vec<String>> {
     Ok(words)
 }
 
-// The words as text.
-fn texts_of(alloc: Global, words: &[String]) -> Result<Vec<&str>, AllocError>
-    ensures { IfOk result (λ texts. map (λ t. t.now) texts.items ≡ map string_bytes words.now) }
-{
-    let mut texts = Vec::with_capacity(alloc, words.len())?;
-    for word in words {
-        texts.push(word.as_str())?;
-    }
-    Ok(texts)
-}
-
-// Runs the words over this input, this output, which gets it block by block, and this host. What a
-// run leaves in the last block is handed on whatever the run came to.
-fn run_in_blocks<W, I, O, H>(
-    rt: &W,
-    words: &[&str],
-    input: I,
-    output: O,
-    host: &mut H,
-    stock: Stock,
-) -> u8
-where
-    W: AllocGlobal + Threads + Wait + Sync,
-    I: Read + Drop,
-    O: Write + Drop,
-    H: Host,
-    requires { IsStock (map (λ j. held (j.vtable, j.value)) stock.flags.items)
-        (map (λ j. held (j.vtable, j.value)) stock.gaps.items) }
-{
-    let Ok(mut blocks) = BufWriter::with_capacity(rt.alloc(), BLOCK, output) else {
-        return OUT_OF_MEMORY;
-    };
-    let mut source = StdSource::new(input);
-    let status = {
-        let mut sink = StdSink::new(&mut blocks);
-        run::run(rt, words, &mut source, &mut sink, host, stock)
-    };
-    match blocks.flush() {
-        Ok(()) => status,
-        Err(_) => SINK_FAULT,
-    }
-}
-
-// Whether the first word is that of a daemon, whose lines are few and are waited for.
-fn is_daemon(words: &[&str]) -> bool {
-    let Some(word) = words.first() else {
-        return false;
-    };
-    *word == "serve" || *word == "slave"
-}
-
 // Runs the words over standard input and output, line by line where somebody waits for the lines,
 // with 64 judges of each rule.
 fn status_of<W, H>(
@@ -122,10 +63,10 @@ where
     let Ok(texts) = texts_of(rt.alloc(), words) else {
         return OUT_OF_MEMORY;
     };
-    if output.is_terminal() || is_daemon(&texts) {
+    if waits_for_lines(output.is_terminal(), &texts) {
         let mut source = StdSource::new(input);
         let mut sink = StdSink::new(output);
-        run::run(rt, &texts, &mut source, &mut sink, host, stock)
+        run(rt, &texts, &mut source, &mut sink, host, stock)
     } else {
         run_in_blocks(rt, &texts, input, output, host, stock)
     }
@@ -180,10 +121,3 @@ fn main(rt: HostRuntime) -> ExitCode {
     }
     ExitCode::from(status)
 }
-
-#[cfg(test)]
-mod daemon_tests;
-#[cfg(test)]
-mod outside_tests;
-#[cfg(test)]
-mod tests;

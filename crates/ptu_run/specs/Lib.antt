@@ -1,0 +1,4 @@
+pub mod Answers
+pub mod Daemons
+pub mod Run
+pub mod Waiting

@@ -1,0 +1,50 @@
+//! Output that is handed on in blocks.
+
+ghost use Rattle.std.specs.Prelude.{◌≡◌, map, Contains};
+ghost use Rattle.ptu_judges.specs.Held.{IsStock};
+ghost use Rattle.ptu_run.specs.Run.{statuses};
+
+use crate::running::run;
+use crate::status::{OUT_OF_MEMORY, SINK_FAULT};
+use ptu_judges::Stock;
+use ptu_outside::{Host, StdSink, StdSource};
+use std::io::{BufWriter, Read, Write};
+use std::sync::Wait;
+use std::thread::Threads;
+
+// So many octets of output are handed on at once.
+const BLOCK: usize = 65536;
+
+/// Does what `run` does, over this reader and this writer, which gets the output in blocks of 65536
+/// octets. What the run leaves in the last block is handed on whatever the run came to; where the
+/// writer does not take it the status is that of a sink that failed.
+pub fn run_in_blocks<W, I, O, H>(
+    rt: &W,
+    words: &[&str],
+    input: I,
+    output: O,
+    host: &mut H,
+    stock: Stock,
+) -> u8
+where
+    W: AllocGlobal + Threads + Wait + Sync,
+    I: Read + Drop,
+    O: Write + Drop,
+    H: Host,
+    requires stock { IsStock (map (λ j. held (j.vtable, j.value)) stock.flags.items)
+        (map (λ j. held (j.vtable, j.value)) stock.gaps.items) }
+    ensures statuses { Contains statuses result }
+{
+    let Ok(mut blocks) = BufWriter::with_capacity(rt.alloc(), BLOCK, output) else {
+        return OUT_OF_MEMORY;
+    };
+    let mut source = StdSource::new(input);
+    let status = {
+        let mut sink = StdSink::new(&mut blocks);
+        run(rt, words, &mut source, &mut sink, host, stock)
+    };
+    match blocks.flush() {
+        Ok(()) => status,
+        Err(_) => SINK_FAULT,
+    }
+}

@@ -1,0 +1,16 @@
+//! What the program does with the words of its command line: it runs a program over lines, or a
+//! daemon, over any source, sink and host, and answers the status to end with.
+#![tactic(auto)]
+
+mod blocks;
+mod daemons;
+mod running;
+mod status;
+mod words;
+
+pub use blocks::run_in_blocks;
+pub use running::run;
+pub use status::{
+    BAD_LINE, BROKEN_PROMISE, HOST_FAULT, OUT_OF_MEMORY, SINK_FAULT, SOURCE_FAULT, USAGE,
+};
+pub use words::{texts_of, waits_for_lines};

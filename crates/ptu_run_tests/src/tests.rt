@@ -1,0 +1,6 @@
+mod blocks;
+mod calls;
+mod daemons;
+mod faults;
+mod pieces;
+mod words;
