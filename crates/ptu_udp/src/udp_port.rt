@@ -16,7 +16,7 @@ use std::time::Clock;
 const MOST_LEFT_OUT: u32 = 64;
 
 /// The UDP port numbers of the two channels.
-#[derive(Clone, Copy, Debug, PartialEq, Eq)]
+#[derive(Clone, Copy)]
 pub(crate) struct Numbers {
     pub event: u16,
     pub general: u16,
