@@ -8,7 +8,7 @@ use std::marker::Model;
 /// The book beside four tables: the capacity in force, in sixteenths of a message per second, the
 /// greatest moment at which an ask, a cancel or a change of capacity was decided, and the total,
 /// which is the sum of the rates of all rows of the four tables. The total is at most the capacity.
-#[derive(Debug, PartialEq, Eq, Drop)]
+#[derive(Drop)]
 pub struct Book {
     capacity: u64,
     moment: Moment,

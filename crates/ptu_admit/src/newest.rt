@@ -11,7 +11,7 @@ use std::collections::BinaryHeap;
 use std::marker::Model;
 
 /// A row, and which of the four tables it stands in.
-#[derive(Clone, Copy, Debug, PartialEq, Eq)]
+#[derive(Clone, Copy)]
 pub(crate) struct Found {
     pub table: usize,
     pub row: Row,
@@ -19,7 +19,7 @@ pub(crate) struct Found {
 
 /// What the order of shedding knows of a row, and its table. The greatest is shed first: by the
 /// later grant, in nanoseconds, then the greater client, then the later kind.
-#[derive(Clone, Copy, Debug, PartialEq, Eq, PartialOrd, Ord)]
+#[derive(Clone, Copy, PartialEq, Eq, PartialOrd, Ord)]
 pub(crate) struct Candidate {
     pub start: u64,
     pub client: Client,

@@ -12,7 +12,7 @@ use ptu_units::{Kind, Log};
 const SHORTEST_DURATION: u32 = 60;
 
 /// What an ask within the profile is for: a kind at a logarithm, for so many seconds.
-#[derive(Clone, Copy, Debug, PartialEq, Eq)]
+#[derive(Clone, Copy)]
 pub(crate) struct Wanted {
     pub kind: Kind,
     pub log: Log,

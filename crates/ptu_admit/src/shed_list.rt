@@ -2,7 +2,7 @@ use ptu_history::Client;
 use ptu_units::{Kind, Listed, Log};
 
 /// A grant that was shed.
-#[derive(Clone, Copy, Debug, PartialEq, Eq)]
+#[derive(Clone, Copy)]
 pub struct Shed {
     pub client: Client,
     pub kind: Kind,

@@ -6,7 +6,7 @@ use ptu_units::{Kind, Log, Moment};
 use std::marker::Model;
 
 /// The answer to an ask (IEEE 1588-2019 clause 16.1.4.1).
-#[derive(Clone, Copy, Debug, PartialEq, Eq)]
+#[derive(Clone, Copy)]
 pub enum Verdict {
     /// It is granted.
     Granted(Grant),
@@ -28,7 +28,7 @@ pub enum Outside {
 }
 
 /// A grant as it is answered. Only this crate makes one.
-#[derive(Clone, Copy, Debug, PartialEq, Eq)]
+#[derive(Clone, Copy)]
 pub struct Grant {
     client: Client,
     kind: Kind,
@@ -134,7 +134,7 @@ impl Grant {
 
 /// What an ask lacks that does not fit: the rates of the other live grants and its own, in
 /// sixteenths of a message per second, are above the capacity in force. Only this crate makes one.
-#[derive(Clone, Copy, Debug, PartialEq, Eq)]
+#[derive(Clone, Copy)]
 pub struct Shortage {
     kind: Kind,
     log: Log,

@@ -3,7 +3,7 @@ use ptu_report::RunFault;
 use ptu_trail::NoCause;
 
 /// What an audit says of a report of which no line is refused.
-#[derive(Clone, Copy, Debug, PartialEq, Eq, Hash)]
+#[derive(Clone, Copy, Debug, PartialEq, Eq)]
 pub enum Answer {
     /// Its grandmasters kept their promises, with so many grants and timing messages.
     Yes { grants: u64, sent: u64 },
@@ -12,7 +12,7 @@ pub enum Answer {
 }
 
 /// Why a line of a report is refused.
-#[derive(Clone, Copy, Debug, PartialEq, Eq, Hash)]
+#[derive(Clone, Copy, Debug, PartialEq, Eq)]
 pub enum AuditCause {
     /// Octet 67108865 of the report is among the first 8193 octets of the line, its 0A counted.
     Size,

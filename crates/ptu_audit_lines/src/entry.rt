@@ -5,7 +5,7 @@ use ptu_units::{Kind, Log};
 /// What a grandmaster decided on a REQUEST or a CANCEL of a Signaling (IEEE 1588-2019 clause
 /// 16.1.4), as a line says it. Moments are in nanoseconds, rates and capacities in sixteenths of a
 /// message per second, and each number is any that the line may write.
-#[derive(Clone, Copy, Debug, PartialEq, Eq)]
+#[derive(Clone, Copy, Debug)]
 pub enum Decision {
     /// The request was granted at a moment until another.
     Granted {

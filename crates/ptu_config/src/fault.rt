@@ -6,7 +6,7 @@ use ptu_units::OutOfMemory;
 use thiserror::Error;
 
 /// Why settings are refused: the first of these that applies.
-#[derive(Clone, Copy, Debug, PartialEq, Eq, Hash, Error)]
+#[derive(Clone, Copy, Debug, PartialEq, Eq, Error)]
 pub enum SettingFault {
     /// There are more than 65536 octets.
     #[error("there are more than 65536 octets")]

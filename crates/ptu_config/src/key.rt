@@ -3,7 +3,7 @@ ghost use Rattle.ptu_config.specs.Key.{name_of};
 
 /// A setting, in the order in which the settings are tested: those of both nodes first, then those
 /// of a grandmaster, then those of a slave.
-#[derive(Clone, Copy, Debug, PartialEq, Eq, PartialOrd, Ord, Hash)]
+#[derive(Clone, Copy, Debug, PartialEq, Eq, PartialOrd, Ord)]
 pub enum Key {
     Ip,
     EventPort,

@@ -1,7 +1,7 @@
 use ptu_units::Listed;
 
 /// A master of a slave, as its settings name it.
-#[derive(Clone, Copy, Debug, PartialEq, Eq, Hash)]
+#[derive(Clone, Copy, Debug, PartialEq, Eq)]
 pub struct MasterSetting {
     /// The IPv4 address, its first number the highest octet.
     pub ip: u32,

@@ -5,7 +5,7 @@ use crate::key::Key;
 use std::fmt;
 
 /// The line of output that refuses settings. Its text has the 0A at its end.
-#[derive(Clone, Copy, Debug, PartialEq, Eq, Hash)]
+#[derive(Clone, Copy, Debug, PartialEq, Eq)]
 pub enum RefusalLine {
     /// There are more than 65536 octets.
     Size,

@@ -2,7 +2,7 @@ use crate::master::MasterList;
 use ptu_units::Log;
 
 /// The settings of a grandmaster's daemon.
-#[derive(Clone, Copy, Debug, PartialEq, Eq, Hash)]
+#[derive(Clone, Copy, Debug, PartialEq, Eq)]
 pub struct GmSettings {
     /// The IPv4 address of the node, its first number the highest octet.
     pub ip: u32,
@@ -37,7 +37,7 @@ pub struct GmSettings {
 }
 
 /// The settings of a slave's daemon.
-#[derive(Debug, Drop)]
+#[derive(Drop)]
 pub struct SlaveSettings {
     /// The IPv4 address of the node, its first number the highest octet.
     pub ip: u32,

@@ -8,7 +8,7 @@ use std::alloc::Global;
 use std::fmt;
 
 /// The numbers of the last line.
-#[derive(Clone, Copy, Debug, PartialEq, Eq)]
+#[derive(Clone, Copy)]
 pub(crate) struct Closing {
     pub rounds: u32,
     /// How many datagrams were sent.

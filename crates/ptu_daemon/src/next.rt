@@ -3,7 +3,7 @@
 use crate::tally::Tally;
 
 /// What came of the next datagram of a channel.
-#[derive(Clone, Copy, Debug, PartialEq, Eq)]
+#[derive(Clone, Copy)]
 pub(crate) enum Next {
     /// It was received and taken, and so much was sent for it.
     Taken(Tally),

@@ -4,7 +4,7 @@ ghost use Rattle.ptu_record.specs.{Record.{Record}, SignalFails.{Timeouts, is_el
 use ptu_record::Quality;
 
 /// What a slave finds of a master at a moment (G.8265.1).
-#[derive(Clone, Copy, Debug, PartialEq, Eq, Hash)]
+#[derive(Clone, Copy, Debug, PartialEq, Eq)]
 pub struct WatchState {
     /// No Announce came, or the last one is longer ago than the timeout.
     pub loss_announce: bool,

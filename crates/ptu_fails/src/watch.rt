@@ -15,7 +15,7 @@ use std::marker::Model;
 
 /// The watch over one master: what its signal fails go by, in place of its record. No call needs
 /// memory. A clause sees what is kept; which records a watch stands for is said by `StandsFor`.
-#[derive(Clone, Copy, Debug)]
+#[derive(Clone, Copy)]
 pub struct Watch {
     announce_timeout: u64,
     sync_timeout: u64,

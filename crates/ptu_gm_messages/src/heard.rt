@@ -2,7 +2,7 @@ use crate::item::Items;
 use ptu_header::Header;
 
 /// What a grandmaster hears in a datagram.
-#[derive(Debug, Drop)]
+#[derive(Drop)]
 pub enum Heard {
     /// A Delay_Req with this header (IEEE 1588-2019 clause 13.6).
     DelayReq(Header),

@@ -2,7 +2,7 @@ use ptu_tlvs::Ask;
 use ptu_units::Listed;
 
 /// What a Signaling asks of a grandmaster by one of its TLVs (IEEE 1588-2019 clause 16.1.4).
-#[derive(Clone, Copy, Debug, PartialEq, Eq, Hash)]
+#[derive(Clone, Copy, Debug, PartialEq, Eq)]
 pub enum Item {
     /// A REQUEST_UNICAST_TRANSMISSION.
     Request(Ask),

@@ -2,7 +2,7 @@ use ptu_messages::MessageFault;
 
 /// Why a grandmaster ignores a datagram: the first cause that applies, in the order of the variants
 /// (the order is the project's own choice).
-#[derive(Clone, Copy, Debug, PartialEq, Eq, Hash)]
+#[derive(Clone, Copy, Debug, PartialEq, Eq)]
 pub enum GmReason {
     /// It spells no message.
     Fault(MessageFault),

@@ -17,7 +17,7 @@ use ptu_units::{Moment, OutOfMemory};
 use std::alloc::Global;
 
 /// What may happen to a grandmaster.
-#[derive(Debug, Drop)]
+#[derive(Drop)]
 pub enum GmEvent {
     /// A datagram comes.
     Take {

@@ -6,7 +6,7 @@ use ptu_tlvs::Ask;
 use ptu_units::Listed;
 
 /// What an item of a Signaling came to.
-#[derive(Clone, Copy, Debug, PartialEq, Eq)]
+#[derive(Clone, Copy)]
 pub enum Outcome {
     /// The verdict on what was asked for.
     Verdict(Ask, Verdict),
@@ -18,7 +18,7 @@ pub enum Outcome {
 pub type Outcomes = Listed<Outcome>;
 
 /// What a grandmaster did with a datagram.
-#[derive(Debug, Drop)]
+#[derive(Drop)]
 pub enum Taken {
     /// It was ignored, and nothing has changed.
     Ignored(GmReason),

@@ -6,7 +6,7 @@ use std::fmt;
 
 /// Why the octets of a datagram begin with no header: the first cause that applies, in the order of
 /// the variants.
-#[derive(Clone, Copy, Debug, PartialEq, Eq, Hash)]
+#[derive(Clone, Copy, Debug, PartialEq, Eq)]
 pub enum HeaderFault {
     /// There are fewer than the 34 octets of a header.
     Short {

@@ -4,7 +4,7 @@ use ptu_octets::{u16_at, u64_at};
 
 /// The identity of a port: of the clock that it belongs to, and its number there (IEEE 1588-2019
 /// clause 5.3.5).
-#[derive(Clone, Copy, Debug, PartialEq, Eq, PartialOrd, Ord, Hash)]
+#[derive(Clone, Copy, Debug, PartialEq, Eq, Hash)]
 pub struct PortIdentity {
     /// The clockIdentity, its first octet the highest.
     pub clock: u64,
@@ -39,7 +39,7 @@ impl PortIdentity {
 }
 
 /// What is kept of the common header of a message (IEEE 1588-2019 clause 13.3.2).
-#[derive(Clone, Copy, Debug, PartialEq, Eq, Hash)]
+#[derive(Clone, Copy, Debug, PartialEq, Eq)]
 pub struct Header {
     /// The messageType, of 4 bits (IEEE 1588-2019 table 36).
     pub message_type: u8,

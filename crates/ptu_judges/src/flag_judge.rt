@@ -7,7 +7,7 @@ use ptu_units::Moment;
 use std::marker::Model;
 
 /// A judge that finds what the operator said last, at first that its master is usable.
-#[derive(Debug, Drop)]
+#[derive(Drop)]
 pub struct FlagJudge {
     unusable: bool,
 }

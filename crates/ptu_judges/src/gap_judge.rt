@@ -12,7 +12,7 @@ const PLACES: usize = 16;
 
 /// A judge that finds its master unusable where the operator said so last, or where at least so
 /// many of the last sixteen Syncs are missing.
-#[derive(Debug, Drop)]
+#[derive(Drop)]
 pub struct GapJudge {
     missing: u8,
     top: Option<u16>,

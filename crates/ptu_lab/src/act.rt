@@ -3,7 +3,7 @@ use ptu_lines::LentOctets;
 
 /// What an event of a script asks of the node at an address. A node that is of another kind, or has
 /// no such master, refuses it.
-#[derive(Debug, Drop)]
+#[derive(Drop)]
 pub enum Act<'a> {
     /// A node takes a datagram, as from an address.
     Receive { from: u32, octets: LentOctets<'a> },

@@ -1,5 +1,5 @@
 /// What a replay came to, where no line was refused.
-#[derive(Clone, Copy, Debug, PartialEq, Eq, Hash)]
+#[derive(Clone, Copy, Debug, PartialEq, Eq)]
 pub struct Done {
     /// The lines of the script.
     pub lines: u64,

@@ -8,7 +8,7 @@ use ptu_script::{Command, GrandmasterSetup, SlaveSetup};
 use ptu_units::Moment;
 
 /// What the command of a line asks of a lab.
-#[derive(Debug, Drop)]
+#[derive(Drop)]
 pub enum Order<'a> {
     /// A grandmaster is set up.
     Grandmaster(GrandmasterSetup),

@@ -18,7 +18,7 @@ use std::sync::ledger::Ledger;
 
 /// How many datagrams were sent, and how many calls of the lane's own port failed. A number that
 /// would be above its type's end stands there.
-#[derive(Clone, Copy, Debug, Default, PartialEq, Eq)]
+#[derive(Clone, Copy, Default)]
 pub(crate) struct Tally {
     pub sent: u128,
     pub failed: u64,

@@ -23,7 +23,7 @@ use std::sync::ledger::{Blank, Ledger};
 use std::thread::Threads;
 
 /// What lanes did, at their end.
-#[derive(Clone, Copy, Debug, PartialEq, Eq)]
+#[derive(Clone, Copy)]
 pub struct Totals {
     /// How many datagrams were sent.
     pub sent: u128,

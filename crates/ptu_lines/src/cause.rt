@@ -2,7 +2,7 @@ use std::error::Error;
 use std::fmt;
 
 /// Why a line is refused. The reader of lines gives `Size`, `Long` and `Text` alone.
-#[derive(Clone, Copy, Debug, PartialEq, Eq, Hash)]
+#[derive(Clone, Copy, Debug, PartialEq, Eq)]
 pub enum LineCause {
     /// Octet 67108865 of the script is among the first 8193 octets of the line, its 0A counted.
     Size,

@@ -6,7 +6,7 @@ use ptu_outside::Failed;
 use thiserror::Error;
 
 /// Why no line came.
-#[derive(Clone, Copy, Debug, PartialEq, Eq, Hash, Error)]
+#[derive(Clone, Copy, Debug, PartialEq, Eq, Error)]
 pub enum LinesFault {
     /// The line with this number, from 1, is refused.
     #[error("line {number} is refused: {cause:?}")]

@@ -9,7 +9,7 @@ use std::fmt;
 /// Why the octets of a datagram spell no message: the first cause that applies, in the order of the
 /// variants, where the causes of TLVs come TLV by TLV. Places count from the first octet of the
 /// datagram.
-#[derive(Clone, Copy, Debug, PartialEq, Eq, Hash)]
+#[derive(Clone, Copy, Debug, PartialEq, Eq)]
 pub enum MessageFault {
     /// They begin with no header.
     Header(HeaderFault),

@@ -31,7 +31,7 @@ pub enum Body {
 }
 
 /// The body of an Announce (IEEE 1588-2019 clause 13.5).
-#[derive(Clone, Copy, Debug, PartialEq, Eq, Hash)]
+#[derive(Clone, Copy, Debug)]
 pub struct AnnounceBody {
     /// The originTimestamp.
     pub origin: Stamp,

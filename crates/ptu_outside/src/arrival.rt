@@ -1,7 +1,7 @@
 use crate::datagram::Datagram;
 
 /// A datagram that waits to be received.
-#[derive(Debug, Drop)]
+#[derive(Drop)]
 pub struct Arrival {
     /// The sender's IPv4 address, its first octet the highest.
     pub ip: u32,

@@ -1,6 +1,6 @@
 /// One of the two UDP channels of PTP over IPv4 (IEEE 1588-2019 annex C), each with a port number
 /// of its own: event messages go by the first, and general messages by the second.
-#[derive(Clone, Copy, Debug, PartialEq, Eq, Hash)]
+#[derive(Clone, Copy, Debug, PartialEq, Eq)]
 pub enum Channel {
     Event,
     General,

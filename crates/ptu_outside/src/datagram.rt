@@ -3,7 +3,7 @@ ghost use Rattle.std.specs.Prelude.{◌≡◌};
 use std::marker::Model;
 
 /// The octets of one datagram. A clause sees it as the list of these.
-#[derive(Debug, Drop)]
+#[derive(Drop)]
 pub struct Datagram {
     octets: Vec<u8>,
 }

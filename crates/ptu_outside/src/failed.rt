@@ -2,7 +2,7 @@ use std::error::Error;
 use std::fmt;
 
 /// A call to the outside failed, and its count of faults rose.
-#[derive(Clone, Copy, Debug, PartialEq, Eq, Hash)]
+#[derive(Clone, Copy, Debug, PartialEq, Eq)]
 pub struct Failed;
 
 impl fmt::Display for Failed {

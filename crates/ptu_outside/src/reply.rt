@@ -1,5 +1,5 @@
 /// What became of the reply to a datagram.
-#[derive(Clone, Copy, Debug, PartialEq, Eq, Hash)]
+#[derive(Clone, Copy)]
 pub enum Reply {
     /// It was sent.
     Sent,

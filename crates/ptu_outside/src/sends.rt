@@ -4,7 +4,7 @@ ghost use Rattle.ptu_outside.specs.HandsOver.{failed_in, sent_in};
 use crate::failed::Failed;
 
 /// How many datagrams were sent, and how many failed to be sent.
-#[derive(Clone, Copy, Debug, PartialEq, Eq, Hash)]
+#[derive(Clone, Copy, Debug, PartialEq, Eq)]
 pub struct Sends {
     pub sent: u64,
     pub failed: u64,

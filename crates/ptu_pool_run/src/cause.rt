@@ -7,7 +7,7 @@ use std::error::Error;
 use std::fmt;
 
 /// Why a line of a script of pools is refused (the project's own choice).
-#[derive(Clone, Copy, Debug, PartialEq, Eq, Hash)]
+#[derive(Clone, Copy, Debug, PartialEq, Eq)]
 pub enum PoolCause {
     /// Octet 67108865 of the script is among the first 8193 octets of the line, its 0A counted.
     Size,

@@ -5,7 +5,7 @@ use ptu_units::Moment;
 
 /// What a line of a script of pools commands. The last two are events. The octets of a datagram
 /// stand in room that the reader's caller lent.
-#[derive(Debug, Drop)]
+#[derive(Drop)]
 pub enum PoolCommand<'a> {
     /// The grandmaster is set up, whose capacity the pools share.
     Grandmaster(GrandmasterSetup),

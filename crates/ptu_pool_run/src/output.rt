@@ -9,7 +9,7 @@ use ptu_texts::{AddressText, OctetsText};
 use std::fmt;
 
 /// A line of output. Its text has the 0A at its end. Lines of the script are numbered from 1.
-#[derive(Debug, Drop)]
+#[derive(Drop)]
 pub enum PoolLine<'a> {
     /// At this line the grandmaster of the pool with this number, from 1, sent a datagram.
     Sent {

@@ -2,7 +2,7 @@ ghost use Rattle.std.specs.Prelude.{◌≡◌};
 ghost use Rattle.ptu_pool_run.specs.Verb.{count_of, name_of, verb_named};
 
 /// The first word of a line that is a command.
-#[derive(Clone, Copy, Debug, PartialEq, Eq, Hash)]
+#[derive(Clone, Copy)]
 pub enum PoolVerb {
     Gm,
     Pool,

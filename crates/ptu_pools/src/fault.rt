@@ -5,7 +5,7 @@ use ptu_units::OutOfMemory;
 use thiserror::Error;
 
 /// Why pools were refused: the first that applies. Places count from 0.
-#[derive(Clone, Copy, Debug, PartialEq, Eq, Hash, Error)]
+#[derive(Clone, Copy, Debug, PartialEq, Eq, Error)]
 pub enum PoolsFault {
     /// The pool at this place has more than 32 bits, or its `net` has a bit set after them.
     #[error("pool {at} is no network")]

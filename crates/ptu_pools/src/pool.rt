@@ -2,7 +2,7 @@ ghost use Rattle.std.specs.Prelude.{◌≡◌, ◌-◌};
 ghost use Rattle.ptu_pools.specs.Pool.{is_in, is_network, meets};
 
 /// A customer's pool of IPv4 addresses, and the capacity that it is sold.
-#[derive(Clone, Copy, Debug, PartialEq, Eq)]
+#[derive(Clone, Copy)]
 pub struct Pool {
     /// The first address of the pool, its first octet the highest.
     pub net: u32,

@@ -44,7 +44,7 @@ impl<P: Port> Model for Pools<P> {
 }
 
 /// What became of a datagram.
-#[derive(Debug, Drop)]
+#[derive(Drop)]
 pub enum PoolTaken {
     /// Its sender's address is in no pool, and nothing has changed.
     Stranger,

@@ -5,7 +5,7 @@ use ptu_header::{Header, PortIdentity};
 
 /// What a grandmaster is set up with. Calls that take it ask that its values are within their
 /// limits.
-#[derive(Clone, Copy, Debug, PartialEq, Eq)]
+#[derive(Clone, Copy)]
 pub struct GmConfig {
     /// Its own port identity, which its messages have as sourcePortIdentity.
     pub identity: PortIdentity,

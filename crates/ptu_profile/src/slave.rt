@@ -5,7 +5,7 @@ use ptu_header::{Header, PortIdentity};
 use ptu_record::Wants;
 
 /// A master of a slave.
-#[derive(Clone, Copy, Debug, PartialEq, Eq, Hash)]
+#[derive(Clone, Copy)]
 pub struct Master {
     /// Its IPv4 address, the first octet the highest.
     pub ip: u32,
@@ -15,7 +15,7 @@ pub struct Master {
 
 /// What a slave is set up with. Calls that take it ask that its values are within their limits
 /// (`IsWithinLimits`).
-#[derive(Clone, Copy, Debug, PartialEq, Eq, Hash)]
+#[derive(Clone, Copy)]
 pub struct SlaveConfig {
     /// Its own port identity, which its messages have as sourcePortIdentity.
     pub identity: PortIdentity,

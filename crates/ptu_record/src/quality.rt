@@ -3,7 +3,7 @@ ghost use Rattle.ptu_record.specs.Quality.{class_of, is_usable, level_of, rank_o
 
 /// A quality level of Option I, best first: QL-PRC, QL-SSU-A, QL-SSU-B, QL-SEC and QL-DNU
 /// (G.8265.1).
-#[derive(Clone, Copy, Debug, PartialEq, Eq, PartialOrd, Ord, Hash)]
+#[derive(Clone, Copy, Debug, PartialEq, Eq, PartialOrd, Ord)]
 pub enum Quality {
     Prc,
     SsuA,

@@ -1,5 +1,5 @@
 /// How a judge finds a master unusable.
-#[derive(Clone, Copy, Debug, PartialEq, Eq, Hash)]
+#[derive(Clone, Copy, Debug, PartialEq, Eq)]
 pub enum Rule {
     /// Where the operator said so last.
     Flag,

@@ -5,7 +5,7 @@ ghost use Rattle.ptu_record.specs.Wants.{wanted_log};
 use ptu_units::{Kind, Log, period};
 
 /// What a slave requests of each of its masters.
-#[derive(Clone, Copy, Debug, PartialEq, Eq, Hash)]
+#[derive(Clone, Copy)]
 pub struct Wants {
     /// The logarithm of the Announce interval.
     pub announce: Log,

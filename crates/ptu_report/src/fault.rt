@@ -2,7 +2,7 @@ use std::error::Error;
 use std::fmt;
 
 /// Why a program over lines did not read its input to the end.
-#[derive(Clone, Copy, Debug, PartialEq, Eq, Hash)]
+#[derive(Clone, Copy, Debug, PartialEq, Eq)]
 pub enum RunFault<C> {
     /// The line with this number, from 1, is refused; the last line of the output names it.
     Line { number: u64, cause: C },

@@ -12,7 +12,7 @@ use std::marker::Model;
 
 /// Texts of output, each with the 0A at its end where it is a line. Their octets stand in one room,
 /// which is kept for later ones. A clause sees their octets as a list.
-#[derive(Debug, Drop)]
+#[derive(Drop)]
 pub struct Texts {
     draft: Draft,
     spans: Vec<Span>,

@@ -11,7 +11,7 @@ use ptu_writing::{LinePart, LineText};
 
 /// What a grandmaster decided on a REQUEST or a CANCEL. Rates and capacities are in sixteenths of a
 /// message per second.
-#[derive(Clone, Copy, Debug, PartialEq, Eq)]
+#[derive(Clone, Copy)]
 pub enum Decision {
     /// The request was granted at a moment until another, in nanoseconds.
     Granted {

@@ -6,7 +6,7 @@ use ptu_units::Moment;
 use ptu_writing::{LinePart, LineText};
 
 /// What a Delay_Req came to at a grandmaster.
-#[derive(Clone, Copy, Debug, PartialEq, Eq)]
+#[derive(Clone, Copy)]
 pub enum DelayAnswer {
     /// It was answered.
     Answered { at: Moment },

@@ -7,7 +7,7 @@ use ptu_units::Moment;
 use ptu_writing::{LinePart, LineText};
 
 /// What a slave heard of a master, which is named by its address.
-#[derive(Clone, Copy, Debug, PartialEq, Eq)]
+#[derive(Clone, Copy)]
 pub enum Hearing {
     /// An Announce with this clockClass.
     Announce { master: u32, class: u8, at: Moment },

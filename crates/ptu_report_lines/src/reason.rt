@@ -6,7 +6,7 @@ use ptu_texts::FaultText;
 use ptu_writing::{LinePart, LineText};
 
 /// Why a node ignored a datagram.
-#[derive(Clone, Copy, Debug, PartialEq, Eq)]
+#[derive(Clone, Copy)]
 pub enum Reason {
     /// It spells no message.
     Fault(MessageFault),

@@ -8,7 +8,7 @@ use ptu_units::OutOfMemory;
 use ptu_writing::{Draft, LineText, Text};
 
 /// A line of a report. Its text has the 0A at its end.
-#[derive(Debug, Drop)]
+#[derive(Drop)]
 pub enum ReportLine {
     /// What happened at the script's line of this number, from 1.
     At { number: u64, statement: Statement },

@@ -12,7 +12,7 @@ use ptu_writing::{Draft, LinePart, LineText, Text};
 use std::marker::Model;
 
 /// A datagram that a node sent.
-#[derive(Debug, Drop)]
+#[derive(Drop)]
 pub struct Sent {
     /// The address of the node.
     pub from: u32,
@@ -40,7 +40,7 @@ impl Sent {
 
 /// A datagram that a node sent, whose octets stand elsewhere. A clause sees it as one that owns
 /// them.
-#[derive(Debug, Drop)]
+#[derive(Drop)]
 pub struct SentRef<'a> {
     from: u32,
     to: u32,

@@ -6,7 +6,7 @@ use ptu_units::Kind;
 use ptu_writing::{LinePart, LineText};
 
 /// What a TLV of a Signaling said to a slave.
-#[derive(Clone, Copy, Debug, PartialEq, Eq)]
+#[derive(Clone, Copy)]
 pub enum Received {
     /// It was granted the kind for so many seconds.
     Grant { kind: Kind, seconds: u32 },

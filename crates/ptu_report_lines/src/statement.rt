@@ -18,7 +18,7 @@ use ptu_units::{Kind, Log, Moment, OutOfMemory};
 use ptu_writing::{Draft, LinePart, LineText, Text};
 
 /// What happened at a line of a script.
-#[derive(Debug, Drop)]
+#[derive(Drop)]
 pub enum Statement {
     /// A grandmaster decided.
     Decided(Decision),

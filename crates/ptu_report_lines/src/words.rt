@@ -10,7 +10,7 @@ use ptu_writing::{LinePart, LineText};
 use std::fmt;
 
 /// A word of a line.
-#[derive(Clone, Copy, Debug, PartialEq, Eq)]
+#[derive(Clone, Copy)]
 pub enum Word {
     /// A word of the language.
     Name(&'static str),

@@ -1,5 +1,5 @@
 /// The kinds for which a master is to be asked.
-#[derive(Clone, Copy, Debug, PartialEq, Eq, Hash)]
+#[derive(Clone, Copy, Debug, PartialEq, Eq)]
 pub struct Due {
     pub announce: bool,
     pub sync: bool,

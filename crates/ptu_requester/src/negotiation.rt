@@ -16,7 +16,7 @@ const HALF_SECOND: u64 = 500_000_000;
 const NANOS_PER_MINUTE: u64 = 60_000_000_000;
 
 /// What changes a negotiation.
-#[derive(Clone, Copy, Debug)]
+#[derive(Clone, Copy)]
 pub enum Change {
     /// A REQUEST was sent, or failed to be sent.
     Ask,
@@ -29,14 +29,14 @@ pub enum Change {
 }
 
 /// The term of a grant: so many seconds from its moment on.
-#[derive(Clone, Copy, Debug)]
+#[derive(Clone, Copy)]
 pub struct Term {
     pub at: Moment,
     pub seconds: u32,
 }
 
 /// What is kept of one kind at one master.
-#[derive(Clone, Copy, Debug)]
+#[derive(Clone, Copy)]
 pub struct Negotiation {
     /// How many asks there were since the last answer, modulo 3.
     pub unanswered: u8,

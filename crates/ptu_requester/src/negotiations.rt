@@ -11,7 +11,7 @@ use ptu_units::{Kind, Moment};
 use std::alloc::{AllocError, Global};
 
 /// What is kept of one master.
-#[derive(Clone, Copy, Debug)]
+#[derive(Clone, Copy)]
 pub struct Negotiations {
     pub announce: Negotiation,
     pub sync: Negotiation,

@@ -5,7 +5,7 @@ use ptu_units::OutOfMemory;
 use thiserror::Error;
 
 /// Why a daemon ended before its last round, or without its last line.
-#[derive(Clone, Copy, Debug, PartialEq, Eq, Hash, Error)]
+#[derive(Clone, Copy, Debug, PartialEq, Eq, Error)]
 pub enum DaemonFault {
     /// The host did not open its ports and clocks.
     #[error("the ports could not be opened")]

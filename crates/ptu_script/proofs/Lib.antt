@@ -1,2 +1,1 @@
 pub mod Logs
-mod Spelled

@@ -6,7 +6,7 @@ use std::error::Error;
 use std::fmt;
 
 /// Why a line of a script is refused.
-#[derive(Clone, Copy, Debug, PartialEq, Eq, Hash)]
+#[derive(Clone, Copy, Debug, PartialEq, Eq)]
 pub enum Cause {
     /// Octet 67108865 of the script is among the first 8193 octets of the line, its 0A counted.
     Size,

@@ -3,7 +3,7 @@ use ptu_record::{Rule, Wants};
 use ptu_units::Moment;
 
 /// What `gm IP CLOCK PORT DOMAIN CLASS CAPACITY MAX` says.
-#[derive(Clone, Copy, Debug, PartialEq, Eq)]
+#[derive(Clone, Copy)]
 pub struct GrandmasterSetup {
     /// The address, its first octet the highest.
     pub ip: u32,
@@ -22,7 +22,7 @@ pub struct GrandmasterSetup {
 }
 
 /// What `slave IP CLOCK PORT DOMAIN WAIT TA TS LA LS LD DUR TD` says.
-#[derive(Clone, Copy, Debug, PartialEq, Eq)]
+#[derive(Clone, Copy)]
 pub struct SlaveSetup {
     /// The address, its first octet the highest.
     pub ip: u32,
@@ -47,7 +47,7 @@ pub struct SlaveSetup {
 
 /// What a line of a script commands. The first three set nodes up, the others are events. The
 /// octets of a datagram stand in room that the reader's caller lent.
-#[derive(Debug, Drop)]
+#[derive(Drop)]
 pub enum Command<'a> {
     /// A grandmaster is set up.
     Grandmaster(GrandmasterSetup),

@@ -2,7 +2,7 @@ ghost use Rattle.std.specs.Prelude.{◌≡◌};
 ghost use Rattle.ptu_script.specs.Verb.{name_of, verb_named};
 
 /// The first word of a line that is a command.
-#[derive(Clone, Copy, Debug, PartialEq, Eq, Hash)]
+#[derive(Clone, Copy)]
 pub enum Verb {
     Gm,
     Slave,
@@ -17,6 +17,21 @@ pub enum Verb {
     Class,
     Capacity,
 }
+
+const VERBS: [Verb; 12] = [
+    Verb::Gm,
+    Verb::Slave,
+    Verb::Master,
+    Verb::Rx,
+    Verb::Deliver,
+    Verb::Turn,
+    Verb::Tick,
+    Verb::Flag,
+    Verb::Judge,
+    Verb::Stop,
+    Verb::Class,
+    Verb::Capacity,
+];
 
 impl Verb {
     /// The word itself.
@@ -43,20 +58,9 @@ impl Verb {
     pub fn of(word: &[u8]) -> Option<Verb>
         ensures { result ≡ verb_named word.now }
     {
-        match word {
-            b"gm" => Some(Verb::Gm),
-            b"slave" => Some(Verb::Slave),
-            b"master" => Some(Verb::Master),
-            b"rx" => Some(Verb::Rx),
-            b"deliver" => Some(Verb::Deliver),
-            b"turn" => Some(Verb::Turn),
-            b"tick" => Some(Verb::Tick),
-            b"flag" => Some(Verb::Flag),
-            b"judge" => Some(Verb::Judge),
-            b"stop" => Some(Verb::Stop),
-            b"class" => Some(Verb::Class),
-            b"capacity" => Some(Verb::Capacity),
-            _ => None,
-        }
+        VERBS
+            .iter()
+            .copied()
+            .find(|verb| word == verb.name().as_bytes())
     }
 }

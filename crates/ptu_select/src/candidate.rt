@@ -4,7 +4,7 @@ ghost use Rattle.ptu_select.specs.Candidate.{better_of as better_candidate_of, i
 use ptu_record::Quality;
 
 /// An eligible master, as it is compared with others.
-#[derive(Clone, Copy, Debug)]
+#[derive(Clone, Copy)]
 pub struct Candidate {
     /// The quality level of its last Announce.
     pub quality: Quality,

@@ -7,7 +7,7 @@ use ptu_units::Moment;
 
 /// The place of the selected master with the moments for which it stands where nothing is entered:
 /// from the first on, before the second, both in nanoseconds.
-#[derive(Clone, Copy, Debug)]
+#[derive(Clone, Copy)]
 pub struct Choice {
     pub from: u64,
     pub until: u64,

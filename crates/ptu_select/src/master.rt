@@ -7,7 +7,7 @@ use ptu_fails::Watch;
 use ptu_units::Moment;
 
 /// A master under its watch, with its priority number.
-#[derive(Clone, Copy, Debug)]
+#[derive(Clone, Copy)]
 pub struct WatchedMaster {
     pub watch: Watch,
     pub priority: u8,

@@ -15,7 +15,7 @@ use std::marker::Model;
 /// The watches over all masters of one slave, with their priority numbers. No call but `new` needs
 /// memory. Which records of the slave a selector stands for is said by `SelectsBy`. The last choice
 /// is kept with the moments for which it stands; every entry drops it.
-#[derive(Debug, Drop)]
+#[derive(Drop)]
 pub struct Selector {
     masters: Vec<WatchedMaster>,
     kept: Option<Choice>,

@@ -22,7 +22,7 @@ pub struct Lease {
 }
 
 /// A lease beside the client and kind that it is of.
-#[derive(Clone, Copy, Debug, PartialEq, Eq)]
+#[derive(Clone, Copy)]
 pub struct Row {
     pub client: Client,
     pub kind: Kind,

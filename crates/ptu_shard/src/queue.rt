@@ -15,7 +15,7 @@ use std::marker::Model;
 
 /// A client and kind at a moment, in nanoseconds. Entries are ordered by moment, then client, then
 /// kind.
-#[derive(Clone, Copy, Debug, PartialEq, Eq, PartialOrd, Ord)]
+#[derive(Clone, Copy, PartialEq, Eq, PartialOrd, Ord)]
 pub(crate) struct Entry {
     pub(crate) moment: u64,
     pub(crate) client: Client,

@@ -18,7 +18,7 @@ use ptu_history::Client;
 use ptu_units::{Kind, Moment, rate};
 
 /// What a lease is found by.
-#[derive(Clone, Copy, Debug, PartialEq, Eq, Hash)]
+#[derive(Clone, Copy, PartialEq, Eq, Hash)]
 pub(crate) struct Key {
     pub(crate) client: Client,
     pub(crate) kind: Kind,

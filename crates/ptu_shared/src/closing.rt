@@ -37,7 +37,7 @@ pub struct CloseFault<P: Port + Send, L: Rates, G: Ledger, R: Ledger> {
 }
 
 /// How many sends of each table's port failed. A number that would be above 2^64 - 1 stands there.
-#[derive(Clone, Copy, Debug, PartialEq, Eq)]
+#[derive(Clone, Copy)]
 pub struct Failures {
     /// Of the port of table 0.
     pub p0: u64,

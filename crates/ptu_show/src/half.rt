@@ -10,7 +10,7 @@ use ptu_messages::{Body, Message};
 use ptu_units::Stamp;
 
 /// What the halves of one Sync have in common.
-#[derive(Clone, Copy, Debug, PartialEq, Eq, Hash)]
+#[derive(Clone, Copy, PartialEq, Eq, Hash)]
 pub struct HalfKey {
     /// The domainNumber.
     pub domain: u8,
@@ -21,7 +21,7 @@ pub struct HalfKey {
 }
 
 /// Which half of a Sync in two steps a message is.
-#[derive(Clone, Copy, Debug, PartialEq, Eq)]
+#[derive(Clone, Copy)]
 pub enum Part {
     /// The Sync, with twoStepFlag.
     Sync,
@@ -42,7 +42,7 @@ impl Part {
 }
 
 /// A half of a Sync in two steps (IEEE 1588-2019 clauses 13.6 and 13.7).
-#[derive(Clone, Copy, Debug)]
+#[derive(Clone, Copy)]
 pub struct Half {
     /// Which one it is.
     pub part: Part,

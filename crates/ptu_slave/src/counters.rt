@@ -6,7 +6,7 @@ ghost use Rattle.ptu_slave.specs.Kept.{CountFor};
 use ptu_units::Moment;
 
 /// What a slave counts of what it sends to one master (IEEE 1588-2019 clause 7.3.7).
-#[derive(Clone, Copy, Debug)]
+#[derive(Clone, Copy)]
 pub struct Counters {
     /// The sequenceId of the next Signaling that is no reply.
     pub signaling: u16,

@@ -1,7 +1,7 @@
 use ptu_units::Moment;
 
 /// What a tick or the stop sent.
-#[derive(Clone, Copy, Debug, PartialEq, Eq, Hash)]
+#[derive(Clone, Copy, Debug, PartialEq, Eq)]
 pub struct Ticked {
     /// The moment of the event.
     pub at: Moment,

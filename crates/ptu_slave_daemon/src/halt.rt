@@ -4,7 +4,7 @@ ghost use Rattle.ptu_slave_daemon.specs.declared.halt.Halt.TheVariants.{OutOfMem
 use ptu_units::OutOfMemory;
 
 /// Why a slave's daemon did not come to its end.
-#[derive(Clone, Copy, Debug, PartialEq, Eq)]
+#[derive(Clone, Copy)]
 pub(crate) enum Halt {
     /// The sink failed.
     Write,

@@ -23,7 +23,7 @@ impl fmt::Display for MasterText {
 }
 
 /// A line of the output of a slave's daemon.
-#[derive(Clone, Copy, Debug, PartialEq, Eq)]
+#[derive(Clone, Copy)]
 pub enum SlaveLine {
     /// After this round the master at this IPv4 address is selected, or none, and the line before
     /// did not say so.

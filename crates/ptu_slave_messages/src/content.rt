@@ -3,7 +3,7 @@ use ptu_header::PortIdentity;
 use ptu_messages::TlvList;
 
 /// What a slave needs of a message that it takes.
-#[derive(Debug, Drop)]
+#[derive(Drop)]
 pub struct Accepted {
     /// The place of the master that sent it.
     pub master: usize,
@@ -15,7 +15,7 @@ pub struct Accepted {
 }
 
 /// The same of its body.
-#[derive(Debug, Drop)]
+#[derive(Drop)]
 pub enum Content {
     /// With its clockClass.
     Announce(u8),

@@ -5,7 +5,7 @@ use ptu_units::Moment;
 
 /// What a slave makes of a datagram: it ignores it, or hears a message of one of its masters, which
 /// is named by its place, at the moment of the event.
-#[derive(Debug, Drop)]
+#[derive(Drop)]
 pub enum Heard {
     Ignored(SlaveReason),
     Announce {

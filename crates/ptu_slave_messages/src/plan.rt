@@ -1,7 +1,7 @@
 use crate::kinds::Kinds;
 
 /// What a tick sends to one master.
-#[derive(Clone, Copy, Debug, PartialEq, Eq, Hash)]
+#[derive(Clone, Copy)]
 pub struct TickPlan {
     /// The kinds that a Signaling asks for; none is sent where there are none.
     pub kinds: Kinds,
@@ -12,7 +12,7 @@ pub struct TickPlan {
 }
 
 /// What the stop sends to one master.
-#[derive(Clone, Copy, Debug, PartialEq, Eq, Hash)]
+#[derive(Clone, Copy)]
 pub struct StopPlan {
     /// The kinds that a Signaling cancels; none is sent where there are none.
     pub kinds: Kinds,

@@ -1,7 +1,7 @@
 use ptu_messages::MessageFault;
 
 /// Why a slave ignores a datagram: the first cause that applies, in the order of the variants.
-#[derive(Clone, Copy, Debug, PartialEq, Eq, Hash)]
+#[derive(Clone, Copy, Debug, PartialEq, Eq)]
 pub enum SlaveReason {
     /// It spells no message.
     Fault(MessageFault),

@@ -1,7 +1,7 @@
 use ptu_units::{Kind, Listed};
 
 /// What a master said of unicast transmission by a TLV (IEEE 1588-2019 clause 16.1.4).
-#[derive(Clone, Copy, Debug, PartialEq, Eq, Hash)]
+#[derive(Clone, Copy)]
 pub enum Signal {
     /// A kind that was requested is granted for so many seconds, more than 0.
     Grant(Kind, u32),

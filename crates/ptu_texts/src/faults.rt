@@ -11,7 +11,7 @@ use std::fmt;
 
 /// Why octets spell no message: one word for the fault, and its numbers. `MessageFault` itself
 /// prints a sentence.
-#[derive(Clone, Copy, Debug, PartialEq, Eq)]
+#[derive(Clone, Copy)]
 pub struct FaultText(pub MessageFault);
 
 impl LinePart for FaultText {

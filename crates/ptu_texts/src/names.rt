@@ -10,7 +10,7 @@ use ptu_writing::{LinePart, LineText};
 use std::fmt;
 
 /// An IPv4 address, in dotted decimal.
-#[derive(Clone, Copy, Debug, PartialEq, Eq)]
+#[derive(Clone, Copy)]
 pub struct AddressText(pub u32);
 
 impl LinePart for AddressText {
@@ -40,7 +40,7 @@ impl fmt::Display for AddressText {
 }
 
 /// A clockIdentity, as 16 hexadecimal digits in lower case (IEEE 1588-2019 clause 5.3.4).
-#[derive(Clone, Copy, Debug, PartialEq, Eq)]
+#[derive(Clone, Copy)]
 pub struct ClockText(pub u64);
 
 impl LinePart for ClockText {
@@ -64,7 +64,7 @@ impl fmt::Display for ClockText {
 }
 
 /// A port identity: the clockIdentity, a slash and the portNumber (IEEE 1588-2019 clause 5.3.5).
-#[derive(Clone, Copy, Debug, PartialEq, Eq)]
+#[derive(Clone, Copy)]
 pub struct IdentityText(pub PortIdentity);
 
 impl LinePart for IdentityText {
@@ -90,7 +90,7 @@ impl fmt::Display for IdentityText {
 }
 
 /// The name of a kind of message.
-#[derive(Clone, Copy, Debug, PartialEq, Eq)]
+#[derive(Clone, Copy)]
 pub struct KindText(pub Kind);
 
 impl LinePart for KindText {
@@ -108,7 +108,7 @@ impl LinePart for KindText {
 }
 
 /// A logarithm, in decimal and with its sign where it is negative.
-#[derive(Clone, Copy, Debug, PartialEq, Eq)]
+#[derive(Clone, Copy)]
 pub struct LogText(pub Log);
 
 impl LinePart for LogText {

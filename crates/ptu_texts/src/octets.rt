@@ -37,7 +37,7 @@ fn write_digits<W: fmt::Write>(octets: &[u8], f: &mut fmt::Formatter<W>) -> fmt:
 }
 
 /// Octets, as two hexadecimal digits in lower case each.
-#[derive(Clone, Copy, Debug, PartialEq, Eq)]
+#[derive(Clone, Copy)]
 pub struct OctetsText<'a>(pub &'a [u8]);
 
 impl fmt::Display for OctetsText<'_> {

@@ -5,7 +5,7 @@ use std::error::Error;
 use std::fmt;
 
 /// Why octets begin with no TLV: the first cause that applies, in the order of the variants.
-#[derive(Clone, Copy, Debug, PartialEq, Eq, Hash)]
+#[derive(Clone, Copy, Debug, PartialEq, Eq)]
 pub enum TlvFault {
     /// There are fewer than the 4 octets of a tlvType and a lengthField.
     Short {

@@ -1,6 +1,6 @@
 /// What is asked for, or granted: messages of a kind, how often and for how long
 /// (IEEE 1588-2019 clause 16.1.4.1).
-#[derive(Clone, Copy, Debug, PartialEq, Eq, Hash)]
+#[derive(Clone, Copy, Debug, PartialEq, Eq)]
 pub struct Ask {
     /// The messageType of the kind, of 4 bits.
     pub code: u8,
@@ -11,7 +11,7 @@ pub struct Ask {
 }
 
 /// A TLV as a Signaling message carries it (IEEE 1588-2019 clauses 14.1 and 16.1.4).
-#[derive(Clone, Copy, Debug, PartialEq, Eq, Hash)]
+#[derive(Clone, Copy, Debug, PartialEq, Eq)]
 pub enum Tlv {
     /// REQUEST_UNICAST_TRANSMISSION.
     Request(Ask),

@@ -2,7 +2,7 @@ use ptu_history::Client;
 use ptu_units::Kind;
 
 /// What is wrong with a report. A trail answers all of them but `Reply`.
-#[derive(Clone, Copy, Debug, PartialEq, Eq, Hash)]
+#[derive(Clone, Copy, Debug, PartialEq, Eq)]
 pub enum NoCause {
     /// A group of lines is not answered as it must be.
     Reply,
@@ -24,7 +24,7 @@ pub enum NoCause {
 }
 
 /// The first fault of some records.
-#[derive(Clone, Copy, Debug, PartialEq, Eq, Hash)]
+#[derive(Clone, Copy, Debug, PartialEq, Eq)]
 pub struct Fault {
     /// The place among these records, from 0, of the one that has it.
     pub place: usize,
@@ -32,7 +32,7 @@ pub struct Fault {
 }
 
 /// A grant that a change of capacity sheds.
-#[derive(Clone, Copy, Debug, PartialEq, Eq, Hash)]
+#[derive(Clone, Copy)]
 pub struct Shedding {
     pub client: Client,
     pub kind: Kind,

@@ -3,7 +3,7 @@ use crate::spending::{granted_edge, spent};
 use ptu_units::{Kind, Log};
 
 /// A grant that is the last decision on its client and kind.
-#[derive(Clone, Copy, Debug)]
+#[derive(Clone, Copy)]
 pub(crate) struct Lease {
     pub(crate) log: Log,
     pub(crate) until: u64,
@@ -12,7 +12,7 @@ pub(crate) struct Lease {
 }
 
 /// What is known of a client.
-#[derive(Clone, Copy, Debug)]
+#[derive(Clone, Copy)]
 pub(crate) struct Known {
     /// The greatest moment of a decision on it.
     pub(crate) decided: u64,

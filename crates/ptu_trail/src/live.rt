@@ -16,7 +16,7 @@ use std::marker::Model;
 
 /// When a grant ends, in nanoseconds, and whose it is. Ends are ordered by moment, then client,
 /// then kind.
-#[derive(Clone, Copy, Debug, PartialEq, Eq, PartialOrd, Ord)]
+#[derive(Clone, Copy, PartialEq, Eq, PartialOrd, Ord)]
 pub(crate) struct End {
     pub(crate) until: u64,
     pub(crate) client: Client,

@@ -6,7 +6,7 @@ use crate::two_step::TwoStep;
 use ptu_outside::{Failed, Host, Opened};
 
 /// The flags of six ports in two steps.
-#[derive(Clone, Copy, Debug, Default, PartialEq, Eq)]
+#[derive(Clone, Copy, Default, PartialEq, Eq)]
 pub struct Flags {
     pub p0: bool,
     pub p1: bool,

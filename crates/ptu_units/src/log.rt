@@ -6,7 +6,7 @@ use std::marker::Model;
 
 /// The logarithm to base 2 of a mean message interval in seconds, from -7 to 4
 /// (logInterMessagePeriod, IEEE 1588-2019 clause 16.1.4.1.4). A clause sees it as that number.
-#[derive(Clone, Copy, Debug, PartialEq, Eq, PartialOrd, Ord, Hash)]
+#[derive(Clone, Copy, Debug, PartialEq, Eq)]
 pub struct Log {
     value: i8,
 }

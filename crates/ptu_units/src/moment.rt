@@ -3,7 +3,7 @@ ghost use Rattle.std.specs.{Prelude.{◌≡◌, ◌<◌, ◌^◌, max}, Option.{
 use std::marker::Model;
 
 /// A moment in whole nanoseconds from a stated zero, below 2^62. A clause sees it as that number.
-#[derive(Clone, Copy, Debug, PartialEq, Eq, PartialOrd, Ord, Hash)]
+#[derive(Clone, Copy, Debug, PartialEq, Eq)]
 pub struct Moment {
     nanos: u64,
 }

@@ -4,7 +4,7 @@ ghost use Rattle.ptu_words.specs.CommandLine.{IsInRange, audit_of, command_named
 use ptu_lines::number;
 
 /// What the words ask the program for.
-#[derive(Clone, Copy, Debug, PartialEq, Eq, Hash)]
+#[derive(Clone, Copy, Debug, PartialEq, Eq)]
 pub enum Command {
     /// Replay a script.
     Replay,

@@ -8,7 +8,7 @@ use std::alloc::Global;
 use std::marker::Model;
 
 /// The octets of texts that are done, and behind them those of one in the making.
-#[derive(Debug, Drop)]
+#[derive(Drop)]
 pub struct Draft {
     octets: Vec<u8>,
     start: usize,
