@@ -4,4 +4,3 @@ mod octets;
 mod outside;
 mod ports;
 mod tlvs;
-mod units;

@@ -2,8 +2,8 @@ ghost use Rattle.std.specs.Prelude.{◌≡◌, length, IfOk};
 
 use ptu_outside::samples::{idle_port, opened_with};
 use ptu_outside::{
-    Arrival, Channel, Clock, Datagram, Endpoint, Failed, Host, MemClock, MemHost, MemPort, Opened,
-    Port, Sends, hand,
+    Arrival, Channel, Clock, Datagram, Endpoint, Failed, Host, MemClock, MemHost, MemPort, Port,
+    Sends, hand,
 };
 use ptu_units::Moment;
 use std::alloc::Global;
@@ -76,10 +76,6 @@ fn a_clock_answers_its_last_moment_again(rt: HostRuntime) -> Result<(), Fail> {
     Ok(())
 }
 
-fn ports(alloc: Global) -> Opened<MemPort, MemClock> {
-    opened_with(alloc, idle_port(alloc))
-}
-
 fn open_and_close<H: Host>(host: &mut H) -> Result<(), Failed> {
     let opened = host.open(0x7f00_0001, 319, 320)?;
     host.close(opened);
@@ -87,8 +83,9 @@ fn open_and_close<H: Host>(host: &mut H) -> Result<(), Failed> {
 }
 
 #[test]
-fn a_host_opens_once_and_takes_back(rt: HostRuntime) -> Result<(), Fail> {
-    let mut host = MemHost::new(ports(rt.alloc()), false);
+fn a_host_opens_once_and_takes_back(rt: HostRuntime) {
+    let alloc = rt.alloc();
+    let mut host = MemHost::new(opened_with(alloc, idle_port(alloc)), false);
     assert!(rt; host.back().is_none());
     assert_eq!(rt; host.opened_at(), None);
     assert!(rt; open_and_close(&mut host).is_ok());
@@ -100,8 +97,7 @@ fn a_host_opens_once_and_takes_back(rt: HostRuntime) -> Result<(), Fail> {
     };
     assert_eq!(rt; host.opened_at(), Some(endpoint));
     assert!(rt; open_and_close(&mut host).is_err());
-    let mut failing = MemHost::new(ports(rt.alloc()), true);
+    let mut failing = MemHost::new(opened_with(alloc, idle_port(alloc)), true);
     assert!(rt; open_and_close(&mut failing).is_err());
     assert_eq!(rt; failing.opened_at(), None);
-    Ok(())
 }
