@@ -8,7 +8,7 @@ use std::io::{ErrorKind, Read, Write};
 use std::test::Fail;
 
 #[test]
-fn a_source_gives_what_it_has_and_fails_where_listed(rt: HostRuntime) -> Result<(), Fail> {
+fn a_source_gives_and_a_sink_keeps_and_both_fail_where_listed(rt: HostRuntime) -> Result<(), Fail> {
     let alloc = rt.alloc();
     let mut source = MemSource::new(vec![in alloc; 1, 2, 3]?, vec![in alloc; 2]?);
     let mut buf = [0; 2];
@@ -18,12 +18,6 @@ fn a_source_gives_what_it_has_and_fails_where_listed(rt: HostRuntime) -> Result<
     assert_eq!(rt; source.read(&mut buf), Ok(1));
     assert_eq!(rt; buf[0], 3);
     assert_eq!(rt; source.read(&mut buf), Ok(0));
-    Ok(())
-}
-
-#[test]
-fn a_sink_keeps_what_is_written_and_fails_where_listed(rt: HostRuntime) -> Result<(), Fail> {
-    let alloc = rt.alloc();
     let mut sink = MemSink::new(alloc, vec![in alloc; 2]?);
     assert_eq!(rt; sink.reserve(8), Ok(()));
     assert_eq!(rt; write_whole(&mut sink, b"ab"), Ok(()));
@@ -75,7 +69,7 @@ impl Sink for Pieces {
 }
 
 #[test]
-fn a_text_is_handed_over_whole_and_then_what_is_left_of_it(rt: HostRuntime) -> Result<(), Fail> {
+fn a_text_is_handed_over_whole_and_then_what_is_left_of_it(rt: HostRuntime) {
     let alloc = rt.alloc();
     let mut sink = Pieces {
         alloc,
@@ -89,7 +83,6 @@ fn a_text_is_handed_over_whole_and_then_what_is_left_of_it(rt: HostRuntime) -> R
     assert_eq!(rt; sink.pieces[0].as_slice(), b"abcde".as_slice());
     assert_eq!(rt; sink.pieces[1].as_slice(), b"cde".as_slice());
     assert_eq!(rt; sink.pieces[2].as_slice(), b"e".as_slice());
-    Ok(())
 }
 
 // A reader and a writer that are interrupted at first, and then give or take one octet a call, to
@@ -138,7 +131,7 @@ impl Write for Slow {
 }
 
 #[test]
-fn an_interrupted_call_is_tried_again(rt: HostRuntime) -> Result<(), Fail> {
+fn an_interrupted_call_is_tried_again(rt: HostRuntime) {
     let mut source = StdSource::new(Slow {
         calls: 0,
         end: 2,
@@ -155,11 +148,10 @@ fn an_interrupted_call_is_tried_again(rt: HostRuntime) -> Result<(), Fail> {
     });
     assert_eq!(rt; write_whole(&mut sink, b"abc"), Ok(()));
     assert_eq!(rt; write_whole(&mut sink, b"d"), Err(Failed));
-    Ok(())
 }
 
 #[test]
-fn a_writer_that_takes_nothing_of_a_piece_is_a_fault(rt: HostRuntime) -> Result<(), Fail> {
+fn a_writer_that_takes_nothing_of_a_piece_is_a_fault(rt: HostRuntime) {
     let mut sink = StdSink::new(Slow {
         calls: 0,
         end: 0,
@@ -167,5 +159,4 @@ fn a_writer_that_takes_nothing_of_a_piece_is_a_fault(rt: HostRuntime) -> Result<
     });
     assert_eq!(rt; sink.write(b""), Ok(0));
     assert_eq!(rt; sink.write(b"a"), Err(Failed));
-    Ok(())
 }
