@@ -5,4 +5,4 @@ use Rattle.ptu_words.proofs.laws.sample_words.Goals as goal
 
 pub returns : goal.returns
 unfolding clap_on_literals command_of
-returns c = (refl, refl, refl, refl, refl, refl, refl, refl, refl, refl, refl, refl, refl, refl, refl, refl, refl, refl, refl, refl, refl, refl, refl, refl, refl, refl)
+returns c = (refl, refl, refl, refl, refl, refl, refl, refl, refl, refl)
