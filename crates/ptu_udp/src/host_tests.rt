@@ -64,7 +64,7 @@ fn rests<R, P: Port>(rt: &impl Abort, watched: &Watched<R>, port: &mut P) -> u64
     for _ in 0..10 {
         assert_eq!(rt; port.receive(&mut [0; 2048]), Ok(None));
     }
-    watched.rests.load(Ordering::Relaxed) - before
+    watched.rests.load(Ordering::Relaxed).saturating_sub(before)
 }
 
 // The ports of a host at that address, at numbers that are free.
