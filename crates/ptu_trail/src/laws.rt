@@ -14,10 +14,10 @@ ghost use Rattle.ptu_trail.specs.declared.cause.Shedding.{Shedding};
 ghost use Rattle.ptu_trail.specs.Faults.{AreInRange, IsFaultless, decided_clients, fault_of, first_fault, is_shedding, message_to, record_of};
 
 /// A trail without a fault, whose grants' logarithms are in range, is sound, and so keeps the
-/// promises: the rates held sum to at most the capacity in force at every moment, each message stands
-/// inside a live grant, at or after its start and not before its own period, and pays one whole
-/// period of held time, all payments of one client and kind are disjoint, and up to each moment all
-/// messages are within the budget.
+/// promises: the rates held sum to at most the capacity in force at every moment, each message
+/// stands inside a live grant, at or after its start and not before its own period, and pays one
+/// whole period of held time, all payments of one client and kind are disjoint, and up to each
+/// moment all messages are within the budget.
 pub fn faultless_trails()
     ensures sound { (opening : ℕ) (trail : List Record) →
         AreInRange trail → IsFaultless opening trail → IsSound opening trail }

@@ -1,5 +1,5 @@
-//! Calls of a socket that are made again: where they were interrupted, where a datagram is left out,
-//! and where there is no room yet for one that is sent.
+//! Calls of a socket that are made again: where they were interrupted, where a datagram is left
+//! out, and where there is no room yet for one that is sent.
 
 ghost use Rattle.std.specs.Prelude.{◌≤◌, IfOk, IfSome};
 
@@ -35,8 +35,8 @@ fn take_next<S: Socket>(socket: &mut S, buf: &mut [u8; 2049]) -> io::Result<(usi
     Err(ErrorKind::Interrupted.into())
 }
 
-/// The next datagram of at most 2048 octets: its sender and its length. Longer ones are left out, up
-/// to 64 of them. `None` where nothing waits.
+/// The next datagram of at most 2048 octets: its sender and its length. Longer ones are left out,
+/// up to 64 of them. `None` where nothing waits.
 ///
 /// # Errors
 /// Where the socket failed, or 64 datagrams were left out.
@@ -65,8 +65,8 @@ pub(crate) fn take_whole<S: Socket>(
     Err(Failed)
 }
 
-// Rests a little before the next look for room, unless the wait, which began at the moment if it has
-// begun, is over.
+// Rests a little before the next look for room, unless the wait, which began at the moment if it
+// has begun, is over.
 fn rests_for_room<R: Clock>(runtime: &R, began: &mut Option<Instant>) -> io::Result<bool> {
     let start = match *began {
         Some(start) => start,

@@ -18,8 +18,8 @@ ghost use Rattle.ptu_laws.specs.Promises.{KeepsPromises};
 /// CANCEL ends its grant; it signals the one reply to each Signaling with items and the CANCEL of
 /// each grant that it sheds, and nothing else; all messages are within the budget; each slave
 /// selects its best eligible master by a record of just what was delivered to it; the report says
-/// so of each line that is taken, and nothing else; and datagrams are numbered in the order in which
-/// they are sent, and delivered as they were.
+/// so of each line that is taken, and nothing else; and datagrams are numbered in the order in
+/// which they are sent, and delivered as they were.
 pub fn headline()
     ensures within_capacity { (stock : Stock) (script : List ℕ) → WithinCapacity stock script }
     ensures granted_by_room { (stock : Stock) (script : List ℕ) → DecidesByRoom stock script }
