@@ -13,9 +13,9 @@
 //!   another moment. (The seconds in Syncs and Delay_Resps, the order of the CANCELs, and what the
 //!   clocks have left.)
 //! - CANCELs go to other clients, name other kinds, or come in another order. (Port 4.) Only 32 of
-//!   more are sent. (`a_change_sheds_forty_grants`.) The opening capacity is cut to 16 bits, or stops
-//!   at 65535. (`a_wide_capacity_is_filled`.)
-//!   A change is not made where nothing was granted yet. (`Change::First`.)
+//!   more are sent. (`a_change_sheds_forty_grants`.) The opening capacity is cut to 16 bits, or
+//!   stops at 65535. (`a_wide_capacity_is_filled`.) A change is not made where nothing was granted
+//!   yet. (`Change::First`.)
 //! - Failed sends or receives of a lane are not counted, nor failed CANCELs; a lane, or table 1 or
 //!   2, is left out of the sums. (The lines.)
 //! - Ports or clocks are taken for one another, at the opening or at the close; a table is handed
