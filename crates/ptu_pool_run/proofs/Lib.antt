@@ -5,5 +5,7 @@ mod Idle
 mod Happening
 mod Commands
 mod OutputLines
+mod Receivers
 pub mod Keeping
 mod Poured
+pub mod Promising
