@@ -6,6 +6,7 @@ mod Happening
 mod Commands
 mod OutputLines
 mod Receivers
+mod Following
 pub mod Keeping
 mod Poured
 pub mod Promising

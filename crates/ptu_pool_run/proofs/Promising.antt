@@ -1,13 +1,15 @@
 -- Every script of pools keeps its promises.
-use Rattle.std.proofs.Common.{◌≡◌, ◌∙◌, ℕ, List, Some, sym, ap, ap₂, subst}
+use Rattle.std.proofs.Common.{◌≡◌, ◌∙◌, ℕ, List, [], ◌++◌, ◌∷◌, filter, filter_map, take, Some, refl, sym, ap, ap₂, subst}
+use Rattle.ptu_lines.specs.Script.{script_lines}
 use Rattle.ptu_script.specs.declared.command.GrandmasterSetup.{GrandmasterSetup}
 use Rattle.ptu_pools.specs.{Pool.{AreApart}, Refusal.{Share}}
 use Rattle.ptu_pools.proofs.Whole.{count_whole, held_own, held_whole}
 use Rattle.ptu_nodes.specs.Standing.{config_of}
-use Rattle.ptu_pool_run.specs.Poured.{end_of, lines_of_pool, own_at, own_lines_by, told_by}
-use Rattle.ptu_pool_run.specs.Promises.{KeepsPools, SayAlike, lines_to_pool}
-use Rattle.ptu_pool_run.specs.Reading.{Told, events_of}
-use Rattle.ptu_pool_run.proofs.Keeping.{AreSound, IsSound, apart_of, sound_by, texts_of_script}
+use Rattle.ptu_pool_run.specs.Poured.{end_of, is_line_of, last_line, lines_by_setup, lines_of_pool, own_at, own_lines_by, told_by}
+use Rattle.ptu_pool_run.specs.Promises.{AreMessagesWritten, KeepsPools, SayAlike, Sold, lines_to_pool, timing_in}
+use Rattle.ptu_pool_run.specs.Reading.{Told, events_of, opening}
+use Rattle.ptu_pool_run.proofs.Following.{all_messages, follows}
+use Rattle.ptu_pool_run.proofs.Keeping.{AreSound, IsSound, apart_of, sound_by, sound_until, texts_of_script}
 use Rattle.ptu_pool_run.proofs.{OutputLines.{own_of}, Receivers.{to_pool}}
 
 -- ---- its pools
@@ -15,8 +17,18 @@ use Rattle.ptu_pool_run.proofs.{OutputLines.{own_of}, Receivers.{to_pool}}
 apart_by : (script : List ℕ) → AreApart (told_by script).pools
 apart_by script = let told = told_by script in apart_of told.setup told.pools told.events (sound_by script)
 
+sold_apart : (script : List ℕ) (p : Sold script) → AreApart (p.told).pools
+sold_apart script p =
+    apart_of (p.told).setup (p.told).pools (p.told).events (subst IsSound p.says (sound_until opening 0 (take p.lines (script_lines script)) (refl, refl)))
+
 receivers : (script : List ℕ) (i : ℕ) → lines_of_pool i script ≡ lines_to_pool i script
 receivers script i = let told = told_by script in to_pool told.setup told.pools i told.events (end_of script) (apart_by script)
+
+messages : (script : List ℕ) (setup : GrandmasterSetup) (i : ℕ) → (told_by script).setup ≡ Some setup → AreMessagesWritten script setup i
+messages script setup i is =
+    let told = told_by script in
+    ap (λ o. filter_map timing_in (filter (is_line_of i) (lines_by_setup o told.pools told.events ++ last_line (end_of script) ∷ []))) is
+    ∙ all_messages setup told.pools i told.events (end_of script) (apart_by script)
 
 -- ---- its lines
 
@@ -42,6 +54,8 @@ keeps_pools script = record {
   own = λ i. own_lines_are script i;
   apart = λ other i alike. apart script other i alike;
   receivers = λ i. receivers script i;
+  messages = λ setup i is. messages script setup i is;
+  history = follows script (sold_apart script);
   each_within = λ setup i x is. held_own (config_of setup) (told_by script).pools (events_of (told_by script).events) i x;
   all_within = λ setup x is. held_whole (config_of setup) setup.capacity (told_by script).pools (events_of (told_by script).events) x (shared (told_by script) setup is (sound_by script));
   messages_within = λ setup x is. count_whole (config_of setup) setup.capacity (told_by script).pools (events_of (told_by script).events) x (shared (told_by script) setup is (sound_by script));

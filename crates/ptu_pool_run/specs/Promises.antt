@@ -1,16 +1,23 @@
 -- What every script of pools keeps to. Pools are the project's own choice.
-use Rattle.std.specs.Prelude.{◌≡◌, ℕ, ◌*◌, ◌≤◌, Bool, false, List, filter, Some}
+use Rattle.std.specs.Prelude.{◌≡◌, ◌≢◌, ℕ, ◌+◌, ◌-◌, ◌*◌, ◌≤◌, true, Bool, false, filter_map, List, [], ◌∷◌, filter, slice_get, take, Option, Some, None}
+use Rattle.std.specs.List.{position}
 use Rattle.ptu_lines.specs.Script.{script_lines}
-use Rattle.ptu_report.specs.Rules.{texts_of}
-use Rattle.ptu_history.specs.{Held.{count, held}, History.{Record}}
+use Rattle.ptu_report.specs.Rules.{Goes, texts_of}
+use Rattle.ptu_history.specs.{Core.{history_after}, Held.{count, held}, History.{Record}}
+use Rattle.ptu_history.specs.Events as events
+use Rattle.ptu_history.specs.Events.{Event}
+use Rattle.ptu_gm_messages.specs.Deciding.{events_of_datagram, opened_with}
 use Rattle.ptu_pools.specs.{Events.{over_all, pool_history}, declared.pool.Pool.{Pool}}
-use Rattle.ptu_pools.specs.Pool.{capacity_at, is_in_at}
+use Rattle.ptu_pools.specs.Pool.{capacity_at, is_in, is_in_at}
 use Rattle.ptu_script.specs.declared.command.GrandmasterSetup.{GrandmasterSetup}
+use Rattle.ptu_world.specs.Promises.{Timing, messages_in, timing_to}
 use Rattle.ptu_nodes.specs.Standing.{config_of}
+use Rattle.ptu_pool_run.specs.declared.command.PoolCommand.{PoolCommand}
+use Rattle.ptu_pool_run.specs.declared.command.PoolCommand.TheVariants as commands
 use Rattle.ptu_pool_run.specs.declared.output.PoolLine.{PoolLine}
 use Rattle.ptu_pool_run.specs.declared.output.PoolLine.TheVariants.{Sent, Stranger, Bad, End}
-use Rattle.ptu_pool_run.specs.{Reading.{Told, events_of, opening, rules}}
-use Rattle.ptu_pool_run.specs.Poured.{lines_of_pool, own_at, own_lines_by, poured_lines, poured_texts, told_by}
+use Rattle.ptu_pool_run.specs.{Reading.{Told, events_of, opening, rules, step}}
+use Rattle.ptu_pool_run.specs.Poured.{lines_of_pool, own_at, own_lines_by, poured_lines, poured_texts, told_by, told_until}
 
 -- the history of the pool at this place, after all that a script says
 abbrev pub history_of : GrandmasterSetup → Told → ℕ → List Record
@@ -25,6 +32,18 @@ pub record SayAlike (i : ℕ) (one other : Told) : Type 0 where
 
 -- ---- lines
 
+-- the timing message in a line, unless it is a Signaling or no datagram
+abbrev pub timing_in : PoolLine → Option Timing
+timing_in (Sent line number channel to octets) = timing_to to octets
+timing_in (Stranger line) = None
+timing_in (Bad line cause) = None
+timing_in (End lines) = None
+
+-- the messages in a pool's history are, one for one and in order, the datagrams in its lines but for Signaling
+abbrev pub AreMessagesWritten : List ℕ → GrandmasterSetup → ℕ → Type 0
+AreMessagesWritten script setup i =
+    filter_map timing_in (lines_of_pool i script) ≡ messages_in (config_of setup).epoch [] (history_of setup (told_by script) i)
+
 -- the line is of a datagram to an address of the pool at this place
 abbrev pub is_line_to : List Pool → ℕ → PoolLine → Bool
 is_line_to pools i (Sent line number channel to octets) = is_in_at pools i to
@@ -35,6 +54,47 @@ is_line_to pools i (End lines) = false
 -- the lines to the addresses of the pool, in order
 abbrev pub lines_to_pool : ℕ → List ℕ → List PoolLine
 lines_to_pool i script = filter (is_line_to (told_by script).pools i) (poured_lines script)
+
+-- ---- events
+
+-- a pool that a script has sold by its first lines: what they say, what set the grandmaster up, and the pool at its place
+pub record Sold (script : List ℕ) : Type 0 where
+  pub lines : ℕ
+  pub told : Told
+  pub says : told_until opening 0 (take lines (script_lines script)) ≡ told
+  pub setup : GrandmasterSetup
+  pub is_set_up : told.setup ≡ Some setup
+  pub place : ℕ
+  pub pool : Pool
+  pub is_sold : slice_get told.pools place ≡ Some pool
+
+-- its history
+abbrev pub past : {script : List ℕ} → Sold script → List Record
+past p = history_of p.setup p.told p.place
+
+-- a line that commands so is taken, and makes the pool's history go on with these events, by its own capacity
+pub record GoesOn {script : List ℕ} (p : Sold script) (line : ℕ) (command : PoolCommand) (events : List (ℕ × Event)) : Type 0 where
+  pub after : Told
+  pub texts : List (List ℕ)
+  pub step : step p.told line command ≡ Goes after texts
+  pub history : history_of p.setup after p.place ≡ history_after (opened_with (p.pool).capacity (config_of p.setup)) (past p) events
+
+-- the place of the pool that a command hands something to
+abbrev pub addressed : Told → PoolCommand → Option ℕ
+addressed told (commands.Grandmaster setup) = None
+addressed told (commands.Sell pool) = None
+addressed told (commands.Receive t from octets) = position (is_in from) told.pools
+addressed told (commands.Turn t number table) = Some (number - 1)
+
+-- a pool's history begins empty; each datagram from an address of the pool, and each turn of it, makes it go on with just the
+-- events that this is; and no other line changes it
+pub record FollowsEvents (script : List ℕ) : Type 0 where
+  pub begins : (p : Sold script) → p.told.events ≡ [] → past p ≡ []
+  pub datagram : (p : Sold script) (line t from : ℕ) (octets : List ℕ) → is_in from p.pool ≡ true
+      → GoesOn p line (commands.Receive t from octets) (events_of_datagram (config_of p.setup) t from octets)
+  pub turn : (p : Sold script) (line t table : ℕ) → GoesOn p line (commands.Turn t (p.place + 1) table) ((t, events.Turn table) ∷ [])
+  pub others : (p : Sold script) (line : ℕ) (command : PoolCommand) (after : Told) (texts : List (List ℕ)) → step p.told line command ≡ Goes after texts
+      → addressed p.told command ≢ Some p.place → history_of p.setup after p.place ≡ past p
 
 -- ---- all
 
@@ -49,6 +109,9 @@ pub record KeepsPools (script : List ℕ) : Type 0 where
       lines_of_pool i script ≡ lines_of_pool i other
   -- the lines of a pool are those to its own addresses: each goes to an address of this pool, and none of another pool's does
   pub receivers : (i : ℕ) → lines_of_pool i script ≡ lines_to_pool i script
+  -- the history of a pool is what its lines say, message for message, and what its own events make
+  pub messages : (setup : GrandmasterSetup) (i : ℕ) → (told_by script).setup ≡ Some setup → AreMessagesWritten script setup i
+  pub history : FollowsEvents script
   -- what is held in a pool is within its own capacity at every moment, and what is held in all is within that of the grandmaster
   pub each_within : (setup : GrandmasterSetup) (i x : ℕ) → (told_by script).setup ≡ Some setup →
       held (history_of setup (told_by script) i) x ≤ capacity_at (told_by script).pools i
