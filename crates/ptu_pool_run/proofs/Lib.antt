@@ -6,7 +6,9 @@ mod Happening
 mod Commands
 mod OutputLines
 mod Receivers
+mod Limits
 mod Following
+mod Deciding
 pub mod Keeping
 mod Poured
 pub mod Promising

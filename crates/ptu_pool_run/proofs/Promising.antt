@@ -1,14 +1,16 @@
 -- Every script of pools keeps its promises.
 use Rattle.std.proofs.Common.{◌≡◌, ◌∙◌, ℕ, List, [], ◌++◌, ◌∷◌, filter, filter_map, take, Some, refl, sym, ap, ap₂, subst}
+use Rattle.std.proofs.lemmas.List.Elements.{All-nil}
 use Rattle.ptu_lines.specs.Script.{script_lines}
+use Rattle.ptu_profile.specs.Limits.{IsCapacity}
 use Rattle.ptu_script.specs.declared.command.GrandmasterSetup.{GrandmasterSetup}
-use Rattle.ptu_pools.specs.{Pool.{AreApart}, Refusal.{Share}}
+use Rattle.ptu_pools.specs.{declared.pool.Pool.{Pool}, Pool.{AreApart}, Refusal.{Share}}
 use Rattle.ptu_pools.proofs.Whole.{count_whole, held_own, held_whole}
 use Rattle.ptu_nodes.specs.Standing.{config_of}
 use Rattle.ptu_pool_run.specs.Poured.{end_of, is_line_of, last_line, lines_by_setup, lines_of_pool, own_at, own_lines_by, told_by}
 use Rattle.ptu_pool_run.specs.Promises.{AreMessagesWritten, KeepsPools, SayAlike, Sold, lines_to_pool, timing_in}
 use Rattle.ptu_pool_run.specs.Reading.{Told, events_of, opening}
-use Rattle.ptu_pool_run.proofs.Following.{all_messages, follows}
+use Rattle.ptu_pool_run.proofs.{Deciding.{decides}, Following.{all_messages, follows}, Limits.{IsWithin, within_until}}
 use Rattle.ptu_pool_run.proofs.Keeping.{AreSound, IsSound, apart_of, sound_by, sound_until, texts_of_script}
 use Rattle.ptu_pool_run.proofs.{OutputLines.{own_of}, Receivers.{to_pool}}
 
@@ -20,6 +22,9 @@ apart_by script = let told = told_by script in apart_of told.setup told.pools to
 sold_apart : (script : List ℕ) (p : Sold script) → AreApart (p.told).pools
 sold_apart script p =
     apart_of (p.told).setup (p.told).pools (p.told).events (subst IsSound p.says (sound_until opening 0 (take p.lines (script_lines script)) (refl, refl)))
+
+sold_within : (script : List ℕ) (p : Sold script) → IsWithin p.told
+sold_within script p = subst IsWithin p.says (within_until opening 0 (take p.lines (script_lines script)) (tt, All-nil (λ (pool : Pool). IsCapacity pool.capacity)))
 
 receivers : (script : List ℕ) (i : ℕ) → lines_of_pool i script ≡ lines_to_pool i script
 receivers script i = let told = told_by script in to_pool told.setup told.pools i told.events (end_of script) (apart_by script)
@@ -56,6 +61,7 @@ keeps_pools script = record {
   receivers = λ i. receivers script i;
   messages = λ setup i is. messages script setup i is;
   history = follows script (sold_apart script);
+  granted_by_room = decides script (sold_apart script) (sold_within script);
   each_within = λ setup i x is. held_own (config_of setup) (told_by script).pools (events_of (told_by script).events) i x;
   all_within = λ setup x is. held_whole (config_of setup) setup.capacity (told_by script).pools (events_of (told_by script).events) x (shared (told_by script) setup is (sound_by script));
   messages_within = λ setup x is. count_whole (config_of setup) setup.capacity (told_by script).pools (events_of (told_by script).events) x (shared (told_by script) setup is (sound_by script));
