@@ -69,7 +69,8 @@ module _ (ports : Ports MemoryPort) (tells : (p : MemoryPort) → ports.sent p �
 
 -- ---- the place of a pool
 
-here : (pools : List Pool) (ip place : ℕ) (o : Option ℕ) → AreApart pools → is_in_at pools place ip ≡ true → position (is_in ip) pools ≡ o → position (is_in ip) pools ≡ Some place
+-- where pools are apart, a search for an address finds the pool that has it
+pub here : (pools : List Pool) (ip place : ℕ) (o : Option ℕ) → AreApart pools → is_in_at pools place ip ≡ true → position (is_in ip) pools ≡ o → position (is_in ip) pools ≡ Some place
 here pools ip place None apart inside e = absurd (both_ways (is_in_at pools place ip) (none_in pools ip e place) inside)
 here pools ip place (Some found) apart inside e = e ∙ ap Some (one_place pools found place ip apart (found_in pools ip found e) inside)
 

@@ -1,5 +1,5 @@
--- Every script of pools keeps its promises.
-use Rattle.std.proofs.Common.{◌≡◌, ◌∙◌, ℕ, ◌+◌, ◌-◌, Bool, true, false, cond, leb, List, [], ◌∷◌, ◌++◌, length, map, Option, Some, None, Result, Ok, Err, refl, sym, ap, ap₂, subst, append_assoc}
+-- What a script says is sound, and its output is that of the rules.
+use Rattle.std.proofs.Common.{◌≡◌, ◌∙◌, ℕ, ◌+◌, ◌-◌, Bool, true, false, cond, leb, List, [], ◌∷◌, ◌++◌, length, map, Option, Some, None, Result, Ok, Err, refl, sym, ap, subst, append_assoc}
 use Rattle.std.proofs.lemmas.List.{append-nil, map-append}
 use Rattle.ptu_lines.specs.Script.{ScriptLine, Whole, Refused, script_lines}
 use Rattle.ptu_report.specs.declared.ending.Ending.{Ending}
@@ -8,17 +8,14 @@ use Rattle.ptu_script.specs.declared.cause.Cause.{Cause}
 use Rattle.ptu_script.specs.declared.command.GrandmasterSetup.{GrandmasterSetup}
 use Rattle.ptu_pools.specs.{declared.pool.Pool.{Pool}, Events.{PoolEvent, Came, Turned}}
 use Rattle.ptu_pools.specs.{Pool.{AreApart}, Refusal.{Share}}
-use Rattle.ptu_pools.proofs.Whole.{count_whole, held_own, held_whole}
-use Rattle.ptu_nodes.specs.Standing.{config_of}
 use Rattle.ptu_pool_run.specs.declared.cause.{PoolCause.{PoolCause}, PoolCause.TheVariants.{Number}}
 use Rattle.ptu_pool_run.specs.declared.command.PoolCommand.{PoolCommand}
 use Rattle.ptu_pool_run.specs.declared.command.PoolCommand.TheVariants as commands
 use Rattle.ptu_pool_run.specs.{Command.{command_of}, Output.{line_text}}
-use Rattle.ptu_pool_run.specs.Poured.{end_of, last_line, lines_after, lines_by_setup, lines_of_pool, own_at, own_lines_by, poured_texts, told_at, told_by, told_until}
-use Rattle.ptu_pool_run.specs.Promises.{KeepsPools, SayAlike}
+use Rattle.ptu_pool_run.specs.Poured.{last_line, lines_after, lines_by_setup, poured_texts, told_at, told_by, told_until}
 use Rattle.ptu_pool_run.specs.Reading.{At, Told, events_of, happened, opening, outcome_by, rules, sold_by, step, turned}
 use Rattle.ptu_pool_run.specs.{Selling.{refusal_of}, Sending.{lines_of_event}}
-use Rattle.ptu_pool_run.proofs.{OutputLines.{own_of}, Sold.{none_share, sold_share}}
+use Rattle.ptu_pool_run.proofs.{Sold.{none_share, sold_share}}
 
 -- before the grandmaster is set up there is nothing; then its pools share its capacity
 abbrev pub AreSound : Option GrandmasterSetup → List Pool → List At → Type 0
@@ -92,7 +89,7 @@ line_follows told line (Err cause) sound = tt
 
 -- ---- all lines
 
-sound_until : (told : Told) (before : ℕ) (lines : List ScriptLine) → IsSound told → IsSound (told_until told before lines)
+pub sound_until : (told : Told) (before : ℕ) (lines : List ScriptLine) → IsSound told → IsSound (told_until told before lines)
 unfolding rules
 sound_until told before [] sound = sound
 sound_until told before (Refused cause ∷ rest) sound = sound
@@ -130,7 +127,7 @@ texts_are told before (Whole text ∷ rest) sound =
 
 -- ---- a script
 
-sound_by : (script : List ℕ) → IsSound (told_by script)
+pub sound_by : (script : List ℕ) → IsSound (told_by script)
 unfolding told_by
 sound_by script = sound_until opening 0 (script_lines script) (refl, refl)
 
@@ -138,32 +135,6 @@ pub texts_of_script : (script : List ℕ) → texts_of rules opening (script_lin
 unfolding told_by
 texts_of_script script = texts_are opening 0 (script_lines script) (refl, refl)
 
-apart_of : (setup : Option GrandmasterSetup) (pools : List Pool) (events : List At) → AreSound setup pools events → AreApart pools
+pub apart_of : (setup : Option GrandmasterSetup) (pools : List Pool) (events : List At) → AreSound setup pools events → AreApart pools
 apart_of None pools events sound = subst AreApart (sym sound.0) (none_share 0).apart
 apart_of (Some setup) pools events sound = sound.apart
-
-own_lines_are : (script : List ℕ) (i : ℕ) →
-    lines_of_pool i script ≡ own_lines_by (told_by script).setup (told_by script).pools i (own_at (told_by script).pools i (told_by script).events)
-own_lines_are script i =
-    let told = told_by script in
-    own_of told.setup told.pools i told.events (end_of script) (apart_of told.setup told.pools told.events (sound_by script))
-
-apart : (one other : List ℕ) (i : ℕ) → SayAlike i (told_by one) (told_by other) → lines_of_pool i one ≡ lines_of_pool i other
-apart one other i alike =
-    own_lines_are one i
-    ∙ (ap₂ (λ setup pools. own_lines_by setup pools i (own_at (told_by one).pools i (told_by one).events)) alike.setup alike.pools
-    ∙ ap (own_lines_by (told_by other).setup (told_by other).pools i) alike.own)
-    ∙ sym (own_lines_are other i)
-
-shared : (told : Told) (setup : GrandmasterSetup) → told.setup ≡ Some setup → IsSound told → Share setup.capacity told.pools
-shared told setup is sound = subst (λ o. AreSound o told.pools told.events) is sound
-
-pub keeps_pools : (script : List ℕ) → KeepsPools script
-keeps_pools script = record {
-  by_rules = texts_of_script script;
-  own = λ i. own_lines_are script i;
-  apart = λ other i alike. apart script other i alike;
-  each_within = λ setup i x is. held_own (config_of setup) (told_by script).pools (events_of (told_by script).events) i x;
-  all_within = λ setup x is. held_whole (config_of setup) setup.capacity (told_by script).pools (events_of (told_by script).events) x (shared (told_by script) setup is (sound_by script));
-  messages_within = λ setup x is. count_whole (config_of setup) setup.capacity (told_by script).pools (events_of (told_by script).events) x (shared (told_by script) setup is (sound_by script));
-}

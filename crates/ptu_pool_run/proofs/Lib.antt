@@ -5,5 +5,10 @@ mod Idle
 mod Happening
 mod Commands
 mod OutputLines
+mod Receivers
+mod Limits
+mod Following
+mod Deciding
 pub mod Keeping
 mod Poured
+pub mod Promising

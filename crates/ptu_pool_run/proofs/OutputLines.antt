@@ -40,7 +40,7 @@ module _ (setup : GrandmasterSetup) (pools : List Pool) (i : ℕ) where
   sent before line event = map (sent_line line (i + 1)) (sends_at (grandmaster_of setup pools before i) event)
 
   -- the same where the event is its own
-  abbrev sent_if : Bool → List PoolEvent → ℕ → PoolEvent → List PoolLine
+  abbrev pub sent_if : Bool → List PoolEvent → ℕ → PoolEvent → List PoolLine
   sent_if b before line event = cond b (sent before line event) []
 
   at_place : (before : List PoolEvent) (line : ℕ) (event : PoolEvent) (place : ℕ) →
@@ -61,7 +61,7 @@ module _ (setup : GrandmasterSetup) (pools : List Pool) (i : ℕ) where
   came_by before line t from octets (Some place) apart e =
       at_place before line (Came t from octets) place ∙ ap (λ b. sent_if b before line (Came t from octets)) (sym (found_mine pools from place apart e i))
 
-  one_event : (before : List PoolEvent) (line : ℕ) (event : PoolEvent) → AreApart pools →
+  pub one_event : (before : List PoolEvent) (line : ℕ) (event : PoolEvent) → AreApart pools →
       filter (is_line_of i) (lines_of_event setup pools before line event) ≡ sent_if (is_own pools i event) before line event
   one_event before line (Came t from octets) apart = came_by before line t from octets (position (is_in from) pools) apart refl
   one_event before line (Turned t pool table) apart = at_place before line (Turned t pool table) pool
@@ -113,7 +113,7 @@ module _ (setup : GrandmasterSetup) (pools : List Pool) (i : ℕ) where
       by (inr other) more others =
           ap (λ b. sent_if b before line event ++ after) other ∙ others (left_out before mine event other same) ∙ chosen false other
 
-  last_not_mine : (ending : Ending PoolCause) → filter (is_line_of i) (last_line ending ∷ []) ≡ []
+  pub last_not_mine : (ending : Ending PoolCause) → filter (is_line_of i) (last_line ending ∷ []) ≡ []
   last_not_mine (endings.Whole lines) = refl
   last_not_mine (endings.Refused number cause) = refl
 

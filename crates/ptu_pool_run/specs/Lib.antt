@@ -11,3 +11,4 @@ pub mod Promises
 pub mod Ports
 pub mod Standing
 pub mod Answers
+pub mod Samples

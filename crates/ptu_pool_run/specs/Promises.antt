@@ -1,13 +1,30 @@
--- What every script of pools keeps to.
-use Rattle.std.specs.Prelude.{◌≡◌, ℕ, ◌*◌, ◌≤◌, List, Some}
+-- What every script of pools keeps to. Pools are the project's own choice; requests are those of IEEE 1588-2019 clause 16.1.
+use Rattle.std.specs.Prelude.{◌≡◌, ◌≢◌, ℕ, ◌+◌, ◌-◌, ◌*◌, ◌≤◌, true, Bool, false, filter_map, List, [], ◌∷◌, ◌++◌, filter, length, slice_get, take, Option, Some, None, Ok}
+use Rattle.std.specs.List.{position}
 use Rattle.ptu_lines.specs.Script.{script_lines}
-use Rattle.ptu_report.specs.Rules.{texts_of}
-use Rattle.ptu_history.specs.{Held.{count, held}, History.{Record}}
-use Rattle.ptu_pools.specs.{Events.{over_all, pool_history}, Pool.{capacity_at}}
+use Rattle.ptu_report.specs.Rules.{Goes, texts_of}
+use Rattle.ptu_tlvs.specs.declared.tlv.Tlv.{Tlv}
+use Rattle.ptu_history.specs.{Core.{history_after}, Held.{count, held}, History.{Record}}
+use Rattle.ptu_history.specs.Events as events
+use Rattle.ptu_history.specs.Events.{Event}
+use Rattle.ptu_gm_messages.specs.declared.item.Item.TheVariants as items
+use Rattle.ptu_gm_messages.specs.declared.heard.Heard.TheVariants as heard
+use Rattle.ptu_gm_messages.specs.Items.{heard_in}
+use Rattle.ptu_gm_messages.specs.Deciding.{answer_by, events_of_datagram, opened_with}
+use Rattle.ptu_gm_messages.specs.Replies.{reply_to}
+use Rattle.ptu_pools.specs.{Events.{over_all, pool_history}, declared.pool.Pool.{Pool}}
+use Rattle.ptu_pools.specs.Pool.{capacity_at, is_in, is_in_at}
 use Rattle.ptu_script.specs.declared.command.GrandmasterSetup.{GrandmasterSetup}
+use Rattle.ptu_world.specs.Deeds.{Grandmaster}
+use Rattle.ptu_world.specs.Promises.{IsDecidedByRoom, Request, Timing, capacity_then, decision, messages_in, timing_to}
 use Rattle.ptu_nodes.specs.Standing.{config_of}
-use Rattle.ptu_pool_run.specs.Reading.{Told, events_of, opening, rules}
-use Rattle.ptu_pool_run.specs.Poured.{lines_of_pool, own_at, own_lines_by, poured_texts, told_by}
+use Rattle.ptu_pool_run.specs.declared.command.PoolCommand.{PoolCommand}
+use Rattle.ptu_pool_run.specs.declared.command.PoolCommand.TheVariants as commands
+use Rattle.ptu_pool_run.specs.declared.output.PoolLine.{PoolLine}
+use Rattle.ptu_pool_run.specs.declared.output.PoolLine.TheVariants.{Sent, Stranger, Bad, End}
+use Rattle.ptu_pool_run.specs.{Output.{line_text}, Reading.{Told, events_of, opening, rules, step}}
+use Rattle.ptu_pool_run.specs.Sending.{sent_line}
+use Rattle.ptu_pool_run.specs.Poured.{lines_of_pool, own_at, own_lines_by, poured_lines, poured_texts, told_by, told_until}
 
 -- the history of the pool at this place, after all that a script says
 abbrev pub history_of : GrandmasterSetup → Told → ℕ → List Record
@@ -20,6 +37,104 @@ pub record SayAlike (i : ℕ) (one other : Told) : Type 0 where
   pub pools : one.pools ≡ other.pools
   pub own : own_at one.pools i one.events ≡ own_at other.pools i other.events
 
+-- ---- lines
+
+-- the timing message in a line, unless it is a Signaling or no datagram
+abbrev pub timing_in : PoolLine → Option Timing
+timing_in (Sent line number channel to octets) = timing_to to octets
+timing_in (Stranger line) = None
+timing_in (Bad line cause) = None
+timing_in (End lines) = None
+
+-- the messages in a pool's history are, one for one and in order, the datagrams in its lines but for Signaling
+abbrev pub AreMessagesWritten : List ℕ → GrandmasterSetup → ℕ → Type 0
+AreMessagesWritten script setup i =
+    filter_map timing_in (lines_of_pool i script) ≡ messages_in (config_of setup).epoch [] (history_of setup (told_by script) i)
+
+-- the line is of a datagram to an address of the pool at this place
+abbrev pub is_line_to : List Pool → ℕ → PoolLine → Bool
+is_line_to pools i (Sent line number channel to octets) = is_in_at pools i to
+is_line_to pools i (Stranger line) = false
+is_line_to pools i (Bad line cause) = false
+is_line_to pools i (End lines) = false
+
+-- the lines to the addresses of the pool, in order
+abbrev pub lines_to_pool : ℕ → List ℕ → List PoolLine
+lines_to_pool i script = filter (is_line_to (told_by script).pools i) (poured_lines script)
+
+-- ---- events
+
+-- a pool that a script has sold by its first lines: what they say, what set the grandmaster up, and the pool at its place
+pub record Sold (script : List ℕ) : Type 0 where
+  pub lines : ℕ
+  pub told : Told
+  pub says : told_until opening 0 (take lines (script_lines script)) ≡ told
+  pub setup : GrandmasterSetup
+  pub is_set_up : told.setup ≡ Some setup
+  pub place : ℕ
+  pub pool : Pool
+  pub is_sold : slice_get told.pools place ≡ Some pool
+
+-- its history
+abbrev pub past : {script : List ℕ} → Sold script → List Record
+past p = history_of p.setup p.told p.place
+
+-- a line that commands so is taken, and makes the pool's history go on with these events, by its own capacity
+pub record GoesOn {script : List ℕ} (p : Sold script) (line : ℕ) (command : PoolCommand) (events : List (ℕ × Event)) : Type 0 where
+  pub after : Told
+  pub texts : List (List ℕ)
+  pub step : step p.told line command ≡ Goes after texts
+  pub history : history_of p.setup after p.place ≡ history_after (opened_with (p.pool).capacity (config_of p.setup)) (past p) events
+
+-- the place of the pool that a command hands something to
+abbrev pub addressed : Told → PoolCommand → Option ℕ
+addressed told (commands.Grandmaster setup) = None
+addressed told (commands.Sell pool) = None
+addressed told (commands.Receive t from octets) = position (is_in from) told.pools
+addressed told (commands.Turn t number table) = Some (number - 1)
+
+-- a pool's history begins empty; each datagram from an address of the pool, and each turn of it, makes it go on with just the
+-- events that this is; and no other line changes it
+pub record FollowsEvents (script : List ℕ) : Type 0 where
+  pub begins : (p : Sold script) → p.told.events ≡ [] → past p ≡ []
+  pub datagram : (p : Sold script) (line t from : ℕ) (octets : List ℕ) → is_in from p.pool ≡ true
+      → GoesOn p line (commands.Receive t from octets) (events_of_datagram (config_of p.setup) t from octets)
+  pub turn : (p : Sold script) (line t table : ℕ) → GoesOn p line (commands.Turn t (p.place + 1) table) ((t, events.Turn table) ∷ [])
+  pub others : (p : Sold script) (line : ℕ) (command : PoolCommand) (after : Told) (texts : List (List ℕ)) → step p.told line command ≡ Goes after texts
+      → addressed p.told command ≢ Some p.place → history_of p.setup after p.place ≡ past p
+
+-- ---- requests
+
+-- the grandmaster of the pool: it has the pool's own capacity and history
+abbrev pub its_grandmaster : {script : List ℕ} → Sold script → Grandmaster
+its_grandmaster p = record { ip = (p.setup).ip; config = config_of p.setup; capacity = (p.pool).capacity; past = past p }
+
+-- a datagram from an address of the pool hands the REQUEST to the pool's grandmaster
+pub record IsHanded {script : List ℕ} (p : Sold script) (r : Request) : Type 0 where
+  pub gm : r.gm ≡ its_grandmaster p
+  pub from : is_in r.handed.from p.pool ≡ true
+  pub heard : heard_in r.gm.config r.handed.octets ≡ Ok (heard.Asks r.header (r.before ++ items.Request r.ask ∷ r.behind))
+
+-- the line that hands it over is taken, and the decision stands in the one reply, at the place of the REQUEST among the items;
+-- nothing else is written of the line
+pub record IsAnswered {script : List ℕ} (p : Sold script) (line : ℕ) (r : Request) : Type 0 where
+  pub after : Told
+  pub before : List Tlv
+  pub behind : List Tlv
+  pub step : step p.told line (commands.Receive r.handed.at r.handed.from r.handed.octets)
+      ≡ Goes after (line_text (sent_line line (p.place + 1) (reply_to (config_of p.setup) r.handed.from r.header (before ++ answer_by r.ask (decision r) ∷ behind))) ∷ [])
+  pub place : length before ≡ length r.before
+  pub all : length (before ++ answer_by r.ask (decision r) ∷ behind) ≡ length (r.before ++ items.Request r.ask ∷ r.behind)
+
+-- each REQUEST that a datagram from an address of a pool brings is granted exactly where its rate fits beside the pool's other
+-- live grants within the pool's own capacity, and else answered with the duration zero, and the pool's line says so
+pub record DecidesByRoom (script : List ℕ) : Type 0 where
+  pub answered : (p : Sold script) (line : ℕ) (r : Request) → IsHanded p r → IsAnswered p line r
+  pub decided : (p : Sold script) (r : Request) → IsHanded p r → IsDecidedByRoom r
+  pub capacity : (p : Sold script) (r : Request) → IsHanded p r → capacity_then r ≡ (p.pool).capacity
+
+-- ---- all
+
 pub record KeepsPools (script : List ℕ) : Type 0 where
   -- the output is that of the rules: each line's own, up to the first that is refused
   pub by_rules : texts_of rules opening (script_lines script) ≡ poured_texts script
@@ -29,6 +144,13 @@ pub record KeepsPools (script : List ℕ) : Type 0 where
   -- so no customer changes what another gets
   pub apart : (other : List ℕ) (i : ℕ) → SayAlike i (told_by script) (told_by other) →
       lines_of_pool i script ≡ lines_of_pool i other
+  -- the lines of a pool are those to its own addresses: each goes to an address of this pool, and none of another pool's does
+  pub receivers : (i : ℕ) → lines_of_pool i script ≡ lines_to_pool i script
+  -- the history of a pool is what its lines say, message for message, and what its own events make
+  pub messages : (setup : GrandmasterSetup) (i : ℕ) → (told_by script).setup ≡ Some setup → AreMessagesWritten script setup i
+  pub history : FollowsEvents script
+  -- each REQUEST is decided by the room in its own pool
+  pub granted_by_room : DecidesByRoom script
   -- what is held in a pool is within its own capacity at every moment, and what is held in all is within that of the grandmaster
   pub each_within : (setup : GrandmasterSetup) (i x : ℕ) → (told_by script).setup ≡ Some setup →
       held (history_of setup (told_by script) i) x ≤ capacity_at (told_by script).pools i

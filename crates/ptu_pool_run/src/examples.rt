@@ -1,9 +1,14 @@
-//! Small lines and what they are. Each clause is one line; the bodies are empty.
+//! Small lines and what they are, and small scripts and their outputs. Each clause is one line or
+//! script; the bodies are empty.
 
 ghost use Rattle.std.specs.Prelude.{◌≡◌, ◌∷◌, [], Some, None, Ok, codes};
+ghost use Rattle.ptu_world.specs.Samples.{lines_of};
 ghost use Rattle.ptu_script.specs.declared.cause.Cause.TheVariants as causes;
 ghost use Rattle.ptu_outside.specs.declared.channel.Channel.TheVariants as channels;
 ghost use Rattle.ptu_pool_run.specs.{Command.{IsRefused, command_of}, Output.{line_text}};
+ghost use Rattle.ptu_pool_run.specs.Poured.{poured_texts};
+ghost use Rattle.ptu_pool_run.specs.Samples.{announces, answers, requests, turns};
+ghost use Rattle.ptu_pool_run.specs.Samples.{no_network, overlapping, too_much};
 ghost use Rattle.ptu_pool_run.specs.declared.cause.PoolCause.TheVariants as refused;
 ghost use Rattle.ptu_pool_run.specs.declared.command.PoolCommand.TheVariants as commands;
 ghost use Rattle.ptu_pool_run.specs.declared.output.PoolLine.TheVariants as lines;
@@ -60,4 +65,18 @@ pub fn lines_of_output()
     ensures bad { line_text (lines.Bad 2 (refused.Field 5)) ≡ codes "2 bad field 5\n" }
     ensures over { line_text (lines.Bad 3 refused.Over) ≡ codes "3 bad over\n" }
     ensures end { line_text (lines.End 7) ≡ codes "end 7\n" }
+{}
+
+/// Two customers of one grandmaster: each is granted what fits in its own pool and denied what does
+/// not, whatever the other holds, and is sent its own messages alone; a stranger is sent nothing.
+pub fn two_customers()
+    ensures requests { poured_texts requests ≡ answers }
+    ensures turns { poured_texts turns ≡ announces }
+{}
+
+/// Pools that are not sold, which end the output.
+pub fn refused_pools()
+    ensures over { poured_texts too_much ≡ lines_of (codes "3 bad over" ∷ []) }
+    ensures net { poured_texts no_network ≡ lines_of (codes "2 bad net" ∷ []) }
+    ensures overlap { poured_texts overlapping ≡ lines_of (codes "3 bad overlap" ∷ []) }
 {}

@@ -27,10 +27,10 @@ use Rattle.ptu_pools.specs.Events.{PoolEvent, Came, Turned, gm_event, over_all, 
 
 -- ---- no event of a pool changes a capacity
 
-abbrev resizes : ℕ × Event → Bool
+abbrev pub resizes : ℕ × Event → Bool
 resizes e = is_resize e.1
 
-abbrev Quiet : List (ℕ × Event) → Type 0
+abbrev pub Quiet : List (ℕ × Event) → Type 0
 Quiet es = list_any resizes es ≡ false
 
 with_event : (t : ℕ) (o : Option Event) (es : List Event) → ((e : Event) → o ≡ Some e → is_resize e ≡ false) → Quiet (map (λ e. (t, e)) es) → Quiet (map (λ e. (t, e)) (cons_option o es))
@@ -45,7 +45,7 @@ item_quiet : (c : Client) (item : Item) (e : Event) → event_of c item ≡ Some
 item_quiet c (items.Request ask) e is = let same : events.Request c (asked_by ask) ≡ e = cc in ap is_resize (sym same)
 item_quiet c (items.Cancel code) e is = cancel_quiet c (kind_of code) e is
 
-items_quiet : (t : ℕ) (c : Client) (is : List Item) → Quiet (events_of_items t c is)
+pub items_quiet : (t : ℕ) (c : Client) (is : List Item) → Quiet (events_of_items t c is)
 items_quiet t c [] = refl
 items_quiet t c (item ∷ is) = with_event t (event_of c item) (filter_map (event_of c) is) (item_quiet c item) (items_quiet t c is)
 
@@ -58,7 +58,7 @@ event_quiet : (config : GmConfig) (e : PoolEvent) → Quiet (events_of config (g
 event_quiet config (Came t from octets) = heard_quiet t from (heard_in config octets)
 event_quiet config (Turned t pool table) = refl
 
-all_quiet : (config : GmConfig) (es : List PoolEvent) → Quiet (flat_map (events_of config) (map gm_event es))
+pub all_quiet : (config : GmConfig) (es : List PoolEvent) → Quiet (flat_map (events_of config) (map gm_event es))
 all_quiet config [] = refl
 all_quiet config (e ∷ es) =
     list_any-append resizes (events_of config (gm_event e)) (flat_map (events_of config) (map gm_event es))

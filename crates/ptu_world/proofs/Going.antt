@@ -37,10 +37,11 @@ use Rattle.ptu_world.proofs.Deciding.{taken_by}
 pub placed-there : (ip : ℕ) (node : Node) (nodes : Nodes) → node_at (placed ip node nodes) ip ≡ Some node
 placed-there ip node nodes = ap (λ b. cond b (Some node) (node_at nodes ip)) (eq-eqb ip ip refl)
 
-abbrev gone : Grandmaster → List (ℕ × Event) → Grandmaster
+-- it goes on with these events too
+abbrev pub gone : Grandmaster → List (ℕ × Event) → Grandmaster
 gone g taken = record g { past = history_after (gm.opening g) g.past taken }
 
-heard_node : (g : Grandmaster) (t from : ℕ) (heard : Result gm_heard.Heard GmReason) → (gm.heard_deed g t from heard).node ≡ IsGrandmaster (gone g (events_heard t from heard))
+pub heard_node : (g : Grandmaster) (t from : ℕ) (heard : Result gm_heard.Heard GmReason) → (gm.heard_deed g t from heard).node ≡ IsGrandmaster (gone g (events_heard t from heard))
 unfolding history_after
 heard_node g t from (Err reason) = refl
 heard_node g t from (Ok (DelayReq header)) = refl

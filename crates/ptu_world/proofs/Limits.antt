@@ -45,7 +45,7 @@ field_are P k form line h = by (word_of line k)
     by None = tt
     by (Some word) = found (form word) (h word)
 
-number_is : (least greatest k n : ℕ) (line : List ℕ) → field k (from_to least greatest) line ≡ Ok n → (least ≤ n) × (n ≤ greatest)
+pub number_is : (least greatest k n : ℕ) (line : List ℕ) → field k (from_to least greatest) line ≡ Ok n → (least ≤ n) × (n ≤ greatest)
 number_is least greatest k n line e =
     subst (λ r. IfOk r (λ m. (least ≤ m) × (m ≤ greatest))) e (field_are (λ m. (least ≤ m) × (m ≤ greatest)) k (from_to least greatest) line (from_to_are least greatest))
 
@@ -57,7 +57,7 @@ IsWithin (commands.Grandmaster setup) = IsGrandmasterWithin setup
 IsWithin (commands.Capacity at ip capacity) = IsCapacity capacity
 IsWithin _ = Unit {0}
 
-grandmaster_within : (line : List ℕ) → IfOk (grandmaster_in line) IsGrandmasterWithin
+pub grandmaster_within : (line : List ℕ) → IfOk (grandmaster_in line) IsGrandmasterWithin
 unfolding grandmaster_in
 grandmaster_within line =
     let P = IsGrandmasterWithin in

@@ -48,7 +48,8 @@ use Rattle.ptu_world.specs.Promises.{Timing, mark_of, messages_in, message_in, t
 use Rattle.ptu_world.specs.World.{World, Done, add_master, at_grandmaster, datagram_deed, datagram_numbered, delivered_to, done_by, grandmaster_by, new_grandmaster, new_slave, or_cause, place_in, placed, quietly, sent_from, set_up, slave_at, step, stock_without, with_master, node_at, Nodes}
 use Rattle.ptu_world.proofs.{Limits.{ok_bound}, Steps.{add_master_is, set_up_is}}
 
-abbrev heads : List Departure → List Timing
+-- the timing messages of datagrams
+abbrev pub heads : List Departure → List Timing
 heads sends = filter_map (λ (d : Departure). timing_to d.ip d.bytes) sends
 
 -- ---- what an event appends, and what it sends
@@ -160,21 +161,21 @@ cancels_send config before [] = refl
 cancels_send config before (lease ∷ leases) = cancels_send config (before + 1) leases
 
 -- the messages of a grandmaster
-abbrev messages : Grandmaster → List Timing
+abbrev pub messages : Grandmaster → List Timing
 messages g = messages_in g.config.epoch [] g.past
 
 -- what is sent is what is recorded
-abbrev Tells : Grandmaster → List Departure → Node → Type 0
+abbrev pub Tells : Grandmaster → List Departure → Node → Type 0
 Tells g sends (IsGrandmaster new) = messages new ≡ messages g ++ heads sends
 Tells g sends (IsSlave s) = ⊥
 
-abbrev IsTold : Grandmaster → Deed → Type 0
+abbrev pub IsTold : Grandmaster → Deed → Type 0
 IsTold g deed = Tells g deed.sends deed.node
 
 same_told : (g : Grandmaster) → messages g ≡ messages g ++ []
 same_told g = sym (append-nil (messages g))
 
-heard_told : (g : Grandmaster) (t from : ℕ) (heard : Result gm_heard.Heard GmReason) → IsTold g (gm.heard_deed g t from heard)
+pub heard_told : (g : Grandmaster) (t from : ℕ) (heard : Result gm_heard.Heard GmReason) → IsTold g (gm.heard_deed g t from heard)
 unfolding history_after
 heard_told g t from (Err reason) = same_told g
 heard_told g t from (Ok (DelayReq header)) =
@@ -185,7 +186,7 @@ heard_told g t from (Ok (DelayReq header)) =
 heard_told g t from (Ok (Asks header list)) =
     items_send g.config.epoch (gm.opening g) g.past t (client_of from header) list ∙ sym (ap (λ ms. messages g ++ ms) (replies_send g t from header list) ∙ append-nil (messages g))
 
-turn_told : (g : Grandmaster) (t j : ℕ) → IsTold g (gm.turn_deed g t j)
+pub turn_told : (g : Grandmaster) (t j : ℕ) → IsTold g (gm.turn_deed g t j)
 unfolding history_after
 turn_told g t j =
     let x = core_moment g.past t (events.Turn j) in

@@ -1,0 +1,66 @@
+-- Small scripts of pools, and the outputs that were made out for them by hand.
+use Rattle.std.specs.Prelude.{ℕ, List, [], ◌∷◌, ◌++◌, codes}
+use Rattle.ptu_world.specs.Samples.{ask, gm, grant, lines_of, script_of}
+
+-- the grandmaster 10.0.0.1 of 16 sixteenths, of which two customers are sold 8 each
+abbrev pub customers : List (List ℕ)
+customers = gm (codes "16 300") ∷ codes "pool 10.0.1.0 24 8" ∷ codes "pool 10.0.2.0 24 8" ∷ []
+
+-- the address hands something in at the moment 0
+abbrev pub rx : List ℕ → List ℕ → List ℕ
+rx from hex = codes "rx 0 " ++ (from ++ (codes " " ++ hex))
+
+-- what a pool sends on the general channel
+abbrev pub sends : List ℕ → List ℕ → List ℕ → List ℕ
+sends pool to hex = pool ++ (codes " send general " ++ (to ++ (codes " " ++ hex)))
+
+-- ---- requests: two fill their own pools, one does not fit in the first, and one comes from nobody's address
+
+-- of another client, an ask for Announces at the logarithm 4 for 300 s, and its denial
+abbrev pub other_ask : List ℕ
+other_ask = codes "0c120036040004000000000000000000000000000a0000000000001200010000057fffffffffffffffffffff00040006b0040000012c"
+
+abbrev pub other_denial : List ℕ
+other_denial = codes "0c120038040004000000000000000000000000000a0000000000000100010000057f0a00000000000012000100050008b004000000000000"
+
+abbrev pub requests : List ℕ
+requests = script_of (customers
+    ++ (rx (codes "10.0.1.17") ask ∷ rx (codes "10.0.1.18") other_ask ∷ rx (codes "10.0.2.1") ask ∷ rx (codes "10.0.3.1") ask ∷ []))
+
+abbrev pub answers : List (List ℕ)
+answers = lines_of (
+    sends (codes "4 pool 1") (codes "10.0.1.17") grant
+    ∷ sends (codes "5 pool 1") (codes "10.0.1.18") other_denial
+    ∷ sends (codes "6 pool 2") (codes "10.0.2.1") grant
+    ∷ codes "7 stranger"
+    ∷ codes "end 7" ∷ [])
+
+-- ---- turns: at 2 s the one client of each pool is due an Announce, once, and from its own pool alone
+
+-- the first Announce, at 2 s
+abbrev pub announce : List ℕ
+announce = codes "0b120040040004000000000000000000000000000a0000000000000100010000057f000000000002000000000000008054feffff800a000000000000010000a0"
+
+abbrev pub turns : List ℕ
+turns = script_of (customers
+    ++ (rx (codes "10.0.1.17") ask ∷ rx (codes "10.0.2.1") ask
+    ∷ codes "turn 1999999999 1 2" ∷ codes "turn 2000000000 2 2" ∷ codes "turn 2000000000 2 2" ∷ codes "turn 2000000000 1 2" ∷ []))
+
+abbrev pub announces : List (List ℕ)
+announces = lines_of (
+    sends (codes "4 pool 1") (codes "10.0.1.17") grant
+    ∷ sends (codes "5 pool 2") (codes "10.0.2.1") grant
+    ∷ sends (codes "7 pool 2") (codes "10.0.2.1") announce
+    ∷ sends (codes "9 pool 1") (codes "10.0.1.17") announce
+    ∷ codes "end 9" ∷ [])
+
+-- ---- pools that are refused
+
+abbrev pub too_much : List ℕ
+too_much = script_of (gm (codes "16 300") ∷ codes "pool 10.0.1.0 24 9" ∷ codes "pool 10.0.2.0 24 8" ∷ [])
+
+abbrev pub no_network : List ℕ
+no_network = script_of (gm (codes "16 300") ∷ codes "pool 10.0.1.1 24 8" ∷ [])
+
+abbrev pub overlapping : List ℕ
+overlapping = script_of (gm (codes "16 300") ∷ codes "pool 10.0.1.0 24 8" ∷ codes "pool 10.0.0.0 16 8" ∷ [])
