@@ -14,3 +14,4 @@ pub mod Budget
 pub mod Parts
 pub mod Locality
 pub mod Bounds
+pub mod Served

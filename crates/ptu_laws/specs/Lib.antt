@@ -3,3 +3,5 @@ pub mod Paid
 pub mod Changes
 pub mod Part
 pub mod Sound
+pub mod Served
+pub mod Examples

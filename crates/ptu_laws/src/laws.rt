@@ -4,7 +4,7 @@
 
 ghost use Rattle.std.specs.Prelude.{◌≡◌, ◌↔◌, ℕ, ◌+◌, ◌*◌, ◌<◌, ◌≤◌, false, List, [], ◌∷◌, ◌++◌, map, ℤ, IsTrue, Ok, Some};
 ghost use Rattle.std.specs.List.{All, AllPairs, Contains, count_by, list_any};
-ghost use Rattle.ptu_units.specs.{declared.kind.Kind.{Kind}, Log.{rate_of}};
+ghost use Rattle.ptu_units.specs.{declared.kind.Kind.{Kind}, Log.{period_of, rate_of}};
 ghost use Rattle.ptu_history.specs.declared.client.Client.{Client};
 ghost use Rattle.ptu_history.specs.History.{Record, Granted, Capacity, Sent, capacity_in_force, is_sent, moment_of};
 ghost use Rattle.ptu_history.specs.Live.{Grant, last_decision, live, live_grants};
@@ -17,6 +17,7 @@ ghost use Rattle.ptu_history.specs.Core.{core_moment, core_step, core_history, c
 ghost use Rattle.ptu_history.specs.Held.{budget, count, force, held, payment, payments};
 ghost use Rattle.ptu_laws.specs.{Granted.{is_granted, is_short}, Changes.{IsUpTo, is_resize}};
 ghost use Rattle.ptu_laws.specs.{Paid.{IsBefore, IsPaid}, Sound.{IsSound, MayStand, last_sent}};
+ghost use Rattle.ptu_laws.specs.Served.{held_time, held_time_at, periods_sent, sent_at};
 ghost use Rattle.ptu_laws.specs.Part.{part_of_clients, part_of_table};
 
 /// At every moment the rates that are held sum to at most the capacity in force.
@@ -89,6 +90,20 @@ pub fn payments_are_held()
         AllPairs IsBefore (payments (core_history config events)) }
 {}
 
+/// Up to each moment the messages of a kind to a client, each as long as the period that was granted
+/// for it, are together no longer than the time in which the client held a grant of the kind. So it
+/// is with the messages and the time of each logarithm alone: at most one message for each whole
+/// period in which the client held a grant at it.
+pub fn messages_within_held_time()
+    ensures periods { (config : Config) (events : List (ℕ × Event)) (c : Client) (k : Kind)
+        (x : ℕ) →
+        let all = core_history config events in periods_sent all c k x ≤ held_time all c k x }
+    ensures rate { (config : Config) (events : List (ℕ × Event)) (c : Client) (k : Kind) (l : ℤ)
+        (x : ℕ) →
+        let all = core_history config events in
+        sent_at all c k l x * period_of l ≤ held_time_at all c k l x }
+{}
+
 /// Up to each moment the messages, at sixteen seconds of one sixteenth each, are within the budget:
 /// the sum of the capacity in force over all nanoseconds before it. Where no event changes the
 /// capacity, that is capacity times time, and else at most the greatest capacity times time; so are
@@ -108,7 +123,7 @@ pub fn messages_within_budget()
         count_by is_sent (core_history config events) * (16 * 1000000000) ≤ most * x }
 {}
 
-/// The laws of capacity, payment and budget hold of every sound list of records, wherever it comes
+/// The laws of capacity, payment, held time and budget hold of every sound list of records, wherever it comes
 /// from: of what a record has of those before it alone. The histories of the core are sound, and a
 /// sound list stays sound with one more record that may stand, and with a change of capacity whose
 /// sheddings leave what fits.
@@ -140,6 +155,13 @@ pub fn sound_histories()
         IsSound opening history → All (λ p. (l : ℤ) × IsPaid history l p) (payments history) }
     ensures disjoint { (opening : ℕ) (history : List Record) →
         IsSound opening history → AllPairs IsBefore (payments history) }
+    ensures within_held_time { (opening : ℕ) (history : List Record) (c : Client) (k : Kind)
+        (x : ℕ) →
+        IsSound opening history → periods_sent history c k x ≤ held_time history c k x }
+    ensures within_held_time_at { (opening : ℕ) (history : List Record) (c : Client) (k : Kind)
+        (l : ℤ) (x : ℕ) →
+        IsSound opening history →
+        sent_at history c k l x * period_of l ≤ held_time_at history c k l x }
     ensures within_budget { (opening : ℕ) (history : List Record) (x : ℕ) →
         IsSound opening history → count history x * (16 * 1000000000) ≤ budget opening history x }
 {}

@@ -9,5 +9,6 @@ pub mod Messages
 pub mod Sayings
 pub mod Numbering
 pub mod Going
+pub mod Serving
 pub mod Headline
 pub mod Counting

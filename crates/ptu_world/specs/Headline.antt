@@ -1,10 +1,12 @@
 -- The headline: what every script keeps to, in each world that it reaches, and that the report says so.
-use Rattle.std.specs.Prelude.{◌≡◌, ℕ, ◌+◌, ◌*◌, ◌≤◌, true, filter_map, List, [], ◌∷◌, ◌++◌, length, map, Some, Ok, Err}
+use Rattle.std.specs.Prelude.{◌≡◌, ℕ, ◌+◌, ◌*◌, ◌≤◌, true, filter_map, List, [], ◌∷◌, ◌++◌, length, map, ℤ, Some, Ok, Err}
 use Rattle.std.specs.List.{All, AllPairs}
 use Rattle.ptu_units.specs.declared.kind.Kind.{Kind}
+use Rattle.ptu_units.specs.Log.{period_of}
 use Rattle.ptu_history.specs.declared.client.Client.{Client}
 use Rattle.ptu_history.specs.{Held.{budget, count, force, held, payments}, History.{Record}}
 use Rattle.ptu_laws.specs.Paid.{IsBefore}
+use Rattle.ptu_laws.specs.Served.{held_time, held_time_at, periods_sent, sent_at}
 use Rattle.ptu_lines.specs.declared.cause.LineCause.{LineCause}
 use Rattle.ptu_lines.specs.Script.{ScriptLine, Whole, Refused}
 use Rattle.ptu_script.specs.declared.{cause.Cause.{Cause}, command.Command.{Command}}
@@ -49,6 +51,15 @@ pub record PaysPeriods (stock : Stock) (script : List ℕ) : Type 0 where
 pub record WithinBudget (stock : Stock) (script : List ℕ) : Type 0 where
   pub within : (w : World) (ip : ℕ) (g : Grandmaster) → HasGrandmaster stock script w ip g
       → (x : ℕ) → count g.past x * (16 * 1000000000) ≤ budget g.capacity g.past x
+
+-- of each grandmaster, up to every moment: the messages of a kind to a client, each as long as the period that was granted for it, are
+-- together no longer than the time in which the client held a grant of the kind; and so it is with the messages and the time of each
+-- logarithm alone: at most one message for each whole period in which the client held a grant at it (IEEE 1588-2019 clause 16.1)
+pub record ServesEachClient (stock : Stock) (script : List ℕ) : Type 0 where
+  pub periods : (w : World) (ip : ℕ) (g : Grandmaster) → HasGrandmaster stock script w ip g
+      → (c : Client) (k : Kind) (x : ℕ) → periods_sent g.past c k x ≤ held_time g.past c k x
+  pub rate : (w : World) (ip : ℕ) (g : Grandmaster) → HasGrandmaster stock script w ip g
+      → (c : Client) (k : Kind) (l : ℤ) (x : ℕ) → sent_at g.past c k l x * period_of l ≤ held_time_at g.past c k l x
 
 -- each slave selects its best eligible master: each line that names a selection names that, by the slave's record, and each
 -- event of a slave has one such line (G.8265.1)
