@@ -2,7 +2,7 @@
 use Rattle.std.proofs.Common.{ℕ, List}
 use Rattle.ptu_lab.specs.Headline.{KeepsHeadline}
 use Rattle.ptu_world.specs.World.{Stock}
-use Rattle.ptu_world.proofs.Headline.{decides_by_room, numbers_datagrams, pays_periods, says_so, selects_best, serves_each_client, within_budget, within_capacity}
+use Rattle.ptu_world.proofs.Headline.{decides_by_room, numbers_datagrams, pays_periods, says_so, selects_best, sends_in_time, serves_each_client, within_budget, within_capacity}
 
 pub keeps_headline : (stock : Stock) (script : List ℕ) → KeepsHeadline stock script
 keeps_headline stock script = record {
@@ -11,6 +11,7 @@ keeps_headline stock script = record {
   own_periods = pays_periods stock script;
   within_budget = within_budget stock script;
   each_client = serves_each_client stock script;
+  in_time = sends_in_time stock script;
   best_master = selects_best stock script;
   says_so = says_so stock script;
   datagrams = numbers_datagrams stock script;

@@ -1,6 +1,6 @@
 -- The headline, whole: what every script keeps to, and that its report says so.
 use Rattle.std.specs.Prelude.{ℕ, List}
-use Rattle.ptu_world.specs.Headline.{DecidesByRoom, NumbersDatagrams, PaysPeriods, SaysSo, SelectsBest, ServesEachClient, WithinBudget, WithinCapacity}
+use Rattle.ptu_world.specs.Headline.{DecidesByRoom, NumbersDatagrams, PaysPeriods, SaysSo, SelectsBest, SendsInTime, ServesEachClient, WithinBudget, WithinCapacity}
 use Rattle.ptu_world.specs.World.{Stock}
 
 -- what every script keeps to, with so many judges of each rule
@@ -15,6 +15,8 @@ pub record KeepsHeadline (stock : Stock) (script : List ℕ) : Type 0 where
   pub within_budget : WithinBudget stock script
   -- no client gets more messages of a kind than whole periods in which it held a grant
   pub each_client : ServesEachClient stock script
+  -- and messages come in each period and the time between turns
+  pub in_time : SendsInTime stock script
   -- each slave selects its best eligible master
   pub best_master : SelectsBest stock script
   -- the report says so, line by line, and nothing else

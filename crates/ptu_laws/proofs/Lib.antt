@@ -15,3 +15,4 @@ pub mod Parts
 pub mod Locality
 pub mod Bounds
 pub mod Served
+pub mod Turned

@@ -4,4 +4,5 @@ pub mod Changes
 pub mod Part
 pub mod Sound
 pub mod Served
+pub mod Turned
 pub mod Examples

@@ -1,11 +1,11 @@
 -- Every script keeps to the headline.
 use Rattle.std.proofs.Common.{ℕ, List}
 use Rattle.ptu_world.specs.{Deeds.{Grandmaster}, Grandmasters.{opening}, Promises.{KeepsPromises}}
-use Rattle.ptu_world.specs.Headline.{DecidesByRoom, HasGrandmaster, NumbersDatagrams, PaysPeriods, SaysSo, SelectsBest, ServesEachClient, WithinBudget, WithinCapacity}
+use Rattle.ptu_world.specs.Headline.{DecidesByRoom, HasGrandmaster, NumbersDatagrams, PaysPeriods, SaysSo, SelectsBest, SendsInTime, ServesEachClient, WithinBudget, WithinCapacity}
 use Rattle.ptu_world.specs.{Sayings.{moment_handed}, World.{World, Stock}}
 use Rattle.ptu_world.proofs.{Deciding.{is_answered, is_decided}, Numbering.{all_numbered, delivers}}
 use Rattle.ptu_world.proofs.Promising.{run_keeps}
-use Rattle.ptu_world.proofs.Serving.{run_periods, run_rate}
+use Rattle.ptu_world.proofs.Serving.{run_periods, run_rate, sent_in_each}
 use Rattle.ptu_world.proofs.Reporting.{ended, malformed, next, refused, said}
 use Rattle.ptu_world.proofs.Sayings.{datagram_names, event_names, says_of, step_best}
 use Rattle.ptu_world.proofs.Standing.{all_stand, grandmaster_runs, messages_sent}
@@ -39,6 +39,9 @@ serves_each_client stock script = record {
   rate = λ w ip g h. run_rate ip g (grandmaster_runs stock script w ip g h.reached h.node);
 }
 
+pub sends_in_time : (stock : Stock) (script : List ℕ) → SendsInTime stock script
+sends_in_time stock script = record { in_each = λ w ip g h events past. sent_in_each g events past }
+
 pub selects_best : (stock : Stock) (script : List ℕ) → SelectsBest stock script
 selects_best stock script = record {
   best = λ w command done reaches e. step_best w (moment_handed command) done (says_of w (all_stand stock script w reaches) command done e);
@@ -53,4 +56,4 @@ pub numbers_datagrams : (stock : Stock) (script : List ℕ) → NumbersDatagrams
 numbers_datagrams stock script = record { in_order = all_numbered stock script; delivered = delivers stock script }
 
 -- all of it
-pub ruleset headline = (within_capacity, decides_by_room, pays_periods, within_budget, serves_each_client, selects_best, says_so, numbers_datagrams)
+pub ruleset headline = (within_capacity, decides_by_room, pays_periods, within_budget, serves_each_client, sends_in_time, selects_best, says_so, numbers_datagrams)

@@ -9,7 +9,7 @@ ghost use Rattle.ptu_gm_messages.specs.Deciding.{events_of_datagram};
 ghost use Rattle.ptu_world.specs.Deeds.{Grandmaster, IsGrandmaster};
 ghost use Rattle.ptu_world.specs.World.{World, Stock, Done, opening, step, node_at};
 ghost use Rattle.ptu_world.specs.Facts.{world_of};
-ghost use Rattle.ptu_world.specs.Headline.{DecidesByRoom, NumbersDatagrams, PaysPeriods, SaysSo, SelectsBest, ServesEachClient, WithinBudget, WithinCapacity};
+ghost use Rattle.ptu_world.specs.Headline.{DecidesByRoom, NumbersDatagrams, PaysPeriods, SaysSo, SelectsBest, SendsInTime, ServesEachClient, WithinBudget, WithinCapacity};
 ghost use Rattle.ptu_world.specs.Reached.{Reaches};
 ghost use Rattle.ptu_world.specs.Promises.{AreMessagesSent, GoesOn, Handed, addressed, handed_by, IsRun, KeepsPromises};
 ghost use Rattle.ptu_world.specs.Grandmasters as gm;
@@ -18,15 +18,17 @@ ghost use Rattle.ptu_world.specs.Grandmasters as gm;
 /// most its capacity; each REQUEST that a datagram brings is granted exactly where its rate fits
 /// beside the other live grants, and else answered with the duration zero; each message takes a
 /// period of its own inside a live grant, and all messages are within the budget; each client gets
-/// no more messages of a kind than whole periods in which it held a grant; each slave selects its
-/// best eligible master; the report says so of each line that is taken, and nothing else; and
-/// datagrams are numbered in the order in which they are sent, and delivered as they were.
+/// no more messages of a kind than whole periods in which it held a grant, and, of Announce and
+/// Sync, no fewer than one in each period and the time between turns; each slave selects its best
+/// eligible master; the report says so of each line that is taken, and nothing else; and datagrams
+/// are numbered in the order in which they are sent, and delivered as they were.
 pub fn headline()
     ensures within_capacity { (stock : Stock) (script : List ℕ) → WithinCapacity stock script }
     ensures granted_by_room { (stock : Stock) (script : List ℕ) → DecidesByRoom stock script }
     ensures own_periods { (stock : Stock) (script : List ℕ) → PaysPeriods stock script }
     ensures within_budget { (stock : Stock) (script : List ℕ) → WithinBudget stock script }
     ensures each_client { (stock : Stock) (script : List ℕ) → ServesEachClient stock script }
+    ensures in_time { (stock : Stock) (script : List ℕ) → SendsInTime stock script }
     ensures best_master { (stock : Stock) (script : List ℕ) → SelectsBest stock script }
     ensures says_so { (stock : Stock) (script : List ℕ) → SaysSo stock script }
     ensures datagrams { (stock : Stock) (script : List ℕ) → NumbersDatagrams stock script }
