@@ -1,5 +1,7 @@
 -- Every script keeps to the headline.
-use Rattle.std.proofs.Common.{ℕ, List}
+use Rattle.std.proofs.Common.{ℕ, List, subst, sym}
+use Rattle.ptu_history.specs.Client.{table_of}
+use Rattle.ptu_laws.specs.Turned.{IsInEach}
 use Rattle.ptu_world.specs.{Deeds.{Grandmaster}, Grandmasters.{opening}, Promises.{KeepsPromises}}
 use Rattle.ptu_world.specs.Headline.{DecidesByRoom, HasGrandmaster, NumbersDatagrams, PaysPeriods, SaysSo, SelectsBest, SendsInTime, ServesEachClient, WithinBudget, WithinCapacity}
 use Rattle.ptu_world.specs.{Sayings.{moment_handed}, World.{World, Stock}}
@@ -8,6 +10,7 @@ use Rattle.ptu_world.proofs.Promising.{run_keeps}
 use Rattle.ptu_world.proofs.Serving.{run_periods, run_rate, sent_in_each}
 use Rattle.ptu_world.proofs.Reporting.{ended, malformed, next, refused, said}
 use Rattle.ptu_world.proofs.Sayings.{datagram_names, event_names, says_of, step_best}
+use Rattle.ptu_world.proofs.Turning.{turns_taken}
 use Rattle.ptu_world.proofs.Standing.{all_stand, grandmaster_runs, messages_sent}
 
 module _ (stock : Stock) (script : List ℕ) (w : World) (ip : ℕ) (g : Grandmaster) (h : HasGrandmaster stock script w ip g) where
@@ -40,7 +43,11 @@ serves_each_client stock script = record {
 }
 
 pub sends_in_time : (stock : Stock) (script : List ℕ) → SendsInTime stock script
-sends_in_time stock script = record { in_each = λ w ip g h events past. sent_in_each g events past }
+sends_in_time stock script = record {
+  in_each = λ w ip g h c k n l u between from to kind last begun within turns.
+      let taken = turns_taken stock script w ip g h (table_of c) in
+      sent_in_each g taken.0 taken.1 c k n l u between from to kind last begun within (subst (λ ts. IsInEach between ts from to) (sym taken.2) turns);
+}
 
 pub selects_best : (stock : Stock) (script : List ℕ) → SelectsBest stock script
 selects_best stock script = record {

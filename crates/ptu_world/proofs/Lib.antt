@@ -9,6 +9,7 @@ pub mod Messages
 pub mod Sayings
 pub mod Numbering
 pub mod Going
+pub mod Turning
 pub mod Serving
 pub mod Headline
 pub mod Counting

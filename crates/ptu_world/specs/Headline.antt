@@ -6,11 +6,10 @@ use Rattle.ptu_units.specs.declared.kind.Kind.TheVariants.{DelayResp}
 use Rattle.ptu_units.specs.Log.{period_of}
 use Rattle.ptu_history.specs.declared.client.Client.{Client}
 use Rattle.ptu_history.specs.{Held.{budget, count, force, held, payments}, History.{Record}}
-use Rattle.ptu_history.specs.{Client.{table_of}, Core.{core_history}, Events.{Event}, History.{Granted}}
-use Rattle.ptu_history.specs.{Live.{last_decision}, Runs.{chain}}
+use Rattle.ptu_history.specs.{Client.{table_of}, History.{Granted}, Live.{last_decision}, Runs.{chain}}
 use Rattle.ptu_laws.specs.Paid.{IsBefore}
 use Rattle.ptu_laws.specs.Served.{held_time, held_time_at, periods_sent, sent_at}
-use Rattle.ptu_laws.specs.Turned.{IsInEach, sent_moments, turn_moments}
+use Rattle.ptu_laws.specs.Turned.{IsInEach, sent_moments}
 use Rattle.ptu_lines.specs.declared.cause.LineCause.{LineCause}
 use Rattle.ptu_lines.specs.Script.{ScriptLine, Whole, Refused}
 use Rattle.ptu_script.specs.declared.{cause.Cause.{Cause}, command.Command.{Command}}
@@ -22,9 +21,9 @@ use Rattle.ptu_report_lines.specs.declared.statement.Statement.TheVariants.{Bad}
 use Rattle.ptu_slave_messages.specs.Node.{datagram_heard}
 use Rattle.ptu_world.specs.Deeds.{Grandmaster, Slave, IsGrandmaster, IsSlave}
 use Rattle.ptu_world.specs.World.{World, Stock, Done, node_at, opening, step}
-use Rattle.ptu_world.specs.Grandmasters.{opening as opening_of}
 use Rattle.ptu_world.specs.Report.{report_lines}
 use Rattle.ptu_world.specs.Reached.{Reaches, done_by_line, lines_said, said_of}
+use Rattle.ptu_world.specs.Turning.{turns_of}
 use Rattle.ptu_world.specs.Promises.{AreMessagesSent, Handed, IsAnswered, IsDecidedByRoom, IsHanded, IsSentAfter, PaysItsPeriod, Request, handed_by}
 use Rattle.ptu_world.specs.Sayings.{IsBestChoice, IsDelivered, NamesSelection, is_event, moment_handed, numbered, selected_in, sent_in, slave_of}
 
@@ -66,15 +65,14 @@ pub record ServesEachClient (stock : Stock) (script : List ℕ) : Type 0 where
   pub rate : (w : World) (ip : ℕ) (g : Grandmaster) → HasGrandmaster stock script w ip g
       → (c : Client) (k : Kind) (l : ℤ) (x : ℕ) → sent_at g.past c k l x * period_of l ≤ held_time_at g.past c k l x
 
--- of each grandmaster, by any events that make its history: where a grant of Announce or Sync is live from the start of its chain on,
--- through renewals at its logarithm, and each stretch of so many nanoseconds has a turn of the client's table, each stretch of one
--- period more has a message of the kind to the client: between two of them, and up to the first, there is no more time than that
+-- of each grandmaster: where a grant of Announce or Sync is live from the start of its chain on, through renewals at its logarithm, and
+-- each stretch of so many nanoseconds has a turn of the client's table by a line that was taken, each stretch of one period more has a
+-- message of the kind to the client: between two of them, and up to the first, there is no more time than that
 pub record SendsInTime (stock : Stock) (script : List ℕ) : Type 0 where
-  pub in_each : (w : World) (ip : ℕ) (g : Grandmaster) → HasGrandmaster stock script w ip g
-      → (events : List (ℕ × Event)) → g.past ≡ core_history (opening_of g) events
+  pub in_each : (w : World) (ip : ℕ) (g : Grandmaster) (h : HasGrandmaster stock script w ip g)
       → (c : Client) (k : Kind) (n : ℕ) (l : ℤ) (u between from to : ℕ) → k ≢ DelayResp
       → last_decision g.past c k ≡ Some (Granted n c k l u) → chain g.past c k ≤ from → to ≤ u
-      → IsInEach between (turn_moments (opening_of g) events (table_of c)) from to
+      → IsInEach between (turns_of ip (table_of c) (opening stock) h.reached.taken w h.reached.leads) from to
       → IsInEach (period_of l + between) (sent_moments g.past c k) from to
 
 -- each slave selects its best eligible master: each line that names a selection names that, by the slave's record, and each

@@ -5,12 +5,14 @@ ghost use Rattle.std.specs.Prelude.{◌≡◌, ◌≢◌, ℕ, List, [], ◌∷�
 ghost use Rattle.ptu_script.specs.declared.command.Command.{Command};
 ghost use Rattle.ptu_script.specs.declared.command.Command.TheVariants as commands;
 ghost use Rattle.ptu_history.specs.Events as events;
+ghost use Rattle.ptu_history.specs.Core.{core_history, core_moment};
+ghost use Rattle.ptu_laws.specs.Turned.{turn_moments};
 ghost use Rattle.ptu_gm_messages.specs.Deciding.{events_of_datagram};
 ghost use Rattle.ptu_world.specs.Deeds.{Grandmaster, IsGrandmaster};
 ghost use Rattle.ptu_world.specs.World.{World, Stock, Done, opening, step, node_at};
 ghost use Rattle.ptu_world.specs.Facts.{world_of};
-ghost use Rattle.ptu_world.specs.Headline.{DecidesByRoom, NumbersDatagrams, PaysPeriods, SaysSo, SelectsBest, SendsInTime, ServesEachClient, WithinBudget, WithinCapacity};
-ghost use Rattle.ptu_world.specs.Reached.{Reaches};
+ghost use Rattle.ptu_world.specs.Headline.{DecidesByRoom, HasGrandmaster, NumbersDatagrams, PaysPeriods, SaysSo, SelectsBest, SendsInTime, ServesEachClient, WithinBudget, WithinCapacity};
+ghost use Rattle.ptu_world.specs.{Reached.{Reaches}, Turning.{turn_by, turns_of}};
 ghost use Rattle.ptu_world.specs.Promises.{AreMessagesSent, GoesOn, Handed, addressed, handed_by, IsRun, KeepsPromises};
 ghost use Rattle.ptu_world.specs.Grandmasters as gm;
 
@@ -32,6 +34,20 @@ pub fn headline()
     ensures best_master { (stock : Stock) (script : List ℕ) → SelectsBest stock script }
     ensures says_so { (stock : Stock) (script : List ℕ) → SaysSo stock script }
     ensures datagrams { (stock : Stock) (script : List ℕ) → NumbersDatagrams stock script }
+{}
+
+/// The turns of a table that the lines of a script hand a grandmaster are those of some events that
+/// make its history, each at the moment at which it is taken.
+pub fn turns()
+    ensures taken { (stock : Stock) (script : List ℕ) (w : World) (ip : ℕ) (g : Grandmaster)
+        (h : HasGrandmaster stock script w ip g) (table : ℕ) →
+        (taken : List (ℕ × events.Event)) × (g.past ≡ core_history (gm.opening g) taken)
+        × (turn_moments (gm.opening g) taken table
+        ≡ turns_of ip table (opening stock) h.reached.taken w h.reached.leads) }
+    ensures one { (w : World) (ip : ℕ) (g : Grandmaster) (t table : ℕ) →
+        node_at w.nodes ip ≡ Some (IsGrandmaster g) →
+        turn_by ip table w (commands.Turn t ip table)
+        ≡ core_moment g.past t (events.Turn table) ∷ [] }
 {}
 
 /// A script reaches the world before its first line, and that at its end.
