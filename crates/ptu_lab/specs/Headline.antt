@@ -1,6 +1,6 @@
 -- The headline, whole: what every script keeps to, and that its report says so.
 use Rattle.std.specs.Prelude.{ℕ, List}
-use Rattle.ptu_world.specs.Headline.{DecidesByRoom, NumbersDatagrams, PaysPeriods, RecordsDeliveries, RecordsEvents, SaysSo, SelectsBest, SignalsAnswers, WithinBudget, WithinCapacity}
+use Rattle.ptu_world.specs.Headline.{DecidesByRoom, NumbersDatagrams, PaysPeriods, RecordsDeliveries, RecordsEvents, SaysSo, SelectsBest, SendsInTime, ServesEachClient, SignalsAnswers, WithinBudget, WithinCapacity}
 use Rattle.ptu_world.specs.World.{Stock}
 
 -- what every script keeps to, with so many judges of each rule
@@ -17,6 +17,10 @@ pub record KeepsHeadline (stock : Stock) (script : List ℕ) : Type 0 where
   pub signalled : SignalsAnswers stock script
   -- up to every moment all timing messages are within the capacity summed over it
   pub within_budget : WithinBudget stock script
+  -- no client gets more messages of a kind than whole periods in which it held a grant
+  pub each_client : ServesEachClient stock script
+  -- and messages come in each period and the time between turns
+  pub in_time : SendsInTime stock script
   -- each slave selects its best eligible master
   pub best_master : SelectsBest stock script
   -- by a record that has just what was delivered to it, and the answers of its judges

@@ -17,12 +17,12 @@ use Rattle.ptu_laws.specs.Paid.{IsBefore, IsPaid, is_held_at, is_term_at}
 use Rattle.ptu_laws.proofs.{Payments.{pairs_head, pairs_tail}, Sums.{sum-filter}}
 
 -- rate times period is the same for each logarithm in range
-in_any : (k : Kind) (l : ℤ) → IsLogOf k l → (negsuc 6 ≤ℤ l) × (l ≤ℤ pos 4)
+pub in_any : (k : Kind) (l : ℤ) → IsLogOf k l → (negsuc 6 ≤ℤ l) × (l ≤ℤ pos 4)
 in_any Announce l is = (omega (arith, ints, is.0), is.1)
 in_any Sync l is = is
 in_any DelayResp l is = is
 
-rate_times_period : (l : ℤ) → negsuc 6 ≤ℤ l → l ≤ℤ pos 4 → rate_of l * period_of l ≡ 16 * 1000000000
+pub rate_times_period : (l : ℤ) → negsuc 6 ≤ℤ l → l ≤ℤ pos 4 → rate_of l * period_of l ≡ 16 * 1000000000
 rate_times_period (pos zero) least greatest = refl
 rate_times_period (pos (suc zero)) least greatest = refl
 rate_times_period (pos (suc (suc zero))) least greatest = refl

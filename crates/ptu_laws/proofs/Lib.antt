@@ -15,3 +15,5 @@ pub mod Parts
 pub mod Locality
 pub mod Bounds
 pub mod Promises
+pub mod Served
+pub mod Turned

@@ -73,7 +73,7 @@ timely-step config history t (Resize capacity) =
 timely-core : (config : Config) (events : List (ℕ × Event)) → AllTimely [] (core_history config events)
 timely-core config = by_events config (λ h. AllTimely [] h) tt (λ before t event all. timely-append [] before (core_step config before t event).records all (timely-step config before t event))
 
-of_table : (n : ℕ) (c d : Client) (k j : Kind) → same_lease c k d j ≡ true → n ≤ cond (eqb (table_of d) (table_of c)) n 0
+pub of_table : (n : ℕ) (c d : Client) (k j : Kind) → same_lease c k d j ≡ true → n ≤ cond (eqb (table_of d) (table_of c)) n 0
 of_table n c d k j own =
     let same : eqb (table_of d) (table_of c) ≡ true = subst (λ e. eqb (table_of e) (table_of c) ≡ true) (same_lease-true c k d j own).0 (eq-eqb-table c) in
     let e : ◌≡◌ {A = ℕ} (cond (eqb (table_of d) (table_of c)) n 0) n = ap (λ b. cond b n 0) same in

@@ -4,3 +4,6 @@ pub mod Changes
 pub mod Part
 pub mod Sound
 pub mod Promises
+pub mod Served
+pub mod Turned
+pub mod Examples

@@ -2,13 +2,14 @@
 //! contract is the law, which holds for every configuration and every list of events, with any
 //! moments in any order.
 
-ghost use Rattle.std.specs.Prelude.{◌≡◌, ◌↔◌, ℕ, ◌+◌, ◌*◌, ◌<◌, ◌≤◌, false, List, [], ◌∷◌, ◌++◌, map, ℤ, IsTrue, Ok, Some};
+ghost use Rattle.std.specs.Prelude.{◌≡◌, ◌≢◌, ◌↔◌, ℕ, ◌+◌, ◌*◌, ◌<◌, ◌≤◌, false, List, [], ◌∷◌, ◌++◌, map, ℤ, IsTrue, Ok, Some};
 ghost use Rattle.std.specs.List.{All, AllPairs, Contains, count_by, list_any};
-ghost use Rattle.ptu_units.specs.{declared.kind.Kind.{Kind}, Log.{rate_of}};
+ghost use Rattle.ptu_units.specs.{declared.kind.Kind.{Kind}, Log.{period_of, rate_of}};
+ghost use Rattle.ptu_units.specs.declared.kind.Kind.TheVariants.{DelayResp};
 ghost use Rattle.ptu_history.specs.declared.client.Client.{Client};
 ghost use Rattle.ptu_history.specs.History.{Record, Granted, Capacity, Sent, capacity_in_force, is_sent, moment_of};
 ghost use Rattle.ptu_history.specs.Live.{Grant, last_decision, live, live_grants};
-ghost use Rattle.ptu_history.specs.Lawful.{earliest};
+ghost use Rattle.ptu_history.specs.{Lawful.{earliest}, Runs.{chain}};
 ghost use Rattle.ptu_history.specs.Verdict.{Config, Ask, others, profile, rate_sum, verdict};
 ghost use Rattle.ptu_history.specs.{Client.{table_of}, Moments.{book_moment}};
 ghost use Rattle.ptu_history.specs.Events.{Event, Request, Turn, DelayReq, Outcome, Decided};
@@ -18,6 +19,8 @@ ghost use Rattle.ptu_history.specs.Held.{budget, count, force, held, payment, pa
 ghost use Rattle.ptu_laws.specs.{Granted.{is_granted, is_short}, Changes.{IsUpTo, is_resize}};
 ghost use Rattle.ptu_laws.specs.{Paid.{IsBefore, IsPaid}, Sound.{IsSound, MayStand, last_sent}};
 ghost use Rattle.ptu_laws.specs.{Part.{part_of_clients, part_of_table}, Promises.{KeepsPromises}};
+ghost use Rattle.ptu_laws.specs.Served.{held_time, held_time_at, periods_sent, sent_at};
+ghost use Rattle.ptu_laws.specs.Turned.{IsInEach, sent_moments, turn_moments};
 
 /// At every moment the rates that are held sum to at most the capacity in force.
 pub fn total_within_capacity()
@@ -89,6 +92,40 @@ pub fn payments_are_held()
         AllPairs IsBefore (payments (core_history config events)) }
 {}
 
+/// Up to each moment the messages of a kind to a client, each as long as the period that was
+/// granted for it, are together no longer than the time in which the client held a grant of the
+/// kind. So it is with the messages and the time of each logarithm alone: at most one message for
+/// each whole period in which the client held a grant at it.
+pub fn messages_within_held_time()
+    ensures periods { (config : Config) (events : List (ℕ × Event)) (c : Client) (k : Kind)
+        (x : ℕ) →
+        let all = core_history config events in periods_sent all c k x ≤ held_time all c k x }
+    ensures rate { (config : Config) (events : List (ℕ × Event)) (c : Client) (k : Kind) (l : ℤ)
+        (x : ℕ) →
+        let all = core_history config events in
+        sent_at all c k l x * period_of l ≤ held_time_at all c k l x }
+{}
+
+/// Each turn of a client's table that comes a period after a moment finds a message of Announce or
+/// of Sync since that moment, or sends one, as long as the grant of the kind stays live. So where
+/// each stretch of so many nanoseconds has a turn, each stretch of one period more has a message:
+/// there is no more than that between two messages, nor between the start and the first. A grant
+/// stays live from the start of its chain, through renewals at its logarithm, until its end.
+pub fn messages_after_turns()
+    ensures by_turn { (config : Config) (events : List (ℕ × Event)) (c : Client) (k : Kind) (n : ℕ)
+        (l : ℤ) (u y z : ℕ) →
+        let all = core_history config events in
+        k ≢ DelayResp → last_decision all c k ≡ Some (Granted n c k l u) → chain all c k ≤ y →
+        Contains (turn_moments config events (table_of c)) z → y + period_of l ≤ z → z < u →
+        (x : ℕ) × Contains (sent_moments all c k) x × (y ≤ x) × (x ≤ z) }
+    ensures in_each { (config : Config) (events : List (ℕ × Event)) (c : Client) (k : Kind) (n : ℕ)
+        (l : ℤ) (u between from to : ℕ) →
+        let all = core_history config events in
+        k ≢ DelayResp → last_decision all c k ≡ Some (Granted n c k l u) → chain all c k ≤ from →
+        to ≤ u → IsInEach between (turn_moments config events (table_of c)) from to →
+        IsInEach (period_of l + between) (sent_moments all c k) from to }
+{}
+
 /// Up to each moment the messages, at sixteen seconds of one sixteenth each, are within the budget:
 /// the sum of the capacity in force over all nanoseconds before it. Where no event changes the
 /// capacity, that is capacity times time, and else at most the greatest capacity times time; so are
@@ -108,10 +145,10 @@ pub fn messages_within_budget()
         count_by is_sent (core_history config events) * (16 * 1000000000) ≤ most * x }
 {}
 
-/// The laws of capacity, payment and budget hold of every sound list of records, wherever it comes
-/// from: of what a record has of those before it alone. The histories of the core are sound, and a
-/// sound list stays sound with one more record that may stand, and with a change of capacity whose
-/// sheddings leave what fits.
+/// The laws of capacity, payment, held time and budget hold of every sound list of records,
+/// wherever it comes from: of what a record has of those before it alone. The histories of the core
+/// are sound, and a sound list stays sound with one more record that may stand, and with a change
+/// of capacity whose sheddings leave what fits.
 pub fn sound_histories()
     ensures core { (config : Config) (events : List (ℕ × Event)) →
         IsSound config.capacity (core_history config events) }
@@ -140,6 +177,13 @@ pub fn sound_histories()
         IsSound opening history → All (λ p. (l : ℤ) × IsPaid history l p) (payments history) }
     ensures disjoint { (opening : ℕ) (history : List Record) →
         IsSound opening history → AllPairs IsBefore (payments history) }
+    ensures within_held_time { (opening : ℕ) (history : List Record) (c : Client) (k : Kind)
+        (x : ℕ) →
+        IsSound opening history → periods_sent history c k x ≤ held_time history c k x }
+    ensures within_held_time_at { (opening : ℕ) (history : List Record) (c : Client) (k : Kind)
+        (l : ℤ) (x : ℕ) →
+        IsSound opening history →
+        sent_at history c k l x * period_of l ≤ held_time_at history c k l x }
     ensures within_budget { (opening : ℕ) (history : List Record) (x : ℕ) →
         IsSound opening history → count history x * (16 * 1000000000) ≤ budget opening history x }
 {}

@@ -1,17 +1,20 @@
 -- Every script keeps to the headline.
-use Rattle.std.proofs.Common.{ℕ, List}
+use Rattle.std.proofs.Common.{ℕ, List, subst, sym}
+use Rattle.ptu_history.specs.Client.{table_of}
 use Rattle.ptu_gm_messages.specs.Deciding.{client_of}
-use Rattle.ptu_laws.specs.Promises.{KeepsPromises}
+use Rattle.ptu_laws.specs.{Promises.{KeepsPromises}, Turned.{IsInEach}}
 use Rattle.ptu_world.specs.{Deeds.{Grandmaster}, Grandmasters.{opening}}
-use Rattle.ptu_world.specs.Headline.{DecidesByRoom, HasGrandmaster, NumbersDatagrams, PaysPeriods, RecordsDeliveries, RecordsEvents, SaysSo, SelectsBest, SignalsAnswers, WithinBudget, WithinCapacity}
+use Rattle.ptu_world.specs.Headline.{DecidesByRoom, HasGrandmaster, NumbersDatagrams, PaysPeriods, RecordsDeliveries, RecordsEvents, SaysSo, SelectsBest, SendsInTime, ServesEachClient, SignalsAnswers, WithinBudget, WithinCapacity}
 use Rattle.ptu_world.specs.{Sayings.{moment_handed}, World.{World, Stock}}
 use Rattle.ptu_world.proofs.{Deciding.{is_answered, is_decided}, Numbering.{all_numbered, delivers}}
 use Rattle.ptu_world.proofs.Going.{cancelled, capacity_goes, class_goes, datagram_goes, others_stay, turn_goes}
 use Rattle.ptu_world.proofs.Promising.{run_keeps}
 use Rattle.ptu_world.proofs.Receiving.{accepted, are_judged, flagged, ignored, quiet, rejudged, says, stopped, ticked}
+use Rattle.ptu_world.proofs.Serving.{run_periods, run_rate, sent_in_each}
 use Rattle.ptu_world.proofs.Reporting.{ended, malformed, next, refused, said}
 use Rattle.ptu_world.proofs.Sayings.{datagram_names, event_names, says_of, step_best}
 use Rattle.ptu_world.proofs.Signalling.{classed, replied, resized, turned, unheard}
+use Rattle.ptu_world.proofs.Turning.{turns_taken}
 use Rattle.ptu_world.proofs.Standing.{all_stand, grandmaster_runs, messages_sent}
 
 module _ (stock : Stock) (script : List ℕ) (w : World) (ip : ℕ) (g : Grandmaster) (h : HasGrandmaster stock script w ip g) where
@@ -57,6 +60,19 @@ signals_answers stock script = record {
 pub within_budget : (stock : Stock) (script : List ℕ) → WithinBudget stock script
 within_budget stock script = record { within = λ w ip g h. (keeps stock script w ip g h).budget }
 
+pub serves_each_client : (stock : Stock) (script : List ℕ) → ServesEachClient stock script
+serves_each_client stock script = record {
+  periods = λ w ip g h. run_periods ip g (grandmaster_runs stock script w ip g h.reached h.node);
+  rate = λ w ip g h. run_rate ip g (grandmaster_runs stock script w ip g h.reached h.node);
+}
+
+pub sends_in_time : (stock : Stock) (script : List ℕ) → SendsInTime stock script
+sends_in_time stock script = record {
+  in_each = λ w ip g h c k n l u between from to kind last begun within turns.
+      let taken = turns_taken stock script w ip g h (table_of c) in
+      sent_in_each g taken.0 taken.1 c k n l u between from to kind last begun within (subst (λ ts. IsInEach between ts from to) (sym taken.2) turns);
+}
+
 pub selects_best : (stock : Stock) (script : List ℕ) → SelectsBest stock script
 selects_best stock script = record {
   best = λ w command done reaches e. step_best w (moment_handed command) done (says_of w (all_stand stock script w reaches) command done e);
@@ -84,4 +100,4 @@ pub numbers_datagrams : (stock : Stock) (script : List ℕ) → NumbersDatagrams
 numbers_datagrams stock script = record { in_order = all_numbered stock script; delivered = delivers stock script }
 
 -- all of it
-pub ruleset headline = (within_capacity, decides_by_room, pays_periods, records_events, signals_answers, within_budget, selects_best, records_deliveries, says_so, numbers_datagrams)
+pub ruleset headline = (within_capacity, decides_by_room, pays_periods, records_events, signals_answers, within_budget, serves_each_client, sends_in_time, selects_best, records_deliveries, says_so, numbers_datagrams)

@@ -11,5 +11,7 @@ pub mod Numbering
 pub mod Going
 pub mod Signalling
 pub mod Receiving
+pub mod Turning
+pub mod Serving
 pub mod Headline
 pub mod Counting

@@ -1,14 +1,18 @@
 -- The headline: what every script keeps to, in each world that it reaches, and that the report says so.
-use Rattle.std.specs.Prelude.{◌≡◌, ◌≢◌, ℕ, ◌+◌, ◌*◌, ◌≤◌, ◌==◌, Bool, true, false, filter, filter_map, List, [], ◌∷◌, ◌++◌, length, map, Some, Ok, Err}
+use Rattle.std.specs.Prelude.{◌≡◌, ◌≢◌, ℕ, ◌+◌, ◌*◌, ◌≤◌, ◌==◌, Bool, true, false, filter, filter_map, List, [], ◌∷◌, ◌++◌, length, map, ℤ, Some, Ok, Err}
 use Rattle.std.specs.List.{All, AllPairs}
-use Rattle.ptu_units.specs.{declared.kind.Kind.{Kind}, Kind.{kind_of}}
+use Rattle.ptu_units.specs.{declared.kind.Kind.{Kind}, Kind.{kind_of}, Log.{period_of}}
+use Rattle.ptu_units.specs.declared.kind.Kind.TheVariants.{DelayResp}
 use Rattle.ptu_header.specs.declared.header.Header.{Header}
 use Rattle.ptu_tlvs.specs.declared.tlv.Tlv.{Tlv}
 use Rattle.ptu_history.specs.declared.client.Client.{Client}
 use Rattle.ptu_history.specs.{Core.{history_after}, Live.{live}}
 use Rattle.ptu_history.specs.Events as events
 use Rattle.ptu_history.specs.{Held.{budget, count, force, held, payments}, History.{Record}}
+use Rattle.ptu_history.specs.{Client.{table_of}, History.{Granted}, Live.{last_decision}, Runs.{chain}}
 use Rattle.ptu_laws.specs.{Paid.{IsBefore}, Promises.{IsSentAfter, PaysItsPeriod}}
+use Rattle.ptu_laws.specs.Served.{held_time, held_time_at, periods_sent, sent_at}
+use Rattle.ptu_laws.specs.Turned.{IsInEach, sent_moments}
 use Rattle.ptu_gm_messages.specs.declared.item.Item.{Item}
 use Rattle.ptu_gm_messages.specs.declared.item.Item.TheVariants as items
 use Rattle.ptu_gm_messages.specs.declared.heard.Heard.TheVariants as heard
@@ -36,6 +40,7 @@ use Rattle.ptu_world.specs.Grandmasters.{opening as opening_of}
 use Rattle.ptu_world.specs.World.{World, Stock, Done, judges_of, node_at, opening, step}
 use Rattle.ptu_world.specs.Report.{report_lines}
 use Rattle.ptu_world.specs.Reached.{Reaches, done_by_line, lines_said, said_of}
+use Rattle.ptu_world.specs.Turning.{turns_of}
 use Rattle.ptu_world.specs.Promises.{AreMessagesSent, GoesOn, Handed, IsAnswered, IsDecidedByRoom, IsHanded, Request, addressed, handed_by}
 use Rattle.ptu_world.specs.Receiving.{AreJudged, Enters, Ignores, IsOwn, is_received, received_by}
 use Rattle.ptu_world.specs.Signaling.{AnswerEach, Signals, cancels_of, is_sent_by, shed_by}
@@ -108,6 +113,25 @@ pub record SignalsAnswers (stock : Stock) (script : List ℕ) : Type 0 where
 pub record WithinBudget (stock : Stock) (script : List ℕ) : Type 0 where
   pub within : (w : World) (ip : ℕ) (g : Grandmaster) → HasGrandmaster stock script w ip g
       → (x : ℕ) → count g.past x * (16 * 1000000000) ≤ budget g.capacity g.past x
+
+-- of each grandmaster, up to every moment: the messages of a kind to a client, each as long as the period that was granted for it, are
+-- together no longer than the time in which the client held a grant of the kind; and so it is with the messages and the time of each
+-- logarithm alone: at most one message for each whole period in which the client held a grant at it (IEEE 1588-2019 clause 16.1)
+pub record ServesEachClient (stock : Stock) (script : List ℕ) : Type 0 where
+  pub periods : (w : World) (ip : ℕ) (g : Grandmaster) → HasGrandmaster stock script w ip g
+      → (c : Client) (k : Kind) (x : ℕ) → periods_sent g.past c k x ≤ held_time g.past c k x
+  pub rate : (w : World) (ip : ℕ) (g : Grandmaster) → HasGrandmaster stock script w ip g
+      → (c : Client) (k : Kind) (l : ℤ) (x : ℕ) → sent_at g.past c k l x * period_of l ≤ held_time_at g.past c k l x
+
+-- of each grandmaster: where a grant of Announce or Sync is live from the start of its chain on, through renewals at its logarithm, and
+-- each stretch of so many nanoseconds has a turn of the client's table by a line that was taken, each stretch of one period more has a
+-- message of the kind to the client: between two of them, and up to the first, there is no more time than that
+pub record SendsInTime (stock : Stock) (script : List ℕ) : Type 0 where
+  pub in_each : (w : World) (ip : ℕ) (g : Grandmaster) (h : HasGrandmaster stock script w ip g)
+      → (c : Client) (k : Kind) (n : ℕ) (l : ℤ) (u between from to : ℕ) → k ≢ DelayResp
+      → last_decision g.past c k ≡ Some (Granted n c k l u) → chain g.past c k ≤ from → to ≤ u
+      → IsInEach between (turns_of ip (table_of c) (opening stock) h.reached.taken w h.reached.leads) from to
+      → IsInEach (period_of l + between) (sent_moments g.past c k) from to
 
 -- each slave selects its best eligible master: each line that names a selection names that, by the slave's record, and each
 -- event of a slave has one such line (G.8265.1)

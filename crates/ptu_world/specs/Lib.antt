@@ -6,6 +6,7 @@ pub mod Report
 pub mod Samples
 pub mod Facts
 pub mod Reached
+pub mod Turning
 pub mod Promises
 pub mod Signaling
 pub mod Receiving
