@@ -2,10 +2,11 @@
 
 ghost use Rattle.std.specs.Prelude.{◌≡◌, map, Contains};
 ghost use Rattle.ptu_judges.specs.Held.{IsStock};
+ghost use Rattle.ptu_words.specs.CommandLine.{IsRefused};
 ghost use Rattle.ptu_run.specs.Run.{statuses};
 
 use crate::running::run;
-use crate::status::{OUT_OF_MEMORY, SINK_FAULT};
+use crate::status::{OUT_OF_MEMORY, SINK_FAULT, USAGE};
 use ptu_judges::Stock;
 use ptu_outside::{Host, StdSink, StdSource};
 use std::io::{BufWriter, Read, Write};
@@ -34,6 +35,8 @@ where
     requires stock { IsStock (map (λ j. held (j.vtable, j.value)) stock.flags.items)
         (map (λ j. held (j.vtable, j.value)) stock.gaps.items) }
     ensures statuses { Contains statuses result }
+    // 64 is answered only where the command line does not match the words.
+    ensures usage { result ≡ USAGE → IsRefused (map (λ w. w.now) words.now) }
 {
     let Ok(mut blocks) = BufWriter::with_capacity(rt.alloc(), BLOCK, output) else {
         return OUT_OF_MEMORY;

@@ -21,6 +21,7 @@ const BOTH_ENDS: &str = "\
     deliver 2002000000 3\n\
     deliver 2003000000 4\n";
 
+// What a replay reports of that.
 const SELECTED: &str = "\
     4 send 1 10.0.1.17 10.0.0.1 general 0c120040040004000000000000000000000000000a00000000000011\
     00010000057fffffffffffffffffffff00040006b0010000012c0004000600000000012c\n\
@@ -42,6 +43,7 @@ const SELECTED: &str = "\
     9 selected 10.0.1.17 10.0.0.1\n\
     end 9 4\n";
 
+// What a join makes of the two halves.
 const JOINED: &str = "\
     1 wait\n\
     2 pair 0012002c040004000000000000000000000000000a000000000000010001000000\
