@@ -33,7 +33,7 @@ use Rattle.ptu_pools.proofs.Whole.{Quiet, all_quiet, items_quiet, resizes}
 use Rattle.ptu_nodes.specs.Standing.{config_of}
 use Rattle.ptu_pool_run.specs.declared.output.PoolLine.{PoolLine}
 use Rattle.ptu_pool_run.specs.declared.output.PoolLine.TheVariants.{Sent}
-use Rattle.ptu_pool_run.specs.{Output.{line_text}, Promises.{DecidesByRoom, IsAnswered, IsHanded, Sold}}
+use Rattle.ptu_pool_run.specs.{Output.{line_text}, Promises.{DecidesByOwnRoom, IsAnsweredByPool, IsHandedToPool, Sold}}
 use Rattle.ptu_pool_run.specs.Reading.{events_of, happened}
 use Rattle.ptu_pool_run.specs.Sending.{grandmaster_of, lines_by, lines_of_event, sent_line}
 use Rattle.ptu_pool_run.proofs.{Following.{at_pools}, Happening.{here}, Limits.{IsWithin}}
@@ -89,7 +89,7 @@ module _ (r : Request) where
 
 -- ---- the line
 
-module _ (script : List ℕ) (p : Sold script) (apart : AreApart (p.told).pools) (r : Request) (is : IsHanded p r) where
+module _ (script : List ℕ) (p : Sold script) (apart : AreApart (p.told).pools) (r : Request) (is : IsHandedToPool p r) where
   abbrev before : List PoolEvent
   before = events_of (p.told).events
 
@@ -116,7 +116,7 @@ module _ (script : List ℕ) (p : Sold script) (apart : AreApart (p.told).pools)
       ∙ ap (λ (g : Grandmaster). map (sent_line line (p.place + 1)) (gm.datagram_deed g r.handed.at r.handed.from r.handed.octets).sends) (sym gm_is)
       ∙ sends
 
-  answered : (line : ℕ) → IsAnswered p line r
+  answered : (line : ℕ) → IsAnsweredByPool p line r
   answered line =
       let one = replies r handed in
       let event = Came r.handed.at r.handed.from r.handed.octets in
@@ -170,7 +170,7 @@ module _ (script : List ℕ) (p : Sold script) (apart : AreApart (p.told).pools)
   its_capacity : capacity_then r ≡ (p.pool).capacity
   its_capacity = unchanged r.gm gm_is ∙ ap (λ (g : Grandmaster). g.capacity) gm_is ∙ own_capacity
 
-pub decides : (script : List ℕ) → ((p : Sold script) → AreApart (p.told).pools) → ((p : Sold script) → IsWithin p.told) → DecidesByRoom script
+pub decides : (script : List ℕ) → ((p : Sold script) → AreApart (p.told).pools) → ((p : Sold script) → IsWithin p.told) → DecidesByOwnRoom script
 decides script apart within = record {
   answered = λ p line r is. answered script p (apart p) r is line;
   decided = λ p r is. decided script p (apart p) r is (within p);

@@ -27,7 +27,7 @@ use Rattle.ptu_pool_run.specs.declared.{cause.PoolCause.{PoolCause}}
 use Rattle.ptu_pool_run.specs.declared.cause.PoolCause.TheVariants.{Number}
 use Rattle.ptu_pool_run.specs.declared.command.PoolCommand.{PoolCommand}
 use Rattle.ptu_pool_run.specs.declared.command.PoolCommand.TheVariants as commands
-use Rattle.ptu_pool_run.specs.{Output.{line_text}, Promises.{FollowsEvents, GoesOn, Sold, addressed, history_of, past, timing_in}}
+use Rattle.ptu_pool_run.specs.{Output.{line_text}, Promises.{FollowsEvents, GoesOnInPool, Sold, pool_addressed, history_of, past, timing_in}}
 use Rattle.ptu_pool_run.specs.Reading.{At, Told, behind_pools, events_of, happened, set_up, sold, sold_by, step, turned}
 use Rattle.ptu_pool_run.specs.{Selling.{refusal_of}, Sending.{grandmaster_of, lines_of_event, sends_at, sent_line}}
 use Rattle.ptu_pool_run.specs.Poured.{is_line_of, last_line, lines_after}
@@ -127,7 +127,7 @@ module _ (script : List ℕ) (p : Sold script) (apart : AreApart (p.told).pools)
   begins : (p.told).events ≡ [] → past p ≡ []
   begins none = ap (λ es. pool_history config pools p.place (events_of es)) none ∙ history-none (opened_with (capacity_at pools p.place) config)
 
-  datagram : (line t from : ℕ) (octets : List ℕ) → is_in from p.pool ≡ true → GoesOn p line (commands.Receive t from octets) (events_of_datagram config t from octets)
+  datagram : (line t from : ℕ) (octets : List ℕ) → is_in from p.pool ≡ true → GoesOnInPool p line (commands.Receive t from octets) (events_of_datagram config t from octets)
   datagram line t from octets inside = record {
     after = told_more line (Came t from octets);
     texts = map line_text (lines_of_event p.setup pools before line (Came t from octets));
@@ -141,7 +141,7 @@ module _ (script : List ℕ) (p : Sold script) (apart : AreApart (p.told).pools)
       ap (λ b. cond b (happened p.told line (Turned t (p.place + 1 - 1) table) p.setup) (Refuses Number)) (le-leb (p.place + 1) (length pools) (omega (arith, lt)))
       ∙ ap (λ n. happened p.told line (Turned t n table) p.setup) (let same : p.place + 1 - 1 ≡ p.place = omega arith in same)
 
-  turn : (line t table : ℕ) → GoesOn p line (commands.Turn t (p.place + 1) table) ((t, events.Turn table) ∷ [])
+  turn : (line t table : ℕ) → GoesOnInPool p line (commands.Turn t (p.place + 1) table) ((t, events.Turn table) ∷ [])
   turn line t table = record {
     after = told_more line (Turned t p.place table);
     texts = map line_text (lines_of_event p.setup pools before line (Turned t p.place table));
@@ -181,7 +181,7 @@ module _ (script : List ℕ) (p : Sold script) (apart : AreApart (p.told).pools)
       other_event line (Turned t (number - 1) table) after texts (ne_eqb p.place (number - 1) (λ same. other (ap Some (sym same)))) e
   other_turn line t number table false after texts other e = absurd cc
 
-  others : (line : ℕ) (command : PoolCommand) (after : Told) (texts : List (List ℕ)) → step p.told line command ≡ Goes after texts → addressed p.told command ≢ Some p.place →
+  others : (line : ℕ) (command : PoolCommand) (after : Told) (texts : List (List ℕ)) → step p.told line command ≡ Goes after texts → pool_addressed p.told command ≢ Some p.place →
       history_of p.setup after p.place ≡ past p
   others line (commands.Grandmaster setup) after texts e other = other_setup setup after texts e
   others line (commands.Sell pool) after texts e other =

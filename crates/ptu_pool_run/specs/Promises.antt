@@ -80,28 +80,28 @@ abbrev pub past : {script : List ℕ} → Sold script → List Record
 past p = history_of p.setup p.told p.place
 
 -- a line that commands so is taken, and makes the pool's history go on with these events, by its own capacity
-pub record GoesOn {script : List ℕ} (p : Sold script) (line : ℕ) (command : PoolCommand) (events : List (ℕ × Event)) : Type 0 where
+pub record GoesOnInPool {script : List ℕ} (p : Sold script) (line : ℕ) (command : PoolCommand) (events : List (ℕ × Event)) : Type 0 where
   pub after : Told
   pub texts : List (List ℕ)
   pub step : step p.told line command ≡ Goes after texts
   pub history : history_of p.setup after p.place ≡ history_after (opened_with (p.pool).capacity (config_of p.setup)) (past p) events
 
 -- the place of the pool that a command hands something to
-abbrev pub addressed : Told → PoolCommand → Option ℕ
-addressed told (commands.Grandmaster setup) = None
-addressed told (commands.Sell pool) = None
-addressed told (commands.Receive t from octets) = position (is_in from) told.pools
-addressed told (commands.Turn t number table) = Some (number - 1)
+abbrev pub pool_addressed : Told → PoolCommand → Option ℕ
+pool_addressed told (commands.Grandmaster setup) = None
+pool_addressed told (commands.Sell pool) = None
+pool_addressed told (commands.Receive t from octets) = position (is_in from) told.pools
+pool_addressed told (commands.Turn t number table) = Some (number - 1)
 
 -- a pool's history begins empty; each datagram from an address of the pool, and each turn of it, makes it go on with just the
 -- events that this is; and no other line changes it
 pub record FollowsEvents (script : List ℕ) : Type 0 where
   pub begins : (p : Sold script) → p.told.events ≡ [] → past p ≡ []
   pub datagram : (p : Sold script) (line t from : ℕ) (octets : List ℕ) → is_in from p.pool ≡ true
-      → GoesOn p line (commands.Receive t from octets) (events_of_datagram (config_of p.setup) t from octets)
-  pub turn : (p : Sold script) (line t table : ℕ) → GoesOn p line (commands.Turn t (p.place + 1) table) ((t, events.Turn table) ∷ [])
+      → GoesOnInPool p line (commands.Receive t from octets) (events_of_datagram (config_of p.setup) t from octets)
+  pub turn : (p : Sold script) (line t table : ℕ) → GoesOnInPool p line (commands.Turn t (p.place + 1) table) ((t, events.Turn table) ∷ [])
   pub others : (p : Sold script) (line : ℕ) (command : PoolCommand) (after : Told) (texts : List (List ℕ)) → step p.told line command ≡ Goes after texts
-      → addressed p.told command ≢ Some p.place → history_of p.setup after p.place ≡ past p
+      → pool_addressed p.told command ≢ Some p.place → history_of p.setup after p.place ≡ past p
 
 -- ---- requests
 
@@ -110,14 +110,14 @@ abbrev pub its_grandmaster : {script : List ℕ} → Sold script → Grandmaster
 its_grandmaster p = record { ip = (p.setup).ip; config = config_of p.setup; capacity = (p.pool).capacity; past = past p }
 
 -- a datagram from an address of the pool hands the REQUEST to the pool's grandmaster
-pub record IsHanded {script : List ℕ} (p : Sold script) (r : Request) : Type 0 where
+pub record IsHandedToPool {script : List ℕ} (p : Sold script) (r : Request) : Type 0 where
   pub gm : r.gm ≡ its_grandmaster p
   pub from : is_in r.handed.from p.pool ≡ true
   pub heard : heard_in r.gm.config r.handed.octets ≡ Ok (heard.Asks r.header (r.before ++ items.Request r.ask ∷ r.behind))
 
 -- the line that hands it over is taken, and the decision stands in the one reply, at the place of the REQUEST among the items;
 -- nothing else is written of the line
-pub record IsAnswered {script : List ℕ} (p : Sold script) (line : ℕ) (r : Request) : Type 0 where
+pub record IsAnsweredByPool {script : List ℕ} (p : Sold script) (line : ℕ) (r : Request) : Type 0 where
   pub after : Told
   pub before : List Tlv
   pub behind : List Tlv
@@ -128,10 +128,10 @@ pub record IsAnswered {script : List ℕ} (p : Sold script) (line : ℕ) (r : Re
 
 -- each REQUEST that a datagram from an address of a pool brings is granted exactly where its rate fits beside the pool's other
 -- live grants within the pool's own capacity, and else answered with the duration zero, and the pool's line says so
-pub record DecidesByRoom (script : List ℕ) : Type 0 where
-  pub answered : (p : Sold script) (line : ℕ) (r : Request) → IsHanded p r → IsAnswered p line r
-  pub decided : (p : Sold script) (r : Request) → IsHanded p r → IsDecidedByRoom r
-  pub capacity : (p : Sold script) (r : Request) → IsHanded p r → capacity_then r ≡ (p.pool).capacity
+pub record DecidesByOwnRoom (script : List ℕ) : Type 0 where
+  pub answered : (p : Sold script) (line : ℕ) (r : Request) → IsHandedToPool p r → IsAnsweredByPool p line r
+  pub decided : (p : Sold script) (r : Request) → IsHandedToPool p r → IsDecidedByRoom r
+  pub capacity : (p : Sold script) (r : Request) → IsHandedToPool p r → capacity_then r ≡ (p.pool).capacity
 
 -- ---- all
 
@@ -150,7 +150,7 @@ pub record KeepsPools (script : List ℕ) : Type 0 where
   pub messages : (setup : GrandmasterSetup) (i : ℕ) → (told_by script).setup ≡ Some setup → AreMessagesWritten script setup i
   pub history : FollowsEvents script
   -- each REQUEST is decided by the room in its own pool
-  pub granted_by_room : DecidesByRoom script
+  pub granted_by_room : DecidesByOwnRoom script
   -- what is held in a pool is within its own capacity at every moment, and what is held in all is within that of the grandmaster
   pub each_within : (setup : GrandmasterSetup) (i x : ℕ) → (told_by script).setup ≡ Some setup →
       held (history_of setup (told_by script) i) x ≤ capacity_at (told_by script).pools i

@@ -27,8 +27,8 @@ abbrev pub requests : List ℕ
 requests = script_of (customers
     ++ (rx (codes "10.0.1.17") ask ∷ rx (codes "10.0.1.18") other_ask ∷ rx (codes "10.0.2.1") ask ∷ rx (codes "10.0.3.1") ask ∷ []))
 
-abbrev pub answers : List (List ℕ)
-answers = lines_of (
+abbrev pub requests_output : List (List ℕ)
+requests_output = lines_of (
     sends (codes "4 pool 1") (codes "10.0.1.17") grant
     ∷ sends (codes "5 pool 1") (codes "10.0.1.18") other_denial
     ∷ sends (codes "6 pool 2") (codes "10.0.2.1") grant
@@ -38,20 +38,20 @@ answers = lines_of (
 -- ---- turns: at 2 s the one client of each pool is due an Announce, once, and from its own pool alone
 
 -- the first Announce, at 2 s
-abbrev pub announce : List ℕ
-announce = codes "0b120040040004000000000000000000000000000a0000000000000100010000057f000000000002000000000000008054feffff800a000000000000010000a0"
+abbrev pub first_announce : List ℕ
+first_announce = codes "0b120040040004000000000000000000000000000a0000000000000100010000057f000000000002000000000000008054feffff800a000000000000010000a0"
 
 abbrev pub turns : List ℕ
 turns = script_of (customers
     ++ (rx (codes "10.0.1.17") ask ∷ rx (codes "10.0.2.1") ask
     ∷ codes "turn 1999999999 1 2" ∷ codes "turn 2000000000 2 2" ∷ codes "turn 2000000000 2 2" ∷ codes "turn 2000000000 1 2" ∷ []))
 
-abbrev pub announces : List (List ℕ)
-announces = lines_of (
+abbrev pub turns_output : List (List ℕ)
+turns_output = lines_of (
     sends (codes "4 pool 1") (codes "10.0.1.17") grant
     ∷ sends (codes "5 pool 2") (codes "10.0.2.1") grant
-    ∷ sends (codes "7 pool 2") (codes "10.0.2.1") announce
-    ∷ sends (codes "9 pool 1") (codes "10.0.1.17") announce
+    ∷ sends (codes "7 pool 2") (codes "10.0.2.1") first_announce
+    ∷ sends (codes "9 pool 1") (codes "10.0.1.17") first_announce
     ∷ codes "end 9" ∷ [])
 
 -- ---- pools that are refused

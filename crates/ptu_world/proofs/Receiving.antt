@@ -25,7 +25,7 @@ use Rattle.ptu_script.specs.declared.cause.Cause.TheVariants as causes
 use Rattle.ptu_script.specs.{Fields.{◌>>=◌}, declared.command.Command.{Command}}
 use Rattle.ptu_script.specs.declared.command.Command.TheVariants as commands
 use Rattle.ptu_world.specs.Deeds.{Slave, IsSlave, Deed}
-use Rattle.ptu_world.specs.{Promises.{Handed, handed_by}, Receiving.{AreJudged, Enters, Ignores, IsOwn, is_judged, is_received, received_by, received_in}}
+use Rattle.ptu_world.specs.{Promises.{Handed, handed_by}, Receiving.{AreJudged, EntersEvent, Ignores, IsOwn, is_judged, is_received, received_by, received_in}}
 use Rattle.ptu_world.specs.Slaves as slaves
 use Rattle.ptu_world.specs.World.{World, Done, at_slave, done_by, judges_of, node_at, or_cause, place_in, sent_from, slave_by, step, stock_without, without_one}
 use Rattle.ptu_world.proofs.{Deciding.{taken_by}, Going.{placed-there}}
@@ -220,7 +220,7 @@ module _ (w : World) (command : Command) (d : Handed) (s : Slave) (node : node_a
   takes = taken_by w command d (IsSlave s) handed node
 
   pub accepted : (m : ℕ) (message : Message) → reception s.opened.config s.opened.masters d.from d.octets ≡ Ok (m, message)
-      → Enters w command d.node s d.at (event_of m message) message.header.source
+      → EntersEvent w command d.node s d.at (event_of m message) message.header.source
   accepted m message e =
       let made = slave.message_deed s.opened s.taken d.at (m, message) in
       let x = event_moment s.taken d.at in
@@ -245,7 +245,7 @@ module _ (w : World) (command : Command) (d : Handed) (s : Slave) (node : node_a
 -- ---- other events
 
 module _ (w : World) (ip : ℕ) (s : Slave) (node : node_at w.nodes ip ≡ Some (IsSlave s)) where
-  plainly : (command : Command) (v : World) (t : ℕ) (e : SlaveEvent) → v.nodes ≡ w.nodes → v.sent ≡ w.sent → step w command ≡ Ok (done_by v ip (slaves.plain_deed s t e)) → Enters w command ip s t e all_ones
+  plainly : (command : Command) (v : World) (t : ℕ) (e : SlaveEvent) → v.nodes ≡ w.nodes → v.sent ≡ w.sent → step w command ≡ Ok (done_by v ip (slaves.plain_deed s t e)) → EntersEvent w command ip s t e all_ones
   plainly command v t e nodes sent made = record {
     done = done_by v ip (slaves.plain_deed s t e);
     step = made;
@@ -256,22 +256,22 @@ module _ (w : World) (ip : ℕ) (s : Slave) (node : node_at w.nodes ip ≡ Some 
   at_it : (deed : Slave → Deed) → ◌≡◌ {A = Result Done Cause} (at_slave w ip deed) (Ok (done_by w ip (deed s)))
   at_it deed = ap (λ o. slave_by o >>= λ x. Ok (done_by w ip (deed x))) node
 
-  pub ticked : (t : ℕ) → Enters w (commands.Tick t ip) ip s t Tick all_ones
+  pub ticked : (t : ℕ) → EntersEvent w (commands.Tick t ip) ip s t Tick all_ones
   unfolding step
   ticked t = plainly (commands.Tick t ip) w t Tick refl refl (at_it (λ x. slaves.plain_deed x t Tick))
 
-  pub stopped : (t : ℕ) → Enters w (commands.Stop t ip) ip s t Stop all_ones
+  pub stopped : (t : ℕ) → EntersEvent w (commands.Stop t ip) ip s t Stop all_ones
   unfolding step
   stopped t = plainly (commands.Stop t ip) w t Stop refl refl (at_it (λ x. slaves.plain_deed x t Stop))
 
-  pub flagged : (t master m : ℕ) (unusable : Bool) → place_of s.opened.masters master ≡ Some m → Enters w (commands.Flag t ip master unusable) ip s t (TellFlag m unusable) all_ones
+  pub flagged : (t master m : ℕ) (unusable : Bool) → place_of s.opened.masters master ≡ Some m → EntersEvent w (commands.Flag t ip master unusable) ip s t (TellFlag m unusable) all_ones
   unfolding step
   flagged t master m unusable place = plainly (commands.Flag t ip master unusable) w t (TellFlag m unusable) refl refl
       (ap {B = Result Done Cause} (λ o. slave_by o >>= λ x. place_in x master >>= λ n. Ok (done_by w ip (slaves.plain_deed x t (TellFlag n unusable)))) node
       ∙ ap {B = Result Done Cause} (λ o. or_cause causes.Node o >>= λ n. Ok (done_by w ip (slaves.plain_deed s t (TellFlag n unusable)))) place)
 
   pub rejudged : (t master m : ℕ) (rule : Rule) → place_of s.opened.masters master ≡ Some m → eqb (judges_of rule w.stock) 0 ≡ false
-      → Enters w (commands.Judge t ip master rule) ip s t (ReplaceJudge m (Some rule)) all_ones
+      → EntersEvent w (commands.Judge t ip master rule) ip s t (ReplaceJudge m (Some rule)) all_ones
   unfolding step
   rejudged t master m rule place left = plainly (commands.Judge t ip master rule) (record w { stock = without_one rule w.stock }) t (ReplaceJudge m (Some rule)) refl refl
       (ap {B = Result Done Cause} (λ o. slave_by o >>= λ x. place_in x master >>= λ n. stock_without rule w.stock >>= λ stock. Ok (done_by (record w { stock = stock }) ip (slaves.plain_deed x t (ReplaceJudge n (Some rule))))) node

@@ -25,7 +25,7 @@ use Rattle.ptu_script.specs.declared.command.Command.TheVariants as commands
 use Rattle.ptu_world.specs.Deeds.{Grandmaster, IsGrandmaster, Deed}
 use Rattle.ptu_world.specs.Grandmasters as gm
 use Rattle.ptu_world.specs.Promises.{Handed, handed_by}
-use Rattle.ptu_world.specs.Signaling.{AnswerEach, IsAnswerTo, Signals, cancels_of, is_signaling, shed_by}
+use Rattle.ptu_world.specs.Signaling.{AnswerEach, AnswersItem, Signals, cancels_of, is_signaling, shed_by}
 use Rattle.ptu_world.specs.World.{World, done_by, node_at, step}
 use Rattle.ptu_world.proofs.{Deciding.{taken_by}, Going.{at_it}, Messages.{IsTurned, due_turned}}
 
@@ -60,10 +60,10 @@ shed_signals config before (lease ∷ leases) = ap (λ sent. cancel_to config le
 
 -- ---- what answers the items of a Signaling
 
-answer_fits : (opened : Config) (h : List Record) (x : ℕ) (c : Client) (item : Item) → IsAnswerTo item (answer_to (decision_at opened h x c item))
+answer_fits : (opened : Config) (h : List Record) (x : ℕ) (c : Client) (item : Item) → AnswersItem item (answer_to (decision_at opened h x c item))
 answer_fits opened h x c (items.Request ask) = by (verdict opened h x c (asked_by ask))
   where
-    by : (v : Verdict) → IsAnswerTo (items.Request ask) (answer_by ask v)
+    by : (v : Verdict) → AnswersItem (items.Request ask) (answer_by ask v)
     by (GrantedFor k l seconds until) = (seconds, true, refl)
     by (ShortOf k l others rate capacity) = (0, false, refl)
     by (Outside cause) = (0, false, refl)

@@ -42,7 +42,7 @@ use Rattle.ptu_world.specs.Report.{report_lines}
 use Rattle.ptu_world.specs.Reached.{Reaches, done_by_line, lines_said, said_of}
 use Rattle.ptu_world.specs.Turning.{turns_of}
 use Rattle.ptu_world.specs.Promises.{AreMessagesSent, GoesOn, Handed, IsAnswered, IsDecidedByRoom, IsHanded, Request, addressed, handed_by}
-use Rattle.ptu_world.specs.Receiving.{AreJudged, Enters, Ignores, IsOwn, is_received, received_by}
+use Rattle.ptu_world.specs.Receiving.{AreJudged, EntersEvent, Ignores, IsOwn, is_received, received_by}
 use Rattle.ptu_world.specs.Signaling.{AnswerEach, Signals, cancels_of, is_sent_by, shed_by}
 use Rattle.ptu_world.specs.Sayings.{IsBestChoice, IsDelivered, NamesSelection, is_event, moment_handed, numbered, selected_in, sent_in, slave_of}
 
@@ -149,15 +149,15 @@ pub record SelectsBest (stock : Stock) (script : List ℕ) : Type 0 where
 -- judge is that judge's answer; and what the slave sends is what its record makes it send (IEEE 1588-2019 clauses 13 and 16.1)
 pub record RecordsDeliveries (stock : Stock) (script : List ℕ) : Type 0 where
   pub accepted : (w : World) (command : Command) (d : Handed) (s : Slave) (m : ℕ) (message : Message) → HasSlave stock script w d.node s → handed_by w command ≡ Some d
-      → reception s.opened.config s.opened.masters d.from d.octets ≡ Ok (m, message) → Enters w command d.node s d.at (event_of m message) message.header.source
+      → reception s.opened.config s.opened.masters d.from d.octets ≡ Ok (m, message) → EntersEvent w command d.node s d.at (event_of m message) message.header.source
   pub ignored : (w : World) (command : Command) (d : Handed) (s : Slave) (reason : SlaveReason) → HasSlave stock script w d.node s → handed_by w command ≡ Some d
       → reception s.opened.config s.opened.masters d.from d.octets ≡ Err reason → Ignores w command d.node s
-  pub tick : (w : World) (ip : ℕ) (s : Slave) (t : ℕ) → HasSlave stock script w ip s → Enters w (commands.Tick t ip) ip s t slave_events.Tick all_ones
-  pub stop : (w : World) (ip : ℕ) (s : Slave) (t : ℕ) → HasSlave stock script w ip s → Enters w (commands.Stop t ip) ip s t slave_events.Stop all_ones
+  pub tick : (w : World) (ip : ℕ) (s : Slave) (t : ℕ) → HasSlave stock script w ip s → EntersEvent w (commands.Tick t ip) ip s t slave_events.Tick all_ones
+  pub stop : (w : World) (ip : ℕ) (s : Slave) (t : ℕ) → HasSlave stock script w ip s → EntersEvent w (commands.Stop t ip) ip s t slave_events.Stop all_ones
   pub flag : (w : World) (ip : ℕ) (s : Slave) (t master m : ℕ) (unusable : Bool) → HasSlave stock script w ip s → place_of s.opened.masters master ≡ Some m
-      → Enters w (commands.Flag t ip master unusable) ip s t (slave_events.TellFlag m unusable) all_ones
+      → EntersEvent w (commands.Flag t ip master unusable) ip s t (slave_events.TellFlag m unusable) all_ones
   pub judge : (w : World) (ip : ℕ) (s : Slave) (t master m : ℕ) (rule : Rule) → HasSlave stock script w ip s → place_of s.opened.masters master ≡ Some m
-      → (judges_of rule w.stock == 0) ≡ false → Enters w (commands.Judge t ip master rule) ip s t (slave_events.ReplaceJudge m (Some rule)) all_ones
+      → (judges_of rule w.stock == 0) ≡ false → EntersEvent w (commands.Judge t ip master rule) ip s t (slave_events.ReplaceJudge m (Some rule)) all_ones
   pub says : (setup : SlaveSetup) (L : entries.Record) (t m : ℕ) (message : Message)
       → filter is_received (slave_step setup L t (event_of m message)).entries ≡ received_by setup.wants (event_moment L t) m message
   pub quiet : (setup : SlaveSetup) (L : entries.Record) (t : ℕ) (e : SlaveEvent) → IsOwn e → filter is_received (slave_step setup L t e).entries ≡ []

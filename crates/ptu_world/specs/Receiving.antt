@@ -17,7 +17,7 @@ use Rattle.ptu_world.specs.World.{World, Done, node_at, sent_from, step}
 
 -- a command is taken, and makes the slave at an address go on with an event that is handed a moment: its record gets the entries
 -- of the event, and it sends just what the event makes it send, to this target
-pub record Enters (w : World) (command : Command) (ip : ℕ) (s : Slave) (t : ℕ) (e : SlaveEvent) (target : PortIdentity) : Type 0 where
+pub record EntersEvent (w : World) (command : Command) (ip : ℕ) (s : Slave) (t : ℕ) (e : SlaveEvent) (target : PortIdentity) : Type 0 where
   pub done : Done
   pub step : step w command ≡ Ok done
   pub node : node_at done.world.nodes ip

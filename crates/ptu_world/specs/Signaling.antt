@@ -28,17 +28,17 @@ pub record Signals (w : World) (command : Command) (ip : ℕ) (signalings : List
   pub just : filter is_signaling sends ≡ signalings
 
 -- a REQUEST is answered by a GRANT of its messageType and logInterMessagePeriod, a CANCEL by its acknowledgement
-abbrev pub IsAnswerTo : Item → Tlv → Type 0
-IsAnswerTo (Request ask) answer =
+abbrev pub AnswersItem : Item → Tlv → Type 0
+AnswersItem (Request ask) answer =
     (seconds : ℕ) × (renewal : Bool) × (answer ≡ Grant (record { code = ask.code; log = ask.log; seconds = seconds }) renewal)
-IsAnswerTo (Cancel code) answer = answer ≡ Ack code
+AnswersItem (Cancel code) answer = answer ≡ Ack code
 
 -- each item is answered, in order, and nothing else is
 unfoldable pub AnswerEach : List Item → List Tlv → Type 0
 AnswerEach [] [] = ⊤
 AnswerEach [] (answer ∷ answers) = ⊥
 AnswerEach (item ∷ items) [] = ⊥
-AnswerEach (item ∷ items) (answer ∷ answers) = IsAnswerTo item answer × AnswerEach items answers
+AnswerEach (item ∷ items) (answer ∷ answers) = AnswersItem item answer × AnswerEach items answers
 
 -- the grants that a change of capacity sheds, where it is handed a moment
 abbrev pub shed_by : Grandmaster → ℕ → ℕ → List LiveGrant
