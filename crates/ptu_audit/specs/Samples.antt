@@ -28,21 +28,21 @@ abbrev pub ended : List ℕ → List ℕ → Option Answer
 ended decision tlv = answer 16 (decision ∷ signaling (codes "0032") tlv ∷ codes "end 2 1" ∷ [])
 
 -- Syncs each second are granted for 300 s
-abbrev pub granted_line : List ℕ
-granted_line = codes "2 granted sync 0 at 0 until 300000000000"
+abbrev pub syncs : List ℕ
+syncs = codes "2 granted sync 0 at 0 until 300000000000"
 
-abbrev pub grant_tlv : List ℕ
-grant_tlv = codes "0005000800000000012c0001"
+abbrev pub syncs_grant : List ℕ
+syncs_grant = codes "0005000800000000012c0001"
 
 -- that grant is shed at 5 ns, and this line tells of it
 abbrev pub shed : List ℕ → Option Answer
 shed told = answer 16 (
-    granted_line ∷ signaling (codes "0038") grant_tlv ∷ codes "3 capacity 10.0.0.1 8 at 5"
+    syncs ∷ signaling (codes "0038") syncs_grant ∷ codes "3 capacity 10.0.0.1 8 at 5"
     ∷ codes "3 shed sync 0 10.0.1.17 0a00000000000011/1" ∷ told ∷ codes "end 3 2" ∷ [])
 
 -- the CANCEL of the code to that client's address and identity, or to another one
-abbrev pub cancel_line : List ℕ → List ℕ → List ℕ → List ℕ
-cancel_line addresses identity tlv =
+abbrev pub notice : List ℕ → List ℕ → List ℕ → List ℕ
+notice addresses identity tlv =
     codes "3 send 2 " ++ (addresses ++ (codes " general 0c120032040004000000000000000000000000000a0000000000000100010000057f" ++ (identity ++ tlv)))
 
 -- so many denials in one group, with these digits of messageLength

@@ -3,16 +3,16 @@
 ghost use Rattle.std.specs.Prelude.{◌≡◌, Some, codes};
 ghost use Rattle.ptu_trail.specs.declared.cause.NoCause.TheVariants.{Reply};
 ghost use Rattle.ptu_audit.specs.declared.answer.Answer.TheVariants.{Yes, No};
-ghost use Rattle.ptu_audit.specs.Samples.{cancel_line, decided, denied_often, ended, grant_tlv, granted_line, shed};
+ghost use Rattle.ptu_audit.specs.Samples.{notice, decided, denied_often, ended, syncs_grant, syncs, shed};
 
 /// A request that was granted: the GRANT invites a renewal, and is of the kind, the logarithm and
 /// the time that the report names.
 pub fn grants()
-    ensures granted { decided granted_line grant_tlv ≡ Some (Yes 1 0) }
-    ensures uninvited { decided granted_line (codes "0005000800000000012c0000") ≡ Some (No 1 Reply) }
-    ensures other_log { decided granted_line (codes "0005000800010000012c0001") ≡ Some (No 1 Reply) }
-    ensures other_kind { decided granted_line (codes "00050008b0000000012c0001") ≡ Some (No 1 Reply) }
-    ensures other_time { decided granted_line (codes "0005000800000000012b0001") ≡ Some (No 1 Reply) }
+    ensures granted { decided syncs syncs_grant ≡ Some (Yes 1 0) }
+    ensures uninvited { decided syncs (codes "0005000800000000012c0000") ≡ Some (No 1 Reply) }
+    ensures other_log { decided syncs (codes "0005000800010000012c0001") ≡ Some (No 1 Reply) }
+    ensures other_kind { decided syncs (codes "00050008b0000000012c0001") ≡ Some (No 1 Reply) }
+    ensures other_time { decided syncs (codes "0005000800000000012b0001") ≡ Some (No 1 Reply) }
 {}
 
 /// A request that was not granted: the GRANT is for no time and invites no renewal, and is of the
@@ -57,17 +57,17 @@ pub fn acknowledgements()
 /// A grant that was shed: its client is told by a CANCEL of its kind, from that grandmaster, to its
 /// address and its identity.
 pub fn sheddings()
-    ensures told { shed (cancel_line (codes "10.0.0.1 10.0.1.17") (codes "0a000000000000110001")
+    ensures told { shed (notice (codes "10.0.0.1 10.0.1.17") (codes "0a000000000000110001")
         (codes "000600020000")) ≡ Some (Yes 1 0) }
-    ensures other_kind { shed (cancel_line (codes "10.0.0.1 10.0.1.17") (codes "0a000000000000110001")
+    ensures other_kind { shed (notice (codes "10.0.0.1 10.0.1.17") (codes "0a000000000000110001")
         (codes "00060002b000")) ≡ Some (No 3 Reply) }
-    ensures other_address { shed (cancel_line (codes "10.0.0.1 10.0.1.18")
+    ensures other_address { shed (notice (codes "10.0.0.1 10.0.1.18")
         (codes "0a000000000000110001") (codes "000600020000")) ≡ Some (No 3 Reply) }
-    ensures other_clock { shed (cancel_line (codes "10.0.0.1 10.0.1.17") (codes "0a000000000000120001")
+    ensures other_clock { shed (notice (codes "10.0.0.1 10.0.1.17") (codes "0a000000000000120001")
         (codes "000600020000")) ≡ Some (No 3 Reply) }
-    ensures other_port { shed (cancel_line (codes "10.0.0.1 10.0.1.17") (codes "0a000000000000110002")
+    ensures other_port { shed (notice (codes "10.0.0.1 10.0.1.17") (codes "0a000000000000110002")
         (codes "000600020000")) ≡ Some (No 3 Reply) }
-    ensures other_sender { shed (cancel_line (codes "10.0.0.2 10.0.1.17") (codes "0a000000000000110001")
+    ensures other_sender { shed (notice (codes "10.0.0.2 10.0.1.17") (codes "0a000000000000110001")
         (codes "000600020000")) ≡ Some (No 3 Reply) }
 {}
 
