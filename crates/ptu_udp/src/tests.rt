@@ -1,8 +1,9 @@
 use crate::pause::Pause;
 use crate::traffic::Traffic;
+use crate::udp_port::Numbers;
 use crate::{SysClock, UdpHost, UdpPort};
 use ptu_outside::{Channel, Clock, Host, Opened, Port};
-use std::net::Net;
+use std::net::{Ipv4Addr, Net, SocketAddrV4};
 use std::process::Abort;
 use std::test::Fail;
 use std::time::{Duration, Instant};
@@ -10,20 +11,32 @@ use std::{thread, time};
 
 const LOOPBACK: u32 = 0x7f00_0001;
 
-// The ports and clocks of this host at the first two UDP port numbers from this one on that are
-// free.
+// Another address of the same machine, which the system gives no socket by itself.
+const OTHER: u32 = 0x7f00_0002;
+
+// The ports and clocks of this host at this address, at the first two UDP port numbers from this
+// one on that are free.
+fn open_at<R: Net + time::Clock + Copy + Send>(
+    rt: &impl Abort,
+    host: &mut UdpHost<R>,
+    ip: u32,
+    first: u16,
+) -> Opened<UdpPort<R>, SysClock<R>> {
+    for pair in 0..100 {
+        let number = first.saturating_add(2 * pair);
+        if let Ok(opened) = host.open(ip, number, number.saturating_add(1)) {
+            return opened;
+        }
+    }
+    panic!(rt; "no port number is free");
+}
+
 fn open<R: Net + time::Clock + Copy + Send>(
     rt: &impl Abort,
     host: &mut UdpHost<R>,
     first: u16,
 ) -> Opened<UdpPort<R>, SysClock<R>> {
-    for pair in 0..100 {
-        let number = first.saturating_add(2 * pair);
-        if let Ok(opened) = host.open(LOOPBACK, number, number.saturating_add(1)) {
-            return opened;
-        }
-    }
-    panic!(rt; "no port number is free");
+    open_at(rt, host, LOOPBACK, first)
 }
 
 // The next datagram that comes to the port: the sender and the length.
@@ -104,18 +117,122 @@ fn a_longer_datagram_is_left_out(rt: HostRuntime) -> Result<(), Fail> {
     Ok(())
 }
 
-// It refuses clocks that stand still, clocks of one host with a zero each, and one that counts
-// anything but nanoseconds.
+// What this port sends by the general channel comes to the other from the address of both.
+fn assert_is_from_other<P: Port>(rt: &impl Abort, from: &mut P, to: &mut P) {
+    assert!(rt; from.send(OTHER, Channel::General, b"eight by").is_ok());
+    assert_eq!(rt; next(rt, to, &mut [0; 2048]), (OTHER, 8));
+}
+
+// It refuses a host of which the ports that send are at an address that the system picks.
+#[test]
+fn all_that_send_are_at_the_address_of_the_host(rt: HostRuntime) -> Result<(), Fail> {
+    let mut host = UdpHost::new(rt.alloc(), rt)?;
+    let mut opened = open_at(&rt, &mut host, OTHER, 22119);
+    assert_is_from_other(&rt, &mut opened.p0, &mut opened.p4);
+    assert_is_from_other(&rt, &mut opened.p1, &mut opened.p4);
+    assert_is_from_other(&rt, &mut opened.p2, &mut opened.p4);
+    assert_is_from_other(&rt, &mut opened.p3, &mut opened.p4);
+    host.close(opened);
+    Ok(())
+}
+
+// A port at the first free UDP port number from this one on, which sends to itself.
+fn port_to_itself<R: Net + time::Clock + Copy>(
+    rt: &impl Abort,
+    runtime: R,
+    traffic: &Traffic,
+    first: u16,
+) -> UdpPort<R> {
+    for more in 0..100 {
+        let number = first.saturating_add(more);
+        let address = SocketAddrV4::new(Ipv4Addr::from(LOOPBACK), number);
+        let numbers = Numbers {
+            event: number,
+            general: number,
+        };
+        let traffic = traffic.share().expect(rt, "it is counted");
+        if let Ok(port) = UdpPort::open(runtime, address, numbers, traffic, None) {
+            return port;
+        }
+    }
+    panic!(rt; "no port number is free");
+}
+
+// It refuses a port of which a send is no traffic, or a receive.
+#[test]
+fn a_send_and_a_receive_are_traffic(rt: HostRuntime) -> Result<(), Fail> {
+    let traffic = Traffic::new(rt.alloc())?;
+    let mut port = port_to_itself(&rt, rt, &traffic, 22319);
+    assert!(rt; port.send(LOOPBACK, Channel::General, b"eight by").is_ok());
+    assert_eq!(rt; traffic.datagrams(), 1);
+    let _ = next(&rt, &mut port, &mut [0; 2048]);
+    assert_eq!(rt; traffic.datagrams(), 2);
+    Ok(())
+}
+
+// How long a hundred receives take where nothing comes, in nanoseconds.
+fn idle_time<P: Port>(rt: &(impl Abort + time::Clock), port: &mut P) -> u128 {
+    let start = Instant::now(rt).expect(rt, "the clock is read");
+    for _ in 0..100 {
+        assert_eq!(rt; port.receive(&mut [0; 2048]), Ok(None));
+    }
+    let time = start.elapsed(rt).expect(rt, "the clock is read");
+    time.as_nanos()
+}
+
+// The shortest of some such times: another program may take the processor in most of them.
+fn shortest_idle_time<P: Port>(rt: &(impl Abort + time::Clock), port: &mut P) -> u128 {
+    let mut shortest = idle_time(rt, port);
+    for _ in 0..50 {
+        shortest = shortest.min(idle_time(rt, port));
+    }
+    shortest
+}
+
+// It refuses a host of which no receiving port rests, and one of which both do.
+#[test]
+fn the_port_of_general_messages_rests_alone(rt: HostRuntime) -> Result<(), Fail> {
+    let mut host = UdpHost::new(rt.alloc(), rt)?;
+    let mut opened = open(&rt, &mut host, 22519);
+    // A rest takes 40 microseconds at least.
+    assert!(rt; shortest_idle_time(&rt, &mut opened.p4) >= 4_000_000);
+    assert!(rt; shortest_idle_time(&rt, &mut opened.p5) < 4_000_000);
+    host.close(opened);
+    Ok(())
+}
+
+// The moments of all clocks of a host, which are read one after the other.
+fn moments<P, C: Clock>(opened: &mut Opened<P, C>) -> [u64; 6] {
+    [
+        opened.c0.now().nanos(),
+        opened.c1.now().nanos(),
+        opened.c2.now().nanos(),
+        opened.c3.now().nanos(),
+        opened.c4.now().nanos(),
+        opened.c5.now().nanos(),
+    ]
+}
+
+// The last of these moments, of which none is before the one in front of it, nor the first before
+// this one.
+fn last_of(rt: &impl Abort, before: u64, moments: [u64; 6]) -> u64 {
+    let mut last = before;
+    for moment in moments {
+        assert!(rt; last <= moment);
+        last = moment;
+    }
+    last
+}
+
+// It refuses clocks that stand still, clocks of one host with a zero each, also one alone, and one
+// that counts anything but nanoseconds.
 #[test]
 fn the_clocks_count_nanoseconds_from_one_zero(rt: HostRuntime) -> Result<(), Fail> {
     let mut host = UdpHost::new(rt.alloc(), rt)?;
     let mut opened = open(&rt, &mut host, 21919);
     let mut last = 0;
     for _ in 0..1000 {
-        let now = opened.c0.now().nanos();
-        let then = opened.c5.now().nanos();
-        assert!(rt; last <= now && now <= then);
-        last = then;
+        last = last_of(&rt, last, moments(&mut opened));
     }
     let before = Instant::now(&rt).expect(&rt, "the clock is read");
     let first = opened.c0.now().nanos();

@@ -13,7 +13,8 @@
 //!   another moment. (The seconds in Syncs and Delay_Resps, the order of the CANCELs, and what the
 //!   clocks have left.)
 //! - CANCELs go to other clients, name other kinds, or come in another order. (Port 4.) Only 32 of
-//!   more are sent; the capacity is cut to 16 bits. (`a_change_sheds_forty_grants`.)
+//!   more are sent. (`a_change_sheds_forty_grants`.) The capacity is cut to 16 bits.
+//!   (`thirty_three_fill_a_capacity_above_16_bits`.)
 //!   A change is not made where nothing was granted yet. (`Change::First`.)
 //! - Failed sends or receives of a lane are not counted, nor failed CANCELs; a lane, or table 1 or
 //!   2, is left out of the sums. (The lines.)
@@ -594,12 +595,12 @@ fn identity_of(alloc: Global, index: u16) -> Result<String, Fail> {
     Ok(format!(in alloc; "0a000000000001{index:02x}0001")?)
 }
 
-// Each of 41 clients requests Announces at a rate of 1.
-fn many(alloc: Global) -> Result<Vec<Given>, Fail> {
+// Each of so many clients sends this REQUEST.
+fn many(alloc: Global, clients: u16, request: &str) -> Result<Vec<Given>, Fail> {
     let mut gives = Vec::new(alloc);
-    for index in 0..41 {
+    for index in 0..clients {
         let source = identity_of(alloc, index)?;
-        let ask = signaling(alloc, source.as_str(), EVERY, 0, "00040006b0040000012c")?;
+        let ask = signaling(alloc, source.as_str(), EVERY, 0, request)?;
         gives.push(arriving(alloc, address_of(index), ask.as_str())?)?;
     }
     Ok(gives)
@@ -651,8 +652,28 @@ fn assert_sheds(
 #[test]
 fn a_change_sheds_forty_grants(rt: HostRuntime) -> Result<(), Fail> {
     let alloc = rt.alloc();
-    let mut host = still_host(alloc, many(alloc)?);
+    // (Announces at a rate of 1)
+    let mut host = still_host(alloc, many(alloc, 41, "00040006b0040000012c")?);
     let shed = assert_sheds(&rt, alloc, &mut host);
     drop(host);
     shed
+}
+
+// A capacity of 33 times the greatest rate.
+const FULL: GmSettings = GmSettings {
+    rounds: 1,
+    capacity: 67584,
+    ..SETTINGS
+};
+
+// It refuses an opening capacity that is cut to 16 bits, or stops at the greatest number of these.
+#[test]
+fn thirty_three_fill_a_capacity_above_16_bits(rt: HostRuntime) -> Result<(), Fail> {
+    let alloc = rt.alloc();
+    // (Syncs at a rate of 2048)
+    let mut host = still_host(alloc, many(alloc, 33, "0004000600f90000012c")?);
+    let line = "rounds 1 sent 33 failed 0 granted 33 refused 0 held 67584\n";
+    assert_said(&rt, alloc, &FULL, &mut host, line);
+    drop(host);
+    Ok(())
 }
