@@ -1,6 +1,7 @@
-"""Scripts of many leases at one line: no turn and no change of capacity is given up, however many datagrams it sends.
+"""Many leases at one line, and many halves: no turn, change of capacity or half is given up, however many there are.
 
-It refuses a turn that is answered by want of memory where it sends more than a thousand messages.
+They refuse a turn, of a grandmaster or of a pool, that is answered by want of memory where it sends more than a thousand
+or 4096 messages; and a half that is answered so where 4096 others wait.
 """
 
 from __future__ import annotations
@@ -9,7 +10,7 @@ import subprocess
 import unittest
 from ipaddress import IPv4Address
 
-from support import PATIENCE, program, wants_program
+from support import PATIENCE, program, timing, wants_program
 
 CLIENTS = 6000
 LEFT = 1500
@@ -19,17 +20,21 @@ SYNC_0 = "0004000600000000012c"
 RATE = 16
 
 
+def request(clock: int) -> str:
+    """The digits by which a client asks for Syncs, by its number in the clock identity."""
+    clock += 0x0A00_0001_0000_0000
+    return f"0c12003604000400{'00' * 12}{clock:016x}00010000057f{'ff' * 10}{SYNC_0}"
+
+
 def asks(client: int) -> str:
     """The script's line by which the client with this number asks for Syncs, at the moment of its number."""
-    clock = 0x0A00_0001_0000_0000 + client
-    head = f"0c12003604000400{'00' * 12}{clock:016x}00010000057f{'ff' * 10}"
-    return f"rx {client} 10.0.0.1 {IPv4Address(0x0A01_0000 + client)} {head}{SYNC_0}"
+    return f"rx {client} 10.0.0.1 {IPv4Address(0x0A01_0000 + client)} {request(client)}"
 
 
-def report_on(lines: list[str]) -> list[list[str]]:
-    """The words of each line of the report, of a replay that ends well."""
+def report_on(lines: list[str], word: str = "replay") -> list[list[str]]:
+    """The words of each line of the output, of a run that ends well."""
     script = "".join(f"{line}\n" for line in lines).encode()
-    ran = subprocess.run([str(program()), "replay"], input=script, capture_output=True, timeout=PATIENCE)
+    ran = subprocess.run([str(program()), word], input=script, capture_output=True, timeout=PATIENCE)
     assert ran.returncode == 0, ran.stderr
     return [line.split() for line in ran.stdout.decode().splitlines()]
 
@@ -59,6 +64,25 @@ class ManyLeases(unittest.TestCase):
         told = [str(IPv4Address(0x0A01_0000 + client)) for client in range(CLIENTS - 1, LEFT - 1, -1)]
         self.assertEqual([line[4] for line in said["change"][1 + shed :]], told)
         self.assertEqual(report[-1], ["end", str(1 + CLIENTS + 9), str(2 * CLIENTS + shed + LEFT)])
+
+    def test_all_of_one_table_of_a_pool_are_served(self) -> None:
+        # (a table has the clients whose clock identity and portNumber leave the same by 4)
+        setup = ["gm 10.0.0.1 0a00000000000001 1 4 84 16777216 300", f"pool 0.0.0.0 0 {CLIENTS * RATE}"]
+        requests = [f"rx 0 {IPv4Address(0x0A01_0000 + it)} {request(4 * it)}" for it in range(CLIENTS)]
+        said = report_on([*setup, *requests, f"turn {SECOND} 1 1"], "pools")
+        self.assertEqual([it[4] for it in said[:-1]], ["general"] * CLIENTS + ["event"] * CLIENTS)
+        self.assertEqual(said[-1], ["end", str(2 + CLIENTS + 1)])
+
+
+@wants_program
+class ManyHalves(unittest.TestCase):
+    def test_all_wait_for_their_other_half(self) -> None:
+        source = "0a000000000000010001"
+        follow_ups = [timing(8, source, it, it).hex() for it in range(CLIENTS)]
+        syncs = [timing(0, source, it, 0, flags=0x600).hex() for it in range(CLIENTS)]
+        said = report_on(follow_ups + syncs, "join")
+        self.assertEqual([it[1] for it in said[:-1]], ["wait"] * CLIENTS + ["pair"] * CLIENTS)
+        self.assertEqual(said[-1], ["end", str(2 * CLIENTS), "0"])
 
 
 if __name__ == "__main__":
