@@ -2,8 +2,11 @@
 
 from __future__ import annotations
 
+import gc
 import os
 import re
+from collections.abc import Iterator
+from contextlib import contextmanager
 from dataclasses import dataclass
 from multiprocessing import get_context
 from typing import BinaryIO
@@ -138,6 +141,7 @@ def joined(parts: list[Part], script: Script | None) -> Story | None:
             # (a line that is refused here is looked for from the front)
             block = report.Block(1, text + b"\n")
             block.cut()
+            block.see()
             reader.before = moment
             reader.take_others(block)
         add(reader.story, part.story)
@@ -167,13 +171,23 @@ def add(story: Story, part: Story) -> None:
             story.see(at)
 
 
+@contextmanager
+def uncollected() -> Iterator[None]:
+    """Without python's search for what hangs on itself, as nothing of a report does: it goes through all rows again."""
+    gc.disable()
+    try:
+        yield
+    finally:
+        gc.enable()
+
+
 def story_of(name: str, script_name: str | None, capacities: dict[str, int]) -> Story:
     """Reads the report of this name, or standard input for `-`, beside its script, where there is one."""
     script = None
     if script_name is not None:
         with reading(script_name, "name the script of the report") as stream:
             script = Script(stream.read())
-    with reading(name, "name a report of ptpuni replay, or - for standard input") as stream:
+    with uncollected(), reading(name, "name a report of ptpuni replay, or - for standard input") as stream:
         story = read_in_parts(name, script) if name != "-" else None
         if story is None:
             return read_story(stream, script, capacities)
