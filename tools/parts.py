@@ -2,11 +2,8 @@
 
 from __future__ import annotations
 
-import gc
 import os
 import re
-from collections.abc import Iterator
-from contextlib import contextmanager
 from dataclasses import dataclass
 from multiprocessing import get_context
 from typing import BinaryIO
@@ -16,6 +13,7 @@ from endings import BadInput, reading
 from reader import Reader, read_story
 from script import Script
 from story import Story
+from uncollected import uncollected
 
 # A shorter part takes as long to hand over as to read, in octets.
 LEAST_PART = 4 << 20
@@ -169,16 +167,6 @@ def add(story: Story, part: Story) -> None:
     for at in (part.start, part.end):
         if at is not None:
             story.see(at)
-
-
-@contextmanager
-def uncollected() -> Iterator[None]:
-    """Without python's search for what hangs on itself, as nothing of a report does: it goes through all rows again."""
-    gc.disable()
-    try:
-        yield
-    finally:
-        gc.enable()
 
 
 def story_of(name: str, script_name: str | None, capacities: dict[str, int]) -> Story:

@@ -163,7 +163,7 @@ class Reader:
         return master.stamps.append
 
     def look_at(self, block: report.Block, front: bytes, length: int) -> Front:
-        """Reads the first datagram of a front with so many digits behind it, where none of that kind was read before."""
+        """Reads the first datagram of a front with so many digits behind it, unless one like it was read before."""
         sender, receiver, _, head = front.split(b" ")
         kind = self.kinds.get((head, length))
         if kind is None:

@@ -117,7 +117,7 @@ GROUP = re.compile(rb"\n([0-9]+) ([a-z]+)")
 SELECTED = re.compile(rb"\n([0-9]+) selected ([0-9.]+ [0-9.none]+)(?=\n)")
 SENT = re.compile(rb"\n([0-9]+) send ([0-9]+) ([0-9.]+ [0-9.]+ [a-z]+) ([0-9a-f]+)(?=\n)")
 # The lines of which there are most: what a slave selects, and a datagram, each with what was heard or answered right
-# before it. What is taken without giving it back (++) is tried once; of digits the first four octets stand by themselves.
+# before it. What is taken and not given back (++) is tried once. Of a datagram the first four octets are a group.
 MANY = re.compile(
     rb"\n(NUMERAL) (?:(?:heard ([a-z_]++ [0-9.]++ [a-z]++) NUMERAL|answered) at (NUMERAL)\n\1 )?"
     rb"(?:selected ([0-9.]++ [0-9.none]++)"
@@ -140,8 +140,8 @@ def short(line: bytes) -> str:
 class Block:
     """Lines of a report by columns. Its text has an end of line before each line, and one behind the last one.
 
-    `numbers` are those of what is selected and sent, which are those of the script's lines. Of a datagram `fronts` has the
-    way and the first four octets, and `rests` the digits behind them; `kinds` counts them by front and length of the rest.
+    `numbers` are those of the script's lines on which something is selected or sent. Of a datagram `fronts` has the way
+    and the first four octets, and `rests` the digits behind them; `kinds` counts them by front and length of the rest.
     `told` counts what slaves select, by what they heard right before it. `moments` are those of what was heard and
     answered, and `others` all lines of which there are few.
     """
