@@ -70,7 +70,7 @@ granted announce 1 at 0 until 3
 1 send 1 10.0.0.1 10.0.1.17 multicast 0c12
 1 send 1 10.0.0.1 10.0.1.17 general 0c12003604000400g0
 1 send 1 10.0.0.1 10.0.1.17 general 0c12003604000400A0
-1 send 1 10.0.0.1 10.0.1.17 general 0c12003604000400 00
+1 send 1 10.0.0.1 10.0.1.17 general 0c12003604000400 0
 1 send 1 10.0.0.256 10.0.1.17 general 0c12003604000400
 1 send 01 10.0.0.1 10.0.1.17 general 0c12003604000400
 1 selected 10.0.1.17 10.0.0.1.
@@ -218,6 +218,12 @@ class Scripts(unittest.TestCase):
         self.assertIn("it does not fit line", self.changed("100000000000 10.0.0.1 48", "100000000001 10.0.0.1 48"))
         lines = self.SCRIPT.count("\n")
         self.assertIn(f"it ends {lines} lines, and the script has {lines + 1}", self.refused(self.SCRIPT + "\n"))
+
+    def test_another_slave_selects(self) -> None:
+        script = "slave 10.0.1.17 x\ntick 1000000000 10.0.1.{}\n"
+        self.assertEqual(list(read("2 selected 10.0.1.17 none\nend 2 0\n", script.format(17)).slaves), ["10.0.1.17"])
+        why = self.refused(script.format(18), "2 selected 10.0.1.17 none\nend 2 0\n")
+        self.assertIn("line 1: it does not fit line 2 of the script: `tick 1000000000 10.0.1.18`", why)
 
     def test_a_denial_tells_the_capacity(self) -> None:
         """The opening capacity stands in no line but a denial's."""

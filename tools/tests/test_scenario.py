@@ -272,10 +272,20 @@ class Runs(unittest.TestCase):
     def test_order_at_one_moment(self) -> None:
         """What is added first stands first: the tick at 1.5 s is added at that of 0.5 s, a delivery when it is sent."""
         link = '[[links]]\nbetween = ["10.0.1.2", "10.0.0.1"]\ndelay = 0.0001\n'
+        told: list[str] = []
+
+        def tell(replay: object, text: str, lines: int) -> None:
+            told.extend(it for it in text.splitlines() if it.split()[1] == "1500000000" and not it.startswith("rx"))
+            really(replay, text, lines)
+
+        really = scenario.Replay.tell
         for how in ("good", "asks"):
             for delay, order in (("0.5", ["tick", "deliver"]), ("1.5", ["deliver", "tick"])):
-                words = self.make(SMALL.replace("[0.001, 0.004]", delay) + link, how)
+                told.clear()
+                with mock.patch.object(scenario.Replay, "tell", tell):
+                    words = self.make(SMALL.replace("[0.001, 0.004]", delay) + link, how)
                 self.assertEqual([it[0] for it in words if it[1] == "1500000000"], order, (how, delay))
+                self.assertEqual([it.split()[0] for it in told], order, (how, delay))
 
     def test_batches_of_any_size(self) -> None:
         """Lines of one moment are told in one batch or in many, to the same end."""
