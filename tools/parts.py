@@ -13,6 +13,7 @@ from endings import BadInput, reading
 from reader import Reader, read_story
 from script import Script
 from story import Story
+from uncollected import uncollected
 
 # A shorter part takes as long to hand over as to read, in octets.
 LEAST_PART = 4 << 20
@@ -138,6 +139,7 @@ def joined(parts: list[Part], script: Script | None) -> Story | None:
             # (a line that is refused here is looked for from the front)
             block = report.Block(1, text + b"\n")
             block.cut()
+            block.see()
             reader.before = moment
             reader.take_others(block)
         add(reader.story, part.story)
@@ -173,7 +175,7 @@ def story_of(name: str, script_name: str | None, capacities: dict[str, int]) -> 
     if script_name is not None:
         with reading(script_name, "name the script of the report") as stream:
             script = Script(stream.read())
-    with reading(name, "name a report of ptpuni replay, or - for standard input") as stream:
+    with uncollected(), reading(name, "name a report of ptpuni replay, or - for standard input") as stream:
         story = read_in_parts(name, script) if name != "-" else None
         if story is None:
             return read_story(stream, script, capacities)

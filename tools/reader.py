@@ -3,8 +3,9 @@
 from __future__ import annotations
 
 import re
-from collections import Counter
-from dataclasses import dataclass, field
+from collections.abc import Callable
+from dataclasses import dataclass
+from itertools import compress
 from typing import BinaryIO
 
 import pools
@@ -20,20 +21,18 @@ DECISIONS = {b"granted", b"short", b"outside", b"cancelled", b"nothing"}
 # The first moment that a text tells: one that a line names, or the timestamp of a message that was sent.
 TOLD = re.compile(rb" at ([0-9]+)|\n[0-9]+ send [0-9]+ [0-9.]+ [0-9.]+ [a-z]+ 0[09b][0-9a-f]{66}([0-9a-f]{20})")
 # So many lines of a report are all compared with its script, and behind them some of each block.
-ALL_LINES, SOME_LINES = 10000, 100
+ALL_LINES, SOME_LINES = 10000, 200
+# Which word of a line that is compared is the node on whose event it stands.
+NODE = {b"send": 3, b"selected": 2}
 
 
-@dataclass(slots=True)
-class Way:
-    """How many messages of each kind went from a grandmaster to an address."""
+@dataclass(frozen=True, slots=True)
+class Front:
+    """What datagrams of one front are: messages of a kind, or of none, from a grandmaster to an address."""
 
-    master: Grandmaster
+    kind: str
+    sender: str
     receiver: bytes
-    counts: dict[str, int] = field(default_factory=lambda: dict.fromkeys(ptp.CODES, 0))
-
-    def tell(self) -> None:
-        for kind, count in self.counts.items():
-            self.master.sent_to[kind][self.receiver] += count
 
 
 class Reader:
@@ -42,14 +41,15 @@ class Reader:
     def __init__(self, script: Script | None = None) -> None:
         self.story = Story()
         self.script = script
-        # The kind of a datagram, or an empty text, by its first octets and its length; timing messages by their ways.
+        # The kind of a datagram, or an empty text, by its first octets and its length; what is known of each front.
         self.kinds: dict[tuple[bytes, int], str] = {}
-        self.ways: dict[bytes, Way] = {}
+        self.known: dict[tuple[bytes, int], Front] = {}
         # What each slave selects, as a report says it, and the moment that was told last.
         self.chosen: dict[bytes, bytes] = {}
         self.before = 0.0
         self.changed: tuple[bytes, Grandmaster] | None = None
-        self.receivers: list[bytes] = []
+        # The front of each datagram.
+        self.fronts: list[bytes] = []
 
     def read(self, stream: report.Readable) -> Story:
         reading = report.Reading()
@@ -60,10 +60,8 @@ class Reader:
     def read_blocks(self, stream: report.Readable, reading: report.Reading) -> None:
         for text in report.texts(stream):
             block = reading.block(text)
-            if len(block.text) > 1:
+            if block.count:
                 self.take(block)
-        for way in self.ways.values():
-            way.tell()
 
     def see_end(self, reading: report.Reading) -> None:
         if not reading.ended:
@@ -88,8 +86,10 @@ class Reader:
     def see_moments(self, block: report.Block) -> None:
         """Takes the least and the greatest moments of a block, so far as they are told, and that of its last group."""
         moments = [self.moment(block, it) for it in block.ends()]
-        for length in set(map(len, block.moments)):
-            told = [it for it in block.moments if len(it) == length]
+        lengths = set(map(len, block.moments))
+        for length in lengths:
+            # (digits of one width are in the order of their numbers)
+            told = [it for it in block.moments if len(it) == length] if len(lengths) > 1 else block.moments
             moments += [moment_of(min(told)), moment_of(max(told))]
         for number in dict.fromkeys(it[1] for it in block.others):
             moments.append(self.moment(block, number))
@@ -116,17 +116,15 @@ class Reader:
     # -- the script --------------------------------------------------------------------------------------------------
 
     def compare(self, block: report.Block, script: Script) -> None:
-        """Sees that each group can be what its line of the script comes to."""
-        self.receivers += [it[2].split(b" ", 2)[1] for it in block.sent]
-        is_whole = block.first < ALL_LINES
-        count = len(block.numbers) if is_whole else SOME_LINES
-        end = -1 if is_whole else block.text.find(b"\n", 40 * SOME_LINES)
-        words = dict(reversed(report.GROUP.findall(block.text[:end])))
-        nodes = {number: self.node(block, script, number, word) for number, word in reversed(words.items())}
-        told = [(it[0], it[2]) for it in block.sent[:count]] + block.selected[:count]
-        others = {number for number, it in told if nodes.get(number) and not it.startswith(nodes[number] + b" ")}
-        if others:
-            raise self.misfit(block, min(others, key=int))
+        """Sees that groups can be what their lines of the script come to."""
+        self.fronts += block.fronts
+        lines = block.lines(None if block.first < ALL_LINES else SOME_LINES)
+        rows = [it.split(b" ", 4) for it in lines]
+        firsts = {it[0]: it[1] for it in reversed(rows)}
+        nodes = {number: self.node(block, script, number, word) for number, word in reversed(firsts.items())}
+        for row in rows:
+            if row[1] in NODE and nodes[row[0]] not in (b"", row[NODE[row[1]]]):
+                raise self.misfit(block, row[0])
 
     def node(self, block: report.Block, script: Script, number: bytes, word: bytes) -> bytes:
         """The node of a script's line, where it is an event, of which the word has to be what can come of it."""
@@ -138,9 +136,9 @@ class Reader:
         if line[0] != b"deliver":
             return line[2]
         place = int(line[2]) if line[2].isdigit() else 0
-        if not 0 < place <= len(self.receivers):
+        if not 0 < place <= len(self.fronts):
             raise self.misfit(block, number)
-        return self.receivers[place - 1]
+        return self.fronts[place - 1].split(b" ", 2)[1]
 
     def misfit(self, block: report.Block, number: bytes) -> Refused:
         text = report.short(self.script.line(int(number))) if self.script else ""
@@ -150,29 +148,46 @@ class Reader:
     # -- lines that there are many of --------------------------------------------------------------------------------
 
     def take_sent(self, block: report.Block) -> None:
-        kinds, ways = self.kinds, self.ways
-        for _, datagram, way, digits in block.sent:
-            kind = kinds.get((digits[:8], len(digits)))
-            if kind is None:
-                message = read_datagram(block.line_of(datagram), digits)
-                kind = kinds[digits[:8], len(digits)] = message.kind or ""
-            if kind:
-                known = ways.get(way)
-                if known is None:
-                    known = ways[way] = Way(self.story.grandmaster(way.split(b" ")[0].decode()), way.split(b" ")[1])
-                known.counts[kind] += 1
-                known.master.stamps.append(digits[68:88])
-                if kind == "announce":
-                    known.master.announce(digits[68:88], int(digits[96:98], 16))
+        fronts = {key: self.known.get(key) or self.look_at(block, *key) for key in block.kinds}
+        takes = {key[0]: self.take_front(front, block.kinds[key]) for key, front in fronts.items()}
+        for front, rest in zip(block.fronts, block.rests):
+            takes[front](rest[60:80])
+        self.take_announces(block, {key[0] for key, front in fronts.items() if front.kind == "announce"})
+
+    def take_front(self, front: Front, count: int) -> Callable[[bytes], None]:
+        """Counts datagrams of a front, and gives what takes their timestamps: those that are of no kind have none."""
+        if not front.kind:
+            return [].append
+        master = self.story.grandmaster(front.sender)
+        master.sent_to[front.kind][front.receiver] += count
+        return master.stamps.append
+
+    def look_at(self, block: report.Block, front: bytes, length: int) -> Front:
+        """Reads the first datagram of a front with so many digits behind it, unless one like it was read before."""
+        sender, receiver, _, head = front.split(b" ")
+        kind = self.kinds.get((head, length))
+        if kind is None:
+            at = [*zip(block.fronts, map(len, block.rests))].index((front, length))
+            message = read_datagram(block.line_of(block.datagrams[at]), head + block.rests[at])
+            kind = self.kinds[head, length] = message.kind or ""
+        self.known[front, length] = made = Front(kind, sender.decode(), receiver)
+        return made
+
+    def take_announces(self, block: report.Block, fronts: set[bytes]) -> None:
+        """Takes the clockClasses of the datagrams that have these fronts."""
+        for front, rest in compress(zip(block.fronts, block.rests), map(fronts.__contains__, block.fronts)):
+            master = self.story.grandmaster(front.split(b" ", 1)[0].decode())
+            master.announce(rest[60:80], int(rest[88:90], 16))
 
     def take_heard(self, block: report.Block) -> None:
-        for (head, chosen), count in Counter(block.heard).items():
-            self.slave(chosen.split(b" ")[0]).heard[head.split(b" ")[0].decode()] += count
+        for (head, chosen), count in block.told.items():
+            if head:
+                self.slave(chosen.split(b" ")[0]).heard[head.split(b" ")[0].decode()] += count
 
     def take_selected(self, block: report.Block) -> None:
-        if {it[1] for it in block.selected} <= set(self.chosen.values()):
+        if {chosen for _, chosen in block.told} <= set(self.chosen.values()):
             return
-        for number, chosen in block.selected:
+        for number, chosen in report.SELECTED.findall(block.text):
             ip, name = chosen.split(b" ")
             if self.chosen.get(ip) != chosen:
                 self.chosen[ip] = chosen
@@ -208,7 +223,7 @@ class Reader:
         """The reply to what was decided, which its group has, names the grandmaster and its client."""
         start, end = block.group(number)
         reply = report.SENT.search(block.text, start, end + 1)
-        message = read_datagram(block.line_of(reply[2]), reply[4]) if reply else None
+        message = read_datagram(block.line_of(int(reply[2])), reply[4]) if reply else None
         if reply is None or message is None or message.target is None:
             at = block.at(decisions[0].start())
             raise Refused(f"line {at}: a decision without the reply that names its grandmaster")

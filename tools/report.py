@@ -3,9 +3,10 @@
 from __future__ import annotations
 
 import re
+from collections import Counter
 from collections.abc import Iterator, Sequence
 from dataclasses import dataclass, field
-from itertools import compress
+from itertools import compress, islice
 from typing import Protocol
 
 from endings import BadInput
@@ -48,7 +49,7 @@ selected SLAVE MASTER
 bad CAUSE
 """
 
-NUMERAL = rb"(?:0|[1-9][0-9]{0,18})"
+NUMERAL = rb"(?:[1-9][0-9]{0,18}+|0)"
 OCTET = rb"(?:25[0-5]|2[0-4][0-9]|1[0-9][0-9]|[1-9]?[0-9])"
 IP = rb"%s(?:\.%s){3}" % (OCTET, OCTET)
 FIELDS = {
@@ -70,7 +71,7 @@ END = re.compile(rb"end (%s) (%s)" % (NUMERAL, NUMERAL))
 LAST = re.compile(rb"\n(end [^\n]*|[0-9]+ bad [^\n]*)")
 
 # How much is read at once, in octets.
-BLOCK = 1 << 16
+BLOCK = 1 << 19
 
 
 class Readable(Protocol):
@@ -115,17 +116,19 @@ NUMBER = re.compile(rb"\n([0-9]+) ")
 GROUP = re.compile(rb"\n([0-9]+) ([a-z]+)")
 SELECTED = re.compile(rb"\n([0-9]+) selected ([0-9.]+ [0-9.none]+)(?=\n)")
 SENT = re.compile(rb"\n([0-9]+) send ([0-9]+) ([0-9.]+ [0-9.]+ [a-z]+) ([0-9a-f]+)(?=\n)")
-# The lines of which there are most: what a slave selects, with what it heard before, and a datagram, with its answer.
+# The lines of which there are most: what a slave selects, and a datagram, each with what was heard or answered right
+# before it. What is taken and not given back (++) is tried once. Of a datagram the first four octets are a group.
 MANY = re.compile(
-    rb"\n([0-9]+) (?:(?:heard ([a-z_]+ [0-9.]+ [a-z]+) ([0-9]+) at ([0-9]+)\n\1 )?selected ([0-9.]+ [0-9.none]+)"
-    rb"|(?:answered at ([0-9]+)\n\1 )?send ([0-9]+) ([0-9.]+ [0-9.]+ [a-z]+) ([0-9a-f]+))(?=\n)"
+    rb"\n(NUMERAL) (?:(?:heard ([a-z_]++ [0-9.]++ [a-z]++) NUMERAL|answered) at (NUMERAL)\n\1 )?"
+    rb"(?:selected ([0-9.]++ [0-9.none]++)"
+    rb"|send (NUMERAL) ([0-9.]++ [0-9.]++ [a-z]++ [0-9a-f]{1,8}+)([0-9a-f]*+))(?=\n)".replace(b"NUMERAL", NUMERAL)
 )
+LINE = re.compile(rb"\n[^\n]*")
 OTHER = re.compile(rb"\n([0-9]+) (?!selected |send |heard |answered )([^\n]*)")
 # Parts of these, of which there are few, each looked at once.
 CHOSEN = Known(rb"%s (?:none|%s)" % (IP, IP))
-WAY = Known(rb"%s %s (?:event|general)" % (IP, IP))
+FRONT = Known(rb"%s %s (?:event|general) (?:[0-9a-f]{2}){1,4}" % (IP, IP))
 HEAD = Known(rb"(?:sync|delay_resp) %s seq|announce %s class" % (IP, IP))
-ZEROS = re.compile(rb" 0[0-9]")
 
 
 def short(line: bytes) -> str:
@@ -133,80 +136,91 @@ def short(line: bytes) -> str:
     return text if len(text) <= 60 else text[:57] + "..."
 
 
-def are_numbers(words: Sequence[bytes]) -> bool:
-    """Whether all these digits are numbers as a report writes them."""
-    return max(map(len, words), default=1) <= 19 and not ZEROS.search(b" " + b" ".join(words))
-
-
 @dataclass(slots=True)
 class Block:
     """Lines of a report by columns. Its text has an end of line before each line, and one behind the last one.
 
-    A row of `sent` has the number of a script's line, that of the datagram, its way and its digits. One of `selected`
-    has the number and what is selected, one of `heard` what was heard and what its slave selects. `moments` are those
-    of what was heard and answered, and `others` all lines of which there are few.
+    `numbers` are those of the script's lines on which something is selected or sent. Of a datagram `fronts` has the way
+    and the first four octets, and `rests` the digits behind them; `kinds` counts them by front and length of the rest.
+    `told` counts what slaves select, by what they heard right before it. `moments` are those of what was heard and
+    answered, and `others` all lines of which there are few.
     """
 
     first: int
     text: bytes
     numbers: Sequence[bytes] = ()
-    sent: list[tuple[bytes, bytes, bytes, bytes]] = field(default_factory=list)
-    selected: list[tuple[bytes, bytes]] = field(default_factory=list)
-    heard: list[tuple[bytes, bytes]] = field(default_factory=list)
+    datagrams: list[int] = field(default_factory=list)
+    fronts: list[bytes] = field(default_factory=list)
+    rests: list[bytes] = field(default_factory=list)
     moments: list[bytes] = field(default_factory=list)
     others: list[re.Match[bytes]] = field(default_factory=list)
+    kinds: Counter[tuple[bytes, int]] = field(default_factory=Counter)
+    told: Counter[tuple[bytes, bytes]] = field(default_factory=Counter)
+    # How many lines there are, and how many of these are in no column.
+    count: int = 0
+    missing: int = 0
 
     def at(self, offset: int) -> int:
         """The number of the report's line that begins behind this place of the text."""
         return self.first + self.text.count(b"\n", 0, offset)
 
-    def line_of(self, datagram: bytes) -> int:
+    def line_of(self, datagram: int) -> int:
         """The number of the report's line that has the datagram of this number."""
-        return self.at(self.text.index(b" send %s " % datagram)) - 1
+        return self.at(self.text.index(b" send %d " % datagram)) - 1
 
     def group(self, number: bytes) -> tuple[int, int]:
         """From where to where the lines of a group stand in the text."""
-        start = end = self.text.index(b"\n%s " % number)
-        while self.text.startswith(b"\n%s " % number, end):
+        mark, last = b"\n%s " % number, last_group(self.text)
+        start = end = last if self.text.startswith(mark, last) else self.text.index(mark)
+        while self.text.startswith(mark, end):
             end = self.text.index(b"\n", end + 1)
         return start, end
 
+    def lines(self, count: int | None = None) -> list[bytes]:
+        """The first lines, as many as wanted, or all."""
+        end = len(self.text) - 1
+        if count is not None:
+            end = next(islice((it.end() for it in LINE.finditer(self.text)), count - 1, None), end)
+        return self.text[1:end].split(b"\n")
+
     def cut(self) -> None:
-        """Cuts the lines into columns, and sees that each has a form of a report."""
+        """Cuts the lines of which there are many into columns."""
         rows = MANY.findall(self.text)
-        numbers, heads, seqs, heard, chosen, answered, datagrams, ways, digits = zip(*rows) if rows else [()] * 9
+        numbers, heads, moments, chosen, datagrams, fronts, rests = zip(*rows) if rows else [()] * 7
         self.numbers = numbers
-        self.sent = list(compress(zip(numbers, datagrams, ways, digits), digits))
-        self.selected = list(compress(zip(numbers, chosen), chosen))
-        self.heard = list(compress(zip(heads, chosen), heads))
-        self.moments = [*filter(None, heard), *filter(None, answered)]
-        counted = len(rows) + len(self.moments)
-        if counted != self.text.count(b"\n") - 1:
+        self.datagrams = list(map(int, filter(None, datagrams)))
+        self.fronts = list(filter(None, fronts))
+        self.rests = list(compress(rests, fronts))
+        self.kinds = Counter(zip(self.fronts, map(len, self.rests)))
+        self.told = Counter(compress(zip(heads, chosen), chosen))
+        self.moments = list(filter(None, moments))
+        self.count = self.text.count(b"\n") - 1
+        self.missing = self.count - len(rows) - len(self.moments)
+
+    def see(self) -> None:
+        """Takes the lines of which there are few, and sees that each line has a form of a report."""
+        if self.missing:
             self.others = list(OTHER.finditer(self.text))
-            counted += len(self.others)
-        are_known = (
-            counted == self.text.count(b"\n") - 1
-            and all(CHOSEN[it] for it in set(filter(None, chosen)))
-            and all(WAY[it] for it in set(filter(None, ways)))
-            and all(HEAD[it] for it in set(filter(None, heads)))
-            and not any(it & 1 for it in set(map(len, digits)))
-            and are_numbers([*filter(None, seqs), *filter(None, datagrams), *self.moments])
-        )
-        if not are_known:
-            self.see_forms(self.text[1:-1].split(b"\n"))
+        if self.missing != len(self.others) or not self.are_known():
+            self.see_forms()
         for it in self.others:
             line = it[0][1:]
             if not has_form(line):
                 raise Refused(f"line {self.at(it.start())}: no form of a report: `{short(line)}`")
 
+    def are_known(self) -> bool:
+        """Whether those parts of the columns have their forms of which there are few."""
+        are_sent = all(FRONT[front] and not length & 1 for front, length in self.kinds)
+        return are_sent and all(CHOSEN[chosen] and (not head or HEAD[head]) for head, chosen in self.told)
+
     def ends(self) -> tuple[bytes, bytes]:
         """The numbers of its first group and of its last one."""
         last = self.text.rfind(b"\n", 0, len(self.text) - 1)
-        return self.text[1:].split(b" ", 1)[0], self.text[last + 1 :].split(b" ", 1)[0]
+        return tuple(self.text[at + 1 : self.text.index(b" ", at)] for at in (0, last))
 
-    def see_forms(self, lines: list[bytes]) -> None:
+    def see_forms(self) -> None:
         """Looks at each line by itself, where they are not all of the forms of which there are many."""
-        for at, line in enumerate(lines, self.first):
+        for at, line in enumerate(self.lines(), self.first):
             if not has_form(line):
                 raise Refused(f"line {at}: no form of a report: `{short(line)}`")
             if line.endswith(b" -"):
@@ -226,19 +240,23 @@ class Reading:
         """The next lines, each behind an end of line, by columns; it raises Refused at the first that has no place."""
         if self.ended:
             raise self.behind(self.lines + 1)
-        found = LAST.search(text) if b"\nend " in text or b" bad " in text else None
-        body, rest = (text[: found.end(1)], text[found.end(1) :]) if found else (text, b"\n")
-        # (the line `end` is of no block)
-        lines = text[: found.start(1) - 1] if found and found[1][:3] == b"end" else body
-        block = Block(self.lines + 1, lines + b"\n")
+        block = Block(self.lines + 1, text + b"\n")
         block.cut()
+        found = LAST.search(text) if block.missing else None
+        if found:
+            # (the line `end` is of no block)
+            body = text[: found.start(1) - 1 if found[1].startswith(b"end") else found.end(1)]
+            block = Block(self.lines + 1, body + b"\n")
+            block.cut()
+        block.see()
         self.see_numbers(block)
         self.see_sends(block)
-        self.lines += body.count(b"\n")
+        self.lines += block.count
         if found:
+            self.lines += found[1].startswith(b"end")
             self.see_end(found[1])
-        if rest.strip(b"\n"):
-            raise self.behind(self.lines + 1)
+            if text[found.end(1) :].strip(b"\n"):
+                raise self.behind(self.lines + 1)
         return block
 
     def behind(self, at: int) -> Refused:
@@ -248,13 +266,13 @@ class Reading:
     def see_numbers(self, block: Block) -> None:
         # (where all lines are of rows, those that the rows do not number have the number of the one behind them)
         numbers = NUMBER.findall(block.text) if block.others else block.numbers
-        if not are_numbers(numbers):
-            block.see_forms(block.text[1:-1].split(b"\n"))
-        values = list(map(int, numbers))
-        values.insert(0, max(self.last, 1))
-        if values != sorted(values):
+        if not numbers:
+            return
+        # (digits of one width are in the order of their numbers)
+        values = list(numbers if len(set(map(len, numbers))) == 1 else map(int, numbers))
+        if int(numbers[0]) < max(self.last, 1) or values != sorted(values):
             raise self.lower(block)
-        self.last = values[-1] if numbers else self.last
+        self.last = int(numbers[-1])
 
     def lower(self, block: Block) -> Refused:
         values = [max(self.last, 1), *map(int, NUMBER.findall(block.text))]
@@ -263,10 +281,10 @@ class Reading:
         return Refused(f"line {block.first + at - 1}: {text}")
 
     def see_sends(self, block: Block) -> None:
-        counted = [int(it[1]) for it in block.sent]
+        counted = block.datagrams
         if counted != list(range(self.count + 1, self.count + 1 + len(counted))):
             at = next(it for it, number in enumerate(counted) if number != self.count + 1 + it)
-            line = block.line_of(block.sent[at][1])
+            line = block.line_of(counted[at])
             raise Refused(f"line {line}: datagram {counted[at]} stands where {self.count + 1 + at} is next")
         self.count += len(counted)
 

@@ -1,6 +1,6 @@
 """Stands in for `ptpuni replay` where there is none: each tick of a slave sends a datagram to the first grandmaster,
-which answers each that it is delivered. With the word `short` it ends early, with `bad` it refuses line 5, and with
-`late` it takes six lines for the whole script."""
+which answers each that it is delivered. With the word `asks` these are Delay_Reqs, with `short` it ends early, with
+`bad` it refuses line 5, with `late` it takes six lines for the whole script, and with `skips` it skips a number."""
 
 import sys
 
@@ -26,14 +26,15 @@ def main() -> None:
             said = [f"{at} bad field 3"]
         for sender, receiver in ways:
             sent.append((sender, receiver))
-            said.append(f"{at} send {len(sent)} {sender} {receiver} general 00")
+            number = len(sent) + (how == "skips")
+            said.append(f"{at} send {number} {sender} {receiver} general {'01' if how == 'asks' else '00'}")
         if how == "late" and at == 6:
             break
         if said and how != "late":
             print(*said, sep="\n", flush=True)
         if how == "short" and at == 5:
             sys.exit(3)
-    print(f"end 0 {len(sent)}", flush=True)
+    print(f"end 0 {len(sent) + (how == 'skips')}", flush=True)
 
 
 main()

@@ -68,13 +68,15 @@ granted announce 1 at 0 until 3
 1 shed sync 0 10.0.1.18 0A00000000000012/1
 1 send 1 10.0.0.1 10.0.1.17 general 0c1
 1 send 1 10.0.0.1 10.0.1.17 multicast 0c12
+1 send 1 10.0.0.1 10.0.1.17 general 0c12003604000400g0
+1 send 1 10.0.0.1 10.0.1.17 general 0c12003604000400A0
+1 send 1 10.0.0.1 10.0.1.17 general 0c12003604000400 0
+1 send 1 10.0.0.256 10.0.1.17 general 0c12003604000400
+1 send 01 10.0.0.1 10.0.1.17 general 0c12003604000400
 1 selected 10.0.1.17 10.0.0.1.
 1 ignored
 1 bad luck
 hello""".split("\n")
-
-
-
 
 SYNC = timing(0, "0a000000000000010001", 0, 10**9).hex()
 
@@ -109,9 +111,37 @@ class Reports(unittest.TestCase):
     def test_columns(self) -> None:
         block = blocks(REPORT.read_bytes())[0]
         words = [it[2].split()[0] for it in block.others]
-        counts = (len(block.sent), words.count(b"granted"), words.count(b"shed"), words.count(b"capacity"))
+        counts = (len(block.datagrams), words.count(b"granted"), words.count(b"shed"), words.count(b"capacity"))
         self.assertEqual(counts, (14, 6, 2, 2))
-        self.assertEqual((len(block.heard), len(block.selected)), (2, 13))
+        self.assertEqual((len(block.fronts), len(block.rests), sum(block.kinds.values())), (14, 14, 14))
+        heard = [count for (head, _), count in block.told.items() if head]
+        self.assertEqual((sum(heard), sum(block.told.values())), (2, 13))
+
+    def test_what_is_heard_counts_right_before_what_is_selected(self) -> None:
+        """Not where its slave sends something between, nor where another event is between."""
+        heard, selected = "1 heard sync 10.0.0.1 seq 1 at 5", "1 selected 10.0.1.17 10.0.0.1"
+        sent = f"1 send 1 10.0.1.17 10.0.0.1 event {SYNC}"
+        for lines, count in (
+            ([heard, selected, "end 1 0"], 1),
+            ([heard, sent, selected, "end 1 1"], 0),
+            ([heard, selected.replace("1 ", "2 ", 1), "end 2 0"], 0),
+        ):
+            self.assertEqual(read("".join(f"{it}\n" for it in lines)).slaves["10.0.1.17"].heard["sync"], count)
+
+    def test_numbers_of_two_widths(self) -> None:
+        """Digits are in the order of their numbers where they are of one width, and not where 10 follows 9."""
+        lines = [f"{it} selected 10.0.1.17 none\n" for it in (8, 9, 10, 11)]
+        self.assertEqual(blocks("".join([*lines, "end 11 0\n"]).encode())[0].count, 4)
+        with self.assertRaisesRegex(report.Refused, "line 3: its number 9 is lower than 10"):
+            read("".join([lines[0], lines[2], lines[1], "end 11 0\n"]))
+
+    def test_each_length_of_a_front(self) -> None:
+        """A datagram that begins as one that was read, and is shorter, is read, too."""
+        lines = [f"{it} send {it} 10.0.0.1 10.0.1.17 event {SYNC}\n" for it in (1, 2)]
+        read("".join([*lines, "end 2 2\n"]))
+        lines[1] = lines[1].replace(SYNC, SYNC[:-8])
+        with self.assertRaisesRegex(report.Refused, "line 2: the datagram is no PTP message: length 44 40"):
+            read("".join([*lines, "end 2 2\n"]))
 
     def test_refused(self) -> None:
         refused = {
@@ -188,6 +218,12 @@ class Scripts(unittest.TestCase):
         self.assertIn("it does not fit line", self.changed("100000000000 10.0.0.1 48", "100000000001 10.0.0.1 48"))
         lines = self.SCRIPT.count("\n")
         self.assertIn(f"it ends {lines} lines, and the script has {lines + 1}", self.refused(self.SCRIPT + "\n"))
+
+    def test_another_slave_selects(self) -> None:
+        script = "slave 10.0.1.17 x\ntick 1000000000 10.0.1.{}\n"
+        self.assertEqual(list(read("2 selected 10.0.1.17 none\nend 2 0\n", script.format(17)).slaves), ["10.0.1.17"])
+        why = self.refused(script.format(18), "2 selected 10.0.1.17 none\nend 2 0\n")
+        self.assertIn("line 1: it does not fit line 2 of the script: `tick 1000000000 10.0.1.18`", why)
 
     def test_a_denial_tells_the_capacity(self) -> None:
         """The opening capacity stands in no line but a denial's."""

@@ -2,12 +2,14 @@
 
 from __future__ import annotations
 
+import random
 import sys
 import tempfile
 import unittest
 from pathlib import Path
 from unittest import mock
 
+import agenda
 import plan
 from support import EXAMPLES, TOOLS, program, ptpuni, run, tool, wants_program, wants_terminal
 
@@ -207,9 +209,9 @@ class Runs(unittest.TestCase):
         link = '[[links]]\nbetween = ["10.0.1.1", "10.0.0.1"]\ndelay = 0.0001\n'
         told: list[int] = []
 
-        def tell(replay: object, lines: list[str]) -> None:
-            told.extend(int(it.split()[1]) for it in lines if it.split()[1].isdigit())
-            really(replay, lines)
+        def tell(replay: object, text: str, lines: int) -> None:
+            told.extend(int(it.split()[1]) for it in text.splitlines() if it.split()[1].isdigit())
+            really(replay, text, lines)
 
         really = scenario.Replay.tell
         with mock.patch.object(scenario.Replay, "tell", tell):
@@ -259,6 +261,54 @@ class Runs(unittest.TestCase):
         self.assertEqual(len(self.moments(words, "tick")), 10 + 10)
         self.assertEqual(len(self.moments(words, "stop")), 2)
 
+    def test_one_slave_of_two_stops(self) -> None:
+        """They tick at one moment, and the other one goes on."""
+        other = SMALL[SMALL.index("[[slaves]]") :].replace("10.0.1.1", "10.0.2.1")
+        words = self.make(SMALL.replace("log_sync", "stop = 10\nlog_sync") + other)
+        ticks = [it[2] for it in words if it[0] == "tick"]
+        counts = [ticks.count(it) for it in ("10.0.1.1", "10.0.1.2", "10.0.2.1", "10.0.2.2")]
+        self.assertEqual(counts, [10, 10, 21, 20])
+
+    def test_order_at_one_moment(self) -> None:
+        """What is added first stands first: the tick at 1.5 s is added at that of 0.5 s, a delivery when it is sent."""
+        link = '[[links]]\nbetween = ["10.0.1.2", "10.0.0.1"]\ndelay = 0.0001\n'
+        told: list[str] = []
+
+        def tell(replay: object, text: str, lines: int) -> None:
+            told.extend(it for it in text.splitlines() if it.split()[1] == "1500000000" and not it.startswith("rx"))
+            really(replay, text, lines)
+
+        really = scenario.Replay.tell
+        for how in ("good", "asks"):
+            for delay, order in (("0.5", ["tick", "deliver"]), ("1.5", ["deliver", "tick"])):
+                told.clear()
+                with mock.patch.object(scenario.Replay, "tell", tell):
+                    words = self.make(SMALL.replace("[0.001, 0.004]", delay) + link, how)
+                self.assertEqual([it[0] for it in words if it[1] == "1500000000"], order, (how, delay))
+                self.assertEqual([it.split()[0] for it in told], order, (how, delay))
+
+    def test_batches_of_any_size(self) -> None:
+        """Lines of one moment are told in one batch or in many, to the same end."""
+        text = SMALL.replace("count = 2", "count = 7").replace("spread = 1", "spread = 0")
+        for how in ("good", "asks"):
+            whole = self.make(text, how)
+            self.assertEqual([it[2] for it in whole if it[0] == "tick"][7:14], [f"10.0.1.{it}" for it in range(1, 8)])
+            for size in (1, 3, 8):
+                with mock.patch.object(agenda, "BATCH_LINES", size):
+                    self.assertEqual(self.make(text, how), whole, size)
+
+    def test_in_parts_of_any_size(self) -> None:
+        """The script is put in order in parts, to the same end."""
+        whole = self.make(SMALL)
+        with mock.patch.object(scenario, "MANY_LINES", 3):
+            self.assertEqual(self.make(SMALL), whole)
+
+    def test_draws(self) -> None:
+        """Delays are drawn as `randrange` draws them."""
+        ways, chance = scenario.Ways(plan.read_plan(SMALL), random.Random(5)), random.Random(5)
+        for width in (1, 2, 3000001, 2**40):
+            self.assertEqual([next(ways.draws(width)) for _ in range(9)], [chance.randrange(width) for _ in range(9)])
+
     def test_programs_that_are_no_replay(self) -> None:
         file = self.folder / "it.toml"
         file.write_text(SMALL)
@@ -266,6 +316,7 @@ class Runs(unittest.TestCase):
             "short": b"ended with status 3 before its script did",
             "bad": b"refused a line: 5 bad field 3",
             "late": b"ended with status 0 before its script did: name a built program",
+            "skips": b"did not number what it sent one by one: of the datagrams that it sent 81 were seen: end 0 82",
         }
         for how, why in wanted.items():
             ran = run("scenario", file, "--ptpuni", self.fake(how))
@@ -309,9 +360,9 @@ class WithTheProgram(unittest.TestCase):
                 read.append(super().read())
                 return read[-1]
 
-            def tell(self, lines: list[str]) -> None:
-                moments.extend(int(it.split()[1]) for it in lines if it.split()[1].isdigit())
-                super().tell(lines)
+            def tell(self, text: str, lines: int) -> None:
+                moments.extend(int(it.split()[1]) for it in text.splitlines() if it.split()[1].isdigit())
+                super().tell(text, lines)
 
         replay = Recorded(str(program()))
         self.addCleanup(replay.close)
@@ -319,7 +370,7 @@ class WithTheProgram(unittest.TestCase):
         text = text.replace("capacity = 100", "capacity = 400")
         text = text.replace("log_sync = 0", "log_sync = -2\nlog_delay = -3") + CAPACITY_FALLS
         script = scenario.Scenario(plan.read_plan(text), replay, "it").run()
-        report = ptpuni("replay", "".join(f"{it}\n" for it in script).encode())
+        report = ptpuni("replay", script.encode())
         sent = [it.split(b" ", 1)[1] for it in b"".join(read).splitlines() if b" send " in it]
         self.assertGreater(len(sent), 300)
         self.assertEqual(sent, [it.split(b" ", 1)[1] for it in report.splitlines() if b" send " in it])
