@@ -168,10 +168,12 @@ class Block:
         """The number of the report's line that has the datagram of this number."""
         return self.at(self.text.index(b" send %d " % datagram)) - 1
 
-    def group(self, number: bytes) -> tuple[int, int]:
-        """From where to where the lines of a group stand in the text."""
-        mark, last = b"\n%s " % number, last_group(self.text)
-        start = end = last if self.text.startswith(mark, last) else self.text.index(mark)
+    def group(self, number: bytes, place: int | None = None) -> tuple[int, int]:
+        """From where to where the lines of a group stand in the text, of which one begins at the place, if it is known."""
+        mark = b"\n%s " % number
+        start = end = self.text.index(mark) if place is None else place
+        while start > 0 and self.text.startswith(mark, before := self.text.rfind(b"\n", 0, start)):
+            start = before
         while self.text.startswith(mark, end):
             end = self.text.index(b"\n", end + 1)
         return start, end
@@ -213,10 +215,10 @@ class Block:
         are_sent = all(FRONT[front] and not length & 1 for front, length in self.kinds)
         return are_sent and all(CHOSEN[chosen] and (not head or HEAD[head]) for head, chosen in self.told)
 
-    def ends(self) -> tuple[bytes, bytes]:
-        """The numbers of its first group and of its last one."""
-        last = self.text.rfind(b"\n", 0, len(self.text) - 1)
-        return tuple(self.text[at + 1 : self.text.index(b" ", at)] for at in (0, last))
+    def ends(self) -> list[tuple[bytes, int]]:
+        """The numbers of its first line and of its last one, and where these begin."""
+        places = (0, self.text.rfind(b"\n", 0, len(self.text) - 1))
+        return [(self.text[it + 1 : self.text.index(b" ", it)], it) for it in places]
 
     def see_forms(self) -> None:
         """Looks at each line by itself, where they are not all of the forms of which there are many."""
