@@ -71,7 +71,7 @@ class Form:
 class Event:
     """Lines of one moment, which come again together after `every` nanoseconds, where that is not 0."""
 
-    __slots__ = ("every", "forms", "is_loud", "text")
+    __slots__ = ("every", "forms", "is_loud", "text", "until")
 
     def __init__(self, every: int, forms: list[Form]) -> None:
         self.every = every
@@ -83,6 +83,7 @@ class Event:
         self.forms += forms
         self.text = "".join([it.line for it in self.forms])
         self.is_loud = any([it.is_loud for it in self.forms])
+        self.until = min([it.until for it in self.forms])
 
     def at(self, moment: int) -> str:
         """Its lines with a moment."""
@@ -130,14 +131,14 @@ class Agenda:
     def come_again(self, moment: int, event: Event) -> None:
         """Adds the next of an event. Of two of one interval that are added one right behind the other, one is made."""
         due = moment + event.every
-        forms = [it for it in event.forms if due <= it.until]
-        if not forms:
-            return
-        if len(forms) < len(event.forms):
+        if due > event.until:
+            forms = [it for it in event.forms if due <= it.until]
+            if not forms:
+                return
             event = Event(event.every, forms)
         if self.added and self.added[0] == due and self.added[2].every == event.every:
             self.lines.add(due, event.at(due))
-            self.added[2].join(forms)
+            self.added[2].join(event.forms)
         else:
             self.push(due, event)
 

@@ -43,9 +43,12 @@ class PartReader(Reader):
         self.kept: list[tuple[bytes, float]] = []
 
     def take_others(self, block: report.Block) -> None:
-        for number in dict.fromkeys(it[1] for it in block.others):
-            start, end = block.group(number)
-            self.kept.append((block.text[start:end], self.moment(block, number)))
+        for number, place in {it[1]: it.start() for it in block.others}.items():
+            start, end = block.group(number, place)
+            self.kept.append((block.text[start:end], self.moment(block, number, place)))
+
+    def keep_receivers(self, block: report.Block) -> None:
+        """(a part does not tell whose the datagrams of those before it are, by which they are numbered)"""
 
     def node(self, block: report.Block, script: Script, number: bytes, word: bytes) -> bytes:
         """(whose a datagram was that was sent in an earlier part is not known here)"""
@@ -80,9 +83,6 @@ def read_part(name: str, start: int, end: int, script: Script | None) -> Part | 
             reader.read_blocks(Slice(stream, start, end), progress)
         except BadInput:
             return None
-    for master in reader.story.grandmasters.values():
-        # (one piece of octets is handed over much faster than many)
-        master.stamps = [b"".join(master.stamps)]
     return Part(reader.story, reader.kept, int(number[1]) if number else 0, before, progress)
 
 
@@ -149,8 +149,7 @@ def joined(parts: list[Part], script: Script | None) -> Story | None:
 def add(story: Story, part: Story) -> None:
     for name, of_part in part.grandmasters.items():
         master = story.grandmaster(name)
-        stamps = of_part.stamps[0]
-        master.stamps += [stamps[at : at + 20] for at in range(0, len(stamps), 20)]
+        master.stamps += of_part.stamps
         for kind, counts in of_part.sent_to.items():
             for receiver, count in counts.items():
                 master.sent_to[kind][receiver] += count

@@ -62,7 +62,7 @@ class PoolReader:
         pool = self.story.grandmaster(name)
         message = read_datagram(at, digits)
         if message.kind:
-            pool.stamps.append(digits[68:88])
+            pool.stamps += digits[68:88]
             pool.sent_to[message.kind][ip] += 1
             if not self.script:
                 self.now = max(self.now, moment_of(digits[68:88]))

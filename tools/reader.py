@@ -21,7 +21,7 @@ DECISIONS = {b"granted", b"short", b"outside", b"cancelled", b"nothing"}
 # The first moment that a text tells: one that a line names, or the timestamp of a message that was sent.
 TOLD = re.compile(rb" at ([0-9]+)|\n[0-9]+ send [0-9]+ [0-9.]+ [0-9.]+ [a-z]+ 0[09b][0-9a-f]{66}([0-9a-f]{20})")
 # So many lines of a report are all compared with its script, and behind them some of each block.
-ALL_LINES, SOME_LINES = 10000, 200
+ALL_LINES, SOME_LINES = 10000, 400
 # Which word of a line that is compared is the node on whose event it stands.
 NODE = {b"send": 3, b"selected": 2}
 
@@ -48,8 +48,9 @@ class Reader:
         self.chosen: dict[bytes, bytes] = {}
         self.before = 0.0
         self.changed: tuple[bytes, Grandmaster] | None = None
-        # The front of each datagram.
-        self.fronts: list[bytes] = []
+        # To whom each datagram was sent, and each address of these once.
+        self.receivers: list[bytes] = []
+        self.addresses: dict[bytes, bytes] = {}
 
     def read(self, stream: report.Readable) -> Story:
         reading = report.Reading()
@@ -85,20 +86,21 @@ class Reader:
 
     def see_moments(self, block: report.Block) -> None:
         """Takes the least and the greatest moments of a block, so far as they are told, and that of its last group."""
-        moments = [self.moment(block, it) for it in block.ends()]
+        moments = [self.moment(block, *it) for it in block.ends()]
         lengths = set(map(len, block.moments))
         for length in lengths:
             # (digits of one width are in the order of their numbers)
             told = [it for it in block.moments if len(it) == length] if len(lengths) > 1 else block.moments
             moments += [moment_of(min(told)), moment_of(max(told))]
-        for number in dict.fromkeys(it[1] for it in block.others):
-            moments.append(self.moment(block, number))
+        for number, place in {it[1]: it.start() for it in block.others}.items():
+            moments.append(self.moment(block, number, place))
         for it in moments:
             self.story.see(it)
 
-    def moment(self, block: report.Block, number: bytes) -> float:
-        """A group's moment: told by its lines, else by the script, else no sooner than the last one told before it."""
-        start, end = block.group(number)
+    def moment(self, block: report.Block, number: bytes, place: int) -> float:
+        """A group's moment, of which a line begins at the place: told by its lines, else by the script, else no sooner
+        than the last one told before it."""
+        start, end = block.group(number, place)
         if told := TOLD.search(block.text, start, end):
             return moment_of(told[1] or told[2])
         event = self.script.moment(int(number)) if self.script else None
@@ -117,7 +119,7 @@ class Reader:
 
     def compare(self, block: report.Block, script: Script) -> None:
         """Sees that groups can be what their lines of the script come to."""
-        self.fronts += block.fronts
+        self.keep_receivers(block)
         lines = block.lines(None if block.first < ALL_LINES else SOME_LINES)
         rows = [it.split(b" ", 4) for it in lines]
         firsts = {it[0]: it[1] for it in reversed(rows)}
@@ -125,6 +127,12 @@ class Reader:
         for row in rows:
             if row[1] in NODE and nodes[row[0]] not in (b"", row[NODE[row[1]]]):
                 raise self.misfit(block, row[0])
+
+    def keep_receivers(self, block: report.Block) -> None:
+        # (what is kept of many rows is shared: what lies between what is freed is slow to come by)
+        addresses = [(front, front.split(b" ", 2)[1]) for front, _ in block.kinds]
+        receivers = {front: self.addresses.setdefault(it, it) for front, it in addresses}
+        self.receivers += map(receivers.__getitem__, block.fronts)
 
     def node(self, block: report.Block, script: Script, number: bytes, word: bytes) -> bytes:
         """The node of a script's line, where it is an event, of which the word has to be what can come of it."""
@@ -136,9 +144,9 @@ class Reader:
         if line[0] != b"deliver":
             return line[2]
         place = int(line[2]) if line[2].isdigit() else 0
-        if not 0 < place <= len(self.fronts):
+        if not 0 < place <= len(self.receivers):
             raise self.misfit(block, number)
-        return self.fronts[place - 1].split(b" ", 2)[1]
+        return self.receivers[place - 1]
 
     def misfit(self, block: report.Block, number: bytes) -> Refused:
         text = report.short(self.script.line(int(number))) if self.script else ""
@@ -157,10 +165,10 @@ class Reader:
     def take_front(self, front: Front, count: int) -> Callable[[bytes], None]:
         """Counts datagrams of a front, and gives what takes their timestamps: those that are of no kind have none."""
         if not front.kind:
-            return [].append
+            return bytearray().extend
         master = self.story.grandmaster(front.sender)
         master.sent_to[front.kind][front.receiver] += count
-        return master.stamps.append
+        return master.stamps.extend
 
     def look_at(self, block: report.Block, front: bytes, length: int) -> Front:
         """Reads the first datagram of a front with so many digits behind it, unless one like it was read before."""
@@ -187,11 +195,11 @@ class Reader:
     def take_selected(self, block: report.Block) -> None:
         if {chosen for _, chosen in block.told} <= set(self.chosen.values()):
             return
-        for number, chosen in report.SELECTED.findall(block.text):
-            ip, name = chosen.split(b" ")
-            if self.chosen.get(ip) != chosen:
-                self.chosen[ip] = chosen
-                self.slave(ip).selections.append((self.moment(block, number), name.decode()))
+        for found in report.SELECTED.finditer(block.text):
+            ip, name = found[2].split(b" ")
+            if self.chosen.get(ip) != found[2]:
+                self.chosen[ip] = found[2]
+                self.slave(ip).selections.append((self.moment(block, found[1], found.start()), name.decode()))
 
     def slave(self, ip: bytes) -> Slave:
         return self.story.slave(ip.decode())
@@ -207,29 +215,30 @@ class Reader:
         for it in block.others:
             words = it[2].split(b" ")
             if its := decided.pop(it[1], None):
-                self.decide(block, it[1], its)
+                self.decide(block, its)
             elif words[0] == b"capacity":
-                self.change(block, it[1], words)
+                self.change(block, it, words)
             elif words[0] == b"shed":
                 self.shed(block, it, words)
             elif words[0] == b"denial":
-                start, end = block.group(it[1])
+                start, end = block.group(it[1], it.start())
                 if found := report.SELECTED.search(block.text, start, end + 1):
                     self.slave(found[2].split(b" ")[0]).denials += 1
             elif words[0] == b"bad":
                 self.story.refused = f"line {int(it[1])} of the script was refused: {b' '.join(words[1:]).decode()}"
 
-    def decide(self, block: report.Block, number: bytes, decisions: list[re.Match[bytes]]) -> None:
+    def decide(self, block: report.Block, decisions: list[re.Match[bytes]]) -> None:
         """The reply to what was decided, which its group has, names the grandmaster and its client."""
-        start, end = block.group(number)
+        number, place = decisions[0][1], decisions[0].start()
+        start, end = block.group(number, place)
         reply = report.SENT.search(block.text, start, end + 1)
         message = read_datagram(block.line_of(int(reply[2])), reply[4]) if reply else None
         if reply is None or message is None or message.target is None:
-            at = block.at(decisions[0].start())
+            at = block.at(place)
             raise Refused(f"line {at}: a decision without the reply that names its grandmaster")
         sender, receiver = (it.decode() for it in reply[3].split(b" ")[:2])
         master, client = self.story.grandmaster(sender), (receiver, str(message.target))
-        now = self.moment(block, number)
+        now = self.moment(block, number, place)
         event = self.script.moment(int(number)) if self.script else None
         if event is not None and now < event:
             raise self.misfit(block, number)
@@ -245,8 +254,9 @@ class Reader:
             return master.capacities[-1][1]
         return self.script.capacities.get(master.name) if self.script else None
 
-    def change(self, block: report.Block, number: bytes, words: list[bytes]) -> None:
-        moment = self.moment(block, number)
+    def change(self, block: report.Block, line: re.Match[bytes], words: list[bytes]) -> None:
+        number = line[1]
+        moment = self.moment(block, number, line.start())
         if self.script:
             event = self.script.moment(int(number))
             if self.script.line(int(number)).split()[2:] != words[1:3] or event is None or moment < event:

@@ -4,7 +4,7 @@ from __future__ import annotations
 
 import re
 from collections import Counter
-from collections.abc import Iterator, Sequence
+from collections.abc import Iterator
 from dataclasses import dataclass, field
 from itertools import compress, islice
 from typing import Protocol
@@ -70,8 +70,8 @@ END = re.compile(rb"end (%s) (%s)" % (NUMERAL, NUMERAL))
 # The last line of a report.
 LAST = re.compile(rb"\n(end [^\n]*|[0-9]+ bad [^\n]*)")
 
-# How much is read at once, in octets.
-BLOCK = 1 << 19
+# How much is read at once, and how much of that is cut at once, in octets.
+BLOCK, ROWS = 1 << 19, 1 << 15
 
 
 class Readable(Protocol):
@@ -148,7 +148,7 @@ class Block:
 
     first: int
     text: bytes
-    numbers: Sequence[bytes] = ()
+    numbers: list[bytes] = field(default_factory=list)
     datagrams: list[int] = field(default_factory=list)
     fronts: list[bytes] = field(default_factory=list)
     rests: list[bytes] = field(default_factory=list)
@@ -168,10 +168,12 @@ class Block:
         """The number of the report's line that has the datagram of this number."""
         return self.at(self.text.index(b" send %d " % datagram)) - 1
 
-    def group(self, number: bytes) -> tuple[int, int]:
-        """From where to where the lines of a group stand in the text."""
-        mark, last = b"\n%s " % number, last_group(self.text)
-        start = end = last if self.text.startswith(mark, last) else self.text.index(mark)
+    def group(self, number: bytes, place: int | None = None) -> tuple[int, int]:
+        """From where to where the lines of a group stand in the text; one begins at the place, where that is known."""
+        mark = b"\n%s " % number
+        start = end = self.text.index(mark) if place is None else place
+        while start > 0 and self.text.startswith(mark, before := self.text.rfind(b"\n", 0, start)):
+            start = before
         while self.text.startswith(mark, end):
             end = self.text.index(b"\n", end + 1)
         return start, end
@@ -185,17 +187,29 @@ class Block:
 
     def cut(self) -> None:
         """Cuts the lines of which there are many into columns."""
-        rows = MANY.findall(self.text)
-        numbers, heads, moments, chosen, datagrams, fronts, rests = zip(*rows) if rows else [()] * 7
-        self.numbers = numbers
-        self.datagrams = list(map(int, filter(None, datagrams)))
-        self.fronts = list(filter(None, fronts))
-        self.rests = list(compress(rests, fronts))
-        self.kinds = Counter(zip(self.fronts, map(len, self.rests)))
-        self.told = Counter(compress(zip(heads, chosen), chosen))
-        self.moments = list(filter(None, moments))
+        start, behind = 0, len(self.text) - 1
+        while start < behind:
+            # (rows of which there are few fit into the cache of a processor)
+            end = group_behind(self.text, start + ROWS) if start + ROWS < behind else behind
+            self.take_rows(MANY.findall(self.text, start, end + 1))
+            start = end
         self.count = self.text.count(b"\n") - 1
-        self.missing = self.count - len(rows) - len(self.moments)
+        self.missing = self.count - len(self.numbers) - len(self.moments)
+
+    def take_rows(self, rows: list[tuple[bytes, ...]]) -> None:
+        """Takes lines as they were found, each with that right before it that was heard or answered."""
+        if not rows:
+            return
+        numbers, heads, moments, chosen, datagrams, fronts, rests = zip(*rows)
+        rests = tuple(compress(rests, fronts))
+        self.numbers += numbers
+        self.datagrams += map(int, filter(None, datagrams))
+        self.moments += filter(None, moments)
+        self.told.update(compress(zip(heads, chosen), chosen))
+        fronts = tuple(filter(None, fronts))
+        self.kinds.update(zip(fronts, map(len, rests)))
+        self.fronts += fronts
+        self.rests += rests
 
     def see(self) -> None:
         """Takes the lines of which there are few, and sees that each line has a form of a report."""
@@ -213,10 +227,10 @@ class Block:
         are_sent = all(FRONT[front] and not length & 1 for front, length in self.kinds)
         return are_sent and all(CHOSEN[chosen] and (not head or HEAD[head]) for head, chosen in self.told)
 
-    def ends(self) -> tuple[bytes, bytes]:
-        """The numbers of its first group and of its last one."""
-        last = self.text.rfind(b"\n", 0, len(self.text) - 1)
-        return tuple(self.text[at + 1 : self.text.index(b" ", at)] for at in (0, last))
+    def ends(self) -> list[tuple[bytes, int]]:
+        """The numbers of its first line and of its last one, and where these begin."""
+        places = (0, self.text.rfind(b"\n", 0, len(self.text) - 1))
+        return [(self.text[it + 1 : self.text.index(b" ", it)], it) for it in places]
 
     def see_forms(self) -> None:
         """Looks at each line by itself, where they are not all of the forms of which there are many."""
@@ -269,7 +283,7 @@ class Reading:
         if not numbers:
             return
         # (digits of one width are in the order of their numbers)
-        values = list(numbers if len(set(map(len, numbers))) == 1 else map(int, numbers))
+        values = numbers if len(set(map(len, numbers))) == 1 else list(map(int, numbers))
         if int(numbers[0]) < max(self.last, 1) or values != sorted(values):
             raise self.lower(block)
         self.last = int(numbers[-1])
@@ -319,3 +333,16 @@ def last_group(text: bytes) -> int:
     while start > 0 and text.startswith(number, (before := text.rfind(b"\n", 0, start)) + 1):
         start = before
     return max(start, 0)
+
+
+def group_behind(text: bytes, place: int) -> int:
+    """Where the first group begins that begins behind a place, or where the text ends."""
+    start = text.find(b"\n", place, len(text) - 1)
+    while start > 0 and text.startswith(number_at(text, text.rfind(b"\n", 0, start)), start):
+        start = text.find(b"\n", start + 1, len(text) - 1)
+    return start if start > 0 else len(text) - 1
+
+
+def number_at(text: bytes, start: int) -> bytes:
+    """The end of line at a place, with the number behind it."""
+    return text[start : text.find(b" ", start) + 1]

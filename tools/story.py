@@ -76,8 +76,8 @@ class Grandmaster:
     marks: dict[str, list[float]] = field(default_factory=lambda: {"granted": [], "denied": [], "shed": []})
     capacities: list[tuple[float, int]] = field(default_factory=list)
     opening: int | None = None
-    # The timestamps of its messages, as twenty digits each.
-    stamps: list[bytes] = field(default_factory=list)
+    # The timestamps of its messages, as twenty digits each, one behind the other.
+    stamps: bytearray = field(default_factory=bytearray)
     sent_to: Columns = field(default_factory=Columns)
     classes: list[tuple[float, int]] = field(default_factory=list)
     network: str = ""
@@ -89,9 +89,18 @@ class Grandmaster:
         return f"Grandmaster {self.name}"
 
     @property
+    def count(self) -> int:
+        """How many messages it sent."""
+        return len(self.stamps) // 20
+
+    def stamps_in_order(self) -> list[bytes]:
+        stamps = bytes(self.stamps)
+        return sorted([stamps[at : at + 20] for at in range(0, len(stamps), 20)])
+
+    @property
     def sent(self) -> list[float]:
         """The moments of its messages, in order."""
-        return [moment_of(it) for it in sorted(self.stamps)]
+        return [moment_of(it) for it in self.stamps_in_order()]
 
     def mark(self, name: str, moment: float) -> None:
         self.marks.setdefault(name, []).append(moment)

@@ -221,7 +221,7 @@ class Drawn(unittest.TestCase):
         """Of more messages than the picture has places the curve has the number at each place."""
         stamps = [b"%012x%08x" % divmod(it * 10**7, 10**9) for it in range(1, 10001)]
         made = Story(start=0.0, end=100.0)
-        made.grandmaster("10.0.0.1").stamps = stamps
+        made.grandmaster("10.0.0.1").stamps += b"".join(stamps)
         axis = picture.Axis(0.0, 100.0, picture.LEFT, picture.END)
         points = plot.counts(picture.Picture("", "", axis, 100.0), made.grandmasters["10.0.0.1"])
         self.assertLess(len(points), 2 * (picture.END - picture.LEFT) + 2)

@@ -167,9 +167,9 @@ class Reports(unittest.TestCase):
             f"1 answered at 03\n1 send 1 10.0.0.1 10.0.1.17 general {SYNC}\nend 1 1\n": "line 1: no form",
             "1 send 1 10.0.0.1 10.0.1.17 event 00\nend 1 1\n": "line 1: the datagram is no PTP message: short 1",
         }
-        for size in (report.BLOCK, 1, 7):
+        for name, size in (("BLOCK", report.BLOCK), ("BLOCK", 1), ("BLOCK", 7), ("ROWS", 1), ("ROWS", 7)):
             for text, why in refused.items():
-                with mock.patch.object(report, "BLOCK", size), self.assertRaises(report.Refused, msg=text) as caught:
+                with mock.patch.object(report, name, size), self.assertRaises(report.Refused, msg=text) as caught:
                     read(text)
                 self.assertIn(why, str(caught.exception))
 
@@ -183,6 +183,19 @@ class Reports(unittest.TestCase):
         for size in (1, 100, 300, 1000):
             with mock.patch.object(report, "BLOCK", size):
                 self.assertEqual(tool("plot").draw(read(text, script), "it"), whole, size)
+
+    def test_rows_of_any_size(self) -> None:
+        """A block is cut a few rows at a time, and none is lost or cut where a group goes on."""
+
+        def columns() -> list[object]:
+            its = blocks(REPORT.read_bytes())
+            kept = [(it.numbers, it.datagrams, it.fronts, it.rests, it.moments, it.kinds, it.told) for it in its]
+            return [kept, [(it.count, it.missing) for it in its]]
+
+        whole = columns()
+        for size in (1, 100, 300, 1000):
+            with mock.patch.object(report, "ROWS", size):
+                self.assertEqual(columns(), whole, size)
 
 
 class Scripts(unittest.TestCase):
