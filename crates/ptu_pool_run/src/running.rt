@@ -93,7 +93,8 @@ pub fn pools<S: Source, K: Sink>(
     // The whole output was written, and the answer says how it ends.
     ensures whole { (script : List ℕ) → S.left source.old ≡ Some script → IfWritten result
         (λ ending. HasPoured K.written K.handed sink.old sink.new script ending) }
-    // What every script keeps to: each pool stands apart, and all are within the whole.
+    // What every script keeps to: each pool stands apart and is sent its own messages alone, its
+    // requests are decided by the room in it, and all are within the whole.
     ensures headline { (script : List ℕ) → S.left source.old ≡ Some script → KeepsPools script }
     // What was read and written, whatever is answered.
     ensures ran { HasRunThrough S.Source K.Sink source.old source.new sink.old sink.new

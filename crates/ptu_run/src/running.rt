@@ -137,8 +137,9 @@ pub fn run<W: AllocGlobal + Threads + Wait + Sync, S: Source, K: Sink, H: Host>(
         → IsStatusOf (report_lines (stock_of stock.flags.items stock.gaps.items) script)
         (S.left source.new) result }
 
-    // The word `pools`: each pool of the script is sent what its own events come to, whatever the
-    // others do, and all are within the capacity that they share.
+    // The word `pools`: each pool of the script is sent what its own events come to, at its own
+    // addresses, whatever the others do; its requests are decided by the room in it; and all are
+    // within the capacity that they share.
     ensures pools { (script : List ℕ) → S.left source.old ≡ Some script → KeepsPools script }
 
     // The word `serve`: the settings that the source has left are refused by one line, or a
