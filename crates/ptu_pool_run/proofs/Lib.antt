@@ -9,6 +9,7 @@ mod Receivers
 mod Limits
 mod Following
 mod Deciding
+mod Serving
 pub mod Keeping
 mod Poured
 pub mod Promising

@@ -12,7 +12,7 @@ use Rattle.ptu_pool_run.specs.Promises.{AreMessagesWritten, KeepsPools, SayAlike
 use Rattle.ptu_pool_run.specs.Reading.{Told, events_of, opening}
 use Rattle.ptu_pool_run.proofs.{Deciding.{decides}, Following.{all_messages, follows}, Limits.{IsWithin, within_until}}
 use Rattle.ptu_pool_run.proofs.Keeping.{AreSound, IsSound, apart_of, sound_by, sound_until, texts_of_script}
-use Rattle.ptu_pool_run.proofs.{OutputLines.{own_of}, Receivers.{to_pool}}
+use Rattle.ptu_pool_run.proofs.{OutputLines.{own_of}, Receivers.{to_pool}, Serving.{sends_in_time, serves_clients}}
 
 -- ---- its pools
 
@@ -65,4 +65,6 @@ keeps_pools script = record {
   each_within = λ setup i x is. held_own (config_of setup) (told_by script).pools (events_of (told_by script).events) i x;
   all_within = λ setup x is. held_whole (config_of setup) setup.capacity (told_by script).pools (events_of (told_by script).events) x (shared (told_by script) setup is (sound_by script));
   messages_within = λ setup x is. count_whole (config_of setup) setup.capacity (told_by script).pools (events_of (told_by script).events) x (shared (told_by script) setup is (sound_by script));
+  each_client = serves_clients script;
+  in_time = sends_in_time script;
 }

@@ -1,10 +1,10 @@
 -- What every script of pools keeps to. Pools are the project's own choice; requests are those of IEEE 1588-2019 clause 16.1.
-use Rattle.std.specs.Prelude.{◌≡◌, ◌≢◌, ℕ, ◌+◌, ◌-◌, ◌*◌, ◌≤◌, true, Bool, false, filter_map, List, [], ◌∷◌, ◌++◌, filter, length, slice_get, take, Option, Some, None, Ok}
+use Rattle.std.specs.Prelude.{◌≡◌, ◌≢◌, ℕ, ◌+◌, ◌-◌, ◌*◌, ◌≤◌, true, Bool, false, filter_map, flat_map, map, ℤ, List, [], ◌∷◌, ◌++◌, filter, length, slice_get, take, Option, Some, None, Ok}
 use Rattle.std.specs.List.{position}
 use Rattle.ptu_lines.specs.Script.{script_lines}
 use Rattle.ptu_report.specs.Rules.{Goes, texts_of}
 use Rattle.ptu_tlvs.specs.declared.tlv.Tlv.{Tlv}
-use Rattle.ptu_history.specs.{Core.{history_after}, Held.{count, held}, History.{Record}}
+use Rattle.ptu_history.specs.{Core.{core_history, history_after}, Held.{count, held}, History.{Record, Granted}}
 use Rattle.ptu_history.specs.Events as events
 use Rattle.ptu_history.specs.Events.{Event}
 use Rattle.ptu_gm_messages.specs.declared.item.Item.TheVariants as items
@@ -12,7 +12,15 @@ use Rattle.ptu_gm_messages.specs.declared.heard.Heard.TheVariants as heard
 use Rattle.ptu_gm_messages.specs.Items.{heard_in}
 use Rattle.ptu_gm_messages.specs.Deciding.{answer_by, events_of_datagram, opened_with}
 use Rattle.ptu_gm_messages.specs.Replies.{reply_to}
-use Rattle.ptu_pools.specs.{Events.{over_all, pool_history}, declared.pool.Pool.{Pool}}
+use Rattle.ptu_units.specs.declared.kind.{Kind.{Kind}, Kind.TheVariants.{DelayResp}}
+use Rattle.ptu_units.specs.Log.{period_of}
+use Rattle.ptu_history.specs.{declared.client.Client.{Client}, Client.{table_of}}
+use Rattle.ptu_history.specs.{Live.{last_decision}, Runs.{chain}, Verdict.{Config}}
+use Rattle.ptu_laws.specs.Served.{held_time, held_time_at, periods_sent, sent_at}
+use Rattle.ptu_laws.specs.Turned.{IsInEach, sent_moments, turn_moments}
+use Rattle.ptu_grandmaster.specs.Driven as driven
+use Rattle.ptu_pools.specs.Events as pool_events
+use Rattle.ptu_pools.specs.{Events.{gm_event, over_all, pool_history}, declared.pool.Pool.{Pool}}
 use Rattle.ptu_pools.specs.Pool.{capacity_at, is_in, is_in_at}
 use Rattle.ptu_script.specs.declared.command.GrandmasterSetup.{GrandmasterSetup}
 use Rattle.ptu_world.specs.Deeds.{Grandmaster}
@@ -133,6 +141,40 @@ pub record DecidesByOwnRoom (script : List ℕ) : Type 0 where
   pub decided : (p : Sold script) (r : Request) → IsHandedToPool p r → IsDecidedByRoom r
   pub capacity : (p : Sold script) (r : Request) → IsHandedToPool p r → capacity_then r ≡ (p.pool).capacity
 
+-- ---- what each client gets
+
+-- what the pool at this place is opened with, and the events that its history is of
+abbrev pub opened_as : GrandmasterSetup → Told → ℕ → Config
+opened_as setup told i = opened_with (capacity_at told.pools i) (config_of setup)
+
+abbrev pub core_events : GrandmasterSetup → Told → ℕ → List (ℕ × Event)
+core_events setup told i = flat_map (driven.events_of (config_of setup)) (map gm_event (pool_events.own told.pools i (events_of told.events)))
+
+-- the moments at which the pool takes the turns of a table
+abbrev pub turns_of_pool : GrandmasterSetup → Told → ℕ → ℕ → List ℕ
+turns_of_pool setup told i table = turn_moments (opened_as setup told i) (core_events setup told i) table
+
+-- of each pool, up to every moment: the messages of a kind to a client, each as long as the period that was granted for it, are
+-- together no longer than the time in which the client held a grant of the kind; and so it is at each logarithm alone
+pub record ServesClientsOfPools (script : List ℕ) : Type 0 where
+  pub periods : (setup : GrandmasterSetup) (i : ℕ) (c : Client) (k : Kind) (x : ℕ) → (told_by script).setup ≡ Some setup →
+      let all = history_of setup (told_by script) i in periods_sent all c k x ≤ held_time all c k x
+  pub rate : (setup : GrandmasterSetup) (i : ℕ) (c : Client) (k : Kind) (l : ℤ) (x : ℕ) → (told_by script).setup ≡ Some setup →
+      let all = history_of setup (told_by script) i in sent_at all c k l x * period_of l ≤ held_time_at all c k l x
+
+-- the history of each pool is that of its events; and where a grant of Announce or Sync is live from the start of its chain on,
+-- through renewals at its logarithm, and each stretch of so many nanoseconds has a turn of the client's table among these events,
+-- each stretch of one period more has a message of the kind to the client
+pub record SendsInTimeToPools (script : List ℕ) : Type 0 where
+  pub by_events : (setup : GrandmasterSetup) (i : ℕ) → (told_by script).setup ≡ Some setup →
+      history_of setup (told_by script) i ≡ core_history (opened_as setup (told_by script) i) (core_events setup (told_by script) i)
+  pub in_each : (setup : GrandmasterSetup) (i : ℕ) (c : Client) (k : Kind) (n : ℕ) (l : ℤ) (u between from to : ℕ) →
+      (told_by script).setup ≡ Some setup → k ≢ DelayResp →
+      let all = history_of setup (told_by script) i in
+      last_decision all c k ≡ Some (Granted n c k l u) → chain all c k ≤ from → to ≤ u →
+      IsInEach between (turns_of_pool setup (told_by script) i (table_of c)) from to →
+      IsInEach (period_of l + between) (sent_moments all c k) from to
+
 -- ---- all
 
 pub record KeepsPools (script : List ℕ) : Type 0 where
@@ -159,3 +201,7 @@ pub record KeepsPools (script : List ℕ) : Type 0 where
   -- and so are their timing messages, at sixteen seconds of one sixteenth each
   pub messages_within : (setup : GrandmasterSetup) (x : ℕ) → (told_by script).setup ≡ Some setup →
       over_all (told_by script).pools (λ i. count (history_of setup (told_by script) i) x) * (16 * 1000000000) ≤ setup.capacity * x
+  -- no client of a pool gets more messages of a kind than whole periods in which it held a grant
+  pub each_client : ServesClientsOfPools script
+  -- and messages come in each period and the time between the turns of its pool
+  pub in_time : SendsInTimeToPools script
