@@ -144,15 +144,15 @@ pub record DecidesByOwnRoom (script : List ℕ) : Type 0 where
 -- ---- what each client gets
 
 -- what the pool at this place is opened with, and the events that its history is of
-abbrev pub opened_as : GrandmasterSetup → Told → ℕ → Config
-opened_as setup told i = opened_with (capacity_at told.pools i) (config_of setup)
+abbrev pub pool_opening : GrandmasterSetup → Told → ℕ → Config
+pool_opening setup told i = opened_with (capacity_at told.pools i) (config_of setup)
 
 abbrev pub core_events : GrandmasterSetup → Told → ℕ → List (ℕ × Event)
 core_events setup told i = flat_map (driven.events_of (config_of setup)) (map gm_event (pool_events.own told.pools i (events_of told.events)))
 
 -- the moments at which the pool takes the turns of a table
 abbrev pub turns_of_pool : GrandmasterSetup → Told → ℕ → ℕ → List ℕ
-turns_of_pool setup told i table = turn_moments (opened_as setup told i) (core_events setup told i) table
+turns_of_pool setup told i table = turn_moments (pool_opening setup told i) (core_events setup told i) table
 
 -- of each pool, up to every moment: the messages of a kind to a client, each as long as the period that was granted for it, are
 -- together no longer than the time in which the client held a grant of the kind; and so it is at each logarithm alone
@@ -167,7 +167,7 @@ pub record ServesClientsOfPools (script : List ℕ) : Type 0 where
 -- each stretch of one period more has a message of the kind to the client
 pub record SendsInTimeToPools (script : List ℕ) : Type 0 where
   pub by_events : (setup : GrandmasterSetup) (i : ℕ) → (told_by script).setup ≡ Some setup →
-      history_of setup (told_by script) i ≡ core_history (opened_as setup (told_by script) i) (core_events setup (told_by script) i)
+      history_of setup (told_by script) i ≡ core_history (pool_opening setup (told_by script) i) (core_events setup (told_by script) i)
   pub in_each : (setup : GrandmasterSetup) (i : ℕ) (c : Client) (k : Kind) (n : ℕ) (l : ℤ) (u between from to : ℕ) →
       (told_by script).setup ≡ Some setup → k ≢ DelayResp →
       let all = history_of setup (told_by script) i in

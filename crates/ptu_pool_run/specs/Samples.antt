@@ -7,31 +7,31 @@ abbrev pub customers : List (List ℕ)
 customers = gm (codes "16 300") ∷ codes "pool 10.0.1.0 24 8" ∷ codes "pool 10.0.2.0 24 8" ∷ []
 
 -- the address hands something in at the moment 0
-abbrev pub rx : List ℕ → List ℕ → List ℕ
-rx from hex = codes "rx 0 " ++ (from ++ (codes " " ++ hex))
+abbrev pub hands_in : List ℕ → List ℕ → List ℕ
+hands_in from hex = codes "rx 0 " ++ (from ++ (codes " " ++ hex))
 
 -- what a pool sends on the general channel
-abbrev pub sends : List ℕ → List ℕ → List ℕ → List ℕ
-sends pool to hex = pool ++ (codes " send general " ++ (to ++ (codes " " ++ hex)))
+abbrev pub pool_sends : List ℕ → List ℕ → List ℕ → List ℕ
+pool_sends pool to hex = pool ++ (codes " send general " ++ (to ++ (codes " " ++ hex)))
 
 -- ---- requests: two fill their own pools, one does not fit in the first, and one comes from nobody's address
 
 -- of another client, an ask for Announces at the logarithm 4 for 300 s, and its denial
-abbrev pub other_ask : List ℕ
-other_ask = codes "0c120036040004000000000000000000000000000a0000000000001200010000057fffffffffffffffffffff00040006b0040000012c"
+abbrev pub ask_of_other : List ℕ
+ask_of_other = codes "0c120036040004000000000000000000000000000a0000000000001200010000057fffffffffffffffffffff00040006b0040000012c"
 
-abbrev pub other_denial : List ℕ
-other_denial = codes "0c120038040004000000000000000000000000000a0000000000000100010000057f0a00000000000012000100050008b004000000000000"
+abbrev pub denial_of_other : List ℕ
+denial_of_other = codes "0c120038040004000000000000000000000000000a0000000000000100010000057f0a00000000000012000100050008b004000000000000"
 
 abbrev pub requests : List ℕ
 requests = script_of (customers
-    ++ (rx (codes "10.0.1.17") ask ∷ rx (codes "10.0.1.18") other_ask ∷ rx (codes "10.0.2.1") ask ∷ rx (codes "10.0.3.1") ask ∷ []))
+    ++ (hands_in (codes "10.0.1.17") ask ∷ hands_in (codes "10.0.1.18") ask_of_other ∷ hands_in (codes "10.0.2.1") ask ∷ hands_in (codes "10.0.3.1") ask ∷ []))
 
 abbrev pub requests_output : List (List ℕ)
 requests_output = lines_of (
-    sends (codes "4 pool 1") (codes "10.0.1.17") grant
-    ∷ sends (codes "5 pool 1") (codes "10.0.1.18") other_denial
-    ∷ sends (codes "6 pool 2") (codes "10.0.2.1") grant
+    pool_sends (codes "4 pool 1") (codes "10.0.1.17") grant
+    ∷ pool_sends (codes "5 pool 1") (codes "10.0.1.18") denial_of_other
+    ∷ pool_sends (codes "6 pool 2") (codes "10.0.2.1") grant
     ∷ codes "7 stranger"
     ∷ codes "end 7" ∷ [])
 
@@ -41,17 +41,17 @@ requests_output = lines_of (
 abbrev pub first_announce : List ℕ
 first_announce = codes "0b120040040004000000000000000000000000000a0000000000000100010000057f000000000002000000000000008054feffff800a000000000000010000a0"
 
-abbrev pub turns : List ℕ
-turns = script_of (customers
-    ++ (rx (codes "10.0.1.17") ask ∷ rx (codes "10.0.2.1") ask
+abbrev pub taking_turns : List ℕ
+taking_turns = script_of (customers
+    ++ (hands_in (codes "10.0.1.17") ask ∷ hands_in (codes "10.0.2.1") ask
     ∷ codes "turn 1999999999 1 2" ∷ codes "turn 2000000000 2 2" ∷ codes "turn 2000000000 2 2" ∷ codes "turn 2000000000 1 2" ∷ []))
 
-abbrev pub turns_output : List (List ℕ)
-turns_output = lines_of (
-    sends (codes "4 pool 1") (codes "10.0.1.17") grant
-    ∷ sends (codes "5 pool 2") (codes "10.0.2.1") grant
-    ∷ sends (codes "7 pool 2") (codes "10.0.2.1") first_announce
-    ∷ sends (codes "9 pool 1") (codes "10.0.1.17") first_announce
+abbrev pub taking_turns_output : List (List ℕ)
+taking_turns_output = lines_of (
+    pool_sends (codes "4 pool 1") (codes "10.0.1.17") grant
+    ∷ pool_sends (codes "5 pool 2") (codes "10.0.2.1") grant
+    ∷ pool_sends (codes "7 pool 2") (codes "10.0.2.1") first_announce
+    ∷ pool_sends (codes "9 pool 1") (codes "10.0.1.17") first_announce
     ∷ codes "end 9" ∷ [])
 
 -- ---- pools that are refused

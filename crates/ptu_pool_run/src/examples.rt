@@ -7,7 +7,7 @@ ghost use Rattle.ptu_script.specs.declared.cause.Cause.TheVariants as causes;
 ghost use Rattle.ptu_outside.specs.declared.channel.Channel.TheVariants as channels;
 ghost use Rattle.ptu_pool_run.specs.{Command.{IsRefused, command_of}, Output.{line_text}};
 ghost use Rattle.ptu_pool_run.specs.Poured.{poured_texts};
-ghost use Rattle.ptu_pool_run.specs.Samples.{turns_output, requests_output, requests, turns};
+ghost use Rattle.ptu_pool_run.specs.Samples.{requests, requests_output, taking_turns, taking_turns_output};
 ghost use Rattle.ptu_pool_run.specs.Samples.{no_network, overlapping, too_much};
 ghost use Rattle.ptu_pool_run.specs.declared.cause.PoolCause.TheVariants as refused;
 ghost use Rattle.ptu_pool_run.specs.declared.command.PoolCommand.TheVariants as commands;
@@ -71,7 +71,7 @@ pub fn lines_of_output()
 /// not, whatever the other holds, and is sent its own messages alone; a stranger is sent nothing.
 pub fn two_customers()
     ensures requests { poured_texts requests ≡ requests_output }
-    ensures turns { poured_texts turns ≡ turns_output }
+    ensures turns { poured_texts taking_turns ≡ taking_turns_output }
 {}
 
 /// Pools that are not sold, which end the output.
