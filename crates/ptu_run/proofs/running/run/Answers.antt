@@ -11,7 +11,7 @@ use Rattle.ptu_lab.specs.Steps.{stock_of}
 use Rattle.ptu_run.proofs.{Answered.{none_answered, zero_at_end}, Audited.{audit_completes}}
 use Rattle.ptu_run.proofs.Completed.{completed}
 use Rattle.ptu_lab.proofs.KeepingHeadline.{keeps_headline}
-use Rattle.ptu_pool_run.proofs.Keeping.{keeps_pools}
+use Rattle.ptu_pool_run.proofs.Promising.{keeps_pools}
 use Rattle.ptu_run.proofs.running.run.Goals as goal
 
 -- words that ask for a command are not refused, and ask for no other
