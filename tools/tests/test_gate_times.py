@@ -49,6 +49,14 @@ class GateTimes(unittest.TestCase):
         self.assertGreater(float(self.rows("low", ".", "--test")[1]["low"][1]), 0)
         self.assertGreater(float(self.rows("low", "rt-edit-x", "")[1]["low"][2]), 0)
 
+    def test_a_proof_beside_the_command_is_not_counted(self) -> None:
+        words = [str(self.top / "run"), "other", ".", ""]
+        beside = subprocess.Popen(words, cwd=self.top, env={**os.environ, "WORK": WORK * 2})
+        self.addCleanup(beside.wait)
+        rows = self.rows("low", ".", "")[1]
+        self.assertGreater(float(rows["low"][0]), 0)
+        self.assertEqual(rows["other"], ["0.00", "0.00", "0.00", "0"])
+
     def test_the_status_is_the_command_s(self) -> None:
         self.assertNotEqual(self.rows("low", "nowhere", "")[0], 0)
 
