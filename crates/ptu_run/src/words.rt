@@ -6,7 +6,10 @@ ghost use Rattle.ptu_run.specs.Waiting.{begins_with_daemon, is_waited_for};
 
 use std::alloc::{AllocError, Global};
 
-/// The words as text, in their order. An `Err` says that no memory was found.
+/// The words as text, in their order.
+///
+/// # Errors
+/// `AllocError` where no memory is found.
 pub fn texts_of(alloc: Global, words: &[String]) -> Result<Vec<&str>, AllocError>
     ensures { IfOk result (λ texts. map (λ t. t.now) texts.items ≡ map string_bytes words.now) }
 {

@@ -24,7 +24,7 @@ impl SleepClock {
         Ok(SleepClock { micros })
     }
 
-    /// The same clock.
+    /// The same clock once more: a rest on one of them moves both.
     pub(crate) fn share(&self) -> Result<SleepClock, AllocError> {
         let micros = self.micros.clone()?;
         Ok(SleepClock { micros })

@@ -1,3 +1,5 @@
+//! What a port wants of a UDP socket, and the system's socket as one.
+
 ghost use Rattle.std.specs.Prelude.{◌≤◌, length, IfOk};
 
 use std::io;
