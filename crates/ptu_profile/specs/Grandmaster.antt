@@ -2,7 +2,7 @@
 use Rattle.std.specs.Prelude.{ℕ, ◌<◌, ◌^◌, ℤ}
 use Rattle.ptu_header.specs.declared.header.Header.{Header}
 use Rattle.ptu_profile.specs.{declared.grandmaster.GmConfig.{GmConfig}, Headers.{unicast_header}}
-use Rattle.ptu_profile.specs.Limits.{IsDomain, IsDuration}
+use Rattle.ptu_units.specs.Limits.{IsDomain, IsDuration}
 
 -- each value is within its limits
 pub record IsWithinLimits (config : GmConfig) : Type 0 where

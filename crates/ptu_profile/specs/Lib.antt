@@ -1,4 +1,3 @@
-pub mod Limits
 pub mod Headers
 pub mod Grandmaster
 pub mod Slave

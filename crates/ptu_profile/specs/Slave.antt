@@ -4,7 +4,8 @@ use Rattle.std.specs.List.{AllPairs}
 use Rattle.ptu_units.specs.{declared.kind.Kind.TheVariants.{Announce}, Log.{IsLogOf}}
 use Rattle.ptu_record.specs.{SignalFails.{Timeouts}, Wants.{timeouts_of}}
 use Rattle.ptu_header.specs.declared.header.Header.{Header}
-use Rattle.ptu_profile.specs.{Headers.{unicast_header}, Limits.{IsDomain, IsTimeout, IsWait}}
+use Rattle.ptu_profile.specs.Headers.{unicast_header}
+use Rattle.ptu_units.specs.Limits.{IsDomain, IsTimeout, IsWait}
 use Rattle.ptu_profile.specs.declared.slave.{Master.{Master}, SlaveConfig.{SlaveConfig}}
 
 -- each value is within its limits

@@ -1,3 +1,5 @@
+//! The configuration of a grandmaster, and the headers of its messages.
+
 ghost use Rattle.std.specs.Prelude.{◌≡◌};
 
 use crate::headers::header_from;

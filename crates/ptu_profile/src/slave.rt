@@ -1,3 +1,5 @@
+//! The configuration of a slave and its masters, and the headers of its messages.
+
 ghost use Rattle.std.specs.Prelude.{◌≡◌};
 
 use crate::headers::header_from;
@@ -26,9 +28,9 @@ pub struct SlaveConfig {
     pub wants: Wants,
     /// The announce receipt timeout, from 2 to 10 periods.
     pub announce_timeout: u8,
-    /// The same of Sync messages.
+    /// The receipt timeout of Sync messages, from 2 to 10 periods.
     pub sync_timeout: u8,
-    /// The same of Delay_Resps.
+    /// The receipt timeout of Delay_Resps, from 2 to 10 periods.
     pub delay_timeout: u8,
     /// The wait to restore, from 0 to 720 seconds.
     pub wait: u32,

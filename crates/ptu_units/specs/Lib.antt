@@ -1,3 +1,4 @@
 pub mod Kind
 pub mod Log
 pub mod Counts
+pub mod Limits

@@ -1,3 +1,5 @@
+//! The kinds of message that can be granted: Announce, Sync and Delay_Resp.
+
 ghost use Rattle.std.specs.Prelude.{◌≡◌, ◌<◌};
 ghost use Rattle.ptu_units.specs.Kind.{code_of, kind_of};
 

@@ -1,3 +1,5 @@
+//! A list that a contract sees as nothing but its members.
+
 ghost use Rattle.std.specs.Prelude.{◌≡◌};
 
 use std::marker::Model;

@@ -1,3 +1,5 @@
+//! Logarithms of message intervals, with the rate and the period of each.
+
 ghost use Rattle.std.specs.{Prelude.{◌≡◌, ◌*◌, ◌≤◌}, Option.{SomeIff}};
 ghost use Rattle.ptu_units.specs.Log.{IsLog, IsLogOf, place_of, rate_of, period_of};
 

@@ -1,4 +1,4 @@
-//! The one answer that a call may give for want of memory, and for no other cause.
+//! The one answer of a call that runs out of memory, and of no other cause.
 
 use std::alloc::{AllocError, AllocFailed};
 use std::error::Error;

@@ -1,3 +1,5 @@
+//! Moments in nanoseconds. They are passed in by callers; nothing in the core reads a clock.
+
 ghost use Rattle.std.specs.{Prelude.{◌≡◌, ◌<◌, ◌^◌, max}, Option.{SomeIff}};
 
 use std::marker::Model;

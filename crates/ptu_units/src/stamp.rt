@@ -1,3 +1,5 @@
+//! Timestamps as messages carry them.
+
 /// A timestamp: whole seconds and the nanoseconds after them (IEEE 1588-2019 clause 5.3.3).
 #[derive(Clone, Copy, Debug)]
 pub struct Stamp {

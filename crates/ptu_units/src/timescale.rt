@@ -1,3 +1,5 @@
+//! Turns a moment into a timestamp.
+
 ghost use Rattle.std.specs.Prelude.{◌≡◌, ◌+◌, ◌/◌, ◌%◌, ◌<◌, ◌^◌};
 
 use crate::moment::Moment;

@@ -1,5 +1,5 @@
 -- The limits of each setting (the project's own choice).
-use Rattle.std.specs.Prelude.{ℕ, ◌≤◌}
+use Rattle.std.specs.Prelude.{ℕ, ◌≤◌, ◌<◌, ◌^◌}
 
 -- the portNumber of a port identity
 abbrev pub IsPort : ℕ → Type 0
@@ -24,3 +24,15 @@ IsTimeout periods = (2 ≤ periods) × (periods ≤ 10)
 -- a wait to restore, in seconds
 abbrev pub IsWait : ℕ → Type 0
 IsWait seconds = seconds ≤ 720
+
+-- a number of lanes that turn tables
+abbrev pub IsSenders : ℕ → Type 0
+IsSenders lanes = lanes ≤ 4
+
+-- a UDP port number that a node may be opened at
+abbrev pub IsUdpPort : ℕ → Type 0
+IsUdpPort number = (1 ≤ number) × (number ≤ 65535)
+
+-- the seconds of a timescale at moment zero
+abbrev pub IsEpoch : ℕ → Type 0
+IsEpoch seconds = seconds < 2 ^ 47
