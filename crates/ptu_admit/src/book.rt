@@ -1,5 +1,8 @@
+//! The book of a grandmaster: what admission keeps beside the four tables of leases, so that most
+//! requests are decided with one table alone.
+
 ghost use Rattle.std.specs.Prelude.{◌≡◌, ◌≤◌, ◌+◌, ◌-◌, List, []};
-ghost use Rattle.ptu_profile.specs.Limits.{IsCapacity};
+ghost use Rattle.ptu_units.specs.Limits.{IsCapacity};
 ghost use Rattle.ptu_admit.specs.Lent.{EachStandsAt, Lent, StandFor, shares};
 
 use ptu_units::Moment;
@@ -18,7 +21,7 @@ pub struct Book {
 impl Model for Book {
     ghost use Rattle.std.specs.Prelude.{◌≤◌};
     ghost use Rattle.ptu_admit.specs.Book.{KeptBook};
-    ghost use Rattle.ptu_profile.specs.Limits.{IsCapacity};
+    ghost use Rattle.ptu_units.specs.Limits.{IsCapacity};
 
     ghost Value = { KeptBook };
 

@@ -1,3 +1,5 @@
+//! What the close of a grandmaster gives back: its ports and its counts.
+
 /// What four tables and a book are when they are closed.
 #[derive(Drop)]
 pub struct Closed<P> {

@@ -55,7 +55,7 @@ impl Newest {
         }
     }
 
-    /// Takes the greatest.
+    /// Removes the newest candidate, which is shed next, and returns it.
     pub(crate) fn pop(&mut self) -> Option<Candidate>
         ensures taken { IfSome result (λ c. IsPermutation self.old (c ∷ self.new)) }
         ensures newest { IfSome result (λ c.

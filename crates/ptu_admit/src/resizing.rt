@@ -3,7 +3,7 @@
 ghost use Rattle.std.specs.Prelude.{◌≡◌, ℕ, ◌+◌, ◌<◌, ◌≤◌, max, List, map, ◌++◌, IfOk, OnErr, OnOk};
 ghost use Rattle.ptu_history.specs.{History.{Record}, Verdict.{Config}, Events.{Resize}};
 ghost use Rattle.ptu_history.specs.{Shedding.{shed_grants}, Step.{step}};
-ghost use Rattle.ptu_profile.specs.Limits.{IsCapacity};
+ghost use Rattle.ptu_units.specs.Limits.{IsCapacity};
 ghost use Rattle.ptu_admit.specs.{Lent.{StandFor, four, moment_for_all, shares}, Newest.{rows_in}};
 ghost use Rattle.ptu_admit.specs.{Shed.{shed_of}, Tables.{KeepsPort}};
 
@@ -26,9 +26,11 @@ pub struct Resized {
 }
 
 /// Changes the capacity in force to this many sixteenths of a message per second, over four tables
-/// in order of index, at the greatest of `t`, the book's moment and the tables'. Where the live
-/// grants are above it, the newest are shed until the rest fits. Room for the list of these is made
-/// first; where there is none, nothing has changed.
+/// in order of index, at the greatest of `t`, the book's moment and the tables'. If the live grants
+/// are above it, the newest are shed until the rest fits.
+///
+/// # Errors
+/// `OutOfMemory` if there is no memory for the list of what is shed. Nothing has changed then.
 pub fn resize<P: Port>(
     alloc: Global,
     s0: &mut Shard<P>,

@@ -1,3 +1,5 @@
+//! The grants that a change of capacity ended, as the caller gets them.
+
 use ptu_history::Client;
 use ptu_units::{Kind, Listed, Log};
 

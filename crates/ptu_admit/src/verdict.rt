@@ -1,3 +1,6 @@
+//! The answer to a request for unicast transmission: granted, short of capacity, or outside the
+//! profile. Only this crate makes these values, so each is a decision that was taken.
+
 ghost use Rattle.std.specs.Prelude.{◌≡◌, ◌<◌, ◌+◌, ◌*◌};
 
 use crate::profile::Wanted;
@@ -88,7 +91,7 @@ impl Grant {
         }
     }
 
-    /// Whose it is.
+    /// The client that got the grant.
     pub fn client(&self) -> Client
         ensures { result ≡ self.now.client }
     {

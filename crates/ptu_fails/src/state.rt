@@ -1,3 +1,6 @@
+//! The state of one master at a moment: its signal fails, whether it waits to be restored, and its
+//! quality level (ITU-T G.8265.1).
+
 ghost use Rattle.std.specs.Prelude.{◌≡◌, ℕ};
 ghost use Rattle.ptu_record.specs.{Record.{Record}, SignalFails.{Timeouts, is_eligible}};
 
@@ -8,9 +11,10 @@ use ptu_record::Quality;
 pub struct WatchState {
     /// No Announce came, or the last one is longer ago than the timeout.
     pub loss_announce: bool,
-    /// The same of Sync messages.
+    /// No Sync came, or the last one is longer ago than the timeout.
     pub loss_sync: bool,
-    /// The same of Delay_Resps, for a slave that requests them.
+    /// The slave requests Delay_Resps, and none came, or the last one is longer ago than the
+    /// timeout.
     pub loss_delay: bool,
     /// The master's judge found it unusable last.
     pub unusable: bool,

@@ -1,3 +1,6 @@
+//! The watch over one master: four moments, a quality level and a flag in place of the whole record
+//! of what came from it.
+
 ghost use Rattle.std.specs.Prelude.{◌≡◌, ◌≢◌, ℕ, ◌<◌, ◌≤◌, ◌^◌, ◌-◌, ◌++◌, ◌∷◌, []};
 ghost use Rattle.std.specs.Option.{ForSome};
 ghost use Rattle.ptu_record.specs.Record.{Record, Announce, Sync, Resp, Judged};

@@ -3,7 +3,8 @@ use Rattle.std.specs.Prelude.{◌≡◌, ◌+◌, ◌^◌, ◌<◌, ℕ, List, [
 use Rattle.ptu_history.specs.Core.{core_history}
 use Rattle.ptu_history.specs.Events as events
 use Rattle.ptu_history.specs.{Events.{Event}, History.{Record}}
-use Rattle.ptu_profile.specs.{declared.grandmaster.GmConfig.{GmConfig}, Limits.{IsCapacity}}
+use Rattle.ptu_profile.specs.declared.grandmaster.GmConfig.{GmConfig}
+use Rattle.ptu_units.specs.Limits.{IsCapacity}
 use Rattle.ptu_gm_messages.specs.Deciding.{events_of_datagram, opened_with}
 use Rattle.ptu_shard.specs.Answered.{failed_by, sent_by}
 use Rattle.ptu_grandmaster.specs.declared.outcome.Taken.{Taken}

@@ -3,7 +3,8 @@
 ghost use Rattle.std.specs.Prelude.{◌≡◌, ◌+◌, ◌*◌, ◌^◌, ◌<◌, ◌≤◌, ℕ, List, All, IfOk, OnOk};
 ghost use Rattle.ptu_history.specs.{Core.{history_after}, Counts.{counts}, Held.{budget, count}};
 ghost use Rattle.ptu_history.specs.History.{Record};
-ghost use Rattle.ptu_profile.specs.{Grandmaster.{IsWithinLimits}, Limits.{IsCapacity}};
+ghost use Rattle.ptu_profile.specs.Grandmaster.{IsWithinLimits};
+ghost use Rattle.ptu_units.specs.Limits.{IsCapacity};
 ghost use Rattle.ptu_gm_messages.specs.Deciding.{opened_with};
 ghost use Rattle.ptu_grandmaster.specs.Driven.{IsPossible, IsSetUpAs, IsTimely, driven_history, events_of, sent_taken};
 ghost use Rattle.ptu_grandmaster.specs.Gm.{StandsFor};
@@ -111,7 +112,7 @@ impl<P: Port> Gm<P> {
 /// sum of the capacity in force over all nanoseconds before it. Failed sends count too.
 ///
 /// # Errors
-/// `OutOfMemory` for want of memory in a `take` or a `set_capacity`.
+/// `OutOfMemory` if a `take` or a `set_capacity` runs out of memory.
 pub fn drive<P: Port>(
     alloc: Global,
     config: GmConfig,

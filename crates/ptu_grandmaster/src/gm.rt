@@ -1,6 +1,10 @@
-ghost use Rattle.std.specs.{Prelude.{◌≡◌, ◌<◌, ℕ, [], List, length}, Borrow.{sem}};
+//! The type `Gm`: a grandmaster with its four tables, its book and its five ports.
+
+ghost use Rattle.std.specs.{Prelude.{◌≡◌, ◌<◌, ◌≤◌, ℕ, [], List, length}, Borrow.{sem}};
 ghost use Rattle.ptu_history.specs.History.{Record};
-ghost use Rattle.ptu_profile.specs.{Grandmaster.{IsWithinLimits}, Limits.{IsCapacity}};
+ghost use Rattle.ptu_profile.specs.Grandmaster.{IsWithinLimits};
+ghost use Rattle.ptu_units.specs.Limits.{IsCapacity};
+ghost use Rattle.ptu_shard.specs.Table.{IsIdleUntil};
 ghost use Rattle.ptu_grandmaster.specs.{Gm.{StandsFor, port_at, table_at}, Lends.{LendsPort}};
 
 use crate::outcome::{Outcome, Taken};
@@ -9,6 +13,7 @@ use ptu_gm_messages::HearingRoom;
 use ptu_outside::Port;
 use ptu_profile::GmConfig;
 use ptu_shard::Shard;
+use ptu_units::Moment;
 use std::alloc::Global;
 use std::marker::Model;
 
@@ -98,8 +103,7 @@ impl<P: Port> Gm<P> {
         }
     }
 
-    /// Takes back what a datagram came to, when it is done with. The room of its outcomes serves
-    /// the next Signaling.
+    /// Returns the result of `take`, so that its buffer is used again for the next Signaling.
     pub fn give_back(&mut self, taken: Taken)
         ensures { self.new ≡ self.old }
     {
@@ -146,5 +150,17 @@ impl<P: Port> Gm<P> {
             2 => self.s2.count(),
             _ => self.s3.count(),
         }
+    }
+
+    /// The earliest moment up to `until` at which a turn of some table may have a message to send,
+    /// or `until` where there is none before it.
+    pub fn next_due(&self, until: Moment) -> Moment
+        ensures within { result ≤ until }
+        ensures idle { (i : ℕ) → IsIdleUntil result (table_at i self.now) }
+    {
+        let first = self.s0.next_due(until);
+        let second = self.s1.next_due(first);
+        let third = self.s2.next_due(second);
+        self.s3.next_due(third)
     }
 }

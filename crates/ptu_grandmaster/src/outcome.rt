@@ -1,3 +1,5 @@
+//! What became of a datagram: of each of its items, and of the reply.
+
 use ptu_admit::{Cancelled, Verdict};
 use ptu_gm_messages::GmReason;
 use ptu_outside::Reply;

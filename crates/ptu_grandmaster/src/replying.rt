@@ -41,8 +41,7 @@ impl ToTlv for Outcome {
 
 /// Writes the reply with the answers to these outcomes, to this port and with this sequenceId, to
 /// the front of `out`. It answers the size in octets and leaves the rest of `out` (IEEE 1588-2019
-/// clause
-/// 16.1.4).
+/// clause 16.1.4).
 pub fn reply_of(
     config: &GmConfig,
     to: &PortIdentity,

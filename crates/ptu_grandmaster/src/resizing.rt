@@ -4,7 +4,7 @@ ghost use Rattle.std.specs.Prelude.{◌≡◌, ◌+◌, ◌%◌, ℕ, List, [], 
 ghost use Rattle.ptu_outside.specs.HandsOver.{HandsOver, failed_in, sent_in};
 ghost use Rattle.ptu_history.specs.{Core.{core_step}, History.{Record}};
 ghost use Rattle.ptu_history.specs.Events as events;
-ghost use Rattle.ptu_profile.specs.Limits.{IsCapacity};
+ghost use Rattle.ptu_units.specs.Limits.{IsCapacity};
 ghost use Rattle.ptu_admit.specs.Lent.{moment_for_all};
 ghost use Rattle.ptu_gm_messages.specs.{Deciding.{opened_with}, Replies.{cancel_to, cancels_to}};
 ghost use Rattle.ptu_grandmaster.specs.{Changed.{AreShedAt, leases_shed}, Gm.{StandsFor, tables}};

@@ -4,7 +4,7 @@ use Rattle.std.specs.List.{AllByRecursion, items_where_true}
 use Rattle.std.proofs.lemmas.List.{append-nil}
 use Rattle.ptu_outside.specs.{declared.port.Port.{Ghosts as Ports}, Departure.{Departure}}
 use Rattle.ptu_outside.specs.Faults.{HasRisen, HasRisenBy, HasRisenJust, HasNotFallen, one_more}
-use Rattle.ptu_outside.specs.Telling.{IfTold, append_told}
+use Rattle.ptu_outside.specs.Telling.{IfTold, TellsOn, append_told}
 use Rattle.ptu_outside.specs.HandsOver.{HandsOver, SentOf, failed_in, sent_in}
 use Rattle.std.specs.Result.{IsOk, OnErr, OnOk}
 
@@ -75,10 +75,10 @@ last_few : (ceases : Departure → Bool) (xs ys : List Departure) → AllByRecur
 last_few ceases [] ys few = few
 last_few ceases (x ∷ xs) ys few = last_few ceases xs ys few.1
 
-pub goes_on_both : {S : Type 0} (ceases : Departure → Bool) (xs ys : List Departure) (old now new : S)
-    → (AllByRecursion (λ d. ceases d ≡ false) xs → now ≡ old) → (AllByRecursion (λ d. ceases d ≡ false) ys → new ≡ now)
-    → AllByRecursion (λ d. ceases d ≡ false) (xs ++ ys) → new ≡ old
-goes_on_both ceases xs ys old now new a b few = b (last_few ceases xs ys few) ∙ a (first_few ceases xs ys few)
+pub goes_on_both : {S : Type 0} (ceases : Departure → Bool) (xs ys : List Departure) (old now new : Option S)
+    → (AllByRecursion (λ d. ceases d ≡ false) xs → TellsOn old now) → (AllByRecursion (λ d. ceases d ≡ false) ys → TellsOn now new)
+    → AllByRecursion (λ d. ceases d ≡ false) (xs ++ ys) → TellsOn old new
+goes_on_both ceases xs ys old now new a b few tells = b (last_few ceases xs ys few) (a (first_few ceases xs ys few) tells)
 
 pub risen_both : (old now new f g : ℕ) → HasRisenBy f old now → HasRisenBy g now new → HasNotFallen now new → HasRisenBy (f + g) old new
 risen_both old now new f g (inl a) (inl b) c = inl (omega arith)
@@ -125,12 +125,12 @@ module _ {P : Type 0} (ports : Ports P) where
     quiet = λ none. refl;
     no_fall = not_fallen_none (ports.faults port);
     waiting = refl;
-    goes_on = λ none few. refl;
+    goes_on = λ none few tells. tells;
     sure = λ others sure. (refl, sure);
   }
 
   pub hands_sent : (old new : P) (d : Departure) → IfTold (ports.sent new) (append_told (ports.sent old) (d ∷ [])) → ports.faults new ≡ ports.faults old
-      → ports.waiting new ≡ ports.waiting old → (ports.ceases_at d ≡ false → ports.has_ceased new ≡ ports.has_ceased old)
+      → ports.waiting new ≡ ports.waiting old → (ports.ceases_at d ≡ false → TellsOn (ports.sent old) (ports.sent new))
       → ((others : List Departure) → ports.is_sure old (d ∷ others) → ports.is_sure new others) → HandsOver ports old new (d ∷ []) 1 0
   hands_sent old new d handed quiet waiting goes_on sure = record {
     each = refl;
@@ -166,7 +166,7 @@ module _ {P : Type 0} (ports : Ports P) where
       → OnOk result (IfTold (ports.sent new) (append_told (ports.sent old) (d ∷ []))) → OnErr result (IfTold (ports.sent new) (ports.sent old))
       → ports.waiting new ≡ ports.waiting old → OnErr result (HasRisen (ports.faults old) (ports.faults new))
       → OnErr result (ports.counts_once ≡ true → ports.faults new ≡ one_more (ports.faults old)) → OnOk result (ports.faults new ≡ ports.faults old)
-      → HasNotFallen (ports.faults old) (ports.faults new) → OnOk result (ports.ceases_at d ≡ false → ports.has_ceased new ≡ ports.has_ceased old)
+      → HasNotFallen (ports.faults old) (ports.faults new) → OnOk result (ports.ceases_at d ≡ false → TellsOn (ports.sent old) (ports.sent new))
       → ((others : List Departure) → ports.is_sure old (d ∷ others) → IsOk result × ports.is_sure new others)
       → HandsOver ports old new (d ∷ []) (sent_in result) (failed_in result)
   hands_one old new d (Ok sent) handed kept waiting risen once quiet no_fall goes_on sure = hands_sent old new d handed quiet waiting goes_on (λ others was. (sure others was).1)
@@ -193,7 +193,7 @@ module _ {P : Type 0} (ports : Ports P) where
     quiet = λ none. b.quiet (omega (arith, none)) ∙ a.quiet (omega (arith, none));
     no_fall = not_fallen_both (ports.faults old) (ports.faults now) (ports.faults new) a.no_fall b.no_fall;
     waiting = b.waiting ∙ a.waiting;
-    goes_on = λ none. goes_on_both ports.ceases_at ds es (ports.has_ceased old) (ports.has_ceased now) (ports.has_ceased new) (a.goes_on (omega (arith, none))) (b.goes_on (omega (arith, none)));
+    goes_on = λ none. goes_on_both ports.ceases_at ds es (ports.sent old) (ports.sent now) (ports.sent new) (a.goes_on (omega (arith, none))) (b.goes_on (omega (arith, none)));
     sure = λ others was.
         let first = a.sure (es ++ others) (subst (ports.is_sure old) (append_assoc ds es others) was) in
         let second = b.sure others first.1 in

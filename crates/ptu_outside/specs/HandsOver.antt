@@ -3,7 +3,7 @@ use Rattle.std.specs.Prelude.{◌≡◌, ℕ, ◌+◌, ◌++◌, Bool, true, fal
 use Rattle.std.specs.List.{AllByRecursion, items_where_true}
 use Rattle.ptu_outside.specs.{declared.port.Port.{Ghosts as Ports}, Departure.{Departure}}
 use Rattle.ptu_outside.specs.Faults.{HasRisen, HasRisenBy, HasRisenJust, HasNotFallen}
-use Rattle.ptu_outside.specs.Telling.{IfTold, append_told}
+use Rattle.ptu_outside.specs.Telling.{IfTold, TellsOn, append_told}
 
 -- of one datagram: how many were sent, and how many sends failed
 abbrev pub sent_in : {A E : Type 0} → Result A E → ℕ
@@ -34,7 +34,7 @@ pub record HandsOver {P : Type 0} (ports : Ports P) (old new : P) (datagrams : L
   pub no_fall : HasNotFallen (ports.faults old) (ports.faults new)
   -- what waits to be received stays
   pub waiting : ports.waiting new ≡ ports.waiting old
-  -- and the port goes on to tell, unless a send failed or a datagram was such that it may cease to
-  pub goes_on : failed ≡ 0 → AllByRecursion (λ d. ports.ceases_at d ≡ false) datagrams → ports.has_ceased new ≡ ports.has_ceased old
+  -- and the port goes on to tell what was sent, unless a send failed or a datagram was such that it may cease to
+  pub goes_on : failed ≡ 0 → AllByRecursion (λ d. ports.ceases_at d ≡ false) datagrams → TellsOn (ports.sent old) (ports.sent new)
   -- a port that was sure to send these, and others behind them, has sent them all, and is sure to send the others
   pub sure : (others : List Departure) → ports.is_sure old (datagrams ++ others) → (failed ≡ 0) × ports.is_sure new others

@@ -1,9 +1,13 @@
 -- Content that a value tells or not. It is `None` where it is not told.
-use Rattle.std.specs.Prelude.{◌≡◌, Option, Some, List, [], ◌++◌, drop, slice_get, option_map, IfSome}
+use Rattle.std.specs.Prelude.{◌≡◌, Option, Some, List, [], ◌++◌, drop, slice_get, option_map, IfSome, IsSome}
 
 -- where it is still told, this is what is told; so what was not told does not begin to be told
 abbrev pub IfTold : {A : Type 0} → Option A → Option A → Type 0
 IfTold now told = IfSome now (λ content. told ≡ Some content)
+
+-- what was told is still told
+abbrev pub TellsOn : {A : Type 0} → Option A → Option A → Type 0
+TellsOn old new = IsSome old → IsSome new
 
 -- what is told of a list when these are added at its end
 abbrev pub append_told : {A : Type 0} → Option (List A) → List A → Option (List A)

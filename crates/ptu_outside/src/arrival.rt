@@ -1,3 +1,5 @@
+//! A datagram that waits at a port in memory.
+
 use crate::datagram::Datagram;
 
 /// A datagram that waits to be received.

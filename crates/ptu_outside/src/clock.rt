@@ -1,3 +1,5 @@
+//! The trait of what gives moments. The core of the program reads no clock but through it.
+
 ghost use Rattle.std.specs.Prelude.{◌≡◌, ◌≢◌, ℕ, List, [], Option, Some, option_map};
 ghost use Rattle.ptu_outside.specs.{Clocks.{after_first}, Faults.{HasNotFallen}};
 ghost use Rattle.ptu_outside.specs.Telling.{IfTold, IsFirstTold};
@@ -6,7 +8,7 @@ use ptu_units::Moment;
 
 /// Where moments come from. They need not rise.
 pub trait Clock: Drop {
-    /// The moments to come, where the clock tells them. The last one comes again and again.
+    /// The moments to come, if they are observable. The last one comes again and again.
     ghost moments: { Self → Option (List ℕ) };
 
     /// How many faults there have been. A clock that had one still answers.

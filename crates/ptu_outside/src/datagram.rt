@@ -1,3 +1,5 @@
+//! The octets of one datagram as a value, for ports in memory.
+
 ghost use Rattle.std.specs.Prelude.{◌≡◌};
 
 use std::marker::Model;
@@ -24,7 +26,7 @@ impl Datagram {
         Datagram { octets: bytes }
     }
 
-    /// The octets.
+    /// The octets of the datagram.
     pub fn bytes(&self) -> &[u8]
         ensures { result.now ≡ self.now }
     {

@@ -1,3 +1,5 @@
+//! The error of every call to the outside. A count of faults beside it says how many calls failed.
+
 use std::error::Error;
 use std::fmt;
 

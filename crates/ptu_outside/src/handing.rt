@@ -1,3 +1,5 @@
+//! Sends one datagram, and says in one fact of the contract what became of it and of the port.
+
 ghost use Rattle.std.specs.Prelude.{[], ◌∷◌};
 ghost use Rattle.ptu_outside.specs.HandsOver.{HandsOver, failed_in, sent_in};
 

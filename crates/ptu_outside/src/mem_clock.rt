@@ -1,3 +1,5 @@
+//! A clock in memory, for tests and for scripts: it answers a list of moments.
+
 ghost use Rattle.std.specs.Prelude.{◌≡◌, [], Some, option_map};
 ghost use Rattle.ptu_outside.specs.{Clocks.{after_first}, Faults.{HasNotFallen}};
 ghost use Rattle.ptu_outside.specs.MemoryClock.{moments_of, clock_of};
@@ -7,7 +9,7 @@ use crate::clock::Clock;
 use ptu_units::Moment;
 use std::marker::Model;
 
-/// A clock in memory. It always tells its moments, and never has a fault.
+/// A clock in memory. Its moments are always observable, and it never has a fault.
 #[derive(Drop)]
 pub struct MemClock {
     moments: Vec<Moment>,

@@ -1,3 +1,5 @@
+//! A host in memory, for tests: it opens the ports and clocks that it was given.
+
 ghost use Rattle.std.specs.Prelude.{◌≡◌, Some, None, IfOk, OnOk, OnErr, IfSome, IsErr, ◌↔◌, is_err, if◌then◌else◌, option_copied};
 ghost use Rattle.ptu_outside.specs.{Faults.{HasRisen, HasNotFallen, one_more}, Telling.{IfTold}};
 
@@ -9,11 +11,15 @@ use crate::mem_port::MemPort;
 use crate::opened::Opened;
 use std::marker::Model;
 
-/// A host in memory, which opens its ports and clocks once. It always tells.
+/// A host in memory, which opens its ports and clocks once, and a control port once if it has one.
+/// It is always observable.
 pub struct MemHost {
     opening: Option<Opened<MemPort, MemClock>>,
     back: Option<Opened<MemPort, MemClock>>,
     opened_at: Option<Endpoint>,
+    control: Option<MemPort>,
+    control_back: Option<MemPort>,
+    control_at: Option<u16>,
     faults: u64,
 }
 
@@ -26,17 +32,24 @@ impl Model for MemHost {
       opening = h.opening;
       back = h.back;
       opened_at = h.opened_at;
+      control = h.control;
+      control_back = h.control_back;
+      control_at = h.control_at;
       faults = h.faults;
     } };
 }
 
 impl MemHost {
-    /// A host that will open these, or one whose first open fails. Every later open fails.
+    /// A host that will open these, or one whose first open fails. Every later open fails, and so
+    /// does every open of a control port.
     pub fn new(opened: Opened<MemPort, MemClock>, fails: bool) -> MemHost
         ensures { result ≡ record {
           opening = if fails then None else Some opened;
           back = None;
           opened_at = None;
+          control = None;
+          control_back = None;
+          control_at = None;
           faults = 0;
         } }
     {
@@ -44,8 +57,19 @@ impl MemHost {
             opening: if fails { None } else { Some(opened) },
             back: None,
             opened_at: None,
+            control: None,
+            control_back: None,
+            control_at: None,
             faults: 0,
         }
+    }
+
+    /// The host that will open this control port, in place of the one that it would have.
+    pub fn with_control(mut self, port: MemPort) -> MemHost
+        ensures { result ≡ record self { control = Some port } }
+    {
+        self.control = Some(port);
+        self
     }
 
     /// The ports and clocks that were given back last.
@@ -61,6 +85,20 @@ impl MemHost {
     {
         self.opened_at
     }
+
+    /// The control port that was given back last.
+    pub fn control_back(&self) -> Option<&MemPort>
+        ensures { option_copied result ≡ self.now.control_back }
+    {
+        self.control_back.as_ref()
+    }
+
+    /// The UDP port number at which it opened a control port last.
+    pub fn control_at(&self) -> Option<u16>
+        ensures { result ≡ self.now.control_at }
+    {
+        self.control_at
+    }
 }
 
 impl Drop for MemHost {
@@ -69,6 +107,9 @@ impl Drop for MemHost {
             opening: _,
             back: _,
             opened_at: _,
+            control: _,
+            control_back: _,
+            control_at: _,
             faults: _,
         } = self;
     }
@@ -84,6 +125,12 @@ impl Host for MemHost {
     ghost back = { λ h. h.back };
 
     ghost opened_at = { λ h. h.opened_at };
+
+    ghost control = { λ h. h.control };
+
+    ghost control_back = { λ h. h.control_back };
+
+    ghost control_at = { λ h. h.control_at };
 
     ghost faults = { λ h. h.faults };
 
@@ -114,6 +161,9 @@ impl Host for MemHost {
             })) }
         ensures faults { self.new.faults
             ≡ (if is_err result then one_more self.old.faults else self.old.faults) }
+        ensures control { self.new.control ≡ self.old.control }
+        ensures control_back { self.new.control_back ≡ self.old.control_back }
+        ensures control_at { self.new.control_at ≡ self.old.control_at }
     {
         let Some(opened) = self.opening.take() else {
             self.faults = self.faults.saturating_add(1);
@@ -131,8 +181,45 @@ impl Host for MemHost {
         ensures back { IfTold self.new.back (Some opened) }
         ensures at { self.new.opened_at ≡ self.old.opened_at }
         ensures quiet { self.new.faults ≡ self.old.faults }
+        ensures control_back { self.new.control_back ≡ self.old.control_back }
+        ensures control_at { self.new.control_at ≡ self.old.control_at }
         ensures given { self.new ≡ record self.old { back = Some opened } }
     {
         self.back = Some(opened);
+    }
+
+    fn open_control(&mut self, number: u16) -> Result<MemPort, Failed>
+        ensures opened { IfOk result (λ port. IfSome self.old.control (λ told. port ≡ told)) }
+        ensures control_at { OnOk result (IfTold self.new.control_at (Some number)) }
+        ensures back { self.new.back ≡ self.old.back }
+        ensures at { self.new.opened_at ≡ self.old.opened_at }
+        ensures risen { OnErr result (HasRisen self.old.faults self.new.faults) }
+        ensures quiet { OnOk result (self.new.faults ≡ self.old.faults) }
+        ensures no_fall { HasNotFallen self.old.faults self.new.faults }
+        // It fails exactly where there is no control port left to open.
+        ensures fails { IsErr result ↔ (self.old.control ≡ None) }
+        ensures once { self.new ≡ record self.old {
+          control = None;
+          control_at = if is_err result then self.old.control_at else Some number;
+          faults = if is_err result then one_more self.old.faults else self.old.faults;
+        } }
+    {
+        let Some(port) = self.control.take() else {
+            self.faults = self.faults.saturating_add(1);
+            return Err(Failed);
+        };
+        self.control_at = Some(number);
+        Ok(port)
+    }
+
+    fn close_control(&mut self, port: MemPort)
+        ensures control_back { IfTold self.new.control_back (Some port) }
+        ensures control_at { self.new.control_at ≡ self.old.control_at }
+        ensures back { self.new.back ≡ self.old.back }
+        ensures at { self.new.opened_at ≡ self.old.opened_at }
+        ensures quiet { self.new.faults ≡ self.old.faults }
+        ensures given { self.new ≡ record self.old { control_back = Some port } }
+    {
+        self.control_back = Some(port);
     }
 }

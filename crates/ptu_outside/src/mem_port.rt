@@ -1,3 +1,6 @@
+//! A port in memory: what waits is a list, what was sent is kept, and chosen calls fail. Scripts
+//! run over it, and so do most tests.
+
 ghost use Rattle.std.specs.Prelude.{◌≡◌, ◌<◌, ◌≤◌, ◌+◌, ◌⊎◌, ◌↔◌, List, [], ◌∷◌, ◌++◌, Some, length, take, drop, slice_get, vec_len, vec_capacity, IfOk, OnOk, OnErr, IfSome, IfNone, IsErr, IsOk, is_err, MatchOption, if◌then◌else◌, Contains};
 ghost use Rattle.ptu_outside.specs.Departure.{Departure};
 ghost use Rattle.ptu_outside.specs.Faults.{HasRisen, HasNotFallen, one_more};
@@ -22,8 +25,8 @@ struct Slot {
     end: usize,
 }
 
-/// A port in memory, which fails at the listed sends and receives. It always tells what was sent
-/// and what waits.
+/// A port in memory, which fails at the listed sends and receives. What was sent and what waits is
+/// always observable.
 pub struct MemPort {
     slots: Vec<Slot>,
     octets: Vec<u8>,

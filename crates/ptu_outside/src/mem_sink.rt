@@ -1,3 +1,5 @@
+//! A sink in memory, for tests: it keeps what was written, and chosen calls fail.
+
 ghost use Rattle.std.specs.Prelude.{◌≡◌, ◌<◌, ◌≤◌, ◌+◌, [], ◌∷◌, Some, None, length, take, IfOk, OnOk, OnErr, IsErr, IsOk, is_err, if◌then◌else◌, Contains};
 ghost use Rattle.std.specs.Io.KnownBytes.{append_known};
 ghost use Rattle.ptu_outside.specs.{Faults.{HasRisen, one_more}, Handing.{Grows}};
@@ -8,8 +10,8 @@ use ptu_units::OutOfMemory;
 use std::alloc::Global;
 use std::marker::Model;
 
-/// Octets in memory that were written, which fails at the listed calls. It always tells what was
-/// written, and not in which pieces.
+/// Octets in memory that were written, which fails at the listed calls. What was written is always
+/// observable, and not in which pieces.
 #[derive(Drop)]
 pub struct MemSink {
     bytes: Vec<u8>,

@@ -1,3 +1,5 @@
+//! A source in memory, for tests: it gives octets, and chosen calls fail.
+
 ghost use Rattle.std.specs.Prelude.{◌≡◌, ◌<◌, ◌≤◌, ◌↔◌, ◌==◌, ◌&&◌, false, Some, None, length, take, min, nat_lt, IfOk, OnOk, OnErr, IsErr, is_err, if◌then◌else◌, Contains};
 ghost use Rattle.std.specs.Io.KnownBytes.{IsAtEnd, prepend_known};
 ghost use Rattle.ptu_outside.specs.{Ends.{CountsEnd}, Faults.{HasRisen, one_more}};
@@ -6,8 +8,8 @@ use crate::failed::Failed;
 use crate::source::Source;
 use std::marker::Model;
 
-/// Octets in memory to be read, which fails at the listed calls. It always tells what is left, and
-/// not how it was read at its end.
+/// Octets in memory to be read, which fails at the listed calls. What is left is always observable,
+/// and not how it was read at its end.
 #[derive(Drop)]
 pub struct MemSource {
     bytes: Vec<u8>,

@@ -1,3 +1,5 @@
+//! The ports and clocks of a node as a host opens them.
+
 /// The ports and clocks of a node. Ports 0 to 3 only send, port 4 receives the general channel and
 /// sends what answers it, and port 5 receives the event channel.
 #[derive(Drop)]

@@ -1,18 +1,22 @@
+//! The trait of what sends and receives datagrams. Its contract speaks of what was sent and of what
+//! waits, as far as the port makes that observable.
+
 ghost use Rattle.std.specs.Prelude.{◌≡◌, ◌≤◌, ℕ, Bool, true, false, List, [], ◌∷◌, Option, take, IfOk, IsOk, OnOk, OnErr, IfSome, IfNone};
 ghost use Rattle.ptu_outside.specs.{declared.arrival.Arrival.{Arrival}, Departure.{Departure}};
 ghost use Rattle.ptu_outside.specs.Faults.{HasRisen, HasNotFallen, one_more};
-ghost use Rattle.ptu_outside.specs.Telling.{IfTold, IsFirstTold, IsEmptyTold, append_told, rest_told};
+ghost use Rattle.ptu_outside.specs.Telling.{IfTold, IsFirstTold, IsEmptyTold, TellsOn, append_told, rest_told};
 
 use crate::channel::Channel;
 use crate::failed::Failed;
+use ptu_units::Moment;
 use ptu_units::sizes::LONGEST_DATAGRAM;
 
 /// Where datagrams are sent and received.
 pub trait Port: Drop {
-    /// The datagrams that were sent, in order, where the port tells them.
+    /// The datagrams that were sent, in order, if they are observable.
     ghost sent: { Self → Option (List Departure) };
 
-    /// The datagrams that wait to be received, in order, where the port tells them.
+    /// The datagrams that wait to be received, in order, if they are observable.
     ghost waiting: { Self → Option (List Arrival) };
 
     /// How many faults there have been.
@@ -22,11 +26,8 @@ pub trait Port: Drop {
     /// several calls of another port.
     ghost counts_once: { Bool } = { true };
 
-    /// Whether the port may cease to tell what was sent once it is handed this datagram.
+    /// Whether what was sent may stop being observable once this datagram is sent.
     ghost ceases_at: { Departure → Bool } = { λ _. false };
-
-    /// Whether it has been handed such a datagram, or has failed to send one.
-    ghost has_ceased: { Self → Bool } = { λ _. false };
 
     /// Whether the port is sure to send these, one after the other.
     ghost is_sure: { Self → List Departure → Type 0 } = { λ _ _. ⊥ };
@@ -47,7 +48,7 @@ pub trait Port: Drop {
         ensures no_fall { HasNotFallen (faults self.old) (faults self.new) }
         ensures goes_on { OnOk result (ceases_at
             (record { ip = ip; channel = channel; bytes = bytes.now }) ≡ false
-            → has_ceased self.new ≡ has_ceased self.old) }
+            → TellsOn (sent self.old) (sent self.new)) }
         // Where it was sure to send this and others behind it, it has sent this, and is sure to
         // send the others.
         ensures sure { (others : List Departure) → is_sure self.old
@@ -73,6 +74,18 @@ pub trait Port: Drop {
         ensures once { OnErr result (counts_once ≡ true
             → faults self.new ≡ one_more (faults self.old)) }
         ensures quiet { OnOk result (faults self.new ≡ faults self.old) }
-        ensures no_fall { HasNotFallen (faults self.old) (faults self.new) }
-        ensures goes_on { has_ceased self.new ≡ has_ceased self.old };
+        ensures no_fall { HasNotFallen (faults self.old) (faults self.new) };
+
+    /// Waits until a datagram is there to receive, or until this moment of the clocks that were
+    /// opened beside the port, whichever is first, and no longer than the port allows. Nothing is
+    /// received or sent. A port in memory returns at once.
+    fn wait(&mut self, until: Moment)
+        ensures sent { sent self.new ≡ sent self.old }
+        ensures waiting { waiting self.new ≡ waiting self.old }
+        ensures quiet { faults self.new ≡ faults self.old }
+        ensures sure { (datagrams : List Departure) → is_sure self.old datagrams
+            → is_sure self.new datagrams }
+    {
+        let _ = until;
+    }
 }

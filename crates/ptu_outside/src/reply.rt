@@ -1,3 +1,5 @@
+//! What became of the reply to a datagram: sent, failed, or none was due.
+
 /// What became of the reply to a datagram.
 #[derive(Clone, Copy)]
 pub enum Reply {

@@ -1,3 +1,5 @@
+//! Counts of datagrams that were sent, and of sends that failed.
+
 ghost use Rattle.std.specs.Prelude.{◌≡◌, ◌+◌, ◌<◌, ◌^◌};
 ghost use Rattle.ptu_outside.specs.HandsOver.{failed_in, sent_in};
 
@@ -28,7 +30,7 @@ impl Sends {
         }
     }
 
-    /// Both together.
+    /// The sum of two counts.
     pub fn and(self, other: Sends) -> Sends
         requires sent { self.sent + other.sent < 2 ^ 64 }
         requires failed { self.failed + other.failed < 2 ^ 64 }

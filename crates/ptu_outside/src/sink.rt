@@ -1,3 +1,5 @@
+//! The trait of where octets go, and the call that writes a whole text.
+
 ghost use Rattle.std.specs.Prelude.{◌≡◌, ◌<◌, ◌≤◌, ◌∷◌, [], ℕ, List, Option, length, take, IfOk, OnOk, OnErr};
 ghost use Rattle.std.specs.Io.KnownBytes.{append_known};
 ghost use Rattle.ptu_outside.specs.{Faults.{HasRisen}, Handing.{Grows, HasPut, HasPutFront}};
@@ -6,10 +8,10 @@ use crate::failed::Failed;
 
 /// Where octets go.
 pub trait Sink {
-    /// The octets that were written, where the sink tells them.
+    /// The octets that were written, if they are observable.
     ghost written: { Self → Option (List ℕ) };
 
-    /// The pieces that it was handed, one for each call, where the sink tells them.
+    /// The pieces that it got, one for each call, if they are observable.
     ghost handed: { Self → Option (List (List ℕ)) };
 
     /// How many faults there have been.
@@ -32,8 +34,11 @@ pub trait Sink {
         ensures no_fall { faults self.old ≤ faults self.new };
 }
 
-/// Hands the text to the sink in one piece, and its rest again until all is taken. A fault ends it
-/// at once.
+/// Writes the whole text: the sink gets it in one piece, and then what it did not take, until all
+/// is taken.
+///
+/// # Errors
+/// `Failed` at the first call of the sink that fails. A prefix of the text was written then.
 pub fn write_whole<K: Sink>(sink: &mut K, text: &[u8]) -> Result<(), Failed>
     ensures whole { OnOk result (HasPut K.written K.handed sink.old sink.new (text.now ∷ [])) }
     ensures part { OnErr result (HasPutFront K.written K.handed sink.old sink.new text.now) }

@@ -1,3 +1,5 @@
+//! The trait of where octets come from.
+
 ghost use Rattle.std.specs.Prelude.{◌≡◌, ◌<◌, ◌≤◌, ◌==◌, ◌&&◌, ℕ, List, Option, false, length, take, nat_lt, IfOk, OnOk, OnErr};
 ghost use Rattle.std.specs.Io.KnownBytes.{IsAtEnd, prepend_known};
 ghost use Rattle.ptu_outside.specs.{Ends.{CountsEnd}, Faults.{HasRisen}};
@@ -6,10 +8,10 @@ use crate::failed::Failed;
 
 /// Where octets come from.
 pub trait Source {
-    /// The octets that are left, where the source tells them.
+    /// The octets that are left, if the source is observable.
     ghost left: { Self → Option (List ℕ) };
 
-    /// How many reads have found the end of input or come behind it, where the source tells that.
+    /// How many reads have found the end of input or come after it, if the source exposes that.
     ghost ends: { Self → Option ℕ };
 
     /// How many faults there have been.

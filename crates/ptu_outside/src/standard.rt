@@ -1,3 +1,6 @@
+//! A source over a reader of std and a sink over a writer of std: standard input and output of the
+//! program.
+
 ghost use Rattle.std.specs.Prelude.{◌≡◌, ◌<◌, ◌≤◌, ◌==◌, ◌&&◌, ◌∷◌, [], None, false, length, nat_lt, take, IfOk, OnOk, OnErr};
 ghost use Rattle.std.specs.Io.KnownBytes.{IsAtEnd, ReadConsumes, WriteAppends, append_known, prepend_known};
 ghost use Rattle.ptu_outside.specs.{Ends.{CountsEnd}, Faults.{HasRisen}, Handing.{Grows}};
@@ -8,8 +11,8 @@ use crate::source::Source;
 use std::io::{ErrorKind, Read, Write};
 use std::marker::Model;
 
-/// A source over a reader of std. As a source it tells nothing of content; what the reader tells is
-/// said of `read`.
+/// A source over a reader of std. As a source it is opaque; what the reader exposes is said of
+/// `read`.
 #[derive(Drop)]
 pub struct StdSource<R> {
     reader: R,
@@ -67,9 +70,8 @@ impl<R: Read + Drop> Source for StdSource<R> {
     }
 }
 
-/// A sink over a writer of std. As a sink it tells nothing of content; what the writer tells is
-/// said of `write`. It never flushes: a writer that holds octets back is flushed by whoever made
-/// it.
+/// A sink over a writer of std. As a sink it is opaque; what the writer exposes is said of `write`.
+/// It never flushes: a writer that holds octets back is flushed by whoever made it.
 #[derive(Drop)]
 pub struct StdSink<W> {
     writer: W,

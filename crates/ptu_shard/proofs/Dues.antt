@@ -1,9 +1,9 @@
 -- What is due, by the entries of rows in a queue.
-use Rattle.std.proofs.Common.{◌≡◌, ◌∙◌, ◌⊎◌, inl, inr, ℕ, ◌<◌, ◌≤◌, List, [], ◌∷◌, Bool, true, false, ◌&&◌, cond, ltb, leb, refl, sym, ap, ap₂, drop, suc, subst, arith}
+use Rattle.std.proofs.Common.{◌≡◌, ◌∙◌, ◌⊎◌, inl, inr, ℕ, ◌<◌, ◌≤◌, List, [], ◌∷◌, Bool, true, false, ◌&&◌, cond, ltb, leb, map, refl, sym, ap, ap₂, drop, suc, subst, arith}
 use Rattle.std.specs.{List.{All, AllPairs, Contains, filter}, List.Sorted.{IsPermutation}}
 use Rattle.std.specs.{Ordering.{is_lt}, declared.cmp.Ordering.TheVariants.{Less}}
 use Rattle.std.proofs.lemmas.Bool.{and_from, and_parts, false_from_ne_true, le-leb, leb-true, lt-ltb, ltb-true, true≢false}
-use Rattle.std.proofs.lemmas.List.{Elements.{All-contains}, Kept.{AllPairs-filter}}
+use Rattle.std.proofs.lemmas.List.{Elements.{All-contains, All-weaker}, Kept.{AllPairs-filter}}
 use Rattle.std.proofs.lemmas.List.Sorted.{Contains-permutation, IsPermutation-refl}
 use Rattle.std.proofs.lemmas.Simd.{map-map}
 use Rattle.ptu_history.specs.{Client.{same_lease}, Turns.{is_turned}}
@@ -11,7 +11,7 @@ use Rattle.ptu_history.proofs.{Keys.{same_lease-refl}, Standing.{Contains-filter
 use Rattle.ptu_history.proofs.Unique.{Apart-from_pairs, Contains-cons_cases, Contains-first, Contains-from_filter, Contains-later, Rises-unique}
 use Rattle.ptu_shard.specs.declared.{lease.Row.{Row}, queue.Entry.{Entry}}
 use Rattle.ptu_shard.specs.{Queue.{HasEdges, IsNoneBelow, edge_entry, entry_cmp}, Row.{is_row_of}}
-use Rattle.ptu_shard.specs.Turn.{due_rows, is_due_row, row_cmp, spent_row, spent_where}
+use Rattle.ptu_shard.specs.Turn.{due_messages, due_rows, is_due_row, message_of_row, row_cmp, spent_row, spent_where}
 use Rattle.ptu_shard.proofs.{RowLists.{Differ}, Sorting.{row_cmp-differ, row_cmp-total}}
 use Rattle.ptu_shard.proofs.Spending.{Contains-image, IsImage, distinct_spent, image}
 use Rattle.ptu_shard.proofs.Members.{in_order_from, in_order_to, map_agree, map_same, one_row, rises_in_order}
@@ -52,6 +52,20 @@ none_due x rows entries has later = at (due_rows x rows) refl
         absurd (omega (arith, reached, after))
 
 -- where nothing is due, nothing is spent
+-- each row that is not over at a later moment has its entry at this one
+pub edges_later : (moment x : ℕ) (rows : List Row) (entries : List Entry) → moment ≤ x → HasEdges moment rows entries → HasEdges x rows entries
+edges_later moment x rows entries le has = λ row kept turned live. has row kept turned (omega (arith, le, live))
+
+-- entries that are all later than a moment are later than each before it
+pub all_before : (x until : ℕ) (entries : List Entry) → x < until → All (λ e. until < e.moment) entries → All (λ e. x < e.moment) entries
+all_before x until entries before later = All-weaker (λ e. until < e.moment) (λ e. x < e.moment) (λ e after. omega (arith, before, after)) entries later
+
+-- where no entry is before a moment, no turn before it sends a message
+pub idle_before : (moment until : ℕ) (rows : List Row) (entries : List Entry) → HasEdges moment rows entries → ((x : ℕ) → x < until → All (λ e. x < e.moment) entries) →
+    (x : ℕ) → moment ≤ x → x < until → due_messages x rows ≡ []
+idle_before moment until rows entries has later = λ x le before.
+    ap (map message_of_row) (none_due x rows entries (edges_later moment x rows entries le has) (later x before))
+
 pub spent_nothing : (x : ℕ) (rows : List Row) → due_rows x rows ≡ [] → spent_where (is_due_row x) x rows ≡ rows
 spent_nothing x rows none =
     map_same (λ row. cond (is_due_row x row) (spent_row x row) row) rows

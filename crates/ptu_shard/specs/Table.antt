@@ -1,10 +1,10 @@
 -- What callers see of a table, and the histories that it stands for.
-use Rattle.std.specs.{Prelude.{◌≡◌, ℕ, ◌≤◌, max, List, Some, None, ℤ}, List.{Contains}}
+use Rattle.std.specs.{Prelude.{◌≡◌, ℕ, ◌≤◌, ◌<◌, max, List, [], Some, None, ℤ}, List.{Contains}}
 use Rattle.ptu_units.specs.declared.kind.Kind.{Kind}
 use Rattle.ptu_history.specs.{declared.client.Client.{Client}, Client.{table_of}}
 use Rattle.ptu_history.specs.{History.{Record, Granted}, Moments.{book_moment, table_moment}}
 use Rattle.ptu_history.specs.{Live.{last_decision}, Runs.{sequence_number}, Lawful.{earliest}}
-use Rattle.ptu_shard.specs.{declared.lease.Lease.{Lease}, declared.lease.Row.{Row}, Row.{lease_of}}
+use Rattle.ptu_shard.specs.{declared.lease.Lease.{Lease}, declared.lease.Row.{Row}, Row.{lease_of}, Turn.{due_messages}}
 
 -- a table: its rows, in an order that is left open, the greatest moment of its steps, for how many more rows there is
 -- room, and its port
@@ -13,6 +13,10 @@ pub record Kept (P : Type 0) : Type 0 where
   pub moment : ℕ
   pub spare : ℕ
   pub port : P
+
+-- no turn of the table before this moment sends a message
+abbrev pub IsIdleUntil : {P : Type 0} → ℕ → Kept P → Type 0
+IsIdleUntil until table = (x : ℕ) → table.moment ≤ x → x < until → due_messages x table.rows ≡ []
 
 -- after the history the last decision on the client and kind is a grant, and the lease is what is kept of it
 pub record IsLeaseOf (history : List Record) (c : Client) (k : Kind) (lease : Lease) : Type 0 where

@@ -1,3 +1,5 @@
+//! What a turn of a table sent, and what a Delay_Req came to.
+
 use ptu_units::Moment;
 
 /// What a turn did: it sent to the clients of one table what was lawful at `at`.

@@ -1,3 +1,5 @@
+//! What a table keeps for one client and kind, and when its next message is lawful.
+
 ghost use Rattle.std.specs.Prelude.{◌≡◌, ◌<◌, ◌≤◌, true};
 ghost use Rattle.ptu_history.specs.Turns.{is_turned};
 ghost use Rattle.ptu_shard.specs.Turn.{is_lawful_row, is_due_row, spent_row};

@@ -1,3 +1,6 @@
+//! The table of leases that callers see. It keeps one quarter of a grandmaster's clients, and sends
+//! their messages from its own port.
+
 ghost use Rattle.std.specs.Prelude.{◌≡◌, ◌<◌, ◌≤◌, ◌+◌, ◌*◌, ◌^◌, ℕ, IfOk, max, [], ◌∷◌, ◌++◌, List, map, OnErr, OnOk, length, is_some, slice_get, nat_lt};
 ghost use Rattle.std.specs.{Borrow.{sem}, List.{filter}, List.Sorted.{IsPermutation}};
 ghost use Rattle.ptu_units.specs.{Log.{rate_of}, declared.kind.Kind.TheVariants.{DelayResp}};
@@ -7,7 +10,7 @@ ghost use Rattle.ptu_history.specs.{Step.{delay_answer, step}, Turns.{due_grants
 ghost use Rattle.ptu_shard.specs.Answered.{answer_by, failed_by, met_by, moment_of_answer, responses, sent_by};
 ghost use Rattle.ptu_shard.specs.{Lends.{LendsPort}, Messages.{departure_of, response_of}};
 ghost use Rattle.ptu_shard.specs.Row.{IsDistinctByLease, lease_of, share_of, without_row};
-ghost use Rattle.ptu_shard.specs.Table.{IsLeaseOf, StandsBeside, StandsFor};
+ghost use Rattle.ptu_shard.specs.Table.{IsIdleUntil, IsLeaseOf, StandsBeside, StandsFor};
 ghost use Rattle.ptu_shard.specs.Turn.{is_answering_row, is_due_row, due_messages, spent_where};
 ghost use Rattle.ptu_profile.specs.Grandmaster.{IsWithinLimits};
 ghost use Rattle.ptu_outside.specs.HandsOver.{HandsOver};
@@ -15,7 +18,7 @@ ghost use Rattle.ptu_outside.specs.HandsOver.{HandsOver};
 use crate::answered::{Answered, Turned};
 use crate::answering::answer_request;
 use crate::lease::{Lease, Row};
-use crate::queue::Queue;
+use crate::queue::{Entry, Queue};
 use crate::queueing::keep_row;
 use crate::rows::{Key, drop_row, find_lease, row_at, spend_answering};
 use crate::sweeping::drop_ended;
@@ -69,6 +72,16 @@ fn twice(room: usize) -> Result<usize, OutOfMemory>
     ensures { IfOk result (λ n. n ≡ 2 * room) }
 {
     Ok(room.checked_mul(2).ok_or(OutOfMemory)?)
+}
+
+// The moment of the entry, or an earlier one where that is no moment.
+fn moment_of(entry: Entry) -> Moment
+    ensures { result ≤ entry.moment }
+{
+    match Moment::of(entry.moment) {
+        Some(moment) => moment,
+        None => Moment::default(),
+    }
 }
 
 impl<P: Port> Shard<P> {
@@ -236,6 +249,18 @@ impl<P: Port> Shard<P> {
         self.moment = self.moment.latest(n);
     }
 
+    /// The earliest moment up to `until` at which a turn may have a message to send, or `until`
+    /// where there is none before it.
+    pub fn next_due(&self, until: Moment) -> Moment
+        ensures within { result ≤ until }
+        ensures idle { IsIdleUntil result self.now }
+    {
+        match self.edges.first_until(until) {
+            Some(entry) => moment_of(entry),
+            None => until,
+        }
+    }
+
     /// Sends one message to each client and kind, of Announce and Sync, that is lawful at the
     /// greater of `t` and the table's moment: by earliest lawful moment, then client, then kind. A
     /// failed send spends its period and its sequence number like one that succeeded.
@@ -308,7 +333,7 @@ impl<P: Port> Shard<P> {
         answer_request(&mut self.port, config, at, client, request, lease)
     }
 
-    /// The port.
+    /// The port that the messages of this table are sent by.
     pub fn port(&mut self) -> &mut P
         ensures* lends { sem 𝓛 (LendsPort P.row P.Port self.entry result) }
         ensures value { result.now ≡ self.old.port }

@@ -1,11 +1,11 @@
 -- Datagrams and their pairs.
-use Rattle.std.proofs.Common.{◌≡◌, ℕ, ◌+◌, Bool, true, false, cond, eqb, ◌&&◌, ◌||◌, List, [], ◌∷◌, ◌++◌, Option, Some, None, option_map, option_and_then, IsErr, is_err, Result, Ok, Err, OnOk, refl, sym, ap, ap₂, subst, ◌∙◌, inl, inr, arith, flat_map}
+use Rattle.std.proofs.Common.{◌≡◌, ℕ, ◌+◌, Bool, true, false, cond, eqb, ◌&&◌, ◌||◌, List, [], ◌∷◌, ◌++◌, Option, Some, None, option_map, option_and_then, IsErr, IsSome, is_err, Result, Ok, Err, OnOk, refl, sym, ap, ap₂, subst, ◌∙◌, inl, inr, arith, flat_map}
 use Rattle.std.proofs.lemmas.{Bool.{eq-eqb, eqb-true, and_parts}, Slice.Eq.{bytes_eq-Decides}}
 use Rattle.std.proofs.lemmas.Grind.{flat_map-append}
 use Rattle.std.specs.{List.{AllByRecursion}, Str.{bytes_eq}}
 use Rattle.ptu_outside.specs.declared.channel.Channel.{Channel}
 use Rattle.ptu_outside.specs.declared.channel.Channel.TheVariants.{Event, General}
-use Rattle.ptu_outside.specs.{Departure.{Departure}, Telling.{IfTold, append_told}}
+use Rattle.ptu_outside.specs.{Departure.{Departure}, Telling.{IfTold, TellsOn, append_told}}
 use Rattle.ptu_twostep.specs.declared.step.Step.{Step}
 use Rattle.ptu_twostep.specs.declared.step.Step.TheVariants.{OneStepSync, TwoStepSync, FollowUp, Other}
 use Rattle.ptu_twostep.specs.Pairs.{follow_up_octets, follow_up_of, is_follow_up_by, all_spelled, one_step_of, pair, pair_by, pairs, spelled, spelled_by, step_at, sync_of, unpair_behind, unpair}
@@ -111,6 +111,30 @@ told-send false (Ok x) old new d OneStepSync is h = told_after old new d OneStep
 told-send false (Ok x) old new d TwoStepSync is h = tt
 told-send false (Ok x) old new d FollowUp is h = tt
 told-send false (Ok x) old new d Other is h = told_after old new d Other is refl h
+
+-- ---- a port in two steps goes on to tell
+
+some_more : (told : Datagrams) (d : Departure) → IsSome told → IsSome (append_told told (d ∷ []))
+some_more None d is = absurd (cc is)
+some_more (Some datagrams) d is = refl
+
+tells_after : (old new : Datagrams) (d : Departure) (step : Step) → step_at d ≡ step → is_half step ≡ false → IfTold new (append_told old (pair_by step d))
+    → TellsOn old new → TellsOn (option_and_then unpair old) (option_and_then unpair new)
+tells_after None new d step is whole h tells was = absurd (cc was)
+tells_after (Some sent) None d step is whole h tells was = absurd (cc (tells refl))
+tells_after (Some sent) (Some sent') d step is whole h tells was =
+    subst IsSome (sym (told-more (Some sent) d step is whole) ∙ ap (option_and_then unpair) h) (some_more (unpair sent) d was)
+
+-- where the port below goes on to tell, so does one in two steps, unless it was handed a half
+pub tells-send : {A E : Type 0} (flag : Bool) (answer : Result A E) (old new : Datagrams) (d : Departure) (step : Step) → step_at d ≡ step
+    → OnOk answer (IfTold new (append_told old (pair_by step d))) → OnOk answer (TellsOn old new)
+    → OnOk answer (is_half step ≡ false → TellsOn (told_by flag old) (told_by (flag || (is_err answer || is_half step)) new))
+tells-send flag (Err e) old new d step is h tells = tt
+tells-send true (Ok x) old new d step is h tells = λ whole was. absurd (cc was)
+tells-send false (Ok x) old new d OneStepSync is h tells = λ whole. tells_after old new d OneStepSync is refl h tells
+tells-send false (Ok x) old new d TwoStepSync is h tells = λ whole. absurd (cc whole)
+tells-send false (Ok x) old new d FollowUp is h tells = λ whole. absurd (cc whole)
+tells-send false (Ok x) old new d Other is h tells = λ whole. tells_after old new d Other is refl h tells
 
 -- ---- what is told spells what was sent below
 

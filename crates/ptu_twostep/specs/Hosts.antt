@@ -3,7 +3,7 @@ use Rattle.std.specs.Prelude.{◌≡◌, Bool, false, Option, Some}
 use Rattle.ptu_outside.specs.{declared.opened.Opened.{Opened}, Telling.{IfTold}}
 use Rattle.ptu_twostep.specs.declared.two_host.Flags.{Flags}
 use Rattle.ptu_outside.specs.declared.port.Port.{Ghosts as Ports}
-use Rattle.ptu_twostep.specs.{Telling.{InTwoSteps, is_half, told_by}, Pairs.{step_at}}
+use Rattle.ptu_twostep.specs.Telling.{InTwoSteps, ceases_in_two, told_by}
 
 -- what ports in two steps tell, by what those below tell
 abbrev pub two_steps : {P : Type 0} → Ports P → Ports (InTwoSteps P)
@@ -12,20 +12,23 @@ two_steps ports = record {
   waiting = λ p. ports.waiting p.port;
   faults = λ p. ports.faults p.port;
   counts_once = false;
-  ceases_at = λ d. is_half (step_at d);
-  has_ceased = λ p. p.is_flagged;
+  ceases_at = ceases_in_two ports.ceases_at;
   is_sure = λ _ _. ⊥;
 }
+
+-- a port in two steps with this flag over the one below
+abbrev pub over : {P : Type 0} → Bool → P → InTwoSteps P
+over flag below = record { port = below; is_flagged = flag }
 
 -- the ports in two steps with these flags over those below, and the same clocks
 abbrev pub flagged_by : {P C : Type 0} → Flags → Opened P C → Opened (InTwoSteps P) C
 flagged_by flags below = record {
-  p0 = record { port = below.p0; is_flagged = flags.p0 };
-  p1 = record { port = below.p1; is_flagged = flags.p1 };
-  p2 = record { port = below.p2; is_flagged = flags.p2 };
-  p3 = record { port = below.p3; is_flagged = flags.p3 };
-  p4 = record { port = below.p4; is_flagged = flags.p4 };
-  p5 = record { port = below.p5; is_flagged = flags.p5 };
+  p0 = over flags.p0 below.p0;
+  p1 = over flags.p1 below.p1;
+  p2 = over flags.p2 below.p2;
+  p3 = over flags.p3 below.p3;
+  p4 = over flags.p4 below.p4;
+  p5 = over flags.p5 below.p5;
   c0 = below.c0;
   c1 = below.c1;
   c2 = below.c2;

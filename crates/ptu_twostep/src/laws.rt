@@ -1,5 +1,5 @@
-//! What holds of pairs, and of what a port in two steps tells. Each function does nothing: its
-//! contract is the law.
+//! What holds of pairs, and of what is observable at a two-step port. Each function does nothing:
+//! its contract is the law.
 
 ghost use Rattle.std.specs.Prelude.{◌≡◌, ◌++◌, ◌∷◌, [], Bool, false, List, Option, Some, option_map};
 ghost use Rattle.std.specs.List.{AllByRecursion};
@@ -16,7 +16,7 @@ pub fn is_whole_where_read()
         → unpair (sent ++ pair d) ≡ option_map (λ told. told ++ d ∷ []) (unpair sent) }
 {}
 
-/// Where a port in two steps tells that it was sent these more, of which none is a half, the port
+/// If it is observable that a two-step port was sent these more, of which none is a half, the port
 /// below was sent their pairs.
 pub fn sent_in_pairs()
     ensures { (old new : Option (List Departure)) (flag flag' : Bool) (more told : List Departure) →

@@ -1,6 +1,8 @@
-ghost use Rattle.std.specs.Prelude.{◌≡◌, Some, option_map, IfOk, IfSome, OnOk, OnErr};
+//! A host whose ports send each Sync in two steps, over another host.
+
+ghost use Rattle.std.specs.Prelude.{◌≡◌, false, Some, option_map, IfOk, IfSome, OnOk, OnErr};
 ghost use Rattle.ptu_outside.specs.{Faults.{HasRisen, HasNotFallen}, Telling.{IfTold}};
-ghost use Rattle.ptu_twostep.specs.Hosts.{GivesBackBelow, clear, flagged_by};
+ghost use Rattle.ptu_twostep.specs.Hosts.{GivesBackBelow, clear, flagged_by, over};
 
 use crate::two_step::TwoStep;
 use ptu_outside::{Failed, Host, Opened};
@@ -17,11 +19,12 @@ pub struct Flags {
 }
 
 /// A host whose ports send each Sync in two steps, over another host. It keeps the flags of the
-/// ports that it was given back last, which are clear before.
+/// ports that it was given back last, and that of its control port, which are clear before.
 #[derive(Drop)]
 pub struct TwoHost<'a, H: Host> {
     host: &'a mut H,
     flags: Flags,
+    is_control_flagged: bool,
 }
 
 impl<'a, H: Host> TwoHost<'a, H> {
@@ -30,10 +33,12 @@ impl<'a, H: Host> TwoHost<'a, H> {
         ensures same { result.host.ghost_name ≡ host.entry.ghost_name }
         ensures host { result.host.now ≡ host.old }
         ensures flags { result.flags ≡ clear }
+        ensures control { result.is_control_flagged ≡ false }
     {
         TwoHost {
             host,
             flags: Flags::default(),
+            is_control_flagged: false,
         }
     }
 
@@ -55,6 +60,13 @@ impl<H: Host> Host for TwoHost<'_, H> {
     ghost back = { λ h. option_map (flagged_by h.flags) (H.back h.host.now) };
 
     ghost opened_at = { λ h. H.opened_at h.host.now };
+
+    ghost control = { λ h. option_map (over false) (H.control h.host.now) };
+
+    ghost control_back = { λ h. option_map (over h.is_control_flagged)
+        (H.control_back h.host.now) };
+
+    ghost control_at = { λ h. H.control_at h.host.now };
 
     ghost faults = { λ h. H.faults h.host.now };
 
@@ -78,6 +90,8 @@ impl<H: Host> Host for TwoHost<'_, H> {
             (HasRisen (H.faults self.old.host.now) (H.faults self.new.host.now)) }
         ensures quiet { OnOk result (H.faults self.new.host.now ≡ H.faults self.old.host.now) }
         ensures no_fall { HasNotFallen (H.faults self.old.host.now) (H.faults self.new.host.now) }
+        ensures control { option_map (over false) (H.control self.new.host.now)
+            ≡ option_map (over false) (H.control self.old.host.now) }
         ensures name { self.new.host.ghost_name ≡ self.old.host.ghost_name }
     {
         let below = self.host.open(ip, event_port, general_port)?;
@@ -101,6 +115,10 @@ impl<H: Host> Host for TwoHost<'_, H> {
         ensures back { IfTold
             (option_map (flagged_by self.new.flags) (H.back self.new.host.now)) (Some opened) }
         ensures at { H.opened_at self.new.host.now ≡ H.opened_at self.old.host.now }
+        ensures control_back { option_map (over self.new.is_control_flagged)
+            (H.control_back self.new.host.now) ≡ option_map (over self.old.is_control_flagged)
+            (H.control_back self.old.host.now) }
+        ensures control_at { H.control_at self.new.host.now ≡ H.control_at self.old.host.now }
         ensures quiet { H.faults self.new.host.now ≡ H.faults self.old.host.now }
         ensures name { self.new.host.ghost_name ≡ self.old.host.ghost_name }
         // It keeps the flags, and gives the ports below back.
@@ -128,5 +146,37 @@ impl<H: Host> Host for TwoHost<'_, H> {
             c4: opened.c4,
             c5: opened.c5,
         });
+    }
+
+    fn open_control(&mut self, number: u16) -> Result<TwoStep<H::P>, Failed>
+        ensures opened { IfOk result (λ port.
+            IfSome (option_map (over false) (H.control self.old.host.now))
+            (λ told. port ≡ told)) }
+        ensures control_at { OnOk result
+            (IfTold (H.control_at self.new.host.now) (Some number)) }
+        ensures back { option_map (flagged_by self.new.flags) (H.back self.new.host.now)
+            ≡ option_map (flagged_by self.old.flags) (H.back self.old.host.now) }
+        ensures at { H.opened_at self.new.host.now ≡ H.opened_at self.old.host.now }
+        ensures risen { OnErr result
+            (HasRisen (H.faults self.old.host.now) (H.faults self.new.host.now)) }
+        ensures quiet { OnOk result (H.faults self.new.host.now ≡ H.faults self.old.host.now) }
+        ensures no_fall { HasNotFallen (H.faults self.old.host.now) (H.faults self.new.host.now) }
+        ensures name { self.new.host.ghost_name ≡ self.old.host.ghost_name }
+    {
+        Ok(TwoStep::new(self.host.open_control(number)?))
+    }
+
+    fn close_control(&mut self, port: TwoStep<H::P>)
+        ensures control_back { IfTold (option_map (over self.new.is_control_flagged)
+            (H.control_back self.new.host.now)) (Some port) }
+        ensures control_at { H.control_at self.new.host.now ≡ H.control_at self.old.host.now }
+        ensures back { option_map (flagged_by self.new.flags) (H.back self.new.host.now)
+            ≡ option_map (flagged_by self.old.flags) (H.back self.old.host.now) }
+        ensures at { H.opened_at self.new.host.now ≡ H.opened_at self.old.host.now }
+        ensures quiet { H.faults self.new.host.now ≡ H.faults self.old.host.now }
+        ensures name { self.new.host.ghost_name ≡ self.old.host.ghost_name }
+    {
+        self.is_control_flagged = port.is_flagged();
+        self.host.close_control(port.into_inner());
     }
 }

@@ -1,21 +1,26 @@
-ghost use Rattle.std.specs.Prelude.{◌≡◌, ◌≤◌, ◌∷◌, [], ◌||◌, ℕ, true, false, Option, None, take, is_err, IfOk, OnOk, OnErr, IfSome, IfNone};
+//! A port that sends each Sync as a two-step Sync and its Follow_Up, over another port (IEEE
+//! 1588-2019 clauses 9.5.9 and 9.5.10).
+
+ghost use Rattle.std.specs.Prelude.{◌≡◌, ◌≤◌, ◌∷◌, [], ◌||◌, ℕ, true, false, List, Option, None, take, is_err, IfOk, OnOk, OnErr, IfSome, IfNone};
 ghost use Rattle.ptu_outside.specs.Faults.{HasRisen, HasNotFallen, one_more};
 ghost use Rattle.ptu_outside.specs.HandsOver.{HandsOver};
-ghost use Rattle.ptu_outside.specs.Telling.{IfTold, IsFirstTold, IsEmptyTold, append_told, rest_told};
-ghost use Rattle.ptu_twostep.specs.{Pairs.{pair, pair_by, step_at}, Steps.{step_of}};
-ghost use Rattle.ptu_twostep.specs.Telling.{HandsPair, is_half, told_by};
+ghost use Rattle.ptu_outside.specs.Telling.{IfTold, IsFirstTold, IsEmptyTold, TellsOn, append_told, rest_told};
+ghost use Rattle.ptu_outside.specs.Departure.{Departure};
+ghost use Rattle.ptu_twostep.specs.{Pairs.{pair, pair_by}, Steps.{step_of}};
+ghost use Rattle.ptu_twostep.specs.Telling.{HandsPair, ceases_in_two, is_half, told_by};
 
 use crate::step::{Step, find_step};
 use ptu_octets::high_nibble;
 use ptu_outside::{Channel, Failed, Port, hand};
+use ptu_units::Moment;
 use ptu_units::sizes::LONGEST_DATAGRAM;
 use std::marker::Model;
 
 /// A port that sends each Sync in two steps, over another port: what it is handed as a Sync in one
 /// step goes out as a Sync with twoStepFlag set and the Follow_Up with its time (IEEE 1588-2019
 /// clauses 9.5.9 and 9.5.10). It keeps a flag, which is set at a send that fails and at one of a
-/// datagram that is itself a Sync in two steps or a Follow_Up: from then on it tells nothing of
-/// what was sent.
+/// datagram that is itself a Sync in two steps or a Follow_Up: from then on what was sent is
+/// opaque.
 #[derive(Drop)]
 pub struct TwoStep<P: Port> {
     port: P,
@@ -41,7 +46,7 @@ impl<P: Port> TwoStep<P> {
         }
     }
 
-    /// Its flag.
+    /// Whether a send has failed, or a half was sent through this port.
     pub fn is_flagged(&self) -> bool
         ensures { result ≡ self.now.is_flagged }
     {
@@ -102,9 +107,7 @@ impl<P: Port> Port for TwoStep<P> {
 
     ghost counts_once = { false };
 
-    ghost ceases_at = { λ d. is_half (step_at d) };
-
-    ghost has_ceased = { λ p. p.is_flagged };
+    ghost ceases_at = { ceases_in_two P.ceases_at };
 
     fn send(&mut self, ip: u32, channel: Channel, bytes: &[u8]) -> Result<(), Failed>
         ensures handed { OnOk result (IfTold (told_by self.new.is_flagged (P.sent self.new.port))
@@ -118,8 +121,10 @@ impl<P: Port> Port for TwoStep<P> {
             → P.faults self.new.port ≡ one_more (P.faults self.old.port)) }
         ensures quiet { OnOk result (P.faults self.new.port ≡ P.faults self.old.port) }
         ensures no_fall { HasNotFallen (P.faults self.old.port) (P.faults self.new.port) }
-        ensures goes_on { OnOk result (is_half (step_of channel bytes.now) ≡ false
-            → self.new.is_flagged ≡ self.old.is_flagged) }
+        ensures goes_on { OnOk result (ceases_in_two P.ceases_at
+            (record { ip = ip; channel = channel; bytes = bytes.now }) ≡ false
+            → TellsOn (told_by self.old.is_flagged (P.sent self.old.port))
+            (told_by self.new.is_flagged (P.sent self.new.port))) }
         // The port below was handed the pair of it, whole.
         ensures below { HandsPair P.Port self.old.port self.new.port
             (pair (record { ip = ip; channel = channel; bytes = bytes.now })) result }
@@ -137,5 +142,17 @@ impl<P: Port> Port for TwoStep<P> {
         buf: &mut [u8; LONGEST_DATAGRAM],
     ) -> Result<Option<(u32, usize)>, Failed> {
         self.port.receive(buf)
+    }
+
+    fn wait(&mut self, until: Moment)
+        ensures sent { told_by self.new.is_flagged (P.sent self.new.port)
+            ≡ told_by self.old.is_flagged (P.sent self.old.port) }
+        ensures waiting { P.waiting self.new.port ≡ P.waiting self.old.port }
+        ensures quiet { P.faults self.new.port ≡ P.faults self.old.port }
+        ensures sure { (datagrams : List Departure) → ⊥ → ⊥ }
+        // It keeps its flag.
+        ensures flag { self.new.is_flagged ≡ self.old.is_flagged }
+    {
+        self.port.wait(until);
     }
 }
