@@ -1,9 +1,14 @@
 //! A PTP unicast grandmaster and its slaves (IEEE 1588-2019 clause 16.1, ITU-T G.8265.1).
 //!
 //! `ptpuni replay` reads a script of grandmasters and slaves from standard input, runs them in
-//! memory, and writes a report of every decision and datagram to standard output. `ptpuni show`
-//! decodes the datagrams that stand in the lines of standard input. `ptpuni serve` and
-//! `ptpuni slave` read settings and run a grandmaster and a slave over UDP.
+//! memory, and writes a report of every decision and datagram to standard output. `ptpuni load N`
+//! makes such a script of N clients, and writes what its replay came to. `ptpuni pools` runs a
+//! script of one grandmaster whose capacity is sold to several customers, and `ptpuni audit N`
+//! judges a finished report.
+//!
+//! `ptpuni show` decodes the datagrams that stand in the lines of standard input, and
+//! `ptpuni join` merges each two-step Sync with its Follow_Up. `ptpuni serve` and `ptpuni slave`
+//! read settings and run a grandmaster and a slave over UDP.
 #![tactic(auto)]
 
 ghost use Rattle.std.specs.Prelude.{◌≡◌, ◌≢◌, ◌+◌, OnOk, length, map};
@@ -109,9 +114,7 @@ fn main(rt: HostRuntime) -> ExitCode {
             return ExitCode::from(OUT_OF_MEMORY);
         }
     }
-    let Ok(mut host) = UdpHost::new(alloc, rt) else {
-        return ExitCode::from(OUT_OF_MEMORY);
-    };
+    let mut host = UdpHost::new(alloc, rt);
     let status = match words_of(&rt) {
         Ok(words) => status_of(&rt, &words, rt.stdin(), rt.stdout(), &mut host, stock),
         Err(error) => status_without_words(error.kind()),

@@ -1,39 +1,28 @@
 -- What the daemon has served, once all rounds were done and the grandmaster was closed.
-use Rattle.std.proofs.Common.{◌≡◌, ◌∙◌, ℕ, ◌+◌, List, [], ◌∷◌, ◌++◌, length, map, flat_map, Option, Some, None, IsSome, refl, sym, ap, ap₂, subst, arith, true}
-use Rattle.std.specs.Prelude.{IfSome, option_map}
+use Rattle.std.proofs.Common.{◌≡◌, ◌∙◌, ℕ, ◌+◌, List, [], ◌∷◌, ◌++◌, length, map, Option, Some, None, IsSome, refl, sym, ap, ap₂, subst, arith, true}
 use Rattle.ptu_outside.specs.declared.{clock.Clock.{Ghosts as Clocks}, opened.Opened.{Opened}}
 use Rattle.ptu_outside.specs.{declared.port.Port.{Ghosts as Ports}, Departure.{Departure}}
-use Rattle.ptu_outside.specs.Faults.{HasRisen, HasRisenBy, HasRisenJust}
+use Rattle.ptu_outside.specs.Faults.{HasRisenBy, HasRisenJust}
 use Rattle.ptu_outside.specs.Telling.{IfTold, append_told}
 use Rattle.ptu_outside.proofs.HandsOver.{none_failed}
-use Rattle.ptu_history.specs.{Core.{book_step_moment, core_history, history_after}, Counts.{counts}}
+use Rattle.ptu_history.specs.{Core.{book_step_moment, core_history}, Counts.{counts}}
 use Rattle.ptu_history.specs.{History.{Record}, Verdict.{table_rates}}
-use Rattle.ptu_history.proofs.Histories.{history_after-append}
-use Rattle.ptu_gm_messages.specs.Deciding.{opened_with}
-use Rattle.ptu_grandmaster.specs.{declared.driving.GmEvent.{GmEvent}, Driven.{events_of}}
-use Rattle.ptu_units.specs.Counts.{counted}
+use Rattle.ptu_profile.specs.Grandmaster.{IsWithinLimits}
+use Rattle.ptu_grandmaster.specs.declared.driving.GmEvent.{GmEvent}
+use Rattle.ptu_units.specs.{Counts.{counted}, Limits.{IsCapacity}}
 use Rattle.ptu_grandmaster.specs.Gm.{KeptGm, StandsFor}
-use Rattle.ptu_lanes.specs.{Sending.{GoesOn, WasSent}, Served.{faults_of}, Waiting.{PassedBy}}
+use Rattle.ptu_lanes.specs.{Sending.{GoesOn, WasSent}, Served.{faults_of}}
 use Rattle.ptu_config.specs.declared.settings.GmSettings.{GmSettings}
 use Rattle.ptu_rounds.specs.Ports.{HaveNotRisen, HaveRisenBy, HaveRisenJust, WereSent, ports_of, senders_of}
-use Rattle.ptu_rounds.specs.Rounds.{in_rounds, moments_after, timed}
+use Rattle.ptu_rounds.specs.{Handed.{WasHanded, WereHanded}, Taken.{Gave, event_of, general_of}}
+use Rattle.ptu_rounds.specs.Rounds.{in_rounds, timed}
 use Rattle.ptu_daemon.specs.declared.tally.Tally.{Tally}
-use Rattle.ptu_daemon.specs.Events.{Given, Happening, config_of, round_of, served_events}
-use Rattle.ptu_daemon.specs.Ran.{AllHandled, DidRounds, Handled, Takes, after_all, five, standing_as}
-use Rattle.ptu_daemon.specs.Sends.{Standing, sends_by, standing_after}
+use Rattle.ptu_daemon.specs.Events.{Given, Happening, Takes, config_of, happenings_of, round_of, served_events}
+use Rattle.ptu_daemon.specs.Ran.{AllHandled, DidRounds, Handled, after_all, five, standing_as}
+use Rattle.ptu_daemon.specs.Sends.{sends_by}
 use Rattle.ptu_daemon.specs.Served.{Said, opened_as, served_by, served_history, served_said}
-use Rattle.ptu_daemon.specs.Serving.{AreServed, GoOn, IsGiven, Serves, TakesFew}
-use Rattle.ptu_daemon.proofs.Handling.{handled_all, many_of}
-
--- ---- the history of the events
-
-after_all-history : (gm : Standing) (events : List GmEvent) →
-    (after_all gm events).past ≡ history_after (opened_with gm.opening gm.config) gm.past (flat_map (events_of gm.config) events)
-unfolding history_after
-after_all-history gm [] = refl
-after_all-history gm (event ∷ later) =
-    after_all-history (standing_after gm event) later
-    ∙ sym (history_after-append (opened_with gm.opening gm.config) gm.past (events_of gm.config event) (flat_map (events_of gm.config) later))
+use Rattle.ptu_daemon.specs.Serving.{AreServed, Happened, IsGiven, Serves}
+use Rattle.ptu_daemon.proofs.{Handling.{handled_all, many_of}, Lawful.{is_lawful}, Running.{after_all-history}}
 
 -- ---- what is told
 
@@ -47,10 +36,6 @@ events_are old None moments happenings events takes is still = absurd (cc still)
 events_are old (Some left) moments happenings events (moments', is', events_is, left_is) is still =
     let same : moments' ≡ moments = cc in
     events_is ∙ ap (λ ms. timed ms happenings) same
-
-passed_of : (old new : Option (List ℕ)) (happenings : List Happening) (events : List GmEvent) → Takes old new happenings events → PassedBy (length happenings) old new
-passed_of old None happenings events takes = tt
-passed_of old (Some left) happenings events (moments, is, events_is, left_is) = ap (option_map (moments_after (length happenings))) is ∙ ap Some (sym left_is)
 
 said_is : (a b : Said) → a.sent ≡ b.sent → a.failed ≡ b.failed → a.granted ≡ b.granted → a.refused ≡ b.refused → a.held ≡ b.held → a ≡ b
 said_is a b d e f g h =
@@ -103,6 +88,20 @@ module _ {P C : Type 0} (ports : Ports P) (clocks : Clocks C) where
   sent_of sends i s f (p ∷ olds) [] h = absurd h
   sent_of sends i s f (p ∷ olds) (q ∷ news) (s1, f1, s2, f2, e, e', h, hs) = (s1, s2, e, many_of (ports.sent p) (ports.sent q) (sends i) s1 h.some, sent_of sends (i + 1) s2 f2 olds news hs)
 
+  -- what was handed to a port, and to several together
+  was_handed : (ds : List Departure) (s f : ℕ) (old new : P) → Handled ports ds s f old new → WasHanded ports old new ds s
+  was_handed ds s f old new h = record {
+    part = record { some = h.some; all = h.all };
+    goes_on = λ still. h.goes_on (none_failed f (ports.faults old) (ports.faults new) h.risen still);
+  }
+
+  handed_of : (sends : ℕ → List Departure) (i s f : ℕ) (olds news : List P) → AllHandled ports sends i s f olds news → WereHanded ports sends i s olds news
+  handed_of sends i s f [] [] h = h.0
+  handed_of sends i s f [] (q ∷ news) h = absurd h
+  handed_of sends i s f (p ∷ olds) [] h = absurd h
+  handed_of sends i s f (p ∷ olds) (q ∷ news) (s1, f1, s2, f2, e, e', h, hs) =
+      (s1, s2, e, was_handed (sends i) s1 f1 p q h, handed_of sends (i + 1) s2 f2 olds news hs)
+
   -- what was sent by each of the five ports, where no count rose
   record SentByFive (sends : ℕ → List Departure) (old new : KeptGm P) (sent : ℕ) : Type 0 where
     pub p0 : IfTold (ports.sent new.s0.port) (append_told (ports.sent old.s0.port) (sends 0))
@@ -151,7 +150,7 @@ module _ {P C : Type 0} (ports : Ports P) (clocks : Clocks C) where
   -- ---- all of it
 
   module _ (settings : GmSettings) (opened closed : Opened P C) (gm0 gm1 : KeptGm P) (event : P) (clock : C) (tally : Tally) (said : Said)
-      (config : gm0.config ≡ config_of settings)
+      (limits : IsWithinLimits (config_of settings)) (capacity : IsCapacity settings.capacity) (config : gm0.config ≡ config_of settings)
       (p0 : gm0.s0.port ≡ opened.p0) (p1 : gm0.s1.port ≡ opened.p1) (p2 : gm0.s2.port ≡ opened.p2) (p3 : gm0.s3.port ≡ opened.p3) (p4 : gm0.reply ≡ opened.p4)
       (stood : StandsFor settings.capacity gm0 [])
       (did : DidRounds ports clocks settings settings.rounds (record { gm = gm0; event = opened.p5; clock = opened.c0 }) (record { gm = gm1; event = event; clock = clock }) tally)
@@ -210,35 +209,33 @@ module _ {P C : Type 0} (ports : Ports P) (clocks : Clocks C) where
         (subst (λ n. WereSent n (map ports.sent (five gm0)) (map ports.sent (five gm1))) (sym sent_is)
         (sent_of (λ i. sends_by (standing_as gm0 settings.capacity []) i did.ran.events) 0 tally.sent did.ran.others_failed (five gm0) (five gm1) handled)))
 
-    -- one of the five goes on to tell
-    one_goes_on : (i s f : ℕ) (old new old' new' : P) → old ≡ old' → new' ≡ new →
-        Handled ports (sends_by (standing_as gm0 settings.capacity []) i did.ran.events) s f old new →
-        ¬ HasRisen (ports.faults old') (ports.faults new') → GoesOn ports old' new' (sends_by (opened_as settings) i did.ran.events)
-    one_goes_on i s f old new old' new' a b h still =
-        let as_here : ¬ HasRisen (ports.faults old) (ports.faults new) =
-        subst (λ p. ¬ HasRisen (ports.faults p) (ports.faults new)) (sym a) (subst (λ p. ¬ HasRisen (ports.faults old') (ports.faults p)) b still) in
-        subst (λ p. GoesOn ports p new' (sends_by (opened_as settings) i did.ran.events)) a
-        (subst (λ p. GoesOn ports old p (sends_by (opened_as settings) i did.ran.events)) (sym b)
-        (subst (λ g. GoesOn ports old new (sends_by g i did.ran.events)) gm_is (h.goes_on (none_failed f _ _ h.risen as_here))))
+    were_handed : WereHanded ports (λ i. sends_by (opened_as settings) i did.ran.events) 0 said.sent (senders_of opened) (senders_of closed)
+    were_handed =
+        subst (λ (l : List P). WereHanded ports (λ i. sends_by (opened_as settings) i did.ran.events) 0 said.sent l (senders_of closed)) senders_opened
+        (subst (λ (l : List P). WereHanded ports (λ i. sends_by (opened_as settings) i did.ran.events) 0 said.sent (five gm0) l) senders_closed
+        (subst (λ n. WereHanded ports (λ i. sends_by (opened_as settings) i did.ran.events) 0 n (five gm0) (five gm1)) (sym sent_is)
+        (subst (λ g. WereHanded ports (λ i. sends_by g i did.ran.events) 0 tally.sent (five gm0) (five gm1)) gm_is
+        (handed_of (λ i. sends_by (standing_as gm0 settings.capacity []) i did.ran.events) 0 tally.sent did.ran.others_failed (five gm0) (five gm1) handled))))
 
-    go_on : GoOn ports (λ i. sends_by (opened_as settings) i did.ran.events) opened closed
-    go_on = each handled
-      where
-        each : AllHandled ports (λ i. sends_by (standing_as gm0 settings.capacity []) i did.ran.events) 0 tally.sent did.ran.others_failed (five gm0) (five gm1) →
-            GoOn ports (λ i. sends_by (opened_as settings) i did.ran.events) opened closed
-        each (s0, f0, t0, g0, d0, e0, h0, (s1, f1, t1, g1, d1, e1, h1, (s2, f2, t2, g2, d2, e2, h2, (s3, f3, t3, g3, d3, e3, h3, (s4, f4, t4, g4, d4, e4, h4, rest))))) = record {
-          p0 = one_goes_on 0 s0 f0 _ _ _ _ p0 q0 h0;
-          p1 = one_goes_on 1 s1 f1 _ _ _ _ p1 q1 h1;
-          p2 = one_goes_on 2 s2 f2 _ _ _ _ p2 q2 h2;
-          p3 = one_goes_on 3 s3 f3 _ _ _ _ p3 q3 h3;
-          p4 = one_goes_on 4 s4 f4 _ _ _ _ p4 q4 h4;
-        }
+    has_happened : Happened ports clocks settings opened closed said.sent
+    has_happened = record {
+      rounds = did.took;
+      taken = did.taken;
+      general = subst (λ p. Gave (ports.waiting opened.p4) (ports.waiting p) (general_of did.took)) (sym q4)
+          (subst (λ p. Gave (ports.waiting p) (ports.waiting gm1.reply) (general_of did.took)) p4 did.ran.general_given);
+      event = subst (λ p. Gave (ports.waiting opened.p5) (ports.waiting p) (event_of did.took)) (sym q5) did.ran.event_given;
+      events = did.ran.events;
+      happened = did.ran.happened;
+      moments = subst (λ c. Takes (clocks.moments opened.c0) (clocks.moments c) (happenings_of settings did.took) did.ran.events) (sym k0) did.ran.takes;
+      lawful = is_lawful settings did.ran.events limits capacity;
+      handed = were_handed;
+    }
 
     module _ (given : Given) (is : IsGiven ports clocks opened closed given) (still : HaveNotRisen (faults_of ports opened) (faults_of ports closed)) where
       none : tally.failed ≡ 0
       none = sym failed_is ∙ none_together said.failed (faults_of ports opened) (faults_of ports closed) risen still
 
-      happened : did.happenings ≡ in_rounds (round_of settings given) settings.rounds
+      happened : happenings_of settings did.took ≡ in_rounds (round_of settings given) settings.rounds
       happened =
           let general = some_is (ports.waiting closed.p4) is.general_still in
           let event_left = some_is (ports.waiting closed.p5) is.event_still in
@@ -249,7 +246,7 @@ module _ {P C : Type 0} (ports : Ports P) (clocks : Clocks C) where
       events : did.ran.events ≡ served_events settings given
       unfolding served_events
       events =
-          events_are (clocks.moments opened.c0) (clocks.moments clock) given.moments did.happenings did.ran.events did.ran.takes is.moments
+          events_are (clocks.moments opened.c0) (clocks.moments clock) given.moments (happenings_of settings did.took) did.ran.events did.ran.takes is.moments
           (subst (λ c. IsSome (clocks.moments c)) k0 is.moments_still)
           ∙ ap (timed given.moments) happened
 
@@ -293,7 +290,6 @@ module _ {P C : Type 0} (ports : Ports P) (clocks : Clocks C) where
         tells2 = one_served (GoesOn ports) 2 _ _ _ _ p2 q2 five_sent.tells2;
         tells3 = one_served (GoesOn ports) 3 _ _ _ _ p3 q3 five_sent.tells3;
         tells4 = one_served (GoesOn ports) 4 _ _ _ _ p4 q4 five_sent.tells4;
-        tells5 = ap ports.has_ceased q5 ∙ did.ran.event_goes_on;
         line = said_is said (served_said settings given)
             (sent_is ∙ five_sent.many ∙ many_are)
             (failed_is ∙ none)
@@ -305,30 +301,12 @@ module _ {P C : Type 0} (ports : Ports P) (clocks : Clocks C) where
               let e0 = ap length (sends 0) in let e1 = ap length (sends 1) in let e2 = ap length (sends 2) in let e3 = ap length (sends 3) in let e4 = ap length (sends 4) in
               omega (arith, e0, e1, e2, e3, e4)
 
-    took : TakesFew ports clocks settings.rounds opened closed
-    took = record {
-      general = did.general;
-      event = did.event;
-      general_few = did.general_few;
-      event_few = did.event_few;
-      general_given = subst (λ p. IfSome (ports.waiting p) (λ later. ports.waiting opened.p4 ≡ Some (did.general ++ later))) (sym q4)
-          (subst (λ p. IfSome (ports.waiting gm1.reply) (λ later. ports.waiting p ≡ Some (did.general ++ later))) p4 did.ran.general_given);
-      event_given = subst (λ p. IfSome (ports.waiting p) (λ later. ports.waiting opened.p5 ≡ Some (did.event ++ later))) (sym q5) did.ran.event_given;
-      moments = length did.happenings;
-      moments_few = did.happenings_few;
-      passed = subst (λ c. PassedBy (length did.happenings) (clocks.moments opened.c0) (clocks.moments c)) (sym k0)
-          (passed_of (clocks.moments opened.c0) (clocks.moments clock) did.happenings did.ran.events did.ran.takes);
-    }
-
     pub serves_of : Serves ports clocks settings opened closed said
     serves_of = record {
-      failed = risen;
-      just = just;
-      quiet = quiet;
+      failures = record { risen = risen; just = just; quiet = quiet };
       sent = were_sent;
-      goes_on = (did.ran.events, go_on);
+      happened = has_happened;
       served = are_served;
-      took = took;
       c1 = k1;
       c2 = k2;
       c3 = k3;

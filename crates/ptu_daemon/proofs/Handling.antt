@@ -1,5 +1,5 @@
 -- What was handed to ports, one after the other, and in several parts.
-use Rattle.std.proofs.Common.{◌≡◌, ◌∙◌, inl, ℕ, ◌+◌, ◌≤◌, true, List, [], ◌∷◌, ◌++◌, length, Option, Some, None, refl, sym, ap, subst, arith, length-append}
+use Rattle.std.proofs.Common.{◌≡◌, ◌∙◌, inl, ℕ, ◌+◌, ◌≤◌, true, List, [], ◌∷◌, ◌++◌, length, Option, Some, None, IsSome, refl, sym, ap, subst, arith, length-append}
 use Rattle.std.specs.{List.{items_where_true}, Option.{option_map}}
 use Rattle.ptu_outside.specs.{declared.port.Port.{Ghosts as Ports}, Departure.{Departure}}
 use Rattle.ptu_outside.specs.Faults.{HasNotFallen, HasRisen, HasRisenBy, HasRisenJust}
@@ -27,10 +27,10 @@ many_of old new sends sent some =
 
 module _ {P : Type 0} (ports : Ports P) where
   -- nothing was sent, and receives may have failed
-  pub handled_idle : (old new : P) (failed : ℕ) → ports.sent new ≡ ports.sent old → ports.has_ceased new ≡ ports.has_ceased old →
+  pub handled_idle : (old new : P) (failed : ℕ) → ports.sent new ≡ ports.sent old →
       HasRisenBy failed (ports.faults old) (ports.faults new) → (ports.counts_once ≡ true → HasRisenJust failed (ports.faults old) (ports.faults new)) →
       (failed ≡ 0 → ports.faults new ≡ ports.faults old) → HasNotFallen (ports.faults old) (ports.faults new) → Handled ports [] 0 failed old new
-  handled_idle old new failed same goes_on risen just quiet no_fall = record {
+  handled_idle old new failed same risen just quiet no_fall = record {
     unsent = 0;
     within = omega arith;
     each = refl;
@@ -40,17 +40,17 @@ module _ {P : Type 0} (ports : Ports P) where
     just = just;
     quiet = quiet;
     no_fall = no_fall;
-    goes_on = λ none few. goes_on;
+    goes_on = λ none few tells. subst IsSome (sym same) tells;
   }
 
-  pub handled_quietly : (old new : P) → ports.sent new ≡ ports.sent old → ports.has_ceased new ≡ ports.has_ceased old → ports.faults new ≡ ports.faults old →
+  pub handled_quietly : (old new : P) → ports.sent new ≡ ports.sent old → ports.faults new ≡ ports.faults old →
       Handled ports [] 0 0 old new
-  handled_quietly old new same goes_on quiet =
-      handled_idle old new 0 same goes_on (inl (omega (arith, quiet))) (λ once. inl (omega (arith, quiet))) (λ none. quiet)
+  handled_quietly old new same quiet =
+      handled_idle old new 0 same (inl (omega (arith, quiet))) (λ once. inl (omega (arith, quiet))) (λ none. quiet)
       (subst (λ n. HasNotFallen (ports.faults old) n) (sym quiet) (not_fallen_none (ports.faults old)))
 
   pub handled_same : (old new : P) → new ≡ old → Handled ports [] 0 0 old new
-  handled_same old new same = handled_quietly old new (ap ports.sent same) (ap ports.has_ceased same) (ap ports.faults same)
+  handled_same old new same = handled_quietly old new (ap ports.sent same) (ap ports.faults same)
 
   -- one after the other, some of which failed
   pub hands_handled : (old new : P) (sends : List Departure) (sent failed : ℕ) → HandsOver ports old new sends sent failed → Handled ports sends sent failed old new
@@ -81,7 +81,7 @@ module _ {P : Type 0} (ports : Ports P) where
     just = λ once. just_both (ports.faults old) (ports.faults now) (ports.faults new) f f' (h.just once) (k.just once) k.no_fall;
     quiet = λ none. k.quiet (omega (arith, none)) ∙ h.quiet (omega (arith, none));
     no_fall = not_fallen_both (ports.faults old) (ports.faults now) (ports.faults new) h.no_fall k.no_fall;
-    goes_on = λ none. goes_on_both ports.ceases_at xs ys (ports.has_ceased old) (ports.has_ceased now) (ports.has_ceased new) (h.goes_on (omega (arith, none))) (k.goes_on (omega (arith, none)));
+    goes_on = λ none. goes_on_both ports.ceases_at xs ys (ports.sent old) (ports.sent now) (ports.sent new) (h.goes_on (omega (arith, none))) (k.goes_on (omega (arith, none)));
   }
 
   -- where the count did not rise, all were sent

@@ -6,6 +6,8 @@ pub mod Running
 pub mod Receiving
 pub mod Channels
 pub mod Rounds
+pub mod Messages
+pub mod Lawful
 pub mod Finishing
 pub mod Halves
 pub mod InTwo

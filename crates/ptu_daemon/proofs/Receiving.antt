@@ -1,5 +1,5 @@
--- That a datagram was received, or none.
-use Rattle.std.proofs.Common.{◌≡◌, ◌∙◌, ℕ, ◌+◌, List, [], ◌∷◌, take, drop, Option, Some, None, Result, Ok, Err, refl, sym, ap, arith}
+-- That a datagram was received, or none, and that the daemon waited.
+use Rattle.std.proofs.Common.{◌≡◌, ◌∙◌, ℕ, ◌+◌, List, [], ◌∷◌, take, drop, Option, Some, None, Result, Ok, Err, refl, sym, ap, subst, arith}
 use Rattle.std.specs.Option.{IfSome}
 use Rattle.ptu_outside.specs.declared.arrival.Arrival.{Arrival}
 use Rattle.ptu_outside.specs.declared.channel.Channel.TheVariants as channels
@@ -7,12 +7,13 @@ use Rattle.ptu_outside.specs.declared.{clock.Clock.{Ghosts as Clocks}, failed.Fa
 use Rattle.ptu_outside.specs.declared.port.Port.{Ghosts as Ports}
 use Rattle.ptu_outside.specs.Telling.{IfTold, IsEmptyTold, IsFirstTold, rest_told}
 use Rattle.ptu_outside.proofs.HandsOver.{just_once}
+use Rattle.ptu_rounds.specs.Taken.{Gave}
 use Rattle.ptu_daemon.specs.declared.daemon.Daemon.{Daemon}
-use Rattle.ptu_daemon.specs.Ran.{Gives, Handled, Ran, Received, Receives, arrived}
+use Rattle.ptu_daemon.specs.Ran.{Handled, Ran, Received, Receives, arrived}
 use Rattle.ptu_daemon.proofs.Handling.{handled_idle, handled_quietly, handled_same}
 use Rattle.ptu_daemon.proofs.Running.{gives_none, ran_quietly}
 
-gives_one : (old new : Option (List Arrival)) (a : Arrival) → IsFirstTold old a → IfTold new (rest_told old) → Gives old new (a ∷ [])
+gives_one : (old new : Option (List Arrival)) (a : Arrival) → IsFirstTold old a → IfTold new (rest_told old) → Gave old new (a ∷ [])
 gives_one old None a first rest = tt
 gives_one None (Some left) a first rest = absurd (cc)
 gives_one (Some []) (Some left) a first rest = absurd (cc)
@@ -21,7 +22,7 @@ gives_one (Some (x ∷ xs)) (Some left) a first rest =
     let two : drop 1 (x ∷ xs) ≡ left = cc in
     ap (λ y. Some (y ∷ xs)) one ∙ ap (λ l. Some (a ∷ l)) two
 
-gives_kept : (old new : Option (List Arrival)) → IfTold new old → Gives old new []
+gives_kept : (old new : Option (List Arrival)) → IfTold new old → Gave old new []
 gives_kept old None kept = tt
 gives_kept old (Some left) kept = kept
 
@@ -38,26 +39,33 @@ lost (Err failed) = 1
 module _ {P C : Type 0} (ports : Ports P) (clocks : Clocks C) where
   receive_handled : (port port' : P) (bytes : List ℕ) (result : Result (Option (ℕ × ℕ)) Failed) → Receives ports port port' bytes result →
       Handled ports [] 0 (lost result) port port'
-  receive_handled port port' bytes (Ok got) r = handled_quietly ports port port' r.sent r.goes_on r.quiet
+  receive_handled port port' bytes (Ok got) r = handled_quietly ports port port' r.sent r.quiet
   receive_handled port port' bytes (Err failed) r =
-      handled_idle ports port port' 1 r.sent r.goes_on r.risen (λ counts. just_once (ports.faults port) (ports.faults port') (r.once counts))
+      handled_idle ports port port' 1 r.sent r.risen (λ counts. just_once (ports.faults port) (ports.faults port') (r.once counts))
       (λ none. absurd (omega (arith, none))) r.no_fall
 
   -- by the port of the general channel
   came_general : (old : Daemon P C) (port' : P) (general : List Arrival) (failed : ℕ) → Handled ports [] 0 failed old.gm.reply port' →
-      Gives (ports.waiting old.gm.reply) (ports.waiting port') general →
+      Gave (ports.waiting old.gm.reply) (ports.waiting port') general →
       Ran ports clocks old (record old { gm = record (old.gm) { reply = port' } }) [] general [] 0 (failed + 0)
   came_general old port' general failed handled gives =
       ran_quietly ports clocks old (record old { gm = record (old.gm) { reply = port' } }) general [] failed 0 refl refl handled
-      refl refl (handled_same ports old.event old.event refl) gives (gives_none (ports.waiting old.event))
+      refl (handled_same ports old.event old.event refl) gives (gives_none (ports.waiting old.event))
 
   came_event : (old : Daemon P C) (port' : P) (event : List Arrival) (failed : ℕ) → ports.sent port' ≡ ports.sent old.event →
-      ports.has_ceased port' ≡ ports.has_ceased old.event → Handled ports [] 0 failed old.event port' →
-      Gives (ports.waiting old.event) (ports.waiting port') event →
+      Handled ports [] 0 failed old.event port' →
+      Gave (ports.waiting old.event) (ports.waiting port') event →
       Ran ports clocks old (record old { event = port' }) [] [] event 0 (0 + failed)
-  came_event old port' event failed sent goes_on handled gives =
+  came_event old port' event failed sent handled gives =
       ran_quietly ports clocks old (record old { event = port' }) [] event 0 failed refl refl (handled_same ports old.gm.reply old.gm.reply refl)
-      sent goes_on handled (gives_none (ports.waiting old.gm.reply)) gives
+      sent handled (gives_none (ports.waiting old.gm.reply)) gives
+
+  -- the port of the event channel may have changed, but for what it tells and counts
+  pub waited : (old : Daemon P C) (port' : P) → ports.sent port' ≡ ports.sent old.event → ports.waiting port' ≡ ports.waiting old.event →
+      ports.faults port' ≡ ports.faults old.event → Ran ports clocks old (record old { event = port' }) [] [] [] 0 0
+  waited old port' sent waits quiet =
+      came_event old port' [] 0 sent (handled_quietly ports old.event port' sent quiet)
+      (subst (λ told. Gave (ports.waiting old.event) told []) (sym waits) (gives_none (ports.waiting old.event)))
 
   pub received_general : (old : Daemon P C) (port' : P) (bytes : List ℕ) (result : Result (Option (ℕ × ℕ)) Failed) →
       Receives ports old.gm.reply port' bytes result →
@@ -79,12 +87,12 @@ module _ {P C : Type 0} (ports : Ports P) (clocks : Clocks C) where
       Received ports clocks channels.Event old (record old { event = port' }) bytes result
   received_event old port' bytes (Ok (Some got)) r = (
     r.within,
-    came_event old port' (arrived got.0 (take got.1 bytes) ∷ []) 0 r.sent r.goes_on (receive_handled old.event port' bytes (Ok (Some got)) r)
+    came_event old port' (arrived got.0 (take got.1 bytes) ∷ []) 0 r.sent (receive_handled old.event port' bytes (Ok (Some got)) r)
         (gives_one (ports.waiting old.event) (ports.waiting port') _ r.first r.rest),
   )
   received_event old port' bytes (Ok None) r = (
-    came_event old port' [] 0 r.sent r.goes_on (receive_handled old.event port' bytes (Ok None) r) (gives_kept (ports.waiting old.event) (ports.waiting port') r.left),
+    came_event old port' [] 0 r.sent (receive_handled old.event port' bytes (Ok None) r) (gives_kept (ports.waiting old.event) (ports.waiting port') r.left),
     left_none (ports.waiting old.event) (ports.waiting port') r.nothing r.left,
   )
   received_event old port' bytes (Err e) r =
-      came_event old port' [] 1 r.sent r.goes_on (receive_handled old.event port' bytes (Err e) r) (gives_kept (ports.waiting old.event) (ports.waiting port') r.kept)
+      came_event old port' [] 1 r.sent (receive_handled old.event port' bytes (Err e) r) (gives_kept (ports.waiting old.event) (ports.waiting port') r.kept)

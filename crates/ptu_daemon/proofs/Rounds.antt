@@ -7,10 +7,11 @@ use Rattle.ptu_outside.specs.declared.arrival.Arrival.{Arrival}
 use Rattle.ptu_outside.specs.declared.channel.Channel.TheVariants as channels
 use Rattle.ptu_outside.specs.declared.{clock.Clock.{Ghosts as Clocks}, port.Port.{Ghosts as Ports}}
 use Rattle.ptu_config.specs.declared.settings.GmSettings.{GmSettings}
-use Rattle.ptu_rounds.specs.Rounds.{in_rounds, left_after, taken_in}
+use Rattle.ptu_rounds.specs.{Rounds.{in_rounds, left_after, taken_in}, Taken.{Gave}}
+use Rattle.ptu_rounds.proofs.Taken.{event_of-push, general_of-push, have_taken-none, have_taken-push, in_these-push}
 use Rattle.ptu_daemon.specs.declared.{daemon.Daemon.{Daemon}, tally.Tally.{Tally}}
-use Rattle.ptu_daemon.specs.Events.{Given, change_in, change_to, round_of, taking, turns}
-use Rattle.ptu_daemon.specs.Ran.{DidRound, DidRounds, Gives, IsSmall, Ran, TookChannel, Waits}
+use Rattle.ptu_daemon.specs.Events.{Given, change_in, happenings_of, round_of, round_with, taking, turns}
+use Rattle.ptu_daemon.specs.Ran.{DidRound, DidRounds, IsSmall, Ran, TookChannel, Waits}
 use Rattle.ptu_daemon.proofs.Running.{ran_as, ran_more, ran_none}
 
 -- ---- a round takes the next of what waits
@@ -47,39 +48,18 @@ next_left n xs ys all left how =
 
 -- ---- what is still told was told
 
-kept_fact : (F : List Arrival → Type 0) (old new : Option (List Arrival)) → Gives old new [] → IfSome old F → IfSome new F
+kept_fact : (F : List Arrival → Type 0) (old new : Option (List Arrival)) → Gave old new [] → IfSome old F → IfSome new F
 kept_fact F old None gives h = tt
 kept_fact F None (Some left) gives h = absurd (cc)
 kept_fact F (Some xs) (Some left) gives h = let same : xs ≡ left = cc in subst F same h
 
-given_before : (old new : Option (List Arrival)) (xs left : List Arrival) → Gives old new xs → new ≡ Some left → old ≡ Some (xs ++ left)
+given_before : (old new : Option (List Arrival)) (xs left : List Arrival) → Gave old new xs → new ≡ Some left → old ≡ Some (xs ++ left)
 given_before old None xs left gives is = absurd (cc)
 given_before old (Some ys) xs left gives is = let same : ys ≡ left = cc in gives ∙ ap (λ l. Some (xs ++ l)) same
 
 if_told : (F : List Arrival → Type 0) (told : Option (List Arrival)) (left : List Arrival) → told ≡ Some left → IfSome told F → F left
 if_told F None left is h = absurd (cc)
 if_told F (Some xs) left is h = let same : xs ≡ left = cc in subst F same h
-
--- ---- how much happens in a round
-
-change_few : (here : Bool) (capacity : Option ℕ) → length (change_to here capacity) ≤ 1
-change_few true (Some capacity) = omega arith
-change_few true None = omega arith
-change_few false capacity = omega arith
-
-round_few : (settings : GmSettings) (before : ℕ) (general event : List Arrival) →
-    length (change_in settings before ++ map taking (general ++ event) ++ turns) ≤ length general + length event + 5
-round_few settings before general event =
-    let change = change_in settings before in
-    let taken = map taking (general ++ event) in
-    omega (
-      arith,
-      length-append (change ++ taken) turns,
-      length-append change taken,
-      change_few (settings.change_round == before + 1) settings.new_capacity,
-      length-map (general ++ event) taking,
-      length-append general event,
-    )
 
 module _ {P C : Type 0} (ports : Ports P) (clocks : Clocks C) where
   -- ---- the parts of a round
@@ -93,10 +73,8 @@ module _ {P C : Type 0} (ports : Ports P) (clocks : Clocks C) where
         failed = begun.failed + general.failed + event.failed + turned.failed;
       })
   did_round settings before d0 d1 d2 d3 d4 begun general event turned a b c d = record {
-    general = b.arrivals;
-    event = c.arrivals;
-    general_few = b.few;
-    event_few = c.few;
+    round = record { general = b.arrivals; event = c.arrivals };
+    within = (b.few, c.few);
     ran = ran_as ports clocks d0 d4 _ _ _ _ _ _ _ _ _ _ (ap (λ l. l ++ turns) happens) (append-nil (b.arrivals ++ []) ∙ append-nil b.arrivals) (append-nil c.arrivals) refl refl
         (ran_more ports clocks d0 d3 d4 _ _ _ _ _ _ _ _ _ _
         (ran_more ports clocks d0 d2 d3 _ _ _ _ _ _ _ _ _ _ (ran_more ports clocks d0 d1 d2 _ _ _ _ _ _ _ _ _ _ a b.ran) c.ran) d);
@@ -115,12 +93,8 @@ module _ {P C : Type 0} (ports : Ports P) (clocks : Clocks C) where
       DidRounds ports clocks settings 0 daemon daemon tally
   unfolding in_rounds
   did_none settings daemon tally (none, none') = record {
-    happenings = [];
-    general = [];
-    event = [];
-    general_few = omega arith;
-    event_few = omega arith;
-    happenings_few = omega arith;
+    took = [];
+    taken = have_taken-none;
     ran = ran_as ports clocks daemon daemon _ _ _ _ _ _ _ _ _ _ refl refl refl (sym none) (sym none') (ran_none ports clocks daemon);
     all = λ given general_left event_left still (w, w') (v, v'). (
       refl,
@@ -138,35 +112,32 @@ module _ {P C : Type 0} (ports : Ports P) (clocks : Clocks C) where
       DidRounds ports clocks settings (before + 1) old new (record { sent = tally.sent + more.sent; failed = tally.failed + more.failed })
   unfolding in_rounds
   did_more settings before old now new tally more h k = record {
-    happenings = h.happenings ++ (change_in settings before ++ map taking (k.general ++ k.event) ++ turns);
-    general = h.general ++ k.general;
-    event = h.event ++ k.event;
-    general_few = omega (arith, length-append h.general k.general, h.general_few, k.general_few);
-    event_few = omega (arith, length-append h.event k.event, h.event_few, k.event_few);
-    happenings_few = omega (arith, length-append h.general k.general, length-append h.event k.event, h.happenings_few, many, length-append h.happenings (change_in settings before ++ map taking (k.general ++ k.event) ++ turns));
-    ran = ran_more ports clocks old now new _ _ _ _ _ _ _ _ _ _ h.ran k.ran;
+    took = h.took ++ k.round ∷ [];
+    taken = have_taken-push h.took before k.round h.taken k.within;
+    ran = ran_as ports clocks old new _ _ _ _ _ _ _ _ _ _ (sym happens) (sym (general_of-push h.took k.round)) (sym (event_of-push h.took k.round)) refl refl
+        (ran_more ports clocks old now new _ _ _ _ _ _ _ _ _ _ h.ran k.ran);
     all = all;
   }
     where
-      many : length (change_in settings before ++ map taking (k.general ++ k.event) ++ turns) ≤ length k.general + length k.event + 5
-      many = round_few settings before k.general k.event
+      happens : happenings_of settings (h.took ++ k.round ∷ []) ≡ happenings_of settings h.took ++ round_with settings before k.round
+      happens = in_these-push (round_with settings) h.took before k.round h.taken
 
       all : (given : Given) (general_left event_left : List Arrival) → tally.failed + more.failed ≡ 0 →
           Waits ports old given.general given.event → Waits ports new general_left event_left →
-          (h.happenings ++ (change_in settings before ++ map taking (k.general ++ k.event) ++ turns) ≡ in_rounds (round_of settings given) (before + 1))
+          (happenings_of settings (h.took ++ k.round ∷ []) ≡ in_rounds (round_of settings given) (before + 1))
           × (general_left ≡ left_after (before + 1) given.general) × (event_left ≡ left_after (before + 1) given.event)
       all given general_left event_left still was (is, is') =
-          let waited = given_before (ports.waiting now.gm.reply) (ports.waiting new.gm.reply) k.general general_left k.ran.general_given is in
-          let waited' = given_before (ports.waiting now.event) (ports.waiting new.event) k.event event_left k.ran.event_given is' in
-          let earlier = h.all given (k.general ++ general_left) (k.event ++ event_left) (omega (arith, still)) was (waited, waited') in
+          let waited = given_before (ports.waiting now.gm.reply) (ports.waiting new.gm.reply) k.round.general general_left k.ran.general_given is in
+          let waited' = given_before (ports.waiting now.event) (ports.waiting new.event) k.round.event event_left k.ran.event_given is' in
+          let earlier = h.all given (k.round.general ++ general_left) (k.round.event ++ event_left) (omega (arith, still)) was (waited, waited') in
           let how = if_told _ (ports.waiting new.gm.reply) general_left is (k.general_drains (omega (arith, still))) in
           let how' = if_told _ (ports.waiting new.event) event_left is' (k.event_drains (omega (arith, still))) in
           let next : suc before ≡ before + 1 = omega arith in (
-            ap₂ (λ l m. l ++ (change_in settings before ++ map taking m ++ turns)) earlier.0
-                (ap₂ (λ l m. l ++ m) (next_taken before k.general general_left given.general earlier.1 how) (next_taken before k.event event_left given.event earlier.2 how'))
+            happens ∙ ap₂ (λ l m. l ++ (change_in settings before ++ map taking m ++ turns)) earlier.0
+                (ap₂ (λ l m. l ++ m) (next_taken before k.round.general general_left given.general earlier.1 how) (next_taken before k.round.event event_left given.event earlier.2 how'))
                 ∙ ap (in_rounds (round_of settings given)) next,
-            next_left before k.general general_left given.general earlier.1 how,
-            next_left before k.event event_left given.event earlier.2 how',
+            next_left before k.round.general general_left given.general earlier.1 how,
+            next_left before k.round.event event_left given.event earlier.2 how',
           )
 
   -- after so many rounds

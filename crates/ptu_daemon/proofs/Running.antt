@@ -1,15 +1,19 @@
 -- What parts of the daemon have done, one after the other.
-use Rattle.std.proofs.Common.{◌≡◌, ◌∙◌, ℕ, ◌+◌, List, [], ◌∷◌, ◌++◌, length, Option, Some, None, refl, sym, ap, subst, arith, append_assoc, length-append, Result, Ok, Err}
+use Rattle.std.proofs.Common.{◌≡◌, ◌∙◌, ℕ, ◌+◌, List, [], ◌∷◌, ◌++◌, flat_map, length, Option, Some, None, refl, sym, ap, subst, arith, append_assoc, length-append, Result, Ok, Err}
 use Rattle.std.specs.{Result.{IfOk}, Option.{option_map}}
 use Rattle.std.proofs.lemmas.List.{append-nil}
 use Rattle.ptu_outside.specs.declared.{arrival.Arrival.{Arrival}, clock.Clock.{Ghosts as Clocks}}
 use Rattle.ptu_outside.specs.{declared.port.Port.{Ghosts as Ports}, Clocks.{after_first}}
 use Rattle.ptu_outside.specs.Telling.{IfTold, IsFirstTold}
-use Rattle.ptu_history.specs.History.{Record}
-use Rattle.ptu_grandmaster.specs.{declared.driving.GmEvent.{GmEvent}, Gm.{StandsFor}}
+use Rattle.ptu_history.specs.{Core.{history_after}, History.{Record}}
+use Rattle.ptu_history.proofs.Histories.{history_after-append}
+use Rattle.ptu_gm_messages.specs.Deciding.{opened_with}
+use Rattle.ptu_grandmaster.specs.{declared.driving.GmEvent.{GmEvent}, Driven.{events_of}, Gm.{StandsFor}}
 use Rattle.ptu_rounds.specs.Rounds.{moments_after, next_of, timed}
-use Rattle.ptu_daemon.specs.{declared.daemon.Daemon.{Daemon}, Events.{Happening}}
-use Rattle.ptu_daemon.specs.Ran.{AllHandled, Does, Gives, Handled, Ran, Takes, after_all, five, standing_as}
+use Rattle.ptu_rounds.specs.Taken.{Gave}
+use Rattle.ptu_rounds.proofs.Taken.{happened-append}
+use Rattle.ptu_daemon.specs.{declared.daemon.Daemon.{Daemon}, Events.{Happening, Takes}}
+use Rattle.ptu_daemon.specs.Ran.{AllHandled, Does, Handled, Ran, after_all, five, standing_as}
 use Rattle.ptu_daemon.specs.Sends.{Standing, event_sends, sends_by, standing_after}
 use Rattle.ptu_daemon.proofs.Handling.{all_more, all_same, five_handled, handled_more, handled_same}
 use Rattle.ptu_lanes.proofs.Moments.{moments_add}
@@ -55,11 +59,11 @@ takes_more old (Some middle) (Some left) xs ys es fs (moments, e, events, after)
 
 -- ---- what waits
 
-pub gives_none : (told : Option (List Arrival)) → Gives told told []
+pub gives_none : (told : Option (List Arrival)) → Gave told told []
 gives_none None = tt
 gives_none (Some left) = refl
 
-gives_more : (old now new : Option (List Arrival)) (xs ys : List Arrival) → Gives old now xs → Gives now new ys → Gives old new (xs ++ ys)
+gives_more : (old now new : Option (List Arrival)) (xs ys : List Arrival) → Gave old now xs → Gave now new ys → Gave old new (xs ++ ys)
 gives_more old now None xs ys h k = tt
 gives_more old None (Some left) xs ys h k = absurd (cc)
 gives_more old (Some middle) (Some left) xs ys h k =
@@ -76,6 +80,15 @@ pub after_is : (gm : Standing) (xs : List GmEvent) → after_all gm xs ≡ recor
 after_is gm [] = refl
 after_is gm (x ∷ xs) = after_is (standing_after gm x) xs
 
+-- the history of the events
+pub after_all-history : (gm : Standing) (events : List GmEvent) →
+    (after_all gm events).past ≡ history_after (opened_with gm.opening gm.config) gm.past (flat_map (events_of gm.config) events)
+unfolding history_after
+after_all-history gm [] = refl
+after_all-history gm (event ∷ later) =
+    after_all-history (standing_after gm event) later
+    ∙ sym (history_after-append (opened_with gm.opening gm.config) gm.past (events_of gm.config event) (flat_map (events_of gm.config) later))
+
 pub sends_by-append : (gm : Standing) (i : ℕ) (xs ys : List GmEvent) → sends_by gm i (xs ++ ys) ≡ sends_by gm i xs ++ sends_by (after_all gm xs) i ys
 unfolding sends_by
 sends_by-append gm i [] ys = refl
@@ -88,19 +101,19 @@ module _ {P C : Type 0} (ports : Ports P) (clocks : Clocks C) where
   pub ran_quietly : (old new : Daemon P C) (general event : List Arrival) (failed event_failed : ℕ) →
       new.gm ≡ record (old.gm) { reply = new.gm.reply } → new.clock ≡ old.clock →
       Handled ports [] 0 failed old.gm.reply new.gm.reply →
-      ports.sent new.event ≡ ports.sent old.event → ports.has_ceased new.event ≡ ports.has_ceased old.event →
+      ports.sent new.event ≡ ports.sent old.event →
       Handled ports [] 0 event_failed old.event new.event →
-      Gives (ports.waiting old.gm.reply) (ports.waiting new.gm.reply) general → Gives (ports.waiting old.event) (ports.waiting new.event) event →
+      Gave (ports.waiting old.gm.reply) (ports.waiting new.gm.reply) general → Gave (ports.waiting old.event) (ports.waiting new.event) event →
       Ran ports clocks old new [] general event 0 (failed + event_failed)
   unfolding sends_by
-  ran_quietly old new general event failed event_failed same clock handled event_sent event_goes_on event_handled gives event_gives = record {
+  ran_quietly old new general event failed event_failed same clock handled event_sent event_handled gives event_gives = record {
     events = [];
     config = ap (λ g. g.config) same;
+    happened = tt;
     takes = subst (λ c. Takes (clocks.moments old.clock) (clocks.moments c) [] []) (sym clock) (takes_none (clocks.moments old.clock));
     general_given = gives;
     event_given = event_gives;
     event_sent = event_sent;
-    event_goes_on = event_goes_on;
     event_failed = event_failed;
     event_handled = event_handled;
     others_failed = failed;
@@ -120,7 +133,7 @@ module _ {P C : Type 0} (ports : Ports P) (clocks : Clocks C) where
   pub ran_none : (daemon : Daemon P C) → Ran ports clocks daemon daemon [] [] [] 0 0
   ran_none daemon =
       ran_quietly daemon daemon [] [] 0 0 refl refl (handled_same ports daemon.gm.reply daemon.gm.reply refl)
-      refl refl (handled_same ports daemon.event daemon.event refl)
+      refl (handled_same ports daemon.event daemon.event refl)
       (gives_none (ports.waiting daemon.gm.reply)) (gives_none (ports.waiting daemon.event))
 
   -- an event has happened at a new moment
@@ -132,11 +145,11 @@ module _ {P C : Type 0} (ports : Ports P) (clocks : Clocks C) where
   ran_event old new t happens sent failed first rest same h = record {
     events = happens t ∷ [];
     config = h.config;
+    happened = ((t, refl), tt);
     takes = takes_one (clocks.moments old.clock) (clocks.moments new.clock) t happens first rest;
-    general_given = subst (λ told. Gives (ports.waiting old.gm.reply) told []) (sym h.waiting) (gives_none (ports.waiting old.gm.reply));
-    event_given = subst (λ p. Gives (ports.waiting old.event) (ports.waiting p) []) (sym same) (gives_none (ports.waiting old.event));
+    general_given = subst (λ told. Gave (ports.waiting old.gm.reply) told []) (sym h.waiting) (gives_none (ports.waiting old.gm.reply));
+    event_given = subst (λ p. Gave (ports.waiting old.event) (ports.waiting p) []) (sym same) (gives_none (ports.waiting old.event));
     event_sent = ap ports.sent same;
-    event_goes_on = ap ports.has_ceased same;
     event_failed = 0;
     event_handled = handled_same ports old.event new.event same;
     others_failed = failed;
@@ -155,11 +168,11 @@ module _ {P C : Type 0} (ports : Ports P) (clocks : Clocks C) where
   ran_more old now new xs ys gs gs' es es' s f s' f' h k = record {
     events = h.events ++ k.events;
     config = k.config ∙ h.config;
+    happened = happened-append xs ys h.events k.events h.happened k.happened;
     takes = takes_more (clocks.moments old.clock) (clocks.moments now.clock) (clocks.moments new.clock) xs ys h.events k.events h.takes k.takes;
     general_given = gives_more (ports.waiting old.gm.reply) (ports.waiting now.gm.reply) (ports.waiting new.gm.reply) gs gs' h.general_given k.general_given;
     event_given = gives_more (ports.waiting old.event) (ports.waiting now.event) (ports.waiting new.event) es es' h.event_given k.event_given;
     event_sent = k.event_sent ∙ h.event_sent;
-    event_goes_on = k.event_goes_on ∙ h.event_goes_on;
     event_failed = h.event_failed + k.event_failed;
     event_handled = handled_more ports old.event now.event new.event [] [] 0 h.event_failed 0 k.event_failed h.event_handled k.event_handled;
     others_failed = h.others_failed + k.others_failed;

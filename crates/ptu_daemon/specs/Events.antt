@@ -1,11 +1,11 @@
 -- What happens to a grandmaster that is served, in order (the project's own choice).
-use Rattle.std.specs.Prelude.{ℕ, ◌+◌, Bool, true, ◌==◌, List, [], ◌∷◌, ◌++◌, map, Option, Some}
+use Rattle.std.specs.Prelude.{◌≡◌, ℕ, ◌+◌, Bool, true, ◌==◌, List, [], ◌∷◌, ◌++◌, length, map, Option, Some, IfSome}
 use Rattle.ptu_outside.specs.declared.{arrival.Arrival.{Arrival}, endpoint.Endpoint.{Endpoint}}
 use Rattle.ptu_profile.specs.declared.grandmaster.GmConfig.{GmConfig}
 use Rattle.ptu_grandmaster.specs.declared.driving.GmEvent.{GmEvent}
 use Rattle.ptu_grandmaster.specs.declared.driving.GmEvent.TheVariants.{Take, Turn, Capacity}
 use Rattle.ptu_config.specs.declared.settings.GmSettings.{GmSettings}
-use Rattle.ptu_rounds.specs.Rounds.{in_rounds, received_in, timed}
+use Rattle.ptu_rounds.specs.{Rounds.{in_rounds, moments_after, taken_in, timed}, Taken.{Round, in_these}}
 
 -- how the grandmaster is set up
 abbrev pub config_of : GmSettings → GmConfig
@@ -50,10 +50,29 @@ change_in settings before = change_to (settings.change_round == before + 1) sett
 abbrev pub turns : List Happening
 turns = (λ t. Turn t 0) ∷ (λ t. Turn t 1) ∷ (λ t. Turn t 2) ∷ (λ t. Turn t 3) ∷ []
 
--- what happens in such a round: the change, what is received of both channels, and the turns
+-- what happens in such a round, which took this: the change, the datagrams, those of the general channel first, and the turns
+abbrev pub round_with : GmSettings → ℕ → Round → List Happening
+round_with settings before round =
+    change_in settings before ++ map taking (round.general ++ round.event) ++ turns
+
+-- what happens in rounds that took these, from the first round on
+abbrev pub happenings_of : GmSettings → List Round → List Happening
+happenings_of settings rounds = in_these (round_with settings) 0 rounds
+
+-- what a round takes where this is given
+abbrev pub round_given : Given → ℕ → Round
+round_given given before =
+    record { general = taken_in before given.general; event = taken_in before given.event }
+
+-- what happens in it
 abbrev pub round_of : GmSettings → Given → ℕ → List Happening
-round_of settings given before =
-    change_in settings before ++ map taking (received_in before given.general given.event) ++ turns
+round_of settings given before = round_with settings before (round_given given before)
+
+-- the moments of a clock that told these before, and tells these after, were taken for what happens, one after the other
+abbrev pub Takes : Option (List ℕ) → Option (List ℕ) → List Happening → List GmEvent → Type 0
+Takes old new happenings events =
+    IfSome new (λ left. (moments : List ℕ) × (old ≡ Some moments) × (events ≡ timed moments happenings)
+    × (left ≡ moments_after (length happenings) moments))
 
 -- the events of all rounds, each at a new moment
 unfoldable pub served_events : GmSettings → Given → List GmEvent

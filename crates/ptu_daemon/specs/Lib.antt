@@ -1,6 +1,7 @@
 pub mod Events
 pub mod Sends
 pub mod Served
+pub mod Lawful
 pub mod Answers
 pub mod Serving
 pub mod Counting

@@ -1,5 +1,5 @@
 -- What a part of the daemon has done so far.
-use Rattle.std.specs.Prelude.{◌≡◌, ◌⊎◌, ℕ, ◌+◌, ◌*◌, ◌^◌, ◌≤◌, List, [], ◌∷◌, ◌++◌, length, map, take, true, Option, Some, None, Result, Ok, Err, IfSome, IfNone, IfOk, OnOk, OnErr}
+use Rattle.std.specs.Prelude.{◌≡◌, ◌⊎◌, ℕ, ◌+◌, ◌*◌, ◌^◌, ◌≤◌, List, [], ◌∷◌, length, map, take, true, Option, Some, None, Result, Ok, Err, IfSome, IfNone, IfOk, OnOk, OnErr}
 use Rattle.ptu_outside.specs.declared.{arrival.Arrival.{Arrival}, channel.Channel.{Channel}}
 use Rattle.ptu_outside.specs.declared.channel.Channel.TheVariants as channels
 use Rattle.ptu_outside.specs.declared.{clock.Clock.{Ghosts as Clocks}, failed.Failed.{Failed}}
@@ -11,11 +11,12 @@ use Rattle.ptu_history.specs.History.{Record}
 use Rattle.ptu_grandmaster.specs.{declared.driving.GmEvent.{GmEvent}, Gm.{KeptGm, StandsFor}}
 use Rattle.ptu_lanes.specs.Sending.{GoesOn, WasSent}
 use Rattle.ptu_config.specs.declared.settings.GmSettings.{GmSettings}
-use Rattle.ptu_rounds.specs.Rounds.{in_rounds, left_after, moments_after, most, timed}
+use Rattle.ptu_rounds.specs.Rounds.{in_rounds, left_after, most}
+use Rattle.ptu_rounds.specs.Taken.{Gave, HappenedAt, HaveTaken, IsWithin, Round, event_of, general_of}
 use Rattle.ptu_daemon.specs.declared.{daemon.Daemon.{Daemon}, next.Next.{Next}}
 use Rattle.ptu_daemon.specs.declared.next.Next.TheVariants as nexts
 use Rattle.ptu_daemon.specs.declared.tally.Tally.{Tally}
-use Rattle.ptu_daemon.specs.Events.{Given, Happening, change_in, round_of, taking, turns}
+use Rattle.ptu_daemon.specs.Events.{Given, Happening, Takes, happenings_of, round_of, round_with, taking}
 use Rattle.ptu_daemon.specs.Sends.{Standing, event_sends, sends_by, standing_after}
 
 -- ---- one port
@@ -46,10 +47,6 @@ AllHandled ports sends i sent failed (old ∷ olds) (new ∷ news) =
     × AllHandled ports sends (i + 1) s' f' olds news
 AllHandled ports sends i sent failed _ _ = ⊥
 
--- the port gave these, the first that waited
-abbrev pub Gives : Option (List Arrival) → Option (List Arrival) → List Arrival → Type 0
-Gives old new arrivals = IfSome new (λ left. old ≡ Some (arrivals ++ left))
-
 -- ---- one event
 
 -- the five ports of a grandmaster
@@ -75,21 +72,15 @@ abbrev pub after_all : Standing → List GmEvent → Standing
 after_all gm [] = gm
 after_all gm (event ∷ later) = after_all (standing_after gm event) later
 
--- the moments of the clock were taken for what happens, one after the other
-abbrev pub Takes : Option (List ℕ) → Option (List ℕ) → List Happening → List GmEvent → Type 0
-Takes old new happenings events =
-    IfSome new (λ left. (moments : List ℕ) × (old ≡ Some moments) × (events ≡ timed moments happenings)
-    × (left ≡ moments_after (length happenings) moments))
-
 -- this happened, these were received of the two channels, and so many datagrams were sent and so many sends and receives failed
 pub record Ran {P C : Type 0} (ports : Ports P) (clocks : Clocks C) (old new : Daemon P C) (happenings : List Happening) (general event : List Arrival) (sent failed : ℕ) : Type 0 where
   pub events : List GmEvent
   pub config : new.gm.config ≡ old.gm.config
+  pub happened : HappenedAt happenings events
   pub takes : Takes (clocks.moments old.clock) (clocks.moments new.clock) happenings events
-  pub general_given : Gives (ports.waiting old.gm.reply) (ports.waiting new.gm.reply) general
-  pub event_given : Gives (ports.waiting old.event) (ports.waiting new.event) event
+  pub general_given : Gave (ports.waiting old.gm.reply) (ports.waiting new.gm.reply) general
+  pub event_given : Gave (ports.waiting old.event) (ports.waiting new.event) event
   pub event_sent : ports.sent new.event ≡ ports.sent old.event
-  pub event_goes_on : ports.has_ceased new.event ≡ ports.has_ceased old.event
   -- of the failures, those at the port of the event channel
   pub event_failed : ℕ
   pub event_handled : Handled ports [] 0 event_failed old.event new.event
@@ -123,7 +114,6 @@ pub record Receives {P : Type 0} (ports : Ports P) (port port' : P) (bytes : Lis
   pub once : OnErr result (ports.counts_once ≡ true → ports.faults port' ≡ one_more (ports.faults port))
   pub quiet : OnOk result (ports.faults port' ≡ ports.faults port)
   pub no_fall : HasNotFallen (ports.faults port) (ports.faults port')
-  pub goes_on : ports.has_ceased port' ≡ ports.has_ceased port
 
 -- of what is received of one channel, that of the general, and of the event channel
 abbrev pub on_general : Channel → List Arrival → List Arrival
@@ -172,13 +162,11 @@ pub record TookChannel {P C : Type 0} (ports : Ports P) (clocks : Clocks C) (cha
 
 -- the daemon did a round, before which there were so many
 pub record DidRound {P C : Type 0} (ports : Ports P) (clocks : Clocks C) (settings : GmSettings) (before : ℕ) (old new : Daemon P C) (tally : Tally) : Type 0 where
-  pub general : List Arrival
-  pub event : List Arrival
-  pub general_few : length general ≤ most
-  pub event_few : length event ≤ most
-  pub ran : Ran ports clocks old new (change_in settings before ++ map taking (general ++ event) ++ turns) general event tally.sent tally.failed
-  pub general_drains : Drains ports tally.failed new.gm.reply general
-  pub event_drains : Drains ports tally.failed new.event event
+  pub round : Round
+  pub within : IsWithin round
+  pub ran : Ran ports clocks old new (round_with settings before round) round.general round.event tally.sent tally.failed
+  pub general_drains : Drains ports tally.failed new.gm.reply round.general
+  pub event_drains : Drains ports tally.failed new.event round.event
 
 -- ---- rounds
 
@@ -188,14 +176,10 @@ Waits ports daemon general event = (ports.waiting daemon.gm.reply ≡ Some gener
 
 -- the daemon did so many rounds
 pub record DidRounds {P C : Type 0} (ports : Ports P) (clocks : Clocks C) (settings : GmSettings) (rounds : ℕ) (old new : Daemon P C) (tally : Tally) : Type 0 where
-  pub happenings : List Happening
-  pub general : List Arrival
-  pub event : List Arrival
-  pub general_few : length general ≤ most * rounds
-  pub event_few : length event ≤ most * rounds
-  pub happenings_few : length happenings ≤ length general + length event + 5 * rounds
-  pub ran : Ran ports clocks old new happenings general event tally.sent tally.failed
+  pub took : List Round
+  pub taken : HaveTaken took rounds
+  pub ran : Ran ports clocks old new (happenings_of settings took) (general_of took) (event_of took) tally.sent tally.failed
   pub all : (given : Given) (general_left event_left : List Arrival) → tally.failed ≡ 0 →
       Waits ports old given.general given.event → Waits ports new general_left event_left →
-      (happenings ≡ in_rounds (round_of settings given) rounds)
+      (happenings_of settings took ≡ in_rounds (round_of settings given) rounds)
       × (general_left ≡ left_after rounds given.general) × (event_left ≡ left_after rounds given.event)

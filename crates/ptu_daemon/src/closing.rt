@@ -36,7 +36,7 @@ impl fmt::Display for Closing {
     }
 }
 
-/// The last line.
+/// The closing line of the daemon, as text.
 pub(crate) fn closing_text(alloc: Global, closing: &Closing) -> Result<String, OutOfMemory>
     ensures { IfOk result (λ text.
         string_bytes text ≡ closing_line closing.now.rounds (said_by closing.now)) }

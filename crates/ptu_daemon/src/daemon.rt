@@ -1,7 +1,7 @@
 //! A grandmaster with the port of its event channel and its clock, and the rounds that it does.
 
 ghost use Rattle.std.specs.Prelude.{◌≡◌, ◌<◌, ◌+◌, ◌^◌, ◌∷◌, [], true, IfOk, IfSome};
-ghost use Rattle.ptu_profile.specs.Limits.{IsCapacity};
+ghost use Rattle.ptu_units.specs.Limits.{IsCapacity};
 ghost use Rattle.ptu_grandmaster.specs.declared.driving.GmEvent.{GmEvent};
 ghost use Rattle.ptu_config.specs.Limits.{IsGmInRange};
 ghost use Rattle.ptu_daemon.specs.Events.{change_in, change_to, taking, turns};
@@ -13,8 +13,8 @@ use crate::tally::Tally;
 use ptu_config::GmSettings;
 use ptu_grandmaster::Gm;
 use ptu_outside::{Channel, Clock, Failed, Port};
-use ptu_units::OutOfMemory;
 use ptu_units::sizes::LONGEST_DATAGRAM;
+use ptu_units::{Moment, OutOfMemory};
 
 /// How many datagrams of a channel a round takes at most.
 const MOST: u32 = 64;
@@ -43,6 +43,16 @@ fn change_before(settings: &GmSettings, before: u32) -> Option<u64>
         settings.new_capacity
     } else {
         None
+    }
+}
+
+// The last moment that there is, 146 years after the zero that moments count from.
+fn last_moment() -> Moment
+    ensures { result + 1 ≡ 2 ^ 62 }
+{
+    match Moment::of((1 << 62) - 1) {
+        Some(moment) => moment,
+        None => Moment::default(),
     }
 }
 
@@ -77,6 +87,25 @@ impl<P: Port, C: Clock> Daemon<P, C> {
         let second = first.plus(self.turn(1));
         let third = second.plus(self.turn(2));
         third.plus(self.turn(3))
+    }
+
+    // Waits until a datagram is there to receive or a message may be due, as long as the port of
+    // the event channel does. It takes no moment of the clock.
+    fn wait(&mut self)
+        ensures { Ran P.Port C.Clock self.old self.new [] [] [] 0 0 }
+    {
+        let due = self.gm.next_due(last_moment());
+        self.event.wait(due);
+    }
+
+    // All tables take a turn, and the daemon waits.
+    fn turn_and_wait(&mut self) -> Tally
+        ensures ran { Ran P.Port C.Clock self.old self.new turns [] [] result.sent result.failed }
+        ensures small { IsSmall 4 result }
+    {
+        let turned = self.turn_tables();
+        self.wait();
+        turned
     }
 
     // Changes the capacity at a new moment.
@@ -174,11 +203,11 @@ impl<P: Port, C: Clock> Daemon<P, C> {
         let begun = self.begin(settings, before)?;
         let general = self.take_channel(Channel::General)?;
         let event = self.take_channel(Channel::Event)?;
-        let turned = self.turn_tables();
+        let turned = self.turn_and_wait();
         Ok(begun.plus(general).plus(event).plus(turned))
     }
 
-    /// Does all rounds.
+    /// Does all rounds of the settings, and counts what was sent and what failed.
     pub(crate) fn rounds(&mut self, settings: &GmSettings) -> Result<Tally, OutOfMemory>
         requires range { IsGmInRange settings.now }
         ensures did { IfOk result (λ tally.

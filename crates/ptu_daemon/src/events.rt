@@ -1,7 +1,7 @@
 //! Events of a grandmaster, with what was sent by each.
 
 ghost use Rattle.std.specs.Prelude.{◌≡◌, ◌<◌, IfOk};
-ghost use Rattle.ptu_profile.specs.Limits.{IsCapacity};
+ghost use Rattle.ptu_units.specs.Limits.{IsCapacity};
 ghost use Rattle.ptu_grandmaster.specs.declared.driving.GmEvent.{GmEvent};
 ghost use Rattle.ptu_daemon.specs.{Counting.{failed_for, sent_for}, Ran.{Does, IsSmall}};
 

@@ -1,4 +1,4 @@
-//! What holds of all that a grandmaster sends. The function does nothing: its contract is the law.
+//! What holds of all that a grandmaster sends. Each function does nothing: its contract is the law.
 
 ghost use Rattle.std.specs.{Prelude.{◌≡◌, ℕ, List, false}, List.{AllByRecursion}};
 ghost use Rattle.ptu_units.specs.declared.kind.Kind.{Kind};
@@ -6,9 +6,22 @@ ghost use Rattle.ptu_history.specs.declared.client.Client.{Client};
 ghost use Rattle.ptu_profile.specs.declared.grandmaster.GmConfig.{GmConfig};
 ghost use Rattle.ptu_gm_messages.specs.Replies.{cancels_to};
 ghost use Rattle.ptu_grandmaster.specs.declared.driving.GmEvent.{GmEvent};
+ghost use Rattle.ptu_config.specs.{declared.settings.GmSettings.{GmSettings}, Limits.{IsGmInRange}};
 ghost use Rattle.ptu_lanes.specs.Rounds.{Exchange, replies};
+ghost use Rattle.ptu_daemon.specs.Lawful.{IsLawful};
 ghost use Rattle.ptu_daemon.specs.Sends.{Standing, sends_by};
 ghost use Rattle.ptu_twostep.specs.{Pairs.{step_at}, Telling.{is_half}};
+
+/// What a grandmaster of settings in their ranges is made to send is lawful, whatever events come:
+/// held never above what is in force; each REQUEST within the profile granted exactly where it fits
+/// beside the other live grants, and else answered with the duration zero, in the one reply to its
+/// datagram; each timing message pays a period of its own inside a live grant; up to each moment no
+/// more than the capacity summed up to it; and what goes by the port of a table are just the
+/// messages of the history to its clients, by moment, client, kind and number.
+pub fn sends_are_lawful()
+    ensures { (settings : GmSettings) (events : List GmEvent) → IsGmInRange settings
+        → IsLawful settings events }
+{}
 
 /// Nothing that a grandmaster sends is a Sync in two steps or a Follow_Up: what events make it send
 /// by any of its ports, and the replies and CANCELs of lanes.

@@ -12,7 +12,7 @@ mod serving;
 mod tally;
 mod two_steps;
 
-pub use laws::sends_no_half;
+pub use laws::{sends_are_lawful, sends_no_half};
 pub use ptu_rounds::DaemonFault;
 pub use serving::serve;
 pub use two_steps::serve_in_two_steps;

@@ -7,7 +7,7 @@ use crate::tally::Tally;
 pub(crate) enum Next {
     /// It was received and taken, and so much was sent for it.
     Taken(Tally),
-    /// None waits.
+    /// No datagram waits on the channel.
     Nothing,
     /// The receive failed.
     Failed,

@@ -11,7 +11,7 @@ pub(crate) struct Tally {
 }
 
 impl Tally {
-    /// Both together.
+    /// The sum of two tallies.
     pub(crate) fn plus(self, more: Tally) -> Tally
         requires sent { self.sent + more.sent < 2 ^ 128 }
         requires failed { self.failed + more.failed < 2 ^ 128 }

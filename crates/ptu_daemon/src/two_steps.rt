@@ -17,7 +17,8 @@ use std::thread::Threads;
 /// its Follow_Up did.
 ///
 /// # Errors
-/// Those of `serve`.
+/// `Open` if the host does not open; `Write` if the sink does not take the line; and `OutOfMemory`,
+/// after which the ports and clocks are dropped.
 pub fn serve_in_two_steps<W: Threads + Wait + Sync, H: Host, K: Sink>(
     rt: &W,
     alloc: Global,

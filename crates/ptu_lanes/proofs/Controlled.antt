@@ -127,8 +127,8 @@ controlled_some ports settings config capacity e l shed p0 p1 p2 p3 left old sea
       answered = All-append (IsAnswered config) p.exchanges q.exchanges p.answered q.answered;
       told = told_both (ports.sent p0) (ports.sent p2) (ports.sent p3) (replies config p.exchanges ++ cancels_to config 0 shed) (replies config q.exchanges)
           (told_both (ports.sent p0) (ports.sent p1) (ports.sent p2) (replies config p.exchanges) (cancels_to config 0 shed) p.told (hands.all still)) q.told;
-      goes_on = goes_on_both ports.ceases_at (replies config p.exchanges ++ cancels_to config 0 shed) (replies config q.exchanges) (ports.has_ceased p0) (ports.has_ceased p2) (ports.has_ceased p3)
-          (goes_on_both ports.ceases_at (replies config p.exchanges) (cancels_to config 0 shed) (ports.has_ceased p0) (ports.has_ceased p1) (ports.has_ceased p2) p.goes_on (hands.goes_on none)) q.goes_on;
+      goes_on = goes_on_both ports.ceases_at (replies config p.exchanges ++ cancels_to config 0 shed) (replies config q.exchanges) (ports.sent p0) (ports.sent p2) (ports.sent p3)
+          (goes_on_both ports.ceases_at (replies config p.exchanges) (cancels_to config 0 shed) (ports.sent p0) (ports.sent p1) (ports.sent p2) p.goes_on (hands.goes_on none)) q.goes_on;
       granted_are = let a = p.granted in let b = q.granted in omega (arith, granted, a, b, grants_in-append p.exchanges q.exchanges);
       counted = let a = p.counted in let b = q.counted in omega (arith, granted, refused, a, b, asks_in-append config p.exchanges q.exchanges);
     }
@@ -272,7 +272,7 @@ pub serves_by_lanes : {P C : Type 0} (ports : Ports P) (clocks : Clocks C) (sett
     Exchanged ports clocks config (64 * settings.rounds) (change_moments settings) opened.p4 control opened.c0 c0 no_verdicts counts →
     (¬ HasRisen (ports.faults opened.p5) (ports.faults event) → GaveFirst (64 * settings.rounds) (ports.waiting opened.p5) (ports.waiting event)) →
     Took ports clocks (64 * settings.rounds) 0 opened.p5 event opened.c1 c1 →
-    ports.sent event ≡ ports.sent opened.p5 → ports.has_ceased event ≡ ports.has_ceased opened.p5 →
+    ports.sent event ≡ ports.sent opened.p5 →
     HaveTurned clocks settings.senders settings.rounds begun turned →
     HaveFailed ports.counts_once failed (ports.faults opened.p4) (ports.faults control) → HaveFailed ports.counts_once missed (ports.faults opened.p5) (ports.faults event) →
     (closed.p4 ≡ control) × (closed.p5 ≡ event) →
@@ -280,7 +280,7 @@ pub serves_by_lanes : {P C : Type 0} (ports : Ports P) (clocks : Clocks C) (sett
     TablesAreBack ports seen closed totals.failed failed missed →
     (totals.granted ≡ counts.granted) × (totals.refused ≡ counts.refused) → totals.held ≤ most →
     ServesByLanes ports clocks settings config opened closed (numbers_of totals)
-serves_by_lanes ports clocks settings config opened closed totals control event c0 c1 begun turned counts failed missed most seen is opens begins controlled exchanged gave took unsent goes_on turns of_control of_event same moved back counted within =
+serves_by_lanes ports clocks settings config opened closed totals control event c0 c1 begun turned counts failed missed most seen is opens begins controlled exchanged gave took unsent turns of_control of_event same moved back counted within =
     record {
       within = omega (arith, is, within);
       control = rw (same.0, counted.0, counted.1) controlled;
@@ -288,7 +288,6 @@ serves_by_lanes ports clocks settings config opened closed totals control event 
       event = rw (same.1) gave;
       took = rw (same.1, moved.1) took;
       unsent = ap ports.sent same.1 ∙ unsent;
-      goes_on = ap ports.has_ceased same.1 ∙ goes_on;
       turned0 = rw (moved.2) (rw begins.0 at turns.first);
       turned1 = rw (moved.3) (rw begins.1 at turns.second);
       turned2 = rw (moved.4) (rw begins.2 at turns.third);

@@ -1,6 +1,6 @@
 -- What a lane has served, call by call.
 use Rattle.std.proofs.Common.{◌≡◌, ◌∙◌, ◌⊎◌, inl, inr, ℕ, ◌+◌, ◌≤◌, ◌<◌, ◌++◌, List, [], ◌∷◌, length, length-append, refl, sym, ap, subst, arith, Option, Some, None, Result, Ok, Err}
-use Rattle.std.specs.{Prelude.{IfOk, IfSome, option_map, true, false}, List.{AllByRecursion}}
+use Rattle.std.specs.{Prelude.{IfOk, IfSome, IsSome, option_map, true, false}, List.{AllByRecursion}}
 use Rattle.std.proofs.lemmas.List.{append-nil, length-map, map-append}
 use Rattle.std.proofs.lemmas.List.{Elements.{All-append, All-cons, All-nil}, Sums.{sum_by-append}}
 use Rattle.std.proofs.lemmas.Grind.{flat_map-append}
@@ -32,11 +32,11 @@ use Rattle.ptu_lanes.specs.Sending.{GoesOn, WasSent}
 
 -- the port is as it was but for what it received, and for its count of faults
 pub served_none : {P : Type 0} (ports : Ports P) (config : GmConfig) (port port' : P) (failed : ℕ) (counts : Counts) →
-    IfTold (ports.waiting port') (ports.waiting port) → ports.sent port' ≡ ports.sent port → ports.has_ceased port' ≡ ports.has_ceased port →
+    IfTold (ports.waiting port') (ports.waiting port) → ports.sent port' ≡ ports.sent port →
     HasRisenBy failed (ports.faults port) (ports.faults port') → (ports.counts_once ≡ true → HasRisenJust failed (ports.faults port) (ports.faults port')) →
     (failed ≡ 0 → ports.faults port' ≡ ports.faults port) → HasNotFallen (ports.faults port) (ports.faults port') →
     HasServed ports config [] port port' counts counts 0 0 failed
-served_none ports config port port' failed counts kept unsent goes_on risen just quiet no_fall = record {
+served_none ports config port port' failed counts kept unsent risen just quiet no_fall = record {
   given = kept_is (ports.waiting port) (ports.waiting port') kept;
   answered = All-nil (IsAnswered config);
   granted = omega arith;
@@ -51,12 +51,12 @@ served_none ports config port port' failed counts kept unsent goes_on risen just
   no_fall = no_fall;
   sent_are = λ same. refl;
   told = λ same. subst (λ (told : Option (List Departure)). IfTold told (append_told (ports.sent port) [])) (sym unsent) (told_none (ports.sent port));
-  goes_on = λ none few. goes_on;
+  goes_on = λ none few tells. subst IsSome (sym unsent) tells;
 }
 
 pub nothing_yet : {P : Type 0} (ports : Ports P) (config : GmConfig) (port : P) (counts : Counts) → HasServed ports config [] port port counts counts 0 0 0
 nothing_yet ports config port counts =
-    served_none ports config port port 0 counts (IfTold-refl (ports.waiting port)) refl refl (inl (omega arith)) (λ once. inl (omega arith)) (λ none. refl)
+    served_none ports config port port 0 counts (IfTold-refl (ports.waiting port)) refl (inl (omega arith)) (λ once. inl (omega arith)) (λ none. refl)
     (not_fallen_none (ports.faults port))
 
 -- ---- one after the other
@@ -96,7 +96,7 @@ served-append ports config xs ys p0 p1 p2 old seat new asks sent failed asks2 se
       (q.told (λ rises. same (rises_second (ports.faults p0) (ports.faults p1) (ports.faults p2) p.no_fall rises))));
   goes_on = λ none.
       subst (λ ds. GoesOn ports p0 p2 ds) (sym replies_are)
-      (goes_on_both ports.ceases_at (replies config xs) (replies config ys) (ports.has_ceased p0) (ports.has_ceased p1) (ports.has_ceased p2)
+      (goes_on_both ports.ceases_at (replies config xs) (replies config ys) (ports.sent p0) (ports.sent p1) (ports.sent p2)
       (p.goes_on (omega (arith, none))) (q.goes_on (omega (arith, none))));
 }
   where
@@ -122,10 +122,10 @@ at_most_one ports config e port port' old new asks sent failed r =
 -- a datagram that was received, and then answered
 pub served_received : {P : Type 0} (ports : Ports P) (config : GmConfig) (e : Exchange) (port now port' : P) (old new : Counts) (asks sent failed : ℕ) →
     IsFirstTold (ports.waiting port) e.datagram → IfTold (ports.waiting now) (rest_told (ports.waiting port)) →
-    ports.sent now ≡ ports.sent port → ports.faults now ≡ ports.faults port → ports.has_ceased now ≡ ports.has_ceased port →
+    ports.sent now ≡ ports.sent port → ports.faults now ≡ ports.faults port →
     HasReplied ports config e now port' old new asks sent failed →
     HasServed ports config (e ∷ []) port port' old new asks sent failed
-served_received ports config e port now port' old new asks sent failed first rest unsent faults goes_on r =
+served_received ports config e port now port' old new asks sent failed first rest unsent faults r =
     let many : asks ≡ asks_among (items_of config e.datagram) = let a = r.asks_are in let b = r.answered.counted in omega arith in
     record {
       given = first_given e.datagram (ports.waiting port) (ports.waiting port') first (subst (λ l. IfTold l (rest_told (ports.waiting port))) (sym r.hands.waiting) rest);
@@ -147,8 +147,8 @@ served_received ports config e port now port' old new asks sent failed first res
           subst (λ (before : Option (List Departure)). IfTold (ports.sent port') (append_told before (reply_in config e ++ []))) unsent
           (subst (λ ds. IfTold (ports.sent port') (append_told (ports.sent now) ds)) (sym (append-nil (reply_in config e)))
           (r.hands.all (subst (λ n. ¬ HasRisen n (ports.faults port')) (sym faults) same)));
-      goes_on = λ none few.
-          r.hands.goes_on none (subst (AllByRecursion (λ d. ports.ceases_at d ≡ false)) (append-nil (reply_in config e)) few) ∙ goes_on;
+      goes_on = λ none few tells.
+          r.hands.goes_on none (subst (AllByRecursion (λ d. ports.ceases_at d ≡ false)) (append-nil (reply_in config e)) few) (subst IsSome (sym unsent) tells);
     }
 
 -- ---- a whole round

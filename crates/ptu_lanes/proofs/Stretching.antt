@@ -62,7 +62,7 @@ rounds_none ports config port counts = of (ports.waiting port) refl
       rest = refl;
       answered = All-nil (IsAnswered config);
       told = told_none (ports.sent port);
-      goes_on = λ few. refl;
+      goes_on = λ few tells. tells;
       granted = omega arith;
       counted = omega arith;
     }
@@ -94,7 +94,7 @@ rounds-append ports config n m p0 p1 p2 left old now new earlier q =
       told = subst (λ ds. WasSent ports p0 p2 ds) (sym sent)
           (told_both (ports.sent p0) (ports.sent p1) (ports.sent p2) (replies config p.exchanges) (replies config q.exchanges) p.told q.told);
       goes_on = subst (λ ds. GoesOn ports p0 p2 ds) (sym sent)
-          (goes_on_both ports.ceases_at (replies config p.exchanges) (replies config q.exchanges) (ports.has_ceased p0) (ports.has_ceased p1) (ports.has_ceased p2) p.goes_on q.goes_on);
+          (goes_on_both ports.ceases_at (replies config p.exchanges) (replies config q.exchanges) (ports.sent p0) (ports.sent p1) (ports.sent p2) p.goes_on q.goes_on);
       granted = let a = p.granted in let b = q.granted in omega (arith, sum_by-append (λ (e : Exchange). grants_among e.answers) p.exchanges q.exchanges);
       counted = let a = p.counted in let b = q.counted in omega (arith, asks-append config p.exchanges q.exchanges);
     }
@@ -170,20 +170,18 @@ module _ {P C : Type 0} (ports : Ports P) (clocks : Clocks C) where
     gave = λ same. gave_none (ports.waiting port);
     took = took_up_to ports clocks 0 0 0 port port clock clock (none_taken ports clocks port clock) (omega arith);
     unsent = refl;
-    goes_on = refl;
     failures = λ start f. f;
     no_fall = not_fallen_none (ports.faults port);
   }
 
   pub delays_one : (port port' : P) (clock clock' : C) (missed failed failed' : ℕ) →
       (¬ HasRisen (ports.faults port) (ports.faults port') → GaveFirst 64 (ports.waiting port) (ports.waiting port')) → Took ports clocks 64 0 port port' clock clock' →
-      ports.sent port' ≡ ports.sent port → ports.has_ceased port' ≡ ports.has_ceased port → HaveFailed ports.counts_once missed (ports.faults port) (ports.faults port') →
+      ports.sent port' ≡ ports.sent port → HaveFailed ports.counts_once missed (ports.faults port) (ports.faults port') →
       failed' ≡ min (failed + missed) (2 ^ 64 - 1) → TookDelayReqs ports clocks 1 port port' clock clock' failed failed'
-  delays_one port port' clock clock' missed failed failed' gave took unsent goes_on failures is = record {
+  delays_one port port' clock clock' missed failed failed' gave took unsent failures is = record {
     gave = gave;
     took = took;
     unsent = unsent;
-    goes_on = goes_on;
     failures = counts_more ports.counts_once (ports.faults port) (ports.faults port') failed missed failed' failures is;
     no_fall = failures.no_fall;
   }
@@ -196,7 +194,6 @@ module _ {P C : Type 0} (ports : Ports P) (clocks : Clocks C) where
         (q.gave (λ rises. same (rises_second (ports.faults p0) (ports.faults p1) (ports.faults p2) p.no_fall rises)));
     took = took-append ports clocks (64 * (n + m)) (64 * n) (64 * m) 0 p0 p1 p2 c0 c1 c2 (omega arith) p.took q.took;
     unsent = q.unsent ∙ p.unsent;
-    goes_on = q.goes_on ∙ p.goes_on;
     failures = λ start f. q.failures start (p.failures start f);
     no_fall = not_fallen_both (ports.faults p0) (ports.faults p1) (ports.faults p2) p.no_fall q.no_fall;
   }

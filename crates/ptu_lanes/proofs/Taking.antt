@@ -54,7 +54,6 @@ module _ {P C : Type 0} (ports : Ports P) (clocks : Clocks C) where
     many = refl;
     given = kept_is (ports.waiting port) (ports.waiting port) (IfTold-refl (ports.waiting port));
     unsent = refl;
-    goes_on = refl;
     failures = failed_none ports.counts_once (ports.faults port);
     moments = passed_none (clocks.moments clock);
   }
@@ -66,35 +65,32 @@ module _ {P C : Type 0} (ports : Ports P) (clocks : Clocks C) where
     many = length-append p.taken q.taken ∙ omega (arith, p.many, q.many);
     given = given_more p.taken q.taken (ports.waiting p0) (ports.waiting p1) (ports.waiting p2) p.given q.given;
     unsent = q.unsent ∙ p.unsent;
-    goes_on = q.goes_on ∙ p.goes_on;
     failures = failed-append ports.counts_once missed worse (ports.faults p0) (ports.faults p1) (ports.faults p2) p.failures q.failures;
     moments = passed-append count more (clocks.moments c0) (clocks.moments c1) (clocks.moments c2) p.moments q.moments;
   }
 
   -- what a receive and the moment of its datagram come to
   pub taken_one : (d : Arrival) (port port' : P) (clock clock' : C) → IsFirstTold (ports.waiting port) d → IfTold (ports.waiting port') (rest_told (ports.waiting port)) →
-      ports.sent port' ≡ ports.sent port → ports.has_ceased port' ≡ ports.has_ceased port → ports.faults port' ≡ ports.faults port →
+      ports.sent port' ≡ ports.sent port → ports.faults port' ≡ ports.faults port →
       IfTold (clocks.moments clock') (option_map after_first (clocks.moments clock)) → HasTaken ports clocks 1 0 port port' clock clock'
-  taken_one d port port' clock clock' first rest unsent goes_on still moved = record {
+  taken_one d port port' clock clock' first rest unsent still moved = record {
     taken = d ∷ [];
     many = refl;
     given = first_given d (ports.waiting port) (ports.waiting port') first rest;
     unsent = unsent;
-    goes_on = goes_on;
     failures = subst (λ n. HaveFailed ports.counts_once 0 (ports.faults port) n) (sym still) (failed_none ports.counts_once (ports.faults port));
     moments = passed_one (clocks.moments clock) (clocks.moments clock') moved;
   }
 
   -- nothing came, and the receive may have failed
   pub taken_nothing : (missed : ℕ) (port port' : P) (clock : C) → IfTold (ports.waiting port') (ports.waiting port) → ports.sent port' ≡ ports.sent port →
-      ports.has_ceased port' ≡ ports.has_ceased port → HaveFailed ports.counts_once missed (ports.faults port) (ports.faults port') →
+      HaveFailed ports.counts_once missed (ports.faults port) (ports.faults port') →
       HasTaken ports clocks 0 missed port port' clock clock
-  taken_nothing missed port port' clock kept unsent goes_on failures = record {
+  taken_nothing missed port port' clock kept unsent failures = record {
     taken = [];
     many = refl;
     given = kept_is (ports.waiting port) (ports.waiting port') kept;
     unsent = unsent;
-    goes_on = goes_on;
     failures = failures;
     moments = passed_none (clocks.moments clock);
   }

@@ -97,7 +97,6 @@ pub record ServesByLanes {P C : Type 0} (ports : Ports P) (clocks : Clocks C) (s
       GaveFirst (64 * settings.rounds) (ports.waiting opened.p5) (ports.waiting closed.p5)
   pub took : Took ports clocks (64 * settings.rounds) 0 opened.p5 closed.p5 opened.c1 closed.c1
   pub unsent : ports.sent closed.p5 ≡ ports.sent opened.p5
-  pub goes_on : ports.has_ceased closed.p5 ≡ ports.has_ceased opened.p5
   -- each lane that turns tables took a moment of its clock for each of its tables and each round
   pub turned0 : TurnedOwn clocks settings.senders 0 settings.rounds opened.c2 closed.c2
   pub turned1 : TurnedOwn clocks settings.senders 1 settings.rounds opened.c3 closed.c3

@@ -50,7 +50,6 @@ pub record TookDelayReqs {P C : Type 0} (ports : Ports P) (clocks : Clocks C) (r
   pub gave : ¬ HasRisen (ports.faults port) (ports.faults port') → GaveFirst (64 * rounds) (ports.waiting port) (ports.waiting port')
   pub took : Took ports clocks (64 * rounds) 0 port port' clock clock'
   pub unsent : ports.sent port' ≡ ports.sent port
-  pub goes_on : ports.has_ceased port' ≡ ports.has_ceased port
   pub failures : CountsFailures ports.counts_once (ports.faults port) (ports.faults port') failed failed'
   pub no_fall : HasNotFallen (ports.faults port) (ports.faults port')
 

@@ -28,7 +28,6 @@ pub record HasTaken {P C : Type 0} (ports : Ports P) (clocks : Clocks C) (count 
   pub many : length taken ≡ count
   pub given : IfSome (ports.waiting port') (λ later. ports.waiting port ≡ Some (taken ++ later))
   pub unsent : ports.sent port' ≡ ports.sent port
-  pub goes_on : ports.has_ceased port' ≡ ports.has_ceased port
   pub failures : HaveFailed ports.counts_once missed (ports.faults port) (ports.faults port')
   pub moments : PassedBy count (clocks.moments clock) (clocks.moments clock')
 

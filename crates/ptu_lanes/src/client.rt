@@ -1,3 +1,5 @@
+//! The client that a datagram comes from, by its address and its header.
+
 ghost use Rattle.std.specs.Prelude.{◌≡◌};
 ghost use Rattle.ptu_gm_messages.specs.Deciding.{client_of};
 

@@ -132,7 +132,6 @@ pub fn delay_round<P: Port + Send, C: Clock, L: Rates, G: Ledger, R: Ledger>(
         HaveFailed P.counts_once s.missed (P.faults port.old) (P.faults port.new)) }
     // The port was sent nothing, and goes on to tell that.
     ensures unsent { P.sent port.new ≡ P.sent port.old }
-    ensures goes_on { P.has_ceased port.new ≡ P.has_ceased port.old }
     ensures no_fall { HasNotFallen (P.faults port.old) (P.faults port.new) }
 {
     let service = Service {

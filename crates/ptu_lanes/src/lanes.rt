@@ -189,10 +189,10 @@ impl<P: Port + Send, L: Rates, G: Ledger, R: Ledger, W: Wait> Service<'_, P, L, 
         Ok(lane)
     }
 
-    /// So many rounds of the lane that takes Delay_Reqs, as those of the one that takes Signaling.
+    /// So many rounds of the lane that takes Delay_Reqs, with a meeting after each.
     ///
     /// # Errors
-    /// As there.
+    /// `OutOfMemory`, with the lane dropped: after the round in which it or another lane gave up.
     pub(crate) fn take_part_delay_reqs<C: Clock>(
         &self,
         rounds: &Rounds<'_>,

@@ -301,8 +301,6 @@ where
         ensures took { IfOk result (λ new. Took P.Port C.Clock (64 * settings.now.rounds) 0
             lanes.event.port new.event.port lanes.event.clock new.event.clock) }
         ensures unsent { IfOk result (λ new. P.sent new.event.port ≡ P.sent lanes.event.port) }
-        ensures goes_on { IfOk result (λ new.
-            P.has_ceased new.event.port ≡ P.has_ceased lanes.event.port) }
         ensures turned { IfOk result (λ new. HaveTurned C.Clock settings.now.senders
             settings.now.rounds lanes.sending new.sending) }
         ensures failed { IfOk result (λ new. HaveFailed P.counts_once new.control.tally.failed

@@ -1,3 +1,5 @@
+//! How many timing messages a link has to carry for a grandmaster of a given capacity.
+
 ghost use Rattle.std.specs.{Prelude.{◌≡◌, ℕ, ◌*◌, ◌/◌, ◌^◌, ◌≤◌, List}, List.{All}};
 ghost use Rattle.ptu_history.specs.{Verdict.{Config}, Events.{Event}, Core.{core_history}};
 ghost use Rattle.ptu_history.specs.Held.{count};

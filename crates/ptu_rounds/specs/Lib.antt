@@ -1,3 +1,5 @@
 pub mod Rounds
 pub mod Ports
 pub mod Opening
+pub mod Taken
+pub mod Handed

@@ -1,3 +1,5 @@
+//! Why a daemon ended before its last round, or without its closing line.
+
 ghost use Rattle.std.specs.Prelude.{◌≡◌};
 ghost use Rattle.ptu_rounds.specs.declared.fault.DaemonFault.TheVariants.{OutOfMemory as NoMemory};
 

@@ -115,7 +115,7 @@ module _ {K P C : Type 0} (ports : Ports P) (clocks : Clocks C) (written : K →
   -- a slave of these settings ran over the ports and clocks that were opened and are given back, and its output was written whole
   abbrev pub FollowedWhole : SlaveSettings → Type 0
   FollowedWhole settings = FollowsAt settings × ((before : Opened P C) × (after : Opened P C) × WasOpened opening before × WasGivenBack back after
-      × HasFollowed ports.sent ports.waiting ports.faults clocks.moments written handed settings before after old new)
+      × HasFollowed ports clocks written handed settings before after old new)
 
   -- a front of an output of its form was written: selections, and the closing line with the rounds of the settings
   abbrev pub WroteLines : SlaveSettings → Type 0
@@ -125,7 +125,7 @@ module _ {K P C : Type 0} (ports : Ports P) (clocks : Clocks C) (written : K →
   -- the slave ran so until the sink failed
   abbrev pub FollowedInPart : SlaveSettings → Type 0
   FollowedInPart settings = FollowsAt settings × (WroteLines settings × ((before : Opened P C) × (after : Opened P C) × WasOpened opening before × WasGivenBack back after
-      × HasStopped ports.sent ports.waiting ports.faults clocks.moments written handed settings before after old new))
+      × HasStopped ports clocks written handed settings before after old new))
 
   -- a run with the word `slave` ended with this status, with so many judges of flags and of gaps
   abbrev pub HasRunSlave : {H : Type 0} → ℕ → ℕ → Option (List ℕ) → Option (List ℕ) → H → H → ℕ → Type 0

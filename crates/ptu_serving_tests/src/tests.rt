@@ -5,3 +5,4 @@ mod staged;
 mod table_ports;
 mod two_steps;
 mod waiting;
+mod waits;

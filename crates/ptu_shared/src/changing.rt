@@ -4,7 +4,7 @@ ghost use Rattle.std.specs.Prelude.{◌≡◌, ℕ, ◌+◌, ◌≤◌, max, fal
 ghost use Rattle.ptu_history.specs.{Client.{table_of as table_of_client}, History.{Record}};
 ghost use Rattle.ptu_history.specs.{Live.{live}, Verdict.{Config}, Events.{Cancel, Resize}};
 ghost use Rattle.ptu_history.specs.{Shedding.{shed_grants}, Step.{step}};
-ghost use Rattle.ptu_profile.specs.Limits.{IsCapacity};
+ghost use Rattle.ptu_units.specs.Limits.{IsCapacity};
 ghost use Rattle.ptu_admit.specs.Lent.{Lent, StandFor, four, is_lent, moment_for_all, shares, table_for};
 ghost use Rattle.ptu_admit.specs.{Rows.{has_live_row}, Shed.{shed_of}, Tables.{IsSwept}};
 

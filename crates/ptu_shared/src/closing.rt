@@ -212,10 +212,11 @@ impl<P: Port + Send, L: Rates, G: Ledger, R: Ledger> Shared<P, L, G, R> {
         }
     }
 
-    /// Closes the tables as `close` does, and tells how many sends of their ports failed.
+    /// Closes the tables as `close` does, and counts the failed sends of their ports.
     ///
     /// # Errors
-    /// As `close`.
+    /// A `CloseFault` exactly where the seats' sums differ from the book's two counts. All seats
+    /// together never differ.
     pub fn close_with_failures(
         self,
         mut seats: Vec<Seat<G, R>>,

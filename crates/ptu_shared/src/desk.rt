@@ -1,6 +1,9 @@
+//! What stands behind the book's lock: the book, the counts of all verdicts, and the ledgers that
+//! tie them to tables and seats.
+
 ghost use Rattle.std.specs.Prelude.{◌≡◌, ◌≤◌, ◌<◌, ◌+◌, ◌*◌, ◌^◌, IfOk, replicate};
 ghost use Rattle.ptu_shard.specs.Row.{share_of};
-ghost use Rattle.ptu_profile.specs.Limits.{IsCapacity};
+ghost use Rattle.ptu_units.specs.Limits.{IsCapacity};
 ghost use Rattle.ptu_admit.specs.Lent.{four, shares};
 ghost use Rattle.ptu_shared.specs.{Blanks.{IsBlankOf}, Seats.{counting, no_verdicts}};
 

@@ -1,3 +1,6 @@
+//! Types that say which of the four tables a table is. So the prover refuses a body that takes the
+//! lock of another table.
+
 ghost use Rattle.std.specs.Prelude.{ℕ};
 
 /// Which of the four tables a table is. It is known of the type alone, and so under a lock.

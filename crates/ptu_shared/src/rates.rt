@@ -1,3 +1,5 @@
+//! The ledger of rates: under the locks the shares of the four tables sum to the total of the book.
+
 ghost use Rattle.std.specs.Prelude.{◌≡◌, ◌<◌, ◌+◌, ℕ};
 ghost use Rattle.ptu_shared.specs.Opening.{Seen, untold_port};
 

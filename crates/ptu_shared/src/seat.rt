@@ -1,3 +1,5 @@
+//! Seats: each thread that asks has one, which counts what was granted and refused.
+
 ghost use Rattle.std.specs.Prelude.{◌≡◌, ◌≤◌, ◌^◌};
 ghost use Rattle.ptu_shared.specs.Seats.{no_verdicts};
 

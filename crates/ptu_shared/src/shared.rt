@@ -1,7 +1,10 @@
+//! The four tables and the book, each behind a lock of its own, for several threads.
+
 ghost use Rattle.std.specs.Prelude.{◌≡◌, ◌≤◌, ◌<◌, ◌^◌, IfNone, IfOk, IfSome, OnErr, replicate};
 ghost use Rattle.ptu_history.specs.Client.{table_of as table_of_client};
 ghost use Rattle.ptu_shard.specs.Answered.{moment_of_answer};
-ghost use Rattle.ptu_profile.specs.{Grandmaster.{IsWithinLimits}, Limits.{IsCapacity}};
+ghost use Rattle.ptu_profile.specs.Grandmaster.{IsWithinLimits};
+ghost use Rattle.ptu_units.specs.Limits.{IsCapacity};
 ghost use Rattle.ptu_shared.specs.{Answers.{AnswersAsk}, Blanks.{IsBlankOf}};
 ghost use Rattle.ptu_shared.specs.{Delays.{IsLaterIfTooSoon}, Opening.{seen_of}};
 ghost use Rattle.ptu_shared.specs.Seats.{counting, no_verdicts};

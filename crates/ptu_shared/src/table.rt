@@ -1,3 +1,6 @@
+//! What stands behind the lock of a table: its leases, its part of the ledger of rates, and how
+//! many of its sends failed.
+
 ghost use Rattle.std.specs.Prelude.{◌≡◌, ◌≤◌, ℕ, [], ◌++◌, List, OnErr, OnOk, map, max};
 ghost use Rattle.std.specs.List.Sorted.{IsPermutation};
 ghost use Rattle.ptu_outside.specs.HandsOver.{HandsOver};
@@ -66,7 +69,10 @@ impl<P: Port, L: Rates, J: Place> Table<P, L, J> {
         }
     }
 
-    // Makes room for one row more. What the table stands for is as before, after a refusal too.
+    /// Makes room for one row more.
+    ///
+    /// # Errors
+    /// `OutOfMemory`. What the table stands for is as before, then too.
     pub fn reserve(&mut self) -> Result<(), OutOfMemory>
         ensures spare { OnOk result (1 ≤ self.new.shard.spare) }
         ensures rows { IsPermutation self.old.shard.rows self.new.shard.rows }

@@ -3,14 +3,15 @@ use Rattle.std.proofs.Common.{◌≡◌, ◌∙◌, ◌⊎◌, inl, inr, ℕ, �
 use Rattle.std.proofs.lemmas.List.{map-append}
 use Rattle.ptu_outside.specs.{declared.arrival.Arrival.{Arrival}, Faults.{HasNotFallen, HasRisen}}
 use Rattle.ptu_outside.specs.Telling.{IfTold, IsEmptyTold, IsFirstTold, rest_told}
-use Rattle.ptu_outside.specs.Departure.{Departure}
+use Rattle.ptu_outside.specs.declared.{clock.Clock.{Ghosts as Clocks}, port.Port.{Ghosts as Ports}}
+use Rattle.ptu_rounds.specs.Taken.{Gave}
 use Rattle.ptu_outside.proofs.Telling.{IfTold-refl}
 use Rattle.ptu_record.specs.Record.{Record}
 use Rattle.ptu_slave_messages.specs.Node.{Node}
 use Rattle.ptu_slave.specs.Seen.{Seen}
 use Rattle.ptu_slave_daemon.specs.declared.counts.Counts.{Counts}
 use Rattle.ptu_slave_daemon.specs.Happenings.{arrive, record_after}
-use Rattle.ptu_slave_daemon.specs.Running.{CameFrom, Counted, HasFailed, IsAt, Ran, RoundTook, Took, TookEvent, TookGeneral, TookOne, View}
+use Rattle.ptu_slave_daemon.specs.Running.{Counted, HasFailed, IsAt, Ran, RoundTook, Took, TookEvent, TookGeneral, TookOne, View}
 use Rattle.ptu_slave_daemon.proofs.Ports.{failed_append, failed_none, still_after, still_before}
 use Rattle.ptu_slave_daemon.proofs.Runs.{ran_append, ran_still}
 
@@ -32,11 +33,11 @@ counted_round a b c d s t u f g h e p q r = (omega (arith, p.0, q.0, r.0), omega
 
 -- ---- what waits
 
-pub came_none : (before after : Option (List Arrival)) → IfTold after before → CameFrom before after []
+pub came_none : (before after : Option (List Arrival)) → IfTold after before → Gave before after []
 came_none before None same = tt
 came_none before (Some left) same = same
 
-pub came_append : (before now after : Option (List Arrival)) (xs ys : List Arrival) → CameFrom before now xs → CameFrom now after ys → CameFrom before after (xs ++ ys)
+pub came_append : (before now after : Option (List Arrival)) (xs ys : List Arrival) → Gave before now xs → Gave now after ys → Gave before after (xs ++ ys)
 came_append before now None xs ys p q = tt
 came_append before None (Some left) xs ys p q = absurd (cc q)
 came_append before (Some middle) (Some left) xs ys p q =
@@ -44,7 +45,7 @@ came_append before (Some middle) (Some left) xs ys p q =
     p ∙ ap (λ l. Some (xs ++ l)) same ∙ ap Some (sym (append_assoc xs ys left))
 
 -- the first was taken off
-pub came_first : (before after : Option (List Arrival)) (arrival : Arrival) → IsFirstTold before arrival → IfTold after (rest_told before) → CameFrom before after (arrival ∷ [])
+pub came_first : (before after : Option (List Arrival)) (arrival : Arrival) → IsFirstTold before arrival → IfTold after (rest_told before) → Gave before after (arrival ∷ [])
 came_first before None arrival first rest = tt
 came_first None (Some left) arrival first rest = absurd (cc rest)
 came_first (Some []) (Some left) arrival first rest = absurd (cc first)
@@ -76,23 +77,23 @@ one_if more = cond more 1 0
 
 -- ---- several
 
-module _ (node : Node) where
+module _ (once : Bool) (node : Node) where
   pub took_none : (L : Record) (old new : View) (failed : ℕ) → IsAt node old.kept old.judges L → new.kept ≡ old.kept → new.judges ≡ old.judges → new.sent ≡ old.sent → new.times ≡ old.times
-      → HasFailed old.faults new.faults failed → Took node L old new [] 0 failed
-  took_none L old new failed h kept judges sent times fails = ([], ran_still node L old new failed h kept judges sent times fails)
+      → HasFailed once old.faults new.faults failed → Took once node L old new [] 0 failed
+  took_none L old new failed h kept judges sent times fails = ([], ran_still once node L old new failed h kept judges sent times fails)
 
   -- and more by the record after them
-  pub took_append : (L : Record) (old now new : View) (xs ys : List Arrival) (s t f g : ℕ) → (p : Took node L old now xs s f)
-      → Took node (record_after node L p.0) now new ys t g → Took node L old new (xs ++ ys) (s + t) (f + g)
+  pub took_append : (L : Record) (old now new : View) (xs ys : List Arrival) (s t f g : ℕ) → (p : Took once node L old now xs s f)
+      → Took once node (record_after node L p.0) now new ys t g → Took once node L old new (xs ++ ys) (s + t) (f + g)
   took_append L old now new xs ys s t f g p q = (
     p.0 ++ q.0,
-    subst (λ acts. Ran node L old new acts (p.0 ++ q.0) [] (s + t) (f + g)) (sym (map-append arrive xs ys))
-        (ran_append node L old now new (map arrive xs) (map arrive ys) p.0 q.0 [] [] s t f g p.1 q.1),
+    subst (λ acts. Ran once node L old new acts (p.0 ++ q.0) [] (s + t) (f + g)) (sym (map-append arrive xs ys))
+        (ran_append once node L old now new (map arrive xs) (map arrive ys) p.0 q.0 [] [] s t f g p.1 q.1),
   )
 
 -- so many of them came
 pub record CameSoFar (n : ℕ) (before after : Option (List Arrival)) (old new : ℕ) (arrivals : List Arrival) : Type 0 where
-  pub came : CameFrom before after arrivals
+  pub came : Gave before after arrivals
   pub many : length arrivals ≡ n
 
 pub so_far_more : (n : ℕ) (before now after : Option (List Arrival)) (old mid new : ℕ) (more : Bool) → more ≡ true → (xs ys : List Arrival)
@@ -119,39 +120,39 @@ round_short n before now after old mid new more few none xs ys came one keeps = 
 abbrev Way : Type 1
 Way = (before after : Option (List Arrival)) → (old new : ℕ) → List Arrival → Type 0
 
-module _ {P B C : Type 0} (sent : P → Option (List Departure)) (waiting : P → Option (List Arrival)) (faults : P → ℕ) (moments : C → Option (List ℕ)) where
+module _ {P B C : Type 0} (ports : Ports P) (clocks : Clocks C) where
   -- none was taken of the slave's port so far
-  pub general_none : (slave : Seen P B) (clock : C) (counts : Counts) → TookGeneral sent waiting faults moments slave slave clock clock (CameSoFar 0) counts counts
+  pub general_none : (slave : Seen P B) (clock : C) (counts : Counts) → TookGeneral ports clocks slave slave clock clock (CameSoFar 0) counts counts
   general_none slave clock counts = λ node L h. (
     [],
     0,
     0,
     counted_none counts,
-    record { came = came_none _ _ (IfTold-refl (waiting slave.port)); many = refl },
-    took_none node L _ _ 0 h refl refl refl refl (failed_none _ _ refl),
+    record { came = came_none _ _ (IfTold-refl (ports.waiting slave.port)); many = refl },
+    took_none ports.counts_once node L _ _ 0 h refl refl refl refl (failed_none ports.counts_once _ _ refl),
   )
 
   -- and none of the event channel's
   pub event_none : (slave : Seen P B) (clock : C) (event : P) (counts : Counts)
-      → TookEvent sent waiting faults moments slave slave clock clock event event (CameSoFar 0) counts counts
+      → TookEvent ports clocks slave slave clock clock event event (CameSoFar 0) counts counts
   event_none slave clock event counts = λ node L h. (
     [],
     0,
     0,
     0,
     counted_none counts,
-    failed_none _ _ refl,
-    record { came = came_none _ _ (IfTold-refl (waiting event)); many = refl },
-    took_none node L _ _ 0 h refl refl refl refl (failed_none _ _ refl),
+    failed_none ports.counts_once _ _ refl,
+    record { came = came_none _ _ (IfTold-refl (ports.waiting event)); many = refl },
+    took_none ports.counts_once node L _ _ 0 h refl refl refl refl (failed_none ports.counts_once _ _ refl),
   )
 
   module _ (First Next Both : Way) (old now new : Seen P B) (clock mid clock' : C) (a b c : Counts) where
     -- some were taken of it, and then more
-    pub general_more : ((xs ys : List Arrival) → First (waiting old.port) (waiting now.port) (faults old.port) (faults now.port) xs
-        → Next (waiting now.port) (waiting new.port) (faults now.port) (faults new.port) ys → HasNotFallen (faults old.port) (faults now.port)
-        → Both (waiting old.port) (waiting new.port) (faults old.port) (faults new.port) (xs ++ ys))
-        → TookGeneral sent waiting faults moments old now clock mid First a b → TookGeneral sent waiting faults moments now new mid clock' Next b c
-        → TookGeneral sent waiting faults moments old new clock clock' Both a c
+    pub general_more : ((xs ys : List Arrival) → First (ports.waiting old.port) (ports.waiting now.port) (ports.faults old.port) (ports.faults now.port) xs
+        → Next (ports.waiting now.port) (ports.waiting new.port) (ports.faults now.port) (ports.faults new.port) ys → HasNotFallen (ports.faults old.port) (ports.faults now.port)
+        → Both (ports.waiting old.port) (ports.waiting new.port) (ports.faults old.port) (ports.faults new.port) (xs ++ ys))
+        → TookGeneral ports clocks old now clock mid First a b → TookGeneral ports clocks now new mid clock' Next b c
+        → TookGeneral ports clocks old new clock clock' Both a c
     general_more both first next = λ node L h.
         let p = first node L h in
         let q = next node (record_after node L p.5.0) p.5.1.stands in (
@@ -159,15 +160,15 @@ module _ {P B C : Type 0} (sent : P → Option (List Departure)) (waiting : P �
           p.1 + q.1,
           p.2 + q.2,
           counted_append a b c p.1 q.1 p.2 q.2 p.3 q.3,
-          both p.0 q.0 p.4 q.4 p.5.1.port.no_fall,
-          took_append node L _ _ _ p.0 q.0 p.1 q.1 p.2 q.2 p.5 q.5,
+          both p.0 q.0 p.4 q.4 p.5.1.port.fails.no_fall,
+          took_append ports.counts_once node L _ _ _ p.0 q.0 p.1 q.1 p.2 q.2 p.5 q.5,
         )
 
-    pub event_more : (event between event' : P) → ((xs ys : List Arrival) → First (waiting event) (waiting between) (faults event) (faults between) xs
-        → Next (waiting between) (waiting event') (faults between) (faults event') ys → HasNotFallen (faults event) (faults between)
-        → Both (waiting event) (waiting event') (faults event) (faults event') (xs ++ ys))
-        → TookEvent sent waiting faults moments old now clock mid event between First a b → TookEvent sent waiting faults moments now new mid clock' between event' Next b c
-        → TookEvent sent waiting faults moments old new clock clock' event event' Both a c
+    pub event_more : (event between event' : P) → ((xs ys : List Arrival) → First (ports.waiting event) (ports.waiting between) (ports.faults event) (ports.faults between) xs
+        → Next (ports.waiting between) (ports.waiting event') (ports.faults between) (ports.faults event') ys → HasNotFallen (ports.faults event) (ports.faults between)
+        → Both (ports.waiting event) (ports.waiting event') (ports.faults event) (ports.faults event') (xs ++ ys))
+        → TookEvent ports clocks old now clock mid event between First a b → TookEvent ports clocks now new mid clock' between event' Next b c
+        → TookEvent ports clocks old new clock clock' event event' Both a c
     event_more event between event' both first next = λ node L h.
         let p = first node L h in
         let q = next node (record_after node L p.7.0) p.7.1.stands in (
@@ -176,16 +177,16 @@ module _ {P B C : Type 0} (sent : P → Option (List Departure)) (waiting : P �
           p.2 + q.2,
           p.3 + q.3,
           counted_both a b c p.1 q.1 p.2 q.2 p.3 q.3 p.4 q.4,
-          failed_append _ _ _ p.3 q.3 p.5 q.5,
+          failed_append ports.counts_once _ _ _ p.3 q.3 p.5 q.5,
           both p.0 q.0 p.6 q.6 p.5.no_fall,
-          took_append node L _ _ _ p.0 q.0 p.1 q.1 p.2 q.2 p.7 q.7,
+          took_append ports.counts_once node L _ _ _ p.0 q.0 p.1 q.1 p.2 q.2 p.7 q.7,
         )
 
 -- while other things happen
 pub round_later : (before after later : Option (List Arrival)) (old mid new : ℕ) (xs : List Arrival) → RoundTook before after old mid xs → later ≡ after → HasNotFallen mid new
     → RoundTook before later old new xs
 round_later before after later old mid new xs took same keeps = record {
-  came = subst (λ w. CameFrom before w xs) (sym same) took.came;
+  came = subst (λ w. Gave before w xs) (sym same) took.came;
   few = took.few;
   whole = λ still. subst (λ w. (length xs ≡ 64) ⊎ IsEmptyTold w) (sym same) (took.whole (still_before old mid new keeps still));
 }
@@ -193,7 +194,7 @@ round_later before after later old mid new xs took same keeps = record {
 pub round_behind : (before now after : Option (List Arrival)) (old mid new : ℕ) (xs : List Arrival) → now ≡ before → HasNotFallen old mid → RoundTook now after mid new xs
     → RoundTook before after old new xs
 round_behind before now after old mid new xs same keeps took = record {
-  came = subst (λ w. CameFrom w after xs) same took.came;
+  came = subst (λ w. Gave w after xs) same took.came;
   few = took.few;
   whole = λ still. took.whole (still_after old mid new keeps still);
 }

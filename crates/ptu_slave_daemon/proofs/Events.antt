@@ -1,5 +1,5 @@
 -- What one event makes of a slave that stands for a node with a record.
-use Rattle.std.proofs.Common.{◌≡◌, ◌≢◌, ℕ, zero, suc, ◌+◌, ◌<◌, ◌≤◌, max, List, [], ◌∷◌, ◌++◌, length, map, Option, None, Ok, Err, refl, ap, ap₂, sym, subst, ◌∙◌, arith}
+use Rattle.std.proofs.Common.{◌≡◌, ◌≢◌, Bool, ℕ, zero, suc, ◌+◌, ◌<◌, ◌≤◌, max, List, [], ◌∷◌, ◌++◌, length, map, Option, None, Ok, Err, refl, ap, ap₂, sym, subst, ◌∙◌, arith}
 use Rattle.std.proofs.lemmas.List.{append-nil}
 use Rattle.std.specs.{List.{AllByRecursion, range_with_len}, Option.{option_map}}
 use Rattle.std.specs.Prelude.{IsSome, Result}
@@ -73,17 +73,18 @@ taken node old new judges news L t from octets h same ignored steps = by_recepti
 
 -- ---- one thing that happens
 
-module _ (node : Node) (L : Record) (old new : View) (t : ℕ) (h : IsAt node old.kept old.judges L) (same : IsSame old.kept new.kept) where
+module _ (once : Bool) (node : Node) (L : Record) (old new : View) (t : ℕ) (h : IsAt node old.kept old.judges L) (same : IsSame old.kept new.kept) where
   -- a datagram arrives
   pub ran_taken : (arrival : Arrival) (sent failed : ℕ) → AreTimed old.times new.times (Arrives arrival ∷ []) (Arrives arrival t ∷ [])
       → ((reason : SlaveReason) → reception old.kept.config old.kept.masters arrival.ip arrival.bytes ≡ Err reason → (new.kept ≡ old.kept) × (new.judges ≡ old.judges))
       → ((m : ℕ) (message : Message) → reception old.kept.config old.kept.masters arrival.ip arrival.bytes ≡ Ok (m, message) → Steps node.openings old.kept new.kept new.judges L t (event_of m message))
-      → PortDid old.sent new.sent old.faults new.faults (replies_in old.kept.config old.kept.masters (reception old.kept.config old.kept.masters arrival.ip arrival.bytes)) sent failed
-      → Ran node L old new (Arrives arrival ∷ []) (Arrives arrival t ∷ []) [] sent failed
+      → PortDid once old.sent new.sent old.faults new.faults (replies_in old.kept.config old.kept.masters (reception old.kept.config old.kept.masters arrival.ip arrival.bytes)) sent failed
+      → Ran once node L old new (Arrives arrival ∷ []) (Arrives arrival t ∷ []) [] sent failed
   ran_taken arrival sent failed timed ignored steps hands = record {
+    happened = ((t, refl), tt);
     timed = timed;
     stands = taken node old.kept new.kept old.judges new.judges L t arrival.ip arrival.bytes h same ignored steps;
-    port = subst (λ ds. PortDid old.sent new.sent old.faults new.faults ds sent failed) datagrams hands;
+    port = subst (λ ds. PortDid once old.sent new.sent old.faults new.faults ds sent failed) datagrams hands;
     selects = refl;
   }
     where
@@ -94,11 +95,11 @@ module _ (node : Node) (L : Record) (old new : View) (t : ℕ) (h : IsAt node ol
 
   -- a tick or the stop sends
   handed : (at : ℕ) (e : SlaveEvent) (sent failed : ℕ) → at ≡ max t old.kept.moment
-      → PortDid old.sent new.sent old.faults new.faults
+      → PortDid once old.sent new.sent old.faults new.faults
       (map (departure_of old.kept.config old.kept.masters all_ones) (sendings (setup_of old.kept.config node.openings) L at e)) sent failed
-      → PortDid old.sent new.sent old.faults new.faults ((deed node L t e).datagrams ++ []) sent failed
+      → PortDid once old.sent new.sent old.faults new.faults ((deed node L t e).datagrams ++ []) sent failed
   handed at e sent failed is hands =
-      subst (λ ds. PortDid old.sent new.sent old.faults new.faults ds sent failed) datagrams hands
+      subst (λ ds. PortDid once old.sent new.sent old.faults new.faults ds sent failed) datagrams hands
     where
       datagrams : map (departure_of old.kept.config old.kept.masters all_ones) (sendings (setup_of old.kept.config node.openings) L at e) ≡ (deed node L t e).datagrams ++ []
       datagrams =
@@ -108,12 +109,13 @@ module _ (node : Node) (L : Record) (old new : View) (t : ℕ) (h : IsAt node ol
 
   pub ran_ticked : (at round sent failed : ℕ) (master : Option ℕ) → AreTimed old.times new.times (Ticks round ∷ []) (Ticks round t ∷ []) → at ≡ max t old.kept.moment
       → Steps node.openings old.kept new.kept new.judges L t Tick
-      → PortDid old.sent new.sent old.faults new.faults
+      → PortDid once old.sent new.sent old.faults new.faults
       (map (departure_of old.kept.config old.kept.masters all_ones) (sendings (setup_of old.kept.config node.openings) L at Tick)) sent failed
       → ((openings : List (Option Rule)) (M : Record) → StandsFor openings new.kept new.judges M
       → master ≡ option_map (address_of new.kept.masters) (selected_master (timeouts new.kept.config) (priorities new.kept.masters) M (event_moment M t)))
-      → Ran node L old new (Ticks round ∷ []) (Ticks round t ∷ []) (record { round = round; master = master } ∷ []) sent failed
+      → Ran once node L old new (Ticks round ∷ []) (Ticks round t ∷ []) (record { round = round; master = master } ∷ []) sent failed
   ran_ticked at round sent failed master timed is steps hands selects = record {
+    happened = ((t, refl), tt);
     timed = timed;
     stands = after;
     port = handed at Tick sent failed is hands;
@@ -132,10 +134,11 @@ module _ (node : Node) (L : Record) (old new : View) (t : ℕ) (h : IsAt node ol
 
   pub ran_stopped : (at sent failed : ℕ) → AreTimed old.times new.times (Stops ∷ []) (Stops t ∷ []) → at ≡ max t old.kept.moment
       → Steps node.openings old.kept new.kept new.judges L t Stop
-      → PortDid old.sent new.sent old.faults new.faults
+      → PortDid once old.sent new.sent old.faults new.faults
       (map (departure_of old.kept.config old.kept.masters all_ones) (sendings (setup_of old.kept.config node.openings) L at Stop)) sent failed
-      → Ran node L old new (Stops ∷ []) (Stops t ∷ []) [] sent failed
+      → Ran once node L old new (Stops ∷ []) (Stops t ∷ []) [] sent failed
   ran_stopped at sent failed timed is steps hands = record {
+    happened = ((t, refl), tt);
     timed = timed;
     stands = stepped node old.kept new.kept old.judges new.judges L t Stop h (λ m other. absurd (cc other)) tt same steps;
     port = handed at Stop sent failed is hands;

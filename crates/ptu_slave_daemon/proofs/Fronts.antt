@@ -1,5 +1,5 @@
 -- What was written when the sink failed is a front of the whole output.
-use Rattle.std.proofs.Common.{◌≡◌, ◌∙◌, ℕ, ◌+◌, ◌-◌, ◌≤◌, ◌++◌, List, [], ◌∷◌, length, map, refl, sym, ap, ap₂, arith, append_assoc, Option, Some, None}
+use Rattle.std.proofs.Common.{◌≡◌, ◌∙◌, Bool, ℕ, ◌+◌, ◌-◌, ◌≤◌, ◌++◌, List, [], ◌∷◌, length, map, refl, sym, ap, ap₂, arith, append_assoc, Option, Some, None}
 use Rattle.std.proofs.lemmas.List.{append-nil, map-append}
 use Rattle.std.specs.Prelude.{IsErrOf, IsSome, OnErr, Result, Ok, Err}
 use Rattle.ptu_outside.specs.{declared.arrival.Arrival.{Arrival}, Faults.{HasRisen}}
@@ -7,10 +7,10 @@ use Rattle.ptu_record.specs.Record.{Record}
 use Rattle.ptu_slave_messages.specs.Node.{Node}
 use Rattle.ptu_rounds.specs.Rounds.{in_rounds, moments_after, timed}
 use Rattle.ptu_slave_daemon.specs.declared.line.SlaveLine.TheVariants.{Closing}
-use Rattle.ptu_slave_daemon.specs.Happenings.{Happening, Selection, Stops, happenings, record_after, round_of, selections_in, sent_in}
+use Rattle.ptu_slave_daemon.specs.Happenings.{Happening, Selection, Stops, acts_of, happenings, record_after, round_of, selections_in, sent_in}
 use Rattle.ptu_slave_daemon.specs.Lines.{changes, output, output_from, selected_line}
 use Rattle.ptu_slave_daemon.specs.Running.{AreRounds, AreTimed, IsFront, RoundsDone, RunDone, View}
-use Rattle.ptu_slave_daemon.proofs.{OneRound.{in_rounds-add}, Ports.{none_risen}}
+use Rattle.ptu_slave_daemon.proofs.{OneRound.{in_rounds-add}, Ports.{all_counted, none_risen}}
 use Rattle.ptu_slave_daemon.proofs.{Runs.{selections_in-append}, Times.{timed-append}}
 use Rattle.ptu_slave_daemon.proofs.Written.{changes-append, said_after}
 
@@ -43,31 +43,31 @@ rounds_are n general general' event event' faults faults' event_faults event_fau
     let event_same : said.1 ≡ event_all = cc (said.3, event_is) in
     said.4 ∙ ap₂ (λ xs ys. in_rounds (round_of xs ys) n) same event_same
 
-module _ (node : Node) (L : Record) (old new : View) (general general' event event' : Option (List Arrival)) (event_faults event_faults' : ℕ) where
+module _ (once : Bool) (node : Node) (L : Record) (old new : View) (general general' event event' : Option (List Arrival)) (event_faults event_faults' : ℕ) where
   pub run_is : (rounds : ℕ) (selections : List Selection) (sends failures : ℕ) (all event_all : List Arrival) (times : List ℕ)
-      → (r : RunDone rounds selections sends failures node L old new general general' event event' event_faults event_faults')
+      → (r : RunDone once rounds selections sends failures node L old new general general' event event' event_faults event_faults')
       → general ≡ Some all → event ≡ Some event_all → old.times ≡ Some times → IsSome general' → IsSome event' → IsSome new.times
       → ¬ HasRisen old.faults new.faults → ¬ HasRisen event_faults event_faults' → r.hs ≡ happenings rounds all event_all times
   run_is rounds selections sends failures all event_all times r is event_is times_are told event_told times_told still event_still =
-      timed_is old.times new.times times (r.acts ++ Stops ∷ []) r.hs r.ran.timed times_are times_told
+      timed_is old.times new.times times (acts_of r.took ++ Stops ∷ []) r.hs r.ran.timed times_are times_told
       ∙ ap (λ acts. timed times (acts ++ Stops ∷ []))
-      (rounds_are rounds general general' event event' old.faults new.faults event_faults event_faults' r.acts all event_all r.as_said still event_still is event_is told event_told)
+      (rounds_are rounds general general' event event' old.faults new.faults event_faults event_faults' (acts_of r.took) all event_all r.as_said still event_still is event_is told event_told)
 
   -- where no port failed
-  pub run_output : (rounds : ℕ) (selections : List Selection) (sends failures : ℕ) (r : RunDone rounds selections sends failures node L old new general general' event event' event_faults event_faults')
+  pub run_output : (rounds : ℕ) (selections : List Selection) (sends failures : ℕ) (r : RunDone once rounds selections sends failures node L old new general general' event event' event_faults event_faults')
       → ¬ HasRisen old.faults new.faults → ¬ HasRisen event_faults event_faults' → output rounds (changes None selections) sends failures ≡ output_from rounds node L r.hs
   run_output rounds selections sends failures r still event_still =
       ap (λ ss. output rounds (changes None ss) sends failures) (sym r.ran.selects)
-      ∙ ap₂ (λ m n. output rounds (changes None (selections_in node L r.hs)) m n) (r.ran.port.all_counted still) no_failures
+      ∙ ap₂ (λ m n. output rounds (changes None (selections_in node L r.hs)) m n) (all_counted once old.sent new.sent old.faults new.faults (sent_in node L r.hs) sends r.failed r.ran.port still) no_failures
     where
       no_failures : failures ≡ 0
       no_failures =
-          let a : r.failed ≡ 0 = none_risen r.failed old.faults new.faults r.ran.port.risen still in
+          let a : r.failed ≡ 0 = none_risen r.failed old.faults new.faults r.ran.port.fails.risen still in
           let b : r.event_failed ≡ 0 = none_risen r.event_failed event_faults event_faults' r.event_fails.risen event_still in
           omega (arith, a, b, r.failures_are)
 
   -- the sink failed in the closing line
-  pub front_run : (rounds : ℕ) (selections : List Selection) (sends failures : ℕ) → RunDone rounds selections sends failures node L old new general general' event event' event_faults event_faults'
+  pub front_run : (rounds : ℕ) (selections : List Selection) (sends failures : ℕ) → RunDone once rounds selections sends failures node L old new general general' event event' event_faults event_faults'
       → IsFront rounds (output rounds (changes None selections) sends failures) node L old new general general' event event' event_faults event_faults'
   front_run rounds selections sends failures r = λ all event_all times is event_is times_are told event_told times_told still event_still. (
     [],
@@ -77,20 +77,20 @@ module _ (node : Node) (L : Record) (old new : View) (general general' event eve
 
   -- or in the line of a round
   pub front_rounds : (n rounds : ℕ) (selections : List Selection) (sends failures : ℕ) → n ≤ rounds
-      → RoundsDone n selections sends failures node L old new general general' event event' event_faults event_faults'
+      → RoundsDone once n selections sends failures node L old new general general' event event' event_faults event_faults'
       → IsFront rounds (map selected_line (changes None selections)) node L old new general general' event event' event_faults event_faults'
   front_rounds n rounds selections sends failures le r = λ all event_all times is event_is times_are told event_told times_told still event_still.
       let round = round_of all event_all in
-      let acts = rounds_are n general general' event event' old.faults new.faults event_faults event_faults' r.acts all event_all r.as_said still event_still is event_is told event_told in
+      let acts = rounds_are n general general' event event' old.faults new.faults event_faults event_faults' (acts_of r.took) all event_all r.as_said still event_still is event_is told event_told in
       let more = in_rounds-add round n (rounds - n) in
       let later = more.0 ++ Stops ∷ [] in
-      let ks = timed (moments_after (length r.acts) times) later in
+      let ks = timed (moments_after (length (acts_of r.took)) times) later in
       let many : rounds ≡ n + (rounds - n) = omega arith in
       let whole : happenings rounds all event_all times ≡ r.hs ++ ks =
       ap (λ k. timed times (in_rounds round k ++ Stops ∷ [])) many ∙ ap (λ l. timed times (l ++ Stops ∷ [])) more.1
       ∙ ap (timed times) (append_assoc (in_rounds round n) more.0 (Stops ∷ [])) ∙ ap (λ l. timed times (l ++ later)) (sym acts)
-      ∙ timed-append times r.acts later
-      ∙ ap (λ l. l ++ ks) (sym (timed_is old.times new.times times r.acts r.hs r.ran.timed times_are times_told)) in
+      ∙ timed-append times (acts_of r.took) later
+      ∙ ap (λ l. l ++ ks) (sym (timed_is old.times new.times times (acts_of r.took) r.hs r.ran.timed times_are times_told)) in
       let others = changes (said_after None selections) (selections_in node (record_after node L r.hs) ks) in
       let written : changes None (selections_in node L (r.hs ++ ks)) ≡ changes None selections ++ others =
       ap (changes None) (selections_in-append node L r.hs ks ∙ ap (λ ss. ss ++ selections_in node (record_after node L r.hs) ks) r.ran.selects)

@@ -1,13 +1,17 @@
 -- One round after another.
-use Rattle.std.proofs.Common.{◌≡◌, ◌∙◌, ◌⊎◌, inl, inr, ℕ, zero, suc, ◌+◌, ◌*◌, ◌≤◌, ◌++◌, List, [], ◌∷◌, length, map, take, drop, refl, sym, ap, ap₂, subst, arith, add-zero, append_assoc, Option, Some}
+use Rattle.std.proofs.Common.{◌≡◌, ◌∙◌, ◌⊎◌, inl, inr, ℕ, zero, suc, ◌+◌, ◌*◌, ◌≤◌, ◌++◌, List, [], ◌∷◌, Bool, length, map, take, drop, refl, sym, ap, ap₂, subst, arith, add-zero, append_assoc, Option, Some}
 use Rattle.std.proofs.lemmas.List.{append-nil, drop-drop}
 use Rattle.ptu_outside.specs.{declared.arrival.Arrival.{Arrival}, Faults.{HasNotFallen, HasRisen}}
 use Rattle.ptu_rounds.specs.Rounds.{in_rounds, left_after, taken_in}
+use Rattle.ptu_rounds.specs.Taken.{Gave, Round, event_of, general_of}
+use Rattle.ptu_rounds.proofs.Taken.{event_of-push, general_of-push, have_taken-none, have_taken-push, in_these-push}
+use Rattle.ptu_outside.proofs.Telling.{IfTold-refl}
 use Rattle.ptu_record.specs.Record.{Record}
 use Rattle.ptu_slave_messages.specs.Node.{Node}
 use Rattle.ptu_slave_daemon.specs.declared.counts.Counts.{Counts}
-use Rattle.ptu_slave_daemon.specs.Happenings.{Happening, Selection, Stops, Ticks, arrive, record_after, round_of}
+use Rattle.ptu_slave_daemon.specs.Happenings.{Happening, Selection, Stops, Ticks, acts_of, arrive, record_after, round_of, round_with}
 use Rattle.ptu_slave_daemon.specs.Running.{AreRounds, Counted, HasFailed, IsAt, Ran, RoundTook, RoundsDone, RunDone, View}
+use Rattle.ptu_slave_daemon.proofs.Arrived.{came_append, came_none}
 use Rattle.ptu_slave_daemon.proofs.Ports.{failed_append, failed_none, still_after, still_before}
 use Rattle.ptu_slave_daemon.proofs.Runs.{ran_append, ran_still}
 
@@ -101,56 +105,77 @@ module _ (general event : Option (List Arrival)) where
 
 -- ---- with what the slave did
 
-module _ (node : Node) (L : Record) (old : View) (general event : Option (List Arrival)) (event_faults : ℕ) where
-  pub done_none : (sent failures : ℕ) → sent ≡ 0 → failures ≡ 0 → IsAt node old.kept old.judges L → RoundsDone 0 [] sent failures node L old old general general event event event_faults event_faults
+module _ (once : Bool) (node : Node) (L : Record) (old : View) (general event : Option (List Arrival)) (event_faults : ℕ) where
+  pub done_none : (sent failures : ℕ) → sent ≡ 0 → failures ≡ 0 → IsAt node old.kept old.judges L
+      → RoundsDone once 0 [] sent failures node L old old general general event event event_faults event_faults
   done_none sent failures none none_failed h = record {
-    acts = [];
+    took = [];
+    taken = have_taken-none;
+    general_gave = came_none general general (IfTold-refl general);
+    event_gave = came_none event event (IfTold-refl event);
     hs = [];
     failed = 0;
     event_failed = 0;
     failures_are = none_failed;
-    ran = subst (λ n. Ran node L old old [] [] [] n 0) (sym none) (ran_still node L old old 0 h refl refl refl refl (failed_none old.faults old.faults refl));
-    event_fails = failed_none event_faults event_faults refl;
+    ran = subst (λ n. Ran once node L old old [] [] [] n 0) (sym none)
+        (ran_still once node L old old 0 h refl refl refl refl (failed_none once old.faults old.faults refl));
+    event_fails = failed_none once event_faults event_faults refl;
     as_said = rounds_none general event general event old.faults old.faults event_faults event_faults refl refl;
   }
 
   pub done_more : (n : ℕ) (now new : View) (general' general'' event' event'' : Option (List Arrival)) (event_faults' event_faults'' : ℕ) (ss : List Selection) (s : Selection)
       (before after : Counts) (xs ys : List Arrival) (hs : List Happening) (sent failed event_failed : ℕ)
-      → (p : RoundsDone n ss before.sent before.failed node L old now general general' event event' event_faults event_faults')
-      → Counted sent (failed + event_failed) before after → HasFailed event_faults' event_faults'' event_failed
+      → (p : RoundsDone once n ss before.sent before.failed node L old now general general' event event' event_faults event_faults')
+      → Counted sent (failed + event_failed) before after → HasFailed once event_faults' event_faults'' event_failed
       → RoundTook general' general'' now.faults new.faults xs → RoundTook event' event'' event_faults' event_faults'' ys
-      → Ran node (record_after node L p.hs) now new (map arrive (xs ++ ys) ++ Ticks (n + 1) ∷ []) hs (s ∷ []) sent failed
-      → RoundsDone (n + 1) (ss ++ s ∷ []) after.sent after.failed node L old new general general'' event event'' event_faults event_faults''
+      → Ran once node (record_after node L p.hs) now new (map arrive (xs ++ ys) ++ Ticks (n + 1) ∷ []) hs (s ∷ []) sent failed
+      → RoundsDone once (n + 1) (ss ++ s ∷ []) after.sent after.failed node L old new general general'' event event'' event_faults event_faults''
   done_more n now new general' general'' event' event'' event_faults' event_faults'' ss s before after xs ys hs sent failed event_failed p counted fails took event_took ran = record {
-    acts = p.acts ++ (map arrive (xs ++ ys) ++ Ticks (n + 1) ∷ []);
+    took = p.took ++ round ∷ [];
+    taken = have_taken-push p.took n round p.taken (took.few, event_took.few);
+    general_gave = subst (Gave general general'') (sym (general_of-push p.took round))
+        (came_append general general' general'' (general_of p.took) xs p.general_gave took.came);
+    event_gave = subst (Gave event event'') (sym (event_of-push p.took round))
+        (came_append event event' event'' (event_of p.took) ys p.event_gave event_took.came);
     hs = p.hs ++ hs;
     failed = p.failed + failed;
     event_failed = p.event_failed + event_failed;
     failures_are = omega (arith, counted.1, p.failures_are);
-    ran = subst (λ k. Ran node L old new (p.acts ++ (map arrive (xs ++ ys) ++ Ticks (n + 1) ∷ [])) (p.hs ++ hs) (ss ++ s ∷ []) k (p.failed + failed)) (sym counted.0)
-        (ran_append node L old now new p.acts (map arrive (xs ++ ys) ++ Ticks (n + 1) ∷ []) p.hs hs ss (s ∷ []) before.sent sent p.failed failed p.ran ran);
-    event_fails = failed_append event_faults event_faults' event_faults'' p.event_failed event_failed p.event_fails fails;
-    as_said = rounds_more general event n general' general'' event' event'' old.faults now.faults new.faults event_faults event_faults' event_faults'' p.acts xs ys
-        p.ran.port.no_fall ran.port.no_fall p.event_fails.no_fall fails.no_fall p.as_said took event_took;
+    ran = subst (λ acts. Ran once node L old new acts (p.hs ++ hs) (ss ++ s ∷ []) after.sent (p.failed + failed)) (sym acts)
+        (subst (λ k. Ran once node L old new (acts_of p.took ++ (map arrive (xs ++ ys) ++ Ticks (n + 1) ∷ [])) (p.hs ++ hs) (ss ++ s ∷ []) k (p.failed + failed)) (sym counted.0)
+        (ran_append once node L old now new (acts_of p.took) (map arrive (xs ++ ys) ++ Ticks (n + 1) ∷ []) p.hs hs ss (s ∷ []) before.sent sent p.failed failed p.ran ran));
+    event_fails = failed_append once event_faults event_faults' event_faults'' p.event_failed event_failed p.event_fails fails;
+    as_said = subst (AreRounds (n + 1) general general'' event event'' old.faults new.faults event_faults event_faults'') (sym acts)
+        (rounds_more general event n general' general'' event' event'' old.faults now.faults new.faults event_faults event_faults' event_faults'' (acts_of p.took) xs ys
+        p.ran.port.fails.no_fall ran.port.fails.no_fall p.event_fails.no_fall fails.no_fall p.as_said took event_took);
   }
+    where
+      round : Round
+      round = record { general = xs; event = ys }
+
+      acts : acts_of (p.took ++ round ∷ []) ≡ acts_of p.took ++ (map arrive (xs ++ ys) ++ Ticks (n + 1) ∷ [])
+      acts = in_these-push (λ before taken. round_with before taken) p.took n round p.taken
 
   -- and the stop
   pub done_run : (n : ℕ) (now new : View) (general' general'' event' : Option (List Arrival)) (event_faults' : ℕ) (ss : List Selection)
       (before after : Counts) (hs : List Happening) (sent failed : ℕ)
-      → (p : RoundsDone n ss before.sent before.failed node L old now general general' event event' event_faults event_faults')
+      → (p : RoundsDone once n ss before.sent before.failed node L old now general general' event event' event_faults event_faults')
       → Counted sent failed before after → general'' ≡ general'
-      → Ran node (record_after node L p.hs) now new (Stops ∷ []) hs [] sent failed
-      → RunDone n ss after.sent after.failed node L old new general general'' event event' event_faults event_faults'
+      → Ran once node (record_after node L p.hs) now new (Stops ∷ []) hs [] sent failed
+      → RunDone once n ss after.sent after.failed node L old new general general'' event event' event_faults event_faults'
   done_run n now new general' general'' event' event_faults' ss before after hs sent failed p counted same ran = record {
-    acts = p.acts;
+    took = p.took;
+    taken = p.taken;
+    general_gave = subst (λ told. Gave general told (general_of p.took)) (sym same) p.general_gave;
+    event_gave = p.event_gave;
     hs = p.hs ++ hs;
     failed = p.failed + failed;
     event_failed = p.event_failed;
     failures_are = omega (arith, counted.1, p.failures_are);
-    ran = subst (λ ts. Ran node L old new (p.acts ++ Stops ∷ []) (p.hs ++ hs) ts after.sent (p.failed + failed)) (append-nil ss)
-        (subst (λ k. Ran node L old new (p.acts ++ Stops ∷ []) (p.hs ++ hs) (ss ++ []) k (p.failed + failed)) (sym counted.0)
-        (ran_append node L old now new p.acts (Stops ∷ []) p.hs hs ss [] before.sent sent p.failed failed p.ran ran));
+    ran = subst (λ ts. Ran once node L old new (acts_of p.took ++ Stops ∷ []) (p.hs ++ hs) ts after.sent (p.failed + failed)) (append-nil ss)
+        (subst (λ k. Ran once node L old new (acts_of p.took ++ Stops ∷ []) (p.hs ++ hs) (ss ++ []) k (p.failed + failed)) (sym counted.0)
+        (ran_append once node L old now new (acts_of p.took) (Stops ∷ []) p.hs hs ss [] before.sent sent p.failed failed p.ran ran));
     event_fails = p.event_fails;
     as_said = λ still event_still left event_left is event_is.
-        p.as_said (still_before old.faults now.faults new.faults ran.port.no_fall still) event_still left event_left (sym same ∙ is) event_is;
+        p.as_said (still_before old.faults now.faults new.faults ran.port.fails.no_fall still) event_still left event_left (sym same ∙ is) event_is;
   }

@@ -1,7 +1,8 @@
 -- One run of happenings after another.
-use Rattle.std.proofs.Common.{◌≡◌, ◌∙◌, ℕ, ◌+◌, ◌++◌, List, [], ◌∷◌, refl, sym, ap, ap₂, subst, append_assoc}
+use Rattle.std.proofs.Common.{◌≡◌, ◌∙◌, ℕ, ◌+◌, ◌++◌, Bool, List, [], ◌∷◌, refl, sym, ap, ap₂, subst, append_assoc}
 use Rattle.ptu_record.specs.Record.{Record}
 use Rattle.ptu_slave_messages.specs.Node.{Node}
+use Rattle.ptu_rounds.proofs.Taken.{happened-append}
 use Rattle.ptu_slave_daemon.specs.Happenings.{Happening, Selection, deed_at, entered_at, record_after, selection_at, selections_in, sent_in}
 use Rattle.ptu_slave_daemon.specs.Running.{AreTimed, HasFailed, IsAt, PortDid, Ran, View}
 use Rattle.ptu_slave_daemon.proofs.{Ports.{port_append, port_still}, Times.{timed_more, timed_none}}
@@ -24,44 +25,49 @@ module _ (node : Node) where
       ap (λ l. selection_at node (entered_at node L h) h ++ l) (selections_in-append (entered_at node L h) hs ks)
       ∙ sym (append_assoc (selection_at node (entered_at node L h) h) (selections_in node (entered_at node L h) hs) (selections_in node (record_after node (entered_at node L h) hs) ks))
 
+module _ (once : Bool) (node : Node) where
   -- nothing happened; some receives may have failed
   pub ran_still : (L : Record) (old new : View) (failed : ℕ) → IsAt node old.kept old.judges L → new.kept ≡ old.kept → new.judges ≡ old.judges → new.sent ≡ old.sent → new.times ≡ old.times
-      → HasFailed old.faults new.faults failed → Ran node L old new [] [] [] 0 failed
+      → HasFailed once old.faults new.faults failed → Ran once node L old new [] [] [] 0 failed
   ran_still L old new failed h kept judges sent times fails = record {
+    happened = tt;
     timed = subst (λ told. AreTimed old.times told [] []) (sym times) (timed_none old.times);
     stands = subst (λ k. IsAt node k new.judges L) (sym kept) (subst (λ js. IsAt node old.kept js L) (sym judges) h);
-    port = port_still old.sent new.sent old.faults new.faults failed sent fails;
+    port = port_still once old.sent new.sent old.faults new.faults failed sent fails;
     selects = refl;
   }
 
   pub ran_append : (L : Record) (old now new : View) (acts more : List (ℕ → Happening)) (hs ks : List Happening) (ss ts : List Selection) (s t f g : ℕ)
-      → (p : Ran node L old now acts hs ss s f) → Ran node (record_after node L hs) now new more ks ts t g → Ran node L old new (acts ++ more) (hs ++ ks) (ss ++ ts) (s + t) (f + g)
+      → (p : Ran once node L old now acts hs ss s f) → Ran once node (record_after node L hs) now new more ks ts t g → Ran once node L old new (acts ++ more) (hs ++ ks) (ss ++ ts) (s + t) (f + g)
   ran_append L old now new acts more hs ks ss ts s t f g p q = record {
+    happened = happened-append acts more hs ks p.happened q.happened;
     timed = timed_more old.times now.times new.times acts more hs ks p.timed q.timed;
-    stands = subst (IsAt node new.kept new.judges) (sym (record_after-append L hs ks)) q.stands;
-    port = subst (λ ds. PortDid old.sent new.sent old.faults new.faults ds (s + t) (f + g)) (sym (sent_in-append L hs ks))
-        (port_append old.sent now.sent new.sent old.faults now.faults new.faults (sent_in node L hs) (sent_in node (record_after node L hs) ks) s t f g p.port q.port);
-    selects = selections_in-append L hs ks ∙ ap₂ (λ l m. l ++ m) p.selects q.selects;
+    stands = subst (IsAt node new.kept new.judges) (sym (record_after-append node L hs ks)) q.stands;
+    port = subst (λ ds. PortDid once old.sent new.sent old.faults new.faults ds (s + t) (f + g)) (sym (sent_in-append node L hs ks))
+        (port_append once old.sent now.sent new.sent old.faults now.faults new.faults (sent_in node L hs) (sent_in node (record_after node L hs) ks) s t f g p.port q.port);
+    selects = selections_in-append node L hs ks ∙ ap₂ (λ l m. l ++ m) p.selects q.selects;
   }
 
   -- what is seen is the same in the end
   pub ran_view : (L : Record) (old now new : View) (acts : List (ℕ → Happening)) (hs : List Happening) (ss : List Selection) (s f : ℕ) → new.kept ≡ now.kept → new.judges ≡ now.judges → new.sent ≡ now.sent
-      → new.faults ≡ now.faults → new.times ≡ now.times → Ran node L old now acts hs ss s f → Ran node L old new acts hs ss s f
+      → new.faults ≡ now.faults → new.times ≡ now.times → Ran once node L old now acts hs ss s f → Ran once node L old new acts hs ss s f
   ran_view L old now new acts hs ss s f kept judges sent faults times p = record {
+    happened = p.happened;
     timed = subst (λ told. AreTimed old.times told acts hs) (sym times) p.timed;
     stands = subst (λ k. IsAt node k new.judges (record_after node L hs)) (sym kept) (subst (λ js. IsAt node now.kept js (record_after node L hs)) (sym judges) p.stands);
-    port = subst (λ told. PortDid old.sent told old.faults new.faults (sent_in node L hs) s f) (sym sent)
-        (subst (λ n. PortDid old.sent now.sent old.faults n (sent_in node L hs) s f) (sym faults) p.port);
+    port = subst (λ told. PortDid once old.sent told old.faults new.faults (sent_in node L hs) s f) (sym sent)
+        (subst (λ n. PortDid once old.sent now.sent old.faults n (sent_in node L hs) s f) (sym faults) p.port);
     selects = p.selects;
   }
 
   -- what was seen before is the same
   pub ran_from : (L : Record) (old now new : View) (acts : List (ℕ → Happening)) (hs : List Happening) (ss : List Selection) (s f : ℕ) → now.sent ≡ old.sent → now.faults ≡ old.faults → now.times ≡ old.times
-      → Ran node L now new acts hs ss s f → Ran node L old new acts hs ss s f
+      → Ran once node L now new acts hs ss s f → Ran once node L old new acts hs ss s f
   ran_from L old now new acts hs ss s f sent faults times p = record {
+    happened = p.happened;
     timed = subst (λ told. AreTimed told new.times acts hs) times p.timed;
     stands = p.stands;
-    port = subst (λ told. PortDid told new.sent old.faults new.faults (sent_in node L hs) s f) sent
-        (subst (λ n. PortDid now.sent new.sent n new.faults (sent_in node L hs) s f) faults p.port);
+    port = subst (λ told. PortDid once told new.sent old.faults new.faults (sent_in node L hs) s f) sent
+        (subst (λ n. PortDid once now.sent new.sent n new.faults (sent_in node L hs) s f) faults p.port);
     selects = p.selects;
   }

@@ -4,7 +4,7 @@ use Rattle.ptu_outside.specs.{declared.arrival.Arrival.{Arrival}, Departure.{Dep
 use Rattle.ptu_record.specs.{Record.{Record}, Step.{Stop, Tick}}
 use Rattle.ptu_profile.specs.Slave.{address_of}
 use Rattle.ptu_slave_messages.specs.Node.{Deed, Node, datagram_deed, deed, node_selection}
-use Rattle.ptu_rounds.specs.Rounds.{in_rounds, received_in, timed}
+use Rattle.ptu_rounds.specs.{Rounds.{in_rounds, taken_in, timed}, Taken.{Round, in_these}}
 
 -- what may happen to it, at a moment of its clock
 pub data Happening : Type 0 where
@@ -18,9 +18,18 @@ pub data Happening : Type 0 where
 abbrev pub arrive : Arrival → ℕ → Happening
 arrive arrival = λ at. Arrives arrival at
 
--- a round before which there were so many takes what waits on both channels, and then ticks
+-- what happens in a round before which there were so many, which took this: the datagrams, those of the general channel first,
+-- and then the tick
+abbrev pub round_with : ℕ → Round → List (ℕ → Happening)
+round_with before round = map arrive (round.general ++ round.event) ++ Ticks (before + 1) ∷ []
+
+-- what happens in rounds that took these, from the first round on
+abbrev pub acts_of : List Round → List (ℕ → Happening)
+acts_of rounds = in_these (λ before round. round_with before round) 0 rounds
+
+-- what happens in such a round where these wait
 abbrev pub round_of : (general event : List Arrival) → (before : ℕ) → List (ℕ → Happening)
-round_of general event before = map arrive (received_in before general event) ++ Ticks (before + 1) ∷ []
+round_of general event before = round_with before (record { general = taken_in before general; event = taken_in before event })
 
 -- all that happens where these wait on the channels: so many rounds, and at the end the stop, each thing at a new moment
 abbrev pub happenings : ℕ → (general event : List Arrival) → List ℕ → List Happening

@@ -1,6 +1,6 @@
 pub mod Opening
 pub mod Happenings
 pub mod Lines
+pub mod Running
 pub mod Served
 pub mod Answers
-pub mod Running

@@ -1,16 +1,17 @@
 -- What a slave's daemon did so far, whatever its ports tell.
-use Rattle.std.specs.Prelude.{◌≡◌, ◌⊎◌, ℕ, ◌+◌, ◌<◌, ◌≤◌, ◌^◌, Bool, false, cond, List, [], ◌∷◌, ◌++◌, length, map, Option, Some, IsSome, IfSome}
+use Rattle.std.specs.Prelude.{◌≡◌, ◌⊎◌, ℕ, ◌+◌, ◌<◌, ◌≤◌, ◌^◌, Bool, true, false, cond, List, [], ◌∷◌, ◌++◌, length, map, Option, Some, IsSome, IfSome}
 use Rattle.std.specs.List.{AllByRecursion}
 use Rattle.ptu_outside.specs.{declared.arrival.Arrival.{Arrival}, Departure.{Departure}}
-use Rattle.ptu_outside.specs.Faults.{HasNotFallen, HasRisen, HasRisenBy}
-use Rattle.ptu_outside.specs.Telling.{IfTold, IsEmptyTold, append_told}
+use Rattle.ptu_outside.specs.declared.{clock.Clock.{Ghosts as Clocks}, port.Port.{Ghosts as Ports}}
+use Rattle.ptu_outside.specs.{Faults.{HasNotFallen, HasRisen, HasRisenBy, HasRisenJust}, Telling.{IsEmptyTold}}
 use Rattle.ptu_record.specs.Record.{Record}
 use Rattle.ptu_judges.specs.Held.{Held}
 use Rattle.ptu_slave_messages.specs.Node.{Node}
 use Rattle.ptu_slave.specs.{Kept.{Kept}, Seen.{Seen}, Standing.{StandsFor}}
-use Rattle.ptu_rounds.specs.Rounds.{in_rounds, left_after, moments_after, timed}
+use Rattle.ptu_rounds.specs.{Handed.{SentPart}, Rounds.{in_rounds, left_after, moments_after, timed}}
+use Rattle.ptu_rounds.specs.Taken.{Gave, HappenedAt, HaveTaken, Round, event_of, general_of}
 use Rattle.ptu_slave_daemon.specs.declared.{counts.Counts.{Counts}, line.SlaveLine.{SlaveLine}}
-use Rattle.ptu_slave_daemon.specs.Happenings.{Happening, Stops, arrive, Selection, happenings, record_after, round_of, selections_in, sent_in}
+use Rattle.ptu_slave_daemon.specs.Happenings.{Happening, Stops, acts_of, arrive, Selection, happenings, record_after, round_of, selections_in, sent_in}
 use Rattle.ptu_slave_daemon.specs.Lines.{output_from}
 
 -- ---- counts
@@ -29,32 +30,28 @@ Counted sent failed old new = (new.sent ≡ old.sent + sent) × (new.failed ≡ 
 
 -- ---- ports
 
--- a port with these counts of faults was handed the datagrams, of which so many were sent, and so many
--- sends and receives failed
-pub record PortDid (before after : Option (List Departure)) (old new : ℕ) (datagrams : List Departure) (sent failed : ℕ)
+-- of a port with these counts of faults so many sends and receives failed; each counts one fault where `once`
+pub record HasFailed (once : Bool) (old new failed : ℕ) : Type 0 where
+  pub risen : HasRisenBy failed old new
+  pub just : once ≡ true → HasRisenJust failed old new
+  pub quiet : failed ≡ 0 → new ≡ old
+  pub no_fall : HasNotFallen old new
+
+-- a port with these counts of faults was handed the datagrams, of which so many were sent, and so many sends and receives failed
+pub record PortDid (once : Bool) (before after : Option (List Departure)) (old new : ℕ) (datagrams : List Departure) (sent failed : ℕ)
     : Type 0 where
-  pub departures : List Departure
-  pub many : length departures ≡ sent
-  pub sent_is : IfTold after (append_told before departures)
-  pub risen : HasRisenBy failed old new
-  pub no_fall : HasNotFallen old new
-  pub all_sent : ¬ HasRisen old new → IfTold after (append_told before datagrams)
-  pub all_counted : ¬ HasRisen old new → sent ≡ length datagrams
-
--- of a port with these counts of faults so many receives failed
-pub record HasFailed (old new failed : ℕ) : Type 0 where
-  pub risen : HasRisenBy failed old new
-  pub no_fall : HasNotFallen old new
-
--- these came from a port at which these waited before, and wait after
-abbrev pub CameFrom : Option (List Arrival) → Option (List Arrival) → List Arrival → Type 0
-CameFrom before after arrivals = IfSome after (λ left. before ≡ Some (arrivals ++ left))
+  -- of the failures, those of sends
+  pub unsent : ℕ
+  pub within : unsent ≤ failed
+  pub each : sent + unsent ≡ length datagrams
+  pub part : SentPart before after old new datagrams sent
+  pub fails : HasFailed once old new failed
 
 -- what a round takes of a port with these counts of faults: 64 datagrams, or all that waited where no
 -- receive failed
 pub record RoundTook (before after : Option (List Arrival)) (old new : ℕ) (arrivals : List Arrival)
     : Type 0 where
-  pub came : CameFrom before after arrivals
+  pub came : Gave before after arrivals
   pub few : length arrivals ≤ 64
   pub whole : ¬ HasRisen old new → (length arrivals ≡ 64) ⊎ IsEmptyTold after
 
@@ -86,17 +83,18 @@ pub record View : Type 0 where
 
 -- from the record L on these happened to the slave: it stands for the record after them, its port was handed what is sent
 -- then, and it selected this
-pub record Ran (node : Node) (L : Record) (old new : View) (acts : List (ℕ → Happening)) (hs : List Happening)
+pub record Ran (once : Bool) (node : Node) (L : Record) (old new : View) (acts : List (ℕ → Happening)) (hs : List Happening)
     (selections : List Selection) (sent failed : ℕ) : Type 0 where
+  pub happened : HappenedAt acts hs
   pub timed : AreTimed old.times new.times acts hs
   pub stands : IsAt node new.kept new.judges (record_after node L hs)
-  pub port : PortDid old.sent new.sent old.faults new.faults (sent_in node L hs) sent failed
+  pub port : PortDid once old.sent new.sent old.faults new.faults (sent_in node L hs) sent failed
   pub selects : selections_in node L hs ≡ selections
 
 -- these arrivals were taken, of which no selection came
-abbrev pub Took : Node → Record → View → View → List Arrival → (sent failed : ℕ) → Type 0
-Took node L old new arrivals sent failed =
-    (hs : List Happening) × Ran node L old new (map arrive arrivals) hs [] sent failed
+abbrev pub Took : Bool → Node → Record → View → View → List Arrival → (sent failed : ℕ) → Type 0
+Took once node L old new arrivals sent failed =
+    (hs : List Happening) × Ran once node L old new (map arrive arrivals) hs [] sent failed
 
 -- ---- rounds
 
@@ -115,19 +113,18 @@ AreRounds rounds general general' event event' faults faults' event_faults event
 -- ---- as the code sees it
 
 -- the view of a slave that keeps and holds this, with its port and the clock
-abbrev pub view_of : {P C : Type 0} → (P → Option (List Departure)) → (P → ℕ) → (C → Option (List ℕ))
-    → Kept → List Held → P → C → View
-view_of sent faults moments kept judges port clock = record {
+abbrev pub view_of : {P C : Type 0} → Ports P → Clocks C → Kept → List Held → P → C → View
+view_of ports clocks kept judges port clock = record {
   kept = kept;
   judges = judges;
-  sent = sent port;
-  faults = faults port;
-  times = moments clock;
+  sent = ports.sent port;
+  faults = ports.faults port;
+  times = clocks.moments clock;
 }
 
 -- the same of what is seen of a slave
-abbrev pub sees : {P B C : Type 0} → (P → Option (List Departure)) → (P → ℕ) → (C → Option (List ℕ)) → Seen P B → C → View
-sees sent faults moments slave clock = view_of sent faults moments slave.kept slave.judges slave.port clock
+abbrev pub sees : {P B C : Type 0} → Ports P → Clocks C → Seen P B → C → View
+sees ports clocks slave clock = view_of ports clocks slave.kept slave.judges slave.port clock
 
 -- what is seen of a slave stands for the node with this record
 abbrev pub Stands : {P B : Type 0} → Node → Seen P B → Record → Type 0
@@ -135,7 +132,7 @@ Stands node slave L = IsAt node slave.kept slave.judges L
 
 -- one datagram was taken of a port, or none, and then none waited or a receive failed
 pub record TookOne (more : Bool) (before after : Option (List Arrival)) (old new : ℕ) (arrivals : List Arrival) : Type 0 where
-  pub came : CameFrom before after arrivals
+  pub came : Gave before after arrivals
   pub many : length arrivals ≡ cond more 1 0
   pub none : more ≡ false → ¬ HasRisen old new → IsEmptyTold after
 
@@ -147,25 +144,29 @@ Course = Node → Record → (old new : View) → (general general' event event'
 
 -- so many rounds were gone through, which began at the record L, and after which this was selected; what happened is what
 -- happened in them, with its end
-pub record WentThrough (ended : List (ℕ → Happening) → List (ℕ → Happening)) (rounds : ℕ) (selections : List Selection)
+pub record WentThrough (once : Bool) (ended : List (ℕ → Happening) → List (ℕ → Happening)) (rounds : ℕ) (selections : List Selection)
     (sent failures : ℕ) (node : Node) (L : Record) (old new : View)
     (general general' event event' : Option (List Arrival)) (event_faults event_faults' : ℕ) : Type 0 where
-  pub acts : List (ℕ → Happening)
+  -- what each round took, whatever failed and whether or not the ports tell
+  pub took : List Round
+  pub taken : HaveTaken took rounds
+  pub general_gave : Gave general general' (general_of took)
+  pub event_gave : Gave event event' (event_of took)
   pub hs : List Happening
   pub failed : ℕ
   pub event_failed : ℕ
   pub failures_are : failures ≡ failed + event_failed
-  pub ran : Ran node L old new (ended acts) hs selections sent failed
-  pub event_fails : HasFailed event_faults event_faults' event_failed
-  pub as_said : AreRounds rounds general general' event event' old.faults new.faults event_faults event_faults' acts
+  pub ran : Ran once node L old new (ended (acts_of took)) hs selections sent failed
+  pub event_fails : HasFailed once event_faults event_faults' event_failed
+  pub as_said : AreRounds rounds general general' event event' old.faults new.faults event_faults event_faults' (acts_of took)
 
 -- the rounds alone
-abbrev pub RoundsDone : ℕ → List Selection → (sent failures : ℕ) → Course
-RoundsDone = WentThrough (λ acts. acts)
+abbrev pub RoundsDone : Bool → ℕ → List Selection → (sent failures : ℕ) → Course
+RoundsDone once = WentThrough once (λ acts. acts)
 
 -- and the slave has stopped
-abbrev pub RunDone : ℕ → List Selection → (sent failures : ℕ) → Course
-RunDone = WentThrough (λ acts. acts ++ Stops ∷ [])
+abbrev pub RunDone : Bool → ℕ → List Selection → (sent failures : ℕ) → Course
+RunDone once = WentThrough once (λ acts. acts ++ Stops ∷ [])
 
 -- ---- fronts of the output
 
@@ -180,25 +181,24 @@ IsFront rounds lines node L old new general general' event event' event_faults e
 
 -- ---- over the ports
 
-module _ {P B C : Type 0} (sent : P → Option (List Departure)) (waiting : P → Option (List Arrival)) (faults : P → ℕ)
-    (moments : C → Option (List ℕ)) (old new : Seen P B) (clock clock' : C) where
+module _ {P B C : Type 0} (ports : Ports P) (clocks : Clocks C) (old new : Seen P B) (clock clock' : C) where
   -- it is so of the slave, of its port, of the port of the event channel and of the clock, whatever node and record it stood for
   abbrev pub Went : (event event' : P) → Course → Type 0
   Went event event' course = (node : Node) (L : Record) → Stands node old L
-      → course node L (sees sent faults moments old clock) (sees sent faults moments new clock')
-      (waiting old.port) (waiting new.port) (waiting event) (waiting event') (faults event) (faults event')
+      → course node L (sees ports clocks old clock) (sees ports clocks new clock')
+      (ports.waiting old.port) (ports.waiting new.port) (ports.waiting event) (ports.waiting event') (ports.faults event) (ports.faults event')
 
   -- arrivals were taken of the slave's own port, in this way
   abbrev pub TookGeneral : (Option (List Arrival) → Option (List Arrival) → ℕ → ℕ → List Arrival → Type 0) → Counts → Counts → Type 0
   TookGeneral Way counts counts' = (node : Node) (L : Record) → Stands node old L
       → (arrivals : List Arrival) × (ok : ℕ) × (failed : ℕ) × Counted ok failed counts counts'
-      × Way (waiting old.port) (waiting new.port) (faults old.port) (faults new.port) arrivals
-      × Took node L (sees sent faults moments old clock) (sees sent faults moments new clock') arrivals ok failed
+      × Way (ports.waiting old.port) (ports.waiting new.port) (ports.faults old.port) (ports.faults new.port) arrivals
+      × Took ports.counts_once node L (sees ports clocks old clock) (sees ports clocks new clock') arrivals ok failed
 
   -- of the event channel's port
   abbrev pub TookEvent : (event event' : P) → (Option (List Arrival) → Option (List Arrival) → ℕ → ℕ → List Arrival → Type 0) → Counts → Counts → Type 0
   TookEvent event event' Way counts counts' = (node : Node) (L : Record) → Stands node old L
       → (arrivals : List Arrival) × (ok : ℕ) × (failed : ℕ) × (event_failed : ℕ) × Counted ok (failed + event_failed) counts counts'
-      × HasFailed (faults event) (faults event') event_failed
-      × Way (waiting event) (waiting event') (faults event) (faults event') arrivals
-      × Took node L (sees sent faults moments old clock) (sees sent faults moments new clock') arrivals ok failed
+      × HasFailed ports.counts_once (ports.faults event) (ports.faults event') event_failed
+      × Way (ports.waiting event) (ports.waiting event') (ports.faults event) (ports.faults event') arrivals
+      × Took ports.counts_once node L (sees ports clocks old clock) (sees ports clocks new clock') arrivals ok failed

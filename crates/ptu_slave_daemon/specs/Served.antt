@@ -1,12 +1,15 @@
 -- What a slave's daemon has done.
-use Rattle.std.specs.Prelude.{◌≡◌, ℕ, List, [], length, map, Option, Some, IsSome}
-use Rattle.ptu_outside.specs.declared.{arrival.Arrival.{Arrival}, opened.Opened.{Opened}}
+use Rattle.std.specs.Prelude.{◌≡◌, ℕ, List, [], ◌∷◌, ◌++◌, map, Option, Some, None, IsSome}
+use Rattle.ptu_outside.specs.declared.{arrival.Arrival.{Arrival}, clock.Clock.{Ghosts as Clocks}}
+use Rattle.ptu_outside.specs.declared.{opened.Opened.{Opened}, port.Port.{Ghosts as Ports}}
 use Rattle.ptu_outside.specs.{Departure.{Departure}, Handing.{HasPut, HasPutPart}}
 use Rattle.ptu_outside.specs.Telling.{IfTold, append_told}
 use Rattle.ptu_config.specs.declared.settings.SlaveSettings.{SlaveSettings}
-use Rattle.ptu_rounds.specs.Ports.{HaveNotRisen, HaveRisenBy, ports_of}
-use Rattle.ptu_slave_daemon.specs.Happenings.{Happening, Selection, happenings, sent_in}
-use Rattle.ptu_slave_daemon.specs.{Lines.{output, output_of, texts_of}, Opening.{node_of}}
+use Rattle.ptu_rounds.specs.{Handed.{FailuresAre, SentPart}, Ports.{HaveNotRisen, ports_of}}
+use Rattle.ptu_rounds.specs.Taken.{Gave, HappenedAt, HaveTaken, Round, event_of, general_of}
+use Rattle.ptu_slave_daemon.specs.Happenings.{Happening, Selection, Stops, acts_of, happenings, selections_in, sent_in}
+use Rattle.ptu_slave_daemon.specs.{Lines.{changes, output, output_of, texts_of}, Opening.{node_of}}
+use Rattle.ptu_slave_daemon.specs.Running.{AreTimed}
 
 -- what a daemon does not use is given back as it was opened: the ports but the last two, and the clocks but the first; by
 -- port 5 nothing was sent
@@ -23,46 +26,62 @@ pub record AreAside {P C : Type 0} (sent : P → Option (List Departure)) (befor
   pub c5 : after.c5 ≡ before.c5
 
 -- all that waits at ports 4 and 5, and the moments of clock 0, were told, and are told when they are given back
-pub record Tell {P C : Type 0} (waiting : P → Option (List Arrival)) (moments : C → Option (List ℕ))
-    (before after : Opened P C) (general event : List Arrival) (times : List ℕ) : Type 0 where
-  pub general_is : waiting before.p4 ≡ Some general
-  pub event_is : waiting before.p5 ≡ Some event
-  pub times_are : moments before.c0 ≡ Some times
-  pub general_after : IsSome (waiting after.p4)
-  pub event_after : IsSome (waiting after.p5)
-  pub times_after : IsSome (moments after.c0)
+pub record Tell {P C : Type 0} (ports : Ports P) (clocks : Clocks C) (before after : Opened P C) (general event : List Arrival) (times : List ℕ) : Type 0 where
+  pub general_is : ports.waiting before.p4 ≡ Some general
+  pub event_is : ports.waiting before.p5 ≡ Some event
+  pub times_are : clocks.moments before.c0 ≡ Some times
+  pub general_after : IsSome (ports.waiting after.p4)
+  pub event_after : IsSome (ports.waiting after.p5)
+  pub times_after : IsSome (clocks.moments after.c0)
 
-module _ {P C K : Type 0} (sent : P → Option (List Departure)) (waiting : P → Option (List Arrival)) (faults : P → ℕ)
-    (moments : C → Option (List ℕ)) (written : K → Option (List ℕ)) (handed : K → Option (List (List ℕ))) where
+-- what happened, whatever the counts did, and whether or not ports and clocks tell; so many datagrams were sent, and these
+-- selections were written
+pub record Happened {P C : Type 0} (ports : Ports P) (clocks : Clocks C) (settings : SlaveSettings) (before after : Opened P C)
+    (selections : List Selection) (sent : ℕ) : Type 0 where
+  -- each round took at most 64 datagrams of each channel, the first that waited where its port still tells that
+  pub rounds : List Round
+  pub taken : HaveTaken rounds settings.rounds
+  pub general : Gave (ports.waiting before.p4) (ports.waiting after.p4) (general_of rounds)
+  pub event : Gave (ports.waiting before.p5) (ports.waiting after.p5) (event_of rounds)
+  -- what happens in such rounds, and the stop, happened: each thing at some moment, which is the next of clock 0 where that still
+  -- tells its moments
+  pub happenings : List Happening
+  pub happened : HappenedAt (acts_of rounds ++ Stops ∷ []) happenings
+  pub moments : AreTimed (clocks.moments before.c0) (clocks.moments after.c0) (acts_of rounds ++ Stops ∷ []) happenings
+  -- port 4 was sent, in order, a part of what these make the slave send
+  pub part : SentPart (ports.sent before.p4) (ports.sent after.p4) (ports.faults before.p4) (ports.faults after.p4)
+      (sent_in (node_of settings) [] happenings) sent
+  -- it selected by the record of these
+  pub selects : changes None (selections_in (node_of settings) [] happenings) ≡ selections
+
+module _ {P C K : Type 0} (ports : Ports P) (clocks : Clocks C) (written : K → Option (List ℕ)) (handed : K → Option (List (List ℕ))) where
   -- what port 4 was sent, and what was written, is what a slave does and selects to which these things happen
   pub record HasDone (settings : SlaveSettings) (before after : Opened P C) (old new : K) (hs : List Happening) : Type 0 where
-    pub sends : IfTold (sent after.p4) (append_told (sent before.p4) (sent_in (node_of settings) [] hs))
+    pub sends : IfTold (ports.sent after.p4) (append_told (ports.sent before.p4) (sent_in (node_of settings) [] hs))
     pub writes : HasPut written handed old new (texts_of (output_of settings hs))
 
   -- a daemon with these settings has run over the ports and clocks that were opened, and has given these back
   pub record HasServed (settings : SlaveSettings) (before after : Opened P C) (old new : K) : Type 0 where
-    pub aside : AreAside sent before after
+    pub aside : AreAside ports.sent before after
     -- what was written, whatever the ports tell and however often they failed
     pub selections : List Selection
     pub sends : ℕ
     pub failures : ℕ
     pub writes : HasPut written handed old new (texts_of (output settings.rounds selections sends failures))
-    -- so many datagrams were sent by port 4
-    pub departures : List Departure
-    pub many : length departures ≡ sends
-    pub sent_is : IfTold (sent after.p4) (append_told (sent before.p4) departures)
-    -- the ports counted as many faults at least
-    pub failed : HaveRisenBy failures (map faults (ports_of before)) (map faults (ports_of after))
+    -- so many sends and receives failed
+    pub failed : FailuresAre ports.counts_once failures (map ports.faults (ports_of before)) (map ports.faults (ports_of after))
+    -- so many datagrams were sent by port 4, a part of what the record of what came makes the slave send
+    pub happened : Happened ports clocks settings before after selections sends
     -- where all is told and no port failed, all is as the rounds say
-    pub exact : (general event : List Arrival) (times : List ℕ) → Tell waiting moments before after general event times
-        → HaveNotRisen (map faults (ports_of before)) (map faults (ports_of after))
+    pub exact : (general event : List Arrival) (times : List ℕ) → Tell ports clocks before after general event times
+        → HaveNotRisen (map ports.faults (ports_of before)) (map ports.faults (ports_of after))
         → HasDone settings before after old new (happenings settings.rounds general event times)
 
   -- a daemon with these settings has run over the ports and clocks that were opened until the sink failed, and has given these
   -- back
   pub record HasStopped (settings : SlaveSettings) (before after : Opened P C) (old new : K) : Type 0 where
-    pub aside : AreAside sent before after
+    pub aside : AreAside ports.sent before after
     -- where all is told and no port failed, what was written is a front of what the rounds say
-    pub front : (general event : List Arrival) (times : List ℕ) → Tell waiting moments before after general event times
-        → HaveNotRisen (map faults (ports_of before)) (map faults (ports_of after))
+    pub front : (general event : List Arrival) (times : List ℕ) → Tell ports clocks before after general event times
+        → HaveNotRisen (map ports.faults (ports_of before)) (map ports.faults (ports_of after))
         → HasPutPart written handed old new (texts_of (output_of settings (happenings settings.rounds general event times)))

@@ -1,3 +1,5 @@
+//! Counts of datagrams that a slave's daemon sent, and of calls that failed.
+
 ghost use Rattle.std.specs.Prelude.{◌≡◌, ◌+◌, ◌<◌, ◌^◌};
 
 /// How many datagrams were sent, and how many sends and receives failed.

@@ -1,3 +1,5 @@
+//! The call `slave`: opens the host, runs all rounds, and writes the lines of the slave.
+
 ghost use Rattle.std.specs.Prelude.{◌≡◌, ℕ, List, length, map, IfOk, OnOk, OnErr, IsErrOf, true};
 ghost use Rattle.ptu_outside.specs.{declared.opened.Opened.{Opened}, Handing.{HasPutPart}};
 ghost use Rattle.ptu_config.specs.Limits.{IsSlaveInRange};
@@ -34,13 +36,13 @@ fn run_over<P: Port, C: Clock, K: Sink>(
         (length stock.flags.items) (length stock.gaps.items) ≡ true }
     ensures aside { IfOk result (λ pair. AreAside P.sent opened pair.0) }
     ensures served { IfOk result (λ pair. OnOk pair.1
-        (HasServed P.sent P.waiting P.faults C.moments K.written K.handed
+        (HasServed P.Port C.Clock K.written K.handed
         settings.now opened pair.0 sink.old sink.new)) }
     ensures part { IfOk result (λ pair. OnErr pair.1 ((selections : List Selection) × (sends : ℕ)
         × (failures : ℕ) × HasPutPart K.written K.handed sink.old sink.new
         (texts_of (output settings.now.rounds selections sends failures)))) }
     ensures front { IfOk result (λ pair. OnErr pair.1
-        (HasStopped P.sent P.waiting P.faults C.moments K.written K.handed
+        (HasStopped P.Port C.Clock K.written K.handed
         settings.now opened pair.0 sink.old sink.new)) }
     ensures counts { IfOk result (λ pair. FailsWith pair.1 (K.faults sink.old)
         (K.faults sink.new)) }
@@ -82,9 +84,9 @@ fn run_over<P: Port, C: Clock, K: Sink>(
 
 /// Runs a slave with these settings, which are in their ranges, over the ports and clocks of a
 /// host, and writes to the sink. In a round it takes up to 64 datagrams of the general channel and
-/// then as many of the event channel, and ticks; a failed send or receive is counted, and it goes
-/// on. At the end it stops, and writes its closing line. The judges are taken from the stock, which
-/// is fresh and has one of the stated rule for every master.
+/// then as many of the event channel, and ticks, and waits a little for the next datagram; a failed
+/// send or receive is counted, and it goes on. At the end it stops, and writes its closing line. The
+/// judges are taken from the stock, which is fresh and has one of the stated rule for every master.
 ///
 /// # Errors
 /// `Open` where the host opened nothing, and then nothing is written; `Write` where the sink
@@ -109,7 +111,7 @@ pub fn slave<H: Host, K: Sink>(
     // the settings, and with numbers that the ports bear out.
     ensures served { OnOk result ((before : Opened H.P H.C) × (after : Opened H.P H.C)
         × WasOpened (H.opening host.old) before × WasGivenBack (H.back host.new) after
-        × HasServed H.P.sent H.P.waiting H.P.faults H.C.moments K.written K.handed
+        × HasServed H.P.Port H.C.Clock K.written K.handed
         settings.now before after sink.old sink.new) }
 
     // What was written when it stopped is a front of an output of this form: lines of selections,
@@ -124,7 +126,7 @@ pub fn slave<H: Host, K: Sink>(
     ensures stopped { IsErrOf result DaemonFault.Write
         → (before : Opened H.P H.C) × (after : Opened H.P H.C)
         × WasOpened (H.opening host.old) before × WasGivenBack (H.back host.new) after
-        × HasStopped H.P.sent H.P.waiting H.P.faults H.C.moments K.written K.handed
+        × HasStopped H.P.Port H.C.Clock K.written K.handed
         settings.now before after sink.old sink.new }
     // The host was opened at the settings' address and port numbers, and stands on what it stood
     // on.

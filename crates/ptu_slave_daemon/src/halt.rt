@@ -1,3 +1,5 @@
+//! Why the rounds of a slave's daemon ended early.
+
 ghost use Rattle.std.specs.Prelude.{◌≡◌};
 ghost use Rattle.ptu_slave_daemon.specs.declared.halt.Halt.TheVariants.{OutOfMemory as NoMemory};
 

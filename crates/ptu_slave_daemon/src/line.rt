@@ -1,3 +1,5 @@
+//! The lines that a slave's daemon writes: each change of its selection, and the closing line.
+
 ghost use Rattle.std.specs.Prelude.{Some};
 ghost use Rattle.ptu_slave_daemon.specs.Lines.{line_text, master_text};
 

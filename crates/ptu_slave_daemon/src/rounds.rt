@@ -23,7 +23,7 @@ use ptu_slave::Slave;
 use ptu_units::OutOfMemory;
 use std::alloc::Global;
 
-// What happens to the slave in a round; what it selects at its end.
+// What happens to the slave in a round, which ends with a wait; what it selects at its end.
 fn happen<P: Port, C: Clock>(
     alloc: Global,
     slave: &mut Slave<P>,
@@ -39,22 +39,22 @@ fn happen<P: Port, C: Clock>(
         (arrivals : List Arrival) × (event_arrivals : List Arrival) × (hs : List Happening)
         × (sent : ℕ) × (failed : ℕ) × (event_failed : ℕ)
         × Counted sent (failed + event_failed) counts.old counts.new
-        × HasFailed (P.faults event.old) (P.faults event.new) event_failed
+        × HasFailed P.counts_once (P.faults event.old) (P.faults event.new) event_failed
         × RoundTook (P.waiting (seen ⟦<dyn Judge as Judge>⟧ slave.old).port) (P.waiting
         (seen ⟦<dyn Judge as Judge>⟧ slave.new).port)
         (P.faults (seen ⟦<dyn Judge as Judge>⟧ slave.old).port) (P.faults
         (seen ⟦<dyn Judge as Judge>⟧ slave.new).port) arrivals
         × RoundTook (P.waiting event.old) (P.waiting event.new)
         (P.faults event.old) (P.faults event.new) event_arrivals
-        × Ran node L
-        (sees P.sent P.faults C.moments (seen ⟦<dyn Judge as Judge>⟧ slave.old) clock.old)
-        (sees P.sent P.faults C.moments (seen ⟦<dyn Judge as Judge>⟧ slave.new) clock.new)
+        × Ran P.counts_once node L
+        (sees P.Port C.Clock (seen ⟦<dyn Judge as Judge>⟧ slave.old) clock.old)
+        (sees P.Port C.Clock (seen ⟦<dyn Judge as Judge>⟧ slave.new) clock.new)
         (map arrive (arrivals ++ event_arrivals) ++ Ticks round ∷ []) hs
         (record { round = round; master = master } ∷ []) sent failed) }
 {
     take_all_general(alloc, slave, clock, counts)?;
     take_all_event(alloc, slave, event, clock, counts)?;
-    Ok(tick(slave, clock, counts))
+    Ok(tick(slave, event, clock, counts))
 }
 
 // All rounds, with the lines of the selections. Gives what they counted.
@@ -71,9 +71,9 @@ fn run_rounds<P: Port, C: Clock, K: Sink>(
     ensures done { IfOk result (λ counts. (selections : List Selection)
         × HasPut K.written K.handed sink.old sink.new
         (texts_of (map selected_line (changes None selections)))
-        × Went P.sent P.waiting P.faults C.moments (seen ⟦<dyn Judge as Judge>⟧ slave.old)
+        × Went P.Port C.Clock (seen ⟦<dyn Judge as Judge>⟧ slave.old)
         (seen ⟦<dyn Judge as Judge>⟧ slave.new) clock.old clock.new event.old event.new
-        (RoundsDone rounds selections counts.sent counts.failed)) }
+        (RoundsDone P.counts_once rounds selections counts.sent counts.failed)) }
     ensures part { OnErr result ((selections : List Selection)
         × HasPutPart K.written K.handed sink.old sink.new
         (texts_of (map selected_line selections))) }
@@ -81,9 +81,9 @@ fn run_rounds<P: Port, C: Clock, K: Sink>(
         × (sends : ℕ) × (failures : ℕ) × (n ≤ rounds)
         × HasPutPart K.written K.handed sink.old sink.new
         (texts_of (map selected_line (changes None selections)))
-        × Went P.sent P.waiting P.faults C.moments (seen ⟦<dyn Judge as Judge>⟧ slave.old)
+        × Went P.Port C.Clock (seen ⟦<dyn Judge as Judge>⟧ slave.old)
         (seen ⟦<dyn Judge as Judge>⟧ slave.new) clock.old clock.new event.old event.new
-        (RoundsDone n selections sends failures) }
+        (RoundsDone P.counts_once n selections sends failures) }
     ensures counts { Halts result (K.faults sink.old) (K.faults sink.new) }
 {
     let mut counts = Counts::new();
@@ -115,15 +115,15 @@ pub(crate) fn run<P: Port, C: Clock, K: Sink>(
     ensures done { OnOk result ((selections : List Selection) × (sends : ℕ) × (failures : ℕ)
         × HasPut K.written K.handed sink.old sink.new
         (texts_of (output rounds (changes None selections) sends failures))
-        × Went P.sent P.waiting P.faults C.moments (seen ⟦<dyn Judge as Judge>⟧ slave.old)
+        × Went P.Port C.Clock (seen ⟦<dyn Judge as Judge>⟧ slave.old)
         (seen ⟦<dyn Judge as Judge>⟧ slave.new) clock.old clock.new event.old event.new
-        (RunDone rounds selections sends failures)) }
+        (RunDone P.counts_once rounds selections sends failures)) }
     ensures part { OnErr result ((selections : List Selection) × (sends : ℕ) × (failures : ℕ)
         × HasPutPart K.written K.handed sink.old sink.new
         (texts_of (output rounds selections sends failures))) }
     ensures stopped { IsErrOf result Halt.Write → (lines : List SlaveLine)
         × HasPutPart K.written K.handed sink.old sink.new (texts_of lines)
-        × Went P.sent P.waiting P.faults C.moments (seen ⟦<dyn Judge as Judge>⟧ slave.old)
+        × Went P.Port C.Clock (seen ⟦<dyn Judge as Judge>⟧ slave.old)
         (seen ⟦<dyn Judge as Judge>⟧ slave.new) clock.old clock.new event.old event.new
         (IsFront rounds lines) }
     ensures counts { Halts result (K.faults sink.old) (K.faults sink.new) }

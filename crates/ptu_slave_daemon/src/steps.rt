@@ -12,8 +12,11 @@ use crate::counts::Counts;
 use ptu_judges::Judge;
 use ptu_outside::{Clock, Port, Reply};
 use ptu_slave::{Heard, Slave};
-use ptu_units::OutOfMemory;
+use ptu_units::{Moment, OutOfMemory};
 use std::alloc::Global;
+
+/// Until how many nanoseconds after a tick the slave waits for a datagram.
+const REST: u64 = 1_900_000;
 
 // Counts what became of the reply to a datagram.
 fn count_reply(counts: &mut Counts, heard: &Heard)
@@ -50,9 +53,9 @@ pub(crate) fn take<P: Port, C: Clock>(
     ensures ran { OnOk result ((node : Node) (L : Record) → Stands node
         (seen ⟦<dyn Judge as Judge>⟧ slave.old) L →
         (sent : ℕ) × (failed : ℕ) × Counted sent failed counts.old counts.new
-        × Took node L
-        (sees P.sent P.faults C.moments (seen ⟦<dyn Judge as Judge>⟧ slave.old) clock.old)
-        (sees P.sent P.faults C.moments (seen ⟦<dyn Judge as Judge>⟧ slave.new) clock.new)
+        × Took P.counts_once node L
+        (sees P.Port C.Clock (seen ⟦<dyn Judge as Judge>⟧ slave.old) clock.old)
+        (sees P.Port C.Clock (seen ⟦<dyn Judge as Judge>⟧ slave.new) clock.new)
         (record { ip = from; bytes = octets.now } ∷ []) sent failed) }
 {
     let at = clock.now();
@@ -61,33 +64,45 @@ pub(crate) fn take<P: Port, C: Clock>(
     Ok(())
 }
 
-/// The slave ticks; what it then selects.
+// The moment until which the daemon waits after a tick at this one: less than two milliseconds
+// later, for which a port waits by one call of the system, of a millisecond.
+fn rest_after(tick: Moment) -> Moment {
+    Moment::of(tick.nanos() + REST).unwrap_or(tick)
+}
+
+/// The slave ticks; what it then selects. Then the port of the event channel waits until a datagram
+/// is there, for a millisecond or so at most.
 pub(crate) fn tick<P: Port, C: Clock>(
     slave: &mut Slave<P>,
+    event: &mut P,
     clock: &mut C,
     counts: &mut Counts,
 ) -> Option<u32>
     requires few { IsFew (2 ^ 64) counts.old }
     ensures grows { Grows (2 ^ 64) counts.old counts.new }
+    ensures sent { P.sent event.new ≡ P.sent event.old }
+    ensures event_waiting { P.waiting event.new ≡ P.waiting event.old }
+    ensures event_quiet { P.faults event.new ≡ P.faults event.old }
     ensures waiting { P.waiting (seen ⟦<dyn Judge as Judge>⟧ slave.new).port ≡ P.waiting
         (seen ⟦<dyn Judge as Judge>⟧ slave.old).port }
     ensures ran { (node : Node) (L : Record) (round : ℕ) → Stands node
         (seen ⟦<dyn Judge as Judge>⟧ slave.old) L →
         (sent : ℕ) × (failed : ℕ) × (hs : List Happening)
         × Counted sent failed counts.old counts.new
-        × Ran node L
-        (sees P.sent P.faults C.moments (seen ⟦<dyn Judge as Judge>⟧ slave.old) clock.old)
-        (sees P.sent P.faults C.moments (seen ⟦<dyn Judge as Judge>⟧ slave.new) clock.new)
+        × Ran P.counts_once node L
+        (sees P.Port C.Clock (seen ⟦<dyn Judge as Judge>⟧ slave.old) clock.old)
+        (sees P.Port C.Clock (seen ⟦<dyn Judge as Judge>⟧ slave.new) clock.new)
         (Ticks round ∷ []) hs (record { round = round; master = result } ∷ []) sent failed }
 {
     let at = clock.now();
     let ticked = slave.tick(at);
     let master = slave.selected_address(at);
     counts.add(ticked.sent, ticked.failed);
+    event.wait(rest_after(at));
     master
 }
 
-/// The slave stops.
+/// The slave stops, and sends each master the CANCELs of its live grants.
 pub(crate) fn stop<P: Port, C: Clock>(slave: &mut Slave<P>, clock: &mut C, counts: &mut Counts)
     requires few { IsFew (2 ^ 64) counts.old }
     ensures waiting { P.waiting (seen ⟦<dyn Judge as Judge>⟧ slave.new).port ≡ P.waiting
@@ -96,9 +111,9 @@ pub(crate) fn stop<P: Port, C: Clock>(slave: &mut Slave<P>, clock: &mut C, count
         →
         (sent : ℕ) × (failed : ℕ) × (hs : List Happening)
         × Counted sent failed counts.old counts.new
-        × Ran node L
-        (sees P.sent P.faults C.moments (seen ⟦<dyn Judge as Judge>⟧ slave.old) clock.old)
-        (sees P.sent P.faults C.moments (seen ⟦<dyn Judge as Judge>⟧ slave.new) clock.new)
+        × Ran P.counts_once node L
+        (sees P.Port C.Clock (seen ⟦<dyn Judge as Judge>⟧ slave.old) clock.old)
+        (sees P.Port C.Clock (seen ⟦<dyn Judge as Judge>⟧ slave.new) clock.new)
         (Stops ∷ []) hs [] sent failed }
 {
     let at = clock.now();

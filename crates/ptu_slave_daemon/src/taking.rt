@@ -26,7 +26,7 @@ fn take_general<P: Port, C: Clock>(
 ) -> Result<bool, OutOfMemory>
     requires few { IsFew 1 counts.old }
     ensures grows { Grows 1 counts.old counts.new }
-    ensures took { IfOk result (λ more. TookGeneral P.sent P.waiting P.faults C.moments
+    ensures took { IfOk result (λ more. TookGeneral P.Port C.Clock
         (seen ⟦<dyn Judge as Judge>⟧ slave.old) (seen ⟦<dyn Judge as Judge>⟧ slave.new)
         clock.old clock.new (TookOne more) counts.old counts.new) }
 {
@@ -57,7 +57,7 @@ fn take_event<P: Port, C: Clock>(
     ensures waiting { P.waiting (seen ⟦<dyn Judge as Judge>⟧ slave.new).port ≡ P.waiting
         (seen ⟦<dyn Judge as Judge>⟧ slave.old).port }
     ensures sent { P.sent event.new ≡ P.sent event.old }
-    ensures took { IfOk result (λ more. TookEvent P.sent P.waiting P.faults C.moments
+    ensures took { IfOk result (λ more. TookEvent P.Port C.Clock
         (seen ⟦<dyn Judge as Judge>⟧ slave.old) (seen ⟦<dyn Judge as Judge>⟧ slave.new)
         clock.old clock.new event.old event.new (TookOne more) counts.old counts.new) }
 {
@@ -87,7 +87,7 @@ pub(crate) fn take_all_general<P: Port, C: Clock>(
 ) -> Result<(), OutOfMemory>
     requires few { IsFew 64 counts.old }
     ensures grows { Grows 64 counts.old counts.new }
-    ensures took { OnOk result (TookGeneral P.sent P.waiting P.faults C.moments
+    ensures took { OnOk result (TookGeneral P.Port C.Clock
         (seen ⟦<dyn Judge as Judge>⟧ slave.old) (seen ⟦<dyn Judge as Judge>⟧ slave.new)
         clock.old clock.new RoundTook counts.old counts.new) }
 {
@@ -115,7 +115,7 @@ pub(crate) fn take_all_event<P: Port, C: Clock>(
     ensures waiting { P.waiting (seen ⟦<dyn Judge as Judge>⟧ slave.new).port ≡ P.waiting
         (seen ⟦<dyn Judge as Judge>⟧ slave.old).port }
     ensures sent { P.sent event.new ≡ P.sent event.old }
-    ensures took { OnOk result (TookEvent P.sent P.waiting P.faults C.moments
+    ensures took { OnOk result (TookEvent P.Port C.Clock
         (seen ⟦<dyn Judge as Judge>⟧ slave.old) (seen ⟦<dyn Judge as Judge>⟧ slave.new)
         clock.old clock.new event.old event.new RoundTook counts.old counts.new) }
 {

@@ -22,10 +22,10 @@ fn text_of(alloc: Global, line: SlaveLine) -> Result<String, OutOfMemory>
     Ok(text)
 }
 
-/// Writes a line.
+/// Writes a line of the daemon to the sink, whole.
 ///
 /// # Errors
-/// `Write` where the sink failed, and `OutOfMemory`.
+/// `Write` if the sink failed: a prefix of the line was written then. `OutOfMemory`: nothing was.
 pub(crate) fn write_line<K: Sink>(alloc: Global, sink: &mut K, line: SlaveLine) -> Result<(), Halt>
     ensures whole { OnOk result (HasPut K.written K.handed sink.old sink.new
         (texts_of (line ∷ []))) }

@@ -2,7 +2,7 @@
 use Rattle.std.proofs.Common.{◌≡◌, ℕ, ◌≤◌, ◌&&◌, List, Option, Some, None, Result, Ok, Err, IfOk, IfSome, ◌-◌, ◌^◌, Bool, true, false, cond, leb, refl, subst, option_and_then, leb-true}
 use Rattle.std.proofs.lemmas.Bool.{and_parts}
 use Rattle.ptu_lines.specs.Words.{within, number_of, word_of, ip_of, clock_of, octets_of}
-use Rattle.ptu_profile.specs.Limits.{IsCapacity}
+use Rattle.ptu_units.specs.Limits.{IsCapacity}
 use Rattle.ptu_script.specs.declared.{cause.Cause.{Cause}, command.Command.{Command}}
 use Rattle.ptu_script.specs.declared.command.Command.TheVariants as commands
 use Rattle.ptu_script.specs.declared.{command.GrandmasterSetup.{GrandmasterSetup}, verb.Verb.{Verb}}

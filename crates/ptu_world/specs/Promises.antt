@@ -14,7 +14,8 @@ use Rattle.ptu_history.specs.History.{Record, Sent, capacity_in_force}
 use Rattle.ptu_history.specs.{Runs.{sequence_number}}
 use Rattle.ptu_history.specs.Verdict.{Verdict, Outside, OutsideCause, granted_seconds, others, profile, verdict}
 use Rattle.ptu_laws.specs.{Granted.{is_granted, is_short}}
-use Rattle.ptu_profile.specs.{Grandmaster.{IsWithinLimits}, Limits.{IsCapacity}}
+use Rattle.ptu_profile.specs.Grandmaster.{IsWithinLimits}
+use Rattle.ptu_units.specs.Limits.{IsCapacity}
 use Rattle.ptu_gm_messages.specs.declared.item.Item.{Item}
 use Rattle.ptu_gm_messages.specs.declared.item.Item.TheVariants as items
 use Rattle.ptu_gm_messages.specs.declared.heard.Heard.TheVariants as heard

@@ -1,3 +1,5 @@
+//! Finds a sent datagram by its number.
+
 ghost use Rattle.std.specs.Prelude.{◌≡◌};
 ghost use Rattle.ptu_world.specs.World.{datagram_numbered};
 

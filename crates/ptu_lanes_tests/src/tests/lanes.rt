@@ -1,5 +1,5 @@
 ghost use Rattle.std.specs.Prelude.{◌≡◌, ◌≤◌, ℕ, length, IfOk};
-ghost use Rattle.ptu_profile.specs.Limits.{IsCapacity};
+ghost use Rattle.ptu_units.specs.Limits.{IsCapacity};
 ghost use Rattle.ptu_shared.specs.{Blanks.{IsBlankOf}, Opening.{idle_port}};
 
 use ptu_admit::{Closed, Verdict};

@@ -151,6 +151,12 @@ impl<P: Port + Send> Host for OnceHost<P> {
 
     ghost opened_at = { λ _. None };
 
+    ghost control = { λ _. None };
+
+    ghost control_back = { λ _. None };
+
+    ghost control_at = { λ _. None };
+
     ghost faults = { λ h. h.faults };
 
     fn open(
@@ -170,6 +176,18 @@ impl<P: Port + Send> Host for OnceHost<P> {
         ensures quiet { self.new.faults ≡ self.old.faults }
     {
         self.back = Some(opened);
+    }
+
+    // It has no control port.
+    fn open_control(&mut self, _number: u16) -> Result<P, Failed> {
+        self.faults = self.faults.saturating_add(1);
+        Err(Failed)
+    }
+
+    fn close_control(&mut self, port: P)
+        ensures quiet { self.new.faults ≡ self.old.faults }
+    {
+        let _ = port;
     }
 }
 

@@ -1,5 +1,5 @@
 ghost use Rattle.std.specs.Prelude.{◌≡◌, ◌≤◌, ℕ, None};
-ghost use Rattle.ptu_profile.specs.Limits.{IsCapacity};
+ghost use Rattle.ptu_units.specs.Limits.{IsCapacity};
 ghost use Rattle.ptu_shared.specs.{Blanks.{IsBlankOf}, Opening.{untold_port}};
 
 use super::shared::{ANNOUNCE, Blanks, GRANTED, GRANTED_LATER, SYNC, ask, moment, turn};

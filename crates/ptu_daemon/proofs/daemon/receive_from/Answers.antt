@@ -15,5 +15,4 @@ returns g c =
       once = e.once;
       quiet = e.quiet;
       no_fall = e.no_fall;
-      goes_on = e.goes_on;
     }

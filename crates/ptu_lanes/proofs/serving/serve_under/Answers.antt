@@ -9,5 +9,5 @@ returns g c =
     five_ok c.close.result _ _ _ _ _ _ (λ r same moved back counted held.
     serves_by_lanes g.P.Port g.C.Clock c.args.settings.now c.args.config.now c.args.opened r.0 r.1 lanes.control.port lanes.event.port lanes.control.clock lanes.event.clock
     _ lanes.sending lanes.control.seat _ _ g.L.Rates.most g.L.Rates.opened c.requires.most c.requires.ports c.sending_lanes.ensures
-    did.control did.exchanged did.event did.took did.unsent did.goes_on did.turned did.failed did.missed same moved back counted held)
+    did.control did.exchanged did.event did.took did.unsent did.turned did.failed did.missed same moved back counted held)
     closing.ports closing.clocks closing.tables closing.totals closing.held

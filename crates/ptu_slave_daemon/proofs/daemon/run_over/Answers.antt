@@ -17,7 +17,7 @@ returns-clause-served g c =
       | in-Ok w ↦
           let d = w.in-Ok.ensures.done in
           rw w.written-is
-          (has_served_by g.P.Port.sent g.P.Port.waiting g.P.Port.faults g.C.Clock.moments g.K.Sink.written g.K.Sink.handed c.args.settings.now c.args.opened
+          (has_served_by g.P.Port g.C.Clock g.K.Sink.written g.K.Sink.handed c.args.settings.now c.args.opened
           (given_back c.args.opened c.into_port.result c.run-answer.new.event c.run-answer.new.clock)
           c.args.sink.now c.run-answer.new.sink (seen (λ i. (g.dyn-1.0.entry i).1.Judge) c.in_ok-slave.slave).kept (seen (λ i. (g.dyn-1.0.entry i).1.Judge) c.run-answer.new.slave).kept _ _ (seen (λ i. (g.dyn-1.0.entry i).1.Judge) c.in_ok-slave.slave).port (seen (λ i. (g.dyn-1.0.entry i).1.Judge) c.run-answer.new.slave).port d.0 d.1 d.2
           (aside_of g.P.Port.sent c.args.opened c.into_port.result c.run-answer.new.event c.run-answer.new.clock c.run-answer.ensures.sent)
@@ -33,7 +33,7 @@ returns-clause-front g c =
           let is = w.in-Err.is ∙ ap Err w.in-Write.is in
           let d = c.run-answer.ensures.stopped is in
           rw w.written-is
-          (has_stopped g.P.Port.sent g.P.Port.waiting g.P.Port.faults g.C.Clock.moments g.K.Sink.written g.K.Sink.handed c.args.settings.now c.args.opened
+          (has_stopped g.P.Port g.C.Clock g.K.Sink.written g.K.Sink.handed c.args.settings.now c.args.opened
           (given_back c.args.opened c.into_port.result c.run-answer.new.event c.run-answer.new.clock)
           c.args.sink.now c.run-answer.new.sink (seen (λ i. (g.dyn-1.0.entry i).1.Judge) c.in_ok-slave.slave).kept (seen (λ i. (g.dyn-1.0.entry i).1.Judge) c.run-answer.new.slave).kept
           (seen (λ i. (g.dyn-1.0.entry i).1.Judge) c.in_ok-slave.slave).judges (seen (λ i. (g.dyn-1.0.entry i).1.Judge) c.run-answer.new.slave).judges (seen (λ i. (g.dyn-1.0.entry i).1.Judge) c.in_ok-slave.slave).port (seen (λ i. (g.dyn-1.0.entry i).1.Judge) c.run-answer.new.slave).port d.0

@@ -22,7 +22,7 @@ returns-clause-done g c =
       λ node L h.
           let p = done.2 node L h in
           let t = c.stop.ensures.ran node (record_after node L p.hs) p.ran.stands in
-          done_run node L _ _ _ _ c.args.rounds _ _ _ _ _ _ done.0 c.in_ok-counts.counts c.stop.new.counts t.2 t.0 t.1 p t.3 c.stop.ensures.waiting t.4,
+          done_run g.P.Port.counts_once node L _ _ _ _ c.args.rounds _ _ _ _ _ _ done.0 c.in_ok-counts.counts c.stop.new.counts t.2 t.0 t.1 p t.3 c.stop.ensures.waiting t.4,
     )) c.write_line.ensures.whole
 
 pub returns-clause-part : goal.returns-clause-part
@@ -59,8 +59,8 @@ returns-clause-stopped g c = λ is.
       λ node L h.
           let p = done.2 node L h in
           let t = c.stop.ensures.ran node (record_after node L p.hs) p.ran.stands in
-          front_run node L _ _ _ _ _ _ _ _ c.args.rounds done.0 c.stop.new.counts.sent c.stop.new.counts.failed
-          (done_run node L _ _ _ _ c.args.rounds _ _ _ _ _ _ done.0 c.in_ok-counts.counts c.stop.new.counts t.2 t.0 t.1 p t.3 c.stop.ensures.waiting t.4),
+          front_run g.P.Port.counts_once node L _ _ _ _ _ _ _ _ c.args.rounds done.0 c.stop.new.counts.sent c.stop.new.counts.failed
+          (done_run g.P.Port.counts_once node L _ _ _ _ c.args.rounds _ _ _ _ _ _ done.0 c.in_ok-counts.counts c.stop.new.counts t.2 t.0 t.1 p t.3 c.stop.ensures.waiting t.4),
     )
 
 -- it failed in the line of a round
@@ -70,4 +70,4 @@ returns-in_err-counts-clause-stopped g c =
     rw (p.1, p.2) (λ is.
     let write : c.in_err-counts.field-0.0 ≡ Write = cc is in
     let d = c.in_err-counts.ensures.stopped (ap (λ (e : Halt). Err e) write) in
-    (map selected_line (changes None d.1), d.5, λ node L h. front_rounds node L _ _ _ _ _ _ _ _ d.0 c.args.rounds d.1 d.2 d.3 d.4 (d.6 node L h)))
+    (map selected_line (changes None d.1), d.5, λ node L h. front_rounds g.P.Port.counts_once node L _ _ _ _ _ _ _ _ d.0 c.args.rounds d.1 d.2 d.3 d.4 (d.6 node L h)))

@@ -13,7 +13,7 @@ returns-clause-ran g c = λ node L h. (
   c.count_reply.ensures.counted,
   (
     Arrives (record { ip = c.args.from; bytes = c.args.octets.now }) c.now-at.result ∷ [],
-    ran_taken node L _ _ c.now-at.result h c.take.ensures.same (record { ip = c.args.from; bytes = c.args.octets.now }) _ _
+    ran_taken g.P.Port.counts_once node L _ _ c.now-at.result h c.take.ensures.same (record { ip = c.args.from; bytes = c.args.octets.now }) _ _
         (timed_one _ _ c.now-at.result (λ at. Arrives (record { ip = c.args.from; bytes = c.args.octets.now }) at) (g.met.C.Clock.never_empty c.args.clock.now) c.now-at.ensures.first c.now-at.ensures.rest)
         (λ reason is. (ap (λ (s : Seen _ _). s.kept) (c.take.ensures.ignored reason is), ap (λ (s : Seen _ _). s.judges) (c.take.ensures.ignored reason is)))
         (λ m message is. c.in_ok-heard.ensures.steps m message is refl node.openings L h.stands)

@@ -9,5 +9,5 @@ invariant-loop-taken g l = record {
   grows : Grows l._taken l.fn.counts l.counts;
   waiting : g.P.Port.waiting (seen (λ i. (g.dyn-1.0.entry i).1.Judge) l.slave).port ≡ g.P.Port.waiting (seen (λ i. (g.dyn-1.0.entry i).1.Judge) l.fn.slave).port;
   sent : g.P.Port.sent l.event ≡ g.P.Port.sent l.fn.event;
-  took : TookEvent g.P.Port.sent g.P.Port.waiting g.P.Port.faults g.C.Clock.moments (seen (λ i. (g.dyn-1.0.entry i).1.Judge) l.fn.slave) (seen (λ i. (g.dyn-1.0.entry i).1.Judge) l.slave) l.fn.clock l.clock l.fn.event l.event (CameSoFar l._taken) l.fn.counts l.counts;
+  took : TookEvent g.P.Port g.C.Clock (seen (λ i. (g.dyn-1.0.entry i).1.Judge) l.fn.slave) (seen (λ i. (g.dyn-1.0.entry i).1.Judge) l.slave) l.fn.clock l.clock l.fn.event l.event (CameSoFar l._taken) l.fn.counts l.counts;
 }

@@ -13,7 +13,7 @@ returns-in_ok-take-in-Ok-Some-clause-took g c = λ node L h.
       t.1,
       0,
       (t.2.0, t.2.1 ∙ ap (λ n. c.args.counts.now.failed + n) (sym (add-zero t.1))),
-      failed_none _ _ e.quiet,
+      failed_none g.P.Port.counts_once _ _ e.quiet,
       one_came _ _ _ _ _ e.first e.rest,
       t.3,
     )
@@ -26,9 +26,9 @@ returns-in-Ok-None-clause-took g c = λ node L h.
       0,
       0,
       counted_none c.args.counts.now,
-      failed_none _ _ e.quiet,
+      failed_none g.P.Port.counts_once _ _ e.quiet,
       none_came _ _ _ _ e.left e.nothing,
-      took_none node L _ _ 0 h refl refl refl refl (failed_none _ _ refl),
+      took_none g.P.Port.counts_once node L _ _ 0 h refl refl refl refl (failed_none g.P.Port.counts_once _ _ refl),
     )
 
 pub returns-in-Err-clause-took : goal.returns-in-Err-clause-took
@@ -38,7 +38,7 @@ returns-in-Err-clause-took g c = λ node L h. (
   0,
   1,
   (ap (λ (k : Counts). k.sent) c.add.ensures, ap (λ (k : Counts). k.failed) c.add.ensures),
-  failed_once _ _ c.in-Err.ensures.risen c.receive.ensures.no_fall,
+  failed_once g.P.Port.counts_once _ _ c.in-Err.ensures.risen c.in-Err.ensures.once c.receive.ensures.no_fall,
   none_received _ _ _ _ c.in-Err.ensures.kept c.in-Err.ensures.risen,
-  took_none node L _ _ 0 h refl refl refl refl (failed_none _ _ refl),
+  took_none g.P.Port.counts_once node L _ _ 0 h refl refl refl refl (failed_none g.P.Port.counts_once _ _ refl),
 )

@@ -15,7 +15,7 @@ returns-in_ok-take-in-Ok-Some-clause-took g c = λ node L h.
       t.1,
       t.2,
       one_came _ _ _ _ _ e.first (subst (λ w. IfTold w (rest_told (g.P.Port.waiting (seen (λ i. (g.dyn-1.0.entry i).1.Judge) c.args.slave.now).port))) (sym c.take.ensures.waiting) e.rest),
-      (t.3.0, ran_from node L _ _ _ _ _ _ _ _ c.receive.ensures.sent e.quiet refl t.3.1),
+      (t.3.0, ran_from g.P.Port.counts_once node L _ _ _ _ _ _ _ _ c.receive.ensures.sent e.quiet refl t.3.1),
     )
 
 pub returns-in-Ok-None-clause-took : goal.returns-in-Ok-None-clause-took
@@ -26,7 +26,7 @@ returns-in-Ok-None-clause-took g c = λ node L h.
       0,
       counted_none c.args.counts.now,
       none_came _ _ _ _ e.left e.nothing,
-      took_none node L _ _ 0 h (ap (λ (s : Seen _ _). s.kept) c.receive.ensures.rest_is) (ap (λ (s : Seen _ _). s.judges) c.receive.ensures.rest_is) c.receive.ensures.sent refl (failed_none _ _ e.quiet),
+      took_none g.P.Port.counts_once node L _ _ 0 h (ap (λ (s : Seen _ _). s.kept) c.receive.ensures.rest_is) (ap (λ (s : Seen _ _). s.judges) c.receive.ensures.rest_is) c.receive.ensures.sent refl (failed_none g.P.Port.counts_once _ _ e.quiet),
     )
 
 pub returns-in-Err-clause-took : goal.returns-in-Err-clause-took
@@ -36,5 +36,5 @@ returns-in-Err-clause-took g c = λ node L h. (
   1,
   (ap (λ (k : Counts). k.sent) c.add.ensures, ap (λ (k : Counts). k.failed) c.add.ensures),
   none_received _ _ _ _ c.in-Err.ensures.kept c.in-Err.ensures.risen,
-  took_none node L _ _ 1 h (ap (λ (s : Seen _ _). s.kept) c.receive.ensures.rest_is) (ap (λ (s : Seen _ _). s.judges) c.receive.ensures.rest_is) c.receive.ensures.sent refl (failed_once _ _ c.in-Err.ensures.risen c.receive.ensures.no_fall),
+  took_none g.P.Port.counts_once node L _ _ 1 h (ap (λ (s : Seen _ _). s.kept) c.receive.ensures.rest_is) (ap (λ (s : Seen _ _). s.judges) c.receive.ensures.rest_is) c.receive.ensures.sent refl (failed_once g.P.Port.counts_once _ _ c.in-Err.ensures.risen c.in-Err.ensures.once c.receive.ensures.no_fall),
 )

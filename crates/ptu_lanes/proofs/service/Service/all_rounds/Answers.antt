@@ -38,12 +38,6 @@ returns-clause-event g c =
 pub returns-clause-unsent : goal.returns-clause-unsent
 returns-clause-unsent g c = if_ok c.stretch-3.result _ _ (λ new late. late.unsent ∙ c.in_ok-lanes.ensures.event.unsent) c.stretch-3.ensures.event
 
-pub returns-in_default-clause-goes_on : goal.returns-in_default-clause-goes_on
-returns-in_default-clause-goes_on g c = if_ok c.stretch.result _ _ (λ new took. took.goes_on) c.stretch.ensures.event
-
-pub returns-clause-goes_on : goal.returns-clause-goes_on
-returns-clause-goes_on g c = if_ok c.stretch-3.result _ _ (λ new late. late.goes_on ∙ c.in_ok-lanes.ensures.event.goes_on) c.stretch-3.ensures.event
-
 pub returns-in_default-clause-exchanged : goal.returns-in_default-clause-exchanged
 returns-in_default-clause-exchanged g c =
     let none : change_of c.args.settings.now ≡ None = sym c.change.ensures.change ∙ c.in_default.is in
