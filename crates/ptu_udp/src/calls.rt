@@ -4,7 +4,6 @@
 ghost use Rattle.std.specs.Prelude.{◌≤◌, IfOk, IfSome};
 
 use crate::socket::Socket;
-use crate::traffic::Traffic;
 use ptu_outside::Failed;
 use ptu_units::sizes::LONGEST_DATAGRAM;
 use std::io::ErrorKind;
@@ -42,7 +41,6 @@ fn take_next<S: Socket>(socket: &mut S, buf: &mut [u8; 2049]) -> io::Result<(usi
 /// Where the socket failed, or 64 datagrams were left out.
 pub(crate) fn take_whole<S: Socket>(
     socket: &mut S,
-    traffic: &Traffic,
     buf: &mut [u8; LONGEST_DATAGRAM],
 ) -> Result<Option<(u32, usize)>, Failed>
     ensures within { IfOk result (λ taken. IfSome taken (λ got. got.1 ≤ 2048)) }
@@ -52,7 +50,6 @@ pub(crate) fn take_whole<S: Socket>(
     for _ in 0..MOST_LEFT_OUT {
         match take_next(socket, &mut taken) {
             Ok((length, SocketAddr::V4(from))) => {
-                traffic.note();
                 if length <= LONGEST_DATAGRAM {
                     buf[..length].copy_from_slice(&taken[..length]);
                     return Ok(Some((from.ip().to_bits(), length)));

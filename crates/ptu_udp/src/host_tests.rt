@@ -1,5 +1,6 @@
-use crate::{SysClock, UdpHost, UdpPort};
+use crate::{Polled, SysClock, UdpHost, UdpPort};
 use ptu_outside::{Channel, Host, Opened, Port};
+use ptu_units::Moment;
 use std::io;
 use std::net::{Net, SocketAddr, UdpSocket};
 use std::process::Abort;
@@ -58,20 +59,11 @@ impl<R: Clock> Clock for Watched<R> {
     }
 }
 
-// How often the port rests where it receives ten times and nothing waits.
-fn rests<R, P: Port>(rt: &impl Abort, watched: &Watched<R>, port: &mut P) -> u64 {
-    let before = watched.rests.load(Ordering::Relaxed);
-    for _ in 0..10 {
-        assert_eq!(rt; port.receive(&mut [0; 2048]), Ok(None));
-    }
-    watched.rests.load(Ordering::Relaxed).saturating_sub(before)
-}
-
 // The ports of a host at that address, at numbers that are free.
 fn open<R: Net + Clock + Copy + Send>(
     rt: &impl Abort,
     host: &mut UdpHost<R>,
-) -> Opened<UdpPort<R, UdpSocket>, SysClock<R>> {
+) -> Opened<UdpPort<R, UdpSocket, Polled>, SysClock<R>> {
     for pair in 0..100 {
         let number = 22119 + 2 * pair;
         if let Ok(opened) = host.open(ADDRESS, number, number + 1) {
@@ -81,31 +73,71 @@ fn open<R: Net + Clock + Copy + Send>(
     panic!(rt; "no port number is free");
 }
 
-// It refuses a host that binds a port that sends to no address, so that clients with several paths
-// to it see another sender than they asked; one of which no receiving port rests, so that an idle
-// daemon takes a whole processor; and one of which both do, so that a round rests twice.
-#[test]
-fn ports_are_at_the_address_and_one_of_them_rests(rt: HostRuntime) -> Result<(), Fail> {
-    let watched = Watched {
-        system: rt,
+// A host of which is noted where it binds sockets, and how often somebody slept.
+fn note_of<R>(system: R) -> Watched<R> {
+    Watched {
+        system,
         elsewhere: AtomicU64::new(0),
         rests: AtomicU64::new(0),
-    };
-    let mut host = UdpHost::new(rt.alloc(), &watched)?;
+    }
+}
+
+// It refuses a host that binds a port that sends to no address, so that clients with several paths
+// to it see another sender than they asked; one of which no receiving port rests before somebody
+// waits, so that idle lanes take whole processors; one of which both do, so that a round rests
+// twice; and one of which a port still rests where somebody waits at another.
+#[test]
+fn ports_are_at_the_address_and_one_rests_until_a_wait(rt: HostRuntime) -> Result<(), Fail> {
+    let watched = note_of(rt);
+    let mut host = UdpHost::new(rt.alloc(), &watched);
     let mut opened = open(&rt, &mut host);
     assert_eq!(rt; watched.elsewhere.load(Ordering::Relaxed), 0);
-    assert_eq!(rt; rests(&rt, &watched, &mut opened.p4), 10);
-    assert_eq!(rt; rests(&rt, &watched, &mut opened.p5), 0);
+    for _ in 0..10 {
+        assert_eq!(rt; opened.p4.receive(&mut [0; 2048]), Ok(None));
+        assert_eq!(rt; opened.p5.receive(&mut [0; 2048]), Ok(None));
+    }
+    assert_eq!(rt; watched.rests.load(Ordering::Relaxed), 10);
+    opened.p5.wait(Moment::default());
+    for _ in 0..10 {
+        assert_eq!(rt; opened.p4.receive(&mut [0; 2048]), Ok(None));
+        assert_eq!(rt; opened.p5.receive(&mut [0; 2048]), Ok(None));
+    }
+    assert_eq!(rt; watched.rests.load(Ordering::Relaxed), 10);
     let bytes = b"from the second address";
     assert!(rt; opened.p0.send(ADDRESS, Channel::General, bytes).is_ok());
-    let mut came = opened.p4.receive(&mut [0; 2048]);
-    for _ in 0..1_000_000 {
-        if came != Ok(None) {
-            break;
-        }
-        came = opened.p4.receive(&mut [0; 2048]);
-    }
+    let came = opened.p4.receive(&mut [0; 2048]);
     assert_eq!(rt; came, Ok(Some((ADDRESS, bytes.len()))));
     host.close(opened);
+    Ok(())
+}
+
+// What the ports of the general and of the event channel receive next, where neither has anything,
+// one datagram is then sent by this channel, and the port of the event channel waits.
+fn after_wait<R: Net + Clock + Copy + Send>(
+    rt: &impl Abort,
+    host: &mut UdpHost<R>,
+    channel: Channel,
+) -> (bool, bool) {
+    let mut opened = open(rt, host);
+    assert_eq!(rt; opened.p4.receive(&mut [0; 2048]), Ok(None));
+    assert_eq!(rt; opened.p5.receive(&mut [0; 2048]), Ok(None));
+    assert!(rt; opened.p0.send(ADDRESS, channel, b"waits").is_ok());
+    opened.p5.wait(Moment::of(1 << 61).unwrap_or_default());
+    let general = opened.p4.receive(&mut [0; 2048]) == Ok(Some((ADDRESS, 5)));
+    let event = opened.p5.receive(&mut [0; 2048]) == Ok(Some((ADDRESS, 5)));
+    host.close(opened);
+    (general, event)
+}
+
+// It refuses a port of the event channel that watches its own socket alone, the two exchanged, or
+// none: the next receive of a socket at which a look has seen nothing does not ask the system.
+#[test]
+fn a_wait_of_the_event_port_watches_both_channels(rt: HostRuntime) -> Result<(), Fail> {
+    let watched = note_of(rt);
+    let mut host = UdpHost::new(rt.alloc(), &watched);
+    assert_eq!(rt; after_wait(&rt, &mut host, Channel::General), (true, false));
+    assert_eq!(rt; after_wait(&rt, &mut host, Channel::Event), (false, true));
+    // (each of the two ports of the general channel rested once, before the wait)
+    assert_eq!(rt; watched.rests.load(Ordering::Relaxed), 2);
     Ok(())
 }

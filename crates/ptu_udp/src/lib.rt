@@ -1,15 +1,20 @@
 //! The outside of a daemon over the system: UDP over IPv4 (IEEE 1588-2019 annex C), and the
-//! system's clock. They tell nothing of what was sent or received, and count their faults.
+//! system's clock. What was sent or received is opaque to contracts; faults are counted.
 #![tactic(auto)]
 
 mod calls;
+mod lookout;
 mod pause;
+mod readiness;
+mod rests;
 mod socket;
 mod sys_clock;
 mod traffic;
 mod udp_host;
 mod udp_port;
+mod watch;
 
+pub use lookout::{Came, Lookout, Polled};
 pub use socket::Socket;
 pub use sys_clock::SysClock;
 pub use udp_host::UdpHost;
@@ -23,3 +28,5 @@ mod memory;
 mod port_tests;
 #[cfg(test)]
 mod tests;
+#[cfg(test)]
+mod wait_tests;

@@ -1,8 +1,8 @@
-//! A socket and a clock in memory, for tests of ports.
+//! A socket, a look at two of them and a clock in memory, for tests of ports.
 
 ghost use Rattle.std.specs.Prelude.{◌≤◌, length, IfOk};
 
-use crate::Socket;
+use crate::{Came, Lookout, Socket};
 use std::alloc::{AllocError, Global};
 use std::io;
 use std::io::ErrorKind;
@@ -11,34 +11,48 @@ use std::sync::Arc;
 use std::sync::atomic::{AtomicU64, Ordering};
 use std::time::{Clock, Duration};
 
-/// A clock that stands still but while somebody sleeps.
+/// A clock that stands still but while somebody sleeps. Each sleep takes a little longer than was
+/// asked.
 #[derive(Drop)]
 pub(crate) struct SleepClock {
-    micros: Arc<AtomicU64, Global>,
+    nanos: Arc<AtomicU64, Global>,
+    late: u64,
 }
 
 impl SleepClock {
-    /// A clock at 0.
-    pub(crate) fn new(alloc: Global) -> Result<SleepClock, AllocError> {
-        let micros = Arc::new(alloc, AtomicU64::new(0))?;
-        Ok(SleepClock { micros })
+    /// A clock at 0, by which each sleep takes so many microseconds longer.
+    pub(crate) fn new(alloc: Global, late: u64) -> Result<SleepClock, AllocError> {
+        let nanos = Arc::new(alloc, AtomicU64::new(0))?;
+        Ok(SleepClock {
+            nanos,
+            late: late.saturating_mul(1000),
+        })
     }
 
     /// The same clock once more: a rest on one of them moves both.
     pub(crate) fn share(&self) -> Result<SleepClock, AllocError> {
-        let micros = self.micros.clone()?;
-        Ok(SleepClock { micros })
+        let nanos = self.nanos.clone()?;
+        Ok(SleepClock {
+            nanos,
+            late: self.late,
+        })
     }
 
     /// For how many microseconds somebody has slept.
     pub(crate) fn slept(&self) -> u64 {
-        self.micros.load(Ordering::Relaxed)
+        self.nanos.load(Ordering::Relaxed) / 1000
+    }
+
+    // So many microseconds pass.
+    fn pass(&self, micros: u64) {
+        let nanos = micros.saturating_mul(1000);
+        let _ = self.nanos.fetch_add(nanos, Ordering::Relaxed);
     }
 }
 
 impl Clock for SleepClock {
     fn monotonic(&self) -> io::Result<Duration> {
-        Ok(Duration::from_micros(self.slept()))
+        Ok(Duration::from_nanos(self.nanos.load(Ordering::Relaxed)))
     }
 
     fn since_1970(&self) -> io::Result<Duration> {
@@ -46,8 +60,58 @@ impl Clock for SleepClock {
     }
 
     fn sleep(&self, duration: Duration) {
-        let micros = u64::try_from(duration.as_micros()).unwrap_or(u64::MAX);
-        let _ = self.micros.fetch_add(micros, Ordering::Relaxed);
+        let nanos = u64::try_from(duration.as_nanos()).unwrap_or(u64::MAX);
+        let _ = self
+            .nanos
+            .fetch_add(nanos.saturating_add(self.late), Ordering::Relaxed);
+    }
+}
+
+/// A look at two sockets to which datagrams come at these microseconds of a clock, if at all. It
+/// tells of each once, and time passes while it waits.
+#[derive(Drop)]
+pub(crate) struct MemLookout {
+    clock: SleepClock,
+    general: Option<u64>,
+    event: Option<u64>,
+}
+
+impl MemLookout {
+    /// A look by this clock.
+    pub(crate) fn new(clock: SleepClock, general: Option<u64>, event: Option<u64>) -> MemLookout {
+        MemLookout {
+            clock,
+            general,
+            event,
+        }
+    }
+}
+
+// Whether a datagram that comes then has come now; it is told once.
+fn take_come(at: &mut Option<u64>, now: u64) -> bool {
+    match *at {
+        Some(moment) if moment <= now => {
+            *at = None;
+            true
+        }
+        _ => false,
+    }
+}
+
+impl Lookout for MemLookout {
+    fn look(&mut self, millis: u64) -> io::Result<Came> {
+        let now = self.clock.slept();
+        let first = self
+            .general
+            .unwrap_or(u64::MAX)
+            .min(self.event.unwrap_or(u64::MAX));
+        let wait = first.saturating_sub(now).min(millis.saturating_mul(1000));
+        self.clock.pass(wait);
+        let now = self.clock.slept();
+        Ok(Came {
+            general: take_come(&mut self.general, now),
+            event: take_come(&mut self.event, now),
+        })
     }
 }
 
@@ -58,6 +122,10 @@ pub(crate) struct Seen {
     pub tries: Arc<AtomicU64, Global>,
     /// The address and the UDP port number of the last one that went, as one number.
     pub target: Arc<AtomicU64, Global>,
+    /// How often a receive was tried.
+    pub receives: Arc<AtomicU64, Global>,
+    /// How many datagrams wait.
+    pub waiting: Arc<AtomicU64, Global>,
 }
 
 impl Seen {
@@ -66,6 +134,8 @@ impl Seen {
         Ok(Seen {
             tries: Arc::new(alloc, AtomicU64::new(0))?,
             target: Arc::new(alloc, AtomicU64::new(0))?,
+            receives: Arc::new(alloc, AtomicU64::new(0))?,
+            waiting: Arc::new(alloc, AtomicU64::new(1))?,
         })
     }
 
@@ -73,17 +143,18 @@ impl Seen {
         Ok(Seen {
             tries: self.tries.clone()?,
             target: self.target.clone()?,
+            receives: self.receives.clone()?,
+            waiting: self.waiting.clone()?,
         })
     }
 }
 
 /// A socket by which so many sends find no room and so many calls are interrupted, and then all
-/// goes. One datagram of three octets waits at it, from 192.0.2.7.
+/// goes. The datagrams that wait at it are of three octets, from 192.0.2.7, at first one.
 #[derive(Drop)]
 pub(crate) struct MemSocket {
     full: u64,
     interrupted: u64,
-    waits: bool,
     seen: Seen,
 }
 
@@ -93,7 +164,6 @@ impl MemSocket {
         Ok(MemSocket {
             full,
             interrupted,
-            waits: true,
             seen: seen.share()?,
         })
     }
@@ -126,13 +196,15 @@ impl Socket for MemSocket {
     fn recv_from(&mut self, buf: &mut [u8]) -> io::Result<(usize, SocketAddr)>
         ensures within { IfOk result (λ got. got.0 ≤ length buf.new) }
     {
+        let _ = self.seen.receives.fetch_add(1, Ordering::Relaxed);
         if self.interrupts() {
             return Err(ErrorKind::Interrupted.into());
         }
-        if !self.waits || buf.len() < 3 {
+        let waiting = self.seen.waiting.load(Ordering::Relaxed);
+        if waiting == 0 || buf.len() < 3 {
             return Err(ErrorKind::WouldBlock.into());
         }
-        self.waits = false;
+        self.seen.waiting.store(waiting - 1, Ordering::Relaxed);
         let from = SocketAddrV4::new(Ipv4Addr::new(192, 0, 2, 7), 319);
         Ok((3, SocketAddr::V4(from)))
     }

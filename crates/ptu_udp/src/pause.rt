@@ -1,3 +1,5 @@
+//! How long a port sleeps when nothing is there to receive, and nobody waits at the ports of its host.
+
 use crate::traffic::Traffic;
 use std::thread;
 use std::time::{Clock, Duration};
@@ -6,7 +8,7 @@ use std::time::{Clock, Duration};
 /// The system may make up to 50 more of it.
 const SHORT: u64 = 40;
 
-/// For how many it rests where none have for a while.
+/// For how many microseconds such a port rests once no datagram has come or gone for a while.
 const LONG: u64 = 950;
 
 /// After how many rests without a datagram, which take some 0.1 ms each, it rests longer: a quarter
@@ -46,9 +48,11 @@ impl Pause {
         if self.quiet < PATIENCE { SHORT } else { LONG }
     }
 
-    /// Rests.
+    /// Sleeps once, for as long as `micros` says, unless somebody has waited at a port of the host.
     pub(crate) fn rest<R: Clock>(&mut self, runtime: &R) {
-        let micros = self.micros();
-        thread::sleep(runtime, Duration::from_micros(micros));
+        if !self.traffic.is_waited_for() {
+            let micros = self.micros();
+            thread::sleep(runtime, Duration::from_micros(micros));
+        }
     }
 }

@@ -1,12 +1,16 @@
-use crate::memory::{MemSocket, Seen, SleepClock};
+use crate::memory::{MemLookout, MemSocket, Seen, SleepClock};
 use crate::pause::Pause;
+use crate::readiness::Readiness;
+use crate::rests::Rests;
 use crate::traffic::Traffic;
 use crate::udp_port::{Numbers, UdpPort};
 use ptu_outside::{Channel, Port};
+use ptu_units::Moment;
 use std::alloc::Global;
 use std::process::Abort;
 use std::sync::atomic::Ordering;
 use std::test::Fail;
+use std::time::Instant;
 
 const NUMBERS: Numbers = Numbers {
     event: 1319,
@@ -29,17 +33,20 @@ fn port(
     full: u64,
     interrupted: u64,
     rests: bool,
-) -> Result<(UdpPort<SleepClock, MemSocket>, Watched), Fail> {
-    let clock = SleepClock::new(alloc)?;
+) -> Result<(UdpPort<SleepClock, MemSocket, MemLookout>, Watched), Fail> {
+    let clock = SleepClock::new(alloc, 0)?;
     let seen = Seen::new(alloc)?;
-    let traffic = Traffic::new(alloc)?;
-    let pause = if rests {
-        Some(Pause::new(traffic.share()?))
-    } else {
-        None
-    };
     let socket = MemSocket::new(full, interrupted, &seen)?;
-    let port = UdpPort::over(clock.share()?, socket, NUMBERS, traffic.share()?, pause);
+    let start = Instant::now(&clock)?;
+    let readiness = Readiness::new(alloc)?;
+    let traffic = Traffic::new(alloc)?;
+    let rests = if rests {
+        Rests::some(traffic.share()?)?
+    } else {
+        Rests::none(traffic.share()?)
+    };
+    let runtime = clock.share()?;
+    let port = UdpPort::over(runtime, start, socket, NUMBERS, readiness, None, rests);
     Ok((
         port,
         Watched {
@@ -74,38 +81,68 @@ fn a_send_waits_for_room(rt: HostRuntime) -> Result<(), Fail> {
 
 // It refuses a port that takes an interrupted call for a failure, one that sends what goes by the
 // event channel to the number of the general one or the other way round, or to another address,
-// and sends or receives that are no traffic.
+// a receive that was interrupted and fails, one that rests where it is not to, and sends or receives
+// that are no traffic.
 #[test]
-fn a_port_sends_where_it_is_told_and_notes_it(rt: HostRuntime) -> Result<(), Fail> {
-    let (mut port, watched) = port(rt.alloc(), 0, 3, false)?;
-    assert!(rt; port.send(CLIENT, Channel::Event, b"abc").is_ok());
+fn a_port_sends_where_it_is_told_and_receives_at_once(rt: HostRuntime) -> Result<(), Fail> {
+    let (mut sender, watched) = port(rt.alloc(), 0, 3, false)?;
+    assert!(rt; sender.send(CLIENT, Channel::Event, b"abc").is_ok());
     let target = |watched: &Watched| watched.seen.target.load(Ordering::Relaxed);
     assert_eq!(rt; target(&watched), u64::from(CLIENT) * 65536 + 1319);
     assert_eq!(rt; watched.seen.tries.load(Ordering::Relaxed), 4);
-    assert_eq!(rt; watched.traffic.datagrams(), 1);
-    assert!(rt; port.send(CLIENT + 1, Channel::General, b"abc").is_ok());
+    assert!(rt; sender.send(CLIENT + 1, Channel::General, b"abc").is_ok());
     assert_eq!(rt; target(&watched), u64::from(CLIENT + 1) * 65536 + 1320);
     assert_eq!(rt; watched.traffic.datagrams(), 2);
-    assert_eq!(rt; port.receive(&mut [0; 2048]), Ok(Some((CLIENT, 3))));
-    assert_eq!(rt; watched.traffic.datagrams(), 3);
+    let (mut receiver, watched) = port(rt.alloc(), 0, 3, false)?;
+    assert_eq!(rt; receiver.receive(&mut [0; 2048]), Ok(Some((CLIENT, 3))));
+    assert_eq!(rt; receiver.receive(&mut [0; 2048]), Ok(None));
     assert_eq!(rt; watched.clock.slept(), 0);
+    assert_eq!(rt; watched.traffic.datagrams(), 1);
     Ok(())
 }
 
-// A receive of a port with this many interruptions, and one more: what the first answers, and how
-// long the port rested at both.
-fn receives(rt: &impl Abort, alloc: Global, interrupted: u64, rests: bool) -> Result<u64, Fail> {
-    let (mut port, watched) = port(alloc, 0, interrupted, rests)?;
+// It refuses a port that never rests, so that lanes, which do not wait, take all of their
+// processors; one that rests where something came; and one that rests where somebody waits, by
+// which a datagram is late.
+#[test]
+fn a_port_rests_until_somebody_waits(rt: HostRuntime) -> Result<(), Fail> {
+    let (mut port, watched) = port(rt.alloc(), 0, 0, true)?;
     assert_eq!(rt; port.receive(&mut [0; 2048]), Ok(Some((CLIENT, 3))));
+    assert_eq!(rt; watched.clock.slept(), 0);
     assert_eq!(rt; port.receive(&mut [0; 2048]), Ok(None));
-    Ok(watched.clock.slept())
+    assert_eq!(rt; watched.clock.slept(), 40);
+    assert_eq!(rt; port.receive(&mut [0; 2048]), Ok(None));
+    assert_eq!(rt; watched.clock.slept(), 80);
+    port.wait(Moment::default());
+    assert_eq!(rt; port.receive(&mut [0; 2048]), Ok(None));
+    assert_eq!(rt; watched.clock.slept(), 80);
+    Ok(())
 }
 
-// It refuses a port that takes an interrupted receive for a failure, one that rests where it is not
-// to, or where something came, and one that does not rest where nothing waits.
+// Counts the rests that a port makes, up to this many, before the first that is longer than the
+// first one.
+fn short_rests(pause: &mut Pause, most: u32) -> u32 {
+    let first = pause.micros();
+    for rests in 1..most {
+        if first < pause.micros() {
+            return rests;
+        }
+    }
+    most
+}
+
+// It refuses a port that rests longer while another port sends or receives, one that never does
+// where nothing comes or goes, and one that goes on to do so when something has.
 #[test]
-fn a_port_rests_where_nothing_waits(rt: HostRuntime) -> Result<(), Fail> {
-    assert_eq!(rt; receives(&rt, rt.alloc(), 3, true)?, 40);
-    assert_eq!(rt; receives(&rt, rt.alloc(), 3, false)?, 0);
+fn a_port_rests_longer_where_nothing_comes_or_goes(rt: HostRuntime) -> Result<(), Fail> {
+    let traffic = Traffic::new(rt.alloc())?;
+    let mut pause = Pause::new(traffic.share()?);
+    assert_eq!(rt; short_rests(&mut pause, 5000), 2499);
+    traffic.note();
+    assert_eq!(rt; short_rests(&mut pause, 5000), 2500);
+    for _ in 0..10 {
+        traffic.note();
+        assert_eq!(rt; short_rests(&mut pause, 1000), 1000);
+    }
     Ok(())
 }

@@ -1,3 +1,5 @@
+//! The clock of the system as a clock of this program.
+
 ghost use Rattle.std.specs.Prelude.{◌≡◌, None};
 
 use ptu_outside::Clock;

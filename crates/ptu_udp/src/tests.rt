@@ -1,6 +1,4 @@
-use crate::pause::Pause;
-use crate::traffic::Traffic;
-use crate::{SysClock, UdpHost, UdpPort};
+use crate::{Polled, SysClock, UdpHost, UdpPort};
 use ptu_outside::{Channel, Clock, Host, Opened, Port};
 use std::net::{Net, UdpSocket};
 use std::process::Abort;
@@ -16,7 +14,7 @@ fn open<R: Net + time::Clock + Copy + Send>(
     rt: &impl Abort,
     host: &mut UdpHost<R>,
     first: u16,
-) -> Opened<UdpPort<R, UdpSocket>, SysClock<R>> {
+) -> Opened<UdpPort<R, UdpSocket, Polled>, SysClock<R>> {
     for pair in 0..100 {
         let number = first.saturating_add(2 * pair);
         if let Ok(opened) = host.open(LOOPBACK, number, number.saturating_add(1)) {
@@ -54,7 +52,7 @@ fn assert_comes<P: Port>(
 
 #[test]
 fn a_datagram_of_port_0_comes_to_port_4(rt: HostRuntime) -> Result<(), Fail> {
-    let mut host = UdpHost::new(rt.alloc(), rt)?;
+    let mut host = UdpHost::new(rt.alloc(), rt);
     let mut opened = open(&rt, &mut host, 21319);
     assert_comes(
         &rt,
@@ -71,7 +69,7 @@ fn a_datagram_of_port_0_comes_to_port_4(rt: HostRuntime) -> Result<(), Fail> {
 // exchanged.
 #[test]
 fn a_datagram_of_the_event_channel_comes_to_port_5(rt: HostRuntime) -> Result<(), Fail> {
-    let mut host = UdpHost::new(rt.alloc(), rt)?;
+    let mut host = UdpHost::new(rt.alloc(), rt);
     let mut opened = open(&rt, &mut host, 21519);
     assert_comes(
         &rt,
@@ -89,7 +87,7 @@ fn a_datagram_of_the_event_channel_comes_to_port_5(rt: HostRuntime) -> Result<()
 // leaves out a datagram of 2048 octets.
 #[test]
 fn a_longer_datagram_is_left_out(rt: HostRuntime) -> Result<(), Fail> {
-    let mut host = UdpHost::new(rt.alloc(), rt)?;
+    let mut host = UdpHost::new(rt.alloc(), rt);
     let mut opened = open(&rt, &mut host, 21719);
     for bytes in [&[7; 3000][..], &[8; 2049][..], &[9; 2048][..]] {
         let sent = opened.p2.send(LOOPBACK, Channel::General, bytes);
@@ -108,7 +106,7 @@ fn a_longer_datagram_is_left_out(rt: HostRuntime) -> Result<(), Fail> {
 // anything but nanoseconds.
 #[test]
 fn the_clocks_count_nanoseconds_from_one_zero(rt: HostRuntime) -> Result<(), Fail> {
-    let mut host = UdpHost::new(rt.alloc(), rt)?;
+    let mut host = UdpHost::new(rt.alloc(), rt);
     let mut opened = open(&rt, &mut host, 21919);
     let mut last = 0;
     for _ in 0..1000 {
@@ -130,33 +128,5 @@ fn the_clocks_count_nanoseconds_from_one_zero(rt: HostRuntime) -> Result<(), Fai
     let counted = u128::from(later.saturating_sub(first));
     assert!(rt; slept.as_nanos() <= counted && counted <= around.as_nanos());
     host.close(opened);
-    Ok(())
-}
-
-// Counts the rests that a port makes, up to this many, before the first that is longer than the
-// first one.
-fn short_rests(pause: &mut Pause, most: u32) -> u32 {
-    let first = pause.micros();
-    for rests in 1..most {
-        if first < pause.micros() {
-            return rests;
-        }
-    }
-    most
-}
-
-// It refuses a port that rests longer while another port sends or receives, one that never does
-// where nothing comes or goes, and one that goes on to do so when something has.
-#[test]
-fn a_port_rests_longer_where_nothing_comes_or_goes(rt: HostRuntime) -> Result<(), Fail> {
-    let traffic = Traffic::new(rt.alloc())?;
-    let mut pause = Pause::new(traffic.share()?);
-    assert_eq!(rt; short_rests(&mut pause, 5000), 2499);
-    traffic.note();
-    assert_eq!(rt; short_rests(&mut pause, 5000), 2500);
-    for _ in 0..10 {
-        traffic.note();
-        assert_eq!(rt; short_rests(&mut pause, 1000), 1000);
-    }
     Ok(())
 }

@@ -1,17 +1,22 @@
+//! A UDP socket as a port. It says nothing to contracts about what was sent or received.
+
 ghost use Rattle.std.specs.Prelude.{◌≡◌, ◌≤◌, ◌∷◌, [], None, take, IfOk, OnOk, OnErr, IfSome, IfNone};
 ghost use Rattle.ptu_outside.specs.Faults.{HasNotFallen, HasRisen, one_more};
 ghost use Rattle.ptu_outside.specs.Telling.{IfTold, IsEmptyTold, IsFirstTold, append_told, rest_told};
 
 use crate::calls::{send_patiently, take_whole};
-use crate::pause::Pause;
+use crate::lookout::Lookout;
+use crate::readiness::Readiness;
+use crate::rests::Rests;
 use crate::socket::Socket;
-use crate::traffic::Traffic;
+use crate::watch::{Watch, wait_until};
 use ptu_outside::{Channel, Failed, Port};
+use ptu_units::Moment;
 use ptu_units::sizes::LONGEST_DATAGRAM;
 use std::io;
 use std::marker::Model;
 use std::net::{Ipv4Addr, Net, SocketAddr, SocketAddrV4, UdpSocket};
-use std::time::Clock;
+use std::time::{Clock, Instant};
 
 /// The UDP port numbers of the two channels.
 #[derive(Clone, Copy)]
@@ -20,19 +25,22 @@ pub(crate) struct Numbers {
     pub general: u16,
 }
 
-/// A UDP socket as a port. No call of it waits, but for a short rest where the port rests and
-/// nothing is there to receive, and for 50 ms at most where the system has no room for a datagram.
+/// A UDP socket as a port. No call of it waits but `wait`, and a send for 50 ms at most where the
+/// system has no room for the datagram. As long as nobody has waited at a port of its host, the
+/// port of the general channel rests a little where it finds nothing to receive.
 #[derive(Drop)]
-pub struct UdpPort<R, S> {
+pub struct UdpPort<R, S, L> {
     runtime: R,
+    start: Instant,
     socket: S,
     numbers: Numbers,
-    traffic: Traffic,
-    pause: Option<Pause>,
+    readiness: Readiness,
+    watch: Option<Watch<L>>,
+    rests: Rests,
     faults: u64,
 }
 
-impl<R, S> Model for UdpPort<R, S> {
+impl<R, S, L> Model for UdpPort<R, S, L> {
     ghost use Rattle.std.specs.Prelude.{ℕ};
 
     ghost Value = { ℕ };
@@ -40,52 +48,52 @@ impl<R, S> Model for UdpPort<R, S> {
     ghost view = { λ p. p.faults };
 }
 
-impl<R: Net + Clock + Drop> UdpPort<R, UdpSocket> {
-    // A port at this address and UDP port number, 0 being one that is free. It sends to these
-    // numbers, and rests where there is a pause to make.
-    pub(crate) fn open(
-        runtime: R,
-        address: SocketAddrV4,
-        numbers: Numbers,
-        traffic: Traffic,
-        pause: Option<Pause>,
-    ) -> io::Result<UdpPort<R, UdpSocket>> {
-        let socket = UdpSocket::bind(&runtime, SocketAddr::V4(address))?;
-        socket.set_nonblocking(true)?;
-        Ok(UdpPort::over(runtime, socket, numbers, traffic, pause))
-    }
+/// A socket at this address and UDP port number, 0 being one that is free, whose calls do not wait.
+pub(crate) fn bind<R: Net>(runtime: &R, address: SocketAddrV4) -> io::Result<UdpSocket> {
+    let socket = UdpSocket::bind(runtime, SocketAddr::V4(address))?;
+    socket.set_nonblocking(true)?;
+    Ok(socket)
 }
 
-impl<R: Clock + Drop, S: Socket> UdpPort<R, S> {
-    // A port over this socket.
+impl<R: Clock + Drop, S: Socket, L: Lookout> UdpPort<R, S, L> {
+    // A port over this socket, which sends to these numbers. It waits for moments that count from
+    // the start, and by the watch, if there is one, for datagrams. It rests as it is told.
     pub(crate) fn over(
         runtime: R,
+        start: Instant,
         socket: S,
         numbers: Numbers,
-        traffic: Traffic,
-        pause: Option<Pause>,
-    ) -> UdpPort<R, S> {
+        readiness: Readiness,
+        watch: Option<Watch<L>>,
+        rests: Rests,
+    ) -> UdpPort<R, S, L> {
         UdpPort {
             runtime,
+            start,
             socket,
             numbers,
-            traffic,
-            pause,
+            readiness,
+            watch,
+            rests,
             faults: 0,
         }
     }
+}
 
-    // Nothing is there to receive.
-    fn rest(&mut self)
+impl<R: Clock, S, L> UdpPort<R, S, L> {
+    // A receive has found nothing, and the port rests if it is to, or a datagram.
+    fn note_receive(&mut self, is_none: bool)
         ensures { self.new ≡ self.old }
     {
-        if let Some(pause) = &mut self.pause {
-            pause.rest(&self.runtime);
+        if is_none {
+            self.rests.rest(&self.runtime);
+        } else {
+            self.rests.note();
         }
     }
 }
 
-impl<R, S> UdpPort<R, S> {
+impl<R, S, L> UdpPort<R, S, L> {
     // Counts a fault.
     fn fail(&mut self) -> Failed
         ensures risen { HasRisen self.old self.new }
@@ -97,7 +105,7 @@ impl<R, S> UdpPort<R, S> {
     }
 }
 
-impl<R: Clock + Drop, S: Socket> Port for UdpPort<R, S> {
+impl<R: Clock + Drop, S: Socket, L: Lookout> Port for UdpPort<R, S, L> {
     ghost sent = { λ _. None };
 
     ghost waiting = { λ _. None };
@@ -114,7 +122,7 @@ impl<R: Clock + Drop, S: Socket> Port for UdpPort<R, S> {
         let to = SocketAddr::V4(SocketAddrV4::new(Ipv4Addr::from(ip), number));
         match send_patiently(&self.runtime, &mut self.socket, bytes, to) {
             Ok(taken) if taken == bytes.len() => {
-                self.traffic.note();
+                self.rests.note();
                 Ok(())
             }
             Ok(_) | Err(_) => Err(self.fail()),
@@ -127,13 +135,25 @@ impl<R: Clock + Drop, S: Socket> Port for UdpPort<R, S> {
         &mut self,
         buf: &mut [u8; LONGEST_DATAGRAM],
     ) -> Result<Option<(u32, usize)>, Failed> {
-        match take_whole(&mut self.socket, &self.traffic, buf) {
-            Ok(Some(got)) => Ok(Some(got)),
-            Ok(None) => {
-                self.rest();
-                Ok(None)
+        if self.readiness.take_quiet() {
+            return Ok(None);
+        }
+        match take_whole(&mut self.socket, buf) {
+            Ok(taken) => {
+                self.readiness.note_receive(taken.is_none());
+                self.note_receive(taken.is_none());
+                Ok(taken)
             }
             Err(Failed) => Err(self.fail()),
         }
+    }
+
+    /// Where the port has no watch over the sockets of the two channels it waits for the moment
+    /// alone.
+    fn wait(&mut self, until: Moment)
+        ensures quiet { self.new ≡ self.old }
+    {
+        self.rests.note_wait();
+        wait_until(&self.runtime, self.start, until, &mut self.watch);
     }
 }
