@@ -1,3 +1,5 @@
+//! What an audit answers: yes, the first finding, or the line of the report that is refused.
+
 use ptu_lines::LineCause;
 use ptu_report::RunFault;
 use ptu_trail::NoCause;

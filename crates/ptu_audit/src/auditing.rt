@@ -1,3 +1,5 @@
+//! The call `audit`: reads a whole report from a source and writes one line.
+
 ghost use Rattle.std.specs.Prelude.{◌≡◌, ◌++◌, ◌∷◌, [], ℕ, List, Some};
 ghost use Rattle.ptu_lines.specs.Script.{script_lines};
 ghost use Rattle.ptu_report.specs.{Rules.{texts_of}, Runs.{HasRunThrough}};

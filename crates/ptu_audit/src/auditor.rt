@@ -227,6 +227,7 @@ impl Reporter for Auditor {
         _: &mut Texts,
     ) -> Result<Option<AuditCause>, OutOfMemory> {
         let mut buffer = [0; LONGEST_DATAGRAM];
+        // (a report has at most 67108864 lines, so the number of each fits 32 bits)
         match read_line(line, &mut buffer) {
             None => Ok(Some(AuditCause::Form)),
             Some(

@@ -1,4 +1,4 @@
-//! What a report tells that a grandmaster did.
+//! What a report says that a grandmaster did.
 
 use ptu_history::Client;
 use ptu_trail::{NoCause, Shedding};
@@ -38,7 +38,7 @@ pub(crate) enum Deed {
     },
 }
 
-/// What a line tells that a grandmaster did.
+/// What a line says that a grandmaster did.
 #[derive(Drop)]
 pub(crate) struct Act {
     /// The number of the line in the report. The lines of a change's sheddings follow it.

@@ -1,4 +1,4 @@
-//! What a group of lines tells that grandmasters did.
+//! What a group of lines says that grandmasters did.
 
 ghost use Rattle.std.specs.Prelude.{◌≡◌, ◌∷◌, [], option_map, IfOk, filter_map};
 ghost use Rattle.std.specs.List.{list_all, list_any, zip};
@@ -277,7 +277,7 @@ fn messages_in(alloc: Global, group: &[Line]) -> Result<Option<Vec<Act>>, OutOfM
     Ok(Some(all_messages(alloc, group)?))
 }
 
-/// What the lines of a group tell that was done, in order, or nothing exactly where the group is
+/// What the lines of a group say that was done, in order, or nothing exactly where the group is
 /// not as it must be.
 ///
 /// # Errors

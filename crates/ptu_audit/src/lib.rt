@@ -1,5 +1,5 @@
 //! The audit of a finished report: whether its grandmasters kept their promises, by the decisions
-//! and the datagrams that it tells of.
+//! and the datagrams in it.
 #![tactic(auto)]
 
 mod answer;

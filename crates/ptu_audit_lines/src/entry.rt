@@ -1,3 +1,6 @@
+//! What a line of a finished report says, as types of their own. They share no code with the types
+//! by which `replay` writes a report.
+
 use ptu_history::Client;
 use ptu_lines::LentOctets;
 use ptu_units::{Kind, Log};

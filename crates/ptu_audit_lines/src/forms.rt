@@ -52,7 +52,7 @@ pub fn fits(form: &str, line: &WordList) -> bool
     is_filled(form.as_bytes(), line)
 }
 
-/// That it has.
+/// `Some` if the line has this form, and else `None`: so a reader can leave with `?`.
 #[tactic(auto, unfolding(crate::specs::Forms::fitting))]
 pub fn fitting(form: &str, line: &WordList) -> Option<()>
     ensures { result ≡ specs.fitting form.now line.now }

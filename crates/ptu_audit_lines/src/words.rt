@@ -11,7 +11,7 @@ use ptu_lines::{LentOctets, WordList, clock, ip, log, number, octets};
 use ptu_units::sizes::LONGEST_DATAGRAM;
 use ptu_units::{Kind, Log};
 
-/// A number.
+/// The number of at most 19 decimal digits that the word writes, or `None`.
 pub fn number_of(word: &[u8]) -> Option<u64>
     ensures { result ≡ forms.any_number word.now }
 {
@@ -25,7 +25,7 @@ pub fn number_field(line: &WordList, k: usize) -> Option<u64>
     number_of(line.word(k)?)
 }
 
-/// A kind.
+/// The kind that the word names: `announce`, `sync` or `delay_resp`; or `None`.
 pub fn kind_of(word: &[u8]) -> Option<Kind>
     ensures { result ≡ forms.kind_named word.now }
 {

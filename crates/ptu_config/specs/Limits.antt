@@ -2,7 +2,7 @@
 use Rattle.std.specs.Prelude.{◌≡◌, ◌<◌, ◌≤◌, ◌^◌, true, IsSome, IfSome}
 use Rattle.ptu_units.specs.declared.kind.Kind.TheVariants.{Announce, Sync, DelayResp}
 use Rattle.ptu_units.specs.Log.{IsLogOf}
-use Rattle.ptu_profile.specs.Limits.{IsCapacity, IsDomain, IsDuration, IsPort, IsTimeout, IsWait}
+use Rattle.ptu_units.specs.Limits.{IsCapacity, IsDomain, IsDuration, IsPort, IsTimeout, IsWait}
 use Rattle.ptu_config.specs.declared.settings.GmSettings.{GmSettings}
 use Rattle.ptu_config.specs.{declared.settings.SlaveSettings.{SlaveSettings}, Masters.{are_masters}}
 

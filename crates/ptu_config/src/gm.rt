@@ -4,7 +4,7 @@ ghost use Rattle.toml.specs.View.{table_view};
 ghost use Rattle.ptu_config.specs.Rules.{gm_keys, setting_of, number};
 ghost use Rattle.ptu_config.specs.Documents.{IsSaid, Reads, Refuses, Says, first_bad, refusal_of};
 ghost use Rattle.ptu_config.specs.{Entries.{gm_entries, number_or_nothing}, Limits.{IsGmInRange}};
-ghost use Rattle.ptu_profile.specs.Limits.{IsCapacity};
+ghost use Rattle.ptu_units.specs.Limits.{IsCapacity};
 
 use crate::common::common_of;
 use crate::document::document;

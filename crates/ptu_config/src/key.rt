@@ -1,3 +1,5 @@
+//! The names of all settings, in the order in which they are tested.
+
 ghost use Rattle.std.specs.Prelude.{◌≡◌};
 ghost use Rattle.ptu_config.specs.Key.{name_of};
 

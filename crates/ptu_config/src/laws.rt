@@ -67,7 +67,7 @@ pub fn settings_of_a_grandmaster()
     ensures no_delay_resp { setting_of no_members Key.LogDelay ≡ Some nothing }
 {}
 
-/// Arrays of masters.
+/// What arrays of masters are read as: two masters, one address twice, none, and no array.
 pub fn masters_of_a_slave()
     ensures two { masters_in (two_masters (codes "10.0.0.2")) ≡
         Some (record { ip = 167772162; priority = 128; gap = true }

@@ -1,3 +1,5 @@
+//! The masters that the settings of a slave name.
+
 use ptu_units::Listed;
 
 /// A master of a slave, as its settings name it.

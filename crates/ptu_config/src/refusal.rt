@@ -1,3 +1,5 @@
+//! The one line of output that refuses settings, such as `settings bad capacity`.
+
 ghost use Rattle.std.specs.Prelude.{Some};
 ghost use Rattle.ptu_config.specs.Refusals.{refusal_text};
 

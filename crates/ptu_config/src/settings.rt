@@ -1,3 +1,5 @@
+//! The settings of both daemons as values, each within its range.
+
 use crate::master::MasterList;
 use ptu_units::Log;
 

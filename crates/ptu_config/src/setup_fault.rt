@@ -1,3 +1,5 @@
+//! Why a daemon has no settings: the source failed, memory ran out, or the document is refused.
+
 ghost use Rattle.std.specs.Prelude.{◌≡◌};
 ghost use Rattle.ptu_config.specs.Refusals.{setup_fault};
 ghost use Rattle.ptu_config.specs.declared.setup_fault.SetupFault.TheVariants.{OutOfMemory as NoMemory, Read as HasFailed};

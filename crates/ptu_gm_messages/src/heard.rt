@@ -1,3 +1,5 @@
+//! What a grandmaster takes out of a datagram: a Delay_Req, or the items of a Signaling.
+
 use crate::item::Items;
 use ptu_header::Header;
 

@@ -1,3 +1,5 @@
+//! The TLVs of a Signaling that a grandmaster decides: REQUEST and CANCEL.
+
 use ptu_tlvs::Ask;
 use ptu_units::Listed;
 

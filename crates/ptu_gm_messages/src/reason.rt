@@ -1,3 +1,5 @@
+//! Why a grandmaster ignores a datagram.
+
 use ptu_messages::MessageFault;
 
 /// Why a grandmaster ignores a datagram: the first cause that applies, in the order of the variants

@@ -15,10 +15,10 @@ use ptu_units::Kind;
 use ptu_units::message_types::SIGNALING;
 use ptu_units::sizes::LONGEST_SIGNALING;
 
-#[tactic(auto, unfolding(ptu_messages::specs::Sent::octets_sent))]
 /// Writes the reply with these answers, to this port and with this sequenceId, to the front of
 /// `out`. It answers the size in octets and leaves the rest of `out` (IEEE 1588-2019 clause
 /// 16.1.4).
+#[tactic(auto, unfolding(ptu_messages::specs::Sent::octets_sent))]
 pub fn write_reply<T: ToTlv>(
     config: &GmConfig,
     to: &PortIdentity,

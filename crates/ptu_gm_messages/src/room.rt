@@ -1,3 +1,5 @@
+//! Memory that is used again for each Signaling, so that a datagram needs no new lists.
+
 use crate::item::{Item, Items};
 use ptu_messages::{Body, Message};
 use ptu_tlvs::Tlv;
@@ -12,7 +14,7 @@ pub struct HearingRoom {
 }
 
 impl HearingRoom {
-    /// No room yet.
+    /// Room for no item yet. It allocates nothing.
     pub fn new(alloc: Global) -> HearingRoom {
         HearingRoom {
             tlvs: Vec::new(alloc),

@@ -1,3 +1,5 @@
+//! Why the octets of a datagram begin with no header.
+
 ghost use Rattle.std.specs.Prelude.{Some};
 ghost use Rattle.ptu_header.specs.HeaderFault.{text_of};
 
@@ -10,7 +12,7 @@ use std::fmt;
 pub enum HeaderFault {
     /// There are fewer than the 34 octets of a header.
     Short {
-        /// How many there are.
+        /// The number of octets at hand.
         have: usize,
     },
     /// The versionPTP is not 2.

@@ -1,3 +1,6 @@
+//! The common header of a PTP message and the identity of a port, as values (IEEE 1588-2019 clauses
+//! 5.3.5 and 13.3).
+
 ghost use Rattle.std.specs.Prelude.{◌≡◌, ◌+◌, ◌≤◌, length};
 
 use ptu_octets::{u16_at, u64_at};
@@ -27,7 +30,7 @@ impl PortIdentity {
         }
     }
 
-    /// Its ten octets.
+    /// The ten octets of the identity: clockIdentity, then portNumber.
     pub fn octets(self) -> [u8; 10]
         ensures octets { result ≡ sent_identity self }
         ensures widths { HasIdentityWidths self }

@@ -1,3 +1,5 @@
+//! Reads the common header of a message from octets (IEEE 1588-2019 clause 13.3).
+
 ghost use Rattle.std.specs.Prelude.{◌≡◌, ◌↔◌, ℕ, ◌≤◌, length, IsErr, IfOk, IfErr, MatchResult};
 ghost use Rattle.ptu_header.specs.Header.{BeginsMessage, SpellsHeader, header_at};
 ghost use Rattle.ptu_header.specs.{HeaderFault.{HasHeaderFault}, Reading.{header_in}};
@@ -54,7 +56,10 @@ fn kept_fields(bytes: &[u8]) -> Header
 }
 
 /// The header that the octets of a datagram begin with, and the messageLength in it, in octets from
-/// 34 to the number of `bytes`. The fault is the first that applies (IEEE 1588-2019 clause 13.3).
+/// 34 to the number of `bytes` (IEEE 1588-2019 clause 13.3).
+///
+/// # Errors
+/// The first that applies of `Short`, `Version`, `Sdo` and `Length`.
 pub fn read_header(bytes: &[u8]) -> Result<(Header, u16), HeaderFault>
     // What is read is spelled so, and the fault that is answered is there.
     ensures spelled { IfOk result (λ read. SpellsHeader bytes.now read.0 read.1) }

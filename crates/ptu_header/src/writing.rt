@@ -1,3 +1,5 @@
+//! Writes the common header of a message to octets (IEEE 1588-2019 clause 13.3).
+
 ghost use Rattle.std.specs.Prelude.{◌≡◌, ◌<◌, ◌≤◌};
 ghost use Rattle.ptu_header.specs.Header.{HasWidths, AlwaysSpellsHeader};
 ghost use Rattle.ptu_header.specs.Sent.{control_of, sent_header};

@@ -1,3 +1,6 @@
+//! Clients of a grandmaster, and the table that each belongs to. Every request and Delay_Req goes
+//! to its table by `table_of`.
+
 ghost use Rattle.std.specs.Prelude.{◌≡◌, ◌<◌};
 ghost use Rattle.ptu_history.specs.Client.{table_of as table_of_client};
 

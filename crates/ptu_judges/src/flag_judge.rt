@@ -1,3 +1,5 @@
+//! The judge of the rule `flag`: an operator says whether the master is unusable.
+
 ghost use Rattle.std.specs.Prelude.{◌≡◌};
 ghost use Rattle.ptu_judges.specs.Held.{flag_held, fresh};
 

@@ -1,3 +1,6 @@
+//! The judge of the rule `gap`: it finds a master unusable if too many of its last sixteen Syncs
+//! are missing.
+
 ghost use Rattle.std.specs.Prelude.{◌≡◌, ◌<◌, ◌≤◌, not, count_by};
 ghost use Rattle.ptu_record.specs.Marks.{marks_up, marks_after};
 ghost use Rattle.ptu_judges.specs.{Held.{fresh, gaps_find, gaps_held}, Shifting.{shifted}};

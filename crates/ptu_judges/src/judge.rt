@@ -1,3 +1,5 @@
+//! The trait of a judge, and the relations by which a contract says which calls a judge got.
+
 ghost use Rattle.std.specs.Prelude.{◌≡◌, ℕ, Bool};
 ghost use Rattle.ptu_record.specs.Record.{Sync, Told, Judged};
 ghost use Rattle.ptu_judges.specs.Held.{Enters, Finds, Held};

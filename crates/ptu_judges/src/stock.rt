@@ -1,3 +1,5 @@
+//! Judges in reserve: a slave's daemon takes one for each master.
+
 ghost use Rattle.std.specs.{Prelude.{◌≡◌, [], map}, Option.{MatchOption}};
 ghost use Rattle.ptu_judges.specs.Held.{HasNone, HasTaken, IsStock};
 

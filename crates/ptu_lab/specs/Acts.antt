@@ -1,6 +1,6 @@
 -- What an event asks of a node: the command that it is, and what a node of a world makes of it.
 use Rattle.std.specs.Prelude.{ℕ, ◌≤◌, Some, Result, Ok}
-use Rattle.ptu_profile.specs.Limits.{IsCapacity}
+use Rattle.ptu_units.specs.Limits.{IsCapacity}
 use Rattle.ptu_record.specs.Step.{ReplaceJudge, Stop, TellFlag, Tick}
 use Rattle.ptu_script.specs.{Fields.{◌>>=◌}, Limits.{IsNamed}, declared.cause.Cause.{Cause}}
 use Rattle.ptu_script.specs.declared.command.Command.{Command}

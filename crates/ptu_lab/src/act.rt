@@ -1,3 +1,5 @@
+//! What an event of a script asks of one node, whichever kind of node it is.
+
 use ptu_judges::Rule;
 use ptu_lines::LentOctets;
 

@@ -62,7 +62,7 @@ impl Node {
     /// of it; or answers why not.
     ///
     /// # Errors
-    /// `OutOfMemory`.
+    /// `OutOfMemory`. Nothing is said of the lab then: the run ends.
     pub fn act(
         &mut self,
         at: Moment,
@@ -104,7 +104,7 @@ impl Lab {
     /// is why it is refused.
     ///
     /// # Errors
-    /// `OutOfMemory`.
+    /// `OutOfMemory`. Nothing is said of the lab then: the run ends.
     pub fn act(&mut self, at: Moment, ip: u32, act: Act<'_>) -> Result<Option<Cause>, OutOfMemory>
         requires means { (c : Course) × LabStandsFor ⟦<dyn Judge as Judge>⟧ self.old c }
         requires within { IsActWithin act }
@@ -126,7 +126,7 @@ impl Lab {
     /// copy in the room.
     ///
     /// # Errors
-    /// `OutOfMemory`.
+    /// `OutOfMemory`. Nothing is said of the lab then: the run ends.
     pub fn deliver(
         &mut self,
         at: Moment,

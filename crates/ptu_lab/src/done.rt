@@ -1,3 +1,5 @@
+//! The numbers with which a replay ends.
+
 /// What a replay came to, where no line was refused.
 #[derive(Clone, Copy, Debug, PartialEq, Eq)]
 pub struct Done {

@@ -1,3 +1,5 @@
+//! The lab: all nodes of a script, the report in the making, and the judges that are left.
+
 ghost use Rattle.std.specs.Prelude.{◌≡◌, [], map, IfOk};
 ghost use Rattle.ptu_judges.specs.Held.{IsStock};
 ghost use Rattle.ptu_report.specs.Rules.{IsOutcome};
@@ -60,7 +62,7 @@ impl Lab {
     /// or answers why it is refused. The room is for a copy of a datagram that was sent.
     ///
     /// # Errors
-    /// `OutOfMemory`.
+    /// `OutOfMemory`. Nothing is said of the lab then: the run ends.
     pub fn step(
         &mut self,
         command: Command<'_>,

@@ -1,3 +1,6 @@
+//! Turns the command of a line into an order to the lab: set a node up, deliver a datagram, or let
+//! a node act.
+
 ghost use Rattle.std.specs.Prelude.{◌≡◌};
 ghost use Rattle.ptu_script.specs.Limits.{IsWithinLimits};
 ghost use Rattle.ptu_lab.specs.Orders.{IsOrderWithin, command_in};

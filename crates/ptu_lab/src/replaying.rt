@@ -1,3 +1,5 @@
+//! The call `replay`: a script is read line by line, and its report is written line by line.
+
 ghost use Rattle.std.specs.Prelude.{◌≡◌, ℕ, List, [], ◌∷◌, map, Some, IfOk, OnOk};
 ghost use Rattle.ptu_judges.specs.Held.{IsStock};
 ghost use Rattle.ptu_report.specs.Runs.{HasRunThrough};

@@ -51,7 +51,7 @@ impl Lab {
     /// A grandmaster is set up.
     ///
     /// # Errors
-    /// `OutOfMemory`.
+    /// `OutOfMemory`. The journal is as before, and nothing is said of the nodes: the run ends.
     pub fn set_up_grandmaster(
         &mut self,
         setup: &GrandmasterSetup,
@@ -72,7 +72,7 @@ impl Lab {
     /// A slave without masters is set up.
     ///
     /// # Errors
-    /// `OutOfMemory`.
+    /// `OutOfMemory`. The journal is as before, and nothing is said of the nodes: the run ends.
     pub fn set_up_slave(&mut self, setup: &SlaveSetup) -> Result<Option<Cause>, OutOfMemory>
         requires limits { IsSlaveWithin setup.now }
         ensures made { IfOk result (λ refused. (line : ℕ) → HasObeyed ⟦<dyn Judge as Judge>⟧
@@ -90,7 +90,7 @@ impl Lab {
     /// The slave at an address gets a master at the end of its list, with a judge of the rule.
     ///
     /// # Errors
-    /// `OutOfMemory`.
+    /// `OutOfMemory`. The journal is as before, and nothing is said of the nodes: the run ends.
     pub fn add_master(
         &mut self,
         slave: u32,

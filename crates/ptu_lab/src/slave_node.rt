@@ -1,3 +1,6 @@
+//! The slave of a script. Its port is in memory and has room for all that an event may send, so no
+//! send fails.
+
 ghost use Rattle.std.specs.Prelude.{◌≡◌, ◌<◌, ◌≤◌, ◌^◌, ℕ, Bool, true, false, List, [], ◌∷◌, length};
 ghost use Rattle.std.specs.Prelude.{map, Option, None, Some, IfOk, OnOk};
 ghost use Rattle.ptu_record.specs.{declared.rule.Rule.{Rule}, Record.{Record}};
@@ -53,7 +56,7 @@ impl SlaveNode {
     /// The slave that a line sets up, without masters.
     ///
     /// # Errors
-    /// `OutOfMemory`.
+    /// `OutOfMemory` if there is no memory for what the slave keeps.
     pub fn new(alloc: Global, setup: &SlaveSetup) -> Result<SlaveNode, OutOfMemory>
         requires { IsSlaveWithin setup.now }
         ensures ip { IfOk result (λ n. n.ip ≡ setup.now.ip) }
@@ -119,7 +122,8 @@ impl SlaveNode {
     /// one, or no judge is left.
     ///
     /// # Errors
-    /// `OutOfMemory`.
+    /// `OutOfMemory`. The address stays, and nothing else is said of the node and the journal: the
+    /// run ends.
     pub fn act(
         &mut self,
         at: Moment,

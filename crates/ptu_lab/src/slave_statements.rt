@@ -50,7 +50,7 @@ fn say_signals(signals: &[Signal], journal: &mut Journal) -> Result<(), OutOfMem
 /// Says what a slave with these masters heard.
 ///
 /// # Errors
-/// `OutOfMemory`.
+/// `OutOfMemory`. Nothing is said of the journal then: the run ends.
 pub fn say_heard(
     heard: &Heard,
     masters: &[Master],

@@ -1,3 +1,5 @@
+//! Why a line is refused, as the reader of lines and the readers of words say it.
+
 use std::error::Error;
 use std::fmt;
 

@@ -1,3 +1,5 @@
+//! Why no line came: it is refused, the source failed, or memory ran out.
+
 ghost use Rattle.std.specs.Prelude.{◌≡◌};
 ghost use Rattle.ptu_lines.specs.declared.fault.LinesFault.TheVariants.{Read};
 

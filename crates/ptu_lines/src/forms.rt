@@ -1,3 +1,6 @@
+//! The forms of the words in a line: NUM, LOG, IP, CLOCK and HEX. Each reader accepts the words of
+//! its form and no others.
+
 ghost use Rattle.std.specs.Prelude.{◌≡◌, ◌<◌, ◌≤◌, ◌^◌, ◌-◌, ◌∷◌, [], true, false, length, take, drop, Some, None, IfSome, MatchOption, option_and_then, option_map, pos, negsuc};
 ghost use Rattle.std.specs.Char.{digit_value, is_digit};
 ghost use Rattle.ptu_lines.specs.Words.{value_of, number_of, number_within, bytes_of, first_of_several, has_sign, int_within, log_within, ip_of, clock_of, octets_of};

@@ -1,3 +1,6 @@
+//! The octets of a datagram in a line, in a buffer that the caller lends. So a reader of commands
+//! allocates nothing.
+
 ghost use Rattle.std.specs.Prelude.{◌≡◌};
 
 use std::marker::Model;
@@ -18,14 +21,14 @@ impl<'a> Model for LentOctets<'a> {
 }
 
 impl<'a> LentOctets<'a> {
-    /// These.
+    /// The octets of a datagram that stand in the buffer of a caller.
     pub fn new(octets: &'a [u8]) -> LentOctets<'a>
         ensures { result ≡ octets.now }
     {
         LentOctets { octets }
     }
 
-    /// Them, in order.
+    /// The octets of the datagram, in order.
     pub fn as_slice(&self) -> &'a [u8]
         ensures { result.now ≡ self.now }
     {

@@ -1,3 +1,6 @@
+//! The one buffer of a reader of lines: it holds the line that was given last, and what was read
+//! ahead.
+
 ghost use Rattle.std.specs.Prelude.{◌≡◌, ◌<◌, ◌≤◌, ◌+◌, ◌-◌, ◌++◌, ◌==◌, ℕ, [], List, false, true, length, take, drop, IfOk, OnOk, OnErr, IfSome, IfNone, IsTrue, position, slice_range};
 ghost use Rattle.std.specs.Io.KnownBytes.{IsAtEnd, prepend_known};
 ghost use Rattle.ptu_outside.specs.{Ends.{CountsEnd}, Faults.{HasRisen}};
@@ -79,7 +82,10 @@ fn read_behind<S: Source>(
 }
 
 impl LineBuffer {
-    /// An empty buffer, which a reader of lines takes.
+    /// An empty buffer, for a reader of lines.
+    ///
+    /// # Errors
+    /// `OutOfMemory` if there is no memory for it.
     pub fn new(alloc: Global) -> Result<LineBuffer, OutOfMemory>
         ensures { IfOk result (λ buffer.
             buffer ≡ record { text = []; waiting = []; is_ended = false }) }

@@ -1,3 +1,6 @@
+//! Reads a script line by line in blocks, and refuses a script or a line that is too long, or an
+//! octet that is no plain text.
+
 ghost use Rattle.std.specs.Prelude.{◌≡◌, ◌<◌, ◌≤◌, ◌+◌, ◌++◌, ℕ, List, Some, None, false, length, take, IfOk, IfNone, OnSome, OnOk, OnErr, IsTrue, position};
 ghost use Rattle.std.specs.{List.{list_all, AllPass}, Io.KnownBytes.{IsAtEnd, prepend_known}};
 ghost use Rattle.ptu_outside.specs.Faults.{HasRisen};
@@ -160,6 +163,9 @@ fn find_end<S: Source>(
 
 impl LineReader {
     /// A reader that has read nothing. It makes the one buffer.
+    ///
+    /// # Errors
+    /// `OutOfMemory` if there is no memory for the buffer.
     pub fn new(alloc: Global) -> Result<LineReader, OutOfMemory>
         ensures { IfOk result IsFresh }
     {

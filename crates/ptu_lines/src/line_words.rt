@@ -1,3 +1,5 @@
+//! Cuts a line into its words at each single space.
+
 ghost use Rattle.std.specs.Prelude.{◌≡◌, ◌<◌, ◌∷◌, [], ◌==◌, length, ℕ, position, slice_get, slice_index, IfNone, IfSome};
 ghost use Rattle.std.specs.{List.{slice_split}, Option.{option_copied}};
 ghost use Rattle.ptu_lines.specs.{Words.{words_of, word_of}, Cut.{HasEnds}};

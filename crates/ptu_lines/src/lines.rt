@@ -1,3 +1,5 @@
+//! A reader of lines together with its source, for callers that use the source for nothing else.
+
 ghost use Rattle.std.specs.{Prelude.{◌≡◌, ◌≤◌, length, IfOk, OnSome}, List.{AllPass}};
 ghost use Rattle.ptu_lines.specs.Script.{is_plain};
 ghost use Rattle.ptu_lines.specs.Reading.{octets_taken, AgreesOnEnd, CountsRead, HasNext, IsFresh, IsReadToEnd};

@@ -1,3 +1,5 @@
+//! Why the octets of a datagram spell no message.
+
 ghost use Rattle.std.specs.Prelude.{◌≡◌, Some};
 ghost use Rattle.ptu_messages.specs.MessageFault.{text_of};
 

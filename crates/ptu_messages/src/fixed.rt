@@ -1,3 +1,6 @@
+//! Writes the messages of a fixed length: Sync, Delay_Req, Follow_Up, Delay_Resp and Announce (IEEE
+//! 1588-2019 clauses 13.5 to 13.8).
+
 ghost use Rattle.std.specs.Prelude.{◌≡◌, ◌+◌, ◌<◌, ◌≤◌, ◌++◌, ◌^◌, length, take, drop};
 ghost use Rattle.ptu_header.specs.Header.{AlwaysSpellsHeader, HasIdentityWidths};
 ghost use Rattle.ptu_header.specs.Sent.{sent_header, sent_identity};

@@ -1,3 +1,6 @@
+//! A whole message as a value: what is kept of its header, and its body by messageType (IEEE
+//! 1588-2019 clause 13).
+
 use crate::tlv_list::TlvList;
 use ptu_header::{Header, PortIdentity};
 use ptu_units::Stamp;

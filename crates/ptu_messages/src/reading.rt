@@ -1,3 +1,6 @@
+//! Reads a whole message from the octets of a datagram, or the first fault in them (IEEE 1588-2019
+//! clause 13).
+
 ghost use Rattle.std.specs.Prelude.{◌≡◌, ◌↔◌, ◌⊎◌, ◌≤◌, ℕ, List, length, slice_range, IfOk, IfErr};
 ghost use Rattle.ptu_messages.specs.Message.{least_length, SpellsMessage};
 ghost use Rattle.ptu_messages.specs.MessageFault.{HasMessageFault, IsSignaling};

@@ -1,3 +1,5 @@
+//! Writes Signaling messages with their TLVs (IEEE 1588-2019 clause 13.12).
+
 ghost use Rattle.std.specs.Prelude.{◌≡◌, ◌+◌, ◌*◌, ◌≤◌, ◌++◌, length, map, take, drop, All};
 ghost use Rattle.std.specs.List.{flat_map};
 ghost use Rattle.ptu_tlvs.specs.Sent.{IsSendable, sent_tlv};

@@ -1,3 +1,5 @@
+//! The TLVs of a Signaling as a list.
+
 use ptu_tlvs::Tlv;
 use ptu_units::Listed;
 

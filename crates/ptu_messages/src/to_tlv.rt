@@ -1,3 +1,6 @@
+//! Values that are sent as a TLV. With this trait a Signaling is written from decisions, without a
+//! list of TLVs in between.
+
 ghost use Rattle.std.specs.Prelude.{◌≡◌};
 ghost use Rattle.ptu_tlvs.specs.declared.tlv.Tlv as declared;
 

@@ -1,5 +1,9 @@
+//! The grandmaster of a script. Its ports are in memory and have room for all that an event may
+//! send, so no send fails.
+
 ghost use Rattle.std.specs.Prelude.{◌≡◌, ◌<◌, [], IfSome, OnOk};
-ghost use Rattle.ptu_profile.specs.{Limits.{IsCapacity}, Grandmaster.{IsWithinLimits}};
+ghost use Rattle.ptu_profile.specs.Grandmaster.{IsWithinLimits};
+ghost use Rattle.ptu_units.specs.Limits.{IsCapacity};
 ghost use Rattle.ptu_script.specs.Limits.{IsGrandmasterWithin};
 ghost use Rattle.ptu_world.specs.Deeds.{Grandmaster};
 ghost use Rattle.ptu_world.specs.Grandmasters.{capacity_deed, class_deed, datagram_deed, turn_deed};
@@ -80,7 +84,8 @@ impl GrandmasterNode {
     /// sent.
     ///
     /// # Errors
-    /// `OutOfMemory`.
+    /// `OutOfMemory`. The address stays, and nothing else is said of the node and the journal: the
+    /// run ends.
     pub fn receive(
         &mut self,
         at: Moment,
@@ -104,7 +109,8 @@ impl GrandmasterNode {
     /// A table, from 0 to 3, takes a turn, and what is sent is noted.
     ///
     /// # Errors
-    /// `OutOfMemory`.
+    /// `OutOfMemory`. The address stays, and nothing else is said of the node and the journal: the
+    /// run ends.
     pub fn turn(
         &mut self,
         at: Moment,
@@ -129,7 +135,8 @@ impl GrandmasterNode {
     /// what is sent is noted.
     ///
     /// # Errors
-    /// `OutOfMemory`.
+    /// `OutOfMemory`. The address stays, and nothing else is said of the node and the journal: the
+    /// run ends.
     pub fn set_capacity(
         &mut self,
         at: Moment,

@@ -23,7 +23,7 @@ pub const SIGNALING_PORT: usize = 4;
 /// them.
 ///
 /// # Errors
-/// `OutOfMemory`.
+/// `OutOfMemory`. The grandmaster goes on as before, with nothing more in its ports.
 pub fn reserve(
     gm: &mut Gm<MemPort>,
     port: usize,
@@ -44,7 +44,7 @@ pub fn reserve(
 /// or a Signaling in its own.
 ///
 /// # Errors
-/// `OutOfMemory`.
+/// `OutOfMemory`. The grandmaster goes on as before, with nothing more in its ports.
 pub fn reserve_replies(gm: &mut Gm<MemPort>) -> Result<(), OutOfMemory>
     ensures tables { OnOk result ((HasRoom 1 54 gm.new.s0.port) × (HasRoom 1 54 gm.new.s1.port)
         × (HasRoom 1 54 gm.new.s2.port) × (HasRoom 1 54 gm.new.s3.port)) }
@@ -80,7 +80,7 @@ fn hand_over_port(
 /// them.
 ///
 /// # Errors
-/// `OutOfMemory`.
+/// `OutOfMemory`. Nothing is said of the ports and the journal then: the run ends.
 pub fn hand_over_all(
     gm: &mut Gm<MemPort>,
     ip: u32,

@@ -109,7 +109,7 @@ fn say_outcomes(outcomes: &[Outcome], journal: &mut Journal) -> Result<(), OutOf
 /// Says which grants were shed, in order.
 ///
 /// # Errors
-/// `OutOfMemory`.
+/// `OutOfMemory`. Nothing is said of the journal then: the run ends.
 pub fn say_shed(shed: &[Shed], journal: &mut Journal) -> Result<(), OutOfMemory>
     ensures { OnOk result (journal.new ≡ with_said (map shed_seen shed.now) journal.old) }
 {
@@ -126,7 +126,7 @@ pub fn say_shed(shed: &[Shed], journal: &mut Journal) -> Result<(), OutOfMemory>
 /// Says what a datagram came to.
 ///
 /// # Errors
-/// `OutOfMemory`.
+/// `OutOfMemory`. Nothing is said of the journal then: the run ends.
 pub fn say_taken(taken: &Taken, journal: &mut Journal) -> Result<(), OutOfMemory>
     ensures { OnOk result (journal.new ≡ with_said (taken_said taken.now) journal.old) }
 {

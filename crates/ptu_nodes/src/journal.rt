@@ -1,3 +1,6 @@
+//! The report in the making: the texts of the current line, every datagram sent so far, and counts
+//! of granted and refused requests.
+
 ghost use Rattle.std.specs.Prelude.{◌≡◌, ◌∷◌, [], cond, OnOk};
 ghost use Rattle.ptu_world.specs.Report.{is_granted, is_short};
 ghost use Rattle.ptu_nodes.specs.Noted.{counted_on, nothing_noted, with_handed, with_said, with_sent};
@@ -11,7 +14,7 @@ use std::alloc::Global;
 use std::marker::Model;
 use std::mem::swap;
 
-/// How many octets a Signaling has at most, with 32 TLVs.
+/// The most octets of a Signaling, with 32 TLVs: the room in a port for each one that may be sent.
 pub const SIGNALING: usize = LONGEST_SIGNALING;
 
 /// The report on a script in the making: the number of the script's line, the texts of that line,
@@ -64,10 +67,10 @@ impl Journal {
         self.texts.clear();
     }
 
-    /// Says this of the line, and counts it where an ask was granted or short.
+    /// Appends this statement to the report of the current line, and counts grants and refusals.
     ///
     /// # Errors
-    /// `OutOfMemory`.
+    /// `OutOfMemory`. Nothing is said of the journal then: the run ends.
     pub fn say(&mut self, statement: Statement) -> Result<(), OutOfMemory>
         ensures { OnOk result (self.new ≡ with_said (statement ∷ []) self.old) }
     {
@@ -86,7 +89,7 @@ impl Journal {
     /// that it was sent, with its number; then the port is cleared.
     ///
     /// # Errors
-    /// `OutOfMemory`.
+    /// `OutOfMemory`. Nothing is said of the journal then: the run ends.
     pub fn hand_over(&mut self, port: &mut MemPort, ip: u32) -> Result<(), OutOfMemory>
         ensures noted { OnOk result (self.new ≡ with_handed ip port.old.sent self.old) }
         ensures cleared { OnOk result (port.new ≡ record port.old { sent = [] }) }

@@ -1,3 +1,5 @@
+//! Big-endian numbers in octets, read at a place.
+
 ghost use Rattle.std.specs.{Prelude.{◌≡◌, ◌+◌, ◌≤◌, ◌<◌, ◌^◌, length}, Int.{w16, w64}};
 ghost use Rattle.ptu_octets.specs.Number.{number_at, signed_at, high_nibble_at, low_nibble_at};
 

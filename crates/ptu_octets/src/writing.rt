@@ -1,3 +1,5 @@
+//! Numbers written as six octets, the size that Rust's `to_be_bytes` does not have.
+
 ghost use Rattle.std.specs.Prelude.{◌≡◌, ◌<◌, ◌^◌};
 ghost use Rattle.ptu_octets.specs.Number.{number_at, octets_of};
 

@@ -11,7 +11,8 @@ use Rattle.ptu_history.specs.History.{capacity_in_force}
 use Rattle.ptu_history.specs.Verdict.{Config}
 use Rattle.ptu_history.proofs.{AfterSteps.{capacity_in_force-quiet}, Histories.{history_after-append}}
 use Rattle.ptu_laws.proofs.Budget.{history-unchanged}
-use Rattle.ptu_profile.specs.{declared.grandmaster.GmConfig.{GmConfig}, Limits.{IsCapacity}}
+use Rattle.ptu_profile.specs.declared.grandmaster.GmConfig.{GmConfig}
+use Rattle.ptu_units.specs.Limits.{IsCapacity}
 use Rattle.ptu_gm_messages.specs.declared.item.Item.TheVariants as items
 use Rattle.ptu_gm_messages.specs.Deciding.{answer_by, events_of_items, opened_with}
 use Rattle.ptu_gm_messages.specs.Replies.{reply_to}

@@ -11,7 +11,7 @@ use Rattle.ptu_grandmaster.specs.{declared.outcome.Taken.{Taken}, Gm.{KeptGm, St
 use Rattle.ptu_pools.specs.{declared.pool.Pool.{Pool}, Changes.{TookDatagram, TookTurn}}
 use Rattle.ptu_pools.specs.{Events.{PoolEvent, Came, Turned}, Pool.{AreApart, is_in, is_in_at}}
 use Rattle.ptu_pools.specs.Refusal.{Share}
-use Rattle.ptu_profile.specs.Limits.{IsCapacity}
+use Rattle.ptu_units.specs.Limits.{IsCapacity}
 use Rattle.ptu_pools.specs.Standing.{ChangesOne, KeptPools, StandFor}
 use Rattle.ptu_pools.proofs.Places.{found_in, none_in, one_place}
 use Rattle.ptu_pools.proofs.Standing.{get-set_other, get-set_same}

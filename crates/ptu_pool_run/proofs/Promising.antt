@@ -2,7 +2,7 @@
 use Rattle.std.proofs.Common.{◌≡◌, ◌∙◌, ℕ, List, [], ◌++◌, ◌∷◌, filter, filter_map, take, Some, refl, sym, ap, ap₂, subst}
 use Rattle.std.proofs.lemmas.List.Elements.{All-nil}
 use Rattle.ptu_lines.specs.Script.{script_lines}
-use Rattle.ptu_profile.specs.Limits.{IsCapacity}
+use Rattle.ptu_units.specs.Limits.{IsCapacity}
 use Rattle.ptu_script.specs.declared.command.GrandmasterSetup.{GrandmasterSetup}
 use Rattle.ptu_pools.specs.{declared.pool.Pool.{Pool}, Pool.{AreApart}, Refusal.{Share}}
 use Rattle.ptu_pools.proofs.Whole.{count_whole, held_own, held_whole}

@@ -1,6 +1,6 @@
 -- The limits within which the numbers of a command are.
 use Rattle.std.specs.Prelude.{◌≤◌, length}
-use Rattle.ptu_profile.specs.Limits.{IsCapacity}
+use Rattle.ptu_units.specs.Limits.{IsCapacity}
 use Rattle.ptu_script.specs.Limits.{IsGrandmasterWithin}
 use Rattle.ptu_pool_run.specs.declared.command.PoolCommand.{PoolCommand}
 use Rattle.ptu_pool_run.specs.declared.command.PoolCommand.TheVariants.{Grandmaster, Sell, Receive, Turn}

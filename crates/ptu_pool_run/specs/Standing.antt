@@ -1,7 +1,7 @@
 -- What the value that the program keeps stands for.
 use Rattle.std.specs.Prelude.{◌≡◌, ◌≤◌, ℕ, List, [], ◌∷◌, ◌++◌, length, map, All, Bool, true, false, Option, Some, None, IfSome}
 use Rattle.ptu_outside.specs.MemoryPort.{MemoryPort}
-use Rattle.ptu_profile.specs.Limits.{IsCapacity}
+use Rattle.ptu_units.specs.Limits.{IsCapacity}
 use Rattle.ptu_pools.specs.{declared.pool.Pool.{Pool}, Events.{PoolEvent}, Refusal.{Share}}
 use Rattle.ptu_pools.specs.Standing.{KeptPools, StandFor}
 use Rattle.ptu_script.specs.declared.command.GrandmasterSetup.{GrandmasterSetup}

@@ -1,3 +1,5 @@
+//! Why a line of a script of pools is refused, with the words that the output uses.
+
 ghost use Rattle.std.specs.Prelude.{◌≡◌, Some};
 ghost use Rattle.ptu_pool_run.specs.Cause.{cause_of_line, cause_of_script, text_of};
 
@@ -59,7 +61,7 @@ impl fmt::Display for PoolCause {
 
 impl Error for PoolCause {}
 
-/// The reader of lines names its causes by the same words.
+/// Causes of the reader of lines have the same names here.
 impl From<LineCause> for PoolCause {
     ghost from_gives = { λ line cause. cause ≡ cause_of_line line };
 
@@ -68,7 +70,8 @@ impl From<LineCause> for PoolCause {
     }
 }
 
-/// So do the readers of words. A line that they refuse names no node and no judge.
+/// Causes of the readers of words have the same names here. `Node` and `Stock` become `Word`: no
+/// reader of words answers them, since they are of a script with nodes and judges.
 impl From<Cause> for PoolCause {
     ghost from_gives = { λ found cause. cause ≡ cause_of_script found };
 

@@ -1,3 +1,5 @@
+//! What a line of a script of pools commands.
+
 use ptu_lines::LentOctets;
 use ptu_pools::Pool;
 use ptu_script::GrandmasterSetup;

@@ -44,7 +44,7 @@ fn reserve_for(pools: &mut Pools<MemPort>, from: u32) -> Result<(), OutOfMemory>
 /// stranger.
 ///
 /// # Errors
-/// `OutOfMemory`.
+/// `OutOfMemory`. Nothing is said of the pools and the texts then: the run ends.
 pub fn receive(
     pools: &mut Pools<MemPort>,
     at: Moment,
@@ -69,7 +69,7 @@ pub fn receive(
 /// those of the script's line of this number.
 ///
 /// # Errors
-/// `OutOfMemory`.
+/// `OutOfMemory`. Nothing is said of the pools and the texts then: the run ends.
 pub fn turn(
     pools: &mut Pools<MemPort>,
     at: Moment,

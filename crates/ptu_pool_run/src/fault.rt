@@ -1,3 +1,5 @@
+//! Why a script of pools was not run to its end.
+
 use crate::cause::PoolCause;
 use ptu_report::RunFault;
 use ptu_units::OutOfMemory;

@@ -1,3 +1,5 @@
+//! The lines that `pools` writes.
+
 ghost use Rattle.std.specs.Prelude.{Some};
 ghost use Rattle.ptu_pool_run.specs.Output.{line_text, refusal_text};
 

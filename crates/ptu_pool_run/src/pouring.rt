@@ -1,7 +1,7 @@
 //! What the lines of a script so far have made of a grandmaster and its pools.
 
 ghost use Rattle.std.specs.Prelude.{◌≡◌, ◌<◌, ◌≤◌, [], IfOk};
-ghost use Rattle.ptu_profile.specs.Limits.{IsCapacity};
+ghost use Rattle.ptu_units.specs.Limits.{IsCapacity};
 ghost use Rattle.ptu_pools.specs.Events.{Came};
 ghost use Rattle.ptu_report.specs.Rules.{IsOutcome};
 ghost use Rattle.ptu_script.specs.Limits.{IsGrandmasterWithin};

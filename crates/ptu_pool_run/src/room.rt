@@ -40,7 +40,7 @@ fn reserve(
 /// of the pool at this place, or a Signaling in its own.
 ///
 /// # Errors
-/// `OutOfMemory`.
+/// `OutOfMemory`. The pools go on as before, with nothing in their ports.
 pub fn reserve_replies(pools: &mut Pools<MemPort>, place: usize) -> Result<(), OutOfMemory>
     requires { place < length pools.old.pools }
     ensures room { OnOk result ((gm : KeptGm MemoryPort) → slice_get pools.new.gms place ≡ Some gm →
@@ -57,7 +57,7 @@ pub fn reserve_replies(pools: &mut Pools<MemPort>, place: usize) -> Result<(), O
 /// Makes room for a turn of a table of the pool at this place.
 ///
 /// # Errors
-/// `OutOfMemory`.
+/// `OutOfMemory`. The pools go on as before, with nothing in their ports.
 #[tactic(auto, using(crate::proofs::Lent::go_on_same))]
 pub fn reserve_turn(
     pools: &mut Pools<MemPort>,
@@ -134,7 +134,7 @@ fn tell_port(
 /// by port, and clears its ports.
 ///
 /// # Errors
-/// `OutOfMemory`.
+/// `OutOfMemory`. Nothing is said of the ports and the texts then: the run ends.
 pub fn tell_ports(
     pools: &mut Pools<MemPort>,
     place: usize,

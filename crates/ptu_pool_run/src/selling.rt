@@ -1,7 +1,7 @@
 //! Pools are sold one after the other.
 
 ghost use Rattle.std.specs.Prelude.{◌≡◌, ◌++◌, ◌∷◌, [], All, IfErr, IfOk, None, Some, length};
-ghost use Rattle.ptu_profile.specs.Limits.{IsCapacity};
+ghost use Rattle.ptu_units.specs.Limits.{IsCapacity};
 ghost use Rattle.ptu_pools.specs.Refusal.{Share};
 ghost use Rattle.ptu_script.specs.Limits.{IsGrandmasterWithin};
 ghost use Rattle.ptu_pool_run.specs.{Selling.{refusal_of}, Standing.{AreSold}};
@@ -44,7 +44,7 @@ fn with_pool(alloc: Global, before: &[Pool], pool: Pool) -> Result<Vec<Pool>, Ou
 /// grandmaster that is set up so cannot sell it.
 ///
 /// # Errors
-/// `OutOfMemory`.
+/// `OutOfMemory`. Nothing was changed then.
 pub fn sell(
     alloc: Global,
     setup: &GrandmasterSetup,

@@ -1,3 +1,5 @@
+//! The first words of the lines in a script of pools.
+
 ghost use Rattle.std.specs.Prelude.{◌≡◌};
 ghost use Rattle.ptu_pool_run.specs.Verb.{count_of, name_of, verb_named};
 
@@ -13,7 +15,7 @@ pub enum PoolVerb {
 const VERBS: [PoolVerb; 4] = [PoolVerb::Gm, PoolVerb::Pool, PoolVerb::Rx, PoolVerb::Turn];
 
 impl PoolVerb {
-    /// The word itself.
+    /// The word as it stands in a script of pools.
     pub fn name(self) -> &'static str
         ensures { result.now ≡ name_of self }
     {

@@ -1,3 +1,5 @@
+//! Why pools are refused: a pool is no network, two overlap, or too much capacity is sold.
+
 ghost use Rattle.std.specs.Prelude.{◌≡◌};
 ghost use Rattle.ptu_pools.specs.declared.fault.PoolsFault.TheVariants.{OutOfMemory as NoMemory};
 

@@ -4,7 +4,7 @@ ghost use Rattle.std.specs.Prelude.{◌≡◌, ◌≤◌, All, length, OnOk, IfE
 ghost use Rattle.std.specs.List.{position};
 ghost use Rattle.ptu_pools.specs.Pool.{AreApart, meets};
 ghost use Rattle.ptu_pools.specs.Refusal.{IsFirstOverlap, IsRefused, Share, capacities, first_wrong};
-ghost use Rattle.ptu_profile.specs.Limits.{IsCapacity};
+ghost use Rattle.ptu_units.specs.Limits.{IsCapacity};
 
 use crate::fault::PoolsFault;
 use crate::pool::Pool;

@@ -1,3 +1,6 @@
+//! A pool: the addresses of one customer, as a network address with its leading bits, and its
+//! capacity.
+
 ghost use Rattle.std.specs.Prelude.{◌≡◌, ◌-◌};
 ghost use Rattle.ptu_pools.specs.Pool.{is_in, is_network, meets};
 

@@ -4,7 +4,8 @@ ghost use Rattle.std.specs.Prelude.{◌≡◌, ◌<◌, ◌≤◌, ◌*◌, ◌�
 ghost use Rattle.std.specs.{Borrow.{sem}, List.{position}};
 ghost use Rattle.ptu_messages.specs.MessageFault.{IsSignaling};
 ghost use Rattle.ptu_profile.specs.declared.grandmaster.GmConfig.{GmConfig};
-ghost use Rattle.ptu_profile.specs.{Grandmaster.{IsWithinLimits}, Limits.{IsCapacity}};
+ghost use Rattle.ptu_profile.specs.Grandmaster.{IsWithinLimits};
+ghost use Rattle.ptu_units.specs.Limits.{IsCapacity};
 ghost use Rattle.ptu_grandmaster.specs.Gm.{IsUnchanged, port_at, table_at};
 ghost use Rattle.ptu_pools.specs.{Pool.{is_in, is_in_at}, Refusal.{IsRefused, Share}};
 ghost use Rattle.ptu_pools.specs.Events.{PoolEvent, Came, Turned as TurnedEvent};
@@ -67,7 +68,7 @@ impl<P: Port> Pools<P> {
     ///
     /// # Errors
     /// The first cause that applies: a pool that is no network, an address in two pools, capacities
-    /// that sum above the whole, or want of memory.
+    /// that sum above the whole, or out of memory.
     pub fn new(
         alloc: Global,
         config: GmConfig,

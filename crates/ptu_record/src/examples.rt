@@ -74,7 +74,7 @@ pub fn judges_of_gaps()
         (Told 0 0 true ∷ Judge 0 0 (Some Flag) ∷ []) ≡ false }
 {}
 
-/// Timeouts and requests.
+/// Timeouts, in nanoseconds, and what is requested, made out by hand.
 pub fn configuration()
     ensures timeouts { timeouts_of
         (record { announce = pos 1; sync = negsuc 0; delay = Some (pos 0); seconds = 300 })

@@ -1,3 +1,5 @@
+//! The quality levels of Option I, and the clockClass of each (ITU-T G.8265.1).
+
 ghost use Rattle.std.specs.Prelude.{◌≡◌, Some, nat_lt};
 ghost use Rattle.ptu_record.specs.Quality.{class_of, is_usable, level_of, rank_of};
 

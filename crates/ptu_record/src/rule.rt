@@ -1,3 +1,5 @@
+//! The rules by which a judge finds a master unusable.
+
 /// How a judge finds a master unusable.
 #[derive(Clone, Copy, Debug, PartialEq, Eq)]
 pub enum Rule {

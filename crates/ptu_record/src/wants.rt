@@ -1,3 +1,5 @@
+//! What a slave requests of each master: the intervals of the three kinds, and the duration.
+
 ghost use Rattle.std.specs.Prelude.{◌≡◌, ◌*◌};
 ghost use Rattle.ptu_units.specs.Log.{period_of};
 ghost use Rattle.ptu_record.specs.Wants.{wanted_log};

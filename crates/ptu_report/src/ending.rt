@@ -1,3 +1,5 @@
+//! How the output of a program over lines ends: whole, or at a refused line.
+
 /// How the output of a program over lines ends.
 #[derive(Clone, Copy, Debug, PartialEq, Eq)]
 pub enum Ending<C> {

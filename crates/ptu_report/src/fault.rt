@@ -1,3 +1,6 @@
+//! Why a program over lines stopped before the end of its input. It is one type for all such
+//! programs.
+
 use std::error::Error;
 use std::fmt;
 

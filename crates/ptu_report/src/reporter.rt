@@ -1,3 +1,5 @@
+//! The trait of a program that reads lines and writes lines. The driver in this crate runs it.
+
 ghost use Rattle.std.specs.{Prelude.{◌≡◌, ◌≤◌, ◌∷◌, [], IfOk, OnOk, length}, List.{AllPass}};
 ghost use Rattle.ptu_lines.specs.Script.{is_plain};
 ghost use Rattle.ptu_report.specs.Rules.{Rules, IsOutcome};

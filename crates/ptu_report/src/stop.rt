@@ -1,3 +1,5 @@
+//! Why the driver stopped before the output was whole.
+
 ghost use Rattle.std.specs.Prelude.{◌≡◌};
 ghost use Rattle.ptu_report.specs.declared.stop.Stop.TheVariants.{OutOfMemory as NoMemory};
 

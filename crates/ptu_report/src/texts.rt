@@ -1,3 +1,5 @@
+//! The texts of one line, gathered in one buffer before any of them is written.
+
 ghost use Rattle.std.specs.Prelude.{◌≡◌, ◌++◌, ◌∷◌, [], ◌<◌, length, get_or, OnOk, OnErr, IfSome};
 ghost use Rattle.std.specs.String.{string_bytes};
 ghost use Rattle.ptu_writing.specs.Draft.{Drafted};
@@ -31,7 +33,7 @@ impl Model for Texts {
 }
 
 impl Texts {
-    /// None.
+    /// No texts. It allocates nothing.
     pub fn new(alloc: Global) -> Texts
         ensures { result ≡ [] }
     {
@@ -135,7 +137,8 @@ fn add_to<T: Text>(draft: &mut Draft, spans: &mut Vec<Span>, text: &T) -> Result
     added
 }
 
-// The same, but where it fails a part of the text may stand in the draft.
+// Puts the text of the value and its span as `add_to` does. After a failure a part of the text may
+// stand in the draft.
 fn finish<T: Text>(draft: &mut Draft, spans: &mut Vec<Span>, text: &T) -> Result<(), OutOfMemory>
     requires { draft.old.text ≡ [] }
     ensures octets { OnOk result (draft.new ≡ record {

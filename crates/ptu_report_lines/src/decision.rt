@@ -1,3 +1,5 @@
+//! The lines of a report about decisions on REQUESTs and CANCELs.
+
 ghost use Rattle.std.specs.Prelude.{◌≡◌, ◌≤◌, ◌+◌, ◌++◌, ◌∷◌, [], codes, length};
 ghost use Rattle.std.specs.Fmt.{decimal, signed_decimal};
 ghost use Rattle.ptu_texts.specs.Texts.{kind_text};

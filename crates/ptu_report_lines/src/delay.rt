@@ -1,3 +1,5 @@
+//! The lines of a report about Delay_Reqs: answered or not, and why not.
+
 ghost use Rattle.std.specs.Prelude.{◌≡◌, ◌≤◌, ◌+◌, ◌++◌};
 ghost use Rattle.ptu_report_lines.specs.Statements.{delay_text};
 

@@ -1,3 +1,5 @@
+//! The lines of a report about datagrams that a node ignored.
+
 ghost use Rattle.std.specs.Prelude.{◌≡◌, ◌≤◌, ◌+◌, ◌++◌};
 ghost use Rattle.ptu_report_lines.specs.Statements.{reason_text};
 

@@ -1,3 +1,5 @@
+//! A whole line of a report with its number, and the last line.
+
 ghost use Rattle.std.specs.Prelude.{◌≡◌, ◌++◌, OnOk};
 ghost use Rattle.ptu_report_lines.specs.Report.{line_text};
 ghost use Rattle.ptu_report_lines.specs.declared.report_line.ReportLine.TheVariants as ends;

@@ -1,3 +1,5 @@
+//! Datagrams that the nodes of a script sent, owned or borrowed, and the line of each.
+
 ghost use Rattle.std.specs.{Prelude.{◌≡◌, ◌++◌, codes}, Fmt.{decimal}};
 ghost use Rattle.ptu_texts.specs.Texts.{address_text};
 ghost use Rattle.ptu_report_lines.specs.{Statements.{channel_text}, Report.{line_text}};
@@ -25,7 +27,7 @@ pub struct Sent {
 }
 
 impl Sent {
-    /// The same, with octets that stand here.
+    /// The same datagram, borrowed.
     pub fn lend(&self) -> SentRef<'_>
         ensures { result ≡ self.now }
     {
@@ -101,7 +103,7 @@ impl<'a> SentRef<'a> {
         self.channel
     }
 
-    /// Its octets.
+    /// The octets of the datagram.
     pub fn octets(&self) -> &'a [u8]
         ensures { result.now ≡ self.now.octets }
     {

@@ -1,3 +1,6 @@
+//! All datagrams that the nodes of a script sent, with their octets in one buffer. `deliver` finds
+//! one by its number.
+
 ghost use Rattle.std.specs.Prelude.{◌≡◌, ◌<◌, ◌^◌, ◌++◌, ◌∷◌, [], length, slice_get, OnOk, OnErr};
 
 use crate::sent::SentRef;
@@ -36,7 +39,7 @@ impl Model for SentList {
 }
 
 impl SentList {
-    /// None.
+    /// No datagrams. It allocates nothing.
     pub fn new(alloc: Global) -> SentList
         ensures { result ≡ [] }
     {
@@ -57,7 +60,7 @@ impl SentList {
         add_to(&mut self.heads, &mut self.octets, sent)
     }
 
-    /// How many they are.
+    /// The number of datagrams in the list.
     pub fn count(&self) -> usize
         ensures count { result ≡ length self.now }
         ensures few { result < 2 ^ 63 }

@@ -1,3 +1,5 @@
+//! The lines of a report about TLVs that a slave received.
+
 ghost use Rattle.std.specs.Prelude.{◌≡◌, ◌≤◌, ◌+◌, ◌++◌};
 ghost use Rattle.ptu_report_lines.specs.Statements.{received_text};
 

@@ -1,3 +1,5 @@
+//! All that a line of a report may say after its number, and how it is written.
+
 ghost use Rattle.std.specs.{Prelude.{◌≡◌, ◌≤◌, ◌+◌, ◌++◌, ◌∷◌, OnOk}, Fmt.{decimal}};
 ghost use Rattle.ptu_script.specs.Cause as causes;
 ghost use Rattle.ptu_report_lines.specs.{Report.{line_text}, Statements.{statement_text}};

@@ -1,3 +1,5 @@
+//! The words that lines of a report consist of. A line is a slice of them, written by one loop.
+
 ghost use Rattle.std.specs.Prelude.{◌≡◌, ◌≤◌, ◌+◌, ◌++◌, Some};
 ghost use Rattle.ptu_report_lines.specs.Statements.{channel_text, words_text};
 ghost use Rattle.ptu_report_lines.specs.Words.{most, most_of, spaced_text, texts_of, word_text};

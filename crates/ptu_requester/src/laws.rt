@@ -30,7 +30,7 @@ pub fn other_entries()
 {}
 
 /// Where the slave stopped and the requester was told instead that each live grant was cancelled,
-/// the two tell the same grants live from then on, whatever is added to both.
+/// the two say that the same grants are live from then on, whatever is added to both.
 pub fn stop()
     ensures live { (masters : ℕ) (L M : Record) (x t m : ℕ) (k : Kind) → m < masters → x ≤ t →
         is_live k (record_of m (L ++ all_cancels masters L x ++ M)) t ≡

@@ -51,7 +51,7 @@ pub struct Negotiation {
 }
 
 impl Negotiation {
-    /// That of a kind of which nothing happened yet.
+    /// The negotiation of a kind before anything was asked or answered.
     pub fn new() -> Negotiation
         ensures { (k : Kind) → IsKept k [] result }
     {

@@ -19,7 +19,7 @@ pub struct Negotiations {
 }
 
 impl Negotiations {
-    /// Those of a master of which nothing happened yet.
+    /// The negotiations with a master before anything was asked or answered.
     pub fn new() -> Negotiations
         ensures { AreKept [] result }
     {
@@ -30,7 +30,10 @@ impl Negotiations {
         }
     }
 
-    /// Those of so many masters of which nothing happened yet.
+    /// The negotiations with so many masters before anything was asked or answered.
+    ///
+    /// # Errors
+    /// `AllocError` if there is no memory for the list.
     pub fn of_masters(alloc: Global, masters: usize) -> Result<Vec<Negotiations>, AllocError>
         ensures kept { IfOk result (λ all. All (AreKept []) all.items) }
         ensures count { IfOk result (λ all. vec_len all ≡ masters) }

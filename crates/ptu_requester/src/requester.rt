@@ -1,3 +1,6 @@
+//! When a slave asks each master: a few values for each kind in place of the record of all asks and
+//! answers.
+
 ghost use Rattle.std.specs.Prelude.{◌≡◌, ◌<◌, ◌∷◌, [], length, IfOk};
 ghost use Rattle.ptu_record.specs.Record.{Record, record_of, Asked, Cancelled};
 ghost use Rattle.ptu_record.specs.{Grants.{is_live, run_start}, Asks.{due_kinds}};
@@ -33,7 +36,11 @@ impl Model for Requester {
 }
 
 impl Requester {
-    /// A slave's that requests so much of each of so many masters, before the first event.
+    /// The requester of a slave that requests these kinds of each of so many masters, before the
+    /// first event.
+    ///
+    /// # Errors
+    /// `OutOfMemory` if there is no memory for the list of masters.
     pub fn new(alloc: Global, wants: Wants, masters: usize) -> Result<Requester, OutOfMemory>
         ensures empty { IfOk result (λ r. StandsFor r []) }
         ensures wants { IfOk result (λ r. r.wants ≡ wants) }

@@ -2,7 +2,7 @@
 use Rattle.std.specs.Prelude.{◌≡◌, ◌≤◌, length}
 use Rattle.ptu_units.specs.declared.kind.Kind.TheVariants as kinds
 use Rattle.ptu_units.specs.Log.{IsLogOf}
-use Rattle.ptu_profile.specs.Limits.{IsCapacity, IsDomain, IsDuration, IsPort, IsTimeout, IsWait}
+use Rattle.ptu_units.specs.Limits.{IsCapacity, IsDomain, IsDuration, IsPort, IsTimeout, IsWait}
 use Rattle.ptu_record.specs.declared.rule.Rule.{Rule}
 use Rattle.ptu_record.specs.declared.rule.Rule.TheVariants as rules
 use Rattle.ptu_script.specs.declared.command.GrandmasterSetup.{GrandmasterSetup}

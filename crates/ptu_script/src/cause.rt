@@ -1,3 +1,5 @@
+//! Why a line of a script is refused, with the words that a report uses.
+
 ghost use Rattle.std.specs.Prelude.{◌≡◌, Some};
 ghost use Rattle.ptu_script.specs.Cause.{text_of, cause_of_line};
 
@@ -54,7 +56,7 @@ impl fmt::Display for Cause {
 
 impl Error for Cause {}
 
-/// The reader of lines names its causes by the same words.
+/// Causes of the reader of lines have the same names here.
 impl From<LineCause> for Cause {
     ghost from_gives = { λ line cause. cause ≡ cause_of_line line };
 

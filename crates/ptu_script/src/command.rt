@@ -1,3 +1,5 @@
+//! What a line of a script commands.
+
 use ptu_lines::LentOctets;
 use ptu_record::{Rule, Wants};
 use ptu_units::Moment;

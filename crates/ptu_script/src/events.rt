@@ -10,7 +10,10 @@ use ptu_lines::WordList;
 use ptu_units::Moment;
 use ptu_units::sizes::LONGEST_DATAGRAM;
 
-/// A datagram that was sent is handed to its node.
+/// The line `deliver T I`: sent datagram I is delivered to the node at its address.
+///
+/// # Errors
+/// `Field(k)` for the first word k of another form or out of its range.
 #[tactic(auto, unfolding(crate::specs::Command::fields_in))]
 pub fn deliver<'a>(line: &WordList) -> Result<Command<'a>, Cause>
     ensures value { result ≡ fields_in verbs.Deliver line.now }
@@ -21,7 +24,10 @@ pub fn deliver<'a>(line: &WordList) -> Result<Command<'a>, Cause>
     Ok(Command::Deliver { at, number })
 }
 
-/// A table takes a turn.
+/// The line `turn T GM J`: table J of a grandmaster takes its turn.
+///
+/// # Errors
+/// `Field(k)` for the first word k of another form or out of its range.
 #[tactic(auto, unfolding(crate::specs::Command::fields_in))]
 pub fn turn<'a>(line: &WordList) -> Result<Command<'a>, Cause>
     ensures value { result ≡ fields_in verbs.Turn line.now }
@@ -37,7 +43,10 @@ pub fn turn<'a>(line: &WordList) -> Result<Command<'a>, Cause>
     })
 }
 
-/// A slave takes a tick.
+/// The line `tick T SLAVE`: a slave takes a tick.
+///
+/// # Errors
+/// `Field(k)` for the first word k of another form or out of its range.
 #[tactic(auto, unfolding(crate::specs::Command::fields_in))]
 pub fn tick<'a>(line: &WordList) -> Result<Command<'a>, Cause>
     ensures value { result ≡ fields_in verbs.Tick line.now }
@@ -48,7 +57,10 @@ pub fn tick<'a>(line: &WordList) -> Result<Command<'a>, Cause>
     Ok(Command::Tick { at, slave })
 }
 
-/// The operator speaks of a master.
+/// The line `flag T SLAVE IP B`: an operator says whether a master is unusable.
+///
+/// # Errors
+/// `Field(k)` for the first word k of another form or out of its range.
 #[tactic(auto, unfolding(crate::specs::Command::fields_in))]
 pub fn flag<'a>(line: &WordList) -> Result<Command<'a>, Cause>
     ensures value { result ≡ fields_in verbs.Flag line.now }
@@ -66,7 +78,10 @@ pub fn flag<'a>(line: &WordList) -> Result<Command<'a>, Cause>
     })
 }
 
-/// A judge is replaced.
+/// The line `judge T SLAVE IP RULE`: another judge takes over a master.
+///
+/// # Errors
+/// `Field(k)` for the first word k of another form or out of its range.
 #[tactic(auto, unfolding(crate::specs::Command::fields_in))]
 pub fn judge<'a>(line: &WordList) -> Result<Command<'a>, Cause>
     ensures value { result ≡ fields_in verbs.Judge line.now }
@@ -84,7 +99,10 @@ pub fn judge<'a>(line: &WordList) -> Result<Command<'a>, Cause>
     })
 }
 
-/// A slave stops.
+/// The line `stop T SLAVE`: a slave stops and cancels its grants.
+///
+/// # Errors
+/// `Field(k)` for the first word k of another form or out of its range.
 #[tactic(auto, unfolding(crate::specs::Command::fields_in))]
 pub fn stop<'a>(line: &WordList) -> Result<Command<'a>, Cause>
     ensures value { result ≡ fields_in verbs.Stop line.now }
@@ -95,7 +113,10 @@ pub fn stop<'a>(line: &WordList) -> Result<Command<'a>, Cause>
     Ok(Command::Stop { at, slave })
 }
 
-/// The class of a grandmaster changes.
+/// The line `class GM CLASS`: the clockClass that a grandmaster announces changes.
+///
+/// # Errors
+/// `Field(k)` for the first word k of another form or out of its range.
 #[tactic(auto, unfolding(crate::specs::Command::fields_in))]
 pub fn class<'a>(line: &WordList) -> Result<Command<'a>, Cause>
     ensures value { result ≡ fields_in verbs.Class line.now }
@@ -109,7 +130,11 @@ pub fn class<'a>(line: &WordList) -> Result<Command<'a>, Cause>
     })
 }
 
-/// The capacity of a grandmaster changes.
+/// The line `capacity T GM N`: the capacity of a grandmaster changes to N sixteenths of a message
+/// per second.
+///
+/// # Errors
+/// `Field(k)` for the first word k of another form or out of its range.
 #[tactic(auto, unfolding(crate::specs::Command::fields_in))]
 pub fn capacity<'a>(line: &WordList) -> Result<Command<'a>, Cause>
     ensures value { result ≡ fields_in verbs.Capacity line.now }
@@ -131,7 +156,11 @@ fn handed(line: &WordList) -> Result<(Moment, u32, u32), Cause>
     Ok((at, node, from))
 }
 
-/// A datagram is handed to a node. Its octets are put into the room.
+/// The line `rx T NODE FROM HEX`: a node receives a datagram. Its octets are put into the room.
+///
+/// # Errors
+/// `Field(k)` for the first word k of another form or out of its range. The content of the room is
+/// not said then.
 #[tactic(auto, unfolding(crate::specs::Command::fields_in))]
 pub fn rx<'a>(line: &WordList, room: &'a mut [u8; LONGEST_DATAGRAM]) -> Result<Command<'a>, Cause>
     ensures value { result ≡ fields_in verbs.Rx line.now }

@@ -29,7 +29,10 @@ fn ip_at(line: &WordList, k: u8) -> Option<u32>
     ip(line.word(usize::from(k))?)
 }
 
-/// An address.
+/// The IPv4 address that word k of the line writes, its first number the highest octet.
+///
+/// # Errors
+/// `Field(k)` if the word has another form or is out of its range, or is not there.
 pub fn ip_field(line: &WordList, k: u8) -> Result<u32, Cause>
     ensures { result ≡ field k ip_of line.now }
 {
@@ -42,7 +45,10 @@ fn clock_at(line: &WordList, k: u8) -> Option<u64>
     clock(line.word(usize::from(k))?)
 }
 
-/// A clock identity.
+/// The clock identity that word k of the line writes, in 16 hexadecimal digits.
+///
+/// # Errors
+/// `Field(k)` if the word has another form or is out of its range, or is not there.
 pub fn clock_field(line: &WordList, k: u8) -> Result<u64, Cause>
     ensures { result ≡ field k clock_of line.now }
 {
@@ -55,7 +61,10 @@ fn number_at(line: &WordList, k: u8, least: u64, greatest: u64) -> Option<u64>
     number(line.word(usize::from(k))?, least, greatest)
 }
 
-/// A number from `least` to `greatest`.
+/// The number from `least` to `greatest` that word k of the line writes in decimal digits.
+///
+/// # Errors
+/// `Field(k)` if the word has another form or is out of its range, or is not there.
 pub fn number_field(line: &WordList, k: u8, least: u64, greatest: u64) -> Result<u64, Cause>
     ensures value { result ≡ field k (from_to least greatest) line.now }
     ensures within { IfOk result (λ n. (least ≤ n) × (n ≤ greatest)) }
@@ -69,7 +78,10 @@ fn moment_at(line: &WordList, k: u8) -> Option<Moment>
     Moment::of(number_at(line, k, 0, (1 << 62) - 1)?)
 }
 
-/// A moment.
+/// The moment that word k of the line writes, in nanoseconds below 2^62.
+///
+/// # Errors
+/// `Field(k)` if the word has another form or is out of its range, or is not there.
 pub fn moment_field(line: &WordList, k: u8) -> Result<Moment, Cause>
     ensures { result ≡ field k moment_of line.now }
 {
@@ -99,7 +111,10 @@ fn log_at(line: &WordList, k: u8, kind: Kind) -> Option<Log>
     log_of(line.word(usize::from(k))?, kind)
 }
 
-/// A logarithm in the range of the kind.
+/// The logarithm of a mean interval that word k of the line writes, in the range of the kind.
+///
+/// # Errors
+/// `Field(k)` if the word has another form or is out of its range, or is not there.
 pub fn log_field(line: &WordList, k: u8, kind: Kind) -> Result<Log, Cause>
     ensures value { result ≡ field k (log_of_kind kind) line.now }
     ensures within { IfOk result (IsLogOf kind) }
@@ -117,7 +132,11 @@ fn delay_log_at(line: &WordList, k: u8) -> Option<Option<Log>>
     }
 }
 
-/// The logarithm of the Delay_Req interval, or the word `-` for none.
+/// The logarithm of the Delay_Resp interval that word k of the line writes, or `None` for the word
+/// `-`.
+///
+/// # Errors
+/// `Field(k)` if the word has another form or is out of its range, or is not there.
 pub fn delay_log_field(line: &WordList, k: u8) -> Result<Option<Log>, Cause>
     ensures { result ≡ field k delay_log line.now }
 {
@@ -144,7 +163,10 @@ fn rule_at(line: &WordList, k: u8) -> Option<Rule>
     rule_of(line.word(usize::from(k))?)
 }
 
-/// The rule of a judge.
+/// The rule of a judge that word k of the line names: `flag` or `gap`.
+///
+/// # Errors
+/// `Field(k)` if the word has another form or is out of its range, or is not there.
 pub fn rule_field(line: &WordList, k: u8) -> Result<Rule, Cause>
     ensures value { result ≡ field k rule_named line.now }
     ensures within { IfOk result IsNamed }
@@ -158,7 +180,10 @@ fn truth_at(line: &WordList, k: u8) -> Option<bool>
     Some(number_at(line, k, 0, 1)? == 1)
 }
 
-/// 0 or 1, which is true.
+/// The truth value that word k of the line writes: 0 for false, 1 for true.
+///
+/// # Errors
+/// `Field(k)` if the word has another form or is out of its range, or is not there.
 pub fn truth_field(line: &WordList, k: u8) -> Result<bool, Cause>
     ensures { result ≡ field k truth_of line.now }
 {
@@ -174,7 +199,12 @@ fn octets_at(line: &WordList, k: u8, room: &mut [u8; LONGEST_DATAGRAM]) -> Optio
     octets(line.word(usize::from(k))?, room)
 }
 
-/// The octets of a datagram, at most 2048, which are put into the room.
+/// The octets of a datagram, at most 2048, that word k of the line writes in hexadecimal digits.
+/// They are put into the room.
+///
+/// # Errors
+/// `Field(k)` if the word has another form or is out of its range, or is not there. The content of
+/// the room is not said then.
 pub fn octets_field<'a>(
     line: &WordList,
     k: u8,

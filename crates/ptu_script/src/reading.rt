@@ -1,3 +1,5 @@
+//! Reads a line of a script as a command, or the first cause of its refusal.
+
 ghost use Rattle.std.specs.Prelude.{◌≡◌, ◌≢◌, IfOk, IfSome, unwrap_or, []};
 ghost use Rattle.ptu_script.specs.Command.{fields_in, has_count, is_comment, command_by, command_of};
 ghost use Rattle.ptu_script.specs.{Limits.{IsWithinLimits}, Verb.{verb_named, counts_of}};

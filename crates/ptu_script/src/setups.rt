@@ -12,6 +12,9 @@ use ptu_record::Wants;
 use ptu_units::Kind;
 
 /// The fields of `gm IP CLOCK PORT DOMAIN CLASS CAPACITY MAX`.
+///
+/// # Errors
+/// `Field(k)` for the first word k of another form or out of its range.
 #[tactic(auto, unfolding(crate::specs::Command::grandmaster_in))]
 pub fn grandmaster(line: &WordList) -> Result<GrandmasterSetup, Cause>
     ensures value { result ≡ grandmaster_in line.now }
@@ -85,7 +88,10 @@ fn slave(line: &WordList) -> Result<SlaveSetup, Cause>
     })
 }
 
-/// A grandmaster is set up.
+/// The line `gm`: a grandmaster is set up.
+///
+/// # Errors
+/// `Field(k)` for the first word k of another form or out of its range.
 #[tactic(auto, unfolding(crate::specs::Command::fields_in))]
 pub fn gm<'a>(line: &WordList) -> Result<Command<'a>, Cause>
     ensures value { result ≡ fields_in verbs.Gm line.now }
@@ -94,7 +100,10 @@ pub fn gm<'a>(line: &WordList) -> Result<Command<'a>, Cause>
     Ok(Command::Grandmaster(grandmaster(line)?))
 }
 
-/// A slave is set up.
+/// The line `slave`: a slave without masters is set up.
+///
+/// # Errors
+/// `Field(k)` for the first word k of another form or out of its range.
 #[tactic(auto, unfolding(crate::specs::Command::fields_in))]
 pub fn new_slave<'a>(line: &WordList) -> Result<Command<'a>, Cause>
     ensures value { result ≡ fields_in verbs.Slave line.now }
@@ -103,7 +112,11 @@ pub fn new_slave<'a>(line: &WordList) -> Result<Command<'a>, Cause>
     Ok(Command::Slave(slave(line)?))
 }
 
-/// A slave gets a master.
+/// The line `master SLAVE IP PRIORITY RULE`: a slave gets a master at the end of its list, with a
+/// judge of the rule.
+///
+/// # Errors
+/// `Field(k)` for the first word k of another form or out of its range.
 #[tactic(auto, unfolding(crate::specs::Command::fields_in))]
 pub fn master<'a>(line: &WordList) -> Result<Command<'a>, Cause>
     ensures value { result ≡ fields_in verbs.Master line.now }

@@ -1,3 +1,5 @@
+//! The first words of the lines in a script.
+
 ghost use Rattle.std.specs.Prelude.{◌≡◌};
 ghost use Rattle.ptu_script.specs.Verb.{name_of, verb_named};
 
@@ -34,7 +36,7 @@ const VERBS: [Verb; 12] = [
 ];
 
 impl Verb {
-    /// The word itself.
+    /// The word as it stands in a script.
     pub fn name(self) -> &'static str
         ensures { result.now ≡ name_of self }
     {

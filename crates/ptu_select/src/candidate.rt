@@ -1,3 +1,5 @@
+//! Eligible masters, compared by quality level, priority and place (ITU-T G.8265.1).
+
 ghost use Rattle.std.specs.Prelude.{◌≡◌};
 ghost use Rattle.ptu_select.specs.Candidate.{better_of as better_candidate_of, is_better_candidate};
 

@@ -1,3 +1,5 @@
+//! The choice among all masters, with the span of moments for which it stays right.
+
 ghost use Rattle.std.specs.{Prelude.{◌≡◌, ℕ, ◌<◌, ◌≤◌}, Option.{ForSome, option_map}};
 ghost use Rattle.ptu_select.specs.{Candidate.{best_of}, Choice.{Stands}};
 

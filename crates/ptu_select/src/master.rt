@@ -1,3 +1,5 @@
+//! A master under its watch, with its priority.
+
 ghost use Rattle.std.specs.Prelude.{◌≡◌};
 ghost use Rattle.ptu_select.specs.Candidate.{candidate_in};
 ghost use Rattle.ptu_fails.specs.WatchState.{state_of};

@@ -1,3 +1,5 @@
+//! The selector of a slave: it keeps its last choice, so that most selections look at no master.
+
 ghost use Rattle.std.specs.Prelude.{◌≡◌, ℕ, ◌<◌, ◌^◌, List, ◌++◌, ◌∷◌, [], length, IfOk};
 ghost use Rattle.std.specs.Option.{ForSome};
 ghost use Rattle.ptu_record.specs.Record.{Record, record_of, Announce, Sync, Resp, Judged};
@@ -37,6 +39,9 @@ impl Selector {
     /// A selector for a slave of which nothing is recorded, with a master for each priority number,
     /// and with the receipt timeouts of Announce, Sync and, where it is requested, Delay_Resp, and
     /// the wait to restore, all in nanoseconds.
+    ///
+    /// # Errors
+    /// `OutOfMemory` if there is no memory for the list of masters.
     pub fn new(
         alloc: Global,
         ta: u64,

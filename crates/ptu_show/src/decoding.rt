@@ -1,3 +1,5 @@
+//! The call `show`: decodes one datagram in each line of input.
+
 ghost use Rattle.std.specs.Prelude.{◌≡◌, ◌++◌, ◌∷◌, [], ℕ, List, Some, IfOk, OnOk, OnErr};
 ghost use Rattle.ptu_report.specs.Runs.{HasRunThrough, IfWritten};
 ghost use Rattle.ptu_show.specs.Datagram.{datagram_text};

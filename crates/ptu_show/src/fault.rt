@@ -1,3 +1,5 @@
+//! Why `show`, `join` and the programs of the lab did not read their input to the end.
+
 use ptu_lines::LineCause;
 use ptu_report::RunFault;
 use ptu_script::Cause;

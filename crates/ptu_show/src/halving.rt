@@ -11,7 +11,7 @@ use std::alloc::Global;
 /// The half of a Sync in two steps that a datagram spells, if it spells one.
 ///
 /// # Errors
-/// `OutOfMemory`.
+/// `OutOfMemory`, for the TLVs of a Signaling alone.
 #[tactic(auto, unfolding(crate::specs::Halves::half_in))]
 pub fn read_half(alloc: Global, bytes: &[u8]) -> Result<Option<Half>, OutOfMemory>
     ensures half { IfOk result (λ half. half ≡ half_in bytes.now) }

@@ -1,3 +1,5 @@
+//! The lines that `join` writes.
+
 ghost use Rattle.std.specs.Prelude.{Some};
 ghost use Rattle.ptu_show.specs.JoinLines.{join_line_text};
 

@@ -1,3 +1,5 @@
+//! The call `join`: merges each two-step Sync with its Follow_Up.
+
 ghost use Rattle.std.specs.Prelude.{◌≡◌, ◌++◌, ◌∷◌, [], ℕ, List, Some, true, IfOk, IfSome, OnOk};
 ghost use Rattle.ptu_report.specs.Runs.{HasRunThrough, IfWritten};
 ghost use Rattle.ptu_show.specs.Halves.{half_in, is_other};

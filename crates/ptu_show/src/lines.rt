@@ -1,3 +1,5 @@
+//! The lines that `show` writes.
+
 ghost use Rattle.std.specs.Prelude.{Some};
 ghost use Rattle.ptu_show.specs.Lines.{line_text};
 

@@ -29,7 +29,7 @@ fn other_of(waited: Option<Half>, half: &Half) -> Option<Half>
 }
 
 impl Waiting {
-    /// None waits.
+    /// No half waits. It allocates nothing.
     pub fn new(alloc: Global) -> Waiting
         ensures { StandsFor result.kept [] }
     {

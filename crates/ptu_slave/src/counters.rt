@@ -1,3 +1,5 @@
+//! The sequenceIds of what a slave sends to one master (IEEE 1588-2019 clause 7.3.7).
+
 ghost use Rattle.std.specs.Prelude.{◌≡◌, ℕ, cond, [], ◌∷◌, ◌++◌, Some, None, option_map, option_to_list};
 ghost use Rattle.ptu_record.specs.Record.{Record, Probed, Signalled};
 ghost use Rattle.ptu_record.specs.Tick.{delay_req_number, signaling_number};
@@ -17,7 +19,7 @@ pub struct Counters {
 }
 
 impl Counters {
-    /// Those of a master that nothing was sent to.
+    /// The counters of a master that nothing was sent to.
     pub fn new() -> Counters
         ensures { CountFor result [] }
     {

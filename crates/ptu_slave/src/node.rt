@@ -1,3 +1,6 @@
+//! All that a slave keeps beside its judges and its port: configuration, requester, selector and
+//! counters.
+
 ghost use Rattle.std.specs.Prelude.{◌≡◌, ℕ, ◌<◌, ◌≤◌, max, List, [], ◌∷◌, ◌++◌, length, map, flat_map, filter_map, IfOk, All, vec_len, ◌*◌, ◌^◌, true, false};
 ghost use Rattle.std.specs.Option.{ForSome};
 ghost use Rattle.ptu_units.specs.Log.{period_of};
@@ -114,7 +117,7 @@ fn new_counters(alloc: Global, masters: usize) -> Result<Vec<Counters>, AllocErr
 }
 
 impl Core {
-    /// That of a slave of which nothing is recorded.
+    /// The core of a slave of which nothing is recorded.
     pub(crate) fn new(
         alloc: Global,
         config: SlaveConfig,
@@ -149,7 +152,7 @@ impl Core {
         &self.config
     }
 
-    /// Its masters.
+    /// The masters of the slave, at most 16, in their order.
     pub fn masters(&self) -> &[Master]
         ensures masters { result.now ≡ self.now.masters }
         ensures few { length result.now ≤ 16 }
@@ -181,7 +184,7 @@ impl Core {
         self.moment
     }
 
-    /// The slave stops.
+    /// Notes that the slave has stopped: its ticks send nothing from now on.
     pub(crate) fn stop(&mut self)
         ensures { self.new ≡ record self.old { stopped = true } }
     {

@@ -1,9 +1,11 @@
-ghost use Rattle.std.specs.Prelude.{◌≡◌, ◌≢◌, ℕ, ◌<◌, ◌≤◌, max, Bool, List, [], ◌∷◌, ◌++◌, map, take, length, Option, Ok, Err, All, option_map, IfOk, IfNone, IfSome, OnErr, OnOk, IsOk, IsErr, vec_len};
+//! The slave that callers see: each of its calls is one event.
+
+ghost use Rattle.std.specs.Prelude.{◌≡◌, ◌≢◌, ℕ, ◌<◌, ◌≤◌, max, Bool, List, [], ◌∷◌, ◌++◌, map, take, length, Option, Ok, Err, All, true, option_map, IfOk, IfNone, IfSome, OnErr, OnOk, IsOk, IsErr, vec_len};
 ghost use Rattle.std.specs.List.{AllByRecursion};
 ghost use Rattle.ptu_messages.specs.declared.message.Message.{Message};
 ghost use Rattle.ptu_messages.specs.MessageFault.{IsSignaling};
 ghost use Rattle.ptu_messages.specs.declared.message.Body.TheVariants as body;
-ghost use Rattle.ptu_outside.specs.{Faults.{HasNotFallen, HasRisen}, HandsOver.{HandsOver}};
+ghost use Rattle.ptu_outside.specs.{Faults.{HasNotFallen, HasRisen, one_more}, HandsOver.{HandsOver}};
 ghost use Rattle.ptu_outside.specs.Telling.{IfTold, IsEmptyTold, IsFirstTold, rest_told};
 ghost use Rattle.ptu_outside.specs.Replies.{reply_failed, reply_sent};
 ghost use Rattle.ptu_record.specs.{declared.rule.Rule.{Rule}, Record.{Record, event_moment}};
@@ -54,7 +56,7 @@ impl<P: Port> Slave<P> {
     /// each of them; a judge that has a rule is fresh.
     ///
     /// # Errors
-    /// Where memory for what is kept of the masters was not found.
+    /// `OutOfMemory` for what is kept of the masters. The judges and the port are dropped then.
     #[tactic(auto, unfolding(crate::specs::Seen::seen_by))]
     pub fn new(
         alloc: Global,
@@ -86,7 +88,8 @@ impl<P: Port> Slave<P> {
     /// what the others were told and asked is not kept, so a judge that has a rule is to be fresh.
     ///
     /// # Errors
-    /// As of [`Slave::new`].
+    /// `OutOfMemory` for what is kept of the masters, or for the list of judges. The slave and its
+    /// port are dropped then.
     #[tactic(auto, unfolding(crate::specs::Seen::seen_by))]
     pub fn with_master(
         self,
@@ -292,7 +295,7 @@ impl<P: Port> Slave<P> {
         self.core.selected(t)
     }
 
-    /// Its masters.
+    /// The masters of the slave, in their order.
     #[tactic(auto, unfolding(crate::specs::Seen::seen_by))]
     pub fn masters(&self) -> &[Master]
         ensures { result.now ≡ (seen ⟦<dyn Judge as Judge>⟧ self.now).kept.masters }
@@ -300,7 +303,11 @@ impl<P: Port> Slave<P> {
         self.core.masters()
     }
 
-    /// Takes the first datagram that waits at the port, as `Port::receive` does.
+    /// Receives the first datagram that waits at the port, as `Port::receive` does: the sender's
+    /// IPv4 address, and the number of octets at the front of `buf`; `None` if none waits.
+    ///
+    /// # Errors
+    /// `Failed` if the port fails. What waits is as before then.
     #[tactic(auto, unfolding(crate::specs::Seen::seen_by))]
     pub fn receive(
         &mut self,
@@ -325,6 +332,9 @@ impl<P: Port> Slave<P> {
         ensures risen { OnErr result (HasRisen (P.faults
             (seen ⟦<dyn Judge as Judge>⟧ self.old).port)
             (P.faults (seen ⟦<dyn Judge as Judge>⟧ self.new).port)) }
+        ensures once { OnErr result (P.counts_once ≡ true →
+            P.faults (seen ⟦<dyn Judge as Judge>⟧ self.new).port
+            ≡ one_more (P.faults (seen ⟦<dyn Judge as Judge>⟧ self.old).port)) }
         ensures quiet { OnOk result (P.faults (seen ⟦<dyn Judge as Judge>⟧ self.new).port
             ≡ P.faults (seen ⟦<dyn Judge as Judge>⟧ self.old).port) }
         ensures no_fall { HasNotFallen (P.faults (seen ⟦<dyn Judge as Judge>⟧ self.old).port)

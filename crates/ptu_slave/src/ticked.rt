@@ -1,3 +1,5 @@
+//! What a tick or the stop of a slave sent.
+
 use ptu_units::Moment;
 
 /// What a tick or the stop sent.

@@ -1,3 +1,5 @@
+//! What a slave keeps of a message that it accepts.
+
 use crate::signal::SignalList;
 use ptu_header::PortIdentity;
 use ptu_messages::TlvList;
@@ -14,7 +16,7 @@ pub struct Accepted {
     pub content: Content,
 }
 
-/// The same of its body.
+/// What a slave needs of the body of a message.
 #[derive(Drop)]
 pub enum Content {
     /// With its clockClass.

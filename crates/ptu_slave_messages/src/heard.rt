@@ -1,3 +1,5 @@
+//! What a datagram is to a slave: ignored, or a message of one of its masters.
+
 use crate::reason::SlaveReason;
 use crate::signal::SignalList;
 use ptu_outside::Reply;

@@ -1,3 +1,5 @@
+//! A set of kinds of message.
+
 ghost use Rattle.std.specs.Prelude.{◌≡◌};
 
 /// Some of the kinds of message, each or none.

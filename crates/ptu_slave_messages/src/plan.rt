@@ -1,3 +1,5 @@
+//! What a tick and the stop send to one master, before it is written as octets.
+
 use crate::kinds::Kinds;
 
 /// What a tick sends to one master.

@@ -1,3 +1,5 @@
+//! What the TLVs of a Signaling say to a slave.
+
 use ptu_units::{Kind, Listed};
 
 /// What a master said of unicast transmission by a TLV (IEEE 1588-2019 clause 16.1.4).

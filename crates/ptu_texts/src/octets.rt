@@ -1,3 +1,5 @@
+//! Octets written as hexadecimal digits.
+
 ghost use Rattle.std.specs.{Prelude.{Some, length, ◌≤◌}, Fmt.{WritesOnOk}};
 ghost use Rattle.hex.specs.Hex.{encode_lower};
 

@@ -1,3 +1,5 @@
+//! Why octets begin with no TLV.
+
 ghost use Rattle.std.specs.Prelude.{Some};
 ghost use Rattle.ptu_tlvs.specs.TlvFault.{text_of};
 
@@ -9,7 +11,7 @@ use std::fmt;
 pub enum TlvFault {
     /// There are fewer than the 4 octets of a tlvType and a lengthField.
     Short {
-        /// How many there are.
+        /// The number of octets at hand.
         have: usize,
     },
     /// The value passes the octets that follow these 4.

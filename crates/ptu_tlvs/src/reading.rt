@@ -1,3 +1,5 @@
+//! Reads a TLV of unicast negotiation from octets (IEEE 1588-2019 clauses 14.1 and 16.1.4).
+
 ghost use Rattle.std.specs.Prelude.{◌≡◌, ◌↔◌, ◌+◌, ◌≤◌, ℕ, length, IsErr, IfOk, IfErr, MatchResult};
 ghost use Rattle.ptu_tlvs.specs.Tlv.{IsWhole, IsFirst, ask_at, SpellsTlv, BeginsWithTlv};
 ghost use Rattle.ptu_tlvs.specs.{TlvFault.{HasTlvFault}, Reading.{tlv_in}, declared.tlv.Tlv.{Tlv}};
@@ -66,8 +68,11 @@ fn tlv_of(octets: &[u8]) -> Result<Tlv, TlvFault>
     }
 }
 
-/// The TLV that the octets begin with, and its size in octets with its type and length. The fault
-/// is the first that applies (IEEE 1588-2019 clauses 14.1 and 16.1.4).
+/// The TLV that the octets begin with, and its size in octets with its type and length (IEEE
+/// 1588-2019 clauses 14.1 and 16.1.4).
+///
+/// # Errors
+/// The first that applies of `Short`, `Overrun` and `Length`.
 pub fn next_tlv(bytes: &[u8]) -> Result<(Tlv, usize), TlvFault>
     // What is read is spelled so, and the fault that is answered is there.
     ensures spelled { IfOk result (λ read. BeginsWithTlv bytes.now read.0 read.1) }

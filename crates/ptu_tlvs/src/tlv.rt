@@ -1,3 +1,5 @@
+//! The TLVs of unicast negotiation as values (IEEE 1588-2019 clauses 14.1 and 16.1.4).
+
 /// What is asked for, or granted: messages of a kind, how often and for how long
 /// (IEEE 1588-2019 clause 16.1.4.1).
 #[derive(Clone, Copy, Debug, PartialEq, Eq)]

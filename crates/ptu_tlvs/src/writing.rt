@@ -1,3 +1,5 @@
+//! Writes a TLV of unicast negotiation to octets (IEEE 1588-2019 clauses 14.1 and 16.1.4).
+
 ghost use Rattle.std.specs.Prelude.{◌≡◌, ◌<◌, ◌≤◌, length, take, drop};
 ghost use Rattle.ptu_tlvs.specs.Tlv.{HasAskWidths, AlwaysBeginsWithTlv};
 ghost use Rattle.ptu_tlvs.specs.Sent.{IsSendable, sent_ask, sent_tlv};

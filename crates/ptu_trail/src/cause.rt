@@ -1,3 +1,5 @@
+//! What an audit may find wrong with a record of a grandmaster.
+
 use ptu_history::Client;
 use ptu_units::Kind;
 

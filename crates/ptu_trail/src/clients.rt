@@ -1,3 +1,5 @@
+//! All clients of one audited grandmaster, by their addresses.
+
 ghost use Rattle.std.specs.Prelude.{◌≡◌, ◌<◌, ◌≤◌, ◌^◌, ◌∷◌, [], ◌++◌, ℕ, List, Some, false, true, length, IfNone, IfSome, MatchOption, MatchResult, OnOk, IfOk, map};
 ghost use Rattle.std.specs.{BTreeMap.{get}, Ordering.{nat_cmp}};
 ghost use Rattle.ptu_history.specs.{History.{Record, Ended, Sent, Shed}, Live.{live_grants}};
@@ -28,7 +30,7 @@ pub(crate) struct Clients {
 }
 
 impl Clients {
-    /// No clients.
+    /// A trail without clients. It allocates nothing.
     pub(crate) fn new(alloc: Global) -> Clients
         ensures { AreKnown [] result }
     {

@@ -1,3 +1,6 @@
+//! What an audit keeps of one client: the last grant of each kind, and the moments of the last
+//! decision and message.
+
 use crate::cause::NoCause;
 use crate::spending::{granted_edge, spent};
 use ptu_units::{Kind, Log};

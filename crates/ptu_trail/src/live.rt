@@ -94,7 +94,7 @@ fn put(rates: &mut BTreeMap<End, u64>, end: End, rate: u64) -> Result<u64, OutOf
 }
 
 impl LiveGrants {
-    /// No grants.
+    /// No live grants. It allocates nothing.
     pub(crate) fn new(alloc: Global) -> LiveGrants
         ensures { result ≡ [] }
     {

@@ -1,3 +1,5 @@
+//! The records of one grandmaster in the order of a report, judged one by one.
+
 ghost use Rattle.std.specs.Prelude.{◌≡◌, ◌<◌, ◌≤◌, ◌+◌, ◌^◌, ◌∷◌, [], ◌++◌, ℕ, List, length, IfNone, IfSome, IfOk, MatchOption, map, nat_lt, not, true};
 ghost use Rattle.ptu_units.specs.Log.{rate_of};
 ghost use Rattle.ptu_history.specs.History.{Record, Capacity, Ended, Granted};
@@ -80,7 +82,7 @@ impl Trail {
     /// `Fit`, or none.
     ///
     /// # Errors
-    /// `OutOfMemory`.
+    /// `OutOfMemory`. Nothing is said of the trail then: the audit ends.
     pub fn grant(
         &mut self,
         at: u64,
@@ -123,7 +125,7 @@ impl Trail {
     /// `Moment`, or none.
     ///
     /// # Errors
-    /// `OutOfMemory`.
+    /// `OutOfMemory`. Nothing is said of the trail then: the audit ends.
     pub fn end(
         &mut self,
         at: u64,
@@ -179,7 +181,7 @@ impl Trail {
     /// away; a shedding has `Shared` or `Moment`.
     ///
     /// # Errors
-    /// `OutOfMemory`.
+    /// `OutOfMemory`. Nothing is said of the trail then: the audit ends.
     pub fn change(
         &mut self,
         at: u64,

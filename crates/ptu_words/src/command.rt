@@ -1,3 +1,5 @@
+//! The commands of the program, and the name of each.
+
 ghost use Rattle.std.specs.Prelude.{◌≡◌, ◌≤◌, IfSome, option_map};
 ghost use Rattle.ptu_words.specs.CommandLine.{IsInRange, audit_of, command_named, load_of};
 

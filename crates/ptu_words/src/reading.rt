@@ -1,3 +1,5 @@
+//! Reads the words of the command line with `clap`.
+
 ghost use Rattle.std.specs.Prelude.{◌≡◌, ◌≢◌, IfOk, IfSome, map, option_and_then};
 ghost use Rattle.clap.specs.Words.{app_of, subcommand_rows_of, with_subcommand};
 ghost use Rattle.ptu_words.specs.CommandLine.{IsInRange, command_by, command_line, command_of, numbered_line};
@@ -70,7 +72,7 @@ fn unmatched(kind: ErrorKind) -> Result<Option<Command>, OutOfMemory>
 /// them.
 ///
 /// # Errors
-/// `OutOfMemory`.
+/// `OutOfMemory`, while the words are compared with the command line.
 pub fn read_words(alloc: Global, words: &[&str]) -> Result<Option<Command>, OutOfMemory>
     ensures command { IfOk result
         (λ found. found ≡ command_of (map (λ w. w.now) words.now)) }

@@ -1,3 +1,5 @@
+//! Texts one after the other in one buffer, of which the last one is in the making.
+
 ghost use Rattle.std.specs.Prelude.{◌≡◌, ◌++◌, [], length, OnOk};
 ghost use Rattle.hex.specs.Hex.{encode_lower};
 ghost use Rattle.ptu_writing.specs.Draft.{Drafted};
@@ -29,7 +31,7 @@ impl Model for Draft {
 }
 
 impl Draft {
-    /// No text.
+    /// A draft without texts. It allocates nothing.
     pub fn new(alloc: Global) -> Draft
         ensures { result ≡ record { done = []; text = [] } }
     {
@@ -39,10 +41,10 @@ impl Draft {
         }
     }
 
-    /// Puts the octets.
+    /// Puts the octets after the text in the making.
     ///
     /// # Errors
-    /// `OutOfMemory`.
+    /// `OutOfMemory`. What is done stays, and of the text in the making nothing is said.
     pub fn put_octets(&mut self, octets: &[u8]) -> Result<(), OutOfMemory>
         ensures put { OnOk result (self.new.text ≡ self.old.text ++ octets.now) }
         ensures done { self.new.done ≡ self.old.done }
@@ -54,7 +56,7 @@ impl Draft {
     /// Puts the octets of the line.
     ///
     /// # Errors
-    /// `OutOfMemory`.
+    /// `OutOfMemory`. What is done stays, and nothing is said of the text in the making.
     pub fn put_line(&mut self, line: &LineText) -> Result<(), OutOfMemory>
         ensures put { OnOk result (self.new.text ≡ self.old.text ++ line.now.text) }
         ensures done { self.new.done ≡ self.old.done }
@@ -65,7 +67,7 @@ impl Draft {
     /// Puts two hexadecimal digits in lower case for each octet.
     ///
     /// # Errors
-    /// `OutOfMemory`.
+    /// `OutOfMemory`. What is done stays, and nothing is said of the text in the making.
     pub fn put_digits(&mut self, octets: &[u8]) -> Result<(), OutOfMemory>
         ensures put { OnOk result (self.new.text ≡ self.old.text ++ encode_lower octets.now) }
         ensures done { self.new.done ≡ self.old.done }

@@ -1,3 +1,6 @@
+//! A line in the making, written from its last octet to its first, so that numbers need no buffer
+//! of their own.
+
 ghost use Rattle.std.specs.Prelude.{◌≡◌, ◌≤◌, ◌+◌, ◌*◌, ◌++◌, [], length};
 ghost use Rattle.std.specs.Fmt.{decimal, signed_decimal};
 ghost use Rattle.hex.specs.Hex.{encode_lower};
@@ -30,7 +33,7 @@ impl Model for LineText {
 }
 
 impl LineText {
-    /// An empty line.
+    /// A line without octets, with room for 160.
     pub fn new() -> LineText
         ensures text { result.text ≡ [] }
         ensures room { result.room ≡ 160 }

@@ -1,3 +1,5 @@
+//! The trait of what is written as a part of a line.
+
 ghost use Rattle.std.specs.Prelude.{◌≡◌, ◌≤◌, ◌+◌, ◌++◌, List, ℕ};
 
 use crate::line::LineText;
@@ -7,7 +9,7 @@ pub trait LinePart {
     /// The octets of its text.
     ghost text: { Self → List ℕ };
 
-    /// How many they may be.
+    /// The most octets that the text may have.
     ghost most: { Self → ℕ };
 
     /// Puts its text before what stands in the line.

@@ -1,3 +1,5 @@
+//! The trait of a value that is written as one text.
+
 ghost use Rattle.std.specs.Prelude.{◌≡◌, ◌++◌, OnOk, List, ℕ};
 
 use crate::draft::Draft;

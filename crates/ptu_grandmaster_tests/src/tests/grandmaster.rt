@@ -1,5 +1,5 @@
 ghost use Rattle.std.specs.{Prelude.{IfOk}, List.{All}};
-ghost use Rattle.ptu_profile.specs.Limits.{IsCapacity};
+ghost use Rattle.ptu_units.specs.Limits.{IsCapacity};
 ghost use Rattle.ptu_grandmaster.specs.Driven.{IsPossible};
 
 use ptu_grandmaster::{Gm, GmEvent, Reply, Taken, drive};
