@@ -11,6 +11,8 @@ from math import hypot
 
 # The places at which all panels begin and end, and the width of a picture without a column at the right.
 LEFT, END, WIDTH = 150, 936, 960
+# How wide a letter of a heading is, at most, on average.
+HEAD_WIDTH = 7.9
 INK, FAINT, GRID = "#222222", "#777777", "#e4e4e4"
 # Colours that people with any sight of colour tell apart (Okabe and Ito).
 BLUE, ORANGE, GREEN, RED, PURPLE, SKY, YELLOW = (
@@ -125,11 +127,17 @@ class Picture:
         self.add(f'<line x1="{x1:.1f}" y1="{y1:.1f}" x2="{x2:.1f}" y2="{y2:.1f}" class="{kind}"/>')
 
     def heading(self, text: str, legend: Iterable[tuple[str, str]] = (), dashed: str = "") -> None:
-        """A panel's heading, with the colours of its curves and bars named at the right, one of them as dashes."""
+        """A panel's heading, with the colours of its curves and bars named at the right, one of them as dashes.
+
+        Where both have no room in one line the names stand below it.
+        """
+        names = list(legend)
         self.y += 26
         self.text(LEFT, self.y, text, "head")
         x = float(END)
-        for colour, name in reversed(list(legend)):
+        if LEFT + HEAD_WIDTH * len(text) > x - sum(6.9 * len(name) + 30 for _, name in names):
+            self.y += 18
+        for colour, name in reversed(names):
             x -= 6.9 * len(name)
             self.text(x, self.y, name)
             if name == dashed:

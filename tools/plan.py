@@ -112,6 +112,10 @@ class Change:
     words: str
     rest: str = ""
 
+    def line(self, moment: str) -> str:
+        """Its line, with a mark for the moment."""
+        return f"{self.words} {moment} {self.rest}" if self.rest else self.words
+
 
 @dataclass(slots=True)
 class Plan:
@@ -352,12 +356,30 @@ def check_nodes(plan: Plan) -> None:
             raise PlanError(f"slaves: the master {ip} of {it.ip} is none of the grandmasters")
         if not 1 <= len(it.masters) <= 16:
             raise PlanError(f"slaves: {it.ip} has {len(it.masters)} masters, and a slave has 1 to 16")
+        for ip, count in Counter(of.ip for of in it.masters).items():
+            if count > 1:
+                raise PlanError(f"slaves: {it.ip} has the master {ip} twice")
     for it in plan.outages:
         if strangers := it.ends - nodes:
             raise PlanError(f"outages: {min(strangers)} is no node's address")
     for ends in plan.links:
         if strangers := ends - nodes:
             raise PlanError(f"links: {min(strangers)} is no node's address")
+
+
+def check_changes(plan: Plan) -> None:
+    """Each change is one of a grandmaster, or of a slave, or of a slave and one of its masters."""
+    grandmasters = {it.ip for it in plan.grandmasters}
+    masters = {it.ip: {of.ip for of in it.masters} for it in plan.slaves}
+    for it in plan.changes:
+        name, *nodes = f"{it.words} {it.rest}".split()
+        if name in ("capacity", "class"):
+            if nodes[0] not in grandmasters:
+                raise PlanError(f"changes: {nodes[0]} is no grandmaster, of which the {name} could change")
+        elif nodes[0] not in masters:
+            raise PlanError(f"changes: {nodes[0]} is no slave")
+        elif name != "stop" and nodes[1] not in masters[nodes[0]]:
+            raise PlanError(f"changes: {nodes[1]} is no master of {nodes[0]}")
 
 
 def check_judges(plan: Plan) -> None:
@@ -398,5 +420,6 @@ def read_plan(text: str) -> Plan:
         table.done()
     top.done()
     check_nodes(plan)
+    check_changes(plan)
     check_judges(plan)
     return plan

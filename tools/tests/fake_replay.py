@@ -1,40 +1,43 @@
-"""Stands in for `ptpuni replay` where there is none: each tick of a slave sends a datagram to the first grandmaster,
-which answers each that it is delivered. With the word `asks` these are Delay_Reqs, with `short` it ends early, with
-`bad` it refuses line 5, with `late` it takes six lines for the whole script, and with `skips` it skips a number."""
+"""Stands in for `ptpuni replay` where there is none: no datagram arrives, and each slave asks the first grandmaster at its
+first three ticks, and never again. With other words than `good` it does something wrong, mostly on the sixth line."""
 
 import sys
+import time
 
 
 def main() -> None:
     how = sys.argv[1]
-    grandmaster = ""
-    sent: list[tuple[str, str]] = []
+    if how == "sleeps":
+        time.sleep(300)
+    grandmaster, number, at = "", 0, 0
+    ticks: dict[str, int] = {}
     for at, line in enumerate(sys.stdin, 1):
         words = line.split()
-        said = []
-        ways = []
         if words[0] == "gm":
-            grandmaster = grandmaster or words[1]
-        elif words[0] == "tick":
-            ways = [(words[2], grandmaster)]
-        elif words[0] == "deliver":
-            sender, receiver = sent[int(words[2]) - 1]
-            ways = [(receiver, sender)] if receiver == grandmaster else []
-        elif words[0] == "rx":
-            said = [f"{at} ignored fault short 0"]
-        if how == "bad" and at == 5:
-            said = [f"{at} bad field 3"]
-        for sender, receiver in ways:
-            sent.append((sender, receiver))
-            number = len(sent) + (how == "skips")
-            said.append(f"{at} send {number} {sender} {receiver} general {'01' if how == 'asks' else '00'}")
-        if how == "late" and at == 6:
-            break
-        if said and how != "late":
-            print(*said, sep="\n", flush=True)
-        if how == "short" and at == 5:
+            grandmaster = words[1]
+        elif how == "bad" and at == 6:
+            print("6 bad field 3", flush=True)
+            sys.exit(65)
+        elif how == "short" and at == 6:
             sys.exit(3)
-    print(f"end 0 {len(sent) + (how == 'skips')}", flush=True)
+        elif how == "late" and at == 6:
+            break
+        elif words[0] == "tick":
+            ticks[words[2]] = ticks.get(words[2], 0) + 1
+            asks = ticks[words[2]] <= 3 and not (how == "less" and number == 5)
+            for _ in range(asks + (how in ("more", "hides") and ticks[words[2]] == 9 and words[2].endswith(".1"))):
+                number += 1
+                to = words[2] if how == "elsewhere" and number == 3 else grandmaster
+                print(f"{at} send {number} {words[2]} {to} general 0c12", flush=True)
+            if how == "early" and at == 6:
+                number += 1
+                print(f"{at} send {number} 10.0.1.2 {grandmaster} general 0c12", flush=True)
+    if how == "silent":
+        time.sleep(300)
+    if how != "cut":
+        print(f"end {at} {number + (how == 'skips') - (how == 'hides')}", flush=True)
+    if how == "torn":
+        print("and", end="", flush=True)
 
 
 main()

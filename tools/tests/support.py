@@ -5,7 +5,6 @@ from __future__ import annotations
 import importlib.util
 import io
 import os
-import pty
 import struct
 import subprocess
 import sys
@@ -75,17 +74,6 @@ def program() -> Path | None:
     return Path(found) if found and os.access(found, os.X_OK) else None
 
 
-def has_terminal() -> bool:
-    """Whether a pseudo-terminal is to be had."""
-    try:
-        for it in pty.openpty():
-            os.close(it)
-    except OSError:
-        return False
-    return True
-
-
-wants_terminal = unittest.skipUnless(has_terminal(), "no pseudo-terminal is to be had")
 wants_program = unittest.skipUnless(program(), "no program is built, and $PTPUNI names none")
 
 

@@ -49,7 +49,8 @@ class Edits(unittest.TestCase):
         self.put(self.top / "crates/low/must-fail/zero.edit", "file: src/lib.rt\n")
         for name in ("high", "other"):
             self.put(self.top / f"edits/{name}/zero.edit", "file: src/lib.rt\n")
-        self.put(self.top / "tools/edits", (TOOLS / "edits").read_text())
+        for it in ("edits", "endings.py", "options.py", "ptp.py"):
+            self.put(self.top / "tools" / it, (TOOLS / it).read_text())
         self.run_in("git", "init", "--quiet")
         self.commit()
 
@@ -167,7 +168,7 @@ class Edits(unittest.TestCase):
         self.assertFalse((self.top / "edits/PASSED").exists())
 
     def test_a_crate_without_edits_is_refused(self) -> None:
-        self.assertEqual(self.edits("low"), (2, []))
+        self.assertEqual(self.edits("low"), (64, []))
 
     def test_the_tree_is_left_as_it_is(self) -> None:
         before = self.run_in("git", "status", "--porcelain").stdout

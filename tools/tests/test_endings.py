@@ -23,12 +23,15 @@ READS = {
 }
 WRONG_WORDS = {
     "from-pcap": [(), ("show",), ("report", "{}"), ("report", "{}", "--grandmaster", "x"), ("show", "{}", "--ports=0")],
-    "observe": [(), ("here",), (GM, "--capacity", "0"), (GM, "--rows", "0"), (GM, "--seconds", "-1")],
+    "observe": [(), ("here",), (GM, "--capacity", "0"), (GM, "--rows", "0"), (GM, "--seconds", "-1"), (GM, "--json", "--prometheus", "x")],
     "plot": [(), ("{}", "--capacity", "0"), ("{}", "--capacity", "here=1"), ("{}", "--nothing")],
     "summary": [(), ("{}", "--capacity", "16777217"), ("{}", "{}")],
     "scenario": [(), ("{}", "{}")],
     "runs": [("--nothing",)],
     "rules": [("--nothing",)],
+    "edits": [("--nothing",), ("nobody",)],
+    "plants": [("--nothing",), ("nothing",)],
+    "gate-times": [("--nothing",)],
 }
 
 
@@ -68,8 +71,6 @@ class Endings(unittest.TestCase):
                 for words in each:
                     if "--script" in words:
                         words = (str(file), "--script", "{}")
-                    if name == "runs" and octets[0] == 255:
-                        continue
                     status, lines = self.said(name, words, file)
                     self.assertEqual((status, len(lines)), (65, 1), (name, words, lines))
                     self.assertTrue(lines[0].startswith(f"{name}: {file}: "), lines)
@@ -93,10 +94,30 @@ class Endings(unittest.TestCase):
             self.assertIn(hint.encode(), ran.stderr)
             self.assertEqual(ran.stderr.count(b"\n"), 1)
 
+    def test_programs_that_are_not_there(self) -> None:
+        """What a tool starts is named, and what to do."""
+        started = {"edits": [()], "plants": [()], "gate-times": [(), ("rt", "check")], "runs": [()]}
+        with mock.patch.dict(os.environ, {"PATH": str(self.folder), "PTPUNI": "/nowhere/ptpuni"}):
+            for name, each in started.items():
+                for words in each:
+                    status, lines = self.said(name, words, PTP4L)
+                    missing = "/nowhere/ptpuni: it is no program that can be run" if name == "runs" else "rt: it is not in PATH"
+                    self.assertEqual((status, len(lines)), (69, 1), (name, words, lines))
+                    self.assertTrue(lines[0].startswith(f"{name}: {missing}: "), lines)
+
+    def test_no_room_for_the_output(self) -> None:
+        quiet = {**os.environ, "PYTHONDONTWRITEBYTECODE": "1"}
+        capture = ("--read", str(PTP4L))
+        for words in (("summary", REPORT), ("plot", REPORT), ("from-pcap", "show", PTP4L), ("observe", GM, *capture), ("rules",)):
+            with open("/dev/full", "wb") as full:
+                ran = subprocess.run([TOOLS / words[0], *words[1:]], stdout=full, stderr=subprocess.PIPE, env=quiet)
+            why = f"{words[0]}: standard output: No space left on device: make room, or write it elsewhere\n"
+            self.assertEqual((ran.returncode, ran.stderr.decode()), (67, why))
+
     def test_nobody_reads_on(self) -> None:
         """A tool whose output is closed says nothing more."""
         quiet = {**os.environ, "PYTHONDONTWRITEBYTECODE": "1"}
-        for words in (("summary", REPORT), ("plot", REPORT), ("from-pcap", "show", PTP4L)):
+        for words in (("summary", REPORT), ("plot", REPORT), ("from-pcap", "show", PTP4L), ("rules",)):
             reader, writer = os.pipe()
             os.close(reader)
             try:

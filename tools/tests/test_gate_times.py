@@ -24,7 +24,8 @@ class GateTimes(unittest.TestCase):
         self.addCleanup(folder.cleanup)
         self.top = Path(folder.name)
         (self.top / "tools").mkdir()
-        (self.top / "tools/gate-times").write_text((TOOLS / "gate-times").read_text())
+        for it in ("gate-times", "endings.py", "options.py", "ptp.py"):
+            (self.top / "tools" / it).write_text((TOOLS / it).read_text())
         (self.top / "crates.txt").write_text("# crates\nlow:\nhigh: low hex\nother:\n")
         (self.top / "rt-edit-x").mkdir()
         (self.top / "run").write_text(RUN.replace("/bin/sh", "/bin/bash"))

@@ -1,16 +1,17 @@
-"""A daemon whose output is a pipe: each line is in the pipe as soon as it is written.
+"""Lines that are waited for: those of a daemon, whose output is a pipe, and those that go to a terminal.
 
-It refuses a program that keeps a daemon's lines back until a block is full or its run has ended.
+It refuses a program that keeps such lines back until a block is full or its run has ended.
 """
 
 from __future__ import annotations
 
 import os
+import pty
 import select
 import socket
 import subprocess
+import tty
 import unittest
-from typing import IO
 
 from support import PATIENCE, program, wants_program
 
@@ -35,10 +36,10 @@ def free_ports() -> tuple[int, int]:
         return event.getsockname()[1], general.getsockname()[1]
 
 
-def first_piece(pipe: IO[bytes]) -> bytes:
-    """What comes out of a pipe first; nothing where nothing comes."""
-    ready, _, _ = select.select([pipe], [], [], PATIENCE)
-    return os.read(pipe.fileno(), 4096) if ready else b""
+def piece(source: int) -> bytes:
+    """What comes out of a pipe or a terminal next; nothing where nothing comes."""
+    ready, _, _ = select.select([source], [], [], PATIENCE)
+    return os.read(source, 4096) if ready else b""
 
 
 @wants_program
@@ -51,10 +52,31 @@ class Pipe(unittest.TestCase):
             daemon.stdin.write(SLAVE.format(event=event, general=general).encode())
             daemon.stdin.close()
             try:
-                self.assertEqual(first_piece(daemon.stdout), b"round 1 selected none\n")
+                self.assertEqual(piece(daemon.stdout.fileno()), b"round 1 selected none\n")
                 self.assertIsNone(daemon.poll())
             finally:
                 daemon.kill()
+
+
+@wants_program
+class Terminal(unittest.TestCase):
+    def test_a_replay_answers_a_line_before_the_next_is_told(self) -> None:
+        try:
+            terminal, output = pty.openpty()
+        except OSError:
+            self.skipTest("no pseudo-terminal is to be had")
+        tty.setraw(output)
+        with subprocess.Popen([str(program()), "replay"], stdin=subprocess.PIPE, stdout=output, bufsize=0) as replay:
+            os.close(output)
+            assert replay.stdin
+            try:
+                replay.stdin.write(b"gm 10.0.0.1 0a00000000000001 1 4 84 8 300\n")
+                for line in (2, 3):
+                    replay.stdin.write(b"rx 1 10.0.0.1 10.0.0.1 -\n")
+                    self.assertEqual(piece(terminal), b"%d ignored fault short 0\n" % line)
+            finally:
+                replay.kill()
+                os.close(terminal)
 
 
 if __name__ == "__main__":

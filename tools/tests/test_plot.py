@@ -157,6 +157,14 @@ class Drawn(unittest.TestCase):
         self.assertIn("3", texts(svg))
         self.assertNotIn("4\u2009000", texts(svg))
 
+    def test_the_legend_stands_clear_of_the_heading(self) -> None:
+        """Beside it, and below it where both are long."""
+        for changes, legend, is_below in (([(100, 40), (200, 48)], "capacity (above until 100 s)", True), ([], "held", False)):
+            svg = xml.fromstring(plot.draw(self.held(64000 if changes else 48, changes), "it"))
+            found = {it.text: it.attrib for it in svg.iter("{http://www.w3.org/2000/svg}text")}
+            heading = next(it for text, it in found.items() if text and text.startswith("Grandmaster 10.0.0.1: 1.5 "))
+            self.assertEqual(float(found[legend]["y"]) - float(heading["y"]), 18 if is_below else 0)
+
     def test_the_legend_of_a_capacity(self) -> None:
         seconds = ("s", 1.0)
         self.assertEqual(plot.legend_of([(0.0, 3.0)], 4.0, seconds, 9.0), "capacity")

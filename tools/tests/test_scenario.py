@@ -6,12 +6,15 @@ import random
 import sys
 import tempfile
 import unittest
+from itertools import product
 from pathlib import Path
 from unittest import mock
 
-import agenda
+import course
+import lines
 import plan
-from support import EXAMPLES, TOOLS, program, ptpuni, run, tool, wants_program, wants_terminal
+from nodes import DELAY_REQ, SIGNALING
+from support import EXAMPLES, TOOLS, program, ptpuni, run, tool, wants_program
 
 scenario = tool("scenario")
 
@@ -59,13 +62,13 @@ class Plans(unittest.TestCase):
 
     def test_ticks_by_delay_resps_and_turns_by_syncs(self) -> None:
         """By default a slave ticks as often as Delay_Resps come, and a table turns as often as Announces and Syncs."""
-        for lines, tick, turn in (
+        for text, tick, turn in (
             ("log_sync = -2\nlog_delay = -4", 10**9 // 16, 10**9 // 4),
             ("log_sync = -4\nlog_delay = -1", 10**9 // 2, 10**9 // 16),
             ("log_announce = -3\nlog_sync = -1", 10**9, 10**9 // 8),
         ):
-            made = plan.read_plan(SMALL.replace("log_sync = 0", lines))
-            self.assertEqual((made.tick, made.turn), (tick, turn), lines)
+            made = plan.read_plan(SMALL.replace("log_sync = 0", text))
+            self.assertEqual((made.tick, made.turn), (tick, turn), text)
 
     def test_moments_are_exact(self) -> None:
         made = plan.read_plan(SMALL.replace("length = 20", "length = 4611686016.000000001"))
@@ -73,6 +76,7 @@ class Plans(unittest.TestCase):
 
     def test_refused(self) -> None:
         slave = '[[slaves]]\nip = "10.0.1.9"\nmasters = ["10.0.0.1"]\n'
+        change = '[[changes]]\nat = 1\nnode = "{}"\n'
         refused = {
             SMALL.replace("length = 20", ""): "length: it is required",
             SMALL.replace("length", "lenth"): "lenth: there is no such key here: is length meant?",
@@ -81,6 +85,7 @@ class Plans(unittest.TestCase):
             SMALL.replace("capacity", "capacty"): "[0].capacty: there is no such key here: is capacity meant?",
             SMALL.replace("log_sync", "log_snyc"): "slaves[0].log_snyc: there is no such key here: is log_sync meant?",
             SMALL.replace('["10.0.0.1"]', '["10.0.0.9"]'): "the master 10.0.0.9 of 10.0.1.1 is none of the",
+            SMALL.replace('["10.0.0.1"]', '["10.0.0.1", "10.0.0.1"]'): "10.0.1.1 has the master 10.0.0.1 twice",
             SMALL.replace('masters = ["10.0.0.1"]', "masters = []"): "10.0.1.1 has 0 masters, and a slave has 1 to 16",
             SMALL.replace("capacity = 100", "capacity = 0"): "grandmasters[0].capacity: 0 is no whole number from 1",
             SMALL.replace("log_sync = 0", "log_sync = 9"): "slaves[0].log_sync: 9 is no whole number from -7 to 4",
@@ -90,8 +95,12 @@ class Plans(unittest.TestCase):
             SMALL.replace('masters = ["10.0.0.1"]', 'masters = ["10.0.0"]'): "slaves[0].masters[0].ip: '10.0.0' is no",
             SMALL + slave.replace("1.9", "1.2"): "two nodes have one address",
             SMALL + '[[outages]]\nnode = "10.0.0.9"\nfrom = 1\nuntil = 2': "outages: 10.0.0.9 is no node's address",
-            SMALL + '[[changes]]\nat = 1\nnode = "10.0.0.1"': "changes[0].node: none of capacity, class",
+            SMALL + change.format("10.0.0.1"): "changes[0].node: none of capacity, class",
             SMALL + '[[changes]]\nat = true\nnode = "10.0.0.1"': "changes[0].at: True is no number of seconds",
+            SMALL + change.format("10.0.1.1") + "capacity = 5": "changes: 10.0.1.1 is no grandmaster",
+            SMALL + change.format("10.0.0.9") + "class = 90": "changes: 10.0.0.9 is no grandmaster",
+            SMALL + change.format("10.0.0.1") + "stop = true": "changes: 10.0.0.1 is no slave",
+            SMALL + change.format("10.0.1.1") + 'master = "10.0.0.2"\nunusable = true': "10.0.0.2 is no master of 10.0.1.1",
             "length = ": "Invalid value",
             "length = 1": "at least one grandmaster and one slave",
         }
@@ -123,125 +132,158 @@ class Plans(unittest.TestCase):
         return [it for it in sorted(EXAMPLES.glob("*.toml")) if "[[grandmasters]]" in it.read_text()]
 
 
-@wants_terminal
-class Runs(unittest.TestCase):
-    """Scripts that are made beside a stand-in, of which it is known what it sends when."""
+class Made:
+    """The script of a scenario, without a program that says whether it is as foretold, and what is told one."""
 
-    def setUp(self) -> None:
-        folder = tempfile.TemporaryDirectory()
-        self.addCleanup(folder.cleanup)
-        self.folder = Path(folder.name)
+    def __init__(self, text: str) -> None:
+        self.course = course.Course(plan.read_plan(text))
+        script = lines.Lines()
+        self.told: list[str] = []
+        self.counts: list[int] = []
+        ways: list[int] = []
+        for part in self.course.parts():
+            script.add(part.arrivals, part.numbers, part.texts)
+            script.settle(part.until)
+            self.told += "".join(part.told).splitlines()
+            self.counts += part.counts
+            ways += part.ways
+        self.script = "".join(script.written)
+        self.words = [it.split() for it in self.script.splitlines()]
+        # Of each datagram, from the first one on, by which line it is sent, and what a report says of its way.
+        self.lines = [line for line, count in zip(self.told, self.counts) for _ in range(count)]
+        self.ways = [self.course.ways.spelled[it].decode() for it in ways]
 
-    def fake(self, how: str) -> Path:
-        made = self.folder / how
-        fake = TOOLS / "tests/fake_replay.py"
-        made.write_text(f"#!/bin/sh\nexec '{sys.executable}' -B '{fake}' {how}\n")
-        made.chmod(0o755)
-        return made
+    def moments(self, *names: str) -> list[int]:
+        """The moments of the events of these names."""
+        return [int(it[1]) for it in self.words if it[0] in names]
 
-    def make(self, text: str, how: str = "good") -> list[list[str]]:
-        """The words of the script's lines."""
-        file = self.folder / "it.toml"
-        file.write_text(text)
-        ran = run("scenario", file, "--ptpuni", self.fake(how))
-        self.assertEqual(ran.stderr, b"")
-        return [it.split() for it in ran.stdout.decode().splitlines()]
+    def sent(self, number: int) -> int:
+        """The moment at which a datagram is sent."""
+        return int(self.lines[number - 1].split()[1])
 
-    def moments(self, words: list[list[str]], name: str) -> list[int]:
-        return [int(it[1]) for it in words if it[0] == name]
+    def arrivals(self) -> dict[int, list[int]]:
+        """The moments at which each datagram arrives, by its number."""
+        found: dict[int, list[int]] = {}
+        for it in self.words:
+            if it[0] == "deliver":
+                found.setdefault(int(it[2]), []).append(int(it[1]))
+        return found
 
+
+EVENTS = ("tick", "turn", "deliver")
+
+
+class Courses(unittest.TestCase):
     def test_events(self) -> None:
-        words = self.make(SMALL)
-        events = [it for it in words if it[0] in ("tick", "turn", "deliver")]
-        moments = [int(it[1]) for it in events]
-        self.assertEqual(moments, sorted(moments))
-        # Two slaves tick every second of 20, the first from 0 and the second from 0.5 s; each datagram is answered.
-        self.assertEqual(len(self.moments(words, "tick")), 21 + 20)
-        self.assertEqual(len(self.moments(words, "turn")), 2 * 20)
-        delivered = [int(it[2]) for it in words if it[0] == "deliver"]
-        self.assertEqual(sorted(delivered), sorted(set(delivered)))
-        # The last tick is at the very end, and what it sends arrives no more.
-        self.assertEqual(len(delivered), 2 * 40)
+        made = Made(SMALL)
+        self.assertEqual(made.moments(*EVENTS), sorted(made.moments(*EVENTS)))
+        # Two slaves tick every second of 20, the first from 0 and the second from 0.5 s, and are served.
+        self.assertEqual(len(made.moments("tick")), 21 + 20)
+        self.assertEqual(len(made.moments("turn")), 2 * 20)
+        # Two are asked and answered; then come a Sync a second, and an Announce each two.
+        self.assertEqual(len(made.ways), 4 + 19 + 19 + 9 + 9)
+        # What is sent at the very end arrives no more.
+        arrivals = made.arrivals()
+        self.assertEqual(set(arrivals), {it for it in range(1, 61) if made.sent(it) < 20 * 10**9})
+        self.assertTrue(all(len(it) == 1 for it in arrivals.values()))
+
+    def test_intervals(self) -> None:
+        """Ticks and turns come again at intervals of their own, also where two are due at one moment."""
+        for tick, turn, ticks, turns in ((2, 1, [11, 10], 20), (1, 2, [21, 20], 10), (0.5, 0.25, [41, 40], 80)):
+            made = Made(SMALL.replace("seed", f"tick = {tick}\nturn = {turn}\nseed"))
+            words = [it[2] for it in made.words if it[0] == "tick"]
+            self.assertEqual([words.count("10.0.1.1"), words.count("10.0.1.2")], ticks)
+            self.assertEqual(len(made.moments("turn")), 2 * turns)
 
     def test_order_where_datagrams_are_long_on_their_way(self) -> None:
-        words = self.make(SMALL.replace("0.001, 0.004", "0.4, 0.9"))
-        moments = [int(it[1]) for it in words if it[0] in ("tick", "turn", "deliver")]
-        self.assertEqual(moments, sorted(moments))
+        made = Made(SMALL.replace("0.001, 0.004", "0.4, 0.9"))
+        self.assertEqual(made.moments(*EVENTS), sorted(made.moments(*EVENTS)))
 
     def test_delays(self) -> None:
-        words = self.make(SMALL)
-        sent = 0
-        moment_of: dict[int, int] = {}
-        receiver_is_master: dict[int, bool] = {}
-        for it in words:
-            if it[0] == "tick" or (it[0] == "deliver" and receiver_is_master[int(it[2])]):
-                sent += 1
-                moment_of[sent] = int(it[1])
-                receiver_is_master[sent] = it[0] == "tick"
-            if it[0] == "deliver":
-                self.assertIn(int(it[1]) - moment_of[int(it[2])], range(1_000_000, 4_000_001))
+        made = Made(SMALL)
+        for number, moments in made.arrivals().items():
+            self.assertIn(moments[0] - made.sent(number), range(1_000_000, 4_000_001))
+
+    def test_draws(self) -> None:
+        """Of each datagram is drawn whether it is lost and repeated, and then its delay, as `randrange` draws it."""
+        for least, greatest in (("0.001", "0.001"), ("0.001", "0.002"), ("0.00001", "0.6")):
+            text = SMALL.replace("0.001, 0.004", f"{least}, {greatest}").replace("seed", "loss = 0.3\nrepeat = 0.3\nseed")
+            made = Made(text)
+            link, chance = plan.read_plan(text).link, random.Random(3)
+            for number in range(1, len(made.ways) + 1):
+                is_lost, is_twice = chance.random() < 0.3, chance.random() < 0.3
+                delays = [chance.randint(link.least, link.greatest) for _ in range(1 + is_twice)]
+                due = sorted(made.sent(number) + it for it in delays)
+                due = [] if is_lost else [it for it in due if it <= 20 * 10**9]
+                self.assertEqual(made.arrivals().get(number, []), due, (greatest, number))
 
     def test_same_seed_same_script(self) -> None:
-        self.assertEqual(self.make(SMALL), self.make(SMALL))
-        self.assertNotEqual(self.make(SMALL), self.make(SMALL.replace("seed = 3", "seed = 4")))
+        self.assertEqual(Made(SMALL).script, Made(SMALL).script)
+        self.assertNotEqual(Made(SMALL).script, Made(SMALL.replace("seed = 3", "seed = 4")).script)
 
     def test_losses_and_repeats(self) -> None:
-        self.assertEqual(self.moments(self.make(SMALL.replace("seed", "loss = 1\nseed")), "deliver"), [])
-        words = self.make(SMALL.replace("seed", "repeat = 1\nseed"))
-        numbers = [it[2] for it in words if it[0] == "deliver"]
-        self.assertEqual((numbers.count("1"), numbers.count("2")), (2, 2))
-        half = self.moments(self.make(SMALL.replace("seed", "loss = 0.5\nseed")), "deliver")
-        self.assertIn(len(half), range(10, 60))
+        self.assertEqual(Made(SMALL.replace("seed", "loss = 1\nseed")).arrivals(), {})
+        arrivals = Made(SMALL.replace("seed", "repeat = 1\nseed")).arrivals()
+        self.assertEqual([len(arrivals[it]) for it in range(1, 40)], [2] * 39)
+        made = Made(SMALL.replace("seed", "loss = 0.5\nseed"))
+        self.assertIn(len(made.arrivals()), range(len(made.ways) // 4, len(made.ways) * 3 // 4))
 
     def test_copies_go_their_own_ways(self) -> None:
         """Where the delay is a range, two copies of a datagram do not arrive at one moment."""
-        words = self.make(SMALL.replace("seed", "repeat = 1\nseed"))
-        moments: dict[str, set[str]] = {}
-        for it in words:
-            if it[0] == "deliver":
-                moments.setdefault(it[2], set()).add(it[1])
-        twice = [len(it) for it in moments.values()]
+        arrivals = Made(SMALL.replace("seed", "repeat = 1\nseed")).arrivals().values()
+        twice = [len(set(it)) for it in arrivals]
         self.assertGreater(len(twice), 30)
         self.assertGreater(twice.count(2), 0.9 * len(twice))
+        # Where it is none, they do, and both are handed over.
+        arrivals = Made(SMALL.replace("[0.001, 0.004]", "0.001\nrepeat = 1")).arrivals().values()
+        self.assertEqual({(len(it), len(set(it))) for it in arrivals}, {(2, 1)})
 
     def test_a_link_that_is_faster(self) -> None:
         """Nothing arrives out of order where one link is faster than all others."""
         link = '[[links]]\nbetween = ["10.0.1.1", "10.0.0.1"]\ndelay = 0.0001\n'
-        told: list[int] = []
-
-        def tell(replay: object, text: str, lines: int) -> None:
-            told.extend(int(it.split()[1]) for it in text.splitlines() if it.split()[1].isdigit())
-            really(replay, text, lines)
-
-        really = scenario.Replay.tell
-        with mock.patch.object(scenario.Replay, "tell", tell):
-            words = self.make(SMALL.replace("[0.001, 0.004]", "0.6").replace("spread = 1", "spread = 0.1") + link)
-        moments = [int(it[1]) for it in words if it[0] in ("tick", "turn", "deliver")]
-        self.assertEqual(moments, sorted(moments))
+        made = Made(SMALL.replace("[0.001, 0.004]", "0.6").replace("spread = 1", "spread = 0.1") + link)
+        self.assertEqual(made.moments(*EVENTS), sorted(made.moments(*EVENTS)))
+        fast = {made.ways[it - 1] for it, (moment,) in made.arrivals().items() if moment == made.sent(it) + 100_000}
+        self.assertEqual(fast, {it for it in made.ways if "10.0.1.1" in it})
         # Nor is it told to the replay beside out of order, by which the datagrams are numbered.
+        told = [int(it.split()[1]) for it in made.told if it.split()[0] in EVENTS]
         self.assertEqual(told, sorted(told))
 
     def test_a_link_of_its_own(self) -> None:
-        words = self.make(SMALL + '[[links]]\nbetween = ["10.0.1.2", "10.0.0.1"]\nloss = 1\n')
-        self.assertEqual(len(self.moments(words, "deliver")), 2 * 20)
+        made = Made(SMALL + '[[links]]\nbetween = ["10.0.1.2", "10.0.0.1"]\nloss = 1\n')
+        self.assertEqual({made.ways[it - 1].split()[0] for it in made.arrivals()}, {"10.0.0.1", "10.0.1.1"})
+        self.assertEqual(made.ways.count(f"10.0.1.2 10.0.0.1 {SIGNALING}"), 3)
 
     def test_outages(self) -> None:
-        outage = '[[outages]]\nnode = "10.0.0.1"\nfrom = 5\nuntil = 10\n'
-        words = self.make(SMALL + outage)
-        within = [it for it in self.moments(words, "deliver") if 5 * 10**9 <= it < 10 * 10**9]
-        self.assertEqual(within, [])
-        self.assertEqual(len(self.moments(words, "deliver")), 2 * 30)
-        # Also what was sent before it and would arrive in it.
-        words = self.make(SMALL.replace("[0.001, 0.004]", "0.6") + outage)
-        within = [it for it in self.moments(words, "deliver") if 5 * 10**9 <= it < 10 * 10**9]
-        self.assertEqual(within, [])
-        words = self.make(SMALL + '[[outages]]\nbetween = ["10.0.0.1", "10.0.1.2"]\nfrom = 5\nuntil = 10\n')
-        self.assertEqual(len(self.moments(words, "deliver")), 2 * 35)
+        """All is lost that is sent in one, and that would arrive in one: from its beginning on, and not at its end."""
+        wholly, partly = ('node = "10.0.0.1"', "10.0.0.1"), ('between = ["10.0.0.1", "10.0.1.2"]', "10.0.1.2")
+        for (ends, who), delay, is_late in product((wholly, partly), (2_000_000, 600_000_000), (False, True)):
+            # (what is sent at 5 s arrives as it begins, or what is sent at 10 s is sent as it ends)
+            start, until = (5_300_000_000, 10 * 10**9) if is_late else (5 * 10**9 + delay, 10_300_000_000)
+            text = SMALL.replace("[0.001, 0.004]", str(delay / 10**9))
+            made = Made(f"{text}[[outages]]\n{ends}\nfrom = {start / 10**9}\nuntil = {until / 10**9}\n")
+            due = {}
+            for number, way in enumerate(made.ways, 1):
+                sent, arrival = made.sent(number), made.sent(number) + delay
+                is_cut = start <= sent < until or start <= arrival < until
+                if not (is_cut and who in way) and arrival <= 20 * 10**9:
+                    due[number] = [arrival]
+            self.assertEqual(made.arrivals(), due)
+            self.assertIn(len(made.ways) - len(due), range(6, 25))
+
+    def test_an_outage_is_said(self) -> None:
+        """A comment stands in the script, and is not told."""
+        made = Made(SMALL + '[[outages]]\nnode = "10.0.0.1"\nfrom = 5.25\nuntil = 10\n')
+        script = made.script.splitlines()
+        said = script.index("# From 5.25 until 10 s all from and to 10.0.0.1 is lost.")
+        self.assertEqual(script[said + 1].split()[:2], ["tick", "5500000000"])
+        self.assertIn("# The outage of 10.0.0.1 is over.", script)
+        self.assertFalse([it for it in made.told if it.startswith("#")])
 
     def test_changes(self) -> None:
         node = '[[changes]]\nnode = "10.0.0.1"\n'
         slave = '[[changes]]\nnode = "10.0.1.1"\nmaster = "10.0.0.1"\n'
-        words = self.make(
+        made = Made(
             SMALL
             + f"{node}at = 3\ncapacity = 50\n{node}at = 4\nclass = 90\n"
             + f'{slave}at = 5\nunusable = true\n{slave}at = 6\njudge = "gap"\n'
@@ -254,84 +296,175 @@ class Runs(unittest.TestCase):
             "judge 6000000000 10.0.1.1 10.0.0.1 gap",
             "stop 7000000000 10.0.1.2",
         ):
-            self.assertIn(line.split(), words)
+            self.assertIn(line, made.script.splitlines())
+            self.assertIn(line, made.told)
 
     def test_a_slave_that_stops(self) -> None:
-        words = self.make(SMALL.replace("log_sync", "stop = 10\nlog_sync"))
-        self.assertEqual(len(self.moments(words, "tick")), 10 + 10)
-        self.assertEqual(len(self.moments(words, "stop")), 2)
+        made = Made(SMALL.replace("log_sync", "stop = 10\nlog_sync"))
+        self.assertEqual(len(made.moments("tick")), 10 + 10)
+        self.assertEqual(len(made.moments("stop")), 2)
 
     def test_one_slave_of_two_stops(self) -> None:
         """They tick at one moment, and the other one goes on."""
         other = SMALL[SMALL.index("[[slaves]]") :].replace("10.0.1.1", "10.0.2.1")
-        words = self.make(SMALL.replace("log_sync", "stop = 10\nlog_sync") + other)
-        ticks = [it[2] for it in words if it[0] == "tick"]
+        made = Made(SMALL.replace("log_sync", "stop = 10\nlog_sync") + other)
+        ticks = [it[2] for it in made.words if it[0] == "tick"]
         counts = [ticks.count(it) for it in ("10.0.1.1", "10.0.1.2", "10.0.2.1", "10.0.2.2")]
         self.assertEqual(counts, [10, 10, 21, 20])
 
     def test_order_at_one_moment(self) -> None:
-        """What is added first stands first: the tick at 1.5 s is added at that of 0.5 s, a delivery when it is sent."""
-        link = '[[links]]\nbetween = ["10.0.1.2", "10.0.0.1"]\ndelay = 0.0001\n'
-        told: list[str] = []
-
-        def tell(replay: object, text: str, lines: int) -> None:
-            told.extend(it for it in text.splitlines() if it.split()[1] == "1500000000" and not it.startswith("rx"))
-            really(replay, text, lines)
-
-        really = scenario.Replay.tell
-        for how in ("good", "asks"):
-            for delay, order in (("0.5", ["tick", "deliver"]), ("1.5", ["deliver", "tick"])):
-                told.clear()
-                with mock.patch.object(scenario.Replay, "tell", tell):
-                    words = self.make(SMALL.replace("[0.001, 0.004]", delay) + link, how)
-                self.assertEqual([it[0] for it in words if it[1] == "1500000000"], order, (how, delay))
-                self.assertEqual([it.split()[0] for it in told], order, (how, delay))
-
-    def test_batches_of_any_size(self) -> None:
-        """Lines of one moment are told in one batch or in many, to the same end."""
-        text = SMALL.replace("count = 2", "count = 7").replace("spread = 1", "spread = 0")
-        for how in ("good", "asks"):
-            whole = self.make(text, how)
-            self.assertEqual([it[2] for it in whole if it[0] == "tick"][7:14], [f"10.0.1.{it}" for it in range(1, 8)])
-            for size in (1, 3, 8):
-                with mock.patch.object(agenda, "BATCH_LINES", size):
-                    self.assertEqual(self.make(text, how), whole, size)
+        """What is set stands first, what was added first before the rest; then what arrives, by its number."""
+        change = '[[changes]]\nat = 1.5\nnode = "10.0.0.1"\nclass = 90\n[[changes]]\nat = 1.5\nnode = "10.0.0.1"\ncapacity = 9\n'
+        made = Made(SMALL.replace("[0.001, 0.004]", "0.5").replace("log_sync = 0", "log_sync = -1") + change)
+        at = [it for it in made.script.splitlines() if " 1500000000 " in it or it.startswith("class")]
+        self.assertEqual([it.split()[0] for it in at[:3]], ["class", "capacity", "tick"])
+        # (turns at each half second)
+        arrived = [it for it in at if it.startswith("deliver")]
+        self.assertEqual([it.split()[0] for it in at[3:5]], ["turn", "turn"])
+        self.assertEqual(at[5:], sorted(arrived, key=lambda it: int(it.split()[2])))
+        told = [it for it in made.told if it in at]
+        self.assertEqual(told, [it for it in at if it in told])
 
     def test_in_parts_of_any_size(self) -> None:
-        """The script is put in order in parts, to the same end."""
-        whole = self.make(SMALL)
-        with mock.patch.object(scenario, "MANY_LINES", 3):
-            self.assertEqual(self.make(SMALL), whole)
+        """The script comes in parts, to the same end."""
+        for text in (SMALL, SMALL.replace("0.001, 0.004", "0.4, 0.9")):
+            whole = Made(text)
+            for size in (0, 3, 40):
+                with mock.patch.object(course, "PART_LINES", size):
+                    made = Made(text)
+                self.assertEqual((made.script, made.told), (whole.script, whole.told), size)
 
-    def test_draws(self) -> None:
-        """Delays are drawn as `randrange` draws them."""
-        ways, chance = scenario.Ways(plan.read_plan(SMALL), random.Random(5)), random.Random(5)
-        for width in (1, 2, 3000001, 2**40):
-            self.assertEqual([next(ways.draws(width)) for _ in range(9)], [chance.randrange(width) for _ in range(9)])
 
-    def test_programs_that_are_no_replay(self) -> None:
-        file = self.folder / "it.toml"
-        file.write_text(SMALL)
+class Runs(unittest.TestCase):
+    """Scripts that are made beside a stand-in, of which it is known what it sends when: slaves ask, and nothing arrives."""
+
+    LOST = SMALL.replace("seed", "loss = 1\nseed")
+
+    def setUp(self) -> None:
+        folder = tempfile.TemporaryDirectory()
+        self.addCleanup(folder.cleanup)
+        self.folder = Path(folder.name)
+        self.file = self.folder / "it.toml"
+        self.file.write_text(self.LOST)
+
+    def fake(self, how: str) -> Path:
+        made = self.folder / how
+        fake = TOOLS / "tests/fake_replay.py"
+        made.write_text(f"#!/bin/sh\nexec '{sys.executable}' -B '{fake}' {how}\n")
+        made.chmod(0o755)
+        return made
+
+    def test_a_program_that_does_as_foretold(self) -> None:
+        ran = run("scenario", self.file, "--ptpuni", self.fake("good"))
+        self.assertEqual((ran.returncode, ran.stderr), (0, b""))
+        head, script = ran.stdout.decode().split("\n", 1)
+        self.assertEqual(head, "# Made by tools/scenario from it.toml, with the seed 3.")
+        self.assertEqual(script, Made(self.LOST).script)
+
+    def test_programs_that_do_not(self) -> None:
+        differs = b"does not do what docs/PROFILE.md says: it sends"
         wanted = {
             "short": b"ended with status 3 before its script did",
-            "bad": b"refused a line: 5 bad field 3",
-            "late": b"ended with status 0 before its script did: name a built program",
-            "skips": b"did not number what it sent one by one: of the datagrams that it sent 81 were seen: end 0 82",
+            "bad": b"refused a line: 6 bad field 3",
+            "late": b"ended with status 0 before its script did",
+            "cut": b"ended with status 0 before its script did",
+            "torn": b"ended with status 0 before its script did",
+            "skips": differs + b" 7 datagrams, and not 6",
+            "more": differs + b" 7 datagrams, and not 6",
+            "hides": differs + b" 7 datagrams, and not 6",
+            "less": differs + b" 5 datagrams, and not 6",
+            "elsewhere": differs + b" datagram 3 on line 10 of what it is told (10.0.1.1 10.0.1.1 general 0c), and not on line 10",
+            "early": differs + b" datagram 2 on line 6 of what it is told (10.0.1.2 10.0.0.1 general 0c), and not on line 7",
         }
         for how, why in wanted.items():
-            ran = run("scenario", file, "--ptpuni", self.fake(how))
-            self.assertEqual((ran.returncode, ran.stdout), (70, b""))
+            ran = run("scenario", self.file, "--ptpuni", self.fake(how))
+            self.assertEqual((ran.returncode, ran.stdout), (70, b""), (how, ran.stderr))
             self.assertIn(why, ran.stderr)
-        ran = run("scenario", file, "--ptpuni", "/nowhere/ptpuni")
+            self.assertEqual(ran.stderr.count(b"\n"), 1)
+
+    def test_a_program_that_reads_nothing(self) -> None:
+        for how in ("sleeps", "silent"):
+            with mock.patch("beside.PATIENCE", 0.3):
+                ran = run("scenario", self.file, "--ptpuni", self.fake(how))
+            self.assertEqual((ran.returncode, ran.stdout), (70, b""))
+            self.assertRegex(ran.stderr.decode(), "did nothing for 0 s|read nothing for 0 s")
+
+    def test_no_program_and_no_file(self) -> None:
+        ran = run("scenario", self.file, "--ptpuni", "/nowhere/ptpuni")
         self.assertEqual((ran.returncode, ran.stdout), (69, b""))
         self.assertIn(b"/nowhere/ptpuni does not start", ran.stderr)
         ran = run("scenario", "/nowhere/it.toml")
         self.assertEqual((ran.returncode, ran.stdout), (66, b""))
-        file.write_text("length = 1")
-        self.assertEqual(run("scenario", file).returncode, 65)
+        self.file.write_text("length = 1")
+        self.assertEqual(run("scenario", self.file).returncode, 65)
+
+    def test_a_script_that_is_too_large(self) -> None:
+        with mock.patch.object(lines, "LARGEST_SCRIPT", 1000), mock.patch.object(scenario, "LARGEST_SCRIPT", 1000):
+            ran = run("scenario", self.file, "--ptpuni", self.fake("good"))
+        self.assertEqual((ran.returncode, ran.stdout), (65, b""))
+        self.assertIn(b"length: the script would be above the 64 MiB that replay reads", ran.stderr)
 
 
-@wants_terminal
+LOSSES = SMALL.replace("seed", "loss = 0.1\nrepeat = 0.1\nseed").replace("capacity = 100", "capacity = 400")
+LOSSES = LOSSES.replace("log_sync = 0", "log_sync = -2\nlog_delay = -3") + CAPACITY_FALLS
+TWO = """
+length = 200
+seed = 7
+delay = [0.0001, 0.05]
+repeat = 0.1
+tick = 0.3
+turn = 0.2
+
+[[grandmasters]]
+ip = "10.0.0.1"
+capacity = 60
+max_duration = 75
+
+[[grandmasters]]
+ip = "10.0.0.2"
+capacity = 1000
+class = 90
+
+[[grandmasters]]
+ip = "10.0.0.3"
+capacity = 1000
+domain = 5
+
+[[slaves]]
+ip = "10.0.1.1"
+count = 3
+spread = 3
+masters = ["10.0.0.1", "10.0.0.3", "10.0.0.2"]
+log_announce = 0
+log_sync = -1
+log_delay = 0
+duration = 100
+
+[[slaves]]
+ip = "10.0.1.9"
+masters = ["10.0.0.2"]
+log_announce = -3
+log_delay = -4
+duration = 60
+stop = 150
+
+[[outages]]
+between = ["10.0.1.9", "10.0.0.2"]
+from = 20
+until = 95
+
+[[outages]]
+node = "10.0.1.1"
+from = 110
+until = 130
+
+[[changes]]
+at = 140
+node = "10.0.0.2"
+capacity = 70
+"""
+
+
 class WithTheProgram(unittest.TestCase):
     @wants_program
     def test_replay_takes_the_script(self) -> None:
@@ -350,35 +483,23 @@ class WithTheProgram(unittest.TestCase):
         self.assertTrue(any(it.endswith(b"selected 10.0.1.2 10.0.0.1") for it in report))
 
     @wants_program
-    def test_what_is_told_between_changes_nothing(self) -> None:
-        """The report that was read while the script was made is that of the script."""
-        read: list[bytes] = []
-        moments: list[int] = []
-
-        class Recorded(scenario.Replay):  # type: ignore[name-defined, misc]
-            def read(self) -> bytes:
-                read.append(super().read())
-                return read[-1]
-
-            def tell(self, text: str, lines: int) -> None:
-                moments.extend(int(it.split()[1]) for it in text.splitlines() if it.split()[1].isdigit())
-                super().tell(text, lines)
-
-        replay = Recorded(str(program()))
-        self.addCleanup(replay.close)
-        text = SMALL.replace("seed", "loss = 0.1\nrepeat = 0.1\nseed")
-        text = text.replace("capacity = 100", "capacity = 400")
-        text = text.replace("log_sync = 0", "log_sync = -2\nlog_delay = -3") + CAPACITY_FALLS
-        script = scenario.Scenario(plan.read_plan(text), replay, "it").run()
-        report = ptpuni("replay", script.encode())
-        sent = [it.split(b" ", 1)[1] for it in b"".join(read).splitlines() if b" send " in it]
-        self.assertGreater(len(sent), 300)
-        self.assertEqual(sent, [it.split(b" ", 1)[1] for it in report.splitlines() if b" send " in it])
-        # It was told in the order in which it happens.
-        self.assertEqual(moments, sorted(moments))
-        # Among them are CANCELs of the grandmaster, and what answers them.
-        self.assertIn(b" shed ", report)
-        self.assertIn(b" cancel ", report)
+    def test_the_script_sends_what_was_foretold(self) -> None:
+        """Of the whole script the program sends just the datagrams that are foretold, each on its line."""
+        wanted = {
+            LOSSES: (b" shed ", b" cancel ", b" silent soon "),
+            TWO: (b" shed ", b" cancel ", b" denial ", b" silent ", b" ignored domain 4"),
+        }
+        for text, words in wanted.items():
+            made = Made(text)
+            report = ptpuni("replay", made.script.encode())
+            script = made.script.splitlines()
+            sent = [it.split() for it in report.decode().splitlines() if it.split()[1] == "send"]
+            self.assertGreater(len(sent), 300)
+            found = [(script[int(it[0]) - 1], " ".join(it[3:6]) + " " + it[6][:2]) for it in sent]
+            self.assertEqual(found, list(zip(made.lines, made.ways)))
+            for it in words:
+                self.assertTrue(it in report, it)
+            self.assertTrue(any(it.endswith(DELAY_REQ) for it in made.ways))
 
 
 if __name__ == "__main__":
