@@ -14,7 +14,7 @@
 ghost use Rattle.std.specs.Prelude.{◌≡◌, ◌≢◌, ◌+◌, OnOk, length, map};
 ghost use Rattle.ptu_judges.specs.Held.{IsStock, fresh};
 
-use ptu_judges::{FlagJudge, GapJudge, Judge, Rule, Stock};
+use ptu_judges::{FlagJudge, GapJudge, Judge, NAMED_GAP, Rule, Stock};
 use ptu_outside::{Host, StdSink, StdSource};
 use ptu_run::{OUT_OF_MEMORY, USAGE, run, run_in_blocks, texts_of, waits_for_lines};
 use ptu_udp::UdpHost;
@@ -26,6 +26,9 @@ use std::process::ExitCode;
 use std::sync::Wait;
 use std::thread::Threads;
 use std::{env, io};
+
+/// How many judges of each rule are made before a run, which takes those that its slaves need.
+const JUDGES: u64 = 64;
 
 // The status of a run whose words can't be had: one that is not UTF-8 makes a faulty command line.
 fn status_without_words(kind: ErrorKind) -> u8
@@ -104,9 +107,9 @@ fn main(rt: HostRuntime) -> ExitCode {
         flags: Vec::new(alloc),
         gaps: Vec::new(alloc),
     };
-    for _ in 0..64_u64 {
+    for _ in 0..JUDGES {
         let flag = Box::new(alloc, FlagJudge::new());
-        let gap = Box::new(alloc, GapJudge::new(4));
+        let gap = Box::new(alloc, GapJudge::new(NAMED_GAP));
         let (Ok(flag), Ok(gap)) = (flag, gap) else {
             return ExitCode::from(OUT_OF_MEMORY);
         };

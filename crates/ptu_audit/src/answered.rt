@@ -9,6 +9,7 @@ use ptu_header::PortIdentity;
 use ptu_history::Client;
 use ptu_tlvs::Tlv;
 use ptu_units::Kind;
+use ptu_units::timescale::NANOS_PER_SECOND;
 
 // Whether the TLV is a GRANT that invites a renewal, of the code and logarithm, from one moment to
 // another, in nanoseconds.
@@ -20,7 +21,8 @@ fn grants(code: u8, log: i8, at: u64, until: u64, tlv: &Tlv) -> bool
             renewal
                 && ask.code == code
                 && ask.log == log
-                && u128::from(at) + u128::from(ask.seconds) * 1_000_000_000 == u128::from(until)
+                && u128::from(at) + u128::from(ask.seconds) * u128::from(NANOS_PER_SECOND)
+                    == u128::from(until)
         }
         _ => false,
     }

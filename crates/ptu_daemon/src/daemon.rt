@@ -11,16 +11,13 @@ use crate::events;
 use crate::next::Next;
 use crate::tally::Tally;
 use ptu_config::GmSettings;
-use ptu_grandmaster::Gm;
+use ptu_grandmaster::{Gm, SIGNALING_PORT};
 use ptu_outside::{Channel, Clock, Failed, Port};
 use ptu_units::sizes::LONGEST_DATAGRAM;
 use ptu_units::{Moment, OutOfMemory};
 
 /// How many datagrams of a channel a round takes at most.
 const MOST: u32 = 64;
-
-/// The index of the port of a grandmaster's Signaling messages, which receives the general channel.
-const SIGNALING_PORT: usize = 4;
 
 /// A grandmaster as a daemon.
 #[derive(Drop)]

@@ -17,6 +17,9 @@ use ptu_units::Moment;
 use std::alloc::Global;
 use std::marker::Model;
 
+/// The index of the port of the Signaling messages. The ports of the four tables are below it.
+pub const SIGNALING_PORT: usize = 4;
+
 /// A grandmaster, with its four tables, its book, and the port of its Signaling messages. The
 /// shares of the tables sum to the book's total.
 #[derive(Drop)]

@@ -13,7 +13,7 @@ mod taking;
 mod turning;
 
 pub use driving::{Driven, GmEvent, drive};
-pub use gm::Gm;
+pub use gm::{Gm, SIGNALING_PORT};
 pub use outcome::{Outcome, Outcomes, Taken};
 pub use ptu_gm_messages::{GmReason, Item, Items, asks_of, cancel_of};
 pub use ptu_outside::Reply;

@@ -9,9 +9,7 @@ ghost use Rattle.ptu_header.specs.declared.fault.HeaderFault.{HeaderFault};
 use crate::fault::HeaderFault;
 use crate::header::{Header, PortIdentity};
 use ptu_octets::{high_nibble, i64_at, low_nibble, u16_at};
-
-/// How many octets a header has.
-const HEADER_LENGTH: usize = 34;
+use ptu_units::sizes::HEADER_LENGTH;
 
 /// The versionPTP of the messages that are read.
 const VERSION: u8 = 2;

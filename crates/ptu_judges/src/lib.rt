@@ -12,5 +12,5 @@ mod stock;
 pub use flag_judge::FlagJudge;
 pub use gap_judge::GapJudge;
 pub use judge::{Conduct, Judge};
-pub use ptu_record::Rule;
+pub use ptu_record::{NAMED_GAP, Rule};
 pub use stock::Stock;

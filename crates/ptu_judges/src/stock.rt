@@ -4,11 +4,11 @@ ghost use Rattle.std.specs.{Prelude.{◌≡◌, [], map}, Option.{MatchOption}};
 ghost use Rattle.ptu_judges.specs.Held.{HasNone, HasTaken, IsStock};
 
 use crate::judge::Judge;
-use ptu_record::Rule;
+use ptu_record::{NAMED_GAP, Rule};
 use std::alloc::Global;
 
 /// Judges in reserve, of which a call takes those that it needs: of the rule Flag, and of the rule
-/// Gap of 4. A call that takes a stock asks that all of them are fresh (`IsStock`).
+/// Gap of `NAMED_GAP`. A call that takes a stock asks that all of them are fresh (`IsStock`).
 #[derive(Drop)]
 pub struct Stock {
     pub flags: Vec<Box<dyn Judge>>,
@@ -28,8 +28,8 @@ impl Stock {
         }
     }
 
-    /// Takes the last judge of a rule; `None` where none is left. Of a gap of another length than 4
-    /// a stock has none.
+    /// Takes the last judge of a rule; `None` where none is left. Of a gap of another length than
+    /// `NAMED_GAP` a stock has none.
     pub fn take(&mut self, rule: Rule) -> Option<Box<dyn Judge>>
         requires { IsStock (map (λ j. held j) self.old.flags.items)
             (map (λ j. held j) self.old.gaps.items) }
@@ -42,7 +42,7 @@ impl Stock {
     {
         match rule {
             Rule::Flag => self.flags.pop(),
-            Rule::Gap(4) => self.gaps.pop(),
+            Rule::Gap(NAMED_GAP) => self.gaps.pop(),
             Rule::Gap(_) => None,
         }
     }

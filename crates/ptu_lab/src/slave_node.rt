@@ -29,19 +29,17 @@ use crate::slave_statements::{say_heard, was_ignored};
 use crate::stock::{Reserve, take_judge};
 use ptu_header::PortIdentity;
 use ptu_judges::{Judge, Rule};
-use ptu_nodes::{Journal, SIGNALING};
+use ptu_nodes::Journal;
 use ptu_outside::MemPort;
 use ptu_report_lines::Statement;
 use ptu_script::{Cause, SlaveSetup};
 use ptu_slave::{Heard, Master, Slave, SlaveConfig};
+use ptu_units::sizes::{LONGEST_SIGNALING, SYNC_LENGTH};
 use ptu_units::{Moment, OutOfMemory};
 use std::alloc::Global;
 
 /// A slave has at most so many masters.
 const MASTERS: usize = 16;
-
-/// So many octets a Delay_Req has.
-const DELAY_REQ: usize = 44;
 
 /// A slave of a script: it has a port in memory, in which nothing stands between events.
 #[derive(Drop)]
@@ -415,7 +413,7 @@ fn take(
         HasSteppedTo ip (seen ⟦<dyn Judge as Judge>⟧ slave.new) s
         (node.datagram_deed s.opened s.taken at from octets.now)) }
 {
-    make_room(alloc, slave, 1, SIGNALING)?;
+    make_room(alloc, slave, 1, LONGEST_SIGNALING)?;
     slave.take(alloc, at, from, octets)
 }
 
@@ -427,7 +425,7 @@ fn tick(alloc: Global, slave: &mut Slave<MemPort>, at: Moment) -> Result<(), Out
         HasSteppedTo ip (seen ⟦<dyn Judge as Judge>⟧ slave.new) s
         (node.deed s.opened s.taken at Tick)) }
 {
-    let octets = MASTERS * (SIGNALING + DELAY_REQ);
+    let octets = MASTERS * (LONGEST_SIGNALING + SYNC_LENGTH);
     make_room(alloc, slave, 2 * MASTERS, octets)?;
     slave.tick(at);
     Ok(())
@@ -441,7 +439,7 @@ fn stop(alloc: Global, slave: &mut Slave<MemPort>, at: Moment) -> Result<(), Out
         HasSteppedTo ip (seen ⟦<dyn Judge as Judge>⟧ slave.new) s
         (node.deed s.opened s.taken at Stop)) }
 {
-    make_room(alloc, slave, MASTERS, MASTERS * SIGNALING)?;
+    make_room(alloc, slave, MASTERS, MASTERS * LONGEST_SIGNALING)?;
     slave.stop(at);
     Ok(())
 }

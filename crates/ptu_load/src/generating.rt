@@ -20,6 +20,7 @@ use ptu_texts::OctetsText;
 use ptu_tlvs::{Ask, Tlv};
 use ptu_units::message_types::SIGNALING;
 use ptu_units::sizes::LONGEST_SIGNALING;
+use ptu_units::timescale::NANOS_PER_SECOND;
 use std::alloc::Global;
 use std::fmt;
 
@@ -181,7 +182,7 @@ fn put_turns_at<K: Sink>(alloc: Global, second: u64, sink: &mut K) -> Result<(),
     ensures cause { IfErr result IsWriteOrMemory }
     ensures counts { CountsWrite result (K.faults sink.old) (K.faults sink.new) }
 {
-    let moment = second * 1_000_000_000;
+    let moment = second * NANOS_PER_SECOND;
     for table in 0..4 {
         put_line(alloc, &LoadLine::Turn { moment, table }, sink)?;
     }

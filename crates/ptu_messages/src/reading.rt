@@ -16,6 +16,7 @@ use crate::tlv_list::TlvList;
 use ptu_header::{PortIdentity, read_header};
 use ptu_tlvs::{Tlv, next_tlv};
 use ptu_units::message_types::{ANNOUNCE, DELAY_REQ, DELAY_RESP, FOLLOW_UP, SIGNALING, SYNC};
+use ptu_units::sizes::{ANNOUNCE_LENGTH, DELAY_RESP_LENGTH, HEADER_LENGTH, SYNC_LENGTH};
 use std::alloc::Global;
 use std::mem::replace;
 
@@ -27,10 +28,10 @@ fn least(message_type: u8) -> usize
     ensures { result ≡ least_length message_type }
 {
     match message_type {
-        SYNC | DELAY_REQ | FOLLOW_UP | SIGNALING => 44,
-        DELAY_RESP => 54,
-        ANNOUNCE => 64,
-        _ => 34,
+        SYNC | DELAY_REQ | FOLLOW_UP | SIGNALING => SYNC_LENGTH,
+        DELAY_RESP => DELAY_RESP_LENGTH,
+        ANNOUNCE => ANNOUNCE_LENGTH,
+        _ => HEADER_LENGTH,
     }
 }
 

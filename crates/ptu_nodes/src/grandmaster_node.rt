@@ -12,15 +12,16 @@ ghost use Rattle.ptu_nodes.specs.{Doing.{HasDone}, GrandmasterPorts.{rows_kept}}
 ghost use Rattle.ptu_nodes.specs.Standing as standing;
 ghost use Rattle.ptu_nodes.specs.Standing.{IsGrandmasterNode, StandsAsGrandmaster};
 
-use crate::grandmaster_ports::{ANNOUNCE, SIGNALING_PORT, hand_over_all, reserve, reserve_replies};
+use crate::grandmaster_ports::{hand_over_all, reserve, reserve_replies};
 use crate::grandmaster_statements::{say_shed, say_taken};
-use crate::journal::{Journal, SIGNALING};
-use ptu_grandmaster::Gm;
+use crate::journal::Journal;
+use ptu_grandmaster::{Gm, SIGNALING_PORT};
 use ptu_header::PortIdentity;
 use ptu_outside::MemPort;
 use ptu_profile::GmConfig;
 use ptu_report_lines::Statement;
 use ptu_script::GrandmasterSetup;
+use ptu_units::sizes::{ANNOUNCE_LENGTH, LONGEST_SIGNALING};
 use ptu_units::{Moment, OutOfMemory};
 use std::alloc::Global;
 
@@ -125,7 +126,7 @@ impl GrandmasterNode {
             journal.new) }
     {
         let datagrams = self.gm.count(table);
-        let octets = datagrams.checked_mul(ANNOUNCE).ok_or(OutOfMemory)?;
+        let octets = datagrams.checked_mul(ANNOUNCE_LENGTH).ok_or(OutOfMemory)?;
         reserve(&mut self.gm, table, datagrams, octets)?;
         self.gm.turn(table, at);
         hand_over_all(&mut self.gm, self.ip, journal)
@@ -151,7 +152,7 @@ impl GrandmasterNode {
             journal.old journal.new) }
     {
         let cancels = self.count().ok_or(OutOfMemory)?;
-        let octets = cancels.checked_mul(SIGNALING).ok_or(OutOfMemory)?;
+        let octets = cancels.checked_mul(LONGEST_SIGNALING).ok_or(OutOfMemory)?;
         reserve(&mut self.gm, SIGNALING_PORT, cancels, octets)?;
         let changed = self.gm.set_capacity(at, capacity)?;
         journal.say(Statement::Capacity {

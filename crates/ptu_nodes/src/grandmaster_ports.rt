@@ -5,19 +5,11 @@ ghost use Rattle.ptu_grandmaster.specs.Gm.{port_at, with_port};
 ghost use Rattle.ptu_nodes.specs.GrandmasterPorts.{GoesOn, HasRoom, in_ports};
 ghost use Rattle.ptu_nodes.specs.{Noted.{with_handed}, Standing.{AreIdle, AreSure}};
 
-use crate::journal::{Journal, SIGNALING};
-use ptu_grandmaster::Gm;
+use crate::journal::Journal;
+use ptu_grandmaster::{Gm, SIGNALING_PORT};
 use ptu_outside::MemPort;
 use ptu_units::OutOfMemory;
-
-/// How many octets an Announce has, which no datagram of a turn is above.
-pub const ANNOUNCE: usize = 64;
-
-/// How many octets a Delay_Resp has.
-pub const DELAY_RESP: usize = 54;
-
-/// The index of the port of a grandmaster's Signaling messages. Those of its tables are below it.
-pub const SIGNALING_PORT: usize = 4;
+use ptu_units::sizes::{DELAY_RESP_LENGTH, LONGEST_SIGNALING};
 
 /// Makes room in the port of this index for this many datagrams more, and for this many octets in
 /// them.
@@ -53,11 +45,11 @@ pub fn reserve_replies(gm: &mut Gm<MemPort>) -> Result<(), OutOfMemory>
     ensures idle { AreIdle gm.old → AreIdle gm.new }
     ensures sure { AreSure gm.old → AreSure gm.new }
 {
-    reserve(gm, 0, 1, DELAY_RESP)?;
-    reserve(gm, 1, 1, DELAY_RESP)?;
-    reserve(gm, 2, 1, DELAY_RESP)?;
-    reserve(gm, 3, 1, DELAY_RESP)?;
-    reserve(gm, SIGNALING_PORT, 1, SIGNALING)
+    reserve(gm, 0, 1, DELAY_RESP_LENGTH)?;
+    reserve(gm, 1, 1, DELAY_RESP_LENGTH)?;
+    reserve(gm, 2, 1, DELAY_RESP_LENGTH)?;
+    reserve(gm, 3, 1, DELAY_RESP_LENGTH)?;
+    reserve(gm, SIGNALING_PORT, 1, LONGEST_SIGNALING)
 }
 
 // Hands over what stands in the port of this index, and clears it.
@@ -95,5 +87,5 @@ pub fn hand_over_all(
     hand_over_port(gm, 1, ip, journal)?;
     hand_over_port(gm, 2, ip, journal)?;
     hand_over_port(gm, 3, ip, journal)?;
-    hand_over_port(gm, 4, ip, journal)
+    hand_over_port(gm, SIGNALING_PORT, ip, journal)
 }

@@ -9,13 +9,9 @@ use ptu_outside::MemPort;
 use ptu_report::Texts;
 use ptu_report_lines::{Decision, ReportLine, SentLine, SentList, SentRef, Statement};
 use ptu_units::OutOfMemory;
-use ptu_units::sizes::LONGEST_SIGNALING;
 use std::alloc::Global;
 use std::marker::Model;
 use std::mem::swap;
-
-/// The most octets of a Signaling, with 32 TLVs: the room in a port for each one that may be sent.
-pub const SIGNALING: usize = LONGEST_SIGNALING;
 
 /// The report on a script in the making: the number of the script's line, the texts of that line,
 /// the datagrams that were sent so far, in order, and of how many asks it was said so far that they
@@ -121,13 +117,6 @@ impl Journal {
         ensures rest { self.new ≡ record self.old { texts = texts.old } }
     {
         swap(&mut self.texts, texts);
-    }
-
-    /// The texts of the line.
-    pub fn texts(&self) -> &Texts
-        ensures { result.now ≡ self.now.texts }
-    {
-        &self.texts
     }
 
     /// The datagrams that were sent so far, in order.

@@ -9,7 +9,5 @@ mod grandmaster_statements;
 mod journal;
 
 pub use grandmaster_node::{GrandmasterNode, config_of};
-pub use grandmaster_ports::{
-    ANNOUNCE, DELAY_RESP, SIGNALING_PORT, hand_over_all, reserve, reserve_replies,
-};
-pub use journal::{Journal, SIGNALING};
+pub use grandmaster_ports::{hand_over_all, reserve, reserve_replies};
+pub use journal::Journal;

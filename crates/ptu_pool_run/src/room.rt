@@ -9,12 +9,13 @@ ghost use Rattle.ptu_pools.specs.Ported.{with_port_of};
 ghost use Rattle.ptu_pool_run.specs.Ports.{AreAllSure, AreOthersSame, GoOn, GoOnIdle, sent_texts};
 
 use crate::output::PoolLine;
+use ptu_grandmaster::SIGNALING_PORT;
 use ptu_lines::LentOctets;
-use ptu_nodes::{ANNOUNCE, DELAY_RESP, SIGNALING, SIGNALING_PORT};
 use ptu_outside::MemPort;
 use ptu_pools::Pools;
 use ptu_report::Texts;
 use ptu_units::OutOfMemory;
+use ptu_units::sizes::{ANNOUNCE_LENGTH, DELAY_RESP_LENGTH, LONGEST_SIGNALING};
 
 // Makes room in the port of this index for this many datagrams more, and for this many octets in
 // them.
@@ -47,11 +48,11 @@ pub fn reserve_replies(pools: &mut Pools<MemPort>, place: usize) -> Result<(), O
         HasReplyRoom gm) }
     ensures kept { GoOnIdle pools.old pools.new }
 {
-    reserve(pools, place, 0, 1, DELAY_RESP)?;
-    reserve(pools, place, 1, 1, DELAY_RESP)?;
-    reserve(pools, place, 2, 1, DELAY_RESP)?;
-    reserve(pools, place, 3, 1, DELAY_RESP)?;
-    reserve(pools, place, SIGNALING_PORT, 1, SIGNALING)
+    reserve(pools, place, 0, 1, DELAY_RESP_LENGTH)?;
+    reserve(pools, place, 1, 1, DELAY_RESP_LENGTH)?;
+    reserve(pools, place, 2, 1, DELAY_RESP_LENGTH)?;
+    reserve(pools, place, 3, 1, DELAY_RESP_LENGTH)?;
+    reserve(pools, place, SIGNALING_PORT, 1, LONGEST_SIGNALING)
 }
 
 /// Makes room for a turn of a table of the pool at this place.
@@ -72,7 +73,7 @@ pub fn reserve_turn(
     ensures kept { GoOnIdle pools.old pools.new }
 {
     let datagrams = pools.count(place, table);
-    let octets = datagrams.checked_mul(ANNOUNCE).ok_or(OutOfMemory)?;
+    let octets = datagrams.checked_mul(ANNOUNCE_LENGTH).ok_or(OutOfMemory)?;
     reserve(pools, place, table, datagrams, octets)
 }
 

@@ -11,5 +11,5 @@ pub mod steps;
 mod wants;
 
 pub use quality::{Quality, quality_of};
-pub use rule::Rule;
+pub use rule::{NAMED_GAP, Rule};
 pub use wants::{Wants, receipt_timeout};

@@ -1,6 +1,6 @@
 //! What a slave requests of each master: the intervals of the three kinds, and the duration.
 
-ghost use Rattle.std.specs.Prelude.{◌≡◌, ◌*◌};
+ghost use Rattle.std.specs.Prelude.{◌≡◌, ◌<◌, ◌*◌, ◌^◌};
 ghost use Rattle.ptu_units.specs.Log.{period_of};
 ghost use Rattle.ptu_record.specs.Wants.{wanted_log};
 
@@ -34,7 +34,8 @@ impl Wants {
 
 /// The receipt timeout of so many periods of a logarithm, in nanoseconds.
 pub fn receipt_timeout(periods: u8, log: Log) -> u64
-    ensures { result ≡ periods * period_of log }
+    ensures value { result ≡ periods * period_of log }
+    ensures below { result < 2 ^ 62 }
 {
     periods as u64 * period(log)
 }

@@ -9,7 +9,7 @@ ghost use Rattle.ptu_script.specs.{Command.{moment_of}, Limits.{IsNamed}};
 
 use crate::cause::Cause;
 use ptu_lines::{LentOctets, WordList, clock, ip, log, number, octets};
-use ptu_record::Rule;
+use ptu_record::{NAMED_GAP, Rule};
 use ptu_units::sizes::LONGEST_DATAGRAM;
 use ptu_units::{Kind, Log, Moment};
 
@@ -150,7 +150,7 @@ fn rule_of(word: &[u8]) -> Option<Rule>
     if word == "flag".as_bytes() {
         Some(Rule::Flag)
     } else if word == "gap".as_bytes() {
-        Some(Rule::Gap(4))
+        Some(Rule::Gap(NAMED_GAP))
     } else {
         None
     }

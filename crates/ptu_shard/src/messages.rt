@@ -15,6 +15,18 @@ use ptu_units::message_types::DELAY_RESP;
 use ptu_units::timescale::stamp;
 use ptu_units::{Kind, Moment};
 
+/// The priority1 and priority2 of an Announce: the default (IEEE 1588-2019 clause 7.6.2.3).
+const PRIORITY: u8 = 128;
+
+/// The clockAccuracy of a grandmaster that does not know it (clause 7.6.2.6, table 5).
+const ACCURACY_UNKNOWN: u8 = 0xfe;
+
+/// The offsetScaledLogVariance of a grandmaster that has not computed it (clause 7.6.3.3).
+const VARIANCE_UNKNOWN: u16 = 0xffff;
+
+/// The timeSource INTERNAL_OSCILLATOR (clause 7.6.2.8, table 6).
+const INTERNAL_OSCILLATOR: u8 = 0xa0;
+
 // The body of an Announce, whose timescale is the grandmaster's own.
 fn announce(config: &GmConfig, at: Moment) -> AnnounceBody
     requires { IsWithinLimits config.now }
@@ -23,14 +35,14 @@ fn announce(config: &GmConfig, at: Moment) -> AnnounceBody
     AnnounceBody {
         origin: stamp(config.epoch, at),
         utc_offset: 0,
-        priority1: 128,
+        priority1: PRIORITY,
         class: config.class,
-        accuracy: 0xfe,
-        variance: 0xffff,
-        priority2: 128,
+        accuracy: ACCURACY_UNKNOWN,
+        variance: VARIANCE_UNKNOWN,
+        priority2: PRIORITY,
         grandmaster: config.identity.clock,
         steps: 0,
-        time_source: 0xa0,
+        time_source: INTERNAL_OSCILLATOR,
     }
 }
 

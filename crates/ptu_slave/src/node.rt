@@ -3,7 +3,6 @@
 
 ghost use Rattle.std.specs.Prelude.{◌≡◌, ℕ, ◌<◌, ◌≤◌, max, List, [], ◌∷◌, ◌++◌, length, map, flat_map, filter_map, IfOk, All, vec_len, ◌*◌, ◌^◌, true, false};
 ghost use Rattle.std.specs.Option.{ForSome};
-ghost use Rattle.ptu_units.specs.Log.{period_of};
 ghost use Rattle.ptu_record.specs.Record.{Record, record_of, Announce, Resp, Judged, Cancelled};
 ghost use Rattle.ptu_record.specs.{Grants.{live_kinds}, Selection.{selected_master}};
 ghost use Rattle.ptu_record.specs.Tick.{requests_to, sending_entries};
@@ -18,15 +17,14 @@ use crate::asking::{KindEntry, enter_each, enter_kinds, is_probe_due, live};
 use crate::counters::Counters;
 use crate::judging::News;
 use ptu_profile::{Master, SlaveConfig};
+use ptu_record::receipt_timeout;
 use ptu_requester::{Due, Requester};
 use ptu_select::Selector;
 use ptu_slave_messages::{Kinds, Signal, StopPlan, TickPlan};
-use ptu_units::{Log, Moment, OutOfMemory, period};
+use ptu_units::timescale::NANOS_PER_SECOND;
+use ptu_units::{Log, Moment, OutOfMemory};
 use std::alloc::{AllocError, Global};
 use std::marker::Model;
-
-/// Nanoseconds in a second.
-const SECOND: u64 = 1_000_000_000;
 
 /// What a slave keeps beside its judges and its port.
 #[derive(Drop)]
@@ -63,21 +61,13 @@ impl Model for Core {
         × (c.requester.wants ≡ c.config.wants) };
 }
 
-// A receipt timeout of so many periods, in nanoseconds.
-fn timeout(periods: u8, log: Log) -> u64
-    ensures value { result ≡ periods * period_of log }
-    ensures below { result < 2 ^ 62 }
-{
-    periods as u64 * period(log)
-}
-
 // That of Delay_Resps, where they are requested.
 fn delay_timeout(config: &SlaveConfig) -> Option<u64>
     ensures value { result ≡ (timeouts config.now).delay }
     ensures below { ForSome result (λ timeout. timeout < 2 ^ 62) }
 {
     match config.wants.delay {
-        Some(log) => Some(timeout(config.delay_timeout, log)),
+        Some(log) => Some(receipt_timeout(config.delay_timeout, log)),
         None => None,
     }
 }
@@ -100,10 +90,10 @@ fn new_selector(
     ensures selects { IfOk result (λ s. SelectsBy s
         (timeouts config.now) (priorities masters.now) []) }
 {
-    let ta = timeout(config.announce_timeout, config.wants.announce);
-    let ts = timeout(config.sync_timeout, config.wants.sync);
+    let ta = receipt_timeout(config.announce_timeout, config.wants.announce);
+    let ts = receipt_timeout(config.sync_timeout, config.wants.sync);
     let td = delay_timeout(config);
-    let wait = config.wait as u64 * SECOND;
+    let wait = config.wait as u64 * NANOS_PER_SECOND;
     let priorities = priorities_of(alloc, masters)?;
     Selector::new(alloc, ta, ts, td, wait, &priorities)
 }

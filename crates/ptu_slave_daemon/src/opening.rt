@@ -10,7 +10,7 @@ ghost use Rattle.ptu_slave.specs.Seen.{HasJudges, seen};
 
 use ptu_config::{MasterSetting, SlaveSettings};
 use ptu_header::PortIdentity;
-use ptu_judges::{Judge, Rule, Stock};
+use ptu_judges::{Judge, NAMED_GAP, Rule, Stock};
 use ptu_outside::Port;
 use ptu_record::Wants;
 use ptu_slave::{Master, Slave, SlaveConfig};
@@ -85,7 +85,11 @@ fn new_masters(alloc: Global, masters: &[MasterSetting]) -> Result<Vec<Master>, 
 fn rule(master: &MasterSetting) -> Rule
     ensures { result ≡ rule_of master.now }
 {
-    if master.gap { Rule::Gap(4) } else { Rule::Flag }
+    if master.gap {
+        Rule::Gap(NAMED_GAP)
+    } else {
+        Rule::Flag
+    }
 }
 
 // A judge for each master, of the rule that its settings say.

@@ -37,7 +37,7 @@ pub enum Heard {
         at: Moment,
         master: usize,
         list: SignalList,
-        reply: Reply,
+        reply: HeardReply,
     },
 }
 

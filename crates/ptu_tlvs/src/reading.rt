@@ -6,20 +6,11 @@ ghost use Rattle.ptu_tlvs.specs.{TlvFault.{HasTlvFault}, Reading.{tlv_in}, decla
 ghost use Rattle.ptu_tlvs.specs.declared.fault.TlvFault.{TlvFault};
 
 use crate::fault::TlvFault;
-use crate::tlv::{Ask, Tlv};
+use crate::tlv::{ACKNOWLEDGE, Ask, CANCEL, GRANT, REQUEST, Tlv};
 use ptu_octets::{high_nibble, u16_at, u32_at};
 
 // How many octets a tlvType and a lengthField have.
 const HEAD: usize = 4;
-
-// The tlvTypes that are known (IEEE 1588-2019 clause 14.1).
-const REQUEST: u16 = 0x0004;
-
-const GRANT: u16 = 0x0005;
-
-const CANCEL: u16 = 0x0006;
-
-const ACKNOWLEDGE: u16 = 0x0007;
 
 // The octets of the first TLV, to the end that its lengthField says.
 fn first(bytes: &[u8]) -> Result<&[u8], TlvFault>

@@ -1,5 +1,17 @@
 //! The TLVs of unicast negotiation as values (IEEE 1588-2019 clauses 14.1 and 16.1.4).
 
+/// The tlvType of REQUEST_UNICAST_TRANSMISSION (IEEE 1588-2019 clause 14.1, table 52).
+pub(crate) const REQUEST: u16 = 0x0004;
+
+/// The tlvType of GRANT_UNICAST_TRANSMISSION.
+pub(crate) const GRANT: u16 = 0x0005;
+
+/// The tlvType of CANCEL_UNICAST_TRANSMISSION.
+pub(crate) const CANCEL: u16 = 0x0006;
+
+/// The tlvType of ACKNOWLEDGE_CANCEL_UNICAST_TRANSMISSION.
+pub(crate) const ACKNOWLEDGE: u16 = 0x0007;
+
 /// What is asked for, or granted: messages of a kind, how often and for how long
 /// (IEEE 1588-2019 clause 16.1.4.1).
 #[derive(Clone, Copy, Debug, PartialEq, Eq)]

@@ -12,6 +12,7 @@ use crate::cause::{Fault, NoCause, Shedding};
 use crate::clients::Clients;
 use crate::live::{End, LiveGrants};
 use ptu_history::Client;
+use ptu_units::timescale::NANOS_PER_SECOND;
 use ptu_units::{Kind, Log, OutOfMemory, Stamp, rate};
 use std::alloc::Global;
 
@@ -34,8 +35,8 @@ fn moment_of(stamp: Stamp) -> Option<u64>
     ensures { MatchOption result (is_no_moment (moment_of_stamp stamp) ≡ true)
         (λ at. (at ≡ moment_of_stamp stamp) × (at < 2 ^ 62)) }
 {
-    let at = u128::from(stamp.seconds) * 1_000_000_000 + u128::from(stamp.nanos);
-    if stamp.nanos < 1_000_000_000 && at < 1 << 62 {
+    let at = u128::from(stamp.seconds) * u128::from(NANOS_PER_SECOND) + u128::from(stamp.nanos);
+    if u64::from(stamp.nanos) < NANOS_PER_SECOND && at < 1 << 62 {
         Some(at as u64)
     } else {
         None

@@ -11,6 +11,10 @@ use std::net::SocketAddr;
 use std::time::{Clock, Duration, Instant};
 use std::{io, thread};
 
+/// The octets that a receive has room for: one more than the longest datagram, so that the system
+/// tells of a longer one.
+const BUFFER: usize = LONGEST_DATAGRAM + 1;
+
 /// How many datagrams that are longer a call leaves out before it fails.
 const MOST_LEFT_OUT: u32 = 64;
 
@@ -22,7 +26,7 @@ const LOOK: u64 = 100;
 
 // The next datagram, or its front where it is longer than `buf`: its length there, and the sender.
 // A receive that was interrupted is tried again.
-fn take_next<S: Socket>(socket: &mut S, buf: &mut [u8; 2049]) -> io::Result<(usize, SocketAddr)>
+fn take_next<S: Socket>(socket: &mut S, buf: &mut [u8; BUFFER]) -> io::Result<(usize, SocketAddr)>
     ensures within { IfOk result (λ got. got.0 ≤ 2049) }
 {
     for _ in 0..u64::MAX {
@@ -45,8 +49,7 @@ pub(crate) fn take_whole<S: Socket>(
 ) -> Result<Option<(u32, usize)>, Failed>
     ensures within { IfOk result (λ taken. IfSome taken (λ got. got.1 ≤ 2048)) }
 {
-    // One octet more tells a longer datagram from one that fits.
-    let mut taken = [0; LONGEST_DATAGRAM + 1];
+    let mut taken = [0; BUFFER];
     for _ in 0..MOST_LEFT_OUT {
         match take_next(socket, &mut taken) {
             Ok((length, SocketAddr::V4(from))) => {
