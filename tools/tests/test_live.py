@@ -1,6 +1,8 @@
 """The tools beside a grandmaster that runs, in a network namespace of its own, where one is to be had without rights.
 
-It refuses an observe that hears one direction alone, or nothing, and a report of a capture that an audit does not pass.
+It refuses an observe that hears one direction alone, or nothing, one that takes the moment at which it reads a packet for
+that at which the packet came, and a report of a capture that an audit does not pass. The listener sleeps while the slave
+asks for its grants: the moment of a REQUEST that is read late would make the first messages early.
 """
 
 from __future__ import annotations
@@ -49,8 +51,11 @@ timeout {limit} "$python" -B "$tools/observe" 127.0.0.1 --json --seconds {second
 observer=$!
 wait_for lo.pcap
 wait_for observed
+kill -s STOP -- -$listener
 timeout {limit} "$program" slave < slave.toml > selected &
 started="$started $!"
+sleep 0.3
+kill -s CONT -- -$listener
 wait $observer
 wait $listener
 kill $started
