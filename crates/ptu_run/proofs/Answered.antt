@@ -67,6 +67,14 @@ module _ {A C : Type 0} (found : A → ℕ) (is_found : (x : A) → (found x ≡
   no_usage (Err Write) e = omega (arith, e)
   no_usage (Err OutOfMemory) e = omega (arith, e)
 
+  -- 70 only where that is answered without a fault
+  pub not_broken : (r : Result A (RunFault C)) → ((x : A) → found x ≢ 70) → status_by found r ≢ 70
+  not_broken (Ok x) never e = never x e
+  not_broken (Err (Line number cause)) never e = omega (arith, e)
+  not_broken (Err Read) never e = omega (arith, e)
+  not_broken (Err Write) never e = omega (arith, e)
+  not_broken (Err OutOfMemory) never e = omega (arith, e)
+
   -- 66 is answered where the source failed
   pub read_failed : (r : Result A (RunFault C)) → status_by found r ≡ 66 → r ≡ Err Read
   read_failed (Ok x) e = absurd (no_fault found is_found x 66 (omega arith) (omega arith) e)
@@ -113,6 +121,10 @@ module _ {A C : Type 0} (reads reads' writes writes' opens : ℕ) where
   pub has_ended : (r : Result A (RunFault C)) → CountsRead r reads reads' → CountsWrite r writes writes'
       → HasEnded (status_of_answer r) reads reads' writes writes' opens opens
   has_ended r read write = ended_by (λ (x : A). 0) (λ x. inl refl) reads reads' writes writes' opens r read write
+
+-- 70 says nothing of such an answer
+pub no_audit : {A C : Type 0} (r : Result A (RunFault C)) → status_of_answer r ≢ 70
+no_audit {A} r = not_broken (λ (x : A). 0) (λ x. inl refl) r (λ x e. omega (arith, e))
 
 module _ {A C : Type 0} where
   -- it says that the output was written to its end

@@ -36,6 +36,15 @@ other_status (Err Open) n whole write opening memory e = opening e
 other_status (Err Write) n whole write opening memory e = write e
 other_status (Err OutOfMemory) n whole write opening memory e = memory e
 
+-- none of them says that a promise was not kept
+pub no_audit_of_daemon : (r : Result (Unit {0}) DaemonFault) → status_of_daemon r ≢ 70
+no_audit_of_daemon r = other_status r 70 (λ e. omega (arith, e)) (λ e. omega (arith, e)) (λ e. omega (arith, e)) (λ e. omega (arith, e))
+
+pub no_audit_of_refused : (status : ℕ) → (status ≡ 65) ⊎ (status ≡ 67) ⊎ (status ≡ 71) → status ≢ 70
+no_audit_of_refused status (inl is) e = omega (arith, is, e)
+no_audit_of_refused status (inr (inl is)) e = omega (arith, is, e)
+no_audit_of_refused status (inr (inr is)) e = omega (arith, is, e)
+
 -- the counts of faults of the host and the sink, by what the daemon of a grandmaster answers
 module _ {K : Type 0} (sinks : Sinks K) (sink sink' : K) (failed failed' : ℕ) (opened_at : Option Endpoint) (settings : GmSettings) (IsServed : Said → Type 0) where
   pub opens_counted : (r : Result (Unit {0}) DaemonFault) → HasAnswered sinks sink sink' failed failed' opened_at settings IsServed r → CountsOpen r failed failed'

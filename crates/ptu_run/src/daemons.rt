@@ -8,7 +8,8 @@ ghost use Rattle.ptu_config.specs.{Limits.{IsGmInRange}, Refusals.{refusal_text}
 ghost use Rattle.ptu_daemon.specs.Answers.{HasAnswered};
 ghost use Rattle.ptu_run.specs.{Answers.{HasEnded}, Daemons.{HasRunServe, HasRunSlave, IsServed}};
 
-use crate::status::{BAD_LINE, OUT_OF_MEMORY, SINK_FAULT, SOURCE_FAULT, daemon_status};
+use crate::status::{BAD_LINE, BROKEN_PROMISE, OUT_OF_MEMORY, SINK_FAULT, SOURCE_FAULT};
+use crate::status::daemon_status;
 use ptu_config::{GmSettings, RefusalLine, SetupFault, gm_setup, slave_setup};
 use ptu_daemon::{DaemonFault, serve, serve_in_two_steps};
 use ptu_judges::Stock;
@@ -72,6 +73,7 @@ pub(crate) fn run_serve<W: Threads + Wait + Sync, S: Source, K: Sink, H: Host>(
         (S.left source.old) (S.left source.new) host.old host.new result }
     ensures ended { HasEnded result (S.faults source.old) (S.faults source.new)
         (K.faults sink.old) (K.faults sink.new) (H.faults host.old) (H.faults host.new) }
+    ensures no_audit { result ≢ BROKEN_PROMISE }
     ensures bounded { IsReadWithin S.Source source.old source.new 65537 }
 {
     match gm_setup(alloc, source) {
@@ -99,6 +101,7 @@ pub(crate) fn run_slave<S: Source, K: Sink, H: Host>(
         (S.left source.old) (S.left source.new) host.old host.new result }
     ensures ended { HasEnded result (S.faults source.old) (S.faults source.new)
         (K.faults sink.old) (K.faults sink.new) (H.faults host.old) (H.faults host.new) }
+    ensures no_audit { result ≢ BROKEN_PROMISE }
     ensures bounded { IsReadWithin S.Source source.old source.new 65537 }
 {
     match slave_setup(alloc, source, stock.flags.len(), stock.gaps.len()) {

@@ -14,7 +14,8 @@ ghost use Rattle.ptu_run.specs.Answers.{AreFaultsAnswered, AreWordsAnswered, Has
 ghost use Rattle.ptu_run.specs.Run.{output_of, statuses, HasAudited, HasLoaded, HasReadAll, HasRun, HasRunUnlessFailed, IsAccepted, IsOfLab, IsStatusOf, IsWholeStatus};
 
 use crate::daemons::{run_serve, run_slave};
-use crate::status::{BAD_LINE, OUT_OF_MEMORY, SOURCE_FAULT, USAGE, audit_status, status_of};
+use crate::status::{BAD_LINE, BROKEN_PROMISE, OUT_OF_MEMORY, SOURCE_FAULT, USAGE};
+use crate::status::{audit_status, status_of};
 use ptu_audit::audit;
 use ptu_lab::{Stock, load, replay, show};
 use ptu_outside::{Host, Sink, Source};
@@ -47,6 +48,8 @@ fn run_command<W: Threads + Wait + Sync, S: Source, K: Sink, H: Host>(
     ensures audited { (capacity : ℕ) → command ≡ Command.Audit capacity →
         HasAudited K.written K.handed sink.old sink.new host.old host.new
         (S.left source.old) (S.left source.new) capacity result }
+    ensures broken { result ≡ BROKEN_PROMISE
+        → (capacity : ℕ) × (command ≡ Command.Audit capacity) }
     ensures served { command ≡ Command.Serve → HasRunServe H.P.Port H.C.Clock K.written K.handed
         sink.old sink.new (H.opening host.old) (H.back host.new) (H.opened_at host.new)
         (S.left source.old) (S.left source.new) host.old host.new result }
@@ -125,6 +128,9 @@ pub fn run<W: AllocGlobal + Threads + Wait + Sync, S: Source, K: Sink, H: Host>(
         → command_of (map (λ w. w.now) words.now) ≡ Some (Command.Audit capacity)
         → HasAudited K.written K.handed sink.old sink.new host.old host.new
         (S.left source.old) (S.left source.new) capacity result }
+    // No other word says that a promise was not kept.
+    ensures broken { result ≡ BROKEN_PROMISE → (capacity : ℕ)
+        × (command_of (map (λ w. w.now) words.now) ≡ Some (Command.Audit capacity)) }
 
     // The headline, of the script that is read,
     ensures headline { (script : List ℕ) → S.left source.old ≡ Some script

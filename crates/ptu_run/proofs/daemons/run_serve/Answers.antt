@@ -1,11 +1,17 @@
 use Rattle.std.proofs.{Common.{refl}, lemmas.Result.{IfErr-at_err}}
 use Rattle.ptu_config.specs.{Entries.{gm_entries}, Refusals.{gm_refusal}}
-use Rattle.ptu_run.proofs.DaemonRuns.{daemon_ended, refused_ended, unread_ended, opens_counted, writes_counted, opened_as, opened_on_ok, ran}
+use Rattle.ptu_run.proofs.DaemonRuns.{daemon_ended, no_audit_of_daemon, no_audit_of_refused, refused_ended, unread_ended, opens_counted, writes_counted, opened_as, opened_on_ok, ran}
 use Rattle.ptu_run.proofs.daemons.run_serve.Goals as goal
 
 pub returns-in-Ok-clause-ended : goal.returns-in-Ok-clause-ended
 returns-in-Ok-clause-ended g c =
     rw c.daemon_status.ensures (daemon_ended _ _ _ _ _ _ c.serve_by.result c.in-Ok.ensures.counts (writes_counted g.K.Sink _ _ _ _ _ _ _ c.serve_by.result c.serve_by.ensures.answer) (opens_counted g.K.Sink _ _ _ _ _ _ _ c.serve_by.result c.serve_by.ensures.answer))
+
+pub returns-in-Ok-clause-no_audit : goal.returns-in-Ok-clause-no_audit
+returns-in-Ok-clause-no_audit g c = rw c.daemon_status.ensures (no_audit_of_daemon c.serve_by.result)
+
+pub returns-in-Err-Refused-clause-no_audit : goal.returns-in-Err-Refused-clause-no_audit
+returns-in-Err-Refused-clause-no_audit g c = no_audit_of_refused c.write_refusal.result c.write_refusal.ensures.statuses
 
 pub returns-in-Ok-clause-bounded : goal.returns-in-Ok-clause-bounded
 returns-in-Ok-clause-bounded g c = record { taken = c.gm_setup.ensures.taken; ends = c.gm_setup.ensures.ends }

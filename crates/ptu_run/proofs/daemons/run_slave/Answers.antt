@@ -1,11 +1,17 @@
 use Rattle.std.proofs.Common.{rules, ◌≡◌, length, refl}
 use Rattle.ptu_config.specs.{Entries.{slave_entries}, Refusals.{slave_refusal}}
-use Rattle.ptu_run.proofs.DaemonRuns.{if_on_err, daemon_ended, refused_ended, unread_ended, opened_as, opened_on_ok, ran}
+use Rattle.ptu_run.proofs.DaemonRuns.{no_audit_of_daemon, no_audit_of_refused, if_on_err, daemon_ended, refused_ended, unread_ended, opened_as, opened_on_ok, ran}
 use Rattle.ptu_run.proofs.daemons.run_slave.Goals as goal
 
 pub returns-in-Ok-clause-ended : goal.returns-in-Ok-clause-ended
 returns-in-Ok-clause-ended g c =
     rw c.daemon_status.ensures (daemon_ended _ _ _ _ _ _ c.slave.result c.in-Ok.ensures.counts c.slave.ensures.sink_counts c.slave.ensures.host_counts)
+
+pub returns-in-Ok-clause-no_audit : goal.returns-in-Ok-clause-no_audit
+returns-in-Ok-clause-no_audit g c = rw c.daemon_status.ensures (no_audit_of_daemon c.slave.result)
+
+pub returns-in-Err-Refused-clause-no_audit : goal.returns-in-Err-Refused-clause-no_audit
+returns-in-Err-Refused-clause-no_audit g c = no_audit_of_refused c.write_refusal.result c.write_refusal.ensures.statuses
 
 pub returns-in-Ok-clause-bounded : goal.returns-in-Ok-clause-bounded
 returns-in-Ok-clause-bounded g c = record { taken = c.slave_setup.ensures.taken; ends = c.slave_setup.ensures.ends }

@@ -158,3 +158,14 @@ returns-in-Ok-None-clause-pools g c = λ script told. keeps_pools script
 
 pub returns-in-Err-clause-pools : goal.returns-in-Err-clause-pools
 returns-in-Err-clause-pools g c = λ script told. keeps_pools script
+
+pub returns-in-Ok-Some-clause-broken : goal.returns-in-Ok-Some-clause-broken
+returns-in-Ok-Some-clause-broken g c = λ e.
+    let audit = c.run_command.ensures.broken e in
+    (audit.0, sym (sym c.in-Ok-Some.field-0-is ∙ c.in-Ok-Some.ensures.command) ∙ ap Some audit.1)
+
+pub returns-in-Ok-None-clause-broken : goal.returns-in-Ok-None-clause-broken
+returns-in-Ok-None-clause-broken g c = λ e. absurd (omega (arith, e))
+
+pub returns-in-Err-clause-broken : goal.returns-in-Err-clause-broken
+returns-in-Err-clause-broken g c = λ e. absurd (omega (arith, e))

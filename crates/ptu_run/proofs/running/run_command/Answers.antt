@@ -1,7 +1,7 @@
 use Rattle.std.proofs.Common.{rules, arith, ◌≡◌, ◌∙◌, refl, sym, subst}
 use Rattle.ptu_words.specs.declared.command.Command.TheVariants.{Audit}
 use Rattle.ptu_run.specs.Run.{HasAudited, status_found}
-use Rattle.ptu_run.proofs.Answered.{ended_by, has_ended, joined_run, poured_run, read_failed, reads_less, replayed, shown, unless_failed}
+use Rattle.ptu_run.proofs.Answered.{ended_by, has_ended, joined_run, no_audit, poured_run, read_failed, reads_less, replayed, shown, unless_failed}
 use Rattle.ptu_run.proofs.{Audited.{is_found}, Loaded.{has_loaded, loaded, reads_nothing}}
 use Rattle.ptu_run.proofs.running.run_command.Goals as goal
 
@@ -79,3 +79,27 @@ returns-in-Serve-clause-bounded g c = reads_less g.S.Source _ _ 65537 67108865 (
 
 pub returns-in-Slave-clause-bounded : goal.returns-in-Slave-clause-bounded
 returns-in-Slave-clause-bounded g c = reads_less g.S.Source _ _ 65537 67108865 (omega arith) c.run_slave.ensures.bounded
+
+pub returns-in-Replay-clause-broken : goal.returns-in-Replay-clause-broken
+returns-in-Replay-clause-broken g c = λ e. absurd (no_audit c.replay.result (sym c.status_of.ensures ∙ e))
+
+pub returns-in-Show-clause-broken : goal.returns-in-Show-clause-broken
+returns-in-Show-clause-broken g c = λ e. absurd (no_audit c.show.result (sym c.status_of-in-Show.ensures ∙ e))
+
+pub returns-in-Join-clause-broken : goal.returns-in-Join-clause-broken
+returns-in-Join-clause-broken g c = λ e. absurd (no_audit c.join.result (sym c.status_of-in-Join.ensures ∙ e))
+
+pub returns-in-Pools-clause-broken : goal.returns-in-Pools-clause-broken
+returns-in-Pools-clause-broken g c = λ e. absurd (no_audit c.pools.result (sym c.status_of-in-Pools.ensures ∙ e))
+
+pub returns-in-Load-clause-broken : goal.returns-in-Load-clause-broken
+returns-in-Load-clause-broken g c = λ e. absurd (no_audit c.load.result (sym c.status_of-in-Load.ensures ∙ e))
+
+pub returns-in-Serve-clause-broken : goal.returns-in-Serve-clause-broken
+returns-in-Serve-clause-broken g c = λ e. absurd (c.run_serve.ensures.no_audit e)
+
+pub returns-in-Slave-clause-broken : goal.returns-in-Slave-clause-broken
+returns-in-Slave-clause-broken g c = λ e. absurd (c.run_slave.ensures.no_audit e)
+
+pub returns-in-Audit-clause-broken : goal.returns-in-Audit-clause-broken
+returns-in-Audit-clause-broken g c = λ e. (c.in-Audit.capacity, c.in-Audit.is)
