@@ -6,6 +6,7 @@ import argparse
 import io
 import json
 import os
+import socket
 import struct
 import subprocess
 import tempfile
@@ -496,16 +497,24 @@ class Observed(unittest.TestCase):
 
 ETH, LO = ("eth0", 0x0800, 4), ("lo", 0x0800, 4)
 INCOMING = ("eth0", 0x0800, 0)
+SO_TIMESTAMPNS = 35
 
 
 class Socket:
-    """Stands in for a raw socket: what it hears, and how many packets it says were lost each time it is asked."""
+    """Stands in for a raw socket: what it hears, and how many packets it says were lost each time it is asked.
+
+    The system's stamp of its first packet ends in 1 ns, that of the second in 2 ns, and so on.
+    """
 
     def __init__(self, heard: list[tuple[bytes, tuple[str, int, int]]], lost: list[int]) -> None:
-        self.heard, self.lost = heard, lost
+        self.heard, self.lost, self.read = heard, lost, 0
 
-    def recvfrom(self, size: int) -> tuple[bytes, tuple[str, int, int]]:
-        return self.heard.pop(0)
+    def recvmsg(self, size: int, room: int) -> tuple[bytes, list[tuple[int, int, bytes]], int, tuple[str, int, int]]:
+        packet, address = self.heard.pop(0)
+        assert room >= socket.CMSG_SPACE(16)
+        self.read += 1
+        said = [(socket.SOL_SOCKET, SO_TIMESTAMPNS, struct.pack("qq", 1_700_000_000, self.read))]
+        return packet, said, 0, address
 
     def getsockopt(self, level: int, option: int, size: int) -> bytes:
         return struct.pack("II", 100, self.lost.pop(0))
@@ -549,6 +558,7 @@ class Listening(unittest.TestCase):
             mock.patch.object(observe.sys, "stdin", mock.Mock()),
         ):
             made = observe.Listener(GM, None)
+        made.socket.setsockopt.assert_any_call(socket.SOL_SOCKET, SO_TIMESTAMPNS, 1)
         made.socket = Socket(heard, lost)
         return made
 
@@ -558,8 +568,20 @@ class Listening(unittest.TestCase):
         ways = [ETH, INCOMING, LO, ("lo", 0x0800, 0)]
         made = self.listener(list(zip(packets, ways)), [])
         with mock.patch("select.select", lambda heard, *_: (heard if made.socket.heard else [], [], [])):
-            heard = [it.octets for it in made.hear(time.monotonic() + 60)]
-        self.assertEqual(heard, [b"\0", b"\1", b"\3"])
+            heard = [(it.octets, it.moment) for it in made.hear(time.monotonic() + 60)]
+        stamp = 1_700_000_000 * ptp.SECOND
+        self.assertEqual(heard, [(b"\0", stamp + 1), (b"\1", stamp + 2), (b"\3", stamp + 4)])
+
+    def test_the_moment_of_a_packet(self) -> None:
+        """It is the system's stamp, or now where the system gives none, or says something else."""
+        observe = tool("observe")
+        stamp = (socket.SOL_SOCKET, SO_TIMESTAMPNS, struct.pack("qq", 5, 6))
+        other = (socket.SOL_SOCKET, SO_TIMESTAMPNS - 6, bytes(16))
+        for said in ([stamp], [other, stamp]):
+            self.assertEqual(observe.moment_of(said), 5 * ptp.SECOND + 6)
+        with mock.patch.object(observe.time, "time_ns", lambda: 7):
+            for said in ([], [other], [(socket.SOL_IP, *stamp[1:])], [(*stamp[:2], bytes(8))]):
+                self.assertEqual(observe.moment_of(said), 7)
 
     def test_each_table_says_what_was_missed_since_the_last(self) -> None:
         observe = tool("observe")
