@@ -133,10 +133,6 @@ class Plan:
     def link_of(self, ends: frozenset[str]) -> Link:
         return self.links.get(ends, self.link)
 
-    @property
-    def least_delay(self) -> int:
-        return min(it.least for it in [self.link, *self.links.values()])
-
 
 REQUIRED: Any = object()
 

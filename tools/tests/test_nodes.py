@@ -8,7 +8,7 @@ import nodes
 import plan
 from nodes import DELAY_REQ, SIGNALING
 from ptp import SECOND
-from test_scenario import Made
+from test_scenario import EDGE, Made
 
 ONE = """
 length = 130
@@ -108,6 +108,15 @@ class Messages(unittest.TestCase):
         self.assertEqual(sent(text, f"{THERE} {SIGNALING}"), [0, 1, 33, 34, 35])
         self.assertEqual(sent(text, f"{THERE} {DELAY_REQ}")[-2:], [61, 62])
         self.assertEqual(sent(text, f"{BACK} general 09")[-1], 60.6)
+
+    def test_a_renewal_at_the_very_end(self) -> None:
+        """The grant is over then: its messages begin anew, a period behind the new one, and so do Delay_Reqs."""
+        self.assertEqual(sent(EDGE, f"{THERE} {SIGNALING}"), [0, 36, 48, 60, 96])
+        syncs = sent(EDGE, f"{BACK} event 00")
+        # (granted at 0.001 s and at 60.001 s, at which the next would be due at 60.1 s)
+        self.assertEqual(syncs, [it + 0.1 for it in (*range(1, 60), *range(61, 100))])
+        # (one is sent at 48 s, and the next would be due at 64 s: there is a tick at 72 s)
+        self.assertEqual(sent(EDGE, f"{THERE} {DELAY_REQ}"), [24, 48, 84])
 
 
 class Ends(unittest.TestCase):
