@@ -3,6 +3,7 @@
 from __future__ import annotations
 
 import io
+import re
 import unittest
 import xml.etree.ElementTree as xml
 from unittest import mock
@@ -12,7 +13,7 @@ import report
 from reader import read_story
 from script import Outage, Script
 from story import Slave, Story, Term
-from support import EXAMPLES, REPORT, TOOLS, ptpuni, run, signaling, timing, tool, wants_program
+from support import EXAMPLES, PTP4L, REPORT, TOOLS, ptpuni, run, signaling, timing, tool, wants_program
 
 plot = tool("plot")
 SCRIPT = EXAMPLES / "falling-capacity.script"
@@ -303,6 +304,20 @@ class Commands(unittest.TestCase):
         for text in ("granted 6", "denied 2", "shed 2", "10.0.1.17", "10.0.1.18", "falling-capacity"):
             self.assertIn(text, shown)
         self.assertIn("Grandmaster 10.0.0.1: 3 messages/s held at most, capacity 1.5 to 3", shown)
+
+    def test_a_report_of_a_capture(self) -> None:
+        """It is drawn as it is, over the time of the capture, and is not said to be one of `replay`."""
+        words = ("--grandmaster", "192.0.2.1", "--kinds", "announce,sync", "--slack", "62500000")
+        made = run("from-pcap", "report", PTP4L, *words)
+        ran = run("plot", "-", "--capacity", "640", given=made.stdout)
+        self.assertEqual((ran.returncode, ran.stderr), (0, b""))
+        shown = texts(ran.stdout.decode())
+        self.assertIn("Grandmaster 192.0.2.1: 33 messages/s held at most, capacity 40", shown)
+        self.assertTrue(any(it.startswith("Grandmaster 192.0.2.1: 17 messages sent of a budget of ") for it in shown))
+        self.assertIn("granted 3", shown)
+        moments = [int(re.sub(r"\W", "", it)) for it in shown if re.fullmatch(r"1\W795\W828\W5\d\d", it)]
+        self.assertEqual(moments, 2 * list(range(1795828566, 1795828572)))
+        self.assertNotIn(b"replay", ran.stdout)
 
     def test_capacity_from_the_command_line(self) -> None:
         for words in (("--capacity", "96"), ("--capacity", "10.0.0.1=96")):
