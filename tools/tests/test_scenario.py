@@ -271,6 +271,12 @@ class Courses(unittest.TestCase):
             self.assertEqual(made.arrivals(), due)
             self.assertIn(len(made.ways) - len(due), range(6, 25))
 
+    def test_what_arrives_at_the_very_end(self) -> None:
+        """A Delay_Req that was sent half a second before it is handed over, and answered."""
+        made = Made(SMALL.replace("[0.001, 0.004]", "0.5").replace("log_sync = 0", "log_sync = 0\nlog_delay = 0"))
+        last = [way for line, way in zip(made.lines, made.ways) if line.startswith("deliver 20000000000 ")]
+        self.assertEqual(last, ["10.0.0.1 10.0.1.2 general 09"])
+
     def test_an_outage_is_said(self) -> None:
         """A comment stands in the script, and is not told."""
         made = Made(SMALL + '[[outages]]\nnode = "10.0.0.1"\nfrom = 5.25\nuntil = 10\n')
@@ -311,6 +317,11 @@ class Courses(unittest.TestCase):
         ticks = [it[2] for it in made.words if it[0] == "tick"]
         counts = [ticks.count(it) for it in ("10.0.1.1", "10.0.1.2", "10.0.2.1", "10.0.2.2")]
         self.assertEqual(counts, [10, 10, 21, 20])
+        # The last tick of those that go on is at the very end.
+        made = Made(SMALL.replace("log_sync", "stop = 19.5\nlog_sync") + other)
+        ticks = [it[2] for it in made.words if it[0] == "tick"]
+        counts = [ticks.count(it) for it in ("10.0.1.1", "10.0.1.2", "10.0.2.1", "10.0.2.2")]
+        self.assertEqual(counts, [20, 19, 21, 20])
 
     def test_order_at_one_moment(self) -> None:
         """What is set stands first, what was added first before the rest; then what arrives, by its number."""
@@ -327,7 +338,9 @@ class Courses(unittest.TestCase):
 
     def test_in_parts_of_any_size(self) -> None:
         """The script comes in parts, to the same end."""
-        for text in (SMALL, SMALL.replace("0.001, 0.004", "0.4, 0.9")):
+        # (of the last one much arrives at moments at which ticks and turns are set)
+        at_once = SMALL.replace("[0.001, 0.004]", "0.5").replace("log_sync = 0", "log_sync = -1")
+        for text in (SMALL, SMALL.replace("0.001, 0.004", "0.4, 0.9"), at_once):
             whole = Made(text)
             for size in (0, 3, 40):
                 with mock.patch.object(course, "PART_LINES", size):
@@ -399,10 +412,24 @@ class Runs(unittest.TestCase):
         self.assertEqual(run("scenario", self.file).returncode, 65)
 
     def test_a_script_that_is_too_large(self) -> None:
-        with mock.patch.object(lines, "LARGEST_SCRIPT", 1000), mock.patch.object(scenario, "LARGEST_SCRIPT", 1000):
-            ran = run("scenario", self.file, "--ptpuni", self.fake("good"))
-        self.assertEqual((ran.returncode, ran.stdout), (65, b""))
-        self.assertIn(b"length: the script would be above the 64 MiB that replay reads", ran.stderr)
+        whole = run("scenario", self.file, "--ptpuni", self.fake("good")).stdout
+        for largest in (len(whole), len(whole) - 1, 1000):
+            with mock.patch.object(lines, "LARGEST_SCRIPT", largest), mock.patch.object(scenario, "LARGEST_SCRIPT", largest):
+                ran = run("scenario", self.file, "--ptpuni", self.fake("good"))
+            if largest == len(whole):
+                self.assertEqual((ran.returncode, ran.stdout, ran.stderr), (0, whole, b""))
+                continue
+            self.assertEqual((ran.returncode, ran.stdout), (65, b""))
+            self.assertIn(b"length: the script would be above the 64 MiB that replay reads", ran.stderr)
+
+    def test_a_script_that_is_as_large_as_may_be_amid_it(self) -> None:
+        """It goes on, and is too large; nothing is read behind the part with which it is."""
+        parts = [(moment, [moment - 1], [moment], []) for moment in (1, 2, 3)]
+        told = mock.Mock()
+        told.recv = mock.Mock(side_effect=parts)
+        # ("#", and "deliver 0 1")
+        with mock.patch.object(lines, "LARGEST_SCRIPT", 14):
+            self.assertEqual(lines.write_lines(told, "#\n"), b"#\ndeliver 0 1\ndeliver 1 2\n")
 
 
 LOSSES = SMALL.replace("seed", "loss = 0.1\nrepeat = 0.1\nseed").replace("capacity = 100", "capacity = 400")

@@ -3,12 +3,26 @@
 from __future__ import annotations
 
 import os
+import select
+import signal
+import subprocess
+import sys
 import unittest
 from multiprocessing.connection import Connection
+from pathlib import Path
 from unittest import mock
 
 import endings
 import worker
+from support import PATIENCE, TOOLS
+
+# One that waits to be told more; who started it says its number, and is killed.
+KILLED = """
+import os, signal, test_worker, worker
+it = worker.Worker(test_worker.summed, 5)
+print(it.process.pid, flush=True)
+os.kill(os.getpid(), signal.SIGKILL)
+"""
 
 
 def summed(told: Connection, first: int) -> int:
@@ -47,6 +61,19 @@ class Workers(unittest.TestCase):
         with worker.Worker(summed, 5) as it:
             process = it.process
         self.assertFalse(process.is_alive())
+
+    def test_one_whose_starter_was_killed(self) -> None:
+        """It ends, too: it has no end of its own to what it is told."""
+        path = f"{TOOLS}:{Path(__file__).resolve().parent}"
+        words = [sys.executable, "-B", "-c", KILLED]
+        with subprocess.Popen(words, stdout=subprocess.PIPE, env=os.environ | {"PYTHONPATH": path}) as started:
+            assert started.stdout
+            number = int(started.stdout.readline())
+            # (both have this output, which is over when both have ended)
+            is_over = bool(select.select([started.stdout], [], [], PATIENCE)[0])
+            if not is_over:
+                os.kill(number, signal.SIGKILL)
+        self.assertTrue(is_over)
 
     def test_none_is_to_be_had(self) -> None:
         with mock.patch("os.fork", side_effect=BlockingIOError(11, "Resource temporarily unavailable")):
