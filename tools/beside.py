@@ -90,7 +90,7 @@ class Check:
             return EARLY
         due = self.agreed + len(self.foretold)
         sent = max(int(words[2]), self.agreed + len(self.sent))
-        return f"{DIFFERS}: it sends {sent} datagrams, and not {due}" if sent != due or self.sent else ""
+        return f"{DIFFERS}: it sends {sent} datagrams, and not {due}" if sent != due else ""
 
 
 def said(line: bytes, way: bytes) -> str:
@@ -179,7 +179,8 @@ class Replay:
         if why in ("", EARLY):
             # (its report is over, and so is it)
             status = self.process.wait()
-            why = f"ended with status {status} before its script did" if why or status else ""
+            if why or status:
+                why = f"ended with status {status}{' before its script did' if why else ''}"
         if why:
             raise ReplayError(f"{self.program} {why}")
 

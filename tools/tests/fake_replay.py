@@ -38,6 +38,8 @@ def main() -> None:
         print(f"end {at} {number + (how == 'skips') - (how == 'hides')}", flush=True)
     if how == "torn":
         print("and", end="", flush=True)
+    if how == "fails":
+        sys.exit(67)
 
 
 main()

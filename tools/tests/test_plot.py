@@ -213,6 +213,20 @@ class Drawn(unittest.TestCase):
             self.assertIn(text, shown)
         self.assertNotIn("class 84", shown)
 
+    def test_outages_are_marked_at_slaves(self) -> None:
+        """Each has a red line above the bar, from its beginning to its end, at the slaves that it is about alone."""
+        for who, count in (("10.0.1.17", 1), ("10.0.0.1 and 10.0.1.17", 1), ("10.0.0.1", 0)):
+            slaves = {it: Slave(it, [(0.0, "10.0.0.1")], {}) for it in ("10.0.1.17", "10.0.1.18")}
+            made = Story(slaves=slaves, start=0.0, end=100.0, outages=[Outage(25.0, 75.0, who)])
+            paths = [it.attrib for it in xml.fromstring(plot.draw(made, "it")).iter("{http://www.w3.org/2000/svg}path")]
+            lines = [it["d"] for it in paths if it.get("stroke") == picture.RED and it.get("stroke-width") == "2"]
+            self.assertEqual(len(lines), count, who)
+            for it in lines:
+                start, end = (float(at) for at in re.findall(r"[MH]([0-9.]+)", it))
+                # (the axis goes on for a hundredth behind the last moment)
+                self.assertAlmostEqual(start - picture.LEFT, (picture.END - picture.LEFT) * 25 / 101, delta=0.2)
+                self.assertAlmostEqual(end - picture.LEFT, (picture.END - picture.LEFT) * 75 / 101, delta=0.2)
+
     def test_outages_come_from_the_script(self) -> None:
         script = self.GM.format(48) + "# From 0.5 until 1800 s all from and to 10.0.0.1 and 10.0.1.17 is lost.\n"
         self.assertEqual(told(script, []).outages, [Outage(0.5, 1800.0, "10.0.0.1 and 10.0.1.17")])

@@ -380,6 +380,7 @@ class Runs(unittest.TestCase):
             "short": b"ended with status 3 before its script did",
             "bad": b"refused a line: 6 bad field 3",
             "late": b"ended with status 0 before its script did",
+            "fails": b"ended with status 67\n",
             "cut": b"ended with status 0 before its script did",
             "torn": b"ended with status 0 before its script did",
             "skips": differs + b" 7 datagrams, and not 6",
