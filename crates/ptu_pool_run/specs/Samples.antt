@@ -1,10 +1,23 @@
 -- Small scripts of pools, and the outputs that were made out for them by hand.
 use Rattle.std.specs.Prelude.{ℕ, List, [], ◌∷◌, ◌++◌, codes}
+use Rattle.ptu_script.specs.declared.command.GrandmasterSetup.{GrandmasterSetup}
 use Rattle.ptu_world.specs.Samples.{ask, gm, grant, lines_of, script_of}
 
 -- the grandmaster 10.0.0.1 of 16 sixteenths, of which two customers are sold 8 each
 abbrev pub customers : List (List ℕ)
 customers = gm (codes "16 300") ∷ codes "pool 10.0.1.0 24 8" ∷ codes "pool 10.0.2.0 24 8" ∷ []
+
+-- what sets that grandmaster up
+abbrev pub setup_of_customers : GrandmasterSetup
+setup_of_customers = record {
+  ip = 0x0A000001;
+  clock = 0x0A00000000000001;
+  port = 1;
+  domain = 4;
+  class = 84;
+  capacity = 16;
+  max_duration = 300;
+}
 
 -- the address hands something in at the moment 0
 abbrev pub hands_in : List ℕ → List ℕ → List ℕ

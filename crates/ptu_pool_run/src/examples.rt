@@ -6,9 +6,10 @@ ghost use Rattle.ptu_world.specs.Samples.{lines_of};
 ghost use Rattle.ptu_script.specs.declared.cause.Cause.TheVariants as causes;
 ghost use Rattle.ptu_outside.specs.declared.channel.Channel.TheVariants as channels;
 ghost use Rattle.ptu_pool_run.specs.{Command.{IsRefused, command_of}, Output.{line_text}};
-ghost use Rattle.ptu_pool_run.specs.Poured.{poured_texts};
+ghost use Rattle.ptu_pool_run.specs.Poured.{poured_texts, told_by};
+ghost use Rattle.ptu_pool_run.specs.Promises.{AreMessagesWritten, turns_of_pool};
 ghost use Rattle.ptu_pool_run.specs.Samples.{requests, requests_output, taking_turns, taking_turns_output};
-ghost use Rattle.ptu_pool_run.specs.Samples.{no_network, overlapping, too_much};
+ghost use Rattle.ptu_pool_run.specs.Samples.{no_network, overlapping, setup_of_customers, too_much};
 ghost use Rattle.ptu_pool_run.specs.declared.cause.PoolCause.TheVariants as refused;
 ghost use Rattle.ptu_pool_run.specs.declared.command.PoolCommand.TheVariants as commands;
 ghost use Rattle.ptu_pool_run.specs.declared.output.PoolLine.TheVariants as lines;
@@ -72,6 +73,24 @@ pub fn lines_of_output()
 pub fn two_customers()
     ensures requests { poured_texts requests ≡ requests_output }
     ensures turns { poured_texts taking_turns ≡ taking_turns_output }
+{}
+
+/// The moments at which the two customers' tables take turns: those of each customer's own turns,
+/// by table. `KeepsPools` promises messages in time by these moments.
+pub fn turns_of_customers()
+    ensures set_up { (told_by taking_turns).setup ≡ Some setup_of_customers }
+    ensures first { turns_of_pool setup_of_customers (told_by taking_turns) 0 2
+        ≡ 1999999999 ∷ 2000000000 ∷ [] }
+    ensures second { turns_of_pool setup_of_customers (told_by taking_turns) 1 2
+        ≡ 2000000000 ∷ 2000000000 ∷ [] }
+    ensures other_table { turns_of_pool setup_of_customers (told_by taking_turns) 0 1 ≡ [] }
+{}
+
+/// The one Announce in each customer's lines is that in its pool's history: to the same address, at
+/// the same moment and of the same number.
+pub fn messages_of_customers()
+    ensures first { AreMessagesWritten taking_turns setup_of_customers 0 }
+    ensures second { AreMessagesWritten taking_turns setup_of_customers 1 }
 {}
 
 /// Pools that are not sold, which end the output.
