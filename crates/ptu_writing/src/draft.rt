@@ -4,6 +4,7 @@ ghost use Rattle.std.specs.Prelude.{◌≡◌, ◌++◌, [], length, OnOk};
 ghost use Rattle.hex.specs.Hex.{encode_lower};
 ghost use Rattle.ptu_writing.specs.Draft.{Drafted};
 
+use crate::digits::Digits;
 use crate::line::LineText;
 use ptu_units::OutOfMemory;
 use std::alloc::Global;
@@ -14,6 +15,7 @@ use std::marker::Model;
 pub struct Draft {
     octets: Vec<u8>,
     start: usize,
+    last: Digits,
 }
 
 impl Model for Draft {
@@ -38,6 +40,7 @@ impl Draft {
         Draft {
             octets: Vec::new(alloc),
             start: 0,
+            last: Digits::new(alloc),
         }
     }
 
@@ -64,7 +67,8 @@ impl Draft {
         self.put_octets(line.octets())
     }
 
-    /// Puts two hexadecimal digits in lower case for each octet.
+    /// Puts two hexadecimal digits in lower case for each octet. Those of octets that stand as in the
+    /// call before are not made again.
     ///
     /// # Errors
     /// `OutOfMemory`. What is done stays, and nothing is said of the text in the making.
@@ -72,13 +76,8 @@ impl Draft {
         ensures put { OnOk result (self.new.text ≡ self.old.text ++ encode_lower octets.now) }
         ensures done { self.new.done ≡ self.old.done }
     {
-        let before = self.octets.len();
-        let size = octets.len().checked_mul(2).ok_or(OutOfMemory)?;
-        let after = before.checked_add(size).ok_or(OutOfMemory)?;
-        self.octets.resize(after, 0)?;
-        if hex::encode_to_slice(octets, &mut self.octets[before..]).is_err() {
-            unreachable!();
-        }
+        self.last.set(octets)?;
+        self.octets.extend_from_slice(self.last.digits())?;
         Ok(())
     }
 

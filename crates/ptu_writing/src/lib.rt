@@ -2,6 +2,7 @@
 //! other in one room that is kept.
 #![tactic(auto)]
 
+mod digits;
 mod draft;
 mod line;
 mod part;

@@ -1,0 +1,124 @@
+//! Octets with their digits: the digits of octets that stay as they were are not made again.
+
+ghost use Rattle.std.specs.Prelude.{◌≡◌, ◌<◌, ◌+◌, ◌^◌, [], length, take, drop, OnOk, IsTrue};
+ghost use Rattle.hex.specs.Hex.{encode_lower};
+
+use ptu_units::OutOfMemory;
+use std::alloc::Global;
+use std::marker::Model;
+
+// So many octets are compared at a time.
+const PART: usize = 8;
+
+/// Octets, with two hexadecimal digits in lower case for each. A clause sees the octets.
+#[derive(Drop)]
+pub struct Digits {
+    octets: Vec<u8>,
+    digits: Vec<u8>,
+}
+
+impl Model for Digits {
+    ghost use Rattle.std.specs.Prelude.{◌≡◌, ℕ, List};
+    ghost use Rattle.hex.specs.Hex.{encode_lower};
+
+    ghost Value = { List ℕ };
+
+    ghost view = { λ d. d.octets.items };
+
+    ghost invariant = { λ d. d.digits.items ≡ encode_lower d.octets.items };
+}
+
+// Whether the eight octets from a place on are there in both.
+fn is_same(octets: &[u8], others: &[u8], at: usize) -> bool
+    requires octets { at < length octets.now }
+    requires others { at < length others.now }
+    ensures { IsTrue result → take 8 (drop at octets.now) ≡ take 8 (drop at others.now) }
+{
+    match (
+        octets[at..].first_chunk::<8>(),
+        others[at..].first_chunk::<8>(),
+    ) {
+        (Some(part), Some(other)) => part == other,
+        _ => false,
+    }
+}
+
+// Makes eight octets from a place on, or those that are left, those of the other list, with their
+// digits, where those before are.
+fn renew(last: &mut [u8], digits: &mut [u8], octets: &[u8], at: usize)
+    requires size { length last.old ≡ length octets.now }
+    requires digits { digits.old ≡ encode_lower last.old }
+    requires at { at < length octets.now }
+    requires before { take at last.old ≡ take at octets.now }
+    ensures size { length last.new ≡ length octets.now }
+    ensures digits { digits.new ≡ encode_lower last.new }
+    ensures before { take (at + 8) last.new ≡ take (at + 8) octets.now }
+{
+    if is_same(octets, last, at) {
+        return;
+    }
+    let end = octets.len().min(at + PART);
+    let part = &octets[at..end];
+    if hex::encode_to_slice(part, &mut digits[2 * at..2 * end]).is_err() {
+        unreachable!();
+    }
+    last[at..end].copy_from_slice(part);
+}
+
+// Makes all octets those of the other list, with their digits.
+fn renew_all(last: &mut [u8], digits: &mut [u8], octets: &[u8])
+    requires size { length last.old ≡ length octets.now }
+    requires digits { digits.old ≡ encode_lower last.old }
+    ensures octets { last.new ≡ octets.now }
+    ensures digits { digits.new ≡ encode_lower octets.now }
+{
+    for place in 0..octets.len().div_ceil(PART) {
+        renew(last, digits, octets, PART * place);
+    }
+}
+
+// Makes them so many octets.
+fn resize(octets: &mut Vec<u8>, digits: &mut Vec<u8>, size: usize) -> Result<(), OutOfMemory>
+    requires size { size < 2 ^ 63 }
+    requires digits { digits.old.items ≡ encode_lower octets.old.items }
+    ensures size { OnOk result (length octets.new.items ≡ size) }
+    ensures digits { digits.new.items ≡ encode_lower octets.new.items }
+{
+    if octets.resize(size, 0).is_err() || digits.resize(2 * size, b'0').is_err() {
+        octets.clear();
+        digits.clear();
+        return Err(OutOfMemory);
+    }
+    Ok(())
+}
+
+impl Digits {
+    /// No octets. It allocates nothing.
+    pub fn new(alloc: Global) -> Digits
+        ensures { result ≡ [] }
+    {
+        Digits {
+            octets: Vec::new(alloc),
+            digits: Vec::new(alloc),
+        }
+    }
+
+    /// Two digits for each octet.
+    pub fn digits(&self) -> &[u8]
+        ensures { result.now ≡ encode_lower self.now }
+    {
+        &self.digits
+    }
+
+    /// Makes them these octets.
+    ///
+    /// # Errors
+    /// `OutOfMemory`, and then nothing is said of the octets.
+    pub fn set(&mut self, octets: &[u8]) -> Result<(), OutOfMemory>
+        ensures { OnOk result (self.new ≡ octets.now) }
+    {
+        resize(&mut self.octets, &mut self.digits, octets.len())?;
+        renew_all(&mut self.octets, &mut self.digits, octets);
+        Ok(())
+    }
+}
