@@ -1,5 +1,5 @@
 -- A script has few lines: those that are whole have together at most as many octets as a script may have.
-use Rattle.std.proofs.Common.{◌≡◌, ◌∙◌, ℕ, ◌+◌, ◌≤◌, ◌&&◌, Bool, true, false, cond, List, [], ◌∷◌, ◌++◌, length, Option, Some, None, refl, ap, arith, length-append}
+use Rattle.std.proofs.Common.{◌≡◌, ℕ, ◌+◌, ◌≤◌, ◌&&◌, Bool, true, false, cond, List, [], ◌∷◌, length, Option, Some, None, refl, ap, arith}
 use Rattle.std.specs.{Prelude.{nat_le, nat_lt, min}, List.{list_all, onto_first}}
 use Rattle.std.proofs.lemmas.Bool.{le-leb, ltb-false}
 use Rattle.ptu_lines.specs.declared.cause.LineCause.{LineCause}

@@ -1,16 +1,16 @@
 -- What one line of the input, or its end, makes a program write.
 use Rattle.std.proofs.Common.{◌≡◌, ◌∙◌, ℕ, ◌+◌, List, [], ◌∷◌, ◌++◌, Option, Some, None, refl, sym, ap, subst}
-use Rattle.std.specs.{Prelude.{IfSome}, Option.{option_map}, Io.KnownBytes.{IsAtEnd}}
+use Rattle.std.specs.{Prelude.{IfSome}, Option.{option_map, unwrap_or}, Io.KnownBytes.{IsAtEnd}}
 use Rattle.std.proofs.lemmas.List.{append-nil}
 use Rattle.ptu_outside.specs.Handing.{HasPut, HasPutPart}
-use Rattle.ptu_outside.proofs.Putting.{HasPut-append, HasPut-part, HasPutPart-append}
+use Rattle.ptu_outside.proofs.Putting.{HasPutPart-append}
 use Rattle.ptu_lines.specs.declared.cause.LineCause.{LineCause}
 use Rattle.ptu_lines.specs.Script.{ScriptLine, Whole, Refused, lines_from, pieces, text_of}
 use Rattle.ptu_lines.specs.Reading.{Reader, IsAllGiven, IsGiven, IsRefused, lines_left}
 use Rattle.ptu_report.specs.declared.ending.Ending.{Ending}
 use Rattle.ptu_report.specs.declared.ending.Ending.TheVariants as endings
 use Rattle.ptu_report.specs.Rules.{Rules, Outcome, Goes, Refuses, IsOutcome, closing, ending_after, ending_at, meaning_after, meaning_at, texts_at, texts_until}
-use Rattle.ptu_report.specs.Step.{HasEnded, HasGone, is_whole, texts_taken}
+use Rattle.ptu_report.specs.Step.{HasEnded, HasGone, HasStepped, is_whole, texts_found}
 use Rattle.ptu_report.proofs.Underway.{left_behind}
 
 -- at its end a script has no line left
@@ -25,47 +25,27 @@ none_left from to left left' lines g told = by left' g.end (sym told ∙ g.gives
         same ∙ none
 
 module _ {K : Type 0} (written : K → Option (List ℕ)) (handed : K → Option (List (List ℕ))) {M C : Type 0} (rules : Rules M C) (stands : M → Type 0) where
-  -- a part of the texts that were taken is a part of the output
-  pub part_at : (old new : K) (number : ℕ) (o : Outcome M C) (given : List (List ℕ)) (taken : Option C) (later : M → List (List ℕ)) → IsOutcome o stands given taken → HasPutPart written handed old new (texts_taken given taken)
-      → HasPutPart written handed old new (texts_at rules number o later)
+  -- a part of the texts of what was found is a part of the output
+  pub part_at : (old new : K) (number : ℕ) (o : Outcome M C) (given : List (List ℕ)) (found : Option C) (later : M → List (List ℕ)) → IsOutcome o stands given found
+      → HasPutPart written handed old new (texts_found (rules.refusal number) given found) → HasPutPart written handed old new (texts_at rules number o later)
   part_at old new number (Goes after texts) given None later h part =
       HasPutPart-append written handed old new texts (later after) (subst (HasPutPart written handed old new) h.1 part)
-  part_at old new number (Goes after texts) given (Some found) later h part = absurd h
+  part_at old new number (Goes after texts) given (Some cause) later h part = absurd h
   part_at old new number (Refuses cause) given None later h part = absurd h
-  part_at old new number (Refuses cause) given (Some found) later h part = HasPutPart-append written handed old new [] (rules.refusal number cause ∷ []) part
-
-  -- so it is where the text that names the refused line is written in part
-  pub refused_part_at : (old mid new : K) (number : ℕ) (o : Outcome M C) (given : List (List ℕ)) (taken : Option C) (cause : C) (later : M → List (List ℕ)) → IsOutcome o stands given taken → taken ≡ Some cause
-      → HasPut written handed old mid (texts_taken given taken) → HasPutPart written handed mid new (rules.refusal number cause ∷ []) → HasPutPart written handed old new (texts_at rules number o later)
-  refused_part_at old mid new number (Goes after texts) given None cause later h e put part = absurd (let never : None ≡ Some cause = e in cc)
-  refused_part_at old mid new number (Goes after texts) given (Some found) cause later h e put part = absurd h
-  refused_part_at old mid new number (Refuses found) given None cause later h e put part = absurd h
-  refused_part_at old mid new number (Refuses found) given (Some found') cause later h e put part =
-      let same : found' ≡ cause = (let eq : Some found' ≡ Some cause = e in cc) in
-      HasPut-part written handed old mid new [] (rules.refusal number found ∷ []) put
-      (subst (λ x. HasPutPart written handed mid new (rules.refusal number x ∷ [])) (sym same ∙ h) part)
+  part_at old new number (Refuses cause) given (Some found) later h part = subst (λ x. HasPutPart written handed old new (rules.refusal number x ∷ [])) h part
 
   -- where the line is refused, the text that names it ends the output
-  pub refused_at : (old mid new : K) (number : ℕ) (o : Outcome M C) (given : List (List ℕ)) (taken : Option C) (cause : C) (later : M → List (List ℕ)) (then : M → Ending C) → IsOutcome o stands given taken → taken ≡ Some cause
-      → HasPut written handed old mid (texts_taken given taken) → HasPut written handed mid new (rules.refusal number cause ∷ [])
+  pub refused_at : (old new : K) (number : ℕ) (o : Outcome M C) (given : List (List ℕ)) (cause : C) (later : M → List (List ℕ)) (then : M → Ending C) → IsOutcome o stands given (Some cause)
+      → HasPut written handed old new (rules.refusal number cause ∷ [])
       → HasPut written handed old new (texts_at rules number o later) × (endings.Refused number cause ≡ ending_at number o then)
-  refused_at old mid new number (Goes after texts) given None cause later then h e put last = absurd (let never : None ≡ Some cause = e in cc)
-  refused_at old mid new number (Goes after texts) given (Some found) cause later then h e put last = absurd h
-  refused_at old mid new number (Refuses found) given None cause later then h e put last = absurd h
-  refused_at old mid new number (Refuses found) given (Some found') cause later then h e put last =
-      let same : found' ≡ cause = (let eq : Some found' ≡ Some cause = e in cc) in (
-        HasPut-append written handed old mid new [] (rules.refusal number found ∷ []) put
-            (subst (λ x. HasPut written handed mid new (rules.refusal number x ∷ [])) (sym same ∙ h) last),
-        ap (endings.Refused number) (sym same ∙ h),
-      )
+  refused_at old new number (Goes after texts) given cause later then h put = absurd h
+  refused_at old new number (Refuses found) given cause later then h put = (subst (λ x. HasPut written handed old new (rules.refusal number x ∷ [])) h put, ap (endings.Refused number) h)
 
   -- at the end
-  pub closed_at : (old new : K) (number : ℕ) (o : Outcome M C) (given : List (List ℕ)) (taken : Option C) (whole : Ending C) → IsOutcome o stands given taken → taken ≡ None → HasPut written handed old new (texts_taken given taken)
+  pub closed_at : (old new : K) (number : ℕ) (o : Outcome M C) (given : List (List ℕ)) (whole : Ending C) → IsOutcome o stands given None → HasPut written handed old new given
       → HasPut written handed old new (texts_at rules number o (λ after. [])) × (whole ≡ ending_at number o (λ after. whole))
-  closed_at old new number (Goes after texts) given None whole h e put = (subst (HasPut written handed old new) (h.1 ∙ sym (append-nil texts)) put, refl)
-  closed_at old new number (Goes after texts) given (Some found) whole h e put = absurd h
-  closed_at old new number (Refuses cause) given None whole h e put = absurd h
-  closed_at old new number (Refuses cause) given (Some found) whole h e put = absurd (let never : Some found ≡ None = e in cc)
+  closed_at old new number (Goes after texts) given whole h put = (subst (HasPut written handed old new) (h.1 ∙ sym (append-nil texts)) put, refl)
+  closed_at old new number (Refuses cause) given whole h put = absurd h
 
   -- what the state stands for then
   pub meaning_closed_at : (o : Outcome M C) (given : List (List ℕ)) (taken : Option C) → IsOutcome o stands given taken → IfSome (meaning_at o Some) stands
@@ -79,13 +59,13 @@ module _ {K : Type 0} (written : K → Option (List ℕ)) (handed : K → Option
 
   module _ (m : M) (from to : Reader) (left left' : Option (List ℕ)) where
     -- a line was given, and the program goes on
-    pub goes : (number : ℕ) (old new : K) (given : List (List ℕ)) (taken : Option C) → IsGiven number from to left left' → IsOutcome (rules.step m number to.text) stands given taken → taken ≡ None
-        → HasPut written handed old new (texts_taken given taken) → HasGone written handed old new rules m from to left left' stands
-    goes number old new given taken g = by (rules.step m number to.text) refl given taken
+    goes : (number : ℕ) (old new : K) (given : List (List ℕ)) → IsGiven number from to left left' → IsOutcome (rules.step m number to.text) stands given None
+        → HasPut written handed old new given → HasGone written handed old new rules m from to left left' stands
+    goes number old new given g = by (rules.step m number to.text) refl
       where
-        by : (o : Outcome M C) → rules.step m number to.text ≡ o → (given : List (List ℕ)) (taken : Option C) → IsOutcome o stands given taken → taken ≡ None
-            → HasPut written handed old new (texts_taken given taken) → HasGone written handed old new rules m from to left left' stands
-        by (Goes after texts) e given None h none put = record {
+        by : (o : Outcome M C) → rules.step m number to.text ≡ o → IsOutcome o stands given None → HasPut written handed old new given
+            → HasGone written handed old new rules m from to left left' stands
+        by (Goes after texts) e h put = record {
           line = g.line;
           gives = g.gives;
           after = after;
@@ -94,9 +74,7 @@ module _ {K : Type 0} (written : K → Option (List ℕ)) (handed : K → Option
           stands_after = h.0;
           put = subst (HasPut written handed old new) h.1 put;
         }
-        by (Goes after texts) e given (Some found) h none put = absurd h
-        by (Refuses cause) e given None h none put = absurd h
-        by (Refuses cause) e given (Some found) h none put = absurd (let never : Some found ≡ None = none in cc)
+        by (Refuses cause) e h put = absurd h
 
     module _ (lines : List ScriptLine) (told : lines_left from left ≡ Some lines) where
       -- the first of the lines that are left is the one that was given
@@ -105,35 +83,27 @@ module _ {K : Type 0} (written : K → Option (List ℕ)) (handed : K → Option
           let b = left_behind (Whole (text_of g.line) ∷ []) (lines_left to left') lines (sym told ∙ g.gives.told) in
           (b.0, b.2 ∙ ap (λ t. Whole t ∷ b.0) g.text)
 
-      pub line_in_part : (number : ℕ) (old new : K) (given : List (List ℕ)) (taken : Option C) → IsGiven number from to left left' → IsOutcome (rules.step m number to.text) stands given taken → HasPutPart written handed old new (texts_taken given taken)
+      pub line_in_part : (number : ℕ) (old new : K) (given : List (List ℕ)) (found : Option C) → IsGiven number from to left left' → IsOutcome (rules.step m number to.text) stands given found
+          → HasPutPart written handed old new (texts_found (rules.refusal number) given found)
           → HasPutPart written handed old new (texts_until rules (closing rules) m from.number lines)
-      line_in_part number old new given taken g h part =
+      line_in_part number old new given found g h part =
           let f = first_line number g in
           subst (λ ls. HasPutPart written handed old new (texts_until rules (closing rules) m from.number ls)) (sym f.1)
-          (part_at old new (from.number + 1) (rules.step m (from.number + 1) to.text) given taken (λ after. texts_until rules (closing rules) after (from.number + 1) f.0)
-          (subst (λ n. IsOutcome (rules.step m n to.text) stands given taken) g.number_is h) part)
+          (part_at old new (from.number + 1) (rules.step m (from.number + 1) to.text) given found (λ after. texts_until rules (closing rules) after (from.number + 1) f.0)
+          (subst (λ n. IsOutcome (rules.step m n to.text) stands given found) g.number_is h) (subst (λ n. HasPutPart written handed old new (texts_found (rules.refusal n) given found)) g.number_is part))
 
-      pub line_refused_in_part : (number : ℕ) (old mid new : K) (given : List (List ℕ)) (taken : Option C) (cause : C) → IsGiven number from to left left' → IsOutcome (rules.step m number to.text) stands given taken → taken ≡ Some cause
-          → HasPut written handed old mid (texts_taken given taken) → HasPutPart written handed mid new (rules.refusal number cause ∷ [])
-          → HasPutPart written handed old new (texts_until rules (closing rules) m from.number lines)
-      line_refused_in_part number old mid new given taken cause g h e put part =
+      line_refused : (number : ℕ) (old new : K) (given : List (List ℕ)) (cause : C) → IsGiven number from to left left' → IsOutcome (rules.step m number to.text) stands given (Some cause)
+          → HasPut written handed old new (rules.refusal number cause ∷ [])
+          → HasEnded written handed old new rules m from to left left' stands (endings.Refused number cause) lines
+      line_refused number old new given cause g h put =
           let f = first_line number g in
-          subst (λ ls. HasPutPart written handed old new (texts_until rules (closing rules) m from.number ls)) (sym f.1)
-          (refused_part_at old mid new (from.number + 1) (rules.step m (from.number + 1) to.text) given taken cause (λ after. texts_until rules (closing rules) after (from.number + 1) f.0)
-          (subst (λ n. IsOutcome (rules.step m n to.text) stands given taken) g.number_is h) e put (subst (λ n. HasPutPart written handed mid new (rules.refusal n cause ∷ [])) g.number_is part))
-
-      pub line_refused : (number : ℕ) (old mid new : K) (given : List (List ℕ)) (taken : Option C) (cause : C) (ending : Ending C) → IsGiven number from to left left' → IsOutcome (rules.step m number to.text) stands given taken → taken ≡ Some cause
-          → HasPut written handed old mid (texts_taken given taken) → HasPut written handed mid new (rules.refusal number cause ∷ []) → ending ≡ endings.Refused number cause
-          → HasEnded written handed old new rules m from to left left' stands ending lines
-      line_refused number old mid new given taken cause ending g h e put last is =
-          let f = first_line number g in
-          let r = refused_at old mid new (from.number + 1) (rules.step m (from.number + 1) to.text) given taken cause (λ after. texts_until rules (closing rules) after (from.number + 1) f.0)
+          let r = refused_at old new (from.number + 1) (rules.step m (from.number + 1) to.text) given cause (λ after. texts_until rules (closing rules) after (from.number + 1) f.0)
           (λ after. ending_after rules after (from.number + 1) f.0)
-          (subst (λ n. IsOutcome (rules.step m n to.text) stands given taken) g.number_is h) e put (subst (λ n. HasPut written handed mid new (rules.refusal n cause ∷ [])) g.number_is last) in
+          (subst (λ n. IsOutcome (rules.step m n to.text) stands given (Some cause)) g.number_is h) (subst (λ n. HasPut written handed old new (rules.refusal n cause ∷ [])) g.number_is put) in
           record {
             put = subst (λ ls. HasPut written handed old new (texts_until rules (closing rules) m from.number ls)) (sym f.1) r.0;
-            ends = is ∙ (ap (λ n. endings.Refused n cause) g.number_is ∙ (r.1 ∙ ap (ending_after rules m from.number) (sym f.1)));
-            last = λ whole. absurd (never_whole ending number cause is whole);
+            ends = ap (λ n. endings.Refused n cause) g.number_is ∙ (r.1 ∙ ap (ending_after rules m from.number) (sym f.1));
+            last = λ whole. absurd whole;
           }
 
       -- the reader refused the line
@@ -160,39 +130,38 @@ module _ {K : Type 0} (written : K → Option (List ℕ)) (handed : K → Option
         nothing : lines ≡ []
         nothing = none_left from to left left' lines g told
 
-        pub end_in_part : (old new : K) (given : List (List ℕ)) (taken : Option C) → IsOutcome (rules.close m count) stands given taken → HasPutPart written handed old new (texts_taken given taken)
+        pub end_in_part : (old new : K) (given : List (List ℕ)) (found : Option C) → IsOutcome (rules.close m count) stands given found
+            → HasPutPart written handed old new (texts_found (rules.refusal (count + 1)) given found)
             → HasPutPart written handed old new (texts_until rules (closing rules) m from.number lines)
-        end_in_part old new given taken h part =
+        end_in_part old new given found h part =
             subst (λ ls. HasPutPart written handed old new (texts_until rules (closing rules) m from.number ls)) (sym nothing)
-            (part_at old new (from.number + 1) (rules.close m from.number) given taken (λ after. []) (subst (λ n. IsOutcome (rules.close m n) stands given taken) (sym same) h) part)
+            (part_at old new (from.number + 1) (rules.close m from.number) given found (λ after. []) (subst (λ n. IsOutcome (rules.close m n) stands given found) (sym same) h)
+            (subst (λ n. HasPutPart written handed old new (texts_found (rules.refusal (n + 1)) given found)) (sym same) part))
 
-        pub end_refused_in_part : (old mid new : K) (given : List (List ℕ)) (taken : Option C) (cause : C) → IsOutcome (rules.close m count) stands given taken → taken ≡ Some cause
-            → HasPut written handed old mid (texts_taken given taken) → HasPutPart written handed mid new (rules.refusal (count + 1) cause ∷ [])
-            → HasPutPart written handed old new (texts_until rules (closing rules) m from.number lines)
-        end_refused_in_part old mid new given taken cause h e put part =
-            subst (λ ls. HasPutPart written handed old new (texts_until rules (closing rules) m from.number ls)) (sym nothing)
-            (refused_part_at old mid new (from.number + 1) (rules.close m from.number) given taken cause (λ after. []) (subst (λ n. IsOutcome (rules.close m n) stands given taken) (sym same) h) e put
-            (subst (λ n. HasPutPart written handed mid new (rules.refusal (n + 1) cause ∷ [])) (sym same) part))
-
-        pub end_refused : (old mid new : K) (given : List (List ℕ)) (taken : Option C) (cause : C) (ending : Ending C) → IsOutcome (rules.close m count) stands given taken → taken ≡ Some cause
-            → HasPut written handed old mid (texts_taken given taken) → HasPut written handed mid new (rules.refusal (count + 1) cause ∷ []) → ending ≡ endings.Refused (count + 1) cause
-            → HasEnded written handed old new rules m from to left left' stands ending lines
-        end_refused old mid new given taken cause ending h e put last is =
-            let r = refused_at old mid new (from.number + 1) (rules.close m from.number) given taken cause (λ after. []) (λ after. endings.Whole from.number)
-            (subst (λ n. IsOutcome (rules.close m n) stands given taken) (sym same) h) e put (subst (λ n. HasPut written handed mid new (rules.refusal (n + 1) cause ∷ [])) (sym same) last) in
+        -- it is refused, or whole
+        pub end_put : (old new : K) (given : List (List ℕ)) (found : Option C) → IsOutcome (rules.close m count) stands given found
+            → HasPut written handed old new (texts_found (rules.refusal (count + 1)) given found)
+            → HasEnded written handed old new rules m from to left left' stands (unwrap_or (option_map (endings.Refused (count + 1)) found) (endings.Whole count)) lines
+        end_put old new given (Some cause) h put =
+            let r = refused_at old new (from.number + 1) (rules.close m from.number) given cause (λ after. []) (λ after. endings.Whole from.number)
+            (subst (λ n. IsOutcome (rules.close m n) stands given (Some cause)) (sym same) h) (subst (λ n. HasPut written handed old new (rules.refusal (n + 1) cause ∷ [])) (sym same) put) in
             record {
               put = subst (λ ls. HasPut written handed old new (texts_until rules (closing rules) m from.number ls)) (sym nothing) r.0;
-              ends = is ∙ (ap (λ n. endings.Refused (n + 1) cause) (sym same) ∙ (r.1 ∙ ap (ending_after rules m from.number) (sym nothing)));
-              last = λ whole. absurd (never_whole ending (count + 1) cause is whole);
+              ends = ap (λ n. endings.Refused (n + 1) cause) (sym same) ∙ (r.1 ∙ ap (ending_after rules m from.number) (sym nothing));
+              last = λ whole. absurd whole;
             }
-
-        pub end_whole : (old new : K) (given : List (List ℕ)) (taken : Option C) → IsOutcome (rules.close m count) stands given taken → taken ≡ None → HasPut written handed old new (texts_taken given taken)
-            → HasEnded written handed old new rules m from to left left' stands (endings.Whole count) lines
-        end_whole old new given taken h e put =
-            let r = closed_at old new (from.number + 1) (rules.close m from.number) given taken (endings.Whole from.number) (subst (λ n. IsOutcome (rules.close m n) stands given taken) (sym same) h) e put in
+        end_put old new given None h put =
+            let r = closed_at old new (from.number + 1) (rules.close m from.number) given (endings.Whole from.number) (subst (λ n. IsOutcome (rules.close m n) stands given None) (sym same) h) put in
             record {
               put = subst (λ ls. HasPut written handed old new (texts_until rules (closing rules) m from.number ls)) (sym nothing) r.0;
               ends = ap endings.Whole (sym same) ∙ (r.1 ∙ ap (ending_after rules m from.number) (sym nothing));
               last = λ whole. subst (λ ls. IfSome (meaning_after rules m from.number ls) stands) (sym nothing)
-                  (meaning_closed_at (rules.close m from.number) given taken (subst (λ n. IsOutcome (rules.close m n) stands given taken) (sym same) h));
+                  (meaning_closed_at (rules.close m from.number) given None (subst (λ n. IsOutcome (rules.close m n) stands given None) (sym same) h));
             }
+
+    -- what a line came to
+    pub line_put : (number : ℕ) (old new : K) (given : List (List ℕ)) (found : Option C) → IsGiven number from to left left' → IsOutcome (rules.step m number to.text) stands given found
+        → HasPut written handed old new (texts_found (rules.refusal number) given found)
+        → HasStepped written handed old new rules m from to left left' stands (option_map (endings.Refused number) found)
+    line_put number old new given None g h put = goes number old new given g h put
+    line_put number old new given (Some cause) g h put = λ lines told. line_refused lines told number old new given cause g h put

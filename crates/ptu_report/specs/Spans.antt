@@ -1,5 +1,5 @@
 -- Texts that stand one behind the other in octets.
-use Rattle.std.specs.{Prelude.{ℕ, ◌≡◌, ◌≤◌, List, map, length, slice_range}, List.{AllByRecursion}}
+use Rattle.std.specs.{Prelude.{ℕ, ◌≤◌, List, map, length, slice_range}, List.{AllByRecursion}}
 use Rattle.ptu_report.specs.declared.span.Span.{Span}
 
 -- the octets of a span

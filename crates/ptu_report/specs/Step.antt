@@ -6,10 +6,10 @@ use Rattle.ptu_report.specs.declared.ending.Ending.{Ending}
 use Rattle.ptu_report.specs.declared.ending.Ending.TheVariants as endings
 use Rattle.ptu_report.specs.Rules.{Rules, Goes, closing, texts_until, ending_after, meaning_after}
 
--- the texts of a line that is not refused
-abbrev pub texts_taken : {C : Type 0} → List (List ℕ) → Option C → List (List ℕ)
-texts_taken given None = given
-texts_taken given (Some cause) = []
+-- the texts of what a line or the end came to: those that it gave, or the one that names it as refused
+abbrev pub texts_found : {C : Type 0} → (C → List ℕ) → List (List ℕ) → Option C → List (List ℕ)
+texts_found refusal given None = given
+texts_found refusal given (Some cause) = refusal cause ∷ []
 
 -- it is the whole one
 abbrev pub is_whole : {C : Type 0} → Ending C → Type 0

@@ -8,7 +8,7 @@ ghost use Rattle.ptu_lines.specs.Reading.{octets_taken, lines_left, AgreesOnEnd,
 ghost use Rattle.ptu_report.specs.Rules.{closing, meaning_of, texts_of, texts_until};
 ghost use Rattle.ptu_report.specs.{Runs.{IsReadWithin}, Stops.{CountsRead, CountsWrite}};
 ghost use Rattle.ptu_report.specs.Reported.{HasReported, HasReportedAllRead};
-ghost use Rattle.ptu_report.specs.Step.{texts_taken, is_whole, HasStepped};
+ghost use Rattle.ptu_report.specs.Step.{texts_found, is_whole, HasStepped};
 
 use crate::ending::Ending;
 use crate::reporter::Reporter;
@@ -44,21 +44,6 @@ fn put_all<K: Sink>(sink: &mut K, texts: &Texts) -> Result<(), Stop>
     Ok(())
 }
 
-// The texts of a line that is not refused.
-fn put_taken<C, K: Sink>(sink: &mut K, texts: &Texts, refused: &Option<C>) -> Result<(), Stop>
-    ensures whole { OnOk result (HasPut K.written K.handed sink.old sink.new
-        (texts_taken texts.now refused.now)) }
-    ensures part { OnErr result (HasPutPart K.written K.handed sink.old sink.new
-        (texts_taken texts.now refused.now)) }
-    ensures cause { IfErr result (λ stop. stop ≡ Stop.Write) }
-    ensures counts { CountsWrite result (K.faults sink.old) (K.faults sink.new) }
-{
-    match refused {
-        None => put_all(sink, texts),
-        Some(_) => Ok(()),
-    }
-}
-
 // Names a line as refused, which ends the output.
 fn refuse<R: Reporter, K: Sink>(
     sink: &mut K,
@@ -78,6 +63,31 @@ fn refuse<R: Reporter, K: Sink>(
     R::refuse(number, &cause, texts)?;
     put_all(sink, texts)?;
     Ok(Ending::Refused { number, cause })
+}
+
+// Hands on what a line or the end came to: its texts, or the text that names it as refused, which
+// ends the output.
+fn put_found<R: Reporter, K: Sink>(
+    sink: &mut K,
+    number: u64,
+    refused: Option<R::Cause>,
+    texts: &mut Texts,
+) -> Result<Option<Ending<R::Cause>>, Stop>
+    ensures ending { IfOk result (λ ended. ended ≡ option_map (Ending.Refused number) refused) }
+    ensures whole { OnOk result (HasPut K.written K.handed sink.old sink.new
+        (texts_found (R.rules.refusal number) texts.old refused)) }
+    ensures part { OnErr result (HasPutPart K.written K.handed sink.old sink.new
+        (texts_found (R.rules.refusal number) texts.old refused)) }
+    ensures cause { IfErr result (λ stop. stop ≢ Stop.Read) }
+    ensures counts { CountsWrite result (K.faults sink.old) (K.faults sink.new) }
+{
+    match refused {
+        None => {
+            put_all(sink, texts)?;
+            Ok(None)
+        }
+        Some(cause) => Ok(Some(refuse::<R, K>(sink, number, cause, texts)?)),
+    }
 }
 
 // Reads one line more and reports it; or the end, or a refused line, which is the last one.
@@ -122,20 +132,13 @@ fn one_line<R: Reporter, S: Source, K: Sink>(
         Ok(Some(number)) => {
             texts.clear();
             let refused = reporter.take(alloc, number, reader.text(), texts)?;
-            put_taken(sink, texts, &refused)?;
-            match refused {
-                None => Ok(None),
-                Some(cause) => Ok(Some(refuse::<R, K>(sink, number, cause, texts)?)),
-            }
+            put_found::<R, K>(sink, number, refused, texts)
         }
         Ok(None) => {
             texts.clear();
             let refused = reporter.close(alloc, lines, texts)?;
-            put_taken(sink, texts, &refused)?;
-            match refused {
-                None => Ok(Some(Ending::Whole { lines })),
-                Some(cause) => Ok(Some(refuse::<R, K>(sink, lines + 1, cause, texts)?)),
-            }
+            let ended = put_found::<R, K>(sink, lines + 1, refused, texts)?;
+            Ok(Some(ended.unwrap_or(Ending::Whole { lines })))
         }
         Err(LinesFault::Line { number, cause }) => {
             let cause = R::cause_of(cause);
