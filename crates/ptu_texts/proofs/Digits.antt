@@ -1,13 +1,8 @@
--- The digits of octets in a row.
-use Rattle.std.proofs.Common.{◌≡◌, ℕ, ◌/◌, ◌%◌, List, [], ◌∷◌, ◌++◌, true, nat_lt, slice_index, refl, ap}
+-- The digits of octets are ASCII.
+use Rattle.std.proofs.Common.{◌≡◌, ℕ, List, [], ◌∷◌, true, nat_lt, refl}
 use Rattle.std.specs.{List.{list_all}, Str.{IsAscii}}
 use Rattle.std.proofs.lemmas.{Bool.{and_parts, ltb-true}, Str.Ascii.{IsAscii-nil, IsAscii-cons}}
-use Rattle.hex.specs.Hex.{encode_lower, encode_with, lower_digits}
-
-pub encode_lower-append : (xs ys : List ℕ) → encode_lower (xs ++ ys) ≡ encode_lower xs ++ encode_lower ys
-unfolding encode_with
-encode_lower-append [] ys = refl
-encode_lower-append (x ∷ xs) ys = ap (λ l. slice_index lower_digits (x / 16) ∷ slice_index lower_digits (x % 16) ∷ l) (encode_lower-append xs ys)
+use Rattle.hex.specs.Hex.{lower_digits}
 
 all_below : (bs : List ℕ) → list_all (λ b. nat_lt b 128) bs ≡ true → IsAscii bs
 all_below [] h = IsAscii-nil

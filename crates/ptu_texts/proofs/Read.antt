@@ -14,7 +14,7 @@ use Rattle.ptu_octets.proofs.Numbers.{length-octets_of, number_at-octets_of}
 use Rattle.ptu_lines.specs.Words.{address_of, clock_of, ip_of, number_within, octets_of, within}
 use Rattle.ptu_lines.proofs.{Digits.{list_all-digits}, Numbers.{number_of-decimal}}
 use Rattle.ptu_texts.specs.Texts.{address_text, clock_text}
-use Rattle.ptu_texts.proofs.Digits.{encode_lower-append}
+use Rattle.ptu_writing.proofs.Encoded.{encode_lower-append}
 
 -- octets from `0` to `f`, among which the digits of both bases are
 abbrev pub AreGlyphs : List ℕ → Type 0
@@ -163,7 +163,8 @@ encoded_value xs h (suc count) le =
     ∙ ap (λ n. n * 16 + digit_value low) (digits_value_push 16 front high)
     ∙ omega (arith, before, high_digit x (h count), low_digit x, ap (λ (k : ℕ). get_or xs k 0) (zero-add count))
 
-octets_bytes : (count n : ℕ) → IsBytes (numbers.octets_of count n)
+-- the octets of a number are octets
+pub octets_bytes : (count n : ℕ) → IsBytes (numbers.octets_of count n)
 octets_bytes zero n i = omega arith
 octets_bytes (suc zero) n zero = omega arith
 octets_bytes (suc (suc count)) n zero = omega arith

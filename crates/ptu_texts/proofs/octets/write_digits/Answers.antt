@@ -3,7 +3,7 @@ use Rattle.std.proofs.Output.{has_written_append, has_written_of_eq}
 use Rattle.std.proofs.lemmas.List.{nil_from_length}
 use Rattle.std.specs.Slice.Iter.{chunks_rest}
 use Rattle.hex.specs.Hex.{encode_lower, encode_with}
-use Rattle.ptu_texts.proofs.Digits.{encode_lower-append}
+use Rattle.ptu_writing.proofs.Encoded.{encode_lower-append}
 use Rattle.ptu_texts.proofs.octets.write_digits.Goals as goal
 
 pub loop-part-init : goal.loop-part-init
