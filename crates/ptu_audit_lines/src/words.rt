@@ -108,7 +108,11 @@ pub fn log_outside_field(line: &WordList, k: usize, kind: Kind) -> Option<i8>
 fn is_lower(word: &[u8]) -> bool
     ensures { result ≡ forms.is_lower word.now }
 {
-    word.iter().all(|octet| !(65 <= *octet && *octet <= 90))
+    let mut is_lower = true;
+    for octet in word {
+        is_lower &= !(65 <= *octet && *octet <= 90);
+    }
+    is_lower
 }
 
 fn hex_of<'a>(word: &[u8], buffer: &'a mut [u8; LONGEST_DATAGRAM]) -> Option<LentOctets<'a>>
