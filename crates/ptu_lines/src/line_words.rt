@@ -60,7 +60,7 @@ const MOST_WORDS: usize = 16;
 #[derive(Drop)]
 pub struct WordList<'a> {
     line: &'a [u8],
-    ends: [usize; 16],
+    ends: [usize; MOST_WORDS],
     count: usize,
 }
 
@@ -76,7 +76,7 @@ impl<'a> Model for WordList<'a> {
 }
 
 // Keeps the end of the word at a place, if it is one of the first sixteen.
-fn keep_end(ends: &mut [usize; 16], place: usize, end: usize)
+fn keep_end(ends: &mut [usize; MOST_WORDS], place: usize, end: usize)
     ensures kept { place < 16 → slice_index ends.new place ≡ end }
     ensures before { (k : ℕ) → k < place → slice_index ends.new k ≡ slice_index ends.old k }
 {
@@ -86,7 +86,7 @@ fn keep_end(ends: &mut [usize; 16], place: usize, end: usize)
 }
 
 // The ends of the first words of a line, and how many words it has.
-fn ends(line: &[u8]) -> ([usize; 16], usize)
+fn ends(line: &[u8]) -> ([usize; MOST_WORDS], usize)
     ensures { HasEnds line.now result.0 result.1 }
 {
     let mut ends = [0; MOST_WORDS];

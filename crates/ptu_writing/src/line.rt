@@ -17,7 +17,7 @@ const ROOM: usize = 160;
 /// may come before that.
 #[derive(Drop)]
 pub struct LineText {
-    octets: [u8; 160],
+    octets: [u8; ROOM],
     at: usize,
 }
 
