@@ -63,6 +63,35 @@ test_agreement() {
     fi
 }
 
+# Whether a client is served by a program whose user may have so many processes, of which it is the only one: with 1 the
+# first thread is refused, with 2 the second, and so on. What is sent beside the replies to its asks are messages.
+serves_within() {
+    local said client
+    "$program" slave <"$room/client.toml" >/dev/null 2>&1 &
+    client=$!
+    said=$("${as_other[@]}" prlimit --nproc="$1:$1" "$program" serve <"$room/threads.toml" 2>&1)
+    kill "$client" 2>/dev/null
+    wait "$client" 2>/dev/null
+    [[ $said =~ ^rounds\ 400\ sent\ ([0-9]+)\ failed\ 0\ granted\ [23]\ refused\ 0\ held\ [0-9]+$ ]] &&
+        ((BASH_REMATCH[1] > 9))
+}
+
+# Where the system refuses a thread, all is served on one thread.
+test_refused_threads() {
+    local most
+    local -a as_other=(setpriv --reuid=64321 --regid=64321 --clear-groups)
+    if ! has prlimit || ! "${as_other[@]}" test -x "$program" 2>/dev/null; then
+        skip "a refused thread: prlimit or setpriv is not here, or may not, or others may not read $program"
+        return
+    fi
+    settings_with "$room/threads.toml" "senders = 4" "rounds = 400"
+    settings_with "$room/client.toml" "ip = \"$beside\"" 'clock = "00b0aefffe000010"' "rounds = 100000" "capacity "
+    printf '%s\n' "log_announce = -3" '[[masters]]' "ip = \"$address\"" "priority = 1" >>"$room/client.toml"
+    for most in 1 2 3 4 5; do
+        holds "a client is served though thread $most is refused" serves_within "$most"
+    done
+}
+
 test_program() {
     local it words
     if [ -z "$program" ]; then
@@ -90,4 +119,5 @@ test_program() {
         says "the program is served by the launcher, two_step = $it" 0 "rounds 1 sent 0 failed 0" \
             "$room/ptpuni-serve" --once --program "$program" "$room/real.toml"
     done
+    test_refused_threads
 }

@@ -1,5 +1,5 @@
 -- What a call that serves has done with the ports and clocks that it opened.
-use Rattle.std.specs.Prelude.{◌≡◌, ◌≤◌, ℕ, List, map, Option, Some, IsSome, IfSome}
+use Rattle.std.specs.Prelude.{◌≡◌, ◌≤◌, ◌⊎◌, ℕ, List, map, Option, Some, IsSome, IfSome}
 use Rattle.ptu_outside.specs.declared.{arrival.Arrival.{Arrival}, clock.Clock.{Ghosts as Clocks}}
 use Rattle.ptu_outside.specs.declared.{opened.Opened.{Opened}, port.Port.{Ghosts as Ports}}
 use Rattle.ptu_outside.specs.Telling.{IfTold}
@@ -85,6 +85,11 @@ pub record Serves {P C : Type 0} (ports : Ports P) (clocks : Clocks C) (settings
   pub c4 : closed.c4 ≡ opened.c4
   pub c5 : closed.c5 ≡ opened.c5
 
+-- likewise: lanes served it, or where a lane is refused its thread, it is served on one thread, as where there are no lanes
+abbrev pub ServesEitherWay : {P C : Type 0} → Ports P → Clocks C → GmSettings → Opened P C → Opened P C → Said → Type 0
+ServesEitherWay ports clocks settings opened closed said =
+    ServesByLanes ports clocks settings (config_of settings) opened closed (numbers_in said) ⊎ Serves ports clocks settings opened closed said
+
 -- likewise, where a host that told that it opens `opening` tells that it was given `back`: on one thread, or by lanes
 pub record HasServed {P C : Type 0} (ports : Ports P) (clocks : Clocks C) (settings : GmSettings) (opening back : Option (Opened P C)) (said : Said) : Type 0 where
   pub opened : Opened P C
@@ -92,5 +97,4 @@ pub record HasServed {P C : Type 0} (ports : Ports P) (clocks : Clocks C) (setti
   pub opens : IfSome opening (λ told. opened ≡ told)
   pub gives_back : IfTold back (Some closed)
   pub serves : settings.senders ≡ 0 → Serves ports clocks settings opened closed said
-  pub by_lanes : 1 ≤ settings.senders →
-      ServesByLanes ports clocks settings (config_of settings) opened closed (numbers_in said)
+  pub by_lanes : 1 ≤ settings.senders → ServesEitherWay ports clocks settings opened closed said

@@ -14,5 +14,5 @@ mod two_steps;
 
 pub use laws::{sends_are_lawful, sends_no_half};
 pub use ptu_rounds::DaemonFault;
-pub use serving::serve;
+pub use serving::{serve, serve_within};
 pub use two_steps::serve_in_two_steps;

@@ -4,16 +4,16 @@ ghost use Rattle.std.specs.Prelude.{◌≡◌, ◌≤◌, ◌∷◌, [], IfOk, I
 ghost use Rattle.ptu_outside.specs.{Faults.{HasRisen}, Handing.{HasPut, HasPutFront}};
 ghost use Rattle.ptu_profile.specs.Grandmaster.{IsWithinLimits};
 ghost use Rattle.ptu_config.specs.Limits.{IsGmInRange};
-ghost use Rattle.ptu_lanes.specs.Served.{ServesByLanes};
+ghost use Rattle.ptu_lanes.specs.Served.{numbers_of};
 ghost use Rattle.ptu_daemon.specs.{Answers.{HasAnswered}, Events.{config_of}};
-ghost use Rattle.ptu_daemon.specs.{Served.{numbers_in, said_by}, Serving.{HasServed, Serves}};
+ghost use Rattle.ptu_daemon.specs.{Served.{numbers_in, said_by}, Serving.{HasServed, Serves, ServesEitherWay}};
 
 use crate::closing::{Closing, closing_text};
 use crate::daemon::Daemon;
 use ptu_config::GmSettings;
 use ptu_grandmaster::Gm;
 use ptu_header::PortIdentity;
-use ptu_lanes::serve_lanes;
+use ptu_lanes::{Ended, Totals, serve_lanes_within};
 use ptu_outside::{Clock, Host, Opened, Port, Sink, write_whole};
 use ptu_profile::GmConfig;
 use ptu_rounds::DaemonFault;
@@ -21,6 +21,21 @@ use ptu_units::OutOfMemory;
 use std::alloc::Global;
 use std::sync::Wait;
 use std::thread::Threads;
+
+// The numbers of the last line after these rounds by lanes.
+fn closing_of(settings: &GmSettings, totals: &Totals) -> Closing
+    ensures rounds { result.rounds ≡ settings.now.rounds }
+    ensures numbers { numbers_in (said_by result) ≡ numbers_of totals.now }
+{
+    Closing {
+        rounds: settings.rounds,
+        sent: totals.sent,
+        failed: totals.failed,
+        granted: totals.granted,
+        refused: totals.refused,
+        held: totals.held,
+    }
+}
 
 // How the grandmaster is set up.
 fn config(settings: &GmSettings) -> GmConfig
@@ -40,29 +55,27 @@ fn config(settings: &GmSettings) -> GmConfig
     }
 }
 
-// Serves over these ports and clocks by lanes. Gives them back, with the numbers of the last line.
+// Serves over these ports and clocks by lanes, with at most so many threads beside this one; or on
+// this thread, as where there are no lanes, where one is refused its thread. Gives them back, with
+// the numbers of the last line.
 fn serve_by_lanes<P: Port + Send, C: Clock + Send, W: Threads + Wait + Sync>(
     rt: &W,
     alloc: Global,
+    threads: usize,
     settings: &GmSettings,
     opened: Opened<P, C>,
 ) -> Result<(Opened<P, C>, Closing), OutOfMemory>
     requires range { IsGmInRange settings.now }
     requires senders { 1 ≤ settings.now.senders }
     ensures rounds { IfOk result (λ r. r.1.rounds ≡ settings.now.rounds) }
-    ensures serves { IfOk result (λ r. ServesByLanes P.Port C.Clock settings.now
-        (config_of settings.now) opened r.0 (numbers_in (said_by r.1))) }
+    ensures serves { IfOk result (λ r.
+        ServesEitherWay P.Port C.Clock settings.now opened r.0 (said_by r.1)) }
 {
-    let (back, totals) = serve_lanes(rt, alloc, settings, &config(settings), opened)?;
-    let closing = Closing {
-        rounds: settings.rounds,
-        sent: totals.sent,
-        failed: totals.failed,
-        granted: totals.granted,
-        refused: totals.refused,
-        held: totals.held,
-    };
-    Ok((back, closing))
+    let config = config(settings);
+    match serve_lanes_within(rt, alloc, threads, settings, &config, opened)? {
+        Ended::Served(back, totals) => Ok((back, closing_of(settings, &totals))),
+        Ended::Refused(opened) => serve_rounds(alloc, settings, opened),
+    }
 }
 
 // Serves over these ports and clocks on one thread. Gives them back, with the numbers of the last
@@ -115,11 +128,12 @@ fn serve_rounds<P: Port, C: Clock>(
     Ok((back, closing))
 }
 
-// Serves over these ports and clocks, on one thread or by lanes. Gives them back, with the numbers
-// of the last line.
+// Serves over these ports and clocks, on one thread or by lanes, with at most so many threads beside
+// this one. Gives them back, with the numbers of the last line.
 fn serve_over<P: Port + Send, C: Clock + Send, W: Threads + Wait + Sync>(
     rt: &W,
     alloc: Global,
+    threads: usize,
     settings: &GmSettings,
     opened: Opened<P, C>,
 ) -> Result<(Opened<P, C>, Closing), OutOfMemory>
@@ -128,13 +142,12 @@ fn serve_over<P: Port + Send, C: Clock + Send, W: Threads + Wait + Sync>(
     ensures serves { IfOk result (λ r. settings.now.senders ≡ 0
         → Serves P.Port C.Clock settings.now opened r.0 (said_by r.1)) }
     ensures by_lanes { IfOk result (λ r. 1 ≤ settings.now.senders
-        → ServesByLanes P.Port C.Clock settings.now
-        (config_of settings.now) opened r.0 (numbers_in (said_by r.1))) }
+        → ServesEitherWay P.Port C.Clock settings.now opened r.0 (said_by r.1)) }
 {
     if settings.senders == 0 {
         serve_rounds(alloc, settings, opened)
     } else {
-        serve_by_lanes(rt, alloc, settings, opened)
+        serve_by_lanes(rt, alloc, threads, settings, opened)
     }
 }
 
@@ -152,6 +165,36 @@ fn put<K: Sink>(sink: &mut K, text: &str) -> Result<(), DaemonFault>
     }
 }
 
+/// Serves a grandmaster as `serve` does, with at most so many threads beside this one. One more is
+/// refused, as where the system refuses it.
+///
+/// # Errors
+/// As `serve`.
+pub fn serve_within<W: Threads + Wait + Sync, H: Host, K: Sink>(
+    rt: &W,
+    alloc: Global,
+    threads: usize,
+    settings: &GmSettings,
+    host: &mut H,
+    sink: &mut K,
+) -> Result<(), DaemonFault>
+    requires range { IsGmInRange settings.now }
+    // What was served and written; the host was opened at the settings' address and ports.
+    ensures answer { HasAnswered K.Sink sink.old sink.new (H.faults host.old) (H.faults host.new)
+        (H.opened_at host.new) settings.now (λ said. HasServed H.P.Port H.C.Clock settings.now
+        (H.opening host.old) (H.back host.new) said) result }
+    // It stands on what it stood on.
+    ensures name { H.name host.new ≡ H.name host.old }
+{
+    let Ok(opened) = host.open(settings.ip, settings.event_port, settings.general_port) else {
+        return Err(DaemonFault::Open);
+    };
+    let (back, closing) = serve_over(rt, alloc, threads, settings, opened)?;
+    let text = closing_text(alloc, &closing)?;
+    host.close(back);
+    put(sink, text.as_str())
+}
+
 /// Serves a grandmaster of these settings over the ports and clocks of the host, in rounds, and
 /// then writes one line: `rounds R sent S failed F granted G refused U held H`.
 ///
@@ -164,7 +207,8 @@ fn put<K: Sink>(sink: &mut K, text: &str) -> Result<(), DaemonFault>
 /// So it is on this thread where `senders` is 0. A round ends there with a wait of port 5, until a
 /// datagram is there or a message may be due. Else the channels and the tables are served side by
 /// side in each round, by lanes of which `senders` turn the tables, and each lane takes moments of
-/// a clock of its own (`serve_lanes`).
+/// a clock of its own (`serve_lanes`). Their threads are made before the first datagram is taken:
+/// where the system refuses one, all is served on this thread, as where `senders` is 0.
 ///
 /// # Errors
 /// `Open` where the host does not open; `Write` where the sink does not take the line; and
@@ -184,11 +228,5 @@ pub fn serve<W: Threads + Wait + Sync, H: Host, K: Sink>(
     // It stands on what it stood on.
     ensures name { H.name host.new ≡ H.name host.old }
 {
-    let Ok(opened) = host.open(settings.ip, settings.event_port, settings.general_port) else {
-        return Err(DaemonFault::Open);
-    };
-    let (back, closing) = serve_over(rt, alloc, settings, opened)?;
-    let text = closing_text(alloc, &closing)?;
-    host.close(back);
-    put(sink, text.as_str())
+    serve_within(rt, alloc, usize::MAX, settings, host, sink)
 }

@@ -10,7 +10,6 @@ use Rattle.ptu_outside.specs.Telling.{IfTold}
 use Rattle.ptu_outside.proofs.Telling.{IfTold-refl}
 use Rattle.ptu_outside.specs.{Faults.{HasRisen, HasNotFallen}, HandsOver.{HandsOver}}
 use Rattle.ptu_outside.proofs.HandsOver.{goes_on_both, none_failed, not_fallen_both, rises_first, rises_second, told_both}
-use Rattle.ptu_outside.proofs.Told.{HasRisenBy-after, HasRisenBy-before}
 use Rattle.ptu_history.specs.declared.client.Client.{Client}
 use Rattle.ptu_profile.specs.declared.grandmaster.GmConfig.{GmConfig}
 use Rattle.ptu_shared.specs.{Opening.{HaveFailed, Seen, seen_of}, Seats.{Counts, no_verdicts}}
@@ -19,12 +18,13 @@ use Rattle.ptu_gm_messages.specs.Replies.{cancels_to}
 use Rattle.ptu_config.specs.declared.settings.GmSettings.{GmSettings}
 use Rattle.ptu_lanes.specs.Answers.{asks_among, grants_among}
 use Rattle.ptu_rounds.specs.Ports.{HaveRisenBy, HaveRisenJust}
-use Rattle.ptu_lanes.specs.declared.{lanes.SendingLanes.{SendingLanes}, serving.Totals.{Totals}}
+use Rattle.ptu_lanes.specs.declared.{lanes.Lanes.{Lanes}, serving.Totals.{Totals}}
+use Rattle.ptu_lanes.specs.Crew.{LanesServed, ServedSignaling}
 use Rattle.ptu_lanes.specs.Rounds.{Exchange, Exchanged, IsAnswered, asks_in, datagrams, grants_in, items_of, replies}
-use Rattle.ptu_lanes.specs.{Sending.{GoesOn, WasSent}, Waiting.{GaveFirst, PassedBy, Took}}
+use Rattle.ptu_lanes.specs.{Sending.{GoesOn, WasSent}, Waiting.{PassedBy}}
 use Rattle.ptu_lanes.specs.Changing.{change_moments, change_of, early_rounds, greatest_capacity, moments_to, rounds_before}
 use Rattle.ptu_lanes.specs.Served.{IsControlled, ServesByLanes, TablesAreBack, numbers_of, waits_of}
-use Rattle.ptu_lanes.specs.Stretches.{AreRounds, CountsFailures, HaveTurned, TookSignaling}
+use Rattle.ptu_lanes.specs.Stretches.{AreRounds, CountsFailures, TookSignaling}
 use Rattle.ptu_lanes.proofs.Exchanges.{exchanged-append, exchanged_nothing}
 use Rattle.ptu_lanes.proofs.Stretching.{counts_more, some_more, told_is}
 
@@ -205,21 +205,29 @@ failed_changed ports config p0 p1 p2 p3 f0 f1 f2 f3 none p (shed, sent, failed, 
     (counts_more ports.counts_once (ports.faults p1) (ports.faults p2) f1 failed f2 (failed_hands ports p1 p2 (cancels_to config 0 shed) sent failed hands) counted
     (ports.faults p0) (failed_from ports p0 p1 f0 f1 none p))
 
--- ---- the event channel
+-- ---- the lane that takes Signaling, in all rounds
 
-pub gave_more : (all e l : ℕ) (waiting middle left : Option (List Arrival)) (start old end : ℕ) → e + l ≡ all →
-    (¬ HasRisen start old → GaveFirst (64 * e) waiting middle) → HasNotFallen start old →
-    (¬ HasRisen old end → GaveFirst (64 * l) middle left) → HasNotFallen old end →
-    ¬ HasRisen start end → GaveFirst (64 * all) waiting left
-gave_more all e l waiting middle None start old end is p fall1 q fall2 still = tt
-gave_more all e l waiting None (Some later) start old end is p fall1 q fall2 still =
-    let gave = q (λ rises. still (HasRisenBy-before 1 start old end fall1.0 rises)) in
-    absurd (cc gave.1)
-gave_more all e l waiting (Some more) (Some later) start old end is p fall1 q fall2 still =
-    let gave = q (λ rises. still (HasRisenBy-before 1 start old end fall1.0 rises)) in
-    let before = p (λ rises. still (HasRisenBy-after 1 start old end fall2.0 rises)) in
-    let same : gave.0 ≡ drop (64 * e) before.0 = cc (gave.1, before.2) in
-    (before.0, before.1, gave.2 ∙ ap (drop (64 * l)) same ∙ drop_rounds all e l before.0 is)
+pub signaling_unchanged : {P C : Type 0} (ports : Ports P) (clocks : Clocks C) (settings : GmSettings) (config : GmConfig) (p0 p1 : P) (c0 c1 : C) (old new : Counts) (f0 f1 : ℕ) →
+    change_of settings ≡ None → old ≡ no_verdicts → f0 ≡ 0 → TookSignaling ports clocks config settings.rounds p0 p1 c0 c1 old new f0 f1 →
+    ServedSignaling ports clocks settings config p0 p1 c0 c1 new f1
+signaling_unchanged ports clocks settings config p0 p1 c0 c1 old new f0 f1 none fresh nothing took = record {
+  control = λ still. unchanged_controlled ports settings config p0 p1 old new none fresh (took.did still);
+  exchanged = exchanged_unchanged ports clocks settings config p0 p1 c0 c1 old new none fresh took.exchanged;
+  failed = failed_from ports p0 p1 f0 f1 nothing took.failures;
+}
+
+pub signaling_changed : {P C : Type 0} (ports : Ports P) (clocks : Clocks C) (settings : GmSettings) (config : GmConfig) (capacity e l : ℕ) (p0 p1 p2 p3 : P) (c0 c1 c2 c3 : C) (first seat next last : Counts) (f0 f1 f2 f3 : ℕ) →
+    change_of settings ≡ Some capacity → e ≡ settings.change_round - 1 → e + l ≡ settings.rounds → first ≡ no_verdicts → f0 ≡ 0 →
+    TookSignaling ports clocks config e p0 p1 c0 c1 first seat f0 f1 →
+    (shed : List (Client × Kind)) × (sent : ℕ) × (failed : ℕ) × HandsOver ports p1 p2 (cancels_to config 0 shed) sent failed
+    × (f2 ≡ min (f1 + failed) (2 ^ 64 - 1)) → PassedBy 1 (clocks.moments c1) (clocks.moments c2) → next ≡ seat →
+    TookSignaling ports clocks config l p2 p3 c2 c3 next last f2 f3 →
+    ServedSignaling ports clocks settings config p0 p3 c0 c3 last f3
+signaling_changed ports clocks settings config capacity e l p0 p1 p2 p3 c0 c1 c2 c3 first seat next last f0 f1 f2 f3 some early_is all_is fresh nothing p sends moved same q = record {
+  control = controlled_changed ports clocks settings config capacity e l p0 p1 p2 p3 c0 c1 c2 c3 first seat next last f0 f1 f2 f3 some early_is all_is fresh p sends same q;
+  exchanged = exchanged_changed ports clocks settings config capacity e l p0 p1 p2 p3 c0 c1 c2 c3 first seat next last f0 f1 f2 f3 some all_is fresh p sends moved same q;
+  failed = failed_changed ports config p0 p1 p2 p3 f0 f1 f2 f3 nothing p.failures sends q.failures;
+}
 
 -- ---- facts on what was answered
 
@@ -262,36 +270,30 @@ module _ (once : Bool) (n a b c d e f a0 b0 c0 d0 e0 f0 a1 b1 c1 d1 e1 f1 : ℕ)
       cc
 
 -- lanes at their end, whose ports, clocks and counts are those that are given back
-pub serves_by_lanes : {P C : Type 0} (ports : Ports P) (clocks : Clocks C) (settings : GmSettings) (config : GmConfig) (opened closed : Opened P C) (totals : Totals) (control event : P) (c0 c1 : C)
-    (begun turned : SendingLanes C) (counts : Counts) (failed missed most : ℕ) (seen : ℕ → Seen) →
-    most ≡ greatest_capacity settings →
+pub serves_by_lanes : {P C G R : Type 0} (ports : Ports P) (clocks : Clocks C) (settings : GmSettings) (config : GmConfig) (opened closed : Opened P C) (totals : Totals) (lanes : Lanes P C G R)
+    (most : ℕ) (seen : ℕ → Seen) → most ≡ greatest_capacity settings →
     (seen_of ports opened.p0 ≡ seen 0) × (seen_of ports opened.p1 ≡ seen 1) × (seen_of ports opened.p2 ≡ seen 2) × (seen_of ports opened.p3 ≡ seen 3) →
-    (begun.first.clock ≡ opened.c2) × (begun.second.clock ≡ opened.c3) × (begun.third.clock ≡ opened.c4) × (begun.fourth.clock ≡ opened.c5) →
-    (¬ HasRisen (ports.faults opened.p4) (ports.faults control) → IfSome (ports.waiting control) (λ left.
-    IsControlled ports settings config opened.p4 control left counts.granted counts.refused)) →
-    Exchanged ports clocks config (64 * settings.rounds) (change_moments settings) opened.p4 control opened.c0 c0 no_verdicts counts →
-    (¬ HasRisen (ports.faults opened.p5) (ports.faults event) → GaveFirst (64 * settings.rounds) (ports.waiting opened.p5) (ports.waiting event)) →
-    Took ports clocks (64 * settings.rounds) 0 opened.p5 event opened.c1 c1 →
-    ports.sent event ≡ ports.sent opened.p5 →
-    HaveTurned clocks settings.senders settings.rounds begun turned →
-    HaveFailed ports.counts_once failed (ports.faults opened.p4) (ports.faults control) → HaveFailed ports.counts_once missed (ports.faults opened.p5) (ports.faults event) →
-    (closed.p4 ≡ control) × (closed.p5 ≡ event) →
-    (closed.c0 ≡ c0) × (closed.c1 ≡ c1) × (closed.c2 ≡ turned.first.clock) × (closed.c3 ≡ turned.second.clock) × (closed.c4 ≡ turned.third.clock) × (closed.c5 ≡ turned.fourth.clock) →
-    TablesAreBack ports seen closed totals.failed failed missed →
-    (totals.granted ≡ counts.granted) × (totals.refused ≡ counts.refused) → totals.held ≤ most →
+    LanesServed ports clocks settings config opened lanes →
+    (closed.p4 ≡ lanes.control.port) × (closed.p5 ≡ lanes.event.port) →
+    (closed.c0 ≡ lanes.control.clock) × (closed.c1 ≡ lanes.event.clock) × (closed.c2 ≡ lanes.sending.first.clock) × (closed.c3 ≡ lanes.sending.second.clock)
+    × (closed.c4 ≡ lanes.sending.third.clock) × (closed.c5 ≡ lanes.sending.fourth.clock) →
+    TablesAreBack ports seen closed totals.failed lanes.control.tally.failed lanes.event.tally.failed →
+    (totals.granted ≡ lanes.control.seat.granted) × (totals.refused ≡ lanes.control.seat.refused) → totals.held ≤ most →
     ServesByLanes ports clocks settings config opened closed (numbers_of totals)
-serves_by_lanes ports clocks settings config opened closed totals control event c0 c1 begun turned counts failed missed most seen is opens begins controlled exchanged gave took unsent turns of_control of_event same moved back counted within =
+serves_by_lanes ports clocks settings config opened closed totals lanes most seen is opens did same moved back counted within =
+    let failed = lanes.control.tally.failed in
+    let missed = lanes.event.tally.failed in
     record {
       within = omega (arith, is, within);
-      control = rw (same.0, counted.0, counted.1) controlled;
-      exchanged = rw (same.0, moved.0, counted.0, counted.1) exchanged;
-      event = rw (same.1) gave;
-      took = rw (same.1, moved.1) took;
-      unsent = ap ports.sent same.1 ∙ unsent;
-      turned0 = rw (moved.2) (rw begins.0 at turns.first);
-      turned1 = rw (moved.3) (rw begins.1 at turns.second);
-      turned2 = rw (moved.4) (rw begins.2 at turns.third);
-      turned3 = rw (moved.5) (rw begins.3 at turns.fourth);
+      control = rw (same.0, counted.0, counted.1) did.control.control;
+      exchanged = rw (same.0, moved.0, counted.0, counted.1) did.control.exchanged;
+      event = rw (same.1) did.event.gave;
+      took = rw (same.1, moved.1) did.event.took;
+      unsent = ap ports.sent same.1 ∙ did.event.unsent;
+      turned0 = rw (moved.2) did.first;
+      turned1 = rw (moved.3) did.second;
+      turned2 = rw (moved.4) did.third;
+      turned3 = rw (moved.5) did.fourth;
       idle = still_idle ports opened closed seen opens back.waits;
       failed = six_risen ports.counts_once totals.failed back.of0 back.of1 back.of2 back.of3 failed missed _ _ _ _ _ _ _ _ _ _ _ _ back.all of_0 of_1 of_2 of_3 of_4 of_5;
       just = six_just ports.counts_once totals.failed back.of0 back.of1 back.of2 back.of3 failed missed _ _ _ _ _ _ _ _ _ _ _ _ back.all of_0 of_1 of_2 of_3 of_4 of_5;
@@ -310,8 +312,9 @@ serves_by_lanes ports clocks settings config opened closed totals control event 
     of_3 : HaveFailed ports.counts_once back.of3 (ports.faults opened.p3) (ports.faults closed.p3)
     of_3 = subst (λ n. HaveFailed ports.counts_once back.of3 n (ports.faults closed.p3)) (sym (ap (λ (s : Seen). s.faults) opens.3)) back.failed3
 
-    of_4 : HaveFailed ports.counts_once failed (ports.faults opened.p4) (ports.faults closed.p4)
-    of_4 = subst (λ p. HaveFailed ports.counts_once failed (ports.faults opened.p4) (ports.faults p)) (sym same.0) of_control
+    of_4 : HaveFailed ports.counts_once lanes.control.tally.failed (ports.faults opened.p4) (ports.faults closed.p4)
+    of_4 = subst (λ p. HaveFailed ports.counts_once lanes.control.tally.failed (ports.faults opened.p4) (ports.faults p)) (sym same.0) did.control.failed
 
-    of_5 : HaveFailed ports.counts_once missed (ports.faults opened.p5) (ports.faults closed.p5)
-    of_5 = subst (λ p. HaveFailed ports.counts_once missed (ports.faults opened.p5) (ports.faults p)) (sym same.1) of_event
+    of_5 : HaveFailed ports.counts_once lanes.event.tally.failed (ports.faults opened.p5) (ports.faults closed.p5)
+    of_5 = subst (λ p. HaveFailed ports.counts_once lanes.event.tally.failed (ports.faults opened.p5) (ports.faults p)) (sym same.1)
+        (failed_from ports opened.p5 lanes.event.port 0 lanes.event.tally.failed refl did.event.failures)

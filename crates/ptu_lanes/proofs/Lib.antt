@@ -4,3 +4,4 @@ mod Exchanges
 mod Taking
 mod Stretching
 mod Controlled
+mod Outcomes

@@ -5,9 +5,7 @@ use Rattle.std.proofs.Math.Nat.{mul-add}
 use Rattle.ptu_outside.specs.{Clocks.{after_first}, Telling.{IfTold}}
 use Rattle.ptu_outside.specs.declared.clock.Clock.{Ghosts as Clocks}
 use Rattle.ptu_rounds.specs.Rounds.{moments_after}
-use Rattle.ptu_lanes.specs.declared.lanes.SendingLanes.{SendingLanes}
 use Rattle.ptu_lanes.specs.Waiting.{PassedBy, TurnedOwn, own_below, own_tables}
-use Rattle.ptu_lanes.specs.Stretches.{HaveTurned}
 
 -- moments after two numbers of readings are those after their sum
 pub moments_add : (m n : ℕ) (moments : List ℕ) → moments_after (m + n) moments ≡ moments_after n (moments_after m moments)
@@ -56,13 +54,6 @@ module _ {C : Type 0} (clocks : Clocks C) (lanes lane : ℕ) where
       (sym (mul-add (own_tables lanes lane) rounds 1 ∙ one))
       (passed-append (own_tables lanes lane * rounds) (own_tables lanes lane) (clocks.moments old) (clocks.moments now) (clocks.moments new) p q)
 
-  pub turned-append : (all e l : ℕ) (old now new : C) → e + l ≡ all → TurnedOwn clocks lanes lane e old now → TurnedOwn clocks lanes lane l now new →
-      TurnedOwn clocks lanes lane all old new
-  turned-append all e l old now new is p q =
-      passed_as (own_tables lanes lane * e + own_tables lanes lane * l) (own_tables lanes lane * all) _ _
-      (sym (mul-add (own_tables lanes lane) e l) ∙ ap (λ n. own_tables lanes lane * n) is)
-      (passed-append (own_tables lanes lane * e) (own_tables lanes lane * l) (clocks.moments old) (clocks.moments now) (clocks.moments new) p q)
-
   pub turned_idle : (rounds : ℕ) (clock : C) → own_tables lanes lane ≡ 0 → TurnedOwn clocks lanes lane rounds clock clock
   turned_idle rounds clock none =
       passed_as 0 (own_tables lanes lane * rounds) _ _ (sym (ap (λ n. n * rounds) none ∙ none_of rounds)) (passed_none (clocks.moments clock))
@@ -104,12 +95,3 @@ own_none (suc (suc zero)) (suc (suc (suc zero))) some le lt = refl
 own_none (suc (suc (suc zero))) (suc (suc (suc zero))) some le lt = refl
 own_none (suc (suc (suc (suc lanes)))) (suc (suc (suc zero))) some le lt = absurd (omega (arith, le))
 own_none (suc lanes) (suc (suc (suc (suc lane)))) some le lt = absurd (omega (arith, lt))
-
-pub all_turned-append : {C : Type 0} (clocks : Clocks C) (lanes all e l : ℕ) (old now new : SendingLanes C) → e + l ≡ all →
-    HaveTurned clocks lanes e old now → HaveTurned clocks lanes l now new → HaveTurned clocks lanes all old new
-all_turned-append clocks lanes all e l old now new is p q = record {
-  first = turned-append clocks lanes 0 all e l _ _ _ is p.first q.first;
-  second = turned-append clocks lanes 1 all e l _ _ _ is p.second q.second;
-  third = turned-append clocks lanes 2 all e l _ _ _ is p.third q.third;
-  fourth = turned-append clocks lanes 3 all e l _ _ _ is p.fourth q.fourth;
-}

@@ -5,4 +5,6 @@ pub mod Sending
 pub mod Changing
 pub mod Stretches
 pub mod Served
+pub mod Crew
+pub mod Ended
 pub mod Samples

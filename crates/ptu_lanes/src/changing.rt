@@ -1,15 +1,17 @@
 //! The change of capacity of a grandmaster that is served by lanes.
 
-ghost use Rattle.std.specs.Prelude.{◌≡◌, ◌+◌, ◌-◌, ◌^◌, ◌≤◌, min, ℕ, IfOk, OnErr, IfSome, IsSome, List};
+ghost use Rattle.std.specs.Prelude.{◌≡◌, ◌+◌, ◌-◌, ◌^◌, ◌≤◌, min, ℕ, IfOk, OnErr, IfSome, IsSome, List, Some};
 ghost use Rattle.ptu_outside.specs.HandsOver.{HandsOver};
 ghost use Rattle.ptu_units.specs.declared.kind.Kind.{Kind};
 ghost use Rattle.ptu_history.specs.declared.client.Client.{Client};
 ghost use Rattle.ptu_units.specs.Limits.{IsCapacity};
 ghost use Rattle.ptu_gm_messages.specs.Replies.{cancels_to};
 ghost use Rattle.ptu_config.specs.Limits.{IsGmInRange};
-ghost use Rattle.ptu_lanes.specs.{Changing.{change_of}, Waiting.{PassedBy}};
+ghost use Rattle.ptu_profile.specs.Grandmaster.{IsWithinLimits};
+ghost use Rattle.ptu_shared.specs.Seats.{no_verdicts};
+ghost use Rattle.ptu_lanes.specs.{Changing.{change_of, greatest_capacity}, Crew.{ServedSignaling}, Waiting.{PassedBy}};
 
-use crate::lanes::{ControlLane, Tally};
+use crate::lanes::{ControlLane, Rounds};
 use crate::service::Service;
 use ptu_config::GmSettings;
 use ptu_grandmaster::send_cancels;
@@ -32,6 +34,16 @@ pub(crate) fn change(settings: &GmSettings) -> Option<u64>
         settings.new_capacity
     } else {
         None
+    }
+}
+
+/// How many rounds there are before the change of capacity, where there is one.
+pub(crate) fn rounds_before_change(settings: &GmSettings) -> Option<u32>
+    requires { IsGmInRange settings.now }
+{
+    match change(settings) {
+        Some(_) => Some(settings.change_round - 1),
+        None => None,
     }
 }
 
@@ -63,4 +75,64 @@ pub(crate) fn change_capacity<P: Port + Send, C: Clock, L: Rates, G: Ledger, R: 
     let sends = send_cancels(&mut lane.port, service.config, 0, resized.shed.list());
     lane.tally = lane.tally.plus(sends.sent, sends.failed);
     Ok(())
+}
+
+impl<P: Port + Send, L: Rates, G: Ledger, R: Ledger, W: Wait> Service<'_, P, L, G, R, W> {
+    // The rounds of the lane that takes Signaling before a change to this capacity, the change, and
+    // the rounds from it on.
+    fn take_signaling_around<C: Clock>(
+        &self,
+        settings: &GmSettings,
+        rounds: &Rounds,
+        capacity: u64,
+        lane: ControlLane<P, C, G, R>,
+    ) -> Result<ControlLane<P, C, G, R>, OutOfMemory>
+        requires range { IsGmInRange settings.now }
+        requires change { change_of settings.now ≡ Some capacity }
+        requires capacity { IsCapacity capacity }
+        requires round { (1 ≤ settings.now.change_round)
+            × (settings.now.change_round ≤ settings.now.rounds) }
+        requires limits { IsWithinLimits self.now.config.now }
+        requires ledger { L.parts ≡ 4 }
+        requires most { capacity ≤ L.most }
+        requires seat { lane.seat ≡ no_verdicts }
+        requires tally { lane.tally.failed ≡ 0 }
+        ensures { IfOk result (λ new. ServedSignaling P.Port C.Clock settings.now
+            self.now.config.now lane.port new.port lane.clock new.clock new.seat
+            new.tally.failed) }
+    {
+        let early = settings.change_round - 1;
+        let late = settings.rounds - early;
+        let mut lane = self.take_part_signaling(rounds, early, lane)?;
+        let changed = change_capacity(self, capacity, &mut lane);
+        rounds.met(self.rt, changed)?;
+        self.take_part_signaling(rounds, late, lane)
+    }
+
+    /// All rounds of the lane that takes Signaling, with a meeting after each. The change of
+    /// capacity, where there is one, stands between two rounds, and has a meeting behind it.
+    ///
+    /// # Errors
+    /// `OutOfMemory`, with the lane dropped: after the round in which it or another lane gave up.
+    pub(crate) fn take_signaling_all<C: Clock>(
+        &self,
+        settings: &GmSettings,
+        rounds: &Rounds,
+        lane: ControlLane<P, C, G, R>,
+    ) -> Result<ControlLane<P, C, G, R>, OutOfMemory>
+        requires range { IsGmInRange settings.now }
+        requires limits { IsWithinLimits self.now.config.now }
+        requires ledger { L.parts ≡ 4 }
+        requires most { greatest_capacity settings.now ≤ L.most }
+        requires seat { lane.seat ≡ no_verdicts }
+        requires tally { lane.tally.failed ≡ 0 }
+        ensures { IfOk result (λ new. ServedSignaling P.Port C.Clock settings.now
+            self.now.config.now lane.port new.port lane.clock new.clock new.seat
+            new.tally.failed) }
+    {
+        match change(settings) {
+            Some(capacity) => self.take_signaling_around(settings, rounds, capacity, lane),
+            None => self.take_part_signaling(rounds, settings.rounds, lane),
+        }
+    }
 }

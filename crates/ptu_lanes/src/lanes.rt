@@ -69,30 +69,51 @@ pub(crate) struct SendingLanes<C: Clock> {
     pub fourth: SendingLane<C>,
 }
 
-/// So many rounds, with a meeting after each.
+/// All rounds, with a meeting after each, and one more behind the change of capacity.
 #[derive(Drop)]
-pub(crate) struct Rounds<'a> {
-    pub meeting: &'a Meeting,
+pub(crate) struct Rounds {
+    pub meeting: Meeting,
     pub count: u32,
+    /// The number of rounds before the change of capacity, or `None` where there is no change.
+    pub early: Option<u32>,
 }
 
-impl Rounds<'_> {
-    // A lane after its round of this number, once it has met the others. Where it or another lane
-    // gave up, it takes part no more.
-    fn met<T: Drop>(
+impl Rounds {
+    /// A lane once it has met the others.
+    ///
+    /// # Errors
+    /// `OutOfMemory`, with the lane dropped: it or another lane gave up, and it takes part no more.
+    pub(crate) fn met<T: Drop>(
         &self,
         rt: &impl Wait,
-        round: u32,
         lane: Result<T, OutOfMemory>,
     ) -> Result<T, OutOfMemory>
         ensures { IfOk result (λ new. lane ≡ Ok new) }
     {
-        if lane.is_ok() && self.meeting.meet(rt, round) {
+        if lane.is_ok() && self.meeting.meet(rt) {
             return lane;
         }
-        self.meeting.leave(rt, true);
+        self.meeting.give_up(rt);
         Err(OutOfMemory)
     }
+
+    // Begins a round, before which there were so many: the round of the change once the capacity
+    // has changed. `OutOfMemory` where another lane gave up.
+    fn begin(&self, rt: &impl Wait, before: u32) -> Result<(), OutOfMemory> {
+        if self.early == Some(before) {
+            self.met(rt, Ok(()))
+        } else {
+            Ok(())
+        }
+    }
+}
+
+/// All lanes of a grandmaster.
+#[derive(Drop)]
+pub(crate) struct Lanes<P: Port, C: Clock, G: Ledger, R: Ledger> {
+    pub control: ControlLane<P, C, G, R>,
+    pub event: EventLane<P, C>,
+    pub sending: SendingLanes<C>,
 }
 
 /// The place of a lane among those at work that turn tables.
@@ -171,52 +192,50 @@ impl<P: Port + Send, L: Rates, G: Ledger, R: Ledger, W: Wait> Service<'_, P, L, 
     /// `OutOfMemory`, with the lane dropped: after the round in which it or another lane gave up.
     pub(crate) fn take_part_signaling<C: Clock>(
         &self,
-        rounds: &Rounds<'_>,
+        rounds: &Rounds,
+        count: u32,
         lane: ControlLane<P, C, G, R>,
     ) -> Result<ControlLane<P, C, G, R>, OutOfMemory>
         requires ledger { L.parts ≡ 4 }
         requires limits { IsWithinLimits self.now.config.now }
         requires counts { lane.seat.granted + lane.seat.refused ≤ 2 ^ 46 }
         ensures { IfOk result
-            (ControlLaneDid P.Port C.Clock self.now.config.now rounds.now.count lane) }
+            (ControlLaneDid P.Port C.Clock self.now.config.now count lane) }
     {
-        rounds.meeting.enter(self.rt);
         let mut lane = lane;
-        for i in 0..rounds.count {
-            lane = rounds.met(self.rt, i, self.take_signaling(lane))?;
+        for i in 0..count {
+            lane = rounds.met(self.rt, self.take_signaling(lane))?;
         }
-        rounds.meeting.leave(self.rt, false);
         Ok(lane)
     }
 
-    /// So many rounds of the lane that takes Delay_Reqs, with a meeting after each.
+    /// All rounds of the lane that takes Delay_Reqs, with a meeting after each.
     ///
     /// # Errors
     /// `OutOfMemory`, with the lane dropped: after the round in which it or another lane gave up.
     pub(crate) fn take_part_delay_reqs<C: Clock>(
         &self,
-        rounds: &Rounds<'_>,
+        rounds: &Rounds,
         lane: EventLane<P, C>,
     ) -> Result<EventLane<P, C>, OutOfMemory>
         requires { IsWithinLimits self.now.config.now }
         ensures { IfOk result (EventLaneDid P.Port C.Clock rounds.now.count lane) }
     {
-        rounds.meeting.enter(self.rt);
         let mut lane = lane;
         for i in 0..rounds.count {
-            lane = rounds.met(self.rt, i, self.take_delay_reqs(lane))?;
+            rounds.begin(self.rt, i)?;
+            lane = rounds.met(self.rt, self.take_delay_reqs(lane))?;
         }
-        rounds.meeting.leave(self.rt, false);
         Ok(lane)
     }
 
-    /// So many rounds of the lane at this position that turns tables, with a meeting after each.
+    /// All rounds of the lane at this position that turns tables, with a meeting after each.
     ///
     /// # Errors
     /// `OutOfMemory`, with the lane dropped: after the round in which another lane gave up.
     pub(crate) fn take_part_turning<C: Clock>(
         &self,
-        rounds: &Rounds<'_>,
+        rounds: &Rounds,
         position: Position,
         lane: SendingLane<C>,
     ) -> Result<SendingLane<C>, OutOfMemory>
@@ -225,12 +244,11 @@ impl<P: Port + Send, L: Rates, G: Ledger, R: Ledger, W: Wait> Service<'_, P, L, 
         ensures { IfOk result (λ new.
             TurnedOwn C.Clock position.count position.index rounds.now.count lane.clock new.clock) }
     {
-        rounds.meeting.enter(self.rt);
         let mut lane = lane;
         for i in 0..rounds.count {
-            lane = rounds.met(self.rt, i, Ok(self.turn_own(position, lane)))?;
+            rounds.begin(self.rt, i)?;
+            lane = rounds.met(self.rt, Ok(self.turn_own(position, lane)))?;
         }
-        rounds.meeting.leave(self.rt, false);
         Ok(lane)
     }
 }

@@ -4,19 +4,20 @@
 #![tactic(auto)]
 
 mod answering;
+mod calls;
 mod changing;
 mod client;
+mod crew;
 mod delays;
 mod lanes;
 mod laws;
 mod service;
 mod serving;
 mod signaling;
-mod stretches;
 mod turns;
 
 pub use delays::{Delays, delay_round};
 pub use laws::sample_changes;
-pub use serving::{Totals, serve_lanes};
+pub use serving::{Ended, Totals, serve_lanes, serve_lanes_within};
 pub use signaling::{Control, control_round};
 pub use turns::turn_round;

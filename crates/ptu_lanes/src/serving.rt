@@ -5,11 +5,10 @@ ghost use Rattle.ptu_profile.specs.Grandmaster.{IsWithinLimits};
 ghost use Rattle.ptu_shared.specs.{Blanks.{IsBlankOf}, Opening.{seen_of}};
 ghost use Rattle.ptu_config.specs.Limits.{IsGmInRange};
 ghost use Rattle.ptu_lanes.specs.Changing.{greatest_capacity};
-ghost use Rattle.ptu_lanes.specs.Served.{ServesByLanes, TablesAreBack, numbers_of};
+ghost use Rattle.ptu_lanes.specs.{Ended.{HasEnded}, Served.{TablesAreBack}};
 
-use crate::lanes::{ControlLane, EventLane, SendingLane, SendingLanes, Tally};
-use crate::service::Service;
-use crate::stretches::Lanes;
+use crate::crew::{Blanks, Done, call_all};
+use crate::lanes::Lanes;
 use ptu_admit::Closed;
 use ptu_config::GmSettings;
 use ptu_outside::{Clock, Opened, Port};
@@ -18,8 +17,8 @@ use ptu_shared::{Failures, Rates, Seat, Shared};
 use ptu_units::OutOfMemory;
 use std::alloc::Global;
 use std::marker::Brand;
-use std::sync::Wait;
 use std::sync::ledger::{Blank, Ledger};
+use std::sync::{OnceLock, Wait};
 use std::thread::Threads;
 
 /// What lanes did, at their end.
@@ -37,17 +36,14 @@ pub struct Totals {
     pub held: u64,
 }
 
-// The lanes that turn tables at these clocks, before their first round.
-fn sending_lanes<C: Clock>(c2: C, c3: C, c4: C, c5: C) -> SendingLanes<C>
-    ensures { (result.first.clock ≡ c2) × (result.second.clock ≡ c3)
-        × (result.third.clock ≡ c4) × (result.fourth.clock ≡ c5) }
-{
-    SendingLanes {
-        first: SendingLane { clock: c2, sent: 0 },
-        second: SendingLane { clock: c3, sent: 0 },
-        third: SendingLane { clock: c4, sent: 0 },
-        fourth: SendingLane { clock: c5, sent: 0 },
-    }
+/// How a grandmaster has ended that was to be served by lanes.
+#[derive(Drop)]
+pub enum Ended<P, C> {
+    /// Lanes did all rounds. Here are the ports and clocks, and the last numbers.
+    Served(Opened<P, C>, Totals),
+    /// A lane was refused its thread, before the first datagram was taken. Here are the ports and
+    /// clocks as they were opened.
+    Refused(Opened<P, C>),
 }
 
 // What all lanes have sent.
@@ -130,29 +126,22 @@ fn close<P: Port + Send, C: Clock, L: Rates, G: Ledger, R: Ledger>(
     Ok((back, totals))
 }
 
-// What becomes the ledgers of a grandmaster with one seat.
-#[derive(Drop)]
-struct Blanks {
-    rates: Blank,
-    granted: Blank,
-    refused: Blank,
-}
-
-// Serves a grandmaster under these ledgers.
+// Serves a grandmaster under these ledgers, with at most so many threads.
 fn serve_under<P, C, L, G, R, W>(
     rt: &W,
     alloc: Global,
+    threads: usize,
     blanks: Blanks,
     settings: &GmSettings,
     config: &GmConfig,
     opened: Opened<P, C>,
-) -> Result<(Opened<P, C>, Totals), OutOfMemory>
+) -> Result<Ended<P, C>, OutOfMemory>
 where
     P: Port + Send,
     C: Clock + Send,
-    L: Rates + Sync,
-    G: Ledger + Sync,
-    R: Ledger + Sync,
+    L: Rates + Send + Sync,
+    G: Ledger + Send + Sync,
+    R: Ledger + Send + Sync,
     W: Threads + Wait + Sync,
     requires rates { IsBlankOf L.name L.parts 4 blanks.rates }
     requires granted { IsBlankOf G.name G.parts L.seats blanks.granted }
@@ -165,56 +154,69 @@ where
     requires range { IsGmInRange settings.now }
     requires senders { 1 ≤ settings.now.senders }
     requires limits { IsWithinLimits config.now }
-    ensures { IfOk result (λ r. ServesByLanes P.Port C.Clock settings.now config.now opened r.0
-        (numbers_of r.1)) }
+    ensures { IfOk result (HasEnded P.Port C.Clock settings.now config.now opened) }
 {
-    let (shared, mut seats) = Shared::<P, L, G, R>::new(
-        alloc,
-        blanks.rates,
-        blanks.granted,
-        blanks.refused,
-        settings.capacity,
-        1,
-        opened.p0,
-        opened.p1,
-        opened.p2,
-        opened.p3,
+    let gate = OnceLock::new();
+    let done = call_all::<P, C, L, G, R, W>(
+        rt, alloc, &gate, threads, settings, config, blanks, opened,
     )?;
-    let Some(seat) = seats.pop() else {
-        unreachable!()
+    let (lanes, seats) = match done {
+        Done::Served(lanes, seats) => (lanes, seats),
+        Done::Refused(opened) => return Ok(Ended::Refused(opened)),
     };
-    let lanes = Lanes {
-        control: ControlLane {
-            seat,
-            port: opened.p4,
-            clock: opened.c0,
-            tally: Tally::default(),
-        },
-        event: EventLane {
-            port: opened.p5,
-            clock: opened.c1,
-            tally: Tally::default(),
-        },
-        sending: sending_lanes(opened.c2, opened.c3, opened.c4, opened.c5),
+    // The lanes have served at the gate's tables; no clause of a `OnceLock` says that they are
+    // there still.
+    let Some(Some(shared)) = gate.into_inner() else {
+        return Err(OutOfMemory);
     };
-    let service = Service {
-        rt,
-        alloc,
-        shared: &shared,
-        config,
+    let (back, totals) = close(shared, seats, lanes)?;
+    Ok(Ended::Served(back, totals))
+}
+
+/// Serves a grandmaster as `serve_lanes` does, with at most so many threads beside this one. One
+/// more is refused, as where the system refuses it.
+///
+/// # Errors
+/// As `serve_lanes`.
+pub fn serve_lanes_within<P, C, W>(
+    rt: &W,
+    alloc: Global,
+    threads: usize,
+    settings: &GmSettings,
+    config: &GmConfig,
+    opened: Opened<P, C>,
+) -> Result<Ended<P, C>, OutOfMemory>
+where
+    P: Port + Send,
+    C: Clock + Send,
+    W: Threads + Wait + Sync,
+    requires range { IsGmInRange settings.now }
+    requires senders { 1 ≤ settings.now.senders }
+    requires limits { IsWithinLimits config.now }
+    ensures { IfOk result (HasEnded P.Port C.Clock settings.now config.now opened) }
+{
+    let blanks = Blanks {
+        rates: Blank::new(4),
+        granted: Blank::new(1),
+        refused: Blank::new(1),
     };
-    let lanes = service.all_rounds(settings, lanes)?;
-    close(shared, seats, lanes)
+    serve_under::<P, C, Brand, Brand, Brand, W>(
+        rt, alloc, threads, blanks, settings, config, opened,
+    )
 }
 
 /// Serves a grandmaster of these settings over these ports and clocks, in rounds, by lanes that
 /// work side by side in each round. Lane 0 takes up to 64 datagrams of the general channel and
 /// answers Signaling; lane 1 takes up to 64 of the event channel and answers Delay_Reqs; lane
-/// `2 + i` turns the tables `j` with `j` mod `senders` = `i`. Lane `k` has clock `k`. The lanes
-/// stay for all rounds before the change, and for all from it on, and meet after each. The round of
-/// the number `change_round` begins with a change of the capacity to `new_capacity` at a moment of
+/// `2 + i` turns the tables `j` with `j` mod `senders` = `i`. Lane `k` has clock `k`. Lane 0 is on
+/// this thread, and each other has one of its own. All meet after each round. The round of the
+/// number `change_round` begins with a change of the capacity to `new_capacity` at a moment of
 /// clock 0. A send or a receive that fails is counted. Gives the ports and clocks back, with the
 /// last numbers.
+///
+/// All threads are made before the first datagram is taken. Where the system refuses one, or wants
+/// memory for it, no lane serves: no datagram is taken or sent and no moment is taken of a clock,
+/// and the ports and clocks are given back as they were opened.
 ///
 /// # Errors
 /// `OutOfMemory`, after the round in which it came, with the ports and clocks dropped.
@@ -224,7 +226,7 @@ pub fn serve_lanes<P, C, W>(
     settings: &GmSettings,
     config: &GmConfig,
     opened: Opened<P, C>,
-) -> Result<(Opened<P, C>, Totals), OutOfMemory>
+) -> Result<Ended<P, C>, OutOfMemory>
 where
     P: Port + Send,
     C: Clock + Send,
@@ -232,13 +234,7 @@ where
     requires range { IsGmInRange settings.now }
     requires senders { 1 ≤ settings.now.senders }
     requires limits { IsWithinLimits config.now }
-    ensures { IfOk result (λ r. ServesByLanes P.Port C.Clock settings.now config.now opened r.0
-        (numbers_of r.1)) }
+    ensures { IfOk result (HasEnded P.Port C.Clock settings.now config.now opened) }
 {
-    let blanks = Blanks {
-        rates: Blank::new(4),
-        granted: Blank::new(1),
-        refused: Blank::new(1),
-    };
-    serve_under::<P, C, Brand, Brand, Brand, W>(rt, alloc, blanks, settings, config, opened)
+    serve_lanes_within(rt, alloc, usize::MAX, settings, config, opened)
 }

@@ -1,6 +1,7 @@
 mod daemon;
 mod daemon_lanes;
 mod lane_rounds;
+mod refused_threads;
 mod staged;
 mod table_ports;
 mod two_steps;

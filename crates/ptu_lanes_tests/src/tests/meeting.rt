@@ -1,5 +1,4 @@
 use ptu_rounds::Meeting;
-use std::process::Abort;
 use std::sync::Wait;
 use std::sync::atomic::{AtomicU64, Ordering};
 use std::test::Fail;
@@ -7,7 +6,7 @@ use std::thread::{join, yield_now};
 
 const ROUNDS: u32 = 4;
 
-// How often a lane looks at its start, and how long the slow lane pauses in each round.
+// How long the slow lane pauses in each round.
 const LOOKS: u32 = 1000;
 
 // How many rounds two lanes have done, and how far apart they were at most when one had done a
@@ -41,22 +40,18 @@ impl Seen {
 }
 
 fn run_fast(rt: &impl Wait, meeting: &Meeting, seen: &Seen) {
-    meeting.enter(rt);
-    for i in 0..ROUNDS {
+    for _ in 0..ROUNDS {
         seen.count(&seen.fast, &seen.slow);
-        meeting.meet(rt, i);
+        meeting.meet(rt);
     }
-    meeting.leave(rt, false);
 }
 
 fn run_slowly(rt: &impl Wait, meeting: &Meeting, seen: &Seen) {
-    meeting.enter(rt);
-    for i in 0..ROUNDS {
+    for _ in 0..ROUNDS {
         seen.pause();
         seen.count(&seen.slow, &seen.fast);
-        meeting.meet(rt, i);
+        meeting.meet(rt);
     }
-    meeting.leave(rt, false);
 }
 
 // Two lanes are never more than one round apart. It refuses a meeting that nobody waits at.
@@ -67,7 +62,7 @@ fn lanes_stay_in_step(rt: HostRuntime) -> Result<(), Fail> {
         slow: AtomicU64::new(0),
         apart: AtomicU64::new(0),
     };
-    let meeting = Meeting::new(2, 10_000_000);
+    let meeting = Meeting::new(2);
     join(
         &rt,
         || run_fast(&rt, &meeting, &seen),
@@ -78,33 +73,29 @@ fn lanes_stay_in_step(rt: HostRuntime) -> Result<(), Fail> {
     Ok(())
 }
 
-// The rounds of a lane that meets nobody.
-fn run_alone(rt: &(impl Wait + Abort), meeting: &Meeting) {
-    meeting.enter(rt);
-    for i in 0..ROUNDS {
-        assert!(rt; meeting.meet(rt, i));
-    }
-    meeting.leave(rt, false);
-}
-
-// A lane for which there is no thread does its rounds once the other has done all. It refuses a
-// meeting at which as many are waited for as are expected, which would never end.
-#[test]
-fn a_lane_without_a_thread_comes_last(rt: HostRuntime) -> Result<(), Fail> {
-    let meeting = Meeting::new(2, LOOKS);
-    run_alone(&rt, &meeting);
-    run_alone(&rt, &meeting);
-    Ok(())
-}
-
 // A lane that gives up ends the work of the other, which does not wait for it.
 #[test]
 fn a_lane_that_gives_up_ends_all(rt: HostRuntime) -> Result<(), Fail> {
-    let meeting = Meeting::new(2, LOOKS);
-    meeting.enter(&rt);
-    meeting.enter(&rt);
-    meeting.leave(&rt, true);
-    assert!(rt; !meeting.meet(&rt, 0));
-    meeting.leave(&rt, false);
+    let meeting = Meeting::new(2);
+    meeting.give_up(&rt);
+    assert!(rt; !meeting.meet(&rt));
+    Ok(())
+}
+
+// One that gives up while the other waits for it lets it go on, and tells it.
+#[test]
+fn a_lane_that_waits_is_told(rt: HostRuntime) -> Result<(), Fail> {
+    let meeting = Meeting::new(2);
+    let (goes_on, ()) = join(
+        &rt,
+        || meeting.meet(&rt),
+        || {
+            for _ in 0..LOOKS {
+                yield_now();
+            }
+            meeting.give_up(&rt)
+        },
+    );
+    assert!(rt; !goes_on);
     Ok(())
 }

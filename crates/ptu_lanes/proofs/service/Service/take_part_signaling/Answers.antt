@@ -11,5 +11,5 @@ loop-i-preserved g c =
 
 pub returns : goal.returns
 returns g c =
-    let all : c.args.rounds.now.count ≡ c.loop-i.i = omega (arith, c.loop-i-test.false, c.loop-i.auto.i-end) in
+    let all : c.args.count ≡ c.loop-i.i = omega (arith, c.loop-i-test.false, c.loop-i.auto.i-end) in
     rw all c.loop-i.invariant

@@ -3,7 +3,7 @@ use Rattle.std.specs.Result.{IfErr, OnErr, OnOk}
 use Rattle.ptu_outside.specs.Handing.{HasPut, HasPutFront}
 use Rattle.ptu_rounds.specs.declared.fault.DaemonFault.TheVariants as faults
 use Rattle.ptu_daemon.specs.{Served.{closing_line, said_by}, Serving.{HasServed}}
-use Rattle.ptu_daemon.proofs.serving.serve.Goals as goal
+use Rattle.ptu_daemon.proofs.serving.serve_within.Goals as goal
 
 on_ok_more : {T E A B : Type 0} (r : Result T E) → (A → B) → OnOk r A → OnOk r B
 on_ok_more (Ok x) f h = f h

@@ -1,6 +1,6 @@
 -- The ledgers are made of the blanks; no more is ever in force than the settings have as their greatest capacity.
 use Rattle.ptu_lanes.specs.{Changing.{greatest_capacity}, Served.{seen_at}}
-use Rattle.ptu_lanes.proofs.serving.serve_lanes.Given as goal
+use Rattle.ptu_lanes.proofs.serving.serve_lanes_within.Given as goal
 
 abbrev pub ghosts-serve_under-L-Ledger : goal.ghosts-serve_under-L-Ledger
 ghosts-serve_under-L-Ledger g a = record { name = a.blanks.rates.name; parts = a.blanks.rates.parts }

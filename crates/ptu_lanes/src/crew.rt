@@ -1,0 +1,498 @@
+//! The crew of a grandmaster: its lanes, each in a thread of its own but for the one that takes
+//! Signaling. All threads are made before the first datagram is taken. Where one is refused, no
+//! lane serves, and all is given back as it was opened.
+
+ghost use Rattle.std.specs.Prelude.{◌≡◌, ◌+◌, ◌≤◌, ◌<◌, ℕ, [], IfOk, IfSome};
+ghost use Rattle.ptu_profile.specs.Grandmaster.{IsWithinLimits};
+ghost use Rattle.ptu_shared.specs.{Blanks.{IsBlankOf}, Opening.{seen_of}, Seats.{no_verdicts}};
+ghost use Rattle.ptu_config.specs.Limits.{IsGmInRange};
+ghost use Rattle.ptu_lanes.specs.Changing.{greatest_capacity};
+ghost use Rattle.ptu_lanes.specs.Crew.{AreTurning, CameTo, Ends, EventKept, HasDone, HasLeft, IsAtWork, IsServed, IsTurning, SendingKept, ServedSignaling};
+ghost use Rattle.ptu_lanes.specs.{Stretches.{EventLaneDid, HaveTurned}, Waiting.{TurnedOwn}};
+
+use crate::calls::{Call, Called, EventCall, EventWork, SendingCall, SendingCalls, SendingWork};
+use crate::changing::rounds_before_change;
+use crate::lanes::{
+    ControlLane, EventLane, Lanes, Position, Rounds, SendingLane, SendingLanes, Tally,
+};
+use crate::service::Service;
+use ptu_config::GmSettings;
+use ptu_outside::{Clock, Opened, Port};
+use ptu_profile::GmConfig;
+use ptu_rounds::Meeting;
+use ptu_shared::{Rates, Seat, Shared};
+use ptu_units::OutOfMemory;
+use std::alloc::Global;
+use std::snapshot::Snapshot;
+use std::sync::ledger::{Blank, Ledger};
+use std::sync::{OnceLock, Wait};
+use std::thread;
+use std::thread::{Promise, Scope, Threads};
+
+/// Where lanes wait until it is known whether all have their threads. It has the tables then, or
+/// none where a lane was refused its thread.
+pub(crate) type Gate<P, L, G, R> = OnceLock<Option<Shared<P, L, G, R>>>;
+
+/// What becomes the ledgers of a grandmaster with one seat.
+#[derive(Drop)]
+pub(crate) struct Blanks {
+    pub rates: Blank,
+    pub granted: Blank,
+    pub refused: Blank,
+}
+
+/// How the calls of all lanes have ended.
+#[derive(Drop)]
+pub(crate) enum Done<P: Port, C: Clock, G: Ledger, R: Ledger> {
+    /// The lanes did all rounds. Beside them are the seats that no lane has: none.
+    Served(Lanes<P, C, G, R>, Vec<Seat<G, R>>),
+    /// A lane was refused its thread. All is as it was opened.
+    Refused(Opened<P, C>),
+}
+
+/// What the lanes of a grandmaster have in common before they serve.
+#[derive(Drop)]
+pub(crate) struct Crew<'a, P: Port + Send, L: Rates, G: Ledger, R: Ledger, W> {
+    pub rt: &'a W,
+    pub alloc: Global,
+    pub config: &'a GmConfig,
+    pub gate: &'a Gate<P, L, G, R>,
+    pub rounds: Rounds,
+    /// How many threads may be made. One more is refused, as where the system refuses it.
+    pub threads: usize,
+}
+
+// The lanes that turn tables at these clocks, before their first round.
+fn sending_lanes<C: Clock>(c2: C, c3: C, c4: C, c5: C) -> SendingLanes<C>
+    ensures { (result.first.clock ≡ c2) × (result.second.clock ≡ c3)
+        × (result.third.clock ≡ c4) × (result.fourth.clock ≡ c5) }
+{
+    SendingLanes {
+        first: SendingLane { clock: c2, sent: 0 },
+        second: SendingLane { clock: c3, sent: 0 },
+        third: SendingLane { clock: c4, sent: 0 },
+        fourth: SendingLane { clock: c5, sent: 0 },
+    }
+}
+
+// How many lanes turn tables.
+fn sender_count(settings: &GmSettings) -> usize
+    ensures { result ≡ settings.now.senders }
+{
+    usize::from(settings.senders)
+}
+
+impl<P, L, G, R, W> Crew<'_, P, L, G, R, W>
+where
+    P: Port + Send,
+    L: Rates + Send + Sync,
+    G: Ledger + Send + Sync,
+    R: Ledger + Send + Sync,
+    W: Threads + Wait + Sync,
+{
+    // Lets all lanes leave.
+    fn refuse(&self) {
+        let _ = self.gate.set(self.rt, None);
+    }
+
+    // What the lanes serve with, once all have their threads. None where one was refused.
+    fn service(&self) -> Option<Service<'_, P, L, G, R, W>>
+        ensures { IfSome result (λ service. service.config ≡ self.now.config) }
+    {
+        match self.gate.wait(self.rt) {
+            Some(shared) => Some(Service {
+                rt: self.rt,
+                alloc: self.alloc,
+                shared,
+                config: self.config,
+            }),
+            None => None,
+        }
+    }
+
+    // The call of the lane that takes Signaling.
+    fn call_control<C: Clock>(
+        &self,
+        settings: &GmSettings,
+        lane: ControlLane<P, C, G, R>,
+    ) -> Called<ControlLane<P, C, G, R>>
+        requires range { IsGmInRange settings.now }
+        requires limits { IsWithinLimits self.now.config.now }
+        requires ledger { L.parts ≡ 4 }
+        requires most { greatest_capacity settings.now ≤ L.most }
+        requires seat { lane.seat ≡ no_verdicts }
+        requires tally { lane.tally.failed ≡ 0 }
+        ensures { CameTo (λ new. ServedSignaling P.Port C.Clock settings.now self.now.config.now
+            lane.port new.port lane.clock new.clock new.seat new.tally.failed) lane result }
+    {
+        match self.service() {
+            Some(service) => Called::Served(service.take_signaling_all(
+                settings,
+                &self.rounds,
+                lane,
+            )),
+            None => Called::Left(lane),
+        }
+    }
+
+    // The call of the lane that takes Delay_Reqs.
+    fn call_event<C: Clock>(&self, lane: EventLane<P, C>) -> Called<EventLane<P, C>>
+        requires { IsWithinLimits self.now.config.now }
+        ensures { CameTo (EventLaneDid P.Port C.Clock self.now.rounds.count lane) lane result }
+    {
+        match self.service() {
+            Some(service) => Called::Served(service.take_part_delay_reqs(&self.rounds, lane)),
+            None => Called::Left(lane),
+        }
+    }
+
+    // The call of the lane at this position that turns tables.
+    fn call_sending<C: Clock>(
+        &self,
+        position: Position,
+        lane: SendingLane<C>,
+    ) -> Called<SendingLane<C>>
+        requires limits { IsWithinLimits self.now.config.now }
+        requires index { (position.index < position.count) × (position.count ≤ 4) }
+        ensures { CameTo (λ new. TurnedOwn C.Clock position.count position.index
+            self.now.rounds.count lane.clock new.clock) lane result }
+    {
+        match self.service() {
+            Some(service) => {
+                Called::Served(service.take_part_turning(&self.rounds, position, lane))
+            }
+            None => Called::Left(lane),
+        }
+    }
+
+    // Makes the thread of this number, from 0, and makes the call there. Where the thread is
+    // refused, all lanes are to leave, and the call is made here.
+    fn start<'s, E, T, Q, F>(
+        &self,
+        scope: &Scope<'s, E>,
+        thread: usize,
+        promise: Q,
+        call: F,
+    ) -> Call<T, Q>
+    where
+        T: Send + Drop + 's,
+        Q: Promise<T> + Drop,
+        F: FnOnce() -> T + Send + 's,
+        requires runs { F.pre call }
+        requires keeps { (called : T) → F.post call called → Q.kept_by promise called }
+        ensures { (called : T) → Ends Q.kept_by result called → Q.kept_by promise called }
+    {
+        if self.threads <= thread {
+            self.refuse();
+            return Call::Here(call());
+        }
+        match scope.spawn_with(promise, call) {
+            Ok(handle) => Call::Thread(handle),
+            Err(refused) => {
+                self.refuse();
+                Call::Here((refused.value)())
+            }
+        }
+    }
+
+    // The lane that takes Delay_Reqs begins.
+    fn start_event<'s, E, C: Clock + Send + 's>(
+        &'s self,
+        scope: &Scope<'s, E>,
+        lane: EventLane<P, C>,
+    ) -> EventCall<P, C>
+        requires { IsWithinLimits self.now.config.now }
+        ensures { IsAtWork (EventLaneDid P.Port C.Clock self.now.rounds.count lane) lane
+            (EventKept P.Port C.Clock) result }
+    {
+        let work = EventWork {
+            lane: Snapshot::of(&lane),
+            rounds: self.rounds.count,
+        };
+        self.start(
+            scope,
+            0,
+            work,
+            move ||
+                requires { IsWithinLimits self.now.config.now }
+            { self.call_event(lane) },
+        )
+    }
+
+    // The lane at this position that turns tables begins, if it is one of those at work.
+    fn start_sending<'s, E, C: Clock + Send + 's>(
+        &'s self,
+        scope: &Scope<'s, E>,
+        position: Position,
+        lane: SendingLane<C>,
+    ) -> SendingCall<C>
+        requires limits { IsWithinLimits self.now.config.now }
+        requires index { (position.index < 4) × (1 ≤ position.count) × (position.count ≤ 4) }
+        ensures { IsTurning C.Clock position.count position.index self.now.rounds.count lane result }
+    {
+        if position.count <= position.index {
+            return Call::Here(Called::Idle(lane));
+        }
+        let work = SendingWork {
+            lane: Snapshot::of(&lane),
+            position,
+            rounds: self.rounds.count,
+        };
+        self.start(
+            scope,
+            1 + position.index,
+            work,
+            move ||
+                requires { IsWithinLimits self.now.config.now
+                    × (position.index < position.count) × (position.count ≤ 4) }
+            { self.call_sending(position, lane) },
+        )
+    }
+
+    // The lanes begin that turn tables, of which the first ones, so many, are at work.
+    fn start_all_sending<'s, E, C: Clock + Send + 's>(
+        &'s self,
+        scope: &Scope<'s, E>,
+        count: usize,
+        lanes: SendingLanes<C>,
+    ) -> SendingCalls<C>
+        requires limits { IsWithinLimits self.now.config.now }
+        requires count { (1 ≤ count) × (count ≤ 4) }
+        ensures { AreTurning C.Clock count self.now.rounds.count lanes result }
+    {
+        let SendingLanes {
+            first,
+            second,
+            third,
+            fourth,
+        } = lanes;
+        SendingCalls {
+            first: self.start_sending(scope, Position { index: 0, count }, first),
+            second: self.start_sending(scope, Position { index: 1, count }, second),
+            third: self.start_sending(scope, Position { index: 2, count }, third),
+            fourth: self.start_sending(scope, Position { index: 3, count }, fourth),
+        }
+    }
+
+    // The lanes that turned tables, once all have served.
+    fn served_sending<C: Clock>(
+        &self,
+        calls: SendingCalls<C>,
+    ) -> Result<SendingLanes<C>, OutOfMemory>
+        ensures { (count rounds : ℕ) (old : SendingLanes C) → AreTurning C.Clock count rounds old
+            calls → IfOk result (HaveTurned C.Clock count rounds old) }
+    {
+        let SendingCalls {
+            first,
+            second,
+            third,
+            fourth,
+        } = calls;
+        Ok(SendingLanes {
+            first: first.called(self.rt).served()?,
+            second: second.called(self.rt).served()?,
+            third: third.called(self.rt).served()?,
+            fourth: fourth.called(self.rt).served()?,
+        })
+    }
+
+    // The lanes that were to turn tables, once all have left.
+    fn left_sending<C: Clock>(&self, calls: SendingCalls<C>) -> Result<SendingLanes<C>, OutOfMemory>
+        ensures { (count rounds : ℕ) (old : SendingLanes C) → AreTurning C.Clock count rounds old
+            calls → IfOk result (λ lanes. lanes ≡ old) }
+    {
+        let SendingCalls {
+            first,
+            second,
+            third,
+            fourth,
+        } = calls;
+        Ok(SendingLanes {
+            first: first.called(self.rt).left()?,
+            second: second.called(self.rt).left()?,
+            third: third.called(self.rt).left()?,
+            fourth: fourth.called(self.rt).left()?,
+        })
+    }
+
+    // Lets all lanes serve, over tables with these ports. Gives the seat, and the seats beside it.
+    // After `OutOfMemory` all lanes are to leave.
+    fn open(
+        &self,
+        settings: &GmSettings,
+        blanks: Blanks,
+        p0: P,
+        p1: P,
+        p2: P,
+        p3: P,
+    ) -> Result<(Seat<G, R>, Vec<Seat<G, R>>), OutOfMemory>
+        requires rates { IsBlankOf L.name L.parts 4 blanks.rates }
+        requires granted { IsBlankOf G.name G.parts L.seats blanks.granted }
+        requires refused { IsBlankOf R.name R.parts L.seats blanks.refused }
+        requires most { L.most ≡ greatest_capacity settings.now }
+        requires seats { L.seats ≡ 1 }
+        requires ports { (seen_of P.Port p0 ≡ L.opened 0) × (seen_of P.Port p1 ≡ L.opened 1)
+            × (seen_of P.Port p2 ≡ L.opened 2) × (seen_of P.Port p3 ≡ L.opened 3) }
+        requires range { IsGmInRange settings.now }
+        ensures seat { IfOk result (λ seats. seats.0 ≡ no_verdicts) }
+        ensures others { IfOk result (λ seats. seats.1.items ≡ []) }
+    {
+        let made = Shared::<P, L, G, R>::new(
+            self.alloc,
+            blanks.rates,
+            blanks.granted,
+            blanks.refused,
+            settings.capacity,
+            1,
+            p0,
+            p1,
+            p2,
+            p3,
+        );
+        let Ok((shared, mut seats)) = made else {
+            self.refuse();
+            return Err(OutOfMemory);
+        };
+        let Some(seat) = seats.pop() else {
+            unreachable!()
+        };
+        let _ = self.gate.set(self.rt, Some(shared));
+        Ok((seat, seats))
+    }
+
+    // All lanes begin, and serve over tables with these ports where all have their threads.
+    fn work<'s, E, C: Clock + Send + 's>(
+        &'s self,
+        scope: &Scope<'s, E>,
+        settings: &GmSettings,
+        blanks: Blanks,
+        opened: Opened<P, C>,
+    ) -> Result<Done<P, C, G, R>, OutOfMemory>
+        requires rates { IsBlankOf L.name L.parts 4 blanks.rates }
+        requires granted { IsBlankOf G.name G.parts L.seats blanks.granted }
+        requires refused { IsBlankOf R.name R.parts L.seats blanks.refused }
+        requires most { L.most ≡ greatest_capacity settings.now }
+        requires seats { L.seats ≡ 1 }
+        requires ports { (seen_of P.Port opened.p0 ≡ L.opened 0)
+            × (seen_of P.Port opened.p1 ≡ L.opened 1) × (seen_of P.Port opened.p2 ≡ L.opened 2)
+            × (seen_of P.Port opened.p3 ≡ L.opened 3) }
+        requires range { IsGmInRange settings.now }
+        requires senders { 1 ≤ settings.now.senders }
+        requires limits { IsWithinLimits self.now.config.now }
+        requires rounds { self.now.rounds.count ≡ settings.now.rounds }
+        ensures { IfOk result (HasDone P.Port C.Clock settings.now self.now.config.now opened) }
+    {
+        let event = EventLane {
+            port: opened.p5,
+            clock: opened.c1,
+            tally: Tally::default(),
+        };
+        let sending = sending_lanes(opened.c2, opened.c3, opened.c4, opened.c5);
+        let event = self.start_event(scope, event);
+        let sending = self.start_all_sending(scope, sender_count(settings), sending);
+        if self.gate.get().is_some() {
+            let event = event.called(self.rt).left()?;
+            let sending = self.left_sending(sending)?;
+            return Ok(Done::Refused(Opened {
+                p5: event.port,
+                c1: event.clock,
+                c2: sending.first.clock,
+                c3: sending.second.clock,
+                c4: sending.third.clock,
+                c5: sending.fourth.clock,
+                ..opened
+            }));
+        }
+        let (seat, seats) = self.open(
+            settings, blanks, opened.p0, opened.p1, opened.p2, opened.p3,
+        )?;
+        let control = ControlLane {
+            seat,
+            port: opened.p4,
+            clock: opened.c0,
+            tally: Tally::default(),
+        };
+        let control = self.call_control(settings, control).served()?;
+        let event = event.called(self.rt).served()?;
+        let sending = self.served_sending(sending)?;
+        Ok(Done::Served(
+            Lanes {
+                control,
+                event,
+                sending,
+            },
+            seats,
+        ))
+    }
+}
+
+/// Calls all lanes of a grandmaster of these settings over these ports and clocks, each in a thread
+/// of its own but for the one that takes Signaling, with at most so many threads. They serve at the
+/// gate's tables once all have their threads, and else leave.
+///
+/// # Errors
+/// `OutOfMemory`, after the round in which it came, with the ports and clocks dropped.
+pub(crate) fn call_all<'a, P, C, L, G, R, W>(
+    rt: &'a W,
+    alloc: Global,
+    gate: &'a Gate<P, L, G, R>,
+    threads: usize,
+    settings: &GmSettings,
+    config: &'a GmConfig,
+    blanks: Blanks,
+    opened: Opened<P, C>,
+) -> Result<Done<P, C, G, R>, OutOfMemory>
+where
+    P: Port + Send,
+    C: Clock + Send,
+    L: Rates + Send + Sync,
+    G: Ledger + Send + Sync,
+    R: Ledger + Send + Sync,
+    W: Threads + Wait + Sync,
+    requires rates { IsBlankOf L.name L.parts 4 blanks.rates }
+    requires granted { IsBlankOf G.name G.parts L.seats blanks.granted }
+    requires refused { IsBlankOf R.name R.parts L.seats blanks.refused }
+    requires most { L.most ≡ greatest_capacity settings.now }
+    requires seats { L.seats ≡ 1 }
+    requires ports { (seen_of P.Port opened.p0 ≡ L.opened 0)
+        × (seen_of P.Port opened.p1 ≡ L.opened 1) × (seen_of P.Port opened.p2 ≡ L.opened 2)
+        × (seen_of P.Port opened.p3 ≡ L.opened 3) }
+    requires range { IsGmInRange settings.now }
+    requires senders { 1 ≤ settings.now.senders }
+    requires limits { IsWithinLimits config.now }
+    ensures { IfOk result (HasDone P.Port C.Clock settings.now config.now opened) }
+{
+    let rounds = Rounds {
+        meeting: Meeting::new(2 + u64::from(settings.senders)),
+        count: settings.rounds,
+        early: rounds_before_change(settings),
+    };
+    let crew = Crew {
+        rt,
+        alloc,
+        config,
+        gate,
+        rounds,
+        threads,
+    };
+    let crew = &crew;
+    thread::scope(
+        thread::scope_env(),
+        rt,
+        move |scope| -> Result<Done<P, C, G, R>, OutOfMemory>
+            requires { IsBlankOf L.name L.parts 4 blanks.rates
+                × IsBlankOf G.name G.parts L.seats blanks.granted
+                × IsBlankOf R.name R.parts L.seats blanks.refused
+                × (L.most ≡ greatest_capacity settings.now) × (L.seats ≡ 1)
+                × (seen_of P.Port opened.p0 ≡ L.opened 0)
+                × (seen_of P.Port opened.p1 ≡ L.opened 1)
+                × (seen_of P.Port opened.p2 ≡ L.opened 2)
+                × (seen_of P.Port opened.p3 ≡ L.opened 3)
+                × IsGmInRange settings.now × (1 ≤ settings.now.senders)
+                × IsWithinLimits crew.now.config.now
+                × (crew.now.rounds.count ≡ settings.now.rounds) }
+            ensures { IfOk result
+                (HasDone P.Port C.Clock settings.entry.now crew.entry.now.config.now opened) }
+        { crew.work(scope, settings, blanks, opened) },
+    )
+}
