@@ -81,6 +81,12 @@ class Places(unittest.TestCase):
             self.assertIn(path, places)
         self.assertTrue(any(line.endswith('Key::TwoStep => "two_step",') for line in lines))
 
+    def test_a_class_of_python_is_no_place_of_the_setting_class(self) -> None:
+        _, lines, _ = where("--kind", "setting", "class")
+        places = [line for line in lines if line.startswith("tools/plan.py:")]
+        self.assertTrue(places)
+        self.assertFalse([line for line in places if ": class " in line])
+
     def test_a_name_of_two_lists_has_the_places_of_both(self) -> None:
         titles = [line.split(":")[0] for line in where("capacity")[1] if "(docs/HOWTO.md says" in line]
         self.assertEqual(titles, ["A setting", "A line of the report"])
