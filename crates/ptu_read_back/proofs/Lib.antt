@@ -1,0 +1,10 @@
+pub mod Words
+pub mod Values
+pub mod Lines
+pub mod Forms
+pub mod Decisions
+pub mod Entries
+pub mod Places
+pub mod Statements
+pub mod Others
+pub mod Reading
