@@ -8,8 +8,9 @@ ghost use Rattle.ptu_config.specs.{Limits.{IsGmInRange}, Refusals.{refusal_text}
 ghost use Rattle.ptu_daemon.specs.Answers.{HasAnswered};
 ghost use Rattle.ptu_run.specs.{Answers.{HasEnded}, Daemons.{HasRunServe, HasRunSlave, IsServed}};
 
-use crate::status::{BAD_LINE, BROKEN_PROMISE, OUT_OF_MEMORY, SINK_FAULT, SOURCE_FAULT};
-use crate::status::daemon_status;
+use crate::status::{
+    BAD_LINE, BROKEN_PROMISE, OUT_OF_MEMORY, SINK_FAULT, SOURCE_FAULT, daemon_status,
+};
 use ptu_config::{GmSettings, RefusalLine, SetupFault, gm_setup, slave_setup};
 use ptu_daemon::{DaemonFault, serve, serve_in_two_steps};
 use ptu_judges::Stock;

@@ -14,8 +14,9 @@ ghost use Rattle.ptu_run.specs.Answers.{AreFaultsAnswered, AreWordsAnswered, Has
 ghost use Rattle.ptu_run.specs.Run.{output_of, statuses, HasAudited, HasLoaded, HasReadAll, HasRun, HasRunUnlessFailed, IsAccepted, IsOfLab, IsStatusOf, IsWholeStatus};
 
 use crate::daemons::{run_serve, run_slave};
-use crate::status::{BAD_LINE, BROKEN_PROMISE, OUT_OF_MEMORY, SOURCE_FAULT, USAGE};
-use crate::status::{audit_status, status_of};
+use crate::status::{
+    BAD_LINE, BROKEN_PROMISE, OUT_OF_MEMORY, SOURCE_FAULT, USAGE, audit_status, status_of,
+};
 use ptu_audit::audit;
 use ptu_lab::{Stock, load, replay, show};
 use ptu_outside::{Host, Sink, Source};
