@@ -10,7 +10,7 @@ use crate::service::Service;
 use crate::signaling::control_round;
 use crate::turns::turn_round;
 use ptu_outside::{Clock, Port};
-use ptu_rounds::Meeting;
+use ptu_rounds::{Meeting, last_moment};
 use ptu_shared::{Rates, Seat};
 use ptu_units::OutOfMemory;
 use std::sync::Wait;
@@ -147,9 +147,23 @@ impl<P: Port + Send, L: Rates, G: Ledger, R: Ledger, W: Wait> Service<'_, P, L, 
         Ok(lane)
     }
 
-    // A round of the lane that takes Delay_Reqs.
+    // Once all other lanes have come to the meeting, waits until a datagram is there to receive or a
+    // message may be due, as long as the port does. So what they were granted in this round counts,
+    // and they sleep meanwhile. Where a lane has given up it does not wait.
+    fn wait(&self, rounds: &Rounds, port: &mut P)
+        ensures sent { P.sent port.new ≡ P.sent port.old }
+        ensures waiting { P.waiting port.new ≡ P.waiting port.old }
+        ensures quiet { P.faults port.new ≡ P.faults port.old }
+    {
+        if rounds.meeting.await_others(self.rt) {
+            self.shared.wait(self.rt, port, last_moment());
+        }
+    }
+
+    // A round of the lane that takes Delay_Reqs, at whose end it waits.
     fn take_delay_reqs<C: Clock>(
         &self,
+        rounds: &Rounds,
         mut lane: EventLane<P, C>,
     ) -> Result<EventLane<P, C>, OutOfMemory>
         requires { IsWithinLimits self.now.config.now }
@@ -164,6 +178,7 @@ impl<P: Port + Send, L: Rates, G: Ledger, R: Ledger, W: Wait> Service<'_, P, L, 
             &mut lane.clock,
         )?;
         lane.tally = lane.tally.plus(delays.sent, delays.missed);
+        self.wait(rounds, &mut lane.port);
         Ok(lane)
     }
 
@@ -224,7 +239,7 @@ impl<P: Port + Send, L: Rates, G: Ledger, R: Ledger, W: Wait> Service<'_, P, L, 
         let mut lane = lane;
         for i in 0..rounds.count {
             rounds.begin(self.rt, i)?;
-            lane = rounds.met(self.rt, self.take_delay_reqs(lane))?;
+            lane = rounds.met(self.rt, self.take_delay_reqs(rounds, lane))?;
         }
         Ok(lane)
     }

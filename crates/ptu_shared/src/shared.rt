@@ -282,4 +282,28 @@ impl<P: Port + Send, L: Rates, G: Ledger, R: Ledger> Shared<P, L, G, R> {
             _ => self.t3.lock(rt).answer_delay(config, t, client, request),
         }
     }
+
+    // The earliest moment up to `until` at which a turn of some table may have a message to send,
+    // or `until` where there is none before it. Each table is asked under its lock alone.
+    fn next_due(&self, rt: &impl Wait, until: Moment) -> Moment
+        ensures { result ≤ until }
+    {
+        let first = self.t0.lock(rt).shard.next_due(until);
+        let second = self.t1.lock(rt).shard.next_due(first);
+        let third = self.t2.lock(rt).shard.next_due(second);
+        self.t3.lock(rt).shard.next_due(third)
+    }
+
+    /// Waits at this port until a datagram is there to receive, or until a turn of some table may
+    /// have a message to send, but no longer than until `until`, nor than the port allows. What the
+    /// tables have when it begins counts: what other threads are granted meanwhile does not end it.
+    /// No lock is held while it waits.
+    pub fn wait(&self, rt: &impl Wait, port: &mut P, until: Moment)
+        ensures sent { P.sent port.new ≡ P.sent port.old }
+        ensures waiting { P.waiting port.new ≡ P.waiting port.old }
+        ensures quiet { P.faults port.new ≡ P.faults port.old }
+    {
+        let due = self.next_due(rt, until);
+        port.wait(due);
+    }
 }
