@@ -1,7 +1,5 @@
 use crate::memory::{MemLookout, MemSocket, Seen, SleepClock};
 use crate::readiness::Readiness;
-use crate::rests::Rests;
-use crate::traffic::Traffic;
 use crate::udp_port::{Numbers, UdpPort};
 use crate::watch::Watch;
 use ptu_outside::Port;
@@ -42,9 +40,8 @@ fn event_port(
     let (general, event) = (Readiness::new(alloc)?, Readiness::new(alloc)?);
     let lookout = MemLookout::new(clock.share()?, general_at, event_at);
     let watch = Watch::new(lookout, general.share()?, event.share()?);
-    let rests = Rests::none(Traffic::new(alloc)?);
     let runtime = clock.share()?;
-    let port = UdpPort::over(runtime, start, socket, NUMBERS, event, Some(watch), rests);
+    let port = UdpPort::over(runtime, start, socket, NUMBERS, event, Some(watch));
     Ok(Waiting {
         port,
         clock,
@@ -176,8 +173,7 @@ fn a_port_without_a_watch_sleeps_until_the_moment(rt: HostRuntime) -> Result<(),
     let start = Instant::now(&clock)?;
     let socket = MemSocket::new(0, 0, &waiting.seen)?;
     let readiness = Readiness::new(alloc)?;
-    let rests = Rests::none(Traffic::new(rt.alloc())?);
-    waiting.port = UdpPort::over(clock, start, socket, NUMBERS, readiness, None, rests);
+    waiting.port = UdpPort::over(clock, start, socket, NUMBERS, readiness, None);
     assert_eq!(rt; wait(&mut waiting, 3700), 3700);
     assert_eq!(rt; wait(&mut waiting, 3700), 3700);
     assert_eq!(rt; wait(&mut waiting, 99_000), 13_700);
