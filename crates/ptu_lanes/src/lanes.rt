@@ -73,9 +73,9 @@ pub(crate) struct SendingLanes<C: Clock> {
 #[derive(Drop)]
 pub(crate) struct Rounds {
     pub meeting: Meeting,
-    pub count: u32,
+    pub count: u64,
     /// The number of rounds before the change of capacity, or `None` where there is no change.
-    pub early: Option<u32>,
+    pub early: Option<u64>,
 }
 
 impl Rounds {
@@ -99,7 +99,7 @@ impl Rounds {
 
     // Begins a round, before which there were so many: the round of the change once the capacity
     // has changed. `OutOfMemory` where another lane gave up.
-    fn begin(&self, rt: &impl Wait, before: u32) -> Result<(), OutOfMemory> {
+    fn begin(&self, rt: &impl Wait, before: u64) -> Result<(), OutOfMemory> {
         if self.early == Some(before) {
             self.met(rt, Ok(()))
         } else {
@@ -131,7 +131,7 @@ impl<P: Port + Send, L: Rates, G: Ledger, R: Ledger, W: Wait> Service<'_, P, L, 
     ) -> Result<ControlLane<P, C, G, R>, OutOfMemory>
         requires ledger { L.parts ≡ 4 }
         requires limits { IsWithinLimits self.now.config.now }
-        requires counts { (lane.seat.granted ≤ 2 ^ 47) × (lane.seat.refused ≤ 2 ^ 47) }
+        requires counts { (lane.seat.granted ≤ 2 ^ 55) × (lane.seat.refused ≤ 2 ^ 55) }
         ensures { IfOk result (ControlLaneDid P.Port C.Clock self.now.config.now 1 lane) }
     {
         let control = control_round(
@@ -208,12 +208,13 @@ impl<P: Port + Send, L: Rates, G: Ledger, R: Ledger, W: Wait> Service<'_, P, L, 
     pub(crate) fn take_part_signaling<C: Clock>(
         &self,
         rounds: &Rounds,
-        count: u32,
+        count: u64,
         lane: ControlLane<P, C, G, R>,
     ) -> Result<ControlLane<P, C, G, R>, OutOfMemory>
         requires ledger { L.parts ≡ 4 }
         requires limits { IsWithinLimits self.now.config.now }
-        requires counts { lane.seat.granted + lane.seat.refused ≤ 2 ^ 46 }
+        requires count { count < 2 ^ 42 }
+        requires counts { lane.seat.granted + lane.seat.refused ≤ 2 ^ 54 }
         ensures { IfOk result
             (ControlLaneDid P.Port C.Clock self.now.config.now count lane) }
     {

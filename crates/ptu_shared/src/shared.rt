@@ -110,7 +110,7 @@ impl<P: Port + Send, L: Rates, G: Ledger, R: Ledger> Shared<P, L, G, R> {
     ) -> Result<Verdict, OutOfMemory>
         requires ledger { L.parts ≡ 4 }
         requires limits { IsWithinLimits config.now }
-        requires counts { (seat.old.granted < 2 ^ 48) × (seat.old.refused < 2 ^ 48) }
+        requires counts { (seat.old.granted < 2 ^ 56) × (seat.old.refused < 2 ^ 56) }
         ensures verdict { IfOk result (AnswersAsk L.most config.now t client.now ask.now) }
         // The granted count rises by 1 exactly at Granted, the refused count exactly at Short.
         ensures seat { IfOk result (λ v. seat.new ≡ counting v seat.old) }
@@ -145,7 +145,7 @@ impl<P: Port + Send, L: Rates, G: Ledger, R: Ledger> Shared<P, L, G, R> {
     ) -> Result<Option<Verdict>, OutOfMemory>
         requires table { table_of_client demand.now.client.now ≡ J.index }
         requires limits { IsWithinLimits demand.now.config.now }
-        requires counts { (seat.old.granted < 2 ^ 48) × (seat.old.refused < 2 ^ 48) }
+        requires counts { (seat.old.granted < 2 ^ 56) × (seat.old.refused < 2 ^ 56) }
         ensures verdict { IfOk result (λ o. IfSome o
             (AnswersAsk L.most demand.now.config.now demand.now.at demand.now.client.now
             demand.now.ask.now)) }
@@ -172,7 +172,7 @@ impl<P: Port + Send, L: Rates, G: Ledger, R: Ledger> Shared<P, L, G, R> {
     ) -> Result<Verdict, OutOfMemory>
         requires ledger { L.parts ≡ 4 }
         requires limits { IsWithinLimits demand.now.config.now }
-        requires counts { (seat.old.granted < 2 ^ 48) × (seat.old.refused < 2 ^ 48) }
+        requires counts { (seat.old.granted < 2 ^ 56) × (seat.old.refused < 2 ^ 56) }
         ensures verdict { IfOk result
             (AnswersAsk L.most demand.now.config.now demand.now.at demand.now.client.now
             demand.now.ask.now) }

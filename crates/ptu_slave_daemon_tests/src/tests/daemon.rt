@@ -51,6 +51,7 @@ pub(crate) fn settings(alloc: Global, rounds: u32) -> Result<SlaveSettings, Fail
         port: 1,
         domain: 4,
         rounds,
+        repeat: 1,
         wait_to_restore: 300,
         announce_timeout: 3,
         sync_timeout: 3,
