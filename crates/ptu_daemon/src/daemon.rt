@@ -13,8 +13,9 @@ use crate::tally::Tally;
 use ptu_config::GmSettings;
 use ptu_grandmaster::{Gm, SIGNALING_PORT};
 use ptu_outside::{Channel, Clock, Failed, Port};
+use ptu_rounds::last_moment;
+use ptu_units::OutOfMemory;
 use ptu_units::sizes::LONGEST_DATAGRAM;
-use ptu_units::{Moment, OutOfMemory};
 
 /// How many datagrams of a channel a round takes at most.
 const MOST: u32 = 64;
@@ -40,16 +41,6 @@ fn change_before(settings: &GmSettings, before: u64) -> Option<u64>
         settings.new_capacity
     } else {
         None
-    }
-}
-
-// The last moment that there is, 146 years after the zero that moments count from.
-fn last_moment() -> Moment
-    ensures { result + 1 ≡ 2 ^ 62 }
-{
-    match Moment::of((1 << 62) - 1) {
-        Some(moment) => moment,
-        None => Moment::default(),
     }
 }
 

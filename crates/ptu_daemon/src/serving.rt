@@ -204,8 +204,9 @@ pub fn serve_within<W: Threads + Wait + Sync, H: Host, K: Sink>(
 /// change of the capacity to `new_capacity`. A send or a receive that fails is counted, and the
 /// daemon goes on. The ports and clocks are given back to the host before the line is written.
 ///
-/// So it is on this thread where `senders` is 0. A round ends there with a wait of port 5, until a
-/// datagram is there or a message may be due. Else the channels and the tables are served side by
+/// A round ends with a wait of port 5, until a datagram is there or a message may be due.
+///
+/// So it is on this thread where `senders` is 0. Else the channels and the tables are served side by
 /// side in each round, by lanes of which `senders` turn the tables, and each lane takes moments of
 /// a clock of its own (`serve_lanes`). Their threads are made before the first datagram is taken:
 /// where the system refuses one, all is served on this thread, as where `senders` is 0.

@@ -5,7 +5,7 @@ use Rattle.ptu_outside.specs.declared.{clock.Clock.{Ghosts as Clocks}, opened.Op
 use Rattle.ptu_outside.specs.Faults.{HasRisen}
 use Rattle.ptu_profile.specs.declared.grandmaster.GmConfig.{GmConfig}
 use Rattle.ptu_shared.specs.{Opening.{HaveFailed}, Seats.{Counts, no_verdicts}}
-use Rattle.ptu_config.specs.declared.settings.GmSettings.{GmSettings}
+use Rattle.ptu_config.specs.{declared.settings.GmSettings.{GmSettings}, Rounds.{all_rounds}}
 use Rattle.ptu_lanes.specs.{Changing.{change_moments}, Rounds.{Exchanged}, Served.{IsControlled}}
 use Rattle.ptu_lanes.specs.{Stretches.{EventLaneDid, TookDelayReqs}, Waiting.{TurnedOwn}}
 use Rattle.ptu_lanes.specs.declared.lanes.{EventLane.{EventLane}, Lanes.{Lanes}, SendingLane.{SendingLane}, SendingLanes.{SendingLanes}}
@@ -70,18 +70,18 @@ pub record AreTurning {C : Type 0} (clocks : Clocks C) (lanes rounds : ℕ) (old
 pub record ServedSignaling {P C : Type 0} (ports : Ports P) (clocks : Clocks C) (settings : GmSettings) (config : GmConfig) (port port' : P) (clock clock' : C) (counted : Counts) (failures : ℕ) : Type 0 where
   pub control : ¬ HasRisen (ports.faults port) (ports.faults port') → IfSome (ports.waiting port') (λ left.
       IsControlled ports settings config port port' left counted.granted counted.refused)
-  pub exchanged : Exchanged ports clocks config (64 * settings.rounds) (change_moments settings) port port' clock clock' no_verdicts counted
+  pub exchanged : Exchanged ports clocks config (64 * all_rounds settings) (change_moments settings) port port' clock clock' no_verdicts counted
   pub failed : HaveFailed ports.counts_once failures (ports.faults port) (ports.faults port')
 
 -- all lanes did all rounds, between these ports and clocks as they were opened, and as the lanes have them
 pub record LanesServed {P C G R : Type 0} (ports : Ports P) (clocks : Clocks C) (settings : GmSettings) (config : GmConfig) (opened : Opened P C) (lanes : Lanes P C G R) : Type 0 where
   pub control : ServedSignaling ports clocks settings config opened.p4 lanes.control.port opened.c0 lanes.control.clock
       lanes.control.seat lanes.control.tally.failed
-  pub event : TookDelayReqs ports clocks settings.rounds opened.p5 lanes.event.port opened.c1 lanes.event.clock 0 lanes.event.tally.failed
-  pub first : TurnedOwn clocks settings.senders 0 settings.rounds opened.c2 lanes.sending.first.clock
-  pub second : TurnedOwn clocks settings.senders 1 settings.rounds opened.c3 lanes.sending.second.clock
-  pub third : TurnedOwn clocks settings.senders 2 settings.rounds opened.c4 lanes.sending.third.clock
-  pub fourth : TurnedOwn clocks settings.senders 3 settings.rounds opened.c5 lanes.sending.fourth.clock
+  pub event : TookDelayReqs ports clocks (all_rounds settings) opened.p5 lanes.event.port opened.c1 lanes.event.clock 0 lanes.event.tally.failed
+  pub first : TurnedOwn clocks settings.senders 0 (all_rounds settings) opened.c2 lanes.sending.first.clock
+  pub second : TurnedOwn clocks settings.senders 1 (all_rounds settings) opened.c3 lanes.sending.second.clock
+  pub third : TurnedOwn clocks settings.senders 2 (all_rounds settings) opened.c4 lanes.sending.third.clock
+  pub fourth : TurnedOwn clocks settings.senders 3 (all_rounds settings) opened.c5 lanes.sending.fourth.clock
 
 -- the lanes did all rounds, and no seat is left; or a lane was refused its thread, and all is as it was opened
 abbrev pub HasDone : {P C G R : Type 0} → Ports P → Clocks C → GmSettings → GmConfig → Opened P C → Done P C G R → Type 0

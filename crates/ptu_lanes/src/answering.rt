@@ -58,7 +58,7 @@ fn answer_item<P: Port + Send, L: Rates, G: Ledger, R: Ledger, W: Wait>(
 ) -> Result<Outcome, OutOfMemory>
     requires ledger { L.parts ≡ 4 }
     requires limits { IsWithinLimits service.now.config.now }
-    requires counts { (seat.old.granted < 2 ^ 48) × (seat.old.refused < 2 ^ 48) }
+    requires counts { (seat.old.granted < 2 ^ 56) × (seat.old.refused < 2 ^ 56) }
     ensures item { IfOk result (λ o. item_seen o ≡ item) }
     ensures decided { IfOk result (WasDecided L.most service.now.config.now t client.now) }
     ensures answered { IfOk result (λ o. HasAnswered service.now.config.now (item ∷ [])
@@ -90,7 +90,7 @@ fn answer_items<P: Port + Send, L: Rates, G: Ledger, R: Ledger, W: Wait>(
     requires ledger { L.parts ≡ 4 }
     requires limits { IsWithinLimits service.now.config.now }
     requires few { length items.now ≤ 32 }
-    requires counts { (seat.old.granted + 32 ≤ 2 ^ 48) × (seat.old.refused + 32 ≤ 2 ^ 48) }
+    requires counts { (seat.old.granted + 32 ≤ 2 ^ 56) × (seat.old.refused + 32 ≤ 2 ^ 56) }
     ensures items { IfOk result (λ os. map item_seen os ≡ items.now) }
     ensures answered { IfOk result (λ os.
         HasAnswered service.now.config.now items.now (answers_seen os) seat.old seat.new) }
@@ -138,7 +138,7 @@ fn answer_signaling<P: Port + Send, L: Rates, G: Ledger, R: Ledger, W: Wait>(
     requires ledger { L.parts ≡ 4 }
     requires limits { IsWithinLimits service.now.config.now }
     requires answerable { AreAnswerable items.now }
-    requires counts { (seat.old.granted + 32 ≤ 2 ^ 48) × (seat.old.refused + 32 ≤ 2 ^ 48) }
+    requires counts { (seat.old.granted + 32 ≤ 2 ^ 56) × (seat.old.refused + 32 ≤ 2 ^ 56) }
     ensures answered { IfOk result (λ c. (answers : List Tlv)
         × HasAnswered service.now.config.now items.now answers seat.old seat.new
         × HandsOver P.Port port.old port.new
@@ -170,7 +170,7 @@ pub(crate) fn answer_datagram<P: Port + Send, L: Rates, G: Ledger, R: Ledger, W:
 ) -> Result<Control, OutOfMemory>
     requires ledger { L.parts ≡ 4 }
     requires limits { IsWithinLimits service.now.config.now }
-    requires counts { (seat.old.granted + 32 ≤ 2 ^ 48) × (seat.old.refused + 32 ≤ 2 ^ 48) }
+    requires counts { (seat.old.granted + 32 ≤ 2 ^ 56) × (seat.old.refused + 32 ≤ 2 ^ 56) }
     ensures replied { IfOk result (λ c. (answers : List Tlv)
         × HasReplied P.Port service.now.config.now
         (record { datagram = record { ip = origin.from; bytes = bytes.now }; answers = answers })
