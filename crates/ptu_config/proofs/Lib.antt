@@ -6,3 +6,4 @@ pub mod EachMaster
 pub mod Readings
 pub mod KeyNames
 mod Taking
+mod Answering
