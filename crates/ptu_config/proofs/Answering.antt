@@ -1,44 +1,43 @@
--- What is answered for the octets that were read is answered for all that the source had left.
-use Rattle.std.proofs.Common.{◌≡◌, ◌<◌, ◌+◌, ℕ, List, [], ◌++◌, length, Option, Some, None, Result, Ok, Err, arith, sym, ap, ◌∙◌, subst, inl, inr, append-nil}
-use Rattle.std.proofs.lemmas.{Bool.{cases_lt, lt-ltb}, List.{length-append}, Option.{same_Some}}
+-- What is answered for all that a source had left, of which the first octets were taken.
+use Rattle.std.proofs.Common.{◌≡◌, ◌∙◌, ℕ, ◌+◌, ◌<◌, ◌≤◌, List, [], ◌++◌, length, Option, Some, None, Result, Ok, Err, nat_lt, true, inl, inr, refl, sym, ap, subst, arith, length-append}
+use Rattle.std.specs.Io.KnownBytes.{prepend_known}
+use Rattle.std.proofs.lemmas.{Bool.{cases_Bool, lt-ltb, ltb-false, ltb-true}, List.{append-nil}, Option.{same_Some}}
 use Rattle.ptu_config.specs.declared.key.Key.{Key}
-use Rattle.ptu_config.specs.declared.setup_fault.SetupFault.{SetupFault}
-use Rattle.ptu_config.specs.declared.setup_fault.SetupFault.TheVariants.{Refused, Read, OutOfMemory}
-use Rattle.ptu_config.specs.declared.refusal.RefusalLine.{RefusalLine}
-use Rattle.ptu_config.specs.declared.refusal.RefusalLine.TheVariants.{Size}
-use Rattle.ptu_config.specs.{Documents.{document_of, refusal_of}, Reading.{Answers, HasTaken}}
-use Rattle.ptu_config.specs.{Refusals.{or_later, slave_refusal, unjudged}, Rules.{Value, slave_keys}}
+use Rattle.ptu_config.specs.declared.refusal.{RefusalLine.{RefusalLine}, RefusalLine.TheVariants.{Size}}
+use Rattle.ptu_config.specs.declared.setup_fault.{SetupFault.{SetupFault}, SetupFault.TheVariants.{Refused, Read, OutOfMemory}}
+use Rattle.ptu_config.specs.{Reading.{Answers, HasTaken}, Refusals.{slave_refusal}, Rules.{Value}}
 
--- octets that are too many are refused by their size, whatever else there is
-too_many : (keys : List Key) (octets : List ℕ) (later : Option RefusalLine) → 65536 < length octets →
-    or_later (refusal_of keys octets) later ≡ Some Size
-too_many keys octets later many = rw (lt-ltb 65536 (length octets) many)
+-- too many octets are refused by their number
+pub long_slave : (flags gaps : ℕ) (octets : List ℕ) → nat_lt 65536 (length octets) ≡ true → slave_refusal flags gaps octets ≡ Some Size
+long_slave flags gaps octets long = rw long refl
 
-pub slave_too_many : (flags gaps : ℕ) (octets : List ℕ) → 65536 < length octets → slave_refusal flags gaps octets ≡ Some Size
-slave_too_many flags gaps octets many = too_many slave_keys octets (unjudged flags gaps (document_of octets)) many
+longer : (octets rest : List ℕ) → nat_lt 65536 (length octets) ≡ true → nat_lt 65536 (length (octets ++ rest)) ≡ true
+longer octets rest long =
+    let many : 65536 < length octets = ltb-true 65536 (length octets) long in
+    lt-ltb 65536 (length (octets ++ rest)) (omega (arith, many, length-append octets rest))
 
 module _ {A : Type 0} (entries : A → List (Key × Value)) (refusal : List ℕ → Option RefusalLine)
-    (long : (octets : List ℕ) → 65536 < length octets → refusal octets ≡ Some Size) where
-  -- too many octets, and more of them, are answered alike
-  of_more : (octets input : List ℕ) → 65536 < length octets → 65536 < length input → (result : Result A SetupFault) →
+    (long : (octets : List ℕ) → nat_lt 65536 (length octets) ≡ true → refusal octets ≡ Some Size) where
+  by_line : (octets input : List ℕ) (result : Result A SetupFault) → refusal octets ≡ Some Size → refusal input ≡ Some Size →
       Answers entries refusal octets result → Answers entries refusal input result
-  of_more octets input many more (Ok settings) answered =
-      let none : Some Size ≡ None = sym (long octets many) ∙ answered.1 in cc
-  of_more octets input many more (Err (Refused line)) answered = long input more ∙ sym (long octets many) ∙ answered
-  of_more octets input many more (Err Read) answered = tt
-  of_more octets input many more (Err OutOfMemory) answered = tt
+  by_line octets input (Ok settings) first second answers = let none : Some Size ≡ None = sym first ∙ answers.1 in cc
+  by_line octets input (Err (Refused line)) first second answers = second ∙ (sym first ∙ answers)
+  by_line octets input (Err Read) first second answers = tt
+  by_line octets input (Err OutOfMemory) first second answers = tt
 
-  -- octets that were read to the end, or to the one that makes them too many
-  pub of_all : (left left' : Option (List ℕ)) (octets : List ℕ) (result : Result A SetupFault) → HasTaken left left' octets →
-      Answers entries refusal octets result → (input : List ℕ) → left ≡ Some input → Answers entries refusal input result
-  of_all left None octets result t answered input told = let nothing : None ≡ Some input = sym t.taken ∙ told in cc
-  of_all left (Some rest) octets result t answered input told =
-      let all : octets ++ rest ≡ input = same_Some _ _ (sym t.taken ∙ told) in
-      elim (cases_lt 65536 (length octets)) [
-        | inl many ↦
-            let size : length input ≡ length octets + length rest = sym (ap length all) ∙ length-append octets rest in
-            of_more octets input many (omega (arith, many, size)) result answered
+  answers_more : (octets rest : List ℕ) (result : Result A SetupFault) → (length octets ≤ 65536 → rest ≡ []) →
+      Answers entries refusal octets result → Answers entries refusal (octets ++ rest) result
+  answers_more octets rest result whole answers =
+      elim (cases_Bool (nat_lt 65536 (length octets))) [
+        | inl many ↦ by_line octets (octets ++ rest) result (long octets many) (long (octets ++ rest) (longer octets rest many)) answers
         | inr few ↦
-            let end : rest ≡ [] = t.whole few in
-            subst (λ xs. Answers entries refusal xs result) (sym (append-nil octets) ∙ ap (λ xs. octets ++ xs) (sym end) ∙ all) answered
+            let none : rest ≡ [] = whole (ltb-false 65536 (length octets) few) in
+            subst (λ xs. Answers entries refusal xs result) (sym (ap (λ xs. octets ++ xs) none ∙ append-nil octets)) answers
       ]
+
+  pub answers_all : (left left' : Option (List ℕ)) (octets input : List ℕ) (result : Result A SetupFault) → HasTaken left left' octets → left ≡ Some input →
+      Answers entries refusal octets result → Answers entries refusal input result
+  answers_all left None octets input result taken is answers = let none : Some input ≡ None = sym is ∙ taken.taken in cc
+  answers_all left (Some rest) octets input result taken is answers =
+      let same : octets ++ rest ≡ input = same_Some (octets ++ rest) input (sym taken.taken ∙ is) in
+      subst (λ xs. Answers entries refusal xs result) same (answers_more octets rest result taken.whole answers)

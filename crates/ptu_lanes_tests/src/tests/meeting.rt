@@ -10,7 +10,7 @@ const ROUNDS: u32 = 4;
 const LOOKS: u32 = 1000;
 
 // The limit of looks at a count.
-const MOST_LOOKS: u64 = 1_000_000_000;
+const MOST_LOOKS: u64 = 50_000_000;
 
 // How many rounds two lanes have done, and how far apart they were at most when one had done a
 // round.

@@ -56,7 +56,12 @@ impl Gate {
 
     // Looks at the flag until it is set or the limit is reached.
     fn await_flag(&self, flag: &AtomicU64) {
-        for _ in 0..LOOKS {
+        self.await_within(flag, LOOKS);
+    }
+
+    // The same with this limit.
+    fn await_within(&self, flag: &AtomicU64, looks: u64) {
+        for _ in 0..looks {
             if flag.load(Ordering::SeqCst) == 1 {
                 return;
             }
@@ -89,11 +94,11 @@ impl<'a> HeldPort<'a> {
         HeldPort { gate }
     }
 
-    // Until its gate opens.
-    fn hold(&self) {
+    // Until its gate opens, or so many looks at it are over.
+    fn hold(&self, looks: u64) {
         if let Some(gate) = self.gate {
             gate.entered.store(1, Ordering::SeqCst);
-            gate.await_flag(&gate.opened);
+            gate.await_within(&gate.opened, looks);
         }
     }
 }
@@ -106,7 +111,7 @@ impl Port for HeldPort<'_> {
     ghost faults = { λ _. 0 };
 
     fn send(&mut self, _ip: u32, _channel: Channel, _bytes: &[u8]) -> Result<(), Failed> {
-        self.hold();
+        self.hold(LOOKS);
         Ok(())
     }
 
@@ -115,7 +120,7 @@ impl Port for HeldPort<'_> {
     }
 
     fn wait(&mut self, _until: Moment) {
-        self.hold();
+        self.hold(LOOKS / 10);
     }
 }
 
