@@ -15,7 +15,7 @@ pub returns-clause-served : goal.returns-clause-served
 returns-clause-served g c =
     elim c.match-answer.branch [
       | in-Ok w ↦
-          let d = w.in-Ok.ensures.done in
+          let d = rw c.all_rounds.ensures.value at w.in-Ok.ensures.done in
           rw w.written-is
           (has_served_by g.P.Port g.C.Clock g.K.Sink.written g.K.Sink.handed c.args.settings.now c.args.opened
           (given_back c.args.opened c.into_port.result c.run-answer.new.event c.run-answer.new.clock)
@@ -31,7 +31,7 @@ returns-clause-front g c =
       | in-Ok w ↦ rw w.written-is tt
       | in-Err+in-Write w ↦
           let is = w.in-Err.is ∙ ap Err w.in-Write.is in
-          let d = c.run-answer.ensures.stopped is in
+          let d = rw c.all_rounds.ensures.value at (c.run-answer.ensures.stopped is) in
           rw w.written-is
           (has_stopped g.P.Port g.C.Clock g.K.Sink.written g.K.Sink.handed c.args.settings.now c.args.opened
           (given_back c.args.opened c.into_port.result c.run-answer.new.event c.run-answer.new.clock)
