@@ -8,6 +8,7 @@ ghost use Rattle.ptu_pool_run.specs.Output.{line_text};
 use crate::cause::PoolCause;
 use ptu_lines::LentOctets;
 use ptu_outside::Channel;
+use ptu_report_lines::ChannelText;
 use ptu_texts::AddressText;
 use ptu_units::OutOfMemory;
 use ptu_writing::{Draft, LinePart, LineText, Text};
@@ -47,10 +48,7 @@ fn sent_head(number: u64, pool: usize, channel: Channel, to: u32) -> LineText
     line.put_str(" ");
     AddressText(to).put(&mut line);
     line.put_str(" ");
-    line.put_str(match channel {
-        Channel::Event => "event",
-        Channel::General => "general",
-    });
+    ChannelText(channel).put(&mut line);
     line.put_str(" send ");
     line.put_number(pool as u64);
     line.put_str(" pool ");

@@ -4,11 +4,10 @@ ghost use Rattle.std.specs.Prelude.{◌≡◌, ◌++◌, OnOk, codes};
 ghost use Rattle.hex.specs.Hex.{encode_lower};
 ghost use Rattle.ptu_show.specs.{JoinLines.{join_line_text}, Shown.{numbered}};
 
-use crate::lines::put_cause;
 use ptu_script::Cause;
 use ptu_texts::OctetsText;
 use ptu_units::OutOfMemory;
-use ptu_writing::{Draft, LineText, Text};
+use ptu_writing::{Draft, LinePart, LineText, Text};
 
 /// A line that `join` writes, with the 0A at its end. All but the last begin with the number of the
 /// line of input.
@@ -50,7 +49,7 @@ impl Text for JoinLine<'_> {
             }
             JoinLine::Bad { number, cause } => {
                 line.put_str("\n");
-                put_cause(cause, &mut line);
+                cause.put(&mut line);
                 line.put_str(" bad ");
                 line.put_number(number);
             }
@@ -76,6 +75,6 @@ fn put_pair(number: u64, sync: &OctetsText<'_>, draft: &mut Draft) -> Result<(),
     line.put_str(" pair ");
     line.put_number(number);
     draft.put_line(&line)?;
-    draft.put_digits(sync.0)?;
+    sync.put(draft)?;
     draft.put_octets(b"\n")
 }

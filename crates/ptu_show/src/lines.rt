@@ -1,7 +1,6 @@
 //! The lines that `show` writes.
 
-ghost use Rattle.std.specs.Prelude.{◌≡◌, ◌≤◌, ◌+◌, ◌++◌, OnOk};
-ghost use Rattle.ptu_script.specs.Cause.{text_of};
+ghost use Rattle.std.specs.Prelude.{◌≡◌, ◌++◌, OnOk};
 ghost use Rattle.ptu_show.specs.Lines.{line_text};
 
 use crate::datagram::MessageText;
@@ -38,7 +37,7 @@ impl Text for ShowLine<'_> {
                 line.put_number(number);
             }
             ShowLine::Bad { number, cause } => {
-                put_cause(cause, &mut line);
+                cause.put(&mut line);
                 line.put_str(" bad ");
                 line.put_number(number);
             }
@@ -48,29 +47,5 @@ impl Text for ShowLine<'_> {
             }
         }
         draft.put_line(&line)
-    }
-}
-
-/// Puts the cause of a refusal before what stands.
-pub fn put_cause(cause: Cause, line: &mut LineText)
-    requires { 9 ≤ line.old.room }
-    ensures text { line.new.text ≡ text_of cause ++ line.old.text }
-    ensures room { line.old.room ≤ line.new.room + 9 }
-{
-    match cause {
-        Cause::Size => line.put_str("size"),
-        Cause::Long => line.put_str("long"),
-        Cause::Text => line.put_str("text"),
-        Cause::Word => line.put_str("word"),
-        Cause::Count => line.put_str("count"),
-        Cause::Field(number) => {
-            line.put_octet(number);
-            line.put_str("field ");
-        }
-        Cause::Order => line.put_str("order"),
-        Cause::Node => line.put_str("node"),
-        Cause::Full => line.put_str("full"),
-        Cause::Number => line.put_str("number"),
-        Cause::Stock => line.put_str("stock"),
     }
 }
