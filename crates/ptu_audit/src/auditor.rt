@@ -251,14 +251,14 @@ impl Reporter for Auditor {
             return Ok(Some(AuditCause::End));
         }
         let answer = self.answer()?;
-        texts.add(&answer)?;
+        texts.add_text(&answer)?;
         Ok(None)
     }
 
     #[tactic(auto, unfolding(crate::specs::Reading::audit_rules))]
     fn refuse(number: u64, cause: &AuditCause, texts: &mut Texts) -> Result<(), OutOfMemory> {
         let cause = *cause;
-        texts.add(&Refusal { number, cause })
+        texts.add_text(&Refusal { number, cause })
     }
 
     #[tactic(auto, unfolding(crate::specs::Reading::audit_rules))]

@@ -1,60 +1,81 @@
 //! How answers and refusals are written.
 
-ghost use Rattle.std.specs.Prelude.{Some};
+ghost use Rattle.std.specs.Prelude.{◌≡◌, ◌≤◌, ◌++◌, OnOk, Some, length};
 ghost use Rattle.ptu_audit.specs.Texts.{answer_text, cause_text, no_text, refusal_text};
 
 use crate::answer::{Answer, AuditCause};
 use ptu_trail::NoCause;
+use ptu_units::OutOfMemory;
+use ptu_writing::{Draft, LineText, Text};
 use std::fmt;
+
+impl AuditCause {
+    // The word of a line for it.
+    fn word(self) -> &'static str
+        ensures word { result.now ≡ cause_text self }
+        ensures short { length result.now ≤ 5 }
+    {
+        match self {
+            AuditCause::Size => "size",
+            AuditCause::Long => "long",
+            AuditCause::Text => "text",
+            AuditCause::Form => "form",
+            AuditCause::Order => "order",
+            AuditCause::End => "end",
+        }
+    }
+}
 
 impl fmt::Display for AuditCause {
     ghost output = { λ cause. Some (cause_text cause) };
 
     fn fmt<W: fmt::Write>(&self, f: &mut fmt::Formatter<W>) -> fmt::Result {
-        match self {
-            AuditCause::Size => f.write_str("size"),
-            AuditCause::Long => f.write_str("long"),
-            AuditCause::Text => f.write_str("text"),
-            AuditCause::Form => f.write_str("form"),
-            AuditCause::Order => f.write_str("order"),
-            AuditCause::End => f.write_str("end"),
-        }
+        f.write_str(self.word())
     }
 }
 
-/// The name of a cause.
-#[derive(Clone, Copy)]
-pub(crate) struct CauseName(NoCause);
-
-impl fmt::Display for CauseName {
-    ghost output = { λ name. Some (no_text name.0) };
-
-    fn fmt<W: fmt::Write>(&self, f: &mut fmt::Formatter<W>) -> fmt::Result {
-        match self.0 {
-            NoCause::Reply => f.write_str("reply"),
-            NoCause::Shared => f.write_str("shared"),
-            NoCause::Stamp => f.write_str("stamp"),
-            NoCause::Moment => f.write_str("moment"),
-            NoCause::Fit => f.write_str("fit"),
-            NoCause::Over => f.write_str("over"),
-            NoCause::Grant => f.write_str("grant"),
-            NoCause::Early => f.write_str("early"),
-        }
+// The word of the answer no for a cause.
+fn no_word(cause: NoCause) -> &'static str
+    ensures word { result.now ≡ no_text cause }
+    ensures short { length result.now ≤ 6 }
+{
+    match cause {
+        NoCause::Reply => "reply",
+        NoCause::Shared => "shared",
+        NoCause::Stamp => "stamp",
+        NoCause::Moment => "moment",
+        NoCause::Fit => "fit",
+        NoCause::Over => "over",
+        NoCause::Grant => "grant",
+        NoCause::Early => "early",
     }
 }
 
 /// The line that an audit writes for its answer, with the 0A at its end.
-impl fmt::Display for Answer {
-    ghost output = { λ answer. Some (answer_text answer) };
+impl Text for Answer {
+    ghost text = { λ answer. answer_text answer };
 
-    fn fmt<W: fmt::Write>(&self, f: &mut fmt::Formatter<W>) -> fmt::Result {
+    fn put(&self, draft: &mut Draft) -> Result<(), OutOfMemory> {
+        let mut line = LineText::new();
+        line.put_str("\n");
         match *self {
-            Answer::Yes { grants, sent } => writeln!(f, "yes grants {grants} sent {sent}"),
-            Answer::No { line, cause } => {
-                let cause = CauseName(cause);
-                writeln!(f, "no {line} {cause}")
+            Answer::Yes { grants, sent } => {
+                line.put_number(sent);
+                line.put_str(" sent ");
+                line.put_number(grants);
+                line.put_str("yes grants ");
+            }
+            Answer::No {
+                line: number,
+                cause,
+            } => {
+                line.put_str(no_word(cause));
+                line.put_str(" ");
+                line.put_number(number);
+                line.put_str("no ");
             }
         }
+        draft.put_line(&line)
     }
 }
 
@@ -65,11 +86,15 @@ pub(crate) struct Refusal {
     pub(crate) cause: AuditCause,
 }
 
-impl fmt::Display for Refusal {
-    ghost output = { λ refusal. Some (refusal_text refusal.number refusal.cause) };
+impl Text for Refusal {
+    ghost text = { λ refusal. refusal_text refusal.number refusal.cause };
 
-    fn fmt<W: fmt::Write>(&self, f: &mut fmt::Formatter<W>) -> fmt::Result {
-        let Refusal { number, cause } = *self;
-        writeln!(f, "{number} bad {cause}")
+    fn put(&self, draft: &mut Draft) -> Result<(), OutOfMemory> {
+        let mut line = LineText::new();
+        line.put_str("\n");
+        line.put_str(self.cause.word());
+        line.put_str(" bad ");
+        line.put_number(self.number);
+        draft.put_line(&line)
     }
 }

@@ -137,7 +137,7 @@ pub fn load<K: Sink>(alloc: Global, number: u64, sink: &mut K) -> Result<(), Lab
     let octets = script_of(alloc, number)?;
     let done = replayed(alloc, &octets)?;
     match summary_line(alloc, done) {
-        Ok(line) => put(line.as_str(), sink),
+        Ok(line) => put(line.as_bytes(), sink),
         Err(_) => Err(RunFault::OutOfMemory),
     }
 }

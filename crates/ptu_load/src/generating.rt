@@ -1,6 +1,7 @@
 //! The script that a load replays.
 
-ghost use Rattle.std.specs.Prelude.{◌≡◌, ◌≤◌, ◌<◌, ◌^◌, ◌∷◌, [], Some, take, IfErr, OnErr, OnOk};
+ghost use Rattle.std.specs.Prelude.{◌≡◌, ◌≤◌, ◌<◌, ◌/◌, ◌%◌, ◌^◌, ◌++◌, ◌∷◌, [], codes, take};
+ghost use Rattle.std.specs.{Prelude.{IfErr, OnErr, OnOk}, Fmt.{decimal}};
 ghost use Rattle.std.specs.Io.KnownBytes.{append_known};
 ghost use Rattle.ptu_outside.specs.Handing.{HasPut, HasPutPart};
 ghost use Rattle.ptu_report.specs.Runs.{CountsWrite};
@@ -18,11 +19,12 @@ use ptu_report::RunFault;
 use ptu_show::LabFault;
 use ptu_texts::OctetsText;
 use ptu_tlvs::{Ask, Tlv};
+use ptu_units::OutOfMemory;
 use ptu_units::message_types::SIGNALING;
 use ptu_units::sizes::LONGEST_SIGNALING;
 use ptu_units::timescale::NANOS_PER_SECOND;
+use ptu_writing::{Draft, LineText, Text};
 use std::alloc::Global;
-use std::fmt;
 
 /// A line of the script that a load replays, with the 0A at its end.
 #[derive(Clone, Copy)]
@@ -43,20 +45,45 @@ pub enum LoadLine<'a> {
     },
 }
 
-impl fmt::Display for LoadLine<'_> {
-    ghost output = { λ l. Some (load_text l) };
+// What stands before the digits of the datagram of the client with this number.
+fn client_head(number: u64) -> LineText
+    ensures { result.text ≡ codes "rx 0 10.0.0.1 10.1." ++ (decimal (number / 256)
+        ++ (codes "." ++ (decimal (number % 256) ++ codes " "))) }
+{
+    let mut line = LineText::new();
+    line.put_str(" ");
+    line.put_number(number % 256);
+    line.put_str(".");
+    line.put_number(number / 256);
+    line.put_str("rx 0 10.0.0.1 10.1.");
+    line
+}
 
-    fn fmt<W: fmt::Write>(&self, f: &mut fmt::Formatter<W>) -> fmt::Result {
-        match self {
+impl Text for LoadLine<'_> {
+    ghost text = { λ l. load_text l };
+
+    fn put(&self, draft: &mut Draft) -> Result<(), OutOfMemory> {
+        let mut line = LineText::new();
+        match *self {
             LoadLine::Grandmaster { capacity } => {
-                writeln!(f, "gm 10.0.0.1 0a00000000000001 1 4 84 {capacity} 300")
+                line.put_str(" 300\n");
+                line.put_number(capacity);
+                line.put_str("gm 10.0.0.1 0a00000000000001 1 4 84 ");
             }
             LoadLine::Client { number, datagram } => {
-                let (a, b) = (*number / 256, *number % 256);
-                writeln!(f, "rx 0 10.0.0.1 10.1.{a}.{b} {datagram}")
+                draft.put_line(&client_head(number))?;
+                datagram.put(draft)?;
+                return draft.put_octets(b"\n");
             }
-            LoadLine::Turn { moment, table } => writeln!(f, "turn {moment} 10.0.0.1 {table}"),
+            LoadLine::Turn { moment, table } => {
+                line.put_str("\n");
+                line.put_number(table);
+                line.put_str(" 10.0.0.1 ");
+                line.put_number(moment);
+                line.put_str("turn ");
+            }
         }
+        draft.put_line(&line)
     }
 }
 
@@ -108,17 +135,17 @@ fn write_request(client: u64, log: i8, out: &mut [u8; LONGEST_SIGNALING]) -> usi
     write_signaling(&header, &all_ports, &[Tlv::Request(ask)], out)
 }
 
-/// Hands the text to the sink in one piece, and its rest again until all is taken.
+/// Hands the octets of a text to the sink in one piece, and its rest again until all is taken.
 ///
 /// # Errors
 /// `Write` exactly where the sink failed.
-pub fn put<K: Sink>(text: &str, sink: &mut K) -> Result<(), LabFault>
+pub fn put<K: Sink>(text: &[u8], sink: &mut K) -> Result<(), LabFault>
     ensures whole { OnOk result (HasPut K.written K.handed sink.old sink.new (text.now ∷ [])) }
     ensures part { OnErr result (HasPutPart K.written K.handed sink.old sink.new (text.now ∷ [])) }
     ensures cause { IfErr result (λ fault. fault ≡ RunFault.Write) }
     ensures counts { CountsWrite result (K.faults sink.old) (K.faults sink.new) }
 {
-    match write_whole(sink, text.as_bytes()) {
+    match write_whole(sink, text) {
         Ok(()) => Ok(()),
         Err(_) => Err(RunFault::Write),
     }
@@ -133,8 +160,9 @@ fn put_line<K: Sink>(alloc: Global, line: &LoadLine, sink: &mut K) -> Result<(),
     ensures cause { IfErr result IsWriteOrMemory }
     ensures counts { CountsWrite result (K.faults sink.old) (K.faults sink.new) }
 {
-    match format!(in alloc; "{line}") {
-        Ok(text) => put(text.as_str(), sink),
+    let mut draft = Draft::new(alloc);
+    match line.put(&mut draft) {
+        Ok(()) => put(draft.octets(), sink),
         Err(_) => Err(RunFault::OutOfMemory),
     }
 }

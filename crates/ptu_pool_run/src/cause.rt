@@ -1,10 +1,11 @@
 //! Why a line of a script of pools is refused, with the words that the output uses.
 
-ghost use Rattle.std.specs.Prelude.{◌≡◌, Some};
+ghost use Rattle.std.specs.Prelude.{◌≡◌, ◌≤◌, ◌+◌, ◌++◌, Some};
 ghost use Rattle.ptu_pool_run.specs.Cause.{cause_of_line, cause_of_script, text_of};
 
 use ptu_lines::LineCause;
 use ptu_script::Cause;
+use ptu_writing::{LinePart, LineText};
 use std::error::Error;
 use std::fmt;
 
@@ -36,6 +37,32 @@ pub enum PoolCause {
     Over,
     /// No pool has this number.
     Number,
+}
+
+impl LinePart for PoolCause {
+    ghost text = { text_of };
+
+    ghost most = { λ _. 9 };
+
+    fn put(self, line: &mut LineText) {
+        match self {
+            PoolCause::Size => line.put_str("size"),
+            PoolCause::Long => line.put_str("long"),
+            PoolCause::Text => line.put_str("text"),
+            PoolCause::Word => line.put_str("word"),
+            PoolCause::Count => line.put_str("count"),
+            PoolCause::Field(number) => {
+                line.put_octet(number);
+                line.put_str("field ");
+            }
+            PoolCause::Order => line.put_str("order"),
+            PoolCause::Net => line.put_str("net"),
+            PoolCause::Full => line.put_str("full"),
+            PoolCause::Overlap => line.put_str("overlap"),
+            PoolCause::Over => line.put_str("over"),
+            PoolCause::Number => line.put_str("number"),
+        }
+    }
 }
 
 impl fmt::Display for PoolCause {

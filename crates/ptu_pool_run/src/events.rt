@@ -60,7 +60,7 @@ pub fn receive(
 {
     reserve_for(pools, from)?;
     match pools.take(at, from, octets)? {
-        PoolTaken::Stranger => texts.add(&PoolLine::Stranger { line }),
+        PoolTaken::Stranger => texts.add_text(&PoolLine::Stranger { line }),
         PoolTaken::In(place, _) => tell_ports(pools, place, line, texts),
     }
 }

@@ -1,14 +1,17 @@
 //! The lines that `pools` writes.
 
-ghost use Rattle.std.specs.Prelude.{Some};
-ghost use Rattle.ptu_pool_run.specs.Output.{line_text, refusal_text};
+ghost use Rattle.std.specs.{Prelude.{◌≡◌, ◌++◌, OnOk, codes}, Fmt.{decimal}};
+ghost use Rattle.ptu_texts.specs.Texts.{address_text};
+ghost use Rattle.ptu_report_lines.specs.Statements.{channel_text};
+ghost use Rattle.ptu_pool_run.specs.Output.{line_text};
 
 use crate::cause::PoolCause;
 use ptu_lines::LentOctets;
 use ptu_outside::Channel;
 use ptu_report_lines::ChannelText;
-use ptu_texts::{AddressText, OctetsText};
-use std::fmt;
+use ptu_texts::AddressText;
+use ptu_units::OutOfMemory;
+use ptu_writing::{Draft, LinePart, LineText, Text};
 
 /// A line of output. Its text has the 0A at its end. Lines of the script are numbered from 1.
 #[derive(Drop)]
@@ -36,23 +39,28 @@ pub enum PoolLine<'a> {
     },
 }
 
-// That a line is refused for this cause.
-#[derive(Clone, Copy)]
-struct RefusalText(PoolCause);
-
-impl fmt::Display for RefusalText {
-    ghost output = { λ r. Some (refusal_text r.0) };
-
-    fn fmt<W: fmt::Write>(&self, f: &mut fmt::Formatter<W>) -> fmt::Result {
-        let cause = self.0;
-        write!(f, "bad {cause}")
-    }
+// What stands before the digits of a datagram that was sent.
+fn sent_head(number: u64, pool: usize, channel: Channel, to: u32) -> LineText
+    ensures { result.text ≡ decimal number ++ (codes " pool " ++ (decimal pool ++ (codes " send "
+        ++ (channel_text channel ++ (codes " " ++ (address_text to ++ codes " ")))))) }
+{
+    let mut line = LineText::new();
+    line.put_str(" ");
+    AddressText(to).put(&mut line);
+    line.put_str(" ");
+    ChannelText(channel).put(&mut line);
+    line.put_str(" send ");
+    line.put_number(pool as u64);
+    line.put_str(" pool ");
+    line.put_number(number);
+    line
 }
 
-impl fmt::Display for PoolLine<'_> {
-    ghost output = { λ l. Some (line_text l) };
+impl Text for PoolLine<'_> {
+    ghost text = { λ l. line_text l };
 
-    fn fmt<W: fmt::Write>(&self, f: &mut fmt::Formatter<W>) -> fmt::Result {
+    fn put(&self, draft: &mut Draft) -> Result<(), OutOfMemory> {
+        let mut text = LineText::new();
         match self {
             PoolLine::Sent {
                 line,
@@ -61,17 +69,26 @@ impl fmt::Display for PoolLine<'_> {
                 to,
                 octets,
             } => {
-                let channel = ChannelText(*channel);
-                let to = AddressText(*to);
-                let octets = OctetsText(octets.as_slice());
-                writeln!(f, "{line} pool {pool} send {channel} {to} {octets}")
+                draft.put_line(&sent_head(*line, *pool, *channel, *to))?;
+                draft.put_digits(octets.as_slice())?;
+                return draft.put_octets(b"\n");
             }
-            PoolLine::Stranger { line } => writeln!(f, "{line} stranger"),
+            PoolLine::Stranger { line } => {
+                text.put_str(" stranger\n");
+                text.put_number(*line);
+            }
             PoolLine::Bad { line, cause } => {
-                let refusal = RefusalText(*cause);
-                writeln!(f, "{line} {refusal}")
+                text.put_str("\n");
+                cause.put(&mut text);
+                text.put_str(" bad ");
+                text.put_number(*line);
             }
-            PoolLine::End { lines } => writeln!(f, "end {lines}"),
+            PoolLine::End { lines } => {
+                text.put_str("\n");
+                text.put_number(*lines);
+                text.put_str("end ");
+            }
         }
+        draft.put_line(&text)
     }
 }

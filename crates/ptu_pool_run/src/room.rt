@@ -94,7 +94,7 @@ fn tell(port: &mut MemPort, pool: usize, line: u64, texts: &mut Texts) -> Result
     let before = texts.count();
     'datagrams: while let Some((to, channel, octets)) = port.sent(texts.count() - before) {
         let octets = LentOctets::new(octets);
-        texts.add(&PoolLine::Sent {
+        texts.add_text(&PoolLine::Sent {
             line,
             pool,
             channel,

@@ -57,13 +57,13 @@ impl Reporter for Pourer {
 
     #[tactic(auto, unfolding(crate::specs::Reading::rules))]
     fn close(&mut self, _: Global, lines: u64, texts: &mut Texts) -> Stepped {
-        texts.add(&PoolLine::End { lines })?;
+        texts.add_text(&PoolLine::End { lines })?;
         Ok(None)
     }
 
     #[tactic(auto, unfolding(crate::specs::Reading::rules))]
     fn refuse(number: u64, cause: &PoolCause, texts: &mut Texts) -> Result<(), OutOfMemory> {
-        texts.add(&PoolLine::Bad {
+        texts.add_text(&PoolLine::Bad {
             line: number,
             cause: *cause,
         })

@@ -1,5 +1,5 @@
 -- Texts that stand one behind the other, and one more.
-use Rattle.std.proofs.Common.{◌≡◌, ℕ, ◌+◌, ◌-◌, ◌≤◌, List, [], ◌∷◌, ◌++◌, length, take, drop, Option, None, Some, Result, Ok, Err, OnOk, IfSome, refl, ap, ◌∙◌, arith, length-append, length-drop}
+use Rattle.std.proofs.Common.{◌≡◌, ℕ, ◌+◌, ◌-◌, ◌≤◌, List, [], ◌∷◌, ◌++◌, length, take, drop, Result, Ok, Err, OnOk, refl, ap, ◌∙◌, arith, length-append, length-drop}
 use Rattle.std.specs.List.{slice_range}
 use Rattle.std.proofs.lemmas.List.{drop-append-le, take-append-le, map-append}
 use Rattle.std.proofs.Math.Seq.{drop-append_seam, take-length}
@@ -43,10 +43,3 @@ pub texts_added : {A E : Type 0} (added : Result A E) (old new more : List ℕ) 
     → OnOk added (all ≡ spans ++ record { start = length old; end = length new } ∷ []) → OnOk added (texts_in new all ≡ texts_in old spans ++ more ∷ [])
 texts_added (Ok x) old new more spans all h octets is = rw (is, octets) (texts-push old more spans _ h (refl, refl))
 texts_added (Err e) old new more spans all h octets is = tt
-
--- the same of what is displayed
-pub shown_added : {A E : Type 0} (added : Result A E) (output : Option (List ℕ)) (old new : List (List ℕ)) (shown : List ℕ) → OnOk added (new ≡ old ++ shown ∷ [])
-    → IfSome output (λ octets. shown ≡ octets) → OnOk added (IfSome output (λ octets. new ≡ old ++ octets ∷ []))
-shown_added (Ok x) None old new shown h is = tt
-shown_added (Ok x) (Some octets) old new shown h is = h ∙ ap (λ t. old ++ t ∷ []) is
-shown_added (Err e) output old new shown h is = tt

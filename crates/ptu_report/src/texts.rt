@@ -1,15 +1,12 @@
 //! The texts of one line, gathered in one buffer before any of them is written.
 
-ghost use Rattle.std.specs.Prelude.{◌≡◌, ◌++◌, ◌∷◌, [], ◌<◌, length, get_or, OnOk, OnErr, IfSome};
-ghost use Rattle.std.specs.String.{string_bytes};
+ghost use Rattle.std.specs.Prelude.{◌≡◌, ◌++◌, ◌∷◌, [], ◌<◌, length, get_or, OnOk, OnErr};
 ghost use Rattle.ptu_writing.specs.Draft.{Drafted};
 
 use crate::span::Span;
 use ptu_units::OutOfMemory;
 use ptu_writing::{Draft, Text};
 use std::alloc::Global;
-use std::fmt;
-use std::fmt::Write;
 use std::marker::Model;
 
 /// Texts of output, each with the 0A at its end where it is a line. Their octets stand in one room,
@@ -18,7 +15,6 @@ use std::marker::Model;
 pub struct Texts {
     draft: Draft,
     spans: Vec<Span>,
-    shown: String,
 }
 
 impl Model for Texts {
@@ -40,7 +36,6 @@ impl Texts {
         Texts {
             draft: Draft::new(alloc),
             spans: Vec::new(alloc),
-            shown: String::new(alloc),
         }
     }
 
@@ -63,23 +58,6 @@ impl Texts {
         add_to(&mut self.draft, &mut self.spans, text)
     }
 
-    /// Adds what the value displays as one text more.
-    ///
-    /// # Errors
-    /// `OutOfMemory`, and then they are as before.
-    pub fn add<T: fmt::Display>(&mut self, text: &T) -> Result<(), OutOfMemory>
-        ensures added { OnOk result (IfSome (T.output text.now)
-            (λ octets. self.new ≡ self.old ++ octets ∷ [])) }
-        ensures same { OnErr result (self.new ≡ self.old) }
-    {
-        show(&mut self.shown, text)?;
-        add_to(
-            &mut self.draft,
-            &mut self.spans,
-            &Shown(self.shown.as_str()),
-        )
-    }
-
     /// How many texts there are.
     pub fn count(&self) -> usize
         ensures { result ≡ length self.now }
@@ -94,27 +72,6 @@ impl Texts {
     {
         let span = self.spans[place];
         &self.draft.octets()[span.start..span.end]
-    }
-}
-
-// Leaves what the value displays in the room for it.
-fn show<T: fmt::Display>(room: &mut String, text: &T) -> Result<(), OutOfMemory>
-    ensures { OnOk result (IfSome (T.output text.now) (λ octets. string_bytes room.new ≡ octets)) }
-{
-    room.clear();
-    write!(room, "{text}")?;
-    Ok(())
-}
-
-// The text of what a value displays.
-#[derive(Clone, Copy)]
-struct Shown<'a>(&'a str);
-
-impl Text for Shown<'_> {
-    ghost text = { λ s. s.0.now };
-
-    fn put(&self, draft: &mut Draft) -> Result<(), OutOfMemory> {
-        draft.put_octets(self.0.as_bytes())
     }
 }
 

@@ -6,7 +6,7 @@ ghost use Rattle.ptu_report_lines.specs.{Statements.{channel_text}, Report.{line
 ghost use Rattle.ptu_report_lines.specs.declared.report_line.ReportLine.TheVariants as lines;
 ghost use Rattle.ptu_report_lines.specs.declared.statement.Statement.TheVariants as statements;
 
-use crate::words::put_channel;
+use crate::words::ChannelText;
 use ptu_outside::{Channel, Datagram};
 use ptu_texts::AddressText;
 use ptu_units::OutOfMemory;
@@ -131,7 +131,7 @@ impl SentLine<'_> {
     {
         let mut line = LineText::new();
         line.put_str(" ");
-        put_channel(self.sent.channel(), &mut line);
+        ChannelText(self.sent.channel()).put(&mut line);
         line.put_str(" ");
         AddressText(self.sent.to()).put(&mut line);
         line.put_str(" ");

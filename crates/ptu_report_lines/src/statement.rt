@@ -1,7 +1,6 @@
 //! All that a line of a report may say after its number, and how it is written.
 
 ghost use Rattle.std.specs.{Prelude.{◌≡◌, ◌≤◌, ◌+◌, ◌++◌, ◌∷◌, OnOk}, Fmt.{decimal}};
-ghost use Rattle.ptu_script.specs.Cause as causes;
 ghost use Rattle.ptu_report_lines.specs.{Report.{line_text}, Statements.{statement_text}};
 ghost use Rattle.ptu_report_lines.specs.declared.report_line.ReportLine.TheVariants as lines;
 ghost use Rattle.ptu_report_lines.specs.declared.statement.Statement.TheVariants as statements;
@@ -198,30 +197,6 @@ fn put_bad(cause: Cause, line: &mut LineText)
     ensures text { line.new.text ≡ statement_text (statements.Bad cause) ++ line.old.text }
     ensures room { line.old.room ≤ line.new.room + 13 }
 {
-    put_cause(cause, line);
+    cause.put(line);
     line.put_str("bad ");
-}
-
-// Puts the cause of a refusal before what stands.
-fn put_cause(cause: Cause, line: &mut LineText)
-    requires { 9 ≤ line.old.room }
-    ensures text { line.new.text ≡ causes.text_of cause ++ line.old.text }
-    ensures room { line.old.room ≤ line.new.room + 9 }
-{
-    match cause {
-        Cause::Size => line.put_str("size"),
-        Cause::Long => line.put_str("long"),
-        Cause::Text => line.put_str("text"),
-        Cause::Word => line.put_str("word"),
-        Cause::Count => line.put_str("count"),
-        Cause::Field(number) => {
-            line.put_octet(number);
-            line.put_str("field ");
-        }
-        Cause::Order => line.put_str("order"),
-        Cause::Node => line.put_str("node"),
-        Cause::Full => line.put_str("full"),
-        Cause::Number => line.put_str("number"),
-        Cause::Stock => line.put_str("stock"),
-    }
 }

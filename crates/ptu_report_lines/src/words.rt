@@ -1,6 +1,6 @@
 //! The words that lines of a report consist of. A line is a slice of them, written by one loop.
 
-ghost use Rattle.std.specs.Prelude.{◌≡◌, ◌≤◌, ◌+◌, ◌++◌, Some};
+ghost use Rattle.std.specs.Prelude.{◌≡◌, ◌≤◌, ◌+◌, ◌++◌};
 ghost use Rattle.ptu_report_lines.specs.Statements.{channel_text, words_text};
 ghost use Rattle.ptu_report_lines.specs.Words.{most, most_of, spaced_text, texts_of, word_text};
 
@@ -9,7 +9,6 @@ use ptu_outside::Channel;
 use ptu_texts::{AddressText, IdentityText, KindText};
 use ptu_units::Kind;
 use ptu_writing::{LinePart, LineText};
-use std::fmt;
 
 /// A word of a line.
 #[derive(Clone, Copy)]
@@ -51,22 +50,10 @@ impl LinePart for Word {
             },
             Word::Address(ip) => AddressText(ip).put(line),
             Word::Identity(identity) => IdentityText(identity).put(line),
-            Word::Channel(channel) => put_channel(channel, line),
+            Word::Channel(channel) => ChannelText(channel).put(line),
             Word::Selected(Some(master)) => AddressText(master).put(line),
             Word::Selected(None) => line.put_str("none"),
         }
-    }
-}
-
-/// Puts the name of the channel before what stands in the line.
-pub(crate) fn put_channel(channel: Channel, line: &mut LineText)
-    requires { 7 ≤ line.old.room }
-    ensures text { line.new.text ≡ channel_text channel ++ line.old.text }
-    ensures room { line.old.room ≤ line.new.room + 7 }
-{
-    match channel {
-        Channel::Event => line.put_str("event"),
-        Channel::General => line.put_str("general"),
     }
 }
 
@@ -100,13 +87,15 @@ pub fn put_words(words: &[Word], line: &mut LineText)
 #[derive(Clone, Copy)]
 pub struct ChannelText(pub Channel);
 
-impl fmt::Display for ChannelText {
-    ghost output = { λ c. Some (channel_text c.0) };
+impl LinePart for ChannelText {
+    ghost text = { λ t. channel_text t.0 };
 
-    fn fmt<W: fmt::Write>(&self, f: &mut fmt::Formatter<W>) -> fmt::Result {
-        f.write_str(match self.0 {
-            Channel::Event => "event",
-            Channel::General => "general",
-        })
+    ghost most = { λ _. 7 };
+
+    fn put(self, line: &mut LineText) {
+        match self.0 {
+            Channel::Event => line.put_str("event"),
+            Channel::General => line.put_str("general"),
+        }
     }
 }

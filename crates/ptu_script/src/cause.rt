@@ -1,9 +1,10 @@
 //! Why a line of a script is refused, with the words that a report uses.
 
-ghost use Rattle.std.specs.Prelude.{◌≡◌, Some};
+ghost use Rattle.std.specs.Prelude.{◌≡◌, ◌≤◌, ◌+◌, ◌++◌, Some};
 ghost use Rattle.ptu_script.specs.Cause.{text_of, cause_of_line};
 
 use ptu_lines::LineCause;
+use ptu_writing::{LinePart, LineText};
 use std::error::Error;
 use std::fmt;
 
@@ -32,6 +33,31 @@ pub enum Cause {
     Number,
     /// No judge of this rule is left.
     Stock,
+}
+
+impl LinePart for Cause {
+    ghost text = { text_of };
+
+    ghost most = { λ _. 9 };
+
+    fn put(self, line: &mut LineText) {
+        match self {
+            Cause::Size => line.put_str("size"),
+            Cause::Long => line.put_str("long"),
+            Cause::Text => line.put_str("text"),
+            Cause::Word => line.put_str("word"),
+            Cause::Count => line.put_str("count"),
+            Cause::Field(number) => {
+                line.put_octet(number);
+                line.put_str("field ");
+            }
+            Cause::Order => line.put_str("order"),
+            Cause::Node => line.put_str("node"),
+            Cause::Full => line.put_str("full"),
+            Cause::Number => line.put_str("number"),
+            Cause::Stock => line.put_str("stock"),
+        }
+    }
 }
 
 impl fmt::Display for Cause {

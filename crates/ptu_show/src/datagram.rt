@@ -1,32 +1,40 @@
 //! A datagram in words.
 
-ghost use Rattle.std.specs.{Prelude.{◌≡◌, Some}, Fmt.{WritesOnOk}, List.{flat_map}};
-ghost use Rattle.ptu_show.specs.Datagram.{ask_text, body_text, message_text, renewal_text};
-ghost use Rattle.ptu_show.specs.Datagram.{stamp_text, tlv_text, type_text};
+ghost use Rattle.std.specs.Prelude.{◌≡◌, ◌≤◌, ◌+◌, ◌++◌, OnOk, codes};
+ghost use Rattle.std.specs.{Fmt.{decimal}, List.{flat_map}};
+ghost use Rattle.ptu_messages.specs.declared.message.Body.TheVariants as bodies;
+ghost use Rattle.ptu_texts.specs.Texts.{identity_text};
+ghost use Rattle.ptu_show.specs.Datagram.{ask_text, body_text, message_text, stamp_text};
+ghost use Rattle.ptu_show.specs.{Datagram.{tlv_text, type_text}, Shown.{numbered}};
 
-use ptu_messages::{Body, Message};
+use ptu_messages::{AnnounceBody, Body, Message};
 use ptu_texts::{ClockText, IdentityText};
 use ptu_tlvs::{Ask, Tlv};
-use ptu_units::Stamp;
 use ptu_units::message_types::{ANNOUNCE, DELAY_REQ, DELAY_RESP, FOLLOW_UP, SIGNALING, SYNC};
-use std::fmt;
+use ptu_units::{OutOfMemory, Stamp};
+use ptu_writing::{Draft, LinePart, LineText, Text};
 
 // The name of a messageType, or its number.
 #[derive(Clone, Copy)]
 struct TypeText(u8);
 
-impl fmt::Display for TypeText {
-    ghost output = { λ t. Some (type_text t.0) };
+impl LinePart for TypeText {
+    ghost text = { λ t. type_text t.0 };
 
-    fn fmt<W: fmt::Write>(&self, f: &mut fmt::Formatter<W>) -> fmt::Result {
+    ghost most = { λ _. 10 };
+
+    fn put(self, line: &mut LineText) {
         match self.0 {
-            SYNC => f.write_str("sync"),
-            DELAY_REQ => f.write_str("delay_req"),
-            FOLLOW_UP => f.write_str("follow_up"),
-            DELAY_RESP => f.write_str("delay_resp"),
-            ANNOUNCE => f.write_str("announce"),
-            SIGNALING => f.write_str("signaling"),
-            message_type => write!(f, "type {message_type}"),
+            SYNC => line.put_str("sync"),
+            DELAY_REQ => line.put_str("delay_req"),
+            FOLLOW_UP => line.put_str("follow_up"),
+            DELAY_RESP => line.put_str("delay_resp"),
+            ANNOUNCE => line.put_str("announce"),
+            SIGNALING => line.put_str("signaling"),
+            message_type => {
+                line.put_octet(message_type);
+                line.put_str("type ");
+            }
         }
     }
 }
@@ -35,12 +43,16 @@ impl fmt::Display for TypeText {
 #[derive(Clone, Copy)]
 struct StampText(Stamp);
 
-impl fmt::Display for StampText {
-    ghost output = { λ s. Some (stamp_text s.0) };
+impl LinePart for StampText {
+    ghost text = { λ s. stamp_text s.0 };
 
-    fn fmt<W: fmt::Write>(&self, f: &mut fmt::Formatter<W>) -> fmt::Result {
-        let Stamp { seconds, nanos } = self.0;
-        write!(f, " stamp {seconds} {nanos}")
+    ghost most = { λ _. 48 };
+
+    fn put(self, line: &mut LineText) {
+        line.put_number(u64::from(self.0.nanos));
+        line.put_str(" ");
+        line.put_number(self.0.seconds);
+        line.put_str(" stamp ");
     }
 }
 
@@ -48,86 +60,113 @@ impl fmt::Display for StampText {
 #[derive(Clone, Copy)]
 struct AskText(Ask);
 
-impl fmt::Display for AskText {
-    ghost output = { λ a. Some (ask_text a.0) };
+impl LinePart for AskText {
+    ghost text = { λ a. ask_text a.0 };
 
-    fn fmt<W: fmt::Write>(&self, f: &mut fmt::Formatter<W>) -> fmt::Result {
-        let Ask { code, log, seconds } = self.0;
-        write!(f, "{code} {log} {seconds}")
+    ghost most = { λ _. 29 };
+
+    fn put(self, line: &mut LineText) {
+        line.put_number(u64::from(self.0.seconds));
+        line.put_str(" ");
+        line.put_signed(self.0.log);
+        line.put_str(" ");
+        line.put_octet(self.0.code);
     }
-}
-
-// R, as a digit.
-fn renewal_digit(renewal: bool) -> &'static str
-    ensures { result.now ≡ renewal_text renewal }
-{
-    if renewal { "1" } else { "0" }
 }
 
 // A TLV behind a space.
 #[derive(Clone, Copy)]
 struct TlvText(Tlv);
 
-impl fmt::Display for TlvText {
-    ghost output = { λ t. Some (tlv_text t.0) };
+impl LinePart for TlvText {
+    ghost text = { λ t. tlv_text t.0 };
 
-    fn fmt<W: fmt::Write>(&self, f: &mut fmt::Formatter<W>) -> fmt::Result {
+    ghost most = { λ _. 48 };
+
+    fn put(self, line: &mut LineText) {
         match self.0 {
             Tlv::Request(ask) => {
-                let ask = AskText(ask);
-                write!(f, " request {ask}")
+                AskText(ask).put(line);
+                line.put_str(" request ");
             }
             Tlv::Grant(ask, renewal) => {
-                let ask = AskText(ask);
-                let renewal = renewal_digit(renewal);
-                write!(f, " grant {ask} {renewal}")
+                line.put_str(if renewal { " 1" } else { " 0" });
+                AskText(ask).put(line);
+                line.put_str(" grant ");
             }
-            Tlv::Cancel(code) => write!(f, " cancel {code}"),
-            Tlv::Ack(code) => write!(f, " ack {code}"),
-            Tlv::Other { tlv_type, length } => write!(f, " other {tlv_type} {length}"),
+            Tlv::Cancel(code) => {
+                line.put_octet(code);
+                line.put_str(" cancel ");
+            }
+            Tlv::Ack(code) => {
+                line.put_octet(code);
+                line.put_str(" ack ");
+            }
+            Tlv::Other { tlv_type, length } => {
+                line.put_number(u64::from(length));
+                line.put_str(" ");
+                line.put_number(u64::from(tlv_type));
+                line.put_str(" other ");
+            }
         }
     }
 }
 
 // The TLVs of a Signaling, each behind a space.
-fn write_tlvs<W: fmt::Write>(tlvs: &[Tlv], f: &mut fmt::Formatter<W>) -> fmt::Result
-    ensures { WritesOnOk W.write_str_gives f.old result (flat_map tlv_text tlvs.now) f.new }
+fn put_tlvs(tlvs: &[Tlv], draft: &mut Draft) -> Result<(), OutOfMemory>
+    ensures put { OnOk result (draft.new.text ≡ draft.old.text ++ flat_map tlv_text tlvs.now) }
+    ensures done { draft.new.done ≡ draft.old.done }
 {
     for tlv in tlvs {
-        let tlv = TlvText(*tlv);
-        write!(f, "{tlv}")?;
+        let mut line = LineText::new();
+        TlvText(*tlv).put(&mut line);
+        draft.put_line(&line)?;
     }
     Ok(())
+}
+
+// Puts what an Announce says of its clock before what stands in the line.
+fn put_announce(body: &AnnounceBody, line: &mut LineText)
+    requires { 66 ≤ line.old.room }
+    ensures { line.new.text ≡ body_text (bodies.Announce body.now) ++ line.old.text }
+{
+    ClockText(body.grandmaster).put(line);
+    line.put_str(" grandmaster ");
+    line.put_number(u64::from(body.steps));
+    line.put_str(" steps ");
+    line.put_octet(body.class);
+    line.put_str(" class ");
 }
 
 // What stands behind the header.
 #[derive(Clone, Copy)]
 struct BodyText<'a>(&'a Body);
 
-impl fmt::Display for BodyText<'_> {
-    ghost output = { λ b. Some (body_text b.0.now) };
+impl Text for BodyText<'_> {
+    ghost text = { λ b. body_text b.0.now };
 
-    fn fmt<W: fmt::Write>(&self, f: &mut fmt::Formatter<W>) -> fmt::Result {
+    fn put(&self, draft: &mut Draft) -> Result<(), OutOfMemory> {
+        let mut line = LineText::new();
         match self.0 {
             Body::Sync(stamp) | Body::DelayReq(stamp) | Body::FollowUp(stamp) => {
-                let stamp = StampText(*stamp);
-                write!(f, "{stamp}")
+                StampText(*stamp).put(&mut line);
+                draft.put_line(&line)
             }
             Body::DelayResp(stamp, requester) => {
-                let stamp = StampText(*stamp);
-                let requester = IdentityText(*requester);
-                write!(f, "{stamp} to {requester}")
+                IdentityText(*requester).put(&mut line);
+                line.put_str(" to ");
+                StampText(*stamp).put(&mut line);
+                draft.put_line(&line)
             }
             Body::Announce(body) => {
-                let class = body.class;
-                let steps = body.steps;
-                let grandmaster = ClockText(body.grandmaster);
-                write!(f, " class {class} steps {steps} grandmaster {grandmaster}")
+                put_announce(body, &mut line);
+                draft.put_line(&line)
             }
             Body::Signaling(target, tlvs) => {
-                let target = IdentityText(*target);
-                write!(f, " to {target}")?;
-                write_tlvs(tlvs.list(), f)
+                IdentityText(*target).put(&mut line);
+                line.put_str(" to ");
+                draft.put_line(&line)?;
+                put_tlvs(tlvs.list(), draft)
             }
             Body::Ignored => Ok(()),
         }
@@ -143,20 +182,44 @@ pub struct MessageText<'a> {
     pub message: &'a Message,
 }
 
-impl fmt::Display for MessageText<'_> {
-    ghost output = { λ m. Some (message_text m.length m.message.now) };
+impl MessageText<'_> {
+    // What stands before the body, behind the number of a line.
+    fn head(&self, number: u64) -> LineText
+        ensures { result.text ≡ decimal number ++ (codes " "
+            ++ (type_text self.now.message.now.header.message_type ++ (codes " length "
+            ++ (decimal self.now.length ++ (codes " domain "
+            ++ (decimal self.now.message.now.header.domain ++ (codes " from "
+            ++ (identity_text self.now.message.now.header.source ++ (codes " seq "
+            ++ decimal self.now.message.now.header.sequence))))))))) }
+    {
+        let header = &self.message.header;
+        let mut line = LineText::new();
+        line.put_number(u64::from(header.sequence));
+        line.put_str(" seq ");
+        IdentityText(header.source).put(&mut line);
+        line.put_str(" from ");
+        line.put_octet(header.domain);
+        line.put_str(" domain ");
+        line.put_number(u64::from(self.length));
+        line.put_str(" length ");
+        TypeText(header.message_type).put(&mut line);
+        line.put_str(" ");
+        line.put_number(number);
+        line
+    }
 
-    fn fmt<W: fmt::Write>(&self, f: &mut fmt::Formatter<W>) -> fmt::Result {
-        let length = self.length;
-        let header = self.message.header;
-        let name = TypeText(header.message_type);
-        let domain = header.domain;
-        let source = IdentityText(header.source);
-        let sequence = header.sequence;
-        let body = BodyText(&self.message.body);
-        write!(
-            f,
-            "{name} length {length} domain {domain} from {source} seq {sequence}{body}"
-        )
+    /// Puts the line of the message behind the octets of the draft, with the number of the line of
+    /// input before it and the 0A at its end.
+    ///
+    /// # Errors
+    /// `OutOfMemory`; a part of the line may stand in the draft then.
+    pub fn put_at(&self, number: u64, draft: &mut Draft) -> Result<(), OutOfMemory>
+        ensures put { OnOk result (draft.new.text ≡ draft.old.text
+            ++ numbered number (message_text self.now.length self.now.message.now)) }
+        ensures done { draft.new.done ≡ draft.old.done }
+    {
+        draft.put_line(&self.head(number))?;
+        BodyText(&self.message.body).put(draft)?;
+        draft.put_octets(b"\n")
     }
 }

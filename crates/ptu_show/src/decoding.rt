@@ -43,12 +43,12 @@ fn add_datagram(
                 length: u16_at(bytes, 2),
                 message: &message,
             };
-            texts.add(&ShowLine::Message { number, text })
+            texts.add_text(&ShowLine::Message { number, text })
         }
         Err(MessageFault::OutOfMemory) => Err(OutOfMemory),
         Err(fault) => {
             let fault = FaultText(fault);
-            texts.add(&ShowLine::Fault { number, fault })
+            texts.add_text(&ShowLine::Fault { number, fault })
         }
     }
 }
@@ -85,13 +85,13 @@ impl Reporter for Decoder {
         lines: u64,
         texts: &mut Texts,
     ) -> Result<Option<Cause>, OutOfMemory> {
-        texts.add(&ShowLine::End { lines })?;
+        texts.add_text(&ShowLine::End { lines })?;
         Ok(None)
     }
 
     fn refuse(number: u64, cause: &Cause, texts: &mut Texts) -> Result<(), OutOfMemory> {
         let cause = *cause;
-        texts.add(&ShowLine::Bad { number, cause })
+        texts.add_text(&ShowLine::Bad { number, cause })
     }
 
     fn cause_of(cause: LineCause) -> Cause {

@@ -1,11 +1,13 @@
 //! The lines that `join` writes.
 
-ghost use Rattle.std.specs.Prelude.{Some};
-ghost use Rattle.ptu_show.specs.JoinLines.{join_line_text};
+ghost use Rattle.std.specs.Prelude.{◌≡◌, ◌++◌, OnOk, codes};
+ghost use Rattle.hex.specs.Hex.{encode_lower};
+ghost use Rattle.ptu_show.specs.{JoinLines.{join_line_text}, Shown.{numbered}};
 
 use ptu_script::Cause;
 use ptu_texts::OctetsText;
-use std::fmt;
+use ptu_units::OutOfMemory;
+use ptu_writing::{Draft, LinePart, LineText, Text};
 
 /// A line that `join` writes, with the 0A at its end. All but the last begin with the number of the
 /// line of input.
@@ -26,17 +28,53 @@ pub enum JoinLine<'a> {
     End { lines: u64, keys: u64 },
 }
 
-impl fmt::Display for JoinLine<'_> {
-    ghost output = { λ l. Some (join_line_text l) };
+impl Text for JoinLine<'_> {
+    ghost text = { λ l. join_line_text l };
 
-    fn fmt<W: fmt::Write>(&self, f: &mut fmt::Formatter<W>) -> fmt::Result {
-        match self {
-            JoinLine::Pair { number, sync } => writeln!(f, "{number} pair {sync}"),
-            JoinLine::Overflow { number } => writeln!(f, "{number} overflow"),
-            JoinLine::Wait { number } => writeln!(f, "{number} wait"),
-            JoinLine::Pass { number } => writeln!(f, "{number} pass"),
-            JoinLine::Bad { number, cause } => writeln!(f, "{number} bad {cause}"),
-            JoinLine::End { lines, keys } => writeln!(f, "end {lines} {keys}"),
+    fn put(&self, draft: &mut Draft) -> Result<(), OutOfMemory> {
+        let mut line = LineText::new();
+        match *self {
+            JoinLine::Pair { number, sync } => return put_pair(number, &sync, draft),
+            JoinLine::Overflow { number } => {
+                line.put_str(" overflow\n");
+                line.put_number(number);
+            }
+            JoinLine::Wait { number } => {
+                line.put_str(" wait\n");
+                line.put_number(number);
+            }
+            JoinLine::Pass { number } => {
+                line.put_str(" pass\n");
+                line.put_number(number);
+            }
+            JoinLine::Bad { number, cause } => {
+                line.put_str("\n");
+                cause.put(&mut line);
+                line.put_str(" bad ");
+                line.put_number(number);
+            }
+            JoinLine::End { lines, keys } => {
+                line.put_str("\n");
+                line.put_number(keys);
+                line.put_str(" ");
+                line.put_number(lines);
+                line.put_str("end ");
+            }
         }
+        draft.put_line(&line)
     }
+}
+
+// Puts the line of a half that joins.
+fn put_pair(number: u64, sync: &OctetsText<'_>, draft: &mut Draft) -> Result<(), OutOfMemory>
+    ensures put { OnOk result (draft.new.text
+        ≡ draft.old.text ++ numbered number (codes "pair " ++ encode_lower sync.now.0.now)) }
+    ensures done { draft.new.done ≡ draft.old.done }
+{
+    let mut line = LineText::new();
+    line.put_str(" pair ");
+    line.put_number(number);
+    draft.put_line(&line)?;
+    sync.put(draft)?;
+    draft.put_octets(b"\n")
 }

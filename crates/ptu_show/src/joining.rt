@@ -56,15 +56,15 @@ fn add_half(
         (texts.new ≡ texts.old ++ numbered number (half_text half.now partner) ∷ []) }
 {
     let Some(before) = partner else {
-        return texts.add(&JoinLine::Wait { number });
+        return texts.add_text(&JoinLine::Wait { number });
     };
     match half.joined(&before) {
-        None => texts.add(&JoinLine::Overflow { number }),
+        None => texts.add_text(&JoinLine::Overflow { number }),
         Some(sync) => {
             let mut octets = [0; 64];
             let size = write_fixed(&sync, &mut octets);
             let sync = OctetsText(&octets[..size]);
-            texts.add(&JoinLine::Pair { number, sync })
+            texts.add_text(&JoinLine::Pair { number, sync })
         }
     }
 }
@@ -86,7 +86,7 @@ fn add_datagram(
         → StandsFor waiting.new.kept (halves_of (bytes.now ∷ past))) }
 {
     let Some(half) = read_half(alloc, bytes)? else {
-        return texts.add(&JoinLine::Pass { number });
+        return texts.add_text(&JoinLine::Pass { number });
     };
     let partner = waiting.take(half)?;
     add_half(number, &half, partner, texts)
@@ -126,13 +126,13 @@ impl Reporter for Joiner {
         texts: &mut Texts,
     ) -> Result<Option<LineCause>, OutOfMemory> {
         let keys = self.waiting.count() as u64;
-        texts.add(&JoinLine::End { lines, keys })?;
+        texts.add_text(&JoinLine::End { lines, keys })?;
         Ok(None)
     }
 
     fn refuse(number: u64, cause: &LineCause, texts: &mut Texts) -> Result<(), OutOfMemory> {
         let cause = Cause::from(*cause);
-        texts.add(&JoinLine::Bad { number, cause })
+        texts.add_text(&JoinLine::Bad { number, cause })
     }
 
     fn cause_of(cause: LineCause) -> LineCause {

@@ -1,12 +1,13 @@
 //! The lines that `show` writes.
 
-ghost use Rattle.std.specs.Prelude.{Some};
+ghost use Rattle.std.specs.Prelude.{◌≡◌, ◌++◌, OnOk};
 ghost use Rattle.ptu_show.specs.Lines.{line_text};
 
 use crate::datagram::MessageText;
 use ptu_script::Cause;
 use ptu_texts::FaultText;
-use std::fmt;
+use ptu_units::OutOfMemory;
+use ptu_writing::{Draft, LinePart, LineText, Text};
 
 /// A line that `show` writes, with the 0A at its end. All but the last begin with the number of the
 /// line of input.
@@ -22,15 +23,29 @@ pub enum ShowLine<'a> {
     End { lines: u64 },
 }
 
-impl fmt::Display for ShowLine<'_> {
-    ghost output = { λ l. Some (line_text l) };
+impl Text for ShowLine<'_> {
+    ghost text = { λ l. line_text l };
 
-    fn fmt<W: fmt::Write>(&self, f: &mut fmt::Formatter<W>) -> fmt::Result {
-        match self {
-            ShowLine::Message { number, text } => writeln!(f, "{number} {text}"),
-            ShowLine::Fault { number, fault } => writeln!(f, "{number} fault {fault}"),
-            ShowLine::Bad { number, cause } => writeln!(f, "{number} bad {cause}"),
-            ShowLine::End { lines } => writeln!(f, "end {lines}"),
+    fn put(&self, draft: &mut Draft) -> Result<(), OutOfMemory> {
+        let mut line = LineText::new();
+        line.put_str("\n");
+        match *self {
+            ShowLine::Message { number, text } => return text.put_at(number, draft),
+            ShowLine::Fault { number, fault } => {
+                fault.put(&mut line);
+                line.put_str(" fault ");
+                line.put_number(number);
+            }
+            ShowLine::Bad { number, cause } => {
+                cause.put(&mut line);
+                line.put_str(" bad ");
+                line.put_number(number);
+            }
+            ShowLine::End { lines } => {
+                line.put_number(lines);
+                line.put_str("end ");
+            }
         }
+        draft.put_line(&line)
     }
 }

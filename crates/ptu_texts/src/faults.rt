@@ -1,13 +1,12 @@
 //! What is wrong with a datagram, in the words of a line.
 
-ghost use Rattle.std.specs.Prelude.{◌≡◌, ◌≤◌, ◌+◌, ◌++◌, Some};
+ghost use Rattle.std.specs.Prelude.{◌≡◌, ◌≤◌, ◌+◌, ◌++◌};
 ghost use Rattle.ptu_texts.specs.Faults.{fault_text, header_fault_text, tlv_fault_text};
 
 use ptu_header::HeaderFault;
 use ptu_messages::MessageFault;
 use ptu_tlvs::TlvFault;
 use ptu_writing::{LinePart, LineText};
-use std::fmt;
 
 /// Why octets spell no message: one word for the fault, and its numbers. `MessageFault` itself
 /// prints a sentence.
@@ -39,26 +38,6 @@ impl LinePart for FaultText {
                 line.put_str("tlv ");
             }
             MessageFault::OutOfMemory => line.put_str("memory"),
-        }
-    }
-}
-
-impl fmt::Display for FaultText {
-    ghost output = { λ f. Some (fault_text f.0) };
-
-    fn fmt<W: fmt::Write>(&self, f: &mut fmt::Formatter<W>) -> fmt::Result {
-        match self.0 {
-            MessageFault::Header(fault) => {
-                let fault = HeaderFaultText(fault);
-                write!(f, "{fault}")
-            }
-            MessageFault::Body { said, need } => write!(f, "body {said} {need}"),
-            MessageFault::TooMany { at } => write!(f, "toomany {at}"),
-            MessageFault::Tlv { at, fault } => {
-                let fault = TlvFaultText(fault);
-                write!(f, "tlv {at} {fault}")
-            }
-            MessageFault::OutOfMemory => f.write_str("memory"),
         }
     }
 }
@@ -96,19 +75,6 @@ impl LinePart for HeaderFaultText {
     }
 }
 
-impl fmt::Display for HeaderFaultText {
-    ghost output = { λ f. Some (header_fault_text f.0) };
-
-    fn fmt<W: fmt::Write>(&self, f: &mut fmt::Formatter<W>) -> fmt::Result {
-        match self.0 {
-            HeaderFault::Short { have } => write!(f, "short {have}"),
-            HeaderFault::Version { found } => write!(f, "version {found}"),
-            HeaderFault::Sdo { found } => write!(f, "sdo {found}"),
-            HeaderFault::Length { said, have } => write!(f, "length {said} {have}"),
-        }
-    }
-}
-
 // The same of a TLV, behind its place.
 #[derive(Clone, Copy)]
 struct TlvFaultText(TlvFault);
@@ -136,18 +102,6 @@ impl LinePart for TlvFaultText {
                 line.put_number(u64::from(tlv_type));
                 line.put_str("length ");
             }
-        }
-    }
-}
-
-impl fmt::Display for TlvFaultText {
-    ghost output = { λ f. Some (tlv_fault_text f.0) };
-
-    fn fmt<W: fmt::Write>(&self, f: &mut fmt::Formatter<W>) -> fmt::Result {
-        match self.0 {
-            TlvFault::Short { have } => write!(f, "short {have}"),
-            TlvFault::Overrun { said, have } => write!(f, "overrun {said} {have}"),
-            TlvFault::Length { tlv_type, said } => write!(f, "length {tlv_type} {said}"),
         }
     }
 }

@@ -1,5 +1,4 @@
-//! How values stand in lines of output: each is a type with `Display`, whose text its contract
-//! knows.
+//! How values stand in lines of output: each is a type whose text its contract knows.
 #![tactic(auto)]
 
 mod faults;

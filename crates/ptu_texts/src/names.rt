@@ -3,7 +3,6 @@
 ghost use Rattle.std.specs.{Prelude.{◌≡◌, ◌≤◌, ◌+◌, ◌++◌, Some}, Fmt.{signed_decimal}};
 ghost use Rattle.ptu_texts.specs.Texts.{address_text, clock_text, identity_text, kind_text};
 
-use crate::octets::OctetsText;
 use ptu_header::PortIdentity;
 use ptu_units::{Kind, Log};
 use ptu_writing::{LinePart, LineText};
@@ -53,16 +52,6 @@ impl LinePart for ClockText {
     }
 }
 
-impl fmt::Display for ClockText {
-    ghost output = { λ c. Some (clock_text c.0) };
-
-    fn fmt<W: fmt::Write>(&self, f: &mut fmt::Formatter<W>) -> fmt::Result {
-        let octets = self.0.to_be_bytes();
-        let digits = OctetsText(&octets);
-        write!(f, "{digits}")
-    }
-}
-
 /// A port identity: the clockIdentity, a slash and the portNumber (IEEE 1588-2019 clause 5.3.5).
 #[derive(Clone, Copy)]
 pub struct IdentityText(pub PortIdentity);
@@ -76,16 +65,6 @@ impl LinePart for IdentityText {
         line.put_number(u64::from(self.0.port));
         line.put_str("/");
         ClockText(self.0.clock).put(line);
-    }
-}
-
-impl fmt::Display for IdentityText {
-    ghost output = { λ i. Some (identity_text i.0) };
-
-    fn fmt<W: fmt::Write>(&self, f: &mut fmt::Formatter<W>) -> fmt::Result {
-        let clock = ClockText(self.0.clock);
-        let port = self.0.port;
-        write!(f, "{clock}/{port}")
     }
 }
 

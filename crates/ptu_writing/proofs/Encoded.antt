@@ -1,7 +1,7 @@
 -- The digits of octets in a row, and of a part of them.
-use Rattle.std.proofs.Common.{◌≡◌, ◌≤◌, ℕ, zero, suc, ◌+◌, ◌-◌, ◌*◌, ◌/◌, ◌%◌, min, List, [], ◌∷◌, ◌++◌, length, take, drop, replicate, slice_index, refl, ap, sym, ◌∙◌, inl, inr, arith}
+use Rattle.std.proofs.Common.{◌≡◌, ◌≤◌, ℕ, zero, suc, ◌+◌, ◌-◌, ◌*◌, ◌/◌, ◌%◌, List, [], ◌∷◌, ◌++◌, length, take, drop, replicate, slice_index, refl, ap, sym, ◌∙◌, arith}
 use Rattle.std.proofs.Math.Seq.{take-add}
-use Rattle.std.proofs.lemmas.{Bool.{cases_lt}, List.{length-append, length-drop, length-take, take_all}, Slice.{take-put_mid}}
+use Rattle.std.proofs.lemmas.{List.{length-drop, length-take}, Slice.{take-put_mid}}
 use borrow.Rule.Slice.PartMut.{put_mid}
 use Rattle.hex.specs.Hex.{encode_lower, encode_with, lower_digits}
 use Rattle.hex.proofs.HexLemmas.{length-encode_with}
@@ -52,22 +52,10 @@ encode_lower-put_mid a k xs ys =
 pub same_more : (n m : ℕ) (xs ys : List ℕ) → take n xs ≡ take n ys → take m (drop n xs) ≡ take m (drop n ys) → take (n + m) xs ≡ take (n + m) ys
 same_more n m xs ys front next = take-add n m xs ∙ (ap (λ l. l ++ take m (drop n xs)) front ∙ (ap (λ l. take n ys ++ l) next ∙ sym (take-add n m ys)))
 
-same_all : (n e : ℕ) (xs ys : List ℕ) → length xs ≤ e → length ys ≤ e → e ≤ n → take e xs ≡ take e ys → take n xs ≡ take n ys
-same_all n e xs ys short other le same =
-    take_all n xs (omega arith) ∙ (sym (take_all e xs short) ∙ (same ∙ (take_all e ys other ∙ sym (take_all n ys (omega arith)))))
-
--- a part of at most eight octets was made that of the other list
-pub part_renewed : (at e : ℕ) (xs ys part : List ℕ) → length xs ≡ length ys → at ≤ length ys → e ≡ min (length ys) (at + 8) → part ≡ take (e - at) (drop at ys) → take at xs ≡ take at ys
-    → take (at + 8) (put_mid at (e - at) xs part) ≡ take (at + 8) ys
-part_renewed at e xs ys part size le end is before =
+-- a part was made that of the other list
+pub part_renewed : (at e : ℕ) (xs ys part : List ℕ) → length xs ≡ length ys → at ≤ e → e ≤ length ys → part ≡ take (e - at) (drop at ys) → take at xs ≡ take at ys
+    → take e (put_mid at (e - at) xs part) ≡ take e ys
+part_renewed at e xs ys part size le within is before =
     let count : length part ≡ e - at = omega (arith, ap length is, length-take (e - at) (drop at ys), length-drop at ys) in
     let whole : at + (e - at) ≡ e = omega arith in
-    let front : take e (put_mid at (e - at) xs part) ≡ take e ys =
-    take-put_mid at (e - at) xs part e (omega arith) (omega arith) ∙ (ap (λ l. l ++ part) before ∙ (ap (λ l. take at ys ++ l) is ∙ (sym (take-add at (e - at) ys) ∙ ap (λ n. take n ys) whole))) in
-    let rest = drop (e - at) (drop at xs) in
-    let size' : length (put_mid at (e - at) xs part) ≡ length xs =
-    omega (arith, length-append (take at xs) (part ++ rest), length-append part rest, length-take at xs, length-drop (e - at) (drop at xs), length-drop at xs) in
-    elim (cases_lt e (at + 8)) [
-      | inl short ↦ same_all (at + 8) e (put_mid at (e - at) xs part) ys (omega arith) (omega arith) (omega arith) front
-      | inr full ↦ let same : at + 8 ≡ e = omega arith in rw same front
-    ]
+    take-put_mid at (e - at) xs part e (omega arith) (omega arith) ∙ (ap (λ l. l ++ part) before ∙ (ap (λ l. take at ys ++ l) is ∙ (sym (take-add at (e - at) ys) ∙ ap (λ n. take n ys) whole)))

@@ -1,6 +1,6 @@
 //! Octets with their digits: the digits of octets that stay as they were are not made again.
 
-ghost use Rattle.std.specs.Prelude.{◌≡◌, ◌<◌, ◌+◌, ◌^◌, [], length, take, drop, OnOk, IsTrue};
+ghost use Rattle.std.specs.Prelude.{◌≡◌, ◌<◌, ◌≤◌, ◌+◌, ◌^◌, [], length, take, drop, OnOk, IsTrue};
 ghost use Rattle.hex.specs.Hex.{encode_lower};
 
 use ptu_units::OutOfMemory;
@@ -28,11 +28,12 @@ impl Model for Digits {
     ghost invariant = { λ d. d.digits.items ≡ encode_lower d.octets.items };
 }
 
-// Whether the eight octets from a place on are there in both.
+// Whether eight octets from a place on are there in both, and are the same.
 fn is_same(octets: &[u8], others: &[u8], at: usize) -> bool
-    requires octets { at < length octets.now }
-    requires others { at < length others.now }
-    ensures { IsTrue result → take 8 (drop at octets.now) ≡ take 8 (drop at others.now) }
+    requires octets { at ≤ length octets.now }
+    requires others { at ≤ length others.now }
+    ensures within { IsTrue result → at + 8 ≤ length octets.now }
+    ensures same { IsTrue result → take 8 (drop at octets.now) ≡ take 8 (drop at others.now) }
 {
     match (
         octets[at..].first_chunk::<8>(),
@@ -43,26 +44,43 @@ fn is_same(octets: &[u8], others: &[u8], at: usize) -> bool
     }
 }
 
+// The next place, from one on up to which both are the same, from which they differ within eight
+// octets, or fewer than eight are left.
+fn next_other(octets: &[u8], others: &[u8], at: usize) -> usize
+    requires size { length others.now ≡ length octets.now }
+    requires at { at ≤ length octets.now }
+    requires before { take at others.now ≡ take at octets.now }
+    ensures within { result ≤ length octets.now }
+    ensures before { take result others.now ≡ take result octets.now }
+    ensures further { at ≤ result }
+{
+    let mut place = at;
+    'parts: while is_same(octets, others, place) {
+        place += PART;
+    }
+    place
+}
+
 // Makes eight octets from a place on, or those that are left, those of the other list, with their
-// digits, where those before are.
-fn renew(last: &mut [u8], digits: &mut [u8], octets: &[u8], at: usize)
+// digits, where those before are. Answers the place behind them.
+fn renew(last: &mut [u8], digits: &mut [u8], octets: &[u8], at: usize) -> usize
     requires size { length last.old ≡ length octets.now }
     requires digits { digits.old ≡ encode_lower last.old }
     requires at { at < length octets.now }
     requires before { take at last.old ≡ take at octets.now }
     ensures size { length last.new ≡ length octets.now }
     ensures digits { digits.new ≡ encode_lower last.new }
-    ensures before { take (at + 8) last.new ≡ take (at + 8) octets.now }
+    ensures before { take result last.new ≡ take result octets.now }
+    ensures within { result ≤ length octets.now }
+    ensures further { at < result }
 {
-    if is_same(octets, last, at) {
-        return;
-    }
     let end = octets.len().min(at + PART);
     let part = &octets[at..end];
     if hex::encode_to_slice(part, &mut digits[2 * at..2 * end]).is_err() {
         unreachable!();
     }
     last[at..end].copy_from_slice(part);
+    end
 }
 
 // Makes all octets those of the other list, with their digits.
@@ -72,8 +90,10 @@ fn renew_all(last: &mut [u8], digits: &mut [u8], octets: &[u8])
     ensures octets { last.new ≡ octets.now }
     ensures digits { digits.new ≡ encode_lower octets.now }
 {
-    for place in 0..octets.len().div_ceil(PART) {
-        renew(last, digits, octets, PART * place);
+    let mut place = next_other(octets, last, 0);
+    'parts: while place < octets.len() {
+        let end = renew(last, digits, octets, place);
+        place = next_other(octets, last, end);
     }
 }
 

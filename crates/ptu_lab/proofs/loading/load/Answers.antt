@@ -19,9 +19,9 @@ returns-in-Ok-clause-front g c =
     let W = g.K.Sink.written in
     let H = g.K.Sink.handed in
     let text = summary c.args.number in
-    let is : c.as_str.result.now ≡ text = search rules in
+    let is : c.as_bytes.result.now ≡ text = search rules in
     let written = HasPut W H c.args.sink.now c.put.new.sink in
     let begun = HasPutPart W H c.args.sink.now c.put.new.sink in
-    ok_or_err (written (c.as_str.result.now ∷ [])) (begun (c.as_str.result.now ∷ [])) (begun (text ∷ [])) c.put.result
+    ok_or_err (written (c.as_bytes.result.now ∷ [])) (begun (c.as_bytes.result.now ∷ [])) (begun (text ∷ [])) c.put.result
     (λ put. HasPutPart-whole W H c.args.sink.now c.put.new.sink (text ∷ []) (subst (λ t. written (t ∷ [])) is put))
     (λ part. subst (λ t. begun (t ∷ [])) is part) c.put.ensures.whole c.put.ensures.part

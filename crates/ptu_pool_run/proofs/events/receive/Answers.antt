@@ -11,11 +11,11 @@ returns c =
     elim c.match-branch-3.branch [
       | in-Stranger w ↦
           let took = rw w.in-Stranger.is at taken.took in
-          rw (w.result-is, w.pools-is, w.texts-is) (on_ok_weaker w.add.result (λ says setup events sold.
+          rw (w.result-is, w.pools-is, w.texts-is) (on_ok_weaker w.add_text.result (λ says setup events sold.
           stranger_came setup c.args.line events c.args.pools.now c.reserve_for.new.pools sold room.kept
-          c.args.at c.args.from c.args.octets.now c.take.new.self c.args.texts.now w.add.new.self took.0 took.1
+          c.args.at c.args.from c.args.octets.now c.take.new.self c.args.texts.now w.add_text.new.self took.0 took.1
           (taken.stands (config_of setup) events (room.kept.go_on.stand (config_of setup) events sold.stand)) says)
-          w.add.ensures.added)
+          w.add_text.ensures.added)
       | in-In w ↦
           let took = rw w.in-In.is at taken.took in
           rw (w.result-is, w.pools-is, w.texts-is) (on_ok_five w.tell_ports.result (λ last others says idle sure setup events sold.

@@ -1,11 +1,8 @@
 use Rattle.std.proofs.Common.{rules, ◌≡◌, ◌-◌, ◌*◌, ℕ, List, length, take, drop, sym, ap, arith}
 use Rattle.hex.specs.Hex.{encode_lower, lower_digits}
 use Rattle.hex.proofs.HexLemmas.{length-encode_with}
-use Rattle.ptu_writing.proofs.Encoded.{encode_lower-put_mid, part_renewed, same_more}
+use Rattle.ptu_writing.proofs.Encoded.{encode_lower-put_mid, part_renewed}
 use Rattle.ptu_writing.proofs.digits.renew.Goals as goal
-
-pub returns-then-is_same-clause-before : goal.returns-then-is_same-clause-before
-returns-then-is_same-clause-before c = same_more c.args.at 8 c.args.last.now c.args.octets.now c.requires.before (sym (search rules))
 
 pub slice_bounds-encode_to_slice-end : goal.slice_bounds-encode_to_slice-end
 slice_bounds-encode_to_slice-end c = search (rules, ap length c.requires.digits, length-encode_with lower_digits c.args.last.now)
@@ -22,4 +19,4 @@ returns-clause-digits c =
 
 pub returns-clause-before : goal.returns-clause-before
 returns-clause-before c =
-    part_renewed c.args.at c.min-end.result c.args.last.now c.args.octets.now c.copy_from_slice.new.self c.requires.size (omega (arith, c.requires.at)) c.min-end.ensures c.copy_from_slice.ensures.after c.requires.before
+    part_renewed c.args.at c.min-end.result c.args.last.now c.args.octets.now c.copy_from_slice.new.self c.requires.size (omega (arith, c.requires.at, c.min-end.ensures)) (omega (arith, c.min-end.ensures)) c.copy_from_slice.ensures.after c.requires.before
