@@ -11,27 +11,27 @@ use Rattle.ptu_profile.specs.Slave.{place_of}
 use Rattle.ptu_report.specs.Rules.{IsOutcome}
 use Rattle.ptu_script.specs.{declared.cause.Cause.{Cause}}
 use Rattle.ptu_script.specs.declared.cause.Cause.TheVariants as causes
+use Rattle.ptu_script.specs.declared.act.Act.{Act}
+use Rattle.ptu_script.specs.declared.act.Act.TheVariants as acts
 use Rattle.ptu_script.specs.declared.command.Command.TheVariants as commands
 use Rattle.ptu_world.specs.Deeds as world
-use Rattle.ptu_world.specs.{Deeds.{Deed}, Grandmasters.{class_deed}}
-use Rattle.ptu_world.specs.World.{Nodes, Stock, datagram_numbered, delivered_to, done_by, node_at, placed, said_by, sent_from, step, stock_without}
+use Rattle.ptu_world.specs.Deeds.{Deed}
+use Rattle.ptu_world.specs.World.{Nodes, Stock, act_deed, datagram_numbered, delivered_to, done_by, node_at, of_master, placed, said_by, sent_from, step, stock_after, stock_without}
+use Rattle.ptu_world.proofs.Acting.{after_acted, at_found, event_found}
 use Rattle.ptu_world.specs.Report.{Course, course_after, is_granted, is_short, outcome_by, text_at}
 use Rattle.ptu_nodes.specs.declared.grandmaster_node.GrandmasterNode.{GrandmasterNode}
-use Rattle.ptu_nodes.specs.Doing.{HasDone}
-use Rattle.ptu_nodes.specs.Noted.{Noted, counted_on, with_deed, with_said, with_sent}
+use Rattle.ptu_nodes.specs.Doing.{HasActed, HasDone}
+use Rattle.ptu_nodes.specs.Noted.{Noted, counted_on, with_deed, with_said}
 use Rattle.ptu_nodes.specs.Standing.{IsGrandmasterNode, StandsAsGrandmaster}
-use Rattle.ptu_nodes.proofs.Noting.{counted_granted, counted_short, deed_texts, on_counted, said_nothing, sent_nothing}
+use Rattle.ptu_nodes.proofs.Noting.{counted_granted, counted_short, deed_texts, on_counted}
 use Rattle.ptu_slave.specs.Seen.{Seen}
-use Rattle.ptu_lab.specs.declared.act.Act.{Act}
-use Rattle.ptu_lab.specs.declared.act.Act.TheVariants as acts
 use Rattle.ptu_lab.specs.declared.{slave_node.SlaveNode.{SlaveNode}, lab.Node.{Node}}
 use Rattle.ptu_lab.specs.declared.lab.Node.TheVariants as nodes
 use Rattle.ptu_lab.specs.declared.lab.Lab.{Lab}
-use Rattle.ptu_lab.specs.Acts.{act_deed, command_of, of_master, stock_after}
 use Rattle.ptu_lab.specs.NodeStanding.{IsNode, StandsAsNode}
 use Rattle.ptu_lab.specs.Standing.{Agrees, StandsAs, StandsFor}
-use Rattle.ptu_lab.specs.Steps.{HasActed, HasActedLeaving, HasTaken, stock_of}
-use Rattle.ptu_lab.proofs.LabCommands.{after_acted, at_found, command_is, deliver_is}
+use Rattle.ptu_lab.specs.Steps.{HasActedLeaving, HasTaken, stock_of}
+use Rattle.ptu_lab.proofs.LabCommands.{deliver_is}
 
 -- what follows from a fact on what was answered
 pub ok_also : {A E : Type 0} (r : Result A E) (P Q : A → Type 0) → IfOk r P → ((x : A) → P x → Q x) → IfOk r Q
@@ -50,13 +50,6 @@ pub done_as : (P Q : world.Node → Type 0) (a b : ℕ) (deed : Deed) (old new :
 done_as P Q a b deed old new also same done = record {
   node = also deed.node done.node;
   noted = subst (λ i. new ≡ with_deed i deed old) same done.noted;
-}
-
--- nothing is said of a class that changes, and nothing is sent
-pub class_changed : (P : world.Node → Type 0) (ip class : ℕ) (g : world.Grandmaster) (noted : Noted) → P (class_deed g class).node → HasDone P ip (class_deed g class) noted noted
-class_changed P ip class g noted is = record {
-  node = is;
-  noted = sym (said_nothing (with_sent [] (with_said [] noted)) ∙ (sent_nothing (with_said [] noted) ∙ said_nothing noted));
 }
 
 -- where no judge was taken, those that are left are those that there were
@@ -165,8 +158,8 @@ module _ {J B : Type 0} {I : J → Type 0} (see : SlaveNode J I → Seen MemoryP
   pub nobody : (flags gaps : List Held) (lab : Lab J I) (c : Course) (ip line t : ℕ) (act : Act) (after : Course → Type 0) (given : List (List ℕ))
       → StandsFor see flags gaps lab c
       → get nat_eq lab.nodes ip ≡ None
-      → IsOutcome (outcome_by c line (step c.world (command_of ip t act))) after given (Some causes.Node)
-  nobody flags gaps lab c ip line t act after given stands found = rw (command_is c.world ip t act) (by (node_at c.world.nodes ip) (rw (sym found) (stands.nodes ip)))
+      → IsOutcome (outcome_by c line (step c.world (commands.Event t ip act))) after given (Some causes.Node)
+  nobody flags gaps lab c ip line t act after given stands found = rw (event_found c.world t ip act) (by (node_at c.world.nodes ip) (rw (sym found) (stands.nodes ip)))
     where
       by : (o : Option world.Node) → Agrees see ip c.world.has_begun None o → IsOutcome (outcome_by c line (at_found c.world ip t act o)) after given (Some causes.Node)
       by None h = refl
@@ -192,9 +185,9 @@ module _ {J B : Type 0} {I : J → Type 0} (see : SlaveNode J I → Seen MemoryP
       → lab.journal.texts ≡ []
       → ((q : ℕ) → get nat_eq lab'.nodes q ≡ cond (nat_eq ip q) (Some new) (get nat_eq lab.nodes q))
       → lab'.has_begun ≡ true
-      → IsOutcome (outcome_by c lab.journal.line (step c.world (command_of ip t act))) (StandsFor see flags' gaps' lab') lab'.journal.texts refused
+      → IsOutcome (outcome_by c lab.journal.line (step c.world (commands.Event t ip act))) (StandsFor see flags' gaps' lab') lab'.journal.texts refused
   acted_stands flags gaps flags' gaps' lab lab' c ip t act old new refused stands found acted none changed begun =
-      rw (command_is c.world ip t act) (by (node_at c.world.nodes ip) (rw (sym found) (stands.nodes ip)))
+      rw (event_found c.world t ip act) (by (node_at c.world.nodes ip) (rw (sym found) (stands.nodes ip)))
     where
       stock_is : stock_of flags gaps ≡ c.world.stock
       stock_is = ap₂ (λ f g. record { flags = f; gaps = g }) stands.flags stands.gaps
@@ -283,14 +276,14 @@ module _ {J B : Type 0} {I : J → Type 0} (see : SlaveNode J I → Seen MemoryP
       → datagram_numbered number lab.journal.sent ≡ Some sent
       → is_some (get nat_eq lab.nodes sent.to) ≡ true
       → octets ≡ sent.octets
-      → IsOutcome (outcome_by c line (step c.world (commands.Receive t sent.to sent.from octets))) after given refused
+      → IsOutcome (outcome_by c line (step c.world (commands.Event t sent.to (acts.Receive sent.from octets)))) after given refused
       → IsOutcome (outcome_by c line (step c.world (commands.Deliver t number))) after given refused
   delivered_there flags gaps lab c line t number sent octets after given refused stands numbered there same received =
-      let is : step c.world (commands.Deliver t number) ≡ step c.world (commands.Receive t sent.to sent.from sent.octets) =
+      let is : step c.world (commands.Deliver t number) ≡ step c.world (commands.Event t sent.to (acts.Receive sent.from sent.octets)) =
       deliver_is c.world t number sent (ap (datagram_numbered number) (sym stands.sent) ∙ numbered)
       (is_there sent.to c.world.has_begun (get nat_eq lab.nodes sent.to) (node_at c.world.nodes sent.to) (stands.nodes sent.to) ∙ there) in
       subst (λ made. IsOutcome (outcome_by c line made) after given refused)
-      (ap (λ l. step c.world (commands.Receive t sent.to sent.from l)) same ∙ sym is) received
+      (ap (λ l. step c.world (commands.Event t sent.to (acts.Receive sent.from l))) same ∙ sym is) received
 
   -- no node is there
   pub delivered_nobody : (flags gaps : List Held) (lab lab' : Lab J I) (c : Course) (t number : ℕ) (sent : Sent)

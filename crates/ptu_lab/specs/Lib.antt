@@ -5,7 +5,5 @@ pub mod Standing
 pub mod Replayed
 pub mod Load
 pub mod SummarySamples
-pub mod Acts
-pub mod Orders
 pub mod Steps
 pub mod Headline

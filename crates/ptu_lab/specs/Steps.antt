@@ -44,14 +44,7 @@ HasNone rule flags gaps = stock_without rule (stock_of flags gaps) ≡ Err cause
 -- ---- what one node does
 
 module _ (is_node : Node → Type 0) (ip : ℕ) (old new : Noted) where
-  -- the node at the address did the deed; or this is why it is refused
-  abbrev pub HasActed : Result Deed Cause → Option Cause → Type 0
-  HasActed (Ok deed) None = HasDone is_node ip deed old new
-  HasActed (Err cause) (Some found) = found ≡ cause
-  HasActed (Ok deed) (Some found) = ⊥
-  HasActed (Err cause) None = ⊥
-
-  -- the same, and of the stock these judges are left
+  -- the node at the address did the deed, and of the stock these judges are left; or this is why it is refused
   abbrev pub HasActedLeaving : (flags gaps : List Held) → Result Deed Cause → Result Stock Cause
       → Option Cause → Type 0
   HasActedLeaving flags gaps (Ok deed) (Ok left) None =

@@ -1,61 +1,22 @@
 //! The lab's nodes act: at an event, and as a datagram that was sent is delivered.
 ghost use Rattle.std.specs.Prelude.{◌≡◌, ℕ, Bool, [], true, map, IfOk, OnOk};
 ghost use Rattle.ptu_judges.specs.Held.{IsStock};
+ghost use Rattle.ptu_script.specs.Limits.{IsActWithin};
 ghost use Rattle.ptu_script.specs.declared.command.Command.TheVariants as commands;
 ghost use Rattle.ptu_world.specs.Deeds as world;
-ghost use Rattle.ptu_world.specs.Report.{Course};
-ghost use Rattle.ptu_nodes.specs.Standing.{IsGrandmasterNode, StandsAsGrandmaster};
-ghost use Rattle.ptu_lab.specs.Acts.{IsActWithin, act_deed, command_of, stock_after};
-ghost use Rattle.ptu_lab.specs.Steps.{HasActed, HasActedLeaving, stock_of};
+ghost use Rattle.ptu_world.specs.{Report.{Course}, World.{act_deed, stock_after}};
+ghost use Rattle.ptu_lab.specs.Steps.{HasActedLeaving, stock_of};
 ghost use Rattle.ptu_lab.specs.Standing.{HasObeyed, LabStandsFor, NodeStandsAs};
 
-use crate::act::Act;
 use crate::lab::{Lab, Node};
 use crate::stock::Reserve;
 use ptu_judges::Judge;
 use ptu_lines::LentOctets;
-use ptu_nodes::{GrandmasterNode, Journal};
+use ptu_nodes::Journal;
 use ptu_report_lines::Statement;
-use ptu_script::Cause;
+use ptu_script::{Act, Cause};
 use ptu_units::{Moment, OutOfMemory};
 use ptu_world::finding::datagram_of;
-
-// Does what the act asks of a grandmaster, and notes what comes of it; or answers that it is no act
-// of a grandmaster.
-fn act_as_grandmaster(
-    node: &mut GrandmasterNode,
-    at: Moment,
-    act: Act<'_>,
-    journal: &mut Journal,
-) -> Result<Option<Cause>, OutOfMemory>
-    requires means { (g : world.Grandmaster) × IsGrandmasterNode node.old g }
-    requires within { IsActWithin act }
-    ensures ip { node.new.ip ≡ node.old.ip }
-    ensures acted { IfOk result (λ refused. (g : world.Grandmaster) →
-        IsGrandmasterNode node.old g →
-        HasActed (StandsAsGrandmaster node.new) node.old.ip journal.old journal.new
-        (act_deed at act.entry (world.IsGrandmaster g)) refused) }
-{
-    match act {
-        Act::Receive { from, octets } => {
-            node.receive(at, from, octets.as_slice(), journal)?;
-            Ok(None)
-        }
-        Act::Turn { table } => {
-            node.turn(at, table, journal)?;
-            Ok(None)
-        }
-        Act::Class { class } => {
-            node.set_class(class);
-            Ok(None)
-        }
-        Act::Capacity { capacity } => {
-            node.set_capacity(at, capacity, journal)?;
-            Ok(None)
-        }
-        Act::Tick | Act::Flag { .. } | Act::Judge { .. } | Act::Stop => Ok(Some(Cause::Node)),
-    }
-}
 
 impl Node {
     /// Does what the act asks, with a judge of the stock where it wants one, and notes what comes
@@ -84,7 +45,7 @@ impl Node {
             (map (λ j. held j) stock.old.gaps.items))) refused) }
     {
         match self {
-            Node::Grandmaster(node) => act_as_grandmaster(node, at, act, journal),
+            Node::Grandmaster(node) => node.act(at, act, journal),
             Node::Slave(node) => node.act(at, act, stock, journal),
         }
     }
@@ -100,7 +61,7 @@ fn copy_into(room: &mut Vec<u8>, octets: &[u8]) -> Result<(), OutOfMemory>
 }
 
 impl Lab {
-    /// The node at an address does what the act asks, at the line that the journal is at; or this
+    /// The node at an address does what it is told, at the line that the journal is at; or this
     /// is why it is refused.
     ///
     /// # Errors
@@ -110,7 +71,7 @@ impl Lab {
         requires within { IsActWithin act }
         requires empty { self.old.journal.texts ≡ [] }
         ensures { IfOk result (HasObeyed ⟦<dyn Judge as Judge>⟧ self.old self.new
-            self.old.journal.line self.new.journal.texts (command_of ip at act.entry)) }
+            self.old.journal.line self.new.journal.texts (commands.Event at ip act.entry)) }
     {
         match self.nodes.get_mut(&ip) {
             None => Ok(Some(Cause::Node)),

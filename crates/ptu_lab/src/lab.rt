@@ -5,10 +5,8 @@ ghost use Rattle.ptu_judges.specs.Held.{IsStock};
 ghost use Rattle.ptu_report.specs.Rules.{IsOutcome};
 ghost use Rattle.ptu_script.specs.Limits.{IsWithinLimits};
 ghost use Rattle.ptu_world.specs.{World.{step}, Report.{Course, course_opening, outcome_by}};
-ghost use Rattle.ptu_lab.specs.{Orders.{IsOrderWithin, command_in}, Steps.{stock_of}};
-ghost use Rattle.ptu_lab.specs.Standing.{HasObeyed, LabStandsFor};
+ghost use Rattle.ptu_lab.specs.{Standing.{HasObeyed, LabStandsFor}, Steps.{stock_of}};
 
-use crate::order::{Order, order_of};
 use crate::slave_node::SlaveNode;
 use crate::stock::Reserve;
 use ptu_judges::{Judge, Stock};
@@ -78,27 +76,34 @@ impl Lab {
             (λ after. LabStandsFor ⟦<dyn Judge as Judge>⟧ self.new after) texts.new refused) }
     {
         self.journal.begin(line);
-        let refused = self.obey(order_of(command), room)?;
+        let refused = self.obey(command, room)?;
         self.journal.swap_texts(texts);
         Ok(refused)
     }
 
-    // Does what is asked at the line that the journal has begun.
-    fn obey(&mut self, order: Order<'_>, room: &mut Vec<u8>) -> Result<Option<Cause>, OutOfMemory>
+    // Does what is commanded at the line that the journal has begun.
+    fn obey(
+        &mut self,
+        command: Command<'_>,
+        room: &mut Vec<u8>,
+    ) -> Result<Option<Cause>, OutOfMemory>
         requires means { (c : Course) × LabStandsFor ⟦<dyn Judge as Judge>⟧ self.old c }
-        requires within { IsOrderWithin order }
+        requires limits { IsWithinLimits command }
         requires empty { self.old.journal.texts ≡ [] }
         ensures { IfOk result (HasObeyed ⟦<dyn Judge as Judge>⟧ self.old self.new
-            self.old.journal.line self.new.journal.texts (command_in order.entry)) }
+            self.old.journal.line self.new.journal.texts command.entry) }
     {
-        match order {
-            Order::Grandmaster(setup) => self.set_up_grandmaster(&setup),
-            Order::Slave(setup) => self.set_up_slave(&setup),
-            Order::Master(slave, ip, priority, rule) => {
-                self.add_master(slave, ip, priority, rule)
-            }
-            Order::Deliver { at, number } => self.deliver(at, number, room),
-            Order::Act(at, node, act) => self.act(at, node, act),
+        match command {
+            Command::Grandmaster(setup) => self.set_up_grandmaster(&setup),
+            Command::Slave(setup) => self.set_up_slave(&setup),
+            Command::Master {
+                slave,
+                ip,
+                priority,
+                rule,
+            } => self.add_master(slave, ip, priority, rule),
+            Command::Deliver { at, number } => self.deliver(at, number, room),
+            Command::Event { at, node, act } => self.act(at, node, act),
         }
     }
 }

@@ -2,12 +2,10 @@
 //! makes and replays the script of many clients. `show` decodes datagrams, line by line.
 #![tactic(auto)]
 
-mod act;
 mod acting;
 mod done;
 mod lab;
 mod loading;
-mod order;
 mod replaying;
 mod setting_up;
 mod slave_node;

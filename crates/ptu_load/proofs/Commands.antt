@@ -4,6 +4,7 @@ use Rattle.std.specs.{Prelude.{slice_get, unwrap_or}, List.{list_any}}
 use Rattle.hex.specs.Hex.{IsBytes, encode_lower}
 use Rattle.ptu_lines.specs.Words.{ip_of, octets_of, words_of}
 use Rattle.ptu_script.specs.declared.command.GrandmasterSetup.{GrandmasterSetup}
+use Rattle.ptu_script.specs.declared.act.Act.TheVariants as acts
 use Rattle.ptu_script.specs.declared.command.Command.TheVariants as commands
 use Rattle.ptu_script.specs.declared.verb.{Verb.{Verb}, Verb.TheVariants.{Gm, Rx, Turn}}
 use Rattle.ptu_script.specs.Command.{command_of, fields_in, grandmaster_in, is_comment, moment_of}
@@ -45,11 +46,11 @@ abbrev pub turn_line : ℕ → ℕ → List ℕ
 turn_line moment table = codes "turn " ++ (decimal moment ++ (codes " 10.0.0.1 " ++ decimal table))
 
 turn_fields : (line m t : List ℕ) (moment table : ℕ) → words_of line ≡ codes "turn" ∷ m ∷ codes "10.0.0.1" ∷ t ∷ [] → moment_of m ≡ Some moment → from_to 0 3 t ≡ Some table
-    → fields_in Turn line ≡ Ok (commands.Turn moment address table)
+    → fields_in Turn line ≡ Ok (commands.Event moment address (acts.Turn table))
 unfolding fields_in
 turn_fields line m t moment table e p q = rw (e, p, q) refl
 
-pub turn_says : (moment table : ℕ) → moment < 2 ^ 62 → table ≤ 3 → command_of (turn_line moment table) ≡ Ok (Some (commands.Turn moment address table))
+pub turn_says : (moment table : ℕ) → moment < 2 ^ 62 → table ≤ 3 → command_of (turn_line moment table) ≡ Ok (Some (commands.Event moment address (acts.Turn table)))
 turn_says moment table below few =
     let words = turn_words (decimal moment) (decimal table) (decimal_glyphs moment (omega (arith, below))) (decimal_glyphs table (omega (arith, few))) in
     let first : moment_of (decimal moment) ≡ Some moment = decimal_within moment 0 (2 ^ 62 - 1) (omega arith) (omega (arith, below)) (omega (arith, below)) in
@@ -67,12 +68,12 @@ abbrev pub client_address : ℕ → ℕ → ℕ
 client_address a b = ((10 * 256 + 1) * 256 + a) * 256 + b
 
 client_fields : (line ip o : List ℕ) (from : ℕ) (octets : List ℕ) → words_of line ≡ codes "rx" ∷ codes "0" ∷ codes "10.0.0.1" ∷ ip ∷ o ∷ [] → ip_of ip ≡ Some from
-    → octets_of o ≡ Some octets → fields_in Rx line ≡ Ok (commands.Receive 0 address from octets)
+    → octets_of o ≡ Some octets → fields_in Rx line ≡ Ok (commands.Event 0 address (acts.Receive from octets))
 unfolding fields_in
 client_fields line ip o from octets e p q = rw (e, p, q) refl
 
 pub client_says : (a b : ℕ) (octets : List ℕ) → a ≤ 255 → b ≤ 255 → IsBytes octets → 1 ≤ length octets → length octets ≤ 2048
-    → command_of (client_line a b octets) ≡ Ok (Some (commands.Receive 0 address (client_address a b) octets))
+    → command_of (client_line a b octets) ≡ Ok (Some (commands.Event 0 address (acts.Receive (client_address a b) octets)))
 client_says a b octets h k bytes some few =
     let words = client_words (decimal a) (decimal b) (encode_lower octets) (decimal_glyphs a (omega (arith, h))) (decimal_glyphs b (omega (arith, k))) (octets_glyphs octets bytes) in
     of_verb (client_line a b octets) _ Rx refl words refl refl

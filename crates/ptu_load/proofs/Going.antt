@@ -5,6 +5,7 @@ use Rattle.ptu_lines.specs.Script.{Whole}
 use Rattle.ptu_report.specs.declared.ending.Ending.TheVariants as endings
 use Rattle.ptu_report.specs.Rules.{ending_after, ending_at}
 use Rattle.ptu_script.specs.declared.command.Command.{Command}
+use Rattle.ptu_script.specs.declared.act.Act.TheVariants as acts
 use Rattle.ptu_script.specs.declared.command.Command.TheVariants as commands
 use Rattle.ptu_script.specs.Command.{command_of}
 use Rattle.ptu_world.specs.Deeds.{Grandmaster, IsGrandmaster}
@@ -33,12 +34,12 @@ pub record IsGoing (text : List ℕ) : Type 0 where
   pub says : command_of text ≡ Ok (Some command)
   pub taken : (w : World) → HasMaster w → IsTaken w command
 
-pub receive_taken : (t from : ℕ) (octets : List ℕ) (w : World) → HasMaster w → IsTaken w (commands.Receive t address from octets)
+pub receive_taken : (t from : ℕ) (octets : List ℕ) (w : World) → HasMaster w → IsTaken w (commands.Event t address (acts.Receive from octets))
 receive_taken t from octets w m =
-    let g = datagram_goes w (commands.Receive t address from octets) (record { at = t; node = address; from = from; octets = octets }) m.master refl m.is in
+    let g = datagram_goes w (commands.Event t address (acts.Receive from octets)) (record { at = t; node = address; from = from; octets = octets }) m.master refl m.is in
     record { done = g.done; step = g.step; master = record { master = _; is = g.node } }
 
-pub turn_taken : (t table : ℕ) (w : World) → HasMaster w → IsTaken w (commands.Turn t address table)
+pub turn_taken : (t table : ℕ) (w : World) → HasMaster w → IsTaken w (commands.Event t address (acts.Turn table))
 turn_taken t table w m =
     let g = turn_goes w address m.master m.is t table in
     record { done = g.done; step = g.step; master = record { master = _; is = g.node } }

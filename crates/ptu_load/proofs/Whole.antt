@@ -9,6 +9,7 @@ use Rattle.ptu_outside.specs.Handing.{joined}
 use Rattle.ptu_lines.specs.Script.{Whole, lines_from, pieces, script_lines}
 use Rattle.ptu_report.specs.declared.ending.Ending.TheVariants as endings
 use Rattle.ptu_report.specs.Rules.{ending_of}
+use Rattle.ptu_script.specs.declared.act.Act.TheVariants as acts
 use Rattle.ptu_script.specs.declared.command.Command.TheVariants as commands
 use Rattle.ptu_world.specs.{World.{Stock}, Report.{course_opening, rules}}
 use Rattle.ptu_load.specs.Generated.{ask_line, ask_lines, client_text, generated, generated_lines, grandmaster_text, log_by, request_of, turn_lines, turn_lines_at, turn_text, x_at}
@@ -64,7 +65,7 @@ turn moment table below few = record {
   text = turn_line moment table;
   is = turn_ended moment table;
   short = turn_short moment table below few;
-  going = record { command = commands.Turn moment address table; says = turn_says moment table below few; taken = turn_taken moment table };
+  going = record { command = commands.Event moment address (acts.Turn table); says = turn_says moment table below few; taken = turn_taken moment table };
 }
 
 -- ---- the requests
@@ -94,7 +95,7 @@ client_short a b octets h k bytes many =
 
 client_going : (a b : ℕ) (octets : List ℕ) → a ≤ 255 → b ≤ 255 → IsBytes octets → length octets ≡ 54 → IsGoing (client_line a b octets)
 client_going a b octets h k bytes many = record {
-  command = commands.Receive 0 address (client_address a b) octets;
+  command = commands.Event 0 address (acts.Receive (client_address a b) octets);
   says = client_says a b octets h k bytes (omega (arith, many)) (omega (arith, many));
   taken = receive_taken 0 (client_address a b) octets;
 }

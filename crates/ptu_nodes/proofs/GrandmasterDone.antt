@@ -4,12 +4,12 @@ use Rattle.std.specs.Result.{OnOk}
 use Rattle.ptu_outside.specs.{Departure.{Departure}, MemoryPort.{MemoryPort}}
 use Rattle.ptu_history.specs.History.{Record}
 use Rattle.ptu_grandmaster.specs.Gm.{KeptGm, StandsFor}
-use Rattle.ptu_world.specs.Deeds.{Deed, Grandmaster, IsGrandmaster, IsSlave, Node}
+use Rattle.ptu_world.specs.{Deeds.{Deed, Grandmaster, IsGrandmaster, IsSlave, Node}, Grandmasters.{class_deed}}
 use Rattle.ptu_nodes.specs.{Doing.{HasDone}, GrandmasterPorts.{GoesOn}}
-use Rattle.ptu_nodes.specs.Noted.{Noted, with_handed, with_said}
+use Rattle.ptu_nodes.specs.Noted.{Noted, with_handed, with_said, with_sent}
 use Rattle.ptu_nodes.specs.declared.grandmaster_node.GrandmasterNode.{GrandmasterNode}
 use Rattle.ptu_nodes.specs.Standing.{AreIdle, AreSure, IsGrandmasterNode, StandsAsGrandmaster}
-use Rattle.ptu_nodes.proofs.Noting.{said_nothing}
+use Rattle.ptu_nodes.proofs.Noting.{said_nothing, sent_nothing}
 
 pub on_ok_four : {T E P Q R S U : Type 0} (r : Result T E) → (P → Q → R → S → U) → OnOk r P → OnOk r Q → OnOk r R → OnOk r S → OnOk r U
 on_ok_four (Ok x) f p q r s = f p q r s
@@ -31,6 +31,13 @@ has_done is_node ip deed old middle new node none says handed = record {
   noted =
       handed ∙ ap (with_handed ip deed.sends) says ∙ sym (said_nothing (with_handed ip deed.sends (with_said deed.said old)))
       ∙ ap (λ l. with_said l (with_handed ip deed.sends (with_said deed.said old))) (sym none);
+}
+
+-- nothing is said of a class that changes, and nothing is sent
+pub class_changed : (P : Node → Type 0) (ip class : ℕ) (g : Grandmaster) (noted : Noted) → P (class_deed g class).node → HasDone P ip (class_deed g class) noted noted
+class_changed P ip class g noted is = record {
+  node = is;
+  noted = sym (said_nothing (with_sent [] (with_said [] noted)) ∙ (sent_nothing (with_said [] noted) ∙ said_nothing noted));
 }
 
 -- ---- the grandmaster goes on with its history

@@ -1,14 +1,14 @@
 //! The grandmaster of a script. Its ports are in memory and have room for all that an event may
 //! send, so no send fails.
 
-ghost use Rattle.std.specs.Prelude.{◌≡◌, ◌<◌, [], IfSome, OnOk};
+ghost use Rattle.std.specs.Prelude.{◌≡◌, ◌<◌, [], IfOk, IfSome, OnOk};
 ghost use Rattle.ptu_profile.specs.Grandmaster.{IsWithinLimits};
 ghost use Rattle.ptu_units.specs.Limits.{IsCapacity};
-ghost use Rattle.ptu_script.specs.Limits.{IsGrandmasterWithin};
-ghost use Rattle.ptu_world.specs.Deeds.{Grandmaster};
+ghost use Rattle.ptu_script.specs.Limits.{IsActWithin, IsGrandmasterWithin};
+ghost use Rattle.ptu_world.specs.Deeds.{Grandmaster, IsGrandmaster};
 ghost use Rattle.ptu_world.specs.Grandmasters.{capacity_deed, class_deed, datagram_deed, turn_deed};
-ghost use Rattle.ptu_world.specs.World.{new_grandmaster};
-ghost use Rattle.ptu_nodes.specs.{Doing.{HasDone}, GrandmasterPorts.{rows_kept}};
+ghost use Rattle.ptu_world.specs.World.{act_deed, new_grandmaster};
+ghost use Rattle.ptu_nodes.specs.{Doing.{HasActed, HasDone}, GrandmasterPorts.{rows_kept}};
 ghost use Rattle.ptu_nodes.specs.Standing as standing;
 ghost use Rattle.ptu_nodes.specs.Standing.{IsGrandmasterNode, StandsAsGrandmaster};
 
@@ -20,7 +20,7 @@ use ptu_header::PortIdentity;
 use ptu_outside::MemPort;
 use ptu_profile::GmConfig;
 use ptu_report_lines::Statement;
-use ptu_script::GrandmasterSetup;
+use ptu_script::{Act, Cause, GrandmasterSetup};
 use ptu_units::sizes::{ANNOUNCE_LENGTH, LONGEST_SIGNALING};
 use ptu_units::{Moment, OutOfMemory};
 use std::alloc::Global;
@@ -79,6 +79,46 @@ impl GrandmasterNode {
         let first = self.gm.count(0).checked_add(self.gm.count(1))?;
         let last = self.gm.count(2).checked_add(self.gm.count(3))?;
         first.checked_add(last)
+    }
+
+    /// Does what it is told, and notes what comes of it; or answers why not: it is told what slaves
+    /// are told.
+    ///
+    /// # Errors
+    /// `OutOfMemory`. The address stays, and nothing else is said of the node and the journal: the
+    /// run ends.
+    pub fn act(
+        &mut self,
+        at: Moment,
+        act: Act<'_>,
+        journal: &mut Journal,
+    ) -> Result<Option<Cause>, OutOfMemory>
+        requires means { (g : Grandmaster) × IsGrandmasterNode self.old g }
+        requires within { IsActWithin act }
+        ensures ip { self.new.ip ≡ self.old.ip }
+        ensures acted { IfOk result (λ refused. (g : Grandmaster) → IsGrandmasterNode self.old g →
+            HasActed (StandsAsGrandmaster self.new) self.old.ip journal.old journal.new
+            (act_deed at act.entry (IsGrandmaster g)) refused) }
+    {
+        match act {
+            Act::Receive { from, octets } => {
+                self.receive(at, from, octets.as_slice(), journal)?;
+                Ok(None)
+            }
+            Act::Turn { table } => {
+                self.turn(at, table, journal)?;
+                Ok(None)
+            }
+            Act::Class { class } => {
+                self.set_class(class);
+                Ok(None)
+            }
+            Act::Capacity { capacity } => {
+                self.set_capacity(at, capacity, journal)?;
+                Ok(None)
+            }
+            Act::Tick | Act::Flag { .. } | Act::Judge { .. } | Act::Stop => Ok(Some(Cause::Node)),
+        }
     }
 
     /// Takes a datagram that came from this IPv4 address, and notes what it comes to and what is

@@ -86,7 +86,20 @@ impl Journal {
     ///
     /// # Errors
     /// `OutOfMemory`. Nothing is said of the journal then: the run ends.
+    #[tactic(auto, using(crate::proofs::HandedOver::nothing, crate::proofs::HandedOver::cleared))]
     pub fn hand_over(&mut self, port: &mut MemPort, ip: u32) -> Result<(), OutOfMemory>
+        ensures noted { OnOk result (self.new ≡ with_handed ip port.old.sent self.old) }
+        ensures cleared { OnOk result (port.new ≡ record port.old { sent = [] }) }
+    {
+        // In most ports nothing stands.
+        if port.sent(0).is_none() {
+            return Ok(());
+        }
+        self.hand_over_each(port, ip)
+    }
+
+    // The same, datagram by datagram.
+    fn hand_over_each(&mut self, port: &mut MemPort, ip: u32) -> Result<(), OutOfMemory>
         ensures noted { OnOk result (self.new ≡ with_handed ip port.old.sent self.old) }
         ensures cleared { OnOk result (port.new ≡ record port.old { sent = [] }) }
     {

@@ -18,6 +18,7 @@ use Rattle.ptu_gm_messages.specs.Deciding.{answer_by, events_of_items, opened_wi
 use Rattle.ptu_gm_messages.specs.Replies.{reply_to}
 use Rattle.ptu_grandmaster.specs.Driven as driven
 use Rattle.ptu_script.specs.declared.{cause.Cause.{Cause}, command.Command.{Command}}
+use Rattle.ptu_script.specs.declared.act.Act.TheVariants as acts
 use Rattle.ptu_script.specs.declared.command.Command.TheVariants as script
 use Rattle.ptu_script.specs.Limits.{IsGrandmasterWithin}
 use Rattle.ptu_report_lines.specs.declared.sent.Sent as sending
@@ -55,7 +56,7 @@ module _ (r : Request) where
   alone = record { nodes = (r.handed.node, IsGrandmaster r.gm) ∷ []; sent = []; stock = record { flags = 0; gaps = 0 }; has_begun = true }
 
   abbrev handing : Command
-  handing = script.Receive r.handed.at r.handed.node r.handed.from r.handed.octets
+  handing = script.Event r.handed.at r.handed.node (acts.Receive r.handed.from r.handed.octets)
 
   there : worlds.node_at alone.nodes r.handed.node ≡ Some (IsGrandmaster r.gm)
   there = ap (λ b. cond b (Some (IsGrandmaster r.gm)) None) (eq-eqb r.handed.node r.handed.node refl)

@@ -6,6 +6,7 @@ use Rattle.ptu_lines.specs.Words.{words_of, word_of, ip_of, clock_of, octets_of}
 use Rattle.ptu_script.specs.declared.cause.{Cause.{Cause}, Cause.TheVariants.{Word, Count}}
 use Rattle.ptu_script.specs.declared.command.GrandmasterSetup.{GrandmasterSetup}
 use Rattle.ptu_script.specs.declared.command.{SlaveSetup.{SlaveSetup}, Command.{Command}}
+use Rattle.ptu_script.specs.declared.act.Act.TheVariants as acts
 use Rattle.ptu_script.specs.declared.command.Command.TheVariants as commands
 use Rattle.ptu_script.specs.declared.verb.Verb.{Verb}
 use Rattle.ptu_script.specs.declared.verb.Verb.TheVariants.{Gm, Slave, Master, Rx, Deliver, Turn, Tick, Flag, Judge, Stop, Class, Capacity}
@@ -86,7 +87,7 @@ fields_in Rx line = do
   node ← field 3 ip_of line
   from ← field 4 ip_of line
   octets ← field 5 octets_of line
-  Ok (commands.Receive at node from octets)
+  Ok (commands.Event at node (acts.Receive from octets))
 fields_in Deliver line = do
   at ← field 2 moment_of line
   number ← field 3 (from_to 0 (2 ^ 64 - 1)) line
@@ -95,36 +96,36 @@ fields_in Turn line = do
   at ← field 2 moment_of line
   node ← field 3 ip_of line
   table ← field 4 (from_to 0 3) line
-  Ok (commands.Turn at node table)
+  Ok (commands.Event at node (acts.Turn table))
 fields_in Tick line = do
   at ← field 2 moment_of line
   slave ← field 3 ip_of line
-  Ok (commands.Tick at slave)
+  Ok (commands.Event at slave acts.Tick)
 fields_in Flag line = do
   at ← field 2 moment_of line
   slave ← field 3 ip_of line
   master ← field 4 ip_of line
   unusable ← field 5 truth_of line
-  Ok (commands.Flag at slave master unusable)
+  Ok (commands.Event at slave (acts.Flag master unusable))
 fields_in Judge line = do
   at ← field 2 moment_of line
   slave ← field 3 ip_of line
   master ← field 4 ip_of line
   rule ← field 5 rule_named line
-  Ok (commands.Judge at slave master rule)
+  Ok (commands.Event at slave (acts.Judge master rule))
 fields_in Stop line = do
   at ← field 2 moment_of line
   slave ← field 3 ip_of line
-  Ok (commands.Stop at slave)
+  Ok (commands.Event at slave acts.Stop)
 fields_in Class line = do
   node ← field 2 ip_of line
   class ← field 3 (from_to 0 255) line
-  Ok (commands.Class node class)
+  Ok (commands.Event 0 node (acts.Class class))
 fields_in Capacity line = do
   at ← field 2 moment_of line
   node ← field 3 ip_of line
   capacity ← field 4 (from_to 1 16777216) line
-  Ok (commands.Capacity at node capacity)
+  Ok (commands.Event at node (acts.Capacity capacity))
 
 -- the line has one of these numbers of words
 abbrev pub has_count : List ℕ → List ℕ → Bool

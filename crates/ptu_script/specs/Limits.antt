@@ -7,7 +7,9 @@ use Rattle.ptu_record.specs.declared.rule.Rule.{Rule}
 use Rattle.ptu_record.specs.declared.rule.Rule.TheVariants as rules
 use Rattle.ptu_script.specs.declared.command.GrandmasterSetup.{GrandmasterSetup}
 use Rattle.ptu_script.specs.declared.command.{SlaveSetup.{SlaveSetup}, Command.{Command}}
-use Rattle.ptu_script.specs.declared.command.Command.TheVariants.{Grandmaster, Slave, Master, Receive, Turn, Judge, Capacity}
+use Rattle.ptu_script.specs.declared.command.Command.TheVariants.{Grandmaster, Slave, Master, Deliver, Event}
+use Rattle.ptu_script.specs.declared.act.Act.{Act}
+use Rattle.ptu_script.specs.declared.act.Act.TheVariants as acts
 
 pub record IsGrandmasterWithin (setup : GrandmasterSetup) : Type 0 where
   pub port : IsPort setup.port
@@ -30,12 +32,17 @@ abbrev pub IsNamed : Rule → Type 0
 IsNamed rules.Flag = Unit {0}
 IsNamed (rules.Gap n) = n ≡ 4
 
+-- what a node is told, but for the octets of a datagram
+abbrev pub IsActWithin : Act → Type 0
+IsActWithin (acts.Turn table) = table ≤ 3
+IsActWithin (acts.Capacity capacity) = IsCapacity capacity
+IsActWithin (acts.Judge master rule) = IsNamed rule
+IsActWithin _ = Unit {0}
+
 abbrev pub IsWithinLimits : Command → Type 0
 IsWithinLimits (Grandmaster setup) = IsGrandmasterWithin setup
 IsWithinLimits (Slave setup) = IsSlaveWithin setup
 IsWithinLimits (Master slave ip priority rule) = IsNamed rule
-IsWithinLimits (Receive at node from octets) = length octets ≤ 2048
-IsWithinLimits (Turn at node table) = table ≤ 3
-IsWithinLimits (Judge at slave master rule) = IsNamed rule
-IsWithinLimits (Capacity at node capacity) = IsCapacity capacity
-IsWithinLimits _ = Unit {0}
+IsWithinLimits (Deliver at number) = Unit {0}
+IsWithinLimits (Event at node (acts.Receive from octets)) = length octets ≤ 2048
+IsWithinLimits (Event at node act) = IsActWithin act

@@ -4,7 +4,7 @@ use Rattle.ptu_script.specs.declared.verb.Verb.{Verb}
 use Rattle.ptu_script.specs.declared.verb.Verb.TheVariants.{Gm, Slave, Master, Rx, Deliver, Turn, Tick, Flag, Judge, Stop, Class, Capacity}
 
 abbrev pub verbs : List Verb
-verbs = Gm ∷ Slave ∷ Master ∷ Rx ∷ Deliver ∷ Turn ∷ Tick ∷ Flag ∷ Judge ∷ Stop ∷ Class ∷ Capacity ∷ []
+verbs = Rx ∷ Deliver ∷ Tick ∷ Turn ∷ Gm ∷ Slave ∷ Master ∷ Flag ∷ Judge ∷ Stop ∷ Class ∷ Capacity ∷ []
 
 -- the word itself
 abbrev pub name_of : Verb → List ℕ

@@ -1,6 +1,6 @@
 //! What a line of a script commands.
 
-use ptu_lines::LentOctets;
+use crate::act::Act;
 use ptu_record::{Rule, Wants};
 use ptu_units::Moment;
 
@@ -47,8 +47,7 @@ pub struct SlaveSetup {
     pub wants: Wants,
 }
 
-/// What a line of a script commands. The first three set nodes up, the others are events. The
-/// octets of a datagram stand in room that the reader's caller lent.
+/// What a line of a script commands. The first three set nodes up, the others are events.
 #[derive(Drop)]
 pub enum Command<'a> {
     /// A grandmaster is set up.
@@ -62,58 +61,16 @@ pub enum Command<'a> {
         priority: u8,
         rule: Rule,
     },
-    /// A datagram of at most 2048 octets is handed to a node, as from an address.
-    Receive {
-        at: Moment,
-        node: u32,
-        from: u32,
-        octets: LentOctets<'a>,
-    },
     /// The datagram that was sent with this number is handed to the node of its address.
     Deliver {
         at: Moment,
         number: u64,
     },
-    /// A table of a grandmaster, from 0 to 3, takes a turn.
-    Turn {
+    /// The node at an address is told this, at a moment: 0 where the line has none, as that of a
+    /// change of the clockClass.
+    Event {
         at: Moment,
         node: u32,
-        table: usize,
-    },
-    /// A slave takes a tick.
-    Tick {
-        at: Moment,
-        slave: u32,
-    },
-    /// The operator says whether a master is unusable to a slave.
-    Flag {
-        at: Moment,
-        slave: u32,
-        master: u32,
-        unusable: bool,
-    },
-    /// The judge of a master is replaced by one of the rule.
-    Judge {
-        at: Moment,
-        slave: u32,
-        master: u32,
-        rule: Rule,
-    },
-    /// A slave stops.
-    Stop {
-        at: Moment,
-        slave: u32,
-    },
-    /// The clockClass of a grandmaster changes.
-    Class {
-        node: u32,
-        class: u8,
-    },
-    /// The capacity of a grandmaster changes to one from 1 to 16777216, in sixteenths of a message
-    /// per second.
-    Capacity {
-        at: Moment,
-        node: u32,
-        capacity: u64,
+        act: Act<'a>,
     },
 }

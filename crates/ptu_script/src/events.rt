@@ -3,6 +3,7 @@ ghost use Rattle.std.specs.Prelude.{◌≡◌, IfOk};
 ghost use Rattle.ptu_script.specs.{Command.{fields_in, handed_in}, Limits.{IsWithinLimits}};
 ghost use Rattle.ptu_script.specs.declared.verb.Verb.TheVariants as verbs;
 
+use crate::act::Act;
 use crate::cause::Cause;
 use crate::command::Command;
 use crate::fields::{ip_field, moment_field, number_field, octets_field, rule_field, truth_field};
@@ -36,11 +37,10 @@ pub fn turn<'a>(line: &WordList) -> Result<Command<'a>, Cause>
     let at = moment_field(line, 2)?;
     let node = ip_field(line, 3)?;
     let table = number_field(line, 4, 0, 3)?;
-    Ok(Command::Turn {
-        at,
-        node,
+    let act = Act::Turn {
         table: table as usize,
-    })
+    };
+    Ok(Command::Event { at, node, act })
 }
 
 /// The line `tick T SLAVE`: a slave takes a tick.
@@ -53,8 +53,9 @@ pub fn tick<'a>(line: &WordList) -> Result<Command<'a>, Cause>
     ensures within { IfOk result IsWithinLimits }
 {
     let at = moment_field(line, 2)?;
-    let slave = ip_field(line, 3)?;
-    Ok(Command::Tick { at, slave })
+    let node = ip_field(line, 3)?;
+    let act = Act::Tick;
+    Ok(Command::Event { at, node, act })
 }
 
 /// The line `flag T SLAVE IP B`: an operator says whether a master is unusable.
@@ -67,15 +68,11 @@ pub fn flag<'a>(line: &WordList) -> Result<Command<'a>, Cause>
     ensures within { IfOk result IsWithinLimits }
 {
     let at = moment_field(line, 2)?;
-    let slave = ip_field(line, 3)?;
+    let node = ip_field(line, 3)?;
     let master = ip_field(line, 4)?;
     let unusable = truth_field(line, 5)?;
-    Ok(Command::Flag {
-        at,
-        slave,
-        master,
-        unusable,
-    })
+    let act = Act::Flag { master, unusable };
+    Ok(Command::Event { at, node, act })
 }
 
 /// The line `judge T SLAVE IP RULE`: another judge takes over a master.
@@ -88,15 +85,11 @@ pub fn judge<'a>(line: &WordList) -> Result<Command<'a>, Cause>
     ensures within { IfOk result IsWithinLimits }
 {
     let at = moment_field(line, 2)?;
-    let slave = ip_field(line, 3)?;
+    let node = ip_field(line, 3)?;
     let master = ip_field(line, 4)?;
     let rule = rule_field(line, 5)?;
-    Ok(Command::Judge {
-        at,
-        slave,
-        master,
-        rule,
-    })
+    let act = Act::Judge { master, rule };
+    Ok(Command::Event { at, node, act })
 }
 
 /// The line `stop T SLAVE`: a slave stops and cancels its grants.
@@ -109,8 +102,9 @@ pub fn stop<'a>(line: &WordList) -> Result<Command<'a>, Cause>
     ensures within { IfOk result IsWithinLimits }
 {
     let at = moment_field(line, 2)?;
-    let slave = ip_field(line, 3)?;
-    Ok(Command::Stop { at, slave })
+    let node = ip_field(line, 3)?;
+    let act = Act::Stop;
+    Ok(Command::Event { at, node, act })
 }
 
 /// The line `class GM CLASS`: the clockClass that a grandmaster announces changes.
@@ -124,9 +118,10 @@ pub fn class<'a>(line: &WordList) -> Result<Command<'a>, Cause>
 {
     let node = ip_field(line, 2)?;
     let class = number_field(line, 3, 0, 255)?;
-    Ok(Command::Class {
+    Ok(Command::Event {
+        at: Moment::default(),
         node,
-        class: class as u8,
+        act: Act::Class { class: class as u8 },
     })
 }
 
@@ -143,7 +138,8 @@ pub fn capacity<'a>(line: &WordList) -> Result<Command<'a>, Cause>
     let at = moment_field(line, 2)?;
     let node = ip_field(line, 3)?;
     let capacity = number_field(line, 4, 1, 16_777_216)?;
-    Ok(Command::Capacity { at, node, capacity })
+    let act = Act::Capacity { capacity };
+    Ok(Command::Event { at, node, act })
 }
 
 // The words T, NODE and FROM.
@@ -168,10 +164,6 @@ pub fn rx<'a>(line: &WordList, room: &'a mut [u8; LONGEST_DATAGRAM]) -> Result<C
 {
     let (at, node, from) = handed(line)?;
     let octets = octets_field(line, 5, room)?;
-    Ok(Command::Receive {
-        at,
-        node,
-        from,
-        octets,
-    })
+    let act = Act::Receive { from, octets };
+    Ok(Command::Event { at, node, act })
 }

@@ -3,6 +3,7 @@ ghost use Rattle.std.specs.Prelude.{◌≡◌, ◌∷◌, [], Some, None, Ok, Er
 ghost use Rattle.ptu_record.specs.declared.rule.Rule.TheVariants.{Flag as OperatorsFlag, Gap};
 ghost use Rattle.ptu_script.specs.Command.{command_of};
 ghost use Rattle.ptu_script.specs.declared.cause.Cause.TheVariants as causes;
+ghost use Rattle.ptu_script.specs.declared.act.Act.TheVariants as acts;
 ghost use Rattle.ptu_script.specs.declared.command.Command.TheVariants as commands;
 
 /// One line of each form.
@@ -48,24 +49,24 @@ pub fn good_lines()
     ensures master { command_of (codes "master 10.0.2.1 10.0.0.1 9 gap")
         ≡ Ok (Some (commands.Master 0x0A000201 0x0A000001 9 (Gap 4))) }
     ensures rx { command_of (codes "rx 5 10.0.0.1 10.0.1.17 0cFf")
-        ≡ Ok (Some (commands.Receive 5 0x0A000001 0x0A000111 (12 ∷ 255 ∷ []))) }
+        ≡ Ok (Some (commands.Event 5 0x0A000001 (acts.Receive 0x0A000111 (12 ∷ 255 ∷ [])))) }
     ensures rx_of_nothing { command_of (codes "rx 0 10.0.0.1 10.0.1.17 -")
-        ≡ Ok (Some (commands.Receive 0 0x0A000001 0x0A000111 [])) }
+        ≡ Ok (Some (commands.Event 0 0x0A000001 (acts.Receive 0x0A000111 []))) }
     ensures deliver { command_of (codes "deliver 7 0") ≡ Ok (Some (commands.Deliver 7 0)) }
     ensures turn { command_of (codes "turn 4611686018427387903 10.0.0.1 3")
-        ≡ Ok (Some (commands.Turn 4611686018427387903 0x0A000001 3)) }
+        ≡ Ok (Some (commands.Event 4611686018427387903 0x0A000001 (acts.Turn 3))) }
     ensures tick { command_of (codes "tick 1 10.0.2.1")
-        ≡ Ok (Some (commands.Tick 1 0x0A000201)) }
+        ≡ Ok (Some (commands.Event 1 0x0A000201 acts.Tick)) }
     ensures flag { command_of (codes "flag 1 10.0.2.1 10.0.0.1 1")
-        ≡ Ok (Some (commands.Flag 1 0x0A000201 0x0A000001 true)) }
+        ≡ Ok (Some (commands.Event 1 0x0A000201 (acts.Flag 0x0A000001 true))) }
     ensures judge { command_of (codes "judge 1 10.0.2.1 10.0.0.1 flag")
-        ≡ Ok (Some (commands.Judge 1 0x0A000201 0x0A000001 OperatorsFlag)) }
+        ≡ Ok (Some (commands.Event 1 0x0A000201 (acts.Judge 0x0A000001 OperatorsFlag))) }
     ensures stop { command_of (codes "stop 1 10.0.2.1")
-        ≡ Ok (Some (commands.Stop 1 0x0A000201)) }
+        ≡ Ok (Some (commands.Event 1 0x0A000201 acts.Stop)) }
     ensures class { command_of (codes "class 10.0.0.1 255")
-        ≡ Ok (Some (commands.Class 0x0A000001 255)) }
+        ≡ Ok (Some (commands.Event 0 0x0A000001 (acts.Class 255))) }
     ensures capacity { command_of (codes "capacity 1 10.0.0.1 16777216")
-        ≡ Ok (Some (commands.Capacity 1 0x0A000001 16777216)) }
+        ≡ Ok (Some (commands.Event 1 0x0A000001 (acts.Capacity 16777216))) }
 {}
 
 /// Lines that are refused, each for the first cause that applies.

@@ -1,6 +1,7 @@
 //! The lines of a script: what each of them commands, or why it is refused.
 #![tactic(auto)]
 
+mod act;
 mod cause;
 mod command;
 mod events;
@@ -10,6 +11,7 @@ mod reading;
 pub mod setups;
 mod verb;
 
+pub use act::Act;
 pub use cause::Cause;
 pub use command::{Command, GrandmasterSetup, SlaveSetup};
 pub use reading::read_command;

@@ -20,14 +20,15 @@ pub enum Verb {
     Capacity,
 }
 
+// Those that most lines begin with stand first.
 const VERBS: [Verb; 12] = [
+    Verb::Rx,
+    Verb::Deliver,
+    Verb::Tick,
+    Verb::Turn,
     Verb::Gm,
     Verb::Slave,
     Verb::Master,
-    Verb::Rx,
-    Verb::Deliver,
-    Verb::Turn,
-    Verb::Tick,
     Verb::Flag,
     Verb::Judge,
     Verb::Stop,

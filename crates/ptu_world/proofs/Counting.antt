@@ -33,6 +33,7 @@ use Rattle.ptu_slave_messages.specs.Node as slave
 use Rattle.ptu_script.specs.declared.cause.Cause.{Cause}
 use Rattle.ptu_script.specs.declared.cause.Cause.TheVariants as causes
 use Rattle.ptu_script.specs.declared.command.Command.{Command}
+use Rattle.ptu_script.specs.declared.act.Act.TheVariants as acts
 use Rattle.ptu_script.specs.declared.command.Command.TheVariants as commands
 use Rattle.ptu_script.specs.{Cause.{cause_of_line}, Command.{command_of}, Fields.{◌>>=◌}}
 use Rattle.ptu_report_lines.specs.declared.decision.Decision.TheVariants as decisions
@@ -44,9 +45,10 @@ use Rattle.ptu_world.specs.Deeds.{Deed, Grandmaster, IsGrandmaster, IsSlave, Nod
 use Rattle.ptu_world.specs.Grandmasters as gm
 use Rattle.ptu_world.specs.Slaves as slaves
 use Rattle.ptu_world.specs.Report.{granted_count, is_granted_line, is_short_line, lines_by, lines_by_line, lines_from, report_lines, short_count}
-use Rattle.ptu_world.specs.World.{World, Stock, Done, add_master, at_grandmaster, at_slave, datagram_deed, datagram_numbered, delivered_to, done_by, grandmaster_by, node_at, opening, or_cause, place_in, quietly, sending_said, sent_from, set_up, slave_at, slave_by, step, stock_without}
+use Rattle.ptu_world.specs.World.{World, Stock, Done, add_master, datagram_deed, datagram_numbered, delivered_to, done_by, grandmaster_by, node_at, opening, or_cause, place_in, quietly, sending_said, sent_from, set_up, slave_at, slave_by, step, stock_without}
 use Rattle.ptu_world.proofs.Limits.{ok_bound}
 use Rattle.ptu_gm_messages.proofs.Octets.{few_among}
+use Rattle.ptu_world.proofs.Acting.{at_grandmaster, at_slave, told}
 
 -- ---- counts
 
@@ -246,20 +248,20 @@ module _ (w : World) where
       by : (b : Bool) → IfOk (cond b (Err causes.Order) (slave_at w slave >>= λ s. quietly (add_master w s ip priority rule))) ToldFew
       by true = tt
       by false = ok_bound ToldFew (slave_at w slave) (λ s. quietly (add_master w s ip priority rule)) (λ s e. quiet_few (add_master w s ip priority rule))
-  step_few (commands.Receive t ip from octets) = ok_bound ToldFew (or_cause causes.Node (node_at w.nodes ip)) (λ node. Ok (done_by w ip (datagram_deed node t from octets)))
-      (λ node e. done_few w ip (datagram_deed node t from octets) (given_few node t from octets))
+  step_few (commands.Event t ip (acts.Receive from octets)) = told ToldFew w t ip (acts.Receive from octets) (ok_bound ToldFew (or_cause causes.Node (node_at w.nodes ip)) (λ node. Ok (done_by w ip (datagram_deed node t from octets)))
+      (λ node e. done_few w ip (datagram_deed node t from octets) (given_few node t from octets)))
   step_few (commands.Deliver t number) = ok_bound ToldFew (or_cause causes.Number (datagram_numbered number w.sent)) (λ sent. Ok (delivered_to w t sent (node_at w.nodes sent.to)))
       (λ sent e. delivered_few t sent (node_at w.nodes sent.to))
-  step_few (commands.Turn t ip table) = at_grandmaster_few ip (λ g. gm.turn_deed g t table) (λ g. (omega arith, refl))
-  step_few (commands.Tick t ip) = at_slave_few ip (λ s. slaves.plain_deed s t slave_events.Tick) (λ s. plain_few s t slave_events.Tick)
-  step_few (commands.Flag t ip master unusable) = ok_bound ToldFew (slave_at w ip) _ (λ s e. ok_bound ToldFew (place_in s master) (λ m. Ok (done_by w ip (slaves.plain_deed s t (slave_events.TellFlag m unusable))))
-      (λ m _. done_few w ip (slaves.plain_deed s t (slave_events.TellFlag m unusable)) (plain_few s t (slave_events.TellFlag m unusable))))
-  step_few (commands.Judge t ip master rule) = ok_bound ToldFew (slave_at w ip) _ (λ s e. ok_bound ToldFew (place_in s master) _ (λ m _. ok_bound ToldFew (stock_without rule w.stock)
+  step_few (commands.Event t ip (acts.Turn table)) = told ToldFew w t ip (acts.Turn table) (at_grandmaster_few ip (λ g. gm.turn_deed g t table) (λ g. (omega arith, refl)))
+  step_few (commands.Event t ip acts.Tick) = told ToldFew w t ip acts.Tick (at_slave_few ip (λ s. slaves.plain_deed s t slave_events.Tick) (λ s. plain_few s t slave_events.Tick))
+  step_few (commands.Event t ip (acts.Flag master unusable)) = told ToldFew w t ip (acts.Flag master unusable) (ok_bound ToldFew (slave_at w ip) _ (λ s e. ok_bound ToldFew (place_in s master) (λ m. Ok (done_by w ip (slaves.plain_deed s t (slave_events.TellFlag m unusable))))
+      (λ m _. done_few w ip (slaves.plain_deed s t (slave_events.TellFlag m unusable)) (plain_few s t (slave_events.TellFlag m unusable)))))
+  step_few (commands.Event t ip (acts.Judge master rule)) = told ToldFew w t ip (acts.Judge master rule) (ok_bound ToldFew (slave_at w ip) _ (λ s e. ok_bound ToldFew (place_in s master) _ (λ m _. ok_bound ToldFew (stock_without rule w.stock)
       (λ stock. Ok (done_by (record w { stock = stock }) ip (slaves.plain_deed s t (slave_events.ReplaceJudge m (Some rule)))))
-      (λ stock _. done_few (record w { stock = stock }) ip (slaves.plain_deed s t (slave_events.ReplaceJudge m (Some rule))) (plain_few s t (slave_events.ReplaceJudge m (Some rule))))))
-  step_few (commands.Stop t ip) = at_slave_few ip (λ s. slaves.plain_deed s t slave_events.Stop) (λ s. plain_few s t slave_events.Stop)
-  step_few (commands.Class ip class) = at_grandmaster_few ip (λ g. gm.class_deed g class) (λ g. (omega arith, refl))
-  step_few (commands.Capacity t ip capacity) = at_grandmaster_few ip (λ g. gm.capacity_deed g t capacity) (λ g. capacity_few g t capacity)
+      (λ stock _. done_few (record w { stock = stock }) ip (slaves.plain_deed s t (slave_events.ReplaceJudge m (Some rule))) (plain_few s t (slave_events.ReplaceJudge m (Some rule)))))))
+  step_few (commands.Event t ip acts.Stop) = told ToldFew w t ip acts.Stop (at_slave_few ip (λ s. slaves.plain_deed s t slave_events.Stop) (λ s. plain_few s t slave_events.Stop))
+  step_few (commands.Event t ip (acts.Class class)) = told ToldFew w t ip (acts.Class class) (at_grandmaster_few ip (λ g. gm.class_deed g class) (λ g. (omega arith, refl)))
+  step_few (commands.Event t ip (acts.Capacity capacity)) = told ToldFew w t ip (acts.Capacity capacity) (at_grandmaster_few ip (λ g. gm.capacity_deed g t capacity) (λ g. capacity_few g t capacity))
 
 -- ---- few are told in all, by the lines
 

@@ -18,6 +18,7 @@ use Rattle.ptu_gm_messages.specs.Deciding.{Decision, answer_by, answer_to, asked
 use Rattle.ptu_gm_messages.specs.Replies.{denial_of, grant_of, reply_to}
 use Rattle.ptu_gm_messages.proofs.Placing.{history_after-items}
 use Rattle.ptu_script.specs.declared.command.Command.{Command}
+use Rattle.ptu_script.specs.declared.act.Act.TheVariants as acts
 use Rattle.ptu_script.specs.declared.command.Command.TheVariants as commands
 use Rattle.ptu_script.specs.declared.cause.Cause.{Cause}
 use Rattle.ptu_script.specs.declared.cause.Cause.TheVariants as causes
@@ -29,6 +30,7 @@ use Rattle.ptu_world.specs.Deeds.{Grandmaster, Node, IsGrandmaster, Deed}
 use Rattle.ptu_world.specs.Grandmasters as gm
 use Rattle.ptu_world.specs.Promises.{Handed, IsAnswered, IsDecidedByRoom, IsHanded, IsRun, Request, client, decision, delivery, handed_by, history, moment}
 use Rattle.ptu_world.specs.World.{World, Done, datagram_deed, datagram_numbered, delivered_to, done_by, or_cause, sending_said, sent_from, step, node_at}
+use Rattle.ptu_world.proofs.Acting.{event_is}
 
 -- ---- the command that hands it over
 
@@ -36,10 +38,10 @@ use Rattle.ptu_world.specs.World.{World, Done, datagram_deed, datagram_numbered,
 pub taken_by : (w : World) (command : Command) (d : Handed) (node : Node) → handed_by w command ≡ Some d → node_at w.nodes d.node ≡ Some node
     → step w command ≡ Ok (done_by w d.node (datagram_deed node d.at d.from d.octets))
 unfolding step
-taken_by w (commands.Receive t ip from octets) d node e n =
-    let same : d ≡ record { at = t; node = ip; from = from; octets = octets } = cc in
+taken_by w (commands.Event t ip (acts.Receive from octets)) d node e n =
+    event_is w t ip (acts.Receive from octets) ∙ (let same : d ≡ record { at = t; node = ip; from = from; octets = octets } = cc in
     subst (λ x. node_at w.nodes x.node ≡ Some node → or_cause causes.Node (node_at w.nodes ip) >>= (λ y. Ok (done_by w ip (datagram_deed y t from octets))) ≡ Ok (done_by w x.node (datagram_deed node x.at x.from x.octets))) (sym same)
-    (λ m. ap (λ o. or_cause causes.Node o >>= (λ y. Ok (done_by w ip (datagram_deed y t from octets)))) m) n
+    (λ m. ap (λ o. or_cause causes.Node o >>= (λ y. Ok (done_by w ip (datagram_deed y t from octets)))) m) n)
 taken_by w (commands.Deliver t number) d node e n = by (datagram_numbered number w.sent) e
   where
     by : (o : Option Sent) → option_map (delivery t) o ≡ Some d
@@ -52,13 +54,13 @@ taken_by w (commands.Deliver t number) d node e n = by (datagram_numbered number
 taken_by w (commands.Grandmaster setup) d node e n = absurd cc
 taken_by w (commands.Slave setup) d node e n = absurd cc
 taken_by w (commands.Master slave ip priority rule) d node e n = absurd cc
-taken_by w (commands.Turn t ip table) d node e n = absurd cc
-taken_by w (commands.Tick t ip) d node e n = absurd cc
-taken_by w (commands.Flag t ip master unusable) d node e n = absurd cc
-taken_by w (commands.Judge t ip master rule) d node e n = absurd cc
-taken_by w (commands.Stop t ip) d node e n = absurd cc
-taken_by w (commands.Class ip class) d node e n = absurd cc
-taken_by w (commands.Capacity t ip capacity) d node e n = absurd cc
+taken_by w (commands.Event t ip (acts.Turn table)) d node e n = absurd cc
+taken_by w (commands.Event t ip acts.Tick) d node e n = absurd cc
+taken_by w (commands.Event t ip (acts.Flag master unusable)) d node e n = absurd cc
+taken_by w (commands.Event t ip (acts.Judge master rule)) d node e n = absurd cc
+taken_by w (commands.Event t ip acts.Stop) d node e n = absurd cc
+taken_by w (commands.Event t ip (acts.Class class)) d node e n = absurd cc
+taken_by w (commands.Event t ip (acts.Capacity capacity)) d node e n = absurd cc
 
 -- ---- its place among the items
 

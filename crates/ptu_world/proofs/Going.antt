@@ -22,6 +22,7 @@ use Rattle.ptu_record.specs.Step as slave_events
 use Rattle.ptu_script.specs.declared.cause.Cause.{Cause}
 use Rattle.ptu_script.specs.declared.cause.Cause.TheVariants as causes
 use Rattle.ptu_script.specs.{Fields.{◌>>=◌}, declared.command.Command.{Command}}
+use Rattle.ptu_script.specs.declared.act.Act.TheVariants as acts
 use Rattle.ptu_script.specs.declared.command.Command.TheVariants as commands
 use Rattle.ptu_report_lines.specs.declared.sent.Sent.{Sent}
 use Rattle.ptu_world.specs.Deeds.{Grandmaster, Slave, Node, IsGrandmaster, IsSlave, Deed}
@@ -29,10 +30,11 @@ use Rattle.ptu_world.specs.Grandmasters as gm
 use Rattle.ptu_world.specs.Slaves as slaves
 use Rattle.ptu_world.specs.Promises.{GoesOn, Handed, addressed, delivery, handed_by}
 use Rattle.ptu_world.specs.Signaling.{is_sent_by}
-use Rattle.ptu_world.specs.World.{World, Done, add_master, at_grandmaster, datagram_deed, datagram_numbered, delivered_to, done_by, grandmaster_at, grandmaster_by, new_grandmaster, new_slave, or_cause, place_in, placed, quietly, sent_from, set_up, slave_at, step, stock_without, with_master, node_at, Nodes}
+use Rattle.ptu_world.specs.World.{World, Done, add_master, datagram_deed, datagram_numbered, delivered_to, done_by, grandmaster_by, new_grandmaster, new_slave, or_cause, place_in, placed, quietly, sent_from, set_up, slave_at, step, stock_without, with_master, node_at, Nodes}
 use Rattle.ptu_world.proofs.Limits.{ok_bound}
 use Rattle.ptu_world.proofs.Steps.{AllStand, add_master_is, found_slave, set_up_is}
 use Rattle.ptu_world.proofs.Deciding.{taken_by}
+use Rattle.ptu_world.proofs.Acting.{at_grandmaster, event_is, grandmaster_at, told}
 
 pub placed-there : (ip : ℕ) (node : Node) (nodes : Nodes) → node_at (placed ip node nodes) ip ≡ Some node
 placed-there ip node nodes = ap (λ b. cond b (Some node) (node_at nodes ip)) (eq-eqb ip ip refl)
@@ -59,17 +61,17 @@ module _ (w : World) (ip : ℕ) (g : Grandmaster) (node : node_at w.nodes ip ≡
   pub at_it : (deed : Grandmaster → Deed) → ◌≡◌ {A = Result Done Cause} (at_grandmaster w ip deed) (Ok (done_by w ip (deed g)))
   at_it deed = ap (λ o. grandmaster_by o >>= λ x. Ok (done_by w ip (deed x))) node
 
-  pub turn_goes : (t table : ℕ) → GoesOn w (commands.Turn t ip table) ip g ((t, events.Turn table) ∷ [])
+  pub turn_goes : (t table : ℕ) → GoesOn w (commands.Event t ip (acts.Turn table)) ip g ((t, events.Turn table) ∷ [])
   unfolding step
-  turn_goes t table = record { done = done_by w ip (gm.turn_deed g t table); step = at_it (λ x. gm.turn_deed x t table); node = placed-there ip _ w.nodes }
+  turn_goes t table = record { done = done_by w ip (gm.turn_deed g t table); step = event_is w t ip (acts.Turn table) ∙ at_it (λ x. gm.turn_deed x t table); node = placed-there ip _ w.nodes }
 
-  pub capacity_goes : (t capacity : ℕ) → GoesOn w (commands.Capacity t ip capacity) ip g ((t, events.Resize capacity) ∷ [])
+  pub capacity_goes : (t capacity : ℕ) → GoesOn w (commands.Event t ip (acts.Capacity capacity)) ip g ((t, events.Resize capacity) ∷ [])
   unfolding step
-  capacity_goes t capacity = record { done = done_by w ip (gm.capacity_deed g t capacity); step = at_it (λ x. gm.capacity_deed x t capacity); node = placed-there ip _ w.nodes }
+  capacity_goes t capacity = record { done = done_by w ip (gm.capacity_deed g t capacity); step = event_is w t ip (acts.Capacity capacity) ∙ at_it (λ x. gm.capacity_deed x t capacity); node = placed-there ip _ w.nodes }
 
-  pub class_goes : (class : ℕ) → (done : Done) × (step w (commands.Class ip class) ≡ Ok done) × (node_at done.world.nodes ip ≡ Some (IsGrandmaster (record g { config = record (g.config) { class = class } })))
+  pub class_goes : (t class : ℕ) → (done : Done) × (step w (commands.Event t ip (acts.Class class)) ≡ Ok done) × (node_at done.world.nodes ip ≡ Some (IsGrandmaster (record g { config = record (g.config) { class = class } })))
   unfolding step
-  class_goes class = (done_by w ip (gm.class_deed g class), at_it (λ x. gm.class_deed x class), placed-there ip _ w.nodes)
+  class_goes t class = (done_by w ip (gm.class_deed g class), event_is w t ip (acts.Class class) ∙ at_it (λ x. gm.class_deed x class), placed-there ip _ w.nodes)
 
 -- ---- a CANCEL among the items
 
@@ -138,18 +140,18 @@ module _ (w : World) (all : AllStand w.nodes) (a : ℕ) where
       by : (b : Bool) → IfOk (cond b (Err causes.Order) (slave_at w slave >>= λ s. quietly (add_master w s ip priority rule))) Left
       by true = tt
       by false = ok_bound Left (slave_at w slave) _ (λ s e. master_leaves s ip priority rule (λ same. ne (ap Some (sym (found_slave w.nodes all slave s e)) ∙ same)))
-  step_leaves (commands.Receive t ip from octets) ne = ok_bound Left (or_cause causes.Node (node_at w.nodes ip)) (λ node. Ok (done_by w ip (datagram_deed node t from octets)))
-      (λ node e. deed_leaves ip (datagram_deed node t from octets) ne)
+  step_leaves (commands.Event t ip (acts.Receive from octets)) ne = told Left w t ip (acts.Receive from octets) (ok_bound Left (or_cause causes.Node (node_at w.nodes ip)) (λ node. Ok (done_by w ip (datagram_deed node t from octets)))
+      (λ node e. deed_leaves ip (datagram_deed node t from octets) ne))
   step_leaves (commands.Deliver t number) ne = deliver_leaves t (datagram_numbered number w.sent) ne
-  step_leaves (commands.Turn t ip table) ne = ok_bound Left (grandmaster_at w ip) (λ g. Ok (done_by w ip (gm.turn_deed g t table))) (λ g e. deed_leaves ip (gm.turn_deed g t table) ne)
-  step_leaves (commands.Tick t ip) ne = ok_bound Left (slave_at w ip) (λ s. Ok (done_by w ip (slaves.plain_deed s t slave_events.Tick))) (λ s e. deed_leaves ip (slaves.plain_deed s t slave_events.Tick) ne)
-  step_leaves (commands.Flag t ip master unusable) ne = ok_bound Left (slave_at w ip) _ (λ s e. ok_bound Left (place_in s master)
-      (λ m. Ok (done_by w ip (slaves.plain_deed s t (slave_events.TellFlag m unusable)))) (λ m _. deed_leaves ip (slaves.plain_deed s t (slave_events.TellFlag m unusable)) ne))
-  step_leaves (commands.Judge t ip master rule) ne = ok_bound Left (slave_at w ip) _ (λ s e. ok_bound Left (place_in s master) _ (λ m _. ok_bound Left (stock_without rule w.stock)
-      (λ stock. Ok (done_by (record w { stock = stock }) ip (slaves.plain_deed s t (slave_events.ReplaceJudge m (Some rule))))) (λ stock _. deed_leaves ip (slaves.plain_deed s t (slave_events.ReplaceJudge m (Some rule))) ne)))
-  step_leaves (commands.Stop t ip) ne = ok_bound Left (slave_at w ip) (λ s. Ok (done_by w ip (slaves.plain_deed s t slave_events.Stop))) (λ s e. deed_leaves ip (slaves.plain_deed s t slave_events.Stop) ne)
-  step_leaves (commands.Class ip class) ne = ok_bound Left (grandmaster_at w ip) (λ g. Ok (done_by w ip (gm.class_deed g class))) (λ g e. deed_leaves ip (gm.class_deed g class) ne)
-  step_leaves (commands.Capacity t ip capacity) ne = ok_bound Left (grandmaster_at w ip) (λ g. Ok (done_by w ip (gm.capacity_deed g t capacity))) (λ g e. deed_leaves ip (gm.capacity_deed g t capacity) ne)
+  step_leaves (commands.Event t ip (acts.Turn table)) ne = told Left w t ip (acts.Turn table) (ok_bound Left (grandmaster_at w ip) (λ g. Ok (done_by w ip (gm.turn_deed g t table))) (λ g e. deed_leaves ip (gm.turn_deed g t table) ne))
+  step_leaves (commands.Event t ip acts.Tick) ne = told Left w t ip acts.Tick (ok_bound Left (slave_at w ip) (λ s. Ok (done_by w ip (slaves.plain_deed s t slave_events.Tick))) (λ s e. deed_leaves ip (slaves.plain_deed s t slave_events.Tick) ne))
+  step_leaves (commands.Event t ip (acts.Flag master unusable)) ne = told Left w t ip (acts.Flag master unusable) (ok_bound Left (slave_at w ip) _ (λ s e. ok_bound Left (place_in s master)
+      (λ m. Ok (done_by w ip (slaves.plain_deed s t (slave_events.TellFlag m unusable)))) (λ m _. deed_leaves ip (slaves.plain_deed s t (slave_events.TellFlag m unusable)) ne)))
+  step_leaves (commands.Event t ip (acts.Judge master rule)) ne = told Left w t ip (acts.Judge master rule) (ok_bound Left (slave_at w ip) _ (λ s e. ok_bound Left (place_in s master) _ (λ m _. ok_bound Left (stock_without rule w.stock)
+      (λ stock. Ok (done_by (record w { stock = stock }) ip (slaves.plain_deed s t (slave_events.ReplaceJudge m (Some rule))))) (λ stock _. deed_leaves ip (slaves.plain_deed s t (slave_events.ReplaceJudge m (Some rule))) ne))))
+  step_leaves (commands.Event t ip acts.Stop) ne = told Left w t ip acts.Stop (ok_bound Left (slave_at w ip) (λ s. Ok (done_by w ip (slaves.plain_deed s t slave_events.Stop))) (λ s e. deed_leaves ip (slaves.plain_deed s t slave_events.Stop) ne))
+  step_leaves (commands.Event t ip (acts.Class class)) ne = told Left w t ip (acts.Class class) (ok_bound Left (grandmaster_at w ip) (λ g. Ok (done_by w ip (gm.class_deed g class))) (λ g e. deed_leaves ip (gm.class_deed g class) ne))
+  step_leaves (commands.Event t ip (acts.Capacity capacity)) ne = told Left w t ip (acts.Capacity capacity) (ok_bound Left (grandmaster_at w ip) (λ g. Ok (done_by w ip (gm.capacity_deed g t capacity))) (λ g e. deed_leaves ip (gm.capacity_deed g t capacity) ne))
 
   pub others_stay : (command : Command) (done : Done) → step w command ≡ Ok done → (addressed w command ≡ Some a → ⊥) → Left done
   others_stay command done e ne = subst (λ r. IfOk r Left) e (step_leaves command ne)

@@ -43,7 +43,7 @@ records_events stock script = record {
   cancelled = λ w command d g header before code k behind x h handed heard kind. cancelled (opening g) d.at (client_of d.from header) code k x kind before g.past;
   turn = λ w ip g t table h. turn_goes w ip g h.node t table;
   capacity = λ w ip g t capacity h. capacity_goes w ip g h.node t capacity;
-  class = λ w ip g class h. class_goes w ip g h.node class;
+  class = λ w ip g t class h. class_goes w ip g h.node t class;
   others = λ w command done ip reaches e ne. (others_stay w (all_stand stock script w reaches) ip command done e ne).0;
 }
 
@@ -52,7 +52,7 @@ signals_answers stock script = record {
   replied = λ w command d g header item items h handed heard. replied w command d g h.node handed header item items heard;
   unheard = λ w command d g h handed none. unheard w command d g h.node handed none;
   turn = λ w ip g t table h. turned w ip g h.node t table;
-  class = λ w ip g class h. classed w ip g h.node class;
+  class = λ w ip g t class h. classed w ip g h.node t class;
   capacity = λ w ip g t capacity h. resized w ip g h.node t capacity;
   others = λ w command done ip reaches e ne. (others_stay w (all_stand stock script w reaches) ip command done e ne).1;
 }

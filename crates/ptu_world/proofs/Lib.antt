@@ -1,5 +1,6 @@
 pub mod Reported
 pub mod Limits
+pub mod Acting
 pub mod Steps
 pub mod Standing
 pub mod Promising

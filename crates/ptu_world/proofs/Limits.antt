@@ -4,6 +4,7 @@ use Rattle.std.proofs.lemmas.Bool.{and_parts}
 use Rattle.ptu_lines.specs.Words.{within, number_of, word_of, ip_of, clock_of, octets_of}
 use Rattle.ptu_units.specs.Limits.{IsCapacity}
 use Rattle.ptu_script.specs.declared.{cause.Cause.{Cause}, command.Command.{Command}}
+use Rattle.ptu_script.specs.declared.act.Act.TheVariants as acts
 use Rattle.ptu_script.specs.declared.command.Command.TheVariants as commands
 use Rattle.ptu_script.specs.declared.{command.GrandmasterSetup.{GrandmasterSetup}, verb.Verb.{Verb}}
 use Rattle.ptu_script.specs.declared.verb.Verb.TheVariants.{Gm, Slave, Master, Rx, Deliver, Turn, Tick, Flag, Judge, Stop, Class, Capacity}
@@ -54,7 +55,7 @@ number_is least greatest k n line e =
 -- a grandmaster's numbers are within their limits, and so is a capacity
 abbrev pub IsWithin : Command → Type 0
 IsWithin (commands.Grandmaster setup) = IsGrandmasterWithin setup
-IsWithin (commands.Capacity at ip capacity) = IsCapacity capacity
+IsWithin (commands.Event at ip (acts.Capacity capacity)) = IsCapacity capacity
 IsWithin _ = Unit {0}
 
 pub grandmaster_within : (line : List ℕ) → IfOk (grandmaster_in line) IsGrandmasterWithin

@@ -38,6 +38,7 @@ use Rattle.ptu_slave_messages.specs.declared.heard.Heard as slave_heard
 use Rattle.ptu_slave_messages.specs.declared.heard.Heard.TheVariants as slave_heards
 use Rattle.ptu_script.specs.declared.cause.Cause.TheVariants as causes
 use Rattle.ptu_script.specs.{Fields.{◌>>=◌}, declared.command.Command.{Command}}
+use Rattle.ptu_script.specs.declared.act.Act.TheVariants as acts
 use Rattle.ptu_script.specs.declared.command.Command.TheVariants as commands
 use Rattle.ptu_report_lines.specs.declared.sent.Sent.{Sent}
 use Rattle.ptu_world.specs.Deeds.{Grandmaster, Slave, Node, IsGrandmaster, IsSlave, Deed}
@@ -45,8 +46,9 @@ use Rattle.ptu_world.specs.Grandmasters as gm
 use Rattle.ptu_slave_messages.specs.Node as slave
 use Rattle.ptu_world.specs.Slaves as slaves
 use Rattle.ptu_world.specs.Promises.{Timing, mark_of, messages_in, message_in, timing_from, timing_to}
-use Rattle.ptu_world.specs.World.{World, Done, add_master, at_grandmaster, datagram_deed, datagram_numbered, delivered_to, done_by, grandmaster_by, new_grandmaster, new_slave, or_cause, place_in, placed, quietly, sent_from, set_up, slave_at, step, stock_without, with_master, node_at, Nodes}
+use Rattle.ptu_world.specs.World.{World, Done, add_master, datagram_deed, datagram_numbered, delivered_to, done_by, grandmaster_by, new_grandmaster, new_slave, or_cause, place_in, placed, quietly, sent_from, set_up, slave_at, step, stock_without, with_master, node_at, Nodes}
 use Rattle.ptu_world.proofs.{Limits.{ok_bound}, Steps.{add_master_is, set_up_is}}
+use Rattle.ptu_world.proofs.Acting.{at_grandmaster, told}
 
 -- the timing messages of datagrams
 abbrev pub heads : List Departure → List Timing
@@ -321,14 +323,14 @@ module _ (w : World) (all : AllSent w) where
       by : (b : Bool) → IfOk (cond b (Err causes.Order) (slave_at w slave >>= λ s. quietly (add_master w s ip priority rule))) Fine
       by true = tt
       by false = ok_bound Fine (slave_at w slave) _ (λ s e. master_sent s ip priority rule)
-  step_sent (commands.Receive t ip from octets) = received_sent t ip from octets (node_at w.nodes ip) (all ip)
+  step_sent (commands.Event t ip (acts.Receive from octets)) = told Fine w t ip (acts.Receive from octets) (received_sent t ip from octets (node_at w.nodes ip) (all ip))
   step_sent (commands.Deliver t number) = ok_bound Fine (or_cause causes.Number (datagram_numbered number w.sent)) (λ sent. Ok (delivered_to w t sent (node_at w.nodes sent.to))) (λ sent e. delivered_sent t sent)
-  step_sent (commands.Turn t ip table) = at_grandmaster_sent ip (λ g. gm.turn_deed g t table) (λ g. turn_told g t table)
-  step_sent (commands.Tick t ip) = ok_bound Fine (slave_at w ip) (λ s. Ok (done_by w ip (slaves.plain_deed s t slave_events.Tick))) (λ s e. plain_sent ip s t slave_events.Tick)
-  step_sent (commands.Flag t ip master unusable) = ok_bound Fine (slave_at w ip) _ (λ s e. ok_bound Fine (place_in s master)
-      (λ m. Ok (done_by w ip (slaves.plain_deed s t (slave_events.TellFlag m unusable)))) (λ m _. plain_sent ip s t (slave_events.TellFlag m unusable)))
-  step_sent (commands.Judge t ip master rule) = ok_bound Fine (slave_at w ip) _ (λ s e. ok_bound Fine (place_in s master) _ (λ m _. ok_bound Fine (stock_without rule w.stock)
-      (λ stock. Ok (done_by (record w { stock = stock }) ip (slaves.plain_deed s t (slave_events.ReplaceJudge m (Some rule))))) (λ stock _. plain_sent ip s t (slave_events.ReplaceJudge m (Some rule)))))
-  step_sent (commands.Stop t ip) = ok_bound Fine (slave_at w ip) (λ s. Ok (done_by w ip (slaves.plain_deed s t slave_events.Stop))) (λ s e. plain_sent ip s t slave_events.Stop)
-  step_sent (commands.Class ip class) = at_grandmaster_sent ip (λ g. gm.class_deed g class) (λ g. same_told g)
-  step_sent (commands.Capacity t ip capacity) = at_grandmaster_sent ip (λ g. gm.capacity_deed g t capacity) (λ g. capacity_told g t capacity)
+  step_sent (commands.Event t ip (acts.Turn table)) = told Fine w t ip (acts.Turn table) (at_grandmaster_sent ip (λ g. gm.turn_deed g t table) (λ g. turn_told g t table))
+  step_sent (commands.Event t ip acts.Tick) = told Fine w t ip acts.Tick (ok_bound Fine (slave_at w ip) (λ s. Ok (done_by w ip (slaves.plain_deed s t slave_events.Tick))) (λ s e. plain_sent ip s t slave_events.Tick))
+  step_sent (commands.Event t ip (acts.Flag master unusable)) = told Fine w t ip (acts.Flag master unusable) (ok_bound Fine (slave_at w ip) _ (λ s e. ok_bound Fine (place_in s master)
+      (λ m. Ok (done_by w ip (slaves.plain_deed s t (slave_events.TellFlag m unusable)))) (λ m _. plain_sent ip s t (slave_events.TellFlag m unusable))))
+  step_sent (commands.Event t ip (acts.Judge master rule)) = told Fine w t ip (acts.Judge master rule) (ok_bound Fine (slave_at w ip) _ (λ s e. ok_bound Fine (place_in s master) _ (λ m _. ok_bound Fine (stock_without rule w.stock)
+      (λ stock. Ok (done_by (record w { stock = stock }) ip (slaves.plain_deed s t (slave_events.ReplaceJudge m (Some rule))))) (λ stock _. plain_sent ip s t (slave_events.ReplaceJudge m (Some rule))))))
+  step_sent (commands.Event t ip acts.Stop) = told Fine w t ip acts.Stop (ok_bound Fine (slave_at w ip) (λ s. Ok (done_by w ip (slaves.plain_deed s t slave_events.Stop))) (λ s e. plain_sent ip s t slave_events.Stop))
+  step_sent (commands.Event t ip (acts.Class class)) = told Fine w t ip (acts.Class class) (at_grandmaster_sent ip (λ g. gm.class_deed g class) (λ g. same_told g))
+  step_sent (commands.Event t ip (acts.Capacity capacity)) = told Fine w t ip (acts.Capacity capacity) (at_grandmaster_sent ip (λ g. gm.capacity_deed g t capacity) (λ g. capacity_told g t capacity))

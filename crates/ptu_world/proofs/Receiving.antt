@@ -23,12 +23,14 @@ use Rattle.ptu_slave_messages.specs.Node as slave
 use Rattle.ptu_script.specs.declared.cause.Cause.{Cause}
 use Rattle.ptu_script.specs.declared.cause.Cause.TheVariants as causes
 use Rattle.ptu_script.specs.{Fields.{◌>>=◌}, declared.command.Command.{Command}}
+use Rattle.ptu_script.specs.declared.act.Act.TheVariants as acts
 use Rattle.ptu_script.specs.declared.command.Command.TheVariants as commands
 use Rattle.ptu_world.specs.Deeds.{Slave, IsSlave, Deed}
 use Rattle.ptu_world.specs.{Promises.{Handed, handed_by}, Receiving.{AreJudged, EntersEvent, Ignores, IsOwn, is_judged, is_received, received_by, received_in}}
 use Rattle.ptu_world.specs.Slaves as slaves
-use Rattle.ptu_world.specs.World.{World, Done, at_slave, done_by, judges_of, node_at, or_cause, place_in, sent_from, slave_by, step, stock_without, without_one}
+use Rattle.ptu_world.specs.World.{World, Done, done_by, judges_of, node_at, or_cause, place_in, sent_from, slave_by, step, stock_without, without_one}
 use Rattle.ptu_world.proofs.{Deciding.{taken_by}, Going.{placed-there}}
+use Rattle.ptu_world.proofs.Acting.{at_slave, event_is}
 
 -- ---- the entries of an event
 
@@ -256,24 +258,26 @@ module _ (w : World) (ip : ℕ) (s : Slave) (node : node_at w.nodes ip ≡ Some 
   at_it : (deed : Slave → Deed) → ◌≡◌ {A = Result Done Cause} (at_slave w ip deed) (Ok (done_by w ip (deed s)))
   at_it deed = ap (λ o. slave_by o >>= λ x. Ok (done_by w ip (deed x))) node
 
-  pub ticked : (t : ℕ) → EntersEvent w (commands.Tick t ip) ip s t Tick all_ones
+  pub ticked : (t : ℕ) → EntersEvent w (commands.Event t ip acts.Tick) ip s t Tick all_ones
   unfolding step
-  ticked t = plainly (commands.Tick t ip) w t Tick refl refl (at_it (λ x. slaves.plain_deed x t Tick))
+  ticked t = plainly (commands.Event t ip acts.Tick) w t Tick refl refl (event_is w t ip acts.Tick ∙ at_it (λ x. slaves.plain_deed x t Tick))
 
-  pub stopped : (t : ℕ) → EntersEvent w (commands.Stop t ip) ip s t Stop all_ones
+  pub stopped : (t : ℕ) → EntersEvent w (commands.Event t ip acts.Stop) ip s t Stop all_ones
   unfolding step
-  stopped t = plainly (commands.Stop t ip) w t Stop refl refl (at_it (λ x. slaves.plain_deed x t Stop))
+  stopped t = plainly (commands.Event t ip acts.Stop) w t Stop refl refl (event_is w t ip acts.Stop ∙ at_it (λ x. slaves.plain_deed x t Stop))
 
-  pub flagged : (t master m : ℕ) (unusable : Bool) → place_of s.opened.masters master ≡ Some m → EntersEvent w (commands.Flag t ip master unusable) ip s t (TellFlag m unusable) all_ones
+  pub flagged : (t master m : ℕ) (unusable : Bool) → place_of s.opened.masters master ≡ Some m → EntersEvent w (commands.Event t ip (acts.Flag master unusable)) ip s t (TellFlag m unusable) all_ones
   unfolding step
-  flagged t master m unusable place = plainly (commands.Flag t ip master unusable) w t (TellFlag m unusable) refl refl
-      (ap {B = Result Done Cause} (λ o. slave_by o >>= λ x. place_in x master >>= λ n. Ok (done_by w ip (slaves.plain_deed x t (TellFlag n unusable)))) node
+  flagged t master m unusable place = plainly (commands.Event t ip (acts.Flag master unusable)) w t (TellFlag m unusable) refl refl
+      (event_is w t ip (acts.Flag master unusable)
+      ∙ ap {B = Result Done Cause} (λ o. slave_by o >>= λ x. place_in x master >>= λ n. Ok (done_by w ip (slaves.plain_deed x t (TellFlag n unusable)))) node
       ∙ ap {B = Result Done Cause} (λ o. or_cause causes.Node o >>= λ n. Ok (done_by w ip (slaves.plain_deed s t (TellFlag n unusable)))) place)
 
   pub rejudged : (t master m : ℕ) (rule : Rule) → place_of s.opened.masters master ≡ Some m → eqb (judges_of rule w.stock) 0 ≡ false
-      → EntersEvent w (commands.Judge t ip master rule) ip s t (ReplaceJudge m (Some rule)) all_ones
+      → EntersEvent w (commands.Event t ip (acts.Judge master rule)) ip s t (ReplaceJudge m (Some rule)) all_ones
   unfolding step
-  rejudged t master m rule place left = plainly (commands.Judge t ip master rule) (record w { stock = without_one rule w.stock }) t (ReplaceJudge m (Some rule)) refl refl
-      (ap {B = Result Done Cause} (λ o. slave_by o >>= λ x. place_in x master >>= λ n. stock_without rule w.stock >>= λ stock. Ok (done_by (record w { stock = stock }) ip (slaves.plain_deed x t (ReplaceJudge n (Some rule))))) node
+  rejudged t master m rule place left = plainly (commands.Event t ip (acts.Judge master rule)) (record w { stock = without_one rule w.stock }) t (ReplaceJudge m (Some rule)) refl refl
+      (event_is w t ip (acts.Judge master rule)
+      ∙ ap {B = Result Done Cause} (λ o. slave_by o >>= λ x. place_in x master >>= λ n. stock_without rule w.stock >>= λ stock. Ok (done_by (record w { stock = stock }) ip (slaves.plain_deed x t (ReplaceJudge n (Some rule))))) node
       ∙ ap {B = Result Done Cause} (λ o. or_cause causes.Node o >>= λ n. stock_without rule w.stock >>= λ stock. Ok (done_by (record w { stock = stock }) ip (slaves.plain_deed s t (ReplaceJudge n (Some rule))))) place
       ∙ ap {B = Result Done Cause} (λ b. cond b (Err causes.Stock) (Ok (without_one rule w.stock)) >>= λ stock. Ok (done_by (record w { stock = stock }) ip (slaves.plain_deed s t (ReplaceJudge m (Some rule))))) left)

@@ -22,6 +22,7 @@ use Rattle.ptu_slave_messages.specs.declared.signal.Signal.TheVariants as signal
 use Rattle.ptu_script.specs.declared.cause.Cause.{Cause}
 use Rattle.ptu_script.specs.declared.cause.Cause.TheVariants as causes
 use Rattle.ptu_script.specs.{Fields.{◌>>=◌}, declared.command.Command.{Command}}
+use Rattle.ptu_script.specs.declared.act.Act.TheVariants as acts
 use Rattle.ptu_script.specs.declared.command.Command.TheVariants as commands
 use Rattle.ptu_report_lines.specs.declared.sent.Sent as sending
 use Rattle.ptu_report_lines.specs.declared.statement.Statement.{Statement}
@@ -31,10 +32,11 @@ use Rattle.ptu_world.specs.Grandmasters as gm
 use Rattle.ptu_slave_messages.specs.Node as slave
 use Rattle.ptu_world.specs.Slaves as slaves
 use Rattle.ptu_world.specs.Sayings.{IsBestChoice, NamesSelection, is_event, moment_handed, numbered, selected_in, sent_in, slave_of}
-use Rattle.ptu_world.specs.World.{World, Stock, Done, add_master, datagram_deed, datagram_numbered, delivered_to, done_by, grandmaster_at, new_grandmaster, new_slave, or_cause, place_in, quietly, sending_said, sent_from, set_up, slave_at, step, stock_without, node_at}
+use Rattle.ptu_world.specs.World.{World, Stock, Done, add_master, datagram_deed, datagram_numbered, delivered_to, done_by, new_grandmaster, new_slave, or_cause, place_in, quietly, sending_said, sent_from, set_up, slave_at, step, stock_without, node_at}
 use Rattle.ptu_world.specs.Promises.{Handed, handed_by}
 use Rattle.ptu_world.proofs.{Deciding.{taken_by}, Limits.{ok_bound}}
 use Rattle.ptu_world.proofs.Steps.{AllStand, StandsAt, add_master_is, found, found_slave, set_up_is, there}
+use Rattle.ptu_world.proofs.Acting.{grandmaster_at, told}
 
 -- it says nothing of a datagram that was sent, and nothing of a selection
 abbrev pub is_plain : Statement → Bool
@@ -156,22 +158,22 @@ module _ (w : World) (all : AllStand w.nodes) where
       by : (b : Bool) → IfOk (cond b (Err causes.Order) (slave_at w slave >>= λ s. quietly (add_master w s ip priority rule))) (SaysSo 0)
       by true = tt
       by false = ok_bound (SaysSo 0) (slave_at w slave) _ (λ s e. master_says 0 s ip priority rule)
-  step_says (commands.Receive t ip from octets) = ok_bound (SaysSo t) (or_cause causes.Node (node_at w.nodes ip)) (λ node. Ok (done_by w ip (datagram_deed node t from octets)))
-      (λ node e. does t ip (datagram_deed node t from octets) (datagram_says ip t from octets node (there causes.Node (node_at w.nodes ip) (StandsAt ip) (all ip) node e)))
+  step_says (commands.Event t ip (acts.Receive from octets)) = told (SaysSo t) w t ip (acts.Receive from octets) (ok_bound (SaysSo t) (or_cause causes.Node (node_at w.nodes ip)) (λ node. Ok (done_by w ip (datagram_deed node t from octets)))
+      (λ node e. does t ip (datagram_deed node t from octets) (datagram_says ip t from octets node (there causes.Node (node_at w.nodes ip) (StandsAt ip) (all ip) node e))))
   step_says (commands.Deliver t number) = ok_bound (SaysSo t) (or_cause causes.Number (datagram_numbered number w.sent)) (λ sent. Ok (delivered_to w t sent (node_at w.nodes sent.to)))
       (λ sent e. delivered_says t sent (node_at w.nodes sent.to) (all sent.to))
-  step_says (commands.Turn t ip table) = ok_bound (SaysSo t) (grandmaster_at w ip) (λ g. Ok (done_by w ip (gm.turn_deed g t table))) (λ g e. does t ip (gm.turn_deed g t table) (Quiet refl refl))
-  step_says (commands.Tick t ip) = ok_bound (SaysSo t) (slave_at w ip) (λ s. Ok (done_by w ip (slaves.plain_deed s t slave_events.Tick)))
-      (λ s e. does t ip (slaves.plain_deed s t slave_events.Tick) (plain_says ip s t slave_events.Tick (found_slave w.nodes all ip s e)))
-  step_says (commands.Flag t ip master unusable) = ok_bound (SaysSo t) (slave_at w ip) _ (λ s e. ok_bound (SaysSo t) (place_in s master)
-      (λ m. Ok (done_by w ip (slaves.plain_deed s t (slave_events.TellFlag m unusable)))) (λ m _. does t ip (slaves.plain_deed s t (slave_events.TellFlag m unusable)) (plain_says ip s t (slave_events.TellFlag m unusable) (found_slave w.nodes all ip s e))))
-  step_says (commands.Judge t ip master rule) = ok_bound (SaysSo t) (slave_at w ip) _ (λ s e. ok_bound (SaysSo t) (place_in s master) _ (λ m _. ok_bound (SaysSo t) (stock_without rule w.stock)
+  step_says (commands.Event t ip (acts.Turn table)) = told (SaysSo t) w t ip (acts.Turn table) (ok_bound (SaysSo t) (grandmaster_at w ip) (λ g. Ok (done_by w ip (gm.turn_deed g t table))) (λ g e. does t ip (gm.turn_deed g t table) (Quiet refl refl)))
+  step_says (commands.Event t ip acts.Tick) = told (SaysSo t) w t ip acts.Tick (ok_bound (SaysSo t) (slave_at w ip) (λ s. Ok (done_by w ip (slaves.plain_deed s t slave_events.Tick)))
+      (λ s e. does t ip (slaves.plain_deed s t slave_events.Tick) (plain_says ip s t slave_events.Tick (found_slave w.nodes all ip s e))))
+  step_says (commands.Event t ip (acts.Flag master unusable)) = told (SaysSo t) w t ip (acts.Flag master unusable) (ok_bound (SaysSo t) (slave_at w ip) _ (λ s e. ok_bound (SaysSo t) (place_in s master)
+      (λ m. Ok (done_by w ip (slaves.plain_deed s t (slave_events.TellFlag m unusable)))) (λ m _. does t ip (slaves.plain_deed s t (slave_events.TellFlag m unusable)) (plain_says ip s t (slave_events.TellFlag m unusable) (found_slave w.nodes all ip s e)))))
+  step_says (commands.Event t ip (acts.Judge master rule)) = told (SaysSo t) w t ip (acts.Judge master rule) (ok_bound (SaysSo t) (slave_at w ip) _ (λ s e. ok_bound (SaysSo t) (place_in s master) _ (λ m _. ok_bound (SaysSo t) (stock_without rule w.stock)
       (λ stock. Ok (done_by (record w { stock = stock }) ip (slaves.plain_deed s t (slave_events.ReplaceJudge m (Some rule)))))
-      (λ stock _. Does stock ip (slaves.plain_deed s t (slave_events.ReplaceJudge m (Some rule))) (plain_says ip s t (slave_events.ReplaceJudge m (Some rule)) (found_slave w.nodes all ip s e)) refl)))
-  step_says (commands.Stop t ip) = ok_bound (SaysSo t) (slave_at w ip) (λ s. Ok (done_by w ip (slaves.plain_deed s t slave_events.Stop)))
-      (λ s e. does t ip (slaves.plain_deed s t slave_events.Stop) (plain_says ip s t slave_events.Stop (found_slave w.nodes all ip s e)))
-  step_says (commands.Class ip class) = ok_bound (SaysSo 0) (grandmaster_at w ip) (λ g. Ok (done_by w ip (gm.class_deed g class))) (λ g e. does 0 ip (gm.class_deed g class) (Quiet refl refl))
-  step_says (commands.Capacity t ip capacity) = ok_bound (SaysSo t) (grandmaster_at w ip) (λ g. Ok (done_by w ip (gm.capacity_deed g t capacity))) (λ g e. does t ip (gm.capacity_deed g t capacity) (capacity_says ip g t capacity))
+      (λ stock _. Does stock ip (slaves.plain_deed s t (slave_events.ReplaceJudge m (Some rule))) (plain_says ip s t (slave_events.ReplaceJudge m (Some rule)) (found_slave w.nodes all ip s e)) refl))))
+  step_says (commands.Event t ip acts.Stop) = told (SaysSo t) w t ip acts.Stop (ok_bound (SaysSo t) (slave_at w ip) (λ s. Ok (done_by w ip (slaves.plain_deed s t slave_events.Stop)))
+      (λ s e. does t ip (slaves.plain_deed s t slave_events.Stop) (plain_says ip s t slave_events.Stop (found_slave w.nodes all ip s e))))
+  step_says (commands.Event t ip (acts.Class class)) = told (SaysSo t) w t ip (acts.Class class) (ok_bound (SaysSo t) (grandmaster_at w ip) (λ g. Ok (done_by w ip (gm.class_deed g class))) (λ g e. does t ip (gm.class_deed g class) (Quiet refl refl)))
+  step_says (commands.Event t ip (acts.Capacity capacity)) = told (SaysSo t) w t ip (acts.Capacity capacity) (ok_bound (SaysSo t) (grandmaster_at w ip) (λ g. Ok (done_by w ip (gm.capacity_deed g t capacity))) (λ g e. does t ip (gm.capacity_deed g t capacity) (capacity_says ip g t capacity)))
 
   pub says_of : (command : Command) (done : Done) → step w command ≡ Ok done → StepSays w (moment_handed command) done
   says_of command done e = subst (λ r. IfOk r (SaysSo (moment_handed command))) e (step_says command)
@@ -283,25 +285,25 @@ module _ (w : World) (all : AllStand w.nodes) where
 
   event_selects : (command : Command) (ip : ℕ) → slave_of command ≡ Some ip → IfOk (step w command) (Names ip)
   unfolding step
-  event_selects (commands.Tick t a) ip e = subst (λ x. IfOk (step w (commands.Tick t a)) (Names x)) (let same : a ≡ ip = cc in same)
-      (ok_bound (Names a) (slave_at w a) (λ s. Ok (done_by w a (slaves.plain_deed s t slave_events.Tick))) (λ s f. plain_selects w a t s slave_events.Tick (found_slave w.nodes all a s f)))
-  event_selects (commands.Flag t a master unusable) ip e = subst (λ x. IfOk (step w (commands.Flag t a master unusable)) (Names x)) (let same : a ≡ ip = cc in same)
-      (ok_bound (Names a) (slave_at w a) _ (λ s f. ok_bound (Names a) (place_in s master) (λ m. Ok (done_by w a (slaves.plain_deed s t (slave_events.TellFlag m unusable))))
-      (λ m _. plain_selects w a t s (slave_events.TellFlag m unusable) (found_slave w.nodes all a s f))))
-  event_selects (commands.Judge t a master rule) ip e = subst (λ x. IfOk (step w (commands.Judge t a master rule)) (Names x)) (let same : a ≡ ip = cc in same)
-      (ok_bound (Names a) (slave_at w a) _ (λ s f. ok_bound (Names a) (place_in s master) _ (λ m _. ok_bound (Names a) (stock_without rule w.stock)
+  event_selects (commands.Event t a acts.Tick) ip e = subst (λ x. IfOk (step w (commands.Event t a acts.Tick)) (Names x)) (let same : a ≡ ip = cc in same)
+      (told (Names a) w t a acts.Tick (ok_bound (Names a) (slave_at w a) (λ s. Ok (done_by w a (slaves.plain_deed s t slave_events.Tick))) (λ s f. plain_selects w a t s slave_events.Tick (found_slave w.nodes all a s f))))
+  event_selects (commands.Event t a (acts.Flag master unusable)) ip e = subst (λ x. IfOk (step w (commands.Event t a (acts.Flag master unusable))) (Names x)) (let same : a ≡ ip = cc in same)
+      (told (Names a) w t a (acts.Flag master unusable) (ok_bound (Names a) (slave_at w a) _ (λ s f. ok_bound (Names a) (place_in s master) (λ m. Ok (done_by w a (slaves.plain_deed s t (slave_events.TellFlag m unusable))))
+      (λ m _. plain_selects w a t s (slave_events.TellFlag m unusable) (found_slave w.nodes all a s f)))))
+  event_selects (commands.Event t a (acts.Judge master rule)) ip e = subst (λ x. IfOk (step w (commands.Event t a (acts.Judge master rule))) (Names x)) (let same : a ≡ ip = cc in same)
+      (told (Names a) w t a (acts.Judge master rule) (ok_bound (Names a) (slave_at w a) _ (λ s f. ok_bound (Names a) (place_in s master) _ (λ m _. ok_bound (Names a) (stock_without rule w.stock)
       (λ stock. Ok (done_by (record w { stock = stock }) a (slaves.plain_deed s t (slave_events.ReplaceJudge m (Some rule)))))
-      (λ stock _. plain_selects (record w { stock = stock }) a t s (slave_events.ReplaceJudge m (Some rule)) (found_slave w.nodes all a s f)))))
-  event_selects (commands.Stop t a) ip e = subst (λ x. IfOk (step w (commands.Stop t a)) (Names x)) (let same : a ≡ ip = cc in same)
-      (ok_bound (Names a) (slave_at w a) (λ s. Ok (done_by w a (slaves.plain_deed s t slave_events.Stop))) (λ s f. plain_selects w a t s slave_events.Stop (found_slave w.nodes all a s f)))
+      (λ stock _. plain_selects (record w { stock = stock }) a t s (slave_events.ReplaceJudge m (Some rule)) (found_slave w.nodes all a s f))))))
+  event_selects (commands.Event t a acts.Stop) ip e = subst (λ x. IfOk (step w (commands.Event t a acts.Stop)) (Names x)) (let same : a ≡ ip = cc in same)
+      (told (Names a) w t a acts.Stop (ok_bound (Names a) (slave_at w a) (λ s. Ok (done_by w a (slaves.plain_deed s t slave_events.Stop))) (λ s f. plain_selects w a t s slave_events.Stop (found_slave w.nodes all a s f))))
   event_selects (commands.Grandmaster setup) ip e = absurd cc
   event_selects (commands.Slave setup) ip e = absurd cc
   event_selects (commands.Master slave a priority rule) ip e = absurd cc
-  event_selects (commands.Receive t a from octets) ip e = absurd cc
+  event_selects (commands.Event t a (acts.Receive from octets)) ip e = absurd cc
   event_selects (commands.Deliver t number) ip e = absurd cc
-  event_selects (commands.Turn t a table) ip e = absurd cc
-  event_selects (commands.Class a class) ip e = absurd cc
-  event_selects (commands.Capacity t a capacity) ip e = absurd cc
+  event_selects (commands.Event t a (acts.Turn table)) ip e = absurd cc
+  event_selects (commands.Event t a (acts.Class class)) ip e = absurd cc
+  event_selects (commands.Event t a (acts.Capacity capacity)) ip e = absurd cc
 
   pub event_names : (command : Command) (done : Done) (ip : ℕ) → slave_of command ≡ Some ip → step w command ≡ Ok done → NamesSelection ip done.said
   event_names command done ip of e = subst (λ r. IfOk r (Names ip)) e (event_selects command ip of)

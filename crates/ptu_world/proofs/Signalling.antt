@@ -21,6 +21,7 @@ use Rattle.ptu_gm_messages.specs.{declared.reason.GmReason.{GmReason}, Items.{he
 use Rattle.ptu_gm_messages.specs.Deciding.{answer_by, answer_to, asked_by, client_of, decision_at, decisions_of, item_moment, item_records, placed}
 use Rattle.ptu_gm_messages.specs.Replies.{cancel_to, cancels_to, reply_to}
 use Rattle.ptu_script.specs.declared.command.Command.{Command}
+use Rattle.ptu_script.specs.declared.act.Act.TheVariants as acts
 use Rattle.ptu_script.specs.declared.command.Command.TheVariants as commands
 use Rattle.ptu_world.specs.Deeds.{Grandmaster, IsGrandmaster, Deed}
 use Rattle.ptu_world.specs.Grandmasters as gm
@@ -28,6 +29,7 @@ use Rattle.ptu_world.specs.Promises.{Handed, handed_by}
 use Rattle.ptu_world.specs.Signaling.{AnswerEach, AnswersItem, Signals, cancels_of, is_signaling, shed_by}
 use Rattle.ptu_world.specs.World.{World, done_by, node_at, step}
 use Rattle.ptu_world.proofs.{Deciding.{taken_by}, Going.{at_it}, Messages.{IsTurned, due_turned}}
+use Rattle.ptu_world.proofs.Acting.{event_is}
 
 -- ---- what is sent at an event
 
@@ -108,18 +110,18 @@ module _ (w : World) (command : Command) (d : Handed) (g : Grandmaster) (node : 
       by (Ok (Asks header (item ∷ list))) e = absurd (none header item list e)
 
 module _ (w : World) (ip : ℕ) (g : Grandmaster) (node : node_at w.nodes ip ≡ Some (IsGrandmaster g)) where
-  pub turned : (t table : ℕ) → Signals w (commands.Turn t ip table) ip []
+  pub turned : (t table : ℕ) → Signals w (commands.Event t ip (acts.Turn table)) ip []
   unfolding step
   turned t table =
       let x = core_moment g.past t (events.Turn table) in
-      signals w (commands.Turn t ip table) ip (gm.turn_deed g t table) (at_it w ip g node (λ x. gm.turn_deed x t table)) []
+      signals w (commands.Event t ip (acts.Turn table)) ip (gm.turn_deed g t table) (event_is w t ip (acts.Turn table) ∙ at_it w ip g node (λ x. gm.turn_deed x t table)) []
       (due_signals g.config g.past x (due_grants g.past x table) (due_turned g.past x table))
 
-  pub classed : (class : ℕ) → Signals w (commands.Class ip class) ip []
+  pub classed : (t class : ℕ) → Signals w (commands.Event t ip (acts.Class class)) ip []
   unfolding step
-  classed class = signals w (commands.Class ip class) ip (gm.class_deed g class) (at_it w ip g node (λ x. gm.class_deed x class)) [] refl
+  classed t class = signals w (commands.Event t ip (acts.Class class)) ip (gm.class_deed g class) (event_is w t ip (acts.Class class) ∙ at_it w ip g node (λ x. gm.class_deed x class)) [] refl
 
-  pub resized : (t capacity : ℕ) → Signals w (commands.Capacity t ip capacity) ip (cancels_of g (shed_by g t capacity))
+  pub resized : (t capacity : ℕ) → Signals w (commands.Event t ip (acts.Capacity capacity)) ip (cancels_of g (shed_by g t capacity))
   unfolding step
   resized t capacity =
-      signals w (commands.Capacity t ip capacity) ip (gm.capacity_deed g t capacity) (at_it w ip g node (λ x. gm.capacity_deed x t capacity)) _ (shed_signals g.config _ _)
+      signals w (commands.Event t ip (acts.Capacity capacity)) ip (gm.capacity_deed g t capacity) (event_is w t ip (acts.Capacity capacity) ∙ at_it w ip g node (λ x. gm.capacity_deed x t capacity)) _ (shed_signals g.config _ _)

@@ -14,6 +14,7 @@ use Rattle.ptu_script.specs.declared.cause.Cause.{Cause}
 use Rattle.ptu_script.specs.declared.cause.Cause.TheVariants as causes
 use Rattle.ptu_script.specs.{Fields.{◌>>=◌}, declared.command.GrandmasterSetup.{GrandmasterSetup}}
 use Rattle.ptu_script.specs.declared.command.Command.{Command}
+use Rattle.ptu_script.specs.declared.act.Act.TheVariants as acts
 use Rattle.ptu_script.specs.declared.command.Command.TheVariants as commands
 use Rattle.ptu_script.specs.Limits.{IsGrandmasterWithin}
 use Rattle.ptu_report_lines.specs.declared.sent.Sent.{Sent}
@@ -22,8 +23,9 @@ use Rattle.ptu_world.specs.Grandmasters as gm
 use Rattle.ptu_slave_messages.specs.Node as slave
 use Rattle.ptu_world.specs.Slaves as slaves
 use Rattle.ptu_world.specs.Promises.{IsRun}
-use Rattle.ptu_world.specs.World.{World, Stock, Done, add_master, at_grandmaster, at_slave, datagram_deed, datagram_numbered, delivered_to, done_by, grandmaster_by, new_grandmaster, new_slave, or_cause, place_in, placed, quietly, set_up, slave_at, slave_by, step, stock_without, with_master, node_at, Nodes}
+use Rattle.ptu_world.specs.World.{World, Stock, Done, add_master, datagram_deed, datagram_numbered, delivered_to, done_by, grandmaster_by, new_grandmaster, new_slave, or_cause, place_in, placed, quietly, set_up, slave_at, slave_by, step, stock_without, with_master, node_at, Nodes}
 use Rattle.ptu_world.proofs.Limits.{IsWithin, ok_bound, ok_either}
+use Rattle.ptu_world.proofs.Acting.{at_grandmaster, at_slave, told}
 
 -- what is kept of the node at an address
 abbrev pub StandsAt : ℕ → Node → Type 0
@@ -171,16 +173,16 @@ module _ (w : World) (all : AllStand w.nodes) where
       by : (b : Bool) → IfOk (cond b (Err causes.Order) (slave_at w slave >>= λ s. quietly (add_master w s ip priority rule))) Stand
       by true = tt
       by false = ok_bound Stand (slave_at w slave) _ (λ s e. master_stand s ip priority rule)
-  step_stands (commands.Receive t ip from octets) limits = ok_bound Stand (or_cause causes.Node (node_at w.nodes ip)) (λ node. Ok (done_by w ip (datagram_deed node t from octets)))
-      (λ node e. placed_stand w.nodes all ip (datagram_deed node t from octets).node (given ip t from octets node (there causes.Node (node_at w.nodes ip) (StandsAt ip) (all ip) node e)))
+  step_stands (commands.Event t ip (acts.Receive from octets)) limits = told Stand w t ip (acts.Receive from octets) (ok_bound Stand (or_cause causes.Node (node_at w.nodes ip)) (λ node. Ok (done_by w ip (datagram_deed node t from octets)))
+      (λ node e. placed_stand w.nodes all ip (datagram_deed node t from octets).node (given ip t from octets node (there causes.Node (node_at w.nodes ip) (StandsAt ip) (all ip) node e))))
   step_stands (commands.Deliver t number) limits = ok_bound Stand (or_cause causes.Number (datagram_numbered number w.sent)) (λ sent. Ok (delivered_to w t sent (node_at w.nodes sent.to)))
       (λ sent e. delivered t sent)
-  step_stands (commands.Turn t ip table) limits = at_grandmaster_stand ip (λ g. gm.turn_deed g t table) (λ g run. gone_on ip g _ run)
-  step_stands (commands.Tick t ip) limits = at_slave_stand ip (λ s. slaves.plain_deed s t slave_events.Tick) (λ s is. is)
-  step_stands (commands.Flag t ip master unusable) limits = ok_bound Stand (slave_at w ip) _ (λ s e. ok_bound Stand (place_in s master) (λ m. Ok (done_by w ip (slaves.plain_deed s t (slave_events.TellFlag m unusable))))
-      (λ m _. placed_stand w.nodes all ip (slaves.plain_deed s t (slave_events.TellFlag m unusable)).node (found_slave w.nodes all ip s e)))
-  step_stands (commands.Judge t ip master rule) limits = ok_bound Stand (slave_at w ip) _ (λ s e. ok_bound Stand (place_in s master) _ (λ m _. ok_bound Stand (stock_without rule w.stock)
-      (λ stock. Ok (done_by (record w { stock = stock }) ip (slaves.plain_deed s t (slave_events.ReplaceJudge m (Some rule))))) (λ stock _. placed_stand w.nodes all ip (slaves.plain_deed s t (slave_events.ReplaceJudge m (Some rule))).node (found_slave w.nodes all ip s e))))
-  step_stands (commands.Stop t ip) limits = at_slave_stand ip (λ s. slaves.plain_deed s t slave_events.Stop) (λ s is. is)
-  step_stands (commands.Class ip class) limits = at_grandmaster_stand ip (λ g. gm.class_deed g class) (λ g run. set_class ip class g run)
-  step_stands (commands.Capacity t ip capacity) limits = at_grandmaster_stand ip (λ g. gm.capacity_deed g t capacity) (λ g run. gone_on ip g _ run)
+  step_stands (commands.Event t ip (acts.Turn table)) limits = told Stand w t ip (acts.Turn table) (at_grandmaster_stand ip (λ g. gm.turn_deed g t table) (λ g run. gone_on ip g _ run))
+  step_stands (commands.Event t ip acts.Tick) limits = told Stand w t ip acts.Tick (at_slave_stand ip (λ s. slaves.plain_deed s t slave_events.Tick) (λ s is. is))
+  step_stands (commands.Event t ip (acts.Flag master unusable)) limits = told Stand w t ip (acts.Flag master unusable) (ok_bound Stand (slave_at w ip) _ (λ s e. ok_bound Stand (place_in s master) (λ m. Ok (done_by w ip (slaves.plain_deed s t (slave_events.TellFlag m unusable))))
+      (λ m _. placed_stand w.nodes all ip (slaves.plain_deed s t (slave_events.TellFlag m unusable)).node (found_slave w.nodes all ip s e))))
+  step_stands (commands.Event t ip (acts.Judge master rule)) limits = told Stand w t ip (acts.Judge master rule) (ok_bound Stand (slave_at w ip) _ (λ s e. ok_bound Stand (place_in s master) _ (λ m _. ok_bound Stand (stock_without rule w.stock)
+      (λ stock. Ok (done_by (record w { stock = stock }) ip (slaves.plain_deed s t (slave_events.ReplaceJudge m (Some rule))))) (λ stock _. placed_stand w.nodes all ip (slaves.plain_deed s t (slave_events.ReplaceJudge m (Some rule))).node (found_slave w.nodes all ip s e)))))
+  step_stands (commands.Event t ip acts.Stop) limits = told Stand w t ip acts.Stop (at_slave_stand ip (λ s. slaves.plain_deed s t slave_events.Stop) (λ s is. is))
+  step_stands (commands.Event t ip (acts.Class class)) limits = told Stand w t ip (acts.Class class) (at_grandmaster_stand ip (λ g. gm.class_deed g class) (λ g run. set_class ip class g run))
+  step_stands (commands.Event t ip (acts.Capacity capacity)) limits = told Stand w t ip (acts.Capacity capacity) (at_grandmaster_stand ip (λ g. gm.capacity_deed g t capacity) (λ g run. gone_on ip g _ run))

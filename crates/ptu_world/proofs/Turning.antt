@@ -24,6 +24,7 @@ use Rattle.ptu_script.specs.declared.cause.Cause.{Cause}
 use Rattle.ptu_script.specs.declared.cause.Cause.TheVariants as causes
 use Rattle.ptu_script.specs.{Fields.{◌>>=◌}, Command.{command_of}, declared.command.GrandmasterSetup.{GrandmasterSetup}}
 use Rattle.ptu_script.specs.declared.command.Command.{Command}
+use Rattle.ptu_script.specs.declared.act.Act.TheVariants as acts
 use Rattle.ptu_script.specs.declared.command.Command.TheVariants as commands
 use Rattle.ptu_report_lines.specs.declared.sent.Sent.{Sent}
 use Rattle.ptu_world.specs.Deeds.{Grandmaster, Slave, Node, IsGrandmaster, IsSlave}
@@ -31,8 +32,9 @@ use Rattle.ptu_world.specs.Grandmasters as gm
 use Rattle.ptu_world.specs.{Headline.{HasGrandmaster}, Reached.{Leads, done_by_line}}
 use Rattle.ptu_world.specs.Slaves as slaves
 use Rattle.ptu_world.specs.Turning.{turn_by, turn_by_line, turn_taken, turns_of}
-use Rattle.ptu_world.specs.World.{World, Stock, Done, add_master, datagram_deed, datagram_numbered, delivered_to, done_by, grandmaster_at, grandmaster_by, new_grandmaster, new_slave, opening, or_cause, place_in, placed, quietly, set_up, slave_at, step, stock_without, with_master, node_at}
+use Rattle.ptu_world.specs.World.{World, Stock, Done, add_master, datagram_deed, datagram_numbered, delivered_to, done_by, grandmaster_by, new_grandmaster, new_slave, opening, or_cause, place_in, placed, quietly, set_up, slave_at, step, stock_without, with_master, node_at}
 use Rattle.ptu_world.proofs.{Limits.{ok_bound}, Steps.{add_master_is, set_up_is}}
+use Rattle.ptu_world.proofs.Acting.{grandmaster_at, told}
 
 -- some events make the grandmaster's history, and these are the moments of their turns of the table
 module _ (j : ℕ) where
@@ -158,10 +160,10 @@ module _ (ip j : ℕ) (w : World) (turns : List ℕ) (was : HasTaken j turns (no
       by false e = refl
 
   turn_has : (t a i : ℕ) (g : Grandmaster) → node_at w.nodes a ≡ Some (IsGrandmaster g) →
-      HasTaken j (turns ++ turn_by ip j w (commands.Turn t a i)) (node_at (placed a (gm.turn_deed g t i).node w.nodes) ip)
+      HasTaken j (turns ++ turn_by ip j w (commands.Event t a (acts.Turn i))) (node_at (placed a (gm.turn_deed g t i).node w.nodes) ip)
   turn_has t a i g at = by (eqb ip a) refl
     where
-      by : (b : Bool) → eqb ip a ≡ b → HasTaken j (turns ++ turn_by ip j w (commands.Turn t a i)) (cond b (Some (gm.turn_deed g t i).node) (node_at w.nodes ip))
+      by : (b : Bool) → eqb ip a ≡ b → HasTaken j (turns ++ turn_by ip j w (commands.Event t a (acts.Turn i))) (cond b (Some (gm.turn_deed g t i).node) (node_at w.nodes ip))
       by true e =
           let same : ip ≡ a = eqb-true ip a e in
           let here : node_at w.nodes ip ≡ Some (IsGrandmaster g) = ap (λ b. node_at w.nodes b) same ∙ at in
@@ -185,26 +187,26 @@ module _ (ip j : ℕ) (w : World) (turns : List ℕ) (was : HasTaken j turns (no
       by true = tt
       by false = ok_bound Left (slave_at w slave) _ (λ s e. quiet_has (add_master w s ip priority rule) (add_master_is Fine w s ip priority rule
           (λ stock. placed_has s.ip (IsSlave (with_master ip priority rule s)) (λ had. tt))))
-  step_has (commands.Receive t a from octets) = ok_bound Left (or_cause causes.Node (node_at w.nodes a)) (λ node. Ok (done_by w a (datagram_deed node t from octets)))
-      (λ node e. placed_has a (datagram_deed node t from octets).node (λ had. given j t from octets node turns (subst (λ o. HasTaken j turns o) (there_is causes.Node (node_at w.nodes a) node e) had)))
+  step_has (commands.Event t a (acts.Receive from octets)) = told Left w t a (acts.Receive from octets) (ok_bound Left (or_cause causes.Node (node_at w.nodes a)) (λ node. Ok (done_by w a (datagram_deed node t from octets)))
+      (λ node e. placed_has a (datagram_deed node t from octets).node (λ had. given j t from octets node turns (subst (λ o. HasTaken j turns o) (there_is causes.Node (node_at w.nodes a) node e) had))))
   step_has (commands.Deliver t number) = ok_bound Left (or_cause causes.Number (datagram_numbered number w.sent)) (λ sent. Ok (delivered_to w t sent (node_at w.nodes sent.to)))
       (λ sent e. delivered_has t sent)
-  step_has (commands.Turn t a i) = ok_bound (λ done. HasTaken j (turns ++ turn_by ip j w (commands.Turn t a i)) (node_at done.world.nodes ip)) (grandmaster_at w a) (λ g. Ok (done_by w a (gm.turn_deed g t i)))
-      (λ g e. turn_has t a i g (master_is (node_at w.nodes a) g e))
-  step_has (commands.Tick t a) = ok_bound Left (slave_at w a) (λ s. Ok (done_by w a (slaves.plain_deed s t slave_events.Tick))) (λ s e. placed_has a (slaves.plain_deed s t slave_events.Tick).node (λ had. tt))
-  step_has (commands.Flag t a master unusable) = ok_bound Left (slave_at w a) _ (λ s e. ok_bound Left (place_in s master)
-      (λ m. Ok (done_by w a (slaves.plain_deed s t (slave_events.TellFlag m unusable)))) (λ m _. placed_has a (slaves.plain_deed s t (slave_events.TellFlag m unusable)).node (λ had. tt)))
-  step_has (commands.Judge t a master rule) = ok_bound Left (slave_at w a) _ (λ s e. ok_bound Left (place_in s master) _ (λ m _. ok_bound Left (stock_without rule w.stock)
+  step_has (commands.Event t a (acts.Turn i)) = told (λ done. HasTaken j (turns ++ turn_by ip j w (commands.Event t a (acts.Turn i))) (node_at done.world.nodes ip)) w t a (acts.Turn i) (ok_bound (λ done. HasTaken j (turns ++ turn_by ip j w (commands.Event t a (acts.Turn i))) (node_at done.world.nodes ip)) (grandmaster_at w a) (λ g. Ok (done_by w a (gm.turn_deed g t i)))
+      (λ g e. turn_has t a i g (master_is (node_at w.nodes a) g e)))
+  step_has (commands.Event t a acts.Tick) = told Left w t a acts.Tick (ok_bound Left (slave_at w a) (λ s. Ok (done_by w a (slaves.plain_deed s t slave_events.Tick))) (λ s e. placed_has a (slaves.plain_deed s t slave_events.Tick).node (λ had. tt)))
+  step_has (commands.Event t a (acts.Flag master unusable)) = told Left w t a (acts.Flag master unusable) (ok_bound Left (slave_at w a) _ (λ s e. ok_bound Left (place_in s master)
+      (λ m. Ok (done_by w a (slaves.plain_deed s t (slave_events.TellFlag m unusable)))) (λ m _. placed_has a (slaves.plain_deed s t (slave_events.TellFlag m unusable)).node (λ had. tt))))
+  step_has (commands.Event t a (acts.Judge master rule)) = told Left w t a (acts.Judge master rule) (ok_bound Left (slave_at w a) _ (λ s e. ok_bound Left (place_in s master) _ (λ m _. ok_bound Left (stock_without rule w.stock)
       (λ stock. Ok (done_by (record w { stock = stock }) a (slaves.plain_deed s t (slave_events.ReplaceJudge m (Some rule)))))
-      (λ stock _. placed_has a (slaves.plain_deed s t (slave_events.ReplaceJudge m (Some rule))).node (λ had. tt))))
-  step_has (commands.Stop t a) = ok_bound Left (slave_at w a) (λ s. Ok (done_by w a (slaves.plain_deed s t slave_events.Stop))) (λ s e. placed_has a (slaves.plain_deed s t slave_events.Stop).node (λ had. tt))
-  step_has (commands.Class a class) = ok_bound Left (grandmaster_at w a) (λ g. Ok (done_by w a (gm.class_deed g class)))
+      (λ stock _. placed_has a (slaves.plain_deed s t (slave_events.ReplaceJudge m (Some rule))).node (λ had. tt)))))
+  step_has (commands.Event t a acts.Stop) = told Left w t a acts.Stop (ok_bound Left (slave_at w a) (λ s. Ok (done_by w a (slaves.plain_deed s t slave_events.Stop))) (λ s e. placed_has a (slaves.plain_deed s t slave_events.Stop).node (λ had. tt)))
+  step_has (commands.Event t a (acts.Class class)) = told Left w t a (acts.Class class) (ok_bound Left (grandmaster_at w a) (λ g. Ok (done_by w a (gm.class_deed g class)))
       (λ g e. placed_has a (gm.class_deed g class).node (λ had.
       let taken = subst (λ o. HasTaken j turns o) (master_is (node_at w.nodes a) g e) had in
-      still j turns (Some (gm.class_deed g class).node) taken))
-  step_has (commands.Capacity t a capacity) = ok_bound Left (grandmaster_at w a) (λ g. Ok (done_by w a (gm.capacity_deed g t capacity)))
+      still j turns (Some (gm.class_deed g class).node) taken)))
+  step_has (commands.Event t a (acts.Capacity capacity)) = told Left w t a (acts.Capacity capacity) (ok_bound Left (grandmaster_at w a) (λ g. Ok (done_by w a (gm.capacity_deed g t capacity)))
       (λ g e. placed_has a (gm.capacity_deed g t capacity).node (λ had.
-      gone j g ((t, events.Resize capacity) ∷ []) turns [] (quiet_turns j (gm.opening g) g.past ((t, events.Resize capacity) ∷ []) refl) (subst (λ o. HasTaken j turns o) (master_is (node_at w.nodes a) g e) had)))
+      gone j g ((t, events.Resize capacity) ∷ []) turns [] (quiet_turns j (gm.opening g) g.past ((t, events.Resize capacity) ∷ []) refl) (subst (λ o. HasTaken j turns o) (master_is (node_at w.nodes a) g e) had))))
 
   line_has : (r : Result (Option Command) Cause) → IfOk (done_by_line w r) (λ done. HasTaken j (turns ++ turn_by_line ip j w r) (node_at done.world.nodes ip))
   line_has (Ok None) = still j turns (node_at w.nodes ip) was
@@ -227,7 +229,7 @@ turns_taken stock script w ip g h j =
     subst (λ o. HasTaken j (turns_of ip j (opening stock) h.reached.taken w h.reached.leads) o) h.node (lines_have ip j (opening stock) h.reached.taken w h.reached.leads [] refl)
 
 -- a turn that a line hands the grandmaster of its address
-pub one_turn : (w : World) (ip : ℕ) (g : Grandmaster) (t j : ℕ) → node_at w.nodes ip ≡ Some (IsGrandmaster g) → turn_by ip j w (commands.Turn t ip j) ≡ core_moment g.past t (events.Turn j) ∷ []
+pub one_turn : (w : World) (ip : ℕ) (g : Grandmaster) (t j : ℕ) → node_at w.nodes ip ≡ Some (IsGrandmaster g) → turn_by ip j w (commands.Event t ip (acts.Turn j)) ≡ core_moment g.past t (events.Turn j) ∷ []
 one_turn w ip g t j at =
     ap (λ b. cond (b && eqb j j) (turn_taken t j (node_at w.nodes ip)) []) (eq-eqb ip ip refl)
     ∙ ap (λ b. cond b (turn_taken t j (node_at w.nodes ip)) []) (eq-eqb j j refl)

@@ -21,6 +21,7 @@ use Rattle.ptu_gm_messages.specs.{Items.{heard_in}, Replies.{reply_to}}
 use Rattle.ptu_lines.specs.declared.cause.LineCause.{LineCause}
 use Rattle.ptu_lines.specs.Script.{ScriptLine, Whole, Refused}
 use Rattle.ptu_script.specs.declared.{cause.Cause.{Cause}, command.Command.{Command}}
+use Rattle.ptu_script.specs.declared.act.Act.TheVariants as acts
 use Rattle.ptu_script.specs.declared.command.Command.TheVariants as commands
 use Rattle.ptu_script.specs.Cause.{cause_of_line}
 use Rattle.ptu_script.specs.Command.{command_of}
@@ -84,11 +85,11 @@ pub record RecordsEvents (stock : Stock) (script : List ℕ) : Type 0 where
       → HasGrandmaster stock script w d.node g → handed_by w command ≡ Some d → heard_in g.config d.octets ≡ Ok (heard.Asks header (before ++ items.Cancel code ∷ behind))
       → kind_of code ≡ Some k
       → live (history_after (opening_of g) g.past (events_of_items d.at (client_of d.from header) (before ++ items.Cancel code ∷ []))) x (client_of d.from header) k ≡ false
-  pub turn : (w : World) (ip : ℕ) (g : Grandmaster) (t table : ℕ) → HasGrandmaster stock script w ip g → GoesOn w (commands.Turn t ip table) ip g ((t, events.Turn table) ∷ [])
+  pub turn : (w : World) (ip : ℕ) (g : Grandmaster) (t table : ℕ) → HasGrandmaster stock script w ip g → GoesOn w (commands.Event t ip (acts.Turn table)) ip g ((t, events.Turn table) ∷ [])
   pub capacity : (w : World) (ip : ℕ) (g : Grandmaster) (t capacity : ℕ) → HasGrandmaster stock script w ip g
-      → GoesOn w (commands.Capacity t ip capacity) ip g ((t, events.Resize capacity) ∷ [])
-  pub class : (w : World) (ip : ℕ) (g : Grandmaster) (class : ℕ) → HasGrandmaster stock script w ip g
-      → (done : Done) × (step w (commands.Class ip class) ≡ Ok done) × (node_at done.world.nodes ip ≡ Some (IsGrandmaster (record g { config = record (g.config) { class = class } })))
+      → GoesOn w (commands.Event t ip (acts.Capacity capacity)) ip g ((t, events.Resize capacity) ∷ [])
+  pub class : (w : World) (ip : ℕ) (g : Grandmaster) (t class : ℕ) → HasGrandmaster stock script w ip g
+      → (done : Done) × (step w (commands.Event t ip (acts.Class class)) ≡ Ok done) × (node_at done.world.nodes ip ≡ Some (IsGrandmaster (record g { config = record (g.config) { class = class } })))
   pub others : (w : World) (command : Command) (done : Done) (ip : ℕ) → Reaches stock script w → step w command ≡ Ok done → addressed w command ≢ Some ip
       → node_at done.world.nodes ip ≡ node_at w.nodes ip
 
@@ -101,10 +102,10 @@ pub record SignalsAnswers (stock : Stock) (script : List ℕ) : Type 0 where
       → (answers : List Tlv) × AnswerEach (item ∷ items) answers × Signals w command d.node (reply_to g.config d.from header answers ∷ [])
   pub unheard : (w : World) (command : Command) (d : Handed) (g : Grandmaster) → HasGrandmaster stock script w d.node g → handed_by w command ≡ Some d
       → ((header : Header) (item : Item) (items : List Item) → heard_in g.config d.octets ≢ Ok (heard.Asks header (item ∷ items))) → Signals w command d.node []
-  pub turn : (w : World) (ip : ℕ) (g : Grandmaster) (t table : ℕ) → HasGrandmaster stock script w ip g → Signals w (commands.Turn t ip table) ip []
-  pub class : (w : World) (ip : ℕ) (g : Grandmaster) (class : ℕ) → HasGrandmaster stock script w ip g → Signals w (commands.Class ip class) ip []
+  pub turn : (w : World) (ip : ℕ) (g : Grandmaster) (t table : ℕ) → HasGrandmaster stock script w ip g → Signals w (commands.Event t ip (acts.Turn table)) ip []
+  pub class : (w : World) (ip : ℕ) (g : Grandmaster) (t class : ℕ) → HasGrandmaster stock script w ip g → Signals w (commands.Event t ip (acts.Class class)) ip []
   pub capacity : (w : World) (ip : ℕ) (g : Grandmaster) (t capacity : ℕ) → HasGrandmaster stock script w ip g
-      → Signals w (commands.Capacity t ip capacity) ip (cancels_of g (shed_by g t capacity))
+      → Signals w (commands.Event t ip (acts.Capacity capacity)) ip (cancels_of g (shed_by g t capacity))
   pub others : (w : World) (command : Command) (done : Done) (ip : ℕ) → Reaches stock script w → step w command ≡ Ok done → addressed w command ≢ Some ip
       → filter (is_sent_by ip) done.world.sent ≡ filter (is_sent_by ip) w.sent
 
@@ -152,12 +153,12 @@ pub record RecordsDeliveries (stock : Stock) (script : List ℕ) : Type 0 where
       → reception s.opened.config s.opened.masters d.from d.octets ≡ Ok (m, message) → EntersEvent w command d.node s d.at (event_of m message) message.header.source
   pub ignored : (w : World) (command : Command) (d : Handed) (s : Slave) (reason : SlaveReason) → HasSlave stock script w d.node s → handed_by w command ≡ Some d
       → reception s.opened.config s.opened.masters d.from d.octets ≡ Err reason → Ignores w command d.node s
-  pub tick : (w : World) (ip : ℕ) (s : Slave) (t : ℕ) → HasSlave stock script w ip s → EntersEvent w (commands.Tick t ip) ip s t slave_events.Tick all_ones
-  pub stop : (w : World) (ip : ℕ) (s : Slave) (t : ℕ) → HasSlave stock script w ip s → EntersEvent w (commands.Stop t ip) ip s t slave_events.Stop all_ones
+  pub tick : (w : World) (ip : ℕ) (s : Slave) (t : ℕ) → HasSlave stock script w ip s → EntersEvent w (commands.Event t ip acts.Tick) ip s t slave_events.Tick all_ones
+  pub stop : (w : World) (ip : ℕ) (s : Slave) (t : ℕ) → HasSlave stock script w ip s → EntersEvent w (commands.Event t ip acts.Stop) ip s t slave_events.Stop all_ones
   pub flag : (w : World) (ip : ℕ) (s : Slave) (t master m : ℕ) (unusable : Bool) → HasSlave stock script w ip s → place_of s.opened.masters master ≡ Some m
-      → EntersEvent w (commands.Flag t ip master unusable) ip s t (slave_events.TellFlag m unusable) all_ones
+      → EntersEvent w (commands.Event t ip (acts.Flag master unusable)) ip s t (slave_events.TellFlag m unusable) all_ones
   pub judge : (w : World) (ip : ℕ) (s : Slave) (t master m : ℕ) (rule : Rule) → HasSlave stock script w ip s → place_of s.opened.masters master ≡ Some m
-      → (judges_of rule w.stock == 0) ≡ false → EntersEvent w (commands.Judge t ip master rule) ip s t (slave_events.ReplaceJudge m (Some rule)) all_ones
+      → (judges_of rule w.stock == 0) ≡ false → EntersEvent w (commands.Event t ip (acts.Judge master rule)) ip s t (slave_events.ReplaceJudge m (Some rule)) all_ones
   pub says : (setup : SlaveSetup) (L : entries.Record) (t m : ℕ) (message : Message)
       → filter is_received (slave_step setup L t (event_of m message)).entries ≡ received_by setup.wants (event_moment L t) m message
   pub quiet : (setup : SlaveSetup) (L : entries.Record) (t : ℕ) (e : SlaveEvent) → IsOwn e → filter is_received (slave_step setup L t e).entries ≡ []

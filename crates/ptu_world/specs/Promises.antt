@@ -23,6 +23,7 @@ use Rattle.ptu_gm_messages.specs.Items.{heard_in}
 use Rattle.ptu_gm_messages.specs.Deciding.{answer_by, asked_by, client_of, events_of_items, item_moment}
 use Rattle.ptu_gm_messages.specs.Replies.{denial_of, grant_of, reply_to}
 use Rattle.ptu_script.specs.declared.command.Command.{Command}
+use Rattle.ptu_script.specs.declared.act.Act.TheVariants as acts
 use Rattle.ptu_script.specs.declared.command.Command.TheVariants as commands
 use Rattle.ptu_report_lines.specs.declared.sent.Sent as sending
 use Rattle.ptu_report_lines.specs.declared.statement.Statement.{Statement}
@@ -109,7 +110,7 @@ delivery t sent = record { at = t; node = sent.to; from = sent.from; octets = se
 
 -- the datagram that a command hands to a node
 abbrev pub handed_by : World → Command → Option Handed
-handed_by w (commands.Receive t ip from octets) = Some (record { at = t; node = ip; from = from; octets = octets })
+handed_by w (commands.Event t ip (acts.Receive from octets)) = Some (record { at = t; node = ip; from = from; octets = octets })
 handed_by w (commands.Deliver t number) = option_map (delivery t) (datagram_numbered number w.sent)
 handed_by w _ = None
 
@@ -126,13 +127,7 @@ abbrev pub addressed : World → Command → Option ℕ
 addressed w (commands.Grandmaster setup) = Some setup.ip
 addressed w (commands.Slave setup) = Some setup.ip
 addressed w (commands.Master slave ip priority rule) = Some slave
-addressed w (commands.Turn t ip table) = Some ip
-addressed w (commands.Tick t ip) = Some ip
-addressed w (commands.Flag t ip master unusable) = Some ip
-addressed w (commands.Judge t ip master rule) = Some ip
-addressed w (commands.Stop t ip) = Some ip
-addressed w (commands.Class ip class) = Some ip
-addressed w (commands.Capacity t ip capacity) = Some ip
+addressed w (commands.Event t ip act) = Some ip
 addressed w command = option_map (λ d. d.node) (handed_by w command)
 
 -- ---- requests

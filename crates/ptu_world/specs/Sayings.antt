@@ -6,6 +6,7 @@ use Rattle.ptu_slave_messages.specs.declared.heard.Heard.{Heard}
 use Rattle.ptu_slave_messages.specs.declared.heard.Heard.TheVariants as heard
 use Rattle.ptu_profile.specs.Slave.{address_of, priorities, timeouts}
 use Rattle.ptu_script.specs.declared.command.Command.{Command}
+use Rattle.ptu_script.specs.declared.act.Act.TheVariants as acts
 use Rattle.ptu_script.specs.declared.command.Command.TheVariants as commands
 use Rattle.ptu_report_lines.specs.declared.sent.Sent as sending
 use Rattle.ptu_report_lines.specs.declared.statement.Statement.{Statement}
@@ -40,22 +41,16 @@ selected_in _ = None
 
 -- the moment that a command hands over; it hands a slave none in setting up
 abbrev pub moment_handed : Command → ℕ
-moment_handed (commands.Receive t ip from octets) = t
+moment_handed (commands.Event t ip act) = t
 moment_handed (commands.Deliver t number) = t
-moment_handed (commands.Turn t ip table) = t
-moment_handed (commands.Tick t ip) = t
-moment_handed (commands.Flag t ip master unusable) = t
-moment_handed (commands.Judge t ip master rule) = t
-moment_handed (commands.Stop t ip) = t
-moment_handed (commands.Capacity t ip capacity) = t
 moment_handed _ = 0
 
 -- the slave to which a tick, the operator's word, another judge or the stop is handed
 abbrev pub slave_of : Command → Option ℕ
-slave_of (commands.Tick t ip) = Some ip
-slave_of (commands.Flag t ip master unusable) = Some ip
-slave_of (commands.Judge t ip master rule) = Some ip
-slave_of (commands.Stop t ip) = Some ip
+slave_of (commands.Event t ip acts.Tick) = Some ip
+slave_of (commands.Event t ip (acts.Flag master unusable)) = Some ip
+slave_of (commands.Event t ip (acts.Judge master rule)) = Some ip
+slave_of (commands.Event t ip acts.Stop) = Some ip
 slave_of _ = None
 
 -- a datagram that a slave ignores is no event

@@ -3,6 +3,7 @@ use Rattle.std.specs.Prelude.{ℕ, ◌==◌, ◌&&◌, if◌then◌else◌, List
 use Rattle.ptu_history.specs.{Core.{core_moment}, Events.{Turn}}
 use Rattle.ptu_lines.specs.Script.{ScriptLine, Whole, Refused}
 use Rattle.ptu_script.specs.declared.{cause.Cause.{Cause}, command.Command.{Command}}
+use Rattle.ptu_script.specs.declared.act.Act.TheVariants as acts
 use Rattle.ptu_script.specs.declared.command.Command.TheVariants as commands
 use Rattle.ptu_script.specs.Command.{command_of}
 use Rattle.ptu_world.specs.Deeds.{Node, IsGrandmaster}
@@ -16,7 +17,7 @@ turn_taken t table _ = []
 
 -- at which the node at the address takes a turn of the table by this command
 abbrev pub turn_by : ℕ → ℕ → World → Command → List ℕ
-turn_by ip table w (commands.Turn t a i) = if a == ip && i == table then turn_taken t table (node_at w.nodes ip) else []
+turn_by ip table w (commands.Event t a (acts.Turn i)) = if a == ip && i == table then turn_taken t table (node_at w.nodes ip) else []
 turn_by ip table w _ = []
 
 -- by a line, of what it commands

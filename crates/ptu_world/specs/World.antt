@@ -10,6 +10,8 @@ use Rattle.ptu_script.specs.declared.cause.Cause.{Cause}
 use Rattle.ptu_script.specs.declared.cause.Cause.TheVariants as causes
 use Rattle.ptu_script.specs.declared.command.GrandmasterSetup.{GrandmasterSetup}
 use Rattle.ptu_script.specs.declared.command.{SlaveSetup.{SlaveSetup}, Command.{Command}}
+use Rattle.ptu_script.specs.declared.act.Act.{Act}
+use Rattle.ptu_script.specs.declared.act.Act.TheVariants as acts
 use Rattle.ptu_script.specs.declared.command.Command.TheVariants as commands
 use Rattle.ptu_script.specs.Fields.{◌>>=◌}
 use Rattle.ptu_report_lines.specs.declared.{sent.Sent.{Sent}, statement.Statement.{Statement}}
@@ -81,9 +83,6 @@ sending_said before (sent ∷ rest) = statements.Sent (before + 1) sent ∷ send
 abbrev pub grandmaster_by : Option Node → Result Grandmaster Cause
 grandmaster_by (Some (IsGrandmaster found)) = Ok found
 grandmaster_by _ = Err causes.Node
-
-abbrev pub grandmaster_at : World → ℕ → Result Grandmaster Cause
-grandmaster_at w ip = grandmaster_by (node_at w.nodes ip)
 
 abbrev pub slave_by : Option Node → Result Slave Cause
 slave_by (Some (IsSlave found)) = Ok found
@@ -190,17 +189,38 @@ abbrev pub delivered_to : World → ℕ → Sent → Option Node → Done
 delivered_to w t sent None = record { world = record w { has_begun = true }; said = statements.Nobody ∷ [] }
 delivered_to w t sent (Some node) = done_by w sent.to (datagram_deed node t sent.from sent.octets)
 
--- an event at a grandmaster
-abbrev pub at_grandmaster : World → ℕ → (Grandmaster → Deed) → Result Done Cause
-at_grandmaster w ip deed = do
-  found ← grandmaster_at w ip
-  Ok (done_by w ip (deed found))
+-- what a node does that is told something of grandmasters, something of slaves, or something of a master of a slave; or why not
+abbrev pub of_grandmaster : (Grandmaster → Deed) → Node → Result Deed Cause
+of_grandmaster deed node = do
+  found ← grandmaster_by (Some node)
+  Ok (deed found)
 
--- an event at a slave
-abbrev pub at_slave : World → ℕ → (Slave → Deed) → Result Done Cause
-at_slave w ip deed = do
-  found ← slave_at w ip
-  Ok (done_by w ip (deed found))
+abbrev pub of_slave : (Slave → Deed) → Node → Result Deed Cause
+of_slave deed node = do
+  found ← slave_by (Some node)
+  Ok (deed found)
+
+abbrev pub of_master : ℕ → (Slave → ℕ → Deed) → Node → Result Deed Cause
+of_master master deed node = do
+  found ← slave_by (Some node)
+  place ← place_in found master
+  Ok (deed found place)
+
+-- what a node does that is told this at a moment; or why not
+abbrev pub act_deed : ℕ → Act → Node → Result Deed Cause
+act_deed t (acts.Receive from octets) node = Ok (datagram_deed node t from octets)
+act_deed t (acts.Turn table) node = of_grandmaster (λ found. gm.turn_deed found t table) node
+act_deed t (acts.Class class) node = of_grandmaster (λ found. gm.class_deed found class) node
+act_deed t (acts.Capacity capacity) node = of_grandmaster (λ found. gm.capacity_deed found t capacity) node
+act_deed t acts.Tick node = of_slave (λ s. slaves.plain_deed s t slave_events.Tick) node
+act_deed t (acts.Flag master unusable) node = of_master master (λ s m. slaves.plain_deed s t (slave_events.TellFlag m unusable)) node
+act_deed t (acts.Judge master rule) node = of_master master (λ s m. slaves.plain_deed s t (slave_events.ReplaceJudge m (Some rule))) node
+act_deed t acts.Stop node = of_slave (λ s. slaves.plain_deed s t slave_events.Stop) node
+
+-- the judges that this leaves, or that there is none for it
+abbrev pub stock_after : Act → Stock → Result Stock Cause
+stock_after (acts.Judge master rule) stock = stock_without rule stock
+stock_after _ stock = Ok stock
 
 -- ---- commands
 
@@ -218,23 +238,11 @@ step w (commands.Master slave ip priority rule) =
     else do
       s ← slave_at w slave
       quietly (add_master w s ip priority rule)
-step w (commands.Receive t ip from octets) = do
-  node ← or_cause causes.Node (node_at w.nodes ip)
-  Ok (done_by w ip (datagram_deed node t from octets))
 step w (commands.Deliver t number) = do
   sent ← or_cause causes.Number (datagram_numbered number w.sent)
   Ok (delivered_to w t sent (node_at w.nodes sent.to))
-step w (commands.Turn t ip table) = at_grandmaster w ip (λ found. gm.turn_deed found t table)
-step w (commands.Tick t ip) = at_slave w ip (λ s. slaves.plain_deed s t slave_events.Tick)
-step w (commands.Flag t ip master unusable) = do
-  s ← slave_at w ip
-  m ← place_in s master
-  Ok (done_by w ip (slaves.plain_deed s t (slave_events.TellFlag m unusable)))
-step w (commands.Judge t ip master rule) = do
-  s ← slave_at w ip
-  m ← place_in s master
-  stock ← stock_without rule w.stock
-  Ok (done_by (record w { stock = stock }) ip (slaves.plain_deed s t (slave_events.ReplaceJudge m (Some rule))))
-step w (commands.Stop t ip) = at_slave w ip (λ s. slaves.plain_deed s t slave_events.Stop)
-step w (commands.Class ip class) = at_grandmaster w ip (λ found. gm.class_deed found class)
-step w (commands.Capacity t ip capacity) = at_grandmaster w ip (λ found. gm.capacity_deed found t capacity)
+step w (commands.Event t ip act) = do
+  node ← or_cause causes.Node (node_at w.nodes ip)
+  deed ← act_deed t act node
+  stock ← stock_after act w.stock
+  Ok (done_by (record w { stock = stock }) ip deed)

@@ -3,6 +3,7 @@
 //! moments in any order, and after each of its lines that is taken.
 ghost use Rattle.std.specs.Prelude.{◌≡◌, ◌≢◌, ℕ, List, [], ◌∷◌, Some, Ok};
 ghost use Rattle.ptu_script.specs.declared.command.Command.{Command};
+ghost use Rattle.ptu_script.specs.declared.act.Act.TheVariants as acts;
 ghost use Rattle.ptu_script.specs.declared.command.Command.TheVariants as commands;
 ghost use Rattle.ptu_history.specs.Events as events;
 ghost use Rattle.ptu_history.specs.Core.{core_history, core_moment};
@@ -52,7 +53,7 @@ pub fn turns()
         ≡ turns_of ip table (opening stock) h.reached.taken w h.reached.leads) }
     ensures one { (w : World) (ip : ℕ) (g : Grandmaster) (t table : ℕ) →
         node_at w.nodes ip ≡ Some (IsGrandmaster g) →
-        turn_by ip table w (commands.Turn t ip table)
+        turn_by ip table w (commands.Event t ip (acts.Turn table))
         ≡ core_moment g.past t (events.Turn table) ∷ [] }
 {}
 

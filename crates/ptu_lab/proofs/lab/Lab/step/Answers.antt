@@ -25,5 +25,5 @@ returns g c = λ course stands.
     (StandsFor (λ n. seen (λ i. (g.dyn-1.0.entry i).1.Judge) n.slave) (map (λ j. (goal.Judge-dyn g (j.vtable, j.value)).Judge.held j.value) c.obey.new.self.stock.flags.items)
     (map (λ j. (goal.Judge-dyn g (j.vtable, j.value)).Judge.held j.value) c.obey.new.self.stock.gaps.items) c.obey.new.self) c.obey.new.self.journal.texts c.in_ok-refused.refused)
     (ap (λ (n : Noted). n.line) c.begin.ensures)
-    (rw c.order_of.ensures.value at (c.in_ok-refused.ensures course (texts_aside (λ n. seen (λ i. (g.dyn-1.0.entry i).1.Judge) n.slave) _ _ c.args.self.now (record c.args.self.now { journal = c.begin.new.self }) course stands refl refl
-    (ap (λ (n : Noted). n.sent) c.begin.ensures) (ap (λ (n : Noted). n.granted) c.begin.ensures) (ap (λ (n : Noted). n.short) c.begin.ensures)))))
+    (c.in_ok-refused.ensures course (texts_aside (λ n. seen (λ i. (g.dyn-1.0.entry i).1.Judge) n.slave) _ _ c.args.self.now (record c.args.self.now { journal = c.begin.new.self }) course stands refl refl
+    (ap (λ (n : Noted). n.sent) c.begin.ensures) (ap (λ (n : Noted). n.granted) c.begin.ensures) (ap (λ (n : Noted). n.short) c.begin.ensures))))

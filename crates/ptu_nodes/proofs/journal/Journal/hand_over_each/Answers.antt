@@ -1,6 +1,6 @@
 use Rattle.std.proofs.Common.{rules}
 use Rattle.ptu_nodes.proofs.HandedOver.{next_sent}
-use Rattle.ptu_nodes.proofs.journal.Journal.hand_over.Goals as goal
+use Rattle.ptu_nodes.proofs.journal.Journal.hand_over_each.Goals as goal
 
 pub datagrams-preserved : goal.datagrams-preserved
 datagrams-preserved c =

@@ -1,7 +1,7 @@
 use Rattle.std.proofs.Common.{sym}
 use Rattle.ptu_nodes.specs.Standing.{StandsAsGrandmaster}
-use Rattle.ptu_lab.proofs.LabNodes.{class_changed}
-use Rattle.ptu_lab.proofs.acting.act_as_grandmaster.Goals as goal
+use Rattle.ptu_nodes.proofs.GrandmasterDone.{class_changed}
+use Rattle.ptu_nodes.proofs.grandmaster_node.GrandmasterNode.act.Goals as goal
 
 pub returns-in_ok-receive-in-Receive-clause-acted : goal.returns-in_ok-receive-in-Receive-clause-acted
 returns-in_ok-receive-in-Receive-clause-acted c = rw (c.in-Receive.is, sym c.as_slice.ensures) (λ g is. c.in_ok-receive-in-Receive.ensures.done g is)

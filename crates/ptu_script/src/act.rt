@@ -1,17 +1,18 @@
-//! What an event of a script asks of one node, whichever kind of node it is.
+//! What an event of a script tells one node, whichever kind of node it is.
 
-use ptu_judges::Rule;
 use ptu_lines::LentOctets;
+use ptu_record::Rule;
 
-/// What an event of a script asks of the node at an address. A node that is of another kind, or has
-/// no such master, refuses it.
+/// What an event of a script tells the node at an address. A node that is of another kind, or has
+/// no such master, refuses it. The octets of a datagram stand in room that the reader's caller
+/// lent.
 #[derive(Drop)]
 pub enum Act<'a> {
-    /// A node takes a datagram, as from an address.
+    /// A node takes a datagram of at most 2048 octets, as from an address.
     Receive { from: u32, octets: LentOctets<'a> },
     /// A table of a grandmaster, from 0 to 3, takes a turn.
     Turn { table: usize },
-    /// The clockClass of a grandmaster changes. Nothing is said of it, and it has no moment.
+    /// The clockClass of a grandmaster changes. Nothing is said of it.
     Class { class: u8 },
     /// The capacity of a grandmaster changes to one from 1 to 16777216, in sixteenths of a message
     /// per second.
