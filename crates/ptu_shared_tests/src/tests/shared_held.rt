@@ -241,6 +241,7 @@ where
     requires granted { IsBlankOf G.name G.parts L.seats blanks.granted }
     requires refused { IsBlankOf R.name R.parts L.seats blanks.refused }
     requires capacity { IsCapacity capacity }
+    requires opening { capacity ≡ L.opening }
     requires most { (capacity ≤ L.most) × (64 ≤ capacity) }
     requires seats { L.seats ≡ 2 }
     requires ports { (i : ℕ) → L.opened i ≡ untold_port }
