@@ -1,6 +1,7 @@
 pub mod Sums
 pub mod Grants
 pub mod Lending
+pub mod Alone
 pub mod StepMoments
 pub mod RowKeys
 pub mod Leasing

@@ -14,7 +14,7 @@ use Rattle.ptu_shard.proofs.{RowLists.{same_permuted}, Standing.{stands_elsewher
 use Rattle.ptu_admit.specs.{Book.{KeptBook}, declared.newest.Found.{Found}}
 use Rattle.ptu_admit.specs.declared.{shed_list.Shed.{Shed as Answer}, newest.Candidate.{Candidate}}
 use Rattle.ptu_admit.specs.Lent.{EachStandsAt, four, rows_of_lent, shares}
-use Rattle.ptu_admit.specs.Newest.{AreDistinct, AreListed, IsThinned, candidate_of, rows_in, shed_at}
+use Rattle.ptu_admit.specs.Newest.{AreDistinct, AreListed, AreOfTable, IsThinned, candidate_of, rows_in, shed_at}
 use Rattle.ptu_admit.specs.{Shed.{shed_of}, Rows.{live_rows}, Tables.{IsSwept}}
 use Rattle.ptu_shard.proofs.SoFar.{length-filter-le}
 use Rattle.ptu_admit.proofs.Candidates.{NotAfter, listed_without}
@@ -33,12 +33,35 @@ pub record SoFar {P : Type 0} (at capacity : ℕ) (a b c d a' b' c' d' : Kept P)
   pub shed : (history : List Record) → EachStandsAt at (four a b c d) history →
       map shed_of (shed_prefix capacity (shed_order history at)) ≡ list ++ map shed_of (shed_prefix capacity (shed_order (history ++ map (shed_at at) list) at))
 
+pub thinned_none : {P : Type 0} (a : Kept P) → IsThinned a a
+thinned_none a = record {
+  members = λ row h. h;
+  distinct = λ d. d;
+  moment = refl;
+  keeps = record { port = refl; spare = omega arith };
+  alone = λ b j n h s le. ([], tt, subst (λ h'. StandsAt b j a.rows a.moment h') (sym (append-nil h)) s);
+}
+
+of_table-append : (j : ℕ) (xs ys : List Grant) → AreOfTable j xs → AreOfTable j ys → AreOfTable j (xs ++ ys)
+of_table-append j [] ys a b = b
+of_table-append j (x ∷ xs) ys a b = (a.0, of_table-append j xs ys a.1 b)
+
 thinned_more : {P : Type 0} (a b c : Kept P) → IsThinned a b → IsThinned b c → IsThinned a c
 thinned_more a b c s t = record {
   members = λ row h. s.members row (t.members row h);
   distinct = λ d. t.distinct (s.distinct d);
   moment = t.moment ∙ s.moment;
   keeps = record { port = t.keeps.port ∙ s.keeps.port; spare = let x = s.keeps.spare in let y = t.keeps.spare in omega arith };
+  alone = λ m j n h st le.
+      let first = s.alone m j n h st le in
+      let reached : n ≤ b.moment = let e : b.moment ≡ a.moment = s.moment in omega (arith, le, e) in
+      let then = t.alone m j n (h ++ map (shed_record n) first.0) first.2 reached in
+      let both : (h ++ map (shed_record n) first.0) ++ map (shed_record n) then.0 ≡ h ++ map (shed_record n) (first.0 ++ then.0) =
+      append_assoc h (map (shed_record n) first.0) (map (shed_record n) then.0) ∙ ap (λ rs. h ++ rs) (sym (map-append (shed_record n) first.0 then.0)) in (
+        first.0 ++ then.0,
+        of_table-append j first.0 then.0 first.1 then.1,
+        subst (λ h'. StandsAt m j c.rows c.moment h') both then.2,
+      );
 }
 
 module _ {P : Type 0} (n capacity : ℕ) (a b c d a' b' c' d' a'' b'' c'' d'' : Kept P) (book book' book'' : KeptBook) (list : List Answer) (len room room' : ℕ) (f : Found)

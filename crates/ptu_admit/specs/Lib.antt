@@ -3,6 +3,7 @@ pub mod Terms
 pub mod Verdict
 pub mod Rows
 pub mod Lent
+pub mod Alone
 pub mod Tables
 pub mod Newest
 pub mod Shed

@@ -1,8 +1,9 @@
 -- The order in which a change of capacity looks at the rows of lent tables.
-use Rattle.std.specs.{Prelude.{◌≡◌, ℕ, ◌+◌, ◌<◌, List, [], ◌∷◌, ◌++◌, map, length}, List.{Contains}}
+use Rattle.std.specs.{Prelude.{◌≡◌, ℕ, ◌+◌, ◌<◌, ◌≤◌, List, [], ◌∷◌, ◌++◌, map, length}, List.{Contains}}
 use Rattle.std.specs.{Ordering.{nat_cmp, ordering_then}, declared.cmp.Ordering.{Ordering}}
-use Rattle.ptu_history.specs.{Client.{client_cmp, kind_cmp}, History.{Record, Shed}, Live.{Grant}}
-use Rattle.ptu_shard.specs.{declared.lease.Row.{Row}, Row.{IsDistinctByLease}, Table.{Kept}}
+use Rattle.ptu_history.specs.{Client.{client_cmp, kind_cmp, table_of}, History.{Record, Shed}, Live.{Grant}}
+use Rattle.ptu_history.specs.Shedding.{shed_record}
+use Rattle.ptu_shard.specs.{declared.lease.Row.{Row}, Row.{IsDistinctByLease}, Table.{Kept, StandsAt}}
 use Rattle.ptu_admit.specs.declared.newest.{Candidate.{Candidate}, Found.{Found}}
 use Rattle.ptu_admit.specs.{declared.shed_list.Shed.{Shed as Answer}, Lent.{Lent, rows_of_lent}}
 use Rattle.ptu_admit.specs.Tables.{KeepsPort}
@@ -57,12 +58,20 @@ abbrev pub rows_in : List Lent → ℕ
 rows_in [] = 0
 rows_in (t ∷ lent) = length t.rows + rows_in lent
 
+-- the grants are of clients of the table
+abbrev pub AreOfTable : ℕ → List Grant → Type 0
+AreOfTable j [] = Unit {0}
+AreOfTable j (g ∷ grants) = (table_of g.client ≡ j) × AreOfTable j grants
+
 -- rows have gone, and nothing else has changed
 pub record IsThinned {P : Type 0} (old new : Kept P) : Type 0 where
   pub members : (row : Row) → Contains new.rows row → Contains old.rows row
   pub distinct : IsDistinctByLease old.rows → IsDistinctByLease new.rows
   pub moment : new.moment ≡ old.moment
   pub keeps : KeepsPort 0 old new
+  -- what the table stands for goes on with the sheddings of some of its grants, at any moment that it has reached
+  pub alone : (b j n : ℕ) (history : List Record) → StandsAt b j old.rows old.moment history → n ≤ old.moment →
+      (shed : List Grant) × AreOfTable j shed × StandsAt b j new.rows new.moment (history ++ map (shed_record n) shed)
 
 -- the record of what was shed
 abbrev pub shed_at : ℕ → Answer → Record

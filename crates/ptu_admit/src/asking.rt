@@ -7,6 +7,7 @@ ghost use Rattle.ptu_history.specs.{Verdict.{verdict}, Events.{Request}};
 ghost use Rattle.ptu_history.specs.Step.{step, verdict_records};
 ghost use Rattle.ptu_profile.specs.Grandmaster.{IsWithinLimits};
 ghost use Rattle.ptu_shard.specs.Row.{share_of};
+ghost use Rattle.ptu_admit.specs.Alone.{GoesOnAlone, IsDecidedIn};
 ghost use Rattle.ptu_admit.specs.Lent.{EachStandsAt, Lent, StandFor, four, is_lent, live_others, moment_for, moment_of_lent, rows_of_lent, shares, table_for};
 ghost use Rattle.ptu_admit.specs.{Rows.{kept_rate}, Tables.{KeepsPort, fall_of}};
 ghost use Rattle.ptu_admit.specs.Verdict.{IsAt, IsFor, OnOutside, OnWithin, ask_of, config_of, unless_short, verdict_beside, verdict_of, verdict_on};
@@ -75,6 +76,8 @@ pub fn decide_one<P: Port>(
         ++ (step (config_of opening config.now) history
         (max t (max book.old.moment shard.old.moment))
         (Request client.now (ask_of ask.now))).records)) }
+    // By its own records alone the table goes on with a decision at most.
+    ensures alone { GoesOnAlone (table_of_client client.now) shard.old shard.new }
 {
     let wanted = match wanted_by(ask) {
         Ok(wanted) => wanted,
@@ -144,6 +147,9 @@ pub fn decide_all<P: Port>(
         StandFor opening (four s0.new s1.new s2.new s3.new) book.new (history
         ++ (step (config_of opening config.now) history (moment_for t book.old client.now lent)
         (Request client.now (ask_of ask.now))).records) }
+    // By its own records alone each table goes on with decisions.
+    ensures alone { GoesOnAlone 0 s0.old s0.new × GoesOnAlone 1 s1.old s1.new
+        × GoesOnAlone 2 s2.old s2.new × GoesOnAlone 3 s3.old s3.new }
 {
     let wanted = match wanted_by(ask) {
         Ok(wanted) => wanted,
@@ -226,6 +232,10 @@ fn decide_among<P: Port>(
         EachStandsAt b (four s0.old s1.old s2.old s3.old) history → b ≤ claim.now.at →
         EachStandsAt claim.now.at (four s0.new s1.new s2.new s3.new)
         (history ++ verdict_records claim.now.at claim.now.client (verdict_of result)) }
+    ensures t0 { IsDecidedIn 0 claim.now.at claim.now.client result s0.old s0.new }
+    ensures t1 { IsDecidedIn 1 claim.now.at claim.now.client result s1.old s1.new }
+    ensures t2 { IsDecidedIn 2 claim.now.at claim.now.client result s2.old s2.new }
+    ensures t3 { IsDecidedIn 3 claim.now.at claim.now.client result s3.old s3.new }
 {
     match table_of(&claim.client) {
         0 => decide_swept(s0, book, config, claim.at, &claim.client, claim.wanted),

@@ -5,6 +5,7 @@ ghost use Rattle.ptu_history.specs.{Client.{table_of as table_of_client}, Histor
 ghost use Rattle.ptu_history.specs.{Live.{live}, Verdict.{Config, table_rates}, Events.{Cancel}};
 ghost use Rattle.ptu_history.specs.Step.{step};
 ghost use Rattle.ptu_shard.specs.Row.{share_of};
+ghost use Rattle.ptu_admit.specs.Alone.{GoesOnAlone};
 ghost use Rattle.ptu_admit.specs.Lent.{Lent, StandFor, four, is_lent, moment_for_all, shares, table_for};
 ghost use Rattle.ptu_admit.specs.{Rows.{has_live_row}, Tables.{IsSwept, KeepsPort}};
 
@@ -53,6 +54,8 @@ pub fn cancel<P: Port>(
         is_lent (table_of_client client.now) rest ≡ false →
         StandFor opened.capacity (table_for client.now shard.new ∷ rest) book.new
         (history ++ (step opened history result.at (Cancel client.now kind)).records) }
+    // By its own records alone the table goes on with the cancel.
+    ensures alone { GoesOnAlone (table_of_client client.now) shard.old shard.new }
 {
     let at = t.latest(book.now().latest(shard.moment()));
     let before = shard.held();

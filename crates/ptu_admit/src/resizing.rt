@@ -5,7 +5,7 @@ ghost use Rattle.ptu_history.specs.{History.{Record}, Verdict.{Config}, Events.{
 ghost use Rattle.ptu_history.specs.{Shedding.{shed_grants}, Step.{step}};
 ghost use Rattle.ptu_units.specs.Limits.{IsCapacity};
 ghost use Rattle.ptu_admit.specs.{Lent.{StandFor, four, moment_for_all, shares}, Newest.{rows_in}};
-ghost use Rattle.ptu_admit.specs.{Shed.{shed_of}, Tables.{KeepsPort}};
+ghost use Rattle.ptu_admit.specs.{Alone.{GoesOnAlone}, Shed.{shed_of}, Tables.{KeepsPort}};
 
 use crate::book::Book;
 use crate::shed_list::ShedList;
@@ -63,6 +63,9 @@ pub fn resize<P: Port>(
         StandFor opened.capacity (four s0.old s1.old s2.old s3.old) book.old history →
         IfOk result (λ r. StandFor opened.capacity (four s0.new s1.new s2.new s3.new) book.new
         (history ++ (step opened history r.at (Resize capacity)).records)) }
+    // By its own records alone each table goes on with the change and the sheddings of its grants.
+    ensures alone { GoesOnAlone 0 s0.old s0.new × GoesOnAlone 1 s1.old s1.new
+        × GoesOnAlone 2 s2.old s2.new × GoesOnAlone 3 s3.old s3.new }
 {
     let at = latest_of(s0, s1, s2, s3, book, t);
     let count = count_above(s0, s1, s2, s3, book, capacity);

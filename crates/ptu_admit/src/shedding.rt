@@ -41,6 +41,7 @@ fn drop_in<P: Port>(shard: &mut Shard<P>, book: &mut Book, row: &Row)
 }
 
 // Drops a row of the table that it was found in.
+#[tactic(auto, using(crate::proofs::ShedLoop::thinned_none))]
 fn drop_found<P: Port>(
     s0: &mut Shard<P>,
     s1: &mut Shard<P>,
@@ -137,6 +138,7 @@ fn find_row<P: Port>(
 
 // Sheds the greatest candidates of four tables one by one, until the rates of the rest sum to at
 // most the capacity, and lists them in this order. No look at all rows is taken again.
+#[tactic(auto, using(crate::proofs::ShedLoop::thinned_none))]
 fn shed_newest<P: Port>(
     s0: &mut Shard<P>,
     s1: &mut Shard<P>,
@@ -192,6 +194,7 @@ fn shed_newest<P: Port>(
 /// Sheds the newest grants of four tables that were swept at the moment, one by one, until the
 /// rates of the rest sum to at most the capacity, and gives them in this order. The order of all
 /// rows is made once, and only where there is more than the capacity.
+#[tactic(auto, using(crate::proofs::ShedLoop::thinned_none))]
 pub(crate) fn shed_above<P: Port>(
     s0: &mut Shard<P>,
     s1: &mut Shard<P>,

@@ -329,6 +329,7 @@ where
         requires rates { IsBlankOf L.name L.parts 4 blanks.rates }
         requires granted { IsBlankOf G.name G.parts L.seats blanks.granted }
         requires refused { IsBlankOf R.name R.parts L.seats blanks.refused }
+        requires opening { L.opening ≡ settings.now.capacity }
         requires most { L.most ≡ greatest_capacity settings.now }
         requires seats { L.seats ≡ 1 }
         requires ports { (seen_of P.Port p0 ≡ L.opened 0) × (seen_of P.Port p1 ≡ L.opened 1)
@@ -371,6 +372,7 @@ where
         requires rates { IsBlankOf L.name L.parts 4 blanks.rates }
         requires granted { IsBlankOf G.name G.parts L.seats blanks.granted }
         requires refused { IsBlankOf R.name R.parts L.seats blanks.refused }
+        requires opening { L.opening ≡ settings.now.capacity }
         requires most { L.most ≡ greatest_capacity settings.now }
         requires seats { L.seats ≡ 1 }
         requires ports { (seen_of P.Port opened.p0 ≡ L.opened 0)
@@ -452,6 +454,7 @@ where
     requires rates { IsBlankOf L.name L.parts 4 blanks.rates }
     requires granted { IsBlankOf G.name G.parts L.seats blanks.granted }
     requires refused { IsBlankOf R.name R.parts L.seats blanks.refused }
+    requires opening { L.opening ≡ settings.now.capacity }
     requires most { L.most ≡ greatest_capacity settings.now }
     requires seats { L.seats ≡ 1 }
     requires ports { (seen_of P.Port opened.p0 ≡ L.opened 0)
@@ -483,6 +486,7 @@ where
             requires { IsBlankOf L.name L.parts 4 blanks.rates
                 × IsBlankOf G.name G.parts L.seats blanks.granted
                 × IsBlankOf R.name R.parts L.seats blanks.refused
+                × (L.opening ≡ settings.now.capacity)
                 × (L.most ≡ greatest_capacity settings.now) × (L.seats ≡ 1)
                 × (seen_of P.Port opened.p0 ≡ L.opened 0)
                 × (seen_of P.Port opened.p1 ≡ L.opened 1)

@@ -111,10 +111,11 @@ pub(crate) fn open_desk<L: Rates, G: Ledger, R: Ledger>(
     requires granted { IsBlankOf G.name G.parts L.seats granted }
     requires refused { IsBlankOf R.name R.parts L.seats refused }
     requires capacity { IsCapacity capacity }
+    requires opening { capacity ≡ L.opening }
     requires most { capacity ≤ L.most }
     requires seats { (1 ≤ seats) × (seats ≤ 64) × (seats ≡ L.seats) }
     ensures book { IfOk result (λ made. made.0.book
-        ≡ record { capacity = capacity; moment = 0; total = 0 }) }
+        ≡ record { capacity = L.opening; moment = 0; total = 0 }) }
     ensures counts { IfOk result (λ made. (made.0.granted ≡ 0) × (made.0.refused ≡ 0)) }
     ensures seats { IfOk result (λ made. made.1.items ≡ replicate seats no_verdicts) }
 {

@@ -6,9 +6,12 @@ ghost use Rattle.ptu_shared.specs.Opening.{Seen, untold_port};
 use std::marker::Brand;
 use std::sync::ledger::{self, Ledger, Share};
 
-/// The ledger of rates, which has four parts, one for each table. It names two numbers more and
+/// The ledger of rates, which has four parts, one for each table. It names three numbers more and
 /// what the tables' ports were like, which contracts alone see.
 pub trait Rates: Ledger {
+    /// The capacity that is in force at first, in sixteenths of a message per second.
+    ghost opening: { ℕ };
+
     /// The greatest capacity that may come into force, in sixteenths of a message per second.
     ghost most: { ℕ };
 
@@ -20,6 +23,8 @@ pub trait Rates: Ledger {
 }
 
 impl Rates for Brand {
+    ghost opening = { 0 };
+
     ghost most = { 0 };
 
     ghost seats = { 0 };

@@ -71,6 +71,7 @@ impl<P: Port + Send, L: Rates, G: Ledger, R: Ledger> Shared<P, L, G, R> {
         requires granted { IsBlankOf G.name G.parts L.seats granted }
         requires refused { IsBlankOf R.name R.parts L.seats refused }
         requires capacity { IsCapacity capacity }
+        requires opening { capacity ≡ L.opening }
         requires most { capacity ≤ L.most }
         requires ports { (seen_of P.Port p0 ≡ L.opened 0) × (seen_of P.Port p1 ≡ L.opened 1)
             × (seen_of P.Port p2 ≡ L.opened 2) × (seen_of P.Port p3 ≡ L.opened 3) }

@@ -278,6 +278,7 @@ fn play<L: Rates, G: Ledger, R: Ledger, W: Wait + Abort>(
     requires granted { IsBlankOf G.name G.parts L.seats blanks.1 }
     requires refused { IsBlankOf R.name R.parts L.seats blanks.2 }
     requires capacity { (IsCapacity capacity) × (capacity ≤ L.most) }
+    requires opening { capacity ≡ L.opening }
     requires seats { L.seats ≡ 1 }
     requires ports { (i : ℕ) → L.opened i ≡ idle_port }
 {

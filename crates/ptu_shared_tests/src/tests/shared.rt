@@ -438,6 +438,7 @@ where
     requires granted { IsBlankOf G.name G.parts L.seats blanks.granted }
     requires refused { IsBlankOf R.name R.parts L.seats blanks.refused }
     requires capacity { (IsCapacity capacity) × (8 ≤ capacity) }
+    requires opening { capacity ≡ L.opening }
     requires most { capacity ≤ L.most }
     requires seats { (1 ≤ seats) × (seats ≤ 64) × (seats ≡ L.seats) }
     requires ports { (i : ℕ) → L.opened i ≡ idle_port }

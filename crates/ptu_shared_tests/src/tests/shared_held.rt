@@ -4,7 +4,7 @@ ghost use Rattle.ptu_shared.specs.{Blanks.{IsBlankOf}, Opening.{untold_port}};
 
 use super::shared::{ANNOUNCE, Blanks, GRANTED, GRANTED_LATER, SYNC, ask, moment, turn};
 use ptu_outside::{Channel, Failed, Port};
-use ptu_shard::samples::{ONE, SECOND, THREE, ZERO};
+use ptu_shard::samples::{ONE, SECOND, THREE, TWO, ZERO};
 use ptu_shared::{Rates, Seat, Shared};
 use ptu_units::{Kind, Moment};
 use std::alloc::Global;
@@ -178,22 +178,31 @@ impl<L: Rates + Sync, G: Ledger + Sync, R: Ledger + Sync> Held<'_, '_, L, G, R> 
         }
     }
 
-    // While table 0 is held, and a call waits for it, a client of table 1 asks again and again and
-    // is granted each time; then table 0 goes on.
+    // A client of each other table than table 0 asks, and is granted.
+    fn ask_each(&self, rt: &(impl Wait + Abort), seat: &mut Seat<G, R>)
+        requires { L.parts ≡ 4 }
+    {
+        for client in [ONE, TWO, THREE] {
+            let told = ask(rt, self.shared, seat, SECOND, &client, (ANNOUNCE, 1));
+            assert_eq!(rt; told, GRANTED_LATER);
+        }
+    }
+
+    // While table 0 is held, and a call waits for it, clients of the other tables ask again and
+    // again and are granted each time; then table 0 goes on.
     fn ask_beside(&self, rt: &(impl Wait + Abort), mut seat: Seat<G, R>)
         requires { L.parts ≡ 4 }
     {
         self.gate.await_flag(&self.gate.called);
         for _ in 0..20 {
             self.gate.look_on();
-            let told = ask(rt, self.shared, &mut seat, SECOND, &ONE, (ANNOUNCE, 1));
-            assert_eq!(rt; told, GRANTED_LATER);
+            self.ask_each(rt, &mut seat);
         }
         self.gate.open();
     }
 
-    // While table 0 is held, table 1 takes a turn; or a call waits for table 0, and beside it the
-    // client of table 1 asks.
+    // While table 0 is held, table 1 takes a turn; or a call waits for table 0, and beside it
+    // clients of the other tables ask.
     fn go_on_beside<W: Wait + Abort + Threads + Sync>(
         &self,
         rt: &W,
@@ -220,7 +229,7 @@ impl<L: Rates + Sync, G: Ledger + Sync, R: Ledger + Sync> Held<'_, '_, L, G, R> 
     }
 
     // Clients of tables 0 and 1 are granted Syncs. Table 0 is held in a turn, and beside it table 1
-    // takes a turn, or a call waits for table 0 and the client of table 1 asks.
+    // takes a turn, or a call waits for table 0 and clients of the other tables ask.
     fn turn_and_call<W: Wait + Abort + Threads + Sync>(
         &self,
         rt: &W,
@@ -266,6 +275,7 @@ where
     requires granted { IsBlankOf G.name G.parts L.seats blanks.granted }
     requires refused { IsBlankOf R.name R.parts L.seats blanks.refused }
     requires capacity { IsCapacity capacity }
+    requires opening { capacity ≡ L.opening }
     requires most { (capacity ≤ L.most) × (64 ≤ capacity) }
     requires seats { L.seats ≡ 2 }
     requires ports { (i : ℕ) → L.opened i ≡ untold_port }
@@ -305,7 +315,7 @@ fn a_turn_goes_on_beside_a_held_table(rt: HostRuntime) -> Result<(), Fail> {
     hold_beside(&rt, rt.alloc(), None)
 }
 
-// Nothing that waits for a table holds the book.
+// Nothing that waits for table 0 holds another table or the book.
 #[test]
 fn an_ask_goes_on_beside_a_held_table(rt: HostRuntime) -> Result<(), Fail> {
     for call in CALLS {

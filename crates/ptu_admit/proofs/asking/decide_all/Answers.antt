@@ -2,10 +2,10 @@ use Rattle.std.proofs.Common.{◌≡◌, ◌∙◌, ◌-◌, ◌≤◌, ◌++◌
 use Rattle.ptu_history.specs.{History.{capacity_in_force}, Moments.{book_moment}, Client.{table_of}}
 use Rattle.ptu_history.specs.{Verdict.{others, verdict}, Step.{verdict_records}}
 use Rattle.ptu_history.proofs.Verdicts.{book_moment-verdict, verdict-outside}
-use Rattle.ptu_admit.specs.Lent.{EachStandsAt, four, live_others, moment_for, rows_of_lent}
+use Rattle.ptu_admit.specs.Lent.{EachStandsAt, four, live_others, moment_for, moment_of_lent, rows_of_lent}
 use Rattle.ptu_admit.specs.Rows.{kept_rate}
 use Rattle.ptu_admit.specs.Verdict.{ask_of, cause_of, config_of, verdict_by, verdict_of, verdict_on}
-use Rattle.ptu_admit.proofs.Lending.{are_at, four_swept}
+use Rattle.ptu_admit.proofs.{Alone.{alone_asked, alone_same}, Lending.{are_at, four_swept}}
 use Rattle.ptu_admit.proofs.Verdicts.{FourDistinct, capacity-verdict, four_stand, ok_profile, others-is, others_swept, outside_stands, verdict-beside, verdict-same}
 use Rattle.ptu_admit.proofs.asking.decide_all.Goals as goal
 
@@ -80,3 +80,21 @@ returns-clause-stands g c = λ opening h s.
     c.decide_among.ensures.moments.0
     (c.decide_among.ensures.capacity ∙ ap (λ b. b.capacity) c.sweep_all.ensures.book ∙ s.capacity ∙ sym (capacity-verdict opening h n client (verdict config h n client ask)))
     c.decide_among.ensures.total
+
+pub returns-in-Err-clause-alone : goal.returns-in-Err-clause-alone
+returns-in-Err-clause-alone g c = (alone_same 0 c.args.s0.now, alone_same 1 c.args.s1.now, alone_same 2 c.args.s2.now, alone_same 3 c.args.s3.now)
+
+pub returns-clause-alone : goal.returns-clause-alone
+returns-clause-alone g c =
+    let lent = four c.args.s0.now c.args.s1.now c.args.s2.now c.args.s3.now in
+    let client = c.args.client.now in
+    let at : ℕ = c.latest-at.result in
+    let among = c.decide_among.ensures in
+    let reached : (j : ℕ) → table_of client ≡ j → moment_of_lent j lent ≤ at = λ j own.
+    let is : c.moment_in.result ≡ moment_of_lent j lent = c.moment_in.ensures ∙ ap (λ i. moment_of_lent i lent) own in
+    omega (arith, is, c.latest-at.ensures, c.latest.ensures) in (
+      alone_asked 0 at c.args.book.now.capacity client c.decide_among.result c.args.s0.now c.sweep_all.new.s0 c.decide_among.new.s0 c.sweep_all.ensures.s0 among.within (reached 0) among.moments.1 among.t0,
+      alone_asked 1 at c.args.book.now.capacity client c.decide_among.result c.args.s1.now c.sweep_all.new.s1 c.decide_among.new.s1 c.sweep_all.ensures.s1 among.within (reached 1) among.moments.2 among.t1,
+      alone_asked 2 at c.args.book.now.capacity client c.decide_among.result c.args.s2.now c.sweep_all.new.s2 c.decide_among.new.s2 c.sweep_all.ensures.s2 among.within (reached 2) among.moments.3 among.t2,
+      alone_asked 3 at c.args.book.now.capacity client c.decide_among.result c.args.s3.now c.sweep_all.new.s3 c.decide_among.new.s3 c.sweep_all.ensures.s3 among.within (reached 3) among.moments.4 among.t3,
+    )

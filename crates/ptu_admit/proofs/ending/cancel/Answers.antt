@@ -1,8 +1,9 @@
-use Rattle.std.proofs.Common.{◌≡◌, ◌∙◌, ◌≤◌, ◌++◌, ◌∷◌, [], max, arith, inl, ltb, refl, subst, sym}
+use Rattle.std.proofs.Common.{◌≡◌, ◌∙◌, ℕ, ◌≤◌, ◌++◌, ◌∷◌, [], max, arith, inl, ltb, refl, subst, sym}
 use Rattle.ptu_history.specs.{Client.{table_of}, History.{Ended}, Moments.{book_moment}}
 use Rattle.ptu_shard.specs.Table.{StandsAt}
 use Rattle.ptu_shard.proofs.Turns.{live_kept}
 use Rattle.ptu_admit.specs.Lent.{table_for}
+use Rattle.ptu_admit.proofs.Alone.{alone_one}
 use Rattle.ptu_admit.proofs.{Lending.{are_at, of_ended, taken}, RowKeys.{has_live-swept}}
 use Rattle.ptu_admit.proofs.Sums.{share_of-left, share_of-removed}
 use Rattle.ptu_admit.proofs.ending.cancel.Goals as goal
@@ -53,3 +54,16 @@ returns-clause-stands g c = λ opened rest history s none.
       moment_is = rw c.reach.ensures refl;
       capacity_is = rw (c.reach.ensures, c.settle.ensures) refl;
     })
+
+pub returns-clause-alone : goal.returns-clause-alone
+returns-clause-alone g c = λ history s.
+    let n : ℕ = c.latest-at.result in
+    let j : ℕ = table_of c.args.client.now in
+    let reached : c.args.shard.now.moment ≤ n = omega arith in
+    let before : book_moment history ≤ c.args.shard.now.moment = s.reached in
+    let top : max (book_moment history) n ≡ n = omega (arith, before, reached) in
+    let after = history ++ Ended n c.args.client.now c.args.kind ∷ [] in
+    let stands : StandsAt n j c.remove-ended.new.self.rows c.remove-ended.new.self.moment after =
+    subst (λ m. StandsAt m j c.remove-ended.new.self.rows c.remove-ended.new.self.moment after) top
+    (c.remove-ended.ensures.ended (max (book_moment history) n) j n history (c.sweep.ensures.stands (book_moment history) j history s.stands) (omega (arith, c.sweep.ensures.moment))) in
+    alone_one j n c.args.shard.now c.remove-ended.new.self history (Ended n c.args.client.now c.args.kind) s reached (omega (arith, c.remove-ended.ensures.moment, c.sweep.ensures.moment)) refl refl (refl, reached) stands

@@ -4,7 +4,7 @@ use Rattle.ptu_history.specs.Shedding.{shed_grants, shed_record}
 use Rattle.ptu_history.proofs.Moments.{book_moment-resized}
 use Rattle.ptu_admit.specs.{Book.{KeptBook}, declared.shed_list.Shed.{Shed}}
 use Rattle.ptu_admit.specs.{Lent.{EachStandsAt, four}, Newest.{rows_in, shed_at}}
-use Rattle.ptu_admit.proofs.Lending.{are_at, four_swept}
+use Rattle.ptu_admit.proofs.{Alone.{alone_resized, alone_same}, Lending.{are_at, four_swept}}
 use Rattle.ptu_admit.proofs.ShedLoop.{all_live, capacity_changed, passes_change, records_changed, swept_rows, swept_share}
 use Rattle.ptu_admit.proofs.Verdicts.{four_stand}
 use Rattle.ptu_admit.proofs.resizing.resize.Goals as goal
@@ -67,3 +67,14 @@ returns-clause-stands g c = λ opened h s.
     (ap (λ (k : KeptBook). k.moment) c.change.ensures)
     (ap (λ (k : KeptBook). k.capacity) c.change.ensures ∙ sym (capacity_changed opened.capacity h at capacity (shed_grants h at capacity)))
     (ap (λ (k : KeptBook). k.total) c.change.ensures ∙ ap (λ (k : KeptBook). k.total) c.shed_above-list.ensures.book)
+
+pub returns-clause-alone : goal.returns-clause-alone
+returns-clause-alone g c =
+    let at : ℕ = c.latest_of-at.result in
+    let swept = c.sweep_all.ensures in
+    let above = c.shed_above-list.ensures in (
+      alone_resized 0 at c.args.capacity c.args.s0.now c.sweep_all.new.s0 c.shed_above-list.new.s0 swept.s0 above.t0 (omega (arith, c.latest_of-at.ensures)),
+      alone_resized 1 at c.args.capacity c.args.s1.now c.sweep_all.new.s1 c.shed_above-list.new.s1 swept.s1 above.t1 (omega (arith, c.latest_of-at.ensures)),
+      alone_resized 2 at c.args.capacity c.args.s2.now c.sweep_all.new.s2 c.shed_above-list.new.s2 swept.s2 above.t2 (omega (arith, c.latest_of-at.ensures)),
+      alone_resized 3 at c.args.capacity c.args.s3.now c.sweep_all.new.s3 c.shed_above-list.new.s3 swept.s3 above.t3 (omega (arith, c.latest_of-at.ensures)),
+    )

@@ -1,4 +1,5 @@
-use Rattle.std.proofs.Common.{◌≡◌, ◌∙◌, ◌+◌, ◌-◌, ap, arith, not, refl, sym, Bool, true, false, ℕ}
+use Rattle.std.proofs.Common.{◌≡◌, ◌∙◌, ◌+◌, ◌-◌, ap, arith, not, refl, sym, Bool, true, false, ℕ, [], ◌∷◌}
+use Rattle.ptu_admit.specs.Newest.{grant_of}
 use Rattle.std.proofs.lemmas.List.Sorted.{length_permutation}
 use Rattle.ptu_units.specs.Log.{rate_of}
 use Rattle.ptu_history.proofs.{Keys.{same_lease-refl}, Unique.{Contains-from_filter}}
@@ -22,6 +23,7 @@ returns-clause-thinned g c =
       distinct = λ _. c.held.ensures.distinct;
       moment = c.remove.ensures.moment;
       keeps = record { port = c.remove.ensures.port; spare = omega (arith, c.remove.ensures.spare) };
+      alone = λ b j n history s le. (grant_of c.args.row.now ∷ [], ((s.kept c.args.row.now c.requires.contained).0, tt), c.remove.ensures.shed b j n history s le);
     }
 
 pub returns-clause-gone : goal.returns-clause-gone
