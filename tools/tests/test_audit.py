@@ -12,7 +12,7 @@ import subprocess
 import unittest
 
 import ptp
-from support import EXAMPLES, PATIENCE, program, run, wants_program
+from support import EXAMPLES, PATIENCE, program, run, tool, wants_program
 
 A, B = 0x0A00_0000_0000_0011, 0x0A00_0000_0000_0012
 IP = {A: "10.0.1.17", B: "10.0.1.18"}
@@ -212,17 +212,6 @@ def with_stamp(line: str, nanos: int) -> str:
     return line[:-20] + f"{seconds:012x}{rest:08x}"
 
 
-def renewals(clients: int, rounds: int) -> list[str]:
-    """Clients that each ask for all three kinds, and renew them."""
-    lines = [gm(16777216, 1000)]
-    for turn_of in range(rounds):
-        for client in range(clients):
-            octets = signaling(A + client, turn_of, ANNOUNCE_1 + SYNC_0 + DELAY_RESP_0)
-            address = f"10.1.{client // 256}.{client % 256}"
-            lines.append(f"rx {(turn_of * clients + client) * 10**6} 10.0.0.1 {address} {octets}")
-    return lines
-
-
 def processor_time(capacity: int, report: list[str]) -> float:
     """The least processor time that an audit took of three, in seconds."""
     took = []
@@ -323,7 +312,8 @@ class Audits(unittest.TestCase):
 
     def test_as_fast_beside_many_grants(self) -> None:
         """A list of the live grants that is gone through at each decision takes eight times as long here."""
-        few, many = report_of(renewals(100, 60)), report_of(renewals(2000, 3))
+        renewals = tool("audit-costs").renewals
+        few, many = report_of(list(renewals(100, 60))), report_of(list(renewals(2000, 3)))
         self.assertEqual((len(few), len(many)), (24001, 24001))
         self.answers(16777216, many, "yes grants 18000 sent 0")
         self.assertLess(processor_time(16777216, many), 4 * processor_time(16777216, few))

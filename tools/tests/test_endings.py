@@ -32,6 +32,7 @@ WRONG_WORDS = {
     "edits": [("--nothing",), ("nobody",)],
     "plants": [("--nothing",), ("nothing",)],
     "gate-times": [("--nothing",)],
+    "audit-costs": [("--nothing",), ("16",)],
 }
 
 
@@ -96,12 +97,13 @@ class Endings(unittest.TestCase):
 
     def test_programs_that_are_not_there(self) -> None:
         """What a tool starts is named, and what to do."""
-        started = {"edits": [()], "plants": [()], "gate-times": [(), ("rt", "check")], "runs": [()]}
+        started = {"edits": [()], "plants": [()], "gate-times": [(), ("rt", "check")], "runs": [()], "audit-costs": [()]}
+        wanting = {"runs": "/nowhere/ptpuni: it is no program that can be run", "audit-costs": "valgrind: it is not in PATH"}
         with mock.patch.dict(os.environ, {"PATH": str(self.folder), "PTPUNI": "/nowhere/ptpuni"}):
             for name, each in started.items():
                 for words in each:
                     status, lines = self.said(name, words, PTP4L)
-                    missing = "/nowhere/ptpuni: it is no program that can be run" if name == "runs" else "rt: it is not in PATH"
+                    missing = wanting.get(name, "rt: it is not in PATH")
                     self.assertEqual((status, len(lines)), (69, 1), (name, words, lines))
                     self.assertTrue(lines[0].startswith(f"{name}: {missing}: "), lines)
 

@@ -11,14 +11,14 @@ word_at : (line : List ℕ) (k : ℕ) → 1 ≤ k → word_of line k ≡ slice_g
 word_at line k le = grind arith
 
 -- what is left of a list begins with the element at the place where it is cut
-abbrev cut : {X : Type 0} → Option X → List X → List X
+abbrev pub cut : {X : Type 0} → Option X → List X → List X
 cut None rest = []
 cut (Some x) rest = x ∷ rest
 
 cut_within : {X : Type 0} (xs : List X) (i : ℕ) (x : X) → slice_get xs i ≡ Some x → drop i xs ≡ x ∷ drop (i + 1) xs
 cut_within xs i x e = drop_more xs i x (slice_get_within xs i x e) ∙ ap (λ y. y ∷ drop (i + 1) xs) (get_or_from_slice_get xs i x x e)
 
-cut_at : {X : Type 0} (xs : List X) (i : ℕ) → drop i xs ≡ cut (slice_get xs i) (drop (i + 1) xs)
+pub cut_at : {X : Type 0} (xs : List X) (i : ℕ) → drop i xs ≡ cut (slice_get xs i) (drop (i + 1) xs)
 cut_at xs i = elim ((slice_get_cases xs i).1) as (λ _. drop i xs ≡ cut (slice_get xs i) (drop (i + 1) xs)) [
   | inl found ↦ rw found.2 (cut_within xs i found.0 found.2)
   | inr past ↦ rw past.1 (drop_all i xs past.0)

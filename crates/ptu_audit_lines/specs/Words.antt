@@ -15,9 +15,21 @@ None >>= f = None
 unfoldable pub field : {A : Type 0} → ℕ → (List ℕ → Option A) → List ℕ → Option A
 field k form line = option_and_then form (word_of line k)
 
+-- the word is this text
+unfoldable pub is_text : List ℕ → List ℕ → Option (Unit {0})
+is_text text word = if bytes_eq word text then Some tt else None
+
+-- the line has no word with this number
+unfoldable pub no_word : ℕ → List ℕ → Option (Unit {0})
+no_word k line = if is_some (word_of line k) then None else Some tt
+
 -- NUM: any number of at most 19 digits
 unfoldable pub any_number : List ℕ → Option ℕ
 any_number word = number_within word 0 (2 ^ 64 - 1)
+
+-- the first word of the line is a number
+abbrev pub is_numbered : List ℕ → Bool
+is_numbered line = is_some (field 1 any_number line)
 
 -- KIND
 unfoldable pub kind_named : List ℕ → Option Kind
@@ -30,6 +42,10 @@ kind_named word =
 -- CHANNEL
 unfoldable pub is_channel : List ℕ → Bool
 is_channel word = bytes_eq word (codes "event") || bytes_eq word (codes "general")
+
+-- that it is
+unfoldable pub channel_of : List ℕ → Option (Unit {0})
+channel_of word = if is_channel word then Some tt else None
 
 -- LOG, a signed octet
 unfoldable pub octet_log : List ℕ → Option ℤ

@@ -5,7 +5,7 @@ ghost use Rattle.ptu_lines.specs.Words.{words_of};
 ghost use Rattle.ptu_audit_lines.specs.Forms as specs;
 
 use crate::words::{is_channel, kind_of, number_of, octet_log};
-use ptu_lines::{WordList, ip, word};
+use ptu_lines::{WordList, ip};
 
 // Whether the word may stand in this place of a form: a place in upper case tells what stands
 // there, and any other is itself.
@@ -35,9 +35,10 @@ fn is_in_place(place: &[u8], word: &[u8]) -> bool
 fn is_filled(form: &[u8], line: &WordList) -> bool
     ensures { result ≡ specs.fits form.now line.now }
 {
+    let cut = WordList::new(form);
     let mut k = 1;
     'places: loop {
-        match (word(form, k), line.word(k)) {
+        match (cut.word(k), line.word(k)) {
             (None, None) => return true,
             (Some(place), Some(word)) if is_in_place(place, word) => k += 1,
             _ => return false,
@@ -50,12 +51,4 @@ pub fn fits(form: &str, line: &WordList) -> bool
     ensures { result ≡ specs.fits form.now line.now }
 {
     is_filled(form.as_bytes(), line)
-}
-
-/// `Some` if the line has this form, and else `None`: so a reader can leave with `?`.
-#[tactic(auto, unfolding(crate::specs::Forms::fitting))]
-pub fn fitting(form: &str, line: &WordList) -> Option<()>
-    ensures { result ≡ specs.fitting form.now line.now }
-{
-    if fits(form, line) { Some(()) } else { None }
 }

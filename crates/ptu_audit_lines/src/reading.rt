@@ -1,13 +1,14 @@
 //! What a line says, by its form.
 
-ghost use Rattle.std.specs.Prelude.{◌≡◌};
+ghost use Rattle.std.specs.{Prelude.{◌≡◌, true}, Option.{is_some}};
 ghost use Rattle.ptu_audit_lines.specs.Entry as specs;
-ghost use Rattle.ptu_audit_lines.specs.Forms.{fits_one};
+ghost use Rattle.ptu_audit_lines.specs.{Forms.{fits_one}, Words.{field, is_numbered, is_text}};
 
 use crate::entry::{Decision, Entry, ReportLine};
-use crate::forms::{fits, fitting};
+use crate::forms::fits;
 use crate::words::{
-    hex_field, identity_field, ip_field, kind_field, log_field, log_outside_field, number_field,
+    channel_field, hex_field, identity_field, ip_field, kind_field, literal, log_field,
+    log_outside_field, no_word, number_field,
 };
 use ptu_history::Client;
 use ptu_lines::WordList;
@@ -15,13 +16,17 @@ use ptu_units::sizes::LONGEST_DATAGRAM;
 
 #[tactic(auto, unfolding(crate::specs::Entry::granted_in))]
 fn granted(line: &WordList) -> Option<Decision>
+    requires { is_numbered line.now ≡ true }
     ensures { result ≡ specs.granted_in line.now }
 {
-    fitting("NUM granted KIND LOG at NUM until NUM", line)?;
+    literal(line, 2, "granted")?;
     let kind = kind_field(line, 3)?;
     let log = log_field(line, 4, kind)?;
+    literal(line, 5, "at")?;
     let at = number_field(line, 6)?;
+    literal(line, 7, "until")?;
     let until = number_field(line, 8)?;
+    no_word(line, 9)?;
     Some(Decision::Granted {
         kind,
         log,
@@ -32,18 +37,21 @@ fn granted(line: &WordList) -> Option<Decision>
 
 #[tactic(auto, unfolding(crate::specs::Entry::short_in))]
 fn short(line: &WordList) -> Option<Decision>
+    requires { is_numbered line.now ≡ true }
     ensures { result ≡ specs.short_in line.now }
 {
-    fitting(
-        "NUM short KIND LOG at NUM others NUM rate NUM capacity NUM",
-        line,
-    )?;
+    literal(line, 2, "short")?;
     let kind = kind_field(line, 3)?;
     let log = log_field(line, 4, kind)?;
+    literal(line, 5, "at")?;
     let at = number_field(line, 6)?;
+    literal(line, 7, "others")?;
     let others = number_field(line, 8)?;
+    literal(line, 9, "rate")?;
     let rate = number_field(line, 10)?;
+    literal(line, 11, "capacity")?;
     let capacity = number_field(line, 12)?;
+    no_word(line, 13)?;
     Some(Decision::Short {
         kind,
         log,
@@ -56,66 +64,84 @@ fn short(line: &WordList) -> Option<Decision>
 
 #[tactic(auto, unfolding(crate::specs::Entry::outside_type_in))]
 fn outside_type(line: &WordList) -> Option<Decision>
+    requires { is_numbered line.now ≡ true }
     ensures { result ≡ specs.outside_type_in line.now }
 {
-    fitting("NUM outside type NUM", line)?;
+    literal(line, 2, "outside")?;
+    literal(line, 3, "type")?;
     let code = number_field(line, 4)?;
+    no_word(line, 5)?;
     Some(Decision::OutsideType { code })
 }
 
 #[tactic(auto, unfolding(crate::specs::Entry::outside_log_in))]
 fn outside_log(line: &WordList) -> Option<Decision>
+    requires { is_numbered line.now ≡ true }
     ensures { result ≡ specs.outside_log_in line.now }
 {
-    fitting("NUM outside log KIND LOG", line)?;
+    literal(line, 2, "outside")?;
+    literal(line, 3, "log")?;
     let kind = kind_field(line, 4)?;
     let log = log_outside_field(line, 5, kind)?;
+    no_word(line, 6)?;
     Some(Decision::OutsideLog { kind, log })
 }
 
 #[tactic(auto, unfolding(crate::specs::Entry::outside_duration_in))]
 fn outside_duration(line: &WordList) -> Option<Decision>
+    requires { is_numbered line.now ≡ true }
     ensures { result ≡ specs.outside_duration_in line.now }
 {
-    fitting("NUM outside duration KIND LOG NUM", line)?;
+    literal(line, 2, "outside")?;
+    literal(line, 3, "duration")?;
     let kind = kind_field(line, 4)?;
     let log = log_field(line, 5, kind)?;
     let seconds = number_field(line, 6)?;
+    no_word(line, 7)?;
     Some(Decision::OutsideDuration { kind, log, seconds })
 }
 
 #[tactic(auto, unfolding(crate::specs::Entry::cancelled_in))]
 fn cancelled(line: &WordList) -> Option<Decision>
+    requires { is_numbered line.now ≡ true }
     ensures { result ≡ specs.cancelled_in line.now }
 {
-    fitting("NUM cancelled KIND at NUM", line)?;
+    literal(line, 2, "cancelled")?;
     let kind = kind_field(line, 3)?;
+    literal(line, 4, "at")?;
     let at = number_field(line, 5)?;
+    no_word(line, 6)?;
     Some(Decision::Cancelled { kind, at })
 }
 
 #[tactic(auto, unfolding(crate::specs::Entry::nothing_in))]
 fn nothing(line: &WordList) -> Option<Decision>
+    requires { is_numbered line.now ≡ true }
     ensures { result ≡ specs.nothing_in line.now }
 {
-    fitting("NUM nothing KIND at NUM", line)?;
+    literal(line, 2, "nothing")?;
     let kind = kind_field(line, 3)?;
+    literal(line, 4, "at")?;
     let at = number_field(line, 5)?;
+    no_word(line, 6)?;
     Some(Decision::Nothing { kind, at })
 }
 
 #[tactic(auto, unfolding(crate::specs::Entry::nothing_code_in))]
 fn nothing_code(line: &WordList) -> Option<Decision>
+    requires { is_numbered line.now ≡ true }
     ensures { result ≡ specs.nothing_code_in line.now }
 {
-    fitting("NUM nothing NUM", line)?;
+    literal(line, 2, "nothing")?;
     let code = number_field(line, 3)?;
+    no_word(line, 4)?;
     Some(Decision::NothingCode { code })
 }
 
 // A decision on a REQUEST or a CANCEL.
 #[tactic(auto, unfolding(crate::specs::Entry::decision_in))]
 fn decision(line: &WordList) -> Option<Decision>
+    requires { is_numbered line.now ≡ true }
     ensures { result ≡ specs.decision_in line.now }
 {
     if let Some(decision) = granted(line) {
@@ -144,6 +170,7 @@ fn decision(line: &WordList) -> Option<Decision>
 
 #[tactic(auto, unfolding(crate::specs::Entry::decided_in))]
 fn decided<'a>(line: &WordList) -> Option<Entry<'a>>
+    requires { is_numbered line.now ≡ true }
     ensures { result ≡ specs.decided_in line.now }
 {
     Some(Entry::Decided(decision(line)?))
@@ -151,12 +178,15 @@ fn decided<'a>(line: &WordList) -> Option<Entry<'a>>
 
 #[tactic(auto, unfolding(crate::specs::Entry::capacity_in))]
 fn capacity<'a>(line: &WordList) -> Option<Entry<'a>>
+    requires { is_numbered line.now ≡ true }
     ensures { result ≡ specs.capacity_in line.now }
 {
-    fitting("NUM capacity IP NUM at NUM", line)?;
+    literal(line, 2, "capacity")?;
     let grandmaster = ip_field(line, 3)?;
     let capacity = number_field(line, 4)?;
+    literal(line, 5, "at")?;
     let at = number_field(line, 6)?;
+    no_word(line, 7)?;
     Some(Entry::Capacity {
         grandmaster,
         capacity,
@@ -166,28 +196,34 @@ fn capacity<'a>(line: &WordList) -> Option<Entry<'a>>
 
 #[tactic(auto, unfolding(crate::specs::Entry::shed_in))]
 fn shed<'a>(line: &WordList) -> Option<Entry<'a>>
+    requires { is_numbered line.now ≡ true }
     ensures { result ≡ specs.shed_in line.now }
 {
-    fitting("NUM shed KIND LOG IP WORD", line)?;
+    literal(line, 2, "shed")?;
     let kind = kind_field(line, 3)?;
     let log = log_field(line, 4, kind)?;
     let ip = ip_field(line, 5)?;
-    let (clock, port) = identity_field(line, 6)?;
-    Some(Entry::Shed {
-        kind,
-        log,
-        client: Client { ip, clock, port },
-    })
+    no_word(line, 7)?;
+    let identity = identity_field(line, 6)?;
+    let client = Client {
+        ip,
+        clock: identity.0,
+        port: identity.1,
+    };
+    Some(Entry::Shed { kind, log, client })
 }
 
 #[tactic(auto, unfolding(crate::specs::Entry::send_in))]
 fn send<'a>(line: &WordList, buffer: &'a mut [u8; LONGEST_DATAGRAM]) -> Option<Entry<'a>>
+    requires { is_numbered line.now ≡ true }
     ensures { result ≡ specs.send_in line.now }
 {
-    fitting("NUM send NUM IP IP CHANNEL WORD", line)?;
+    literal(line, 2, "send")?;
     let number = number_field(line, 3)?;
     let from = ip_field(line, 4)?;
     let to = ip_field(line, 5)?;
+    channel_field(line, 6)?;
+    no_word(line, 8)?;
     let octets = hex_field(line, 7, buffer)?;
     Some(Entry::Send {
         number,
@@ -197,7 +233,14 @@ fn send<'a>(line: &WordList, buffer: &'a mut [u8; LONGEST_DATAGRAM]) -> Option<E
     })
 }
 
-fn is_node(line: &WordList) -> bool
+// Whether the second word of the line is this name.
+fn is_named(line: &WordList, name: &str) -> bool
+    ensures { result ≡ is_some (field 2 (is_text name.now) line.now) }
+{
+    literal(line, 2, name).is_some()
+}
+
+fn has_node_form(line: &WordList) -> bool
     ensures { result ≡ fits_one specs.node_forms line.now }
 {
     fits("NUM selected IP IP", line)
@@ -205,7 +248,16 @@ fn is_node(line: &WordList) -> bool
         || fits("NUM nobody", line)
 }
 
-fn is_heard(line: &WordList) -> bool
+fn is_node(line: &WordList) -> bool
+    ensures { result ≡ fits_one specs.node_forms line.now }
+{
+    if !is_named(line, "selected") && !is_named(line, "nobody") {
+        return false;
+    }
+    has_node_form(line)
+}
+
+fn has_heard_form(line: &WordList) -> bool
     ensures { result ≡ fits_one specs.heard_forms line.now }
 {
     fits("NUM heard sync IP seq NUM at NUM", line)
@@ -214,7 +266,16 @@ fn is_heard(line: &WordList) -> bool
         || fits("NUM heard follow_up IP at NUM", line)
 }
 
-fn is_answer(line: &WordList) -> bool
+fn is_heard(line: &WordList) -> bool
+    ensures { result ≡ fits_one specs.heard_forms line.now }
+{
+    if !is_named(line, "heard") {
+        return false;
+    }
+    has_heard_form(line)
+}
+
+fn has_answer_form(line: &WordList) -> bool
     ensures { result ≡ fits_one specs.answer_forms line.now }
 {
     fits("NUM answered at NUM", line)
@@ -222,13 +283,31 @@ fn is_answer(line: &WordList) -> bool
         || fits("NUM silent soon at NUM earliest NUM", line)
 }
 
-fn is_grant(line: &WordList) -> bool
+fn is_answer(line: &WordList) -> bool
+    ensures { result ≡ fits_one specs.answer_forms line.now }
+{
+    if !is_named(line, "answered") && !is_named(line, "silent") {
+        return false;
+    }
+    has_answer_form(line)
+}
+
+fn has_grant_form(line: &WordList) -> bool
     ensures { result ≡ fits_one specs.grant_forms line.now }
 {
     fits("NUM grant KIND NUM", line) || fits("NUM denial KIND", line)
 }
 
-fn is_cancel(line: &WordList) -> bool
+fn is_grant(line: &WordList) -> bool
+    ensures { result ≡ fits_one specs.grant_forms line.now }
+{
+    if !is_named(line, "grant") && !is_named(line, "denial") {
+        return false;
+    }
+    has_grant_form(line)
+}
+
+fn has_cancel_form(line: &WordList) -> bool
     ensures { result ≡ fits_one specs.cancel_forms line.now }
 {
     fits("NUM cancel KIND", line)
@@ -237,7 +316,16 @@ fn is_cancel(line: &WordList) -> bool
         || fits("NUM ack NUM", line)
 }
 
-fn is_ignored(line: &WordList) -> bool
+fn is_cancel(line: &WordList) -> bool
+    ensures { result ≡ fits_one specs.cancel_forms line.now }
+{
+    if !is_named(line, "cancel") && !is_named(line, "ack") {
+        return false;
+    }
+    has_cancel_form(line)
+}
+
+fn has_ignored_form(line: &WordList) -> bool
     ensures { result ≡ fits_one specs.ignored_forms line.now }
 {
     fits("NUM ignored type NUM", line)
@@ -247,7 +335,16 @@ fn is_ignored(line: &WordList) -> bool
         || fits("NUM ignored target", line)
 }
 
-fn is_header(line: &WordList) -> bool
+fn is_ignored(line: &WordList) -> bool
+    ensures { result ≡ fits_one specs.ignored_forms line.now }
+{
+    if !is_named(line, "ignored") {
+        return false;
+    }
+    has_ignored_form(line)
+}
+
+fn has_header_form(line: &WordList) -> bool
     ensures { result ≡ fits_one specs.header_forms line.now }
 {
     fits("NUM ignored fault short NUM", line)
@@ -256,7 +353,16 @@ fn is_header(line: &WordList) -> bool
         || fits("NUM ignored fault length NUM NUM", line)
 }
 
-fn is_body(line: &WordList) -> bool
+fn is_header(line: &WordList) -> bool
+    ensures { result ≡ fits_one specs.header_forms line.now }
+{
+    if !is_named(line, "ignored") {
+        return false;
+    }
+    has_header_form(line)
+}
+
+fn has_body_form(line: &WordList) -> bool
     ensures { result ≡ fits_one specs.body_forms line.now }
 {
     fits("NUM ignored fault body NUM NUM", line)
@@ -264,6 +370,15 @@ fn is_body(line: &WordList) -> bool
         || fits("NUM ignored fault tlv NUM short NUM", line)
         || fits("NUM ignored fault tlv NUM overrun NUM NUM", line)
         || fits("NUM ignored fault tlv NUM length NUM NUM", line)
+}
+
+fn is_body(line: &WordList) -> bool
+    ensures { result ≡ fits_one specs.body_forms line.now }
+{
+    if !is_named(line, "ignored") {
+        return false;
+    }
+    has_body_form(line)
 }
 
 // What a slave does.
@@ -294,6 +409,7 @@ fn other<'a>(line: &WordList) -> Option<Entry<'a>>
 // What stands behind the number, where it is no datagram.
 #[tactic(auto, unfolding(crate::specs::Entry::plain_entry_in))]
 fn plain_entry<'a>(line: &WordList) -> Option<Entry<'a>>
+    requires { is_numbered line.now ≡ true }
     ensures { result ≡ specs.plain_entry_in line.now }
 {
     if let Some(decided) = decided(line) {
@@ -311,6 +427,7 @@ fn plain_entry<'a>(line: &WordList) -> Option<Entry<'a>>
 // What stands behind the number.
 #[tactic(auto, unfolding(crate::specs::Entry::entry_of))]
 fn entry<'a>(line: &WordList, buffer: &'a mut [u8; LONGEST_DATAGRAM]) -> Option<Entry<'a>>
+    requires { is_numbered line.now ≡ true }
     ensures { result ≡ specs.entry_of line.now }
 {
     match send(line, buffer) {
@@ -328,13 +445,14 @@ fn numbered<'a>(line: &WordList, buffer: &'a mut [u8; LONGEST_DATAGRAM]) -> Opti
     Some(ReportLine::At { number, entry })
 }
 
-#[tactic(auto, unfolding(crate::specs::Entry::end_in))]
+#[tactic(auto, using(crate::proofs::Fields::end_fits), unfolding(crate::specs::Entry::end_in, crate::specs::Forms::fitting))]
 fn end<'a>(line: &WordList) -> Option<ReportLine<'a>>
     ensures { result ≡ specs.end_in line.now }
 {
-    fitting("end NUM NUM", line)?;
+    literal(line, 1, "end")?;
     let lines = number_field(line, 2)?;
     let datagrams = number_field(line, 3)?;
+    no_word(line, 4)?;
     Some(ReportLine::End { lines, datagrams })
 }
 

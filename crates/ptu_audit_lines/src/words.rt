@@ -1,5 +1,5 @@
 //! The words of a line, each in the form that its place asks for.
-#![tactic(auto, unfolding(crate::specs::Words::field, crate::specs::Words::any_number, crate::specs::Words::kind_named, crate::specs::Words::is_channel, crate::specs::Words::octet_log, crate::specs::Words::log_of_kind, crate::specs::Words::log_outside, crate::specs::Words::hex_of, crate::specs::Words::lower_clock, crate::specs::Words::identity_of))]
+#![tactic(auto, unfolding(crate::specs::Words::field, crate::specs::Words::is_text, crate::specs::Words::no_word, crate::specs::Words::any_number, crate::specs::Words::kind_named, crate::specs::Words::is_channel, crate::specs::Words::channel_of, crate::specs::Words::octet_log, crate::specs::Words::log_of_kind, crate::specs::Words::log_outside, crate::specs::Words::hex_of, crate::specs::Words::lower_clock, crate::specs::Words::identity_of))]
 
 ghost use Rattle.std.specs.Prelude.{◌≡◌, ◌==◌, ◌≤◌, ◌≤ℤ◌, pos, Some, None, IfSome, MatchOption, option_and_then, option_copied, length, take};
 ghost use Rattle.std.specs.{Option.{is_some}, Str.{bytes_eq}};
@@ -10,6 +10,34 @@ ghost use Rattle.ptu_audit_lines.specs.Words as forms;
 use ptu_lines::{LentOctets, WordList, clock, ip, log, number, octets};
 use ptu_units::sizes::LONGEST_DATAGRAM;
 use ptu_units::{Kind, Log};
+
+// `Some` where the word is this text.
+fn is_text(word: &[u8], text: &str) -> Option<()>
+    ensures { result ≡ forms.is_text text.now word.now }
+{
+    if word == text.as_bytes() {
+        Some(())
+    } else {
+        None
+    }
+}
+
+/// `Some` where the word with this number is this text.
+pub fn literal(line: &WordList, k: usize, text: &str) -> Option<()>
+    ensures { result ≡ forms.field k (forms.is_text text.now) line.now }
+{
+    is_text(line.word(k)?, text)
+}
+
+/// `Some` where the line has no word with this number.
+pub fn no_word(line: &WordList, k: usize) -> Option<()>
+    ensures { result ≡ forms.no_word k line.now }
+{
+    match line.word(k) {
+        Some(_) => None,
+        None => Some(()),
+    }
+}
 
 /// The number of at most 19 decimal digits that the word writes, or `None`.
 pub fn number_of(word: &[u8]) -> Option<u64>
@@ -52,6 +80,19 @@ pub fn is_channel(word: &[u8]) -> bool
     ensures { result ≡ forms.is_channel word.now }
 {
     word == "event".as_bytes() || word == "general".as_bytes()
+}
+
+fn channel_of(word: &[u8]) -> Option<()>
+    ensures { result ≡ forms.channel_of word.now }
+{
+    if is_channel(word) { Some(()) } else { None }
+}
+
+/// `Some` where the word with this number is a channel.
+pub fn channel_field(line: &WordList, k: usize) -> Option<()>
+    ensures { result ≡ forms.field k forms.channel_of line.now }
+{
+    channel_of(line.word(k)?)
 }
 
 /// The address that the word with this number is.
