@@ -100,6 +100,9 @@ fn change(gm: &mut Gm<MemPort>, nanos: u64) -> Result<(usize, u64, u64), Fail> {
     Ok(counts)
 }
 
+// The moment of each turn, how many messages are sent, and how many sends fail.
+const TURNS: [(u64, u64, u64); 3] = [(SECOND, 0, 1), (1_999_999_999, 0, 0), (2 * SECOND, 1, 0)];
+
 // A grant of Sync is sent in its periods, of which a failed send spends one, until it is cancelled.
 fn assert_sent_and_cancelled(
     rt: &impl Abort,
@@ -107,14 +110,13 @@ fn assert_sent_and_cancelled(
     gm: &mut Gm<MemPort>,
 ) -> Result<(), Fail> {
     assert!(rt; is_answered(alloc, gm, 0, FIRST, (54, SYNC))?);
-    assert_eq!(rt; gm.count(2), 1);
-    // The moment of each turn, how many messages are sent, and how many sends fail.
-    for (at, sent, failed) in [(SECOND, 0, 1), (1_999_999_999, 0, 0), (2 * SECOND, 1, 0)] {
+    assert!(rt; gm.count(2) == 1);
+    for (at, sent, failed) in TURNS {
         let at = moment(at)?;
-        assert_eq!(rt; gm.turn(2, at), Turned { at, sent, failed });
+        assert!(rt; gm.turn(2, at) == Turned { at, sent, failed });
     }
     assert!(rt; is_answered(alloc, gm, SECOND, FIRST, (50, "000600020000"))?);
-    assert_eq!(rt; gm.count(2), 0);
+    assert!(rt; gm.count(2) == 0);
     Ok(())
 }
 
@@ -123,7 +125,7 @@ fn a_failed_send_spends_its_period(rt: HostRuntime) -> Result<(), Fail> {
     let alloc = rt.alloc();
     let mut gm = grandmaster(alloc, vec![in alloc; 1]?, Vec::new(alloc));
     let done = assert_sent_and_cancelled(&rt, alloc, &mut gm);
-    assert_eq!(rt; close(gm), ([0; 4], 0, 1, 0));
+    assert!(rt; close(gm) == ([0; 4], 0, 1, 0));
     done
 }
 
@@ -131,7 +133,7 @@ fn a_failed_send_spends_its_period(rt: HostRuntime) -> Result<(), Fail> {
 fn assert_shed(rt: &impl Abort, alloc: Global, gm: &mut Gm<MemPort>) -> Result<(), Fail> {
     assert!(rt; is_answered(alloc, gm, 0, FIRST, (54, ANNOUNCE))?);
     assert!(rt; is_answered(alloc, gm, SECOND, SECOND_CLIENT, (54, ANNOUNCE))?);
-    assert_eq!(rt; change(gm, 2 * SECOND)?, (1, 1, 0));
+    assert!(rt; change(gm, 2 * SECOND)? == (1, 1, 0));
     assert!(rt; is_answered(alloc, gm, 2 * SECOND, SECOND_CLIENT, (54, ANNOUNCE))?);
     Ok(())
 }
@@ -141,7 +143,7 @@ fn a_close_counts_what_is_held_granted_and_refused(rt: HostRuntime) -> Result<()
     let alloc = rt.alloc();
     let mut gm = grandmaster(alloc, Vec::new(alloc), Vec::new(alloc));
     let done = assert_shed(&rt, alloc, &mut gm);
-    assert_eq!(rt; close(gm), ([0, 0, 8, 0], 8, 2, 1));
+    assert!(rt; close(gm) == ([0, 0, 8, 0], 8, 2, 1));
     done
 }
 
@@ -157,10 +159,10 @@ fn is_delay_failed(alloc: Global, gm: &mut Gm<MemPort>) -> Result<bool, Fail> {
 // A reply, a Delay_Resp and the CANCEL of a change fail, and what was decided stands.
 fn assert_failures(rt: &impl Abort, alloc: Global, gm: &mut Gm<MemPort>) -> Result<(), Fail> {
     assert!(rt; !is_answered(alloc, gm, 0, FIRST, (54, DELAY_RESP))?);
-    assert_eq!(rt; gm.count(2), 1);
+    assert!(rt; gm.count(2) == 1);
     assert!(rt; is_delay_failed(alloc, gm)?);
-    assert_eq!(rt; change(gm, 2 * SECOND)?, (1, 0, 1));
-    assert_eq!(rt; gm.count(2), 0);
+    assert!(rt; change(gm, 2 * SECOND)? == (1, 0, 1));
+    assert!(rt; gm.count(2) == 0);
     Ok(())
 }
 
@@ -170,7 +172,7 @@ fn failed_sends_are_told(rt: HostRuntime) -> Result<(), Fail> {
     let alloc = rt.alloc();
     let mut gm = grandmaster(alloc, vec![in alloc; 1]?, vec![in alloc; 1, 2]?);
     let done = assert_failures(&rt, alloc, &mut gm);
-    assert_eq!(rt; close(gm), ([0; 4], 0, 1, 0));
+    assert!(rt; close(gm) == ([0; 4], 0, 1, 0));
     done
 }
 
@@ -223,6 +225,6 @@ fn a_driven_grandmaster_counts_its_messages(rt: HostRuntime) -> Result<(), Fail>
         cancelled,
         turn(third),
     ];
-    assert_eq!(rt; sent_over(alloc, 16, &events)?, 2);
+    assert!(rt; sent_over(alloc, 16, &events)? == 2);
     Ok(())
 }

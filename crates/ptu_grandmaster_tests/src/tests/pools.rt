@@ -4,14 +4,6 @@ use ptu_shard::samples::CONFIG;
 use std::alloc::Global;
 use std::test::Fail;
 
-fn pool(net: u32, bits: u8, capacity: u64) -> Pool {
-    Pool {
-        net,
-        bits,
-        capacity,
-    }
-}
-
 // Pools of a grandmaster of this capacity.
 fn made(
     alloc: Global,
@@ -32,50 +24,88 @@ fn made(
     Ok(Pools::new(alloc, CONFIG, capacity, pools, ports))
 }
 
+// A pool within the capacity of 17, a second one, and one of all addresses.
+const FIRST: Pool = Pool {
+    net: 0x0a00_0100,
+    bits: 24,
+    capacity: 8,
+};
+
+const SECOND: Pool = Pool {
+    net: 0x0a00_0200,
+    ..FIRST
+};
+
+const ALL: Pool = Pool {
+    net: 0,
+    bits: 0,
+    capacity: 8,
+};
+
+// One within the second, one whose address has bits behind its net, one of more bits than an
+// address has, and two of addresses of their own.
+const WITHIN: Pool = Pool {
+    net: 0x0a00_0201,
+    bits: 32,
+    capacity: 1,
+};
+
+const BEHIND: Pool = Pool {
+    net: 0x0a00_0301,
+    bits: 24,
+    capacity: 1,
+};
+
+const TOO_LONG: Pool = Pool {
+    net: 0,
+    bits: 33,
+    capacity: 1,
+};
+
+const OVER: Pool = Pool {
+    net: 0x0a00_0300,
+    bits: 24,
+    capacity: 2,
+};
+
+const LAST: Pool = Pool {
+    capacity: 1,
+    ..OVER
+};
+
+const CASES: [([Pool; 3], Option<PoolsFault>); 7] = [
+    (
+        [FIRST, SECOND, ALL],
+        Some(PoolsFault::Overlap {
+            first: 0,
+            second: 2,
+        }),
+    ),
+    (
+        [FIRST, ALL, ALL],
+        Some(PoolsFault::Overlap {
+            first: 0,
+            second: 1,
+        }),
+    ),
+    (
+        [FIRST, SECOND, WITHIN],
+        Some(PoolsFault::Overlap {
+            first: 1,
+            second: 2,
+        }),
+    ),
+    ([FIRST, SECOND, BEHIND], Some(PoolsFault::Net { at: 2 })),
+    ([FIRST, TOO_LONG, ALL], Some(PoolsFault::Net { at: 1 })),
+    ([FIRST, SECOND, OVER], Some(PoolsFault::Over { sum: 18 })),
+    ([FIRST, SECOND, LAST], None),
+];
+
 // Which pools are at fault, and their sum: of these a report has the cause alone.
 #[test]
 fn pools_are_refused(rt: HostRuntime) -> Result<(), Fail> {
-    let alloc = rt.alloc();
-    let (first, second) = (pool(0x0a00_0100, 24, 8), pool(0x0a00_0200, 24, 8));
-    let all = pool(0, 0, 8);
-    let cases = [
-        (
-            [first, second, all],
-            Some(PoolsFault::Overlap {
-                first: 0,
-                second: 2,
-            }),
-        ),
-        (
-            [first, all, all],
-            Some(PoolsFault::Overlap {
-                first: 0,
-                second: 1,
-            }),
-        ),
-        (
-            [first, second, pool(0x0a00_0201, 32, 1)],
-            Some(PoolsFault::Overlap {
-                first: 1,
-                second: 2,
-            }),
-        ),
-        (
-            [first, second, pool(0x0a00_0301, 24, 1)],
-            Some(PoolsFault::Net { at: 2 }),
-        ),
-        (
-            [first, pool(0, 33, 1), all],
-            Some(PoolsFault::Net { at: 1 }),
-        ),
-        (
-            [first, second, pool(0x0a00_0300, 24, 2)],
-            Some(PoolsFault::Over { sum: 18 }),
-        ),
-        ([first, second, pool(0x0a00_0300, 24, 1)], None),
-    ];
-    for (pools, fault) in cases {
-        assert_eq!(rt; made(alloc, 17, &pools)?.err(), fault);
+    for (pools, fault) in CASES {
+        assert_eq!(rt; made(rt.alloc(), 17, &pools)?.err(), fault);
     }
     Ok(())
 }

@@ -48,25 +48,48 @@ const ONE_MASTER: &str = "\
     slave 10.0.2.1 0a00000000000021 1 4 60 3 3 4 4 - 300\n\
     master 10.0.2.1 10.0.0.1 1 flag\n";
 
-fn done(lines: u64, datagrams: u64, granted: u64, refused: u64) -> Done {
-    Done {
-        lines,
-        datagrams,
-        granted,
-        refused,
-    }
-}
+// What each comes to.
+const ANSWERS: [(&str, Result<Done, LabFault>); 4] = [
+    (
+        FULL_TABLE,
+        Ok(Done {
+            lines: 4,
+            datagrams: 3,
+            granted: 2,
+            refused: 1,
+        }),
+    ),
+    (
+        EACH_DEED,
+        Ok(Done {
+            lines: 5,
+            datagrams: 4,
+            granted: 1,
+            refused: 1,
+        }),
+    ),
+    (
+        THREE_IN_EACH,
+        Ok(Done {
+            lines: 4,
+            datagrams: 3,
+            granted: 9,
+            refused: 0,
+        }),
+    ),
+    (
+        ONE_MASTER,
+        Err(LabFault::Line {
+            number: 3,
+            cause: Cause::Stock,
+        }),
+    ),
+];
 
 #[test]
 fn a_replay_answers_what_it_came_to(rt: HostRuntime) -> Result<(), Fail> {
     let alloc = rt.alloc();
-    let cause = Cause::Stock;
-    for (script, answer) in [
-        (FULL_TABLE, Ok(done(4, 3, 2, 1))),
-        (EACH_DEED, Ok(done(5, 4, 1, 1))),
-        (THREE_IN_EACH, Ok(done(4, 3, 9, 0))),
-        (ONE_MASTER, Err(LabFault::Line { number: 3, cause })),
-    ] {
+    for (script, answer) in ANSWERS {
         let mut source = MemSource::new(script.as_bytes().to_vec(alloc)?, Vec::new(alloc));
         let mut sink = MemSink::new(alloc, Vec::new(alloc));
         let found = replay(alloc, &mut source, &mut sink, Stock::empty(alloc));

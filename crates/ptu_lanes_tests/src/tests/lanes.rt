@@ -73,7 +73,7 @@ fn round<L: Rates, G: Ledger, R: Ledger, W: Wait + Abort>(
 ) -> Control
     requires { L.parts ≡ 4 }
 {
-    assert_eq!(rt; seats.len(), 1);
+    assert!(rt; seats.len() == 1);
     let seat = &mut seats[0];
     assert!(rt; seat.granted() <= 1 << 47 && seat.refused() <= 1 << 47);
     let mut clock = MemClock::new(Vec::new(alloc));
@@ -97,10 +97,10 @@ fn ask_once<L: Rates, G: Ledger, R: Ledger, W: Wait + Abort>(
         sent: 1,
         failed: 0,
     };
-    assert_eq!(rt; round(rt, alloc, shared, seats, port), sent);
+    assert!(rt; round(rt, alloc, shared, seats, port) == sent);
     let reply = port.sent(0).expect(rt, "a reply is sent");
-    assert_eq!(rt; (reply.0, reply.1), (TWO.ip, Channel::General));
-    assert_eq!(rt; reply.2, grant);
+    assert!(rt; (reply.0, reply.1) == (TWO.ip, Channel::General));
+    assert!(rt; reply.2 == grant);
     assert!(rt; port.sent(1).is_none());
 }
 
@@ -119,7 +119,7 @@ fn ask_in_vain<L: Rates, G: Ledger, R: Ledger, W: Wait + Abort>(
         sent: 0,
         failed: 1,
     };
-    assert_eq!(rt; round(rt, alloc, shared, seats, failing), failed);
+    assert!(rt; round(rt, alloc, shared, seats, failing) == failed);
     assert!(rt; failing.sent(0).is_none());
 }
 
@@ -173,7 +173,7 @@ fn grant_four<L: Rates, G: Ledger, R: Ledger, W: Wait + Abort>(
 )
     requires { L.parts ≡ 4 }
 {
-    assert_eq!(rt; seats.len(), 1);
+    assert!(rt; seats.len() == 1);
     let seat = &mut seats[0];
     grant(rt, shared, seat, &ZERO, 0);
     grant(rt, shared, seat, &ONE, 0);
@@ -197,18 +197,18 @@ fn answer_and_turn<L: Rates, G: Ledger, R: Ledger, W: Wait + Abort>(
         failed: 0,
         missed: 0,
     };
-    assert_eq!(rt; answered, sent);
+    assert!(rt; answered == sent);
     assert!(rt; port.sent(0).is_none());
     let turned = turn_round(rt, shared, &CONFIG, &mut clock, 1, 2);
-    assert_eq!(rt; turned, Sends { sent: 1, failed: 0 });
+    assert!(rt; turned == Sends { sent: 1, failed: 0 });
     Ok(())
 }
 
 // One datagram was sent at the port.
 fn check_one(rt: &impl Abort, port: &MemPort, ip: u32, channel: Channel, bytes: &[u8]) {
     let first = port.sent(0).expect(rt, "a datagram is sent");
-    assert_eq!(rt; (first.0, first.1), (ip, channel));
-    assert_eq!(rt; first.2, bytes);
+    assert!(rt; (first.0, first.1) == (ip, channel));
+    assert!(rt; first.2 == bytes);
     assert!(rt; port.sent(1).is_none());
 }
 

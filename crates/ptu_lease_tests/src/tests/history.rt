@@ -37,10 +37,14 @@ fn is_same_kind(a: Kind, b: Kind) -> bool
 #[test]
 fn clients_in_order(rt: HostRuntime) {
     let middle = client(5, 5, 5);
-    assert_eq!(rt; compare(&middle, &client(6, 0, 0)), Ordering::Less);
-    assert_eq!(rt; compare(&middle, &client(5, 4, 9)), Ordering::Greater);
-    assert_eq!(rt; compare(&middle, &client(5, 5, 6)), Ordering::Less);
-    assert!(rt; is_same(&middle, &client(5, 5, 5)));
-    assert_eq!(rt; compare_kinds(Kind::Sync, Kind::DelayResp), Ordering::Less);
-    assert!(rt; !is_same_kind(Kind::Announce, Kind::Sync));
+    let found = (
+        compare(&middle, &client(6, 0, 0)),
+        compare(&middle, &client(5, 4, 9)),
+        compare(&middle, &client(5, 5, 6)),
+        compare_kinds(Kind::Sync, Kind::DelayResp),
+        is_same(&middle, &client(5, 5, 5)),
+        is_same_kind(Kind::Announce, Kind::Sync),
+    );
+    let (less, greater) = (Ordering::Less, Ordering::Greater);
+    assert_eq!(rt; found, (less, greater, less, less, true, false));
 }

@@ -32,8 +32,8 @@ fn empty_table(alloc: Global) -> Shard<MemPort> {
 fn put_one(rt: &impl Abort, shard: &mut Shard<MemPort>) -> Result<(), Fail> {
     shard.reserve(1)?;
     let lease = fresh_lease()?;
-    assert_eq!(rt; shard.held(), 0);
-    assert_eq!(rt; rate(lease.log), 16);
+    assert!(rt; shard.held() == 0);
+    assert!(rt; rate(lease.log) == 16);
     shard.put(TWO, Kind::Announce, lease);
     Ok(())
 }
@@ -47,10 +47,13 @@ fn assert_turns(
     for &(nanos, sent, failed) in turns {
         let at = moment(nanos)?;
         let turned = shard.turn(&CONFIG, at);
-        assert_eq!(rt; turned, Turned { at, sent, failed });
+        assert!(rt; turned == Turned { at, sent, failed });
     }
     Ok(())
 }
+
+// Of a table whose first send fails.
+const TURNS: [(u64, u64, u64); 3] = [(SECOND, 0, 1), (1_999_999_999, 0, 0), (2 * SECOND, 1, 0)];
 
 fn assert_fails_once(
     rt: &impl Abort,
@@ -58,18 +61,14 @@ fn assert_fails_once(
     shard: &mut Shard<MemPort>,
 ) -> Result<(), Fail> {
     put_one(rt, shard)?;
-    let turns = [(SECOND, 0, 1), (1_999_999_999, 0, 0), (2 * SECOND, 1, 0)];
-    assert_turns(rt, shard, &turns)?;
+    assert_turns(rt, shard, &TURNS)?;
     let announce = hex::decode(
         alloc,
         "0b120040040004000000000000000000000000000a0000000000000100010001057f\
          000000000002000000000000008054feffff800a000000000000010000a0",
     )?;
-    assert_eq!(rt; shard.held(), 16);
-    assert_eq!(rt;
-        shard.port().sent(0),
-        Some((TWO.ip, Channel::General, announce.as_slice()))
-    );
+    assert!(rt; shard.held() == 16);
+    assert!(rt; shard.port().sent(0) == Some((TWO.ip, Channel::General, announce.as_slice())));
     Ok(())
 }
 
@@ -121,10 +120,10 @@ fn idle_turns(rt: &impl Abort, shard: &mut Shard<MemPort>) -> Result<(), Fail> {
     for number in 0..20_000 {
         keep(rt, shard, &row_of(number, Kind::Announce, 4, 16 * SECOND)?)?;
     }
-    assert_eq!(rt; shard.count(), 20_000);
+    assert!(rt; shard.count() == 20_000);
     for at in 1..10_000_001 {
         let turned = shard.turn(&CONFIG, moment(at)?);
-        assert_eq!(rt; turned.sent, 0);
+        assert!(rt; turned.sent == 0);
     }
     Ok(())
 }
@@ -225,16 +224,13 @@ fn same_steps(
     shard.port().reserve(1000, 1000 * 64)?;
     for step in 0..400 {
         same_step(rt, shard, rows, ips, step)?;
-        assert_eq!(rt; shard.count(), rows.len());
+        assert!(rt; shard.count() == rows.len());
     }
     for row in rows.iter() {
-        assert_eq!(rt; shard.lease(&row.client, row.kind), Some(row.lease));
+        assert!(rt; shard.lease(&row.client, row.kind) == Some(row.lease));
     }
     for index in 0..ips.len() {
-        assert_eq!(rt;
-            shard.port().sent(index).map(|sent| sent.0),
-            Some(ips[index])
-        );
+        assert!(rt; shard.port().sent(index).map(|sent| sent.0) == Some(ips[index]));
     }
     assert!(rt; shard.port().sent(ips.len()).is_none());
     Ok(())

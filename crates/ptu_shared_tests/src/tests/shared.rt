@@ -153,10 +153,10 @@ impl<L: Rates, G: Ledger, R: Ledger> Site<L, G, R> {
     {
         let resized = self.shared.resize(rt, at, 8);
         let resized = resized.expect(rt, "memory is found");
-        assert_eq!(rt; resized.at, at);
+        assert!(rt; resized.at == at);
         let shed = resized.shed.list();
-        assert_eq!(rt; shed.len(), 1);
-        assert_eq!(rt; (shed[0].client, shed[0].kind), (client, Kind::Announce));
+        assert!(rt; shed.len() == 1);
+        assert!(rt; (shed[0].client, shed[0].kind) == (client, Kind::Announce));
     }
 
     fn take_step(&mut self, rt: &(impl Wait + Abort), t: u64, step: Step)
@@ -168,25 +168,25 @@ impl<L: Rates, G: Ledger, R: Ledger> Site<L, G, R> {
             Step::Ask(place, client, kind, told) => {
                 assert!(rt; place < self.seats.len());
                 let seat = &mut self.seats[place];
-                assert_eq!(rt; ask(rt, &self.shared, seat, t, &client, kind), told);
+                assert!(rt; ask(rt, &self.shared, seat, t, &client, kind) == told);
             }
             Step::Counts(place, granted, refused) => {
                 assert!(rt; place < self.seats.len());
                 let seat = &self.seats[place];
-                assert_eq!(rt; (seat.granted(), seat.refused()), (granted, refused));
+                assert!(rt; (seat.granted(), seat.refused()) == (granted, refused));
             }
             Step::Turn(table, sent) => {
                 assert!(rt; table < 4);
-                assert_eq!(rt; turn(rt, &self.shared, table, t), (sent, 0));
+                assert!(rt; turn(rt, &self.shared, table, t) == (sent, 0));
             }
-            Step::Answers => assert_eq!(rt; self.delay(rt, at), Answered::Sent { at }),
-            Step::MeetsNoGrant => assert_eq!(rt; self.delay(rt, at), Answered::NoGrant { at }),
+            Step::Answers => assert!(rt; self.delay(rt, at) == Answered::Sent { at }),
+            Step::MeetsNoGrant => assert!(rt; self.delay(rt, at) == Answered::NoGrant { at }),
             Step::ComesTooSoon(earliest) => {
-                assert_eq!(rt; self.delay(rt, at), Answered::TooSoon { at, earliest });
+                assert!(rt; self.delay(rt, at) == Answered::TooSoon { at, earliest });
             }
             Step::Cancel(ended) => {
                 let cancelled = self.shared.cancel(rt, at, &TWO, Kind::Announce);
-                assert_eq!(rt; cancelled.ended, ended);
+                assert!(rt; cancelled.ended == ended);
             }
             Step::Shed(client) => self.shed(rt, at, client),
         }
@@ -221,14 +221,14 @@ impl<L: Rates, G: Ledger, R: Ledger> Site<L, G, R> {
         let Err(fault) = shared.close(seats) else {
             panic!(rt; "a seat is missing")
         };
-        assert_eq!(rt; (fault.granted, fault.refused), all);
-        assert_eq!(rt; (fault.seats_granted, fault.seats_refused), others);
+        assert!(rt; (fault.granted, fault.refused) == all);
+        assert!(rt; (fault.seats_granted, fault.seats_refused) == others);
         let CloseFault {
             shared,
             mut seats,
             ..
         } = fault;
-        assert_eq!(rt; seats.len(), left);
+        assert!(rt; seats.len() == left);
         seats.push(missing).expect(rt, "memory is found");
         Site { shared, seats }.close(rt)
     }
@@ -249,11 +249,11 @@ impl<L: Rates, G: Ledger, R: Ledger> Site<L, G, R> {
                 site.close(rt)
             }
         };
-        assert_eq!(rt; closed.counts, course.shares);
+        assert!(rt; closed.counts == course.shares);
         let [s0, s1, s2, s3] = course.shares;
         let total = s0.saturating_add(s1).saturating_add(s2).saturating_add(s3);
-        assert_eq!(rt; closed.total, total);
-        assert_eq!(rt; (closed.granted, closed.refused), all);
+        assert!(rt; closed.total == total);
+        assert!(rt; (closed.granted, closed.refused) == all);
     }
 }
 
@@ -373,7 +373,7 @@ where
     let (a, b) = ask_at_once(rt, &site.shared, &mut site.seats);
     assert!(rt; (a == GRANTED) != (b == GRANTED));
     let closed = site.close(rt);
-    assert_eq!(rt; (closed.total, closed.granted, closed.refused), (8, 1, 1));
+    assert!(rt; (closed.total, closed.granted, closed.refused) == (8, 1, 1));
 }
 
 #[test]

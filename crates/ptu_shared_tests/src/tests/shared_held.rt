@@ -214,7 +214,7 @@ impl<L: Rates + Sync, G: Ledger + Sync, R: Ledger + Sync> Held<'_, '_, L, G, R> 
         requires most { 64 ≤ L.most }
     {
         let Some(call) = call else {
-            assert_eq!(rt; self.turn_beside(rt), (1, 0));
+            assert!(rt; self.turn_beside(rt) == (1, 0));
             return;
         };
         let _ = thread::join(
@@ -243,7 +243,7 @@ impl<L: Rates + Sync, G: Ledger + Sync, R: Ledger + Sync> Held<'_, '_, L, G, R> 
         let other = seats.pop().expect(rt, "there are two seats");
         for client in [ZERO, ONE] {
             let told = ask(rt, self.shared, &mut seat, 0, &client, (SYNC, 0));
-            assert_eq!(rt; told, GRANTED);
+            assert!(rt; told == GRANTED);
         }
         let (turned, ()) = thread::join(
             rt,
@@ -252,7 +252,7 @@ impl<L: Rates + Sync, G: Ledger + Sync, R: Ledger + Sync> Held<'_, '_, L, G, R> 
                 requires { (L.parts ≡ 4) × (64 ≤ L.most) }
             { self.go_on_beside(rt, call, other, seat) },
         );
-        assert_eq!(rt; turned, (1, 0));
+        assert!(rt; turned == (1, 0));
         assert!(rt; !self.gate.is_late(), "the ask went on");
     }
 }

@@ -129,8 +129,8 @@ fn assert_output(
     let mut sink = MemSink::new(alloc, Vec::new(alloc));
     sink.reserve(128)?;
     assert!(rt; has_judges(settings, &stock));
-    assert_eq!(rt; slave(alloc, settings, host, &mut sink, stock), Ok(()));
-    assert_eq!(rt; sink.bytes(), output.as_bytes());
+    assert!(rt; slave(alloc, settings, host, &mut sink, stock) == Ok(()));
+    assert!(rt; sink.bytes() == output.as_bytes());
     assert_asked(rt, alloc, host)
 }
 
@@ -138,10 +138,7 @@ fn assert_output(
 fn assert_asked(rt: &impl Abort, alloc: Global, host: &MemHost) -> Result<(), Fail> {
     let ask = hex::decode(alloc, ASK)?;
     let back = host.back().ok_or("given back")?;
-    assert_eq!(rt;
-        back.p4.sent(0),
-        Some((MASTER, Channel::General, ask.as_slice()))
-    );
+    assert!(rt; back.p4.sent(0) == Some((MASTER, Channel::General, ask.as_slice())));
     assert!(rt; back.p4.sent(1).is_none());
     Ok(())
 }

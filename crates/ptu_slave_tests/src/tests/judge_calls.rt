@@ -16,7 +16,7 @@ use std::rc::Rc;
 use std::test::Fail;
 
 // What a judge is called for.
-#[derive(Clone, Copy, Debug, PartialEq)]
+#[derive(Clone, Copy, PartialEq)]
 enum Call {
     Sync(u16),
     Told(bool),
@@ -114,16 +114,16 @@ fn a_judge_is_called_once_for_each_event(rt: HostRuntime) -> Result<(), Fail> {
     slave.flag(at, 0, true);
     slave.tick(later);
     drop(slave);
-    assert_eq!(rt;
-        calls.get(),
-        [
-            Some(Call::Sync(7)),
-            Some(Call::Asked),
-            Some(Call::Told(true)),
-            Some(Call::Asked),
-            Some(Call::Asked),
-            None
-        ]
+    assert!(rt;
+        calls.get()
+            == [
+                Some(Call::Sync(7)),
+                Some(Call::Asked),
+                Some(Call::Told(true)),
+                Some(Call::Asked),
+                Some(Call::Asked),
+                None
+            ]
     );
     Ok(())
 }
@@ -138,10 +138,7 @@ fn a_judge_that_takes_over_is_asked_once(rt: HostRuntime) -> Result<(), Fail> {
     let (former_calls, mut slave) = slave_of_listing(alloc)?;
     slave.set_judge(at, 0, judge);
     drop(slave);
-    assert_eq!(rt; former_calls.get(), [None; 6]);
-    assert_eq!(rt;
-        calls.get(),
-        [Some(Call::Asked), None, None, None, None, None]
-    );
+    assert!(rt; former_calls.get() == [None; 6]);
+    assert!(rt; calls.get() == [Some(Call::Asked), None, None, None, None, None]);
     Ok(())
 }

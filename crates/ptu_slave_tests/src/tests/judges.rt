@@ -20,33 +20,28 @@ fn finds(rt: &impl Abort, judge: &mut GapJudge, syncs: &[(u16, bool)]) {
     }
 }
 
+// The numbers of Syncs, and whether the master is found unusable after each.
+const RUN_OVER: [(u16, bool); 5] = [
+    (65535, false),
+    (0, false),
+    (2, true),
+    (1, false),
+    (40000, false),
+];
+
+// The first number is 16 behind: it shows no place, and coming again makes all forgotten.
+const FORGOTTEN: [(u16, bool); 5] = [
+    (100, false),
+    (116, true),
+    (101, false),
+    (100, false),
+    (115, false),
+];
+
 #[test]
 fn numbers_run_over_and_are_forgotten(rt: HostRuntime) {
-    let mut judge = GapJudge::new(1);
-    finds(
-        &rt,
-        &mut judge,
-        &[
-            (65535, false),
-            (0, false),
-            (2, true),
-            (1, false),
-            (40000, false),
-        ],
-    );
-    let mut patient = GapJudge::new(15);
-    // The first number is 16 behind: it shows no place, and coming again makes all forgotten.
-    finds(
-        &rt,
-        &mut patient,
-        &[
-            (100, false),
-            (116, true),
-            (101, false),
-            (100, false),
-            (115, false),
-        ],
-    );
+    finds(&rt, &mut GapJudge::new(1), &RUN_OVER);
+    finds(&rt, &mut GapJudge::new(15), &FORGOTTEN);
 }
 
 fn tell(judge: &mut Box<dyn Judge>, now: Moment, unusable: bool)
@@ -77,15 +72,16 @@ fn tell_and_ask(judge: &mut Box<dyn Judge>, unusable: bool) -> bool
 fn boxed_judges_answer_by_their_rule(rt: HostRuntime) -> Result<(), Fail> {
     let alloc = rt.alloc();
     let mut flag: Box<dyn Judge> = Box::new(alloc, FlagJudge::new())?;
-    assert_eq!(rt; flag.rule(), Some(Rule::Flag));
-    assert_eq!(rt; tell_and_ask(&mut flag, true), true);
-    assert_eq!(rt; tell_and_ask(&mut flag, false), false);
+    let found = (
+        tell_and_ask(&mut flag, true),
+        tell_and_ask(&mut flag, false),
+    );
+    assert_eq!(rt; (flag.rule(), found), (Some(Rule::Flag), (true, false)));
     let gap: Box<dyn Judge> = Box::new(alloc, GapJudge::new(4))?;
-    assert_eq!(rt; gap.rule(), Some(Rule::Gap(4)));
+    assert!(rt; gap.rule() == Some(Rule::Gap(4)));
     let dropped = Rc::new(alloc, Cell::new(false))?;
     let mut own: Box<dyn Judge> = Box::new(alloc, OwnJudge::new(dropped))?;
-    assert_eq!(rt; own.rule(), None);
-    assert_eq!(rt; tell_and_ask(&mut own, true), false);
-    assert_eq!(rt; tell_and_ask(&mut own, false), true);
+    let found = (tell_and_ask(&mut own, true), tell_and_ask(&mut own, false));
+    assert_eq!(rt; (own.rule(), found), (None, (false, true)));
     Ok(())
 }

@@ -4,10 +4,12 @@ use ptu_record::{Quality, quality_of};
 // never selected. It refuses a level that is none, and one that is another.
 #[test]
 fn quality_levels(rt: HostRuntime) {
-    assert_eq!(rt; quality_of(110), Some(Quality::Dnu));
-    assert_eq!(rt; quality_of(6), None);
-    assert_eq!(rt; quality_of(255), None);
-    assert_eq!(rt; Quality::SsuA.class(), 90);
-    assert!(rt; Quality::Prc.is_better_than(Quality::SsuA));
-    assert!(rt; !Quality::Dnu.is_usable());
+    let levels = (quality_of(110), quality_of(6), quality_of(255));
+    assert_eq!(rt; levels, (Some(Quality::Dnu), None, None));
+    let found = (
+        Quality::SsuA.class(),
+        Quality::Prc.is_better_than(Quality::SsuA),
+        Quality::Dnu.is_usable(),
+    );
+    assert_eq!(rt; found, (90, true, false));
 }

@@ -92,9 +92,13 @@ fn assert_choices(
     for &(nanos, selected) in looks {
         take_between(rt, &mut kept, priorities.len(), pairs, from, nanos / SECOND);
         from = nanos / SECOND + 1;
-        assert_eq!(rt; choice(rt, alloc, priorities, pairs, nanos), selected);
-        assert_eq!(rt; kept.select(at(rt, nanos)), selected);
-        assert_eq!(rt; kept.select(at(rt, nanos)), selected);
+        let fresh = choice(rt, alloc, priorities, pairs, nanos);
+        let found = [
+            fresh,
+            kept.select(at(rt, nanos)),
+            kept.select(at(rt, nanos)),
+        ];
+        assert_eq!(rt; found, [selected; 3], "at {nanos}");
     }
 }
 
@@ -178,7 +182,7 @@ fn the_state_of_one_master(rt: HostRuntime) {
         waiting: false,
         quality: Some(Quality::SsuB),
     };
-    assert_eq!(rt; selector.state(at(&rt, SECOND), 1), unusable);
+    assert!(rt; selector.state(at(&rt, SECOND), 1) == unusable);
     assert!(rt; selector.state(at(&rt, SECOND), 0).loss_announce);
 }
 
@@ -189,6 +193,6 @@ fn ten_million_looks_at_one_choice(rt: HostRuntime) {
     selector.announce(start, 7, 84);
     selector.sync(start, 7);
     for _ in 0..10_000_000 {
-        assert_eq!(rt; selector.select(start), Some(7));
+        assert!(rt; selector.select(start) == Some(7));
     }
 }

@@ -90,7 +90,7 @@ fn play(
         Row::Announce => hex::decode(alloc, ANNOUNCE)?,
         Row::Sync(seq) => sync(alloc, seq)?,
         Row::Selects(place) => {
-            assert_eq!(rt; slave.selected(at), place, "at {nanos}");
+            assert!(rt; slave.selected(at) == place, "at {nanos}");
             return Ok(());
         }
     };
@@ -169,7 +169,7 @@ fn judges_are_asked_and_replaced(rt: HostRuntime) -> Result<(), Fail> {
     assert!(rt; !dropped.get());
     slave.set_judge(at, 0, gap);
     assert!(rt; dropped.get());
-    assert_eq!(rt; slave.selected(at), Some(0));
+    assert!(rt; slave.selected(at) == Some(0));
     drop(slave);
     Ok(())
 }

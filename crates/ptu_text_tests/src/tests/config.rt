@@ -48,13 +48,16 @@ fn rounds_are_repeated(rt: HostRuntime) -> Result<(), Fail> {
 #[test]
 fn settings_of_a_slave(rt: HostRuntime) -> Result<(), Fail> {
     let settings = slave_settings(rt.alloc(), SLAVE.as_bytes())?;
-    assert_eq!(rt;
-        (settings.ip, settings.clock),
-        (0x7F00_0001, 0x0A00_0000_0000_0011)
+    let values = (
+        settings.ip,
+        settings.clock,
+        settings.wait_to_restore,
+        settings.duration,
+        settings.log_delay,
     );
-    assert_eq!(rt; (settings.rounds, settings.repeat), (1, 1));
-    assert_eq!(rt; (settings.wait_to_restore, settings.duration), (300, 300));
-    assert_eq!(rt; settings.log_delay, Log::of(Kind::DelayResp, 0));
+    assert!(rt; (settings.rounds, settings.repeat) == (1, 1));
+    let log = Log::of(Kind::DelayResp, 0);
+    assert_eq!(rt; values, (0x7F00_0001, 0x0A00_0000_0000_0011, 300, 300, log));
     let master = MasterSetting {
         ip: 0x0A00_0001,
         priority: 128,

@@ -73,28 +73,31 @@ fn pieces_of_any_size_give_the_same_lines(rt: HostRuntime) -> Result<(), Fail> {
         let mut source = Pieces { source, size };
         let mut lines = Lines::new(alloc, &mut source)?;
         let (texts, fault) = record(alloc, &mut lines)?;
-        assert_eq!(rt; texts.as_slice(), b"gm 1||# two|turn 3|last|".as_slice());
-        assert_eq!(rt; fault, None);
+        let wanted = b"gm 1||# two|turn 3|last|".as_slice();
+        assert_eq!(rt; (texts.as_slice(), fault), (wanted, None));
     }
     Ok(())
 }
+
+// A read that fails, and the number of lines that were read whole. Octets 5, 6, 12 and 19 end a
+// line, and each read gives three octets; the ninth is at the end.
+const FAILING: [(u64, u64); 9] = [
+    (1, 0),
+    (2, 0),
+    (3, 2),
+    (4, 2),
+    (5, 3),
+    (6, 3),
+    (7, 3),
+    (8, 4),
+    (9, 4),
+];
 
 #[test]
 fn a_failed_read_comes_after_the_lines_read_whole(rt: HostRuntime) -> Result<(), Fail> {
     let alloc = rt.alloc();
     let text = b"gm 1\n\n# two\nturn 3\nlast";
-    // Octets 5, 6, 12 and 19 end a line, and each read gives three octets; the ninth is at the end.
-    for (call, whole) in [
-        (1, 0),
-        (2, 0),
-        (3, 2),
-        (4, 2),
-        (5, 3),
-        (6, 3),
-        (7, 3),
-        (8, 4),
-        (9, 4),
-    ] {
+    for (call, whole) in FAILING {
         let source = MemSource::new(text.to_vec(alloc)?, vec![in alloc; call]?);
         let mut source = Pieces { source, size: 3 };
         let mut lines = Lines::new(alloc, &mut source)?;
@@ -110,45 +113,41 @@ fn nothing_is_read_behind_the_end(rt: HostRuntime) -> Result<(), Fail> {
     for text in ["gm 1\nlast", "gm 1\nlast\n"] {
         let mut source = MemSource::new(text.as_bytes().to_vec(alloc)?, vec![in alloc; 3]?);
         let mut lines = Lines::new(alloc, &mut source)?;
-        assert_eq!(rt; last_number(&mut lines), (2, None));
-        assert_eq!(rt; lines.next(), Ok(None));
+        let last = last_number(&mut lines);
+        assert_eq!(rt; (last, lines.next()), ((2, None), Ok(None)));
     }
     Ok(())
 }
+
+// The words of `rx  1 ` by their numbers.
+const WORDS: [Option<&str>; 6] = [None, Some("rx"), Some(""), Some("1"), Some(""), None];
 
 #[test]
 fn words_stand_between_spaces(rt: HostRuntime) {
     let line = b"rx  1 ";
     let words = WordList::new(line);
-    assert_eq!(rt; words.count(), 4);
-    assert_eq!(rt; words.word(0), None);
-    assert_eq!(rt; words.word(1), Some(b"rx".as_slice()));
-    assert_eq!(rt; words.word(2), Some(b"".as_slice()));
-    assert_eq!(rt; words.word(3), Some(b"1".as_slice()));
-    assert_eq!(rt; words.word(4), Some(b"".as_slice()));
-    assert_eq!(rt; words.word(5), None);
-    assert_eq!(rt; word(line, 1), Some(b"rx".as_slice()));
-    assert_eq!(rt; word(line, 5), None);
+    assert!(rt; words.count() == 4);
+    for (k, wanted) in WORDS.iter().enumerate() {
+        let wanted = wanted.map(str::as_bytes);
+        assert_eq!(rt; (words.word(k), word(line, k)), (wanted, wanted));
+    }
     // Those behind the sixteenth are found, too.
     let line = b"1 2 3 4 5 6 7 8 9 10 11 12 13 14 15 16 17 18";
     let words = WordList::new(line);
-    assert_eq!(rt; words.count(), 18);
-    assert_eq!(rt; words.word(18), Some(b"18".as_slice()));
+    assert!(rt; words.count() == 18 && words.word(18) == Some(b"18"));
     for k in [1, 15, 16, 17, 18, 19] {
-        assert_eq!(rt; words.word(k), word(line, k));
+        assert!(rt; words.word(k) == word(line, k), "word {k}");
     }
 }
 
 // Of numbers, logarithms and octets, those that no report shows.
 #[test]
 fn words_have_their_values(rt: HostRuntime) {
-    assert_eq!(rt;
-        number(b"9999999999999999999", 0, u64::MAX),
-        Some(9_999_999_999_999_999_999)
-    );
-    assert_eq!(rt; number(b"23", 4, 23), Some(23));
-    assert_eq!(rt; log(b"-128", -128, 127), Some(-128));
+    let greatest = number(b"9999999999999999999", 0, u64::MAX);
+    let values = (greatest, number(b"23", 4, 23), log(b"-128", -128, 127));
+    let wanted = (Some(9_999_999_999_999_999_999), Some(23), Some(-128));
+    assert_eq!(rt; values, wanted);
     let mut out = [0; 2048];
-    assert_eq!(rt; octets(b"0aFF", &mut out), Some(2));
-    assert_eq!(rt; [out[0], out[1], out[2]], [10, 255, 0]);
+    let size = octets(b"0aFF", &mut out);
+    assert_eq!(rt; (size, [out[0], out[1], out[2]]), (Some(2), [10, 255, 0]));
 }

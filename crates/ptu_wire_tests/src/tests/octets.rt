@@ -5,12 +5,26 @@ use ptu_octets::{
 #[test]
 fn numbers_stand_in_their_octets(rt: HostRuntime) {
     let octets = [0x0a, 0x00, 0x00, 0x00, 0x00, 0x0f, 0x42, 0x40, 0xff];
-    assert_eq!(rt; u16_at(&octets, 6), 0x4240);
-    assert_eq!(rt; u32_at(&octets, 4), 1_000_000);
-    assert_eq!(rt; u48_at(&octets, 3), 0x0f_4240ff);
-    assert_eq!(rt; u64_at(&octets, 0), 0x0a00_0000_000f_4240);
-    assert_eq!(rt; i16_at(&octets, 7), 0x40ff);
-    assert_eq!(rt; i64_at(&octets, 1), 0x0f_4240ff);
-    assert_eq!(rt; (high_nibble(&octets, 7), low_nibble(&octets, 0)), (4, 10));
+    let read = (
+        u16_at(&octets, 6),
+        u32_at(&octets, 4),
+        u48_at(&octets, 3),
+        u64_at(&octets, 0),
+        i16_at(&octets, 7),
+        i64_at(&octets, 1),
+        high_nibble(&octets, 7),
+        low_nibble(&octets, 0),
+    );
+    let wanted = (
+        0x4240,
+        1_000_000,
+        0x0f_4240ff,
+        0x0a00_0000_000f_4240,
+        0x40ff,
+        0x0f_4240ff,
+        4,
+        10,
+    );
+    assert_eq!(rt; read, wanted);
     assert_eq!(rt; u48_octets(0x0f_4240ff), [0, 0, 0x0f, 0x42, 0x40, 0xff]);
 }

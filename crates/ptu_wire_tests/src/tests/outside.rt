@@ -12,19 +12,23 @@ fn a_source_gives_and_a_sink_keeps_and_both_fail_where_listed(rt: HostRuntime) -
     let alloc = rt.alloc();
     let mut source = MemSource::new(vec![in alloc; 1, 2, 3]?, vec![in alloc; 2]?);
     let mut buf = [0; 2];
-    assert_eq!(rt; source.read(&mut buf), Ok(2));
-    assert_eq!(rt; buf, [1, 2]);
-    assert_eq!(rt; source.read(&mut buf), Err(Failed));
-    assert_eq!(rt; source.read(&mut buf), Ok(1));
-    assert_eq!(rt; buf[0], 3);
-    assert_eq!(rt; source.read(&mut buf), Ok(0));
+    assert_eq!(rt; (source.read(&mut buf), buf), (Ok(2), [1, 2]));
+    let failed = source.read(&mut buf);
+    let last = (source.read(&mut buf), buf[0]);
+    assert_eq!(rt;
+        (failed, last, source.read(&mut buf)),
+        (Err(Failed), (Ok(1), 3), Ok(0))
+    );
     let mut sink = MemSink::new(alloc, vec![in alloc; 2]?);
-    assert_eq!(rt; sink.reserve(8), Ok(()));
-    assert_eq!(rt; write_whole(&mut sink, b"ab"), Ok(()));
-    assert_eq!(rt; write_whole(&mut sink, b"cd"), Err(Failed));
-    assert_eq!(rt; write_whole(&mut sink, b"ef"), Ok(()));
-    assert_eq!(rt; sink.bytes(), b"abef".as_slice());
-    assert_eq!(rt; sink.into_bytes().as_slice(), b"abef".as_slice());
+    assert!(rt; sink.reserve(8).is_ok());
+    let written = [
+        write_whole(&mut sink, b"ab"),
+        write_whole(&mut sink, b"cd"),
+        write_whole(&mut sink, b"ef"),
+    ];
+    assert_eq!(rt; written, [Ok(()), Err(Failed), Ok(())]);
+    assert!(rt; sink.bytes() == b"abef".as_slice());
+    assert!(rt; sink.into_bytes().as_slice() == b"abef".as_slice());
     Ok(())
 }
 
@@ -76,13 +80,13 @@ fn a_text_is_handed_over_whole_and_then_what_is_left_of_it(rt: HostRuntime) {
         pieces: Vec::new(alloc),
         is_telling: true,
     };
-    assert_eq!(rt; write_whole(&mut sink, b"abcde"), Ok(()));
-    assert_eq!(rt; write_whole(&mut sink, b""), Ok(()));
-    assert!(rt; sink.is_telling);
-    assert_eq!(rt; sink.pieces.len(), 3);
-    assert_eq!(rt; sink.pieces[0].as_slice(), b"abcde".as_slice());
-    assert_eq!(rt; sink.pieces[1].as_slice(), b"cde".as_slice());
-    assert_eq!(rt; sink.pieces[2].as_slice(), b"e".as_slice());
+    assert!(rt; write_whole(&mut sink, b"abcde").is_ok());
+    assert!(rt; write_whole(&mut sink, b"").is_ok() && sink.is_telling);
+    assert!(rt; sink.pieces.len() == 3);
+    let wanted = ["abcde", "cde", "e"];
+    for (piece, wanted) in sink.pieces.iter().zip(wanted) {
+        assert_eq!(rt; piece.as_slice(), wanted.as_bytes());
+    }
 }
 
 // A reader and a writer that are interrupted at first, and then give or take one octet a call, to
@@ -138,16 +142,15 @@ fn an_interrupted_call_is_tried_again(rt: HostRuntime) {
         is_full: false,
     });
     let mut buf = [0; 4];
-    assert_eq!(rt; source.read(&mut buf), Ok(1));
-    assert_eq!(rt; buf[0], 1);
-    assert_eq!(rt; source.read(&mut buf), Err(Failed));
+    let first = (source.read(&mut buf), buf[0]);
+    assert_eq!(rt; (first, source.read(&mut buf)), ((Ok(1), 1), Err(Failed)));
     let mut sink = StdSink::new(Slow {
         calls: 0,
         end: 4,
         is_full: false,
     });
-    assert_eq!(rt; write_whole(&mut sink, b"abc"), Ok(()));
-    assert_eq!(rt; write_whole(&mut sink, b"d"), Err(Failed));
+    let written = (write_whole(&mut sink, b"abc"), write_whole(&mut sink, b"d"));
+    assert_eq!(rt; written, (Ok(()), Err(Failed)));
 }
 
 #[test]
@@ -157,6 +160,5 @@ fn a_writer_that_takes_nothing_of_a_piece_is_a_fault(rt: HostRuntime) {
         end: 0,
         is_full: true,
     });
-    assert_eq!(rt; sink.write(b""), Ok(0));
-    assert_eq!(rt; sink.write(b"a"), Err(Failed));
+    assert_eq!(rt; (sink.write(b""), sink.write(b"a")), (Ok(0), Err(Failed)));
 }

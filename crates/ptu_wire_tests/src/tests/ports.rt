@@ -17,20 +17,15 @@ fn send_to<P: Port>(port: &mut P, bytes: &[u8]) -> Result<(), Failed> {
 fn a_port_keeps_what_is_sent_and_fails_where_listed(rt: HostRuntime) -> Result<(), Fail> {
     let alloc = rt.alloc();
     let mut port = MemPort::new(alloc, Vec::new(alloc), vec![in alloc; 2]?, Vec::new(alloc));
-    assert_eq!(rt; port.reserve(2, 5), Ok(()));
-    assert_eq!(rt; send_to(&mut port, b"ab"), Ok(()));
-    assert_eq!(rt;
-        Sends::of(send_to(&mut port, b"x")),
-        Sends { sent: 0, failed: 1 }
-    );
-    assert_eq!(rt; port.send(7, Channel::Event, b"cde"), Ok(()));
-    let first = port.sent(0).ok_or("first")?;
-    assert_eq!(rt; (first.0, first.1), (0x0a00_0001, Channel::General));
-    assert_eq!(rt; first.2, b"ab".as_slice());
-    let second = port.sent(1).ok_or("second")?;
-    assert_eq!(rt; (second.0, second.1), (7, Channel::Event));
-    assert_eq!(rt; second.2, b"cde".as_slice());
-    assert!(rt; port.sent(2).is_none());
+    assert!(rt; port.reserve(2, 5).is_ok());
+    assert!(rt; send_to(&mut port, b"ab").is_ok());
+    let second = Sends::of(send_to(&mut port, b"x"));
+    assert_eq!(rt; second, Sends { sent: 0, failed: 1 });
+    assert!(rt; port.send(7, Channel::Event, b"cde").is_ok());
+    let first = (0x0a00_0001, Channel::General, b"ab".as_slice());
+    let second = (7, Channel::Event, b"cde".as_slice());
+    let sent = [port.sent(0), port.sent(1), port.sent(2)];
+    assert_eq!(rt; sent, [Some(first), Some(second), None]);
     port.clear();
     assert!(rt; port.sent(0).is_none());
     Ok(())
@@ -49,12 +44,15 @@ fn a_port_gives_what_waits_in_order(rt: HostRuntime) -> Result<(), Fail> {
     let waiting = vec![in alloc; arrival(alloc, 1, b"ab")?, arrival(alloc, 2, b"cd")?]?;
     let mut port = MemPort::new(alloc, waiting, Vec::new(alloc), vec![in alloc; 2]?);
     let mut buf = [0; 2048];
-    assert_eq!(rt; port.receive(&mut buf), Ok(Some((1, 2))));
-    assert_eq!(rt; buf[..2], b"ab"[..]);
-    assert_eq!(rt; port.receive(&mut buf), Err(Failed));
-    assert_eq!(rt; port.receive(&mut buf), Ok(Some((2, 2))));
-    assert_eq!(rt; buf[..2], b"cd"[..]);
-    assert_eq!(rt; port.receive(&mut buf), Ok(None));
+    let first = (port.receive(&mut buf), [buf[0], buf[1]]);
+    assert_eq!(rt; first, (Ok(Some((1, 2))), *b"ab"));
+    let second = (
+        port.receive(&mut buf),
+        port.receive(&mut buf),
+        [buf[0], buf[1]],
+    );
+    assert_eq!(rt; second, (Err(Failed), Ok(Some((2, 2))), *b"cd"));
+    assert!(rt; port.receive(&mut buf) == Ok(None));
     Ok(())
 }
 
@@ -68,11 +66,9 @@ fn a_clock_answers_its_last_moment_again(rt: HostRuntime) -> Result<(), Fail> {
     let five = Moment::of(5).ok_or("five")?;
     let three = Moment::of(3).ok_or("three")?;
     let mut clock = MemClock::new(vec![in alloc; five, three]?);
-    assert_eq!(rt; nanos(&mut clock), 5);
-    assert_eq!(rt; nanos(&mut clock), 3);
-    assert_eq!(rt; nanos(&mut clock), 3);
+    let told = [nanos(&mut clock), nanos(&mut clock), nanos(&mut clock)];
     let mut empty = MemClock::new(Vec::new(alloc));
-    assert_eq!(rt; nanos(&mut empty), 0);
+    assert_eq!(rt; (told, nanos(&mut empty)), ([5, 3, 3], 0));
     Ok(())
 }
 
@@ -86,18 +82,18 @@ fn open_and_close<H: Host>(host: &mut H) -> Result<(), Failed> {
 fn a_host_opens_once_and_takes_back(rt: HostRuntime) {
     let alloc = rt.alloc();
     let mut host = MemHost::new(opened_with(alloc, idle_port(alloc)), false);
-    assert!(rt; host.back().is_none());
-    assert_eq!(rt; host.opened_at(), None);
-    assert!(rt; open_and_close(&mut host).is_ok());
-    assert!(rt; host.back().is_some());
+    let before = (host.back().is_none(), host.opened_at());
+    assert_eq!(rt; before, (true, None));
     let endpoint = Endpoint {
         ip: 0x7f00_0001,
         event_port: 319,
         general_port: 320,
     };
-    assert_eq!(rt; host.opened_at(), Some(endpoint));
+    let opened = open_and_close(&mut host).is_ok();
+    let after = (opened, host.back().is_some(), host.opened_at());
+    assert_eq!(rt; after, (true, true, Some(endpoint)));
     assert!(rt; open_and_close(&mut host).is_err());
     let mut failing = MemHost::new(opened_with(alloc, idle_port(alloc)), true);
-    assert!(rt; open_and_close(&mut failing).is_err());
-    assert_eq!(rt; failing.opened_at(), None);
+    let opened = open_and_close(&mut failing).is_ok();
+    assert_eq!(rt; (opened, failing.opened_at()), (false, None));
 }
