@@ -20,24 +20,36 @@ trail_of-push g before act false is =
 pub trail_own : (before : List Act) (act : Act) → trail_of act.grandmaster (before ++ act ∷ []) ≡ trail_with (trail_of act.grandmaster before) act
 trail_own before act = trail_of-push act.grandmaster before act true (eq-eqb act.grandmaster act.grandmaster refl)
 
--- the trail of the act's grandmaster is this one, and the others are as before
-pub kept_more : (capacity : ℕ) (before : List Act) (act : Act) (trail : Trail) (old mid new : ℕ → Option Trail)
-    → ((q : ℕ) → is_eq (nat_cmp act.grandmaster q) ≡ false → mid q ≡ old q)
-    → ((q : ℕ) → new q ≡ cond (is_eq (nat_cmp act.grandmaster q)) (Some trail) (mid q))
+-- the trail of the act's grandmaster has it, and the others are as before
+pub kept_more : (capacity : ℕ) (before : List Act) (act : Act) (old new : ℕ → Option Trail)
+    → ((q : ℕ) → is_eq (nat_cmp act.grandmaster q) ≡ false → new q ≡ old q)
     → ((q : ℕ) → IsKept capacity (old q) (trail_of q before))
-    → IsTrail capacity trail (trail_with (trail_of act.grandmaster before) act)
+    → IsKept capacity (new act.grandmaster) (trail_with (trail_of act.grandmaster before) act)
     → (q : ℕ) → IsKept capacity (new q) (trail_of q (before ++ act ∷ []))
-kept_more capacity before act trail old mid new others updates kept own q =
+kept_more capacity before act old new others kept own q =
     at (eqb act.grandmaster q) refl
   where
     at : (b : Bool) → eqb act.grandmaster q ≡ b → IsKept capacity (new q) (trail_of q (before ++ act ∷ []))
     at true is =
-        subst (λ o. IsKept capacity o (trail_of q (before ++ act ∷ []))) (sym (updates q ∙ ap (λ b. cond b (Some trail) (mid q)) (cmp_same act.grandmaster q ∙ is)))
-        (subst (λ h. IsTrail capacity trail h) (sym (trail_of-push q before act true is))
-        (subst (λ p. IsTrail capacity trail (trail_with (trail_of p before) act)) (eqb-true act.grandmaster q is) own))
+        subst (IsKept capacity (new q)) (sym (trail_of-push q before act true is))
+        (subst (λ p. IsKept capacity (new p) (trail_with (trail_of p before) act)) (eqb-true act.grandmaster q is) own)
     at false is =
-        subst (λ o. IsKept capacity o (trail_of q (before ++ act ∷ []))) (sym (updates q ∙ ap (λ b. cond b (Some trail) (mid q)) (cmp_same act.grandmaster q ∙ is) ∙ others q (cmp_same act.grandmaster q ∙ is)))
+        subst (λ o. IsKept capacity o (trail_of q (before ++ act ∷ []))) (sym (others q (cmp_same act.grandmaster q ∙ is)))
         (subst (IsKept capacity (old q)) (sym (trail_of-push q before act false is)) (kept q))
+
+-- a map that has this trail there has it
+pub there_now : (grandmaster : ℕ) (trail : Trail) (old new : ℕ → Option Trail)
+    → ((q : ℕ) → new q ≡ cond (is_eq (nat_cmp grandmaster q)) (Some trail) (old q))
+    → new grandmaster ≡ Some trail
+there_now grandmaster trail old new updates =
+    updates grandmaster ∙ ap (λ b. cond b (Some trail) (old grandmaster)) (cmp_same grandmaster grandmaster ∙ eq-eqb grandmaster grandmaster refl)
+
+-- and the others as before
+pub others_now : (grandmaster : ℕ) (trail : Trail) (old new : ℕ → Option Trail)
+    → ((q : ℕ) → new q ≡ cond (is_eq (nat_cmp grandmaster q)) (Some trail) (old q))
+    → (q : ℕ) → is_eq (nat_cmp grandmaster q) ≡ false → new q ≡ old q
+others_now grandmaster trail old new updates q differs =
+    updates q ∙ ap (λ b. cond b (Some trail) (old q)) differs
 
 zero_plus : (n : ℕ) → 0 + n ≡ n
 zero_plus n = omega arith

@@ -7,10 +7,11 @@ ghost use Rattle.ptu_audit.specs.Audited.{AnswerIsWritten, IsAnswer, IsKept};
 ghost use Rattle.ptu_audit.specs.Reading.{audit_rules, opening};
 
 use crate::answer::{Answer, AuditFault};
-use crate::auditor::Auditor;
+use crate::auditor::{Auditor, ReportReader};
 use ptu_outside::{Sink, Source};
 use ptu_report::{RunFault, run};
 use ptu_trail::laws::{faultless_so_far, faultless_trails};
+use ptu_units::sizes::LONGEST_DATAGRAM;
 use std::alloc::Global;
 
 /// Audits the report that the source has left, whose grandmasters begin with this capacity, in
@@ -50,9 +51,13 @@ pub fn audit<S: Source, K: Sink>(
     // A trail without a fault is sound.
     faultless_so_far();
     faultless_trails();
-    let mut auditor = Auditor::new(alloc, capacity);
-    match run(alloc, &mut auditor, source, sink) {
-        Ok(_) => match auditor.answer() {
+    let auditor = Auditor::new(alloc, capacity);
+    let mut reader = ReportReader {
+        auditor,
+        room: [0; LONGEST_DATAGRAM],
+    };
+    match run(alloc, &mut reader, source, sink) {
+        Ok(_) => match reader.auditor.answer() {
             Ok(answer) => Ok(answer),
             Err(_) => Err(RunFault::OutOfMemory),
         },

@@ -209,14 +209,21 @@ impl Auditor {
     }
 }
 
-impl Reporter for Auditor {
+/// An auditor, and the room that is kept for the octets of a line.
+#[derive(Drop)]
+pub(crate) struct ReportReader {
+    pub(crate) auditor: Auditor,
+    pub(crate) room: [u8; LONGEST_DATAGRAM],
+}
+
+impl Reporter for ReportReader {
     type Meaning = ReadingSoFar;
 
     type Cause = AuditCause;
 
     ghost rules = { audit_rules };
 
-    ghost stands_for = { StandsFor };
+    ghost stands_for = { λ reader. StandsFor reader.auditor };
 
     #[tactic(auto, unfolding(crate::specs::Reading::audit_rules))]
     fn take(
@@ -226,17 +233,16 @@ impl Reporter for Auditor {
         line: &[u8],
         _: &mut Texts,
     ) -> Result<Option<AuditCause>, OutOfMemory> {
-        let mut buffer = [0; LONGEST_DATAGRAM];
         // (a report has at most 67108864 lines, so the number of each fits 32 bits)
-        match read_line(line, &mut buffer) {
+        match read_line(line, &mut self.room) {
             None => Ok(Some(AuditCause::Form)),
             Some(
                 ReportLine::At {
                     number: script,
                     entry,
                 },
-            ) => self.take_entry(number as u32, script, &entry),
-            Some(ReportLine::End { .. }) => Ok(self.take_end()),
+            ) => self.auditor.take_entry(number as u32, script, &entry),
+            Some(ReportLine::End { .. }) => Ok(self.auditor.take_end()),
         }
     }
 
@@ -247,10 +253,10 @@ impl Reporter for Auditor {
         _: u64,
         texts: &mut Texts,
     ) -> Result<Option<AuditCause>, OutOfMemory> {
-        if !self.ended {
+        if !self.auditor.ended {
             return Ok(Some(AuditCause::End));
         }
-        let answer = self.answer()?;
+        let answer = self.auditor.answer()?;
         texts.add_text(&answer)?;
         Ok(None)
     }

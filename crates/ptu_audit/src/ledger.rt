@@ -99,20 +99,29 @@ impl Ledger {
         }
     }
 
-    // Takes the grandmaster's trail out, or a new one.
-    fn take_out(&mut self, grandmaster: u32) -> Trail
-        ensures stands { (history : List Record) →
+    // Adds what was done to the grandmaster's trail, where that stands, or to a new one: its first
+    // fault, or none.
+    fn add(&mut self, grandmaster: u32, deed: &Deed) -> Result<Option<Fault>, OutOfMemory>
+        ensures fault { IfOk result (λ fault. (history : List Record) →
             IsKept self.old.capacity (get nat_cmp self.old.trails grandmaster) history →
-            IsTrail self.old.capacity result history }
+            fault ≡ first_fault self.old.capacity history (records_of history deed.now)) }
+        ensures stands { IfOk result (λ fault. IfNone fault ((history : List Record) →
+            IsKept self.old.capacity (get nat_cmp self.old.trails grandmaster) history →
+            IsKept self.old.capacity (get nat_cmp self.new.trails grandmaster)
+            (history ++ records_of history deed.now))) }
         ensures others { (other : ℕ) → is_eq (nat_cmp grandmaster other) ≡ false →
             get nat_cmp self.new.trails other ≡ get nat_cmp self.old.trails other }
         ensures same { (self.new.capacity ≡ self.old.capacity)
             × (self.new.granted ≡ self.old.granted) × (self.new.sent ≡ self.old.sent) }
+        ensures place { IfOk result (λ fault. IfSome fault (λ f. f.place < 2 ^ 63)) }
     {
-        match self.trails.remove(&grandmaster) {
-            Some(trail) => trail,
-            None => Trail::new(self.alloc, self.capacity),
+        if let Some(trail) = self.trails.get_mut(&grandmaster) {
+            return put(trail, deed);
         }
+        let mut trail = Trail::new(self.alloc, self.capacity);
+        let fault = put(&mut trail, deed)?;
+        self.trails.insert(grandmaster, trail)?;
+        Ok(fault)
     }
 
     // Adds an act to its grandmaster's trail: its first fault, or none.
@@ -124,9 +133,7 @@ impl Ledger {
         ensures capacity { self.new.capacity ≡ self.old.capacity }
         ensures place { IfOk result (λ fault. IfSome fault (λ f. f.place < 2 ^ 63)) }
     {
-        let mut trail = self.take_out(act.grandmaster);
-        let fault = put(&mut trail, &act.deed)?;
-        self.trails.insert(act.grandmaster, trail)?;
+        let fault = self.add(act.grandmaster, &act.deed)?;
         self.count(&act.deed);
         Ok(fault)
     }

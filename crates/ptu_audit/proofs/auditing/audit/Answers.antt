@@ -13,7 +13,7 @@ returns-in-Ok-answer-clause-exact g c = λ input is.
     let reported = rw c.in-Ok.is at (c.run.ensures.whole (opening c.args.capacity) c.new-auditor.ensures input is) in
     let read = whole_read (opening c.args.capacity) 0 _ (script_lines input) (sym reported.ends) in
     let last = (rw c.in-Ok.is at c.run.ensures.last) (opening c.args.capacity) c.new-auditor.ensures input is in
-    (read.last.lines, lines_are c.args.capacity input read c.run.new.reporter c.in-Ok-answer.answer c.in-Ok-answer.ensures.answer last, answer_is c.args.capacity input read c.run.new.reporter c.in-Ok-answer.answer c.in-Ok-answer.ensures.answer last)
+    (read.last.lines, lines_are c.args.capacity input read c.run.new.reporter.auditor c.in-Ok-answer.answer c.in-Ok-answer.ensures.answer last, answer_is c.args.capacity input read c.run.new.reporter.auditor c.in-Ok-answer.answer c.in-Ok-answer.ensures.answer last)
 
 pub returns-in-Ok-answer-clause-promises : goal.returns-in-Ok-answer-clause-promises
 returns-in-Ok-answer-clause-promises g c = λ input is.
@@ -22,8 +22,8 @@ returns-in-Ok-answer-clause-promises g c = λ input is.
     let last = (rw c.in-Ok.is at c.run.ensures.last) (opening c.args.capacity) c.new-auditor.ensures input is in
     let laws = c.faultless_so_far.ensures in
     answer_kept (record { none = laws.none; one_more = laws.one_more; change = laws.change; first = laws.first }) c.faultless_trails.ensures.promises c.args.capacity input read.last.lines c.in-Ok-answer.answer
-    (lines_are c.args.capacity input read c.run.new.reporter c.in-Ok-answer.answer c.in-Ok-answer.ensures.answer last) (read.in_range tt)
-    (answer_is c.args.capacity input read c.run.new.reporter c.in-Ok-answer.answer c.in-Ok-answer.ensures.answer last)
+    (lines_are c.args.capacity input read c.run.new.reporter.auditor c.in-Ok-answer.answer c.in-Ok-answer.ensures.answer last) (read.in_range tt)
+    (answer_is c.args.capacity input read c.run.new.reporter.auditor c.in-Ok-answer.answer c.in-Ok-answer.ensures.answer last)
 
 pub returns-in-Ok-answer-clause-written : goal.returns-in-Ok-answer-clause-written
 returns-in-Ok-answer-clause-written g c = λ input is.
@@ -31,7 +31,7 @@ returns-in-Ok-answer-clause-written g c = λ input is.
     let read = whole_read (opening c.args.capacity) 0 _ (script_lines input) (sym reported.ends) in
     let last = (rw c.in-Ok.is at c.run.ensures.last) (opening c.args.capacity) c.new-auditor.ensures input is in
     subst (HasPut g.K.Sink.written g.K.Sink.handed c.args.sink.now c.run.new.sink)
-    (read.texts ∙ ap (λ a. answer_text a ∷ []) (sym (told c.args.capacity input read c.run.new.reporter c.in-Ok-answer.answer c.in-Ok-answer.ensures.answer last)))
+    (read.texts ∙ ap (λ a. answer_text a ∷ []) (sym (told c.args.capacity input read c.run.new.reporter.auditor c.in-Ok-answer.answer c.in-Ok-answer.ensures.answer last)))
     reported.put
 
 pub returns-clause-exact : goal.returns-clause-exact

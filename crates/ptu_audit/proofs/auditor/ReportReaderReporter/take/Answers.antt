@@ -1,6 +1,6 @@
 use Rattle.std.proofs.Common.{◌∙◌, Some, ap, sym}
 use Rattle.ptu_audit.specs.Reading.{audit_rules}
-use Rattle.ptu_audit.proofs.auditor.AuditorReporter.take.Goals as goal
+use Rattle.ptu_audit.proofs.auditor.ReportReaderReporter.take.Goals as goal
 
 pub returns-in-Some-End : goal.returns-in-Some-End
 unfolding audit_rules
