@@ -30,7 +30,7 @@ use Rattle.ptu_gm_messages.specs.Deciding.{answer_to, client_of, decisions_of, o
 use Rattle.ptu_gm_messages.specs.Replies.{cancels_to, identity_of, lease_of, signaling_of, signaling_to}
 use Rattle.ptu_grandmaster.specs.declared.driving.GmEvent.{GmEvent}
 use Rattle.ptu_grandmaster.specs.declared.driving.GmEvent.TheVariants.{Take, Turn, Class, Capacity}
-use Rattle.ptu_lanes.specs.Rounds.{Exchange, replies, reply_if_any, reply_in, reply_with}
+use Rattle.ptu_lanes.specs.Rounds.{Exchange, answers_of, replies, reply_if_any, reply_in, reply_with}
 use Rattle.ptu_daemon.specs.Sends.{Standing, event_sends, heard_sends, sends_by, standing_after}
 use Rattle.ptu_twostep.specs.{Pairs.{step_at}, Steps.{has_two_steps, step_by, step_read, step_of}}
 use Rattle.ptu_twostep.specs.declared.step.Step.TheVariants.{OneStepSync, TwoStepSync, FollowUp, Other}
@@ -172,4 +172,4 @@ whole_with config from (Err reason) answers = tt
 pub whole_replies : (config : GmConfig) (exchanges : List Exchange) → AreWhole (replies config exchanges)
 whole_replies config [] = tt
 whole_replies config (exchange ∷ exchanges) =
-    whole_both (reply_in config exchange) _ (whole_with config _ (heard_in config exchange.datagram.bytes) exchange.answers) (whole_replies config exchanges)
+    whole_both (reply_in config exchange) _ (whole_with config _ (heard_in config exchange.datagram.bytes) (answers_of exchange)) (whole_replies config exchanges)
