@@ -83,7 +83,7 @@ lines_at() {
 
 test_edges() {
     local key least most value lines
-    holds "docs/FORMATS.md has the ranges of twelve keys" [ "$(ranges | wc -l)" -eq 12 ]
+    holds "docs/FORMATS.md has the ranges of thirteen keys" [ "$(ranges | wc -l)" -eq 13 ]
     while read -r key least most; do
         for value in "$least" "$most"; do
             lines_at "$key" "$value"

@@ -3,11 +3,11 @@ use Rattle.std.proofs.Common.{◌≡◌, ℕ, List, [], ◌∷◌, Option, Some,
 use Rattle.std.specs.Prelude.{find, bytes_eq}
 use Rattle.std.proofs.lemmas.Option.{same_Some}
 use Rattle.ptu_config.specs.declared.key.Key.{Key}
-use Rattle.ptu_config.specs.declared.key.Key.TheVariants.{Ip, EventPort, GeneralPort, Clock, Port, Domain, Rounds, Class, Capacity, MaxDuration, Epoch, Senders, ChangeRound, NewCapacity, TwoStep, WaitToRestore, AnnounceTimeout, SyncTimeout, DelayTimeout, LogAnnounce, LogSync, LogDelay, Duration, Masters}
+use Rattle.ptu_config.specs.declared.key.Key.TheVariants.{Ip, EventPort, GeneralPort, Clock, Port, Domain, Rounds, Repeat, Class, Capacity, MaxDuration, Epoch, Senders, ChangeRound, NewCapacity, TwoStep, WaitToRestore, AnnounceTimeout, SyncTimeout, DelayTimeout, LogAnnounce, LogSync, LogDelay, Duration, Masters}
 use Rattle.ptu_config.specs.Key.{name_of}
 
 abbrev pub all_keys : List Key
-all_keys = Ip ∷ EventPort ∷ GeneralPort ∷ Clock ∷ Port ∷ Domain ∷ Rounds ∷ Class ∷ Capacity
+all_keys = Ip ∷ EventPort ∷ GeneralPort ∷ Clock ∷ Port ∷ Domain ∷ Rounds ∷ Repeat ∷ Class ∷ Capacity
     ∷ MaxDuration ∷ Epoch ∷ Senders ∷ ChangeRound ∷ NewCapacity ∷ TwoStep ∷ WaitToRestore
     ∷ AnnounceTimeout ∷ SyncTimeout ∷ DelayTimeout ∷ LogAnnounce ∷ LogSync ∷ LogDelay ∷ Duration
     ∷ Masters ∷ []
@@ -23,6 +23,7 @@ key_named-name Clock = refl
 key_named-name Port = refl
 key_named-name Domain = refl
 key_named-name Rounds = refl
+key_named-name Repeat = refl
 key_named-name Class = refl
 key_named-name Capacity = refl
 key_named-name MaxDuration = refl

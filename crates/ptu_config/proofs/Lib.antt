@@ -1,6 +1,7 @@
 pub mod Texts
 pub mod Names
 pub mod Rounds
+pub mod RoundCounts
 pub mod EachMaster
 pub mod Readings
 pub mod KeyNames

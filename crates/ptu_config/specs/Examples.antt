@@ -15,16 +15,17 @@ gm_document capacity =
     (member (codes "ip") (string (codes "127.0.0.1"))
     (member (codes "rounds") (integer (pos 1)) no_members)))
 
--- the settings of that document with the capacity 8
-abbrev pub gm_defaults : GmSettings
-gm_defaults = record {
+-- the settings of that document with the capacity 8, and with so many rounds, so many times over
+abbrev pub repeated : ℕ → ℕ → GmSettings
+repeated rounds repeat = record {
   ip = 2130706433;
   event_port = 319;
   general_port = 320;
   clock = 720575940379279361;
   port = 1;
   domain = 4;
-  rounds = 1;
+  rounds = rounds;
+  repeat = repeat;
   class = 84;
   capacity = 8;
   max_duration = 1000;
@@ -34,6 +35,10 @@ gm_defaults = record {
   new_capacity = None;
   two_step = false;
 }
+
+-- those settings as the document has them, where one round is done once
+abbrev pub gm_defaults : GmSettings
+gm_defaults = repeated 1 1
 
 -- that document with one member more
 abbrev pub gm_with : List ℕ → Data → Members

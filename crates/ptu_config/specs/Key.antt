@@ -1,7 +1,7 @@
 -- The names of the settings.
 use Rattle.std.specs.Prelude.{ℕ, List, codes}
 use Rattle.ptu_config.specs.declared.key.Key.{Key}
-use Rattle.ptu_config.specs.declared.key.Key.TheVariants.{Ip, EventPort, GeneralPort, Clock, Port, Domain, Rounds, Class, Capacity, MaxDuration, Epoch, Senders, ChangeRound, NewCapacity, TwoStep, WaitToRestore, AnnounceTimeout, SyncTimeout, DelayTimeout, LogAnnounce, LogSync, LogDelay, Duration, Masters}
+use Rattle.ptu_config.specs.declared.key.Key.TheVariants.{Ip, EventPort, GeneralPort, Clock, Port, Domain, Rounds, Repeat, Class, Capacity, MaxDuration, Epoch, Senders, ChangeRound, NewCapacity, TwoStep, WaitToRestore, AnnounceTimeout, SyncTimeout, DelayTimeout, LogAnnounce, LogSync, LogDelay, Duration, Masters}
 
 -- the name of a setting, as a document writes it
 abbrev pub name_of : Key → List ℕ
@@ -12,6 +12,7 @@ name_of Clock = codes "clock"
 name_of Port = codes "port"
 name_of Domain = codes "domain"
 name_of Rounds = codes "rounds"
+name_of Repeat = codes "repeat"
 name_of Class = codes "class"
 name_of Capacity = codes "capacity"
 name_of MaxDuration = codes "max_duration"

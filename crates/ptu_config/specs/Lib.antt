@@ -4,6 +4,7 @@ pub mod Masters
 pub mod Rules
 pub mod Documents
 pub mod Entries
+pub mod Rounds
 pub mod Common
 pub mod Limits
 pub mod Examples

@@ -4,7 +4,7 @@ use Rattle.ptu_units.specs.declared.kind.Kind.TheVariants.{Announce, Sync, Delay
 use Rattle.ptu_units.specs.Log.{IsLogOf}
 use Rattle.ptu_units.specs.Limits.{IsCapacity, IsDomain, IsDuration, IsPort, IsTimeout, IsWait}
 use Rattle.ptu_config.specs.declared.settings.GmSettings.{GmSettings}
-use Rattle.ptu_config.specs.{declared.settings.SlaveSettings.{SlaveSettings}, Masters.{are_masters}}
+use Rattle.ptu_config.specs.{declared.settings.SlaveSettings.{SlaveSettings}, Masters.{are_masters}, Rounds.{IsRepeat}}
 
 -- the settings of a grandmaster are within their ranges
 pub record IsGmInRange (s : GmSettings) : Type 0 where
@@ -13,6 +13,7 @@ pub record IsGmInRange (s : GmSettings) : Type 0 where
   pub port : IsPort s.port
   pub domain : IsDomain s.domain
   pub rounds : 1 ≤ s.rounds
+  pub repeat : IsRepeat s.repeat
   pub capacity : IsCapacity s.capacity
   pub max_duration : IsDuration s.max_duration
   pub epoch : s.epoch < 2 ^ 47
@@ -27,6 +28,7 @@ pub record IsSlaveInRange (s : SlaveSettings) : Type 0 where
   pub port : IsPort s.port
   pub domain : IsDomain s.domain
   pub rounds : 1 ≤ s.rounds
+  pub repeat : IsRepeat s.repeat
   pub wait_to_restore : IsWait s.wait_to_restore
   pub announce_timeout : IsTimeout s.announce_timeout
   pub sync_timeout : IsTimeout s.sync_timeout

@@ -3,7 +3,7 @@
 use Rattle.std.specs.Prelude.{ℕ, suc, ◌-◌, ◌^◌, if◌then◌else◌, Bool, true, false, List, [], ◌∷◌, ◌++◌, Option, Some, None, option_map, ℤ, pos, negsuc}
 use Rattle.toml.specs.Data.{Data, Members, as_bool, integer, get_member}
 use Rattle.ptu_config.specs.declared.key.Key.{Key}
-use Rattle.ptu_config.specs.declared.key.Key.TheVariants.{Ip, EventPort, GeneralPort, Clock, Port, Domain, Rounds, Class, Capacity, MaxDuration, Epoch, Senders, ChangeRound, NewCapacity, TwoStep, WaitToRestore, AnnounceTimeout, SyncTimeout, DelayTimeout, LogAnnounce, LogSync, LogDelay, Duration, Masters}
+use Rattle.ptu_config.specs.declared.key.Key.TheVariants.{Ip, EventPort, GeneralPort, Clock, Port, Domain, Rounds, Repeat, Class, Capacity, MaxDuration, Epoch, Senders, ChangeRound, NewCapacity, TwoStep, WaitToRestore, AnnounceTimeout, SyncTimeout, DelayTimeout, LogAnnounce, LogSync, LogDelay, Duration, Masters}
 use Rattle.ptu_config.specs.{declared.master.MasterSetting.{MasterSetting}, Key.{name_of}}
 use Rattle.ptu_config.specs.Forms.{address_in, identity_in, whole_in, signed_in, given}
 use Rattle.ptu_config.specs.Masters.{masters_in}
@@ -41,6 +41,7 @@ rule_of Clock = required identity
 rule_of Port = optional (whole 1 65534) (number 1)
 rule_of Domain = optional (whole 4 23) (number 4)
 rule_of Rounds = required (whole 1 4294967295)
+rule_of Repeat = optional (whole 1 1000) (number 1)
 rule_of Class = optional (whole 0 255) (number 84)
 rule_of Capacity = required (whole 1 16777216)
 rule_of MaxDuration = optional (whole 60 1000) (number 1000)
@@ -61,7 +62,7 @@ rule_of Masters = required master_tables
 
 -- the settings of both, in their order
 abbrev pub common_keys : List Key
-common_keys = Ip ∷ EventPort ∷ GeneralPort ∷ Clock ∷ Port ∷ Domain ∷ Rounds ∷ []
+common_keys = Ip ∷ EventPort ∷ GeneralPort ∷ Clock ∷ Port ∷ Domain ∷ Rounds ∷ Repeat ∷ []
 
 -- the settings of a grandmaster, in their order
 abbrev pub gm_keys : List Key

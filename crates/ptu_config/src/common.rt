@@ -19,6 +19,7 @@ pub(crate) struct Common {
     pub(crate) port: u16,
     pub(crate) domain: u8,
     pub(crate) rounds: u32,
+    pub(crate) repeat: u32,
 }
 
 /// The settings of both nodes that a table says, or the first of them that is bad.
@@ -35,6 +36,7 @@ pub(crate) fn common_of(table: &Table) -> Result<Common, SettingFault>
     let port = whole_or(table, Key::Port, 1, 65534, 1)? as u16;
     let domain = whole_or(table, Key::Domain, 4, 23, 4)? as u8;
     let rounds = whole(table, Key::Rounds, 1, 4_294_967_295)? as u32;
+    let repeat = whole_or(table, Key::Repeat, 1, 1000, 1)? as u32;
     Ok(Common {
         ip,
         event_port,
@@ -43,5 +45,6 @@ pub(crate) fn common_of(table: &Table) -> Result<Common, SettingFault>
         port,
         domain,
         rounds,
+        repeat,
     })
 }

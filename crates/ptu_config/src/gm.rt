@@ -16,7 +16,7 @@ use std::alloc::Global;
 use toml::Table;
 
 /// The settings of a grandmaster, in their order.
-const GM_KEYS: [Key; 15] = [
+const GM_KEYS: [Key; 16] = [
     Key::Ip,
     Key::EventPort,
     Key::GeneralPort,
@@ -24,6 +24,7 @@ const GM_KEYS: [Key; 15] = [
     Key::Port,
     Key::Domain,
     Key::Rounds,
+    Key::Repeat,
     Key::Class,
     Key::Capacity,
     Key::MaxDuration,
@@ -80,6 +81,7 @@ fn gm_of(table: &Table) -> Result<GmSettings, SettingFault>
         port: common.port,
         domain: common.domain,
         rounds: common.rounds,
+        repeat: common.repeat,
         class,
         capacity,
         max_duration,

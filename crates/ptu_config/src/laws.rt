@@ -11,7 +11,8 @@ ghost use Rattle.ptu_config.specs.{Forms.{address_in, identity_in}, Masters.{mas
 ghost use Rattle.ptu_config.specs.Rules.{Value, gm_keys, slave_keys, setting_of, number, nothing};
 ghost use Rattle.ptu_config.specs.Documents.{Reads, Says, document_of, refusal_of, table_refusal};
 ghost use Rattle.ptu_config.specs.Entries.{gm_entries, slave_entries};
-ghost use Rattle.ptu_config.specs.Examples.{gm_text, gm_document, gm_defaults, gm_with, two_masters};
+ghost use Rattle.ptu_config.specs.Examples.{gm_text, gm_document, gm_defaults, gm_with, repeated, two_masters};
+ghost use Rattle.ptu_config.specs.Rounds.{all_rounds, all_slave_rounds};
 ghost use Rattle.ptu_config.specs.Samples.{AreRefused, LinesAreWritten};
 
 use crate::fault::SettingFault;
@@ -64,7 +65,27 @@ pub fn settings_of_a_grandmaster()
         ≡ None }
     ensures other_type { table_refusal gm_keys (gm_with (codes "two_step") (integer (pos 1)))
         ≡ Some (SettingFault.Bad Key.TwoStep) }
+    ensures repeated { (table_refusal gm_keys (gm_with (codes "repeat") (integer (pos 1000))) ≡ None)
+        × (setting_of (gm_with (codes "repeat") (integer (pos 1000))) Key.Repeat
+        ≡ Some (number 1000)) }
+    ensures repeated_never { table_refusal gm_keys (gm_with (codes "repeat") (integer (pos 0)))
+        ≡ Some (SettingFault.Bad Key.Repeat) }
+    ensures repeated_too_often { table_refusal gm_keys (gm_with (codes "repeat") (integer (pos 1001)))
+        ≡ Some (SettingFault.Bad Key.Repeat) }
+    ensures repeated_by_a_text { table_refusal gm_keys (gm_with (codes "repeat") (string (codes "2")))
+        ≡ Some (SettingFault.Bad Key.Repeat) }
     ensures no_delay_resp { setting_of no_members Key.LogDelay ≡ Some nothing }
+{}
+
+/// How many rounds settings make: those of one serving, with and without a repetition.
+pub fn rounds_of_settings()
+    ensures once { all_rounds gm_defaults ≡ 1 }
+    ensures again { all_rounds (repeated 30 1000) ≡ 30000 }
+    ensures most { all_rounds (repeated 4294967295 1000) ≡ 4294967295000 }
+    // With a repetition of 1 they are the rounds of the settings.
+    ensures as_without { (s : GmSettings) → s.repeat ≡ 1 → all_rounds s ≡ s.rounds }
+    ensures slave_as_without { (s : SlaveSettings) → s.repeat ≡ 1
+        → all_slave_rounds s ≡ s.rounds }
 {}
 
 /// What arrays of masters are read as: two masters, one address twice, none, and no array.

@@ -12,6 +12,7 @@ pub const GM_SETTINGS: GmSettings = GmSettings {
     port: 1,
     domain: 4,
     rounds: 1,
+    repeat: 1,
     class: 84,
     capacity: 8,
     max_duration: 1000,

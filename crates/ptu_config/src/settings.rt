@@ -1,5 +1,9 @@
 //! The settings of both daemons as values, each within its range.
 
+ghost use Rattle.std.specs.Prelude.{◌≡◌, ◌≤◌, ◌*◌};
+ghost use Rattle.ptu_config.specs.Limits.{IsGmInRange, IsSlaveInRange};
+ghost use Rattle.ptu_config.specs.Rounds.{IsRepeat, IsRoundCount, all_rounds, all_slave_rounds};
+
 use crate::master::MasterList;
 use ptu_units::Log;
 
@@ -18,8 +22,10 @@ pub struct GmSettings {
     pub port: u16,
     /// The domain, from 4 to 23; 4 by default.
     pub domain: u8,
-    /// After how many rounds the daemon ends, from 1 on.
+    /// How many rounds the daemon does, from 1 on, `repeat` times over.
     pub rounds: u32,
+    /// How many times over it does them before it ends, from 1 to 1000; 1 by default.
+    pub repeat: u32,
     /// The clockClass that is announced, 84 by default.
     pub class: u8,
     /// The capacity, in sixteenths of a message per second, from 1 to 16777216.
@@ -30,7 +36,8 @@ pub struct GmSettings {
     pub epoch: u64,
     /// How many lanes send, or 0 for one thread that does all; at most 4, and 0 by default.
     pub senders: u8,
-    /// The round that begins with a change of the capacity, or 0 for none, which is the default.
+    /// The round of all that begins with a change of the capacity, or 0 for none, which is the
+    /// default.
     pub change_round: u32,
     /// The capacity from that round on, where its key is there.
     pub new_capacity: Option<u64>,
@@ -53,8 +60,10 @@ pub struct SlaveSettings {
     pub port: u16,
     /// The domain, from 4 to 23; 4 by default.
     pub domain: u8,
-    /// After how many rounds the daemon ends, from 1 on.
+    /// How many rounds the daemon does, from 1 on, `repeat` times over.
     pub rounds: u32,
+    /// How many times over it does them before it ends, from 1 to 1000; 1 by default.
+    pub repeat: u32,
     /// The wait to restore, in seconds, at most 720; 300 by default.
     pub wait_to_restore: u32,
     /// The receipt timeout of Announce, in intervals, from 2 to 10; 3 by default.
@@ -74,4 +83,34 @@ pub struct SlaveSettings {
     pub duration: u32,
     /// The masters, 1 to 16 with distinct addresses.
     pub masters: MasterList,
+}
+
+// So many rounds, so many times over.
+fn times_over(rounds: u32, repeat: u32) -> u64
+    ensures value { result ≡ rounds * repeat }
+    ensures range { 1 ≤ rounds → IsRepeat repeat → IsRoundCount result }
+{
+    u64::from(rounds) * u64::from(repeat)
+}
+
+impl GmSettings {
+    /// How many rounds the daemon does in all: `rounds` of them, `repeat` times over. In their
+    /// ranges they make 1 to 4294967295000.
+    pub fn all_rounds(&self) -> u64
+        ensures value { result ≡ all_rounds self.now }
+        ensures range { IsGmInRange self.now → IsRoundCount result }
+    {
+        times_over(self.rounds, self.repeat)
+    }
+}
+
+impl SlaveSettings {
+    /// How many rounds the daemon does in all: `rounds` of them, `repeat` times over. In their
+    /// ranges they make 1 to 4294967295000.
+    pub fn all_rounds(&self) -> u64
+        ensures value { result ≡ all_slave_rounds self.now }
+        ensures range { IsSlaveInRange self.now → IsRoundCount result }
+    {
+        times_over(self.rounds, self.repeat)
+    }
 }

@@ -18,7 +18,7 @@ use std::alloc::Global;
 use toml::Table;
 
 /// The settings of a slave, in their order.
-const SLAVE_KEYS: [Key; 16] = [
+const SLAVE_KEYS: [Key; 17] = [
     Key::Ip,
     Key::EventPort,
     Key::GeneralPort,
@@ -26,6 +26,7 @@ const SLAVE_KEYS: [Key; 16] = [
     Key::Port,
     Key::Domain,
     Key::Rounds,
+    Key::Repeat,
     Key::WaitToRestore,
     Key::AnnounceTimeout,
     Key::SyncTimeout,
@@ -63,6 +64,7 @@ fn slave_of(alloc: Global, table: &Table) -> Result<SlaveSettings, SettingFault>
         port: common.port,
         domain: common.domain,
         rounds: common.rounds,
+        repeat: common.repeat,
         wait_to_restore,
         announce_timeout,
         sync_timeout,

@@ -12,7 +12,7 @@ use Rattle.ptu_grandmaster.specs.declared.driving.GmEvent.{GmEvent}
 use Rattle.ptu_units.specs.{Counts.{counted}, Limits.{IsCapacity}}
 use Rattle.ptu_grandmaster.specs.Gm.{KeptGm, StandsFor}
 use Rattle.ptu_lanes.specs.{Sending.{GoesOn, WasSent}, Served.{faults_of}}
-use Rattle.ptu_config.specs.declared.settings.GmSettings.{GmSettings}
+use Rattle.ptu_config.specs.{declared.settings.GmSettings.{GmSettings}, Rounds.{all_rounds}}
 use Rattle.ptu_rounds.specs.Ports.{HaveNotRisen, HaveRisenBy, HaveRisenJust, WereSent, ports_of, senders_of}
 use Rattle.ptu_rounds.specs.{Handed.{WasHanded, WereHanded}, Taken.{Gave, event_of, general_of}}
 use Rattle.ptu_rounds.specs.Rounds.{in_rounds, timed}
@@ -154,7 +154,7 @@ module _ {P C : Type 0} (ports : Ports P) (clocks : Clocks C) where
       (limits : IsWithinLimits (config_of settings)) (capacity : IsCapacity settings.capacity) (config : gm0.config ≡ config_of settings)
       (p0 : gm0.s0.port ≡ opened.p0) (p1 : gm0.s1.port ≡ opened.p1) (p2 : gm0.s2.port ≡ opened.p2) (p3 : gm0.s3.port ≡ opened.p3) (p4 : gm0.reply ≡ opened.p4)
       (stood : StandsFor settings.capacity gm0 [])
-      (did : DidRounds ports clocks settings settings.rounds (record { gm = gm0; event = opened.p5; clock = opened.c0 }) (record { gm = gm1; event = event; clock = clock }) tally)
+      (did : DidRounds ports clocks settings (all_rounds settings) (record { gm = gm0; event = opened.p5; clock = opened.c0 }) (record { gm = gm1; event = event; clock = clock }) tally)
       (q0 : closed.p0 ≡ gm1.s0.port) (q1 : closed.p1 ≡ gm1.s1.port) (q2 : closed.p2 ≡ gm1.s2.port) (q3 : closed.p3 ≡ gm1.s3.port) (q4 : closed.p4 ≡ gm1.reply)
       (q5 : closed.p5 ≡ event) (k0 : closed.c0 ≡ clock)
       (k1 : closed.c1 ≡ opened.c1) (k2 : closed.c2 ≡ opened.c2) (k3 : closed.c3 ≡ opened.c3) (k4 : closed.c4 ≡ opened.c4) (k5 : closed.c5 ≡ opened.c5)
@@ -246,7 +246,7 @@ module _ {P C : Type 0} (ports : Ports P) (clocks : Clocks C) where
       none : tally.failed ≡ 0
       none = sym failed_is ∙ none_together said.failed (faults_of ports opened) (faults_of ports closed) risen still
 
-      happened : happenings_of settings did.took ≡ in_rounds (round_of settings given) settings.rounds
+      happened : happenings_of settings did.took ≡ in_rounds (round_of settings given) (all_rounds settings)
       happened =
           let general = some_is (ports.waiting closed.p4) is.general_still in
           let event_left = some_is (ports.waiting closed.p5) is.event_still in

@@ -5,7 +5,7 @@ use Rattle.ptu_outside.specs.declared.{clock.Clock.{Ghosts as Clocks}, endpoint.
 use Rattle.ptu_outside.specs.declared.{opened.Opened.{Opened}, port.Port.{Ghosts as Ports}, sink.Sink.{Ghosts as Sinks}}
 use Rattle.ptu_outside.specs.{Departure.{Departure}, Handing.{HasPut, HasPutFront}, Telling.{IfTold, append_told}}
 use Rattle.ptu_outside.specs.HandsOver.{SentOf}
-use Rattle.ptu_config.specs.declared.settings.GmSettings.{GmSettings}
+use Rattle.ptu_config.specs.{declared.settings.GmSettings.{GmSettings}, Rounds.{all_rounds}}
 use Rattle.ptu_rounds.specs.{Handed.{WasHanded}, Ports.{HaveNotRisen}}
 use Rattle.ptu_rounds.specs.declared.fault.DaemonFault.{DaemonFault}
 use Rattle.ptu_rounds.specs.declared.fault.DaemonFault.TheVariants as faults
@@ -174,8 +174,8 @@ pub answered_by : {K : Type 0} (sinks : Sinks K) (sink sink' : K) (failed failed
     (r : Result (Unit {0}) DaemonFault) → ((said : Said) → A said → B said)
     → HasAnswered sinks sink sink' failed failed' opened_at settings A r → HasAnswered sinks sink sink' failed failed' opened_at settings B r
 answered_by sinks sink sink' failed failed' opened_at settings A B r f h = record {
-  served = on_ok_said (λ said. HasPut sinks.written sinks.handed sink sink' (closing_line settings.rounds said ∷ [])) A B r f h.served;
-  part = if_err_said (λ said. HasPutFront sinks.written sinks.handed sink sink' (closing_line settings.rounds said)) A B r f h.part;
+  served = on_ok_said (λ said. HasPut sinks.written sinks.handed sink sink' (closing_line (all_rounds settings) said ∷ [])) A B r f h.served;
+  part = if_err_said (λ said. HasPutFront sinks.written sinks.handed sink sink' (closing_line (all_rounds settings) said)) A B r f h.part;
   nothing = h.nothing;
   write = h.write;
   still = h.still;

@@ -2,7 +2,7 @@
 use Rattle.std.specs.Prelude.{◌≡◌, ◌≢◌, ◌∷◌, [], ℕ, Option, Result, IfErr, OnOk}
 use Rattle.ptu_outside.specs.declared.{endpoint.Endpoint.{Endpoint}, sink.Sink.{Ghosts as Sinks}}
 use Rattle.ptu_outside.specs.{Faults.{HasRisen}, Handing.{HasPut, HasPutFront}}
-use Rattle.ptu_config.specs.declared.settings.GmSettings.{GmSettings}
+use Rattle.ptu_config.specs.{declared.settings.GmSettings.{GmSettings}, Rounds.{all_rounds}}
 use Rattle.ptu_rounds.specs.declared.fault.DaemonFault.{DaemonFault}
 use Rattle.ptu_rounds.specs.declared.fault.DaemonFault.TheVariants.{Open, Write}
 use Rattle.ptu_rounds.specs.Opening.{OpenedAt}
@@ -13,10 +13,10 @@ use Rattle.ptu_daemon.specs.{Events.{endpoint_of}, Served.{Said, closing_line}}
 module _ {K : Type 0} (sinks : Sinks K) (sink sink' : K) (failed failed' : ℕ) (opened_at : Option Endpoint) (settings : GmSettings) where
   pub record HasAnswered (IsServed : Said → Type 0) (result : Result (Unit {0}) DaemonFault) : Type 0 where
     -- the line was written: its numbers, and what the ports were sent, are those of what is served
-    pub served : OnOk result ((said : Said) × HasPut sinks.written sinks.handed sink sink' (closing_line settings.rounds said ∷ []) × IsServed said)
+    pub served : OnOk result ((said : Said) × HasPut sinks.written sinks.handed sink sink' (closing_line (all_rounds settings) said ∷ []) × IsServed said)
     -- the sink failed in it
     pub part : IfErr result (λ fault. fault ≡ Write → ((said : Said)
-        × HasPutFront sinks.written sinks.handed sink sink' (closing_line settings.rounds said) × IsServed said))
+        × HasPutFront sinks.written sinks.handed sink sink' (closing_line (all_rounds settings) said) × IsServed said))
     -- else nothing was written
     pub nothing : IfErr result (λ fault. fault ≢ Write → sink' ≡ sink)
     pub write : IfErr result (λ fault. fault ≡ Write → HasRisen (sinks.faults sink) (sinks.faults sink'))

@@ -4,7 +4,7 @@ use Rattle.ptu_outside.specs.declared.{arrival.Arrival.{Arrival}, endpoint.Endpo
 use Rattle.ptu_profile.specs.declared.grandmaster.GmConfig.{GmConfig}
 use Rattle.ptu_grandmaster.specs.declared.driving.GmEvent.{GmEvent}
 use Rattle.ptu_grandmaster.specs.declared.driving.GmEvent.TheVariants.{Take, Turn, Capacity}
-use Rattle.ptu_config.specs.declared.settings.GmSettings.{GmSettings}
+use Rattle.ptu_config.specs.{declared.settings.GmSettings.{GmSettings}, Rounds.{all_rounds}}
 use Rattle.ptu_rounds.specs.{Rounds.{in_rounds, moments_after, taken_in, timed}, Taken.{Round, in_these}}
 
 -- how the grandmaster is set up
@@ -76,4 +76,4 @@ Takes old new happenings events =
 
 -- the events of all rounds, each at a new moment
 unfoldable pub served_events : GmSettings → Given → List GmEvent
-served_events settings given = timed given.moments (in_rounds (round_of settings given) settings.rounds)
+served_events settings given = timed given.moments (in_rounds (round_of settings given) (all_rounds settings))

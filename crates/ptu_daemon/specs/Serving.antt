@@ -4,7 +4,7 @@ use Rattle.ptu_outside.specs.declared.{arrival.Arrival.{Arrival}, clock.Clock.{G
 use Rattle.ptu_outside.specs.declared.{opened.Opened.{Opened}, port.Port.{Ghosts as Ports}}
 use Rattle.ptu_outside.specs.Telling.{IfTold}
 use Rattle.ptu_grandmaster.specs.declared.driving.GmEvent.{GmEvent}
-use Rattle.ptu_config.specs.declared.settings.GmSettings.{GmSettings}
+use Rattle.ptu_config.specs.{declared.settings.GmSettings.{GmSettings}, Rounds.{all_rounds}}
 use Rattle.ptu_rounds.specs.{Handed.{FailuresAre, WereHanded}, Ports.{HaveNotRisen, WereSent, senders_of}}
 use Rattle.ptu_rounds.specs.Taken.{Gave, HappenedAt, HaveTaken, Round, event_of, general_of}
 use Rattle.ptu_lanes.specs.{Sending.{GoesOn, WasSent}, Served.{ServesByLanes, faults_of}}
@@ -60,7 +60,7 @@ many_by settings events =
 pub record Happened {P C : Type 0} (ports : Ports P) (clocks : Clocks C) (settings : GmSettings) (opened closed : Opened P C) (sent failed : ℕ) : Type 0 where
   -- each round took at most 64 datagrams of each channel, the first that waited where its port still tells that
   pub rounds : List Round
-  pub taken : HaveTaken rounds settings.rounds
+  pub taken : HaveTaken rounds (all_rounds settings)
   pub general : Gave (ports.waiting opened.p4) (ports.waiting closed.p4) (general_of rounds)
   pub event : Gave (ports.waiting opened.p5) (ports.waiting closed.p5) (event_of rounds)
   -- the events are what happens in such rounds: each at some moment, which is the next of clock 0 where that still tells its moments
@@ -74,7 +74,7 @@ pub record Happened {P C : Type 0} (ports : Ports P) (clocks : Clocks C) (settin
   -- each of the others failed to be sent; each other call that failed is a receive, at most one of each channel and round, since it
   -- ends the channel for the round
   pub missed : ℕ
-  pub once : missed ≤ 2 * settings.rounds
+  pub once : missed ≤ 2 * all_rounds settings
   pub each : sent + failed ≡ many_by settings events + missed
 
 -- between these ports and clocks as they were opened, and as they are to be given back, this was said of the serving

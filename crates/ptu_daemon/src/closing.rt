@@ -10,7 +10,8 @@ use std::fmt;
 /// The numbers of the last line.
 #[derive(Clone, Copy)]
 pub(crate) struct Closing {
-    pub rounds: u32,
+    /// How many rounds there were.
+    pub rounds: u64,
     /// How many datagrams were sent.
     pub sent: u128,
     /// How many sends and receives failed.

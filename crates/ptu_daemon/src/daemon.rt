@@ -3,7 +3,7 @@
 ghost use Rattle.std.specs.Prelude.{◌≡◌, ◌<◌, ◌+◌, ◌^◌, ◌∷◌, [], true, IfOk, IfSome};
 ghost use Rattle.ptu_units.specs.Limits.{IsCapacity};
 ghost use Rattle.ptu_grandmaster.specs.declared.driving.GmEvent.{GmEvent};
-ghost use Rattle.ptu_config.specs.Limits.{IsGmInRange};
+ghost use Rattle.ptu_config.specs.{Limits.{IsGmInRange}, Rounds.{all_rounds}};
 ghost use Rattle.ptu_daemon.specs.Events.{change_in, change_to, taking, turns};
 ghost use Rattle.ptu_daemon.specs.Ran.{CameTo, DidRound, DidRounds, IsSmall, Ran, Received, Receives, TookChannel, arrived};
 
@@ -13,8 +13,9 @@ use crate::tally::Tally;
 use ptu_config::GmSettings;
 use ptu_grandmaster::{Gm, SIGNALING_PORT};
 use ptu_outside::{Channel, Clock, Failed, Port};
+use ptu_rounds::last_moment;
+use ptu_units::OutOfMemory;
 use ptu_units::sizes::LONGEST_DATAGRAM;
-use ptu_units::{Moment, OutOfMemory};
 
 /// How many datagrams of a channel a round takes at most.
 const MOST: u32 = 64;
@@ -30,26 +31,16 @@ pub(crate) struct Daemon<P: Port, C: Clock> {
 }
 
 // The capacity to which a round changes, before which there were so many, if it changes it.
-fn change_before(settings: &GmSettings, before: u32) -> Option<u64>
+fn change_before(settings: &GmSettings, before: u64) -> Option<u64>
     requires range { IsGmInRange settings.now }
-    requires before { before + 1 < 2 ^ 32 }
+    requires before { before + 1 < 2 ^ 64 }
     ensures change { change_in settings.now before ≡ change_to true result }
     ensures range { IfSome result (λ capacity. IsCapacity capacity) }
 {
-    if settings.change_round == before + 1 {
+    if settings.change_round as u64 == before + 1 {
         settings.new_capacity
     } else {
         None
-    }
-}
-
-// The last moment that there is, 146 years after the zero that moments count from.
-fn last_moment() -> Moment
-    ensures { result + 1 ≡ 2 ^ 62 }
-{
-    match Moment::of((1 << 62) - 1) {
-        Some(moment) => moment,
-        None => Moment::default(),
     }
 }
 
@@ -118,9 +109,9 @@ impl<P: Port, C: Clock> Daemon<P, C> {
 
     // Begins a round, before which there were so many, with the change of the capacity where it is
     // the one for it.
-    fn begin(&mut self, settings: &GmSettings, before: u32) -> Result<Tally, OutOfMemory>
+    fn begin(&mut self, settings: &GmSettings, before: u64) -> Result<Tally, OutOfMemory>
         requires range { IsGmInRange settings.now }
-        requires before { before + 1 < 2 ^ 32 }
+        requires before { before + 1 < 2 ^ 64 }
         ensures ran { IfOk result (λ tally. Ran P.Port C.Clock self.old self.new
             (change_in settings.now before) [] [] tally.sent tally.failed 0) }
         ensures small { IfOk result (λ tally. IsSmall 1 tally) }
@@ -190,9 +181,9 @@ impl<P: Port, C: Clock> Daemon<P, C> {
     }
 
     // Does a round, before which there were so many.
-    fn round(&mut self, settings: &GmSettings, before: u32) -> Result<Tally, OutOfMemory>
+    fn round(&mut self, settings: &GmSettings, before: u64) -> Result<Tally, OutOfMemory>
         requires range { IsGmInRange settings.now }
-        requires before { before + 1 < 2 ^ 32 }
+        requires before { before + 1 < 2 ^ 64 }
         ensures did { IfOk result (λ tally.
             DidRound P.Port C.Clock settings.now before self.old self.new tally) }
         ensures small { IfOk result (λ tally. IsSmall 256 tally) }
@@ -208,10 +199,10 @@ impl<P: Port, C: Clock> Daemon<P, C> {
     pub(crate) fn rounds(&mut self, settings: &GmSettings) -> Result<Tally, OutOfMemory>
         requires range { IsGmInRange settings.now }
         ensures did { IfOk result (λ tally.
-            DidRounds P.Port C.Clock settings.now settings.now.rounds self.old self.new tally) }
+            DidRounds P.Port C.Clock settings.now (all_rounds settings.now) self.old self.new tally) }
     {
         let mut tally = Tally::default();
-        for before in 0..settings.rounds {
+        for before in 0..settings.all_rounds() {
             tally = tally.plus_round(self.round(settings, before)?, before);
         }
         Ok(tally)

@@ -3,7 +3,7 @@
 ghost use Rattle.std.specs.Prelude.{◌≡◌, ◌≤◌, ◌∷◌, [], IfOk, IfErr, OnOk, OnErr};
 ghost use Rattle.ptu_outside.specs.{Faults.{HasRisen}, Handing.{HasPut, HasPutFront}};
 ghost use Rattle.ptu_profile.specs.Grandmaster.{IsWithinLimits};
-ghost use Rattle.ptu_config.specs.Limits.{IsGmInRange};
+ghost use Rattle.ptu_config.specs.{Limits.{IsGmInRange}, Rounds.{all_rounds}};
 ghost use Rattle.ptu_lanes.specs.Served.{numbers_of};
 ghost use Rattle.ptu_daemon.specs.{Answers.{HasAnswered}, Events.{config_of}};
 ghost use Rattle.ptu_daemon.specs.{Served.{numbers_in, said_by}, Serving.{HasServed, Serves, ServesEitherWay}};
@@ -24,11 +24,11 @@ use std::thread::Threads;
 
 // The numbers of the last line after these rounds by lanes.
 fn closing_of(settings: &GmSettings, totals: &Totals) -> Closing
-    ensures rounds { result.rounds ≡ settings.now.rounds }
+    ensures rounds { result.rounds ≡ all_rounds settings.now }
     ensures numbers { numbers_in (said_by result) ≡ numbers_of totals.now }
 {
     Closing {
-        rounds: settings.rounds,
+        rounds: settings.all_rounds(),
         sent: totals.sent,
         failed: totals.failed,
         granted: totals.granted,
@@ -67,7 +67,7 @@ fn serve_by_lanes<P: Port + Send, C: Clock + Send, W: Threads + Wait + Sync>(
 ) -> Result<(Opened<P, C>, Closing), OutOfMemory>
     requires range { IsGmInRange settings.now }
     requires senders { 1 ≤ settings.now.senders }
-    ensures rounds { IfOk result (λ r. r.1.rounds ≡ settings.now.rounds) }
+    ensures rounds { IfOk result (λ r. r.1.rounds ≡ all_rounds settings.now) }
     ensures serves { IfOk result (λ r.
         ServesEitherWay P.Port C.Clock settings.now opened r.0 (said_by r.1)) }
 {
@@ -86,7 +86,7 @@ fn serve_rounds<P: Port, C: Clock>(
     opened: Opened<P, C>,
 ) -> Result<(Opened<P, C>, Closing), OutOfMemory>
     requires { IsGmInRange settings.now }
-    ensures rounds { IfOk result (λ r. r.1.rounds ≡ settings.now.rounds) }
+    ensures rounds { IfOk result (λ r. r.1.rounds ≡ all_rounds settings.now) }
     ensures serves { IfOk result (λ r.
         Serves P.Port C.Clock settings.now opened r.0 (said_by r.1)) }
 {
@@ -108,7 +108,7 @@ fn serve_rounds<P: Port, C: Clock>(
     let tally = daemon.rounds(settings)?;
     let (closed, reply) = daemon.gm.close();
     let closing = Closing {
-        rounds: settings.rounds,
+        rounds: settings.all_rounds(),
         sent: tally.sent,
         failed: tally.failed,
         granted: closed.granted,
@@ -138,7 +138,7 @@ fn serve_over<P: Port + Send, C: Clock + Send, W: Threads + Wait + Sync>(
     opened: Opened<P, C>,
 ) -> Result<(Opened<P, C>, Closing), OutOfMemory>
     requires { IsGmInRange settings.now }
-    ensures rounds { IfOk result (λ r. r.1.rounds ≡ settings.now.rounds) }
+    ensures rounds { IfOk result (λ r. r.1.rounds ≡ all_rounds settings.now) }
     ensures serves { IfOk result (λ r. settings.now.senders ≡ 0
         → Serves P.Port C.Clock settings.now opened r.0 (said_by r.1)) }
     ensures by_lanes { IfOk result (λ r. 1 ≤ settings.now.senders
@@ -204,8 +204,9 @@ pub fn serve_within<W: Threads + Wait + Sync, H: Host, K: Sink>(
 /// change of the capacity to `new_capacity`. A send or a receive that fails is counted, and the
 /// daemon goes on. The ports and clocks are given back to the host before the line is written.
 ///
-/// So it is on this thread where `senders` is 0. A round ends there with a wait of port 5, until a
-/// datagram is there or a message may be due. Else the channels and the tables are served side by
+/// A round ends with a wait of port 5, until a datagram is there or a message may be due.
+///
+/// So it is on this thread where `senders` is 0. Else the channels and the tables are served side by
 /// side in each round, by lanes of which `senders` turn the tables, and each lane takes moments of
 /// a clock of its own (`serve_lanes`). Their threads are made before the first datagram is taken:
 /// where the system refuses one, all is served on this thread, as where `senders` is 0.

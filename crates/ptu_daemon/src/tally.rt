@@ -27,7 +27,8 @@ impl Tally {
     }
 
     /// What was counted in so many rounds, and in one more.
-    pub(crate) fn plus_round(self, more: Tally, before: u32) -> Tally
+    pub(crate) fn plus_round(self, more: Tally, before: u64) -> Tally
+        requires few { before < 2 ^ 48 }
         requires so_far { IsSmall (before * 256) self }
         requires more { IsSmall 256 more }
         ensures both { result ≡ record {

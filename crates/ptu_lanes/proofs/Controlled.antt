@@ -13,7 +13,7 @@ use Rattle.ptu_profile.specs.declared.grandmaster.GmConfig.{GmConfig}
 use Rattle.ptu_shared.specs.{Opening.{HaveFailed, Seen, seen_of}, Seats.{Counts, no_verdicts}}
 use Rattle.ptu_shared.proofs.Failing.{failed-append, failed_hands, failed_none}
 use Rattle.ptu_gm_messages.specs.Replies.{cancels_to}
-use Rattle.ptu_config.specs.declared.settings.GmSettings.{GmSettings}
+use Rattle.ptu_config.specs.{declared.settings.GmSettings.{GmSettings}, Rounds.{all_rounds}}
 use Rattle.ptu_lanes.specs.Answers.{asks_among, grants_among}
 use Rattle.ptu_rounds.specs.{Handed.{WasHanded}, Ports.{HaveRisenBy, HaveRisenJust}}
 use Rattle.ptu_lanes.specs.declared.{lanes.Lanes.{Lanes}, serving.Totals.{Totals}}
@@ -46,9 +46,12 @@ take_rounds all e l waited is =
 pub drop_rounds : (all e l : ℕ) (waited : List Arrival) → e + l ≡ all → drop (64 * l) (drop (64 * e) waited) ≡ drop (64 * all) waited
 drop_rounds all e l waited is = drop-drop (64 * l) (64 * e) waited ∙ ap (λ n. drop n waited) (omega (arith, is))
 
+all_in_both : (all e l : ℕ) → e + l ≡ all → 64 * e + (0 + 64 * l) ≡ 64 * all
+all_in_both all e l is = omega (arith, is)
+
 -- ---- no change
 
-unchanged_rounds : (settings : GmSettings) → change_of settings ≡ None → early_rounds settings ≡ settings.rounds
+unchanged_rounds : (settings : GmSettings) → change_of settings ≡ None → early_rounds settings ≡ all_rounds settings
 unchanged_rounds settings none = ap (rounds_before settings) none
 
 no_change : (change : Option ℕ) → IfNone change (◌≡◌ {A = List (Client × Kind)} [] [])
@@ -56,7 +59,7 @@ no_change None = refl
 no_change (Some capacity) = tt
 
 controlled_unchanged : {P : Type 0} (ports : Ports P) (settings : GmSettings) (config : GmConfig) (port port' : P) (left : List Arrival) (old new : Counts) →
-    change_of settings ≡ None → old ≡ no_verdicts → AreRounds ports (greatest_capacity settings) config settings.rounds port port' left old new →
+    change_of settings ≡ None → old ≡ no_verdicts → AreRounds ports (greatest_capacity settings) config (all_rounds settings) port port' left old new →
     IsControlled ports settings config port port' left new.granted new.refused
 controlled_unchanged ports settings config port port' left old new none fresh r =
     let all : r.exchanges ++ [] ≡ r.exchanges = append-nil r.exchanges in
@@ -82,7 +85,7 @@ controlled_unchanged ports settings config port port' left old new none fresh r 
     }
 
 pub unchanged_controlled : {P : Type 0} (ports : Ports P) (settings : GmSettings) (config : GmConfig) (port port' : P) (old new : Counts) →
-    change_of settings ≡ None → old ≡ no_verdicts → IfSome (ports.waiting port') (λ later. AreRounds ports (greatest_capacity settings) config settings.rounds port port' later old new) →
+    change_of settings ≡ None → old ≡ no_verdicts → IfSome (ports.waiting port') (λ later. AreRounds ports (greatest_capacity settings) config (all_rounds settings) port port' later old new) →
     IfSome (ports.waiting port') (λ later. IsControlled ports settings config port port' later new.granted new.refused)
 unchanged_controlled ports settings config port port' old new none fresh r =
     some_more (ports.waiting port') _ _ (λ left. controlled_unchanged ports settings config port port' left old new none fresh) r
@@ -99,7 +102,7 @@ some_change (Some more) capacity shed is = tt
 -- the CANCELs were sent to a port of which p1 is the port before and p2 the port after
 controlled_some : {P : Type 0} (ports : Ports P) (settings : GmSettings) (config : GmConfig) (capacity e l : ℕ) (shed : List (Client × Kind)) (p0 p1 p2 p3 : P) (left : List Arrival)
     (old seat new : Counts) (sent failed : ℕ) →
-    change_of settings ≡ Some capacity → e ≡ settings.change_round - 1 → e + l ≡ settings.rounds → old ≡ no_verdicts →
+    change_of settings ≡ Some capacity → e ≡ settings.change_round - 1 → e + l ≡ (all_rounds settings) → old ≡ no_verdicts →
     IfSome (ports.waiting p1) (λ later. AreRounds ports (greatest_capacity settings) config e p0 p1 later old seat) →
     HandsOver ports p1 p2 (cancels_to config 0 shed) sent failed → ¬ HasRisen (ports.faults p1) (ports.faults p2) →
     AreRounds ports (greatest_capacity settings) config l p2 p3 left seat new →
@@ -119,8 +122,8 @@ controlled_some ports settings config capacity e l shed p0 p1 p2 p3 left old sea
       late = q.exchanges;
       early_are = p.first ∙ ap (λ n. take (64 * n) p.waited) (early_is ∙ sym (changed_rounds settings capacity some));
       all_are = datagrams-append p.exchanges q.exchanges ∙ ap (λ xs. xs ++ datagrams q.exchanges) p.first
-          ∙ ap (λ ys. take (64 * e) p.waited ++ ys) later ∙ take_rounds settings.rounds e l p.waited all_is;
-      rest = q.rest ∙ ap (drop (64 * l)) same ∙ drop_rounds settings.rounds e l p.waited all_is;
+          ∙ ap (λ ys. take (64 * e) p.waited ++ ys) later ∙ take_rounds (all_rounds settings) e l p.waited all_is;
+      rest = q.rest ∙ ap (drop (64 * l)) same ∙ drop_rounds (all_rounds settings) e l p.waited all_is;
       unchanged = some_change (change_of settings) capacity shed some;
       answered = All-append (IsAnswered (greatest_capacity settings) config) p.exchanges q.exchanges p.answered q.answered;
       told = told_both (ports.sent p0) (ports.sent p2) (ports.sent p3) (replies config p.exchanges ++ cancels_to config 0 shed) (replies config q.exchanges)
@@ -133,7 +136,7 @@ controlled_some ports settings config capacity e l shed p0 p1 p2 p3 left old sea
 
 -- rounds, the CANCELs of a change, and rounds, over the counts of faults of the port
 pub controlled_changed : {P C : Type 0} (ports : Ports P) (clocks : Clocks C) (settings : GmSettings) (config : GmConfig) (capacity e l : ℕ) (p0 p1 p2 p3 : P) (c0 c1 c2 c3 : C) (first seat next last : Counts) (f0 f1 f2 f3 : ℕ) →
-    change_of settings ≡ Some capacity → e ≡ settings.change_round - 1 → e + l ≡ settings.rounds → first ≡ no_verdicts →
+    change_of settings ≡ Some capacity → e ≡ settings.change_round - 1 → e + l ≡ (all_rounds settings) → first ≡ no_verdicts →
     TookSignaling ports clocks (greatest_capacity settings) config e p0 p1 c0 c1 first seat f0 f1 →
     (shed : List (Client × Kind)) × (sent : ℕ) × (failed : ℕ) × HandsOver ports p1 p2 (cancels_to config 0 shed) sent failed
     × (f2 ≡ min (f1 + failed) (2 ^ 64 - 1)) → next ≡ seat →
@@ -166,7 +169,7 @@ controlled_changed ports clocks settings config capacity e l p0 p1 p2 p3 c0 c1 c
 
 -- what was taken in both stretches, and what was sent there and in the change between them
 pub exchanged_changed : {P C : Type 0} (ports : Ports P) (clocks : Clocks C) (settings : GmSettings) (config : GmConfig) (capacity e l : ℕ) (p0 p1 p2 p3 : P) (c0 c1 c2 c3 : C) (first seat next last : Counts) (f0 f1 f2 f3 : ℕ) →
-    change_of settings ≡ Some capacity → e ≡ settings.change_round - 1 → e + l ≡ settings.rounds → first ≡ no_verdicts →
+    change_of settings ≡ Some capacity → e ≡ settings.change_round - 1 → e + l ≡ (all_rounds settings) → first ≡ no_verdicts →
     TookSignaling ports clocks (greatest_capacity settings) config e p0 p1 c0 c1 first seat f0 f1 →
     (shed : List (Client × Kind)) × (sent : ℕ) × (failed : ℕ) × HandsOver ports p1 p2 (cancels_to config 0 shed) sent failed
     × (f2 ≡ min (f1 + failed) (2 ^ 64 - 1)) → PassedBy 1 (clocks.moments c1) (clocks.moments c2) → next ≡ seat →
@@ -219,10 +222,10 @@ exchanged_changed ports clocks settings config capacity e l p0 p1 p2 p3 c0 c1 c2
     }
 
 pub exchanged_unchanged : {P C : Type 0} (ports : Ports P) (clocks : Clocks C) (settings : GmSettings) (config : GmConfig) (sent failed : ℕ) (p0 p1 : P) (c0 c1 : C) (old new : Counts) →
-    change_of settings ≡ None → old ≡ no_verdicts → Exchanged ports clocks (greatest_capacity settings) config settings.rounds sent failed p0 p1 c0 c1 old new →
+    change_of settings ≡ None → old ≡ no_verdicts → Exchanged ports clocks (greatest_capacity settings) config (all_rounds settings) sent failed p0 p1 c0 c1 old new →
     ExchangedAll ports clocks settings config p0 p1 c0 c1 new.granted new.refused
 exchanged_unchanged ports clocks settings config sent failed p0 p1 c0 c1 old new none fresh x =
-    let rounds : early_rounds settings ≡ settings.rounds = unchanged_rounds settings none in
+    let rounds : early_rounds settings ≡ (all_rounds settings) = unchanged_rounds settings none in
     let granted : old.granted ≡ 0 = ap (λ (c : Counts). c.granted) fresh in
     let refused : old.refused ≡ 0 = ap (λ (c : Counts). c.refused) fresh in
     let moment : change_moments settings ≡ 0 = ap moments_to none in
@@ -273,7 +276,7 @@ failed_changed ports config p0 p1 p2 p3 f0 f1 f2 f3 none p (shed, sent, failed, 
 -- ---- the lane that takes Signaling, in all rounds
 
 pub signaling_unchanged : {P C : Type 0} (ports : Ports P) (clocks : Clocks C) (settings : GmSettings) (config : GmConfig) (p0 p1 : P) (c0 c1 : C) (old new : Counts) (f0 f1 : ℕ) →
-    change_of settings ≡ None → old ≡ no_verdicts → f0 ≡ 0 → TookSignaling ports clocks (greatest_capacity settings) config settings.rounds p0 p1 c0 c1 old new f0 f1 →
+    change_of settings ≡ None → old ≡ no_verdicts → f0 ≡ 0 → TookSignaling ports clocks (greatest_capacity settings) config (all_rounds settings) p0 p1 c0 c1 old new f0 f1 →
     ServedSignaling ports clocks settings config p0 p1 c0 c1 new f1
 signaling_unchanged ports clocks settings config p0 p1 c0 c1 old new f0 f1 none fresh nothing took = record {
   control = λ still. unchanged_controlled ports settings config p0 p1 old new none fresh (took.did still);
@@ -282,7 +285,7 @@ signaling_unchanged ports clocks settings config p0 p1 c0 c1 old new f0 f1 none 
 }
 
 pub signaling_changed : {P C : Type 0} (ports : Ports P) (clocks : Clocks C) (settings : GmSettings) (config : GmConfig) (capacity e l : ℕ) (p0 p1 p2 p3 : P) (c0 c1 c2 c3 : C) (first seat next last : Counts) (f0 f1 f2 f3 : ℕ) →
-    change_of settings ≡ Some capacity → e ≡ settings.change_round - 1 → e + l ≡ settings.rounds → first ≡ no_verdicts → f0 ≡ 0 →
+    change_of settings ≡ Some capacity → e ≡ settings.change_round - 1 → e + l ≡ (all_rounds settings) → first ≡ no_verdicts → f0 ≡ 0 →
     TookSignaling ports clocks (greatest_capacity settings) config e p0 p1 c0 c1 first seat f0 f1 →
     (shed : List (Client × Kind)) × (sent : ℕ) × (failed : ℕ) × HandsOver ports p1 p2 (cancels_to config 0 shed) sent failed
     × (f2 ≡ min (f1 + failed) (2 ^ 64 - 1)) → PassedBy 1 (clocks.moments c1) (clocks.moments c2) → next ≡ seat →

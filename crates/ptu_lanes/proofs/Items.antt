@@ -92,10 +92,10 @@ one_more greatest config t client done item old now new outcomes outcome p is th
   answered = answered_more config done outcomes item outcome old now new p.answered q;
 }
 
--- where the counts leave room for 32 asks, the next one is below 2 ^ 48
+-- where the counts leave room for 32 asks, the next one is below 2 ^ 56
 pub room_left : (greatest : ℕ) (config : GmConfig) (t : ℕ) (client : Client) (items : List Item) (i : ℕ) (old now : Counts) (outcomes : List Outcome) →
     Decided greatest config t client (take i items) old now outcomes →
-    i < length items → length items ≤ 32 → old.granted + 32 ≤ 2 ^ 48 → old.refused + 32 ≤ 2 ^ 48 → (now.granted < 2 ^ 48) × (now.refused < 2 ^ 48)
+    i < length items → length items ≤ 32 → old.granted + 32 ≤ 2 ^ 56 → old.refused + 32 ≤ 2 ^ 56 → (now.granted < 2 ^ 56) × (now.refused < 2 ^ 56)
 room_left greatest config t client items i old now outcomes p lt few granted refused =
     let front : length (take i items) ≤ i = omega (arith, length-take i items) in
     let asks : asks_among (take i items) ≤ length (take i items) = asks-le (take i items) in

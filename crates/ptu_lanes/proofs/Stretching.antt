@@ -5,7 +5,7 @@ use Rattle.std.proofs.lemmas.{List.{drop-drop, map-append}, List.Elements.{All-a
 use Rattle.std.proofs.lemmas.{List.Sums.{sum_by-append}, Grind.{flat_map-append}}
 use Rattle.std.proofs.Math.Seq.{take-add}
 use Rattle.ptu_outside.specs.declared.{arrival.Arrival.{Arrival}, clock.Clock.{Ghosts as Clocks}}
-use Rattle.ptu_outside.specs.{declared.port.Port.{Ghosts as Ports}, Faults.{HasRisen}}
+use Rattle.ptu_outside.specs.{declared.port.Port.{Ghosts as Ports}, Faults.{HasNotFallen, HasRisen}}
 use Rattle.ptu_outside.proofs.HandsOver.{goes_on_both, not_fallen_both, not_fallen_none, rises_first, rises_second, told_both, told_none}
 use Rattle.ptu_profile.specs.declared.grandmaster.GmConfig.{GmConfig}
 use Rattle.ptu_shared.specs.{Opening.{HaveFailed}, Seats.{Counts}}
@@ -191,6 +191,24 @@ module _ {P C : Type 0} (ports : Ports P) (clocks : Clocks C) where
     missed = (missed, once, failures);
     failures = counts_more ports.counts_once (ports.faults port) (ports.faults port') failed missed failed' failures is;
     no_fall = failures.no_fall;
+  }
+
+  -- a wait behind them changes nothing of the port that it tells
+  pub delays_waited : (n : ℕ) (p0 p1 p2 : P) (c0 c1 : C) (f0 f1 : ℕ) → ports.sent p2 ≡ ports.sent p1 → ports.waiting p2 ≡ ports.waiting p1 →
+      ports.faults p2 ≡ ports.faults p1 → TookDelayReqs ports clocks n p0 p1 c0 c1 f0 f1 → TookDelayReqs ports clocks n p0 p2 c0 c1 f0 f1
+  delays_waited n p0 p1 p2 c0 c1 f0 f1 sent waiting faults d = record {
+    gave = λ same. subst (λ w. GaveFirst (64 * n) (ports.waiting p0) w) (sym waiting)
+        (d.gave (λ rises. same (subst (λ k. HasRisen (ports.faults p0) k) (sym faults) rises)));
+    took = record {
+      datagrams = d.took.datagrams;
+      few = d.took.few;
+      given = subst (λ w. IfSome w (λ later. ports.waiting p0 ≡ Some (d.took.datagrams ++ later))) (sym waiting) d.took.given;
+      moments = d.took.moments;
+    };
+    unsent = sent ∙ d.unsent;
+    missed = subst (λ k. (missed : ℕ) × (missed ≤ n) × HaveFailed ports.counts_once missed (ports.faults p0) k) (sym faults) d.missed;
+    failures = λ start f. subst (λ k. HaveFailed ports.counts_once f1 start k) (sym faults) (d.failures start f);
+    no_fall = subst (λ k. HasNotFallen (ports.faults p0) k) (sym faults) d.no_fall;
   }
 
   pub delays-append : (n m : ℕ) (p0 p1 p2 : P) (c0 c1 c2 : C) (f0 f1 f2 : ℕ) → TookDelayReqs ports clocks n p0 p1 c0 c1 f0 f1 → TookDelayReqs ports clocks m p1 p2 c1 c2 f1 f2 →

@@ -1,15 +1,15 @@
 -- The change of capacity of a grandmaster that is served (the project's own choice).
 use Rattle.std.specs.Prelude.{ℕ, ◌-◌, max, ◌&&◌, nat_lt, nat_le, if◌then◌else◌, Option, Some, None}
-use Rattle.ptu_config.specs.declared.settings.GmSettings.{GmSettings}
+use Rattle.ptu_config.specs.{declared.settings.GmSettings.{GmSettings}, Rounds.{all_rounds}}
 
--- the capacity to which it changes: there is one where the round of the change is one of the rounds
+-- the capacity to which it changes: there is one where the round of the change is one of all rounds
 abbrev pub change_of : GmSettings → Option ℕ
 change_of settings =
-    if nat_lt 0 settings.change_round && nat_le settings.change_round settings.rounds then settings.new_capacity else None
+    if nat_lt 0 settings.change_round && nat_le settings.change_round (all_rounds settings) then settings.new_capacity else None
 
 -- the rounds before the change, where it changes to this; all where it does not
 abbrev pub rounds_before : GmSettings → Option ℕ → ℕ
-rounds_before settings None = settings.rounds
+rounds_before settings None = all_rounds settings
 rounds_before settings (Some capacity) = settings.change_round - 1
 
 -- the rounds before the change

@@ -5,7 +5,7 @@ use Rattle.ptu_outside.specs.declared.{clock.Clock.{Ghosts as Clocks}, opened.Op
 use Rattle.ptu_outside.specs.Faults.{HasRisen}
 use Rattle.ptu_profile.specs.declared.grandmaster.GmConfig.{GmConfig}
 use Rattle.ptu_shared.specs.{Opening.{HaveFailed}, Seats.{Counts}}
-use Rattle.ptu_config.specs.declared.settings.GmSettings.{GmSettings}
+use Rattle.ptu_config.specs.{declared.settings.GmSettings.{GmSettings}, Rounds.{all_rounds}}
 use Rattle.ptu_lanes.specs.Served.{ExchangedAll, IsControlled}
 use Rattle.ptu_lanes.specs.{Stretches.{EventLaneDid, TookDelayReqs}, Waiting.{TurnedOwn}}
 use Rattle.ptu_lanes.specs.declared.lanes.{EventLane.{EventLane}, Lanes.{Lanes}, SendingLane.{SendingLane}, SendingLanes.{SendingLanes}}
@@ -77,11 +77,11 @@ pub record ServedSignaling {P C : Type 0} (ports : Ports P) (clocks : Clocks C) 
 pub record LanesServed {P C G R : Type 0} (ports : Ports P) (clocks : Clocks C) (settings : GmSettings) (config : GmConfig) (opened : Opened P C) (lanes : Lanes P C G R) : Type 0 where
   pub control : ServedSignaling ports clocks settings config opened.p4 lanes.control.port opened.c0 lanes.control.clock
       lanes.control.seat lanes.control.tally.failed
-  pub event : TookDelayReqs ports clocks settings.rounds opened.p5 lanes.event.port opened.c1 lanes.event.clock 0 lanes.event.tally.failed
-  pub first : TurnedOwn clocks settings.senders 0 settings.rounds opened.c2 lanes.sending.first.clock
-  pub second : TurnedOwn clocks settings.senders 1 settings.rounds opened.c3 lanes.sending.second.clock
-  pub third : TurnedOwn clocks settings.senders 2 settings.rounds opened.c4 lanes.sending.third.clock
-  pub fourth : TurnedOwn clocks settings.senders 3 settings.rounds opened.c5 lanes.sending.fourth.clock
+  pub event : TookDelayReqs ports clocks (all_rounds settings) opened.p5 lanes.event.port opened.c1 lanes.event.clock 0 lanes.event.tally.failed
+  pub first : TurnedOwn clocks settings.senders 0 (all_rounds settings) opened.c2 lanes.sending.first.clock
+  pub second : TurnedOwn clocks settings.senders 1 (all_rounds settings) opened.c3 lanes.sending.second.clock
+  pub third : TurnedOwn clocks settings.senders 2 (all_rounds settings) opened.c4 lanes.sending.third.clock
+  pub fourth : TurnedOwn clocks settings.senders 3 (all_rounds settings) opened.c5 lanes.sending.fourth.clock
 
 -- the lanes did all rounds, and no seat is left; or a lane was refused its thread, and all is as it was opened
 abbrev pub HasDone : {P C G R : Type 0} → Ports P → Clocks C → GmSettings → GmConfig → Opened P C → Done P C G R → Type 0

@@ -10,7 +10,7 @@ use Rattle.ptu_history.specs.declared.client.Client.{Client}
 use Rattle.ptu_profile.specs.declared.grandmaster.GmConfig.{GmConfig}
 use Rattle.ptu_shared.specs.Opening.{HaveFailed, Seen, seen_of}
 use Rattle.ptu_gm_messages.specs.Replies.{cancels_to}
-use Rattle.ptu_config.specs.declared.settings.GmSettings.{GmSettings}
+use Rattle.ptu_config.specs.{declared.settings.GmSettings.{GmSettings}, Rounds.{all_rounds}}
 use Rattle.ptu_rounds.specs.{Handed.{WasHanded}, Ports.{HaveRisenBy, HaveRisenJust, ports_of}}
 use Rattle.ptu_lanes.specs.Rounds.{Exchange, IsAnswered, asks_in, datagrams, grants_in, replies}
 use Rattle.ptu_lanes.specs.{Sending.{GoesOn, WasSent}, Waiting.{GaveFirst, MissedFew, PassedBy, Took, TurnedOwn}}
@@ -33,8 +33,8 @@ pub record IsControlled {P : Type 0} (ports : Ports P) (settings : GmSettings) (
   pub shed : List (Client × Kind)
   pub late : List Exchange
   pub early_are : datagrams early ≡ take (64 * early_rounds settings) waited
-  pub all_are : datagrams (early ++ late) ≡ take (64 * settings.rounds) waited
-  pub rest : left ≡ drop (64 * settings.rounds) waited
+  pub all_are : datagrams (early ++ late) ≡ take (64 * all_rounds settings) waited
+  pub rest : left ≡ drop (64 * all_rounds settings) waited
   pub unchanged : IfNone (change_of settings) (shed ≡ [])
   pub answered : All (IsAnswered (greatest_capacity settings) config) (early ++ late)
   pub told : WasSent ports port port' (replies_around config early shed late)
@@ -53,8 +53,8 @@ pub record ExchangedAll {P C : Type 0} (ports : Ports P) (clocks : Clocks C) (se
   pub shed : List (Client × Kind)
   pub late : List Exchange
   pub early_few : length early ≤ 64 * early_rounds settings
-  pub late_few : length late ≤ 64 * (settings.rounds - early_rounds settings)
-  pub few : length (early ++ late) ≤ 64 * settings.rounds
+  pub late_few : length late ≤ 64 * (all_rounds settings - early_rounds settings)
+  pub few : length (early ++ late) ≤ 64 * all_rounds settings
   pub unchanged : IfNone (change_of settings) (shed ≡ [])
   pub given : IfSome (ports.waiting port') (λ later. ports.waiting port ≡ Some (datagrams (early ++ late) ++ later))
   pub answered : All (IsAnswered (greatest_capacity settings) config) (early ++ late)
@@ -64,7 +64,7 @@ pub record ExchangedAll {P C : Type 0} (ports : Ports P) (clocks : Clocks C) (se
   pub sent : ℕ
   pub handed : WasHanded ports port port' (replies_around config early shed late) sent
   pub missed : ℕ
-  pub once : missed ≤ settings.rounds
+  pub once : missed ≤ all_rounds settings
   pub failed : ℕ
   pub each : sent + failed ≡ length (replies_around config early shed late) + missed
   pub failures : HaveFailed ports.counts_once failed (ports.faults port) (ports.faults port')
@@ -124,15 +124,15 @@ pub record ServesByLanes {P C : Type 0} (ports : Ports P) (clocks : Clocks C) (s
   pub exchanged : ExchangedAll ports clocks settings config opened.p4 closed.p4 opened.c0 closed.c0 numbers.granted numbers.refused
   -- likewise the port of the event channel, which was sent nothing, and goes on to tell that
   pub event : ¬ HasRisen (ports.faults opened.p5) (ports.faults closed.p5) →
-      GaveFirst (64 * settings.rounds) (ports.waiting opened.p5) (ports.waiting closed.p5)
-  pub took : Took ports clocks (64 * settings.rounds) 0 opened.p5 closed.p5 opened.c1 closed.c1
-  pub missed : MissedFew ports settings.rounds opened.p5 closed.p5
+      GaveFirst (64 * all_rounds settings) (ports.waiting opened.p5) (ports.waiting closed.p5)
+  pub took : Took ports clocks (64 * all_rounds settings) 0 opened.p5 closed.p5 opened.c1 closed.c1
+  pub missed : MissedFew ports (all_rounds settings) opened.p5 closed.p5
   pub unsent : ports.sent closed.p5 ≡ ports.sent opened.p5
   -- each lane that turns tables took a moment of its clock for each of its tables and each round
-  pub turned0 : TurnedOwn clocks settings.senders 0 settings.rounds opened.c2 closed.c2
-  pub turned1 : TurnedOwn clocks settings.senders 1 settings.rounds opened.c3 closed.c3
-  pub turned2 : TurnedOwn clocks settings.senders 2 settings.rounds opened.c4 closed.c4
-  pub turned3 : TurnedOwn clocks settings.senders 3 settings.rounds opened.c5 closed.c5
+  pub turned0 : TurnedOwn clocks settings.senders 0 (all_rounds settings) opened.c2 closed.c2
+  pub turned1 : TurnedOwn clocks settings.senders 1 (all_rounds settings) opened.c3 closed.c3
+  pub turned2 : TurnedOwn clocks settings.senders 2 (all_rounds settings) opened.c4 closed.c4
+  pub turned3 : TurnedOwn clocks settings.senders 3 (all_rounds settings) opened.c5 closed.c5
   -- the ports of the tables are given back as those of their tables: what waits there is what did
   pub idle : (i : ℕ) → waits_of ports closed i ≡ waits_of ports opened i
   -- what failed is at most what the counts of faults rose by together, and just that where each call that fails counts one fault;

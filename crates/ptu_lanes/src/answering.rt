@@ -58,7 +58,7 @@ fn answer_item<P: Port + Send, L: Rates, G: Ledger, R: Ledger, W: Wait>(
 ) -> Result<Outcome, OutOfMemory>
     requires ledger { L.parts ≡ 4 }
     requires limits { IsWithinLimits service.now.config.now }
-    requires counts { (seat.old.granted < 2 ^ 48) × (seat.old.refused < 2 ^ 48) }
+    requires counts { (seat.old.granted < 2 ^ 56) × (seat.old.refused < 2 ^ 56) }
     ensures item { IfOk result (λ o. item_seen o ≡ item) }
     ensures decided { IfOk result (WasDecided L.most service.now.config.now t client.now) }
     ensures answered { IfOk result (λ o. HasAnswered service.now.config.now (item ∷ [])
@@ -90,7 +90,7 @@ fn answer_items<P: Port + Send, L: Rates, G: Ledger, R: Ledger, W: Wait>(
     requires ledger { L.parts ≡ 4 }
     requires limits { IsWithinLimits service.now.config.now }
     requires few { length items.now ≤ 32 }
-    requires counts { (seat.old.granted + 32 ≤ 2 ^ 48) × (seat.old.refused + 32 ≤ 2 ^ 48) }
+    requires counts { (seat.old.granted + 32 ≤ 2 ^ 56) × (seat.old.refused + 32 ≤ 2 ^ 56) }
     ensures items { IfOk result (λ os. map item_seen os ≡ items.now) }
     ensures decided { IfOk result (All (WasDecided L.most service.now.config.now t client.now)) }
     ensures answered { IfOk result (λ os.
@@ -139,7 +139,7 @@ fn answer_signaling<P: Port + Send, L: Rates, G: Ledger, R: Ledger, W: Wait>(
     requires ledger { L.parts ≡ 4 }
     requires limits { IsWithinLimits service.now.config.now }
     requires answerable { AreAnswerable items.now }
-    requires counts { (seat.old.granted + 32 ≤ 2 ^ 48) × (seat.old.refused + 32 ≤ 2 ^ 48) }
+    requires counts { (seat.old.granted + 32 ≤ 2 ^ 56) × (seat.old.refused + 32 ≤ 2 ^ 56) }
     ensures answered { IfOk result (λ c. (outcomes : List Outcome)
         × (map item_seen outcomes ≡ items.now)
         × All (WasDecided L.most service.now.config.now origin.at
@@ -175,7 +175,7 @@ pub(crate) fn answer_datagram<P: Port + Send, L: Rates, G: Ledger, R: Ledger, W:
 ) -> Result<Control, OutOfMemory>
     requires ledger { L.parts ≡ 4 }
     requires limits { IsWithinLimits service.now.config.now }
-    requires counts { (seat.old.granted + 32 ≤ 2 ^ 48) × (seat.old.refused + 32 ≤ 2 ^ 48) }
+    requires counts { (seat.old.granted + 32 ≤ 2 ^ 56) × (seat.old.refused + 32 ≤ 2 ^ 56) }
     ensures replied { IfOk result (λ c. (outcomes : List Outcome)
         × HasReplied P.Port L.most service.now.config.now
         (record { datagram = record { ip = origin.from; bytes = bytes.now }; outcomes = outcomes })

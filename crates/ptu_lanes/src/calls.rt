@@ -76,7 +76,7 @@ impl<T: Drop, Q: Promise<T>> Call<T, Q> {
 #[derive(Drop)]
 pub(crate) struct EventWork<P: Port, C: Clock> {
     pub lane: Snapshot<EventLane<P, C>>,
-    pub rounds: u32,
+    pub rounds: u64,
 }
 
 impl<P: Port, C: Clock> Promise<Called<EventLane<P, C>>> for EventWork<P, C> {
@@ -88,7 +88,7 @@ impl<P: Port, C: Clock> Promise<Called<EventLane<P, C>>> for EventWork<P, C> {
 pub(crate) struct SendingWork<C: Clock> {
     pub lane: Snapshot<SendingLane<C>>,
     pub position: Position,
-    pub rounds: u32,
+    pub rounds: u64,
 }
 
 impl<C: Clock> Promise<Called<SendingLane<C>>> for SendingWork<C> {

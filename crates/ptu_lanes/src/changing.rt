@@ -6,7 +6,7 @@ ghost use Rattle.ptu_units.specs.declared.kind.Kind.{Kind};
 ghost use Rattle.ptu_history.specs.declared.client.Client.{Client};
 ghost use Rattle.ptu_units.specs.Limits.{IsCapacity};
 ghost use Rattle.ptu_gm_messages.specs.Replies.{cancels_to};
-ghost use Rattle.ptu_config.specs.Limits.{IsGmInRange};
+ghost use Rattle.ptu_config.specs.{Limits.{IsGmInRange}, Rounds.{all_rounds}};
 ghost use Rattle.ptu_profile.specs.Grandmaster.{IsWithinLimits};
 ghost use Rattle.ptu_shared.specs.Seats.{no_verdicts};
 ghost use Rattle.ptu_lanes.specs.{Changing.{change_of, greatest_capacity}, Crew.{ServedSignaling}, Waiting.{PassedBy}};
@@ -21,16 +21,17 @@ use ptu_units::OutOfMemory;
 use std::sync::Wait;
 use std::sync::ledger::Ledger;
 
-/// The capacity to which the settings change, if they do: the round of the change is one of the
+/// The capacity to which the settings change, if they do: the round of the change is one of all
 /// rounds.
 pub(crate) fn change(settings: &GmSettings) -> Option<u64>
     requires { IsGmInRange settings.now }
     ensures change { result ≡ change_of settings.now }
     ensures range { IfSome result (λ capacity. IsCapacity capacity) }
     ensures round { IsSome result → (1 ≤ settings.now.change_round)
-        × (settings.now.change_round ≤ settings.now.rounds) }
+        × (settings.now.change_round ≤ all_rounds settings.now) }
 {
-    if 0 < settings.change_round && settings.change_round <= settings.rounds {
+    let round = u64::from(settings.change_round);
+    if 0 < round && round <= settings.all_rounds() {
         settings.new_capacity
     } else {
         None
@@ -38,11 +39,11 @@ pub(crate) fn change(settings: &GmSettings) -> Option<u64>
 }
 
 /// How many rounds there are before the change of capacity, where there is one.
-pub(crate) fn rounds_before_change(settings: &GmSettings) -> Option<u32>
+pub(crate) fn rounds_before_change(settings: &GmSettings) -> Option<u64>
     requires { IsGmInRange settings.now }
 {
     match change(settings) {
-        Some(_) => Some(settings.change_round - 1),
+        Some(_) => Some(u64::from(settings.change_round) - 1),
         None => None,
     }
 }
@@ -91,7 +92,7 @@ impl<P: Port + Send, L: Rates, G: Ledger, R: Ledger, W: Wait> Service<'_, P, L, 
         requires change { change_of settings.now ≡ Some capacity }
         requires capacity { IsCapacity capacity }
         requires round { (1 ≤ settings.now.change_round)
-            × (settings.now.change_round ≤ settings.now.rounds) }
+            × (settings.now.change_round ≤ all_rounds settings.now) }
         requires limits { IsWithinLimits self.now.config.now }
         requires ledger { L.parts ≡ 4 }
         requires most { (capacity ≤ L.most) × (L.most ≡ greatest_capacity settings.now) }
@@ -101,8 +102,8 @@ impl<P: Port + Send, L: Rates, G: Ledger, R: Ledger, W: Wait> Service<'_, P, L, 
             self.now.config.now lane.port new.port lane.clock new.clock new.seat
             new.tally.failed) }
     {
-        let early = settings.change_round - 1;
-        let late = settings.rounds - early;
+        let early = u64::from(settings.change_round) - 1;
+        let late = settings.all_rounds() - early;
         let mut lane = self.take_part_signaling(rounds, early, lane)?;
         let changed = change_capacity(self, capacity, &mut lane);
         rounds.met(self.rt, changed)?;
@@ -132,7 +133,7 @@ impl<P: Port + Send, L: Rates, G: Ledger, R: Ledger, W: Wait> Service<'_, P, L, 
     {
         match change(settings) {
             Some(capacity) => self.take_signaling_around(settings, rounds, capacity, lane),
-            None => self.take_part_signaling(rounds, settings.rounds, lane),
+            None => self.take_part_signaling(rounds, settings.all_rounds(), lane),
         }
     }
 }

@@ -5,7 +5,7 @@
 ghost use Rattle.std.specs.Prelude.{◌≡◌, ◌+◌, ◌≤◌, ◌<◌, ℕ, [], IfOk, IfSome};
 ghost use Rattle.ptu_profile.specs.Grandmaster.{IsWithinLimits};
 ghost use Rattle.ptu_shared.specs.{Blanks.{IsBlankOf}, Opening.{seen_of}, Seats.{no_verdicts}};
-ghost use Rattle.ptu_config.specs.Limits.{IsGmInRange};
+ghost use Rattle.ptu_config.specs.{Limits.{IsGmInRange}, Rounds.{all_rounds}};
 ghost use Rattle.ptu_lanes.specs.Changing.{greatest_capacity};
 ghost use Rattle.ptu_lanes.specs.Crew.{AreTurning, CameTo, Ends, EventKept, HasDone, HasLeft, IsAtWork, IsServed, IsTurning, SendingKept, ServedSignaling};
 ghost use Rattle.ptu_lanes.specs.{Stretches.{EventLaneDid, HaveTurned}, Waiting.{TurnedOwn}};
@@ -379,7 +379,7 @@ where
         requires range { IsGmInRange settings.now }
         requires senders { 1 ≤ settings.now.senders }
         requires limits { IsWithinLimits self.now.config.now }
-        requires rounds { self.now.rounds.count ≡ settings.now.rounds }
+        requires rounds { self.now.rounds.count ≡ all_rounds settings.now }
         ensures { IfOk result (HasDone P.Port C.Clock settings.now self.now.config.now opened) }
     {
         let event = EventLane {
@@ -464,7 +464,7 @@ where
 {
     let rounds = Rounds {
         meeting: Meeting::new(2 + u64::from(settings.senders)),
-        count: settings.rounds,
+        count: settings.all_rounds(),
         early: rounds_before_change(settings),
     };
     let crew = Crew {
@@ -490,7 +490,7 @@ where
                 × (seen_of P.Port opened.p3 ≡ L.opened 3)
                 × IsGmInRange settings.now × (1 ≤ settings.now.senders)
                 × IsWithinLimits crew.now.config.now
-                × (crew.now.rounds.count ≡ settings.now.rounds) }
+                × (crew.now.rounds.count ≡ all_rounds settings.now) }
             ensures { IfOk result
                 (HasDone P.Port C.Clock settings.entry.now crew.entry.now.config.now opened) }
         { crew.work(scope, settings, blanks, opened) },

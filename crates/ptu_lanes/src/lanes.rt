@@ -10,7 +10,7 @@ use crate::service::Service;
 use crate::signaling::control_round;
 use crate::turns::turn_round;
 use ptu_outside::{Clock, Port};
-use ptu_rounds::Meeting;
+use ptu_rounds::{Meeting, last_moment};
 use ptu_shared::{Rates, Seat};
 use ptu_units::OutOfMemory;
 use std::sync::Wait;
@@ -73,9 +73,9 @@ pub(crate) struct SendingLanes<C: Clock> {
 #[derive(Drop)]
 pub(crate) struct Rounds {
     pub meeting: Meeting,
-    pub count: u32,
+    pub count: u64,
     /// The number of rounds before the change of capacity, or `None` where there is no change.
-    pub early: Option<u32>,
+    pub early: Option<u64>,
 }
 
 impl Rounds {
@@ -99,7 +99,7 @@ impl Rounds {
 
     // Begins a round, before which there were so many: the round of the change once the capacity
     // has changed. `OutOfMemory` where another lane gave up.
-    fn begin(&self, rt: &impl Wait, before: u32) -> Result<(), OutOfMemory> {
+    fn begin(&self, rt: &impl Wait, before: u64) -> Result<(), OutOfMemory> {
         if self.early == Some(before) {
             self.met(rt, Ok(()))
         } else {
@@ -131,7 +131,7 @@ impl<P: Port + Send, L: Rates, G: Ledger, R: Ledger, W: Wait> Service<'_, P, L, 
     ) -> Result<ControlLane<P, C, G, R>, OutOfMemory>
         requires ledger { L.parts ≡ 4 }
         requires limits { IsWithinLimits self.now.config.now }
-        requires counts { (lane.seat.granted ≤ 2 ^ 47) × (lane.seat.refused ≤ 2 ^ 47) }
+        requires counts { (lane.seat.granted ≤ 2 ^ 55) × (lane.seat.refused ≤ 2 ^ 55) }
         ensures { IfOk result (ControlLaneDid P.Port C.Clock L.most self.now.config.now 1 lane) }
     {
         let control = control_round(
@@ -147,9 +147,23 @@ impl<P: Port + Send, L: Rates, G: Ledger, R: Ledger, W: Wait> Service<'_, P, L, 
         Ok(lane)
     }
 
-    // A round of the lane that takes Delay_Reqs.
+    // Once all other lanes have come to the meeting, waits until a datagram is there to receive or a
+    // message may be due, as long as the port does. So what they were granted in this round counts,
+    // and they sleep meanwhile. Where a lane has given up it does not wait.
+    fn wait(&self, rounds: &Rounds, port: &mut P)
+        ensures sent { P.sent port.new ≡ P.sent port.old }
+        ensures waiting { P.waiting port.new ≡ P.waiting port.old }
+        ensures quiet { P.faults port.new ≡ P.faults port.old }
+    {
+        if rounds.meeting.await_others(self.rt) {
+            self.shared.wait(self.rt, port, last_moment());
+        }
+    }
+
+    // A round of the lane that takes Delay_Reqs, at whose end it waits.
     fn take_delay_reqs<C: Clock>(
         &self,
+        rounds: &Rounds,
         mut lane: EventLane<P, C>,
     ) -> Result<EventLane<P, C>, OutOfMemory>
         requires { IsWithinLimits self.now.config.now }
@@ -164,6 +178,7 @@ impl<P: Port + Send, L: Rates, G: Ledger, R: Ledger, W: Wait> Service<'_, P, L, 
             &mut lane.clock,
         )?;
         lane.tally = lane.tally.plus(delays.sent, delays.missed);
+        self.wait(rounds, &mut lane.port);
         Ok(lane)
     }
 
@@ -193,12 +208,13 @@ impl<P: Port + Send, L: Rates, G: Ledger, R: Ledger, W: Wait> Service<'_, P, L, 
     pub(crate) fn take_part_signaling<C: Clock>(
         &self,
         rounds: &Rounds,
-        count: u32,
+        count: u64,
         lane: ControlLane<P, C, G, R>,
     ) -> Result<ControlLane<P, C, G, R>, OutOfMemory>
         requires ledger { L.parts ≡ 4 }
         requires limits { IsWithinLimits self.now.config.now }
-        requires counts { lane.seat.granted + lane.seat.refused ≤ 2 ^ 46 }
+        requires count { count < 2 ^ 42 }
+        requires counts { lane.seat.granted + lane.seat.refused ≤ 2 ^ 54 }
         ensures { IfOk result
             (ControlLaneDid P.Port C.Clock L.most self.now.config.now count lane) }
     {
@@ -224,7 +240,7 @@ impl<P: Port + Send, L: Rates, G: Ledger, R: Ledger, W: Wait> Service<'_, P, L, 
         let mut lane = lane;
         for i in 0..rounds.count {
             rounds.begin(self.rt, i)?;
-            lane = rounds.met(self.rt, self.take_delay_reqs(lane))?;
+            lane = rounds.met(self.rt, self.take_delay_reqs(rounds, lane))?;
         }
         Ok(lane)
     }

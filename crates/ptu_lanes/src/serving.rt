@@ -209,10 +209,11 @@ where
 /// work side by side in each round. Lane 0 takes up to 64 datagrams of the general channel and
 /// answers Signaling; lane 1 takes up to 64 of the event channel and answers Delay_Reqs; lane
 /// `2 + i` turns the tables `j` with `j` mod `senders` = `i`. Lane `k` has clock `k`. Lane 0 is on
-/// this thread, and each other has one of its own. All meet after each round. The round of the
-/// number `change_round` begins with a change of the capacity to `new_capacity` at a moment of
-/// clock 0. A send or a receive that fails is counted. Gives the ports and clocks back, with the
-/// last numbers.
+/// this thread, and each other has one of its own. All meet after each round. Lane 1 comes last:
+/// once all others are there, it waits by port 5 until a datagram is there or a message may be due,
+/// and they sleep meanwhile. The round of the number `change_round` begins with a change of the
+/// capacity to `new_capacity` at a moment of clock 0. A send or a receive that fails is counted.
+/// Gives the ports and clocks back, with the last numbers.
 ///
 /// All threads are made before the first datagram is taken. Where the system refuses one, or wants
 /// memory for it, no lane serves: no datagram is taken or sent and no moment is taken of a clock,

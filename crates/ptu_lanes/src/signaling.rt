@@ -49,7 +49,7 @@ fn take_one<P: Port + Send, C: Clock, L: Rates, G: Ledger, R: Ledger, W: Wait>(
 ) -> Result<(Control, bool), OutOfMemory>
     requires ledger { L.parts ≡ 4 }
     requires limits { IsWithinLimits service.now.config.now }
-    requires counts { (seat.old.granted + 32 ≤ 2 ^ 48) × (seat.old.refused + 32 ≤ 2 ^ 48) }
+    requires counts { (seat.old.granted + 32 ≤ 2 ^ 56) × (seat.old.refused + 32 ≤ 2 ^ 56) }
     ensures served { IfOk result (λ r. (exchanges : List Exchange)
         × (length exchanges ≡ (if r.1 then 1 else 0))
         × (missed : ℕ) × (missed ≡ (if r.1 then 0 else r.0.failed))
@@ -98,7 +98,7 @@ pub fn control_round<P: Port + Send, C: Clock, L: Rates, G: Ledger, R: Ledger>(
 ) -> Result<Control, OutOfMemory>
     requires ledger { L.parts ≡ 4 }
     requires limits { IsWithinLimits config.now }
-    requires counts { (seat.old.granted ≤ 2 ^ 47) × (seat.old.refused ≤ 2 ^ 47) }
+    requires counts { (seat.old.granted ≤ 2 ^ 55) × (seat.old.refused ≤ 2 ^ 55) }
     // The seat's two counts rose together by the asks.
     ensures counts { IfOk result (λ c. seat.new.granted + seat.new.refused
         ≡ seat.old.granted + seat.old.refused + c.asks) }

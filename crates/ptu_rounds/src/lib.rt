@@ -3,7 +3,9 @@
 #![tactic(auto)]
 
 mod fault;
+mod last;
 mod meeting;
 
 pub use fault::DaemonFault;
+pub use last::last_moment;
 pub use meeting::Meeting;

@@ -28,6 +28,12 @@ impl Count {
         }
     }
 
+    // Whether one lane has others to wait for: more than that one are still to come, and none has
+    // given up.
+    fn lacks_others(&self) -> bool {
+        !self.short && 1 < self.lanes - self.come
+    }
+
     // Ends the meeting where all have come, and says whether it has.
     fn end(&mut self) -> bool {
         if self.come < self.lanes {
@@ -45,6 +51,7 @@ impl Count {
 pub struct Meeting {
     count: Mutex<Count>,
     ended: Condvar,
+    others_came: Condvar,
 }
 
 impl Meeting {
@@ -58,7 +65,19 @@ impl Meeting {
                 short: false,
             }),
             ended: Condvar::new(),
+            others_came: Condvar::new(),
         }
+    }
+
+    /// Waits until all others have come that take part, or one has given up. Says whether none
+    /// has. The others stay until this lane comes, too. Only one lane may wait so: two would wait
+    /// for each other.
+    pub fn await_others(&self, rt: &impl Wait) -> bool {
+        let count = self.count.lock(rt);
+        let count = self
+            .others_came
+            .wait_while(rt, count, |count| count.lacks_others());
+        !count.short
     }
 
     /// Comes, and waits until all have come that take part. Says whether no lane has given up.
@@ -68,6 +87,8 @@ impl Meeting {
         count.come();
         if count.end() {
             self.ended.notify_all();
+        } else if !count.lacks_others() {
+            self.others_came.notify_all();
         }
         let count = self
             .ended
@@ -83,5 +104,6 @@ impl Meeting {
         if 0 < count.come && count.end() {
             self.ended.notify_all();
         }
+        self.others_came.notify_all();
     }
 }

@@ -5,7 +5,7 @@ use Rattle.ptu_outside.specs.declared.{opened.Opened.{Opened}, port.Port.{Ghosts
 use Rattle.ptu_outside.specs.{Handing.{HasPut, HasPutFront, HasPutPart}, Telling.{IfTold}}
 use Rattle.ptu_config.specs.declared.{key.Key.{Key}, settings.GmSettings.{GmSettings}}
 use Rattle.ptu_config.specs.declared.settings.SlaveSettings.{SlaveSettings}
-use Rattle.ptu_config.specs.{Entries.{gm_entries, slave_entries}, Rules.{Value}}
+use Rattle.ptu_config.specs.{Entries.{gm_entries, slave_entries}, Rounds.{all_rounds, all_slave_rounds}, Rules.{Value}}
 use Rattle.ptu_config.specs.declared.setup_fault.SetupFault.TheVariants.{Refused}
 use Rattle.ptu_config.specs.declared.refusal.RefusalLine.{RefusalLine}
 use Rattle.ptu_config.specs.Reading.{Answers, HasSetUp, HasTakenSome}
@@ -86,12 +86,12 @@ module _ {K P C : Type 0} (ports : Ports P) (clocks : Clocks C) (written : K →
 
   -- a grandmaster of these settings was served, and the one line with its numbers was written
   abbrev pub ServedWhole : GmSettings → Type 0
-  ServedWhole settings = ServesAt settings × ((said : Said) × HasPut written handed old new (closing_line settings.rounds said ∷ [])
+  ServedWhole settings = ServesAt settings × ((said : Said) × HasPut written handed old new (closing_line (all_rounds settings) said ∷ [])
       × IsServed ports clocks opening back settings said)
 
   -- the line was not written whole
   abbrev pub ServedInPart : GmSettings → Type 0
-  ServedInPart settings = ServesAt settings × ((said : Said) × HasPutFront written handed old new (closing_line settings.rounds said)
+  ServedInPart settings = ServesAt settings × ((said : Said) × HasPutFront written handed old new (closing_line (all_rounds settings) said)
       × IsServed ports clocks opening back settings said)
 
   -- a run with the word `serve` ended with this status
@@ -120,7 +120,7 @@ module _ {K P C : Type 0} (ports : Ports P) (clocks : Clocks C) (written : K →
   -- a front of an output of its form was written: selections, and the closing line with the rounds of the settings
   abbrev pub WroteLines : SlaveSettings → Type 0
   WroteLines settings = (selections : List Selection) × (sent : ℕ) × (failed : ℕ)
-      × HasPutPart written handed old new (texts_of (output settings.rounds selections sent failed))
+      × HasPutPart written handed old new (texts_of (output (all_slave_rounds settings) selections sent failed))
 
   -- the slave ran so until the sink failed
   abbrev pub FollowedInPart : SlaveSettings → Type 0

@@ -62,8 +62,8 @@ fn add_counts<L: Rates, G: Ledger, R: Ledger>(
 ) -> (u64, u64)
     requires ledgers { (G.parts ≡ L.seats) × (R.parts ≡ L.seats) }
     requires parts { (0 < grants.old.parts) × (refusals.old.parts ≡ grants.old.parts) }
-    requires granted { granted + grants.old.amount ≡ grants.old.parts * 2 ^ 48 }
-    requires refused { refused + refusals.old.amount ≡ refusals.old.parts * 2 ^ 48 }
+    requires granted { granted + grants.old.amount ≡ grants.old.parts * 2 ^ 56 }
+    requires refused { refused + refusals.old.amount ≡ refusals.old.parts * 2 ^ 56 }
     ensures sums { (result.0 ≡ granted + granted_in seats.old)
         × (result.1 ≡ refused + refused_in seats.old) }
     ensures all { grants.old.parts + length seats.old ≡ L.seats →

@@ -19,7 +19,7 @@ use std::sync::ledger::{self, Blank, Ledger, Share};
 
 // The book beside the books of the three ledgers and the number of seats. The book's total is that
 // of the ledger of rates, whose parts stand beside the tables. What each ledger of verdicts has
-// left of 2^48 for each seat is what was counted.
+// left of 2^56 for each seat is what was counted.
 #[derive(Drop)]
 pub(crate) struct Desk<L: Rates, G: Ledger, R: Ledger> {
     pub book: Book,
@@ -33,14 +33,14 @@ pub(crate) struct Desk<L: Rates, G: Ledger, R: Ledger> {
     ghost within: { book.capacity ≤ L.most },
     ghost few: { seats ≤ 64 },
     ghost all_seats: { seats ≡ L.seats },
-    ghost granted_is: { granted + grants.total ≡ seats * 2 ^ 48 },
-    ghost refused_is: { refused + refusals.total ≡ seats * 2 ^ 48 },
+    ghost granted_is: { granted + grants.total ≡ seats * 2 ^ 56 },
+    ghost refused_is: { refused + refusals.total ≡ seats * 2 ^ 56 },
 }
 
 impl<L: Rates, G: Ledger, R: Ledger> Desk<L, G, R> {
     // Counts a verdict at the seat and here.
     pub fn count(&mut self, seat: &mut Seat<G, R>, verdict: &Verdict)
-        requires { (seat.old.granted < 2 ^ 48) × (seat.old.refused < 2 ^ 48) }
+        requires { (seat.old.granted < 2 ^ 56) × (seat.old.refused < 2 ^ 56) }
         ensures seat { seat.new ≡ counting verdict.now seat.old }
         ensures desk { counting verdict.now
             (record { granted = self.old.granted; refused = self.old.refused })
@@ -55,7 +55,7 @@ impl<L: Rates, G: Ledger, R: Ledger> Desk<L, G, R> {
     }
 
     fn count_granted(&mut self, seat: &mut Seat<G, R>)
-        requires { seat.old.granted < 2 ^ 48 }
+        requires { seat.old.granted < 2 ^ 56 }
         ensures seat { seat.new ≡ record seat.old { granted = seat.old.granted + 1 } }
         ensures desk { (self.new.granted ≡ self.old.granted + 1)
             × (self.new.refused ≡ self.old.refused) }
@@ -67,7 +67,7 @@ impl<L: Rates, G: Ledger, R: Ledger> Desk<L, G, R> {
     }
 
     fn count_refused(&mut self, seat: &mut Seat<G, R>)
-        requires { seat.old.refused < 2 ^ 48 }
+        requires { seat.old.refused < 2 ^ 56 }
         ensures seat { seat.new ≡ record seat.old { refused = seat.old.refused + 1 } }
         ensures desk { (self.new.granted ≡ self.old.granted)
             × (self.new.refused ≡ self.old.refused + 1) }
@@ -87,7 +87,7 @@ fn make_seats<G: Ledger, R: Ledger>(
     mut refusals: Share<R>,
 ) -> Result<Vec<Seat<G, R>>, OutOfMemory>
     requires parts { (grants.parts ≡ count) × (refusals.parts ≡ count) }
-    requires amounts { (grants.amount ≡ count * 2 ^ 48) × (refusals.amount ≡ count * 2 ^ 48) }
+    requires amounts { (grants.amount ≡ count * 2 ^ 56) × (refusals.amount ≡ count * 2 ^ 56) }
     ensures { IfOk result (λ seats. seats.items ≡ replicate count no_verdicts) }
 {
     let mut seats = Vec::with_capacity(alloc, count)?;

@@ -7,10 +7,10 @@ use std::marker::Model;
 use std::sync::ledger::{Ledger, Share};
 
 /// From where a seat's amounts in the ledgers of verdicts count down.
-pub(crate) const FULL: u64 = 1 << 48;
+pub(crate) const FULL: u64 = 1 << 56;
 
 /// A place from which a thread asks. It counts the asks that were granted and those within the
-/// profile that did not fit, and it has one part of each ledger of verdicts, whose amount is 2^48
+/// profile that did not fit, and it has one part of each ledger of verdicts, whose amount is 2^56
 /// less the count.
 #[derive(Drop)]
 pub struct Seat<G: Ledger, R: Ledger> {
@@ -29,14 +29,14 @@ impl<G: Ledger, R: Ledger> Model for Seat<G, R> {
     ghost view = { λ s. record { granted = s.granted; refused = s.refused } };
 
     ghost invariant = { λ s. (s.grants.parts ≡ 1) × (s.refusals.parts ≡ 1)
-        × (s.granted + s.grants.amount ≡ 2 ^ 48) × (s.refused + s.refusals.amount ≡ 2 ^ 48) };
+        × (s.granted + s.grants.amount ≡ 2 ^ 56) × (s.refused + s.refusals.amount ≡ 2 ^ 56) };
 }
 
 impl<G: Ledger, R: Ledger> Seat<G, R> {
     // A seat that has counted nothing.
     pub(crate) fn new(grants: Share<G>, refusals: Share<R>) -> Seat<G, R>
         requires parts { (grants.parts ≡ 1) × (refusals.parts ≡ 1) }
-        requires amounts { (grants.amount ≡ 2 ^ 48) × (refusals.amount ≡ 2 ^ 48) }
+        requires amounts { (grants.amount ≡ 2 ^ 56) × (refusals.amount ≡ 2 ^ 56) }
         ensures { result ≡ no_verdicts }
     {
         Seat {
@@ -50,7 +50,7 @@ impl<G: Ledger, R: Ledger> Seat<G, R> {
     /// How many of its asks were granted.
     pub fn granted(&self) -> u64
         ensures value { result ≡ self.now.granted }
-        ensures below { result ≤ 2 ^ 48 }
+        ensures below { result ≤ 2 ^ 56 }
     {
         self.granted
     }
@@ -58,7 +58,7 @@ impl<G: Ledger, R: Ledger> Seat<G, R> {
     /// How many of its asks within the profile did not fit.
     pub fn refused(&self) -> u64
         ensures value { result ≡ self.now.refused }
-        ensures below { result ≤ 2 ^ 48 }
+        ensures below { result ≤ 2 ^ 56 }
     {
         self.refused
     }

@@ -110,7 +110,7 @@ impl<P: Port + Send, L: Rates, G: Ledger, R: Ledger> Shared<P, L, G, R> {
     ) -> Result<Verdict, OutOfMemory>
         requires ledger { L.parts ≡ 4 }
         requires limits { IsWithinLimits config.now }
-        requires counts { (seat.old.granted < 2 ^ 48) × (seat.old.refused < 2 ^ 48) }
+        requires counts { (seat.old.granted < 2 ^ 56) × (seat.old.refused < 2 ^ 56) }
         ensures verdict { IfOk result (AnswersAsk L.most config.now t client.now ask.now) }
         // The granted count rises by 1 exactly at Granted, the refused count exactly at Short.
         ensures seat { IfOk result (λ v. seat.new ≡ counting v seat.old) }
@@ -145,7 +145,7 @@ impl<P: Port + Send, L: Rates, G: Ledger, R: Ledger> Shared<P, L, G, R> {
     ) -> Result<Option<Verdict>, OutOfMemory>
         requires table { table_of_client demand.now.client.now ≡ J.index }
         requires limits { IsWithinLimits demand.now.config.now }
-        requires counts { (seat.old.granted < 2 ^ 48) × (seat.old.refused < 2 ^ 48) }
+        requires counts { (seat.old.granted < 2 ^ 56) × (seat.old.refused < 2 ^ 56) }
         ensures verdict { IfOk result (λ o. IfSome o
             (AnswersAsk L.most demand.now.config.now demand.now.at demand.now.client.now
             demand.now.ask.now)) }
@@ -172,7 +172,7 @@ impl<P: Port + Send, L: Rates, G: Ledger, R: Ledger> Shared<P, L, G, R> {
     ) -> Result<Verdict, OutOfMemory>
         requires ledger { L.parts ≡ 4 }
         requires limits { IsWithinLimits demand.now.config.now }
-        requires counts { (seat.old.granted < 2 ^ 48) × (seat.old.refused < 2 ^ 48) }
+        requires counts { (seat.old.granted < 2 ^ 56) × (seat.old.refused < 2 ^ 56) }
         ensures verdict { IfOk result
             (AnswersAsk L.most demand.now.config.now demand.now.at demand.now.client.now
             demand.now.ask.now) }
@@ -281,5 +281,29 @@ impl<P: Port + Send, L: Rates, G: Ledger, R: Ledger> Shared<P, L, G, R> {
             2 => self.t2.lock(rt).answer_delay(config, t, client, request),
             _ => self.t3.lock(rt).answer_delay(config, t, client, request),
         }
+    }
+
+    // The earliest moment up to `until` at which a turn of some table may have a message to send,
+    // or `until` where there is none before it. Each table is asked under its lock alone.
+    fn next_due(&self, rt: &impl Wait, until: Moment) -> Moment
+        ensures { result ≤ until }
+    {
+        let first = self.t0.lock(rt).shard.next_due(until);
+        let second = self.t1.lock(rt).shard.next_due(first);
+        let third = self.t2.lock(rt).shard.next_due(second);
+        self.t3.lock(rt).shard.next_due(third)
+    }
+
+    /// Waits at this port until a datagram is there to receive, or until a turn of some table may
+    /// have a message to send, but no longer than until `until`, nor than the port allows. What the
+    /// tables have when it begins counts: what other threads are granted meanwhile does not end it.
+    /// No lock is held while it waits.
+    pub fn wait(&self, rt: &impl Wait, port: &mut P, until: Moment)
+        ensures sent { P.sent port.new ≡ P.sent port.old }
+        ensures waiting { P.waiting port.new ≡ P.waiting port.old }
+        ensures quiet { P.faults port.new ≡ P.faults port.old }
+    {
+        let due = self.next_due(rt, until);
+        port.wait(due);
     }
 }

@@ -1,2 +1,3 @@
 mod shared;
 mod shared_held;
+mod shared_waits;

@@ -8,7 +8,7 @@ use Rattle.ptu_outside.specs.{Departure.{Departure}, Faults.{HasRisen, HasRisenB
 use Rattle.ptu_outside.specs.Handing.{HasPut, HasPutPart}
 use Rattle.ptu_outside.proofs.Putting.{HasPutPart-append}
 use Rattle.ptu_judges.specs.Held.{Held}
-use Rattle.ptu_config.specs.declared.settings.SlaveSettings.{SlaveSettings}
+use Rattle.ptu_config.specs.{declared.settings.SlaveSettings.{SlaveSettings}, Rounds.{all_slave_rounds}}
 use Rattle.ptu_slave.specs.Kept.{Kept}
 use Rattle.ptu_rounds.specs.{Handed.{FailuresAre}, Ports.{HaveNotRisen, HaveRisenBy, HaveRisenJust, ports_of}}
 use Rattle.ptu_slave_daemon.specs.declared.line.SlaveLine.{SlaveLine}
@@ -75,8 +75,8 @@ aside_of sent opened own event clock same = record { p0 = refl; p1 = refl; p2 = 
 module _ {P C K : Type 0} (ports : Ports P) (clocks : Clocks C) (written : K → Option (List ℕ)) (handed : K → Option (List (List ℕ))) where
   module _ (settings : SlaveSettings) (before after : Opened P C) (old new : K) (kept kept' : Kept) (judges judges' : List Held)
       (selections : List Selection) (sends failures : ℕ) (aside : AreAside ports.sent before after)
-      (put : HasPut written handed old new (texts_of (output settings.rounds (changes None selections) sends failures)))
-      (r : RunDone ports.counts_once settings.rounds selections sends failures (node_of settings) [] (view_of ports clocks kept judges before.p4 before.c0) (view_of ports clocks kept' judges' after.p4 after.c0)
+      (put : HasPut written handed old new (texts_of (output (all_slave_rounds settings) (changes None selections) sends failures)))
+      (r : RunDone ports.counts_once (all_slave_rounds settings) selections sends failures (node_of settings) [] (view_of ports clocks kept judges before.p4 before.c0) (view_of ports clocks kept' judges' after.p4 after.c0)
       (ports.waiting before.p4) (ports.waiting after.p4) (ports.waiting before.p5) (ports.waiting after.p5) (ports.faults before.p5) (ports.faults after.p5)) where
     have_risen : HaveRisenBy failures (map ports.faults (ports_of before)) (map ports.faults (ports_of after))
     have_risen =
@@ -123,14 +123,14 @@ module _ {P C K : Type 0} (ports : Ports P) (clocks : Clocks C) (written : K →
 
     done_as_said : (general event : List Arrival) (times : List ℕ) → Tell ports clocks before after general event times
         → HaveNotRisen (map ports.faults (ports_of before)) (map ports.faults (ports_of after))
-        → HasDone ports clocks written handed settings before after old new (happenings settings.rounds general event times)
+        → HasDone ports clocks written handed settings before after old new (happenings (all_slave_rounds settings) general event times)
     done_as_said general event times tell none = subst (HasDone ports clocks written handed settings before after old new)
-        (run_is ports.counts_once (node_of settings) [] _ _ _ _ _ _ _ _ settings.rounds selections sends failures general event times r tell.general_is tell.event_is tell.times_are
+        (run_is ports.counts_once (node_of settings) [] _ _ _ _ _ _ _ _ (all_slave_rounds settings) selections sends failures general event times r tell.general_is tell.event_is tell.times_are
         tell.general_after tell.event_after tell.times_after none.1.1.1.1.0 none.1.1.1.1.1.0)
         (record {
           sends = r.ran.port.part.all none.1.1.1.1.0;
           writes = subst (λ lines. HasPut written handed old new (texts_of lines))
-              (run_output ports.counts_once (node_of settings) [] _ _ _ _ _ _ _ _ settings.rounds selections sends failures r none.1.1.1.1.0 none.1.1.1.1.1.0) put;
+              (run_output ports.counts_once (node_of settings) [] _ _ _ _ _ _ _ _ (all_slave_rounds settings) selections sends failures r none.1.1.1.1.0 none.1.1.1.1.1.0) put;
         })
 
     pub has_served : HasServed ports clocks written handed settings before after old new
@@ -148,21 +148,21 @@ module _ {P C K : Type 0} (ports : Ports P) (clocks : Clocks C) (written : K →
   -- the same of the slave's own port, which is port 4
   pub has_served_by : (settings : SlaveSettings) (before after : Opened P C) (old new : K) (kept kept' : Kept) (judges judges' : List Held) (p q : P)
       (selections : List Selection) (sends failures : ℕ) → AreAside ports.sent before after → p ≡ before.p4 → after.p4 ≡ q
-      → HasPut written handed old new (texts_of (output settings.rounds (changes None selections) sends failures))
-      → RunDone ports.counts_once settings.rounds selections sends failures (node_of settings) [] (view_of ports clocks kept judges p before.c0) (view_of ports clocks kept' judges' q after.c0)
+      → HasPut written handed old new (texts_of (output (all_slave_rounds settings) (changes None selections) sends failures))
+      → RunDone ports.counts_once (all_slave_rounds settings) selections sends failures (node_of settings) [] (view_of ports clocks kept judges p before.c0) (view_of ports clocks kept' judges' q after.c0)
       (ports.waiting p) (ports.waiting q) (ports.waiting before.p5) (ports.waiting after.p5) (ports.faults before.p5) (ports.faults after.p5)
       → HasServed ports clocks written handed settings before after old new
   has_served_by settings before after old new kept kept' judges judges' p q selections sends failures aside own back put r =
       has_served settings before after old new kept kept' judges judges' selections sends failures aside put
-      (subst (λ x. RunDone ports.counts_once settings.rounds selections sends failures (node_of settings) [] (view_of ports clocks kept judges before.p4 before.c0) (view_of ports clocks kept' judges' x after.c0)
+      (subst (λ x. RunDone ports.counts_once (all_slave_rounds settings) selections sends failures (node_of settings) [] (view_of ports clocks kept judges before.p4 before.c0) (view_of ports clocks kept' judges' x after.c0)
       (ports.waiting before.p4) (ports.waiting x) (ports.waiting before.p5) (ports.waiting after.p5) (ports.faults before.p5) (ports.faults after.p5)) (sym back)
-      (subst (λ x. RunDone ports.counts_once settings.rounds selections sends failures (node_of settings) [] (view_of ports clocks kept judges x before.c0) (view_of ports clocks kept' judges' q after.c0)
+      (subst (λ x. RunDone ports.counts_once (all_slave_rounds settings) selections sends failures (node_of settings) [] (view_of ports clocks kept judges x before.c0) (view_of ports clocks kept' judges' q after.c0)
       (ports.waiting x) (ports.waiting q) (ports.waiting before.p5) (ports.waiting after.p5) (ports.faults before.p5) (ports.faults after.p5)) own r))
 
   -- the sink failed
   pub has_stopped : (settings : SlaveSettings) (before after : Opened P C) (old new : K) (kept kept' : Kept) (judges judges' : List Held) (p q : P) (lines : List SlaveLine)
       → AreAside ports.sent before after → p ≡ before.p4 → after.p4 ≡ q → HasPutPart written handed old new (texts_of lines)
-      → IsFront settings.rounds lines (node_of settings) [] (view_of ports clocks kept judges p before.c0) (view_of ports clocks kept' judges' q after.c0)
+      → IsFront (all_slave_rounds settings) lines (node_of settings) [] (view_of ports clocks kept judges p before.c0) (view_of ports clocks kept' judges' q after.c0)
       (ports.waiting p) (ports.waiting q) (ports.waiting before.p5) (ports.waiting after.p5) (ports.faults before.p5) (ports.faults after.p5)
       → HasStopped ports clocks written handed settings before after old new
   has_stopped settings before after old new kept kept' judges judges' p q lines aside own back part front = record {

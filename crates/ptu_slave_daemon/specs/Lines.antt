@@ -4,7 +4,7 @@ use Rattle.std.specs.Fmt.{decimal}
 use Rattle.ptu_record.specs.Record.{Record}
 use Rattle.ptu_slave_messages.specs.Node.{Node}
 use Rattle.ptu_texts.specs.Texts.{address_text}
-use Rattle.ptu_config.specs.declared.settings.SlaveSettings.{SlaveSettings}
+use Rattle.ptu_config.specs.{declared.settings.SlaveSettings.{SlaveSettings}, Rounds.{all_slave_rounds}}
 use Rattle.ptu_slave_daemon.specs.declared.line.SlaveLine.{SlaveLine}
 use Rattle.ptu_slave_daemon.specs.declared.line.SlaveLine.TheVariants.{Selected, Closing}
 use Rattle.ptu_slave_daemon.specs.Opening.{node_of}
@@ -57,7 +57,7 @@ output_from rounds node L hs =
 
 -- that of a daemon with these settings
 abbrev pub output_of : SlaveSettings → List Happening → List SlaveLine
-output_of s hs = output_from s.rounds (node_of s) [] hs
+output_of s hs = output_from (all_slave_rounds s) (node_of s) [] hs
 
 abbrev pub texts_of : List SlaveLine → List (List ℕ)
 texts_of lines = map line_text lines

@@ -4,7 +4,7 @@ use Rattle.ptu_outside.specs.declared.{arrival.Arrival.{Arrival}, clock.Clock.{G
 use Rattle.ptu_outside.specs.declared.{opened.Opened.{Opened}, port.Port.{Ghosts as Ports}}
 use Rattle.ptu_outside.specs.{Departure.{Departure}, Handing.{HasPut, HasPutPart}}
 use Rattle.ptu_outside.specs.Telling.{IfTold, append_told}
-use Rattle.ptu_config.specs.declared.settings.SlaveSettings.{SlaveSettings}
+use Rattle.ptu_config.specs.{declared.settings.SlaveSettings.{SlaveSettings}, Rounds.{all_slave_rounds}}
 use Rattle.ptu_rounds.specs.{Handed.{FailuresAre, SentPart}, Ports.{HaveNotRisen, ports_of}}
 use Rattle.ptu_rounds.specs.Taken.{Gave, HappenedAt, HaveTaken, Round, event_of, general_of}
 use Rattle.ptu_slave_daemon.specs.Happenings.{Happening, Selection, Stops, acts_of, happenings, selections_in, sent_in}
@@ -40,7 +40,7 @@ pub record Happened {P C : Type 0} (ports : Ports P) (clocks : Clocks C) (settin
     (selections : List Selection) (sent : ℕ) : Type 0 where
   -- each round took at most 64 datagrams of each channel, the first that waited where its port still tells that
   pub rounds : List Round
-  pub taken : HaveTaken rounds settings.rounds
+  pub taken : HaveTaken rounds (all_slave_rounds settings)
   pub general : Gave (ports.waiting before.p4) (ports.waiting after.p4) (general_of rounds)
   pub event : Gave (ports.waiting before.p5) (ports.waiting after.p5) (event_of rounds)
   -- what happens in such rounds, and the stop, happened: each thing at some moment, which is the next of clock 0 where that still
@@ -67,7 +67,7 @@ module _ {P C K : Type 0} (ports : Ports P) (clocks : Clocks C) (written : K →
     pub selections : List Selection
     pub sends : ℕ
     pub failures : ℕ
-    pub writes : HasPut written handed old new (texts_of (output settings.rounds selections sends failures))
+    pub writes : HasPut written handed old new (texts_of (output (all_slave_rounds settings) selections sends failures))
     -- so many sends and receives failed
     pub failed : FailuresAre ports.counts_once failures (map ports.faults (ports_of before)) (map ports.faults (ports_of after))
     -- so many datagrams were sent by port 4, a part of what the record of what came makes the slave send
@@ -75,7 +75,7 @@ module _ {P C K : Type 0} (ports : Ports P) (clocks : Clocks C) (written : K →
     -- where all is told and no port failed, all is as the rounds say
     pub exact : (general event : List Arrival) (times : List ℕ) → Tell ports clocks before after general event times
         → HaveNotRisen (map ports.faults (ports_of before)) (map ports.faults (ports_of after))
-        → HasDone settings before after old new (happenings settings.rounds general event times)
+        → HasDone settings before after old new (happenings (all_slave_rounds settings) general event times)
 
   -- a daemon with these settings has run over the ports and clocks that were opened until the sink failed, and has given these
   -- back
@@ -84,4 +84,4 @@ module _ {P C K : Type 0} (ports : Ports P) (clocks : Clocks C) (written : K →
     -- where all is told and no port failed, what was written is a front of what the rounds say
     pub front : (general event : List Arrival) (times : List ℕ) → Tell ports clocks before after general event times
         → HaveNotRisen (map ports.faults (ports_of before)) (map ports.faults (ports_of after))
-        → HasPutPart written handed old new (texts_of (output_of settings (happenings settings.rounds general event times)))
+        → HasPutPart written handed old new (texts_of (output_of settings (happenings (all_slave_rounds settings) general event times)))

@@ -2,7 +2,7 @@
 
 ghost use Rattle.std.specs.Prelude.{◌≡◌, ℕ, List, length, map, IfOk, OnOk, OnErr, IsErrOf, true};
 ghost use Rattle.ptu_outside.specs.{declared.opened.Opened.{Opened}, Handing.{HasPutPart}};
-ghost use Rattle.ptu_config.specs.Limits.{IsSlaveInRange};
+ghost use Rattle.ptu_config.specs.{Limits.{IsSlaveInRange}, Rounds.{all_slave_rounds}};
 ghost use Rattle.ptu_judges.specs.Held.{IsStock};
 ghost use Rattle.ptu_rounds.specs.Opening.{OpenedAt};
 ghost use Rattle.ptu_slave_daemon.specs.Answers.{CountsOpen, CountsWrite, FailsWith, WasGivenBack, WasOpened};
@@ -40,7 +40,7 @@ fn run_over<P: Port, C: Clock, K: Sink>(
         settings.now opened pair.0 sink.old sink.new)) }
     ensures part { IfOk result (λ pair. OnErr pair.1 ((selections : List Selection) × (sends : ℕ)
         × (failures : ℕ) × HasPutPart K.written K.handed sink.old sink.new
-        (texts_of (output settings.now.rounds selections sends failures)))) }
+        (texts_of (output (all_slave_rounds settings.now) selections sends failures)))) }
     ensures front { IfOk result (λ pair. OnErr pair.1
         (HasStopped P.Port C.Clock K.written K.handed
         settings.now opened pair.0 sink.old sink.new)) }
@@ -48,7 +48,7 @@ fn run_over<P: Port, C: Clock, K: Sink>(
         (K.faults sink.new)) }
     ensures stopped { OnErr result ((selections : List Selection) × (sends : ℕ) × (failures : ℕ)
         × HasPutPart K.written K.handed sink.old sink.new
-        (texts_of (output settings.now.rounds selections sends failures))) }
+        (texts_of (output (all_slave_rounds settings.now) selections sends failures))) }
     ensures still { OnErr result (K.faults sink.new ≡ K.faults sink.old) }
 {
     let Opened {
@@ -60,7 +60,7 @@ fn run_over<P: Port, C: Clock, K: Sink>(
     let mut slave = open_slave(alloc, settings, stock, p4)?;
     let answer = run(
         alloc,
-        settings.rounds,
+        settings.all_rounds(),
         &mut slave,
         &mut event,
         &mut clock,
@@ -118,7 +118,7 @@ pub fn slave<H: Host, K: Sink>(
     // and the closing line.
     ensures part { OnErr result ((selections : List Selection) × (sends : ℕ) × (failures : ℕ)
         × HasPutPart K.written K.handed sink.old sink.new
-        (texts_of (output settings.now.rounds selections sends failures))) }
+        (texts_of (output (all_slave_rounds settings.now) selections sends failures))) }
     // Where nothing was opened nothing is written.
     ensures nothing { IsErrOf result DaemonFault.Open → sink.new ≡ sink.old }
     // Where the sink failed the ports and clocks were given back too; and where they tell all and

@@ -30,13 +30,13 @@ pub enum SlaveLine {
     /// After this round the master at this IPv4 address is selected, or none, and the line before
     /// did not say so.
     Selected {
-        round: u32,
+        round: u64,
         master: Option<u32>,
     },
     /// The last line: how many rounds there were, how many datagrams were sent, and how many sends
     /// and receives failed.
     Closing {
-        rounds: u32,
+        rounds: u64,
         sent: u128,
         failed: u128,
     },

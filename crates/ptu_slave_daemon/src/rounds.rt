@@ -4,6 +4,7 @@ ghost use Rattle.std.specs.Prelude.{◌≡◌, ◌≤◌, ◌+◌, ◌*◌, ◌^
 ghost use Rattle.ptu_outside.specs.declared.arrival.Arrival.{Arrival};
 ghost use Rattle.ptu_outside.specs.Handing.{HasPut, HasPutPart};
 ghost use Rattle.ptu_record.specs.Record.{Record};
+ghost use Rattle.ptu_config.specs.Rounds.{IsRoundCount};
 ghost use Rattle.ptu_slave_messages.specs.Node.{Node};
 ghost use Rattle.ptu_slave_daemon.specs.{declared.line.SlaveLine.{SlaveLine}, Answers.{Halts}};
 ghost use Rattle.ptu_slave_daemon.specs.Happenings.{Happening, Selection, Ticks, arrive};
@@ -60,12 +61,13 @@ fn happen<P: Port, C: Clock>(
 // All rounds, with the lines of the selections. Gives what they counted.
 fn run_rounds<P: Port, C: Clock, K: Sink>(
     alloc: Global,
-    rounds: u32,
+    rounds: u64,
     slave: &mut Slave<P>,
     event: &mut P,
     clock: &mut C,
     sink: &mut K,
 ) -> Result<Counts, Halt>
+    requires { IsRoundCount rounds }
     ensures few { IfOk result (IsFew (2 ^ 64)) }
     ensures sent { P.sent event.new ≡ P.sent event.old }
     ensures done { IfOk result (λ counts. (selections : List Selection)
@@ -104,12 +106,13 @@ fn run_rounds<P: Port, C: Clock, K: Sink>(
 /// `Write` where the sink failed, and `OutOfMemory`.
 pub(crate) fn run<P: Port, C: Clock, K: Sink>(
     alloc: Global,
-    rounds: u32,
+    rounds: u64,
     slave: &mut Slave<P>,
     event: &mut P,
     clock: &mut C,
     sink: &mut K,
 ) -> Result<(), Halt>
+    requires rounds { IsRoundCount rounds }
     requires judged { HasJudges (seen ⟦<dyn Judge as Judge>⟧ slave.old) }
     ensures sent { P.sent event.new ≡ P.sent event.old }
     ensures done { OnOk result ((selections : List Selection) × (sends : ℕ) × (failures : ℕ)

@@ -70,7 +70,7 @@ fn is_written(said: Option<Option<u32>>, master: Option<u32>) -> bool
 pub(crate) fn say<K: Sink>(
     alloc: Global,
     sink: &mut K,
-    round: u32,
+    round: u64,
     said: Option<Option<u32>>,
     master: Option<u32>,
 ) -> Result<(), Halt>

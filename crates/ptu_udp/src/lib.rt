@@ -4,12 +4,9 @@
 
 mod calls;
 mod lookout;
-mod pause;
 mod readiness;
-mod rests;
 mod socket;
 mod sys_clock;
-mod traffic;
 mod udp_host;
 mod udp_port;
 mod watch;

@@ -5,9 +5,7 @@ ghost use Rattle.ptu_outside.specs.{Faults.{HasNotFallen, HasRisen}, Telling.{If
 
 use crate::lookout::Polled;
 use crate::readiness::Readiness;
-use crate::rests::Rests;
 use crate::sys_clock::SysClock;
-use crate::traffic::Traffic;
 use crate::udp_port::{Numbers, UdpPort, bind};
 use crate::watch::Watch;
 use ptu_outside::{Failed, Host, Opened};
@@ -58,7 +56,6 @@ impl Receiver {
         start: Instant,
         numbers: Numbers,
         watch: Watch<Polled>,
-        rests: Rests,
     ) -> SystemPort<R> {
         UdpPort::over(
             runtime,
@@ -67,7 +64,6 @@ impl Receiver {
             numbers,
             self.readiness,
             Some(watch),
-            rests,
         )
     }
 }
@@ -75,9 +71,7 @@ impl Receiver {
 /// Opens UDP sockets at one address: ports 0 to 3 at UDP port numbers that are free, port 4 at
 /// that of the general channel and port 5 at that of the event channel. All six clocks count from
 /// the moment of the opening. A wait of one of the two ports that receive ends where a datagram
-/// comes to either of them. As long as nobody waits, port 4 rests where it finds nothing, so a round
-/// that finds nothing to do takes some 0.1 ms; where no datagram has come or gone for a quarter of a
-/// second it takes some 1 ms.
+/// comes to either of them.
 #[derive(Drop)]
 pub struct UdpHost<R> {
     alloc: Global,
@@ -104,17 +98,10 @@ impl<R: Net + Clock + Copy> UdpHost<R> {
     }
 
     // A port at this address, at a number that is free, which waits for moments alone.
-    fn sender(
-        &self,
-        start: Instant,
-        ip: u32,
-        numbers: Numbers,
-        traffic: &Traffic,
-    ) -> io::Result<SystemPort<R>> {
+    fn sender(&self, start: Instant, ip: u32, numbers: Numbers) -> io::Result<SystemPort<R>> {
         let socket = bind(&self.runtime, SocketAddrV4::new(Ipv4Addr::from(ip), 0))?;
         let readiness = Readiness::new(self.alloc)?;
-        let rests = Rests::none(traffic.share()?);
-        Ok(UdpPort::over(self.runtime, start, socket, numbers, readiness, None, rests))
+        Ok(UdpPort::over(self.runtime, start, socket, numbers, readiness, None))
     }
 
     // A port at this number of the machine's own address, which sends to the next number.
@@ -130,8 +117,7 @@ impl<R: Net + Clock + Copy> UdpHost<R> {
         let socket = bind(&self.runtime, address)?;
         let start = Instant::now(&self.runtime)?;
         let readiness = Readiness::new(self.alloc)?;
-        let rests = Rests::none(Traffic::new(self.alloc)?);
-        Ok(UdpPort::over(self.runtime, start, socket, numbers, readiness, None, rests))
+        Ok(UdpPort::over(self.runtime, start, socket, numbers, readiness, None))
     }
 
     // The ports that receive the general and the event channel at these numbers. A wait of each
@@ -141,18 +127,15 @@ impl<R: Net + Clock + Copy> UdpHost<R> {
         start: Instant,
         ip: u32,
         numbers: Numbers,
-        traffic: &Traffic,
     ) -> io::Result<(SystemPort<R>, SystemPort<R>)> {
         let address = Ipv4Addr::from(ip);
         let general = Receiver::open(self, SocketAddrV4::new(address, numbers.general))?;
         let event = Receiver::open(self, SocketAddrV4::new(address, numbers.event))?;
         let p4_watch = general.watch_beside(self, &event)?;
         let p5_watch = general.watch_beside(self, &event)?;
-        let rests = Rests::some(traffic.share()?)?;
-        let no_rests = Rests::none(traffic.share()?);
         Ok((
-            general.port(self.runtime, start, numbers, p4_watch, rests),
-            event.port(self.runtime, start, numbers, p5_watch, no_rests),
+            general.port(self.runtime, start, numbers, p4_watch),
+            event.port(self.runtime, start, numbers, p5_watch),
         ))
     }
 
@@ -162,13 +145,12 @@ impl<R: Net + Clock + Copy> UdpHost<R> {
         numbers: Numbers,
     ) -> io::Result<Opened<SystemPort<R>, SysClock<R>>> {
         let start = Instant::now(&self.runtime)?;
-        let traffic = Traffic::new(self.alloc)?;
-        let (p4, p5) = self.receivers(start, ip, numbers, &traffic)?;
+        let (p4, p5) = self.receivers(start, ip, numbers)?;
         Ok(Opened {
-            p0: self.sender(start, ip, numbers, &traffic)?,
-            p1: self.sender(start, ip, numbers, &traffic)?,
-            p2: self.sender(start, ip, numbers, &traffic)?,
-            p3: self.sender(start, ip, numbers, &traffic)?,
+            p0: self.sender(start, ip, numbers)?,
+            p1: self.sender(start, ip, numbers)?,
+            p2: self.sender(start, ip, numbers)?,
+            p3: self.sender(start, ip, numbers)?,
             p4,
             p5,
             c0: SysClock::since(self.runtime, start),

@@ -7,7 +7,6 @@ ghost use Rattle.ptu_outside.specs.Telling.{IfTold, IsEmptyTold, IsFirstTold, ap
 use crate::calls::{send_patiently, take_whole};
 use crate::lookout::Lookout;
 use crate::readiness::Readiness;
-use crate::rests::Rests;
 use crate::socket::Socket;
 use crate::watch::{Watch, wait_until};
 use ptu_outside::{Channel, Failed, Port};
@@ -26,8 +25,7 @@ pub(crate) struct Numbers {
 }
 
 /// A UDP socket as a port. No call of it waits but `wait`, and a send for 50 ms at most where the
-/// system has no room for the datagram. As long as nobody has waited at a port of its host, the
-/// port of the general channel rests a little where it finds nothing to receive.
+/// system has no room for the datagram.
 #[derive(Drop)]
 pub struct UdpPort<R, S, L> {
     runtime: R,
@@ -36,7 +34,6 @@ pub struct UdpPort<R, S, L> {
     numbers: Numbers,
     readiness: Readiness,
     watch: Option<Watch<L>>,
-    rests: Rests,
     faults: u64,
 }
 
@@ -57,7 +54,7 @@ pub(crate) fn bind<R: Net>(runtime: &R, address: SocketAddrV4) -> io::Result<Udp
 
 impl<R: Clock + Drop, S: Socket, L: Lookout> UdpPort<R, S, L> {
     // A port over this socket, which sends to these numbers. It waits for moments that count from
-    // the start, and by the watch, if there is one, for datagrams. It rests as it is told.
+    // the start, and by the watch, if there is one, for datagrams.
     pub(crate) fn over(
         runtime: R,
         start: Instant,
@@ -65,7 +62,6 @@ impl<R: Clock + Drop, S: Socket, L: Lookout> UdpPort<R, S, L> {
         numbers: Numbers,
         readiness: Readiness,
         watch: Option<Watch<L>>,
-        rests: Rests,
     ) -> UdpPort<R, S, L> {
         UdpPort {
             runtime,
@@ -74,21 +70,7 @@ impl<R: Clock + Drop, S: Socket, L: Lookout> UdpPort<R, S, L> {
             numbers,
             readiness,
             watch,
-            rests,
             faults: 0,
-        }
-    }
-}
-
-impl<R: Clock, S, L> UdpPort<R, S, L> {
-    // A receive has found nothing, and the port rests if it is to, or a datagram.
-    fn note_receive(&mut self, is_none: bool)
-        ensures { self.new ≡ self.old }
-    {
-        if is_none {
-            self.rests.rest(&self.runtime);
-        } else {
-            self.rests.note();
         }
     }
 }
@@ -121,10 +103,7 @@ impl<R: Clock + Drop, S: Socket, L: Lookout> Port for UdpPort<R, S, L> {
         };
         let to = SocketAddr::V4(SocketAddrV4::new(Ipv4Addr::from(ip), number));
         match send_patiently(&self.runtime, &mut self.socket, bytes, to) {
-            Ok(taken) if taken == bytes.len() => {
-                self.rests.note();
-                Ok(())
-            }
+            Ok(taken) if taken == bytes.len() => Ok(()),
             Ok(_) | Err(_) => Err(self.fail()),
         }
     }
@@ -141,7 +120,6 @@ impl<R: Clock + Drop, S: Socket, L: Lookout> Port for UdpPort<R, S, L> {
         match take_whole(&mut self.socket, buf) {
             Ok(taken) => {
                 self.readiness.note_receive(taken.is_none());
-                self.note_receive(taken.is_none());
                 Ok(taken)
             }
             Err(Failed) => Err(self.fail()),
@@ -153,7 +131,6 @@ impl<R: Clock + Drop, S: Socket, L: Lookout> Port for UdpPort<R, S, L> {
     fn wait(&mut self, until: Moment)
         ensures quiet { self.new ≡ self.old }
     {
-        self.rests.note_wait();
         wait_until(&self.runtime, self.start, until, &mut self.watch);
     }
 }

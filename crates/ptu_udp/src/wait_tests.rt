@@ -1,7 +1,5 @@
 use crate::memory::{MemLookout, MemSocket, Seen, SleepClock};
 use crate::readiness::Readiness;
-use crate::rests::Rests;
-use crate::traffic::Traffic;
 use crate::udp_port::{Numbers, UdpPort};
 use crate::watch::Watch;
 use ptu_outside::Port;
@@ -42,9 +40,8 @@ fn event_port(
     let (general, event) = (Readiness::new(alloc)?, Readiness::new(alloc)?);
     let lookout = MemLookout::new(clock.share()?, general_at, event_at);
     let watch = Watch::new(lookout, general.share()?, event.share()?);
-    let rests = Rests::none(Traffic::new(alloc)?);
     let runtime = clock.share()?;
-    let port = UdpPort::over(runtime, start, socket, NUMBERS, event, Some(watch), rests);
+    let port = UdpPort::over(runtime, start, socket, NUMBERS, event, Some(watch));
     Ok(Waiting {
         port,
         clock,
@@ -75,20 +72,20 @@ fn wait(waiting: &mut Waiting, micros: u64) -> u64 {
     waiting.clock.slept()
 }
 
-// It refuses a wait of more than ten milliseconds, one by whole milliseconds alone, one that does
+// It refuses a wait of more than fifty milliseconds, one by whole milliseconds alone, one that does
 // not end where it is to, one that waits where that is past, one that does not wait, and one that
 // wakes for a message alone that is due within 40 microseconds.
 #[test]
 fn a_wait_ends_at_its_moment(rt: HostRuntime) -> Result<(), Fail> {
     let alloc = rt.alloc();
     let mut still = empty(&rt, alloc, 0, None, None)?;
-    assert_eq!(rt; wait(&mut still, 1 << 40), 10_000);
-    assert_eq!(rt; wait(&mut still, 10_750), 10_750);
-    assert_eq!(rt; wait(&mut still, 14_230), 13_750);
-    assert_eq!(rt; wait(&mut still, 14_230), 14_230);
-    assert_eq!(rt; wait(&mut still, 14_230), 14_230);
-    assert_eq!(rt; wait(&mut still, 0), 14_230);
-    assert_eq!(rt; wait(&mut still, 14_240), 14_270);
+    assert_eq!(rt; wait(&mut still, 1 << 40), 50_000);
+    assert_eq!(rt; wait(&mut still, 50_750), 50_750);
+    assert_eq!(rt; wait(&mut still, 54_230), 53_750);
+    assert_eq!(rt; wait(&mut still, 54_230), 54_230);
+    assert_eq!(rt; wait(&mut still, 54_230), 54_230);
+    assert_eq!(rt; wait(&mut still, 0), 54_230);
+    assert_eq!(rt; wait(&mut still, 54_240), 54_270);
     Ok(())
 }
 
@@ -167,7 +164,7 @@ fn a_wait_learns_by_how_much_a_sleep_is_late(rt: HostRuntime) -> Result<(), Fail
     Ok(())
 }
 
-// It refuses a port without a watch that does not wait, or longer than ten milliseconds.
+// It refuses a port without a watch that does not wait, or longer than fifty milliseconds.
 #[test]
 fn a_port_without_a_watch_sleeps_until_the_moment(rt: HostRuntime) -> Result<(), Fail> {
     let alloc = rt.alloc();
@@ -176,10 +173,9 @@ fn a_port_without_a_watch_sleeps_until_the_moment(rt: HostRuntime) -> Result<(),
     let start = Instant::now(&clock)?;
     let socket = MemSocket::new(0, 0, &waiting.seen)?;
     let readiness = Readiness::new(alloc)?;
-    let rests = Rests::none(Traffic::new(rt.alloc())?);
-    waiting.port = UdpPort::over(clock, start, socket, NUMBERS, readiness, None, rests);
+    waiting.port = UdpPort::over(clock, start, socket, NUMBERS, readiness, None);
     assert_eq!(rt; wait(&mut waiting, 3700), 3700);
     assert_eq!(rt; wait(&mut waiting, 3700), 3700);
-    assert_eq!(rt; wait(&mut waiting, 99_000), 13_700);
+    assert_eq!(rt; wait(&mut waiting, 99_000), 53_700);
     Ok(())
 }

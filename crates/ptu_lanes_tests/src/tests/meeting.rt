@@ -9,6 +9,9 @@ const ROUNDS: u32 = 4;
 // How long the slow lane pauses in each round.
 const LOOKS: u32 = 1000;
 
+// The limit of looks at a count.
+const MOST_LOOKS: u64 = 1_000_000_000;
+
 // How many rounds two lanes have done, and how far apart they were at most when one had done a
 // round.
 #[derive(Drop)]
@@ -97,5 +100,83 @@ fn a_lane_that_waits_is_told(rt: HostRuntime) -> Result<(), Fail> {
         },
     );
     assert!(rt; !goes_on);
+    Ok(())
+}
+
+// Waits for the two others, and tells how many of them had come then, and that it waited.
+fn await_two(rt: &impl Wait, meeting: &Meeting, came: &AtomicU64, told: &AtomicU64) -> (bool, u64) {
+    let goes_on = meeting.await_others(rt);
+    told.store(1, Ordering::SeqCst);
+    (goes_on, came.load(Ordering::SeqCst))
+}
+
+// Looks until the count is 1, or the limit of looks is reached.
+fn is_seen(count: &AtomicU64) -> bool {
+    for _ in 0..MOST_LOOKS {
+        if count.load(Ordering::SeqCst) == 1 {
+            return true;
+        }
+    }
+    false
+}
+
+// Comes after a while.
+fn come_late(rt: &impl Wait, meeting: &Meeting, came: &AtomicU64) -> bool {
+    for _ in 0..LOOKS {
+        yield_now();
+    }
+    came.fetch_add(1, Ordering::SeqCst);
+    meeting.meet(rt)
+}
+
+// It refuses a lane that goes on before all others have come, and one that ends their meeting
+// before it comes itself.
+#[test]
+fn a_lane_awaits_all_others(rt: HostRuntime) -> Result<(), Fail> {
+    let (came, told) = (AtomicU64::new(0), AtomicU64::new(0));
+    let meeting = Meeting::new(3);
+    let (awaited, met) = join(
+        &rt,
+        || {
+            let awaited = await_two(&rt, &meeting, &came, &told);
+            let goes_on = meeting.meet(&rt);
+            (awaited, goes_on)
+        },
+        || {
+            join(
+                &rt,
+                || come_late(&rt, &meeting, &came),
+                || come_late(&rt, &meeting, &came),
+            )
+        },
+    );
+    assert_eq!(rt; awaited, ((true, 2), true));
+    assert_eq!(rt; met, (true, true));
+    Ok(())
+}
+
+// Gives up after a while, looks whether the lane that waits is told, and gives up for the third.
+fn give_up_twice(rt: &impl Wait, meeting: &Meeting, told: &AtomicU64) -> bool {
+    for _ in 0..LOOKS {
+        yield_now();
+    }
+    meeting.give_up(rt);
+    let is_told = is_seen(told);
+    meeting.give_up(rt);
+    is_told
+}
+
+// It refuses a lane that awaits the others still where one has given up.
+#[test]
+fn a_lane_that_awaits_others_is_told(rt: HostRuntime) -> Result<(), Fail> {
+    let (came, told) = (AtomicU64::new(0), AtomicU64::new(0));
+    let meeting = Meeting::new(3);
+    let (awaited, is_told) = join(
+        &rt,
+        || await_two(&rt, &meeting, &came, &told),
+        || give_up_twice(&rt, &meeting, &told),
+    );
+    assert_eq!(rt; awaited, (false, 0));
+    assert!(rt; is_told);
     Ok(())
 }

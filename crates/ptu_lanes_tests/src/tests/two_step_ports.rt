@@ -1,6 +1,10 @@
+ghost use Rattle.std.specs.Prelude.{◌≡◌, None};
+
 use ptu_outside::samples::{idle_port, opened_with};
-use ptu_outside::{Channel, Host, MemHost, MemPort, Port};
+use ptu_outside::{Channel, Failed, Host, MemHost, MemPort, Port};
 use ptu_twostep::{TwoHost, TwoStep};
+use ptu_units::Moment;
+use ptu_units::sizes::LONGEST_DATAGRAM;
 use std::alloc::Global;
 use std::process::Abort;
 use std::test::Fail;
@@ -98,4 +102,45 @@ fn a_host_gives_the_ports_below_back(rt: HostRuntime) -> Result<(), Fail> {
     let given = assert_given_back(&rt, &mut host);
     drop(host);
     given
+}
+
+// A port that takes nothing and gives nothing, and notes until when it waited last.
+#[derive(Drop)]
+struct WaitingPort {
+    until: Moment,
+}
+
+impl Port for WaitingPort {
+    ghost sent = { λ _. None };
+
+    ghost waiting = { λ _. None };
+
+    ghost faults = { λ _. 0 };
+
+    fn send(&mut self, _ip: u32, _channel: Channel, _bytes: &[u8]) -> Result<(), Failed> {
+        Ok(())
+    }
+
+    fn receive(
+        &mut self,
+        _buf: &mut [u8; LONGEST_DATAGRAM],
+    ) -> Result<Option<(u32, usize)>, Failed> {
+        Ok(None)
+    }
+
+    fn wait(&mut self, until: Moment) {
+        self.until = until;
+    }
+}
+
+// It refuses a port in two steps that does not wait.
+#[test]
+fn a_port_in_two_steps_waits_by_the_port_below(rt: HostRuntime) -> Result<(), Fail> {
+    let second = Moment::of(1_000_000_000).ok_or("a moment is below 2^62")?;
+    let mut port = TwoStep::new(WaitingPort {
+        until: Moment::default(),
+    });
+    port.wait(second);
+    assert_eq!(rt; port.into_inner().until, second);
+    Ok(())
 }

@@ -118,6 +118,56 @@ fn a_grandmaster_is_served(rt: HostRuntime) -> Result<(), Fail> {
     Ok(())
 }
 
+// The rounds of all repetitions are one run, with one line. A change of the capacity in the second
+// one sheds the grant, and one behind the last never comes.
+#[test]
+fn a_grandmaster_repeats_its_rounds(rt: HostRuntime) -> Result<(), Fail> {
+    for (more, line) in [
+        (
+            "repeat = 1",
+            "rounds 1 sent 1 failed 0 granted 1 refused 0 held 8\n",
+        ),
+        (
+            "repeat = 3",
+            "rounds 3 sent 1 failed 0 granted 1 refused 0 held 8\n",
+        ),
+        (
+            "repeat = 3\nsenders = 2",
+            "rounds 3 sent 1 failed 0 granted 1 refused 0 held 8\n",
+        ),
+        (
+            "repeat = 3\ntwo_step = true",
+            "rounds 3 sent 1 failed 0 granted 1 refused 0 held 8\n",
+        ),
+        (
+            "repeat = 3\nchange_round = 2\nnew_capacity = 4",
+            "rounds 3 sent 2 failed 0 granted 1 refused 0 held 0\n",
+        ),
+        (
+            "repeat = 3\nchange_round = 4\nnew_capacity = 4",
+            "rounds 3 sent 1 failed 0 granted 1 refused 0 held 8\n",
+        ),
+    ] {
+        let settings = settings_with(rt.alloc(), more)?;
+        let ((status, text), _) = served(&rt, settings.as_str(), false)?;
+        assert_eq!(rt; text.as_str(), line);
+        assert_eq!(rt; status, 0);
+    }
+    Ok(())
+}
+
+#[test]
+fn a_repetition_out_of_range_is_refused(rt: HostRuntime) -> Result<(), Fail> {
+    for more in ["repeat = 0", "repeat = 1001", "repeat = \"2\""] {
+        let settings = settings_with(rt.alloc(), more)?;
+        let ((status, text), answered) = served(&rt, settings.as_str(), false)?;
+        assert_eq!(rt; text.as_str(), "settings bad repeat\n");
+        assert_eq!(rt; status, 65);
+        assert!(rt; !answered);
+    }
+    Ok(())
+}
+
 #[test]
 fn a_host_does_not_open(rt: HostRuntime) -> Result<(), Fail> {
     let ((status, text), _) = served(&rt, SERVE, true)?;
@@ -126,9 +176,10 @@ fn a_host_does_not_open(rt: HostRuntime) -> Result<(), Fail> {
     Ok(())
 }
 
-// The word `slave` over a host in memory.
+// The word `slave` with these settings, over a host in memory.
 fn followed(
     rt: &(impl AllocGlobal + Threads + Wait + Sync),
+    settings: &str,
     stock: Stock,
 ) -> Result<(u8, String), Fail>
     requires { IsStock (map (λ j. held (j.vtable, j.value)) stock.flags.items)
@@ -136,7 +187,7 @@ fn followed(
 {
     let alloc = rt.alloc();
     let mut host = MemHost::new(opened_with(alloc, empty_port(alloc)?), false);
-    let found = ran(rt, &["slave"], SLAVE, (0, 0), &mut host, stock);
+    let found = ran(rt, &["slave"], settings, (0, 0), &mut host, stock);
     drop(host);
     found
 }
@@ -145,7 +196,7 @@ fn followed(
 fn a_slave_asks_and_stops(rt: HostRuntime) -> Result<(), Fail> {
     let alloc = rt.alloc();
     let stock = one_judge(alloc, Box::new(alloc, FlagJudge::new())?)?;
-    let (status, text) = followed(&rt, stock)?;
+    let (status, text) = followed(&rt, SLAVE, stock)?;
     assert_eq!(rt;
         text.as_str(),
         "round 1 selected none\nrounds 1 sent 1 failed 0\n"
@@ -155,8 +206,24 @@ fn a_slave_asks_and_stops(rt: HostRuntime) -> Result<(), Fail> {
 }
 
 #[test]
+fn a_slave_repeats_its_rounds(rt: HostRuntime) -> Result<(), Fail> {
+    let alloc = rt.alloc();
+    let mut settings = String::new(alloc);
+    settings.push_str("repeat = 3\n")?;
+    settings.push_str(SLAVE)?;
+    let stock = one_judge(alloc, Box::new(alloc, FlagJudge::new())?)?;
+    let (status, text) = followed(&rt, settings.as_str(), stock)?;
+    assert_eq!(rt;
+        text.as_str(),
+        "round 1 selected none\nrounds 3 sent 1 failed 0\n"
+    );
+    assert_eq!(rt; status, 0);
+    Ok(())
+}
+
+#[test]
 fn a_slave_has_no_judge(rt: HostRuntime) -> Result<(), Fail> {
-    let (status, text) = followed(&rt, no_judges(rt.alloc()))?;
+    let (status, text) = followed(&rt, SLAVE, no_judges(rt.alloc()))?;
     assert_eq!(rt; text.as_str(), "settings bad masters\n");
     assert_eq!(rt; status, 65);
     Ok(())

@@ -60,16 +60,19 @@ fn assert_granted(
     Ok(())
 }
 
-// A change of the capacity in round 2 sheds the grant.
+// A change of the capacity in round 2 sheds the grant. Both rounds are those of one repetition, or
+// the second is that of the second one.
 fn assert_shed(
     rt: &(impl Abort + Threads + Wait + Sync),
     alloc: Global,
     senders: u8,
+    again: bool,
 ) -> Result<(), Fail>
     requires { senders ≤ 4 }
 {
     let settings = GmSettings {
-        rounds: 2,
+        rounds: if again { 1 } else { 2 },
+        repeat: if again { 2 } else { 1 },
         change_round: 2,
         new_capacity: Some(4),
         senders,
@@ -85,7 +88,8 @@ fn assert_shed(
 fn an_ask_is_granted_and_its_grant_shed(rt: HostRuntime) -> Result<(), Fail> {
     for senders in [0, 2] {
         assert_granted(&rt, rt.alloc(), senders)?;
-        assert_shed(&rt, rt.alloc(), senders)?;
+        assert_shed(&rt, rt.alloc(), senders, false)?;
+        assert_shed(&rt, rt.alloc(), senders, true)?;
     }
     Ok(())
 }
@@ -115,6 +119,37 @@ fn failed_calls_are_counted(rt: HostRuntime) -> Result<(), Fail> {
     };
     let line = "rounds 2 sent 1 failed 1 granted 1 refused 0 held 8\n";
     drop(assert_line(&rt, alloc, &longer, failing(alloc)?, line));
+    Ok(())
+}
+
+// What waits in the first repetition is taken in the second where the receive fails in the first,
+// and the grants of the one stand in the other. A change in a round behind the last one never
+// comes. Refuses a daemon that begins anew with each repetition, one that ends behind the first,
+// and a line with the rounds of one.
+fn assert_repeated(
+    rt: &(impl Abort + Threads + Wait + Sync),
+    alloc: Global,
+    senders: u8,
+) -> Result<(), Fail>
+    requires { senders ≤ 4 }
+{
+    let settings = GmSettings {
+        repeat: 3,
+        change_round: 4,
+        new_capacity: Some(4),
+        senders,
+        ..GM_SETTINGS
+    };
+    let line = "rounds 3 sent 1 failed 1 granted 1 refused 0 held 8\n";
+    drop(assert_line(rt, alloc, &settings, failing(alloc)?, line));
+    Ok(())
+}
+
+#[test]
+fn rounds_are_repeated(rt: HostRuntime) -> Result<(), Fail> {
+    for senders in [0, 1, 4] {
+        assert_repeated(&rt, rt.alloc(), senders)?;
+    }
     Ok(())
 }
 

@@ -6,7 +6,7 @@ use super::shared::{ANNOUNCE, Blanks, GRANTED, GRANTED_LATER, SYNC, ask, moment,
 use ptu_outside::{Channel, Failed, Port};
 use ptu_shard::samples::{ONE, SECOND, THREE, ZERO};
 use ptu_shared::{Rates, Seat, Shared};
-use ptu_units::Kind;
+use ptu_units::{Kind, Moment};
 use std::alloc::Global;
 use std::marker::Brand;
 use std::process::Abort;
@@ -24,7 +24,7 @@ const PAUSE: u64 = 1_000_000;
 
 // Where the port of a table is held in a send.
 #[derive(Drop)]
-struct Gate {
+pub(crate) struct Gate {
     // A send has begun.
     entered: AtomicU64,
     // A call that wants the table is about to wait for it.
@@ -35,7 +35,7 @@ struct Gate {
     late: AtomicU64,
 }
 
-fn closed_gate() -> Gate {
+pub(crate) fn closed_gate() -> Gate {
     Gate {
         entered: AtomicU64::new(0),
         called: AtomicU64::new(0),
@@ -45,8 +45,13 @@ fn closed_gate() -> Gate {
 }
 
 impl Gate {
-    fn open(&self) {
+    pub fn open(&self) {
         self.opened.store(1, Ordering::SeqCst);
+    }
+
+    // Waits until somebody is held at it.
+    pub fn await_entered(&self) {
+        self.await_flag(&self.entered);
     }
 
     // Looks at the flag until it is set or the limit is reached.
@@ -68,15 +73,29 @@ impl Gate {
         }
     }
 
-    fn is_late(&self) -> bool {
+    pub fn is_late(&self) -> bool {
         self.late.load(Ordering::SeqCst) == 1
     }
 }
 
-// A port that sends nothing, and is held in each send where it has a gate.
+// A port that sends nothing, and is held in each send and each wait where it has a gate.
 #[derive(Drop)]
-struct HeldPort<'a> {
+pub(crate) struct HeldPort<'a> {
     gate: Option<&'a Gate>,
+}
+
+impl<'a> HeldPort<'a> {
+    pub fn at(gate: Option<&'a Gate>) -> HeldPort<'a> {
+        HeldPort { gate }
+    }
+
+    // Until its gate opens.
+    fn hold(&self) {
+        if let Some(gate) = self.gate {
+            gate.entered.store(1, Ordering::SeqCst);
+            gate.await_flag(&gate.opened);
+        }
+    }
 }
 
 impl Port for HeldPort<'_> {
@@ -87,15 +106,16 @@ impl Port for HeldPort<'_> {
     ghost faults = { λ _. 0 };
 
     fn send(&mut self, _ip: u32, _channel: Channel, _bytes: &[u8]) -> Result<(), Failed> {
-        if let Some(gate) = self.gate {
-            gate.entered.store(1, Ordering::SeqCst);
-            gate.await_flag(&gate.opened);
-        }
+        self.hold();
         Ok(())
     }
 
     fn receive(&mut self, _buf: &mut [u8; 2048]) -> Result<Option<(u32, usize)>, Failed> {
         Ok(None)
+    }
+
+    fn wait(&mut self, _until: Moment) {
+        self.hold();
     }
 }
 
@@ -122,7 +142,7 @@ struct Held<'s, 'g, L: Rates, G: Ledger, R: Ledger> {
 impl<L: Rates + Sync, G: Ledger + Sync, R: Ledger + Sync> Held<'_, '_, L, G, R> {
     // While table 0 is held, a turn of table 1 returns; then table 0 goes on.
     fn turn_beside(&self, rt: &(impl Wait + Abort)) -> (u64, u64) {
-        self.gate.await_flag(&self.gate.entered);
+        self.gate.await_entered();
         let turned = turn(rt, self.shared, 1, SECOND);
         self.gate.open();
         turned
@@ -133,7 +153,7 @@ impl<L: Rates + Sync, G: Ledger + Sync, R: Ledger + Sync> Held<'_, '_, L, G, R> 
         requires ledger { L.parts ≡ 4 }
         requires most { 64 ≤ L.most }
     {
-        self.gate.await_flag(&self.gate.entered);
+        self.gate.await_entered();
         self.gate.called.store(1, Ordering::SeqCst);
         match call {
             Call::Cancel => {

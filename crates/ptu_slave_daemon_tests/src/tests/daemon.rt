@@ -2,7 +2,7 @@
 
 ghost use Rattle.std.specs.Prelude.{◌≡◌, ◌≤◌, IfOk, map};
 ghost use Rattle.ptu_outside.specs.MemoryPort.{FitAll};
-ghost use Rattle.ptu_config.specs.Limits.{IsSlaveInRange};
+ghost use Rattle.ptu_config.specs.{Limits.{IsSlaveInRange}, Rounds.{IsRepeat}};
 ghost use Rattle.ptu_judges.specs.Held.{IsStock, fresh};
 ghost use Rattle.ptu_record.specs.declared.rule.Rule.TheVariants.{Flag};
 
@@ -31,9 +31,10 @@ pub(crate) const SYNC: &str = "0012002c040004000000000000000000000000000a0000000
 pub(crate) const ASK: &str = "0c120040040004000000000000000000000000000a0000000000001100010000057f\
      ffffffffffffffffffff00040006b0010000012c0004000600fc0000012c";
 
-/// A slave of the one master.
-pub(crate) fn settings(alloc: Global, rounds: u32) -> Result<SlaveSettings, Fail>
-    requires { 1 ≤ rounds }
+/// A slave of the one master, which does so many rounds, so many times over.
+pub(crate) fn settings(alloc: Global, rounds: u32, repeat: u32) -> Result<SlaveSettings, Fail>
+    requires rounds { 1 ≤ rounds }
+    requires repeat { IsRepeat repeat }
     ensures { IfOk result IsSlaveInRange }
 {
     let masters = vec![in alloc;
@@ -51,6 +52,7 @@ pub(crate) fn settings(alloc: Global, rounds: u32) -> Result<SlaveSettings, Fail
         port: 1,
         domain: 4,
         rounds,
+        repeat,
         wait_to_restore: 300,
         announce_timeout: 3,
         sync_timeout: 3,
@@ -145,16 +147,16 @@ fn assert_asked(rt: &impl Abort, alloc: Global, host: &MemHost) -> Result<(), Fa
 }
 
 // What waits at the ports of the general and the event channel, the receive of the former that is
-// to fail, the rounds, and what is written.
-type Row = (&'static str, &'static str, u64, u32, &'static str);
+// to fail, the rounds and how many times over they are done, and what is written.
+type Row = (&'static str, &'static str, u64, (u32, u32), &'static str);
 
-const ROWS: [Row; 3] = [
+const ROWS: [Row; 5] = [
     // A slave that hears nothing asks and selects none.
     (
         "",
         "",
         0,
-        1,
+        (1, 1),
         "round 1 selected none\nrounds 1 sent 1 failed 0\n",
     ),
     // It writes its selection once.
@@ -162,7 +164,7 @@ const ROWS: [Row; 3] = [
         ANNOUNCE,
         SYNC,
         0,
-        2,
+        (2, 1),
         "round 1 selected 10.0.0.1\nrounds 2 sent 1 failed 0\n",
     ),
     // A failed receive is counted, and it goes on.
@@ -170,8 +172,24 @@ const ROWS: [Row; 3] = [
         ANNOUNCE,
         SYNC,
         1,
-        2,
+        (2, 1),
         "round 1 selected none\nround 2 selected 10.0.0.1\nrounds 2 sent 1 failed 1\n",
+    ),
+    // Refuses rounds that are numbered anew in each repetition, and a slave that begins anew in it.
+    (
+        ANNOUNCE,
+        SYNC,
+        1,
+        (1, 2),
+        "round 1 selected none\nround 2 selected 10.0.0.1\nrounds 2 sent 1 failed 1\n",
+    ),
+    // Refuses a closing line with the rounds of one repetition.
+    (
+        "",
+        "",
+        0,
+        (2, 3),
+        "round 1 selected none\nrounds 6 sent 1 failed 0\n",
     ),
 ];
 
@@ -189,8 +207,8 @@ fn assert_row(rt: &impl Abort, alloc: Global, row: Row, stock: Stock) -> Result<
     requires { IsStock (map (λ j. held (j.vtable, j.value)) stock.flags.items)
         (map (λ j. held (j.vtable, j.value)) stock.gaps.items) }
 {
-    let (general, event, failing, rounds, output) = row;
-    let settings = settings(alloc, rounds.max(1))?;
+    let (general, event, failing, (rounds, repeat), output) = row;
+    let settings = settings(alloc, rounds.max(1), repeat.max(1).min(1000))?;
     let mut host = host_with(alloc, general, event, failing)?;
     let written = assert_output(rt, alloc, &settings, &mut host, stock, output);
     drop(host);

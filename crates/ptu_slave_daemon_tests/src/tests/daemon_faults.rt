@@ -224,7 +224,7 @@ fn assert_case(rt: &impl Abort, alloc: Global, case: &Case, stock: Stock) -> Res
     requires { IsStock (map (λ j. held (j.vtable, j.value)) stock.flags.items)
         (map (λ j. held (j.vtable, j.value)) stock.gaps.items) }
 {
-    let settings = settings(alloc, case.rounds.max(1))?;
+    let settings = settings(alloc, case.rounds.max(1), 1)?;
     let mut host = host(alloc, case)?;
     let run = assert_run(rt, alloc, case, &settings, &mut host, stock);
     drop(host);
@@ -244,7 +244,7 @@ fn calls_fail_once(rt: HostRuntime) -> Result<(), Fail> {
 #[test]
 fn a_host_that_does_not_open_is_a_fault(rt: HostRuntime) -> Result<(), Fail> {
     let alloc = rt.alloc();
-    let settings = settings(alloc, 1)?;
+    let settings = settings(alloc, 1, 1)?;
     let clock = clock(alloc, &[])?;
     let stock = one_judge(alloc, Box::new(alloc, FlagJudge::new())?)?;
     let mut host = host_at(alloc, clock, idle_port(alloc), idle_port(alloc), true);

@@ -19,6 +19,32 @@ fn settings_of_a_grandmaster(rt: HostRuntime) -> Result<(), Fail> {
     Ok(())
 }
 
+// The settings with a repetition, and how many rounds these make. The greatest product is wider than
+// 32 bits.
+#[test]
+fn rounds_are_repeated(rt: HostRuntime) -> Result<(), Fail> {
+    for (rounds, repeat, all) in [
+        ("30", "7", 210),
+        ("1", "1000", 1000),
+        ("4294967295", "1000", 4_294_967_295_000_u64),
+    ] {
+        let mut text = String::new(rt.alloc());
+        text.push_str("ip = \"127.0.0.1\"\nclock = \"0a00000000000001\"\nrounds = ")?;
+        text.push_str(rounds)?;
+        text.push_str("\nrepeat = ")?;
+        text.push_str(repeat)?;
+        let mut gm = text.clone()?;
+        gm.push_str("\ncapacity = 8\n")?;
+        assert_eq!(rt; gm_settings(rt.alloc(), gm.as_bytes())?.all_rounds(), all);
+        text.push_str("\n[[masters]]\nip = \"10.0.0.1\"\n")?;
+        assert_eq!(rt;
+            slave_settings(rt.alloc(), text.as_bytes())?.all_rounds(),
+            all
+        );
+    }
+    Ok(())
+}
+
 #[test]
 fn settings_of_a_slave(rt: HostRuntime) -> Result<(), Fail> {
     let settings = slave_settings(rt.alloc(), SLAVE.as_bytes())?;
@@ -26,6 +52,7 @@ fn settings_of_a_slave(rt: HostRuntime) -> Result<(), Fail> {
         (settings.ip, settings.clock),
         (0x7F00_0001, 0x0A00_0000_0000_0011)
     );
+    assert_eq!(rt; (settings.rounds, settings.repeat), (1, 1));
     assert_eq!(rt; (settings.wait_to_restore, settings.duration), (300, 300));
     assert_eq!(rt; settings.log_delay, Log::of(Kind::DelayResp, 0));
     let master = MasterSetting {

@@ -1,5 +1,6 @@
 use Rattle.std.proofs.Common.{◌∙◌, refl, subst}
 use Rattle.ptu_profile.specs.Grandmaster.{IsWithinLimits}
+use Rattle.ptu_config.specs.Rounds.{all_rounds}
 use Rattle.ptu_daemon.specs.Served.{said_by}
 use Rattle.ptu_daemon.proofs.serving.serve_rounds.Goals as goal
 use Rattle.ptu_daemon.proofs.Finishing.{serves_of}
@@ -11,7 +12,7 @@ returns-clause-serves g c =
     serves_of g.P.Port g.C.Clock c.args.settings.now c.args.opened _ c.new-gm.result c.rounds.new.self.gm c.rounds.new.self.event c.rounds.new.self.clock
     c.in_ok-tally.tally
     (said_by (record {
-      rounds = c.args.settings.now.rounds;
+      rounds = all_rounds c.args.settings.now;
       sent = c.in_ok-tally.tally.sent;
       failed = c.in_ok-tally.tally.failed;
       granted = c.close-closed.result.0.granted;

@@ -5,5 +5,5 @@ use Rattle.ptu_shared.proofs.desk.make_seats.Given as goal
 abbrev pub invariant-loop : goal.invariant-loop
 invariant-loop g l =
     (l.grants.parts + l.counter ≡ l.count) × (l.refusals.parts + l.counter ≡ l.count)
-    × (l.grants.amount + l.counter * 2 ^ 48 ≡ l.count * 2 ^ 48) × (l.refusals.amount + l.counter * 2 ^ 48 ≡ l.count * 2 ^ 48)
+    × (l.grants.amount + l.counter * 2 ^ 56 ≡ l.count * 2 ^ 56) × (l.refusals.amount + l.counter * 2 ^ 56 ≡ l.count * 2 ^ 56)
     × (l.seats.items ≡ replicate l.counter no_verdicts)
