@@ -17,10 +17,10 @@ module _ {P : Type 0} (ports : Ports P) where
   -- the port of the Signaling messages alone was sent something
   pub reply_handled : (old new : KeptGm P) (sends : List Departure) (sent failed : ℕ) →
       (new.s0.port ≡ old.s0.port) × (new.s1.port ≡ old.s1.port) × (new.s2.port ≡ old.s2.port) × (new.s3.port ≡ old.s3.port) →
-      Handled ports sends sent failed old.reply new.reply →
-      AllHandled ports (λ i. by i 4 sends) 0 sent failed (five old) (five new)
+      Handled ports sends sent failed 0 old.reply new.reply →
+      AllHandled ports (λ i. by i 4 sends) 0 sent failed 0 (five old) (five new)
   reply_handled old new sends sent failed (p0, p1, p2, p3) h =
-      five_handled ports (λ i. by i 4 sends) old new 0 0 0 0 0 0 0 0 sent failed sent failed
+      five_handled ports (λ i. by i 4 sends) old new 0 0 0 0 0 0 0 0 sent failed 0 sent failed
       (handled_same ports _ _ p0) (handled_same ports _ _ p1) (handled_same ports _ _ p2) (handled_same ports _ _ p3) h (omega arith) (omega arith)
 
   pub change_does : (t at capacity sent failed : ℕ) (shed : List Shed) (old new : KeptGm P) →
@@ -39,7 +39,7 @@ module _ {P : Type 0} (ports : Ports P) where
     waiting = sends.waiting;
     does = λ opening past stood. (
       stands opening past stood,
-      all_same ports (λ i. by i 4 (cancels_to old.config old.sequence (leases_shed shed))) _ 0 sent failed (five old) (five new)
+      all_same ports (λ i. by i 4 (cancels_to old.config old.sequence (leases_shed shed))) _ 0 sent failed 0 (five old) (five new)
           (λ i. ap (by i 4) (sym (cancels_shed old.config old.sequence past at _ capacity shed stood.sequence (found opening past stood).0 (found opening past stood).1)))
           (reply_handled old new _ sent failed same (hands_handled ports _ _ _ sent failed sends)),
     );

@@ -30,18 +30,18 @@ event-nil channels.Event = refl
 module _ {P C : Type 0} (ports : Ports P) (clocks : Clocks C) where
   -- a datagram was received, and then taken
   pub received_taken : (channel : Channel) (old now new : Daemon P C) (a : Arrival) (s f : ℕ) →
-      Ran ports clocks old now [] (on_general channel (a ∷ [])) (on_event channel (a ∷ [])) 0 0 →
-      Ran ports clocks now new (taking a ∷ []) [] [] s f →
-      Ran ports clocks old new (taking a ∷ []) (on_general channel (a ∷ [])) (on_event channel (a ∷ [])) s f
+      Ran ports clocks old now [] (on_general channel (a ∷ [])) (on_event channel (a ∷ [])) 0 0 0 →
+      Ran ports clocks now new (taking a ∷ []) [] [] s f 0 →
+      Ran ports clocks old new (taking a ∷ []) (on_general channel (a ∷ [])) (on_event channel (a ∷ [])) s f 0
   received_taken channel old now new a s f h k =
-      ran_as ports clocks old new _ _ _ _ _ _ _ _ _ _ refl (append-nil (on_general channel (a ∷ []))) (append-nil (on_event channel (a ∷ [])))
-      (omega arith) (omega arith) (ran_more ports clocks old now new [] (taking a ∷ []) _ [] _ [] 0 0 s f h k)
+      ran_as ports clocks old new _ _ _ _ _ _ _ _ _ _ _ _ refl (append-nil (on_general channel (a ∷ []))) (append-nil (on_event channel (a ∷ [])))
+      (omega arith) (omega arith) (omega arith) (ran_more ports clocks old now new [] (taking a ∷ []) _ [] _ [] 0 0 0 s f 0 h k)
 
   -- so many datagrams of the channel were received and taken
   pub record IsTaking (channel : Channel) (old now : Daemon P C) (count : ℕ) (tally : Tally) : Type 0 where
     pub arrivals : List Arrival
     pub many : length arrivals ≡ count
-    pub ran : Ran ports clocks old now (map taking arrivals) (on_general channel arrivals) (on_event channel arrivals) tally.sent tally.failed
+    pub ran : Ran ports clocks old now (map taking arrivals) (on_general channel arrivals) (on_event channel arrivals) tally.sent tally.failed 0
     pub small : IsSmall count tally
 
   pub taking_none : (channel : Channel) (daemon : Daemon P C) (tally : Tally) → (tally.sent ≡ 0) × (tally.failed ≡ 0) →
@@ -49,7 +49,7 @@ module _ {P C : Type 0} (ports : Ports P) (clocks : Clocks C) where
   taking_none channel daemon tally (none, none') = record {
     arrivals = [];
     many = refl;
-    ran = ran_as ports clocks daemon daemon _ _ _ _ _ _ _ _ _ _ refl (general-nil channel) (event-nil channel) (sym none) (sym none') (ran_none ports clocks daemon);
+    ran = ran_as ports clocks daemon daemon _ _ _ _ _ _ _ _ _ _ _ _ refl (general-nil channel) (event-nil channel) (sym none) (sym none') refl (ran_none ports clocks daemon);
     small = (omega (arith, none), omega (arith, none'));
   }
 
@@ -59,9 +59,9 @@ module _ {P C : Type 0} (ports : Ports P) (clocks : Clocks C) where
   taking_more channel old now new count tally more h (a, ran, small) = record {
     arrivals = h.arrivals ++ a ∷ [];
     many = length-append h.arrivals (a ∷ []) ∙ ap (λ n. n + 1) h.many;
-    ran = ran_as ports clocks old new _ _ _ _ _ _ _ _ _ _ (sym (map-append taking h.arrivals (a ∷ [])))
-        (general-append channel h.arrivals (a ∷ [])) (event-append channel h.arrivals (a ∷ [])) refl refl
-        (ran_more ports clocks old now new _ _ _ _ _ _ _ _ _ _ h.ran ran);
+    ran = ran_as ports clocks old new _ _ _ _ _ _ _ _ _ _ _ _ (sym (map-append taking h.arrivals (a ∷ [])))
+        (general-append channel h.arrivals (a ∷ [])) (event-append channel h.arrivals (a ∷ [])) refl refl refl
+        (ran_more ports clocks old now new _ _ _ _ _ _ _ _ _ _ _ _ h.ran ran);
     small = (omega (arith, h.small.0, small.0), omega (arith, h.small.1, small.1));
   }
 
@@ -71,8 +71,10 @@ module _ {P C : Type 0} (ports : Ports P) (clocks : Clocks C) where
   took_nothing channel old now new count tally few h (ran, none) = record {
     arrivals = h.arrivals;
     few = omega (arith, h.many, few);
-    ran = ran_as ports clocks old new _ _ _ _ _ _ _ _ _ _ (append-nil (map taking h.arrivals)) (append-nil (on_general channel h.arrivals))
-        (append-nil (on_event channel h.arrivals)) (omega arith) (omega arith) (ran_more ports clocks old now new _ _ _ _ _ _ _ _ _ _ h.ran ran);
+    missed = 0;
+    once = omega arith;
+    ran = ran_as ports clocks old new _ _ _ _ _ _ _ _ _ _ _ _ (append-nil (map taking h.arrivals)) (append-nil (on_general channel h.arrivals))
+        (append-nil (on_event channel h.arrivals)) (omega arith) (omega arith) (omega arith) (ran_more ports clocks old now new _ _ _ _ _ _ _ _ _ _ _ _ h.ran ran);
     drains = λ still. drained (ports.waiting (port_of channel new)) none;
   }
     where
@@ -88,8 +90,10 @@ module _ {P C : Type 0} (ports : Ports P) (clocks : Clocks C) where
   took_failed channel old now new count tally few h ran = record {
     arrivals = h.arrivals;
     few = omega (arith, h.many, few);
-    ran = ran_as ports clocks old new _ _ _ _ _ _ _ _ _ _ (append-nil (map taking h.arrivals)) (append-nil (on_general channel h.arrivals))
-        (append-nil (on_event channel h.arrivals)) refl refl (ran_more ports clocks old now new _ _ _ _ _ _ _ _ _ _ h.ran ran);
+    missed = 1;
+    once = omega arith;
+    ran = ran_as ports clocks old new _ _ _ _ _ _ _ _ _ _ _ _ (append-nil (map taking h.arrivals)) (append-nil (on_general channel h.arrivals))
+        (append-nil (on_event channel h.arrivals)) refl refl refl (ran_more ports clocks old now new _ _ _ _ _ _ _ _ _ _ _ _ h.ran ran);
     drains = λ still. absurd (omega (arith, still));
   }
 
@@ -99,6 +103,8 @@ module _ {P C : Type 0} (ports : Ports P) (clocks : Clocks C) where
   took_most channel old new count tally most h = record {
     arrivals = h.arrivals;
     few = omega (arith, h.many, most);
+    missed = 0;
+    once = omega arith;
     ran = h.ran;
     drains = λ still. all (ports.waiting (port_of channel new));
   }

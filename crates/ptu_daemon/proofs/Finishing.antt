@@ -21,8 +21,8 @@ use Rattle.ptu_daemon.specs.Events.{Given, Happening, Takes, config_of, happenin
 use Rattle.ptu_daemon.specs.Ran.{AllHandled, DidRounds, Handled, after_all, five, standing_as}
 use Rattle.ptu_daemon.specs.Sends.{sends_by}
 use Rattle.ptu_daemon.specs.Served.{Said, opened_as, served_by, served_history, served_said}
-use Rattle.ptu_daemon.specs.Serving.{AreServed, Happened, IsGiven, Serves}
-use Rattle.ptu_daemon.proofs.{Handling.{handled_all, many_of}, Lawful.{is_lawful}, Running.{after_all-history}}
+use Rattle.ptu_daemon.specs.Serving.{AreServed, Happened, IsGiven, Serves, many_by}
+use Rattle.ptu_daemon.proofs.{Handling.{five_each, handled_all, many_of}, Lawful.{is_lawful}, Running.{after_all-history}}
 
 -- ---- what is told
 
@@ -57,50 +57,50 @@ none_together n (x ∷ olds) (y ∷ news) (first, others, sum, rises, rest) (sti
 module _ {P C : Type 0} (ports : Ports P) (clocks : Clocks C) where
   -- ---- several ports together
 
-  risen_of : (sends : ℕ → List Departure) (i s f n : ℕ) (olds news : List P) (old new : P) → AllHandled ports sends i s f olds news →
+  risen_of : (sends : ℕ → List Departure) (i s f m n : ℕ) (olds news : List P) (old new : P) → AllHandled ports sends i s f m olds news →
       HasRisenBy n (ports.faults old) (ports.faults new) → HaveRisenBy (f + n) (map ports.faults (olds ++ old ∷ [])) (map ports.faults (news ++ new ∷ []))
-  risen_of sends i s f n [] [] old new h rises = let none : f ≡ 0 = h.1 in (n, 0, omega arith, rises, refl)
-  risen_of sends i s f n [] (q ∷ news) old new h rises = absurd h
-  risen_of sends i s f n (p ∷ olds) [] old new h rises = absurd h
-  risen_of sends i s f n (p ∷ olds) (q ∷ news) old new (s1, f1, s2, f2, e, e', h, hs) rises =
-      (f1, f2 + n, omega (arith, e'), h.risen, risen_of sends (i + 1) s2 f2 n olds news old new hs rises)
+  risen_of sends i s f m n [] [] old new h rises = let none : f ≡ 0 = h.1 in (n, 0, omega arith, rises, refl)
+  risen_of sends i s f m n [] (q ∷ news) old new h rises = absurd h
+  risen_of sends i s f m n (p ∷ olds) [] old new h rises = absurd h
+  risen_of sends i s f m n (p ∷ olds) (q ∷ news) old new (s1, f1, m1, s2, f2, m2, e, e', e'', h, hs) rises =
+      (f1, f2 + n, omega (arith, e'), h.risen, risen_of sends (i + 1) s2 f2 m2 n olds news old new hs rises)
 
-  just_of : (sends : ℕ → List Departure) (i s f n : ℕ) (olds news : List P) (old new : P) → ports.counts_once ≡ true → AllHandled ports sends i s f olds news →
+  just_of : (sends : ℕ → List Departure) (i s f m n : ℕ) (olds news : List P) (old new : P) → ports.counts_once ≡ true → AllHandled ports sends i s f m olds news →
       HasRisenJust n (ports.faults old) (ports.faults new) → HaveRisenJust (f + n) (map ports.faults (olds ++ old ∷ [])) (map ports.faults (news ++ new ∷ []))
-  just_of sends i s f n [] [] old new once h rises = let none : f ≡ 0 = h.1 in (n, 0, omega arith, rises, refl)
-  just_of sends i s f n [] (q ∷ news) old new once h rises = absurd h
-  just_of sends i s f n (p ∷ olds) [] old new once h rises = absurd h
-  just_of sends i s f n (p ∷ olds) (q ∷ news) old new once (s1, f1, s2, f2, e, e', h, hs) rises =
-      (f1, f2 + n, omega (arith, e'), h.just once, just_of sends (i + 1) s2 f2 n olds news old new once hs rises)
+  just_of sends i s f m n [] [] old new once h rises = let none : f ≡ 0 = h.1 in (n, 0, omega arith, rises, refl)
+  just_of sends i s f m n [] (q ∷ news) old new once h rises = absurd h
+  just_of sends i s f m n (p ∷ olds) [] old new once h rises = absurd h
+  just_of sends i s f m n (p ∷ olds) (q ∷ news) old new once (s1, f1, m1, s2, f2, m2, e, e', e'', h, hs) rises =
+      (f1, f2 + n, omega (arith, e'), h.just once, just_of sends (i + 1) s2 f2 m2 n olds news old new once hs rises)
 
-  quiet_of : (sends : ℕ → List Departure) (i s f n : ℕ) (olds news : List P) (old new : P) → AllHandled ports sends i s f olds news →
+  quiet_of : (sends : ℕ → List Departure) (i s f m n : ℕ) (olds news : List P) (old new : P) → AllHandled ports sends i s f m olds news →
       (n ≡ 0 → ports.faults new ≡ ports.faults old) → f + n ≡ 0 → map ports.faults (news ++ new ∷ []) ≡ map ports.faults (olds ++ old ∷ [])
-  quiet_of sends i s f n [] [] old new h quiet none = ap (λ x. x ∷ []) (quiet (omega (arith, none)))
-  quiet_of sends i s f n [] (q ∷ news) old new h quiet none = absurd h
-  quiet_of sends i s f n (p ∷ olds) [] old new h quiet none = absurd h
-  quiet_of sends i s f n (p ∷ olds) (q ∷ news) old new (s1, f1, s2, f2, e, e', h, hs) quiet none =
-      ap₂ (λ x l. x ∷ l) (h.quiet (omega (arith, e', none))) (quiet_of sends (i + 1) s2 f2 n olds news old new hs quiet (omega (arith, e', none)))
+  quiet_of sends i s f m n [] [] old new h quiet none = ap (λ x. x ∷ []) (quiet (omega (arith, none)))
+  quiet_of sends i s f m n [] (q ∷ news) old new h quiet none = absurd h
+  quiet_of sends i s f m n (p ∷ olds) [] old new h quiet none = absurd h
+  quiet_of sends i s f m n (p ∷ olds) (q ∷ news) old new (s1, f1, m1, s2, f2, m2, e, e', e'', h, hs) quiet none =
+      ap₂ (λ x l. x ∷ l) (h.quiet (omega (arith, e', none))) (quiet_of sends (i + 1) s2 f2 m2 n olds news old new hs quiet (omega (arith, e', none)))
 
-  sent_of : (sends : ℕ → List Departure) (i s f : ℕ) (olds news : List P) → AllHandled ports sends i s f olds news →
+  sent_of : (sends : ℕ → List Departure) (i s f m : ℕ) (olds news : List P) → AllHandled ports sends i s f m olds news →
       WereSent s (map ports.sent olds) (map ports.sent news)
-  sent_of sends i s f [] [] h = h.0
-  sent_of sends i s f [] (q ∷ news) h = absurd h
-  sent_of sends i s f (p ∷ olds) [] h = absurd h
-  sent_of sends i s f (p ∷ olds) (q ∷ news) (s1, f1, s2, f2, e, e', h, hs) = (s1, s2, e, many_of (ports.sent p) (ports.sent q) (sends i) s1 h.some, sent_of sends (i + 1) s2 f2 olds news hs)
+  sent_of sends i s f m [] [] h = h.0
+  sent_of sends i s f m [] (q ∷ news) h = absurd h
+  sent_of sends i s f m (p ∷ olds) [] h = absurd h
+  sent_of sends i s f m (p ∷ olds) (q ∷ news) (s1, f1, m1, s2, f2, m2, e, e', e'', h, hs) = (s1, s2, e, many_of (ports.sent p) (ports.sent q) (sends i) s1 h.some, sent_of sends (i + 1) s2 f2 m2 olds news hs)
 
   -- what was handed to a port, and to several together
-  was_handed : (ds : List Departure) (s f : ℕ) (old new : P) → Handled ports ds s f old new → WasHanded ports old new ds s
-  was_handed ds s f old new h = record {
+  was_handed : (ds : List Departure) (s f m : ℕ) (old new : P) → Handled ports ds s f m old new → WasHanded ports old new ds s
+  was_handed ds s f m old new h = record {
     part = record { some = h.some; all = h.all };
     goes_on = λ still. h.goes_on (none_failed f (ports.faults old) (ports.faults new) h.risen still);
   }
 
-  handed_of : (sends : ℕ → List Departure) (i s f : ℕ) (olds news : List P) → AllHandled ports sends i s f olds news → WereHanded ports sends i s olds news
-  handed_of sends i s f [] [] h = h.0
-  handed_of sends i s f [] (q ∷ news) h = absurd h
-  handed_of sends i s f (p ∷ olds) [] h = absurd h
-  handed_of sends i s f (p ∷ olds) (q ∷ news) (s1, f1, s2, f2, e, e', h, hs) =
-      (s1, s2, e, was_handed (sends i) s1 f1 p q h, handed_of sends (i + 1) s2 f2 olds news hs)
+  handed_of : (sends : ℕ → List Departure) (i s f m : ℕ) (olds news : List P) → AllHandled ports sends i s f m olds news → WereHanded ports sends i s olds news
+  handed_of sends i s f m [] [] h = h.0
+  handed_of sends i s f m [] (q ∷ news) h = absurd h
+  handed_of sends i s f m (p ∷ olds) [] h = absurd h
+  handed_of sends i s f m (p ∷ olds) (q ∷ news) (s1, f1, m1, s2, f2, m2, e, e', e'', h, hs) =
+      (s1, s2, e, was_handed (sends i) s1 f1 m1 p q h, handed_of sends (i + 1) s2 f2 m2 olds news hs)
 
   -- what was sent by each of the five ports, where no count rose
   record SentByFive (sends : ℕ → List Departure) (old new : KeptGm P) (sent : ℕ) : Type 0 where
@@ -116,10 +116,11 @@ module _ {P C : Type 0} (ports : Ports P) (clocks : Clocks C) where
     pub tells4 : GoesOn ports old.reply new.reply (sends 4)
     pub many : sent ≡ length (sends 0) + length (sends 1) + length (sends 2) + length (sends 3) + length (sends 4)
 
-  sent_by_five : (sends : ℕ → List Departure) (s f : ℕ) (old new : KeptGm P) (a b : P) → AllHandled ports sends 0 s f (five old) (five new) →
+  sent_by_five : (sends : ℕ → List Departure) (s f m : ℕ) (old new : KeptGm P) (a b : P) → AllHandled ports sends 0 s f m (five old) (five new) →
       HaveNotRisen (map ports.faults (five old ++ a ∷ [])) (map ports.faults (five new ++ b ∷ [])) → SentByFive sends old new s
-  sent_by_five sends s f old new a b
-      (s0, f0, t0, g0, d0, e0, h0, (s1, f1, t1, g1, d1, e1, h1, (s2, f2, t2, g2, d2, e2, h2, (s3, f3, t3, g3, d3, e3, h3, (s4, f4, t4, g4, d4, e4, h4, (d5, e5))))))
+  sent_by_five sends s f m old new a b
+      (s0, f0, m0, t0, g0, n0, d0, e0, c0, h0, (s1, f1, m1, t1, g1, n1, d1, e1, c1, h1, (s2, f2, m2, t2, g2, n2, d2, e2, c2, h2,
+      (s3, f3, m3, t3, g3, n3, d3, e3, c3, h3, (s4, f4, m4, t4, g4, n4, d4, e4, c4, h4, (d5, e5, c5))))))
       (r0, (r1, (r2, (r3, (r4, r5))))) = record {
         p0 = h0.all r0;
         p1 = h1.all r1;
@@ -139,11 +140,11 @@ module _ {P C : Type 0} (ports : Ports P) (clocks : Clocks C) where
           d3,
           d4,
           d5,
-          handled_all ports _ _ _ s0 f0 h0 r0,
-          handled_all ports _ _ _ s1 f1 h1 r1,
-          handled_all ports _ _ _ s2 f2 h2 r2,
-          handled_all ports _ _ _ s3 f3 h3 r3,
-          handled_all ports _ _ _ s4 f4 h4 r4,
+          handled_all ports _ _ _ s0 f0 m0 h0 r0,
+          handled_all ports _ _ _ s1 f1 m1 h1 r1,
+          handled_all ports _ _ _ s2 f2 m2 h2 r2,
+          handled_all ports _ _ _ s3 f3 m3 h3 r3,
+          handled_all ports _ _ _ s4 f4 m4 h4 r4,
         );
       }
 
@@ -165,7 +166,7 @@ module _ {P C : Type 0} (ports : Ports P) (clocks : Clocks C) where
     gm_is : standing_as gm0 settings.capacity [] ≡ opened_as settings
     gm_is = ap (λ c. record { config = c; opening = settings.capacity; past = [] }) config
 
-    handled : AllHandled ports (λ i. sends_by (standing_as gm0 settings.capacity []) i did.ran.events) 0 tally.sent did.ran.others_failed (five gm0) (five gm1)
+    handled : AllHandled ports (λ i. sends_by (standing_as gm0 settings.capacity []) i did.ran.events) 0 tally.sent did.ran.others_failed did.ran.others_missed (five gm0) (five gm1)
     handled = (did.ran.does settings.capacity [] stood).1
 
     opened_are : five gm0 ++ opened.p5 ∷ [] ≡ ports_of opened
@@ -185,20 +186,20 @@ module _ {P C : Type 0} (ports : Ports P) (clocks : Clocks C) where
         subst (λ (l : List P). HaveRisenBy said.failed (map ports.faults l) (faults_of ports closed)) opened_are
         (subst (λ (l : List P). HaveRisenBy said.failed (map ports.faults (five gm0 ++ opened.p5 ∷ [])) (map ports.faults l)) closed_are
         (subst (λ n. HaveRisenBy n (map ports.faults (five gm0 ++ opened.p5 ∷ [])) (map ports.faults (five gm1 ++ event ∷ []))) (sym (failed_is ∙ did.ran.failures))
-        (risen_of (λ i. sends_by (standing_as gm0 settings.capacity []) i did.ran.events) 0 tally.sent did.ran.others_failed did.ran.event_failed (five gm0) (five gm1) opened.p5 event handled did.ran.event_handled.risen)))
+        (risen_of (λ i. sends_by (standing_as gm0 settings.capacity []) i did.ran.events) 0 tally.sent did.ran.others_failed did.ran.others_missed did.ran.event_failed (five gm0) (five gm1) opened.p5 event handled did.ran.event_handled.risen)))
 
     just : ports.counts_once ≡ true → HaveRisenJust said.failed (faults_of ports opened) (faults_of ports closed)
     just once =
         subst (λ (l : List P). HaveRisenJust said.failed (map ports.faults l) (faults_of ports closed)) opened_are
         (subst (λ (l : List P). HaveRisenJust said.failed (map ports.faults (five gm0 ++ opened.p5 ∷ [])) (map ports.faults l)) closed_are
         (subst (λ n. HaveRisenJust n (map ports.faults (five gm0 ++ opened.p5 ∷ [])) (map ports.faults (five gm1 ++ event ∷ []))) (sym (failed_is ∙ did.ran.failures))
-        (just_of (λ i. sends_by (standing_as gm0 settings.capacity []) i did.ran.events) 0 tally.sent did.ran.others_failed did.ran.event_failed (five gm0) (five gm1) opened.p5 event once handled
+        (just_of (λ i. sends_by (standing_as gm0 settings.capacity []) i did.ran.events) 0 tally.sent did.ran.others_failed did.ran.others_missed did.ran.event_failed (five gm0) (five gm1) opened.p5 event once handled
         (did.ran.event_handled.just once))))
 
     quiet : said.failed ≡ 0 → faults_of ports closed ≡ faults_of ports opened
     quiet none =
         ap (map ports.faults) (sym closed_are)
-        ∙ quiet_of (λ i. sends_by (standing_as gm0 settings.capacity []) i did.ran.events) 0 tally.sent did.ran.others_failed did.ran.event_failed (five gm0) (five gm1) opened.p5 event handled
+        ∙ quiet_of (λ i. sends_by (standing_as gm0 settings.capacity []) i did.ran.events) 0 tally.sent did.ran.others_failed did.ran.others_missed did.ran.event_failed (five gm0) (five gm1) opened.p5 event handled
         did.ran.event_handled.quiet (sym (failed_is ∙ did.ran.failures) ∙ none)
         ∙ ap (map ports.faults) opened_are
 
@@ -207,7 +208,7 @@ module _ {P C : Type 0} (ports : Ports P) (clocks : Clocks C) where
         subst (λ (l : List P). WereSent said.sent (map ports.sent l) (map ports.sent (senders_of closed))) senders_opened
         (subst (λ (l : List P). WereSent said.sent (map ports.sent (five gm0)) (map ports.sent l)) senders_closed
         (subst (λ n. WereSent n (map ports.sent (five gm0)) (map ports.sent (five gm1))) (sym sent_is)
-        (sent_of (λ i. sends_by (standing_as gm0 settings.capacity []) i did.ran.events) 0 tally.sent did.ran.others_failed (five gm0) (five gm1) handled)))
+        (sent_of (λ i. sends_by (standing_as gm0 settings.capacity []) i did.ran.events) 0 tally.sent did.ran.others_failed did.ran.others_missed (five gm0) (five gm1) handled)))
 
     were_handed : WereHanded ports (λ i. sends_by (opened_as settings) i did.ran.events) 0 said.sent (senders_of opened) (senders_of closed)
     were_handed =
@@ -215,9 +216,16 @@ module _ {P C : Type 0} (ports : Ports P) (clocks : Clocks C) where
         (subst (λ (l : List P). WereHanded ports (λ i. sends_by (opened_as settings) i did.ran.events) 0 said.sent (five gm0) l) senders_closed
         (subst (λ n. WereHanded ports (λ i. sends_by (opened_as settings) i did.ran.events) 0 n (five gm0) (five gm1)) (sym sent_is)
         (subst (λ g. WereHanded ports (λ i. sends_by g i did.ran.events) 0 tally.sent (five gm0) (five gm1)) gm_is
-        (handed_of (λ i. sends_by (standing_as gm0 settings.capacity []) i did.ran.events) 0 tally.sent did.ran.others_failed (five gm0) (five gm1) handled))))
+        (handed_of (λ i. sends_by (standing_as gm0 settings.capacity []) i did.ran.events) 0 tally.sent did.ran.others_failed did.ran.others_missed (five gm0) (five gm1) handled))))
 
-    has_happened : Happened ports clocks settings opened closed said.sent
+    each : said.sent + said.failed ≡ many_by settings did.ran.events + did.missed
+    each =
+        let all : tally.sent + did.ran.others_failed ≡ many_by settings did.ran.events + did.ran.others_missed =
+        subst (λ g. tally.sent + did.ran.others_failed ≡ (let n = λ (i : ℕ). length (sends_by g i did.ran.events) in n 0 + n 1 + n 2 + n 3 + n 4) + did.ran.others_missed) gm_is
+        (five_each ports (λ i. sends_by (standing_as gm0 settings.capacity []) i did.ran.events) gm0 gm1 tally.sent did.ran.others_failed did.ran.others_missed handled) in
+        omega (arith, all, sent_is, failed_is, did.ran.failures, did.ran.receives)
+
+    has_happened : Happened ports clocks settings opened closed said.sent said.failed
     has_happened = record {
       rounds = did.took;
       taken = did.taken;
@@ -229,6 +237,9 @@ module _ {P C : Type 0} (ports : Ports P) (clocks : Clocks C) where
       moments = subst (λ c. Takes (clocks.moments opened.c0) (clocks.moments c) (happenings_of settings did.took) did.ran.events) (sym k0) did.ran.takes;
       lawful = is_lawful settings did.ran.events limits capacity;
       handed = were_handed;
+      missed = did.missed;
+      once = did.once;
+      each = each;
     }
 
     module _ (given : Given) (is : IsGiven ports clocks opened closed given) (still : HaveNotRisen (faults_of ports opened) (faults_of ports closed)) where
@@ -265,7 +276,7 @@ module _ {P C : Type 0} (ports : Ports P) (clocks : Clocks C) where
 
       five_sent : SentByFive (λ i. sends_by (standing_as gm0 settings.capacity []) i did.ran.events) gm0 gm1 tally.sent
       five_sent =
-          sent_by_five (λ i. sends_by (standing_as gm0 settings.capacity []) i did.ran.events) tally.sent did.ran.others_failed gm0 gm1 opened.p5 event handled
+          sent_by_five (λ i. sends_by (standing_as gm0 settings.capacity []) i did.ran.events) tally.sent did.ran.others_failed did.ran.others_missed gm0 gm1 opened.p5 event handled
           (subst (λ (l : List P). HaveNotRisen (map ports.faults l) (map ports.faults (five gm1 ++ event ∷ []))) (sym opened_are)
           (subst (λ (l : List P). HaveNotRisen (faults_of ports opened) (map ports.faults l)) (sym closed_are) still))
 

@@ -30,7 +30,8 @@ use Rattle.ptu_gm_messages.specs.Deciding.{answer_to, client_of, decisions_of, o
 use Rattle.ptu_gm_messages.specs.Replies.{cancels_to, identity_of, lease_of, signaling_of, signaling_to}
 use Rattle.ptu_grandmaster.specs.declared.driving.GmEvent.{GmEvent}
 use Rattle.ptu_grandmaster.specs.declared.driving.GmEvent.TheVariants.{Take, Turn, Class, Capacity}
-use Rattle.ptu_lanes.specs.Rounds.{Exchange, replies, reply_if_any, reply_in, reply_with}
+use Rattle.ptu_lanes.specs.Rounds.{Exchange, answers_of, replies, reply_if_any, reply_in, reply_with}
+use Rattle.ptu_lanes.specs.Served.{replies_around}
 use Rattle.ptu_daemon.specs.Sends.{Standing, event_sends, heard_sends, sends_by, standing_after}
 use Rattle.ptu_twostep.specs.{Pairs.{step_at}, Steps.{has_two_steps, step_by, step_read, step_of}}
 use Rattle.ptu_twostep.specs.declared.step.Step.TheVariants.{OneStepSync, TwoStepSync, FollowUp, Other}
@@ -99,6 +100,31 @@ whole_response config x c request = whole_message (message_of_response config x 
 whole_signaling : (config : GmConfig) (ip : ℕ) (target : PortIdentity) (sequence : ℕ) (tlvs : List Tlv) →
     is_half (step_at (signaling_to config ip target sequence tlvs)) ≡ false
 whole_signaling config ip target sequence tlvs = whole_message (signaling_of config target sequence tlvs) (λ e. omega (arith, e))
+
+-- ---- what is no Sync and no Follow_Up
+
+other_read : (octets : List ℕ) (r : Result (Header × ℕ) HeaderFault) → is_half (step_read channels.General octets r) ≡ false → step_read channels.General octets r ≡ Other
+other_read octets (Err fault) half = refl
+other_read octets (Ok read) half = by (eqb read.1 44) (eqb read.0.message_type 8) half
+  where
+    by : (b c : Bool) → is_half (cond b (cond c FollowUp Other) Other) ≡ false → cond b (cond c FollowUp Other) Other ≡ Other
+    by true true h = absurd (cc h)
+    by true false h = refl
+    by false c h = refl
+
+-- on the general channel all that is no half is neither
+other_general : (octets : List ℕ) → is_half (step_of channels.General octets) ≡ false → step_of channels.General octets ≡ Other
+unfolding step_of
+other_general octets half = by (eqb (length octets) 44) half
+  where
+    by : (b : Bool) → is_half (cond b (step_read channels.General octets (header_in octets)) Other) ≡ false →
+        cond b (step_read channels.General octets (header_in octets)) Other ≡ Other
+    by true h = other_read octets (header_in octets) h
+    by false h = refl
+
+other_signaling : (config : GmConfig) (ip : ℕ) (target : PortIdentity) (sequence : ℕ) (tlvs : List Tlv) → step_at (signaling_to config ip target sequence tlvs) ≡ Other
+other_signaling config ip target sequence tlvs =
+    other_general (octets_sent (signaling_of config target sequence tlvs)) (whole_signaling config ip target sequence tlvs)
 
 -- ---- several
 
@@ -172,4 +198,37 @@ whole_with config from (Err reason) answers = tt
 pub whole_replies : (config : GmConfig) (exchanges : List Exchange) → AreWhole (replies config exchanges)
 whole_replies config [] = tt
 whole_replies config (exchange ∷ exchanges) =
-    whole_both (reply_in config exchange) _ (whole_with config _ (heard_in config exchange.datagram.bytes) exchange.answers) (whole_replies config exchanges)
+    whole_both (reply_in config exchange) _ (whole_with config _ (heard_in config exchange.datagram.bytes) (answers_of exchange)) (whole_replies config exchanges)
+
+-- ---- replies and CANCELs are sent in two steps as they are
+
+abbrev pub AreOther : List Departure → Type 0
+AreOther datagrams = AllByRecursion (λ d. step_at d ≡ Other) datagrams
+
+other_both : (xs ys : List Departure) → AreOther xs → AreOther ys → AreOther (xs ++ ys)
+other_both [] ys a b = b
+other_both (x ∷ xs) ys a b = (a.0, other_both xs ys a.1 b)
+
+other_cancels : (config : GmConfig) (before : ℕ) (leases : List (Client × Kind)) → AreOther (cancels_to config before leases)
+other_cancels config before [] = tt
+other_cancels config before (lease ∷ leases) =
+    (other_signaling config lease.0.ip (identity_of lease.0) (before % 65536) (Cancel (code_of lease.1) ∷ []), other_cancels config (before + 1) leases)
+
+other_if_any : (config : GmConfig) (from : ℕ) (header : Header) (answers : List Tlv) → AreOther (reply_if_any config from header answers)
+other_if_any config from header [] = tt
+other_if_any config from header (answer ∷ answers) = (other_signaling config from header.source header.sequence (answer ∷ answers), tt)
+
+other_with : (config : GmConfig) (from : ℕ) (h : Result Heard GmReason) (answers : List Tlv) → AreOther (reply_with config from h answers)
+other_with config from (Ok (heard.Asks header items)) answers = other_if_any config from header answers
+other_with config from (Ok (heard.DelayReq header)) answers = tt
+other_with config from (Err reason) answers = tt
+
+other_replies : (config : GmConfig) (exchanges : List Exchange) → AreOther (replies config exchanges)
+other_replies config [] = tt
+other_replies config (exchange ∷ exchanges) =
+    other_both (reply_in config exchange) _ (other_with config _ (heard_in config exchange.datagram.bytes) (answers_of exchange)) (other_replies config exchanges)
+
+pub other_around : (config : GmConfig) (early : List Exchange) (shed : List (Client × Kind)) (late : List Exchange) → AreOther (replies_around config early shed late)
+other_around config early shed late =
+    other_both (replies config early ++ cancels_to config 0 shed) (replies config late)
+    (other_both (replies config early) (cancels_to config 0 shed) (other_replies config early) (other_cancels config 0 shed)) (other_replies config late)

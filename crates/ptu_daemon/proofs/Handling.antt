@@ -29,11 +29,10 @@ module _ {P : Type 0} (ports : Ports P) where
   -- nothing was sent, and receives may have failed
   pub handled_idle : (old new : P) (failed : ℕ) → ports.sent new ≡ ports.sent old →
       HasRisenBy failed (ports.faults old) (ports.faults new) → (ports.counts_once ≡ true → HasRisenJust failed (ports.faults old) (ports.faults new)) →
-      (failed ≡ 0 → ports.faults new ≡ ports.faults old) → HasNotFallen (ports.faults old) (ports.faults new) → Handled ports [] 0 failed old new
+      (failed ≡ 0 → ports.faults new ≡ ports.faults old) → HasNotFallen (ports.faults old) (ports.faults new) → Handled ports [] 0 failed failed old new
   handled_idle old new failed same risen just quiet no_fall = record {
-    unsent = 0;
     within = omega arith;
-    each = refl;
+    each = omega arith;
     some = subst (λ (told : Option (List Departure)). SentOf (ports.sent old) told [] 0) (sym same) (sent_none (ports.sent old));
     all = λ still. subst (λ (told : Option (List Departure)). IfTold told (append_told (ports.sent old) [])) (sym same) (told_none (ports.sent old));
     risen = risen;
@@ -44,20 +43,19 @@ module _ {P : Type 0} (ports : Ports P) where
   }
 
   pub handled_quietly : (old new : P) → ports.sent new ≡ ports.sent old → ports.faults new ≡ ports.faults old →
-      Handled ports [] 0 0 old new
+      Handled ports [] 0 0 0 old new
   handled_quietly old new same quiet =
       handled_idle old new 0 same (inl (omega (arith, quiet))) (λ once. inl (omega (arith, quiet))) (λ none. quiet)
       (subst (λ n. HasNotFallen (ports.faults old) n) (sym quiet) (not_fallen_none (ports.faults old)))
 
-  pub handled_same : (old new : P) → new ≡ old → Handled ports [] 0 0 old new
+  pub handled_same : (old new : P) → new ≡ old → Handled ports [] 0 0 0 old new
   handled_same old new same = handled_quietly old new (ap ports.sent same) (ap ports.faults same)
 
   -- one after the other, some of which failed
-  pub hands_handled : (old new : P) (sends : List Departure) (sent failed : ℕ) → HandsOver ports old new sends sent failed → Handled ports sends sent failed old new
+  pub hands_handled : (old new : P) (sends : List Departure) (sent failed : ℕ) → HandsOver ports old new sends sent failed → Handled ports sends sent failed 0 old new
   hands_handled old new sends sent failed h = record {
-    unsent = failed;
     within = omega arith;
-    each = h.each;
+    each = omega (arith, h.each);
     some = h.some;
     all = h.all;
     risen = h.risen;
@@ -67,10 +65,9 @@ module _ {P : Type 0} (ports : Ports P) where
     goes_on = h.goes_on;
   }
 
-  pub handled_more : (old now new : P) (xs ys : List Departure) (s f s' f' : ℕ) →
-      Handled ports xs s f old now → Handled ports ys s' f' now new → Handled ports (xs ++ ys) (s + s') (f + f') old new
-  handled_more old now new xs ys s f s' f' h k = record {
-    unsent = h.unsent + k.unsent;
+  pub handled_more : (old now new : P) (xs ys : List Departure) (s f m s' f' m' : ℕ) →
+      Handled ports xs s f m old now → Handled ports ys s' f' m' now new → Handled ports (xs ++ ys) (s + s') (f + f') (m + m') old new
+  handled_more old now new xs ys s f m s' f' m' h k = record {
     within = omega (arith, h.within, k.within);
     each = omega (arith, h.each, k.each, length-append xs ys);
     some = sent_both (ports.sent old) (ports.sent now) (ports.sent new) xs ys s s' h.some k.some;
@@ -85,83 +82,107 @@ module _ {P : Type 0} (ports : Ports P) where
   }
 
   -- where the count did not rise, all were sent
-  pub handled_all : (old new : P) (sends : List Departure) (sent failed : ℕ) → Handled ports sends sent failed old new → ¬ HasRisen (ports.faults old) (ports.faults new) →
+  pub handled_all : (old new : P) (sends : List Departure) (sent failed missed : ℕ) → Handled ports sends sent failed missed old new → ¬ HasRisen (ports.faults old) (ports.faults new) →
       sent ≡ length sends
-  handled_all old new sends sent failed h still =
+  handled_all old new sends sent failed missed h still =
       let none : failed ≡ 0 = none_failed failed (ports.faults old) (ports.faults new) h.risen still in
       omega (arith, none, h.within, h.each)
 
   -- ---- several ports
 
-  pub all_more : (xs ys zs : ℕ → List Departure) (i s f s' f' : ℕ) (olds nows news : List P) →
-      ((k : ℕ) → zs k ≡ xs k ++ ys k) → AllHandled ports xs i s f olds nows → AllHandled ports ys i s' f' nows news →
-      AllHandled ports zs i (s + s') (f + f') olds news
-  all_more xs ys zs i s f s' f' [] [] [] both h k =
-      let a : s ≡ 0 = h.0 in let b : f ≡ 0 = h.1 in let c : s' ≡ 0 = k.0 in let d : f' ≡ 0 = k.1 in (omega arith, omega arith)
-  all_more xs ys zs i s f s' f' [] [] (p ∷ news) both h k = absurd k
-  all_more xs ys zs i s f s' f' [] (p ∷ nows) news both h k = absurd h
-  all_more xs ys zs i s f s' f' (p ∷ olds) [] news both h k = absurd h
-  all_more xs ys zs i s f s' f' (p ∷ olds) (q ∷ nows) [] both h k = absurd k
-  all_more xs ys zs i s f s' f' (p ∷ olds) (q ∷ nows) (r ∷ news) both (s1, f1, s2, f2, e, e', h, hs) (t1, g1, t2, g2, d, d', k, ks) = (
+  pub all_more : (xs ys zs : ℕ → List Departure) (i s f m s' f' m' : ℕ) (olds nows news : List P) →
+      ((k : ℕ) → zs k ≡ xs k ++ ys k) → AllHandled ports xs i s f m olds nows → AllHandled ports ys i s' f' m' nows news →
+      AllHandled ports zs i (s + s') (f + f') (m + m') olds news
+  all_more xs ys zs i s f m s' f' m' [] [] [] both h k =
+      let a : s ≡ 0 = h.0 in let b : f ≡ 0 = h.1 in let e : m ≡ 0 = h.2 in let c : s' ≡ 0 = k.0 in let d : f' ≡ 0 = k.1 in let g : m' ≡ 0 = k.2 in
+      (omega arith, omega arith, omega arith)
+  all_more xs ys zs i s f m s' f' m' [] [] (p ∷ news) both h k = absurd k
+  all_more xs ys zs i s f m s' f' m' [] (p ∷ nows) news both h k = absurd h
+  all_more xs ys zs i s f m s' f' m' (p ∷ olds) [] news both h k = absurd h
+  all_more xs ys zs i s f m s' f' m' (p ∷ olds) (q ∷ nows) [] both h k = absurd k
+  all_more xs ys zs i s f m s' f' m' (p ∷ olds) (q ∷ nows) (r ∷ news) both (s1, f1, m1, s2, f2, m2, e, e', e'', h, hs) (t1, g1, n1, t2, g2, n2, d, d', d'', k, ks) = (
     s1 + t1,
     f1 + g1,
+    m1 + n1,
     s2 + t2,
     f2 + g2,
+    m2 + n2,
     omega (arith, e, d),
     omega (arith, e', d'),
-    subst (λ l. Handled ports l (s1 + t1) (f1 + g1) p r) (sym (both i)) (handled_more p q r (xs i) (ys i) s1 f1 t1 g1 h k),
-    all_more xs ys zs (i + 1) s2 f2 t2 g2 olds nows news both hs ks,
+    omega (arith, e'', d''),
+    subst (λ l. Handled ports l (s1 + t1) (f1 + g1) (m1 + n1) p r) (sym (both i)) (handled_more p q r (xs i) (ys i) s1 f1 m1 t1 g1 n1 h k),
+    all_more xs ys zs (i + 1) s2 f2 m2 t2 g2 n2 olds nows news both hs ks,
   )
 
-  pub all_same : (xs ys : ℕ → List Departure) (i s f : ℕ) (olds news : List P) → ((k : ℕ) → ys k ≡ xs k) → AllHandled ports xs i s f olds news →
-      AllHandled ports ys i s f olds news
-  all_same xs ys i s f [] [] same h = h
-  all_same xs ys i s f [] (p ∷ news) same h = absurd h
-  all_same xs ys i s f (p ∷ olds) [] same h = absurd h
-  all_same xs ys i s f (p ∷ olds) (q ∷ news) same (s1, f1, s2, f2, e, e', h, hs) =
-      (s1, f1, s2, f2, e, e', subst (λ l. Handled ports l s1 f1 p q) (sym (same i)) h, all_same xs ys (i + 1) s2 f2 olds news same hs)
+  pub all_same : (xs ys : ℕ → List Departure) (i s f m : ℕ) (olds news : List P) → ((k : ℕ) → ys k ≡ xs k) → AllHandled ports xs i s f m olds news →
+      AllHandled ports ys i s f m olds news
+  all_same xs ys i s f m [] [] same h = h
+  all_same xs ys i s f m [] (p ∷ news) same h = absurd h
+  all_same xs ys i s f m (p ∷ olds) [] same h = absurd h
+  all_same xs ys i s f m (p ∷ olds) (q ∷ news) same (s1, f1, m1, s2, f2, m2, e, e', e'', h, hs) =
+      (s1, f1, m1, s2, f2, m2, e, e', e'', subst (λ l. Handled ports l s1 f1 m1 p q) (sym (same i)) h, all_same xs ys (i + 1) s2 f2 m2 olds news same hs)
 
   -- the five ports of a grandmaster
-  pub five_handled : (sends : ℕ → List Departure) (old new : KeptGm P) (s0 f0 s1 f1 s2 f2 s3 f3 s4 f4 sent failed : ℕ) →
-      Handled ports (sends 0) s0 f0 old.s0.port new.s0.port → Handled ports (sends 1) s1 f1 old.s1.port new.s1.port →
-      Handled ports (sends 2) s2 f2 old.s2.port new.s2.port → Handled ports (sends 3) s3 f3 old.s3.port new.s3.port →
-      Handled ports (sends 4) s4 f4 old.reply new.reply →
+  pub five_handled : (sends : ℕ → List Departure) (old new : KeptGm P) (s0 f0 s1 f1 s2 f2 s3 f3 s4 f4 missed sent failed : ℕ) →
+      Handled ports (sends 0) s0 f0 0 old.s0.port new.s0.port → Handled ports (sends 1) s1 f1 0 old.s1.port new.s1.port →
+      Handled ports (sends 2) s2 f2 0 old.s2.port new.s2.port → Handled ports (sends 3) s3 f3 0 old.s3.port new.s3.port →
+      Handled ports (sends 4) s4 f4 missed old.reply new.reply →
       sent ≡ s0 + (s1 + (s2 + (s3 + (s4 + 0)))) → failed ≡ f0 + (f1 + (f2 + (f3 + (f4 + 0)))) →
-      AllHandled ports sends 0 sent failed (five old) (five new)
-  five_handled sends old new s0 f0 s1 f1 s2 f2 s3 f3 s4 f4 sent failed h0 h1 h2 h3 h4 e e' = (
+      AllHandled ports sends 0 sent failed missed (five old) (five new)
+  five_handled sends old new s0 f0 s1 f1 s2 f2 s3 f3 s4 f4 missed sent failed h0 h1 h2 h3 h4 e e' = (
     s0,
     f0,
+    0,
     s1 + (s2 + (s3 + (s4 + 0))),
     f1 + (f2 + (f3 + (f4 + 0))),
+    missed,
     e,
     e',
+    omega arith,
     h0,
     (
       s1,
       f1,
+      0,
       s2 + (s3 + (s4 + 0)),
       f2 + (f3 + (f4 + 0)),
+      missed,
       refl,
       refl,
+      omega arith,
       h1,
       (
         s2,
         f2,
+        0,
         s3 + (s4 + 0),
         f3 + (f4 + 0),
+        missed,
         refl,
         refl,
+        omega arith,
         h2,
         (
           s3,
           f3,
+          0,
           s4 + 0,
           f4 + 0,
+          missed,
           refl,
           refl,
+          omega arith,
           h3,
-          (s4, f4, 0, 0, refl, refl, h4, (refl, refl)),
+          (s4, f4, missed, 0, 0, 0, refl, refl, omega arith, h4, (refl, refl, refl)),
         ),
       ),
     ),
   )
+
+  -- all sends and failures of the five
+  pub five_each : (sends : ℕ → List Departure) (old new : KeptGm P) (sent failed missed : ℕ) → AllHandled ports sends 0 sent failed missed (five old) (five new) →
+      sent + failed ≡ length (sends 0) + length (sends 1) + length (sends 2) + length (sends 3) + length (sends 4) + missed
+  five_each sends old new sent failed missed
+      (s0, f0, m0, t0, g0, n0, d0, e0, c0, h0, (s1, f1, m1, t1, g1, n1, d1, e1, c1, h1, (s2, f2, m2, t2, g2, n2, d2, e2, c2, h2,
+      (s3, f3, m3, t3, g3, n3, d3, e3, c3, h3, (s4, f4, m4, t4, g4, n4, d4, e4, c4, h4, (d5, e5, c5)))))) =
+      omega (arith, d0, e0, c0, d1, e1, c1, d2, e2, c2, d3, e3, c3, d4, e4, c4, d5, e5, c5, h0.each, h1.each, h2.each, h3.each, h4.each)

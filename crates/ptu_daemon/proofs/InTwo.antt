@@ -1,22 +1,24 @@
 -- From what is said of ports in two steps to what the ports below them were sent.
-use Rattle.std.proofs.Common.{◌≡◌, ◌∙◌, ℕ, ◌||◌, Bool, true, false, List, [], ◌∷◌, ◌++◌, Option, Some, None, IsSome, IfSome, option_map, Result, Ok, Err, refl, ap, subst}
-use Rattle.std.specs.{Prelude.{IfErr, OnOk}, List.{AllByRecursion, list_any}}
+use Rattle.std.proofs.Common.{◌≡◌, ◌∙◌, ◌⊎◌, inl, inr, ℕ, ◌≤◌, ◌||◌, Bool, true, false, List, [], ◌∷◌, ◌++◌, length, Option, Some, None, IsSome, IfSome, option_map, Result, Ok, Err, refl, sym, ap, subst}
+use Rattle.std.specs.{Prelude.{IfErr, OnOk}, List.{AllByRecursion, items_where_true, list_any}}
 use Rattle.ptu_outside.specs.declared.{clock.Clock.{Ghosts as Clocks}, endpoint.Endpoint.{Endpoint}}
 use Rattle.ptu_outside.specs.declared.{opened.Opened.{Opened}, port.Port.{Ghosts as Ports}, sink.Sink.{Ghosts as Sinks}}
-use Rattle.ptu_outside.specs.{Departure.{Departure}, Handing.{HasPut, HasPutFront}, Telling.{IfTold}}
+use Rattle.ptu_outside.specs.{Departure.{Departure}, Handing.{HasPut, HasPutFront}, Telling.{IfTold, append_told}}
+use Rattle.ptu_outside.specs.HandsOver.{SentOf}
 use Rattle.ptu_config.specs.{declared.settings.GmSettings.{GmSettings}, Rounds.{all_rounds}}
-use Rattle.ptu_rounds.specs.Ports.{HaveNotRisen}
+use Rattle.ptu_rounds.specs.{Handed.{WasHanded}, Ports.{HaveNotRisen}}
 use Rattle.ptu_rounds.specs.declared.fault.DaemonFault.{DaemonFault}
 use Rattle.ptu_rounds.specs.declared.fault.DaemonFault.TheVariants as faults
-use Rattle.ptu_lanes.specs.{Sending.{GoesOn, WasSent}, Served.{faults_of}}
+use Rattle.ptu_lanes.specs.{Sending.{GoesOn, WasSent}, Served.{ExchangedAll, ServesByLanes, faults_of, replies_around}}
 use Rattle.ptu_twostep.specs.{declared.two_host.Flags.{Flags}, Hosts.{clear, flagged_by, over, two_steps}}
-use Rattle.ptu_twostep.specs.{Pairs.{pair, pairs, step_at}, Telling.{ceases_in_two, is_half, told_by}}
+use Rattle.ptu_twostep.specs.declared.step.Step.TheVariants.{Other}
+use Rattle.ptu_twostep.specs.{Pairs.{pair, pair_by, pairs, step_at}, Telling.{ceases_in_two, is_half, told_by}}
 use Rattle.ptu_twostep.proofs.Pairs.{grown-pairs}
-use Rattle.ptu_daemon.specs.{Answers.{HasAnswered}, Events.{Given, served_events}}
-use Rattle.ptu_daemon.specs.Served.{Said, closing_line, opened_as, served_by}
-use Rattle.ptu_daemon.specs.Serving.{AreServed, HasServed, IsGiven, Serves}
-use Rattle.ptu_daemon.specs.ServingInTwo.{AreSentInPairs, HasServedInTwo, IsSentInPairs}
-use Rattle.ptu_daemon.proofs.Halves.{whole_sends}
+use Rattle.ptu_daemon.specs.{Answers.{HasAnswered}, Events.{Given, config_of, served_events}}
+use Rattle.ptu_daemon.specs.Served.{Said, closing_line, numbers_in, opened_as, served_by}
+use Rattle.ptu_daemon.specs.Serving.{AreServed, HasServed, IsGiven, Serves, ServesEitherWay}
+use Rattle.ptu_daemon.specs.ServingInTwo.{AnswersBelow, AreSentBelow, AreSentInPairs, HasServedInTwo, IsSentInPairs, ServesInPairs}
+use Rattle.ptu_daemon.proofs.Halves.{AreOther, other_around, whole_sends}
 
 -- ---- datagrams at which a port may cease
 
@@ -36,6 +38,27 @@ none_in_two ceases (d ∷ ds) whole none = (
   ap (λ b. b || list_any ceases (pair d)) whole.0 ∙ none_first ceases (pair d) (pairs ds) none,
   none_in_two ceases ds whole.1 (none_last ceases (pair d) (pairs ds) none),
 )
+
+-- ---- datagrams that are sent in two steps as they are
+
+pairs_same : (ds : List Departure) → AreOther ds → pairs ds ≡ ds
+pairs_same [] other = refl
+pairs_same (d ∷ ds) other = ap (λ s. pair_by s d ++ pairs ds) other.0 ∙ ap (λ l. d ∷ l) (pairs_same ds other.1)
+
+other_whole : (ds : List Departure) → AreOther ds → AllByRecursion (λ d. is_half (step_at d) ≡ false) ds
+other_whole [] other = tt
+other_whole (d ∷ ds) other = (ap is_half other.0, other_whole ds other.1)
+
+other_some : (which : List Bool) (ds : List Departure) → AreOther ds → AreOther (items_where_true which ds)
+other_some [] [] other = tt
+other_some [] (d ∷ ds) other = tt
+other_some (w ∷ which) [] other = tt
+other_some (true ∷ which) (d ∷ ds) other = (other.0, other_some which ds other.1)
+other_some (false ∷ which) (d ∷ ds) other = other_some which ds other.1
+
+is_told : (now told : Option (List Departure)) → now ≡ told → IfTold now told
+is_told None told is = tt
+is_told (Some list) told is = sym is
 
 some_told : (told : Option (List Departure)) → IsSome told → (x : List Departure) × (told ≡ Some x)
 some_told None is = absurd (cc is)
@@ -63,6 +86,44 @@ module _ {P C : Type 0} (ports : Ports P) (clocks : Clocks C) (settings : GmSett
       halves : (i : ℕ) → AllByRecursion (λ d. is_half (step_at d) ≡ false) (served_by settings given i)
       halves i = whole_sends (opened_as settings) i (served_events settings given)
 
+  -- a port below was sent just those that are sent as they are
+  sent_below : (before after : P) (flag : Bool) (ds : List Departure) (sent : ℕ) → AreOther ds →
+      WasHanded (two_steps ports) (over false before) (over flag after) ds sent → AreSentBelow ports before after flag ds sent
+  sent_below before after flag ds sent other h =
+      let same : pairs ds ≡ ds = pairs_same ds other in
+      record {
+        all = λ still whole few.
+            one_paired before after flag ds (other_whole ds other) (h.part.all still) (h.goes_on still) whole
+            (subst (AllByRecursion (λ d. ports.ceases_at d ≡ false)) (sym same) few)
+            ∙ ap (append_told (ports.sent before)) same;
+        some = λ tells.
+            let told = some_told (told_by flag (ports.sent after)) tells in
+            let items = items_where_true h.part.some.which ds in
+            let others : AreOther items = other_some h.part.some.which ds other in
+            record {
+              which = h.part.some.which;
+              each = h.part.some.each;
+              many = h.part.some.many;
+              told = is_told (ports.sent after) (append_told (ports.sent before) items)
+                  (grown-pairs (ports.sent before) (ports.sent after) false flag items told.0 (other_whole items others) told.1 h.part.some.told
+                  ∙ ap (append_told (ports.sent before)) (pairs_same items others));
+            };
+      }
+
+  answers_below : (before after : Opened P C) (flags : Flags) (said : Said) →
+      ServesByLanes (two_steps ports) clocks settings (config_of settings) (flagged_by clear before) (flagged_by flags after) (numbers_in said) →
+      AnswersBelow ports clocks settings before after flags said
+  answers_below before after flags said s = record {
+    exchanged = s.exchanged;
+    below = sent_below before.p4 after.p4 flags.p4 _ s.exchanged.sent (other_around (config_of settings) s.exchanged.early s.exchanged.shed s.exchanged.late) s.exchanged.handed;
+  }
+
+  below_either : (before after : Opened P C) (flags : Flags) (said : Said) →
+      ServesEitherWay (two_steps ports) clocks settings (flagged_by clear before) (flagged_by flags after) said →
+      AnswersBelow ports clocks settings before after flags said ⊎ ServesInPairs ports clocks settings before after
+  below_either before after flags said (inl lanes) = inl (answers_below before after flags said lanes)
+  below_either before after flags said (inr one) = inr (λ given told still. paired before after flags said given (one.served given told still))
+
   pub in_two : (opening back : Option (Opened P C)) (flags : Flags) (said : Said) →
       HasServed (two_steps ports) clocks settings (option_map (flagged_by clear) opening) (option_map (flagged_by flags) back) said →
       HasServedInTwo ports clocks settings opening back said
@@ -71,8 +132,20 @@ module _ {P C : Type 0} (ports : Ports P) (clocks : Clocks C) (settings : GmSett
     served = h;
     in_pairs = λ senders before after is is' given told still.
         paired before after flags said given ((serves before after is is' senders).served given told still);
+    by_lanes = λ senders before after is is'. below_either before after flags said (either before after is is' senders);
   }
     where
+      either : (before after : Opened P C) → opening ≡ Some before → back ≡ Some after → 1 ≤ settings.senders →
+          ServesEitherWay (two_steps ports) clocks settings (flagged_by clear before) (flagged_by flags after) said
+      either before after is is' senders =
+          let opened_is : h.opened ≡ flagged_by clear before =
+          subst (λ (o : Option (Opened P C)). IfSome (option_map (flagged_by clear) o) (λ told. h.opened ≡ told)) is h.opens in
+          let given_back : Some h.closed ≡ Some (flagged_by flags after) =
+          subst (λ (o : Option (Opened P C)). IfTold (option_map (flagged_by flags) o) (Some h.closed)) is' h.gives_back in
+          let closed_is : h.closed ≡ flagged_by flags after = cc in
+          subst (λ o. ServesEitherWay (two_steps ports) clocks settings o (flagged_by flags after) said) opened_is
+          (subst (λ c. ServesEitherWay (two_steps ports) clocks settings h.opened c said) closed_is (h.by_lanes senders))
+
       serves : (before after : Opened P C) → opening ≡ Some before → back ≡ Some after → settings.senders ≡ 0 →
           Serves (two_steps ports) clocks settings (flagged_by clear before) (flagged_by flags after) said
       serves before after is is' senders =

@@ -38,31 +38,31 @@ lost (Err failed) = 1
 
 module _ {P C : Type 0} (ports : Ports P) (clocks : Clocks C) where
   receive_handled : (port port' : P) (bytes : List ℕ) (result : Result (Option (ℕ × ℕ)) Failed) → Receives ports port port' bytes result →
-      Handled ports [] 0 (lost result) port port'
+      Handled ports [] 0 (lost result) (lost result) port port'
   receive_handled port port' bytes (Ok got) r = handled_quietly ports port port' r.sent r.quiet
   receive_handled port port' bytes (Err failed) r =
       handled_idle ports port port' 1 r.sent r.risen (λ counts. just_once (ports.faults port) (ports.faults port') (r.once counts))
       (λ none. absurd (omega (arith, none))) r.no_fall
 
   -- by the port of the general channel
-  came_general : (old : Daemon P C) (port' : P) (general : List Arrival) (failed : ℕ) → Handled ports [] 0 failed old.gm.reply port' →
+  came_general : (old : Daemon P C) (port' : P) (general : List Arrival) (failed : ℕ) → Handled ports [] 0 failed failed old.gm.reply port' →
       Gave (ports.waiting old.gm.reply) (ports.waiting port') general →
-      Ran ports clocks old (record old { gm = record (old.gm) { reply = port' } }) [] general [] 0 (failed + 0)
+      Ran ports clocks old (record old { gm = record (old.gm) { reply = port' } }) [] general [] 0 (failed + 0) (failed + 0)
   came_general old port' general failed handled gives =
       ran_quietly ports clocks old (record old { gm = record (old.gm) { reply = port' } }) general [] failed 0 refl refl handled
       refl (handled_same ports old.event old.event refl) gives (gives_none (ports.waiting old.event))
 
   came_event : (old : Daemon P C) (port' : P) (event : List Arrival) (failed : ℕ) → ports.sent port' ≡ ports.sent old.event →
-      Handled ports [] 0 failed old.event port' →
+      Handled ports [] 0 failed failed old.event port' →
       Gave (ports.waiting old.event) (ports.waiting port') event →
-      Ran ports clocks old (record old { event = port' }) [] [] event 0 (0 + failed)
+      Ran ports clocks old (record old { event = port' }) [] [] event 0 (0 + failed) (0 + failed)
   came_event old port' event failed sent handled gives =
       ran_quietly ports clocks old (record old { event = port' }) [] event 0 failed refl refl (handled_same ports old.gm.reply old.gm.reply refl)
       sent handled (gives_none (ports.waiting old.gm.reply)) gives
 
   -- the port of the event channel may have changed, but for what it tells and counts
   pub waited : (old : Daemon P C) (port' : P) → ports.sent port' ≡ ports.sent old.event → ports.waiting port' ≡ ports.waiting old.event →
-      ports.faults port' ≡ ports.faults old.event → Ran ports clocks old (record old { event = port' }) [] [] [] 0 0
+      ports.faults port' ≡ ports.faults old.event → Ran ports clocks old (record old { event = port' }) [] [] [] 0 0 0
   waited old port' sent waits quiet =
       came_event old port' [] 0 sent (handled_quietly ports old.event port' sent quiet)
       (subst (λ told. Gave (ports.waiting old.event) told []) (sym waits) (gives_none (ports.waiting old.event)))

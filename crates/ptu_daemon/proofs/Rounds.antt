@@ -65,9 +65,9 @@ module _ {P C : Type 0} (ports : Ports P) (clocks : Clocks C) where
   -- ---- the parts of a round
 
   pub did_round : (settings : GmSettings) (before : ℕ) (d0 d1 d2 d3 d4 : Daemon P C) (begun general event turned : Tally) →
-      Ran ports clocks d0 d1 (change_in settings before) [] [] begun.sent begun.failed →
+      Ran ports clocks d0 d1 (change_in settings before) [] [] begun.sent begun.failed 0 →
       TookChannel ports clocks channels.General d1 d2 general → TookChannel ports clocks channels.Event d2 d3 event →
-      Ran ports clocks d3 d4 turns [] [] turned.sent turned.failed →
+      Ran ports clocks d3 d4 turns [] [] turned.sent turned.failed 0 →
       DidRound ports clocks settings before d0 d4 (record {
         sent = begun.sent + general.sent + event.sent + turned.sent;
         failed = begun.failed + general.failed + event.failed + turned.failed;
@@ -75,9 +75,11 @@ module _ {P C : Type 0} (ports : Ports P) (clocks : Clocks C) where
   did_round settings before d0 d1 d2 d3 d4 begun general event turned a b c d = record {
     round = record { general = b.arrivals; event = c.arrivals };
     within = (b.few, c.few);
-    ran = ran_as ports clocks d0 d4 _ _ _ _ _ _ _ _ _ _ (ap (λ l. l ++ turns) happens) (append-nil (b.arrivals ++ []) ∙ append-nil b.arrivals) (append-nil c.arrivals) refl refl
-        (ran_more ports clocks d0 d3 d4 _ _ _ _ _ _ _ _ _ _
-        (ran_more ports clocks d0 d2 d3 _ _ _ _ _ _ _ _ _ _ (ran_more ports clocks d0 d1 d2 _ _ _ _ _ _ _ _ _ _ a b.ran) c.ran) d);
+    missed = b.missed + c.missed;
+    once = omega (arith, b.once, c.once);
+    ran = ran_as ports clocks d0 d4 _ _ _ _ _ _ _ _ _ _ _ _ (ap (λ l. l ++ turns) happens) (append-nil (b.arrivals ++ []) ∙ append-nil b.arrivals) (append-nil c.arrivals) refl refl (omega arith)
+        (ran_more ports clocks d0 d3 d4 _ _ _ _ _ _ _ _ _ _ _ _
+        (ran_more ports clocks d0 d2 d3 _ _ _ _ _ _ _ _ _ _ _ _ (ran_more ports clocks d0 d1 d2 _ _ _ _ _ _ _ _ _ _ _ _ a b.ran) c.ran) d);
     general_drains = λ still. kept_fact _ (ports.waiting d3.gm.reply) (ports.waiting d4.gm.reply) d.general_given
         (kept_fact _ (ports.waiting d2.gm.reply) (ports.waiting d3.gm.reply) c.ran.general_given (b.drains (omega (arith, still))));
     event_drains = λ still. kept_fact _ (ports.waiting d3.event) (ports.waiting d4.event) d.event_given (c.drains (omega (arith, still)));
@@ -95,7 +97,9 @@ module _ {P C : Type 0} (ports : Ports P) (clocks : Clocks C) where
   did_none settings daemon tally (none, none') = record {
     took = [];
     taken = have_taken-none;
-    ran = ran_as ports clocks daemon daemon _ _ _ _ _ _ _ _ _ _ refl refl refl (sym none) (sym none') (ran_none ports clocks daemon);
+    missed = 0;
+    once = omega arith;
+    ran = ran_as ports clocks daemon daemon _ _ _ _ _ _ _ _ _ _ _ _ refl refl refl (sym none) (sym none') refl (ran_none ports clocks daemon);
     all = λ given general_left event_left still (w, w') (v, v'). (
       refl,
       one given.general general_left (ports.waiting daemon.gm.reply) w v,
@@ -114,8 +118,10 @@ module _ {P C : Type 0} (ports : Ports P) (clocks : Clocks C) where
   did_more settings before old now new tally more h k = record {
     took = h.took ++ k.round ∷ [];
     taken = have_taken-push h.took before k.round h.taken k.within;
-    ran = ran_as ports clocks old new _ _ _ _ _ _ _ _ _ _ (sym happens) (sym (general_of-push h.took k.round)) (sym (event_of-push h.took k.round)) refl refl
-        (ran_more ports clocks old now new _ _ _ _ _ _ _ _ _ _ h.ran k.ran);
+    missed = h.missed + k.missed;
+    once = omega (arith, h.once, k.once);
+    ran = ran_as ports clocks old new _ _ _ _ _ _ _ _ _ _ _ _ (sym happens) (sym (general_of-push h.took k.round)) (sym (event_of-push h.took k.round)) refl refl refl
+        (ran_more ports clocks old now new _ _ _ _ _ _ _ _ _ _ _ _ h.ran k.ran);
     all = all;
   }
     where

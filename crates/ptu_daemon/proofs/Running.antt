@@ -100,11 +100,11 @@ module _ {P C : Type 0} (ports : Ports P) (clocks : Clocks C) where
   -- nothing has happened, but for what the ports received
   pub ran_quietly : (old new : Daemon P C) (general event : List Arrival) (failed event_failed : ℕ) →
       new.gm ≡ record (old.gm) { reply = new.gm.reply } → new.clock ≡ old.clock →
-      Handled ports [] 0 failed old.gm.reply new.gm.reply →
+      Handled ports [] 0 failed failed old.gm.reply new.gm.reply →
       ports.sent new.event ≡ ports.sent old.event →
-      Handled ports [] 0 event_failed old.event new.event →
+      Handled ports [] 0 event_failed event_failed old.event new.event →
       Gave (ports.waiting old.gm.reply) (ports.waiting new.gm.reply) general → Gave (ports.waiting old.event) (ports.waiting new.event) event →
-      Ran ports clocks old new [] general event 0 (failed + event_failed)
+      Ran ports clocks old new [] general event 0 (failed + event_failed) (failed + event_failed)
   unfolding sends_by
   ran_quietly old new general event failed event_failed same clock handled event_sent event_handled gives event_gives = record {
     events = [];
@@ -117,10 +117,12 @@ module _ {P C : Type 0} (ports : Ports P) (clocks : Clocks C) where
     event_failed = event_failed;
     event_handled = event_handled;
     others_failed = failed;
+    others_missed = failed;
     failures = refl;
+    receives = refl;
     does = λ opening past stood. (
       stands opening past stood,
-      five_handled ports (λ i. []) old.gm new.gm 0 0 0 0 0 0 0 0 0 failed 0 failed
+      five_handled ports (λ i. []) old.gm new.gm 0 0 0 0 0 0 0 0 0 failed failed 0 failed
           (handled_same ports _ _ (ap (λ g. g.s0.port) same)) (handled_same ports _ _ (ap (λ g. g.s1.port) same)) (handled_same ports _ _ (ap (λ g. g.s2.port) same))
           (handled_same ports _ _ (ap (λ g. g.s3.port) same)) handled (omega arith) (omega arith),
     );
@@ -130,7 +132,7 @@ module _ {P C : Type 0} (ports : Ports P) (clocks : Clocks C) where
       stands opening past stood =
           subst (λ g. StandsFor opening g past) (sym same) (record { decided = stood.decided; granted = stood.granted; refused = stood.refused; sequence = stood.sequence })
 
-  pub ran_none : (daemon : Daemon P C) → Ran ports clocks daemon daemon [] [] [] 0 0
+  pub ran_none : (daemon : Daemon P C) → Ran ports clocks daemon daemon [] [] [] 0 0 0
   ran_none daemon =
       ran_quietly daemon daemon [] [] 0 0 refl refl (handled_same ports daemon.gm.reply daemon.gm.reply refl)
       refl (handled_same ports daemon.event daemon.event refl)
@@ -140,7 +142,7 @@ module _ {P C : Type 0} (ports : Ports P) (clocks : Clocks C) where
   pub ran_event : (old new : Daemon P C) (t : ℕ) (happens : Happening) (sent failed : ℕ) →
       IsFirstTold (clocks.moments old.clock) t → IfTold (clocks.moments new.clock) (option_map after_first (clocks.moments old.clock)) →
       new.event ≡ old.event → Does ports old.gm new.gm (happens t) sent failed →
-      Ran ports clocks old new (happens ∷ []) [] [] sent failed
+      Ran ports clocks old new (happens ∷ []) [] [] sent failed 0
   unfolding sends_by
   ran_event old new t happens sent failed first rest same h = record {
     events = happens t ∷ [];
@@ -153,19 +155,21 @@ module _ {P C : Type 0} (ports : Ports P) (clocks : Clocks C) where
     event_failed = 0;
     event_handled = handled_same ports old.event new.event same;
     others_failed = failed;
+    others_missed = 0;
     failures = omega arith;
+    receives = omega arith;
     does = λ opening past stood. (
       (h.does opening past stood).0,
-      all_same ports (λ i. event_sends (standing_as old.gm opening past) i (happens t)) _ 0 sent failed (five old.gm) (five new.gm)
+      all_same ports (λ i. event_sends (standing_as old.gm opening past) i (happens t)) _ 0 sent failed 0 (five old.gm) (five new.gm)
           (λ i. append-nil (event_sends (standing_as old.gm opening past) i (happens t))) (h.does opening past stood).1,
     );
   }
 
   -- one after the other
-  pub ran_more : (old now new : Daemon P C) (xs ys : List Happening) (gs gs' es es' : List Arrival) (s f s' f' : ℕ) →
-      Ran ports clocks old now xs gs es s f → Ran ports clocks now new ys gs' es' s' f' →
-      Ran ports clocks old new (xs ++ ys) (gs ++ gs') (es ++ es') (s + s') (f + f')
-  ran_more old now new xs ys gs gs' es es' s f s' f' h k = record {
+  pub ran_more : (old now new : Daemon P C) (xs ys : List Happening) (gs gs' es es' : List Arrival) (s f m s' f' m' : ℕ) →
+      Ran ports clocks old now xs gs es s f m → Ran ports clocks now new ys gs' es' s' f' m' →
+      Ran ports clocks old new (xs ++ ys) (gs ++ gs') (es ++ es') (s + s') (f + f') (m + m')
+  ran_more old now new xs ys gs gs' es es' s f m s' f' m' h k = record {
     events = h.events ++ k.events;
     config = k.config ∙ h.config;
     happened = happened-append xs ys h.events k.events h.happened k.happened;
@@ -174,15 +178,17 @@ module _ {P C : Type 0} (ports : Ports P) (clocks : Clocks C) where
     event_given = gives_more (ports.waiting old.event) (ports.waiting now.event) (ports.waiting new.event) es es' h.event_given k.event_given;
     event_sent = k.event_sent ∙ h.event_sent;
     event_failed = h.event_failed + k.event_failed;
-    event_handled = handled_more ports old.event now.event new.event [] [] 0 h.event_failed 0 k.event_failed h.event_handled k.event_handled;
+    event_handled = handled_more ports old.event now.event new.event [] [] 0 h.event_failed h.event_failed 0 k.event_failed k.event_failed h.event_handled k.event_handled;
     others_failed = h.others_failed + k.others_failed;
+    others_missed = h.others_missed + k.others_missed;
     failures = omega (arith, h.failures, k.failures);
+    receives = omega (arith, h.receives, k.receives);
     does = both;
   }
     where
       both : (opening : ℕ) (past : List Record) → StandsFor opening old.gm past →
           StandsFor opening new.gm ((after_all (standing_as old.gm opening past) (h.events ++ k.events)).past)
-          × AllHandled ports (λ i. sends_by (standing_as old.gm opening past) i (h.events ++ k.events)) 0 (s + s') (h.others_failed + k.others_failed) (five old.gm) (five new.gm)
+          × AllHandled ports (λ i. sends_by (standing_as old.gm opening past) i (h.events ++ k.events)) 0 (s + s') (h.others_failed + k.others_failed) (h.others_missed + k.others_missed) (five old.gm) (five new.gm)
       both opening past stood =
           let gm : Standing = standing_as old.gm opening past in
           let one = h.does opening past stood in
@@ -192,14 +198,14 @@ module _ {P C : Type 0} (ports : Ports P) (clocks : Clocks C) where
             subst (λ (after : Standing). StandsFor opening new.gm after.past)
                 (ap (λ g. after_all g k.events) is ∙ sym (after_all-append gm h.events k.events)) two.0,
             all_more ports (λ i. sends_by gm i h.events) (λ i. sends_by (standing_as now.gm opening ((after_all gm h.events).past)) i k.events)
-                (λ i. sends_by gm i (h.events ++ k.events)) 0 s h.others_failed s' k.others_failed (five old.gm) (five now.gm) (five new.gm)
+                (λ i. sends_by gm i (h.events ++ k.events)) 0 s h.others_failed h.others_missed s' k.others_failed k.others_missed (five old.gm) (five now.gm) (five new.gm)
                 (λ i. sends_by-append gm i h.events k.events ∙ ap (λ g. sends_by gm i h.events ++ sends_by g i k.events) (sym is)) one.1 two.1,
           )
 
   -- the same, said otherwise
-  pub ran_as : (old new : Daemon P C) (xs xs' : List Happening) (gs gs' es es' : List Arrival) (s s' f f' : ℕ) →
-      xs ≡ xs' → gs ≡ gs' → es ≡ es' → s ≡ s' → f ≡ f' → Ran ports clocks old new xs gs es s f → Ran ports clocks old new xs' gs' es' s' f'
-  ran_as old new xs xs' gs gs' es es' s s' f f' a b c d e h =
-      subst (λ x. Ran ports clocks old new x gs' es' s' f') a (subst (λ x. Ran ports clocks old new xs x es' s' f') b
-      (subst (λ x. Ran ports clocks old new xs gs x s' f') c (subst (λ x. Ran ports clocks old new xs gs es x f') d
-      (subst (λ x. Ran ports clocks old new xs gs es s x) e h))))
+  pub ran_as : (old new : Daemon P C) (xs xs' : List Happening) (gs gs' es es' : List Arrival) (s s' f f' m m' : ℕ) →
+      xs ≡ xs' → gs ≡ gs' → es ≡ es' → s ≡ s' → f ≡ f' → m ≡ m' → Ran ports clocks old new xs gs es s f m → Ran ports clocks old new xs' gs' es' s' f' m'
+  ran_as old new xs xs' gs gs' es es' s s' f f' m m' a b c d e g h =
+      subst (λ x. Ran ports clocks old new x gs' es' s' f' m') a (subst (λ x. Ran ports clocks old new xs x es' s' f' m') b
+      (subst (λ x. Ran ports clocks old new xs gs x s' f' m') c (subst (λ x. Ran ports clocks old new xs gs es x f' m') d
+      (subst (λ x. Ran ports clocks old new xs gs es s x m') e (subst (λ x. Ran ports clocks old new xs gs es s f x) g h)))))

@@ -44,27 +44,27 @@ module _ {P : Type 0} (ports : Ports P) where
   reply_of : (reply : Reply) (old new : P) (d : Departure) (sends : List Departure) →
       Replies ports reply old new d →
       (reply ≡ replies.Nothing → sends ≡ []) → (¬ (reply ≡ replies.Nothing) → sends ≡ d ∷ []) →
-      Handled ports sends (reply_sent reply) (reply_failed reply) old new
+      Handled ports sends (reply_sent reply) (reply_failed reply) 0 old new
   reply_of replies.Sent old new d sends h none some =
-      subst (λ l. Handled ports l 1 0 old new) (sym (some (λ e. absurd (cc)))) (hands_handled ports old new (d ∷ []) 1 0 h)
+      subst (λ l. Handled ports l 1 0 0 old new) (sym (some (λ e. absurd (cc)))) (hands_handled ports old new (d ∷ []) 1 0 h)
   reply_of replies.Failed old new d sends h none some =
-      subst (λ l. Handled ports l 0 1 old new) (sym (some (λ e. absurd (cc)))) (hands_handled ports old new (d ∷ []) 0 1 h)
+      subst (λ l. Handled ports l 0 1 0 old new) (sym (some (λ e. absurd (cc)))) (hands_handled ports old new (d ∷ []) 0 1 h)
   reply_of replies.Nothing old new d sends h none some =
-      subst (λ l. Handled ports l 0 0 old new) (sym (none refl)) (handled_same ports old new h)
+      subst (λ l. Handled ports l 0 0 0 old new) (sym (none refl)) (handled_same ports old new h)
 
   -- ---- what was heard
 
-  all_same_port : (old new : KeptGm P) (sends : ℕ → List Departure) → ((i : ℕ) → sends i ≡ []) → new ≡ old → AllHandled ports sends 0 0 0 (five old) (five new)
+  all_same_port : (old new : KeptGm P) (sends : ℕ → List Departure) → ((i : ℕ) → sends i ≡ []) → new ≡ old → AllHandled ports sends 0 0 0 0 (five old) (five new)
   all_same_port old new sends none same =
-      all_same ports (λ i. []) sends 0 0 0 (five old) (five new) none
-      (five_handled ports (λ i. []) old new 0 0 0 0 0 0 0 0 0 0 0 0
+      all_same ports (λ i. []) sends 0 0 0 0 (five old) (five new) none
+      (five_handled ports (λ i. []) old new 0 0 0 0 0 0 0 0 0 0 0 0 0
       (handled_same ports _ _ (ap (λ g. g.s0.port) same)) (handled_same ports _ _ (ap (λ g. g.s1.port) same)) (handled_same ports _ _ (ap (λ g. g.s2.port) same))
       (handled_same ports _ _ (ap (λ g. g.s3.port) same)) (handled_same ports _ _ (ap (λ g. g.reply) same)) (omega arith) (omega arith))
 
   module _ (old new : KeptGm P) (t from : ℕ) (opening : ℕ) (past : List Record) where
     abbrev SendsFor : Result Heard GmReason → Taken → Type 0
     SendsFor what taken =
-        AllHandled ports (λ i. heard_sends (standing_as old opening past) i t from what) 0 (sent_for taken) (failed_for taken) (five old) (five new)
+        AllHandled ports (λ i. heard_sends (standing_as old opening past) i t from what) 0 (sent_for taken) (failed_for taken) 0 (five old) (five new)
 
     delay_sends : (header : Header) (answered : Answered) →
         (let c = client_of from header in let j = table_of c in
@@ -74,7 +74,7 @@ module _ {P : Type 0} (ports : Ports P) where
         SendsFor (Ok (heard.DelayReq header)) (Delay answered)
     delay_sends header answered (responds, rest) (moment, met) =
         all_same ports (λ i. by i (table_of (client_of from header)) (responses (met_by answered) (response_of old.config (moment_of_answer answered) (client_of from header) header))) _ 0
-        (sent_by answered) (failed_by answered) (five old) (five new)
+        (sent_by answered) (failed_by answered) 0 (five old) (five new)
         (λ i. ap₂ (λ a x. by i (table_of (client_of from header)) (responses a (response_of old.config x (client_of from header) header))) (sym met) (sym moment))
         (table_handled ports (table_of (client_of from header)) old new _ (sent_by answered) (failed_by answered)
         (table_below (header.source.clock % 256 + header.source.port)) rest
@@ -88,14 +88,14 @@ module _ {P : Type 0} (ports : Ports P) where
         decisions_seen outcomes ≡ decisions_of (opened_with opening old.config) past t (client_of from header) items →
         SendsFor (Ok (heard.Asks header items)) (Asked outcomes reply)
     asked_sends header [] outcomes reply answers h same comes =
-        all_same ports (λ i. by i 4 []) _ 0 (reply_sent reply) (reply_failed reply) (five old) (five new) (λ i. none i)
+        all_same ports (λ i. by i 4 []) _ 0 (reply_sent reply) (reply_failed reply) 0 (five old) (five new) (λ i. none i)
         (reply_handled ports old new [] (reply_sent reply) (reply_failed reply) same
         (reply_of reply old.reply new.reply _ [] h (λ e. refl) (λ some. absurd (some (answers.1 refl)))))
       where
         none : (i : ℕ) → [] ≡ by i 4 []
         none i = either_same (i == 4) []
     asked_sends header (item ∷ items) outcomes reply answers h same comes =
-        all_same ports (λ i. by i 4 (reply_to old.config from header (answers_seen outcomes) ∷ [])) _ 0 (reply_sent reply) (reply_failed reply) (five old) (five new)
+        all_same ports (λ i. by i 4 (reply_to old.config from header (answers_seen outcomes) ∷ [])) _ 0 (reply_sent reply) (reply_failed reply) 0 (five old) (five new)
         (λ i. ap (λ ds. by i 4 (reply_to old.config from header (map answer_to ds) ∷ [])) (sym comes))
         (reply_handled ports old new _ (reply_sent reply) (reply_failed reply) same
         (reply_of reply old.reply new.reply _ _ h (λ e. absurd (cons_nil (answers.0 e))) (λ some. refl)))

@@ -16,22 +16,22 @@ use Rattle.ptu_daemon.proofs.Handling.{all_same, five_handled, handled_same, han
 module _ {P : Type 0} (ports : Ports P) where
   -- of a grandmaster one table has changed
   pub table_handled : (j : ℕ) (old new : KeptGm P) (sends : List Departure) (sent failed : ℕ) → j < 4 → new ≡ with_table j (table_at j new) old →
-      Handled ports sends sent failed (table_at j old).port (table_at j new).port →
-      AllHandled ports (λ i. by i j sends) 0 sent failed (five old) (five new)
+      Handled ports sends sent failed 0 (table_at j old).port (table_at j new).port →
+      AllHandled ports (λ i. by i j sends) 0 sent failed 0 (five old) (five new)
   table_handled zero old new sends sent failed below rest h =
-      five_handled ports (λ i. by i 0 sends) old new sent failed 0 0 0 0 0 0 0 0 sent failed h
+      five_handled ports (λ i. by i 0 sends) old new sent failed 0 0 0 0 0 0 0 0 0 sent failed h
       (handled_same ports _ _ (ap (λ g. g.s1.port) rest)) (handled_same ports _ _ (ap (λ g. g.s2.port) rest)) (handled_same ports _ _ (ap (λ g. g.s3.port) rest))
       (handled_same ports _ _ (ap (λ g. g.reply) rest)) (omega arith) (omega arith)
   table_handled (suc zero) old new sends sent failed below rest h =
-      five_handled ports (λ i. by i 1 sends) old new 0 0 sent failed 0 0 0 0 0 0 sent failed
+      five_handled ports (λ i. by i 1 sends) old new 0 0 sent failed 0 0 0 0 0 0 0 sent failed
       (handled_same ports _ _ (ap (λ g. g.s0.port) rest)) h (handled_same ports _ _ (ap (λ g. g.s2.port) rest)) (handled_same ports _ _ (ap (λ g. g.s3.port) rest))
       (handled_same ports _ _ (ap (λ g. g.reply) rest)) (omega arith) (omega arith)
   table_handled (suc (suc zero)) old new sends sent failed below rest h =
-      five_handled ports (λ i. by i 2 sends) old new 0 0 0 0 sent failed 0 0 0 0 sent failed
+      five_handled ports (λ i. by i 2 sends) old new 0 0 0 0 sent failed 0 0 0 0 0 sent failed
       (handled_same ports _ _ (ap (λ g. g.s0.port) rest)) (handled_same ports _ _ (ap (λ g. g.s1.port) rest)) h (handled_same ports _ _ (ap (λ g. g.s3.port) rest))
       (handled_same ports _ _ (ap (λ g. g.reply) rest)) (omega arith) (omega arith)
   table_handled (suc (suc (suc zero))) old new sends sent failed below rest h =
-      five_handled ports (λ i. by i 3 sends) old new 0 0 0 0 0 0 sent failed 0 0 sent failed
+      five_handled ports (λ i. by i 3 sends) old new 0 0 0 0 0 0 sent failed 0 0 0 sent failed
       (handled_same ports _ _ (ap (λ g. g.s0.port) rest)) (handled_same ports _ _ (ap (λ g. g.s1.port) rest)) (handled_same ports _ _ (ap (λ g. g.s2.port) rest)) h
       (handled_same ports _ _ (ap (λ g. g.reply) rest)) (omega arith) (omega arith)
   table_handled (suc (suc (suc (suc j)))) old new sends sent failed below rest h = absurd (omega arith)
@@ -59,7 +59,7 @@ module _ {P : Type 0} (ports : Ports P) where
     waiting = ap ports.waiting (table_beside j old new below rest).1;
     does = λ opening past stood. (
       stands opening past stood,
-      all_same ports (λ i. by i j (map (departure_of old.config at) (due_messages at (table_at j old).rows))) _ 0 sent failed (five old) (five new)
+      all_same ports (λ i. by i j (map (departure_of old.config at) (due_messages at (table_at j old).rows))) _ 0 sent failed 0 (five old) (five new)
           (λ i. ap (by i j) (sym (are opening past stood)))
           (table_handled j old new _ sent failed below rest (hands_handled ports _ _ _ sent failed sends)),
     );

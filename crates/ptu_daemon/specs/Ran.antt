@@ -22,12 +22,10 @@ use Rattle.ptu_daemon.specs.Sends.{Standing, event_sends, sends_by, standing_aft
 -- ---- one port
 
 -- these datagrams were handed to the port, in order, and others may have been received there: so many were sent, and so many
--- sends and receives failed
-pub record Handled {P : Type 0} (ports : Ports P) (sends : List Departure) (sent failed : ℕ) (old new : P) : Type 0 where
-  -- of the failures, those of sends
-  pub unsent : ℕ
-  pub within : unsent ≤ failed
-  pub each : sent + unsent ≡ length sends
+-- sends and receives failed, of which so many are receives
+pub record Handled {P : Type 0} (ports : Ports P) (sends : List Departure) (sent failed missed : ℕ) (old new : P) : Type 0 where
+  pub within : missed ≤ failed
+  pub each : sent + failed ≡ length sends + missed
   pub some : SentOf (ports.sent old) (ports.sent new) sends sent
   -- where the count did not rise, all were sent
   pub all : ¬ HasRisen (ports.faults old) (ports.faults new) → WasSent ports old new sends
@@ -40,12 +38,12 @@ pub record Handled {P : Type 0} (ports : Ports P) (sends : List Departure) (sent
   pub goes_on : failed ≡ 0 → GoesOn ports old new sends
 
 -- likewise of each of these ports, the first of which has the index, together
-abbrev pub AllHandled : {P : Type 0} → Ports P → (ℕ → List Departure) → ℕ → ℕ → ℕ → List P → List P → Type 0
-AllHandled ports sends i sent failed [] [] = (sent ≡ 0) × (failed ≡ 0)
-AllHandled ports sends i sent failed (old ∷ olds) (new ∷ news) =
-    (s : ℕ) × (f : ℕ) × (s' : ℕ) × (f' : ℕ) × (sent ≡ s + s') × (failed ≡ f + f') × Handled ports (sends i) s f old new
-    × AllHandled ports sends (i + 1) s' f' olds news
-AllHandled ports sends i sent failed _ _ = ⊥
+abbrev pub AllHandled : {P : Type 0} → Ports P → (ℕ → List Departure) → ℕ → ℕ → ℕ → ℕ → List P → List P → Type 0
+AllHandled ports sends i sent failed missed [] [] = (sent ≡ 0) × (failed ≡ 0) × (missed ≡ 0)
+AllHandled ports sends i sent failed missed (old ∷ olds) (new ∷ news) =
+    (s : ℕ) × (f : ℕ) × (m : ℕ) × (s' : ℕ) × (f' : ℕ) × (m' : ℕ) × (sent ≡ s + s') × (failed ≡ f + f') × (missed ≡ m + m')
+    × Handled ports (sends i) s f m old new × AllHandled ports sends (i + 1) s' f' m' olds news
+AllHandled ports sends i sent failed missed _ _ = ⊥
 
 -- ---- one event
 
@@ -63,7 +61,7 @@ pub record Does {P : Type 0} (ports : Ports P) (old new : KeptGm P) (event : GmE
   pub does : (opening : ℕ) (past : List Record) → StandsFor opening old past →
       let gm = standing_as old opening past in
       StandsFor opening new ((standing_after gm event).past)
-      × AllHandled ports (λ i. event_sends gm i event) 0 sent failed (five old) (five new)
+      × AllHandled ports (λ i. event_sends gm i event) 0 sent failed 0 (five old) (five new)
 
 -- ---- several events
 
@@ -72,8 +70,9 @@ abbrev pub after_all : Standing → List GmEvent → Standing
 after_all gm [] = gm
 after_all gm (event ∷ later) = after_all (standing_after gm event) later
 
--- this happened, these were received of the two channels, and so many datagrams were sent and so many sends and receives failed
-pub record Ran {P C : Type 0} (ports : Ports P) (clocks : Clocks C) (old new : Daemon P C) (happenings : List Happening) (general event : List Arrival) (sent failed : ℕ) : Type 0 where
+-- this happened, these were received of the two channels, and so many datagrams were sent and so many sends and receives failed,
+-- of which so many are receives
+pub record Ran {P C : Type 0} (ports : Ports P) (clocks : Clocks C) (old new : Daemon P C) (happenings : List Happening) (general event : List Arrival) (sent failed missed : ℕ) : Type 0 where
   pub events : List GmEvent
   pub config : new.gm.config ≡ old.gm.config
   pub happened : HappenedAt happenings events
@@ -83,13 +82,15 @@ pub record Ran {P C : Type 0} (ports : Ports P) (clocks : Clocks C) (old new : D
   pub event_sent : ports.sent new.event ≡ ports.sent old.event
   -- of the failures, those at the port of the event channel
   pub event_failed : ℕ
-  pub event_handled : Handled ports [] 0 event_failed old.event new.event
+  pub event_handled : Handled ports [] 0 event_failed event_failed old.event new.event
   pub others_failed : ℕ
+  pub others_missed : ℕ
   pub failures : failed ≡ others_failed + event_failed
+  pub receives : missed ≡ others_missed + event_failed
   pub does : (opening : ℕ) (past : List Record) → StandsFor opening old.gm past →
       let gm = standing_as old.gm opening past in
       StandsFor opening new.gm ((after_all gm events).past)
-      × AllHandled ports (λ i. sends_by gm i events) 0 sent others_failed (five old.gm) (five new.gm)
+      × AllHandled ports (λ i. sends_by gm i events) 0 sent others_failed others_missed (five old.gm) (five new.gm)
 
 -- ---- parts of a round
 
@@ -138,33 +139,39 @@ Drains ports failed new arrivals =
 abbrev pub Received : {P C : Type 0} → Ports P → Clocks C → Channel → Daemon P C → Daemon P C → List ℕ → Result (Option (ℕ × ℕ)) Failed → Type 0
 Received ports clocks channel old new bytes (Ok (Some got)) =
     (got.1 ≤ 2048)
-    × Ran ports clocks old new [] (on_general channel (arrived got.0 (take got.1 bytes) ∷ [])) (on_event channel (arrived got.0 (take got.1 bytes) ∷ [])) 0 0
+    × Ran ports clocks old new [] (on_general channel (arrived got.0 (take got.1 bytes) ∷ [])) (on_event channel (arrived got.0 (take got.1 bytes) ∷ [])) 0 0 0
 Received ports clocks channel old new bytes (Ok None) =
-    Ran ports clocks old new [] [] [] 0 0 × IfSome (ports.waiting (port_of channel new)) (λ left. left ≡ [])
-Received ports clocks channel old new bytes (Err failed) = Ran ports clocks old new [] [] [] 0 1
+    Ran ports clocks old new [] [] [] 0 0 0 × IfSome (ports.waiting (port_of channel new)) (λ left. left ≡ [])
+Received ports clocks channel old new bytes (Err failed) = Ran ports clocks old new [] [] [] 0 1 1
 
 -- what came of the next datagram of a channel: it was received and taken, none waited, or the receive failed
 abbrev pub CameTo : {P C : Type 0} → Ports P → Clocks C → Channel → Daemon P C → Daemon P C → Next → Type 0
 CameTo ports clocks channel old new (nexts.Taken tally) =
-    (arrival : Arrival) × Ran ports clocks old new (taking arrival ∷ []) (on_general channel (arrival ∷ [])) (on_event channel (arrival ∷ [])) tally.sent tally.failed
+    (arrival : Arrival) × Ran ports clocks old new (taking arrival ∷ []) (on_general channel (arrival ∷ [])) (on_event channel (arrival ∷ [])) tally.sent tally.failed 0
     × IsSmall 1 tally
 CameTo ports clocks channel old new nexts.Nothing =
-    Ran ports clocks old new [] [] [] 0 0 × IfSome (ports.waiting (port_of channel new)) (λ left. left ≡ [])
-CameTo ports clocks channel old new nexts.Failed = Ran ports clocks old new [] [] [] 0 1
+    Ran ports clocks old new [] [] [] 0 0 0 × IfSome (ports.waiting (port_of channel new)) (λ left. left ≡ [])
+CameTo ports clocks channel old new nexts.Failed = Ran ports clocks old new [] [] [] 0 1 1
 
 -- the daemon took what waits on one channel
 pub record TookChannel {P C : Type 0} (ports : Ports P) (clocks : Clocks C) (channel : Channel) (old new : Daemon P C) (tally : Tally) : Type 0 where
   pub arrivals : List Arrival
   -- whatever failed, and whether or not the port tells
   pub few : length arrivals ≤ most
-  pub ran : Ran ports clocks old new (map taking arrivals) (on_general channel arrivals) (on_event channel arrivals) tally.sent tally.failed
+  -- a failed receive is the last
+  pub missed : ℕ
+  pub once : missed ≤ 1
+  pub ran : Ran ports clocks old new (map taking arrivals) (on_general channel arrivals) (on_event channel arrivals) tally.sent tally.failed missed
   pub drains : Drains ports tally.failed (port_of channel new) arrivals
 
 -- the daemon did a round, before which there were so many
 pub record DidRound {P C : Type 0} (ports : Ports P) (clocks : Clocks C) (settings : GmSettings) (before : ℕ) (old new : Daemon P C) (tally : Tally) : Type 0 where
   pub round : Round
   pub within : IsWithin round
-  pub ran : Ran ports clocks old new (round_with settings before round) round.general round.event tally.sent tally.failed
+  -- one of each channel at most
+  pub missed : ℕ
+  pub once : missed ≤ 2
+  pub ran : Ran ports clocks old new (round_with settings before round) round.general round.event tally.sent tally.failed missed
   pub general_drains : Drains ports tally.failed new.gm.reply round.general
   pub event_drains : Drains ports tally.failed new.event round.event
 
@@ -178,7 +185,9 @@ Waits ports daemon general event = (ports.waiting daemon.gm.reply ≡ Some gener
 pub record DidRounds {P C : Type 0} (ports : Ports P) (clocks : Clocks C) (settings : GmSettings) (rounds : ℕ) (old new : Daemon P C) (tally : Tally) : Type 0 where
   pub took : List Round
   pub taken : HaveTaken took rounds
-  pub ran : Ran ports clocks old new (happenings_of settings took) (general_of took) (event_of took) tally.sent tally.failed
+  pub missed : ℕ
+  pub once : missed ≤ 2 * rounds
+  pub ran : Ran ports clocks old new (happenings_of settings took) (general_of took) (event_of took) tally.sent tally.failed missed
   pub all : (given : Given) (general_left event_left : List Arrival) → tally.failed ≡ 0 →
       Waits ports old given.general given.event → Waits ports new general_left event_left →
       (happenings_of settings took ≡ in_rounds (round_of settings given) rounds)

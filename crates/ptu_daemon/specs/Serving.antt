@@ -1,5 +1,5 @@
 -- What a call that serves has done with the ports and clocks that it opened.
-use Rattle.std.specs.Prelude.{◌≡◌, ◌≤◌, ◌⊎◌, ℕ, List, map, Option, Some, IsSome, IfSome}
+use Rattle.std.specs.Prelude.{◌≡◌, ◌≤◌, ◌⊎◌, ℕ, ◌+◌, ◌*◌, List, length, map, Option, Some, IsSome, IfSome}
 use Rattle.ptu_outside.specs.declared.{arrival.Arrival.{Arrival}, clock.Clock.{Ghosts as Clocks}}
 use Rattle.ptu_outside.specs.declared.{opened.Opened.{Opened}, port.Port.{Ghosts as Ports}}
 use Rattle.ptu_outside.specs.Telling.{IfTold}
@@ -50,8 +50,14 @@ pub record AreServed {P C : Type 0} (ports : Ports P) (settings : GmSettings) (g
   pub tells4 : GoesOn ports opened.p4 closed.p4 (served_by settings given 4)
   pub line : said ≡ served_said settings given
 
+-- how many datagrams the events make the grandmaster send, by all of its ports
+abbrev pub many_by : GmSettings → List GmEvent → ℕ
+many_by settings events =
+    let many : ℕ → ℕ = λ i. length (sends_by (opened_as settings) i events) in
+    many 0 + many 1 + many 2 + many 3 + many 4
+
 -- what happened, whatever the counts did, and whether or not ports and clocks tell
-pub record Happened {P C : Type 0} (ports : Ports P) (clocks : Clocks C) (settings : GmSettings) (opened closed : Opened P C) (sent : ℕ) : Type 0 where
+pub record Happened {P C : Type 0} (ports : Ports P) (clocks : Clocks C) (settings : GmSettings) (opened closed : Opened P C) (sent failed : ℕ) : Type 0 where
   -- each round took at most 64 datagrams of each channel, the first that waited where its port still tells that
   pub rounds : List Round
   pub taken : HaveTaken rounds (all_rounds settings)
@@ -65,6 +71,11 @@ pub record Happened {P C : Type 0} (ports : Ports P) (clocks : Clocks C) (settin
   pub lawful : IsLawful settings events
   -- ports 0 to 4 were sent, each in order, a part of what the events make the grandmaster send by it; so many together
   pub handed : WereHanded ports (λ i. sends_by (opened_as settings) i events) 0 sent (senders_of opened) (senders_of closed)
+  -- each of the others failed to be sent; each other call that failed is a receive, at most one of each channel and round, since it
+  -- ends the channel for the round
+  pub missed : ℕ
+  pub once : missed ≤ 2 * all_rounds settings
+  pub each : sent + failed ≡ many_by settings events + missed
 
 -- between these ports and clocks as they were opened, and as they are to be given back, this was said of the serving
 pub record Serves {P C : Type 0} (ports : Ports P) (clocks : Clocks C) (settings : GmSettings) (opened closed : Opened P C) (said : Said) : Type 0 where
@@ -74,7 +85,7 @@ pub record Serves {P C : Type 0} (ports : Ports P) (clocks : Clocks C) (settings
   -- what was sent is the number of datagrams that ports 0 to 4 were sent, whatever the counts did
   pub sent : WereSent said.sent (map ports.sent (senders_of opened)) (map ports.sent (senders_of closed))
   -- and they are a part of what the events make the grandmaster send, which are those that came
-  pub happened : Happened ports clocks settings opened closed said.sent
+  pub happened : Happened ports clocks settings opened closed said.sent said.failed
   -- where no count rose, it is what is served
   pub served : (given : Given) → IsGiven ports clocks opened closed given →
       HaveNotRisen (faults_of ports opened) (faults_of ports closed) → AreServed ports settings given opened closed said

@@ -1,14 +1,15 @@
 -- What a call that serves in two steps has done with the ports and clocks of the host below.
-use Rattle.std.specs.Prelude.{◌≡◌, ℕ, false, List, Option, Some, IsSome, option_map}
+use Rattle.std.specs.Prelude.{◌≡◌, ◌⊎◌, ◌≤◌, ℕ, Bool, false, List, Option, Some, IsSome, option_map}
 use Rattle.std.specs.List.{AllByRecursion}
 use Rattle.ptu_outside.specs.declared.{clock.Clock.{Ghosts as Clocks}, opened.Opened.{Opened}}
 use Rattle.ptu_outside.specs.{declared.port.Port.{Ghosts as Ports}, Departure.{Departure}, Telling.{append_told}}
-use Rattle.ptu_lanes.specs.Served.{faults_of}
+use Rattle.ptu_outside.specs.{Faults.{HasRisen}, HandsOver.{SentOf}}
+use Rattle.ptu_lanes.specs.Served.{ExchangedAll, faults_of, replies_around}
 use Rattle.ptu_config.specs.declared.settings.GmSettings.{GmSettings}
 use Rattle.ptu_rounds.specs.Ports.{HaveNotRisen}
-use Rattle.ptu_twostep.specs.{declared.two_host.Flags.{Flags}, Hosts.{clear, flagged_by, two_steps}}
+use Rattle.ptu_twostep.specs.{declared.two_host.Flags.{Flags}, Hosts.{clear, flagged_by, over, two_steps}}
 use Rattle.ptu_twostep.specs.{Pairs.{pairs}, Telling.{told_by}}
-use Rattle.ptu_daemon.specs.{Events.{Given}, Served.{Said, served_by}, Serving.{HasServed, IsGiven}}
+use Rattle.ptu_daemon.specs.{Events.{Given, config_of}, Served.{Said, served_by}, Serving.{HasServed, IsGiven}}
 
 -- the port below tells a list that is whole: each Sync in two steps of it is followed by its Follow_Up
 abbrev pub TellsWhole : {P : Type 0} → Ports P → P → Type 0
@@ -28,6 +29,27 @@ pub record AreSentInPairs {P C : Type 0} (ports : Ports P) (settings : GmSetting
   pub p3 : IsSentInPairs ports before.p3 after.p3 (served_by settings given 3)
   pub p4 : IsSentInPairs ports before.p4 after.p4 (served_by settings given 4)
 
+-- on one thread, where no count rose, each port below was sent the pairs of what is served
+abbrev pub ServesInPairs : {P C : Type 0} → Ports P → Clocks C → GmSettings → Opened P C → Opened P C → Type 0
+ServesInPairs ports clocks settings before after =
+    (given : Given) → IsGiven ports clocks before after given → HaveNotRisen (faults_of ports before) (faults_of ports after) →
+    AreSentInPairs ports settings given before after
+
+-- a port below was sent so many of these, which are no halves and so are sent as they are: all, where its count did not rise, it told a
+-- whole list before, and it may cease to tell at none of them; and so many in order, whatever failed, where its list is told and whole
+-- after them, too, and the flag of the port in two steps is clear
+pub record AreSentBelow {P : Type 0} (ports : Ports P) (before after : P) (flag : Bool) (datagrams : List Departure) (sent : ℕ) : Type 0 where
+  pub all : ¬ HasRisen (ports.faults before) (ports.faults after) → TellsWhole ports before →
+      AllByRecursion (λ d. ports.ceases_at d ≡ false) datagrams → ports.sent after ≡ append_told (ports.sent before) datagrams
+  pub some : IsSome (told_by flag (ports.sent after)) → SentOf (ports.sent before) (ports.sent after) datagrams sent
+
+-- by lanes: over port 4 in two steps the lane that takes Signaling did this, and the port below was sent its replies and CANCELs
+pub record AnswersBelow {P C : Type 0} (ports : Ports P) (clocks : Clocks C) (settings : GmSettings) (before after : Opened P C) (flags : Flags) (said : Said) : Type 0 where
+  pub exchanged : ExchangedAll (two_steps ports) clocks settings (config_of settings) (over false before.p4) (over flags.p4 after.p4) before.c0 after.c0
+      said.granted said.refused
+  pub below : AreSentBelow ports before.p4 after.p4 flags.p4 (replies_around (config_of settings) exchanged.early exchanged.shed exchanged.late)
+      exchanged.sent
+
 -- where a host that told that it opens `opening` tells that it was given `back`: over ports in two steps of these it was served so
 pub record HasServedInTwo {P C : Type 0} (ports : Ports P) (clocks : Clocks C) (settings : GmSettings) (opening back : Option (Opened P C)) (said : Said) : Type 0 where
   -- the flags of the ports in two steps as they were given back: those of the opening are clear
@@ -35,5 +57,7 @@ pub record HasServedInTwo {P C : Type 0} (ports : Ports P) (clocks : Clocks C) (
   pub served : HasServed (two_steps ports) clocks settings (option_map (flagged_by clear) opening) (option_map (flagged_by flags) back) said
   -- on one thread, where no count rose
   pub in_pairs : settings.senders ≡ 0 → (before after : Opened P C) → opening ≡ Some before → back ≡ Some after →
-      (given : Given) → IsGiven ports clocks before after given → HaveNotRisen (faults_of ports before) (faults_of ports after) →
-      AreSentInPairs ports settings given before after
+      ServesInPairs ports clocks settings before after
+  -- by lanes, or on one thread where a lane is refused its thread
+  pub by_lanes : 1 ≤ settings.senders → (before after : Opened P C) → opening ≡ Some before → back ≡ Some after →
+      AnswersBelow ports clocks settings before after flags said ⊎ ServesInPairs ports clocks settings before after

@@ -59,7 +59,7 @@ impl<P: Port, C: Clock> Daemon<P, C> {
     fn turn(&mut self, table: usize) -> Tally
         requires { table < 4 }
         ensures ran { Ran P.Port C.Clock self.old self.new ((λ t. GmEvent.Turn t table) ∷ []) [] []
-            result.sent result.failed }
+            result.sent result.failed 0 }
         ensures small { IsSmall 1 result }
     {
         let at = self.clock.now();
@@ -68,7 +68,7 @@ impl<P: Port, C: Clock> Daemon<P, C> {
 
     // All tables take a turn.
     fn turn_tables(&mut self) -> Tally
-        ensures ran { Ran P.Port C.Clock self.old self.new turns [] [] result.sent result.failed }
+        ensures ran { Ran P.Port C.Clock self.old self.new turns [] [] result.sent result.failed 0 }
         ensures small { IsSmall 4 result }
     {
         let first = self.turn(0);
@@ -80,7 +80,7 @@ impl<P: Port, C: Clock> Daemon<P, C> {
     // Waits until a datagram is there to receive or a message may be due, as long as the port of
     // the event channel does. It takes no moment of the clock.
     fn wait(&mut self)
-        ensures { Ran P.Port C.Clock self.old self.new [] [] [] 0 0 }
+        ensures { Ran P.Port C.Clock self.old self.new [] [] [] 0 0 0 }
     {
         let due = self.gm.next_due(last_moment());
         self.event.wait(due);
@@ -88,7 +88,7 @@ impl<P: Port, C: Clock> Daemon<P, C> {
 
     // All tables take a turn, and the daemon waits.
     fn turn_and_wait(&mut self) -> Tally
-        ensures ran { Ran P.Port C.Clock self.old self.new turns [] [] result.sent result.failed }
+        ensures ran { Ran P.Port C.Clock self.old self.new turns [] [] result.sent result.failed 0 }
         ensures small { IsSmall 4 result }
     {
         let turned = self.turn_tables();
@@ -100,7 +100,7 @@ impl<P: Port, C: Clock> Daemon<P, C> {
     fn change(&mut self, capacity: u64) -> Result<Tally, OutOfMemory>
         requires { IsCapacity capacity }
         ensures ran { IfOk result (λ tally. Ran P.Port C.Clock self.old self.new
-            ((λ t. GmEvent.Capacity t capacity) ∷ []) [] [] tally.sent tally.failed) }
+            ((λ t. GmEvent.Capacity t capacity) ∷ []) [] [] tally.sent tally.failed 0) }
         ensures small { IfOk result (λ tally. IsSmall 1 tally) }
     {
         let at = self.clock.now();
@@ -113,7 +113,7 @@ impl<P: Port, C: Clock> Daemon<P, C> {
         requires range { IsGmInRange settings.now }
         requires before { before + 1 < 2 ^ 64 }
         ensures ran { IfOk result (λ tally. Ran P.Port C.Clock self.old self.new
-            (change_in settings.now before) [] [] tally.sent tally.failed) }
+            (change_in settings.now before) [] [] tally.sent tally.failed 0) }
         ensures small { IfOk result (λ tally. IsSmall 1 tally) }
     {
         match change_before(settings, before) {
@@ -125,7 +125,7 @@ impl<P: Port, C: Clock> Daemon<P, C> {
     // Takes a datagram at a new moment, which came from this IPv4 address.
     fn take(&mut self, from: u32, bytes: &[u8]) -> Result<Tally, OutOfMemory>
         ensures ran { IfOk result (λ tally. Ran P.Port C.Clock self.old self.new
-            (taking (arrived from bytes.now) ∷ []) [] [] tally.sent tally.failed) }
+            (taking (arrived from bytes.now) ∷ []) [] [] tally.sent tally.failed 0) }
         ensures small { IfOk result (λ tally. IsSmall 1 tally) }
     {
         let at = self.clock.now();

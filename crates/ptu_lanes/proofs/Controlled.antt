@@ -1,31 +1,29 @@
 -- The rounds before a change of capacity, the CANCELs, and the other rounds, one after the other.
-use Rattle.std.proofs.Common.{◌≡◌, ◌∙◌, ℕ, suc, zero, ◌+◌, ◌*◌, ◌-◌, ◌^◌, ◌≤◌, min, Bool, true, ◌++◌, List, [], ◌∷◌, take, drop, refl, sym, ap, subst, arith, Option, Some, None, Result, Ok, Err}
+use Rattle.std.proofs.Common.{◌≡◌, ◌∙◌, ℕ, suc, zero, ◌+◌, ◌*◌, ◌-◌, ◌^◌, ◌≤◌, min, Bool, true, ◌++◌, List, [], ◌∷◌, length, length-append, take, drop, refl, sym, ap, subst, arith, Option, Some, None, Result, Ok, Err}
 use Rattle.std.specs.{Prelude.{IfNone, IfOk, IfSome}, List.{All}}
 use Rattle.std.proofs.lemmas.{List.{append-nil, drop-drop, map-append}, List.Elements.{All-append}}
 use Rattle.std.proofs.{lemmas.List.Sums.{sum_by-append}, Math.Seq.{take-add}}
 use Rattle.ptu_units.specs.declared.kind.Kind.{Kind}
 use Rattle.ptu_outside.specs.declared.{arrival.Arrival.{Arrival}, opened.Opened.{Opened}}
 use Rattle.ptu_outside.specs.declared.{clock.Clock.{Ghosts as Clocks}, port.Port.{Ghosts as Ports}}
-use Rattle.ptu_outside.specs.Telling.{IfTold}
-use Rattle.ptu_outside.proofs.Telling.{IfTold-refl}
 use Rattle.ptu_outside.specs.{Faults.{HasRisen, HasNotFallen}, HandsOver.{HandsOver}}
 use Rattle.ptu_outside.proofs.HandsOver.{goes_on_both, none_failed, not_fallen_both, rises_first, rises_second, told_both}
 use Rattle.ptu_history.specs.declared.client.Client.{Client}
 use Rattle.ptu_profile.specs.declared.grandmaster.GmConfig.{GmConfig}
 use Rattle.ptu_shared.specs.{Opening.{HaveFailed, Seen, seen_of}, Seats.{Counts, no_verdicts}}
-use Rattle.ptu_shared.proofs.Failing.{failed_hands, failed_none}
+use Rattle.ptu_shared.proofs.Failing.{failed-append, failed_hands, failed_none}
 use Rattle.ptu_gm_messages.specs.Replies.{cancels_to}
 use Rattle.ptu_config.specs.{declared.settings.GmSettings.{GmSettings}, Rounds.{all_rounds}}
 use Rattle.ptu_lanes.specs.Answers.{asks_among, grants_among}
-use Rattle.ptu_rounds.specs.Ports.{HaveRisenBy, HaveRisenJust}
+use Rattle.ptu_rounds.specs.{Handed.{WasHanded}, Ports.{HaveRisenBy, HaveRisenJust}}
 use Rattle.ptu_lanes.specs.declared.{lanes.Lanes.{Lanes}, serving.Totals.{Totals}}
 use Rattle.ptu_lanes.specs.Crew.{LanesServed, ServedSignaling}
-use Rattle.ptu_lanes.specs.Rounds.{Exchange, Exchanged, IsAnswered, asks_in, datagrams, grants_in, items_of, replies}
+use Rattle.ptu_lanes.specs.Rounds.{Exchange, Exchanged, IsAnswered, answers_of, asks_in, datagrams, grants_in, items_of, replies}
 use Rattle.ptu_lanes.specs.{Sending.{GoesOn, WasSent}, Waiting.{PassedBy}}
 use Rattle.ptu_lanes.specs.Changing.{change_moments, change_of, early_rounds, greatest_capacity, moments_to, rounds_before}
-use Rattle.ptu_lanes.specs.Served.{IsControlled, ServesByLanes, TablesAreBack, numbers_of, waits_of}
+use Rattle.ptu_lanes.specs.Served.{ExchangedAll, IsControlled, ServesByLanes, TablesAreBack, numbers_of, replies_around, waits_of}
 use Rattle.ptu_lanes.specs.Stretches.{AreRounds, CountsFailures, TookSignaling}
-use Rattle.ptu_lanes.proofs.Exchanges.{exchanged-append, exchanged_nothing}
+use Rattle.ptu_lanes.proofs.{Exchanges.{exchanges_more}, Handing.{handed-append, handed_of}, Moments.{passed-append, passed_as}}
 use Rattle.ptu_lanes.proofs.Stretching.{counts_more, some_more, told_is}
 
 -- ---- fronts and rests of a list
@@ -34,7 +32,7 @@ pub datagrams-append : (xs ys : List Exchange) → datagrams (xs ++ ys) ≡ data
 datagrams-append xs ys = map-append (λ (e : Exchange). e.datagram) xs ys
 
 pub grants_in-append : (xs ys : List Exchange) → grants_in (xs ++ ys) ≡ grants_in xs + grants_in ys
-grants_in-append xs ys = sum_by-append (λ (e : Exchange). grants_among e.answers) xs ys
+grants_in-append xs ys = sum_by-append (λ (e : Exchange). grants_among (answers_of e)) xs ys
 
 pub asks_in-append : (config : GmConfig) (xs ys : List Exchange) → asks_in config (datagrams (xs ++ ys)) ≡ asks_in config (datagrams xs) + asks_in config (datagrams ys)
 asks_in-append config xs ys =
@@ -61,7 +59,7 @@ no_change None = refl
 no_change (Some capacity) = tt
 
 controlled_unchanged : {P : Type 0} (ports : Ports P) (settings : GmSettings) (config : GmConfig) (port port' : P) (left : List Arrival) (old new : Counts) →
-    change_of settings ≡ None → old ≡ no_verdicts → AreRounds ports config (all_rounds settings) port port' left old new →
+    change_of settings ≡ None → old ≡ no_verdicts → AreRounds ports (greatest_capacity settings) config (all_rounds settings) port port' left old new →
     IsControlled ports settings config port port' left new.granted new.refused
 controlled_unchanged ports settings config port port' left old new none fresh r =
     let all : r.exchanges ++ [] ≡ r.exchanges = append-nil r.exchanges in
@@ -79,7 +77,7 @@ controlled_unchanged ports settings config port port' left old new none fresh r 
       all_are = ap datagrams all ∙ r.first;
       rest = r.rest;
       unchanged = no_change (change_of settings);
-      answered = subst (All (IsAnswered config)) (sym all) r.answered;
+      answered = subst (All (IsAnswered (greatest_capacity settings) config)) (sym all) r.answered;
       told = subst (λ ds. WasSent ports port port' ds) (sym sent) r.told;
       goes_on = subst (λ ds. GoesOn ports port port' ds) (sym sent) r.goes_on;
       granted_are = let g = r.granted in omega (arith, granted, g, ap grants_in all);
@@ -87,7 +85,7 @@ controlled_unchanged ports settings config port port' left old new none fresh r 
     }
 
 pub unchanged_controlled : {P : Type 0} (ports : Ports P) (settings : GmSettings) (config : GmConfig) (port port' : P) (old new : Counts) →
-    change_of settings ≡ None → old ≡ no_verdicts → IfSome (ports.waiting port') (λ later. AreRounds ports config (all_rounds settings) port port' later old new) →
+    change_of settings ≡ None → old ≡ no_verdicts → IfSome (ports.waiting port') (λ later. AreRounds ports (greatest_capacity settings) config (all_rounds settings) port port' later old new) →
     IfSome (ports.waiting port') (λ later. IsControlled ports settings config port port' later new.granted new.refused)
 unchanged_controlled ports settings config port port' old new none fresh r =
     some_more (ports.waiting port') _ _ (λ left. controlled_unchanged ports settings config port port' left old new none fresh) r
@@ -104,13 +102,13 @@ some_change (Some more) capacity shed is = tt
 -- the CANCELs were sent to a port of which p1 is the port before and p2 the port after
 controlled_some : {P : Type 0} (ports : Ports P) (settings : GmSettings) (config : GmConfig) (capacity e l : ℕ) (shed : List (Client × Kind)) (p0 p1 p2 p3 : P) (left : List Arrival)
     (old seat new : Counts) (sent failed : ℕ) →
-    change_of settings ≡ Some capacity → e ≡ settings.change_round - 1 → e + l ≡ all_rounds settings → old ≡ no_verdicts →
-    IfSome (ports.waiting p1) (λ later. AreRounds ports config e p0 p1 later old seat) →
+    change_of settings ≡ Some capacity → e ≡ settings.change_round - 1 → e + l ≡ (all_rounds settings) → old ≡ no_verdicts →
+    IfSome (ports.waiting p1) (λ later. AreRounds ports (greatest_capacity settings) config e p0 p1 later old seat) →
     HandsOver ports p1 p2 (cancels_to config 0 shed) sent failed → ¬ HasRisen (ports.faults p1) (ports.faults p2) →
-    AreRounds ports config l p2 p3 left seat new →
+    AreRounds ports (greatest_capacity settings) config l p2 p3 left seat new →
     IsControlled ports settings config p0 p3 left new.granted new.refused
 controlled_some ports settings config capacity e l shed p0 p1 p2 p3 left old seat new sent failed some early_is all_is fresh early hands still q =
-    let p = told_is (ports.waiting p1) (λ later. AreRounds ports config e p0 p1 later old seat) q.waited (sym hands.waiting ∙ q.all) early in
+    let p = told_is (ports.waiting p1) (λ later. AreRounds ports (greatest_capacity settings) config e p0 p1 later old seat) q.waited (sym hands.waiting ∙ q.all) early in
     let none : failed ≡ 0 = none_failed failed (ports.faults p1) (ports.faults p2) hands.risen still in
     let granted : old.granted ≡ 0 = ap (λ (c : Counts). c.granted) fresh in
     let refused : old.refused ≡ 0 = ap (λ (c : Counts). c.refused) fresh in
@@ -127,7 +125,7 @@ controlled_some ports settings config capacity e l shed p0 p1 p2 p3 left old sea
           ∙ ap (λ ys. take (64 * e) p.waited ++ ys) later ∙ take_rounds (all_rounds settings) e l p.waited all_is;
       rest = q.rest ∙ ap (drop (64 * l)) same ∙ drop_rounds (all_rounds settings) e l p.waited all_is;
       unchanged = some_change (change_of settings) capacity shed some;
-      answered = All-append (IsAnswered config) p.exchanges q.exchanges p.answered q.answered;
+      answered = All-append (IsAnswered (greatest_capacity settings) config) p.exchanges q.exchanges p.answered q.answered;
       told = told_both (ports.sent p0) (ports.sent p2) (ports.sent p3) (replies config p.exchanges ++ cancels_to config 0 shed) (replies config q.exchanges)
           (told_both (ports.sent p0) (ports.sent p1) (ports.sent p2) (replies config p.exchanges) (cancels_to config 0 shed) p.told (hands.all still)) q.told;
       goes_on = goes_on_both ports.ceases_at (replies config p.exchanges ++ cancels_to config 0 shed) (replies config q.exchanges) (ports.sent p0) (ports.sent p2) (ports.sent p3)
@@ -138,17 +136,17 @@ controlled_some ports settings config capacity e l shed p0 p1 p2 p3 left old sea
 
 -- rounds, the CANCELs of a change, and rounds, over the counts of faults of the port
 pub controlled_changed : {P C : Type 0} (ports : Ports P) (clocks : Clocks C) (settings : GmSettings) (config : GmConfig) (capacity e l : ℕ) (p0 p1 p2 p3 : P) (c0 c1 c2 c3 : C) (first seat next last : Counts) (f0 f1 f2 f3 : ℕ) →
-    change_of settings ≡ Some capacity → e ≡ settings.change_round - 1 → e + l ≡ all_rounds settings → first ≡ no_verdicts →
-    TookSignaling ports clocks config e p0 p1 c0 c1 first seat f0 f1 →
+    change_of settings ≡ Some capacity → e ≡ settings.change_round - 1 → e + l ≡ (all_rounds settings) → first ≡ no_verdicts →
+    TookSignaling ports clocks (greatest_capacity settings) config e p0 p1 c0 c1 first seat f0 f1 →
     (shed : List (Client × Kind)) × (sent : ℕ) × (failed : ℕ) × HandsOver ports p1 p2 (cancels_to config 0 shed) sent failed
     × (f2 ≡ min (f1 + failed) (2 ^ 64 - 1)) → next ≡ seat →
-    TookSignaling ports clocks config l p2 p3 c2 c3 next last f2 f3 →
+    TookSignaling ports clocks (greatest_capacity settings) config l p2 p3 c2 c3 next last f2 f3 →
     ¬ HasRisen (ports.faults p0) (ports.faults p3) →
     IfSome (ports.waiting p3) (λ later. IsControlled ports settings config p0 p3 later last.granted last.refused)
 controlled_changed ports clocks settings config capacity e l p0 p1 p2 p3 c0 c1 c2 c3 first seat next last f0 f1 f2 f3 some early_is all_is fresh p (shed, sent, failed, hands, counted) same_seat q still =
     some_more (ports.waiting p3) _ _
     (λ left late. controlled_some ports settings config capacity e l shed p0 p1 p2 p3 left first seat last sent failed some early_is all_is fresh (p.did still1) hands still2
-    (subst (λ s. AreRounds ports config l p2 p3 left s last) same_seat late))
+    (subst (λ s. AreRounds ports (greatest_capacity settings) config l p2 p3 left s last) same_seat late))
     (q.did still3)
   where
     f01 : HasNotFallen (ports.faults p0) (ports.faults p1)
@@ -169,28 +167,95 @@ controlled_changed ports clocks settings config capacity e l p0 p1 p2 p3 c0 c1 c
     still3 : ¬ HasRisen (ports.faults p2) (ports.faults p3)
     still3 rises = still (rises_second _ _ _ (not_fallen_both _ _ _ f01 f12) rises)
 
--- what was taken in both stretches, the change between them
+-- what was taken in both stretches, and what was sent there and in the change between them
 pub exchanged_changed : {P C : Type 0} (ports : Ports P) (clocks : Clocks C) (settings : GmSettings) (config : GmConfig) (capacity e l : ℕ) (p0 p1 p2 p3 : P) (c0 c1 c2 c3 : C) (first seat next last : Counts) (f0 f1 f2 f3 : ℕ) →
-    change_of settings ≡ Some capacity → e + l ≡ all_rounds settings → first ≡ no_verdicts → TookSignaling ports clocks config e p0 p1 c0 c1 first seat f0 f1 →
+    change_of settings ≡ Some capacity → e ≡ settings.change_round - 1 → e + l ≡ (all_rounds settings) → first ≡ no_verdicts →
+    TookSignaling ports clocks (greatest_capacity settings) config e p0 p1 c0 c1 first seat f0 f1 →
     (shed : List (Client × Kind)) × (sent : ℕ) × (failed : ℕ) × HandsOver ports p1 p2 (cancels_to config 0 shed) sent failed
     × (f2 ≡ min (f1 + failed) (2 ^ 64 - 1)) → PassedBy 1 (clocks.moments c1) (clocks.moments c2) → next ≡ seat →
-    TookSignaling ports clocks config l p2 p3 c2 c3 next last f2 f3 →
-    Exchanged ports clocks config (64 * all_rounds settings) (change_moments settings) p0 p3 c0 c3 no_verdicts last
-exchanged_changed ports clocks settings config capacity e l p0 p1 p2 p3 c0 c1 c2 c3 first seat next last f0 f1 f2 f3 some all_is fresh p (shed, sent, failed, hands, counted) moved same_seat q =
-    let moments : 0 + (1 + 0) ≡ change_moments settings = sym (ap moments_to some) in
-    let all : 64 * e + (0 + 64 * l) ≡ 64 * all_rounds settings = all_in_both (all_rounds settings) e l all_is in
-    exchanged-append ports clocks config (64 * all_rounds settings) (64 * e) (0 + 64 * l) 0 (1 + 0) (change_moments settings) p0 p1 p3 c0 c1 c3 no_verdicts seat last all moments
-    (subst (λ s. Exchanged ports clocks config (64 * e) 0 p0 p1 c0 c1 s seat) fresh p.exchanged)
-    (exchanged-append ports clocks config (0 + 64 * l) 0 (64 * l) 1 0 (1 + 0) p1 p2 p3 c1 c2 c3 seat seat last refl refl
-    (exchanged_nothing ports clocks config 1 p1 p2 c1 c2 seat (subst (λ told. IfTold told (ports.waiting p1)) (sym hands.waiting) (IfTold-refl (ports.waiting p1))) moved)
-    (subst (λ s. Exchanged ports clocks config (64 * l) 0 p2 p3 c2 c3 s last) same_seat q.exchanged))
+    TookSignaling ports clocks (greatest_capacity settings) config l p2 p3 c2 c3 next last f2 f3 →
+    ExchangedAll ports clocks settings config p0 p3 c0 c3 last.granted last.refused
+exchanged_changed ports clocks settings config capacity e l p0 p1 p2 p3 c0 c1 c2 c3 first seat next last f0 f1 f2 f3 some early_is all_is fresh p (shed, sent, failed, hands, counted) moved same_seat q =
+    let x = p.exchanged in
+    let y = q.exchanged in
+    let early_rounds_are : early_rounds settings ≡ e = changed_rounds settings capacity some ∙ sym early_is in
+    let granted : first.granted ≡ 0 = ap (λ (c : Counts). c.granted) fresh in
+    let refused : first.refused ≡ 0 = ap (λ (c : Counts). c.refused) fresh in
+    let same_granted : next.granted ≡ seat.granted = ap (λ (c : Counts). c.granted) same_seat in
+    let same_refused : next.refused ≡ seat.refused = ap (λ (c : Counts). c.refused) same_seat in
+    let moment : change_moments settings ≡ 1 = ap moments_to some in
+    let all : length (x.exchanges ++ y.exchanges) ≡ length x.exchanges + length y.exchanges = length-append x.exchanges y.exchanges in
+    let cancels = cancels_to config 0 shed in
+    record {
+      early = x.exchanges;
+      shed = shed;
+      late = y.exchanges;
+      early_few = omega (arith, x.few, early_rounds_are);
+      late_few = omega (arith, y.few, early_rounds_are, all_is);
+      few = omega (arith, x.few, y.few, all, all_is);
+      unchanged = some_change (change_of settings) capacity shed some;
+      given = exchanges_more x.exchanges y.exchanges (ports.waiting p0) (ports.waiting p2) (ports.waiting p3)
+          (subst (λ told. IfSome told (λ later. ports.waiting p0 ≡ Some (datagrams x.exchanges ++ later))) (sym hands.waiting) x.given) y.given;
+      answered = All-append (IsAnswered (greatest_capacity settings) config) x.exchanges y.exchanges x.answered y.answered;
+      granted_are = let a = x.granted in let b = y.granted in omega (arith, granted, same_granted, a, b, grants_in-append x.exchanges y.exchanges);
+      counted = let a = x.counted in let b = y.counted in omega (arith, granted, refused, same_granted, same_refused, a, b, asks_in-append config x.exchanges y.exchanges);
+      moments = passed_as ((length x.exchanges + 1) + length y.exchanges) (length (x.exchanges ++ y.exchanges) + change_moments settings) _ _ (omega (arith, all, moment))
+          (passed-append (length x.exchanges + 1) (length y.exchanges) (clocks.moments c0) (clocks.moments c2) (clocks.moments c3)
+          (passed-append (length x.exchanges) 1 (clocks.moments c0) (clocks.moments c1) (clocks.moments c2) x.moments moved) y.moments);
+      sent = (p.sent + sent) + q.sent;
+      handed = handed-append ports p0 p2 p3 (replies config x.exchanges ++ cancels) (replies config y.exchanges) (p.sent + sent) q.sent
+          (not_fallen_both _ _ _ x.failures.no_fall hands.no_fall) y.failures.no_fall
+          (handed-append ports p0 p1 p2 (replies config x.exchanges) cancels p.sent sent x.failures.no_fall hands.no_fall x.handed (handed_of ports p1 p2 cancels sent failed hands))
+          y.handed;
+      missed = x.missed + y.missed;
+      once = omega (arith, x.once, y.once, all_is);
+      failed = (p.more + failed) + q.more;
+      each =
+          let a = x.each in let b = y.each in let h = hands.each in
+          let sum : length (replies_around config x.exchanges shed y.exchanges) ≡ length (replies config x.exchanges) + length (cancels_to config 0 shed) + length (replies config y.exchanges) =
+          length-append (replies config x.exchanges ++ cancels_to config 0 shed) (replies config y.exchanges)
+          ∙ ap (λ n. n + length (replies config y.exchanges)) (length-append (replies config x.exchanges) (cancels_to config 0 shed)) in
+          omega (arith, a, b, h, sum);
+      failures = failed-append ports.counts_once (p.more + failed) q.more (ports.faults p0) (ports.faults p2) (ports.faults p3)
+          (failed-append ports.counts_once p.more failed (ports.faults p0) (ports.faults p1) (ports.faults p2) x.failures (failed_hands ports p1 p2 cancels sent failed hands))
+          y.failures;
+    }
 
-pub exchanged_unchanged : {P C : Type 0} (ports : Ports P) (clocks : Clocks C) (settings : GmSettings) (config : GmConfig) (p0 p1 : P) (c0 c1 : C) (old new : Counts) →
-    change_of settings ≡ None → old ≡ no_verdicts → Exchanged ports clocks config (64 * all_rounds settings) 0 p0 p1 c0 c1 old new →
-    Exchanged ports clocks config (64 * all_rounds settings) (change_moments settings) p0 p1 c0 c1 no_verdicts new
-exchanged_unchanged ports clocks settings config p0 p1 c0 c1 old new none fresh e =
-    subst (λ n. Exchanged ports clocks config (64 * all_rounds settings) n p0 p1 c0 c1 no_verdicts new) (sym (ap moments_to none))
-    (subst (λ s. Exchanged ports clocks config (64 * all_rounds settings) 0 p0 p1 c0 c1 s new) fresh e)
+pub exchanged_unchanged : {P C : Type 0} (ports : Ports P) (clocks : Clocks C) (settings : GmSettings) (config : GmConfig) (sent failed : ℕ) (p0 p1 : P) (c0 c1 : C) (old new : Counts) →
+    change_of settings ≡ None → old ≡ no_verdicts → Exchanged ports clocks (greatest_capacity settings) config (all_rounds settings) sent failed p0 p1 c0 c1 old new →
+    ExchangedAll ports clocks settings config p0 p1 c0 c1 new.granted new.refused
+exchanged_unchanged ports clocks settings config sent failed p0 p1 c0 c1 old new none fresh x =
+    let rounds : early_rounds settings ≡ (all_rounds settings) = unchanged_rounds settings none in
+    let granted : old.granted ≡ 0 = ap (λ (c : Counts). c.granted) fresh in
+    let refused : old.refused ≡ 0 = ap (λ (c : Counts). c.refused) fresh in
+    let moment : change_moments settings ≡ 0 = ap moments_to none in
+    let all : x.exchanges ++ [] ≡ x.exchanges = append-nil x.exchanges in
+    let sends : replies config x.exchanges ++ [] ++ [] ≡ replies config x.exchanges =
+    append-nil (replies config x.exchanges ++ []) ∙ append-nil (replies config x.exchanges) in
+    record {
+      early = x.exchanges;
+      shed = [];
+      late = [];
+      early_few = omega (arith, x.few, rounds);
+      late_few = omega arith;
+      few = omega (arith, x.few, ap length all);
+      unchanged = no_change (change_of settings);
+      given = subst (λ xs. IfSome (ports.waiting p1) (λ later. ports.waiting p0 ≡ Some (datagrams xs ++ later))) (sym all) x.given;
+      answered = subst (All (IsAnswered (greatest_capacity settings) config)) (sym all) x.answered;
+      granted_are = let a = x.granted in omega (arith, granted, a, ap grants_in all);
+      counted = let a = x.counted in omega (arith, granted, refused, a, ap (λ es. asks_in config (datagrams es)) all);
+      moments = passed_as (length x.exchanges) (length (x.exchanges ++ []) + change_moments settings) _ _ (omega (arith, moment, ap length all)) x.moments;
+      sent = sent;
+      handed = subst (λ ds. WasHanded ports p0 p1 ds sent) (sym sends) x.handed;
+      missed = x.missed;
+      once = x.once;
+      failed = failed;
+      each =
+          let a = x.each in
+          let sum : length (replies_around config x.exchanges [] []) ≡ length (replies config x.exchanges) = ap length sends in
+          omega (arith, a, sum);
+      failures = x.failures;
+    }
 
 -- what failed, from a count of nothing on
 pub failed_from : {P : Type 0} (ports : Ports P) (p0 p1 : P) (f0 f1 : ℕ) → f0 ≡ 0 → CountsFailures ports.counts_once (ports.faults p0) (ports.faults p1) f0 f1 →
@@ -211,24 +276,24 @@ failed_changed ports config p0 p1 p2 p3 f0 f1 f2 f3 none p (shed, sent, failed, 
 -- ---- the lane that takes Signaling, in all rounds
 
 pub signaling_unchanged : {P C : Type 0} (ports : Ports P) (clocks : Clocks C) (settings : GmSettings) (config : GmConfig) (p0 p1 : P) (c0 c1 : C) (old new : Counts) (f0 f1 : ℕ) →
-    change_of settings ≡ None → old ≡ no_verdicts → f0 ≡ 0 → TookSignaling ports clocks config (all_rounds settings) p0 p1 c0 c1 old new f0 f1 →
+    change_of settings ≡ None → old ≡ no_verdicts → f0 ≡ 0 → TookSignaling ports clocks (greatest_capacity settings) config (all_rounds settings) p0 p1 c0 c1 old new f0 f1 →
     ServedSignaling ports clocks settings config p0 p1 c0 c1 new f1
 signaling_unchanged ports clocks settings config p0 p1 c0 c1 old new f0 f1 none fresh nothing took = record {
   control = λ still. unchanged_controlled ports settings config p0 p1 old new none fresh (took.did still);
-  exchanged = exchanged_unchanged ports clocks settings config p0 p1 c0 c1 old new none fresh took.exchanged;
+  exchanged = exchanged_unchanged ports clocks settings config took.sent took.more p0 p1 c0 c1 old new none fresh took.exchanged;
   failed = failed_from ports p0 p1 f0 f1 nothing took.failures;
 }
 
 pub signaling_changed : {P C : Type 0} (ports : Ports P) (clocks : Clocks C) (settings : GmSettings) (config : GmConfig) (capacity e l : ℕ) (p0 p1 p2 p3 : P) (c0 c1 c2 c3 : C) (first seat next last : Counts) (f0 f1 f2 f3 : ℕ) →
-    change_of settings ≡ Some capacity → e ≡ settings.change_round - 1 → e + l ≡ all_rounds settings → first ≡ no_verdicts → f0 ≡ 0 →
-    TookSignaling ports clocks config e p0 p1 c0 c1 first seat f0 f1 →
+    change_of settings ≡ Some capacity → e ≡ settings.change_round - 1 → e + l ≡ (all_rounds settings) → first ≡ no_verdicts → f0 ≡ 0 →
+    TookSignaling ports clocks (greatest_capacity settings) config e p0 p1 c0 c1 first seat f0 f1 →
     (shed : List (Client × Kind)) × (sent : ℕ) × (failed : ℕ) × HandsOver ports p1 p2 (cancels_to config 0 shed) sent failed
     × (f2 ≡ min (f1 + failed) (2 ^ 64 - 1)) → PassedBy 1 (clocks.moments c1) (clocks.moments c2) → next ≡ seat →
-    TookSignaling ports clocks config l p2 p3 c2 c3 next last f2 f3 →
+    TookSignaling ports clocks (greatest_capacity settings) config l p2 p3 c2 c3 next last f2 f3 →
     ServedSignaling ports clocks settings config p0 p3 c0 c3 last f3
 signaling_changed ports clocks settings config capacity e l p0 p1 p2 p3 c0 c1 c2 c3 first seat next last f0 f1 f2 f3 some early_is all_is fresh nothing p sends moved same q = record {
   control = controlled_changed ports clocks settings config capacity e l p0 p1 p2 p3 c0 c1 c2 c3 first seat next last f0 f1 f2 f3 some early_is all_is fresh p sends same q;
-  exchanged = exchanged_changed ports clocks settings config capacity e l p0 p1 p2 p3 c0 c1 c2 c3 first seat next last f0 f1 f2 f3 some all_is fresh p sends moved same q;
+  exchanged = exchanged_changed ports clocks settings config capacity e l p0 p1 p2 p3 c0 c1 c2 c3 first seat next last f0 f1 f2 f3 some early_is all_is fresh p sends moved same q;
   failed = failed_changed ports config p0 p1 p2 p3 f0 f1 f2 f3 nothing p.failures sends q.failures;
 }
 
@@ -292,6 +357,7 @@ serves_by_lanes ports clocks settings config opened closed totals lanes most see
       exchanged = rw (same.0, moved.0, counted.0, counted.1) did.control.exchanged;
       event = rw (same.1) did.event.gave;
       took = rw (same.1, moved.1) did.event.took;
+      missed = rw (same.1) did.event.missed;
       unsent = ap ports.sent same.1 ∙ did.event.unsent;
       turned0 = rw (moved.2) did.first;
       turned1 = rw (moved.3) did.second;

@@ -1,6 +1,6 @@
 -- What a lane has served, call by call.
 use Rattle.std.proofs.Common.{◌≡◌, ◌∙◌, ◌⊎◌, inl, inr, ℕ, ◌+◌, ◌≤◌, ◌<◌, ◌++◌, List, [], ◌∷◌, length, length-append, refl, sym, ap, subst, arith, Option, Some, None, Result, Ok, Err}
-use Rattle.std.specs.{Prelude.{IfOk, IfSome, IsSome, option_map, true, false}, List.{AllByRecursion}}
+use Rattle.std.specs.{Prelude.{IfOk, IfSome, IsSome, map, option_map, true, false}, List.{All, AllByRecursion}}
 use Rattle.std.proofs.lemmas.List.{append-nil, length-map, map-append}
 use Rattle.std.proofs.lemmas.List.{Elements.{All-append, All-cons, All-nil}, Sums.{sum_by-append}}
 use Rattle.std.proofs.lemmas.Grind.{flat_map-append}
@@ -8,37 +8,40 @@ use Rattle.ptu_outside.specs.{declared.arrival.Arrival.{Arrival}, Departure.{Dep
 use Rattle.ptu_outside.specs.{Clocks.{after_first}, declared.clock.Clock.{Ghosts as Clocks}}
 use Rattle.ptu_outside.specs.declared.port.Port.{Ghosts as Ports}
 use Rattle.ptu_outside.specs.Faults.{HasRisen, HasRisenBy, HasRisenJust, HasNotFallen}
-use Rattle.ptu_outside.specs.HandsOver.{HandsOver}
-use Rattle.ptu_outside.proofs.HandsOver.{goes_on_both, hands_none, just_both, none_failed, not_fallen_both, not_fallen_none, rises_first, rises_second, risen_both, told_both, told_none}
+use Rattle.ptu_outside.specs.HandsOver.{HandsOver, SentOf}
+use Rattle.ptu_outside.proofs.HandsOver.{goes_on_both, hands_none, just_both, none_failed, not_fallen_both, not_fallen_none, rises_first, rises_second, risen_both, sent_both, sent_none, told_both, told_none}
 use Rattle.ptu_outside.specs.Telling.{IfTold, IsFirstTold, append_told, rest_told}
 use Rattle.ptu_outside.proofs.Telling.{IfTold-refl}
 use Rattle.ptu_header.specs.declared.header.Header.{Header}
 use Rattle.ptu_tlvs.specs.declared.tlv.Tlv.{Tlv}
 use Rattle.ptu_profile.specs.declared.grandmaster.GmConfig.{GmConfig}
 use Rattle.ptu_shared.specs.Seats.{Counts}
+use Rattle.ptu_shared.proofs.Failing.{failed-append, failed_none}
 use Rattle.ptu_gm_messages.specs.declared.heard.Heard.{Heard}
 use Rattle.ptu_gm_messages.specs.declared.heard.Heard.TheVariants as heard
 use Rattle.ptu_gm_messages.specs.declared.{reason.GmReason.{GmReason}, item.Item.{Item}}
-use Rattle.ptu_gm_messages.specs.Items.{heard_in, items_in}
-use Rattle.ptu_lanes.specs.Answers.{HasAnswered, asks_among, grants_among}
-use Rattle.ptu_lanes.specs.Rounds.{BrokeOff, Exchange, Exchanged, HasReplied, HasServed, IsAnswered, IsRound, IsUnanswered, asks_in, datagrams, found_items, items_of, replies, reply_if_any, reply_in, reply_with}
-use Rattle.ptu_lanes.proofs.Items.{answered_none, asks-le, heard_items, items_heard}
+use Rattle.ptu_gm_messages.specs.{Deciding.{client_of}, Items.{heard_in, items_in}}
+use Rattle.ptu_grandmaster.specs.{declared.outcome.Outcome.{Outcome}, Outcomes.{answers_seen, item_seen}}
+use Rattle.ptu_rounds.specs.Handed.{WasHanded}
+use Rattle.ptu_lanes.specs.Answers.{FitEach, HasAnswered, WasDecided, asks_among, grants_among}
+use Rattle.ptu_lanes.specs.Rounds.{AreDecided, BrokeOff, Exchange, Exchanged, HasReplied, HasServed, IsAnswered, IsRound, IsUnanswered, answers_of, asks_in, datagrams, found_items, items_of, replies, reply_if_any, reply_in, reply_with}
+use Rattle.ptu_lanes.proofs.{Handing.{handed-append, handed_none}, Items.{answered_none, asks-le, heard_items, items_heard}}
 use Rattle.ptu_lanes.specs.Waiting.{PassedBy}
-use Rattle.ptu_lanes.proofs.Moments.{passed-append, passed_as, passed_one}
+use Rattle.ptu_lanes.proofs.Moments.{passed-append, passed_as, passed_none, passed_one}
 use Rattle.ptu_lanes.proofs.Taking.{first_given, front_is, given_more, kept_is}
 use Rattle.ptu_lanes.specs.Sending.{GoesOn, WasSent}
 
 -- ---- nothing was taken
 
 -- the port is as it was but for what it received, and for its count of faults
-pub served_none : {P : Type 0} (ports : Ports P) (config : GmConfig) (port port' : P) (failed : ℕ) (counts : Counts) →
+pub served_none : {P : Type 0} (ports : Ports P) (greatest : ℕ) (config : GmConfig) (port port' : P) (failed : ℕ) (counts : Counts) →
     IfTold (ports.waiting port') (ports.waiting port) → ports.sent port' ≡ ports.sent port →
     HasRisenBy failed (ports.faults port) (ports.faults port') → (ports.counts_once ≡ true → HasRisenJust failed (ports.faults port) (ports.faults port')) →
     (failed ≡ 0 → ports.faults port' ≡ ports.faults port) → HasNotFallen (ports.faults port) (ports.faults port') →
-    HasServed ports config [] port port' counts counts 0 0 failed
-served_none ports config port port' failed counts kept unsent risen just quiet no_fall = record {
+    HasServed ports greatest config [] port port' counts counts 0 0 failed failed
+served_none ports greatest config port port' failed counts kept unsent risen just quiet no_fall = record {
   given = kept_is (ports.waiting port) (ports.waiting port') kept;
-  answered = All-nil (IsAnswered config);
+  answered = All-nil (IsAnswered greatest config);
   granted = omega arith;
   refused = omega arith;
   counted = omega arith;
@@ -49,31 +52,33 @@ served_none ports config port port' failed counts kept unsent risen just quiet n
   just = just;
   quiet = quiet;
   no_fall = no_fall;
+  some = subst (λ (told : Option (List Departure)). SentOf (ports.sent port) told [] 0) (sym unsent) (sent_none (ports.sent port));
+  each = omega arith;
   sent_are = λ same. refl;
   told = λ same. subst (λ (told : Option (List Departure)). IfTold told (append_told (ports.sent port) [])) (sym unsent) (told_none (ports.sent port));
   goes_on = λ none few tells. subst IsSome (sym unsent) tells;
 }
 
-pub nothing_yet : {P : Type 0} (ports : Ports P) (config : GmConfig) (port : P) (counts : Counts) → HasServed ports config [] port port counts counts 0 0 0
-nothing_yet ports config port counts =
-    served_none ports config port port 0 counts (IfTold-refl (ports.waiting port)) refl (inl (omega arith)) (λ once. inl (omega arith)) (λ none. refl)
+pub nothing_yet : {P : Type 0} (ports : Ports P) (greatest : ℕ) (config : GmConfig) (port : P) (counts : Counts) → HasServed ports greatest config [] port port counts counts 0 0 0 0
+nothing_yet ports greatest config port counts =
+    served_none ports greatest config port port 0 counts (IfTold-refl (ports.waiting port)) refl (inl (omega arith)) (λ once. inl (omega arith)) (λ none. refl)
     (not_fallen_none (ports.faults port))
 
 -- ---- one after the other
 
-exchanges_more : (xs ys : List Exchange) (waiting middle left : Option (List Arrival)) →
+pub exchanges_more : (xs ys : List Exchange) (waiting middle left : Option (List Arrival)) →
     IfSome middle (λ later. waiting ≡ Some (datagrams xs ++ later)) → IfSome left (λ later. middle ≡ Some (datagrams ys ++ later)) →
     IfSome left (λ later. waiting ≡ Some (datagrams (xs ++ ys) ++ later))
 exchanges_more xs ys waiting middle left first second =
     rw (map-append (λ (e : Exchange). e.datagram) xs ys) (given_more (datagrams xs) (datagrams ys) waiting middle left first second)
 
-pub served-append : {P : Type 0} (ports : Ports P) (config : GmConfig) (xs ys : List Exchange) (p0 p1 p2 : P) (old seat new : Counts) (asks sent failed asks2 sent2 failed2 : ℕ) →
-    HasServed ports config xs p0 p1 old seat asks sent failed → HasServed ports config ys p1 p2 seat new asks2 sent2 failed2 →
-    HasServed ports config (xs ++ ys) p0 p2 old new (asks + asks2) (sent + sent2) (failed + failed2)
-served-append ports config xs ys p0 p1 p2 old seat new asks sent failed asks2 sent2 failed2 p q = record {
+pub served-append : {P : Type 0} (ports : Ports P) (greatest : ℕ) (config : GmConfig) (xs ys : List Exchange) (p0 p1 p2 : P) (old seat new : Counts) (asks sent failed missed asks2 sent2 failed2 missed2 : ℕ) →
+    HasServed ports greatest config xs p0 p1 old seat asks sent failed missed → HasServed ports greatest config ys p1 p2 seat new asks2 sent2 failed2 missed2 →
+    HasServed ports greatest config (xs ++ ys) p0 p2 old new (asks + asks2) (sent + sent2) (failed + failed2) (missed + missed2)
+served-append ports greatest config xs ys p0 p1 p2 old seat new asks sent failed missed asks2 sent2 failed2 missed2 p q = record {
   given = exchanges_more xs ys (ports.waiting p0) (ports.waiting p1) (ports.waiting p2) p.given q.given;
-  answered = All-append (IsAnswered config) xs ys p.answered q.answered;
-  granted = let a = p.granted in let b = q.granted in omega (arith, sum_by-append (λ (e : Exchange). grants_among e.answers) xs ys);
+  answered = All-append (IsAnswered greatest config) xs ys p.answered q.answered;
+  granted = let a = p.granted in let b = q.granted in omega (arith, sum_by-append (λ (e : Exchange). grants_among (answers_of e)) xs ys);
   refused = let a = p.refused in let b = q.refused in omega arith;
   counted = let a = p.counted in let b = q.counted in omega arith;
   asks_are = let a = p.asks_are in let b = q.asks_are in
@@ -85,6 +90,9 @@ served-append ports config xs ys p0 p1 p2 old seat new asks sent failed asks2 se
   just = λ once. just_both (ports.faults p0) (ports.faults p1) (ports.faults p2) failed failed2 (p.just once) (q.just once) q.no_fall;
   quiet = λ none. q.quiet (omega (arith, none)) ∙ p.quiet (omega (arith, none));
   no_fall = not_fallen_both (ports.faults p0) (ports.faults p1) (ports.faults p2) p.no_fall q.no_fall;
+  some = subst (λ ds. SentOf (ports.sent p0) (ports.sent p2) ds (sent + sent2)) (sym replies_are)
+      (sent_both (ports.sent p0) (ports.sent p1) (ports.sent p2) (replies config xs) (replies config ys) sent sent2 p.some q.some);
+  each = let a = p.each in let b = q.each in omega (arith, a, b, length-append (replies config xs) (replies config ys), ap length replies_are);
   sent_are = λ same.
       let a : sent ≡ length (replies config xs) = p.sent_are (λ rises. same (rises_first (ports.faults p0) (ports.faults p1) (ports.faults p2) rises q.no_fall)) in
       let b : sent2 ≡ length (replies config ys) = q.sent_are (λ rises. same (rises_second (ports.faults p0) (ports.faults p1) (ports.faults p2) p.no_fall rises)) in
@@ -114,32 +122,35 @@ one_reply config from (Ok (heard.Asks header items)) answers = one_if_any config
 one_reply config from (Ok (heard.DelayReq header)) answers = omega arith
 one_reply config from (Err reason) answers = omega arith
 
-pub at_most_one : {P : Type 0} (ports : Ports P) (config : GmConfig) (e : Exchange) (port port' : P) (old new : Counts) (asks sent failed : ℕ) →
-    HasReplied ports config e port port' old new asks sent failed → sent + failed ≤ 1
-at_most_one ports config e port port' old new asks sent failed r =
-    omega (arith, r.hands.each, one_reply config e.datagram.ip (heard_in config e.datagram.bytes) e.answers)
+pub at_most_one : {P : Type 0} (ports : Ports P) (greatest : ℕ) (config : GmConfig) (e : Exchange) (port port' : P) (old new : Counts) (asks sent failed : ℕ) →
+    HasReplied ports greatest config e port port' old new asks sent failed → sent + failed ≤ 1
+at_most_one ports greatest config e port port' old new asks sent failed r =
+    omega (arith, r.hands.each, one_reply config e.datagram.ip (heard_in config e.datagram.bytes) (answers_of e))
 
 -- a datagram that was received, and then answered
-pub served_received : {P : Type 0} (ports : Ports P) (config : GmConfig) (e : Exchange) (port now port' : P) (old new : Counts) (asks sent failed : ℕ) →
+pub served_received : {P : Type 0} (ports : Ports P) (greatest : ℕ) (config : GmConfig) (e : Exchange) (port now port' : P) (old new : Counts) (asks sent failed : ℕ) →
     IsFirstTold (ports.waiting port) e.datagram → IfTold (ports.waiting now) (rest_told (ports.waiting port)) →
     ports.sent now ≡ ports.sent port → ports.faults now ≡ ports.faults port →
-    HasReplied ports config e now port' old new asks sent failed →
-    HasServed ports config (e ∷ []) port port' old new asks sent failed
-served_received ports config e port now port' old new asks sent failed first rest unsent faults r =
+    HasReplied ports greatest config e now port' old new asks sent failed →
+    HasServed ports greatest config (e ∷ []) port port' old new asks sent failed 0
+served_received ports greatest config e port now port' old new asks sent failed first rest unsent faults r =
     let many : asks ≡ asks_among (items_of config e.datagram) = let a = r.asks_are in let b = r.answered.counted in omega arith in
     record {
       given = first_given e.datagram (ports.waiting port) (ports.waiting port') first (subst (λ l. IfTold l (rest_told (ports.waiting port))) (sym r.hands.waiting) rest);
-      answered = All-cons (IsAnswered config) e [] r.answered.fit (All-nil (IsAnswered config));
+      answered = All-cons (IsAnswered greatest config) e [] r.is (All-nil (IsAnswered greatest config));
       granted = let a = r.answered.granted in omega arith;
       refused = r.answered.refused;
       counted = r.asks_are;
       asks_are = omega (arith, many);
       few = omega (arith, many, asks-le (items_of config e.datagram), r.few);
-      at_most = omega (arith, at_most_one ports config e now port' old new asks sent failed r);
+      at_most = omega (arith, at_most_one ports greatest config e now port' old new asks sent failed r);
       risen = subst (λ n. HasRisenBy failed n (ports.faults port')) faults r.hands.risen;
       just = λ once. subst (λ n. HasRisenJust failed n (ports.faults port')) faults (r.hands.just once);
       quiet = λ none. r.hands.quiet none ∙ faults;
       no_fall = subst (λ n. HasNotFallen n (ports.faults port')) faults r.hands.no_fall;
+      some = subst (λ (before : Option (List Departure)). SentOf before (ports.sent port') (reply_in config e ++ []) sent) unsent
+          (subst (λ ds. SentOf (ports.sent now) (ports.sent port') ds sent) (sym (append-nil (reply_in config e))) r.hands.some);
+      each = omega (arith, r.hands.each, ap length (append-nil (reply_in config e)));
       sent_are = λ same.
           let none : failed ≡ 0 = none_failed failed (ports.faults now) (ports.faults port') r.hands.risen (subst (λ n. ¬ HasRisen n (ports.faults port')) (sym faults) same) in
           omega (arith, r.hands.each, none, ap length (append-nil (reply_in config e)));
@@ -158,11 +169,11 @@ abbrev pub IsOver : {P : Type 0} → Ports P → List Exchange → P → P → T
 IsOver ports exchanges port port' =
     (length exchanges ≡ 64) ⊎ (¬ HasRisen (ports.faults port) (ports.faults port') → IfSome (ports.waiting port') (λ later. later ≡ []))
 
-pub round_is : {P : Type 0} (ports : Ports P) (config : GmConfig) (exchanges : List Exchange) (port port' : P) (old new : Counts) (asks sent failed : ℕ) →
-    HasServed ports config exchanges port port' old new asks sent failed → length exchanges ≤ 64 → IsOver ports exchanges port port' →
+pub round_is : {P : Type 0} (ports : Ports P) (greatest : ℕ) (config : GmConfig) (exchanges : List Exchange) (port port' : P) (old new : Counts) (asks sent failed missed : ℕ) →
+    HasServed ports greatest config exchanges port port' old new asks sent failed missed → length exchanges ≤ 64 → IsOver ports exchanges port port' →
     ¬ HasRisen (ports.faults port) (ports.faults port') →
-    IfSome (ports.waiting port') (λ later. IsRound ports config port port' later old.granted new.granted asks sent)
-round_is ports config exchanges port port' old new asks sent failed p few over same = of (ports.waiting port') p.given (either over)
+    IfSome (ports.waiting port') (λ later. IsRound ports greatest config port port' later old.granted new.granted asks sent)
+round_is ports greatest config exchanges port port' old new asks sent failed missed p few over same = of (ports.waiting port') p.given (either over)
   where
     size : length (datagrams exchanges) ≡ length exchanges
     size = length-map exchanges (λ (e : Exchange). e.datagram)
@@ -173,7 +184,7 @@ round_is ports config exchanges port port' old new asks sent failed p few over s
 
     of : (told : Option (List Arrival)) → IfSome told (λ later. ports.waiting port ≡ Some (datagrams exchanges ++ later)) →
         (length (datagrams exchanges) ≡ 64) ⊎ IfSome told (λ later. later ≡ []) →
-        IfSome told (λ later. IsRound ports config port port' later old.granted new.granted asks sent)
+        IfSome told (λ later. IsRound ports greatest config port port' later old.granted new.granted asks sent)
     of None given ends = tt
     of (Some later) given ends =
         let fronts = front_is (datagrams exchanges) later (omega (arith, size)) ends in
@@ -198,26 +209,37 @@ pub both_ok : {A E : Type 0} (r : Result A E) (P Q R : A → Type 0) → ((x : A
 both_ok (Ok x) P Q R makes p q = makes x p q
 both_ok (Err e) P Q R makes p q = tt
 
-pub replied_is : {P : Type 0} (ports : Ports P) (config : GmConfig) (from : ℕ) (octets : List ℕ) (header : Header) (items : List Item) (answers : List Tlv) (port port' : P) (old new : Counts) (asks sent failed : ℕ) →
-    heard_in config octets ≡ Ok (heard.Asks header items) → length items ≤ 32 → HasAnswered config items answers old new →
-    HandsOver ports port port' (reply_if_any config from header answers) sent failed → new.granted + new.refused ≡ old.granted + old.refused + asks →
-    HasReplied ports config (record { datagram = record { ip = from; bytes = octets }; answers = answers }) port port' old new asks sent failed
-replied_is ports config from octets header items answers port port' old new asks sent failed found few answered hands asks_are =
+pub replied_is : {P : Type 0} (ports : Ports P) (greatest : ℕ) (config : GmConfig) (from : ℕ) (octets : List ℕ) (header : Header) (items : List Item) (outcomes : List Outcome) (t : ℕ) (port port' : P) (old new : Counts) (asks sent failed : ℕ) →
+    heard_in config octets ≡ Ok (heard.Asks header items) → length items ≤ 32 → map item_seen outcomes ≡ items →
+    All (WasDecided greatest config t (client_of from header)) outcomes → HasAnswered config items (answers_seen outcomes) old new →
+    HandsOver ports port port' (reply_if_any config from header (answers_seen outcomes)) sent failed → new.granted + new.refused ≡ old.granted + old.refused + asks →
+    HasReplied ports greatest config (record { datagram = record { ip = from; bytes = octets }; outcomes = outcomes }) port port' old new asks sent failed
+replied_is ports greatest config from octets header items outcomes t port port' old new asks sent failed found few are decided answered hands asks_are =
     let same : items ≡ found_items (items_in config octets) = sym (ap heard_items found) ∙ items_heard config octets in
     record {
-      answered = subst (λ is. HasAnswered config is answers old new) same answered;
+      is = record {
+        items = are ∙ same;
+        decided = subst (λ h. AreDecided greatest config from h outcomes) (sym found) (t, decided);
+        fit = subst (λ is. FitEach config is (answers_seen outcomes)) same answered.fit;
+      };
+      answered = subst (λ is. HasAnswered config is (answers_seen outcomes) old new) same answered;
       asks_are = asks_are;
       few = subst (λ is. length is ≤ 32) same few;
-      hands = subst (λ h. HandsOver ports port port' (reply_with config from h answers) sent failed) (sym found) hands;
+      hands = subst (λ h. HandsOver ports port port' (reply_with config from h (answers_seen outcomes)) sent failed) (sym found) hands;
     }
 
 -- a datagram in which no Signaling is heard has no items, and no reply
-pub ignored_is : {P : Type 0} (ports : Ports P) (config : GmConfig) (from : ℕ) (octets : List ℕ) (found : Result Heard GmReason) (port : P) (counts : Counts) →
-    heard_in config octets ≡ found → heard_items found ≡ [] → reply_with config from found [] ≡ [] →
-    HasReplied ports config (record { datagram = record { ip = from; bytes = octets }; answers = [] }) port port counts counts 0 0 0
-ignored_is ports config from octets found port counts is none quiet =
+pub ignored_is : {P : Type 0} (ports : Ports P) (greatest : ℕ) (config : GmConfig) (from : ℕ) (octets : List ℕ) (found : Result Heard GmReason) (port : P) (counts : Counts) →
+    heard_in config octets ≡ found → heard_items found ≡ [] → reply_with config from found [] ≡ [] → AreDecided greatest config from found [] →
+    HasReplied ports greatest config (record { datagram = record { ip = from; bytes = octets }; outcomes = [] }) port port counts counts 0 0 0
+ignored_is ports greatest config from octets found port counts is none quiet decided =
     let same : [] ≡ found_items (items_in config octets) = sym none ∙ sym (ap heard_items is) ∙ items_heard config octets in
     record {
+      is = record {
+        items = same;
+        decided = subst (λ h. AreDecided greatest config from h []) (sym is) decided;
+        fit = subst (λ items. FitEach config items []) same tt;
+      };
       answered = subst (λ items. HasAnswered config items [] counts counts) same (answered_none config counts);
       asks_are = omega arith;
       few = subst (λ items. length items ≤ 32) same (omega arith);
@@ -225,38 +247,46 @@ ignored_is ports config from octets found port counts is none quiet =
     }
 
 -- a round that ends before it took 64 datagrams, since nothing waits after the last ones that it took, or a fault came
-pub round_over : {P : Type 0} (ports : Ports P) (config : GmConfig) (xs ys : List Exchange) (p0 p1 p2 : P) (old seat new : Counts) (asks sent failed asks2 sent2 failed2 : ℕ) →
-    HasServed ports config xs p0 p1 old seat asks sent failed → HasServed ports config ys p1 p2 seat new asks2 sent2 failed2 →
+pub round_over : {P : Type 0} (ports : Ports P) (greatest : ℕ) (config : GmConfig) (xs ys : List Exchange) (p0 p1 p2 : P) (old seat new : Counts) (asks sent failed missed asks2 sent2 failed2 missed2 : ℕ) →
+    HasServed ports greatest config xs p0 p1 old seat asks sent failed missed → HasServed ports greatest config ys p1 p2 seat new asks2 sent2 failed2 missed2 →
     length xs + length ys ≤ 64 → (¬ HasRisen (ports.faults p1) (ports.faults p2) → IfSome (ports.waiting p2) (λ later. later ≡ [])) →
     ¬ HasRisen (ports.faults p0) (ports.faults p2) →
-    IfSome (ports.waiting p2) (λ later. IsRound ports config p0 p2 later old.granted new.granted (asks + asks2) (sent + sent2))
-round_over ports config xs ys p0 p1 p2 old seat new asks sent failed asks2 sent2 failed2 p q few over =
-    round_is ports config (xs ++ ys) p0 p2 old new (asks + asks2) (sent + sent2) (failed + failed2)
-    (served-append ports config xs ys p0 p1 p2 old seat new asks sent failed asks2 sent2 failed2 p q)
+    IfSome (ports.waiting p2) (λ later. IsRound ports greatest config p0 p2 later old.granted new.granted (asks + asks2) (sent + sent2))
+round_over ports greatest config xs ys p0 p1 p2 old seat new asks sent failed missed asks2 sent2 failed2 missed2 p q few over =
+    round_is ports greatest config (xs ++ ys) p0 p2 old new (asks + asks2) (sent + sent2) (failed + failed2) (missed + missed2)
+    (served-append ports greatest config xs ys p0 p1 p2 old seat new asks sent failed missed asks2 sent2 failed2 missed2 p q)
     (omega (arith, few, length-append xs ys))
     (inr (λ same. over (λ rises. same (rises_second (ports.faults p0) (ports.faults p1) (ports.faults p2) p.no_fall rises))))
 
 -- ---- what was taken, answered and counted, whatever the port's count did
 
-pub exchanged_is : {P C : Type 0} (ports : Ports P) (clocks : Clocks C) (config : GmConfig) (exchanges : List Exchange) (n : ℕ) (port port' : P) (clock clock' : C) (old new : Counts) (asks sent failed : ℕ) →
-    HasServed ports config exchanges port port' old new asks sent failed → n ≡ length exchanges → length exchanges ≤ 64 →
-    PassedBy n (clocks.moments clock) (clocks.moments clock') → Exchanged ports clocks config 64 0 port port' clock clock' old new
-exchanged_is ports clocks config exchanges n port port' clock clock' old new asks sent failed p many few moved = record {
+pub exchanged_is : {P C : Type 0} (ports : Ports P) (clocks : Clocks C) (greatest : ℕ) (config : GmConfig) (exchanges : List Exchange) (n : ℕ) (port port' : P) (clock clock' : C) (old new : Counts) (asks sent failed missed : ℕ) →
+    HasServed ports greatest config exchanges port port' old new asks sent failed missed → n ≡ length exchanges → length exchanges ≤ 64 → missed ≤ 1 →
+    PassedBy n (clocks.moments clock) (clocks.moments clock') → Exchanged ports clocks greatest config 1 sent failed port port' clock clock' old new
+exchanged_is ports clocks greatest config exchanges n port port' clock clock' old new asks sent failed missed p many few once moved = record {
   exchanges = exchanges;
-  few = few;
+  few = omega (arith, few);
   given = p.given;
   answered = p.answered;
   granted = p.granted;
   counted = let a = p.counted in let b = p.asks_are in omega (arith, a, b);
-  moments = passed_as n (length exchanges + 0) _ _ (omega (arith, many)) moved;
+  moments = passed_as n (length exchanges) _ _ many moved;
+  handed = record {
+    part = record { some = p.some; all = p.told };
+    goes_on = λ still. p.goes_on (none_failed failed (ports.faults port) (ports.faults port') p.risen still);
+  };
+  missed = missed;
+  once = once;
+  each = p.each;
+  failures = record { risen = p.risen; just = p.just; quiet = p.quiet; no_fall = p.no_fall };
 }
 
 -- want of memory after these exchanges
-pub broke_off : {P C : Type 0} (ports : Ports P) (clocks : Clocks C) (config : GmConfig) (exchanges : List Exchange) (n : ℕ) (p0 p1 p2 : P) (c0 c1 c2 : C) (old seat new : Counts) (asks sent failed : ℕ) →
-    HasServed ports config exchanges p0 p1 old seat asks sent failed → n ≡ length exchanges → n < 64 →
+pub broke_off : {P C : Type 0} (ports : Ports P) (clocks : Clocks C) (greatest : ℕ) (config : GmConfig) (exchanges : List Exchange) (n : ℕ) (p0 p1 p2 : P) (c0 c1 c2 : C) (old seat new : Counts) (asks sent failed missed : ℕ) →
+    HasServed ports greatest config exchanges p0 p1 old seat asks sent failed missed → n ≡ length exchanges → n < 64 →
     PassedBy n (clocks.moments c0) (clocks.moments c1) → IsUnanswered ports clocks p1 p2 c1 c2 seat new →
-    BrokeOff ports clocks config p0 p2 c0 c2 old new
-broke_off ports clocks config exchanges n p0 p1 p2 c0 c1 c2 old seat new asks sent failed p many few moved u = record {
+    BrokeOff ports clocks greatest config p0 p2 c0 c2 old new
+broke_off ports clocks greatest config exchanges n p0 p1 p2 c0 c1 c2 old seat new asks sent failed missed p many few moved u = record {
   exchanges = exchanges;
   last = u.datagram;
   few = omega (arith, many, few);
@@ -264,6 +294,8 @@ broke_off ports clocks config exchanges n p0 p1 p2 c0 c1 c2 old seat new asks se
   answered = p.answered;
   told = λ same. subst (λ (now : Option (List Departure)). IfTold now (append_told (ports.sent p0) (replies config exchanges))) (sym u.unsent)
       (p.told (subst (λ n. ¬ HasRisen (ports.faults p0) n) u.still same));
+  sent = sent;
+  some = subst (λ (now : Option (List Departure)). SentOf (ports.sent p0) now (replies config exchanges) sent) (sym u.unsent) p.some;
   granted = let a = p.granted in let b = u.granted in omega (arith, a, b);
   refused = let a = p.refused in let b = u.refused in omega (arith, a, b);
   moments = passed_as (n + 1) (length exchanges + 1) _ _ (omega (arith, many))
@@ -286,36 +318,48 @@ unanswered ports clocks d port now port' clock clock' old new same first rest un
       moments = passed_one (clocks.moments clock) (clocks.moments clock') moved;
     })
 
--- one after the other
-pub exchanged-append : {P C : Type 0} (ports : Ports P) (clocks : Clocks C) (config : GmConfig) (all n m more worse sum : ℕ) (p0 p1 p2 : P) (c0 c1 c2 : C) (old seat new : Counts) →
-    n + m ≡ all → more + worse ≡ sum → Exchanged ports clocks config n more p0 p1 c0 c1 old seat → Exchanged ports clocks config m worse p1 p2 c1 c2 seat new →
-    Exchanged ports clocks config all sum p0 p2 c0 c2 old new
-exchanged-append ports clocks config all n m more worse sum p0 p1 p2 c0 c1 c2 old seat new is is_more p q = record {
+-- rounds, one after the other
+pub exchanged-append : {P C : Type 0} (ports : Ports P) (clocks : Clocks C) (greatest : ℕ) (config : GmConfig) (n m sent failed sent2 failed2 : ℕ) (p0 p1 p2 : P) (c0 c1 c2 : C) (old seat new : Counts) →
+    Exchanged ports clocks greatest config n sent failed p0 p1 c0 c1 old seat → Exchanged ports clocks greatest config m sent2 failed2 p1 p2 c1 c2 seat new →
+    Exchanged ports clocks greatest config (n + m) (sent + sent2) (failed + failed2) p0 p2 c0 c2 old new
+exchanged-append ports clocks greatest config n m sent failed sent2 failed2 p0 p1 p2 c0 c1 c2 old seat new p q = record {
   exchanges = p.exchanges ++ q.exchanges;
-  few = omega (arith, is, p.few, q.few, length-append p.exchanges q.exchanges);
+  few = omega (arith, p.few, q.few, length-append p.exchanges q.exchanges);
   given = exchanges_more p.exchanges q.exchanges (ports.waiting p0) (ports.waiting p1) (ports.waiting p2) p.given q.given;
-  answered = All-append (IsAnswered config) p.exchanges q.exchanges p.answered q.answered;
-  granted = let a = p.granted in let b = q.granted in omega (arith, a, b, sum_by-append (λ (e : Exchange). grants_among e.answers) p.exchanges q.exchanges);
+  answered = All-append (IsAnswered greatest config) p.exchanges q.exchanges p.answered q.answered;
+  granted = let a = p.granted in let b = q.granted in omega (arith, a, b, sum_by-append (λ (e : Exchange). grants_among (answers_of e)) p.exchanges q.exchanges);
   counted = let a = p.counted in let b = q.counted in omega (arith, a, b, asks_are);
-  moments = passed_as ((length p.exchanges + more) + (length q.exchanges + worse)) (length (p.exchanges ++ q.exchanges) + sum) _ _
-      (omega (arith, is_more, length-append p.exchanges q.exchanges))
-      (passed-append (length p.exchanges + more) (length q.exchanges + worse) (clocks.moments c0) (clocks.moments c1) (clocks.moments c2) p.moments q.moments);
+  moments = passed_as (length p.exchanges + length q.exchanges) (length (p.exchanges ++ q.exchanges)) _ _ (sym (length-append p.exchanges q.exchanges))
+      (passed-append (length p.exchanges) (length q.exchanges) (clocks.moments c0) (clocks.moments c1) (clocks.moments c2) p.moments q.moments);
+  handed = subst (λ ds. WasHanded ports p0 p2 ds (sent + sent2)) (sym replies_are)
+      (handed-append ports p0 p1 p2 (replies config p.exchanges) (replies config q.exchanges) sent sent2 p.failures.no_fall q.failures.no_fall p.handed q.handed);
+  missed = p.missed + q.missed;
+  once = omega (arith, p.once, q.once);
+  each = let a = p.each in let b = q.each in omega (arith, a, b, length-append (replies config p.exchanges) (replies config q.exchanges), ap length replies_are);
+  failures = failed-append ports.counts_once failed failed2 (ports.faults p0) (ports.faults p1) (ports.faults p2) p.failures q.failures;
 }
   where
+    replies_are : replies config (p.exchanges ++ q.exchanges) ≡ replies config p.exchanges ++ replies config q.exchanges
+    replies_are = flat_map-append (reply_in config) p.exchanges q.exchanges
+
     asks_are : asks_in config (datagrams (p.exchanges ++ q.exchanges)) ≡ asks_in config (datagrams p.exchanges) + asks_in config (datagrams q.exchanges)
     asks_are = ap (asks_in config) (map-append (λ (e : Exchange). e.datagram) p.exchanges q.exchanges)
         ∙ sum_by-append (λ d. asks_among (items_of config d)) (datagrams p.exchanges) (datagrams q.exchanges)
 
--- nothing was taken; of what waits nothing changed
-pub exchanged_nothing : {P C : Type 0} (ports : Ports P) (clocks : Clocks C) (config : GmConfig) (more : ℕ) (port port' : P) (clock clock' : C) (counts : Counts) →
-    IfTold (ports.waiting port') (ports.waiting port) → PassedBy more (clocks.moments clock) (clocks.moments clock') →
-    Exchanged ports clocks config 0 more port port' clock clock' counts counts
-exchanged_nothing ports clocks config more port port' clock clock' counts kept moved = record {
+-- no round
+pub exchanged_none : {P C : Type 0} (ports : Ports P) (clocks : Clocks C) (greatest : ℕ) (config : GmConfig) (port : P) (clock : C) (counts : Counts) →
+    Exchanged ports clocks greatest config 0 0 0 port port clock clock counts counts
+exchanged_none ports clocks greatest config port clock counts = record {
   exchanges = [];
   few = omega arith;
-  given = kept_is (ports.waiting port) (ports.waiting port') kept;
-  answered = All-nil (IsAnswered config);
+  given = kept_is (ports.waiting port) (ports.waiting port) (IfTold-refl (ports.waiting port));
+  answered = All-nil (IsAnswered greatest config);
   granted = omega arith;
   counted = omega arith;
-  moments = passed_as more (0 + more) _ _ (omega arith) moved;
+  moments = passed_none (clocks.moments clock);
+  handed = handed_none ports port;
+  missed = 0;
+  once = omega arith;
+  each = omega arith;
+  failures = failed_none ports.counts_once (ports.faults port);
 }

@@ -1,9 +1,9 @@
 -- Answers to the items of a datagram, one after the other.
 use Rattle.std.proofs.Common.{◌≡◌, ◌∙◌, ℕ, ◌+◌, ◌^◌, ◌≤◌, ◌<◌, ◌++◌, List, [], ◌∷◌, length, length-take, map, take, refl, sym, ap, subst, arith, Result, Ok, Err, true, false}
-use Rattle.std.specs.Prelude.{◌==◌, if◌then◌else◌, Bool}
-use Rattle.std.proofs.lemmas.{List.{map-append}, List.Sums.{sum_by-append, sum_by-cons}}
+use Rattle.std.specs.{Prelude.{◌==◌, if◌then◌else◌, Bool}, List.{All}}
+use Rattle.std.proofs.lemmas.{List.{map-append}, List.Elements.{All-append, All-cons, All-nil}, List.Sums.{sum_by-append, sum_by-cons}}
 use Rattle.ptu_header.specs.declared.header.Header.{Header}
-use Rattle.ptu_history.specs.Verdict.{profile}
+use Rattle.ptu_history.specs.{declared.client.Client.{Client}, Verdict.{profile}}
 use Rattle.ptu_tlvs.specs.declared.tlv.Tlv.{Tlv}
 use Rattle.ptu_messages.specs.declared.message.Body.{Body}
 use Rattle.ptu_messages.specs.declared.message.Body.TheVariants as body
@@ -21,7 +21,7 @@ use Rattle.ptu_gm_messages.specs.Items.{heard_by, heard_in, items_by, items_in, 
 use Rattle.ptu_gm_messages.specs.Replies.{reply_to}
 use Rattle.ptu_grandmaster.specs.declared.outcome.Outcome.{Outcome}
 use Rattle.ptu_grandmaster.specs.Outcomes.{answers_seen, decision_seen, item_seen}
-use Rattle.ptu_lanes.specs.Answers.{FitEach, HasAnswered, ask_count, asks_among, grants_among, grant_count, one_if_ok}
+use Rattle.ptu_lanes.specs.Answers.{FitEach, HasAnswered, WasDecided, ask_count, asks_among, grants_among, grant_count, one_if_ok}
 use Rattle.ptu_lanes.specs.Rounds.{found_items, reply_if_any}
 
 fit-append : (config : GmConfig) (xs : List Item) (ts : List Tlv) (ys : List Item) (bs : List Tlv) →
@@ -71,26 +71,32 @@ pub asks-le : (items : List Item) → asks_among items ≤ length items
 asks-le [] = omega arith
 asks-le (item ∷ items) = omega (arith, sum_by-cons ask_count item items, one_ask item, asks-le items)
 
--- so many of the items were decided
-pub record Decided (config : GmConfig) (done : List Item) (old now : Counts) (outcomes : List Outcome) : Type 0 where
+-- so many of the items were decided, for the client
+pub record Decided (greatest : ℕ) (config : GmConfig) (t : ℕ) (client : Client) (done : List Item) (old now : Counts) (outcomes : List Outcome) : Type 0 where
   pub items : map item_seen outcomes ≡ done
+  pub decided : All (WasDecided greatest config t client) outcomes
   pub answered : HasAnswered config done (answers_seen outcomes) old now
 
-pub none_decided : (config : GmConfig) (counts : Counts) → Decided config [] counts counts []
-none_decided config counts = record { items = refl; answered = answered_none config counts }
+pub none_decided : (greatest : ℕ) (config : GmConfig) (t : ℕ) (client : Client) (counts : Counts) → Decided greatest config t client [] counts counts []
+none_decided greatest config t client counts =
+    record { items = refl; decided = All-nil (WasDecided greatest config t client); answered = answered_none config counts }
 
-pub one_more : (config : GmConfig) (done : List Item) (item : Item) (old now new : Counts) (outcomes : List Outcome) (outcome : Outcome) →
-    Decided config done old now outcomes → item_seen outcome ≡ item → HasAnswered config (item ∷ []) (answer_to (decision_seen outcome) ∷ []) now new →
-    Decided config (done ++ item ∷ []) old new (outcomes ++ outcome ∷ [])
-one_more config done item old now new outcomes outcome p is q = record {
+pub one_more : (greatest : ℕ) (config : GmConfig) (t : ℕ) (client : Client) (done : List Item) (item : Item) (old now new : Counts) (outcomes : List Outcome) (outcome : Outcome) →
+    Decided greatest config t client done old now outcomes → item_seen outcome ≡ item → WasDecided greatest config t client outcome →
+    HasAnswered config (item ∷ []) (answer_to (decision_seen outcome) ∷ []) now new →
+    Decided greatest config t client (done ++ item ∷ []) old new (outcomes ++ outcome ∷ [])
+one_more greatest config t client done item old now new outcomes outcome p is this q = record {
   items = items_more done outcomes item outcome p.items is;
+  decided = All-append (WasDecided greatest config t client) outcomes (outcome ∷ []) p.decided
+      (All-cons (WasDecided greatest config t client) outcome [] this (All-nil (WasDecided greatest config t client)));
   answered = answered_more config done outcomes item outcome old now new p.answered q;
 }
 
 -- where the counts leave room for 32 asks, the next one is below 2 ^ 56
-pub room_left : (config : GmConfig) (items : List Item) (i : ℕ) (old now : Counts) (outcomes : List Outcome) → Decided config (take i items) old now outcomes →
+pub room_left : (greatest : ℕ) (config : GmConfig) (t : ℕ) (client : Client) (items : List Item) (i : ℕ) (old now : Counts) (outcomes : List Outcome) →
+    Decided greatest config t client (take i items) old now outcomes →
     i < length items → length items ≤ 32 → old.granted + 32 ≤ 2 ^ 56 → old.refused + 32 ≤ 2 ^ 56 → (now.granted < 2 ^ 56) × (now.refused < 2 ^ 56)
-room_left config items i old now outcomes p lt few granted refused =
+room_left greatest config t client items i old now outcomes p lt few granted refused =
     let front : length (take i items) ≤ i = omega (arith, length-take i items) in
     let asks : asks_among (take i items) ≤ length (take i items) = asks-le (take i items) in
     let rises : now.granted ≡ old.granted + grants_among (answers_seen outcomes) = p.answered.granted in

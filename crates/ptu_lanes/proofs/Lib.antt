@@ -1,5 +1,6 @@
 mod Items
 pub mod Moments
+mod Handing
 mod Exchanges
 mod Taking
 mod Stretching

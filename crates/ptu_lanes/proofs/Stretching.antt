@@ -6,16 +6,15 @@ use Rattle.std.proofs.lemmas.{List.Sums.{sum_by-append}, Grind.{flat_map-append}
 use Rattle.std.proofs.Math.Seq.{take-add}
 use Rattle.ptu_outside.specs.declared.{arrival.Arrival.{Arrival}, clock.Clock.{Ghosts as Clocks}}
 use Rattle.ptu_outside.specs.{declared.port.Port.{Ghosts as Ports}, Faults.{HasNotFallen, HasRisen}}
-use Rattle.ptu_outside.proofs.Telling.{IfTold-refl}
 use Rattle.ptu_outside.proofs.HandsOver.{goes_on_both, not_fallen_both, not_fallen_none, rises_first, rises_second, told_both, told_none}
 use Rattle.ptu_profile.specs.declared.grandmaster.GmConfig.{GmConfig}
 use Rattle.ptu_shared.specs.{Opening.{HaveFailed}, Seats.{Counts}}
-use Rattle.ptu_shared.proofs.Failing.{failed-append, failed_bounded}
+use Rattle.ptu_shared.proofs.Failing.{failed-append, failed_bounded, failed_none}
 use Rattle.ptu_lanes.specs.Answers.{asks_among, grants_among}
-use Rattle.ptu_lanes.specs.Rounds.{Exchange, Exchanged, IsAnswered, IsRound, asks_in, datagrams, items_of, replies, reply_in}
-use Rattle.ptu_lanes.specs.{Sending.{GoesOn, WasSent}, Waiting.{GaveFirst, Took}}
+use Rattle.ptu_lanes.specs.Rounds.{Exchange, Exchanged, IsAnswered, IsRound, answers_of, asks_in, datagrams, items_of, replies, reply_in}
+use Rattle.ptu_lanes.specs.{Sending.{GoesOn, WasSent}, Waiting.{GaveFirst, MissedFew, Took}}
 use Rattle.ptu_lanes.specs.Stretches.{AreRounds, CountsFailures, TookDelayReqs, TookSignaling}
-use Rattle.ptu_lanes.proofs.{Exchanges.{exchanged-append, exchanged_nothing}, Moments.{passed_none}}
+use Rattle.ptu_lanes.proofs.Exchanges.{exchanged-append, exchanged_none}
 use Rattle.ptu_lanes.proofs.Taking.{none_taken, took-append, took_up_to}
 
 -- ---- what waited
@@ -48,11 +47,11 @@ gave-append n m waiting (Some between) (Some later) first second =
 
 -- ---- the lane that takes Signaling
 
-rounds_none : {P : Type 0} (ports : Ports P) (config : GmConfig) (port : P) (counts : Counts) →
-    IfSome (ports.waiting port) (λ later. AreRounds ports config 0 port port later counts counts)
-rounds_none ports config port counts = of (ports.waiting port) refl
+rounds_none : {P : Type 0} (ports : Ports P) (greatest : ℕ) (config : GmConfig) (port : P) (counts : Counts) →
+    IfSome (ports.waiting port) (λ later. AreRounds ports greatest config 0 port port later counts counts)
+rounds_none ports greatest config port counts = of (ports.waiting port) refl
   where
-    of : (told : Option (List Arrival)) → ports.waiting port ≡ told → IfSome told (λ later. AreRounds ports config 0 port port later counts counts)
+    of : (told : Option (List Arrival)) → ports.waiting port ≡ told → IfSome told (λ later. AreRounds ports greatest config 0 port port later counts counts)
     of None is = tt
     of (Some waited) is = record {
       waited = waited;
@@ -60,7 +59,7 @@ rounds_none ports config port counts = of (ports.waiting port) refl
       exchanges = [];
       first = refl;
       rest = refl;
-      answered = All-nil (IsAnswered config);
+      answered = All-nil (IsAnswered greatest config);
       told = told_none (ports.sent port);
       goes_on = λ few tells. tells;
       granted = omega arith;
@@ -76,11 +75,11 @@ pub told_is : {A : Type 0} (told : Option A) (Fact : A → Type 0) (x : A) → t
 told_is None Fact x is fact = absurd (cc is)
 told_is (Some y) Fact x is fact = let same : y ≡ x = cc is in subst Fact same fact
 
-rounds-append : {P : Type 0} (ports : Ports P) (config : GmConfig) (n m : ℕ) (p0 p1 p2 : P) (left : List Arrival) (old now new : Counts) →
-    IfSome (ports.waiting p1) (λ later. AreRounds ports config n p0 p1 later old now) → AreRounds ports config m p1 p2 left now new →
-    AreRounds ports config (n + m) p0 p2 left old new
-rounds-append ports config n m p0 p1 p2 left old now new earlier q =
-    let p = told_is (ports.waiting p1) (λ later. AreRounds ports config n p0 p1 later old now) q.waited q.all earlier in
+rounds-append : {P : Type 0} (ports : Ports P) (greatest : ℕ) (config : GmConfig) (n m : ℕ) (p0 p1 p2 : P) (left : List Arrival) (old now new : Counts) →
+    IfSome (ports.waiting p1) (λ later. AreRounds ports greatest config n p0 p1 later old now) → AreRounds ports greatest config m p1 p2 left now new →
+    AreRounds ports greatest config (n + m) p0 p2 left old new
+rounds-append ports greatest config n m p0 p1 p2 left old now new earlier q =
+    let p = told_is (ports.waiting p1) (λ later. AreRounds ports greatest config n p0 p1 later old now) q.waited q.all earlier in
     let same : q.waited ≡ drop (64 * n) p.waited = p.rest in
     let sent : replies config (p.exchanges ++ q.exchanges) ≡ replies config p.exchanges ++ replies config q.exchanges = flat_map-append (reply_in config) p.exchanges q.exchanges in
     record {
@@ -90,12 +89,12 @@ rounds-append ports config n m p0 p1 p2 left old now new earlier q =
       first = map-append (λ (e : Exchange). e.datagram) p.exchanges q.exchanges ∙ ap (λ xs. xs ++ datagrams q.exchanges) p.first
           ∙ ap (λ xs. take (64 * n) p.waited ++ xs) (q.first ∙ ap (take (64 * m)) same) ∙ front_more n m p.waited;
       rest = q.rest ∙ ap (drop (64 * m)) same ∙ rest_more n m p.waited;
-      answered = All-append (IsAnswered config) p.exchanges q.exchanges p.answered q.answered;
+      answered = All-append (IsAnswered greatest config) p.exchanges q.exchanges p.answered q.answered;
       told = subst (λ ds. WasSent ports p0 p2 ds) (sym sent)
           (told_both (ports.sent p0) (ports.sent p1) (ports.sent p2) (replies config p.exchanges) (replies config q.exchanges) p.told q.told);
       goes_on = subst (λ ds. GoesOn ports p0 p2 ds) (sym sent)
           (goes_on_both ports.ceases_at (replies config p.exchanges) (replies config q.exchanges) (ports.sent p0) (ports.sent p1) (ports.sent p2) p.goes_on q.goes_on);
-      granted = let a = p.granted in let b = q.granted in omega (arith, sum_by-append (λ (e : Exchange). grants_among e.answers) p.exchanges q.exchanges);
+      granted = let a = p.granted in let b = q.granted in omega (arith, sum_by-append (λ (e : Exchange). grants_among (answers_of e)) p.exchanges q.exchanges);
       counted = let a = p.counted in let b = q.counted in omega (arith, asks-append config p.exchanges q.exchanges);
     }
 
@@ -113,10 +112,10 @@ counts_more once faults faults' failed more failed' f is = λ start before.
     (failed_bounded once (failed + more) start faults' (failed-append once failed more start faults faults' before f))
 
 -- a round is one of so many
-rounds_one : {P : Type 0} (ports : Ports P) (config : GmConfig) (port port' : P) (left : List Arrival) (old new : Counts) (asks sent : ℕ) →
-    new.granted + new.refused ≡ old.granted + old.refused + asks → IsRound ports config port port' left old.granted new.granted asks sent →
-    AreRounds ports config 1 port port' left old new
-rounds_one ports config port port' left old new asks sent counted r = record {
+rounds_one : {P : Type 0} (ports : Ports P) (greatest : ℕ) (config : GmConfig) (port port' : P) (left : List Arrival) (old new : Counts) (asks sent : ℕ) →
+    new.granted + new.refused ≡ old.granted + old.refused + asks → IsRound ports greatest config port port' left old.granted new.granted asks sent →
+    AreRounds ports greatest config 1 port port' left old new
+rounds_one ports greatest config port port' left old new asks sent counted r = record {
   waited = r.waited;
   all = r.all;
   exchanges = r.exchanges;
@@ -130,36 +129,42 @@ rounds_one ports config port port' left old new asks sent counted r = record {
 }
 
 module _ {P C : Type 0} (ports : Ports P) (clocks : Clocks C) where
-  pub signaling_none : (config : GmConfig) (port : P) (clock : C) (counts : Counts) (failed : ℕ) → TookSignaling ports clocks config 0 port port clock clock counts counts failed failed
-  signaling_none config port clock counts failed = record {
-    did = λ same. rounds_none ports config port counts;
-    exchanged = exchanged_nothing ports clocks config 0 port port clock clock counts (IfTold-refl (ports.waiting port)) (passed_none (clocks.moments clock));
+  pub signaling_none : (greatest : ℕ) (config : GmConfig) (port : P) (clock : C) (counts : Counts) (failed : ℕ) → TookSignaling ports clocks greatest config 0 port port clock clock counts counts failed failed
+  signaling_none greatest config port clock counts failed = record {
+    did = λ same. rounds_none ports greatest config port counts;
+    sent = 0;
+    more = 0;
+    exchanged = exchanged_none ports clocks greatest config port clock counts;
     most = omega arith;
     failures = λ start f. f;
     no_fall = not_fallen_none (ports.faults port);
   }
 
-  pub signaling_one : (config : GmConfig) (port port' : P) (clock clock' : C) (old new : Counts) (asks sent more failed failed' : ℕ) →
+  pub signaling_one : (greatest : ℕ) (config : GmConfig) (port port' : P) (clock clock' : C) (old new : Counts) (asks sent more failed failed' : ℕ) →
       new.granted + new.refused ≡ old.granted + old.refused + asks → asks ≤ 2048 →
-      (¬ HasRisen (ports.faults port) (ports.faults port') → IfSome (ports.waiting port') (λ left. IsRound ports config port port' left old.granted new.granted asks sent)) →
-      Exchanged ports clocks config 64 0 port port' clock clock' old new → HaveFailed ports.counts_once more (ports.faults port) (ports.faults port') →
-      failed' ≡ min (failed + more) (2 ^ 64 - 1) → TookSignaling ports clocks config 1 port port' clock clock' old new failed failed'
-  signaling_one config port port' clock clock' old new asks sent more failed failed' counted few round exchanged failures is = record {
-    did = λ same. some_more (ports.waiting port') _ _ (λ left. rounds_one ports config port port' left old new asks sent counted) (round same);
+      (¬ HasRisen (ports.faults port) (ports.faults port') → IfSome (ports.waiting port') (λ left. IsRound ports greatest config port port' left old.granted new.granted asks sent)) →
+      Exchanged ports clocks greatest config 1 sent more port port' clock clock' old new →
+      failed' ≡ min (failed + more) (2 ^ 64 - 1) → TookSignaling ports clocks greatest config 1 port port' clock clock' old new failed failed'
+  signaling_one greatest config port port' clock clock' old new asks sent more failed failed' counted few round exchanged is = record {
+    did = λ same. some_more (ports.waiting port') _ _ (λ left. rounds_one ports greatest config port port' left old new asks sent counted) (round same);
+    sent = sent;
+    more = more;
     exchanged = exchanged;
     most = omega (arith, counted, few);
-    failures = counts_more ports.counts_once (ports.faults port) (ports.faults port') failed more failed' failures is;
-    no_fall = failures.no_fall;
+    failures = counts_more ports.counts_once (ports.faults port) (ports.faults port') failed more failed' exchanged.failures is;
+    no_fall = exchanged.failures.no_fall;
   }
 
-  pub signaling-append : (config : GmConfig) (n m : ℕ) (p0 p1 p2 : P) (c0 c1 c2 : C) (old now new : Counts) (f0 f1 f2 : ℕ) →
-      TookSignaling ports clocks config n p0 p1 c0 c1 old now f0 f1 → TookSignaling ports clocks config m p1 p2 c1 c2 now new f1 f2 →
-      TookSignaling ports clocks config (n + m) p0 p2 c0 c2 old new f0 f2
-  signaling-append config n m p0 p1 p2 c0 c1 c2 old now new f0 f1 f2 p q = record {
+  pub signaling-append : (greatest : ℕ) (config : GmConfig) (n m : ℕ) (p0 p1 p2 : P) (c0 c1 c2 : C) (old now new : Counts) (f0 f1 f2 : ℕ) →
+      TookSignaling ports clocks greatest config n p0 p1 c0 c1 old now f0 f1 → TookSignaling ports clocks greatest config m p1 p2 c1 c2 now new f1 f2 →
+      TookSignaling ports clocks greatest config (n + m) p0 p2 c0 c2 old new f0 f2
+  signaling-append greatest config n m p0 p1 p2 c0 c1 c2 old now new f0 f1 f2 p q = record {
     did = λ same. some_more (ports.waiting p2) _ _
-        (λ left. rounds-append ports config n m p0 p1 p2 left old now new (p.did (λ rises. same (rises_first (ports.faults p0) (ports.faults p1) (ports.faults p2) rises q.no_fall))))
+        (λ left. rounds-append ports greatest config n m p0 p1 p2 left old now new (p.did (λ rises. same (rises_first (ports.faults p0) (ports.faults p1) (ports.faults p2) rises q.no_fall))))
         (q.did (λ rises. same (rises_second (ports.faults p0) (ports.faults p1) (ports.faults p2) p.no_fall rises)));
-    exchanged = exchanged-append ports clocks config (64 * (n + m)) (64 * n) (64 * m) 0 0 0 p0 p1 p2 c0 c1 c2 old now new (omega arith) refl p.exchanged q.exchanged;
+    sent = p.sent + q.sent;
+    more = p.more + q.more;
+    exchanged = exchanged-append ports clocks greatest config n m p.sent p.more q.sent q.more p0 p1 p2 c0 c1 c2 old now new p.exchanged q.exchanged;
     most = let a = p.most in let b = q.most in omega arith;
     failures = λ start f. q.failures start (p.failures start f);
     no_fall = not_fallen_both (ports.faults p0) (ports.faults p1) (ports.faults p2) p.no_fall q.no_fall;
@@ -170,18 +175,20 @@ module _ {P C : Type 0} (ports : Ports P) (clocks : Clocks C) where
     gave = λ same. gave_none (ports.waiting port);
     took = took_up_to ports clocks 0 0 0 port port clock clock (none_taken ports clocks port clock) (omega arith);
     unsent = refl;
+    missed = (0, omega arith, failed_none ports.counts_once (ports.faults port));
     failures = λ start f. f;
     no_fall = not_fallen_none (ports.faults port);
   }
 
   pub delays_one : (port port' : P) (clock clock' : C) (missed failed failed' : ℕ) →
       (¬ HasRisen (ports.faults port) (ports.faults port') → GaveFirst 64 (ports.waiting port) (ports.waiting port')) → Took ports clocks 64 0 port port' clock clock' →
-      ports.sent port' ≡ ports.sent port → HaveFailed ports.counts_once missed (ports.faults port) (ports.faults port') →
+      ports.sent port' ≡ ports.sent port → HaveFailed ports.counts_once missed (ports.faults port) (ports.faults port') → missed ≤ 1 →
       failed' ≡ min (failed + missed) (2 ^ 64 - 1) → TookDelayReqs ports clocks 1 port port' clock clock' failed failed'
-  delays_one port port' clock clock' missed failed failed' gave took unsent failures is = record {
+  delays_one port port' clock clock' missed failed failed' gave took unsent failures once is = record {
     gave = gave;
     took = took;
     unsent = unsent;
+    missed = (missed, once, failures);
     failures = counts_more ports.counts_once (ports.faults port) (ports.faults port') failed missed failed' failures is;
     no_fall = failures.no_fall;
   }
@@ -199,6 +206,7 @@ module _ {P C : Type 0} (ports : Ports P) (clocks : Clocks C) where
       moments = d.took.moments;
     };
     unsent = sent ∙ d.unsent;
+    missed = subst (λ k. (missed : ℕ) × (missed ≤ n) × HaveFailed ports.counts_once missed (ports.faults p0) k) (sym faults) d.missed;
     failures = λ start f. subst (λ k. HaveFailed ports.counts_once f1 start k) (sym faults) (d.failures start f);
     no_fall = subst (λ k. HasNotFallen (ports.faults p0) k) (sym faults) d.no_fall;
   }
@@ -211,6 +219,11 @@ module _ {P C : Type 0} (ports : Ports P) (clocks : Clocks C) where
         (q.gave (λ rises. same (rises_second (ports.faults p0) (ports.faults p1) (ports.faults p2) p.no_fall rises)));
     took = took-append ports clocks (64 * (n + m)) (64 * n) (64 * m) 0 p0 p1 p2 c0 c1 c2 (omega arith) p.took q.took;
     unsent = q.unsent ∙ p.unsent;
+    missed = missed-append n m p0 p1 p2 p.missed q.missed;
     failures = λ start f. q.failures start (p.failures start f);
     no_fall = not_fallen_both (ports.faults p0) (ports.faults p1) (ports.faults p2) p.no_fall q.no_fall;
   }
+    where
+      missed-append : (n m : ℕ) (p0 p1 p2 : P) → MissedFew ports n p0 p1 → MissedFew ports m p1 p2 → MissedFew ports (n + m) p0 p2
+      missed-append n m p0 p1 p2 (a, few, f) (b, few', g) =
+          (a + b, omega (arith, few, few'), failed-append ports.counts_once a b (ports.faults p0) (ports.faults p1) (ports.faults p2) f g)

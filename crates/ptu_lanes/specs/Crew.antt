@@ -4,9 +4,9 @@ use Rattle.std.specs.Prelude.{◌≡◌, ℕ, ◌+◌, ◌*◌, List, [], Result
 use Rattle.ptu_outside.specs.declared.{clock.Clock.{Ghosts as Clocks}, opened.Opened.{Opened}, port.Port.{Ghosts as Ports}}
 use Rattle.ptu_outside.specs.Faults.{HasRisen}
 use Rattle.ptu_profile.specs.declared.grandmaster.GmConfig.{GmConfig}
-use Rattle.ptu_shared.specs.{Opening.{HaveFailed}, Seats.{Counts, no_verdicts}}
+use Rattle.ptu_shared.specs.{Opening.{HaveFailed}, Seats.{Counts}}
 use Rattle.ptu_config.specs.{declared.settings.GmSettings.{GmSettings}, Rounds.{all_rounds}}
-use Rattle.ptu_lanes.specs.{Changing.{change_moments}, Rounds.{Exchanged}, Served.{IsControlled}}
+use Rattle.ptu_lanes.specs.Served.{ExchangedAll, IsControlled}
 use Rattle.ptu_lanes.specs.{Stretches.{EventLaneDid, TookDelayReqs}, Waiting.{TurnedOwn}}
 use Rattle.ptu_lanes.specs.declared.lanes.{EventLane.{EventLane}, Lanes.{Lanes}, SendingLane.{SendingLane}, SendingLanes.{SendingLanes}}
 use Rattle.ptu_lanes.specs.declared.calls.{Call.{Call}, Called.{Called}, EventWork.{EventWork}, SendingCalls.{SendingCalls}, SendingWork.{SendingWork}}
@@ -70,7 +70,7 @@ pub record AreTurning {C : Type 0} (clocks : Clocks C) (lanes rounds : ℕ) (old
 pub record ServedSignaling {P C : Type 0} (ports : Ports P) (clocks : Clocks C) (settings : GmSettings) (config : GmConfig) (port port' : P) (clock clock' : C) (counted : Counts) (failures : ℕ) : Type 0 where
   pub control : ¬ HasRisen (ports.faults port) (ports.faults port') → IfSome (ports.waiting port') (λ left.
       IsControlled ports settings config port port' left counted.granted counted.refused)
-  pub exchanged : Exchanged ports clocks config (64 * all_rounds settings) (change_moments settings) port port' clock clock' no_verdicts counted
+  pub exchanged : ExchangedAll ports clocks settings config port port' clock clock' counted.granted counted.refused
   pub failed : HaveFailed ports.counts_once failures (ports.faults port) (ports.faults port')
 
 -- all lanes did all rounds, between these ports and clocks as they were opened, and as the lanes have them

@@ -1,21 +1,25 @@
 -- What a grandmaster has done that is served by lanes (IEEE 1588-2019 clause 16.1; rounds and the change of capacity are the
 -- project's own choice).
-use Rattle.std.specs.Prelude.{◌≡◌, ℕ, suc, zero, ◌+◌, ◌*◌, ◌≤◌, true, List, [], ◌++◌, map, take, drop, Option, Some, IfNone, IfSome}
+use Rattle.std.specs.Prelude.{◌≡◌, ℕ, suc, zero, ◌+◌, ◌-◌, ◌*◌, ◌≤◌, true, List, [], ◌++◌, length, map, take, drop, Option, Some, IfNone, IfSome}
 use Rattle.std.specs.List.{All}
 use Rattle.ptu_units.specs.declared.kind.Kind.{Kind}
 use Rattle.ptu_outside.specs.declared.{arrival.Arrival.{Arrival}, clock.Clock.{Ghosts as Clocks}}
 use Rattle.ptu_outside.specs.declared.{opened.Opened.{Opened}, port.Port.{Ghosts as Ports}}
-use Rattle.ptu_outside.specs.Faults.{HasRisen}
+use Rattle.ptu_outside.specs.{Departure.{Departure}, Faults.{HasRisen}}
 use Rattle.ptu_history.specs.declared.client.Client.{Client}
 use Rattle.ptu_profile.specs.declared.grandmaster.GmConfig.{GmConfig}
-use Rattle.ptu_shared.specs.{Opening.{HaveFailed, Seen, seen_of}, Seats.{no_verdicts}}
+use Rattle.ptu_shared.specs.Opening.{HaveFailed, Seen, seen_of}
 use Rattle.ptu_gm_messages.specs.Replies.{cancels_to}
 use Rattle.ptu_config.specs.{declared.settings.GmSettings.{GmSettings}, Rounds.{all_rounds}}
-use Rattle.ptu_rounds.specs.Ports.{HaveRisenBy, HaveRisenJust, ports_of}
-use Rattle.ptu_lanes.specs.Rounds.{Exchange, Exchanged, IsAnswered, asks_in, datagrams, grants_in, replies}
-use Rattle.ptu_lanes.specs.{Sending.{GoesOn, WasSent}, Waiting.{GaveFirst, Took, TurnedOwn}}
+use Rattle.ptu_rounds.specs.{Handed.{WasHanded}, Ports.{HaveRisenBy, HaveRisenJust, ports_of}}
+use Rattle.ptu_lanes.specs.Rounds.{Exchange, IsAnswered, asks_in, datagrams, grants_in, replies}
+use Rattle.ptu_lanes.specs.{Sending.{GoesOn, WasSent}, Waiting.{GaveFirst, MissedFew, PassedBy, Took, TurnedOwn}}
 use Rattle.ptu_lanes.specs.Changing.{change_moments, change_of, early_rounds, greatest_capacity}
 use Rattle.ptu_lanes.specs.declared.serving.Totals.{Totals}
+
+-- the replies of some exchanges, the CANCELs of these grants, numbered from 0, and the replies of the other exchanges
+abbrev pub replies_around : GmConfig → List Exchange → List (Client × Kind) → List Exchange → List Departure
+replies_around config early shed late = replies config early ++ cancels_to config 0 shed ++ replies config late
 
 -- What the lane did that takes Signaling, at a port that tells what waits. It took the first 64 datagrams for each round, or all
 -- where there are fewer. For each with an item it sent one reply, in order, with an answer for each item; between those of the
@@ -32,11 +36,38 @@ pub record IsControlled {P : Type 0} (ports : Ports P) (settings : GmSettings) (
   pub all_are : datagrams (early ++ late) ≡ take (64 * all_rounds settings) waited
   pub rest : left ≡ drop (64 * all_rounds settings) waited
   pub unchanged : IfNone (change_of settings) (shed ≡ [])
-  pub answered : All (IsAnswered config) (early ++ late)
-  pub told : WasSent ports port port' (replies config early ++ cancels_to config 0 shed ++ replies config late)
-  pub goes_on : GoesOn ports port port' (replies config early ++ cancels_to config 0 shed ++ replies config late)
+  pub answered : All (IsAnswered (greatest_capacity settings) config) (early ++ late)
+  pub told : WasSent ports port port' (replies_around config early shed late)
+  pub goes_on : GoesOn ports port port' (replies_around config early shed late)
   pub granted_are : granted ≡ grants_in (early ++ late)
   pub counted : granted + refused ≡ asks_in config (datagrams (early ++ late))
+
+-- Whatever became of that port's count of faults, and whether or not it tells what waits: the lane took at most 64 datagrams for each
+-- round, the first that waited where the port still tells that, each at a new moment of its clock, and one moment more for a change
+-- of capacity. Each item was decided for the client that its datagram came from. The port was sent, in order, so many of the replies
+-- and of the CANCELs of a change, which stand between the replies of the rounds before it and the others; all where its count did not
+-- rise. Each other one failed to be sent, and so did one receive a round at most, which ends it; each is a fault, and there are no
+-- other faults. So many asks were granted, and so many within the profile did not fit.
+pub record ExchangedAll {P C : Type 0} (ports : Ports P) (clocks : Clocks C) (settings : GmSettings) (config : GmConfig) (port port' : P) (clock clock' : C) (granted refused : ℕ) : Type 0 where
+  pub early : List Exchange
+  pub shed : List (Client × Kind)
+  pub late : List Exchange
+  pub early_few : length early ≤ 64 * early_rounds settings
+  pub late_few : length late ≤ 64 * (all_rounds settings - early_rounds settings)
+  pub few : length (early ++ late) ≤ 64 * all_rounds settings
+  pub unchanged : IfNone (change_of settings) (shed ≡ [])
+  pub given : IfSome (ports.waiting port') (λ later. ports.waiting port ≡ Some (datagrams (early ++ late) ++ later))
+  pub answered : All (IsAnswered (greatest_capacity settings) config) (early ++ late)
+  pub granted_are : granted ≡ grants_in (early ++ late)
+  pub counted : granted + refused ≡ asks_in config (datagrams (early ++ late))
+  pub moments : PassedBy (length (early ++ late) + change_moments settings) (clocks.moments clock) (clocks.moments clock')
+  pub sent : ℕ
+  pub handed : WasHanded ports port port' (replies_around config early shed late) sent
+  pub missed : ℕ
+  pub once : missed ≤ all_rounds settings
+  pub failed : ℕ
+  pub each : sent + failed ≡ length (replies_around config early shed late) + missed
+  pub failures : HaveFailed ports.counts_once failed (ports.faults port) (ports.faults port')
 
 -- what waits at the port of the table of each index, which only sends
 abbrev pub waits_of : {P C : Type 0} → Ports P → Opened P C → ℕ → Option (List Arrival)
@@ -89,13 +120,13 @@ pub record ServesByLanes {P C : Type 0} (ports : Ports P) (clocks : Clocks C) (s
   -- where the count of the port of the general channel did not rise, and it tells what waits
   pub control : ¬ HasRisen (ports.faults opened.p4) (ports.faults closed.p4) → IfSome (ports.waiting closed.p4) (λ left.
       IsControlled ports settings config opened.p4 closed.p4 left numbers.granted numbers.refused)
-  -- whatever that port did: what was taken there, which was answered so, and counted
-  pub exchanged : Exchanged ports clocks config (64 * all_rounds settings) (change_moments settings) opened.p4 closed.p4 opened.c0 closed.c0
-      no_verdicts (record { granted = numbers.granted; refused = numbers.refused })
+  -- whatever that port did: what was taken there, which was answered so, and counted, and what was sent
+  pub exchanged : ExchangedAll ports clocks settings config opened.p4 closed.p4 opened.c0 closed.c0 numbers.granted numbers.refused
   -- likewise the port of the event channel, which was sent nothing, and goes on to tell that
   pub event : ¬ HasRisen (ports.faults opened.p5) (ports.faults closed.p5) →
       GaveFirst (64 * all_rounds settings) (ports.waiting opened.p5) (ports.waiting closed.p5)
   pub took : Took ports clocks (64 * all_rounds settings) 0 opened.p5 closed.p5 opened.c1 closed.c1
+  pub missed : MissedFew ports (all_rounds settings) opened.p5 closed.p5
   pub unsent : ports.sent closed.p5 ≡ ports.sent opened.p5
   -- each lane that turns tables took a moment of its clock for each of its tables and each round
   pub turned0 : TurnedOwn clocks settings.senders 0 (all_rounds settings) opened.c2 closed.c2

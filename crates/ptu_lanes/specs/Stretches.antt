@@ -6,20 +6,20 @@ use Rattle.ptu_outside.specs.{declared.port.Port.{Ghosts as Ports}, Faults.{HasN
 use Rattle.ptu_profile.specs.declared.grandmaster.GmConfig.{GmConfig}
 use Rattle.ptu_shared.specs.{Opening.{HaveFailed}, Seats.{Counts}}
 use Rattle.ptu_lanes.specs.Rounds.{Exchange, Exchanged, IsAnswered, asks_in, datagrams, grants_in, replies}
-use Rattle.ptu_lanes.specs.{Sending.{GoesOn, WasSent}, Waiting.{GaveFirst, Took, TurnedOwn}}
+use Rattle.ptu_lanes.specs.{Sending.{GoesOn, WasSent}, Waiting.{GaveFirst, MissedFew, Took, TurnedOwn}}
 use Rattle.ptu_lanes.specs.declared.lanes.{ControlLane.{ControlLane}, EventLane.{EventLane}}
 use Rattle.ptu_lanes.specs.declared.lanes.SendingLanes.{SendingLanes}
 
 -- so many rounds at a port that tells what waits: the lane took the first 64 datagrams for each round, or all where there are
 -- fewer, and sent one reply for each that has an item, in order, and nothing else; the port goes on to tell, unless a reply
 -- was such that it may cease to; and the lane's seat has counted the answers
-pub record AreRounds {P : Type 0} (ports : Ports P) (config : GmConfig) (rounds : ℕ) (port port' : P) (left : List Arrival) (old new : Counts) : Type 0 where
+pub record AreRounds {P : Type 0} (ports : Ports P) (greatest : ℕ) (config : GmConfig) (rounds : ℕ) (port port' : P) (left : List Arrival) (old new : Counts) : Type 0 where
   pub waited : List Arrival
   pub all : ports.waiting port ≡ Some waited
   pub exchanges : List Exchange
   pub first : datagrams exchanges ≡ take (64 * rounds) waited
   pub rest : left ≡ drop (64 * rounds) waited
-  pub answered : All (IsAnswered config) exchanges
+  pub answered : All (IsAnswered greatest config) exchanges
   pub told : WasSent ports port port' (replies config exchanges)
   pub goes_on : GoesOn ports port port' (replies config exchanges)
   pub granted : new.granted ≡ old.granted + grants_in exchanges
@@ -31,18 +31,20 @@ CountsFailures once faults faults' failed failed' = (start : ℕ) → HaveFailed
 
 -- what the lane that takes Signaling did in so many rounds: its port, its clock, what its seat has counted, and how many calls of the
 -- port failed, before and after
-pub record TookSignaling {P C : Type 0} (ports : Ports P) (clocks : Clocks C) (config : GmConfig) (rounds : ℕ) (port port' : P) (clock clock' : C) (old new : Counts) (failed failed' : ℕ) : Type 0 where
+pub record TookSignaling {P C : Type 0} (ports : Ports P) (clocks : Clocks C) (greatest : ℕ) (config : GmConfig) (rounds : ℕ) (port port' : P) (clock clock' : C) (old new : Counts) (failed failed' : ℕ) : Type 0 where
   pub did : ¬ HasRisen (ports.faults port) (ports.faults port') → IfSome (ports.waiting port') (λ left.
-      AreRounds ports config rounds port port' left old new)
-  pub exchanged : Exchanged ports clocks config (64 * rounds) 0 port port' clock clock' old new
+      AreRounds ports greatest config rounds port port' left old new)
+  pub sent : ℕ
+  pub more : ℕ
+  pub exchanged : Exchanged ports clocks greatest config rounds sent more port port' clock clock' old new
   pub most : new.granted + new.refused ≤ old.granted + old.refused + 2048 * rounds
   pub failures : CountsFailures ports.counts_once (ports.faults port) (ports.faults port') failed failed'
   pub no_fall : HasNotFallen (ports.faults port) (ports.faults port')
 
 -- the same of the lane, before and after
-abbrev pub ControlLaneDid : {P C G R : Type 0} → Ports P → Clocks C → GmConfig → ℕ → ControlLane P C G R → ControlLane P C G R → Type 0
-ControlLaneDid ports clocks config rounds old new =
-    TookSignaling ports clocks config rounds old.port new.port old.clock new.clock old.seat new.seat old.tally.failed new.tally.failed
+abbrev pub ControlLaneDid : {P C G R : Type 0} → Ports P → Clocks C → ℕ → GmConfig → ℕ → ControlLane P C G R → ControlLane P C G R → Type 0
+ControlLaneDid ports clocks greatest config rounds old new =
+    TookSignaling ports clocks greatest config rounds old.port new.port old.clock new.clock old.seat new.seat old.tally.failed new.tally.failed
 
 -- what the lane that takes Delay_Reqs did in so many rounds: its port, its clock and how many receives failed, before and after; the
 -- port was sent nothing, and goes on to tell that
@@ -50,6 +52,7 @@ pub record TookDelayReqs {P C : Type 0} (ports : Ports P) (clocks : Clocks C) (r
   pub gave : ¬ HasRisen (ports.faults port) (ports.faults port') → GaveFirst (64 * rounds) (ports.waiting port) (ports.waiting port')
   pub took : Took ports clocks (64 * rounds) 0 port port' clock clock'
   pub unsent : ports.sent port' ≡ ports.sent port
+  pub missed : MissedFew ports rounds port port'
   pub failures : CountsFailures ports.counts_once (ports.faults port) (ports.faults port') failed failed'
   pub no_fall : HasNotFallen (ports.faults port) (ports.faults port')
 

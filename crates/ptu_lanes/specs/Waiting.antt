@@ -22,6 +22,10 @@ pub record Took {P C : Type 0} (ports : Ports P) (clocks : Clocks C) (most more 
   pub given : IfSome (ports.waiting port') (λ later. ports.waiting port ≡ Some (datagrams ++ later))
   pub moments : PassedBy (length datagrams + more) (clocks.moments clock) (clocks.moments clock')
 
+-- of the receives of a port in so many rounds at most one a round failed, since a failed receive ends its round; each is a fault
+abbrev pub MissedFew : {P : Type 0} → Ports P → ℕ → P → P → Type 0
+MissedFew ports rounds port port' = (missed : ℕ) × (missed ≤ rounds) × HaveFailed ports.counts_once missed (ports.faults port) (ports.faults port')
+
 -- just so many datagrams were taken so, nothing was sent at the port, and so many receives failed
 pub record HasTaken {P C : Type 0} (ports : Ports P) (clocks : Clocks C) (count missed : ℕ) (port port' : P) (clock clock' : C) : Type 0 where
   pub taken : List Arrival

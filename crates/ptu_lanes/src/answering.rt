@@ -1,11 +1,11 @@
 //! Answers to the datagrams that a lane takes.
 
-ghost use Rattle.std.specs.Prelude.{◌≡◌, ◌+◌, ◌^◌, ◌<◌, ◌≤◌, List, [], ◌∷◌, length, map, IfOk, OnErr};
+ghost use Rattle.std.specs.{Prelude.{◌≡◌, ◌+◌, ◌^◌, ◌<◌, ◌≤◌, List, [], ◌∷◌, length, map, IfOk, OnErr}, List.{All}};
 ghost use Rattle.ptu_outside.specs.HandsOver.{HandsOver};
 ghost use Rattle.ptu_units.specs.Kind.{kind_of};
 ghost use Rattle.ptu_profile.specs.Grandmaster.{IsWithinLimits};
-ghost use Rattle.ptu_tlvs.specs.declared.tlv.Tlv.{Tlv};
-ghost use Rattle.ptu_gm_messages.specs.{Deciding.{answer_to}, Items.{AreAnswerable}};
+ghost use Rattle.ptu_gm_messages.specs.{Deciding.{answer_to, client_of}, Items.{AreAnswerable}};
+ghost use Rattle.ptu_grandmaster.specs.declared.outcome.Outcome.{Outcome};
 ghost use Rattle.ptu_grandmaster.specs.Outcomes.{answers_seen, decision_seen, item_seen};
 ghost use Rattle.ptu_lanes.specs.Answers.{CancelFits, HasAnswered, WasDecided};
 ghost use Rattle.ptu_lanes.specs.Rounds.{HasReplied, reply_if_any};
@@ -92,6 +92,7 @@ fn answer_items<P: Port + Send, L: Rates, G: Ledger, R: Ledger, W: Wait>(
     requires few { length items.now ≤ 32 }
     requires counts { (seat.old.granted + 32 ≤ 2 ^ 56) × (seat.old.refused + 32 ≤ 2 ^ 56) }
     ensures items { IfOk result (λ os. map item_seen os ≡ items.now) }
+    ensures decided { IfOk result (All (WasDecided L.most service.now.config.now t client.now)) }
     ensures answered { IfOk result (λ os.
         HasAnswered service.now.config.now items.now (answers_seen os) seat.old seat.new) }
     ensures no_less { (seat.old.granted ≤ seat.new.granted)
@@ -139,10 +140,14 @@ fn answer_signaling<P: Port + Send, L: Rates, G: Ledger, R: Ledger, W: Wait>(
     requires limits { IsWithinLimits service.now.config.now }
     requires answerable { AreAnswerable items.now }
     requires counts { (seat.old.granted + 32 ≤ 2 ^ 56) × (seat.old.refused + 32 ≤ 2 ^ 56) }
-    ensures answered { IfOk result (λ c. (answers : List Tlv)
-        × HasAnswered service.now.config.now items.now answers seat.old seat.new
+    ensures answered { IfOk result (λ c. (outcomes : List Outcome)
+        × (map item_seen outcomes ≡ items.now)
+        × All (WasDecided L.most service.now.config.now origin.at
+        (client_of origin.from header.now)) outcomes
+        × HasAnswered service.now.config.now items.now (answers_seen outcomes) seat.old seat.new
         × HandsOver P.Port port.old port.new
-        (reply_if_any service.now.config.now origin.from header.now answers) c.sent c.failed) }
+        (reply_if_any service.now.config.now origin.from header.now (answers_seen outcomes))
+        c.sent c.failed) }
     ensures asks { IfOk result (λ c. seat.new.granted + seat.new.refused
         ≡ seat.old.granted + seat.old.refused + c.asks) }
     ensures unsent { OnErr result (port.new ≡ port.old) }
@@ -171,9 +176,9 @@ pub(crate) fn answer_datagram<P: Port + Send, L: Rates, G: Ledger, R: Ledger, W:
     requires ledger { L.parts ≡ 4 }
     requires limits { IsWithinLimits service.now.config.now }
     requires counts { (seat.old.granted + 32 ≤ 2 ^ 56) × (seat.old.refused + 32 ≤ 2 ^ 56) }
-    ensures replied { IfOk result (λ c. (answers : List Tlv)
-        × HasReplied P.Port service.now.config.now
-        (record { datagram = record { ip = origin.from; bytes = bytes.now }; answers = answers })
+    ensures replied { IfOk result (λ c. (outcomes : List Outcome)
+        × HasReplied P.Port L.most service.now.config.now
+        (record { datagram = record { ip = origin.from; bytes = bytes.now }; outcomes = outcomes })
         port.old port.new seat.old seat.new c.asks c.sent c.failed) }
     ensures unsent { OnErr result (port.new ≡ port.old) }
     ensures no_less { (seat.old.granted ≤ seat.new.granted)

@@ -95,7 +95,7 @@ impl<P: Port + Send, L: Rates, G: Ledger, R: Ledger, W: Wait> Service<'_, P, L, 
             × (settings.now.change_round ≤ all_rounds settings.now) }
         requires limits { IsWithinLimits self.now.config.now }
         requires ledger { L.parts ≡ 4 }
-        requires most { capacity ≤ L.most }
+        requires most { (capacity ≤ L.most) × (L.most ≡ greatest_capacity settings.now) }
         requires seat { lane.seat ≡ no_verdicts }
         requires tally { lane.tally.failed ≡ 0 }
         ensures { IfOk result (λ new. ServedSignaling P.Port C.Clock settings.now
@@ -124,7 +124,7 @@ impl<P: Port + Send, L: Rates, G: Ledger, R: Ledger, W: Wait> Service<'_, P, L, 
         requires range { IsGmInRange settings.now }
         requires limits { IsWithinLimits self.now.config.now }
         requires ledger { L.parts ≡ 4 }
-        requires most { greatest_capacity settings.now ≤ L.most }
+        requires most { L.most ≡ greatest_capacity settings.now }
         requires seat { lane.seat ≡ no_verdicts }
         requires tally { lane.tally.failed ≡ 0 }
         ensures { IfOk result (λ new. ServedSignaling P.Port C.Clock settings.now

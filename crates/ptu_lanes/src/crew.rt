@@ -119,7 +119,7 @@ where
         requires range { IsGmInRange settings.now }
         requires limits { IsWithinLimits self.now.config.now }
         requires ledger { L.parts ≡ 4 }
-        requires most { greatest_capacity settings.now ≤ L.most }
+        requires most { L.most ≡ greatest_capacity settings.now }
         requires seat { lane.seat ≡ no_verdicts }
         requires tally { lane.tally.failed ≡ 0 }
         ensures { CameTo (λ new. ServedSignaling P.Port C.Clock settings.now self.now.config.now

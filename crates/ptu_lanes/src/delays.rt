@@ -1,6 +1,6 @@
 //! Rounds of the lane that takes Delay_Reqs.
 
-ghost use Rattle.std.specs.Prelude.{◌≡◌, ◌+◌, ◌≤◌, [], false, if◌then◌else◌, IfOk, IfSome, OnErr};
+ghost use Rattle.std.specs.Prelude.{◌≡◌, ◌+◌, ◌≤◌, [], true, false, if◌then◌else◌, IfOk, IfSome, OnErr};
 ghost use Rattle.ptu_outside.specs.Faults.{HasNotFallen, HasRisen};
 ghost use Rattle.ptu_profile.specs.Grandmaster.{IsWithinLimits};
 ghost use Rattle.ptu_shared.specs.Opening.{HaveFailed};
@@ -83,6 +83,7 @@ fn take_one<P: Port + Send, C: Clock, L: Rates, G: Ledger, R: Ledger, W: Wait>(
 ) -> Result<(Delays, bool), OutOfMemory>
     requires { IsWithinLimits service.now.config.now }
     ensures most { IfOk result (λ r. r.0.sent + r.0.failed + r.0.missed ≤ 1) }
+    ensures once { IfOk result (λ r. r.1 ≡ true → r.0.missed ≡ 0) }
     ensures taken { IfOk result (λ r. HasTaken P.Port C.Clock (if r.1 then 1 else 0) r.0.missed
         port.old port.new clock.old clock.new) }
     ensures end { IfOk result (λ r. r.1 ≡ false
@@ -122,6 +123,8 @@ pub fn delay_round<P: Port + Send, C: Clock, L: Rates, G: Ledger, R: Ledger>(
 ) -> Result<Delays, OutOfMemory>
     requires { IsWithinLimits config.now }
     ensures most { IfOk result (λ s. s.sent + s.failed + s.missed ≤ 64) }
+    // A receive that failed was the last.
+    ensures once { IfOk result (λ s. s.missed ≤ 1) }
     // Where the port's count did not rise, these were the first that waited there.
     ensures round { IfOk result (λ s. ¬ HasRisen (P.faults port.old) (P.faults port.new)
         → GaveFirst 64 (P.waiting port.old) (P.waiting port.new)) }

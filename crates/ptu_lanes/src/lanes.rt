@@ -132,7 +132,7 @@ impl<P: Port + Send, L: Rates, G: Ledger, R: Ledger, W: Wait> Service<'_, P, L, 
         requires ledger { L.parts ≡ 4 }
         requires limits { IsWithinLimits self.now.config.now }
         requires counts { (lane.seat.granted ≤ 2 ^ 55) × (lane.seat.refused ≤ 2 ^ 55) }
-        ensures { IfOk result (ControlLaneDid P.Port C.Clock self.now.config.now 1 lane) }
+        ensures { IfOk result (ControlLaneDid P.Port C.Clock L.most self.now.config.now 1 lane) }
     {
         let control = control_round(
             self.rt,
@@ -216,7 +216,7 @@ impl<P: Port + Send, L: Rates, G: Ledger, R: Ledger, W: Wait> Service<'_, P, L, 
         requires count { count < 2 ^ 42 }
         requires counts { lane.seat.granted + lane.seat.refused ≤ 2 ^ 54 }
         ensures { IfOk result
-            (ControlLaneDid P.Port C.Clock self.now.config.now count lane) }
+            (ControlLaneDid P.Port C.Clock L.most self.now.config.now count lane) }
     {
         let mut lane = lane;
         for i in 0..count {

@@ -1,6 +1,6 @@
 //! Rounds of the lane that takes Signaling.
 
-ghost use Rattle.std.specs.Prelude.{◌≡◌, ◌+◌, ◌^◌, ◌≤◌, List, [], length, true, false, if◌then◌else◌, IfOk, IfSome, OnErr};
+ghost use Rattle.std.specs.Prelude.{◌≡◌, ◌+◌, ◌^◌, ◌≤◌, ℕ, List, [], length, true, false, if◌then◌else◌, IfOk, IfSome, OnErr};
 ghost use Rattle.ptu_outside.specs.Faults.{HasNotFallen, HasRisen, HasRisenBy, HasRisenJust};
 ghost use Rattle.ptu_profile.specs.Grandmaster.{IsWithinLimits};
 ghost use Rattle.ptu_lanes.specs.Rounds.{BrokeOff, Exchange, Exchanged, HasServed, IsRound, IsUnanswered};
@@ -52,8 +52,9 @@ fn take_one<P: Port + Send, C: Clock, L: Rates, G: Ledger, R: Ledger, W: Wait>(
     requires counts { (seat.old.granted + 32 ≤ 2 ^ 56) × (seat.old.refused + 32 ≤ 2 ^ 56) }
     ensures served { IfOk result (λ r. (exchanges : List Exchange)
         × (length exchanges ≡ (if r.1 then 1 else 0))
-        × HasServed P.Port service.now.config.now exchanges port.old port.new
-        seat.old seat.new r.0.asks r.0.sent r.0.failed) }
+        × (missed : ℕ) × (missed ≡ (if r.1 then 0 else r.0.failed))
+        × HasServed P.Port L.most service.now.config.now exchanges port.old port.new
+        seat.old seat.new r.0.asks r.0.sent r.0.failed missed) }
     ensures failed { IfOk result (λ r. r.0.failed ≤ 1) }
     ensures end { IfOk result (λ r. r.1 ≡ false
         → ¬ HasRisen (P.faults port.old) (P.faults port.new)
@@ -107,12 +108,13 @@ pub fn control_round<P: Port + Send, C: Clock, L: Rates, G: Ledger, R: Ledger>(
     // Where the port tells what waits, and its count did not rise, these are the datagrams that it
     // took, what answered them, and what was counted.
     ensures round { IfOk result (λ c. ¬ HasRisen (P.faults port.old) (P.faults port.new) →
-        IfSome (P.waiting port.new) (λ left. IsRound P.Port config.now port.old port.new left
+        IfSome (P.waiting port.new) (λ left. IsRound P.Port L.most config.now port.old port.new left
         seat.old.granted seat.new.granted c.asks c.sent)) }
-    // Whatever its count did, and whether or not it tells: what was taken, answered and counted.
-    ensures exchanged { IfOk result (λ c. Exchanged P.Port C.Clock config.now 64 0
-        port.old port.new clock.old clock.new seat.old seat.new) }
-    ensures broke_off { OnErr result (BrokeOff P.Port C.Clock config.now
+    // Whatever its count did, and whether or not it tells: what was taken, answered and counted,
+    // what was sent, and that a failed receive was the last.
+    ensures exchanged { IfOk result (λ c. Exchanged P.Port C.Clock L.most config.now 1
+        c.sent c.failed port.old port.new clock.old clock.new seat.old seat.new) }
+    ensures broke_off { OnErr result (BrokeOff P.Port C.Clock L.most config.now
         port.old port.new clock.old clock.new seat.old seat.new) }
     // Each call that failed is a fault, and there are no other faults.
     ensures failed { IfOk result (λ c.

@@ -5,7 +5,8 @@
 //!
 //! - A lane turns only the first of its tables, or only tables 0 and 1; two lanes turn the same
 //!   ones; no table turns where 1, 2, 3 or 4 lanes do. (The lines, and the Syncs by their seconds.)
-//! - A CANCEL is acknowledged and ends nothing. (The same REQUEST before and after it.)
+//! - A CANCEL is acknowledged and ends nothing. (The same REQUEST before and after it.) It ends
+//!   grants of Syncs alone. (`cancels_of_each_kind_make_room`.)
 //! - A grant is kept under another client or address than the datagram's: the octets of the address
 //!   backwards, a neighbour's address, another clock identity or port number. (The addresses of the
 //!   Syncs, their tables, and the Delay_Resp.)
@@ -700,4 +701,61 @@ fn a_wide_capacity_is_filled(rt: HostRuntime) -> Result<(), Fail> {
     assert_fills(&rt, alloc, &WIDE, line)?;
     let line = "rounds 1 sent 33 failed 0 granted 33 refused 0 held 67584\n";
     assert_fills(&rt, alloc, &WIDER, line)
+}
+
+// There is room for two grants at the least rate. One client has them, of Announces and of
+// Delay_Resps. Each of its CANCELs makes room for one client more, which was denied before it.
+const CANCELLING: [Note; 7] = [
+    (ZERO, 0, "00040006b0040000012c0004000690040000012c"),
+    (ONE, 0, "0004000600040000012c"),
+    (ZERO, 1, "00060002b000"),
+    (ONE, 1, "0004000600040000012c"),
+    (TWO, 0, "0004000600040000012c"),
+    (ZERO, 2, "000600029000"),
+    (TWO, 1, "0004000600040000012c"),
+];
+
+const CANCELLED: [Note; 7] = [
+    (ZERO, 0, "00050008b0040000012c00010005000890040000012c0001"),
+    (ONE, 0, "000500080004000000000000"),
+    (ZERO, 1, "00070002b000"),
+    (ONE, 1, "0005000800040000012c0001"),
+    (TWO, 0, "000500080004000000000000"),
+    (ZERO, 2, "000700029000"),
+    (TWO, 1, "0005000800040000012c0001"),
+];
+
+const NARROW: GmSettings = GmSettings {
+    rounds: 1,
+    capacity: 2,
+    ..SETTINGS
+};
+
+fn assert_cancelled(
+    rt: &(impl Abort + Threads + Wait + Sync),
+    alloc: Global,
+    host: &mut OnceHost<StagedPort>,
+) -> Result<(), Fail> {
+    let line = "rounds 1 sent 7 failed 0 granted 4 refused 2 held 2\n";
+    assert_said(rt, alloc, &NARROW, host, line);
+    let mut expected = Vec::new(alloc);
+    add_notes(alloc, &mut expected, &CANCELLED)?;
+    let back = host.back.as_ref();
+    let back = back.expect(rt, "the ports are given back");
+    assert_sent(rt, &back.p4, 4, &expected);
+    Ok(())
+}
+
+// Refuses a lane whose CANCEL ends grants of Syncs alone, whatever kind it names.
+#[test]
+fn cancels_of_each_kind_make_room(rt: HostRuntime) -> Result<(), Fail> {
+    let alloc = rt.alloc();
+    let mut gives = Vec::new(alloc);
+    for note in CANCELLING {
+        gives.push(asking(alloc, note)?)?;
+    }
+    let mut host = still_host(alloc, gives);
+    let cancelled = assert_cancelled(&rt, alloc, &mut host);
+    drop(host);
+    cancelled
 }

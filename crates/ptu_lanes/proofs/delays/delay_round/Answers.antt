@@ -1,17 +1,18 @@
-use Rattle.std.proofs.Common.{◌≡◌, ◌+◌, inl, inr, arith}
+use Rattle.std.proofs.Common.{◌≡◌, ◌+◌, refl, inl, inr, arith}
 use Rattle.ptu_outside.proofs.Told.{HasRisenBy-before}
 use Rattle.ptu_lanes.specs.Waiting.{HasTaken}
 use Rattle.ptu_lanes.proofs.Taking.{gave_first, none_taken, taken_more, took_up_to}
 use Rattle.ptu_lanes.proofs.delays.delay_round.Goals as goal
 
 pub loop-i-init : goal.loop-i-init
-loop-i-init g c = record { few = omega arith; taken = none_taken g.P.Port g.C.Clock c.args.port.now c.args.clock.now }
+loop-i-init g c = record { none = refl; few = omega arith; taken = none_taken g.P.Port g.C.Clock c.args.port.now c.args.clock.now }
 
 pub loop-i-preserved : goal.loop-i-preserved
 loop-i-preserved g c =
     let inv = c.loop-i.invariant in
     let e = c.in_ok-one.ensures in
     record {
+      none = omega (arith, inv.none, e.once c.if-not-goes_on.false);
       few = omega (arith, inv.few, e.most);
       taken = taken_more g.P.Port g.C.Clock c.loop-i._i 1 _ _ _ _ _ _ _ _ inv.taken (rw c.if-not-goes_on.false at e.taken);
     }
@@ -51,3 +52,9 @@ returns-then-not-goes_on-clause-failed g c =
     let all : HasTaken g.P.Port g.C.Clock (c.loop-i._i + 0) _ _ _ _ _ =
     taken_more g.P.Port g.C.Clock c.loop-i._i 0 _ _ _ _ _ _ _ _ c.loop-i.invariant.taken (rw c.if-not-goes_on.true at c.in_ok-one.ensures.taken) in
     all.failures
+
+pub returns-after-loop-i-clause-once : goal.returns-after-loop-i-clause-once
+returns-after-loop-i-clause-once g c = omega (arith, c.loop-i.invariant.none)
+
+pub returns-then-not-goes_on-clause-once : goal.returns-then-not-goes_on-clause-once
+returns-then-not-goes_on-clause-once g c = omega (arith, c.loop-i.invariant.none, c.in_ok-one.ensures.most)

@@ -14,11 +14,13 @@ returns-in_ok-answered-in-Ok-Some-clause-served g c =
     let received = c.in-Ok-Some.ensures in
     let e : Exchange = record {
       datagram = record { ip = c.in-Ok-Some.from; bytes = take c.in-Ok-Some.size c.receive.new.buf };
-      answers = replied.0;
+      outcomes = replied.0;
     } in (
       e ∷ [],
       refl,
-      served_received g.P.Port c.args.service.now.config.now e _ _ _ _ _ _ _ _
+      0,
+      refl,
+      served_received g.P.Port g.L.Rates.most c.args.service.now.config.now e _ _ _ _ _ _ _ _
           (rw c.in-Ok-Some.field-0-is at received.first) (rw c.in-Ok-Some.field-0-is at received.rest) received.sent received.quiet replied.1,
     )
 
@@ -27,7 +29,9 @@ returns-in-Ok-None-clause-served g c =
     let received = c.in-Ok-None.ensures in (
       [],
       refl,
-      served_none g.P.Port c.args.service.now.config.now _ _ 0 c.args.seat.now (rw c.in-Ok-None.field-0-is at received.left) received.sent
+      0,
+      refl,
+      served_none g.P.Port g.L.Rates.most c.args.service.now.config.now _ _ 0 c.args.seat.now (rw c.in-Ok-None.field-0-is at received.left) received.sent
           (inl (omega (arith, received.quiet))) (λ once. inl (omega (arith, received.quiet))) (λ none. received.quiet) received.no_fall,
     )
 
@@ -36,7 +40,9 @@ returns-in-Err-clause-served g c =
     let received = c.in-Err.ensures in (
       [],
       refl,
-      served_none g.P.Port c.args.service.now.config.now _ _ 1 c.args.seat.now received.kept received.sent
+      1,
+      refl,
+      served_none g.P.Port g.L.Rates.most c.args.service.now.config.now _ _ 1 c.args.seat.now received.kept received.sent
           received.risen (λ once. just_once _ _ (received.once once)) (λ none. absurd (omega (arith, none))) received.no_fall,
     )
 

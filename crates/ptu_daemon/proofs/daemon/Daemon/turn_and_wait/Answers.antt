@@ -9,6 +9,6 @@ returns-clause-ran g c =
     let p = g.P.Port in
     let k = g.C.Clock in
     let turned = c.turn_tables-turned in
-    ran_as p k c.args.self.now c.wait.new.self _ _ _ _ _ _ _ _ _ _ (append-nil turns) refl refl (omega arith) (omega arith)
-    (ran_more p k c.args.self.now turned.new.self c.wait.new.self turns [] [] [] [] [] turned.result.sent turned.result.failed 0 0
+    ran_as p k c.args.self.now c.wait.new.self _ _ _ _ _ _ _ _ _ _ _ _ (append-nil turns) refl refl (omega arith) (omega arith) (omega arith)
+    (ran_more p k c.args.self.now turned.new.self c.wait.new.self turns [] [] [] [] [] turned.result.sent turned.result.failed 0 0 0 0
     turned.ensures.ran c.wait.ensures)

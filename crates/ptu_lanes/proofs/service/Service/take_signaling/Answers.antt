@@ -4,5 +4,4 @@ use Rattle.ptu_lanes.proofs.service.Service.take_signaling.Goals as goal
 pub returns : goal.returns
 returns g c =
     let did = c.in_ok-control.ensures in
-    signaling_one g.P.Port g.C.Clock c.args.self.now.config.now _ _ _ _ _ _ _ _ _ _ _ did.counts did.most.0 did.round did.exchanged
-    (record { risen = did.failed; just = did.just; quiet = did.quiet; no_fall = did.no_fall }) c.plus-lane.ensures
+    signaling_one g.P.Port g.C.Clock g.L.Rates.most c.args.self.now.config.now _ _ _ _ _ _ _ _ _ _ _ did.counts did.most.0 did.round did.exchanged c.plus-lane.ensures
