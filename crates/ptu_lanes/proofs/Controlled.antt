@@ -10,7 +10,7 @@ use Rattle.ptu_outside.specs.{Faults.{HasRisen, HasNotFallen}, HandsOver.{HandsO
 use Rattle.ptu_outside.proofs.HandsOver.{goes_on_both, none_failed, not_fallen_both, rises_first, rises_second, told_both}
 use Rattle.ptu_history.specs.declared.client.Client.{Client}
 use Rattle.ptu_profile.specs.declared.grandmaster.GmConfig.{GmConfig}
-use Rattle.ptu_shared.specs.{Opening.{HaveFailed, Seen, seen_of}, Seats.{Counts, no_verdicts}}
+use Rattle.ptu_shared.specs.{Histories.{SendsLawfully}, Opening.{HaveFailed, Seen, seen_of}, Seats.{Counts, no_verdicts}}
 use Rattle.ptu_shared.proofs.Failing.{failed-append, failed_hands, failed_none}
 use Rattle.ptu_gm_messages.specs.Replies.{cancels_to}
 use Rattle.ptu_config.specs.{declared.settings.GmSettings.{GmSettings}, Rounds.{all_rounds}}
@@ -21,7 +21,7 @@ use Rattle.ptu_lanes.specs.Crew.{LanesServed, ServedSignaling}
 use Rattle.ptu_lanes.specs.Rounds.{Exchange, Exchanged, IsAnswered, answers_of, asks_in, datagrams, grants_in, items_of, replies}
 use Rattle.ptu_lanes.specs.{Sending.{GoesOn, WasSent}, Waiting.{PassedBy}}
 use Rattle.ptu_lanes.specs.Changing.{change_moments, change_of, early_rounds, greatest_capacity, moments_to, rounds_before}
-use Rattle.ptu_lanes.specs.Served.{ExchangedAll, IsControlled, ServesByLanes, TablesAreBack, numbers_of, replies_around, waits_of}
+use Rattle.ptu_lanes.specs.Served.{ExchangedAll, IsControlled, ServesByLanes, TablesAreBack, TablesSentLawfully, numbers_of, replies_around, seen_at, waits_of}
 use Rattle.ptu_lanes.specs.Stretches.{AreRounds, CountsFailures, TookSignaling}
 use Rattle.ptu_lanes.proofs.{Exchanges.{exchanges_more}, Handing.{handed-append, handed_of}, Moments.{passed-append, passed_as}}
 use Rattle.ptu_lanes.proofs.Stretching.{counts_more, some_more, told_is}
@@ -318,6 +318,16 @@ still_idle ports opened closed seen p q (suc zero) = q.1 ∙ sym (ap (λ (s : Se
 still_idle ports opened closed seen p q (suc (suc zero)) = q.2 ∙ sym (ap (λ (s : Seen). s.waiting) p.2)
 still_idle ports opened closed seen p q (suc (suc (suc n))) = q.3 ∙ sym (ap (λ (s : Seen). s.waiting) p.3)
 
+sent_since : {P C : Type 0} (ports : Ports P) (config : GmConfig) (opened closed : Opened P C) (seen : ℕ → Seen) →
+    (seen_of ports opened.p0 ≡ seen 0) × (seen_of ports opened.p1 ≡ seen 1) × (seen_of ports opened.p2 ≡ seen 2) × (seen_of ports opened.p3 ≡ seen 3) →
+    TablesSentLawfully ports config seen closed → TablesSentLawfully ports config (seen_at ports opened) closed
+sent_since ports config opened closed seen p h = record {
+  p0 = subst (λ (s : Seen). SendsLawfully config 0 s.sent (ports.sent closed.p0)) (sym p.0) h.p0;
+  p1 = subst (λ (s : Seen). SendsLawfully config 1 s.sent (ports.sent closed.p1)) (sym p.1) h.p1;
+  p2 = subst (λ (s : Seen). SendsLawfully config 2 s.sent (ports.sent closed.p2)) (sym p.2) h.p2;
+  p3 = subst (λ (s : Seen). SendsLawfully config 3 s.sent (ports.sent closed.p3)) (sym p.3) h.p3;
+}
+
 -- what failed at six ports
 module _ (once : Bool) (n a b c d e f a0 b0 c0 d0 e0 f0 a1 b1 c1 d1 e1 f1 : ℕ) (all : n ≡ a + (b + (c + (d + (e + (f + 0))))))
     (p : HaveFailed once a a0 a1) (q : HaveFailed once b b0 b1) (r : HaveFailed once c c0 c1) (s : HaveFailed once d d0 d1) (t : HaveFailed once e e0 e1) (u : HaveFailed once f f0 f1) where
@@ -346,9 +356,9 @@ pub serves_by_lanes : {P C G R : Type 0} (ports : Ports P) (clocks : Clocks C) (
     (closed.c0 ≡ lanes.control.clock) × (closed.c1 ≡ lanes.event.clock) × (closed.c2 ≡ lanes.sending.first.clock) × (closed.c3 ≡ lanes.sending.second.clock)
     × (closed.c4 ≡ lanes.sending.third.clock) × (closed.c5 ≡ lanes.sending.fourth.clock) →
     TablesAreBack ports seen closed totals.failed lanes.control.tally.failed lanes.event.tally.failed →
-    (totals.granted ≡ lanes.control.seat.granted) × (totals.refused ≡ lanes.control.seat.refused) → totals.held ≤ most →
+    (totals.granted ≡ lanes.control.seat.granted) × (totals.refused ≡ lanes.control.seat.refused) → totals.held ≤ most → TablesSentLawfully ports config seen closed →
     ServesByLanes ports clocks settings config opened closed (numbers_of totals)
-serves_by_lanes ports clocks settings config opened closed totals lanes most seen is opens did same moved back counted within =
+serves_by_lanes ports clocks settings config opened closed totals lanes most seen is opens did same moved back counted within lawful =
     let failed = lanes.control.tally.failed in
     let missed = lanes.event.tally.failed in
     record {
@@ -364,6 +374,7 @@ serves_by_lanes ports clocks settings config opened closed totals lanes most see
       turned2 = rw (moved.4) did.third;
       turned3 = rw (moved.5) did.fourth;
       idle = still_idle ports opened closed seen opens back.waits;
+      lawful = sent_since ports config opened closed seen opens lawful;
       failed = six_risen ports.counts_once totals.failed back.of0 back.of1 back.of2 back.of3 failed missed _ _ _ _ _ _ _ _ _ _ _ _ back.all of_0 of_1 of_2 of_3 of_4 of_5;
       just = six_just ports.counts_once totals.failed back.of0 back.of1 back.of2 back.of3 failed missed _ _ _ _ _ _ _ _ _ _ _ _ back.all of_0 of_1 of_2 of_3 of_4 of_5;
       quiet = six_quiet ports.counts_once totals.failed back.of0 back.of1 back.of2 back.of3 failed missed _ _ _ _ _ _ _ _ _ _ _ _ back.all of_0 of_1 of_2 of_3 of_4 of_5;

@@ -8,7 +8,7 @@ use Rattle.ptu_outside.specs.declared.{opened.Opened.{Opened}, port.Port.{Ghosts
 use Rattle.ptu_outside.specs.{Departure.{Departure}, Faults.{HasRisen}}
 use Rattle.ptu_history.specs.declared.client.Client.{Client}
 use Rattle.ptu_profile.specs.declared.grandmaster.GmConfig.{GmConfig}
-use Rattle.ptu_shared.specs.Opening.{HaveFailed, Seen, seen_of}
+use Rattle.ptu_shared.specs.{Histories.{SendsLawfully}, Opening.{HaveFailed, Seen, seen_of}}
 use Rattle.ptu_gm_messages.specs.Replies.{cancels_to}
 use Rattle.ptu_config.specs.{declared.settings.GmSettings.{GmSettings}, Rounds.{all_rounds}}
 use Rattle.ptu_rounds.specs.{Handed.{WasHanded}, Ports.{HaveRisenBy, HaveRisenJust, ports_of}}
@@ -113,6 +113,13 @@ pub record TablesAreBack {P C : Type 0} (ports : Ports P) (seen : ℕ → Seen) 
   pub failed2 : HaveFailed ports.counts_once of2 (seen 2).faults (ports.faults closed.p2)
   pub failed3 : HaveFailed ports.counts_once of3 (seen 3).faults (ports.faults closed.p3)
 
+-- what each table's port was sent since are, in order, messages of a history of the table
+pub record TablesSentLawfully {P C : Type 0} (ports : Ports P) (config : GmConfig) (seen : ℕ → Seen) (closed : Opened P C) : Type 0 where
+  pub p0 : SendsLawfully config 0 (seen 0).sent (ports.sent closed.p0)
+  pub p1 : SendsLawfully config 1 (seen 1).sent (ports.sent closed.p1)
+  pub p2 : SendsLawfully config 2 (seen 2).sent (ports.sent closed.p2)
+  pub p3 : SendsLawfully config 3 (seen 3).sent (ports.sent closed.p3)
+
 -- between these ports and clocks as they were opened, and as they are to be given back, lanes served a grandmaster of these settings,
 -- with these numbers at the end
 pub record ServesByLanes {P C : Type 0} (ports : Ports P) (clocks : Clocks C) (settings : GmSettings) (config : GmConfig) (opened closed : Opened P C) (numbers : Numbers) : Type 0 where
@@ -135,6 +142,9 @@ pub record ServesByLanes {P C : Type 0} (ports : Ports P) (clocks : Clocks C) (s
   pub turned3 : TurnedOwn clocks settings.senders 3 (all_rounds settings) opened.c5 closed.c5
   -- the ports of the tables are given back as those of their tables: what waits there is what did
   pub idle : (i : ℕ) → waits_of ports closed i ≡ waits_of ports opened i
+  -- and what they were sent are, in order, messages of a history of the table: each to one of its clients, inside a live grant of the
+  -- kind, in its own period, and with the sequenceId that is next
+  pub lawful : TablesSentLawfully ports config (seen_at ports opened) closed
   -- what failed is at most what the counts of faults rose by together, and just that where each call that fails counts one fault;
   -- where nothing failed, no count rose
   pub failed : HaveRisenBy numbers.failed (faults_of ports opened) (faults_of ports closed)

@@ -137,7 +137,8 @@ where
 
     // The call of the lane that takes Delay_Reqs.
     fn call_event<C: Clock>(&self, lane: EventLane<P, C>) -> Called<EventLane<P, C>>
-        requires { IsWithinLimits self.now.config.now }
+        requires limits { IsWithinLimits self.now.config.now }
+        requires config { self.now.config.now ≡ L.config }
         ensures { CameTo (EventLaneDid P.Port C.Clock self.now.rounds.count lane) lane result }
     {
         match self.service() {
@@ -153,6 +154,7 @@ where
         lane: SendingLane<C>,
     ) -> Called<SendingLane<C>>
         requires limits { IsWithinLimits self.now.config.now }
+        requires config { self.now.config.now ≡ L.config }
         requires index { (position.index < position.count) × (position.count ≤ 4) }
         ensures { CameTo (λ new. TurnedOwn C.Clock position.count position.index
             self.now.rounds.count lane.clock new.clock) lane result }
@@ -201,7 +203,8 @@ where
         scope: &Scope<'s, E>,
         lane: EventLane<P, C>,
     ) -> EventCall<P, C>
-        requires { IsWithinLimits self.now.config.now }
+        requires limits { IsWithinLimits self.now.config.now }
+        requires config { self.now.config.now ≡ L.config }
         ensures { IsAtWork (EventLaneDid P.Port C.Clock self.now.rounds.count lane) lane
             (EventKept P.Port C.Clock) result }
     {
@@ -214,7 +217,8 @@ where
             0,
             work,
             move ||
-                requires { IsWithinLimits self.now.config.now }
+                requires { IsWithinLimits self.now.config.now
+                    × (self.now.config.now ≡ L.config) }
             { self.call_event(lane) },
         )
     }
@@ -227,6 +231,7 @@ where
         lane: SendingLane<C>,
     ) -> SendingCall<C>
         requires limits { IsWithinLimits self.now.config.now }
+        requires config { self.now.config.now ≡ L.config }
         requires index { (position.index < 4) × (1 ≤ position.count) × (position.count ≤ 4) }
         ensures { IsTurning C.Clock position.count position.index self.now.rounds.count lane result }
     {
@@ -244,6 +249,7 @@ where
             work,
             move ||
                 requires { IsWithinLimits self.now.config.now
+                    × (self.now.config.now ≡ L.config)
                     × (position.index < position.count) × (position.count ≤ 4) }
             { self.call_sending(position, lane) },
         )
@@ -257,6 +263,7 @@ where
         lanes: SendingLanes<C>,
     ) -> SendingCalls<C>
         requires limits { IsWithinLimits self.now.config.now }
+        requires config { self.now.config.now ≡ L.config }
         requires count { (1 ≤ count) × (count ≤ 4) }
         ensures { AreTurning C.Clock count self.now.rounds.count lanes result }
     {
@@ -381,6 +388,7 @@ where
         requires range { IsGmInRange settings.now }
         requires senders { 1 ≤ settings.now.senders }
         requires limits { IsWithinLimits self.now.config.now }
+        requires config { self.now.config.now ≡ L.config }
         requires rounds { self.now.rounds.count ≡ all_rounds settings.now }
         ensures { IfOk result (HasDone P.Port C.Clock settings.now self.now.config.now opened) }
     {
@@ -463,6 +471,7 @@ where
     requires range { IsGmInRange settings.now }
     requires senders { 1 ≤ settings.now.senders }
     requires limits { IsWithinLimits config.now }
+    requires config { config.now ≡ L.config }
     ensures { IfOk result (HasDone P.Port C.Clock settings.now config.now opened) }
 {
     let rounds = Rounds {
@@ -494,6 +503,7 @@ where
                 × (seen_of P.Port opened.p3 ≡ L.opened 3)
                 × IsGmInRange settings.now × (1 ≤ settings.now.senders)
                 × IsWithinLimits crew.now.config.now
+                × (crew.now.config.now ≡ L.config)
                 × (crew.now.rounds.count ≡ all_rounds settings.now) }
             ensures { IfOk result
                 (HasDone P.Port C.Clock settings.entry.now crew.entry.now.config.now opened) }

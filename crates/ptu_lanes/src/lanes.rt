@@ -166,7 +166,8 @@ impl<P: Port + Send, L: Rates, G: Ledger, R: Ledger, W: Wait> Service<'_, P, L, 
         rounds: &Rounds,
         mut lane: EventLane<P, C>,
     ) -> Result<EventLane<P, C>, OutOfMemory>
-        requires { IsWithinLimits self.now.config.now }
+        requires limits { IsWithinLimits self.now.config.now }
+        requires config { self.now.config.now ≡ L.config }
         ensures { IfOk result (EventLaneDid P.Port C.Clock 1 lane) }
     {
         let delays = delay_round(
@@ -185,6 +186,7 @@ impl<P: Port + Send, L: Rates, G: Ledger, R: Ledger, W: Wait> Service<'_, P, L, 
     // A round of the lane at this position that turns tables.
     fn turn_own<C: Clock>(&self, position: Position, mut lane: SendingLane<C>) -> SendingLane<C>
         requires limits { IsWithinLimits self.now.config.now }
+        requires config { self.now.config.now ≡ L.config }
         requires index { (position.index < position.count) × (position.count ≤ 4) }
         ensures { PassedBy (own_tables position.count position.index)
             (C.moments lane.clock) (C.moments result.clock) }
@@ -234,7 +236,8 @@ impl<P: Port + Send, L: Rates, G: Ledger, R: Ledger, W: Wait> Service<'_, P, L, 
         rounds: &Rounds,
         lane: EventLane<P, C>,
     ) -> Result<EventLane<P, C>, OutOfMemory>
-        requires { IsWithinLimits self.now.config.now }
+        requires limits { IsWithinLimits self.now.config.now }
+        requires config { self.now.config.now ≡ L.config }
         ensures { IfOk result (EventLaneDid P.Port C.Clock rounds.now.count lane) }
     {
         let mut lane = lane;
@@ -256,6 +259,7 @@ impl<P: Port + Send, L: Rates, G: Ledger, R: Ledger, W: Wait> Service<'_, P, L, 
         lane: SendingLane<C>,
     ) -> Result<SendingLane<C>, OutOfMemory>
         requires limits { IsWithinLimits self.now.config.now }
+        requires config { self.now.config.now ≡ L.config }
         requires index { (position.index < position.count) × (position.count ≤ 4) }
         ensures { IfOk result (λ new.
             TurnedOwn C.Clock position.count position.index rounds.now.count lane.clock new.clock) }

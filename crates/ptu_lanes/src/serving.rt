@@ -5,7 +5,7 @@ ghost use Rattle.ptu_profile.specs.Grandmaster.{IsWithinLimits};
 ghost use Rattle.ptu_shared.specs.{Blanks.{IsBlankOf}, Opening.{seen_of}};
 ghost use Rattle.ptu_config.specs.Limits.{IsGmInRange};
 ghost use Rattle.ptu_lanes.specs.Changing.{greatest_capacity};
-ghost use Rattle.ptu_lanes.specs.{Ended.{HasEnded}, Served.{TablesAreBack}};
+ghost use Rattle.ptu_lanes.specs.{Ended.{HasEnded}, Served.{TablesAreBack, TablesSentLawfully}};
 
 use crate::crew::{Blanks, Done, call_all};
 use crate::lanes::Lanes;
@@ -90,6 +90,7 @@ fn close<P: Port + Send, C: Clock, L: Rates, G: Ledger, R: Ledger>(
     ensures totals { IfOk result (λ r. (r.1.granted ≡ lanes.control.seat.granted)
         × (r.1.refused ≡ lanes.control.seat.refused)) }
     ensures held { IfOk result (λ r. r.1.held ≤ L.most) }
+    ensures lawful { IfOk result (λ r. TablesSentLawfully P.Port L.config L.opened r.0) }
 {
     let sent = sent_by(&lanes);
     let Lanes {
@@ -155,6 +156,7 @@ where
     requires range { IsGmInRange settings.now }
     requires senders { 1 ≤ settings.now.senders }
     requires limits { IsWithinLimits config.now }
+    requires config { config.now ≡ L.config }
     ensures { IfOk result (HasEnded P.Port C.Clock settings.now config.now opened) }
 {
     let gate = OnceLock::new();

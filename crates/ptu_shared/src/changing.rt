@@ -5,6 +5,7 @@ ghost use Rattle.ptu_history.specs.{Client.{table_of as table_of_client}, Histor
 ghost use Rattle.ptu_history.specs.{Live.{live}, Verdict.{Config}, Events.{Cancel, Resize}};
 ghost use Rattle.ptu_history.specs.{Shedding.{shed_grants}, Step.{step}};
 ghost use Rattle.ptu_units.specs.Limits.{IsCapacity};
+ghost use Rattle.ptu_admit.specs.Alone.{GoesOnAlone};
 ghost use Rattle.ptu_admit.specs.Lent.{Lent, StandFor, four, is_lent, moment_for_all, shares, table_for};
 ghost use Rattle.ptu_admit.specs.{Rows.{has_live_row}, Shed.{shed_of}, Tables.{IsSwept}};
 
@@ -43,6 +44,7 @@ pub(crate) fn cancel_one<P: Port, L: Rates, G: Ledger, R: Ledger, J: Place>(
         is_lent (table_of_client client.now) rest ≡ false →
         StandFor opened.capacity (table_for client.now table.new.shard ∷ rest) desk.new.book
         (history ++ (step opened history result.at (Cancel client.now kind)).records) }
+    ensures alone { GoesOnAlone J.index table.old.shard table.new.shard }
 {
     audit_table(table, desk);
     let before = table.shard.held();
@@ -92,6 +94,9 @@ pub(crate) fn resize_all<P: Port, L: Rates, G: Ledger, R: Ledger>(
         IfOk result (λ r. StandFor opened.capacity
         (four t0.new.shard t1.new.shard t2.new.shard t3.new.shard) desk.new.book
         (history ++ (step opened history r.at (Resize change.capacity)).records)) }
+    ensures alone { GoesOnAlone 0 t0.old.shard t0.new.shard
+        × GoesOnAlone 1 t1.old.shard t1.new.shard × GoesOnAlone 2 t2.old.shard t2.new.shard
+        × GoesOnAlone 3 t3.old.shard t3.new.shard }
 {
     let before = audit_tables(t0, t1, t2, t3, desk);
     let resized = resize(

@@ -3,7 +3,7 @@
 ghost use Rattle.std.specs.Prelude.{◌≡◌, ◌≤◌, ◌<◌, ◌+◌, ◌*◌, ◌^◌, ◌↔◌, [], ◌∷◌, IfErr, IfOk, IsOk, IsTrue, length, sum, vec_len};
 ghost use Rattle.ptu_shard.specs.Row.{share_of};
 ghost use Rattle.ptu_admit.specs.{Lent.{four, moment_for_all}, Rows.{live_rows}};
-ghost use Rattle.ptu_shared.specs.Opening.{AreAsOpened, HaveFailed};
+ghost use Rattle.ptu_shared.specs.{Histories.{SendsLawfully}, Opening.{AreAsOpened, HaveFailed}};
 ghost use Rattle.ptu_shared.specs.Seats.{AreUnsettled, granted_in, refused_in};
 
 use crate::changing::finish_all;
@@ -201,6 +201,12 @@ impl<P: Port + Send, L: Rates, G: Ledger, R: Ledger> Shared<P, L, G, R> {
         // Each port is that of its table: what waits there is what the ledger names.
         ensures opened { IfOk result (λ closed.
             AreAsOpened P.Port L.opened closed.p0 closed.p1 closed.p2 closed.p3) }
+        // What the port of each table was sent are, in order, messages of a history of the table.
+        ensures lawful { IfOk result (λ closed.
+            SendsLawfully L.config 0 (L.opened 0).sent (P.sent closed.p0)
+            × SendsLawfully L.config 1 (L.opened 1).sent (P.sent closed.p1)
+            × SendsLawfully L.config 2 (L.opened 2).sent (P.sent closed.p2)
+            × SendsLawfully L.config 3 (L.opened 3).sent (P.sent closed.p3)) }
         ensures fault { IfErr result (λ fault. (fault.seats.items ≡ seats.items)
             × AreUnsettled (record { granted = fault.granted; refused = fault.refused })
             (record { granted = fault.seats_granted; refused = fault.seats_refused }) seats.items) }
@@ -234,6 +240,12 @@ impl<P: Port + Send, L: Rates, G: Ledger, R: Ledger> Shared<P, L, G, R> {
             × HaveFailed P.counts_once r.1.p1 (L.opened 1).faults (P.faults r.0.p1)
             × HaveFailed P.counts_once r.1.p2 (L.opened 2).faults (P.faults r.0.p2)
             × HaveFailed P.counts_once r.1.p3 (L.opened 3).faults (P.faults r.0.p3)) }
+        // What the port of each table was sent are, in order, messages of a history of the table.
+        ensures lawful { IfOk result (λ r.
+            SendsLawfully L.config 0 (L.opened 0).sent (P.sent r.0.p0)
+            × SendsLawfully L.config 1 (L.opened 1).sent (P.sent r.0.p1)
+            × SendsLawfully L.config 2 (L.opened 2).sent (P.sent r.0.p2)
+            × SendsLawfully L.config 3 (L.opened 3).sent (P.sent r.0.p3)) }
         ensures fault { IfErr result (λ fault. (fault.seats.items ≡ seats.items)
             × AreUnsettled (record { granted = fault.granted; refused = fault.refused })
             (record { granted = fault.seats_granted; refused = fault.seats_refused }) seats.items) }
@@ -251,10 +263,10 @@ impl<P: Port + Send, L: Rates, G: Ledger, R: Ledger> Shared<P, L, G, R> {
         let sums = count_seats(seats.as_mut_slice(), &mut desk);
         if is_settled(&desk, sums) {
             return Ok(close_tables(
-                t0.into_inner(),
-                t1.into_inner(),
-                t2.into_inner(),
-                t3.into_inner(),
+                t0.into_inner().into_table(),
+                t1.into_inner().into_table(),
+                t2.into_inner().into_table(),
+                t3.into_inner().into_table(),
                 desk,
             ));
         }

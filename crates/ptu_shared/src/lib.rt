@@ -11,6 +11,7 @@ mod asking;
 mod changing;
 mod closing;
 mod desk;
+mod lawful;
 mod place;
 mod rates;
 mod seat;

@@ -15,3 +15,8 @@ returns-clause-tables g c =
       failed2 = f.failures.2;
       failed3 = f.failures.3;
     }
+
+pub returns-clause-lawful : goal.returns-clause-lawful
+returns-clause-lawful g c =
+    let sent = c.in-Ok.ensures.lawful in
+    record { p0 = sent.0; p1 = sent.1; p2 = sent.2; p3 = sent.3 }

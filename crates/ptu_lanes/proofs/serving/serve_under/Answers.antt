@@ -1,5 +1,5 @@
-use Rattle.std.proofs.Common.{◌≡◌, []}
-use Rattle.ptu_lanes.specs.Crew.{LanesServed}
+use Rattle.std.proofs.Common.{◌≡◌, [], subst, sym}
+use Rattle.ptu_lanes.specs.{Crew.{LanesServed}, Served.{TablesSentLawfully}}
 use Rattle.ptu_lanes.proofs.Controlled.{serves_by_lanes}
 use Rattle.ptu_lanes.proofs.serving.serve_under.Goals as goal
 
@@ -10,3 +10,4 @@ returns g c =
     let closing = c.in_ok-back.ensures in
     serves_by_lanes g.P.Port g.C.Clock c.args.settings.now c.args.config.now c.args.opened c.in_ok-back.back c.in_ok-back.totals lanes g.L.Rates.most g.L.Rates.opened c.requires.most
     c.requires.ports done.0 closing.ports closing.clocks closing.tables closing.totals closing.held
+    (subst (λ config. TablesSentLawfully g.P.Port config g.L.Rates.opened c.in_ok-back.back) (sym c.requires.config) closing.lawful)

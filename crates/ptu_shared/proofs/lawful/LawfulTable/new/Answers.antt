@@ -1,0 +1,5 @@
+use Rattle.ptu_shared.proofs.Histories.{at_first}
+use Rattle.ptu_shared.proofs.lawful.LawfulTable.new.Goals as goal
+
+pub invariant_of-result : goal.invariant_of-result
+invariant_of-result g c = at_first g.L.Rates.config g.J.Place.index (g.L.Rates.opened g.J.Place.index).sent g.P.Port.sent c.args.table.shard (c.requires.stands g.J.Place.index) c.requires.sent
