@@ -10,3 +10,13 @@ pub returns-clause-answer : goal.returns-clause-answer
 returns-clause-answer g c =
     let tables = c.audit_tables-before.ensures.tables in
     rw (tables.0, tables.1, tables.2, tables.3, c.audit_tables-before.ensures.desk.0) at c.decide_all-verdict.ensures.answer
+
+pub returns-clause-outcome : goal.returns-clause-outcome
+returns-clause-outcome g c =
+    let tables = c.audit_tables-before.ensures.tables in
+    rw (tables.0, tables.1, tables.2, tables.3, c.audit_tables-before.ensures.desk.0) at c.decide_all-verdict.ensures.verdict
+
+pub returns-clause-stands : goal.returns-clause-stands
+returns-clause-stands g c =
+    let tables = c.audit_tables-before.ensures.tables in
+    rw (tables.0, tables.1, tables.2, tables.3, c.audit_tables-before.ensures.desk.0) at c.decide_all-verdict.ensures.stands
