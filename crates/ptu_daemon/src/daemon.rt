@@ -198,8 +198,8 @@ impl<P: Port, C: Clock> Daemon<P, C> {
     /// Does all rounds of the settings, and counts what was sent and what failed.
     pub(crate) fn rounds(&mut self, settings: &GmSettings) -> Result<Tally, OutOfMemory>
         requires range { IsGmInRange settings.now }
-        ensures did { IfOk result (λ tally.
-            DidRounds P.Port C.Clock settings.now (all_rounds settings.now) self.old self.new tally) }
+        ensures did { IfOk result (λ tally. DidRounds P.Port C.Clock settings.now
+            (all_rounds settings.now) self.old self.new tally) }
     {
         let mut tally = Tally::default();
         for before in 0..settings.all_rounds() {

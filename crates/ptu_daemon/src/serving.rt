@@ -128,8 +128,8 @@ fn serve_rounds<P: Port, C: Clock>(
     Ok((back, closing))
 }
 
-// Serves over these ports and clocks, on one thread or by lanes, with at most so many threads beside
-// this one. Gives them back, with the numbers of the last line.
+// Serves over these ports and clocks, on one thread or by lanes, with at most so many threads
+// beside this one. Gives them back, with the numbers of the last line.
 fn serve_over<P: Port + Send, C: Clock + Send, W: Threads + Wait + Sync>(
     rt: &W,
     alloc: Global,
@@ -206,10 +206,10 @@ pub fn serve_within<W: Threads + Wait + Sync, H: Host, K: Sink>(
 ///
 /// A round ends with a wait of port 5, until a datagram is there or a message may be due.
 ///
-/// So it is on this thread where `senders` is 0. Else the channels and the tables are served side by
-/// side in each round, by lanes of which `senders` turn the tables, and each lane takes moments of
-/// a clock of its own (`serve_lanes`). Their threads are made before the first datagram is taken:
-/// where the system refuses one, all is served on this thread, as where `senders` is 0.
+/// So it is on this thread where `senders` is 0. Else the channels and the tables are served side
+/// by side in each round, by lanes of which `senders` turn the tables, and each lane takes moments
+/// of a clock of its own (`serve_lanes`). Their threads are made before the first datagram is
+/// taken: where the system refuses one, all is served on this thread, as where `senders` is 0.
 ///
 /// # Errors
 /// `Open` where the host does not open; `Write` where the sink does not take the line; and

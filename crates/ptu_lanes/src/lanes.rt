@@ -147,9 +147,9 @@ impl<P: Port + Send, L: Rates, G: Ledger, R: Ledger, W: Wait> Service<'_, P, L, 
         Ok(lane)
     }
 
-    // Once all other lanes have come to the meeting, waits until a datagram is there to receive or a
-    // message may be due, as long as the port does. So what they were granted in this round counts,
-    // and they sleep meanwhile. Where a lane has given up it does not wait.
+    // Once all other lanes have come to the meeting, waits until a datagram is there to receive or
+    // a message may be due, as long as the port does. So what was granted in this round counts, and
+    // the other lanes sleep meanwhile. Where a lane has given up it does not wait.
     fn wait(&self, rounds: &Rounds, port: &mut P)
         ensures sent { P.sent port.new ≡ P.sent port.old }
         ensures waiting { P.waiting port.new ≡ P.waiting port.old }

@@ -15,8 +15,9 @@ use ptu_slave::{Heard, Slave};
 use ptu_units::{Moment, OutOfMemory};
 use std::alloc::Global;
 
-/// Until how many nanoseconds after a tick the slave waits for a datagram.
-const REST: u64 = 1_900_000;
+/// Until how many nanoseconds after a tick the slave waits for a datagram: two milliseconds by one
+/// call of the system, which counts whole ones.
+const REST: u64 = 2_900_000;
 
 // Counts what became of the reply to a datagram.
 fn count_reply(counts: &mut Counts, heard: &Heard)
@@ -64,14 +65,14 @@ pub(crate) fn take<P: Port, C: Clock>(
     Ok(())
 }
 
-// The moment until which the daemon waits after a tick at this one: less than two milliseconds
-// later, for which a port waits by one call of the system, of a millisecond.
+// The moment until which the daemon waits after a tick at this one: less than three milliseconds
+// later, for which a port waits by one call of the system, of two.
 fn rest_after(tick: Moment) -> Moment {
     Moment::of(tick.nanos() + REST).unwrap_or(tick)
 }
 
 /// The slave ticks; what it then selects. Then the port of the event channel waits until a datagram
-/// is there, for a millisecond or so at most.
+/// is there, for two milliseconds or so at most.
 pub(crate) fn tick<P: Port, C: Clock>(
     slave: &mut Slave<P>,
     event: &mut P,

@@ -216,8 +216,8 @@ impl<R: Net + Clock + Copy + Send> Host for UdpHost<R> {
         let _ = opened;
     }
 
-    /// Fails where the system refuses a socket at that number of 127.0.0.1, or where no number comes
-    /// behind it.
+    /// Fails where the system refuses a socket at that number of 127.0.0.1, or where no number
+    /// comes behind it.
     fn open_control(&mut self, number: u16) -> Result<SystemPort<R>, Failed>
         ensures opened { IfOk result (λ port. IfSome None (λ told. port ≡ told)) }
         ensures risen { OnErr result (HasRisen self.old self.new) }

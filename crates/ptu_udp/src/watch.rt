@@ -99,8 +99,8 @@ fn left<R: Clock>(runtime: &R, start: Instant, until: Moment) -> u64 {
 }
 
 /// Waits until a datagram may wait at one of the sockets of the watch, or until the moment of a
-/// clock that counts from this instant, for fifty milliseconds at most. Without a watch, or where the
-/// system fails to look, it sleeps so long.
+/// clock that counts from this instant, for fifty milliseconds at most. Without a watch, or where
+/// the system fails to look, it sleeps so long.
 pub(crate) fn wait_until<R: Clock, L: Lookout>(
     runtime: &R,
     start: Instant,

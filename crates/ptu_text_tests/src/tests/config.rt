@@ -19,8 +19,8 @@ fn settings_of_a_grandmaster(rt: HostRuntime) -> Result<(), Fail> {
     Ok(())
 }
 
-// The settings with a repetition, and how many rounds these make. The greatest product is wider than
-// 32 bits.
+// The settings with a repetition, and how many rounds these make. The greatest product is wider
+// than 32 bits.
 #[test]
 fn rounds_are_repeated(rt: HostRuntime) -> Result<(), Fail> {
     for (rounds, repeat, all) in [
