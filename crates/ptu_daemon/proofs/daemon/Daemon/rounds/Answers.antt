@@ -13,7 +13,7 @@ loop-before-init g c = record {
 pub plus_round-tally-requires-clause-few : goal.plus_round-tally-requires-clause-few
 plus_round-tally-requires-clause-few g c =
     let ranged : IsGmInRange c.args.settings.now = search rules in
-    omega (arith, c.loop-before-test.true, (c.all_rounds.ensures.range ranged).1)
+    omega (arith, c.loop-before-test.true, (c.all_rounds-before-end.ensures.range ranged).1)
 
 pub loop-before-preserved : goal.loop-before-preserved
 loop-before-preserved g c = record {
@@ -25,5 +25,5 @@ loop-before-preserved g c = record {
 
 pub returns : goal.returns
 returns g c =
-    let all : c.loop-before.before ≡ all_rounds c.args.settings.now = omega (arith, c.loop-before-test.false, c.loop-before.auto.before-end, c.all_rounds.ensures.value) in
+    let all : c.loop-before.before ≡ all_rounds c.args.settings.now = omega (arith, c.loop-before-test.false, c.loop-before.auto.before-end, c.all_rounds-before-end.ensures.value) in
     record { did = subst (λ n. DidRounds g.P.Port g.C.Clock c.args.settings.now n c.args.self.now c.loop-before.self c.loop-before.tally) all c.loop-before.invariant.did }
