@@ -77,6 +77,7 @@ where
     requires rates { IsBlankOf L.name L.parts 4 blanks.rates }
     requires granted { IsBlankOf G.name G.parts L.seats blanks.granted }
     requires refused { IsBlankOf R.name R.parts L.seats blanks.refused }
+    requires opening { L.opening ≡ 64 }
     requires most { 64 ≤ L.most }
     requires seats { L.seats ≡ 1 }
     requires ports { (i : ℕ) → L.opened i ≡ untold_port }
@@ -139,6 +140,7 @@ where
     requires rates { IsBlankOf L.name L.parts 4 blanks.rates }
     requires granted { IsBlankOf G.name G.parts L.seats blanks.granted }
     requires refused { IsBlankOf R.name R.parts L.seats blanks.refused }
+    requires opening { L.opening ≡ 64 }
     requires most { 64 ≤ L.most }
     requires seats { L.seats ≡ 1 }
     requires ports { (i : ℕ) → L.opened i ≡ untold_port }
