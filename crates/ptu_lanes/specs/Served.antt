@@ -1,6 +1,6 @@
 -- What a grandmaster has done that is served by lanes (IEEE 1588-2019 clause 16.1; rounds and the change of capacity are the
 -- project's own choice).
-use Rattle.std.specs.Prelude.{◌≡◌, ℕ, suc, zero, ◌+◌, ◌-◌, ◌*◌, ◌≤◌, true, List, [], ◌++◌, length, map, take, drop, Option, Some, IfNone, IfSome}
+use Rattle.std.specs.Prelude.{◌≡◌, ℕ, suc, zero, ◌+◌, ◌-◌, ◌*◌, ◌^◌, ◌≤◌, min, true, List, [], ◌++◌, length, map, take, drop, Option, Some, IfNone, IfSome}
 use Rattle.std.specs.List.{All}
 use Rattle.ptu_units.specs.declared.kind.Kind.{Kind}
 use Rattle.ptu_outside.specs.declared.{arrival.Arrival.{Arrival}, clock.Clock.{Ghosts as Clocks}}
@@ -8,13 +8,13 @@ use Rattle.ptu_outside.specs.declared.{opened.Opened.{Opened}, port.Port.{Ghosts
 use Rattle.ptu_outside.specs.{Departure.{Departure}, Faults.{HasRisen}}
 use Rattle.ptu_history.specs.declared.client.Client.{Client}
 use Rattle.ptu_profile.specs.declared.grandmaster.GmConfig.{GmConfig}
-use Rattle.ptu_shared.specs.Opening.{HaveFailed, Seen, seen_of}
+use Rattle.ptu_shared.specs.Opening.{HaveBeenSent, HaveFailed, Seen, seen_of}
 use Rattle.ptu_gm_messages.specs.Replies.{cancels_to}
 use Rattle.ptu_config.specs.declared.settings.GmSettings.{GmSettings}
-use Rattle.ptu_rounds.specs.{Handed.{WasHanded}, Ports.{HaveRisenBy, HaveRisenJust, ports_of}}
+use Rattle.ptu_rounds.specs.{Handed.{WasHanded}, Ports.{HaveRisenBy, HaveRisenJust, WereSent, ports_of, senders_of}}
 use Rattle.ptu_lanes.specs.Rounds.{Exchange, IsAnswered, asks_in, datagrams, grants_in, replies}
 use Rattle.ptu_lanes.specs.{Sending.{GoesOn, WasSent}, Waiting.{GaveFirst, MissedFew, PassedBy, Took, TurnedOwn}}
-use Rattle.ptu_lanes.specs.Changing.{change_moments, change_of, early_rounds, greatest_capacity}
+use Rattle.ptu_lanes.specs.Changing.{change_moments, change_of, early_rounds, greatest_capacity, last_capacity}
 use Rattle.ptu_lanes.specs.declared.serving.Totals.{Totals}
 
 -- the replies of some exchanges, the CANCELs of these grants, numbered from 0, and the replies of the other exchanges
@@ -87,22 +87,36 @@ seen_at ports opened (suc (suc (suc n))) = seen_of ports opened.p3
 abbrev pub faults_of : {P C : Type 0} → Ports P → Opened P C → List ℕ
 faults_of ports opened = map ports.faults (ports_of opened)
 
--- the numbers that lanes come to: how many calls of ports failed, how many asks were granted, how many within the profile did not
--- fit, and how much is held at the end
+-- these ports were sent so many datagrams more together; a number that would be above 2^128 - 1 stands there
+abbrev pub CountSends : ℕ → List (Option (List Departure)) → List (Option (List Departure)) → Type 0
+CountSends n olds news = (all : ℕ) × (n ≡ min all (2 ^ 128 - 1)) × WereSent all olds news
+
+-- the numbers that lanes come to: how many datagrams were sent, how many calls of ports failed, how many asks were granted, how many
+-- within the profile did not fit, and how much is held at the end
 pub record Numbers : Type 0 where
+  pub sent : ℕ
   pub failed : ℕ
   pub granted : ℕ
   pub refused : ℕ
   pub held : ℕ
 
 abbrev pub numbers_of : Totals → Numbers
-numbers_of totals = record { failed = totals.failed; granted = totals.granted; refused = totals.refused; held = totals.held }
+numbers_of totals = record { sent = totals.sent; failed = totals.failed; granted = totals.granted; refused = totals.refused; held = totals.held }
 
--- the ports of the tables are given back, of which this was seen when they were opened: what waited still waits, and what failed is
--- what their counts rose by, with what failed at the two other ports
-pub record TablesAreBack {P C : Type 0} (ports : Ports P) (seen : ℕ → Seen) (closed : Opened P C) (failed control event : ℕ) : Type 0 where
+-- the ports of the tables are given back, of which this was seen when they were opened: what waited still waits, what was sent is what
+-- they were sent, with what was sent by port 4, and what failed is what their counts rose by, with what failed at the two other ports
+pub record TablesAreBack {P C : Type 0} (ports : Ports P) (seen : ℕ → Seen) (closed : Opened P C) (sent replies failed control event : ℕ) : Type 0 where
   pub waits : (ports.waiting closed.p0 ≡ (seen 0).waiting) × (ports.waiting closed.p1 ≡ (seen 1).waiting)
       × (ports.waiting closed.p2 ≡ (seen 2).waiting) × (ports.waiting closed.p3 ≡ (seen 3).waiting)
+  pub by0 : ℕ
+  pub by1 : ℕ
+  pub by2 : ℕ
+  pub by3 : ℕ
+  pub all_sent : sent ≡ min (by0 + (by1 + (by2 + (by3 + (replies + 0))))) (2 ^ 128 - 1)
+  pub sent0 : HaveBeenSent by0 (seen 0).sent (ports.sent closed.p0)
+  pub sent1 : HaveBeenSent by1 (seen 1).sent (ports.sent closed.p1)
+  pub sent2 : HaveBeenSent by2 (seen 2).sent (ports.sent closed.p2)
+  pub sent3 : HaveBeenSent by3 (seen 3).sent (ports.sent closed.p3)
   pub of0 : ℕ
   pub of1 : ℕ
   pub of2 : ℕ
@@ -116,7 +130,8 @@ pub record TablesAreBack {P C : Type 0} (ports : Ports P) (seen : ℕ → Seen) 
 -- between these ports and clocks as they were opened, and as they are to be given back, lanes served a grandmaster of these settings,
 -- with these numbers at the end
 pub record ServesByLanes {P C : Type 0} (ports : Ports P) (clocks : Clocks C) (settings : GmSettings) (config : GmConfig) (opened closed : Opened P C) (numbers : Numbers) : Type 0 where
-  pub within : numbers.held ≤ greatest_capacity settings
+  -- no more is held at the end than is in force then
+  pub within : numbers.held ≤ last_capacity settings
   -- where the count of the port of the general channel did not rise, and it tells what waits
   pub control : ¬ HasRisen (ports.faults opened.p4) (ports.faults closed.p4) → IfSome (ports.waiting closed.p4) (λ left.
       IsControlled ports settings config opened.p4 closed.p4 left numbers.granted numbers.refused)
@@ -135,6 +150,8 @@ pub record ServesByLanes {P C : Type 0} (ports : Ports P) (clocks : Clocks C) (s
   pub turned3 : TurnedOwn clocks settings.senders 3 settings.rounds opened.c5 closed.c5
   -- the ports of the tables are given back as those of their tables: what waits there is what did
   pub idle : (i : ℕ) → waits_of ports closed i ≡ waits_of ports opened i
+  -- what was sent is the number of datagrams that ports 0 to 4 were sent, whatever the counts did
+  pub sent : CountSends numbers.sent (map ports.sent (senders_of opened)) (map ports.sent (senders_of closed))
   -- what failed is at most what the counts of faults rose by together, and just that where each call that fails counts one fault;
   -- where nothing failed, no count rose
   pub failed : HaveRisenBy numbers.failed (faults_of ports opened) (faults_of ports closed)

@@ -68,10 +68,10 @@ fn sending_lanes<C: Clock>(c2: C, c3: C, c4: C, c5: C) -> SendingLanes<C>
         × (result.third.clock ≡ c4) × (result.fourth.clock ≡ c5) }
 {
     SendingLanes {
-        first: SendingLane { clock: c2, sent: 0 },
-        second: SendingLane { clock: c3, sent: 0 },
-        third: SendingLane { clock: c4, sent: 0 },
-        fourth: SendingLane { clock: c5, sent: 0 },
+        first: SendingLane { clock: c2 },
+        second: SendingLane { clock: c3 },
+        third: SendingLane { clock: c4 },
+        fourth: SendingLane { clock: c5 },
     }
 }
 
@@ -121,9 +121,10 @@ where
         requires ledger { L.parts ≡ 4 }
         requires most { L.most ≡ greatest_capacity settings.now }
         requires seat { lane.seat ≡ no_verdicts }
-        requires tally { lane.tally.failed ≡ 0 }
+        requires tally { (lane.tally.sent ≡ 0) × (lane.tally.failed ≡ 0) }
         ensures { CameTo (λ new. ServedSignaling P.Port C.Clock settings.now self.now.config.now
-            lane.port new.port lane.clock new.clock new.seat new.tally.failed) lane result }
+            lane.port new.port lane.clock new.clock new.seat new.tally.sent new.tally.failed)
+            lane result }
     {
         match self.service() {
             Some(service) => Called::Served(service.take_signaling_all(
@@ -385,7 +386,7 @@ where
         let event = EventLane {
             port: opened.p5,
             clock: opened.c1,
-            tally: Tally::default(),
+            failed: 0,
         };
         let sending = sending_lanes(opened.c2, opened.c3, opened.c4, opened.c5);
         let event = self.start_event(scope, event);

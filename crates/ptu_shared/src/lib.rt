@@ -16,8 +16,10 @@ mod rates;
 mod seat;
 mod shared;
 mod table;
+mod tally;
 
-pub use closing::{CloseFault, Failures};
+pub use closing::CloseFault;
 pub use rates::Rates;
 pub use seat::Seat;
 pub use shared::Shared;
+pub use tally::{PortTally, Tallies};

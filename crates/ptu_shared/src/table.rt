@@ -1,5 +1,5 @@
 //! What stands behind the lock of a table: its leases, its part of the ledger of rates, and how
-//! many of its sends failed.
+//! many datagrams its port was sent.
 
 ghost use Rattle.std.specs.Prelude.{◌≡◌, ◌≤◌, ℕ, [], ◌++◌, List, OnErr, OnOk, map, max};
 ghost use Rattle.std.specs.List.Sorted.{IsPermutation};
@@ -11,10 +11,11 @@ ghost use Rattle.ptu_shard.specs.Answered.{failed_by, met_by, moment_of_answer, 
 ghost use Rattle.ptu_shard.specs.{Messages.{departure_of, response_of}, Row.{share_of}};
 ghost use Rattle.ptu_shard.specs.{Table.{StandsBeside, StandsFor}, Turn.{due_messages}};
 ghost use Rattle.ptu_profile.specs.Grandmaster.{IsWithinLimits};
-ghost use Rattle.ptu_shared.specs.{Delays.{IsLaterIfTooSoon}, Opening.{AreCounted, seen_of}};
+ghost use Rattle.ptu_shared.specs.{Delays.{IsLaterIfTooSoon}, Opening.{AreCounted, AreSent, seen_of}};
 
 use crate::place::Place;
 use crate::rates::Rates;
+use crate::tally::PortTally;
 use ptu_header::Header;
 use ptu_history::Client;
 use ptu_outside::Port;
@@ -26,19 +27,31 @@ use std::marker::PhantomData;
 use std::sync::ledger::Share;
 
 // The table of leases at the place J, beside one part of the ledger of rates, whose amount is the
-// table's share, and how many sends of its port failed. What waits at the port is what the ledger
-// names at the place, and its count of faults rose from there by the sends that failed.
+// table's share, and the tally of its port. What waits at the port is what the ledger names at the
+// place; from there on it was sent as many datagrams as are counted, and its count of faults rose
+// by the sends that failed.
 #[derive(Drop)]
 pub(crate) struct Table<P: Port, L: Rates, J: Place> {
     pub shard: Shard<P>,
     pub part: Share<L>,
-    pub failed: u64,
+    pub tally: PortTally,
     place: PhantomData<J>,
     ghost one: { part.parts ≡ 1 },
     ghost same: { part.amount ≡ share_of shard.rows },
     ghost own_port: { P.waiting shard.port ≡ (L.opened J.index).waiting },
-    ghost failures: { AreCounted P.counts_once failed (L.opened J.index).faults
+    ghost sends: { AreSent tally.sent (L.opened J.index).sent (P.sent shard.port) },
+    ghost failures: { AreCounted P.counts_once tally.failed (L.opened J.index).faults
         (P.faults shard.port) },
+}
+
+// How many datagrams were sent.
+fn sent_of(answered: &Answered) -> u64
+    ensures { result ≡ sent_by answered.now }
+{
+    match answered {
+        Answered::Sent { .. } => 1,
+        Answered::Failed { .. } | Answered::NoGrant { .. } | Answered::TooSoon { .. } => 0,
+    }
 }
 
 // How many sends failed.
@@ -64,7 +77,7 @@ impl<P: Port, L: Rates, J: Place> Table<P, L, J> {
         Table {
             shard: Shard::new(alloc, port),
             part,
-            failed: 0,
+            tally: PortTally::none(),
             place: PhantomData,
         }
     }
@@ -106,7 +119,7 @@ impl<P: Port, L: Rates, J: Place> Table<P, L, J> {
     {
         let _ = table;
         let turned = self.shard.turn(config, t);
-        self.failed = self.failed.saturating_add(turned.failed);
+        self.tally = self.tally.plus(turned.sent, turned.failed);
         turned
     }
 
@@ -136,7 +149,7 @@ impl<P: Port, L: Rates, J: Place> Table<P, L, J> {
             (history ++ (step opened history self.new.shard.moment (DelayReq client.now)).records) }
     {
         let answered = self.shard.answer_delay(config, t, client, request);
-        self.failed = self.failed.saturating_add(failed_of(&answered));
+        self.tally = self.tally.plus(sent_of(&answered), failed_of(&answered));
         answered
     }
 
@@ -147,7 +160,7 @@ impl<P: Port, L: Rates, J: Place> Table<P, L, J> {
         let Table {
             shard,
             part: _,
-            failed: _,
+            tally: _,
             place: _,
         } = self;
         shard.into_port()

@@ -1,4 +1,4 @@
-use Rattle.ptu_shared.proofs.{Failing.{failed_of}, Shares.{same_four, swept_share}}
+use Rattle.ptu_shared.proofs.{Failing.{failed_of}, Sent.{sent_of}, Shares.{same_four, swept_share}}
 use Rattle.ptu_shared.proofs.closing.close_tables.Goals as goal
 
 pub returns-clause-counts : goal.returns-clause-counts
@@ -17,4 +17,13 @@ returns-clause-failures g c =
       failed_of _ _ _ _ c.finish_all.new.t1.failures,
       failed_of _ _ _ _ c.finish_all.new.t2.failures,
       failed_of _ _ _ _ c.finish_all.new.t3.failures,
+    )
+
+pub returns-clause-sends : goal.returns-clause-sends
+returns-clause-sends g c =
+    rw (c.into_port.ensures, c.into_port-2.ensures, c.into_port-3.ensures, c.into_port-4.ensures) (
+      sent_of _ _ _ c.finish_all.new.t0.sends,
+      sent_of _ _ _ c.finish_all.new.t1.sends,
+      sent_of _ _ _ c.finish_all.new.t2.sends,
+      sent_of _ _ _ c.finish_all.new.t3.sends,
     )

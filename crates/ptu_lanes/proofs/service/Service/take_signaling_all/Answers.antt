@@ -6,5 +6,5 @@ use Rattle.ptu_lanes.proofs.service.Service.take_signaling_all.Goals as goal
 pub returns-in-None : goal.returns-in-None
 returns-in-None g c =
     let none : change_of c.args.settings.now ≡ None = sym c.change.ensures.change ∙ c.in-None.is in
-    if_ok c.take_part_signaling.result _ _ (λ new took. signaling_unchanged g.P.Port g.C.Clock c.args.settings.now c.args.self.now.config.now _ _ _ _ c.args.lane.seat new.seat _ _
+    if_ok c.take_part_signaling.result _ _ (λ new took. signaling_unchanged g.P.Port g.C.Clock c.args.settings.now c.args.self.now.config.now _ _ _ _ c.args.lane.seat new.seat _ _ _ _
     none c.requires.seat c.requires.tally (rw c.requires.most at took)) c.take_part_signaling.ensures

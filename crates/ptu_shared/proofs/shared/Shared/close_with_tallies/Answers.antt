@@ -1,5 +1,5 @@
 use Rattle.std.proofs.Common.{◌∙◌, sym}
-use Rattle.ptu_shared.proofs.shared.Shared.close_with_failures.Goals as goal
+use Rattle.ptu_shared.proofs.shared.Shared.close_with_tallies.Goals as goal
 
 pub returns-then-is_settled-clause-verdicts : goal.returns-then-is_settled-clause-verdicts
 returns-then-is_settled-clause-verdicts g c =
