@@ -1,7 +1,6 @@
-use crate::memory::{MemLookout, MemSocket, Seen, SleepClock};
-use crate::readiness::Readiness;
-use crate::udp_port::{Numbers, UdpPort};
+use super::memory::{MemLookout, MemSocket, Seen, SleepClock};
 use ptu_outside::{Channel, Port};
+use ptu_udp::{Numbers, Readiness, UdpPort};
 use std::alloc::Global;
 use std::process::Abort;
 use std::sync::atomic::Ordering;
@@ -47,16 +46,22 @@ fn send_when(alloc: Global, full: u64) -> Result<(bool, u64, u64), Fail> {
     Ok((went, watched.clock.slept(), tries))
 }
 
+// How many tries find no room, and what the send comes to.
+const SENDS: [(u64, (bool, u64, u64)); 5] = [
+    (0, (true, 0, 1)),
+    (1, (true, 100, 2)),
+    (500, (true, 50000, 501)),
+    (501, (false, 50000, 501)),
+    (1_000_000, (false, 50000, 501)),
+];
+
 // It refuses a send that fails at once where there is no room, one that does not try again at the
 // very end of the 50 ms, one that waits longer, and one that tries without a rest.
 #[test]
 fn a_send_waits_for_room(rt: HostRuntime) -> Result<(), Fail> {
-    let alloc = rt.alloc();
-    assert_eq!(rt; send_when(alloc, 0)?, (true, 0, 1));
-    assert_eq!(rt; send_when(alloc, 1)?, (true, 100, 2));
-    assert_eq!(rt; send_when(alloc, 500)?, (true, 50000, 501));
-    assert_eq!(rt; send_when(alloc, 501)?, (false, 50000, 501));
-    assert_eq!(rt; send_when(alloc, 1_000_000)?, (false, 50000, 501));
+    for (full, wanted) in SENDS {
+        assert_eq!(rt; send_when(rt.alloc(), full)?, wanted, "{full} find no room");
+    }
     Ok(())
 }
 
@@ -68,13 +73,15 @@ fn a_port_sends_where_it_is_told_and_receives_at_once(rt: HostRuntime) -> Result
     let (mut sender, watched) = port(rt.alloc(), 0, 3)?;
     assert!(rt; sender.send(CLIENT, Channel::Event, b"abc").is_ok());
     let target = |watched: &Watched| watched.seen.target.load(Ordering::Relaxed);
-    assert_eq!(rt; target(&watched), u64::from(CLIENT) * 65536 + 1319);
-    assert_eq!(rt; watched.seen.tries.load(Ordering::Relaxed), 4);
+    let tries = watched.seen.tries.load(Ordering::Relaxed);
+    let address = u64::from(CLIENT) * 65536;
+    assert_eq!(rt; (target(&watched), tries), (address + 1319, 4));
     assert!(rt; sender.send(CLIENT + 1, Channel::General, b"abc").is_ok());
     assert_eq!(rt; target(&watched), u64::from(CLIENT + 1) * 65536 + 1320);
     let (mut receiver, watched) = port(rt.alloc(), 0, 3)?;
-    assert_eq!(rt; receiver.receive(&mut [0; 2048]), Ok(Some((CLIENT, 3))));
-    assert_eq!(rt; receiver.receive(&mut [0; 2048]), Ok(None));
-    assert_eq!(rt; watched.clock.slept(), 0);
+    let first = receiver.receive(&mut [0; 2048]);
+    let second = receiver.receive(&mut [0; 2048]);
+    let found = (first, second, watched.clock.slept());
+    assert_eq!(rt; found, (Ok(Some((CLIENT, 3))), Ok(None), 0));
     Ok(())
 }

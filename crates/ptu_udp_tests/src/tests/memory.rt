@@ -2,7 +2,7 @@
 
 ghost use Rattle.std.specs.Prelude.{◌≤◌, length, IfOk};
 
-use crate::{Came, Lookout, Socket};
+use ptu_udp::{Came, Lookout, Socket};
 use std::alloc::{AllocError, Global};
 use std::io;
 use std::io::ErrorKind;

@@ -1,8 +1,6 @@
-use crate::memory::{MemLookout, MemSocket, Seen, SleepClock};
-use crate::readiness::Readiness;
-use crate::udp_port::{Numbers, UdpPort};
-use crate::watch::Watch;
-use ptu_outside::Port;
+use super::memory::{MemLookout, MemSocket, Seen, SleepClock};
+use ptu_outside::{Failed, Port};
+use ptu_udp::{Numbers, Readiness, UdpPort, Watch};
 use ptu_units::Moment;
 use std::alloc::Global;
 use std::process::Abort;
@@ -50,6 +48,13 @@ fn event_port(
     })
 }
 
+// What its port receives next, and that where a datagram waits.
+fn receive(waiting: &mut Waiting) -> Result<Option<(u32, usize)>, Failed> {
+    waiting.port.receive(&mut [0; 2048])
+}
+
+const CAME: Result<Option<(u32, usize)>, Failed> = Ok(Some((CLIENT, 3)));
+
 // One at whose sockets nothing waits.
 fn empty(
     rt: &impl Abort,
@@ -60,8 +65,8 @@ fn empty(
 ) -> Result<Waiting, Fail> {
     let mut waiting = event_port(alloc, late, general_at, event_at)?;
     waiting.general.note_receive(true);
-    assert_eq!(rt; waiting.port.receive(&mut [0; 2048]), Ok(Some((CLIENT, 3))));
-    assert_eq!(rt; waiting.port.receive(&mut [0; 2048]), Ok(None));
+    let (first, second) = (receive(&mut waiting), receive(&mut waiting));
+    assert_eq!(rt; (first, second), (CAME, Ok(None)));
     Ok(waiting)
 }
 
@@ -72,6 +77,17 @@ fn wait(waiting: &mut Waiting, micros: u64) -> u64 {
     waiting.clock.slept()
 }
 
+// Until which microsecond somebody waits, one wait after the other, and when the wait ends.
+const ENDS: [(u64, u64); 7] = [
+    (1 << 40, 10_000),
+    (10_750, 10_750),
+    (14_230, 13_750),
+    (14_230, 14_230),
+    (14_230, 14_230),
+    (0, 14_230),
+    (14_240, 14_270),
+];
+
 // It refuses a wait of more than ten milliseconds, one by whole milliseconds alone, one that does
 // not end where it is to, one that waits where that is past, one that does not wait, and one that
 // wakes for a message alone that is due within 40 microseconds.
@@ -79,33 +95,30 @@ fn wait(waiting: &mut Waiting, micros: u64) -> u64 {
 fn a_wait_ends_at_its_moment(rt: HostRuntime) -> Result<(), Fail> {
     let alloc = rt.alloc();
     let mut still = empty(&rt, alloc, 0, None, None)?;
-    assert_eq!(rt; wait(&mut still, 1 << 40), 10_000);
-    assert_eq!(rt; wait(&mut still, 10_750), 10_750);
-    assert_eq!(rt; wait(&mut still, 14_230), 13_750);
-    assert_eq!(rt; wait(&mut still, 14_230), 14_230);
-    assert_eq!(rt; wait(&mut still, 14_230), 14_230);
-    assert_eq!(rt; wait(&mut still, 0), 14_230);
-    assert_eq!(rt; wait(&mut still, 14_240), 14_270);
+    for (until, end) in ENDS {
+        assert_eq!(rt; wait(&mut still, until), end);
+    }
     Ok(())
 }
+
+// When a datagram comes by the general and by the event channel, until when somebody waits, and when
+// the wait ends.
+const COMING: [(Option<u64>, Option<u64>, u64, u64); 5] = [
+    (Some(1500), None, 4500, 1500),
+    (None, Some(1500), 4500, 1500),
+    (Some(7000), Some(1500), 4500, 1500),
+    (Some(0), None, 4500, 0),
+    (Some(250), None, 700, 300),
+];
 
 // It refuses a wait that goes on where a datagram has come to a socket, or does by the end of a
 // nap, and one that watches one socket alone.
 #[test]
 fn a_wait_ends_where_a_datagram_comes(rt: HostRuntime) -> Result<(), Fail> {
-    let alloc = rt.alloc();
-    for (general, event) in [
-        (Some(1500), None),
-        (None, Some(1500)),
-        (Some(7000), Some(1500)),
-    ] {
-        let mut waiting = empty(&rt, alloc, 0, general, event)?;
-        assert_eq!(rt; wait(&mut waiting, 4500), 1500);
+    for (general, event, until, end) in COMING {
+        let mut waiting = empty(&rt, rt.alloc(), 0, general, event)?;
+        assert_eq!(rt; wait(&mut waiting, until), end);
     }
-    let mut before = empty(&rt, alloc, 0, Some(0), None)?;
-    assert_eq!(rt; wait(&mut before, 4500), 0);
-    let mut short = empty(&rt, alloc, 0, Some(250), None)?;
-    assert_eq!(rt; wait(&mut short, 700), 300);
     Ok(())
 }
 
@@ -115,18 +128,25 @@ fn a_wait_ends_where_a_datagram_comes(rt: HostRuntime) -> Result<(), Fail> {
 fn a_wait_passes_over_no_datagram(rt: HostRuntime) -> Result<(), Fail> {
     let alloc = rt.alloc();
     let mut fresh = event_port(alloc, 0, None, None)?;
-    assert_eq!(rt; wait(&mut fresh, 9000), 0);
     let mut general = empty(&rt, alloc, 0, None, None)?;
     general.general.note_receive(false);
-    assert_eq!(rt; wait(&mut general, 9000), 0);
+    let ends = (wait(&mut fresh, 9000), wait(&mut general, 9000));
+    assert_eq!(rt; ends, (0, 0));
     let mut event = empty(&rt, alloc, 0, None, None)?;
     event.seen.waiting.store(2, Ordering::Relaxed);
-    assert_eq!(rt; event.port.receive(&mut [0; 2048]), Ok(Some((CLIENT, 3))));
-    assert_eq!(rt; wait(&mut event, 9000), 0);
-    assert_eq!(rt; event.port.receive(&mut [0; 2048]), Ok(Some((CLIENT, 3))));
-    assert_eq!(rt; event.port.receive(&mut [0; 2048]), Ok(None));
-    assert_eq!(rt; wait(&mut event, 9000), 9000);
+    let first = (receive(&mut event), wait(&mut event, 9000));
+    assert_eq!(rt; first, (CAME, 0));
+    let (second, third) = (receive(&mut event), receive(&mut event));
+    assert_eq!(rt;
+        (second, third, wait(&mut event, 9000)),
+        (CAME, Ok(None), 9000)
+    );
     Ok(())
+}
+
+// How often the system was asked.
+fn asked(waiting: &Waiting) -> u64 {
+    waiting.seen.receives.load(Ordering::Relaxed)
 }
 
 // It refuses a receive that asks the system where the wait before it has seen nothing, and one that
@@ -134,17 +154,18 @@ fn a_wait_passes_over_no_datagram(rt: HostRuntime) -> Result<(), Fail> {
 #[test]
 fn a_receive_after_a_wait_asks_once_less(rt: HostRuntime) -> Result<(), Fail> {
     let mut waiting = empty(&rt, rt.alloc(), 0, None, Some(5000))?;
-    let asked = |waiting: &Waiting| waiting.seen.receives.load(Ordering::Relaxed);
-    assert_eq!(rt; asked(&waiting), 2);
-    assert_eq!(rt; wait(&mut waiting, 3000), 3000);
+    let before = asked(&waiting);
+    assert_eq!(rt; (before, wait(&mut waiting, 3000)), (2, 3000));
     waiting.seen.waiting.store(1, Ordering::Relaxed);
-    assert_eq!(rt; waiting.port.receive(&mut [0; 2048]), Ok(None));
-    assert_eq!(rt; asked(&waiting), 2);
-    assert_eq!(rt; waiting.port.receive(&mut [0; 2048]), Ok(Some((CLIENT, 3))));
-    assert_eq!(rt; waiting.port.receive(&mut [0; 2048]), Ok(None));
-    assert_eq!(rt; wait(&mut waiting, 9000), 5000);
+    let first = receive(&mut waiting);
+    assert_eq!(rt; (first, asked(&waiting)), (Ok(None), 2));
+    let (second, third) = (receive(&mut waiting), receive(&mut waiting));
+    assert_eq!(rt;
+        (second, third, wait(&mut waiting, 9000)),
+        (CAME, Ok(None), 5000)
+    );
     waiting.seen.waiting.store(1, Ordering::Relaxed);
-    assert_eq!(rt; waiting.port.receive(&mut [0; 2048]), Ok(Some((CLIENT, 3))));
+    assert!(rt; receive(&mut waiting) == CAME);
     Ok(())
 }
 
@@ -174,8 +195,11 @@ fn a_port_without_a_watch_sleeps_until_the_moment(rt: HostRuntime) -> Result<(),
     let socket = MemSocket::new(0, 0, &waiting.seen)?;
     let readiness = Readiness::new(alloc)?;
     waiting.port = UdpPort::over(clock, start, socket, NUMBERS, readiness, None);
-    assert_eq!(rt; wait(&mut waiting, 3700), 3700);
-    assert_eq!(rt; wait(&mut waiting, 3700), 3700);
-    assert_eq!(rt; wait(&mut waiting, 99_000), 13_700);
+    let ends = [
+        wait(&mut waiting, 3700),
+        wait(&mut waiting, 3700),
+        wait(&mut waiting, 99_000),
+    ];
+    assert_eq!(rt; ends, [3700, 3700, 13_700]);
     Ok(())
 }

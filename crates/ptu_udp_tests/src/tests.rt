@@ -1,0 +1,5 @@
+mod host;
+mod memory;
+mod ports;
+mod system;
+mod waits;
