@@ -1,4 +1,4 @@
-//! Tests of a grandmaster's daemon, on one thread, by lanes and in two steps, over hosts in memory.
+//! Tests of a grandmaster's daemon, on one thread and in two steps, over hosts in memory.
 #![tactic(auto)]
 
 #[cfg(test)]

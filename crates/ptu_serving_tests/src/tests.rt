@@ -1,8 +1,4 @@
 mod daemon;
-mod daemon_lanes;
-mod lane_rounds;
-mod refused_threads;
-mod staged;
 mod table_ports;
 mod two_steps;
 mod waiting;

@@ -1,13 +1,13 @@
 ghost use Rattle.std.specs.Prelude.{◌≤◌};
 ghost use Rattle.ptu_config.specs.Limits.{IsGmInRange};
 
-use super::staged::assert_said;
 use super::waiting::{ANNOUNCE, CLIENT, asking, grant, port};
 use ptu_config::GmSettings;
 use ptu_config::samples::GM_SETTINGS;
 use ptu_daemon::{DaemonFault, serve};
 use ptu_outside::samples::{idle_port, opened_with};
 use ptu_outside::{Channel, MemHost, MemPort, MemSink};
+use ptu_staged::is_said;
 use std::alloc::Global;
 use std::process::Abort;
 use std::sync::Wait;
@@ -35,7 +35,10 @@ fn assert_line(
     requires range { IsGmInRange settings.now }
 {
     let mut host = host(alloc, general, false);
-    assert_said(rt, alloc, settings, &mut host, line);
+    assert!(rt;
+        is_said(rt, alloc, settings, &mut host, line),
+        "the line is {line}"
+    );
     host
 }
 

@@ -4,11 +4,11 @@
 
 ghost use Rattle.ptu_config.specs.Limits.{IsGmInRange};
 
-use super::staged::{OnceHost, StagedPort, arriving, assert_said, still};
-use super::waiting::{ANNOUNCE, CLIENT, request};
+use super::waiting::{ANNOUNCE, CLIENT};
 use ptu_config::GmSettings;
 use ptu_config::samples::GM_SETTINGS;
 use ptu_outside::{Channel, MemClock, Opened};
+use ptu_staged::{OnceHost, StagedPort, arriving, is_said, request, still};
 use ptu_units::Moment;
 use std::alloc::Global;
 use std::process::Abort;
@@ -92,7 +92,7 @@ fn assert_serves(
 ) -> Result<(), Fail> {
     set(alloc, table, host)?;
     let line = "rounds 3 sent 2 failed 1 granted 1 refused 0 held 8\n";
-    assert_said(rt, alloc, &SETTINGS, host, line);
+    assert!(rt; is_said(rt, alloc, &SETTINGS, host, line));
     let back = host.back.as_ref();
     assert_numbers(rt, back.expect(rt, "the ports are given back"), table);
     Ok(())

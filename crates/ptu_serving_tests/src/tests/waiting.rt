@@ -4,6 +4,7 @@ ghost use Rattle.std.specs.Prelude.{IfOk};
 ghost use Rattle.ptu_outside.specs.MemoryPort.{FitAll};
 
 use ptu_outside::{Arrival, Datagram, MemPort};
+use ptu_staged::request;
 use std::alloc::Global;
 use std::test::Fail;
 
@@ -15,14 +16,6 @@ pub(crate) const CLIENT: u32 = 0x0a00_0111;
 pub(crate) const ANNOUNCE: &str = "b0010000012c";
 
 pub(crate) const SYNC: &str = "00000000012c";
-
-/// The digits of a REQUEST by the client with this last octet of its clock identity.
-pub(crate) fn request(alloc: Global, octet: &str, asked: &str) -> Result<String, Fail> {
-    Ok(format!(in alloc;
-        "0c120036040004000000000000000000000000000a000000000000{octet}00010000057f\
-         ffffffffffffffffffff00040006{asked}"
-    )?)
-}
 
 /// The digits of the reply that grants it to the client above.
 pub(crate) fn grant(alloc: Global, asked: &str) -> Result<String, Fail> {

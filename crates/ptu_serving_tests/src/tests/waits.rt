@@ -4,12 +4,12 @@ ghost use Rattle.std.specs.Prelude.{◌≡◌, ◌≤◌, None};
 ghost use Rattle.ptu_outside.specs.Faults.{HasNotFallen, one_more};
 ghost use Rattle.ptu_config.specs.Limits.{IsGmInRange};
 
-use super::staged::{OnceHost, assert_said};
 use super::waiting::{SYNC, asking};
 use ptu_config::GmSettings;
 use ptu_config::samples::GM_SETTINGS;
 use ptu_outside::samples::{idle_port, opened_with};
 use ptu_outside::{Channel, Failed, MemClock, MemPort, Opened, Port};
+use ptu_staged::{OnceHost, is_said};
 use ptu_units::Moment;
 use ptu_units::sizes::LONGEST_DATAGRAM;
 use std::alloc::Global;
@@ -154,7 +154,7 @@ fn waits_of(
     let waited = AtomicU64::new(0);
     let opened = noting(opened_with(alloc, general), &waited, settings.senders > 0);
     let mut host = OnceHost::new(opened);
-    assert_said(rt, alloc, settings, &mut host, line);
+    assert!(rt; is_said(rt, alloc, settings, &mut host, line), "the line is {line}");
     let back = host.back.take().ok_or("ports are given back")?;
     for other in [&back.p0, &back.p1, &back.p2, &back.p3, &back.p4] {
         assert_eq!(rt; other.noted(), (0, 0, 0));

@@ -12,10 +12,8 @@
 //! - A lane never reads its clock, or takes one moment for a whole round; the capacity changes at
 //!   another moment. (The seconds in Syncs and Delay_Resps, the order of the CANCELs, and what the
 //!   clocks have left.)
-//! - CANCELs go to other clients, name other kinds, or come in another order. (Port 4.) Only 32 of
-//!   more are sent. (`a_change_sheds_forty_grants`.) The opening capacity is cut to 16 bits, or
-//!   stops at 65535. (`a_wide_capacity_is_filled`.) A change is not made where nothing was granted
-//!   yet. (`Change::First`.)
+//! - CANCELs go to other clients, name other kinds, or come in another order. (Port 4.) A change is
+//!   not made where nothing was granted yet. (`Change::First`.)
 //! - Failed sends or receives of a lane are not counted, nor failed CANCELs; a lane, or table 1 or
 //!   2, is left out of the sums. (The lines.)
 //! - Ports or clocks are taken for one another, at the opening or at the close; a table is handed
@@ -24,10 +22,10 @@
 ghost use Rattle.std.specs.Prelude.{◌≤◌};
 ghost use Rattle.ptu_config.specs.Limits.{IsGmInRange};
 
-use super::staged::{Given, OnceHost, StagedPort, arriving, assert_said, still};
 use ptu_config::GmSettings;
 use ptu_config::samples::GM_SETTINGS;
 use ptu_outside::{Channel, Clock, MemClock, Opened};
+use ptu_staged::{Given, OnceHost, StagedPort, arriving, is_said, signaling, still};
 use ptu_units::Moment;
 use std::alloc::Global;
 use std::process::Abort;
@@ -155,7 +153,7 @@ const SYNCS_KEPT: [Timed; 5] = [
 ];
 
 // Where the capacity changes: nowhere; in round 1, from 1 to 65; or in round 3, from 65 to 20.
-#[derive(Clone, Copy, Debug, PartialEq, Eq)]
+#[derive(Clone, Copy, PartialEq)]
 enum Change {
     Never,
     First,
@@ -164,7 +162,7 @@ enum Change {
 
 // What fails once: nothing; a send of the port, at this place of what it would be sent; or the
 // receive of the port that ends its first round.
-#[derive(Clone, Copy, Debug, PartialEq, Eq)]
+#[derive(Clone, Copy, PartialEq)]
 enum Fault {
     Nothing,
     Send(usize, usize),
@@ -189,20 +187,6 @@ const CASES: [Case; 12] = [
     (Change::Never, Fault::Receive(4), 16, 1, 65),
     (Change::Never, Fault::Receive(5), 16, 1, 65),
 ];
-
-// The digits of a Signaling from this sourcePortIdentity to this targetPortIdentity.
-fn signaling(
-    alloc: Global,
-    source: &str,
-    target: &str,
-    sequence: u16,
-    tlvs: &str,
-) -> Result<String, Fail> {
-    let length = 44 + tlvs.len() / 2;
-    Ok(format!(in alloc;
-        "0c12{length:04x}04000400000000000000000000000000{source}{sequence:04x}057f{target}{tlvs}"
-    )?)
-}
 
 // The digits of a Sync.
 fn sync(alloc: Global, sequence: u16, second: u64) -> Result<String, Fail> {
@@ -547,7 +531,10 @@ fn assert_serves(
         "rounds 3 sent {sent} failed {failed} granted 7 refused 1 held {held}\n"
     )?;
     let settings = settings(senders, change);
-    assert_said(rt, alloc, &settings, host, line.as_str());
+    assert!(rt;
+        is_said(rt, alloc, &settings, host, line.as_str()),
+        "the line is {line}"
+    );
     let back = host.back.as_mut();
     assert_back(rt, alloc, back.expect(rt, "the ports are given back"), case)
 }
@@ -584,120 +571,4 @@ fn lanes_serve_three_rounds(rt: HostRuntime) -> Result<(), Fail> {
         assert_all_serve(&rt, rt.alloc(), case)?;
     }
     Ok(())
-}
-
-// The address and the sourcePortIdentity of one of many clients.
-fn address_of(index: u16) -> u32 {
-    0x0a00_0200 | u32::from(index)
-}
-
-fn identity_of(alloc: Global, index: u16) -> Result<String, Fail> {
-    Ok(format!(in alloc; "0a000000000001{index:02x}0001")?)
-}
-
-// Each of so many clients sends a Signaling with this REQUEST.
-fn many(alloc: Global, count: u16, request: &str) -> Result<Vec<Given>, Fail> {
-    let mut gives = Vec::new(alloc);
-    for index in 0..count {
-        let source = identity_of(alloc, index)?;
-        let ask = signaling(alloc, source.as_str(), EVERY, 0, request)?;
-        gives.push(arriving(alloc, address_of(index), ask.as_str())?)?;
-    }
-    Ok(gives)
-}
-
-// A host whose clocks are at 0, and whose general channel gives these.
-fn still_host(alloc: Global, gives: Vec<Given>) -> OnceHost<StagedPort> {
-    let mut opened = still(alloc);
-    opened.p4 = StagedPort::new(alloc, gives, Vec::new(alloc));
-    OnceHost::new(opened)
-}
-
-// Behind the 41 grants stand the CANCELs of all but the first client, the greatest address first.
-fn assert_cancels(rt: &impl Abort, alloc: Global, port: &StagedPort) -> Result<(), Fail> {
-    for sequence in 0..40 {
-        let index = 40 - sequence;
-        let to = identity_of(alloc, index)?;
-        let digits = signaling(alloc, MASTER, to.as_str(), sequence, "00060002b000")?;
-        let bytes = hex::decode(alloc, digits.as_str())?;
-        let sent = port.sent(41 + usize::from(sequence));
-        let wanted = Some((address_of(index), Channel::General, bytes.as_slice()));
-        assert!(rt; sent == wanted, "CANCEL {sequence}");
-    }
-    assert!(rt; port.sent(81).is_none(), "a datagram behind the CANCELs");
-    Ok(())
-}
-
-// Announces at a rate of 1, and Syncs at the greatest rate, 2048.
-const SELDOM: &str = "00040006b0040000012c";
-
-const OFTEN: &str = "0004000600f90000012c";
-
-// In round 2 the capacity is that of one client.
-const SHEDDING: GmSettings = GmSettings {
-    rounds: 2,
-    capacity: 65536,
-    change_round: 2,
-    new_capacity: Some(1),
-    ..SETTINGS
-};
-
-fn assert_sheds(
-    rt: &(impl Abort + Threads + Wait + Sync),
-    alloc: Global,
-    host: &mut OnceHost<StagedPort>,
-) -> Result<(), Fail> {
-    let line = "rounds 2 sent 81 failed 0 granted 41 refused 0 held 1\n";
-    assert_said(rt, alloc, &SHEDDING, host, line);
-    let back = host.back.as_ref();
-    let back = back.expect(rt, "the ports are given back");
-    assert_cancels(rt, alloc, &back.p4)
-}
-
-#[test]
-fn a_change_sheds_forty_grants(rt: HostRuntime) -> Result<(), Fail> {
-    let alloc = rt.alloc();
-    let gives = many(alloc, 41, SELDOM)?;
-    let mut host = still_host(alloc, gives);
-    let shed = assert_sheds(&rt, alloc, &mut host);
-    drop(host);
-    shed
-}
-
-// 33 clients request the greatest rate: serving them in one round writes this line.
-fn assert_fills(
-    rt: &(impl Abort + Threads + Wait + Sync),
-    alloc: Global,
-    settings: &GmSettings,
-    line: &str,
-) -> Result<(), Fail>
-    requires { IsGmInRange settings.now }
-{
-    let gives = many(alloc, 33, OFTEN)?;
-    let mut host = still_host(alloc, gives);
-    assert_said(rt, alloc, settings, &mut host, line);
-    drop(host);
-    Ok(())
-}
-
-// In 65536 there is room for 32 of them, and in 67584 for all.
-const WIDE: GmSettings = GmSettings {
-    rounds: 1,
-    capacity: 65536,
-    ..SETTINGS
-};
-
-const WIDER: GmSettings = GmSettings {
-    capacity: 67584,
-    ..WIDE
-};
-
-// Refuses an opening capacity that is cut to 65535, or to 16 bits.
-#[test]
-fn a_wide_capacity_is_filled(rt: HostRuntime) -> Result<(), Fail> {
-    let alloc = rt.alloc();
-    let line = "rounds 1 sent 33 failed 0 granted 32 refused 1 held 65536\n";
-    assert_fills(&rt, alloc, &WIDE, line)?;
-    let line = "rounds 1 sent 33 failed 0 granted 33 refused 0 held 67584\n";
-    assert_fills(&rt, alloc, &WIDER, line)
 }

@@ -1,11 +1,11 @@
 ghost use Rattle.std.specs.Prelude.{◌≡◌, None};
 
-use super::staged::{Given, OnceHost, StagedPort, arriving, assert_said};
-use super::waiting::{SYNC, request};
+use super::asks::{asks, delays};
 use ptu_config::GmSettings;
 use ptu_config::samples::GM_SETTINGS;
 use ptu_outside::samples::still_clock;
 use ptu_outside::{Channel, Failed, MemClock, Opened, Port};
+use ptu_staged::{Given, OnceHost, StagedPort, is_said};
 use ptu_units::Moment;
 use std::alloc::Global;
 use std::process::Abort;
@@ -23,10 +23,6 @@ const SETTINGS: GmSettings = GmSettings {
 
 // The limit of looks at a count.
 const LOOKS: u64 = 1_000_000_000;
-
-// A Delay_Req of the client of table 0.
-const DELAY_REQ: &str = "0112002c040004000000000000000000000000000a0000000000000300010000\
-    017f00000000000000000000";
 
 // What lanes have done that work side by side.
 #[derive(Drop)]
@@ -64,7 +60,7 @@ fn count_one(count: &AtomicU64) {
 }
 
 // What is special about a port.
-#[derive(Clone, Copy, PartialEq, Eq)]
+#[derive(Clone, Copy, PartialEq)]
 enum Role {
     // It belongs to table 0: a send waits until the event port gave a datagram and the port of
     // table 1 was sent one.
@@ -139,11 +135,7 @@ fn going(alloc: Global) -> Result<MemClock, Fail> {
 // A host at whose general channel clients of tables 0 and 1 ask for Syncs, and at whose event
 // channel the Delay_Req comes in the second round.
 fn host(alloc: Global, seen: &Seen) -> Result<OnceHost<LanePort<'_>>, Fail> {
-    let asks = vec![in alloc;
-        arriving(alloc, 0x0a00_0103, request(alloc, "03", SYNC)?.as_str())?,
-        arriving(alloc, 0x0a00_0104, request(alloc, "04", SYNC)?.as_str())?,
-    ]?;
-    let delay = vec![in alloc; Given::Nothing, arriving(alloc, 0x0a00_0103, DELAY_REQ)?]?;
+    let (asks, delays) = (asks(alloc)?, delays(alloc)?);
     let c2 = going(alloc)?;
     let c3 = going(alloc)?;
     let opened = Opened {
@@ -152,7 +144,7 @@ fn host(alloc: Global, seen: &Seen) -> Result<OnceHost<LanePort<'_>>, Fail> {
         p2: port(alloc, seen, Role::Plain, Vec::new(alloc)),
         p3: port(alloc, seen, Role::Plain, Vec::new(alloc)),
         p4: port(alloc, seen, Role::Plain, asks),
-        p5: port(alloc, seen, Role::Event, delay),
+        p5: port(alloc, seen, Role::Event, delays),
         c0: still_clock(alloc),
         c1: still_clock(alloc),
         c2,
@@ -171,7 +163,10 @@ fn assert_serves(
     line: &str,
 ) -> Result<(), Fail> {
     let mut host = host(alloc, seen)?;
-    assert_said(rt, alloc, &SETTINGS, &mut host, line);
+    assert!(rt;
+        is_said(rt, alloc, &SETTINGS, &mut host, line),
+        "the line is {line}"
+    );
     drop(host);
     assert!(rt; seen.late.load(Ordering::SeqCst) == 0);
     Ok(())

@@ -10,12 +10,12 @@
 ghost use Rattle.std.specs.Prelude.{◌≤◌};
 ghost use Rattle.ptu_config.specs.Limits.{IsGmInRange};
 
-use super::staged::{Given, OnceHost, StagedPort, arriving, still};
-use super::waiting::{SYNC, request};
+use super::asks::{asks, delays};
 use ptu_config::GmSettings;
 use ptu_config::samples::GM_SETTINGS;
 use ptu_daemon::serve_within;
 use ptu_outside::{Clock, MemClock, MemSink, Opened};
+use ptu_staged::{OnceHost, StagedPort, still};
 use ptu_units::Moment;
 use std::alloc::Global;
 use std::process::Abort;
@@ -40,10 +40,6 @@ fn settings(senders: u8) -> GmSettings
     }
 }
 
-// A Delay_Req of the client of table 0.
-const DELAY_REQ: &str = "0112002c040004000000000000000000000000000a0000000000000300010000\
-    017f00000000000000000000";
-
 // A clock that tells the seconds from 0 on.
 fn seconds(alloc: Global) -> Result<MemClock, Fail> {
     let mut moments = Vec::new(alloc);
@@ -57,14 +53,10 @@ fn seconds(alloc: Global) -> Result<MemClock, Fail> {
 // A host at whose general channel clients of tables 0 and 1 ask for Syncs, and at whose event
 // channel the Delay_Req comes in the second round.
 fn host(alloc: Global) -> Result<OnceHost<StagedPort>, Fail> {
-    let asks = vec![in alloc;
-        arriving(alloc, 0x0a00_0103, request(alloc, "03", SYNC)?.as_str())?,
-        arriving(alloc, 0x0a00_0104, request(alloc, "04", SYNC)?.as_str())?,
-    ]?;
-    let delay = vec![in alloc; Given::Nothing, arriving(alloc, 0x0a00_0103, DELAY_REQ)?]?;
+    let (asks, delays) = (asks(alloc)?, delays(alloc)?);
     let mut opened = still(alloc);
     opened.p4 = StagedPort::new(alloc, asks, Vec::new(alloc));
-    opened.p5 = StagedPort::new(alloc, delay, Vec::new(alloc));
+    opened.p5 = StagedPort::new(alloc, delays, Vec::new(alloc));
     opened.c0 = seconds(alloc)?;
     opened.c1 = seconds(alloc)?;
     opened.c2 = seconds(alloc)?;
