@@ -118,9 +118,43 @@ module _ {P C : Type 0} (ports : Ports P) (clocks : Clocks C) where
 
   sent_by_five : (sends : ℕ → List Departure) (s f m : ℕ) (old new : KeptGm P) (a b : P) → AllHandled ports sends 0 s f m (five old) (five new) →
       HaveNotRisen (map ports.faults (five old ++ a ∷ [])) (map ports.faults (five new ++ b ∷ [])) → SentByFive sends old new s
-  sent_by_five sends s f m old new a b
-      (s0, f0, m0, t0, g0, n0, d0, e0, c0, h0, (s1, f1, m1, t1, g1, n1, d1, e1, c1, h1, (s2, f2, m2, t2, g2, n2, d2, e2, c2, h2,
-      (s3, f3, m3, t3, g3, n3, d3, e3, c3, h3, (s4, f4, m4, t4, g4, n4, d4, e4, c4, h4, (d5, e5, c5))))))
+  sent_by_five sends s f m old new a b (
+    s0,
+    f0,
+    m0,
+    t0,
+    g0,
+    n0,
+    d0,
+    e0,
+    c0,
+    h0,
+    (
+      s1,
+      f1,
+      m1,
+      t1,
+      g1,
+      n1,
+      d1,
+      e1,
+      c1,
+      h1,
+      (
+        s2,
+        f2,
+        m2,
+        t2,
+        g2,
+        n2,
+        d2,
+        e2,
+        c2,
+        h2,
+        (s3, f3, m3, t3, g3, n3, d3, e3, c3, h3, (s4, f4, m4, t4, g4, n4, d4, e4, c4, h4, (d5, e5, c5))),
+      ),
+    ),
+  )
       (r0, (r1, (r2, (r3, (r4, r5))))) = record {
         p0 = h0.all r0;
         p1 = h1.all r1;

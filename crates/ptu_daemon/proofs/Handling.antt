@@ -182,7 +182,41 @@ module _ {P : Type 0} (ports : Ports P) where
   -- all sends and failures of the five
   pub five_each : (sends : ℕ → List Departure) (old new : KeptGm P) (sent failed missed : ℕ) → AllHandled ports sends 0 sent failed missed (five old) (five new) →
       sent + failed ≡ length (sends 0) + length (sends 1) + length (sends 2) + length (sends 3) + length (sends 4) + missed
-  five_each sends old new sent failed missed
-      (s0, f0, m0, t0, g0, n0, d0, e0, c0, h0, (s1, f1, m1, t1, g1, n1, d1, e1, c1, h1, (s2, f2, m2, t2, g2, n2, d2, e2, c2, h2,
-      (s3, f3, m3, t3, g3, n3, d3, e3, c3, h3, (s4, f4, m4, t4, g4, n4, d4, e4, c4, h4, (d5, e5, c5)))))) =
+  five_each sends old new sent failed missed (
+    s0,
+    f0,
+    m0,
+    t0,
+    g0,
+    n0,
+    d0,
+    e0,
+    c0,
+    h0,
+    (
+      s1,
+      f1,
+      m1,
+      t1,
+      g1,
+      n1,
+      d1,
+      e1,
+      c1,
+      h1,
+      (
+        s2,
+        f2,
+        m2,
+        t2,
+        g2,
+        n2,
+        d2,
+        e2,
+        c2,
+        h2,
+        (s3, f3, m3, t3, g3, n3, d3, e3, c3, h3, (s4, f4, m4, t4, g4, n4, d4, e4, c4, h4, (d5, e5, c5))),
+      ),
+    ),
+  ) =
       omega (arith, d0, e0, c0, d1, e1, c1, d2, e2, c2, d3, e3, c3, d4, e4, c4, d5, e5, c5, h0.each, h1.each, h2.each, h3.each, h4.each)
