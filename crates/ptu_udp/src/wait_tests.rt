@@ -72,20 +72,20 @@ fn wait(waiting: &mut Waiting, micros: u64) -> u64 {
     waiting.clock.slept()
 }
 
-// It refuses a wait of more than fifty milliseconds, one by whole milliseconds alone, one that does
+// It refuses a wait of more than a hundred milliseconds, one by whole milliseconds alone, one that does
 // not end where it is to, one that waits where that is past, one that does not wait, and one that
 // wakes for a message alone that is due within 40 microseconds.
 #[test]
 fn a_wait_ends_at_its_moment(rt: HostRuntime) -> Result<(), Fail> {
     let alloc = rt.alloc();
     let mut still = empty(&rt, alloc, 0, None, None)?;
-    assert_eq!(rt; wait(&mut still, 1 << 40), 50_000);
-    assert_eq!(rt; wait(&mut still, 50_750), 50_750);
-    assert_eq!(rt; wait(&mut still, 54_230), 53_750);
-    assert_eq!(rt; wait(&mut still, 54_230), 54_230);
-    assert_eq!(rt; wait(&mut still, 54_230), 54_230);
-    assert_eq!(rt; wait(&mut still, 0), 54_230);
-    assert_eq!(rt; wait(&mut still, 54_240), 54_270);
+    assert_eq!(rt; wait(&mut still, 1 << 40), 100_000);
+    assert_eq!(rt; wait(&mut still, 100_750), 100_750);
+    assert_eq!(rt; wait(&mut still, 104_230), 103_750);
+    assert_eq!(rt; wait(&mut still, 104_230), 104_230);
+    assert_eq!(rt; wait(&mut still, 104_230), 104_230);
+    assert_eq!(rt; wait(&mut still, 0), 104_230);
+    assert_eq!(rt; wait(&mut still, 104_240), 104_270);
     Ok(())
 }
 
@@ -164,7 +164,7 @@ fn a_wait_learns_by_how_much_a_sleep_is_late(rt: HostRuntime) -> Result<(), Fail
     Ok(())
 }
 
-// It refuses a port without a watch that does not wait, or longer than fifty milliseconds.
+// It refuses a port without a watch that does not wait, or longer than a hundred milliseconds.
 #[test]
 fn a_port_without_a_watch_sleeps_until_the_moment(rt: HostRuntime) -> Result<(), Fail> {
     let alloc = rt.alloc();
@@ -176,6 +176,6 @@ fn a_port_without_a_watch_sleeps_until_the_moment(rt: HostRuntime) -> Result<(),
     waiting.port = UdpPort::over(clock, start, socket, NUMBERS, readiness, None);
     assert_eq!(rt; wait(&mut waiting, 3700), 3700);
     assert_eq!(rt; wait(&mut waiting, 3700), 3700);
-    assert_eq!(rt; wait(&mut waiting, 99_000), 53_700);
+    assert_eq!(rt; wait(&mut waiting, 199_000), 103_700);
     Ok(())
 }

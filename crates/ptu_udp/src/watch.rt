@@ -10,7 +10,7 @@ use std::{io, thread};
 const MILLI: u64 = 1_000_000;
 
 /// For how many nanoseconds a wait takes at most.
-const LONGEST: u64 = 50 * MILLI;
+const LONGEST: u64 = 100 * MILLI;
 
 /// For how many nanoseconds a port that waits for less than a millisecond sleeps before it looks
 /// whether a datagram came.
@@ -99,7 +99,7 @@ fn left<R: Clock>(runtime: &R, start: Instant, until: Moment) -> u64 {
 }
 
 /// Waits until a datagram may wait at one of the sockets of the watch, or until the moment of a
-/// clock that counts from this instant, for fifty milliseconds at most. Without a watch, or where
+/// clock that counts from this instant, for a hundred milliseconds at most. Without a watch, or where
 /// the system fails to look, it sleeps so long.
 pub(crate) fn wait_until<R: Clock, L: Lookout>(
     runtime: &R,
