@@ -30,7 +30,8 @@ pub struct Resized {
 /// are above it, the newest are shed until the rest fits.
 ///
 /// # Errors
-/// `OutOfMemory` if there is no memory for the list of what is shed. Nothing has changed then.
+/// `OutOfMemory` if there is no memory for the list of what is shed, so only where what is reserved
+/// is above the new capacity. Nothing has changed then.
 pub fn resize<P: Port>(
     alloc: Global,
     s0: &mut Shard<P>,
@@ -47,6 +48,8 @@ pub fn resize<P: Port>(
         ≡ moment_for_all t book.old (four s0.old s1.old s2.old s3.old)) }
     ensures unchanged { OnErr result ((s0.new ≡ s0.old) × (s1.new ≡ s1.old)
         × (s2.new ≡ s2.old) × (s3.new ≡ s3.old) × (book.new ≡ book.old)) }
+    // Rows are put in order, and listed, only where some may have to be shed.
+    ensures memory { OnErr result (capacity < book.old.total) }
     ensures moments { IfOk result (λ r. (book.new.moment ≡ r.at) × (s0.new.moment ≡ r.at)
         × (s1.new.moment ≡ r.at) × (s2.new.moment ≡ r.at) × (s3.new.moment ≡ r.at)) }
     ensures capacity { OnOk result (book.new.capacity ≡ capacity) }
@@ -92,8 +95,9 @@ fn count_above<P: Port>(
     capacity: u64,
 ) -> usize
     requires { book.now.total ≡ shares (four s0.now s1.now s2.now s3.now) }
-    ensures { capacity < book.now.total →
+    ensures all { capacity < book.now.total →
         result ≡ rows_in (four s0.now s1.now s2.now s3.now) }
+    ensures none { book.now.total ≤ capacity → result ≡ 0 }
 {
     // Each row has a rate of at least 1, so that there are no more than the total says.
     let total = book.total();

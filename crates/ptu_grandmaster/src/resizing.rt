@@ -1,6 +1,6 @@
 //! Changes of capacity.
 
-ghost use Rattle.std.specs.Prelude.{◌≡◌, ◌+◌, ◌%◌, ℕ, List, [], ◌∷◌, ◌++◌, length, IfOk, OnErr};
+ghost use Rattle.std.specs.Prelude.{◌≡◌, ◌<◌, ◌+◌, ◌%◌, ℕ, List, [], ◌∷◌, ◌++◌, length, IfOk, OnErr};
 ghost use Rattle.ptu_outside.specs.HandsOver.{HandsOver, failed_in, sent_in};
 ghost use Rattle.ptu_history.specs.{Core.{core_step}, History.{Record}};
 ghost use Rattle.ptu_history.specs.Events as events;
@@ -77,10 +77,12 @@ impl<P: Port> Gm<P> {
     /// ones too.
     ///
     /// # Errors
-    /// After `OutOfMemory` nothing has changed, and nothing was sent.
+    /// `OutOfMemory`, only where what is reserved is above the new capacity. Nothing has changed
+    /// then, and nothing was sent.
     pub fn set_capacity(&mut self, t: Moment, capacity: u64) -> Result<Changed, OutOfMemory>
         requires { IsCapacity capacity }
         ensures unchanged { OnErr result (self.new ≡ self.old) }
+        ensures memory { OnErr result (capacity < self.old.book.total) }
         ensures at { IfOk result (λ c. c.at
             ≡ moment_for_all t self.old.book (tables self.old)) }
         // The CANCELs of the grants that are shed are handed to the reply port, in order.

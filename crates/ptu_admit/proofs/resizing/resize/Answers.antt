@@ -20,7 +20,7 @@ shed_above-list-requires-clause-room g c = λ above.
     let enough : rows_in (four c.sweep_all.new.s0 c.sweep_all.new.s1 c.sweep_all.new.s2 c.sweep_all.new.s3) ≤ c.count_above-count.result =
     omega (
       arith,
-      c.count_above-count.ensures (omega (
+      c.count_above-count.ensures.all (omega (
         arith,
         above,
         c.requires.sum,
