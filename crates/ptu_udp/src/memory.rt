@@ -12,29 +12,43 @@ use std::sync::atomic::{AtomicU64, Ordering};
 use std::time::{Clock, Duration};
 
 /// A clock that stands still but while somebody sleeps. Each sleep takes a little longer than was
-/// asked.
+/// asked, and each second one may take longer still.
 #[derive(Drop)]
 pub(crate) struct SleepClock {
     nanos: Arc<AtomicU64, Global>,
+    sleeps: Arc<AtomicU64, Global>,
     late: u64,
+    later: u64,
 }
 
 impl SleepClock {
     /// A clock at 0, by which each sleep takes so many microseconds longer.
     pub(crate) fn new(alloc: Global, late: u64) -> Result<SleepClock, AllocError> {
+        SleepClock::uneven(alloc, late, late)
+    }
+
+    /// A clock at 0, by which each first sleep of two takes so many microseconds longer, and each
+    /// second one so many.
+    pub(crate) fn uneven(alloc: Global, late: u64, later: u64) -> Result<SleepClock, AllocError> {
         let nanos = Arc::new(alloc, AtomicU64::new(0))?;
+        let sleeps = Arc::new(alloc, AtomicU64::new(0))?;
         Ok(SleepClock {
             nanos,
+            sleeps,
             late: late.saturating_mul(1000),
+            later: later.saturating_mul(1000),
         })
     }
 
     /// The same clock once more: a rest on one of them moves both.
     pub(crate) fn share(&self) -> Result<SleepClock, AllocError> {
         let nanos = self.nanos.clone()?;
+        let sleeps = self.sleeps.clone()?;
         Ok(SleepClock {
             nanos,
+            sleeps,
             late: self.late,
+            later: self.later,
         })
     }
 
@@ -61,9 +75,11 @@ impl Clock for SleepClock {
 
     fn sleep(&self, duration: Duration) {
         let nanos = u64::try_from(duration.as_nanos()).unwrap_or(u64::MAX);
+        let is_second = self.sleeps.fetch_add(1, Ordering::Relaxed) % 2 == 1;
+        let late = if is_second { self.later } else { self.late };
         let _ = self
             .nanos
-            .fetch_add(nanos.saturating_add(self.late), Ordering::Relaxed);
+            .fetch_add(nanos.saturating_add(late), Ordering::Relaxed);
     }
 }
 

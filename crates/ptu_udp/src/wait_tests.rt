@@ -33,7 +33,16 @@ fn event_port(
     general_at: Option<u64>,
     event_at: Option<u64>,
 ) -> Result<Waiting, Fail> {
-    let clock = SleepClock::new(alloc, late)?;
+    port_by(alloc, SleepClock::new(alloc, late)?, general_at, event_at)
+}
+
+// Likewise by this clock.
+fn port_by(
+    alloc: Global,
+    clock: SleepClock,
+    general_at: Option<u64>,
+    event_at: Option<u64>,
+) -> Result<Waiting, Fail> {
     let seen = Seen::new(alloc)?;
     let socket = MemSocket::new(0, 0, &seen)?;
     let start = Instant::now(&clock)?;
@@ -73,8 +82,8 @@ fn wait(waiting: &mut Waiting, micros: u64) -> u64 {
 }
 
 // It refuses a wait of more than a hundred milliseconds, one by whole milliseconds alone, one that does
-// not end where it is to, one that waits where that is past, one that does not wait, and one that
-// wakes for a message alone that is due within 40 microseconds.
+// not end where it is to, one that waits where that is past, one that does not wait, one that wakes
+// for a message alone that is due within 40 microseconds, and one that sleeps where a few are left.
 #[test]
 fn a_wait_ends_at_its_moment(rt: HostRuntime) -> Result<(), Fail> {
     let alloc = rt.alloc();
@@ -86,6 +95,7 @@ fn a_wait_ends_at_its_moment(rt: HostRuntime) -> Result<(), Fail> {
     assert_eq!(rt; wait(&mut still, 104_230), 104_230);
     assert_eq!(rt; wait(&mut still, 0), 104_230);
     assert_eq!(rt; wait(&mut still, 104_240), 104_270);
+    assert_eq!(rt; wait(&mut still, 104_275), 104_270);
     Ok(())
 }
 
@@ -155,12 +165,31 @@ fn a_wait_learns_by_how_much_a_sleep_is_late(rt: HostRuntime) -> Result<(), Fail
     let mut waiting = empty(&rt, rt.alloc(), 60, None, None)?;
     assert_eq!(rt; wait(&mut waiting, 100), 160);
     let mut end = 160;
-    for _ in 0..50 {
+    for _ in 0..400 {
         let due: u64 = u64::saturating_add(end, 100);
         end = wait(&mut waiting, due);
     }
     let due: u64 = u64::saturating_add(end, 100);
     assert!(rt; wait(&mut waiting, due) <= due.saturating_add(1));
+    Ok(())
+}
+
+// It refuses a port that takes the usual late end for the rule, so that each second sleep ends before
+// what is due, and a second one makes it late.
+#[test]
+fn no_sleep_ends_much_too_early(rt: HostRuntime) -> Result<(), Fail> {
+    let alloc = rt.alloc();
+    let clock = SleepClock::uneven(alloc, 10, 90)?;
+    let mut waiting = port_by(alloc, clock, None, None)?;
+    waiting.general.note_receive(true);
+    assert_eq!(rt; waiting.port.receive(&mut [0; 2048]), Ok(Some((CLIENT, 3))));
+    assert_eq!(rt; waiting.port.receive(&mut [0; 2048]), Ok(None));
+    let mut end: u64 = 0;
+    for _ in 0..200 {
+        let due: u64 = u64::saturating_add(end, 100);
+        end = wait(&mut waiting, due);
+        assert!(rt; due <= end.saturating_add(3));
+    }
     Ok(())
 }
 

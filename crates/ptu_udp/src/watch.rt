@@ -19,6 +19,13 @@ const NAP: u64 = 100_000;
 /// For how many nanoseconds it sleeps at least: what is due in that time is sent together.
 const SHORTEST: u64 = 40_000;
 
+/// For how many nanoseconds at most it reads the clock until they have passed: a sleep takes as much
+/// of the processor's time.
+const SPIN: u64 = 6_000;
+
+/// How often it reads the clock at most: more often than it can in that time.
+const MOST_READS: u32 = 1000;
+
 /// How often a wait looks at most: more often than it can nap in a millisecond.
 const MOST_LOOKS: u32 = 16;
 
@@ -28,7 +35,7 @@ pub(crate) struct Watch<L> {
     lookout: L,
     general: Readiness,
     event: Readiness,
-    // By how many nanoseconds the system ends a sleep too late, as far as it was seen.
+    // By how many nanoseconds the system ends a sleep too late at least, as far as it was seen.
     late: u64,
 }
 
@@ -59,22 +66,32 @@ impl<L: Lookout> Watch<L> {
     }
 
     // Sleeps for so many nanoseconds, but for what the system makes more of it. That is seen anew
-    // each time, and a late end counts for an eighth.
+    // each time. What is less than before counts whole, since a sleep that ends too early is
+    // followed by another one. Of what is more a little counts.
     fn nap<R: Clock>(&mut self, runtime: &R, nanos: u64) -> io::Result<()> {
-        let asked = nanos.saturating_sub(self.late);
+        let asked = nanos.saturating_sub(self.late).max(1);
         let before = Instant::now(runtime)?;
         sleep(runtime, asked);
         let slept = nanos_since(runtime, before)?;
         let late = slept.saturating_sub(asked).min(NAP);
-        self.late = (7 * self.late.min(NAP) + late) / 8;
+        self.late = late.min((31 * self.late.min(NAP) + late) / 32);
         Ok(())
+    }
+
+    // Waits for so many nanoseconds, of less than a millisecond, or for a part of them.
+    fn pause<R: Clock>(&mut self, runtime: &R, nanos: u64) -> io::Result<()> {
+        if nanos <= SPIN {
+            spin(runtime, nanos)
+        } else {
+            self.nap(runtime, nanos.max(SHORTEST).min(NAP))
+        }
     }
 
     // Waits for so many nanoseconds at most, and says whether the wait is over.
     fn wait_for<R: Clock>(&mut self, runtime: &R, nanos: u64) -> io::Result<bool> {
         let millis = nanos.saturating_sub(self.late) / MILLI;
         if 0 < nanos && millis == 0 && !self.is_known() {
-            self.nap(runtime, nanos.max(SHORTEST).min(NAP))?;
+            self.pause(runtime, nanos)?;
         }
         Ok(self.look(millis)? || 0 < millis || nanos <= NAP)
     }
@@ -82,6 +99,17 @@ impl<L: Lookout> Watch<L> {
 
 fn sleep<R: Clock>(runtime: &R, nanos: u64) {
     thread::sleep(runtime, Duration::from_nanos(nanos));
+}
+
+// Reads the clock until so many nanoseconds have passed.
+fn spin<R: Clock>(runtime: &R, nanos: u64) -> io::Result<()> {
+    let before = Instant::now(runtime)?;
+    for _ in 0..MOST_READS {
+        if nanos <= nanos_since(runtime, before)? {
+            break;
+        }
+    }
+    Ok(())
 }
 
 fn nanos_since<R: Clock>(runtime: &R, start: Instant) -> io::Result<u64> {
