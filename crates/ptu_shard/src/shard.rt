@@ -121,7 +121,9 @@ impl<P: Port> Shard<P> {
         if count <= self.room - self.rows.len() {
             return Ok(());
         }
-        self.rows.reserve(count)?;
+        // (room grows fourfold, since all that is kept is moved then)
+        let more = self.rows.len().saturating_mul(3);
+        self.rows.reserve(count.max(more))?;
         let room = self.rows.capacity();
         let entries = twice(room)?;
         self.edges.reserve(entries)?;
@@ -131,6 +133,7 @@ impl<P: Port> Shard<P> {
     }
 
     /// The lease of the client and kind, if a row is kept. One that is over may still be kept.
+    #[inline(always)]
     pub fn lease(&self, client: &Client, kind: Kind) -> Option<Lease>
         ensures { result ≡ lease_of client.now kind self.now.rows }
     {
