@@ -1,5 +1,5 @@
 -- An address by its numbers, one after the other.
-use Rattle.std.proofs.Common.{◌≡◌, ◌∙◌, ◌<◌, ◌≤◌, ◌+◌, ◌*◌, ◌==◌, ℕ, zero, suc, Bool, true, false, cond, eqb, List, [], ◌∷◌, length, take, drop, get_or, map, ◌⊎◌, Option, Some, None, refl, ap, inl, inr, arith}
+use Rattle.std.proofs.Common.{◌≡◌, ◌∙◌, ◌<◌, ◌≤◌, ◌+◌, ◌*◌, ◌==◌, ℕ, zero, suc, Bool, true, false, cond, eqb, List, [], ◌∷◌, length, take, drop, get_or, ◌⊎◌, Option, Some, None, refl, ap, inl, inr, arith}
 use Rattle.std.specs.{Prelude.{option_map, option_and_then}, Char.{is_digit}}
 use Rattle.std.specs.List.{list_all, position, slice_split}
 use Rattle.std.proofs.lemmas.{Bool.{cases_lt, eqb-true}, Fmt.{length-decimal-le}}

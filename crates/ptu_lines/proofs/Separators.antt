@@ -1,8 +1,8 @@
 -- A list cut at the first place that passes a test.
-use Rattle.std.proofs.Common.{◌≡◌, ◌<◌, ℕ, zero, suc, Bool, true, false, nat_lt, List, [], ◌∷◌, length, take, drop, slice_index, Option, None, Some, refl, sym, ◌∙◌, inl, inr, arith}
+use Rattle.std.proofs.Common.{◌≡◌, ◌<◌, ◌≤◌, ◌+◌, ◌-◌, ℕ, zero, suc, Bool, true, false, nat_lt, List, [], ◌∷◌, length, take, drop, slice_index, Option, None, Some, refl, sym, ◌∙◌, inl, inr, arith}
 use Rattle.std.specs.List.{position, position_or_len, slice_split}
 use Rattle.std.proofs.lemmas.{Bool.{cases_lt, lt-ltb, ltb-true}, List.Quantifiers.{position-Some}}
-use Rattle.std.proofs.lemmas.List.Sums.{fails_before_first}
+use Rattle.std.proofs.lemmas.List.{get_or-drop, get_or-take, length-drop, length-take-le, Sums.{fails_before_first}}
 use Rattle.memchr.specs.Find.{IsFirstByte}
 
 -- what does not hold is false
@@ -61,11 +61,48 @@ first-cut test [] p c = absurd (omega (arith, c.within))
 first-cut test (x ∷ xs) zero c = rw c.passes refl
 first-cut test (x ∷ xs) (suc p) c = rw (c.before 0 (omega arith)) (omega (arith, first-cut test xs p (cuts_behind test x xs p c)))
 
+pub none_position : (test : ℕ → Bool) (xs : List ℕ) → NoneIn test xs → None ≡ position test xs
+none_position test xs h = rw (first-none test xs h, fails (nat_lt (length xs) (length xs)) (λ h. omega (arith, ltb-true (length xs) (length xs) h))) refl
+
+pub cut_position : (test : ℕ → Bool) (xs : List ℕ) (p : ℕ) → CutsAt test xs p → Some p ≡ position test xs
+cut_position test xs p c = rw (first-cut test xs p c, lt-ltb p (length xs) c.within) refl
+
 pub position_is : (test : ℕ → Bool) (xs : List ℕ) (r : Option ℕ) → IsFirstByte test xs r → r ≡ position test xs
-position_is test xs None h = rw (first-none test xs (none_in test xs h), fails (nat_lt (length xs) (length xs)) (λ h. omega (arith, ltb-true (length xs) (length xs) h))) refl
-position_is test xs (Some p) h =
-    let c = cuts_at test xs p h in
-    rw (first-cut test xs p c, lt-ltb p (length xs) c.within) refl
+position_is test xs None h = none_position test xs (none_in test xs h)
+position_is test xs (Some p) h = cut_position test xs p (cuts_at test xs p h)
+
+-- the first place, found in the front, or behind a front that has none
+pub cut_front : (test : ℕ → Bool) (xs : List ℕ) (n p : ℕ) → n ≤ length xs → CutsAt test (take n xs) p → CutsAt test xs p
+cut_front test xs n p le c =
+    let short : p < n = omega (arith, c.within, length-take-le n xs le) in
+    record {
+      within = omega (arith, short, le);
+      passes = rw (get_or-take n xs p 0 short) at c.passes;
+      before = λ k lt. rw (get_or-take n xs k 0 (omega (arith, lt, short))) at (c.before k lt);
+    }
+
+none_front : (test : ℕ → Bool) (xs : List ℕ) (n k : ℕ) → n ≤ length xs → NoneIn test (take n xs) → k < n → test (slice_index xs k) ≡ false
+none_front test xs n k le h lt = rw (get_or-take n xs k 0 lt) at (h k (omega (arith, lt, length-take-le n xs le)))
+
+pub cut_behind : (test : ℕ → Bool) (xs : List ℕ) (n p : ℕ) → n ≤ length xs → NoneIn test (take n xs) → CutsAt test (drop n xs) p → CutsAt test xs (n + p)
+cut_behind test xs n p le h c = record {
+  within = omega (arith, c.within, length-drop n xs, le);
+  passes = rw (get_or-drop n xs p 0) at c.passes;
+  before = λ k lt. elim (cases_lt k n) [
+    | inl near ↦ none_front test xs n k le h near
+    | inr far ↦
+        let place : n + (k - n) ≡ k = omega (arith, far) in
+        rw (get_or-drop n xs (k - n) 0, place) at (c.before (k - n) (omega (arith, lt, far)))
+  ];
+}
+
+pub none_behind_front : (test : ℕ → Bool) (xs : List ℕ) (n : ℕ) → n ≤ length xs → NoneIn test (take n xs) → NoneIn test (drop n xs) → NoneIn test xs
+none_behind_front test xs n le h none = λ k lt. elim (cases_lt k n) [
+  | inl near ↦ none_front test xs n k le h near
+  | inr far ↦
+      let place : n + (k - n) ≡ k = omega (arith, far) in
+      rw (get_or-drop n xs (k - n) 0, place) at (none (k - n) (omega (arith, lt, far, length-drop n xs)))
+]
 
 -- the same by the place itself
 pub none_placed : (test : ℕ → Bool) (xs : List ℕ) → position test xs ≡ None → NoneIn test xs

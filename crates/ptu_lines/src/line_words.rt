@@ -85,6 +85,21 @@ fn keep_end(ends: &mut [usize; MOST_WORDS], place: usize, end: usize)
     }
 }
 
+// How many octets of a word are looked at one after the other: most words are shorter.
+const SHORT_WORD: usize = 16;
+
+// Where the first space stands.
+fn next_space(text: &[u8]) -> Option<usize>
+    ensures { result ≡ position (λ octet. octet == 32) text.now }
+{
+    let near = text.len().min(SHORT_WORD);
+    if let Some(size) = place(&text[..near], b' ') {
+        return Some(size);
+    }
+    let size = memchr(b' ', &text[near..])?;
+    Some(near + size)
+}
+
 // The ends of the first words of a line, and how many words it has.
 fn ends(line: &[u8]) -> ([usize; MOST_WORDS], usize)
     ensures { HasEnds line.now result.0 result.1 }
@@ -92,7 +107,7 @@ fn ends(line: &[u8]) -> ([usize; MOST_WORDS], usize)
     let mut ends = [0; MOST_WORDS];
     let mut count = 0;
     let mut from = 0;
-    while let Some(size) = memchr(b' ', &line[from..]) {
+    while let Some(size) = next_space(&line[from..]) {
         let end = from + size;
         keep_end(&mut ends, count, end);
         count += 1;
