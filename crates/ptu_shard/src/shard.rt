@@ -121,7 +121,9 @@ impl<P: Port> Shard<P> {
         if count <= self.room - self.rows.len() {
             return Ok(());
         }
-        self.rows.reserve(count)?;
+        // (room grows fourfold, since all that is kept is moved then)
+        let more = self.rows.len().saturating_mul(3);
+        self.rows.reserve(count.max(more))?;
         let room = self.rows.capacity();
         let entries = twice(room)?;
         self.edges.reserve(entries)?;
