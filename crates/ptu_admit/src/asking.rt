@@ -32,6 +32,7 @@ use ptu_units::{Moment, rate};
 /// What fits by the total fits beside the other live grants too, and is granted. What does not fit
 /// by the total may still fit beside what is live: `decide_all` decides it anew over four swept
 /// tables.
+#[inline(always)]
 pub fn decide_one<P: Port>(
     shard: &mut Shard<P>,
     book: &mut Book,

@@ -21,6 +21,7 @@ use ptu_units::{Kind, Log, Moment, period, rate};
 
 /// What the total has beside the client's own row of the kind, in sixteenths of a message per
 /// second.
+#[inline(always)]
 pub(crate) fn others_beside<P: Port>(
     shard: &Shard<P>,
     book: &Book,

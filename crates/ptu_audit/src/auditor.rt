@@ -225,6 +225,7 @@ impl Reporter for ReportReader {
 
     ghost stands_for = { λ reader. StandsFor reader.auditor };
 
+    #[inline(always)]
     #[tactic(auto, unfolding(crate::specs::Reading::audit_rules))]
     fn take(
         &mut self,

@@ -23,6 +23,7 @@ fn is_text(word: &[u8], text: &str) -> Option<()>
 }
 
 /// `Some` where the word with this number is this text.
+#[inline(always)]
 pub fn literal(line: &WordList, k: usize, text: &str) -> Option<()>
     ensures { result ≡ forms.field k (forms.is_text text.now) line.now }
 {
@@ -47,6 +48,7 @@ pub fn number_of(word: &[u8]) -> Option<u64>
 }
 
 /// The number that the word with this number is.
+#[inline(always)]
 pub fn number_field(line: &WordList, k: usize) -> Option<u64>
     ensures { result ≡ forms.field k forms.any_number line.now }
 {
@@ -89,6 +91,7 @@ fn channel_of(word: &[u8]) -> Option<()>
 }
 
 /// `Some` where the word with this number is a channel.
+#[inline(always)]
 pub fn channel_field(line: &WordList, k: usize) -> Option<()>
     ensures { result ≡ forms.field k forms.channel_of line.now }
 {
@@ -116,6 +119,7 @@ fn of_kind(kind: Kind, value: i8) -> Option<Log>
     Log::of(kind, value)
 }
 
+#[inline(always)]
 fn log_of(word: &[u8], kind: Kind) -> Option<Log>
     ensures { result ≡ forms.log_of_kind kind word.now }
 {
@@ -167,6 +171,7 @@ fn hex_of<'a>(word: &[u8], buffer: &'a mut [u8; LONGEST_DATAGRAM]) -> Option<Len
 }
 
 /// The octets that the word with this number spells in lower case, put into the buffer.
+#[inline(always)]
 pub fn hex_field<'a>(
     line: &WordList,
     k: usize,

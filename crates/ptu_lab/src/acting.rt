@@ -66,6 +66,7 @@ impl Lab {
     ///
     /// # Errors
     /// `OutOfMemory`. Nothing is said of the lab then: the run ends.
+    #[inline(always)]
     pub fn act(&mut self, at: Moment, ip: u32, act: Act<'_>) -> Result<Option<Cause>, OutOfMemory>
         requires means { (c : Course) × LabStandsFor ⟦<dyn Judge as Judge>⟧ self.old c }
         requires within { IsActWithin act }

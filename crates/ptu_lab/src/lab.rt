@@ -61,6 +61,7 @@ impl Lab {
     ///
     /// # Errors
     /// `OutOfMemory`. Nothing is said of the lab then: the run ends.
+    #[inline(always)]
     pub fn step(
         &mut self,
         command: Command<'_>,
@@ -82,6 +83,7 @@ impl Lab {
     }
 
     // Does what is commanded at the line that the journal has begun.
+    #[inline(always)]
     fn obey(
         &mut self,
         command: Command<'_>,

@@ -55,6 +55,7 @@ impl Reporter for Replayer {
         (map (λ j. (Judge-box j).Judge.held j.value) replayer.lab.stock.gaps.items)
         replayer.lab course };
 
+    #[inline(always)]
     #[tactic(auto, unfolding(ptu_world::specs::Report::rules))]
     fn take(
         &mut self,

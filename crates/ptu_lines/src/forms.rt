@@ -92,6 +92,7 @@ fn one_digit(units: u8) -> Option<u32>
 }
 
 // A number from 0 to 255.
+#[inline(always)]
 fn byte(word: &[u8]) -> Option<u32>
     ensures value { result ≡ number_within word.now 0 255 }
     ensures below { IfSome result (λ byte. byte < 256) }
@@ -105,6 +106,7 @@ fn byte(word: &[u8]) -> Option<u32>
 }
 
 // The number from 0 to 255 that stands before the first dot, and what stands behind that dot.
+#[inline(always)]
 fn byte_before_dot(word: &[u8]) -> Option<(u32, &[u8])>
     ensures value { option_map (λ parts. (parts.0, bytes_of parts.1.now)) result
         ≡ first_of_several (bytes_of word.now) }
@@ -122,6 +124,7 @@ fn byte_before_dot(word: &[u8]) -> Option<(u32, &[u8])>
 
 /// IP: four NUM from 0 to 255, joined by dots, the first of them the highest octet of the address,
 /// or `None` where the word is of another form.
+#[inline(always)]
 pub fn ip(word: &[u8]) -> Option<u32>
     ensures { result ≡ ip_of word.now }
 {
@@ -146,6 +149,7 @@ pub fn clock(word: &[u8]) -> Option<u64>
 /// HEX: how many octets the word writes, put at the front of `out`, or `None` where the word is of
 /// another form: an even number of hexadecimal digits of either case, for 1 to 2048 octets, or `-`
 /// for none. After `None` the content of `out` is not said.
+#[inline(never)]
 pub fn octets(word: &[u8], out: &mut [u8; LONGEST_DATAGRAM]) -> Option<usize>
     ensures form { MatchOption (octets_of word.now) (result ≡ None)
         (λ octets. result ≡ Some (length octets)) }

@@ -55,6 +55,7 @@ fn first_end(octets: &[u8]) -> Option<usize>
 }
 
 // Whether all octets are from 20 to 7E (hexadecimal).
+#[inline(always)]
 fn is_plain_text(text: &[u8]) -> bool
     ensures { result ≡ list_all is_plain text.now }
 {
@@ -67,6 +68,7 @@ fn is_plain_text(text: &[u8]) -> bool
 
 // Why a line is refused, if it is: so many octets stand before it, and the first `text` of its own
 // are its text.
+#[inline(always)]
 fn refusal(before: usize, octets: &[u8], text: usize) -> Option<LineCause>
     requires before { before ≤ LONGEST_SCRIPT }
     requires octets { length octets.now ≤ 8193 }
@@ -89,6 +91,7 @@ fn refusal(before: usize, octets: &[u8], text: usize) -> Option<LineCause>
 
 // How many octets of those that wait are the next line's text, and how many the line has with its
 // 0A, as far as they are known.
+#[inline(always)]
 fn extent(waiting: &[u8], end: Option<usize>) -> (usize, usize)
     requires { end ≡ position is_end (take 8193 waiting.now) }
     ensures known { take result.1 waiting.now ≡ known_of end waiting.now }
@@ -107,6 +110,7 @@ fn extent(waiting: &[u8], end: Option<usize>) -> (usize, usize)
 }
 
 // The place of the first 0A among the first 8193 octets, where the first `searched` have none.
+#[inline(always)]
 fn end_past(waiting: &[u8], searched: usize) -> Option<usize>
     requires order { searched ≤ length waiting.now }
     requires short { searched ≤ 8193 }
@@ -120,6 +124,7 @@ fn end_past(waiting: &[u8], searched: usize) -> Option<usize>
 
 // Reads on until the next line's 0A is there, and gives its place, or until enough of the line is
 // there without it.
+#[inline(always)]
 fn find_end<S: Source>(
     buffer: &mut LineBuffer,
     before: usize,
@@ -182,6 +187,7 @@ impl LineReader {
     ///
     /// # Errors
     /// `Line` where the line is refused, and `Read` where the source failed.
+    #[inline(always)]
     pub fn next<S: Source>(&mut self, source: &mut S) -> Result<Option<u64>, LinesFault>
         requires in_step { AgreesOnEnd self.old.is_ended (S.left source.old) }
         ensures in_step { AgreesOnEnd self.new.is_ended (S.left source.new) }

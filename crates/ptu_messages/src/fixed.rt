@@ -45,6 +45,7 @@ fn response_octets(stamp: Stamp, requester: PortIdentity) -> [u8; 20]
 /// Writes a message of a fixed length to the front of `out`, and answers its size in octets: 44 for
 /// a Sync, a Delay_Req and a Follow_Up, 54 for a Delay_Resp, 64 for an Announce. It leaves the rest
 /// of `out` (IEEE 1588-2019 clause 13).
+#[inline(always)]
 pub fn write_fixed(message: &Message, out: &mut [u8; 64]) -> usize
     requires { IsFixed message.now }
 

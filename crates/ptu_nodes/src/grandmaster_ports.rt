@@ -16,6 +16,7 @@ use ptu_units::sizes::{DELAY_RESP_LENGTH, LONGEST_SIGNALING};
 ///
 /// # Errors
 /// `OutOfMemory`. The grandmaster goes on as before, with nothing more in its ports.
+#[inline(always)]
 pub fn reserve(
     gm: &mut Gm<MemPort>,
     port: usize,
@@ -53,6 +54,7 @@ pub fn reserve_replies(gm: &mut Gm<MemPort>) -> Result<(), OutOfMemory>
 }
 
 // Hands over what stands in the port of this index, and clears it.
+#[inline(always)]
 fn hand_over_port(
     gm: &mut Gm<MemPort>,
     port: usize,

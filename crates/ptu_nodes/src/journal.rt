@@ -86,6 +86,7 @@ impl Journal {
     ///
     /// # Errors
     /// `OutOfMemory`. Nothing is said of the journal then: the run ends.
+    #[inline(always)]
     #[tactic(auto, using(crate::proofs::HandedOver::nothing, crate::proofs::HandedOver::cleared))]
     pub fn hand_over(&mut self, port: &mut MemPort, ip: u32) -> Result<(), OutOfMemory>
         ensures noted { OnOk result (self.new ≡ with_handed ip port.old.sent self.old) }
@@ -99,6 +100,7 @@ impl Journal {
     }
 
     // The same, datagram by datagram.
+    #[inline(always)]
     fn hand_over_each(&mut self, port: &mut MemPort, ip: u32) -> Result<(), OutOfMemory>
         ensures noted { OnOk result (self.new ≡ with_handed ip port.old.sent self.old) }
         ensures cleared { OnOk result (port.new ≡ record port.old { sent = [] }) }
@@ -112,6 +114,7 @@ impl Journal {
     }
 
     // Adds a datagram, and says that it was sent, with its number.
+    #[inline(always)]
     fn add_sent(&mut self, sent: SentRef<'_>) -> Result<(), OutOfMemory>
         ensures { OnOk result (self.new ≡ with_sent (sent.entry ∷ []) self.old) }
     {

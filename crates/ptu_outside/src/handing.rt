@@ -12,6 +12,7 @@ use crate::port::Port;
 ///
 /// # Errors
 /// `Failed`, only where the port's count of faults rose.
+#[inline(always)]
 pub fn hand<P: Port>(port: &mut P, ip: u32, channel: Channel, bytes: &[u8]) -> Result<(), Failed>
     ensures { HandsOver P.Port port.old port.new
         (record { ip = ip; channel = channel; bytes = bytes.now } ∷ [])

@@ -150,6 +150,7 @@ impl Drop for MemPort {
 }
 
 // Adds a datagram at the end. Where no memory is found, all is as before.
+#[inline(always)]
 fn add(
     slots: &mut Vec<Slot>,
     octets: &mut Vec<u8>,
@@ -206,6 +207,7 @@ impl Port for MemPort {
 
     ghost is_sure = { IsSure };
 
+    #[inline(always)]
     fn send(&mut self, ip: u32, channel: Channel, bytes: &[u8]) -> Result<(), Failed>
         ensures handed { OnOk result (IfTold (Some self.new.sent) (append_told (Some self.old.sent)
             (record { ip = ip; channel = channel; bytes = bytes.now } ∷ []))) }

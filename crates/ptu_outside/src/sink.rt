@@ -39,6 +39,7 @@ pub trait Sink {
 ///
 /// # Errors
 /// `Failed` at the first call of the sink that fails. A prefix of the text was written then.
+#[inline(always)]
 pub fn write_whole<K: Sink>(sink: &mut K, text: &[u8]) -> Result<(), Failed>
     ensures whole { OnOk result (HasPut K.written K.handed sink.old sink.new (text.now ∷ [])) }
     ensures part { OnErr result (HasPutFront K.written K.handed sink.old sink.new text.now) }

@@ -104,6 +104,7 @@ impl<W: Write + Drop> Sink for StdSink<W> {
 
     /// A write that was interrupted is tried again. A writer that takes nothing of a piece is a
     /// fault.
+    #[inline(always)]
     fn write(&mut self, piece: &[u8]) -> Result<usize, Failed>
         ensures within { IfOk result (λ n. n ≤ length piece.now) }
         ensures some { IfOk result (λ n. 0 < length piece.now → 0 < n) }

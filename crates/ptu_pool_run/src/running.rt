@@ -46,6 +46,7 @@ impl Reporter for Pourer {
 
     ghost stands_for = { λ pourer told. StandsFor pourer.pouring told };
 
+    #[inline(always)]
     #[tactic(auto, unfolding(crate::specs::Reading::rules))]
     fn take(&mut self, alloc: Global, number: u64, line: &[u8], texts: &mut Texts) -> Stepped {
         match read_pool_command(line, &mut self.room) {

@@ -19,6 +19,7 @@ use ptu_outside::{Sink, Source, write_whole};
 use std::alloc::Global;
 
 // Hands a text to the sink in one piece, and its rest again until all is taken.
+#[inline(always)]
 fn put<K: Sink>(sink: &mut K, text: &[u8]) -> Result<(), Stop>
     ensures whole { OnOk result (HasPut K.written K.handed sink.old sink.new (text.now ∷ [])) }
     ensures part { OnErr result (HasPutPart K.written K.handed sink.old sink.new (text.now ∷ [])) }
@@ -32,6 +33,7 @@ fn put<K: Sink>(sink: &mut K, text: &[u8]) -> Result<(), Stop>
 }
 
 // One text after the other.
+#[inline(always)]
 fn put_all<K: Sink>(sink: &mut K, texts: &Texts) -> Result<(), Stop>
     ensures whole { OnOk result (HasPut K.written K.handed sink.old sink.new texts.now) }
     ensures part { OnErr result (HasPutPart K.written K.handed sink.old sink.new texts.now) }
@@ -67,6 +69,7 @@ fn refuse<R: Reporter, K: Sink>(
 
 // Hands on what a line or the end came to: its texts, or the text that names it as refused, which
 // ends the output.
+#[inline(always)]
 fn put_found<R: Reporter, K: Sink>(
     sink: &mut K,
     number: u64,

@@ -76,6 +76,7 @@ impl Texts {
 }
 
 // Puts the text of the value behind those that are done, and its span behind theirs.
+#[inline(always)]
 fn add_to<T: Text>(draft: &mut Draft, spans: &mut Vec<Span>, text: &T) -> Result<(), OutOfMemory>
     requires { draft.old.text ≡ [] }
     ensures octets { OnOk result (draft.new.done ≡ draft.old.done ++ T.text text.now) }
@@ -96,6 +97,7 @@ fn add_to<T: Text>(draft: &mut Draft, spans: &mut Vec<Span>, text: &T) -> Result
 
 // Puts the text of the value and its span as `add_to` does. After a failure a part of the text may
 // stand in the draft.
+#[inline(always)]
 fn finish<T: Text>(draft: &mut Draft, spans: &mut Vec<Span>, text: &T) -> Result<(), OutOfMemory>
     requires { draft.old.text ≡ [] }
     ensures octets { OnOk result (draft.new ≡ record {

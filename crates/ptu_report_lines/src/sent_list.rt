@@ -53,6 +53,7 @@ impl SentList {
     ///
     /// # Errors
     /// `OutOfMemory`, and then they are as before.
+    #[inline(always)]
     pub fn add(&mut self, sent: &SentRef<'_>) -> Result<(), OutOfMemory>
         ensures added { OnOk result (self.new ≡ self.old ++ sent.now ∷ []) }
         ensures same { OnErr result (self.new ≡ self.old) }
@@ -79,6 +80,7 @@ impl SentList {
 }
 
 // Adds what is kept of a datagram to the lists, to both or to none.
+#[inline(always)]
 fn add_to(heads: &mut Vec<Head>, octets: &mut Texts, sent: &SentRef<'_>) -> Result<(), OutOfMemory>
     ensures head { OnOk result (heads.new.items ≡ heads.old.items ++ record {
       from = sent.now.from;

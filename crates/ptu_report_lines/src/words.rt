@@ -92,6 +92,7 @@ impl LinePart for ChannelText {
 
     ghost most = { λ _. 7 };
 
+    #[inline(always)]
     fn put(self, line: &mut LineText) {
         match self.0 {
             Channel::Event => line.put_str("event"),

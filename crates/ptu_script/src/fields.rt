@@ -23,6 +23,7 @@ fn or_outside<T: Drop>(value: Option<T>, k: u8) -> Result<T, Cause>
     }
 }
 
+#[inline(always)]
 fn ip_at(line: &WordList, k: u8) -> Option<u32>
     ensures { result ≡ option_and_then ip_of (word_of line.now k) }
 {
@@ -33,6 +34,7 @@ fn ip_at(line: &WordList, k: u8) -> Option<u32>
 ///
 /// # Errors
 /// `Field(k)` if the word has another form or is out of its range, or is not there.
+#[inline(always)]
 pub fn ip_field(line: &WordList, k: u8) -> Result<u32, Cause>
     ensures { result ≡ field k ip_of line.now }
 {
@@ -55,6 +57,7 @@ pub fn clock_field(line: &WordList, k: u8) -> Result<u64, Cause>
     or_outside(clock_at(line, k), k)
 }
 
+#[inline(always)]
 fn number_at(line: &WordList, k: u8, least: u64, greatest: u64) -> Option<u64>
     ensures { result ≡ option_and_then (from_to least greatest) (word_of line.now k) }
 {
@@ -65,6 +68,7 @@ fn number_at(line: &WordList, k: u8, least: u64, greatest: u64) -> Option<u64>
 ///
 /// # Errors
 /// `Field(k)` if the word has another form or is out of its range, or is not there.
+#[inline(always)]
 pub fn number_field(line: &WordList, k: u8, least: u64, greatest: u64) -> Result<u64, Cause>
     ensures value { result ≡ field k (from_to least greatest) line.now }
     ensures within { IfOk result (λ n. (least ≤ n) × (n ≤ greatest)) }
@@ -72,6 +76,7 @@ pub fn number_field(line: &WordList, k: u8, least: u64, greatest: u64) -> Result
     or_outside(number_at(line, k, least, greatest), k)
 }
 
+#[inline(always)]
 fn moment_at(line: &WordList, k: u8) -> Option<Moment>
     ensures { result ≡ option_and_then moment_of (word_of line.now k) }
 {
@@ -82,6 +87,7 @@ fn moment_at(line: &WordList, k: u8) -> Option<Moment>
 ///
 /// # Errors
 /// `Field(k)` if the word has another form or is out of its range, or is not there.
+#[inline(always)]
 pub fn moment_field(line: &WordList, k: u8) -> Result<Moment, Cause>
     ensures { result ≡ field k moment_of line.now }
 {
@@ -191,6 +197,7 @@ pub fn truth_field(line: &WordList, k: u8) -> Result<bool, Cause>
 }
 
 // The number of octets that a word spells, which stand at the front of the room.
+#[inline(always)]
 fn octets_at(line: &WordList, k: u8, room: &mut [u8; LONGEST_DATAGRAM]) -> Option<usize>
     ensures form { MatchOption (option_and_then octets_of (word_of line.now k)) (result ≡ None)
         (λ octets. (result ≡ Some (length octets)) × (take (length octets) room.new ≡ octets)) }
@@ -205,6 +212,7 @@ fn octets_at(line: &WordList, k: u8, room: &mut [u8; LONGEST_DATAGRAM]) -> Optio
 /// # Errors
 /// `Field(k)` if the word has another form or is out of its range, or is not there. The content of
 /// the room is not said then.
+#[inline(always)]
 pub fn octets_field<'a>(
     line: &WordList,
     k: u8,

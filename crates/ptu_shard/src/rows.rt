@@ -25,6 +25,7 @@ pub(crate) struct Key {
 }
 
 /// The lease of the client and kind, if a row has one.
+#[inline(always)]
 pub(crate) fn find_lease(rows: &IndexMap<Key, Lease>, client: &Client, kind: Kind) -> Option<Lease>
     ensures { result ≡ lease_of client.now kind (rows_of rows.now.entries) }
 {

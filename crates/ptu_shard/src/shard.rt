@@ -133,6 +133,7 @@ impl<P: Port> Shard<P> {
     }
 
     /// The lease of the client and kind, if a row is kept. One that is over may still be kept.
+    #[inline(always)]
     pub fn lease(&self, client: &Client, kind: Kind) -> Option<Lease>
         ensures { result ≡ lease_of client.now kind self.now.rows }
     {

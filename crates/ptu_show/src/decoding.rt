@@ -27,6 +27,7 @@ struct Decoder {
 }
 
 // Adds the line of a datagram.
+#[inline(always)]
 #[tactic(auto, unfolding(crate::specs::Datagram::datagram_text))]
 fn add_datagram(
     alloc: Global,
@@ -62,6 +63,7 @@ impl Reporter for Decoder {
 
     ghost stands_for = { λ _ _. Unit {0} };
 
+    #[inline(always)]
     fn take(
         &mut self,
         alloc: Global,

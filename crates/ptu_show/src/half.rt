@@ -31,6 +31,7 @@ pub enum Part {
 
 impl Part {
     /// One is the Sync and one the Follow_Up.
+    #[inline(always)]
     pub fn is_other(self, part: Part) -> bool
         ensures { result ≡ is_other self part }
     {
@@ -53,6 +54,7 @@ pub struct Half {
 }
 
 // twoStepFlag is set.
+#[inline(always)]
 fn has_two_steps(header: &Header) -> bool
     ensures { result ≡ has_two_steps header.now }
 {
@@ -60,6 +62,7 @@ fn has_two_steps(header: &Header) -> bool
 }
 
 // The Sync in one step, of a Sync in two and its Follow_Up.
+#[inline(always)]
 fn sync_of(sync: &Half, follow_up: &Half) -> Option<Message>
     requires header { IsHeaderOf Part.Sync sync.now.header }
     requires seconds { follow_up.now.stamp.seconds < 2 ^ 48 }
@@ -83,6 +86,7 @@ fn sync_of(sync: &Half, follow_up: &Half) -> Option<Message>
 
 impl Half {
     /// The half that a message is, if it is one.
+    #[inline(always)]
     pub fn of(message: &Message) -> Option<Half>
         ensures { result ≡ half_by message.now.header message.now.body }
     {
@@ -103,6 +107,7 @@ impl Half {
     }
 
     /// What it has in common with the other half.
+    #[inline(always)]
     pub fn key(&self) -> HalfKey
         ensures { result ≡ key_of self.now }
     {
@@ -117,6 +122,7 @@ impl Half {
     /// one its Follow_Up: it has the header of the first without twoStepFlag, the sum of both
     /// correctionFields, and the timestamp of the second. There is none where that sum does not
     /// fit the correctionField.
+    #[inline(always)]
     pub fn joined(&self, before: &Half) -> Option<Message>
         requires before { IsHalf before.now }
         requires half { IsHalf self.now }

@@ -12,6 +12,7 @@ use std::alloc::Global;
 ///
 /// # Errors
 /// `OutOfMemory`, for the TLVs of a Signaling alone.
+#[inline(always)]
 #[tactic(auto, unfolding(crate::specs::Halves::half_in))]
 pub fn read_half(alloc: Global, bytes: &[u8]) -> Result<Option<Half>, OutOfMemory>
     ensures half { IfOk result (λ half. half ≡ half_in bytes.now) }

@@ -43,6 +43,7 @@ struct Joiner {
 }
 
 // Adds the line of a half, by the one that it joins with.
+#[inline(always)]
 fn add_half(
     number: u64,
     half: &Half,
@@ -70,6 +71,7 @@ fn add_half(
 }
 
 // Adds the line of a datagram.
+#[inline(always)]
 fn add_datagram(
     alloc: Global,
     number: u64,
@@ -101,6 +103,7 @@ impl Reporter for Joiner {
 
     ghost stands_for = { λ joiner past. StandsFor joiner.waiting.kept (halves_of past) };
 
+    #[inline(always)]
     fn take(
         &mut self,
         alloc: Global,

@@ -42,6 +42,7 @@ impl Waiting {
     ///
     /// # Errors
     /// `OutOfMemory`, and then what is kept is not said.
+    #[inline(always)]
     pub fn take(&mut self, half: Half) -> Result<Option<Half>, OutOfMemory>
         requires read { IsHalf half }
         requires means { (halves : List Half) × StandsFor self.old.kept halves }

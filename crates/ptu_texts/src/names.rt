@@ -17,6 +17,7 @@ impl LinePart for AddressText {
 
     ghost most = { λ _. 15 };
 
+    #[inline(always)]
     fn put(self, line: &mut LineText) {
         let [a, b, c, d] = self.0.to_be_bytes();
         line.put_octet(d);

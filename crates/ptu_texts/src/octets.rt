@@ -13,6 +13,7 @@ pub struct OctetsText<'a>(pub &'a [u8]);
 impl Text for OctetsText<'_> {
     ghost text = { λ o. encode_lower o.0.now };
 
+    #[inline(always)]
     fn put(&self, draft: &mut Draft) -> Result<(), OutOfMemory> {
         draft.put_digits(self.0)
     }

@@ -29,6 +29,7 @@ impl Model for Digits {
 }
 
 // Whether eight octets from a place on are there in both, and are the same.
+#[inline(always)]
 fn is_same(octets: &[u8], others: &[u8], at: usize) -> bool
     requires octets { at ≤ length octets.now }
     requires others { at ≤ length others.now }
@@ -46,6 +47,7 @@ fn is_same(octets: &[u8], others: &[u8], at: usize) -> bool
 
 // The next place, from one on up to which both are the same, from which they differ within eight
 // octets, or fewer than eight are left.
+#[inline(always)]
 fn next_other(octets: &[u8], others: &[u8], at: usize) -> usize
     requires size { length others.now ≡ length octets.now }
     requires at { at ≤ length octets.now }
@@ -63,6 +65,7 @@ fn next_other(octets: &[u8], others: &[u8], at: usize) -> usize
 
 // Makes eight octets from a place on, or those that are left, those of the other list, with their
 // digits, where those before are. Answers the place behind them.
+#[inline(always)]
 fn renew(last: &mut [u8], digits: &mut [u8], octets: &[u8], at: usize) -> usize
     requires size { length last.old ≡ length octets.now }
     requires digits { digits.old ≡ encode_lower last.old }
@@ -84,6 +87,7 @@ fn renew(last: &mut [u8], digits: &mut [u8], octets: &[u8], at: usize) -> usize
 }
 
 // Makes all octets those of the other list, with their digits.
+#[inline(always)]
 fn renew_all(last: &mut [u8], digits: &mut [u8], octets: &[u8])
     requires size { length last.old ≡ length octets.now }
     requires digits { digits.old ≡ encode_lower last.old }
@@ -98,6 +102,7 @@ fn renew_all(last: &mut [u8], digits: &mut [u8], octets: &[u8])
 }
 
 // Makes them so many octets.
+#[inline(always)]
 fn resize(octets: &mut Vec<u8>, digits: &mut Vec<u8>, size: usize) -> Result<(), OutOfMemory>
     requires size { size < 2 ^ 63 }
     requires digits { digits.old.items ≡ encode_lower octets.old.items }
@@ -134,6 +139,7 @@ impl Digits {
     ///
     /// # Errors
     /// `OutOfMemory`, and then nothing is said of the octets.
+    #[inline(always)]
     pub fn set(&mut self, octets: &[u8]) -> Result<(), OutOfMemory>
         ensures { OnOk result (self.new ≡ octets.now) }
     {

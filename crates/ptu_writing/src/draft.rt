@@ -72,6 +72,7 @@ impl Draft {
     ///
     /// # Errors
     /// `OutOfMemory`. What is done stays, and nothing is said of the text in the making.
+    #[inline(always)]
     pub fn put_digits(&mut self, octets: &[u8]) -> Result<(), OutOfMemory>
         ensures put { OnOk result (self.new.text ≡ self.old.text ++ encode_lower octets.now) }
         ensures done { self.new.done ≡ self.old.done }
