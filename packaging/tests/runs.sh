@@ -140,7 +140,7 @@ test_ends() {
 # All keys of `serve`, each with another value than its default but two_step, which is given.
 all_settings() {
     settings "epoch = 5" "repeat = 3" "port = 2" "domain = 5" "class = 110" "max_duration = 300" "senders = 2" "change_round = 7" \
-        "new_capacity = 8" "two_step = $1"
+        "new_capacity = 8" "two_step = $1" "control_port = 8319" 'control_key = "00b0aefffe000002"'
 }
 
 test_runs() {

@@ -142,6 +142,16 @@ test_values() {
     refuses "two_step" "has to be true or false" "two_step = 1"
     takes "two_step that is true" "two_step = true"
     takes "two_step that is false" "two_step = false"
+    takes "a control port" "control_port = 65534" 'control_key = "00B0aefffe000002"'
+    takes "a key without a control port" 'control_key = "00b0aefffe000002"'
+    refuses "a control port without a key" "control_key is missing" "control_port = 8319"
+    refuses "a control port out of range" "control_port is 65535, and has to be a whole number from 1 to 65534" "control_port = 65535"
+    refuses "a control port that is no number" "has to be a whole number" 'control_port = "8319"'
+    for it in "$event" "$general"; do
+        refuses "a control port that clients have, $it" "control_port is $it, which is a port of clients" "control_port = $it" \
+            'control_key = "00b0aefffe000002"'
+    done
+    refuses "a key of commands" "control_key is '0x12', and has to be 16 hexadecimal digits" 'control_key = "0x12"'
     settings_of_size 65536 >"$room/long.toml"
     says "65536 octets are taken" 0 "all is well" launch --check "$room/long.toml"
     settings_of_size 65537 >"$room/long.toml"
