@@ -1,9 +1,10 @@
 //! The settings of a grandmaster.
-ghost use Rattle.std.specs.Prelude.{◌≡◌, ◌<◌, None, Some, IsSome, IfSome, IfOk, IfErr, OnOk, option_map};
-ghost use Rattle.toml.specs.View.{table_view};
+ghost use Rattle.std.specs.Prelude.{◌≡◌, ◌<◌, ◌==◌, ◌||◌, if◌then◌else◌, None, Some, IsSome, IfSome, MatchOption, IfOk, IfErr, OnOk, option_map};
+ghost use Rattle.toml.specs.View.{table_view, view};
 ghost use Rattle.ptu_config.specs.Rules.{gm_keys, setting_of, number};
 ghost use Rattle.ptu_config.specs.Documents.{IsSaid, Reads, Refuses, Says, first_bad, refusal_of};
-ghost use Rattle.ptu_config.specs.{Entries.{gm_entries, number_or_nothing}, Limits.{IsGmInRange}};
+ghost use Rattle.ptu_config.specs.{Entries.{gm_entries, number_or_nothing}, Limits.{IsControlPort, IsGmInRange}};
+ghost use Rattle.ptu_config.specs.Forms.{whole_in};
 ghost use Rattle.ptu_units.specs.Limits.{IsCapacity};
 
 use crate::common::common_of;
@@ -11,12 +12,12 @@ use crate::document::document;
 use crate::fault::SettingFault;
 use crate::key::Key;
 use crate::settings::GmSettings;
-use crate::values::{lookup, truth_or, whole, whole_of, whole_or};
+use crate::values::{identity_of, lookup, truth_or, whole, whole_of, whole_or};
 use std::alloc::Global;
-use toml::Table;
+use toml::{Table, Value};
 
 /// The settings of a grandmaster, in their order.
-const GM_KEYS: [Key; 16] = [
+const GM_KEYS: [Key; 18] = [
     Key::Ip,
     Key::EventPort,
     Key::GeneralPort,
@@ -33,6 +34,8 @@ const GM_KEYS: [Key; 16] = [
     Key::ChangeRound,
     Key::NewCapacity,
     Key::TwoStep,
+    Key::ControlPort,
+    Key::ControlKey,
 ];
 
 /// The greatest capacity, in sixteenths of a message per second.
@@ -56,6 +59,60 @@ fn new_capacity(table: &Table, change_round: u32) -> Result<Option<u64>, Setting
     }
 }
 
+// A whole number from 1 to 65534 that is neither of these.
+fn third_port(value: &Value, event_port: u16, general_port: u16) -> Option<u16>
+    ensures third { MatchOption (whole_in 1 65534 (view value.now)) (result ≡ None) (λ n.
+        result ≡ (if n == event_port || n == general_port then None else Some n)) }
+    ensures range { IfSome result (IsControlPort event_port general_port) }
+{
+    let number = whole_of(value, 1, 65534)? as u16;
+    if number == event_port || number == general_port {
+        None
+    } else {
+        Some(number)
+    }
+}
+
+// The control port beside the ports of the channels, where its key is there.
+#[tactic(auto, unfolding(crate::specs::Rules::setting_of))]
+fn control_port(
+    table: &Table,
+    event_port: u16,
+    general_port: u16,
+) -> Result<Option<u16>, SettingFault>
+    requires event { setting_of (table_view table.now) Key.EventPort ≡ Some (number event_port) }
+    requires general { setting_of (table_view table.now) Key.GeneralPort
+        ≡ Some (number general_port) }
+    ensures said { IsSaid (table_view table.now) Key.ControlPort number_or_nothing result }
+    ensures range { IfOk result (λ found. IfSome found (IsControlPort event_port general_port)) }
+{
+    match lookup(table, Key::ControlPort.name()) {
+        Some(value) => match third_port(value, event_port, general_port) {
+            Some(number) => Ok(Some(number)),
+            None => Err(SettingFault::Bad(Key::ControlPort)),
+        },
+        None => Ok(None),
+    }
+}
+
+// The key of commands, which is required where there is a control port.
+#[tactic(auto, unfolding(crate::specs::Rules::setting_of), using(crate::proofs::Controls::has_port))]
+fn control_key(table: &Table, control_port: Option<u16>) -> Result<Option<u64>, SettingFault>
+    requires { setting_of (table_view table.now) Key.ControlPort
+        ≡ Some (number_or_nothing control_port) }
+    ensures said { IsSaid (table_view table.now) Key.ControlKey number_or_nothing result }
+    ensures needed { IfOk result (λ found. IsSome control_port → IsSome found) }
+{
+    match lookup(table, Key::ControlKey.name()) {
+        Some(value) => match identity_of(value) {
+            Some(key) => Ok(Some(key)),
+            None => Err(SettingFault::Bad(Key::ControlKey)),
+        },
+        None if control_port.is_some() => Err(SettingFault::Bad(Key::ControlKey)),
+        None => Ok(None),
+    }
+}
+
 // The settings that a table says, or the first of them that is bad.
 fn gm_of(table: &Table) -> Result<GmSettings, SettingFault>
     ensures said { IfOk result (λ settings. Says (table_view table.now) (gm_entries settings)) }
@@ -73,6 +130,8 @@ fn gm_of(table: &Table) -> Result<GmSettings, SettingFault>
     let change_round = whole_or(table, Key::ChangeRound, 0, 4_294_967_295, 0)? as u32;
     let new_capacity = new_capacity(table, change_round)?;
     let two_step = truth_or(table, Key::TwoStep, false)?;
+    let control_port = control_port(table, common.event_port, common.general_port)?;
+    let control_key = control_key(table, control_port)?;
     Ok(GmSettings {
         ip: common.ip,
         event_port: common.event_port,
@@ -90,6 +149,8 @@ fn gm_of(table: &Table) -> Result<GmSettings, SettingFault>
         change_round,
         new_capacity,
         two_step,
+        control_port,
+        control_key,
     })
 }
 

@@ -43,6 +43,11 @@ pub struct GmSettings {
     pub new_capacity: Option<u64>,
     /// Whether each Sync is followed by a Follow_Up; false by default.
     pub two_step: bool,
+    /// The UDP port number at which the running daemon takes commands, from 1 to 65534 and other
+    /// than those of the channels, where its key is there.
+    pub control_port: Option<u16>,
+    /// The key that each command begins with, where its own key is there.
+    pub control_key: Option<u64>,
 }
 
 /// The settings of a slave's daemon.

@@ -13,7 +13,7 @@ use Rattle.ptu_daemon.specs.Ran.{Handled, Ran, Received, Receives, arrived}
 use Rattle.ptu_daemon.proofs.Handling.{handled_idle, handled_quietly, handled_same}
 use Rattle.ptu_daemon.proofs.Running.{gives_none, ran_quietly}
 
-gives_one : (old new : Option (List Arrival)) (a : Arrival) → IsFirstTold old a → IfTold new (rest_told old) → Gave old new (a ∷ [])
+pub gives_one : (old new : Option (List Arrival)) (a : Arrival) → IsFirstTold old a → IfTold new (rest_told old) → Gave old new (a ∷ [])
 gives_one old None a first rest = tt
 gives_one None (Some left) a first rest = absurd (cc)
 gives_one (Some []) (Some left) a first rest = absurd (cc)
@@ -22,22 +22,22 @@ gives_one (Some (x ∷ xs)) (Some left) a first rest =
     let two : drop 1 (x ∷ xs) ≡ left = cc in
     ap (λ y. Some (y ∷ xs)) one ∙ ap (λ l. Some (a ∷ l)) two
 
-gives_kept : (old new : Option (List Arrival)) → IfTold new old → Gave old new []
+pub gives_kept : (old new : Option (List Arrival)) → IfTold new old → Gave old new []
 gives_kept old None kept = tt
 gives_kept old (Some left) kept = kept
 
-left_none : (old new : Option (List Arrival)) → IsEmptyTold old → IfTold new old → IfSome new (λ left. left ≡ [])
+pub left_none : (old new : Option (List Arrival)) → IsEmptyTold old → IfTold new old → IfSome new (λ left. left ≡ [])
 left_none old None empty kept = tt
 left_none None (Some left) empty kept = absurd (cc)
 left_none (Some xs) (Some left) empty kept = let same : xs ≡ left = cc in sym same ∙ empty
 
 -- how many receives failed, of one
-abbrev lost : Result (Option (ℕ × ℕ)) Failed → ℕ
+abbrev pub lost : Result (Option (ℕ × ℕ)) Failed → ℕ
 lost (Ok got) = 0
 lost (Err failed) = 1
 
 module _ {P C : Type 0} (ports : Ports P) (clocks : Clocks C) where
-  receive_handled : (port port' : P) (bytes : List ℕ) (result : Result (Option (ℕ × ℕ)) Failed) → Receives ports port port' bytes result →
+  pub receive_handled : (port port' : P) (bytes : List ℕ) (result : Result (Option (ℕ × ℕ)) Failed) → Receives ports port port' bytes result →
       Handled ports [] 0 (lost result) (lost result) port port'
   receive_handled port port' bytes (Ok got) r = handled_quietly ports port port' r.sent r.quiet
   receive_handled port port' bytes (Err failed) r =

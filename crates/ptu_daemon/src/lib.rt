@@ -4,10 +4,12 @@
 #![tactic(auto)]
 
 mod closing;
+mod control;
 mod daemon;
 mod events;
 mod laws;
 mod next;
+mod obeying;
 mod serving;
 mod tally;
 mod two_steps;

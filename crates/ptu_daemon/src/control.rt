@@ -1,0 +1,45 @@
+//! The control port of a running daemon.
+
+ghost use Rattle.std.specs.Prelude.{IfOk, IfSome, OnOk};
+ghost use Rattle.ptu_control.specs.Commands.{IsInRange};
+ghost use Rattle.ptu_daemon.specs.Obeying.{TookOrder, WasAnswered};
+
+use crate::daemon::receive_from;
+use ptu_control::{Cause, Command, Reply, read_command, reply_text};
+use ptu_outside::{Channel, Failed, Port, hand};
+use ptu_units::OutOfMemory;
+use ptu_units::sizes::LONGEST_DATAGRAM;
+use std::alloc::Global;
+
+/// The address of this machine itself, to which answers go.
+const LOOPBACK: u32 = 0x7f00_0001;
+
+/// What the next datagram of the control port asks for, where one waits and begins with the key.
+/// `None` where there is nothing to answer. A receive that fails is as if none waited.
+pub(crate) fn next_order<P: Port>(port: &mut P, key: u64) -> Option<Result<Command, Cause>>
+    ensures took { TookOrder P.Port key port.old port.new result }
+    ensures range { IfSome result (λ order. IfOk order IsInRange) }
+{
+    let mut buf = [0; LONGEST_DATAGRAM];
+    match receive_from(port, &mut buf) {
+        Ok(Some((_, length))) => read_command(key, &buf[..length]),
+        Ok(None) => None,
+        Err(Failed) => None,
+    }
+}
+
+/// Sends the answer by the control port. Where that fails the operator gets none.
+///
+/// # Errors
+/// `OutOfMemory`, and then nothing was sent.
+pub(crate) fn answer<P: Port>(
+    alloc: Global,
+    port: &mut P,
+    reply: &Reply,
+) -> Result<(), OutOfMemory>
+    ensures { OnOk result (WasAnswered P.Port port.old port.new reply.now) }
+{
+    let text = reply_text(alloc, reply)?;
+    let _ = hand(port, LOOPBACK, Channel::General, text.as_bytes());
+    Ok(())
+}
