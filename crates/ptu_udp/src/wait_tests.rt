@@ -81,9 +81,10 @@ fn wait(waiting: &mut Waiting, micros: u64) -> u64 {
     waiting.clock.slept()
 }
 
-// It refuses a wait of more than a hundred milliseconds, one by whole milliseconds alone, one that does
-// not end where it is to, one that waits where that is past, one that does not wait, one that wakes
-// for a message alone that is due within 40 microseconds, and one that sleeps where a few are left.
+// It refuses a wait of more than a hundred milliseconds, one by whole milliseconds alone, one that
+// does not end where it is to, one that waits where that is past, one that does not wait, one that
+// wakes for a message alone that is due within 40 microseconds, and one that sleeps where a few are
+// left.
 #[test]
 fn a_wait_ends_at_its_moment(rt: HostRuntime) -> Result<(), Fail> {
     let alloc = rt.alloc();
@@ -174,8 +175,8 @@ fn a_wait_learns_by_how_much_a_sleep_is_late(rt: HostRuntime) -> Result<(), Fail
     Ok(())
 }
 
-// It refuses a port that takes the usual late end for the rule, so that each second sleep ends before
-// what is due, and a second one makes it late.
+// It refuses a port that takes the usual late end for the rule, so that each second sleep ends
+// before what is due, and another one makes it late.
 #[test]
 fn no_sleep_ends_much_too_early(rt: HostRuntime) -> Result<(), Fail> {
     let alloc = rt.alloc();

@@ -19,8 +19,8 @@ const NAP: u64 = 100_000;
 /// For how many nanoseconds it sleeps at least: what is due in that time is sent together.
 const SHORTEST: u64 = 40_000;
 
-/// For how many nanoseconds at most it reads the clock until they have passed: a sleep takes as much
-/// of the processor's time.
+/// For how many nanoseconds at most it reads the clock until they have passed: a sleep takes as
+/// much of the processor's time.
 const SPIN: u64 = 6_000;
 
 /// How often it reads the clock at most: more often than it can in that time.
@@ -127,8 +127,8 @@ fn left<R: Clock>(runtime: &R, start: Instant, until: Moment) -> u64 {
 }
 
 /// Waits until a datagram may wait at one of the sockets of the watch, or until the moment of a
-/// clock that counts from this instant, for a hundred milliseconds at most. Without a watch, or where
-/// the system fails to look, it sleeps so long.
+/// clock that counts from this instant, for a hundred milliseconds at most. Without a watch, or
+/// where the system fails to look, it sleeps so long.
 pub(crate) fn wait_until<R: Clock, L: Lookout>(
     runtime: &R,
     start: Instant,
