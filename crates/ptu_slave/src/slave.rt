@@ -16,7 +16,7 @@ ghost use Rattle.ptu_slave_messages.specs.Heard.{FitsReply, answer_of, event_of,
 ghost use Rattle.ptu_slave_messages.specs.Reception.{reception};
 ghost use Rattle.ptu_slave_messages.specs.declared.reason.SlaveReason.{SlaveReason};
 ghost use Rattle.ptu_slave.specs.Kept.{IsSame};
-ghost use Rattle.ptu_slave.specs.Standing.{StandsFor, Steps, StepsBy, selected_address};
+ghost use Rattle.ptu_slave.specs.Standing.{IsIdleUntil, StandsFor, Steps, StepsBy, selected_address};
 
 use crate::events::{
     replace_judge, take_announce, take_delay_resp, take_follow_up, take_news, take_signaling,
@@ -293,6 +293,21 @@ impl<P: Port> Slave<P> {
             seen ⟦<dyn Judge as Judge>⟧ self.old }
     {
         self.core.selected(t)
+    }
+
+    /// The earliest moment up to `until` at which a tick may send something or another master may be
+    /// selected, where nothing happens to the slave before it; `until` where there is none. It is no
+    /// event.
+    #[tactic(auto, unfolding(crate::specs::Seen::seen_by))]
+    pub fn next_due(&mut self, until: Moment) -> Moment
+        ensures within { result ≤ until }
+        ensures idle { let old = seen ⟦<dyn Judge as Judge>⟧ self.old in
+            (openings : List (Option Rule)) (L : Record) →
+            StandsFor openings old.kept old.judges L → IsIdleUntil result openings old.kept L }
+        ensures unchanged { seen ⟦<dyn Judge as Judge>⟧ self.new ≡
+            seen ⟦<dyn Judge as Judge>⟧ self.old }
+    {
+        self.core.next_due(until)
     }
 
     /// The masters of the slave, in their order.

@@ -84,8 +84,8 @@ fn run_over<P: Port, C: Clock, K: Sink>(
 
 /// Runs a slave with these settings, which are in their ranges, over the ports and clocks of a
 /// host, and writes to the sink. In a round it takes up to 64 datagrams of the general channel and
-/// then as many of the event channel, and ticks, and waits a little for the next datagram; a failed
-/// send or receive is counted, and it goes on. At the end it stops, and writes its closing line.
+/// then as many of the event channel, and ticks, and waits for the next datagram or for what is due
+/// next; a failed send or receive is counted, and it goes on. At the end it stops, and writes its closing line.
 /// The judges are taken from the stock, which is fresh and has one of the stated rule for every
 /// master.
 ///

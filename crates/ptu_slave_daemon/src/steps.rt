@@ -11,13 +11,15 @@ ghost use Rattle.ptu_slave_daemon.specs.Running.{Counted, Grows, IsFew, Ran, Sta
 use crate::counts::Counts;
 use ptu_judges::Judge;
 use ptu_outside::{Clock, Port, Reply};
+use ptu_rounds::last_moment;
 use ptu_slave::{Heard, Slave};
 use ptu_units::{Moment, OutOfMemory};
 use std::alloc::Global;
 
-/// Until how many nanoseconds after a tick the slave waits for a datagram: two milliseconds by one
-/// call of the system, which counts whole ones.
-const REST: u64 = 2_900_000;
+/// For how many nanoseconds a wait goes on after the moment at which something is due. A port waits
+/// by one call of the system, which counts whole milliseconds and may end a little early: so it ends
+/// once for each thing that is due, and not before it is.
+const SLACK: u64 = 1_100_000;
 
 // Counts what became of the reply to a datagram.
 fn count_reply(counts: &mut Counts, heard: &Heard)
@@ -65,14 +67,13 @@ pub(crate) fn take<P: Port, C: Clock>(
     Ok(())
 }
 
-// The moment until which the daemon waits after a tick at this one: less than three milliseconds
-// later, for which a port waits by one call of the system, of two.
-fn rest_after(tick: Moment) -> Moment {
-    Moment::of(tick.nanos() + REST).unwrap_or(tick)
+// Until when the daemon waits for what is due at this moment.
+fn wake_for(due: Moment) -> Moment {
+    Moment::of(due.nanos() + SLACK).unwrap_or(due)
 }
 
 /// The slave ticks; what it then selects. Then the port of the event channel waits until a datagram
-/// is there, for two milliseconds or so at most.
+/// is there, or until a tick may send something or another master may be selected.
 pub(crate) fn tick<P: Port, C: Clock>(
     slave: &mut Slave<P>,
     event: &mut P,
@@ -99,7 +100,8 @@ pub(crate) fn tick<P: Port, C: Clock>(
     let ticked = slave.tick(at);
     let master = slave.selected_address(at);
     counts.add(ticked.sent, ticked.failed);
-    event.wait(rest_after(at));
+    let due = slave.next_due(last_moment());
+    event.wait(wake_for(due));
     master
 }
 

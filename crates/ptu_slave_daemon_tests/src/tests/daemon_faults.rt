@@ -28,8 +28,8 @@ const MASTER: u32 = 0x0a00_0001;
 const NEXT_ASK: &str = "0c120040040004000000000000000000000000000a0000000000001100010001057f\
      ffffffffffffffffffff00040006b0010000012c0004000600fc0000012c";
 
-/// The master grants both.
-const GRANT: &str = "0c120044040004000000000000000000000000000a0000000000000100010000057f\
+/// The master grants Announce and Sync.
+pub(crate) const GRANT: &str = "0c120044040004000000000000000000000000000a0000000000000100010000057f\
      0a00000000000011000100050008b0010000012c00010005000800fc0000012c0001";
 
 /// The master cancels Sync.
@@ -150,8 +150,8 @@ fn arrival(alloc: Global, digits: &str) -> Result<Arrival, Fail>
     })
 }
 
-// What waits at a port of these datagrams of the master, of which there are at most two.
-fn arrivals(alloc: Global, datagrams: &[&str]) -> Result<Vec<Arrival>, Fail>
+/// What waits at a port of these datagrams of the master, of which there are at most two.
+pub(crate) fn arrivals(alloc: Global, datagrams: &[&str]) -> Result<Vec<Arrival>, Fail>
     ensures { IfOk result (λ list. FitAll list.items) }
 {
     match datagrams {
