@@ -1,5 +1,5 @@
 -- For how long a master is not to be asked.
-use Rattle.std.proofs.Common.{◌≡◌, ℕ, ◌+◌, ◌*◌, ◌<◌, ◌≤◌, max, Bool, true, false, ◌&&◌, cond, List, [], ◌∷◌, Option, Some, None, refl, ap, subst, sym, ◌∙◌, arith, ltb}
+use Rattle.std.proofs.Common.{◌≡◌, ℕ, ◌+◌, ◌*◌, ◌<◌, ◌≤◌, max, Bool, true, false, ◌&&◌, cond, [], Option, Some, None, refl, subst, sym, arith}
 use Rattle.std.proofs.lemmas.Bool.{lt-leb, ltb-false, ltb-true}
 use Rattle.std.specs.Option.{is_some, option_map, unwrap_or}
 use Rattle.ptu_units.specs.declared.kind.{Kind.{Kind}, Kind.TheVariants.{Announce, Sync, DelayResp}}

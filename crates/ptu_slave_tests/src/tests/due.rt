@@ -104,7 +104,11 @@ const PLAIN: [Row; 14] = [
 // A denial and a CANCEL: each is followed by a pause of a minute.
 const REFUSED: [Row; 3] = [
     (0, Deed::Tick, SECOND),
-    (SECOND / 2, Deed::Hears(GRANT_AND_DENIAL), 60 * SECOND + SECOND / 2),
+    (
+        SECOND / 2,
+        Deed::Hears(GRANT_AND_DENIAL),
+        60 * SECOND + SECOND / 2,
+    ),
     (SECOND, Deed::Hears(CANCEL), 61 * SECOND),
 ];
 
@@ -127,12 +131,7 @@ const ENDED: [Row; 7] = [
     (8 * SECOND, Deed::Tick, 66 * SECOND),
 ];
 
-fn do_deed(
-    alloc: Global,
-    slave: &mut Slave<MemPort>,
-    at: Moment,
-    deed: Deed,
-) -> Result<(), Fail> {
+fn do_deed(alloc: Global, slave: &mut Slave<MemPort>, at: Moment, deed: Deed) -> Result<(), Fail> {
     match deed {
         Deed::Tick => {
             slave.tick(at);

@@ -1,4 +1,4 @@
-use Rattle.std.proofs.{Common.{[], ◌∙◌, Err, ap, map}, lemmas.Result.{err_from_is_err_and}}
+use Rattle.std.proofs.{Common.{[], ◌∙◌, Err, ap}, lemmas.Result.{err_from_is_err_and}}
 use Rattle.ptu_outside.proofs.Putting.{HasPutPart-none}
 use Rattle.ptu_slave.specs.Seen.{seen}
 use Rattle.ptu_slave_daemon.specs.Opening.{node_of}

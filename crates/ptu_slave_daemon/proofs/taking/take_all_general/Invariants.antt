@@ -1,4 +1,3 @@
-use Rattle.std.proofs.Common.{map}
 use Rattle.ptu_slave.specs.Seen.{seen}
 use Rattle.ptu_slave_daemon.specs.Running.{Grows, TookGeneral}
 use Rattle.ptu_slave_daemon.proofs.Arrived.{CameSoFar}

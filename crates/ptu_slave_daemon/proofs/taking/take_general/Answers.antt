@@ -1,7 +1,7 @@
 use Rattle.std.proofs.Common.{[], ◌∷◌, refl, ap, sym, subst, take}
 use Rattle.ptu_outside.specs.Telling.{IfTold, rest_told}
 use Rattle.ptu_slave.specs.{Seen.{Seen}, Seen.{seen}}
-use Rattle.ptu_slave_daemon.specs.{Running.{Stands, sees}, declared.counts.Counts.{Counts}}
+use Rattle.ptu_slave_daemon.specs.{Running.{Stands}, declared.counts.Counts.{Counts}}
 use Rattle.ptu_slave_daemon.proofs.Arrived.{counted_none, none_came, none_received, one_came, took_none}
 use Rattle.ptu_slave_daemon.proofs.{Ports.{failed_none, failed_once}, Runs.{ran_from}}
 use Rattle.ptu_slave_daemon.proofs.taking.take_general.Goals as goal

@@ -1,8 +1,5 @@
-use Rattle.std.proofs.Common.{◌<◌, ◌≡◌, ap, subst}
-use Rattle.ptu_record.specs.Asks.{ask_gate, gate, refusal_gate, renewal_gate}
-use Rattle.ptu_record.specs.Record.{Record}
-use Rattle.ptu_units.specs.declared.kind.Kind.{Kind}
-use Rattle.ptu_requester.specs.Negotiation.{IsKept}
+use Rattle.std.proofs.Common.{◌<◌, subst}
+use Rattle.ptu_record.specs.Asks.{ask_gate, refusal_gate, renewal_gate}
 use Rattle.ptu_requester.proofs.{Gates.{greatest_of_three}, Waiting.{not_due}}
 use Rattle.ptu_requester.proofs.negotiation.Negotiation.due_from.Goals as goal
 
