@@ -135,8 +135,8 @@ impl Negotiation {
         gate <= t.nanos()
     }
 
-    /// From when on the kind is to be asked for, where nothing is entered after `t`: up to `t` where
-    /// it is to be asked for at `t`, else the first moment after it, in nanoseconds.
+    /// From when on the kind is to be asked for, where nothing is entered after `t`: up to `t`
+    /// where it is to be asked for at `t`, else the first moment after it, in nanoseconds.
     pub fn due_from(&self, t: Moment) -> u64
         ensures gate { (k : Kind) (L : Record) → IsKept k L self.now → result ≡ gate k L t }
         ensures idle { (k : Kind) (L : Record) → IsKept k L self.now →

@@ -71,8 +71,9 @@ impl Negotiations {
         }
     }
 
-    /// From when on one of the kinds that are requested is to be asked for, where nothing is entered
-    /// after `t`: up to `t` where one is at `t`, else the first moment after it, in nanoseconds.
+    /// From when on one of the kinds that are requested is to be asked for, where nothing is
+    /// entered after `t`: up to `t` where one is at `t`, else the first moment after it, in
+    /// nanoseconds.
     pub fn due_from(&self, wants: &Wants, t: Moment) -> u64
         ensures { (L : Record) → AreKept L self.now →
             (x : ℕ) → t ≤ x → x < result → due_kinds wants.now L x ≡ [] }

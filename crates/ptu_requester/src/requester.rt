@@ -62,8 +62,9 @@ impl Requester {
         self.masters[master].due(&self.wants, t)
     }
 
-    /// From when on the master is to be asked for a kind that is requested, where nothing is entered
-    /// after `t`: up to `t` where it is at `t`, else the first moment after it, in nanoseconds.
+    /// From when on the master is to be asked for a kind that is requested, where nothing is
+    /// entered after `t`: up to `t` where it is at `t`, else the first moment after it, in
+    /// nanoseconds.
     pub fn due_from(&self, t: Moment, master: usize) -> u64
         requires { master < length self.now.masters }
         ensures { (L : Record) → StandsFor self.now L → (x : ℕ) → t ≤ x → x < result →

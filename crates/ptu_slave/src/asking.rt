@@ -43,8 +43,8 @@ pub(crate) fn is_probe_due(
     probe_due_from(requester, wants, counters, at, master) <= at.nanos()
 }
 
-/// From when on a tick sends the master a Delay_Req, where nothing is entered after `at`: up to `at`
-/// where one at `at` does, and `u64::MAX` where none does.
+/// From when on a tick sends the master a Delay_Req, where nothing is entered after `at`: up to
+/// `at` where one at `at` does, and `u64::MAX` where none does.
 pub(crate) fn probe_due_from(
     requester: &Requester,
     wants: &Wants,

@@ -273,8 +273,8 @@ impl Core {
         }
     }
 
-    /// The earliest moment up to `until` at which a tick may send something or another master may be
-    /// selected, where nothing happens before it; `until` where there is none.
+    /// The earliest moment up to `until` at which a tick may send something or another master may
+    /// be selected, where nothing happens before it; `until` where there is none.
     pub(crate) fn next_due(&mut self, until: Moment) -> Moment
         ensures within { result ≤ until }
         ensures sends { (L : Record) → self.old.stopped ≡ list_any is_stop L →
@@ -282,7 +282,8 @@ impl Core {
             x < result →
             tick_sendings self.old.config.wants (length self.old.masters) L x ≡ [] }
         ensures selected { (L : Record) → Selects self.old L → (x : ℕ) → self.old.moment ≤ x →
-            x < result → selected_master (timeouts self.old.config) (priorities self.old.masters) L x
+            x < result →
+            selected_master (timeouts self.old.config) (priorities self.old.masters) L x
             ≡ selected_master (timeouts self.old.config) (priorities self.old.masters) L
             self.old.moment }
         ensures same { self.new ≡ self.old }

@@ -2,14 +2,13 @@
 
 ghost use Rattle.std.specs.Prelude.{◌≡◌, ◌^◌, ℕ, List, [], ◌∷◌, OnOk};
 ghost use Rattle.ptu_record.specs.Record.{Record};
-ghost use Rattle.ptu_slave.specs.Seen.{seen};
+ghost use Rattle.ptu_slave.specs.SeenBy.{seen_by};
 ghost use Rattle.ptu_outside.specs.Replies.{reply_failed, reply_sent};
 ghost use Rattle.ptu_slave_messages.specs.{Heard.{reply_in}, Node.{Node}};
 ghost use Rattle.ptu_slave_daemon.specs.Happenings.{Happening, Stops, Ticks};
 ghost use Rattle.ptu_slave_daemon.specs.Running.{Counted, Grows, IsFew, Ran, Stands, Took, sees};
 
 use crate::counts::Counts;
-use ptu_judges::Judge;
 use ptu_outside::{Clock, Port, Reply};
 use ptu_rounds::last_moment;
 use ptu_slave::{Heard, Slave};
@@ -17,8 +16,8 @@ use ptu_units::{Moment, OutOfMemory};
 use std::alloc::Global;
 
 /// For how many nanoseconds a wait goes on after the moment at which something is due. A port waits
-/// by one call of the system, which counts whole milliseconds and may end a little early: so it ends
-/// once for each thing that is due, and not before it is.
+/// by one call of the system, which counts whole milliseconds and may end a little early: so it
+/// ends once for each thing that is due, and not before it is.
 const SLACK: u64 = 1_100_000;
 
 // Counts what became of the reply to a datagram.
@@ -51,14 +50,14 @@ pub(crate) fn take<P: Port, C: Clock>(
 ) -> Result<(), OutOfMemory>
     requires few { IsFew 1 counts.old }
     ensures grows { Grows 1 counts.old counts.new }
-    ensures waiting { P.waiting (seen ⟦<dyn Judge as Judge>⟧ slave.new).port ≡ P.waiting
-        (seen ⟦<dyn Judge as Judge>⟧ slave.old).port }
+    ensures waiting { P.waiting (seen_by held slave.new).port ≡ P.waiting
+        (seen_by held slave.old).port }
     ensures ran { OnOk result ((node : Node) (L : Record) → Stands node
-        (seen ⟦<dyn Judge as Judge>⟧ slave.old) L →
+        (seen_by held slave.old) L →
         (sent : ℕ) × (failed : ℕ) × Counted sent failed counts.old counts.new
         × Took P.counts_once node L
-        (sees P.Port C.Clock (seen ⟦<dyn Judge as Judge>⟧ slave.old) clock.old)
-        (sees P.Port C.Clock (seen ⟦<dyn Judge as Judge>⟧ slave.new) clock.new)
+        (sees P.Port C.Clock (seen_by held slave.old) clock.old)
+        (sees P.Port C.Clock (seen_by held slave.new) clock.new)
         (record { ip = from; bytes = octets.now } ∷ []) sent failed) }
 {
     let at = clock.now();
@@ -85,15 +84,15 @@ pub(crate) fn tick<P: Port, C: Clock>(
     ensures sent { P.sent event.new ≡ P.sent event.old }
     ensures event_waiting { P.waiting event.new ≡ P.waiting event.old }
     ensures event_quiet { P.faults event.new ≡ P.faults event.old }
-    ensures waiting { P.waiting (seen ⟦<dyn Judge as Judge>⟧ slave.new).port ≡ P.waiting
-        (seen ⟦<dyn Judge as Judge>⟧ slave.old).port }
+    ensures waiting { P.waiting (seen_by held slave.new).port ≡ P.waiting
+        (seen_by held slave.old).port }
     ensures ran { (node : Node) (L : Record) (round : ℕ) → Stands node
-        (seen ⟦<dyn Judge as Judge>⟧ slave.old) L →
+        (seen_by held slave.old) L →
         (sent : ℕ) × (failed : ℕ) × (hs : List Happening)
         × Counted sent failed counts.old counts.new
         × Ran P.counts_once node L
-        (sees P.Port C.Clock (seen ⟦<dyn Judge as Judge>⟧ slave.old) clock.old)
-        (sees P.Port C.Clock (seen ⟦<dyn Judge as Judge>⟧ slave.new) clock.new)
+        (sees P.Port C.Clock (seen_by held slave.old) clock.old)
+        (sees P.Port C.Clock (seen_by held slave.new) clock.new)
         (Ticks round ∷ []) hs (record { round = round; master = result } ∷ []) sent failed }
 {
     let at = clock.now();
@@ -108,15 +107,15 @@ pub(crate) fn tick<P: Port, C: Clock>(
 /// The slave stops, and sends each master the CANCELs of its live grants.
 pub(crate) fn stop<P: Port, C: Clock>(slave: &mut Slave<P>, clock: &mut C, counts: &mut Counts)
     requires few { IsFew (2 ^ 64) counts.old }
-    ensures waiting { P.waiting (seen ⟦<dyn Judge as Judge>⟧ slave.new).port ≡ P.waiting
-        (seen ⟦<dyn Judge as Judge>⟧ slave.old).port }
-    ensures ran { (node : Node) (L : Record) → Stands node (seen ⟦<dyn Judge as Judge>⟧ slave.old) L
+    ensures waiting { P.waiting (seen_by held slave.new).port ≡ P.waiting
+        (seen_by held slave.old).port }
+    ensures ran { (node : Node) (L : Record) → Stands node (seen_by held slave.old) L
         →
         (sent : ℕ) × (failed : ℕ) × (hs : List Happening)
         × Counted sent failed counts.old counts.new
         × Ran P.counts_once node L
-        (sees P.Port C.Clock (seen ⟦<dyn Judge as Judge>⟧ slave.old) clock.old)
-        (sees P.Port C.Clock (seen ⟦<dyn Judge as Judge>⟧ slave.new) clock.new)
+        (sees P.Port C.Clock (seen_by held slave.old) clock.old)
+        (sees P.Port C.Clock (seen_by held slave.new) clock.new)
         (Stops ∷ []) hs [] sent failed }
 {
     let at = clock.now();

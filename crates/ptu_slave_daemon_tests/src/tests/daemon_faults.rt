@@ -7,7 +7,7 @@
 
 ghost use Rattle.std.specs.Prelude.{◌≤◌, length, map, IfOk};
 ghost use Rattle.ptu_config.specs.Limits.{IsSlaveInRange};
-ghost use Rattle.ptu_judges.specs.Held.{IsStock};
+ghost use Rattle.ptu_judges.specs.Boxes.{IsFreshStock};
 ghost use Rattle.ptu_outside.specs.MemoryPort.{FitAll};
 
 use super::daemon::{ANNOUNCE, ASK, SYNC, host_at, one_judge, settings};
@@ -209,8 +209,7 @@ fn assert_run(
     stock: Stock,
 ) -> Result<(), Fail>
     requires range { IsSlaveInRange settings.now }
-    requires stock { IsStock (map (λ j. held (j.vtable, j.value)) stock.flags.items)
-        (map (λ j. held (j.vtable, j.value)) stock.gaps.items) }
+    requires stock { IsFreshStock held stock }
 {
     let mut sink = MemSink::new(alloc, case.writes.to_vec(alloc)?);
     assert!(rt; has_judges(settings, &stock));
@@ -222,8 +221,7 @@ fn assert_run(
 }
 
 fn assert_case(rt: &impl Abort, alloc: Global, case: &Case, stock: Stock) -> Result<(), Fail>
-    requires { IsStock (map (λ j. held (j.vtable, j.value)) stock.flags.items)
-        (map (λ j. held (j.vtable, j.value)) stock.gaps.items) }
+    requires { IsFreshStock held stock }
 {
     let settings = settings(alloc, case.rounds.max(1), 1)?;
     let mut host = host(alloc, case)?;

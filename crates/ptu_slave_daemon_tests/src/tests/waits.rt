@@ -3,7 +3,7 @@
 ghost use Rattle.std.specs.Prelude.{◌≡◌, None, map};
 ghost use Rattle.ptu_outside.specs.Faults.{HasNotFallen, one_more};
 ghost use Rattle.ptu_config.specs.Limits.{IsSlaveInRange};
-ghost use Rattle.ptu_judges.specs.Held.{IsStock};
+ghost use Rattle.ptu_judges.specs.Boxes.{IsFreshStock};
 
 use super::daemon::{ANNOUNCE, SYNC, one_judge, settings};
 use super::daemon_faults::{GRANT, arrivals};
@@ -176,8 +176,8 @@ fn port_with(alloc: Global, datagrams: &[&str]) -> Result<MemPort, Fail> {
     Ok(MemPort::new(alloc, waiting, Vec::new(alloc), Vec::new(alloc)))
 }
 
-// Runs a slave over this host: how often the port of the event channel waited, and until when it did
-// last. No other port waited.
+// Runs a slave over this host: how often the port of the event channel waited, and until when it
+// did last. No other port waited.
 fn waits_of(
     rt: &impl Abort,
     alloc: Global,
@@ -186,8 +186,7 @@ fn waits_of(
     stock: Stock,
 ) -> Result<(u64, u64), Fail>
     requires range { IsSlaveInRange settings.now }
-    requires stock { IsStock (map (λ j. held (j.vtable, j.value)) stock.flags.items)
-        (map (λ j. held (j.vtable, j.value)) stock.gaps.items) }
+    requires stock { IsFreshStock held stock }
 {
     let mut sink = MemSink::new(alloc, Vec::new(alloc));
     assert!(rt; has_judges(settings, &stock));

@@ -14,7 +14,7 @@ returns-in_ok-take-in-Ok-Some-clause-took g c = λ node L h.
       t.0,
       t.1,
       t.2,
-      one_came _ _ _ _ _ e.first (subst (λ w. IfTold w (rest_told (g.P.Port.waiting (seen (λ i. (g.dyn-1.0.entry i).1.Judge) c.args.slave.now).port))) (sym c.take.ensures.waiting) e.rest),
+      one_came _ _ _ _ _ e.first (subst (λ w. IfTold w (rest_told (g.P.Port.waiting (seen (λ j. (goal.Judge-dyn g (j.vtable, j.value)).Judge.held j.value) c.args.slave.now).port))) (sym c.take.ensures.waiting) e.rest),
       (t.3.0, ran_from g.P.Port.counts_once node L _ _ _ _ _ _ _ _ c.receive.ensures.sent e.quiet refl t.3.1),
     )
 
