@@ -37,20 +37,17 @@ fn happen<P: Port, C: Clock>(
     ensures ran { IfOk result (λ master. (node : Node) (L : Record) (round : ℕ) →
         Stands node (seen_by held slave.old) L →
         (arrivals : List Arrival) × (event_arrivals : List Arrival) × (hs : List Happening)
-        × (sent : ℕ) × (failed : ℕ) × (event_failed : ℕ)
+        × (sent : ℕ) × (failed : ℕ) × (event_failed : ℕ) × (missed : ℕ)
         × Counted sent (failed + event_failed) counts.old counts.new
         × HasFailed P.counts_once (P.faults event.old) (P.faults event.new) event_failed
-        × RoundTook (P.waiting (seen_by held slave.old).port) (P.waiting
-        (seen_by held slave.new).port)
-        (P.faults (seen_by held slave.old).port) (P.faults
-        (seen_by held slave.new).port) arrivals
+        × RoundTook (P.waiting (seen_by held slave.old).port) (P.waiting (seen_by held slave.new).port)
+        (P.faults (seen_by held slave.old).port) (P.faults (seen_by held slave.new).port) arrivals missed
         × RoundTook (P.waiting event.old) (P.waiting event.new)
-        (P.faults event.old) (P.faults event.new) event_arrivals
-        × Ran P.counts_once node L
-        (sees P.Port C.Clock (seen_by held slave.old) clock.old)
+        (P.faults event.old) (P.faults event.new) event_arrivals event_failed
+        × Ran P.counts_once node L (sees P.Port C.Clock (seen_by held slave.old) clock.old)
         (sees P.Port C.Clock (seen_by held slave.new) clock.new)
         (map arrive (arrivals ++ event_arrivals) ++ Ticks round ∷ []) hs
-        (record { round = round; master = master } ∷ []) sent failed) }
+        (record { round = round; master = master } ∷ []) sent failed missed) }
 {
     take_all_general(alloc, slave, clock, counts)?;
     take_all_event(alloc, slave, event, clock, counts)?;

@@ -58,7 +58,7 @@ pub(crate) fn take<P: Port, C: Clock>(
         × Took P.counts_once node L
         (sees P.Port C.Clock (seen_by held slave.old) clock.old)
         (sees P.Port C.Clock (seen_by held slave.new) clock.new)
-        (record { ip = from; bytes = octets.now } ∷ []) sent failed) }
+        (record { ip = from; bytes = octets.now } ∷ []) sent failed 0) }
 {
     let at = clock.now();
     let heard = slave.take(alloc, at, from, octets)?;
@@ -93,7 +93,7 @@ pub(crate) fn tick<P: Port, C: Clock>(
         × Ran P.counts_once node L
         (sees P.Port C.Clock (seen_by held slave.old) clock.old)
         (sees P.Port C.Clock (seen_by held slave.new) clock.new)
-        (Ticks round ∷ []) hs (record { round = round; master = result } ∷ []) sent failed }
+        (Ticks round ∷ []) hs (record { round = round; master = result } ∷ []) sent failed 0 }
 {
     let at = clock.now();
     let ticked = slave.tick(at);
@@ -116,7 +116,7 @@ pub(crate) fn stop<P: Port, C: Clock>(slave: &mut Slave<P>, clock: &mut C, count
         × Ran P.counts_once node L
         (sees P.Port C.Clock (seen_by held slave.old) clock.old)
         (sees P.Port C.Clock (seen_by held slave.new) clock.new)
-        (Stops ∷ []) hs [] sent failed }
+        (Stops ∷ []) hs [] sent failed 0 }
 {
     let at = clock.now();
     let stopped = slave.stop(at);

@@ -15,7 +15,7 @@ returns-clause-ran g c = λ node L round h.
       (ap (λ (k : Counts). k.sent) c.add.ensures, ap (λ (k : Counts). k.failed) c.add.ensures),
       ran_view g.P.Port.counts_once node L _
           (sees g.P.Port g.C.Clock (seen (λ j. (goal.Judge-dyn g (j.vtable, j.value)).Judge.held j.value) c.tick-ticked.new.self) c.now-at.new.self)
-          _ _ _ _ _ _ (ap (λ (s : Seen _ _). s.kept) unchanged) (ap (λ (s : Seen _ _). s.judges) unchanged)
+          _ _ _ _ _ _ _ (ap (λ (s : Seen _ _). s.kept) unchanged) (ap (λ (s : Seen _ _). s.judges) unchanged)
           (ap (λ (s : Seen _ _). g.P.Port.sent s.port) unchanged) (ap (λ (s : Seen _ _). g.P.Port.faults s.port) unchanged) refl
           (ran_ticked g.P.Port.counts_once node L _ _ c.now-at.result h c.tick-ticked.ensures.same c.tick-ticked.result.at round c.tick-ticked.result.sent c.tick-ticked.result.failed c.selected_address-master.result
           (timed_one _ _ c.now-at.result (λ at. Ticks round at) (g.met.C.Clock.never_empty c.args.clock.now) c.now-at.ensures.first c.now-at.ensures.rest)

@@ -32,4 +32,4 @@ pub returns-clause-took : goal.returns-clause-took
 returns-clause-took g c = λ node L h.
     let p = c.loop-taken.invariant.took node L h in
     let all : c.loop-taken._taken ≡ 64 = omega (arith, c.loop-taken-test.false, c.loop-taken.auto._taken-end) in
-    (p.0, p.1, p.2, p.3, p.4, p.5, round_full c.loop-taken._taken _ _ _ _ all p.0 p.6, p.7)
+    (p.0, p.1, p.2, p.3, p.4, p.5, round_full c.loop-taken._taken _ _ _ _ all p.0 p.3 p.6, p.7)
