@@ -12,6 +12,7 @@
 #![tactic(auto)]
 
 ghost use Rattle.std.specs.Prelude.{◌≡◌, ◌≢◌, ◌+◌, OnOk, length, map};
+ghost use Rattle.ptu_judges.specs.Boxes.{IsFreshStock};
 ghost use Rattle.ptu_judges.specs.Held.{IsStock, fresh};
 
 use ptu_judges::{FlagJudge, GapJudge, Judge, NAMED_GAP, Rule, Stock};
@@ -64,8 +65,7 @@ fn status_of<W, H>(
 where
     W: AllocGlobal + Threads + Wait + Sync,
     H: Host,
-    requires stock { IsStock (map (λ j. held (j.vtable, j.value)) stock.flags.items)
-        (map (λ j. held (j.vtable, j.value)) stock.gaps.items) }
+    requires stock { IsFreshStock held stock }
     requires number { (length stock.flags.items ≡ 64) × (length stock.gaps.items ≡ 64) }
 {
     let Ok(texts) = texts_of(rt.alloc(), words) else {
@@ -88,10 +88,10 @@ fn add_judges(
 ) -> Result<(), AllocError>
     requires flag { held flag ≡ fresh Rule.Flag }
     requires gap { held gap ≡ fresh (Rule.Gap 4) }
-    requires stock { IsStock (map (λ j. held j) stock.old.flags.items)
-        (map (λ j. held j) stock.old.gaps.items) }
-    ensures stock { OnOk result (IsStock (map (λ j. held j) stock.new.flags.items)
-        (map (λ j. held j) stock.new.gaps.items)) }
+    requires stock { IsStock (map held stock.old.flags.items)
+        (map held stock.old.gaps.items) }
+    ensures stock { OnOk result (IsStock (map held stock.new.flags.items)
+        (map held stock.new.gaps.items)) }
     ensures number { OnOk result
         ((length stock.new.flags.items ≡ length stock.old.flags.items + 1)
         × (length stock.new.gaps.items ≡ length stock.old.gaps.items + 1)) }

@@ -1,29 +1,31 @@
 -- What is said of boxed judges one by one, of whatever type each is: which calls were made of one, and what it answered.
 use Rattle.std.specs.{Prelude.{◌≡◌, ◌≢◌, ℕ, ◌<◌, ◌≤◌, Bool, List, length, Some}, List.{slice_get}}
 use Rattle.std.specs.declared.dyn_box.DynBox.{DynBox}
-use Rattle.ptu_judges.specs.declared.judge.Conduct.{Ghosts}
-
--- the two are of one type, and stand in the relation of this type
-abbrev pub Along : {X : Type 0} {F : X → Type 0} → ((i : X) → F i → F i → Type 0) → (old new : (i : X) × F i) → Type 0
-Along {X} {F} R old new = (value : F old.0) × (R old.0 old.1 value × ◌≡◌ {A = (i : X) × F i} (old.0, value) new)
 
 -- a judge in a box, with its type
 abbrev pub judge_in : {X Z : Type 0} {F : X → Type 0} → DynBox X Z F → (i : X) × F i
 judge_in j = (j.vtable, j.value)
 
--- ---- a boxed judge before and after; `conduct` is what the members of `Conduct` mean at each type
+-- a boxed judge has become one of its own type of which this holds
+abbrev pub Becomes : {X Z : Type 0} {F : X → Type 0} → (old : DynBox X Z F) → (F old.vtable → Type 0) → (new : DynBox X Z F) → Type 0
+Becomes {X} {Z} {F} old Holds new = (value : F old.vtable) × (Holds value × ◌≡◌ {A = (i : X) × F i} (old.vtable, value) (judge_in new))
+
+-- ---- a boxed judge before and after; `hears`, `is_told` and `finds` are those of `Conduct`, of the judge in a box
 
 -- it was told of a Sync
-abbrev pub WasHeard : {X Z : Type 0} {F : X → Type 0} → ((i : X) → Ghosts (F i)) → (t seq : ℕ) → (old new : DynBox X Z F) → Type 0
-WasHeard conduct t seq old new = Along (λ i x y. (conduct i).hears x t seq y) (judge_in old) (judge_in new)
+abbrev pub WasHeard : {X Z : Type 0} {F : X → Type 0} → ((j : DynBox X Z F) → ℕ → ℕ → F j.vtable → Type 0)
+    → (t seq : ℕ) → (old new : DynBox X Z F) → Type 0
+WasHeard hears t seq old new = Becomes old (hears old t seq) new
 
 -- it was told the operator's word
-abbrev pub WasTold : {X Z : Type 0} {F : X → Type 0} → ((i : X) → Ghosts (F i)) → ℕ → Bool → (old new : DynBox X Z F) → Type 0
-WasTold conduct t word old new = Along (λ i x y. (conduct i).is_told x t word y) (judge_in old) (judge_in new)
+abbrev pub WasTold : {X Z : Type 0} {F : X → Type 0} → ((j : DynBox X Z F) → ℕ → Bool → F j.vtable → Type 0)
+    → ℕ → Bool → (old new : DynBox X Z F) → Type 0
+WasTold is_told t word old new = Becomes old (is_told old t word) new
 
 -- it was asked, and found this
-abbrev pub WasAsked : {X Z : Type 0} {F : X → Type 0} → ((i : X) → Ghosts (F i)) → ℕ → Bool → (old new : DynBox X Z F) → Type 0
-WasAsked conduct t found old new = Along (λ i x y. (conduct i).finds x t found y) (judge_in old) (judge_in new)
+abbrev pub WasAsked : {X Z : Type 0} {F : X → Type 0} → ((j : DynBox X Z F) → ℕ → Bool → F j.vtable → Type 0)
+    → ℕ → Bool → (old new : DynBox X Z F) → Type 0
+WasAsked finds t found old new = Becomes old (finds old t found) new
 
 -- one and then the other
 abbrev pub Then : {B : Type 0} → (B → B → Type 0) → (B → B → Type 0) → (old new : B) → Type 0

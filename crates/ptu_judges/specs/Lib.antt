@@ -1,3 +1,4 @@
 pub mod Held
 pub mod Shifting
+pub mod Boxes
 pub mod Calls

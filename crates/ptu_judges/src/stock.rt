@@ -19,8 +19,8 @@ impl Stock {
     /// A stock without judges.
     pub fn empty(alloc: Global) -> Stock
         ensures none { (result.flags.items ≡ []) × (result.gaps.items ≡ []) }
-        ensures stock { IsStock (map (λ j. held j) result.flags.items)
-            (map (λ j. held j) result.gaps.items) }
+        ensures stock { IsStock (map held result.flags.items)
+            (map held result.gaps.items) }
     {
         Stock {
             flags: Vec::new(alloc),
@@ -31,14 +31,14 @@ impl Stock {
     /// Takes the last judge of a rule; `None` where none is left. Of a gap of another length than
     /// `NAMED_GAP` a stock has none.
     pub fn take(&mut self, rule: Rule) -> Option<Box<dyn Judge>>
-        requires { IsStock (map (λ j. held j) self.old.flags.items)
-            (map (λ j. held j) self.old.gaps.items) }
+        requires { IsStock (map held self.old.flags.items)
+            (map held self.old.gaps.items) }
         ensures { MatchOption result
-            (HasNone rule (map (λ j. held j) self.old.flags.items)
-            (map (λ j. held j) self.old.gaps.items))
-            (λ judge. HasTaken rule (map (λ j. held j) self.old.flags.items)
-            (map (λ j. held j) self.old.gaps.items) (map (λ j. held j) self.new.flags.items)
-            (map (λ j. held j) self.new.gaps.items) (held judge)) }
+            (HasNone rule (map held self.old.flags.items)
+            (map held self.old.gaps.items))
+            (λ judge. HasTaken rule (map held self.old.flags.items)
+            (map held self.old.gaps.items) (map held self.new.flags.items)
+            (map held self.new.gaps.items) (held judge)) }
     {
         match rule {
             Rule::Flag => self.flags.pop(),

@@ -1,9 +1,9 @@
 -- Which worlds the lab stands for.
 use Rattle.std.specs.Prelude.{◌≡◌, ℕ, Bool, true, nat_eq, List, length, map, Option, Some, None}
-use Rattle.std.specs.{HashMap.{get}}
+use Rattle.std.specs.{HashMap.{get}, declared.{alloc.Global.{Global}, dyn_box.DynBox.{DynBox}}}
 use Rattle.ptu_outside.specs.MemoryPort.{MemoryPort}
-use Rattle.ptu_judges.specs.{Held.{Held, IsStock}, declared.judge.Judge.{Ghosts}}
-use Rattle.ptu_slave.specs.Seen.{Seen, seen}
+use Rattle.ptu_judges.specs.Held.{Held, IsStock}
+use Rattle.ptu_slave.specs.{Seen.{Seen, seen}, SeenBy.{seen_by}}
 use Rattle.ptu_script.specs.declared.{cause.Cause.{Cause}, command.Command.{Command}}
 use Rattle.ptu_world.specs.Deeds as world
 use Rattle.ptu_world.specs.World.{node_at}
@@ -45,22 +45,22 @@ module _ {J B : Type 0} {I : J → Type 0} (see : SlaveNode J I → Seen MemoryP
     pub granted : lab.journal.granted ≡ counted c.granted
     pub short : lab.journal.short ≡ counted c.short
 
--- the same, by what the members of each judge mean
-module _ {X : Type 0} {F : X → Type 0} (judge : (i : X) → Ghosts (F i)) where
+-- the same, by what each judge in its box holds
+module _ {X : Type 0} {F : X → Type 0} (held : DynBox X Global F → Held) where
   abbrev pub NodeStandsAs : ℕ → Bool → Node X F → world.Node → Type 0
-  NodeStandsAs ip begun node w = StandsAs (λ n. seen judge n.slave) ip begun node w
+  NodeStandsAs ip begun node w = StandsAs (λ n. seen held n.slave) ip begun node w
 
   abbrev pub LabStandsFor : Lab X F → Course → Type 0
   LabStandsFor lab c =
-      StandsFor (λ n. seen judge n.slave) (map (λ j. (judge j.vtable).held j.value) lab.stock.flags.items)
-      (map (λ j. (judge j.vtable).held j.value) lab.stock.gaps.items) lab c
+      StandsFor (λ n. seen held n.slave) (map held lab.stock.flags.items) (map held lab.stock.gaps.items) lab c
 
   -- the lab did what was commanded at the line of this number: the texts of that are these; or this is why it is refused
   abbrev pub HasObeyed : (old new : Lab X F) → ℕ → List (List ℕ) → Command → Option Cause → Type 0
   HasObeyed old new line texts command refused = HasStepped line (LabStandsFor old) (LabStandsFor new) texts command refused
 
-  -- whatever slave of a world it stood for, a slave did the deed of that one
-  abbrev pub HasDoneAsSlave : (old new : SlaveNode X F) → (world.Slave → world.Deed) → (noted noted' : Noted) → Type 0
-  HasDoneAsSlave old new deed noted noted' = (begun : Bool) (s : world.Slave)
-      → IsNode old.ip (seen judge old.slave) begun s
-      → HasDone (StandsAsNode new.ip (seen judge new.slave) true) old.ip (deed s) noted noted'
+-- whatever slave of a world it stood for, a slave did the deed of that one
+abbrev pub HasDoneAsSlave : {X : Type 0} {F : X → Type 0} → ((i : X) × F i → Held) → (old new : SlaveNode X F) → (world.Slave → world.Deed)
+    → (noted noted' : Noted) → Type 0
+HasDoneAsSlave held old new deed noted noted' = (begun : Bool) (s : world.Slave)
+    → IsNode old.ip (seen_by held old.slave) begun s
+    → HasDone (StandsAsNode new.ip (seen_by held new.slave) true) old.ip (deed s) noted noted'

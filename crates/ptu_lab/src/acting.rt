@@ -10,7 +10,6 @@ ghost use Rattle.ptu_lab.specs.Standing.{HasObeyed, LabStandsFor, NodeStandsAs};
 
 use crate::lab::{Lab, Node};
 use crate::stock::Reserve;
-use ptu_judges::Judge;
 use ptu_lines::LentOctets;
 use ptu_nodes::Journal;
 use ptu_report_lines::Statement;
@@ -32,17 +31,17 @@ impl Node {
         journal: &mut Journal,
     ) -> Result<Option<Cause>, OutOfMemory>
         requires means { (ip : ℕ) × (begun : Bool) × (w : world.Node)
-            × NodeStandsAs ⟦<dyn Judge as Judge>⟧ ip begun self.old w }
-        requires stock { IsStock (map (λ j. held j) stock.old.flags.items)
-            (map (λ j. held j) stock.old.gaps.items) }
+            × NodeStandsAs held ip begun self.old w }
+        requires stock { IsStock (map held stock.old.flags.items)
+            (map held stock.old.gaps.items) }
         requires within { IsActWithin act }
         ensures { IfOk result (λ refused. (ip : ℕ) (begun : Bool) (w : world.Node) →
-            NodeStandsAs ⟦<dyn Judge as Judge>⟧ ip begun self.old w →
-            HasActedLeaving (NodeStandsAs ⟦<dyn Judge as Judge>⟧ ip true self.new)
-            ip journal.old journal.new (map (λ j. held j) stock.new.flags.items)
-            (map (λ j. held j) stock.new.gaps.items) (act_deed at act.entry w)
-            (stock_after act.entry (stock_of (map (λ j. held j) stock.old.flags.items)
-            (map (λ j. held j) stock.old.gaps.items))) refused) }
+            NodeStandsAs held ip begun self.old w →
+            HasActedLeaving (NodeStandsAs held ip true self.new)
+            ip journal.old journal.new (map held stock.new.flags.items)
+            (map held stock.new.gaps.items) (act_deed at act.entry w)
+            (stock_after act.entry (stock_of (map held stock.old.flags.items)
+            (map held stock.old.gaps.items))) refused) }
     {
         match self {
             Node::Grandmaster(node) => node.act(at, act, journal),
@@ -68,10 +67,10 @@ impl Lab {
     /// `OutOfMemory`. Nothing is said of the lab then: the run ends.
     #[inline(always)]
     pub fn act(&mut self, at: Moment, ip: u32, act: Act<'_>) -> Result<Option<Cause>, OutOfMemory>
-        requires means { (c : Course) × LabStandsFor ⟦<dyn Judge as Judge>⟧ self.old c }
+        requires means { (c : Course) × LabStandsFor held self.old c }
         requires within { IsActWithin act }
         requires empty { self.old.journal.texts ≡ [] }
-        ensures { IfOk result (HasObeyed ⟦<dyn Judge as Judge>⟧ self.old self.new
+        ensures { IfOk result (HasObeyed held self.old self.new
             self.old.journal.line self.new.journal.texts (commands.Event at ip act.entry)) }
     {
         match self.nodes.get_mut(&ip) {
@@ -95,9 +94,9 @@ impl Lab {
         number: u64,
         room: &mut Vec<u8>,
     ) -> Result<Option<Cause>, OutOfMemory>
-        requires means { (c : Course) × LabStandsFor ⟦<dyn Judge as Judge>⟧ self.old c }
+        requires means { (c : Course) × LabStandsFor held self.old c }
         requires empty { self.old.journal.texts ≡ [] }
-        ensures { IfOk result (HasObeyed ⟦<dyn Judge as Judge>⟧ self.old self.new
+        ensures { IfOk result (HasObeyed held self.old self.new
             self.old.journal.line self.new.journal.texts (commands.Deliver at number)) }
     {
         let Some(sent) = datagram_of(self.journal.sent(), number) else {

@@ -9,7 +9,7 @@ ghost use Rattle.ptu_lab.specs.{Standing.{HasObeyed, LabStandsFor}, Steps.{stock
 
 use crate::slave_node::SlaveNode;
 use crate::stock::Reserve;
-use ptu_judges::{Judge, Stock};
+use ptu_judges::Stock;
 use ptu_nodes::{GrandmasterNode, Journal};
 use ptu_report::Texts;
 use ptu_script::{Cause, Command};
@@ -40,9 +40,9 @@ pub struct Lab {
 impl Lab {
     /// The lab before the first line of a script: no node stands in it.
     pub fn new(alloc: Global, stock: Stock) -> Lab
-        requires { IsStock (map (λ j. held j) stock.flags.items)
-            (map (λ j. held j) stock.gaps.items) }
-        ensures opening { LabStandsFor ⟦<dyn Judge as Judge>⟧ result (course_opening
+        requires { IsStock (map held stock.flags.items)
+            (map held stock.gaps.items) }
+        ensures opening { LabStandsFor held result (course_opening
             (stock_of stock.flags.items stock.gaps.items)) }
     {
         Lab {
@@ -69,12 +69,12 @@ impl Lab {
         room: &mut Vec<u8>,
         texts: &mut Texts,
     ) -> Result<Option<Cause>, OutOfMemory>
-        requires means { (c : Course) × LabStandsFor ⟦<dyn Judge as Judge>⟧ self.old c }
+        requires means { (c : Course) × LabStandsFor held self.old c }
         requires limits { IsWithinLimits command }
         ensures { IfOk result (λ refused. (c : Course) →
-            LabStandsFor ⟦<dyn Judge as Judge>⟧ self.old c →
+            LabStandsFor held self.old c →
             IsOutcome (outcome_by c line (step c.world command.entry))
-            (λ after. LabStandsFor ⟦<dyn Judge as Judge>⟧ self.new after) texts.new refused) }
+            (λ after. LabStandsFor held self.new after) texts.new refused) }
     {
         self.journal.begin(line);
         let refused = self.obey(command, room)?;
@@ -89,10 +89,10 @@ impl Lab {
         command: Command<'_>,
         room: &mut Vec<u8>,
     ) -> Result<Option<Cause>, OutOfMemory>
-        requires means { (c : Course) × LabStandsFor ⟦<dyn Judge as Judge>⟧ self.old c }
+        requires means { (c : Course) × LabStandsFor held self.old c }
         requires limits { IsWithinLimits command }
         requires empty { self.old.journal.texts ≡ [] }
-        ensures { IfOk result (HasObeyed ⟦<dyn Judge as Judge>⟧ self.old self.new
+        ensures { IfOk result (HasObeyed held self.old self.new
             self.old.journal.line self.new.journal.texts command.entry) }
     {
         match command {

@@ -1,13 +1,12 @@
 //! The call `replay`: a script is read line by line, and its report is written line by line.
 
 ghost use Rattle.std.specs.Prelude.{◌≡◌, ℕ, List, [], ◌∷◌, map, Some, IfOk, OnOk};
-ghost use Rattle.ptu_judges.specs.Held.{IsStock};
+ghost use Rattle.ptu_judges.specs.Boxes.{IsFreshStock};
 ghost use Rattle.ptu_report.specs.Runs.{HasRunThrough};
 ghost use Rattle.ptu_world.specs.Report.{course_opening, report, rules};
-ghost use Rattle.ptu_slave.specs.Seen.{seen_by};
 ghost use Rattle.ptu_lab.specs.Headline.{KeepsHeadline};
 ghost use Rattle.ptu_lab.specs.Replayed.{AreCounts, HasReplayed, IfReplayed};
-ghost use Rattle.ptu_lab.specs.{Standing.{StandsFor}, Steps.{stock_of}};
+ghost use Rattle.ptu_lab.specs.{Standing.{LabStandsFor}, Steps.{stock_of}};
 
 use crate::done::Done;
 use crate::lab::Lab;
@@ -50,10 +49,7 @@ impl Reporter for Replayer {
     ghost rules = { rules };
 
     ghost stands_for = { λ replayer course.
-        StandsFor (λ n. seen_by (λ j. (Judge-box j).Judge) n.slave)
-        (map (λ j. (Judge-box j).Judge.held j.value) replayer.lab.stock.flags.items)
-        (map (λ j. (Judge-box j).Judge.held j.value) replayer.lab.stock.gaps.items)
-        replayer.lab course };
+        LabStandsFor (λ j. (Judge-box j).Judge.held j.value) replayer.lab course };
 
     #[inline(always)]
     #[tactic(auto, unfolding(ptu_world::specs::Report::rules))]
@@ -115,8 +111,7 @@ pub fn replay<S: Source, K: Sink>(
     sink: &mut K,
     stock: Stock,
 ) -> Result<Done, LabFault>
-    requires stock { IsStock (map (λ j. held (j.vtable, j.value)) stock.flags.items)
-        (map (λ j. held (j.vtable, j.value)) stock.gaps.items) }
+    requires stock { IsFreshStock held stock }
     // The whole report was written, and the answer says how it ends.
     ensures whole { (script : List ℕ) → S.left source.old ≡ Some script → IfReplayed result
         (λ ending. HasReplayed K.written K.handed sink.old sink.new

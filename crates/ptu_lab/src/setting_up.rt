@@ -11,7 +11,7 @@ ghost use Rattle.ptu_lab.specs.Standing.{HasObeyed, LabStandsFor};
 use crate::lab::{Lab, Node};
 use crate::slave_node::SlaveNode;
 use crate::stock::take_judge;
-use ptu_judges::{Judge, Rule};
+use ptu_judges::Rule;
 use ptu_nodes::GrandmasterNode;
 use ptu_script::{Cause, GrandmasterSetup, SlaveSetup};
 use ptu_units::OutOfMemory;
@@ -57,7 +57,7 @@ impl Lab {
         setup: &GrandmasterSetup,
     ) -> Result<Option<Cause>, OutOfMemory>
         requires limits { IsGrandmasterWithin setup.now }
-        ensures made { IfOk result (λ refused. (line : ℕ) → HasObeyed ⟦<dyn Judge as Judge>⟧
+        ensures made { IfOk result (λ refused. (line : ℕ) → HasObeyed held
             self.old self.new line [] (commands.Grandmaster setup.now) refused) }
         ensures journal { self.new.journal ≡ self.old.journal }
     {
@@ -75,7 +75,7 @@ impl Lab {
     /// `OutOfMemory`. The journal is as before, and nothing is said of the nodes: the run ends.
     pub fn set_up_slave(&mut self, setup: &SlaveSetup) -> Result<Option<Cause>, OutOfMemory>
         requires limits { IsSlaveWithin setup.now }
-        ensures made { IfOk result (λ refused. (line : ℕ) → HasObeyed ⟦<dyn Judge as Judge>⟧
+        ensures made { IfOk result (λ refused. (line : ℕ) → HasObeyed held
             self.old self.new line [] (commands.Slave setup.now) refused) }
         ensures journal { self.new.journal ≡ self.old.journal }
     {
@@ -98,9 +98,9 @@ impl Lab {
         priority: u8,
         rule: Rule,
     ) -> Result<Option<Cause>, OutOfMemory>
-        requires means { (c : Course) × LabStandsFor ⟦<dyn Judge as Judge>⟧ self.old c }
+        requires means { (c : Course) × LabStandsFor held self.old c }
         requires named { IsNamed rule }
-        ensures made { IfOk result (λ refused. (line : ℕ) → HasObeyed ⟦<dyn Judge as Judge>⟧
+        ensures made { IfOk result (λ refused. (line : ℕ) → HasObeyed held
             self.old self.new line [] (commands.Master slave ip priority rule) refused) }
         ensures journal { self.new.journal ≡ self.old.journal }
     {

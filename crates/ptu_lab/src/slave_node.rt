@@ -9,7 +9,7 @@ ghost use Rattle.ptu_judges.specs.Held.{IsStock, fresh};
 ghost use Rattle.ptu_profile.specs.Slave.{IsWithinLimits, place_of};
 ghost use Rattle.ptu_slave_messages.specs.Node as node;
 ghost use Rattle.ptu_slave_messages.specs.Node.{datagram_heard};
-ghost use Rattle.ptu_slave.specs.{Seen.{seen}, Standing.{StandsFor, selected_address}};
+ghost use Rattle.ptu_slave.specs.{Seen.{seen}, SeenBy.{seen_by}, Standing.{StandsFor, selected_address}};
 ghost use Rattle.ptu_script.specs.Limits.{IsActWithin, IsNamed, IsSlaveWithin};
 ghost use Rattle.ptu_world.specs.Deeds.{IsSlave, Slave as Described};
 ghost use Rattle.ptu_world.specs.Slaves.{datagram_deed, plain_deed};
@@ -57,7 +57,7 @@ impl SlaveNode {
         requires { IsSlaveWithin setup.now }
         ensures ip { IfOk result (λ n. n.ip ≡ setup.now.ip) }
         ensures stands { IfOk result (λ n. StandsAsNode n.ip
-            (seen ⟦<dyn Judge as Judge>⟧ n.slave) false (new_slave setup.now)) }
+            (seen_by held n.slave) false (new_slave setup.now)) }
     {
         let config = config_of(setup);
         let port = quiet_port(alloc);
@@ -70,7 +70,7 @@ impl SlaveNode {
 
     /// The place of the master with this IPv4 address in its list.
     pub fn place(&self, ip: u32) -> Option<usize>
-        ensures { result ≡ place_of (seen ⟦<dyn Judge as Judge>⟧ self.now.slave).kept.masters ip }
+        ensures { result ≡ place_of (seen_by held self.now.slave).kept.masters ip }
     {
         self.slave
             .masters()
@@ -80,7 +80,7 @@ impl SlaveNode {
 
     /// How many masters it has.
     pub fn masters(&self) -> usize
-        ensures { result ≡ length (seen ⟦<dyn Judge as Judge>⟧ self.now.slave).kept.masters }
+        ensures { result ≡ length (seen_by held self.now.slave).kept.masters }
     {
         self.slave.masters().len()
     }
@@ -96,16 +96,16 @@ impl SlaveNode {
         priority: u8,
         judge: Box<dyn Judge>,
     ) -> Result<SlaveNode, OutOfMemory>
-        requires means { (s : Described) × IsNode self.ip (seen ⟦<dyn Judge as Judge>⟧ self.slave)
+        requires means { (s : Described) × IsNode self.ip (seen held self.slave)
             false s }
-        requires few { length (seen ⟦<dyn Judge as Judge>⟧ self.slave).kept.masters < 16 }
-        requires other { place_of (seen ⟦<dyn Judge as Judge>⟧ self.slave).kept.masters ip ≡ None }
+        requires few { length (seen held self.slave).kept.masters < 16 }
+        requires other { place_of (seen held self.slave).kept.masters ip ≡ None }
         requires fresh { (rule : Rule) × (held judge ≡ fresh rule) }
         ensures ip { IfOk result (λ n. n.ip ≡ self.ip) }
         ensures stands { IfOk result (λ n. (s : Described) (rule : Rule) →
-            IsNode self.ip (seen ⟦<dyn Judge as Judge>⟧ self.slave) false s → held judge ≡
+            IsNode self.ip (seen held self.slave) false s → held judge ≡
             fresh rule →
-            StandsAsNode n.ip (seen ⟦<dyn Judge as Judge>⟧ n.slave) false (IsSlave
+            StandsAsNode n.ip (seen held n.slave) false (IsSlave
             (described_with_master ip priority rule s))) }
     {
         let SlaveNode { ip: own, slave } = self;
@@ -127,17 +127,17 @@ impl SlaveNode {
         stock: &mut Reserve,
         journal: &mut Journal,
     ) -> Result<Option<Cause>, OutOfMemory>
-        requires stock { IsStock (map (λ j. held j) stock.old.flags.items)
-            (map (λ j. held j) stock.old.gaps.items) }
+        requires stock { IsStock (map held stock.old.flags.items)
+            (map held stock.old.gaps.items) }
         requires within { IsActWithin act }
         ensures ip { self.new.ip ≡ self.old.ip }
         ensures acted { IfOk result (λ refused. (begun : Bool) (s : Described) →
-            IsNode self.old.ip (seen ⟦<dyn Judge as Judge>⟧ self.old.slave) begun s →
-            HasActedLeaving (StandsAsNode self.new.ip (seen ⟦<dyn Judge as Judge>⟧ self.new.slave)
-            true) self.old.ip journal.old journal.new (map (λ j. held j) stock.new.flags.items)
-            (map (λ j. held j) stock.new.gaps.items) (act_deed at act.entry (IsSlave s))
-            (stock_after act.entry (stock_of (map (λ j. held j) stock.old.flags.items)
-            (map (λ j. held j) stock.old.gaps.items))) refused) }
+            IsNode self.old.ip (seen held self.old.slave) begun s →
+            HasActedLeaving (StandsAsNode self.new.ip (seen held self.new.slave)
+            true) self.old.ip journal.old journal.new (map held stock.new.flags.items)
+            (map held stock.new.gaps.items) (act_deed at act.entry (IsSlave s))
+            (stock_after act.entry (stock_of (map held stock.old.flags.items)
+            (map held stock.old.gaps.items))) refused) }
     {
         match act {
             Act::Receive { from, octets } => {
@@ -168,7 +168,7 @@ impl SlaveNode {
         journal: &mut Journal,
     ) -> Result<(), OutOfMemory>
         ensures ip { self.new.ip ≡ self.old.ip }
-        ensures done { OnOk result (HasDoneAsSlave ⟦<dyn Judge as Judge>⟧ self.old self.new
+        ensures done { OnOk result (HasDoneAsSlave held self.old self.new
             (λ s. datagram_deed s at from octets.now) journal.old journal.new) }
     {
         let heard = take(journal.alloc(), &mut self.slave, at, from, octets)?;
@@ -182,7 +182,7 @@ impl SlaveNode {
     // A tick.
     fn tick(&mut self, at: Moment, journal: &mut Journal) -> Result<(), OutOfMemory>
         ensures ip { self.new.ip ≡ self.old.ip }
-        ensures done { OnOk result (HasDoneAsSlave ⟦<dyn Judge as Judge>⟧ self.old self.new
+        ensures done { OnOk result (HasDoneAsSlave held self.old self.new
             (λ s. plain_deed s at Tick) journal.old journal.new) }
     {
         tick(journal.alloc(), &mut self.slave, at)?;
@@ -192,7 +192,7 @@ impl SlaveNode {
     // The stop.
     fn stop(&mut self, at: Moment, journal: &mut Journal) -> Result<(), OutOfMemory>
         ensures ip { self.new.ip ≡ self.old.ip }
-        ensures done { OnOk result (HasDoneAsSlave ⟦<dyn Judge as Judge>⟧ self.old self.new
+        ensures done { OnOk result (HasDoneAsSlave held self.old self.new
             (λ s. plain_deed s at Stop) journal.old journal.new) }
     {
         stop(journal.alloc(), &mut self.slave, at)?;
@@ -209,8 +209,8 @@ impl SlaveNode {
     ) -> Result<Option<Cause>, OutOfMemory>
         ensures ip { self.new.ip ≡ self.old.ip }
         ensures acted { IfOk result (λ refused. (begun : Bool) (s : Described) →
-            IsNode self.old.ip (seen ⟦<dyn Judge as Judge>⟧ self.old.slave) begun s →
-            HasActed (StandsAsNode self.new.ip (seen ⟦<dyn Judge as Judge>⟧ self.new.slave) true)
+            IsNode self.old.ip (seen_by held self.old.slave) begun s →
+            HasActed (StandsAsNode self.new.ip (seen_by held self.new.slave) true)
             self.old.ip journal.old journal.new
             (of_master master (λ s m. plain_deed s at (TellFlag m unusable)) (IsSlave s))
             refused) }
@@ -230,9 +230,9 @@ impl SlaveNode {
         unusable: bool,
         journal: &mut Journal,
     ) -> Result<(), OutOfMemory>
-        requires { master < length (seen ⟦<dyn Judge as Judge>⟧ self.old.slave).kept.masters }
+        requires { master < length (seen_by held self.old.slave).kept.masters }
         ensures ip { self.new.ip ≡ self.old.ip }
-        ensures done { OnOk result (HasDoneAsSlave ⟦<dyn Judge as Judge>⟧ self.old self.new
+        ensures done { OnOk result (HasDoneAsSlave held self.old self.new
             (λ s. plain_deed s at (TellFlag master unusable)) journal.old journal.new) }
     {
         self.slave.flag(at, master, unusable);
@@ -249,18 +249,18 @@ impl SlaveNode {
         stock: &mut Reserve,
         journal: &mut Journal,
     ) -> Result<Option<Cause>, OutOfMemory>
-        requires stock { IsStock (map (λ j. held j) stock.old.flags.items)
-            (map (λ j. held j) stock.old.gaps.items) }
+        requires stock { IsStock (map held stock.old.flags.items)
+            (map held stock.old.gaps.items) }
         requires named { IsNamed rule }
         ensures ip { self.new.ip ≡ self.old.ip }
         ensures acted { IfOk result (λ refused. (begun : Bool) (s : Described) →
-            IsNode self.old.ip (seen ⟦<dyn Judge as Judge>⟧ self.old.slave) begun s →
-            HasActedLeaving (StandsAsNode self.new.ip (seen ⟦<dyn Judge as Judge>⟧ self.new.slave)
-            true) self.old.ip journal.old journal.new (map (λ j. held j) stock.new.flags.items)
-            (map (λ j. held j) stock.new.gaps.items)
+            IsNode self.old.ip (seen held self.old.slave) begun s →
+            HasActedLeaving (StandsAsNode self.new.ip (seen held self.new.slave)
+            true) self.old.ip journal.old journal.new (map held stock.new.flags.items)
+            (map held stock.new.gaps.items)
             (of_master master (λ s m. plain_deed s at (ReplaceJudge m (Some rule))) (IsSlave s))
-            (stock_without rule (stock_of (map (λ j. held j) stock.old.flags.items)
-            (map (λ j. held j) stock.old.gaps.items))) refused) }
+            (stock_without rule (stock_of (map held stock.old.flags.items)
+            (map held stock.old.gaps.items))) refused) }
     {
         let Some(place) = self.place(master) else {
             return Ok(Some(Cause::Node));
@@ -280,13 +280,13 @@ impl SlaveNode {
         judge: Box<dyn Judge>,
         journal: &mut Journal,
     ) -> Result<(), OutOfMemory>
-        requires place { master < length (seen ⟦<dyn Judge as Judge>⟧ self.old.slave).kept.masters }
+        requires place { master < length (seen held self.old.slave).kept.masters }
         requires fresh { (rule : Rule) × (held judge ≡ fresh rule) }
         ensures ip { self.new.ip ≡ self.old.ip }
         ensures done { OnOk result ((begun : Bool) (s : Described) (rule : Rule) →
             held judge ≡ fresh rule →
-            IsNode self.old.ip (seen ⟦<dyn Judge as Judge>⟧ self.old.slave) begun s →
-            HasDone (StandsAsNode self.new.ip (seen ⟦<dyn Judge as Judge>⟧ self.new.slave) true)
+            IsNode self.old.ip (seen held self.old.slave) begun s →
+            HasDone (StandsAsNode self.new.ip (seen held self.new.slave) true)
             self.old.ip (plain_deed s at (ReplaceJudge master (Some rule))) journal.old
             journal.new) }
     {
@@ -298,18 +298,18 @@ impl SlaveNode {
     fn conclude(&mut self, at: Moment, journal: &mut Journal) -> Result<(), OutOfMemory>
         requires moment { at < 2 ^ 62 }
         ensures ip { self.new.ip ≡ self.old.ip }
-        ensures core { (seen ⟦<dyn Judge as Judge>⟧ self.new.slave).kept ≡
-            (seen ⟦<dyn Judge as Judge>⟧ self.old.slave).kept }
-        ensures judges { (seen ⟦<dyn Judge as Judge>⟧ self.new.slave).judges
-            ≡ (seen ⟦<dyn Judge as Judge>⟧ self.old.slave).judges }
-        ensures cleared { OnOk result ((seen ⟦<dyn Judge as Judge>⟧ self.new.slave).port
-            ≡ record (seen ⟦<dyn Judge as Judge>⟧ self.old.slave).port { sent = [] }) }
+        ensures core { (seen_by held self.new.slave).kept ≡
+            (seen_by held self.old.slave).kept }
+        ensures judges { (seen_by held self.new.slave).judges
+            ≡ (seen_by held self.old.slave).judges }
+        ensures cleared { OnOk result ((seen_by held self.new.slave).port
+            ≡ record (seen_by held self.old.slave).port { sent = [] }) }
         ensures noted { OnOk result ((openings : List (Option Rule)) (L : Record) →
-            StandsFor openings (seen ⟦<dyn Judge as Judge>⟧ self.old.slave).kept
-            (seen ⟦<dyn Judge as Judge>⟧ self.old.slave).judges L →
+            StandsFor openings (seen_by held self.old.slave).kept
+            (seen_by held self.old.slave).judges L →
             journal.new ≡ with_said (selection_by self.old.ip
-            (seen ⟦<dyn Judge as Judge>⟧ self.old.slave).kept L at ∷ [])
-            (with_handed self.old.ip (seen ⟦<dyn Judge as Judge>⟧ self.old.slave).port.sent
+            (seen_by held self.old.slave).kept L at ∷ [])
+            (with_handed self.old.ip (seen_by held self.old.slave).port.sent
             journal.old)) }
     {
         let mut port = self.slave.replace_port(quiet_port(journal.alloc()));
@@ -322,13 +322,13 @@ impl SlaveNode {
     // Says what the slave selects.
     fn say_selected(&mut self, at: Moment, journal: &mut Journal) -> Result<(), OutOfMemory>
         ensures ip { self.new.ip ≡ self.old.ip }
-        ensures unchanged { seen ⟦<dyn Judge as Judge>⟧ self.new.slave ≡
-            seen ⟦<dyn Judge as Judge>⟧ self.old.slave }
+        ensures unchanged { seen_by held self.new.slave ≡
+            seen_by held self.old.slave }
         ensures says { OnOk result ((openings : List (Option Rule)) (L : Record) →
-            StandsFor openings (seen ⟦<dyn Judge as Judge>⟧ self.old.slave).kept
-            (seen ⟦<dyn Judge as Judge>⟧ self.old.slave).judges L →
+            StandsFor openings (seen_by held self.old.slave).kept
+            (seen_by held self.old.slave).judges L →
             journal.new ≡ with_said (selection_by self.old.ip
-            (seen ⟦<dyn Judge as Judge>⟧ self.old.slave).kept L at ∷ []) journal.old) }
+            (seen_by held self.old.slave).kept L at ∷ []) journal.old) }
     {
         let master = selected(&mut self.slave, at);
         journal.say(Statement::Selected {
@@ -374,15 +374,15 @@ fn make_room(
     octets: usize,
 ) -> Result<(), OutOfMemory>
     requires few { datagrams ≤ 32 }
-    ensures same { (seen ⟦<dyn Judge as Judge>⟧ slave.new).port.sent ≡
-        (seen ⟦<dyn Judge as Judge>⟧ slave.old).port.sent }
-    ensures listed { (seen ⟦<dyn Judge as Judge>⟧ slave.new).port.failing_sends ≡
-        (seen ⟦<dyn Judge as Judge>⟧ slave.old).port.failing_sends }
-    ensures room { OnOk result (HasRoom (seen ⟦<dyn Judge as Judge>⟧ slave.new).port
+    ensures same { (seen_by held slave.new).port.sent ≡
+        (seen_by held slave.old).port.sent }
+    ensures listed { (seen_by held slave.new).port.failing_sends ≡
+        (seen_by held slave.old).port.failing_sends }
+    ensures room { OnOk result (HasRoom (seen_by held slave.new).port
         datagrams octets) }
-    ensures rest { seen ⟦<dyn Judge as Judge>⟧ slave.new ≡ record
-        (seen ⟦<dyn Judge as Judge>⟧ slave.old)
-        { port = (seen ⟦<dyn Judge as Judge>⟧ slave.new).port } }
+    ensures rest { seen_by held slave.new ≡ record
+        (seen_by held slave.old)
+        { port = (seen_by held slave.new).port } }
 {
     let mut port = slave.replace_port(quiet_port(alloc));
     let made = port.reserve(datagrams, octets);
@@ -399,16 +399,16 @@ fn take(
     octets: &[u8],
 ) -> Result<Heard, OutOfMemory>
     requires moment { at < 2 ^ 62 }
-    ensures masters { (seen ⟦<dyn Judge as Judge>⟧ slave.new).kept.masters ≡
-        (seen ⟦<dyn Judge as Judge>⟧ slave.old).kept.masters }
+    ensures masters { (seen_by held slave.new).kept.masters ≡
+        (seen_by held slave.old).kept.masters }
     ensures one { IfOk result (λ heard. IsOfOne (length
-        (seen ⟦<dyn Judge as Judge>⟧ slave.old).kept.masters) heard) }
+        (seen_by held slave.old).kept.masters) heard) }
     ensures heard { IfOk result (λ heard. (ip : ℕ) (begun : Bool) (s : Described) →
-        IsNode ip (seen ⟦<dyn Judge as Judge>⟧ slave.old) begun s → heard ≡
+        IsNode ip (seen_by held slave.old) begun s → heard ≡
         datagram_heard s.opened s.taken at from octets.now) }
     ensures stepped { OnOk result ((ip : ℕ) (begun : Bool) (s : Described) →
-        IsNode ip (seen ⟦<dyn Judge as Judge>⟧ slave.old) begun s →
-        HasSteppedTo ip (seen ⟦<dyn Judge as Judge>⟧ slave.new) s
+        IsNode ip (seen_by held slave.old) begun s →
+        HasSteppedTo ip (seen_by held slave.new) s
         (node.datagram_deed s.opened s.taken at from octets.now)) }
 {
     make_room(alloc, slave, 1, LONGEST_SIGNALING)?;
@@ -419,8 +419,8 @@ fn take(
 fn tick(alloc: Global, slave: &mut Slave<MemPort>, at: Moment) -> Result<(), OutOfMemory>
     requires moment { at < 2 ^ 62 }
     ensures { OnOk result ((ip : ℕ) (begun : Bool) (s : Described) →
-        IsNode ip (seen ⟦<dyn Judge as Judge>⟧ slave.old) begun s →
-        HasSteppedTo ip (seen ⟦<dyn Judge as Judge>⟧ slave.new) s
+        IsNode ip (seen_by held slave.old) begun s →
+        HasSteppedTo ip (seen_by held slave.new) s
         (node.deed s.opened s.taken at Tick)) }
 {
     let octets = MASTERS * (LONGEST_SIGNALING + SYNC_LENGTH);
@@ -433,8 +433,8 @@ fn tick(alloc: Global, slave: &mut Slave<MemPort>, at: Moment) -> Result<(), Out
 fn stop(alloc: Global, slave: &mut Slave<MemPort>, at: Moment) -> Result<(), OutOfMemory>
     requires moment { at < 2 ^ 62 }
     ensures { OnOk result ((ip : ℕ) (begun : Bool) (s : Described) →
-        IsNode ip (seen ⟦<dyn Judge as Judge>⟧ slave.old) begun s →
-        HasSteppedTo ip (seen ⟦<dyn Judge as Judge>⟧ slave.new) s
+        IsNode ip (seen_by held slave.old) begun s →
+        HasSteppedTo ip (seen_by held slave.new) s
         (node.deed s.opened s.taken at Stop)) }
 {
     make_room(alloc, slave, MASTERS, MASTERS * LONGEST_SIGNALING)?;
@@ -446,11 +446,11 @@ fn stop(alloc: Global, slave: &mut Slave<MemPort>, at: Moment) -> Result<(), Out
 fn selected(slave: &mut Slave<MemPort>, at: Moment) -> Option<u32>
     requires moment { at < 2 ^ 62 }
     ensures selected { (openings : List (Option Rule)) (L : Record) →
-        StandsFor openings (seen ⟦<dyn Judge as Judge>⟧ slave.old).kept
-        (seen ⟦<dyn Judge as Judge>⟧ slave.old).judges L →
-        result ≡ selected_address (seen ⟦<dyn Judge as Judge>⟧ slave.old).kept L at }
-    ensures unchanged { seen ⟦<dyn Judge as Judge>⟧ slave.new ≡
-        seen ⟦<dyn Judge as Judge>⟧ slave.old }
+        StandsFor openings (seen_by held slave.old).kept
+        (seen_by held slave.old).judges L →
+        result ≡ selected_address (seen_by held slave.old).kept L at }
+    ensures unchanged { seen_by held slave.new ≡
+        seen_by held slave.old }
 {
     slave.selected_address(at)
 }

@@ -15,15 +15,15 @@ pub struct Reserve {
 
 /// Takes the last judge of a rule that a script can name; `None` where none is left.
 pub fn take_judge(stock: &mut Reserve, rule: Rule) -> Option<Box<dyn Judge>>
-    requires stock { IsStock (map (λ j. held j) stock.old.flags.items)
-        (map (λ j. held j) stock.old.gaps.items) }
+    requires stock { IsStock (map held stock.old.flags.items)
+        (map held stock.old.gaps.items) }
     requires named { IsNamed rule }
     ensures { MatchOption result
-        (HasNone rule (map (λ j. held j) stock.old.flags.items)
-        (map (λ j. held j) stock.old.gaps.items))
-        (λ judge. HasTaken rule (map (λ j. held j) stock.old.flags.items)
-        (map (λ j. held j) stock.old.gaps.items) (map (λ j. held j) stock.new.flags.items)
-        (map (λ j. held j) stock.new.gaps.items) (held judge)) }
+        (HasNone rule (map held stock.old.flags.items)
+        (map held stock.old.gaps.items))
+        (λ judge. HasTaken rule (map held stock.old.flags.items)
+        (map held stock.old.gaps.items) (map held stock.new.flags.items)
+        (map held stock.new.gaps.items) (held judge)) }
 {
     match rule {
         Rule::Flag => stock.flags.pop(),

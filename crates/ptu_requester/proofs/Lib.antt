@@ -4,3 +4,4 @@ pub mod Dues
 pub mod Masters
 pub mod Silence
 pub mod Stops
+pub mod Waiting

@@ -1,10 +1,10 @@
 //! The negotiation of one kind with one master.
 
-ghost use Rattle.std.specs.Prelude.{◌≡◌, [], unwrap_or};
+ghost use Rattle.std.specs.Prelude.{◌≡◌, ℕ, ◌<◌, ◌≤◌, [], false, unwrap_or};
 ghost use Rattle.ptu_units.specs.declared.kind.Kind.{Kind};
 ghost use Rattle.ptu_record.specs.Record.{Record, Asked, Granted, Denied, Cancelled};
 ghost use Rattle.ptu_record.specs.Grants.{is_live};
-ghost use Rattle.ptu_record.specs.Asks.{ask_gate, refusal_gate, renewal_gate, is_due};
+ghost use Rattle.ptu_record.specs.Asks.{ask_gate, refusal_gate, renewal_gate, gate, is_due};
 ghost use Rattle.ptu_requester.specs.Negotiation.{Enters, IsKept, entry_of};
 
 use ptu_units::Moment;
@@ -131,11 +131,20 @@ impl Negotiation {
     pub fn is_due(&self, t: Moment) -> bool
         ensures { (k : Kind) (L : Record) → IsKept k L self.now → result ≡ is_due k L t }
     {
-        let gate = self
-            .ask_gate()
-            .max(self.refusal_gate())
-            .max(self.renewal_gate(t));
+        let gate = self.due_from(t);
         gate <= t.nanos()
+    }
+
+    /// From when on the kind is to be asked for, where nothing is entered after `t`: up to `t`
+    /// where it is to be asked for at `t`, else the first moment after it, in nanoseconds.
+    pub fn due_from(&self, t: Moment) -> u64
+        ensures gate { (k : Kind) (L : Record) → IsKept k L self.now → result ≡ gate k L t }
+        ensures idle { (k : Kind) (L : Record) → IsKept k L self.now →
+            (x : ℕ) → t ≤ x → x < result → is_due k L x ≡ false }
+    {
+        self.ask_gate()
+            .max(self.refusal_gate())
+            .max(self.renewal_gate(t))
     }
 
     // The moment at which the last ask without an answer has waited long enough, or 0 where there

@@ -1,7 +1,10 @@
 //! The negotiations of all kinds with one master.
 
-ghost use Rattle.std.specs.Prelude.{◌≡◌, ℕ, ◌++◌, ◌∷◌, [], All, IfOk, vec_len};
-ghost use Rattle.ptu_record.specs.{Record.{Record}, Grants.{is_live, run_start}, Asks.{due_kinds}};
+ghost use Rattle.std.specs.Prelude.{◌≡◌, ℕ, ◌<◌, ◌≤◌, ◌&&◌, false, ◌++◌, ◌∷◌, [], All, IfOk, vec_len};
+ghost use Rattle.std.specs.Option.{is_some};
+ghost use Rattle.ptu_units.specs.declared.kind.Kind.TheVariants.{DelayResp as Delay};
+ghost use Rattle.ptu_record.specs.{Record.{Record}, Grants.{is_live, run_start}};
+ghost use Rattle.ptu_record.specs.Asks.{due_kinds, is_due};
 ghost use Rattle.ptu_requester.specs.{Due.{kinds_of}, Negotiation.{entry_of}, Requester.{AreKept}};
 
 use crate::due::Due;
@@ -65,6 +68,29 @@ impl Negotiations {
                 Some(_) => self.delay.is_due(t),
                 None => false,
             },
+        }
+    }
+
+    /// From when on one of the kinds that are requested is to be asked for, where nothing is
+    /// entered after `t`: up to `t` where one is at `t`, else the first moment after it, in
+    /// nanoseconds.
+    pub fn due_from(&self, wants: &Wants, t: Moment) -> u64
+        ensures { (L : Record) → AreKept L self.now →
+            (x : ℕ) → t ≤ x → x < result → due_kinds wants.now L x ≡ [] }
+    {
+        let announce = self.announce.due_from(t);
+        let sync = self.sync.due_from(t);
+        announce.min(sync).min(self.delay_due_from(wants, t))
+    }
+
+    // From when on Delay_Resp is to be asked for; `u64::MAX` where it is not requested.
+    fn delay_due_from(&self, wants: &Wants, t: Moment) -> u64
+        ensures { (L : Record) → AreKept L self.now → (x : ℕ) → t ≤ x → x < result →
+            (is_some wants.now.delay && is_due Delay L x) ≡ false }
+    {
+        match wants.delay {
+            Some(_) => self.delay.due_from(t),
+            None => u64::MAX,
         }
     }
 

@@ -1,7 +1,7 @@
 //! When a slave asks each master: a few values for each kind in place of the record of all asks and
 //! answers.
 
-ghost use Rattle.std.specs.Prelude.{◌≡◌, ◌<◌, ◌∷◌, [], length, IfOk};
+ghost use Rattle.std.specs.Prelude.{◌≡◌, ℕ, ◌<◌, ◌≤◌, ◌∷◌, [], length, IfOk};
 ghost use Rattle.ptu_record.specs.Record.{Record, record_of, Asked, Cancelled};
 ghost use Rattle.ptu_record.specs.{Grants.{is_live, run_start}, Asks.{due_kinds}};
 ghost use Rattle.ptu_record.specs.Step.{grant_entry};
@@ -60,6 +60,17 @@ impl Requester {
             kinds_of result ≡ due_kinds self.now.wants (record_of master L) t }
     {
         self.masters[master].due(&self.wants, t)
+    }
+
+    /// From when on the master is to be asked for a kind that is requested, where nothing is
+    /// entered after `t`: up to `t` where it is at `t`, else the first moment after it, in
+    /// nanoseconds.
+    pub fn due_from(&self, t: Moment, master: usize) -> u64
+        requires { master < length self.now.masters }
+        ensures { (L : Record) → StandsFor self.now L → (x : ℕ) → t ≤ x → x < result →
+            due_kinds self.now.wants (record_of master L) x ≡ [] }
+    {
+        self.masters[master].due_from(&self.wants, t)
     }
 
     /// Whether the master's grant of the kind is live at a moment, whichever it is.

@@ -1,7 +1,7 @@
 //! Output that is handed on in blocks.
 
 ghost use Rattle.std.specs.Prelude.{◌≡◌, map, Contains};
-ghost use Rattle.ptu_judges.specs.Held.{IsStock};
+ghost use Rattle.ptu_judges.specs.Boxes.{IsFreshStock};
 ghost use Rattle.ptu_words.specs.CommandLine.{IsRefused};
 ghost use Rattle.ptu_run.specs.Run.{statuses};
 
@@ -32,8 +32,7 @@ where
     I: Read + Drop,
     O: Write + Drop,
     H: Host,
-    requires stock { IsStock (map (λ j. held (j.vtable, j.value)) stock.flags.items)
-        (map (λ j. held (j.vtable, j.value)) stock.gaps.items) }
+    requires stock { IsFreshStock held stock }
     ensures statuses { Contains statuses result }
     // 64 is answered only where the command line does not match the words.
     ensures usage { result ≡ USAGE → IsRefused (map (λ w. w.now) words.now) }

@@ -2,7 +2,7 @@
 
 ghost use Rattle.std.specs.Prelude.{◌≡◌, ◌≢◌, ◌⊎◌, ◌∷◌, [], length, map};
 ghost use Rattle.ptu_outside.specs.{Faults.{HasRisen}, Handing.{HasPut, HasPutFront}};
-ghost use Rattle.ptu_judges.specs.Held.{IsStock};
+ghost use Rattle.ptu_judges.specs.Boxes.{IsFreshStock};
 ghost use Rattle.ptu_report.specs.Runs.{IsReadWithin};
 ghost use Rattle.ptu_config.specs.{Limits.{IsGmInRange}, Refusals.{refusal_text}};
 ghost use Rattle.ptu_daemon.specs.Answers.{HasAnswered};
@@ -94,8 +94,7 @@ pub(crate) fn run_slave<S: Source, K: Sink, H: Host>(
     host: &mut H,
     stock: Stock,
 ) -> u8
-    requires stock { IsStock (map (λ j. held (j.vtable, j.value)) stock.flags.items)
-        (map (λ j. held (j.vtable, j.value)) stock.gaps.items) }
+    requires stock { IsFreshStock held stock }
     ensures followed { HasRunSlave H.P.Port H.C.Clock K.written K.handed sink.old sink.new
         (H.opening host.old) (H.back host.new) (H.opened_at host.new)
         (length stock.flags.items) (length stock.gaps.items)

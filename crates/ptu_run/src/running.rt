@@ -2,7 +2,7 @@
 
 ghost use Rattle.std.specs.Prelude.{◌≡◌, ◌≢◌, ◌⊎◌, [], ◌∷◌, ℕ, List, Some, length, map, Contains};
 ghost use Rattle.ptu_outside.specs.{Faults.{HasRisen}, Handing.{HasPut, HasPutPart}};
-ghost use Rattle.ptu_judges.specs.Held.{IsStock};
+ghost use Rattle.ptu_judges.specs.Boxes.{IsFreshStock};
 ghost use Rattle.ptu_report.specs.Runs.{IsReadWithin};
 ghost use Rattle.ptu_lab.specs.{Headline.{KeepsHeadline}, Steps.{stock_of}};
 ghost use Rattle.ptu_pool_run.specs.Promises.{KeepsPools};
@@ -37,8 +37,7 @@ fn run_command<W: Threads + Wait + Sync, S: Source, K: Sink, H: Host>(
     host: &mut H,
     stock: Stock,
 ) -> u8
-    requires stock { IsStock (map (λ j. held (j.vtable, j.value)) stock.flags.items)
-        (map (λ j. held (j.vtable, j.value)) stock.gaps.items) }
+    requires stock { IsFreshStock held stock }
     requires range { IsInRange command }
     ensures output { IsOfLab command → (input : List ℕ) → S.left source.old ≡ Some input
         → HasRunUnlessFailed K.written K.handed sink.old sink.new
@@ -94,8 +93,7 @@ pub fn run<W: AllocGlobal + Threads + Wait + Sync, S: Source, K: Sink, H: Host>(
     host: &mut H,
     stock: Stock,
 ) -> u8
-    requires stock { IsStock (map (λ j. held (j.vtable, j.value)) stock.flags.items)
-        (map (λ j. held (j.vtable, j.value)) stock.gaps.items) }
+    requires stock { IsFreshStock held stock }
     ensures statuses { Contains statuses result }
 
     // Words that the command line does not match, by the meaning that clap gives it, are answered

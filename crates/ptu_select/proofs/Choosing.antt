@@ -1,5 +1,5 @@
 -- The best candidate is the selected master.
-use Rattle.std.proofs.Common.{◌≡◌, ℕ, zero, suc, ◌+◌, ◌<◌, Bool, true, false, cond, ◌&&◌, ◌||◌, List, [], ◌∷◌, map, length, Option, Some, None, refl, ap, sym, subst, ◌∙◌, arith, ltb, eqb, inl, inr, ◌⊎◌}
+use Rattle.std.proofs.Common.{◌≡◌, ℕ, zero, suc, ◌+◌, ◌<◌, ◌≤◌, Bool, true, false, cond, ◌&&◌, ◌||◌, List, [], ◌∷◌, map, length, Option, Some, None, refl, ap, sym, subst, ◌∙◌, arith, ltb, eqb, inl, inr, ◌⊎◌}
 use Rattle.std.proofs.lemmas.{Bool.{false≢true, and_parts}, Bool.Decides.{nat_tests}}
 use Rattle.std.proofs.lemmas.List.{length-map}
 use Rattle.std.proofs.lemmas.Option.{get_or_from_slice_get, slice_get-map, slice_get_within}
@@ -15,7 +15,8 @@ use Rattle.ptu_fails.proofs.Watching.{state_of-is}
 use Rattle.ptu_select.specs.declared.master.WatchedMaster.{WatchedMaster}
 use Rattle.ptu_select.specs.declared.candidate.Candidate.{Candidate}
 use Rattle.ptu_select.specs.Candidate.{best_of, better_of, candidate_in, is_better_candidate}
-use Rattle.ptu_select.specs.Selecting.{SelectsBy}
+use Rattle.ptu_select.specs.{Choice.{Stands}, Selecting.{SelectsBy}}
+use Rattle.ptu_select.specs.declared.choice.Choice.{Choice}
 
 -- ---- better is an order of three numbers
 
@@ -286,3 +287,9 @@ best_is_selected masters timeouts priorities L t h =
     (selects masters timeouts priorities L t (best_of t masters) h
     (subst (Chosen None (candidates t 0 masters)) (sym (best_of-candidates t 0 None masters)) (chosen (candidates t 0 masters) None)))
     (selected_is timeouts priorities L t)
+
+-- so is the place of a choice, at a moment at which it stands
+pub placed_is_selected : (masters : List WatchedMaster) (timeouts : Timeouts) (priorities : List ℕ) (L : Record) (choice : Choice) (t : ℕ)
+    → Stands masters choice → choice.from ≤ t → t < choice.until → SelectsBy masters timeouts priorities L
+    → choice.place ≡ selected_master timeouts priorities L t
+placed_is_selected masters timeouts priorities L choice t stands from until h = sym (stands t from until) ∙ best_is_selected masters timeouts priorities L t h

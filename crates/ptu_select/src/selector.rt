@@ -1,11 +1,11 @@
 //! The selector of a slave: it keeps its last choice, so that most selections look at no master.
 
-ghost use Rattle.std.specs.Prelude.{◌≡◌, ℕ, ◌<◌, ◌^◌, List, ◌++◌, ◌∷◌, [], length, IfOk};
+ghost use Rattle.std.specs.Prelude.{◌≡◌, ℕ, ◌<◌, ◌≤◌, ◌^◌, List, ◌++◌, ◌∷◌, [], length, IfOk};
 ghost use Rattle.std.specs.Option.{ForSome};
 ghost use Rattle.ptu_record.specs.Record.{Record, record_of, Announce, Sync, Resp, Judged};
 ghost use Rattle.ptu_record.specs.{SignalFails.{Timeouts}, Selection.{selected_master}};
 ghost use Rattle.ptu_fails.specs.WatchState.{state_at};
-ghost use Rattle.ptu_select.specs.Selecting.{SelectsBy};
+ghost use Rattle.ptu_select.specs.{Choice.{Stands}, Selecting.{SelectsBy}};
 
 use crate::choice::{Choice, choice_at};
 use crate::master::WatchedMaster;
@@ -139,8 +139,30 @@ impl Selector {
             SelectsBy self.old timeouts priorities L →
             result ≡ selected_master timeouts priorities L t }
     {
+        self.choose(t).place
+    }
+
+    /// A moment after `t`, in nanoseconds: where nothing is entered, the selected master is the one
+    /// of `t` until then. The state of some master changes there; `u64::MAX` where none does.
+    pub fn next_change(&mut self, t: Moment) -> u64
+        ensures same { self.new ≡ self.old }
+        ensures later { t < result }
+        ensures selected { (timeouts : Timeouts) (priorities : List ℕ) (L : Record) →
+            SelectsBy self.old timeouts priorities L → (x : ℕ) → t ≤ x → x < result →
+            selected_master timeouts priorities L x ≡ selected_master timeouts priorities L t }
+    {
+        self.choose(t).until
+    }
+
+    // The choice at a moment, which is kept.
+    fn choose(&mut self, t: Moment) -> Choice
+        ensures same { self.new ≡ self.old }
+        ensures from { result.from ≤ t }
+        ensures until { t < result.until }
+        ensures stands { Stands self.old result }
+    {
         let choice = choice_at(self.kept, &self.masters, t);
         self.kept = Some(choice);
-        choice.place
+        choice
     }
 }

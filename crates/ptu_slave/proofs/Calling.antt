@@ -4,12 +4,14 @@ use Rattle.std.proofs.lemmas.{Bool.{eqb-true, eq-eqb}, List.{get_or-set_same, le
 use Rattle.std.proofs.lemmas.Option.{slice_get-get_or}
 use Rattle.std.specs.List.{slice_get}
 use Rattle.ptu_requester.proofs.Masters.{slice_get-set_other}
-use Rattle.ptu_judges.specs.Calls.{Along, OfAll, OfAnswer, OfOne}
+use Rattle.ptu_judges.specs.Calls.{OfAll, OfAnswer, OfOne}
 use Rattle.ptu_slave.proofs.Masters.{slice_get-set_same}
 
 -- it begins at a judge that is known under another name
-pub along_at : {X : Type 0} {F : X → Type 0} (R : (i : X) → F i → F i → Type 0) (p q : (i : X) × F i) → p ≡ q → (y : F p.0) → R p.0 p.1 y → Along R q (p.0, y)
-along_at {X} {F} R p q e y r = subst (λ (q : (i : X) × F i). Along R q (p.0, y)) e (y, (r, refl))
+pub along_at : {X : Type 0} {F : X → Type 0} (R : (i : X) → F i → F i → Type 0) (p q : (i : X) × F i) → p ≡ q → (y : F p.0) → R p.0 p.1 y
+    → (value : F q.0) × (R q.0 q.1 value × ◌≡◌ {A = (i : X) × F i} (q.0, value) (p.0, y))
+along_at {X} {F} R p q e y r =
+    subst (λ (q : (i : X) × F i). (value : F q.0) × (R q.0 q.1 value × ◌≡◌ {A = (i : X) × F i} (q.0, value) (p.0, y))) e (y, (r, refl))
 
 get_some : {B : Type 0} (xs : List B) (m : ℕ) → m < length xs → (old : B) × (slice_get xs m ≡ Some old)
 get_some [] m within = absurd (omega arith)

@@ -117,6 +117,10 @@ pub record IsTaken (wants : Wants) (r : Result (ℕ × Message) SlaveReason) (ta
   pub received : r ≡ Ok (taken.master, message)
   pub kept : taken ≡ taken_of wants (taken.master, message)
 
+pub refused_from : (wants : Wants) (r : Result (ℕ × Message) SlaveReason) (reason : SlaveReason) → Err reason ≡ taken_or_not wants r → r ≡ Err reason
+refused_from wants (Err other) reason is = let same : other ≡ reason = cc is in ap Err same
+refused_from wants (Ok taken) reason is = absurd (cc is)
+
 pub taken_from : (wants : Wants) (r : Result (ℕ × Message) SlaveReason) (taken : Accepted) → Ok taken ≡ taken_or_not wants r → IsTaken wants r taken
 taken_from wants (Err reason) taken is = absurd (cc is)
 taken_from wants (Ok (m, message)) taken is = record {

@@ -15,3 +15,4 @@ pub mod Nodes
 pub mod Staying
 mod Selecting
 mod Adding
+mod Waiting

@@ -5,7 +5,7 @@ use Rattle.std.proofs.lemmas.List.{append-nil, map-append}
 use Rattle.std.specs.List.{AllByRecursion, flat_map, range_with_len}
 use Rattle.std.specs.Option.{option_map, option_to_list}
 use Rattle.ptu_units.specs.declared.kind.Kind.{Kind}
-use Rattle.ptu_outside.specs.{Departure.{Departure}, HandsOver.{HandsOver}}
+use Rattle.ptu_outside.specs.{HandsOver.{HandsOver}}
 use Rattle.ptu_record.specs.{declared.wants.Wants.{Wants}, Lists.{places}}
 use Rattle.ptu_record.specs.Record.{Entry, Record, concerns, record_of, Asked, Cancelled, Probed, Signalled}
 use Rattle.ptu_record.specs.{Asks.{due_kinds}, Grants.{live_kinds}}
@@ -28,7 +28,7 @@ use Rattle.ptu_slave.proofs.Masters.{all_append}
 -- ---- lists over places
 
 -- one place more
-each-more : (f : ℕ → List Sending) (n : ℕ) → flat_map f (places (n + 1)) ≡ flat_map f (places n) ++ f n
+pub each-more : (f : ℕ → List Sending) (n : ℕ) → flat_map f (places (n + 1)) ≡ flat_map f (places n) ++ f n
 each-more f n =
     ap (flat_map f) (places-more 0 n) ∙ flat_map-append f (places n) ((0 + n) ∷ []) ∙ ap (λ w. flat_map f (places n) ++ w) (append-nil (f (0 + n)))
     ∙ ap (λ k. flat_map f (places n) ++ f k) (omega arith)

@@ -6,7 +6,7 @@ use Rattle.ptu_record.specs.{declared.rule.Rule.{Rule}, Record.{Record}}
 use Rattle.ptu_record.specs.Step.{ReplaceJudge, SlaveEvent, Stop, TellFlag, Tick, sendings}
 use Rattle.ptu_record.specs.Tick.{Sending}
 use Rattle.ptu_judges.specs.Calls.{OfAll, OfOne, Then, WasAsked, WasTold}
-use Rattle.ptu_judges.specs.declared.judge.{Conduct.{Ghosts as Conducts}, Judge.{Ghosts as Judges}}
+use Rattle.ptu_judges.specs.Held.{Held}
 use Rattle.ptu_slave_messages.specs.Sending.{all_ones, departure_of}
 use Rattle.ptu_slave.specs.{Seen.{Seen}, Standing.{StandsFor, Steps, StepsBy, setup_of}}
 use Rattle.ptu_slave.specs.declared.ticked.Ticked.{Ticked}
@@ -29,11 +29,11 @@ Sends ports old new e result = (handed : List Sending) × HandsOver ports old.po
     → handed ≡ sendings (setup_of old.kept.config openings) L result.at e)
 
 -- a tick at t: all judges were asked
-pub record HasTicked {P X Z : Type 0} {F : X → Type 0} (conduct : (i : X) → Conducts (F i)) (ports : Ports P) (t : ℕ)
-    (old new : Seen P (DynBox X Z F)) (result : Ticked) : Type 0 where
+pub record HasTicked {P X Z : Type 0} {F : X → Type 0} (finds : (j : DynBox X Z F) → ℕ → Bool → F j.vtable → Type 0)
+    (ports : Ports P) (t : ℕ) (old new : Seen P (DynBox X Z F)) (result : Ticked) : Type 0 where
   pub at : result.at ≡ max t old.kept.moment
   pub steps : Goes old new t Tick
-  pub asked : (found : List Bool) × OfAll (length old.kept.masters) (WasAsked conduct (max t old.kept.moment)) found old.boxes new.boxes
+  pub asked : (found : List Bool) × OfAll (length old.kept.masters) (WasAsked finds (max t old.kept.moment)) found old.boxes new.boxes
       × GoesBy found old new t Tick
   pub sends : Sends ports old new Tick result
 
@@ -52,15 +52,15 @@ pub record HasJudged {P B : Type 0} (Calls : Bool → List B → List B → Type
   pub port : new.port ≡ old.port
 
 -- the operator's word on the master at this place: its judge was told, and asked
-abbrev pub IsFlagged : {P X Z : Type 0} {F : X → Type 0} → ((i : X) → Conducts (F i)) → (t m : ℕ) → Bool
-    → (old new : Seen P (DynBox X Z F)) → Type 0
-IsFlagged conduct t m unusable old new =
-    HasJudged (λ found. OfOne m (Then (WasTold conduct (max t old.kept.moment) unusable) (WasAsked conduct (max t old.kept.moment) found)))
+abbrev pub IsFlagged : {P X Z : Type 0} {F : X → Type 0} → (is_told finds : (j : DynBox X Z F) → ℕ → Bool → F j.vtable → Type 0)
+    → (t m : ℕ) → Bool → (old new : Seen P (DynBox X Z F)) → Type 0
+IsFlagged is_told finds t m unusable old new =
+    HasJudged (λ found. OfOne m (Then (WasTold is_told (max t old.kept.moment) unusable) (WasAsked finds (max t old.kept.moment) found)))
     t (TellFlag m unusable) old new
 
 -- the judge in this box took over the master at this place, and was asked
-abbrev pub IsReplaced : {P X Z : Type 0} {F : X → Type 0} → ((i : X) → Judges (F i)) → ((i : X) → Conducts (F i)) → (t m : ℕ)
-    → DynBox X Z F → (old new : Seen P (DynBox X Z F)) → Type 0
-IsReplaced judge conduct t m box old new =
-    HasJudged (λ found. OfOne m (λ _ judge_there. WasAsked conduct (max t old.kept.moment) found box judge_there))
-    t (ReplaceJudge m ((judge box.vtable).held box.value).rule) old new
+abbrev pub IsReplaced : {P X Z : Type 0} {F : X → Type 0} → (DynBox X Z F → Held) → ((j : DynBox X Z F) → ℕ → Bool → F j.vtable → Type 0)
+    → (t m : ℕ) → DynBox X Z F → (old new : Seen P (DynBox X Z F)) → Type 0
+IsReplaced held finds t m box old new =
+    HasJudged (λ found. OfOne m (λ _ judge_there. WasAsked finds (max t old.kept.moment) found box judge_there))
+    t (ReplaceJudge m (held box).rule) old new

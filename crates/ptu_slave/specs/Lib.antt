@@ -2,4 +2,5 @@ pub mod Kept
 pub mod Standing
 pub mod Parts
 pub mod Seen
+pub mod SeenBy
 pub mod Events

@@ -10,7 +10,6 @@ use Rattle.ptu_record.specs.Tick.{Sending, Cancels, one_signaling, requests_to, 
 use Rattle.ptu_record.specs.Step.{SlaveEvent, TakeSync, TellFlag, grant_entry, judged_entries, wanted_kind}
 use Rattle.ptu_requester.specs.Requester.{all_cancels}
 use Rattle.ptu_judges.specs.{Held.{Held}, Calls.{WasHeard, WasTold}}
-use Rattle.ptu_judges.specs.declared.judge.Conduct.{Ghosts}
 use Rattle.ptu_slave_messages.specs.declared.signal.Signal.{Signal}
 use Rattle.ptu_slave_messages.specs.declared.signal.Signal.TheVariants.{Grant, Denial, Cancel, Ack}
 use Rattle.ptu_slave.specs.declared.asking.KindEntry.{KindEntry}
@@ -47,9 +46,10 @@ news_event (news.Sync seq) m = TakeSync m seq
 news_event (news.Word unusable) m = TellFlag m unusable
 
 -- a boxed judge was told this
-abbrev pub WasGiven : {X Z : Type 0} {F : X → Type 0} → ((i : X) → Ghosts (F i)) → ℕ → News → (old new : DynBox X Z F) → Type 0
-WasGiven conduct x (news.Sync seq) = WasHeard conduct x seq
-WasGiven conduct x (news.Word unusable) = WasTold conduct x unusable
+abbrev pub WasGiven : {X Z : Type 0} {F : X → Type 0} → ((j : DynBox X Z F) → ℕ → ℕ → F j.vtable → Type 0)
+    → ((j : DynBox X Z F) → ℕ → Bool → F j.vtable → Type 0) → ℕ → News → (old new : DynBox X Z F) → Type 0
+WasGiven hears is_told x (news.Sync seq) = WasHeard hears x seq
+WasGiven hears is_told x (news.Word unusable) = WasTold is_told x unusable
 
 -- the judge of a master was asked, and found this
 pub record OneAsked (x m : ℕ) (olds news : List Held) (unusable : Bool) : Type 0 where

@@ -5,7 +5,7 @@ use Rattle.ptu_units.specs.declared.kind.Kind.{Kind}
 use Rattle.ptu_record.specs.{declared.rule.Rule.{Rule}, Lists.{maximum}}
 use Rattle.ptu_record.specs.Record.{Entry, Record, event_moment, record_of, moment_of}
 use Rattle.ptu_record.specs.{Grants.{is_live}, Judges.{opening_of}, Selection.{selected_master}}
-use Rattle.ptu_record.specs.{Tick.{is_stop}, Step.{IsStep, SlaveEvent, SlaveSetup, SlaveStep}}
+use Rattle.ptu_record.specs.{Tick.{is_stop}, Step.{IsStep, SlaveEvent, SlaveSetup, SlaveStep, Tick, sendings}}
 use Rattle.ptu_requester.specs.Requester as requester
 use Rattle.ptu_select.specs.Selecting.{SelectsBy}
 use Rattle.ptu_judges.specs.Held.{Held}
@@ -84,6 +84,11 @@ StepsBy found openings old new judges L t e = (steps : Steps openings old new ju
 abbrev pub selected_address : Kept → Record → ℕ → Option ℕ
 selected_address kept L t =
     option_map (address_of kept.masters) (selected_master (timeouts kept.config) (priorities kept.masters) L (event_moment L t))
+
+-- before this moment, from that of the slave on, no tick sends anything, and the master that is selected is the same
+pub record IsIdleUntil (until : ℕ) (openings : List (Option Rule)) (kept : Kept) (L : Record) : Type 0 where
+  pub sends : (x : ℕ) → kept.moment ≤ x → x < until → sendings (setup_of kept.config openings) L x Tick ≡ []
+  pub selects : (x : ℕ) → kept.moment ≤ x → x < until → selected_address kept L x ≡ selected_address kept L kept.moment
 
 -- a judge found this by such a call between these boxes, and the slave steps by that, whatever it stands for
 abbrev pub StepsFound : {B : Type 0} → (Bool → List B → List B → Type 0) → List B → List B → (old new : Kept) → (olds news : List Held) → ℕ → SlaveEvent → Type 0

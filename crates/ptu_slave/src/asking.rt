@@ -1,6 +1,6 @@
 //! What a slave asks its masters for, over a requester and counters.
 
-ghost use Rattle.std.specs.Prelude.{◌≡◌, ℕ, ◌<◌, ◌^◌, List, [], ◌∷◌, ◌++◌, cond, map, length, filter_map, option_to_list};
+ghost use Rattle.std.specs.Prelude.{◌≡◌, ℕ, ◌<◌, ◌≤◌, ◌^◌, false, nat_le, List, [], ◌∷◌, ◌++◌, cond, map, length, filter_map, option_to_list};
 ghost use Rattle.ptu_units.specs.Log.{period_of};
 ghost use Rattle.ptu_record.specs.{Lists.{maximum}, Record.{Record, record_of}};
 ghost use Rattle.ptu_record.specs.{Grants.{live_kinds}, Tick.{is_probe_due}};
@@ -40,14 +40,35 @@ pub(crate) fn is_probe_due(
         CountFor counters.now (record_of master L) →
         result ≡ is_probe_due wants.now (record_of master L) at }
 {
+    probe_due_from(requester, wants, counters, at, master) <= at.nanos()
+}
+
+/// From when on a tick sends the master a Delay_Req, where nothing is entered after `at`: up to
+/// `at` where one at `at` does, and `u64::MAX` where none does.
+pub(crate) fn probe_due_from(
+    requester: &Requester,
+    wants: &Wants,
+    counters: &Counters,
+    at: Moment,
+    master: usize,
+) -> u64
+    requires { master < length requester.now.masters }
+    ensures now { (L : Record) → StandsFor requester.now L →
+        CountFor counters.now (record_of master L) →
+        nat_le result at ≡ is_probe_due wants.now (record_of master L) at }
+    ensures idle { (L : Record) → StandsFor requester.now L →
+        CountFor counters.now (record_of master L) →
+        (x : ℕ) → at ≤ x → x < result →
+        is_probe_due wants.now (record_of master L) x ≡ false }
+{
     let Some(log) = wants.delay else {
-        return false;
+        return u64::MAX;
     };
     if !requester.live(at, master, Kind::DelayResp) {
-        return false;
+        return u64::MAX;
     }
     let start = requester.run_start(master, Kind::DelayResp);
-    later(counters.probed, start) + period(log) <= at.nanos()
+    later(counters.probed, start) + period(log)
 }
 
 /// What is entered of a kind: that the master is asked for it, or that its grant is cancelled.

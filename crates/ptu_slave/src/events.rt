@@ -12,7 +12,7 @@ ghost use Rattle.ptu_slave.specs.Standing.{StandsFor, Steps, StepsFound, Takes};
 
 use crate::judging::{News, judge_anew, judge_news};
 use crate::node::Core;
-use ptu_judges::{Conduct, Judge};
+use ptu_judges::Judge;
 use ptu_slave_messages::Signal;
 use ptu_units::Moment;
 
@@ -80,11 +80,11 @@ pub(crate) fn take_news(
     ensures at { result ≡ max t core.old.moment }
     ensures same { IsSame core.old core.new }
     ensures judges { length judges.new.items ≡ length judges.old.items }
-    ensures judge { StepsFound (λ found. OfOne master (Then (WasGiven ⟦<dyn Judge as Conduct>⟧
+    ensures judge { StepsFound (λ found. OfOne master (Then (WasGiven hears is_told
         (max t core.old.moment) news)
-        (WasAsked ⟦<dyn Judge as Conduct>⟧ (max t core.old.moment) found)))
-        judges.old.items judges.new.items core.old core.new (map (λ j. held j) judges.old.items)
-        (map (λ j. held j) judges.new.items) t (news_event news master) }
+        (WasAsked finds (max t core.old.moment) found)))
+        judges.old.items judges.new.items core.old core.new (map held judges.old.items)
+        (map held judges.new.items) t (news_event news master) }
 {
     let at = core.begin(t);
     core.news(at, master, news);
@@ -107,9 +107,9 @@ pub(crate) fn replace_judge(
     ensures same { IsSame core.old core.new }
     ensures judges { length judges.new.items ≡ length judges.old.items }
     ensures judge { StepsFound (λ found. OfOne master (λ old new.
-        WasAsked ⟦<dyn Judge as Conduct>⟧ (max t core.old.moment) found judge new))
-        judges.old.items judges.new.items core.old core.new (map (λ j. held j) judges.old.items)
-        (map (λ j. held j) judges.new.items) t (ReplaceJudge master (held judge).rule) }
+        WasAsked finds (max t core.old.moment) found judge new))
+        judges.old.items judges.new.items core.old core.new (map held judges.old.items)
+        (map held judges.new.items) t (ReplaceJudge master (held judge).rule) }
 {
     let at = core.begin(t);
     let unusable = judge_anew(judges, at, master, judge);

@@ -8,7 +8,7 @@ ghost use Rattle.ptu_judges.specs.Calls.{OfAll, OfOne, Then, WasAsked, WasHeard,
 ghost use Rattle.ptu_slave.specs.Parts.{AllJudged, OneAsked, OneJudged, WasGiven, news_entry};
 
 use crate::node::Core;
-use ptu_judges::{Conduct, Judge};
+use ptu_judges::Judge;
 use ptu_units::Moment;
 
 /// What a judge is told: a Sync of its master with this sequenceId, or the operator's word.
@@ -20,7 +20,7 @@ pub(crate) enum News {
 
 // Tells a judge of a Sync.
 fn hear(judge: &mut Box<dyn Judge>, at: Moment, seq: u16)
-    ensures call { WasHeard ⟦<dyn Judge as Conduct>⟧ at seq judge.old judge.new }
+    ensures call { WasHeard hears at seq judge.old judge.new }
     ensures stands { Enters (λ m. Sync at m seq) (held judge.old) (held judge.new) }
 {
     judge.heard(at, seq);
@@ -28,7 +28,7 @@ fn hear(judge: &mut Box<dyn Judge>, at: Moment, seq: u16)
 
 // Tells a judge of the operator's word.
 fn tell(judge: &mut Box<dyn Judge>, at: Moment, unusable: bool)
-    ensures call { WasTold ⟦<dyn Judge as Conduct>⟧ at unusable judge.old judge.new }
+    ensures call { WasTold is_told at unusable judge.old judge.new }
     ensures stands { Enters (λ m. Told at m unusable) (held judge.old) (held judge.new) }
 {
     judge.told(at, unusable);
@@ -36,7 +36,7 @@ fn tell(judge: &mut Box<dyn Judge>, at: Moment, unusable: bool)
 
 // Tells a judge this.
 fn give(judge: &mut Box<dyn Judge>, at: Moment, news: News)
-    ensures call { WasGiven ⟦<dyn Judge as Conduct>⟧ at news judge.old judge.new }
+    ensures call { WasGiven hears is_told at news judge.old judge.new }
     ensures stands { Enters (news_entry news at) (held judge.old) (held judge.new) }
 {
     match news {
@@ -47,7 +47,7 @@ fn give(judge: &mut Box<dyn Judge>, at: Moment, news: News)
 
 // Asks a judge.
 fn ask(judge: &mut Box<dyn Judge>, at: Moment) -> bool
-    ensures call { WasAsked ⟦<dyn Judge as Conduct>⟧ at result judge.old judge.new }
+    ensures call { WasAsked finds at result judge.old judge.new }
     ensures found { Finds result (held judge.old) }
     ensures judge { Enters (λ m. Judged at m result) (held judge.old) (held judge.new) }
 {
@@ -62,10 +62,10 @@ pub(crate) fn judge_news(
     news: News,
 ) -> bool
     requires { master < length judges.old.items }
-    ensures calls { OfOne master (Then (WasGiven ⟦<dyn Judge as Conduct>⟧ at news)
-        (WasAsked ⟦<dyn Judge as Conduct>⟧ at result)) judges.old.items judges.new.items }
+    ensures calls { OfOne master (Then (WasGiven hears is_told at news)
+        (WasAsked finds at result)) judges.old.items judges.new.items }
     ensures judged { OneJudged at master (news_entry news at master)
-        (map (λ j. held j) judges.old.items) (map (λ j. held j) judges.new.items) result }
+        (map held judges.old.items) (map held judges.new.items) result }
     ensures length { length judges.new.items ≡ length judges.old.items }
 {
     let judge = &mut judges[master];
@@ -82,10 +82,10 @@ pub(crate) fn judge_anew(
 ) -> bool
     requires master { master < length judges.old.items }
     requires fresh { IsFresh (held judge) }
-    ensures calls { OfOne master (λ old new. WasAsked ⟦<dyn Judge as Conduct>⟧ at result judge new)
+    ensures calls { OfOne master (λ old new. WasAsked finds at result judge new)
         judges.old.items judges.new.items }
     ensures judged { OneJudged at master (entry.Judge at master (held judge).rule)
-        (map (λ j. held j) judges.old.items) (map (λ j. held j) judges.new.items) result }
+        (map held judges.old.items) (map held judges.new.items) result }
     ensures length { length judges.new.items ≡ length judges.old.items }
 {
     judges[master] = judge;
@@ -95,10 +95,10 @@ pub(crate) fn judge_anew(
 // Asks the judge of one master.
 fn judge_one(judges: &mut Vec<Box<dyn Judge>>, at: Moment, master: usize) -> bool
     requires { master < length judges.old.items }
-    ensures call { OfOne master (WasAsked ⟦<dyn Judge as Conduct>⟧ at result)
+    ensures call { OfOne master (WasAsked finds at result)
         judges.old.items judges.new.items }
     ensures asked { OneAsked at master
-        (map (λ j. held j) judges.old.items) (map (λ j. held j) judges.new.items) result }
+        (map held judges.old.items) (map held judges.new.items) result }
     ensures length { length judges.new.items ≡ length judges.old.items }
 {
     ask(&mut judges[master], at)
@@ -108,9 +108,9 @@ fn judge_one(judges: &mut Vec<Box<dyn Judge>>, at: Moment, master: usize) -> boo
 pub(crate) fn judge_all(core: &mut Core, judges: &mut Vec<Box<dyn Judge>>, at: Moment)
     requires { length judges.old.items ≡ length core.old.masters }
     ensures judged { (assessments : List Bool) ×
-        OfAll (length core.old.masters) (WasAsked ⟦<dyn Judge as Conduct>⟧ at) assessments
+        OfAll (length core.old.masters) (WasAsked finds at) assessments
         judges.old.items judges.new.items × AllJudged (length core.old.masters) at
-        (map (λ j. held j) judges.old.items) (map (λ j. held j) judges.new.items)
+        (map held judges.old.items) (map held judges.new.items)
         core.old core.new assessments }
     ensures length { length judges.new.items ≡ length judges.old.items }
 {

@@ -2,10 +2,11 @@
 //! counters.
 
 ghost use Rattle.std.specs.Prelude.{◌≡◌, ℕ, ◌<◌, ◌≤◌, max, List, [], ◌∷◌, ◌++◌, length, map, flat_map, filter_map, IfOk, All, vec_len, ◌*◌, ◌^◌, true, false};
-ghost use Rattle.std.specs.Option.{ForSome};
+ghost use Rattle.std.specs.{List.{list_any}, Option.{ForSome}};
+ghost use Rattle.ptu_record.specs.Lists.{places};
 ghost use Rattle.ptu_record.specs.Record.{Record, record_of, Announce, Resp, Judged, Cancelled};
 ghost use Rattle.ptu_record.specs.{Grants.{live_kinds}, Selection.{selected_master}};
-ghost use Rattle.ptu_record.specs.Tick.{requests_to, sending_entries};
+ghost use Rattle.ptu_record.specs.Tick.{is_stop, requests_to, sending_entries, tick_sendings};
 ghost use Rattle.ptu_profile.specs.Slave.{AreMasters, IsWithinLimits, address_of, priorities, timeouts};
 ghost use Rattle.ptu_requester.specs.Due as due;
 ghost use Rattle.ptu_select.specs.Selecting.{SelectsBy};
@@ -13,7 +14,7 @@ ghost use Rattle.ptu_slave_messages.specs.Sending.{kinds_in, stop_plan, tick_pla
 ghost use Rattle.ptu_slave.specs.{Kept.{CountFor, Kept}, Parts.{cancels_by, news_entry, signal_entry}};
 ghost use Rattle.ptu_slave.specs.Standing.{Asks, Selects, Shows};
 
-use crate::asking::{KindEntry, enter_each, enter_kinds, is_probe_due, live};
+use crate::asking::{KindEntry, enter_each, enter_kinds, is_probe_due, live, probe_due_from};
 use crate::counters::Counters;
 use crate::judging::News;
 use ptu_profile::{Master, SlaveConfig};
@@ -272,6 +273,68 @@ impl Core {
         }
     }
 
+    /// The earliest moment up to `until` at which a tick may send something or another master may
+    /// be selected, where nothing happens before it; `until` where there is none.
+    pub(crate) fn next_due(&mut self, until: Moment) -> Moment
+        ensures within { result ≤ until }
+        ensures sends { (L : Record) → self.old.stopped ≡ list_any is_stop L →
+            (self.old.stopped ≡ false → Asks self.old L L) → (x : ℕ) → self.old.moment ≤ x →
+            x < result →
+            tick_sendings self.old.config.wants (length self.old.masters) L x ≡ [] }
+        ensures selected { (L : Record) → Selects self.old L → (x : ℕ) → self.old.moment ≤ x →
+            x < result →
+            selected_master (timeouts self.old.config) (priorities self.old.masters) L x
+            ≡ selected_master (timeouts self.old.config) (priorities self.old.masters) L
+            self.old.moment }
+        ensures same { self.new ≡ self.old }
+    {
+        let change = self.selector.next_change(self.moment);
+        earliest(until, change.min(self.sends_from()))
+    }
+
+    // From when on a tick sends something; `u64::MAX` once the slave has stopped.
+    fn sends_from(&self) -> u64
+        ensures { (L : Record) → self.now.stopped ≡ list_any is_stop L →
+            (self.now.stopped ≡ false → Asks self.now L L) → (x : ℕ) → self.now.moment ≤ x →
+            x < result →
+            tick_sendings self.now.config.wants (length self.now.masters) L x ≡ [] }
+    {
+        if self.stopped {
+            return u64::MAX;
+        }
+        self.asks_from()
+    }
+
+    // From when on one of the masters is to be sent something.
+    fn asks_from(&self) -> u64
+        ensures { (L : Record) → Asks self.now L L → (x : ℕ) → self.now.moment ≤ x → x < result →
+            flat_map (requests_to self.now.config.wants L x) (places (length self.now.masters))
+            ≡ [] }
+    {
+        let mut from = u64::MAX;
+        for master in 0..self.masters.len() {
+            from = from.min(self.asks_one_from(master));
+        }
+        from
+    }
+
+    // From when on the master is to be sent something.
+    fn asks_one_from(&self, master: usize) -> u64
+        requires { master < length self.now.masters }
+        ensures { (L : Record) → Asks self.now L L → (x : ℕ) → self.now.moment ≤ x → x < result →
+            requests_to self.now.config.wants L x master ≡ [] }
+    {
+        let counters = &self.counters[master];
+        let probe = probe_due_from(
+            &self.requester,
+            &self.config.wants,
+            counters,
+            self.moment,
+            master,
+        );
+        probe.min(self.requester.due_from(self.moment, master))
+    }
+
     /// Makes up what the stop sends to the master, and enters it; the requester is told that each
     /// live grant is cancelled.
     pub(crate) fn end(&mut self, at: Moment, master: usize) -> StopPlan
@@ -290,6 +353,16 @@ impl Core {
         let number = self.counters[master].signal(at, kinds.any());
         enter_kinds(&mut self.requester, KindEntry::Cancelled, at, master, kinds);
         StopPlan { kinds, number }
+    }
+}
+
+// The moment, or these nanoseconds where they are earlier.
+fn earliest(moment: Moment, nanos: u64) -> Moment
+    ensures { (result ≤ moment) × (result ≤ nanos) }
+{
+    match Moment::of(nanos) {
+        Some(other) if other.nanos() < moment.nanos() => other,
+        _ => moment,
     }
 }
 

@@ -16,7 +16,7 @@ ghost use Rattle.ptu_slave_messages.specs.Heard.{FitsReply, answer_of, event_of,
 ghost use Rattle.ptu_slave_messages.specs.Reception.{reception};
 ghost use Rattle.ptu_slave_messages.specs.declared.reason.SlaveReason.{SlaveReason};
 ghost use Rattle.ptu_slave.specs.Kept.{IsSame};
-ghost use Rattle.ptu_slave.specs.Standing.{StandsFor, Steps, StepsBy, selected_address};
+ghost use Rattle.ptu_slave.specs.Standing.{IsIdleUntil, StandsFor, Steps, StepsBy, selected_address};
 
 use crate::events::{
     replace_judge, take_announce, take_delay_resp, take_follow_up, take_news, take_signaling,
@@ -26,7 +26,7 @@ use crate::node::Core;
 use crate::porting::HasPort;
 use crate::ticked::Ticked;
 use crate::ticks::{Occasion, send_all, tick_all};
-use ptu_judges::{Conduct, Judge};
+use ptu_judges::Judge;
 use ptu_outside::{Failed, Port};
 use ptu_profile::{Master, SlaveConfig};
 use ptu_slave_messages::{Accepted, Content, Heard, receive, send_reply};
@@ -57,7 +57,7 @@ impl<P: Port> Slave<P> {
     ///
     /// # Errors
     /// `OutOfMemory` for what is kept of the masters. The judges and the port are dropped then.
-    #[tactic(auto, unfolding(crate::specs::Seen::seen_by))]
+    #[tactic(auto, unfolding(crate::specs::Seen::seen))]
     pub fn new(
         alloc: Global,
         config: SlaveConfig,
@@ -69,16 +69,16 @@ impl<P: Port> Slave<P> {
         requires masters { AreMasters masters.items }
         requires judges { length judges.items ≡ length masters.items }
         requires fresh { All (λ j. IsFresh (held j)) judges.items }
-        ensures judged { IfOk result (λ s. HasJudges (seen ⟦<dyn Judge as Judge>⟧ s)) }
-        ensures config { IfOk result (λ s. (seen ⟦<dyn Judge as Judge>⟧ s).kept.config ≡ config) }
+        ensures judged { IfOk result (λ s. HasJudges (seen held s)) }
+        ensures config { IfOk result (λ s. (seen held s).kept.config ≡ config) }
         ensures masters { IfOk result (λ s.
-            (seen ⟦<dyn Judge as Judge>⟧ s).kept.masters ≡ masters.items) }
+            (seen held s).kept.masters ≡ masters.items) }
         ensures judges { IfOk result (λ s.
-            (seen ⟦<dyn Judge as Judge>⟧ s).judges ≡ map (λ j. held j) judges.items) }
-        ensures boxes { IfOk result (λ s. (seen ⟦<dyn Judge as Judge>⟧ s).boxes ≡ judges.items) }
-        ensures port { IfOk result (λ s. (seen ⟦<dyn Judge as Judge>⟧ s).port ≡ port) }
+            (seen held s).judges ≡ map held judges.items) }
+        ensures boxes { IfOk result (λ s. (seen held s).boxes ≡ judges.items) }
+        ensures port { IfOk result (λ s. (seen held s).port ≡ port) }
         ensures stands { IfOk result (λ s. StandsFor (map (λ j. (held j).rule) judges.items)
-            (seen ⟦<dyn Judge as Judge>⟧ s).kept (seen ⟦<dyn Judge as Judge>⟧ s).judges []) }
+            (seen held s).kept (seen held s).judges []) }
     {
         let core = Core::new(alloc, config, masters)?;
         Ok(Slave { core, judges, port })
@@ -90,34 +90,34 @@ impl<P: Port> Slave<P> {
     /// # Errors
     /// `OutOfMemory` for what is kept of the masters, or for the list of judges. The slave and its
     /// port are dropped then.
-    #[tactic(auto, unfolding(crate::specs::Seen::seen_by))]
+    #[tactic(auto, unfolding(crate::specs::Seen::seen))]
     pub fn with_master(
         self,
         alloc: Global,
         master: Master,
         judge: Box<dyn Judge>,
     ) -> Result<Slave<P>, OutOfMemory>
-        requires limits { IsWithinLimits (seen ⟦<dyn Judge as Judge>⟧ self).kept.config }
-        requires masters { AreMasters ((seen ⟦<dyn Judge as Judge>⟧ self).kept.masters
+        requires limits { IsWithinLimits (seen held self).kept.config }
+        requires masters { AreMasters ((seen held self).kept.masters
             ++ master ∷ []) }
         requires fresh { AllByRecursion IsFresh
-            ((seen ⟦<dyn Judge as Judge>⟧ self).judges ++ held judge ∷ []) }
-        ensures judged { IfOk result (λ s. HasJudges (seen ⟦<dyn Judge as Judge>⟧ s)) }
+            ((seen held self).judges ++ held judge ∷ []) }
+        ensures judged { IfOk result (λ s. HasJudges (seen held s)) }
         ensures config { IfOk result (λ s.
-            (seen ⟦<dyn Judge as Judge>⟧ s).kept.config ≡
-            (seen ⟦<dyn Judge as Judge>⟧ self).kept.config) }
+            (seen held s).kept.config ≡
+            (seen held self).kept.config) }
         ensures masters { IfOk result (λ s.
-            (seen ⟦<dyn Judge as Judge>⟧ s).kept.masters ≡
-            (seen ⟦<dyn Judge as Judge>⟧ self).kept.masters ++ master ∷ []) }
+            (seen held s).kept.masters ≡
+            (seen held self).kept.masters ++ master ∷ []) }
         ensures judges { IfOk result (λ s.
-            (seen ⟦<dyn Judge as Judge>⟧ s).judges ≡ (seen ⟦<dyn Judge as Judge>⟧ self).judges
+            (seen held s).judges ≡ (seen held self).judges
             ++ held judge ∷ []) }
         ensures boxes { IfOk result (λ s.
-            (seen ⟦<dyn Judge as Judge>⟧ s).boxes ≡ (seen ⟦<dyn Judge as Judge>⟧ self).boxes
+            (seen held s).boxes ≡ (seen held self).boxes
             ++ judge ∷ []) }
         ensures port { IfOk result (λ s.
-            (seen ⟦<dyn Judge as Judge>⟧ s).port ≡ (seen ⟦<dyn Judge as Judge>⟧ self).port) }
-        ensures stands { IfOk result (λ s. let new = seen ⟦<dyn Judge as Judge>⟧ s in
+            (seen held s).port ≡ (seen held self).port) }
+        ensures stands { IfOk result (λ s. let new = seen held s in
             StandsFor (map (λ j. j.rule) new.judges) new.kept new.judges []) }
     {
         let Slave {
@@ -136,7 +136,7 @@ impl<P: Port> Slave<P> {
     /// # Errors
     /// Where memory for the message and for what it says was not found, which only a Signaling
     /// wants; nothing has changed then.
-    #[tactic(auto, unfolding(crate::specs::Seen::seen_by))]
+    #[tactic(auto, unfolding(crate::specs::Seen::seen))]
     pub fn take(
         &mut self,
         alloc: Global,
@@ -146,43 +146,43 @@ impl<P: Port> Slave<P> {
     ) -> Result<Heard, OutOfMemory>
         ensures memory { IsErr result → (n : ℕ) × IsSignaling bytes.now n }
         ensures unchanged { IsErr result →
-            seen ⟦<dyn Judge as Judge>⟧ self.new ≡ seen ⟦<dyn Judge as Judge>⟧ self.old }
-        ensures judged { HasJudges (seen ⟦<dyn Judge as Judge>⟧ self.new) }
-        ensures answer { let old = (seen ⟦<dyn Judge as Judge>⟧ self.old).kept in
+            seen held self.new ≡ seen held self.old }
+        ensures judged { HasJudges (seen held self.new) }
+        ensures answer { let old = (seen held self.old).kept in
             IfOk result (λ heard. heard ≡ answer_of old.config.wants (max t old.moment)
             (reply_in heard) (reception old.config old.masters from bytes.now)) }
-        ensures ignored { let old = (seen ⟦<dyn Judge as Judge>⟧ self.old).kept in
+        ensures ignored { let old = (seen held self.old).kept in
             (reason : SlaveReason) →
             reception old.config old.masters from bytes.now ≡ Err reason →
-            seen ⟦<dyn Judge as Judge>⟧ self.new ≡ seen ⟦<dyn Judge as Judge>⟧ self.old }
-        ensures steps { let old = seen ⟦<dyn Judge as Judge>⟧ self.old in
+            seen held self.new ≡ seen held self.old }
+        ensures steps { let old = seen held self.old in
             (m : ℕ) (message : Message) →
             reception old.kept.config old.kept.masters from bytes.now ≡ Ok (m, message) →
-            IsOk result → Goes old (seen ⟦<dyn Judge as Judge>⟧ self.new) t (event_of m message) }
+            IsOk result → Goes old (seen held self.new) t (event_of m message) }
         // A Sync is told to the judge of its master, who is then asked.
-        ensures judge { let old = seen ⟦<dyn Judge as Judge>⟧ self.old in
+        ensures judge { let old = seen held self.old in
             (m : ℕ) (message : Message) (stamp : _) →
             reception old.kept.config old.kept.masters from bytes.now ≡ Ok (m, message) →
             message.body ≡ body.Sync stamp → IsOk result → (found : Bool) × OfOne m
-            (Then (WasHeard ⟦<dyn Judge as Conduct>⟧ (max t old.kept.moment)
+            (Then (WasHeard hears (max t old.kept.moment)
             message.header.sequence)
-            (WasAsked ⟦<dyn Judge as Conduct>⟧ (max t old.kept.moment) found))
-            old.boxes (seen ⟦<dyn Judge as Judge>⟧ self.new).boxes
-            × GoesBy (found ∷ []) old (seen ⟦<dyn Judge as Judge>⟧ self.new) t
+            (WasAsked finds (max t old.kept.moment) found))
+            old.boxes (seen held self.new).boxes
+            × GoesBy (found ∷ []) old (seen held self.new) t
             (TakeSync m message.header.sequence) }
         // No other message is told to a judge.
-        ensures others { let old = seen ⟦<dyn Judge as Judge>⟧ self.old in (m : ℕ)
+        ensures others { let old = seen held self.old in (m : ℕ)
             (message : Message) →
             reception old.kept.config old.kept.masters from bytes.now ≡ Ok (m, message) →
             event_of m message ≢ TakeSync m message.header.sequence →
-            (seen ⟦<dyn Judge as Judge>⟧ self.new).boxes ≡ old.boxes }
-        ensures sends { let old = seen ⟦<dyn Judge as Judge>⟧ self.old in IfOk result (λ heard.
-            HandsOver P.Port old.port (seen ⟦<dyn Judge as Judge>⟧ self.new).port
+            (seen held self.new).boxes ≡ old.boxes }
+        ensures sends { let old = seen held self.old in IfOk result (λ heard.
+            HandsOver P.Port old.port (seen held self.new).port
             (replies_in old.kept.config old.kept.masters
             (reception old.kept.config old.kept.masters from bytes.now))
             (reply_sent (reply_in heard)) (reply_failed (reply_in heard))) }
-        ensures same { IsSame (seen ⟦<dyn Judge as Judge>⟧ self.old).kept
-            (seen ⟦<dyn Judge as Judge>⟧ self.new).kept }
+        ensures same { IsSame (seen held self.old).kept
+            (seen held self.new).kept }
     {
         let received = receive(alloc, self.core.config(), self.core.masters(), from, bytes)?;
         match received {
@@ -193,14 +193,14 @@ impl<P: Port> Slave<P> {
 
     /// A tick: all judges are asked, and each master is sent the Signaling and the Delay_Req that
     /// are due. After a stop nothing is sent.
-    #[tactic(auto, unfolding(crate::specs::Seen::seen_by))]
+    #[tactic(auto, unfolding(crate::specs::Seen::seen))]
     pub fn tick(&mut self, t: Moment) -> Ticked
-        ensures judged { HasJudges (seen ⟦<dyn Judge as Judge>⟧ self.new) }
-        ensures same { IsSame (seen ⟦<dyn Judge as Judge>⟧ self.old).kept
-            (seen ⟦<dyn Judge as Judge>⟧ self.new).kept }
-        ensures ticked { HasTicked ⟦<dyn Judge as Conduct>⟧ P.Port t
-            (seen ⟦<dyn Judge as Judge>⟧ self.old)
-            (seen ⟦<dyn Judge as Judge>⟧ self.new) result }
+        ensures judged { HasJudges (seen held self.new) }
+        ensures same { IsSame (seen held self.old).kept
+            (seen held self.new).kept }
+        ensures ticked { HasTicked finds P.Port t
+            (seen held self.old)
+            (seen held self.new) result }
     {
         let at = self.core.begin(t);
         judge_all(&mut self.core, &mut self.judges, at);
@@ -214,13 +214,13 @@ impl<P: Port> Slave<P> {
 
     /// The stop: each master that has a live grant is sent a Signaling that cancels all of them;
     /// the slave holds them for ended, and its ticks send nothing more.
-    #[tactic(auto, unfolding(crate::specs::Seen::seen_by))]
+    #[tactic(auto, unfolding(crate::specs::Seen::seen))]
     pub fn stop(&mut self, t: Moment) -> Ticked
-        ensures judged { HasJudges (seen ⟦<dyn Judge as Judge>⟧ self.new) }
-        ensures same { IsSame (seen ⟦<dyn Judge as Judge>⟧ self.old).kept
-            (seen ⟦<dyn Judge as Judge>⟧ self.new).kept }
-        ensures stopped { HasStopped P.Port t (seen ⟦<dyn Judge as Judge>⟧ self.old)
-            (seen ⟦<dyn Judge as Judge>⟧ self.new) result }
+        ensures judged { HasJudges (seen held self.new) }
+        ensures same { IsSame (seen held self.old).kept
+            (seen held self.new).kept }
+        ensures stopped { HasStopped P.Port t (seen held self.old)
+            (seen held self.new) result }
     {
         let at = self.core.begin(t);
         let sends = send_all(&mut self.core, &mut self.port, at, Occasion::Stop);
@@ -233,14 +233,14 @@ impl<P: Port> Slave<P> {
     }
 
     /// The operator says whether the master at a place is unusable.
-    #[tactic(auto, unfolding(crate::specs::Seen::seen_by))]
+    #[tactic(auto, unfolding(crate::specs::Seen::seen))]
     pub fn flag(&mut self, t: Moment, master: usize, unusable: bool)
-        requires { master < length (seen ⟦<dyn Judge as Judge>⟧ self.old).kept.masters }
-        ensures judged { HasJudges (seen ⟦<dyn Judge as Judge>⟧ self.new) }
-        ensures same { IsSame (seen ⟦<dyn Judge as Judge>⟧ self.old).kept
-            (seen ⟦<dyn Judge as Judge>⟧ self.new).kept }
-        ensures flagged { IsFlagged ⟦<dyn Judge as Conduct>⟧ t master unusable
-            (seen ⟦<dyn Judge as Judge>⟧ self.old) (seen ⟦<dyn Judge as Judge>⟧ self.new) }
+        requires { master < length (seen held self.old).kept.masters }
+        ensures judged { HasJudges (seen held self.new) }
+        ensures same { IsSame (seen held self.old).kept
+            (seen held self.new).kept }
+        ensures flagged { IsFlagged is_told finds t master unusable
+            (seen held self.old) (seen held self.new) }
     {
         take_news(
             &mut self.core,
@@ -253,52 +253,67 @@ impl<P: Port> Slave<P> {
 
     /// Another judge takes over the master at a place; it is fresh where it has a rule. The former
     /// one is dropped.
-    #[tactic(auto, unfolding(crate::specs::Seen::seen_by))]
+    #[tactic(auto, unfolding(crate::specs::Seen::seen))]
     pub fn set_judge(&mut self, t: Moment, master: usize, judge: Box<dyn Judge>)
-        requires master { master < length (seen ⟦<dyn Judge as Judge>⟧ self.old).kept.masters }
+        requires master { master < length (seen held self.old).kept.masters }
         requires fresh { IsFresh (held judge) }
-        ensures judged { HasJudges (seen ⟦<dyn Judge as Judge>⟧ self.new) }
-        ensures same { IsSame (seen ⟦<dyn Judge as Judge>⟧ self.old).kept
-            (seen ⟦<dyn Judge as Judge>⟧ self.new).kept }
-        ensures replaced { IsReplaced ⟦<dyn Judge as Judge>⟧ ⟦<dyn Judge as Conduct>⟧ t master judge
-            (seen ⟦<dyn Judge as Judge>⟧ self.old) (seen ⟦<dyn Judge as Judge>⟧ self.new) }
+        ensures judged { HasJudges (seen held self.new) }
+        ensures same { IsSame (seen held self.old).kept
+            (seen held self.new).kept }
+        ensures replaced { IsReplaced held finds t master judge
+            (seen held self.old) (seen held self.new) }
     {
         replace_judge(&mut self.core, &mut self.judges, t, master, judge);
     }
 
     /// The address of the master that is selected at `t`, or at the slave's moment where that is
     /// later; `None` exactly where none is eligible. It is no event and raises no moment.
-    #[tactic(auto, unfolding(crate::specs::Seen::seen_by))]
+    #[tactic(auto, unfolding(crate::specs::Seen::seen))]
     pub fn selected_address(&mut self, t: Moment) -> Option<u32>
-        ensures selected { let old = seen ⟦<dyn Judge as Judge>⟧ self.old in
+        ensures selected { let old = seen held self.old in
             (openings : List (Option Rule)) (L : Record) →
             StandsFor openings old.kept old.judges L →
             result ≡ selected_address old.kept L t }
-        ensures unchanged { seen ⟦<dyn Judge as Judge>⟧ self.new ≡
-            seen ⟦<dyn Judge as Judge>⟧ self.old }
+        ensures unchanged { seen held self.new ≡
+            seen held self.old }
     {
         let place = self.core.selected(t);
         address(self.core.masters(), place)
     }
 
     /// The place of the same master in the list of masters.
-    #[tactic(auto, unfolding(crate::specs::Seen::seen_by))]
+    #[tactic(auto, unfolding(crate::specs::Seen::seen))]
     pub fn selected(&mut self, t: Moment) -> Option<usize>
-        ensures selected { let old = seen ⟦<dyn Judge as Judge>⟧ self.old in
+        ensures selected { let old = seen held self.old in
             (openings : List (Option Rule)) (L : Record) →
             StandsFor openings old.kept old.judges L →
             result ≡ selected_master (timeouts old.kept.config) (priorities old.kept.masters)
             L (event_moment L t) }
-        ensures unchanged { seen ⟦<dyn Judge as Judge>⟧ self.new ≡
-            seen ⟦<dyn Judge as Judge>⟧ self.old }
+        ensures unchanged { seen held self.new ≡
+            seen held self.old }
     {
         self.core.selected(t)
     }
 
+    /// The earliest moment up to `until` at which a tick may send something or another master may
+    /// be selected, where nothing happens to the slave before it; `until` where there is none. It
+    /// is no event.
+    #[tactic(auto, unfolding(crate::specs::Seen::seen))]
+    pub fn next_due(&mut self, until: Moment) -> Moment
+        ensures within { result ≤ until }
+        ensures idle { let old = seen held self.old in
+            (openings : List (Option Rule)) (L : Record) →
+            StandsFor openings old.kept old.judges L → IsIdleUntil result openings old.kept L }
+        ensures unchanged { seen held self.new ≡
+            seen held self.old }
+    {
+        self.core.next_due(until)
+    }
+
     /// The masters of the slave, in their order.
-    #[tactic(auto, unfolding(crate::specs::Seen::seen_by))]
+    #[tactic(auto, unfolding(crate::specs::Seen::seen))]
     pub fn masters(&self) -> &[Master]
-        ensures { result.now ≡ (seen ⟦<dyn Judge as Judge>⟧ self.now).kept.masters }
+        ensures { result.now ≡ (seen held self.now).kept.masters }
     {
         self.core.masters()
     }
@@ -308,58 +323,58 @@ impl<P: Port> Slave<P> {
     ///
     /// # Errors
     /// `Failed` if the port fails. What waits is as before then.
-    #[tactic(auto, unfolding(crate::specs::Seen::seen_by))]
+    #[tactic(auto, unfolding(crate::specs::Seen::seen))]
     pub fn receive(
         &mut self,
         buf: &mut [u8; LONGEST_DATAGRAM],
     ) -> Result<Option<(u32, usize)>, Failed>
         ensures within { IfOk result (λ got. IfSome got (λ a. a.1 ≤ 2048)) }
         ensures first { IfOk result (λ got. IfSome got (λ a.
-            IsFirstTold (P.waiting (seen ⟦<dyn Judge as Judge>⟧ self.old).port)
+            IsFirstTold (P.waiting (seen held self.old).port)
             (record { ip = a.0; bytes = take a.1 buf.new }))) }
         ensures nothing { IfOk result (λ got. IfNone got
-            (IsEmptyTold (P.waiting (seen ⟦<dyn Judge as Judge>⟧ self.old).port))) }
+            (IsEmptyTold (P.waiting (seen held self.old).port))) }
         ensures rest { IfOk result (λ got. IfSome got (λ a.
-            IfTold (P.waiting (seen ⟦<dyn Judge as Judge>⟧ self.new).port)
-            (rest_told (P.waiting (seen ⟦<dyn Judge as Judge>⟧ self.old).port)))) }
+            IfTold (P.waiting (seen held self.new).port)
+            (rest_told (P.waiting (seen held self.old).port)))) }
         ensures left { IfOk result (λ got. IfNone got
-            (IfTold (P.waiting (seen ⟦<dyn Judge as Judge>⟧ self.new).port)
-            (P.waiting (seen ⟦<dyn Judge as Judge>⟧ self.old).port))) }
-        ensures kept { OnErr result (IfTold (P.waiting (seen ⟦<dyn Judge as Judge>⟧ self.new).port)
-            (P.waiting (seen ⟦<dyn Judge as Judge>⟧ self.old).port)) }
-        ensures sent { P.sent (seen ⟦<dyn Judge as Judge>⟧ self.new).port
-            ≡ P.sent (seen ⟦<dyn Judge as Judge>⟧ self.old).port }
+            (IfTold (P.waiting (seen held self.new).port)
+            (P.waiting (seen held self.old).port))) }
+        ensures kept { OnErr result (IfTold (P.waiting (seen held self.new).port)
+            (P.waiting (seen held self.old).port)) }
+        ensures sent { P.sent (seen held self.new).port
+            ≡ P.sent (seen held self.old).port }
         ensures risen { OnErr result (HasRisen (P.faults
-            (seen ⟦<dyn Judge as Judge>⟧ self.old).port)
-            (P.faults (seen ⟦<dyn Judge as Judge>⟧ self.new).port)) }
+            (seen held self.old).port)
+            (P.faults (seen held self.new).port)) }
         ensures once { OnErr result (P.counts_once ≡ true →
-            P.faults (seen ⟦<dyn Judge as Judge>⟧ self.new).port
-            ≡ one_more (P.faults (seen ⟦<dyn Judge as Judge>⟧ self.old).port)) }
-        ensures quiet { OnOk result (P.faults (seen ⟦<dyn Judge as Judge>⟧ self.new).port
-            ≡ P.faults (seen ⟦<dyn Judge as Judge>⟧ self.old).port) }
-        ensures no_fall { HasNotFallen (P.faults (seen ⟦<dyn Judge as Judge>⟧ self.old).port)
-            (P.faults (seen ⟦<dyn Judge as Judge>⟧ self.new).port) }
-        ensures rest_is { seen ⟦<dyn Judge as Judge>⟧ self.new ≡ record
-            (seen ⟦<dyn Judge as Judge>⟧ self.old)
-            { port = (seen ⟦<dyn Judge as Judge>⟧ self.new).port } }
+            P.faults (seen held self.new).port
+            ≡ one_more (P.faults (seen held self.old).port)) }
+        ensures quiet { OnOk result (P.faults (seen held self.new).port
+            ≡ P.faults (seen held self.old).port) }
+        ensures no_fall { HasNotFallen (P.faults (seen held self.old).port)
+            (P.faults (seen held self.new).port) }
+        ensures rest_is { seen held self.new ≡ record
+            (seen held self.old)
+            { port = (seen held self.new).port } }
     {
         self.port.receive(buf)
     }
 
     /// Puts another port in the place of its own, which it gives up.
-    #[tactic(auto, unfolding(crate::specs::Seen::seen_by))]
+    #[tactic(auto, unfolding(crate::specs::Seen::seen))]
     pub fn replace_port(&mut self, port: P) -> P
-        ensures former { result ≡ (seen ⟦<dyn Judge as Judge>⟧ self.old).port }
-        ensures rest_is { seen ⟦<dyn Judge as Judge>⟧ self.new
-            ≡ record (seen ⟦<dyn Judge as Judge>⟧ self.old) { port = port } }
+        ensures former { result ≡ (seen held self.old).port }
+        ensures rest_is { seen held self.new
+            ≡ record (seen held self.old) { port = port } }
     {
         std::mem::replace(&mut self.port, port)
     }
 
     /// The port, as it is. The rest is dropped.
-    #[tactic(auto, unfolding(crate::specs::Seen::seen_by))]
+    #[tactic(auto, unfolding(crate::specs::Seen::seen))]
     pub fn into_port(self) -> P
-        ensures { result ≡ (seen ⟦<dyn Judge as Judge>⟧ self).port }
+        ensures { result ≡ (seen held self).port }
     {
         let Slave { port, .. } = self;
         port
@@ -414,18 +429,18 @@ fn hear<P: Port>(
         result ≡ heard_of core.old.config.wants (max t core.old.moment) (reply_in result)
         (taken.master, message) }
     ensures judge { taken.content ≡ Content.Sync → (found : Bool) × OfOne taken.master
-        (Then (WasHeard ⟦<dyn Judge as Conduct>⟧ (max t core.old.moment) taken.sequence)
-        (WasAsked ⟦<dyn Judge as Conduct>⟧ (max t core.old.moment) found))
+        (Then (WasHeard hears (max t core.old.moment) taken.sequence)
+        (WasAsked finds (max t core.old.moment) found))
         judges.old.items judges.new.items × ((openings : List (Option Rule)) (L : Record) →
-        StandsFor openings core.old (map (λ j. held j) judges.old.items) L →
-        StepsBy (found ∷ []) openings core.old core.new (map (λ j. held j) judges.new.items) L t
+        StandsFor openings core.old (map held judges.old.items) L →
+        StepsBy (found ∷ []) openings core.old core.new (map held judges.new.items) L t
         (TakeSync taken.master taken.sequence)) }
     ensures others { taken.content ≢ Content.Sync → judges.new.items ≡ judges.old.items }
     ensures steps { (message : Message) →
         taken ≡ taken_of core.old.config.wants (taken.master, message) →
         (openings : List (Option Rule)) (L : Record) →
-        StandsFor openings core.old (map (λ j. held j) judges.old.items) L →
-        Steps openings core.old core.new (map (λ j. held j) judges.new.items) L t
+        StandsFor openings core.old (map held judges.old.items) L →
+        Steps openings core.old core.new (map held judges.new.items) L t
         (event_of taken.master message) }
     ensures sends { (message : Message) →
         taken ≡ taken_of core.old.config.wants (taken.master, message) →

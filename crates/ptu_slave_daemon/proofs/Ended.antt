@@ -108,7 +108,7 @@ module _ {P C K : Type 0} (ports : Ports P) (clocks : Clocks C) (written : K →
           (r.ran.port.fails.quiet (omega (arith, none, r.failures_are))) (r.event_fails.quiet (omega (arith, none, r.failures_are)));
     }
 
-    has_happened : Happened ports clocks settings before after (changes None selections) sends
+    has_happened : Happened ports clocks settings before after (changes None selections) sends failures
     has_happened = record {
       rounds = r.took;
       taken = r.taken;
@@ -118,6 +118,9 @@ module _ {P C K : Type 0} (ports : Ports P) (clocks : Clocks C) (written : K →
       happened = r.ran.happened;
       moments = r.ran.timed;
       part = r.ran.port.part;
+      missed = r.missed + r.event_failed;
+      once = r.few;
+      each = omega (arith, r.ran.port.each, r.failures_are);
       selects = ap (λ ss. changes None ss) r.ran.selects;
     }
 

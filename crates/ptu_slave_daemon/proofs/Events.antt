@@ -78,13 +78,13 @@ module _ (once : Bool) (node : Node) (L : Record) (old new : View) (t : ℕ) (h 
   pub ran_taken : (arrival : Arrival) (sent failed : ℕ) → AreTimed old.times new.times (Arrives arrival ∷ []) (Arrives arrival t ∷ [])
       → ((reason : SlaveReason) → reception old.kept.config old.kept.masters arrival.ip arrival.bytes ≡ Err reason → (new.kept ≡ old.kept) × (new.judges ≡ old.judges))
       → ((m : ℕ) (message : Message) → reception old.kept.config old.kept.masters arrival.ip arrival.bytes ≡ Ok (m, message) → Steps node.openings old.kept new.kept new.judges L t (event_of m message))
-      → PortDid once old.sent new.sent old.faults new.faults (replies_in old.kept.config old.kept.masters (reception old.kept.config old.kept.masters arrival.ip arrival.bytes)) sent failed
-      → Ran once node L old new (Arrives arrival ∷ []) (Arrives arrival t ∷ []) [] sent failed
+      → PortDid once old.sent new.sent old.faults new.faults (replies_in old.kept.config old.kept.masters (reception old.kept.config old.kept.masters arrival.ip arrival.bytes)) sent failed 0
+      → Ran once node L old new (Arrives arrival ∷ []) (Arrives arrival t ∷ []) [] sent failed 0
   ran_taken arrival sent failed timed ignored steps hands = record {
     happened = ((t, refl), tt);
     timed = timed;
     stands = taken node old.kept new.kept old.judges new.judges L t arrival.ip arrival.bytes h same ignored steps;
-    port = subst (λ ds. PortDid once old.sent new.sent old.faults new.faults ds sent failed) datagrams hands;
+    port = subst (λ ds. PortDid once old.sent new.sent old.faults new.faults ds sent failed 0) datagrams hands;
     selects = refl;
   }
     where
@@ -96,10 +96,10 @@ module _ (once : Bool) (node : Node) (L : Record) (old new : View) (t : ℕ) (h 
   -- a tick or the stop sends
   handed : (at : ℕ) (e : SlaveEvent) (sent failed : ℕ) → at ≡ max t old.kept.moment
       → PortDid once old.sent new.sent old.faults new.faults
-      (map (departure_of old.kept.config old.kept.masters all_ones) (sendings (setup_of old.kept.config node.openings) L at e)) sent failed
-      → PortDid once old.sent new.sent old.faults new.faults ((deed node L t e).datagrams ++ []) sent failed
+      (map (departure_of old.kept.config old.kept.masters all_ones) (sendings (setup_of old.kept.config node.openings) L at e)) sent failed 0
+      → PortDid once old.sent new.sent old.faults new.faults ((deed node L t e).datagrams ++ []) sent failed 0
   handed at e sent failed is hands =
-      subst (λ ds. PortDid once old.sent new.sent old.faults new.faults ds sent failed) datagrams hands
+      subst (λ ds. PortDid once old.sent new.sent old.faults new.faults ds sent failed 0) datagrams hands
     where
       datagrams : map (departure_of old.kept.config old.kept.masters all_ones) (sendings (setup_of old.kept.config node.openings) L at e) ≡ (deed node L t e).datagrams ++ []
       datagrams =
@@ -110,10 +110,10 @@ module _ (once : Bool) (node : Node) (L : Record) (old new : View) (t : ℕ) (h 
   pub ran_ticked : (at round sent failed : ℕ) (master : Option ℕ) → AreTimed old.times new.times (Ticks round ∷ []) (Ticks round t ∷ []) → at ≡ max t old.kept.moment
       → Steps node.openings old.kept new.kept new.judges L t Tick
       → PortDid once old.sent new.sent old.faults new.faults
-      (map (departure_of old.kept.config old.kept.masters all_ones) (sendings (setup_of old.kept.config node.openings) L at Tick)) sent failed
+      (map (departure_of old.kept.config old.kept.masters all_ones) (sendings (setup_of old.kept.config node.openings) L at Tick)) sent failed 0
       → ((openings : List (Option Rule)) (M : Record) → StandsFor openings new.kept new.judges M
       → master ≡ option_map (address_of new.kept.masters) (selected_master (timeouts new.kept.config) (priorities new.kept.masters) M (event_moment M t)))
-      → Ran once node L old new (Ticks round ∷ []) (Ticks round t ∷ []) (record { round = round; master = master } ∷ []) sent failed
+      → Ran once node L old new (Ticks round ∷ []) (Ticks round t ∷ []) (record { round = round; master = master } ∷ []) sent failed 0
   ran_ticked at round sent failed master timed is steps hands selects = record {
     happened = ((t, refl), tt);
     timed = timed;
@@ -135,8 +135,8 @@ module _ (once : Bool) (node : Node) (L : Record) (old new : View) (t : ℕ) (h 
   pub ran_stopped : (at sent failed : ℕ) → AreTimed old.times new.times (Stops ∷ []) (Stops t ∷ []) → at ≡ max t old.kept.moment
       → Steps node.openings old.kept new.kept new.judges L t Stop
       → PortDid once old.sent new.sent old.faults new.faults
-      (map (departure_of old.kept.config old.kept.masters all_ones) (sendings (setup_of old.kept.config node.openings) L at Stop)) sent failed
-      → Ran once node L old new (Stops ∷ []) (Stops t ∷ []) [] sent failed
+      (map (departure_of old.kept.config old.kept.masters all_ones) (sendings (setup_of old.kept.config node.openings) L at Stop)) sent failed 0
+      → Ran once node L old new (Stops ∷ []) (Stops t ∷ []) [] sent failed 0
   ran_stopped at sent failed timed is steps hands = record {
     happened = ((t, refl), tt);
     timed = timed;

@@ -58,7 +58,7 @@ module _ (once : Bool) (node : Node) (L : Record) (old new : View) (general gene
       → ¬ HasRisen old.faults new.faults → ¬ HasRisen event_faults event_faults' → output rounds (changes None selections) sends failures ≡ output_from rounds node L r.hs
   run_output rounds selections sends failures r still event_still =
       ap (λ ss. output rounds (changes None ss) sends failures) (sym r.ran.selects)
-      ∙ ap₂ (λ m n. output rounds (changes None (selections_in node L r.hs)) m n) (all_counted once old.sent new.sent old.faults new.faults (sent_in node L r.hs) sends r.failed r.ran.port still) no_failures
+      ∙ ap₂ (λ m n. output rounds (changes None (selections_in node L r.hs)) m n) (all_counted once old.sent new.sent old.faults new.faults (sent_in node L r.hs) sends r.failed r.missed r.ran.port still) no_failures
     where
       no_failures : failures ≡ 0
       no_failures =

@@ -1,5 +1,5 @@
 -- The masters and judges of a slave that settings open.
-use Rattle.std.proofs.Common.{◌≡◌, ◌≢◌, ◌∙◌, ℕ, zero, suc, ◌+◌, ◌<◌, ◌≤◌, ◌++◌, Bool, true, false, not, cond, ◌&&◌, ◌||◌, eq-eqb, add-one, List, [], ◌∷◌, map, length, drop, take, get_or, Option, Some, None, option_to_list, MatchOption, refl, sym, ap, ap₂, subst, arith, length-append}
+use Rattle.std.proofs.Common.{◌≡◌, ◌≢◌, ◌∙◌, ℕ, zero, suc, ◌+◌, ◌<◌, ◌≤◌, ◌++◌, Bool, true, false, not, cond, ◌&&◌, ◌||◌, eq-eqb, add-one, List, [], ◌∷◌, map, length, drop, take, get_or, Some, refl, sym, ap, ap₂, subst, arith}
 use Rattle.std.specs.List.{All, AllByRecursion, AllPairs, count_by, list_any}
 use Rattle.std.specs.Prelude.{IsSome, nat_le, ◌==◌}
 use Rattle.std.proofs.lemmas.{Bool.{false≢true}, Bool.Decides.{nat_tests}}

@@ -64,9 +64,6 @@ round_is all xs left n few whole is =
       sym parts.1 ∙ ap (drop 64) is ∙ drop-drop 64 (64 * n) all ∙ ap (λ k. drop k all) (omega arith),
     )
 
-took_whole : (before : Option (List Arrival)) (old new : ℕ) (xs left : List Arrival) → RoundTook before (Some left) old new xs → ¬ HasRisen old new → (length xs ≡ 64) ⊎ (left ≡ [])
-took_whole before old new xs left took still = took.whole still
-
 module _ (general event : Option (List Arrival)) where
   pub rounds_none : (general' event' : Option (List Arrival)) (faults faults' event_faults event_faults' : ℕ) → general' ≡ general → event' ≡ event
       → AreRounds 0 general general' event event' faults faults' event_faults event_faults' []
@@ -81,14 +78,14 @@ module _ (general event : Option (List Arrival)) where
   )
 
   pub rounds_more : (n : ℕ) (general' general'' event' event'' : Option (List Arrival)) (faults faults' faults'' event_faults event_faults' event_faults'' : ℕ)
-      (acts : List (ℕ → Happening)) (xs ys : List Arrival) → HasNotFallen faults faults' → HasNotFallen faults' faults'' → HasNotFallen event_faults event_faults' → HasNotFallen event_faults' event_faults''
+      (acts : List (ℕ → Happening)) (xs ys : List Arrival) (m k : ℕ) → HasNotFallen faults faults' → HasNotFallen faults' faults'' → HasNotFallen event_faults event_faults' → HasNotFallen event_faults' event_faults''
       → AreRounds n general general' event event' faults faults' event_faults event_faults' acts
-      → RoundTook general' general'' faults' faults'' xs → RoundTook event' event'' event_faults' event_faults'' ys
+      → RoundTook general' general'' faults' faults'' xs m → RoundTook event' event'' event_faults' event_faults'' ys k
       → AreRounds (n + 1) general general'' event event'' faults faults'' event_faults event_faults'' (acts ++ (map arrive (xs ++ ys) ++ Ticks (n + 1) ∷ []))
-  rounds_more n general' general'' event' event'' faults faults' faults'' event_faults event_faults' event_faults'' acts xs ys keeps keeps' event_keeps event_keeps' rounds took event_took =
+  rounds_more n general' general'' event' event'' faults faults' faults'' event_faults event_faults' event_faults'' acts xs ys m k keeps keeps' event_keeps event_keeps' rounds took event_took =
       λ still event_still left event_left is event_is.
-      let took' : RoundTook general' (Some left) faults' faults'' xs = subst (λ w. RoundTook general' w faults' faults'' xs) is took in
-      let event_took' : RoundTook event' (Some event_left) event_faults' event_faults'' ys = subst (λ w. RoundTook event' w event_faults' event_faults'' ys) event_is event_took in
+      let took' : RoundTook general' (Some left) faults' faults'' xs m = subst (λ w. RoundTook general' w faults' faults'' xs m) is took in
+      let event_took' : RoundTook event' (Some event_left) event_faults' event_faults'' ys k = subst (λ w. RoundTook event' w event_faults' event_faults'' ys k) event_is event_took in
       let before = rounds (still_before faults faults' faults'' keeps' still) (still_before event_faults event_faults' event_faults'' event_keeps' event_still)
       (xs ++ left) (ys ++ event_left) took'.came event_took'.came in
       let one = round_is before.0 xs left n took'.few (took'.whole (still_after faults faults' faults'' keeps still)) before.5 in
@@ -117,20 +114,22 @@ module _ (once : Bool) (node : Node) (L : Record) (old : View) (general event : 
     failed = 0;
     event_failed = 0;
     failures_are = none_failed;
-    ran = subst (λ n. Ran once node L old old [] [] [] n 0) (sym none)
+    missed = 0;
+    few = omega arith;
+    ran = subst (λ n. Ran once node L old old [] [] [] n 0 0) (sym none)
         (ran_still once node L old old 0 h refl refl refl refl (failed_none once old.faults old.faults refl));
     event_fails = failed_none once event_faults event_faults refl;
     as_said = rounds_none general event general event old.faults old.faults event_faults event_faults refl refl;
   }
 
   pub done_more : (n : ℕ) (now new : View) (general' general'' event' event'' : Option (List Arrival)) (event_faults' event_faults'' : ℕ) (ss : List Selection) (s : Selection)
-      (before after : Counts) (xs ys : List Arrival) (hs : List Happening) (sent failed event_failed : ℕ)
+      (before after : Counts) (xs ys : List Arrival) (hs : List Happening) (sent failed event_failed missed : ℕ)
       → (p : RoundsDone once n ss before.sent before.failed node L old now general general' event event' event_faults event_faults')
       → Counted sent (failed + event_failed) before after → HasFailed once event_faults' event_faults'' event_failed
-      → RoundTook general' general'' now.faults new.faults xs → RoundTook event' event'' event_faults' event_faults'' ys
-      → Ran once node (record_after node L p.hs) now new (map arrive (xs ++ ys) ++ Ticks (n + 1) ∷ []) hs (s ∷ []) sent failed
+      → RoundTook general' general'' now.faults new.faults xs missed → RoundTook event' event'' event_faults' event_faults'' ys event_failed
+      → Ran once node (record_after node L p.hs) now new (map arrive (xs ++ ys) ++ Ticks (n + 1) ∷ []) hs (s ∷ []) sent failed missed
       → RoundsDone once (n + 1) (ss ++ s ∷ []) after.sent after.failed node L old new general general'' event event'' event_faults event_faults''
-  done_more n now new general' general'' event' event'' event_faults' event_faults'' ss s before after xs ys hs sent failed event_failed p counted fails took event_took ran = record {
+  done_more n now new general' general'' event' event'' event_faults' event_faults'' ss s before after xs ys hs sent failed event_failed missed p counted fails took event_took ran = record {
     took = p.took ++ round ∷ [];
     taken = have_taken-push p.took n round p.taken (took.few, event_took.few);
     general_gave = subst (Gave general general'') (sym (general_of-push p.took round))
@@ -141,12 +140,14 @@ module _ (once : Bool) (node : Node) (L : Record) (old : View) (general event : 
     failed = p.failed + failed;
     event_failed = p.event_failed + event_failed;
     failures_are = omega (arith, counted.1, p.failures_are);
-    ran = subst (λ acts. Ran once node L old new acts (p.hs ++ hs) (ss ++ s ∷ []) after.sent (p.failed + failed)) (sym acts)
-        (subst (λ k. Ran once node L old new (acts_of p.took ++ (map arrive (xs ++ ys) ++ Ticks (n + 1) ∷ [])) (p.hs ++ hs) (ss ++ s ∷ []) k (p.failed + failed)) (sym counted.0)
-        (ran_append once node L old now new (acts_of p.took) (map arrive (xs ++ ys) ++ Ticks (n + 1) ∷ []) p.hs hs ss (s ∷ []) before.sent sent p.failed failed p.ran ran));
+    missed = p.missed + missed;
+    few = omega (arith, p.few, took.once, event_took.once);
+    ran = subst (λ acts. Ran once node L old new acts (p.hs ++ hs) (ss ++ s ∷ []) after.sent (p.failed + failed) (p.missed + missed)) (sym acts)
+        (subst (λ k. Ran once node L old new (acts_of p.took ++ (map arrive (xs ++ ys) ++ Ticks (n + 1) ∷ [])) (p.hs ++ hs) (ss ++ s ∷ []) k (p.failed + failed) (p.missed + missed)) (sym counted.0)
+        (ran_append once node L old now new (acts_of p.took) (map arrive (xs ++ ys) ++ Ticks (n + 1) ∷ []) p.hs hs ss (s ∷ []) before.sent sent p.failed failed p.missed missed p.ran ran));
     event_fails = failed_append once event_faults event_faults' event_faults'' p.event_failed event_failed p.event_fails fails;
     as_said = subst (AreRounds (n + 1) general general'' event event'' old.faults new.faults event_faults event_faults'') (sym acts)
-        (rounds_more general event n general' general'' event' event'' old.faults now.faults new.faults event_faults event_faults' event_faults'' (acts_of p.took) xs ys
+        (rounds_more general event n general' general'' event' event'' old.faults now.faults new.faults event_faults event_faults' event_faults'' (acts_of p.took) xs ys missed event_failed
         p.ran.port.fails.no_fall ran.port.fails.no_fall p.event_fails.no_fall fails.no_fall p.as_said took event_took);
   }
     where
@@ -161,7 +162,7 @@ module _ (once : Bool) (node : Node) (L : Record) (old : View) (general event : 
       (before after : Counts) (hs : List Happening) (sent failed : ℕ)
       → (p : RoundsDone once n ss before.sent before.failed node L old now general general' event event' event_faults event_faults')
       → Counted sent failed before after → general'' ≡ general'
-      → Ran once node (record_after node L p.hs) now new (Stops ∷ []) hs [] sent failed
+      → Ran once node (record_after node L p.hs) now new (Stops ∷ []) hs [] sent failed 0
       → RunDone once n ss after.sent after.failed node L old new general general'' event event' event_faults event_faults'
   done_run n now new general' general'' event' event_faults' ss before after hs sent failed p counted same ran = record {
     took = p.took;
@@ -172,9 +173,11 @@ module _ (once : Bool) (node : Node) (L : Record) (old : View) (general event : 
     failed = p.failed + failed;
     event_failed = p.event_failed;
     failures_are = omega (arith, counted.1, p.failures_are);
-    ran = subst (λ ts. Ran once node L old new (acts_of p.took ++ Stops ∷ []) (p.hs ++ hs) ts after.sent (p.failed + failed)) (append-nil ss)
-        (subst (λ k. Ran once node L old new (acts_of p.took ++ Stops ∷ []) (p.hs ++ hs) (ss ++ []) k (p.failed + failed)) (sym counted.0)
-        (ran_append once node L old now new (acts_of p.took) (Stops ∷ []) p.hs hs ss [] before.sent sent p.failed failed p.ran ran));
+    missed = p.missed + 0;
+    few = omega (arith, p.few);
+    ran = subst (λ ts. Ran once node L old new (acts_of p.took ++ Stops ∷ []) (p.hs ++ hs) ts after.sent (p.failed + failed) (p.missed + 0)) (append-nil ss)
+        (subst (λ k. Ran once node L old new (acts_of p.took ++ Stops ∷ []) (p.hs ++ hs) (ss ++ []) k (p.failed + failed) (p.missed + 0)) (sym counted.0)
+        (ran_append once node L old now new (acts_of p.took) (Stops ∷ []) p.hs hs ss [] before.sent sent p.failed failed p.missed 0 p.ran ran));
     event_fails = p.event_fails;
     as_said = λ still event_still left event_left is event_is.
         p.as_said (still_before old.faults now.faults new.faults ran.port.fails.no_fall still) event_still left event_left (sym same ∙ is) event_is;

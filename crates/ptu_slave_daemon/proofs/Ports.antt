@@ -64,11 +64,10 @@ failed_append once old now new a b p q = record {
 told_nothing : (before after : Option (List Departure)) → after ≡ before → IfTold after (append_told before [])
 told_nothing before after same = subst (λ told. IfTold after told) (sym (append_told-nil before)) (subst (λ told. IfTold told before) (sym same) (IfTold-refl before))
 
--- nothing was handed over
+-- nothing was handed over: what failed are receives
 pub port_still : (once : Bool) (before after : Option (List Departure)) (old new failed : ℕ) → after ≡ before → HasFailed once old new failed
-    → PortDid once before after old new [] 0 failed
+    → PortDid once before after old new [] 0 failed failed
 port_still once before after old new failed same h = record {
-  unsent = 0;
   within = omega arith;
   each = refl;
   part = record {
@@ -80,11 +79,10 @@ port_still once before after old new failed same h = record {
 
 -- what one call handed over
 pub port_handed : {P : Type 0} (ports : Ports P) (old new : P) (ds : List Departure) (sent failed : ℕ) → HandsOver ports old new ds sent failed
-    → PortDid ports.counts_once (ports.sent old) (ports.sent new) (ports.faults old) (ports.faults new) ds sent failed
+    → PortDid ports.counts_once (ports.sent old) (ports.sent new) (ports.faults old) (ports.faults new) ds sent failed 0
 port_handed ports old new ds sent failed h = record {
-  unsent = failed;
   within = omega arith;
-  each = h.each;
+  each = omega (arith, h.each);
   part = record { some = h.some; all = h.all };
   fails = record { risen = h.risen; just = h.just; quiet = h.quiet; no_fall = h.no_fall };
 }
@@ -92,15 +90,14 @@ port_handed ports old new ds sent failed h = record {
 -- what a call handed over, where it is known to be these
 pub port_stated : {P : Type 0} (ports : Ports P) (old new : P) {S : Type 0} (datagram : S → Departure) (handed stated : List S) (sent failed : ℕ)
     → HandsOver ports old new (map datagram handed) sent failed → handed ≡ stated
-    → PortDid ports.counts_once (ports.sent old) (ports.sent new) (ports.faults old) (ports.faults new) (map datagram stated) sent failed
+    → PortDid ports.counts_once (ports.sent old) (ports.sent new) (ports.faults old) (ports.faults new) (map datagram stated) sent failed 0
 port_stated ports old new datagram handed stated sent failed h is =
     port_handed ports old new (map datagram stated) sent failed (subst (λ ss. HandsOver ports old new (map datagram ss) sent failed) is h)
 
 -- one call and the next
-pub port_append : (once : Bool) (before now after : Option (List Departure)) (old mid new : ℕ) (ds es : List Departure) (s t f g : ℕ)
-    → PortDid once before now old mid ds s f → PortDid once now after mid new es t g → PortDid once before after old new (ds ++ es) (s + t) (f + g)
-port_append once before now after old mid new ds es s t f g p q = record {
-  unsent = p.unsent + q.unsent;
+pub port_append : (once : Bool) (before now after : Option (List Departure)) (old mid new : ℕ) (ds es : List Departure) (s t f g m n : ℕ)
+    → PortDid once before now old mid ds s f m → PortDid once now after mid new es t g n → PortDid once before after old new (ds ++ es) (s + t) (f + g) (m + n)
+port_append once before now after old mid new ds es s t f g m n p q = record {
   within = omega (arith, p.within, q.within);
   each = omega (arith, p.each, q.each, length-append ds es);
   part = record {
@@ -112,8 +109,8 @@ port_append once before now after old mid new ds es s t f g p q = record {
 }
 
 -- where the count did not rise all were sent
-pub all_counted : (once : Bool) (before after : Option (List Departure)) (old new : ℕ) (ds : List Departure) (sent failed : ℕ)
-    → PortDid once before after old new ds sent failed → ¬ HasRisen old new → sent ≡ length ds
-all_counted once before after old new ds sent failed p still =
+pub all_counted : (once : Bool) (before after : Option (List Departure)) (old new : ℕ) (ds : List Departure) (sent failed missed : ℕ)
+    → PortDid once before after old new ds sent failed missed → ¬ HasRisen old new → sent ≡ length ds
+all_counted once before after old new ds sent failed missed p still =
     let none : failed ≡ 0 = none_risen failed old new p.fails.risen still in
     omega (arith, none, p.within, p.each)

@@ -28,7 +28,7 @@ module _ (node : Node) where
 module _ (once : Bool) (node : Node) where
   -- nothing happened; some receives may have failed
   pub ran_still : (L : Record) (old new : View) (failed : ℕ) → IsAt node old.kept old.judges L → new.kept ≡ old.kept → new.judges ≡ old.judges → new.sent ≡ old.sent → new.times ≡ old.times
-      → HasFailed once old.faults new.faults failed → Ran once node L old new [] [] [] 0 failed
+      → HasFailed once old.faults new.faults failed → Ran once node L old new [] [] [] 0 failed failed
   ran_still L old new failed h kept judges sent times fails = record {
     happened = tt;
     timed = subst (λ told. AreTimed old.times told [] []) (sym times) (timed_none old.times);
@@ -37,37 +37,43 @@ module _ (once : Bool) (node : Node) where
     selects = refl;
   }
 
-  pub ran_append : (L : Record) (old now new : View) (acts more : List (ℕ → Happening)) (hs ks : List Happening) (ss ts : List Selection) (s t f g : ℕ)
-      → (p : Ran once node L old now acts hs ss s f) → Ran once node (record_after node L hs) now new more ks ts t g → Ran once node L old new (acts ++ more) (hs ++ ks) (ss ++ ts) (s + t) (f + g)
-  ran_append L old now new acts more hs ks ss ts s t f g p q = record {
+  pub ran_append : (L : Record) (old now new : View) (acts more : List (ℕ → Happening)) (hs ks : List Happening) (ss ts : List Selection) (s t f g m n : ℕ)
+      → (p : Ran once node L old now acts hs ss s f m) → Ran once node (record_after node L hs) now new more ks ts t g n
+      → Ran once node L old new (acts ++ more) (hs ++ ks) (ss ++ ts) (s + t) (f + g) (m + n)
+  ran_append L old now new acts more hs ks ss ts s t f g m n p q = record {
     happened = happened-append acts more hs ks p.happened q.happened;
     timed = timed_more old.times now.times new.times acts more hs ks p.timed q.timed;
     stands = subst (IsAt node new.kept new.judges) (sym (record_after-append node L hs ks)) q.stands;
-    port = subst (λ ds. PortDid once old.sent new.sent old.faults new.faults ds (s + t) (f + g)) (sym (sent_in-append node L hs ks))
-        (port_append once old.sent now.sent new.sent old.faults now.faults new.faults (sent_in node L hs) (sent_in node (record_after node L hs) ks) s t f g p.port q.port);
+    port = subst (λ ds. PortDid once old.sent new.sent old.faults new.faults ds (s + t) (f + g) (m + n)) (sym (sent_in-append node L hs ks))
+        (port_append once old.sent now.sent new.sent old.faults now.faults new.faults (sent_in node L hs) (sent_in node (record_after node L hs) ks) s t f g m n p.port q.port);
     selects = selections_in-append node L hs ks ∙ ap₂ (λ l m. l ++ m) p.selects q.selects;
   }
 
   -- what is seen is the same in the end
-  pub ran_view : (L : Record) (old now new : View) (acts : List (ℕ → Happening)) (hs : List Happening) (ss : List Selection) (s f : ℕ) → new.kept ≡ now.kept → new.judges ≡ now.judges → new.sent ≡ now.sent
-      → new.faults ≡ now.faults → new.times ≡ now.times → Ran once node L old now acts hs ss s f → Ran once node L old new acts hs ss s f
-  ran_view L old now new acts hs ss s f kept judges sent faults times p = record {
+  pub ran_view : (L : Record) (old now new : View) (acts : List (ℕ → Happening)) (hs : List Happening) (ss : List Selection) (s f m : ℕ) → new.kept ≡ now.kept → new.judges ≡ now.judges → new.sent ≡ now.sent
+      → new.faults ≡ now.faults → new.times ≡ now.times → Ran once node L old now acts hs ss s f m → Ran once node L old new acts hs ss s f m
+  ran_view L old now new acts hs ss s f m kept judges sent faults times p = record {
     happened = p.happened;
     timed = subst (λ told. AreTimed old.times told acts hs) (sym times) p.timed;
     stands = subst (λ k. IsAt node k new.judges (record_after node L hs)) (sym kept) (subst (λ js. IsAt node now.kept js (record_after node L hs)) (sym judges) p.stands);
-    port = subst (λ told. PortDid once old.sent told old.faults new.faults (sent_in node L hs) s f) (sym sent)
-        (subst (λ n. PortDid once old.sent now.sent old.faults n (sent_in node L hs) s f) (sym faults) p.port);
+    port = subst (λ told. PortDid once old.sent told old.faults new.faults (sent_in node L hs) s f m) (sym sent)
+        (subst (λ n. PortDid once old.sent now.sent old.faults n (sent_in node L hs) s f m) (sym faults) p.port);
     selects = p.selects;
   }
 
   -- what was seen before is the same
-  pub ran_from : (L : Record) (old now new : View) (acts : List (ℕ → Happening)) (hs : List Happening) (ss : List Selection) (s f : ℕ) → now.sent ≡ old.sent → now.faults ≡ old.faults → now.times ≡ old.times
-      → Ran once node L now new acts hs ss s f → Ran once node L old new acts hs ss s f
-  ran_from L old now new acts hs ss s f sent faults times p = record {
+  pub ran_from : (L : Record) (old now new : View) (acts : List (ℕ → Happening)) (hs : List Happening) (ss : List Selection) (s f m : ℕ) → now.sent ≡ old.sent → now.faults ≡ old.faults → now.times ≡ old.times
+      → Ran once node L now new acts hs ss s f m → Ran once node L old new acts hs ss s f m
+  ran_from L old now new acts hs ss s f m sent faults times p = record {
     happened = p.happened;
     timed = subst (λ told. AreTimed told new.times acts hs) times p.timed;
     stands = p.stands;
-    port = subst (λ told. PortDid once told new.sent old.faults new.faults (sent_in node L hs) s f) sent
-        (subst (λ n. PortDid once now.sent new.sent n new.faults (sent_in node L hs) s f) faults p.port);
+    port = subst (λ told. PortDid once told new.sent old.faults new.faults (sent_in node L hs) s f m) sent
+        (subst (λ n. PortDid once now.sent new.sent n new.faults (sent_in node L hs) s f m) faults p.port);
     selects = p.selects;
   }
+
+  -- so many receives failed, by another name
+  pub ran_missed : (L : Record) (old new : View) (acts : List (ℕ → Happening)) (hs : List Happening) (ss : List Selection) (s f m n : ℕ) → m ≡ n
+      → Ran once node L old new acts hs ss s f m → Ran once node L old new acts hs ss s f n
+  ran_missed L old new acts hs ss s f m n same p = subst (Ran once node L old new acts hs ss s f) same p

@@ -1,5 +1,5 @@
 -- What a slave's daemon did so far, whatever its ports tell.
-use Rattle.std.specs.Prelude.{◌≡◌, ◌⊎◌, ℕ, ◌+◌, ◌<◌, ◌≤◌, ◌^◌, Bool, true, false, cond, List, [], ◌∷◌, ◌++◌, length, map, Option, Some, IsSome, IfSome}
+use Rattle.std.specs.Prelude.{◌≡◌, ◌⊎◌, ℕ, ◌+◌, ◌*◌, ◌<◌, ◌≤◌, ◌^◌, Bool, true, false, cond, List, [], ◌∷◌, ◌++◌, length, map, Option, Some, IsSome, IfSome}
 use Rattle.std.specs.List.{AllByRecursion}
 use Rattle.ptu_outside.specs.{declared.arrival.Arrival.{Arrival}, Departure.{Departure}}
 use Rattle.ptu_outside.specs.declared.{clock.Clock.{Ghosts as Clocks}, port.Port.{Ghosts as Ports}}
@@ -37,23 +37,24 @@ pub record HasFailed (once : Bool) (old new failed : ℕ) : Type 0 where
   pub quiet : failed ≡ 0 → new ≡ old
   pub no_fall : HasNotFallen old new
 
--- a port with these counts of faults was handed the datagrams, of which so many were sent, and so many sends and receives failed
-pub record PortDid (once : Bool) (before after : Option (List Departure)) (old new : ℕ) (datagrams : List Departure) (sent failed : ℕ)
-    : Type 0 where
-  -- of the failures, those of sends
-  pub unsent : ℕ
-  pub within : unsent ≤ failed
-  pub each : sent + unsent ≡ length datagrams
+-- a port with these counts of faults was handed the datagrams, of which so many were sent; so many sends and receives failed, and
+-- of these so many receives
+pub record PortDid (once : Bool) (before after : Option (List Departure)) (old new : ℕ) (datagrams : List Departure)
+    (sent failed missed : ℕ) : Type 0 where
+  pub within : missed ≤ failed
+  pub each : sent + failed ≡ length datagrams + missed
   pub part : SentPart before after old new datagrams sent
   pub fails : HasFailed once old new failed
 
 -- what a round takes of a port with these counts of faults: 64 datagrams, or all that waited where no
--- receive failed
+-- receive failed; so many failed
 pub record RoundTook (before after : Option (List Arrival)) (old new : ℕ) (arrivals : List Arrival)
-    : Type 0 where
+    (missed : ℕ) : Type 0 where
   pub came : Gave before after arrivals
   pub few : length arrivals ≤ 64
   pub whole : ¬ HasRisen old new → (length arrivals ≡ 64) ⊎ IsEmptyTold after
+  -- a failed receive is the last
+  pub once : missed ≤ 1
 
 -- ---- moments
 
@@ -84,17 +85,17 @@ pub record View : Type 0 where
 -- from the record L on these happened to the slave: it stands for the record after them, its port was handed what is sent
 -- then, and it selected this
 pub record Ran (once : Bool) (node : Node) (L : Record) (old new : View) (acts : List (ℕ → Happening)) (hs : List Happening)
-    (selections : List Selection) (sent failed : ℕ) : Type 0 where
+    (selections : List Selection) (sent failed missed : ℕ) : Type 0 where
   pub happened : HappenedAt acts hs
   pub timed : AreTimed old.times new.times acts hs
   pub stands : IsAt node new.kept new.judges (record_after node L hs)
-  pub port : PortDid once old.sent new.sent old.faults new.faults (sent_in node L hs) sent failed
+  pub port : PortDid once old.sent new.sent old.faults new.faults (sent_in node L hs) sent failed missed
   pub selects : selections_in node L hs ≡ selections
 
 -- these arrivals were taken, of which no selection came
-abbrev pub Took : Bool → Node → Record → View → View → List Arrival → (sent failed : ℕ) → Type 0
-Took once node L old new arrivals sent failed =
-    (hs : List Happening) × Ran once node L old new (map arrive arrivals) hs [] sent failed
+abbrev pub Took : Bool → Node → Record → View → View → List Arrival → (sent failed missed : ℕ) → Type 0
+Took once node L old new arrivals sent failed missed =
+    (hs : List Happening) × Ran once node L old new (map arrive arrivals) hs [] sent failed missed
 
 -- ---- rounds
 
@@ -131,10 +132,11 @@ abbrev pub Stands : {P B : Type 0} → Node → Seen P B → Record → Type 0
 Stands node slave L = IsAt node slave.kept slave.judges L
 
 -- one datagram was taken of a port, or none, and then none waited or a receive failed
-pub record TookOne (more : Bool) (before after : Option (List Arrival)) (old new : ℕ) (arrivals : List Arrival) : Type 0 where
+pub record TookOne (more : Bool) (before after : Option (List Arrival)) (old new : ℕ) (arrivals : List Arrival) (missed : ℕ) : Type 0 where
   pub came : Gave before after arrivals
   pub many : length arrivals ≡ cond more 1 0
   pub none : more ≡ false → ¬ HasRisen old new → IsEmptyTold after
+  pub once : missed ≤ cond more 0 1
 
 -- what is said of a node's record, of its slave as it was and is seen, of what waited and waits on the general channel and on
 -- the event channel, and of the faults of the latter's port
@@ -156,7 +158,10 @@ pub record WentThrough (once : Bool) (ended : List (ℕ → Happening) → List 
   pub failed : ℕ
   pub event_failed : ℕ
   pub failures_are : failures ≡ failed + event_failed
-  pub ran : Ran once node L old new (ended (acts_of took)) hs selections sent failed
+  -- of the general channel so many receives failed; with those of the event channel at most one of each channel and round
+  pub missed : ℕ
+  pub few : missed + event_failed ≤ 2 * rounds
+  pub ran : Ran once node L old new (ended (acts_of took)) hs selections sent failed missed
   pub event_fails : HasFailed once event_faults event_faults' event_failed
   pub as_said : AreRounds rounds general general' event event' old.faults new.faults event_faults event_faults' (acts_of took)
 
@@ -189,16 +194,16 @@ module _ {P B C : Type 0} (ports : Ports P) (clocks : Clocks C) (old new : Seen 
       (ports.waiting old.port) (ports.waiting new.port) (ports.waiting event) (ports.waiting event') (ports.faults event) (ports.faults event')
 
   -- arrivals were taken of the slave's own port, in this way
-  abbrev pub TookGeneral : (Option (List Arrival) → Option (List Arrival) → ℕ → ℕ → List Arrival → Type 0) → Counts → Counts → Type 0
+  abbrev pub TookGeneral : (Option (List Arrival) → Option (List Arrival) → ℕ → ℕ → List Arrival → ℕ → Type 0) → Counts → Counts → Type 0
   TookGeneral Way counts counts' = (node : Node) (L : Record) → Stands node old L
-      → (arrivals : List Arrival) × (ok : ℕ) × (failed : ℕ) × Counted ok failed counts counts'
-      × Way (ports.waiting old.port) (ports.waiting new.port) (ports.faults old.port) (ports.faults new.port) arrivals
-      × Took ports.counts_once node L (sees ports clocks old clock) (sees ports clocks new clock') arrivals ok failed
+      → (arrivals : List Arrival) × (ok : ℕ) × (failed : ℕ) × (missed : ℕ) × Counted ok failed counts counts'
+      × Way (ports.waiting old.port) (ports.waiting new.port) (ports.faults old.port) (ports.faults new.port) arrivals missed
+      × Took ports.counts_once node L (sees ports clocks old clock) (sees ports clocks new clock') arrivals ok failed missed
 
   -- of the event channel's port
-  abbrev pub TookEvent : (event event' : P) → (Option (List Arrival) → Option (List Arrival) → ℕ → ℕ → List Arrival → Type 0) → Counts → Counts → Type 0
+  abbrev pub TookEvent : (event event' : P) → (Option (List Arrival) → Option (List Arrival) → ℕ → ℕ → List Arrival → ℕ → Type 0) → Counts → Counts → Type 0
   TookEvent event event' Way counts counts' = (node : Node) (L : Record) → Stands node old L
       → (arrivals : List Arrival) × (ok : ℕ) × (failed : ℕ) × (event_failed : ℕ) × Counted ok (failed + event_failed) counts counts'
       × HasFailed ports.counts_once (ports.faults event) (ports.faults event') event_failed
-      × Way (ports.waiting event) (ports.waiting event') (ports.faults event) (ports.faults event') arrivals
-      × Took ports.counts_once node L (sees ports clocks old clock) (sees ports clocks new clock') arrivals ok failed
+      × Way (ports.waiting event) (ports.waiting event') (ports.faults event) (ports.faults event') arrivals event_failed
+      × Took ports.counts_once node L (sees ports clocks old clock) (sees ports clocks new clock') arrivals ok failed 0

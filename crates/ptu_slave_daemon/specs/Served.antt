@@ -1,5 +1,5 @@
 -- What a slave's daemon has done.
-use Rattle.std.specs.Prelude.{◌≡◌, ℕ, List, [], ◌∷◌, ◌++◌, map, Option, Some, None, IsSome}
+use Rattle.std.specs.Prelude.{◌≡◌, ℕ, ◌+◌, ◌*◌, ◌≤◌, List, [], ◌∷◌, ◌++◌, length, map, Option, Some, None, IsSome}
 use Rattle.ptu_outside.specs.declared.{arrival.Arrival.{Arrival}, clock.Clock.{Ghosts as Clocks}}
 use Rattle.ptu_outside.specs.declared.{opened.Opened.{Opened}, port.Port.{Ghosts as Ports}}
 use Rattle.ptu_outside.specs.{Departure.{Departure}, Handing.{HasPut, HasPutPart}}
@@ -34,10 +34,10 @@ pub record Tell {P C : Type 0} (ports : Ports P) (clocks : Clocks C) (before aft
   pub event_after : IsSome (ports.waiting after.p5)
   pub times_after : IsSome (clocks.moments after.c0)
 
--- what happened, whatever the counts did, and whether or not ports and clocks tell; so many datagrams were sent, and these
--- selections were written
+-- what happened, whatever the counts did, and whether or not ports and clocks tell; so many datagrams were sent, so many sends
+-- and receives failed, and these selections were written
 pub record Happened {P C : Type 0} (ports : Ports P) (clocks : Clocks C) (settings : SlaveSettings) (before after : Opened P C)
-    (selections : List Selection) (sent : ℕ) : Type 0 where
+    (selections : List Selection) (sent failed : ℕ) : Type 0 where
   -- each round took at most 64 datagrams of each channel, the first that waited where its port still tells that
   pub rounds : List Round
   pub taken : HaveTaken rounds (all_slave_rounds settings)
@@ -51,6 +51,11 @@ pub record Happened {P C : Type 0} (ports : Ports P) (clocks : Clocks C) (settin
   -- port 4 was sent, in order, a part of what these make the slave send
   pub part : SentPart (ports.sent before.p4) (ports.sent after.p4) (ports.faults before.p4) (ports.faults after.p4)
       (sent_in (node_of settings) [] happenings) sent
+  -- each of the others failed to be sent; each other call that failed is a receive, at most one of each channel and round, since it
+  -- ends the channel for the round
+  pub missed : ℕ
+  pub once : missed ≤ 2 * all_slave_rounds settings
+  pub each : sent + failed ≡ length (sent_in (node_of settings) [] happenings) + missed
   -- it selected by the record of these
   pub selects : changes None (selections_in (node_of settings) [] happenings) ≡ selections
 
@@ -71,7 +76,7 @@ module _ {P C K : Type 0} (ports : Ports P) (clocks : Clocks C) (written : K →
     -- so many sends and receives failed
     pub failed : FailuresAre ports.counts_once failures (map ports.faults (ports_of before)) (map ports.faults (ports_of after))
     -- so many datagrams were sent by port 4, a part of what the record of what came makes the slave send
-    pub happened : Happened ports clocks settings before after selections sends
+    pub happened : Happened ports clocks settings before after selections sends failures
     -- where all is told and no port failed, all is as the rounds say
     pub exact : (general event : List Arrival) (times : List ℕ) → Tell ports clocks before after general event times
         → HaveNotRisen (map ports.faults (ports_of before)) (map ports.faults (ports_of after))

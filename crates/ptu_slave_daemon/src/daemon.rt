@@ -3,7 +3,7 @@
 ghost use Rattle.std.specs.Prelude.{◌≡◌, ℕ, List, length, map, IfOk, OnOk, OnErr, IsErrOf, true};
 ghost use Rattle.ptu_outside.specs.{declared.opened.Opened.{Opened}, Handing.{HasPutPart}};
 ghost use Rattle.ptu_config.specs.{Limits.{IsSlaveInRange}, Rounds.{all_slave_rounds}};
-ghost use Rattle.ptu_judges.specs.Held.{IsStock};
+ghost use Rattle.ptu_judges.specs.Boxes.{IsFreshStock};
 ghost use Rattle.ptu_rounds.specs.Opening.{OpenedAt};
 ghost use Rattle.ptu_slave_daemon.specs.Answers.{CountsOpen, CountsWrite, FailsWith, WasGivenBack, WasOpened};
 ghost use Rattle.ptu_slave_daemon.specs.{Happenings.{Selection}, Lines.{output, texts_of}};
@@ -30,8 +30,7 @@ fn run_over<P: Port, C: Clock, K: Sink>(
     sink: &mut K,
 ) -> Result<(Opened<P, C>, Result<(), Failed>), OutOfMemory>
     requires range { IsSlaveInRange settings.now }
-    requires stock { IsStock (map (λ j. held (j.vtable, j.value)) stock.flags.items)
-        (map (λ j. held (j.vtable, j.value)) stock.gaps.items) }
+    requires stock { IsFreshStock held stock }
     requires enough { are_enough settings.now.masters
         (length stock.flags.items) (length stock.gaps.items) ≡ true }
     ensures aside { IfOk result (λ pair. AreAside P.sent opened pair.0) }
@@ -84,10 +83,10 @@ fn run_over<P: Port, C: Clock, K: Sink>(
 
 /// Runs a slave with these settings, which are in their ranges, over the ports and clocks of a
 /// host, and writes to the sink. In a round it takes up to 64 datagrams of the general channel and
-/// then as many of the event channel, and ticks, and waits a little for the next datagram; a failed
-/// send or receive is counted, and it goes on. At the end it stops, and writes its closing line.
-/// The judges are taken from the stock, which is fresh and has one of the stated rule for every
-/// master.
+/// then as many of the event channel, and ticks, and waits for the next datagram or for what is due
+/// next; a failed send or receive is counted, and it goes on. At the end it stops, and writes its
+/// closing line. The judges are taken from the stock, which is fresh and has one of the stated rule
+/// for every master.
 ///
 /// # Errors
 /// `Open` where the host opened nothing, and then nothing is written; `Write` where the sink
@@ -101,8 +100,7 @@ pub fn slave<H: Host, K: Sink>(
     stock: Stock,
 ) -> Result<(), DaemonFault>
     requires range { IsSlaveInRange settings.now }
-    requires stock { IsStock (map (λ j. held (j.vtable, j.value)) stock.flags.items)
-        (map (λ j. held (j.vtable, j.value)) stock.gaps.items) }
+    requires stock { IsFreshStock held stock }
     requires enough { are_enough settings.now.masters
         (length stock.flags.items) (length stock.gaps.items) ≡ true }
 

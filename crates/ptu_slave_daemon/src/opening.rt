@@ -2,11 +2,12 @@
 
 ghost use Rattle.std.specs.{Prelude.{◌≡◌, [], length, map, not, true, IfOk}, List.{count_by}};
 ghost use Rattle.ptu_config.specs.Limits.{IsSlaveInRange};
+ghost use Rattle.ptu_judges.specs.Boxes.{IsFreshStock};
 ghost use Rattle.ptu_judges.specs.Held.{IsStock, fresh};
 ghost use Rattle.ptu_profile.specs.Slave.{IsWithinLimits};
 ghost use Rattle.ptu_slave_daemon.specs.Opening.{are_enough, config_of, master_of, node_of, rule_of};
 ghost use Rattle.ptu_slave_daemon.specs.Running.{Stands};
-ghost use Rattle.ptu_slave.specs.Seen.{HasJudges, seen};
+ghost use Rattle.ptu_slave.specs.{Seen.{HasJudges}, SeenBy.{seen_by}};
 
 use ptu_config::{MasterSetting, SlaveSettings};
 use ptu_header::PortIdentity;
@@ -98,11 +99,11 @@ fn new_judges(
     masters: &[MasterSetting],
     mut stock: Stock,
 ) -> Result<Vec<Box<dyn Judge>>, OutOfMemory>
-    requires stock { IsStock (map (λ j. held j) stock.flags.items)
-        (map (λ j. held j) stock.gaps.items) }
+    requires stock { IsStock (map held stock.flags.items)
+        (map held stock.gaps.items) }
     requires enough { are_enough masters.now
         (length stock.flags.items) (length stock.gaps.items) ≡ true }
-    ensures { IfOk result (λ judges. map (λ j. held j) judges.items
+    ensures { IfOk result (λ judges. map held judges.items
         ≡ map (λ m. fresh (rule_of m)) masters.now) }
 {
     let mut judges = Vec::new(alloc);
@@ -127,14 +128,13 @@ pub(crate) fn open_slave<P: Port>(
     port: P,
 ) -> Result<Slave<P>, OutOfMemory>
     requires range { IsSlaveInRange settings.now }
-    requires stock { IsStock (map (λ j. held (j.vtable, j.value)) stock.flags.items)
-        (map (λ j. held (j.vtable, j.value)) stock.gaps.items) }
+    requires stock { IsFreshStock held stock }
     requires enough { are_enough settings.now.masters
         (length stock.flags.items) (length stock.gaps.items) ≡ true }
     ensures stands { IfOk result (λ slave. Stands (node_of settings.now)
-        (seen ⟦<dyn Judge as Judge>⟧ slave) []) }
-    ensures judged { IfOk result (λ slave. HasJudges (seen ⟦<dyn Judge as Judge>⟧ slave)) }
-    ensures port { IfOk result (λ slave. (seen ⟦<dyn Judge as Judge>⟧ slave).port ≡ port) }
+        (seen_by held slave) []) }
+    ensures judged { IfOk result (λ slave. HasJudges (seen_by held slave)) }
+    ensures port { IfOk result (λ slave. (seen_by held slave).port ≡ port) }
 {
     let masters = new_masters(alloc, settings.masters.list())?;
     let judges = new_judges(alloc, settings.masters.list(), stock)?;

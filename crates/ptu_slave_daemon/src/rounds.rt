@@ -10,7 +10,7 @@ ghost use Rattle.ptu_slave_daemon.specs.{declared.line.SlaveLine.{SlaveLine}, An
 ghost use Rattle.ptu_slave_daemon.specs.Happenings.{Happening, Selection, Ticks, arrive};
 ghost use Rattle.ptu_slave_daemon.specs.Lines.{changes, output, selected_line, texts_of};
 ghost use Rattle.ptu_slave_daemon.specs.Running.{Counted, Grows, HasFailed, IsFew, IsFront, Ran, RoundTook, RoundsDone, RunDone, Stands, Went, sees};
-ghost use Rattle.ptu_slave.specs.Seen.{HasJudges, seen};
+ghost use Rattle.ptu_slave.specs.{Seen.{HasJudges}, SeenBy.{seen_by}};
 
 use crate::counts::Counts;
 use crate::halt::Halt;
@@ -18,7 +18,6 @@ use crate::line::SlaveLine;
 use crate::steps::{stop, tick};
 use crate::taking::{take_all_event, take_all_general};
 use crate::writing::{say, write_line};
-use ptu_judges::Judge;
 use ptu_outside::{Clock, Port, Sink};
 use ptu_slave::Slave;
 use ptu_units::OutOfMemory;
@@ -36,22 +35,19 @@ fn happen<P: Port, C: Clock>(
     ensures grows { Grows (2 ^ 65) counts.old counts.new }
     ensures sent { P.sent event.new ≡ P.sent event.old }
     ensures ran { IfOk result (λ master. (node : Node) (L : Record) (round : ℕ) →
-        Stands node (seen ⟦<dyn Judge as Judge>⟧ slave.old) L →
+        Stands node (seen_by held slave.old) L →
         (arrivals : List Arrival) × (event_arrivals : List Arrival) × (hs : List Happening)
-        × (sent : ℕ) × (failed : ℕ) × (event_failed : ℕ)
+        × (sent : ℕ) × (failed : ℕ) × (event_failed : ℕ) × (missed : ℕ)
         × Counted sent (failed + event_failed) counts.old counts.new
         × HasFailed P.counts_once (P.faults event.old) (P.faults event.new) event_failed
-        × RoundTook (P.waiting (seen ⟦<dyn Judge as Judge>⟧ slave.old).port) (P.waiting
-        (seen ⟦<dyn Judge as Judge>⟧ slave.new).port)
-        (P.faults (seen ⟦<dyn Judge as Judge>⟧ slave.old).port) (P.faults
-        (seen ⟦<dyn Judge as Judge>⟧ slave.new).port) arrivals
+        × RoundTook (P.waiting (seen_by held slave.old).port) (P.waiting (seen_by held slave.new).port)
+        (P.faults (seen_by held slave.old).port) (P.faults (seen_by held slave.new).port) arrivals missed
         × RoundTook (P.waiting event.old) (P.waiting event.new)
-        (P.faults event.old) (P.faults event.new) event_arrivals
-        × Ran P.counts_once node L
-        (sees P.Port C.Clock (seen ⟦<dyn Judge as Judge>⟧ slave.old) clock.old)
-        (sees P.Port C.Clock (seen ⟦<dyn Judge as Judge>⟧ slave.new) clock.new)
+        (P.faults event.old) (P.faults event.new) event_arrivals event_failed
+        × Ran P.counts_once node L (sees P.Port C.Clock (seen_by held slave.old) clock.old)
+        (sees P.Port C.Clock (seen_by held slave.new) clock.new)
         (map arrive (arrivals ++ event_arrivals) ++ Ticks round ∷ []) hs
-        (record { round = round; master = master } ∷ []) sent failed) }
+        (record { round = round; master = master } ∷ []) sent failed missed) }
 {
     take_all_general(alloc, slave, clock, counts)?;
     take_all_event(alloc, slave, event, clock, counts)?;
@@ -73,8 +69,8 @@ fn run_rounds<P: Port, C: Clock, K: Sink>(
     ensures done { IfOk result (λ counts. (selections : List Selection)
         × HasPut K.written K.handed sink.old sink.new
         (texts_of (map selected_line (changes None selections)))
-        × Went P.Port C.Clock (seen ⟦<dyn Judge as Judge>⟧ slave.old)
-        (seen ⟦<dyn Judge as Judge>⟧ slave.new) clock.old clock.new event.old event.new
+        × Went P.Port C.Clock (seen_by held slave.old)
+        (seen_by held slave.new) clock.old clock.new event.old event.new
         (RoundsDone P.counts_once rounds selections counts.sent counts.failed)) }
     ensures part { OnErr result ((selections : List Selection)
         × HasPutPart K.written K.handed sink.old sink.new
@@ -83,8 +79,8 @@ fn run_rounds<P: Port, C: Clock, K: Sink>(
         × (sends : ℕ) × (failures : ℕ) × (n ≤ rounds)
         × HasPutPart K.written K.handed sink.old sink.new
         (texts_of (map selected_line (changes None selections)))
-        × Went P.Port C.Clock (seen ⟦<dyn Judge as Judge>⟧ slave.old)
-        (seen ⟦<dyn Judge as Judge>⟧ slave.new) clock.old clock.new event.old event.new
+        × Went P.Port C.Clock (seen_by held slave.old)
+        (seen_by held slave.new) clock.old clock.new event.old event.new
         (RoundsDone P.counts_once n selections sends failures) }
     ensures counts { Halts result (K.faults sink.old) (K.faults sink.new) }
 {
@@ -113,21 +109,21 @@ pub(crate) fn run<P: Port, C: Clock, K: Sink>(
     sink: &mut K,
 ) -> Result<(), Halt>
     requires rounds { IsRoundCount rounds }
-    requires judged { HasJudges (seen ⟦<dyn Judge as Judge>⟧ slave.old) }
+    requires judged { HasJudges (seen_by held slave.old) }
     ensures sent { P.sent event.new ≡ P.sent event.old }
     ensures done { OnOk result ((selections : List Selection) × (sends : ℕ) × (failures : ℕ)
         × HasPut K.written K.handed sink.old sink.new
         (texts_of (output rounds (changes None selections) sends failures))
-        × Went P.Port C.Clock (seen ⟦<dyn Judge as Judge>⟧ slave.old)
-        (seen ⟦<dyn Judge as Judge>⟧ slave.new) clock.old clock.new event.old event.new
+        × Went P.Port C.Clock (seen_by held slave.old)
+        (seen_by held slave.new) clock.old clock.new event.old event.new
         (RunDone P.counts_once rounds selections sends failures)) }
     ensures part { OnErr result ((selections : List Selection) × (sends : ℕ) × (failures : ℕ)
         × HasPutPart K.written K.handed sink.old sink.new
         (texts_of (output rounds selections sends failures))) }
     ensures stopped { IsErrOf result Halt.Write → (lines : List SlaveLine)
         × HasPutPart K.written K.handed sink.old sink.new (texts_of lines)
-        × Went P.Port C.Clock (seen ⟦<dyn Judge as Judge>⟧ slave.old)
-        (seen ⟦<dyn Judge as Judge>⟧ slave.new) clock.old clock.new event.old event.new
+        × Went P.Port C.Clock (seen_by held slave.old)
+        (seen_by held slave.new) clock.old clock.new event.old event.new
         (IsFront rounds lines) }
     ensures counts { Halts result (K.faults sink.old) (K.faults sink.new) }
 {

@@ -2,22 +2,23 @@
 
 ghost use Rattle.std.specs.Prelude.{◌≡◌, ◌^◌, ℕ, List, [], ◌∷◌, OnOk};
 ghost use Rattle.ptu_record.specs.Record.{Record};
-ghost use Rattle.ptu_slave.specs.Seen.{seen};
+ghost use Rattle.ptu_slave.specs.SeenBy.{seen_by};
 ghost use Rattle.ptu_outside.specs.Replies.{reply_failed, reply_sent};
 ghost use Rattle.ptu_slave_messages.specs.{Heard.{reply_in}, Node.{Node}};
 ghost use Rattle.ptu_slave_daemon.specs.Happenings.{Happening, Stops, Ticks};
 ghost use Rattle.ptu_slave_daemon.specs.Running.{Counted, Grows, IsFew, Ran, Stands, Took, sees};
 
 use crate::counts::Counts;
-use ptu_judges::Judge;
 use ptu_outside::{Clock, Port, Reply};
+use ptu_rounds::last_moment;
 use ptu_slave::{Heard, Slave};
 use ptu_units::{Moment, OutOfMemory};
 use std::alloc::Global;
 
-/// Until how many nanoseconds after a tick the slave waits for a datagram: two milliseconds by one
-/// call of the system, which counts whole ones.
-const REST: u64 = 2_900_000;
+/// For how many nanoseconds a wait goes on after the moment at which something is due. A port waits
+/// by one call of the system, which counts whole milliseconds and may end a little early: so it
+/// ends once for each thing that is due, and not before it is.
+const SLACK: u64 = 1_100_000;
 
 // Counts what became of the reply to a datagram.
 fn count_reply(counts: &mut Counts, heard: &Heard)
@@ -49,15 +50,15 @@ pub(crate) fn take<P: Port, C: Clock>(
 ) -> Result<(), OutOfMemory>
     requires few { IsFew 1 counts.old }
     ensures grows { Grows 1 counts.old counts.new }
-    ensures waiting { P.waiting (seen ⟦<dyn Judge as Judge>⟧ slave.new).port ≡ P.waiting
-        (seen ⟦<dyn Judge as Judge>⟧ slave.old).port }
+    ensures waiting { P.waiting (seen_by held slave.new).port ≡ P.waiting
+        (seen_by held slave.old).port }
     ensures ran { OnOk result ((node : Node) (L : Record) → Stands node
-        (seen ⟦<dyn Judge as Judge>⟧ slave.old) L →
+        (seen_by held slave.old) L →
         (sent : ℕ) × (failed : ℕ) × Counted sent failed counts.old counts.new
         × Took P.counts_once node L
-        (sees P.Port C.Clock (seen ⟦<dyn Judge as Judge>⟧ slave.old) clock.old)
-        (sees P.Port C.Clock (seen ⟦<dyn Judge as Judge>⟧ slave.new) clock.new)
-        (record { ip = from; bytes = octets.now } ∷ []) sent failed) }
+        (sees P.Port C.Clock (seen_by held slave.old) clock.old)
+        (sees P.Port C.Clock (seen_by held slave.new) clock.new)
+        (record { ip = from; bytes = octets.now } ∷ []) sent failed 0) }
 {
     let at = clock.now();
     let heard = slave.take(alloc, at, from, octets)?;
@@ -65,14 +66,13 @@ pub(crate) fn take<P: Port, C: Clock>(
     Ok(())
 }
 
-// The moment until which the daemon waits after a tick at this one: less than three milliseconds
-// later, for which a port waits by one call of the system, of two.
-fn rest_after(tick: Moment) -> Moment {
-    Moment::of(tick.nanos() + REST).unwrap_or(tick)
+// Until when the daemon waits for what is due at this moment.
+fn wake_for(due: Moment) -> Moment {
+    Moment::of(due.nanos() + SLACK).unwrap_or(due)
 }
 
 /// The slave ticks; what it then selects. Then the port of the event channel waits until a datagram
-/// is there, for two milliseconds or so at most.
+/// is there, or until a tick may send something or another master may be selected.
 pub(crate) fn tick<P: Port, C: Clock>(
     slave: &mut Slave<P>,
     event: &mut P,
@@ -84,38 +84,39 @@ pub(crate) fn tick<P: Port, C: Clock>(
     ensures sent { P.sent event.new ≡ P.sent event.old }
     ensures event_waiting { P.waiting event.new ≡ P.waiting event.old }
     ensures event_quiet { P.faults event.new ≡ P.faults event.old }
-    ensures waiting { P.waiting (seen ⟦<dyn Judge as Judge>⟧ slave.new).port ≡ P.waiting
-        (seen ⟦<dyn Judge as Judge>⟧ slave.old).port }
+    ensures waiting { P.waiting (seen_by held slave.new).port ≡ P.waiting
+        (seen_by held slave.old).port }
     ensures ran { (node : Node) (L : Record) (round : ℕ) → Stands node
-        (seen ⟦<dyn Judge as Judge>⟧ slave.old) L →
+        (seen_by held slave.old) L →
         (sent : ℕ) × (failed : ℕ) × (hs : List Happening)
         × Counted sent failed counts.old counts.new
         × Ran P.counts_once node L
-        (sees P.Port C.Clock (seen ⟦<dyn Judge as Judge>⟧ slave.old) clock.old)
-        (sees P.Port C.Clock (seen ⟦<dyn Judge as Judge>⟧ slave.new) clock.new)
-        (Ticks round ∷ []) hs (record { round = round; master = result } ∷ []) sent failed }
+        (sees P.Port C.Clock (seen_by held slave.old) clock.old)
+        (sees P.Port C.Clock (seen_by held slave.new) clock.new)
+        (Ticks round ∷ []) hs (record { round = round; master = result } ∷ []) sent failed 0 }
 {
     let at = clock.now();
     let ticked = slave.tick(at);
     let master = slave.selected_address(at);
     counts.add(ticked.sent, ticked.failed);
-    event.wait(rest_after(at));
+    let due = slave.next_due(last_moment());
+    event.wait(wake_for(due));
     master
 }
 
 /// The slave stops, and sends each master the CANCELs of its live grants.
 pub(crate) fn stop<P: Port, C: Clock>(slave: &mut Slave<P>, clock: &mut C, counts: &mut Counts)
     requires few { IsFew (2 ^ 64) counts.old }
-    ensures waiting { P.waiting (seen ⟦<dyn Judge as Judge>⟧ slave.new).port ≡ P.waiting
-        (seen ⟦<dyn Judge as Judge>⟧ slave.old).port }
-    ensures ran { (node : Node) (L : Record) → Stands node (seen ⟦<dyn Judge as Judge>⟧ slave.old) L
+    ensures waiting { P.waiting (seen_by held slave.new).port ≡ P.waiting
+        (seen_by held slave.old).port }
+    ensures ran { (node : Node) (L : Record) → Stands node (seen_by held slave.old) L
         →
         (sent : ℕ) × (failed : ℕ) × (hs : List Happening)
         × Counted sent failed counts.old counts.new
         × Ran P.counts_once node L
-        (sees P.Port C.Clock (seen ⟦<dyn Judge as Judge>⟧ slave.old) clock.old)
-        (sees P.Port C.Clock (seen ⟦<dyn Judge as Judge>⟧ slave.new) clock.new)
-        (Stops ∷ []) hs [] sent failed }
+        (sees P.Port C.Clock (seen_by held slave.old) clock.old)
+        (sees P.Port C.Clock (seen_by held slave.new) clock.new)
+        (Stops ∷ []) hs [] sent failed 0 }
 {
     let at = clock.now();
     let stopped = slave.stop(at);

@@ -2,11 +2,10 @@
 
 ghost use Rattle.std.specs.Prelude.{◌≡◌, map, IfOk, OnOk};
 ghost use Rattle.ptu_slave_daemon.specs.Running.{Grows, IsFew, RoundTook, TookEvent, TookGeneral, TookOne};
-ghost use Rattle.ptu_slave.specs.Seen.{seen};
+ghost use Rattle.ptu_slave.specs.SeenBy.{seen_by};
 
 use crate::counts::Counts;
 use crate::steps::take;
-use ptu_judges::Judge;
 use ptu_outside::{Clock, Port};
 use ptu_slave::Slave;
 use ptu_units::OutOfMemory;
@@ -27,7 +26,7 @@ fn take_general<P: Port, C: Clock>(
     requires few { IsFew 1 counts.old }
     ensures grows { Grows 1 counts.old counts.new }
     ensures took { IfOk result (λ more. TookGeneral P.Port C.Clock
-        (seen ⟦<dyn Judge as Judge>⟧ slave.old) (seen ⟦<dyn Judge as Judge>⟧ slave.new)
+        (seen_by held slave.old) (seen_by held slave.new)
         clock.old clock.new (TookOne more) counts.old counts.new) }
 {
     let mut octets = [0; LONGEST_DATAGRAM];
@@ -54,11 +53,11 @@ fn take_event<P: Port, C: Clock>(
 ) -> Result<bool, OutOfMemory>
     requires few { IsFew 1 counts.old }
     ensures grows { Grows 1 counts.old counts.new }
-    ensures waiting { P.waiting (seen ⟦<dyn Judge as Judge>⟧ slave.new).port ≡ P.waiting
-        (seen ⟦<dyn Judge as Judge>⟧ slave.old).port }
+    ensures waiting { P.waiting (seen_by held slave.new).port ≡ P.waiting
+        (seen_by held slave.old).port }
     ensures sent { P.sent event.new ≡ P.sent event.old }
     ensures took { IfOk result (λ more. TookEvent P.Port C.Clock
-        (seen ⟦<dyn Judge as Judge>⟧ slave.old) (seen ⟦<dyn Judge as Judge>⟧ slave.new)
+        (seen_by held slave.old) (seen_by held slave.new)
         clock.old clock.new event.old event.new (TookOne more) counts.old counts.new) }
 {
     let mut octets = [0; LONGEST_DATAGRAM];
@@ -88,7 +87,7 @@ pub(crate) fn take_all_general<P: Port, C: Clock>(
     requires few { IsFew 64 counts.old }
     ensures grows { Grows 64 counts.old counts.new }
     ensures took { OnOk result (TookGeneral P.Port C.Clock
-        (seen ⟦<dyn Judge as Judge>⟧ slave.old) (seen ⟦<dyn Judge as Judge>⟧ slave.new)
+        (seen_by held slave.old) (seen_by held slave.new)
         clock.old clock.new RoundTook counts.old counts.new) }
 {
     for _taken in 0..MOST {
@@ -112,11 +111,11 @@ pub(crate) fn take_all_event<P: Port, C: Clock>(
 ) -> Result<(), OutOfMemory>
     requires few { IsFew 64 counts.old }
     ensures grows { Grows 64 counts.old counts.new }
-    ensures waiting { P.waiting (seen ⟦<dyn Judge as Judge>⟧ slave.new).port ≡ P.waiting
-        (seen ⟦<dyn Judge as Judge>⟧ slave.old).port }
+    ensures waiting { P.waiting (seen_by held slave.new).port ≡ P.waiting
+        (seen_by held slave.old).port }
     ensures sent { P.sent event.new ≡ P.sent event.old }
     ensures took { OnOk result (TookEvent P.Port C.Clock
-        (seen ⟦<dyn Judge as Judge>⟧ slave.old) (seen ⟦<dyn Judge as Judge>⟧ slave.new)
+        (seen_by held slave.old) (seen_by held slave.new)
         clock.old clock.new event.old event.new RoundTook counts.old counts.new) }
 {
     for _taken in 0..MOST {

@@ -1,2 +1,3 @@
 mod daemon;
 mod daemon_faults;
+mod waits;

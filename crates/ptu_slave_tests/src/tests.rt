@@ -1,3 +1,4 @@
+mod due;
 mod judge_calls;
 mod judges;
 mod record;

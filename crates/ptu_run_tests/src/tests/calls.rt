@@ -1,7 +1,7 @@
 //! What a run does of its input and its output, call by call, and where a call of them fails.
 
 ghost use Rattle.std.specs.Prelude.{◌≡◌, None, map};
-ghost use Rattle.ptu_judges.specs.Held.{IsStock};
+ghost use Rattle.ptu_judges.specs.Boxes.{IsFreshStock};
 
 use crate::tests::daemons::{SERVE, SLAVE};
 use crate::tests::pieces::{HALVES, ONE_ASK, ONE_GRANT, no_judges, one_judge, ran, shut};
@@ -92,8 +92,7 @@ fn calls_of(
     fails: u64,
     stock: Stock,
 ) -> Result<(u8, u64), Fail>
-    requires { IsStock (map (λ j. held (j.vtable, j.value)) stock.flags.items)
-        (map (λ j. held (j.vtable, j.value)) stock.gaps.items) }
+    requires { IsFreshStock held stock }
 {
     let diary = Cell::new(1);
     let mut source = Lines {

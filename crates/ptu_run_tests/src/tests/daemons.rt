@@ -1,7 +1,7 @@
 //! Runs of the daemons over hosts in memory.
 
 ghost use Rattle.std.specs.Prelude.{◌≡◌, IfOk, map, length};
-ghost use Rattle.ptu_judges.specs.Held.{IsStock};
+ghost use Rattle.ptu_judges.specs.Boxes.{IsFreshStock};
 
 use crate::tests::pieces::{no_judges, one_judge, ran};
 use ptu_judges::{FlagJudge, Stock};
@@ -182,8 +182,7 @@ fn followed(
     settings: &str,
     stock: Stock,
 ) -> Result<(u8, String), Fail>
-    requires { IsStock (map (λ j. held (j.vtable, j.value)) stock.flags.items)
-        (map (λ j. held (j.vtable, j.value)) stock.gaps.items) }
+    requires { IsFreshStock held stock }
 {
     let alloc = rt.alloc();
     let mut host = MemHost::new(opened_with(alloc, empty_port(alloc)?), false);

@@ -1,7 +1,7 @@
 //! Runs of the programs over lines of which a read or a write fails.
 
 ghost use Rattle.std.specs.Prelude.{map};
-ghost use Rattle.ptu_judges.specs.Held.{IsStock};
+ghost use Rattle.ptu_judges.specs.Boxes.{IsFreshStock};
 
 use crate::tests::pieces::{HALVES, ONE_ASK, ONE_GRANT, no_judges, one_judge, ran, shut};
 use ptu_judges::{FlagJudge, Stock};
@@ -57,8 +57,7 @@ fn ran_shut(
     failing: (u64, u64),
     stock: Stock,
 ) -> Result<(u8, String), Fail>
-    requires { IsStock (map (λ j. held (j.vtable, j.value)) stock.flags.items)
-        (map (λ j. held (j.vtable, j.value)) stock.gaps.items) }
+    requires { IsFreshStock held stock }
 {
     let mut host = shut(rt.alloc());
     let found = ran(rt, words, input, failing, &mut host, stock);

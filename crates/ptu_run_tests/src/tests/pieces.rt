@@ -1,6 +1,7 @@
 //! Scripts and their reports, made out by hand, stocks of judges, and runs over memory.
 
 ghost use Rattle.std.specs.Prelude.{◌≡◌, IfOk, map};
+ghost use Rattle.ptu_judges.specs.Boxes.{IsFreshStock};
 ghost use Rattle.ptu_judges.specs.Held.{IsStock, fresh};
 
 use ptu_judges::{Judge, Rule, Stock};
@@ -34,8 +35,7 @@ pub(crate) const HALVES: &str = "\
 
 /// A stock without judges.
 pub(crate) fn no_judges(alloc: Global) -> Stock
-    ensures { IsStock (map (λ j. held (j.vtable, j.value)) result.flags.items)
-        (map (λ j. held (j.vtable, j.value)) result.gaps.items) }
+    ensures { IsFreshStock held result }
 {
     Stock {
         flags: Vec::new(alloc),
@@ -46,8 +46,8 @@ pub(crate) fn no_judges(alloc: Global) -> Stock
 /// A stock with this judge alone.
 pub(crate) fn one_judge(alloc: Global, flag: Box<dyn Judge>) -> Result<Stock, AllocError>
     requires { held flag ≡ fresh Rule.Flag }
-    ensures { IfOk result (λ stock. IsStock (map (λ j. held j) stock.flags.items)
-        (map (λ j. held j) stock.gaps.items)) }
+    ensures { IfOk result (λ stock. IsStock (map held stock.flags.items)
+        (map held stock.gaps.items)) }
 {
     let mut stock = no_judges(alloc);
     stock.flags.push(flag)?;
@@ -69,8 +69,7 @@ pub(crate) fn ran(
     host: &mut MemHost,
     stock: Stock,
 ) -> Result<(u8, String), Fail>
-    requires { IsStock (map (λ j. held (j.vtable, j.value)) stock.flags.items)
-        (map (λ j. held (j.vtable, j.value)) stock.gaps.items) }
+    requires { IsFreshStock held stock }
 {
     let alloc = rt.alloc();
     let (read, write) = failing;

@@ -3,6 +3,7 @@
 ghost use Rattle.std.specs.Prelude.{◌≡◌, ◌≤◌, IfOk, map};
 ghost use Rattle.ptu_outside.specs.MemoryPort.{FitAll};
 ghost use Rattle.ptu_config.specs.{Limits.{IsSlaveInRange}, Rounds.{IsRepeat}};
+ghost use Rattle.ptu_judges.specs.Boxes.{IsFreshStock};
 ghost use Rattle.ptu_judges.specs.Held.{IsStock, fresh};
 ghost use Rattle.ptu_record.specs.declared.rule.Rule.TheVariants.{Flag};
 
@@ -68,8 +69,8 @@ pub(crate) fn settings(alloc: Global, rounds: u32, repeat: u32) -> Result<SlaveS
 /// A stock with this judge alone.
 pub(crate) fn one_judge(alloc: Global, flag: Box<dyn Judge>) -> Result<Stock, AllocError>
     requires { held flag ≡ fresh Flag }
-    ensures { IfOk result (λ stock. IsStock (map (λ j. held j) stock.flags.items)
-        (map (λ j. held j) stock.gaps.items)) }
+    ensures { IfOk result (λ stock. IsStock (map held stock.flags.items)
+        (map held stock.gaps.items)) }
 {
     let mut stock = Stock {
         flags: Vec::new(alloc),
@@ -123,8 +124,7 @@ fn assert_output(
     output: &str,
 ) -> Result<(), Fail>
     requires range { IsSlaveInRange settings.now }
-    requires stock { IsStock (map (λ j. held (j.vtable, j.value)) stock.flags.items)
-        (map (λ j. held (j.vtable, j.value)) stock.gaps.items) }
+    requires stock { IsFreshStock held stock }
 {
     let mut sink = MemSink::new(alloc, Vec::new(alloc));
     sink.reserve(128)?;
@@ -201,8 +201,7 @@ fn host_with(alloc: Global, general: &str, event: &str, failing: u64) -> Result<
 }
 
 fn assert_row(rt: &impl Abort, alloc: Global, row: Row, stock: Stock) -> Result<(), Fail>
-    requires { IsStock (map (λ j. held (j.vtable, j.value)) stock.flags.items)
-        (map (λ j. held (j.vtable, j.value)) stock.gaps.items) }
+    requires { IsFreshStock held stock }
 {
     let (general, event, failing, (rounds, repeat), output) = row;
     let settings = settings(alloc, rounds.max(1), repeat.max(1).min(1000))?;

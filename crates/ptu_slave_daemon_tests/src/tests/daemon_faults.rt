@@ -7,7 +7,7 @@
 
 ghost use Rattle.std.specs.Prelude.{◌≤◌, length, map, IfOk};
 ghost use Rattle.ptu_config.specs.Limits.{IsSlaveInRange};
-ghost use Rattle.ptu_judges.specs.Held.{IsStock};
+ghost use Rattle.ptu_judges.specs.Boxes.{IsFreshStock};
 ghost use Rattle.ptu_outside.specs.MemoryPort.{FitAll};
 
 use super::daemon::{ANNOUNCE, ASK, SYNC, host_at, one_judge, settings};
@@ -28,8 +28,9 @@ const MASTER: u32 = 0x0a00_0001;
 const NEXT_ASK: &str = "0c120040040004000000000000000000000000000a0000000000001100010001057f\
      ffffffffffffffffffff00040006b0010000012c0004000600fc0000012c";
 
-/// The master grants both.
-const GRANT: &str = "0c120044040004000000000000000000000000000a0000000000000100010000057f\
+/// The master grants Announce and Sync.
+pub(crate) const GRANT: &str =
+    "0c120044040004000000000000000000000000000a0000000000000100010000057f\
      0a00000000000011000100050008b0010000012c00010005000800fc0000012c0001";
 
 /// The master cancels Sync.
@@ -150,8 +151,8 @@ fn arrival(alloc: Global, digits: &str) -> Result<Arrival, Fail>
     })
 }
 
-// What waits at a port of these datagrams of the master, of which there are at most two.
-fn arrivals(alloc: Global, datagrams: &[&str]) -> Result<Vec<Arrival>, Fail>
+/// What waits at a port of these datagrams of the master, of which there are at most two.
+pub(crate) fn arrivals(alloc: Global, datagrams: &[&str]) -> Result<Vec<Arrival>, Fail>
     ensures { IfOk result (λ list. FitAll list.items) }
 {
     match datagrams {
@@ -208,8 +209,7 @@ fn assert_run(
     stock: Stock,
 ) -> Result<(), Fail>
     requires range { IsSlaveInRange settings.now }
-    requires stock { IsStock (map (λ j. held (j.vtable, j.value)) stock.flags.items)
-        (map (λ j. held (j.vtable, j.value)) stock.gaps.items) }
+    requires stock { IsFreshStock held stock }
 {
     let mut sink = MemSink::new(alloc, case.writes.to_vec(alloc)?);
     assert!(rt; has_judges(settings, &stock));
@@ -221,8 +221,7 @@ fn assert_run(
 }
 
 fn assert_case(rt: &impl Abort, alloc: Global, case: &Case, stock: Stock) -> Result<(), Fail>
-    requires { IsStock (map (λ j. held (j.vtable, j.value)) stock.flags.items)
-        (map (λ j. held (j.vtable, j.value)) stock.gaps.items) }
+    requires { IsFreshStock held stock }
 {
     let settings = settings(alloc, case.rounds.max(1), 1)?;
     let mut host = host(alloc, case)?;

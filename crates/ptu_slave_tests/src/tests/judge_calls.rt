@@ -1,7 +1,7 @@
 //! The calls of a judge, as it writes them down itself.
 ghost use Rattle.std.specs.Prelude.{◌≡◌, false, IfOk, length};
 ghost use Rattle.ptu_judges.specs.Held.{flag_held};
-ghost use Rattle.ptu_slave.specs.Seen.{seen};
+ghost use Rattle.ptu_slave.specs.SeenBy.{seen_by};
 
 use super::slave::{Row, SECOND, config, play_all, slave_of_one};
 use ptu_judges::{Conduct, Judge};
@@ -94,7 +94,7 @@ fn new_listing(alloc: Global) -> Result<(Rc<Cell<Calls>>, Listing), Fail>
 // A slave of one master with such a judge, and the judge's list.
 fn slave_of_listing(alloc: Global) -> Result<(Rc<Cell<Calls>>, Slave<MemPort>), Fail>
     ensures { IfOk result (λ pair.
-        length (seen ⟦<dyn Judge as Judge>⟧ pair.1).kept.masters ≡ 1) }
+        length (seen_by held pair.1).kept.masters ≡ 1) }
 {
     let (calls, judge) = new_listing(alloc)?;
     let config = config()?;

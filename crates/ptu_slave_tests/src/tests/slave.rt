@@ -2,7 +2,7 @@
 ghost use Rattle.std.specs.Prelude.{◌≡◌, All, IfOk, length};
 ghost use Rattle.ptu_judges.specs.Held.{IsFresh};
 ghost use Rattle.ptu_profile.specs.Slave.{IsWithinLimits};
-ghost use Rattle.ptu_slave.specs.{Kept.{IsSame}, Seen.{seen}};
+ghost use Rattle.ptu_slave.specs.{Kept.{IsSame}, Seen.{seen}, SeenBy.{seen_by}};
 
 use ptu_header::PortIdentity;
 use ptu_judges::samples::OwnJudge;
@@ -82,8 +82,8 @@ fn play(
     nanos: u64,
     row: Row,
 ) -> Result<(), Fail>
-    ensures { IsSame (seen ⟦<dyn Judge as Judge>⟧ slave.old).kept
-        (seen ⟦<dyn Judge as Judge>⟧ slave.new).kept }
+    ensures { IsSame (seen_by held slave.old).kept
+        (seen_by held slave.new).kept }
 {
     let at = Moment::of(nanos).ok_or("below 2^62")?;
     let octets = match row {
@@ -105,8 +105,8 @@ pub(crate) fn play_all(
     slave: &mut Slave<MemPort>,
     rows: &[(u64, Row)],
 ) -> Result<(), Fail>
-    ensures { (seen ⟦<dyn Judge as Judge>⟧ slave.new).kept.masters
-        ≡ (seen ⟦<dyn Judge as Judge>⟧ slave.old).kept.masters }
+    ensures { (seen_by held slave.new).kept.masters
+        ≡ (seen_by held slave.old).kept.masters }
 {
     for &(nanos, row) in rows {
         play(rt, alloc, slave, nanos, row)?;
@@ -135,7 +135,7 @@ pub(crate) fn slave_of_one(
     requires limits { IsWithinLimits config }
     requires fresh { IsFresh (held judge) }
     ensures one { IfOk result (λ s.
-        length (seen ⟦<dyn Judge as Judge>⟧ s).kept.masters ≡ 1) }
+        length (seen held s).kept.masters ≡ 1) }
 {
     let masters = vec![in alloc;
         Master {

@@ -22,7 +22,7 @@ pub returns-in-Ok-clause-counts : goal.returns-in-Ok-clause-counts
 returns-in-Ok-clause-counts g c = λ script told.
     let reported = rw c.in-Ok.is at (c.run.ensures.whole (course_opening (stock_of c.args.stock.flags.items c.args.stock.gaps.items)) c.new-lab.ensures.opening script told) in
     let last = rw c.in-Ok.is at c.run.ensures.last in
-    numbers_told (λ n. seen (λ i. (g.dyn-1.0.entry i).1.Judge) n.slave) _ _ c.run.new.reporter.lab (stock_of c.args.stock.flags.items c.args.stock.gaps.items) script c.in-Ok.lines _
+    numbers_told (λ n. seen (λ j. (goal.Judge-dyn g (j.vtable, j.value)).Judge.held j.value) n.slave) _ _ c.run.new.reporter.lab (stock_of c.args.stock.flags.items c.args.stock.gaps.items) script c.in-Ok.lines _
     (last (course_opening (stock_of c.args.stock.flags.items c.args.stock.gaps.items)) c.new-lab.ensures.opening script told) reported.ends (c.count.ensures.count ∙ ap length c.sent.ensures) c.granted.ensures c.short.ensures
     (granted_within _ script) (short_within _ script)
 

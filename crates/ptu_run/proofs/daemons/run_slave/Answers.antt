@@ -1,6 +1,6 @@
 use Rattle.std.proofs.Common.{rules, ◌≡◌, length, refl}
 use Rattle.ptu_config.specs.{Entries.{slave_entries}, Refusals.{slave_refusal}}
-use Rattle.ptu_run.proofs.DaemonRuns.{no_audit_of_daemon, no_audit_of_refused, if_on_err, daemon_ended, refused_ended, unread_ended, opened_as, opened_on_ok, ran}
+use Rattle.ptu_run.proofs.DaemonRuns.{no_audit_of_daemon, no_audit_of_refused, if_on_err, daemon_ended, refused_ended, unread_ended, opened_as, opened_on_ok, ran, ran_refused}
 use Rattle.ptu_run.proofs.daemons.run_slave.Goals as goal
 
 pub returns-in-Ok-clause-ended : goal.returns-in-Ok-clause-ended
@@ -35,3 +35,14 @@ returns-in-Err-Refused-clause-ended g c =
 
 pub returns-in-Err-Read-clause-ended : goal.returns-in-Err-Read-clause-ended
 returns-in-Err-Read-clause-ended g c = unread_ended _ _ _ _ (rw c.in-Err-Read.field-0-is at c.in-Err-Read.ensures.counts)
+
+pub returns-in-Err-Refused-clause-followed : goal.returns-in-Err-Refused-clause-followed
+returns-in-Err-Refused-clause-followed g c =
+    let flags : c.len.result ≡ length c.args.stock.flags.items = search rules in
+    let gaps : c.len-2.result ≡ length c.args.stock.gaps.items = search rules in
+    let e = rw c.in-Err-Refused.field-0-is at c.in-Err-Refused.ensures in
+    rw (← flags, ← gaps)
+    (ran_refused slave_entries (slave_refusal c.len.result c.len-2.result) (g.S.Source.left c.args.source.now) (g.S.Source.left c.slave_setup.new.source)
+    g.K.Sink.written g.K.Sink.handed c.args.sink.now c.write_refusal.new.sink c.args.host.now c.args.host.now _ _ _ c.slave_setup.ensures.taken c.in-Err-Refused.line
+    (record { read = e.set_up; input = e.answers }) c.write_refusal.result c.write_refusal.ensures.statuses c.write_refusal.ensures.whole
+    c.write_refusal.ensures.part c.write_refusal.ensures.nothing refl)

@@ -13,4 +13,4 @@ returns-clause-judged g c =
 
 pub returns-clause-calls : goal.returns-clause-calls
 returns-clause-calls g c =
-    of_new (WasAsked (λ i. (g.dyn-1.0.entry i).1.Conduct) c.args.at c.ask.result) c.args.judges.now.items c.args.master c.args.judge _ _ c.requires.master c.index_mut-2.ensures.value c.ask.ensures.call
+    of_new (WasAsked (λ j. (goal.Judge-dyn g (j.vtable, j.value)).Conduct.finds j.value) c.args.at c.ask.result) c.args.judges.now.items c.args.master c.args.judge _ _ c.requires.master c.index_mut-2.ensures.value c.ask.ensures.call

@@ -1,4 +1,4 @@
-use Rattle.std.proofs.{Common.{[], ◌∙◌, Err, ap, map}, lemmas.Result.{err_from_is_err_and}}
+use Rattle.std.proofs.{Common.{[], ◌∙◌, Err, ap}, lemmas.Result.{err_from_is_err_and}}
 use Rattle.ptu_outside.proofs.Putting.{HasPutPart-none}
 use Rattle.ptu_slave.specs.Seen.{seen}
 use Rattle.ptu_slave_daemon.specs.Opening.{node_of}
@@ -19,7 +19,7 @@ returns-clause-served g c =
           rw w.written-is
           (has_served_by g.P.Port g.C.Clock g.K.Sink.written g.K.Sink.handed c.args.settings.now c.args.opened
           (given_back c.args.opened c.into_port.result c.run-answer.new.event c.run-answer.new.clock)
-          c.args.sink.now c.run-answer.new.sink (seen (λ i. (g.dyn-1.0.entry i).1.Judge) c.in_ok-slave.slave).kept (seen (λ i. (g.dyn-1.0.entry i).1.Judge) c.run-answer.new.slave).kept _ _ (seen (λ i. (g.dyn-1.0.entry i).1.Judge) c.in_ok-slave.slave).port (seen (λ i. (g.dyn-1.0.entry i).1.Judge) c.run-answer.new.slave).port d.0 d.1 d.2
+          c.args.sink.now c.run-answer.new.sink (seen (λ j. (goal.Judge-dyn g (j.vtable, j.value)).Judge.held j.value) c.in_ok-slave.slave).kept (seen (λ j. (goal.Judge-dyn g (j.vtable, j.value)).Judge.held j.value) c.run-answer.new.slave).kept _ _ (seen (λ j. (goal.Judge-dyn g (j.vtable, j.value)).Judge.held j.value) c.in_ok-slave.slave).port (seen (λ j. (goal.Judge-dyn g (j.vtable, j.value)).Judge.held j.value) c.run-answer.new.slave).port d.0 d.1 d.2
           (aside_of g.P.Port.sent c.args.opened c.into_port.result c.run-answer.new.event c.run-answer.new.clock c.run-answer.ensures.sent)
           c.in_ok-slave.ensures.port c.into_port.ensures d.3 (d.4 (node_of c.args.settings.now) [] c.in_ok-slave.ensures.stands))
       | in-Err+in-Write w ↦ rw w.written-is tt
@@ -35,8 +35,8 @@ returns-clause-front g c =
           rw w.written-is
           (has_stopped g.P.Port g.C.Clock g.K.Sink.written g.K.Sink.handed c.args.settings.now c.args.opened
           (given_back c.args.opened c.into_port.result c.run-answer.new.event c.run-answer.new.clock)
-          c.args.sink.now c.run-answer.new.sink (seen (λ i. (g.dyn-1.0.entry i).1.Judge) c.in_ok-slave.slave).kept (seen (λ i. (g.dyn-1.0.entry i).1.Judge) c.run-answer.new.slave).kept
-          (seen (λ i. (g.dyn-1.0.entry i).1.Judge) c.in_ok-slave.slave).judges (seen (λ i. (g.dyn-1.0.entry i).1.Judge) c.run-answer.new.slave).judges (seen (λ i. (g.dyn-1.0.entry i).1.Judge) c.in_ok-slave.slave).port (seen (λ i. (g.dyn-1.0.entry i).1.Judge) c.run-answer.new.slave).port d.0
+          c.args.sink.now c.run-answer.new.sink (seen (λ j. (goal.Judge-dyn g (j.vtable, j.value)).Judge.held j.value) c.in_ok-slave.slave).kept (seen (λ j. (goal.Judge-dyn g (j.vtable, j.value)).Judge.held j.value) c.run-answer.new.slave).kept
+          (seen (λ j. (goal.Judge-dyn g (j.vtable, j.value)).Judge.held j.value) c.in_ok-slave.slave).judges (seen (λ j. (goal.Judge-dyn g (j.vtable, j.value)).Judge.held j.value) c.run-answer.new.slave).judges (seen (λ j. (goal.Judge-dyn g (j.vtable, j.value)).Judge.held j.value) c.in_ok-slave.slave).port (seen (λ j. (goal.Judge-dyn g (j.vtable, j.value)).Judge.held j.value) c.run-answer.new.slave).port d.0
           (aside_of g.P.Port.sent c.args.opened c.into_port.result c.run-answer.new.event c.run-answer.new.clock c.run-answer.ensures.sent)
           c.in_ok-slave.ensures.port c.into_port.ensures d.1 (d.2 (node_of c.args.settings.now) [] c.in_ok-slave.ensures.stands))
     ]

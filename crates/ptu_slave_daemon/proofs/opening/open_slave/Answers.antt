@@ -21,6 +21,6 @@ new-requires-clause-judges g c =
 
 pub returns-clause-stands : goal.returns-clause-stands
 returns-clause-stands g c =
-    opened_at (λ j. (goal.Judge-dyn g (j.vtable, j.value)).Judge.held j.value) c.args.settings.now c.in_ok-judges.judges.items (seen (λ i. (g.dyn-1.0.entry i).1.Judge) c.in_ok-slave.slave).judges (seen (λ i. (g.dyn-1.0.entry i).1.Judge) c.in_ok-slave.slave).kept c.in_ok-masters.masters.items
+    opened_at (λ j. (goal.Judge-dyn g (j.vtable, j.value)).Judge.held j.value) c.args.settings.now c.in_ok-judges.judges.items (seen (λ j. (goal.Judge-dyn g (j.vtable, j.value)).Judge.held j.value) c.in_ok-slave.slave).judges (seen (λ j. (goal.Judge-dyn g (j.vtable, j.value)).Judge.held j.value) c.in_ok-slave.slave).kept c.in_ok-masters.masters.items
     (c.in_ok-judges.ensures ∙ ap (map (λ m. fresh (rule_of m))) c.list-2.ensures) c.in_ok-slave.ensures.judges
     (c.in_ok-slave.ensures.config ∙ c.new_config.ensures.config) (c.in_ok-masters.ensures ∙ ap (map master_of) c.list.ensures) c.in_ok-slave.ensures.masters c.in_ok-slave.ensures.stands

@@ -38,7 +38,7 @@ loop-before-preserved g c =
         λ node L h.
             let p = done.3 node L h in
             let q = c.in-Ok.ensures.ran node (record_after node L p.hs) (c.loop-before.before + 1) p.ran.stands in
-            done_more g.P.Port.counts_once node L _ _ _ _ c.loop-before.before _ _ _ _ _ _ _ _ done.0 s c.loop-before.counts c.happen.new.counts q.0 q.1 q.2 q.3 q.4 q.5 p q.6 q.7 q.8 q.9 q.10,
+            done_more g.P.Port.counts_once node L _ _ _ _ c.loop-before.before _ _ _ _ _ _ _ _ done.0 s c.loop-before.counts c.happen.new.counts q.0 q.1 q.2 q.3 q.4 q.5 q.6 p q.7 q.8 q.9 q.10 q.11,
       );
     }
 
@@ -70,7 +70,7 @@ returns-in_err-say-clause-stopped g c = λ is.
       λ node L h.
           let p = done.3 node L h in
           let q = c.in-Ok.ensures.ran node (record_after node L p.hs) (c.loop-before.before + 1) p.ran.stands in
-          done_more g.P.Port.counts_once node L _ _ _ _ c.loop-before.before _ _ _ _ _ _ _ _ done.0 s c.loop-before.counts c.happen.new.counts q.0 q.1 q.2 q.3 q.4 q.5 p q.6 q.7 q.8 q.9 q.10,
+          done_more g.P.Port.counts_once node L _ _ _ _ c.loop-before.before _ _ _ _ _ _ _ _ done.0 s c.loop-before.counts c.happen.new.counts q.0 q.1 q.2 q.3 q.4 q.5 q.6 p q.7 q.8 q.9 q.10 q.11,
     )
 
 pub returns-clause-done : goal.returns-clause-done

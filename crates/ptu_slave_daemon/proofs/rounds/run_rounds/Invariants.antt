@@ -13,6 +13,6 @@ invariant-loop-before g l = record {
   still : g.K.Sink.faults l.sink ≡ g.K.Sink.faults l.fn.sink;
   done : (selections : List Selection) × (l.said ≡ said_after None selections)
       × HasPut g.K.Sink.written g.K.Sink.handed l.fn.sink l.sink (texts_of (map selected_line (changes None selections)))
-      × Went g.P.Port g.C.Clock (seen (λ i. (g.dyn-1.0.entry i).1.Judge) l.fn.slave) (seen (λ i. (g.dyn-1.0.entry i).1.Judge) l.slave)
+      × Went g.P.Port g.C.Clock (seen (λ j. (goal.Judge-dyn g (j.vtable, j.value)).Judge.held j.value) l.fn.slave) (seen (λ j. (goal.Judge-dyn g (j.vtable, j.value)).Judge.held j.value) l.slave)
       l.fn.clock l.clock l.fn.event l.event (RoundsDone g.P.Port.counts_once l.before selections l.counts.sent l.counts.failed);
 }

@@ -1,7 +1,7 @@
 use Rattle.std.proofs.Common.{[], ◌∷◌, refl, ap, sym, subst, take}
 use Rattle.ptu_outside.specs.Telling.{IfTold, rest_told}
 use Rattle.ptu_slave.specs.{Seen.{Seen}, Seen.{seen}}
-use Rattle.ptu_slave_daemon.specs.{Running.{Stands, sees}, declared.counts.Counts.{Counts}}
+use Rattle.ptu_slave_daemon.specs.{Running.{Stands}, declared.counts.Counts.{Counts}}
 use Rattle.ptu_slave_daemon.proofs.Arrived.{counted_none, none_came, none_received, one_came, took_none}
 use Rattle.ptu_slave_daemon.proofs.{Ports.{failed_none, failed_once}, Runs.{ran_from}}
 use Rattle.ptu_slave_daemon.proofs.taking.take_general.Goals as goal
@@ -13,15 +13,17 @@ returns-in_ok-take-in-Ok-Some-clause-took g c = λ node L h.
       record { ip = c.in-Ok-Some.from; bytes = take c.in-Ok-Some.length c.receive.new.buf } ∷ [],
       t.0,
       t.1,
+      0,
       t.2,
-      one_came _ _ _ _ _ e.first (subst (λ w. IfTold w (rest_told (g.P.Port.waiting (seen (λ i. (g.dyn-1.0.entry i).1.Judge) c.args.slave.now).port))) (sym c.take.ensures.waiting) e.rest),
-      (t.3.0, ran_from g.P.Port.counts_once node L _ _ _ _ _ _ _ _ c.receive.ensures.sent e.quiet refl t.3.1),
+      one_came _ _ _ _ _ e.first (subst (λ w. IfTold w (rest_told (g.P.Port.waiting (seen (λ j. (goal.Judge-dyn g (j.vtable, j.value)).Judge.held j.value) c.args.slave.now).port))) (sym c.take.ensures.waiting) e.rest),
+      (t.3.0, ran_from g.P.Port.counts_once node L _ _ _ _ _ _ _ _ _ c.receive.ensures.sent e.quiet refl t.3.1),
     )
 
 pub returns-in-Ok-None-clause-took : goal.returns-in-Ok-None-clause-took
 returns-in-Ok-None-clause-took g c = λ node L h.
     let e = rw c.in-Ok-None.field-0-is at c.in-Ok-None.ensures in (
       [],
+      0,
       0,
       0,
       counted_none c.args.counts.now,
@@ -33,6 +35,7 @@ pub returns-in-Err-clause-took : goal.returns-in-Err-clause-took
 returns-in-Err-clause-took g c = λ node L h. (
   [],
   0,
+  1,
   1,
   (ap (λ (k : Counts). k.sent) c.add.ensures, ap (λ (k : Counts). k.failed) c.add.ensures),
   none_received _ _ _ _ c.in-Err.ensures.kept c.in-Err.ensures.risen,

@@ -9,7 +9,7 @@ returns-in-None g c = λ course stands.
 
 pub act-requires-clause-means : goal.act-requires-clause-means
 act-requires-clause-means g c =
-    found_means (λ n. seen (λ i. (g.dyn-1.0.entry i).1.Judge) n.slave) _ _ _ c.requires.means.0 c.args.ip c.in-Some.node.now c.requires.means.1 (sym c.in-Some.ensures.value)
+    found_means (λ n. seen (λ j. (goal.Judge-dyn g (j.vtable, j.value)).Judge.held j.value) n.slave) _ _ _ c.requires.means.0 c.args.ip c.in-Some.node.now c.requires.means.1 (sym c.in-Some.ensures.value)
 
 pub returns-in_ok-refused-in-Some : goal.returns-in_ok-refused-in-Some
 returns-in_ok-refused-in-Some g c = λ course stands.

@@ -7,10 +7,10 @@ use Rattle.ptu_lab.proofs.lab.Lab.set_up_slave.Goals as goal
 pub returns-in-Some-clause-made : goal.returns-in-Some-clause-made
 unfolding step
 returns-in-Some-clause-made g c = λ line course stands.
-    is_refused (λ n. seen (λ i. (g.dyn-1.0.entry i).1.Judge) n.slave) _ _ _ course c.args.setup.now.ip (new_slave c.args.setup.now) stands line _ _ c.in-Some.ensures
+    is_refused (λ n. seen (λ j. (goal.Judge-dyn g (j.vtable, j.value)).Judge.held j.value) n.slave) _ _ _ course c.args.setup.now.ip (new_slave c.args.setup.now) stands line _ _ c.in-Some.ensures
 
 pub returns-clause-made : goal.returns-clause-made
 unfolding step
 returns-clause-made g c = λ line course stands.
-    is_set_up (λ n. seen (λ i. (g.dyn-1.0.entry i).1.Judge) n.slave) _ _ _ course c.args.setup.now.ip (new_slave c.args.setup.now) stands _ line _ c.in_default.ensures
+    is_set_up (λ n. seen (λ j. (goal.Judge-dyn g (j.vtable, j.value)).Judge.held j.value) n.slave) _ _ _ course c.args.setup.now.ip (new_slave c.args.setup.now) stands _ line _ c.in_default.ensures
     (c.in_ok-node.ensures.ip, c.in_ok-node.ensures.stands) (λ q. c.in_ok-insert.ensures.updates.0 q) refl refl

@@ -8,7 +8,7 @@ use Rattle.ptu_lab.proofs.slave_node.SlaveNode.conclude.Goals as goal
 pub returns-clause-noted : goal.returns-clause-noted
 returns-clause-noted g c = λ openings L h.
     let ip = c.args.self.now.ip in
-    let old = (seen (λ i. (g.dyn-1.0.entry i).1.Judge) c.args.self.now.slave) in
+    let old = (seen (λ j. (goal.Judge-dyn g (j.vtable, j.value)).Judge.held j.value) c.args.self.now.slave) in
     let first = c.replace_port-port.ensures.rest_is in
     let second = c.replace_port.ensures.rest_is in
     let kept = ap (λ (s : Seen _ _). s.kept) second ∙ ap (λ (s : Seen _ _). s.kept) first in

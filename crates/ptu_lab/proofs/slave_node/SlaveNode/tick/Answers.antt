@@ -5,5 +5,5 @@ use Rattle.ptu_lab.proofs.slave_node.SlaveNode.tick.Goals as goal
 
 pub returns-clause-done : goal.returns-clause-done
 returns-clause-done g c =
-    plainly_ended c.conclude.result c.args.self.now.ip c.conclude.new.self.ip c.args.at Tick (seen (λ i. (g.dyn-1.0.entry i).1.Judge) c.args.self.now.slave) (seen (λ i. (g.dyn-1.0.entry i).1.Judge) c.tick.new.slave) (seen (λ i. (g.dyn-1.0.entry i).1.Judge) c.conclude.new.self.slave) c.args.journal.now c.conclude.new.journal
+    plainly_ended c.conclude.result c.args.self.now.ip c.conclude.new.self.ip c.args.at Tick (seen (λ j. (goal.Judge-dyn g (j.vtable, j.value)).Judge.held j.value) c.args.self.now.slave) (seen (λ j. (goal.Judge-dyn g (j.vtable, j.value)).Judge.held j.value) c.tick.new.slave) (seen (λ j. (goal.Judge-dyn g (j.vtable, j.value)).Judge.held j.value) c.conclude.new.self.slave) c.args.journal.now c.conclude.new.journal
     c.conclude.ensures.ip c.conclude.ensures.core c.conclude.ensures.judges (c.in_ok-tick.ensures c.args.self.now.ip) c.conclude.ensures.cleared c.conclude.ensures.noted

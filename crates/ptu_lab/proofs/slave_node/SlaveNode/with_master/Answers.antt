@@ -9,7 +9,7 @@ with_master-requires-clause-limits g c = c.requires.means.1.limits
 pub with_master-requires-clause-masters : goal.with_master-requires-clause-masters
 with_master-requires-clause-masters g c =
     let master : Master = record { ip = c.args.ip; priority = c.args.priority } in
-    masters_more (seen (λ i. (g.dyn-1.0.entry i).1.Judge) c.args.self.slave).kept.masters master c.requires.means.1.distinct c.requires.few c.requires.other
+    masters_more (seen (λ j. (goal.Judge-dyn g (j.vtable, j.value)).Judge.held j.value) c.args.self.slave).kept.masters master c.requires.means.1.distinct c.requires.few c.requires.other
 
 pub with_master-requires-clause-fresh : goal.with_master-requires-clause-fresh
 with_master-requires-clause-fresh g c =

@@ -2,12 +2,12 @@ use Rattle.std.proofs.Common.{◌∙◌, ◌<◌, ◌≡◌, ap, ap₂, length, 
 use Rattle.std.specs.{Option.{option_map}, Prelude.{IfSome}}
 use Rattle.ptu_record.specs.{Record.{event_moment}, Selection.{selected_master}}
 use Rattle.ptu_profile.specs.Slave.{address_of, priorities, timeouts}
-use Rattle.ptu_slave.specs.{Kept.{Kept}, Seen.{seen_by}}
+use Rattle.ptu_slave.specs.{Kept.{Kept}, Seen.{seen}}
 use Rattle.ptu_slave.proofs.{Selecting.{chosen_within, priorities_many}, Stepping.{moment_is}}
 use Rattle.ptu_slave.proofs.slave.Slave.selected_address.Goals as goal
 
 pub returns-clause-selected : goal.returns-clause-selected
-unfolding seen_by
+unfolding seen
 returns-clause-selected g c = λ openings L h.
     let masters = c.args.self.now.core.masters in
     let same = c.masters.ensures.masters ∙ ap (λ (k : Kept). k.masters) c.selected-place.ensures.same in

@@ -1,12 +1,12 @@
 use Rattle.std.proofs.Common.{ap, map, refl, subst}
 use Rattle.ptu_outside.specs.HandsOver.{HandsOver}
 use Rattle.ptu_slave_messages.specs.Sending.{all_ones, departure_of}
-use Rattle.ptu_slave.specs.{Kept.{Kept}, Seen.{seen_by}}
+use Rattle.ptu_slave.specs.{Kept.{Kept}, Seen.{seen}}
 use Rattle.ptu_slave.proofs.Stopping.{stop_states, stopped}
 use Rattle.ptu_slave.proofs.slave.Slave.stop.Goals as goal
 
 pub returns-clause-stopped : goal.returns-clause-stopped
-unfolding seen_by
+unfolding seen
 returns-clause-stopped g c =
     let handed = c.send_all-sends.ensures.sends.0 in
     record {

@@ -1,12 +1,12 @@
 use Rattle.std.proofs.Common.{◌∙◌, ap, length, map, subst}
 use Rattle.ptu_outside.specs.HandsOver.{HandsOver}
 use Rattle.ptu_slave_messages.specs.Sending.{all_ones, departure_of}
-use Rattle.ptu_slave.specs.{Kept.{Kept}, Seen.{seen_by}}
+use Rattle.ptu_slave.specs.{Kept.{Kept}, Seen.{seen}}
 use Rattle.ptu_slave.proofs.Ticking.{tick_states, ticked}
 use Rattle.ptu_slave.proofs.slave.Slave.tick.Goals as goal
 
 pub returns-clause-ticked : goal.returns-clause-ticked
-unfolding seen_by
+unfolding seen
 returns-clause-ticked g c =
     let judged = c.judge_all.ensures.judged in
     let handed = c.tick_all-sends.ensures.sends.0 in
