@@ -1,6 +1,6 @@
 -- Nothing that a grandmaster sends is a half of a Sync in two steps.
-use Rattle.std.proofs.Common.{◌≡◌, ◌≢◌, ℕ, ◌+◌, ◌%◌, Bool, true, false, cond, eqb, List, [], ◌∷◌, ◌++◌, map, length, Result, Ok, Err, refl, sym, ap, ◌∙◌, arith}
-use Rattle.std.specs.List.{AllByRecursion}
+use Rattle.std.proofs.Common.{◌≡◌, ◌≢◌, ℕ, ◌+◌, ◌%◌, Bool, true, false, cond, eqb, List, [], ◌∷◌, ◌++◌, map, length, Result, Ok, Err, refl, sym, ap, subst, ◌∙◌, arith}
+use Rattle.std.specs.List.{AllByRecursion, items_where_true}
 use Rattle.std.proofs.lemmas.Bool.{ne_eqb}
 use Rattle.ptu_units.specs.declared.kind.{Kind.{Kind}, Kind.TheVariants.{Announce, Sync, DelayResp}}
 use Rattle.ptu_units.specs.Kind.{code_of}
@@ -15,13 +15,15 @@ use Rattle.ptu_messages.specs.declared.message.Message.{Message}
 use Rattle.ptu_history.specs.{declared.client.Client.{Client}, Client.{table_of}}
 use Rattle.ptu_history.specs.{Core.{core_moment}, Counts.{counts}}
 use Rattle.ptu_history.specs.Events as events
-use Rattle.ptu_history.specs.{Events.{Answer}, History.{Record}}
+use Rattle.ptu_history.specs.{Events.{Answer}, History.{Record, Granted, Short, Ended, Shed, Looked, Sent}, Runs.{sequence_number}}
+use Rattle.ptu_history.specs.History as records
 use Rattle.ptu_history.specs.Live as live
 use Rattle.ptu_history.specs.{Shedding.{shed_grants}, Step.{delay_answer}}
 use Rattle.ptu_history.specs.Turns.{due_grants, message_of}
 use Rattle.ptu_profile.specs.declared.grandmaster.GmConfig.{GmConfig}
 use Rattle.ptu_shard.specs.Answered.{responses}
 use Rattle.ptu_messages.specs.Sent.{octets_sent}
+use Rattle.ptu_shared.specs.Histories.{AreMessages, IsMessage}
 use Rattle.ptu_shard.specs.Messages.{channel_of, departure_of, message_of_response, message_of_turn, response_of}
 use Rattle.ptu_gm_messages.specs.declared.heard.Heard.{Heard}
 use Rattle.ptu_gm_messages.specs.declared.heard.Heard.TheVariants as heard
@@ -149,6 +151,14 @@ whole_if_by : (b : Bool) (xs : List Departure) → AreWhole xs → AreWhole (con
 whole_if_by true xs h = h
 whole_if_by false xs h = tt
 
+-- of a list of messages, some are no halves where none is
+pub whole_some : (which : List Bool) (ds : List Departure) → AreWhole ds → AreWhole (items_where_true which ds)
+whole_some [] [] whole = tt
+whole_some [] (d ∷ ds) whole = tt
+whole_some (w ∷ which) [] whole = tt
+whole_some (true ∷ which) (d ∷ ds) whole = (whole.0, whole_some which ds whole.1)
+whole_some (false ∷ which) (d ∷ ds) whole = whole_some which ds whole.1
+
 whole_responses : (answer : Answer) (d : Departure) → is_half (step_at d) ≡ false → AreWhole (responses answer d)
 whole_responses events.Answered d h = (h, tt)
 whole_responses events.NoGrant d h = tt
@@ -199,6 +209,25 @@ pub whole_replies : (config : GmConfig) (exchanges : List Exchange) → AreWhole
 whole_replies config [] = tt
 whole_replies config (exchange ∷ exchanges) =
     whole_both (reply_in config exchange) _ (whole_with config _ (heard_in config exchange.datagram.bytes) (answers_of exchange)) (whole_replies config exchanges)
+
+-- ---- the messages of a table's history
+
+module _ (config : GmConfig) where
+  whole_of : (before : List Record) (x : ℕ) (c : Client) (k : Kind) (d : Departure) → IsMessage config before x c k d → is_half (step_at d) ≡ false
+  whole_of before x c Announce d is = ap (λ e. is_half (step_at e)) is ∙ whole_turned config x Announce (sequence_number before c Announce)
+  whole_of before x c Sync d is = ap (λ e. is_half (step_at e)) is ∙ whole_turned config x Sync (sequence_number before c Sync)
+  whole_of before x c DelayResp d (request, is) = ap (λ e. is_half (step_at e)) is ∙ whole_response config x c request
+
+  pub whole_messages : (before history : List Record) (ds : List Departure) → AreMessages config before history ds → AreWhole ds
+  whole_messages before [] ds are = subst AreWhole (sym are) tt
+  whole_messages before (Granted n c k l u ∷ rest) ds are = whole_messages (before ++ Granted n c k l u ∷ []) rest ds are
+  whole_messages before (Short n c ∷ rest) ds are = whole_messages (before ++ Short n c ∷ []) rest ds are
+  whole_messages before (Ended n c k ∷ rest) ds are = whole_messages (before ++ Ended n c k ∷ []) rest ds are
+  whole_messages before (records.Capacity n capacity ∷ rest) ds are = whole_messages (before ++ records.Capacity n capacity ∷ []) rest ds are
+  whole_messages before (Shed n c k ∷ rest) ds are = whole_messages (before ++ Shed n c k ∷ []) rest ds are
+  whole_messages before (Looked n i ∷ rest) ds are = whole_messages (before ++ Looked n i ∷ []) rest ds are
+  whole_messages before (Sent x c k ∷ rest) ds (first, others, is, message, later) =
+      subst AreWhole (sym is) (whole_of before x c k first message, whole_messages (before ++ Sent x c k ∷ []) rest others later)
 
 -- ---- replies and CANCELs are sent in two steps as they are
 

@@ -4,11 +4,12 @@ use Rattle.std.specs.{Prelude.{IfErr, OnOk}, List.{AllByRecursion, items_where_t
 use Rattle.ptu_outside.specs.declared.{clock.Clock.{Ghosts as Clocks}, endpoint.Endpoint.{Endpoint}}
 use Rattle.ptu_outside.specs.declared.{opened.Opened.{Opened}, port.Port.{Ghosts as Ports}, sink.Sink.{Ghosts as Sinks}}
 use Rattle.ptu_outside.specs.{Departure.{Departure}, Handing.{HasPut, HasPutFront}, Telling.{IfTold, append_told}}
-use Rattle.ptu_outside.specs.HandsOver.{SentOf}
+use Rattle.ptu_outside.specs.{Faults.{HasRisen}, HandsOver.{SentOf}}
 use Rattle.ptu_config.specs.{declared.settings.GmSettings.{GmSettings}, Rounds.{all_rounds}}
-use Rattle.ptu_rounds.specs.{Handed.{WasHanded}, Ports.{HaveNotRisen}}
+use Rattle.ptu_rounds.specs.{Handed.{SentPart, WasHanded}, Ports.{HaveNotRisen}}
 use Rattle.ptu_rounds.specs.declared.fault.DaemonFault.{DaemonFault}
 use Rattle.ptu_rounds.specs.declared.fault.DaemonFault.TheVariants as faults
+use Rattle.ptu_shared.specs.{Histories.{SendsLawfully}, Opening.{seen_of}}
 use Rattle.ptu_lanes.specs.{Sending.{GoesOn, WasSent}, Served.{ExchangedAll, ServesByLanes, faults_of, replies_around}}
 use Rattle.ptu_twostep.specs.{declared.two_host.Flags.{Flags}, Hosts.{clear, flagged_by, over, two_steps}}
 use Rattle.ptu_twostep.specs.declared.step.Step.TheVariants.{Other}
@@ -17,8 +18,8 @@ use Rattle.ptu_twostep.proofs.Pairs.{grown-pairs}
 use Rattle.ptu_daemon.specs.{Answers.{HasAnswered}, Events.{Given, config_of, served_events}}
 use Rattle.ptu_daemon.specs.Served.{Said, closing_line, numbers_in, opened_as, served_by}
 use Rattle.ptu_daemon.specs.Serving.{AreServed, HasServed, IsGiven, Serves, ServesEitherWay}
-use Rattle.ptu_daemon.specs.ServingInTwo.{AnswersBelow, AreSentBelow, AreSentInPairs, HasServedInTwo, IsSentInPairs, ServesInPairs}
-use Rattle.ptu_daemon.proofs.Halves.{AreOther, other_around, whole_sends}
+use Rattle.ptu_daemon.specs.ServingInTwo.{AnswersBelow, ArePairsBelow, AreSentBelow, AreSentInPairs, HasServedInTwo, IsSentInPairs, SendsBelow, ServesInPairs}
+use Rattle.ptu_daemon.proofs.Halves.{AreOther, AreWhole, other_around, whole_messages, whole_sends, whole_some}
 
 -- ---- datagrams at which a port may cease
 
@@ -118,10 +119,39 @@ module _ {P C : Type 0} (ports : Ports P) (clocks : Clocks C) (settings : GmSett
     below = sent_below before.p4 after.p4 flags.p4 _ s.exchanged.sent (other_around (config_of settings) s.exchanged.early s.exchanged.shed s.exchanged.late) s.exchanged.handed;
   }
 
+  -- a port below of a table was sent the pairs of the messages of its history
+  pairs_below : (before after : P) (flag : Bool) (j : ℕ)
+      (s : SendsLawfully (two_steps ports) (config_of settings) j (seen_of (two_steps ports) (over false before)) (seen_of (two_steps ports) (over flag after))) →
+      ArePairsBelow ports before after flag s.messages s.sent
+  pairs_below before after flag j s =
+      let whole : AreWhole s.messages = whole_messages (config_of settings) [] s.history s.messages s.are in
+      record {
+        all = λ still. one_paired before after flag s.messages whole (s.part.all still) (s.goes_on still);
+        which = s.part.some.which;
+        each = s.part.some.each;
+        many = s.part.some.many;
+        some = λ tells.
+            let told = some_told (told_by flag (ports.sent after)) tells in
+            grown-pairs (ports.sent before) (ports.sent after) false flag (items_where_true s.part.some.which s.messages) told.0
+            (whole_some s.part.some.which s.messages whole) told.1 s.part.some.told;
+      }
+
+  sends_below : (before after : Opened P C) (flags : Flags) (said : Said) →
+      ServesByLanes (two_steps ports) clocks settings (config_of settings) (flagged_by clear before) (flagged_by flags after) (numbers_in said) →
+      SendsBelow ports settings before after flags
+  sends_below before after flags said s = record {
+    lawful = s.lawful;
+    p0 = pairs_below before.p0 after.p0 flags.p0 0 s.lawful.p0;
+    p1 = pairs_below before.p1 after.p1 flags.p1 1 s.lawful.p1;
+    p2 = pairs_below before.p2 after.p2 flags.p2 2 s.lawful.p2;
+    p3 = pairs_below before.p3 after.p3 flags.p3 3 s.lawful.p3;
+  }
+
   below_either : (before after : Opened P C) (flags : Flags) (said : Said) →
       ServesEitherWay (two_steps ports) clocks settings (flagged_by clear before) (flagged_by flags after) said →
-      AnswersBelow ports clocks settings before after flags said ⊎ ServesInPairs ports clocks settings before after
-  below_either before after flags said (inl lanes) = inl (answers_below before after flags said lanes)
+      (AnswersBelow ports clocks settings before after flags said × SendsBelow ports settings before after flags)
+      ⊎ ServesInPairs ports clocks settings before after
+  below_either before after flags said (inl lanes) = inl (answers_below before after flags said lanes, sends_below before after flags said lanes)
   below_either before after flags said (inr one) = inr (λ given told still. paired before after flags said given (one.served given told still))
 
   pub in_two : (opening back : Option (Opened P C)) (flags : Flags) (said : Said) →

@@ -60,7 +60,7 @@ served_said settings given =
 
 -- those of them that lanes come to
 abbrev pub numbers_in : Said → Numbers
-numbers_in said = record { failed = said.failed; granted = said.granted; refused = said.refused; held = said.held }
+numbers_in said = record { sent = said.sent; failed = said.failed; granted = said.granted; refused = said.refused; held = said.held }
 
 -- the numbers of a closing line
 abbrev pub said_by : Closing → Said

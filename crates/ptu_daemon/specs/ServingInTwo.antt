@@ -1,10 +1,10 @@
 -- What a call that serves in two steps has done with the ports and clocks of the host below.
-use Rattle.std.specs.Prelude.{◌≡◌, ◌⊎◌, ◌≤◌, ℕ, Bool, false, List, Option, Some, IsSome, option_map}
-use Rattle.std.specs.List.{AllByRecursion}
+use Rattle.std.specs.Prelude.{◌≡◌, ◌⊎◌, ◌≤◌, ℕ, Bool, false, List, length, Option, Some, IsSome, option_map}
+use Rattle.std.specs.List.{AllByRecursion, items_where_true}
 use Rattle.ptu_outside.specs.declared.{clock.Clock.{Ghosts as Clocks}, opened.Opened.{Opened}}
 use Rattle.ptu_outside.specs.{declared.port.Port.{Ghosts as Ports}, Departure.{Departure}, Telling.{append_told}}
 use Rattle.ptu_outside.specs.{Faults.{HasRisen}, HandsOver.{SentOf}}
-use Rattle.ptu_lanes.specs.Served.{ExchangedAll, faults_of, replies_around}
+use Rattle.ptu_lanes.specs.Served.{ExchangedAll, TablesSentLawfully, faults_of, replies_around, seen_at}
 use Rattle.ptu_config.specs.declared.settings.GmSettings.{GmSettings}
 use Rattle.ptu_rounds.specs.Ports.{HaveNotRisen}
 use Rattle.ptu_twostep.specs.{declared.two_host.Flags.{Flags}, Hosts.{clear, flagged_by, over, two_steps}}
@@ -50,6 +50,25 @@ pub record AnswersBelow {P C : Type 0} (ports : Ports P) (clocks : Clocks C) (se
   pub below : AreSentBelow ports before.p4 after.p4 flags.p4 (replies_around (config_of settings) exchanged.early exchanged.shed exchanged.late)
       exchanged.sent
 
+-- a port below was sent the pairs of so many of these, which are no halves: of all, where its count did not rise, it told a whole list
+-- before, and it may cease to tell at none of the pairs; and of so many in order, whatever failed, where its list is told and whole
+-- after them, too, and the flag of the port in two steps is clear
+pub record ArePairsBelow {P : Type 0} (ports : Ports P) (before after : P) (flag : Bool) (datagrams : List Departure) (sent : ℕ) : Type 0 where
+  pub all : ¬ HasRisen (ports.faults before) (ports.faults after) → IsSentInPairs ports before after datagrams
+  pub which : List Bool
+  pub each : length which ≡ length datagrams
+  pub many : length (items_where_true which datagrams) ≡ sent
+  pub some : IsSome (told_by flag (ports.sent after)) → ports.sent after ≡ append_told (ports.sent before) (pairs (items_where_true which datagrams))
+
+-- by lanes: over the ports of the tables in two steps what each was sent are messages of a history of its table, and the port below was
+-- sent the pairs of these
+pub record SendsBelow {P C : Type 0} (ports : Ports P) (settings : GmSettings) (before after : Opened P C) (flags : Flags) : Type 0 where
+  pub lawful : TablesSentLawfully (two_steps ports) (config_of settings) (seen_at (two_steps ports) (flagged_by clear before)) (flagged_by flags after)
+  pub p0 : ArePairsBelow ports before.p0 after.p0 flags.p0 lawful.p0.messages lawful.p0.sent
+  pub p1 : ArePairsBelow ports before.p1 after.p1 flags.p1 lawful.p1.messages lawful.p1.sent
+  pub p2 : ArePairsBelow ports before.p2 after.p2 flags.p2 lawful.p2.messages lawful.p2.sent
+  pub p3 : ArePairsBelow ports before.p3 after.p3 flags.p3 lawful.p3.messages lawful.p3.sent
+
 -- where a host that told that it opens `opening` tells that it was given `back`: over ports in two steps of these it was served so
 pub record HasServedInTwo {P C : Type 0} (ports : Ports P) (clocks : Clocks C) (settings : GmSettings) (opening back : Option (Opened P C)) (said : Said) : Type 0 where
   -- the flags of the ports in two steps as they were given back: those of the opening are clear
@@ -60,4 +79,5 @@ pub record HasServedInTwo {P C : Type 0} (ports : Ports P) (clocks : Clocks C) (
       ServesInPairs ports clocks settings before after
   -- by lanes, or on one thread where a lane is refused its thread
   pub by_lanes : 1 ≤ settings.senders → (before after : Opened P C) → opening ≡ Some before → back ≡ Some after →
-      AnswersBelow ports clocks settings before after flags said ⊎ ServesInPairs ports clocks settings before after
+      (AnswersBelow ports clocks settings before after flags said × SendsBelow ports settings before after flags)
+      ⊎ ServesInPairs ports clocks settings before after

@@ -1,16 +1,17 @@
 -- The rounds before a change of capacity, the CANCELs, and the other rounds, one after the other.
 use Rattle.std.proofs.Common.{◌≡◌, ◌∙◌, ℕ, suc, zero, ◌+◌, ◌*◌, ◌-◌, ◌^◌, ◌≤◌, min, Bool, true, ◌++◌, List, [], ◌∷◌, length, length-append, take, drop, refl, sym, ap, subst, arith, Option, Some, None, Result, Ok, Err}
-use Rattle.std.specs.{Prelude.{IfNone, IfOk, IfSome}, List.{All}}
+use Rattle.std.specs.{Prelude.{IfNone, IfOk, IfSome, option_map}, List.{All, items_where_true}}
 use Rattle.std.proofs.lemmas.{List.{append-nil, drop-drop, map-append}, List.Elements.{All-append}}
 use Rattle.std.proofs.{lemmas.List.Sums.{sum_by-append}, Math.Seq.{take-add}}
 use Rattle.ptu_units.specs.declared.kind.Kind.{Kind}
 use Rattle.ptu_outside.specs.declared.{arrival.Arrival.{Arrival}, opened.Opened.{Opened}}
 use Rattle.ptu_outside.specs.declared.{clock.Clock.{Ghosts as Clocks}, port.Port.{Ghosts as Ports}}
-use Rattle.ptu_outside.specs.{Faults.{HasRisen, HasNotFallen}, HandsOver.{HandsOver}}
+use Rattle.ptu_outside.specs.{Departure.{Departure}, Telling.{IfTold}}
+use Rattle.ptu_outside.specs.{Faults.{HasRisen, HasNotFallen}, HandsOver.{HandsOver, SentOf}}
 use Rattle.ptu_outside.proofs.HandsOver.{goes_on_both, none_failed, not_fallen_both, rises_first, rises_second, told_both}
 use Rattle.ptu_history.specs.declared.client.Client.{Client}
 use Rattle.ptu_profile.specs.declared.grandmaster.GmConfig.{GmConfig}
-use Rattle.ptu_shared.specs.{Opening.{HaveFailed, Seen, seen_of}, Seats.{Counts, no_verdicts}}
+use Rattle.ptu_shared.specs.{Histories.{SendsLawfully}, Opening.{HaveFailed, Seen, seen_of}, Seats.{Counts, no_verdicts}}
 use Rattle.ptu_shared.proofs.Failing.{failed-append, failed_hands, failed_none}
 use Rattle.ptu_gm_messages.specs.Replies.{cancels_to}
 use Rattle.ptu_config.specs.{declared.settings.GmSettings.{GmSettings}, Rounds.{all_rounds}}
@@ -20,8 +21,8 @@ use Rattle.ptu_lanes.specs.declared.{lanes.Lanes.{Lanes}, serving.Totals.{Totals
 use Rattle.ptu_lanes.specs.Crew.{LanesServed, ServedSignaling}
 use Rattle.ptu_lanes.specs.Rounds.{Exchange, Exchanged, IsAnswered, answers_of, asks_in, datagrams, grants_in, items_of, replies}
 use Rattle.ptu_lanes.specs.{Sending.{GoesOn, WasSent}, Waiting.{PassedBy}}
-use Rattle.ptu_lanes.specs.Changing.{change_moments, change_of, early_rounds, greatest_capacity, moments_to, rounds_before}
-use Rattle.ptu_lanes.specs.Served.{ExchangedAll, IsControlled, ServesByLanes, TablesAreBack, numbers_of, replies_around, waits_of}
+use Rattle.ptu_lanes.specs.Changing.{change_moments, change_of, early_rounds, greatest_capacity, last_capacity, moments_to, rounds_before}
+use Rattle.ptu_lanes.specs.Served.{ExchangedAll, IsControlled, ServesByLanes, TablesAreBack, TablesSent, TablesSentLawfully, numbers_of, replies_around, seen_at, waits_of}
 use Rattle.ptu_lanes.specs.Stretches.{AreRounds, CountsFailures, TookSignaling}
 use Rattle.ptu_lanes.proofs.{Exchanges.{exchanges_more}, Handing.{handed-append, handed_of}, Moments.{passed-append, passed_as}}
 use Rattle.ptu_lanes.proofs.Stretching.{counts_more, some_more, told_is}
@@ -135,15 +136,15 @@ controlled_some ports settings config capacity e l shed p0 p1 p2 p3 left old sea
     }
 
 -- rounds, the CANCELs of a change, and rounds, over the counts of faults of the port
-pub controlled_changed : {P C : Type 0} (ports : Ports P) (clocks : Clocks C) (settings : GmSettings) (config : GmConfig) (capacity e l : ℕ) (p0 p1 p2 p3 : P) (c0 c1 c2 c3 : C) (first seat next last : Counts) (f0 f1 f2 f3 : ℕ) →
+pub controlled_changed : {P C : Type 0} (ports : Ports P) (clocks : Clocks C) (settings : GmSettings) (config : GmConfig) (capacity e l : ℕ) (p0 p1 p2 p3 : P) (c0 c1 c2 c3 : C) (first seat next last : Counts) (g0 g1 g2 g3 f0 f1 f2 f3 : ℕ) →
     change_of settings ≡ Some capacity → e ≡ settings.change_round - 1 → e + l ≡ (all_rounds settings) → first ≡ no_verdicts →
-    TookSignaling ports clocks (greatest_capacity settings) config e p0 p1 c0 c1 first seat f0 f1 →
+    TookSignaling ports clocks (greatest_capacity settings) config e p0 p1 c0 c1 first seat g0 g1 f0 f1 →
     (shed : List (Client × Kind)) × (sent : ℕ) × (failed : ℕ) × HandsOver ports p1 p2 (cancels_to config 0 shed) sent failed
-    × (f2 ≡ min (f1 + failed) (2 ^ 64 - 1)) → next ≡ seat →
-    TookSignaling ports clocks (greatest_capacity settings) config l p2 p3 c2 c3 next last f2 f3 →
+    × (g2 ≡ min (g1 + sent) (2 ^ 128 - 1)) × (f2 ≡ min (f1 + failed) (2 ^ 64 - 1)) → next ≡ seat →
+    TookSignaling ports clocks (greatest_capacity settings) config l p2 p3 c2 c3 next last g2 g3 f2 f3 →
     ¬ HasRisen (ports.faults p0) (ports.faults p3) →
     IfSome (ports.waiting p3) (λ later. IsControlled ports settings config p0 p3 later last.granted last.refused)
-controlled_changed ports clocks settings config capacity e l p0 p1 p2 p3 c0 c1 c2 c3 first seat next last f0 f1 f2 f3 some early_is all_is fresh p (shed, sent, failed, hands, counted) same_seat q still =
+controlled_changed ports clocks settings config capacity e l p0 p1 p2 p3 c0 c1 c2 c3 first seat next last g0 g1 g2 g3 f0 f1 f2 f3 some early_is all_is fresh p (shed, sent, failed, hands, goes, counted) same_seat q still =
     some_more (ports.waiting p3) _ _
     (λ left late. controlled_some ports settings config capacity e l shed p0 p1 p2 p3 left first seat last sent failed some early_is all_is fresh (p.did still1) hands still2
     (subst (λ s. AreRounds ports (greatest_capacity settings) config l p2 p3 left s last) same_seat late))
@@ -168,14 +169,14 @@ controlled_changed ports clocks settings config capacity e l p0 p1 p2 p3 c0 c1 c
     still3 rises = still (rises_second _ _ _ (not_fallen_both _ _ _ f01 f12) rises)
 
 -- what was taken in both stretches, and what was sent there and in the change between them
-pub exchanged_changed : {P C : Type 0} (ports : Ports P) (clocks : Clocks C) (settings : GmSettings) (config : GmConfig) (capacity e l : ℕ) (p0 p1 p2 p3 : P) (c0 c1 c2 c3 : C) (first seat next last : Counts) (f0 f1 f2 f3 : ℕ) →
+pub exchanged_changed : {P C : Type 0} (ports : Ports P) (clocks : Clocks C) (settings : GmSettings) (config : GmConfig) (capacity e l : ℕ) (p0 p1 p2 p3 : P) (c0 c1 c2 c3 : C) (first seat next last : Counts) (g0 g1 g2 g3 f0 f1 f2 f3 : ℕ) →
     change_of settings ≡ Some capacity → e ≡ settings.change_round - 1 → e + l ≡ (all_rounds settings) → first ≡ no_verdicts →
-    TookSignaling ports clocks (greatest_capacity settings) config e p0 p1 c0 c1 first seat f0 f1 →
-    (shed : List (Client × Kind)) × (sent : ℕ) × (failed : ℕ) × HandsOver ports p1 p2 (cancels_to config 0 shed) sent failed
-    × (f2 ≡ min (f1 + failed) (2 ^ 64 - 1)) → PassedBy 1 (clocks.moments c1) (clocks.moments c2) → next ≡ seat →
-    TookSignaling ports clocks (greatest_capacity settings) config l p2 p3 c2 c3 next last f2 f3 →
-    ExchangedAll ports clocks settings config p0 p3 c0 c3 last.granted last.refused
-exchanged_changed ports clocks settings config capacity e l p0 p1 p2 p3 c0 c1 c2 c3 first seat next last f0 f1 f2 f3 some early_is all_is fresh p (shed, sent, failed, hands, counted) moved same_seat q =
+    (p : TookSignaling ports clocks (greatest_capacity settings) config e p0 p1 c0 c1 first seat g0 g1 f0 f1) →
+    (sends : (shed : List (Client × Kind)) × (sent : ℕ) × (failed : ℕ) × HandsOver ports p1 p2 (cancels_to config 0 shed) sent failed
+    × (g2 ≡ min (g1 + sent) (2 ^ 128 - 1)) × (f2 ≡ min (f1 + failed) (2 ^ 64 - 1))) → PassedBy 1 (clocks.moments c1) (clocks.moments c2) → next ≡ seat →
+    (q : TookSignaling ports clocks (greatest_capacity settings) config l p2 p3 c2 c3 next last g2 g3 f2 f3) →
+    (e : ExchangedAll ports clocks settings config p0 p3 c0 c3 last.granted last.refused) × (e.sent ≡ (p.sent + sends.1) + q.sent)
+exchanged_changed ports clocks settings config capacity e l p0 p1 p2 p3 c0 c1 c2 c3 first seat next last g0 g1 g2 g3 f0 f1 f2 f3 some early_is all_is fresh p (shed, sent, failed, hands, goes, counted) moved same_seat q =
     let x = p.exchanged in
     let y = q.exchanged in
     let early_rounds_are : early_rounds settings ≡ e = changed_rounds settings capacity some ∙ sym early_is in
@@ -185,45 +186,47 @@ exchanged_changed ports clocks settings config capacity e l p0 p1 p2 p3 c0 c1 c2
     let same_refused : next.refused ≡ seat.refused = ap (λ (c : Counts). c.refused) same_seat in
     let moment : change_moments settings ≡ 1 = ap moments_to some in
     let all : length (x.exchanges ++ y.exchanges) ≡ length x.exchanges + length y.exchanges = length-append x.exchanges y.exchanges in
-    let cancels = cancels_to config 0 shed in
-    record {
-      early = x.exchanges;
-      shed = shed;
-      late = y.exchanges;
-      early_few = omega (arith, x.few, early_rounds_are);
-      late_few = omega (arith, y.few, early_rounds_are, all_is);
-      few = omega (arith, x.few, y.few, all, all_is);
-      unchanged = some_change (change_of settings) capacity shed some;
-      given = exchanges_more x.exchanges y.exchanges (ports.waiting p0) (ports.waiting p2) (ports.waiting p3)
-          (subst (λ told. IfSome told (λ later. ports.waiting p0 ≡ Some (datagrams x.exchanges ++ later))) (sym hands.waiting) x.given) y.given;
-      answered = All-append (IsAnswered (greatest_capacity settings) config) x.exchanges y.exchanges x.answered y.answered;
-      granted_are = let a = x.granted in let b = y.granted in omega (arith, granted, same_granted, a, b, grants_in-append x.exchanges y.exchanges);
-      counted = let a = x.counted in let b = y.counted in omega (arith, granted, refused, same_granted, same_refused, a, b, asks_in-append config x.exchanges y.exchanges);
-      moments = passed_as ((length x.exchanges + 1) + length y.exchanges) (length (x.exchanges ++ y.exchanges) + change_moments settings) _ _ (omega (arith, all, moment))
-          (passed-append (length x.exchanges + 1) (length y.exchanges) (clocks.moments c0) (clocks.moments c2) (clocks.moments c3)
-          (passed-append (length x.exchanges) 1 (clocks.moments c0) (clocks.moments c1) (clocks.moments c2) x.moments moved) y.moments);
-      sent = (p.sent + sent) + q.sent;
-      handed = handed-append ports p0 p2 p3 (replies config x.exchanges ++ cancels) (replies config y.exchanges) (p.sent + sent) q.sent
-          (not_fallen_both _ _ _ x.failures.no_fall hands.no_fall) y.failures.no_fall
-          (handed-append ports p0 p1 p2 (replies config x.exchanges) cancels p.sent sent x.failures.no_fall hands.no_fall x.handed (handed_of ports p1 p2 cancels sent failed hands))
-          y.handed;
-      missed = x.missed + y.missed;
-      once = omega (arith, x.once, y.once, all_is);
-      failed = (p.more + failed) + q.more;
-      each =
-          let a = x.each in let b = y.each in let h = hands.each in
-          let sum : length (replies_around config x.exchanges shed y.exchanges) ≡ length (replies config x.exchanges) + length (cancels_to config 0 shed) + length (replies config y.exchanges) =
-          length-append (replies config x.exchanges ++ cancels_to config 0 shed) (replies config y.exchanges)
-          ∙ ap (λ n. n + length (replies config y.exchanges)) (length-append (replies config x.exchanges) (cancels_to config 0 shed)) in
-          omega (arith, a, b, h, sum);
-      failures = failed-append ports.counts_once (p.more + failed) q.more (ports.faults p0) (ports.faults p2) (ports.faults p3)
-          (failed-append ports.counts_once p.more failed (ports.faults p0) (ports.faults p1) (ports.faults p2) x.failures (failed_hands ports p1 p2 cancels sent failed hands))
-          y.failures;
-    }
+    let cancels = cancels_to config 0 shed in (
+      record {
+        early = x.exchanges;
+        shed = shed;
+        late = y.exchanges;
+        early_few = omega (arith, x.few, early_rounds_are);
+        late_few = omega (arith, y.few, early_rounds_are, all_is);
+        few = omega (arith, x.few, y.few, all, all_is);
+        unchanged = some_change (change_of settings) capacity shed some;
+        given = exchanges_more x.exchanges y.exchanges (ports.waiting p0) (ports.waiting p2) (ports.waiting p3)
+            (subst (λ told. IfSome told (λ later. ports.waiting p0 ≡ Some (datagrams x.exchanges ++ later))) (sym hands.waiting) x.given) y.given;
+        answered = All-append (IsAnswered (greatest_capacity settings) config) x.exchanges y.exchanges x.answered y.answered;
+        granted_are = let a = x.granted in let b = y.granted in omega (arith, granted, same_granted, a, b, grants_in-append x.exchanges y.exchanges);
+        counted = let a = x.counted in let b = y.counted in omega (arith, granted, refused, same_granted, same_refused, a, b, asks_in-append config x.exchanges y.exchanges);
+        moments = passed_as ((length x.exchanges + 1) + length y.exchanges) (length (x.exchanges ++ y.exchanges) + change_moments settings) _ _ (omega (arith, all, moment))
+            (passed-append (length x.exchanges + 1) (length y.exchanges) (clocks.moments c0) (clocks.moments c2) (clocks.moments c3)
+            (passed-append (length x.exchanges) 1 (clocks.moments c0) (clocks.moments c1) (clocks.moments c2) x.moments moved) y.moments);
+        sent = (p.sent + sent) + q.sent;
+        handed = handed-append ports p0 p2 p3 (replies config x.exchanges ++ cancels) (replies config y.exchanges) (p.sent + sent) q.sent
+            (not_fallen_both _ _ _ x.failures.no_fall hands.no_fall) y.failures.no_fall
+            (handed-append ports p0 p1 p2 (replies config x.exchanges) cancels p.sent sent x.failures.no_fall hands.no_fall x.handed (handed_of ports p1 p2 cancels sent failed hands))
+            y.handed;
+        missed = x.missed + y.missed;
+        once = omega (arith, x.once, y.once, all_is);
+        failed = (p.more + failed) + q.more;
+        each =
+            let a = x.each in let b = y.each in let h = hands.each in
+            let sum : length (replies_around config x.exchanges shed y.exchanges) ≡ length (replies config x.exchanges) + length (cancels_to config 0 shed) + length (replies config y.exchanges) =
+            length-append (replies config x.exchanges ++ cancels_to config 0 shed) (replies config y.exchanges)
+            ∙ ap (λ n. n + length (replies config y.exchanges)) (length-append (replies config x.exchanges) (cancels_to config 0 shed)) in
+            omega (arith, a, b, h, sum);
+        failures = failed-append ports.counts_once (p.more + failed) q.more (ports.faults p0) (ports.faults p2) (ports.faults p3)
+            (failed-append ports.counts_once p.more failed (ports.faults p0) (ports.faults p1) (ports.faults p2) x.failures (failed_hands ports p1 p2 cancels sent failed hands))
+            y.failures;
+      },
+      refl,
+    )
 
 pub exchanged_unchanged : {P C : Type 0} (ports : Ports P) (clocks : Clocks C) (settings : GmSettings) (config : GmConfig) (sent failed : ℕ) (p0 p1 : P) (c0 c1 : C) (old new : Counts) →
     change_of settings ≡ None → old ≡ no_verdicts → Exchanged ports clocks (greatest_capacity settings) config (all_rounds settings) sent failed p0 p1 c0 c1 old new →
-    ExchangedAll ports clocks settings config p0 p1 c0 c1 new.granted new.refused
+    (e : ExchangedAll ports clocks settings config p0 p1 c0 c1 new.granted new.refused) × (e.sent ≡ sent)
 exchanged_unchanged ports clocks settings config sent failed p0 p1 c0 c1 old new none fresh x =
     let rounds : early_rounds settings ≡ (all_rounds settings) = unchanged_rounds settings none in
     let granted : old.granted ≡ 0 = ap (λ (c : Counts). c.granted) fresh in
@@ -231,31 +234,33 @@ exchanged_unchanged ports clocks settings config sent failed p0 p1 c0 c1 old new
     let moment : change_moments settings ≡ 0 = ap moments_to none in
     let all : x.exchanges ++ [] ≡ x.exchanges = append-nil x.exchanges in
     let sends : replies config x.exchanges ++ [] ++ [] ≡ replies config x.exchanges =
-    append-nil (replies config x.exchanges ++ []) ∙ append-nil (replies config x.exchanges) in
-    record {
-      early = x.exchanges;
-      shed = [];
-      late = [];
-      early_few = omega (arith, x.few, rounds);
-      late_few = omega arith;
-      few = omega (arith, x.few, ap length all);
-      unchanged = no_change (change_of settings);
-      given = subst (λ xs. IfSome (ports.waiting p1) (λ later. ports.waiting p0 ≡ Some (datagrams xs ++ later))) (sym all) x.given;
-      answered = subst (All (IsAnswered (greatest_capacity settings) config)) (sym all) x.answered;
-      granted_are = let a = x.granted in omega (arith, granted, a, ap grants_in all);
-      counted = let a = x.counted in omega (arith, granted, refused, a, ap (λ es. asks_in config (datagrams es)) all);
-      moments = passed_as (length x.exchanges) (length (x.exchanges ++ []) + change_moments settings) _ _ (omega (arith, moment, ap length all)) x.moments;
-      sent = sent;
-      handed = subst (λ ds. WasHanded ports p0 p1 ds sent) (sym sends) x.handed;
-      missed = x.missed;
-      once = x.once;
-      failed = failed;
-      each =
-          let a = x.each in
-          let sum : length (replies_around config x.exchanges [] []) ≡ length (replies config x.exchanges) = ap length sends in
-          omega (arith, a, sum);
-      failures = x.failures;
-    }
+    append-nil (replies config x.exchanges ++ []) ∙ append-nil (replies config x.exchanges) in (
+      record {
+        early = x.exchanges;
+        shed = [];
+        late = [];
+        early_few = omega (arith, x.few, rounds);
+        late_few = omega arith;
+        few = omega (arith, x.few, ap length all);
+        unchanged = no_change (change_of settings);
+        given = subst (λ xs. IfSome (ports.waiting p1) (λ later. ports.waiting p0 ≡ Some (datagrams xs ++ later))) (sym all) x.given;
+        answered = subst (All (IsAnswered (greatest_capacity settings) config)) (sym all) x.answered;
+        granted_are = let a = x.granted in omega (arith, granted, a, ap grants_in all);
+        counted = let a = x.counted in omega (arith, granted, refused, a, ap (λ es. asks_in config (datagrams es)) all);
+        moments = passed_as (length x.exchanges) (length (x.exchanges ++ []) + change_moments settings) _ _ (omega (arith, moment, ap length all)) x.moments;
+        sent = sent;
+        handed = subst (λ ds. WasHanded ports p0 p1 ds sent) (sym sends) x.handed;
+        missed = x.missed;
+        once = x.once;
+        failed = failed;
+        each =
+            let a = x.each in
+            let sum : length (replies_around config x.exchanges [] []) ≡ length (replies config x.exchanges) = ap length sends in
+            omega (arith, a, sum);
+        failures = x.failures;
+      },
+      refl,
+    )
 
 -- what failed, from a count of nothing on
 pub failed_from : {P : Type 0} (ports : Ports P) (p0 p1 : P) (f0 f1 : ℕ) → f0 ≡ 0 → CountsFailures ports.counts_once (ports.faults p0) (ports.faults p1) f0 f1 →
@@ -263,39 +268,49 @@ pub failed_from : {P : Type 0} (ports : Ports P) (p0 p1 : P) (f0 f1 : ℕ) → f
 failed_from ports p0 p1 f0 f1 none p =
     p (ports.faults p0) (subst (λ n. HaveFailed ports.counts_once n (ports.faults p0) (ports.faults p0)) (sym none) (failed_none ports.counts_once (ports.faults p0)))
 
-pub failed_changed : {P : Type 0} (ports : Ports P) (config : GmConfig) (p0 p1 p2 p3 : P) (f0 f1 f2 f3 : ℕ) → f0 ≡ 0 →
+pub failed_changed : {P : Type 0} (ports : Ports P) (config : GmConfig) (p0 p1 p2 p3 : P) (g1 g2 f0 f1 f2 f3 : ℕ) → f0 ≡ 0 →
     CountsFailures ports.counts_once (ports.faults p0) (ports.faults p1) f0 f1 →
     (shed : List (Client × Kind)) × (sent : ℕ) × (failed : ℕ) × HandsOver ports p1 p2 (cancels_to config 0 shed) sent failed
-    × (f2 ≡ min (f1 + failed) (2 ^ 64 - 1)) → CountsFailures ports.counts_once (ports.faults p2) (ports.faults p3) f2 f3 →
+    × (g2 ≡ min (g1 + sent) (2 ^ 128 - 1)) × (f2 ≡ min (f1 + failed) (2 ^ 64 - 1)) → CountsFailures ports.counts_once (ports.faults p2) (ports.faults p3) f2 f3 →
     HaveFailed ports.counts_once f3 (ports.faults p0) (ports.faults p3)
-failed_changed ports config p0 p1 p2 p3 f0 f1 f2 f3 none p (shed, sent, failed, hands, counted) q =
+failed_changed ports config p0 p1 p2 p3 g1 g2 f0 f1 f2 f3 none p (shed, sent, failed, hands, goes, counted) q =
     q (ports.faults p0)
     (counts_more ports.counts_once (ports.faults p1) (ports.faults p2) f1 failed f2 (failed_hands ports p1 p2 (cancels_to config 0 shed) sent failed hands) counted
     (ports.faults p0) (failed_from ports p0 p1 f0 f1 none p))
 
 -- ---- the lane that takes Signaling, in all rounds
 
-pub signaling_unchanged : {P C : Type 0} (ports : Ports P) (clocks : Clocks C) (settings : GmSettings) (config : GmConfig) (p0 p1 : P) (c0 c1 : C) (old new : Counts) (f0 f1 : ℕ) →
-    change_of settings ≡ None → old ≡ no_verdicts → f0 ≡ 0 → TookSignaling ports clocks (greatest_capacity settings) config (all_rounds settings) p0 p1 c0 c1 old new f0 f1 →
-    ServedSignaling ports clocks settings config p0 p1 c0 c1 new f1
-signaling_unchanged ports clocks settings config p0 p1 c0 c1 old new f0 f1 none fresh nothing took = record {
-  control = λ still. unchanged_controlled ports settings config p0 p1 old new none fresh (took.did still);
-  exchanged = exchanged_unchanged ports clocks settings config took.sent took.more p0 p1 c0 c1 old new none fresh took.exchanged;
-  failed = failed_from ports p0 p1 f0 f1 nothing took.failures;
-}
+pub signaling_unchanged : {P C : Type 0} (ports : Ports P) (clocks : Clocks C) (settings : GmSettings) (config : GmConfig) (p0 p1 : P) (c0 c1 : C) (old new : Counts) (g0 g1 f0 f1 : ℕ) →
+    change_of settings ≡ None → old ≡ no_verdicts → (g0 ≡ 0) × (f0 ≡ 0) →
+    TookSignaling ports clocks (greatest_capacity settings) config (all_rounds settings) p0 p1 c0 c1 old new g0 g1 f0 f1 →
+    ServedSignaling ports clocks settings config p0 p1 c0 c1 new g1 f1
+signaling_unchanged ports clocks settings config p0 p1 c0 c1 old new g0 g1 f0 f1 none fresh nothing took =
+    let e = exchanged_unchanged ports clocks settings config took.sent took.more p0 p1 c0 c1 old new none fresh took.exchanged in
+    record {
+      control = λ still. unchanged_controlled ports settings config p0 p1 old new none fresh (took.did still);
+      exchanged = e.0;
+      sends = let all = took.sends 0 (omega (arith, nothing.0)) in omega (arith, all, e.1);
+      failed = failed_from ports p0 p1 f0 f1 nothing.1 took.failures;
+    }
 
-pub signaling_changed : {P C : Type 0} (ports : Ports P) (clocks : Clocks C) (settings : GmSettings) (config : GmConfig) (capacity e l : ℕ) (p0 p1 p2 p3 : P) (c0 c1 c2 c3 : C) (first seat next last : Counts) (f0 f1 f2 f3 : ℕ) →
-    change_of settings ≡ Some capacity → e ≡ settings.change_round - 1 → e + l ≡ (all_rounds settings) → first ≡ no_verdicts → f0 ≡ 0 →
-    TookSignaling ports clocks (greatest_capacity settings) config e p0 p1 c0 c1 first seat f0 f1 →
+pub signaling_changed : {P C : Type 0} (ports : Ports P) (clocks : Clocks C) (settings : GmSettings) (config : GmConfig) (capacity e l : ℕ) (p0 p1 p2 p3 : P) (c0 c1 c2 c3 : C) (first seat next last : Counts) (g0 g1 g2 g3 f0 f1 f2 f3 : ℕ) →
+    change_of settings ≡ Some capacity → e ≡ settings.change_round - 1 → e + l ≡ (all_rounds settings) → first ≡ no_verdicts → (g0 ≡ 0) × (f0 ≡ 0) →
+    TookSignaling ports clocks (greatest_capacity settings) config e p0 p1 c0 c1 first seat g0 g1 f0 f1 →
     (shed : List (Client × Kind)) × (sent : ℕ) × (failed : ℕ) × HandsOver ports p1 p2 (cancels_to config 0 shed) sent failed
-    × (f2 ≡ min (f1 + failed) (2 ^ 64 - 1)) → PassedBy 1 (clocks.moments c1) (clocks.moments c2) → next ≡ seat →
-    TookSignaling ports clocks (greatest_capacity settings) config l p2 p3 c2 c3 next last f2 f3 →
-    ServedSignaling ports clocks settings config p0 p3 c0 c3 last f3
-signaling_changed ports clocks settings config capacity e l p0 p1 p2 p3 c0 c1 c2 c3 first seat next last f0 f1 f2 f3 some early_is all_is fresh nothing p sends moved same q = record {
-  control = controlled_changed ports clocks settings config capacity e l p0 p1 p2 p3 c0 c1 c2 c3 first seat next last f0 f1 f2 f3 some early_is all_is fresh p sends same q;
-  exchanged = exchanged_changed ports clocks settings config capacity e l p0 p1 p2 p3 c0 c1 c2 c3 first seat next last f0 f1 f2 f3 some early_is all_is fresh p sends moved same q;
-  failed = failed_changed ports config p0 p1 p2 p3 f0 f1 f2 f3 nothing p.failures sends q.failures;
-}
+    × (g2 ≡ min (g1 + sent) (2 ^ 128 - 1)) × (f2 ≡ min (f1 + failed) (2 ^ 64 - 1)) → PassedBy 1 (clocks.moments c1) (clocks.moments c2) → next ≡ seat →
+    TookSignaling ports clocks (greatest_capacity settings) config l p2 p3 c2 c3 next last g2 g3 f2 f3 →
+    ServedSignaling ports clocks settings config p0 p3 c0 c3 last g3 f3
+signaling_changed ports clocks settings config capacity e l p0 p1 p2 p3 c0 c1 c2 c3 first seat next last g0 g1 g2 g3 f0 f1 f2 f3 some early_is all_is fresh nothing p sends moved same q =
+    let x = exchanged_changed ports clocks settings config capacity e l p0 p1 p2 p3 c0 c1 c2 c3 first seat next last g0 g1 g2 g3 f0 f1 f2 f3 some early_is all_is fresh p sends moved same q in
+    record {
+      control = controlled_changed ports clocks settings config capacity e l p0 p1 p2 p3 c0 c1 c2 c3 first seat next last g0 g1 g2 g3 f0 f1 f2 f3 some early_is all_is fresh p sends same q;
+      exchanged = x.0;
+      sends =
+          let early = p.sends 0 (omega (arith, nothing.0)) in
+          let late = q.sends (p.sent + sends.1) (let goes = sends.4 in omega (arith, early, goes)) in
+          omega (arith, late, x.1);
+      failed = failed_changed ports config p0 p1 p2 p3 g1 g2 f0 f1 f2 f3 nothing.1 p.failures sends q.failures;
+    }
 
 -- ---- facts on what was answered
 
@@ -318,6 +333,16 @@ still_idle ports opened closed seen p q (suc zero) = q.1 ∙ sym (ap (λ (s : Se
 still_idle ports opened closed seen p q (suc (suc zero)) = q.2 ∙ sym (ap (λ (s : Seen). s.waiting) p.2)
 still_idle ports opened closed seen p q (suc (suc (suc n))) = q.3 ∙ sym (ap (λ (s : Seen). s.waiting) p.3)
 
+sent_since : {P C : Type 0} (ports : Ports P) (config : GmConfig) (opened closed : Opened P C) (seen : ℕ → Seen) →
+    (seen_of ports opened.p0 ≡ seen 0) × (seen_of ports opened.p1 ≡ seen 1) × (seen_of ports opened.p2 ≡ seen 2) × (seen_of ports opened.p3 ≡ seen 3) →
+    TablesSentLawfully ports config seen closed → TablesSentLawfully ports config (seen_at ports opened) closed
+sent_since ports config opened closed seen p h = record {
+  p0 = subst (λ (s : Seen). SendsLawfully ports config 0 s (seen_of ports closed.p0)) (sym p.0) h.p0;
+  p1 = subst (λ (s : Seen). SendsLawfully ports config 1 s (seen_of ports closed.p1)) (sym p.1) h.p1;
+  p2 = subst (λ (s : Seen). SendsLawfully ports config 2 s (seen_of ports closed.p2)) (sym p.2) h.p2;
+  p3 = subst (λ (s : Seen). SendsLawfully ports config 3 s (seen_of ports closed.p3)) (sym p.3) h.p3;
+}
+
 -- what failed at six ports
 module _ (once : Bool) (n a b c d e f a0 b0 c0 d0 e0 f0 a1 b1 c1 d1 e1 f1 : ℕ) (all : n ≡ a + (b + (c + (d + (e + (f + 0))))))
     (p : HaveFailed once a a0 a1) (q : HaveFailed once b b0 b1) (r : HaveFailed once c c0 c1) (s : HaveFailed once d d0 d1) (t : HaveFailed once e e0 e1) (u : HaveFailed once f f0 f1) where
@@ -337,20 +362,31 @@ module _ (once : Bool) (n a b c d e f a0 b0 c0 d0 e0 f0 a1 b1 c1 d1 e1 f1 : ℕ)
       let u1 : f1 ≡ f0 = u.quiet (omega (arith, all, none)) in
       cc
 
+-- how many a port was sent, of which so many were handed to it
+many_told : (old new : Option (List Departure)) (datagrams : List Departure) (sent : ℕ) → SentOf old new datagrams sent →
+    IfTold (option_map length new) (option_map (λ (list : List Departure). length list + sent) old)
+many_told old None datagrams sent h = tt
+many_told None (Some now) datagrams sent h = absurd (cc (h.told))
+many_told (Some before) (Some now) datagrams sent h =
+    let items = items_where_true h.which datagrams in
+    let grown : before ++ items ≡ now = cc (h.told) in
+    let size : length before + sent ≡ length now = ap (λ n. length before + n) (sym h.many) ∙ sym (length-append before items) ∙ ap length grown in
+    ap Some size
+
 -- lanes at their end, whose ports, clocks and counts are those that are given back
 pub serves_by_lanes : {P C G R : Type 0} (ports : Ports P) (clocks : Clocks C) (settings : GmSettings) (config : GmConfig) (opened closed : Opened P C) (totals : Totals) (lanes : Lanes P C G R)
-    (most : ℕ) (seen : ℕ → Seen) → most ≡ greatest_capacity settings →
+    (capacity : ℕ) (seen : ℕ → Seen) → capacity ≡ last_capacity settings →
     (seen_of ports opened.p0 ≡ seen 0) × (seen_of ports opened.p1 ≡ seen 1) × (seen_of ports opened.p2 ≡ seen 2) × (seen_of ports opened.p3 ≡ seen 3) →
     LanesServed ports clocks settings config opened lanes →
     (closed.p4 ≡ lanes.control.port) × (closed.p5 ≡ lanes.event.port) →
     (closed.c0 ≡ lanes.control.clock) × (closed.c1 ≡ lanes.event.clock) × (closed.c2 ≡ lanes.sending.first.clock) × (closed.c3 ≡ lanes.sending.second.clock)
     × (closed.c4 ≡ lanes.sending.third.clock) × (closed.c5 ≡ lanes.sending.fourth.clock) →
-    TablesAreBack ports seen closed totals.failed lanes.control.tally.failed lanes.event.tally.failed →
-    (totals.granted ≡ lanes.control.seat.granted) × (totals.refused ≡ lanes.control.seat.refused) → totals.held ≤ most →
+    TablesAreBack ports seen closed totals.failed lanes.control.tally.failed lanes.event.failed →
+    (totals.granted ≡ lanes.control.seat.granted) × (totals.refused ≡ lanes.control.seat.refused) → totals.held ≤ capacity → TablesSent ports config seen closed lanes.control.tally.sent totals.sent →
     ServesByLanes ports clocks settings config opened closed (numbers_of totals)
-serves_by_lanes ports clocks settings config opened closed totals lanes most seen is opens did same moved back counted within =
+serves_by_lanes ports clocks settings config opened closed totals lanes capacity seen is opens did same moved back counted within sends =
     let failed = lanes.control.tally.failed in
-    let missed = lanes.event.tally.failed in
+    let missed = lanes.event.failed in
     record {
       within = omega (arith, is, within);
       control = rw (same.0, counted.0, counted.1) did.control.control;
@@ -364,11 +400,64 @@ serves_by_lanes ports clocks settings config opened closed totals lanes most see
       turned2 = rw (moved.4) did.third;
       turned3 = rw (moved.5) did.fourth;
       idle = still_idle ports opened closed seen opens back.waits;
+      lawful = sent_since ports config opened closed seen opens sends.0;
+      sent = (
+        sends.0.p0.sent + (sends.0.p1.sent + (sends.0.p2.sent + (sends.0.p3.sent + (did.control.exchanged.sent + 0)))),
+        omega (arith, sends.1, did.control.sends),
+        (
+          sends.0.p0.sent,
+          _,
+          refl,
+          by_0,
+          (
+            sends.0.p1.sent,
+            _,
+            refl,
+            by_1,
+            (
+              sends.0.p2.sent,
+              _,
+              refl,
+              by_2,
+              (
+                sends.0.p3.sent,
+                _,
+                refl,
+                by_3,
+                (did.control.exchanged.sent, 0, refl, by_4, refl),
+              ),
+            ),
+          ),
+        ),
+      );
       failed = six_risen ports.counts_once totals.failed back.of0 back.of1 back.of2 back.of3 failed missed _ _ _ _ _ _ _ _ _ _ _ _ back.all of_0 of_1 of_2 of_3 of_4 of_5;
       just = six_just ports.counts_once totals.failed back.of0 back.of1 back.of2 back.of3 failed missed _ _ _ _ _ _ _ _ _ _ _ _ back.all of_0 of_1 of_2 of_3 of_4 of_5;
       quiet = six_quiet ports.counts_once totals.failed back.of0 back.of1 back.of2 back.of3 failed missed _ _ _ _ _ _ _ _ _ _ _ _ back.all of_0 of_1 of_2 of_3 of_4 of_5;
     }
   where
+    Grew : ℕ → Option (List Departure) → Option (List Departure) → Type 0
+    Grew many old new = IfTold (option_map length new) (option_map (λ (list : List Departure). length list + many) old)
+
+    by_0 : Grew sends.0.p0.sent (ports.sent opened.p0) (ports.sent closed.p0)
+    by_0 = subst (λ told. Grew sends.0.p0.sent told (ports.sent closed.p0)) (sym (ap (λ (s : Seen). s.sent) opens.0))
+        (many_told (seen 0).sent (ports.sent closed.p0) sends.0.p0.messages sends.0.p0.sent sends.0.p0.part.some)
+
+    by_1 : Grew sends.0.p1.sent (ports.sent opened.p1) (ports.sent closed.p1)
+    by_1 = subst (λ told. Grew sends.0.p1.sent told (ports.sent closed.p1)) (sym (ap (λ (s : Seen). s.sent) opens.1))
+        (many_told (seen 1).sent (ports.sent closed.p1) sends.0.p1.messages sends.0.p1.sent sends.0.p1.part.some)
+
+    by_2 : Grew sends.0.p2.sent (ports.sent opened.p2) (ports.sent closed.p2)
+    by_2 = subst (λ told. Grew sends.0.p2.sent told (ports.sent closed.p2)) (sym (ap (λ (s : Seen). s.sent) opens.2))
+        (many_told (seen 2).sent (ports.sent closed.p2) sends.0.p2.messages sends.0.p2.sent sends.0.p2.part.some)
+
+    by_3 : Grew sends.0.p3.sent (ports.sent opened.p3) (ports.sent closed.p3)
+    by_3 = subst (λ told. Grew sends.0.p3.sent told (ports.sent closed.p3)) (sym (ap (λ (s : Seen). s.sent) opens.3))
+        (many_told (seen 3).sent (ports.sent closed.p3) sends.0.p3.messages sends.0.p3.sent sends.0.p3.part.some)
+
+    by_4 : Grew did.control.exchanged.sent (ports.sent opened.p4) (ports.sent closed.p4)
+    by_4 = subst (λ p. Grew did.control.exchanged.sent (ports.sent opened.p4) (ports.sent p)) (sym same.0)
+        (many_told (ports.sent opened.p4) (ports.sent lanes.control.port) _ did.control.exchanged.sent did.control.exchanged.handed.part.some)
+
     of_0 : HaveFailed ports.counts_once back.of0 (ports.faults opened.p0) (ports.faults closed.p0)
     of_0 = subst (λ n. HaveFailed ports.counts_once back.of0 n (ports.faults closed.p0)) (sym (ap (λ (s : Seen). s.faults) opens.0)) back.failed0
 
@@ -384,6 +473,6 @@ serves_by_lanes ports clocks settings config opened closed totals lanes most see
     of_4 : HaveFailed ports.counts_once lanes.control.tally.failed (ports.faults opened.p4) (ports.faults closed.p4)
     of_4 = subst (λ p. HaveFailed ports.counts_once lanes.control.tally.failed (ports.faults opened.p4) (ports.faults p)) (sym same.0) did.control.failed
 
-    of_5 : HaveFailed ports.counts_once lanes.event.tally.failed (ports.faults opened.p5) (ports.faults closed.p5)
-    of_5 = subst (λ p. HaveFailed ports.counts_once lanes.event.tally.failed (ports.faults opened.p5) (ports.faults p)) (sym same.1)
-        (failed_from ports opened.p5 lanes.event.port 0 lanes.event.tally.failed refl did.event.failures)
+    of_5 : HaveFailed ports.counts_once lanes.event.failed (ports.faults opened.p5) (ports.faults closed.p5)
+    of_5 = subst (λ p. HaveFailed ports.counts_once lanes.event.failed (ports.faults opened.p5) (ports.faults p)) (sym same.1)
+        (failed_from ports opened.p5 lanes.event.port 0 lanes.event.failed refl did.event.failures)

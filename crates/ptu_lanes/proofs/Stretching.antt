@@ -129,36 +129,40 @@ rounds_one ports greatest config port port' left old new asks sent counted r = r
 }
 
 module _ {P C : Type 0} (ports : Ports P) (clocks : Clocks C) where
-  pub signaling_none : (greatest : ℕ) (config : GmConfig) (port : P) (clock : C) (counts : Counts) (failed : ℕ) → TookSignaling ports clocks greatest config 0 port port clock clock counts counts failed failed
-  signaling_none greatest config port clock counts failed = record {
+  pub signaling_none : (greatest : ℕ) (config : GmConfig) (port : P) (clock : C) (counts : Counts) (gone failed : ℕ) →
+      TookSignaling ports clocks greatest config 0 port port clock clock counts counts gone gone failed failed
+  signaling_none greatest config port clock counts gone failed = record {
     did = λ same. rounds_none ports greatest config port counts;
     sent = 0;
     more = 0;
     exchanged = exchanged_none ports clocks greatest config port clock counts;
     most = omega arith;
+    sends = λ start was. omega (arith, was);
     failures = λ start f. f;
     no_fall = not_fallen_none (ports.faults port);
   }
 
-  pub signaling_one : (greatest : ℕ) (config : GmConfig) (port port' : P) (clock clock' : C) (old new : Counts) (asks sent more failed failed' : ℕ) →
+  pub signaling_one : (greatest : ℕ) (config : GmConfig) (port port' : P) (clock clock' : C) (old new : Counts) (asks sent more gone gone' failed failed' : ℕ) →
       new.granted + new.refused ≡ old.granted + old.refused + asks → asks ≤ 2048 →
       (¬ HasRisen (ports.faults port) (ports.faults port') → IfSome (ports.waiting port') (λ left. IsRound ports greatest config port port' left old.granted new.granted asks sent)) →
       Exchanged ports clocks greatest config 1 sent more port port' clock clock' old new →
-      failed' ≡ min (failed + more) (2 ^ 64 - 1) → TookSignaling ports clocks greatest config 1 port port' clock clock' old new failed failed'
-  signaling_one greatest config port port' clock clock' old new asks sent more failed failed' counted few round exchanged is = record {
+      gone' ≡ min (gone + sent) (2 ^ 128 - 1) → failed' ≡ min (failed + more) (2 ^ 64 - 1) →
+      TookSignaling ports clocks greatest config 1 port port' clock clock' old new gone gone' failed failed'
+  signaling_one greatest config port port' clock clock' old new asks sent more gone gone' failed failed' counted few round exchanged goes is = record {
     did = λ same. some_more (ports.waiting port') _ _ (λ left. rounds_one ports greatest config port port' left old new asks sent counted) (round same);
     sent = sent;
     more = more;
     exchanged = exchanged;
     most = omega (arith, counted, few);
+    sends = λ start was. omega (arith, was, goes);
     failures = counts_more ports.counts_once (ports.faults port) (ports.faults port') failed more failed' exchanged.failures is;
     no_fall = exchanged.failures.no_fall;
   }
 
-  pub signaling-append : (greatest : ℕ) (config : GmConfig) (n m : ℕ) (p0 p1 p2 : P) (c0 c1 c2 : C) (old now new : Counts) (f0 f1 f2 : ℕ) →
-      TookSignaling ports clocks greatest config n p0 p1 c0 c1 old now f0 f1 → TookSignaling ports clocks greatest config m p1 p2 c1 c2 now new f1 f2 →
-      TookSignaling ports clocks greatest config (n + m) p0 p2 c0 c2 old new f0 f2
-  signaling-append greatest config n m p0 p1 p2 c0 c1 c2 old now new f0 f1 f2 p q = record {
+  pub signaling-append : (greatest : ℕ) (config : GmConfig) (n m : ℕ) (p0 p1 p2 : P) (c0 c1 c2 : C) (old now new : Counts) (g0 g1 g2 f0 f1 f2 : ℕ) →
+      TookSignaling ports clocks greatest config n p0 p1 c0 c1 old now g0 g1 f0 f1 → TookSignaling ports clocks greatest config m p1 p2 c1 c2 now new g1 g2 f1 f2 →
+      TookSignaling ports clocks greatest config (n + m) p0 p2 c0 c2 old new g0 g2 f0 f2
+  signaling-append greatest config n m p0 p1 p2 c0 c1 c2 old now new g0 g1 g2 f0 f1 f2 p q = record {
     did = λ same. some_more (ports.waiting p2) _ _
         (λ left. rounds-append ports greatest config n m p0 p1 p2 left old now new (p.did (λ rises. same (rises_first (ports.faults p0) (ports.faults p1) (ports.faults p2) rises q.no_fall))))
         (q.did (λ rises. same (rises_second (ports.faults p0) (ports.faults p1) (ports.faults p2) p.no_fall rises)));
@@ -166,6 +170,10 @@ module _ {P C : Type 0} (ports : Ports P) (clocks : Clocks C) where
     more = p.more + q.more;
     exchanged = exchanged-append ports clocks greatest config n m p.sent p.more q.sent q.more p0 p1 p2 c0 c1 c2 old now new p.exchanged q.exchanged;
     most = let a = p.most in let b = q.most in omega arith;
+    sends = λ start was.
+        let first = p.sends start was in
+        let second = q.sends (start + p.sent) first in
+        omega (arith, second);
     failures = λ start f. q.failures start (p.failures start f);
     no_fall = not_fallen_both (ports.faults p0) (ports.faults p1) (ports.faults p2) p.no_fall q.no_fall;
   }

@@ -25,6 +25,15 @@ greater_of capacity (Some later) = max capacity later
 abbrev pub greatest_capacity : GmSettings → ℕ
 greatest_capacity settings = greater_of settings.capacity (change_of settings)
 
+-- the capacity to which it changes, or the one that it has where it does not
+abbrev pub later_of : ℕ → Option ℕ → ℕ
+later_of capacity None = capacity
+later_of capacity (Some later) = later
+
+-- the capacity that is in force at the end
+abbrev pub last_capacity : GmSettings → ℕ
+last_capacity settings = later_of settings.capacity (change_of settings)
+
 -- how many moments the change takes
 abbrev pub moments_to : Option ℕ → ℕ
 moments_to None = 0

@@ -1,6 +1,6 @@
 -- What comes of lanes that are called in threads of their own, and of a grandmaster that is to be served by them (the project's own
 -- choice).
-use Rattle.std.specs.Prelude.{◌≡◌, ℕ, ◌+◌, ◌*◌, List, [], Result, Ok, IfOk, IfSome}
+use Rattle.std.specs.Prelude.{◌≡◌, ℕ, ◌+◌, ◌-◌, ◌*◌, ◌^◌, min, List, [], Result, Ok, IfOk, IfSome}
 use Rattle.ptu_outside.specs.declared.{clock.Clock.{Ghosts as Clocks}, opened.Opened.{Opened}, port.Port.{Ghosts as Ports}}
 use Rattle.ptu_outside.specs.Faults.{HasRisen}
 use Rattle.ptu_profile.specs.declared.grandmaster.GmConfig.{GmConfig}
@@ -66,18 +66,19 @@ pub record AreTurning {C : Type 0} (clocks : Clocks C) (lanes rounds : ℕ) (old
   pub fourth : IsTurning clocks lanes 3 rounds old.fourth calls.fourth
 
 -- what the lane did that takes Signaling in all rounds, with the change of capacity: its port and its clock, before and after, what
--- its seat has counted, and how many calls of the port failed
-pub record ServedSignaling {P C : Type 0} (ports : Ports P) (clocks : Clocks C) (settings : GmSettings) (config : GmConfig) (port port' : P) (clock clock' : C) (counted : Counts) (failures : ℕ) : Type 0 where
+-- its seat has counted, how many datagrams it has counted that were sent, and how many calls of the port failed
+pub record ServedSignaling {P C : Type 0} (ports : Ports P) (clocks : Clocks C) (settings : GmSettings) (config : GmConfig) (port port' : P) (clock clock' : C) (counted : Counts) (gone failures : ℕ) : Type 0 where
   pub control : ¬ HasRisen (ports.faults port) (ports.faults port') → IfSome (ports.waiting port') (λ left.
       IsControlled ports settings config port port' left counted.granted counted.refused)
   pub exchanged : ExchangedAll ports clocks settings config port port' clock clock' counted.granted counted.refused
+  pub sends : gone ≡ min exchanged.sent (2 ^ 128 - 1)
   pub failed : HaveFailed ports.counts_once failures (ports.faults port) (ports.faults port')
 
 -- all lanes did all rounds, between these ports and clocks as they were opened, and as the lanes have them
 pub record LanesServed {P C G R : Type 0} (ports : Ports P) (clocks : Clocks C) (settings : GmSettings) (config : GmConfig) (opened : Opened P C) (lanes : Lanes P C G R) : Type 0 where
   pub control : ServedSignaling ports clocks settings config opened.p4 lanes.control.port opened.c0 lanes.control.clock
-      lanes.control.seat lanes.control.tally.failed
-  pub event : TookDelayReqs ports clocks (all_rounds settings) opened.p5 lanes.event.port opened.c1 lanes.event.clock 0 lanes.event.tally.failed
+      lanes.control.seat lanes.control.tally.sent lanes.control.tally.failed
+  pub event : TookDelayReqs ports clocks (all_rounds settings) opened.p5 lanes.event.port opened.c1 lanes.event.clock 0 lanes.event.failed
   pub first : TurnedOwn clocks settings.senders 0 (all_rounds settings) opened.c2 lanes.sending.first.clock
   pub second : TurnedOwn clocks settings.senders 1 (all_rounds settings) opened.c3 lanes.sending.second.clock
   pub third : TurnedOwn clocks settings.senders 2 (all_rounds settings) opened.c4 lanes.sending.third.clock

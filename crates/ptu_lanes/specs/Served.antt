@@ -1,6 +1,6 @@
 -- What a grandmaster has done that is served by lanes (IEEE 1588-2019 clause 16.1; rounds and the change of capacity are the
 -- project's own choice).
-use Rattle.std.specs.Prelude.{◌≡◌, ℕ, suc, zero, ◌+◌, ◌-◌, ◌*◌, ◌≤◌, true, List, [], ◌++◌, length, map, take, drop, Option, Some, IfNone, IfSome}
+use Rattle.std.specs.Prelude.{◌≡◌, ℕ, suc, zero, ◌+◌, ◌-◌, ◌*◌, ◌^◌, ◌≤◌, min, true, List, [], ◌++◌, length, map, take, drop, Option, Some, IfNone, IfSome}
 use Rattle.std.specs.List.{All}
 use Rattle.ptu_units.specs.declared.kind.Kind.{Kind}
 use Rattle.ptu_outside.specs.declared.{arrival.Arrival.{Arrival}, clock.Clock.{Ghosts as Clocks}}
@@ -8,13 +8,13 @@ use Rattle.ptu_outside.specs.declared.{opened.Opened.{Opened}, port.Port.{Ghosts
 use Rattle.ptu_outside.specs.{Departure.{Departure}, Faults.{HasRisen}}
 use Rattle.ptu_history.specs.declared.client.Client.{Client}
 use Rattle.ptu_profile.specs.declared.grandmaster.GmConfig.{GmConfig}
-use Rattle.ptu_shared.specs.Opening.{HaveFailed, Seen, seen_of}
+use Rattle.ptu_shared.specs.{Histories.{SendsLawfully}, Opening.{HaveFailed, Seen, seen_of}}
 use Rattle.ptu_gm_messages.specs.Replies.{cancels_to}
 use Rattle.ptu_config.specs.{declared.settings.GmSettings.{GmSettings}, Rounds.{all_rounds}}
-use Rattle.ptu_rounds.specs.{Handed.{WasHanded}, Ports.{HaveRisenBy, HaveRisenJust, ports_of}}
+use Rattle.ptu_rounds.specs.{Handed.{WasHanded}, Ports.{HaveRisenBy, HaveRisenJust, WereSent, ports_of, senders_of}}
 use Rattle.ptu_lanes.specs.Rounds.{Exchange, IsAnswered, asks_in, datagrams, grants_in, replies}
 use Rattle.ptu_lanes.specs.{Sending.{GoesOn, WasSent}, Waiting.{GaveFirst, MissedFew, PassedBy, Took, TurnedOwn}}
-use Rattle.ptu_lanes.specs.Changing.{change_moments, change_of, early_rounds, greatest_capacity}
+use Rattle.ptu_lanes.specs.Changing.{change_moments, change_of, early_rounds, greatest_capacity, last_capacity}
 use Rattle.ptu_lanes.specs.declared.serving.Totals.{Totals}
 
 -- the replies of some exchanges, the CANCELs of these grants, numbered from 0, and the replies of the other exchanges
@@ -87,16 +87,21 @@ seen_at ports opened (suc (suc (suc n))) = seen_of ports opened.p3
 abbrev pub faults_of : {P C : Type 0} → Ports P → Opened P C → List ℕ
 faults_of ports opened = map ports.faults (ports_of opened)
 
--- the numbers that lanes come to: how many calls of ports failed, how many asks were granted, how many within the profile did not
--- fit, and how much is held at the end
+-- these ports were sent so many datagrams more together; a number that would be above 2^128 - 1 stands there
+abbrev pub CountSends : ℕ → List (Option (List Departure)) → List (Option (List Departure)) → Type 0
+CountSends n olds news = (all : ℕ) × (n ≡ min all (2 ^ 128 - 1)) × WereSent all olds news
+
+-- the numbers that lanes come to: how many datagrams were sent, how many calls of ports failed, how many asks were granted, how many
+-- within the profile did not fit, and how much is held at the end
 pub record Numbers : Type 0 where
+  pub sent : ℕ
   pub failed : ℕ
   pub granted : ℕ
   pub refused : ℕ
   pub held : ℕ
 
 abbrev pub numbers_of : Totals → Numbers
-numbers_of totals = record { failed = totals.failed; granted = totals.granted; refused = totals.refused; held = totals.held }
+numbers_of totals = record { sent = totals.sent; failed = totals.failed; granted = totals.granted; refused = totals.refused; held = totals.held }
 
 -- the ports of the tables are given back, of which this was seen when they were opened: what waited still waits, and what failed is
 -- what their counts rose by, with what failed at the two other ports
@@ -113,10 +118,25 @@ pub record TablesAreBack {P C : Type 0} (ports : Ports P) (seen : ℕ → Seen) 
   pub failed2 : HaveFailed ports.counts_once of2 (seen 2).faults (ports.faults closed.p2)
   pub failed3 : HaveFailed ports.counts_once of3 (seen 3).faults (ports.faults closed.p3)
 
+-- what each table's port was sent since are, in order, messages of a history of the table
+pub record TablesSentLawfully {P C : Type 0} (ports : Ports P) (config : GmConfig) (seen : ℕ → Seen) (closed : Opened P C) : Type 0 where
+  pub p0 : SendsLawfully ports config 0 (seen 0) (seen_of ports closed.p0)
+  pub p1 : SendsLawfully ports config 1 (seen 1) (seen_of ports closed.p1)
+  pub p2 : SendsLawfully ports config 2 (seen 2) (seen_of ports closed.p2)
+  pub p3 : SendsLawfully ports config 3 (seen 3) (seen_of ports closed.p3)
+
+-- the same, and the number is how many messages of theirs were sent, with the replies that were sent by port 4; one that would be above
+-- 2^128 - 1 stands there
+abbrev pub TablesSent : {P C : Type 0} → Ports P → GmConfig → (ℕ → Seen) → Opened P C → ℕ → ℕ → Type 0
+TablesSent ports config seen closed replies sent =
+    (lawful : TablesSentLawfully ports config seen closed)
+    × (sent ≡ min (lawful.p0.sent + (lawful.p1.sent + (lawful.p2.sent + (lawful.p3.sent + (replies + 0))))) (2 ^ 128 - 1))
+
 -- between these ports and clocks as they were opened, and as they are to be given back, lanes served a grandmaster of these settings,
 -- with these numbers at the end
 pub record ServesByLanes {P C : Type 0} (ports : Ports P) (clocks : Clocks C) (settings : GmSettings) (config : GmConfig) (opened closed : Opened P C) (numbers : Numbers) : Type 0 where
-  pub within : numbers.held ≤ greatest_capacity settings
+  -- no more is held at the end than is in force then
+  pub within : numbers.held ≤ last_capacity settings
   -- where the count of the port of the general channel did not rise, and it tells what waits
   pub control : ¬ HasRisen (ports.faults opened.p4) (ports.faults closed.p4) → IfSome (ports.waiting closed.p4) (λ left.
       IsControlled ports settings config opened.p4 closed.p4 left numbers.granted numbers.refused)
@@ -135,6 +155,11 @@ pub record ServesByLanes {P C : Type 0} (ports : Ports P) (clocks : Clocks C) (s
   pub turned3 : TurnedOwn clocks settings.senders 3 (all_rounds settings) opened.c5 closed.c5
   -- the ports of the tables are given back as those of their tables: what waits there is what did
   pub idle : (i : ℕ) → waits_of ports closed i ≡ waits_of ports opened i
+  -- and what they were sent are, in order, messages of a history of the table: each to one of its clients, inside a live grant of the
+  -- kind, in its own period, and with the sequenceId that is next
+  pub lawful : TablesSentLawfully ports config (seen_at ports opened) closed
+  -- what was sent is the number of datagrams that ports 0 to 4 were sent, whatever the counts did
+  pub sent : CountSends numbers.sent (map ports.sent (senders_of opened)) (map ports.sent (senders_of closed))
   -- what failed is at most what the counts of faults rose by together, and just that where each call that fails counts one fault;
   -- where nothing failed, no count rose
   pub failed : HaveRisenBy numbers.failed (faults_of ports opened) (faults_of ports closed)

@@ -1,5 +1,5 @@
 -- Several rounds of the lanes.
-use Rattle.std.specs.Prelude.{◌≡◌, ℕ, Bool, ◌+◌, ◌*◌, ◌≤◌, List, take, drop, Some, IfSome}
+use Rattle.std.specs.Prelude.{◌≡◌, ℕ, Bool, ◌+◌, ◌-◌, ◌*◌, ◌^◌, ◌≤◌, min, List, take, drop, Some, IfSome}
 use Rattle.std.specs.List.{All}
 use Rattle.ptu_outside.specs.declared.{arrival.Arrival.{Arrival}, clock.Clock.{Ghosts as Clocks}}
 use Rattle.ptu_outside.specs.{declared.port.Port.{Ghosts as Ports}, Faults.{HasNotFallen, HasRisen}}
@@ -29,22 +29,27 @@ pub record AreRounds {P : Type 0} (ports : Ports P) (greatest : ℕ) (config : G
 abbrev pub CountsFailures : Bool → ℕ → ℕ → ℕ → ℕ → Type 0
 CountsFailures once faults faults' failed failed' = (start : ℕ) → HaveFailed once failed start faults → HaveFailed once failed' start faults'
 
--- what the lane that takes Signaling did in so many rounds: its port, its clock, what its seat has counted, and how many calls of the
--- port failed, before and after
-pub record TookSignaling {P C : Type 0} (ports : Ports P) (clocks : Clocks C) (greatest : ℕ) (config : GmConfig) (rounds : ℕ) (port port' : P) (clock clock' : C) (old new : Counts) (failed failed' : ℕ) : Type 0 where
+-- from a number of sends to a later one: the sends between them are counted, and a number that would be above 2^128 - 1 stands there
+abbrev pub CountsSends : ℕ → ℕ → ℕ → Type 0
+CountsSends sent more sent' = (start : ℕ) → sent ≡ min start (2 ^ 128 - 1) → sent' ≡ min (start + more) (2 ^ 128 - 1)
+
+-- what the lane that takes Signaling did in so many rounds: its port, its clock, what its seat has counted, how many datagrams it has
+-- counted that were sent, and how many calls of the port that failed, before and after
+pub record TookSignaling {P C : Type 0} (ports : Ports P) (clocks : Clocks C) (greatest : ℕ) (config : GmConfig) (rounds : ℕ) (port port' : P) (clock clock' : C) (old new : Counts) (gone gone' failed failed' : ℕ) : Type 0 where
   pub did : ¬ HasRisen (ports.faults port) (ports.faults port') → IfSome (ports.waiting port') (λ left.
       AreRounds ports greatest config rounds port port' left old new)
   pub sent : ℕ
   pub more : ℕ
   pub exchanged : Exchanged ports clocks greatest config rounds sent more port port' clock clock' old new
   pub most : new.granted + new.refused ≤ old.granted + old.refused + 2048 * rounds
+  pub sends : CountsSends gone sent gone'
   pub failures : CountsFailures ports.counts_once (ports.faults port) (ports.faults port') failed failed'
   pub no_fall : HasNotFallen (ports.faults port) (ports.faults port')
 
 -- the same of the lane, before and after
 abbrev pub ControlLaneDid : {P C G R : Type 0} → Ports P → Clocks C → ℕ → GmConfig → ℕ → ControlLane P C G R → ControlLane P C G R → Type 0
 ControlLaneDid ports clocks greatest config rounds old new =
-    TookSignaling ports clocks greatest config rounds old.port new.port old.clock new.clock old.seat new.seat old.tally.failed new.tally.failed
+    TookSignaling ports clocks greatest config rounds old.port new.port old.clock new.clock old.seat new.seat old.tally.sent new.tally.sent old.tally.failed new.tally.failed
 
 -- what the lane that takes Delay_Reqs did in so many rounds: its port, its clock and how many receives failed, before and after; the
 -- port was sent nothing, and goes on to tell that
@@ -58,7 +63,7 @@ pub record TookDelayReqs {P C : Type 0} (ports : Ports P) (clocks : Clocks C) (r
 
 -- the same of the lane, before and after
 abbrev pub EventLaneDid : {P C : Type 0} → Ports P → Clocks C → ℕ → EventLane P C → EventLane P C → Type 0
-EventLaneDid ports clocks rounds old new = TookDelayReqs ports clocks rounds old.port new.port old.clock new.clock old.tally.failed new.tally.failed
+EventLaneDid ports clocks rounds old new = TookDelayReqs ports clocks rounds old.port new.port old.clock new.clock old.failed new.failed
 
 -- the lanes that turn tables, of which so many are at work, did so many rounds
 pub record HaveTurned {C : Type 0} (clocks : Clocks C) (lanes rounds : ℕ) (old new : SendingLanes C) : Type 0 where

@@ -9,7 +9,7 @@ ghost use Rattle.ptu_gm_messages.specs.Replies.{cancels_to};
 ghost use Rattle.ptu_config.specs.{Limits.{IsGmInRange}, Rounds.{all_rounds}};
 ghost use Rattle.ptu_profile.specs.Grandmaster.{IsWithinLimits};
 ghost use Rattle.ptu_shared.specs.Seats.{no_verdicts};
-ghost use Rattle.ptu_lanes.specs.{Changing.{change_of, greatest_capacity}, Crew.{ServedSignaling}, Waiting.{PassedBy}};
+ghost use Rattle.ptu_lanes.specs.{Changing.{change_of, greatest_capacity, last_capacity}, Crew.{ServedSignaling}, Waiting.{PassedBy}};
 
 use crate::lanes::{ControlLane, Rounds};
 use crate::service::Service;
@@ -38,6 +38,14 @@ pub(crate) fn change(settings: &GmSettings) -> Option<u64>
     }
 }
 
+/// The capacity that is in force at the end.
+pub(crate) fn capacity_at_end(settings: &GmSettings) -> u64
+    requires { IsGmInRange settings.now }
+    ensures { result ≡ last_capacity settings.now }
+{
+    change(settings).unwrap_or(settings.capacity)
+}
+
 /// How many rounds there are before the change of capacity, where there is one.
 pub(crate) fn rounds_before_change(settings: &GmSettings) -> Option<u64>
     requires { IsGmInRange settings.now }
@@ -64,6 +72,7 @@ pub(crate) fn change_capacity<P: Port + Send, C: Clock, L: Rates, G: Ledger, R: 
     ensures sends { IfOk result (λ _. (shed : List (Client × Kind)) × (sent : ℕ) × (failed : ℕ)
         × HandsOver P.Port lane.old.port lane.new.port (cancels_to service.now.config.now 0 shed)
         sent failed
+        × (lane.new.tally.sent ≡ min (lane.old.tally.sent + sent) (2 ^ 128 - 1))
         × (lane.new.tally.failed ≡ min (lane.old.tally.failed + failed) (2 ^ 64 - 1))) }
     ensures moment { IfOk result (λ _.
         PassedBy 1 (C.moments lane.old.clock) (C.moments lane.new.clock)) }
@@ -97,10 +106,10 @@ impl<P: Port + Send, L: Rates, G: Ledger, R: Ledger, W: Wait> Service<'_, P, L, 
         requires ledger { L.parts ≡ 4 }
         requires most { (capacity ≤ L.most) × (L.most ≡ greatest_capacity settings.now) }
         requires seat { lane.seat ≡ no_verdicts }
-        requires tally { lane.tally.failed ≡ 0 }
+        requires tally { (lane.tally.sent ≡ 0) × (lane.tally.failed ≡ 0) }
         ensures { IfOk result (λ new. ServedSignaling P.Port C.Clock settings.now
             self.now.config.now lane.port new.port lane.clock new.clock new.seat
-            new.tally.failed) }
+            new.tally.sent new.tally.failed) }
     {
         let early = u64::from(settings.change_round) - 1;
         let late = settings.all_rounds() - early;
@@ -126,10 +135,10 @@ impl<P: Port + Send, L: Rates, G: Ledger, R: Ledger, W: Wait> Service<'_, P, L, 
         requires ledger { L.parts ≡ 4 }
         requires most { L.most ≡ greatest_capacity settings.now }
         requires seat { lane.seat ≡ no_verdicts }
-        requires tally { lane.tally.failed ≡ 0 }
+        requires tally { (lane.tally.sent ≡ 0) × (lane.tally.failed ≡ 0) }
         ensures { IfOk result (λ new. ServedSignaling P.Port C.Clock settings.now
             self.now.config.now lane.port new.port lane.clock new.clock new.seat
-            new.tally.failed) }
+            new.tally.sent new.tally.failed) }
     {
         match change(settings) {
             Some(capacity) => self.take_signaling_around(settings, rounds, capacity, lane),

@@ -68,10 +68,10 @@ fn sending_lanes<C: Clock>(c2: C, c3: C, c4: C, c5: C) -> SendingLanes<C>
         × (result.third.clock ≡ c4) × (result.fourth.clock ≡ c5) }
 {
     SendingLanes {
-        first: SendingLane { clock: c2, sent: 0 },
-        second: SendingLane { clock: c3, sent: 0 },
-        third: SendingLane { clock: c4, sent: 0 },
-        fourth: SendingLane { clock: c5, sent: 0 },
+        first: SendingLane { clock: c2 },
+        second: SendingLane { clock: c3 },
+        third: SendingLane { clock: c4 },
+        fourth: SendingLane { clock: c5 },
     }
 }
 
@@ -121,9 +121,10 @@ where
         requires ledger { L.parts ≡ 4 }
         requires most { L.most ≡ greatest_capacity settings.now }
         requires seat { lane.seat ≡ no_verdicts }
-        requires tally { lane.tally.failed ≡ 0 }
+        requires tally { (lane.tally.sent ≡ 0) × (lane.tally.failed ≡ 0) }
         ensures { CameTo (λ new. ServedSignaling P.Port C.Clock settings.now self.now.config.now
-            lane.port new.port lane.clock new.clock new.seat new.tally.failed) lane result }
+            lane.port new.port lane.clock new.clock new.seat new.tally.sent new.tally.failed)
+            lane result }
     {
         match self.service() {
             Some(service) => Called::Served(service.take_signaling_all(
@@ -137,7 +138,8 @@ where
 
     // The call of the lane that takes Delay_Reqs.
     fn call_event<C: Clock>(&self, lane: EventLane<P, C>) -> Called<EventLane<P, C>>
-        requires { IsWithinLimits self.now.config.now }
+        requires limits { IsWithinLimits self.now.config.now }
+        requires config { self.now.config.now ≡ L.config }
         ensures { CameTo (EventLaneDid P.Port C.Clock self.now.rounds.count lane) lane result }
     {
         match self.service() {
@@ -153,6 +155,7 @@ where
         lane: SendingLane<C>,
     ) -> Called<SendingLane<C>>
         requires limits { IsWithinLimits self.now.config.now }
+        requires config { self.now.config.now ≡ L.config }
         requires index { (position.index < position.count) × (position.count ≤ 4) }
         ensures { CameTo (λ new. TurnedOwn C.Clock position.count position.index
             self.now.rounds.count lane.clock new.clock) lane result }
@@ -201,7 +204,8 @@ where
         scope: &Scope<'s, E>,
         lane: EventLane<P, C>,
     ) -> EventCall<P, C>
-        requires { IsWithinLimits self.now.config.now }
+        requires limits { IsWithinLimits self.now.config.now }
+        requires config { self.now.config.now ≡ L.config }
         ensures { IsAtWork (EventLaneDid P.Port C.Clock self.now.rounds.count lane) lane
             (EventKept P.Port C.Clock) result }
     {
@@ -214,7 +218,8 @@ where
             0,
             work,
             move ||
-                requires { IsWithinLimits self.now.config.now }
+                requires { IsWithinLimits self.now.config.now
+                    × (self.now.config.now ≡ L.config) }
             { self.call_event(lane) },
         )
     }
@@ -227,6 +232,7 @@ where
         lane: SendingLane<C>,
     ) -> SendingCall<C>
         requires limits { IsWithinLimits self.now.config.now }
+        requires config { self.now.config.now ≡ L.config }
         requires index { (position.index < 4) × (1 ≤ position.count) × (position.count ≤ 4) }
         ensures { IsTurning C.Clock position.count position.index self.now.rounds.count lane result }
     {
@@ -244,6 +250,7 @@ where
             work,
             move ||
                 requires { IsWithinLimits self.now.config.now
+                    × (self.now.config.now ≡ L.config)
                     × (position.index < position.count) × (position.count ≤ 4) }
             { self.call_sending(position, lane) },
         )
@@ -257,6 +264,7 @@ where
         lanes: SendingLanes<C>,
     ) -> SendingCalls<C>
         requires limits { IsWithinLimits self.now.config.now }
+        requires config { self.now.config.now ≡ L.config }
         requires count { (1 ≤ count) × (count ≤ 4) }
         ensures { AreTurning C.Clock count self.now.rounds.count lanes result }
     {
@@ -381,13 +389,14 @@ where
         requires range { IsGmInRange settings.now }
         requires senders { 1 ≤ settings.now.senders }
         requires limits { IsWithinLimits self.now.config.now }
+        requires config { self.now.config.now ≡ L.config }
         requires rounds { self.now.rounds.count ≡ all_rounds settings.now }
         ensures { IfOk result (HasDone P.Port C.Clock settings.now self.now.config.now opened) }
     {
         let event = EventLane {
             port: opened.p5,
             clock: opened.c1,
-            tally: Tally::default(),
+            failed: 0,
         };
         let sending = sending_lanes(opened.c2, opened.c3, opened.c4, opened.c5);
         let event = self.start_event(scope, event);
@@ -463,6 +472,7 @@ where
     requires range { IsGmInRange settings.now }
     requires senders { 1 ≤ settings.now.senders }
     requires limits { IsWithinLimits config.now }
+    requires config { config.now ≡ L.config }
     ensures { IfOk result (HasDone P.Port C.Clock settings.now config.now opened) }
 {
     let rounds = Rounds {
@@ -494,6 +504,7 @@ where
                 × (seen_of P.Port opened.p3 ≡ L.opened 3)
                 × IsGmInRange settings.now × (1 ≤ settings.now.senders)
                 × IsWithinLimits crew.now.config.now
+                × (crew.now.config.now ≡ L.config)
                 × (crew.now.rounds.count ≡ all_rounds settings.now) }
             ensures { IfOk result
                 (HasDone P.Port C.Clock settings.entry.now crew.entry.now.config.now opened) }

@@ -3,6 +3,7 @@
 ghost use Rattle.std.specs.Prelude.{◌≡◌, ◌+◌, ◌≤◌, [], true, false, if◌then◌else◌, IfOk, IfSome, OnErr};
 ghost use Rattle.ptu_outside.specs.Faults.{HasNotFallen, HasRisen};
 ghost use Rattle.ptu_profile.specs.Grandmaster.{IsWithinLimits};
+ghost use Rattle.ptu_shard.specs.Answered.{failed_by, sent_by};
 ghost use Rattle.ptu_shared.specs.Opening.{HaveFailed};
 ghost use Rattle.ptu_lanes.specs.Waiting.{GaveFirst, HasTaken, Took};
 
@@ -41,6 +42,8 @@ const IDLE: Delays = Delays {
 
 // What was sent for a Delay_Req that was answered so.
 fn delays_of(answered: &Answered) -> Delays
+    ensures sent { result.sent ≡ sent_by answered.now }
+    ensures failed { result.failed ≡ failed_by answered.now }
     ensures most { result.sent + result.failed ≤ 1 }
     ensures missed { result.missed ≡ 0 }
 {
@@ -57,7 +60,8 @@ fn answer_delay<P: Port + Send, L: Rates, G: Ledger, R: Ledger, W: Wait>(
     origin: Origin,
     bytes: &[u8],
 ) -> Result<Delays, OutOfMemory>
-    requires { IsWithinLimits service.now.config.now }
+    requires limits { IsWithinLimits service.now.config.now }
+    requires config { service.now.config.now ≡ L.config }
     ensures most { IfOk result (λ s. s.sent + s.failed ≤ 1) }
     ensures missed { IfOk result (λ s. s.missed ≡ 0) }
 {
@@ -81,7 +85,8 @@ fn take_one<P: Port + Send, C: Clock, L: Rates, G: Ledger, R: Ledger, W: Wait>(
     clock: &mut C,
     buffer: &mut [u8; LONGEST_DATAGRAM],
 ) -> Result<(Delays, bool), OutOfMemory>
-    requires { IsWithinLimits service.now.config.now }
+    requires limits { IsWithinLimits service.now.config.now }
+    requires config { service.now.config.now ≡ L.config }
     ensures most { IfOk result (λ r. r.0.sent + r.0.failed + r.0.missed ≤ 1) }
     ensures once { IfOk result (λ r. r.1 ≡ true → r.0.missed ≡ 0) }
     ensures taken { IfOk result (λ r. HasTaken P.Port C.Clock (if r.1 then 1 else 0) r.0.missed
@@ -121,7 +126,8 @@ pub fn delay_round<P: Port + Send, C: Clock, L: Rates, G: Ledger, R: Ledger>(
     port: &mut P,
     clock: &mut C,
 ) -> Result<Delays, OutOfMemory>
-    requires { IsWithinLimits config.now }
+    requires limits { IsWithinLimits config.now }
+    requires config { config.now ≡ L.config }
     ensures most { IfOk result (λ s. s.sent + s.failed + s.missed ≤ 64) }
     // A receive that failed was the last.
     ensures once { IfOk result (λ s. s.missed ≤ 1) }

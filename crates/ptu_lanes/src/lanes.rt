@@ -27,10 +27,11 @@ pub(crate) struct Tally {
 impl Tally {
     /// The tally with so many more.
     pub(crate) fn plus(self, sent: u64, failed: u64) -> Tally
-        ensures { result.failed ≡ min (self.failed + failed) (2 ^ 64 - 1) }
+        ensures sent { result.sent ≡ min (self.sent + sent) (2 ^ 128 - 1) }
+        ensures failed { result.failed ≡ min (self.failed + failed) (2 ^ 64 - 1) }
     {
         Tally {
-            sent: self.sent.saturating_add(sent.into()),
+            sent: self.sent.saturating_add(u128::from(sent)),
             failed: self.failed.saturating_add(failed),
         }
     }
@@ -45,19 +46,19 @@ pub(crate) struct ControlLane<P: Port, C: Clock, G: Ledger, R: Ledger> {
     pub tally: Tally,
 }
 
-/// The lane that takes Delay_Reqs.
+/// The lane that takes Delay_Reqs, and how many of its receives failed. What the tables' ports are
+/// sent is counted beside the tables.
 #[derive(Drop)]
 pub(crate) struct EventLane<P: Port, C: Clock> {
     pub port: P,
     pub clock: C,
-    pub tally: Tally,
+    pub failed: u64,
 }
 
-/// A lane that turns tables. Failed sends are counted beside the tables, whose ports failed.
+/// A lane that turns tables. What their ports are sent is counted beside them.
 #[derive(Drop)]
 pub(crate) struct SendingLane<C: Clock> {
     pub clock: C,
-    pub sent: u128,
 }
 
 /// The lanes that turn tables, of which the first ones are at work.
@@ -166,7 +167,8 @@ impl<P: Port + Send, L: Rates, G: Ledger, R: Ledger, W: Wait> Service<'_, P, L, 
         rounds: &Rounds,
         mut lane: EventLane<P, C>,
     ) -> Result<EventLane<P, C>, OutOfMemory>
-        requires { IsWithinLimits self.now.config.now }
+        requires limits { IsWithinLimits self.now.config.now }
+        requires config { self.now.config.now ≡ L.config }
         ensures { IfOk result (EventLaneDid P.Port C.Clock 1 lane) }
     {
         let delays = delay_round(
@@ -177,7 +179,7 @@ impl<P: Port + Send, L: Rates, G: Ledger, R: Ledger, W: Wait> Service<'_, P, L, 
             &mut lane.port,
             &mut lane.clock,
         )?;
-        lane.tally = lane.tally.plus(delays.sent, delays.missed);
+        lane.failed = lane.failed.saturating_add(delays.missed);
         self.wait(rounds, &mut lane.port);
         Ok(lane)
     }
@@ -185,11 +187,12 @@ impl<P: Port + Send, L: Rates, G: Ledger, R: Ledger, W: Wait> Service<'_, P, L, 
     // A round of the lane at this position that turns tables.
     fn turn_own<C: Clock>(&self, position: Position, mut lane: SendingLane<C>) -> SendingLane<C>
         requires limits { IsWithinLimits self.now.config.now }
+        requires config { self.now.config.now ≡ L.config }
         requires index { (position.index < position.count) × (position.count ≤ 4) }
         ensures { PassedBy (own_tables position.count position.index)
             (C.moments lane.clock) (C.moments result.clock) }
     {
-        let sends = turn_round(
+        turn_round(
             self.rt,
             self.shared,
             self.config,
@@ -197,7 +200,6 @@ impl<P: Port + Send, L: Rates, G: Ledger, R: Ledger, W: Wait> Service<'_, P, L, 
             position.index,
             position.count,
         );
-        lane.sent = lane.sent.saturating_add(sends.sent.into());
         lane
     }
 
@@ -234,7 +236,8 @@ impl<P: Port + Send, L: Rates, G: Ledger, R: Ledger, W: Wait> Service<'_, P, L, 
         rounds: &Rounds,
         lane: EventLane<P, C>,
     ) -> Result<EventLane<P, C>, OutOfMemory>
-        requires { IsWithinLimits self.now.config.now }
+        requires limits { IsWithinLimits self.now.config.now }
+        requires config { self.now.config.now ≡ L.config }
         ensures { IfOk result (EventLaneDid P.Port C.Clock rounds.now.count lane) }
     {
         let mut lane = lane;
@@ -256,6 +259,7 @@ impl<P: Port + Send, L: Rates, G: Ledger, R: Ledger, W: Wait> Service<'_, P, L, 
         lane: SendingLane<C>,
     ) -> Result<SendingLane<C>, OutOfMemory>
         requires limits { IsWithinLimits self.now.config.now }
+        requires config { self.now.config.now ≡ L.config }
         requires index { (position.index < position.count) × (position.count ≤ 4) }
         ensures { IfOk result (λ new.
             TurnedOwn C.Clock position.count position.index rounds.now.count lane.clock new.clock) }

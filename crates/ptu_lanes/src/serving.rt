@@ -1,19 +1,20 @@
 //! A grandmaster that is served by lanes, from its ports to its last numbers.
 
-ghost use Rattle.std.specs.Prelude.{◌≡◌, ◌+◌, ◌≤◌, [], IfOk};
+ghost use Rattle.std.specs.Prelude.{◌≡◌, ◌+◌, ◌-◌, ◌^◌, ◌≤◌, ◌<◌, min, [], IfOk};
 ghost use Rattle.ptu_profile.specs.Grandmaster.{IsWithinLimits};
 ghost use Rattle.ptu_shared.specs.{Blanks.{IsBlankOf}, Opening.{seen_of}};
 ghost use Rattle.ptu_config.specs.Limits.{IsGmInRange};
 ghost use Rattle.ptu_lanes.specs.Changing.{greatest_capacity};
-ghost use Rattle.ptu_lanes.specs.{Ended.{HasEnded}, Served.{TablesAreBack}};
+ghost use Rattle.ptu_lanes.specs.{Ended.{HasEnded}, Served.{TablesAreBack, TablesSent}};
 
+use crate::changing::capacity_at_end;
 use crate::crew::{Blanks, Done, call_all};
 use crate::lanes::Lanes;
 use ptu_admit::Closed;
 use ptu_config::GmSettings;
 use ptu_outside::{Clock, Opened, Port};
 use ptu_profile::GmConfig;
-use ptu_shared::{Failures, Rates, Seat, Shared};
+use ptu_shared::{PortTally, Rates, Seat, Shared, Tallies};
 use ptu_units::OutOfMemory;
 use std::alloc::Global;
 use std::marker::Brand;
@@ -46,37 +47,45 @@ pub enum Ended<P, C> {
     Refused(Opened<P, C>),
 }
 
-// What all lanes have sent.
-fn sent_by<P: Port, C: Clock, G: Ledger, R: Ledger>(lanes: &Lanes<P, C, G, R>) -> u128 {
-    let sending = &lanes.sending;
-    lanes
-        .control
-        .tally
-        .sent
-        .saturating_add(lanes.event.tally.sent)
-        .saturating_add(sending.first.sent)
-        .saturating_add(sending.second.sent)
-        .saturating_add(sending.third.sent)
-        .saturating_add(sending.fourth.sent)
+// What the ports of the tables were sent, and that of the lane that takes Signaling.
+fn sent_by(tallies: &Tallies, control: u128) -> u128
+    ensures { let t = tallies.now in result
+        ≡ min (t.p0.sent + (t.p1.sent + (t.p2.sent + (t.p3.sent + (control + 0))))) (2 ^ 128 - 1) }
+{
+    control
+        .saturating_add(tallies.p0.sent)
+        .saturating_add(tallies.p1.sent)
+        .saturating_add(tallies.p2.sent)
+        .saturating_add(tallies.p3.sent)
+}
+
+// How many sends of a table's port failed.
+fn failures(tally: &PortTally) -> u128
+    ensures value { result ≡ tally.now.failed }
+    ensures range { result < 2 ^ 64 }
+{
+    u128::from(tally.failed)
 }
 
 // What failed at the ports of the tables, and at those of the lanes that take datagrams.
-fn failed_by(failures: &Failures, control: u64, event: u64) -> u128
-    ensures { let f = failures.now in
-        result ≡ f.p0 + (f.p1 + (f.p2 + (f.p3 + (control + (event + 0))))) }
+fn failed_by(tallies: &Tallies, control: u64, event: u64) -> u128
+    ensures { let t = tallies.now in result
+        ≡ t.p0.failed + (t.p1.failed + (t.p2.failed + (t.p3.failed + (control + (event + 0))))) }
 {
-    let tables = u128::from(failures.p0)
-        + u128::from(failures.p1)
-        + u128::from(failures.p2)
-        + u128::from(failures.p3);
+    let tables = failures(&tallies.p0)
+        + failures(&tallies.p1)
+        + failures(&tallies.p2)
+        + failures(&tallies.p3);
     tables + u128::from(control) + u128::from(event)
 }
 
-// Closes the tables, and gives back the ports and clocks, with the last numbers.
+// Closes the tables, and gives back the ports and clocks, with the last numbers. This capacity is
+// in force, since it was put in force last. No clause of a lock says so; another would be a fault.
 fn close<P: Port + Send, C: Clock, L: Rates, G: Ledger, R: Ledger>(
     shared: Shared<P, L, G, R>,
     mut seats: Vec<Seat<G, R>>,
     lanes: Lanes<P, C, G, R>,
+    capacity: u64,
 ) -> Result<(Opened<P, C>, Totals), OutOfMemory>
     requires ledger { (L.parts ≡ 4) × (L.seats ≡ 1) × (G.parts ≡ 1) × (R.parts ≡ 1) }
     requires seats { seats.items ≡ [] }
@@ -86,24 +95,28 @@ fn close<P: Port + Send, C: Clock, L: Rates, G: Ledger, R: Ledger>(
         × (r.0.c3 ≡ lanes.sending.second.clock) × (r.0.c4 ≡ lanes.sending.third.clock)
         × (r.0.c5 ≡ lanes.sending.fourth.clock)) }
     ensures tables { IfOk result (λ r. TablesAreBack P.Port L.opened r.0 r.1.failed
-        lanes.control.tally.failed lanes.event.tally.failed) }
+        lanes.control.tally.failed lanes.event.failed) }
     ensures totals { IfOk result (λ r. (r.1.granted ≡ lanes.control.seat.granted)
         × (r.1.refused ≡ lanes.control.seat.refused)) }
-    ensures held { IfOk result (λ r. r.1.held ≤ L.most) }
+    ensures held { IfOk result (λ r. r.1.held ≤ capacity) }
+    ensures sent { IfOk result (λ r. TablesSent P.Port L.config L.opened r.0
+        lanes.control.tally.sent r.1.sent) }
 {
-    let sent = sent_by(&lanes);
     let Lanes {
         control,
         event,
         sending,
     } = lanes;
     seats.push(control.seat)?;
-    let Ok((closed, failures)) = shared.close_with_failures(seats) else {
+    let Ok((closed, tallies)) = shared.close_with_tallies(seats) else {
         unreachable!()
     };
+    if tallies.capacity != capacity {
+        return Err(OutOfMemory);
+    }
     let totals = Totals {
-        sent,
-        failed: failed_by(&failures, control.tally.failed, event.tally.failed),
+        sent: sent_by(&tallies, control.tally.sent),
+        failed: failed_by(&tallies, control.tally.failed, event.failed),
         granted: closed.granted,
         refused: closed.refused,
         held: closed.total,
@@ -155,6 +168,7 @@ where
     requires range { IsGmInRange settings.now }
     requires senders { 1 ≤ settings.now.senders }
     requires limits { IsWithinLimits config.now }
+    requires config { config.now ≡ L.config }
     ensures { IfOk result (HasEnded P.Port C.Clock settings.now config.now opened) }
 {
     let gate = OnceLock::new();
@@ -170,7 +184,7 @@ where
     let Some(Some(shared)) = gate.into_inner() else {
         return Err(OutOfMemory);
     };
-    let (back, totals) = close(shared, seats, lanes)?;
+    let (back, totals) = close(shared, seats, lanes, capacity_at_end(settings))?;
     Ok(Ended::Served(back, totals))
 }
 

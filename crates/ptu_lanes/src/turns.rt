@@ -30,6 +30,7 @@ fn turn_if_own<P: Port + Send, C: Clock, L: Rates, G: Ledger, R: Ledger>(
     own: bool,
 ) -> Sends
     requires limits { IsWithinLimits config.now }
+    requires config { config.now ≡ L.config }
     requires table { table < 4 }
     ensures { PassedBy (if own then 1 else 0) (C.moments clock.old) (C.moments clock.new) }
 {
@@ -54,6 +55,7 @@ pub fn turn_round<P: Port + Send, C: Clock, L: Rates, G: Ledger, R: Ledger>(
     lanes: usize,
 ) -> Sends
     requires limits { IsWithinLimits config.now }
+    requires config { config.now ≡ L.config }
     requires lanes { (lane < lanes) × (lanes ≤ 4) }
     ensures { PassedBy (own_tables lanes lane) (C.moments clock.old) (C.moments clock.new) }
 {

@@ -1,3 +1,4 @@
 pub mod Verdicts
 pub mod Shares
 pub mod Failing
+pub mod Histories

@@ -3,3 +3,4 @@ pub mod Answers
 pub mod Delays
 pub mod Opening
 pub mod Blanks
+pub mod Histories

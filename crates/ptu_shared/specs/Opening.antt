@@ -2,16 +2,19 @@
 -- failed since.
 use Rattle.std.specs.Prelude.{◌≡◌, ℕ, ◌+◌, ◌-◌, ◌^◌, ◌≤◌, ◌<◌, min, Bool, true, List, [], Option, Some, None}
 use Rattle.ptu_outside.specs.declared.{arrival.Arrival.{Arrival}, port.Port.{Ghosts as Ports}}
+use Rattle.ptu_outside.specs.Departure.{Departure}
+use Rattle.ptu_profile.specs.declared.grandmaster.GmConfig.{GmConfig}
 use Rattle.ptu_outside.specs.Faults.{HasRisenBy, HasRisenJust, HasNotFallen}
 
--- what waits at a port, where it tells that, and its count of faults
+-- what a port was sent and what waits there, where it tells that, and its count of faults
 pub record Seen : Type 0 where
+  pub sent : Option (List Departure)
   pub waiting : Option (List Arrival)
   pub faults : ℕ
 
 -- what is seen of this port
 abbrev pub seen_of : {P : Type 0} → Ports P → P → Seen
-seen_of ports port = record { waiting = ports.waiting port; faults = ports.faults port }
+seen_of ports port = record { sent = ports.sent port; waiting = ports.waiting port; faults = ports.faults port }
 
 -- what waits at each of the four tables' ports is what waited there when it was opened
 abbrev pub AreAsOpened : {P : Type 0} → Ports P → (ℕ → Seen) → P → P → P → P → Type 0
@@ -19,12 +22,16 @@ AreAsOpened ports opened p0 p1 p2 p3 =
     (ports.waiting p0 ≡ (opened 0).waiting) × (ports.waiting p1 ≡ (opened 1).waiting) × (ports.waiting p2 ≡ (opened 2).waiting)
     × (ports.waiting p3 ≡ (opened 3).waiting)
 
--- a port at which nothing waits, and one that does not tell what waits; neither has had a fault
+-- a port that was sent nothing and at which nothing waits, and one that does not tell; neither has had a fault
 abbrev pub idle_port : Seen
-idle_port = record { waiting = Some []; faults = 0 }
+idle_port = record { sent = Some []; waiting = Some []; faults = 0 }
 
 abbrev pub untold_port : Seen
-untold_port = record { waiting = None; faults = 0 }
+untold_port = record { sent = None; waiting = None; faults = 0 }
+
+-- a configuration for examples and tests, that of the samples of `ptu_profile`
+abbrev pub sample_config : GmConfig
+sample_config = record { identity = record { clock = 0x0a00000000000001; port = 1 }; domain = 4; class = 84; max_duration = 300; epoch = 0 }
 
 -- so many calls of a port failed between these two counts of its faults, each of which is a fault, and just one where `once` says
 -- so; and there are no other faults. A count that stands at its end is taken as risen by as much.

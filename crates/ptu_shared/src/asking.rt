@@ -6,6 +6,7 @@ ghost use Rattle.ptu_history.specs.{Client.{table_of as table_of_client}, Histor
 ghost use Rattle.ptu_history.specs.{Events.{Request}, Step.{step}};
 ghost use Rattle.ptu_history.specs.Verdict.{verdict as verdict_after};
 ghost use Rattle.ptu_profile.specs.Grandmaster.{IsWithinLimits};
+ghost use Rattle.ptu_admit.specs.Alone.{GoesOnAlone};
 ghost use Rattle.ptu_admit.specs.Lent.{Lent, StandFor, four, is_lent, live_others, moment_for, table_for};
 ghost use Rattle.ptu_admit.specs.Rows.{kept_rate};
 ghost use Rattle.ptu_admit.specs.Verdict.{IsAt, ask_of, config_of, unless_short, verdict_beside, verdict_of};
@@ -55,6 +56,7 @@ pub(crate) fn ask_one<P: Port, L: Rates, G: Ledger, R: Ledger, J: Place>(
     ensures desk { (desk.new.granted ≡ desk.old.granted)
         × (desk.new.refused ≡ desk.old.refused) }
     ensures port { table.new.shard.port ≡ table.old.shard.port }
+    ensures tally { table.new.tally ≡ table.old.tally }
     ensures none { IfNone result ((table.new.shard ≡ table.old.shard)
         × (desk.new.book ≡ desk.old.book)) }
     ensures outcome { (opening : ℕ) (rest : List Lent) (history : List Record) →
@@ -74,6 +76,7 @@ pub(crate) fn ask_one<P: Port, L: Rates, G: Ledger, R: Ledger, J: Place>(
         ++ (step (config_of opening demand.now.config.now) history
         (max demand.now.at (max desk.old.book.moment table.old.shard.moment))
         (Request demand.now.client.now (ask_of demand.now.ask.now))).records)) }
+    ensures alone { GoesOnAlone J.index table.old.shard table.new.shard }
 {
     audit_table(table, desk);
     let before = table.shard.held();
@@ -117,6 +120,8 @@ pub(crate) fn ask_all<P: Port, L: Rates, G: Ledger, R: Ledger>(
     ensures ports { (t0.new.shard.port ≡ t0.old.shard.port)
         × (t1.new.shard.port ≡ t1.old.shard.port) × (t2.new.shard.port ≡ t2.old.shard.port)
         × (t3.new.shard.port ≡ t3.old.shard.port) }
+    ensures tallies { (t0.new.tally ≡ t0.old.tally) × (t1.new.tally ≡ t1.old.tally)
+        × (t2.new.tally ≡ t2.old.tally) × (t3.new.tally ≡ t3.old.tally) }
     ensures outcome { (opening : ℕ) (history : List Record) →
         let lent = four t0.old.shard t1.old.shard t2.old.shard t3.old.shard in
         StandFor opening lent desk.old.book history →
@@ -131,6 +136,9 @@ pub(crate) fn ask_all<P: Port, L: Rates, G: Ledger, R: Ledger>(
         ++ (step (config_of opening demand.now.config.now) history
         (moment_for demand.now.at desk.old.book demand.now.client.now lent)
         (Request demand.now.client.now (ask_of demand.now.ask.now))).records) }
+    ensures alone { GoesOnAlone 0 t0.old.shard t0.new.shard
+        × GoesOnAlone 1 t1.old.shard t1.new.shard × GoesOnAlone 2 t2.old.shard t2.new.shard
+        × GoesOnAlone 3 t3.old.shard t3.new.shard }
 {
     let before = audit_tables(t0, t1, t2, t3, desk);
     let verdict = decide_all(

@@ -5,6 +5,7 @@ ghost use Rattle.ptu_history.specs.{Client.{table_of as table_of_client}, Histor
 ghost use Rattle.ptu_history.specs.{Live.{live}, Verdict.{Config}, Events.{Cancel, Resize}};
 ghost use Rattle.ptu_history.specs.{Shedding.{shed_grants}, Step.{step}};
 ghost use Rattle.ptu_units.specs.Limits.{IsCapacity};
+ghost use Rattle.ptu_admit.specs.Alone.{GoesOnAlone};
 ghost use Rattle.ptu_admit.specs.Lent.{Lent, StandFor, four, is_lent, moment_for_all, shares, table_for};
 ghost use Rattle.ptu_admit.specs.{Rows.{has_live_row}, Shed.{shed_of}, Tables.{IsSwept}};
 
@@ -34,6 +35,7 @@ pub(crate) fn cancel_one<P: Port, L: Rates, G: Ledger, R: Ledger, J: Place>(
     ensures desk { (desk.new.granted ≡ desk.old.granted)
         × (desk.new.refused ≡ desk.old.refused) }
     ensures port { table.new.shard.port ≡ table.old.shard.port }
+    ensures tally { table.new.tally ≡ table.old.tally }
     ensures live { (opening : ℕ) (rest : List Lent) (history : List Record) →
         StandFor opening (table_for client.now table.old.shard ∷ rest) desk.old.book history →
         result.ended ≡ live history result.at client.now kind }
@@ -43,6 +45,7 @@ pub(crate) fn cancel_one<P: Port, L: Rates, G: Ledger, R: Ledger, J: Place>(
         is_lent (table_of_client client.now) rest ≡ false →
         StandFor opened.capacity (table_for client.now table.new.shard ∷ rest) desk.new.book
         (history ++ (step opened history result.at (Cancel client.now kind)).records) }
+    ensures alone { GoesOnAlone J.index table.old.shard table.new.shard }
 {
     audit_table(table, desk);
     let before = table.shard.held();
@@ -82,6 +85,8 @@ pub(crate) fn resize_all<P: Port, L: Rates, G: Ledger, R: Ledger>(
     ensures ports { (t0.new.shard.port ≡ t0.old.shard.port)
         × (t1.new.shard.port ≡ t1.old.shard.port) × (t2.new.shard.port ≡ t2.old.shard.port)
         × (t3.new.shard.port ≡ t3.old.shard.port) }
+    ensures tallies { (t0.new.tally ≡ t0.old.tally) × (t1.new.tally ≡ t1.old.tally)
+        × (t2.new.tally ≡ t2.old.tally) × (t3.new.tally ≡ t3.old.tally) }
     ensures shed { (opening : ℕ) (history : List Record) →
         StandFor opening (four t0.old.shard t1.old.shard t2.old.shard t3.old.shard)
         desk.old.book history →
@@ -92,6 +97,9 @@ pub(crate) fn resize_all<P: Port, L: Rates, G: Ledger, R: Ledger>(
         IfOk result (λ r. StandFor opened.capacity
         (four t0.new.shard t1.new.shard t2.new.shard t3.new.shard) desk.new.book
         (history ++ (step opened history r.at (Resize change.capacity)).records)) }
+    ensures alone { GoesOnAlone 0 t0.old.shard t0.new.shard
+        × GoesOnAlone 1 t1.old.shard t1.new.shard × GoesOnAlone 2 t2.old.shard t2.new.shard
+        × GoesOnAlone 3 t3.old.shard t3.new.shard }
 {
     let before = audit_tables(t0, t1, t2, t3, desk);
     let resized = resize(
@@ -125,6 +133,8 @@ pub(crate) fn finish_all<P: Port, L: Rates, G: Ledger, R: Ledger>(
         (four t0.old.shard t1.old.shard t2.old.shard t3.old.shard) in
         IsSwept n t0.old.shard t0.new.shard × IsSwept n t1.old.shard t1.new.shard
         × IsSwept n t2.old.shard t2.new.shard × IsSwept n t3.old.shard t3.new.shard }
+    ensures tallies { (t0.new.tally ≡ t0.old.tally) × (t1.new.tally ≡ t1.old.tally)
+        × (t2.new.tally ≡ t2.old.tally) × (t3.new.tally ≡ t3.old.tally) }
     ensures total { desk.new.book.total
         ≡ shares (four t0.new.shard t1.new.shard t2.new.shard t3.new.shard) }
     ensures desk { (desk.new.granted ≡ desk.old.granted)

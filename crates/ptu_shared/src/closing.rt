@@ -3,7 +3,7 @@
 ghost use Rattle.std.specs.Prelude.{◌≡◌, ◌≤◌, ◌<◌, ◌+◌, ◌*◌, ◌^◌, ◌↔◌, [], ◌∷◌, IfErr, IfOk, IsOk, IsTrue, length, sum, vec_len};
 ghost use Rattle.ptu_shard.specs.Row.{share_of};
 ghost use Rattle.ptu_admit.specs.{Lent.{four, moment_for_all}, Rows.{live_rows}};
-ghost use Rattle.ptu_shared.specs.Opening.{AreAsOpened, HaveFailed};
+ghost use Rattle.ptu_shared.specs.{Histories.{SendsCounted, SendsLawfully}, Opening.{AreAsOpened, HaveFailed, seen_of}};
 ghost use Rattle.ptu_shared.specs.Seats.{AreUnsettled, granted_in, refused_in};
 
 use crate::changing::finish_all;
@@ -13,6 +13,7 @@ use crate::rates::Rates;
 use crate::seat::{FULL, Seat};
 use crate::shared::Shared;
 use crate::table::Table;
+use crate::tally::Tallies;
 use ptu_admit::Closed;
 use ptu_outside::Port;
 use std::sync::Mutex;
@@ -34,19 +35,6 @@ pub struct CloseFault<P: Port + Send, L: Rates, G: Ledger, R: Ledger> {
     pub shared: Shared<P, L, G, R>,
     /// The seats, as they were.
     pub seats: Vec<Seat<G, R>>,
-}
-
-/// How many sends of each table's port failed. A number that would be above 2^64 - 1 stands there.
-#[derive(Clone, Copy)]
-pub struct Failures {
-    /// Of the port of table 0.
-    pub p0: u64,
-    /// Of the port of table 1.
-    pub p1: u64,
-    /// Of the port of table 2.
-    pub p2: u64,
-    /// Of the port of table 3.
-    pub p3: u64,
 }
 
 // Nothing changes. Adds what the seats have counted to the counts of seats whose parts of the
@@ -124,14 +112,14 @@ fn count_seats<L: Rates, G: Ledger, R: Ledger>(
 }
 
 // Closes four tables, in order of index, and their book: each count is what the table holds at the
-// greatest of the five moments. Tells how many sends of their ports failed, too.
+// greatest of the five moments. Tells what their ports were sent and the capacity in force, too.
 fn close_tables<P: Port, L: Rates, G: Ledger, R: Ledger>(
     mut t0: Table<P, L, First>,
     mut t1: Table<P, L, Second>,
     mut t2: Table<P, L, Third>,
     mut t3: Table<P, L, Fourth>,
     mut desk: Desk<L, G, R>,
-) -> (Closed<P>, Failures)
+) -> (Closed<P>, Tallies)
     requires { L.parts ≡ 4 }
     ensures counts { let n = moment_for_all 0 desk.book
         (four t0.shard t1.shard t2.shard t3.shard) in
@@ -140,23 +128,27 @@ fn close_tables<P: Port, L: Rates, G: Ledger, R: Ledger>(
         ∷ share_of (live_rows n t2.shard.rows) ∷ share_of (live_rows n t3.shard.rows) ∷ [] }
     ensures total { result.0.total ≡ sum result.0.counts }
     ensures most { result.0.total ≤ L.most }
+    ensures in_force { result.0.total ≤ result.1.capacity }
     ensures verdicts { (result.0.granted ≡ desk.granted) × (result.0.refused ≡ desk.refused) }
     ensures ports { (result.0.p0 ≡ t0.shard.port) × (result.0.p1 ≡ t1.shard.port)
         × (result.0.p2 ≡ t2.shard.port) × (result.0.p3 ≡ t3.shard.port) }
     ensures opened { AreAsOpened P.Port L.opened
         result.0.p0 result.0.p1 result.0.p2 result.0.p3 }
+    ensures tallies { (result.1.p0 ≡ t0.tally) × (result.1.p1 ≡ t1.tally)
+        × (result.1.p2 ≡ t2.tally) × (result.1.p3 ≡ t3.tally) }
     ensures failures { let once = P.counts_once in
-        HaveFailed once result.1.p0 (L.opened 0).faults (P.faults result.0.p0)
-        × HaveFailed P.counts_once result.1.p1 (L.opened 1).faults (P.faults result.0.p1)
-        × HaveFailed P.counts_once result.1.p2 (L.opened 2).faults (P.faults result.0.p2)
-        × HaveFailed P.counts_once result.1.p3 (L.opened 3).faults (P.faults result.0.p3) }
+        HaveFailed once result.1.p0.failed (L.opened 0).faults (P.faults result.0.p0)
+        × HaveFailed P.counts_once result.1.p1.failed (L.opened 1).faults (P.faults result.0.p1)
+        × HaveFailed P.counts_once result.1.p2.failed (L.opened 2).faults (P.faults result.0.p2)
+        × HaveFailed P.counts_once result.1.p3.failed (L.opened 3).faults (P.faults result.0.p3) }
 {
     finish_all(&mut t0, &mut t1, &mut t2, &mut t3, &mut desk);
-    let failures = Failures {
-        p0: t0.failed,
-        p1: t1.failed,
-        p2: t2.failed,
-        p3: t3.failed,
+    let tallies = Tallies {
+        p0: t0.tally,
+        p1: t1.tally,
+        p2: t2.tally,
+        p3: t3.tally,
+        capacity: desk.book.capacity(),
     };
     let closed = Closed {
         counts: [
@@ -173,7 +165,7 @@ fn close_tables<P: Port, L: Rates, G: Ledger, R: Ledger>(
         p2: t2.into_port(),
         p3: t3.into_port(),
     };
-    (closed, failures)
+    (closed, tallies)
 }
 
 // Whether the counts are those of the book.
@@ -201,26 +193,33 @@ impl<P: Port + Send, L: Rates, G: Ledger, R: Ledger> Shared<P, L, G, R> {
         // Each port is that of its table: what waits there is what the ledger names.
         ensures opened { IfOk result (λ closed.
             AreAsOpened P.Port L.opened closed.p0 closed.p1 closed.p2 closed.p3) }
+        // What the port of each table was sent are, in order, messages of a history of the table.
+        ensures lawful { IfOk result (λ closed.
+            SendsLawfully P.Port L.config 0 (L.opened 0) (seen_of P.Port closed.p0)
+            × SendsLawfully P.Port L.config 1 (L.opened 1) (seen_of P.Port closed.p1)
+            × SendsLawfully P.Port L.config 2 (L.opened 2) (seen_of P.Port closed.p2)
+            × SendsLawfully P.Port L.config 3 (L.opened 3) (seen_of P.Port closed.p3)) }
         ensures fault { IfErr result (λ fault. (fault.seats.items ≡ seats.items)
             × AreUnsettled (record { granted = fault.granted; refused = fault.refused })
             (record { granted = fault.seats_granted; refused = fault.seats_refused }) seats.items) }
         ensures all { vec_len seats ≡ L.seats → IsOk result }
     {
-        match self.close_with_failures(seats) {
+        match self.close_with_tallies(seats) {
             Ok((closed, _)) => Ok(closed),
             Err(fault) => Err(fault),
         }
     }
 
-    /// Closes the tables as `close` does, and counts the failed sends of their ports.
+    /// Closes the tables as `close` does, and tells what their ports were sent, how many of their
+    /// sends failed, and the capacity in force.
     ///
     /// # Errors
     /// A `CloseFault` exactly where the seats' sums differ from the book's two counts. All seats
     /// together never differ.
-    pub fn close_with_failures(
+    pub fn close_with_tallies(
         self,
         mut seats: Vec<Seat<G, R>>,
-    ) -> Result<(Closed<P>, Failures), CloseFault<P, L, G, R>>
+    ) -> Result<(Closed<P>, Tallies), CloseFault<P, L, G, R>>
         requires { (L.parts ≡ 4) × (G.parts ≡ L.seats) × (R.parts ≡ L.seats) }
         ensures verdicts { IfOk result (λ r. (r.0.granted ≡ granted_in seats.items)
             × (r.0.refused ≡ refused_in seats.items)) }
@@ -228,12 +227,21 @@ impl<P: Port + Send, L: Rates, G: Ledger, R: Ledger> Shared<P, L, G, R> {
         ensures most { IfOk result (λ r. r.0.total ≤ L.most) }
         ensures opened { IfOk result (λ r.
             AreAsOpened P.Port L.opened r.0.p0 r.0.p1 r.0.p2 r.0.p3) }
+        // No more is held than is in force.
+        ensures in_force { IfOk result (λ r. r.0.total ≤ r.1.capacity) }
         // Each failed send is a fault of that port, and there are no other faults.
         ensures failures { IfOk result (λ r.
-            HaveFailed P.counts_once r.1.p0 (L.opened 0).faults (P.faults r.0.p0)
-            × HaveFailed P.counts_once r.1.p1 (L.opened 1).faults (P.faults r.0.p1)
-            × HaveFailed P.counts_once r.1.p2 (L.opened 2).faults (P.faults r.0.p2)
-            × HaveFailed P.counts_once r.1.p3 (L.opened 3).faults (P.faults r.0.p3)) }
+            HaveFailed P.counts_once r.1.p0.failed (L.opened 0).faults (P.faults r.0.p0)
+            × HaveFailed P.counts_once r.1.p1.failed (L.opened 1).faults (P.faults r.0.p1)
+            × HaveFailed P.counts_once r.1.p2.failed (L.opened 2).faults (P.faults r.0.p2)
+            × HaveFailed P.counts_once r.1.p3.failed (L.opened 3).faults (P.faults r.0.p3)) }
+        // What the port of each table was sent are, in order, messages of a history of the table,
+        // and so many.
+        ensures lawful { IfOk result (λ r.
+            SendsCounted P.Port L.config 0 (L.opened 0) r.0.p0 r.1.p0.sent
+            × SendsCounted P.Port L.config 1 (L.opened 1) r.0.p1 r.1.p1.sent
+            × SendsCounted P.Port L.config 2 (L.opened 2) r.0.p2 r.1.p2.sent
+            × SendsCounted P.Port L.config 3 (L.opened 3) r.0.p3 r.1.p3.sent) }
         ensures fault { IfErr result (λ fault. (fault.seats.items ≡ seats.items)
             × AreUnsettled (record { granted = fault.granted; refused = fault.refused })
             (record { granted = fault.seats_granted; refused = fault.seats_refused }) seats.items) }
@@ -251,10 +259,10 @@ impl<P: Port + Send, L: Rates, G: Ledger, R: Ledger> Shared<P, L, G, R> {
         let sums = count_seats(seats.as_mut_slice(), &mut desk);
         if is_settled(&desk, sums) {
             return Ok(close_tables(
-                t0.into_inner(),
-                t1.into_inner(),
-                t2.into_inner(),
-                t3.into_inner(),
+                t0.into_inner().into_table(),
+                t1.into_inner().into_table(),
+                t2.into_inner().into_table(),
+                t3.into_inner().into_table(),
                 desk,
             ));
         }

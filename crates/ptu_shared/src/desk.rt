@@ -144,6 +144,7 @@ pub(crate) fn audit_table<P: Port, L: Rates, G: Ledger, R: Ledger, J: Place>(
 )
     ensures bound { share_of table.old.shard.rows ≤ desk.old.book.total }
     ensures table { table.new.shard ≡ table.old.shard }
+    ensures tally { table.new.tally ≡ table.old.tally }
     ensures desk { (desk.new.book ≡ desk.old.book) × (desk.new.granted ≡ desk.old.granted)
         × (desk.new.refused ≡ desk.old.refused) }
 {
@@ -166,6 +167,8 @@ pub(crate) fn audit_tables<P: Port, L: Rates, G: Ledger, R: Ledger>(
         ≡ shares (four t0.old.shard t1.old.shard t2.old.shard t3.old.shard) }
     ensures tables { (t0.new.shard ≡ t0.old.shard) × (t1.new.shard ≡ t1.old.shard)
         × (t2.new.shard ≡ t2.old.shard) × (t3.new.shard ≡ t3.old.shard) }
+    ensures tallies { (t0.new.tally ≡ t0.old.tally) × (t1.new.tally ≡ t1.old.tally)
+        × (t2.new.tally ≡ t2.old.tally) × (t3.new.tally ≡ t3.old.tally) }
     ensures desk { (desk.new.book ≡ desk.old.book) × (desk.new.granted ≡ desk.old.granted)
         × (desk.new.refused ≡ desk.old.refused) }
 {

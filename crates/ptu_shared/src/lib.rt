@@ -11,13 +11,17 @@ mod asking;
 mod changing;
 mod closing;
 mod desk;
+mod lawful;
 mod place;
 mod rates;
+pub mod samples;
 mod seat;
 mod shared;
 mod table;
+mod tally;
 
-pub use closing::{CloseFault, Failures};
+pub use closing::CloseFault;
 pub use rates::Rates;
 pub use seat::Seat;
 pub use shared::Shared;
+pub use tally::{PortTally, Tallies};

@@ -1,13 +1,14 @@
 //! The ledger of rates: under the locks the shares of the four tables sum to the total of the book.
 
 ghost use Rattle.std.specs.Prelude.{◌≡◌, ◌<◌, ◌+◌, ℕ};
-ghost use Rattle.ptu_shared.specs.Opening.{Seen, untold_port};
+ghost use Rattle.ptu_profile.specs.declared.grandmaster.GmConfig.{GmConfig};
+ghost use Rattle.ptu_shared.specs.Opening.{Seen, sample_config, untold_port};
 
 use std::marker::Brand;
 use std::sync::ledger::{self, Ledger, Share};
 
-/// The ledger of rates, which has four parts, one for each table. It names three numbers more and
-/// what the tables' ports were like, which contracts alone see.
+/// The ledger of rates, which has four parts, one for each table. It names three numbers more,
+/// whose messages the tables send, and what their ports were like, which contracts alone see.
 pub trait Rates: Ledger {
     /// The capacity that is in force at first, in sixteenths of a message per second.
     ghost opening: { ℕ };
@@ -17,6 +18,9 @@ pub trait Rates: Ledger {
 
     /// How many seats there are. So many parts have the ledgers of verdicts.
     ghost seats: { ℕ };
+
+    /// The configuration of the grandmaster whose messages the tables send.
+    ghost config: { GmConfig };
 
     /// What is seen of the port of the table of each index when it is opened.
     ghost opened: { ℕ → Seen };
@@ -28,6 +32,8 @@ impl Rates for Brand {
     ghost most = { 0 };
 
     ghost seats = { 0 };
+
+    ghost config = { sample_config };
 
     ghost opened = { λ _. untold_port };
 }

@@ -9,9 +9,10 @@ ghost use Rattle.ptu_shared.specs.{Answers.{AnswersAsk}, Blanks.{IsBlankOf}};
 ghost use Rattle.ptu_shared.specs.{Delays.{IsLaterIfTooSoon}, Opening.{seen_of}};
 ghost use Rattle.ptu_shared.specs.Seats.{counting, no_verdicts};
 
-use crate::asking::{Demand, ask_all, ask_one};
-use crate::changing::{Change, cancel_one, resize_all};
+use crate::asking::Demand;
+use crate::changing::Change;
 use crate::desk::{Desk, open_desk};
+use crate::lawful::{LawfulTable, ask_all_lawful, ask_lawful, cancel_lawful, resize_lawful};
 use crate::place::{First, Fourth, Place, Second, Third};
 use crate::rates::Rates;
 use crate::seat::Seat;
@@ -37,10 +38,10 @@ use std::sync::{Mutex, Wait};
 #[derive(Drop)]
 pub struct Shared<P: Port + Send, L: Rates, G: Ledger, R: Ledger> {
     pub(crate) alloc: Global,
-    pub(crate) t0: Mutex<Table<P, L, First>>,
-    pub(crate) t1: Mutex<Table<P, L, Second>>,
-    pub(crate) t2: Mutex<Table<P, L, Third>>,
-    pub(crate) t3: Mutex<Table<P, L, Fourth>>,
+    pub(crate) t0: Mutex<LawfulTable<P, L, First>>,
+    pub(crate) t1: Mutex<LawfulTable<P, L, Second>>,
+    pub(crate) t2: Mutex<LawfulTable<P, L, Third>>,
+    pub(crate) t3: Mutex<LawfulTable<P, L, Fourth>>,
     pub(crate) desk: Mutex<Desk<L, G, R>>,
 }
 
@@ -85,10 +86,10 @@ impl<P: Port + Send, L: Rates, G: Ledger, R: Ledger> Shared<P, L, G, R> {
         let (desk, given) = open_desk(alloc, rates, granted, refused, capacity, seats)?;
         let shared = Shared {
             alloc,
-            t0: Mutex::new(Table::new(alloc, p0, part)),
-            t1: Mutex::new(Table::new(alloc, p1, part1)),
-            t2: Mutex::new(Table::new(alloc, p2, part2)),
-            t3: Mutex::new(Table::new(alloc, p3, part3)),
+            t0: Mutex::new(LawfulTable::new(Table::new(alloc, p0, part))),
+            t1: Mutex::new(LawfulTable::new(Table::new(alloc, p1, part1))),
+            t2: Mutex::new(LawfulTable::new(Table::new(alloc, p2, part2))),
+            t3: Mutex::new(LawfulTable::new(Table::new(alloc, p3, part3))),
             desk: Mutex::new(desk),
         };
         Ok((shared, given))
@@ -140,7 +141,7 @@ impl<P: Port + Send, L: Rates, G: Ledger, R: Ledger> Shared<P, L, G, R> {
     fn admit_at<J: Place>(
         &self,
         rt: &impl Wait,
-        table: &Mutex<Table<P, L, J>>,
+        table: &Mutex<LawfulTable<P, L, J>>,
         seat: &mut Seat<G, R>,
         demand: &Demand<'_>,
     ) -> Result<Option<Verdict>, OutOfMemory>
@@ -157,7 +158,7 @@ impl<P: Port + Send, L: Rates, G: Ledger, R: Ledger> Shared<P, L, G, R> {
         let mut table = table.lock(rt);
         table.reserve()?;
         let mut desk = self.desk.lock(rt);
-        let verdict = ask_one(&mut table, &mut desk, demand);
+        let verdict = ask_lawful(&mut table, &mut desk, demand);
         if let Some(verdict) = &verdict {
             desk.count(seat, verdict);
         }
@@ -191,7 +192,7 @@ impl<P: Port + Send, L: Rates, G: Ledger, R: Ledger> Shared<P, L, G, R> {
             _ => t3.reserve()?,
         }
         let mut desk = self.desk.lock(rt);
-        let verdict = ask_all(&mut t0, &mut t1, &mut t2, &mut t3, &mut desk, demand);
+        let verdict = ask_all_lawful(&mut t0, &mut t1, &mut t2, &mut t3, &mut desk, demand);
         desk.count(seat, &verdict);
         Ok(verdict)
     }
@@ -212,7 +213,7 @@ impl<P: Port + Send, L: Rates, G: Ledger, R: Ledger> Shared<P, L, G, R> {
     fn cancel_at<J: Place>(
         &self,
         rt: &impl Wait,
-        table: &Mutex<Table<P, L, J>>,
+        table: &Mutex<LawfulTable<P, L, J>>,
         t: Moment,
         client: &Client,
         kind: Kind,
@@ -222,7 +223,7 @@ impl<P: Port + Send, L: Rates, G: Ledger, R: Ledger> Shared<P, L, G, R> {
     {
         let mut table = table.lock(rt);
         let mut desk = self.desk.lock(rt);
-        cancel_one(&mut table, &mut desk, t, client, kind)
+        cancel_lawful(&mut table, &mut desk, t, client, kind)
     }
 
     /// Changes the capacity in force to this many sixteenths of a message per second, at a moment
@@ -246,12 +247,13 @@ impl<P: Port + Send, L: Rates, G: Ledger, R: Ledger> Shared<P, L, G, R> {
             at: t,
             capacity,
         };
-        resize_all(&mut t0, &mut t1, &mut t2, &mut t3, &mut desk, change)
+        resize_lawful(&mut t0, &mut t1, &mut t2, &mut t3, &mut desk, change)
     }
 
     /// A turn of the table of this index, at a moment that is not before `t`.
     pub fn turn(&self, rt: &impl Wait, config: &GmConfig, table: usize, t: Moment) -> Turned
         requires limits { IsWithinLimits config.now }
+        requires config { config.now ≡ L.config }
         requires table { table < 4 }
         ensures { t ≤ result.at }
     {
@@ -272,7 +274,8 @@ impl<P: Port + Send, L: Rates, G: Ledger, R: Ledger> Shared<P, L, G, R> {
         client: &Client,
         request: &Header,
     ) -> Answered
-        requires { IsWithinLimits config.now }
+        requires limits { IsWithinLimits config.now }
+        requires config { config.now ≡ L.config }
         ensures at { t ≤ moment_of_answer result }
         ensures earliest { IsLaterIfTooSoon result }
     {
@@ -289,10 +292,10 @@ impl<P: Port + Send, L: Rates, G: Ledger, R: Ledger> Shared<P, L, G, R> {
     fn next_due(&self, rt: &impl Wait, until: Moment) -> Moment
         ensures { result ≤ until }
     {
-        let first = self.t0.lock(rt).shard.next_due(until);
-        let second = self.t1.lock(rt).shard.next_due(first);
-        let third = self.t2.lock(rt).shard.next_due(second);
-        self.t3.lock(rt).shard.next_due(third)
+        let first = self.t0.lock(rt).next_due(until);
+        let second = self.t1.lock(rt).next_due(first);
+        let third = self.t2.lock(rt).next_due(second);
+        self.t3.lock(rt).next_due(third)
     }
 
     /// Waits at this port until a datagram is there to receive, or until a turn of some table may

@@ -1,7 +1,7 @@
 //! What stands behind the lock of a table: its leases, its part of the ledger of rates, and how
-//! many of its sends failed.
+//! many datagrams its port was sent.
 
-ghost use Rattle.std.specs.Prelude.{◌≡◌, ◌≤◌, ℕ, [], ◌++◌, List, OnErr, OnOk, map, max};
+ghost use Rattle.std.specs.Prelude.{◌≡◌, ◌≤◌, ◌+◌, ◌-◌, ◌^◌, ℕ, [], ◌++◌, List, OnErr, OnOk, map, max, min};
 ghost use Rattle.std.specs.List.Sorted.{IsPermutation};
 ghost use Rattle.ptu_outside.specs.HandsOver.{HandsOver};
 ghost use Rattle.ptu_history.specs.{Client.{table_of}, History.{Record}, Verdict.{Config}};
@@ -15,6 +15,7 @@ ghost use Rattle.ptu_shared.specs.{Delays.{IsLaterIfTooSoon}, Opening.{AreCounte
 
 use crate::place::Place;
 use crate::rates::Rates;
+use crate::tally::PortTally;
 use ptu_header::Header;
 use ptu_history::Client;
 use ptu_outside::Port;
@@ -26,19 +27,29 @@ use std::marker::PhantomData;
 use std::sync::ledger::Share;
 
 // The table of leases at the place J, beside one part of the ledger of rates, whose amount is the
-// table's share, and how many sends of its port failed. What waits at the port is what the ledger
-// names at the place, and its count of faults rose from there by the sends that failed.
+// table's share, and the tally of its port. What waits at the port is what the ledger names at the
+// place, and its count of faults rose from there by the sends that failed.
 #[derive(Drop)]
 pub(crate) struct Table<P: Port, L: Rates, J: Place> {
     pub shard: Shard<P>,
     pub part: Share<L>,
-    pub failed: u64,
+    pub tally: PortTally,
     place: PhantomData<J>,
     ghost one: { part.parts ≡ 1 },
     ghost same: { part.amount ≡ share_of shard.rows },
     ghost own_port: { P.waiting shard.port ≡ (L.opened J.index).waiting },
-    ghost failures: { AreCounted P.counts_once failed (L.opened J.index).faults
+    ghost failures: { AreCounted P.counts_once tally.failed (L.opened J.index).faults
         (P.faults shard.port) },
+}
+
+// How many datagrams were sent.
+fn sent_of(answered: &Answered) -> u64
+    ensures { result ≡ sent_by answered.now }
+{
+    match answered {
+        Answered::Sent { .. } => 1,
+        Answered::Failed { .. } | Answered::NoGrant { .. } | Answered::TooSoon { .. } => 0,
+    }
 }
 
 // How many sends failed.
@@ -59,12 +70,13 @@ impl<P: Port, L: Rates, J: Place> Table<P, L, J> {
         requires port { seen_of P.Port port ≡ L.opened J.index }
         ensures rows { result.shard.rows ≡ [] }
         ensures port { result.shard.port ≡ port }
+        ensures sent { result.tally.sent ≡ 0 }
         ensures stands { (j : ℕ) → StandsFor j result.shard [] }
     {
         Table {
             shard: Shard::new(alloc, port),
             part,
-            failed: 0,
+            tally: PortTally::none(),
             place: PhantomData,
         }
     }
@@ -78,6 +90,7 @@ impl<P: Port, L: Rates, J: Place> Table<P, L, J> {
         ensures rows { IsPermutation self.old.shard.rows self.new.shard.rows }
         ensures moment { self.new.shard.moment ≡ self.old.shard.moment }
         ensures port { self.new.shard.port ≡ self.old.shard.port }
+        ensures sent { self.new.tally.sent ≡ self.old.tally.sent }
         ensures stands { (book j : ℕ) (history : List Record) →
             StandsBeside book j self.old.shard history
             → StandsBeside book j self.new.shard history }
@@ -95,6 +108,8 @@ impl<P: Port, L: Rates, J: Place> Table<P, L, J> {
             (map (departure_of config.now result.at)
             (due_messages result.at self.old.shard.rows))
             result.sent result.failed }
+        ensures sent { self.new.tally.sent
+            ≡ min (self.old.tally.sent + result.sent) (2 ^ 128 - 1) }
         ensures messages { (j : ℕ) (history : List Record) →
             StandsFor j self.old.shard history →
             due_messages result.at self.old.shard.rows
@@ -106,7 +121,7 @@ impl<P: Port, L: Rates, J: Place> Table<P, L, J> {
     {
         let _ = table;
         let turned = self.shard.turn(config, t);
-        self.failed = self.failed.saturating_add(turned.failed);
+        self.tally = self.tally.plus(turned.sent, turned.failed);
         turned
     }
 
@@ -127,6 +142,8 @@ impl<P: Port, L: Rates, J: Place> Table<P, L, J> {
             (responses (met_by result)
             (response_of config.now self.new.shard.moment client.now request.now))
             (sent_by result) (failed_by result) }
+        ensures sent { self.new.tally.sent
+            ≡ min (self.old.tally.sent + sent_by result) (2 ^ 128 - 1) }
         ensures met { (history : List Record) →
             StandsFor (table_of client.now) self.old.shard history →
             met_by result ≡ delay_answer history self.new.shard.moment client.now }
@@ -136,7 +153,7 @@ impl<P: Port, L: Rates, J: Place> Table<P, L, J> {
             (history ++ (step opened history self.new.shard.moment (DelayReq client.now)).records) }
     {
         let answered = self.shard.answer_delay(config, t, client, request);
-        self.failed = self.failed.saturating_add(failed_of(&answered));
+        self.tally = self.tally.plus(sent_of(&answered), failed_of(&answered));
         answered
     }
 
@@ -147,7 +164,7 @@ impl<P: Port, L: Rates, J: Place> Table<P, L, J> {
         let Table {
             shard,
             part: _,
-            failed: _,
+            tally: _,
             place: _,
         } = self;
         shard.into_port()

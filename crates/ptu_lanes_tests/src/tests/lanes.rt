@@ -1,6 +1,6 @@
 ghost use Rattle.std.specs.Prelude.{◌≡◌, ◌≤◌, ℕ, length, IfOk};
 ghost use Rattle.ptu_units.specs.Limits.{IsCapacity};
-ghost use Rattle.ptu_shared.specs.{Blanks.{IsBlankOf}, Opening.{idle_port}};
+ghost use Rattle.ptu_shared.specs.{Blanks.{IsBlankOf}, Opening.{idle_port, sample_config}};
 
 use ptu_admit::{Closed, Verdict};
 use ptu_history::Client;
@@ -188,7 +188,9 @@ fn answer_and_turn<L: Rates, G: Ledger, R: Ledger, W: Wait + Abort>(
     alloc: Global,
     shared: &Shared<MemPort, L, G, R>,
     port: &mut MemPort,
-) -> Result<(), Fail> {
+) -> Result<(), Fail>
+    requires { L.config ≡ sample_config }
+{
     let second = Moment::of(1_000_000_000).expect(rt, "a moment is below 2^62");
     let mut clock = MemClock::new(vec![in alloc; second]?);
     let answered = delay_round(rt, alloc, shared, &CONFIG, port, &mut clock)?;
@@ -228,7 +230,8 @@ fn send<L: Rates, G: Ledger, R: Ledger, W: Wait + Abort>(
     shared: &Shared<MemPort, L, G, R>,
     seats: &mut [Seat<G, R>],
 ) -> Result<(), Fail>
-    requires { L.parts ≡ 4 }
+    requires ledger { L.parts ≡ 4 }
+    requires config { L.config ≡ sample_config }
 {
     let waiting = vec![in alloc; arrival(alloc, DELAY_REQ)?]?;
     let mut port = MemPort::new(alloc, waiting, Vec::new(alloc), Vec::new(alloc));
@@ -242,7 +245,8 @@ fn send_and_close<L: Rates, G: Ledger, R: Ledger, W: Wait + Abort>(
     shared: Shared<MemPort, L, G, R>,
     mut seats: Vec<Seat<G, R>>,
 ) -> Result<(), Fail>
-    requires { (L.parts ≡ 4) × (G.parts ≡ L.seats) × (R.parts ≡ L.seats) }
+    requires ledgers { (L.parts ≡ 4) × (G.parts ≡ L.seats) × (R.parts ≡ L.seats) }
+    requires config { L.config ≡ sample_config }
 {
     send(rt, alloc, &shared, seats.as_mut_slice())?;
     let closed = match shared.close(seats) {
@@ -279,6 +283,7 @@ fn play<L: Rates, G: Ledger, R: Ledger, W: Wait + Abort>(
     requires refused { IsBlankOf R.name R.parts L.seats blanks.2 }
     requires capacity { (IsCapacity capacity) × (capacity ≤ L.most) }
     requires opening { capacity ≡ L.opening }
+    requires config { L.config ≡ sample_config }
     requires seats { L.seats ≡ 1 }
     requires ports { (i : ℕ) → L.opened i ≡ idle_port }
 {

@@ -1,6 +1,6 @@
 ghost use Rattle.std.specs.Prelude.{◌≡◌, ◌≤◌, ◌<◌, ℕ};
 ghost use Rattle.ptu_units.specs.Limits.{IsCapacity};
-ghost use Rattle.ptu_shared.specs.{Blanks.{IsBlankOf}, Opening.{idle_port}};
+ghost use Rattle.ptu_shared.specs.{Blanks.{IsBlankOf}, Opening.{idle_port, sample_config}};
 
 use ptu_admit::samples::{Told, numbers_of};
 use ptu_admit::{Closed, Outside};
@@ -87,7 +87,8 @@ pub(crate) fn turn<P: Port + Send, L: Rates, G: Ledger, R: Ledger, W: Wait + Abo
     table: usize,
     t: u64,
 ) -> (u64, u64)
-    requires { table < 4 }
+    requires table { table < 4 }
+    requires config { L.config ≡ sample_config }
 {
     let turned = shared.turn(rt, &CONFIG, table, moment(rt, t));
     (turned.sent, turned.failed)
@@ -142,7 +143,9 @@ struct Site<L: Rates, G: Ledger, R: Ledger> {
 
 impl<L: Rates, G: Ledger, R: Ledger> Site<L, G, R> {
     // What a Delay_Req of the client of table 2 meets.
-    fn delay(&self, rt: &impl Wait, at: Moment) -> Answered {
+    fn delay(&self, rt: &impl Wait, at: Moment) -> Answered
+        requires { L.config ≡ sample_config }
+    {
         self.shared.answer_delay(rt, &CONFIG, at, &TWO, &DELAY_REQ)
     }
 
@@ -162,6 +165,7 @@ impl<L: Rates, G: Ledger, R: Ledger> Site<L, G, R> {
     fn take_step(&mut self, rt: &(impl Wait + Abort), t: u64, step: Step)
         requires ledger { L.parts ≡ 4 }
         requires most { 8 ≤ L.most }
+        requires config { L.config ≡ sample_config }
     {
         let at = moment(rt, t);
         match step {
@@ -195,6 +199,7 @@ impl<L: Rates, G: Ledger, R: Ledger> Site<L, G, R> {
     fn take_steps(&mut self, rt: &(impl Wait + Abort), steps: &[(u64, Step)])
         requires ledger { L.parts ≡ 4 }
         requires most { 8 ≤ L.most }
+        requires config { L.config ≡ sample_config }
     {
         for &(t, step) in steps {
             self.take_step(rt, t, step);
@@ -237,6 +242,7 @@ impl<L: Rates, G: Ledger, R: Ledger> Site<L, G, R> {
     fn run(self, rt: &(impl Wait + Abort), course: &Course)
         requires ledgers { (L.parts ≡ 4) × (G.parts ≡ L.seats) × (R.parts ≡ L.seats) }
         requires most { 8 ≤ L.most }
+        requires config { L.config ≡ sample_config }
     {
         let mut site = self;
         site.take_steps(rt, course.steps);
@@ -440,6 +446,7 @@ where
     requires capacity { (IsCapacity capacity) × (8 ≤ capacity) }
     requires opening { capacity ≡ L.opening }
     requires most { capacity ≤ L.most }
+    requires config { L.config ≡ sample_config }
     requires seats { (1 ≤ seats) × (seats ≤ 64) × (seats ≡ L.seats) }
     requires ports { (i : ℕ) → L.opened i ≡ idle_port }
 {

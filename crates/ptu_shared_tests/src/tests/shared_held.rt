@@ -1,6 +1,6 @@
 ghost use Rattle.std.specs.Prelude.{◌≡◌, ◌≤◌, ℕ, None};
 ghost use Rattle.ptu_units.specs.Limits.{IsCapacity};
-ghost use Rattle.ptu_shared.specs.{Blanks.{IsBlankOf}, Opening.{untold_port}};
+ghost use Rattle.ptu_shared.specs.{Blanks.{IsBlankOf}, Opening.{sample_config, untold_port}};
 
 use super::shared::{ANNOUNCE, Blanks, GRANTED, GRANTED_LATER, SYNC, ask, moment, turn};
 use ptu_outside::{Channel, Failed, Port};
@@ -146,7 +146,9 @@ struct Held<'s, 'g, L: Rates, G: Ledger, R: Ledger> {
 
 impl<L: Rates + Sync, G: Ledger + Sync, R: Ledger + Sync> Held<'_, '_, L, G, R> {
     // While table 0 is held, a turn of table 1 returns; then table 0 goes on.
-    fn turn_beside(&self, rt: &(impl Wait + Abort)) -> (u64, u64) {
+    fn turn_beside(&self, rt: &(impl Wait + Abort)) -> (u64, u64)
+        requires { L.config ≡ sample_config }
+    {
         self.gate.await_entered();
         let turned = turn(rt, self.shared, 1, SECOND);
         self.gate.open();
@@ -212,6 +214,7 @@ impl<L: Rates + Sync, G: Ledger + Sync, R: Ledger + Sync> Held<'_, '_, L, G, R> 
     )
         requires ledger { L.parts ≡ 4 }
         requires most { 64 ≤ L.most }
+        requires config { L.config ≡ sample_config }
     {
         let Some(call) = call else {
             assert!(rt; self.turn_beside(rt) == (1, 0));
@@ -238,6 +241,7 @@ impl<L: Rates + Sync, G: Ledger + Sync, R: Ledger + Sync> Held<'_, '_, L, G, R> 
     )
         requires ledger { L.parts ≡ 4 }
         requires most { 64 ≤ L.most }
+        requires config { L.config ≡ sample_config }
     {
         let mut seat = seats.pop().expect(rt, "there are two seats");
         let other = seats.pop().expect(rt, "there are two seats");
@@ -247,9 +251,11 @@ impl<L: Rates + Sync, G: Ledger + Sync, R: Ledger + Sync> Held<'_, '_, L, G, R> 
         }
         let (turned, ()) = thread::join(
             rt,
-            move || turn(rt, self.shared, 0, SECOND),
             move ||
-                requires { (L.parts ≡ 4) × (64 ≤ L.most) }
+                requires { L.config ≡ sample_config }
+            { turn(rt, self.shared, 0, SECOND) },
+            move ||
+                requires { (L.parts ≡ 4) × (64 ≤ L.most) × (L.config ≡ sample_config) }
             { self.go_on_beside(rt, call, other, seat) },
         );
         assert!(rt; turned == (1, 0));
@@ -277,6 +283,7 @@ where
     requires capacity { IsCapacity capacity }
     requires opening { capacity ≡ L.opening }
     requires most { (capacity ≤ L.most) × (64 ≤ capacity) }
+    requires config { L.config ≡ sample_config }
     requires seats { L.seats ≡ 2 }
     requires ports { (i : ℕ) → L.opened i ≡ untold_port }
 {

@@ -11,6 +11,11 @@ returns-clause-answer g c =
     let tables = c.audit_tables-before.ensures.tables in
     rw (tables.0, tables.1, tables.2, tables.3, c.audit_tables-before.ensures.desk.0) at c.decide_all-verdict.ensures.answer
 
+pub returns-clause-alone : goal.returns-clause-alone
+returns-clause-alone g c =
+    let tables = c.audit_tables-before.ensures.tables in
+    rw (tables.0, tables.1, tables.2, tables.3) at c.decide_all-verdict.ensures.alone
+
 pub returns-clause-outcome : goal.returns-clause-outcome
 returns-clause-outcome g c =
     let tables = c.audit_tables-before.ensures.tables in

@@ -24,14 +24,13 @@ returns g c =
     let count = c.sender_count.result in
     let rounds = c.args.self.now.rounds.count in
     let event : TookDelayReqs g.P.Port g.C.Clock rounds c.args.opened.p5 c.in_ok-event-2.event.port c.args.opened.c1 c.in_ok-event-2.event.clock
-    c.default.result.failed c.in_ok-event-2.event.tally.failed =
+    0 c.in_ok-event-2.event.failed =
     came_served _ _ c.called-2.result c.in_ok-event-2.event (c.start_event-event.ensures c.called-2.result c.called-2.ensures) c.in_ok-event-2.ensures in
     let turned : HaveTurned g.C.Clock count rounds begun.result c.in_ok-sending-2.sending =
-    c.in_ok-sending-2.ensures count rounds begun.result c.start_all_sending-sending.ensures in
-    let none : c.default.result.failed ≡ 0 = search rules in (
+    c.in_ok-sending-2.ensures count rounds begun.result c.start_all_sending-sending.ensures in (
       record {
         control = control;
-        event = rw none at (rw c.requires.rounds at event);
+        event = rw c.requires.rounds at event;
         first = rw begun.ensures.0 at (rw c.requires.rounds at (rw c.sender_count.ensures at turned.first));
         second = rw begun.ensures.1 at (rw c.requires.rounds at (rw c.sender_count.ensures at turned.second));
         third = rw begun.ensures.2 at (rw c.requires.rounds at (rw c.sender_count.ensures at turned.third));

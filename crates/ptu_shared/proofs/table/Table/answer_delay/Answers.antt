@@ -10,5 +10,5 @@ invariant_of-self-clause-same g c = c.args.self.now.same ∙ sym (spent_all (is_
 
 pub invariant_of-self-clause-failures : goal.invariant_of-self-clause-failures
 invariant_of-self-clause-failures g c =
-    rw (c.saturating_add-self.ensures, c.failed_of.ensures)
+    rw (c.plus-self.ensures.failed, c.failed_of.ensures)
     (counted_more g.P.Port _ _ _ _ _ _ _ c.args.self.now.failures c.answer_delay-answered.ensures.sends)

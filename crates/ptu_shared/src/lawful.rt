@@ -1,0 +1,194 @@
+//! Tables of which a history is known: what stands behind the locks. No contract sees what is done
+//! under a lock, but whenever it is got, there is a history that the table stands for, and what the
+//! table's port was sent are messages of it.
+
+ghost use Rattle.std.specs.Prelude.{◌≡◌, ◌≤◌, ℕ, IfOk, IfSome, OnOk, [], max};
+ghost use Rattle.ptu_history.specs.Client.{table_of};
+ghost use Rattle.ptu_shard.specs.{Answered.{moment_of_answer}, Table.{StandsFor}};
+ghost use Rattle.ptu_profile.specs.Grandmaster.{IsWithinLimits};
+ghost use Rattle.ptu_units.specs.Limits.{IsCapacity};
+ghost use Rattle.ptu_shared.specs.{Answers.{AnswersAsk}, Delays.{IsLaterIfTooSoon}};
+ghost use Rattle.ptu_shared.specs.{Histories.{SendsCounted}, Opening.{seen_of}};
+
+use crate::asking::{Demand, ask_all, ask_one};
+use crate::changing::{Change, cancel_one, resize_all};
+use crate::desk::Desk;
+use crate::place::{First, Fourth, Place, Second, Third};
+use crate::rates::Rates;
+use crate::table::Table;
+use ptu_admit::{Cancelled, Resized, Verdict};
+use ptu_header::Header;
+use ptu_history::Client;
+use ptu_outside::Port;
+use ptu_profile::GmConfig;
+use ptu_shard::{Answered, Turned};
+use ptu_units::{Kind, Moment, OutOfMemory};
+use std::marker::Model;
+use std::sync::ledger::Ledger;
+
+// A table at the place J, of which there is a history: the table stands for it, and of its messages
+// its port was sent a part, in order, since the table was made, as many as are counted. Contracts
+// see it as the table.
+#[derive(Drop)]
+pub(crate) struct LawfulTable<P: Port, L: Rates, J: Place> {
+    table: Table<P, L, J>,
+}
+
+impl<P: Port, L: Rates, J: Place> Model for LawfulTable<P, L, J> {
+    ghost use Rattle.ptu_shard.specs.Table.{Kept};
+    ghost use Rattle.ptu_shared.specs.Histories.{HasHistory};
+
+    ghost Value = { Kept P };
+
+    ghost view = { λ t. t.table.shard };
+
+    ghost invariant = { λ t. HasHistory P.Port L.config J.index (L.opened J.index) t.table.shard
+        t.table.tally.sent };
+}
+
+impl<P: Port, L: Rates, J: Place> LawfulTable<P, L, J> {
+    // A table that nothing was done to.
+    pub fn new(table: Table<P, L, J>) -> LawfulTable<P, L, J>
+        requires stands { (j : ℕ) → StandsFor j table.shard [] }
+        requires port { seen_of P.Port table.shard.port ≡ L.opened J.index }
+        requires sent { table.tally.sent ≡ 0 }
+        ensures { result ≡ table.shard }
+    {
+        LawfulTable { table }
+    }
+
+    /// Makes room for one row more.
+    ///
+    /// # Errors
+    /// `OutOfMemory`. What the table stands for is as before, then too.
+    pub fn reserve(&mut self) -> Result<(), OutOfMemory>
+        ensures { OnOk result (1 ≤ self.new.spare) }
+    {
+        self.table.reserve()
+    }
+
+    // A turn of the table, by `Table::turn`.
+    pub fn turn(&mut self, config: &GmConfig, table: usize, t: Moment) -> Turned
+        requires limits { IsWithinLimits config.now }
+        requires config { config.now ≡ L.config }
+        requires table { table ≡ J.index }
+        ensures { result.at ≡ max t self.old.moment }
+    {
+        self.table.turn(config, table, t)
+    }
+
+    // The answer to a Delay_Req of a client of the table, by `Table::answer_delay`.
+    pub fn answer_delay(
+        &mut self,
+        config: &GmConfig,
+        t: Moment,
+        client: &Client,
+        request: &Header,
+    ) -> Answered
+        requires limits { IsWithinLimits config.now }
+        requires config { config.now ≡ L.config }
+        requires table { table_of client.now ≡ J.index }
+        ensures at { moment_of_answer result ≡ max t self.old.moment }
+        ensures earliest { IsLaterIfTooSoon result }
+    {
+        self.table.answer_delay(config, t, client, request)
+    }
+
+    // The earliest moment up to `until` at which a turn of the table may have a message to send, or
+    // `until` where there is none before it.
+    pub fn next_due(&self, until: Moment) -> Moment
+        ensures { result ≤ until }
+    {
+        self.table.shard.next_due(until)
+    }
+
+    // The table, as it is.
+    pub fn into_table(self) -> Table<P, L, J>
+        ensures { SendsCounted P.Port L.config J.index (L.opened J.index) result.shard.port
+            result.tally.sent }
+    {
+        self.table
+    }
+}
+
+// Decides an ask by `ask_one`.
+pub(crate) fn ask_lawful<P: Port, L: Rates, G: Ledger, R: Ledger, J: Place>(
+    table: &mut LawfulTable<P, L, J>,
+    desk: &mut Desk<L, G, R>,
+    demand: &Demand<'_>,
+) -> Option<Verdict>
+    requires limits { IsWithinLimits demand.now.config.now }
+    requires room { 1 ≤ table.old.spare }
+    requires table { table_of demand.now.client.now ≡ J.index }
+    ensures { IfSome result
+        (AnswersAsk L.most demand.now.config.now demand.now.at demand.now.client.now
+        demand.now.ask.now) }
+{
+    ask_one(&mut table.table, desk, demand)
+}
+
+// Decides an ask by `ask_all`.
+pub(crate) fn ask_all_lawful<P: Port, L: Rates, G: Ledger, R: Ledger>(
+    t0: &mut LawfulTable<P, L, First>,
+    t1: &mut LawfulTable<P, L, Second>,
+    t2: &mut LawfulTable<P, L, Third>,
+    t3: &mut LawfulTable<P, L, Fourth>,
+    desk: &mut Desk<L, G, R>,
+    demand: &Demand<'_>,
+) -> Verdict
+    requires ledger { L.parts ≡ 4 }
+    requires limits { IsWithinLimits demand.now.config.now }
+    requires room { (table_of demand.now.client.now ≡ 0 → 1 ≤ t0.old.spare)
+        × (table_of demand.now.client.now ≡ 1 → 1 ≤ t1.old.spare)
+        × (table_of demand.now.client.now ≡ 2 → 1 ≤ t2.old.spare)
+        × (table_of demand.now.client.now ≡ 3 → 1 ≤ t3.old.spare) }
+    ensures { AnswersAsk L.most demand.now.config.now demand.now.at demand.now.client.now
+        demand.now.ask.now result }
+{
+    ask_all(
+        &mut t0.table,
+        &mut t1.table,
+        &mut t2.table,
+        &mut t3.table,
+        desk,
+        demand,
+    )
+}
+
+// Ends the client's grant of the kind by `cancel_one`.
+pub(crate) fn cancel_lawful<P: Port, L: Rates, G: Ledger, R: Ledger, J: Place>(
+    table: &mut LawfulTable<P, L, J>,
+    desk: &mut Desk<L, G, R>,
+    t: Moment,
+    client: &Client,
+    kind: Kind,
+) -> Cancelled
+    requires { table_of client.now ≡ J.index }
+    ensures { t ≤ result.at }
+{
+    cancel_one(&mut table.table, desk, t, client, kind)
+}
+
+// Changes the capacity in force by `resize_all`. After `OutOfMemory` nothing has changed.
+pub(crate) fn resize_lawful<P: Port, L: Rates, G: Ledger, R: Ledger>(
+    t0: &mut LawfulTable<P, L, First>,
+    t1: &mut LawfulTable<P, L, Second>,
+    t2: &mut LawfulTable<P, L, Third>,
+    t3: &mut LawfulTable<P, L, Fourth>,
+    desk: &mut Desk<L, G, R>,
+    change: Change,
+) -> Result<Resized, OutOfMemory>
+    requires ledger { L.parts ≡ 4 }
+    requires capacity { IsCapacity change.capacity }
+    requires most { change.capacity ≤ L.most }
+    ensures { IfOk result (λ r. change.at ≤ r.at) }
+{
+    resize_all(
+        &mut t0.table,
+        &mut t1.table,
+        &mut t2.table,
+        &mut t3.table,
+        desk,
+        change,
+    )
+}
